@@ -110,4 +110,15 @@ count_in raw = if nat_lt raw 0x8000 then raw else 0
 -- the name, and 0xFF in all else, so that it names no data page.
 abbrev pub new_header_page : ℕ → ℕ → List ℕ → List ℕ
 new_header_page size id name =
-    (id % 256 ∷ (id / 256 + 128) ∷ 0 ∷ 0 ∷ 0xFA ∷ replicate 7 0xFF) ++ 1 ∷ [] ++ padded name ++ replicate (size - 45) 0xFF
+    id % 256 ∷ (id / 256 + 128) ∷ 0 ∷ 0 ∷ 0xFA ∷ (replicate 7 0xFF ++ (1 ∷ (padded name ++ replicate (size - 45) 0xFF)))
+
+-- the same by its fields
+pub record IsNewHeader (g : Geometry) (id : ℕ) (name page : List ℕ) : Type 0 where
+  pub obj_id : obj_id page ≡ id + 0x8000
+  pub span : span_of page ≡ 0
+  pub flags : slice_index page 4 ≡ 0xFA
+  pub size_field : size_field page ≡ 0xFFFFFFFF
+  pub kind : type_of page ≡ 1
+  pub named : name_of page ≡ Some name
+  pub meta : meta_of g page ≡ replicate g.meta 0xFF
+  pub slots : (slot : ℕ) → slot < slots_of g 0 → page_number g page 0 slot ≡ 0xFFFF

@@ -1,5 +1,5 @@
 ghost use Rattle.std.specs.Prelude.{◌≡◌, ◌≢◌, ◌<◌, ◌≤◌, length, All};
-ghost use Rattle.page_layout.specs.Layout.{new_header_page};
+ghost use Rattle.page_layout.specs.Layout.{new_header_page, IsNewHeader};
 
 use crate::{put_header, put_name, put_type, Flags, PageHeader, FILE_TYPE, INDEX_BIT};
 use geometry::Geometry;
@@ -12,7 +12,8 @@ pub fn build_header_page(g: &Geometry, page: &mut [u8], id: u16, name: &[u8])
     requires some { 0 < length name.now }
     requires few { length name.now ≤ 31 }
     requires no_zero { All (λ b. b ≢ 0) name.now }
-    ensures { page.new ≡ new_header_page g.now.page id name.now }
+    ensures bytes { page.new ≡ new_header_page g.now.page id name.now }
+    ensures fields { IsNewHeader g.now id name.now page.new }
 {
     page.fill(0xFF);
     let flags = Flags::placed_index();

@@ -1,4 +1,4 @@
-ghost use Rattle.std.specs.Prelude.{◌≡◌, ◌≢◌, ◌+◌, ◌<◌, ◌≤◌, length, All, Some};
+ghost use Rattle.std.specs.Prelude.{◌≡◌, ◌≢◌, ◌+◌, ◌<◌, ◌≤◌, ◌==◌, length, position, All, Some};
 ghost use Rattle.page_layout.specs.Layout.{size_field, size_of as size_in, type_of as type_in, name_field, name_of as name_in, padded, meta_of as meta_in, SameOutside};
 
 use byteorder::{ByteOrder, LittleEndian};
@@ -22,7 +22,7 @@ pub fn size_of(page: &[u8]) -> u32
     requires { 12 ≤ length page.now }
     ensures { result ≡ size_field page.now }
 {
-    LittleEndian::read_u32(&page[SIZE_AT..])
+    LittleEndian::read_u32(&page[SIZE_AT..TYPE_AT])
 }
 
 /// The size of the file in bytes, by its header page. An undefined size is 0.
@@ -40,7 +40,7 @@ pub fn put_size(page: &mut [u8], size: u32)
     ensures field { size_field page.new ≡ size }
     ensures others { SameOutside 8 4 page.old page.new }
 {
-    LittleEndian::write_u32(&mut page[SIZE_AT..], size);
+    LittleEndian::write_u32(&mut page[SIZE_AT..TYPE_AT], size);
 }
 
 /// The type of the object, by its header page (byte 12): 1 is a file.
@@ -67,12 +67,17 @@ pub fn name_of(page: &[u8]) -> Option<Name>
     ensures { result ≡ name_in page.now }
 {
     let field = &page[NAME_AT..META_AT];
-    let len = field.iter().position(|b| *b == 0)?;
-    if len == 0 {
-        None
-    } else {
-        Some(Name::from_slice(&field[..len]))
+    match first_zero(field) {
+        None | Some(0) => None,
+        Some(len) => Some(Name::from_slice(&field[..len])),
     }
+}
+
+// The place of the first zero byte.
+fn first_zero(field: &[u8]) -> Option<usize>
+    ensures { result ≡ position (λ b. b == 0) field.now }
+{
+    field.iter().position(|b| *b == 0)
 }
 
 /// Writes the name of the file, of 1 to 31 bytes and none of them zero, into its header page, and zeros to
@@ -86,7 +91,16 @@ pub fn put_name(page: &mut [u8], name: &[u8])
     ensures field { name_field page.new ≡ padded name.now }
     ensures others { SameOutside 13 32 page.old page.new }
 {
-    let field = &mut page[NAME_AT..META_AT];
+    fill_name(&mut page[NAME_AT..META_AT], name);
+}
+
+// Fills the field of a name.
+fn fill_name(field: &mut [u8], name: &[u8])
+    requires field { length field.old ≡ 32 }
+    requires few { length name.now ≤ 31 }
+    ensures padded { field.new ≡ padded name.now }
+    ensures len { length field.new ≡ 32 }
+{
     field.fill(0);
     field[..name.len()].copy_from_slice(name);
 }
