@@ -125,3 +125,20 @@ module _ {D : Type 0} {nor : NorOf D} where
     cuts = λ t image count left. first.cuts t image count (second.cuts t image count left);
     kept = λ t image count left. second.kept t image count (first.kept t image count left);
   }
+
+  pub reads_none : (d : D) → OnlyReads nor d d
+  reads_none d = record {
+    size = refl;
+    unit = refl;
+    lent = refl;
+    told = λ tells. tells;
+    told_before = λ tells. tells;
+    bytes = refl;
+    said = refl;
+    moment = refl;
+    faults = omega arith;
+    reads = omega arith;
+    writes = refl;
+    cuts = λ t image count left. left;
+    kept = λ t image count left. left;
+  }
