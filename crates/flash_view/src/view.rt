@@ -32,11 +32,12 @@ pub struct View<'b, N: Nor> {
 impl<'b, N: Nor> View<'b, N> {
     ghost use Rattle.std.specs.Prelude.{◌≡◌, ◌+◌, ◌*◌, ◌/◌, ◌<◌, ◌≤◌, length, take, slice_range, OnErr, true, false};
     ghost use Rattle.std.specs.Option.{ForSome};
+    ghost use Rattle.std.specs.Int.{to_le_bytes, w16};
     ghost use Rattle.geometry.specs.Numbers.{work_need, cache_need, page_count, right_magic};
     ghost use Rattle.nor_core.specs.Count.{Rose};
     ghost use Rattle.nor_core.specs.Flash.{HalfProgrammed};
     ghost use Rattle.nor_core.specs.Device.{Changes, InErase};
-    ghost use Rattle.flash_view.specs.Places.{IsEntryPage, page_start as the_page_start};
+    ghost use Rattle.flash_view.specs.Places.{IsEntryPage, page_start as the_page_start, entry_start as the_entry_start};
     ghost use Rattle.flash_view.specs.Same.{IsSameView, OnlyLooks};
 
     /// A view of the volume on a device. The device may be larger than the volume.
@@ -224,6 +225,32 @@ impl<'b, N: Nor> View<'b, N> {
         let end = self.geometry.page() as usize;
         self.wrote = true;
         program_part(self.nor, at, self.work, start as usize, end)
+    }
+
+    /// Programs bytes of a page, from its byte `start` on.
+    pub fn program_in(&mut self, page: u16, start: u32, from: &[u8]) -> Result<(), Failed>
+        requires page { page < page_count self.old.geometry }
+        requires some { 0 < length from.now }
+        requires inside { start + length from.now ≤ self.old.geometry.page }
+        ensures cause { OnErr result (Rose (N.faults self.old.nor.now) (N.faults self.new.nor.now)) }
+        ensures changes { Changes N.NorState self.old.nor.now self.new.nor.now (HalfProgrammed (the_page_start self.old.geometry page + start) from.now) }
+        ensures same { IsSameView self.old self.new }
+        ensures wrote { self.new.wrote ≡ true }
+    {
+        let at = page_start(&self.geometry, page) + start;
+        self.program(at, from)
+    }
+
+    /// Programs the entry of a page.
+    pub fn program_entry(&mut self, page: u16, entry: u16) -> Result<(), Failed>
+        requires { IsEntryPage self.old.geometry page }
+        ensures cause { OnErr result (Rose (N.faults self.old.nor.now) (N.faults self.new.nor.now)) }
+        ensures changes { Changes N.NorState self.old.nor.now self.new.nor.now (HalfProgrammed (the_entry_start self.old.geometry page) (to_le_bytes w16 entry)) }
+        ensures same { IsSameView self.old self.new }
+        ensures wrote { self.new.wrote ≡ true }
+    {
+        let at = entry_start(&self.geometry, page);
+        self.program(at, &entry.to_le_bytes())
     }
 
     /// The device, the work bytes and the cache bytes.
