@@ -2,14 +2,21 @@
 #![tactic(auto)]
 
 mod call;
+mod cut;
 mod device;
+mod mem_source;
 mod memory;
+mod note;
+mod plan;
 mod source;
 mod state;
 
 pub use call::Call;
 pub use device::{Board, Failed, Mark, MemErr, Nor};
-pub use memory::{CallKind, MemBoard, cut_bytes, draw};
+pub use mem_source::MemSource;
+pub use cut::draw;
+pub use memory::MemBoard;
+pub use plan::CallKind;
 pub use source::Source;
 pub use state::NorState;
 
