@@ -6,9 +6,10 @@ ghost use Rattle.nor_core.specs.Picks.{put};
 ghost use Rattle.nor_core.specs.Ways.{Answered};
 ghost use Rattle.nor_core.specs.Record.{Programs, Erases, SaysCall, Same, IsProgramCall};
 
+use crate::call::Call;
 use crate::cut::{erased_bytes, passed_of, programmed_bytes};
 use crate::plan::Way;
-use crate::{Call, Failed, Mark};
+use crate::{Failed, Mark};
 use std::alloc::{AllocError, Global};
 
 // Programs a range and notes the call. With the power off, or without memory to note it in, all stays as it was.
