@@ -1,13 +1,12 @@
-// A library with one function.
+//! The script language: the call that a line spells, and the line that tells a reply.
 #![tactic(auto)]
 
-ghost use Rattle.std.specs.Prelude.{◌≡◌};
-ghost use Rattle.call_script.specs.Echo.{echo_of};
+mod line;
+mod number;
+mod reply;
+mod text;
+mod words;
 
-// The `ensures` clause is the contract: what `echo` returns is `echo_of` of its argument, a definition
-// in `specs/Echo.antt`, which a caller's clause can cite too.
-pub fn echo(x: usize) -> usize
-    ensures { result ≡ echo_of x }
-{
-    x
-}
+pub use line::{BadLine, parse_line};
+pub use number::parse_number;
+pub use reply::reply_text;
