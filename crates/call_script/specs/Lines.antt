@@ -1,5 +1,5 @@
 -- The grammar of a script: its lines, and the call that each of them spells.
-use Rattle.std.specs.Prelude.{ℕ, ℤ, Bool, List, [], ◌∷◌, length, codes, Option, Some, None, Result, Ok, Err, ◌==◌, nat_lt, if◌then◌else◌}
+use Rattle.std.specs.Prelude.{ℕ, ℤ, Bool, List, [], ◌∷◌, length, codes, Option, Some, None, Result, Ok, Err, ◌==◌, ◌≤◌, nat_lt, if◌then◌else◌}
 use Rattle.std.specs.Str.{bytes_eq}
 use Rattle.table_model.specs.Ask.{Ask, Creates, Opens, Reads, Writes, Fills, Seeks, Tells, Truncates, Flushes, Closes, Removes, RemovesOpen, Renames, Stats, StatsOpen, NextAbove, Informs, Collects, SetsMeta, asked}
 use Rattle.table_model.specs.declared.call.Call.{Call}
@@ -128,6 +128,12 @@ abbrev pub outcome : Result (Option Call) BadLine → Parsed
 outcome (Ok None) = NoCall
 outcome (Ok (Some call)) = Asks (asked call)
 outcome (Err e) = Bad
+
+-- The counts of a line are in range: a read asks for 1,024 bytes at most, a fill for 4,096.
+abbrev pub IsCounted : Parsed → Type 0
+IsCounted (Asks (Reads fd count)) = count ≤ 1024
+IsCounted (Asks (Fills fd count byte)) = count ≤ 4096
+IsCounted _ = Unit {0}
 
 -- the lines of a script: each ends with byte 10, and a last one without it counts where it isn't empty
 unfoldable pub lines : List ℕ → List (List ℕ)

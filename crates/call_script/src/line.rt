@@ -1,5 +1,5 @@
 ghost use Rattle.std.specs.Prelude.{◌≡◌, ◌+◌, ◌≤◌, length, option_map};
-ghost use Rattle.call_script.specs.Lines.{of_line, outcome, spelled, words, alone, with_one, with_two, with_three, whence_of};
+ghost use Rattle.call_script.specs.Lines.{of_line, IsCounted, call_or_bad, outcome, spelled, words, alone, with_one, with_two, with_three, whence_of};
 ghost use Rattle.table_model.specs.Ask.{asked};
 
 use crate::number::{parse_long, parse_short, parse_signed};
@@ -16,7 +16,8 @@ pub struct BadLine;
 #[tactic(auto, unfolding(crate::specs::Lines::of_line, crate::specs::Lines::parsed))]
 pub fn parse_line<'a>(line: &[u8], scratch: &'a mut [u8]) -> Result<Option<Call<'a>>, BadLine>
     requires { 4096 ≤ length scratch.old }
-    ensures { outcome result ≡ of_line line.now }
+    ensures call { outcome result ≡ of_line line.now }
+    ensures counted { IsCounted (outcome result) }
 {
     if line.len() > 4096 {
         return Err(BadLine);
@@ -34,7 +35,8 @@ pub fn parse_line<'a>(line: &[u8], scratch: &'a mut [u8]) -> Result<Option<Call<
 #[tactic(auto, unfolding(crate::specs::Lines::spelled))]
 fn parse_call<'a>(line: &[u8], scratch: &'a mut [u8]) -> Option<Call<'a>>
     requires { length line.now ≤ length scratch.old }
-    ensures { option_map asked result ≡ spelled (words line.now) }
+    ensures call { option_map asked result ≡ spelled (words line.now) }
+    ensures counted { IsCounted (call_or_bad (option_map asked result)) }
 {
     match words_of(line) {
         Words::One(verb) => parse_alone(verb),
@@ -47,7 +49,8 @@ fn parse_call<'a>(line: &[u8], scratch: &'a mut [u8]) -> Option<Call<'a>>
 
 // The call of a line of one word.
 fn parse_alone<'a>(verb: &[u8]) -> Option<Call<'a>>
-    ensures { option_map asked result ≡ alone verb.now }
+    ensures call { option_map asked result ≡ alone verb.now }
+    ensures counted { IsCounted (call_or_bad (option_map asked result)) }
 {
     if is_word(verb, b"info") {
         Some(Call::GetInfo)
@@ -61,7 +64,8 @@ fn parse_alone<'a>(verb: &[u8]) -> Option<Call<'a>>
 // The call of a line of a word and a name, a descriptor or an id.
 fn parse_with_one<'a>(verb: &[u8], word: &[u8], scratch: &'a mut [u8]) -> Option<Call<'a>>
     requires { length word.now ≤ length scratch.old }
-    ensures { option_map asked result ≡ with_one verb.now word.now }
+    ensures call { option_map asked result ≡ with_one verb.now word.now }
+    ensures counted { IsCounted (call_or_bad (option_map asked result)) }
 {
     if is_word(verb, b"create") {
         Some(Call::Create { name: parse_text(word, scratch)? })
@@ -89,7 +93,8 @@ fn parse_with_one<'a>(verb: &[u8], word: &[u8], scratch: &'a mut [u8]) -> Option
 // The call of a line of a word and two more.
 fn parse_with_two<'a>(verb: &[u8], first: &[u8], second: &[u8], scratch: &'a mut [u8]) -> Option<Call<'a>>
     requires { length first.now + length second.now ≤ length scratch.old }
-    ensures { option_map asked result ≡ with_two verb.now first.now second.now }
+    ensures call { option_map asked result ≡ with_two verb.now first.now second.now }
+    ensures counted { IsCounted (call_or_bad (option_map asked result)) }
 {
     let (front, back) = scratch.split_at_mut(first.len());
     if is_word(verb, b"open") {
@@ -129,7 +134,8 @@ fn parse_with_two<'a>(verb: &[u8], first: &[u8], second: &[u8], scratch: &'a mut
 
 // The call of a line of a word and three more.
 fn parse_with_three<'a>(verb: &[u8], first: &[u8], second: &[u8], third: &[u8]) -> Option<Call<'a>>
-    ensures { option_map asked result ≡ with_three verb.now first.now second.now third.now }
+    ensures call { option_map asked result ≡ with_three verb.now first.now second.now third.now }
+    ensures counted { IsCounted (call_or_bad (option_map asked result)) }
 {
     if is_word(verb, b"fill") {
         Some(Call::Fill {

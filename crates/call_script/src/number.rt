@@ -39,7 +39,8 @@ pub(crate) fn parse_short(word: &[u8]) -> Option<u16>
 
 /// A number up to `most`.
 pub(crate) fn parse_long(word: &[u8], most: u32) -> Option<u32>
-    ensures { result ≡ number_up_to most word.now }
+    ensures number { result ≡ number_up_to most word.now }
+    ensures bound { IfSome result (λ n. n ≤ most) }
 {
     let number = parse_number(word, u64::from(most))?;
     Some(number as u32)
