@@ -1,5 +1,5 @@
 -- Where the fields of SPIFFS pages stand, and what they hold. A page is the list of its bytes.
-use Rattle.std.specs.Prelude.{◌≡◌, ◌≢◌, ℕ, ◌+◌, ◌-◌, ◌*◌, ◌/◌, ◌%◌, ◌^◌, ◌<◌, ◌≤◌, List, [], ◌∷◌, ◌++◌, length, replicate, take, Bool, not, nat_lt, ◌==◌, ◌&&◌, ◌||◌, Option, Some, None, if◌then◌else◌, position, option_and_then, slice_index, slice_range}
+use Rattle.std.specs.Prelude.{◌≡◌, ◌≢◌, ◌⊎◌, ℕ, ◌+◌, ◌-◌, ◌*◌, ◌/◌, ◌%◌, ◌^◌, ◌<◌, ◌≤◌, List, [], ◌∷◌, ◌++◌, length, replicate, take, Bool, not, nat_lt, ◌==◌, ◌&&◌, ◌||◌, Option, Some, None, if◌then◌else◌, position, option_and_then, slice_index, slice_range}
 use Rattle.std.specs.Int.{bit_at}
 use Rattle.geometry.specs.declared.geometry.Geometry.{Geometry}
 use Rattle.geometry.specs.Numbers.{slots}
@@ -17,6 +17,10 @@ pub record SameOutside (at count : ℕ) (old new : List ℕ) : Type 0 where
   pub size : length new ≡ length old
   pub before : (k : ℕ) → k < at → slice_index new k ≡ slice_index old k
   pub after : (k : ℕ) → at + count ≤ k → slice_index new k ≡ slice_index old k
+
+-- `size` bytes from `from` on and `count` bytes from `at` on have no byte in common
+abbrev pub IsApart : ℕ → ℕ → ℕ → ℕ → Type 0
+IsApart at count from size = (at + count ≤ from) ⊎ (from + size ≤ at)
 
 -- ---- the page header (SPIFFS page header: obj_id, span_ix, flags)
 
@@ -47,6 +51,18 @@ header_at page = record {
   span = span_of page;
   flags = record { bits = slice_index page 4 };
 }
+
+-- the header is that of an index page by its id (SPIFFS_OBJ_ID_IX_FLAG)
+abbrev pub names_index : PageHeader → Bool
+names_index head = not (nat_lt head.id 0x8000)
+
+-- The header says that its page is live, where the page's entry agrees: the id is that of an object, USED and FINAL are
+-- cleared and DELET is set, INDEX is cleared exactly where bit 15 of the id is set, and IXDELE is set in a header page.
+abbrev pub is_finished : PageHeader → Bool
+is_finished head =
+    not (head.id % 0x8000 == 0) && not (head.id == 0xFFFF)
+    && not (is_bit_set head.flags.bits 0) && not (is_bit_set head.flags.bits 1) && is_bit_set head.flags.bits 7
+    && (if names_index head then not (is_bit_set head.flags.bits 2) && (is_bit_set head.flags.bits 6 || not (head.span == 0)) else is_bit_set head.flags.bits 2)
 
 -- bit k is cleared and each other bit is as it was
 pub record ClearsBit (k old new : ℕ) : Type 0 where
