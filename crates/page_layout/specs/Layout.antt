@@ -2,7 +2,7 @@
 use Rattle.std.specs.Prelude.{◌≡◌, ◌≢◌, ◌⊎◌, ℕ, ◌+◌, ◌-◌, ◌*◌, ◌/◌, ◌%◌, ◌^◌, ◌<◌, ◌≤◌, List, [], ◌∷◌, ◌++◌, length, replicate, take, Bool, not, nat_lt, ◌==◌, ◌&&◌, ◌||◌, Option, Some, None, if◌then◌else◌, position, option_and_then, slice_index, slice_range}
 use Rattle.std.specs.Int.{bit_at}
 use Rattle.geometry.specs.declared.geometry.Geometry.{Geometry}
-use Rattle.geometry.specs.Numbers.{slots}
+use Rattle.geometry.specs.Numbers.{head_slots, span_slots}
 use Rattle.page_layout.specs.declared.flags.Flags.{Flags}
 use Rattle.page_layout.specs.declared.header.PageHeader.{PageHeader}
 
@@ -108,7 +108,7 @@ slot_place g span slot = if span == 0 then 45 + g.meta + 2 * slot else 8 + 2 * s
 
 -- how many page numbers an index page of that span holds
 abbrev pub slots_of : Geometry → ℕ → ℕ
-slots_of g span = if span == 0 then (g.page - 45 - g.meta) / 2 else (g.page - 8) / 2
+slots_of g span = if span == 0 then head_slots g else span_slots g
 
 -- page number `slot` of an index page of that span
 abbrev pub page_number : Geometry → List ℕ → ℕ → ℕ → ℕ

@@ -21,3 +21,6 @@ pub use index::{put_slot, slot_of, slot_offset};
 pub use lookup::{count_offset, entry_offset, magic_offset, read_count};
 pub use lookup::{DELETED, FREE, INDEX_BIT};
 pub use words::{fields_stay, put_word, read_word};
+
+#[cfg(test)]
+mod tests;
