@@ -1,7 +1,6 @@
 -- A field that has none of the written bytes stays.
-use Rattle.std.proofs.Common.{ℕ, ◌≡◌, ◌≢◌, ◌+◌, ◌*◌, ◌<◌, ◌-◌, ◌≤◌, ◌⊎◌, ⊎_elim, List, length, take, drop, get_or, slice_range, arith, rules, refl, sym, ◌∙◌, ap, lit<, lit≤, length-take, length-drop}
+use Rattle.std.proofs.Common.{ℕ, ◌≡◌, ◌+◌, ◌<◌, ◌-◌, ◌≤◌, ⊎_elim, List, drop, get_or, slice_range, arith, refl, sym, ◌∙◌, lit<, lit≤, length-take, length-drop}
 use Rattle.std.proofs.lemmas.List.{get_or-take, get_or-drop, ext_get_or}
-use Rattle.std.proofs.lemmas.Grind.{common_steps}
 use Rattle.page_layout.specs.Layout.{word_at, SameOutside, IsApart, header_at, size_field, type_of, name_field, name_of}
 
 -- a byte that is apart
@@ -19,8 +18,8 @@ pub range_stays : (at count i n : ℕ) (old new : List ℕ) → SameOutside at c
 range_stays at count i n old new same apart = ext_get_or 0 _ _
     (omega (arith, same.size, length-take (i + n - i) (drop i new), length-take (i + n - i) (drop i old), length-drop i new, length-drop i old))
     (λ k below. let small : k < i + n - i = omega (arith, below, length-take (i + n - i) (drop i new)) in
-        get_or-take (i + n - i) (drop i new) k 0 small ∙ get_or-drop i new k 0 ∙ byte_stays at count i n (i + k) old new same apart (omega arith) (omega arith)
-        ∙ sym (get_or-drop i old k 0) ∙ sym (get_or-take (i + n - i) (drop i old) k 0 small))
+    get_or-take (i + n - i) (drop i new) k 0 small ∙ get_or-drop i new k 0 ∙ byte_stays at count i n (i + k) old new same apart (omega arith) (omega arith)
+    ∙ sym (get_or-drop i old k 0) ∙ sym (get_or-take (i + n - i) (drop i old) k 0 small))
 
 pub header_stays : (at count : ℕ) (old new : List ℕ) → SameOutside at count old new → 5 ≤ at → header_at new ≡ header_at old
 header_stays at count old new same from =

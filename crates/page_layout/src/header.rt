@@ -2,7 +2,7 @@ ghost use Rattle.std.specs.Prelude.{◌≡◌, ◌≤◌, length};
 ghost use Rattle.page_layout.specs.Layout.{header_at, SameOutside};
 
 use crate::words::{put_word, read_word};
-use crate::{Flags, FREE, INDEX_BIT};
+use crate::{FREE, Flags, INDEX_BIT};
 
 /// The header of a page: its first five bytes.
 #[derive(Clone, Copy, Debug, PartialEq, Eq)]

@@ -15,7 +15,9 @@ fn page_of(bytes: &[u8]) -> [u8; 128]
 
 // The finished header page of file 1, named "a" and of undefined size.
 fn head_of_a() -> [u8; 128] {
-    let mut page = page_of(&[0x01, 0x80, 0, 0, 0xF8, 0xFF, 0xFF, 0xFF, 0xFF, 0xFF, 0xFF, 0xFF, 0x01, 0x61]);
+    let mut page = page_of(&[
+        0x01, 0x80, 0, 0, 0xF8, 0xFF, 0xFF, 0xFF, 0xFF, 0xFF, 0xFF, 0xFF, 0x01, 0x61,
+    ]);
     page[14..45].fill(0);
     page
 }
@@ -41,10 +43,16 @@ fn fields_of_a_header_page(rt: HostRuntime) -> Result<(), Fail> {
     let g = volume(0)?;
     let page = head_of_a();
     let head = header_of(&page);
-    assert_eq!(rt; (head.id, head.span, head.flags), (0x8001, 0, Flags::finished_index()));
+    assert_eq!(rt;
+        (head.id, head.span, head.flags),
+        (0x8001, 0, Flags::finished_index())
+    );
     assert!(rt; head.is_finished() && head.is_index());
     assert_eq!(rt; (head.object(), head.flags.bits()), (1, 0xF8));
-    assert_eq!(rt; (size_of(&page), file_size(&page), type_of(&page)), (UNDEFINED_SIZE, 0, FILE_TYPE));
+    assert_eq!(rt;
+        (size_of(&page), file_size(&page), type_of(&page)),
+        (UNDEFINED_SIZE, 0, FILE_TYPE)
+    );
     let name = name_of(&page).ok_or("no name")?;
     assert_eq!(rt; name.as_slice(), b"a".as_slice());
     assert_eq!(rt; slot_of(&g, &page, 0, 0), FREE);
@@ -55,7 +63,10 @@ fn fields_of_a_header_page(rt: HostRuntime) -> Result<(), Fail> {
 fn fields_of_a_data_page(rt: HostRuntime) {
     let page = page_of(&[0x01, 0x00, 0x00, 0x00, 0xFC, 0x68, 0x65, 0x6C, 0x6C, 0x6F]);
     let head = header_of(&page);
-    assert_eq!(rt; (head.id, head.span, head.flags), (1, 0, Flags::finished_data()));
+    assert_eq!(rt;
+        (head.id, head.span, head.flags),
+        (1, 0, Flags::finished_data())
+    );
     assert!(rt; head.is_finished() && !head.is_index());
     assert_eq!(rt; &page[5..10], b"hello".as_slice());
 }
@@ -75,7 +86,14 @@ fn a_new_header_page_gets_size_and_pages(rt: HostRuntime) -> Result<(), Fail> {
     put_slot(&g, &mut page, 0, 0, 17);
     assert_eq!(rt; &page[8..12], [0x05, 0, 0, 0].as_slice());
     assert_eq!(rt; &page[45..47], [0x11, 0].as_slice());
-    assert_eq!(rt; (file_size(&page), slot_of(&g, &page, 0, 0), slot_of(&g, &page, 0, 1)), (5, 17, FREE));
+    assert_eq!(rt;
+        (
+            file_size(&page),
+            slot_of(&g, &page, 0, 0),
+            slot_of(&g, &page, 0, 1)
+        ),
+        (5, 17, FREE)
+    );
     Ok(())
 }
 
@@ -127,8 +145,16 @@ fn each_flag_is_a_cleared_bit(rt: HostRuntime) {
         (0xC7, false, false, false, false, false),
     ] {
         let flags = Flags::from_bits(bits);
-        assert_eq!(rt; (flags.is_used(), flags.is_final(), flags.is_index()), (used, last, index), "at {bits}");
-        assert_eq!(rt; (flags.is_removing(), flags.is_deleted()), (removing, deleted), "at {bits}");
+        assert_eq!(rt;
+            (flags.is_used(), flags.is_final(), flags.is_index()),
+            (used, last, index),
+            "at {bits}"
+        );
+        assert_eq!(rt;
+            (flags.is_removing(), flags.is_deleted()),
+            (removing, deleted),
+            "at {bits}"
+        );
     }
     assert_eq!(rt; Flags::placed_data().finished(), Flags::finished_data());
     assert_eq!(rt; Flags::finished_index().removing().bits(), 0xB8);
@@ -144,7 +170,10 @@ fn slots_of_the_lookup_pages(rt: HostRuntime) -> Result<(), Fail> {
     assert_eq!(rt; (magic_offset(&long), count_offset(&long)), (508, 510));
     let mut slots = [0xFF; 4];
     put_word(&mut slots, 2, 0x7FFF);
-    assert_eq!(rt; (read_word(&slots, 0), read_word(&slots, 2)), (FREE, 0x7FFF));
+    assert_eq!(rt;
+        (read_word(&slots, 0), read_word(&slots, 2)),
+        (FREE, 0x7FFF)
+    );
     for (raw, count) in [(0, 0), (0x7FFF, 0x7FFF), (0x8000, 0), (FREE, 0)] {
         assert_eq!(rt; read_count(raw), count, "at {raw}");
     }

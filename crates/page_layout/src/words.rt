@@ -29,5 +29,4 @@ pub fn fields_stay()
     ensures size { (at count : ℕ) (old new : List ℕ) → SameOutside at count old new → IsApart at count 8 4 → size_field new ≡ size_field old }
     ensures kind { (at count : ℕ) (old new : List ℕ) → SameOutside at count old new → IsApart at count 12 1 → type_of new ≡ type_of old }
     ensures name { (at count : ℕ) (old new : List ℕ) → SameOutside at count old new → IsApart at count 13 32 → name_of new ≡ name_of old }
-{
-}
+{}
