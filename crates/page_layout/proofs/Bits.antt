@@ -1,9 +1,9 @@
 -- A flag that is tested or cleared by its mask.
-use Rattle.std.proofs.Common.{ℕ, ◌≡◌, ◌≢◌, ◌+◌, ◌*◌, ◌/◌, ◌%◌, ◌^◌, ◌<◌, ◌-◌, ◌≤◌, Bool, not, ◌==◌, bit_and, bit_or, lit≤, ⊎_elim, arith, refl, sym, ◌∙◌, ap}
+use Rattle.std.proofs.Common.{ℕ, ◌≡◌, ◌+◌, ◌*◌, ◌%◌, ◌^◌, ◌<◌, ◌≤◌, not, ◌==◌, bit_and, bit_or, lit≤, ⊎_elim, arith, sym, ◌∙◌, ap}
 use Rattle.std.specs.Int.{bit_at, bit_not, w8}
 use Rattle.std.proofs.lemmas.Nat.Bits.{and_pow, bit_at-lt, bit_at_clear_same, bit_at_clear_other, bit_at_above}
 use Rattle.std.proofs.lemmas.Nat.{pow_pos, and_le_l, or_disjoint}
-use Rattle.std.proofs.lemmas.Bool.{cases_eq, cases_lt}
+use Rattle.std.proofs.lemmas.Bool.{cases_lt}
 use Rattle.std.proofs.lemmas.Grind.{common_steps}
 use Rattle.page_layout.specs.Layout.{is_bit_set, ClearsBit}
 
@@ -20,10 +20,10 @@ pub mask_clears : (n k : ℕ) → k < 8 → n < 256 → ClearsBit k n (bit_and n
 mask_clears n k within small = record {
   cleared = bit_at_clear_same w8 n k within;
   others = λ j other.
-    ⊎_elim
-    (λ (low : j < 8). bit_at_clear_other w8 n k within j low other)
-    (λ (high : 8 ≤ j). bit_at_above _ 8 j (omega (arith, and_le_l n (bit_not w8 (1 * 2 ^ k % 256)))) high ∙ sym (bit_at_above n 8 j small high))
-    (cases_lt j 8);
+      ⊎_elim
+      (λ (low : j < 8). bit_at_clear_other w8 n k within j low other)
+      (λ (high : 8 ≤ j). bit_at_above _ 8 j (omega (arith, and_le_l n (bit_not w8 (1 * 2 ^ k % 256)))) high ∙ sym (bit_at_above n 8 j small high))
+      (cases_lt j 8);
 }
 
 -- bit 15 set in a number below it adds it

@@ -1,10 +1,10 @@
 -- The header page of a new file, from what its parts hold.
-use Rattle.std.proofs.Common.{ℕ, ◌≡◌, ◌+◌, ◌*◌, ◌/◌, ◌%◌, ◌<◌, ◌-◌, ◌≤◌, List, [], ◌∷◌, ◌++◌, Some, All, ◌≢◌, length, take, drop, replicate, get_or, slice_range, arith, rules, refl, sym, ◌∙◌, ap, lit<, lit≤, length-take, length-drop}
-use Rattle.std.proofs.lemmas.List.{places, drop_more, same_lists, get_or-replicate, length-replicate, take_all, ext_get_or, get_or-take, get_or-drop}
+use Rattle.std.proofs.Common.{ℕ, ◌≡◌, ◌+◌, ◌*◌, ◌/◌, ◌%◌, ◌<◌, ◌-◌, ◌≤◌, List, ◌∷◌, ◌++◌, All, ◌≢◌, length, drop, replicate, get_or, slice_range, arith, refl, sym, ◌∙◌, ap, lit<, lit≤, length-take, length-drop}
+use Rattle.std.proofs.lemmas.List.{drop_more, get_or-replicate, length-replicate, take_all, ext_get_or, get_or-take, get_or-drop}
 use Rattle.std.proofs.lemmas.List.Folds.{drop_split}
 use Rattle.std.proofs.lemmas.Grind.{common_steps}
 use Rattle.geometry.specs.declared.geometry.Geometry.{Geometry}
-use Rattle.page_layout.specs.Layout.{SameOutside, obj_id, span_of, type_of, name_field, name_of, size_field, meta_of, padded, slots_of, page_number, slot_place, new_header_page, IsNewHeader}
+use Rattle.page_layout.specs.Layout.{SameOutside, obj_id, span_of, type_of, name_field, padded, new_header_page, IsNewHeader}
 use Rattle.page_layout.proofs.Parts.{padded_name}
 
 -- what the parts of a new header page hold

@@ -1,5 +1,5 @@
 -- A part of a list that is written over.
-use Rattle.std.proofs.Common.{ℕ, ◌≡◌, ◌≢◌, ◌==◌, Some, true, false, nat_lt, position, replicate, All, slice_range, ◌+◌, ◌<◌, ◌-◌, ◌≤◌, List, ◌++◌, length, take, drop, get_or, arith, rules, refl, sym, ◌∙◌, ap, length-append, length-take, length-drop}
+use Rattle.std.proofs.Common.{ℕ, ◌≡◌, ◌≢◌, ◌==◌, Some, true, false, nat_lt, position, replicate, All, slice_range, ◌+◌, ◌<◌, ◌≤◌, List, ◌++◌, length, take, drop, get_or, arith, rules, refl, ap}
 use Rattle.std.proofs.lemmas.List.{places, drop-replicate, get_or_append_left, take_at}
 use Rattle.std.specs.List.{position_or_len}
 use Rattle.std.proofs.lemmas.Slice.{between-put_mid}

@@ -1,8 +1,8 @@
 -- Where the fields of SPIFFS pages stand, and what they hold. A page is the list of its bytes.
-use Rattle.std.specs.Prelude.{◌≡◌, ◌≢◌, ℕ, ◌+◌, ◌-◌, ◌*◌, ◌/◌, ◌%◌, ◌^◌, ◌<◌, ◌≤◌, List, [], ◌∷◌, ◌++◌, length, replicate, take, Bool, not, nat_lt, ◌==◌, ◌&&◌, ◌||◌, Option, Some, None, if◌then◌else◌, position, option_and_then, slice_index, slice_range}
+use Rattle.std.specs.Prelude.{◌≡◌, ◌≢◌, ◌⊎◌, ℕ, ◌+◌, ◌-◌, ◌*◌, ◌/◌, ◌%◌, ◌^◌, ◌<◌, ◌≤◌, List, ◌∷◌, ◌++◌, length, replicate, take, Bool, not, nat_lt, ◌==◌, ◌&&◌, ◌||◌, Option, Some, None, if◌then◌else◌, position, option_and_then, slice_index, slice_range}
 use Rattle.std.specs.Int.{bit_at}
 use Rattle.geometry.specs.declared.geometry.Geometry.{Geometry}
-use Rattle.geometry.specs.Numbers.{slots}
+use Rattle.geometry.specs.Numbers.{head_slots, span_slots}
 use Rattle.page_layout.specs.declared.flags.Flags.{Flags}
 use Rattle.page_layout.specs.declared.header.PageHeader.{PageHeader}
 
@@ -17,6 +17,10 @@ pub record SameOutside (at count : ℕ) (old new : List ℕ) : Type 0 where
   pub size : length new ≡ length old
   pub before : (k : ℕ) → k < at → slice_index new k ≡ slice_index old k
   pub after : (k : ℕ) → at + count ≤ k → slice_index new k ≡ slice_index old k
+
+-- `size` bytes from `from` on and `count` bytes from `at` on have no byte in common
+abbrev pub IsApart : ℕ → ℕ → ℕ → ℕ → Type 0
+IsApart at count from size = (at + count ≤ from) ⊎ (from + size ≤ at)
 
 -- ---- the page header (SPIFFS page header: obj_id, span_ix, flags)
 
@@ -47,6 +51,18 @@ header_at page = record {
   span = span_of page;
   flags = record { bits = slice_index page 4 };
 }
+
+-- the header is that of an index page by its id (SPIFFS_OBJ_ID_IX_FLAG)
+abbrev pub names_index : PageHeader → Bool
+names_index head = not (nat_lt head.id 0x8000)
+
+-- The header says that its page is live, where the page's entry agrees: the id is that of an object, USED and FINAL are
+-- cleared and DELET is set, INDEX is cleared exactly where bit 15 of the id is set, and IXDELE is set in a header page.
+abbrev pub is_finished : PageHeader → Bool
+is_finished head =
+    not (head.id % 0x8000 == 0) && not (head.id == 0xFFFF)
+    && not (is_bit_set head.flags.bits 0) && not (is_bit_set head.flags.bits 1) && is_bit_set head.flags.bits 7
+    && (if names_index head then not (is_bit_set head.flags.bits 2) && (is_bit_set head.flags.bits 6 || not (head.span == 0)) else is_bit_set head.flags.bits 2)
 
 -- bit k is cleared and each other bit is as it was
 pub record ClearsBit (k old new : ℕ) : Type 0 where
@@ -92,7 +108,7 @@ slot_place g span slot = if span == 0 then 45 + g.meta + 2 * slot else 8 + 2 * s
 
 -- how many page numbers an index page of that span holds
 abbrev pub slots_of : Geometry → ℕ → ℕ
-slots_of g span = if span == 0 then (g.page - 45 - g.meta) / 2 else (g.page - 8) / 2
+slots_of g span = if span == 0 then head_slots g else span_slots g
 
 -- page number `slot` of an index page of that span
 abbrev pub page_number : Geometry → List ℕ → ℕ → ℕ → ℕ

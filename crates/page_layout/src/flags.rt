@@ -46,21 +46,27 @@ impl Flags {
     pub fn placed_index() -> Flags
         ensures { bits_of result ≡ 0xFA }
     {
-        Flags { bits: !(Self::USED | Self::INDEX) }
+        Flags {
+            bits: !(Self::USED | Self::INDEX),
+        }
     }
 
     /// Those of a finished data page.
     pub fn finished_data() -> Flags
         ensures { bits_of result ≡ 0xFC }
     {
-        Flags { bits: !(Self::USED | Self::FINAL) }
+        Flags {
+            bits: !(Self::USED | Self::FINAL),
+        }
     }
 
     /// Those of a finished index page.
     pub fn finished_index() -> Flags
         ensures { bits_of result ≡ 0xF8 }
     {
-        Flags { bits: !(Self::USED | Self::FINAL | Self::INDEX) }
+        Flags {
+            bits: !(Self::USED | Self::FINAL | Self::INDEX),
+        }
     }
 
     /// The page is written (bit 0, USED).
@@ -103,7 +109,9 @@ impl Flags {
         ensures clears { ClearsBit 1 (bits_of self) (bits_of result) }
         ensures bits { bits_of result ≡ bit_and (bits_of self) 0xFD }
     {
-        Flags { bits: self.bits & !Self::FINAL }
+        Flags {
+            bits: self.bits & !Self::FINAL,
+        }
     }
 
     /// These flags with the object being removed.
@@ -111,7 +119,9 @@ impl Flags {
         ensures clears { ClearsBit 6 (bits_of self) (bits_of result) }
         ensures bits { bits_of result ≡ bit_and (bits_of self) 0xBF }
     {
-        Flags { bits: self.bits & !Self::IXDELE }
+        Flags {
+            bits: self.bits & !Self::IXDELE,
+        }
     }
 
     /// These flags with the page deleted.
@@ -119,6 +129,8 @@ impl Flags {
         ensures clears { ClearsBit 7 (bits_of self) (bits_of result) }
         ensures bits { bits_of result ≡ bit_and (bits_of self) 0x7F }
     {
-        Flags { bits: self.bits & !Self::DELET }
+        Flags {
+            bits: self.bits & !Self::DELET,
+        }
     }
 }

@@ -1,7 +1,7 @@
 ghost use Rattle.std.specs.Prelude.{◌≡◌, ◌≢◌, ◌<◌, ◌≤◌, length, All};
 ghost use Rattle.page_layout.specs.Layout.{new_header_page, IsNewHeader};
 
-use crate::{put_header, put_name, put_type, Flags, PageHeader, FILE_TYPE, INDEX_BIT};
+use crate::{FILE_TYPE, Flags, INDEX_BIT, PageHeader, put_header, put_name, put_type};
 use geometry::Geometry;
 
 /// Makes the header page of a new empty file: used and not finished, of undefined size, with all meta bytes
@@ -17,7 +17,14 @@ pub fn build_header_page(g: &Geometry, page: &mut [u8], id: u16, name: &[u8])
 {
     page.fill(0xFF);
     let flags = Flags::placed_index();
-    put_header(page, PageHeader { id: id | INDEX_BIT, span: 0, flags });
+    put_header(
+        page,
+        PageHeader {
+            id: id | INDEX_BIT,
+            span: 0,
+            flags,
+        },
+    );
     put_type(page, FILE_TYPE);
     put_name(page, name);
 }

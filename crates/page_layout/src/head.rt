@@ -13,8 +13,11 @@ pub const FILE_TYPE: u8 = 1;
 
 // Where the fields of a header page begin, in bytes.
 const SIZE_AT: usize = 8;
+
 const TYPE_AT: usize = 12;
+
 const NAME_AT: usize = 13;
+
 const META_AT: usize = 45;
 
 /// The size field of a header page as it stands (bytes 8 to 11).

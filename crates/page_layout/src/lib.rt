@@ -14,10 +14,14 @@ mod words;
 
 pub use flags::Flags;
 pub use fresh::build_header_page;
-pub use head::{file_size, meta_of, name_of, put_meta, put_name, put_size, put_type, size_of, type_of};
-pub use head::{FILE_TYPE, UNDEFINED_SIZE};
-pub use header::{header_of, put_header, PageHeader};
+pub use head::{
+    FILE_TYPE, UNDEFINED_SIZE, file_size, meta_of, name_of, put_meta, put_name, put_size, put_type,
+    size_of, type_of,
+};
+pub use header::{PageHeader, header_of, put_header};
 pub use index::{put_slot, slot_of, slot_offset};
-pub use lookup::{count_offset, entry_offset, magic_offset, read_count};
-pub use lookup::{DELETED, FREE, INDEX_BIT};
-pub use words::{put_word, read_word};
+pub use lookup::{DELETED, FREE, INDEX_BIT, count_offset, entry_offset, magic_offset, read_count};
+pub use words::{fields_stay, put_word, read_word};
+
+#[cfg(test)]
+mod tests;

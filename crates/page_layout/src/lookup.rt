@@ -1,5 +1,5 @@
-ghost use Rattle.std.specs.Prelude.{◌≡◌, ◌-◌, ◌*◌, ◌<◌, ◌^◌};
-ghost use Rattle.geometry.specs.Numbers.{slots};
+ghost use Rattle.std.specs.Prelude.{◌≡◌, ◌+◌, ◌-◌, ◌*◌, ◌<◌, ◌≤◌, ◌^◌};
+ghost use Rattle.geometry.specs.Numbers.{slots, lookups};
 ghost use Rattle.page_layout.specs.Layout.{count_in};
 
 use geometry::Geometry;
@@ -23,14 +23,16 @@ pub fn entry_offset(i: u32) -> u32
 
 /// The byte of a block at which its magic stands: in the last slot of the lookup pages but one.
 pub fn magic_offset(g: &Geometry) -> u32
-    ensures { result ≡ 2 * (slots g.now - 2) }
+    ensures place { result ≡ 2 * (slots g.now - 2) }
+    ensures within { result + 4 ≤ lookups g.now * g.now.page }
 {
     2 * (g.lookups() * g.page() / 2 - 2)
 }
 
 /// The byte of a block at which its erase count stands: in the last slot of the lookup pages.
 pub fn count_offset(g: &Geometry) -> u32
-    ensures { result ≡ 2 * (slots g.now - 1) }
+    ensures place { result ≡ 2 * (slots g.now - 1) }
+    ensures within { result + 2 ≤ lookups g.now * g.now.page }
 {
     2 * (g.lookups() * g.page() / 2 - 1)
 }

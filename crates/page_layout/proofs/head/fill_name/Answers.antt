@@ -1,5 +1,3 @@
-use Rattle.std.proofs.Common.{◌≡◌, replicate, arith}
-use Rattle.std.proofs.lemmas.Grind.{common_steps}
 use Rattle.page_layout.proofs.Parts.{zeros_written}
 use Rattle.page_layout.proofs.head.fill_name.Goals as goal
 
