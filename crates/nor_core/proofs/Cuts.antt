@@ -129,10 +129,7 @@ module _ {D : Type 0} {nor : NorOf D} where
     kept = λ t image count left. second.kept t image count (first.kept t image count left);
   }
 
-<<<<<<< HEAD
-=======
   -- no read
->>>>>>> d5ae9e0d15a1d37b6cc7591ea2efdbb360cd7493
   pub reads_none : (d : D) → OnlyReads nor d d
   reads_none d = record {
     size = refl;
