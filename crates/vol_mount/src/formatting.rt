@@ -12,7 +12,6 @@ use crate::MountErr;
 use crate::mounting::wrong_chip;
 
 // Erases the units of a block from the first one up. A cut in the first one never leaves the magic.
-#[tactic(auto, using(crate::proofs::Units::unit_inside))]
 fn erase_block<N: Nor>(g: &Geometry, nor: &mut N, block: u32) -> Result<(), Failed>
     requires block { block < g.now.blocks }
     requires unit { N.unit nor.old ≡ g.now.phys }
