@@ -1,13 +1,6 @@
-// A library with one function.
+//! The write window: a run of written bytes that isn't on the chip yet.
 #![tactic(auto)]
 
-ghost use Rattle.std.specs.Prelude.{◌≡◌};
-ghost use Rattle.write_window.specs.Echo.{echo_of};
+mod window;
 
-// The `ensures` clause is the contract: what `echo` returns is `echo_of` of its argument, a definition
-// in `specs/Echo.antt`, which a caller's clause can cite too.
-pub fn echo(x: usize) -> usize
-    ensures { result ≡ echo_of x }
-{
-    x
-}
+pub use window::Window;
