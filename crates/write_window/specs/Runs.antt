@@ -12,14 +12,19 @@ pub record Run : Type 0 where
 abbrev pub page_end : ℕ → ℕ → ℕ
 page_end body at = (at / body + 1) * body
 
--- a write continues a run where it goes through its descriptor, starts where it ends, and lies in its data page
-abbrev pub continues : ℕ → Run → ℕ → ℕ → ℕ → Bool
-continues body r fd at len = (r.fd == fd) && (r.start + length r.bytes == at) && nat_le (at + len) (page_end body r.start)
+-- a place is the end of a window's run, and the descriptor is the run's
+abbrev pub is_at_end : Option Run → ℕ → ℕ → Bool
+is_at_end None fd at = false
+is_at_end (Some r) fd at = (r.fd == fd) && (r.start + length r.bytes == at)
 
--- a write continues the run of a window, where it has one
+-- so many bytes behind a window's run lie in the run's data page
+abbrev pub has_room : ℕ → Option Run → ℕ → Bool
+has_room body None len = false
+has_room body (Some r) len = nat_le (r.start + length r.bytes + len) (page_end body r.start)
+
+-- a write continues a window's run: it goes through the run's descriptor, starts where the run ends, and lies in its data page
 unfoldable pub accepted : ℕ → Option Run → ℕ → ℕ → ℕ → Bool
-accepted body None fd at len = false
-accepted body (Some r) fd at len = continues body r fd at len
+accepted body run fd at len = is_at_end run fd at && has_room body run len
 
 -- a run with more bytes at its end
 abbrev pub with_more : List ℕ → Run → Run

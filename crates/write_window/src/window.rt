@@ -18,6 +18,7 @@ pub struct Window<'b> {
     ghost some: { 0 < body },
     ghost few: { body < 2 ^ 16 },
     ghost room: { body ≤ length bytes.now },
+    ghost within: { taken ≤ body },
     ghost fits: { start + taken ≤ page_end body start },
 }
 
@@ -33,7 +34,7 @@ fn end_of_page(body: u32, at: u32) -> u64
 impl<'b> Window<'b> {
     ghost use Rattle.std.specs.Prelude.{◌≡◌, ◌+◌, ◌≤◌, length, drop, Some, None, IsTrue, is_none, option_map};
     ghost use Rattle.geometry.specs.Numbers.{body as body_of};
-    ghost use Rattle.write_window.specs.Runs.{accepted, with_more, start_of, id_of, bytes_of, page_end};
+    ghost use Rattle.write_window.specs.Runs.{accepted, has_room, with_more, start_of, id_of, bytes_of, page_end};
     ghost use Rattle.write_window.specs.Shown.{run_of};
 
     /// A window without a run, over at least as many bytes as a data page holds of a file.
@@ -64,12 +65,17 @@ impl<'b> Window<'b> {
 
     /// Whether a write of `len` bytes at the place `at` of a descriptor's file continues the run: it goes
     /// through the same descriptor, starts where the run ends, and lies in the run's data page.
+    #[tactic(auto, unfolding(crate::specs::Runs::accepted))]
     pub fn accepts(&self, fd: u16, at: u32, len: usize) -> bool
         ensures { result ≡ accepted self.now.body (run_of self.now) fd at len }
     {
         let end = u64::from(self.start) + self.taken as u64;
         let room = end_of_page(self.body, self.start) - end;
-        self.used && self.fd == fd && end == u64::from(at) && len as u64 <= room
+        if self.used && self.fd == fd && end == u64::from(at) {
+            len as u64 <= room
+        } else {
+            false
+        }
     }
 
     /// Begins a run with bytes that lie in one data page.
@@ -91,10 +97,10 @@ impl<'b> Window<'b> {
 
     /// Adds the bytes of a write that continues the run.
     pub fn push(&mut self, from: &[u8])
-        requires { IsTrue (accepted self.old.body (run_of self.old) self.old.fd (start_of (run_of self.old) + length (bytes_of (run_of self.old))) (length from.now)) }
+        requires { IsTrue (has_room self.old.body (run_of self.old) (length from.now)) }
         ensures run { run_of self.new ≡ option_map (with_more from.now) (run_of self.old) }
         ensures body { self.new.body ≡ self.old.body }
-        ensures rest { let end = length (bytes_of (run_of self.new)) in drop end self.new.bytes.now ≡ drop end self.old.bytes.now }
+        ensures rest { let end = length (bytes_of (run_of self.old)) + length from.now in drop end self.new.bytes.now ≡ drop end self.old.bytes.now }
         ensures same_bytes { self.new.bytes.ghost_name ≡ self.old.bytes.ghost_name }
     {
         let end = self.taken + from.len();
