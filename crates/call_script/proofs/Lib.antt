@@ -1,3 +1,5 @@
 pub mod Parting
 pub mod Numbers
 pub mod Putting
+pub mod Reading
+pub mod Spelling
