@@ -4,7 +4,9 @@
 mod formatting;
 mod lent;
 mod mounting;
+mod unchecked;
 
 pub use formatting::format;
 pub use lent::{Lent, MountErr, Part, Returned};
-pub use mounting::{Mounting, Parts, Unchecked, mount};
+pub use mounting::mount;
+pub use unchecked::{Mounting, Parts, Unchecked};

@@ -1,85 +1,16 @@
-ghost use Rattle.std.specs.Prelude.{◌≡◌, ◌≢◌, ◌+◌, ◌*◌, ◌<◌, ◌≤◌, length, IfOk, IfErr, OnOk, OnErr, Some, None, nat_lt, if◌then◌else◌};
+ghost use Rattle.std.specs.Prelude.{◌≡◌, ◌≢◌, ◌+◌, ◌*◌, ◌<◌, ◌≤◌, length, IfErr, OnErr, Some, None, Err, true, false, nat_lt, if◌then◌else◌};
 ghost use Rattle.std.specs.Option.{IfSome};
-ghost use Rattle.geometry.specs.Numbers.{check_need};
 ghost use Rattle.nor_core.specs.Count.{Rose};
 ghost use Rattle.nor_core.specs.Device.{OnlyReads};
 ghost use Rattle.flash_view.specs.Same.{OnlyLooks};
+ghost use Rattle.vol_mount.specs.Mounts.{IsLate, IsLateIf, why_of};
 ghost use Rattle.vol_mount.specs.Needs.{is_wrong_chip, short_buffer};
 
-use fd_table::FdSlot;
 use flash_view::View;
 use geometry::{GeoErr, Geometry};
 use nor_core::{Failed, Nor, NorState};
 
-use crate::{Lent, MountErr, Part, Returned};
-
-/// A volume that was mounted and not checked: it may only be read.
-#[derive(Drop)]
-pub struct Unchecked<'b, N: Nor> {
-    /// The volume's device, with its geometry, its work bytes and its cache.
-    pub view: View<'b, N>,
-    /// The lent descriptors.
-    pub slots: &'b mut [FdSlot],
-    /// The lent bytes for the check.
-    pub check: &'b mut [u8],
-    pub ghost some_slots: { 1 ≤ length slots.now },
-    pub ghost check_fits: { check_need view.geometry ≤ length check.now },
-}
-
-/// The parts of a volume that was mounted.
-#[derive(Drop)]
-pub struct Parts<'b, N: Nor> {
-    /// The volume's device, with its geometry, its work bytes and its cache.
-    pub view: View<'b, N>,
-    /// The lent descriptors.
-    pub slots: &'b mut [FdSlot],
-    /// The lent bytes for the check.
-    pub check: &'b mut [u8],
-}
-
-/// What mounting gives.
-#[derive(Drop)]
-pub enum Mounting<'b, N: Nor> {
-    /// The volume.
-    Mounted(Unchecked<'b, N>),
-    /// Why it is refused, and what was handed in.
-    Refused {
-        why: MountErr,
-        back: Returned<'b, N>,
-    },
-}
-
-impl<'b, N: Nor> Unchecked<'b, N> {
-    ghost use Rattle.std.specs.Prelude.{◌≡◌};
-
-    /// The view that `mount` made, the lent descriptors and the bytes for the check.
-    pub fn into_parts(self) -> Parts<'b, N>
-        ensures view { result.view ≡ self.entry.view }
-        ensures slots { result.slots ≡ self.entry.slots }
-        ensures check { result.check ≡ self.entry.check }
-    {
-        let Unchecked { view, slots, check } = self;
-        Parts { view, slots, check }
-    }
-
-    /// The device and the lent memory.
-    pub fn give_back(self) -> Returned<'b, N>
-        ensures nor { result.nor.now ≡ self.entry.view.nor.now }
-        ensures nor_name { result.nor.ghost_name ≡ self.entry.view.nor.ghost_name }
-    {
-        let Unchecked { view, slots, check } = self;
-        let (nor, work, cache) = view.give_back();
-        Returned {
-            nor,
-            lent: Lent {
-                work,
-                slots,
-                cache,
-                check,
-            },
-        }
-    }
-}
+use crate::{Lent, MountErr, Mounting, Part, Returned, Unchecked};
 
 // Why the device doesn't fit the volume.
 pub(crate) fn wrong_chip<N: Nor>(g: &Geometry, nor: &N) -> bool
@@ -134,6 +65,7 @@ fn spoiled_blocks<N: Nor>(v: &mut View<'_, N>) -> Result<u32, Failed>
 
 // Reads the magic of every block: two or more that lack theirs make no volume.
 fn survey<N: Nor>(v: &mut View<'_, N>) -> Result<(), MountErr>
+    ensures late { IfErr result IsLate }
     ensures cause { result ≡ Err MountErr.DeviceFault → Rose (N.faults v.old.nor.now) (N.faults v.new.nor.now) }
     ensures looks { OnlyLooks v.old v.new }
 {
@@ -147,7 +79,11 @@ fn survey<N: Nor>(v: &mut View<'_, N>) -> Result<(), MountErr>
 /// Mounts the volume of a device, and writes nothing. Refused are, in this order: a device that doesn't fit
 /// (`Wrong`), lent memory that is too short (`ShortBuffer`), a device that fails, and a volume of which two
 /// or more blocks lack their magic (`NotAFs`). One such block is accepted: a cut while it was erased left it.
-pub fn mount<'b, N: Nor>(g: Geometry, nor: &'b mut N, lent: Lent<'b>) -> Mounting<'b, N> {
+pub fn mount<'b, N: Nor>(g: Geometry, nor: &'b mut N, lent: Lent<'b>) -> Mounting<'b, N>
+    ensures wrong { is_wrong_chip g (N.unit nor.old) (N.size nor.old) ≡ true → why_of result ≡ Some (MountErr.Wrong GeoErr.WrongChip) }
+    ensures short { is_wrong_chip g (N.unit nor.old) (N.size nor.old) ≡ false → IfSome (short_buffer g (length lent.entry.work.now) (length lent.entry.slots.now) (length lent.entry.cache.now) (length lent.entry.check.now)) (λ why. why_of result ≡ Some why) }
+    ensures late { is_wrong_chip g (N.unit nor.old) (N.size nor.old) ≡ false → short_buffer g (length lent.entry.work.now) (length lent.entry.slots.now) (length lent.entry.cache.now) (length lent.entry.check.now) ≡ None → IsLateIf (why_of result) }
+{
     if wrong_chip(&g, nor) {
         let why = MountErr::Wrong(GeoErr::WrongChip);
         let back = Returned { nor, lent };

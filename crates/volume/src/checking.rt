@@ -1,5 +1,6 @@
-ghost use Rattle.std.specs.Prelude.{◌≡◌, ◌<◌, ◌≤◌, length, OnErr, OnOk, IsErrOf};
-ghost use Rattle.geometry.specs.Numbers.{page_count, usable};
+ghost use Rattle.std.specs.Prelude.{◌≡◌, ◌<◌, ◌≤◌, length, OnErr, OnOk, IsErrOf, IfErr, IfSome, Err, Some, None};
+ghost use Rattle.volume.specs.Checks.{IsWritable, IsWritableIf, why_of};
+ghost use Rattle.geometry.specs.Numbers.{page_count, usable, write_refusal};
 ghost use Rattle.nor_core.specs.Count.{Rose};
 ghost use Rattle.flash_view.specs.Places.{IsEntryPage};
 ghost use Rattle.flash_view.specs.Same.{OnlyLooks};
@@ -121,7 +122,9 @@ fn is_plain<N: Nor>(v: &mut View<'_, N>) -> Result<bool, Failed>
 
 // Looks at the whole volume, and reports what a check of it does: nothing is written.
 fn survey<N: Nor>(v: &mut View<'_, N>) -> Result<Report, CheckErr>
-    ensures writable { OnOk result (usable v.old.geometry ≤ 32766) }
+    ensures few { OnOk result (usable v.old.geometry ≤ 32766) }
+    ensures wrong { IfSome (write_refusal v.old.geometry) (λ why. result ≡ Err (CheckErr.Wrong why)) }
+    ensures writable { write_refusal v.old.geometry ≡ None → IfErr result IsWritable }
     ensures cause { IsErrOf result CheckErr.DeviceFault → Rose (N.faults v.old.nor.now) (N.faults v.new.nor.now) }
     ensures looks { OnlyLooks v.old v.new }
 {
@@ -157,7 +160,10 @@ fn report_on<N: Nor>(v: &mut View<'_, N>) -> Result<Option<Report>, Failed>
 /// Checks a mounted volume, so that it may be written. Every descriptor is closed. Refused are a volume that
 /// may not be written (`Wrong`), a device that fails, and an image that this build doesn't take (`Unbuilt`).
 /// Nothing is written.
-pub fn check<'b, N: Nor>(unchecked: Unchecked<'b, N>) -> Checking<'b, N> {
+pub fn check<'b, N: Nor>(unchecked: Unchecked<'b, N>) -> Checking<'b, N>
+    ensures wrong { IfSome (write_refusal unchecked.entry.view.geometry) (λ why. why_of result ≡ Some (CheckErr.Wrong why)) }
+    ensures writable { write_refusal unchecked.entry.view.geometry ≡ None → IsWritableIf (why_of result) }
+{
     let Parts {
         mut view,
         slots,
