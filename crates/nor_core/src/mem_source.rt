@@ -65,6 +65,8 @@ impl Source for MemSource {
         ensures cause { OnErr result (Rose (⟦<MemSource as Source>⟧.faults self.old) (⟦<MemSource as Source>⟧.faults self.new)) }
         ensures count { IfOk result (λ n. n ≡ min (length into.old) (length (⟦<MemSource as Source>⟧.left self.old))) }
         ensures fails { IsErr result ↔ (self.old.failing ≡ 1) }
+        ensures no_fault { OnOk result (⟦<MemSource as Source>⟧.faults self.new ≡ ⟦<MemSource as Source>⟧.faults self.old) }
+        ensures one_fault { OnErr result (⟦<MemSource as Source>⟧.faults self.new ≡ counted (⟦<MemSource as Source>⟧.faults self.old)) }
         ensures counts_down { self.new.failing ≡ self.old.failing - 1 }
     {
         let fails = self.failing == 1;

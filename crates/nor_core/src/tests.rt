@@ -91,8 +91,21 @@ fn a_board_is_programmed_and_erased(rt: HostRuntime) -> Result<(), Fail> {
 fn an_erase_fills_its_unit(rt: HostRuntime) -> Result<(), Fail> {
     let mut board = board_of(rt.alloc(), 0)?;
     assert_eq!(rt; (board.size(), board.unit()), (16, 8));
-    assert!(rt; !erase_fails(&mut board, 0, Some(Mark { at: 4, word: 0xffff })));
-    assert!(rt; board.image().starts_with(&[0xff, 0xff, 0xff, 0xff, 0xff, 0xff, 0xff, 0xff, 0]));
+    assert!(rt;
+        !erase_fails(
+            &mut board,
+            0,
+            Some(Mark {
+                at: 4,
+                word: 0xffff
+            })
+        )
+    );
+    assert!(rt;
+        board
+            .image()
+            .starts_with(&[0xff, 0xff, 0xff, 0xff, 0xff, 0xff, 0xff, 0xff, 0])
+    );
     Ok(())
 }
 
@@ -136,7 +149,10 @@ fn a_cut_erase_leaves_what_the_rules_allow(rt: HostRuntime) -> Result<(), Fail> 
             let (before, unit) = image.split_at(image.len() / 2);
             assert!(rt; before.iter().all(|b| *b == 0xa5), "pick {pick}");
             assert_eq!(rt; unit.iter().all(|b| *b == 0xa5), pick == 0, "pick {pick}");
-            assert!(rt; pick == 0 || word == 0 || word_of(unit, mark) != Some(word), "pick {pick}");
+            assert!(rt;
+                pick == 0 || word == 0 || word_of(unit, mark) != Some(word),
+                "pick {pick}"
+            );
         }
     }
     Ok(())
@@ -166,8 +182,21 @@ fn the_pick_seeds_what_a_cut_leaves(rt: HostRuntime) -> Result<(), Fail> {
     assert!(rt; board.image().starts_with(&[0xff, 0x13, 0x55, 0x77, 0xff]));
     let mut board = board_of(rt.alloc(), 0xa5)?;
     board.cut_after(0, 2);
-    assert!(rt; erase_fails(&mut board, 0, Some(Mark { at: 6, word: 0x267c })));
-    assert!(rt; board.image().starts_with(&[0xec, 0xaa, 0x88, 0x58, 0x47, 0x4b, 0x7d, 0x26, 0xa5]));
+    assert!(rt;
+        erase_fails(
+            &mut board,
+            0,
+            Some(Mark {
+                at: 6,
+                word: 0x267c
+            })
+        )
+    );
+    assert!(rt;
+        board
+            .image()
+            .starts_with(&[0xec, 0xaa, 0x88, 0x58, 0x47, 0x4b, 0x7d, 0x26, 0xa5])
+    );
     let mut board = board_of(rt.alloc(), 0xff)?;
     board.cut_after(0, 2);
     assert!(rt; say_fails(&mut board, b"mount"));
@@ -176,7 +205,9 @@ fn the_pick_seeds_what_a_cut_leaves(rt: HostRuntime) -> Result<(), Fail> {
 }
 
 #[test]
-fn the_power_goes_off_once_some_calls_have_passed_and_stays_off(rt: HostRuntime) -> Result<(), Fail> {
+fn the_power_goes_off_once_some_calls_have_passed_and_stays_off(
+    rt: HostRuntime,
+) -> Result<(), Fail> {
     let mut board = board_of(rt.alloc(), 0xff)?;
     board.cut_after(2, 1);
     assert!(rt; !program_fails(&mut board, 0, &[0x0f]));
