@@ -46,7 +46,8 @@ fn picked_programmed_bytes(
 ) -> Result<Vec<u8>, AllocError>
     requires { length bytes.now ≡ length asked.now }
     ensures size { IfOk result (λ left. length left.items ≡ length asked.now) }
-    ensures range { IfOk result (λ left. RangeProgrammed (Way.Cut pick) bytes.now asked.now left.items) }
+    ensures range { IfOk result (λ left. RangeProgrammed
+        (Way.Cut pick) bytes.now asked.now left.items) }
 {
     match pick {
         0 => bytes.to_vec(alloc),
@@ -111,7 +112,8 @@ fn picked_erased_bytes(
     pick: u64,
 ) -> Result<Vec<u8>, AllocError>
     requires { ForSome mark (λ m. m.at + 2 ≤ length bytes.now) }
-    ensures { IfOk result (λ left. UnitErased (Way.Cut pick) (length bytes.now) mark bytes.now left.items) }
+    ensures { IfOk result (λ left. UnitErased (Way.Cut pick)
+        (length bytes.now) mark bytes.now left.items) }
 {
     match pick {
         0 => bytes.to_vec(alloc),

@@ -18,7 +18,8 @@ fn board_of(alloc: Global, fill: u8) -> Result<MemBoard, Fail>
 fn read_fails(board: &mut MemBoard) -> bool
     requires { ⟦<MemBoard as NorState>⟧.size board.old ≡ 16 }
     ensures size { ⟦<MemBoard as NorState>⟧.size board.new ≡ 16 }
-    ensures unit { ⟦<MemBoard as NorState>⟧.unit board.new ≡ ⟦<MemBoard as NorState>⟧.unit board.old }
+    ensures unit { ⟦<MemBoard as NorState>⟧.unit board.new ≡
+        ⟦<MemBoard as NorState>⟧.unit board.old }
 {
     let mut into = [0u8; 2];
     board.read(0, &mut into).is_err()
@@ -29,7 +30,8 @@ fn program_fails(board: &mut MemBoard, at: u32, from: &[u8]) -> bool
     requires some { 0 < length from.now }
     requires inside { at + length from.now ≤ 16 }
     ensures size { ⟦<MemBoard as NorState>⟧.size board.new ≡ 16 }
-    ensures unit { ⟦<MemBoard as NorState>⟧.unit board.new ≡ ⟦<MemBoard as NorState>⟧.unit board.old }
+    ensures unit { ⟦<MemBoard as NorState>⟧.unit board.new ≡
+        ⟦<MemBoard as NorState>⟧.unit board.old }
 {
     board.program(at, from).is_err()
 }
@@ -46,8 +48,10 @@ fn erase_fails(board: &mut MemBoard, unit_ix: u32, mark: Option<Mark>) -> bool
 }
 
 fn say_fails(board: &mut MemBoard, piece: &[u8]) -> bool
-    ensures size { ⟦<MemBoard as NorState>⟧.size board.new ≡ ⟦<MemBoard as NorState>⟧.size board.old }
-    ensures unit { ⟦<MemBoard as NorState>⟧.unit board.new ≡ ⟦<MemBoard as NorState>⟧.unit board.old }
+    ensures size { ⟦<MemBoard as NorState>⟧.size board.new ≡
+        ⟦<MemBoard as NorState>⟧.size board.old }
+    ensures unit { ⟦<MemBoard as NorState>⟧.unit board.new ≡
+        ⟦<MemBoard as NorState>⟧.unit board.old }
 {
     board.say(piece).is_err()
 }
