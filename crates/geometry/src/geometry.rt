@@ -1,0 +1,275 @@
+ghost use Rattle.geometry.specs.Rules.{IsVolume};
+
+use crate::rules::{has_magic_room, is_block, is_page, lookup_pages};
+use crate::{GeoErr, MagicKind};
+
+/// The numbers of a volume. Every value of this type meets the rules of `Geometry::new`.
+///
+/// A volume is `blocks` logical blocks of `block` bytes. A block is a whole number of pages of `page` bytes
+/// and of erase units of `phys` bytes. Its first pages are lookup pages, one array of 16-bit slots; the
+/// others are its entry pages, one slot each. Pages are numbered through the whole volume from 0.
+#[derive(Clone, Copy, Debug)]
+pub struct Geometry {
+    /// Bytes of a page.
+    pub page: u32,
+    /// Bytes of a logical block.
+    pub block: u32,
+    /// Logical blocks of the volume.
+    pub blocks: u32,
+    /// Bytes of an erase unit of the device.
+    pub phys: u32,
+    /// Meta bytes of each file.
+    pub meta: u32,
+    /// What the magic tells.
+    pub magic: MagicKind,
+    pub ghost valid: { IsVolume page block blocks phys meta },
+}
+
+impl Geometry {
+    ghost use Rattle.std.specs.Prelude.{◌≡◌, ◌<◌, ◌^◌, IfOk, IfErr, OnOk, Some, None};
+    ghost use Rattle.geometry.specs.Numbers.{refusal, write_refusal, IsOf, per_block as per_block_of, lookups as lookups_of, entries as entries_of, body as body_of, head_slots as head_slots_of, span_slots as span_slots_of, page_count, usable as usable_of, work_need as work_need_of, cache_need as cache_need_of, check_need as check_need_of, length_mark as length_mark_of, right_magic};
+
+    /// A volume of these numbers: `page`, `block` and `phys` in bytes, `meta` in bytes for each file. Of
+    /// several rules that are broken, the first in the order of `GeoErr` is answered.
+    pub fn new(
+        page: u32,
+        block: u32,
+        blocks: u32,
+        phys: u32,
+        meta: u32,
+        magic: MagicKind,
+    ) -> Result<Geometry, GeoErr>
+        ensures refused { IfErr result (λ e. refusal page block blocks phys meta ≡ Some e) }
+        ensures accepted { OnOk result (refusal page block blocks phys meta ≡ None) }
+        ensures numbers { IfOk result (λ g. IsOf g page block blocks phys meta magic) }
+    {
+        if !is_page(page) {
+            return Err(GeoErr::BadPage);
+        }
+        if !is_block(page, block, phys) {
+            return Err(GeoErr::BadBlock);
+        }
+        if blocks < 3 {
+            return Err(GeoErr::TooFewBlocks);
+        }
+        if u64::from(blocks) * u64::from(block / page) > 65535 {
+            return Err(GeoErr::TooManyPages);
+        }
+        if !has_magic_room(page, block) {
+            return Err(GeoErr::NoRoomForMagic);
+        }
+        if meta > 64 {
+            return Err(GeoErr::BadMeta);
+        }
+        Ok(Geometry {
+            page,
+            block,
+            blocks,
+            phys,
+            meta,
+            magic,
+        })
+    }
+
+    /// Whether the volume may be written, and not only read.
+    pub fn writable(&self) -> Result<(), GeoErr>
+        ensures refused { IfErr result (λ e. write_refusal self.now ≡ Some e) }
+        ensures accepted { OnOk result (write_refusal self.now ≡ None) }
+    {
+        if self.usable() > 32766 {
+            return Err(GeoErr::TooManyUsable);
+        }
+        if self.blocks < 4 {
+            return Err(GeoErr::TooFewToWrite);
+        }
+        Ok(())
+    }
+
+    /// Bytes of a page.
+    pub fn page(&self) -> u32
+        ensures { result ≡ self.now.page }
+    {
+        self.page
+    }
+
+    /// Bytes of a logical block.
+    pub fn block(&self) -> u32
+        ensures { result ≡ self.now.block }
+    {
+        self.block
+    }
+
+    /// Logical blocks of the volume.
+    pub fn blocks(&self) -> u32
+        ensures { result ≡ self.now.blocks }
+    {
+        self.blocks
+    }
+
+    /// Bytes of an erase unit.
+    pub fn phys(&self) -> u32
+        ensures { result ≡ self.now.phys }
+    {
+        self.phys
+    }
+
+    /// Meta bytes of each file, at most 64.
+    pub fn meta(&self) -> u32
+        ensures { result ≡ self.now.meta }
+    {
+        self.meta
+    }
+
+    /// Pages of a block, lookup pages included; at least 2.
+    pub fn per_block(&self) -> u32
+        ensures { result ≡ per_block_of self.now }
+    {
+        self.block / self.page
+    }
+
+    /// Lookup pages of a block; at least 1.
+    pub fn lookups(&self) -> u32
+        ensures { result ≡ lookups_of self.now }
+    {
+        lookup_pages(self.page, self.block)
+    }
+
+    /// Entry pages of a block; at least 1.
+    pub fn entries(&self) -> u32
+        ensures { result ≡ entries_of self.now }
+    {
+        self.per_block() - self.lookups()
+    }
+
+    /// File bytes that a data page holds.
+    pub fn body(&self) -> u32
+        ensures { result ≡ body_of self.now }
+    {
+        self.page - 5
+    }
+
+    /// Data pages that a header page names.
+    pub fn head_slots(&self) -> u32
+        ensures { result ≡ head_slots_of self.now }
+    {
+        (self.page - 45 - self.meta) / 2
+    }
+
+    /// Data pages that a further index page names.
+    pub fn span_slots(&self) -> u32
+        ensures { result ≡ span_slots_of self.now }
+    {
+        (self.page - 8) / 2
+    }
+
+    /// Pages of the volume, lookup pages included; at most 65,535.
+    pub fn pages(&self) -> u32
+        ensures { result ≡ page_count self.now }
+    {
+        self.blocks * self.per_block()
+    }
+
+    /// Entry pages of the volume.
+    pub fn usable(&self) -> u32
+        ensures { result ≡ usable_of self.now }
+    {
+        self.blocks * self.entries()
+    }
+
+    /// Bytes of work that a mounted volume needs.
+    pub fn work_need(&self) -> u32
+        ensures { result ≡ work_need_of self.now }
+    {
+        4 * self.page + 4 * self.per_block() + 16 * self.blocks + self.usable() / 8 + 1
+    }
+
+    /// Bytes of cache that a mounted volume needs: a frame of one page.
+    pub fn cache_need(&self) -> u32
+        ensures { result ≡ cache_need_of self.now }
+    {
+        self.page + 8
+    }
+
+    /// Bytes of check that a mounted volume needs.
+    pub fn check_need(&self) -> u32
+        ensures { result ≡ check_need_of self.now }
+    {
+        self.pages() + 8192
+    }
+
+    /// The magic of a block that belongs to this volume. Its top bit is never set, so that an erased slot
+    /// is no magic.
+    pub fn magic_of(&self, block_ix: u32) -> u16
+        requires { block_ix < self.now.blocks }
+        ensures magic { result ≡ right_magic self.now block_ix }
+        ensures below { result < 0x8000 }
+    {
+        (0x0529 ^ self.page ^ self.length_mark(block_ix)) as u16
+    }
+
+    // How far a block is from the volume's end, where the magic tells it.
+    fn length_mark(&self, block_ix: u32) -> u32
+        requires { block_ix < self.now.blocks }
+        ensures mark { result ≡ length_mark_of self.now.magic self.now.blocks block_ix }
+        ensures below { result < 2 ^ 15 }
+    {
+        match self.magic {
+            MagicKind::Plain => 0,
+            MagicKind::Length => self.blocks - block_ix,
+        }
+    }
+}
+
+#[cfg(test)]
+mod tests {
+    use super::*;
+    use std::test::Fail;
+
+    #[test]
+    fn the_numbers_of_a_small_volume(rt: HostRuntime) -> Result<(), Fail> {
+        let g = Geometry::new(256, 4096, 16, 4096, 0, MagicKind::Length)?;
+        assert_eq!(rt; (g.page(), g.block(), g.blocks()), (256, 4096, 16));
+        assert_eq!(rt; (g.phys(), g.meta(), g.pages()), (4096, 0, 256));
+        assert_eq!(rt; (g.per_block(), g.lookups(), g.entries()), (16, 1, 15));
+        assert_eq!(rt; (g.body(), g.head_slots(), g.span_slots()), (251, 105, 124));
+        assert_eq!(rt; (g.usable(), g.work_need()), (240, 1375));
+        assert_eq!(rt; (g.cache_need(), g.check_need()), (264, 8448));
+        assert_eq!(rt; (g.magic_of(0), g.magic_of(1), g.magic_of(15)), (0x0439, 0x0426, 0x0428));
+        assert_eq!(rt; g.writable(), Ok(()));
+        let plain = Geometry::new(256, 4096, 16, 4096, 0, MagicKind::Plain)?;
+        assert_eq!(rt; (plain.magic_of(0), plain.magic_of(15)), (0x0429, 0x0429));
+        let long = Geometry::new(256, 65536, 4, 65536, 0, MagicKind::Length)?;
+        assert_eq!(rt; (long.lookups(), long.entries()), (2, 254));
+        Ok(())
+    }
+
+    #[test]
+    fn the_first_broken_rule_is_told(rt: HostRuntime) {
+        for (numbers, code) in [
+            ([100, 4096, 16, 4096, 0], 1),
+            ([8192, 8192, 0, 0, 99], 1),
+            ([256, 4000, 16, 4000, 0], 2),
+            ([256, 4096, 16, 0, 0], 2),
+            ([256, 4096, 16, 1000, 0], 2),
+            ([256, 256, 16, 256, 0], 2),
+            ([256, 4096, 16, 128, 0], 2),
+            ([256, 4096, 2, 4096, 65], 3),
+            ([256, 4096, 4096, 4096, 65], 4),
+            ([256, 32768, 4, 32768, 65], 5),
+            ([256, 4096, 16, 4096, 65], 6),
+        ] {
+            let [page, block, blocks, phys, meta] = numbers;
+            let made = Geometry::new(page, block, blocks, phys, meta, MagicKind::Length);
+            assert_eq!(rt; made.err().map(GeoErr::code), Some(code), "at {page} {block}");
+        }
+    }
+
+    #[test]
+    fn some_volumes_are_only_read(rt: HostRuntime) -> Result<(), Fail> {
+        let large = Geometry::new(256, 4096, 4095, 4096, 0, MagicKind::Length)?;
+        assert_eq!(rt; large.writable(), Err(GeoErr::TooManyUsable));
+        let small = Geometry::new(256, 4096, 3, 4096, 0, MagicKind::Length)?;
+        assert_eq!(rt; small.writable(), Err(GeoErr::TooFewToWrite));
+        Ok(())
+    }
+}

@@ -1,0 +1,89 @@
+ghost use Rattle.std.specs.Prelude.{◌≡◌};
+ghost use Rattle.table_model.specs.Numbers.{number_of};
+
+/// An id and a span: which page of which file.
+#[derive(Clone, Copy, Debug, PartialEq, Eq)]
+pub struct Tag {
+    /// The file's id, with bit 15 set in an index page.
+    pub id: u16,
+    /// The page's place among the pages of its kind of that file, from 0.
+    pub span: u16,
+}
+
+/// A page that doesn't read as what was written there. Where no page was found, `page` is 0xFFFF and `found`
+/// is (0xFFFF, 0xFFFF); where a page that the call itself made fresh reads otherwise, `wanted` is that.
+#[derive(Clone, Copy, Debug, PartialEq, Eq)]
+pub struct Differ {
+    /// The page's number in the volume.
+    pub page: u16,
+    /// What was to be there.
+    pub wanted: Tag,
+    /// What is there.
+    pub found: Tag,
+}
+
+/// Why a call was refused.
+#[derive(Clone, Copy, Debug, PartialEq, Eq)]
+pub enum FsErr {
+    /// An earlier call failed after it had asked the device for a program or an erase.
+    Failed,
+    /// A name is empty or holds a zero byte.
+    BadName,
+    /// A name has more than 31 bytes.
+    NameTooLong,
+    /// Flags that are none, or meta bytes of another length than the volume's.
+    BadFlags,
+    /// No descriptor of that number is open.
+    BadDescriptor,
+    /// Every descriptor is open.
+    OutOfDescriptors,
+    /// There is no such file.
+    NotFound,
+    /// The file is there, and was to be made anew.
+    FileExists,
+    /// The name to be made is there.
+    ConflictingName,
+    /// The descriptor was opened without reading.
+    NotReadable,
+    /// The descriptor was opened without writing.
+    NotWritable,
+    /// The position isn't inside the file.
+    SeekBounds,
+    /// The call needs a page, and fewer than two blocks are free.
+    Tight,
+    /// The table after the call would not fit the volume.
+    Full,
+    /// The device failed.
+    DeviceFault,
+    /// A page doesn't read as what was written there.
+    Damaged(Differ),
+    /// The call isn't part of this build.
+    Unbuilt,
+}
+
+impl FsErr {
+    /// The number that a reply tells, SPIFFS's own where it has one.
+    pub fn number(self) -> i32
+        ensures { result ≡ number_of self }
+    {
+        match self {
+            FsErr::Failed => -11005,
+            FsErr::BadName => -11000,
+            FsErr::NameTooLong => -10036,
+            FsErr::BadFlags => -11001,
+            FsErr::BadDescriptor => -10010,
+            FsErr::OutOfDescriptors => -10007,
+            FsErr::NotFound => -10002,
+            FsErr::FileExists => -10030,
+            FsErr::ConflictingName => -10023,
+            FsErr::NotReadable => -10022,
+            FsErr::NotWritable => -10021,
+            FsErr::SeekBounds => -11002,
+            FsErr::Tight => -11003,
+            FsErr::Full => -10001,
+            FsErr::DeviceFault => -11006,
+            FsErr::Damaged(_) => -11007,
+            FsErr::Unbuilt => -11008,
+        }
+    }
+}
