@@ -48,12 +48,15 @@ written_back items slice len len_is same =
     ∙ ap (λ (l : List ℕ). take len l) (append-nil slice)
     ∙ take_all len slice (omega (arith, len_is, same))
 
+-- a byte before what was put in stays
 pub get_or-put_before : (old : List ℕ) (at : ℕ) (bytes : List ℕ) (k : ℕ) → at + length bytes ≤ length old → k < at → get_or (put old at bytes) k 0 ≡ get_or old k 0
 get_or-put_before old at bytes k within below = grind (arith, common_steps)
 
+-- a byte after it stays
 pub get_or-put_after : (old : List ℕ) (at : ℕ) (bytes : List ℕ) (k : ℕ) → at + length bytes ≤ length old → at + length bytes ≤ k → get_or (put old at bytes) k 0 ≡ get_or old k 0
 get_or-put_after old at bytes k within above = grind (arith, common_steps)
 
+-- a byte of it is there
 pub get_or-put_inside : (old : List ℕ) (at : ℕ) (bytes : List ℕ) (k : ℕ) → at + length bytes ≤ length old → k < length bytes → get_or (put old at bytes) (at + k) 0 ≡ get_or bytes k 0
 get_or-put_inside old at bytes k within inside = grind (arith, common_steps)
 
