@@ -8,18 +8,15 @@ ghost use Rattle.table_model.specs.Ask.{Ask};
 /// What a reply prints as a name or a text is read back by the grammar as the same bytes.
 pub fn names_are_read_back()
     ensures { (bytes : List ℕ) → IsText bytes → text_of (printed bytes) ≡ Some bytes }
-{
-}
+{}
 
 /// What a reply prints as a number is read back by the grammar as the same number.
 pub fn numbers_are_read_back()
     ensures { (n : ℕ) → n < 2 ^ 64 → number_of (decimal n) ≡ Some n }
-{
-}
+{}
 
 /// Each call whose names, texts and numbers are in range is spelled by a line, where that has 4,096 bytes at
 /// most.
 pub fn each_call_is_spelled()
     ensures { (ask : Ask) → IsInRange ask → length (spelling ask) ≤ 4096 → of_line (spelling ask) ≡ Asks ask }
-{
-}
+{}

@@ -29,9 +29,9 @@ changed_none g first = record { parts = refl }
 pub changed_more : (g : Option Open → Option Open) (first now : List FdSlot) (i : ℕ) (d new : FdSlot) → i < length now → length now ≡ length first → held new ≡ g (held (get_or now i d)) → IsChanged g first now i → IsChanged g first (set now i new) (i + 1)
 changed_more g first now i d new h same value c = record {
   parts =
-    (let there : get_or (map held now) i None ≡ held (get_or now i d) = get_or-map held now i d None h in
-    let wrote : map held (set now i new) ≡ set (map held now) i (g (get_or (map held now) i None)) = map-set held now i new ∙ ap (λ v. set (map held now) i v) (value ∙ ap g (sym there)) in
-    wrote ∙ mapped_more g (map held now) (map held first) i None (rw (length-map first held) (omega arith)) c.parts);
+      (let there : get_or (map held now) i None ≡ held (get_or now i d) = get_or-map held now i d None h in
+      let wrote : map held (set now i new) ≡ set (map held now) i (g (get_or (map held now) i None)) = map-set held now i new ∙ ap (λ v. set (map held now) i v) (value ∙ ap g (sym there)) in
+      wrote ∙ mapped_more g (map held now) (map held first) i None (rw (length-map first held) (omega arith)) c.parts);
 }
 
 -- all slots are changed
