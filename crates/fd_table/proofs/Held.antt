@@ -1,5 +1,5 @@
 -- What slots hold after a change of one or of all of them.
-use Rattle.std.proofs.Common.{◌≡◌, ℕ, zero, suc, ◌+◌, ◌-◌, ◌<◌, ◌≤◌, List, [], ◌∷◌, ◌++◌, map, length, get_or, set, take, drop, replicate, refl, ap, arith, true, false, cond, add-one, sym, ◌∙◌, subst, Option, Some, None, append-nil, append_assoc, min, eqb}
+use Rattle.std.proofs.Common.{◌≡◌, ℕ, zero, suc, ◌+◌, ◌-◌, ◌<◌, ◌≤◌, List, [], ◌∷◌, ◌++◌, map, length, get_or, set, take, drop, replicate, refl, ap, arith, true, false, sym, ◌∙◌, Option, Some, None, append-nil, append_assoc, min, eqb}
 use Rattle.std.proofs.lemmas.List.{map-append, length-map, length-take-le, drop_more, take_more, get_or_at, set_at, take_all, drop_all, take-map, map-set, get_or-map, get_or-take, length-take, get_or_past}
 use Rattle.std.proofs.lemmas.Grind.{common_steps}
 use Rattle.fd_table.specs.declared.slot.FdSlot.{FdSlot}
