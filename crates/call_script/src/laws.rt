@@ -1,7 +1,7 @@
-ghost use Rattle.std.specs.Prelude.{◌≡◌, ℕ, ◌<◌, ◌≤◌, ◌^◌, List, length, decimal, Some};
+ghost use Rattle.std.specs.Prelude.{◌≡◌, ℕ, ◌<◌, ◌≤◌, ◌^◌, List, [], ◌∷◌, ◌++◌, length, decimal, Some};
 ghost use Rattle.call_script.specs.Numerals.{number_of};
 ghost use Rattle.call_script.specs.Texts.{text_of, printed};
-ghost use Rattle.call_script.specs.Lines.{of_line, Asks};
+ghost use Rattle.call_script.specs.Lines.{of_line, lines, Asks, NoBreak};
 ghost use Rattle.call_script.specs.Printing.{IsText, IsInRange, spelling};
 ghost use Rattle.table_model.specs.Ask.{Ask};
 
@@ -20,3 +20,10 @@ pub fn numbers_are_read_back()
 pub fn each_call_is_spelled()
     ensures { (ask : Ask) → IsInRange ask → length (spelling ask) ≤ 4096 → of_line (spelling ask) ≡ Asks ask }
 {}
+
+/// The first line of a script is what stands before its first byte 10, or all of it.
+pub fn lines_are_parted()
+    ensures first { (line more : List ℕ) → NoBreak line → lines (line ++ 10 ∷ more) ≡ line ∷ lines more }
+    ensures last { (line : List ℕ) → 0 < length line → NoBreak line → lines line ≡ line ∷ [] }
+{
+}
