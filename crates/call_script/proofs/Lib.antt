@@ -3,3 +3,4 @@ pub mod Numbers
 pub mod Putting
 pub mod Reading
 pub mod Spelling
+pub mod Breaks

@@ -1,12 +1,12 @@
 -- What is printed is read back.
-use Rattle.std.proofs.Common.{◌≡◌, ℕ, ℤ, zero, suc, ◌+◌, ◌-◌, ◌*◌, ◌/◌, ◌%◌, ◌^◌, ◌<◌, ◌≤◌, List, [], ◌∷◌, ◌++◌, length, get_or, refl, ap, arith, Bool, true, false, cond, eqb, leb, sym, ◌∙◌, Option, Some, None, pos, negsuc, lit<}
+use Rattle.std.proofs.Common.{◌≡◌, ℕ, ℤ, zero, suc, ◌+◌, ◌-◌, ◌*◌, ◌/◌, ◌%◌, ◌^◌, ◌<◌, ◌≤◌, List, [], ◌∷◌, ◌++◌, length, get_or, refl, ap, arith, Bool, true, false, cond, eqb, leb, ◌∙◌, Some, None, pos, negsuc, lit<}
 use Rattle.std.specs.Prelude.{decimal, not, ◌&&◌, ◌==◌}
 use Rattle.std.specs.Fmt.{digit_glyph, signed_decimal}
 use Rattle.std.specs.Char.{is_ascii_digit, is_ascii_graphic, digit_value}
 use Rattle.std.specs.List.{list_all, flat_map}
 use Rattle.std.proofs.lemmas.Grind.{common_steps}
 use Rattle.std.proofs.lemmas.Fmt.{decimal_by_steps, first_decimal, decimal_digit, decimal_nonempty}
-use Rattle.call_script.specs.Numerals.{digits_after, number_of, at_most, number_up_to, signed_up_to, below_zero}
+use Rattle.call_script.specs.Numerals.{digits_after, number_of, number_up_to, signed_up_to}
 use Rattle.call_script.specs.Texts.{unescaped, text_of, hex_byte_of, byte_of, hex_pair, printed, printed_byte, is_hex}
 use Rattle.call_script.specs.Printing.{IsBytes, IsText, IsOffset}
 use Rattle.call_script.proofs.Numbers.{signed_plain}

@@ -1,6 +1,6 @@
 -- The line that spells a call, read back.
-use Rattle.std.proofs.Common.{◌≡◌, ℕ, ℤ, suc, ◌+◌, ◌-◌, ◌*◌, ◌/◌, ◌%◌, ◌<◌, ◌≤◌, ◌^◌, List, [], ◌∷◌, ◌++◌, length, refl, ap, arith, Bool, true, false, cond, eqb, ltb, sym, ◌∙◌, Option, Some, None, pos, negsuc}
-use Rattle.std.specs.Prelude.{decimal, not, ◌&&◌, ◌==◌}
+use Rattle.std.proofs.Common.{◌≡◌, ℕ, ℤ, suc, ◌+◌, ◌-◌, ◌*◌, ◌/◌, ◌%◌, ◌<◌, ◌≤◌, ◌^◌, List, [], ◌∷◌, ◌++◌, length, refl, ap, arith, Bool, true, false, cond, eqb, ltb, ◌∙◌, Some, None, pos, negsuc}
+use Rattle.std.specs.Prelude.{decimal, not, ◌==◌}
 use Rattle.std.specs.Fmt.{signed_decimal}
 use Rattle.std.specs.Char.{is_ascii_digit, is_ascii_graphic}
 use Rattle.std.specs.List.{list_all}
@@ -9,9 +9,9 @@ use Rattle.table_model.specs.declared.call.Whence.{Whence}
 use Rattle.table_model.specs.declared.call.Whence.TheVariants.{Set, Cur, End}
 use Rattle.table_model.specs.Ask.{Ask, Creates, Opens, Reads, Writes, Fills, Seeks, Tells, Truncates, Flushes, Closes, Removes, RemovesOpen, Renames, Stats, StatsOpen, NextAbove, Informs, Collects, SetsMeta}
 use Rattle.call_script.specs.Numerals.{digits_after, number_up_to}
-use Rattle.call_script.specs.Texts.{printed, text_of, hex_pair}
-use Rattle.call_script.specs.Lines.{Asks, Bad, words, onto, spelled, is_text, parsed, of_line, call_or_bad, whence_of}
-use Rattle.call_script.specs.Printing.{IsBytes, IsText, IsOffset, IsInRange, joined, arguments, verb_of, whence_word, spelling}
+use Rattle.call_script.specs.Texts.{printed, hex_pair}
+use Rattle.call_script.specs.Lines.{Asks, words, spelled, is_text, parsed, of_line, call_or_bad, whence_of}
+use Rattle.call_script.specs.Printing.{IsText, IsOffset, IsInRange, joined, arguments, verb_of, whence_word, spelling}
 use Rattle.call_script.proofs.Reading.{decimal_read, number_within, signed_read, hex_read, text_read, printed_graphic, glyph_graphic}
 
 -- no space

@@ -1,5 +1,5 @@
 -- What slots hold after a change of one or of all of them.
-use Rattle.std.proofs.Common.{◌≡◌, ℕ, zero, suc, ◌+◌, ◌-◌, ◌<◌, ◌≤◌, List, [], ◌∷◌, ◌++◌, map, length, get_or, set, take, drop, replicate, refl, ap, arith, true, false, cond, add-one, sym, ◌∙◌, subst, Option, Some, None, append-nil, append_assoc, min, eqb}
+use Rattle.std.proofs.Common.{◌≡◌, ℕ, zero, suc, ◌+◌, ◌-◌, ◌<◌, ◌≤◌, List, [], ◌∷◌, ◌++◌, map, length, get_or, set, take, drop, replicate, refl, ap, arith, true, false, sym, ◌∙◌, Option, Some, None, append-nil, append_assoc, min, eqb}
 use Rattle.std.proofs.lemmas.List.{map-append, length-map, length-take-le, drop_more, take_more, get_or_at, set_at, take_all, drop_all, take-map, map-set, get_or-map, get_or-take, length-take, get_or_past}
 use Rattle.std.proofs.lemmas.Grind.{common_steps}
 use Rattle.fd_table.specs.declared.slot.FdSlot.{FdSlot}
@@ -29,9 +29,9 @@ changed_none g first = record { parts = refl }
 pub changed_more : (g : Option Open → Option Open) (first now : List FdSlot) (i : ℕ) (d new : FdSlot) → i < length now → length now ≡ length first → held new ≡ g (held (get_or now i d)) → IsChanged g first now i → IsChanged g first (set now i new) (i + 1)
 changed_more g first now i d new h same value c = record {
   parts =
-    (let there : get_or (map held now) i None ≡ held (get_or now i d) = get_or-map held now i d None h in
-    let wrote : map held (set now i new) ≡ set (map held now) i (g (get_or (map held now) i None)) = map-set held now i new ∙ ap (λ v. set (map held now) i v) (value ∙ ap g (sym there)) in
-    wrote ∙ mapped_more g (map held now) (map held first) i None (rw (length-map first held) (omega arith)) c.parts);
+      (let there : get_or (map held now) i None ≡ held (get_or now i d) = get_or-map held now i d None h in
+      let wrote : map held (set now i new) ≡ set (map held now) i (g (get_or (map held now) i None)) = map-set held now i new ∙ ap (λ v. set (map held now) i v) (value ∙ ap g (sym there)) in
+      wrote ∙ mapped_more g (map held now) (map held first) i None (rw (length-map first held) (omega arith)) c.parts);
 }
 
 -- all slots are changed

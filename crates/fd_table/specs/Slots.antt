@@ -1,5 +1,5 @@
 -- Descriptors as a list of closed and open ones, numbered from 1.
-use Rattle.std.specs.Prelude.{ℕ, ◌+◌, ◌-◌, min, List, [], ◌∷◌, map, take, slice_set, slice_index_or, Option, Some, None, option_map, ◌==◌, if◌then◌else◌}
+use Rattle.std.specs.Prelude.{ℕ, ◌+◌, ◌-◌, min, List, [], ◌∷◌, map, take, slice_set, slice_index_or, Option, Some, None, ◌==◌, if◌then◌else◌}
 use Rattle.fd_table.specs.declared.slot.FdSlot.{FdSlot}
 use Rattle.table_model.specs.Table.{Open}
 

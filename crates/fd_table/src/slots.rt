@@ -45,7 +45,11 @@ pub(crate) fn open_slot(slots: &[FdSlot], fd: u16) -> Result<FdSlot, FdErr>
         return Err(FdErr::BadDescriptor);
     }
     let slot = slots[usize::from(fd) - 1];
-    if slot.used { Ok(slot) } else { Err(FdErr::BadDescriptor) }
+    if slot.used {
+        Ok(slot)
+    } else {
+        Err(FdErr::BadDescriptor)
+    }
 }
 
 /// Puts a slot in the place of a descriptor.

@@ -2,8 +2,8 @@ ghost use Rattle.std.specs.Prelude.{◌≡◌, ℕ, ◌+◌, ◌-◌, ◌<◌, �
 ghost use Rattle.fd_table.specs.Slots.{descriptors, opened, open_at, put_at, lowest_closed, new_open, at_offset, without_file, pulled_back};
 ghost use Rattle.fd_table.specs.Seen.{seen};
 
-use crate::{FdErr, FdSlot};
 use crate::slots::{close, close_file, first_closed, open_slot, pull_file_back, put};
+use crate::{FdErr, FdSlot};
 
 /// The descriptors of a volume, in lent slots. They are numbered from 1, and at most the first 65,535 slots
 /// are used.

@@ -19,7 +19,10 @@ mod tests {
         assert!(rt; window.is_empty() && !window.accepts(0, 0, 0));
         window.begin(3, 9, 252, b"ab");
         assert!(rt; !window.is_empty());
-        assert_eq!(rt; (window.id(), window.start(), window.kept()), (9, 252, b"ab".as_slice()));
+        assert_eq!(rt;
+            (window.id(), window.start(), window.kept()),
+            (9, 252, b"ab".as_slice())
+        );
         assert!(rt; window.accepts(3, 254, 0));
         assert!(rt; !window.accepts(4, 254, 2));
         assert!(rt; !window.accepts(3, 253, 2));
@@ -31,7 +34,10 @@ mod tests {
         assert_eq!(rt; window.kept(), b"abcd".as_slice());
         window.clear();
         assert!(rt; window.is_empty());
-        assert_eq!(rt; (window.id(), window.start(), window.kept().len()), (0, 0, 0));
+        assert_eq!(rt;
+            (window.id(), window.start(), window.kept().len()),
+            (0, 0, 0)
+        );
         let back = window.give_back();
         assert_eq!(rt; &back[..5], b"abcd\x07".as_slice());
         assert_eq!(rt; back.len(), 300);

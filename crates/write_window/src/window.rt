@@ -126,7 +126,11 @@ impl<'b> Window<'b> {
     pub fn kept(&self) -> &[u8]
         ensures { result.now ≡ bytes_of (run_of self.now) }
     {
-        if self.used { &self.bytes[..self.taken] } else { &[] }
+        if self.used {
+            &self.bytes[..self.taken]
+        } else {
+            &[]
+        }
     }
 
     /// Lets the run go.

@@ -1,5 +1,4 @@
-use Rattle.std.proofs.Common.{ℕ, false, arith, refl, None, ap, ◌∙◌, length, replicate, map, take, Option}
-use Rattle.table_model.specs.Table.{Open}
+use Rattle.std.proofs.Common.{ℕ, false, arith, refl, None, ap, ◌∙◌, replicate, map, take}
 use Rattle.fd_table.specs.Slots.{descriptors, held}
 use Rattle.fd_table.proofs.Held.{changed_more, changed_all, all_closed, count_held, none_of}
 use Rattle.fd_table.proofs.slots.close.Goals as goal

@@ -1,5 +1,3 @@
-use Rattle.std.proofs.Common.{None}
-use Rattle.fd_table.specs.Slots.{without_file, pulled_back}
 use Rattle.fd_table.proofs.Held.{IsChanged, none_of}
 use Rattle.fd_table.proofs.slots.close.Given as goal
 

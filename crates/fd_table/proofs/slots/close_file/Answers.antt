@@ -1,6 +1,6 @@
-use Rattle.std.proofs.Common.{arith, refl, None, ap, ◌∙◌, length, min, replicate, map, take}
-use Rattle.fd_table.specs.Slots.{descriptors, without_file, pulled_back, held}
-use Rattle.fd_table.proofs.Held.{changed_more, changed_all, all_closed, count_held}
+use Rattle.std.proofs.Common.{arith}
+use Rattle.fd_table.specs.Slots.{descriptors, without_file}
+use Rattle.fd_table.proofs.Held.{changed_more, changed_all}
 use Rattle.fd_table.proofs.slots.close_file.Goals as goal
 
 pub loop-slot-preserved : goal.loop-slot-preserved

@@ -1,4 +1,4 @@
-use Rattle.std.proofs.Common.{◌≡◌, ◌∙◌, ap, ℕ, ◌+◌, Some, ◌<◌, ◌≤◌, arith}
+use Rattle.std.proofs.Common.{◌∙◌, ap, ℕ, Some, arith}
 use Rattle.fd_table.specs.Slots.{descriptors, lowest_closed}
 use Rattle.fd_table.proofs.Held.{none_closed, closed_here}
 use Rattle.fd_table.proofs.slots.first_closed.Goals as goal

@@ -1,5 +1,5 @@
-use Rattle.std.proofs.Common.{◌≡◌, ◌<◌, ◌≤◌, ◌-◌, ◌∙◌, arith}
-use Rattle.fd_table.specs.Slots.{descriptors, open_at}
+use Rattle.std.proofs.Common.{◌∙◌, arith}
+use Rattle.fd_table.specs.Slots.{descriptors}
 use Rattle.fd_table.proofs.Held.{open_none, open_held, open_past, held_used, held_closed}
 use Rattle.fd_table.proofs.slots.open_slot.Goals as goal
 use Rattle.fd_table.proofs.slots.open_slot.Goals.{then-fd-eq0-via-then-fd-eq0, then-fd-eq0-via-else-fd-eq0+then-slots-from}

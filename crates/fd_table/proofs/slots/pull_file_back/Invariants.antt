@@ -1,5 +1,4 @@
-use Rattle.std.proofs.Common.{None}
-use Rattle.fd_table.specs.Slots.{without_file, pulled_back}
+use Rattle.fd_table.specs.Slots.{pulled_back}
 use Rattle.fd_table.proofs.Held.{IsChanged}
 use Rattle.fd_table.proofs.slots.pull_file_back.Given as goal
 

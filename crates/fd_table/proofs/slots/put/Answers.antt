@@ -1,4 +1,4 @@
-use Rattle.std.proofs.Common.{◌≡◌, ◌<◌, ◌≤◌, ◌-◌, arith}
+use Rattle.std.proofs.Common.{◌-◌, arith}
 use Rattle.fd_table.specs.Slots.{descriptors, put_at}
 use Rattle.fd_table.proofs.Held.{held_set}
 use Rattle.fd_table.proofs.slots.put.Goals as goal

@@ -1,7 +1,7 @@
 use Rattle.std.proofs.Common.{◌≡◌, ℕ, ◌+◌, ◌-◌, ◌≤◌, Bool, true, false, List, length, take, cond, Some, None, arith, IsTrue}
 use Rattle.std.proofs.lemmas.List.{length-take-le}
 use Rattle.std.proofs.lemmas.Slice.{drop-put_mid}
-use Rattle.write_window.specs.Runs.{Run, has_room, bytes_of}
+use Rattle.write_window.specs.Runs.{has_room, bytes_of}
 use Rattle.write_window.specs.Shown.{run_of}
 use Rattle.write_window.proofs.window.Window.push.Goals as goal
 
