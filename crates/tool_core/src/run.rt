@@ -5,8 +5,8 @@ ghost use Rattle.call_script.specs.Pieces.{IsShort};
 ghost use Rattle.vol_mount.specs.Mounts.{IsLate};
 ghost use Rattle.volume.specs.Checks.{IsWritable};
 ghost use Rattle.tool_core.specs.Later.{IsLater, IsLaterIf};
-ghost use Rattle.tool_core.specs.Fits.{IsFitting, HasLengths};
-ghost use Rattle.tool_core.specs.Lent.{lengths_of};
+ghost use Rattle.geometry.specs.Numbers.{work_need, cache_need, check_need};
+ghost use Rattle.tool_core.specs.Fits.{IsFitting};
 
 use call_script::{parse_line, reply_text};
 use geometry::Geometry;
@@ -17,7 +17,6 @@ use volume::{CheckErr, Checked, Checking, Volume, check};
 
 use crate::ending::Ending;
 use crate::lines::{LIMIT, LINE, Lines};
-use crate::tool::Buffers;
 
 /// The number of bytes of the line buffer that hold lines; the others hold names, texts and replies.
 const LINES: usize = 8192;
@@ -167,7 +166,10 @@ fn turn<B: Board, S: Source>(
     let from = lines.start;
     match lines.take_line() {
         Some(to) if to - from > LINE => Some(Ending::BadLine(lines.handed)),
-        Some(to) => answer(volume, lines.piece(from, to), lines.handed, scratch),
+        Some(to) => {
+            let number = lines.handed;
+            answer(volume, lines.piece(from, to), number, scratch)
+        }
         None => take_more(volume, lines, script, scratch),
     }
 }
@@ -189,9 +191,9 @@ fn run_lines<B: Board, S: Source>(
     }
 }
 
-// Runs a script on a checked volume with that many free blocks, and unmounts it.
+// Runs a script on a checked volume with that many free blocks.
 fn run_script<B: Board, S: Source>(
-    mut volume: Volume<'_, B>,
+    volume: &mut Volume<'_, B>,
     free_blocks: u32,
     script: &mut S,
     line: &mut [u8],
@@ -204,41 +206,58 @@ fn run_script<B: Board, S: Source>(
     }
     let (taken, scratch) = line.split_at_mut(LINES);
     let mut lines = Lines::new(taken);
-    let ending = run_lines(&mut volume, &mut lines, script, scratch);
+    run_lines(volume, &mut lines, script, scratch)
+}
+
+// Settles a volume at the end of a run.
+fn settle<B: Board>(volume: &mut Volume<'_, B>, ending: Ending) -> Ending
+    requires { IsLater ending }
+    ensures { IsLater result }
+{
     if matches!(ending, Ending::BoardFault | Ending::Differ(_)) {
         return ending;
     }
-    match volume.unmount().last {
+    match volume.settle() {
         Ok(()) => ending,
         Err(_) => Ending::BoardFault,
     }
 }
 
-/// Mounts and checks the volume of a board, and runs a script on it.
-pub(crate) fn run<B: Board, S: Source>(
-    g: Geometry,
-    board: &mut B,
+// Runs a script on a checked volume, and settles it.
+fn run_checked<B: Board, S: Source>(
+    checked: &mut Checked<'_, B>,
     script: &mut S,
-    bufs: &mut Buffers<'_>,
+    line: &mut [u8],
+) -> Ending
+    requires { 12288 ≤ length line.old }
+    ensures { IsLater result }
+{
+    let free_blocks = checked.report.free_blocks;
+    let ending = run_script(&mut checked.volume, free_blocks, script, line);
+    settle(&mut checked.volume, ending)
+}
+
+/// Mounts and checks the volume of a board, and runs a script on it.
+pub(crate) fn run<'b, B: Board, S: Source>(
+    g: Geometry,
+    board: &'b mut B,
+    script: &mut S,
+    lent: Lent<'b>,
+    line: &mut [u8],
 ) -> Ending
     requires fits { IsFitting g (B.unit board.old) (B.size board.old) }
-    requires room { HasLengths g (lengths_of bufs.old) }
+    requires work { work_need g ≤ length lent.work.now }
+    requires slots { 1 ≤ length lent.slots.now }
+    requires cache { cache_need g ≤ length lent.cache.now }
+    requires check { check_need g ≤ length lent.check.now }
+    requires line { 12288 ≤ length line.old }
     ensures later { IsLater result }
 {
-    let lent = Lent {
-        work: &mut *bufs.work,
-        slots: &mut *bufs.slots,
-        cache: &mut *bufs.cache,
-        check: &mut *bufs.check,
-    };
     match mount(g, board, lent) {
         Mounting::Refused { why, back: _ } => mount_ending(why),
         Mounting::Mounted(unchecked) => match check(unchecked) {
             Checking::Refused { why, back: _ } => check_ending(why),
-            Checking::Checked(checked) => {
-                let Checked { volume, report } = checked;
-                run_script(volume, report.free_blocks, script, bufs.line)
-            }
+            Checking::Checked(mut checked) => run_checked(&mut checked, script, line),
         },
     }
 }

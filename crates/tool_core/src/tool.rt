@@ -4,10 +4,14 @@ ghost use Rattle.nor_core.specs.Device.{Says};
 ghost use Rattle.tool_core.specs.Plan.{refusal_of};
 ghost use Rattle.tool_core.specs.Closing.{closing_line_of};
 ghost use Rattle.tool_core.specs.Endings.{EndsAs, Refuses, RefusesIf};
+ghost use Rattle.tool_core.specs.Fits.{IsFitting, HasLengths};
+ghost use Rattle.tool_core.specs.Later.{IsLater};
 ghost use Rattle.tool_core.specs.Lent.{lengths_of};
 
 use fd_table::FdSlot;
+use geometry::Geometry;
 use nor_core::{Board, Nor, NorState, Source};
+use vol_mount::Lent;
 
 use crate::ending::{Ending, closing_line};
 use crate::plan::{Lengths, plan};
@@ -57,6 +61,26 @@ fn conclude<B: Board>(board: &mut B, ending: Ending) -> u8
     }
 }
 
+// Mounts and checks the volume of a board in the lent memory, and runs a script on it.
+fn run_on<B: Board, S: Source>(
+    g: Geometry,
+    board: &mut B,
+    script: &mut S,
+    bufs: &mut Buffers<'_>,
+) -> Ending
+    requires fits { IsFitting g (B.unit board.old) (B.size board.old) }
+    requires room { HasLengths g (lengths_of bufs.old) }
+    ensures later { IsLater result }
+{
+    let lent = Lent {
+        work: &mut *bufs.work,
+        slots: &mut *bufs.slots,
+        cache: &mut *bufs.cache,
+        check: &mut *bufs.check,
+    };
+    run(g, board, script, lent, bufs.line)
+}
+
 /// Does the command that the words spell, on a board, and answers its status. The form is
 /// `run PAGE BLOCK BLOCKS META MAGIC CHIP`: the numbers in decimal digits below 2 ^ 32 without a leading
 /// zero, MAGIC `plain` or `len`, CHIP any word that isn't empty, which isn't read here. The volume is mounted
@@ -72,7 +96,7 @@ pub fn spiffs_tool<B: Board, S: Source>(
     match plan(words, board.unit(), board.size(), &lengths(bufs)) {
         Err(ending) => conclude(board, ending),
         Ok(g) => {
-            let ending = run(g, board, script, bufs);
+            let ending = run_on(g, board, script, bufs);
             conclude(board, ending)
         }
     }

@@ -1,5 +1,5 @@
 ghost use Rattle.std.specs.Prelude.{◌≡◌, ◌+◌, ◌*◌, ◌<◌, ◌≤◌, ◌^◌, length, map, string_bytes, option_copied, IfSome, Some, None};
-ghost use Rattle.tool_core.specs.Words.{run_form, number_word, magic_word, command_word};
+ghost use Rattle.tool_core.specs.Words.{run_form, number_word, magic_word};
 
 use call_script::parse_number;
 use geometry::MagicKind;
@@ -39,6 +39,7 @@ fn magic(word: &String) -> Option<MagicKind>
     }
 }
 
+#[tactic(auto, unfolding(crate::specs::Words::run_form))]
 /// The numbers that the words `run PAGE BLOCK BLOCKS META MAGIC CHIP` give, or None for other words.
 pub(crate) fn run_shape(words: &[String]) -> Option<Shape>
     ensures { result ≡ run_form (map string_bytes words.now) }

@@ -1,5 +1,6 @@
 -- What mounting refuses.
-use Rattle.std.specs.Prelude.{Option, Some, None}
+use Rattle.std.specs.Prelude.{◌≡◌, Option, Some, None}
+use Rattle.geometry.specs.declared.geometry.Geometry.{Geometry}
 use Rattle.vol_mount.specs.declared.lent.MountErr.{MountErr}
 use Rattle.vol_mount.specs.declared.lent.MountErr.TheVariants.{Wrong, ShortBuffer, NotAFs, DeviceFault}
 use Rattle.vol_mount.specs.declared.unchecked.Mounting.{Mounting}
@@ -20,3 +21,8 @@ IsLateIf (Some why) = IsLate why
 abbrev pub why_of : {N : Type 0} {nor : _} → Mounting N nor → Option MountErr
 why_of (Mounted unchecked) = None
 why_of (Refused why back) = Some why
+
+-- the volume that was mounted has this geometry
+abbrev pub HasGeometry : {N : Type 0} {nor : _} → Mounting N nor → Geometry → Type 0
+HasGeometry (Mounted unchecked) g = unchecked.view.geometry ≡ g
+HasGeometry (Refused why back) g = Unit {0}

@@ -3,7 +3,7 @@ ghost use Rattle.std.specs.Option.{IfSome};
 ghost use Rattle.nor_core.specs.Count.{Rose};
 ghost use Rattle.nor_core.specs.Device.{OnlyReads};
 ghost use Rattle.flash_view.specs.Same.{OnlyLooks};
-ghost use Rattle.vol_mount.specs.Mounts.{IsLate, IsLateIf, why_of};
+ghost use Rattle.vol_mount.specs.Mounts.{HasGeometry, IsLate, IsLateIf, why_of};
 ghost use Rattle.vol_mount.specs.Needs.{is_wrong_chip, short_buffer};
 
 use flash_view::View;
@@ -80,6 +80,7 @@ fn survey<N: Nor>(v: &mut View<'_, N>) -> Result<(), MountErr>
 /// (`Wrong`), lent memory that is too short (`ShortBuffer`), a device that fails, and a volume of which two
 /// or more blocks lack their magic (`NotAFs`). One such block is accepted: a cut while it was erased left it.
 pub fn mount<'b, N: Nor>(g: Geometry, nor: &'b mut N, lent: Lent<'b>) -> Mounting<'b, N>
+    ensures geometry { HasGeometry result g }
     ensures wrong { is_wrong_chip g (N.unit nor.old) (N.size nor.old) ≡ true → why_of result ≡ Some (MountErr.Wrong GeoErr.WrongChip) }
     ensures short { is_wrong_chip g (N.unit nor.old) (N.size nor.old) ≡ false → IfSome (short_buffer g (length lent.entry.work.now) (length lent.entry.slots.now) (length lent.entry.cache.now) (length lent.entry.check.now)) (λ why. why_of result ≡ Some why) }
     ensures late { is_wrong_chip g (N.unit nor.old) (N.size nor.old) ≡ false → short_buffer g (length lent.entry.work.now) (length lent.entry.slots.now) (length lent.entry.cache.now) (length lent.entry.check.now) ≡ None → IsLateIf (why_of result) }

@@ -85,6 +85,18 @@ impl<'b, N: Nor> Volume<'b, N> {
         self.failed
     }
 
+    /// Puts onto the chip what was written and isn't there: every call that is `Ok` has done so already.
+    /// `Failed` where the volume has failed.
+    pub fn settle(&mut self) -> Result<(), FsErr>
+        ensures same { self.new ≡ self.old }
+    {
+        if self.failed {
+            Err(FsErr::Failed)
+        } else {
+            Ok(())
+        }
+    }
+
     /// Gives back what was lent. Nothing is left to be written.
     pub fn unmount(self) -> Unmounted<'b, N>
         ensures nor { result.back.nor.now ≡ self.entry.view.nor.now }
