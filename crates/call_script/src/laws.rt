@@ -25,5 +25,4 @@ pub fn each_call_is_spelled()
 pub fn lines_are_parted()
     ensures first { (line more : List ℕ) → NoBreak line → lines (line ++ 10 ∷ more) ≡ line ∷ lines more }
     ensures last { (line : List ℕ) → 0 < length line → NoBreak line → lines line ≡ line ∷ [] }
-{
-}
+{}

@@ -8,7 +8,9 @@ mod reply;
 mod text;
 mod words;
 
-pub use laws::{each_call_is_spelled, lines_are_parted, names_are_read_back, numbers_are_read_back};
+pub use laws::{
+    each_call_is_spelled, lines_are_parted, names_are_read_back, numbers_are_read_back,
+};
 pub use line::{BadLine, parse_line};
 pub use number::parse_number;
 pub use reply::reply_text;
