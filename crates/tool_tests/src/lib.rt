@@ -1,0 +1,14 @@
+//! Tests that run the top call and the layers below it on devices in memory.
+#![tactic(auto)]
+
+#[cfg(test)]
+mod bench;
+#[cfg(test)]
+mod creates;
+#[cfg(test)]
+mod refusals;
+#[cfg(test)]
+mod scripts;
+
+/// The status of a command of which everything was done.
+pub const ALL_DONE: u8 = 0;
