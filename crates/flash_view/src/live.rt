@@ -4,11 +4,10 @@ ghost use Rattle.nor_core.specs.Count.{Rose};
 ghost use Rattle.flash_view.specs.Places.{IsEntryPage};
 ghost use Rattle.flash_view.specs.Same.{OnlyLooks};
 
-use nor_core::{Failed, Nor, NorState};
-use page_layout::{INDEX_BIT, PageHeader, name_of};
-
 use crate::View;
 use crate::places::{block_of, is_entry_page};
+use nor_core::{Failed, Nor, NorState};
+use page_layout::{INDEX_BIT, PageHeader, name_of};
 
 // Whether a header is that of a finished page: of a file or an object, written, finished and not deleted,
 // an index page exactly where its id says so, and no header page of an object that is being removed.

@@ -4,11 +4,10 @@ ghost use Rattle.nor_core.specs.Count.{Rose};
 ghost use Rattle.nor_core.specs.Flash.{HalfProgrammed};
 ghost use Rattle.nor_core.specs.Device.{Changes};
 
+use crate::places::{count_start, entry_start, magic_start, page_start};
 use geometry::Geometry;
 use nor_core::{Board, Failed, Mark, Nor, NorState};
 use page_layout::{PageHeader, header_of, read_count, read_word};
-
-use crate::places::{count_start, entry_start, magic_start, page_start};
 
 /// A volume's device, with its geometry and the bytes that were lent for its work.
 #[derive(Drop)]

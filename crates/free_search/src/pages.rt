@@ -3,11 +3,10 @@ ghost use Rattle.nor_core.specs.Count.{Rose};
 ghost use Rattle.flash_view.specs.Places.{IsEntryPage};
 ghost use Rattle.flash_view.specs.Same.{OnlyLooks};
 
+use crate::{BlockCounts, counts, free_blocks, is_free_block};
 use flash_view::{Kind, View, entry_page};
 use nor_core::{Failed, Nor, NorState};
 use page_layout::FREE;
-
-use crate::{BlockCounts, counts, free_blocks, is_free_block};
 
 // Whether pages of a kind go into a block in use: index pages where no live data page is and the block isn't
 // empty, data pages beside live data pages alone.

@@ -234,7 +234,10 @@ mod tests {
         assert_eq!(rt; (g.body(), g.head_slots(), g.span_slots()), (251, 105, 124));
         assert_eq!(rt; (g.usable(), g.work_need()), (240, 1375));
         assert_eq!(rt; (g.cache_need(), g.check_need()), (264, 8448));
-        assert_eq!(rt; (g.magic_of(0), g.magic_of(1), g.magic_of(15)), (0x0439, 0x0426, 0x0428));
+        assert_eq!(rt;
+            (g.magic_of(0), g.magic_of(1), g.magic_of(15)),
+            (0x0439, 0x0426, 0x0428)
+        );
         assert_eq!(rt; g.writable(), Ok(()));
         let plain = Geometry::new(256, 4096, 16, 4096, 0, MagicKind::Plain)?;
         assert_eq!(rt; (plain.magic_of(0), plain.magic_of(15)), (0x0429, 0x0429));
@@ -260,7 +263,11 @@ mod tests {
         ] {
             let [page, block, blocks, phys, meta] = numbers;
             let made = Geometry::new(page, block, blocks, phys, meta, MagicKind::Length);
-            assert_eq!(rt; made.err().map(GeoErr::code), Some(code), "at {page} {block}");
+            assert_eq!(rt;
+                made.err().map(GeoErr::code),
+                Some(code),
+                "at {page} {block}"
+            );
         }
     }
 

@@ -1,9 +1,8 @@
 ghost use Rattle.std.specs.Prelude.{[], ◌+◌};
 
+use crate::FileChip;
 use nor_core::{Board, Failed, Mark, Nor, NorState};
 use std::io::Write;
-
-use crate::FileChip;
 
 /// A chip of the host and a writer to which is said what is said. It tells nothing.
 #[derive(Drop)]

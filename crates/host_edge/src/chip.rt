@@ -1,10 +1,9 @@
 ghost use Rattle.std.specs.Prelude.{[], ◌+◌, ◌<◌, ◌^◌};
 
+use crate::file::{erase_at, program_at, read_at};
 use nor_core::{Failed, Mark, Nor, NorState};
 use std::fs::{File, OpenOptions};
 use std::rt::Files;
-
-use crate::file::{erase_at, program_at, read_at};
 
 /// A NOR chip that is a file of the host. Bytes past the file's end are 0xFF. It tells no bytes.
 #[derive(Drop)]

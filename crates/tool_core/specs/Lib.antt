@@ -1,4 +1,3 @@
-pub mod Breaks
 pub mod Words
 pub mod Plan
 pub mod Closing

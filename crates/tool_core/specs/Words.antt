@@ -33,7 +33,7 @@ is_run words = (length words == 7) && is_text (word_at words 0) (codes "run") &&
 unfoldable pub run_form : List (List ℕ) → Option Shape
 run_form words =
     if is_run words then
-      option_and_then (λ page. option_and_then (λ block. option_and_then (λ blocks. option_and_then (λ meta. option_and_then (λ magic.
-        Some (record { page = page; block = block; blocks = blocks; meta = meta; magic = magic }))
-        (magic_word (word_at words 5))) (number_word (word_at words 4))) (number_word (word_at words 3))) (number_word (word_at words 2))) (number_word (word_at words 1))
+    option_and_then (λ page. option_and_then (λ block. option_and_then (λ blocks. option_and_then (λ meta. option_and_then (λ magic.
+    Some (record { page = page; block = block; blocks = blocks; meta = meta; magic = magic }))
+    (magic_word (word_at words 5))) (number_word (word_at words 4))) (number_word (word_at words 3))) (number_word (word_at words 2))) (number_word (word_at words 1))
     else None

@@ -18,11 +18,7 @@ pub(crate) enum Ending {
     /// The numbers or the device are refused.
     Geometry(GeoErr),
     /// Lent memory is too short.
-    ShortBuffer {
-        part: Part,
-        need: u32,
-        given: usize,
-    },
+    ShortBuffer { part: Part, need: u32, given: usize },
     /// Two or more blocks lack their magic.
     NotAFs(u32),
     /// A line of the script isn't in the grammar: its number, from 1.

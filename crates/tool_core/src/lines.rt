@@ -2,7 +2,7 @@ ghost use Rattle.std.specs.Prelude.{◌≡◌, ℕ, ◌+◌, ◌-◌, ◌<◌, �
 ghost use Rattle.std.proofs.Common.{get_or};
 ghost use Rattle.std.specs.Option.{IfSome, IfNone};
 ghost use Rattle.nor_core.specs.Count.{Rose};
-ghost use Rattle.tool_core.specs.Breaks.{NoBreak};
+ghost use Rattle.call_script.specs.Lines.{NoBreak};
 
 use nor_core::{Failed, Source};
 

@@ -3,11 +3,10 @@ ghost use Rattle.geometry.specs.Numbers.{IsOf};
 ghost use Rattle.tool_core.specs.Plan.{device_refusal, shape_refusal, length_refusal, shorter, refusal_of};
 ghost use Rattle.tool_core.specs.Fits.{IsFitting, HasLengths};
 
-use geometry::{GeoErr, Geometry};
-use vol_mount::Part;
-
 use crate::ending::Ending;
 use crate::words::{Shape, run_shape};
+use geometry::{GeoErr, Geometry};
+use vol_mount::Part;
 
 /// The least length of the line buffer, in bytes.
 pub(crate) const LINE_NEED: u32 = 12_288;

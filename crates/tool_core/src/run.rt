@@ -8,15 +8,14 @@ ghost use Rattle.tool_core.specs.Later.{IsLater, IsLaterIf};
 ghost use Rattle.geometry.specs.Numbers.{work_need, cache_need, check_need};
 ghost use Rattle.tool_core.specs.Fits.{IsFitting};
 
+use crate::ending::Ending;
+use crate::lines::{LIMIT, LINE, Lines};
 use call_script::{parse_line, reply_text};
 use geometry::Geometry;
 use nor_core::{Board, Failed, Nor, NorState, Source};
 use table_model::{Call, FsErr, Reply};
 use vol_mount::{Lent, MountErr, Mounting, mount};
 use volume::{CheckErr, Checked, Checking, Volume, check};
-
-use crate::ending::Ending;
-use crate::lines::{LIMIT, LINE, Lines};
 
 /// The number of bytes of the line buffer that hold lines; the others hold names, texts and replies.
 const LINES: usize = 8192;
@@ -103,11 +102,7 @@ fn say_reply<B: Board>(
 }
 
 // Does the bytes that were taken as the last line, and ends the run.
-fn last_line<B: Board>(
-    volume: &mut Volume<'_, B>,
-    lines: &Lines<'_>,
-    scratch: &mut [u8],
-) -> Ending
+fn last_line<B: Board>(volume: &mut Volume<'_, B>, lines: &Lines<'_>, scratch: &mut [u8]) -> Ending
     requires { 4096 ≤ length scratch.old }
     ensures { IsLater result }
 {

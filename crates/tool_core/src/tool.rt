@@ -8,14 +8,13 @@ ghost use Rattle.tool_core.specs.Fits.{IsFitting, HasLengths};
 ghost use Rattle.tool_core.specs.Later.{IsLater};
 ghost use Rattle.tool_core.specs.Lent.{lengths_of};
 
+use crate::ending::{Ending, closing_line};
+use crate::plan::{Lengths, plan};
+use crate::run::run;
 use fd_table::FdSlot;
 use geometry::Geometry;
 use nor_core::{Board, Nor, NorState, Source};
 use vol_mount::Lent;
-
-use crate::ending::{Ending, closing_line};
-use crate::plan::{Lengths, plan};
-use crate::run::run;
 
 /// The memory that is lent to the top call. What it holds at first doesn't matter.
 #[derive(Drop)]

@@ -11,7 +11,11 @@ fn a_formatted_volume_has_its_magics_and_is_erased(rt: HostRuntime) -> Result<()
     for (block, magic) in [(0usize, 0x39u8), (1, 0x26), (15, 0x28)] {
         let start = block * 4096;
         let tail = image.get(start + 252..start + 256);
-        assert_eq!(rt; tail, Some([magic, 0x04, 0, 0].as_slice()), "in block {block}");
+        assert_eq!(rt;
+            tail,
+            Some([magic, 0x04, 0, 0].as_slice()),
+            "in block {block}"
+        );
     }
     let erased = image.iter().filter(|byte| **byte == 0xFF).count();
     assert_eq!(rt; erased, 65536 - 16 * 4);
@@ -19,7 +23,11 @@ fn a_formatted_volume_has_its_magics_and_is_erased(rt: HostRuntime) -> Result<()
     for block in 0..16usize {
         let start = block * 4096;
         let tail = plain.image().get(start + 252..start + 256);
-        assert_eq!(rt; tail, Some([0x29, 0x04, 0, 0].as_slice()), "in block {block}");
+        assert_eq!(rt;
+            tail,
+            Some([0x29, 0x04, 0, 0].as_slice()),
+            "in block {block}"
+        );
     }
     Ok(())
 }
@@ -36,7 +44,11 @@ fn a_create_writes_an_entry_and_a_header_page(rt: HostRuntime) -> Result<(), Fai
     ];
     assert_eq!(rt; image.get(256..270), Some(head.as_slice()));
     assert_eq!(rt; image.get(270..301), Some([0u8; 31].as_slice()));
-    assert!(rt; image.get(301..512).is_some_and(|rest| rest.iter().all(|b| *b == 0xFF)));
+    assert!(rt;
+        image
+            .get(301..512)
+            .is_some_and(|rest| rest.iter().all(|b| *b == 0xFF))
+    );
     Ok(())
 }
 
@@ -45,7 +57,11 @@ fn a_create_takes_four_programs(rt: HostRuntime) -> Result<(), Fail> {
     for (nth, status) in [(1, 7), (2, 7), (3, 7), (4, 7), (5, 0)] {
         let mut board = formatted(rt.alloc(), MagicKind::Length)?;
         board.fail_nth(CallKind::Program, nth);
-        assert_eq!(rt; run(rt.alloc(), RUN, &mut board, b"create a\n")?, status, "at {nth}");
+        assert_eq!(rt;
+            run(rt.alloc(), RUN, &mut board, b"create a\n")?,
+            status,
+            "at {nth}"
+        );
     }
     Ok(())
 }

@@ -26,7 +26,11 @@ fn words_numbers_and_devices_are_refused_in_order(rt: HostRuntime) -> Result<(),
         ("run 256 4096 17 0 len chip", 2, "! geometry 10\n"),
     ] {
         let mut board = blank(rt.alloc())?;
-        assert_eq!(rt; run(rt.alloc(), words, &mut board, b"create a\n")?, status, "of {words}");
+        assert_eq!(rt;
+            run(rt.alloc(), words, &mut board, b"create a\n")?,
+            status,
+            "of {words}"
+        );
         assert!(rt; board.said() == said.as_bytes(), "of {words}");
         assert!(rt; board.image().iter().all(|byte| *byte == 0xFF));
     }
@@ -37,23 +41,42 @@ fn words_numbers_and_devices_are_refused_in_order(rt: HostRuntime) -> Result<(),
 fn short_buffers_are_refused_in_order(rt: HostRuntime) -> Result<(), Fail> {
     for (lends, said) in [
         (
-            Lends { work: 1374, slots: 0, ..AMPLE },
+            Lends {
+                work: 1374,
+                slots: 0,
+                ..AMPLE
+            },
             "! short buffer work need 1375 given 1374\n",
         ),
         (
-            Lends { slots: 0, cache: 0, ..AMPLE },
+            Lends {
+                slots: 0,
+                cache: 0,
+                ..AMPLE
+            },
             "! short buffer slots need 1 given 0\n",
         ),
         (
-            Lends { cache: 263, check: 0, ..AMPLE },
+            Lends {
+                cache: 263,
+                check: 0,
+                ..AMPLE
+            },
             "! short buffer cache need 264 given 263\n",
         ),
         (
-            Lends { check: 8447, line: 0, ..AMPLE },
+            Lends {
+                check: 8447,
+                line: 0,
+                ..AMPLE
+            },
             "! short buffer check need 8448 given 8447\n",
         ),
         (
-            Lends { line: 12287, ..AMPLE },
+            Lends {
+                line: 12287,
+                ..AMPLE
+            },
             "! short buffer line need 12288 given 12287\n",
         ),
     ] {

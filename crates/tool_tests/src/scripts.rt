@@ -32,7 +32,12 @@ fn a_last_line_needs_no_newline(rt: HostRuntime) -> Result<(), Fail> {
 
 #[test]
 fn lines_have_at_most_4096_bytes(rt: HostRuntime) -> Result<(), Fail> {
-    for (length, ending, status) in [(4096, "\n", 0), (4096, "", 0), (4097, "\n", 5), (4097, "", 5)] {
+    for (length, ending, status) in [
+        (4096, "\n", 0),
+        (4096, "", 0),
+        (4097, "\n", 5),
+        (4097, "", 5),
+    ] {
         let mut board = formatted(rt.alloc(), MagicKind::Length)?;
         let mut script = vec![in rt.alloc(); b'#'; length]?;
         script.extend_from_slice(ending.as_bytes())?;
@@ -59,13 +64,19 @@ fn a_script_has_at_most_16777216_bytes(rt: HostRuntime) -> Result<(), Fail> {
 fn a_failing_board_and_a_failing_script_are_told(rt: HostRuntime) -> Result<(), Fail> {
     let mut board = formatted(rt.alloc(), MagicKind::Length)?;
     board.fail_nth(CallKind::Program, 7);
-    assert_eq!(rt; run(rt.alloc(), RUN, &mut board, b"create a\ncreate b\n")?, 7);
+    assert_eq!(rt;
+        run(rt.alloc(), RUN, &mut board, b"create a\ncreate b\n")?,
+        7
+    );
     assert_eq!(rt; board.said(), b"ok\n".as_slice());
 
     let mut board = formatted(rt.alloc(), MagicKind::Length)?;
     let mut source = MemSource::new(b"create a\n".to_vec(rt.alloc())?);
     source.fail_nth(1);
-    assert_eq!(rt; run_with(rt.alloc(), RUN, &mut board, &mut source, &AMPLE)?, 8);
+    assert_eq!(rt;
+        run_with(rt.alloc(), RUN, &mut board, &mut source, &AMPLE)?,
+        8
+    );
     assert_eq!(rt; board.said(), b"! script fault\n".as_slice());
     Ok(())
 }
@@ -83,7 +94,10 @@ fn an_erased_chip_is_no_volume(rt: HostRuntime) -> Result<(), Fail> {
 fn what_was_made_is_there_in_the_next_run(rt: HostRuntime) -> Result<(), Fail> {
     let mut board = formatted(rt.alloc(), MagicKind::Length)?;
     assert_eq!(rt; run(rt.alloc(), RUN, &mut board, b"create a\n")?, 0);
-    assert_eq!(rt; run(rt.alloc(), RUN, &mut board, b"create a\ncreate b\n")?, 0);
+    assert_eq!(rt;
+        run(rt.alloc(), RUN, &mut board, b"create a\ncreate b\n")?,
+        0
+    );
     assert_eq!(rt; board.said(), b"ok\n-10023\nok\n".as_slice());
     Ok(())
 }

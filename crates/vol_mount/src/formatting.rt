@@ -4,12 +4,11 @@ ghost use Rattle.nor_core.specs.Count.{Rose};
 ghost use Rattle.vol_mount.specs.Needs.{is_wrong_chip};
 ghost use Rattle.vol_mount.specs.Goes.{GoesOn};
 
+use crate::MountErr;
+use crate::mounting::wrong_chip;
 use geometry::{GeoErr, Geometry};
 use nor_core::{Failed, Mark, Nor, NorState};
 use page_layout::{count_offset, magic_offset};
-
-use crate::MountErr;
-use crate::mounting::wrong_chip;
 
 // Erases the units of a block from the first one up. A cut in the first one never leaves the magic.
 fn erase_block<N: Nor>(g: &Geometry, nor: &mut N, block: u32) -> Result<(), Failed>

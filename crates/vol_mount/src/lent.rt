@@ -45,15 +45,9 @@ pub enum MountErr {
     /// The numbers don't allow it, or the device doesn't fit them.
     Wrong(GeoErr),
     /// A part of the lent memory is shorter than its need: in bytes, or in descriptors.
-    ShortBuffer {
-        part: Part,
-        need: u32,
-        given: usize,
-    },
+    ShortBuffer { part: Part, need: u32, given: usize },
     /// Two or more blocks lack their magic: this is no volume of these numbers.
-    NotAFs {
-        spoiled: u32,
-    },
+    NotAFs { spoiled: u32 },
     /// The device failed.
     DeviceFault,
 }

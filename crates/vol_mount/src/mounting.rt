@@ -6,11 +6,10 @@ ghost use Rattle.flash_view.specs.Same.{OnlyLooks};
 ghost use Rattle.vol_mount.specs.Mounts.{HasGeometry, IsLate, IsLateIf, why_of};
 ghost use Rattle.vol_mount.specs.Needs.{is_wrong_chip, short_buffer};
 
+use crate::{Lent, MountErr, Mounting, Part, Returned, Unchecked};
 use flash_view::View;
 use geometry::{GeoErr, Geometry};
 use nor_core::{Failed, Nor, NorState};
-
-use crate::{Lent, MountErr, Mounting, Part, Returned, Unchecked};
 
 // Why the device doesn't fit the volume.
 pub(crate) fn wrong_chip<N: Nor>(g: &Geometry, nor: &N) -> bool

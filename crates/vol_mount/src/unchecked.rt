@@ -1,11 +1,10 @@
 ghost use Rattle.std.specs.Prelude.{◌≤◌, length};
 ghost use Rattle.geometry.specs.Numbers.{check_need};
 
+use crate::{Lent, MountErr, Returned};
 use fd_table::FdSlot;
 use flash_view::View;
 use nor_core::{Nor, NorState};
-
-use crate::{Lent, MountErr, Returned};
 
 /// A volume that was mounted and not checked: it may only be read.
 #[derive(Drop)]

@@ -5,14 +5,13 @@ ghost use Rattle.nor_core.specs.Count.{Rose};
 ghost use Rattle.flash_view.specs.Places.{IsEntryPage};
 ghost use Rattle.flash_view.specs.Same.{OnlyLooks};
 
+use crate::Volume;
 use flash_view::{View, is_entry_page};
 use free_search::free_blocks;
 use geometry::GeoErr;
 use nor_core::{Failed, Nor, NorState};
 use page_layout::{DELETED, FREE, UNDEFINED_SIZE, name_of, size_of};
 use vol_mount::{Parts, Returned, Unchecked};
-
-use crate::Volume;
 
 /// What a check found and did.
 #[derive(Clone, Copy, Debug, PartialEq, Eq)]

@@ -3,13 +3,12 @@ ghost use Rattle.geometry.specs.Numbers.{usable};
 ghost use Rattle.nor_core.specs.Count.{Rose};
 ghost use Rattle.flash_view.specs.Same.{IsSameView, OnlyLooks};
 
+use crate::room::{file_count, has_room};
 use file_write::create_step;
 use flash_view::{Kind, StepErr, View};
 use free_search::{free_blocks, free_id, free_page};
 use nor_core::{Failed, Nor, NorState};
 use table_model::FsErr;
-
-use crate::room::{file_count, has_room};
 
 // What stands against a new file of that name, or nothing.
 fn obstacle<N: Nor>(v: &mut View<'_, N>, name: &[u8]) -> Result<Option<FsErr>, Failed>

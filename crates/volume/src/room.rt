@@ -25,7 +25,9 @@ pub(crate) fn file_count<N: Nor>(v: &mut View<'_, N>) -> Result<u32, Failed>
 {
     let mut files = 0;
     for page in 0..v.geometry.pages() as u16 {
-        if v.live_header(page)?.is_some_and(|head| head.is_index() && head.span == 0) {
+        if v.live_header(page)?
+            .is_some_and(|head| head.is_index() && head.span == 0)
+        {
             files += 1;
         }
     }

@@ -1,14 +1,13 @@
 ghost use Rattle.std.specs.Prelude.{◌≡◌, ◌<◌, ◌≤◌, length};
 ghost use Rattle.geometry.specs.Numbers.{usable};
 
+use crate::create::create_in;
+use crate::names::accept;
 use fd_table::FdSlot;
 use flash_view::View;
 use nor_core::{Board, Failed, Nor, NorState};
 use table_model::FsErr;
 use vol_mount::{Lent, Returned};
-
-use crate::create::create_in;
-use crate::names::accept;
 
 /// A checked volume. One caller at a time uses it; no call takes memory.
 #[derive(Drop)]

@@ -9,5 +9,5 @@ invariant-loop-i g l = record {
   looks : OnlyLooks l.fn.v l.v;
   geometry : l.g ≡ l.fn.v.geometry;
   end : l.i-end ≡ entries l.g;
-  few : l.counts.index_live + l.counts.data_live + l.counts.deleted + l.counts.free ≤ l.i
+  few : l.counts.index_live + l.counts.data_live + l.counts.deleted + l.counts.free ≤ l.i;
 }

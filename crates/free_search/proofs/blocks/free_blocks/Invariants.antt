@@ -8,5 +8,5 @@ abbrev pub invariant-loop-block : goal.invariant-loop-block
 invariant-loop-block g l = record {
   looks : OnlyLooks l.fn.v l.v;
   end : l.block-end ≡ l.fn.v.geometry.blocks;
-  few : l.free ≤ l.block
+  few : l.free ≤ l.block;
 }

@@ -8,5 +8,5 @@ abbrev pub invariant-loop-i : goal.invariant-loop-i
 invariant-loop-i g l = record {
   looks : OnlyLooks l.fn.v l.v;
   geometry : l.g ≡ l.fn.v.geometry;
-  end : l.i-end ≡ entries l.g
+  end : l.i-end ≡ entries l.g;
 }

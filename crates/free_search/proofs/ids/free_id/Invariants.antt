@@ -7,5 +7,5 @@ use Rattle.free_search.proofs.ids.free_id.Given as goal
 abbrev pub invariant-loop-page : goal.invariant-loop-page
 invariant-loop-page g l = record {
   looks : OnlyLooks l.fn.v l.v;
-  end : l.page-end ≡ page_count l.fn.v.geometry
+  end : l.page-end ≡ page_count l.fn.v.geometry;
 }

@@ -7,5 +7,5 @@ use Rattle.free_search.proofs.pages.open_block.Given as goal
 abbrev pub invariant-loop-block : goal.invariant-loop-block
 invariant-loop-block g l = record {
   looks : OnlyLooks l.fn.v l.v;
-  end : l.block-end ≡ l.fn.v.geometry.blocks
+  end : l.block-end ≡ l.fn.v.geometry.blocks;
 }

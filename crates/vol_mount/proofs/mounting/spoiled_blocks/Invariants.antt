@@ -6,5 +6,5 @@ abbrev pub invariant-loop-block : goal.invariant-loop-block
 invariant-loop-block g l = record {
   looks : OnlyLooks l.fn.v l.v;
   end : l.block-end ≡ l.fn.v.geometry.blocks;
-  few : l.spoiled ≤ l.block
+  few : l.spoiled ≤ l.block;
 }

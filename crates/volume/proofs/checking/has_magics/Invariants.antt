@@ -5,5 +5,5 @@ use Rattle.volume.proofs.checking.has_magics.Given as goal
 abbrev pub invariant-loop-block : goal.invariant-loop-block
 invariant-loop-block g l = record {
   looks : OnlyLooks l.fn.v l.v;
-  end : l.block-end ≡ l.fn.v.geometry.blocks
+  end : l.block-end ≡ l.fn.v.geometry.blocks;
 }

@@ -7,5 +7,5 @@ abbrev pub invariant-loop-page : goal.invariant-loop-page
 invariant-loop-page g l = record {
   looks : OnlyLooks l.fn.v l.v;
   geometry : l.g ≡ l.fn.v.geometry;
-  end : l.page-end ≡ page_count l.fn.v.geometry
+  end : l.page-end ≡ page_count l.fn.v.geometry;
 }

@@ -7,5 +7,5 @@ abbrev pub invariant-loop-page : goal.invariant-loop-page
 invariant-loop-page g l = record {
   looks : OnlyLooks l.fn.v l.v;
   end : l.page-end ≡ page_count l.fn.v.geometry;
-  few : l.files ≤ l.page
+  few : l.files ≤ l.page;
 }

@@ -6,5 +6,5 @@ use Rattle.flash_view.proofs.view.View.next_id.Given as goal
 abbrev pub invariant-loop-page : goal.invariant-loop-page
 invariant-loop-page g l = record {
   pages : l.page-end ≡ page_count l.self.geometry;
-  looks : OnlyLooks l.fn.self l.self
+  looks : OnlyLooks l.fn.self l.self;
 }
