@@ -7,7 +7,7 @@ use Rattle.std.specs.List.{list_all}
 use Rattle.std.proofs.lemmas.Grind.{common_steps}
 use Rattle.table_model.specs.declared.call.Whence.{Whence}
 use Rattle.table_model.specs.declared.call.Whence.TheVariants.{Set, Cur, End}
-use Rattle.table_model.specs.Ask.{Ask, Creates, Opens, Reads, Writes, Fills, Seeks, Tells, Truncates, Flushes, Closes, Removes, RemovesOpen, Renames, Stats, StatsOpen, NextAbove, Informs, Collects, SetsMeta}
+use Rattle.table_model.specs.Ask.{Ask, Creates, Opens, Reads, Writes, Fills, Seeks, Tells, Truncates, Flushes, Closes, Removes, RemovesOpen, Renames, Stats, StatsOpen, NextAbove, Informs, Collects, SetsMeta, SetsMetaOpen}
 use Rattle.call_script.specs.Numerals.{digits_after, number_up_to}
 use Rattle.call_script.specs.Texts.{printed, hex_pair}
 use Rattle.call_script.specs.Lines.{Asks, words, spelled, is_text, parsed, of_line, call_or_bad, whence_of}
@@ -120,6 +120,7 @@ spells (NextAbove after) h = rw (short_read after h) refl
 spells Informs h = refl
 spells Collects h = refl
 spells (SetsMeta name meta) h = rw (text_read name h.0, text_read meta h.1) refl
+spells (SetsMetaOpen fd meta) h = rw (short_read fd h.0, text_read meta h.1) refl
 
 short_word : (n : ℕ) → n ≤ 4294967295 → is_word (decimal n) ≡ true
 short_word n h = number_word n (omega arith)
@@ -146,3 +147,4 @@ call_spelled (NextAbove after) h short = line_of_words _ _ _ refl refl (short_wo
 call_spelled Informs h short = line_of_words _ _ _ refl refl tt short ∙ ap call_or_bad (spells Informs h)
 call_spelled Collects h short = line_of_words _ _ _ refl refl tt short ∙ ap call_or_bad (spells Collects h)
 call_spelled (SetsMeta name meta) h short = line_of_words _ _ _ refl refl (text_word name h.0, (text_word meta h.1, tt)) short ∙ ap call_or_bad (spells (SetsMeta name meta) h)
+call_spelled (SetsMetaOpen fd meta) h short = line_of_words _ _ _ refl refl (short_word fd (omega arith), (text_word meta h.1, tt)) short ∙ ap call_or_bad (spells (SetsMetaOpen fd meta) h)

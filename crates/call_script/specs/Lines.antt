@@ -1,7 +1,7 @@
 -- The grammar of a script: its lines, and the call that each of them spells.
 use Rattle.std.specs.Prelude.{◌≡◌, ◌<◌, slice_index, ℕ, Bool, List, [], ◌∷◌, length, codes, Option, Some, None, Result, Ok, Err, ◌==◌, ◌≤◌, nat_lt, if◌then◌else◌}
 use Rattle.std.specs.Str.{bytes_eq}
-use Rattle.table_model.specs.Ask.{Ask, Creates, Opens, Reads, Writes, Fills, Seeks, Tells, Truncates, Flushes, Closes, Removes, RemovesOpen, Renames, Stats, StatsOpen, NextAbove, Informs, Collects, SetsMeta, asked}
+use Rattle.table_model.specs.Ask.{Ask, Creates, Opens, Reads, Writes, Fills, Seeks, Tells, Truncates, Flushes, Closes, Removes, RemovesOpen, Renames, Stats, StatsOpen, NextAbove, Informs, Collects, SetsMeta, SetsMetaOpen, asked}
 use Rattle.table_model.specs.declared.call.Call.{Call}
 use Rattle.table_model.specs.declared.call.Whence.{Whence}
 use Rattle.table_model.specs.declared.call.Whence.TheVariants.{Set, Cur, End}
@@ -91,6 +91,7 @@ with_two verb a b =
     else if is_text verb (codes "truncate") then both Truncates (short_of a) (long_of b)
     else if is_text verb (codes "rename") then both Renames (text_of a) (text_of b)
     else if is_text verb (codes "meta") then both SetsMeta (text_of a) (text_of b)
+    else if is_text verb (codes "fmeta") then both SetsMetaOpen (short_of a) (text_of b)
     else None
 
 -- the call of a line of a word and three more

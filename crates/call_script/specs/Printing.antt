@@ -3,7 +3,7 @@ use Rattle.std.specs.Prelude.{ℕ, ℤ, pos, negsuc, suc, ◌<◌, ◌≤◌, Li
 use Rattle.std.specs.Fmt.{signed_decimal}
 use Rattle.table_model.specs.declared.call.Whence.{Whence}
 use Rattle.table_model.specs.declared.call.Whence.TheVariants.{Set, Cur, End}
-use Rattle.table_model.specs.Ask.{Ask, Creates, Opens, Reads, Writes, Fills, Seeks, Tells, Truncates, Flushes, Closes, Removes, RemovesOpen, Renames, Stats, StatsOpen, NextAbove, Informs, Collects, SetsMeta}
+use Rattle.table_model.specs.Ask.{Ask, Creates, Opens, Reads, Writes, Fills, Seeks, Tells, Truncates, Flushes, Closes, Removes, RemovesOpen, Renames, Stats, StatsOpen, NextAbove, Informs, Collects, SetsMeta, SetsMetaOpen}
 use Rattle.call_script.specs.Texts.{printed, hex_pair}
 
 -- numbers below 256
@@ -47,6 +47,7 @@ arguments (NextAbove after) = decimal after ∷ []
 arguments Informs = []
 arguments Collects = []
 arguments (SetsMeta name meta) = printed name ∷ printed meta ∷ []
+arguments (SetsMetaOpen fd meta) = decimal fd ∷ printed meta ∷ []
 
 -- the first word of a line that spells a call
 abbrev pub verb_of : Ask → List ℕ
@@ -69,6 +70,7 @@ verb_of (NextAbove after) = codes "next"
 verb_of Informs = codes "info"
 verb_of Collects = codes "gc"
 verb_of (SetsMeta name meta) = codes "meta"
+verb_of (SetsMetaOpen fd meta) = codes "fmeta"
 
 -- the line that spells a call
 unfoldable pub spelling : Ask → List ℕ
@@ -100,3 +102,4 @@ IsInRange (NextAbove after) = after ≤ 65535
 IsInRange Informs = Unit {0}
 IsInRange Collects = Unit {0}
 IsInRange (SetsMeta name meta) = IsText name × IsText meta
+IsInRange (SetsMetaOpen fd meta) = (fd ≤ 65535) × IsText meta

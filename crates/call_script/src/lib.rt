@@ -83,6 +83,10 @@ mod tests {
                 b"meta a %01%02".as_slice(),
                 "Ok(Some(SetMeta { name: [97], meta: [1, 2] }))",
             ),
+            (
+                b"fmeta 1 wxyz".as_slice(),
+                "Ok(Some(FSetMeta { fd: 1, meta: [119, 120, 121, 122] }))",
+            ),
             (b"", "Ok(None)"),
             (b"# create a", "Ok(None)"),
             (b"#", "Ok(None)"),
@@ -140,7 +144,7 @@ mod tests {
             b" ",
             b"  ",
             b"meta a",
-            b"fmeta 1 a",
+            b"fmeta a a",
             b"list",
         ] {
             assert!(rt; parse_line(line, &mut scratch).is_err(), "at {line:?}");

@@ -150,6 +150,11 @@ fn parse_with_two<'a>(
             name: parse_text(first, front)?,
             meta: parse_text(second, back)?,
         })
+    } else if is_word(verb, b"fmeta") {
+        Some(Call::FSetMeta {
+            fd: parse_short(first)?,
+            meta: parse_text(second, back)?,
+        })
     } else {
         None
     }

@@ -2,7 +2,7 @@
 use Rattle.std.specs.Prelude.{ℕ, ℤ, List}
 use Rattle.table_model.specs.declared.call.Whence.{Whence}
 use Rattle.table_model.specs.declared.call.Call.{Call}
-use Rattle.table_model.specs.declared.call.Call.TheVariants.{Create, OpenFile, Read, Write, Fill, Seek, Tell, Truncate, Flush, Close, Remove, FRemove, Rename, StatName, FStat, Next, GetInfo, Gc, SetMeta}
+use Rattle.table_model.specs.declared.call.Call.TheVariants.{Create, OpenFile, Read, Write, Fill, Seek, Tell, Truncate, Flush, Close, Remove, FRemove, Rename, StatName, FStat, Next, GetInfo, Gc, SetMeta, FSetMeta}
 
 -- what a call asks
 pub data Ask : Type 0 where
@@ -25,6 +25,7 @@ pub data Ask : Type 0 where
   Informs : Ask
   Collects : Ask
   SetsMeta : (name : List ℕ) → (meta : List ℕ) → Ask
+  SetsMetaOpen : (fd : ℕ) → (meta : List ℕ) → Ask
 
 -- what a call of the program asks
 abbrev pub asked : Call → Ask
@@ -47,3 +48,4 @@ asked (Next after) = NextAbove after
 asked GetInfo = Informs
 asked Gc = Collects
 asked (SetMeta name meta) = SetsMeta name.now meta.now
+asked (FSetMeta fd meta) = SetsMetaOpen fd meta.now
