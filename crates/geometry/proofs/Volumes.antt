@@ -1,8 +1,8 @@
 -- Numbers that pass the tests meet every rule.
-use Rattle.std.proofs.Common.{ℕ, ◌≡◌, ◌+◌, ◌*◌, ◌/◌, ◌%◌, ◌<◌, ◌≤◌, Bool, true, arith, mul_assoc}
+use Rattle.std.proofs.Common.{ℕ, ◌≡◌, ◌*◌, ◌≤◌, true, arith, mul_assoc}
 use Rattle.std.proofs.Math.Nat.{mul-le-mul_left, mul-le-mul_right}
 use Rattle.std.proofs.lemmas.Grind.{common_steps}
-use Rattle.geometry.specs.Rules.{pages_in, lookups_in, entries_in, is_page, is_block, has_magic_room, IsVolume}
+use Rattle.geometry.specs.Rules.{pages_in, is_page, is_block, has_magic_room, IsVolume}
 
 pub volume_of : (page block blocks phys meta : ℕ) → is_page page ≡ true → is_block page block phys ≡ true → 3 ≤ blocks → blocks * pages_in page block ≤ 65535 → has_magic_room page block ≡ true → meta ≤ 64 → IsVolume page block blocks phys meta
 volume_of page block blocks phys meta p b three few room most = record {

@@ -1,5 +1,5 @@
 -- The numbers of a volume, and which numbers are refused.
-use Rattle.std.specs.Prelude.{◌≡◌, ℕ, ◌+◌, ◌-◌, ◌*◌, ◌/◌, Bool, not, nat_lt, nat_le, Option, Some, None, if◌then◌else◌, bit_xor}
+use Rattle.std.specs.Prelude.{◌≡◌, ℕ, ◌+◌, ◌-◌, ◌*◌, ◌/◌, not, nat_lt, Option, Some, None, if◌then◌else◌, bit_xor}
 use Rattle.geometry.specs.declared.geometry.Geometry.{Geometry}
 use Rattle.geometry.specs.declared.magic.MagicKind.{MagicKind}
 use Rattle.geometry.specs.declared.magic.MagicKind.TheVariants.{Plain, Length}

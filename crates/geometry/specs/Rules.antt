@@ -1,5 +1,5 @@
 -- What the six numbers of a volume must meet, over plain numbers.
-use Rattle.std.specs.Prelude.{◌≡◌, ℕ, ◌+◌, ◌-◌, ◌*◌, ◌/◌, ◌%◌, ◌≤◌, max, Bool, true, not, nat_le, ◌==◌, ◌&&◌, ◌||◌}
+use Rattle.std.specs.Prelude.{◌≡◌, ℕ, ◌+◌, ◌-◌, ◌*◌, ◌/◌, ◌%◌, ◌≤◌, max, Bool, not, nat_le, ◌==◌, ◌&&◌, ◌||◌}
 
 -- pages of a block
 abbrev pub pages_in : ℕ → ℕ → ℕ

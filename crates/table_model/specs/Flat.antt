@@ -1,5 +1,5 @@
 -- What a call answers on the flat state, and the state after it.
-use Rattle.std.specs.Prelude.{ℕ, List, [], ◌∷◌, length, Bool, not, nat_lt, ◌==◌, ◌||◌, if◌then◌else◌, replicate}
+use Rattle.std.specs.Prelude.{ℕ, List, [], length, Bool, not, nat_lt, ◌==◌, ◌||◌, if◌then◌else◌, replicate}
 use Rattle.std.specs.List.{list_any}
 use Rattle.geometry.specs.declared.geometry.Geometry.{Geometry}
 use Rattle.table_model.specs.declared.error.FsErr.{FsErr}

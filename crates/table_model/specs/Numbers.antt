@@ -1,5 +1,5 @@
 -- The numbers of refusals.
-use Rattle.std.specs.Prelude.{ℕ, ℤ, pos, negsuc}
+use Rattle.std.specs.Prelude.{ℤ, negsuc}
 use Rattle.table_model.specs.declared.error.FsErr.{FsErr}
 use Rattle.table_model.specs.declared.error.FsErr.TheVariants.{Failed, BadName, NameTooLong, BadFlags, BadDescriptor, OutOfDescriptors, NotFound, FileExists, ConflictingName, NotReadable, NotWritable, SeekBounds, Tight, Full, DeviceFault, Damaged, Unbuilt}
 

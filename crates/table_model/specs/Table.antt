@@ -1,5 +1,5 @@
 -- The flat table: files by id, and the descriptors on them.
-use Rattle.std.specs.Prelude.{ℕ, ◌+◌, List, [], ◌∷◌, length, Bool, not, nat_lt, nat_eq, ◌==◌, Option, Some, None, if◌then◌else◌, filter, find, unwrap_or}
+use Rattle.std.specs.Prelude.{ℕ, ◌+◌, List, [], ◌∷◌, length, Bool, not, nat_lt, nat_eq, ◌==◌, Option, if◌then◌else◌, filter, find, unwrap_or}
 use Rattle.std.specs.List.{range_with_len, list_any}
 use Rattle.std.specs.Cmp.Lexicographic.{pointwise}
 

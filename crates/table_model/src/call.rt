@@ -90,7 +90,10 @@ pub enum Call<'a> {
     /// Collects garbage until no block is worth cleaning.
     Gc,
     /// Sets the meta bytes of a descriptor's file.
-    FSetMeta { fd: u16, meta: &'a [u8] },
+    FSetMeta {
+        fd: u16,
+        meta: &'a [u8],
+    },
     /// Sets a file's meta bytes.
     SetMeta {
         name: &'a [u8],

@@ -1,6 +1,5 @@
 use Rattle.std.proofs.Common.{◌<◌, ◌^◌, arith, lit<}
 use Rattle.std.proofs.lemmas.Nat.{xor_lt}
-use Rattle.std.specs.Prelude.{bit_xor}
 use Rattle.geometry.proofs.geometry.Geometry.magic_of.Goals as goal
 
 pub overflow_cast-result : goal.overflow_cast-result
