@@ -1,0 +1,10 @@
+pub mod Volume
+pub mod Places
+pub mod Headers
+pub mod Live
+pub mod Files
+pub mod Tables
+pub mod Tidy
+pub mod Sound
+pub mod Killed
+pub mod Kinds
