@@ -8,3 +8,4 @@ pub mod Tidy
 pub mod Sound
 pub mod Killed
 pub mod Kinds
+pub mod Within

@@ -1,0 +1,27 @@
+-- The numbers from a loop's counter on.
+use Rattle.std.proofs.Common.{◌≡◌, ℕ, suc, ◌+◌, ◌-◌, ◌<◌, ◌≤◌, List, [], ◌∷◌, ap, refl, sym, ◌∙◌, ◌++◌, append_assoc, arith, subst, map, Option, Some, None}
+use Rattle.std.specs.Option.{option_map, option_to_list}
+use Rattle.std.proofs.lemmas.List.{append-nil, map-append}
+use Rattle.std.specs.List.{range_with_len, flat_map, filter_map}
+
+pub range_step : (p e : ℕ) → p < e → range_with_len p (e - p) ≡ p ∷ range_with_len (p + 1) (e - (p + 1))
+range_step p e h = let n : e - p ≡ suc (e - (p + 1)) = omega arith in rw n refl
+
+pub range_end : (p e : ℕ) → e ≤ p → range_with_len p (e - p) ≡ []
+range_end p e h = let n : e - p ≡ 0 = omega arith in rw n refl
+
+pub flat_map_step : {Y : Type 0} (f : ℕ → List Y) (bs cs total : List Y) (p e : ℕ) → p < e → bs ++ flat_map f (range_with_len p (e - p)) ≡ total → cs ≡ bs ++ f p →
+    cs ++ flat_map f (range_with_len (p + 1) (e - (p + 1))) ≡ total
+flat_map_step f bs cs total p e h all more = rw (more, append_assoc) (ap (λ (xs : List ℕ). bs ++ flat_map f xs) (sym (range_step p e h)) ∙ all)
+
+-- one record more, where there is one
+pub filter_map_step : {X Y : Type 0} (v : X → Y) (h : ℕ → Option Y) (bs cs : List X) (o : Option X) (total : List Y) (p e : ℕ) → p < e →
+    map v bs ++ filter_map h (range_with_len p (e - p)) ≡ total → option_map v o ≡ h p → cs ≡ bs ++ option_to_list o →
+    map v cs ++ filter_map h (range_with_len (p + 1) (e - (p + 1))) ≡ total
+filter_map_step v h bs cs None total p e less all is more =
+    rw (more, append-nil) (subst (λ ys. map v bs ++ ys ≡ total) (ap (filter_map h) (range_step p e less) ∙ rw (sym is) refl) all)
+filter_map_step v h bs cs (Some x) total p e less all is more =
+    rw (more, map-append, append_assoc) (subst (λ ys. map v bs ++ ys ≡ total) (ap (filter_map h) (range_step p e less) ∙ rw (sym is) refl) all)
+
+pub flat_map_end : {Y : Type 0} (f : ℕ → List Y) (bs total : List Y) (p e : ℕ) → e ≤ p → bs ++ flat_map f (range_with_len p (e - p)) ≡ total → bs ≡ total
+flat_map_end f bs total p e h all = subst (λ ys. ys ≡ total) (append-nil bs) (subst (λ xs. bs ++ flat_map f xs ≡ total) (range_end p e h) all)

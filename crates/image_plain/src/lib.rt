@@ -1,0 +1,13 @@
+//! Slow programs that compute what a flash image means, each by its definition. They take an allocator, and serve tests,
+//! tools and comparisons with faster code.
+#![tactic(auto)]
+
+mod files;
+mod pages;
+mod record;
+mod table;
+
+pub use files::{data_page, found, index_page, name_of, size_of};
+pub use pages::{entry_of, erase_count, has_magic, is_live, live_at, own, page_of};
+pub use record::Record;
+pub use table::table_of;
