@@ -7,8 +7,10 @@ ghost use Rattle.image_model.specs.Files.{index_page as the_index_page, entry_nu
 ghost use Rattle.image_model.specs.Tables.{has_of as the_has};
 ghost use Rattle.table_model.specs.Room.{data_pages as the_data_pages};
 ghost use Rattle.image_plain.specs.Seen.{seen, seen_at};
+ghost use Rattle.image_plain.specs.Headed.{IsHeads};
 
 use crate::Record;
+use crate::headers::header_of;
 use crate::pages::{own, word};
 use geometry::Geometry;
 use image_model::Damage;
@@ -33,7 +35,7 @@ pub fn index_page(g: &Geometry, image: &[u8], id: u16, span: u32) -> Option<u32>
 
 // The index entry of a data span: a page number.
 #[tactic(auto, unfolding(image_model::specs::Files::entry_number))]
-fn entry_number(g: &Geometry, image: &[u8], id: u16, head: &[u8], span: u32) -> Option<u32>
+pub(crate) fn entry_number(g: &Geometry, image: &[u8], id: u16, head: &[u8], span: u32) -> Option<u32>
     requires image { IsImage g.now image.now }
     requires head { length head.now ≡ g.now.page }
     ensures { result ≡ the_entry_number g.now (the_own (the_live_at g.now image.now) id) head.now span }
@@ -102,7 +104,7 @@ fn zero_at(field: &[u8]) -> Option<usize>
 }
 
 // Data pages of a file of that size.
-fn data_pages(g: &Geometry, size: u32) -> u32
+pub(crate) fn data_pages(g: &Geometry, size: u32) -> u32
     ensures { result ≡ the_data_pages g.now size }
 {
     let body = g.page as u64 - 5;
@@ -188,19 +190,21 @@ fn judged(
     }))
 }
 
-/// What an id has, where it has a header page: that page's number, and the file or its damage. Wants memory for
-/// the file.
-#[tactic(auto, unfolding(image_model::specs::Files::found, image_model::specs::Tables::has_of))]
-pub fn found(
+// What an id has, where it has a header page: that page's number, and the file or its damage.
+#[tactic(auto, unfolding(image_model::specs::Files::found, image_model::specs::Tables::has_of), using(crate::proofs::Headed::head_known))]
+pub(crate) fn found(
     alloc: Global,
     g: &Geometry,
     image: &[u8],
+    heads: &[Option<u32>],
     id: u16,
 ) -> Result<Option<(u32, Result<Record, Damage>)>, AllocError>
-    requires { IsImage g.now image.now }
+    requires image { IsImage g.now image.now }
+    requires heads { IsHeads g.now (the_live_at g.now image.now) heads.now }
+    requires id { id < 0x8000 }
     ensures { IfOk result (λ r. seen_at r ≡ the_has g.now (the_live_at g.now image.now) id) }
 {
-    let Some(p) = index_page(g, image, id, 0) else {
+    let Some(p) = header_of(heads, id) else {
         return Ok(None);
     };
     let Some(head) = own(g, image, id, p) else {
@@ -209,4 +213,3 @@ pub fn found(
     let outcome = judged(alloc, g, image, id, head)?;
     Ok(Some((p, outcome)))
 }
-

@@ -3,11 +3,13 @@
 #![tactic(auto)]
 
 mod files;
+mod headers;
 mod pages;
 mod record;
 mod table;
+mod tidy;
 
-pub use files::{data_page, found, index_page, name_of, size_of};
+pub use files::{data_page, index_page, name_of, size_of};
 pub use pages::{entry_of, erase_count, has_magic, is_live, live_at, own, page_of};
 pub use record::Record;
 pub use table::table_of;
