@@ -4,6 +4,7 @@ use Rattle.std.specs.List.{range_with_len, list_any}
 use Rattle.geometry.specs.declared.geometry.Geometry.{Geometry}
 use Rattle.image_model.specs.Volume.{per_block, lookups, entries, page_count}
 use Rattle.image_model.specs.Headers.{names_index}
+use Rattle.image_model.specs.Places.{has_magic}
 use Rattle.image_model.specs.Live.{live_at}
 use Rattle.image_model.specs.Tidy.{is_free_block}
 
@@ -17,10 +18,6 @@ abbrev pub is_data_page : Option (List ℕ) → Bool
 is_data_page None = false
 is_data_page (Some page) = not (names_index page)
 
--- the entry pages of a block, in page order
-abbrev pub block_pages : Geometry → ℕ → List ℕ
-block_pages g block = range_with_len (block * per_block g + lookups g) (entries g)
-
 -- how many index pages, and how many data pages, of an image are live
 unfoldable pub live_index : Geometry → List ℕ → ℕ
 live_index g image = length (filter (λ p. is_index_page (live_at g image p)) (range_with_len 0 (page_count g)))
@@ -31,6 +28,21 @@ live_data g image = length (filter (λ p. is_data_page (live_at g image p)) (ran
 -- a block with a live data page
 unfoldable pub is_data_block : Geometry → List ℕ → ℕ → Bool
 is_data_block g image block = list_any (λ p. is_data_page (live_at g image p)) (range_with_len (block * per_block g + lookups g) (entries g))
+
+-- a block with a live index page
+unfoldable pub is_index_block : Geometry → List ℕ → ℕ → Bool
+is_index_block g image block = list_any (λ p. is_index_page (live_at g image p)) (range_with_len (block * per_block g + lookups g) (entries g))
+
+-- A block is mixed where it holds live pages of both kinds.
+unfoldable pub is_mixed : Geometry → List ℕ → ℕ → Bool
+is_mixed g image block = is_index_block g image block && is_data_block g image block
+
+-- how many blocks are mixed, and how many lack their magic
+unfoldable pub mixed_blocks : Geometry → List ℕ → ℕ
+mixed_blocks g image = length (filter (λ block. is_mixed g image block) (range_with_len 0 g.blocks))
+
+unfoldable pub spoiled_blocks : Geometry → List ℕ → ℕ
+spoiled_blocks g image = length (filter (λ block. not (has_magic g image block)) (range_with_len 0 g.blocks))
 
 -- a block that is neither free nor a data block
 abbrev pub is_other_block : Geometry → List ℕ → ℕ → Bool

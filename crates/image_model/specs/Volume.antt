@@ -1,7 +1,7 @@
 -- The numbers of a volume as `geometry` has them, under names that stay folded in proofs.
-use Rattle.std.specs.Prelude.{ℕ, ◌*◌, ◌/◌}
+use Rattle.std.specs.Prelude.{ℕ, ◌-◌, ◌*◌, ◌/◌}
 use Rattle.geometry.specs.declared.geometry.Geometry.{Geometry}
-use Rattle.geometry.specs.Numbers.{per_block as pages_of_block, lookups as lookups_of_block, entries as entries_of_block, page_count as pages_of_volume}
+use Rattle.geometry.specs.Numbers.{per_block as pages_of_block, lookups as lookups_of_block}
 
 -- pages of a block
 unfoldable pub per_block : Geometry → ℕ
@@ -13,11 +13,11 @@ lookups g = lookups_of_block g
 
 -- entry pages of a block
 unfoldable pub entries : Geometry → ℕ
-entries g = entries_of_block g
+entries g = per_block g - lookups g
 
 -- pages of the volume
 unfoldable pub page_count : Geometry → ℕ
-page_count g = pages_of_volume g
+page_count g = g.blocks * per_block g
 
 -- slots of two bytes in the lookup pages of a block
 abbrev pub slots : Geometry → ℕ

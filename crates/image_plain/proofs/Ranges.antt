@@ -1,8 +1,11 @@
 -- The numbers from a loop's counter on.
-use Rattle.std.proofs.Common.{◌≡◌, ℕ, suc, ◌+◌, ◌-◌, ◌<◌, ◌≤◌, List, [], ◌∷◌, ap, refl, sym, ◌∙◌, ◌++◌, append_assoc, arith, subst, map, Option, Some, None}
+use Rattle.std.proofs.Common.{◌≡◌, ℕ, suc, ◌+◌, ◌-◌, ◌<◌, ◌≤◌, List, [], ◌∷◌, ap, refl, sym, ◌∙◌, ◌++◌, append_assoc, arith, subst, map, Option, Some, None, Bool, true, false, length}
+use Rattle.std.specs.Prelude.{filter}
+use Rattle.std.proofs.Math.Nat.{sub-zero}
 use Rattle.std.specs.Option.{option_map, option_to_list}
 use Rattle.std.proofs.lemmas.List.{append-nil, map-append}
 use Rattle.std.specs.List.{range_with_len, flat_map, filter_map}
+use Rattle.image_plain.specs.Counted.{Counts}
 
 pub range_step : (p e : ℕ) → p < e → range_with_len p (e - p) ≡ p ∷ range_with_len (p + 1) (e - (p + 1))
 range_step p e h = let n : e - p ≡ suc (e - (p + 1)) = omega arith in rw n refl
@@ -25,3 +28,24 @@ filter_map_step v h bs cs (Some x) total p e less all is more =
 
 pub flat_map_end : {Y : Type 0} (f : ℕ → List Y) (bs total : List Y) (p e : ℕ) → e ≤ p → bs ++ flat_map f (range_with_len p (e - p)) ≡ total → bs ≡ total
 flat_map_end f bs total p e h all = subst (λ ys. ys ≡ total) (append-nil bs) (subst (λ xs. bs ++ flat_map f xs ≡ total) (range_end p e h) all)
+
+-- of the first number on, one passes or not
+pub count_yes : (test : ℕ → Bool) (count more p end : ℕ) → p < end → Counts test count p end → test p ≡ true → more ≡ count + 1 → Counts test more (p + 1) end
+count_yes test count more p end h was passes next = record {
+  few = omega (arith, was.few, next);
+  most = omega arith;
+  all = (let step = rw (range_step p end h, passes) at was.all in omega (arith, step, next));
+}
+
+pub count_no : (test : ℕ → Bool) (count more p end : ℕ) → p < end → Counts test count p end → test p ≡ false → more ≡ count → Counts test more (p + 1) end
+count_no test count more p end h was fails next = record {
+  few = omega (arith, was.few, next);
+  most = omega arith;
+  all = (let step = rw (range_step p end h, fails) at was.all in omega (arith, step, next));
+}
+
+pub count_none : (test : ℕ → Bool) (end : ℕ) → Counts test 0 0 end
+count_none test end = record { few = omega arith; most = omega arith; all = rw (sub-zero end) (omega arith) }
+
+pub count_all : (test : ℕ → Bool) (count p end : ℕ) → end ≤ p → Counts test count p end → count ≡ length (filter test (range_with_len 0 end))
+count_all test count p end h was = let step = rw (range_end p end h) at was.all in omega (arith, step)

@@ -2,6 +2,7 @@
 //! tools and comparisons with faster code.
 #![tactic(auto)]
 
+mod blocks;
 mod files;
 mod headers;
 mod pages;

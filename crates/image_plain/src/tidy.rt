@@ -8,7 +8,7 @@ ghost use Rattle.image_model.specs.Headers.{size_of as the_size};
 ghost use Rattle.image_model.specs.Live.{live_at as the_live_at, own as the_own};
 ghost use Rattle.image_model.specs.Files.{index_page as the_index_page, entry_number as the_entry_number, data_of};
 ghost use Rattle.image_model.specs.Tables.{has_of as the_has, counted as the_counted};
-ghost use Rattle.image_model.specs.Tidy.{is_number, serves as the_serves, is_wanted as the_wanted, is_erased as the_erased, is_free_entry as the_free_entry, is_free_block as the_free_block, free_blocks as the_free_blocks};
+ghost use Rattle.image_model.specs.Tidy.{is_number, serves as the_serves, is_wanted as the_wanted};
 ghost use Rattle.image_model.specs.Killed.{is_used as the_used, is_killable as the_killable, killed_of as the_killed};
 ghost use Rattle.table_model.specs.Room.{data_pages as the_data_pages, index_pages as the_index_pages};
 ghost use Rattle.image_plain.specs.Headed.{IsHeads};
@@ -19,22 +19,6 @@ use crate::pages::{entry_of, has_magic, live_at, own, page_of, word};
 use crate::table::counted;
 use geometry::Geometry;
 use std::alloc::{AllocError, Global};
-
-fn is_erased(page: &[u8]) -> bool
-    ensures { result ≡ the_erased page.now }
-{
-    page.iter().all(|b| *b == 0xFF)
-}
-
-// Whether the entry of an entry page is free.
-fn is_free_entry(g: &Geometry, image: &[u8], p: u32) -> bool
-    requires image { IsImage g.now image.now }
-    requires number { p < page_count g.now }
-    requires behind { lookups g.now ≤ p % per_block g.now }
-    ensures { result ≡ the_free_entry g.now image.now p }
-{
-    entry_of(g, image, p) == 0xFFFF && is_erased(page_of(g, image, p))
-}
 
 // Index pages of a file of that size.
 fn index_pages(g: &Geometry, size: u32) -> u32

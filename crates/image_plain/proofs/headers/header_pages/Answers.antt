@@ -1,13 +1,13 @@
 use Rattle.std.proofs.Common.{◌≡◌, refl, sym, arith, subst, rules}
 use Rattle.geometry.specs.declared.geometry.Geometry.{Geometry}
-use Rattle.image_model.specs.Volume.{page_count}
+use Rattle.image_model.specs.Volume.{page_count, per_block}
 use Rattle.image_model.specs.Live.{live_at}
 use Rattle.image_plain.proofs.Headed.{none_noted, noted_more, all_noted}
 use Rattle.image_plain.specs.Headed.{HeadsFrom}
 use Rattle.image_plain.proofs.headers.header_pages.Goals as goal
 
 pub loop-p-init : goal.loop-p-init
-unfolding page_count
+unfolding page_count per_block
 loop-p-init c = none_noted _ _ _ _ c.pages-p.ensures c.in_ok-heads.ensures
 
 pub loop-p-preserved : goal.loop-p-preserved
