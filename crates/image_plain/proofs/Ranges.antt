@@ -49,3 +49,12 @@ count_none test end = record { few = omega arith; most = omega arith; all = rw (
 
 pub count_all : (test : ℕ → Bool) (count p end : ℕ) → end ≤ p → Counts test count p end → count ≡ length (filter test (range_with_len 0 end))
 count_all test count p end h was = let step = rw (range_end p end h) at was.all in omega (arith, step)
+
+-- one item more, where there is one
+pub filter_map_push : {Y : Type 0} (h : ℕ → Option Y) (bs cs : List Y) (o : Option Y) (total : List Y) (p e : ℕ) → p < e →
+    bs ++ filter_map h (range_with_len p (e - p)) ≡ total → o ≡ h p → cs ≡ bs ++ option_to_list o →
+    cs ++ filter_map h (range_with_len (p + 1) (e - (p + 1))) ≡ total
+filter_map_push h bs cs None total p e less all is more =
+    rw (more, append-nil) (subst (λ ys. bs ++ ys ≡ total) (ap (filter_map h) (range_step p e less) ∙ rw (sym is) refl) all)
+filter_map_push h bs cs (Some x) total p e less all is more =
+    rw (more, append_assoc) (subst (λ ys. bs ++ ys ≡ total) (ap (filter_map h) (range_step p e less) ∙ rw (sym is) refl) all)

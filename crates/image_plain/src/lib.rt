@@ -3,6 +3,7 @@
 #![tactic(auto)]
 
 mod blocks;
+mod damaged;
 mod files;
 mod headers;
 mod pages;
@@ -10,7 +11,10 @@ mod record;
 mod table;
 mod tidy;
 
+pub use blocks::{free_blocks, is_data_block, is_free_block, is_index_block, is_mixed, mixed_blocks, spoiled_blocks};
+pub use damaged::damaged_of;
 pub use files::{data_page, index_page, name_of, size_of};
-pub use pages::{entry_of, erase_count, has_magic, is_live, live_at, own, page_of};
+pub use pages::{entry_of, erase_count, has_magic, holds_volume, is_live, live_at, own, page_of};
 pub use record::Record;
 pub use table::table_of;
+pub use tidy::{is_wanted, killed_of};

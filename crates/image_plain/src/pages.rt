@@ -1,5 +1,5 @@
 // Pages, lookup entries, magics and erase counts of an image, and its live pages.
-ghost use Rattle.std.specs.Prelude.{◌≡◌, ◌==◌, ℕ, ◌+◌, ◌*◌, ◌/◌, ◌%◌, ◌^◌, ◌<◌, ◌≤◌, length, option_copied, IfSome};
+ghost use Rattle.std.specs.Prelude.{◌≡◌, ◌==◌, ℕ, ◌+◌, ◌*◌, ◌/◌, ◌%◌, ◌^◌, ◌<◌, ◌≤◌, length, option_copied, IfSome, IsTrue, ◌↔◌};
 ghost use Rattle.image_model.specs.Volume.{page_count, per_block, lookups, slots};
 ghost use Rattle.image_model.specs.Places.{IsImage, page_of as the_page, slot_of as the_slot, has_magic as the_magic, erase_count as the_count, entry_of as the_entry};
 ghost use Rattle.image_model.specs.Headers.{word_at, is_finished as the_finished};
@@ -43,6 +43,13 @@ fn is_finished(page: &[u8]) -> bool
     } else {
         !is_set(flags, 2) && (is_set(flags, 6) || word(page, 2) != 0)
     }
+}
+
+/// Whether these bytes hold the whole volume, at their start.
+pub fn holds_volume(g: &Geometry, image: &[u8]) -> bool
+    ensures { IsTrue result ↔ IsImage g.now image.now }
+{
+    image.len() >= g.blocks as usize * g.block as usize
 }
 
 /// The bytes of a page of the volume.

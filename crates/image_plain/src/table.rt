@@ -26,7 +26,7 @@ fn is_before(at: &Option<(u32, Result<Record, Damage>)>, p: u32, name: &[u8]) ->
 
 // Whether a file counts, of those that have its name among the ids from 1 to n.
 #[tactic(auto, unfolding(image_model::specs::Tables::counts), using(crate::proofs::Ranges::range_step, crate::proofs::Ranges::range_end))]
-fn counts(
+pub(crate) fn counts(
     alloc: Global,
     g: &Geometry,
     image: &[u8],

@@ -14,6 +14,7 @@ ghost use Rattle.table_model.specs.Room.{data_pages as the_data_pages, index_pag
 ghost use Rattle.image_plain.specs.Headed.{IsHeads};
 
 use crate::files::{data_pages, entry_number, index_page, size_of};
+use crate::blocks::is_free_entry;
 use crate::headers::{header_of, header_pages};
 use crate::pages::{entry_of, has_magic, live_at, own, page_of, word};
 use crate::table::counted;
@@ -83,4 +84,92 @@ fn serves(g: &Geometry, image: &[u8], id: u16, head: &[u8], p: u32) -> bool
     let size = size_of(head);
     serves_index(g, image, id, index_pages(g, size), p)
         || serves_data(g, image, id, head, data_pages(g, size), p)
+}
+
+// Whether a live page serves a file of the table.
+#[tactic(auto, unfolding(image_model::specs::Tidy::is_wanted), using(crate::proofs::Headed::head_known))]
+fn is_wanted_page(
+    alloc: Global,
+    g: &Geometry,
+    image: &[u8],
+    heads: &[Option<u32>],
+    p: u32,
+) -> Result<bool, AllocError>
+    requires image { IsImage g.now image.now }
+    requires heads { IsHeads g.now (the_live_at g.now image.now) heads.now }
+    ensures { IfOk result (λ yes. yes ≡ the_wanted g.now image.now p) }
+{
+    let Some(page) = live_at(g, image, p) else {
+        return Ok(false);
+    };
+    let id = word(page, 0) % 0x8000;
+    let Some(_record) = counted(alloc, g, image, heads, 0x7FFF, id)? else {
+        return Ok(false);
+    };
+    let Some(h) = header_of(heads, id) else {
+        return Ok(false);
+    };
+    let Some(head) = own(g, image, id, h) else {
+        return Ok(false);
+    };
+    Ok(serves(g, image, id, head, p))
+}
+
+/// Whether a page is wanted: live, and an index page or a data page of a file of the table, of a span below the file's
+/// page counts.
+pub fn is_wanted(alloc: Global, g: &Geometry, image: &[u8], p: u32) -> Result<bool, AllocError>
+    requires { IsImage g.now image.now }
+    ensures { IfOk result (λ yes. yes ≡ the_wanted g.now image.now p) }
+{
+    let heads = header_pages(alloc, g, image)?;
+    is_wanted_page(alloc, g, image, heads.as_slice(), p)
+}
+
+// Whether an entry is in use: in a block with its magic, and neither deleted nor free.
+#[tactic(auto, unfolding(image_model::specs::Killed::is_used, image_model::specs::Places::is_entry_page, image_model::specs::Volume::per_block, image_model::specs::Volume::lookups), using(image_model::specs::Within::block_number))]
+fn is_used(g: &Geometry, image: &[u8], p: u32) -> bool
+    requires image { IsImage g.now image.now }
+    requires number { p < page_count g.now }
+    ensures { result ≡ the_used g.now image.now p }
+{
+    if p % g.per_block() < g.lookups() || !has_magic(g, image, p / g.per_block()) {
+        return false;
+    }
+    entry_of(g, image, p) != 0 && !is_free_entry(g, image, p)
+}
+
+// Whether a check kills an entry: it is in use, and its page isn't wanted.
+fn is_killable(
+    alloc: Global,
+    g: &Geometry,
+    image: &[u8],
+    heads: &[Option<u32>],
+    p: u32,
+) -> Result<bool, AllocError>
+    requires image { IsImage g.now image.now }
+    requires heads { IsHeads g.now (the_live_at g.now image.now) heads.now }
+    requires number { p < page_count g.now }
+    ensures { IfOk result (λ yes. yes ≡ the_killable g.now image.now p) }
+{
+    if !is_used(g, image, p) {
+        return Ok(false);
+    }
+    Ok(!is_wanted_page(alloc, g, image, heads, p)?)
+}
+
+/// How many entries a check kills: those in use whose pages aren't wanted.
+#[tactic(auto, unfolding(image_model::specs::Killed::killed_of, image_model::specs::Volume::page_count, image_model::specs::Volume::per_block), using(crate::proofs::Ranges::count_none, crate::proofs::Ranges::count_all))]
+pub fn killed_of(alloc: Global, g: &Geometry, image: &[u8]) -> Result<u32, AllocError>
+    requires { IsImage g.now image.now }
+    ensures { IfOk result (λ count. count ≡ the_killed g.now image.now) }
+{
+    let heads = header_pages(alloc, g, image)?;
+    let mut count = 0;
+    for p in 0..g.pages() {
+        let killed = is_killable(alloc, g, image, heads.as_slice(), p)?;
+        if killed {
+            count += 1;
+        }
+    }
+    Ok(count)
 }
