@@ -35,7 +35,13 @@ pub fn index_page(g: &Geometry, image: &[u8], id: u16, span: u32) -> Option<u32>
 
 // The index entry of a data span: a page number.
 #[tactic(auto, unfolding(image_model::specs::Files::entry_number))]
-pub(crate) fn entry_number(g: &Geometry, image: &[u8], id: u16, head: &[u8], span: u32) -> Option<u32>
+pub(crate) fn entry_number(
+    g: &Geometry,
+    image: &[u8],
+    id: u16,
+    head: &[u8],
+    span: u32,
+) -> Option<u32>
     requires image { IsImage g.now image.now }
     requires head { length head.now ≡ g.now.page }
     ensures { result ≡ the_entry_number g.now (the_own (the_live_at g.now image.now) id) head.now span }

@@ -8,10 +8,15 @@ mod files;
 mod headers;
 mod pages;
 mod record;
+#[cfg(test)]
+mod rows;
 mod table;
 mod tidy;
 
-pub use blocks::{free_blocks, is_data_block, is_free_block, is_index_block, is_mixed, mixed_blocks, spoiled_blocks};
+pub use blocks::{
+    free_blocks, is_data_block, is_free_block, is_index_block, is_mixed, mixed_blocks,
+    spoiled_blocks,
+};
 pub use damaged::damaged_of;
 pub use files::{data_page, index_page, name_of, size_of};
 pub use pages::{entry_of, erase_count, has_magic, holds_volume, is_live, live_at, own, page_of};

@@ -108,4 +108,3 @@ pub fn table_of(alloc: Global, g: &Geometry, image: &[u8]) -> Result<Vec<Record>
     let heads = header_pages(alloc, g, image)?;
     records(alloc, g, image, heads.as_slice(), 0x7FFF)
 }
-

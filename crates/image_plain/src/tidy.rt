@@ -13,8 +13,8 @@ ghost use Rattle.image_model.specs.Killed.{is_used as the_used, is_killable as t
 ghost use Rattle.table_model.specs.Room.{data_pages as the_data_pages, index_pages as the_index_pages};
 ghost use Rattle.image_plain.specs.Headed.{IsHeads};
 
-use crate::files::{data_pages, entry_number, index_page, size_of};
 use crate::blocks::is_free_entry;
+use crate::files::{data_pages, entry_number, index_page, size_of};
 use crate::headers::{header_of, header_pages};
 use crate::pages::{entry_of, has_magic, live_at, own, page_of, word};
 use crate::table::counted;

@@ -7,5 +7,6 @@ use Rattle.image_plain.proofs.blocks.free_blocks.Goals.{then-is_free_block, else
 pub loop-block-preserved : goal.loop-block-preserved
 loop-block-preserved c =
     elim c.if-is_free_block.branch [
-      then-is_free_block w ↦ count_yes _ c.loop-block.count _ c.loop-block.block _ c.loop-block-test.true c.loop-block.invariant (grind (arith, common_steps)) (grind arith)
-    | else-is_free_block w ↦ count_no _ c.loop-block.count _ c.loop-block.block _ c.loop-block-test.true c.loop-block.invariant (grind (arith, common_steps)) (grind arith) ]
+      | then-is_free_block w ↦ count_yes _ c.loop-block.count _ c.loop-block.block _ c.loop-block-test.true c.loop-block.invariant (grind (arith, common_steps)) (grind arith)
+      | else-is_free_block w ↦ count_no _ c.loop-block.count _ c.loop-block.block _ c.loop-block-test.true c.loop-block.invariant (grind (arith, common_steps)) (grind arith)
+    ]

@@ -7,5 +7,6 @@ use Rattle.image_plain.proofs.blocks.mixed_blocks.Goals.{then-is_mixed, else-is_
 pub loop-block-preserved : goal.loop-block-preserved
 loop-block-preserved c =
     elim c.if-is_mixed.branch [
-      then-is_mixed w ↦ count_yes _ c.loop-block.count _ c.loop-block.block _ c.loop-block-test.true c.loop-block.invariant (grind (arith, common_steps)) (grind arith)
-    | else-is_mixed w ↦ count_no _ c.loop-block.count _ c.loop-block.block _ c.loop-block-test.true c.loop-block.invariant (grind (arith, common_steps)) (grind arith) ]
+      | then-is_mixed w ↦ count_yes _ c.loop-block.count _ c.loop-block.block _ c.loop-block-test.true c.loop-block.invariant (grind (arith, common_steps)) (grind arith)
+      | else-is_mixed w ↦ count_no _ c.loop-block.count _ c.loop-block.block _ c.loop-block-test.true c.loop-block.invariant (grind (arith, common_steps)) (grind arith)
+    ]

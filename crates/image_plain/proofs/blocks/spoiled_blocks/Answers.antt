@@ -7,5 +7,6 @@ use Rattle.image_plain.proofs.blocks.spoiled_blocks.Goals.{then-not-has_magic, e
 pub loop-block-preserved : goal.loop-block-preserved
 loop-block-preserved c =
     elim c.if-not-has_magic.branch [
-      then-not-has_magic w ↦ count_yes _ c.loop-block.count _ c.loop-block.block _ c.loop-block-test.true c.loop-block.invariant (grind (arith, common_steps)) (grind arith)
-    | else-not-has_magic w ↦ count_no _ c.loop-block.count _ c.loop-block.block _ c.loop-block-test.true c.loop-block.invariant (grind (arith, common_steps)) (grind arith) ]
+      | then-not-has_magic w ↦ count_yes _ c.loop-block.count _ c.loop-block.block _ c.loop-block-test.true c.loop-block.invariant (grind (arith, common_steps)) (grind arith)
+      | else-not-has_magic w ↦ count_no _ c.loop-block.count _ c.loop-block.block _ c.loop-block-test.true c.loop-block.invariant (grind (arith, common_steps)) (grind arith)
+    ]

@@ -7,5 +7,6 @@ use Rattle.image_plain.proofs.tidy.killed_of.Goals.{then-killed, else-killed}
 pub loop-p-preserved : goal.loop-p-preserved
 loop-p-preserved c =
     elim c.if-killed.branch [
-      then-killed w ↦ count_yes _ c.loop-p.count _ c.loop-p.p _ c.loop-p-test.true c.loop-p.invariant (grind (arith, common_steps)) (grind arith)
-    | else-killed w ↦ count_no _ c.loop-p.count _ c.loop-p.p _ c.loop-p-test.true c.loop-p.invariant (grind (arith, common_steps)) (grind arith) ]
+      | then-killed w ↦ count_yes _ c.loop-p.count _ c.loop-p.p _ c.loop-p-test.true c.loop-p.invariant (grind (arith, common_steps)) (grind arith)
+      | else-killed w ↦ count_no _ c.loop-p.count _ c.loop-p.p _ c.loop-p-test.true c.loop-p.invariant (grind (arith, common_steps)) (grind arith)
+    ]
