@@ -18,6 +18,7 @@ volume_of page block blocks phys meta p b three few room most = record {
   some_blocks = three;
   few_blocks = (let two : 2 ≤ pages_in page block = grind (arith, common_steps) in omega (arith, mul-le-mul_left blocks two));
   few_pages = few;
+  few_in_block = (let one : 1 ≤ blocks = omega arith in omega (arith, few, mul-le-mul_right (pages_in page block) one));
   few_bytes = (let whole : block ≡ pages_in page block * page = grind (arith, common_steps) in let bytes : blocks * block ≡ (blocks * pages_in page block) * page = grind (arith, mul_assoc) in rw bytes (mul-le-mul_right page few));
   meta_most = most;
 }

@@ -41,5 +41,6 @@ pub record IsVolume (page block blocks phys meta : ℕ) : Type 0 where
   pub some_blocks : 3 ≤ blocks
   pub few_blocks : blocks ≤ 32767
   pub few_pages : blocks * pages_in page block ≤ 65535
+  pub few_in_block : pages_in page block ≤ 65535
   pub few_bytes : blocks * block ≤ 65535 * page
   pub meta_most : meta ≤ 64

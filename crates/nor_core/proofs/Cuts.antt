@@ -51,6 +51,7 @@ module _ {D : Type 0} {nor : NorOf D} where
     kept = λ t image count le left. done.kept t image count left;
   }
 
+  -- where nothing was called nothing more may be left
   pub started : (d : D) (P : List ℕ → ℕ → Type 0) → Leaves nor d d P
   started d P = record {
     size = refl;
@@ -90,6 +91,7 @@ module _ {D : Type 0} {nor : NorOf D} where
   pub both : {old mid new : D} {R : List ℕ → List ℕ → Type 0} → ((a b c : List ℕ) → R a b → R b c → R a c) → Changes nor old mid R → Changes nor mid new R → Changes nor old new R
   both passes first second = go_on first second (λ tells image before after. passes _ _ _ before after)
 
+  -- where nothing was called a relation that holds of what stands is kept
   pub unchanged : (d : D) (R : List ℕ → List ℕ → Type 0) → (nor.tells d → R (nor.bytes d) (nor.bytes d)) → Changes nor d d R
   unchanged d R here = record { cuts = started d _; said = refl; now = here }
 
@@ -109,6 +111,7 @@ module _ {D : Type 0} {nor : NorOf D} where
     now = λ tells. subst (λ (l : List ℕ). R l (nor.bytes new)) first.bytes (second.now (first.told tells));
   }
 
+  -- reads after reads
   pub reads_then : {old mid new : D} → OnlyReads nor old mid → OnlyReads nor mid new → OnlyReads nor old new
   reads_then first second = record {
     size = second.size ∙ first.size;
@@ -124,4 +127,22 @@ module _ {D : Type 0} {nor : NorOf D} where
     reads = omega (arith, first.reads, second.reads);
     cuts = λ t image count left. first.cuts t image count (second.cuts t image count left);
     kept = λ t image count left. second.kept t image count (first.kept t image count left);
+  }
+
+  -- no read
+  pub reads_none : (d : D) → OnlyReads nor d d
+  reads_none d = record {
+    size = refl;
+    unit = refl;
+    lent = refl;
+    told = λ tells. tells;
+    told_before = λ tells. tells;
+    bytes = refl;
+    said = refl;
+    moment = refl;
+    faults = omega arith;
+    reads = omega arith;
+    writes = refl;
+    cuts = λ t image count left. left;
+    kept = λ t image count left. left;
   }

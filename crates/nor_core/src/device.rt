@@ -7,31 +7,41 @@ ghost use Rattle.nor_core.specs.Device.{OnlyReads, Leaves, Stands, Changes, InEr
 use crate::NorState;
 use thiserror::Error;
 
-/// A call that the device could not do.
+/// The answer of a call that the device could not do. Its count of faults rose in that call.
 #[derive(Clone, Copy, Debug, PartialEq, Eq, Error)]
 #[error("the device failed")]
 pub struct Failed;
 
+/// Why a device in memory could not be made.
 #[derive(Debug, Drop, Error)]
 pub enum MemErr {
+    /// There is no memory for it.
     #[error("out of memory")]
     Memory,
 }
 
-/// Two bytes in an erase unit that an interrupted erase never leaves as this word.
+/// Two bytes in an erase unit that an interrupted erase never leaves as this word, where it changed the unit at all.
 #[derive(Clone, Copy, Debug, PartialEq, Eq)]
 pub struct Mark {
+    /// The first of the two bytes, counted from the beginning of the unit.
     pub at: u32,
+    /// What they are not to be, read little endian.
     pub word: u16,
 }
 
+/// A chip of NOR flash: bytes in erase units of one size. A program only clears bits, and an erase sets a whole unit to
+/// 0xFF. The power can go off inside either, and what stands then is not told by the call.
 pub trait Nor: NorState {
+    /// How many bytes it holds. This never changes.
     fn size(&self) -> u32
         ensures { result ≡ Self.size self.now };
 
+    /// How many bytes an erase unit has. This never changes.
     fn unit(&self) -> u32
         ensures { result ≡ Self.unit self.now };
 
+    /// Reads the bytes from `at` on into `into`, which is not empty. A failed read leaves anything in `into`; no read
+    /// changes the device.
     fn read(&mut self, at: u32, into: &mut [u8]) -> Result<(), Failed>
         requires some { 0 < length into.old }
         requires inside { at + length into.old ≤ Self.size self.old }
@@ -40,6 +50,9 @@ pub trait Nor: NorState {
         ensures cause { OnErr result (Rose (Self.faults self.old) (Self.faults self.new)) }
         ensures only_reads { OnlyReads Self.NorState self.old self.new };
 
+    /// Programs the bytes from `at` on, as many as `from` has, which is not empty. Each becomes the old and the asked
+    /// byte, bit by bit, so no bit is ever set. A program that failed or was cut has cleared some of the bits that it was
+    /// to clear, and any of them may be left. All other bytes stay.
     fn program(&mut self, at: u32, from: &[u8]) -> Result<(), Failed>
         requires some { 0 < length from.now }
         requires inside { at + length from.now ≤ Self.size self.old }
@@ -48,6 +61,9 @@ pub trait Nor: NorState {
         ensures cause { OnErr result (Rose (Self.faults self.old) (Self.faults self.new)) }
         ensures writes { Writes Self.NorState self.old self.new };
 
+    /// Sets each byte of the erase unit of that number, counted from 0, to 0xFF. An erase that failed or was cut leaves
+    /// the unit as it was, or with any bytes at all but for the mark, which does not read as its word. All other units
+    /// stay.
     fn erase(&mut self, unit_ix: u32, mark: Option<Mark>) -> Result<(), Failed>
         requires inside { unit_ix < Self.size self.old / Self.unit self.old }
         requires marked { ForSome mark (λ m. m.at + 2 ≤ Self.unit self.old) }
@@ -70,7 +86,10 @@ pub trait Nor: NorState {
     ghost counts_now: { (d : Self) (t : ℕ) → t ≤ Self.moment d → Self.tells d → Self.left_since d t (Self.bytes d) (length (Self.said d)) };
 }
 
+/// A chip beside a line on which bytes are said, as replies are.
 pub trait Board: Nor {
+    /// Says a piece, after all that was said before. Where it failed or was cut a front of the piece was said, which may
+    /// be none or all of it. It changes no byte of the chip.
     fn say(&mut self, piece: &[u8]) -> Result<(), Failed>
         ensures done { Self.tells self.old → OnOk result (Self.said self.new ≡ Self.said self.old ++ piece.now) }
         ensures says { Says Self.NorState self.old self.new piece.now }

@@ -11,8 +11,11 @@ pub trait Source {
     /// The bytes that are left, where they are told.
     ghost left: { Self → List ℕ };
 
+    /// A count of failures that never falls. At the last value of a u64 it stands still, and counts as risen.
     ghost faults: { Self → ℕ };
 
+    /// Takes the next bytes into the front of `into`, which is not empty, and answers how many: 0 only at the end. A
+    /// failed read takes nothing.
     fn read(&mut self, into: &mut [u8]) -> Result<usize, Failed>
         requires { 0 < length into.old }
         ensures within { IfOk result (λ n. n ≤ length into.old) }

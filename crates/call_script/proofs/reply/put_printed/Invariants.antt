@@ -1,0 +1,7 @@
+use Rattle.std.proofs.Common.{◌≤◌, ◌+◌, ◌*◌, take}
+use Rattle.call_script.specs.Texts.{printed}
+use Rattle.call_script.specs.Pieces.{Puts}
+use Rattle.call_script.proofs.reply.put_printed.Given as goal
+
+abbrev pub invariant-loop-byte : goal.invariant-loop-byte
+invariant-loop-byte l = Puts l.initial.into l.at (printed (take l.byte-index l.bytes)) l.into l.end × (l.end ≤ l.at + 3 * l.byte-index)

@@ -1,0 +1,6 @@
+pub mod Numerals
+pub mod Texts
+pub mod Lines
+pub mod Split
+pub mod Replies
+pub mod Pieces

@@ -1,0 +1,7 @@
+use Rattle.std.proofs.Common.{arith}
+use Rattle.std.proofs.lemmas.Grind.{common_steps}
+use Rattle.flash_view.proofs.Inside.{entry_page_is}
+use Rattle.flash_view.proofs.places.entry_page.Goals as goal
+
+pub returns : goal.returns
+returns c = entry_page_is c.args.g.now c.args.block c.args.i _ c.requires.block c.requires.entry (grind (arith, common_steps))

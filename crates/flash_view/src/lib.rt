@@ -1,0 +1,11 @@
+//! A volume's device, its geometry and the bytes lent for its work: pages, entries, and which pages are live.
+#![tactic(auto)]
+
+mod kinds;
+mod live;
+mod places;
+mod view;
+
+pub use kinds::{Kind, StepErr};
+pub use places::{block_of, entry_page, is_entry_page};
+pub use view::View;

@@ -1,0 +1,78 @@
+ghost use Rattle.std.specs.Prelude.{◌≡◌, ◌+◌, ◌*◌, ◌%◌, ◌<◌, ◌≤◌};
+ghost use Rattle.std.specs.Bool.{OnTrue, OnFalse};
+ghost use Rattle.geometry.specs.Numbers.{page_count, per_block, lookups, entries};
+ghost use Rattle.flash_view.specs.Places.{IsEntryPage, block_of as the_block_of, page_start as the_page_start, entry_start as the_entry_start, magic_start as the_magic_start, count_start as the_count_start};
+
+use geometry::Geometry;
+use page_layout::{count_offset, entry_offset, magic_offset};
+
+// The first byte of a page.
+#[tactic(auto, using(crate::proofs::Inside::page_inside))]
+pub(crate) fn page_start(g: &Geometry, page: u16) -> u32
+    requires { page < page_count g.now }
+    ensures start { result ≡ the_page_start g.now page }
+    ensures inside { result + g.now.page ≤ g.now.blocks * g.now.block }
+{
+    u32::from(page) * g.page()
+}
+
+// The first byte of a page's entry.
+#[tactic(auto, using(crate::proofs::Inside::entry_inside))]
+pub(crate) fn entry_start(g: &Geometry, page: u16) -> u32
+    requires { IsEntryPage g.now page }
+    ensures start { result ≡ the_entry_start g.now page }
+    ensures inside { result + 2 ≤ g.now.blocks * g.now.block }
+{
+    let page = u32::from(page);
+    let slot = page % g.per_block() - g.lookups();
+    page / g.per_block() * g.block() + entry_offset(slot)
+}
+
+// The first byte of a block's magic.
+#[tactic(auto, using(crate::proofs::Inside::magic_inside))]
+pub(crate) fn magic_start(g: &Geometry, block: u16) -> u32
+    requires { block < g.now.blocks }
+    ensures start { result ≡ the_magic_start g.now block }
+    ensures inside { result + 2 ≤ g.now.blocks * g.now.block }
+{
+    u32::from(block) * g.block() + magic_offset(g)
+}
+
+// The first byte of a block's erase count.
+#[tactic(auto, using(crate::proofs::Inside::magic_inside))]
+pub(crate) fn count_start(g: &Geometry, block: u16) -> u32
+    requires { block < g.now.blocks }
+    ensures start { result ≡ the_count_start g.now block }
+    ensures inside { result + 2 ≤ g.now.blocks * g.now.block }
+{
+    u32::from(block) * g.block() + count_offset(g)
+}
+
+/// Whether a page of the volume is one of its entry pages, and no lookup page.
+pub fn is_entry_page(g: &Geometry, page: u16) -> bool
+    requires { page < page_count g.now }
+    ensures entry { OnTrue result (IsEntryPage g.now page) }
+    ensures lookup { OnFalse result (page % per_block g.now < lookups g.now) }
+{
+    u32::from(page) % g.per_block() >= g.lookups()
+}
+
+/// The block of a page.
+#[tactic(auto, using(crate::proofs::Inside::block_below))]
+pub fn block_of(g: &Geometry, page: u16) -> u16
+    requires { page < page_count g.now }
+    ensures block { result ≡ the_block_of g.now page }
+    ensures below { result < g.now.blocks }
+{
+    (u32::from(page) / g.per_block()) as u16
+}
+
+/// The page of a block's entry `i`, counted from 0.
+#[tactic(auto, using(crate::proofs::Inside::entry_page_is))]
+pub fn entry_page(g: &Geometry, block: u16, i: u32) -> u16
+    requires block { block < g.now.blocks }
+    requires entry { i < entries g.now }
+    ensures { IsEntryPage g.now result }
+{
+    (u32::from(block) * g.per_block() + g.lookups() + i) as u16
+}

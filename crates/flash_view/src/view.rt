@@ -1,0 +1,309 @@
+ghost use Rattle.std.specs.Prelude.{◌≡◌, ◌+◌, ◌-◌, ◌*◌, ◌<◌, ◌≤◌, length, slice_range, OnErr};
+ghost use Rattle.geometry.specs.Numbers.{work_need, cache_need};
+ghost use Rattle.nor_core.specs.Count.{Rose};
+ghost use Rattle.nor_core.specs.Flash.{HalfProgrammed};
+ghost use Rattle.nor_core.specs.Device.{Changes};
+
+use geometry::Geometry;
+use nor_core::{Board, Failed, Mark, Nor, NorState};
+use page_layout::{PageHeader, header_of, read_count, read_word};
+
+use crate::places::{count_start, entry_start, magic_start, page_start};
+
+/// A volume's device, with its geometry and the bytes that were lent for its work.
+#[derive(Drop)]
+pub struct View<'b, N: Nor> {
+    /// The numbers of the volume.
+    pub geometry: Geometry,
+    /// The device. The volume is its first bytes.
+    pub nor: &'b mut N,
+    /// Bytes for work: a page to build, a page that was read, and notes.
+    pub work: &'b mut [u8],
+    /// Bytes for copies of pages.
+    pub cache: &'b mut [u8],
+    /// Whether the device was asked for a program or an erase since this was last set to false.
+    pub wrote: bool,
+    pub ghost unit: { N.unit nor.now ≡ geometry.phys },
+    pub ghost volume: { geometry.blocks * geometry.block ≤ N.size nor.now },
+    pub ghost work_fits: { work_need geometry ≤ length work.now },
+    pub ghost cache_fits: { cache_need geometry ≤ length cache.now },
+}
+
+impl<'b, N: Nor> View<'b, N> {
+    ghost use Rattle.std.specs.Prelude.{◌≡◌, ◌+◌, ◌*◌, ◌/◌, ◌<◌, ◌≤◌, length, take, slice_range, OnErr, true, false};
+    ghost use Rattle.std.specs.Option.{ForSome};
+    ghost use Rattle.std.specs.Int.{to_le_bytes, w16};
+    ghost use Rattle.geometry.specs.Numbers.{work_need, cache_need, page_count, right_magic};
+    ghost use Rattle.nor_core.specs.Count.{Rose};
+    ghost use Rattle.nor_core.specs.Flash.{HalfProgrammed};
+    ghost use Rattle.nor_core.specs.Device.{Changes, InErase};
+    ghost use Rattle.flash_view.specs.Places.{IsEntryPage, page_start as the_page_start, entry_start as the_entry_start};
+    ghost use Rattle.flash_view.specs.Same.{IsSameView, OnlyLooks};
+
+    /// A view of the volume on a device. The device may be larger than the volume.
+    pub fn new(
+        geometry: Geometry,
+        nor: &'b mut N,
+        work: &'b mut [u8],
+        cache: &'b mut [u8],
+    ) -> View<'b, N>
+        requires unit { N.unit nor.old ≡ geometry.phys }
+        requires volume { geometry.blocks * geometry.block ≤ N.size nor.old }
+        requires work { work_need geometry ≤ length work.old }
+        requires cache { cache_need geometry ≤ length cache.old }
+        ensures geometry { result.geometry ≡ geometry }
+        ensures wrote { result.wrote ≡ false }
+        ensures nor { result.nor.now ≡ nor.old }
+        ensures nor_name { result.nor.ghost_name ≡ nor.entry.ghost_name }
+        ensures work_name { result.work.ghost_name ≡ work.entry.ghost_name }
+        ensures cache_name { result.cache.ghost_name ≡ cache.entry.ghost_name }
+    {
+        View {
+            geometry,
+            nor,
+            work,
+            cache,
+            wrote: false,
+        }
+    }
+
+    /// The numbers of the volume.
+    pub fn geometry(&self) -> &Geometry
+        ensures { result.now ≡ self.now.geometry }
+    {
+        &self.geometry
+    }
+
+    /// Reads bytes of the volume, from byte `at` on.
+    fn read(&mut self, at: u32, into: &mut [u8]) -> Result<(), Failed>
+        requires some { 0 < length into.old }
+        requires inside { at + length into.old ≤ self.old.geometry.blocks * self.old.geometry.block }
+        ensures cause { OnErr result (Rose (N.faults self.old.nor.now) (N.faults self.new.nor.now)) }
+        ensures looks { OnlyLooks self.old self.new }
+    {
+        self.nor.read(at, into)
+    }
+
+    /// Reads a slot of two bytes.
+    fn word(&mut self, at: u32) -> Result<u16, Failed>
+        requires { at + 2 ≤ self.old.geometry.blocks * self.old.geometry.block }
+        ensures cause { OnErr result (Rose (N.faults self.old.nor.now) (N.faults self.new.nor.now)) }
+        ensures looks { OnlyLooks self.old self.new }
+    {
+        let mut slot = [0u8; 2];
+        self.read(at, &mut slot)?;
+        Ok(read_word(&slot, 0))
+    }
+
+    /// The entry of a page: free, deleted, or the id of its object with bit 15 set in index pages.
+    pub fn entry(&mut self, page: u16) -> Result<u16, Failed>
+        requires { IsEntryPage self.old.geometry page }
+        ensures cause { OnErr result (Rose (N.faults self.old.nor.now) (N.faults self.new.nor.now)) }
+        ensures looks { OnlyLooks self.old self.new }
+    {
+        let at = entry_start(&self.geometry, page);
+        self.word(at)
+    }
+
+    /// Whether a block has the magic of this volume.
+    pub fn has_magic(&mut self, block: u16) -> Result<bool, Failed>
+        requires { block < self.old.geometry.blocks }
+        ensures cause { OnErr result (Rose (N.faults self.old.nor.now) (N.faults self.new.nor.now)) }
+        ensures looks { OnlyLooks self.old self.new }
+    {
+        let at = magic_start(&self.geometry, block);
+        let magic = self.geometry.magic_of(u32::from(block));
+        Ok(self.word(at)? == magic)
+    }
+
+    /// How often a block was erased, as its slot tells it: 0 where the slot holds no count.
+    pub fn erase_count(&mut self, block: u16) -> Result<u16, Failed>
+        requires { block < self.old.geometry.blocks }
+        ensures cause { OnErr result (Rose (N.faults self.old.nor.now) (N.faults self.new.nor.now)) }
+        ensures looks { OnlyLooks self.old self.new }
+    {
+        let at = count_start(&self.geometry, block);
+        Ok(read_count(self.word(at)?))
+    }
+
+    /// The header of a page.
+    pub fn header(&mut self, page: u16) -> Result<PageHeader, Failed>
+        requires { page < page_count self.old.geometry }
+        ensures cause { OnErr result (Rose (N.faults self.old.nor.now) (N.faults self.new.nor.now)) }
+        ensures looks { OnlyLooks self.old self.new }
+    {
+        let at = page_start(&self.geometry, page);
+        let mut head = [0u8; 5];
+        self.read(at, &mut head)?;
+        Ok(header_of(&head))
+    }
+
+    /// The page that is being built becomes a copy of a page.
+    pub fn load(&mut self, page: u16) -> Result<(), Failed>
+        requires { page < page_count self.old.geometry }
+        ensures cause { OnErr result (Rose (N.faults self.old.nor.now) (N.faults self.new.nor.now)) }
+        ensures looks { OnlyLooks self.old self.new }
+    {
+        let at = page_start(&self.geometry, page);
+        let len = self.geometry.page() as usize;
+        self.nor.read(at, &mut self.work[..len])
+    }
+
+    /// Reads a page, for `fetched`. The page that is being built stays.
+    pub fn fetch(&mut self, page: u16) -> Result<(), Failed>
+        requires { page < page_count self.old.geometry }
+        ensures cause { OnErr result (Rose (N.faults self.old.nor.now) (N.faults self.new.nor.now)) }
+        ensures looks { OnlyLooks self.old self.new }
+    {
+        let at = page_start(&self.geometry, page);
+        let len = self.geometry.page() as usize;
+        self.nor.read(at, &mut self.work[len..2 * len])
+    }
+
+    /// The bytes of the page that was fetched last.
+    pub fn fetched(&self) -> &[u8]
+        ensures { length result.now ≡ self.now.geometry.page }
+    {
+        let len = self.geometry.page() as usize;
+        &self.work[len..2 * len]
+    }
+
+    /// The bytes of the page that is being built.
+    pub fn built(&self) -> &[u8]
+        ensures { length result.now ≡ self.now.geometry.page }
+    {
+        let len = self.geometry.page() as usize;
+        &self.work[..len]
+    }
+
+    /// Whether a page holds 0xFF alone, as after an erase.
+    pub fn is_blank(&mut self, page: u16) -> Result<bool, Failed>
+        requires { page < page_count self.old.geometry }
+        ensures cause { OnErr result (Rose (N.faults self.old.nor.now) (N.faults self.new.nor.now)) }
+        ensures looks { OnlyLooks self.old self.new }
+    {
+        self.fetch(page)?;
+        Ok(self.fetched().iter().all(|byte| *byte == 0xFF))
+    }
+
+    /// Programs bytes of the volume: bits are cleared, and none is set.
+    pub fn program(&mut self, at: u32, from: &[u8]) -> Result<(), Failed>
+        requires some { 0 < length from.now }
+        requires inside { at + length from.now ≤ self.old.geometry.blocks * self.old.geometry.block }
+        ensures cause { OnErr result (Rose (N.faults self.old.nor.now) (N.faults self.new.nor.now)) }
+        ensures changes { Changes N.NorState self.old.nor.now self.new.nor.now (HalfProgrammed at from.now) }
+        ensures same { IsSameView self.old self.new }
+        ensures wrote { self.new.wrote ≡ true }
+    {
+        self.wrote = true;
+        self.nor.program(at, from)
+    }
+
+    /// Erases a unit of the volume: its bytes become 0xFF. A cut never leaves the mark's word in its place.
+    pub fn erase(&mut self, unit_ix: u32, mark: Option<Mark>) -> Result<(), Failed>
+        requires inside { (unit_ix + 1) * self.old.geometry.phys ≤ self.old.geometry.blocks * self.old.geometry.block }
+        requires marked { ForSome mark (λ m. m.at + 2 ≤ self.old.geometry.phys) }
+        ensures cause { OnErr result (Rose (N.faults self.old.nor.now) (N.faults self.new.nor.now)) }
+        ensures changes { Changes N.NorState self.old.nor.now self.new.nor.now (InErase N.NorState self.old.nor.now self.new.nor.now unit_ix mark) }
+        ensures same { IsSameView self.old self.new }
+        ensures wrote { self.new.wrote ≡ true }
+    {
+        self.wrote = true;
+        self.nor.erase(unit_ix, mark)
+    }
+
+    /// Programs the page that is being built, from byte `start` to its end, into a page of the volume.
+    pub fn program_build(&mut self, page: u16, start: u32) -> Result<(), Failed>
+        requires page { page < page_count self.old.geometry }
+        requires start { start < self.old.geometry.page }
+        ensures cause { OnErr result (Rose (N.faults self.old.nor.now) (N.faults self.new.nor.now)) }
+        ensures changes { Changes N.NorState self.old.nor.now self.new.nor.now (HalfProgrammed (the_page_start self.old.geometry page + start) (slice_range self.old.work.now start self.old.geometry.page)) }
+        ensures same { IsSameView self.old self.new }
+        ensures wrote { self.new.wrote ≡ true }
+    {
+        let at = page_start(&self.geometry, page) + start;
+        let end = self.geometry.page() as usize;
+        self.wrote = true;
+        program_part(self.nor, at, self.work, start as usize, end)
+    }
+
+    /// Programs bytes of a page, from its byte `start` on.
+    pub fn program_in(&mut self, page: u16, start: u32, from: &[u8]) -> Result<(), Failed>
+        requires page { page < page_count self.old.geometry }
+        requires some { 0 < length from.now }
+        requires inside { start + length from.now ≤ self.old.geometry.page }
+        ensures cause { OnErr result (Rose (N.faults self.old.nor.now) (N.faults self.new.nor.now)) }
+        ensures changes { Changes N.NorState self.old.nor.now self.new.nor.now (HalfProgrammed (the_page_start self.old.geometry page + start) from.now) }
+        ensures same { IsSameView self.old self.new }
+        ensures wrote { self.new.wrote ≡ true }
+    {
+        let at = page_start(&self.geometry, page) + start;
+        self.program(at, from)
+    }
+
+    /// Programs the entry of a page.
+    pub fn program_entry(&mut self, page: u16, entry: u16) -> Result<(), Failed>
+        requires { IsEntryPage self.old.geometry page }
+        ensures cause { OnErr result (Rose (N.faults self.old.nor.now) (N.faults self.new.nor.now)) }
+        ensures changes { Changes N.NorState self.old.nor.now self.new.nor.now (HalfProgrammed (the_entry_start self.old.geometry page) (to_le_bytes w16 entry)) }
+        ensures same { IsSameView self.old self.new }
+        ensures wrote { self.new.wrote ≡ true }
+    {
+        let at = entry_start(&self.geometry, page);
+        self.program(at, &entry.to_le_bytes())
+    }
+
+    /// The device, the work bytes and the cache bytes.
+    pub fn give_back(self) -> (&'b mut N, &'b mut [u8], &'b mut [u8])
+        ensures nor { result.0.now ≡ self.entry.nor.now }
+        ensures nor_name { result.0.ghost_name ≡ self.entry.nor.ghost_name }
+        ensures work_name { result.1.ghost_name ≡ self.entry.work.ghost_name }
+        ensures cache_name { result.2.ghost_name ≡ self.entry.cache.ghost_name }
+    {
+        let View {
+            geometry: _,
+            nor,
+            work,
+            cache,
+            wrote: _,
+        } = self;
+        (nor, work, cache)
+    }
+}
+
+impl<'b, B: Board> View<'b, B> {
+    ghost use Rattle.std.specs.Prelude.{◌≡◌, ◌++◌, OnOk, OnErr};
+    ghost use Rattle.nor_core.specs.Count.{Rose};
+    ghost use Rattle.nor_core.specs.Device.{Leaves, Says, InSay};
+    ghost use Rattle.flash_view.specs.Same.{IsSameView};
+
+    /// The device says a piece.
+    pub fn say(&mut self, piece: &[u8]) -> Result<(), Failed>
+        ensures cause { OnErr result (Rose (B.faults self.old.nor.now) (B.faults self.new.nor.now)) }
+        ensures says { Says B.NorState self.old.nor.now self.new.nor.now piece.now }
+        ensures done { B.tells self.old.nor.now → OnOk result (B.said self.new.nor.now ≡ B.said self.old.nor.now ++ piece.now) }
+        ensures cuts { Leaves B.NorState self.old.nor.now self.new.nor.now (InSay B.NorState self.old.nor.now piece.now) }
+        ensures same { IsSameView self.old self.new }
+        ensures wrote { self.new.wrote ≡ self.old.wrote }
+    {
+        self.nor.say(piece)
+    }
+}
+
+// Programs a part of these bytes.
+fn program_part<N: Nor>(
+    nor: &mut N,
+    at: u32,
+    bytes: &mut [u8],
+    start: usize,
+    end: usize,
+) -> Result<(), Failed>
+    requires some { start < end }
+    requires inside { end ≤ length bytes.old }
+    requires fits { at + (end - start) ≤ N.size nor.old }
+    ensures cause { OnErr result (Rose (N.faults nor.old) (N.faults nor.new)) }
+    ensures changes { Changes N.NorState nor.old nor.new (HalfProgrammed at (slice_range bytes.old start end)) }
+    ensures kept { bytes.new ≡ bytes.old }
+{
+    nor.program(at, &bytes[start..end])
+}

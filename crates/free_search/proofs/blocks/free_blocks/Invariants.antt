@@ -1,0 +1,12 @@
+use Rattle.std.proofs.Common.{◌≡◌, ◌+◌, ◌<◌, ◌≤◌}
+use Rattle.std.specs.Prelude.{IfSome}
+use Rattle.geometry.specs.Numbers.{page_count, entries}
+use Rattle.flash_view.specs.Same.{OnlyLooks}
+use Rattle.free_search.proofs.blocks.free_blocks.Given as goal
+
+abbrev pub invariant-loop-block : goal.invariant-loop-block
+invariant-loop-block g l = record {
+  looks : OnlyLooks l.fn.v l.v;
+  end : l.block-end ≡ l.fn.v.geometry.blocks;
+  few : l.free ≤ l.block
+}

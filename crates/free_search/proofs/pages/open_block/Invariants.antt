@@ -1,0 +1,11 @@
+use Rattle.std.proofs.Common.{◌≡◌, ◌+◌, ◌<◌, ◌≤◌}
+use Rattle.std.specs.Prelude.{IfSome}
+use Rattle.geometry.specs.Numbers.{page_count, entries}
+use Rattle.flash_view.specs.Same.{OnlyLooks}
+use Rattle.free_search.proofs.pages.open_block.Given as goal
+
+abbrev pub invariant-loop-block : goal.invariant-loop-block
+invariant-loop-block g l = record {
+  looks : OnlyLooks l.fn.v l.v;
+  end : l.block-end ≡ l.fn.v.geometry.blocks
+}

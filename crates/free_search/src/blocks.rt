@@ -1,0 +1,114 @@
+ghost use Rattle.std.specs.Prelude.{◌≡◌, ◌+◌, ◌<◌, ◌≤◌, OnErr, IfOk};
+ghost use Rattle.geometry.specs.Numbers.{entries};
+ghost use Rattle.nor_core.specs.Count.{Rose};
+ghost use Rattle.flash_view.specs.Places.{IsEntryPage};
+ghost use Rattle.flash_view.specs.Same.{OnlyLooks};
+
+use flash_view::{View, entry_page};
+use nor_core::{Failed, Nor, NorState};
+use page_layout::{FREE, INDEX_BIT};
+
+/// How many entries of a block are of each sort.
+#[derive(Clone, Copy, Debug, PartialEq, Eq)]
+pub struct BlockCounts {
+    /// Live index pages.
+    pub index_live: u16,
+    /// Live data pages.
+    pub data_live: u16,
+    /// Entries that aren't free, of pages that aren't live.
+    pub deleted: u16,
+    /// Free entries.
+    pub free: u16,
+    /// The erase count, 0 where the block tells none.
+    pub erases: u16,
+}
+
+// What an entry counts as.
+enum Sort {
+    Index,
+    Data,
+    Deleted,
+    Free,
+}
+
+fn sort_of<N: Nor>(v: &mut View<'_, N>, page: u16) -> Result<Sort, Failed>
+    requires { IsEntryPage v.old.geometry page }
+    ensures cause { OnErr result (Rose (N.faults v.old.nor.now) (N.faults v.new.nor.now)) }
+    ensures looks { OnlyLooks v.old v.new }
+{
+    if v.entry(page)? == FREE {
+        return Ok(Sort::Free);
+    }
+    Ok(match v.live_header(page)? {
+        Some(head) if head.id >= INDEX_BIT => Sort::Index,
+        Some(_) => Sort::Data,
+        None => Sort::Deleted,
+    })
+}
+
+/// The counts of a block's entries, and its erase count.
+pub fn counts<N: Nor>(v: &mut View<'_, N>, block: u16) -> Result<BlockCounts, Failed>
+    requires { block < v.old.geometry.blocks }
+    ensures cause { OnErr result (Rose (N.faults v.old.nor.now) (N.faults v.new.nor.now)) }
+    ensures looks { OnlyLooks v.old v.new }
+{
+    let g = v.geometry;
+    let mut counts = BlockCounts {
+        index_live: 0,
+        data_live: 0,
+        deleted: 0,
+        free: 0,
+        erases: v.erase_count(block)?,
+    };
+    for i in 0..g.entries() {
+        match sort_of(v, entry_page(&g, block, i))? {
+            Sort::Index => counts.index_live += 1,
+            Sort::Data => counts.data_live += 1,
+            Sort::Deleted => counts.deleted += 1,
+            Sort::Free => counts.free += 1,
+        }
+    }
+    Ok(counts)
+}
+
+// Whether an entry is free over a page that holds 0xFF alone.
+fn is_unused<N: Nor>(v: &mut View<'_, N>, page: u16) -> Result<bool, Failed>
+    requires { IsEntryPage v.old.geometry page }
+    ensures cause { OnErr result (Rose (N.faults v.old.nor.now) (N.faults v.new.nor.now)) }
+    ensures looks { OnlyLooks v.old v.new }
+{
+    Ok(v.entry(page)? == FREE && v.is_blank(page)?)
+}
+
+/// Whether a block has its magic, all its entries are free, and all its entry pages hold 0xFF alone.
+pub fn is_free_block<N: Nor>(v: &mut View<'_, N>, block: u16) -> Result<bool, Failed>
+    requires { block < v.old.geometry.blocks }
+    ensures cause { OnErr result (Rose (N.faults v.old.nor.now) (N.faults v.new.nor.now)) }
+    ensures looks { OnlyLooks v.old v.new }
+{
+    let g = v.geometry;
+    if !v.has_magic(block)? {
+        return Ok(false);
+    }
+    for i in 0..g.entries() {
+        if !is_unused(v, entry_page(&g, block, i))? {
+            return Ok(false);
+        }
+    }
+    Ok(true)
+}
+
+/// How many blocks are free.
+pub fn free_blocks<N: Nor>(v: &mut View<'_, N>) -> Result<u32, Failed>
+    ensures cause { OnErr result (Rose (N.faults v.old.nor.now) (N.faults v.new.nor.now)) }
+    ensures looks { OnlyLooks v.old v.new }
+    ensures most { IfOk result (λ n. n ≤ v.old.geometry.blocks) }
+{
+    let mut free = 0;
+    for block in 0..v.geometry.blocks() as u16 {
+        if is_free_block(v, block)? {
+            free += 1;
+        }
+    }
+    Ok(free)
+}

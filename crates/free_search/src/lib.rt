@@ -1,0 +1,10 @@
+//! Which pages, blocks and ids are free.
+#![tactic(auto)]
+
+mod blocks;
+mod ids;
+mod pages;
+
+pub use blocks::{BlockCounts, counts, free_blocks, is_free_block};
+pub use ids::free_id;
+pub use pages::free_page;

@@ -1,0 +1,138 @@
+ghost use Rattle.std.specs.Prelude.{◌≡◌, ◌<◌, OnErr, IfOk, IfSome};
+ghost use Rattle.nor_core.specs.Count.{Rose};
+ghost use Rattle.flash_view.specs.Places.{IsEntryPage};
+ghost use Rattle.flash_view.specs.Same.{OnlyLooks};
+
+use flash_view::{Kind, View, entry_page};
+use nor_core::{Failed, Nor, NorState};
+use page_layout::FREE;
+
+use crate::{BlockCounts, counts, free_blocks, is_free_block};
+
+// Whether pages of a kind go into a block in use: index pages where no live data page is and the block isn't
+// empty, data pages beside live data pages alone.
+fn takes(counts: &BlockCounts, kind: Kind, entries: u32) -> bool {
+    match kind {
+        Kind::Index => {
+            counts.data_live == 0 && counts.free > 0 && u32::from(counts.free) < entries
+        }
+        Kind::Data => counts.data_live > 0 && counts.index_live == 0 && counts.free > 0,
+    }
+}
+
+// The first free entry of a block.
+fn first_free<N: Nor>(v: &mut View<'_, N>, block: u16) -> Result<Option<u16>, Failed>
+    requires { block < v.old.geometry.blocks }
+    ensures cause { OnErr result (Rose (N.faults v.old.nor.now) (N.faults v.new.nor.now)) }
+    ensures looks { OnlyLooks v.old v.new }
+    ensures entry { IfOk result (λ page. IfSome page (λ p. IsEntryPage v.old.geometry p)) }
+{
+    let g = v.geometry;
+    for i in 0..g.entries() {
+        let page = entry_page(&g, block, i);
+        if v.entry(page)? == FREE {
+            return Ok(Some(page));
+        }
+    }
+    Ok(None)
+}
+
+// Whether a block in use takes a page of that kind.
+fn is_open<N: Nor>(v: &mut View<'_, N>, block: u16, kind: Kind) -> Result<bool, Failed>
+    requires { block < v.old.geometry.blocks }
+    ensures cause { OnErr result (Rose (N.faults v.old.nor.now) (N.faults v.new.nor.now)) }
+    ensures looks { OnlyLooks v.old v.new }
+{
+    if !v.has_magic(block)? {
+        return Ok(false);
+    }
+    let entries = v.geometry.entries();
+    Ok(takes(&counts(v, block)?, kind, entries))
+}
+
+// The lowest-numbered block in use that takes a page of that kind.
+fn open_block<N: Nor>(
+    v: &mut View<'_, N>,
+    kind: Kind,
+    not_in: Option<u16>,
+) -> Result<Option<u16>, Failed>
+    ensures cause { OnErr result (Rose (N.faults v.old.nor.now) (N.faults v.new.nor.now)) }
+    ensures looks { OnlyLooks v.old v.new }
+    ensures below { IfOk result (λ found. IfSome found (λ block. block < v.old.geometry.blocks)) }
+{
+    for block in 0..v.geometry.blocks() as u16 {
+        if Some(block) != not_in && is_open(v, block, kind)? {
+            return Ok(Some(block));
+        }
+    }
+    Ok(None)
+}
+
+// A block and its erase count.
+#[derive(Clone, Copy)]
+struct Worn {
+    block: u16,
+    erases: u16,
+}
+
+// The less worn of the block so far and this one, if that is free; the earlier one among equals.
+fn less_worn<N: Nor>(
+    v: &mut View<'_, N>,
+    least: Option<Worn>,
+    block: u16,
+) -> Result<Option<Worn>, Failed>
+    requires block { block < v.old.geometry.blocks }
+    requires least { IfSome least (λ worn. worn.block < v.old.geometry.blocks) }
+    ensures cause { OnErr result (Rose (N.faults v.old.nor.now) (N.faults v.new.nor.now)) }
+    ensures looks { OnlyLooks v.old v.new }
+    ensures below { IfOk result (λ found. IfSome found (λ worn. worn.block < v.old.geometry.blocks)) }
+{
+    if !is_free_block(v, block)? {
+        return Ok(least);
+    }
+    let erases = v.erase_count(block)?;
+    match least {
+        Some(worn) if worn.erases <= erases => Ok(Some(worn)),
+        _ => Ok(Some(Worn { block, erases })),
+    }
+}
+
+// The free block that was erased least often, the lowest-numbered among equals.
+fn least_worn<N: Nor>(v: &mut View<'_, N>, not_in: Option<u16>) -> Result<Option<u16>, Failed>
+    ensures cause { OnErr result (Rose (N.faults v.old.nor.now) (N.faults v.new.nor.now)) }
+    ensures looks { OnlyLooks v.old v.new }
+    ensures below { IfOk result (λ found. IfSome found (λ block. block < v.old.geometry.blocks)) }
+{
+    let mut least = None;
+    for block in 0..v.geometry.blocks() as u16 {
+        if Some(block) != not_in {
+            least = less_worn(v, least, block)?;
+        }
+    }
+    Ok(least.map(|worn| worn.block))
+}
+
+/// The page into which the next one of a kind goes: the first free entry of the lowest-numbered block in use
+/// that takes the kind, else the first entry of the least worn free block. A free block is taken only where
+/// more than `keep` are free; `not_in` is a block that is never chosen. None where there is no such page.
+pub fn free_page<N: Nor>(
+    v: &mut View<'_, N>,
+    kind: Kind,
+    keep: u32,
+    not_in: Option<u16>,
+) -> Result<Option<u16>, Failed>
+    ensures cause { OnErr result (Rose (N.faults v.old.nor.now) (N.faults v.new.nor.now)) }
+    ensures looks { OnlyLooks v.old v.new }
+    ensures entry { IfOk result (λ page. IfSome page (λ p. IsEntryPage v.old.geometry p)) }
+{
+    if let Some(block) = open_block(v, kind, not_in)? {
+        return first_free(v, block);
+    }
+    if free_blocks(v)? <= keep {
+        return Ok(None);
+    }
+    match least_worn(v, not_in)? {
+        Some(block) => first_free(v, block),
+        None => Ok(None),
+    }
+}

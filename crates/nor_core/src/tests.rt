@@ -1,0 +1,227 @@
+ghost use Rattle.std.specs.Prelude.{◌≡◌, ◌+◌, ◌<◌, ◌≤◌, length, IfOk};
+ghost use Rattle.std.specs.Option.{ForSome};
+
+use super::*;
+use std::alloc::Global;
+use std::test::Fail;
+
+// A board of two units of 8 bytes, all of them `fill`.
+fn board_of(alloc: Global, fill: u8) -> Result<MemBoard, Fail>
+    ensures size { IfOk result (λ board. ⟦<MemBoard as NorState>⟧.size board ≡ 16) }
+    ensures unit { IfOk result (λ board. ⟦<MemBoard as NorState>⟧.unit board ≡ 8) }
+{
+    let image = vec![in alloc; fill; 16]?;
+    Ok(MemBoard::new(alloc, image, 8)?)
+}
+
+// Whether a read of the first two bytes fails.
+fn read_fails(board: &mut MemBoard) -> bool
+    requires { ⟦<MemBoard as NorState>⟧.size board.old ≡ 16 }
+    ensures size { ⟦<MemBoard as NorState>⟧.size board.new ≡ 16 }
+    ensures unit { ⟦<MemBoard as NorState>⟧.unit board.new ≡ ⟦<MemBoard as NorState>⟧.unit board.old }
+{
+    let mut into = [0u8; 2];
+    board.read(0, &mut into).is_err()
+}
+
+fn program_fails(board: &mut MemBoard, at: u32, from: &[u8]) -> bool
+    requires size { ⟦<MemBoard as NorState>⟧.size board.old ≡ 16 }
+    requires some { 0 < length from.now }
+    requires inside { at + length from.now ≤ 16 }
+    ensures size { ⟦<MemBoard as NorState>⟧.size board.new ≡ 16 }
+    ensures unit { ⟦<MemBoard as NorState>⟧.unit board.new ≡ ⟦<MemBoard as NorState>⟧.unit board.old }
+{
+    board.program(at, from).is_err()
+}
+
+fn erase_fails(board: &mut MemBoard, unit_ix: u32, mark: Option<Mark>) -> bool
+    requires size { ⟦<MemBoard as NorState>⟧.size board.old ≡ 16 }
+    requires unit { ⟦<MemBoard as NorState>⟧.unit board.old ≡ 8 }
+    requires inside { unit_ix < 2 }
+    requires marked { ForSome mark (λ m. m.at + 2 ≤ 8) }
+    ensures size { ⟦<MemBoard as NorState>⟧.size board.new ≡ 16 }
+    ensures unit { ⟦<MemBoard as NorState>⟧.unit board.new ≡ 8 }
+{
+    board.erase(unit_ix, mark).is_err()
+}
+
+fn say_fails(board: &mut MemBoard, piece: &[u8]) -> bool
+    ensures size { ⟦<MemBoard as NorState>⟧.size board.new ≡ ⟦<MemBoard as NorState>⟧.size board.old }
+    ensures unit { ⟦<MemBoard as NorState>⟧.unit board.new ≡ ⟦<MemBoard as NorState>⟧.unit board.old }
+{
+    board.say(piece).is_err()
+}
+
+// Whether each bit that the old and the asked byte have is left, and none is set that the old one has not.
+fn is_between(old: u8, asked: u8, new: u8) -> bool {
+    new & old & asked == old & asked && new & old == new
+}
+
+// What is asked of the byte at i by a program at `at`: outside it no bit is to be cleared.
+fn asked_of(i: usize, at: u32, asked: &[u8]) -> u8 {
+    match i.checked_sub(at as usize) {
+        Some(k) => asked.get(k).copied().unwrap_or(0xff),
+        None => 0xff,
+    }
+}
+
+// The mark's two bytes of a unit, read little endian.
+fn word_of(unit: &[u8], mark: Mark) -> Option<u16> {
+    let at = mark.at as usize;
+    let low = unit.get(at)?;
+    let high = unit.get(at + 1)?;
+    Some(u16::from(*low) + 256 * u16::from(*high))
+}
+
+#[test]
+fn a_board_is_programmed_and_erased(rt: HostRuntime) -> Result<(), Fail> {
+    let mut board = board_of(rt.alloc(), 0xff)?;
+    assert!(rt; !program_fails(&mut board, 3, &[0xf0, 0x0f]));
+    assert!(rt; !program_fails(&mut board, 3, &[0x3f]));
+    assert!(rt; !say_fails(&mut board, b"o"));
+    assert!(rt; !say_fails(&mut board, b"k"));
+    assert_eq!(rt; board.said(), b"ok".as_slice());
+    let mut into = [0u8; 4];
+    board.read(2, &mut into).ok().ok_or("read")?;
+    assert_eq!(rt; into.as_slice(), [0xff, 0x30, 0x0f, 0xff].as_slice());
+    Ok(())
+}
+
+#[test]
+fn an_erase_fills_its_unit(rt: HostRuntime) -> Result<(), Fail> {
+    let mut board = board_of(rt.alloc(), 0)?;
+    assert_eq!(rt; (board.size(), board.unit()), (16, 8));
+    assert!(rt; !erase_fails(&mut board, 0, Some(Mark { at: 4, word: 0xffff })));
+    assert!(rt; board.image().starts_with(&[0xff, 0xff, 0xff, 0xff, 0xff, 0xff, 0xff, 0xff, 0]));
+    Ok(())
+}
+
+#[test]
+fn the_generator_draws_what_was_worked_out(rt: HostRuntime) {
+    let mut x = 0;
+    assert_eq!(rt; draw(&mut x), 167951807);
+}
+
+#[test]
+fn a_cut_program_leaves_what_the_rules_allow(rt: HostRuntime) -> Result<(), Fail> {
+    let asked = [0x00, 0x5a, 0x0f];
+    for (fill, at) in [(0xff, 0), (0xa5, 6), (0xff, 13)] {
+        assert!(rt; at < 14);
+        for pick in 0..10 {
+            let mut board = board_of(rt.alloc(), fill)?;
+            board.cut_after(0, pick);
+            assert!(rt; program_fails(&mut board, at, &asked));
+            for (i, new) in board.image().iter().enumerate() {
+                let wanted = asked_of(i, at, &asked);
+                assert!(rt; is_between(fill, wanted, *new), "pick {pick}, byte {i}");
+                assert!(rt; pick != 0 || *new == fill, "byte {i}");
+                assert!(rt; pick != 1 || *new == fill & wanted, "byte {i}");
+            }
+        }
+    }
+    Ok(())
+}
+
+#[test]
+fn a_cut_erase_leaves_what_the_rules_allow(rt: HostRuntime) -> Result<(), Fail> {
+    for (at, word) in [(0, 0xaaec), (6, 0x267c), (3, 0xffff), (2, 0)] {
+        assert!(rt; at < 7);
+        let mark = Mark { at, word };
+        for pick in 0..10 {
+            let mut board = board_of(rt.alloc(), 0xa5)?;
+            board.cut_after(0, pick);
+            let asked = if word == 0 { None } else { Some(mark) };
+            assert!(rt; erase_fails(&mut board, 1, asked));
+            let image = board.image();
+            let (before, unit) = image.split_at(image.len() / 2);
+            assert!(rt; before.iter().all(|b| *b == 0xa5), "pick {pick}");
+            assert_eq!(rt; unit.iter().all(|b| *b == 0xa5), pick == 0, "pick {pick}");
+            assert!(rt; pick == 0 || word == 0 || word_of(unit, mark) != Some(word), "pick {pick}");
+        }
+    }
+    Ok(())
+}
+
+#[test]
+fn a_cut_say_leaves_a_front_of_the_piece(rt: HostRuntime) -> Result<(), Fail> {
+    for piece in [b"".as_slice(), b"o".as_slice(), b"mount".as_slice()] {
+        for pick in 0..10 {
+            let mut board = board_of(rt.alloc(), 0xff)?;
+            board.cut_after(0, pick);
+            assert!(rt; say_fails(&mut board, piece));
+            let said = board.said();
+            assert!(rt; piece.starts_with(said), "pick {pick}");
+            assert!(rt; pick != 0 || said.is_empty());
+            assert!(rt; pick != 1 || said.len() == piece.len());
+        }
+    }
+    Ok(())
+}
+
+#[test]
+fn the_pick_seeds_what_a_cut_leaves(rt: HostRuntime) -> Result<(), Fail> {
+    let mut board = board_of(rt.alloc(), 0xff)?;
+    board.cut_after(0, 2);
+    assert!(rt; program_fails(&mut board, 1, &[0, 0, 0]));
+    assert!(rt; board.image().starts_with(&[0xff, 0x13, 0x55, 0x77, 0xff]));
+    let mut board = board_of(rt.alloc(), 0xa5)?;
+    board.cut_after(0, 2);
+    assert!(rt; erase_fails(&mut board, 0, Some(Mark { at: 6, word: 0x267c })));
+    assert!(rt; board.image().starts_with(&[0xec, 0xaa, 0x88, 0x58, 0x47, 0x4b, 0x7d, 0x26, 0xa5]));
+    let mut board = board_of(rt.alloc(), 0xff)?;
+    board.cut_after(0, 2);
+    assert!(rt; say_fails(&mut board, b"mount"));
+    assert_eq!(rt; board.said(), b"moun".as_slice());
+    Ok(())
+}
+
+#[test]
+fn the_power_goes_off_once_some_calls_have_passed_and_stays_off(rt: HostRuntime) -> Result<(), Fail> {
+    let mut board = board_of(rt.alloc(), 0xff)?;
+    board.cut_after(2, 1);
+    assert!(rt; !program_fails(&mut board, 0, &[0x0f]));
+    assert!(rt; !read_fails(&mut board));
+    assert!(rt; !say_fails(&mut board, b"ok"));
+    assert!(rt; program_fails(&mut board, 1, &[0x0f]));
+    board.cut_after(5, 0);
+    assert!(rt; program_fails(&mut board, 2, &[0x0f]));
+    assert!(rt; erase_fails(&mut board, 0, None));
+    assert!(rt; say_fails(&mut board, b"ok"));
+    assert!(rt; read_fails(&mut board));
+    assert!(rt; board.image().starts_with(&[0x0f, 0x0f, 0xff]));
+    assert_eq!(rt; board.said(), b"ok".as_slice());
+    Ok(())
+}
+
+#[test]
+fn the_nth_call_of_a_kind_fails_and_no_other(rt: HostRuntime) -> Result<(), Fail> {
+    let mut board = board_of(rt.alloc(), 0xff)?;
+    board.fail_nth(CallKind::Read, 2);
+    board.fail_nth(CallKind::Program, 1);
+    board.fail_nth(CallKind::Program, 2);
+    board.fail_nth(CallKind::Say, 2);
+    assert!(rt; !read_fails(&mut board));
+    assert!(rt; read_fails(&mut board));
+    assert!(rt; !program_fails(&mut board, 0, &[0xf0]));
+    assert!(rt; program_fails(&mut board, 0, &[0x0f]));
+    assert!(rt; !say_fails(&mut board, b"a"));
+    assert!(rt; say_fails(&mut board, b"b"));
+    assert!(rt; !say_fails(&mut board, b"c"));
+    assert!(rt; board.image().starts_with(&[0xf0, 0xff]));
+    assert_eq!(rt; board.said(), b"ac".as_slice());
+    Ok(())
+}
+
+#[test]
+fn a_script_is_taken_in_pieces_to_its_end(rt: HostRuntime) -> Result<(), Fail> {
+    let mut source = MemSource::new(b"mount".to_vec(rt.alloc())?);
+    let mut into = [0u8; 3];
+    assert_eq!(rt; source.read(&mut into), Ok(3));
+    assert_eq!(rt; into.as_slice(), b"mou".as_slice());
+    source.fail_nth(1);
+    assert_eq!(rt; source.read(&mut into), Err(Failed));
+    assert_eq!(rt; source.read(&mut into), Ok(2));
+    assert_eq!(rt; into.as_slice(), b"ntu".as_slice());
+    assert_eq!(rt; source.read(&mut into), Ok(0));
+    Ok(())
+}

@@ -1,0 +1,6 @@
+use Rattle.std.proofs.Common.{arith, lit<}
+use Rattle.page_layout.proofs.Bits.{mask_clears}
+use Rattle.page_layout.proofs.flags.Flags.deleted.Goals as goal
+
+pub returns-clause-clears : goal.returns-clause-clears
+returns-clause-clears c = mask_clears c.args.self.bits 7 (lit< tt) (omega arith)

@@ -1,0 +1,140 @@
+-- Where the fields of SPIFFS pages stand, and what they hold. A page is the list of its bytes.
+use Rattle.std.specs.Prelude.{◌≡◌, ◌≢◌, ◌⊎◌, ℕ, ◌+◌, ◌-◌, ◌*◌, ◌/◌, ◌%◌, ◌^◌, ◌<◌, ◌≤◌, List, ◌∷◌, ◌++◌, length, replicate, take, Bool, not, nat_lt, ◌==◌, ◌&&◌, ◌||◌, Option, Some, None, if◌then◌else◌, position, option_and_then, slice_index, slice_range}
+use Rattle.std.specs.Int.{bit_at}
+use Rattle.geometry.specs.declared.geometry.Geometry.{Geometry}
+use Rattle.geometry.specs.Numbers.{head_slots, span_slots}
+use Rattle.page_layout.specs.declared.flags.Flags.{Flags}
+use Rattle.page_layout.specs.declared.header.PageHeader.{PageHeader}
+
+-- ---- numbers and places
+
+-- a number of two bytes, the lower first (all numbers of SPIFFS are little endian)
+abbrev pub word_at : List ℕ → ℕ → ℕ
+word_at bytes i = slice_index bytes i + 256 * slice_index bytes (i + 1)
+
+-- the same size, and the same bytes outside `count` bytes from `at` on
+pub record SameOutside (at count : ℕ) (old new : List ℕ) : Type 0 where
+  pub size : length new ≡ length old
+  pub before : (k : ℕ) → k < at → slice_index new k ≡ slice_index old k
+  pub after : (k : ℕ) → at + count ≤ k → slice_index new k ≡ slice_index old k
+
+-- `size` bytes from `from` on and `count` bytes from `at` on have no byte in common
+abbrev pub IsApart : ℕ → ℕ → ℕ → ℕ → Type 0
+IsApart at count from size = (at + count ≤ from) ⊎ (from + size ≤ at)
+
+-- ---- the page header (SPIFFS page header: obj_id, span_ix, flags)
+
+-- the object's id, with bit 15 set in index pages (obj_id)
+abbrev pub obj_id : List ℕ → ℕ
+obj_id page = word_at page 0
+
+-- the page's place among the object's index pages or data pages (span_ix)
+abbrev pub span_of : List ℕ → ℕ
+span_of page = word_at page 2
+
+-- bit k of a byte of flags is set
+abbrev pub is_bit_set : ℕ → ℕ → Bool
+is_bit_set bits k = bits / 2 ^ k % 2 == 1
+
+-- bit k of the page's flags is set (flags)
+abbrev pub is_flag_set : List ℕ → ℕ → Bool
+is_flag_set page k = is_bit_set (slice_index page 4) k
+
+-- the byte of flags as a number
+abbrev pub bits_of : Flags → ℕ
+bits_of flags = flags.bits
+
+-- the whole page header
+abbrev pub header_at : List ℕ → PageHeader
+header_at page = record {
+  id = obj_id page;
+  span = span_of page;
+  flags = record { bits = slice_index page 4 };
+}
+
+-- the header is that of an index page by its id (SPIFFS_OBJ_ID_IX_FLAG)
+abbrev pub names_index : PageHeader → Bool
+names_index head = not (nat_lt head.id 0x8000)
+
+-- The header says that its page is live, where the page's entry agrees: the id is that of an object, USED and FINAL are
+-- cleared and DELET is set, INDEX is cleared exactly where bit 15 of the id is set, and IXDELE is set in a header page.
+abbrev pub is_finished : PageHeader → Bool
+is_finished head =
+    not (head.id % 0x8000 == 0) && not (head.id == 0xFFFF)
+    && not (is_bit_set head.flags.bits 0) && not (is_bit_set head.flags.bits 1) && is_bit_set head.flags.bits 7
+    && (if names_index head then not (is_bit_set head.flags.bits 2) && (is_bit_set head.flags.bits 6 || not (head.span == 0)) else is_bit_set head.flags.bits 2)
+
+-- bit k is cleared and each other bit is as it was
+pub record ClearsBit (k old new : ℕ) : Type 0 where
+  pub cleared : bit_at new k ≡ 0
+  pub others : (j : ℕ) → j ≢ k → bit_at new j ≡ bit_at old j
+
+-- ---- the header page: the index page of span 0 (object index header)
+
+-- the four bytes of the size as they stand (size)
+abbrev pub size_field : List ℕ → ℕ
+size_field page = word_at page 8 + 65536 * word_at page 10
+
+-- the size in bytes: the undefined size counts as 0 (size, SPIFFS_UNDEFINED_LEN)
+abbrev pub size_of : List ℕ → ℕ
+size_of page = if size_field page == 0xFFFFFFFF then 0 else size_field page
+
+-- the object's type: 1 is a file (type)
+abbrev pub type_of : List ℕ → ℕ
+type_of page = slice_index page 12
+
+-- the 32 bytes of the name (name)
+abbrev pub name_field : List ℕ → List ℕ
+name_field page = slice_range page 13 45
+
+-- the name: the bytes before the field's first zero, which is there and is not the first byte
+abbrev pub name_of : List ℕ → Option (List ℕ)
+name_of page =
+    option_and_then (λ n. if n == 0 then None else Some (take n (name_field page))) (position (λ b. b == 0) (name_field page))
+
+-- a name with zeros to the end of its field
+abbrev pub padded : List ℕ → List ℕ
+padded name = name ++ replicate (32 - length name) 0
+
+-- the meta bytes, behind the name (meta)
+abbrev pub meta_of : Geometry → List ℕ → List ℕ
+meta_of g page = slice_range page 45 (45 + g.meta)
+
+-- ---- page numbers in index pages
+
+-- the byte at which page number `slot` stands: in the header page behind the meta bytes, in a further index page behind its aligned header
+abbrev pub slot_place : Geometry → ℕ → ℕ → ℕ
+slot_place g span slot = if span == 0 then 45 + g.meta + 2 * slot else 8 + 2 * slot
+
+-- how many page numbers an index page of that span holds
+abbrev pub slots_of : Geometry → ℕ → ℕ
+slots_of g span = if span == 0 then head_slots g else span_slots g
+
+-- page number `slot` of an index page of that span
+abbrev pub page_number : Geometry → List ℕ → ℕ → ℕ → ℕ
+page_number g page span slot = word_at page (slot_place g span slot)
+
+-- ---- lookup pages: one array of slots of two bytes at the start of a block (object lookup)
+
+-- the erase count that its slot tells: 0x8000 and more, as in an erased slot, count as 0
+abbrev pub count_in : ℕ → ℕ
+count_in raw = if nat_lt raw 0x8000 then raw else 0
+
+-- ---- the header page of a new file
+
+-- Its bytes in a page of `size` bytes: index flags of a page that is used and not finished, undefined size, type 1,
+-- the name, and 0xFF in all else, so that it names no data page.
+abbrev pub new_header_page : ℕ → ℕ → List ℕ → List ℕ
+new_header_page size id name =
+    id % 256 ∷ (id / 256 + 128) ∷ 0 ∷ 0 ∷ 0xFA ∷ (replicate 7 0xFF ++ (1 ∷ (padded name ++ replicate (size - 45) 0xFF)))
+
+-- the same by its fields
+pub record IsNewHeader (g : Geometry) (id : ℕ) (name page : List ℕ) : Type 0 where
+  pub obj_id : obj_id page ≡ id + 0x8000
+  pub span : span_of page ≡ 0
+  pub flags : slice_index page 4 ≡ 0xFA
+  pub size_field : size_field page ≡ 0xFFFFFFFF
+  pub kind : type_of page ≡ 1
+  pub named : name_of page ≡ Some name
+  pub meta : meta_of g page ≡ replicate g.meta 0xFF
+  pub slots : (slot : ℕ) → slot < slots_of g 0 → page_number g page 0 slot ≡ 0xFFFF

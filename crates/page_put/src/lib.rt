@@ -1,0 +1,6 @@
+//! Putting pages onto the chip, one program at a time and in the order that survives a power cut.
+#![tactic(auto)]
+
+mod put;
+
+pub use put::{finish, place};
