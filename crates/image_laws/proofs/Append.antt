@@ -13,7 +13,7 @@ use Rattle.image_model.specs.declared.damage.Damage.{Damage}
 use Rattle.image_model.specs.Volume.{page_count}
 use Rattle.table_model.specs.Room.{data_pages}
 use Rattle.geometry.specs.Numbers.{body}
-use Rattle.image_laws.specs.Flash.{SameBut}
+use Rattle.nor_core.specs.Flash.{SameOutside}
 use Rattle.image_model.specs.Within.{Sizes, page_length}
 use Rattle.image_model.specs.Live.{live_at, Live, own}
 use Rattle.image_model.specs.Headers.{is_finished, obj_id, span_of, names_index, size_of, name_of}
@@ -257,7 +257,7 @@ page_size : (g : Geometry) (a : List ℕ) (q : ℕ) (z : List ℕ) → IsImage g
 page_size g a q z is e = let parts = live_parts g a q z e in ap length (sym parts.bytes) ∙ page_length g a q is parts.entry_page
 
 -- a byte of the page in front of the change
-kept_byte : (g : Geometry) (a b : List ℕ) (p at n : ℕ) (x : List ℕ) (m : ℕ) → p * g.page + m ≤ at → at + n ≤ p * g.page + g.page → SameBut at n a b → page_of g a p ≡ x → length x ≡ g.page →
+kept_byte : (g : Geometry) (a b : List ℕ) (p at n : ℕ) (x : List ℕ) (m : ℕ) → p * g.page + m ≤ at → at + n ≤ p * g.page + g.page → SameOutside at n a b → page_of g a p ≡ x → length x ≡ g.page →
     (i : ℕ) → i < m → slice_index (page_of g b p) i ≡ slice_index x i
 kept_byte g a b p at n x m low high same bytes len i small =
     let inside : i < g.page = omega arith in
@@ -270,12 +270,12 @@ appending-keeps g a b p h at asked x head is live no_index there here low high t
     let big : 128 ≤ g.page = geo.page in
     let parts : LivePage g a p x = live_parts g a p x live in
     let entry_page : is_entry_page g p ≡ true = parts.entry_page in
-    let same : SameBut (p * g.page) g.page a b = wider at (length asked) (p * g.page) g.page a b (omega arith) high torn.others in
+    let same : SameOutside (p * g.page) g.page a b = wider at (length asked) (p * g.page) g.page a b (omega arith) high torn.outside in
     let y : List ℕ = page_of g b p in
     let len_x : length x ≡ g.page = ap length (sym parts.bytes) ∙ page_length g a p is entry_page in
-    let len_y : length (page_of g b p) ≡ g.page = page_length g b p (record { len = omega (arith, same.len, is.len) }) entry_page in
+    let len_y : length (page_of g b p) ≡ g.page = page_length g b p (record { len = omega (arith, same.size, is.len) }) entry_page in
     let kept : (i : ℕ) → i < 5 + (size_of head - span_of x * body g) → slice_index (page_of g b p) i ≡ slice_index x i =
-    λ i small. kept_byte g a b p at (length asked) x (5 + (size_of head - span_of x * body g)) (omega arith) high torn.others parts.bytes len_x i small in
+    λ i small. kept_byte g a b p at (length asked) x (5 + (size_of head - span_of x * body g)) (omega arith) high torn.outside parts.bytes len_x i small in
     let header : (i : ℕ) → i < 5 → slice_index (page_of g b p) i ≡ slice_index x i = λ i small. kept i (omega arith) in
     let now : live_at g b p ≡ Some (page_of g b p) =
     live_from g b p (page_of g b p) (record {

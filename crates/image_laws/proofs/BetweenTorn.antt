@@ -1,12 +1,17 @@
--- Between the old byte and what was asked of it, bit by bit.
-use Rattle.std.proofs.Common.{◌≡◌, ℕ, ◌+◌, List, slice_index, sym, ◌∙◌, ap, arith}
+-- What an interrupted program leaves of a byte, bit by bit.
+use Rattle.std.proofs.Common.{◌≡◌, ◌≢◌, ℕ, zero, suc, ◌+◌, ◌<◌, ◌≤◌, List, [], ◌∷◌, length, slice_index, refl, sym, ◌∙◌, ap, arith}
 use Rattle.std.specs.Prelude.{bit_and}
 use Rattle.std.specs.Int.{bit_at}
 use Rattle.std.proofs.lemmas.Nat.Bits.{bit_at_and, bit_at-lt}
-use Rattle.image_laws.specs.Flash.{TornByte, Torn}
-use Rattle.image_laws.specs.Bridge.{IsBetween, HalfProgrammed, HalfIsTorn}
+use Rattle.nor_core.specs.Flash.{IsBetween, HalfProgrammed, SameOutside, programmed}
+use Rattle.image_laws.specs.Flash.{Programmed, FinishedIsProgrammed}
 
-between-torn : (old asked new : ℕ) → IsBetween old asked new → TornByte old asked new
+-- a bit that is set in both is set, and no bit is set that was not
+pub record TornByte (old asked new : ℕ) : Type 0 where
+  pub kept : (k : ℕ) → bit_at old k ≡ 1 → bit_at asked k ≡ 1 → bit_at new k ≡ 1
+  pub no_more : (k : ℕ) → bit_at new k ≡ 1 → bit_at old k ≡ 1
+
+pub between-torn : (old asked new : ℕ) → IsBetween old asked new → TornByte old asked new
 between-torn old asked new h = record {
   kept = λ k x y.
       let both = bit_at_and old asked k in
@@ -19,8 +24,5 @@ between-torn old asked new h = record {
       omega (arith, both, same, x, bit_at-lt old k);
 }
 
-pub half-is_torn : HalfIsTorn
-half-is_torn at asked old new h = record {
-  others = record { len = h.outside.size; before = h.outside.before; behind = h.outside.after };
-  bytes = λ i small. between-torn (slice_index old (at + i)) (slice_index asked i) (slice_index new (at + i)) (h.inside i small);
-}
+pub torn_byte : (at : ℕ) (asked old new : List ℕ) → HalfProgrammed at asked old new → (i : ℕ) → i < length asked → TornByte (slice_index old (at + i)) (slice_index asked i) (slice_index new (at + i))
+torn_byte at asked old new h i small = between-torn _ _ _ (h.inside i small)

@@ -4,7 +4,8 @@ use Rattle.std.specs.Int.{bit_at}
 use Rattle.std.proofs.lemmas.Nat.Bits.{bit_at-lt, same_from_bits}
 use Rattle.std.proofs.lemmas.Bool.{cases_eq, cases_lt}
 use Rattle.std.proofs.lemmas.List.{ext_get_or}
-use Rattle.image_laws.specs.Flash.{TornByte, Torn}
+use Rattle.nor_core.specs.Flash.{HalfProgrammed}
+use Rattle.image_laws.proofs.BetweenTorn.{TornByte, torn_byte}
 use Rattle.image_laws.specs.Programs.{ClearsBit}
 
 pub bit_cases : (n k : ℕ) → (bit_at n k ≡ 1) ⊎ (bit_at n k ≡ 0)
@@ -35,17 +36,17 @@ one_bit k old asked new c h =
     (bit_cases new k)
 
 -- the whole image is as it was, or has the byte that was asked
-pub one_bit_image : (k at asked : ℕ) (old new : List ℕ) → ClearsBit k (slice_index old at) asked → Torn at (asked ∷ []) old new →
+pub one_bit_image : (k at asked : ℕ) (old new : List ℕ) → ClearsBit k (slice_index old at) asked → HalfProgrammed at (asked ∷ []) old new →
     (new ≡ old) ⊎ (slice_index new at ≡ asked)
 one_bit_image k at asked old new c h =
     ⊎_elim
-    (λ (same : slice_index new at ≡ slice_index old at). inl (ext_get_or 0 new old h.others.len (λ i small.
+    (λ (same : slice_index new at ≡ slice_index old at). inl (ext_get_or 0 new old h.outside.size (λ i small.
     ⊎_elim
-    (λ (x : i < at). h.others.before i x)
+    (λ (x : i < at). h.outside.before i x)
     (λ (x : at ≤ i). ⊎_elim
     (λ (here : i ≡ at). rw here same)
-    (λ (there : i ≡ at → ⊥). h.others.behind i (omega (arith, there)))
+    (λ (there : i ≡ at → ⊥). h.outside.after i (omega (arith, there)))
     (cases_eq i at))
     (cases_lt i at))))
     (λ (done : slice_index new at ≡ asked). inr done)
-    (one_bit k (slice_index old at) asked (slice_index new at) c (rw add-zero at (h.bytes 0 (omega arith))))
+    (one_bit k (slice_index old at) asked (slice_index new at) c (rw add-zero at (torn_byte at (asked ∷ []) old new h 0 (omega arith))))

@@ -12,7 +12,10 @@ use Rattle.std.proofs.lemmas.List.{ext_get_or}
 use Rattle.geometry.specs.declared.geometry.Geometry.{Geometry}
 use Rattle.image_model.specs.Within.{sizes}
 use Rattle.image_model.specs.Volume.{page_count}
-use Rattle.image_laws.specs.Flash.{SameBut, Torn, TornByte, Programmed}
+use Rattle.nor_core.specs.Flash.{SameOutside, HalfProgrammed}
+use Rattle.image_laws.proofs.Finished.{torn_from}
+use Rattle.image_laws.proofs.BetweenTorn.{TornByte, torn_byte}
+use Rattle.image_laws.specs.Flash.{Programmed}
 use Rattle.image_model.specs.Live.{live_at}
 use Rattle.image_model.specs.Places.{entry_of, slot_of, page_of, block_of, IsImage, entry_at}
 use Rattle.image_model.specs.Headers.{obj_id}
@@ -29,18 +32,6 @@ use Rattle.image_laws.proofs.Publish.{finishing-publishes, finishing-puts}
 
 pub and_comm_255 : (x : ℕ) → x < 256 → bit_and 255 x ≡ x
 and_comm_255 x small = and_comm 255 x ∙ and_mask x 8 ∙ mod-eq_of_lt small
-
-torn_byte : (old asked : ℕ) → TornByte old asked (bit_and old asked)
-torn_byte old asked = record {
-  kept = λ k a b. bit_at_and old asked k ∙ (omega (arith, a, b));
-  no_more = λ k h. let e = bit_at_and old asked k in omega (arith, bit_at-lt old k);
-}
-
-pub torn_from : (at : ℕ) (asked old new : List ℕ) → Programmed at asked old new → Torn at asked old new
-torn_from at asked old new h = record {
-  others = h.others;
-  bytes = λ i small. subst (λ (x : ℕ). TornByte (slice_index old (at + i)) (slice_index asked i) x) (sym (h.bytes i small)) (torn_byte _ _);
-}
 
 clears_final : ClearsBit 1 0xFA 0xF8
 clears_final = record {
@@ -82,7 +73,7 @@ module _ (g : Geometry) (a0 : List ℕ) (p id : ℕ) (head : List ℕ) (f : File
   pub final_behind : (i : ℕ) → i < length (drop 5 head) → p * g.page + 5 + i ≡ p * g.page + 4 → bit_at (slice_index (drop 5 head) i) 1 ≡ 1
   final_behind i small at = absurd (omega arith)
 
-  pub kept1 : (c : List ℕ) → Torn (entry_at g p) (take 2 head) a0 c → (table_of g c ≡ table_of g a0) × (damaged_of g c ≡ damaged_of g a0) × IsUnfinished g c p
+  pub kept1 : (c : List ℕ) → HalfProgrammed (entry_at g p) (take 2 head) a0 c → (table_of g c ≡ table_of g a0) × (damaged_of g c ≡ damaged_of g a0) × IsUnfinished g c p
   kept1 c h = placing_entry-keeps g a0 c p (take 2 head) is unfinished0 len2 h
 
   pub number : p < page_count g
@@ -91,12 +82,12 @@ module _ (g : Geometry) (a0 : List ℕ) (p id : ℕ) (head : List ℕ) (f : File
   pub room1 : entry_at g p + length (take 2 head) ≤ length a0
   room1 = omega (arith, len2, is.len, entry_fits g p free.entry_page)
 
-  pub cut1 : (c : List ℕ) → Torn (entry_at g p) (take 2 head) a0 c → IsBeforeOrAfter g a0 f c
+  pub cut1 : (c : List ℕ) → HalfProgrammed (entry_at g p) (take 2 head) a0 c → IsBeforeOrAfter g a0 f c
   cut1 c h = inl (kept1 c h).0
 
   module _ (a1 : List ℕ) (one : Programmed (entry_at g p) (take 2 head) a0 a1) where
     pub image1 : IsImage g a1
-    image1 = record { len = omega (arith, one.others.len, is.len) }
+    image1 = record { len = omega (arith, one.outside.size, is.len) }
 
     pub unfinished1 : IsUnfinished g a1 p
     unfinished1 = (kept1 a1 (torn_from _ _ _ _ one)).2
@@ -108,7 +99,7 @@ module _ (g : Geometry) (a0 : List ℕ) (p id : ℕ) (head : List ℕ) (f : File
     erased1 : (i : ℕ) → i < g.page → slice_index a1 (p * g.page + i) ≡ 255
     erased1 i small =
         sym (page_byte g a1 p i small)
-        ∙ ap (λ (x : List ℕ). slice_index x i) (page-same_entry g (sizes g) a0 a1 p free.entry_page (rw len2 at one.others) p free.entry_page)
+        ∙ ap (λ (x : List ℕ). slice_index x i) (page-same_entry g (sizes g) a0 a1 p free.entry_page (rw len2 at one.outside) p free.entry_page)
         ∙ page_byte g a0 p i small ∙ free.erased i small
 
     entry1 : entry_of g a1 p ≡ obj_id head
@@ -123,18 +114,18 @@ module _ (g : Geometry) (a0 : List ℕ) (p id : ℕ) (head : List ℕ) (f : File
         let b0' : slice_index a1 (entry_at g p) ≡ slice_index head 0 = rw add-zero at b0 in
         cc
 
-    pub kept2 : (c : List ℕ) → Torn (p * g.page) (take 5 head) a1 c → (table_of g c ≡ table_of g a1) × (damaged_of g c ≡ damaged_of g a1) × IsUnfinished g c p
+    pub kept2 : (c : List ℕ) → HalfProgrammed (p * g.page) (take 5 head) a1 c → (table_of g c ≡ table_of g a1) × (damaged_of g c ≡ damaged_of g a1) × IsUnfinished g c p
     kept2 c h = placing_page-keeps g a1 c p (p * g.page) (take 5 head) image1 unfinished1 (omega arith) (omega (arith, len5, big)) final_stays h
 
     pub room2 : p * g.page + length (take 5 head) ≤ length a1
     room2 = omega (arith, len5, big, page_fits g a1 p image1 number)
 
-    pub cut2 : (c : List ℕ) → Torn (p * g.page) (take 5 head) a1 c → IsBeforeOrAfter g a0 f c
+    pub cut2 : (c : List ℕ) → HalfProgrammed (p * g.page) (take 5 head) a1 c → IsBeforeOrAfter g a0 f c
     cut2 c h = inl ((kept2 c h).0 ∙ same1)
 
     module _ (a2 : List ℕ) (two : Programmed (p * g.page) (take 5 head) a1 a2) where
       pub image2 : IsImage g a2
-      image2 = record { len = omega (arith, two.others.len, image1.len) }
+      image2 = record { len = omega (arith, two.outside.size, image1.len) }
 
       pub unfinished2 : IsUnfinished g a2 p
       unfinished2 = (kept2 a2 (torn_from _ _ _ _ two)).2
@@ -142,21 +133,21 @@ module _ (g : Geometry) (a0 : List ℕ) (p id : ℕ) (head : List ℕ) (f : File
       pub same2 : table_of g a2 ≡ table_of g a0
       same2 = (kept2 a2 (torn_from _ _ _ _ two)).0 ∙ same1
 
-      pub page_wide2 : SameBut (p * g.page) g.page a1 a2
-      page_wide2 = wider (p * g.page) (length (take 5 head)) (p * g.page) g.page a1 a2 (omega arith) (omega (arith, len5, big)) two.others
+      pub page_wide2 : SameOutside (p * g.page) g.page a1 a2
+      page_wide2 = wider (p * g.page) (length (take 5 head)) (p * g.page) g.page a1 a2 (omega arith) (omega (arith, len5, big)) two.outside
 
-      pub kept3 : (c : List ℕ) → Torn (p * g.page + 5) (drop 5 head) a2 c → (table_of g c ≡ table_of g a2) × (damaged_of g c ≡ damaged_of g a2) × IsUnfinished g c p
+      pub kept3 : (c : List ℕ) → HalfProgrammed (p * g.page + 5) (drop 5 head) a2 c → (table_of g c ≡ table_of g a2) × (damaged_of g c ≡ damaged_of g a2) × IsUnfinished g c p
       kept3 c h = placing_page-keeps g a2 c p (p * g.page + 5) (drop 5 head) image2 unfinished2 (omega arith) (omega (arith, rest, big)) final_behind h
 
       pub room3 : p * g.page + 5 + length (drop 5 head) ≤ length a2
       room3 = omega (arith, rest, big, page_fits g a2 p image2 number)
 
-      pub cut3 : (c : List ℕ) → Torn (p * g.page + 5) (drop 5 head) a2 c → IsBeforeOrAfter g a0 f c
+      pub cut3 : (c : List ℕ) → HalfProgrammed (p * g.page + 5) (drop 5 head) a2 c → IsBeforeOrAfter g a0 f c
       cut3 c h = inl ((kept3 c h).0 ∙ same2)
 
       module _ (a3 : List ℕ) (three : Programmed (p * g.page + 5) (drop 5 head) a2 a3) where
         pub image3 : IsImage g a3
-        image3 = record { len = omega (arith, three.others.len, image2.len) }
+        image3 = record { len = omega (arith, three.outside.size, image2.len) }
 
         pub same3 : table_of g a3 ≡ table_of g a0
         same3 = (kept3 a3 (torn_from _ _ _ _ three)).0 ∙ same2
@@ -175,27 +166,27 @@ module _ (g : Geometry) (a0 : List ℕ) (p id : ℕ) (head : List ℕ) (f : File
             (λ (low : i < 5).
             let asked : slice_index (take 5 head) i ≡ slice_index head i = get_or-take 5 head i 0 low in
             let now : slice_index a2 (p * g.page + i) ≡ bit_and (slice_index a1 (p * g.page + i)) (slice_index (take 5 head) i) = two.bytes i (omega (arith, len5)) in
-            three.others.before (p * g.page + i) (omega arith) ∙ now ∙ rw (erased1 i small, asked) (and_comm_255 (slice_index head i) (ready.bytes i small)))
+            three.outside.before (p * g.page + i) (omega arith) ∙ now ∙ rw (erased1 i small, asked) (and_comm_255 (slice_index head i) (ready.bytes i small)))
             (λ (high : 5 ≤ i).
             let at : p * g.page + 5 + (i - 5) ≡ p * g.page + i = omega arith in
             let place : 5 + (i - 5) ≡ i = omega arith in
             let asked : slice_index (drop 5 head) (i - 5) ≡ slice_index head i = get_or-drop 5 head (i - 5) 0 ∙ ap (λ (k : ℕ). slice_index head k) place in
             let now : slice_index a3 (p * g.page + 5 + (i - 5)) ≡ bit_and (slice_index a2 (p * g.page + 5 + (i - 5))) (slice_index (drop 5 head) (i - 5)) = three.bytes (i - 5) (omega (arith, rest)) in
-            let blank : slice_index a2 (p * g.page + i) ≡ 255 = two.others.behind (p * g.page + i) (omega (arith, len5)) ∙ erased1 i small in
+            let blank : slice_index a2 (p * g.page + i) ≡ 255 = two.outside.after (p * g.page + i) (omega (arith, len5)) ∙ erased1 i small in
             (rw at at now) ∙ rw (blank, asked) (and_comm_255 (slice_index head i) (ready.bytes i small)))
             (cases_lt i 5)
 
         pub page3 : page_of g a3 p ≡ head
         page3 = ext_get_or 0 _ _ (page_length g a3 p image3 free.entry_page ∙ sym ready.len) (λ i small. let inside : i < g.page = omega (arith, page_length g a3 p image3 free.entry_page) in page_byte g a3 p i inside ∙ byte3 i inside)
 
-        pub page_wide3 : SameBut (p * g.page) g.page a2 a3
-        page_wide3 = wider (p * g.page + 5) (length (drop 5 head)) (p * g.page) g.page a2 a3 (omega arith) (omega (arith, rest, big)) three.others
+        pub page_wide3 : SameOutside (p * g.page) g.page a2 a3
+        page_wide3 = wider (p * g.page + 5) (length (drop 5 head)) (p * g.page) g.page a2 a3 (omega arith) (omega (arith, rest, big)) three.outside
 
         pub placed3 : IsPlaced g a3 p 0xF8
         placed3 = record {
           entry_page = free.entry_page;
           magic = magic-same_page g (sizes g) a2 a3 p free.entry_page page_wide3 (block_of g p) ∙ magic-same_page g (sizes g) a1 a2 p free.entry_page page_wide2 (block_of g p)
-              ∙ magic-same_entry g (sizes g) a0 a1 p free.entry_page (rw len2 at one.others) (block_of g p) ∙ free.magic;
+              ∙ magic-same_entry g (sizes g) a0 a1 p free.entry_page (rw len2 at one.outside) (block_of g p) ∙ free.magic;
           entry = entry-same_page g (sizes g) a2 a3 p free.entry_page page_wide3 p ∙ entry-same_page g (sizes g) a1 a2 p free.entry_page page_wide2 p ∙ entry1 ∙ ap obj_id (sym page3);
           clears = subst (λ (x : ℕ). ClearsBit 1 x 0xF8) (sym (byte3 4 (omega (arith, big)) ∙ ready.flags)) clears_final;
           finished = rw page3 ready.finished;
@@ -217,7 +208,7 @@ module _ (g : Geometry) (a0 : List ℕ) (p id : ℕ) (head : List ℕ) (f : File
         pub room4 : p * g.page + 4 + 1 ≤ length a3
         room4 = omega (arith, big, page_fits g a3 p image3 number)
 
-        pub cut4 : (c : List ℕ) → Torn (p * g.page + 4) (0xF8 ∷ []) a3 c → IsBeforeOrAfter g a0 f c
+        pub cut4 : (c : List ℕ) → HalfProgrammed (p * g.page + 4) (0xF8 ∷ []) a3 c → IsBeforeOrAfter g a0 f c
         cut4 c h =
             ⊎_elim
             (λ (before : table_of g c ≡ table_of g a3). inl (before ∙ same3))

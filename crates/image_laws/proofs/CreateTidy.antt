@@ -3,7 +3,8 @@ use Rattle.std.proofs.Common.{◌≡◌, ℕ, ◌+◌, ◌-◌, ◌*◌, ◌≤�
 use Rattle.std.specs.Prelude.{bit_and}
 use Rattle.std.proofs.lemmas.Bool.{eq-eqb, eqb-true}
 use Rattle.geometry.specs.declared.geometry.Geometry.{Geometry}
-use Rattle.image_laws.specs.Flash.{Torn, Programmed}
+use Rattle.nor_core.specs.Flash.{HalfProgrammed}
+use Rattle.image_laws.specs.Flash.{Programmed}
 use Rattle.image_model.specs.Within.{sizes}
 use Rattle.image_model.specs.Live.{live_at}
 use Rattle.image_model.specs.Places.{page_of, IsImage, entry_at}
@@ -15,16 +16,16 @@ use Rattle.image_laws.specs.TidySteps.{Agree, IsTidyBut}
 use Rattle.image_laws.specs.Creating.{Creates, Placed, CreateTidies, CreateIsSound}
 use Rattle.image_laws.proofs.Placing.{wider}
 use Rattle.image_laws.proofs.CreateStep as step
-use Rattle.image_laws.proofs.CreateStep.{torn_from}
+use Rattle.image_laws.proofs.Finished.{torn_from}
 use Rattle.image_laws.proofs.Sounding.{placing_entry-sound, placing_page-sound, finishing-sound, keeps-on, sound-on}
 use Rattle.image_laws.proofs.TidySteps.{agree_page, agree_entry, agree-on, tidy-is_tidy, placing_entry-tidy, placing_page-tidy, finishing-tidies, wide_flags}
 use Rattle.image_laws.proofs.FreeBlocks.{free_blocks-fall}
 
 module _ (g : Geometry) (a0 : List ℕ) (p id : ℕ) (head : List ℕ) (f : File) (start : Creates g a0 p id head f) where
-  entry1 : (c : List ℕ) → Torn (entry_at g p) (take 2 head) a0 c → Agree g a0 c p
-  entry1 c h = agree_entry g a0 c p (sizes g) start.free.entry_page (rw (step.len2 g a0 p id head f start.image start.free start.ready) at h.others)
+  entry1 : (c : List ℕ) → HalfProgrammed (entry_at g p) (take 2 head) a0 c → Agree g a0 c p
+  entry1 c h = agree_entry g a0 c p (sizes g) start.free.entry_page (rw (step.len2 g a0 p id head f start.image start.free start.ready) at h.outside)
 
-  keep1 : HasMagics g a0 → (c : List ℕ) → Torn (entry_at g p) (take 2 head) a0 c → Keeps g a0 c
+  keep1 : HasMagics g a0 → (c : List ℕ) → HalfProgrammed (entry_at g p) (take 2 head) a0 c → Keeps g a0 c
   keep1 m c h = placing_entry-sound g a0 c p (take 2 head) start.image m (step.unfinished0 g a0 p id head f start.image start.free start.ready) (step.len2 g a0 p id head f start.image start.free start.ready) h
 
   module _ (a1 a2 a3 : List ℕ) (all : Placed g p head a0 a1 a2 a3) where
@@ -49,22 +50,22 @@ module _ (g : Geometry) (a0 : List ℕ) (p id : ℕ) (head : List ℕ) (f : File
     agree1 : Agree g a0 a1 p
     agree1 = entry1 a1 (torn_from _ _ _ _ all.one)
 
-    agree2 : (c : List ℕ) → Torn (p * g.page) (take 5 head) a1 c → Agree g a0 c p
-    agree2 c h = agree-on g a0 a1 c p agree1 (agree_page g a1 c p (sizes g) start.free.entry_page (wider (p * g.page) (length (take 5 head)) (p * g.page) g.page a1 c (omega arith) (omega (arith, five, big)) h.others))
+    agree2 : (c : List ℕ) → HalfProgrammed (p * g.page) (take 5 head) a1 c → Agree g a0 c p
+    agree2 c h = agree-on g a0 a1 c p agree1 (agree_page g a1 c p (sizes g) start.free.entry_page (wider (p * g.page) (length (take 5 head)) (p * g.page) g.page a1 c (omega arith) (omega (arith, five, big)) h.outside))
 
-    agree3 : (c : List ℕ) → Torn (p * g.page + 5) (drop 5 head) a2 c → Agree g a0 c p
-    agree3 c h = agree-on g a0 a2 c p (agree2 a2 (torn_from _ _ _ _ all.two)) (agree_page g a2 c p (sizes g) start.free.entry_page (wider (p * g.page + 5) (length (drop 5 head)) (p * g.page) g.page a2 c (omega arith) (omega (arith, back, big)) h.others))
+    agree3 : (c : List ℕ) → HalfProgrammed (p * g.page + 5) (drop 5 head) a2 c → Agree g a0 c p
+    agree3 c h = agree-on g a0 a2 c p (agree2 a2 (torn_from _ _ _ _ all.two)) (agree_page g a2 c p (sizes g) start.free.entry_page (wider (p * g.page + 5) (length (drop 5 head)) (p * g.page) g.page a2 c (omega arith) (omega (arith, back, big)) h.outside))
 
-    agree4 : (c : List ℕ) → Torn (p * g.page + 4) (0xF8 ∷ []) a3 c → Agree g a0 c p
+    agree4 : (c : List ℕ) → HalfProgrammed (p * g.page + 4) (0xF8 ∷ []) a3 c → Agree g a0 c p
     agree4 c h = agree-on g a0 a3 c p (agree3 a3 (torn_from _ _ _ _ all.three)) (agree_page g a3 c p (sizes g) start.free.entry_page (wide_flags g a3 c p 0xF8 image3 h))
 
-    keep2 : HasMagics g a0 → (c : List ℕ) → Torn (p * g.page) (take 5 head) a1 c → Keeps g a0 c
+    keep2 : HasMagics g a0 → (c : List ℕ) → HalfProgrammed (p * g.page) (take 5 head) a1 c → Keeps g a0 c
     keep2 m c h =
         let k = keep1 m a1 (torn_from _ _ _ _ all.one) in
         keeps-on g a0 a1 c k (placing_page-sound g a1 c p (p * g.page) (take 5 head) image1 k.sound.magics (step.unfinished1 g a0 p id head f start.image start.free start.ready a1 all.one)
         (omega arith) (omega (arith, five, big)) (step.final_stays g a0 p id head f start.image start.free start.ready) h)
 
-    keep3 : HasMagics g a0 → (c : List ℕ) → Torn (p * g.page + 5) (drop 5 head) a2 c → Keeps g a0 c
+    keep3 : HasMagics g a0 → (c : List ℕ) → HalfProgrammed (p * g.page + 5) (drop 5 head) a2 c → Keeps g a0 c
     keep3 m c h =
         let k = keep2 m a2 (torn_from _ _ _ _ all.two) in
         keeps-on g a0 a2 c k (placing_page-sound g a2 c p (p * g.page + 5) (drop 5 head) image2 k.sound.magics (step.unfinished2 g a0 p id head f start.image start.free start.ready a1 all.one a2 all.two)
@@ -73,7 +74,7 @@ module _ (g : Geometry) (a0 : List ℕ) (p id : ℕ) (head : List ℕ) (f : File
     kind3 : IsOfKind g (live_at g a3) p (set (page_of g a3 p) 4 0xF8)
     kind3 = rw (step.page3 g a0 p id head f start.image start.free start.ready a1 all.one a2 all.two a3 all.three, step.live3 g a0 p id head f start.image start.free start.ready a1 all.one a2 all.two a3 all.three) start.kind
 
-    sound4 : HasMagics g a0 → (c : List ℕ) → Torn (p * g.page + 4) (0xF8 ∷ []) a3 c → IsSound g c a0
+    sound4 : HasMagics g a0 → (c : List ℕ) → HalfProgrammed (p * g.page + 4) (0xF8 ∷ []) a3 c → IsSound g c a0
     sound4 m c h =
         let k = keep3 m a3 (torn_from _ _ _ _ all.three) in
         sound-on g a0 a3 c k.sound (finishing-sound g a3 c p 0xF8 id f image3 k.sound.magics (step.placed3 g a0 p id head f start.image start.free start.ready a1 all.one a2 all.two a3 all.three)
@@ -111,24 +112,24 @@ create-tidies g a0 a1 a2 a3 a4 p id head f start all four t = (
 pub create-sound : (g : Geometry) → CreateIsSound g
 create-sound g a0 a1 a2 a3 c p id head f start m all h =
     ⊎_elim
-    (λ (x : Torn (entry_at g p) (take 2 head) a0 c). record {
+    (λ (x : HalfProgrammed (entry_at g p) (take 2 head) a0 c). record {
       table = step.cut1 g a0 p id head f start.image start.free start.ready c x;
       sound = (keep1 g a0 p id head f start m c x).sound;
       free = fall g a0 p id head f start c (entry1 g a0 p id head f start c x);
     })
-    (λ (y : Torn (p * g.page) (take 5 head) a1 c ⊎ (Torn (p * g.page + 5) (drop 5 head) a2 c ⊎ Torn (p * g.page + 4) (0xF8 ∷ []) a3 c)). ⊎_elim
-    (λ (x : Torn (p * g.page) (take 5 head) a1 c). record {
+    (λ (y : HalfProgrammed (p * g.page) (take 5 head) a1 c ⊎ (HalfProgrammed (p * g.page + 5) (drop 5 head) a2 c ⊎ HalfProgrammed (p * g.page + 4) (0xF8 ∷ []) a3 c)). ⊎_elim
+    (λ (x : HalfProgrammed (p * g.page) (take 5 head) a1 c). record {
       table = step.cut2 g a0 p id head f start.image start.free start.ready a1 all.one c x;
       sound = (keep2 g a0 p id head f start a1 a2 a3 all m c x).sound;
       free = fall g a0 p id head f start c (agree2 g a0 p id head f start a1 a2 a3 all c x);
     })
-    (λ (z : Torn (p * g.page + 5) (drop 5 head) a2 c ⊎ Torn (p * g.page + 4) (0xF8 ∷ []) a3 c). ⊎_elim
-    (λ (x : Torn (p * g.page + 5) (drop 5 head) a2 c). record {
+    (λ (z : HalfProgrammed (p * g.page + 5) (drop 5 head) a2 c ⊎ HalfProgrammed (p * g.page + 4) (0xF8 ∷ []) a3 c). ⊎_elim
+    (λ (x : HalfProgrammed (p * g.page + 5) (drop 5 head) a2 c). record {
       table = step.cut3 g a0 p id head f start.image start.free start.ready a1 all.one a2 all.two c x;
       sound = (keep3 g a0 p id head f start a1 a2 a3 all m c x).sound;
       free = fall g a0 p id head f start c (agree3 g a0 p id head f start a1 a2 a3 all c x);
     })
-    (λ (x : Torn (p * g.page + 4) (0xF8 ∷ []) a3 c). record {
+    (λ (x : HalfProgrammed (p * g.page + 4) (0xF8 ∷ []) a3 c). record {
       table = step.cut4 g a0 p id head f start.image start.free start.ready a1 all.one a2 all.two a3 all.three c x;
       sound = sound4 g a0 p id head f start a1 a2 a3 all m c x;
       free = fall g a0 p id head f start c (agree4 g a0 p id head f start a1 a2 a3 all c x);

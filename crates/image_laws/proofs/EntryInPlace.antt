@@ -10,7 +10,7 @@ use Rattle.std.proofs.lemmas.Option.{none-some, same_Some}
 use Rattle.geometry.specs.declared.geometry.Geometry.{Geometry}
 use Rattle.image_model.specs.Within.{sizes}
 use Rattle.image_model.specs.declared.damage.Damage.{Damage}
-use Rattle.image_laws.specs.Flash.{SameBut, Torn}
+use Rattle.nor_core.specs.Flash.{SameOutside, HalfProgrammed}
 use Rattle.image_model.specs.Within.{Sizes, page_length, page_number}
 use Rattle.image_model.specs.Volume.{page_count}
 use Rattle.geometry.specs.Numbers.{head_slots, span_slots}
@@ -145,7 +145,7 @@ slot-head g t e =
 
 module _ (g : Geometry) (a b : List ℕ) (p h t id : ℕ) (x head : List ℕ) (is : IsImage g a) (m : HasMagics g a) (mine : own (live_at g a) id p ≡ Some x) (index : names_index x ≡ true)
     (at : index_page g (own (live_at g a) id) 0 ≡ Some h) (header : own (live_at g a) id h ≡ Some head) (past : data_pages g (size_of head) ≤ t) (here : index_span g t ≡ span_of x)
-    (same : SameBut (p * g.page + slot_at g t) 2 a b) where
+    (same : SameOutside (p * g.page + slot_at g t) 2 a b) where
   geo : Sizes g
   geo = (sizes g)
 
@@ -158,19 +158,19 @@ module _ (g : Geometry) (a b : List ℕ) (p h t id : ℕ) (x head : List ℕ) (i
   parts : LivePage g a p x
   parts = live_parts g a p x was.0
 
-  wide : SameBut (p * g.page) g.page a b
+  wide : SameOutside (p * g.page) g.page a b
   wide = wider (p * g.page + slot_at g t) 2 (p * g.page) g.page a b (omega arith) (omega (arith, slot-fits g t big)) same
 
   len_x : length x ≡ g.page
   len_x = ap length (sym parts.bytes) ∙ page_length g a p is parts.entry_page
 
   len_y : length (page_of g b p) ≡ g.page
-  len_y = page_length g b p (record { len = omega (arith, same.len, is.len) }) parts.entry_page
+  len_y = page_length g b p (record { len = omega (arith, same.size, is.len) }) parts.entry_page
 
   kept : (i : ℕ) → i < g.page → (i < slot_at g t) ⊎ (slot_at g t + 2 ≤ i) → slice_index (page_of g b p) i ≡ slice_index x i
   kept i small out =
       page_byte g b p i small
-      ∙ ⊎_elim (λ (low : i < slot_at g t). same.before (p * g.page + i) (omega arith)) (λ (high : slot_at g t + 2 ≤ i). same.behind (p * g.page + i) (omega arith)) out
+      ∙ ⊎_elim (λ (low : i < slot_at g t). same.before (p * g.page + i) (omega arith)) (λ (high : slot_at g t + 2 ≤ i). same.after (p * g.page + i) (omega arith)) out
       ∙ sym (page_byte g a p i small) ∙ ap (λ (z : List ℕ). slice_index z i) parts.bytes
 
   front : (i : ℕ) → i < 5 → slice_index (page_of g b p) i ≡ slice_index x i
@@ -256,4 +256,4 @@ module _ (g : Geometry) (a b : List ℕ) (p h t id : ℕ) (x head : List ℕ) (i
 
 pub entry-in_place : (g : Geometry) → EntryInPlaceKeeps g
 entry-in_place g a b p h t id asked x head is m mine index at header past here two torn =
-    keeps g a b p h t id x head is m mine index at header past here (subst (λ (n : ℕ). SameBut (p * g.page + slot_at g t) n a b) two torn.others)
+    keeps g a b p h t id x head is m mine index at header past here (subst (λ (n : ℕ). SameOutside (p * g.page + slot_at g t) n a b) two torn.outside)

@@ -6,7 +6,7 @@ use Rattle.geometry.specs.declared.geometry.Geometry.{Geometry}
 use Rattle.image_model.specs.Within.{sizes}
 use Rattle.image_model.specs.Volume.{per_block, lookups, slots}
 use Rattle.geometry.specs.Numbers.{right_magic}
-use Rattle.image_laws.specs.Flash.{SameBut}
+use Rattle.nor_core.specs.Flash.{SameOutside}
 use Rattle.image_model.specs.Within.{Sizes}
 use Rattle.image_model.specs.Live.{live_at, is_live}
 use Rattle.image_model.specs.Places.{has_magic, entry_of, page_of, slot_of, block_of, place_of, is_entry_page}
@@ -28,7 +28,7 @@ place_at g geo p =
     let block : (p / per_block g) * g.block ≡ (p / per_block g) * (per_block g * g.page) = ap (λ (x : ℕ). (p / per_block g) * x) geo.block in
     omega arith
 
-module _ (g : Geometry) (geo : Sizes g) (a b : List ℕ) (c : ℕ) (same : SameBut (c * g.block) g.block a b) where
+module _ (g : Geometry) (geo : Sizes g) (a b : List ℕ) (c : ℕ) (same : SameOutside (c * g.block) g.block a b) where
   -- a byte of another block
   byte-other : (d i : ℕ) → d ≢ c → i < g.block → slice_index b (d * g.block + i) ≡ slice_index a (d * g.block + i)
   byte-other d i differ small =
@@ -37,7 +37,7 @@ module _ (g : Geometry) (geo : Sizes g) (a b : List ℕ) (c : ℕ) (same : SameB
       (λ (high : c ≤ d).
       let more : c + 1 ≤ d = omega (arith, differ) in
       let step : (c + 1) * g.block ≤ d * g.block = mul-le-mul_right g.block more in
-      same.behind (d * g.block + i) (omega arith))
+      same.after (d * g.block + i) (omega arith))
       (cases_lt d c)
 
   pub slot-other : (d s : ℕ) → d ≢ c → s < slots g → slot_of g b d s ≡ slot_of g a d s
@@ -57,7 +57,7 @@ module _ (g : Geometry) (geo : Sizes g) (a b : List ℕ) (c : ℕ) (same : SameB
       let place : p % per_block g + 1 ≤ per_block g = omega arith in
       let row : (p % per_block g + 1) * g.page ≤ per_block g * g.page = mul-le-mul_right g.page place in
       let at : p * g.page ≡ (p / per_block g) * g.block + (p % per_block g) * g.page = place_at g geo p in
-      range-same a b (p * g.page) g.page same.len
+      range-same a b (p * g.page) g.page same.size
       (λ i from to.
       let j : i ≡ (p / per_block g) * g.block + (i - (p / per_block g) * g.block) = omega arith in
       let byte = byte-other (p / per_block g) (i - (p / per_block g) * g.block) differ (omega (arith, geo.block)) in

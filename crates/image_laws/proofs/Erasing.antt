@@ -5,18 +5,18 @@ use Rattle.geometry.specs.declared.geometry.Geometry.{Geometry}
 use Rattle.image_model.specs.Within.{sizes}
 use Rattle.image_model.specs.Volume.{slots}
 use Rattle.geometry.specs.Numbers.{right_magic}
-use Rattle.image_laws.specs.Flash.{SameBut}
+use Rattle.nor_core.specs.Flash.{SameOutside}
 use Rattle.image_model.specs.Live.{live_at}
 use Rattle.image_model.specs.Places.{has_magic, block_of, IsImage}
 use Rattle.image_laws.specs.SoundSteps.{ErasingIsSound}
 use Rattle.image_laws.proofs.Erase.{slot-other, live-other, block-keeps}
 use Rattle.image_laws.proofs.Sounding.{mixed-from}
 
-magic-other : (g : Geometry) (a b : List ℕ) (c : ℕ) → IsImage g a → SameBut (c * g.block) g.block a b → (d : ℕ) → d ≢ c → has_magic g b d ≡ has_magic g a d
+magic-other : (g : Geometry) (a b : List ℕ) (c : ℕ) → IsImage g a → SameOutside (c * g.block) g.block a b → (d : ℕ) → d ≢ c → has_magic g b d ≡ has_magic g a d
 unfolding has_magic
 magic-other g a b c is same d differ = ap (λ (w : ℕ). w == right_magic g d) (slot-other g (sizes g) a b c same d (slots g - 2) differ (omega (arith, (sizes g).slots_fit)))
 
-at-c : (g : Geometry) (a b : List ℕ) (c : ℕ) → IsImage g a → ((d : ℕ) → d < g.blocks → d ≢ c → has_magic g a d ≡ true) → SameBut (c * g.block) g.block a b → (d : ℕ) → d < g.blocks → has_magic g b d ≡ false → d ≡ c
+at-c : (g : Geometry) (a b : List ℕ) (c : ℕ) → IsImage g a → ((d : ℕ) → d < g.blocks → d ≢ c → has_magic g a d ≡ true) → SameOutside (c * g.block) g.block a b → (d : ℕ) → d < g.blocks → has_magic g b d ≡ false → d ≡ c
 at-c g a b c is others same d low lacks =
     ⊎_elim
     (λ (here : d ≡ c). here)

@@ -5,7 +5,7 @@ use Rattle.std.proofs.lemmas.List.{ext_get_or}
 use Rattle.std.proofs.Math.Path.{fun_ext}
 use Rattle.geometry.specs.declared.geometry.Geometry.{Geometry}
 use Rattle.image_model.specs.Volume.{lookups, per_block, slots, entries}
-use Rattle.image_laws.specs.Flash.{SameBut}
+use Rattle.nor_core.specs.Flash.{SameOutside}
 use Rattle.image_model.specs.Within.{Sizes}
 use Rattle.image_laws.proofs.Places.{pages_apart, lookups_apart, blocks_disjoint, same_page}
 use Rattle.std.proofs.Math.Nat.{mul-le-mul_right}
@@ -109,47 +109,47 @@ entry_slot-small g geo p = let fits : lookups g < per_block g = geo.lookups_fit 
 
 module _ (g : Geometry) (geo : Sizes g) (a b : List ℕ) (p : ℕ) (entry_page : is_entry_page g p ≡ true) where
   -- a byte of the lookup pages of block c
-  byte-same_page : SameBut (p * g.page) g.page a b → (c j : ℕ) → j < lookups g * g.page → slice_index b (c * g.block + j) ≡ slice_index a (c * g.block + j)
+  byte-same_page : SameOutside (p * g.page) g.page a b → (c j : ℕ) → j < lookups g * g.page → slice_index b (c * g.block + j) ≡ slice_index a (c * g.block + j)
   byte-same_page h c j small =
       let behind : lookups g ≤ place_of g p = entry_place-at g p entry_page in
       let block : c * g.block ≡ c * (per_block g * g.page) = ap (λ (x : ℕ). c * x) geo.block in
       let fits : lookups g < per_block g = geo.lookups_fit in
       ⊎_elim
       (λ (x : c * (per_block g * g.page) + j < p * g.page). h.before (c * g.block + j) (omega arith))
-      (λ (x : p * g.page + g.page ≤ c * (per_block g * g.page) + j). h.behind (c * g.block + j) (omega arith))
+      (λ (x : p * g.page + g.page ≤ c * (per_block g * g.page) + j). h.after (c * g.block + j) (omega arith))
       (lookups_apart (per_block g) (lookups g) g.page c p j (omega arith) (omega arith) behind small)
 
   -- in the lookup pages, and not in page p
-  slot-same_page : SameBut (p * g.page) g.page a b → (c s : ℕ) → s < slots g → slot_of g b c s ≡ slot_of g a c s
+  slot-same_page : SameOutside (p * g.page) g.page a b → (c s : ℕ) → s < slots g → slot_of g b c s ≡ slot_of g a c s
   unfolding slot_of
   slot-same_page h c s small =
       word_at-same a b (c * g.block + 2 * s) (byte-same_page h c (2 * s) (omega arith))
       (let next : slice_index b (c * g.block + (2 * s + 1)) ≡ slice_index a (c * g.block + (2 * s + 1)) = byte-same_page h c (2 * s + 1) (omega arith) in
       rw (add_assoc) next)
 
-  pub magic-same_page : SameBut (p * g.page) g.page a b → (c : ℕ) → has_magic g b c ≡ has_magic g a c
+  pub magic-same_page : SameOutside (p * g.page) g.page a b → (c : ℕ) → has_magic g b c ≡ has_magic g a c
   unfolding has_magic
   magic-same_page h c = let slot = slot-same_page h c (slots g - 2) (omega (arith, geo.slots_fit)) in cc
 
-  pub entry-same_page : SameBut (p * g.page) g.page a b → (q : ℕ) → entry_of g b q ≡ entry_of g a q
+  pub entry-same_page : SameOutside (p * g.page) g.page a b → (q : ℕ) → entry_of g b q ≡ entry_of g a q
   unfolding entry_of
   entry-same_page h q = slot-same_page h (block_of g q) (place_of g q - lookups g) (omega (arith, geo.slots_fit, entry_slot-small g geo q))
 
-  pub other-same_page : SameBut (p * g.page) g.page a b → (q : ℕ) → (q ≡ p → ⊥) → page_of g b q ≡ page_of g a q
+  pub other-same_page : SameOutside (p * g.page) g.page a b → (q : ℕ) → (q ≡ p → ⊥) → page_of g b q ≡ page_of g a q
   unfolding page_of
   other-same_page h q differ =
-      range-same a b (q * g.page) g.page h.len
+      range-same a b (q * g.page) g.page h.size
       (λ i from to. ⊎_elim
       (λ (x : q < p). h.before i (omega (arith, pages_apart g.page q p x)))
-      (λ (x : p ≤ q). let more : p < q = omega (arith, differ) in h.behind i (omega (arith, pages_apart g.page p q more)))
+      (λ (x : p ≤ q). let more : p < q = omega (arith, differ) in h.after i (omega (arith, pages_apart g.page p q more)))
       (cases_lt q p))
 
   -- a change inside an entry page leaves every other page as live as before
-  pub live-page_other : SameBut (p * g.page) g.page a b → (q : ℕ) → (q ≡ p → ⊥) → live_at g b q ≡ live_at g a q
+  pub live-page_other : SameOutside (p * g.page) g.page a b → (q : ℕ) → (q ≡ p → ⊥) → live_at g b q ≡ live_at g a q
   live-page_other h q there = live_at-kept g a b q (λ (page : is_entry_page g q ≡ true). (magic-same_page h (block_of g q), entry-same_page h q, other-same_page h q there))
 
   -- a change inside an entry page that is unfinished before and after leaves the live pages
-  pub live-page_changed : SameBut (p * g.page) g.page a b → is_finished (page_of g a p) ≡ false → is_finished (page_of g b p) ≡ false →
+  pub live-page_changed : SameOutside (p * g.page) g.page a b → is_finished (page_of g a p) ≡ false → is_finished (page_of g b p) ≡ false →
       (q : ℕ) → live_at g b q ≡ live_at g a q
   live-page_changed h before after q =
       ⊎_elim
@@ -158,7 +158,7 @@ module _ (g : Geometry) (geo : Sizes g) (a b : List ℕ) (p : ℕ) (entry_page :
       (cases_eq q p)
 
   -- in a lookup page, outside of the entry of p
-  byte-same_entry : SameBut (block_of g p * g.block + 2 * (place_of g p - lookups g)) 2 a b → (c s j : ℕ) → s < slots g → j < 2 →
+  byte-same_entry : SameOutside (block_of g p * g.block + 2 * (place_of g p - lookups g)) 2 a b → (c s j : ℕ) → s < slots g → j < 2 →
       (c ≡ block_of g p → s ≡ place_of g p - lookups g → ⊥) → slice_index b (c * g.block + (2 * s + j)) ≡ slice_index a (c * g.block + (2 * s + j))
   byte-same_entry h c s j small low other =
       let size : 2 * slots g ≤ lookups g * g.page = omega arith in
@@ -173,16 +173,16 @@ module _ (g : Geometry) (geo : Sizes g) (a b : List ℕ) (p : ℕ) (entry_page :
       let at : c * g.block ≡ block_of g p * g.block = ap (λ (x : ℕ). x * g.block) same in
       ⊎_elim
       (λ (x : s < place_of g p - lookups g). h.before (c * g.block + (2 * s + j)) (omega arith))
-      (λ (x : place_of g p - lookups g ≤ s). h.behind (c * g.block + (2 * s + j)) (omega (arith, apart)))
+      (λ (x : place_of g p - lookups g ≤ s). h.after (c * g.block + (2 * s + j)) (omega (arith, apart)))
       (cases_lt s (place_of g p - lookups g)))
       (λ (differ : c ≡ block_of g p → ⊥).
       ⊎_elim
       (λ (x : c < block_of g p). h.before (c * g.block + (2 * s + j)) (omega (arith, blocks_disjoint g.block c (block_of g p) (2 * s + j) 0 x (omega arith))))
-      (λ (x : block_of g p ≤ c). h.behind (c * g.block + (2 * s + j)) (let more : block_of g p < c = omega (arith, differ) in omega (arith, blocks_disjoint g.block (block_of g p) c (2 * (place_of g p - lookups g) + 1) 0 more (omega arith))))
+      (λ (x : block_of g p ≤ c). h.after (c * g.block + (2 * s + j)) (let more : block_of g p < c = omega (arith, differ) in omega (arith, blocks_disjoint g.block (block_of g p) c (2 * (place_of g p - lookups g) + 1) 0 more (omega arith))))
       (cases_lt c (block_of g p)))
       (cases_eq c (block_of g p))
 
-  slot-same_entry : SameBut (block_of g p * g.block + 2 * (place_of g p - lookups g)) 2 a b → (c s : ℕ) → s < slots g →
+  slot-same_entry : SameOutside (block_of g p * g.block + 2 * (place_of g p - lookups g)) 2 a b → (c s : ℕ) → s < slots g →
       (c ≡ block_of g p → s ≡ place_of g p - lookups g → ⊥) → slot_of g b c s ≡ slot_of g a c s
   unfolding slot_of
   slot-same_entry h c s small other =
@@ -190,20 +190,20 @@ module _ (g : Geometry) (geo : Sizes g) (a b : List ℕ) (p : ℕ) (entry_page :
       (let first : slice_index b (c * g.block + (2 * s + 0)) ≡ slice_index a (c * g.block + (2 * s + 0)) = byte-same_entry h c s 0 small (omega arith) other in rw add-zero at first)
       (let next : slice_index b (c * g.block + (2 * s + 1)) ≡ slice_index a (c * g.block + (2 * s + 1)) = byte-same_entry h c s 1 small (omega arith) other in rw (add_assoc) next)
 
-  pub magic-same_entry : SameBut (block_of g p * g.block + 2 * (place_of g p - lookups g)) 2 a b → (c : ℕ) → has_magic g b c ≡ has_magic g a c
+  pub magic-same_entry : SameOutside (block_of g p * g.block + 2 * (place_of g p - lookups g)) 2 a b → (c : ℕ) → has_magic g b c ≡ has_magic g a c
   unfolding has_magic
   magic-same_entry h c =
       let slot : place_of g p - lookups g < entries g = entry_slot-small g geo p in
       let same = slot-same_entry h c (slots g - 2) (omega (arith, geo.slots_fit)) (λ e s. omega (arith, geo.slots_fit)) in cc
 
-  pub entry-same_entry : SameBut (block_of g p * g.block + 2 * (place_of g p - lookups g)) 2 a b → (q : ℕ) → lookups g ≤ place_of g q → (q ≡ p → ⊥) → entry_of g b q ≡ entry_of g a q
+  pub entry-same_entry : SameOutside (block_of g p * g.block + 2 * (place_of g p - lookups g)) 2 a b → (q : ℕ) → lookups g ≤ place_of g q → (q ≡ p → ⊥) → entry_of g b q ≡ entry_of g a q
   unfolding entry_of
   entry-same_entry h q behind differ =
       let here : lookups g ≤ place_of g p = entry_place-at g p entry_page in
       slot-same_entry h (block_of g q) (place_of g q - lookups g) (omega (arith, geo.slots_fit, entry_slot-small g geo q))
       (λ e s. differ (same_page (per_block g) q p e (omega arith)))
 
-  pub page-same_entry : SameBut (block_of g p * g.block + 2 * (place_of g p - lookups g)) 2 a b → (q : ℕ) → is_entry_page g q ≡ true → page_of g b q ≡ page_of g a q
+  pub page-same_entry : SameOutside (block_of g p * g.block + 2 * (place_of g p - lookups g)) 2 a b → (q : ℕ) → is_entry_page g q ≡ true → page_of g b q ≡ page_of g a q
   unfolding page_of
   page-same_entry h q page =
       let fits : lookups g < per_block g = geo.lookups_fit in
@@ -213,14 +213,14 @@ module _ (g : Geometry) (geo : Sizes g) (a b : List ℕ) (p : ℕ) (entry_page :
       let block : block_of g p * g.block ≡ block_of g p * (per_block g * g.page) = ap (λ (x : ℕ). block_of g p * x) geo.block in
       let first = lookups_apart (per_block g) (lookups g) g.page (block_of g p) q (2 * (place_of g p - lookups g)) (omega arith) (omega arith) behind (omega arith) in
       let last = lookups_apart (per_block g) (lookups g) g.page (block_of g p) q (2 * (place_of g p - lookups g) + 1) (omega arith) (omega arith) behind room in
-      range-same a b (q * g.page) g.page h.len
+      range-same a b (q * g.page) g.page h.size
       (λ i from to. ⊎_elim
       (λ (x : i < block_of g p * g.block + 2 * (place_of g p - lookups g)). h.before i x)
-      (λ (x : block_of g p * g.block + 2 * (place_of g p - lookups g) ≤ i). h.behind i (grind arith))
+      (λ (x : block_of g p * g.block + 2 * (place_of g p - lookups g) ≤ i). h.after i (grind arith))
       (cases_lt i (block_of g p * g.block + 2 * (place_of g p - lookups g))))
 
   -- a change of the entry of such a page too
-  pub live-entry_changed : SameBut (block_of g p * g.block + 2 * (place_of g p - lookups g)) 2 a b → is_finished (page_of g a p) ≡ false →
+  pub live-entry_changed : SameOutside (block_of g p * g.block + 2 * (place_of g p - lookups g)) 2 a b → is_finished (page_of g a p) ≡ false →
       (q : ℕ) → live_at g b q ≡ live_at g a q
   live-entry_changed h before q =
       let page_same : page_of g b p ≡ page_of g a p = page-same_entry h p entry_page in

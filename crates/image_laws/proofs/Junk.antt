@@ -9,7 +9,9 @@ use Rattle.std.proofs.lemmas.Bool.{cases_lt, cases_eq, cases_Bool, and_parts, le
 use Rattle.geometry.specs.declared.geometry.Geometry.{Geometry}
 use Rattle.image_model.specs.Within.{sizes}
 use Rattle.image_model.specs.Volume.{page_count}
-use Rattle.image_laws.specs.Flash.{SameBut, Torn, TornByte, Programmed}
+use Rattle.nor_core.specs.Flash.{SameOutside, HalfProgrammed}
+use Rattle.image_laws.proofs.BetweenTorn.{TornByte, torn_byte}
+use Rattle.image_laws.specs.Flash.{Programmed}
 use Rattle.image_model.specs.Live.{live_at}
 use Rattle.image_model.specs.Places.{page_of, block_of, entry_of, is_entry_page, IsImage, entry_at}
 use Rattle.image_model.specs.Headers.{is_finished}
@@ -22,7 +24,7 @@ use Rattle.image_model.specs.Within.{page_number}
 use Rattle.image_laws.proofs.Placing.{page_byte}
 use Rattle.image_laws.proofs.Frames.{magic-same_page, magic-same_entry, live-page_other, live_at-unfinished, live-entry_changed}
 use Rattle.image_laws.proofs.Kill.{deleted_from_flag}
-use Rattle.image_laws.proofs.CreateStep.{torn_from}
+use Rattle.image_laws.proofs.Finished.{torn_from}
 use Rattle.image_laws.proofs.Sounding.{keeps-by_live, keeps-on}
 use Rattle.image_laws.specs.TidySteps.{Agree}
 use Rattle.image_laws.proofs.TidySteps.{agree_page, agree_entry, wide_flags, wanted-same, zeroed}
@@ -45,22 +47,22 @@ deleted_byte old asked new d h =
     (λ (clear : bit_at new 7 ≡ 0). inr clear)
     (bit_cases new 7)
 
-same_but_byte : (at : ℕ) (asked : ℕ) (a b : List ℕ) → Torn at (asked ∷ []) a b → slice_index b at ≡ slice_index a at → b ≡ a
+same_but_byte : (at : ℕ) (asked : ℕ) (a b : List ℕ) → HalfProgrammed at (asked ∷ []) a b → slice_index b at ≡ slice_index a at → b ≡ a
 same_but_byte at asked a b h same =
-    ext_get_or 0 b a h.others.len (λ i small.
+    ext_get_or 0 b a h.outside.size (λ i small.
     ⊎_elim
-    (λ (x : i < at). h.others.before i x)
+    (λ (x : i < at). h.outside.before i x)
     (λ (x : at ≤ i). ⊎_elim
     (λ (here : i ≡ at). rw here same)
-    (λ (there : i ≡ at → ⊥). h.others.behind i (omega (arith, there)))
+    (λ (there : i ≡ at → ⊥). h.outside.after i (omega (arith, there)))
     (cases_eq i at))
     (cases_lt i at))
 
 pub junk_flags-live : (g : Geometry) (a b : List ℕ) (p asked : ℕ) → IsImage g a → is_entry_page g p ≡ true → live_at g a p ≡ None → Deletes (slice_index a (p * g.page + 4)) asked →
-    Torn (p * g.page + 4) (asked ∷ []) a b → (q : ℕ) → live_at g b q ≡ live_at g a q
+    HalfProgrammed (p * g.page + 4) (asked ∷ []) a b → (q : ℕ) → live_at g b q ≡ live_at g a q
 junk_flags-live g a b p asked is page dead d h q =
     let big : 128 ≤ g.page = (sizes g).page in
-    let byte : TornByte (slice_index a (p * g.page + 4)) asked (slice_index b (p * g.page + 4)) = rw add-zero at (h.bytes 0 (omega arith)) in
+    let byte : TornByte (slice_index a (p * g.page + 4)) asked (slice_index b (p * g.page + 4)) = rw add-zero at (torn_byte (p * g.page + 4) (asked ∷ []) a b h 0 (omega arith)) in
     ⊎_elim
     (λ (same : slice_index b (p * g.page + 4) ≡ slice_index a (p * g.page + 4)).
     let e : b ≡ a = same_but_byte (p * g.page + 4) asked a b h same in ap (λ (x : List ℕ). live_at g x q) e)
@@ -79,7 +81,7 @@ junk_flags-keep g a b p asked is h page dead d torn =
 
 pub dead_entry-keeps : (g : Geometry) → DeadEntryKeeps g
 dead_entry-keeps g a b p asked is h page unfinished two torn =
-    let same : SameBut (entry_at g p) 2 a b = rw two at torn.others in
+    let same : SameOutside (entry_at g p) 2 a b = rw two at torn.outside in
     let live = live-entry_changed g (sizes g) a b p page same unfinished in
     (live, keeps-by_live g a b h (magic-same_entry g (sizes g) a b p page same) live)
 
@@ -187,26 +189,26 @@ module _ (g : Geometry) (a b : List ℕ) (p asked : ℕ) (is : IsImage g a) (h :
   first = junk_flags-keep g a b p asked is h (junk_page g a p junk) (junk_dead g a p junk) d (torn_from _ _ _ _ one)
 
   pub image1 : IsImage g b
-  image1 = record { len = omega (arith, one.others.len, is.len) }
+  image1 = record { len = omega (arith, one.outside.size, is.len) }
 
-  pub cut_entry : (x : List ℕ) → Torn (entry_at g p) (0 ∷ 0 ∷ []) b x → ((q : ℕ) → live_at g x q ≡ live_at g b q) × Keeps g b x
+  pub cut_entry : (x : List ℕ) → HalfProgrammed (entry_at g p) (0 ∷ 0 ∷ []) b x → ((q : ℕ) → live_at g x q ≡ live_at g b q) × Keeps g b x
   cut_entry x torn = dead_entry-keeps g b x p (0 ∷ 0 ∷ []) image1 (first.1).sound.magics (junk_page g a p junk) (deleted_done g a b p asked is d one) refl torn
 
-  pub keeps_entry : (x : List ℕ) → Torn (entry_at g p) (0 ∷ 0 ∷ []) b x → Keeps g a x
+  pub keeps_entry : (x : List ℕ) → HalfProgrammed (entry_at g p) (0 ∷ 0 ∷ []) b x → Keeps g a x
   keeps_entry x torn = keeps-on g a b x first.1 (cut_entry x torn).1
 
   pub turn_done : (c : List ℕ) (two : Programmed (entry_at g p) (0 ∷ 0 ∷ []) b c) → Turned g p true a c
   turn_done c two =
       let torn = torn_from _ _ _ _ two in
       let s1 : Agree g a b p = agree_page g a b p (sizes g) (junk_page g a p junk) (wide_flags g a b p asked is (torn_from _ _ _ _ one)) in
-      let s2 : Agree g b c p = agree_entry g b c p (sizes g) (junk_page g a p junk) two.others in
+      let s2 : Agree g b c p = agree_entry g b c p (sizes g) (junk_page g a p junk) two.outside in
       let agree : Agree g a c p = record {
         magic = λ d. s2.magic d ∙ s1.magic d;
         entry = λ q e there. s2.entry q e there ∙ s1.entry q e there;
         page = λ q e there. s2.page q e there ∙ s1.page q e there;
       } in
       turned g a c p (junk_page g a p junk) agree (λ q. (cut_entry c torn).0 q ∙ first.0 q)
-      (record { len = omega (arith, two.others.len, one.others.len, is.len) }) (keeps_entry c torn) (zeroed g b c p two) junk
+      (record { len = omega (arith, two.outside.size, one.outside.size, is.len) }) (keeps_entry c torn) (zeroed g b c p two) junk
 
 -- the flags byte with DELET cleared
 bits_below : (k : ℕ) → k < 7 → bit_at 0x7F k ≡ 1

@@ -11,7 +11,7 @@ use Rattle.image_model.specs.Within.{sizes}
 use Rattle.image_model.specs.Volume.{page_count}
 use Rattle.table_model.specs.Room.{data_pages}
 use Rattle.geometry.specs.Numbers.{head_slots}
-use Rattle.image_laws.specs.Flash.{SameBut, Torn}
+use Rattle.nor_core.specs.Flash.{SameOutside, HalfProgrammed}
 use Rattle.image_model.specs.Within.{Sizes}
 use Rattle.image_model.specs.Live.{live_at, Live, own}
 use Rattle.image_model.specs.Headers.{is_finished, obj_id, size_of}
@@ -34,12 +34,12 @@ pub deleted_from_flag : (page : List ℕ) → bit_at (slice_index page 4) 7 ≡ 
 unfolding is_finished
 deleted_from_flag page h = grind arith
 
-pub killing-loses : (g : Geometry) (a b : List ℕ) (p flags : ℕ) → IsImage g a → is_entry_page g p ≡ true → bit_at flags 7 ≡ 0 → Torn (p * g.page + 4) (flags ∷ []) a b → slice_index b (p * g.page + 4) ≡ flags →
+pub killing-loses : (g : Geometry) (a b : List ℕ) (p flags : ℕ) → IsImage g a → is_entry_page g p ≡ true → bit_at flags 7 ≡ 0 → HalfProgrammed (p * g.page + 4) (flags ∷ []) a b → slice_index b (p * g.page + 4) ≡ flags →
     Loses p (live_at g a) (live_at g b)
 killing-loses g a b p flags is entry_page clear h done =
     let geo : Sizes g = (sizes g) in
     let big : 128 ≤ g.page = geo.page in
-    let same : SameBut (p * g.page) g.page a b = wider (p * g.page + 4) 1 (p * g.page) g.page a b (omega arith) (omega arith) h.others in
+    let same : SameOutside (p * g.page) g.page a b = wider (p * g.page + 4) 1 (p * g.page) g.page a b (omega arith) (omega arith) h.outside in
     let byte : slice_index (page_of g b p) 4 ≡ slice_index b (p * g.page + 4) = page_byte g b p 4 (omega arith) in
     record {
       after = live_at-unfinished g b p (deleted_from_flag _ (rw byte (rw done clear)));
@@ -132,7 +132,7 @@ killing-keeps g a b p flags page is live clears idle h =
 
 pub entry-keeps : (g : Geometry) → EntryKeeps g
 entry-keeps g a b p asked is entry_page unfinished two h =
-    let live = live-entry_changed g (sizes g) a b p entry_page (rw two at h.others) unfinished in
+    let live = live-entry_changed g (sizes g) a b p entry_page (rw two at h.outside) unfinished in
     (table_of-same g b a live, damaged_of-same g b a live)
 
 -- ---- the old one of two header pages

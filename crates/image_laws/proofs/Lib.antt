@@ -1,3 +1,4 @@
+pub mod Finished
 pub mod Places
 pub mod Frames
 pub mod Placing

@@ -3,7 +3,8 @@ use Rattle.std.proofs.Common.{◌≡◌, ℕ, ◌+◌, ◌*◌, ◌≤◌, ◌�
 use Rattle.std.proofs.Math.Path.{fun_ext}
 use Rattle.std.specs.Prelude.{bit_and}
 use Rattle.geometry.specs.declared.geometry.Geometry.{Geometry}
-use Rattle.image_laws.specs.Flash.{Torn, Programmed}
+use Rattle.nor_core.specs.Flash.{HalfProgrammed}
+use Rattle.image_laws.specs.Flash.{Programmed}
 use Rattle.image_model.specs.Within.{sizes}
 use Rattle.image_model.specs.Live.{live_at}
 use Rattle.image_model.specs.Headers.{is_finished}
@@ -19,7 +20,7 @@ use Rattle.image_laws.proofs.Frames.{live_parts, live-entry_changed}
 use Rattle.image_laws.proofs.Placing.{page_byte}
 use Rattle.image_laws.proofs.Publish.{finishing-gains}
 use Rattle.image_laws.proofs.Kill.{killing-loses, deleted_from_flag}
-use Rattle.image_laws.proofs.CreateStep.{torn_from}
+use Rattle.image_laws.proofs.Finished.{torn_from}
 use Rattle.image_laws.proofs.TidySteps.{agree_page, agree_entry, agree-on, wide_flags, zeroed}
 use Rattle.image_laws.proofs.PutAgain.{cleared-and}
 use Rattle.image_laws.proofs.PutStep as put
@@ -38,19 +39,19 @@ module _ (g : Geometry) (a0 a1 a2 a3 a4 : List ℕ) (p : ℕ) (page : List ℕ) 
   image3 : IsImage g a3
   image3 = put.image3 g a0 p page fin is free ready a1 all.placed.one a2 all.placed.two a3 all.placed.three
 
-  agree4 : (c : List ℕ) → Torn (p * g.page + 4) (fin ∷ []) a3 c → Agree g a0 c p
+  agree4 : (c : List ℕ) → HalfProgrammed (p * g.page + 4) (fin ∷ []) a3 c → Agree g a0 c p
   agree4 c h = agree-on g a0 a3 c p (put.agree3 g a0 p page fin is free ready a1 all.placed.one a2 all.placed.two a3 all.placed.three a3 (torn_from _ _ _ _ all.placed.three))
       (agree_page g a3 c p (sizes g) free.entry_page (wide_flags g a3 c p fin image3 h))
 
-  gains4 : (c : List ℕ) → Torn (p * g.page + 4) (fin ∷ []) a3 c → slice_index c (p * g.page + 4) ≡ fin → Gains p (set page 4 fin) (live_at g a0) (live_at g c)
+  gains4 : (c : List ℕ) → HalfProgrammed (p * g.page + 4) (fin ∷ []) a3 c → slice_index c (p * g.page + 4) ≡ fin → Gains p (set page 4 fin) (live_at g a0) (live_at g c)
   gains4 c h done =
       let gains : Gains p (set (page_of g a3 p) 4 fin) (live_at g a3) (live_at g c) =
       finishing-gains g a3 c p fin image3 (put.placed3 g a0 p page fin is free ready a1 all.placed.one a2 all.placed.two a3 all.placed.three) h done in
       subst (λ (x : List ℕ). Gains p (set x 4 fin) (live_at g a0) (live_at g c)) (put.page3 g a0 p page fin is free ready a1 all.placed.one a2 all.placed.two a3 all.placed.three)
       (subst (λ (l : ℕ → Rattle.std.proofs.Common.Option (List ℕ)). Gains p (set (page_of g a3 p) 4 fin) l (live_at g c)) (put.live3 g a0 p page fin is free ready a1 all.placed.one a2 all.placed.two a3 all.placed.three) gains)
 
-  sized : (x y at : _) (asked : List ℕ) → IsImage g x → Torn at asked x y → IsImage g y
-  sized x y at asked i h = record { len = omega (arith, h.others.len, i.len) }
+  sized : (x y at : _) (asked : List ℕ) → IsImage g x → HalfProgrammed at asked x y → IsImage g y
+  sized x y at asked i h = record { len = omega (arith, h.outside.size, i.len) }
 
   put_done : PutDone g p (set page 4 fin) a0 a4
   put_done =
@@ -65,26 +66,26 @@ module _ (g : Geometry) (a0 a1 a2 a3 a4 : List ℕ) (p : ℕ) (page : List ℕ) 
   put_cut : (c : List ℕ) → PutCut g p page fin a0 a1 a2 a3 c → PutLeaves g p (set page 4 fin) a0 c
   put_cut c h =
       ⊎_elim
-      (λ (w : Torn (entry_at g p) (take 2 page) a0 c ⊎ (Torn (p * g.page) (take 5 page) a1 c ⊎ Torn (p * g.page + 5) (drop 5 page) a2 c)). ⊎_elim
-      (λ (x : Torn (entry_at g p) (take 2 page) a0 c). record {
+      (λ (w : HalfProgrammed (entry_at g p) (take 2 page) a0 c ⊎ (HalfProgrammed (p * g.page) (take 5 page) a1 c ⊎ HalfProgrammed (p * g.page + 5) (drop 5 page) a2 c)). ⊎_elim
+      (λ (x : HalfProgrammed (entry_at g p) (take 2 page) a0 c). record {
         image = sized a0 c (entry_at g p) (take 2 page) is x;
         agree = put.agree1 g a0 p page fin is free ready a1 all.placed.one a2 all.placed.two a3 all.placed.three c x;
         live = inl (put.live1 g a0 p page fin is free ready a1 all.placed.one a2 all.placed.two a3 all.placed.three c x);
       })
-      (λ (y : Torn (p * g.page) (take 5 page) a1 c ⊎ Torn (p * g.page + 5) (drop 5 page) a2 c). ⊎_elim
-      (λ (x : Torn (p * g.page) (take 5 page) a1 c). record {
+      (λ (y : HalfProgrammed (p * g.page) (take 5 page) a1 c ⊎ HalfProgrammed (p * g.page + 5) (drop 5 page) a2 c). ⊎_elim
+      (λ (x : HalfProgrammed (p * g.page) (take 5 page) a1 c). record {
         image = sized a1 c (p * g.page) (take 5 page) (put.image1 g a0 p page fin is free ready a1 all.placed.one) x;
         agree = put.agree2 g a0 p page fin is free ready a1 all.placed.one a2 all.placed.two a3 all.placed.three c x;
         live = inl (put.live2 g a0 p page fin is free ready a1 all.placed.one a2 all.placed.two a3 all.placed.three c x);
       })
-      (λ (x : Torn (p * g.page + 5) (drop 5 page) a2 c). record {
+      (λ (x : HalfProgrammed (p * g.page + 5) (drop 5 page) a2 c). record {
         image = sized a2 c (p * g.page + 5) (drop 5 page) (put.image2 g a0 p page fin is free ready a1 all.placed.one a2 all.placed.two) x;
         agree = put.agree3 g a0 p page fin is free ready a1 all.placed.one a2 all.placed.two a3 all.placed.three c x;
         live = inl (put.live_3 g a0 p page fin is free ready a1 all.placed.one a2 all.placed.two a3 all.placed.three c x);
       })
       y)
       w)
-      (λ (x : Torn (p * g.page + 4) (fin ∷ []) a3 c). record {
+      (λ (x : HalfProgrammed (p * g.page + 4) (fin ∷ []) a3 c). record {
         image = sized a3 c (p * g.page + 4) (fin ∷ []) image3 x;
         agree = agree4 c x;
         live = ⊎_elim
@@ -98,7 +99,7 @@ pub put-changes : (g : Geometry) → PutChanges g
 put-changes g a0 a1 a2 a3 a4 p page fin is free ready all = (put_cut g a0 a1 a2 a3 a4 p page fin is free ready all, put_done g a0 a1 a2 a3 a4 p page fin is free ready all)
 
 module _ (g : Geometry) (a b d : List ℕ) (o kill : ℕ) (page : List ℕ) (is : IsImage g a) (live : live_at g a o ≡ Some page) (clears : ClearsBit 7 (slice_index a (o * g.page + 4)) kill) (all : Kills g o kill a b d) where
-  torn1 : Torn (o * g.page + 4) (kill ∷ []) a b
+  torn1 : HalfProgrammed (o * g.page + 4) (kill ∷ []) a b
   torn1 = torn_from _ _ _ _ all.delete
 
   inside : Rattle.image_model.specs.Places.is_entry_page g o ≡ true
@@ -107,10 +108,10 @@ module _ (g : Geometry) (a b d : List ℕ) (o kill : ℕ) (page : List ℕ) (is 
   done : slice_index b (o * g.page + 4) ≡ kill
   done = done_byte 7 (o * g.page + 4) kill a b clears all.delete
 
-  image1 : (c : List ℕ) → Torn (o * g.page + 4) (kill ∷ []) a c → IsImage g c
-  image1 c h = record { len = omega (arith, h.others.len, is.len) }
+  image1 : (c : List ℕ) → HalfProgrammed (o * g.page + 4) (kill ∷ []) a c → IsImage g c
+  image1 c h = record { len = omega (arith, h.outside.size, is.len) }
 
-  agree1 : (c : List ℕ) → Torn (o * g.page + 4) (kill ∷ []) a c → Agree g a c o
+  agree1 : (c : List ℕ) → HalfProgrammed (o * g.page + 4) (kill ∷ []) a c → Agree g a c o
   agree1 c h = agree_page g a c o (sizes g) inside (wide_flags g a c o kill is h)
 
   loses : Loses o (live_at g a) (live_at g b)
@@ -121,17 +122,17 @@ module _ (g : Geometry) (a b d : List ℕ) (o kill : ℕ) (page : List ℕ) (is 
       let byte : slice_index (page_of g b o) 4 ≡ slice_index b (o * g.page + 4) = page_byte g b o 4 (omega arith) in
       deleted_from_flag _ (rw byte (rw done clears.cleared))
 
-  live2 : (c : List ℕ) → Torn (entry_at g o) (0 ∷ 0 ∷ []) b c → live_at g c ≡ live_at g b
-  live2 c h = fun_ext (live-entry_changed g (sizes g) b c o inside h.others dead)
+  live2 : (c : List ℕ) → HalfProgrammed (entry_at g o) (0 ∷ 0 ∷ []) b c → live_at g c ≡ live_at g b
+  live2 c h = fun_ext (live-entry_changed g (sizes g) b c o inside h.outside dead)
 
-  agree2 : (c : List ℕ) → Torn (entry_at g o) (0 ∷ 0 ∷ []) b c → Agree g a c o
-  agree2 c h = agree-on g a b c o (agree1 b torn1) (agree_entry g b c o (sizes g) inside h.others)
+  agree2 : (c : List ℕ) → HalfProgrammed (entry_at g o) (0 ∷ 0 ∷ []) b c → Agree g a c o
+  agree2 c h = agree-on g a b c o (agree1 b torn1) (agree_entry g b c o (sizes g) inside h.outside)
 
-  loses2 : (c : List ℕ) → Torn (entry_at g o) (0 ∷ 0 ∷ []) b c → Loses o (live_at g a) (live_at g c)
+  loses2 : (c : List ℕ) → HalfProgrammed (entry_at g o) (0 ∷ 0 ∷ []) b c → Loses o (live_at g a) (live_at g c)
   loses2 c h = rw (live2 c h) loses
 
-  image2 : (c : List ℕ) → Torn (entry_at g o) (0 ∷ 0 ∷ []) b c → IsImage g c
-  image2 c h = record { len = omega (arith, h.others.len, (image1 b torn1).len) }
+  image2 : (c : List ℕ) → HalfProgrammed (entry_at g o) (0 ∷ 0 ∷ []) b c → IsImage g c
+  image2 c h = record { len = omega (arith, h.outside.size, (image1 b torn1).len) }
 
   kill_done : KillDone g o a d
   kill_done = let torn = torn_from _ _ _ _ all.clear in record { image = image2 d torn; agree = agree2 d torn; loses = loses2 d torn; zero = zeroed g b d o all.clear }
@@ -139,7 +140,7 @@ module _ (g : Geometry) (a b d : List ℕ) (o kill : ℕ) (page : List ℕ) (is 
   kill_cut : (c : List ℕ) → KillCut g o kill a b c → KillLeaves g o a c
   kill_cut c h =
       ⊎_elim
-      (λ (x : Torn (o * g.page + 4) (kill ∷ []) a c). record {
+      (λ (x : HalfProgrammed (o * g.page + 4) (kill ∷ []) a c). record {
         image = image1 c x;
         agree = agree1 c x;
         live = ⊎_elim
@@ -147,7 +148,7 @@ module _ (g : Geometry) (a b d : List ℕ) (o kill : ℕ) (page : List ℕ) (is 
             (λ (there : slice_index c (o * g.page + 4) ≡ kill). inr (killing-loses g a c o kill is inside clears.cleared x there))
             (one_bit_image 7 (o * g.page + 4) kill a c clears x);
       })
-      (λ (x : Torn (entry_at g o) (0 ∷ 0 ∷ []) b c). record { image = image2 c x; agree = agree2 c x; live = inr (loses2 c x) })
+      (λ (x : HalfProgrammed (entry_at g o) (0 ∷ 0 ∷ []) b c). record { image = image2 c x; agree = agree2 c x; live = inr (loses2 c x) })
       h
 
 pub kill-changes : (g : Geometry) → KillChanges g

@@ -7,7 +7,7 @@ use Rattle.std.proofs.lemmas.Option.{none-some, same_Some}
 use Rattle.geometry.specs.declared.geometry.Geometry.{Geometry}
 use Rattle.image_model.specs.Within.{sizes}
 use Rattle.image_model.specs.Volume.{page_count}
-use Rattle.image_laws.specs.Flash.{SameBut, Torn}
+use Rattle.nor_core.specs.Flash.{SameOutside, HalfProgrammed}
 use Rattle.image_model.specs.Within.{Sizes}
 use Rattle.image_model.specs.Live.{live_at, Live, own}
 use Rattle.image_model.specs.Headers.{is_flag_set, obj_id}
@@ -27,11 +27,11 @@ use Rattle.image_laws.proofs.Judge.{judged-keyed, published-first, published-lat
 use Rattle.image_laws.proofs.Finish.{records-changed}
 
 -- one byte of the page
-pub page-set : (g : Geometry) (a b : List ℕ) (p x : ℕ) → IsImage g a → is_entry_page g p ≡ true → SameBut (p * g.page + 4) 1 a b → slice_index b (p * g.page + 4) ≡ x →
+pub page-set : (g : Geometry) (a b : List ℕ) (p x : ℕ) → IsImage g a → is_entry_page g p ≡ true → SameOutside (p * g.page + 4) 1 a b → slice_index b (p * g.page + 4) ≡ x →
     page_of g b p ≡ set (page_of g a p) 4 x
 page-set g a b p x is h same done =
     let len_a : length (page_of g a p) ≡ g.page = page_length g a p is h in
-    let len_b : length (page_of g b p) ≡ g.page = page_length g b p (record { len = omega (arith, same.len, is.len) }) h in
+    let len_b : length (page_of g b p) ≡ g.page = page_length g b p (record { len = omega (arith, same.size, is.len) }) h in
     let big : 128 ≤ g.page = (sizes g).page in
     ext_get_or 0 _ _ (len_b ∙ sym len_a ∙ sym (length-set (page_of g a p) 4 x))
     (λ i small. let inside : i < g.page = omega arith in
@@ -44,7 +44,7 @@ page-set g a b p x is h same done =
     let other : slice_index (set (page_of g a p) 4 x) i ≡ slice_index (page_of g a p) i = get_or-set_other (page_of g a p) 4 i x 0 there in
     let kept : slice_index b (p * g.page + i) ≡ slice_index a (p * g.page + i) = ⊎_elim
     (λ (low : i < 4). same.before (p * g.page + i) (omega arith))
-    (λ (high : 4 ≤ i). same.behind (p * g.page + i) (omega (arith, there)))
+    (λ (high : 4 ≤ i). same.after (p * g.page + i) (omega (arith, there)))
     (cases_lt i 4) in
     byte ∙ kept ∙ sym old ∙ sym other)
     (cases_eq i 4))
@@ -55,12 +55,12 @@ id-set page x =
     let high : slice_index (set page 4 x) 1 ≡ slice_index page 1 = get_or-set_other page 4 1 x 0 (omega arith) in
     cc
 
-pub finishing-gains : (g : Geometry) (a b : List ℕ) (p flags : ℕ) → IsImage g a → IsPlaced g a p flags → Torn (p * g.page + 4) (flags ∷ []) a b → slice_index b (p * g.page + 4) ≡ flags →
+pub finishing-gains : (g : Geometry) (a b : List ℕ) (p flags : ℕ) → IsImage g a → IsPlaced g a p flags → HalfProgrammed (p * g.page + 4) (flags ∷ []) a b → slice_index b (p * g.page + 4) ≡ flags →
     Gains p (set (page_of g a p) 4 flags) (live_at g a) (live_at g b)
 finishing-gains g a b p flags is placed h done =
     let geo : Sizes g = (sizes g) in
     let big : 128 ≤ g.page = geo.page in
-    let same : SameBut (p * g.page) g.page a b = wider (p * g.page + 4) 1 (p * g.page) g.page a b (omega arith) (omega arith) h.others in
+    let same : SameOutside (p * g.page) g.page a b = wider (p * g.page + 4) 1 (p * g.page) g.page a b (omega arith) (omega arith) h.outside in
     let byte : slice_index (page_of g a p) 4 ≡ slice_index a (p * g.page + 4) = page_byte g a p 4 (omega arith) in
     let final : is_flag_set (page_of g a p) 1 ≡ true = flag_from (page_of g a p) 1 (rw byte placed.clears.set) in
     record {
@@ -70,7 +70,7 @@ finishing-gains g a b p flags is placed h done =
         magic = magic-same_page g geo a b p placed.entry_page same (block_of g p) ∙ placed.magic;
         entry = entry-same_page g geo a b p placed.entry_page same p ∙ placed.entry ∙ sym (id-set (page_of g a p) flags);
         finished = placed.finished;
-        bytes = page-set g a b p flags is placed.entry_page h.others done;
+        bytes = page-set g a b p flags is placed.entry_page h.outside done;
       });
       others = λ q there. live-page_other g geo a b p placed.entry_page same q there;
     }
@@ -137,7 +137,7 @@ finishing-publishes g a b p flags id f is placed leads h =
 
 -- the first header page of its id
 pub finishing-puts : (g : Geometry) (a b : List ℕ) (p flags id : ℕ) (f : File) → IsImage g a → IsPlaced g a p flags → LeadsTo g a id (set (page_of g a p) 4 flags) f →
-    index_page g (own (live_at g a) id) 0 ≡ None → Torn (p * g.page + 4) (flags ∷ []) a b → slice_index b (p * g.page + 4) ≡ flags → table_of g b ≡ put_file f (table_of g a)
+    index_page g (own (live_at g a) id) 0 ≡ None → HalfProgrammed (p * g.page + 4) (flags ∷ []) a b → slice_index b (p * g.page + 4) ≡ flags → table_of g b ≡ put_file f (table_of g a)
 unfolding table_of
 finishing-puts g a b p flags id f is placed leads none h done =
     let within : p < page_count g = page_number g p placed.entry_page in

@@ -8,7 +8,8 @@ use Rattle.std.proofs.lemmas.List.{ext_get_or}
 use Rattle.geometry.specs.declared.geometry.Geometry.{Geometry}
 use Rattle.image_model.specs.Within.{sizes}
 use Rattle.image_model.specs.Volume.{page_count}
-use Rattle.image_laws.specs.Flash.{SameBut, Torn, Programmed}
+use Rattle.nor_core.specs.Flash.{SameOutside, HalfProgrammed}
+use Rattle.image_laws.specs.Flash.{Programmed}
 use Rattle.image_model.specs.Live.{live_at}
 use Rattle.image_model.specs.Places.{entry_of, slot_of, page_of, block_of, IsImage, entry_at}
 use Rattle.image_model.specs.Headers.{obj_id}
@@ -22,7 +23,8 @@ use Rattle.image_laws.specs.Put.{IsReadyPage, PlacingCut, IsPut, PlacingIsSound}
 use Rattle.image_model.specs.Within.{page_length, page_number}
 use Rattle.image_laws.proofs.Placing.{page_byte, flag_from, wider, placing_entry-keeps, placing_page-keeps, live-placing_entry, live-placing_page}
 use Rattle.image_laws.proofs.Frames.{page-same_entry, magic-same_page, entry-same_page, magic-same_entry}
-use Rattle.image_laws.proofs.CreateStep.{torn_from, and_comm_255}
+use Rattle.image_laws.proofs.Finished.{torn_from}
+use Rattle.image_laws.proofs.CreateStep.{and_comm_255}
 use Rattle.image_laws.proofs.Sounding.{placing_entry-sound, placing_page-sound, keeps-on}
 use Rattle.image_laws.proofs.TidySteps.{agree_page, agree_entry, agree-on}
 
@@ -54,7 +56,7 @@ module _ (g : Geometry) (a0 : List ℕ) (p : ℕ) (head : List ℕ) (flags : ℕ
   pub final_behind : (i : ℕ) → i < length (drop 5 head) → p * g.page + 5 + i ≡ p * g.page + 4 → bit_at (slice_index (drop 5 head) i) 1 ≡ 1
   final_behind i small at = absurd (omega arith)
 
-  pub kept1 : (c : List ℕ) → Torn (entry_at g p) (take 2 head) a0 c → (table_of g c ≡ table_of g a0) × (damaged_of g c ≡ damaged_of g a0) × IsUnfinished g c p
+  pub kept1 : (c : List ℕ) → HalfProgrammed (entry_at g p) (take 2 head) a0 c → (table_of g c ≡ table_of g a0) × (damaged_of g c ≡ damaged_of g a0) × IsUnfinished g c p
   kept1 c h = placing_entry-keeps g a0 c p (take 2 head) is unfinished0 len2 h
 
   pub number : p < page_count g
@@ -62,7 +64,7 @@ module _ (g : Geometry) (a0 : List ℕ) (p : ℕ) (head : List ℕ) (flags : ℕ
 
   module _ (a1 : List ℕ) (one : Programmed (entry_at g p) (take 2 head) a0 a1) where
     pub image1 : IsImage g a1
-    image1 = record { len = omega (arith, one.others.len, is.len) }
+    image1 = record { len = omega (arith, one.outside.size, is.len) }
 
     pub unfinished1 : IsUnfinished g a1 p
     unfinished1 = (kept1 a1 (torn_from _ _ _ _ one)).2
@@ -71,7 +73,7 @@ module _ (g : Geometry) (a0 : List ℕ) (p : ℕ) (head : List ℕ) (flags : ℕ
     erased1 : (i : ℕ) → i < g.page → slice_index a1 (p * g.page + i) ≡ 255
     erased1 i small =
         sym (page_byte g a1 p i small)
-        ∙ ap (λ (x : List ℕ). slice_index x i) (page-same_entry g (sizes g) a0 a1 p free.entry_page (rw len2 at one.others) p free.entry_page)
+        ∙ ap (λ (x : List ℕ). slice_index x i) (page-same_entry g (sizes g) a0 a1 p free.entry_page (rw len2 at one.outside) p free.entry_page)
         ∙ page_byte g a0 p i small ∙ free.erased i small
 
     entry1 : entry_of g a1 p ≡ obj_id head
@@ -86,25 +88,25 @@ module _ (g : Geometry) (a0 : List ℕ) (p : ℕ) (head : List ℕ) (flags : ℕ
         let b0' : slice_index a1 (entry_at g p) ≡ slice_index head 0 = rw add-zero at b0 in
         cc
 
-    pub kept2 : (c : List ℕ) → Torn (p * g.page) (take 5 head) a1 c → (table_of g c ≡ table_of g a1) × (damaged_of g c ≡ damaged_of g a1) × IsUnfinished g c p
+    pub kept2 : (c : List ℕ) → HalfProgrammed (p * g.page) (take 5 head) a1 c → (table_of g c ≡ table_of g a1) × (damaged_of g c ≡ damaged_of g a1) × IsUnfinished g c p
     kept2 c h = placing_page-keeps g a1 c p (p * g.page) (take 5 head) image1 unfinished1 (omega arith) (omega (arith, len5, big)) final_stays h
 
     module _ (a2 : List ℕ) (two : Programmed (p * g.page) (take 5 head) a1 a2) where
       pub image2 : IsImage g a2
-      image2 = record { len = omega (arith, two.others.len, image1.len) }
+      image2 = record { len = omega (arith, two.outside.size, image1.len) }
 
       pub unfinished2 : IsUnfinished g a2 p
       unfinished2 = (kept2 a2 (torn_from _ _ _ _ two)).2
 
-      pub page_wide2 : SameBut (p * g.page) g.page a1 a2
-      page_wide2 = wider (p * g.page) (length (take 5 head)) (p * g.page) g.page a1 a2 (omega arith) (omega (arith, len5, big)) two.others
+      pub page_wide2 : SameOutside (p * g.page) g.page a1 a2
+      page_wide2 = wider (p * g.page) (length (take 5 head)) (p * g.page) g.page a1 a2 (omega arith) (omega (arith, len5, big)) two.outside
 
-      pub kept3 : (c : List ℕ) → Torn (p * g.page + 5) (drop 5 head) a2 c → (table_of g c ≡ table_of g a2) × (damaged_of g c ≡ damaged_of g a2) × IsUnfinished g c p
+      pub kept3 : (c : List ℕ) → HalfProgrammed (p * g.page + 5) (drop 5 head) a2 c → (table_of g c ≡ table_of g a2) × (damaged_of g c ≡ damaged_of g a2) × IsUnfinished g c p
       kept3 c h = placing_page-keeps g a2 c p (p * g.page + 5) (drop 5 head) image2 unfinished2 (omega arith) (omega (arith, rest, big)) final_behind h
 
       module _ (a3 : List ℕ) (three : Programmed (p * g.page + 5) (drop 5 head) a2 a3) where
         pub image3 : IsImage g a3
-        image3 = record { len = omega (arith, three.others.len, image2.len) }
+        image3 = record { len = omega (arith, three.outside.size, image2.len) }
 
         -- the live pages have stayed
         pub live3 : live_at g a3 ≡ live_at g a0
@@ -120,73 +122,73 @@ module _ (g : Geometry) (a0 : List ℕ) (p : ℕ) (head : List ℕ) (flags : ℕ
             (λ (low : i < 5).
             let asked : slice_index (take 5 head) i ≡ slice_index head i = get_or-take 5 head i 0 low in
             let now : slice_index a2 (p * g.page + i) ≡ bit_and (slice_index a1 (p * g.page + i)) (slice_index (take 5 head) i) = two.bytes i (omega (arith, len5)) in
-            three.others.before (p * g.page + i) (omega arith) ∙ now ∙ rw (erased1 i small, asked) (and_comm_255 (slice_index head i) (ready.bytes i small)))
+            three.outside.before (p * g.page + i) (omega arith) ∙ now ∙ rw (erased1 i small, asked) (and_comm_255 (slice_index head i) (ready.bytes i small)))
             (λ (high : 5 ≤ i).
             let at : p * g.page + 5 + (i - 5) ≡ p * g.page + i = omega arith in
             let place : 5 + (i - 5) ≡ i = omega arith in
             let asked : slice_index (drop 5 head) (i - 5) ≡ slice_index head i = get_or-drop 5 head (i - 5) 0 ∙ ap (λ (k : ℕ). slice_index head k) place in
             let now : slice_index a3 (p * g.page + 5 + (i - 5)) ≡ bit_and (slice_index a2 (p * g.page + 5 + (i - 5))) (slice_index (drop 5 head) (i - 5)) = three.bytes (i - 5) (omega (arith, rest)) in
-            let blank : slice_index a2 (p * g.page + i) ≡ 255 = two.others.behind (p * g.page + i) (omega (arith, len5)) ∙ erased1 i small in
+            let blank : slice_index a2 (p * g.page + i) ≡ 255 = two.outside.after (p * g.page + i) (omega (arith, len5)) ∙ erased1 i small in
             (rw at at now) ∙ rw (blank, asked) (and_comm_255 (slice_index head i) (ready.bytes i small)))
             (cases_lt i 5)
 
         pub page3 : page_of g a3 p ≡ head
         page3 = ext_get_or 0 _ _ (page_length g a3 p image3 free.entry_page ∙ sym ready.len) (λ i small. let inside : i < g.page = omega (arith, page_length g a3 p image3 free.entry_page) in page_byte g a3 p i inside ∙ byte3 i inside)
 
-        pub page_wide3 : SameBut (p * g.page) g.page a2 a3
-        page_wide3 = wider (p * g.page + 5) (length (drop 5 head)) (p * g.page) g.page a2 a3 (omega arith) (omega (arith, rest, big)) three.others
+        pub page_wide3 : SameOutside (p * g.page) g.page a2 a3
+        page_wide3 = wider (p * g.page + 5) (length (drop 5 head)) (p * g.page) g.page a2 a3 (omega arith) (omega (arith, rest, big)) three.outside
 
         pub placed3 : IsPlaced g a3 p flags
         placed3 = record {
           entry_page = free.entry_page;
           magic = magic-same_page g (sizes g) a2 a3 p free.entry_page page_wide3 (block_of g p) ∙ magic-same_page g (sizes g) a1 a2 p free.entry_page page_wide2 (block_of g p)
-              ∙ magic-same_entry g (sizes g) a0 a1 p free.entry_page (rw len2 at one.others) (block_of g p) ∙ free.magic;
+              ∙ magic-same_entry g (sizes g) a0 a1 p free.entry_page (rw len2 at one.outside) (block_of g p) ∙ free.magic;
           entry = entry-same_page g (sizes g) a2 a3 p free.entry_page page_wide3 p ∙ entry-same_page g (sizes g) a1 a2 p free.entry_page page_wide2 p ∙ entry1 ∙ ap obj_id (sym page3);
           clears = subst (λ (x : ℕ). ClearsBit 1 x flags) (sym (byte3 4 (omega (arith, big)))) ready.clears;
           finished = rw page3 ready.finished;
         }
 
-        pub agree1 : (c : List ℕ) → Torn (entry_at g p) (take 2 head) a0 c → Agree g a0 c p
-        agree1 c h = agree_entry g a0 c p (sizes g) free.entry_page (rw len2 at h.others)
+        pub agree1 : (c : List ℕ) → HalfProgrammed (entry_at g p) (take 2 head) a0 c → Agree g a0 c p
+        agree1 c h = agree_entry g a0 c p (sizes g) free.entry_page (rw len2 at h.outside)
 
-        pub agree2 : (c : List ℕ) → Torn (p * g.page) (take 5 head) a1 c → Agree g a0 c p
-        agree2 c h = agree-on g a0 a1 c p (agree1 a1 (torn_from _ _ _ _ one)) (agree_page g a1 c p (sizes g) free.entry_page (wider (p * g.page) (length (take 5 head)) (p * g.page) g.page a1 c (omega arith) (omega (arith, len5, big)) h.others))
+        pub agree2 : (c : List ℕ) → HalfProgrammed (p * g.page) (take 5 head) a1 c → Agree g a0 c p
+        agree2 c h = agree-on g a0 a1 c p (agree1 a1 (torn_from _ _ _ _ one)) (agree_page g a1 c p (sizes g) free.entry_page (wider (p * g.page) (length (take 5 head)) (p * g.page) g.page a1 c (omega arith) (omega (arith, len5, big)) h.outside))
 
-        pub agree3 : (c : List ℕ) → Torn (p * g.page + 5) (drop 5 head) a2 c → Agree g a0 c p
-        agree3 c h = agree-on g a0 a2 c p (agree2 a2 (torn_from _ _ _ _ two)) (agree_page g a2 c p (sizes g) free.entry_page (wider (p * g.page + 5) (length (drop 5 head)) (p * g.page) g.page a2 c (omega arith) (omega (arith, rest, big)) h.others))
+        pub agree3 : (c : List ℕ) → HalfProgrammed (p * g.page + 5) (drop 5 head) a2 c → Agree g a0 c p
+        agree3 c h = agree-on g a0 a2 c p (agree2 a2 (torn_from _ _ _ _ two)) (agree_page g a2 c p (sizes g) free.entry_page (wider (p * g.page + 5) (length (drop 5 head)) (p * g.page) g.page a2 c (omega arith) (omega (arith, rest, big)) h.outside))
 
-        pub keep1 : HasMagics g a0 → (c : List ℕ) → Torn (entry_at g p) (take 2 head) a0 c → Keeps g a0 c
+        pub keep1 : HasMagics g a0 → (c : List ℕ) → HalfProgrammed (entry_at g p) (take 2 head) a0 c → Keeps g a0 c
         keep1 m c h = placing_entry-sound g a0 c p (take 2 head) is m unfinished0 len2 h
 
-        pub keep2 : HasMagics g a0 → (c : List ℕ) → Torn (p * g.page) (take 5 head) a1 c → Keeps g a0 c
+        pub keep2 : HasMagics g a0 → (c : List ℕ) → HalfProgrammed (p * g.page) (take 5 head) a1 c → Keeps g a0 c
         keep2 m c h =
             let k = keep1 m a1 (torn_from _ _ _ _ one) in
             keeps-on g a0 a1 c k (placing_page-sound g a1 c p (p * g.page) (take 5 head) image1 k.sound.magics unfinished1 (omega arith) (omega (arith, len5, big)) final_stays h)
 
-        pub keep3 : HasMagics g a0 → (c : List ℕ) → Torn (p * g.page + 5) (drop 5 head) a2 c → Keeps g a0 c
+        pub keep3 : HasMagics g a0 → (c : List ℕ) → HalfProgrammed (p * g.page + 5) (drop 5 head) a2 c → Keeps g a0 c
         keep3 m c h =
             let k = keep2 m a2 (torn_from _ _ _ _ two) in
             keeps-on g a0 a2 c k (placing_page-sound g a2 c p (p * g.page + 5) (drop 5 head) image2 k.sound.magics unfinished2 (omega arith) (omega (arith, rest, big)) final_behind h)
 
         -- the live pages at each cut of the first three programs
-        pub live1 : (c : List ℕ) → Torn (entry_at g p) (take 2 head) a0 c → live_at g c ≡ live_at g a0
+        pub live1 : (c : List ℕ) → HalfProgrammed (entry_at g p) (take 2 head) a0 c → live_at g c ≡ live_at g a0
         live1 c h = fun_ext (live-placing_entry g (sizes g) a0 c p free.entry_page unfinished0.final (take 2 head) len2 h)
 
-        pub live2 : (c : List ℕ) → Torn (p * g.page) (take 5 head) a1 c → live_at g c ≡ live_at g a0
+        pub live2 : (c : List ℕ) → HalfProgrammed (p * g.page) (take 5 head) a1 c → live_at g c ≡ live_at g a0
         live2 c h = fun_ext (live-placing_page g (sizes g) a1 c p free.entry_page unfinished1.final (p * g.page) (take 5 head) (omega arith) (omega (arith, len5, big)) h final_stays) ∙ live1 a1 (torn_from _ _ _ _ one)
 
-        pub live_3 : (c : List ℕ) → Torn (p * g.page + 5) (drop 5 head) a2 c → live_at g c ≡ live_at g a0
+        pub live_3 : (c : List ℕ) → HalfProgrammed (p * g.page + 5) (drop 5 head) a2 c → live_at g c ≡ live_at g a0
         live_3 c h = fun_ext (live-placing_page g (sizes g) a2 c p free.entry_page unfinished2.final (p * g.page + 5) (drop 5 head) (omega arith) (omega (arith, rest, big)) h final_behind) ∙ live2 a2 (torn_from _ _ _ _ two)
 
 pub placing-is_sound : (g : Geometry) → PlacingIsSound g
 placing-is_sound g a0 a1 a2 a3 p page flags is m free ready all = (
   λ c h. ⊎_elim
-      (λ (x : Torn (entry_at g p) (take 2 page) a0 c).
+      (λ (x : HalfProgrammed (entry_at g p) (take 2 page) a0 c).
       (keep1 g a0 p page flags is free ready a1 all.one a2 all.two a3 all.three m c x, agree1 g a0 p page flags is free ready a1 all.one a2 all.two a3 all.three c x))
-      (λ (y : Torn (p * g.page) (take 5 page) a1 c ⊎ Torn (p * g.page + 5) (drop 5 page) a2 c). ⊎_elim
-      (λ (x : Torn (p * g.page) (take 5 page) a1 c).
+      (λ (y : HalfProgrammed (p * g.page) (take 5 page) a1 c ⊎ HalfProgrammed (p * g.page + 5) (drop 5 page) a2 c). ⊎_elim
+      (λ (x : HalfProgrammed (p * g.page) (take 5 page) a1 c).
       (keep2 g a0 p page flags is free ready a1 all.one a2 all.two a3 all.three m c x, agree2 g a0 p page flags is free ready a1 all.one a2 all.two a3 all.three c x))
-      (λ (x : Torn (p * g.page + 5) (drop 5 page) a2 c).
+      (λ (x : HalfProgrammed (p * g.page + 5) (drop 5 page) a2 c).
       (keep3 g a0 p page flags is free ready a1 all.one a2 all.two a3 all.three m c x, agree3 g a0 p page flags is free ready a1 all.one a2 all.two a3 all.three c x))
       y)
       h,

@@ -6,7 +6,7 @@ use Rattle.std.proofs.lemmas.Bool.{cases_eq, false_from_ne_true}
 use Rattle.geometry.specs.declared.geometry.Geometry.{Geometry}
 use Rattle.image_model.specs.Within.{sizes}
 use Rattle.image_model.specs.Volume.{page_count}
-use Rattle.image_laws.specs.Flash.{SameBut, Torn}
+use Rattle.nor_core.specs.Flash.{SameOutside, HalfProgrammed}
 use Rattle.image_model.specs.Within.{Sizes}
 use Rattle.image_model.specs.Live.{live_at, Live, own}
 use Rattle.image_model.specs.Headers.{is_finished, obj_id, names_index, span_of}
@@ -33,15 +33,15 @@ unfolding is_finished
 removed page index first h = grind (arith, index, first, h)
 
 removing-loses : (g : Geometry) (a b : List ℕ) (p flags k : ℕ) (head : List ℕ) → IsImage g a → live_at g a p ≡ Some head → names_index head ≡ true → span_of head ≡ 0 → (k ≡ 6) ⊎ (k ≡ 7) → bit_at flags k ≡ 0 →
-    Torn (p * g.page + 4) (flags ∷ []) a b → slice_index b (p * g.page + 4) ≡ flags → Loses p (live_at g a) (live_at g b)
+    HalfProgrammed (p * g.page + 4) (flags ∷ []) a b → slice_index b (p * g.page + 4) ≡ flags → Loses p (live_at g a) (live_at g b)
 removing-loses g a b p flags k head is live index first kind clear h done =
     let geo : Sizes g = (sizes g) in
     let big : 128 ≤ g.page = geo.page in
     let parts : LivePage g a p head = live_parts g a p head live in
-    let same : SameBut (p * g.page) g.page a b = wider (p * g.page + 4) 1 (p * g.page) g.page a b (omega arith) (omega arith) h.others in
+    let same : SameOutside (p * g.page) g.page a b = wider (p * g.page + 4) 1 (p * g.page) g.page a b (omega arith) (omega arith) h.outside in
     let byte : slice_index (page_of g b p) 4 ≡ flags = page_byte g b p 4 (omega arith) ∙ done in
     let field : (i : ℕ) → i < 4 → slice_index (page_of g b p) i ≡ slice_index head i =
-    λ i small. page_byte g b p i (omega arith) ∙ h.others.before (p * g.page + i) (omega arith) ∙ sym (page_byte g a p i (omega arith)) ∙ ap (λ (x : List ℕ). slice_index x i) parts.bytes in
+    λ i small. page_byte g b p i (omega arith) ∙ h.outside.before (p * g.page + i) (omega arith) ∙ sym (page_byte g a p i (omega arith)) ∙ ap (λ (x : List ℕ). slice_index x i) parts.bytes in
     let b0 = field 0 (omega arith) in let b1 = field 1 (omega arith) in let b2 = field 2 (omega arith) in let b3 = field 3 (omega arith) in
     let id : obj_id (page_of g b p) ≡ obj_id head = cc in
     let span : span_of (page_of g b p) ≡ span_of head = cc in

@@ -6,7 +6,7 @@ use Rattle.std.proofs.lemmas.Option.{none-some, same_Some}
 use Rattle.geometry.specs.declared.geometry.Geometry.{Geometry}
 use Rattle.image_model.specs.Within.{sizes}
 use Rattle.image_model.specs.Volume.{page_count}
-use Rattle.image_laws.specs.Flash.{Torn}
+use Rattle.nor_core.specs.Flash.{HalfProgrammed}
 use Rattle.image_model.specs.Live.{live_at, Live, own}
 use Rattle.image_model.specs.Places.{has_magic, page_of, block_of, is_entry_page, IsImage}
 use Rattle.image_model.specs.Headers.{names_index}
@@ -80,19 +80,19 @@ keeps-on g a b c x y = record {
 
 pub placing_entry-sound : (g : Geometry) → PlacingEntryIsSound g
 placing_entry-sound g a b p asked is h unfinished two torn =
-    keeps-by_live g a b h (magic-same_entry g (sizes g) a b p unfinished.entry_page (rw two at torn.others))
+    keeps-by_live g a b h (magic-same_entry g (sizes g) a b p unfinished.entry_page (rw two at torn.outside))
     (live-placing_entry g (sizes g) a b p unfinished.entry_page unfinished.final asked two torn)
 
 pub placing_page-sound : (g : Geometry) → PlacingPageIsSound g
 placing_page-sound g a b p at asked is h unfinished low high keeps torn =
-    keeps-by_live g a b h (magic-same_page g (sizes g) a b p unfinished.entry_page (wider at (length asked) (p * g.page) g.page a b low high torn.others))
+    keeps-by_live g a b h (magic-same_page g (sizes g) a b p unfinished.entry_page (wider at (length asked) (p * g.page) g.page a b low high torn.outside))
     (live-placing_page g (sizes g) a b p unfinished.entry_page unfinished.final at asked low high torn keeps)
 
 -- the magics stay where the flags byte of an entry page changes
-pub magic-flags : (g : Geometry) (a b : List ℕ) (p flags : ℕ) → IsImage g a → is_entry_page g p ≡ true → Torn (p * g.page + 4) (flags ∷ []) a b → (c : ℕ) → has_magic g b c ≡ has_magic g a c
+pub magic-flags : (g : Geometry) (a b : List ℕ) (p flags : ℕ) → IsImage g a → is_entry_page g p ≡ true → HalfProgrammed (p * g.page + 4) (flags ∷ []) a b → (c : ℕ) → has_magic g b c ≡ has_magic g a c
 magic-flags g a b p flags is page torn =
     let big : 128 ≤ g.page = (sizes g).page in
-    magic-same_page g (sizes g) a b p page (wider (p * g.page + 4) 1 (p * g.page) g.page a b (omega arith) (omega arith) torn.others)
+    magic-same_page g (sizes g) a b p page (wider (p * g.page + 4) 1 (p * g.page) g.page a b (omega arith) (omega arith) torn.outside)
 
 -- ---- a page more
 

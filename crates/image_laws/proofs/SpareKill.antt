@@ -3,7 +3,7 @@ use Rattle.std.proofs.Common.{◌≡◌, ◌≢◌, ℕ, ◌+◌, ◌*◌, ◌%�
 use Rattle.std.proofs.lemmas.Bool.{cases_eq, and_parts, ne_eqb, eq-eqb}
 use Rattle.std.proofs.lemmas.Option.{none-some}
 use Rattle.geometry.specs.declared.geometry.Geometry.{Geometry}
-use Rattle.image_laws.specs.Flash.{Torn}
+use Rattle.nor_core.specs.Flash.{HalfProgrammed}
 use Rattle.image_model.specs.Within.{sizes}
 use Rattle.image_model.specs.Live.{live_at, own}
 use Rattle.image_model.specs.Headers.{obj_id, is_finished}
@@ -21,7 +21,7 @@ use Rattle.image_laws.proofs.Wanted.{unwanted-idle}
 use Rattle.image_laws.proofs.Unwanted.{unwanted-leaves}
 use Rattle.image_laws.proofs.Sounding.{killing-sound, keeps-on, loses-back}
 use Rattle.image_laws.proofs.Junk.{dead_entry-keeps}
-use Rattle.image_laws.proofs.CreateStep.{torn_from}
+use Rattle.image_laws.proofs.Finished.{torn_from}
 use Rattle.image_laws.proofs.FreeBlocks.{free_blocks-fall, used-is_not_free}
 use Rattle.image_laws.proofs.TidySteps.{tidy-is_tidy, killing-tidy, killed-tidies, wanted-same}
 use Rattle.image_laws.proofs.RenewStep.{live-used}
@@ -35,19 +35,19 @@ module _ (g : Geometry) (a b d : List ℕ) (r kill : ℕ) (x : List ℕ) (spare 
   idle : IsIdle g (own (live_at g a) (obj_id x % 0x8000)) r
   idle = let big : 128 ≤ g.page = (sizes g).page in let w = s.unwanted r x sp live in unwanted-idle g a r x live w.0 w.1
 
-  torn1 : Torn (r * g.page + 4) (kill ∷ []) a b
+  torn1 : HalfProgrammed (r * g.page + 4) (kill ∷ []) a b
   torn1 = torn_from _ _ _ _ kills.delete
 
   imageb : IsImage g b
-  imageb = record { len = omega (arith, torn1.others.len, is.len) }
+  imageb = record { len = omega (arith, torn1.outside.size, is.len) }
 
-  keeps1 : (c : List ℕ) → Torn (r * g.page + 4) (kill ∷ []) a c → Keeps g a c
+  keeps1 : (c : List ℕ) → HalfProgrammed (r * g.page + 4) (kill ∷ []) a c → Keeps g a c
   keeps1 c h = killing-sound g a c r kill x is m live clears idle h
 
   is_dead : is_finished (page_of g b r) ≡ false
   is_dead = dead g a b d r kill x is live clears kills
 
-  keeps2 : (c : List ℕ) → Torn (entry_at g r) (0 ∷ 0 ∷ []) b c → ((q : ℕ) → live_at g c q ≡ live_at g b q) × Keeps g a c
+  keeps2 : (c : List ℕ) → HalfProgrammed (entry_at g r) (0 ∷ 0 ∷ []) b c → ((q : ℕ) → live_at g c q ≡ live_at g b q) × Keeps g a c
   keeps2 c h =
       let k = keeps1 b torn1 in
       let w = dead_entry-keeps g b c r (0 ∷ 0 ∷ []) imageb k.sound.magics inside is_dead refl h in (w.0, keeps-on g a b c k w.1)
@@ -82,7 +82,7 @@ module _ (g : Geometry) (a b d : List ℕ) (r kill : ℕ) (x : List ℕ) (spare 
   result : ((c : List ℕ) → KillCut g r kill a b c → Keeps g a c × (free_blocks g a ≤ free_blocks g c)) × IsImage g d × Keeps g a d × Spares g (λ q. spare q && not (q == r)) d
   result = (
     λ c h. (
-      ⊎_elim (λ (y : Torn (r * g.page + 4) (kill ∷ []) a c). keeps1 c y) (λ (y : Torn (entry_at g r) (0 ∷ 0 ∷ []) b c). (keeps2 c y).1) h,
+      ⊎_elim (λ (y : HalfProgrammed (r * g.page + 4) (kill ∷ []) a c). keeps1 c y) (λ (y : HalfProgrammed (entry_at g r) (0 ∷ 0 ∷ []) b c). (keeps2 c y).1) h,
       free c ((kill-changes g a b d r kill x is live clears kills).0 c h).agree,
     ),
     leaves.image,

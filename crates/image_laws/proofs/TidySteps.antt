@@ -6,7 +6,8 @@ use Rattle.std.specs.Int.Bits.{and_zero_r}
 use Rattle.std.proofs.lemmas.Bool.{cases_eq}
 use Rattle.std.proofs.lemmas.Option.{same_Some}
 use Rattle.geometry.specs.declared.geometry.Geometry.{Geometry}
-use Rattle.image_laws.specs.Flash.{SameBut, Torn, Programmed}
+use Rattle.nor_core.specs.Flash.{SameOutside, HalfProgrammed}
+use Rattle.image_laws.specs.Flash.{Programmed}
 use Rattle.image_model.specs.Within.{sizes}
 use Rattle.image_model.specs.Within.{Sizes}
 use Rattle.image_model.specs.Live.{live_at, Live}
@@ -24,7 +25,7 @@ use Rattle.image_laws.proofs.Bits.{one_bit_image}
 use Rattle.image_laws.proofs.Kill.{killing-loses, killing-keeps}
 use Rattle.image_laws.proofs.Publish.{finishing-gains}
 use Rattle.image_laws.proofs.Sounding.{loses-back, gains-undamaged, other-kind}
-use Rattle.image_laws.proofs.CreateStep.{torn_from}
+use Rattle.image_laws.proofs.Finished.{torn_from}
 use Rattle.image_laws.proofs.Wants.{wanted-gains, wanted-new, wanted-loses}
 
 pub tidy-is_tidy : (g : Geometry) → TidyIsTidy g
@@ -56,14 +57,14 @@ pub wanted-same : (g : Geometry) (a b : List ℕ) → ((q : ℕ) → live_at g b
 unfolding is_wanted
 wanted-same g a b live q = ap (λ (l : Live). is_wanted_as g l (l q) q) (fun_ext live)
 
-pub agree_page : (g : Geometry) (a b : List ℕ) (p : ℕ) → Sizes g → is_entry_page g p ≡ true → SameBut (p * g.page) g.page a b → Agree g a b p
+pub agree_page : (g : Geometry) (a b : List ℕ) (p : ℕ) → Sizes g → is_entry_page g p ≡ true → SameOutside (p * g.page) g.page a b → Agree g a b p
 agree_page g a b p geo page h = record {
   magic = magic-same_page g geo a b p page h;
   entry = λ q e there. entry-same_page g geo a b p page h q;
   page = λ q e there. other-same_page g geo a b p page h q there;
 }
 
-pub agree_entry : (g : Geometry) (a b : List ℕ) (p : ℕ) → Sizes g → is_entry_page g p ≡ true → SameBut (entry_at g p) 2 a b → Agree g a b p
+pub agree_entry : (g : Geometry) (a b : List ℕ) (p : ℕ) → Sizes g → is_entry_page g p ≡ true → SameOutside (entry_at g p) 2 a b → Agree g a b p
 agree_entry g a b p geo page h = record {
   magic = magic-same_entry g geo a b p page h;
   entry = λ q e there. entry-same_entry g geo a b p page h q (entry_place-at g q e) there;
@@ -101,16 +102,16 @@ tidy_live g a b p spare later agree t leaves live here = record {
 
 pub placing_entry-tidy : (g : Geometry) → PlacingEntryTidy g
 placing_entry-tidy g a b p asked spare is t sp unfinished two torn =
-    tidy_live g a b p spare spare (agree_entry g a b p (sizes g) unfinished.entry_page (rw two at torn.others)) t (λ q there s. s)
+    tidy_live g a b p spare spare (agree_entry g a b p (sizes g) unfinished.entry_page (rw two at torn.outside)) t (λ q there s. s)
     (live-placing_entry g (sizes g) a b p unfinished.entry_page unfinished.final asked two torn) (inl sp)
 
 pub placing_page-tidy : (g : Geometry) → PlacingPageTidy g
 placing_page-tidy g a b p at asked spare is t sp unfinished low high keeps torn =
-    tidy_live g a b p spare spare (agree_page g a b p (sizes g) unfinished.entry_page (wider at (length asked) (p * g.page) g.page a b low high torn.others)) t (λ q there s. s)
+    tidy_live g a b p spare spare (agree_page g a b p (sizes g) unfinished.entry_page (wider at (length asked) (p * g.page) g.page a b low high torn.outside)) t (λ q there s. s)
     (live-placing_page g (sizes g) a b p unfinished.entry_page unfinished.final at asked low high torn keeps) (inl sp)
 
-pub wide_flags : (g : Geometry) (a b : List ℕ) (p flags : ℕ) → IsImage g a → Torn (p * g.page + 4) (flags ∷ []) a b → SameBut (p * g.page) g.page a b
-wide_flags g a b p flags is torn = let big : 128 ≤ g.page = (sizes g).page in wider (p * g.page + 4) 1 (p * g.page) g.page a b (omega arith) (omega arith) torn.others
+pub wide_flags : (g : Geometry) (a b : List ℕ) (p flags : ℕ) → IsImage g a → HalfProgrammed (p * g.page + 4) (flags ∷ []) a b → SameOutside (p * g.page) g.page a b
+wide_flags g a b p flags is torn = let big : 128 ≤ g.page = (sizes g).page in wider (p * g.page + 4) 1 (p * g.page) g.page a b (omega arith) (omega arith) torn.outside
 
 module _ (g : Geometry) (old new : Live) (p : ℕ) (page : List ℕ) (change : Gains p page old new) (kind : IsOfKind g old p page)
     (unmixed : (q r : ℕ) (x y : List ℕ) → old q ≡ Some x → old r ≡ Some y → block_of g q ≡ block_of g r → names_index x ≡ names_index y) where
@@ -172,10 +173,10 @@ zeroed g a b p h =
 
 pub killed-tidies : (g : Geometry) → KilledTidies g
 killed-tidies g a b p spare later leaves is t sp page unfinished = (
-  λ torn. tidy_live g a b p spare spare (agree_entry g a b p (sizes g) page torn.others) t (λ q there s. s)
-      (live-entry_changed g (sizes g) a b p page torn.others unfinished) (inl sp),
-  λ h. tidy_live g a b p spare later (agree_entry g a b p (sizes g) page h.others) t leaves.others
-      (live-entry_changed g (sizes g) a b p page h.others unfinished) (inr (inl (zeroed g a b p h))),
+  λ torn. tidy_live g a b p spare spare (agree_entry g a b p (sizes g) page torn.outside) t (λ q there s. s)
+      (live-entry_changed g (sizes g) a b p page torn.outside unfinished) (inl sp),
+  λ h. tidy_live g a b p spare later (agree_entry g a b p (sizes g) page h.outside) t leaves.others
+      (live-entry_changed g (sizes g) a b p page h.outside unfinished) (inr (inl (zeroed g a b p h))),
 )
 
 pub programs-agree : (g : Geometry) → ProgramsAgree g

@@ -1,7 +1,8 @@
 -- A whole create, of its four programs.
 use Rattle.std.specs.Prelude.{◌≡◌, ℕ, ◌+◌, ◌*◌, ◌≤◌, ◌⊎◌, List, [], ◌∷◌, take, drop, slice_set}
 use Rattle.geometry.specs.declared.geometry.Geometry.{Geometry}
-use Rattle.image_laws.specs.Flash.{Torn, Programmed}
+use Rattle.nor_core.specs.Flash.{HalfProgrammed}
+use Rattle.image_laws.specs.Flash.{Programmed}
 use Rattle.image_model.specs.Live.{live_at}
 use Rattle.table_model.specs.Table.{File, put_file}
 use Rattle.image_model.specs.Tables.{table_of}
@@ -37,4 +38,4 @@ pub record CutOf (g : Geometry) (first : List ℕ) (f : File) (c : List ℕ) : T
 -- cut off in any of the four
 abbrev pub CreateIsSound : Geometry → Type 0
 CreateIsSound g = (a0 a1 a2 a3 c : List ℕ) (p id : ℕ) (head : List ℕ) (f : File) → Creates g a0 p id head f → HasMagics g a0 → Placed g p head a0 a1 a2 a3 →
-    Torn (entry_at g p) (take 2 head) a0 c ⊎ (Torn (p * g.page) (take 5 head) a1 c ⊎ (Torn (p * g.page + 5) (drop 5 head) a2 c ⊎ Torn (p * g.page + 4) (0xF8 ∷ []) a3 c)) → CutOf g a0 f c
+    HalfProgrammed (entry_at g p) (take 2 head) a0 c ⊎ (HalfProgrammed (p * g.page) (take 5 head) a1 c ⊎ (HalfProgrammed (p * g.page + 5) (drop 5 head) a2 c ⊎ HalfProgrammed (p * g.page + 4) (0xF8 ∷ []) a3 c)) → CutOf g a0 f c

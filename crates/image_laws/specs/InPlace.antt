@@ -1,7 +1,7 @@
 -- An entry past the page count is programmed in place.
 use Rattle.std.specs.Prelude.{◌≡◌, ℕ, ◌+◌, ◌-◌, ◌*◌, ◌%◌, ◌≤◌, List, length, true, Some, nat_lt, if◌then◌else◌}
 use Rattle.geometry.specs.declared.geometry.Geometry.{Geometry}
-use Rattle.image_laws.specs.Flash.{Torn}
+use Rattle.nor_core.specs.Flash.{HalfProgrammed}
 use Rattle.geometry.specs.Numbers.{head_slots, span_slots}
 use Rattle.table_model.specs.Room.{data_pages}
 use Rattle.image_model.specs.Live.{live_at, own}
@@ -19,4 +19,4 @@ slot_at g t = if nat_lt t (head_slots g) then 45 + g.meta + 2 * t else 8 + 2 * (
 abbrev pub EntryInPlaceKeeps : Geometry → Type 0
 EntryInPlaceKeeps g = (a b : List ℕ) (p h t id : ℕ) (asked x head : List ℕ) → IsImage g a → HasMagics g a → own (live_at g a) id p ≡ Some x → names_index x ≡ true →
     index_page g (own (live_at g a) id) 0 ≡ Some h → own (live_at g a) id h ≡ Some head → data_pages g (size_of head) ≤ t → index_span g t ≡ span_of x → length asked ≡ 2 →
-    Torn (p * g.page + slot_at g t) asked a b → Keeps g a b
+    HalfProgrammed (p * g.page + slot_at g t) asked a b → Keeps g a b

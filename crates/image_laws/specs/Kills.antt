@@ -5,7 +5,7 @@ use Rattle.std.specs.Int.{bit_at}
 use Rattle.geometry.specs.declared.geometry.Geometry.{Geometry}
 use Rattle.image_model.specs.Killed.{is_killable, killed_of, is_dead_entry, dead_entries}
 use Rattle.image_model.specs.Volume.{page_count}
-use Rattle.image_laws.specs.Flash.{Torn}
+use Rattle.nor_core.specs.Flash.{HalfProgrammed}
 use Rattle.image_model.specs.Headers.{obj_id, is_finished}
 use Rattle.image_model.specs.Live.{live_at}
 use Rattle.image_model.specs.Places.{has_magic, entry_of, page_of, block_of, is_entry_page, IsImage, entry_at}
@@ -23,12 +23,12 @@ pub record Deletes (old asked : ℕ) : Type 0 where
 -- The flags byte of a page that is not live: whatever the image holds, cut off or not, no page comes to life.
 abbrev pub JunkFlagsKeep : Geometry → Type 0
 JunkFlagsKeep g = (a b : List ℕ) (p asked : ℕ) → IsImage g a → HasMagics g a → is_entry_page g p ≡ true → live_at g a p ≡ None → Deletes (slice_index a (p * g.page + 4)) asked →
-    Torn (p * g.page + 4) (asked ∷ []) a b → ((q : ℕ) → live_at g b q ≡ live_at g a q) × Keeps g a b
+    HalfProgrammed (p * g.page + 4) (asked ∷ []) a b → ((q : ℕ) → live_at g b q ≡ live_at g a q) × Keeps g a b
 
 -- The entry of a page that is not finished, as one that is deleted.
 abbrev pub DeadEntryKeeps : Geometry → Type 0
 DeadEntryKeeps g = (a b : List ℕ) (p : ℕ) (asked : List ℕ) → IsImage g a → HasMagics g a → is_entry_page g p ≡ true → is_finished (page_of g a p) ≡ false → length asked ≡ 2 →
-    Torn (entry_at g p) asked a b → ((q : ℕ) → live_at g b q ≡ live_at g a q) × Keeps g a b
+    HalfProgrammed (entry_at g p) asked a b → ((q : ℕ) → live_at g b q ≡ live_at g a q) × Keeps g a b
 
 -- what a turn of the first stage leaves
 pub record Turned (g : Geometry) (p : ℕ) (killed : Bool) (a b : List ℕ) : Type 0 where
@@ -49,4 +49,4 @@ KillCounts g = (a b : List ℕ) (p : ℕ) → IsImage g a → Agree g a b p → 
 abbrev pub UnwantedLeaves : Geometry → Type 0
 UnwantedLeaves g = (a b : List ℕ) (p flags : ℕ) (page : List ℕ) → IsImage g a → live_at g a p ≡ Some page → is_wanted g a p ≡ false →
     is_some (counted (has_of g (live_at g a)) 0x7FFF (has_of g (live_at g a) (obj_id page % 0x8000))) ≡ true →
-    ClearsBit 7 (slice_index a (p * g.page + 4)) flags → Torn (p * g.page + 4) (flags ∷ []) a b → (q : ℕ) → q ≢ p → is_wanted g b q ≡ is_wanted g a q
+    ClearsBit 7 (slice_index a (p * g.page + 4)) flags → HalfProgrammed (p * g.page + 4) (flags ∷ []) a b → (q : ℕ) → q ≢ p → is_wanted g b q ≡ is_wanted g a q

@@ -7,7 +7,6 @@ pub mod PageCounts
 pub mod BlockCounts
 pub mod Creating
 pub mod Changes
-pub mod Bridge
 pub mod IndexStage
 pub mod InPlace
 pub mod Leads

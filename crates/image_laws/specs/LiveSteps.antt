@@ -1,7 +1,8 @@
 -- A put and a kill, each at every cut and done, as changes of the live pages.
 use Rattle.std.specs.Prelude.{◌≡◌, ℕ, ◌+◌, ◌*◌, ◌⊎◌, List, [], ◌∷◌, slice_index, slice_set, Some}
 use Rattle.geometry.specs.declared.geometry.Geometry.{Geometry}
-use Rattle.image_laws.specs.Flash.{Torn, Programmed}
+use Rattle.nor_core.specs.Flash.{HalfProgrammed}
+use Rattle.image_laws.specs.Flash.{Programmed}
 use Rattle.image_model.specs.Live.{live_at}
 use Rattle.image_model.specs.Places.{entry_of, IsImage, entry_at}
 use Rattle.image_laws.specs.Changes.{Gains, Loses}
@@ -17,7 +18,7 @@ pub record Finished (g : Geometry) (p : ℕ) (page : List ℕ) (fin : ℕ) (a0 a
   pub finish : Programmed (p * g.page + 4) (fin ∷ []) a3 a4
 
 abbrev pub PutCut : Geometry → ℕ → List ℕ → ℕ → List ℕ → List ℕ → List ℕ → List ℕ → List ℕ → Type 0
-PutCut g p page fin a0 a1 a2 a3 c = PlacingCut g p page a0 a1 a2 c ⊎ Torn (p * g.page + 4) (fin ∷ []) a3 c
+PutCut g p page fin a0 a1 a2 a3 c = PlacingCut g p page a0 a1 a2 c ⊎ HalfProgrammed (p * g.page + 4) (fin ∷ []) a3 c
 
 -- the two of a kill
 pub record Kills (g : Geometry) (o kill : ℕ) (a b c : List ℕ) : Type 0 where
@@ -25,7 +26,7 @@ pub record Kills (g : Geometry) (o kill : ℕ) (a b c : List ℕ) : Type 0 where
   pub clear : Programmed (entry_at g o) (0 ∷ 0 ∷ []) b c
 
 abbrev pub KillCut : Geometry → ℕ → ℕ → List ℕ → List ℕ → List ℕ → Type 0
-KillCut g o kill a b c = Torn (o * g.page + 4) (kill ∷ []) a c ⊎ Torn (entry_at g o) (0 ∷ 0 ∷ []) b c
+KillCut g o kill a b c = HalfProgrammed (o * g.page + 4) (kill ∷ []) a c ⊎ HalfProgrammed (entry_at g o) (0 ∷ 0 ∷ []) b c
 
 pub record PutLeaves (g : Geometry) (p : ℕ) (page a c : List ℕ) : Type 0 where
   pub image : IsImage g c

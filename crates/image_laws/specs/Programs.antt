@@ -3,7 +3,7 @@ use Rattle.std.specs.Prelude.{◌≡◌, ◌≢◌, ℕ, ◌+◌, ◌-◌, ◌*�
 use Rattle.std.specs.List.{All}
 use Rattle.std.specs.Int.{bit_at}
 use Rattle.geometry.specs.declared.geometry.Geometry.{Geometry}
-use Rattle.image_laws.specs.Flash.{SameBut, Torn}
+use Rattle.nor_core.specs.Flash.{SameOutside, HalfProgrammed}
 use Rattle.image_model.specs.Places.{IsImage, entry_at}
 use Rattle.image_model.specs.Within.{Sizes}
 use Rattle.image_model.specs.Volume.{lookups}
@@ -30,12 +30,12 @@ pub record IsUnfinished (g : Geometry) (image : List ℕ) (p : ℕ) : Type 0 whe
 
 -- Placing: programs of the entry, and inside the page that leave FINAL, keep the table, also where they are cut off.
 abbrev pub PlacingEntryKeeps : Geometry → Type 0
-PlacingEntryKeeps g = (a b : List ℕ) (p : ℕ) (asked : List ℕ) → IsImage g a → IsUnfinished g a p → length asked ≡ 2 → Torn (entry_at g p) asked a b →
+PlacingEntryKeeps g = (a b : List ℕ) (p : ℕ) (asked : List ℕ) → IsImage g a → IsUnfinished g a p → length asked ≡ 2 → HalfProgrammed (entry_at g p) asked a b →
     (table_of g b ≡ table_of g a) × (damaged_of g b ≡ damaged_of g a) × IsUnfinished g b p
 
 abbrev pub PlacingPageKeeps : Geometry → Type 0
 PlacingPageKeeps g = (a b : List ℕ) (p at : ℕ) (asked : List ℕ) → IsImage g a → IsUnfinished g a p → p * g.page ≤ at → at + length asked ≤ p * g.page + g.page →
-    ((i : ℕ) → i < length asked → at + i ≡ p * g.page + 4 → bit_at (slice_index asked i) 1 ≡ 1) → Torn at asked a b →
+    ((i : ℕ) → i < length asked → at + i ≡ p * g.page + 4 → bit_at (slice_index asked i) 1 ≡ 1) → HalfProgrammed at asked a b →
     (table_of g b ≡ table_of g a) × (damaged_of g b ≡ damaged_of g a) × IsUnfinished g b p
 
 -- a placed page that is live once its flags are these
@@ -64,7 +64,7 @@ pub record LeadsTo (g : Geometry) (image : List ℕ) (id : ℕ) (head : List ℕ
 -- Finishing a header page, also where that is cut off, leaves the table or puts the file into it.
 abbrev pub FinishingPublishes : Geometry → Type 0
 FinishingPublishes g = (a b : List ℕ) (p flags id : ℕ) (f : File) → IsImage g a → IsPlaced g a p flags →
-    LeadsTo g a id (slice_set (page_of g a p) 4 flags) f → Torn (p * g.page + 4) (flags ∷ []) a b →
+    LeadsTo g a id (slice_set (page_of g a p) 4 flags) f → HalfProgrammed (p * g.page + 4) (flags ∷ []) a b →
     (table_of g b ≡ table_of g a) ⊎ (table_of g b ≡ put_file f (table_of g a))
 
 -- of the live pages of this id, q and p alone are header pages
@@ -78,7 +78,7 @@ pub record HasTwoHeads (g : Geometry) (image : List ℕ) (id p q : ℕ) (old hea
 -- Killing the old header page, also where that is cut off, leaves the table or puts the file of the new one into it.
 abbrev pub KillingRetires : Geometry → Type 0
 KillingRetires g = (a b : List ℕ) (p q flags id : ℕ) (old head : List ℕ) (f : File) → IsImage g a → ClearsBit 7 (slice_index a (p * g.page + 4)) flags →
-    HasTwoHeads g a id p q old head → LeadsTo g a id head f → Torn (p * g.page + 4) (flags ∷ []) a b →
+    HasTwoHeads g a id p q old head → LeadsTo g a id head f → HalfProgrammed (p * g.page + 4) (flags ∷ []) a b →
     (table_of g b ≡ table_of g a) ⊎ (table_of g b ≡ put_file f (table_of g a))
 
 -- page p serves the id with these pages in no way
@@ -90,24 +90,24 @@ pub record IsIdle (g : Geometry) (pages : Live) (p : ℕ) : Type 0 where
 -- Killing an idle page, also where that is cut off, keeps the table and what is damaged.
 abbrev pub KillingKeeps : Geometry → Type 0
 KillingKeeps g = (a b : List ℕ) (p flags : ℕ) (page : List ℕ) → IsImage g a → live_at g a p ≡ Some page → ClearsBit 7 (slice_index a (p * g.page + 4)) flags →
-    IsIdle g (own (live_at g a) (obj_id page % 0x8000)) p → Torn (p * g.page + 4) (flags ∷ []) a b →
+    IsIdle g (own (live_at g a) (obj_id page % 0x8000)) p → HalfProgrammed (p * g.page + 4) (flags ∷ []) a b →
     (table_of g b ≡ table_of g a) × (damaged_of g b ≡ damaged_of g a)
 
 -- The program of its entry keeps them too, as that of any entry of a page that is not finished or is deleted.
 abbrev pub EntryKeeps : Geometry → Type 0
-EntryKeeps g = (a b : List ℕ) (p : ℕ) (asked : List ℕ) → IsImage g a → is_entry_page g p ≡ true → is_finished (page_of g a p) ≡ false → length asked ≡ 2 → Torn (entry_at g p) asked a b →
+EntryKeeps g = (a b : List ℕ) (p : ℕ) (asked : List ℕ) → IsImage g a → is_entry_page g p ≡ true → is_finished (page_of g a p) ≡ false → length asked ≡ 2 → HalfProgrammed (entry_at g p) asked a b →
     (table_of g b ≡ table_of g a) × (damaged_of g b ≡ damaged_of g a)
 
 -- Programming bytes of a live data page past the end of its file, also where that is cut off, keeps the table and what is damaged.
 abbrev pub AppendingKeeps : Geometry → Type 0
 AppendingKeeps g = (a b : List ℕ) (p h at : ℕ) (asked page head : List ℕ) → IsImage g a → live_at g a p ≡ Some page → names_index page ≡ false →
     index_page g (own (live_at g a) (obj_id page % 0x8000)) 0 ≡ Some h → own (live_at g a) (obj_id page % 0x8000) h ≡ Some head →
-    p * g.page + 5 + (size_of head - span_of page * body g) ≤ at → at + length asked ≤ p * g.page + g.page → Torn at asked a b →
+    p * g.page + 5 + (size_of head - span_of page * body g) ≤ at → at + length asked ≤ p * g.page + g.page → HalfProgrammed at asked a b →
     (table_of g b ≡ table_of g a) × (damaged_of g b ≡ damaged_of g a)
 
 -- A change inside block c, none of whose pages is live before or after, as at each moment of an erase, keeps the table and what is damaged.
 abbrev pub BlockKeeps : Geometry → Type 0
-BlockKeeps g = (a b : List ℕ) (c : ℕ) → IsImage g a → SameBut (c * g.block) g.block a b →
+BlockKeeps g = (a b : List ℕ) (c : ℕ) → IsImage g a → SameOutside (c * g.block) g.block a b →
     ((p : ℕ) → block_of g p ≡ c → live_at g a p ≡ None) → ((p : ℕ) → block_of g p ≡ c → live_at g b p ≡ None) →
     (table_of g b ≡ table_of g a) × (damaged_of g b ≡ damaged_of g a)
 
@@ -127,7 +127,7 @@ pub record HasOneHead (g : Geometry) (image : List ℕ) (id p : ℕ) (head : Lis
 -- Removing: the program of IXDELE or DELET of the one header page, also where that is cut off, leaves the table or takes the file out of it.
 abbrev pub RemovingDrops : Geometry → Type 0
 RemovingDrops g = (a b : List ℕ) (p flags id k : ℕ) (head : List ℕ) → IsImage g a → (k ≡ 6) ⊎ (k ≡ 7) → ClearsBit k (slice_index a (p * g.page + 4)) flags →
-    HasOneHead g a id p head → Torn (p * g.page + 4) (flags ∷ []) a b →
+    HasOneHead g a id p head → HalfProgrammed (p * g.page + 4) (flags ∷ []) a b →
     (table_of g b ≡ table_of g a) ⊎ (table_of g b ≡ drop_file id (table_of g a))
 
 -- Killing a page that is not wanted, of an id in the table, keeps the table.

@@ -1,7 +1,7 @@
 -- Putting a page: three programs place it, one finishes it.
 use Rattle.std.specs.Prelude.{◌≡◌, ℕ, ◌+◌, ◌*◌, ◌<◌, ◌⊎◌, List, length, take, drop, true, slice_index, slice_set}
 use Rattle.geometry.specs.declared.geometry.Geometry.{Geometry}
-use Rattle.image_laws.specs.Flash.{Torn}
+use Rattle.nor_core.specs.Flash.{HalfProgrammed}
 use Rattle.image_model.specs.Live.{live_at}
 use Rattle.image_model.specs.Places.{page_of, IsImage, entry_at}
 use Rattle.image_model.specs.Headers.{is_finished}
@@ -21,7 +21,7 @@ pub record IsReadyPage (g : Geometry) (page : List ℕ) (flags : ℕ) : Type 0 w
 
 -- what one of the three programs, cut off, leaves
 abbrev pub PlacingCut : Geometry → ℕ → List ℕ → List ℕ → List ℕ → List ℕ → List ℕ → Type 0
-PlacingCut g p page a0 a1 a2 c = Torn (entry_at g p) (take 2 page) a0 c ⊎ (Torn (p * g.page) (take 5 page) a1 c ⊎ Torn (p * g.page + 5) (drop 5 page) a2 c)
+PlacingCut g p page a0 a1 a2 c = HalfProgrammed (entry_at g p) (take 2 page) a0 c ⊎ (HalfProgrammed (p * g.page) (take 5 page) a1 c ⊎ HalfProgrammed (p * g.page + 5) (drop 5 page) a2 c)
 
 -- a page is placed, and all else is as it was
 pub record IsPut (g : Geometry) (p : ℕ) (page : List ℕ) (flags : ℕ) (a b : List ℕ) : Type 0 where

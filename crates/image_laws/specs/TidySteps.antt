@@ -2,7 +2,8 @@
 use Rattle.std.specs.Prelude.{◌≡◌, ◌≢◌, ℕ, Bool, ◌+◌, ◌*◌, ◌%◌, ◌<◌, ◌≤◌, ◌⊎◌, List, [], ◌∷◌, length, true, false, Some, None, slice_index, slice_set}
 use Rattle.std.specs.Int.{bit_at}
 use Rattle.geometry.specs.declared.geometry.Geometry.{Geometry}
-use Rattle.image_laws.specs.Flash.{Torn, Programmed, SameBut}
+use Rattle.nor_core.specs.Flash.{HalfProgrammed, SameOutside}
+use Rattle.image_laws.specs.Flash.{Programmed}
 use Rattle.image_model.specs.Within.{Sizes}
 use Rattle.image_model.specs.Live.{live_at, own}
 use Rattle.image_model.specs.Places.{page_of, block_of, has_magic, is_entry_page, entry_of, IsImage, entry_at}
@@ -32,12 +33,12 @@ TidyIsTidy g = (a : List ℕ) (spare : ℕ → Bool) → (IsTidy g a → IsTidyB
 
 abbrev pub PlacingEntryTidy : Geometry → Type 0
 PlacingEntryTidy g = (a b : List ℕ) (p : ℕ) (asked : List ℕ) (spare : ℕ → Bool) → IsImage g a → IsTidyBut g a spare → spare p ≡ true → IsUnfinished g a p → length asked ≡ 2 →
-    Torn (entry_at g p) asked a b → IsTidyBut g b spare
+    HalfProgrammed (entry_at g p) asked a b → IsTidyBut g b spare
 
 abbrev pub PlacingPageTidy : Geometry → Type 0
 PlacingPageTidy g = (a b : List ℕ) (p at : ℕ) (asked : List ℕ) (spare : ℕ → Bool) → IsImage g a → IsTidyBut g a spare → spare p ≡ true → IsUnfinished g a p →
     p * g.page ≤ at → at + length asked ≤ p * g.page + g.page →
-    ((i : ℕ) → i < length asked → at + i ≡ p * g.page + 4 → bit_at (slice_index asked i) 1 ≡ 1) → Torn at asked a b → IsTidyBut g b spare
+    ((i : ℕ) → i < length asked → at + i ≡ p * g.page + 4 → bit_at (slice_index asked i) 1 ≡ 1) → HalfProgrammed at asked a b → IsTidyBut g b spare
 
 -- finishing the header page of a new id: it is wanted then
 abbrev pub FinishingTidies : Geometry → Type 0
@@ -48,12 +49,12 @@ FinishingTidies g = (a b : List ℕ) (p flags id : ℕ) (f : File) (spare later 
 -- killing an idle page: the flags byte, also where it is cut off, leaves the others as they are
 abbrev pub KillingTidy : Geometry → Type 0
 KillingTidy g = (a b : List ℕ) (p flags : ℕ) (page : List ℕ) (spare : ℕ → Bool) → IsImage g a → IsTidyBut g a spare → spare p ≡ true → live_at g a p ≡ Some page → ClearsBit 7 (slice_index a (p * g.page + 4)) flags →
-    IsIdle g (own (live_at g a) (obj_id page % 0x8000)) p → Torn (p * g.page + 4) (flags ∷ []) a b → IsTidyBut g b spare
+    IsIdle g (own (live_at g a) (obj_id page % 0x8000)) p → HalfProgrammed (p * g.page + 4) (flags ∷ []) a b → IsTidyBut g b spare
 
 -- then the entry: cut off it leaves the others, and done the page is no spare one any more
 abbrev pub KilledTidies : Geometry → Type 0
 KilledTidies g = (a b : List ℕ) (p : ℕ) (spare later : ℕ → Bool) → Leaves p spare later → IsImage g a → IsTidyBut g a spare → spare p ≡ true → is_entry_page g p ≡ true → is_finished (page_of g a p) ≡ false →
-    (Torn (entry_at g p) (0 ∷ 0 ∷ []) a b → IsTidyBut g b spare) × (Programmed (entry_at g p) (0 ∷ 0 ∷ []) a b → IsTidyBut g b later)
+    (HalfProgrammed (entry_at g p) (0 ∷ 0 ∷ []) a b → IsTidyBut g b spare) × (Programmed (entry_at g p) (0 ∷ 0 ∷ []) a b → IsTidyBut g b later)
 
 -- Two images agree but for page p and its entry, as before and after any programs of these, done or cut off.
 pub record Agree (g : Geometry) (a b : List ℕ) (p : ℕ) : Type 0 where
@@ -62,7 +63,7 @@ pub record Agree (g : Geometry) (a b : List ℕ) (p : ℕ) : Type 0 where
   pub page : (q : ℕ) → is_entry_page g q ≡ true → q ≢ p → page_of g b q ≡ page_of g a q
 
 abbrev pub ProgramsAgree : Geometry → Type 0
-ProgramsAgree g = ((a b : List ℕ) (p : ℕ) → is_entry_page g p ≡ true → SameBut (p * g.page) g.page a b ⊎ SameBut (entry_at g p) 2 a b → Agree g a b p)
+ProgramsAgree g = ((a b : List ℕ) (p : ℕ) → is_entry_page g p ≡ true → SameOutside (p * g.page) g.page a b ⊎ SameOutside (entry_at g p) 2 a b → Agree g a b p)
     × ((a b c : List ℕ) (p : ℕ) → Agree g a b p → Agree g b c p → Agree g a c p)
 
 -- Programs of a page and its entry take at most its block from the free ones, and that only if it was free.

@@ -7,7 +7,7 @@ ghost use Rattle.image_laws.specs.Truncate.{TruncatedLeads};
 ghost use Rattle.image_laws.specs.Leads.{CopiesSame, RenamedLeads, RenameTidies};
 ghost use Rattle.image_laws.specs.InPlace.{EntryInPlaceKeeps};
 ghost use Rattle.image_laws.specs.Recopy.{RecopyIsSound, PutDataKeeps, PutDataSpares, RecopyTidies, PutSame};
-ghost use Rattle.image_laws.specs.Bridge.{HalfIsTorn};
+ghost use Rattle.image_laws.specs.Flash.{FinishedIsProgrammed};
 ghost use Rattle.image_laws.specs.Spares.{SpareKills, SparesEnd, RenewLeaves};
 
 /// Where the pages of one id have changed, its file is put into the table and the image is tidy.
@@ -39,9 +39,9 @@ pub fn spares_go()
     ensures end { (g : Geometry) → SparesEnd g }
 {}
 
-/// What the device says of an interrupted program is a torn program.
-pub fn half_is_torn()
-    ensures { HalfIsTorn }
+/// What a finished program leaves, byte by byte.
+pub fn finished_is_programmed()
+    ensures { FinishedIsProgrammed }
 {}
 
 /// A renewed index page: each cut is before or after, and sound.
