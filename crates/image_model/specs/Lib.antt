@@ -9,3 +9,5 @@ pub mod Sound
 pub mod Killed
 pub mod Kinds
 pub mod Within
+pub mod Collect
+pub mod Shared
