@@ -6,6 +6,7 @@ use Rattle.std.specs.Option.{option_map, option_to_list}
 use Rattle.std.proofs.lemmas.List.{append-nil, map-append}
 use Rattle.std.specs.List.{range_with_len, flat_map, filter_map}
 use Rattle.image_plain.specs.Counted.{Counts}
+use Rattle.image_plain.specs.Tallied.{Tallies}
 
 pub range_step : (p e : ℕ) → p < e → range_with_len p (e - p) ≡ p ∷ range_with_len (p + 1) (e - (p + 1))
 range_step p e h = let n : e - p ≡ suc (e - (p + 1)) = omega arith in rw n refl
@@ -58,3 +59,24 @@ filter_map_push h bs cs None total p e less all is more =
     rw (more, append-nil) (subst (λ ys. bs ++ ys ≡ total) (ap (filter_map h) (range_step p e less) ∙ rw (sym is) refl) all)
 filter_map_push h bs cs (Some x) total p e less all is more =
     rw (more, append_assoc) (subst (λ ys. bs ++ ys ≡ total) (ap (filter_map h) (range_step p e less) ∙ rw (sym is) refl) all)
+
+-- the same from a first number on
+pub tally_yes : (test : ℕ → Bool) (first count more p end total : ℕ) → p < end → Tallies test first count p end total → test p ≡ true → more ≡ count + 1 → Tallies test first more (p + 1) end total
+tally_yes test first count more p end total h was passes next = record {
+  few = omega (arith, was.few, next);
+  most = omega arith;
+  all = (let step = rw (range_step p end h, passes) at was.all in omega (arith, step, next));
+}
+
+pub tally_no : (test : ℕ → Bool) (first count more p end total : ℕ) → p < end → Tallies test first count p end total → test p ≡ false → more ≡ count → Tallies test first more (p + 1) end total
+tally_no test first count more p end total h was fails next = record {
+  few = omega (arith, was.few, next);
+  most = omega arith;
+  all = (let step = rw (range_step p end h, fails) at was.all in omega (arith, step, next));
+}
+
+pub tally_none : (test : ℕ → Bool) (first end n : ℕ) → end ≡ first + n → Tallies test first 0 first end (length (filter test (range_with_len first n)))
+tally_none test first end n h = record { few = omega arith; most = omega (arith, h); all = (let left : end - first ≡ n = omega (arith, h) in rw left (omega arith)) }
+
+pub tally_all : (test : ℕ → Bool) (first count p end total : ℕ) → end ≤ p → Tallies test first count p end total → count ≡ total
+tally_all test first count p end total h was = let step = rw (range_end p end h) at was.all in omega (arith, step)

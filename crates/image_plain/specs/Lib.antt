@@ -1,3 +1,5 @@
 pub mod Seen
 pub mod Headed
 pub mod Counted
+pub mod Sorts
+pub mod Tallied

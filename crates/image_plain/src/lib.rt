@@ -3,6 +3,7 @@
 #![tactic(auto)]
 
 mod blocks;
+mod counts;
 mod damaged;
 mod files;
 mod headers;
@@ -17,6 +18,7 @@ pub use blocks::{
     free_blocks, is_data_block, is_free_block, is_index_block, is_mixed, mixed_blocks,
     spoiled_blocks,
 };
+pub use counts::{EntryKind, count_entries};
 pub use damaged::damaged_of;
 pub use files::{data_page, index_page, name_of, size_of};
 pub use pages::{entry_of, erase_count, has_magic, holds_volume, is_live, live_at, own, page_of};
