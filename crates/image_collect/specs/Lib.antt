@@ -1,0 +1,4 @@
+pub mod Sorts
+pub mod Summed
+pub mod Greatest
+pub mod Filtered
