@@ -7,8 +7,8 @@ ghost use Rattle.image_model.specs.Volume.{entries};
 ghost use Rattle.image_model.specs.Places.{IsImage};
 ghost use Rattle.image_model.specs.Collect.{is_worth as the_worth, is_fitting as the_fitting, candidates as the_candidates, first_candidates as the_first_candidates, best_of as the_best, chosen_block as the_chosen, score as the_score};
 
-use crate::places::{BlockKind, free_outside};
 use crate::ages::{next_count, score_with};
+use crate::places::{BlockKind, free_outside};
 use geometry::Geometry;
 use image_plain::{EntryKind, count_entries, free_blocks, is_data_block, is_free_block};
 use std::alloc::{AllocError, Global};
@@ -61,7 +61,11 @@ pub fn is_fitting(g: &Geometry, image: &[u8], block: u32) -> bool
     } else {
         count_entries(g, image, block, EntryKind::Index)
     };
-    let for_index = blocks_for_kind(g, index, free_outside(g, image, BlockKind::TakesIndex, block));
+    let for_index = blocks_for_kind(
+        g,
+        index,
+        free_outside(g, image, BlockKind::TakesIndex, block),
+    );
     let for_data = blocks_for_kind(g, data, free_outside(g, image, BlockKind::TakesData, block));
     for_index + for_data <= u64::from(free_blocks(g, image))
 }
@@ -196,13 +200,25 @@ mod tests {
     fn sample(alloc: Global, g: &Geometry, others: u8) -> Result<Vec<u8>, AllocError> {
         let mut image = vec![in alloc; 0xFFu8; 65536]?;
         for block in 0..16u32 {
-            let magic = if block < g.blocks { g.magic_of(block) } else { 0 };
+            let magic = if block < g.blocks {
+                g.magic_of(block)
+            } else {
+                0
+            };
             let count = if block < 2 { 0 } else { others };
             let end = block as usize * 4096 + 252;
-            put(&mut image, end, &[(magic % 256) as u8, (magic / 256) as u8, count, 0]);
+            put(
+                &mut image,
+                end,
+                &[(magic % 256) as u8, (magic / 256) as u8, count, 0],
+            );
         }
         put(&mut image, 0, &[0, 0, 1, 0x80]);
-        put(&mut image, 512, &[1, 0x80, 0, 0, 0xF8, 0xFF, 0xFF, 0xFF, 5, 0, 0, 0, 1, 0x61]);
+        put(
+            &mut image,
+            512,
+            &[1, 0x80, 0, 0, 0xF8, 0xFF, 0xFF, 0xFF, 5, 0, 0, 0, 1, 0x61],
+        );
         put(&mut image, 526, &[0; 31]);
         put(&mut image, 557, &[0x11, 0]);
         put(&mut image, 4096, &[1, 0]);
@@ -211,22 +227,37 @@ mod tests {
     }
 
     // What is said of the first block, and which is chosen.
-    fn said(alloc: Global, g: &Geometry, image: &[u8]) -> Result<(bool, bool, i64, Option<u32>), AllocError> {
+    fn said(
+        alloc: Global,
+        g: &Geometry,
+        image: &[u8],
+    ) -> Result<(bool, bool, i64, Option<u32>), AllocError> {
         if !holds_volume(g, image) || g.blocks == 0 {
             return Ok((false, false, 0, None));
         }
         let worth = is_worth(g, image, 0);
         let fits = is_fitting(g, image, 0);
-        Ok((worth, fits, score(g, image, 0), chosen_block(alloc, g, image)?))
+        Ok((
+            worth,
+            fits,
+            score(g, image, 0),
+            chosen_block(alloc, g, image)?,
+        ))
     }
 
     #[test]
     fn the_block_with_a_deleted_entry_is_chosen_by_its_age(rt: HostRuntime) -> Result<(), Fail> {
         let g = Geometry::new(256, 4096, 16, 4096, 0, MagicKind::Length)?;
         let even = sample(rt.alloc(), &g, 0)?;
-        assert_eq!(rt; said(rt.alloc(), &g, even.as_slice())?, (true, true, 54, Some(0)));
+        assert_eq!(rt;
+            said(rt.alloc(), &g, even.as_slice())?,
+            (true, true, 54, Some(0))
+        );
         let old = sample(rt.alloc(), &g, 5)?;
-        assert_eq!(rt; said(rt.alloc(), &g, old.as_slice())?, (true, true, 304, Some(0)));
+        assert_eq!(rt;
+            said(rt.alloc(), &g, old.as_slice())?,
+            (true, true, 304, Some(0))
+        );
         Ok(())
     }
 }

@@ -5,7 +5,9 @@ ghost use Rattle.image_model.specs.Collect.{free_in as the_free_in, free_outside
 ghost use Rattle.image_collect.specs.Sorts.{is_of as the_kind};
 
 use geometry::Geometry;
-use image_plain::{EntryKind, count_entries, has_magic, is_data_block, is_free_block, is_index_block};
+use image_plain::{
+    EntryKind, count_entries, has_magic, is_data_block, is_free_block, is_index_block,
+};
 
 /// What the free entries of a block are for, and what it holds.
 #[derive(Clone, Copy, Debug, PartialEq, Eq)]
