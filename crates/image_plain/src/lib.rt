@@ -12,6 +12,7 @@ mod record;
 #[cfg(test)]
 mod rows;
 mod table;
+mod tidiness;
 mod tidy;
 
 pub use blocks::{
@@ -24,4 +25,5 @@ pub use files::{data_page, index_page, name_of, size_of};
 pub use pages::{entry_of, erase_count, has_magic, holds_volume, is_live, live_at, own, page_of};
 pub use record::Record;
 pub use table::table_of;
+pub use tidiness::is_tidy;
 pub use tidy::{is_wanted, killed_of};
