@@ -3,3 +3,4 @@ pub mod Headed
 pub mod Counted
 pub mod Sorts
 pub mod Tallied
+pub mod Wanting

@@ -25,9 +25,9 @@ pub(crate) fn is_free_entry(g: &Geometry, image: &[u8], p: u32) -> bool
     entry_of(g, image, p) == 0xFFFF && is_erased(page_of(g, image, p))
 }
 
-// The first entry page of a block.
+/// The first entry page of a block.
 #[tactic(auto, unfolding(image_model::specs::Volume::lookups, image_model::specs::Volume::per_block, image_model::specs::Volume::page_count, image_model::specs::Volume::entries))]
-pub(crate) fn first_entry(g: &Geometry, block: u32) -> u32
+pub fn first_entry(g: &Geometry, block: u32) -> u32
     requires { block < g.now.blocks }
     ensures value { result ≡ block * per_block g.now + lookups g.now }
     ensures below { result + entries g.now ≤ page_count g.now }
@@ -63,8 +63,8 @@ pub fn is_free_block(g: &Geometry, image: &[u8], block: u32) -> bool
     true
 }
 
-// Whether a page is a live index page.
-pub(crate) fn is_index_page(g: &Geometry, image: &[u8], p: u32) -> bool
+/// Whether a page is a live index page, header pages included.
+pub fn is_index_page(g: &Geometry, image: &[u8], p: u32) -> bool
     requires image { IsImage g.now image.now }
     ensures { result ≡ the_index_page (the_live_at g.now image.now p) }
 {
@@ -74,8 +74,8 @@ pub(crate) fn is_index_page(g: &Geometry, image: &[u8], p: u32) -> bool
     }
 }
 
-// Whether a page is a live data page.
-pub(crate) fn is_data_page(g: &Geometry, image: &[u8], p: u32) -> bool
+/// Whether a page is a live data page.
+pub fn is_data_page(g: &Geometry, image: &[u8], p: u32) -> bool
     requires image { IsImage g.now image.now }
     ensures { result ≡ the_data_page (the_live_at g.now image.now p) }
 {

@@ -12,6 +12,7 @@ ghost use Rattle.image_model.specs.Tidy.{is_number, serves as the_serves, is_wan
 ghost use Rattle.image_model.specs.Killed.{is_used as the_used, is_killable as the_killable, killed_of as the_killed};
 ghost use Rattle.table_model.specs.Room.{data_pages as the_data_pages, index_pages as the_index_pages};
 ghost use Rattle.image_plain.specs.Headed.{IsHeads};
+ghost use Rattle.image_plain.specs.Wanting.{AreWanted};
 
 use crate::blocks::is_free_entry;
 use crate::files::{data_pages, entry_number, index_page, size_of};
@@ -172,4 +173,18 @@ pub fn killed_of(alloc: Global, g: &Geometry, image: &[u8]) -> Result<u32, Alloc
         }
     }
     Ok(count)
+}
+
+/// Which pages are wanted, by their numbers.
+#[tactic(auto, unfolding(image_model::specs::Volume::page_count, image_model::specs::Volume::per_block), using(crate::proofs::Wanting::wanted_none, crate::proofs::Wanting::wanted_more))]
+pub fn wanted_pages(alloc: Global, g: &Geometry, image: &[u8]) -> Result<Vec<bool>, AllocError>
+    requires { IsImage g.now image.now }
+    ensures { IfOk result (λ wanted. AreWanted g.now image.now (page_count g.now) wanted.items) }
+{
+    let heads = header_pages(alloc, g, image)?;
+    let mut wanted = Vec::new(alloc);
+    for p in 0..g.pages() {
+        wanted.push(is_wanted_page(alloc, g, image, heads.as_slice(), p)?)?;
+    }
+    Ok(wanted)
 }
