@@ -1,10 +1,9 @@
 -- What an interrupted program leaves of a byte, bit by bit.
-use Rattle.std.proofs.Common.{◌≡◌, ◌≢◌, ℕ, zero, suc, ◌+◌, ◌<◌, ◌≤◌, List, [], ◌∷◌, length, slice_index, refl, sym, ◌∙◌, ap, arith}
+use Rattle.std.proofs.Common.{◌≡◌, ℕ, ◌+◌, ◌<◌, List, length, slice_index, ap, arith}
 use Rattle.std.specs.Prelude.{bit_and}
 use Rattle.std.specs.Int.{bit_at}
 use Rattle.std.proofs.lemmas.Nat.Bits.{bit_at_and, bit_at-lt}
-use Rattle.nor_core.specs.Flash.{IsBetween, HalfProgrammed, SameOutside, programmed}
-use Rattle.image_laws.specs.Flash.{Programmed, FinishedIsProgrammed}
+use Rattle.nor_core.specs.Flash.{IsBetween, HalfProgrammed}
 
 -- a bit that is set in both is set, and no bit is set that was not
 pub record TornByte (old asked new : ℕ) : Type 0 where

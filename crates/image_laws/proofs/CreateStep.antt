@@ -4,7 +4,7 @@ use Rattle.std.proofs.Math.Path.{fun_ext}
 use Rattle.std.specs.Prelude.{bit_and}
 use Rattle.std.specs.Int.{bit_at}
 use Rattle.std.proofs.lemmas.Nat.{and_mask}
-use Rattle.std.proofs.lemmas.Nat.Bits.{bit_at_and, bit_at-lt, bit_at_above}
+use Rattle.std.proofs.lemmas.Nat.Bits.{bit_at_above}
 use Rattle.std.proofs.Math.Nat.{mod-eq_of_lt}
 use Rattle.std.specs.Int.Bits.{and_comm}
 use Rattle.std.proofs.lemmas.Bool.{cases_lt, agree_below_at, or_cases, eqb-true}
@@ -14,7 +14,6 @@ use Rattle.image_model.specs.Within.{sizes}
 use Rattle.image_model.specs.Volume.{page_count}
 use Rattle.nor_core.specs.Flash.{SameOutside, HalfProgrammed}
 use Rattle.image_laws.proofs.Finished.{torn_from}
-use Rattle.image_laws.proofs.BetweenTorn.{TornByte, torn_byte}
 use Rattle.image_laws.specs.Flash.{Programmed}
 use Rattle.image_model.specs.Live.{live_at}
 use Rattle.image_model.specs.Places.{entry_of, slot_of, page_of, block_of, IsImage, entry_at}

@@ -1,31 +1,31 @@
 -- An entry past the page count, in place.
-use Rattle.std.proofs.Common.{◌≡◌, ◌≢◌, ℕ, ◌+◌, ◌-◌, ◌*◌, ◌/◌, ◌%◌, ◌<◌, ◌≤◌, ◌⊎◌, List, length, slice_index, slice_range, Bool, true, false, Option, Some, None, Result, Ok, ap, refl, sym, ◌∙◌, arith, ⊎_elim, subst, inl, inr}
+use Rattle.std.proofs.Common.{◌≡◌, ◌≢◌, ℕ, ◌+◌, ◌-◌, ◌*◌, ◌/◌, ◌%◌, ◌<◌, ◌≤◌, ◌⊎◌, List, length, slice_index, slice_range, Bool, true, Option, Some, None, Result, ap, refl, sym, ◌∙◌, arith, ⊎_elim, subst, inl, inr}
 use Rattle.std.proofs.Math.Path.{fun_ext}
 use Rattle.std.proofs.Math.Nat.{div-add-mod}
 use Rattle.std.specs.Prelude.{option_and_then, find}
 use Rattle.std.specs.Option.{option_map}
 use Rattle.std.specs.List.{range_with_len}
-use Rattle.std.proofs.lemmas.Bool.{cases_eq, cases_lt, ne_eqb, eq-eqb, lt-ltb, le-ltb}
-use Rattle.std.proofs.lemmas.Option.{none-some, same_Some}
+use Rattle.std.proofs.lemmas.Bool.{cases_eq, cases_lt, lt-ltb, le-ltb}
+use Rattle.std.proofs.lemmas.Option.{same_Some}
 use Rattle.geometry.specs.declared.geometry.Geometry.{Geometry}
 use Rattle.image_model.specs.Within.{sizes}
 use Rattle.image_model.specs.declared.damage.Damage.{Damage}
-use Rattle.nor_core.specs.Flash.{SameOutside, HalfProgrammed}
-use Rattle.image_model.specs.Within.{Sizes, page_length, page_number}
+use Rattle.nor_core.specs.Flash.{SameOutside}
+use Rattle.image_model.specs.Within.{Sizes, page_length}
 use Rattle.image_model.specs.Volume.{page_count}
 use Rattle.geometry.specs.Numbers.{head_slots, span_slots}
 use Rattle.table_model.specs.Room.{data_pages}
 use Rattle.image_model.specs.Live.{live_at, Live, own}
-use Rattle.image_model.specs.Headers.{word_at, obj_id, span_of, names_index, is_finished, size_of, name_of}
-use Rattle.image_model.specs.Places.{page_of, block_of, is_entry_page, IsImage}
+use Rattle.image_model.specs.Headers.{word_at, obj_id, span_of, names_index, size_of, name_of}
+use Rattle.image_model.specs.Places.{page_of, block_of, IsImage}
 use Rattle.image_model.specs.Tables.{Found, has_of, records, damages, table_of, damaged_of}
-use Rattle.image_model.specs.Files.{is_index, index_page, further, entry_number, data_of, data_page, judged, found}
+use Rattle.image_model.specs.Files.{is_index, index_page, further, entry_number, data_of, data_page, found}
 use Rattle.image_model.specs.Sound.{HasMagics, IsMixed, Keeps}
 use Rattle.image_laws.specs.Reindex.{index_span, slot_word}
 use Rattle.image_laws.specs.InPlace.{slot_at, EntryInPlaceKeeps}
 use Rattle.image_laws.proofs.Frames.{LivePage, live_parts, live_from, live-page_other, magic-same_page, entry-same_page, range-same}
 use Rattle.image_laws.proofs.Placing.{page_byte, wider}
-use Rattle.image_laws.proofs.Judge.{Alike, judged-alike, found_from, index_passes}
+use Rattle.image_laws.proofs.Judge.{judged-alike, found_from, index_passes}
 use Rattle.image_laws.proofs.Finish.{own-parts}
 use Rattle.image_laws.proofs.Doubled.{index-span_is}
 use Rattle.image_laws.proofs.Sounding.{sound-by}

@@ -1,6 +1,6 @@
 -- What a finished program leaves.
-use Rattle.std.proofs.Common.{◌≡◌, ℕ, ◌+◌, List, slice_index, refl, sym, subst}
-use Rattle.nor_core.specs.Flash.{programmed, HalfProgrammed, IsBetween}
+use Rattle.std.proofs.Common.{ℕ, ◌+◌, List, slice_index, refl, sym, subst}
+use Rattle.nor_core.specs.Flash.{HalfProgrammed, IsBetween}
 use Rattle.nor_core.proofs.Programs.{half_programmed, between_and, get_or-programmed_inside}
 use Rattle.image_laws.specs.Flash.{Programmed, FinishedIsProgrammed}
 

@@ -1,14 +1,13 @@
 -- Free blocks.
-use Rattle.std.proofs.Common.{◌≡◌, ◌≢◌, ℕ, zero, suc, ◌+◌, ◌-◌, ◌*◌, ◌/◌, ◌%◌, ◌<◌, ◌≤◌, List, length, Bool, true, false, cond, ◌&&◌, ap, refl, sym, ◌∙◌, arith, ⊎_elim}
+use Rattle.std.proofs.Common.{◌≡◌, ◌≢◌, ℕ, zero, suc, ◌+◌, ◌*◌, ◌<◌, ◌≤◌, List, length, Bool, true, false, cond, ◌&&◌, ap, refl, sym, ◌∙◌, arith, ⊎_elim}
 use Rattle.std.specs.Prelude.{filter}
 use Rattle.std.specs.List.{range_with_len, list_all}
-use Rattle.std.proofs.lemmas.Bool.{cases_lt, cases_eq, cases_Bool, and_parts, lt-ltb, le-ltb}
-use Rattle.std.proofs.Math.Nat.{mul-le-mul_right, div-add-mod}
+use Rattle.std.proofs.lemmas.Bool.{cases_eq, cases_Bool, and_parts}
 use Rattle.geometry.specs.declared.geometry.Geometry.{Geometry}
 use Rattle.image_model.specs.Within.{sizes}
-use Rattle.image_model.specs.Volume.{page_count, per_block, lookups, entries}
+use Rattle.image_model.specs.Volume.{per_block, lookups, entries}
 use Rattle.image_model.specs.Within.{Sizes, entry_in, entry_of_block}
-use Rattle.image_model.specs.Places.{block_of, place_of, is_entry_page}
+use Rattle.image_model.specs.Places.{block_of}
 use Rattle.image_model.specs.Tidy.{is_free_entry, is_free_block, free_blocks}
 use Rattle.image_laws.specs.TidySteps.{Agree, FreeBlocksFall, UsedIsNotFree}
 

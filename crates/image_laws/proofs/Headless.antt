@@ -1,13 +1,12 @@
 -- Pages of an id that has no header page, or is not in the table.
-use Rattle.std.proofs.Common.{◌≡◌, ◌≢◌, ℕ, ◌+◌, ◌*◌, ◌%◌, List, [], ◌∷◌, slice_index, false, Option, Some, None, ap, refl, sym, ◌∙◌, ⊎_elim}
-use Rattle.std.specs.Prelude.{is_some, option_and_then}
+use Rattle.std.proofs.Common.{◌≡◌, ◌≢◌, ℕ, ◌+◌, ◌*◌, ◌%◌, List, slice_index, false, Option, Some, None, ap, refl, sym, ◌∙◌, ⊎_elim}
+use Rattle.std.specs.Prelude.{is_some}
 use Rattle.std.proofs.lemmas.Bool.{cases_eq}
 use Rattle.std.proofs.lemmas.Option.{none-some}
 use Rattle.geometry.specs.declared.geometry.Geometry.{Geometry}
 use Rattle.image_model.specs.Live.{live_at, Live, own}
 use Rattle.image_model.specs.Headers.{obj_id}
 use Rattle.image_laws.specs.Changes.{Loses}
-use Rattle.image_model.specs.Files.{index_page}
 use Rattle.image_model.specs.Tables.{has_of, counted}
 use Rattle.image_model.specs.Tidy.{is_wanted, is_wanted_as}
 use Rattle.image_laws.specs.Programs.{IsIdle}

@@ -1,18 +1,16 @@
 -- What a renewed page leads to.
-use Rattle.std.proofs.Common.{◌≡◌, ◌≢◌, ℕ, zero, suc, ◌+◌, ◌*◌, ◌<◌, ◌≤◌, List, [], set, take, slice_index, slice_range, Bool, true, false, not, ◌==◌, ◌&&◌, ◌||◌, Option, Some, None, Result, Ok, ap, refl, sym, ◌∙◌, arith, ⊎_elim, subst}
-use Rattle.std.proofs.Math.Path.{fun_ext}
-use Rattle.std.specs.Prelude.{is_some, is_none, option_and_then, unwrap_or, find}
-use Rattle.std.specs.List.{range_with_len, list_any, flat_map}
-use Rattle.std.proofs.lemmas.Bool.{cases_lt, cases_Bool, and_parts, lt-ltb, le-ltb, eq-eqb}
+use Rattle.std.proofs.Common.{◌≡◌, ℕ, zero, suc, ◌+◌, ◌<◌, ◌≤◌, List, [], set, take, slice_index, slice_range, Bool, true, false, not, ◌==◌, ◌&&◌, ◌||◌, Some, None, Ok, ap, refl, ◌∙◌, arith, ⊎_elim}
+use Rattle.std.specs.Prelude.{is_some, is_none, unwrap_or}
+use Rattle.std.specs.List.{range_with_len, list_any}
+use Rattle.std.proofs.lemmas.Bool.{cases_lt, and_parts, lt-ltb, le-ltb}
 use Rattle.geometry.specs.declared.geometry.Geometry.{Geometry}
-use Rattle.image_model.specs.declared.damage.Damage.{Damage}
 use Rattle.geometry.specs.Numbers.{head_slots}
 use Rattle.table_model.specs.Room.{data_pages, index_pages}
 use Rattle.image_model.specs.Live.{live_at, Live, own}
 use Rattle.table_model.specs.Table.{File}
-use Rattle.image_model.specs.Files.{index_page, entry_number, data_of, data_page, judged, judged_by, file_of, span_bytes, bytes_of, first_missing}
+use Rattle.image_model.specs.Files.{index_page, entry_number, data_of, data_page, judged, span_bytes, bytes_of, first_missing}
 use Rattle.image_model.specs.Headers.{size_of, name_of}
-use Rattle.image_model.specs.Tidy.{IsTidy, is_number, serves}
+use Rattle.image_model.specs.Tidy.{is_number, serves}
 use Rattle.image_laws.specs.Reindex.{now_data, now_bytes}
 use Rattle.image_laws.specs.Spares.{leftover}
 use Rattle.image_laws.specs.Leads.{CopiesSame, SameSpans, RenamedLeads, RenameTidies}
@@ -91,10 +89,10 @@ pub rename-tidies : (g : Geometry) → RenameTidies g
 rename-tidies g a0 a1 a2 a3 a4 a5 a6 p o id old head fin kill f0 f start at file spans all kills t =
     let w = renew-leaves g a0 a1 a2 a3 a4 a5 a6 p o id old head fin kill f (λ (r : ℕ). false) start all kills ((tidy-is_tidy g a0 (λ (r : ℕ). false)).0 t) (λ r none. let bad : false ≡ true = none in absurd (cc)) in (
       spares-end g a6 (λ (r : ℕ). not (r == o) && leftover g (own (live_at g a0) id) (set head 4 fin) r)
-      (λ r e. let v : (not (r == o) ≡ true) × (leftover g (own (live_at g a0) id) (set head 4 fin) r ≡ true) = and_parts (not (r == o)) _ e in
-      no_leftover g (own (live_at g a0) id) (set head 4 fin) r
-      (λ x k. serves-renamed g (own (live_at g a0) id) old (set head 4 fin) spans r ∙ served g a0 start.image t id o old at start.was r x k)
-      v.1)
-      w.0,
+          (λ r e. let v : (not (r == o) ≡ true) × (leftover g (own (live_at g a0) id) (set head 4 fin) r ≡ true) = and_parts (not (r == o)) _ e in
+          no_leftover g (own (live_at g a0) id) (set head 4 fin) r
+          (λ x k. serves-renamed g (own (live_at g a0) id) old (set head 4 fin) spans r ∙ served g a0 start.image t id o old at start.was r x k)
+          v.1)
+          w.0,
       w.1,
     )

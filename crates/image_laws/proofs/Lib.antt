@@ -21,7 +21,7 @@ pub mod Sounding
 pub mod Wants
 pub mod TidySteps
 pub mod FreeBlocks
-pub mod Junk
+pub mod DeadEntries
 pub mod Matching
 pub mod Serving
 pub mod Tally

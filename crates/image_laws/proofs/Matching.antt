@@ -6,7 +6,7 @@ use Rattle.std.specs.List.{range_with_len, sum_by, filter_map, cons_option, flat
 use Rattle.std.proofs.lemmas.List.Sums.{sum_by-cons, length-filter}
 use Rattle.std.proofs.Common.{length-append}
 use Rattle.std.proofs.lemmas.Bool.{cases_Bool, eq-eqb, ne_eqb, false_from_ne_true, and_parts}
-use Rattle.image_laws.proofs.Junk.{filter-one}
+use Rattle.image_laws.proofs.DeadEntries.{filter-one}
 
 pub filter-none_in : (test : ℕ → Bool) (a n : ℕ) → ((q : ℕ) → a ≤ q → q < a + n → test q ≡ false) → length (filter test (range_with_len a n)) ≡ 0
 filter-none_in test a zero none = refl

@@ -1,21 +1,15 @@
 -- A moved index page.
-use Rattle.std.proofs.Common.{◌≡◌, ◌≢◌, ℕ, ◌+◌, ◌%◌, ◌<◌, ◌≤◌, ◌⊎◌, List, [], Bool, true, false, not, ◌==◌, ◌&&◌, ◌||◌, Option, Some, None, Result, Ok, Err, ap, refl, sym, ◌∙◌, arith, ⊎_elim, subst, inl, inr}
+use Rattle.std.proofs.Common.{◌≡◌, ◌≢◌, ℕ, ◌<◌, ◌≤◌, List, Bool, true, false, ◌&&◌, Option, Some, None, ap, refl, sym, ◌∙◌, arith, ⊎_elim, subst}
 use Rattle.std.proofs.Math.Path.{fun_ext}
 use Rattle.std.specs.Prelude.{is_some, option_and_then, find}
-use Rattle.std.specs.Option.{option_map}
 use Rattle.std.specs.List.{range_with_len, list_any}
-use Rattle.std.proofs.lemmas.Bool.{cases_eq, cases_lt, cases_Bool, and_parts, or_cases, or_right, eq-eqb, ne_eqb, eqb-true, false_from_ne_true, lt-ltb, le-ltb}
-use Rattle.std.proofs.lemmas.Option.{none-some, same_Some}
+use Rattle.std.proofs.lemmas.Bool.{cases_eq, cases_lt, and_parts, or_cases, eq-eqb, ne_eqb, false_from_ne_true, lt-ltb, le-ltb}
 use Rattle.geometry.specs.declared.geometry.Geometry.{Geometry}
-use Rattle.image_model.specs.declared.damage.Damage.{Damage}
 use Rattle.image_model.specs.Volume.{page_count}
 use Rattle.table_model.specs.Room.{index_pages, data_pages}
 use Rattle.geometry.specs.Numbers.{head_slots}
-use Rattle.image_model.specs.Live.{live_at, Live, own}
-use Rattle.image_model.specs.Headers.{obj_id, span_of, names_index, size_of}
-use Rattle.image_model.specs.Places.{is_entry_page}
-use Rattle.table_model.specs.Table.{File}
-use Rattle.image_model.specs.Tables.{Found}
+use Rattle.image_model.specs.Live.{Live}
+use Rattle.image_model.specs.Headers.{span_of, names_index, size_of}
 use Rattle.image_model.specs.Files.{is_index, index_page, further, entry_number, data_of, data_page, judged}
 use Rattle.image_model.specs.Tidy.{is_number, serves}
 use Rattle.image_laws.specs.Moving.{Moves}

@@ -1,9 +1,9 @@
 -- An image after a moved index page is tidy.
-use Rattle.std.proofs.Common.{◌≡◌, ◌≢◌, ℕ, ◌+◌, ◌%◌, ◌<◌, ◌≤◌, ◌⊎◌, List, [], Bool, true, false, not, ◌==◌, ◌&&◌, ◌||◌, Option, Some, None, Result, Ok, Err, ap, refl, sym, ◌∙◌, arith, ⊎_elim, subst, inl, inr}
+use Rattle.std.proofs.Common.{◌≡◌, ◌≢◌, ℕ, ◌%◌, ◌<◌, ◌≤◌, ◌⊎◌, List, [], true, false, ◌&&◌, Option, Some, None, Result, Ok, ap, refl, sym, ◌∙◌, ⊎_elim, subst, inl, inr}
 use Rattle.std.proofs.Math.Path.{fun_ext}
-use Rattle.std.specs.Prelude.{is_some, option_and_then, if◌then◌else◌}
+use Rattle.std.specs.Prelude.{is_some, option_and_then}
 use Rattle.std.specs.List.{range_with_len, list_any}
-use Rattle.std.proofs.lemmas.Bool.{cases_eq, cases_Bool, and_parts, or_cases, eq-eqb, ne_eqb, eqb-true}
+use Rattle.std.proofs.lemmas.Bool.{cases_eq, and_parts, or_cases, eq-eqb, ne_eqb, eqb-true}
 use Rattle.std.proofs.lemmas.Option.{none-some, same_Some}
 use Rattle.geometry.specs.declared.geometry.Geometry.{Geometry}
 use Rattle.image_model.specs.declared.damage.Damage.{Damage}
@@ -12,8 +12,8 @@ use Rattle.table_model.specs.Room.{index_pages, data_pages}
 use Rattle.image_model.specs.Live.{live_at, Live, own}
 use Rattle.image_model.specs.Places.{block_of, is_entry_page, IsImage}
 use Rattle.image_model.specs.Headers.{obj_id, span_of, names_index, size_of}
-use Rattle.table_model.specs.Table.{File, put_file}
-use Rattle.image_model.specs.Tables.{Found, has_of, counted, records, damages, table_of, damaged_of}
+use Rattle.table_model.specs.Table.{File}
+use Rattle.image_model.specs.Tables.{has_of, counted, records, damages, table_of, damaged_of}
 use Rattle.image_model.specs.Files.{is_index, index_page, entry_number, data_of, judged, found}
 use Rattle.image_model.specs.Tidy.{IsTidy, is_number, serves, is_wanted, is_wanted_as}
 use Rattle.image_laws.specs.SoundSteps.{IsOfKind}
@@ -21,13 +21,13 @@ use Rattle.image_laws.specs.Moving.{Moves, Moved, MovedIsTidy}
 use Rattle.image_model.specs.Within.{page_number}
 use Rattle.image_laws.proofs.Damaged.{any_at}
 use Rattle.image_laws.proofs.Records.{records-put, counted-kept, counted-new, counted-some, names-apart}
-use Rattle.image_laws.proofs.Finish.{own-parts, has_of-within, has_of-keyed, heads-apart, records-put_again}
+use Rattle.image_laws.proofs.Finish.{has_of-within, has_of-keyed, heads-apart, records-put_again}
 use Rattle.image_laws.proofs.Judge.{found_parts, found_from, index_passes}
 use Rattle.image_laws.proofs.Undamaged.{damages-put}
 use Rattle.image_laws.proofs.Wanted.{some_file}
-use Rattle.image_laws.proofs.Wants.{Wanted, wanted_from, wanted_parts, number-is}
-use Rattle.image_laws.proofs.Tally.{served, counted-in, wants}
-use Rattle.image_laws.proofs.TidySteps.{Entry, entry-same}
+use Rattle.image_laws.proofs.Wants.{wanted_from, wanted_parts, number-is}
+use Rattle.image_laws.proofs.Tally.{served, counted-in}
+use Rattle.image_laws.proofs.TidySteps.{entry-same}
 use Rattle.image_laws.proofs.Doubled.{index-span_is}
 use Rattle.image_laws.proofs.MovedPage.{span_now, span_other, index_bytes, judged-moved, serves-moved, serves-copy}
 

@@ -1,27 +1,26 @@
 -- A tidy image in which the pages of one id change.
-use Rattle.std.proofs.Common.{◌≡◌, ◌≢◌, ℕ, ◌%◌, ◌≤◌, ◌⊎◌, List, [], Bool, true, false, Option, Some, None, Result, Ok, ap, refl, sym, ◌∙◌, arith, ⊎_elim, subst, inl, inr}
+use Rattle.std.proofs.Common.{◌≡◌, ◌≢◌, ℕ, ◌%◌, ◌⊎◌, List, [], Bool, true, false, Option, Some, None, Result, Ok, ap, refl, sym, ◌∙◌, ⊎_elim, subst, inl, inr}
 use Rattle.std.specs.Prelude.{is_some}
 use Rattle.std.proofs.lemmas.Bool.{cases_eq, cases_Bool}
-use Rattle.std.proofs.lemmas.Option.{none-some}
 use Rattle.geometry.specs.declared.geometry.Geometry.{Geometry}
 use Rattle.image_model.specs.declared.damage.Damage.{Damage}
 use Rattle.image_model.specs.Live.{live_at, Live, own}
 use Rattle.image_model.specs.Places.{block_of, is_entry_page, IsImage}
 use Rattle.image_model.specs.Headers.{obj_id, names_index}
 use Rattle.table_model.specs.Table.{File, put_file}
-use Rattle.image_model.specs.Files.{index_page, judged, found}
-use Rattle.image_model.specs.Tables.{has_of, counted, records, damages, table_of, damaged_of}
+use Rattle.image_model.specs.Files.{index_page, found}
+use Rattle.image_model.specs.Tables.{has_of, counted, damages, table_of, damaged_of}
 use Rattle.image_model.specs.Tidy.{IsTidy, serves, is_wanted, is_wanted_as}
 use Rattle.image_laws.specs.TidySteps.{IsTidyBut}
 use Rattle.image_model.specs.Sound.{IsMixed}
 use Rattle.image_laws.specs.OneId.{OneIdChanges, OneIdIsTidy}
 use Rattle.image_laws.specs.Spares.{Spares, is_in_table}
-use Rattle.image_laws.proofs.Frames.{live_at-kept, live_parts}
+use Rattle.image_laws.proofs.Frames.{live_at-kept}
 use Rattle.image_laws.proofs.Records.{counted-kept, counted-new}
 use Rattle.image_laws.proofs.Finish.{own-parts, has_of-keyed, records-changed}
 use Rattle.image_laws.proofs.Judge.{found_from, judged-keyed}
 use Rattle.image_laws.proofs.Undamaged.{undamaged-changed, apart-new, apart-old}
-use Rattle.image_laws.proofs.Wants.{Wanted, wanted_from, wanted_parts}
+use Rattle.image_laws.proofs.Wants.{wanted_from, wanted_parts}
 use Rattle.image_laws.proofs.TidySteps.{Entry}
 
 own-of : (live : Live) (p : ℕ) (x : List ℕ) → live p ≡ Some x → own live (obj_id x % 0x8000) p ≡ Some x

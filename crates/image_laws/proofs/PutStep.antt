@@ -1,5 +1,5 @@
 -- Placing a page.
-use Rattle.std.proofs.Common.{◌≡◌, ℕ, ◌+◌, ◌-◌, ◌*◌, ◌<◌, ◌≤◌, ◌⊎◌, List, [], ◌∷◌, length, take, drop, set, slice_index, true, ap, refl, sym, ◌∙◌, arith, ⊎_elim, subst, add-zero, length-drop, length-take-le, get_or-take, get_or-drop}
+use Rattle.std.proofs.Common.{◌≡◌, ℕ, ◌+◌, ◌-◌, ◌*◌, ◌<◌, ◌≤◌, ◌⊎◌, List, length, take, drop, slice_index, ap, refl, sym, ◌∙◌, arith, ⊎_elim, subst, add-zero, length-drop, length-take-le, get_or-take, get_or-drop}
 use Rattle.std.proofs.Math.Path.{fun_ext}
 use Rattle.std.specs.Prelude.{bit_and}
 use Rattle.std.specs.Int.{bit_at}
@@ -18,8 +18,7 @@ use Rattle.image_laws.specs.Programs.{IsUnfinished, IsPlaced, ClearsBit}
 use Rattle.image_laws.specs.NewFile.{IsFreePage}
 use Rattle.image_model.specs.Sound.{HasMagics, Keeps}
 use Rattle.image_laws.specs.TidySteps.{Agree}
-use Rattle.image_laws.specs.Creating.{Placed}
-use Rattle.image_laws.specs.Put.{IsReadyPage, PlacingCut, IsPut, PlacingIsSound}
+use Rattle.image_laws.specs.Put.{IsReadyPage, PlacingIsSound}
 use Rattle.image_model.specs.Within.{page_length, page_number}
 use Rattle.image_laws.proofs.Placing.{page_byte, flag_from, wider, placing_entry-keeps, placing_page-keeps, live-placing_entry, live-placing_page}
 use Rattle.image_laws.proofs.Frames.{page-same_entry, magic-same_page, entry-same_page, magic-same_entry}

@@ -1,11 +1,11 @@
 -- A renewed index page, and a data page put beside: their cuts.
-use Rattle.std.proofs.Common.{◌≡◌, ◌≢◌, ℕ, zero, suc, ◌+◌, ◌*◌, ◌%◌, ◌<◌, ◌≤◌, ◌⊎◌, List, [], ◌∷◌, set, slice_index, Bool, true, false, ◌==◌, ◌&&◌, Option, Some, None, Result, Ok, ap, refl, sym, ◌∙◌, arith, ⊎_elim, subst, inl, inr}
+use Rattle.std.proofs.Common.{◌≡◌, ◌≢◌, ℕ, zero, suc, ◌+◌, ◌*◌, ◌%◌, ◌<◌, ◌≤◌, ◌⊎◌, List, [], set, slice_index, Bool, true, false, ◌==◌, Option, Some, None, Result, Ok, ap, refl, sym, ◌∙◌, arith, ⊎_elim, inl, inr}
 use Rattle.std.proofs.Math.Path.{fun_ext}
 use Rattle.std.specs.Prelude.{if◌then◌else◌, option_and_then, find, is_none}
 use Rattle.std.specs.List.{All, range_with_len, filter_map, cons_option}
 use Rattle.std.proofs.lemmas.List.Elements.{All-cons, All-nil}
 use Rattle.std.proofs.lemmas.Bool.{cases_eq, ne_eqb, eq-eqb}
-use Rattle.std.proofs.lemmas.Option.{none-some, same_Some}
+use Rattle.std.proofs.lemmas.Option.{none-some}
 use Rattle.geometry.specs.declared.geometry.Geometry.{Geometry}
 use Rattle.image_model.specs.Within.{sizes}
 use Rattle.image_model.specs.declared.damage.Damage.{Damage}
@@ -13,7 +13,6 @@ use Rattle.image_model.specs.Volume.{page_count}
 use Rattle.table_model.specs.Room.{data_pages}
 use Rattle.image_model.specs.Live.{live_at, Live, own}
 use Rattle.image_model.specs.Headers.{obj_id, names_index, size_of}
-use Rattle.image_model.specs.Places.{is_entry_page, IsImage}
 use Rattle.image_laws.specs.Changes.{Gains, Loses}
 use Rattle.table_model.specs.Table.{File, put_file}
 use Rattle.image_model.specs.Tables.{Found, has_of, counted, records, damages, table_of, damaged_of}
@@ -21,18 +20,17 @@ use Rattle.image_model.specs.Files.{is_index, index_page, further, entry_number,
 use Rattle.image_model.specs.Tidy.{free_blocks}
 use Rattle.image_laws.specs.Programs.{ClearsBit}
 use Rattle.image_laws.specs.NewFile.{IsBeforeOrAfter}
-use Rattle.image_model.specs.Sound.{HasMagics, IsMixed, IsSound, Keeps}
+use Rattle.image_model.specs.Sound.{HasMagics, IsMixed, Keeps}
 use Rattle.image_laws.specs.TidySteps.{Agree}
 use Rattle.image_laws.specs.Creating.{CutOf}
-use Rattle.image_laws.specs.LiveSteps.{Finished, PutCut, Kills, KillCut, PutLeaves, PutDone, KillLeaves, KillDone}
-use Rattle.image_laws.specs.Reindex.{Reindexes}
+use Rattle.image_laws.specs.LiveSteps.{PutCut, KillCut, PutLeaves, PutDone, KillLeaves}
 use Rattle.image_laws.specs.Recopy.{Recopies, RecopyIsSound, PutsData, PutDataKeeps}
 use Rattle.image_model.specs.Within.{page_number}
 use Rattle.image_laws.proofs.Frames.{live_parts, table_of-same, damaged_of-same}
 use Rattle.image_laws.proofs.Placing.{page_byte}
 use Rattle.image_laws.proofs.Kill.{own-loses, own-loses_other}
 use Rattle.image_laws.proofs.Tables.{own-gains_other, own-gains_page, own-gains_rest}
-use Rattle.image_laws.proofs.Judge.{found_from, judged-keyed, judged-same, index-none}
+use Rattle.image_laws.proofs.Judge.{found_from, judged-same, index-none}
 use Rattle.image_laws.proofs.Finish.{own-parts, records-changed, has_of-within, has_of-keyed, heads-apart}
 use Rattle.image_laws.proofs.Records.{counted-some, names-apart}
 use Rattle.image_laws.proofs.Undamaged.{undamaged-changed}
@@ -42,7 +40,7 @@ use Rattle.image_laws.proofs.Wanted.{judged-whole}
 use Rattle.image_laws.proofs.Append.{find-all}
 use Rattle.image_laws.proofs.RenewStep.{live-used}
 use Rattle.image_laws.proofs.LiveStep.{put-changes, kill-changes}
-use Rattle.image_laws.proofs.ReindexSteps.{found2, found3, judged3, head3}
+use Rattle.image_laws.proofs.ReindexSteps.{found2, found3}
 
 -- ---- no other file of an undamaged image has the name of a whole one
 
@@ -302,9 +300,9 @@ put_data-keeps g a0 a1 a2 a3 a4 p id h page head fin f0 start m all =
     let put = put-changes g a0 a1 a2 a3 a4 p page fin start.image start.free start.ready all in (
       λ c cut. let w = put.0 c cut in (
         ⊎_elim
-        (λ (same : live_at g c ≡ live_at g a0). keeps-by_live g a0 c m w.agree.magic (λ q. ap (λ (l : Live). l q) same))
-        (λ (gains : Gains p (set page 4 fin) (live_at g a0) (live_at g c)). data_keeps g a0 p id h page head fin f0 start c gains m w.agree)
-        w.live,
+            (λ (same : live_at g c ≡ live_at g a0). keeps-by_live g a0 c m w.agree.magic (λ q. ap (λ (l : Live). l q) same))
+            (λ (gains : Gains p (set page 4 fin) (live_at g a0) (live_at g c)). data_keeps g a0 p id h page head fin f0 start c gains m w.agree)
+            w.live,
         w.agree,
       ),
       data_keeps g a0 p id h page head fin f0 start a4 put.1.gains m put.1.agree,

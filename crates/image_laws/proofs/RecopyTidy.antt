@@ -1,5 +1,5 @@
 -- Tidy images after a data page is put beside, and after an index page is renewed.
-use Rattle.std.proofs.Common.{◌≡◌, ◌≢◌, ℕ, ◌+◌, ◌*◌, ◌%◌, ◌<◌, ◌⊎◌, List, [], set, Bool, true, false, not, ◌==◌, ◌&&◌, ◌||◌, Option, Some, None, Ok, ap, refl, sym, ◌∙◌, arith, ⊎_elim, subst, inl, inr}
+use Rattle.std.proofs.Common.{◌≡◌, ◌≢◌, ℕ, ◌%◌, ◌<◌, ◌⊎◌, List, set, Bool, true, false, not, ◌==◌, ◌&&◌, ◌||◌, Option, Some, None, Ok, ap, refl, sym, ◌∙◌, ⊎_elim, subst, inl, inr}
 use Rattle.std.proofs.Math.Path.{fun_ext}
 use Rattle.std.specs.Prelude.{is_some}
 use Rattle.std.specs.List.{range_with_len, list_any}
@@ -8,18 +8,17 @@ use Rattle.std.proofs.lemmas.Option.{none-some, same_Some}
 use Rattle.geometry.specs.declared.geometry.Geometry.{Geometry}
 use Rattle.table_model.specs.Room.{data_pages, index_pages}
 use Rattle.image_model.specs.Live.{live_at, Live, own}
-use Rattle.image_model.specs.Headers.{obj_id, span_of, size_of}
-use Rattle.image_model.specs.Places.{entry_of, is_entry_page, IsImage}
+use Rattle.image_model.specs.Headers.{obj_id, size_of}
+use Rattle.image_model.specs.Places.{entry_of}
 use Rattle.image_laws.specs.Changes.{Gains}
-use Rattle.table_model.specs.Table.{File, put_file}
-use Rattle.image_model.specs.Tables.{Found, has_of, damages, damaged_of, table_of}
-use Rattle.image_model.specs.Files.{index_page, entry_number, data_of, judged}
+use Rattle.table_model.specs.Table.{File}
+use Rattle.image_model.specs.Tables.{Found, damages, damaged_of, table_of}
+use Rattle.image_model.specs.Files.{index_page, entry_number, data_of}
 use Rattle.image_model.specs.Tidy.{is_number, serves, is_wanted, is_free_entry}
 use Rattle.image_laws.specs.TidySteps.{Agree, IsTidyBut}
-use Rattle.image_laws.specs.Spares.{Spares, leftover}
+use Rattle.image_laws.specs.Spares.{leftover}
 use Rattle.image_laws.specs.OneId.{OneIdChanges}
-use Rattle.image_laws.specs.LiveSteps.{Finished, Kills, PutDone, KillDone}
-use Rattle.image_laws.specs.Reindex.{index_span, slot_word}
+use Rattle.image_laws.specs.LiveSteps.{PutDone, KillDone}
 use Rattle.image_laws.specs.Recopy.{Recopies, PutsData, PutDataSpares, Renamed, RecopyTidies, PutSame}
 use Rattle.image_model.specs.Within.{page_number}
 use Rattle.image_laws.proofs.Frames.{live_parts}
@@ -32,7 +31,7 @@ use Rattle.image_laws.proofs.TidySteps.{entries-but}
 use Rattle.image_laws.proofs.OneIdTidy.{one_id-spares, unmixed-from, mixed-none}
 use Rattle.image_laws.proofs.LiveStep.{put-changes, kill-changes}
 use Rattle.image_laws.proofs.ReindexSteps.{three_other, three_v, head3, judged3, serves_named, serves_copy, serves_still}
-use Rattle.image_laws.proofs.RecopyStep.{beside-index, beside-entry, beside-header, data_gains, data_has, mine4, mine5, live4, clears4, mixed5, others5, unused0, bounds}
+use Rattle.image_laws.proofs.RecopyStep.{beside-index, beside-entry, data_gains, data_has, mine4, mine5, live4, clears4, mixed5, others5, unused0, bounds}
 
 -- a live page that is not spare is wanted, and serves
 module _ (g : Geometry) (a : List ℕ) (before : ℕ → Bool) (t : IsTidyBut g a before) where

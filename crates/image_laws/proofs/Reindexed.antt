@@ -1,27 +1,19 @@
 -- A renewed index page among the pages of an id.
-use Rattle.std.proofs.Common.{◌≡◌, ◌≢◌, ℕ, zero, suc, ◌+◌, ◌-◌, ◌%◌, ◌<◌, ◌≤◌, ◌⊎◌, List, [], ◌++◌, take, slice_index, slice_range, Bool, true, false, ◌==◌, Option, Some, None, Result, Ok, Err, ap, refl, sym, ◌∙◌, arith, ⊎_elim, subst, inl, inr}
+use Rattle.std.proofs.Common.{◌≡◌, ℕ, zero, suc, ◌+◌, ◌<◌, ◌≤◌, List, [], ◌++◌, take, slice_index, slice_range, Bool, true, false, Option, Some, None, Ok, ap, refl, ◌∙◌, arith, ⊎_elim, subst}
 use Rattle.std.proofs.Math.Path.{fun_ext}
 use Rattle.std.specs.Prelude.{is_some, is_none, option_and_then, find, unwrap_or}
 use Rattle.std.specs.Option.{option_map}
 use Rattle.std.specs.List.{range_with_len, flat_map}
-use Rattle.std.proofs.lemmas.Bool.{cases_eq, cases_lt, cases_Bool, eq-eqb, ne_eqb, eqb-true, false_from_ne_true, lt-ltb, le-ltb}
-use Rattle.std.proofs.lemmas.Option.{none-some, same_Some}
+use Rattle.std.proofs.lemmas.Bool.{cases_lt, lt-ltb, le-ltb}
 use Rattle.geometry.specs.declared.geometry.Geometry.{Geometry}
-use Rattle.image_model.specs.declared.damage.Damage.{Damage}
-use Rattle.image_model.specs.Volume.{page_count}
 use Rattle.geometry.specs.Numbers.{head_slots}
 use Rattle.table_model.specs.Room.{data_pages}
-use Rattle.image_model.specs.Headers.{obj_id, span_of, names_index, size_of, name_of}
-use Rattle.image_laws.specs.Changes.{Gains, Loses}
+use Rattle.image_model.specs.Headers.{size_of, name_of}
 use Rattle.image_model.specs.Live.{Live}
 use Rattle.table_model.specs.Table.{File}
-use Rattle.image_model.specs.Files.{is_index, index_page, further, entry_number, data_of, data_page, judged, judged_by, file_of, span_bytes, bytes_of, first_missing, found}
-use Rattle.image_laws.specs.Reindex.{Reindexes, index_span, slot_word, now_data, now_bytes}
-use Rattle.image_laws.proofs.Tables.{find_only, find_gains}
-use Rattle.image_laws.proofs.Judge.{judged-same, index_passes, found_from, find-range}
-use Rattle.image_laws.proofs.Wanted.{judged-whole}
-use Rattle.image_laws.proofs.Append.{find-all}
-use Rattle.image_laws.proofs.Doubled.{index-span_is}
+use Rattle.image_model.specs.Files.{index_page, further, entry_number, data_of, data_page, judged, judged_by, file_of, span_bytes, bytes_of, first_missing}
+use Rattle.image_laws.specs.Reindex.{index_span, slot_word}
+use Rattle.image_laws.proofs.Judge.{judged-same}
 
 -- ---- pages that say the same of each span
 
@@ -79,15 +71,25 @@ module _ (g : Geometry) (pages now : Live) (id : ℕ) (head head' : List ℕ) (f
   bytes_now : bytes_of g now head' ≡ take (size_of head) (flat_map (λ (t : ℕ). slice_range (unwrap_or (want t) []) 5 g.page) (range_with_len 0 (data_pages g (size_of head))))
   bytes_now = rw size (ap (λ (bs : List ℕ). take (size_of head) bs) (pieces-same (λ (t : ℕ). slice_range (unwrap_or (want t) []) 5 g.page) (span_bytes g now head') 0 (data_pages g (size_of head)) (λ q low high. rw (reads q (omega arith)) refl)))
 
-  pub judged-reads : judged g now id head' ≡ Ok (record { id = f.id; name = f.name; kind = f.kind; meta = f.meta;
-      bytes = take (size_of head) (flat_map (λ (t : ℕ). slice_range (unwrap_or (want t) []) 5 g.page) (range_with_len 0 (data_pages g (size_of head)))) })
+  pub judged-reads : judged g now id head' ≡ Ok (record {
+    id = f.id;
+    name = f.name;
+    kind = f.kind;
+    meta = f.meta;
+    bytes = take (size_of head) (flat_map (λ (t : ℕ). slice_range (unwrap_or (want t) []) 5 g.page) (range_with_len 0 (data_pages g (size_of head))));
+  })
   unfolding judged
   judged-reads =
       let w = judged-parts g pages id head f file in
       let same : name_of head' ≡ Some w.0 = name ∙ w.1 in
       let fields : file_of g pages id head w.0 ≡ f = w.2 in
-      subst (λ (y : File). judged g now id head' ≡ Ok (record { id = y.id; name = y.name; kind = y.kind; meta = y.meta;
-      bytes = take (size_of head) (flat_map (λ (t : ℕ). slice_range (unwrap_or (want t) []) 5 g.page) (range_with_len 0 (data_pages g (size_of head)))) })) fields
+      subst (λ (y : File). judged g now id head' ≡ Ok (record {
+        id = y.id;
+        name = y.name;
+        kind = y.kind;
+        meta = y.meta;
+        bytes = take (size_of head) (flat_map (λ (t : ℕ). slice_range (unwrap_or (want t) []) 5 g.page) (range_with_len 0 (data_pages g (size_of head))));
+      })) fields
       (rw (same, none_missing) (rw (bytes_now, kind, meta) refl))
 
 -- ---- entries through index pages

@@ -1,30 +1,27 @@
 -- A renewed header page: its cuts, and the image after it.
-use Rattle.std.proofs.Common.{◌≡◌, ◌≢◌, ℕ, ◌+◌, ◌*◌, ◌%◌, ◌<◌, ◌≤◌, ◌⊎◌, List, [], ◌∷◌, set, slice_index, Bool, true, false, not, ◌==◌, ◌||◌, ◌&&◌, Option, Some, None, Result, Ok, ap, refl, sym, ◌∙◌, arith, ⊎_elim, subst, inl, inr}
-use Rattle.std.proofs.Math.Path.{fun_ext}
-use Rattle.std.specs.List.{All}
+use Rattle.std.proofs.Common.{◌≡◌, ◌≢◌, ℕ, ◌+◌, ◌*◌, ◌%◌, ◌<◌, ◌≤◌, ◌⊎◌, List, [], set, slice_index, Bool, true, false, not, ◌==◌, ◌||◌, ◌&&◌, Option, Some, None, Result, Ok, ap, refl, sym, ◌∙◌, arith, ⊎_elim, subst, inl, inr}
 use Rattle.std.specs.Prelude.{is_some}
-use Rattle.std.proofs.lemmas.List.Elements.{All-cons, All-head, All-tail, All-nil}
-use Rattle.std.proofs.lemmas.Bool.{cases_eq, cases_lt, cases_Bool, and_parts, ne_eqb, eq-eqb, eqb-true, or_parts, or_cases, lt-ltb, le-ltb}
+use Rattle.std.proofs.lemmas.Bool.{cases_eq, cases_Bool, and_parts, ne_eqb, eq-eqb, eqb-true, or_parts, or_cases}
 use Rattle.std.proofs.lemmas.Option.{none-some, same_Some}
 use Rattle.geometry.specs.declared.geometry.Geometry.{Geometry}
 use Rattle.image_model.specs.Within.{sizes}
 use Rattle.image_model.specs.declared.damage.Damage.{Damage}
 use Rattle.image_model.specs.Volume.{page_count}
 use Rattle.image_model.specs.Live.{live_at, Live, own}
-use Rattle.image_model.specs.Places.{has_magic, page_of, entry_of, block_of, is_entry_page, IsImage}
+use Rattle.image_model.specs.Places.{entry_of, is_entry_page}
 use Rattle.image_model.specs.Headers.{obj_id, names_index}
 use Rattle.image_laws.specs.Changes.{Gains, Loses}
 use Rattle.table_model.specs.Table.{File, put_file}
-use Rattle.image_model.specs.Tables.{Found, has_of, records, damages, table_of, damaged_of}
+use Rattle.image_model.specs.Tables.{has_of, table_of, damaged_of}
 use Rattle.image_model.specs.Files.{is_index, index_page, judged, found}
 use Rattle.image_model.specs.Tidy.{IsTidy, serves, is_free_entry, free_blocks, is_free_block}
-use Rattle.image_laws.specs.Programs.{LeadsTo, ClearsBit}
+use Rattle.image_laws.specs.Programs.{ClearsBit}
 use Rattle.image_laws.specs.NewFile.{IsBeforeOrAfter}
-use Rattle.image_model.specs.Sound.{HasMagics, IsMixed, IsSound}
-use Rattle.image_laws.specs.TidySteps.{Agree, IsTidyBut}
+use Rattle.image_model.specs.Sound.{HasMagics, IsMixed}
+use Rattle.image_laws.specs.TidySteps.{Agree}
 use Rattle.image_laws.specs.Creating.{CutOf}
 use Rattle.image_laws.specs.OneId.{OneIdChanges}
-use Rattle.image_laws.specs.LiveSteps.{Finished, PutCut, Kills, KillCut, PutLeaves, PutDone, KillLeaves, KillDone}
+use Rattle.image_laws.specs.LiveSteps.{PutCut, KillCut, PutLeaves, PutDone, KillLeaves}
 use Rattle.image_laws.specs.Spares.{leftover, RenewLeaves}
 use Rattle.image_laws.specs.Renew.{Renews, RenewIsSound, RenewTidies}
 use Rattle.image_model.specs.Within.{page_number}

@@ -1,31 +1,30 @@
 -- Kills of spare pages.
-use Rattle.std.proofs.Common.{◌≡◌, ◌≢◌, ℕ, ◌+◌, ◌*◌, ◌%◌, ◌≤◌, ◌⊎◌, List, [], ◌∷◌, slice_index, Bool, true, false, not, ◌==◌, ◌&&◌, Option, Some, None, ap, refl, sym, ◌∙◌, arith, ⊎_elim, subst, inl, inr}
-use Rattle.std.proofs.lemmas.Bool.{cases_eq, and_parts, ne_eqb, eq-eqb}
-use Rattle.std.proofs.lemmas.Option.{none-some}
+use Rattle.std.proofs.Common.{◌≡◌, ◌≢◌, ℕ, ◌+◌, ◌*◌, ◌%◌, ◌≤◌, List, [], ◌∷◌, slice_index, Bool, true, false, not, ◌==◌, ◌&&◌, Some, refl, ◌∙◌, arith, ⊎_elim}
+use Rattle.std.proofs.lemmas.Bool.{and_parts, ne_eqb, eq-eqb}
 use Rattle.geometry.specs.declared.geometry.Geometry.{Geometry}
 use Rattle.nor_core.specs.Flash.{HalfProgrammed}
 use Rattle.image_model.specs.Within.{sizes}
 use Rattle.image_model.specs.Live.{live_at, own}
 use Rattle.image_model.specs.Headers.{obj_id, is_finished}
 use Rattle.image_model.specs.Places.{page_of, is_entry_page, IsImage, entry_at}
-use Rattle.image_model.specs.Tables.{Found, has_of, counted}
+use Rattle.image_model.specs.Tables.{has_of}
 use Rattle.image_model.specs.Tidy.{is_wanted, free_blocks}
 use Rattle.image_laws.specs.Programs.{IsIdle, ClearsBit}
 use Rattle.image_model.specs.Sound.{HasMagics, Keeps}
 use Rattle.image_laws.specs.TidySteps.{IsTidyBut, Agree}
-use Rattle.image_laws.specs.LiveSteps.{Kills, KillCut, KillLeaves, KillDone}
+use Rattle.image_laws.specs.LiveSteps.{Kills, KillCut, KillDone}
 use Rattle.image_laws.specs.Spares.{Spares, SpareKills, SparesEnd, is_in_table}
 use Rattle.image_laws.proofs.Frames.{live_parts}
 use Rattle.image_laws.proofs.Kill.{has_of-loses}
 use Rattle.image_laws.proofs.Wanted.{unwanted-idle}
 use Rattle.image_laws.proofs.Unwanted.{unwanted-leaves}
 use Rattle.image_laws.proofs.Sounding.{killing-sound, keeps-on, loses-back}
-use Rattle.image_laws.proofs.Junk.{dead_entry-keeps}
+use Rattle.image_laws.proofs.DeadEntries.{dead_entry-keeps}
 use Rattle.image_laws.proofs.Finished.{torn_from}
 use Rattle.image_laws.proofs.FreeBlocks.{free_blocks-fall, used-is_not_free}
 use Rattle.image_laws.proofs.TidySteps.{tidy-is_tidy, killing-tidy, killed-tidies, wanted-same}
 use Rattle.image_laws.proofs.RenewStep.{live-used}
-use Rattle.image_laws.proofs.LiveStep.{kill-changes, done_byte, dead}
+use Rattle.image_laws.proofs.LiveStep.{kill-changes, dead}
 
 module _ (g : Geometry) (a b d : List ℕ) (r kill : ℕ) (x : List ℕ) (spare : ℕ → Bool) (is : IsImage g a) (m : HasMagics g a) (s : Spares g spare a) (sp : spare r ≡ true) (live : live_at g a r ≡ Some x)
     (clears : ClearsBit 7 (slice_index a (r * g.page + 4)) kill) (kills : Kills g r kill a b d) where

@@ -26,7 +26,7 @@ use Rattle.image_laws.proofs.Bits.{one_bit_image}
 use Rattle.image_laws.proofs.Kill.{killing-loses, own-loses, own-loses_other, has_of-loses, index-loses, entry-loses}
 use Rattle.image_laws.proofs.Wanted.{number-other, unwanted-idle}
 use Rattle.image_laws.proofs.Wants.{wanted_parts, wanted_from, wanted-loses}
-use Rattle.image_laws.proofs.Junk.{filter-one, and_false}
+use Rattle.image_laws.proofs.DeadEntries.{filter-one, and_false}
 
 module _ (g : Geometry) (p : ℕ) (pages now : Live) (change : Loses p pages now) (idle : IsIdle g pages p) (h : ℕ) (head : List ℕ)
     (at : index_page g now 0 ≡ Some h) (header : now h ≡ Some head) (unserved : (hd : List ℕ) → index_page g pages 0 ≡ Some h → pages h ≡ Some hd → serves g pages hd p ≡ false) where

@@ -1,16 +1,14 @@
 -- Blocks by what they hold.
-use Rattle.std.specs.Prelude.{◌≡◌, ℕ, ◌+◌, ◌*◌, ◌≤◌, List, length, Bool, not, ◌&&◌, filter}
-use Rattle.std.specs.List.{range_with_len, list_any}
+use Rattle.std.specs.Prelude.{◌≡◌, ℕ, ◌+◌, ◌*◌, ◌≤◌, List}
 use Rattle.geometry.specs.declared.geometry.Geometry.{Geometry}
 use Rattle.image_model.specs.Kinds.{data_blocks, other_blocks}
-use Rattle.image_model.specs.Volume.{per_block, lookups, entries}
+use Rattle.image_model.specs.Volume.{entries}
 use Rattle.geometry.specs.Numbers.{ceil}
-use Rattle.image_model.specs.Live.{live_at}
 use Rattle.image_model.specs.Tables.{table_of}
-use Rattle.image_model.specs.Tidy.{IsTidy, is_free_block, free_blocks}
+use Rattle.image_model.specs.Tidy.{IsTidy, free_blocks}
 use Rattle.table_model.specs.Room.{index_count}
 use Rattle.image_model.specs.Places.{IsImage}
-use Rattle.image_model.specs.Kinds.{is_data_page, live_index, live_data}
+use Rattle.image_model.specs.Kinds.{live_index, live_data}
 
 -- The blocks of any image are of three kinds, and data pages lie in data blocks.
 abbrev pub BlocksSplit : Geometry → Type 0

@@ -1,15 +1,13 @@
 -- The entries that the check kills.
-use Rattle.std.specs.Prelude.{◌≡◌, ◌≢◌, ℕ, ◌+◌, ◌*◌, List, [], ◌∷◌, length, Bool, true, false, not, ◌==◌, ◌&&◌, is_none, is_some, filter, slice_index, ◌%◌, Some, None, if◌then◌else◌}
-use Rattle.std.specs.List.{range_with_len}
+use Rattle.std.specs.Prelude.{◌≡◌, ◌≢◌, ℕ, ◌+◌, ◌*◌, List, [], ◌∷◌, length, Bool, true, false, is_some, slice_index, ◌%◌, Some, None, if◌then◌else◌}
 use Rattle.std.specs.Int.{bit_at}
 use Rattle.geometry.specs.declared.geometry.Geometry.{Geometry}
 use Rattle.image_model.specs.Killed.{is_killable, killed_of, is_dead_entry, dead_entries}
-use Rattle.image_model.specs.Volume.{page_count}
 use Rattle.nor_core.specs.Flash.{HalfProgrammed}
 use Rattle.image_model.specs.Headers.{obj_id, is_finished}
 use Rattle.image_model.specs.Live.{live_at}
-use Rattle.image_model.specs.Places.{has_magic, entry_of, page_of, block_of, is_entry_page, IsImage, entry_at}
-use Rattle.image_model.specs.Tidy.{is_free_entry, is_wanted}
+use Rattle.image_model.specs.Places.{entry_of, page_of, is_entry_page, IsImage, entry_at}
+use Rattle.image_model.specs.Tidy.{is_wanted}
 use Rattle.image_laws.specs.Programs.{ClearsBit}
 use Rattle.image_model.specs.Tables.{has_of, counted}
 use Rattle.image_laws.specs.TidySteps.{Agree}
@@ -21,8 +19,8 @@ pub record Deletes (old asked : ℕ) : Type 0 where
   pub others : (k : ℕ) → k ≢ 7 → bit_at old k ≡ 1 → bit_at asked k ≡ 1
 
 -- The flags byte of a page that is not live: whatever the image holds, cut off or not, no page comes to life.
-abbrev pub JunkFlagsKeep : Geometry → Type 0
-JunkFlagsKeep g = (a b : List ℕ) (p asked : ℕ) → IsImage g a → HasMagics g a → is_entry_page g p ≡ true → live_at g a p ≡ None → Deletes (slice_index a (p * g.page + 4)) asked →
+abbrev pub DeadFlagsKeep : Geometry → Type 0
+DeadFlagsKeep g = (a b : List ℕ) (p asked : ℕ) → IsImage g a → HasMagics g a → is_entry_page g p ≡ true → live_at g a p ≡ None → Deletes (slice_index a (p * g.page + 4)) asked →
     HalfProgrammed (p * g.page + 4) (asked ∷ []) a b → ((q : ℕ) → live_at g b q ≡ live_at g a q) × Keeps g a b
 
 -- The entry of a page that is not finished, as one that is deleted.
@@ -36,7 +34,7 @@ pub record Turned (g : Geometry) (p : ℕ) (killed : Bool) (a b : List ℕ) : Ty
   pub live : (q : ℕ) → live_at g b q ≡ live_at g a q
   pub clean : is_dead_entry g b p ≡ false
   pub others : (q : ℕ) → is_dead_entry g a q ≡ false → is_dead_entry g b q ≡ false
-  pub junk : (if killed then 1 else 0) + dead_entries g b ≡ dead_entries g a
+  pub dead : (if killed then 1 else 0) + dead_entries g b ≡ dead_entries g a
   pub count : (if killed then 1 else 0) + killed_of g b ≡ killed_of g a
   pub keeps : Keeps g a b
 

@@ -1,11 +1,7 @@
 -- How many pages of each kind are live.
-use Rattle.std.specs.Prelude.{◌≡◌, ℕ, List, length, Bool, false, not, Option, Some, None, filter}
-use Rattle.std.specs.List.{range_with_len}
+use Rattle.std.specs.Prelude.{◌≡◌, ℕ, List}
 use Rattle.geometry.specs.declared.geometry.Geometry.{Geometry}
 use Rattle.image_model.specs.Kinds.{live_index, live_data}
-use Rattle.image_model.specs.Volume.{page_count}
-use Rattle.image_model.specs.Live.{live_at}
-use Rattle.image_model.specs.Headers.{names_index}
 use Rattle.image_model.specs.Tables.{table_of}
 use Rattle.image_model.specs.Tidy.{IsTidy}
 use Rattle.table_model.specs.Room.{index_count, data_count}

@@ -5,13 +5,11 @@ use Rattle.std.specs.Int.{bit_at}
 use Rattle.geometry.specs.declared.geometry.Geometry.{Geometry}
 use Rattle.nor_core.specs.Flash.{SameOutside, HalfProgrammed}
 use Rattle.image_model.specs.Places.{IsImage, entry_at}
-use Rattle.image_model.specs.Within.{Sizes}
-use Rattle.image_model.specs.Volume.{lookups}
 use Rattle.table_model.specs.Room.{data_pages}
 use Rattle.geometry.specs.Numbers.{head_slots, body}
 use Rattle.image_model.specs.Live.{live_at, Live, own}
 use Rattle.image_model.specs.Headers.{is_finished, is_flag_set, obj_id, names_index, span_of, size_of}
-use Rattle.image_model.specs.Places.{has_magic, entry_of, page_of, block_of, place_of, is_entry_page}
+use Rattle.image_model.specs.Places.{has_magic, entry_of, page_of, block_of, is_entry_page}
 use Rattle.image_model.specs.Tidy.{is_wanted}
 use Rattle.image_model.specs.Tables.{has_of, counted, table_of, damaged_of}
 use Rattle.table_model.specs.Table.{File, put_file, drop_file}

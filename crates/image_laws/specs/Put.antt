@@ -5,7 +5,6 @@ use Rattle.nor_core.specs.Flash.{HalfProgrammed}
 use Rattle.image_model.specs.Live.{live_at}
 use Rattle.image_model.specs.Places.{page_of, IsImage, entry_at}
 use Rattle.image_model.specs.Headers.{is_finished}
-use Rattle.image_model.specs.Tables.{damaged_of}
 use Rattle.image_laws.specs.Programs.{IsPlaced, ClearsBit}
 use Rattle.image_laws.specs.NewFile.{IsFreePage}
 use Rattle.image_model.specs.Sound.{HasMagics, Keeps}

@@ -1,5 +1,5 @@
 -- An index page is renewed in an image: its copy, which may name other data pages, is put, and it is killed.
-use Rattle.std.specs.Prelude.{◌≡◌, ◌≢◌, ℕ, ◌+◌, ◌*◌, ◌%◌, ◌<◌, ◌⊎◌, List, [], Bool, ◌==◌, ◌&&◌, ◌||◌, is_some, true, false, Some, None, Ok, slice_index, slice_set}
+use Rattle.std.specs.Prelude.{◌≡◌, ℕ, ◌+◌, ◌*◌, ◌%◌, ◌<◌, ◌⊎◌, List, [], Bool, ◌==◌, ◌&&◌, ◌||◌, is_some, true, false, Some, Ok, slice_index, slice_set}
 use Rattle.geometry.specs.declared.geometry.Geometry.{Geometry}
 use Rattle.image_model.specs.Live.{live_at, Live, own}
 use Rattle.image_model.specs.Headers.{obj_id, span_of, names_index, size_of}

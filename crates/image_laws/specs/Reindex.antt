@@ -1,5 +1,5 @@
 -- An index page is renewed: its copy names other data pages.
-use Rattle.std.specs.Prelude.{◌≡◌, ◌≢◌, ℕ, ◌+◌, ◌-◌, ◌*◌, ◌%◌, ◌<◌, List, [], Bool, true, ◌==◌, nat_lt, Option, Some, None, Ok, is_some, unwrap_or, take, slice_index, slice_range, if◌then◌else◌, option_and_then}
+use Rattle.std.specs.Prelude.{◌≡◌, ◌≢◌, ℕ, ◌+◌, ◌-◌, ◌*◌, ◌%◌, ◌<◌, List, [], true, ◌==◌, nat_lt, Option, Some, Ok, is_some, unwrap_or, take, slice_index, slice_range, if◌then◌else◌}
 use Rattle.std.specs.List.{range_with_len, flat_map}
 use Rattle.geometry.specs.declared.geometry.Geometry.{Geometry}
 use Rattle.geometry.specs.Numbers.{head_slots, span_slots}

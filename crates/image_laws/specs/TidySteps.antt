@@ -4,7 +4,6 @@ use Rattle.std.specs.Int.{bit_at}
 use Rattle.geometry.specs.declared.geometry.Geometry.{Geometry}
 use Rattle.nor_core.specs.Flash.{HalfProgrammed, SameOutside}
 use Rattle.image_laws.specs.Flash.{Programmed}
-use Rattle.image_model.specs.Within.{Sizes}
 use Rattle.image_model.specs.Live.{live_at, own}
 use Rattle.image_model.specs.Places.{page_of, block_of, has_magic, is_entry_page, entry_of, IsImage, entry_at}
 use Rattle.image_model.specs.Headers.{obj_id, names_index, is_finished}

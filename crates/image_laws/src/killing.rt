@@ -1,9 +1,9 @@
 ghost use Rattle.geometry.specs.declared.geometry.Geometry.{Geometry};
-ghost use Rattle.image_laws.specs.Kills.{JunkFlagsKeep, DeadEntryKeeps, KillCounts, UnwantedLeaves};
+ghost use Rattle.image_laws.specs.Kills.{DeadFlagsKeep, DeadEntryKeeps, KillCounts, UnwantedLeaves};
 
 /// Killing an entry of no live page keeps the image, also where it is cut off.
-pub fn junk_keeps()
-    ensures flags { (g : Geometry) → JunkFlagsKeep g }
+pub fn dead_keeps()
+    ensures flags { (g : Geometry) → DeadFlagsKeep g }
     ensures entry { (g : Geometry) → DeadEntryKeeps g }
 {}
 

@@ -17,7 +17,7 @@ use Rattle.image_model.specs.Places.{page_of, block_of, entry_of, is_entry_page,
 use Rattle.image_model.specs.Headers.{is_finished}
 use Rattle.image_model.specs.Tidy.{is_wanted}
 use Rattle.image_model.specs.Sound.{HasMagics, Keeps}
-use Rattle.image_laws.specs.Kills.{Deletes, JunkFlagsKeep, DeadEntryKeeps, Turned}
+use Rattle.image_laws.specs.Kills.{Deletes, DeadFlagsKeep, DeadEntryKeeps, Turned}
 use Rattle.image_model.specs.Killed.{is_used, is_killable, killed_of, is_dead_entry, dead_entries}
 use Rattle.image_laws.proofs.Bits.{bit_cases}
 use Rattle.image_model.specs.Within.{page_number}
@@ -58,9 +58,9 @@ same_but_byte at asked a b h same =
     (cases_eq i at))
     (cases_lt i at))
 
-pub junk_flags-live : (g : Geometry) (a b : List ℕ) (p asked : ℕ) → IsImage g a → is_entry_page g p ≡ true → live_at g a p ≡ None → Deletes (slice_index a (p * g.page + 4)) asked →
+pub unused_flags-live : (g : Geometry) (a b : List ℕ) (p asked : ℕ) → IsImage g a → is_entry_page g p ≡ true → live_at g a p ≡ None → Deletes (slice_index a (p * g.page + 4)) asked →
     HalfProgrammed (p * g.page + 4) (asked ∷ []) a b → (q : ℕ) → live_at g b q ≡ live_at g a q
-junk_flags-live g a b p asked is page dead d h q =
+unused_flags-live g a b p asked is page dead d h q =
     let big : 128 ≤ g.page = (sizes g).page in
     let byte : TornByte (slice_index a (p * g.page + 4)) asked (slice_index b (p * g.page + 4)) = rw add-zero at (torn_byte (p * g.page + 4) (asked ∷ []) a b h 0 (omega arith)) in
     ⊎_elim
@@ -74,9 +74,9 @@ junk_flags-live g a b p asked is page dead d h q =
     (cases_eq q p))
     (deleted_byte (slice_index a (p * g.page + 4)) asked (slice_index b (p * g.page + 4)) d byte)
 
-pub junk_flags-keep : (g : Geometry) → JunkFlagsKeep g
-junk_flags-keep g a b p asked is h page dead d torn =
-    let live = junk_flags-live g a b p asked is page dead d torn in
+pub unused_flags-keep : (g : Geometry) → DeadFlagsKeep g
+unused_flags-keep g a b p asked is h page dead d torn =
+    let live = unused_flags-live g a b p asked is page dead d torn in
     (live, keeps-by_live g a b h (magic-same_page g (sizes g) a b p page (wide_flags g a b p asked is torn)) live)
 
 pub dead_entry-keeps : (g : Geometry) → DeadEntryKeeps g
@@ -132,8 +132,8 @@ module _ (g : Geometry) (a b : List ℕ) (p : ℕ) (page : is_entry_page g p ≡
       (λ (no : is_entry_page g q ≡ false). rw no refl)
       (cases_Bool (is_entry_page g q))
 
-  junk-same : (q : ℕ) → q ≢ p → is_dead_entry g b q ≡ is_dead_entry g a q
-  junk-same q there = rw (used-same q there, live q) refl
+  unused-same : (q : ℕ) → q ≢ p → is_dead_entry g b q ≡ is_dead_entry g a q
+  unused-same q there = rw (used-same q there, live q) refl
 
   killable-same : (q : ℕ) → q ≢ p → is_killable g b q ≡ is_killable g a q
   killable-same q there = rw (used-same q there, wanted-same g a b live q) refl
@@ -142,9 +142,9 @@ module _ (g : Geometry) (a b : List ℕ) (p : ℕ) (page : is_entry_page g p ≡
   unfolding is_used
   unused-now e = rw e (and_false _ _)
 
-  junk-killable : is_dead_entry g a p ≡ true → is_killable g a p ≡ true
+  unused-killable : is_dead_entry g a p ≡ true → is_killable g a p ≡ true
   unfolding is_wanted
-  junk-killable j =
+  unused-killable j =
       let w : (is_used g a p ≡ true) × (is_none (live_at g a p) ≡ true) = and_parts (is_used g a p) (is_none (live_at g a p)) j in
       let none : live_at g a p ≡ None = none_is (live_at g a p) w.1 in
       rw (w.0, none) refl
@@ -157,10 +157,10 @@ module _ (g : Geometry) (a b : List ℕ) (p : ℕ) (page : is_entry_page g p ≡
     clean = rw (unused-now e) refl;
     others = λ q was. ⊎_elim
         (λ (here : q ≡ p). rw here (rw (unused-now e) refl))
-        (λ (there : q ≡ p → ⊥). junk-same q there ∙ was)
+        (λ (there : q ≡ p → ⊥). unused-same q there ∙ was)
         (cases_eq q p);
-    junk = filter-one (λ (q : ℕ). is_dead_entry g a q) (λ (q : ℕ). is_dead_entry g b q) p 0 (page_count g) (omega arith) (omega (arith, page_number g p page)) j (rw (unused-now e) refl) junk-same;
-    count = filter-one (λ (q : ℕ). is_killable g a q) (λ (q : ℕ). is_killable g b q) p 0 (page_count g) (omega arith) (omega (arith, page_number g p page)) (junk-killable j) (rw (unused-now e) refl) killable-same;
+    dead = filter-one (λ (q : ℕ). is_dead_entry g a q) (λ (q : ℕ). is_dead_entry g b q) p 0 (page_count g) (omega arith) (omega (arith, page_number g p page)) j (rw (unused-now e) refl) unused-same;
+    count = filter-one (λ (q : ℕ). is_killable g a q) (λ (q : ℕ). is_killable g b q) p 0 (page_count g) (omega arith) (omega (arith, page_number g p page)) (unused-killable j) (rw (unused-now e) refl) killable-same;
     keeps = keeps;
   }
 
@@ -170,29 +170,29 @@ unturned g a p is h quiet = record {
   live = λ q. refl;
   clean = quiet;
   others = λ q w. w;
-  junk = omega arith;
+  dead = omega arith;
   count = omega arith;
   keeps = keeps-by_live g a a h (λ c. refl) (λ q. refl);
 }
 
-pub junk_page : (g : Geometry) (a : List ℕ) (p : ℕ) → is_dead_entry g a p ≡ true → is_entry_page g p ≡ true
+pub unused_page : (g : Geometry) (a : List ℕ) (p : ℕ) → is_dead_entry g a p ≡ true → is_entry_page g p ≡ true
 unfolding is_used
-junk_page g a p junk = let w = and_parts _ _ junk in let v = and_parts _ _ w.0 in let u = and_parts _ _ v.0 in (and_parts _ _ u.0).0
+unused_page g a p unused = let w = and_parts _ _ unused in let v = and_parts _ _ w.0 in let u = and_parts _ _ v.0 in (and_parts _ _ u.0).0
 
-pub junk_dead : (g : Geometry) (a : List ℕ) (p : ℕ) → is_dead_entry g a p ≡ true → live_at g a p ≡ None
-junk_dead g a p junk = none_is (live_at g a p) (and_parts _ _ junk).1
+pub unused_dead : (g : Geometry) (a : List ℕ) (p : ℕ) → is_dead_entry g a p ≡ true → live_at g a p ≡ None
+unused_dead g a p unused = none_is (live_at g a p) (and_parts _ _ unused).1
 
 -- a turn: flags byte, then entry
-module _ (g : Geometry) (a b : List ℕ) (p asked : ℕ) (is : IsImage g a) (h : HasMagics g a) (junk : is_dead_entry g a p ≡ true) (d : Deletes (slice_index a (p * g.page + 4)) asked)
+module _ (g : Geometry) (a b : List ℕ) (p asked : ℕ) (is : IsImage g a) (h : HasMagics g a) (unused : is_dead_entry g a p ≡ true) (d : Deletes (slice_index a (p * g.page + 4)) asked)
     (one : Programmed (p * g.page + 4) (asked ∷ []) a b) where
   pub first : ((q : ℕ) → live_at g b q ≡ live_at g a q) × Keeps g a b
-  first = junk_flags-keep g a b p asked is h (junk_page g a p junk) (junk_dead g a p junk) d (torn_from _ _ _ _ one)
+  first = unused_flags-keep g a b p asked is h (unused_page g a p unused) (unused_dead g a p unused) d (torn_from _ _ _ _ one)
 
   pub image1 : IsImage g b
   image1 = record { len = omega (arith, one.outside.size, is.len) }
 
   pub cut_entry : (x : List ℕ) → HalfProgrammed (entry_at g p) (0 ∷ 0 ∷ []) b x → ((q : ℕ) → live_at g x q ≡ live_at g b q) × Keeps g b x
-  cut_entry x torn = dead_entry-keeps g b x p (0 ∷ 0 ∷ []) image1 (first.1).sound.magics (junk_page g a p junk) (deleted_done g a b p asked is d one) refl torn
+  cut_entry x torn = dead_entry-keeps g b x p (0 ∷ 0 ∷ []) image1 (first.1).sound.magics (unused_page g a p unused) (deleted_done g a b p asked is d one) refl torn
 
   pub keeps_entry : (x : List ℕ) → HalfProgrammed (entry_at g p) (0 ∷ 0 ∷ []) b x → Keeps g a x
   keeps_entry x torn = keeps-on g a b x first.1 (cut_entry x torn).1
@@ -200,15 +200,15 @@ module _ (g : Geometry) (a b : List ℕ) (p asked : ℕ) (is : IsImage g a) (h :
   pub turn_done : (c : List ℕ) (two : Programmed (entry_at g p) (0 ∷ 0 ∷ []) b c) → Turned g p true a c
   turn_done c two =
       let torn = torn_from _ _ _ _ two in
-      let s1 : Agree g a b p = agree_page g a b p (sizes g) (junk_page g a p junk) (wide_flags g a b p asked is (torn_from _ _ _ _ one)) in
-      let s2 : Agree g b c p = agree_entry g b c p (sizes g) (junk_page g a p junk) two.outside in
+      let s1 : Agree g a b p = agree_page g a b p (sizes g) (unused_page g a p unused) (wide_flags g a b p asked is (torn_from _ _ _ _ one)) in
+      let s2 : Agree g b c p = agree_entry g b c p (sizes g) (unused_page g a p unused) two.outside in
       let agree : Agree g a c p = record {
         magic = λ d. s2.magic d ∙ s1.magic d;
         entry = λ q e there. s2.entry q e there ∙ s1.entry q e there;
         page = λ q e there. s2.page q e there ∙ s1.page q e there;
       } in
-      turned g a c p (junk_page g a p junk) agree (λ q. (cut_entry c torn).0 q ∙ first.0 q)
-      (record { len = omega (arith, two.outside.size, one.outside.size, is.len) }) (keeps_entry c torn) (zeroed g b c p two) junk
+      turned g a c p (unused_page g a p unused) agree (λ q. (cut_entry c torn).0 q ∙ first.0 q)
+      (record { len = omega (arith, two.outside.size, one.outside.size, is.len) }) (keeps_entry c torn) (zeroed g b c p two) unused
 
 -- the flags byte with DELET cleared
 bits_below : (k : ℕ) → k < 7 → bit_at 0x7F k ≡ 1
@@ -229,7 +229,7 @@ pub record Stage (g : Geometry) (first now : List ℕ) (p n : ℕ) : Type 0 wher
   pub image : IsImage g now
   pub live : (q : ℕ) → live_at g now q ≡ live_at g first q
   pub clean : (q : ℕ) → q < p → is_dead_entry g now q ≡ false
-  pub junk : n + dead_entries g now ≡ dead_entries g first
+  pub unused : n + dead_entries g now ≡ dead_entries g first
   pub count : n + killed_of g now ≡ killed_of g first
   pub keeps : Keeps g first now
   pub few : n ≤ p
@@ -239,7 +239,7 @@ stage_start g a is h = record {
   image = is;
   live = λ q. refl;
   clean = λ q low. absurd (omega arith);
-  junk = omega arith;
+  unused = omega arith;
   count = omega arith;
   keeps = keeps-by_live g a a h (λ c. refl) (λ q. refl);
   few = omega arith;
@@ -253,26 +253,26 @@ stage_next g first a b p n m killed s t e le = record {
       (λ (here : q ≡ p). rw here t.clean)
       (λ (there : q ≡ p → ⊥). t.others q (s.clean q (omega (arith, there))))
       (cases_eq q p);
-  junk = omega (arith, s.junk, t.junk, e);
+  unused = omega (arith, s.unused, t.dead, e);
   count = omega (arith, s.count, t.count, e);
   keeps = keeps-on g first a b s.keeps t.keeps;
   few = omega (arith, s.few, le);
 }
 
-junk_inside : (g : Geometry) (a : List ℕ) (q : ℕ) → page_count g ≤ q → is_dead_entry g a q ≡ false
+unused_inside : (g : Geometry) (a : List ℕ) (q : ℕ) → page_count g ≤ q → is_dead_entry g a q ≡ false
 unfolding is_used is_entry_page
-junk_inside g a q high = rw (le-ltb q (page_count g) high) refl
+unused_inside g a q high = rw (le-ltb q (page_count g) high) refl
 
 filter-none : (test : ℕ → Bool) (a n : ℕ) → ((q : ℕ) → test q ≡ false) → length (filter test (range_with_len a n)) ≡ 0
 filter-none test a zero none = refl
 filter-none test a (suc n) none = rw (none a) (filter-none test (a + 1) n none)
 
 pub stage_clean : (g : Geometry) (first a : List ℕ) (p n : ℕ) → page_count g ≤ p → Stage g first a p n → (q : ℕ) → is_dead_entry g a q ≡ false
-stage_clean g first a p n all s q = ⊎_elim (λ (low : q < p). s.clean q low) (λ (high : p ≤ q). junk_inside g a q (omega arith)) (cases_lt q p)
+stage_clean g first a p n all s q = ⊎_elim (λ (low : q < p). s.clean q low) (λ (high : p ≤ q). unused_inside g a q (omega arith)) (cases_lt q p)
 
 pub stage_count : (g : Geometry) (first a : List ℕ) (p n : ℕ) → page_count g ≤ p → Stage g first a p n → n ≡ dead_entries g first
 unfolding dead_entries
 stage_count g first a p n all s =
     let none : length (filter (λ (q : ℕ). is_dead_entry g a q) (range_with_len 0 (page_count g))) ≡ 0 = filter-none (λ (q : ℕ). is_dead_entry g a q) 0 (page_count g) (stage_clean g first a p n all s) in
-    let total : n + length (filter (λ (q : ℕ). is_dead_entry g a q) (range_with_len 0 (page_count g))) ≡ length (filter (λ (q : ℕ). is_dead_entry g first q) (range_with_len 0 (page_count g))) = s.junk in
+    let total : n + length (filter (λ (q : ℕ). is_dead_entry g a q) (range_with_len 0 (page_count g))) ≡ length (filter (λ (q : ℕ). is_dead_entry g first q) (range_with_len 0 (page_count g))) = s.unused in
     omega (arith, none, total)
