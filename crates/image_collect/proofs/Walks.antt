@@ -1,5 +1,5 @@
 -- A list from an index on.
-use Rattle.std.proofs.Common.{◌≡◌, ℕ, ◌+◌, ◌<◌, ◌≤◌, List, ◌∷◌, [], length, slice_index, drop, refl, sym, ◌∙◌, ap, arith, zero, suc, drop-cons, add-one}
+use Rattle.std.proofs.Common.{◌≡◌, ℕ, ◌+◌, ◌<◌, ◌≤◌, List, ◌∷◌, [], length, slice_index, drop, refl, arith, zero, suc, drop-cons, add-one}
 
 pub walk_step : (xs : List ℕ) (i : ℕ) → i < length xs → drop i xs ≡ slice_index xs i ∷ drop (i + 1) xs
 walk_step xs i h = rw (add-one, drop-cons xs i 0) refl

@@ -1,5 +1,5 @@
 -- The numbers that pass a test, in a walk.
-use Rattle.std.specs.Prelude.{◌≡◌, ℕ, ◌+◌, ◌-◌, ◌<◌, ◌≤◌, List, ◌++◌, Bool, filter}
+use Rattle.std.specs.Prelude.{◌≡◌, ℕ, ◌-◌, ◌<◌, List, ◌++◌, Bool, filter}
 use Rattle.std.specs.List.{range_with_len, All}
 
 -- those below p that pass; all are below the end

@@ -1,5 +1,5 @@
 -- The greatest in a walk over numbers.
-use Rattle.std.specs.Prelude.{◌≡◌, ℕ, ◌+◌, ◌-◌, ◌≤◌, max, map, Bool, filter}
+use Rattle.std.specs.Prelude.{◌≡◌, ℕ, ◌-◌, ◌≤◌, max, map, Bool, filter}
 use Rattle.std.specs.List.{range_with_len, fold}
 
 -- of the numbers below p that pass a test the greatest value is this, and with those to come it is `all`

@@ -9,8 +9,11 @@ ghost use Rattle.image_plain.specs.Wanting.{AreWanted};
 ghost use Rattle.image_collect.specs.Wanted.{is_wanted_of as the_wanted_of};
 
 use geometry::Geometry;
+use image_plain::{
+    EntryKind, count_entries, first_entry, free_blocks, has_magic, is_data_page, is_free_block,
+    is_index_page, spoiled_blocks, wanted_pages,
+};
 use std::alloc::{AllocError, Global};
-use image_plain::{EntryKind, count_entries, first_entry, free_blocks, has_magic, is_data_page, is_free_block, is_index_page, spoiled_blocks, wanted_pages};
 
 // Whether a page is wanted and of that kind.
 fn is_wanted_of(g: &Geometry, image: &[u8], wanted: &[bool], index: bool, p: u32) -> bool
@@ -52,7 +55,8 @@ fn is_shared(g: &Geometry, image: &[u8], wanted: &[bool], block: u32) -> bool
     requires block { block < g.now.blocks }
     ensures { result ≡ the_shared g.now image.now block }
 {
-    count_wanted(g, image, wanted, true, block) != 0 && count_wanted(g, image, wanted, false, block) != 0
+    count_wanted(g, image, wanted, true, block) != 0
+        && count_wanted(g, image, wanted, false, block) != 0
 }
 
 // How many blocks are shared.
@@ -162,7 +166,11 @@ pub fn parting(alloc: Global, g: &Geometry, image: &[u8]) -> Result<SharedBlocks
     let shared = shared_blocks(g, image, wanted.as_slice());
     let index_pages = shared_index(g, image, wanted.as_slice());
     let index_free = open_entries(g, image, wanted.as_slice());
-    let spare = if spoiled_blocks(g, image) == 1 { 1u64 } else { 0 };
+    let spare = if spoiled_blocks(g, image) == 1 {
+        1u64
+    } else {
+        0
+    };
     let blocks = (u64::from(free_blocks(g, image)) + spare).saturating_sub(2);
     let room = index_free + blocks * u64::from(g.entries());
     Ok(SharedBlocks {

@@ -1,13 +1,13 @@
 -- Blocks that hold wanted pages of both kinds, and whether a check can part them.
 use Rattle.std.specs.Prelude.{ℕ, ◌+◌, ◌-◌, ◌*◌, List, length, Bool, not, nat_le, ◌==◌, ◌&&◌, ◌||◌, if◌then◌else◌, filter, sum_by}
-use Rattle.std.specs.List.{range_with_len, list_any}
+use Rattle.std.specs.List.{range_with_len}
 use Rattle.geometry.specs.declared.geometry.Geometry.{Geometry}
-use Rattle.image_model.specs.Volume.{per_block, lookups, entries}
+use Rattle.image_model.specs.Volume.{entries}
 use Rattle.image_model.specs.Places.{has_magic}
 use Rattle.image_model.specs.Live.{live_at}
 use Rattle.image_model.specs.Tidy.{is_wanted, is_free_block, free_blocks}
 use Rattle.image_model.specs.Kinds.{is_index_page, is_data_page, spoiled_blocks}
-use Rattle.image_model.specs.Collect.{count_in, free_in, free_where}
+use Rattle.image_model.specs.Collect.{count_in, free_where}
 
 -- a wanted index page, and a wanted data page
 abbrev pub is_wanted_index : Geometry → List ℕ → ℕ → Bool

@@ -1,9 +1,8 @@
 -- Pages and slots lie within the image.
-use Rattle.std.specs.Prelude.{◌≡◌, ℕ, ◌+◌, ◌-◌, ◌*◌, ◌/◌, ◌%◌, ◌^◌, ◌<◌, ◌≤◌, ◌⊎◌, List, length, true}
-use Rattle.std.proofs.Common.{ap, refl, arith, length-take, length-drop, ⊎_elim, mul_assoc}
+use Rattle.std.specs.Prelude.{◌≡◌, ℕ, ◌+◌, ◌-◌, ◌*◌, ◌/◌, ◌%◌, ◌^◌, ◌<◌, ◌≤◌, List, length, true}
+use Rattle.std.proofs.Common.{ap, refl, arith, length-take, length-drop, ⊎_elim}
 use Rattle.std.proofs.Math.Nat.{mul-le-mul_right, div-add-mod}
 use Rattle.std.proofs.lemmas.Bool.{cases_lt, lt-ltb, le-ltb}
-use Rattle.std.proofs.lemmas.Grind.{common_steps}
 use Rattle.geometry.specs.declared.geometry.Geometry.{Geometry}
 use Rattle.image_model.specs.Volume.{page_count, per_block, lookups, slots, entries}
 use Rattle.image_model.specs.Places.{page_of, is_entry_page, block_of, place_of, IsImage, entry_at}

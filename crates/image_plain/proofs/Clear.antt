@@ -1,13 +1,13 @@
 -- An image is tidy exactly where four counts vanish.
-use Rattle.std.proofs.Common.{◌≡◌, ◌≢◌, ℕ, zero, suc, ◌+◌, ◌*◌, ◌<◌, ◌≤◌, Bool, true, false, not, ◌&&◌, ◌==◌, List, [], ◌∷◌, length, refl, sym, ◌∙◌, ap, arith, ⊎_elim, inl, inr, ◌↔◌}
+use Rattle.std.proofs.Common.{◌≡◌, ℕ, zero, suc, ◌+◌, ◌<◌, ◌≤◌, Bool, true, false, not, ◌&&◌, ◌==◌, List, [], length, refl, sym, ◌∙◌, arith, ⊎_elim, inl, inr}
 use Rattle.std.specs.Prelude.{Option, Some, None, filter, ◌⊎◌}
 use Rattle.std.specs.List.{range_with_len, list_any}
-use Rattle.std.proofs.lemmas.Bool.{cases_eq, cases_Bool, and_parts, and_from, or_cases, or_left, or_right, eqb-true, eq-eqb, not_from_false}
+use Rattle.std.proofs.lemmas.Bool.{cases_eq, cases_Bool, and_parts, and_from, or_cases, or_left, or_right, eqb-true, eq-eqb}
 use Rattle.geometry.specs.declared.geometry.Geometry.{Geometry}
-use Rattle.image_model.specs.Volume.{page_count, per_block, lookups, entries}
+use Rattle.image_model.specs.Volume.{page_count}
 use Rattle.image_model.specs.Places.{has_magic, entry_of, block_of, is_entry_page}
 use Rattle.image_model.specs.Headers.{names_index}
-use Rattle.image_model.specs.Live.{Live, live_at, is_live}
+use Rattle.image_model.specs.Live.{live_at, is_live}
 use Rattle.image_model.specs.Tables.{damaged_of}
 use Rattle.image_model.specs.Tidy.{IsTidy, is_free_entry, is_wanted}
 use Rattle.image_model.specs.Killed.{is_used, is_killable, killed_of}

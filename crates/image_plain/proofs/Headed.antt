@@ -1,17 +1,14 @@
 -- Header pages by their ids.
-use Rattle.std.proofs.Common.{◌≡◌, ◌≢◌, ℕ, ◌+◌, ◌-◌, ◌<◌, ◌≤◌, ◌%◌, ◌==◌, ◌&&◌, Bool, true, false, List, length, set, get_or, refl, sym, subst, ap, ◌∙◌, arith, if◌then◌else◌, replicate, ⊎_elim}
+use Rattle.std.proofs.Common.{◌≡◌, ℕ, ◌+◌, ◌<◌, ◌%◌, ◌==◌, ◌&&◌, Bool, true, false, List, length, set, get_or, refl, sym, subst, ◌∙◌, arith, if◌then◌else◌, replicate, ⊎_elim}
 use Rattle.std.proofs.Math.Nat.{sub-zero}
 use Rattle.std.proofs.lemmas.Bool.{cases_eq, eq-eqb, ne_eqb}
-use Rattle.std.specs.Prelude.{Option, Some, None, find, option_and_then}
-use Rattle.std.specs.List.{range_with_len}
+use Rattle.std.specs.Prelude.{Option, Some, None, option_and_then}
 use Rattle.std.proofs.lemmas.List.{get_or-set_same, get_or-set_other, get_or-replicate, length-replicate}
-use Rattle.std.proofs.lemmas.Grind.{common_steps}
 use Rattle.geometry.specs.declared.geometry.Geometry.{Geometry}
 use Rattle.image_model.specs.Volume.{page_count}
-use Rattle.image_model.specs.Headers.{obj_id, names_index, span_of}
+use Rattle.image_model.specs.Headers.{obj_id}
 use Rattle.image_model.specs.Live.{Live, own}
 use Rattle.image_model.specs.Files.{is_index, index_page}
-use Rattle.image_model.specs.Tidy.{is_number}
 use Rattle.image_plain.specs.Headed.{HeadsFrom, IsHeads}
 use Rattle.image_plain.proofs.Ranges.{range_step, range_end}
 

@@ -1,5 +1,5 @@
 -- One more page that is known to be wanted or not.
-use Rattle.std.proofs.Common.{◌≡◌, ℕ, ◌+◌, ◌<◌, List, [], ◌∷◌, ◌++◌, length, get_or, Bool, false, refl, sym, ◌∙◌, ap, arith, ⊎_elim}
+use Rattle.std.proofs.Common.{◌≡◌, ℕ, ◌+◌, ◌<◌, List, [], ◌∷◌, ◌++◌, length, get_or, Bool, false, sym, ◌∙◌, ap, arith, ⊎_elim}
 use Rattle.std.proofs.lemmas.List.{get_or_append_left, get_or_at, length-append}
 use Rattle.std.proofs.lemmas.Bool.{cases_eq}
 use Rattle.geometry.specs.declared.geometry.Geometry.{Geometry}

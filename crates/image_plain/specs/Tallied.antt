@@ -1,5 +1,5 @@
 -- Counts in a walk over numbers, from a first one on.
-use Rattle.std.specs.Prelude.{◌≡◌, ℕ, ◌+◌, ◌-◌, ◌≤◌, List, length, Bool, filter}
+use Rattle.std.specs.Prelude.{◌≡◌, ℕ, ◌+◌, ◌-◌, ◌≤◌, length, Bool, filter}
 use Rattle.std.specs.List.{range_with_len}
 
 -- of the numbers from `first` to below p so many passed a test; with those to come there are `total`

@@ -15,7 +15,10 @@ mod table;
 mod tidiness;
 mod tidy;
 
-pub use blocks::{first_entry, free_blocks, is_data_block, is_data_page, is_free_block, is_index_block, is_index_page, is_mixed, mixed_blocks, spoiled_blocks};
+pub use blocks::{
+    first_entry, free_blocks, is_data_block, is_data_page, is_free_block, is_index_block,
+    is_index_page, is_mixed, mixed_blocks, spoiled_blocks,
+};
 pub use counts::{EntryKind, count_entries};
 pub use damaged::damaged_of;
 pub use files::{data_page, index_page, name_of, size_of};

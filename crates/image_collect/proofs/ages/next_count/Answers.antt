@@ -1,4 +1,4 @@
-use Rattle.std.proofs.Common.{◌≡◌, arith}
+use Rattle.std.proofs.Common.{arith}
 use Rattle.std.proofs.lemmas.Grind.{common_steps}
 use Rattle.image_collect.proofs.Greatest.{greatest_yes, greatest_no}
 use Rattle.image_collect.proofs.ages.next_count.Goals as goal

@@ -1,5 +1,5 @@
 -- The walk from `i` on gives the answer.
-use Rattle.std.proofs.Common.{◌≡◌, ◌++◌, ℕ, drop, not, Option}
+use Rattle.std.proofs.Common.{◌≡◌, ℕ, drop}
 use Rattle.std.specs.Prelude.{find, int_le}
 use Rattle.std.specs.List.{list_all}
 use Rattle.image_model.specs.Collect.{score}

@@ -1,4 +1,4 @@
-use Rattle.std.proofs.Common.{◌≡◌, arith}
+use Rattle.std.proofs.Common.{arith}
 use Rattle.std.proofs.lemmas.Grind.{common_steps}
 use Rattle.image_collect.proofs.Filtered.{filter_yes, filter_no}
 use Rattle.image_collect.proofs.choice.candidates.Goals as goal

@@ -1,5 +1,5 @@
 -- The walk from `i` on gives the answer.
-use Rattle.std.proofs.Common.{◌≡◌, ◌++◌, ℕ, drop, not, Option}
+use Rattle.std.proofs.Common.{◌≡◌, ◌++◌, ℕ, drop, not}
 use Rattle.std.specs.Prelude.{filter}
 use Rattle.std.specs.List.{All}
 use Rattle.image_model.specs.Kinds.{is_data_block}

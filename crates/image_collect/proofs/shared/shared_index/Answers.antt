@@ -1,4 +1,4 @@
-use Rattle.std.proofs.Common.{◌≡◌, arith}
+use Rattle.std.proofs.Common.{arith}
 use Rattle.std.proofs.lemmas.Grind.{common_steps}
 use Rattle.image_collect.proofs.Sums.{sum_more}
 use Rattle.image_collect.proofs.shared.shared_index.Goals as goal

@@ -1,5 +1,5 @@
 -- The parts so far, and those to come.
-use Rattle.std.proofs.Common.{ℕ, ◌&&◌, ◌==◌, not, if◌then◌else◌}
+use Rattle.std.proofs.Common.{ℕ, if◌then◌else◌}
 use Rattle.image_model.specs.Shared.{is_shared, wanted_index_in}
 use Rattle.image_collect.specs.Summed.{Sums}
 use Rattle.image_collect.proofs.shared.shared_index.Given as goal

@@ -1,4 +1,4 @@
-use Rattle.std.proofs.Common.{◌≡◌, arith}
+use Rattle.std.proofs.Common.{arith}
 use Rattle.std.proofs.lemmas.Grind.{common_steps}
 use Rattle.image_plain.proofs.Ranges.{count_yes, count_no}
 use Rattle.image_plain.proofs.blocks.free_blocks.Goals as goal

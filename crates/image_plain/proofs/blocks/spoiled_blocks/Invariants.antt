@@ -1,7 +1,5 @@
 -- Those so far, and those to come.
-use Rattle.std.proofs.Common.{◌≡◌, ◌+◌, ◌-◌, ◌≤◌, ℕ, length, not}
-use Rattle.std.specs.Prelude.{filter}
-use Rattle.std.specs.List.{range_with_len}
+use Rattle.std.proofs.Common.{ℕ, not}
 use Rattle.image_model.specs.Places.{has_magic}
 use Rattle.image_plain.specs.Counted.{Counts}
 use Rattle.image_plain.proofs.blocks.spoiled_blocks.Given as goal

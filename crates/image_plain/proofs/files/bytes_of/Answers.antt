@@ -1,8 +1,8 @@
 use Rattle.std.proofs.Common.{◌≡◌, ◌++◌}
 use Rattle.std.proofs.lemmas.Grind.{common_steps}
-use Rattle.std.proofs.Common.{arith, refl, List, ℕ, take, ap, ◌∙◌, length}
+use Rattle.std.proofs.Common.{arith, refl}
 use Rattle.image_model.specs.Live.{live_at, own}
-use Rattle.image_model.specs.Files.{span_bytes, bytes_of}
+use Rattle.image_model.specs.Files.{span_bytes}
 use Rattle.image_plain.proofs.Ranges.{flat_map_step, flat_map_end}
 use Rattle.image_plain.proofs.files.bytes_of.Goals as goal
 

@@ -1,5 +1,4 @@
 -- The header pages of the pages from `p` on are noted.
-use Rattle.std.proofs.Common.{◌≡◌}
 use Rattle.image_model.specs.Live.{live_at}
 use Rattle.image_plain.specs.Headed.{HeadsFrom}
 use Rattle.image_plain.proofs.headers.header_pages.Given as goal

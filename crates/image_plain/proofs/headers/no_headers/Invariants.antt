@@ -1,5 +1,5 @@
 -- As many as the turns so far.
-use Rattle.std.proofs.Common.{◌≡◌, replicate, Option, Some, None}
+use Rattle.std.proofs.Common.{◌≡◌, replicate, None}
 use Rattle.image_plain.proofs.headers.no_headers.Given as goal
 
 abbrev pub invariant-loop-i : goal.invariant-loop-i

@@ -1,4 +1,4 @@
-use Rattle.std.proofs.Common.{◌≡◌, refl, arith}
+use Rattle.std.proofs.Common.{refl, arith}
 use Rattle.image_plain.proofs.Headed.{noted}
 use Rattle.image_plain.proofs.headers.note_header.Goals as goal
 
