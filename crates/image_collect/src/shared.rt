@@ -180,3 +180,92 @@ pub fn parting(alloc: Global, g: &Geometry, image: &[u8]) -> Result<SharedBlocks
         fits: shared == 0 || index_pages <= room,
     })
 }
+
+#[cfg(test)]
+mod tests {
+    use super::*;
+    use geometry::MagicKind;
+    use image_plain::{holds_volume, is_tidy};
+    use std::test::Fail;
+
+    fn put(image: &mut Vec<u8>, at: usize, bytes: &[u8]) {
+        for (i, b) in bytes.iter().enumerate() {
+            if let Some(x) = image.get_mut(at.saturating_add(i)) {
+                *x = *b;
+            }
+        }
+    }
+
+    // A file of `spans` data pages, with its header and the first of them in block 0 and the others in blocks 1 and 2.
+    fn sample(alloc: Global, g: &Geometry, spans: u8) -> Result<Vec<u8>, AllocError> {
+        let mut image = vec![in alloc; 0xFFu8; 65536]?;
+        for block in 0..16u32 {
+            let magic = if block < g.blocks {
+                g.magic_of(block)
+            } else {
+                0
+            };
+            let end = block as usize * 4096 + 252;
+            put(
+                &mut image,
+                end,
+                &[(magic % 256) as u8, (magic / 256) as u8, 0, 0],
+            );
+        }
+        put(&mut image, 0, &[1, 0x80]);
+        let size = u32::from(spans) * 251;
+        let low = [(size % 256) as u8, (size / 256) as u8, 0, 0, 1, 0x61];
+        put(&mut image, 256, &[1, 0x80, 0, 0, 0xF8, 0xFF, 0xFF, 0xFF]);
+        put(&mut image, 264, &low);
+        put(&mut image, 270, &[0; 31]);
+        for span in 0..spans.min(31) {
+            let place = if span == 0 { 1 } else { span + 14 };
+            let (block, entry) = (place / 15, place % 15);
+            let page = block * 16 + 1 + entry;
+            put(&mut image, 301 + 2 * span as usize, &[page, 0]);
+            put(
+                &mut image,
+                block as usize * 4096 + 2 * entry as usize,
+                &[1, 0],
+            );
+            put(&mut image, page as usize * 256, &[1, 0, span, 0, 0xFC]);
+        }
+        Ok(image)
+    }
+
+    fn said(
+        alloc: Global,
+        g: &Geometry,
+        image: &[u8],
+    ) -> Result<Option<(SharedBlocks, bool)>, AllocError> {
+        if !holds_volume(g, image) {
+            return Ok(None);
+        }
+        let numbers = parting(alloc, g, image)?;
+        Ok(Some((numbers, is_tidy(alloc, g, image)?)))
+    }
+
+    #[test]
+    fn one_shared_block_fits_over_where_three_blocks_are_free(rt: HostRuntime) -> Result<(), Fail> {
+        for (blocks, spans, shared, fits, tidy) in [
+            (16, 1, 1, true, false),
+            (4, 30, 1, false, false),
+            (16, 0, 0, true, true),
+        ] {
+            let g = Geometry::new(256, 4096, blocks, 4096, 0, MagicKind::Length)?;
+            let image = sample(rt.alloc(), &g, spans)?;
+            let numbers = SharedBlocks {
+                shared,
+                index_pages: u64::from(shared),
+                index_free: u64::from(1 - shared) * 14,
+                fits,
+            };
+            assert_eq!(rt;
+                said(rt.alloc(), &g, image.as_slice())?,
+                Some((numbers, tidy)),
+                "{blocks} blocks, {spans} pages"
+            );
+        }
+        Ok(())
+    }
+}
