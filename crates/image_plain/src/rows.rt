@@ -243,3 +243,46 @@ fn damaged_files_have_their_first_cause(rt: HostRuntime) -> Result<(), Fail> {
     }
     Ok(())
 }
+
+#[test]
+fn interrupted_steps_leave_what_was_there(rt: HostRuntime) -> Result<(), Fail> {
+    let g = Geometry::new(256, 4096, 16, 4096, 0, MagicKind::Length)?;
+    let mut image = blocks_with_magic(rt.alloc(), &g, &[0, 0])?;
+    put_hello(&mut image);
+    put(&mut image, 4362, &[0x7F]);
+    check_row(
+        &rt,
+        rt.alloc(),
+        &g,
+        image.as_slice(),
+        ("bytes past the end", b"a", b"", 5, [0, 0, 14, 0]),
+    )?;
+    put(&mut image, 4, &[1, 0x80]);
+    put(&mut image, 768, &NEW_HEADER);
+    put(&mut image, 776, &[5, 0, 0, 0, 1, 0x62]);
+    put(&mut image, 782, &[0; 31]);
+    put(&mut image, 813, &[0x11, 0]);
+    check_row(
+        &rt,
+        rt.alloc(),
+        &g,
+        image.as_slice(),
+        ("two header pages", b"a", b"", 5, [0, 1, 14, 0]),
+    )?;
+    put(&mut image, 516, &[0x78]);
+    check_row(
+        &rt,
+        rt.alloc(),
+        &g,
+        image.as_slice(),
+        ("the old header killed", b"b", b"", 5, [0, 1, 14, 0]),
+    )?;
+    put(&mut image, 772, &[0x78]);
+    check_row(
+        &rt,
+        rt.alloc(),
+        &g,
+        image.as_slice(),
+        ("no header page", b"", b"", 0, [0, 3, 14, 0]),
+    )
+}
