@@ -1,6 +1,5 @@
 -- How the words of a line stand in it.
-use Rattle.std.proofs.Common.{◌≡◌, ℕ, zero, suc, ◌+◌, ◌-◌, ◌<◌, ◌≤◌, List, [], ◌∷◌, length, get_or, take, drop, refl, ap, arith, true, false, cond, eqb, add-one, sym, ◌∙◌, Option, Some, None, Bor}
-use Rattle.std.specs.Prelude.{sum_by}
+use Rattle.std.proofs.Common.{◌≡◌, ℕ, zero, suc, ◌+◌, ◌<◌, ◌≤◌, List, [], ◌∷◌, length, get_or, take, drop, refl, arith, true, false, cond, eqb, Option, Some, None, Bor}
 use Rattle.std.proofs.lemmas.Grind.{common_steps}
 use Rattle.call_script.specs.Lines.{words, onto}
 use Rattle.call_script.specs.Split.{IsFirst}

@@ -4,3 +4,4 @@ pub mod Lines
 pub mod Split
 pub mod Replies
 pub mod Pieces
+pub mod Printing

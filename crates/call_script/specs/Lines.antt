@@ -1,5 +1,5 @@
 -- The grammar of a script: its lines, and the call that each of them spells.
-use Rattle.std.specs.Prelude.{ℕ, ℤ, Bool, List, [], ◌∷◌, length, codes, Option, Some, None, Result, Ok, Err, ◌==◌, ◌≤◌, nat_lt, if◌then◌else◌}
+use Rattle.std.specs.Prelude.{◌≡◌, ◌<◌, slice_index, ℕ, Bool, List, [], ◌∷◌, length, codes, Option, Some, None, Result, Ok, Err, ◌==◌, ◌≤◌, nat_lt, if◌then◌else◌}
 use Rattle.std.specs.Str.{bytes_eq}
 use Rattle.table_model.specs.Ask.{Ask, Creates, Opens, Reads, Writes, Fills, Seeks, Tells, Truncates, Flushes, Closes, Removes, RemovesOpen, Renames, Stats, StatsOpen, NextAbove, Informs, Collects, SetsMeta, asked}
 use Rattle.table_model.specs.declared.call.Call.{Call}
@@ -154,3 +154,7 @@ calls_of (line ∷ ls) = with_line (of_line line) (calls_of ls)
 -- the calls of a script
 abbrev pub calls : List ℕ → List Ask
 calls script = calls_of (lines script)
+
+-- no byte 10
+pub record NoBreak (bytes : List ℕ) : Type 0 where
+  pub none : (k : ℕ) → k < length bytes → slice_index bytes k ≡ 10 → ⊥

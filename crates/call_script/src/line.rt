@@ -68,30 +68,53 @@ fn parse_with_one<'a>(verb: &[u8], word: &[u8], scratch: &'a mut [u8]) -> Option
     ensures counted { IsCounted (call_or_bad (option_map asked result)) }
 {
     if is_word(verb, b"create") {
-        Some(Call::Create { name: parse_text(word, scratch)? })
+        Some(Call::Create {
+            name: parse_text(word, scratch)?,
+        })
     } else if is_word(verb, b"tell") {
-        Some(Call::Tell { fd: parse_short(word)? })
+        Some(Call::Tell {
+            fd: parse_short(word)?,
+        })
     } else if is_word(verb, b"flush") {
-        Some(Call::Flush { fd: parse_short(word)? })
+        Some(Call::Flush {
+            fd: parse_short(word)?,
+        })
     } else if is_word(verb, b"close") {
-        Some(Call::Close { fd: parse_short(word)? })
+        Some(Call::Close {
+            fd: parse_short(word)?,
+        })
     } else if is_word(verb, b"remove") {
-        Some(Call::Remove { name: parse_text(word, scratch)? })
+        Some(Call::Remove {
+            name: parse_text(word, scratch)?,
+        })
     } else if is_word(verb, b"fremove") {
-        Some(Call::FRemove { fd: parse_short(word)? })
+        Some(Call::FRemove {
+            fd: parse_short(word)?,
+        })
     } else if is_word(verb, b"stat") {
-        Some(Call::StatName { name: parse_text(word, scratch)? })
+        Some(Call::StatName {
+            name: parse_text(word, scratch)?,
+        })
     } else if is_word(verb, b"fstat") {
-        Some(Call::FStat { fd: parse_short(word)? })
+        Some(Call::FStat {
+            fd: parse_short(word)?,
+        })
     } else if is_word(verb, b"next") {
-        Some(Call::Next { after: parse_short(word)? })
+        Some(Call::Next {
+            after: parse_short(word)?,
+        })
     } else {
         None
     }
 }
 
 // The call of a line of a word and two more.
-fn parse_with_two<'a>(verb: &[u8], first: &[u8], second: &[u8], scratch: &'a mut [u8]) -> Option<Call<'a>>
+fn parse_with_two<'a>(
+    verb: &[u8],
+    first: &[u8],
+    second: &[u8],
+    scratch: &'a mut [u8],
+) -> Option<Call<'a>>
     requires { length first.now + length second.now ≤ length scratch.old }
     ensures call { option_map asked result ≡ with_two verb.now first.now second.now }
     ensures counted { IsCounted (call_or_bad (option_map asked result)) }

@@ -24,7 +24,9 @@ fn digits_up_to(digits: &[u8], most: u64) -> Option<u64>
         if !digit.is_ascii_digit() {
             return None;
         }
-        number = number.checked_mul(10)?.checked_add(u64::from(*digit - b'0'))?;
+        number = number
+            .checked_mul(10)?
+            .checked_add(u64::from(*digit - b'0'))?;
     }
     (number <= most).then_some(number)
 }

@@ -157,7 +157,11 @@ fn hex_digit(number: u8) -> u8
     requires { number < 16 }
     ensures { result ≡ digit_glyph true number }
 {
-    if number < 10 { b'0' + number } else { b'A' + (number - 10) }
+    if number < 10 {
+        b'0' + number
+    } else {
+        b'A' + (number - 10)
+    }
 }
 
 // Writes a byte as two hexadecimal digits.

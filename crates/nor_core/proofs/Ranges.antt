@@ -1,17 +1,12 @@
 -- Ranges of an image, and what stands in them after a program or an erase.
-use Rattle.std.proofs.Common.{◌≡◌, ◌≢◌, ℕ, zero, suc, ◌+◌, ◌-◌, ◌*◌, ◌<◌, ◌≤◌, inl, inr, Bool, true, false, cond, eqb, List, [], ◌∷◌, ◌++◌, length, take, drop, get_or, set, replicate, refl, sym, ◌∙◌, ap, subst, arith, zero-add}
+use Rattle.std.proofs.Common.{◌≡◌, ℕ, zero, suc, ◌+◌, ◌<◌, ◌≤◌, List, [], ◌∷◌, ◌++◌, length, take, drop, get_or, replicate, refl, sym, ◌∙◌, ap, subst, arith, zero-add}
 use Rattle.std.proofs.Common.{length-append, length-drop, take-append-drop}
-use Rattle.std.proofs.lemmas.Bool.{eqb-false}
-use Rattle.std.proofs.lemmas.List.{length-take, take_all, drop_all, append-nil, length-replicate, get_or-set_same, get_or-set_other, length-set}
+use Rattle.std.proofs.lemmas.List.{length-take, take_all, drop_all, append-nil, length-replicate}
 use Rattle.std.proofs.lemmas.Grind.{common_steps}
-use Rattle.std.specs.Int.Bits.{bit_and, bit_xor, xor_add_and}
-use Rattle.std.specs.Option.{ForSome}
-use Rattle.std.specs.declared.option.Option.{Option}
-use Rattle.nor_core.specs.declared.device.Mark.{Mark}
 use Rattle.nor_core.specs.declared.plan.Way.{Way}
 use Rattle.nor_core.specs.declared.plan.Way.TheVariants.{Whole, Fails, Cut, Unpowered}
-use Rattle.nor_core.specs.Flash.{programmed, HalfProgrammed, IsBetween, EachBetween, erased, HalfErased, Scrambled, SameOutside, Unmarked, word_at}
-use Rattle.nor_core.specs.Picks.{put, RangeProgrammed, SomeCleared, ProgramLeaves, mark_turned, UnitErased, EraseLeaves, drawn}
+use Rattle.nor_core.specs.Flash.{programmed, HalfProgrammed, IsBetween, EachBetween, erased, SameOutside}
+use Rattle.nor_core.specs.Picks.{put, RangeProgrammed, SomeCleared}
 use Rattle.nor_core.proofs.Programs.{length-programmed, programmed_range, half_programmed, half_none, between_masked}
 
 range_put : (old : List ℕ) (at n end : ℕ) → end ≡ at + n → end ≤ length old → take at old ++ take n (drop at old) ++ drop end old ≡ old
@@ -53,12 +48,15 @@ written_back items slice len len_is same =
     ∙ ap (λ (l : List ℕ). take len l) (append-nil slice)
     ∙ take_all len slice (omega (arith, len_is, same))
 
+-- a byte before what was put in stays
 pub get_or-put_before : (old : List ℕ) (at : ℕ) (bytes : List ℕ) (k : ℕ) → at + length bytes ≤ length old → k < at → get_or (put old at bytes) k 0 ≡ get_or old k 0
 get_or-put_before old at bytes k within below = grind (arith, common_steps)
 
+-- a byte after it stays
 pub get_or-put_after : (old : List ℕ) (at : ℕ) (bytes : List ℕ) (k : ℕ) → at + length bytes ≤ length old → at + length bytes ≤ k → get_or (put old at bytes) k 0 ≡ get_or old k 0
 get_or-put_after old at bytes k within above = grind (arith, common_steps)
 
+-- a byte of it is there
 pub get_or-put_inside : (old : List ℕ) (at : ℕ) (bytes : List ℕ) (k : ℕ) → at + length bytes ≤ length old → k < length bytes → get_or (put old at bytes) (at + k) 0 ≡ get_or bytes k 0
 get_or-put_inside old at bytes k within inside = grind (arith, common_steps)
 
@@ -78,8 +76,8 @@ pub half_put : (old asked left : List ℕ) (at n : ℕ) → n ≡ length asked �
 half_put old asked left at n n_is within each = record {
   outside = put_outside old left at (length asked) each.size within;
   inside = λ k below.
-    subst (IsBetween (get_or old (at + k) 0) (get_or asked k 0)) (sym (get_or-put_inside old at left k (omega (arith, each.size, within)) (omega (arith, each.size, below))))
-    (subst (λ (b : ℕ). IsBetween b (get_or asked k 0) (get_or left k 0)) (get_or-range old at n k (omega (arith, below, n_is))) (each.each k below));
+      subst (IsBetween (get_or old (at + k) 0) (get_or asked k 0)) (sym (get_or-put_inside old at left k (omega (arith, each.size, within)) (omega (arith, each.size, below))))
+      (subst (λ (b : ℕ). IsBetween b (get_or asked k 0) (get_or left k 0)) (get_or-range old at n k (omega (arith, below, n_is))) (each.each k below));
 }
 
 module _ (old asked left : List ℕ) (same : length old ≡ length asked) where

@@ -1,17 +1,17 @@
 -- What stands in a unit after an erase.
-use Rattle.std.proofs.Common.{◌≡◌, ◌≢◌, ℕ, zero, suc, ◌+◌, ◌-◌, ◌*◌, ◌<◌, ◌≤◌, inl, inr, Bool, true, false, cond, eqb, List, ◌++◌, length, take, drop, get_or, set, replicate, refl, sym, ◌∙◌, ap, subst, arith, eqb-true, zero-add, Some, None}
+use Rattle.std.proofs.Common.{◌≡◌, ◌≢◌, ℕ, zero, suc, ◌+◌, ◌<◌, ◌≤◌, inl, inr, Bool, true, false, cond, eqb, List, length, take, drop, get_or, set, replicate, refl, sym, ◌∙◌, ap, subst, arith, eqb-true, zero-add, Some, None}
 use Rattle.std.proofs.lemmas.Bool.{eqb-false}
 use Rattle.std.proofs.lemmas.List.{length-replicate, get_or-set_same, get_or-set_other, length-set}
 use Rattle.std.proofs.lemmas.Grind.{common_steps}
-use Rattle.std.specs.Int.Bits.{bit_and, bit_xor, xor_add_and}
+use Rattle.std.specs.Int.Bits.{bit_xor, xor_add_and}
 use Rattle.std.specs.Option.{ForSome}
 use Rattle.std.specs.declared.option.Option.{Option}
 use Rattle.nor_core.specs.declared.device.Mark.{Mark}
 use Rattle.nor_core.specs.declared.plan.Way.{Way}
 use Rattle.nor_core.specs.declared.plan.Way.TheVariants.{Whole, Fails, Cut, Unpowered}
-use Rattle.nor_core.specs.Flash.{HalfErased, Scrambled, SameOutside, Unmarked, word_at}
-use Rattle.nor_core.specs.Picks.{put, mark_turned, UnitErased, DrawnUnit}
-use Rattle.nor_core.proofs.Ranges.{range_size, put_same, put_outside, get_or-put_inside}
+use Rattle.nor_core.specs.Flash.{HalfErased, SameOutside, Unmarked, word_at}
+use Rattle.nor_core.specs.Picks.{put, mark_turned, UnitErased}
+use Rattle.nor_core.proofs.Ranges.{put_same, put_outside, get_or-put_inside}
 
 -- what holds of each byte holds past the end too, where 0 is read
 pub all_below : (bytes : List ℕ) → ((i d : ℕ) → i < length bytes → get_or bytes i d < 256) → (k : ℕ) → get_or bytes k 0 < 256
@@ -25,9 +25,9 @@ module _ (bytes : List ℕ) (at word : ℕ) (within : at + 2 ≤ length bytes) w
   unmarked_by : (reads : Bool) → eqb (word_at bytes at) word ≡ reads → word_at (cond reads (set bytes at (bit_xor (get_or bytes at 0) 1)) bytes) at ≢ word
   unmarked_by false reads = eqb-false _ _ reads
   unmarked_by true reads = λ again.
-    let first = get_or-set_same bytes at (bit_xor (get_or bytes at 0) 1) 0 (omega (arith, within)) in
-    let second = get_or-set_other bytes at (at + 1) (bit_xor (get_or bytes at 0) 1) 0 (λ e. absurd (omega (arith, e))) in
-    turned (get_or bytes at 0) (omega (arith, first, second, again, eqb-true _ _ reads))
+      let first = get_or-set_same bytes at (bit_xor (get_or bytes at 0) 1) 0 (omega (arith, within)) in
+      let second = get_or-set_other bytes at (at + 1) (bit_xor (get_or bytes at 0) 1) 0 (λ e. absurd (omega (arith, e))) in
+      turned (get_or bytes at 0) (omega (arith, first, second, again, eqb-true _ _ reads))
 
   length_by : (reads : Bool) (b : ℕ) → length (cond reads (set bytes at b) bytes) ≡ length bytes
   length_by false b = refl

@@ -69,14 +69,14 @@ pub record Says {D : Type 0} (nor : NorOf D) (old new : D) (piece : List ℕ) : 
   pub reads : nor.device_reads new ≡ nor.device_reads old
   pub writes : nor.device_writes new ≡ nor.device_writes old
 
--- where the call was asked of the chip, each image that a program may leave half done is one that a cut may leave
+-- where the call was noted, each image that an interrupted program may leave is one that a cut may leave
 pub record MayBeHalf {D : Type 0} (nor : NorOf D) (old new : D) (at : ℕ) (asked : List ℕ) : Type 0 where
   pub possible : (t : ℕ) (image : List ℕ) → t ≤ nor.moment old → nor.moment old < nor.moment new → nor.tells old → HalfProgrammed at asked (nor.bytes old) image → nor.left_since new t image (length (nor.said old))
 
--- where the call was asked of the chip, each image that an erase may leave half done is one that a cut may leave
+-- where the call was noted, each image that an interrupted erase may leave is one that a cut may leave
 pub record MayBeErased {D : Type 0} (nor : NorOf D) (old new : D) (unit_ix : ℕ) (mark : Option Mark) : Type 0 where
   pub possible : (t : ℕ) (image : List ℕ) → t ≤ nor.moment old → nor.moment old < nor.moment new → nor.tells old → HalfErased (unit_ix * nor.unit old) (nor.unit old) mark (nor.bytes old) image → nor.left_since new t image (length (nor.said old))
 
--- where the call was asked of the chip, a cut may leave each front of the piece said
+-- where the call was noted, a cut may leave each front of the piece said, an empty or a whole one too
 pub record MayBeSaid {D : Type 0} (nor : NorOf D) (old new : D) (piece : List ℕ) : Type 0 where
   pub possible : (t count : ℕ) → t ≤ nor.moment old → nor.moment old < nor.moment new → nor.tells old → length (nor.said old) ≤ count → count ≤ length (nor.said old) + length piece → nor.left_since new t (nor.bytes old) count

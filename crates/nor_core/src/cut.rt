@@ -13,12 +13,19 @@ pub fn draw(x: &mut u64) -> u64
     ensures number { x.new ≡ next_number x.old }
     ensures drawn { result ≡ x.new / 2 ^ 33 }
 {
-    *x = x.wrapping_mul(6364136223846793005).wrapping_add(1442695040888963407);
+    *x = x
+        .wrapping_mul(6364136223846793005)
+        .wrapping_add(1442695040888963407);
     *x / 8589934592
 }
 
 // What stands in a range after a program.
-pub fn programmed_bytes(alloc: Global, bytes: &[u8], asked: &[u8], way: Way) -> Result<Vec<u8>, AllocError>
+pub fn programmed_bytes(
+    alloc: Global,
+    bytes: &[u8],
+    asked: &[u8],
+    way: Way,
+) -> Result<Vec<u8>, AllocError>
     requires { length bytes.now ≡ length asked.now }
     ensures size { IfOk result (λ left. length left.items ≡ length asked.now) }
     ensures range { IfOk result (λ left. RangeProgrammed way bytes.now asked.now left.items) }
@@ -31,10 +38,16 @@ pub fn programmed_bytes(alloc: Global, bytes: &[u8], asked: &[u8], way: Way) -> 
 }
 
 // The same after a program that was cut.
-fn picked_programmed_bytes(alloc: Global, bytes: &[u8], asked: &[u8], pick: u64) -> Result<Vec<u8>, AllocError>
+fn picked_programmed_bytes(
+    alloc: Global,
+    bytes: &[u8],
+    asked: &[u8],
+    pick: u64,
+) -> Result<Vec<u8>, AllocError>
     requires { length bytes.now ≡ length asked.now }
     ensures size { IfOk result (λ left. length left.items ≡ length asked.now) }
-    ensures range { IfOk result (λ left. RangeProgrammed (Way.Cut pick) bytes.now asked.now left.items) }
+    ensures range { IfOk result (λ left. RangeProgrammed
+        (Way.Cut pick) bytes.now asked.now left.items) }
 {
     match pick {
         0 => bytes.to_vec(alloc),
@@ -56,7 +69,12 @@ fn cleared_bytes(alloc: Global, bytes: &[u8], asked: &[u8]) -> Result<Vec<u8>, A
 }
 
 // Each byte makes one draw, whose lowest eight bits say which of the bits that are to be cleared are.
-fn some_cleared_bytes(alloc: Global, bytes: &[u8], asked: &[u8], seed: u64) -> Result<Vec<u8>, AllocError>
+fn some_cleared_bytes(
+    alloc: Global,
+    bytes: &[u8],
+    asked: &[u8],
+    seed: u64,
+) -> Result<Vec<u8>, AllocError>
     requires { length bytes.now ≡ length asked.now }
     ensures { IfOk result (λ left. SomeCleared seed bytes.now asked.now left.items) }
 {
@@ -70,7 +88,12 @@ fn some_cleared_bytes(alloc: Global, bytes: &[u8], asked: &[u8], seed: u64) -> R
 }
 
 // What stands in a unit after an erase.
-pub fn erased_bytes(alloc: Global, bytes: &[u8], mark: Option<Mark>, way: Way) -> Result<Vec<u8>, AllocError>
+pub fn erased_bytes(
+    alloc: Global,
+    bytes: &[u8],
+    mark: Option<Mark>,
+    way: Way,
+) -> Result<Vec<u8>, AllocError>
     requires { ForSome mark (λ m. m.at + 2 ≤ length bytes.now) }
     ensures { IfOk result (λ left. UnitErased way (length bytes.now) mark bytes.now left.items) }
 {
@@ -82,9 +105,15 @@ pub fn erased_bytes(alloc: Global, bytes: &[u8], mark: Option<Mark>, way: Way) -
 }
 
 // The same after an erase that was cut.
-fn picked_erased_bytes(alloc: Global, bytes: &[u8], mark: Option<Mark>, pick: u64) -> Result<Vec<u8>, AllocError>
+fn picked_erased_bytes(
+    alloc: Global,
+    bytes: &[u8],
+    mark: Option<Mark>,
+    pick: u64,
+) -> Result<Vec<u8>, AllocError>
     requires { ForSome mark (λ m. m.at + 2 ≤ length bytes.now) }
-    ensures { IfOk result (λ left. UnitErased (Way.Cut pick) (length bytes.now) mark bytes.now left.items) }
+    ensures { IfOk result (λ left. UnitErased (Way.Cut pick)
+        (length bytes.now) mark bytes.now left.items) }
 {
     match pick {
         0 => bytes.to_vec(alloc),

@@ -12,9 +12,9 @@ mod plan;
 mod source;
 mod state;
 
+pub use cut::draw;
 pub use device::{Board, Failed, Mark, MemErr, Nor};
 pub use mem_source::MemSource;
-pub use cut::draw;
 pub use memory::MemBoard;
 pub use plan::CallKind;
 pub use source::Source;

@@ -35,8 +35,10 @@ impl MemSource {
     /// The nth read from now on, counted from 1, fails and takes nothing. At most one read is to fail: the last asked
     /// counts, and 0 asks for none.
     pub fn fail_nth(&mut self, nth: u64)
-        ensures left { ⟦<MemSource as Source>⟧.left self.new ≡ ⟦<MemSource as Source>⟧.left self.old }
-        ensures faults { ⟦<MemSource as Source>⟧.faults self.new ≡ ⟦<MemSource as Source>⟧.faults self.old }
+        ensures left { ⟦<MemSource as Source>⟧.left self.new ≡
+            ⟦<MemSource as Source>⟧.left self.old }
+        ensures faults { ⟦<MemSource as Source>⟧.faults self.new ≡
+            ⟦<MemSource as Source>⟧.faults self.old }
         ensures failing { self.new.failing ≡ nth }
     {
         self.failing = nth;
@@ -56,15 +58,29 @@ impl Source for MemSource {
     fn read(&mut self, into: &mut [u8]) -> Result<usize, Failed>
         requires { 0 < length into.old }
         ensures within { IfOk result (λ n. n ≤ length into.old) }
-        ensures took { ⟦<MemSource as Source>⟧.tells self.old → IfOk result (λ n. ⟦<MemSource as Source>⟧.left self.old ≡ take n into.new ++ ⟦<MemSource as Source>⟧.left self.new) }
-        ensures end { ⟦<MemSource as Source>⟧.tells self.old → IfOk result (λ n. n ≡ 0 → ⟦<MemSource as Source>⟧.left self.old ≡ []) }
-        ensures end_new { ⟦<MemSource as Source>⟧.tells self.old → IfOk result (λ n. n ≡ 0 → ⟦<MemSource as Source>⟧.left self.new ≡ []) }
-        ensures err { OnErr result (⟦<MemSource as Source>⟧.left self.new ≡ ⟦<MemSource as Source>⟧.left self.old) }
-        ensures told { ⟦<MemSource as Source>⟧.tells self.old → ⟦<MemSource as Source>⟧.tells self.new }
-        ensures faults { ⟦<MemSource as Source>⟧.faults self.old ≤ ⟦<MemSource as Source>⟧.faults self.new }
-        ensures cause { OnErr result (Rose (⟦<MemSource as Source>⟧.faults self.old) (⟦<MemSource as Source>⟧.faults self.new)) }
-        ensures count { IfOk result (λ n. n ≡ min (length into.old) (length (⟦<MemSource as Source>⟧.left self.old))) }
+        ensures took { ⟦<MemSource as Source>⟧.tells self.old → IfOk result
+            (λ n. ⟦<MemSource as Source>⟧.left self.old ≡ take n into.new ++
+            ⟦<MemSource as Source>⟧.left self.new) }
+        ensures end { ⟦<MemSource as Source>⟧.tells self.old → IfOk result
+            (λ n. n ≡ 0 → ⟦<MemSource as Source>⟧.left self.old ≡ []) }
+        ensures end_new { ⟦<MemSource as Source>⟧.tells self.old → IfOk result
+            (λ n. n ≡ 0 → ⟦<MemSource as Source>⟧.left self.new ≡ []) }
+        ensures err { OnErr result (⟦<MemSource as Source>⟧.left self.new ≡
+            ⟦<MemSource as Source>⟧.left self.old) }
+        ensures told { ⟦<MemSource as Source>⟧.tells self.old →
+            ⟦<MemSource as Source>⟧.tells self.new }
+        ensures faults { ⟦<MemSource as Source>⟧.faults self.old ≤
+            ⟦<MemSource as Source>⟧.faults self.new }
+        ensures cause { OnErr result (Rose (⟦<MemSource as Source>⟧.faults self.old)
+            (⟦<MemSource as Source>⟧.faults self.new)) }
+        ensures count { IfOk result (λ n. n ≡ min (length into.old)
+            (length (⟦<MemSource as Source>⟧.left self.old))) }
         ensures fails { IsErr result ↔ (self.old.failing ≡ 1) }
+        ensures no_fault { OnOk result
+            (⟦<MemSource as Source>⟧.faults self.new ≡ ⟦<MemSource as Source>⟧.faults self.old) }
+        ensures one_fault { OnErr result
+            (⟦<MemSource as Source>⟧.faults self.new ≡ counted
+            (⟦<MemSource as Source>⟧.faults self.old)) }
         ensures counts_down { self.new.failing ≡ self.old.failing - 1 }
     {
         let fails = self.failing == 1;

@@ -24,7 +24,8 @@ pub fn note_program(
     requires { at + length asked.now ≤ length bytes.old.items }
     ensures answered { Answered way (length calls.old.items) (length calls.new.items) result }
     ensures done { OnOk result (bytes.new.items ≡ programmed bytes.old.items at asked.now) }
-    ensures noted { Programs way at asked.now bytes.old.items bytes.new.items calls.old.items calls.new.items ⊎ Same bytes.old.items bytes.new.items calls.old.items calls.new.items }
+    ensures noted { Programs way at asked.now bytes.old.items bytes.new.items calls.old.items calls.new.items
+        ⊎ Same bytes.old.items bytes.new.items calls.old.items calls.new.items }
 {
     if way == Way::Unpowered {
         return Err(Failed);
@@ -70,8 +71,10 @@ pub fn note_erase(
     requires marked { ForSome mark (λ m. m.at + 2 ≤ unit) }
     ensures answered { Answered way (length calls.old.items) (length calls.new.items) result }
     ensures done { OnOk result (bytes.new.items ≡ erased bytes.old.items (unit_ix * unit) unit) }
-    ensures half { OnErr result (HalfErased (unit_ix * unit) unit mark bytes.old.items bytes.new.items) }
-    ensures noted { Erases way unit unit_ix mark bytes.old.items bytes.new.items calls.old.items calls.new.items ⊎ Same bytes.old.items bytes.new.items calls.old.items calls.new.items }
+    ensures half { OnErr result (HalfErased
+        (unit_ix * unit) unit mark bytes.old.items bytes.new.items) }
+    ensures noted { Erases way unit unit_ix mark bytes.old.items bytes.new.items calls.old.items calls.new.items
+        ⊎ Same bytes.old.items bytes.new.items calls.old.items calls.new.items }
 {
     if way == Way::Unpowered {
         return Err(Failed);
@@ -104,7 +107,8 @@ pub fn note_say(
 ) -> Result<(), Failed>
     ensures answered { Answered way (length calls.old.items) (length calls.new.items) result }
     ensures done { OnOk result (said.new.items ≡ said.old.items ++ piece.now) }
-    ensures noted { SaysCall way piece.now said.old.items said.new.items calls.old.items calls.new.items ⊎ Same said.old.items said.new.items calls.old.items calls.new.items }
+    ensures noted { SaysCall way piece.now said.old.items said.new.items calls.old.items calls.new.items
+        ⊎ Same said.old.items said.new.items calls.old.items calls.new.items }
 {
     if way == Way::Unpowered {
         return Err(Failed);

@@ -18,7 +18,8 @@ fn board_of(alloc: Global, fill: u8) -> Result<MemBoard, Fail>
 fn read_fails(board: &mut MemBoard) -> bool
     requires { ⟦<MemBoard as NorState>⟧.size board.old ≡ 16 }
     ensures size { ⟦<MemBoard as NorState>⟧.size board.new ≡ 16 }
-    ensures unit { ⟦<MemBoard as NorState>⟧.unit board.new ≡ ⟦<MemBoard as NorState>⟧.unit board.old }
+    ensures unit { ⟦<MemBoard as NorState>⟧.unit board.new ≡
+        ⟦<MemBoard as NorState>⟧.unit board.old }
 {
     let mut into = [0u8; 2];
     board.read(0, &mut into).is_err()
@@ -29,7 +30,8 @@ fn program_fails(board: &mut MemBoard, at: u32, from: &[u8]) -> bool
     requires some { 0 < length from.now }
     requires inside { at + length from.now ≤ 16 }
     ensures size { ⟦<MemBoard as NorState>⟧.size board.new ≡ 16 }
-    ensures unit { ⟦<MemBoard as NorState>⟧.unit board.new ≡ ⟦<MemBoard as NorState>⟧.unit board.old }
+    ensures unit { ⟦<MemBoard as NorState>⟧.unit board.new ≡
+        ⟦<MemBoard as NorState>⟧.unit board.old }
 {
     board.program(at, from).is_err()
 }
@@ -46,8 +48,10 @@ fn erase_fails(board: &mut MemBoard, unit_ix: u32, mark: Option<Mark>) -> bool
 }
 
 fn say_fails(board: &mut MemBoard, piece: &[u8]) -> bool
-    ensures size { ⟦<MemBoard as NorState>⟧.size board.new ≡ ⟦<MemBoard as NorState>⟧.size board.old }
-    ensures unit { ⟦<MemBoard as NorState>⟧.unit board.new ≡ ⟦<MemBoard as NorState>⟧.unit board.old }
+    ensures size { ⟦<MemBoard as NorState>⟧.size board.new ≡
+        ⟦<MemBoard as NorState>⟧.size board.old }
+    ensures unit { ⟦<MemBoard as NorState>⟧.unit board.new ≡
+        ⟦<MemBoard as NorState>⟧.unit board.old }
 {
     board.say(piece).is_err()
 }
@@ -91,8 +95,21 @@ fn a_board_is_programmed_and_erased(rt: HostRuntime) -> Result<(), Fail> {
 fn an_erase_fills_its_unit(rt: HostRuntime) -> Result<(), Fail> {
     let mut board = board_of(rt.alloc(), 0)?;
     assert_eq!(rt; (board.size(), board.unit()), (16, 8));
-    assert!(rt; !erase_fails(&mut board, 0, Some(Mark { at: 4, word: 0xffff })));
-    assert!(rt; board.image().starts_with(&[0xff, 0xff, 0xff, 0xff, 0xff, 0xff, 0xff, 0xff, 0]));
+    assert!(rt;
+        !erase_fails(
+            &mut board,
+            0,
+            Some(Mark {
+                at: 4,
+                word: 0xffff
+            })
+        )
+    );
+    assert!(rt;
+        board
+            .image()
+            .starts_with(&[0xff, 0xff, 0xff, 0xff, 0xff, 0xff, 0xff, 0xff, 0])
+    );
     Ok(())
 }
 
@@ -136,7 +153,10 @@ fn a_cut_erase_leaves_what_the_rules_allow(rt: HostRuntime) -> Result<(), Fail> 
             let (before, unit) = image.split_at(image.len() / 2);
             assert!(rt; before.iter().all(|b| *b == 0xa5), "pick {pick}");
             assert_eq!(rt; unit.iter().all(|b| *b == 0xa5), pick == 0, "pick {pick}");
-            assert!(rt; pick == 0 || word == 0 || word_of(unit, mark) != Some(word), "pick {pick}");
+            assert!(rt;
+                pick == 0 || word == 0 || word_of(unit, mark) != Some(word),
+                "pick {pick}"
+            );
         }
     }
     Ok(())
@@ -166,8 +186,21 @@ fn the_pick_seeds_what_a_cut_leaves(rt: HostRuntime) -> Result<(), Fail> {
     assert!(rt; board.image().starts_with(&[0xff, 0x13, 0x55, 0x77, 0xff]));
     let mut board = board_of(rt.alloc(), 0xa5)?;
     board.cut_after(0, 2);
-    assert!(rt; erase_fails(&mut board, 0, Some(Mark { at: 6, word: 0x267c })));
-    assert!(rt; board.image().starts_with(&[0xec, 0xaa, 0x88, 0x58, 0x47, 0x4b, 0x7d, 0x26, 0xa5]));
+    assert!(rt;
+        erase_fails(
+            &mut board,
+            0,
+            Some(Mark {
+                at: 6,
+                word: 0x267c
+            })
+        )
+    );
+    assert!(rt;
+        board
+            .image()
+            .starts_with(&[0xec, 0xaa, 0x88, 0x58, 0x47, 0x4b, 0x7d, 0x26, 0xa5])
+    );
     let mut board = board_of(rt.alloc(), 0xff)?;
     board.cut_after(0, 2);
     assert!(rt; say_fails(&mut board, b"mount"));
@@ -176,7 +209,9 @@ fn the_pick_seeds_what_a_cut_leaves(rt: HostRuntime) -> Result<(), Fail> {
 }
 
 #[test]
-fn the_power_goes_off_once_some_calls_have_passed_and_stays_off(rt: HostRuntime) -> Result<(), Fail> {
+fn the_power_goes_off_once_some_calls_have_passed_and_stays_off(
+    rt: HostRuntime,
+) -> Result<(), Fail> {
     let mut board = board_of(rt.alloc(), 0xff)?;
     board.cut_after(2, 1);
     assert!(rt; !program_fails(&mut board, 0, &[0x0f]));

@@ -128,7 +128,7 @@ abbrev pub new_header_page : ℕ → ℕ → List ℕ → List ℕ
 new_header_page size id name =
     id % 256 ∷ (id / 256 + 128) ∷ 0 ∷ 0 ∷ 0xFA ∷ (replicate 7 0xFF ++ (1 ∷ (padded name ++ replicate (size - 45) 0xFF)))
 
--- the same by its fields
+-- the fields of the header page of a new file: all meta bytes and page numbers are erased
 pub record IsNewHeader (g : Geometry) (id : ℕ) (name page : List ℕ) : Type 0 where
   pub obj_id : obj_id page ≡ id + 0x8000
   pub span : span_of page ≡ 0

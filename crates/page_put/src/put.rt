@@ -36,6 +36,7 @@ pub fn place<N: Nor>(
     requires page { IsEntryPage v.old.geometry page }
     requires id { (1 ≤ tag.id) × (tag.id ≤ 0x7FFE) }
     ensures cause { OnErr result (Rose (N.faults v.old.nor.now) (N.faults v.new.nor.now)) }
+    ensures faults { N.faults v.old.nor.now ≤ N.faults v.new.nor.now }
     ensures same { IsSameView v.old v.new }
     ensures wrote { v.new.wrote ≡ true }
 {
@@ -51,6 +52,7 @@ pub fn place<N: Nor>(
 pub fn finish<N: Nor>(v: &mut View<'_, N>, page: u16) -> Result<(), Failed>
     requires page { IsEntryPage v.old.geometry page }
     ensures cause { OnErr result (Rose (N.faults v.old.nor.now) (N.faults v.new.nor.now)) }
+    ensures faults { N.faults v.old.nor.now ≤ N.faults v.new.nor.now }
     ensures same { IsSameView v.old v.new }
     ensures wrote { v.new.wrote ≡ true }
 {

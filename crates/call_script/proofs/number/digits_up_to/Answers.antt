@@ -1,4 +1,4 @@
-use Rattle.std.proofs.Common.{◌≡◌, ◌<◌, ◌+◌, ◌-◌, ◌*◌, ◌∙◌, sym, get_or, arith}
+use Rattle.std.proofs.Common.{◌∙◌, sym, arith}
 use Rattle.call_script.proofs.Numbers.{too_large}
 use Rattle.call_script.proofs.number.digits_up_to.Goals as goal
 

@@ -10,9 +10,9 @@ unfolding stat_text
 returns-clause-put c =
     puts_more _ _ _ _ _ _ _ _
     (puts_more _ _ _ _ _ _ _ _
-        (puts_more _ _ _ _ _ _ _ _
-            (puts_more _ _ _ _ _ _ _ _ (puts_same _ _ _ _ _ _ (ap decimal c.from.ensures) c.put_number-at.ensures.put)
-            (puts_same _ _ _ _ _ _ (ap (λ (n : ℕ). 32 ∷ decimal n) c.from-2.ensures) c.put_count-at.ensures.put))
-        c.put_count-at-2.ensures.put)
+    (puts_more _ _ _ _ _ _ _ _
+    (puts_more _ _ _ _ _ _ _ _ (puts_same _ _ _ _ _ _ (ap decimal c.from.ensures) c.put_number-at.ensures.put)
+    (puts_same _ _ _ _ _ _ (ap (λ (n : ℕ). 32 ∷ decimal n) c.from-2.ensures) c.put_count-at.ensures.put))
+    c.put_count-at-2.ensures.put)
     (puts_same _ _ _ _ _ _ (ap (λ (name : List ℕ). 32 ∷ printed name) c.as_slice.ensures.bytes) c.put_behind_space-at.ensures.put))
     (puts_same _ _ _ _ _ _ (ap meta_text c.as_slice-2.ensures.bytes) c.put_meta.ensures.put)

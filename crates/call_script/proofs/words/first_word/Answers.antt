@@ -1,4 +1,4 @@
-use Rattle.std.proofs.Common.{◌≡◌, rules, arith, add-one}
+use Rattle.std.proofs.Common.{arith, add-one}
 use Rattle.std.proofs.lemmas.List.{take_rest}
 use Rattle.call_script.proofs.Parting.{words_at, words_alone}
 use Rattle.call_script.proofs.words.first_word.Goals as goal

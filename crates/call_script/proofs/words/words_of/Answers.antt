@@ -1,4 +1,4 @@
-use Rattle.std.proofs.Common.{◌≡◌, arith}
+use Rattle.std.proofs.Common.{arith}
 use Rattle.call_script.proofs.Parting.{some-words, behind}
 use Rattle.call_script.proofs.words.words_of.Goals as goal
 

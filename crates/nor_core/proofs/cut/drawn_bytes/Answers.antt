@@ -1,6 +1,6 @@
 use Rattle.std.proofs.Common.{◌≡◌, ℕ, ◌+◌, ◌%◌, ◌<◌, List, get_or, sym, subst, ap, arith, rules}
 use Rattle.std.proofs.lemmas.Grind.{common_steps}
-use Rattle.nor_core.specs.Picks.{number_after, drawn, some_cleared}
+use Rattle.nor_core.specs.Picks.{number_after, drawn}
 use Rattle.nor_core.proofs.Draws.{each_pushed, number_after-none, number_next, drawn_next}
 use Rattle.nor_core.proofs.cut.drawn_bytes.Goals as goal
 

@@ -1,4 +1,4 @@
-use Rattle.std.proofs.Common.{◌≡◌, ℕ, ◌+◌, ◌%◌, length, ap, arith}
+use Rattle.std.proofs.Common.{ℕ, ◌+◌, ◌%◌, length, ap, arith}
 use Rattle.nor_core.proofs.Draws.{number_after-none, drawn_next}
 use Rattle.nor_core.proofs.cut.picked_passed.Goals as goal
 

@@ -1,6 +1,5 @@
-use Rattle.std.proofs.Common.{◌≡◌, ◌≢◌, ℕ, ◌+◌, ◌-◌, ◌*◌, ◌≤◌, List, length, take, drop, get_or, inl, ◌∙◌, ap, subst, arith, rules}
+use Rattle.std.proofs.Common.{◌≡◌, ℕ, ◌+◌, ◌-◌, ◌*◌, ◌≤◌, List, length, take, drop, inl, ◌∙◌, ap, subst, arith, rules}
 use Rattle.std.proofs.lemmas.Grind.{common_steps}
-use Rattle.nor_core.specs.declared.plan.Way.{Way}
 use Rattle.nor_core.specs.Picks.{put, UnitErased}
 use Rattle.nor_core.proofs.Units.{all_below, half_erased}
 use Rattle.nor_core.proofs.MemoryLemmas.{erases_by, on_half}

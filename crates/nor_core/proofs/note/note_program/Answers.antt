@@ -1,4 +1,4 @@
-use Rattle.std.proofs.Common.{◌≡◌, ℕ, ◌+◌, ◌-◌, List, length, take, drop, inl, ◌∙◌, ap, subst, arith}
+use Rattle.std.proofs.Common.{ℕ, ◌+◌, ◌-◌, List, length, take, drop, inl, ◌∙◌, ap, subst, arith}
 use Rattle.nor_core.specs.declared.plan.Way.{Way}
 use Rattle.nor_core.specs.Flash.{programmed}
 use Rattle.nor_core.specs.Record.{IsProgramCall}

@@ -1,4 +1,4 @@
-use Rattle.std.proofs.Common.{◌≡◌, ℕ, ◌+◌, ◌≤◌, ◌++◌, List, length, take, drop, sym, ◌∙◌, ap, arith, length-drop}
+use Rattle.std.proofs.Common.{◌≡◌, ℕ, ◌+◌, ◌≤◌, ◌++◌, List, length, take, drop, sym, ◌∙◌, ap, arith}
 use Rattle.std.proofs.lemmas.List.{drop-drop, length-take, take-append-drop, take-append-le, take_all}
 use Rattle.std.proofs.lemmas.Grind.{common_steps}
 use Rattle.nor_core.proofs.mem_source.MemSourceSource.read.Goals as goal

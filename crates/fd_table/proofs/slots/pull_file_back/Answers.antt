@@ -1,0 +1,11 @@
+use Rattle.std.proofs.Common.{arith}
+use Rattle.fd_table.specs.Slots.{descriptors, pulled_back}
+use Rattle.fd_table.proofs.Held.{changed_more, changed_all}
+use Rattle.fd_table.proofs.slots.pull_file_back.Goals as goal
+
+pub loop-slot-preserved : goal.loop-slot-preserved
+loop-slot-preserved c = changed_more (pulled_back c.args.id c.args.size) c.args.slots.now c.loop-slot.slots c.loop-slot.slot-index _ _ (omega arith) (omega arith) c.pulled.ensures c.loop-slot.invariant
+
+pub returns : goal.returns
+unfolding descriptors
+returns c = changed_all 65535 (pulled_back c.args.id c.args.size) c.args.slots.now c.loop-slot.slots c.loop-slot.slot-index (omega arith) c.loop-slot.invariant

@@ -1,0 +1,70 @@
+ghost use Rattle.std.specs.Prelude.{◌≡◌, ◌≢◌, ◌+◌, ◌<◌, ◌≤◌, length, All, OnErr, IsErrOf, true, ◌⊎◌};
+ghost use Rattle.nor_core.specs.Count.{Rose};
+ghost use Rattle.flash_view.specs.Places.{IsEntryPage};
+ghost use Rattle.flash_view.specs.Same.{IsSameView};
+
+use flash_view::{Kind, StepErr, View};
+use free_search::free_page;
+use nor_core::{Failed, Nor, NorState};
+use page_layout::build_header_page;
+use page_put::{finish, place};
+use table_model::{Differ, Tag};
+
+// That no page was found where one was wanted.
+fn missing(id: u16) -> Differ {
+    let wanted = Tag { id, span: 0 };
+    let found = Tag {
+        id: 0xFFFF,
+        span: 0xFFFF,
+    };
+    Differ {
+        page: 0xFFFF,
+        wanted,
+        found,
+    }
+}
+
+// Puts the header page of a new file: four programs, the last of which makes the file.
+fn put_header_page<N: Nor>(
+    v: &mut View<'_, N>,
+    page: u16,
+    id: u16,
+    name: &[u8],
+) -> Result<(), Failed>
+    requires page { IsEntryPage v.old.geometry page }
+    requires id { (1 ≤ id) × (id ≤ 0x7FFE) }
+    requires name { (1 ≤ length name.now) × (length name.now ≤ 31) }
+    requires no_zero { All (λ b. b ≢ 0) name.now }
+    ensures cause { OnErr result (Rose (N.faults v.old.nor.now) (N.faults v.new.nor.now)) }
+    ensures faults { N.faults v.old.nor.now ≤ N.faults v.new.nor.now }
+    ensures same { IsSameView v.old v.new }
+    ensures wrote { v.new.wrote ≡ true }
+{
+    let g = v.geometry;
+    let len = g.page() as usize;
+    let work = &mut *v.work;
+    build_header_page(&g, &mut work[..len], id, name);
+    place(v, page, Kind::Index, Tag { id, span: 0 })?;
+    finish(v, page)
+}
+
+/// Makes an empty file of that name under that id, in one page step. The image is to be tidy, with a free
+/// index page that leaves two blocks free; the id and the name are to be unused, the name 1 to 31 bytes
+/// without a zero.
+pub fn create_step<N: Nor>(v: &mut View<'_, N>, id: u16, name: &[u8]) -> Result<(), StepErr>
+    requires id { (1 ≤ id) × (id ≤ 0x7FFE) }
+    requires name { (1 ≤ length name.now) × (length name.now ≤ 31) }
+    requires no_zero { All (λ b. b ≢ 0) name.now }
+    ensures cause { IsErrOf result StepErr.DeviceFault → Rose (N.faults v.old.nor.now) (N.faults v.new.nor.now) }
+    ensures faults { N.faults v.old.nor.now ≤ N.faults v.new.nor.now }
+    ensures same { IsSameView v.old v.new }
+{
+    match free_page(v, Kind::Index, 2, None) {
+        Err(Failed) => Err(StepErr::DeviceFault),
+        Ok(None) => Err(StepErr::Damaged(missing(id))),
+        Ok(Some(page)) => match put_header_page(v, page, id, name) {
+            Err(Failed) => Err(StepErr::DeviceFault),
+            Ok(()) => Ok(()),
+        },
+    }
+}

@@ -1,0 +1,77 @@
+ghost use Rattle.std.specs.Prelude.{◌≡◌, ◌+◌, ◌<◌, ◌≤◌, ◌^◌, length};
+
+use nor_core::Failed;
+use std::fs::File;
+use std::io::{Read, Seek, SeekFrom, Write};
+
+/// How many bytes are programmed or erased at a time.
+const CHUNK: usize = 256;
+
+fn seek(file: &mut File, at: u64) -> Result<(), Failed> {
+    match file.seek(SeekFrom::Start(at)) {
+        Ok(_) => Ok(()),
+        Err(_) => Err(Failed),
+    }
+}
+
+// Reads bytes from a place of the file. Past its end they are 0xFF.
+pub(crate) fn read_at(file: &mut File, at: u64, into: &mut [u8]) -> Result<(), Failed> {
+    seek(file, at)?;
+    let mut filled = 0;
+    while filled < into.len() {
+        let Ok(count) = file.read(&mut into[filled..]) else {
+            return Err(Failed);
+        };
+        if count == 0 {
+            into[filled..].fill(0xFF);
+            return Ok(());
+        }
+        filled += count;
+    }
+    Ok(())
+}
+
+fn write_at(file: &mut File, at: u64, from: &[u8]) -> Result<(), Failed> {
+    seek(file, at)?;
+    match file.write_all(from) {
+        Ok(()) => Ok(()),
+        Err(_) => Err(Failed),
+    }
+}
+
+// Clears in a piece of the file the bits that are not set in the asked bytes.
+fn program_piece(file: &mut File, at: u64, from: &[u8]) -> Result<(), Failed>
+    requires { length from.now ≤ 256 }
+{
+    let mut held = [0u8; CHUNK];
+    let piece = &mut held[..from.len()];
+    read_at(file, at, piece)?;
+    for (byte, asked) in piece.iter_mut().zip(from) {
+        *byte &= *asked;
+    }
+    write_at(file, at, piece)
+}
+
+// Programs bytes at a place of the file: by reading, clearing bits and writing back.
+pub(crate) fn program_at(file: &mut File, at: u32, from: &[u8]) -> Result<(), Failed> {
+    let mut at = u64::from(at);
+    for piece in from.chunks(CHUNK) {
+        program_piece(file, at, piece)?;
+        at = at.saturating_add(CHUNK as u64);
+    }
+    Ok(())
+}
+
+// Erases bytes of the file: they become 0xFF.
+pub(crate) fn erase_at(file: &mut File, at: u64, count: u32) -> Result<(), Failed>
+    requires { at + count < 2 ^ 64 }
+{
+    let blank = [0xFFu8; CHUNK];
+    let mut done = 0;
+    while done < count {
+        let piece = (count - done).min(CHUNK as u32);
+        write_at(file, at + u64::from(done), &blank[..piece as usize])?;
+        done += piece;
+    }
+    Ok(())
+}

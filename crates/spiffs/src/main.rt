@@ -1,0 +1,107 @@
+//! The program `spiffs`: makes a board of a chip file and the standard streams, lends the memory, and ends
+//! with the status of the top call.
+#![tactic(auto)]
+
+mod help;
+
+use fd_table::FdSlot;
+use help::{HELP, VERSION};
+use host_edge::{FileChip, StdBoard, StdSource};
+use std::alloc::{AllocError, Global};
+use std::env;
+use std::process::ExitCode;
+use std::rt::{Env, Files};
+use tool_core::{Buffers, chip_size_of, spiffs_tool, unit_of};
+
+/// Bytes of work that are lent.
+const WORK: usize = 1_048_576;
+
+/// Descriptors that are lent.
+const SLOTS: usize = 16;
+
+/// Bytes of cache that are lent.
+const CACHE: usize = 262_144;
+
+/// Bytes of check that are lent.
+const CHECK: usize = 131_072;
+
+/// Bytes of line that are lent.
+const LINE: usize = 12_288;
+
+/// The memory that is lent to the top call.
+#[derive(Drop)]
+struct Memory {
+    work: Vec<u8>,
+    slots: Vec<FdSlot>,
+    cache: Vec<u8>,
+    check: Vec<u8>,
+    line: Vec<u8>,
+}
+
+impl Memory {
+    fn new(alloc: Global) -> Result<Memory, AllocError> {
+        Ok(Memory {
+            work: vec![in alloc; 0u8; WORK]?,
+            slots: vec![in alloc; FdSlot::empty(); SLOTS]?,
+            cache: vec![in alloc; 0u8; CACHE]?,
+            check: vec![in alloc; 0u8; CHECK]?,
+            line: vec![in alloc; 0u8; LINE]?,
+        })
+    }
+}
+
+// The words of the command line, without the program's own name. None where one isn't text.
+fn words_of<R: Env + Alloc<A = Global>>(rt: &R) -> Option<Result<Vec<String>, AllocError>> {
+    let args = env::args(rt).ok()?;
+    Some(args.skip(1).collect(rt.alloc()))
+}
+
+// Runs the command that the words spell, over the chip file that they name.
+fn run(rt: &HostRuntime, words: &[String], memory: &mut Memory) -> u8 {
+    let chip = match words.get(6) {
+        Some(word) => word.as_str(),
+        None => "",
+    };
+    let size = chip_size_of(words, 1);
+    let chip = FileChip::new(rt, chip, false, size, unit_of(words));
+    let mut board = StdBoard::new(chip, rt.stdout());
+    let mut script = StdSource::new(rt.stdin());
+    let mut bufs = Buffers {
+        work: &mut memory.work,
+        slots: &mut memory.slots,
+        cache: &mut memory.cache,
+        check: &mut memory.check,
+        line: &mut memory.line,
+    };
+    spiffs_tool(words, &mut board, &mut script, &mut bufs)
+}
+
+// Prints a text, and answers the status.
+fn tell(rt: &impl Print, text: &str, status: u8) -> u8 {
+    match rt.print(text) {
+        Ok(()) => status,
+        Err(_) => 7,
+    }
+}
+
+fn start(rt: &HostRuntime) -> u8 {
+    let words = match words_of(rt) {
+        Some(Ok(words)) => words,
+        Some(Err(_)) => return tell(rt, "! memory\n", 15),
+        None => return tell(rt, "! usage\n", 1),
+    };
+    if words.len() == 1 && words[0].as_str() == "--help" {
+        return tell(rt, HELP, 0);
+    }
+    if words.len() == 1 && words[0].as_str() == "--version" {
+        return tell(rt, VERSION, 0);
+    }
+    match Memory::new(rt.alloc()) {
+        Ok(mut memory) => run(rt, &words, &mut memory),
+        Err(_) => tell(rt, "! memory\n", 15),
+    }
+}
+
+fn main(rt: HostRuntime) -> ExitCode {
+    ExitCode::from(start(&rt))
+}

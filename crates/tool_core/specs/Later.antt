@@ -1,0 +1,15 @@
+-- Endings of a run that was not refused before the device was read.
+use Rattle.std.specs.Prelude.{◌≢◌, Option, Some, None}
+use Rattle.tool_core.specs.declared.ending.Ending.{Ending}
+use Rattle.tool_core.specs.Closing.{status_of}
+
+-- the status is none of those of a refusal
+pub record IsLater (ending : Ending) : Type 0 where
+  pub no_usage : status_of ending ≢ 1
+  pub no_geometry : status_of ending ≢ 2
+  pub no_short : status_of ending ≢ 10
+
+-- and where there is none, nothing is said
+abbrev pub IsLaterIf : Option Ending → Type 0
+IsLaterIf None = Unit {0}
+IsLaterIf (Some ending) = IsLater ending

@@ -1,0 +1,8 @@
+pub mod Breaks
+pub mod Words
+pub mod Plan
+pub mod Closing
+pub mod Endings
+pub mod Fits
+pub mod Lent
+pub mod Later

@@ -1,0 +1,171 @@
+ghost use Rattle.std.specs.Prelude.{◌≡◌, ◌+◌, ◌<◌, ◌≤◌, ◌++◌, [], length, decimal};
+ghost use Rattle.arrayvec.specs.ArrayVec.{array_vec_len};
+ghost use Rattle.tool_core.specs.Closing.{status_of, closing_of, closing_line_of, part_word, short_text, differ_text, spoiled_text};
+
+use arrayvec::ArrayVec;
+use geometry::GeoErr;
+use itoa::Buffer;
+use table_model::Differ;
+use vol_mount::Part;
+
+/// How a command ends.
+#[derive(Clone, Copy, Debug, PartialEq, Eq)]
+pub(crate) enum Ending {
+    /// Everything was done.
+    Done,
+    /// The words are no command.
+    Usage,
+    /// The numbers or the device are refused.
+    Geometry(GeoErr),
+    /// Lent memory is too short.
+    ShortBuffer {
+        part: Part,
+        need: u32,
+        given: usize,
+    },
+    /// Two or more blocks lack their magic.
+    NotAFs(u32),
+    /// A line of the script isn't in the grammar: its number, from 1.
+    BadLine(u32),
+    /// The board failed.
+    BoardFault,
+    /// The script could not be read.
+    SourceFault,
+    /// The script is too long.
+    TooLong,
+    /// The check left fewer than two free blocks.
+    Tight(u32),
+    /// A call needs what this build doesn't have.
+    Unbuilt,
+    /// The image isn't of the kind that this build takes.
+    UnbuiltImage,
+    /// A page doesn't read as what was written there.
+    Differ(Differ),
+}
+
+/// A closing line.
+pub(crate) type Closing = ArrayVec<u8, 128>;
+
+impl Ending {
+    /// The status that the command answers.
+    pub(crate) fn status(self) -> u8
+        ensures { result ≡ status_of self }
+    {
+        match self {
+            Ending::Done => 0,
+            Ending::Usage => 1,
+            Ending::Geometry(_) => 2,
+            Ending::NotAFs(_) => 3,
+            Ending::BadLine(_) => 5,
+            Ending::BoardFault => 7,
+            Ending::SourceFault => 8,
+            Ending::ShortBuffer { .. } => 10,
+            Ending::TooLong => 11,
+            Ending::Tight(_) => 14,
+            Ending::Unbuilt | Ending::UnbuiltImage => 16,
+            Ending::Differ(_) => 21,
+        }
+    }
+}
+
+// The word for a part of the lent memory.
+fn word_of(part: Part) -> &'static [u8]
+    ensures word { result.now ≡ part_word part }
+    ensures short { length result.now ≤ 5 }
+{
+    match part {
+        Part::Work => b"work",
+        Part::Slots => b"slots",
+        Part::Cache => b"cache",
+        Part::Check => b"check",
+        Part::Line => b"line",
+    }
+}
+
+// Appends a piece to a line.
+fn put(line: &mut Closing, piece: &[u8])
+    requires { array_vec_len line.old + length piece.now ≤ 128 }
+    ensures items { line.new.items ≡ line.old.items ++ piece.now }
+    ensures len { array_vec_len line.new ≡ array_vec_len line.old + length piece.now }
+{
+    let _ = line.try_extend_from_slice(piece);
+}
+
+// Appends a label and a number to a line.
+fn put_count(line: &mut Closing, label: &[u8], number: u64)
+    requires { array_vec_len line.old + length label.now + 20 ≤ 128 }
+    ensures items { line.new.items ≡ line.old.items ++ (label.now ++ decimal number) }
+    ensures len { array_vec_len line.new ≤ array_vec_len line.old + length label.now + 20 }
+{
+    put(line, label);
+    put(line, Buffer::new().format(number).as_bytes());
+}
+
+// Appends how much of a part of the lent memory is needed and given.
+fn put_short(line: &mut Closing, part: Part, need: u32, given: usize)
+    requires { line.old.items ≡ [] }
+    ensures text { line.new.items ≡ short_text part need given }
+    ensures short { array_vec_len line.new ≤ 127 }
+{
+    put(line, b"! short buffer ");
+    put(line, word_of(part));
+    put_count(line, b" need ", u64::from(need));
+    put_count(line, b" given ", given as u64);
+}
+
+// Appends the two values of a page that doesn't read as what was written there.
+fn put_differ(line: &mut Closing, differ: Differ)
+    requires { line.old.items ≡ [] }
+    ensures text { line.new.items ≡ differ_text differ }
+    ensures short { array_vec_len line.new ≤ 127 }
+{
+    put_count(line, b"! differ ", u64::from(differ.page));
+    put_count(line, b" ", u64::from(differ.wanted.id));
+    put_count(line, b" ", u64::from(differ.wanted.span));
+    put_count(line, b" ", u64::from(differ.found.id));
+    put_count(line, b" ", u64::from(differ.found.span));
+}
+
+// Appends how many blocks lack their magic.
+fn put_spoiled(line: &mut Closing, spoiled: u32)
+    requires { line.old.items ≡ [] }
+    ensures text { line.new.items ≡ spoiled_text spoiled }
+    ensures short { array_vec_len line.new ≤ 127 }
+{
+    put_count(line, b"! not a volume, ", u64::from(spoiled));
+    put(line, b" blocks without magic");
+}
+
+// Writes the closing line of an ending, without the byte that ends it; nothing where there is none.
+fn put_closing(line: &mut Closing, ending: Ending)
+    requires { line.old.items ≡ [] }
+    ensures text { line.new.items ≡ closing_of ending }
+    ensures short { array_vec_len line.new ≤ 127 }
+{
+    match ending {
+        Ending::Done | Ending::BoardFault => {}
+        Ending::Usage => put(line, b"! usage"),
+        Ending::Geometry(why) => put_count(line, b"! geometry ", u64::from(why.code())),
+        Ending::ShortBuffer { part, need, given } => put_short(line, part, need, given),
+        Ending::NotAFs(spoiled) => put_spoiled(line, spoiled),
+        Ending::BadLine(number) => put_count(line, b"! bad line ", u64::from(number)),
+        Ending::SourceFault => put(line, b"! script fault"),
+        Ending::TooLong => put(line, b"! script longer than 16777216 bytes"),
+        Ending::Tight(free) => put_count(line, b"! free blocks ", u64::from(free)),
+        Ending::Unbuilt => put(line, b"! unbuilt"),
+        Ending::UnbuiltImage => put(line, b"! unbuilt image"),
+        Ending::Differ(differ) => put_differ(line, differ),
+    }
+}
+
+/// The closing line of an ending, with the byte that ends it; empty where there is none.
+pub(crate) fn closing_line(ending: Ending) -> Closing
+    ensures { result.items ≡ closing_line_of ending }
+{
+    let mut line = Closing::new();
+    put_closing(&mut line, ending);
+    if !line.is_empty() {
+        put(&mut line, b"\n");
+    }
+    line
+}

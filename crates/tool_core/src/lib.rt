@@ -1,0 +1,13 @@
+//! The top call: a command in words, a board, a script and lent memory in; a status out, and what the board
+//! said.
+#![tactic(auto)]
+
+mod ending;
+mod lines;
+mod plan;
+mod run;
+mod tool;
+mod words;
+
+pub use tool::{Buffers, spiffs_tool};
+pub use words::{chip_size_of, unit_of};

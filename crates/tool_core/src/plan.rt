@@ -1,0 +1,105 @@
+ghost use Rattle.std.specs.Prelude.{◌≡◌, ◌*◌, ◌≤◌, length, map, string_bytes, IfOk, IfErr, OnOk, Some, None};
+ghost use Rattle.geometry.specs.Numbers.{IsOf};
+ghost use Rattle.tool_core.specs.Plan.{device_refusal, shape_refusal, length_refusal, shorter, refusal_of};
+ghost use Rattle.tool_core.specs.Fits.{IsFitting, HasLengths};
+
+use geometry::{GeoErr, Geometry};
+use vol_mount::Part;
+
+use crate::ending::Ending;
+use crate::words::{Shape, run_shape};
+
+/// The least length of the line buffer, in bytes.
+pub(crate) const LINE_NEED: u32 = 12_288;
+
+/// How much of each part is lent: bytes, and descriptors for `slots`.
+#[derive(Clone, Copy, Debug, PartialEq, Eq)]
+pub(crate) struct Lengths {
+    pub work: usize,
+    pub slots: usize,
+    pub cache: usize,
+    pub check: usize,
+    pub line: usize,
+}
+
+// Refuses a volume that may not be written, and a device that doesn't fit it.
+fn accept_device(g: &Geometry, unit: u32, size: u32) -> Result<(), GeoErr>
+    requires { g.now.phys ≡ g.now.block }
+    ensures refused { IfErr result (λ why. device_refusal g.now.page g.now.block g.now.blocks unit size ≡ Some why) }
+    ensures accepted { OnOk result (device_refusal g.now.page g.now.block g.now.blocks unit size ≡ None) }
+    ensures fits { OnOk result (IsFitting g.now unit size) }
+{
+    g.writable()?;
+    if unit != g.phys() || size < g.blocks() * g.block() {
+        return Err(GeoErr::WrongChip);
+    }
+    Ok(())
+}
+
+// The geometry of these numbers on a device of that unit and size, to be written.
+fn geometry_of(shape: Shape, unit: u32, size: u32) -> Result<Geometry, GeoErr>
+    ensures made { IfOk result (λ g. IsOf g shape.page shape.block shape.blocks shape.block shape.meta shape.magic) }
+    ensures accepted { OnOk result (shape_refusal shape unit size ≡ None) }
+    ensures fits { IfOk result (λ g. IsFitting g unit size) }
+    ensures refused { IfErr result (λ why. shape_refusal shape unit size ≡ Some why) }
+{
+    let g = Geometry::new(
+        shape.page,
+        shape.block,
+        shape.blocks,
+        shape.block,
+        shape.meta,
+        shape.magic,
+    )?;
+    accept_device(&g, unit, size)?;
+    Ok(g)
+}
+
+// The first part of the lent memory that is too short.
+fn short_part(g: &Geometry, lent: &Lengths) -> Option<Ending>
+    ensures refused { result ≡ length_refusal g.now.page g.now.block g.now.blocks lent.now }
+{
+    too_short(Part::Work, g.work_need(), lent.work)
+        .or(too_short(Part::Slots, 1, lent.slots))
+        .or(too_short(Part::Cache, g.cache_need(), lent.cache))
+        .or(too_short(Part::Check, g.check_need(), lent.check))
+        .or(too_short(Part::Line, LINE_NEED, lent.line))
+}
+
+// The refusal of a part of the lent memory, if it is too short.
+fn too_short(part: Part, need: u32, given: usize) -> Option<Ending>
+    ensures { result ≡ shorter part need given None }
+{
+    if given < need as usize {
+        Some(Ending::ShortBuffer { part, need, given })
+    } else {
+        None
+    }
+}
+
+/// The geometry of a run that is not refused, by its words, the device's erase unit and size in bytes, and
+/// what is lent.
+#[tactic(auto, unfolding(crate::specs::Plan::refusal_of))]
+pub(crate) fn plan(
+    words: &[String],
+    unit: u32,
+    size: u32,
+    lent: &Lengths,
+) -> Result<Geometry, Ending>
+    ensures refused { IfErr result (λ ending. refusal_of (map string_bytes words.now) unit size lent.now ≡ Some ending) }
+    ensures accepted { OnOk result (refusal_of (map string_bytes words.now) unit size lent.now ≡ None) }
+    ensures fits { IfOk result (λ g. IsFitting g unit size) }
+    ensures room { IfOk result (λ g. HasLengths g lent.now) }
+{
+    let Some(shape) = run_shape(words) else {
+        return Err(Ending::Usage);
+    };
+    let g = match geometry_of(shape, unit, size) {
+        Ok(g) => g,
+        Err(why) => return Err(Ending::Geometry(why)),
+    };
+    match short_part(&g, lent) {
+        Some(ending) => Err(ending),
+        None => Ok(g),
+    }
+}

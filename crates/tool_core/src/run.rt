@@ -1,0 +1,263 @@
+ghost use Rattle.std.specs.Prelude.{◌≡◌, ◌+◌, ◌-◌, ◌*◌, ◌<◌, ◌≤◌, length, IfErr};
+ghost use Rattle.std.specs.Option.{IfNone};
+ghost use Rattle.std.specs.Prelude.{IfOk};
+ghost use Rattle.call_script.specs.Pieces.{IsShort};
+ghost use Rattle.vol_mount.specs.Mounts.{IsLate};
+ghost use Rattle.volume.specs.Checks.{IsWritable};
+ghost use Rattle.tool_core.specs.Later.{IsLater, IsLaterIf};
+ghost use Rattle.geometry.specs.Numbers.{work_need, cache_need, check_need};
+ghost use Rattle.tool_core.specs.Fits.{IsFitting};
+
+use call_script::{parse_line, reply_text};
+use geometry::Geometry;
+use nor_core::{Board, Failed, Nor, NorState, Source};
+use table_model::{Call, FsErr, Reply};
+use vol_mount::{Lent, MountErr, Mounting, mount};
+use volume::{CheckErr, Checked, Checking, Volume, check};
+
+use crate::ending::Ending;
+use crate::lines::{LIMIT, LINE, Lines};
+
+/// The number of bytes of the line buffer that hold lines; the others hold names, texts and replies.
+const LINES: usize = 8192;
+
+// How a run ends that doesn't mount the volume.
+fn mount_ending(why: MountErr) -> Ending
+    requires { IsLate why }
+    ensures { IsLater result }
+{
+    match why {
+        MountErr::Wrong(why) => Ending::Geometry(why),
+        MountErr::ShortBuffer { part, need, given } => Ending::ShortBuffer { part, need, given },
+        MountErr::NotAFs { spoiled } => Ending::NotAFs(spoiled),
+        MountErr::DeviceFault => Ending::BoardFault,
+    }
+}
+
+// How a run ends that doesn't check the volume.
+fn check_ending(why: CheckErr) -> Ending
+    requires { IsWritable why }
+    ensures { IsLater result }
+{
+    match why {
+        CheckErr::Wrong(why) => Ending::Geometry(why),
+        CheckErr::Unbuilt => Ending::UnbuiltImage,
+        CheckErr::DeviceFault => Ending::BoardFault,
+    }
+}
+
+// Does a call, or says how the run ends there.
+fn apply<B: Board>(volume: &mut Volume<'_, B>, call: &Call<'_>) -> Result<Reply<'static>, Ending>
+    ensures short { IfOk result IsShort }
+    ensures later { IfErr result IsLater }
+{
+    let Call::Create { name } = call else {
+        return Ok(Reply::Refusal(FsErr::Unbuilt));
+    };
+    match volume.create(name) {
+        Ok(()) => Ok(Reply::Done),
+        Err(FsErr::DeviceFault) => Err(Ending::BoardFault),
+        Err(FsErr::Damaged(differ)) => Err(Ending::Differ(differ)),
+        Err(FsErr::Unbuilt) => Err(Ending::Unbuilt),
+        Err(why) => Ok(Reply::Refusal(why)),
+    }
+}
+
+// Does a call and says its reply, or says how the run ends there.
+fn answer<B: Board>(
+    volume: &mut Volume<'_, B>,
+    line: &[u8],
+    number: u32,
+    scratch: &mut [u8],
+) -> Option<Ending>
+    requires { 4096 ≤ length scratch.old }
+    ensures { IsLaterIf result }
+{
+    let Ok(parsed) = parse_line(line, scratch) else {
+        return Some(Ending::BadLine(number));
+    };
+    let Some(call) = parsed else {
+        return None;
+    };
+    match apply(volume, &call) {
+        Ok(reply) => say_reply(volume, &reply, scratch),
+        Err(ending) => Some(ending),
+    }
+}
+
+// Says the line of a reply.
+fn say_reply<B: Board>(
+    volume: &mut Volume<'_, B>,
+    reply: &Reply<'_>,
+    into: &mut [u8],
+) -> Option<Ending>
+    requires room { 4096 ≤ length into.old }
+    requires short { IsShort reply.now }
+    ensures { IsLaterIf result }
+{
+    let length = reply_text(reply, into);
+    match volume.say(&into[..length]) {
+        Ok(()) => None,
+        Err(Failed) => Some(Ending::BoardFault),
+    }
+}
+
+// Does the bytes that were taken as the last line, and ends the run.
+fn last_line<B: Board>(
+    volume: &mut Volume<'_, B>,
+    lines: &Lines<'_>,
+    scratch: &mut [u8],
+) -> Ending
+    requires { 4096 ≤ length scratch.old }
+    ensures { IsLater result }
+{
+    let line = lines.piece(lines.start, lines.end);
+    if line.is_empty() {
+        return Ending::Done;
+    }
+    let number = lines.handed.saturating_add(1);
+    match answer(volume, line, number, scratch) {
+        None => Ending::Done,
+        Some(ending) => ending,
+    }
+}
+
+// One turn where no line is ended in the bytes that were taken.
+fn take_more<B: Board, S: Source>(
+    volume: &mut Volume<'_, B>,
+    lines: &mut Lines<'_>,
+    script: &mut S,
+    scratch: &mut [u8],
+) -> Option<Ending>
+    requires { 4096 ≤ length scratch.old }
+    ensures later { IsLaterIf result }
+    ensures same_buf { lines.new.buf.ghost_name ≡ lines.old.buf.ghost_name }
+    ensures smaller { IfNone result (2 * (16777216 - lines.new.taken) + (lines.new.end - lines.new.start) < 2 * (16777216 - lines.old.taken) + (lines.old.end - lines.old.start)) }
+{
+    if lines.end - lines.start > LINE {
+        return Some(Ending::BadLine(lines.handed.saturating_add(1)));
+    }
+    if lines.taken == LIMIT {
+        return Some(match script.read(&mut [0u8; 1]) {
+            Err(Failed) => Ending::SourceFault,
+            Ok(0) => last_line(volume, lines, scratch),
+            Ok(_) => Ending::TooLong,
+        });
+    }
+    match lines.fill(script) {
+        Err(Failed) => Some(Ending::SourceFault),
+        Ok(0) => Some(last_line(volume, lines, scratch)),
+        Ok(_) => None,
+    }
+}
+
+// One turn of a run: a line, or more bytes.
+fn turn<B: Board, S: Source>(
+    volume: &mut Volume<'_, B>,
+    lines: &mut Lines<'_>,
+    script: &mut S,
+    scratch: &mut [u8],
+) -> Option<Ending>
+    requires { 4096 ≤ length scratch.old }
+    ensures later { IsLaterIf result }
+    ensures same_buf { lines.new.buf.ghost_name ≡ lines.old.buf.ghost_name }
+    ensures smaller { IfNone result (2 * (16777216 - lines.new.taken) + (lines.new.end - lines.new.start) < 2 * (16777216 - lines.old.taken) + (lines.old.end - lines.old.start)) }
+{
+    let from = lines.start;
+    match lines.take_line() {
+        Some(to) if to - from > LINE => Some(Ending::BadLine(lines.handed)),
+        Some(to) => {
+            let number = lines.handed;
+            answer(volume, lines.piece(from, to), number, scratch)
+        }
+        None => take_more(volume, lines, script, scratch),
+    }
+}
+
+// Runs the lines of a script up to its end, or to what stops it.
+fn run_lines<B: Board, S: Source>(
+    volume: &mut Volume<'_, B>,
+    lines: &mut Lines<'_>,
+    script: &mut S,
+    scratch: &mut [u8],
+) -> Ending
+    requires { 4096 ≤ length scratch.old }
+    ensures { IsLater result }
+{
+    'turns: loop {
+        if let Some(ending) = turn(volume, lines, script, scratch) {
+            return ending;
+        }
+    }
+}
+
+// Runs a script on a checked volume with that many free blocks.
+fn run_script<B: Board, S: Source>(
+    volume: &mut Volume<'_, B>,
+    free_blocks: u32,
+    script: &mut S,
+    line: &mut [u8],
+) -> Ending
+    requires { 12288 ≤ length line.old }
+    ensures { IsLater result }
+{
+    if free_blocks < 2 {
+        return Ending::Tight(free_blocks);
+    }
+    let (taken, scratch) = line.split_at_mut(LINES);
+    let mut lines = Lines::new(taken);
+    run_lines(volume, &mut lines, script, scratch)
+}
+
+// Settles a volume at the end of a run.
+fn settle<B: Board>(volume: &mut Volume<'_, B>, ending: Ending) -> Ending
+    requires { IsLater ending }
+    ensures { IsLater result }
+{
+    if matches!(ending, Ending::BoardFault | Ending::Differ(_)) {
+        return ending;
+    }
+    match volume.settle() {
+        Ok(()) => ending,
+        Err(_) => Ending::BoardFault,
+    }
+}
+
+// Runs a script on a checked volume, and settles it.
+fn run_checked<B: Board, S: Source>(
+    checked: &mut Checked<'_, B>,
+    script: &mut S,
+    line: &mut [u8],
+) -> Ending
+    requires { 12288 ≤ length line.old }
+    ensures { IsLater result }
+{
+    let free_blocks = checked.report.free_blocks;
+    let ending = run_script(&mut checked.volume, free_blocks, script, line);
+    settle(&mut checked.volume, ending)
+}
+
+/// Mounts and checks the volume of a board, and runs a script on it.
+pub(crate) fn run<'b, B: Board, S: Source>(
+    g: Geometry,
+    board: &'b mut B,
+    script: &mut S,
+    lent: Lent<'b>,
+    line: &mut [u8],
+) -> Ending
+    requires fits { IsFitting g (B.unit board.old) (B.size board.old) }
+    requires work { work_need g ≤ length lent.work.now }
+    requires slots { 1 ≤ length lent.slots.now }
+    requires cache { cache_need g ≤ length lent.cache.now }
+    requires check { check_need g ≤ length lent.check.now }
+    requires line { 12288 ≤ length line.old }
+    ensures later { IsLater result }
+{
+    match mount(g, board, lent) {
+        Mounting::Refused { why, back: _ } => mount_ending(why),
+        Mounting::Mounted(unchecked) => match check(unchecked) {
+            Checking::Refused { why, back: _ } => check_ending(why),
+            Checking::Checked(mut checked) => run_checked(&mut checked, script, line),
+        },
+    }
+}

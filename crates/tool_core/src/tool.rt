@@ -1,0 +1,103 @@
+ghost use Rattle.std.specs.Prelude.{◌≡◌, ◌≢◌, ◌++◌, length, map, string_bytes};
+ghost use Rattle.nor_core.specs.Count.{Rose};
+ghost use Rattle.nor_core.specs.Device.{Says};
+ghost use Rattle.tool_core.specs.Plan.{refusal_of};
+ghost use Rattle.tool_core.specs.Closing.{closing_line_of};
+ghost use Rattle.tool_core.specs.Endings.{EndsAs, Refuses, RefusesIf};
+ghost use Rattle.tool_core.specs.Fits.{IsFitting, HasLengths};
+ghost use Rattle.tool_core.specs.Later.{IsLater};
+ghost use Rattle.tool_core.specs.Lent.{lengths_of};
+
+use fd_table::FdSlot;
+use geometry::Geometry;
+use nor_core::{Board, Nor, NorState, Source};
+use vol_mount::Lent;
+
+use crate::ending::{Ending, closing_line};
+use crate::plan::{Lengths, plan};
+use crate::run::run;
+
+/// The memory that is lent to the top call. What it holds at first doesn't matter.
+#[derive(Drop)]
+pub struct Buffers<'b> {
+    /// Bytes for work, at least `Geometry::work_need`.
+    pub work: &'b mut [u8],
+    /// Descriptors, at least one.
+    pub slots: &'b mut [FdSlot],
+    /// Bytes for copies of pages, at least `Geometry::cache_need`.
+    pub cache: &'b mut [u8],
+    /// Bytes for the check and the write window, at least `Geometry::check_need`.
+    pub check: &'b mut [u8],
+    /// Bytes for lines of the script and replies, at least 12,288.
+    pub line: &'b mut [u8],
+}
+
+// How much of each part is lent.
+fn lengths(bufs: &Buffers<'_>) -> Lengths
+    ensures { result ≡ lengths_of bufs.now }
+{
+    Lengths {
+        work: bufs.work.len(),
+        slots: bufs.slots.len(),
+        cache: bufs.cache.len(),
+        check: bufs.check.len(),
+        line: bufs.line.len(),
+    }
+}
+
+// Says the closing line of an ending, and answers the status: 7 where the board failed.
+fn conclude<B: Board>(board: &mut B, ending: Ending) -> u8
+    ensures ends { EndsAs B.NorState board.old board.new ending result }
+    ensures says { Says B.NorState board.old board.new (closing_line_of ending) }
+    ensures whole { B.tells board.old → result ≢ 7 → B.said board.new ≡ B.said board.old ++ closing_line_of ending }
+{
+    let line = closing_line(ending);
+    if line.is_empty() {
+        return ending.status();
+    }
+    match board.say(line.as_slice()) {
+        Ok(()) => ending.status(),
+        Err(_) => Ending::BoardFault.status(),
+    }
+}
+
+// Mounts and checks the volume of a board in the lent memory, and runs a script on it.
+fn run_on<B: Board, S: Source>(
+    g: Geometry,
+    board: &mut B,
+    script: &mut S,
+    bufs: &mut Buffers<'_>,
+) -> Ending
+    requires fits { IsFitting g (B.unit board.old) (B.size board.old) }
+    requires room { HasLengths g (lengths_of bufs.old) }
+    ensures later { IsLater result }
+{
+    let lent = Lent {
+        work: &mut *bufs.work,
+        slots: &mut *bufs.slots,
+        cache: &mut *bufs.cache,
+        check: &mut *bufs.check,
+    };
+    run(g, board, script, lent, bufs.line)
+}
+
+/// Does the command that the words spell, on a board, and answers its status. The form is
+/// `run PAGE BLOCK BLOCKS META MAGIC CHIP`: the numbers in decimal digits below 2 ^ 32 without a leading
+/// zero, MAGIC `plain` or `len`, CHIP any word that isn't empty, which isn't read here. The volume is mounted
+/// and checked, and each line of the script is run as a call. It takes no memory but what is lent.
+pub fn spiffs_tool<B: Board, S: Source>(
+    words: &[String],
+    board: &mut B,
+    script: &mut S,
+    bufs: &mut Buffers<'_>,
+) -> u8
+    ensures refused { RefusesIf B.NorState board.old board.new (refusal_of (map string_bytes words.now) (B.unit board.old) (B.size board.old) (lengths_of bufs.old)) result }
+{
+    match plan(words, board.unit(), board.size(), &lengths(bufs)) {
+        Err(ending) => conclude(board, ending),
+        Ok(g) => {
+            let ending = run_on(g, board, script, bufs);
+            conclude(board, ending)
+        }
+    }
+}

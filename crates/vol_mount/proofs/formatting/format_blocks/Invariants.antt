@@ -1,0 +1,9 @@
+use Rattle.std.proofs.Common.{◌≡◌}
+use Rattle.vol_mount.specs.Goes.{GoesOn}
+use Rattle.vol_mount.proofs.formatting.format_blocks.Given as goal
+
+abbrev pub invariant-loop-block : goal.invariant-loop-block
+invariant-loop-block g l = record {
+  goes : GoesOn g.N.NorState l.fn.nor l.nor;
+  end : l.block-end ≡ l.g.blocks
+}

@@ -1,0 +1,12 @@
+//! Formatting and mounting.
+#![tactic(auto)]
+
+mod formatting;
+mod lent;
+mod mounting;
+mod unchecked;
+
+pub use formatting::format;
+pub use lent::{Lent, MountErr, Part, Returned};
+pub use mounting::mount;
+pub use unchecked::{Mounting, Parts, Unchecked};

@@ -1,0 +1,11 @@
+//! A checked volume and its file calls.
+#![tactic(auto)]
+
+mod checking;
+mod create;
+mod names;
+mod room;
+mod volume;
+
+pub use checking::{CheckErr, Checked, Checking, Report, check};
+pub use volume::{Unmounted, Volume};
