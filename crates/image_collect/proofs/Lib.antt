@@ -1,0 +1,4 @@
+pub mod Sums
+pub mod Greatest
+pub mod Filtered
+pub mod Walks

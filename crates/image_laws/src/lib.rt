@@ -1,0 +1,11 @@
+//! Laws of what programs, kills and erases do to what a flash image means.
+#![tactic(auto)]
+
+pub mod counting;
+pub mod killing;
+pub mod laws;
+pub mod moving;
+pub mod renewing;
+pub mod sound;
+pub mod staging;
+pub mod tidying;

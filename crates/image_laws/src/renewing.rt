@@ -1,0 +1,71 @@
+ghost use Rattle.geometry.specs.declared.geometry.Geometry.{Geometry};
+ghost use Rattle.image_laws.specs.OneId.{OneIdIsTidy};
+ghost use Rattle.image_laws.specs.Put.{PlacingIsSound};
+ghost use Rattle.image_laws.specs.LiveSteps.{PutChanges, KillChanges};
+ghost use Rattle.image_laws.specs.Renew.{RenewIsSound, RenewTidies};
+ghost use Rattle.image_laws.specs.Truncate.{TruncatedLeads};
+ghost use Rattle.image_laws.specs.Leads.{CopiesSame, RenamedLeads, RenameTidies};
+ghost use Rattle.image_laws.specs.InPlace.{EntryInPlaceKeeps};
+ghost use Rattle.image_laws.specs.Recopy.{RecopyIsSound, PutDataKeeps, PutDataSpares, RecopyTidies, PutSame};
+ghost use Rattle.image_laws.specs.Flash.{FinishedIsProgrammed};
+ghost use Rattle.image_laws.specs.Spares.{SpareKills, SparesEnd, RenewLeaves};
+
+/// Where the pages of one id have changed, its file is put into the table and the image is tidy.
+pub fn changes_tidy()
+    ensures { (g : Geometry) → OneIdIsTidy g }
+{}
+
+/// Placing any page keeps the image, also where it is cut off.
+pub fn placing_is_sound()
+    ensures { (g : Geometry) → PlacingIsSound g }
+{}
+
+/// A put and a kill, at each cut and done, as changes of the live pages.
+pub fn steps_change()
+    ensures put { (g : Geometry) → PutChanges g }
+    ensures kill { (g : Geometry) → KillChanges g }
+{}
+
+/// A renewed header page: each cut is before or after and sound, and done it is tidy but for what only the old one named.
+pub fn renewing_puts()
+    ensures cuts { (g : Geometry) → RenewIsSound g }
+    ensures tidy { (g : Geometry) → RenewTidies g }
+    ensures spares { (g : Geometry) → RenewLeaves g }
+{}
+
+/// The pages that a step leaves over may be killed one after the other.
+pub fn spares_go()
+    ensures kill { (g : Geometry) → SpareKills g }
+    ensures end { (g : Geometry) → SparesEnd g }
+{}
+
+/// What a finished program leaves, byte by byte.
+pub fn finished_is_programmed()
+    ensures { FinishedIsProgrammed }
+{}
+
+/// A renewed index page: each cut is before or after, and sound.
+pub fn recopying_puts()
+    ensures cuts { (g : Geometry) → RecopyIsSound g }
+    ensures data_page { (g : Geometry) → PutDataKeeps g }
+    ensures spares { (g : Geometry) → PutDataSpares g }
+    ensures tidy { (g : Geometry) → RecopyTidies g }
+    ensures same { (g : Geometry) → PutSame g }
+{}
+
+/// An entry at or past the page count may be programmed in place.
+pub fn entries_in_place()
+    ensures { (g : Geometry) → EntryInPlaceKeeps g }
+{}
+
+/// What a renewed page leads to; a rename leaves the image tidy.
+pub fn renaming_tidies()
+    ensures copies { (g : Geometry) → CopiesSame g }
+    ensures leads { (g : Geometry) → RenamedLeads g }
+    ensures tidy { (g : Geometry) → RenameTidies g }
+{}
+
+/// A truncated header page leads to the first bytes.
+pub fn truncating_leads()
+    ensures { (g : Geometry) → TruncatedLeads g }
+{}

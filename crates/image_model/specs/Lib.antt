@@ -1,0 +1,13 @@
+pub mod Volume
+pub mod Places
+pub mod Headers
+pub mod Live
+pub mod Files
+pub mod Tables
+pub mod Tidy
+pub mod Sound
+pub mod Killed
+pub mod Kinds
+pub mod Within
+pub mod Collect
+pub mod Shared

@@ -1,0 +1,50 @@
+-- Blocks that hold wanted pages of both kinds, and whether a check can part them.
+use Rattle.std.specs.Prelude.{ℕ, ◌+◌, ◌-◌, ◌*◌, List, length, Bool, not, nat_le, ◌==◌, ◌&&◌, ◌||◌, if◌then◌else◌, filter, sum_by}
+use Rattle.std.specs.List.{range_with_len}
+use Rattle.geometry.specs.declared.geometry.Geometry.{Geometry}
+use Rattle.image_model.specs.Volume.{entries}
+use Rattle.image_model.specs.Places.{has_magic}
+use Rattle.image_model.specs.Live.{live_at}
+use Rattle.image_model.specs.Tidy.{is_wanted, is_free_block, free_blocks}
+use Rattle.image_model.specs.Kinds.{is_index_page, is_data_page, spoiled_blocks}
+use Rattle.image_model.specs.Collect.{count_in, free_where}
+
+-- a wanted index page, and a wanted data page
+abbrev pub is_wanted_index : Geometry → List ℕ → ℕ → Bool
+is_wanted_index g image p = is_index_page (live_at g image p) && is_wanted g image p
+
+abbrev pub is_wanted_data : Geometry → List ℕ → ℕ → Bool
+is_wanted_data g image p = is_data_page (live_at g image p) && is_wanted g image p
+
+-- the wanted index pages and the wanted data pages of a block
+unfoldable pub wanted_index_in : Geometry → List ℕ → ℕ → ℕ
+wanted_index_in g image block = count_in g block (λ p. is_wanted_index g image p)
+
+unfoldable pub wanted_data_in : Geometry → List ℕ → ℕ → ℕ
+wanted_data_in g image block = count_in g block (λ p. is_wanted_data g image p)
+
+-- A block is shared where it holds wanted pages of both kinds.
+unfoldable pub is_shared : Geometry → List ℕ → ℕ → Bool
+is_shared g image block = not (wanted_index_in g image block == 0) && not (wanted_data_in g image block == 0)
+
+-- how many blocks are shared
+unfoldable pub shared_blocks : Geometry → List ℕ → ℕ
+shared_blocks g image = length (filter (λ block. is_shared g image block) (range_with_len 0 g.blocks))
+
+-- the wanted index pages in shared blocks
+unfoldable pub shared_index : Geometry → List ℕ → ℕ
+shared_index g image = sum_by (λ block. if is_shared g image block then wanted_index_in g image block else 0) (range_with_len 0 g.blocks)
+
+-- the free entries of blocks in use that hold no wanted data page
+unfoldable pub open_entries : Geometry → List ℕ → ℕ
+open_entries g image = free_where g image (λ block. has_magic g image block && not (is_free_block g image block) && (wanted_data_in g image block == 0))
+
+-- the free blocks, and one more where one block lacks its magic
+abbrev pub blocks_to_use : Geometry → List ℕ → ℕ
+blocks_to_use g image = free_blocks g image + (if spoiled_blocks g image == 1 then 1 else 0)
+
+-- An image fits over where no block is shared, or the index pages of shared blocks fit the open entries and the free
+-- blocks above two.
+unfoldable pub fits_over : Geometry → List ℕ → Bool
+fits_over g image =
+    (shared_blocks g image == 0) || nat_le (shared_index g image) (open_entries g image + (blocks_to_use g image - 2) * entries g)

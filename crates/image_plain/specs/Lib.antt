@@ -1,0 +1,6 @@
+pub mod Seen
+pub mod Headed
+pub mod Counted
+pub mod Sorts
+pub mod Tallied
+pub mod Wanting

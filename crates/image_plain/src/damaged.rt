@@ -1,0 +1,116 @@
+// The damaged files of an image.
+ghost use Rattle.std.specs.Prelude.{◌≡◌, ◌==◌, ℕ, ◌+◌, ◌<◌, ◌≤◌, length, IfOk, Option};
+ghost use Rattle.std.specs.Option.{option_map};
+ghost use Rattle.image_model.specs.Places.{IsImage};
+ghost use Rattle.image_model.specs.Live.{live_at as the_live_at};
+ghost use Rattle.image_model.specs.Tables.{has_of as the_has, is_named as the_named, holder as the_holder, damage as the_damage, damages as the_damages, damaged_of as the_damaged};
+ghost use Rattle.image_plain.specs.Seen.{file};
+ghost use Rattle.image_plain.specs.Headed.{IsHeads};
+
+use crate::Record;
+use crate::files::found;
+use crate::headers::header_pages;
+use crate::table::{counted, counts};
+use geometry::Geometry;
+use image_model::Damage;
+use std::alloc::{AllocError, Global};
+
+// Whether there is a file, and it has that name.
+fn is_named(record: &Option<Record>, name: &[u8]) -> bool
+    ensures { result ≡ the_named (option_map file record.now) name.now }
+{
+    match record {
+        Some(record) => record.name.as_slice() == name,
+        None => false,
+    }
+}
+
+// The id that counts of those with that name, among the ids from 1 to n; 0 where there is none.
+#[tactic(auto, unfolding(image_model::specs::Tables::holder), using(crate::proofs::Ranges::range_step, crate::proofs::Ranges::range_end))]
+fn holder(
+    alloc: Global,
+    g: &Geometry,
+    image: &[u8],
+    heads: &[Option<u32>],
+    n: u16,
+    name: &[u8],
+) -> Result<u16, AllocError>
+    requires image { IsImage g.now image.now }
+    requires heads { IsHeads g.now (the_live_at g.now image.now) heads.now }
+    requires fits { n ≤ 0x7FFF }
+    ensures { IfOk result (λ id. id ≡ the_holder (the_has g.now (the_live_at g.now image.now)) n name.now) }
+{
+    for id in 1..n + 1 {
+        if is_named(&counted(alloc, g, image, heads, n, id)?, name) {
+            return Ok(id);
+        }
+    }
+    Ok(0)
+}
+
+// The damage of an id, where it has a header page and no file that counts.
+fn damage(
+    alloc: Global,
+    g: &Geometry,
+    image: &[u8],
+    heads: &[Option<u32>],
+    n: u16,
+    id: u16,
+) -> Result<Option<(u16, Damage)>, AllocError>
+    requires image { IsImage g.now image.now }
+    requires heads { IsHeads g.now (the_live_at g.now image.now) heads.now }
+    requires fits { n ≤ 0x7FFF }
+    requires id { id < 0x8000 }
+    ensures { IfOk result (λ d. d ≡ the_damage (the_has g.now (the_live_at g.now image.now)) n id (the_has g.now (the_live_at g.now image.now) id)) }
+{
+    let Some((p, outcome)) = found(alloc, g, image, heads, id)? else {
+        return Ok(None);
+    };
+    let record = match outcome {
+        Ok(record) => record,
+        Err(cause) => return Ok(Some((id, cause))),
+    };
+    if counts(alloc, g, image, heads, n, p, record.name.as_slice())? {
+        return Ok(None);
+    }
+    let other = holder(alloc, g, image, heads, n, record.name.as_slice())?;
+    Ok(Some((id, Damage::SameName(other))))
+}
+
+// The damages of the ids from 1 to n.
+#[tactic(auto, unfolding(image_model::specs::Tables::damages))]
+fn damages(
+    alloc: Global,
+    g: &Geometry,
+    image: &[u8],
+    heads: &[Option<u32>],
+    n: u16,
+) -> Result<Vec<(u16, Damage)>, AllocError>
+    requires image { IsImage g.now image.now }
+    requires heads { IsHeads g.now (the_live_at g.now image.now) heads.now }
+    requires fits { n ≤ 0x7FFF }
+    ensures { IfOk result (λ damages. damages.items ≡ the_damages (the_has g.now (the_live_at g.now image.now)) n) }
+{
+    let mut damages = Vec::new(alloc);
+    for id in 1..n + 1 {
+        if let Some(cause) = damage(alloc, g, image, heads, n, id)? {
+            damages.push(cause)?;
+        }
+    }
+    Ok(damages)
+}
+
+/// The damaged files of an image, in order of ids: each id that has a header page and no file in the table, with its
+/// first cause.
+#[tactic(auto, unfolding(image_model::specs::Tables::damaged_of))]
+pub fn damaged_of(
+    alloc: Global,
+    g: &Geometry,
+    image: &[u8],
+) -> Result<Vec<(u16, Damage)>, AllocError>
+    requires { IsImage g.now image.now }
+    ensures { IfOk result (λ damages. damages.items ≡ the_damaged g.now image.now) }
+{
+    let heads = header_pages(alloc, g, image)?;
+    damages(alloc, g, image, heads.as_slice(), 0x7FFF)
+}

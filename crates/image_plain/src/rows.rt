@@ -1,0 +1,288 @@
+// Images made by hand, and what they mean.
+use crate::*;
+use geometry::{Geometry, MagicKind};
+use image_model::Damage;
+use std::alloc::{AllocError, Global};
+use std::process::Abort;
+use std::test::Fail;
+
+fn put(image: &mut Vec<u8>, at: usize, bytes: &[u8]) {
+    for (i, b) in bytes.iter().enumerate() {
+        if let Some(x) = image.get_mut(at.saturating_add(i)) {
+            *x = *b;
+        }
+    }
+}
+
+// Bytes of 0xFF, and in each block its magic and this erase count.
+fn blocks_with_magic(alloc: Global, g: &Geometry, count: &[u8]) -> Result<Vec<u8>, AllocError> {
+    let mut image = vec![in alloc; 0xFFu8; g.blocks as usize * g.block as usize]?;
+    for block in 0..g.blocks {
+        let end = block as usize * g.block as usize + g.lookups() as usize * g.page as usize;
+        let magic = g.magic_of(block);
+        put(
+            &mut image,
+            end.saturating_sub(4),
+            &[(magic % 256) as u8, (magic / 256) as u8],
+        );
+        put(&mut image, end.saturating_sub(2), count);
+    }
+    Ok(image)
+}
+
+const NEW_HEADER: [u8; 14] = [
+    1, 0x80, 0, 0, 0xF8, 0xFF, 0xFF, 0xFF, 0xFF, 0xFF, 0xFF, 0xFF, 1, 0x61,
+];
+
+// A new file `a`: its entry and its header page.
+fn put_new_file(image: &mut Vec<u8>) {
+    put(image, 0, &[1, 0x80]);
+    put(image, 256, &NEW_HEADER);
+    put(image, 270, &[0; 31]);
+}
+
+// `a` after five bytes were written to it.
+fn put_hello(image: &mut Vec<u8>) {
+    put_new_file(image);
+    put(image, 0, &[0, 0, 1, 0x80]);
+    put(image, 260, &[0x78]);
+    put(image, 4096, &[1, 0]);
+    put(image, 4352, &[1, 0, 0, 0, 0xFC]);
+    put(image, 4357, b"hello");
+    put(image, 512, &NEW_HEADER);
+    put(image, 520, &[5, 0, 0, 0]);
+    put(image, 526, &[0; 31]);
+    put(image, 557, &[0x11, 0]);
+}
+
+// A file of 30 data pages that fill two blocks.
+fn put_big(image: &mut Vec<u8>) {
+    put(image, 0, &[1, 0x80]);
+    put(
+        image,
+        256,
+        &[1, 0x80, 0, 0, 0xF8, 0xFF, 0xFF, 0xFF, 0x6A, 0x1D, 0, 0, 1],
+    );
+    put(image, 269, b"big");
+    put(image, 272, &[0; 29]);
+    for span in 0..30u8 {
+        let page = if span < 15 { 17 + span } else { 18 + span };
+        let block = if span < 15 { 1 } else { 2 };
+        put(image, 301 + 2 * span as usize, &[page, 0]);
+        put(image, block * 4096 + 2 * (span % 15) as usize, &[1, 0]);
+        put(image, page as usize * 256, &[1, 0, span, 0, 0xFC]);
+    }
+}
+
+// Both kinds of pages in one block.
+fn put_mixed(image: &mut Vec<u8>) {
+    put(image, 0, &[1, 0x80, 1, 0]);
+    put(
+        image,
+        256,
+        &[1, 0x80, 0, 0, 0xF8, 0xFF, 0xFF, 0xFF, 5, 0, 0, 0, 1],
+    );
+    put(image, 269, b"/index.html");
+    put(image, 280, &[0; 21]);
+    put(image, 301, &[1, 2, 3, 4, 2, 0]);
+    put(image, 512, &[1, 0, 0, 0, 0xFC]);
+    put(image, 517, b"hello");
+}
+
+// The first file's name, meta and number of bytes; damaged files, killed entries, free blocks and mixed blocks.
+#[derive(Debug, PartialEq, Eq, Drop)]
+struct Summary {
+    name: Vec<u8>,
+    meta: Vec<u8>,
+    bytes: usize,
+    counts: [usize; 4],
+}
+
+fn summary_of(alloc: Global, g: &Geometry, image: &[u8]) -> Result<Option<Summary>, AllocError> {
+    if !holds_volume(g, image) {
+        return Ok(None);
+    }
+    let table = table_of(alloc, g, image)?;
+    let first = table.first();
+    let name = Vec::from_slice(alloc, first.map_or(&[], |r| r.name.as_slice()))?;
+    let meta = Vec::from_slice(alloc, first.map_or(&[], |r| r.meta.as_slice()))?;
+    let damaged = damaged_of(alloc, g, image)?.len();
+    let killed = killed_of(alloc, g, image)? as usize;
+    let free = free_blocks(g, image) as usize;
+    let counts = [damaged, killed, free, mixed_blocks(g, image) as usize];
+    Ok(Some(Summary {
+        name,
+        meta,
+        bytes: first.map_or(0, |r| r.bytes.len()),
+        counts,
+    }))
+}
+
+fn check_row(
+    rt: &impl Abort,
+    alloc: Global,
+    g: &Geometry,
+    image: &[u8],
+    row: (&str, &[u8], &[u8], usize, [usize; 4]),
+) -> Result<(), Fail> {
+    let wanted = Summary {
+        name: Vec::from_slice(alloc, row.1)?,
+        meta: Vec::from_slice(alloc, row.2)?,
+        bytes: row.3,
+        counts: row.4,
+    };
+    assert_eq!(rt; summary_of(alloc, g, image)?, Some(wanted), "{}", row.0);
+    Ok(())
+}
+
+#[test]
+fn images_mean_what_was_written(rt: HostRuntime) -> Result<(), Fail> {
+    let g = Geometry::new(256, 4096, 16, 4096, 0, MagicKind::Length)?;
+    let mut image = blocks_with_magic(rt.alloc(), &g, &[0, 0])?;
+    check_row(
+        &rt,
+        rt.alloc(),
+        &g,
+        image.as_slice(),
+        ("a formatted volume", b"", b"", 0, [0, 0, 16, 0]),
+    )?;
+    put(&mut image, 0, &[0xFF, 0x9F]);
+    check_row(
+        &rt,
+        rt.alloc(),
+        &g,
+        image.as_slice(),
+        ("a cut in an entry", b"", b"", 0, [0, 1, 15, 0]),
+    )?;
+    put_new_file(&mut image);
+    check_row(
+        &rt,
+        rt.alloc(),
+        &g,
+        image.as_slice(),
+        ("a new file", b"a", b"", 0, [0, 0, 15, 0]),
+    )?;
+    put(&mut image, 0, &[0, 0]);
+    put(&mut image, 260, &[0x38]);
+    check_row(
+        &rt,
+        rt.alloc(),
+        &g,
+        image.as_slice(),
+        ("a removed file", b"", b"", 0, [0, 0, 15, 0]),
+    )?;
+    put_hello(&mut image);
+    check_row(
+        &rt,
+        rt.alloc(),
+        &g,
+        image.as_slice(),
+        ("a written file", b"a", b"", 5, [0, 0, 14, 0]),
+    )
+}
+
+#[test]
+fn a_mixed_block_and_two_full_ones(rt: HostRuntime) -> Result<(), Fail> {
+    let g = Geometry::new(256, 4096, 16, 4096, 4, MagicKind::Length)?;
+    let mut image = blocks_with_magic(rt.alloc(), &g, &[0xFF, 0xFF])?;
+    put_mixed(&mut image);
+    let row = (
+        "both kinds in one block",
+        b"/index.html".as_slice(),
+        [1u8, 2, 3, 4].as_slice(),
+        5,
+        [0, 0, 15, 1],
+    );
+    check_row(&rt, rt.alloc(), &g, image.as_slice(), row)?;
+    let small = Geometry::new(256, 4096, 4, 4096, 0, MagicKind::Length)?;
+    let mut full = blocks_with_magic(rt.alloc(), &small, &[0, 0])?;
+    put_big(&mut full);
+    check_row(
+        &rt,
+        rt.alloc(),
+        &small,
+        full.as_slice(),
+        ("full data blocks", b"big", b"", 7530, [0, 0, 1, 0]),
+    )
+}
+
+// The cause of the first damaged file.
+fn first_cause(
+    alloc: Global,
+    g: &Geometry,
+    image: &[u8],
+) -> Result<Option<(u16, Damage)>, AllocError> {
+    if !holds_volume(g, image) {
+        return Ok(None);
+    }
+    Ok(damaged_of(alloc, g, image)?.first().copied())
+}
+
+#[test]
+fn damaged_files_have_their_first_cause(rt: HostRuntime) -> Result<(), Fail> {
+    let g = Geometry::new(256, 4096, 16, 4096, 0, MagicKind::Length)?;
+    for (place, byte, id, cause) in [
+        (525, 0, 1, Damage::BadName),
+        (521, 1, 1, Damage::Missing(1)),
+        (557, 0x12, 1, Damage::Missing(0)),
+        (4356, 0x7C, 1, Damage::Missing(0)),
+        (8192, 2, 2, Damage::SameName(1)),
+    ] {
+        let mut image = blocks_with_magic(rt.alloc(), &g, &[0, 0])?;
+        put_hello(&mut image);
+        put(&mut image, 8193, &[0x80]);
+        put(&mut image, 33 * 256, &NEW_HEADER);
+        put(&mut image, 33 * 256, &[2]);
+        put(&mut image, 33 * 256 + 14, &[0; 31]);
+        put(&mut image, place, &[byte]);
+        assert_eq!(rt;
+            first_cause(rt.alloc(), &g, image.as_slice())?,
+            Some((id, cause)),
+            "at {place}"
+        );
+    }
+    Ok(())
+}
+
+#[test]
+fn interrupted_steps_leave_what_was_there(rt: HostRuntime) -> Result<(), Fail> {
+    let g = Geometry::new(256, 4096, 16, 4096, 0, MagicKind::Length)?;
+    let mut image = blocks_with_magic(rt.alloc(), &g, &[0, 0])?;
+    put_hello(&mut image);
+    put(&mut image, 4362, &[0x7F]);
+    check_row(
+        &rt,
+        rt.alloc(),
+        &g,
+        image.as_slice(),
+        ("bytes past the end", b"a", b"", 5, [0, 0, 14, 0]),
+    )?;
+    put(&mut image, 4, &[1, 0x80]);
+    put(&mut image, 768, &NEW_HEADER);
+    put(&mut image, 776, &[5, 0, 0, 0, 1, 0x62]);
+    put(&mut image, 782, &[0; 31]);
+    put(&mut image, 813, &[0x11, 0]);
+    check_row(
+        &rt,
+        rt.alloc(),
+        &g,
+        image.as_slice(),
+        ("two header pages", b"a", b"", 5, [0, 1, 14, 0]),
+    )?;
+    put(&mut image, 516, &[0x78]);
+    check_row(
+        &rt,
+        rt.alloc(),
+        &g,
+        image.as_slice(),
+        ("the old header killed", b"b", b"", 5, [0, 1, 14, 0]),
+    )?;
+    put(&mut image, 772, &[0x78]);
+    check_row(
+        &rt,
+        rt.alloc(),
+        &g,
+        image.as_slice(),
+        ("no header page", b"", b"", 0, [0, 3, 14, 0]),
+    )
+}

@@ -1,0 +1,110 @@
+// The table of an image, and its damaged files.
+ghost use Rattle.std.specs.Prelude.{◌≡◌, ◌==◌, ℕ, ◌+◌, ◌<◌, ◌≤◌, length, map, IfOk};
+ghost use Rattle.std.specs.Option.{option_map};
+ghost use Rattle.image_model.specs.Places.{IsImage};
+ghost use Rattle.image_model.specs.Live.{live_at as the_live_at};
+ghost use Rattle.image_model.specs.Tables.{has_of as the_has, is_before as the_before, counts as the_counts, counted as the_counted, records as the_records, table_of as the_table};
+ghost use Rattle.image_plain.specs.Seen.{seen_at, file};
+ghost use Rattle.image_plain.specs.Headed.{IsHeads};
+
+use crate::Record;
+use crate::files::found;
+use crate::headers::header_pages;
+use geometry::Geometry;
+use image_model::Damage;
+use std::alloc::{AllocError, Global};
+
+// A whole file of that name has its header page before page p.
+fn is_before(at: &Option<(u32, Result<Record, Damage>)>, p: u32, name: &[u8]) -> bool
+    ensures { result ≡ the_before (seen_at at.now) p name.now }
+{
+    match at {
+        Some((q, Ok(r))) => *q < p && r.name.as_slice() == name,
+        _ => false,
+    }
+}
+
+// Whether a file counts, of those that have its name among the ids from 1 to n.
+#[tactic(auto, unfolding(image_model::specs::Tables::counts), using(crate::proofs::Ranges::range_step, crate::proofs::Ranges::range_end))]
+pub(crate) fn counts(
+    alloc: Global,
+    g: &Geometry,
+    image: &[u8],
+    heads: &[Option<u32>],
+    n: u16,
+    p: u32,
+    name: &[u8],
+) -> Result<bool, AllocError>
+    requires image { IsImage g.now image.now }
+    requires heads { IsHeads g.now (the_live_at g.now image.now) heads.now }
+    requires fits { n ≤ 0x7FFF }
+    ensures { IfOk result (λ yes. yes ≡ the_counts (the_has g.now (the_live_at g.now image.now)) n p name.now) }
+{
+    for id in 1..n + 1 {
+        if is_before(&found(alloc, g, image, heads, id)?, p, name) {
+            return Ok(false);
+        }
+    }
+    Ok(true)
+}
+
+// The file of an id, where it counts.
+pub(crate) fn counted(
+    alloc: Global,
+    g: &Geometry,
+    image: &[u8],
+    heads: &[Option<u32>],
+    n: u16,
+    id: u16,
+) -> Result<Option<Record>, AllocError>
+    requires image { IsImage g.now image.now }
+    requires heads { IsHeads g.now (the_live_at g.now image.now) heads.now }
+    requires fits { n ≤ 0x7FFF }
+    requires id { id < 0x8000 }
+    ensures { IfOk result (λ r. option_map file r ≡ the_counted (the_has g.now (the_live_at g.now image.now)) n (the_has g.now (the_live_at g.now image.now) id)) }
+{
+    match found(alloc, g, image, heads, id)? {
+        Some((p, Ok(r))) => {
+            if counts(alloc, g, image, heads, n, p, r.name.as_slice())? {
+                Ok(Some(r))
+            } else {
+                Ok(None)
+            }
+        }
+        _ => Ok(None),
+    }
+}
+
+// The files of the ids from 1 to n that count.
+#[tactic(auto, unfolding(image_model::specs::Tables::records))]
+fn records(
+    alloc: Global,
+    g: &Geometry,
+    image: &[u8],
+    heads: &[Option<u32>],
+    n: u16,
+) -> Result<Vec<Record>, AllocError>
+    requires image { IsImage g.now image.now }
+    requires heads { IsHeads g.now (the_live_at g.now image.now) heads.now }
+    requires fits { n ≤ 0x7FFF }
+    ensures { IfOk result (λ records. map file records.items ≡ the_records (the_has g.now (the_live_at g.now image.now)) n) }
+{
+    let mut records = Vec::new(alloc);
+    for id in 1..n + 1 {
+        if let Some(record) = counted(alloc, g, image, heads, n, id)? {
+            records.push(record)?;
+        }
+    }
+    Ok(records)
+}
+
+/// The table of an image: its whole files in order of ids, of several with one name that whose header page is first.
+/// Wants memory for their bytes.
+#[tactic(auto, unfolding(image_model::specs::Tables::table_of))]
+pub fn table_of(alloc: Global, g: &Geometry, image: &[u8]) -> Result<Vec<Record>, AllocError>
+    requires { IsImage g.now image.now }
+    ensures { IfOk result (λ records. map file records.items ≡ the_table g.now image.now) }
+{
+    let heads = header_pages(alloc, g, image)?;
+    records(alloc, g, image, heads.as_slice(), 0x7FFF)
+}
