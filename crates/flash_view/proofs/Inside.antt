@@ -1,11 +1,10 @@
 -- Pages, entries and slots stand inside the volume, and their places fit 32 bits.
-use Rattle.std.proofs.Common.{ℕ, ◌≡◌, ◌+◌, ◌-◌, ◌*◌, ◌/◌, ◌%◌, ◌<◌, ◌≤◌, ◌^◌, sym, ap, ◌∙◌, arith}
+use Rattle.std.proofs.Common.{ℕ, ◌≡◌, ◌+◌, ◌-◌, ◌*◌, ◌/◌, ◌%◌, ◌<◌, ◌≤◌, ap, ◌∙◌, arith}
 use Rattle.std.proofs.Math.Nat.{mul-le-mul_right, mul-le-mul_left, mul_assoc, div-lt_iff_lt-mul, mod-lt}
 use Rattle.std.proofs.lemmas.Nat.{mod-mul-add}
-use Rattle.std.proofs.lemmas.Grind.{common_steps}
 use Rattle.geometry.specs.declared.geometry.Geometry.{Geometry}
 use Rattle.geometry.specs.Numbers.{per_block, lookups, entries, page_count, slots}
-use Rattle.flash_view.specs.Places.{IsEntryPage, block_of, place_of, page_start, slot_start, entry_start, magic_start, count_start}
+use Rattle.flash_view.specs.Places.{IsEntryPage, block_of, place_of, entry_start, magic_start}
 
 -- a block is its pages
 block_pages : (g : Geometry) → per_block g * g.page ≡ g.block

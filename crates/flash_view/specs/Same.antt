@@ -1,5 +1,5 @@
 -- What every call over a view leaves as it was.
-use Rattle.std.specs.Prelude.{ℕ, ◌≡◌}
+use Rattle.std.specs.Prelude.{◌≡◌}
 use Rattle.nor_core.specs.Device.{OnlyReads}
 use Rattle.flash_view.specs.declared.view.View.{View}
 

@@ -1,6 +1,5 @@
-use Rattle.std.proofs.Common.{◌≡◌, ◌+◌, ◌<◌, ◌≤◌}
-use Rattle.std.specs.Prelude.{IfSome}
-use Rattle.geometry.specs.Numbers.{page_count, entries}
+use Rattle.std.proofs.Common.{◌≡◌, ◌+◌, ◌≤◌}
+use Rattle.geometry.specs.Numbers.{entries}
 use Rattle.flash_view.specs.Same.{OnlyLooks}
 use Rattle.free_search.proofs.blocks.counts.Given as goal
 

@@ -1,6 +1,4 @@
-use Rattle.std.proofs.Common.{◌≡◌, ◌+◌, ◌<◌, ◌≤◌}
-use Rattle.std.specs.Prelude.{IfSome}
-use Rattle.geometry.specs.Numbers.{page_count, entries}
+use Rattle.std.proofs.Common.{◌≡◌, ◌≤◌}
 use Rattle.flash_view.specs.Same.{OnlyLooks}
 use Rattle.free_search.proofs.blocks.free_blocks.Given as goal
 

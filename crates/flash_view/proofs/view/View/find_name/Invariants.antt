@@ -1,4 +1,4 @@
-use Rattle.std.proofs.Common.{◌≡◌, ◌≤◌}
+use Rattle.std.proofs.Common.{◌≡◌}
 use Rattle.geometry.specs.Numbers.{page_count}
 use Rattle.flash_view.specs.Same.{OnlyLooks}
 use Rattle.flash_view.proofs.view.View.find_name.Given as goal
