@@ -8,9 +8,10 @@ use fd_table::FdSlot;
 use help::{HELP, VERSION};
 use host_edge::{FileChip, StdBoard, StdSource};
 use std::alloc::{AllocError, Global};
-use std::env;
+use std::fs::File;
 use std::process::ExitCode;
-use std::rt::{Env, Files};
+use std::rt::Env;
+use std::{env, fs};
 use tool_core::{Buffers, chip_size_of, spiffs_tool, unit_of};
 
 /// Bytes of work that are lent.
@@ -76,6 +77,24 @@ fn run(rt: &HostRuntime, words: &[String], memory: &mut Memory) -> u8 {
     spiffs_tool(words, &mut board, &mut script, &mut bufs)
 }
 
+// Three descriptors that read nothing. Held from the start on, they stand in the place of standard streams
+// that are closed, so that no chip file is opened there and written by what is said.
+#[derive(Drop)]
+struct Held {
+    streams: [Option<File>; 3],
+}
+
+impl Held {
+    fn new(rt: &HostRuntime) -> Held {
+        let first = fs::open(rt, "/dev/null").ok();
+        let second = fs::open(rt, "/dev/null").ok();
+        let third = fs::open(rt, "/dev/null").ok();
+        Held {
+            streams: [first, second, third],
+        }
+    }
+}
+
 // Prints a text, and answers the status.
 fn tell(rt: &impl Print, text: &str, status: u8) -> u8 {
     match rt.print(text) {
@@ -103,5 +122,8 @@ fn start(rt: &HostRuntime) -> u8 {
 }
 
 fn main(rt: HostRuntime) -> ExitCode {
-    ExitCode::from(start(&rt))
+    let held = Held::new(&rt);
+    let status = start(&rt);
+    drop(held);
+    ExitCode::from(status)
 }

@@ -1,5 +1,5 @@
 -- How much of each part of the lent memory there is.
-use Rattle.std.specs.Prelude.{ℕ, length}
+use Rattle.std.specs.Prelude.{length}
 use Rattle.tool_core.specs.declared.tool.Buffers.{Buffers}
 use Rattle.tool_core.specs.declared.plan.Lengths.{Lengths}
 

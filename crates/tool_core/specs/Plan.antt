@@ -1,5 +1,5 @@
 -- What is refused before the device is read: words, then numbers, then the device, then the lent memory.
-use Rattle.std.specs.Prelude.{ℕ, ◌+◌, ◌*◌, ◌/◌, List, Bool, not, ◌==◌, ◌||◌, nat_lt, Option, Some, None, if◌then◌else◌}
+use Rattle.std.specs.Prelude.{ℕ, ◌+◌, ◌*◌, ◌/◌, List, not, ◌==◌, ◌||◌, nat_lt, Option, Some, None, if◌then◌else◌}
 use Rattle.geometry.specs.declared.error.GeoErr.{GeoErr}
 use Rattle.geometry.specs.declared.error.GeoErr.TheVariants.{TooManyUsable, TooFewToWrite, WrongChip}
 use Rattle.geometry.specs.Rules.{pages_in, entries_in}

@@ -1,8 +1,7 @@
 -- Which devices fit a volume, and which lent memory is too short.
-use Rattle.std.specs.Prelude.{ℕ, ◌*◌, List, length, Bool, not, nat_lt, ◌==◌, ◌||◌, Option, Some, None, if◌then◌else◌}
+use Rattle.std.specs.Prelude.{ℕ, ◌*◌, Bool, not, nat_lt, ◌==◌, ◌||◌, Option, Some, None, if◌then◌else◌}
 use Rattle.geometry.specs.declared.geometry.Geometry.{Geometry}
 use Rattle.geometry.specs.Numbers.{work_need, cache_need, check_need}
-use Rattle.vol_mount.specs.declared.lent.Part.{Part}
 use Rattle.vol_mount.specs.declared.lent.Part.TheVariants.{Work, Slots, Cache, Check}
 use Rattle.vol_mount.specs.declared.lent.MountErr.{MountErr}
 use Rattle.vol_mount.specs.declared.lent.MountErr.TheVariants.{ShortBuffer}
