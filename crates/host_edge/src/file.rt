@@ -31,12 +31,34 @@ pub(crate) fn read_at(file: &mut File, at: u64, into: &mut [u8]) -> Result<(), F
     Ok(())
 }
 
-fn write_at(file: &mut File, at: u64, from: &[u8]) -> Result<(), Failed> {
-    seek(file, at)?;
+// Appends 0xFF to the file until it reaches a place: bytes past its end count as erased, and those that a
+// write leaves out would otherwise read as zeros.
+fn pad_to(file: &mut File, at: u64) -> Result<(), Failed> {
+    let blank = [0xFFu8; CHUNK];
+    let Ok(length) = file.seek(SeekFrom::End(0)) else {
+        return Err(Failed);
+    };
+    let mut end = length;
+    while end < at {
+        let piece = (at - end).min(CHUNK as u64);
+        write_all(file, &blank[..piece as usize])?;
+        end += piece;
+    }
+    Ok(())
+}
+
+fn write_all(file: &mut File, from: &[u8]) -> Result<(), Failed> {
     match file.write_all(from) {
         Ok(()) => Ok(()),
         Err(_) => Err(Failed),
     }
+}
+
+// Writes bytes at a place of the file.
+fn write_at(file: &mut File, at: u64, from: &[u8]) -> Result<(), Failed> {
+    pad_to(file, at)?;
+    seek(file, at)?;
+    write_all(file, from)
 }
 
 // Clears in a piece of the file the bits that are not set in the asked bytes.
