@@ -4,10 +4,10 @@ use Rattle.geometry.specs.declared.geometry.Geometry.{Geometry}
 use Rattle.geometry.specs.Numbers.{entries}
 use Rattle.table_model.specs.declared.call.Whence.{Whence}
 use Rattle.table_model.specs.declared.reply.Info.{Info}
-use Rattle.table_model.specs.declared.error.FsErr.TheVariants.{BadName, NameTooLong, BadFlags, ConflictingName, NotReadable, NotWritable, SeekBounds}
+use Rattle.table_model.specs.declared.error.FsErr.TheVariants.{BadFlags, ConflictingName, NotReadable, NotWritable, SeekBounds}
 use Rattle.table_model.specs.Table.{File, Open, State, has_name, file_above}
 use Rattle.table_model.specs.Room.{index_count, data_count}
-use Rattle.table_model.specs.Names.{is_bad_name, is_long_name, name_refusal, names_refusal}
+use Rattle.table_model.specs.Names.{name_refusal, names_refusal}
 use Rattle.table_model.specs.Descriptors.{may_read, may_write, at_offset}
 use Rattle.table_model.specs.Files.{created, stat_of, with_file, with_open, closed, cut_to, without, bytes_at, write_place, written, seek_place}
 use Rattle.table_model.specs.Reply.{Answer, Fine, Tells, Gives, Shows, Ends}
@@ -16,10 +16,9 @@ use Rattle.table_model.specs.Outcome.{Outcome, refused, gives, unless, on_name, 
 -- a create: `spare` says whether at least two blocks are free
 unfoldable pub answer_create : Geometry → Bool → State → List ℕ → Outcome
 answer_create g spare s name =
-    if is_bad_name name then refused BadName s
-    else if is_long_name name then refused NameTooLong s
-    else if has_name name s.table then refused ConflictingName s
-    else with_page g spare s (gives Fine (record s { table = created g name s.table }))
+    unless (name_refusal name) s (
+        if has_name name s.table then refused ConflictingName s
+        else with_page g spare s (gives Fine (record s { table = created g name s.table })))
 
 -- a read: the bytes from the offset, as many as there are; the offset moves behind them
 unfoldable pub answer_read : State → ℕ → ℕ → Outcome

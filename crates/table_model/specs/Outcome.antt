@@ -53,9 +53,13 @@ on_its_file d (Some f) s call = call d f
 abbrev pub on_open_file : ℕ → State → (Open → File → Outcome) → Outcome
 on_open_file fd s call = on_open fd s (λ d. on_its_file d (file_of d.id s.table) s call)
 
--- A call that needs a page is Tight where fewer than two blocks are free, else Full where the table after it has no room.
+-- why a call that needs a page is refused, if it is: Tight where fewer than two blocks are free, else Full where the table after it has no room
+unfoldable pub page_refusal : Geometry → Bool → List File → Option FsErr
+page_refusal g spare files =
+    if not spare then Some Tight
+    else if not (has_room g files) then Some Full
+    else None
+
+-- what a call that needs a page does
 abbrev pub with_page : Geometry → Bool → State → Outcome → Outcome
-with_page g spare s done =
-    if not spare then refused Tight s
-    else if not (has_room g done.next.table) then refused Full s
-    else done
+with_page g spare s done = unless (page_refusal g spare done.next.table) s done
