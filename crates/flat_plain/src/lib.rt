@@ -5,12 +5,15 @@
 mod copies;
 mod counts;
 mod file;
+mod answers;
 mod by_name;
 mod bytes;
 mod changes;
 mod flat;
 mod names;
 mod opening;
+#[cfg(test)]
+mod rows;
 mod said;
 mod search;
 mod slots;
