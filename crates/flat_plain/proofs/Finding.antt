@@ -1,8 +1,7 @@
 -- Walks over files from the first one on.
-use Rattle.std.proofs.Common.{◌≡◌, ℕ, suc, ◌+◌, ◌<◌, ◌≤◌, List, [], ◌∷◌, map, length, get_or, take, drop, refl, ap, sym, ◌∙◌, arith, true, false, Bool, Option, Some, None}
-use Rattle.std.specs.Prelude.{find, sum_by}
-use Rattle.std.proofs.lemmas.List.{drop_more, drop_all, take_all}
-use Rattle.std.proofs.lemmas.List.Sums.{sum_by_more}
+use Rattle.std.proofs.Common.{◌≡◌, ℕ, ◌+◌, ◌<◌, ◌≤◌, List, map, length, get_or, drop, refl, true, false, Bool, Some, None}
+use Rattle.std.specs.Prelude.{find}
+use Rattle.std.proofs.lemmas.List.{drop_more, drop_all}
 
 -- the next one passes
 pub find_here : {X Y : Type 0} (v : X → Y) (test : Y → Bool) (xs : List X) (i : ℕ) (d : X) → i < length xs → test (v (get_or xs i d)) ≡ true →

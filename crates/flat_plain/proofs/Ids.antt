@@ -1,5 +1,5 @@
 -- Ids that files have, and the least one that none has.
-use Rattle.std.proofs.Common.{◌≡◌, ℕ, suc, ◌+◌, ◌-◌, ◌<◌, ◌≤◌, List, [], ◌∷◌, refl, ap, arith, true, false, Bool, Option, Some, None, not, ◌==◌}
+use Rattle.std.proofs.Common.{◌≡◌, ℕ, suc, ◌+◌, ◌-◌, ◌<◌, ◌≤◌, List, [], ◌∷◌, refl, arith, true, false, Bool, Some, None, not, ◌==◌}
 use Rattle.std.proofs.lemmas.Grind.{common_steps}
 use Rattle.std.specs.Prelude.{find, is_some, unwrap_or}
 use Rattle.std.specs.List.{list_any, range_with_len}

@@ -1,5 +1,5 @@
 -- The search for a closed descriptor.
-use Rattle.std.proofs.Common.{◌≡◌, ℕ, suc, ◌+◌, ◌<◌, ◌≤◌, List, [], ◌∷◌, map, length, get_or, drop, refl, arith, Option, Some, None}
+use Rattle.std.proofs.Common.{◌≡◌, ℕ, ◌+◌, ◌<◌, ◌≤◌, List, map, length, get_or, drop, refl, Option, Some, None}
 use Rattle.std.proofs.lemmas.List.{drop_more, drop_all}
 use Rattle.table_model.specs.Descriptors.{lowest_from}
 use Rattle.flat_plain.specs.declared.slots.PlainOpen.{PlainOpen}

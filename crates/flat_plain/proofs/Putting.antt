@@ -1,8 +1,8 @@
 -- A file put into a table, by the number of files before it.
-use Rattle.std.proofs.Common.{◌≡◌, ℕ, zero, suc, ◌+◌, ◌<◌, ◌≤◌, List, [], ◌∷◌, ◌++◌, map, length, get_or, take, drop, refl, ap, sym, ◌∙◌, arith, true, false, Bool}
+use Rattle.std.proofs.Common.{◌≡◌, ℕ, zero, suc, ◌<◌, ◌≤◌, List, [], ◌∷◌, map, length, get_or, refl, arith}
 use Rattle.std.proofs.lemmas.Grind.{common_steps}
 use Rattle.std.specs.Prelude.{insert, slice_set}
-use Rattle.table_model.specs.Table.{File, put_file}
+use Rattle.table_model.specs.Table.{put_file}
 use Rattle.flat_plain.specs.declared.file.PlainFile.{PlainFile}
 use Rattle.flat_plain.specs.Seen.{file}
 

@@ -14,11 +14,7 @@ const MOST: u64 = 0xFFFF_FFFF;
 pub(crate) fn counted(n: u64) -> Result<u64, AllocError>
     ensures { IfOk result (λ m. (m ≡ n) × (m < 2 ^ 32)) }
 {
-    if n > MOST {
-        Err(AllocError)
-    } else {
-        Ok(n)
-    }
+    if n > MOST { Err(AllocError) } else { Ok(n) }
 }
 
 // Data pages of a file of that size in bytes.

@@ -39,7 +39,11 @@ impl Flat {
 
     // Why a call that needs a page and leaves this table is refused, if it is.
     #[tactic(auto, unfolding(table_model::specs::Outcome::page_refusal))]
-    pub(crate) fn page_fault(&self, spare: bool, next: &[PlainFile]) -> Result<Option<FsErr>, AllocError>
+    pub(crate) fn page_fault(
+        &self,
+        spare: bool,
+        next: &[PlainFile],
+    ) -> Result<Option<FsErr>, AllocError>
         ensures { IfOk result (λ why. why ≡ page_refusal self.now.geometry spare (map file next.now)) }
     {
         if !spare {

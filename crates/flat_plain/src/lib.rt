@@ -2,13 +2,13 @@
 //! serves tests: each later volume is compared with it.
 #![tactic(auto)]
 
-mod copies;
-mod counts;
-mod file;
 mod answers;
 mod by_name;
 mod bytes;
 mod changes;
+mod copies;
+mod counts;
+mod file;
 mod flat;
 mod names;
 mod opening;

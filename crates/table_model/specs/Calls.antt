@@ -17,15 +17,15 @@ use Rattle.table_model.specs.Outcome.{Outcome, refused, gives, unless, on_name, 
 unfoldable pub answer_create : Geometry → Bool → State → List ℕ → Outcome
 answer_create g spare s name =
     unless (name_refusal name) s (
-        if has_name name s.table then refused ConflictingName s
-        else with_page g spare s (gives Fine (record s { table = created g name s.table })))
+    if has_name name s.table then refused ConflictingName s
+    else with_page g spare s (gives Fine (record s { table = created g name s.table })))
 
 -- a read: the bytes from the offset, as many as there are; the offset moves behind them
 unfoldable pub answer_read : State → ℕ → ℕ → Outcome
 answer_read s fd count = on_open_file fd s (λ d f.
     if not (may_read d.flags) then refused NotReadable s
     else let bytes = bytes_at count d.offset f in
-        gives (Gives bytes) (with_open fd (at_offset (d.offset + length bytes) d) s))
+    gives (Gives bytes) (with_open fd (at_offset (d.offset + length bytes) d) s))
 
 -- the state after bytes are written: the offset stands behind them
 abbrev pub write_into : ℕ → Open → File → List ℕ → State → State
@@ -119,5 +119,5 @@ unfoldable pub answer_fmeta : Geometry → Bool → State → ℕ → List ℕ �
 answer_fmeta g spare s fd meta =
     if not (length meta == g.meta) then refused BadFlags s
     else on_open_file fd s (λ d f.
-        if not (may_write d.flags) then refused NotWritable s
-        else set_meta g spare s meta f)
+    if not (may_write d.flags) then refused NotWritable s
+    else set_meta g spare s meta f)

@@ -44,8 +44,8 @@ open_lowest g spare s name flags (Some fd) = open_as g spare s name flags fd (fi
 unfoldable pub answer_open : Geometry → Bool → State → List ℕ → ℕ → Outcome
 answer_open g spare s name flags =
     unless (name_refusal name) s (
-        if is_bad_flags flags then refused BadFlags s
-        else open_lowest g spare s name flags (lowest_closed s.slots))
+    if is_bad_flags flags then refused BadFlags s
+    else open_lowest g spare s name flags (lowest_closed s.slots))
 
 -- an opening that isn't refused makes the file or takes its bytes
 abbrev pub open_changes : ℕ → Option File → Bool

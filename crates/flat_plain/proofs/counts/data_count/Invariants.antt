@@ -1,5 +1,5 @@
 -- The pages of the files so far.
-use Rattle.std.proofs.Common.{◌≡◌, ◌<◌, ◌^◌, map, take, ℕ}
+use Rattle.std.proofs.Common.{◌≡◌, ◌<◌, ◌^◌, map, take}
 use Rattle.table_model.specs.Room.{data_count}
 use Rattle.flat_plain.specs.Seen.{file}
 use Rattle.flat_plain.proofs.counts.data_count.Given as goal
