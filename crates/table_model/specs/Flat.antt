@@ -1,46 +1,47 @@
 -- What a call answers on the flat state, and the state after it.
-use Rattle.std.specs.Prelude.{ℕ, List, [], length, Bool, not, nat_lt, ◌==◌, ◌||◌, if◌then◌else◌, replicate}
-use Rattle.std.specs.List.{list_any}
+use Rattle.std.specs.Prelude.{Bool, true, false, replicate, if◌then◌else◌}
 use Rattle.geometry.specs.declared.geometry.Geometry.{Geometry}
-use Rattle.table_model.specs.declared.error.FsErr.{FsErr}
-use Rattle.table_model.specs.declared.error.FsErr.TheVariants.{BadName, NameTooLong, ConflictingName, Tight, Full, Unbuilt}
-use Rattle.table_model.specs.Table.{File, State, has_name, least_id, put_file}
-use Rattle.table_model.specs.Room.{has_room}
-use Rattle.table_model.specs.Ask.{Ask, Creates}
-use Rattle.table_model.specs.Reply.{Answer, Fine, Refuses}
+use Rattle.table_model.specs.declared.error.FsErr.TheVariants.{Unbuilt}
+use Rattle.table_model.specs.Table.{State}
+use Rattle.table_model.specs.Ask.{Ask, Creates, Opens, Reads, Writes, Fills, Seeks, Tells, Truncates, Flushes, Closes, Removes, RemovesOpen, Renames, Stats, StatsOpen, NextAbove, Informs, Collects, SetsMeta, SetsMetaOpen}
+use Rattle.table_model.specs.Reply.{Fine, Counts}
+pub use Rattle.table_model.specs.Outcome.{Outcome, refused}
+pub use Rattle.table_model.specs.Names.{is_bad_name}
+pub use Rattle.table_model.specs.Files.{new_file, created}
+pub use Rattle.table_model.specs.Calls.{answer_create}
+use Rattle.table_model.specs.Outcome.{gives}
+use Rattle.table_model.specs.Opening.{answer_open}
+use Rattle.table_model.specs.Calls.{answer_read, answer_write, answer_seek, answer_tell, answer_truncate, answer_flush, answer_close, answer_remove, answer_fremove, answer_rename, answer_stat, answer_fstat, answer_next, info_of, answer_meta, answer_fmeta}
 
--- an answer and the state after it
-pub record Outcome : Type 0 where
-  pub answer : Answer
-  pub next : State
+-- The answer of each call; `spare` says whether at least two blocks are free.
+-- A collection changes no state; where it stops without its reserve depends on more than the state, and isn't said here.
+unfoldable pub full_answer : Geometry → Bool → State → Ask → Outcome
+full_answer g spare s (Creates name) = answer_create g spare s name
+full_answer g spare s (Opens name flags) = answer_open g spare s name flags
+full_answer g spare s (Reads fd count) = answer_read s fd count
+full_answer g spare s (Writes fd bytes) = answer_write g spare s fd bytes
+full_answer g spare s (Fills fd count byte) = answer_write g spare s fd (replicate count byte)
+full_answer g spare s (Seeks fd offset from) = answer_seek s fd offset from
+full_answer g spare s (Tells fd) = answer_tell s fd
+full_answer g spare s (Truncates fd size) = answer_truncate g spare s fd size
+full_answer g spare s (Flushes fd) = answer_flush s fd
+full_answer g spare s (Closes fd) = answer_close s fd
+full_answer g spare s (Removes name) = answer_remove s name
+full_answer g spare s (RemovesOpen fd) = answer_fremove s fd
+full_answer g spare s (Renames old_name new_name) = answer_rename g spare s old_name new_name
+full_answer g spare s (Stats name) = answer_stat s name
+full_answer g spare s (StatsOpen fd) = answer_fstat s fd
+full_answer g spare s (NextAbove after) = answer_next s after
+full_answer g spare s Informs = gives (Counts (info_of g s.table)) s
+full_answer g spare s Collects = gives Fine s
+full_answer g spare s (SetsMeta name meta) = answer_meta g spare s name meta
+full_answer g spare s (SetsMetaOpen fd meta) = answer_fmeta g spare s fd meta
 
--- a refusal leaves the state
-abbrev pub refused : FsErr → State → Outcome
-refused why s = record { answer = Refuses why; next = s }
-
--- an empty name, or one that holds a zero byte
-abbrev pub is_bad_name : List ℕ → Bool
-is_bad_name name = (length name == 0) || list_any (λ b. b == 0) name
-
--- a new file: of type 1, empty, with meta bytes of 0xFF
-abbrev pub new_file : Geometry → ℕ → List ℕ → File
-new_file g id name = record { id = id; name = name; kind = 1; meta = replicate g.meta 0xFF; bytes = [] }
-
--- the table with a new file of that name, under the least unused id
-abbrev pub created : Geometry → List ℕ → List File → List File
-created g name files = put_file (new_file g (least_id files) name) files
-
--- a create: `spare` says whether at least two blocks are free
-unfoldable pub answer_create : Geometry → Bool → State → List ℕ → Outcome
-answer_create g spare s name =
-    if is_bad_name name then refused BadName s
-    else if nat_lt 31 (length name) then refused NameTooLong s
-    else if has_name name s.table then refused ConflictingName s
-    else if not spare then refused Tight s
-    else if not (has_room g (created g name s.table)) then refused Full s
-    else record { answer = Fine; next = record s { table = created g name s.table } }
+-- the calls that this build has
+abbrev pub is_built : Ask → Bool
+is_built (Creates name) = true
+is_built _ = false
 
 -- the answer of a call; one that isn't built is refused, and leaves the state
 unfoldable pub answer : Geometry → Bool → State → Ask → Outcome
-answer g spare s (Creates name) = answer_create g spare s name
-answer g spare s _ = refused Unbuilt s
+answer g spare s ask = if is_built ask then full_answer g spare s ask else refused Unbuilt s

@@ -3,4 +3,12 @@ pub mod Table
 pub mod Ask
 pub mod Reply
 pub mod Room
+pub mod Names
+pub mod Descriptors
+pub mod Files
+pub mod Outcome
+pub mod Calls
+pub mod Opening
 pub mod Flat
+pub mod Steps
+pub mod Window

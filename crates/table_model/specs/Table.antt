@@ -34,6 +34,18 @@ has_name name files = list_any (λ f. same_text f.name name) files
 unfoldable pub has_id : ℕ → List File → Bool
 has_id id files = list_any (λ f. f.id == id) files
 
+-- the file of that name
+unfoldable pub file_named : List ℕ → List File → Option File
+file_named name files = find (λ f. same_text f.name name) files
+
+-- the file of that id
+unfoldable pub file_of : ℕ → List File → Option File
+file_of id files = find (λ f. f.id == id) files
+
+-- the file of the least id above that one
+unfoldable pub file_above : ℕ → List File → Option File
+file_above after files = find (λ f. nat_lt after f.id) files
+
 -- the least id from 1 that no file has
 unfoldable pub least_id : List File → ℕ
 least_id files = unwrap_or (find (λ id. not (has_id id files)) (range_with_len 1 (length files + 1))) 0

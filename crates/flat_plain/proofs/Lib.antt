@@ -1,0 +1,5 @@
+pub mod Finding
+pub mod Ids
+pub mod Putting
+pub mod Lowest
+pub mod Pieces
