@@ -23,7 +23,7 @@ use geometry::Geometry;
 use std::alloc::{AllocError, Global};
 
 // Index pages of a file of that size.
-fn index_pages(g: &Geometry, size: u32) -> u32
+pub(crate) fn index_pages(g: &Geometry, size: u32) -> u32
     ensures { result ≡ the_index_pages g.now size }
 {
     let spans = data_pages(g, size);
