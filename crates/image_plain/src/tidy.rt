@@ -146,13 +146,7 @@ fn whole_ids(
 
 // Whether a live page serves a file of the table.
 #[tactic(auto, unfolding(image_model::specs::Tidy::is_wanted), using(crate::proofs::Headed::head_known))]
-fn is_wanted_page(
-    g: &Geometry,
-    image: &[u8],
-    heads: &[Option<u32>],
-    whole: &[bool],
-    p: u32,
-) -> bool
+fn is_wanted_page(g: &Geometry, image: &[u8], heads: &[Option<u32>], whole: &[bool], p: u32) -> bool
     requires image { IsImage g.now image.now }
     requires heads { IsHeads g.now (the_live_at g.now image.now) heads.now }
     requires whole { AreWhole g.now image.now 0x8000 whole.now }
@@ -182,13 +176,7 @@ pub fn is_wanted(alloc: Global, g: &Geometry, image: &[u8], p: u32) -> Result<bo
 {
     let heads = header_pages(alloc, g, image)?;
     let whole = whole_ids(alloc, g, image, heads.as_slice())?;
-    Ok(is_wanted_page(
-        g,
-        image,
-        heads.as_slice(),
-        whole.as_slice(),
-        p,
-    ))
+    Ok(is_wanted_page(g, image, heads.as_slice(), whole.as_slice(), p))
 }
 
 // Whether an entry is in use: in a block with its magic, and neither deleted nor free.
@@ -205,13 +193,7 @@ fn is_used(g: &Geometry, image: &[u8], p: u32) -> bool
 }
 
 // Whether a check kills an entry: it is in use, and its page isn't wanted.
-fn is_killable(
-    g: &Geometry,
-    image: &[u8],
-    heads: &[Option<u32>],
-    whole: &[bool],
-    p: u32,
-) -> bool
+fn is_killable(g: &Geometry, image: &[u8], heads: &[Option<u32>], whole: &[bool], p: u32) -> bool
     requires image { IsImage g.now image.now }
     requires heads { IsHeads g.now (the_live_at g.now image.now) heads.now }
     requires whole { AreWhole g.now image.now 0x8000 whole.now }
@@ -249,13 +231,7 @@ pub fn wanted_pages(alloc: Global, g: &Geometry, image: &[u8]) -> Result<Vec<boo
     let whole = whole_ids(alloc, g, image, heads.as_slice())?;
     let mut wanted = Vec::new(alloc);
     for p in 0..g.pages() {
-        wanted.push(is_wanted_page(
-            g,
-            image,
-            heads.as_slice(),
-            whole.as_slice(),
-            p,
-        ))?;
+        wanted.push(is_wanted_page(g, image, heads.as_slice(), whole.as_slice(), p))?;
     }
     Ok(wanted)
 }
