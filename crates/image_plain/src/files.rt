@@ -119,7 +119,7 @@ pub(crate) fn data_pages(g: &Geometry, size: u32) -> u32
 
 // The first data span below the size that has no page.
 #[tactic(auto, using(crate::proofs::Ranges::range_step, crate::proofs::Ranges::range_end))]
-fn first_missing(g: &Geometry, image: &[u8], id: u16, head: &[u8]) -> Option<u32>
+pub(crate) fn first_missing(g: &Geometry, image: &[u8], id: u16, head: &[u8]) -> Option<u32>
     requires image { IsImage g.now image.now }
     requires head { length head.now ≡ g.now.page }
     ensures { result ≡ the_first_missing g.now (the_own (the_live_at g.now image.now) id) head.now }
