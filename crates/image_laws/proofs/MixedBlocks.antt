@@ -55,10 +55,16 @@ mixed-pages g image block low h =
     let x = index_some (live_at g image v.0) v.3 in
     let y = data_some (live_at g image w.0) w.3 in
     record {
-      p = v.0; q = w.0; x = x.0; y = y.0;
+      p = v.0;
+      q = w.0;
+      x = x.0;
+      y = y.0;
       p_at = (entry_in g block v.0 low v.1 v.2).0;
       q_at = (entry_in g block w.0 low w.1 w.2).0;
-      p_is = x.1; q_is = y.1; names = x.2; holds = y.2;
+      p_is = x.1;
+      q_is = y.1;
+      names = x.2;
+      holds = y.2;
     }
 
 mixed-test : (g : Geometry) (image : List ℕ) (block : ℕ) → IsMixed g (live_at g image) block → is_mixed g image block ≡ true
