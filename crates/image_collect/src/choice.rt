@@ -260,4 +260,24 @@ mod tests {
         );
         Ok(())
     }
+
+    #[test]
+    fn a_data_block_with_deleted_entries_is_chosen(rt: HostRuntime) -> Result<(), Fail> {
+        let g = Geometry::new(256, 4096, 16, 4096, 0, MagicKind::Length)?;
+        let mut image = sample(rt.alloc(), &g, 0)?;
+        put(&mut image, 0, &[1, 0, 1, 0, 1, 0, 1, 0, 1, 0, 1, 0]);
+        put(&mut image, 12, &[1, 0, 1, 0, 1, 0, 1, 0]);
+        put(&mut image, 20, &[0; 10]);
+        for span in 0..10u8 {
+            let page = span as usize + 1;
+            put(&mut image, page * 256, &[1, 0, span, 0, 0xFC]);
+        }
+        put(&mut image, 4096, &[1, 0x80]);
+        put(&mut image, 4352, &[1, 0x80, 0, 0, 0xF8]);
+        assert_eq!(rt;
+            said(rt.alloc(), &g, image.as_slice())?,
+            (true, true, 65, Some(0))
+        );
+        Ok(())
+    }
 }

@@ -49,3 +49,4 @@ pub mod RecopyTidy
 pub mod EntryInPlace
 pub mod Leading
 pub mod Truncating
+pub mod MixedBlocks

@@ -1,4 +1,5 @@
 pub mod Flash
+pub mod Blocks
 pub mod Programs
 pub mod SoundSteps
 pub mod TidySteps

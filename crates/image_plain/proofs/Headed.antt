@@ -1,14 +1,16 @@
 -- Header pages by their ids.
-use Rattle.std.proofs.Common.{◌≡◌, ℕ, ◌+◌, ◌<◌, ◌%◌, ◌==◌, ◌&&◌, Bool, true, false, List, length, set, get_or, refl, sym, subst, ◌∙◌, arith, if◌then◌else◌, replicate, ⊎_elim}
+use Rattle.std.proofs.Common.{◌≡◌, ℕ, ◌+◌, ◌<◌, ◌%◌, ◌==◌, ◌&&◌, Bool, true, false, List, [], ◌∷◌, length, set, get_or, ap, refl, sym, subst, ◌∙◌, arith, if◌then◌else◌, replicate, ⊎_elim}
 use Rattle.std.proofs.Math.Nat.{sub-zero}
-use Rattle.std.proofs.lemmas.Bool.{cases_eq, eq-eqb, ne_eqb}
-use Rattle.std.specs.Prelude.{Option, Some, None, option_and_then}
+use Rattle.std.proofs.lemmas.Bool.{cases_eq, cases_Bool, eq-eqb, ne_eqb}
+use Rattle.std.specs.Prelude.{Option, Some, None, option_and_then, find}
 use Rattle.std.proofs.lemmas.List.{get_or-set_same, get_or-set_other, get_or-replicate, length-replicate}
 use Rattle.geometry.specs.declared.geometry.Geometry.{Geometry}
 use Rattle.image_model.specs.Volume.{page_count}
 use Rattle.image_model.specs.Headers.{obj_id}
 use Rattle.image_model.specs.Live.{Live, own}
 use Rattle.image_model.specs.Files.{is_index, index_page}
+use Rattle.std.specs.List.{range_with_len}
+use Rattle.image_model.specs.Tidy.{is_number}
 use Rattle.image_plain.specs.Headed.{HeadsFrom, IsHeads}
 use Rattle.image_plain.proofs.Ranges.{range_step, range_end}
 
@@ -70,3 +72,17 @@ noted_more g live p q old new next was len each = record {
 
 pub head_known : (g : Geometry) (live : Live) (heads : List (Option ℕ)) (id : ℕ) → IsHeads g live heads → id < 0x8000 → get_or heads id None ≡ index_page g (own live id) 0
 head_known g live heads id is low = is.each id low
+
+-- the first of some numbers that passes isn't one that fails
+find_other : (test : ℕ → Bool) (xs : List ℕ) (p : ℕ) → test p ≡ false → is_number (find test xs) p ≡ false
+find_other test [] p h = refl
+find_other test (x ∷ xs) p h =
+    ⊎_elim
+    (λ (yes' : test x ≡ true). rw yes' (ne_eqb x p (λ (e : x ≡ p). let bad : true ≡ false = sym yes' ∙ ap test e ∙ h in absurd (cc))))
+    (λ (no' : test x ≡ false). rw no' (find_other test xs p h))
+    (cases_Bool (test x))
+
+-- a page that doesn't say a span isn't its index page
+pub index_other : (g : Geometry) (pages : Live) (span p : ℕ) → is_index (pages p) span ≡ false → is_number (index_page g pages span) p ≡ false
+unfolding index_page
+index_other g pages span p h = find_other (λ (q : ℕ). is_index (pages q) span) (range_with_len 0 (page_count g)) p h

@@ -70,7 +70,7 @@ fn damage(
         Ok(record) => record,
         Err(cause) => return Ok(Some((id, cause))),
     };
-    if counts(alloc, g, image, heads, n, p, record.name.as_slice())? {
+    if counts(g, image, heads, n, p, record.name.as_slice()) {
         return Ok(None);
     }
     let other = holder(alloc, g, image, heads, n, record.name.as_slice())?;

@@ -1,5 +1,5 @@
 // The pages of a file, and its bytes. Here `head` is the bytes of the file's header page.
-ghost use Rattle.std.specs.Prelude.{◌≡◌, ◌==◌, ℕ, ◌+◌, ◌*◌, ◌<◌, ◌≤◌, length, option_copied, position, IfSome, IfOk};
+ghost use Rattle.std.specs.Prelude.{◌≡◌, ◌==◌, ℕ, ◌+◌, ◌*◌, ◌<◌, ◌≤◌, ◌^◌, length, option_copied, position, IfSome, IfOk};
 ghost use Rattle.image_model.specs.Places.{IsImage};
 ghost use Rattle.image_model.specs.Headers.{size_of as the_size, name_of as the_name};
 ghost use Rattle.image_model.specs.Live.{live_at as the_live_at, own as the_own};
@@ -119,7 +119,7 @@ pub(crate) fn data_pages(g: &Geometry, size: u32) -> u32
 
 // The first data span below the size that has no page.
 #[tactic(auto, using(crate::proofs::Ranges::range_step, crate::proofs::Ranges::range_end))]
-fn first_missing(g: &Geometry, image: &[u8], id: u16, head: &[u8]) -> Option<u32>
+pub(crate) fn first_missing(g: &Geometry, image: &[u8], id: u16, head: &[u8]) -> Option<u32>
     requires image { IsImage g.now image.now }
     requires head { length head.now ≡ g.now.page }
     ensures { result ≡ the_first_missing g.now (the_own (the_live_at g.now image.now) id) head.now }
@@ -155,7 +155,8 @@ fn bytes_of(
 ) -> Result<Vec<u8>, AllocError>
     requires image { IsImage g.now image.now }
     requires head { length head.now ≡ g.now.page }
-    ensures { IfOk result (λ bytes. bytes.items ≡ the_bytes g.now (the_own (the_live_at g.now image.now) id) head.now) }
+    ensures value { IfOk result (λ bytes. bytes.items ≡ the_bytes g.now (the_own (the_live_at g.now image.now) id) head.now) }
+    ensures small { IfOk result (λ bytes. length bytes.items < 2 ^ 32) }
 {
     let mut bytes = Vec::new(alloc);
     for span in 0..data_pages(g, size_of(head)) {

@@ -9,6 +9,7 @@ mod files;
 mod headers;
 mod pages;
 mod record;
+mod room;
 #[cfg(test)]
 mod rows;
 mod table;
@@ -24,6 +25,7 @@ pub use damaged::damaged_of;
 pub use files::{data_page, index_page, name_of, size_of};
 pub use pages::{entry_of, erase_count, has_magic, holds_volume, is_live, live_at, own, page_of};
 pub use record::Record;
+pub use room::{Room, room_of};
 pub use table::table_of;
 pub use tidiness::is_tidy;
 pub use tidy::{is_wanted, killed_of, wanted_pages};

@@ -1,3 +1,5 @@
+ghost use Rattle.std.specs.Prelude.{◌<◌, ◌^◌, length};
+
 /// A file of the table, with bytes of its own.
 #[derive(Debug, Drop)]
 pub struct Record {
@@ -11,4 +13,5 @@ pub struct Record {
     pub meta: Vec<u8>,
     /// The file's bytes.
     pub bytes: Vec<u8>,
+    ghost small: { length bytes.items < 2 ^ 32 },
 }

@@ -286,3 +286,117 @@ fn interrupted_steps_leave_what_was_there(rt: HostRuntime) -> Result<(), Fail> {
         ("no header page", b"", b"", 0, [0, 3, 14, 0]),
     )
 }
+
+// So many files of that many bytes.
+fn files_of(alloc: Global, files: u16, size: u16) -> Result<Vec<Record>, AllocError> {
+    let mut table = Vec::new(alloc);
+    for id in 0..files {
+        table.push(Record {
+            id,
+            name: Vec::new(alloc),
+            kind: 1,
+            meta: Vec::new(alloc),
+            bytes: vec![in alloc; 0u8; size as usize]?,
+        })?;
+    }
+    Ok(table)
+}
+
+#[test]
+fn a_table_has_room_while_one_page_of_each_kind_can_be_added(rt: HostRuntime) -> Result<(), Fail> {
+    let g = Geometry::new(128, 1024, 6, 1024, 0, MagicKind::Length)?;
+    for (files, size, index_pages, data_pages, fits) in [
+        (1, 2460, 1, 20, true),
+        (1, 2461, 1, 21, false),
+        (20, 0, 20, 0, true),
+        (21, 0, 21, 0, false),
+    ] {
+        let table = files_of(rt.alloc(), files, size)?;
+        let wanted = Room {
+            index_pages,
+            data_pages,
+            fits,
+        };
+        assert_eq!(rt;
+            room_of(&g, table.as_slice()),
+            wanted,
+            "{files} files of {size} bytes"
+        );
+    }
+    Ok(())
+}
+
+// Blocks that lack their magic, and whether the image is tidy.
+fn magics_of(alloc: Global, g: &Geometry, image: &[u8]) -> Result<Option<(u32, bool)>, AllocError> {
+    if !holds_volume(g, image) {
+        return Ok(None);
+    }
+    Ok(Some((spoiled_blocks(g, image), is_tidy(alloc, g, image)?)))
+}
+
+#[test]
+fn blocks_without_magic_leave_the_files_of_others(rt: HostRuntime) -> Result<(), Fail> {
+    let g = Geometry::new(256, 4096, 16, 4096, 0, MagicKind::Length)?;
+    let mut image = blocks_with_magic(rt.alloc(), &g, &[0, 0])?;
+    put_hello(&mut image);
+    assert_eq!(rt;
+        magics_of(rt.alloc(), &g, image.as_slice())?,
+        Some((0, true))
+    );
+    put(&mut image, 20480, &[0x5A; 4096]);
+    check_row(
+        &rt,
+        rt.alloc(),
+        &g,
+        image.as_slice(),
+        ("a cut in an erase", b"a", b"", 5, [0, 0, 13, 0]),
+    )?;
+    for (byte, count, spoiled) in [(0x5A, 4096, 2), (0xFF, 65536, 16), (0, 65536, 16)] {
+        let scrambled = vec![in rt.alloc(); byte; count]?;
+        put(
+            &mut image,
+            65536usize.saturating_sub(count),
+            scrambled.as_slice(),
+        );
+        assert_eq!(rt;
+            magics_of(rt.alloc(), &g, image.as_slice())?,
+            Some((spoiled, false)),
+            "{count} bytes of {byte}"
+        );
+    }
+    Ok(())
+}
+
+#[test]
+fn a_size_counts_where_pages_stand_behind_it(rt: HostRuntime) -> Result<(), Fail> {
+    let g = Geometry::new(256, 4096, 16, 4096, 0, MagicKind::Length)?;
+    let mut image = blocks_with_magic(rt.alloc(), &g, &[0, 0])?;
+    put_new_file(&mut image);
+    put(&mut image, 264, &[0xFE]);
+    check_row(
+        &rt,
+        rt.alloc(),
+        &g,
+        image.as_slice(),
+        ("a size without pages", b"", b"", 0, [1, 1, 15, 0]),
+    )?;
+    assert_eq!(rt;
+        first_cause(rt.alloc(), &g, image.as_slice())?,
+        Some((1, Damage::Missing(0)))
+    );
+    put_hello(&mut image);
+    put(&mut image, 0, &[0, 0, 0, 0, 1, 0x80]);
+    put(&mut image, 516, &[0x78]);
+    put(&mut image, 4362, b"abc");
+    put(&mut image, 768, &NEW_HEADER);
+    put(&mut image, 776, &[8, 0, 0, 0]);
+    put(&mut image, 782, &[0; 31]);
+    put(&mut image, 813, &[0x11, 0]);
+    check_row(
+        &rt,
+        rt.alloc(),
+        &g,
+        image.as_slice(),
+        ("bytes behind the old end", b"a", b"", 8, [0, 0, 14, 0]),
+    )
+}

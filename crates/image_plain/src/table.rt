@@ -8,44 +8,61 @@ ghost use Rattle.image_plain.specs.Seen.{seen_at, file};
 ghost use Rattle.image_plain.specs.Headed.{IsHeads};
 
 use crate::Record;
-use crate::files::found;
-use crate::headers::header_pages;
+use crate::files::{first_missing, found, name_of};
+use crate::headers::{header_of, header_pages};
+use crate::pages::own;
 use geometry::Geometry;
 use image_model::Damage;
 use std::alloc::{AllocError, Global};
 
-// A whole file of that name has its header page before page p.
-fn is_before(at: &Option<(u32, Result<Record, Damage>)>, p: u32, name: &[u8]) -> bool
-    ensures { result ≡ the_before (seen_at at.now) p name.now }
+// Whether a whole file of that name has its header page before page p.
+#[tactic(auto, unfolding(image_model::specs::Files::found, image_model::specs::Tables::has_of, image_model::specs::Files::judged), using(crate::proofs::Headed::head_known))]
+fn is_before(
+    g: &Geometry,
+    image: &[u8],
+    heads: &[Option<u32>],
+    id: u16,
+    p: u32,
+    name: &[u8],
+) -> bool
+    requires image { IsImage g.now image.now }
+    requires heads { IsHeads g.now (the_live_at g.now image.now) heads.now }
+    requires id { id < 0x8000 }
+    ensures { result ≡ the_before (the_has g.now (the_live_at g.now image.now) id) p name.now }
 {
-    match at {
-        Some((q, Ok(r))) => *q < p && r.name.as_slice() == name,
-        _ => false,
+    let Some(q) = header_of(heads, id) else {
+        return false;
+    };
+    let Some(head) = own(g, image, id, q) else {
+        return false;
+    };
+    match name_of(head) {
+        Some(other) => q < p && other == name && first_missing(g, image, id, head).is_none(),
+        None => false,
     }
 }
 
 // Whether a file counts, of those that have its name among the ids from 1 to n.
 #[tactic(auto, unfolding(image_model::specs::Tables::counts), using(crate::proofs::Ranges::range_step, crate::proofs::Ranges::range_end))]
 pub(crate) fn counts(
-    alloc: Global,
     g: &Geometry,
     image: &[u8],
     heads: &[Option<u32>],
     n: u16,
     p: u32,
     name: &[u8],
-) -> Result<bool, AllocError>
+) -> bool
     requires image { IsImage g.now image.now }
     requires heads { IsHeads g.now (the_live_at g.now image.now) heads.now }
     requires fits { n ≤ 0x7FFF }
-    ensures { IfOk result (λ yes. yes ≡ the_counts (the_has g.now (the_live_at g.now image.now)) n p name.now) }
+    ensures { result ≡ the_counts (the_has g.now (the_live_at g.now image.now)) n p name.now }
 {
     for id in 1..n + 1 {
-        if is_before(&found(alloc, g, image, heads, id)?, p, name) {
-            return Ok(false);
+        if is_before(g, image, heads, id, p, name) {
+            return false;
         }
     }
-    Ok(true)
+    true
 }
 
 // The file of an id, where it counts.
@@ -65,7 +82,7 @@ pub(crate) fn counted(
 {
     match found(alloc, g, image, heads, id)? {
         Some((p, Ok(r))) => {
-            if counts(alloc, g, image, heads, n, p, r.name.as_slice())? {
+            if counts(g, image, heads, n, p, r.name.as_slice()) {
                 Ok(Some(r))
             } else {
                 Ok(None)

@@ -6,13 +6,13 @@ ghost use Rattle.image_model.specs.Volume.{page_count, per_block, lookups, entri
 ghost use Rattle.image_model.specs.Places.{IsImage, is_entry_page as the_entry_page};
 ghost use Rattle.image_model.specs.Headers.{size_of as the_size};
 ghost use Rattle.image_model.specs.Live.{live_at as the_live_at, own as the_own};
-ghost use Rattle.image_model.specs.Files.{index_page as the_index_page, entry_number as the_entry_number, data_of};
+ghost use Rattle.image_model.specs.Files.{is_index, index_page as the_index_page, entry_number as the_entry_number, data_of};
 ghost use Rattle.image_model.specs.Tables.{has_of as the_has, counted as the_counted};
 ghost use Rattle.image_model.specs.Tidy.{is_number, serves as the_serves, is_wanted as the_wanted};
 ghost use Rattle.image_model.specs.Killed.{is_used as the_used, is_killable as the_killable, killed_of as the_killed};
 ghost use Rattle.table_model.specs.Room.{data_pages as the_data_pages, index_pages as the_index_pages};
 ghost use Rattle.image_plain.specs.Headed.{IsHeads};
-ghost use Rattle.image_plain.specs.Wanting.{AreWanted};
+ghost use Rattle.image_plain.specs.Wanting.{AreWanted, is_whole as the_whole, AreWhole};
 
 use crate::blocks::is_free_entry;
 use crate::files::{data_pages, entry_number, index_page, size_of};
@@ -23,7 +23,7 @@ use geometry::Geometry;
 use std::alloc::{AllocError, Global};
 
 // Index pages of a file of that size.
-fn index_pages(g: &Geometry, size: u32) -> u32
+pub(crate) fn index_pages(g: &Geometry, size: u32) -> u32
     ensures { result ≡ the_index_pages g.now size }
 {
     let spans = data_pages(g, size);
@@ -35,6 +35,25 @@ fn index_pages(g: &Geometry, size: u32) -> u32
     }
 }
 
+// Whether a page is a live index page of that span.
+fn is_index_of(g: &Geometry, image: &[u8], id: u16, span: u32, p: u32) -> bool
+    requires { IsImage g.now image.now }
+    ensures { result ≡ is_index (the_own (the_live_at g.now image.now) id p) span }
+{
+    match own(g, image, id, p) {
+        Some(page) => word(page, 0) >= 0x8000 && word(page, 2) as u32 == span,
+        None => false,
+    }
+}
+
+// Whether that page is the index page of a span.
+fn is_index_number(g: &Geometry, image: &[u8], id: u16, span: u32, p: u32) -> bool
+    requires { IsImage g.now image.now }
+    ensures { result ≡ is_number (the_index_page g.now (the_own (the_live_at g.now image.now) id) span) p }
+{
+    is_index_of(g, image, id, span, p) && index_page(g, image, id, span) == Some(p)
+}
+
 // Whether a page is an index page, of a span below n.
 #[tactic(auto, using(crate::proofs::Ranges::range_step, crate::proofs::Ranges::range_end))]
 fn serves_index(g: &Geometry, image: &[u8], id: u16, n: u32, p: u32) -> bool
@@ -42,7 +61,7 @@ fn serves_index(g: &Geometry, image: &[u8], id: u16, n: u32, p: u32) -> bool
     ensures { result ≡ list_any (λ j. is_number (the_index_page g.now (the_own (the_live_at g.now image.now) id) j) p) (range_with_len 0 n) }
 {
     for span in 0..n {
-        if index_page(g, image, id, span) == Some(p) {
+        if is_index_number(g, image, id, span, p) {
             return true;
         }
     }
@@ -68,7 +87,7 @@ fn serves_data(g: &Geometry, image: &[u8], id: u16, head: &[u8], n: u32, p: u32)
     ensures { result ≡ list_any (λ span. is_number (the_entry_number g.now (the_own (the_live_at g.now image.now) id) head.now span) p && is_some (data_of (the_own (the_live_at g.now image.now) id p) span)) (range_with_len 0 n) }
 {
     for span in 0..n {
-        if entry_number(g, image, id, head, span) == Some(p) && is_data(g, image, id, span, p) {
+        if is_data(g, image, id, span, p) && entry_number(g, image, id, head, span) == Some(p) {
             return true;
         }
     }
@@ -87,33 +106,66 @@ fn serves(g: &Geometry, image: &[u8], id: u16, head: &[u8], p: u32) -> bool
         || serves_data(g, image, id, head, data_pages(g, size), p)
 }
 
-// Whether a live page serves a file of the table.
-#[tactic(auto, unfolding(image_model::specs::Tidy::is_wanted), using(crate::proofs::Headed::head_known))]
-fn is_wanted_page(
+// Whether an id has a file in the table.
+fn is_whole(
     alloc: Global,
     g: &Geometry,
     image: &[u8],
     heads: &[Option<u32>],
-    p: u32,
+    id: u16,
 ) -> Result<bool, AllocError>
     requires image { IsImage g.now image.now }
     requires heads { IsHeads g.now (the_live_at g.now image.now) heads.now }
-    ensures { IfOk result (λ yes. yes ≡ the_wanted g.now image.now p) }
+    requires id { id < 0x8000 }
+    ensures { IfOk result (λ yes. yes ≡ the_whole g.now image.now id) }
+{
+    match counted(alloc, g, image, heads, 0x7FFF, id)? {
+        Some(_record) => Ok(true),
+        None => Ok(false),
+    }
+}
+
+// Which ids have a file in the table.
+#[tactic(auto, using(crate::proofs::Wanting::whole_none, crate::proofs::Wanting::whole_more))]
+fn whole_ids(
+    alloc: Global,
+    g: &Geometry,
+    image: &[u8],
+    heads: &[Option<u32>],
+) -> Result<Vec<bool>, AllocError>
+    requires image { IsImage g.now image.now }
+    requires heads { IsHeads g.now (the_live_at g.now image.now) heads.now }
+    ensures { IfOk result (λ whole. AreWhole g.now image.now 0x8000 whole.items) }
+{
+    let mut whole = Vec::new(alloc);
+    for id in 0..0x8000u16 {
+        whole.push(is_whole(alloc, g, image, heads, id)?)?;
+    }
+    Ok(whole)
+}
+
+// Whether a live page serves a file of the table.
+#[tactic(auto, unfolding(image_model::specs::Tidy::is_wanted), using(crate::proofs::Headed::head_known))]
+fn is_wanted_page(g: &Geometry, image: &[u8], heads: &[Option<u32>], whole: &[bool], p: u32) -> bool
+    requires image { IsImage g.now image.now }
+    requires heads { IsHeads g.now (the_live_at g.now image.now) heads.now }
+    requires whole { AreWhole g.now image.now 0x8000 whole.now }
+    ensures { result ≡ the_wanted g.now image.now p }
 {
     let Some(page) = live_at(g, image, p) else {
-        return Ok(false);
+        return false;
     };
     let id = word(page, 0) % 0x8000;
-    let Some(_record) = counted(alloc, g, image, heads, 0x7FFF, id)? else {
-        return Ok(false);
-    };
+    if !whole[id as usize] {
+        return false;
+    }
     let Some(h) = header_of(heads, id) else {
-        return Ok(false);
+        return false;
     };
     let Some(head) = own(g, image, id, h) else {
-        return Ok(false);
+        return false;
     };
-    Ok(serves(g, image, id, head, p))
+    serves(g, image, id, head, p)
 }
 
 /// Whether a page is wanted: live, and an index page or a data page of a file of the table, of a span below the file's
@@ -123,7 +175,8 @@ pub fn is_wanted(alloc: Global, g: &Geometry, image: &[u8], p: u32) -> Result<bo
     ensures { IfOk result (λ yes. yes ≡ the_wanted g.now image.now p) }
 {
     let heads = header_pages(alloc, g, image)?;
-    is_wanted_page(alloc, g, image, heads.as_slice(), p)
+    let whole = whole_ids(alloc, g, image, heads.as_slice())?;
+    Ok(is_wanted_page(g, image, heads.as_slice(), whole.as_slice(), p))
 }
 
 // Whether an entry is in use: in a block with its magic, and neither deleted nor free.
@@ -140,22 +193,14 @@ fn is_used(g: &Geometry, image: &[u8], p: u32) -> bool
 }
 
 // Whether a check kills an entry: it is in use, and its page isn't wanted.
-fn is_killable(
-    alloc: Global,
-    g: &Geometry,
-    image: &[u8],
-    heads: &[Option<u32>],
-    p: u32,
-) -> Result<bool, AllocError>
+fn is_killable(g: &Geometry, image: &[u8], heads: &[Option<u32>], whole: &[bool], p: u32) -> bool
     requires image { IsImage g.now image.now }
     requires heads { IsHeads g.now (the_live_at g.now image.now) heads.now }
+    requires whole { AreWhole g.now image.now 0x8000 whole.now }
     requires number { p < page_count g.now }
-    ensures { IfOk result (λ yes. yes ≡ the_killable g.now image.now p) }
+    ensures { result ≡ the_killable g.now image.now p }
 {
-    if !is_used(g, image, p) {
-        return Ok(false);
-    }
-    Ok(!is_wanted_page(alloc, g, image, heads, p)?)
+    is_used(g, image, p) && !is_wanted_page(g, image, heads, whole, p)
 }
 
 /// How many entries a check kills: those in use whose pages aren't wanted.
@@ -165,9 +210,10 @@ pub fn killed_of(alloc: Global, g: &Geometry, image: &[u8]) -> Result<u32, Alloc
     ensures { IfOk result (λ count. count ≡ the_killed g.now image.now) }
 {
     let heads = header_pages(alloc, g, image)?;
+    let whole = whole_ids(alloc, g, image, heads.as_slice())?;
     let mut count = 0;
     for p in 0..g.pages() {
-        let killed = is_killable(alloc, g, image, heads.as_slice(), p)?;
+        let killed = is_killable(g, image, heads.as_slice(), whole.as_slice(), p);
         if killed {
             count += 1;
         }
@@ -182,9 +228,10 @@ pub fn wanted_pages(alloc: Global, g: &Geometry, image: &[u8]) -> Result<Vec<boo
     ensures { IfOk result (λ wanted. AreWanted g.now image.now (page_count g.now) wanted.items) }
 {
     let heads = header_pages(alloc, g, image)?;
+    let whole = whole_ids(alloc, g, image, heads.as_slice())?;
     let mut wanted = Vec::new(alloc);
     for p in 0..g.pages() {
-        wanted.push(is_wanted_page(alloc, g, image, heads.as_slice(), p)?)?;
+        wanted.push(is_wanted_page(g, image, heads.as_slice(), whole.as_slice(), p))?;
     }
     Ok(wanted)
 }

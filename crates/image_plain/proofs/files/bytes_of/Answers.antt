@@ -12,7 +12,7 @@ loop-span-preserved c =
     grind (arith, common_steps) in
     flat_map_step _ _ _ _ _ _ c.loop-span-test.true c.loop-span.invariant more
 
-pub returns : goal.returns
-returns c =
+pub returns-clause-value : goal.returns-clause-value
+returns-clause-value c =
     let all = flat_map_end _ _ _ _ _ c.loop-span-test.false c.loop-span.invariant in
     rw (c.truncate.ensures.items, all, c.size_of-2.ensures) refl
