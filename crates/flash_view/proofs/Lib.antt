@@ -1,2 +1,5 @@
 pub mod Inside
 pub mod Looking
+pub mod Parts
+pub mod Heads
+pub mod Finds
