@@ -3,3 +3,4 @@ pub mod Looking
 pub mod Parts
 pub mod Heads
 pub mod Finds
+pub mod Names

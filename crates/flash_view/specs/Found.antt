@@ -1,11 +1,9 @@
 -- Ids and names that are found by their header pages.
-use Rattle.std.specs.Prelude.{◌≡◌, ℕ, ◌%◌, ◌<◌, ◌≤◌, List, Bool, true, false, ◌&&◌, Option, Some, None, is_some, find}
+use Rattle.std.specs.Prelude.{◌≡◌, ℕ, ◌%◌, ◌<◌, ◌≤◌, List, Bool, true, false, ◌&&◌, Option, Some, None, is_some, find, option_and_then, if◌then◌else◌}
 use Rattle.std.specs.List.{range_with_len}
-use Rattle.std.specs.Option.{option_map}
 use Rattle.geometry.specs.declared.geometry.Geometry.{Geometry}
 use Rattle.table_model.specs.Table.{same_text}
 use Rattle.image_model.specs.Volume.{page_count}
-use Rattle.image_model.specs.Places.{page_of}
 use Rattle.image_model.specs.Headers.{obj_id, name_of}
 use Rattle.image_model.specs.Live.{live_at, own}
 use Rattle.image_model.specs.Files.{is_index, index_page}
@@ -34,12 +32,16 @@ abbrev pub is_name : Option (List ℕ) → List ℕ → Bool
 is_name None name = false
 is_name (Some found) name = same_text found name
 
--- a live header page that holds this name
-abbrev pub holds_name : Option (List ℕ) → List ℕ → Bool
-holds_name None name = false
-holds_name (Some page) name = is_index (Some page) 0 && is_name (name_of page) name
+-- the id whose header page this live page is, where it is one
+abbrev pub headed : Option (List ℕ) → Option ℕ
+headed None = None
+headed (Some page) = if is_index (Some page) 0 then Some (obj_id page % 0x8000) else None
+
+-- that id, where the page holds this name too
+abbrev pub named_at : Option (List ℕ) → List ℕ → Option ℕ
+named_at None name = None
+named_at (Some page) name = if is_name (name_of page) name then headed (Some page) else None
 
 -- the id of the first live header page that holds this name, whether the file is whole or damaged
 unfoldable pub first_named : Geometry → List ℕ → List ℕ → Option ℕ
-first_named g image name =
-    option_map (λ p. obj_id (page_of g image p) % 0x8000) (find (λ p. holds_name (live_at g image p) name) (range_with_len 0 (page_count g)))
+first_named g image name = option_and_then (λ p. named_at (live_at g image p) name) (find (λ p. is_some (named_at (live_at g image p) name)) (range_with_len 0 (page_count g)))

@@ -9,12 +9,23 @@ ghost use Rattle.image_model.specs.Live.{live_at, own, is_live as the_live};
 ghost use Rattle.image_model.specs.Files.{is_index, index_page};
 ghost use Rattle.flash_view.specs.Places.{IsEntryPage};
 ghost use Rattle.flash_view.specs.Same.{OnlyLooks};
-ghost use Rattle.flash_view.specs.Found.{NextId, holds_name, is_name, first_named};
+ghost use Rattle.flash_view.specs.Found.{NextId, headed, is_name, named_at, first_named};
 
 use crate::View;
 use crate::places::{block_of, is_entry_page};
 use nor_core::{Failed, Nor, NorState};
 use page_layout::{PageHeader, name_of};
+
+// The id of an object by the header of its header page.
+fn headed_id(head: PageHeader) -> Option<u16>
+    ensures { result ≡ (if names_index head && (head.span == 0) then Some (head.id % 0x8000) else None) }
+{
+    if head.is_index() && head.span == 0 {
+        Some(head.object())
+    } else {
+        None
+    }
+}
 
 // Whether a header is that of an index page of an object and a span.
 fn is_of(head: PageHeader, id: u16, span: u16) -> bool
@@ -109,26 +120,45 @@ impl<'b, N: Nor> View<'b, N> {
     pub fn find_name(&mut self, name: &[u8]) -> Result<Option<u16>, Failed>
         ensures cause { OnErr result (Rose (N.faults self.old.nor.now) (N.faults self.new.nor.now)) }
         ensures looks { OnlyLooks self.old self.new }
+        ensures told { N.tells self.old.nor.now → IfOk result (λ id. id ≡ first_named self.old.geometry (N.bytes self.old.nor.now) name.now) }
     {
         for page in 0..self.geometry.pages() as u16 {
-            if let Some(id) = self.header_id(page)?
-                && self.has_name(page, name)?
-            {
+            if let Some(id) = self.named_id(page, name)? {
                 return Ok(Some(id));
             }
         }
         Ok(None)
     }
 
+    // The id of a live header page that holds that name.
+    #[tactic(auto, using(crate::proofs::Names::named_by, crate::proofs::Names::unnamed_by))]
+    fn named_id(&mut self, page: u16, name: &[u8]) -> Result<Option<u16>, Failed>
+        requires { page < page_count self.old.geometry }
+        ensures cause { OnErr result (Rose (N.faults self.old.nor.now) (N.faults self.new.nor.now)) }
+        ensures looks { OnlyLooks self.old self.new }
+        ensures told { N.tells self.old.nor.now → IfOk result (λ id. id ≡ named_at (live_at self.old.geometry (N.bytes self.old.nor.now) page) name.now) }
+    {
+        let Some(id) = self.header_id(page)? else {
+            return Ok(None);
+        };
+        Ok(if self.has_name(page, name)? {
+            Some(id)
+        } else {
+            None
+        })
+    }
+
     // The id of a live header page.
+    #[tactic(auto, using(crate::proofs::Names::headed_by, crate::proofs::Names::unheaded_by))]
     fn header_id(&mut self, page: u16) -> Result<Option<u16>, Failed>
         requires { page < page_count self.old.geometry }
         ensures cause { OnErr result (Rose (N.faults self.old.nor.now) (N.faults self.new.nor.now)) }
         ensures looks { OnlyLooks self.old self.new }
+        ensures told { N.tells self.old.nor.now → IfOk result (λ id. id ≡ headed (live_at self.old.geometry (N.bytes self.old.nor.now) page)) }
     {
         Ok(match self.live_header(page)? {
-            Some(head) if head.is_index() && head.span == 0 => Some(head.object()),
-            _ => None,
+            Some(head) => headed_id(head),
+            None => None,
         })
     }
 
