@@ -4,3 +4,4 @@ pub mod Parts
 pub mod Heads
 pub mod Finds
 pub mod Names
+pub mod Least

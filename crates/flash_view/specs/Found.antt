@@ -1,5 +1,5 @@
 -- Ids and names that are found by their header pages.
-use Rattle.std.specs.Prelude.{◌≡◌, ℕ, ◌%◌, ◌<◌, ◌≤◌, List, Bool, true, false, ◌&&◌, Option, Some, None, is_some, find, option_and_then, if◌then◌else◌}
+use Rattle.std.specs.Prelude.{◌≡◌, ℕ, ◌%◌, ◌<◌, ◌≤◌, List, Bool, true, false, nat_lt, Option, Some, None, is_some, find, option_and_then, if◌then◌else◌}
 use Rattle.std.specs.List.{range_with_len}
 use Rattle.geometry.specs.declared.geometry.Geometry.{Geometry}
 use Rattle.table_model.specs.Table.{same_text}
@@ -45,3 +45,9 @@ named_at (Some page) name = if is_name (name_of page) name then headed (Some pag
 -- the id of the first live header page that holds this name, whether the file is whole or damaged
 unfoldable pub first_named : Geometry → List ℕ → List ℕ → Option ℕ
 first_named g image name = option_and_then (λ p. named_at (live_at g image p) name) (find (λ p. is_some (named_at (live_at g image p) name)) (range_with_len 0 (page_count g)))
+
+-- the lesser of two ids, where the second counts if it is above `after`
+abbrev pub lower : ℕ → Option ℕ → Option ℕ → Option ℕ
+lower after least None = least
+lower after None (Some id) = if nat_lt after id then Some id else None
+lower after (Some least) (Some id) = if nat_lt after id then (if nat_lt id least then Some id else Some least) else Some least

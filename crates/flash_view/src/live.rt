@@ -9,12 +9,23 @@ ghost use Rattle.image_model.specs.Live.{live_at, own, is_live as the_live};
 ghost use Rattle.image_model.specs.Files.{is_index, index_page};
 ghost use Rattle.flash_view.specs.Places.{IsEntryPage};
 ghost use Rattle.flash_view.specs.Same.{OnlyLooks};
-ghost use Rattle.flash_view.specs.Found.{NextId, headed, is_name, named_at, first_named};
+ghost use Rattle.flash_view.specs.Found.{NextId, headed, lower as the_lower, is_name, named_at, first_named};
 
 use crate::View;
 use crate::places::{block_of, is_entry_page};
 use nor_core::{Failed, Nor, NorState};
 use page_layout::{PageHeader, name_of};
+
+// The lesser of two ids, of which the second counts only where it is above `after`.
+fn lower(after: u16, least: Option<u16>, found: Option<u16>) -> Option<u16>
+    ensures { result ≡ the_lower after least found }
+{
+    match (least, found) {
+        (_, None) => least,
+        (None, Some(id)) => if id > after { Some(id) } else { None },
+        (Some(old), Some(id)) => if id > after && id < old { Some(id) } else { Some(old) },
+    }
+}
 
 // The id of an object by the header of its header page.
 fn headed_id(head: PageHeader) -> Option<u16>
@@ -103,15 +114,12 @@ impl<'b, N: Nor> View<'b, N> {
     pub fn next_id(&mut self, after: u16) -> Result<Option<u16>, Failed>
         ensures cause { OnErr result (Rose (N.faults self.old.nor.now) (N.faults self.new.nor.now)) }
         ensures looks { OnlyLooks self.old self.new }
+        ensures told { N.tells self.old.nor.now → IfOk result (λ id. NextId self.old.geometry (N.bytes self.old.nor.now) after id) }
     {
         let mut least = None;
         for page in 0..self.geometry.pages() as u16 {
-            if let Some(id) = self.header_id(page)?
-                && id > after
-                && least.is_none_or(|found| id < found)
-            {
-                least = Some(id);
-            }
+            let found = self.header_id(page)?;
+            least = lower(after, least, found);
         }
         Ok(least)
     }
