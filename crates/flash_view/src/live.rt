@@ -23,7 +23,11 @@ fn lower(after: u16, least: Option<u16>, found: Option<u16>) -> Option<u16>
     match (least, found) {
         (_, None) => least,
         (None, Some(id)) => if id > after { Some(id) } else { None },
-        (Some(old), Some(id)) => if id > after && id < old { Some(id) } else { Some(old) },
+        (Some(old), Some(id)) => if id > after && id < old {
+            Some(id)
+        } else {
+            Some(old)
+        },
     }
 }
 
