@@ -1,35 +1,63 @@
-ghost use Rattle.std.specs.Prelude.{◌≡◌, ◌<◌, OnErr, IfOk, IfSome};
+ghost use Rattle.std.specs.Prelude.{◌≡◌, ◌<◌, ◌%◌, ◌==◌, ◌&&◌, OnErr, IfOk, IfSome, Some, None, if◌then◌else◌};
+ghost use Rattle.std.specs.Option.{option_map};
 ghost use Rattle.geometry.specs.Numbers.{page_count};
 ghost use Rattle.nor_core.specs.Count.{Rose};
+ghost use Rattle.page_layout.specs.Layout.{header_at, names_index};
+ghost use Rattle.image_model.specs.Places.{page_of};
+ghost use Rattle.image_model.specs.Headers.{obj_id, name_of as the_name_of};
+ghost use Rattle.image_model.specs.Live.{live_at, own, is_live as the_live};
+ghost use Rattle.image_model.specs.Files.{is_index, index_page};
 ghost use Rattle.flash_view.specs.Places.{IsEntryPage};
 ghost use Rattle.flash_view.specs.Same.{OnlyLooks};
+ghost use Rattle.flash_view.specs.Found.{NextId, headed, lower as the_lower, is_name, named_at, first_named};
 
 use crate::View;
 use crate::places::{block_of, is_entry_page};
 use nor_core::{Failed, Nor, NorState};
-use page_layout::{INDEX_BIT, PageHeader, name_of};
+use page_layout::{PageHeader, name_of};
 
-// Whether a header is that of a finished page: of a file or an object, written, finished and not deleted,
-// an index page exactly where its id says so, and no header page of an object that is being removed.
-fn is_finished(head: PageHeader) -> bool {
-    let is_index = head.id >= INDEX_BIT;
-    let id = head.id % INDEX_BIT;
-    id != 0
-        && head.id != 0xFFFF
-        && head.flags.is_used()
-        && head.flags.is_final()
-        && !head.flags.is_deleted()
-        && head.flags.is_index() == is_index
-        && !(is_index && head.span == 0 && head.flags.is_removing())
+// The lesser of two ids, of which the second counts only where it is above `after`.
+fn lower(after: u16, least: Option<u16>, found: Option<u16>) -> Option<u16>
+    ensures { result ≡ the_lower after least found }
+{
+    match (least, found) {
+        (_, None) => least,
+        (None, Some(id)) => if id > after { Some(id) } else { None },
+        (Some(old), Some(id)) => if id > after && id < old {
+            Some(id)
+        } else {
+            Some(old)
+        },
+    }
+}
+
+// The id of an object by the header of its header page.
+fn headed_id(head: PageHeader) -> Option<u16>
+    ensures { result ≡ (if names_index head && (head.span == 0) then Some (head.id % 0x8000) else None) }
+{
+    if head.is_index() && head.span == 0 {
+        Some(head.object())
+    } else {
+        None
+    }
+}
+
+// Whether a header is that of an index page of an object and a span.
+fn is_of(head: PageHeader, id: u16, span: u16) -> bool
+    ensures { result ≡ ((head.id % 0x8000 == id) && (names_index head && (head.span == span))) }
+{
+    head.object() == id && head.is_index() && head.span == span
 }
 
 impl<'b, N: Nor> View<'b, N> {
     /// The header of a page, if the page is live: in a block with its magic, finished, not deleted, and
     /// named by its entry.
+    #[tactic(auto, unfolding(image_model::specs::Live::live_at, image_model::specs::Live::is_live, image_model::specs::Places::is_entry_page, image_model::specs::Volume::page_count, image_model::specs::Volume::per_block, image_model::specs::Volume::lookups), using(crate::proofs::Parts::finished_is))]
     pub fn live_header(&mut self, page: u16) -> Result<Option<PageHeader>, Failed>
         requires { page < page_count self.old.geometry }
         ensures cause { OnErr result (Rose (N.faults self.old.nor.now) (N.faults self.new.nor.now)) }
         ensures looks { OnlyLooks self.old self.new }
+        ensures told { N.tells self.old.nor.now → IfOk result (λ head. head ≡ option_map header_at (live_at self.old.geometry (N.bytes self.old.nor.now) page)) }
     {
         let g = self.geometry;
         if !is_entry_page(&g, page) {
@@ -40,17 +68,35 @@ impl<'b, N: Nor> View<'b, N> {
         }
         let entry = self.entry(page)?;
         let head = self.header(page)?;
-        let live = entry == head.id && is_finished(head);
-        Ok(if live { Some(head) } else { None })
+        if entry != head.id {
+            return Ok(None);
+        }
+        Ok(if head.is_finished() { Some(head) } else { None })
     }
 
     /// Whether a page is live.
+    #[tactic(auto, using(crate::proofs::Heads::live_seen))]
     pub fn is_live(&mut self, page: u16) -> Result<bool, Failed>
         requires { IsEntryPage self.old.geometry page }
         ensures cause { OnErr result (Rose (N.faults self.old.nor.now) (N.faults self.new.nor.now)) }
         ensures looks { OnlyLooks self.old self.new }
+        ensures told { N.tells self.old.nor.now → IfOk result (λ live. live ≡ the_live self.old.geometry (N.bytes self.old.nor.now) page) }
     {
         Ok(self.live_header(page)?.is_some())
+    }
+
+    // Whether a page is a live index page of an object and a span.
+    #[tactic(auto, using(crate::proofs::Heads::index_seen, crate::proofs::Heads::none_seen))]
+    fn is_index_of(&mut self, page: u16, id: u16, span: u16) -> Result<bool, Failed>
+        requires { page < page_count self.old.geometry }
+        ensures cause { OnErr result (Rose (N.faults self.old.nor.now) (N.faults self.new.nor.now)) }
+        ensures looks { OnlyLooks self.old self.new }
+        ensures told { N.tells self.old.nor.now → IfOk result (λ index. index ≡ is_index (own (live_at self.old.geometry (N.bytes self.old.nor.now)) id page) span) }
+    {
+        Ok(match self.live_header(page)? {
+            Some(head) => is_of(head, id, span),
+            None => false,
+        })
     }
 
     /// The index page of an object and a span: the first live one in page order. Span 0 is the header page.
@@ -58,12 +104,10 @@ impl<'b, N: Nor> View<'b, N> {
         ensures cause { OnErr result (Rose (N.faults self.old.nor.now) (N.faults self.new.nor.now)) }
         ensures looks { OnlyLooks self.old self.new }
         ensures inside { IfOk result (λ page. IfSome page (λ p. p < page_count self.old.geometry)) }
+        ensures told { N.tells self.old.nor.now → IfOk result (λ page. page ≡ index_page self.old.geometry (own (live_at self.old.geometry (N.bytes self.old.nor.now)) id) span) }
     {
         for page in 0..self.geometry.pages() as u16 {
-            if let Some(head) = self.live_header(page)?
-                && head.id == id | INDEX_BIT
-                && head.span == span
-            {
+            if self.is_index_of(page, id, span)? {
                 return Ok(Some(page));
             }
         }
@@ -74,15 +118,12 @@ impl<'b, N: Nor> View<'b, N> {
     pub fn next_id(&mut self, after: u16) -> Result<Option<u16>, Failed>
         ensures cause { OnErr result (Rose (N.faults self.old.nor.now) (N.faults self.new.nor.now)) }
         ensures looks { OnlyLooks self.old self.new }
+        ensures told { N.tells self.old.nor.now → IfOk result (λ id. NextId self.old.geometry (N.bytes self.old.nor.now) after id) }
     {
         let mut least = None;
         for page in 0..self.geometry.pages() as u16 {
-            if let Some(id) = self.header_id(page)?
-                && id > after
-                && least.is_none_or(|found| id < found)
-            {
-                least = Some(id);
-            }
+            let found = self.header_id(page)?;
+            least = lower(after, least, found);
         }
         Ok(least)
     }
@@ -91,34 +132,54 @@ impl<'b, N: Nor> View<'b, N> {
     pub fn find_name(&mut self, name: &[u8]) -> Result<Option<u16>, Failed>
         ensures cause { OnErr result (Rose (N.faults self.old.nor.now) (N.faults self.new.nor.now)) }
         ensures looks { OnlyLooks self.old self.new }
+        ensures told { N.tells self.old.nor.now → IfOk result (λ id. id ≡ first_named self.old.geometry (N.bytes self.old.nor.now) name.now) }
     {
         for page in 0..self.geometry.pages() as u16 {
-            if let Some(id) = self.header_id(page)?
-                && self.has_name(page, name)?
-            {
+            if let Some(id) = self.named_id(page, name)? {
                 return Ok(Some(id));
             }
         }
         Ok(None)
     }
 
+    // The id of a live header page that holds that name.
+    #[tactic(auto, using(crate::proofs::Names::named_by, crate::proofs::Names::unnamed_by))]
+    fn named_id(&mut self, page: u16, name: &[u8]) -> Result<Option<u16>, Failed>
+        requires { page < page_count self.old.geometry }
+        ensures cause { OnErr result (Rose (N.faults self.old.nor.now) (N.faults self.new.nor.now)) }
+        ensures looks { OnlyLooks self.old self.new }
+        ensures told { N.tells self.old.nor.now → IfOk result (λ id. id ≡ named_at (live_at self.old.geometry (N.bytes self.old.nor.now) page) name.now) }
+    {
+        let Some(id) = self.header_id(page)? else {
+            return Ok(None);
+        };
+        Ok(if self.has_name(page, name)? {
+            Some(id)
+        } else {
+            None
+        })
+    }
+
     // The id of a live header page.
+    #[tactic(auto, using(crate::proofs::Names::headed_by, crate::proofs::Names::unheaded_by))]
     fn header_id(&mut self, page: u16) -> Result<Option<u16>, Failed>
         requires { page < page_count self.old.geometry }
         ensures cause { OnErr result (Rose (N.faults self.old.nor.now) (N.faults self.new.nor.now)) }
         ensures looks { OnlyLooks self.old self.new }
+        ensures told { N.tells self.old.nor.now → IfOk result (λ id. id ≡ headed (live_at self.old.geometry (N.bytes self.old.nor.now) page)) }
     {
         Ok(match self.live_header(page)? {
-            Some(head) if head.id >= INDEX_BIT && head.span == 0 => Some(head.id % INDEX_BIT),
-            _ => None,
+            Some(head) => headed_id(head),
+            None => None,
         })
     }
 
-    // Whether a header page holds that name.
+    // Whether a page holds that name, in the field of header pages.
     fn has_name(&mut self, page: u16, name: &[u8]) -> Result<bool, Failed>
         requires { page < page_count self.old.geometry }
         ensures cause { OnErr result (Rose (N.faults self.old.nor.now) (N.faults self.new.nor.now)) }
         ensures looks { OnlyLooks self.old self.new }
+        ensures told { N.tells self.old.nor.now → IfOk result (λ has. has ≡ is_name (the_name_of (page_of self.old.geometry (N.bytes self.old.nor.now) page)) name.now) }
     {
         self.fetch(page)?;
         Ok(match name_of(self.fetched()) {

@@ -2,6 +2,7 @@ ghost use Rattle.std.specs.Prelude.{◌≡◌, ◌+◌, ◌*◌, ◌%◌, ◌<�
 ghost use Rattle.std.specs.Bool.{OnTrue, OnFalse};
 ghost use Rattle.geometry.specs.Numbers.{page_count, per_block, lookups, entries};
 ghost use Rattle.flash_view.specs.Places.{IsEntryPage, block_of as the_block_of, page_start as the_page_start, entry_start as the_entry_start, magic_start as the_magic_start, count_start as the_count_start};
+ghost use Rattle.image_model.specs.Places.{is_entry_page as the_entry_page};
 
 use geometry::Geometry;
 use page_layout::{count_offset, entry_offset, magic_offset};
@@ -49,10 +50,12 @@ pub(crate) fn count_start(g: &Geometry, block: u16) -> u32
 }
 
 /// Whether a page of the volume is one of its entry pages, and no lookup page.
+#[tactic(auto, unfolding(image_model::specs::Places::is_entry_page, image_model::specs::Volume::page_count, image_model::specs::Volume::per_block, image_model::specs::Volume::lookups))]
 pub fn is_entry_page(g: &Geometry, page: u16) -> bool
     requires { page < page_count g.now }
     ensures entry { OnTrue result (IsEntryPage g.now page) }
     ensures lookup { OnFalse result (page % per_block g.now < lookups g.now) }
+    ensures is { result ≡ the_entry_page g.now page }
 {
     u32::from(page) % g.per_block() >= g.lookups()
 }
@@ -72,7 +75,8 @@ pub fn block_of(g: &Geometry, page: u16) -> u16
 pub fn entry_page(g: &Geometry, block: u16, i: u32) -> u16
     requires block { block < g.now.blocks }
     requires entry { i < entries g.now }
-    ensures { IsEntryPage g.now result }
+    ensures entry { IsEntryPage g.now result }
+    ensures place { result ≡ block * per_block g.now + lookups g.now + i }
 {
     (u32::from(block) * g.per_block() + g.lookups() + i) as u16
 }

@@ -3,6 +3,7 @@ ghost use Rattle.geometry.specs.Numbers.{work_need, cache_need};
 ghost use Rattle.nor_core.specs.Count.{Rose};
 ghost use Rattle.nor_core.specs.Flash.{HalfProgrammed};
 ghost use Rattle.nor_core.specs.Device.{Changes};
+ghost use Rattle.image_model.specs.Tidy.{is_erased as the_erased};
 
 use crate::places::{count_start, entry_start, magic_start, page_start};
 use geometry::Geometry;
@@ -29,7 +30,7 @@ pub struct View<'b, N: Nor> {
 }
 
 impl<'b, N: Nor> View<'b, N> {
-    ghost use Rattle.std.specs.Prelude.{◌≡◌, ◌+◌, ◌*◌, ◌/◌, ◌<◌, ◌≤◌, length, take, slice_range, OnErr, true, false};
+    ghost use Rattle.std.specs.Prelude.{◌≡◌, ◌+◌, ◌*◌, ◌/◌, ◌<◌, ◌≤◌, length, take, slice_range, OnOk, OnErr, IfOk, true, false};
     ghost use Rattle.std.specs.Option.{ForSome};
     ghost use Rattle.std.specs.Int.{to_le_bytes, w16};
     ghost use Rattle.geometry.specs.Numbers.{work_need, cache_need, page_count, right_magic};
@@ -37,6 +38,10 @@ impl<'b, N: Nor> View<'b, N> {
     ghost use Rattle.nor_core.specs.Flash.{HalfProgrammed};
     ghost use Rattle.nor_core.specs.Device.{Changes, InErase};
     ghost use Rattle.flash_view.specs.Places.{IsEntryPage, page_start as the_page_start, entry_start as the_entry_start};
+    ghost use Rattle.image_model.specs.Headers.{word_at};
+    ghost use Rattle.image_model.specs.Places.{page_of, entry_of as the_entry_of, has_magic as the_magic, erase_count as the_erase_count};
+    ghost use Rattle.image_model.specs.Tidy.{is_erased as the_erased};
+    ghost use Rattle.page_layout.specs.Layout.{header_at};
     ghost use Rattle.flash_view.specs.Same.{IsSameView, OnlyLooks};
 
     /// A view of the volume on a device. The device may be larger than the volume.
@@ -79,15 +84,18 @@ impl<'b, N: Nor> View<'b, N> {
         requires inside { at + length into.old ≤ self.old.geometry.blocks * self.old.geometry.block }
         ensures cause { OnErr result (Rose (N.faults self.old.nor.now) (N.faults self.new.nor.now)) }
         ensures looks { OnlyLooks self.old self.new }
+        ensures told { N.tells self.old.nor.now → OnOk result (into.new ≡ slice_range (N.bytes self.old.nor.now) at (at + length into.old)) }
     {
         self.nor.read(at, into)
     }
 
     /// Reads a slot of two bytes.
+    #[tactic(auto, using(crate::proofs::Parts::word_read))]
     fn word(&mut self, at: u32) -> Result<u16, Failed>
         requires { at + 2 ≤ self.old.geometry.blocks * self.old.geometry.block }
         ensures cause { OnErr result (Rose (N.faults self.old.nor.now) (N.faults self.new.nor.now)) }
         ensures looks { OnlyLooks self.old self.new }
+        ensures told { N.tells self.old.nor.now → IfOk result (λ word. word ≡ word_at (N.bytes self.old.nor.now) at) }
     {
         let mut slot = [0u8; 2];
         self.read(at, &mut slot)?;
@@ -95,20 +103,24 @@ impl<'b, N: Nor> View<'b, N> {
     }
 
     /// The entry of a page: free, deleted, or the id of its object with bit 15 set in index pages.
+    #[tactic(auto, unfolding(image_model::specs::Places::entry_of, image_model::specs::Places::slot_of, image_model::specs::Volume::per_block, image_model::specs::Volume::lookups))]
     pub fn entry(&mut self, page: u16) -> Result<u16, Failed>
         requires { IsEntryPage self.old.geometry page }
         ensures cause { OnErr result (Rose (N.faults self.old.nor.now) (N.faults self.new.nor.now)) }
         ensures looks { OnlyLooks self.old self.new }
+        ensures told { N.tells self.old.nor.now → IfOk result (λ entry. entry ≡ the_entry_of self.old.geometry (N.bytes self.old.nor.now) page) }
     {
         let at = entry_start(&self.geometry, page);
         self.word(at)
     }
 
     /// Whether a block has the magic of this volume.
+    #[tactic(auto, unfolding(image_model::specs::Places::has_magic, image_model::specs::Places::slot_of, image_model::specs::Volume::lookups))]
     pub fn has_magic(&mut self, block: u16) -> Result<bool, Failed>
         requires { block < self.old.geometry.blocks }
         ensures cause { OnErr result (Rose (N.faults self.old.nor.now) (N.faults self.new.nor.now)) }
         ensures looks { OnlyLooks self.old self.new }
+        ensures told { N.tells self.old.nor.now → IfOk result (λ has. has ≡ the_magic self.old.geometry (N.bytes self.old.nor.now) block) }
     {
         let at = magic_start(&self.geometry, block);
         let magic = self.geometry.magic_of(u32::from(block));
@@ -116,20 +128,24 @@ impl<'b, N: Nor> View<'b, N> {
     }
 
     /// How often a block was erased, as its slot tells it: 0 where the slot holds no count.
+    #[tactic(auto, unfolding(image_model::specs::Places::erase_count, image_model::specs::Places::slot_of, image_model::specs::Volume::lookups))]
     pub fn erase_count(&mut self, block: u16) -> Result<u16, Failed>
         requires { block < self.old.geometry.blocks }
         ensures cause { OnErr result (Rose (N.faults self.old.nor.now) (N.faults self.new.nor.now)) }
         ensures looks { OnlyLooks self.old self.new }
+        ensures told { N.tells self.old.nor.now → IfOk result (λ count. count ≡ the_erase_count self.old.geometry (N.bytes self.old.nor.now) block) }
     {
         let at = count_start(&self.geometry, block);
         Ok(read_count(self.word(at)?))
     }
 
     /// The header of a page.
+    #[tactic(auto, using(crate::proofs::Parts::header_read))]
     pub fn header(&mut self, page: u16) -> Result<PageHeader, Failed>
         requires { page < page_count self.old.geometry }
         ensures cause { OnErr result (Rose (N.faults self.old.nor.now) (N.faults self.new.nor.now)) }
         ensures looks { OnlyLooks self.old self.new }
+        ensures told { N.tells self.old.nor.now → IfOk result (λ head. head ≡ header_at (page_of self.old.geometry (N.bytes self.old.nor.now) page)) }
     {
         let at = page_start(&self.geometry, page);
         let mut head = [0u8; 5];
@@ -138,10 +154,12 @@ impl<'b, N: Nor> View<'b, N> {
     }
 
     /// The page that is being built becomes a copy of a page.
+    #[tactic(auto, unfolding(image_model::specs::Places::page_of))]
     pub fn load(&mut self, page: u16) -> Result<(), Failed>
         requires { page < page_count self.old.geometry }
         ensures cause { OnErr result (Rose (N.faults self.old.nor.now) (N.faults self.new.nor.now)) }
         ensures looks { OnlyLooks self.old self.new }
+        ensures told { N.tells self.old.nor.now → OnOk result (take self.old.geometry.page self.new.work.now ≡ page_of self.old.geometry (N.bytes self.old.nor.now) page) }
     {
         let at = page_start(&self.geometry, page);
         let len = self.geometry.page() as usize;
@@ -149,10 +167,13 @@ impl<'b, N: Nor> View<'b, N> {
     }
 
     /// Reads a page, for `fetched`. The page that is being built stays.
+    #[tactic(auto, unfolding(image_model::specs::Places::page_of))]
     pub fn fetch(&mut self, page: u16) -> Result<(), Failed>
         requires { page < page_count self.old.geometry }
         ensures cause { OnErr result (Rose (N.faults self.old.nor.now) (N.faults self.new.nor.now)) }
         ensures looks { OnlyLooks self.old self.new }
+        ensures told { N.tells self.old.nor.now → OnOk result (slice_range self.new.work.now self.old.geometry.page (2 * self.old.geometry.page) ≡ page_of self.old.geometry (N.bytes self.old.nor.now) page) }
+        ensures built { take self.old.geometry.page self.new.work.now ≡ take self.old.geometry.page self.old.work.now }
     {
         let at = page_start(&self.geometry, page);
         let len = self.geometry.page() as usize;
@@ -161,7 +182,8 @@ impl<'b, N: Nor> View<'b, N> {
 
     /// The bytes of the page that was fetched last.
     pub fn fetched(&self) -> &[u8]
-        ensures { length result.now ≡ self.now.geometry.page }
+        ensures len { length result.now ≡ self.now.geometry.page }
+        ensures bytes { result.now ≡ slice_range self.now.work.now self.now.geometry.page (2 * self.now.geometry.page) }
     {
         let len = self.geometry.page() as usize;
         &self.work[len..2 * len]
@@ -169,7 +191,8 @@ impl<'b, N: Nor> View<'b, N> {
 
     /// The bytes of the page that is being built.
     pub fn built(&self) -> &[u8]
-        ensures { length result.now ≡ self.now.geometry.page }
+        ensures len { length result.now ≡ self.now.geometry.page }
+        ensures bytes { result.now ≡ take self.now.geometry.page self.now.work.now }
     {
         let len = self.geometry.page() as usize;
         &self.work[..len]
@@ -180,9 +203,10 @@ impl<'b, N: Nor> View<'b, N> {
         requires { page < page_count self.old.geometry }
         ensures cause { OnErr result (Rose (N.faults self.old.nor.now) (N.faults self.new.nor.now)) }
         ensures looks { OnlyLooks self.old self.new }
+        ensures told { N.tells self.old.nor.now → IfOk result (λ blank. blank ≡ the_erased (page_of self.old.geometry (N.bytes self.old.nor.now) page)) }
     {
         self.fetch(page)?;
-        Ok(self.fetched().iter().all(|byte| *byte == 0xFF))
+        Ok(is_erased(self.fetched()))
     }
 
     /// Programs bytes of the volume: bits are cleared, and none is set.
@@ -287,6 +311,13 @@ impl<'b, B: Board> View<'b, B> {
     {
         self.nor.say(piece)
     }
+}
+
+// Whether these bytes are 0xFF alone.
+fn is_erased(bytes: &[u8]) -> bool
+    ensures { result ≡ the_erased bytes.now }
+{
+    bytes.iter().all(|byte| *byte == 0xFF)
 }
 
 // Programs a part of these bytes.
