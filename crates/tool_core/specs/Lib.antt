@@ -5,3 +5,4 @@ pub mod Endings
 pub mod Fits
 pub mod Lent
 pub mod Later
+pub mod Runs

@@ -1,11 +1,15 @@
-ghost use Rattle.std.specs.Prelude.{◌≡◌, ◌+◌, ◌-◌, ◌*◌, ◌<◌, ◌≤◌, length, IfErr};
+ghost use Rattle.std.specs.Prelude.{◌≡◌, ◌≢◌, ◌+◌, ◌-◌, ◌*◌, ◌<◌, ◌≤◌, length, IfErr, OnOk, Err, Some, None, false};
 ghost use Rattle.std.specs.Option.{IfNone};
 ghost use Rattle.std.specs.Prelude.{IfOk};
 ghost use Rattle.call_script.specs.Pieces.{IsShort};
 ghost use Rattle.vol_mount.specs.Mounts.{IsLate};
 ghost use Rattle.volume.specs.Checks.{IsWritable};
+ghost use Rattle.nor_core.specs.Count.{Rose};
+ghost use Rattle.flash_view.specs.Same.{IsSameView, OnlyLooks};
+ghost use Rattle.volume.specs.Fails.{has_failed};
 ghost use Rattle.tool_core.specs.Later.{IsLater, IsLaterIf};
-ghost use Rattle.geometry.specs.Numbers.{work_need, cache_need, check_need};
+ghost use Rattle.tool_core.specs.Runs.{Ran, StandsBy, result_err};
+ghost use Rattle.geometry.specs.Numbers.{usable, write_refusal, work_need, cache_need, check_need};
 ghost use Rattle.tool_core.specs.Fits.{IsFitting};
 
 use crate::ending::Ending;
@@ -14,8 +18,8 @@ use call_script::{parse_line, reply_text};
 use geometry::Geometry;
 use nor_core::{Board, Failed, Nor, NorState, Source};
 use table_model::{Call, FsErr, Reply};
-use vol_mount::{Lent, MountErr, Mounting, mount};
-use volume::{CheckErr, Checked, Checking, Volume, check};
+use vol_mount::{Lent, MountErr, Unchecked, mount};
+use volume::{CheckErr, Volume, check};
 
 /// The number of bytes of the line buffer that hold lines; the others hold names, texts and replies.
 const LINES: usize = 8192;
@@ -23,7 +27,9 @@ const LINES: usize = 8192;
 // How a run ends that doesn't mount the volume.
 fn mount_ending(why: MountErr) -> Ending
     requires { IsLate why }
-    ensures { IsLater result }
+    ensures later { IsLater result }
+    ensures fault { result ≡ Ending.BoardFault → why ≡ MountErr.DeviceFault }
+    ensures no_script { result ≢ Ending.SourceFault }
 {
     match why {
         MountErr::Wrong(why) => Ending::Geometry(why),
@@ -36,7 +42,9 @@ fn mount_ending(why: MountErr) -> Ending
 // How a run ends that doesn't check the volume.
 fn check_ending(why: CheckErr) -> Ending
     requires { IsWritable why }
-    ensures { IsLater result }
+    ensures later { IsLater result }
+    ensures fault { result ≡ Ending.BoardFault → why ≡ CheckErr.DeviceFault }
+    ensures no_script { result ≢ Ending.SourceFault }
 {
     match why {
         CheckErr::Wrong(why) => Ending::Geometry(why),
@@ -47,8 +55,12 @@ fn check_ending(why: CheckErr) -> Ending
 
 // Does a call, or says how the run ends there.
 fn apply<B: Board>(volume: &mut Volume<'_, B>, call: &Call<'_>) -> Result<Reply<'static>, Ending>
+    requires { has_failed volume.old ≡ false }
     ensures short { IfOk result IsShort }
     ensures later { IfErr result IsLater }
+    ensures ran { Ran B.NorState volume.old.view.nor.now volume.new.view.nor.now (result_err result) (has_failed volume.new) }
+    ensures no_script { ¬ (result ≡ Err Ending.SourceFault) }
+    ensures same { IsSameView volume.old.view volume.new.view }
 {
     let Call::Create { name } = call else {
         return Ok(Reply::Refusal(FsErr::Unbuilt));
@@ -69,8 +81,12 @@ fn answer<B: Board>(
     number: u32,
     scratch: &mut [u8],
 ) -> Option<Ending>
-    requires { 4096 ≤ length scratch.old }
-    ensures { IsLaterIf result }
+    requires room { 4096 ≤ length scratch.old }
+    requires stands { has_failed volume.old ≡ false }
+    ensures later { IsLaterIf result }
+    ensures ran { Ran B.NorState volume.old.view.nor.now volume.new.view.nor.now result (has_failed volume.new) }
+    ensures same { IsSameView volume.old.view volume.new.view }
+    ensures no_script { ¬ (result ≡ Some Ending.SourceFault) }
 {
     let Ok(parsed) = parse_line(line, scratch) else {
         return Some(Ending::BadLine(number));
@@ -91,8 +107,12 @@ fn say_reply<B: Board>(
     into: &mut [u8],
 ) -> Option<Ending>
     requires room { 4096 ≤ length into.old }
+    requires stands { has_failed volume.old ≡ false }
     requires short { IsShort reply.now }
-    ensures { IsLaterIf result }
+    ensures later { IsLaterIf result }
+    ensures ran { Ran B.NorState volume.old.view.nor.now volume.new.view.nor.now result (has_failed volume.new) }
+    ensures same { IsSameView volume.old.view volume.new.view }
+    ensures no_script { ¬ (result ≡ Some Ending.SourceFault) }
 {
     let length = reply_text(reply, into);
     match volume.say(&into[..length]) {
@@ -103,8 +123,12 @@ fn say_reply<B: Board>(
 
 // Does the bytes that were taken as the last line, and ends the run.
 fn last_line<B: Board>(volume: &mut Volume<'_, B>, lines: &Lines<'_>, scratch: &mut [u8]) -> Ending
-    requires { 4096 ≤ length scratch.old }
-    ensures { IsLater result }
+    requires room { 4096 ≤ length scratch.old }
+    requires stands { has_failed volume.old ≡ false }
+    ensures later { IsLater result }
+    ensures ran { Ran B.NorState volume.old.view.nor.now volume.new.view.nor.now (Some result) (has_failed volume.new) }
+    ensures same { IsSameView volume.old.view volume.new.view }
+    ensures no_script { ¬ (result ≡ Ending.SourceFault) }
 {
     let line = lines.piece(lines.start, lines.end);
     if line.is_empty() {
@@ -124,8 +148,13 @@ fn take_more<B: Board, S: Source>(
     script: &mut S,
     scratch: &mut [u8],
 ) -> Option<Ending>
-    requires { 4096 ≤ length scratch.old }
+    requires room { 4096 ≤ length scratch.old }
+    requires stands { has_failed volume.old ≡ false }
     ensures later { IsLaterIf result }
+    ensures ran { Ran B.NorState volume.old.view.nor.now volume.new.view.nor.now result (has_failed volume.new) }
+    ensures same { IsSameView volume.old.view volume.new.view }
+    ensures script_faults { S.faults script.old ≤ S.faults script.new }
+    ensures script_cause { result ≡ Some Ending.SourceFault → Rose (S.faults script.old) (S.faults script.new) }
     ensures same_buf { lines.new.buf.ghost_name ≡ lines.old.buf.ghost_name }
     ensures smaller { IfNone result (2 * (16777216 - lines.new.taken) + (lines.new.end - lines.new.start) < 2 * (16777216 - lines.old.taken) + (lines.old.end - lines.old.start)) }
 {
@@ -153,8 +182,13 @@ fn turn<B: Board, S: Source>(
     script: &mut S,
     scratch: &mut [u8],
 ) -> Option<Ending>
-    requires { 4096 ≤ length scratch.old }
+    requires room { 4096 ≤ length scratch.old }
+    requires stands { has_failed volume.old ≡ false }
     ensures later { IsLaterIf result }
+    ensures ran { Ran B.NorState volume.old.view.nor.now volume.new.view.nor.now result (has_failed volume.new) }
+    ensures same { IsSameView volume.old.view volume.new.view }
+    ensures script_faults { S.faults script.old ≤ S.faults script.new }
+    ensures script_cause { result ≡ Some Ending.SourceFault → Rose (S.faults script.old) (S.faults script.new) }
     ensures same_buf { lines.new.buf.ghost_name ≡ lines.old.buf.ghost_name }
     ensures smaller { IfNone result (2 * (16777216 - lines.new.taken) + (lines.new.end - lines.new.start) < 2 * (16777216 - lines.old.taken) + (lines.old.end - lines.old.start)) }
 {
@@ -176,8 +210,13 @@ fn run_lines<B: Board, S: Source>(
     script: &mut S,
     scratch: &mut [u8],
 ) -> Ending
-    requires { 4096 ≤ length scratch.old }
-    ensures { IsLater result }
+    requires room { 4096 ≤ length scratch.old }
+    requires stands { has_failed volume.old ≡ false }
+    ensures later { IsLater result }
+    ensures ran { Ran B.NorState volume.old.view.nor.now volume.new.view.nor.now (Some result) (has_failed volume.new) }
+    ensures same { IsSameView volume.old.view volume.new.view }
+    ensures script_faults { S.faults script.old ≤ S.faults script.new }
+    ensures script_cause { result ≡ Ending.SourceFault → Rose (S.faults script.old) (S.faults script.new) }
 {
     'turns: loop {
         if let Some(ending) = turn(volume, lines, script, scratch) {
@@ -193,8 +232,14 @@ fn run_script<B: Board, S: Source>(
     script: &mut S,
     line: &mut [u8],
 ) -> Ending
-    requires { 12288 ≤ length line.old }
-    ensures { IsLater result }
+    requires room { 12288 ≤ length line.old }
+    requires stands { has_failed volume.old ≡ false }
+    ensures later { IsLater result }
+    ensures ran { Ran B.NorState volume.old.view.nor.now volume.new.view.nor.now (Some result) (has_failed volume.new) }
+    ensures same { IsSameView volume.old.view volume.new.view }
+    ensures nor_name { volume.new.view.nor.ghost_name ≡ volume.old.view.nor.ghost_name }
+    ensures script_faults { S.faults script.old ≤ S.faults script.new }
+    ensures script_cause { result ≡ Ending.SourceFault → Rose (S.faults script.old) (S.faults script.new) }
 {
     if free_blocks < 2 {
         return Ending::Tight(free_blocks);
@@ -206,8 +251,9 @@ fn run_script<B: Board, S: Source>(
 
 // Settles a volume at the end of a run.
 fn settle<B: Board>(volume: &mut Volume<'_, B>, ending: Ending) -> Ending
-    requires { IsLater ending }
-    ensures { IsLater result }
+    requires { StandsBy (Some ending) (has_failed volume.old) }
+    ensures ending { result ≡ ending }
+    ensures same { volume.new ≡ volume.old }
 {
     if matches!(ending, Ending::BoardFault | Ending::Differ(_)) {
         return ending;
@@ -218,18 +264,25 @@ fn settle<B: Board>(volume: &mut Volume<'_, B>, ending: Ending) -> Ending
     }
 }
 
-// Runs a script on a checked volume, and settles it.
-fn run_checked<B: Board, S: Source>(
-    checked: &mut Checked<'_, B>,
-    script: &mut S,
-    line: &mut [u8],
-) -> Ending
-    requires { 12288 ≤ length line.old }
-    ensures { IsLater result }
+// Mounts and checks a volume, or says how the run ends there. What is answered is how many blocks are free.
+fn begin<B: Board>(unchecked: &mut Unchecked<'_, B>) -> Result<u32, Ending>
+    requires { write_refusal unchecked.old.view.geometry ≡ None }
+    ensures later { IfErr result IsLater }
+    ensures few { OnOk result (usable unchecked.old.view.geometry ≤ 32766) }
+    ensures cause { result ≡ Err Ending.BoardFault → Rose (B.faults unchecked.old.view.nor.now) (B.faults unchecked.new.view.nor.now) }
+    ensures no_script { ¬ (result ≡ Err Ending.SourceFault) }
+    ensures looks { OnlyLooks unchecked.old.view unchecked.new.view }
+    ensures nor_name { unchecked.new.view.nor.ghost_name ≡ unchecked.old.view.nor.ghost_name }
+    ensures slots_name { unchecked.new.slots.ghost_name ≡ unchecked.old.slots.ghost_name }
+    ensures check_name { unchecked.new.check.ghost_name ≡ unchecked.old.check.ghost_name }
 {
-    let free_blocks = checked.report.free_blocks;
-    let ending = run_script(&mut checked.volume, free_blocks, script, line);
-    settle(&mut checked.volume, ending)
+    if let Err(why) = mount(unchecked) {
+        return Err(mount_ending(why));
+    }
+    match check(unchecked) {
+        Ok(report) => Ok(report.free_blocks),
+        Err(why) => Err(check_ending(why)),
+    }
 }
 
 /// Mounts and checks the volume of a board, and runs a script on it.
@@ -247,12 +300,16 @@ pub(crate) fn run<'b, B: Board, S: Source>(
     requires check { check_need g ≤ length lent.check.now }
     requires line { 12288 ≤ length line.old }
     ensures later { IsLater result }
+    ensures script_faults { S.faults script.old ≤ S.faults script.new }
+    ensures script_cause { result ≡ Ending.SourceFault → Rose (S.faults script.old) (S.faults script.new) }
 {
-    match mount(g, board, lent) {
-        Mounting::Refused { why, back: _ } => mount_ending(why),
-        Mounting::Mounted(unchecked) => match check(unchecked) {
-            Checking::Refused { why, back: _ } => check_ending(why),
-            Checking::Checked(mut checked) => run_checked(&mut checked, script, line),
-        },
+    let mut unchecked = Unchecked::new(g, board, lent);
+    match begin(&mut unchecked) {
+        Err(ending) => ending,
+        Ok(free_blocks) => {
+            let mut volume = Volume::new(unchecked);
+            let ending = run_script(&mut volume, free_blocks, script, line);
+            settle(&mut volume, ending)
+        }
     }
 }

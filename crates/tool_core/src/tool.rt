@@ -1,4 +1,4 @@
-ghost use Rattle.std.specs.Prelude.{◌≡◌, ◌≢◌, ◌++◌, length, map, string_bytes};
+ghost use Rattle.std.specs.Prelude.{◌≡◌, ◌≢◌, ◌≤◌, ◌++◌, length, map, string_bytes};
 ghost use Rattle.nor_core.specs.Count.{Rose};
 ghost use Rattle.nor_core.specs.Device.{Says};
 ghost use Rattle.tool_core.specs.Plan.{refusal_of};
@@ -70,6 +70,8 @@ fn run_on<B: Board, S: Source>(
     requires fits { IsFitting g (B.unit board.old) (B.size board.old) }
     requires room { HasLengths g (lengths_of bufs.old) }
     ensures later { IsLater result }
+    ensures script_faults { S.faults script.old ≤ S.faults script.new }
+    ensures script_cause { result ≡ Ending.SourceFault → Rose (S.faults script.old) (S.faults script.new) }
 {
     let lent = Lent {
         work: &mut *bufs.work,

@@ -1,10 +1,11 @@
--- What mounting refuses.
-use Rattle.std.specs.Prelude.{◌≡◌, Option, Some, None}
+-- What mounting refuses, and what it leaves.
+use Rattle.std.specs.Prelude.{ℕ, ◌≡◌, ◌*◌, ◌≤◌, length, Option}
 use Rattle.geometry.specs.declared.geometry.Geometry.{Geometry}
+use Rattle.geometry.specs.Numbers.{work_need, cache_need, check_need}
+use Rattle.vol_mount.specs.declared.lent.Lent.{Lent}
 use Rattle.vol_mount.specs.declared.lent.MountErr.{MountErr}
 use Rattle.vol_mount.specs.declared.lent.MountErr.TheVariants.{Wrong, ShortBuffer, NotAFs, DeviceFault}
-use Rattle.vol_mount.specs.declared.unchecked.Mounting.{Mounting}
-use Rattle.vol_mount.specs.declared.unchecked.Mounting.TheVariants.{Mounted, Refused}
+use Rattle.vol_mount.specs.Needs.{short_buffer}
 
 -- a refusal that comes of reading the device
 abbrev pub IsLate : MountErr → Type 0
@@ -13,16 +14,15 @@ IsLate (ShortBuffer part need given) = ⊥
 IsLate (NotAFs spoiled) = Unit {0}
 IsLate DeviceFault = Unit {0}
 
-abbrev pub IsLateIf : Option MountErr → Type 0
-IsLateIf None = Unit {0}
-IsLateIf (Some why) = IsLate why
+-- the first part of the lent memory that is too short
+abbrev pub short_of : Geometry → Lent → Option MountErr
+short_of g lent = short_buffer g (length lent.work.now) (length lent.slots.now) (length lent.cache.now) (length lent.check.now)
 
--- why a volume is not mounted, if it isn't
-abbrev pub why_of : {N : Type 0} {nor : _} → Mounting N nor → Option MountErr
-why_of (Mounted unchecked) = None
-why_of (Refused why back) = Some why
-
--- the volume that was mounted has this geometry
-abbrev pub HasGeometry : {N : Type 0} {nor : _} → Mounting N nor → Geometry → Type 0
-HasGeometry (Mounted unchecked) g = unchecked.view.geometry ≡ g
-HasGeometry (Refused why back) g = Unit {0}
+-- the device has the volume's erase unit and holds the volume, and every part of the lent memory has its need
+pub record Fits (g : Geometry) (unit size : ℕ) (lent : Lent) : Type 0 where
+  pub unit_is : unit ≡ g.phys
+  pub volume : g.blocks * g.block ≤ size
+  pub work : work_need g ≤ length lent.work.now
+  pub slots : 1 ≤ length lent.slots.now
+  pub cache : cache_need g ≤ length lent.cache.now
+  pub check : check_need g ≤ length lent.check.now

@@ -8,5 +8,5 @@ mod unchecked;
 
 pub use formatting::format;
 pub use lent::{Lent, MountErr, Part, Returned};
-pub use mounting::mount;
-pub use unchecked::{Mounting, Parts, Unchecked};
+pub use mounting::{accept, mount};
+pub use unchecked::{Parts, Unchecked};

@@ -1,12 +1,12 @@
-ghost use Rattle.std.specs.Prelude.{◌≡◌, ◌≢◌, ◌+◌, ◌*◌, ◌<◌, ◌≤◌, length, IfErr, OnErr, Some, None, Err, true, false, nat_lt, if◌then◌else◌};
+ghost use Rattle.std.specs.Prelude.{◌≡◌, ◌≢◌, ◌+◌, ◌*◌, ◌<◌, ◌≤◌, length, IfErr, IsOk, OnOk, OnErr, Some, None, Err, true, false, nat_lt, if◌then◌else◌};
 ghost use Rattle.std.specs.Option.{IfSome};
 ghost use Rattle.nor_core.specs.Count.{Rose};
 ghost use Rattle.nor_core.specs.Device.{OnlyReads};
 ghost use Rattle.flash_view.specs.Same.{OnlyLooks};
-ghost use Rattle.vol_mount.specs.Mounts.{HasGeometry, IsLate, IsLateIf, why_of};
+ghost use Rattle.vol_mount.specs.Mounts.{IsLate, Fits, short_of};
 ghost use Rattle.vol_mount.specs.Needs.{is_wrong_chip, short_buffer};
 
-use crate::{Lent, MountErr, Mounting, Part, Returned, Unchecked};
+use crate::{Lent, MountErr, Part, Unchecked};
 use flash_view::View;
 use geometry::{GeoErr, Geometry};
 use nor_core::{Failed, Nor, NorState};
@@ -67,6 +67,7 @@ fn survey<N: Nor>(v: &mut View<'_, N>) -> Result<(), MountErr>
     ensures late { IfErr result IsLate }
     ensures cause { result ≡ Err MountErr.DeviceFault → Rose (N.faults v.old.nor.now) (N.faults v.new.nor.now) }
     ensures looks { OnlyLooks v.old v.new }
+    ensures no_fault { result ≡ Err MountErr.DeviceFault → Rose (N.faults v.old.nor.now) (N.faults v.new.nor.now) }
 {
     match spoiled_blocks(v) {
         Err(Failed) => Err(MountErr::DeviceFault),
@@ -75,38 +76,33 @@ fn survey<N: Nor>(v: &mut View<'_, N>) -> Result<(), MountErr>
     }
 }
 
-/// Mounts the volume of a device, and writes nothing. Refused are, in this order: a device that doesn't fit
-/// (`Wrong`), lent memory that is too short (`ShortBuffer`), a device that fails, and a volume of which two
-/// or more blocks lack their magic (`NotAFs`). One such block is accepted: a cut while it was erased left it.
-pub fn mount<'b, N: Nor>(g: Geometry, nor: &'b mut N, lent: Lent<'b>) -> Mounting<'b, N>
-    ensures geometry { HasGeometry result g }
-    ensures wrong { is_wrong_chip g (N.unit nor.old) (N.size nor.old) ≡ true → why_of result ≡ Some (MountErr.Wrong GeoErr.WrongChip) }
-    ensures short { is_wrong_chip g (N.unit nor.old) (N.size nor.old) ≡ false → IfSome (short_buffer g (length lent.entry.work.now) (length lent.entry.slots.now) (length lent.entry.cache.now) (length lent.entry.check.now)) (λ why. why_of result ≡ Some why) }
-    ensures late { is_wrong_chip g (N.unit nor.old) (N.size nor.old) ≡ false → short_buffer g (length lent.entry.work.now) (length lent.entry.slots.now) (length lent.entry.cache.now) (length lent.entry.check.now) ≡ None → IsLateIf (why_of result) }
+/// Whether a device and the lent memory fit a volume. Nothing is read. Refused are, in this order, a device
+/// that doesn't fit (`Wrong`), and lent memory that is too short (`ShortBuffer`). `Unchecked::new` then takes
+/// them.
+pub fn accept<N: Nor>(g: &Geometry, nor: &N, lent: &Lent<'_>) -> Result<(), MountErr>
+    ensures wrong { is_wrong_chip g.now (N.unit nor.now) (N.size nor.now) ≡ true → result ≡ Err (MountErr.Wrong GeoErr.WrongChip) }
+    ensures short { is_wrong_chip g.now (N.unit nor.now) (N.size nor.now) ≡ false → IfSome (short_of g.now lent.now) (λ why. result ≡ Err why) }
+    ensures accepted { is_wrong_chip g.now (N.unit nor.now) (N.size nor.now) ≡ false → short_of g.now lent.now ≡ None → IsOk result }
+    ensures fits { OnOk result (Fits g.now (N.unit nor.now) (N.size nor.now) lent.now) }
 {
-    if wrong_chip(&g, nor) {
-        let why = MountErr::Wrong(GeoErr::WrongChip);
-        let back = Returned { nor, lent };
-        return Mounting::Refused { why, back };
+    if wrong_chip(g, nor) {
+        return Err(MountErr::Wrong(GeoErr::WrongChip));
     }
-    if let Some(why) = short(&g, &lent) {
-        let back = Returned { nor, lent };
-        return Mounting::Refused { why, back };
+    match short(g, lent) {
+        Some(why) => Err(why),
+        None => Ok(()),
     }
-    let Lent {
-        work,
-        slots,
-        cache,
-        check,
-    } = lent;
-    let mut view = View::new(g, nor, work, cache);
-    let surveyed = survey(&mut view);
-    let unchecked = Unchecked { view, slots, check };
-    match surveyed {
-        Ok(()) => Mounting::Mounted(unchecked),
-        Err(why) => Mounting::Refused {
-            why,
-            back: unchecked.give_back(),
-        },
-    }
+}
+
+/// Mounts a volume: reads the magic of each block, and writes nothing. Refused are a device that fails, and a
+/// volume of which two or more blocks lack their magic (`NotAFs`). One such block is accepted: a cut while it
+/// was erased left it.
+pub fn mount<N: Nor>(unchecked: &mut Unchecked<'_, N>) -> Result<(), MountErr>
+    ensures late { IfErr result IsLate }
+    ensures cause { result ≡ Err MountErr.DeviceFault → Rose (N.faults unchecked.old.view.nor.now) (N.faults unchecked.new.view.nor.now) }
+    ensures looks { OnlyLooks unchecked.old.view unchecked.new.view }
+    ensures slots_name { unchecked.new.slots.ghost_name ≡ unchecked.old.slots.ghost_name }
+    ensures check_name { unchecked.new.check.ghost_name ≡ unchecked.old.check.ghost_name }
+{
+    survey(&mut unchecked.view)
 }

@@ -1,9 +1,10 @@
 ghost use Rattle.std.specs.Prelude.{◌≤◌, length};
 ghost use Rattle.geometry.specs.Numbers.{check_need};
 
-use crate::{Lent, MountErr, Returned};
+use crate::{Lent, Returned};
 use fd_table::FdSlot;
 use flash_view::View;
+use geometry::Geometry;
 use nor_core::{Nor, NorState};
 
 /// A volume that was mounted and not checked: it may only be read.
@@ -30,20 +31,38 @@ pub struct Parts<'b, N: Nor> {
     pub check: &'b mut [u8],
 }
 
-/// What mounting gives.
-#[derive(Drop)]
-pub enum Mounting<'b, N: Nor> {
-    /// The volume.
-    Mounted(Unchecked<'b, N>),
-    /// Why it is refused, and what was handed in.
-    Refused {
-        why: MountErr,
-        back: Returned<'b, N>,
-    },
-}
-
 impl<'b, N: Nor> Unchecked<'b, N> {
-    ghost use Rattle.std.specs.Prelude.{◌≡◌};
+    ghost use Rattle.std.specs.Prelude.{◌≡◌, ◌*◌, ◌≤◌, length};
+    ghost use Rattle.geometry.specs.Numbers.{work_need, cache_need, check_need};
+
+    /// The volume of a device that `accept` takes with this lent memory.
+    pub fn new(g: Geometry, nor: &'b mut N, lent: Lent<'b>) -> Unchecked<'b, N>
+        requires unit { N.unit nor.old ≡ g.phys }
+        requires volume { g.blocks * g.block ≤ N.size nor.old }
+        requires work { work_need g ≤ length lent.work.now }
+        requires slots { 1 ≤ length lent.slots.now }
+        requires cache { cache_need g ≤ length lent.cache.now }
+        requires check { check_need g ≤ length lent.check.now }
+        ensures geometry { result.view.geometry ≡ g }
+        ensures nor { result.view.nor.now ≡ nor.old }
+        ensures nor_name { result.view.nor.ghost_name ≡ nor.entry.ghost_name }
+        ensures work_name { result.view.work.ghost_name ≡ lent.entry.work.ghost_name }
+        ensures cache_name { result.view.cache.ghost_name ≡ lent.entry.cache.ghost_name }
+        ensures slots_name { result.slots.ghost_name ≡ lent.entry.slots.ghost_name }
+        ensures check_name { result.check.ghost_name ≡ lent.entry.check.ghost_name }
+    {
+        let Lent {
+            work,
+            slots,
+            cache,
+            check,
+        } = lent;
+        Unchecked {
+            view: View::new(g, nor, work, cache),
+            slots,
+            check,
+        }
+    }
 
     /// The view that `mount` made, the lent descriptors and the bytes for the check.
     pub fn into_parts(self) -> Parts<'b, N>

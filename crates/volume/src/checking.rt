@@ -1,17 +1,17 @@
 ghost use Rattle.std.specs.Prelude.{◌≡◌, ◌<◌, ◌≤◌, length, OnErr, OnOk, IsErrOf, IfErr, IfSome, Err, Some, None};
-ghost use Rattle.volume.specs.Checks.{IsWritable, IsWritableIf, why_of};
+ghost use Rattle.volume.specs.Checks.{IsWritable};
 ghost use Rattle.geometry.specs.Numbers.{page_count, usable, write_refusal};
 ghost use Rattle.nor_core.specs.Count.{Rose};
 ghost use Rattle.flash_view.specs.Places.{IsEntryPage};
 ghost use Rattle.flash_view.specs.Same.{OnlyLooks};
 
-use crate::Volume;
 use flash_view::{View, is_entry_page};
 use free_search::free_blocks;
 use geometry::GeoErr;
 use nor_core::{Failed, Nor, NorState};
-use page_layout::{DELETED, FREE, UNDEFINED_SIZE, name_of, size_of};
-use vol_mount::{Parts, Returned, Unchecked};
+use page_layout::{DELETED, FREE, PageHeader, UNDEFINED_SIZE, name_of, size_of};
+use table_model::Name;
+use vol_mount::Unchecked;
 
 /// What a check found and did.
 #[derive(Clone, Copy, Debug, PartialEq, Eq)]
@@ -38,25 +38,33 @@ pub enum CheckErr {
     DeviceFault,
 }
 
-/// A volume that was checked, with the report.
-#[derive(Drop)]
-pub struct Checked<'b, N: Nor> {
-    /// The volume.
-    pub volume: Volume<'b, N>,
-    /// What the check found.
-    pub report: Report,
+// Whether a page with this header is the header page of its object.
+fn is_header_page<N: Nor>(v: &mut View<'_, N>, page: u16, head: PageHeader) -> Result<bool, Failed>
+    ensures cause { OnErr result (Rose (N.faults v.old.nor.now) (N.faults v.new.nor.now)) }
+    ensures looks { OnlyLooks v.old v.new }
+{
+    Ok(head.is_index() && v.find_index(head.object(), 0)? == Some(page))
 }
 
-/// What checking gives.
-#[derive(Drop)]
-pub enum Checking<'b, N: Nor> {
-    /// The volume and the report.
-    Checked(Checked<'b, N>),
-    /// Why it is refused, and what was handed in.
-    Refused {
-        why: CheckErr,
-        back: Returned<'b, N>,
-    },
+// The name that a header page holds, where its file is empty.
+fn name_of_empty<N: Nor>(v: &mut View<'_, N>, page: u16) -> Result<Option<Name>, Failed>
+    requires { page < page_count v.old.geometry }
+    ensures cause { OnErr result (Rose (N.faults v.old.nor.now) (N.faults v.new.nor.now)) }
+    ensures looks { OnlyLooks v.old v.new }
+{
+    v.fetch(page)?;
+    if size_of(v.fetched()) != UNDEFINED_SIZE {
+        return Ok(None);
+    }
+    Ok(name_of(v.fetched()))
+}
+
+// Whether a name is that of an object: the first with that name.
+fn is_name_of<N: Nor>(v: &mut View<'_, N>, name: &[u8], object: u16) -> Result<bool, Failed>
+    ensures cause { OnErr result (Rose (N.faults v.old.nor.now) (N.faults v.new.nor.now)) }
+    ensures looks { OnlyLooks v.old v.new }
+{
+    Ok(v.find_name(name)? == Some(object))
 }
 
 // Whether a live page is the header page of an empty file, the first of its id and of its name.
@@ -66,15 +74,11 @@ fn is_empty_file<N: Nor>(v: &mut View<'_, N>, page: u16) -> Result<bool, Failed>
     ensures looks { OnlyLooks v.old v.new }
 {
     let head = v.header(page)?;
-    if !head.is_index() || v.find_index(head.object(), 0)? != Some(page) {
+    if !is_header_page(v, page, head)? {
         return Ok(false);
     }
-    v.fetch(page)?;
-    if size_of(v.fetched()) != UNDEFINED_SIZE {
-        return Ok(false);
-    }
-    match name_of(v.fetched()) {
-        Some(name) => Ok(v.find_name(name.as_slice())? == Some(head.object())),
+    match name_of_empty(v, page)? {
+        Some(name) => is_name_of(v, name.as_slice(), head.object()),
         None => Ok(false),
     }
 }
@@ -156,26 +160,17 @@ fn report_on<N: Nor>(v: &mut View<'_, N>) -> Result<Option<Report>, Failed>
     }))
 }
 
-/// Checks a mounted volume, so that it may be written. Every descriptor is closed. Refused are a volume that
-/// may not be written (`Wrong`), a device that fails, and an image that this build doesn't take (`Unbuilt`).
-/// Nothing is written.
-pub fn check<'b, N: Nor>(unchecked: Unchecked<'b, N>) -> Checking<'b, N>
-    ensures wrong { IfSome (write_refusal unchecked.entry.view.geometry) (λ why. why_of result ≡ Some (CheckErr.Wrong why)) }
-    ensures writable { write_refusal unchecked.entry.view.geometry ≡ None → IsWritableIf (why_of result) }
+/// Checks a mounted volume, so that it may be written. Refused are a volume that may not be written (`Wrong`),
+/// a device that fails, and an image that this build doesn't take (`Unbuilt`). Nothing is written.
+/// `Volume::new` then gives the volume.
+pub fn check<N: Nor>(unchecked: &mut Unchecked<'_, N>) -> Result<Report, CheckErr>
+    ensures wrong { IfSome (write_refusal unchecked.old.view.geometry) (λ why. result ≡ Err (CheckErr.Wrong why)) }
+    ensures writable { write_refusal unchecked.old.view.geometry ≡ None → IfErr result IsWritable }
+    ensures few { OnOk result (usable unchecked.old.view.geometry ≤ 32766) }
+    ensures cause { result ≡ Err CheckErr.DeviceFault → Rose (N.faults unchecked.old.view.nor.now) (N.faults unchecked.new.view.nor.now) }
+    ensures looks { OnlyLooks unchecked.old.view unchecked.new.view }
+    ensures slots_name { unchecked.new.slots.ghost_name ≡ unchecked.old.slots.ghost_name }
+    ensures check_name { unchecked.new.check.ghost_name ≡ unchecked.old.check.ghost_name }
 {
-    let Parts {
-        mut view,
-        slots,
-        check,
-    } = unchecked.into_parts();
-    match survey(&mut view) {
-        Ok(report) => Checking::Checked(Checked {
-            volume: Volume::new(view, slots, check),
-            report,
-        }),
-        Err(why) => Checking::Refused {
-            why,
-            back: Unchecked { view, slots, check }.give_back(),
-        },
-    }
+    survey(&mut unchecked.view)
 }

@@ -57,6 +57,7 @@ pub(crate) fn create_in<N: Nor>(v: &mut View<'_, N>, name: &[u8]) -> Result<(), 
     requires short { length name.now ≤ 31 }
     requires no_zero { All (λ b. b ≢ 0) name.now }
     ensures cause { IsErrOf result FsErr.DeviceFault → Rose (N.faults v.old.nor.now) (N.faults v.new.nor.now) }
+    ensures faults { N.faults v.old.nor.now ≤ N.faults v.new.nor.now }
     ensures same { IsSameView v.old v.new }
 {
     let id = prepare(v, name)?;

@@ -7,5 +7,5 @@ mod names;
 mod room;
 mod volume;
 
-pub use checking::{CheckErr, Checked, Checking, Report, check};
+pub use checking::{CheckErr, Report, check};
 pub use volume::{Unmounted, Volume};

@@ -7,7 +7,7 @@ use fd_table::FdSlot;
 use flash_view::View;
 use nor_core::{Board, Failed, Nor, NorState};
 use table_model::FsErr;
-use vol_mount::{Lent, Returned};
+use vol_mount::{Lent, Parts, Returned, Unchecked};
 
 /// A checked volume. One caller at a time uses it; no call takes memory.
 #[derive(Drop)]
@@ -33,20 +33,25 @@ pub struct Unmounted<'b, N: Nor> {
 }
 
 impl<'b, N: Nor> Volume<'b, N> {
-    ghost use Rattle.std.specs.Prelude.{◌≡◌, ◌≢◌, ◌<◌, ◌≤◌, length, All, OnOk, OnErr, IsErrOf, IfOk, IsTrue, ◌↔◌, true};
+    ghost use Rattle.std.specs.Prelude.{◌≡◌, ◌≢◌, ◌<◌, ◌≤◌, length, All, OnOk, OnErr, IsErrOf, IfOk, IsOk, true, false};
     ghost use Rattle.geometry.specs.Numbers.{page_count, usable};
     ghost use Rattle.nor_core.specs.Count.{Rose};
     ghost use Rattle.flash_view.specs.Same.{IsSameView, OnlyLooks};
+    ghost use Rattle.volume.specs.Fails.{has_failed, StaysUnless};
 
-    // A volume with every descriptor closed.
-    pub(crate) fn new(
-        view: View<'b, N>,
-        slots: &'b mut [FdSlot],
-        check: &'b mut [u8],
-    ) -> Volume<'b, N>
-        requires { usable view.geometry ≤ 32766 }
-        ensures { result.view ≡ view.entry }
+    /// The volume that `check` accepted, with every descriptor closed.
+    pub fn new(unchecked: Unchecked<'b, N>) -> Volume<'b, N>
+        requires { usable unchecked.view.geometry ≤ 32766 }
+        ensures geometry { result.view.geometry ≡ unchecked.entry.view.geometry }
+        ensures nor { result.view.nor.now ≡ unchecked.entry.view.nor.now }
+        ensures nor_name { result.view.nor.ghost_name ≡ unchecked.entry.view.nor.ghost_name }
+        ensures work_name { result.view.work.ghost_name ≡ unchecked.entry.view.work.ghost_name }
+        ensures cache_name { result.view.cache.ghost_name ≡ unchecked.entry.view.cache.ghost_name }
+        ensures slots_name { result.slots.ghost_name ≡ unchecked.entry.slots.ghost_name }
+        ensures check_name { result.check.ghost_name ≡ unchecked.entry.check.ghost_name }
+        ensures stands { has_failed result ≡ false }
     {
+        let Parts { view, slots, check } = unchecked.into_parts();
         slots.fill(FdSlot::empty());
         Volume {
             view,
@@ -63,6 +68,8 @@ impl<'b, N: Nor> Volume<'b, N> {
     /// with it.
     pub fn create(&mut self, name: &[u8]) -> Result<(), FsErr>
         ensures cause { IsErrOf result FsErr.DeviceFault → Rose (N.faults self.old.view.nor.now) (N.faults self.new.view.nor.now) }
+        ensures faults { N.faults self.old.view.nor.now ≤ N.faults self.new.view.nor.now }
+        ensures failed { StaysUnless result (has_failed self.old) (has_failed self.new) }
         ensures same { IsSameView self.old.view self.new.view }
     {
         if self.failed {
@@ -80,7 +87,9 @@ impl<'b, N: Nor> Volume<'b, N> {
 
     /// Whether a call failed after it had asked the device for a program or an erase. Then mount and check
     /// again.
-    pub fn has_failed(&self) -> bool {
+    pub fn has_failed(&self) -> bool
+        ensures { result ≡ has_failed self.now }
+    {
         self.failed
     }
 
@@ -88,6 +97,7 @@ impl<'b, N: Nor> Volume<'b, N> {
     /// `Failed` where the volume has failed.
     pub fn settle(&mut self) -> Result<(), FsErr>
         ensures same { self.new ≡ self.old }
+        ensures whole { has_failed self.old ≡ false → IsOk result }
     {
         if self.failed {
             Err(FsErr::Failed)
@@ -126,6 +136,7 @@ impl<'b, B: Board> Volume<'b, B> {
     ghost use Rattle.nor_core.specs.Count.{Rose};
     ghost use Rattle.nor_core.specs.Device.{Leaves, Says, InSay};
     ghost use Rattle.flash_view.specs.Same.{IsSameView};
+    ghost use Rattle.volume.specs.Fails.{has_failed};
 
     /// The device says a piece; nothing else changes.
     pub fn say(&mut self, piece: &[u8]) -> Result<(), Failed>
@@ -134,6 +145,7 @@ impl<'b, B: Board> Volume<'b, B> {
         ensures done { B.tells self.old.view.nor.now → OnOk result (B.said self.new.view.nor.now ≡ B.said self.old.view.nor.now ++ piece.now) }
         ensures cuts { Leaves B.NorState self.old.view.nor.now self.new.view.nor.now (InSay B.NorState self.old.view.nor.now piece.now) }
         ensures same { IsSameView self.old.view self.new.view }
+        ensures failed { has_failed self.new ≡ has_failed self.old }
     {
         self.view.say(piece)
     }
