@@ -6,3 +6,4 @@ pub mod Fits
 pub mod Lent
 pub mod Later
 pub mod Runs
+pub mod Early

@@ -93,6 +93,7 @@ pub fn spiffs_tool<B: Board, S: Source>(
     bufs: &mut Buffers<'_>,
 ) -> u8
     ensures refused { RefusesIf B.NorState board.old board.new (refusal_of (map string_bytes words.now) (B.unit board.old) (B.size board.old) (lengths_of bufs.old)) result }
+    ensures script_fault { result ≡ 8 → Rose (S.faults script.old) (S.faults script.new) }
 {
     match plan(words, board.unit(), board.size(), &lengths(bufs)) {
         Err(ending) => conclude(board, ending),

@@ -1,0 +1,53 @@
+-- A run that is refused before the device was read is refused for its words, numbers, device or memory.
+use Rattle.std.proofs.Common.{ℕ, ◌≡◌, ◌≢◌, ◌+◌, ◌*◌, List, true, false, subst, arith}
+use Rattle.std.specs.Prelude.{Option, Some, None, nat_lt, if◌then◌else◌}
+use Rattle.geometry.specs.declared.error.GeoErr.{GeoErr}
+use Rattle.geometry.specs.Rules.{pages_in}
+use Rattle.vol_mount.specs.declared.lent.Part.{Part}
+use Rattle.vol_mount.specs.declared.lent.Part.TheVariants.{Work, Slots, Cache, Check, Line}
+use Rattle.tool_core.specs.declared.words.Shape.{Shape}
+use Rattle.tool_core.specs.declared.plan.Lengths.{Lengths}
+use Rattle.tool_core.specs.declared.ending.Ending.{Ending}
+use Rattle.tool_core.specs.declared.ending.Ending.TheVariants.{Done, Usage, Geometry, ShortBuffer, NotAFs, BadLine, BoardFault, SourceFault, TooLong, Tight, Unbuilt, UnbuiltImage, Differ}
+use Rattle.tool_core.specs.Closing.{status_of}
+use Rattle.tool_core.specs.Words.{run_form}
+use Rattle.tool_core.specs.Plan.{shape_refusal, length_refusal, work_need_in, shorter, refused_as, refusal_for, refusal_of}
+use Rattle.tool_core.specs.Early.{IsEarly, IsEarlyIf}
+
+shorter_early : (part : Part) (need given : ℕ) (later : Option Ending) → IsEarlyIf later → IsEarlyIf (shorter part need given later)
+shorter_early part need given later early = elim (nat_lt given need) as (λ b. IsEarlyIf (if b then Some (ShortBuffer part need given) else later)) [ true ↦ tt {0} | false ↦ early ]
+
+length_early : (page block blocks : ℕ) (lent : Lengths) → IsEarlyIf (length_refusal page block blocks lent)
+length_early page block blocks lent =
+    let line : Option Ending = shorter Line 12288 lent.line None in
+    let check : Option Ending = shorter Check (blocks * pages_in page block + 8192) lent.check line in
+    let cache : Option Ending = shorter Cache (page + 8) lent.cache check in
+    let slots : Option Ending = shorter Slots 1 lent.slots cache in
+    shorter_early Work (work_need_in page block blocks) lent.work slots
+    (shorter_early Slots 1 lent.slots cache
+    (shorter_early Cache (page + 8) lent.cache check
+    (shorter_early Check (blocks * pages_in page block + 8192) lent.check line
+    (shorter_early Line 12288 lent.line None (tt {0})))))
+
+refused_early : (why : Option GeoErr) (later : Option Ending) → IsEarlyIf later → IsEarlyIf (refused_as why later)
+refused_early None later early = early
+refused_early (Some why) later early = tt {0}
+
+shape_early : (shape : Option Shape) (unit size : ℕ) (lent : Lengths) → IsEarlyIf (refusal_for shape unit size lent)
+shape_early None unit size lent = tt {0}
+shape_early (Some s) unit size lent = refused_early (shape_refusal s unit size) _ (length_early s.page s.block s.blocks lent)
+
+refusal_early : (words : List (List ℕ)) (unit size : ℕ) (lent : Lengths) → IsEarlyIf (refusal_of words unit size lent)
+unfolding refusal_of
+refusal_early words unit size lent = shape_early (run_form words) unit size lent
+
+-- such an ending
+pub ending_early : (words : List (List ℕ)) (unit size : ℕ) (lent : Lengths) (ending : Ending) → refusal_of words unit size lent ≡ Some ending → IsEarly ending
+ending_early words unit size lent ending is = subst (λ (o : Option Ending). IsEarlyIf o) is (refusal_early words unit size lent)
+
+-- its status is no script fault
+pub early_status : (ending : Ending) → IsEarly ending → status_of ending ≢ 8
+early_status Usage early = λ (is : 1 ≡ 8). absurd (omega arith)
+early_status (Geometry why) early = λ (is : 2 ≡ 8). absurd (omega arith)
+early_status (ShortBuffer part need given) early = λ (is : 10 ≡ 8). absurd (omega arith)
+early_status _ early = absurd early
