@@ -40,6 +40,7 @@ mod tests {
     #[test]
     fn a_chip_without_a_file_fails_each_call(rt: HostRuntime) {
         let mut chip = FileChip::new(&rt, "/tmp/liverymenhir_no_such_file", false, 8192, 4096);
+        assert_eq!(rt; (chip.size(), chip.unit()), (8192, 4096));
         let mut bytes = [0u8; 4];
         assert!(rt; chip.read(0, &mut bytes).is_err());
         assert!(rt; chip.program(0, &[0]).is_err());
