@@ -1,8 +1,12 @@
 use crate::bench::{RUN, formatted, run};
-use geometry::MagicKind;
+use fd_table::FdSlot;
+use geometry::{Geometry, MagicKind};
 use nor_core::CallKind;
 use std::alloc::Global;
 use std::test::Fail;
+use table_model::FsErr;
+use vol_mount::{Lent, Unchecked, accept, mount};
+use volume::{Volume, check};
 
 #[test]
 fn a_formatted_volume_has_its_magics_and_is_erased(rt: HostRuntime) -> Result<(), Fail> {
@@ -102,5 +106,32 @@ remove a
     assert_eq!(rt; run(rt.alloc(), RUN, &mut board, script)?, 0);
     let said = b"ok\n-10036\n-11000\n-10023\n-11008\n";
     assert_eq!(rt; board.said(), said.as_slice());
+    Ok(())
+}
+
+#[test]
+fn a_volume_refuses_names_that_are_empty_or_long(rt: HostRuntime) -> Result<(), Fail> {
+    let mut board = formatted(rt.alloc(), MagicKind::Length)?;
+    let g = Geometry::new(256, 4096, 16, 4096, 0, MagicKind::Length)?;
+    let mut work = vec![in rt.alloc(); 0u8; 4096]?;
+    let mut slots = vec![in rt.alloc(); FdSlot::empty(); 1]?;
+    let mut cache = vec![in rt.alloc(); 0u8; 1024]?;
+    let mut check_bytes = vec![in rt.alloc(); 0u8; 16384]?;
+    let lent = Lent {
+        work: &mut work,
+        slots: &mut slots,
+        cache: &mut cache,
+        check: &mut check_bytes,
+    };
+    accept(&g, &board, &lent)?;
+    let mut unchecked = Unchecked::new(g, &mut board, lent);
+    mount(&mut unchecked)?;
+    check(&mut unchecked)?;
+    let mut volume = Volume::new(unchecked);
+    assert_eq!(rt; volume.create(b""), Err(FsErr::BadName));
+    assert_eq!(rt; volume.create(&[b'a'; 32]), Err(FsErr::NameTooLong));
+    assert_eq!(rt; volume.create(&[b'a'; 31]), Ok(()));
+    assert_eq!(rt; volume.create(&[b'a'; 31]), Err(FsErr::ConflictingName));
+    assert!(rt; !volume.has_failed());
     Ok(())
 }
