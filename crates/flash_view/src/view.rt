@@ -1,7 +1,7 @@
-ghost use Rattle.std.specs.Prelude.{◌≡◌, ◌+◌, ◌-◌, ◌*◌, ◌<◌, ◌≤◌, length, slice_range, OnErr};
+ghost use Rattle.std.specs.Prelude.{◌≡◌, ◌+◌, ◌-◌, ◌*◌, ◌<◌, ◌≤◌, length, slice_range, OnOk, OnErr};
 ghost use Rattle.geometry.specs.Numbers.{work_need, cache_need};
 ghost use Rattle.nor_core.specs.Count.{Rose};
-ghost use Rattle.nor_core.specs.Flash.{HalfProgrammed};
+ghost use Rattle.nor_core.specs.Flash.{HalfProgrammed, programmed};
 ghost use Rattle.nor_core.specs.Device.{Changes};
 ghost use Rattle.image_model.specs.Tidy.{is_erased as the_erased};
 
@@ -35,7 +35,7 @@ impl<'b, N: Nor> View<'b, N> {
     ghost use Rattle.std.specs.Int.{to_le_bytes, w16};
     ghost use Rattle.geometry.specs.Numbers.{work_need, cache_need, page_count, right_magic};
     ghost use Rattle.nor_core.specs.Count.{Rose};
-    ghost use Rattle.nor_core.specs.Flash.{HalfProgrammed};
+    ghost use Rattle.nor_core.specs.Flash.{HalfProgrammed, programmed};
     ghost use Rattle.nor_core.specs.Device.{Changes, InErase};
     ghost use Rattle.flash_view.specs.Places.{IsEntryPage, page_start as the_page_start, entry_start as the_entry_start};
     ghost use Rattle.image_model.specs.Headers.{word_at};
@@ -215,6 +215,8 @@ impl<'b, N: Nor> View<'b, N> {
         requires inside { at + length from.now ≤ self.old.geometry.blocks * self.old.geometry.block }
         ensures cause { OnErr result (Rose (N.faults self.old.nor.now) (N.faults self.new.nor.now)) }
         ensures changes { Changes N.NorState self.old.nor.now self.new.nor.now (HalfProgrammed at from.now) }
+        ensures done { N.tells self.old.nor.now → OnOk result (N.bytes self.new.nor.now ≡ programmed (N.bytes self.old.nor.now) at from.now) }
+        ensures work { self.new.work.now ≡ self.old.work.now }
         ensures same { IsSameView self.old self.new }
         ensures wrote { self.new.wrote ≡ true }
     {
@@ -241,6 +243,8 @@ impl<'b, N: Nor> View<'b, N> {
         requires start { start < self.old.geometry.page }
         ensures cause { OnErr result (Rose (N.faults self.old.nor.now) (N.faults self.new.nor.now)) }
         ensures changes { Changes N.NorState self.old.nor.now self.new.nor.now (HalfProgrammed (the_page_start self.old.geometry page + start) (slice_range self.old.work.now start self.old.geometry.page)) }
+        ensures done { N.tells self.old.nor.now → OnOk result (N.bytes self.new.nor.now ≡ programmed (N.bytes self.old.nor.now) (the_page_start self.old.geometry page + start) (slice_range self.old.work.now start self.old.geometry.page)) }
+        ensures work { self.new.work.now ≡ self.old.work.now }
         ensures same { IsSameView self.old self.new }
         ensures wrote { self.new.wrote ≡ true }
     {
@@ -257,6 +261,8 @@ impl<'b, N: Nor> View<'b, N> {
         requires inside { start + length from.now ≤ self.old.geometry.page }
         ensures cause { OnErr result (Rose (N.faults self.old.nor.now) (N.faults self.new.nor.now)) }
         ensures changes { Changes N.NorState self.old.nor.now self.new.nor.now (HalfProgrammed (the_page_start self.old.geometry page + start) from.now) }
+        ensures done { N.tells self.old.nor.now → OnOk result (N.bytes self.new.nor.now ≡ programmed (N.bytes self.old.nor.now) (the_page_start self.old.geometry page + start) from.now) }
+        ensures work { self.new.work.now ≡ self.old.work.now }
         ensures same { IsSameView self.old self.new }
         ensures wrote { self.new.wrote ≡ true }
     {
@@ -269,6 +275,8 @@ impl<'b, N: Nor> View<'b, N> {
         requires { IsEntryPage self.old.geometry page }
         ensures cause { OnErr result (Rose (N.faults self.old.nor.now) (N.faults self.new.nor.now)) }
         ensures changes { Changes N.NorState self.old.nor.now self.new.nor.now (HalfProgrammed (the_entry_start self.old.geometry page) (to_le_bytes w16 entry)) }
+        ensures done { N.tells self.old.nor.now → OnOk result (N.bytes self.new.nor.now ≡ programmed (N.bytes self.old.nor.now) (the_entry_start self.old.geometry page) (to_le_bytes w16 entry)) }
+        ensures work { self.new.work.now ≡ self.old.work.now }
         ensures same { IsSameView self.old self.new }
         ensures wrote { self.new.wrote ≡ true }
     {
@@ -333,6 +341,7 @@ fn program_part<N: Nor>(
     requires fits { at + (end - start) ≤ N.size nor.old }
     ensures cause { OnErr result (Rose (N.faults nor.old) (N.faults nor.new)) }
     ensures changes { Changes N.NorState nor.old nor.new (HalfProgrammed at (slice_range bytes.old start end)) }
+    ensures done { N.tells nor.old → OnOk result (N.bytes nor.new ≡ programmed (N.bytes nor.old) at (slice_range bytes.old start end)) }
     ensures kept { bytes.new ≡ bytes.old }
 {
     nor.program(at, &bytes[start..end])

@@ -11,3 +11,4 @@ pub mod Kinds
 pub mod Within
 pub mod Collect
 pub mod Shared
+pub mod Plain
