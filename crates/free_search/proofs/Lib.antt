@@ -1,2 +1,4 @@
 pub mod Scans
 pub mod Counting
+pub mod FreePages
+pub mod Worn

@@ -1,6 +1,8 @@
 -- The entries of a block by what they count as.
-use Rattle.std.specs.Prelude.{◌≡◌, ℕ, ◌+◌, List, Bool, true, false, ◌==◌, Option, Some, None, if◌then◌else◌}
+use Rattle.std.specs.Prelude.{◌≡◌, ℕ, ◌+◌, List, Bool, true, false, ◌==◌, ◌&&◌, nat_lt, Option, Some, None, if◌then◌else◌}
 use Rattle.geometry.specs.declared.geometry.Geometry.{Geometry}
+use Rattle.flash_view.specs.declared.kinds.Kind.{Kind}
+use Rattle.flash_view.specs.declared.kinds.Kind.TheVariants.{Index as IndexKind, Data as DataKind}
 use Rattle.image_model.specs.Headers.{names_index}
 use Rattle.image_model.specs.Places.{entry_of, erase_count}
 use Rattle.image_model.specs.Live.{live_at}
@@ -36,3 +38,8 @@ pub record AreCounts (g : Geometry) (image : List ℕ) (block : ℕ) (c : BlockC
   pub deleted : c.deleted ≡ deleted_in g image block
   pub free : c.free ≡ count_in g block (λ p. entry_of g image p == 0xFFFF)
   pub erases : c.erases ≡ erase_count g image block
+
+-- by these counts the free entries of a block in use are for a kind, and there are such
+abbrev pub the_takes : BlockCounts → Kind → ℕ → Bool
+the_takes c IndexKind entries = (c.data_live == 0) && nat_lt 0 c.free && nat_lt c.free entries
+the_takes c DataKind entries = nat_lt 0 c.data_live && (c.index_live == 0) && nat_lt 0 c.free

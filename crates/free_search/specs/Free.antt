@@ -3,6 +3,7 @@ use Rattle.std.specs.Prelude.{◌≡◌, ◌≢◌, ◌⊎◌, ℕ, ◌<◌, ◌
 use Rattle.geometry.specs.declared.geometry.Geometry.{Geometry}
 use Rattle.flash_view.specs.declared.kinds.Kind.{Kind}
 use Rattle.flash_view.specs.declared.kinds.Kind.TheVariants.{Index, Data}
+use Rattle.free_search.specs.declared.pages.Worn.{Worn}
 use Rattle.image_model.specs.Places.{has_magic, block_of, is_entry_page}
 use Rattle.image_model.specs.Tidy.{is_free_entry, is_free_block, free_blocks}
 use Rattle.image_model.specs.Kinds.{is_index_block, is_data_block}
@@ -64,3 +65,10 @@ FreeEntry g image block (Some p) = (is_entry_page g p ≡ true) × (block_of g p
 abbrev pub FreeBlock : Geometry → List ℕ → Option ℕ → Option ℕ → Type 0
 FreeBlock g image not_in None = (block : ℕ) → block < g.blocks → Some block ≢ not_in → is_free_block g image block ≡ false
 FreeBlock g image not_in (Some block) = is_free_block g image block ≡ true
+
+-- the less worn of the block so far and this one, where that is free: it is free if the one before was
+abbrev pub IsWorn : Geometry → List ℕ → Option Worn → ℕ → Option Worn → Type 0
+IsWorn g image None block None = is_free_block g image block ≡ false
+IsWorn g image (Some worn) block None = ⊥
+IsWorn g image None block (Some found) = (found.block ≡ block) × (is_free_block g image block ≡ true)
+IsWorn g image (Some worn) block (Some found) = (found.block ≡ worn.block) ⊎ ((found.block ≡ block) × (is_free_block g image block ≡ true))
