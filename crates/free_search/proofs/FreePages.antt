@@ -241,7 +241,7 @@ magic_of : (g : Geometry) (image : List ℕ) (block : ℕ) → is_free_block g i
 unfolding is_free_block
 magic_of g image block free = (and_parts (has_magic g image block) _ free).0
 
-some_entries : (g : Geometry) → 0 < entries g
+pub some_entries : (g : Geometry) → 0 < entries g
 unfolding entries
 some_entries g = let fits = (sizes g).lookups_fit in omega (arith, fits)
 

@@ -2,3 +2,4 @@ pub mod Scans
 pub mod Counting
 pub mod FreePages
 pub mod Worn
+pub mod Had

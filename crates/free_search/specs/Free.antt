@@ -1,5 +1,5 @@
 -- Free pages of a tidy image: which page takes the next one of a kind, and when there is none.
-use Rattle.std.specs.Prelude.{◌≡◌, ◌≢◌, ◌⊎◌, ℕ, ◌<◌, ◌≤◌, List, Bool, true, false, Option, Some, None}
+use Rattle.std.specs.Prelude.{◌≡◌, ◌≢◌, ◌⊎◌, ℕ, ◌<◌, ◌≤◌, List, Bool, true, false, Option, Some, None, is_some}
 use Rattle.geometry.specs.declared.geometry.Geometry.{Geometry}
 use Rattle.flash_view.specs.declared.kinds.Kind.{Kind}
 use Rattle.flash_view.specs.declared.kinds.Kind.TheVariants.{Index, Data}
@@ -7,7 +7,7 @@ use Rattle.free_search.specs.declared.pages.Worn.{Worn}
 use Rattle.image_model.specs.Places.{has_magic, block_of, is_entry_page}
 use Rattle.image_model.specs.Tidy.{is_free_entry, is_free_block, free_blocks}
 use Rattle.image_model.specs.Kinds.{is_index_block, is_data_block}
-use Rattle.image_model.specs.Collect.{free_in, takes_index, takes_data}
+use Rattle.image_model.specs.Collect.{free_in, takes_index, takes_data, are_had}
 
 -- a block that holds a live page of the other kind
 abbrev pub holds_other : Geometry → List ℕ → Kind → ℕ → Bool
@@ -72,3 +72,7 @@ IsWorn g image None block None = is_free_block g image block ≡ false
 IsWorn g image (Some worn) block None = ⊥
 IsWorn g image None block (Some found) = (found.block ≡ block) × (is_free_block g image block ≡ true)
 IsWorn g image (Some worn) block (Some found) = (found.block ≡ worn.block) ⊎ ((found.block ≡ block) × (is_free_block g image block ≡ true))
+
+-- A page is found for an index page that leaves two blocks free exactly where one index page is had.
+abbrev pub IndexPageHad : Geometry → Type 0
+IndexPageHad g = (image : List ℕ) (found : Option ℕ) → FreePage g image Index 2 None found → is_some found ≡ are_had g image 1 0

@@ -4,7 +4,8 @@ ghost use Rattle.flash_view.specs.Places.{IsEntryPage};
 ghost use Rattle.flash_view.specs.Same.{OnlyLooks};
 ghost use Rattle.image_model.specs.Tidy.{IsTidy, is_free_block as the_free_block};
 ghost use Rattle.free_search.specs.Counts.{the_takes};
-ghost use Rattle.free_search.specs.Free.{FreePage, OpenIf, OpenBlock, FreeEntry, FreeBlock, IsWorn};
+ghost use Rattle.geometry.specs.declared.geometry.Geometry.{Geometry};
+ghost use Rattle.free_search.specs.Free.{FreePage, OpenIf, OpenBlock, FreeEntry, FreeBlock, IsWorn, IndexPageHad};
 
 use crate::{BlockCounts, counts, free_blocks, is_free_block};
 use flash_view::{Kind, View, entry_page};
@@ -146,3 +147,9 @@ pub fn free_page<N: Nor>(
         None => Ok(None),
     }
 }
+
+/// A page for an index page of a file call is found exactly where one is had.
+#[tactic(auto, using(crate::proofs::Had::page_had))]
+pub fn index_pages_had()
+    ensures { (g : Geometry) → IndexPageHad g }
+{}
