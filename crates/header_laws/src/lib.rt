@@ -1,0 +1,4 @@
+//! Laws that tie the header pages of a tidy image to its flat table.
+#![tactic(auto)]
+
+pub mod ids;
