@@ -47,11 +47,11 @@ judged_by-fields g pages id head None m f e = absurd (cc)
 judged_by-fields g pages id head (Some name) (Some span) f e = absurd (cc)
 judged_by-fields g pages id head (Some name) None f e = (name, refl, cc)
 
-judged-fields : (g : Geometry) (pages : Live) (id : ℕ) (head : List ℕ) (f : File) → judged g pages id head ≡ Ok f → (name : List ℕ) × (name_of head ≡ Some name) × (file_from g pages id head name ≡ f)
+pub judged-fields : (g : Geometry) (pages : Live) (id : ℕ) (head : List ℕ) (f : File) → judged g pages id head ≡ Ok f → (name : List ℕ) × (name_of head ≡ Some name) × (file_from g pages id head name ≡ f)
 unfolding judged
 judged-fields g pages id head f e = judged_by-fields g pages id head (name_of head) _ f e
 
-judged-name : (g : Geometry) (pages : Live) (id : ℕ) (head : List ℕ) (f : File) → judged g pages id head ≡ Ok f → name_of head ≡ Some f.name
+pub judged-name : (g : Geometry) (pages : Live) (id : ℕ) (head : List ℕ) (f : File) → judged g pages id head ≡ Ok f → name_of head ≡ Some f.name
 judged-name g pages id head f e = let w = judged-fields g pages id head f e in w.1 ∙ ap (λ (x : File). Some x.name) w.2
 
 -- ---- the id that a live header page with a name has

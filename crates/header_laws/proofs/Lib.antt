@@ -1,3 +1,5 @@
 pub mod Listed
 pub mod HeadPages
 pub mod HeadNames
+pub mod FineNames
+pub mod Telling
