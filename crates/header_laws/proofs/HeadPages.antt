@@ -4,7 +4,7 @@ use Rattle.std.specs.Prelude.{find, is_some, nat_lt}
 use Rattle.std.specs.Option.{option_map}
 use Rattle.std.specs.List.{range_with_len, filter_map, list_any}
 use Rattle.std.proofs.lemmas.Bool.{cases_lt, cases_eq, false_from_ne_true, eqb-true, eq-eqb, ltb-true, lt-ltb, false≢true}
-use Rattle.std.proofs.lemmas.Option.{none-some, same_Some}
+use Rattle.std.proofs.lemmas.Option.{none-some, same_Some, some_pair_parts}
 use Rattle.geometry.specs.declared.geometry.Geometry.{Geometry}
 use Rattle.table_model.specs.Table.{File, has_id, file_of, file_above}
 use Rattle.image_model.specs.declared.damage.Damage.{Damage}
@@ -25,7 +25,7 @@ whole_if_quiet : (has : Found) (m j : ℕ) (o : Option (ℕ × Result File Damag
 whole_if_quiet has m j None quiet q r e = absurd (none-some _ e)
 whole_if_quiet has m j (Some (p, Err x)) quiet q r e = absurd (none-some _ (sym quiet))
 whole_if_quiet has m j (Some (p, Ok f)) quiet q r e =
-    let at : p ≡ q = (Rattle.std.proofs.lemmas.Option.some_pair_parts p q (Ok f) r e).0 in
+    let at : p ≡ q = (some_pair_parts p q (Ok f) r e).0 in
     (f, ap (λ (x : ℕ). Some (x, Ok f)) at, rw (counts_from_quiet has m j p f quiet) refl)
 
 -- the header page of an id, and its file

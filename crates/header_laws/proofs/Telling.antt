@@ -1,5 +1,5 @@
 -- What a header page of a tidy image tells.
-use Rattle.std.proofs.Common.{◌≡◌, ℕ, ◌+◌, ◌-◌, ◌%◌, ◌<◌, ◌≤◌, List, length, slice_index, slice_range, true, Option, Some, None, Ok, ap, refl, sym, ◌∙◌, arith, length-take, length-drop}
+use Rattle.std.proofs.Common.{◌≡◌, ℕ, ◌+◌, ◌-◌, ◌%◌, ◌<◌, ◌≤◌, List, length, slice_index, slice_range, Bool, true, Option, Some, None, Ok, ap, refl, sym, ◌∙◌, arith, length-take, length-drop}
 use Rattle.std.specs.Prelude.{nat_lt}
 use Rattle.std.specs.List.{range_with_len, filter_map}
 use Rattle.std.proofs.lemmas.Option.{same_Some}
@@ -76,7 +76,7 @@ files-have_heads g a is t id f e =
     }
 
 -- the first file that passes is that of its id
-first-by_id : (g : Geometry) (a : List ℕ) (test : File → Rattle.std.proofs.Common.Bool) (f : File) → IsFirst (file_at g a) test 1 0x7FFF f → file_of f.id (table_of g a) ≡ Some f
+first-by_id : (g : Geometry) (a : List ℕ) (test : File → Bool) (f : File) → IsFirst (file_at g a) test 1 0x7FFF f → file_of f.id (table_of g a) ≡ Some f
 first-by_id g a test f w =
     let key : f.id ≡ w.j = file_at-keyed g a w.j f w.is in
     file_of-at g a f.id ∙ ap (file_at g a) key ∙ w.is
