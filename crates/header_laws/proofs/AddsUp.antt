@@ -11,7 +11,7 @@ use Rattle.table_model.specs.Table.{File, has_id, put_file}
 use Rattle.table_model.specs.Room.{index_pages, data_pages, index_count, data_count}
 use Rattle.table_model.specs.Files.{new_file}
 use Rattle.image_model.specs.Within.{sizes}
-use Rattle.header_laws.specs.Sums.{Adds, PutAdds, NewAdds}
+use Rattle.header_laws.specs.Sums.{PutAdds, NewAdds}
 use Rattle.header_laws.proofs.HeadCount.{sum-ones}
 
 sum-put : (h : File → ℕ) (f : File) (xs : List File) → has_id f.id xs ≡ false → sum_by h (put_file f xs) ≡ sum_by h xs + h f

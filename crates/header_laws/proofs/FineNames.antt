@@ -1,5 +1,5 @@
 -- Names that aren't refused, and those that header pages hold.
-use Rattle.std.proofs.Common.{◌≡◌, ℕ, zero, suc, ◌+◌, ◌-◌, ◌<◌, ◌≤◌, List, [], ◌∷◌, length, take, drop, get_or, slice_range, Bool, true, false, cond, ◌==◌, ◌||◌, Option, Some, None, refl, sym, ◌∙◌, arith, ⊎_elim, length-take, length-drop}
+use Rattle.std.proofs.Common.{◌≡◌, ℕ, zero, suc, ◌<◌, ◌≤◌, List, [], ◌∷◌, length, take, get_or, slice_range, Bool, true, false, cond, ◌==◌, Option, Some, None, refl, sym, ◌∙◌, arith, ⊎_elim, length-take, length-drop}
 use Rattle.std.specs.Prelude.{nat_lt, position}
 use Rattle.std.specs.List.{list_any}
 use Rattle.std.proofs.lemmas.Bool.{cases_Bool, or_parts, eqb-false, ne_eqb, ltb-false, le-ltb}

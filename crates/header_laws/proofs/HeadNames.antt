@@ -1,25 +1,21 @@
 -- The names that header pages hold, and what else they tell.
-use Rattle.std.proofs.Common.{◌≡◌, ◌≢◌, ℕ, zero, suc, ◌+◌, ◌-◌, ◌%◌, ◌<◌, ◌≤◌, ◌⊎◌, List, [], ◌∷◌, length, take, drop, get_or, slice_index, slice_range, Bool, true, false, cond, ◌==◌, ◌&&◌, ◌||◌, Option, Some, None, Result, Ok, Err, ap, refl, sym, ◌∙◌, arith, ⊎_elim, subst, length-take, length-drop}
-use Rattle.std.specs.Prelude.{find, is_some, nat_lt, position, option_and_then}
+use Rattle.std.proofs.Common.{◌≡◌, ℕ, ◌%◌, ◌<◌, List, [], Bool, true, false, ◌&&◌, Option, Some, None, Ok, ap, refl, sym, ◌∙◌, arith, ⊎_elim}
+use Rattle.std.specs.Prelude.{find, is_some, option_and_then}
 use Rattle.std.specs.Option.{option_map}
 use Rattle.std.specs.List.{range_with_len, filter_map, list_any}
-use Rattle.std.proofs.lemmas.Bool.{cases_lt, cases_eq, cases_Bool, and_parts, or_cases, or_parts, eqb-true, eqb-false, eq-eqb, ltb-false, le-ltb, ne_eqb, false≢true}
-use Rattle.std.proofs.lemmas.List.Quantifiers.{position-Some}
-use Rattle.std.proofs.lemmas.Option.{none-some, same_Some, option_and_then_some}
+use Rattle.std.proofs.lemmas.Bool.{cases_eq, cases_Bool, and_parts, or_cases, eqb-true, eq-eqb, false≢true}
+use Rattle.std.proofs.lemmas.Option.{none-some, same_Some}
 use Rattle.geometry.specs.declared.geometry.Geometry.{Geometry}
-use Rattle.geometry.specs.Numbers.{span_slots}
-use Rattle.table_model.specs.Table.{File, same_text, has_name, file_of, file_named, file_above}
-use Rattle.table_model.specs.Names.{name_refusal, is_bad_name, is_long_name}
+use Rattle.table_model.specs.Table.{File, same_text, has_name, file_named}
 use Rattle.table_model.specs.Room.{index_pages, data_pages}
-use Rattle.image_model.specs.declared.damage.Damage.{Damage}
-use Rattle.image_model.specs.Within.{sizes, page_number, page_length}
+use Rattle.image_model.specs.Within.{page_number}
 use Rattle.image_model.specs.Volume.{page_count}
 use Rattle.image_model.specs.Places.{IsImage}
 use Rattle.image_model.specs.Headers.{obj_id, names_index, size_of, name_of}
 use Rattle.image_model.specs.Live.{live_at, Live, own}
 use Rattle.image_model.specs.Files.{is_index, index_page, entry_number, data_of, judged, judged_by}
 use Rattle.image_model.specs.Files.{file_of as file_from}
-use Rattle.image_model.specs.Tables.{has_of, damaged_of, records, damages, table_of}
+use Rattle.image_model.specs.Tables.{has_of, damaged_of, records, table_of}
 use Rattle.image_model.specs.Tidy.{IsTidy, is_number, serves}
 use Rattle.flash_view.specs.Found.{is_name, headed as head_id, named_at, first_named}
 use Rattle.image_laws.proofs.Records.{bytes_same, bytes_equal, names-apart}
@@ -29,15 +25,11 @@ use Rattle.image_laws.proofs.Tables.{find_passes}
 use Rattle.image_laws.proofs.Judge.{index_passes}
 use Rattle.image_laws.proofs.Finish.{own-parts, heads-apart}
 use Rattle.image_laws.proofs.Frames.{live_parts}
-use Rattle.image_laws.proofs.Wanted.{judged-whole}
 use Rattle.image_laws.proofs.Wants.{number-is}
-use Rattle.image_laws.proofs.Serving.{bytes_long, judged-bytes}
-use Rattle.image_laws.proofs.Tally.{wants, served}
+use Rattle.image_laws.proofs.Tally.{wants}
 use Rattle.header_laws.specs.Ids.{Named, HasNames}
-use Rattle.header_laws.specs.Heads.{Tells, HeadTells, HasHead, FilesHaveHeads, FoundById}
-use Rattle.header_laws.specs.Names.{IsName, FineNames}
 use Rattle.header_laws.proofs.Listed.{any-found, found-first, found-none}
-use Rattle.header_laws.proofs.HeadPages.{Headed, file_at, file_at-keyed, file_of-at, headed, headed-by_file}
+use Rattle.header_laws.proofs.HeadPages.{file_at, headed, headed-by_file}
 
 -- ---- a whole file has the fields of its header page
 

@@ -1,19 +1,18 @@
 -- The least unused id of a table, and the room of a create.
-use Rattle.std.proofs.Common.{◌≡◌, ℕ, zero, suc, ◌+◌, ◌-◌, ◌/◌, ◌*◌, ◌%◌, ◌<◌, ◌≤◌, ◌⊎◌, List, [], ◌∷◌, length, Bool, true, false, not, ◌==◌, ◌||◌, Option, Some, None, ap, refl, sym, ◌∙◌, arith, ⊎_elim, subst}
+use Rattle.std.proofs.Common.{◌≡◌, ℕ, zero, suc, ◌+◌, ◌*◌, ◌<◌, ◌≤◌, List, [], ◌∷◌, length, Bool, true, false, not, ◌==◌, ◌||◌, Option, Some, None, ap, refl, sym, ◌∙◌, arith, ⊎_elim}
 use Rattle.std.specs.Prelude.{find, filter, nat_le, unwrap_or}
-use Rattle.std.specs.List.{range_with_len, list_any, sum_by}
-use Rattle.std.proofs.Math.Nat.{div-add-mod, mul-le-mul_left, mul-le-mul_right}
+use Rattle.std.specs.List.{range_with_len, list_any}
+use Rattle.std.proofs.Math.Nat.{mul-le-mul_right}
 use Rattle.std.proofs.Math.Path.{fun_ext}
 use Rattle.std.proofs.lemmas.List.Sums.{sum_by-cons}
-use Rattle.std.proofs.lemmas.Bool.{cases_Bool, cases_lt, cases_eq, eq-eqb, ne_eqb, leb-true, not-true, not-false, false≢true, or_parts}
+use Rattle.std.proofs.lemmas.Bool.{cases_Bool, cases_lt, cases_eq, eq-eqb, ne_eqb, leb-true, not-true, not-false}
 use Rattle.std.proofs.lemmas.Option.{none-some, same_Some}
 use Rattle.geometry.specs.declared.geometry.Geometry.{Geometry}
 use Rattle.geometry.specs.Numbers.{ceil, entries, usable}
-use Rattle.table_model.specs.Table.{File, has_id, least_id, put_file}
+use Rattle.table_model.specs.Table.{File, has_id, least_id}
 use Rattle.table_model.specs.Room.{index_pages, index_count, data_count, has_room}
-use Rattle.table_model.specs.Files.{new_file, created}
+use Rattle.table_model.specs.Files.{created}
 use Rattle.image_model.specs.Tables.{table_of}
-use Rattle.flash_view.specs.Found.{has_header}
 use Rattle.image_laws.proofs.Matching.{filter-none_in, count_one}
 use Rattle.image_laws.proofs.Wanted.{header-below}
 use Rattle.image_laws.proofs.Serving.{ceil-enough}
@@ -76,11 +75,15 @@ first-parts t a (suc n) k e =
     ⊎_elim
     (λ (here : t a ≡ true). let at : a ≡ k = same_Some a k (rw here at e) in (rw at at here, omega arith, omega arith, λ i low less. absurd (omega arith)))
     (λ (later : t a ≡ false).
-    let w = first-parts t (a + 1) n k (rw later at e) in
-    (w.0, omega (arith, w.1), omega (arith, w.2), λ i low less. ⊎_elim
-    (λ (x : a ≡ i). rw x at later)
-    (λ (x : a ≡ i → ⊥). w.3 i (omega (arith, x)) less)
-    (cases_eq a i)))
+    let w = first-parts t (a + 1) n k (rw later at e) in (
+      w.0,
+      omega (arith, w.1),
+      omega (arith, w.2),
+      λ i low less. ⊎_elim
+          (λ (x : a ≡ i). rw x at later)
+          (λ (x : a ≡ i → ⊥). w.3 i (omega (arith, x)) less)
+          (cases_eq a i),
+    ))
     (cases_Bool (t a))
 
 first-from : (t : ℕ → Bool) (a n k : ℕ) → a ≤ k → k < a + n → t k ≡ true → ((i : ℕ) → a ≤ i → i < k → t i ≡ false) → find t (range_with_len a n) ≡ Some k
@@ -137,10 +140,9 @@ least-first g a name undamaged room =
     let fits : nat_le (ceil (index_count g (table_of g a) + 2) (entries g) + ceil (data_count g (table_of g a) + 1) (entries g) + 2) g.blocks ≡ true = sym (create-room g name (table_of g a)) ∙ room in
     let bound = room-bound (index_count g (table_of g a)) (ceil (data_count g (table_of g a) + 1) (entries g)) (entries g) g.blocks (omega (arith, g.valid.some_entries)) (leb-true _ g.blocks fits) in
     let few = few_files g (table_of g a) in
-    let high : least_id (table_of g a) ≤ usable g = omega (arith, least.high, few, bound) in
-    (
+    let high : least_id (table_of g a) ≤ usable g = omega (arith, least.high, few, bound) in (
       ap (λ (t : ℕ → Bool). find t (range_with_len 1 (usable g))) (fun_ext (λ (id : ℕ). ap not (has-ids g a undamaged id)))
-      ∙ first-from (λ (id : ℕ). not (has_id id (table_of g a))) 1 (usable g) (least_id (table_of g a)) least.low (omega (arith, high))
+          ∙ first-from (λ (id : ℕ). not (has_id id (table_of g a))) 1 (usable g) (least_id (table_of g a)) least.low (omega (arith, high))
           (ap not least.unused) (λ i low less. ap not (least.least i low less)),
       high,
     )

@@ -1,7 +1,6 @@
 -- What a header page of a tidy image tells.
-use Rattle.std.proofs.Common.{◌≡◌, ℕ, ◌+◌, ◌-◌, ◌%◌, ◌<◌, ◌≤◌, List, length, slice_index, slice_range, Bool, true, Option, Some, None, Ok, ap, refl, sym, ◌∙◌, arith, length-take, length-drop}
+use Rattle.std.proofs.Common.{◌≡◌, ℕ, ◌+◌, ◌<◌, List, length, slice_range, Bool, Some, ap, sym, ◌∙◌, arith, length-take, length-drop}
 use Rattle.std.specs.Prelude.{nat_lt}
-use Rattle.std.specs.List.{range_with_len, filter_map}
 use Rattle.std.proofs.lemmas.Option.{same_Some}
 use Rattle.geometry.specs.declared.geometry.Geometry.{Geometry}
 use Rattle.geometry.specs.Numbers.{span_slots}
@@ -9,9 +8,8 @@ use Rattle.table_model.specs.Table.{File, same_text, file_of, file_named, file_a
 use Rattle.image_model.specs.Within.{Sizes, sizes, page_number, page_length}
 use Rattle.image_model.specs.Volume.{page_count}
 use Rattle.image_model.specs.Places.{IsImage}
-use Rattle.image_model.specs.Headers.{size_of, name_of}
 use Rattle.image_model.specs.Live.{live_at, own}
-use Rattle.image_model.specs.Files.{index_page, judged, bytes_of}
+use Rattle.image_model.specs.Files.{bytes_of}
 use Rattle.image_model.specs.Tables.{records, table_of}
 use Rattle.image_model.specs.Tidy.{IsTidy}
 use Rattle.image_laws.proofs.Finish.{own-parts}
@@ -19,7 +17,7 @@ use Rattle.image_laws.proofs.Frames.{live_parts}
 use Rattle.image_laws.proofs.Wanted.{judged-whole}
 use Rattle.image_laws.proofs.Serving.{bytes_long}
 use Rattle.image_laws.proofs.Tally.{served}
-use Rattle.header_laws.specs.Heads.{Tells, HeadTells, HasHead, FilesHaveHeads, FoundById}
+use Rattle.header_laws.specs.Heads.{Tells, HeadTells, FilesHaveHeads, FoundById}
 use Rattle.header_laws.proofs.Listed.{IsFirst, found-first}
 use Rattle.header_laws.proofs.HeadPages.{Headed, file_at, file_at-keyed, file_of-at, headed, headed-by_file}
 use Rattle.header_laws.proofs.HeadNames.{judged-name, judged-fields}
