@@ -32,7 +32,8 @@ copies-same g pages id head new f0 file same =
     (pieces-same (span_bytes g pages head) (λ (t : ℕ). slice_range (unwrap_or (now_data g pages head new t) []) 5 g.page) 0 (data_pages g (size_of head)) (λ q low high. same q (omega arith)))
     ∙ file-bytes g pages id head f0 file
 
-any-range : (f now : ℕ → Bool) (a n : ℕ) → ((q : ℕ) → a ≤ q → q < a + n → now q ≡ f q) → list_any now (range_with_len a n) ≡ list_any f (range_with_len a n)
+-- some number of a range passes where it did
+pub any-range : (f now : ℕ → Bool) (a n : ℕ) → ((q : ℕ) → a ≤ q → q < a + n → now q ≡ f q) → list_any now (range_with_len a n) ≡ list_any f (range_with_len a n)
 any-range f now a zero same = refl
 any-range f now a (suc n) same = rw (same a (omega arith) (omega arith)) (ap (λ (b : Bool). f a || b) (any-range f now (a + 1) n (λ q low high. same q (omega arith) (omega arith))))
 

@@ -46,7 +46,9 @@ pub mod Reindexed
 pub mod ReindexSteps
 pub mod RecopyStep
 pub mod RecopyTidy
+pub mod StayTidy
 pub mod EntryInPlace
+pub mod AppendTidy
 pub mod Leading
 pub mod Truncating
 pub mod MixedBlocks

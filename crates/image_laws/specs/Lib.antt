@@ -21,3 +21,4 @@ pub mod Reindex
 pub mod Renew
 pub mod Spares
 pub mod Truncate
+pub mod Append

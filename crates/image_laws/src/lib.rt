@@ -1,6 +1,7 @@
 //! Laws of what programs, kills and erases do to what a flash image means.
 #![tactic(auto)]
 
+pub mod appending;
 pub mod blocks;
 pub mod counting;
 pub mod killing;
