@@ -78,7 +78,8 @@ module _ (g : Geometry) (pages : Live) (head head' : List ℕ) (spans : SameSpan
 pub renamed-leads : (g : Geometry) → RenamedLeads g
 renamed-leads g pages id head head' name f0 file spans named = (leads_to g pages head head' spans id name f0 file named, serves-renamed g pages head head' spans)
 
-no_leftover : (g : Geometry) (pages : Live) (head : List ℕ) (r : ℕ) → ((x : List ℕ) → pages r ≡ Some x → serves g pages head r ≡ true) → leftover g pages head r ≡ true → ⊥
+-- where all pages of the id serve it, none is left over
+pub no_leftover : (g : Geometry) (pages : Live) (head : List ℕ) (r : ℕ) → ((x : List ℕ) → pages r ≡ Some x → serves g pages head r ≡ true) → leftover g pages head r ≡ true → ⊥
 unfolding leftover
 no_leftover g pages head r all e =
     let v : (is_some (pages r) ≡ true) × (not (serves g pages head r) ≡ true) = and_parts (is_some (pages r)) _ e in

@@ -51,4 +51,5 @@ pub mod EntryInPlace
 pub mod AppendTidy
 pub mod Leading
 pub mod Truncating
+pub mod Appended
 pub mod MixedBlocks

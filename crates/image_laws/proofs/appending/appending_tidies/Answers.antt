@@ -1,5 +1,8 @@
-use Rattle.image_laws.proofs.AppendTidy.{appending-tidies}
+use Rattle.image_laws.proofs.AppendTidy.{appending-tidies, renewed-tidies}
 use Rattle.image_laws.proofs.appending.appending_tidies.Goals as goal
 
-pub returns : goal.returns
-returns c = appending-tidies
+pub returns-clause-beside : goal.returns-clause-beside
+returns-clause-beside c = appending-tidies
+
+pub returns-clause-renewed : goal.returns-clause-renewed
+returns-clause-renewed c = renewed-tidies
