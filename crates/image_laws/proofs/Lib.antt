@@ -49,6 +49,7 @@ pub mod RecopyTidy
 pub mod StayTidy
 pub mod EntryInPlace
 pub mod AppendTidy
+pub mod RemoveTidy
 pub mod Leading
 pub mod Truncating
 pub mod Appended

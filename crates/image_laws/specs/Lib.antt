@@ -22,3 +22,4 @@ pub mod Renew
 pub mod Spares
 pub mod Truncate
 pub mod Append
+pub mod Remove

@@ -7,6 +7,7 @@ pub mod counting;
 pub mod killing;
 pub mod laws;
 pub mod moving;
+pub mod removing;
 pub mod renewing;
 pub mod sound;
 pub mod staging;
