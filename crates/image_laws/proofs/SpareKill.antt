@@ -13,7 +13,7 @@ use Rattle.image_laws.specs.Programs.{IsIdle, ClearsBit}
 use Rattle.image_model.specs.Sound.{HasMagics, Keeps}
 use Rattle.image_laws.specs.TidySteps.{IsTidyBut, Agree}
 use Rattle.image_laws.specs.LiveSteps.{Kills, KillCut, KillDone}
-use Rattle.image_laws.specs.Spares.{Spares, SpareKills, SparesEnd, is_in_table}
+use Rattle.image_laws.specs.Spares.{Spares, SpareKills, SparesEnd, TidyHasMagics, is_in_table}
 use Rattle.image_laws.proofs.Frames.{live_parts}
 use Rattle.image_laws.proofs.Kill.{has_of-loses}
 use Rattle.image_laws.proofs.Wanted.{unwanted-idle}
@@ -106,3 +106,6 @@ spare-kills g a b d r kill x spare is m s sp live clears kills =
 
 pub spares-end : (g : Geometry) → SparesEnd g
 spares-end g a spare none s = (tidy-is_tidy g a spare).1 none s.tidy
+
+pub tidy-has_magics : (g : Geometry) → TidyHasMagics g
+tidy-has_magics g a spare t = record { one = λ b c low low' no no'. let yes = t.magic b low in absurd (cc) }

@@ -10,7 +10,8 @@ use Rattle.image_model.specs.Headers.{word_at, obj_id, names_index, span_of, siz
 use Rattle.image_model.specs.Files.{index_page, entry_number, data_page, judged}
 use Rattle.image_model.specs.Places.{IsImage}
 use Rattle.image_model.specs.Tables.{table_of}
-use Rattle.image_model.specs.Tidy.{IsTidy, serves}
+use Rattle.image_model.specs.Tidy.{IsTidy, serves, free_blocks}
+use Rattle.image_model.specs.Sound.{HasMagics, Keeps}
 use Rattle.image_laws.specs.TidySteps.{IsTidyBut}
 use Rattle.image_laws.specs.LiveSteps.{Finished, Kills}
 use Rattle.image_laws.specs.Renew.{Renews}
@@ -22,6 +23,13 @@ AppendingTidies g = (a b : List ℕ) (p h at : ℕ) (asked page head : List ℕ)
     index_page g (own (live_at g a) (obj_id page % 0x8000)) 0 ≡ Some h → own (live_at g a) (obj_id page % 0x8000) h ≡ Some head →
     p * g.page + 5 + (size_of head - span_of page * body g) ≤ at → at + length asked ≤ p * g.page + g.page → HalfProgrammed at asked a b →
     IsTidyBut g b spare × (table_of g b ≡ table_of g a)
+
+-- It keeps an image that isn't tidy too, with its free blocks.
+abbrev pub AppendingIsSound : Geometry → Type 0
+AppendingIsSound g = (a b : List ℕ) (p h at : ℕ) (asked page head : List ℕ) → IsImage g a → HasMagics g a → live_at g a p ≡ Some page → names_index page ≡ false →
+    index_page g (own (live_at g a) (obj_id page % 0x8000)) 0 ≡ Some h → own (live_at g a) (obj_id page % 0x8000) h ≡ Some head →
+    p * g.page + 5 + (size_of head - span_of page * body g) ≤ at → at + length asked ≤ p * g.page + g.page → HalfProgrammed at asked a b →
+    Keeps g a b × (free_blocks g a ≤ free_blocks g b)
 
 -- A header page says that a file has these bytes more: they stand in data page z, behind the old size.
 pub record Appends (g : Geometry) (pages : Live) (head head' bytes z : List ℕ) : Type 0 where

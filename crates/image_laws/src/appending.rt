@@ -1,9 +1,10 @@
 ghost use Rattle.geometry.specs.declared.geometry.Geometry.{Geometry};
-ghost use Rattle.image_laws.specs.Append.{AppendingTidies, AppendedLeads, AppendedServes, RenewedTidies};
+ghost use Rattle.image_laws.specs.Append.{AppendingTidies, AppendingIsSound, AppendedLeads, AppendedServes, RenewedTidies};
 
 /// Bytes appended inside the last data page leave the image tidy, and so does a header page that all pages of its file serve.
 pub fn appending_tidies()
     ensures beside { (g : Geometry) → AppendingTidies g }
+    ensures sound { (g : Geometry) → AppendingIsSound g }
     ensures renewed { (g : Geometry) → RenewedTidies g }
 {}
 

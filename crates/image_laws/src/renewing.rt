@@ -8,7 +8,7 @@ ghost use Rattle.image_laws.specs.Leads.{CopiesSame, RenamedLeads, RenameTidies}
 ghost use Rattle.image_laws.specs.InPlace.{EntryInPlaceKeeps, EntryInPlaceTidies};
 ghost use Rattle.image_laws.specs.Recopy.{RecopyIsSound, PutDataKeeps, PutDataSpares, RecopyTidies, PutSame};
 ghost use Rattle.image_laws.specs.Flash.{FinishedIsProgrammed};
-ghost use Rattle.image_laws.specs.Spares.{SpareKills, SparesEnd, RenewLeaves};
+ghost use Rattle.image_laws.specs.Spares.{SpareKills, SparesEnd, RenewLeaves, TidyHasMagics};
 
 /// Where the pages of one id have changed, its file is put into the table and the image is tidy.
 pub fn changes_tidy()
@@ -37,6 +37,7 @@ pub fn renewing_puts()
 pub fn spares_go()
     ensures kill { (g : Geometry) → SpareKills g }
     ensures end { (g : Geometry) → SparesEnd g }
+    ensures magics { (g : Geometry) → TidyHasMagics g }
 {}
 
 /// What a finished program leaves, byte by byte.
