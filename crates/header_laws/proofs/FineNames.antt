@@ -1,14 +1,17 @@
 -- Names that aren't refused, and those that header pages hold.
-use Rattle.std.proofs.Common.{◌≡◌, ℕ, zero, suc, ◌<◌, ◌≤◌, List, [], ◌∷◌, length, take, get_or, slice_range, Bool, true, false, cond, ◌==◌, Option, Some, None, refl, sym, ◌∙◌, arith, ⊎_elim, length-take, length-drop}
+use Rattle.std.proofs.Common.{◌≡◌, ◌≢◌, ℕ, zero, suc, ◌<◌, ◌≤◌, List, [], ◌∷◌, length, take, get_or, slice_range, Bool, true, false, cond, ◌==◌, Option, Some, None, refl, sym, ◌∙◌, arith, ⊎_elim, length-take, length-drop}
 use Rattle.std.specs.Prelude.{nat_lt, position}
-use Rattle.std.specs.List.{list_any}
-use Rattle.std.proofs.lemmas.Bool.{cases_Bool, or_parts, eqb-false, ne_eqb, ltb-false, le-ltb}
+use Rattle.std.specs.List.{list_any, AllByRecursion}
+use Rattle.std.proofs.lemmas.List.Elements.{All-from_recursion}
+use Rattle.std.proofs.lemmas.Bool.{cases_Bool, or_parts, eqb-false, ne_eqb, ltb-false, le-ltb, false≢true}
 use Rattle.std.proofs.lemmas.List.Quantifiers.{position-Some}
 use Rattle.std.proofs.lemmas.Option.{none-some, same_Some, option_and_then_some}
 use Rattle.table_model.specs.declared.error.FsErr.{FsErr}
 use Rattle.table_model.specs.Names.{name_refusal, is_bad_name, is_long_name}
 use Rattle.image_model.specs.Headers.{name_of}
-use Rattle.header_laws.specs.Names.{IsName, FineNames}
+use Rattle.header_laws.specs.Names.{IsName, FineNames, NewNameUnused}
+use Rattle.table_model.specs.Table.{File, same_text, has_name}
+use Rattle.image_laws.proofs.Records.{bytes_equal}
 
 refused_not : (e : FsErr) (o : Option FsErr) (b : Bool) → cond b (Some e) o ≡ None → (b ≡ false) × (o ≡ None)
 refused_not e o true h = absurd (none-some e (sym h))
@@ -54,3 +57,14 @@ name_of-fine page name e =
     record { least = omega (arith, size, more); most = omega (arith, size, w.0, field); no_zero = none_passes (λ (b : ℕ). b == 0) n (slice_range page 13 45) w.2 } in
     rw is at fine)
     (cases_Bool (n == 0)))
+
+unused-list : (id : ℕ) (name : List ℕ) (files : List File) → list_any (λ f. same_text f.name name) files ≡ false → AllByRecursion (λ x. x.id ≢ id → x.name ≢ name) files
+unused-list id name [] none = tt
+unused-list id name (f ∷ files) none =
+    let w = or_parts (same_text f.name name) (list_any (λ (x : File). same_text x.name name) files) none in
+    (λ there same. false≢true (sym w.0 ∙ (rw same (bytes_equal name))), unused-list id name files w.1)
+
+-- a name that is not there is no file's
+pub new-unused : NewNameUnused
+unfolding has_name
+new-unused id name files none = All-from_recursion (λ (x : File). x.id ≢ id → x.name ≢ name) files (unused-list id name files none)

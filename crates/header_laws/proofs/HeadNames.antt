@@ -1,5 +1,5 @@
 -- The names that header pages hold, and what else they tell.
-use Rattle.std.proofs.Common.{◌≡◌, ℕ, ◌%◌, ◌<◌, List, [], Bool, true, false, ◌&&◌, Option, Some, None, Ok, ap, refl, sym, ◌∙◌, arith, ⊎_elim}
+use Rattle.std.proofs.Common.{◌≡◌, ◌≢◌, ℕ, ◌%◌, ◌<◌, List, [], Bool, true, false, ◌&&◌, Option, Some, None, Ok, ap, refl, sym, ◌∙◌, arith, ⊎_elim}
 use Rattle.std.specs.Prelude.{find, is_some, option_and_then}
 use Rattle.std.specs.Option.{option_map}
 use Rattle.std.specs.List.{range_with_len, filter_map, list_any}
@@ -13,8 +13,7 @@ use Rattle.image_model.specs.Volume.{page_count}
 use Rattle.image_model.specs.Places.{IsImage}
 use Rattle.image_model.specs.Headers.{obj_id, names_index, size_of, name_of}
 use Rattle.image_model.specs.Live.{live_at, Live, own}
-use Rattle.image_model.specs.Files.{is_index, index_page, entry_number, data_of, judged, judged_by}
-use Rattle.image_model.specs.Files.{file_of as file_from}
+use Rattle.image_model.specs.Files.{is_index, index_page, entry_number, data_of, judged}
 use Rattle.image_model.specs.Tables.{has_of, damaged_of, records, table_of}
 use Rattle.image_model.specs.Tidy.{IsTidy, is_number, serves}
 use Rattle.flash_view.specs.Found.{is_name, headed as head_id, named_at, first_named}
@@ -22,29 +21,21 @@ use Rattle.image_laws.proofs.Records.{bytes_same, bytes_equal, names-apart}
 use Rattle.image_laws.proofs.Damaged.{any_at}
 use Rattle.image_laws.proofs.Append.{find-all}
 use Rattle.image_laws.proofs.Tables.{find_passes}
+use Rattle.image_laws.proofs.Reindexed.{judged-parts}
 use Rattle.image_laws.proofs.Judge.{index_passes}
 use Rattle.image_laws.proofs.Finish.{own-parts, heads-apart}
 use Rattle.image_laws.proofs.Frames.{live_parts}
 use Rattle.image_laws.proofs.Wants.{number-is}
 use Rattle.image_laws.proofs.Tally.{wants}
 use Rattle.header_laws.specs.Ids.{Named, HasNames}
-use Rattle.header_laws.proofs.Listed.{any-found, found-first, found-none}
-use Rattle.header_laws.proofs.HeadPages.{file_at, headed, headed-by_file}
+use Rattle.header_laws.specs.Names.{OwnNameUnused}
+use Rattle.header_laws.proofs.Listed.{any-found, found-first, found-none, each-listed}
+use Rattle.header_laws.proofs.HeadPages.{file_at, file_at-keyed, file_of-at, headed, headed-by_file}
 
 -- ---- a whole file has the fields of its header page
 
-judged_by-fields : (g : Geometry) (pages : Live) (id : ℕ) (head : List ℕ) (n : Option (List ℕ)) (m : Option ℕ) (f : File) → judged_by g pages id head n m ≡ Ok f →
-    (name : List ℕ) × (n ≡ Some name) × (file_from g pages id head name ≡ f)
-judged_by-fields g pages id head None m f e = absurd (cc)
-judged_by-fields g pages id head (Some name) (Some span) f e = absurd (cc)
-judged_by-fields g pages id head (Some name) None f e = (name, refl, cc)
-
-pub judged-fields : (g : Geometry) (pages : Live) (id : ℕ) (head : List ℕ) (f : File) → judged g pages id head ≡ Ok f → (name : List ℕ) × (name_of head ≡ Some name) × (file_from g pages id head name ≡ f)
-unfolding judged
-judged-fields g pages id head f e = judged_by-fields g pages id head (name_of head) _ f e
-
 pub judged-name : (g : Geometry) (pages : Live) (id : ℕ) (head : List ℕ) (f : File) → judged g pages id head ≡ Ok f → name_of head ≡ Some f.name
-judged-name g pages id head f e = let w = judged-fields g pages id head f e in w.1 ∙ ap (λ (x : File). Some x.name) w.2
+judged-name g pages id head f e = let w = judged-parts g pages id head f e in w.1 ∙ ap (λ (x : File). Some x.name) w.2
 
 -- ---- the id that a live header page with a name has
 
@@ -197,3 +188,10 @@ has-names g a is t name =
     ap is_some (named g a is t name)
     ∙ map-some (file_named name (table_of g a))
     ∙ sym (any-found (λ (f : File). same_text f.name name) (table_of g a))
+
+pub own-unused : (g : Geometry) → OwnNameUnused g
+unfolding table_of records
+own-unused g a undamaged id f e =
+    let mine : file_at g a id ≡ Some f = sym (file_of-at g a id) ∙ e in
+    each-listed (λ (x : File). x.id ≢ id → x.name ≢ f.name) (file_at g a) 1 0x7FFF
+    (λ j x is there same. there (file_at-keyed g a j x is ∙ one_name g a undamaged j id x f is mine same))

@@ -1,7 +1,8 @@
 -- What is found in a list that has at most one file for each id, in order of ids.
 use Rattle.std.proofs.Common.{◌≡◌, ℕ, zero, suc, ◌+◌, ◌<◌, ◌≤◌, List, [], ◌∷◌, Bool, true, false, ◌==◌, Option, Some, None, ap, refl, sym, ◌∙◌, arith, ⊎_elim, inl, inr, ◌⊎◌}
 use Rattle.std.specs.Prelude.{find, is_some}
-use Rattle.std.specs.List.{range_with_len, filter_map, list_any, cons_option}
+use Rattle.std.specs.List.{range_with_len, filter_map, list_any, cons_option, All, AllByRecursion}
+use Rattle.std.proofs.lemmas.List.Elements.{All-from_recursion}
 use Rattle.std.proofs.lemmas.Bool.{cases_eq, cases_Bool, eqb-true, eqb-false}
 use Rattle.std.proofs.lemmas.Option.{none-some, same_Some}
 
@@ -97,3 +98,15 @@ module _ {Y : Type 0} (key : Y → ℕ) (c : ℕ → Option Y) (keyed : (j : ℕ
             let at : w.j ≡ k = sym (keyed w.j y w.is) ∙ eqb-true (key y) k w.passes in
             sym w.is ∙ ap c at
       ] in go (find (λ (y : Y). key y == k) (filter_map c (range_with_len a n))) refl
+
+-- what holds of the element of each number holds of each element
+all-cons_option : {Y : Type 0} (P : Y → Type 0) (o : Option Y) (xs : List Y) → ((y : Y) → o ≡ Some y → P y) → AllByRecursion P xs → AllByRecursion P (cons_option o xs)
+all-cons_option P None xs here all = all
+all-cons_option P (Some y) xs here all = (here y refl, all)
+
+all-listed : {Y : Type 0} (P : Y → Type 0) (c : ℕ → Option Y) (a n : ℕ) → ((j : ℕ) (y : Y) → c j ≡ Some y → P y) → AllByRecursion P (filter_map c (range_with_len a n))
+all-listed P c a zero each = tt
+all-listed P c a (suc n) each = all-cons_option P (c a) (filter_map c (range_with_len (a + 1) n)) (each a) (all-listed P c (a + 1) n each)
+
+pub each-listed : {Y : Type 0} (P : Y → Type 0) (c : ℕ → Option Y) (a n : ℕ) → ((j : ℕ) (y : Y) → c j ≡ Some y → P y) → All P (filter_map c (range_with_len a n))
+each-listed P c a n each = All-from_recursion P (filter_map c (range_with_len a n)) (all-listed P c a n each)

@@ -17,7 +17,7 @@ use Rattle.nor_core.specs.Flash.{SameOutside}
 use Rattle.image_model.specs.Within.{Sizes, page_length}
 use Rattle.image_model.specs.Live.{live_at, Live, own}
 use Rattle.image_model.specs.Headers.{is_finished, obj_id, span_of, names_index, size_of, name_of}
-use Rattle.image_model.specs.Places.{page_of, is_entry_page, block_of, IsImage}
+use Rattle.image_model.specs.Places.{page_of, block_of, IsImage}
 use Rattle.table_model.specs.Table.{File}
 use Rattle.image_model.specs.Tables.{Found, has_of, records, table_of, damaged_of, damages}
 use Rattle.image_model.specs.Files.{is_index, index_page, further, entry_number, data_of, data_page, span_bytes, first_missing, judged, judged_by, found}

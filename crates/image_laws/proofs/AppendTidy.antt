@@ -1,6 +1,5 @@
 -- An image stays tidy where bytes are appended to a file.
-use Rattle.std.proofs.Common.{◌≡◌, ℕ, ◌%◌, ◌⊎◌, List, set, Bool, true, false, not, ◌==◌, ◌&&◌, Some, ap, refl, sym, ◌∙◌, ⊎_elim, inl, inr}
-use Rattle.std.specs.Prelude.{is_some}
+use Rattle.std.proofs.Common.{◌≡◌, ℕ, ◌%◌, ◌⊎◌, List, set, Bool, true, not, ◌==◌, ◌&&◌, Some, ap, refl, sym, ◌∙◌, ⊎_elim, inl, inr}
 use Rattle.std.proofs.lemmas.Bool.{cases_eq, and_parts, eqb-true, false≢true}
 use Rattle.std.proofs.lemmas.Option.{same_Some}
 use Rattle.geometry.specs.declared.geometry.Geometry.{Geometry}

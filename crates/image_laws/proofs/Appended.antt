@@ -1,12 +1,11 @@
 -- What a header page with more bytes leads to.
-use Rattle.std.proofs.Common.{◌≡◌, ◌≢◌, ℕ, zero, suc, ◌+◌, ◌-◌, ◌*◌, ◌/◌, ◌%◌, ◌<◌, ◌≤◌, ◌⊎◌, List, [], ◌∷◌, ◌++◌, length, take, drop, slice_index, slice_range, set, Bool, true, false, not, ◌==◌, ◌&&◌, ◌||◌, Option, Some, None, Ok, ap, refl, sym, ◌∙◌, arith, ⊎_elim, inl, inr, append_assoc, append-nil}
+use Rattle.std.proofs.Common.{◌≡◌, ℕ, zero, suc, ◌+◌, ◌-◌, ◌*◌, ◌/◌, ◌%◌, ◌<◌, ◌≤◌, ◌⊎◌, List, ◌++◌, length, take, drop, slice_index, slice_range, true, false, ◌&&◌, Option, Some, None, Ok, ap, refl, sym, ◌∙◌, arith, ⊎_elim, inl, inr, append_assoc, append-nil}
 use Rattle.std.specs.Prelude.{is_some, is_none}
 use Rattle.std.specs.List.{range_with_len, flat_map, list_any}
 use Rattle.std.proofs.Math.Nat.{div-add-mod, mul-le-mul_left, mul_comm}
 use Rattle.std.proofs.Math.Seq.{take-append-add, take-add}
 use Rattle.std.proofs.lemmas.List.{take-take, take_all, drop-take, drop-drop}
-use Rattle.std.proofs.lemmas.Bool.{cases_lt, cases_eq, cases_Bool, and_parts, or_cases, or_left, or_right, and_from, lt-ltb, le-ltb, eq-eqb, false≢true}
-use Rattle.std.proofs.lemmas.Option.{same_Some}
+use Rattle.std.proofs.lemmas.Bool.{cases_lt, cases_eq, and_parts, or_cases, or_left, or_right, and_from, lt-ltb, le-ltb, eq-eqb}
 use Rattle.geometry.specs.declared.geometry.Geometry.{Geometry}
 use Rattle.geometry.specs.Numbers.{head_slots, span_slots, ceil, body}
 use Rattle.table_model.specs.Table.{File}
@@ -231,7 +230,7 @@ module _ (g : Geometry) (pages : Live) (head head' bytes z : List ℕ) (add : Ap
         ap (λ (xs : List ℕ). take (size_of head') xs) (all (data_pages g (size_of head')) new_pages)
         ∙ cut_at (size_of head') (size_of head % body g + length bytes) new_size
         ∙ ap (λ (xs : List ℕ). flat_map (span_bytes g pages head') (range_with_len 0 (size_of head / body g)) ++ xs)
-            (take-add (size_of head % body g) (length bytes) (slice_range z 5 g.page) ∙ ap (λ (xs : List ℕ). take (size_of head % body g) (slice_range z 5 g.page) ++ xs) inner)
+        (take-add (size_of head % body g) (length bytes) (slice_range z 5 g.page) ∙ ap (λ (xs : List ℕ). take (size_of head % body g) (slice_range z 5 g.page) ++ xs) inner)
         ∙ sym (append_assoc (flat_map (span_bytes g pages head') (range_with_len 0 (size_of head / body g))) (take (size_of head % body g) (slice_range z 5 g.page)) bytes)
         ∙ ap (λ (xs : List ℕ). xs ++ bytes) (sym old_bytes)
 

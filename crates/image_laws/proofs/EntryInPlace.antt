@@ -1,5 +1,5 @@
 -- An entry past the page count, in place.
-use Rattle.std.proofs.Common.{◌≡◌, ◌≢◌, ℕ, ◌+◌, ◌-◌, ◌*◌, ◌/◌, ◌%◌, ◌<◌, ◌≤◌, ◌⊎◌, List, length, slice_index, slice_range, Bool, true, ◌&&◌, ◌||◌, Option, Some, None, Result, ap, refl, sym, ◌∙◌, arith, ⊎_elim, subst, inl, inr}
+use Rattle.std.proofs.Common.{◌≡◌, ◌≢◌, ℕ, ◌+◌, ◌-◌, ◌*◌, ◌/◌, ◌%◌, ◌<◌, ◌≤◌, ◌⊎◌, List, length, slice_index, slice_range, Bool, true, ◌&&◌, Option, Some, None, Result, ap, refl, sym, ◌∙◌, arith, ⊎_elim, subst, inl, inr}
 use Rattle.std.proofs.Math.Path.{fun_ext}
 use Rattle.std.proofs.Math.Nat.{div-add-mod}
 use Rattle.std.specs.Prelude.{option_and_then, find, is_some}

@@ -1,21 +1,21 @@
 -- What a remove leaves, and the kills of the pages of a removed file.
-use Rattle.std.proofs.Common.{◌≡◌, ◌≢◌, ℕ, ◌+◌, ◌*◌, ◌%◌, ◌≤◌, ◌⊎◌, List, [], ◌∷◌, slice_index, Bool, true, false, not, ◌==◌, ◌&&◌, Option, Some, None, ap, refl, sym, ◌∙◌, arith, ⊎_elim, inl, inr, subst}
+use Rattle.std.proofs.Common.{◌≡◌, ◌≢◌, ℕ, ◌+◌, ◌*◌, ◌%◌, ◌≤◌, ◌⊎◌, List, [], ◌∷◌, slice_index, Bool, true, false, not, ◌==◌, ◌&&◌, Some, None, ap, refl, sym, ◌∙◌, arith, ⊎_elim, inl, inr}
 use Rattle.std.proofs.Math.Path.{fun_ext}
 use Rattle.std.specs.Prelude.{is_some}
-use Rattle.std.proofs.lemmas.Bool.{cases_eq, cases_Bool, ne_eqb, false≢true}
+use Rattle.std.proofs.lemmas.Bool.{cases_Bool, ne_eqb, false≢true}
 use Rattle.std.proofs.lemmas.Option.{none-some, same_Some}
 use Rattle.geometry.specs.declared.geometry.Geometry.{Geometry}
 use Rattle.nor_core.specs.Flash.{HalfProgrammed}
 use Rattle.image_model.specs.Within.{sizes}
 use Rattle.image_model.specs.Live.{Live, live_at, own}
-use Rattle.image_model.specs.Places.{page_of, entry_of, is_entry_page, IsImage, entry_at}
-use Rattle.image_model.specs.Headers.{obj_id, is_finished}
+use Rattle.image_model.specs.Places.{entry_of, is_entry_page, IsImage, entry_at}
+use Rattle.image_model.specs.Headers.{obj_id}
 use Rattle.image_model.specs.Files.{index_page}
-use Rattle.image_model.specs.Tables.{table_of, damaged_of}
+use Rattle.image_model.specs.Tables.{damaged_of}
 use Rattle.image_model.specs.Tidy.{IsTidy, is_free_entry, is_wanted, free_blocks}
 use Rattle.image_model.specs.Sound.{HasMagics, IsSound, Keeps}
 use Rattle.image_laws.specs.Changes.{Loses}
-use Rattle.image_laws.specs.Programs.{IsIdle, ClearsBit}
+use Rattle.image_laws.specs.Programs.{IsIdle}
 use Rattle.image_laws.specs.Kills.{Deletes}
 use Rattle.image_laws.specs.TidySteps.{IsTidyBut, Agree}
 use Rattle.image_laws.specs.LiveSteps.{Kills, KillCut, KillDone}
@@ -25,16 +25,16 @@ use Rattle.image_laws.proofs.Frames.{LivePage, live_parts, entry-same_page}
 use Rattle.image_laws.proofs.Finish.{own-parts}
 use Rattle.image_laws.proofs.Finished.{torn_from}
 use Rattle.image_laws.proofs.FreeBlocks.{free_blocks-fall, used-is_not_free}
-use Rattle.image_laws.proofs.Sounding.{sound-by, mixed-from, loses-back, keeps-itself, keeps-on}
+use Rattle.image_laws.proofs.Sounding.{sound-by, mixed-from, loses-back, keeps-on}
 use Rattle.image_laws.proofs.TidySteps.{Entry, entry-same, agree_page, agree_entry, agree-on, wide_flags, tidy_live, tidy-is_tidy, killed-tidies}
-use Rattle.image_laws.proofs.Kill.{own-loses, index-loses, own-loses_other}
+use Rattle.image_laws.proofs.Kill.{own-loses, index-loses}
 use Rattle.image_laws.proofs.Headless.{headless-is_idle}
 use Rattle.image_laws.proofs.Wants.{wanted_parts, wanted_from}
 use Rattle.image_laws.proofs.DeadEntries.{unused_flags-keep, dead_entry-keeps, deleted_done}
 use Rattle.image_laws.proofs.RenewStep.{live-used, some_page'}
 use Rattle.image_laws.proofs.LiveStep.{done_byte}
 use Rattle.image_laws.proofs.Tally.{is_finished-ones}
-use Rattle.image_laws.proofs.Append.{own-some, own-live}
+use Rattle.image_laws.proofs.Append.{own-some}
 use Rattle.image_laws.proofs.Remove.{removing-loses, headless_now, others_left, table_drops, count_left, undamaged_left}
 use Rattle.image_laws.proofs.SpareKill.{leaves, tidy_d, cuts, done, spare_but}
 

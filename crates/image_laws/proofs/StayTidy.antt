@@ -1,7 +1,6 @@
 -- A live page changes in place, and the same pages serve its file.
-use Rattle.std.proofs.Common.{◌≡◌, ◌≢◌, ℕ, ◌*◌, ◌%◌, ◌⊎◌, List, Bool, true, false, Option, Some, ap, refl, sym, ◌∙◌, ⊎_elim, inl, inr}
+use Rattle.std.proofs.Common.{◌≡◌, ◌≢◌, ℕ, ◌*◌, ◌%◌, ◌⊎◌, List, Bool, true, Some, ap, refl, sym, ◌∙◌, ⊎_elim, inl, inr}
 use Rattle.std.proofs.Math.Path.{fun_ext}
-use Rattle.std.specs.Prelude.{is_some}
 use Rattle.std.proofs.lemmas.Bool.{cases_eq, and_parts, eqb-true, false≢true}
 use Rattle.std.proofs.lemmas.Option.{same_Some}
 use Rattle.geometry.specs.declared.geometry.Geometry.{Geometry}
@@ -16,7 +15,7 @@ use Rattle.image_model.specs.Tidy.{is_free_entry, is_wanted, serves}
 use Rattle.image_laws.specs.TidySteps.{IsTidyBut, Agree}
 use Rattle.image_laws.proofs.Frames.{LivePage, live_parts, live-page_other, entry-same_page}
 use Rattle.image_laws.proofs.Finish.{own-parts}
-use Rattle.image_laws.proofs.Append.{own-some, own-other, own-live}
+use Rattle.image_laws.proofs.Append.{own-other, own-live}
 use Rattle.image_laws.proofs.Wants.{wanted_parts, wanted_from}
 use Rattle.image_laws.proofs.TidySteps.{Entry, agree_page, entries-but}
 use Rattle.image_laws.proofs.Tally.{is_finished-ones}

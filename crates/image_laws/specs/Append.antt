@@ -1,5 +1,5 @@
 -- Data bytes are appended to a file.
-use Rattle.std.specs.Prelude.{◌≡◌, ℕ, ◌+◌, ◌-◌, ◌*◌, ◌/◌, ◌%◌, ◌<◌, ◌≤◌, List, [], ◌++◌, length, Bool, true, false, Some, Ok, is_some, slice_index, slice_range, slice_set}
+use Rattle.std.specs.Prelude.{◌≡◌, ℕ, ◌+◌, ◌-◌, ◌*◌, ◌/◌, ◌%◌, ◌<◌, ◌≤◌, List, ◌++◌, length, Bool, true, false, Some, Ok, is_some, slice_index, slice_range, slice_set}
 use Rattle.geometry.specs.declared.geometry.Geometry.{Geometry}
 use Rattle.nor_core.specs.Flash.{HalfProgrammed}
 use Rattle.geometry.specs.Numbers.{body, head_slots}

@@ -3,8 +3,8 @@ use Rattle.std.specs.Prelude.{◌≡◌, ℕ, ◌+◌, ◌*◌, ◌%◌, ◌≤�
 use Rattle.geometry.specs.declared.geometry.Geometry.{Geometry}
 use Rattle.nor_core.specs.Flash.{HalfProgrammed}
 use Rattle.table_model.specs.Table.{drop_file}
-use Rattle.image_model.specs.Places.{page_of, is_entry_page, IsImage}
-use Rattle.image_model.specs.Headers.{obj_id, is_finished}
+use Rattle.image_model.specs.Places.{is_entry_page, IsImage}
+use Rattle.image_model.specs.Headers.{obj_id}
 use Rattle.image_model.specs.Live.{live_at, own}
 use Rattle.image_model.specs.Files.{index_page}
 use Rattle.image_model.specs.Tables.{table_of, damaged_of}
