@@ -4,7 +4,7 @@ use Rattle.std.specs.Prelude.{is_some, is_none}
 use Rattle.std.specs.List.{range_with_len, flat_map, list_any}
 use Rattle.std.proofs.Math.Nat.{div-add-mod, mul-le-mul_left, mul_comm}
 use Rattle.std.proofs.Math.Seq.{take-append-add, take-add}
-use Rattle.std.proofs.lemmas.List.{take-take, take_all, drop-take, drop-drop}
+use Rattle.std.proofs.lemmas.List.{take-take, take_all, drop_all, drop-take, drop-drop}
 use Rattle.std.proofs.lemmas.Bool.{cases_lt, cases_eq, and_parts, or_cases, or_left, or_right, and_from, lt-ltb, le-ltb, eq-eqb}
 use Rattle.geometry.specs.declared.geometry.Geometry.{Geometry}
 use Rattle.geometry.specs.Numbers.{head_slots, span_slots, ceil, body}
@@ -15,7 +15,7 @@ use Rattle.image_model.specs.Headers.{size_of, name_of}
 use Rattle.image_model.specs.Live.{Live}
 use Rattle.image_model.specs.Files.{index_page, entry_number, data_of, data_page, judged, span_bytes, bytes_of, first_missing}
 use Rattle.image_model.specs.Tidy.{is_number, serves}
-use Rattle.image_laws.specs.Append.{Appends, AppendedLeads, AppendedServes}
+use Rattle.image_laws.specs.Append.{Appends, AppendedLeads, AppendedIsWritten, AppendedServes}
 use Rattle.image_laws.proofs.Damaged.{any_at, any_from}
 use Rattle.image_laws.proofs.Wanted.{judged-whole, header-below}
 use Rattle.image_laws.proofs.Wants.{number-is}
@@ -240,6 +240,22 @@ module _ (g : Geometry) (pages : Live) (head head' bytes z : List ℕ) (add : Ap
 
 pub appended-leads : (g : Geometry) → AppendedLeads g
 appended-leads g pages id head head' name bytes z f0 lengths file add named = leads_to g pages head head' bytes z add id name f0 lengths file named
+
+-- bytes written at the end
+written-end : (f : File) (bytes : List ℕ) → take (length f.bytes) f.bytes ++ bytes ++ drop (length f.bytes + length bytes) f.bytes ≡ f.bytes ++ bytes
+written-end f bytes =
+    let first = take_all (length f.bytes) f.bytes (omega arith) in
+    let none = drop_all (length f.bytes + length bytes) f.bytes (omega arith) in
+    rw (first, none) (append-nil (f.bytes ++ bytes))
+
+pub appended-is_written : (g : Geometry) → AppendedIsWritten g
+appended-is_written g pages id head head' bytes z f0 lengths file add named kind meta =
+    let w = judged-parts g pages id head f0 file in
+    appended-leads g pages id head head' w.0 bytes z f0 lengths file add (named ∙ w.1)
+    ∙ ap (λ (x : ℕ). Ok (record { id = id; name = w.0; kind = x; meta = slice_range head' 45 (45 + g.meta); bytes = f0.bytes ++ bytes })) kind
+    ∙ ap (λ (xs : List ℕ). Ok (record { id = id; name = w.0; kind = slice_index head 12; meta = xs; bytes = f0.bytes ++ bytes })) meta
+    ∙ ap (λ (x : File). Ok (record { id = x.id; name = x.name; kind = x.kind; meta = x.meta; bytes = f0.bytes ++ bytes })) w.2
+    ∙ ap (λ (xs : List ℕ). Ok (record { id = f0.id; name = f0.name; kind = f0.kind; meta = f0.meta; bytes = xs })) (sym (written-end f0 bytes))
 
 pub appended-serves : (g : Geometry) → AppendedServes g
 appended-serves g pages head head' bytes z add r = (

@@ -4,6 +4,7 @@ use Rattle.geometry.specs.declared.geometry.Geometry.{Geometry}
 use Rattle.nor_core.specs.Flash.{HalfProgrammed}
 use Rattle.geometry.specs.Numbers.{body, head_slots}
 use Rattle.table_model.specs.Table.{File, put_file}
+use Rattle.table_model.specs.Files.{written}
 use Rattle.table_model.specs.Room.{data_pages, index_pages}
 use Rattle.image_model.specs.Live.{Live, live_at, own}
 use Rattle.image_model.specs.Headers.{word_at, obj_id, names_index, span_of, size_of, name_of}
@@ -45,6 +46,12 @@ abbrev pub AppendedLeads : Geometry → Type 0
 AppendedLeads g = (pages : Live) (id : ℕ) (head head' name bytes z : List ℕ) (f0 : File) → ((q : ℕ) (x : List ℕ) → pages q ≡ Some x → length x ≡ g.page) → judged g pages id head ≡ Ok f0 →
     Appends g pages head head' bytes z → name_of head' ≡ Some name →
     judged g pages id head' ≡ Ok (record { id = id; name = name; kind = slice_index head' 12; meta = slice_range head' 45 (45 + g.meta); bytes = f0.bytes ++ bytes })
+
+-- Where it keeps name, type and meta, that is the file with the bytes written at its end.
+abbrev pub AppendedIsWritten : Geometry → Type 0
+AppendedIsWritten g = (pages : Live) (id : ℕ) (head head' bytes z : List ℕ) (f0 : File) → ((q : ℕ) (x : List ℕ) → pages q ≡ Some x → length x ≡ g.page) → judged g pages id head ≡ Ok f0 →
+    Appends g pages head head' bytes z → name_of head' ≡ name_of head → slice_index head' 12 ≡ slice_index head 12 → slice_range head' 45 (45 + g.meta) ≡ slice_range head 45 (45 + g.meta) →
+    judged g pages id head' ≡ Ok (written (length f0.bytes) bytes f0)
 
 -- The pages that served the file serve it still, and so do those that the new size needs.
 abbrev pub AppendedServes : Geometry → Type 0

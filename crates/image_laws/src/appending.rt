@@ -1,5 +1,5 @@
 ghost use Rattle.geometry.specs.declared.geometry.Geometry.{Geometry};
-ghost use Rattle.image_laws.specs.Append.{AppendingTidies, AppendingIsSound, AppendedLeads, AppendedServes, RenewedTidies};
+ghost use Rattle.image_laws.specs.Append.{AppendingTidies, AppendingIsSound, AppendedLeads, AppendedIsWritten, AppendedServes, RenewedTidies};
 
 /// Bytes appended inside the last data page leave the image tidy, and so does a header page that all pages of its file serve.
 pub fn appending_tidies()
@@ -11,5 +11,6 @@ pub fn appending_tidies()
 /// What a header page with more bytes leads to.
 pub fn appending_leads()
     ensures leads { (g : Geometry) → AppendedLeads g }
+    ensures written { (g : Geometry) → AppendedIsWritten g }
     ensures serves { (g : Geometry) → AppendedServes g }
 {}
