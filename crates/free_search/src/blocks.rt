@@ -1,4 +1,5 @@
 ghost use Rattle.std.specs.Prelude.{◌≡◌, ◌+◌, ◌<◌, ◌≤◌, OnErr, IfOk};
+ghost use Rattle.image_model.specs.Tidy.{is_free_entry, is_free_block as the_free_block, free_blocks as the_free_blocks};
 ghost use Rattle.geometry.specs.Numbers.{entries};
 ghost use Rattle.nor_core.specs.Count.{Rose};
 ghost use Rattle.flash_view.specs.Places.{IsEntryPage};
@@ -76,6 +77,7 @@ fn is_unused<N: Nor>(v: &mut View<'_, N>, page: u16) -> Result<bool, Failed>
     requires { IsEntryPage v.old.geometry page }
     ensures cause { OnErr result (Rose (N.faults v.old.nor.now) (N.faults v.new.nor.now)) }
     ensures looks { OnlyLooks v.old v.new }
+    ensures told { N.tells v.old.nor.now → IfOk result (λ unused. unused ≡ is_free_entry v.old.geometry (N.bytes v.old.nor.now) page) }
 {
     Ok(v.entry(page)? == FREE && v.is_blank(page)?)
 }
@@ -85,6 +87,7 @@ pub fn is_free_block<N: Nor>(v: &mut View<'_, N>, block: u16) -> Result<bool, Fa
     requires { block < v.old.geometry.blocks }
     ensures cause { OnErr result (Rose (N.faults v.old.nor.now) (N.faults v.new.nor.now)) }
     ensures looks { OnlyLooks v.old v.new }
+    ensures told { N.tells v.old.nor.now → IfOk result (λ free. free ≡ the_free_block v.old.geometry (N.bytes v.old.nor.now) block) }
 {
     let g = v.geometry;
     if !v.has_magic(block)? {
@@ -103,6 +106,7 @@ pub fn free_blocks<N: Nor>(v: &mut View<'_, N>) -> Result<u32, Failed>
     ensures cause { OnErr result (Rose (N.faults v.old.nor.now) (N.faults v.new.nor.now)) }
     ensures looks { OnlyLooks v.old v.new }
     ensures most { IfOk result (λ n. n ≤ v.old.geometry.blocks) }
+    ensures told { N.tells v.old.nor.now → IfOk result (λ n. n ≡ the_free_blocks v.old.geometry (N.bytes v.old.nor.now)) }
 {
     let mut free = 0;
     for block in 0..v.geometry.blocks() as u16 {
