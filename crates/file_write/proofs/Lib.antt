@@ -1,0 +1,3 @@
+pub mod NewHead
+pub mod Plain
+pub mod Creating
