@@ -1,0 +1,5 @@
+pub mod Scans
+pub mod Counting
+pub mod FreePages
+pub mod Worn
+pub mod Had
