@@ -1,7 +1,9 @@
-ghost use Rattle.std.specs.Prelude.{◌≡◌, ◌≢◌, ◌+◌, ◌<◌, ◌≤◌, length, All, OnErr, IsErrOf, true, ◌⊎◌};
+ghost use Rattle.std.specs.Prelude.{◌≡◌, ◌≢◌, ◌+◌, ◌<◌, ◌≤◌, length, All, OnOk, OnErr, IfErr, IsErrOf, true};
 ghost use Rattle.nor_core.specs.Count.{Rose};
+ghost use Rattle.nor_core.specs.Device.{Changes};
 ghost use Rattle.flash_view.specs.Places.{IsEntryPage};
 ghost use Rattle.flash_view.specs.Same.{IsSameView};
+ghost use Rattle.file_write.specs.Creates.{CanCreate, CreateCut, Created, CanPut};
 
 use flash_view::{Kind, StepErr, View};
 use free_search::free_page;
@@ -39,6 +41,8 @@ fn put_header_page<N: Nor>(
     ensures faults { N.faults v.old.nor.now ≤ N.faults v.new.nor.now }
     ensures same { IsSameView v.old v.new }
     ensures wrote { v.new.wrote ≡ true }
+    ensures changes { Changes N.NorState v.old.nor.now v.new.nor.now (λ was image. CanPut v.old.geometry was page id name.now → CreateCut v.old.geometry was id name.now image) }
+    ensures done { N.tells v.old.nor.now → CanPut v.old.geometry (N.bytes v.old.nor.now) page id name.now → OnOk result (Created v.old.geometry (N.bytes v.old.nor.now) id name.now (N.bytes v.new.nor.now)) }
 {
     let g = v.geometry;
     let len = g.page() as usize;

@@ -225,10 +225,11 @@ shut g image block kind tidy below none = λ takes. absurd (let all : has_magic 
 -- the entry of a block in use
 pub page_open : (g : Geometry) (image : List ℕ) (kind : Kind) (keep block : ℕ) (not_in found : Option ℕ) → IsOpen g image kind block → FreeEntry g image block found → FreePage g image kind keep not_in found
 page_open g image kind keep block not_in None is none = absurd (let some = is.some in omega (arith, some, none))
-page_open g image kind keep block not_in (Some p) is (page, at, free) = record {
+page_open g image kind keep block not_in (Some p) is (page, at, free, word) = record {
   page = page;
   magic = rw at is.magic;
   free = free;
+  word = word;
   kind_is = rw at is.kind_is;
   keeps = inl (rw at is.used);
 }
@@ -248,10 +249,11 @@ some_entries g = let fits = (sizes g).lookups_fit in omega (arith, fits)
 -- the entry of a free block
 pub page_new : (g : Geometry) (image : List ℕ) (kind : Kind) (keep block : ℕ) (not_in found : Option ℕ) → keep < free_blocks g image → is_free_block g image block ≡ true → FreeEntry g image block found → FreePage g image kind keep not_in found
 page_new g image kind keep block not_in None more free none = absurd (let whole = free_whole g image block free in let some = some_entries g in omega (arith, whole, some, none))
-page_new g image kind keep block not_in (Some p) more free (page, at, entry) = record {
+page_new g image kind keep block not_in (Some p) more free (page, at, entry, word) = record {
   page = page;
   magic = rw at (magic_of g image block free);
   free = entry;
+  word = word;
   kind_is = rw at (no_other g image kind block free);
   keeps = inr more;
 }

@@ -4,7 +4,8 @@ use Rattle.geometry.specs.declared.geometry.Geometry.{Geometry}
 use Rattle.flash_view.specs.declared.kinds.Kind.{Kind}
 use Rattle.flash_view.specs.declared.kinds.Kind.TheVariants.{Index, Data}
 use Rattle.free_search.specs.declared.pages.Worn.{Worn}
-use Rattle.image_model.specs.Places.{has_magic, block_of, is_entry_page}
+use Rattle.image_model.specs.Places.{has_magic, block_of, is_entry_page, entry_at}
+use Rattle.flash_view.specs.Places.{IsWordAt}
 use Rattle.image_model.specs.Tidy.{is_free_entry, is_free_block, free_blocks}
 use Rattle.image_model.specs.Kinds.{is_index_block, is_data_block}
 use Rattle.image_model.specs.Collect.{free_in, takes_index, takes_data, are_had}
@@ -25,6 +26,7 @@ pub record IsFreeFor (g : Geometry) (image : List ℕ) (kind : Kind) (keep p : �
   pub page : is_entry_page g p ≡ true
   pub magic : has_magic g image (block_of g p) ≡ true
   pub free : is_free_entry g image p ≡ true
+  pub word : IsWordAt image (entry_at g p)
   pub kind_is : holds_other g image kind (block_of g p) ≡ false
   pub keeps : (is_free_block g image (block_of g p) ≡ false) ⊎ (keep < free_blocks g image)
 
@@ -59,7 +61,7 @@ OpenBlock g image kind not_in (Some block) = IsOpen g image kind block
 -- a free entry of a block, or none
 abbrev pub FreeEntry : Geometry → List ℕ → ℕ → Option ℕ → Type 0
 FreeEntry g image block None = free_in g image block ≡ 0
-FreeEntry g image block (Some p) = (is_entry_page g p ≡ true) × (block_of g p ≡ block) × (is_free_entry g image p ≡ true)
+FreeEntry g image block (Some p) = (is_entry_page g p ≡ true) × (block_of g p ≡ block) × (is_free_entry g image p ≡ true) × IsWordAt image (entry_at g p)
 
 -- a free block, or none but the one that is never chosen
 abbrev pub FreeBlock : Geometry → List ℕ → Option ℕ → Option ℕ → Type 0

@@ -1,7 +1,8 @@
 use Rattle.std.proofs.Common.{◌≡◌, ◌+◌, ◌*◌, ◌==◌, ◌<◌, ℕ, true, false, refl, sym, ◌∙◌, ap, arith}
 use Rattle.geometry.specs.Numbers.{entries as entries_of, per_block as pages_of, lookups as lookups_of}
 use Rattle.image_model.specs.Volume.{per_block, lookups, entries}
-use Rattle.image_model.specs.Places.{entry_of}
+use Rattle.image_model.specs.Places.{entry_at, entry_of}
+use Rattle.flash_view.specs.Places.{IsWordAt}
 use Rattle.std.proofs.lemmas.Bool.{ne_eqb}
 use Rattle.image_model.specs.Within.{entry_in}
 use Rattle.flash_view.proofs.Heads.{entry_page_told}
@@ -47,7 +48,8 @@ returns-then-branch-clause-told g c = λ tells tidy.
     let page = entry_page_told geometry c.entry_page-page.result (rw was.geometry at c.entry_page-page.ensures.entry) in
     let less : c.loop-i.i < entries_of geometry = omega (arith, was.end, c.loop-i-test.true) in
     let block = entry_in geometry c.args.block c.entry_page-page.result c.requires (omega (arith, c.entry_page-page.ensures.place)) (omega (arith, c.entry_page-page.ensures.place, less)) in
-    (page, block.0, ones_free geometry image c.entry_page-page.result tidy page ones)
+    let word : IsWordAt image (entry_at geometry c.entry_page-page.result) = rw (was.looks.same.geometry, was.looks.reads.bytes) at (c.in_ok-entry.ensures.bytes (was.looks.reads.told tells)) in
+    (page, block.0, ones_free geometry image c.entry_page-page.result tidy page ones, word)
 
 pub returns-clause-told : goal.returns-clause-told
 returns-clause-told g c = λ tells tidy.
