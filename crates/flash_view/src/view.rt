@@ -85,11 +85,8 @@ impl<'b, N: Nor> View<'b, N> {
         ensures cause { OnErr result (Rose (N.faults self.old.nor.now) (N.faults self.new.nor.now)) }
         ensures looks { OnlyLooks self.old self.new }
         ensures told { N.tells self.old.nor.now → OnOk result (into.new ≡ slice_range (N.bytes self.old.nor.now) at (at + length into.old)) }
-<<<<<<< HEAD
         ensures work { self.new.work.now ≡ self.old.work.now }
-=======
         ensures small { (k : ℕ) → slice_index into.new k < 256 }
->>>>>>> 78e9f367fc381ee89cadc546b65656c291c5859f
     {
         self.nor.read(at, into)
     }
@@ -101,11 +98,8 @@ impl<'b, N: Nor> View<'b, N> {
         ensures cause { OnErr result (Rose (N.faults self.old.nor.now) (N.faults self.new.nor.now)) }
         ensures looks { OnlyLooks self.old self.new }
         ensures told { N.tells self.old.nor.now → IfOk result (λ word. word ≡ word_at (N.bytes self.old.nor.now) at) }
-<<<<<<< HEAD
         ensures work { self.new.work.now ≡ self.old.work.now }
-=======
         ensures bytes { N.tells self.old.nor.now → OnOk result (IsWordAt (N.bytes self.old.nor.now) at) }
->>>>>>> 78e9f367fc381ee89cadc546b65656c291c5859f
     {
         let mut slot = [0u8; 2];
         self.read(at, &mut slot)?;
@@ -119,11 +113,8 @@ impl<'b, N: Nor> View<'b, N> {
         ensures cause { OnErr result (Rose (N.faults self.old.nor.now) (N.faults self.new.nor.now)) }
         ensures looks { OnlyLooks self.old self.new }
         ensures told { N.tells self.old.nor.now → IfOk result (λ entry. entry ≡ the_entry_of self.old.geometry (N.bytes self.old.nor.now) page) }
-<<<<<<< HEAD
         ensures work { self.new.work.now ≡ self.old.work.now }
-=======
         ensures bytes { N.tells self.old.nor.now → OnOk result (IsWordAt (N.bytes self.old.nor.now) (entry_at self.old.geometry page)) }
->>>>>>> 78e9f367fc381ee89cadc546b65656c291c5859f
     {
         let at = entry_start(&self.geometry, page);
         self.word(at)
