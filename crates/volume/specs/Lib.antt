@@ -1,2 +1,6 @@
-pub mod Checks
-pub mod Fails
+pub mod Pages
+pub mod Refusals
+pub mod Stages
+pub mod Same
+pub mod Answers
+pub mod Records
