@@ -3,4 +3,4 @@
 
 mod put;
 
-pub use put::{finish, place};
+pub use put::{finish, place, puts_by_programs};

@@ -1,6 +1,12 @@
 use Rattle.file_write.proofs.Finding.{found_one, looked, put_cut, put_done}
 use Rattle.file_write.proofs.create.create_step.Goals as goal
 
+pub returns-in-Err-clause-changes : goal.returns-in-Err-clause-changes
+returns-in-Err-clause-changes g c = looked _ _ _ c.in-Err.ensures.looks.reads
+
+pub returns-in-Ok-None-clause-changes : goal.returns-in-Ok-None-clause-changes
+returns-in-Ok-None-clause-changes g c = looked _ _ _ c.in-Ok-None.ensures.looks.reads
+
 pub returns-in-Ok-None-clause-undamaged : goal.returns-in-Ok-None-clause-undamaged
 returns-in-Ok-None-clause-undamaged g c = λ tells can. absurd (found_one _ _ _ _ can (rw c.in-Ok-None.field-0-is at (c.in-Ok-None.ensures.told tells can.tidy)))
 
