@@ -6,7 +6,7 @@ use Rattle.std.proofs.lemmas.Nat.Bits.{bit_at_above}
 use Rattle.std.proofs.lemmas.Bool.{cases_lt, agree_below_at, or_cases, or_parts, eqb-true, not-false}
 use Rattle.std.proofs.lemmas.Option.{none-some}
 use Rattle.geometry.specs.declared.geometry.Geometry.{Geometry}
-use Rattle.nor_core.specs.Flash.{HalfProgrammed, IsBetween, programmed}
+use Rattle.nor_core.specs.Flash.{HalfProgrammed, programmed}
 use Rattle.table_model.specs.Table.{File, has_name, same_text}
 use Rattle.table_model.specs.Files.{new_file}
 use Rattle.page_layout.specs.Layout.{new_header_page, IsNewHeader}
@@ -37,9 +37,10 @@ use Rattle.image_laws.proofs.FreeBlocks.{free_blocks-fall}
 use Rattle.image_laws.proofs.LiveStep.{put-changes}
 use Rattle.image_laws.proofs.CreateTidy.{create-tidies, create-sound}
 use Rattle.image_laws.specs.Changes.{Gains}
-use Rattle.image_laws.proofs.Finished.{finished-programmed}
 use Rattle.image_laws.proofs.CreateStep.{byte3}
 use Rattle.page_put.specs.Placing.{with_entry, with_header, with_page, IsPlacing}
+use Rattle.page_put.proofs.Finishing.{programs_place, finish_clears_final}
+use Rattle.flash_view.specs.declared.kinds.Kind.TheVariants.{Index}
 use Rattle.file_write.specs.Creates.{CanCreate, CanPut, CreateCut, Created}
 use Rattle.file_write.proofs.NewHead.{finished_head, length-new_header, byte-new_header, index, of, first, live, leads}
 use Rattle.file_write.proofs.Plain.{plain-same, plain-gains}
@@ -96,30 +97,6 @@ clears_final = record {
       (cases_lt j 8);
 }
 
--- the program of the flags byte clears FINAL alone, whatever else it asks for
-finish_cut : (at : ℕ) (a c : List ℕ) → slice_index a at ≡ 0xFA → HalfProgrammed at (0xFD ∷ []) a c → HalfProgrammed at (0xF8 ∷ []) a c
-finish_cut at a c old half = record {
-  outside = half.outside;
-  inside = λ k within.
-      let here : k ≡ 0 = omega arith in
-      let zero : at + 0 ≡ at = omega arith in
-      rw (here, zero, old) (between (slice_index c at) (rw (zero, old) at (half.inside 0 (omega arith))));
-}
-  where
-    between : (x : ℕ) → IsBetween 0xFA 0xFD x → IsBetween 0xFA 0xF8 x
-    between x h = record { kept = h.kept; cleared = h.cleared }
-
-finish_done : (at : ℕ) (a : List ℕ) → slice_index a at ≡ 0xFA → Programmed at (0xF8 ∷ []) a (programmed a at (0xFD ∷ []))
-finish_done at a old =
-    let done = finished-programmed at (0xFD ∷ []) a in
-    record {
-      outside = done.outside;
-      bytes = λ k within.
-          let here : k ≡ 0 = omega arith in
-          let zero : at + 0 ≡ at = omega arith in
-          rw (here, zero, old) (rw (zero, old) at (done.bytes 0 (omega arith)));
-    }
-
 -- four ways, grouped otherwise
 one_of_four : {A B C D : Type 0} → (A ⊎ (B ⊎ C)) ⊎ D → A ⊎ (B ⊎ (C ⊎ D))
 one_of_four (inl (inl a)) = inl a
@@ -174,14 +151,14 @@ module _ (g : Geometry) (a0 : List ℕ) (p id : ℕ) (name : List ℕ) (is : IsI
 
   -- the programs that place it
   placed : Placed g p (new_header_page g.page id name) a0 (with_entry g p (new_header_page g.page id name) a0) (with_header g p (new_header_page g.page id name) a0) (with_page g p (new_header_page g.page id name) a0)
-  placed = record { one = finished-programmed _ _ _; two = finished-programmed _ _ _; three = finished-programmed _ _ _ }
+  placed = programs_place g p (new_header_page g.page id name) a0
 
   -- the flags before it is finished
   flags : slice_index (with_page g p (new_header_page g.page id name) a0) (p * g.page + 4) ≡ 0xFA
   flags = byte3 g a0 p id (new_header_page g.page id name) (new_file g id name) is can.free new_head _ placed.one _ placed.two _ placed.three 4 (omega (arith, (sizes g).page))
 
   finish : Programmed (p * g.page + 4) (0xF8 ∷ []) (with_page g p (new_header_page g.page id name) a0) (programmed (with_page g p (new_header_page g.page id name) a0) (p * g.page + 4) (0xFD ∷ []))
-  finish = finish_done _ _ flags
+  finish = (finish_clears_final Index _ _ flags).1
 
   left : (c : List ℕ) → PutCut g p (new_header_page g.page id name) 0xF8 a0 (with_entry g p (new_header_page g.page id name) a0) (with_header g p (new_header_page g.page id name) a0) (with_page g p (new_header_page g.page id name) a0) c → CreateCut g a0 id name c
   left c cut =
@@ -202,7 +179,7 @@ module _ (g : Geometry) (a0 : List ℕ) (p id : ℕ) (name : List ℕ) (is : IsI
   placing_left c cut = left c (inl cut)
 
   pub finishing_left : (c : List ℕ) → HalfProgrammed (p * g.page + 4) (0xFD ∷ []) (with_page g p (new_header_page g.page id name) a0) c → CreateCut g a0 id name c
-  finishing_left c cut = left c (inr (finish_cut _ _ c flags cut))
+  finishing_left c cut = left c (inr ((finish_clears_final Index _ _ flags).0 c cut))
 
   pub create_done : Created g a0 id name (programmed (with_page g p (new_header_page g.page id name) a0) (p * g.page + 4) (0xFD ∷ []))
   create_done =

@@ -62,6 +62,9 @@ pub fn create_step<N: Nor>(v: &mut View<'_, N>, id: u16, name: &[u8]) -> Result<
     ensures cause { IsErrOf result StepErr.DeviceFault → Rose (N.faults v.old.nor.now) (N.faults v.new.nor.now) }
     ensures faults { N.faults v.old.nor.now ≤ N.faults v.new.nor.now }
     ensures same { IsSameView v.old v.new }
+    ensures changes { Changes N.NorState v.old.nor.now v.new.nor.now (λ was image. CanCreate v.old.geometry was id name.now → CreateCut v.old.geometry was id name.now image) }
+    ensures done { N.tells v.old.nor.now → CanCreate v.old.geometry (N.bytes v.old.nor.now) id name.now → OnOk result (Created v.old.geometry (N.bytes v.old.nor.now) id name.now (N.bytes v.new.nor.now)) }
+    ensures undamaged { N.tells v.old.nor.now → CanCreate v.old.geometry (N.bytes v.old.nor.now) id name.now → IfErr result (λ why. why ≡ StepErr.DeviceFault) }
 {
     match free_page(v, Kind::Index, 2, None) {
         Err(Failed) => Err(StepErr::DeviceFault),

@@ -5,4 +5,4 @@ mod killing;
 mod put;
 
 pub use killing::kill;
-pub use put::{finish, place};
+pub use put::{finish, place, puts_by_programs};

@@ -5,7 +5,8 @@ ghost use Rattle.nor_core.specs.Device.{Changes};
 ghost use Rattle.page_layout.specs.Layout.{bits_of};
 ghost use Rattle.flash_view.specs.Places.{IsEntryPage};
 ghost use Rattle.flash_view.specs.Same.{IsSameView};
-ghost use Rattle.page_put.specs.Placing.{placed_id, placed_flags, placed_page, with_page, IsPlacing};
+ghost use Rattle.page_put.specs.Placing.{placed_id, placed_flags, placed_page, with_page, IsPlacing, ProgramsPlace, FinishClearsFinal};
+ghost use Rattle.geometry.specs.declared.geometry.Geometry.{Geometry};
 
 use flash_view::{Kind, View};
 use nor_core::{Failed, Nor, NorState};
@@ -75,3 +76,10 @@ pub fn finish<N: Nor>(v: &mut View<'_, N>, page: u16) -> Result<(), Failed>
     let erased = Flags::from_bits(0xFF);
     v.program_in(page, 4, &[erased.finished().bits()])
 }
+
+/// What `place` and `finish` leave is what the laws of a put speak of: a placed page, and the program of its
+/// finished flags.
+pub fn puts_by_programs()
+    ensures places { (g : Geometry) → ProgramsPlace g }
+    ensures finishes { FinishClearsFinal }
+{}
