@@ -1,5 +1,6 @@
 pub mod Pages
 pub mod Refusals
+pub mod Opening
 pub mod Stages
 pub mod Same
 pub mod Answers

@@ -1,4 +1,4 @@
-ghost use Rattle.std.specs.Prelude.{◌≡◌, ◌≢◌, ◌<◌, ◌≤◌, length, All, IfErr, OnOk, Some, None};
+ghost use Rattle.std.specs.Prelude.{◌≡◌, ◌≢◌, ◌<◌, ◌≤◌, length, All, IfErr, OnOk, Err, Some, None};
 ghost use Rattle.table_model.specs.Names.{name_refusal};
 
 use table_model::FsErr;
@@ -10,6 +10,7 @@ pub(crate) fn accept(name: &[u8]) -> Result<(), FsErr>
     ensures short { OnOk result (length name.now ≤ 31) }
     ensures no_zero { OnOk result (All (λ b. b ≢ 0) name.now) }
     ensures fine { OnOk result (name_refusal name.now ≡ None) }
+    ensures no_fault { ¬ (result ≡ Err FsErr.DeviceFault) }
     ensures refused { IfErr result (λ why. name_refusal name.now ≡ Some why) }
 {
     if name.is_empty() || name.contains(&0) {

@@ -14,7 +14,7 @@ ghost use Rattle.table_model.specs.Calls.{info_of};
 ghost use Rattle.image_model.specs.Tables.{table_of};
 ghost use Rattle.vol_mount.specs.Mounts.{IsLate, CountsSpoiled};
 ghost use Rattle.vol_check.specs.Checks.{IsWritable, IsRefusal, KeepsAll, Checked as WasChecked};
-ghost use Rattle.volume.specs.Stages.{is_open};
+ghost use Rattle.volume.specs.Opening.{is_open, StaysUnless};
 ghost use Rattle.volume.specs.Answers.{IsReady, CreateLeaves, CreateGoes};
 
 use crate::create::create_in;
@@ -146,6 +146,16 @@ fn create_on<N: Nor>(
     }
 }
 
+// Where a call leads that a checked volume took.
+fn stage_after(tried: Attempt) -> Stage
+    ensures { StaysUnless tried.done true (is_open result) }
+{
+    match tried.done {
+        Err(FsErr::DeviceFault | FsErr::Damaged(_)) if tried.wrote => Stage::Failed,
+        _ => Stage::Checked,
+    }
+}
+
 // The record of the file of a name.
 fn stat_on<N: Nor>(
     g: Geometry,
@@ -217,7 +227,8 @@ impl<'b, N: Nor> Volume<'b, N> {
     ghost use Rattle.image_model.specs.Tidy.{IsTidy};
     ghost use Rattle.vol_mount.specs.Mounts.{IsLate, CountsSpoiled};
     ghost use Rattle.vol_check.specs.Checks.{IsWritable, IsRefusal, KeepsAll, Checked as WasChecked};
-    ghost use Rattle.volume.specs.Stages.{takes_calls, has_failed, StaysUnless};
+    ghost use Rattle.volume.specs.Opening.{StaysUnless};
+    ghost use Rattle.volume.specs.Stages.{takes_calls, has_failed};
     ghost use Rattle.volume.specs.Same.{IsSameVolume};
     ghost use Rattle.volume.specs.Answers.{IsReady, CreateAnswers, CreateCuts, StatAnswers, NextAnswers, InfoAnswers};
 
@@ -308,12 +319,14 @@ impl<'b, N: Nor> Volume<'b, N> {
         if self.stage != Stage::Checked {
             return Err(FsErr::Failed);
         }
-        accept(name)?;
-        let tried = create_on(self.geometry, self.nor, self.work, self.cache, name);
-        if matches!(tried.done, Err(FsErr::DeviceFault | FsErr::Damaged(_))) && tried.wrote {
-            self.stage = Stage::Failed;
+        match accept(name) {
+            Err(why) => Err(why),
+            Ok(()) => {
+                let tried = create_on(self.geometry, self.nor, self.work, self.cache, name);
+                self.stage = stage_after(tried);
+                tried.done
+            }
         }
-        tried.done
     }
 
     /// The record of the file of a name. Refused, in this order: `Failed` (also where the volume wasn't checked),
@@ -328,11 +341,13 @@ impl<'b, N: Nor> Volume<'b, N> {
         if self.stage != Stage::Checked {
             return Err(FsErr::Failed);
         }
-        accept(name)?;
-        match stat_on(self.geometry, self.nor, self.work, self.cache, name) {
-            Err(Failed) => Err(FsErr::DeviceFault),
-            Ok(Some(stat)) => Ok(stat),
-            Ok(None) => Err(FsErr::NotFound),
+        match accept(name) {
+            Err(why) => Err(why),
+            Ok(()) => match stat_on(self.geometry, self.nor, self.work, self.cache, name) {
+                Err(Failed) => Err(FsErr::DeviceFault),
+                Ok(Some(stat)) => Ok(stat),
+                Ok(None) => Err(FsErr::NotFound),
+            },
         }
     }
 
