@@ -3,3 +3,4 @@ pub mod Counting
 pub mod FreePages
 pub mod Worn
 pub mod Had
+pub mod Bits
