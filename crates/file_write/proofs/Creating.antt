@@ -1,21 +1,20 @@
 -- A create, from what its programs leave.
-use Rattle.std.proofs.Common.{◌≡◌, ◌≢◌, ℕ, ◌+◌, ◌*◌, ◌%◌, ◌<◌, ◌≤◌, ◌⊎◌, List, [], ◌∷◌, length, set, slice_index, take, drop, true, false, ◌==◌, ◌||◌, Option, Some, None, is_some, not, refl, sym, ◌∙◌, ap, subst, arith, ⊎_elim, inl, inr}
-use Rattle.std.specs.List.{All}
+use Rattle.std.proofs.Common.{◌≡◌, ◌≢◌, ℕ, ◌+◌, ◌*◌, ◌<◌, ◌≤◌, ◌⊎◌, List, [], ◌∷◌, length, slice_index, true, false, ◌==◌, ◌||◌, Option, Some, None, is_some, not, refl, sym, ◌∙◌, arith, ⊎_elim, inl, inr, zero, suc, Bool, get_or}
+use Rattle.std.specs.List.{All, list_any}
 use Rattle.std.specs.Int.{bit_at}
 use Rattle.std.proofs.lemmas.Nat.Bits.{bit_at_above}
 use Rattle.std.proofs.lemmas.Bool.{cases_lt, agree_below_at, or_cases, or_parts, eqb-true, not-false}
-use Rattle.std.proofs.lemmas.Option.{none-some}
 use Rattle.geometry.specs.declared.geometry.Geometry.{Geometry}
 use Rattle.nor_core.specs.Flash.{HalfProgrammed, programmed}
 use Rattle.table_model.specs.Table.{File, has_name, same_text}
 use Rattle.table_model.specs.Files.{new_file}
 use Rattle.page_layout.specs.Layout.{new_header_page, IsNewHeader}
-use Rattle.image_model.specs.Places.{block_of, IsImage, entry_at}
+use Rattle.image_model.specs.Places.{block_of, IsImage}
 use Rattle.image_model.specs.Headers.{names_index}
 use Rattle.image_model.specs.Live.{live_at, own}
 use Rattle.image_model.specs.Files.{index_page}
 use Rattle.image_model.specs.Tables.{table_of}
-use Rattle.image_model.specs.Tidy.{IsTidy, HasReserve, is_free_block, free_blocks}
+use Rattle.image_model.specs.Tidy.{HasReserve, is_free_block, free_blocks}
 use Rattle.image_model.specs.Sound.{HasMagics}
 use Rattle.image_model.specs.Kinds.{is_data_block, is_data_page}
 use Rattle.image_model.specs.Within.{sizes, entry_of_block, page_number}
@@ -27,11 +26,9 @@ use Rattle.image_laws.specs.SoundSteps.{IsOfKind}
 use Rattle.image_laws.specs.TidySteps.{Agree}
 use Rattle.image_laws.specs.Creating.{Creates, Placed}
 use Rattle.image_laws.specs.Put.{IsReadyPage}
-use Rattle.image_laws.specs.LiveSteps.{Finished, PutCut, PutLeaves, PutDone}
+use Rattle.image_laws.specs.LiveSteps.{PutCut, PutLeaves, PutDone}
 use Rattle.image_laws.proofs.Records.{bytes_equal, list_any-at}
 use Rattle.image_model.specs.Volume.{per_block, lookups, entries}
-use Rattle.std.specs.List.{list_any}
-use Rattle.std.proofs.Common.{zero, suc, Bool, get_or}
 use Rattle.image_laws.proofs.Frames.{live_parts}
 use Rattle.image_laws.proofs.FreeBlocks.{free_blocks-fall}
 use Rattle.image_laws.proofs.LiveStep.{put-changes}
@@ -41,7 +38,7 @@ use Rattle.image_laws.proofs.CreateStep.{byte3}
 use Rattle.page_put.specs.Placing.{with_entry, with_header, with_page, IsPlacing}
 use Rattle.page_put.proofs.Finishing.{programs_place, finish_clears_final}
 use Rattle.flash_view.specs.declared.kinds.Kind.TheVariants.{Index}
-use Rattle.file_write.specs.Creates.{CanCreate, CanPut, CreateCut, Created}
+use Rattle.file_write.specs.Creates.{CanPut, CreateCut, Created}
 use Rattle.file_write.proofs.NewHead.{finished_head, length-new_header, byte-new_header, index, of, first, live, leads}
 use Rattle.file_write.proofs.Plain.{plain-same, plain-gains}
 
@@ -84,7 +81,7 @@ of_kind g image p page none index = record {
       not-false (names_index x) names ∙ sym index;
 }
 
--- one bit is cleared
+-- the finished flags clear FINAL alone
 clears_final : ClearsBit 1 0xFA 0xF8
 clears_final = record {
   set = refl;
@@ -108,9 +105,11 @@ one_of_four (inr d) = inr (inr (inr d))
 
 module _ (g : Geometry) (a0 : List ℕ) (p id : ℕ) (name : List ℕ) (is : IsImage g a0) (some : 1 ≤ id) (small : id ≤ 0x7FFE) (few : length name ≤ 31) (bytes : All (λ b. b < 256) name)
     (fields : IsNewHeader g id name (new_header_page g.page id name)) (can : CanPut g a0 p id name) where
+  -- no header page of the id is there
   new_none : index_page g (own (live_at g a0) id) 0 ≡ None
   new_none = no_head g a0 id can.can.new_id
 
+  -- the header page leads to the new file once it is finished
   leads_to : LeadsTo g a0 id (finished_head g.page id name) (new_file g id name)
   leads_to = record {
     is_head = record { index = index g id name small; of = of g id name small; first = first g id name small };
@@ -121,6 +120,7 @@ module _ (g : Geometry) (a0 : List ℕ) (p id : ℕ) (name : List ℕ) (is : IsI
     unused = unused id name (table_of g a0) can.can.new_name;
   }
 
+  -- so it is a new header page, a create begins on it, and it is a page to be placed
   new_head : IsNewHead g a0 id (new_header_page g.page id name) (new_file g id name)
   new_head = record {
     len = length-new_header g.page id name (omega (arith, (sizes g).page)) few;
@@ -137,6 +137,7 @@ module _ (g : Geometry) (a0 : List ℕ) (p id : ℕ) (name : List ℕ) (is : IsI
   ready : IsReadyPage g (new_header_page g.page id name) 0xF8
   ready = record { len = new_head.len; bytes = new_head.bytes; clears = clears_final; finished = new_head.finished }
 
+  -- every block has its magic, and the reserve stays
   magics : HasMagics g a0
   magics = record { one = λ b c low low' no no'. let bad : true ≡ false = sym (can.can.tidy.magic b low) ∙ no in absurd (cc) }
 
@@ -157,9 +158,11 @@ module _ (g : Geometry) (a0 : List ℕ) (p id : ℕ) (name : List ℕ) (is : IsI
   flags : slice_index (with_page g p (new_header_page g.page id name) a0) (p * g.page + 4) ≡ 0xFA
   flags = byte3 g a0 p id (new_header_page g.page id name) (new_file g id name) is can.free new_head _ placed.one _ placed.two _ placed.three 4 (omega (arith, (sizes g).page))
 
+  -- the program that finishes it
   finish : Programmed (p * g.page + 4) (0xF8 ∷ []) (with_page g p (new_header_page g.page id name) a0) (programmed (with_page g p (new_header_page g.page id name) a0) (p * g.page + 4) (0xFD ∷ []))
   finish = (finish_clears_final Index _ _ flags).1
 
+  -- a cut in any of the four
   left : (c : List ℕ) → PutCut g p (new_header_page g.page id name) 0xF8 a0 (with_entry g p (new_header_page g.page id name) a0) (with_header g p (new_header_page g.page id name) a0) (with_page g p (new_header_page g.page id name) a0) c → CreateCut g a0 id name c
   left c cut =
       let put : PutLeaves g p (finished_head g.page id name) a0 c = (put-changes g a0 _ _ _ _ p (new_header_page g.page id name) 0xF8 is can.free ready (record { placed = placed; finish = finish })).0 c cut in
@@ -175,6 +178,7 @@ module _ (g : Geometry) (a0 : List ℕ) (p id : ℕ) (name : List ℕ) (is : IsI
             put.live;
       }
 
+  -- a cut while it is placed, a cut while it is finished, and the whole create
   pub placing_left : (c : List ℕ) → IsPlacing g p (new_header_page g.page id name) a0 c → CreateCut g a0 id name c
   placing_left c cut = left c (inl cut)
 

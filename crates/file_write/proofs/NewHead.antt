@@ -1,5 +1,5 @@
 -- The header page of a new file, once it is finished.
-use Rattle.std.proofs.Common.{◌≡◌, ◌≢◌, ℕ, ◌+◌, ◌-◌, ◌*◌, ◌/◌, ◌%◌, ◌<◌, ◌≤◌, List, [], ◌∷◌, ◌++◌, length, set, get_or, replicate, slice_index, slice_range, Bool, true, false, not, nat_lt, ◌==◌, Option, Some, None, Ok, refl, sym, ◌∙◌, ap, subst, arith}
+use Rattle.std.proofs.Common.{◌≡◌, ℕ, ◌+◌, ◌-◌, ◌/◌, ◌%◌, ◌<◌, ◌≤◌, List, [], ◌∷◌, ◌++◌, length, replicate, slice_index, slice_range, true, false, nat_lt, ◌==◌, Some, Ok, refl, ap, arith}
 use Rattle.std.specs.List.{All}
 use Rattle.std.proofs.Math.Nat.{div-eq_of_lt}
 use Rattle.std.proofs.lemmas.Grind.{common_steps}
@@ -9,18 +9,16 @@ use Rattle.geometry.specs.declared.geometry.Geometry.{Geometry}
 use Rattle.table_model.specs.Room.{data_pages}
 use Rattle.table_model.specs.Files.{new_file}
 use Rattle.page_layout.specs.Layout.{new_header_page, padded, IsNewHeader}
-use Rattle.image_model.specs.Headers.{obj_id, span_of, names_index, is_finished, size_of, name_of}
+use Rattle.image_model.specs.Headers.{obj_id, span_of, names_index, is_finished, name_of}
 use Rattle.image_model.specs.Live.{Live}
 use Rattle.image_model.specs.Files.{judged}
 use Rattle.image_model.specs.Within.{sizes}
 
--- its bytes
+-- its bytes: those of the new header page with FINAL cleared
 abbrev pub finished_head : ℕ → ℕ → List ℕ → List ℕ
 finished_head size id name = id % 256 ∷ (id / 256 + 128) ∷ 0 ∷ 0 ∷ 0xF8 ∷ (replicate 7 0xFF ++ (1 ∷ (padded name ++ replicate (size - 45) 0xFF)))
 
-pub finished_set : (size id : ℕ) (name : List ℕ) → set (new_header_page size id name) 4 0xF8 ≡ finished_head size id name
-finished_set size id name = refl
-
+-- its length and its bytes before that
 pub length-new_header : (size id : ℕ) (name : List ℕ) → 45 ≤ size → length name ≤ 31 → length (new_header_page size id name) ≡ size
 length-new_header size id name least few = grind (arith, common_steps)
 
@@ -51,6 +49,7 @@ module _ (g : Geometry) (id : ℕ) (name : List ℕ) (small : id ≤ 0x7FFE) whe
   id_is : obj_id (finished_head g.page id name) ≡ id + 0x8000
   id_is = omega arith
 
+  -- it is the header page of that id
   pub index : names_index (finished_head g.page id name) ≡ true
   index = rw (id_is, le-ltb (id + 0x8000) 0x8000 (omega arith)) refl
 
@@ -60,6 +59,7 @@ module _ (g : Geometry) (id : ℕ) (name : List ℕ) (small : id ≤ 0x7FFE) whe
   pub first : span_of (finished_head g.page id name) ≡ 0
   first = refl
 
+  -- it says itself that it is live
   pub live : 1 ≤ id → is_finished (finished_head g.page id name) ≡ true
   unfolding is_finished
   live some =
@@ -68,9 +68,7 @@ module _ (g : Geometry) (id : ℕ) (name : List ℕ) (small : id ≤ 0x7FFE) whe
       let high : nat_lt (id + 0x8000) 0x8000 ≡ false = le-ltb (id + 0x8000) 0x8000 (omega arith) in
       rw (id_is, some_id, not_free, high) refl
 
-  pub empty : size_of (finished_head g.page id name) ≡ 0
-  empty = refl
-
+  -- it leads to the new file, whatever other pages the id has
   pub leads : IsNewHeader g id name (new_header_page g.page id name) → (pages : Live) → judged g pages id (finished_head g.page id name) ≡ Ok (new_file g id name)
   unfolding judged
   leads fields pages =

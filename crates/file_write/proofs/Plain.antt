@@ -1,24 +1,22 @@
 -- A new header page leaves a plain image plain.
-use Rattle.std.proofs.Common.{◌≡◌, ◌≢◌, ℕ, ◌+◌, ◌*◌, ◌%◌, ◌<◌, ◌≤◌, ◌⊎◌, List, [], true, Option, Some, None, Ok, is_some, refl, sym, ◌∙◌, ap, subst, arith, ⊎_elim}
+use Rattle.std.proofs.Common.{◌≡◌, ◌≢◌, ℕ, ◌+◌, ◌*◌, ◌%◌, ◌<◌, List, [], true, Option, Some, None, Ok, is_some, refl, sym, ◌∙◌, ap, subst, ⊎_elim, Result, Err}
 use Rattle.std.proofs.lemmas.Bool.{cases_eq}
 use Rattle.std.proofs.lemmas.Option.{none-some, same_Some}
 use Rattle.geometry.specs.declared.geometry.Geometry.{Geometry}
-use Rattle.std.proofs.Common.{Result, Err}
 use Rattle.table_model.specs.Table.{File}
 use Rattle.image_model.specs.declared.damage.Damage.{Damage}
 use Rattle.image_laws.proofs.Tables.{own-gains_other}
 use Rattle.image_model.specs.Volume.{page_count}
 use Rattle.image_model.specs.Places.{has_magic}
-use Rattle.image_model.specs.Headers.{word_at, obj_id, names_index}
+use Rattle.image_model.specs.Headers.{word_at, obj_id}
 use Rattle.image_model.specs.Live.{Live, live_at, own}
 use Rattle.image_model.specs.Files.{index_page}
 use Rattle.image_model.specs.Tables.{has_of, counted, damages, damaged_of}
 use Rattle.image_model.specs.Plain.{IsPlain, IsEmptyHead}
 use Rattle.image_laws.specs.Changes.{Gains}
 use Rattle.image_laws.specs.Programs.{LeadsTo}
-use Rattle.image_laws.specs.TidySteps.{Agree}
 use Rattle.image_laws.proofs.Finish.{has_of-within}
-use Rattle.image_laws.proofs.Judge.{found_parts, found_from}
+use Rattle.image_laws.proofs.Judge.{found_parts}
 use Rattle.image_laws.proofs.Records.{whole-counts}
 use Rattle.image_laws.proofs.Sounding.{gains-undamaged}
 use Rattle.image_laws.proofs.Publish.{others-same, first}
