@@ -1,17 +1,17 @@
 -- The calls of the check, one after the other, as contracts tell of them.
-use Rattle.std.proofs.Common.{◌≡◌, ℕ, ◌+◌, ◌*◌, ◌≤◌, List, length, Bool, true, false, cond, refl, sym, ◌∙◌, ap, arith, subst}
+use Rattle.std.proofs.Common.{◌≡◌, ℕ, ◌+◌, ◌*◌, ◌≤◌, List, length, Bool, true, cond, sym, ◌∙◌, ap, arith, subst}
 use Rattle.geometry.specs.declared.geometry.Geometry.{Geometry}
 use Rattle.nor_core.specs.declared.state.NorState.{Ghosts as NorOf}
 use Rattle.nor_core.specs.Device.{OnlyReads, Changes}
-use Rattle.nor_core.proofs.Cuts.{wider, after_reads, read_after, unchanged, both, reads_then}
+use Rattle.nor_core.proofs.Cuts.{wider, after_reads, both}
 use Rattle.image_model.specs.Places.{IsImage}
 use Rattle.image_model.specs.Killed.{is_dead_entry}
 use Rattle.image_model.specs.Sound.{HasMagics}
 use Rattle.page_put.specs.Kills.{killed, HalfKilled}
-use Rattle.vol_check.specs.Stage.{LeavesLive, CleansEntry, IsClean}
+use Rattle.vol_check.specs.Stage.{LeavesLive, CleansEntry}
 use Rattle.vol_check.specs.Checks.{KeepsAll}
 use Rattle.vol_check.proofs.Turning.{half_killed, whole_killed}
-use Rattle.vol_check.proofs.Staged.{leaves_none, leaves_on, Cleaning, cleaning_next}
+use Rattle.vol_check.proofs.Staged.{leaves_on, Cleaning, cleaning_next}
 use Rattle.vol_check.proofs.Tidied.{keeps_all}
 
 -- a device that holds the volume holds an image of it
@@ -19,10 +19,6 @@ pub image_of : (g : Geometry) (bytes : List ℕ) (size : ℕ) → length bytes �
 image_of g bytes size len fits = record { len = omega (arith, len, fits) }
 
 module _ {D : Type 0} {nor : NorOf D} (g : Geometry) where
-  -- reads leave all
-  pub reads_leave : {old new : D} → OnlyReads nor old new → Changes nor old new (LeavesLive g)
-  reads_leave {old} reads = read_after (unchanged old (LeavesLive g) (λ tells. leaves_none g (nor.bytes old))) reads
-
   -- a kill after reads
   pub kill_leaves : (p : ℕ) {old mid new : D} → OnlyReads nor old mid → Changes nor mid new (HalfKilled g p) → (nor.tells old → IsImage g (nor.bytes old)) →
       (nor.tells old → is_dead_entry g (nor.bytes old) p ≡ true) → Changes nor old new (LeavesLive g)
@@ -42,9 +38,6 @@ module _ {D : Type 0} {nor : NorOf D} (g : Geometry) where
 
   pub leaves_all : {old new : D} → Changes nor old new (LeavesLive g) → Changes nor old new (KeepsAll g)
   leaves_all {old} changes = wider changes (λ tells image left. keeps_all g (nor.bytes old) image left)
-
-  pub reads_keep : {old new : D} → OnlyReads nor old new → Changes nor old new (KeepsAll g)
-  reads_keep reads = leaves_all (reads_leave reads)
 
 -- one turn more
 pub turn_on : (g h : Geometry) (first a b : List ℕ) (p n m : ℕ) (dead : Bool) → h ≡ g → Cleaning g first a p n → (HasMagics h a → CleansEntry h p dead a b) → m ≡ n + cond dead 1 0 → Cleaning g first b (p + 1) m

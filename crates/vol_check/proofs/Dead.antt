@@ -1,12 +1,10 @@
 -- Dead entries by their parts.
-use Rattle.std.proofs.Common.{◌≡◌, ℕ, List, Bool, true, false, not, if◌then◌else◌, ◌==◌, ◌&&◌, refl, sym, ◌∙◌, ap}
-use Rattle.std.specs.Prelude.{is_none, is_some, Option, Some, None}
+use Rattle.std.proofs.Common.{◌≡◌, ℕ, List, Bool, true, false, not, if◌then◌else◌, ◌&&◌, refl}
+use Rattle.std.specs.Prelude.{is_none, Some, None}
 use Rattle.geometry.specs.declared.geometry.Geometry.{Geometry}
-use Rattle.geometry.specs.Numbers.{per_block as pages_of_block, lookups as lookups_of_block}
-use Rattle.image_model.specs.Volume.{per_block, lookups}
-use Rattle.image_model.specs.Places.{has_magic, entry_of, block_of, is_entry_page}
+use Rattle.image_model.specs.Volume.{per_block}
+use Rattle.image_model.specs.Places.{has_magic, is_entry_page}
 use Rattle.image_model.specs.Live.{live_at, is_live}
-use Rattle.image_model.specs.Tidy.{is_free_entry}
 use Rattle.image_model.specs.Killed.{is_used, is_dead_entry}
 use Rattle.flash_view.specs.Places.{block_of as the_block_of, IsEntryPage}
 use Rattle.flash_view.proofs.Heads.{entry_page_told}

@@ -1,17 +1,16 @@
 -- Header pages by their ids and names.
-use Rattle.std.proofs.Common.{◌≡◌, ℕ, ◌%◌, ◌<◌, ◌≤◌, List, Bool, true, false, ◌==◌, ◌&&◌, refl, sym, ◌∙◌, ap, arith, subst, if◌then◌else◌}
-use Rattle.std.specs.Prelude.{Option, Some, None, Result, Ok, Err, is_some, find, option_and_then}
+use Rattle.std.proofs.Common.{◌≡◌, ℕ, ◌%◌, ◌<◌, ◌≤◌, List, Bool, true, false, refl, ap, arith, if◌then◌else◌}
+use Rattle.std.specs.Prelude.{Option, Some, None, Ok, is_some, find, option_and_then}
 use Rattle.std.specs.List.{range_with_len}
-use Rattle.std.proofs.lemmas.Bool.{eq-eqb, and_parts, cases_Bool}
-use Rattle.std.proofs.lemmas.Option.{same_Some, none-some, cond_some}
+use Rattle.std.proofs.lemmas.Bool.{eq-eqb}
+use Rattle.std.proofs.lemmas.Option.{same_Some, none-some}
 use Rattle.geometry.specs.declared.geometry.Geometry.{Geometry}
-use Rattle.table_model.specs.Table.{File, same_text}
-use Rattle.image_model.specs.declared.damage.Damage.{Damage}
+use Rattle.table_model.specs.Table.{File}
 use Rattle.image_model.specs.Volume.{page_count}
 use Rattle.image_model.specs.Headers.{obj_id, name_of}
 use Rattle.image_model.specs.Live.{Live, live_at, own}
-use Rattle.image_model.specs.Files.{is_index, index_page, judged, judged_by, first_missing}
-use Rattle.flash_view.specs.Found.{headed, named_at, is_name, first_named}
+use Rattle.image_model.specs.Files.{is_index, index_page, judged, judged_by, first_missing, file_of}
+use Rattle.flash_view.specs.Found.{named_at, is_name, first_named}
 use Rattle.image_laws.proofs.Tables.{find_passes}
 use Rattle.vol_check.proofs.Finding.{find_least, find_exists}
 
@@ -87,10 +86,7 @@ header_least g live id p q page at e index same =
 judged_by-name : (g : Geometry) (pages : Live) (id : ℕ) (head : List ℕ) (n : Option (List ℕ)) (m : Option ℕ) (f : File) → judged_by g pages id head n m ≡ Ok f → n ≡ Some f.name
 judged_by-name g pages id head None m f h = cc
 judged_by-name g pages id head (Some name) (Some span) f h = cc
-judged_by-name g pages id head (Some name) None f h = let same = h in ap (λ (x : List ℕ). Some x) (name_is g pages id head name f h)
-  where
-    name_is : (g : Geometry) (pages : Live) (id : ℕ) (head : List ℕ) (name : List ℕ) (f : File) → judged_by g pages id head (Some name) None ≡ Ok f → name ≡ f.name
-    name_is g pages id head name f h = cc
+judged_by-name g pages id head (Some name) None f h = let same : file_of g pages id head name ≡ f = cc in ap (λ (x : File). Some x.name) same
 
 -- a whole file has the name of its header page
 pub judged-name : (g : Geometry) (pages : Live) (id : ℕ) (head : List ℕ) (f : File) → judged g pages id head ≡ Ok f → name_of head ≡ Some f.name

@@ -1,12 +1,11 @@
 -- The check's kills one after the other.
-use Rattle.std.proofs.Common.{◌≡◌, ℕ, ◌+◌, ◌<◌, ◌≤◌, List, Bool, true, false, cond, refl, sym, ◌∙◌, ap, arith, subst}
+use Rattle.std.proofs.Common.{◌≡◌, ℕ, ◌+◌, ◌≤◌, List, Bool, true, false, cond, refl, ◌∙◌, arith}
 use Rattle.geometry.specs.declared.geometry.Geometry.{Geometry}
 use Rattle.image_model.specs.Volume.{page_count}
-use Rattle.image_model.specs.Places.{IsImage, has_magic}
+use Rattle.image_model.specs.Places.{IsImage}
 use Rattle.image_model.specs.Tidy.{free_blocks}
-use Rattle.image_model.specs.Killed.{is_dead_entry}
 use Rattle.image_model.specs.Sound.{HasMagics}
-use Rattle.image_laws.proofs.DeadEntries.{Stage, stage_start, stage_next, stage_clean, stage_count, unturned}
+use Rattle.image_laws.proofs.DeadEntries.{Stage, stage_start, stage_next, stage_clean, stage_count}
 use Rattle.vol_check.specs.Stage.{LeavesLive, CleansEntry, CleansEntries}
 
 pub leaves_none : (g : Geometry) (a : List ℕ) → LeavesLive g a a
@@ -19,9 +18,6 @@ leaves_on g a b c x y = record {
   magic = λ block. y.magic block ∙ x.magic block;
   free = omega (arith, x.free, y.free);
 }
-
-pub cleans_none : (g : Geometry) (a : List ℕ) (p : ℕ) → IsImage g a → HasMagics g a → is_dead_entry g a p ≡ false → CleansEntry g p false a a
-cleans_none g a p is h quiet = record { turned = unturned g a p is h quiet; free = refl }
 
 -- p entries on, with n of them killed
 pub record Cleaning (g : Geometry) (first now : List ℕ) (p n : ℕ) : Type 0 where

@@ -1,9 +1,9 @@
 -- An image passes the tests exactly where it is plain.
-use Rattle.std.proofs.Common.{◌≡◌, ℕ, zero, suc, ◌+◌, ◌*◌, ◌-◌, ◌%◌, ◌<◌, ◌≤◌, List, [], Bool, true, false, not, nat_lt, ◌==◌, ◌&&◌, refl, sym, ◌∙◌, ap, arith, subst, ⊎_elim, if◌then◌else◌}
-use Rattle.std.specs.Prelude.{Option, Some, None, Result, Ok, Err, is_some, ◌↔◌}
+use Rattle.std.proofs.Common.{◌≡◌, ℕ, zero, suc, ◌+◌, ◌*◌, ◌%◌, ◌<◌, ◌≤◌, List, [], Bool, true, false, not, nat_lt, refl, sym, ◌∙◌, ap, arith, subst, ⊎_elim}
+use Rattle.std.specs.Prelude.{Option, Some, None, Result, Ok, Err, is_some}
 use Rattle.std.specs.List.{range_with_len, list_any, list_all}
 use Rattle.std.proofs.Math.Nat.{div-eq_of_lt}
-use Rattle.std.proofs.lemmas.Bool.{and_parts, cases_Bool, cases_lt, cases_eq, eqb-true, eq-eqb, lt-ltb, and_right}
+use Rattle.std.proofs.lemmas.Bool.{and_parts, cases_Bool, cases_eq, eqb-true, eq-eqb, lt-ltb}
 use Rattle.std.proofs.lemmas.Option.{same_Some, none-some}
 use Rattle.geometry.specs.declared.geometry.Geometry.{Geometry}
 use Rattle.table_model.specs.Table.{File, same_text}
@@ -13,11 +13,10 @@ use Rattle.page_layout.specs.Layout.{header_at}
 use Rattle.image_model.specs.Volume.{page_count}
 use Rattle.image_model.specs.Within.{page_number}
 use Rattle.image_model.specs.Places.{has_magic}
-use Rattle.image_model.specs.Headers.{word_at, obj_id, names_index, name_of, size_of, span_of}
+use Rattle.image_model.specs.Headers.{word_at, obj_id, names_index, name_of, size_of}
 use Rattle.image_model.specs.Live.{Live, live_at, own}
 use Rattle.image_model.specs.Files.{is_index, index_page, judged, first_missing, file_of}
 use Rattle.image_model.specs.Tables.{Found, has_of, counts, counted, is_before, ids, damage, damages, damaged_of}
-use Rattle.image_model.specs.Tidy.{is_number}
 use Rattle.image_model.specs.Plain.{IsPlain, IsEmptyHead}
 use Rattle.flash_view.specs.Found.{is_name, named_at, first_named}
 use Rattle.image_laws.proofs.Frames.{live_parts}
@@ -28,9 +27,9 @@ use Rattle.image_laws.proofs.Damaged.{any_at, any_from}
 use Rattle.image_laws.proofs.Wants.{number-is}
 use Rattle.image_laws.proofs.Wanted.{some_file}
 use Rattle.image_laws.proofs.FreeBlocks.{all-at}
-use Rattle.vol_check.specs.Tests.{is_first_named, is_header_page, is_empty_file, is_plain, is_plain_page, has_magics, has_plain_pages}
+use Rattle.vol_check.specs.Tests.{is_first_named, is_empty_file, is_plain, is_plain_page, has_magics, has_plain_pages}
 use Rattle.vol_check.proofs.Finding.{filter_map-none}
-use Rattle.vol_check.proofs.Names.{own_is, Named, named_parts, named_from, FirstNamed, first_parts, first_exists, header_least, judged-name}
+use Rattle.vol_check.proofs.Names.{own_is, named_parts, named_from, first_parts, first_exists, header_least, judged-name}
 
 -- ---- a page that passes
 

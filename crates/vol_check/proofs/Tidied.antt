@@ -1,24 +1,21 @@
 -- What the kills leave of a plain image.
-use Rattle.std.proofs.Common.{◌≡◌, ℕ, ◌+◌, ◌%◌, ◌<◌, ◌≤◌, ◌⊎◌, List, length, Bool, true, false, not, ◌==◌, ◌&&◌, ◌||◌, refl, sym, ◌∙◌, ap, arith, subst, ⊎_elim, inl, inr, zero-add}
-use Rattle.std.specs.Prelude.{Option, Some, None, is_none, is_some, filter}
-use Rattle.std.specs.List.{range_with_len, list_any}
+use Rattle.std.proofs.Common.{◌≡◌, ℕ, ◌%◌, ◌<◌, ◌⊎◌, List, true, false, ◌==◌, refl, sym, ◌∙◌, arith, subst, ⊎_elim, inl, inr, zero-add}
+use Rattle.std.specs.Prelude.{Option, Some, None}
 use Rattle.std.proofs.Math.Path.{fun_ext}
-use Rattle.std.proofs.lemmas.Bool.{and_parts, cases_Bool, eq-eqb, eqb-true, or_left, false_from_ne_true}
-use Rattle.std.proofs.lemmas.Option.{same_Some, none-some}
+use Rattle.std.proofs.lemmas.Bool.{cases_Bool, eq-eqb, eqb-true, or_left}
 use Rattle.geometry.specs.declared.geometry.Geometry.{Geometry}
 use Rattle.table_model.specs.Room.{index_pages}
 use Rattle.image_model.specs.Volume.{page_count}
-use Rattle.image_model.specs.Headers.{obj_id, names_index, size_of}
-use Rattle.image_model.specs.Places.{IsImage, has_magic, entry_of, block_of, is_entry_page}
+use Rattle.image_model.specs.Headers.{obj_id, size_of}
+use Rattle.image_model.specs.Places.{entry_of, block_of, is_entry_page}
 use Rattle.image_model.specs.Within.{page_number, block_number}
-use Rattle.image_model.specs.Live.{Live, live_at, own}
+use Rattle.image_model.specs.Live.{live_at, own}
 use Rattle.image_model.specs.Files.{index_page}
-use Rattle.image_model.specs.Tables.{table_of, damaged_of}
 use Rattle.image_model.specs.Tidy.{IsTidy, is_wanted, is_number, serves, is_free_entry, free_blocks}
 use Rattle.image_model.specs.Killed.{is_used, is_killable, killed_of, is_dead_entry, dead_entries}
 use Rattle.image_model.specs.Plain.{IsPlain, IsEmptyHead}
-use Rattle.image_model.specs.Sound.{HasMagics, Keeps}
-use Rattle.image_laws.proofs.Frames.{live_parts, table_of-same, damaged_of-same}
+use Rattle.image_model.specs.Sound.{HasMagics}
+use Rattle.image_laws.proofs.Frames.{table_of-same, damaged_of-same}
 use Rattle.image_laws.proofs.Sounding.{keeps-by_live}
 use Rattle.image_laws.proofs.Wants.{Wanted, wanted_parts, wanted_from}
 use Rattle.image_laws.proofs.Wanted.{header-below}

@@ -1,10 +1,10 @@
 -- A kill of the entry of a page that isn't live, at each cut and done.
-use Rattle.std.proofs.Common.{◌≡◌, ◌≢◌, ℕ, ◌+◌, ◌*◌, ◌/◌, ◌%◌, ◌^◌, ◌<◌, ◌≤◌, ◌⊎◌, List, [], ◌∷◌, length, slice_index, Bool, true, false, ◌==◌, ◌&&◌, Option, Some, None, ap, refl, sym, ◌∙◌, arith, ⊎_elim, inl, inr, add-zero, if◌then◌else◌, not, subst}
-use Rattle.std.specs.Prelude.{bit_and, is_none}
+use Rattle.std.proofs.Common.{◌≡◌, ℕ, ◌+◌, ◌*◌, ◌<◌, ◌≤◌, List, [], ◌∷◌, slice_index, Bool, true, false, ◌==◌, Some, None, ap, refl, sym, ◌∙◌, arith, ⊎_elim, add-zero, if◌then◌else◌, not, subst}
+use Rattle.std.specs.Prelude.{bit_and}
 use Rattle.std.specs.Int.{bit_at}
 use Rattle.std.proofs.lemmas.Nat.Bits.{bit_at_and}
-use Rattle.std.proofs.lemmas.Bool.{cases_lt, cases_eq, cases_Bool, and_parts, eqb-true, agree_below_at}
-use Rattle.std.proofs.lemmas.Option.{cond_some, none-some}
+use Rattle.std.proofs.lemmas.Bool.{cases_lt, cases_eq, and_parts, eqb-true, agree_below_at}
+use Rattle.std.proofs.lemmas.Option.{none-some}
 use Rattle.geometry.specs.declared.geometry.Geometry.{Geometry}
 use Rattle.image_model.specs.Within.{sizes}
 use Rattle.image_model.specs.Volume.{per_block, lookups}
@@ -12,11 +12,10 @@ use Rattle.nor_core.specs.Flash.{SameOutside, HalfProgrammed}
 use Rattle.image_model.specs.Headers.{is_finished, is_flag_set, obj_id}
 use Rattle.image_model.specs.Live.{live_at, is_live}
 use Rattle.image_model.specs.Places.{page_of, block_of, has_magic, entry_of, is_entry_page, IsImage, entry_at}
-use Rattle.image_model.specs.Tidy.{is_free_entry, is_free_block, free_blocks}
+use Rattle.image_model.specs.Tidy.{is_free_entry, free_blocks}
 use Rattle.image_model.specs.Killed.{is_used, is_dead_entry}
-use Rattle.image_model.specs.Sound.{HasMagics, Keeps}
+use Rattle.image_model.specs.Sound.{HasMagics}
 use Rattle.image_laws.specs.Flash.{Programmed}
-use Rattle.image_laws.specs.Kills.{Turned}
 use Rattle.image_laws.specs.TidySteps.{Agree}
 use Rattle.image_laws.proofs.BetweenTorn.{TornByte, torn_byte}
 use Rattle.image_laws.proofs.Bits.{bit_cases}
@@ -80,9 +79,6 @@ module _ (g : Geometry) (a b : List ℕ) (p : ℕ) (is : IsImage g a) (page : is
 
   pub flags_agree : Agree g a b p
   flags_agree = agree_page g a b p (sizes g) page wide
-
-  pub flags_image : IsImage g b
-  flags_image = record { len = omega (arith, torn.outside.size, is.len) }
 
   still_dead : live_at g a p ≡ None → live_at g b p ≡ None
   still_dead dead =

@@ -22,7 +22,7 @@ IsRefusal (Wrong why) = Unit {0}
 IsRefusal Unbuilt = Unit {0}
 IsRefusal DeviceFault = ⊥
 
--- What a cut leaves: nothing is mixed or damaged that wasn't, the table stays, and no free block is gone.
+-- What each cut leaves: nothing is mixed or damaged that wasn't, the table stays, a plain image is plain, and no fewer blocks are free.
 pub record KeepsAll (g : Geometry) (was image : List ℕ) : Type 0 where
   pub keeps : HasMagics g was → Keeps g was image
   pub plain : IsPlain g was → IsPlain g image

@@ -1,5 +1,4 @@
-use Rattle.std.proofs.Common.{◌≡◌, ◌∙◌, refl, sym, subst}
-use Rattle.geometry.specs.declared.geometry.Geometry.{Geometry}
+use Rattle.std.proofs.Common.{◌≡◌, refl}
 use Rattle.nor_core.proofs.Cuts.{read_after, reads_then}
 use Rattle.image_model.specs.Tidy.{free_blocks}
 use Rattle.vol_check.specs.Stage.{LeavesLive, CleansEntries}

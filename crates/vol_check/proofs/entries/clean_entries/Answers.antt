@@ -1,10 +1,9 @@
-use Rattle.std.proofs.Common.{◌≡◌, ◌+◌, ◌≤◌, ◌∙◌, refl, sym, ap, arith, true, false, cond, subst, List, ℕ, zero-add}
-use Rattle.geometry.specs.Numbers.{page_count as pages_of}
+use Rattle.std.proofs.Common.{◌≡◌, ◌+◌, ◌≤◌, refl, arith, false, cond}
 use Rattle.image_model.specs.Volume.{page_count, per_block}
 use Rattle.image_model.specs.Killed.{is_dead_entry}
 use Rattle.nor_core.proofs.Cuts.{unchanged, reads_none, reads_then}
 use Rattle.flash_view.proofs.Looking.{same_none, same_then}
-use Rattle.vol_check.specs.Stage.{LeavesLive, CleansEntries}
+use Rattle.vol_check.specs.Stage.{LeavesLive}
 use Rattle.vol_check.proofs.Calls.{image_of, leaves_then, turn_on}
 use Rattle.vol_check.proofs.Staged.{leaves_none, cleaning_start, cleaning_end}
 use Rattle.vol_check.proofs.entries.clean_entries.Goals as goal

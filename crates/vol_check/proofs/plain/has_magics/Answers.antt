@@ -1,7 +1,7 @@
 use Rattle.std.proofs.Common.{◌≡◌, ◌+◌, true, false, zero-add}
 use Rattle.image_model.specs.Places.{has_magic}
 use Rattle.flash_view.proofs.Looking.{looks_none, looks_then}
-use Rattle.free_search.proofs.Scans.{all_start, all_later, all_fails, all_end}
+use Rattle.free_search.proofs.Scans.{all_start, all_later, all_fails}
 use Rattle.vol_check.specs.Tests.{has_magics}
 use Rattle.vol_check.proofs.plain.has_magics.Goals as goal
 

@@ -2,7 +2,7 @@ use Rattle.std.proofs.Common.{◌≡◌, ◌+◌, true, false, zero-add}
 use Rattle.geometry.specs.Numbers.{page_count as pages_of}
 use Rattle.image_model.specs.Volume.{page_count, per_block}
 use Rattle.flash_view.proofs.Looking.{looks_none, looks_then}
-use Rattle.free_search.proofs.Scans.{all_start, all_later, all_fails, all_end}
+use Rattle.free_search.proofs.Scans.{all_start, all_later, all_fails}
 use Rattle.vol_check.specs.Tests.{is_plain_page, has_plain_pages}
 use Rattle.vol_check.proofs.plain.has_plain_pages.Goals as goal
 

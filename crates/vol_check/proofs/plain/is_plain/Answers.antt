@@ -1,4 +1,4 @@
-use Rattle.std.proofs.Common.{◌≡◌, true, false}
+use Rattle.std.proofs.Common.{◌≡◌, true}
 use Rattle.vol_check.specs.Tests.{has_magics, has_plain_pages}
 use Rattle.vol_check.proofs.Told.{both_tell, pages_tell, magics_tell}
 use Rattle.vol_check.proofs.plain.is_plain.Goals as goal

@@ -1,7 +1,6 @@
-use Rattle.std.proofs.Common.{◌≡◌, ◌∙◌, sym, Bool}
+use Rattle.std.proofs.Common.{◌≡◌, ◌∙◌, sym}
 use Rattle.std.proofs.lemmas.Result.{IfOk-weaker}
-use Rattle.image_model.specs.Places.{page_of}
-use Rattle.vol_check.specs.Tests.{is_empty_file, is_plain_page}
+use Rattle.vol_check.specs.Tests.{is_plain_page}
 use Rattle.vol_check.proofs.Pages.{head_plain, none_plain}
 use Rattle.vol_check.proofs.plain.is_plain_page.Goals as goal
 

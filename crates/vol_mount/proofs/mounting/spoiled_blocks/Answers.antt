@@ -1,7 +1,5 @@
-use Rattle.std.proofs.Common.{◌≡◌, ℕ, ◌+◌, ◌-◌, ◌≤◌, ◌∙◌, refl, sym, ap, true, false, Bool, not, length, arith}
+use Rattle.std.proofs.Common.{◌≡◌, ℕ, refl, true, false, Bool, not, arith}
 use Rattle.std.proofs.Math.Nat.{sub-zero}
-use Rattle.std.specs.Prelude.{filter}
-use Rattle.std.specs.List.{range_with_len}
 use Rattle.image_model.specs.Places.{has_magic}
 use Rattle.image_model.specs.Kinds.{spoiled_blocks}
 use Rattle.flash_view.proofs.Looking.{looks_none, looks_then}
@@ -34,8 +32,8 @@ loop-block-preserved g c =
           let has : c.in_ok-has_magic.field-0 ≡ has_magic view.geometry image c.loop-block.block = cc (turn, was.looks.reads.bytes, was.looks.same.geometry) in
           elim c.if-not-branch.branch [
             | then-not-branch w ↦ let passes : test c.loop-block.block ≡ true = rw (← has) (rw w.if-not-branch.true refl) in
-              rw w.spoiled-is (count_here test _ _ _ _ c.loop-block-test.true (was.told tells) passes)
+                rw w.spoiled-is (count_here test _ _ _ _ c.loop-block-test.true (was.told tells) passes)
             | else-not-branch w ↦ let fails : test c.loop-block.block ≡ false = rw (← has) (rw w.if-not-branch.false refl) in
-              rw w.spoiled-is (count_later test _ _ _ _ c.loop-block-test.true (was.told tells) fails)
+                rw w.spoiled-is (count_later test _ _ _ _ c.loop-block-test.true (was.told tells) fails)
           ];
     }
