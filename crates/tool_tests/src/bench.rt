@@ -5,7 +5,7 @@ use nor_core::{MemBoard, MemSource};
 use std::alloc::Global;
 use std::test::Fail;
 use tool_core::{Buffers, spiffs_tool};
-use vol_mount::format;
+use vol_mount::{Lent, format};
 
 /// The words of a run on the volume of these tests: pages of 256 bytes, 16 blocks of 4,096.
 pub(crate) const RUN: &str = "run 256 4096 16 0 len chip";
@@ -22,6 +22,35 @@ pub(crate) fn formatted(alloc: Global, magic: MagicKind) -> Result<MemBoard, Fai
     let g = Geometry::new(256, 4096, 16, 4096, 0, magic)?;
     format(&g, &mut board)?;
     Ok(board)
+}
+
+/// Memory for one volume of these tests.
+#[derive(Drop)]
+pub(crate) struct Memory {
+    work: Vec<u8>,
+    slots: Vec<FdSlot>,
+    cache: Vec<u8>,
+    check: Vec<u8>,
+}
+
+impl Memory {
+    pub(crate) fn new(alloc: Global) -> Result<Memory, Fail> {
+        Ok(Memory {
+            work: vec![in alloc; 0u8; 4096]?,
+            slots: vec![in alloc; FdSlot::empty(); 4]?,
+            cache: vec![in alloc; 0u8; 1024]?,
+            check: vec![in alloc; 0u8; 16384]?,
+        })
+    }
+
+    pub(crate) fn lend(&mut self) -> Lent<'_> {
+        Lent {
+            work: &mut self.work,
+            slots: &mut self.slots,
+            cache: &mut self.cache,
+            check: &mut self.check,
+        }
+    }
 }
 
 /// The words of a text that are parted by spaces.

@@ -1,12 +1,9 @@
-use crate::bench::{RUN, formatted, run};
-use fd_table::FdSlot;
+use crate::bench::{RUN, blank, formatted, run};
 use geometry::{Geometry, MagicKind};
 use nor_core::CallKind;
 use std::alloc::Global;
 use std::test::Fail;
-use table_model::FsErr;
-use vol_mount::{Lent, Unchecked, accept, mount};
-use volume::{Volume, check};
+use vol_mount::format;
 
 #[test]
 fn a_formatted_volume_has_its_magics_and_is_erased(rt: HostRuntime) -> Result<(), Fail> {
@@ -110,28 +107,44 @@ remove a
 }
 
 #[test]
-fn a_volume_refuses_names_that_are_empty_or_long(rt: HostRuntime) -> Result<(), Fail> {
+fn what_was_made_is_shown(rt: HostRuntime) -> Result<(), Fail> {
     let mut board = formatted(rt.alloc(), MagicKind::Length)?;
-    let g = Geometry::new(256, 4096, 16, 4096, 0, MagicKind::Length)?;
-    let mut work = vec![in rt.alloc(); 0u8; 4096]?;
-    let mut slots = vec![in rt.alloc(); FdSlot::empty(); 1]?;
-    let mut cache = vec![in rt.alloc(); 0u8; 1024]?;
-    let mut check_bytes = vec![in rt.alloc(); 0u8; 16384]?;
-    let lent = Lent {
-        work: &mut work,
-        slots: &mut slots,
-        cache: &mut cache,
-        check: &mut check_bytes,
-    };
-    accept(&g, &board, &lent)?;
-    let mut unchecked = Unchecked::new(g, &mut board, lent);
-    mount(&mut unchecked)?;
-    check(&mut unchecked)?;
-    let mut volume = Volume::new(unchecked);
-    assert_eq!(rt; volume.create(b""), Err(FsErr::BadName));
-    assert_eq!(rt; volume.create(&[b'a'; 32]), Err(FsErr::NameTooLong));
-    assert_eq!(rt; volume.create(&[b'a'; 31]), Ok(()));
-    assert_eq!(rt; volume.create(&[b'a'; 31]), Err(FsErr::ConflictingName));
-    assert!(rt; !volume.has_failed());
+    let script = b"create a
+stat a
+stat b
+create b
+next 0
+next 1
+next 2
+info
+read 1 1
+";
+    assert_eq!(rt; run(rt.alloc(), RUN, &mut board, script)?, 0);
+    let said = b"ok
+ok 1 1 0 a
+-10002
+ok
+ok 1 1 0 a
+ok 2 1 0 b
+ok none
+ok files 2 index 2 data 0 usable 210
+-11008
+";
+    assert_eq!(rt; board.said(), said.as_slice());
+    Ok(())
+}
+
+#[test]
+fn meta_bytes_of_new_files_are_shown(rt: HostRuntime) -> Result<(), Fail> {
+    let mut board = blank(rt.alloc())?;
+    let g = Geometry::new(256, 4096, 16, 4096, 2, MagicKind::Plain)?;
+    format(&g, &mut board)?;
+    let words = "run 256 4096 16 2 plain chip";
+    assert_eq!(rt; run(rt.alloc(), words, &mut board, b"create a b\ncreate a\nstat a\n")?, 5);
+    assert_eq!(rt; board.said(), b"! bad line 1\n".as_slice());
+    let mut board = blank(rt.alloc())?;
+    format(&g, &mut board)?;
+    assert_eq!(rt; run(rt.alloc(), words, &mut board, b"create a\nstat a\n")?, 0);
+    assert_eq!(rt; board.said(), b"ok\nok 1 1 0 a FFFF\n".as_slice());
     Ok(())
 }

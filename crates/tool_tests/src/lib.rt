@@ -6,9 +6,13 @@ mod bench;
 #[cfg(test)]
 mod creates;
 #[cfg(test)]
+mod cuts;
+#[cfg(test)]
 mod refusals;
 #[cfg(test)]
 mod scripts;
+#[cfg(test)]
+mod volumes;
 
 /// The status of a command of which everything was done.
 pub const ALL_DONE: u8 = 0;

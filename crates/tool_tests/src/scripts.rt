@@ -91,6 +91,51 @@ fn an_erased_chip_is_no_volume(rt: HostRuntime) -> Result<(), Fail> {
 }
 
 #[test]
+fn two_blocks_without_magic_are_told_and_left(rt: HostRuntime) -> Result<(), Fail> {
+    let mut board = formatted(rt.alloc(), MagicKind::Length)?;
+    nor_core::Nor::program(&mut board, 252, &[0, 0])?;
+    nor_core::Nor::program(&mut board, 4096 + 252, &[0, 0])?;
+    let before = board.image().to_vec(rt.alloc())?;
+    assert_eq!(rt; run(rt.alloc(), RUN, &mut board, b"create a\n")?, 3);
+    let closing = b"! not a volume, 2 blocks without magic\n";
+    assert_eq!(rt; board.said(), closing.as_slice());
+    assert!(rt; board.image() == before.as_slice());
+    Ok(())
+}
+
+#[test]
+fn a_volume_without_its_reserve_is_told(rt: HostRuntime) -> Result<(), Fail> {
+    let mut board = formatted(rt.alloc(), MagicKind::Length)?;
+    for block in 0..15u32 {
+        nor_core::Nor::program(&mut board, block * 4096, &[0, 0])?;
+    }
+    assert_eq!(rt; run(rt.alloc(), RUN, &mut board, b"create a\n")?, 14);
+    assert_eq!(rt; board.said(), b"! free blocks 1\n".as_slice());
+    Ok(())
+}
+
+#[test]
+fn a_create_without_a_free_page_is_unbuilt(rt: HostRuntime) -> Result<(), Fail> {
+    let mut board = formatted(rt.alloc(), MagicKind::Length)?;
+    for block in 0..14u32 {
+        nor_core::Nor::program(&mut board, block * 4096, &[0; 30])?;
+    }
+    assert_eq!(rt; run(rt.alloc(), RUN, &mut board, b"next 0\ncreate a\nnext 0\n")?, 16);
+    assert_eq!(rt; board.said(), b"ok none\n! unbuilt\n".as_slice());
+    Ok(())
+}
+
+#[test]
+fn a_volume_with_data_is_not_run(rt: HostRuntime) -> Result<(), Fail> {
+    let mut board = formatted(rt.alloc(), MagicKind::Length)?;
+    nor_core::Nor::program(&mut board, 0, &[1, 0])?;
+    nor_core::Nor::program(&mut board, 256, &[1, 0, 0, 0, 0xFC])?;
+    assert_eq!(rt; run(rt.alloc(), RUN, &mut board, b"create a\n")?, 16);
+    assert_eq!(rt; board.said(), b"! unbuilt image\n".as_slice());
+    Ok(())
+}
+
+#[test]
 fn what_was_made_is_there_in_the_next_run(rt: HostRuntime) -> Result<(), Fail> {
     let mut board = formatted(rt.alloc(), MagicKind::Length)?;
     assert_eq!(rt; run(rt.alloc(), RUN, &mut board, b"create a\n")?, 0);

@@ -1,0 +1,88 @@
+//! Power cuts in a run of creates, and in the recovery after them.
+use crate::bench::run;
+use geometry::{Geometry, MagicKind};
+use image_plain::table_of;
+use nor_core::MemBoard;
+use std::alloc::Global;
+use std::test::Fail;
+use vol_mount::format;
+
+/// A run on four blocks of 4,096 bytes.
+const SMALL: &str = "run 256 4096 4 0 len chip";
+
+/// The script, and its names in order: each create is four programs and a reply.
+const SCRIPT: &[u8] = b"create a\ncreate b\ncreate c\n";
+
+const NAMES: [&[u8]; 3] = [b"a", b"b", b"c"];
+
+const CALLS: u64 = 15;
+
+fn small() -> Result<Geometry, Fail> {
+    Ok(Geometry::new(256, 4096, 4, 4096, 0, MagicKind::Length)?)
+}
+
+fn board_of(alloc: Global, image: &[u8]) -> Result<MemBoard, Fail> {
+    Ok(MemBoard::new(alloc, image.to_vec(alloc)?, 4096)?)
+}
+
+// How many of the names the table has, if it has a front of them.
+fn front_of(alloc: Global, image: &[u8]) -> Result<Option<usize>, Fail> {
+    let g = small()?;
+    let table = table_of(alloc, &g, image)?;
+    for (i, file) in table.iter().enumerate() {
+        let is_next = NAMES.get(i).is_some_and(|name| file.name.as_slice() == *name);
+        if !is_next || usize::from(file.id) != i + 1 || !file.bytes.is_empty() {
+            return Ok(None);
+        }
+    }
+    Ok(Some(table.len()))
+}
+
+// A formatted small volume.
+fn fresh(alloc: Global) -> Result<MemBoard, Fail> {
+    let mut board = board_of(alloc, &vec![in alloc; 0xFFu8; 16384]?)?;
+    format(&small()?, &mut board)?;
+    Ok(board)
+}
+
+#[test]
+fn a_cut_run_leaves_the_files_that_it_told_and_at_most_one_more(rt: HostRuntime) -> Result<(), Fail> {
+    let alloc = rt.alloc();
+    for passed in 0..CALLS {
+        for pick in 0..5 {
+            let mut board = fresh(alloc)?;
+            board.cut_after(passed, pick);
+            assert_eq!(rt; run(alloc, SMALL, &mut board, SCRIPT)?, 7, "at {passed} by {pick}");
+            let told = board.said().iter().filter(|byte| **byte == b'\n').count();
+            let files = front_of(alloc, board.image())?;
+            assert!(rt; files == Some(told) || files == Some(told + 1), "at {passed} by {pick}");
+            let mut after = board_of(alloc, board.image())?;
+            assert_eq!(rt; run(alloc, SMALL, &mut after, b"")?, 0, "at {passed} by {pick}");
+            assert_eq!(rt; front_of(alloc, after.image())?, files, "at {passed} by {pick}");
+        }
+    }
+    Ok(())
+}
+
+#[test]
+fn a_recovery_that_is_cut_leaves_the_files_too(rt: HostRuntime) -> Result<(), Fail> {
+    let alloc = rt.alloc();
+    for passed in 0..CALLS {
+        let mut board = fresh(alloc)?;
+        board.cut_after(passed, 3);
+        run(alloc, SMALL, &mut board, SCRIPT)?;
+        let files = front_of(alloc, board.image())?;
+        for calls in 0..3 {
+            for pick in 0..5 {
+                let mut first = board_of(alloc, board.image())?;
+                first.cut_after(calls, pick);
+                run(alloc, SMALL, &mut first, b"")?;
+                assert_eq!(rt; front_of(alloc, first.image())?, files, "at {passed}, {calls} by {pick}");
+                let mut second = board_of(alloc, first.image())?;
+                assert_eq!(rt; run(alloc, SMALL, &mut second, b"")?, 0, "at {passed}, {calls} by {pick}");
+                assert_eq!(rt; front_of(alloc, second.image())?, files, "at {passed}, {calls} by {pick}");
+            }
+        }
+    }
+    Ok(())
+}

@@ -1,0 +1,114 @@
+//! The volume itself, below the top call.
+use crate::bench::{Memory, blank, formatted};
+use geometry::{Geometry, MagicKind};
+use nor_core::CallKind;
+use std::test::Fail;
+use table_model::FsErr;
+use vol_mount::{MountErr, accept};
+use volume::{CheckErr, Report, Volume};
+
+#[test]
+fn a_volume_refuses_names_that_are_empty_or_long(rt: HostRuntime) -> Result<(), Fail> {
+    let mut board = formatted(rt.alloc(), MagicKind::Length)?;
+    let g = Geometry::new(256, 4096, 16, 4096, 0, MagicKind::Length)?;
+    let mut memory = Memory::new(rt.alloc())?;
+    let lent = memory.lend();
+    accept(&g, &board, &lent)?;
+    let mut volume = Volume::new(g, &mut board, lent);
+    assert_eq!(rt; volume.create(b"a"), Err(FsErr::Failed));
+    volume.mount()?;
+    volume.check()?;
+    assert_eq!(rt; volume.create(b""), Err(FsErr::BadName));
+    assert_eq!(rt; volume.create(&[b'a'; 32]), Err(FsErr::NameTooLong));
+    assert_eq!(rt; volume.create(&[b'a'; 31]), Ok(()));
+    assert_eq!(rt; volume.create(&[b'a'; 31]), Err(FsErr::ConflictingName));
+    assert!(rt; !volume.has_failed());
+    Ok(())
+}
+
+#[test]
+fn a_volume_fails_where_a_program_fails(rt: HostRuntime) -> Result<(), Fail> {
+    let mut board = formatted(rt.alloc(), MagicKind::Length)?;
+    board.fail_nth(CallKind::Program, 7);
+    let g = Geometry::new(256, 4096, 16, 4096, 0, MagicKind::Length)?;
+    let mut memory = Memory::new(rt.alloc())?;
+    let lent = memory.lend();
+    accept(&g, &board, &lent)?;
+    let mut volume = Volume::new(g, &mut board, lent);
+    volume.mount()?;
+    volume.check()?;
+    assert_eq!(rt; volume.create(b"a"), Ok(()));
+    assert_eq!(rt; volume.create(b"b"), Err(FsErr::DeviceFault));
+    assert!(rt; volume.has_failed());
+    assert_eq!(rt; volume.create(b"c"), Err(FsErr::Failed));
+    Ok(())
+}
+
+#[test]
+fn a_volume_stands_where_a_read_fails(rt: HostRuntime) -> Result<(), Fail> {
+    let mut board = formatted(rt.alloc(), MagicKind::Length)?;
+    let g = Geometry::new(256, 4096, 16, 4096, 0, MagicKind::Length)?;
+    let mut memory = Memory::new(rt.alloc())?;
+    let lent = memory.lend();
+    accept(&g, &board, &lent)?;
+    let mut volume = Volume::new(g, &mut board, lent);
+    volume.mount()?;
+    volume.check()?;
+    volume.nor.fail_nth(CallKind::Read, 3);
+    assert_eq!(rt; volume.create(b"a"), Err(FsErr::DeviceFault));
+    assert!(rt; !volume.has_failed());
+    assert_eq!(rt; volume.create(b"a"), Ok(()));
+    Ok(())
+}
+
+#[test]
+fn a_torn_entry_is_killed_by_the_check(rt: HostRuntime) -> Result<(), Fail> {
+    let mut board = formatted(rt.alloc(), MagicKind::Length)?;
+    nor_core::Nor::program(&mut board, 0, &[0xFF, 0x9F])?;
+    let g = Geometry::new(256, 4096, 16, 4096, 0, MagicKind::Length)?;
+    let mut memory = Memory::new(rt.alloc())?;
+    let lent = memory.lend();
+    accept(&g, &board, &lent)?;
+    let mut volume = Volume::new(g, &mut board, lent);
+    volume.mount()?;
+    let report = Report {
+        erased: false,
+        killed: 1,
+        damaged: 0,
+        free_blocks: 15,
+    };
+    assert_eq!(rt; volume.check(), Ok(report));
+    let image = volume.nor.image();
+    assert_eq!(rt; image.get(..2), Some([0u8, 0].as_slice()));
+    assert_eq!(rt; image.get(260), Some(&0x7F));
+    assert!(rt; matches!(volume.next(0), Ok(None)));
+    Ok(())
+}
+
+#[test]
+fn a_volume_with_data_pages_is_not_taken(rt: HostRuntime) -> Result<(), Fail> {
+    let mut board = formatted(rt.alloc(), MagicKind::Length)?;
+    nor_core::Nor::program(&mut board, 0, &[1, 0])?;
+    nor_core::Nor::program(&mut board, 256, &[1, 0, 0, 0, 0xFC])?;
+    let g = Geometry::new(256, 4096, 16, 4096, 0, MagicKind::Length)?;
+    let mut memory = Memory::new(rt.alloc())?;
+    let lent = memory.lend();
+    accept(&g, &board, &lent)?;
+    let mut volume = Volume::new(g, &mut board, lent);
+    volume.mount()?;
+    assert_eq!(rt; volume.check(), Err(CheckErr::Unbuilt));
+    assert_eq!(rt; volume.create(b"a"), Err(FsErr::Failed));
+    Ok(())
+}
+
+#[test]
+fn an_erased_chip_is_not_mounted(rt: HostRuntime) -> Result<(), Fail> {
+    let mut board = blank(rt.alloc())?;
+    let g = Geometry::new(256, 4096, 16, 4096, 0, MagicKind::Length)?;
+    let mut memory = Memory::new(rt.alloc())?;
+    let lent = memory.lend();
+    accept(&g, &board, &lent)?;
+    let mut volume = Volume::new(g, &mut board, lent);
+    assert_eq!(rt; volume.mount(), Err(MountErr::NotAFs { spoiled: 16 }));
+    Ok(())
+}
