@@ -1,6 +1,6 @@
-ghost use Rattle.std.specs.Prelude.{◌≡◌, ◌≢◌, ◌+◌, ◌<◌, ◌≤◌, length, All, OnOk, OnErr, IfErr, IsErrOf, true};
+ghost use Rattle.std.specs.Prelude.{◌≡◌, ◌≢◌, ◌+◌, ◌<◌, ◌≤◌, length, All, OnOk, OnErr, IfErr, false, IsErrOf, true};
 ghost use Rattle.nor_core.specs.Count.{Rose};
-ghost use Rattle.nor_core.specs.Device.{Changes};
+ghost use Rattle.nor_core.specs.Device.{Changes, OnlyReads};
 ghost use Rattle.flash_view.specs.Places.{IsEntryPage};
 ghost use Rattle.flash_view.specs.Same.{IsSameView};
 ghost use Rattle.file_write.specs.Creates.{CanCreate, CreateCut, Created, CanPut};
@@ -65,6 +65,7 @@ pub fn create_step<N: Nor>(v: &mut View<'_, N>, id: u16, name: &[u8]) -> Result<
     ensures changes { Changes N.NorState v.old.nor.now v.new.nor.now (λ was image. CanCreate v.old.geometry was id name.now → CreateCut v.old.geometry was id name.now image) }
     ensures done { N.tells v.old.nor.now → CanCreate v.old.geometry (N.bytes v.old.nor.now) id name.now → OnOk result (Created v.old.geometry (N.bytes v.old.nor.now) id name.now (N.bytes v.new.nor.now)) }
     ensures undamaged { N.tells v.old.nor.now → CanCreate v.old.geometry (N.bytes v.old.nor.now) id name.now → IfErr result (λ why. why ≡ StepErr.DeviceFault) }
+    ensures untouched { v.old.wrote ≡ false → v.new.wrote ≡ false → OnlyReads N.NorState v.old.nor.now v.new.nor.now }
 {
     match free_page(v, Kind::Index, 2, None) {
         Err(Failed) => Err(StepErr::DeviceFault),

@@ -1,7 +1,7 @@
-ghost use Rattle.std.specs.Prelude.{◌≡◌, ◌≢◌, ◌<◌, ◌≤◌, length, All, IsErrOf, IfOk, IfErr, OnErr, OnOk, Ok, Some, None};
+ghost use Rattle.std.specs.Prelude.{◌≡◌, ◌≢◌, ◌<◌, ◌≤◌, length, All, IsErrOf, IfOk, IfErr, OnErr, OnOk, Ok, Some, None, false};
 ghost use Rattle.geometry.specs.Numbers.{usable};
 ghost use Rattle.nor_core.specs.Count.{Rose};
-ghost use Rattle.nor_core.specs.Device.{Changes};
+ghost use Rattle.nor_core.specs.Device.{Changes, OnlyReads};
 ghost use Rattle.flash_view.specs.Same.{IsSameView, OnlyLooks};
 ghost use Rattle.table_model.specs.Table.{least_id, has_name as the_name};
 ghost use Rattle.image_model.specs.Tables.{table_of};
@@ -82,6 +82,7 @@ pub(crate) fn create_in<N: Nor>(v: &mut View<'_, N>, name: &[u8]) -> Result<(), 
     ensures same { IsSameView v.old v.new }
     ensures changes { Changes N.NorState v.old.nor.now v.new.nor.now (λ was image. IsReady v.old.geometry was → CreateLeaves v.old.geometry name.now was image) }
     ensures goes { N.tells v.old.nor.now → IsReady v.old.geometry (N.bytes v.old.nor.now) → CreateGoes N.NorState v.old.geometry name.now v.old.nor.now v.new.nor.now result }
+    ensures untouched { v.old.wrote ≡ false → v.new.wrote ≡ false → OnlyReads N.NorState v.old.nor.now v.new.nor.now }
 {
     let id = prepare(v, name)?;
     match create_step(v, id, name) {

@@ -2,7 +2,7 @@ ghost use Rattle.std.specs.Prelude.{◌≡◌, ◌*◌, ◌<◌, ◌≤◌, leng
 ghost use Rattle.geometry.specs.Numbers.{usable, work_need, cache_need, check_need};
 ghost use Rattle.nor_core.specs.Count.{Rose};
 ghost use Rattle.nor_core.specs.Device.{Changes, OnlyReads};
-ghost use Rattle.std.specs.Prelude.{◌≢◌, All, IsErrOf, IfOk, IfErr, IfSome, OnOk, OnErr, Err, None};
+ghost use Rattle.std.specs.Prelude.{◌≢◌, All, IsErrOf, IfOk, IfErr, IfSome, OnOk, OnErr, Err, None, false};
 ghost use Rattle.geometry.specs.Numbers.{write_refusal};
 ghost use Rattle.image_model.specs.Kinds.{spoiled_blocks};
 ghost use Rattle.image_model.specs.Plain.{IsPlain};
@@ -137,6 +137,7 @@ fn create_on<N: Nor>(
     ensures faults { N.faults nor.old ≤ N.faults nor.new }
     ensures changes { Changes N.NorState nor.old nor.new (λ was image. IsReady g was → CreateLeaves g name.now was image) }
     ensures goes { N.tells nor.old → IsReady g (N.bytes nor.old) → CreateGoes N.NorState g name.now nor.old nor.new result.done }
+    ensures untouched { result.wrote ≡ false → OnlyReads N.NorState nor.old nor.new }
 {
     let mut v = View::new(g, nor, work, cache);
     let done = create_in(&mut v, name);
@@ -148,7 +149,8 @@ fn create_on<N: Nor>(
 
 // Where a call leads that a checked volume took.
 fn stage_after(tried: Attempt) -> Stage
-    ensures { StaysUnless tried.done true (is_open result) }
+    ensures stays { StaysUnless tried.done true (is_open result) }
+    ensures fails { IsErrOf tried.done FsErr.DeviceFault → tried.wrote ≡ true → is_open result ≡ false }
 {
     match tried.done {
         Err(FsErr::DeviceFault | FsErr::Damaged(_)) if tried.wrote => Stage::Failed,
@@ -216,7 +218,7 @@ fn info_on<N: Nor>(
 }
 
 impl<'b, N: Nor> Volume<'b, N> {
-    ghost use Rattle.std.specs.Prelude.{◌≡◌, ◌≢◌, ◌*◌, ◌<◌, ◌≤◌, length, All, OnOk, OnErr, IsErrOf, IfOk, IfErr, IfSome, IsOk, Err, None, true, false};
+    ghost use Rattle.std.specs.Prelude.{◌≡◌, ◌≢◌, ◌⊎◌, ◌*◌, ◌<◌, ◌≤◌, length, All, OnOk, OnErr, IsErrOf, IfOk, IfErr, IfSome, IsOk, Err, None, true, false};
     ghost use Rattle.geometry.specs.Numbers.{usable, write_refusal, work_need, cache_need};
     ghost use Rattle.nor_core.specs.Count.{Rose};
     ghost use Rattle.nor_core.specs.Device.{Changes, OnlyReads};
@@ -314,6 +316,7 @@ impl<'b, N: Nor> Volume<'b, N> {
         ensures answers { N.tells self.old.nor.now → takes_calls self.old ≡ true → IsReady self.old.geometry (N.bytes self.old.nor.now) → (s : State) → s.table ≡ table_of self.old.geometry (N.bytes self.old.nor.now) →
             CreateAnswers N.NorState self.old.geometry s name.now self.old.nor.now self.new.nor.now result }
         ensures closed { takes_calls self.old ≡ false → (result ≡ Err FsErr.Failed) × (self.new.nor.now ≡ self.old.nor.now) }
+        ensures failed { IsErrOf result FsErr.DeviceFault → (takes_calls self.new ≡ false) ⊎ OnlyReads N.NorState self.old.nor.now self.new.nor.now }
         ensures same { IsSameVolume self.old self.new }
     {
         if self.stage != Stage::Checked {
