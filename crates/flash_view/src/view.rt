@@ -85,6 +85,7 @@ impl<'b, N: Nor> View<'b, N> {
         ensures cause { OnErr result (Rose (N.faults self.old.nor.now) (N.faults self.new.nor.now)) }
         ensures looks { OnlyLooks self.old self.new }
         ensures told { N.tells self.old.nor.now → OnOk result (into.new ≡ slice_range (N.bytes self.old.nor.now) at (at + length into.old)) }
+        ensures work { self.new.work.now ≡ self.old.work.now }
     {
         self.nor.read(at, into)
     }
@@ -96,6 +97,7 @@ impl<'b, N: Nor> View<'b, N> {
         ensures cause { OnErr result (Rose (N.faults self.old.nor.now) (N.faults self.new.nor.now)) }
         ensures looks { OnlyLooks self.old self.new }
         ensures told { N.tells self.old.nor.now → IfOk result (λ word. word ≡ word_at (N.bytes self.old.nor.now) at) }
+        ensures work { self.new.work.now ≡ self.old.work.now }
     {
         let mut slot = [0u8; 2];
         self.read(at, &mut slot)?;
@@ -109,6 +111,7 @@ impl<'b, N: Nor> View<'b, N> {
         ensures cause { OnErr result (Rose (N.faults self.old.nor.now) (N.faults self.new.nor.now)) }
         ensures looks { OnlyLooks self.old self.new }
         ensures told { N.tells self.old.nor.now → IfOk result (λ entry. entry ≡ the_entry_of self.old.geometry (N.bytes self.old.nor.now) page) }
+        ensures work { self.new.work.now ≡ self.old.work.now }
     {
         let at = entry_start(&self.geometry, page);
         self.word(at)
@@ -121,6 +124,7 @@ impl<'b, N: Nor> View<'b, N> {
         ensures cause { OnErr result (Rose (N.faults self.old.nor.now) (N.faults self.new.nor.now)) }
         ensures looks { OnlyLooks self.old self.new }
         ensures told { N.tells self.old.nor.now → IfOk result (λ has. has ≡ the_magic self.old.geometry (N.bytes self.old.nor.now) block) }
+        ensures work { self.new.work.now ≡ self.old.work.now }
     {
         let at = magic_start(&self.geometry, block);
         let magic = self.geometry.magic_of(u32::from(block));
@@ -134,6 +138,7 @@ impl<'b, N: Nor> View<'b, N> {
         ensures cause { OnErr result (Rose (N.faults self.old.nor.now) (N.faults self.new.nor.now)) }
         ensures looks { OnlyLooks self.old self.new }
         ensures told { N.tells self.old.nor.now → IfOk result (λ count. count ≡ the_erase_count self.old.geometry (N.bytes self.old.nor.now) block) }
+        ensures work { self.new.work.now ≡ self.old.work.now }
     {
         let at = count_start(&self.geometry, block);
         Ok(read_count(self.word(at)?))
@@ -146,6 +151,7 @@ impl<'b, N: Nor> View<'b, N> {
         ensures cause { OnErr result (Rose (N.faults self.old.nor.now) (N.faults self.new.nor.now)) }
         ensures looks { OnlyLooks self.old self.new }
         ensures told { N.tells self.old.nor.now → IfOk result (λ head. head ≡ header_at (page_of self.old.geometry (N.bytes self.old.nor.now) page)) }
+        ensures work { self.new.work.now ≡ self.old.work.now }
     {
         let at = page_start(&self.geometry, page);
         let mut head = [0u8; 5];
