@@ -53,4 +53,5 @@ EachById g = (a : List ℕ) → All (λ f. file_of f.id (table_of g a) ≡ Some 
 
 -- In a tidy image the header page of an id is the only one that it has.
 abbrev pub OneHead : Geometry → Type 0
-OneHead g = (a : List ℕ) → IsImage g a → IsTidy g a → (id p : ℕ) (page : List ℕ) → index_page g (own (live_at g a) id) 0 ≡ Some p → live_at g a p ≡ Some page → HasOneHead g a id p page
+OneHead g = (a : List ℕ) → IsImage g a → IsTidy g a → (id p : ℕ) (page : List ℕ) →
+    index_page g (own (live_at g a) id) 0 ≡ Some p → live_at g a p ≡ Some page → HasOneHead g a id p page

@@ -2,3 +2,4 @@ pub mod Sums
 pub mod Greatest
 pub mod Filtered
 pub mod Walks
+pub mod Sweeping

@@ -1,5 +1,5 @@
 // Blocks worth cleaning, those that fit, and the one that is chosen.
-ghost use Rattle.std.specs.Prelude.{◌≡◌, ◌&&◌, ℕ, ◌<◌, ◌≤◌, ◌+◌, ◌-◌, ◌^◌, length, filter, map, IfOk, not, int_le};
+ghost use Rattle.std.specs.Prelude.{◌≡◌, ◌&&◌, ℕ, ◌<◌, ◌≤◌, ◌+◌, ◌-◌, ◌^◌, length, filter, map, IfOk, IfSome, not, int_le};
 ghost use Rattle.std.specs.List.{All, list_all, list_any};
 ghost use Rattle.image_model.specs.Kinds.{is_data_block as the_data_block};
 ghost use Rattle.geometry.specs.Numbers.{ceil};
@@ -38,7 +38,7 @@ pub fn is_worth(g: &Geometry, image: &[u8], block: u32) -> bool
 
 // How many free blocks so many pages need beside the free entries of their kind.
 #[tactic(auto, unfolding(image_model::specs::Volume::entries, image_model::specs::Volume::per_block, image_model::specs::Volume::lookups))]
-fn blocks_for_kind(g: &Geometry, pages: u32, free: u64) -> u64
+pub(crate) fn blocks_for_kind(g: &Geometry, pages: u32, free: u64) -> u64
     ensures value { result ≡ ceil (pages - free) (entries g.now) }
     ensures below { result < 2 ^ 33 }
 {
@@ -70,7 +70,7 @@ pub fn is_fitting(g: &Geometry, image: &[u8], block: u32) -> bool
     for_index + for_data <= u64::from(free_blocks(g, image))
 }
 
-fn is_candidate(g: &Geometry, image: &[u8], block: u32) -> bool
+pub(crate) fn is_candidate(g: &Geometry, image: &[u8], block: u32) -> bool
     requires image { IsImage g.now image.now }
     requires block { block < g.now.blocks }
     ensures { result ≡ (the_worth g.now image.now block && the_fitting g.now image.now block) }
@@ -139,7 +139,8 @@ fn is_best(g: &Geometry, image: &[u8], blocks: &[u32], block: u32) -> bool
 fn best_of(g: &Geometry, image: &[u8], blocks: &[u32]) -> Option<u32>
     requires image { IsImage g.now image.now }
     requires below { All (λ block. block < g.now.blocks) blocks.now }
-    ensures { result ≡ the_best g.now image.now blocks.now }
+    ensures value { result ≡ the_best g.now image.now blocks.now }
+    ensures below { IfSome result (λ block. block < g.now.blocks) }
 {
     for i in 0..blocks.len() {
         if is_best(g, image, blocks, blocks[i]) {
@@ -169,7 +170,8 @@ fn some_without_data(g: &Geometry, image: &[u8], blocks: &[u32]) -> bool
 #[tactic(auto, unfolding(image_model::specs::Collect::chosen_block, image_model::specs::Collect::first_candidates))]
 pub fn chosen_block(alloc: Global, g: &Geometry, image: &[u8]) -> Result<Option<u32>, AllocError>
     requires { IsImage g.now image.now }
-    ensures { IfOk result (λ block. block ≡ the_chosen g.now image.now) }
+    ensures value { IfOk result (λ block. block ≡ the_chosen g.now image.now) }
+    ensures below { IfOk result (λ chosen. IfSome chosen (λ block. block < g.now.blocks)) }
 {
     let blocks = candidates(alloc, g, image)?;
     if free_blocks(g, image) < 2 && some_without_data(g, image, blocks.as_slice()) {

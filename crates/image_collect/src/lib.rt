@@ -4,9 +4,15 @@
 mod ages;
 mod choice;
 mod places;
+#[cfg(test)]
+mod rows;
 mod shared;
+mod stuck;
+mod swept;
 
 pub use ages::{next_count, score};
 pub use choice::{chosen_block, is_fitting, is_worth};
-pub use places::{BlockKind, free_outside};
+pub use places::{BlockKind, free_of, free_outside};
 pub use shared::{SharedBlocks, parting};
+pub use stuck::{are_had, is_stuck};
+pub use swept::{deleted_outside, is_swept};

@@ -1,7 +1,7 @@
 // Places for the live pages of a block in other blocks.
 ghost use Rattle.std.specs.Prelude.{◌≡◌, ◌==◌, ◌&&◌, ℕ, ◌<◌, ◌≤◌, ◌*◌, ◌^◌, not, if◌then◌else◌};
 ghost use Rattle.image_model.specs.Places.{IsImage};
-ghost use Rattle.image_model.specs.Collect.{free_in as the_free_in, free_outside as the_free_outside};
+ghost use Rattle.image_model.specs.Collect.{free_in as the_free_in, free_where, free_outside as the_free_outside};
 ghost use Rattle.image_collect.specs.Sorts.{is_of as the_kind};
 
 use geometry::Geometry;
@@ -37,16 +37,43 @@ fn is_of(g: &Geometry, image: &[u8], kind: BlockKind, block: u32) -> bool
     }
 }
 
-// The free entries of a block, if it is another one and of that kind.
+// The free entries of a block, if it is of that kind.
 #[tactic(auto, unfolding(image_model::specs::Collect::free_in))]
-fn free_part(g: &Geometry, image: &[u8], kind: BlockKind, except: u32, block: u32) -> u32
+fn free_part(g: &Geometry, image: &[u8], kind: BlockKind, block: u32) -> u32
+    requires image { IsImage g.now image.now }
+    requires block { block < g.now.blocks }
+    ensures small { result < 2 ^ 32 }
+    ensures value { result ≡ (if the_kind g.now image.now kind block then the_free_in g.now image.now block else 0) }
+{
+    if is_of(g, image, kind, block) {
+        count_entries(g, image, block, EntryKind::Free)
+    } else {
+        0
+    }
+}
+
+/// The free entries of the blocks of that kind.
+#[tactic(auto, unfolding(image_model::specs::Collect::free_where), using(crate::proofs::Sums::sum_none, crate::proofs::Sums::sum_more, crate::proofs::Sums::sum_all))]
+pub fn free_of(g: &Geometry, image: &[u8], kind: BlockKind) -> u64
+    requires { IsImage g.now image.now }
+    ensures { result ≡ free_where g.now image.now (the_kind g.now image.now kind) }
+{
+    let mut total = 0u64;
+    for block in 0..g.blocks {
+        total += u64::from(free_part(g, image, kind, block));
+    }
+    total
+}
+
+// The free entries of a block, if it is another one and of that kind.
+fn free_other(g: &Geometry, image: &[u8], kind: BlockKind, except: u32, block: u32) -> u32
     requires image { IsImage g.now image.now }
     requires block { block < g.now.blocks }
     ensures small { result < 2 ^ 32 }
     ensures value { result ≡ (if not (block == except) && the_kind g.now image.now kind block then the_free_in g.now image.now block else 0) }
 {
-    if block != except && is_of(g, image, kind, block) {
-        count_entries(g, image, block, EntryKind::Free)
+    if block != except {
+        free_part(g, image, kind, block)
     } else {
         0
     }
@@ -60,7 +87,7 @@ pub fn free_outside(g: &Geometry, image: &[u8], kind: BlockKind, except: u32) ->
 {
     let mut total = 0u64;
     for block in 0..g.blocks {
-        total += u64::from(free_part(g, image, kind, except, block));
+        total += u64::from(free_other(g, image, kind, except, block));
     }
     total
 }

@@ -53,7 +53,8 @@ OrphanKills g = (a b d : List ℕ) (r kill : ℕ) (x : List ℕ) (spare : ℕ �
 
 -- or one that isn't live, as the header page is then.
 abbrev pub DeadKills : Geometry → Type 0
-DeadKills g = (a b d : List ℕ) (r kill : ℕ) (spare : ℕ → Bool) → IsImage g a → HasMagics g a → Orphans g spare a → spare r ≡ true → is_entry_page g r ≡ true → live_at g a r ≡ None → is_free_entry g a r ≡ false →
+DeadKills g = (a b d : List ℕ) (r kill : ℕ) (spare : ℕ → Bool) → IsImage g a → HasMagics g a → Orphans g spare a → spare r ≡ true → is_entry_page g r ≡ true →
+    live_at g a r ≡ None → is_free_entry g a r ≡ false →
     Deletes (slice_index a (r * g.page + 4)) kill → Kills g r kill a b d →
     ((c : List ℕ) → KillCut g r kill a b c → Keeps g a c × (free_blocks g a ≤ free_blocks g c)) × IsImage g d × Keeps g a d × Orphans g (λ q. spare q && not (q == r)) d
 

@@ -73,3 +73,7 @@ FreeBlocksFall g = (a b : List ℕ) (p : ℕ) → Agree g a b p →
 -- A block with an entry that is not free is not free.
 abbrev pub UsedIsNotFree : Geometry → Type 0
 UsedIsNotFree g = (a : List ℕ) (p : ℕ) → is_entry_page g p ≡ true → is_free_entry g a p ≡ false → is_free_block g a (block_of g p) ≡ false
+
+-- The entry of a live page is not free.
+abbrev pub LiveIsUsed : Geometry → Type 0
+LiveIsUsed g = (a : List ℕ) (p : ℕ) (page : List ℕ) → live_at g a p ≡ Some page → is_free_entry g a p ≡ false

@@ -1,5 +1,5 @@
 ghost use Rattle.geometry.specs.declared.geometry.Geometry.{Geometry};
-ghost use Rattle.image_laws.specs.TidySteps.{TidyIsTidy, PlacingEntryTidy, PlacingPageTidy, FinishingTidies, KillingTidy, KilledTidies, FreeBlocksFall, UsedIsNotFree, ProgramsAgree};
+ghost use Rattle.image_laws.specs.TidySteps.{TidyIsTidy, PlacingEntryTidy, PlacingPageTidy, FinishingTidies, KillingTidy, KilledTidies, FreeBlocksFall, UsedIsNotFree, LiveIsUsed, ProgramsAgree};
 ghost use Rattle.image_laws.specs.Creating.{CreateTidies, CreateIsSound};
 
 /// Each program of a step leaves tidy what it does not touch; finished and killed pages are tidy.
@@ -17,6 +17,7 @@ pub fn blocks_stay()
     ensures agree { (g : Geometry) → ProgramsAgree g }
     ensures fall { (g : Geometry) → FreeBlocksFall g }
     ensures used { (g : Geometry) → UsedIsNotFree g }
+    ensures live { (g : Geometry) → LiveIsUsed g }
 {}
 
 /// A whole create leaves the image tidy, and each cut of it is sound and has all free blocks but one.

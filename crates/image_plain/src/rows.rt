@@ -302,28 +302,59 @@ fn files_of(alloc: Global, files: u16, size: u16) -> Result<Vec<Record>, AllocEr
     Ok(table)
 }
 
-#[test]
-fn a_table_has_room_while_one_page_of_each_kind_can_be_added(rt: HostRuntime) -> Result<(), Fail> {
-    let g = Geometry::new(128, 1024, 6, 1024, 0, MagicKind::Length)?;
-    for (files, size, index_pages, data_pages, fits) in [
-        (1, 2460, 1, 20, true),
-        (1, 2461, 1, 21, false),
-        (20, 0, 20, 0, true),
-        (21, 0, 21, 0, false),
-    ] {
-        let table = files_of(rt.alloc(), files, size)?;
+// Checks how many pages tables of files take, and whether they have room.
+fn check_rooms(
+    rt: &impl Abort,
+    alloc: Global,
+    g: &Geometry,
+    rows: &[(u16, u16, u128, u128, bool)],
+) -> Result<(), Fail> {
+    for (files, size, index_pages, data_pages, fits) in rows {
+        let table = files_of(alloc, *files, *size)?;
         let wanted = Room {
-            index_pages,
-            data_pages,
-            fits,
+            index_pages: *index_pages,
+            data_pages: *data_pages,
+            fits: *fits,
         };
         assert_eq!(rt;
-            room_of(&g, table.as_slice()),
+            room_of(g, table.as_slice()),
             wanted,
             "{files} files of {size} bytes"
         );
     }
     Ok(())
+}
+
+#[test]
+fn a_table_has_room_while_one_page_of_each_kind_can_be_added(rt: HostRuntime) -> Result<(), Fail> {
+    let small = Geometry::new(128, 1024, 6, 1024, 0, MagicKind::Plain)?;
+    check_rooms(
+        &rt,
+        rt.alloc(),
+        &small,
+        &[
+            (1, 2460, 1, 20, true),
+            (1, 2461, 1, 21, false),
+            (20, 0, 20, 0, true),
+            (21, 0, 21, 0, false),
+        ],
+    )?;
+    let g = Geometry::new(256, 4096, 16, 4096, 0, MagicKind::Length)?;
+    check_rooms(
+        &rt,
+        rt.alloc(),
+        &g,
+        &[
+            (1, 251, 1, 1, true),
+            (1, 252, 1, 2, true),
+            (1, 26355, 1, 105, true),
+            (1, 26356, 2, 106, true),
+            (1, 48694, 2, 194, true),
+            (1, 48695, 2, 195, false),
+            (194, 0, 194, 0, true),
+            (195, 0, 195, 0, false),
+        ],
+    )
 }
 
 // Blocks that lack their magic, and whether the image is tidy.
