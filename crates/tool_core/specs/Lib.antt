@@ -6,4 +6,5 @@ pub mod Fits
 pub mod Lent
 pub mod Later
 pub mod Runs
+pub mod Turns
 pub mod Early
