@@ -137,6 +137,8 @@ module _ {D : Type 0} {nor : NorOf D} {g : Geometry} where
   last_done (Some Unbuilt) d e m line k h n plain some number leaves did = record { seg = []; done = []; tail = line ++ []; rest_is = refl; lines_are = λ more follows. refl; good = tt {0}; number = tt {0}; bytes = tt {0}; leaves = did.leaves; stops = inr (did.reached, subst (λ (j : Moment). BeginsLacking g j (nor.bytes e) (line ++ [])) (sym (no_calls g m)) (record { line = line; others = []; lines_are = ap lines (append-nil line) ∙ line_last line some plain; ask = did.ask; spells = did.spells; lacks = did.lacks })) }
   last_done _ d e m line k h n plain some number leaves did = absurd did
 
-  -- the same places by other lists and numbers
-  pub same_places : (ending : Option Ending) (m : Moment) (d e : D) (p s l r : List ℕ) (k j i h n : ℕ) → p ≡ s → l ≡ [] → r ≡ [] → k ≡ j → i ≡ j → Turned nor g ending m (record { device = d; pending = s; left = []; taken = j; handed = h }) (record { device = e; pending = s; left = []; taken = j; handed = n }) → Turned nor g ending m (record { device = d; pending = p; left = l; taken = k; handed = h }) (record { device = e; pending = s; left = r; taken = i; handed = n })
-  same_places ending m d e p s l r k j i h n same_p no_l no_r same_k same_i t = rw same_p (rw no_l (rw no_r (rw same_k (rw same_i t))))
+  -- a turn after others, by the geometry that the run began with
+  pub turn_then : (ending : Option Ending) (h : Geometry) (m : Moment) (a b c : At D) → h ≡ g → Turned nor g None m a b → ((n : Moment) → Stands nor h b.device n → Turned nor h ending n b c) → Turned nor g ending m a c
+  turn_then ending h m a b c same f then =
+      let next : (n : Moment) → Stands nor g b.device n → Turned nor g ending n b c = subst (λ (k : Geometry). (n : Moment) → Stands nor k b.device n → Turned nor k ending n b c) same then in
+      turn_on ending m a b c f (next (after_all g m (calls_of f.done)) (went f).0.stands)

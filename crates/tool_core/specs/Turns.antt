@@ -2,6 +2,7 @@
 use Rattle.std.specs.Prelude.{ℕ, ◌≡◌, ◌+◌, ◌≤◌, ◌⊎◌, List, [], ◌∷◌, ◌++◌, length, slice_range, true, false, Option, Some, None}
 use Rattle.geometry.specs.declared.geometry.Geometry.{Geometry}
 use Rattle.nor_core.specs.declared.state.NorState.{Ghosts as NorOf}
+use Rattle.nor_core.specs.Device.{OnlyReads}
 use Rattle.table_model.specs.Ask.{Ask}
 use Rattle.table_model.specs.Flat.{answer}
 use Rattle.table_model.specs.Steps.{is_refusal}
@@ -17,6 +18,12 @@ use Rattle.tool_core.specs.declared.ending.Ending.TheVariants.{Done, BadLine, Bo
 pub record LacksPage (g : Geometry) (m : Moment) (image : List ℕ) (ask : Ask) : Type 0 where
   pub accepted : is_refusal (answer g true m.state ask).answer ≡ false
   pub lacks : are_had g image 1 0 ≡ false
+
+-- how a call ends that isn't answered: the board failed, or nothing was changed, for want of a page
+abbrev pub StopsCall : {D : Type 0} (nor : NorOf D) (g : Geometry) (old new : D) (m : Moment) (ask : Ask) → Ending → Type 0
+StopsCall nor g old new m ask BoardFault = Unit {0}
+StopsCall nor g old new m ask Unbuilt = OnlyReads nor old new × LacksPage g m (nor.bytes new) ask
+StopsCall nor g old new m ask _ = ⊥
 
 -- a line spells a call that lacks its page, and nothing was changed
 pub record LineLacks {D : Type 0} (nor : NorOf D) (g : Geometry) (old new : D) (m : Moment) (line : List ℕ) : Type 0 where

@@ -1,6 +1,13 @@
-ghost use Rattle.std.specs.Prelude.{◌≡◌, ◌≢◌, ◌+◌, ◌-◌, ◌*◌, ◌<◌, ◌≤◌, length, IfErr, OnOk, Err, Some, None, false};
-ghost use Rattle.std.specs.Option.{IfNone};
-ghost use Rattle.std.specs.Prelude.{IfOk};
+ghost use Rattle.std.specs.Prelude.{◌≡◌, ◌≢◌, ◌+◌, ◌-◌, ◌*◌, ◌<◌, ◌≤◌, ◌++◌, ◌∷◌, [], length, slice_range, IfOk, IfErr, OnOk, OnErr, Err, Some, None, true, false};
+ghost use Rattle.std.specs.Option.{IfSome, IfNone};
+ghost use Rattle.nor_core.specs.Device.{Changes, Leaves, Says, InSay};
+ghost use Rattle.table_model.specs.Ask.{asked};
+ghost use Rattle.table_model.specs.Reply.{answered};
+ghost use Rattle.table_model.specs.Window.{Moment};
+ghost use Rattle.call_script.specs.Lines.{NoBreak, calls_of};
+ghost use Rattle.call_script.specs.Replies.{text};
+ghost use Rattle.run_model.specs.Ran.{Stands, Publishes, Answers, MayCut};
+ghost use Rattle.tool_core.specs.Turns.{DidLine, OneMore, StopsCall, Turned, at_run};
 ghost use Rattle.call_script.specs.Pieces.{IsShort};
 ghost use Rattle.vol_mount.specs.Mounts.{IsLate};
 ghost use Rattle.volume.specs.Checks.{IsWritable};
@@ -61,6 +68,9 @@ fn apply<B: Board>(volume: &mut Volume<'_, B>, call: &Call<'_>) -> Result<Reply<
     ensures ran { Ran B.NorState volume.old.view.nor.now volume.new.view.nor.now (result_err result) (has_failed volume.new) }
     ensures no_script { ¬ (result ≡ Err Ending.SourceFault) }
     ensures same { IsSameView volume.old.view volume.new.view }
+    ensures changes { (m : Moment) → Changes B.NorState volume.old.view.nor.now volume.new.view.nor.now (Publishes volume.old.view.geometry m (asked call.now)) }
+    ensures answers { (m : Moment) → Stands B.NorState volume.old.view.geometry volume.old.view.nor.now m → IfOk result (λ reply. Answers B.NorState volume.old.view.geometry volume.new.view.nor.now m (asked call.now) (answered reply)) }
+    ensures stops { (m : Moment) → Stands B.NorState volume.old.view.geometry volume.old.view.nor.now m → IfErr result (StopsCall B.NorState volume.old.view.geometry volume.old.view.nor.now volume.new.view.nor.now m (asked call.now)) }
 {
     let Call::Create { name } = call else {
         return Ok(Reply::Refusal(FsErr::Unbuilt));
@@ -87,6 +97,8 @@ fn answer<B: Board>(
     ensures ran { Ran B.NorState volume.old.view.nor.now volume.new.view.nor.now result (has_failed volume.new) }
     ensures same { IsSameView volume.old.view volume.new.view }
     ensures no_script { ¬ (result ≡ Some Ending.SourceFault) }
+    ensures leaves { (m : Moment) → MayCut B.NorState volume.old.view.geometry volume.old.view.nor.now volume.new.view.nor.now m (calls_of (line.now ∷ [])) }
+    ensures did { (m : Moment) → Stands B.NorState volume.old.view.geometry volume.old.view.nor.now m → DidLine B.NorState volume.old.view.geometry volume.old.view.nor.now volume.new.view.nor.now m line.now number result }
 {
     let Ok(parsed) = parse_line(line, scratch) else {
         return Some(Ending::BadLine(number));
@@ -113,6 +125,10 @@ fn say_reply<B: Board>(
     ensures ran { Ran B.NorState volume.old.view.nor.now volume.new.view.nor.now result (has_failed volume.new) }
     ensures same { IsSameView volume.old.view volume.new.view }
     ensures no_script { ¬ (result ≡ Some Ending.SourceFault) }
+    ensures fault { IfSome result (λ ending. ending ≡ Ending.BoardFault) }
+    ensures says { Says B.NorState volume.old.view.nor.now volume.new.view.nor.now (text (answered reply.now)) }
+    ensures cuts { Leaves B.NorState volume.old.view.nor.now volume.new.view.nor.now (InSay B.NorState volume.old.view.nor.now (text (answered reply.now))) }
+    ensures done { B.tells volume.old.view.nor.now → IfNone result (B.said volume.new.view.nor.now ≡ B.said volume.old.view.nor.now ++ text (answered reply.now)) }
 {
     let length = reply_text(reply, into);
     match volume.say(&into[..length]) {
@@ -121,14 +137,33 @@ fn say_reply<B: Board>(
     }
 }
 
+// Whether a script gives a byte more.
+fn gives_more<S: Source>(script: &mut S) -> Result<bool, Failed>
+    ensures more { S.tells script.old → IfOk result (λ more. more ≡ true → OneMore (S.left script.old) (S.left script.new)) }
+    ensures end { S.tells script.old → IfOk result (λ more. more ≡ false → S.left script.old ≡ []) }
+    ensures end_new { S.tells script.old → IfOk result (λ more. more ≡ false → S.left script.new ≡ []) }
+    ensures err { OnErr result (S.left script.new ≡ S.left script.old) }
+    ensures told { S.tells script.old → S.tells script.new }
+    ensures faults { S.faults script.old ≤ S.faults script.new }
+    ensures cause { OnErr result (Rose (S.faults script.old) (S.faults script.new)) }
+{
+    let mut one = [0u8; 1];
+    let n = script.read(&mut one)?;
+    Ok(n != 0)
+}
+
 // Does the bytes that were taken as the last line, and ends the run.
 fn last_line<B: Board>(volume: &mut Volume<'_, B>, lines: &Lines<'_>, scratch: &mut [u8]) -> Ending
     requires room { 4096 ≤ length scratch.old }
     requires stands { has_failed volume.old ≡ false }
+    requires no_break { NoBreak (slice_range lines.now.buf.now lines.now.start lines.now.end) }
     ensures later { IsLater result }
     ensures ran { Ran B.NorState volume.old.view.nor.now volume.new.view.nor.now (Some result) (has_failed volume.new) }
     ensures same { IsSameView volume.old.view volume.new.view }
     ensures no_script { ¬ (result ≡ Ending.SourceFault) }
+    ensures turned { (m : Moment) → Stands B.NorState volume.old.view.geometry volume.old.view.nor.now m → Turned B.NorState volume.old.view.geometry (Some result) m
+        (at_run volume.old.view.nor.now lines.now.buf.now lines.now.start lines.now.end lines.now.taken lines.now.handed [])
+        (at_run volume.new.view.nor.now lines.now.buf.now lines.now.start lines.now.end lines.now.taken lines.now.handed []) }
 {
     let line = lines.piece(lines.start, lines.end);
     if line.is_empty() {
@@ -150,22 +185,27 @@ fn take_more<B: Board, S: Source>(
 ) -> Option<Ending>
     requires room { 4096 ≤ length scratch.old }
     requires stands { has_failed volume.old ≡ false }
+    requires no_break { NoBreak (slice_range lines.old.buf.now lines.old.start lines.old.end) }
     ensures later { IsLaterIf result }
     ensures ran { Ran B.NorState volume.old.view.nor.now volume.new.view.nor.now result (has_failed volume.new) }
     ensures same { IsSameView volume.old.view volume.new.view }
     ensures script_faults { S.faults script.old ≤ S.faults script.new }
     ensures script_cause { result ≡ Some Ending.SourceFault → Rose (S.faults script.old) (S.faults script.new) }
+    ensures told { S.tells script.old → S.tells script.new }
     ensures same_buf { lines.new.buf.ghost_name ≡ lines.old.buf.ghost_name }
     ensures smaller { IfNone result (2 * (16777216 - lines.new.taken) + (lines.new.end - lines.new.start) < 2 * (16777216 - lines.old.taken) + (lines.old.end - lines.old.start)) }
+    ensures turned { (m : Moment) → S.tells script.old → Stands B.NorState volume.old.view.geometry volume.old.view.nor.now m → Turned B.NorState volume.old.view.geometry result m
+        (at_run volume.old.view.nor.now lines.old.buf.now lines.old.start lines.old.end lines.old.taken lines.old.handed (S.left script.old))
+        (at_run volume.new.view.nor.now lines.new.buf.now lines.new.start lines.new.end lines.new.taken lines.new.handed (S.left script.new)) }
 {
     if lines.end - lines.start > LINE {
         return Some(Ending::BadLine(lines.handed.saturating_add(1)));
     }
     if lines.taken == LIMIT {
-        return Some(match script.read(&mut [0u8; 1]) {
+        return Some(match gives_more(script) {
             Err(Failed) => Ending::SourceFault,
-            Ok(0) => last_line(volume, lines, scratch),
-            Ok(_) => Ending::TooLong,
+            Ok(true) => Ending::TooLong,
+            Ok(false) => last_line(volume, lines, scratch),
         });
     }
     match lines.fill(script) {
@@ -189,12 +229,15 @@ fn turn<B: Board, S: Source>(
     ensures same { IsSameView volume.old.view volume.new.view }
     ensures script_faults { S.faults script.old ≤ S.faults script.new }
     ensures script_cause { result ≡ Some Ending.SourceFault → Rose (S.faults script.old) (S.faults script.new) }
+    ensures told { S.tells script.old → S.tells script.new }
     ensures same_buf { lines.new.buf.ghost_name ≡ lines.old.buf.ghost_name }
     ensures smaller { IfNone result (2 * (16777216 - lines.new.taken) + (lines.new.end - lines.new.start) < 2 * (16777216 - lines.old.taken) + (lines.old.end - lines.old.start)) }
+    ensures turned { (m : Moment) → S.tells script.old → Stands B.NorState volume.old.view.geometry volume.old.view.nor.now m → Turned B.NorState volume.old.view.geometry result m
+        (at_run volume.old.view.nor.now lines.old.buf.now lines.old.start lines.old.end lines.old.taken lines.old.handed (S.left script.old))
+        (at_run volume.new.view.nor.now lines.new.buf.now lines.new.start lines.new.end lines.new.taken lines.new.handed (S.left script.new)) }
 {
     let from = lines.start;
     match lines.take_line() {
-        Some(to) if to - from > LINE => Some(Ending::BadLine(lines.handed)),
         Some(to) => {
             let number = lines.handed;
             answer(volume, lines.piece(from, to), number, scratch)
@@ -217,6 +260,9 @@ fn run_lines<B: Board, S: Source>(
     ensures same { IsSameView volume.old.view volume.new.view }
     ensures script_faults { S.faults script.old ≤ S.faults script.new }
     ensures script_cause { result ≡ Ending.SourceFault → Rose (S.faults script.old) (S.faults script.new) }
+    ensures turned { (m : Moment) → S.tells script.old → Stands B.NorState volume.old.view.geometry volume.old.view.nor.now m → Turned B.NorState volume.old.view.geometry (Some result) m
+        (at_run volume.old.view.nor.now lines.old.buf.now lines.old.start lines.old.end lines.old.taken lines.old.handed (S.left script.old))
+        (at_run volume.new.view.nor.now lines.new.buf.now lines.new.start lines.new.end lines.new.taken lines.new.handed (S.left script.new)) }
 {
     'turns: loop {
         if let Some(ending) = turn(volume, lines, script, scratch) {
