@@ -7,4 +7,5 @@ pub mod Lent
 pub mod Later
 pub mod Runs
 pub mod Turns
+pub mod Outcomes
 pub mod Early

@@ -4,9 +4,10 @@ ghost use Rattle.nor_core.specs.Device.{Changes, Leaves, Says, InSay};
 ghost use Rattle.table_model.specs.Ask.{asked};
 ghost use Rattle.table_model.specs.Reply.{answered};
 ghost use Rattle.table_model.specs.Window.{Moment};
-ghost use Rattle.call_script.specs.Lines.{NoBreak, calls_of};
+ghost use Rattle.call_script.specs.Lines.{NoBreak, calls, calls_of};
 ghost use Rattle.call_script.specs.Replies.{text};
 ghost use Rattle.run_model.specs.Ran.{Stands, Publishes, Answers, MayCut};
+ghost use Rattle.tool_core.specs.Outcomes.{RunEnds};
 ghost use Rattle.tool_core.specs.Turns.{DidLine, OneMore, StopsCall, Turned, at_run};
 ghost use Rattle.call_script.specs.Pieces.{IsShort};
 ghost use Rattle.vol_mount.specs.Mounts.{IsLate};
@@ -271,10 +272,9 @@ fn run_lines<B: Board, S: Source>(
     }
 }
 
-// Runs a script on a checked volume with that many free blocks.
+// Runs a script on a checked volume.
 fn run_script<B: Board, S: Source>(
     volume: &mut Volume<'_, B>,
-    free_blocks: u32,
     script: &mut S,
     line: &mut [u8],
 ) -> Ending
@@ -283,13 +283,11 @@ fn run_script<B: Board, S: Source>(
     ensures later { IsLater result }
     ensures ran { Ran B.NorState volume.old.view.nor.now volume.new.view.nor.now (Some result) (has_failed volume.new) }
     ensures same { IsSameView volume.old.view volume.new.view }
-    ensures nor_name { volume.new.view.nor.ghost_name ≡ volume.old.view.nor.ghost_name }
     ensures script_faults { S.faults script.old ≤ S.faults script.new }
     ensures script_cause { result ≡ Ending.SourceFault → Rose (S.faults script.old) (S.faults script.new) }
+    ensures ends { (m : Moment) → S.tells script.old → Stands B.NorState volume.old.view.geometry volume.old.view.nor.now m → RunEnds B.NorState volume.old.view.geometry volume.old.view.nor.now volume.new.view.nor.now m (S.left script.old) (S.left script.new) result }
+    ensures cuts { (m : Moment) → S.tells script.old → Stands B.NorState volume.old.view.geometry volume.old.view.nor.now m → MayCut B.NorState volume.old.view.geometry volume.old.view.nor.now volume.new.view.nor.now m (calls (S.left script.old)) }
 {
-    if free_blocks < 2 {
-        return Ending::Tight(free_blocks);
-    }
     let (taken, scratch) = line.split_at_mut(LINES);
     let mut lines = Lines::new(taken);
     run_lines(volume, &mut lines, script, scratch)
@@ -354,7 +352,8 @@ pub(crate) fn run<'b, B: Board, S: Source>(
         Err(ending) => ending,
         Ok(free_blocks) => {
             let mut volume = Volume::new(unchecked);
-            let ending = run_script(&mut volume, free_blocks, script, line);
+            let _ = free_blocks;
+            let ending = run_script(&mut volume, script, line);
             settle(&mut volume, ending)
         }
     }
