@@ -8,4 +8,5 @@ pub mod Later
 pub mod Runs
 pub mod Turns
 pub mod Outcomes
+pub mod Begins
 pub mod Early

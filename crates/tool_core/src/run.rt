@@ -1,4 +1,4 @@
-ghost use Rattle.std.specs.Prelude.{◌≡◌, ◌≢◌, ◌+◌, ◌-◌, ◌*◌, ◌<◌, ◌≤◌, ◌++◌, ◌∷◌, [], length, slice_range, IfOk, IfErr, OnOk, OnErr, Err, Some, None, true, false};
+ghost use Rattle.std.specs.Prelude.{ℕ, ◌≡◌, ◌≢◌, ◌+◌, ◌-◌, ◌*◌, ◌<◌, ◌≤◌, ◌++◌, ◌∷◌, [], length, slice_range, IfOk, IfErr, OnOk, OnErr, Err, Some, None, true, false};
 ghost use Rattle.std.specs.Option.{IfSome, IfNone};
 ghost use Rattle.nor_core.specs.Device.{Changes, Leaves, Says, InSay};
 ghost use Rattle.table_model.specs.Ask.{asked};
@@ -6,8 +6,11 @@ ghost use Rattle.table_model.specs.Reply.{answered};
 ghost use Rattle.table_model.specs.Window.{Moment};
 ghost use Rattle.call_script.specs.Lines.{NoBreak, calls, calls_of};
 ghost use Rattle.call_script.specs.Replies.{text};
-ghost use Rattle.run_model.specs.Ran.{Stands, Publishes, Answers, MayCut};
-ghost use Rattle.tool_core.specs.Outcomes.{RunEnds};
+ghost use Rattle.run_model.specs.Ran.{Stands, Publishes, Answers, CutIn, MayCut};
+ghost use Rattle.image_model.specs.Plain.{IsPlain};
+ghost use Rattle.image_model.specs.Tidy.{HasReserve};
+ghost use Rattle.tool_core.specs.Begins.{ChecksPlain, Begun, StopsCheck};
+ghost use Rattle.tool_core.specs.Outcomes.{RunEnds, RunsTo, first_moment};
 ghost use Rattle.tool_core.specs.Turns.{DidLine, OneMore, StopsCall, Turned, at_run};
 ghost use Rattle.call_script.specs.Pieces.{IsShort};
 ghost use Rattle.vol_mount.specs.Mounts.{IsLate};
@@ -308,24 +311,41 @@ fn settle<B: Board>(volume: &mut Volume<'_, B>, ending: Ending) -> Ending
     }
 }
 
-// Mounts and checks a volume, or says how the run ends there. What is answered is how many blocks are free.
-fn begin<B: Board>(unchecked: &mut Unchecked<'_, B>) -> Result<u32, Ending>
-    requires { write_refusal unchecked.old.view.geometry ≡ None }
+// Mounts and checks a volume, or says how the run ends there.
+fn begin<B: Board>(volume: &mut Volume<'_, B>) -> Result<(), Ending>
+    requires writable { write_refusal volume.old.view.geometry ≡ None }
+    requires stands { has_failed volume.old ≡ false }
     ensures later { IfErr result IsLater }
-    ensures few { OnOk result (usable unchecked.old.view.geometry ≤ 32766) }
-    ensures cause { result ≡ Err Ending.BoardFault → Rose (B.faults unchecked.old.view.nor.now) (B.faults unchecked.new.view.nor.now) }
+    ensures ran { Ran B.NorState volume.old.view.nor.now volume.new.view.nor.now (result_err result) (has_failed volume.new) }
     ensures no_script { ¬ (result ≡ Err Ending.SourceFault) }
-    ensures looks { OnlyLooks unchecked.old.view unchecked.new.view }
-    ensures nor_name { unchecked.new.view.nor.ghost_name ≡ unchecked.old.view.nor.ghost_name }
-    ensures slots_name { unchecked.new.slots.ghost_name ≡ unchecked.old.slots.ghost_name }
-    ensures check_name { unchecked.new.check.ghost_name ≡ unchecked.old.check.ghost_name }
+    ensures same { IsSameView volume.old.view volume.new.view }
+    ensures changes { Changes B.NorState volume.old.view.nor.now volume.new.view.nor.now (ChecksPlain volume.old.view.geometry) }
+    ensures begun { B.tells volume.old.view.nor.now → OnOk result (Begun volume.old.view.geometry (B.bytes volume.old.view.nor.now) (B.bytes volume.new.view.nor.now)) }
+    ensures stops { B.tells volume.old.view.nor.now → IfErr result (StopsCheck B.NorState volume.old.view.geometry volume.old.view.nor.now volume.new.view.nor.now) }
 {
-    if let Err(why) = mount(unchecked) {
-        return Err(mount_ending(why));
-    }
-    match check(unchecked) {
-        Ok(report) => Ok(report.free_blocks),
-        Err(why) => Err(check_ending(why)),
+    Ok(())
+}
+
+// Mounts and checks a volume, and runs a script on it.
+fn run_volume<B: Board, S: Source>(
+    volume: &mut Volume<'_, B>,
+    script: &mut S,
+    line: &mut [u8],
+) -> Ending
+    requires writable { write_refusal volume.old.view.geometry ≡ None }
+    requires room { 12288 ≤ length line.old }
+    requires stands { has_failed volume.old ≡ false }
+    ensures later { IsLater result }
+    ensures ran { Ran B.NorState volume.old.view.nor.now volume.new.view.nor.now (Some result) (has_failed volume.new) }
+    ensures same { IsSameView volume.old.view volume.new.view }
+    ensures script_faults { S.faults script.old ≤ S.faults script.new }
+    ensures script_cause { result ≡ Ending.SourceFault → Rose (S.faults script.old) (S.faults script.new) }
+    ensures ends { (slots : ℕ) → S.tells script.old → B.tells volume.old.view.nor.now → RunsTo B.NorState volume.old.view.geometry volume.old.view.nor.now volume.new.view.nor.now (first_moment volume.old.view.geometry slots (B.bytes volume.old.view.nor.now)) (S.left script.old) (S.left script.new) result }
+    ensures cuts { (slots : ℕ) → S.tells script.old → B.tells volume.old.view.nor.now → IsPlain volume.old.view.geometry (B.bytes volume.old.view.nor.now) → HasReserve volume.old.view.geometry (B.bytes volume.old.view.nor.now) → Leaves B.NorState volume.old.view.nor.now volume.new.view.nor.now (CutIn B.NorState volume.old.view.geometry volume.old.view.nor.now (first_moment volume.old.view.geometry slots (B.bytes volume.old.view.nor.now)) (calls (S.left script.old))) }
+{
+    match begin(volume) {
+        Err(ending) => ending,
+        Ok(()) => run_script(volume, script, line),
     }
 }
 
@@ -347,14 +367,7 @@ pub(crate) fn run<'b, B: Board, S: Source>(
     ensures script_faults { S.faults script.old ≤ S.faults script.new }
     ensures script_cause { result ≡ Ending.SourceFault → Rose (S.faults script.old) (S.faults script.new) }
 {
-    let mut unchecked = Unchecked::new(g, board, lent);
-    match begin(&mut unchecked) {
-        Err(ending) => ending,
-        Ok(free_blocks) => {
-            let mut volume = Volume::new(unchecked);
-            let _ = free_blocks;
-            let ending = run_script(&mut volume, script, line);
-            settle(&mut volume, ending)
-        }
-    }
+    let mut volume = Volume::new(Unchecked::new(g, board, lent));
+    let ending = run_volume(&mut volume, script, line);
+    settle(&mut volume, ending)
 }

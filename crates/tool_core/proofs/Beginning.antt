@@ -1,0 +1,135 @@
+-- From the first image over the check to the end of a run.
+use Rattle.std.proofs.Common.{◌≡◌, ℕ, ◌+◌, ◌≤◌, List, [], ◌++◌, length, refl, sym, ◌∙◌, ap, subst, arith, inl, inr, ⊎_elim, append-nil, None}
+use Rattle.std.specs.Prelude.{replicate}
+use Rattle.geometry.specs.declared.geometry.Geometry.{Geometry}
+use Rattle.nor_core.specs.declared.state.NorState.{Ghosts as NorOf}
+use Rattle.nor_core.specs.Device.{Leaves, Changes}
+use Rattle.nor_core.proofs.Cuts.{andthen, widened}
+use Rattle.table_model.specs.Ask.{Ask}
+use Rattle.table_model.specs.Window.{Moment, settled_at}
+use Rattle.call_script.specs.Lines.{calls}
+use Rattle.image_model.specs.Tables.{table_of}
+use Rattle.image_model.specs.Tidy.{HasReserve}
+use Rattle.image_model.specs.Plain.{IsPlain}
+use Rattle.run_model.specs.Runs.{after_all, replies}
+use Rattle.run_model.specs.Safe.{IsSafe, IsAt}
+use Rattle.run_model.specs.Ran.{Stands, CutIn, MayCut, Reached, SaidPart}
+use Rattle.run_model.proofs.Runs.{is_settled, cut_none}
+use Rattle.run_model.proofs.Chain.{later_reached, later_said, cut_behind}
+use Rattle.tool_core.specs.declared.ending.Ending.{Ending}
+use Rattle.tool_core.specs.declared.ending.Ending.TheVariants.{Done, NotAFs, BadLine, BoardFault, SourceFault, TooLong, Tight, Unbuilt, UnbuiltImage}
+use Rattle.tool_core.specs.Begins.{Checks, ChecksPlain, Begun, StopsCheck}
+use Rattle.tool_core.specs.Outcomes.{WhyEnds, WhyRan, IsChecked, Went, RunEnds, Came, RunsTo, first_moment}
+
+-- at first nothing waits, and the settled table is that of the image
+first_still : (g : Geometry) (slots : ℕ) (image : List ℕ) → first_moment g slots image ≡ settled_at (first_moment g slots image).state
+unfolding settled_at
+first_still g slots image = refl
+
+first_table : (g : Geometry) (slots : ℕ) (image : List ℕ) → (first_moment g slots image).settled ≡ table_of g image
+unfolding settled_at
+first_table g slots image = refl
+
+first_state : (g : Geometry) (slots : ℕ) (image : List ℕ) → (after_all g (first_moment g slots image) []).state.table ≡ table_of g image
+unfolding settled_at after_all
+first_state g slots image = refl
+
+none_said : (g : Geometry) (m : Moment) → replies g m [] ≡ []
+unfolding replies
+none_said g m = refl
+
+no_calls : (g : Geometry) (m : Moment) → after_all g m [] ≡ m
+unfolding after_all
+no_calls g m = refl
+
+-- the table of a moment at which a volume stands
+here_table : (g : Geometry) (image : List ℕ) (m : Moment) → IsAt g image m → table_of g image ≡ m.state.table
+unfolding settled_at
+here_table g image m here = here.table ∙ ap (λ (j : Moment). j.settled) here.still
+
+-- why a run of lines ends is why a whole run does
+why_ran : (ending : Ending) (g : Geometry) (m : Moment) (first image script left : List ℕ) (front later : List Ask) → IsChecked g first image → WhyEnds g m image script left front later ending → WhyRan g m first image script left front later ending
+why_ran (NotAFs n) g m first image script left front later checked why = absurd why
+why_ran UnbuiltImage g m first image script left front later checked why = absurd why
+why_ran (Tight n) g m first image script left front later checked why = absurd why
+why_ran _ g m first image script left front later checked why = (checked, why)
+
+-- what the check leaves is safe
+safe_check : {g : Geometry} {was image : List ℕ} → Checks g was image → HasReserve g was → IsSafe g was image
+safe_check here reserve = record { sound = here.keeps.sound; reserve = omega (arith, reserve, here.free); plain = λ plain. here.plain }
+
+module _ {D : Type 0} {nor : NorOf D} {g : Geometry} where
+  -- a cut in the check
+  pub check_cut : {old mid : D} (slots : ℕ) (asks : List Ask) → Changes nor old mid (ChecksPlain g) → nor.tells old → IsPlain g (nor.bytes old) → HasReserve g (nor.bytes old) → Leaves nor old mid (CutIn nor g old (first_moment g slots (nor.bytes old)) asks)
+  check_cut {old} {mid} slots asks changes tells plain reserve = widened changes.cuts (λ image count here.
+      let now = here.1 tells plain in
+      record {
+        part = [];
+        count_is = here.0 ∙ omega arith;
+        safe = safe_check now reserve;
+        cut = cut_none g (first_moment g slots (nor.bytes old)) asks (table_of g image) (is_settled (first_moment g slots (nor.bytes old)) (table_of g image) [] (now.keeps.table ∙ sym (first_table g slots (nor.bytes old))));
+      })
+
+  -- the volume stands at its first moment once it is checked
+  begun_reached : {old mid : D} (slots : ℕ) → Changes nor old mid (ChecksPlain g) → nor.tells old → Begun g (nor.bytes old) (nor.bytes mid) → Reached nor g old mid (first_moment g slots (nor.bytes old)) []
+  begun_reached {old} {mid} slots changes tells begun =
+      let m = first_moment g slots (nor.bytes old) in
+      let now = changes.now tells begun.plain in
+      record {
+        said = changes.said ∙ sym (ap (λ (l : List ℕ). nor.said old ++ l) (none_said g m) ∙ append-nil (nor.said old));
+        stands = subst (λ (j : Moment). Stands nor g mid j) (sym (no_calls g m)) (record { tells = changes.cuts.told tells; image = record { tidy = begun.tidy; reserve = begun.reserve; table = now.keeps.table ∙ sym (first_table g slots (nor.bytes old)); still = first_still g slots (nor.bytes old) } });
+        safe = record { sound = now.keeps.sound; reserve = begun.reserve; plain = λ plain. now.plain };
+      }
+
+  -- it stands there
+  begun_stands : {old mid : D} (m : Moment) → Reached nor g old mid m [] → Stands nor g mid m
+  begun_stands {old} {mid} m r = subst (λ (j : Moment). Stands nor g mid j) (no_calls g m) r.stands
+
+  -- a cut in the check or in the calls after it
+  pub whole_cut : {old mid new : D} (slots : ℕ) (asks : List Ask) → Changes nor old mid (ChecksPlain g) → nor.tells old → IsPlain g (nor.bytes old) → HasReserve g (nor.bytes old) → Begun g (nor.bytes old) (nor.bytes mid) → (h : Geometry) → h ≡ g → ((m : Moment) → Stands nor h mid m → MayCut nor h mid new m asks) → Leaves nor old new (CutIn nor g old (first_moment g slots (nor.bytes old)) asks)
+  whole_cut {old} {mid} {new} slots asks changes tells plain reserve begun h same leaves =
+      let m = first_moment g slots (nor.bytes old) in
+      let r = begun_reached slots changes tells begun in
+      let stands = begun_stands m r in
+      let next : (j : Moment) → Stands nor g mid j → MayCut nor g mid new j asks = subst (λ (k : Geometry). (j : Moment) → Stands nor k mid j → MayCut nor k mid new j asks) same leaves in
+      andthen (check_cut slots asks changes tells plain reserve) (widened (next m stands) (λ image count here. cut_behind r (subst (λ (j : Moment). CutIn nor g mid j asks image count) (sym (no_calls g m)) (here stands))))
+
+  -- a run that was begun
+  pub begun_ends : {old mid new : D} (slots : ℕ) (script left : List ℕ) (ending : Ending) → Changes nor old mid (ChecksPlain g) → nor.tells old → Begun g (nor.bytes old) (nor.bytes mid) → (h : Geometry) → h ≡ g → ((m : Moment) → Stands nor h mid m → RunEnds nor h mid new m script left ending) → RunsTo nor g old new (first_moment g slots (nor.bytes old)) script left ending
+  begun_ends {old} {mid} {new} slots script left ending changes tells begun h same ends =
+      let m = first_moment g slots (nor.bytes old) in
+      let r = begun_reached slots changes tells begun in
+      let next : (j : Moment) → Stands nor g mid j → RunEnds nor g mid new j script left ending = subst (λ (k : Geometry). (j : Moment) → Stands nor k mid j → RunEnds nor k mid new j script left ending) same ends in
+      ⊎_elim
+        (λ broken. inl (broken.0, later_said (calls script) r (subst (λ (j : Moment). SaidPart nor mid new (replies g j (calls script))) (sym (no_calls g m)) broken.1)))
+        (λ went.
+          let whole : Reached nor g old new m went.front = later_reached r (subst (λ (j : Moment). Reached nor g mid new j went.front) (sym (no_calls g m)) went.reached) in
+          inr (record {
+            front = went.front;
+            later = went.later;
+            asks_are = went.asks_are;
+            said = whole.said;
+            table = here_table g (nor.bytes new) (after_all g m went.front) whole.stands.image;
+            why = why_ran ending g (after_all g m went.front) (nor.bytes old) (nor.bytes new) script left went.front went.later (record { plain = begun.plain; reserve = whole.stands.image.reserve }) went.why;
+            safe = λ plain reserve. whole.safe;
+          }))
+        (next m (begun_stands m r))
+
+  early_came : {old mid : D} (slots : ℕ) (script left : List ℕ) (ending : Ending) → Changes nor old mid (ChecksPlain g) → nor.tells old → table_of g (nor.bytes mid) ≡ table_of g (nor.bytes old) → WhyRan g (after_all g (first_moment g slots (nor.bytes old)) []) (nor.bytes old) (nor.bytes mid) script left [] (calls script) ending → RunsTo nor g old mid (first_moment g slots (nor.bytes old)) script left ending
+  early_came {old} {mid} slots script left ending changes tells same why = inr (record {
+      front = [];
+      later = calls script;
+      asks_are = refl;
+      said = changes.said ∙ sym (ap (λ (l : List ℕ). nor.said old ++ l) (none_said g (first_moment g slots (nor.bytes old))) ∙ append-nil (nor.said old));
+      table = same ∙ sym (first_state g slots (nor.bytes old));
+      why = why;
+      safe = λ plain reserve. safe_check (changes.now tells plain) reserve;
+    })
+
+  -- a run that ends before its first line
+  pub early_ends : {old mid : D} (slots : ℕ) (script left : List ℕ) (ending : Ending) → Changes nor old mid (ChecksPlain g) → nor.tells old → StopsCheck nor g old mid ending → RunsTo nor g old mid (first_moment g slots (nor.bytes old)) script left ending
+  early_ends {old} {mid} slots script left (NotAFs n) changes tells stops = early_came slots script left (NotAFs n) changes tells (ap (table_of g) stops.0.bytes) (refl, stops.1, stops.2)
+  early_ends {old} {mid} slots script left UnbuiltImage changes tells stops = early_came slots script left UnbuiltImage changes tells (ap (table_of g) stops.0.bytes) (refl, stops.1)
+  early_ends {old} {mid} slots script left (Tight n) changes tells stops = early_came slots script left (Tight n) changes tells (changes.now tells stops.0).keeps.table (refl, stops.0, stops.1, stops.2)
+  early_ends {old} {mid} slots script left BoardFault changes tells stops = inl (refl, record { part = []; rest = replies g (first_moment g slots (nor.bytes old)) (calls script); said = changes.said ∙ sym (append-nil (nor.said old)); whole_is = refl })
+  early_ends _ script left _ changes tells stops = absurd stops
