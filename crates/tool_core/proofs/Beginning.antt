@@ -30,6 +30,10 @@ first_table : (g : Geometry) (slots : ℕ) (image : List ℕ) → (first_moment 
 unfolding settled_at
 first_table g slots image = refl
 
+first_settled : (g : Geometry) (slots : ℕ) (image : List ℕ) → (after_all g (first_moment g slots image) []).settled ≡ table_of g image
+unfolding settled_at after_all
+first_settled g slots image = refl
+
 first_state : (g : Geometry) (slots : ℕ) (image : List ℕ) → (after_all g (first_moment g slots image) []).state.table ≡ table_of g image
 unfolding settled_at after_all
 first_state g slots image = refl
@@ -109,6 +113,8 @@ module _ {D : Type 0} {nor : NorOf D} {g : Geometry} where
             later = went.later;
             asks_are = went.asks_are;
             said = whole.said;
+            tells = whole.stands.tells;
+            settled = whole.stands.image.table;
             table = here_table g (nor.bytes new) (after_all g m went.front) whole.stands.image;
             why = why_ran ending g (after_all g m went.front) (nor.bytes old) (nor.bytes new) script left went.front went.later (record { plain = begun.plain; reserve = whole.stands.image.reserve }) went.why;
             safe = λ plain reserve. whole.safe;
@@ -121,6 +127,8 @@ module _ {D : Type 0} {nor : NorOf D} {g : Geometry} where
       later = calls script;
       asks_are = refl;
       said = changes.said ∙ sym (ap (λ (l : List ℕ). nor.said old ++ l) (none_said g (first_moment g slots (nor.bytes old))) ∙ append-nil (nor.said old));
+      tells = changes.cuts.told tells;
+      settled = same ∙ sym (first_settled g slots (nor.bytes old));
       table = same ∙ sym (first_state g slots (nor.bytes old));
       why = why;
       safe = λ plain reserve. safe_check (changes.now tells plain) reserve;
@@ -129,7 +137,7 @@ module _ {D : Type 0} {nor : NorOf D} {g : Geometry} where
   -- a run that ends before its first line
   pub early_ends : {old mid : D} (slots : ℕ) (script left : List ℕ) (ending : Ending) → Changes nor old mid (ChecksPlain g) → nor.tells old → StopsCheck nor g old mid ending → RunsTo nor g old mid (first_moment g slots (nor.bytes old)) script left ending
   early_ends {old} {mid} slots script left (NotAFs n) changes tells stops = early_came slots script left (NotAFs n) changes tells (ap (table_of g) stops.0.bytes) (refl, stops.1, stops.2)
-  early_ends {old} {mid} slots script left UnbuiltImage changes tells stops = early_came slots script left UnbuiltImage changes tells (ap (table_of g) stops.0.bytes) (refl, stops.1)
+  early_ends {old} {mid} slots script left UnbuiltImage changes tells stops = early_came slots script left UnbuiltImage changes tells (ap (table_of g) stops.0.bytes) (refl, stops.1, stops.2)
   early_ends {old} {mid} slots script left (Tight n) changes tells stops = early_came slots script left (Tight n) changes tells (changes.now tells stops.0).keeps.table (refl, stops.0, stops.1, stops.2)
   early_ends {old} {mid} slots script left BoardFault changes tells stops = inl (refl, record { part = []; rest = replies g (first_moment g slots (nor.bytes old)) (calls script); said = changes.said ∙ sym (append-nil (nor.said old)); whole_is = refl })
   early_ends _ script left _ changes tells stops = absurd stops

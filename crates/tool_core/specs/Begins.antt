@@ -29,7 +29,7 @@ pub record Begun (g : Geometry) (was image : List ℕ) : Type 0 where
 -- why a volume is not begun
 abbrev pub StopsCheck : {D : Type 0} (nor : NorOf D) (g : Geometry) (old new : D) → Ending → Type 0
 StopsCheck nor g old new (NotAFs spoiled) = OnlyReads nor old new × (spoiled ≡ spoiled_blocks g (nor.bytes old)) × (2 ≤ spoiled)
-StopsCheck nor g old new UnbuiltImage = OnlyReads nor old new × (IsPlain g (nor.bytes old) → ⊥)
+StopsCheck nor g old new UnbuiltImage = OnlyReads nor old new × (spoiled_blocks g (nor.bytes old) < 2) × (IsPlain g (nor.bytes old) → ⊥)
 StopsCheck nor g old new (Tight free) = IsPlain g (nor.bytes old) × (free ≡ free_blocks g (nor.bytes new)) × (free < 2)
 StopsCheck nor g old new BoardFault = Unit {0}
 StopsCheck nor g old new _ = ⊥

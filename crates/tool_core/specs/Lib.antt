@@ -9,4 +9,5 @@ pub mod Runs
 pub mod Turns
 pub mod Outcomes
 pub mod Begins
+pub mod Headline
 pub mod Early

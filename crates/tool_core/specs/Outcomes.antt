@@ -95,7 +95,7 @@ pub record IsChecked (g : Geometry) (first image : List ℕ) : Type 0 where
 -- Why a run ends after some calls and before others: for its first image before the first call, or for what it met.
 abbrev pub WhyRan : (g : Geometry) (m : Moment) (first image script left : List ℕ) (front later : List Ask) → Ending → Type 0
 WhyRan g m first image script left front later (NotAFs spoiled) = (front ≡ []) × (spoiled ≡ spoiled_blocks g first) × (2 ≤ spoiled)
-WhyRan g m first image script left front later UnbuiltImage = (front ≡ []) × (IsPlain g first → ⊥)
+WhyRan g m first image script left front later UnbuiltImage = (front ≡ []) × (spoiled_blocks g first < 2) × (IsPlain g first → ⊥)
 WhyRan g m first image script left front later (Tight free) = (front ≡ []) × IsPlain g first × (free ≡ free_blocks g image) × (free < 2)
 WhyRan g m first image script left front later ending = IsChecked g first image × WhyEnds g m image script left front later ending
 
@@ -105,6 +105,8 @@ pub record Came {D : Type 0} (nor : NorOf D) (g : Geometry) (old new : D) (m : M
   pub later : List Ask
   pub asks_are : calls script ≡ front ++ later
   pub said : nor.said new ≡ nor.said old ++ replies g m front
+  pub tells : nor.tells new
+  pub settled : table_of g (nor.bytes new) ≡ (after_all g m front).settled
   pub table : table_of g (nor.bytes new) ≡ (after_all g m front).state.table
   pub why : WhyRan g (after_all g m front) (nor.bytes old) (nor.bytes new) script left front later ending
   pub safe : IsPlain g (nor.bytes old) → HasReserve g (nor.bytes old) → IsSafe g (nor.bytes old) (nor.bytes new)
