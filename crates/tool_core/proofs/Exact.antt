@@ -63,10 +63,10 @@ spoiled_cause UnbuiltImage g m first image script left front later why is = absu
 spoiled_cause (Differ d) g m first image script left front later why is = absurd (omega (arith, is))
 
 unbuilt_status : (ending : Ending) (g : Geometry) (m : Moment) (first image script left : List ℕ) (front later : List Ask) → WhyRan g m first image script left front later ending → spoiled_blocks g first < 2 → (IsPlain g first → ⊥) → status_of ending ≡ 16
-unbuilt_status (NotAFs n) g m first image script left front later why few no = absurd (omega (arith, why.1, why.2, few))
-unbuilt_status UnbuiltImage g m first image script left front later why few no = refl
-unbuilt_status (Tight n) g m first image script left front later why few no = absurd (no why.1)
-unbuilt_status _ g m first image script left front later why few no = absurd (no why.0.plain)
+unbuilt_status (NotAFs n) g m first image script left front later why few not_plain = absurd (omega (arith, why.1, why.2, few))
+unbuilt_status UnbuiltImage g m first image script left front later why few not_plain = refl
+unbuilt_status (Tight n) g m first image script left front later why few not_plain = absurd (not_plain why.1)
+unbuilt_status _ g m first image script left front later why few not_plain = absurd (not_plain why.0.plain)
 
 tight_status : (ending : Ending) (g : Geometry) (m : Moment) (first image script left : List ℕ) (front later : List Ask) → WhyRan g m first image script left front later ending → IsPlain g first → free_blocks g image < 2 → status_of ending ≡ 14
 tight_status (NotAFs n) g m first image script left front later why plain few = absurd (omega (arith, why.1, why.2, plain_unspoiled g first plain))
@@ -138,7 +138,7 @@ module _ {D : Type 0} {nor : NorOf D} {g : Geometry} where
       record {
         spoiled = λ two. by_ending (status ≡ 3) fine outcome (λ c is. is ∙ spoiled_status c.ending g _ (nor.bytes old) (nor.bytes new) script left c.front c.later c.why two);
         spoiled_only = λ three. by_ending (2 ≤ spoiled_blocks g (nor.bytes old)) fine outcome (λ c is. spoiled_cause c.ending g _ (nor.bytes old) (nor.bytes new) script left c.front c.later c.why (sym is ∙ three));
-        unbuilt_image = λ few no. by_ending (status ≡ 16) fine outcome (λ c is. is ∙ unbuilt_status c.ending g _ (nor.bytes old) (nor.bytes new) script left c.front c.later c.why few no);
+        unbuilt_image = λ few not_plain. by_ending (status ≡ 16) fine outcome (λ c is. is ∙ unbuilt_status c.ending g _ (nor.bytes old) (nor.bytes new) script left c.front c.later c.why few not_plain);
         tight = λ plain few. by_ending (status ≡ 14) fine outcome (λ c is. is ∙ tight_status c.ending g _ (nor.bytes old) (nor.bytes new) script left c.front c.later c.why plain few);
         tight_only = λ tight. by_ending (IsPlain g (nor.bytes old) × (free_blocks g (nor.bytes new) < 2)) fine outcome (λ c is. tight_cause c.ending g _ (nor.bytes old) (nor.bytes new) script left c.front c.later c.why (sym is ∙ tight));
         never_differs = λ differs. by_ending ⊥ fine outcome (λ c is. no_differ c.ending g _ (nor.bytes old) (nor.bytes new) script left c.front c.later c.why (sym is ∙ differs));
