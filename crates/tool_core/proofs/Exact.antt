@@ -1,5 +1,5 @@
 -- Which status a run answers, by its first image and its script.
-use Rattle.std.proofs.Common.{◌≡◌, ◌≢◌, ℕ, zero, suc, ◌+◌, ◌<◌, ◌≤◌, List, [], ◌∷◌, ◌++◌, length, refl, sym, ◌∙◌, ap, subst, arith, ⊎_elim, Bool, true, false, length-append, Some}
+use Rattle.std.proofs.Common.{◌≡◌, ◌≢◌, ℕ, zero, suc, ◌+◌, ◌<◌, ◌≤◌, List, [], ◌∷◌, ◌++◌, length, refl, sym, ◌∙◌, ap, subst, arith, ⊎_elim, Bool, false, length-append, append-nil}
 use Rattle.std.specs.Prelude.{filter, not}
 use Rattle.std.specs.List.{range_with_len}
 use Rattle.geometry.specs.declared.geometry.Geometry.{Geometry}
@@ -9,6 +9,7 @@ use Rattle.table_model.specs.Ask.{Ask}
 use Rattle.table_model.specs.Window.{Moment}
 use Rattle.call_script.specs.Lines.{Bad, lines, of_line, calls}
 use Rattle.image_model.specs.Places.{has_magic}
+use Rattle.image_model.specs.Tables.{table_of}
 use Rattle.image_model.specs.Tidy.{free_blocks, HasReserve}
 use Rattle.image_model.specs.Kinds.{spoiled_blocks}
 use Rattle.image_model.specs.Plain.{IsPlain}
@@ -151,3 +152,29 @@ module _ {D : Type 0} {nor : NorOf D} {g : Geometry} where
         done = λ plain reserve few lacks good. by_ending (status ≡ 0) fine outcome (λ c is. whole_status c.ending g _ (nor.bytes old) (nor.bytes new) script left c.front c.later status c.why is plain (c.safe plain reserve).reserve few lacks read good);
         bad_line = λ plain reserve few lacks n bad. by_ending (status ≡ 5) fine outcome (λ c is. bad_status c.ending g _ (nor.bytes old) (nor.bytes new) script left c.front c.later status c.why is plain (c.safe plain reserve).reserve few lacks read n bad);
       }
+
+  whole_of : {old new : D} (ending : Ending) (m : Moment) (script left : List ℕ) (front later : List Ask) → status_of ending ≡ 0 → calls script ≡ front ++ later → WhyRan g (after_all g m front) (nor.bytes old) (nor.bytes new) script left front later ending → nor.said new ≡ nor.said old ++ (replies g m front ++ closing_line_of ending) → table_of g (nor.bytes new) ≡ (after_all g m front).state.table → RanWhole nor g old new m script left
+  whole_of {old} {new} Done m script left front later is asks_are why said table =
+      let all : calls script ≡ front = asks_are ∙ ap (λ (l : List Ask). front ++ l) why.1.0 ∙ append-nil front in
+      record {
+        good = why.1.1;
+        none_left = why.1.2;
+        said = said ∙ ap (λ (l : List ℕ). nor.said old ++ l) (append-nil (replies g m front) ∙ ap (replies g m) (sym all));
+        table = table ∙ ap (λ (l : List Ask). (after_all g m l).state.table) (sym all);
+      }
+  whole_of Usage m script left front later is asks_are why said table = absurd (omega (arith, is))
+  whole_of (WrongGeometry e) m script left front later is asks_are why said table = absurd (omega (arith, is))
+  whole_of (ShortBuffer p n h) m script left front later is asks_are why said table = absurd (omega (arith, is))
+  whole_of (NotAFs n) m script left front later is asks_are why said table = absurd (omega (arith, is))
+  whole_of (BadLine n) m script left front later is asks_are why said table = absurd (omega (arith, is))
+  whole_of BoardFault m script left front later is asks_are why said table = absurd (omega (arith, is))
+  whole_of SourceFault m script left front later is asks_are why said table = absurd (omega (arith, is))
+  whole_of TooLong m script left front later is asks_are why said table = absurd (omega (arith, is))
+  whole_of (Tight n) m script left front later is asks_are why said table = absurd (omega (arith, is))
+  whole_of Unbuilt m script left front later is asks_are why said table = absurd (omega (arith, is))
+  whole_of UnbuiltImage m script left front later is asks_are why said table = absurd (omega (arith, is))
+  whole_of (Differ d) m script left front later is asks_are why said table = absurd (omega (arith, is))
+
+  -- with status 0 the whole script was run
+  pub ran_whole : {old new : D} {m : Moment} {script left : List ℕ} {status : ℕ} → status ≡ 0 → Outcome nor g old new m script left status → RanWhole nor g old new m script left
+  ran_whole {old} {new} {m} {script} {left} {status} zero_is outcome = by_ending (RanWhole nor g old new m script left) (λ is. omega (arith, is, zero_is)) outcome (λ c is. whole_of c.ending m script left c.front c.later (sym is ∙ zero_is) c.asks_are c.why (c.whole (λ fault. omega (arith, fault, zero_is))) c.table)

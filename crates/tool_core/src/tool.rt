@@ -6,7 +6,7 @@ ghost use Rattle.image_model.specs.Plain.{IsPlain};
 ghost use Rattle.image_model.specs.Tidy.{HasReserve};
 ghost use Rattle.run_model.specs.Ran.{CutIn};
 ghost use Rattle.geometry.specs.declared.geometry.Geometry.{Geometry};
-ghost use Rattle.tool_core.specs.Headline.{IsRun, Outcome, RunCut, IsExact, IsComplete};
+ghost use Rattle.tool_core.specs.Headline.{IsRun, Outcome, RanWhole, RunCut, IsExact, IsComplete};
 ghost use Rattle.tool_core.specs.Outcomes.{RunsTo, first_moment};
 ghost use Rattle.tool_core.specs.Plan.{refusal_of};
 ghost use Rattle.tool_core.specs.Closing.{closing_line_of};
@@ -109,6 +109,7 @@ pub fn spiffs_tool<B: Board, S: Source>(
     ensures script_fault { result ≡ 8 → Rose (S.faults script.old) (S.faults script.new) }
     ensures board_fault { result ≡ 7 → Rose (B.faults board.old) (B.faults board.new) }
     ensures outcome { (g : Geometry) → IsRun (map string_bytes words.now) (B.unit board.old) (B.size board.old) (lengths_of bufs.old) g → S.tells script.old → B.tells board.old → Outcome B.NorState g board.old board.new (first_moment g (length bufs.old.slots.now) (B.bytes board.old)) (S.left script.old) (S.left script.new) result }
+    ensures whole { (g : Geometry) → IsRun (map string_bytes words.now) (B.unit board.old) (B.size board.old) (lengths_of bufs.old) g → S.tells script.old → B.tells board.old → result ≡ 0 → RanWhole B.NorState g board.old board.new (first_moment g (length bufs.old.slots.now) (B.bytes board.old)) (S.left script.old) (S.left script.new) }
     ensures cuts { (g : Geometry) → IsRun (map string_bytes words.now) (B.unit board.old) (B.size board.old) (lengths_of bufs.old) g → S.tells script.old → B.tells board.old → IsPlain g (B.bytes board.old) → HasReserve g (B.bytes board.old) → Leaves B.NorState board.old board.new (RunCut B.NorState g board.old (first_moment g (length bufs.old.slots.now) (B.bytes board.old)) (S.left script.old) (S.left script.new) result) }
     ensures exact { (g : Geometry) → IsRun (map string_bytes words.now) (B.unit board.old) (B.size board.old) (lengths_of bufs.old) g → S.tells script.old → B.tells board.old → ¬ Rose (B.faults board.old) (B.faults board.new) → IsExact B.NorState g board.old board.new result }
     ensures complete { (g : Geometry) → IsRun (map string_bytes words.now) (B.unit board.old) (B.size board.old) (lengths_of bufs.old) g → S.tells script.old → B.tells board.old → ¬ Rose (B.faults board.old) (B.faults board.new) → ¬ Rose (S.faults script.old) (S.faults script.new) → IsComplete B.NorState g board.old (S.left script.old) result }

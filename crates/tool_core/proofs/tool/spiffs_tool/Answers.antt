@@ -6,7 +6,7 @@ use Rattle.image_model.specs.Tidy.{HasReserve}
 use Rattle.tool_core.proofs.Early.{ending_early, early_status, early_board}
 use Rattle.tool_core.proofs.Concluding.{outcome_of, run_cuts}
 use Rattle.tool_core.proofs.Geometries.{one_geometry}
-use Rattle.tool_core.proofs.Exact.{exact_of, complete_of}
+use Rattle.tool_core.proofs.Exact.{exact_of, complete_of, ran_whole}
 use Rattle.tool_core.proofs.tool.spiffs_tool.Goals as goal
 
 pub returns-in-Err-clause-script_fault : goal.returns-in-Err-clause-script_fault
@@ -42,3 +42,7 @@ returns-in-Ok-clause-complete g c = λ h run script tells no_fault no_script.
     let fault : c.conclude-in-Ok.result ≡ 7 → Rose (g.B.NorState.faults c.args.board.now) (g.B.NorState.faults c.conclude-in-Ok.new.board) = search rules in
     let read : c.conclude-in-Ok.result ≢ 8 = search rules in
     rw (one_geometry _ _ _ _ _ _ _ h c.in-Ok.g run c.in-Ok.ensures.run) (complete_of fault no_fault read (outcome_of _ (g.S.Source.left c.args.script.now) (g.S.Source.left c.run_on-ending.new.script) c.run_on-ending.result c.conclude-in-Ok.result c.run_on-ending.ensures.board_faults (c.run_on-ending.ensures.ends script tells) c.conclude-in-Ok.ensures.ends c.conclude-in-Ok.ensures.says c.conclude-in-Ok.ensures.whole c.conclude-in-Ok.ensures.silent))
+
+pub returns-in-Ok-clause-whole : goal.returns-in-Ok-clause-whole
+returns-in-Ok-clause-whole g c = λ h run script tells is.
+    rw (one_geometry _ _ _ _ _ _ _ h c.in-Ok.g run c.in-Ok.ensures.run) (ran_whole is (outcome_of _ (g.S.Source.left c.args.script.now) (g.S.Source.left c.run_on-ending.new.script) c.run_on-ending.result c.conclude-in-Ok.result c.run_on-ending.ensures.board_faults (c.run_on-ending.ensures.ends script tells) c.conclude-in-Ok.ensures.ends c.conclude-in-Ok.ensures.says c.conclude-in-Ok.ensures.whole c.conclude-in-Ok.ensures.silent))
