@@ -8,8 +8,12 @@ use Rattle.image_model.specs.Tidy.{IsTidy, free_blocks, HasReserve}
 use Rattle.image_model.specs.Kinds.{spoiled_blocks}
 use Rattle.image_model.specs.Sound.{Keeps}
 use Rattle.image_model.specs.Plain.{IsPlain}
+use Rattle.vol_mount.specs.declared.lent.MountErr.{MountErr}
+use Rattle.vol_mount.specs.declared.lent.MountErr.TheVariants.{Wrong as MountWrong, ShortBuffer as MountShort, NotAFs as MountNotAFs, DeviceFault as MountFault}
+use Rattle.volume.specs.declared.checking.CheckErr.{CheckErr}
+use Rattle.volume.specs.declared.checking.CheckErr.TheVariants.{Wrong as CheckWrong, Unbuilt as CheckUnbuilt, DeviceFault as CheckFault}
 use Rattle.tool_core.specs.declared.ending.Ending.{Ending}
-use Rattle.tool_core.specs.declared.ending.Ending.TheVariants.{NotAFs, BoardFault, Tight, UnbuiltImage}
+use Rattle.tool_core.specs.declared.ending.Ending.TheVariants.{Geometry as WrongGeometry, ShortBuffer, NotAFs, BoardFault, Tight, UnbuiltImage}
 
 -- what a check may leave of a plain image: its table, plain, and no fewer free blocks
 pub record Checks (g : Geometry) (was image : List ℕ) : Type 0 where
@@ -33,3 +37,16 @@ StopsCheck nor g old new UnbuiltImage = OnlyReads nor old new × (spoiled_blocks
 StopsCheck nor g old new (Tight free) = IsPlain g (nor.bytes old) × (free ≡ free_blocks g (nor.bytes new)) × (free < 2)
 StopsCheck nor g old new BoardFault = Unit {0}
 StopsCheck nor g old new _ = ⊥
+
+-- how a run ends that doesn't mount its volume
+abbrev pub mount_ends : MountErr → Ending
+mount_ends (MountWrong why) = WrongGeometry why
+mount_ends (MountShort part need given) = ShortBuffer part need given
+mount_ends (MountNotAFs spoiled) = NotAFs spoiled
+mount_ends MountFault = BoardFault
+
+-- how a run ends that doesn't check its volume
+abbrev pub check_ends : CheckErr → Ending
+check_ends (CheckWrong why) = WrongGeometry why
+check_ends CheckUnbuilt = UnbuiltImage
+check_ends CheckFault = BoardFault

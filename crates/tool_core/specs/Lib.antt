@@ -11,3 +11,4 @@ pub mod Outcomes
 pub mod Begins
 pub mod Headline
 pub mod Early
+pub mod Stub

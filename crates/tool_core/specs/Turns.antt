@@ -1,8 +1,13 @@
 -- What a turn of a run leaves, and many turns.
-use Rattle.std.specs.Prelude.{ℕ, ◌≡◌, ◌+◌, ◌≤◌, ◌⊎◌, List, [], ◌∷◌, ◌++◌, length, slice_range, true, false, Option, Some, None}
+use Rattle.std.specs.Prelude.{ℕ, ◌≡◌, ◌+◌, ◌≤◌, ◌⊎◌, List, [], ◌∷◌, ◌++◌, length, slice_range, true, false, Option, Some, None, Result, Ok, Err, IfOk, IfErr}
 use Rattle.geometry.specs.declared.geometry.Geometry.{Geometry}
 use Rattle.nor_core.specs.declared.state.NorState.{Ghosts as NorOf}
-use Rattle.nor_core.specs.Device.{OnlyReads}
+use Rattle.nor_core.specs.Device.{OnlyReads, Changes}
+use Rattle.table_model.specs.declared.error.FsErr.{FsErr}
+use Rattle.table_model.specs.declared.error.FsErr.TheVariants.{DeviceFault, Damaged, Unbuilt as FsUnbuilt}
+use Rattle.table_model.specs.declared.reply.Reply.{Reply}
+use Rattle.table_model.specs.declared.reply.Reply.TheVariants.{Refusal}
+use Rattle.table_model.specs.Reply.{answered}
 use Rattle.table_model.specs.Ask.{Ask}
 use Rattle.table_model.specs.Flat.{answer}
 use Rattle.table_model.specs.Steps.{is_refusal}
@@ -10,9 +15,9 @@ use Rattle.table_model.specs.Window.{Moment}
 use Rattle.call_script.specs.Lines.{Bad, Asks, lines, of_line, calls_of, NoBreak}
 use Rattle.image_model.specs.Collect.{are_had}
 use Rattle.run_model.specs.Runs.{after_all, replies}
-use Rattle.run_model.specs.Ran.{MayCut, Reached, SaidPart}
+use Rattle.run_model.specs.Ran.{Stands, Publishes, Answers, MayCut, Reached, SaidPart}
 use Rattle.tool_core.specs.declared.ending.Ending.{Ending}
-use Rattle.tool_core.specs.declared.ending.Ending.TheVariants.{Done, BadLine, BoardFault, SourceFault, TooLong, Unbuilt}
+use Rattle.tool_core.specs.declared.ending.Ending.TheVariants.{Done, BadLine, BoardFault, SourceFault, TooLong, Unbuilt, Differ}
 
 -- a call isn't refused by the flat table, but finds no page: garbage would have to be collected first
 pub record LacksPage (g : Geometry) (m : Moment) (image : List ℕ) (ask : Ask) : Type 0 where
@@ -24,6 +29,23 @@ abbrev pub StopsCall : {D : Type 0} (nor : NorOf D) (g : Geometry) (old new : D)
 StopsCall nor g old new m ask BoardFault = Unit {0}
 StopsCall nor g old new m ask Unbuilt = OnlyReads nor old new × LacksPage g m (nor.bytes new) ask
 StopsCall nor g old new m ask _ = ⊥
+
+-- what doing a call leaves: what a run may at each cut, and its answer, or why it isn't answered
+pub record DoesCall {D : Type 0} (nor : NorOf D) (g : Geometry) (old new : D) (ask : Ask) (result : Result Reply Ending) : Type 0 where
+  pub changes : (m : Moment) → Changes nor old new (Publishes g m ask)
+  pub answers : (m : Moment) → Stands nor g old m → IfOk result (λ reply. Answers nor g new m ask (answered reply))
+  pub stops : (m : Moment) → Stands nor g old m → IfErr result (StopsCall nor g old new m ask)
+
+-- how a refusal is answered, or ends the run
+abbrev pub refused_as : FsErr → Result Reply Ending
+refused_as DeviceFault = Err BoardFault
+refused_as (Damaged differ) = Err (Differ differ)
+refused_as why = Ok (Refusal why)
+
+-- the same of a create, which ends the run where it lacks its page
+abbrev pub not_created_as : FsErr → Result Reply Ending
+not_created_as FsUnbuilt = Err Unbuilt
+not_created_as why = refused_as why
 
 -- a line spells a call that lacks its page, and nothing was changed
 pub record LineLacks {D : Type 0} (nor : NorOf D) (g : Geometry) (old new : D) (m : Moment) (line : List ℕ) : Type 0 where

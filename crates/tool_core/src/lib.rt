@@ -2,10 +2,12 @@
 //! said.
 #![tactic(auto)]
 
+mod call;
 mod ending;
 mod lines;
 mod plan;
 mod run;
+mod stub;
 mod tool;
 mod words;
 

@@ -1,36 +1,36 @@
 ghost use Rattle.std.specs.Prelude.{ℕ, ◌≡◌, ◌≢◌, ◌+◌, ◌-◌, ◌*◌, ◌<◌, ◌≤◌, ◌++◌, ◌∷◌, [], length, slice_range, IfOk, IfErr, OnOk, OnErr, Err, Some, None, true, false};
 ghost use Rattle.std.specs.Option.{IfSome, IfNone};
 ghost use Rattle.nor_core.specs.Device.{Changes, Leaves, Says, InSay};
-ghost use Rattle.table_model.specs.Ask.{asked};
 ghost use Rattle.table_model.specs.Reply.{answered};
 ghost use Rattle.table_model.specs.Window.{Moment};
 ghost use Rattle.call_script.specs.Lines.{NoBreak, calls, calls_of};
 ghost use Rattle.call_script.specs.Replies.{text};
-ghost use Rattle.run_model.specs.Ran.{Stands, Publishes, Answers, CutIn, MayCut};
+ghost use Rattle.run_model.specs.Ran.{Stands, CutIn, MayCut};
 ghost use Rattle.image_model.specs.Plain.{IsPlain};
 ghost use Rattle.image_model.specs.Tidy.{HasReserve};
-ghost use Rattle.tool_core.specs.Begins.{ChecksPlain, Begun, StopsCheck};
+ghost use Rattle.tool_core.specs.Begins.{ChecksPlain, Begun, StopsCheck, mount_ends, check_ends};
 ghost use Rattle.tool_core.specs.Outcomes.{RunEnds, RunsTo, first_moment};
-ghost use Rattle.tool_core.specs.Turns.{DidLine, OneMore, StopsCall, Turned, at_run};
+ghost use Rattle.tool_core.specs.Turns.{DidLine, OneMore, Turned, at_run};
 ghost use Rattle.call_script.specs.Pieces.{IsShort};
 ghost use Rattle.vol_mount.specs.Mounts.{IsLate};
 ghost use Rattle.volume.specs.Checks.{IsWritable};
 ghost use Rattle.nor_core.specs.Count.{Rose};
-ghost use Rattle.flash_view.specs.Same.{IsSameView, OnlyLooks};
-ghost use Rattle.volume.specs.Fails.{has_failed};
+ghost use Rattle.tool_core.specs.Stub.{has_failed, IsSameVolume};
 ghost use Rattle.tool_core.specs.Later.{IsLater, IsLaterIf};
 ghost use Rattle.tool_core.specs.Runs.{Ran, StandsBy, result_err};
 ghost use Rattle.geometry.specs.Numbers.{usable, write_refusal, work_need, cache_need, check_need};
 ghost use Rattle.tool_core.specs.Fits.{IsFitting};
 
+use crate::call::apply;
 use crate::ending::Ending;
 use crate::lines::{LIMIT, LINE, Lines};
 use call_script::{parse_line, reply_text};
 use geometry::Geometry;
 use nor_core::{Board, Failed, Nor, NorState, Source};
-use table_model::{Call, FsErr, Reply};
-use vol_mount::{Lent, MountErr, Unchecked, mount};
-use volume::{CheckErr, Volume, check};
+use table_model::Reply;
+use crate::stub::Volume;
+use vol_mount::{Lent, MountErr};
+use volume::CheckErr;
 
 /// The number of bytes of the line buffer that hold lines; the others hold names, texts and replies.
 const LINES: usize = 8192;
@@ -38,6 +38,7 @@ const LINES: usize = 8192;
 // How a run ends that doesn't mount the volume.
 fn mount_ending(why: MountErr) -> Ending
     requires { IsLate why }
+    ensures ends { result ≡ mount_ends why }
     ensures later { IsLater result }
     ensures fault { result ≡ Ending.BoardFault → why ≡ MountErr.DeviceFault }
     ensures no_script { result ≢ Ending.SourceFault }
@@ -53,6 +54,7 @@ fn mount_ending(why: MountErr) -> Ending
 // How a run ends that doesn't check the volume.
 fn check_ending(why: CheckErr) -> Ending
     requires { IsWritable why }
+    ensures ends { result ≡ check_ends why }
     ensures later { IsLater result }
     ensures fault { result ≡ Ending.BoardFault → why ≡ CheckErr.DeviceFault }
     ensures no_script { result ≢ Ending.SourceFault }
@@ -61,30 +63,6 @@ fn check_ending(why: CheckErr) -> Ending
         CheckErr::Wrong(why) => Ending::Geometry(why),
         CheckErr::Unbuilt => Ending::UnbuiltImage,
         CheckErr::DeviceFault => Ending::BoardFault,
-    }
-}
-
-// Does a call, or says how the run ends there.
-fn apply<B: Board>(volume: &mut Volume<'_, B>, call: &Call<'_>) -> Result<Reply<'static>, Ending>
-    requires { has_failed volume.old ≡ false }
-    ensures short { IfOk result IsShort }
-    ensures later { IfErr result IsLater }
-    ensures ran { Ran B.NorState volume.old.view.nor.now volume.new.view.nor.now (result_err result) (has_failed volume.new) }
-    ensures no_script { ¬ (result ≡ Err Ending.SourceFault) }
-    ensures same { IsSameView volume.old.view volume.new.view }
-    ensures changes { (m : Moment) → Changes B.NorState volume.old.view.nor.now volume.new.view.nor.now (Publishes volume.old.view.geometry m (asked call.now)) }
-    ensures answers { (m : Moment) → Stands B.NorState volume.old.view.geometry volume.old.view.nor.now m → IfOk result (λ reply. Answers B.NorState volume.old.view.geometry volume.new.view.nor.now m (asked call.now) (answered reply)) }
-    ensures stops { (m : Moment) → Stands B.NorState volume.old.view.geometry volume.old.view.nor.now m → IfErr result (StopsCall B.NorState volume.old.view.geometry volume.old.view.nor.now volume.new.view.nor.now m (asked call.now)) }
-{
-    let Call::Create { name } = call else {
-        return Ok(Reply::Refusal(FsErr::Unbuilt));
-    };
-    match volume.create(name) {
-        Ok(()) => Ok(Reply::Done),
-        Err(FsErr::DeviceFault) => Err(Ending::BoardFault),
-        Err(FsErr::Damaged(differ)) => Err(Ending::Differ(differ)),
-        Err(FsErr::Unbuilt) => Err(Ending::Unbuilt),
-        Err(why) => Ok(Reply::Refusal(why)),
     }
 }
 
@@ -98,11 +76,11 @@ fn answer<B: Board>(
     requires room { 4096 ≤ length scratch.old }
     requires stands { has_failed volume.old ≡ false }
     ensures later { IsLaterIf result }
-    ensures ran { Ran B.NorState volume.old.view.nor.now volume.new.view.nor.now result (has_failed volume.new) }
-    ensures same { IsSameView volume.old.view volume.new.view }
+    ensures ran { Ran B.NorState volume.old.nor.now volume.new.nor.now result (has_failed volume.new) }
+    ensures same { IsSameVolume volume.old volume.new }
     ensures no_script { ¬ (result ≡ Some Ending.SourceFault) }
-    ensures leaves { (m : Moment) → MayCut B.NorState volume.old.view.geometry volume.old.view.nor.now volume.new.view.nor.now m (calls_of (line.now ∷ [])) }
-    ensures did { (m : Moment) → Stands B.NorState volume.old.view.geometry volume.old.view.nor.now m → DidLine B.NorState volume.old.view.geometry volume.old.view.nor.now volume.new.view.nor.now m line.now number result }
+    ensures leaves { (m : Moment) → MayCut B.NorState volume.old.geometry volume.old.nor.now volume.new.nor.now m (calls_of (line.now ∷ [])) }
+    ensures did { (m : Moment) → Stands B.NorState volume.old.geometry volume.old.nor.now m → DidLine B.NorState volume.old.geometry volume.old.nor.now volume.new.nor.now m line.now number result }
 {
     let Ok(parsed) = parse_line(line, scratch) else {
         return Some(Ending::BadLine(number));
@@ -126,13 +104,13 @@ fn say_reply<B: Board>(
     requires stands { has_failed volume.old ≡ false }
     requires short { IsShort reply.now }
     ensures later { IsLaterIf result }
-    ensures ran { Ran B.NorState volume.old.view.nor.now volume.new.view.nor.now result (has_failed volume.new) }
-    ensures same { IsSameView volume.old.view volume.new.view }
+    ensures ran { Ran B.NorState volume.old.nor.now volume.new.nor.now result (has_failed volume.new) }
+    ensures same { IsSameVolume volume.old volume.new }
     ensures no_script { ¬ (result ≡ Some Ending.SourceFault) }
     ensures fault { IfSome result (λ ending. ending ≡ Ending.BoardFault) }
-    ensures says { Says B.NorState volume.old.view.nor.now volume.new.view.nor.now (text (answered reply.now)) }
-    ensures cuts { Leaves B.NorState volume.old.view.nor.now volume.new.view.nor.now (InSay B.NorState volume.old.view.nor.now (text (answered reply.now))) }
-    ensures done { B.tells volume.old.view.nor.now → IfNone result (B.said volume.new.view.nor.now ≡ B.said volume.old.view.nor.now ++ text (answered reply.now)) }
+    ensures says { Says B.NorState volume.old.nor.now volume.new.nor.now (text (answered reply.now)) }
+    ensures cuts { Leaves B.NorState volume.old.nor.now volume.new.nor.now (InSay B.NorState volume.old.nor.now (text (answered reply.now))) }
+    ensures done { B.tells volume.old.nor.now → IfNone result (B.said volume.new.nor.now ≡ B.said volume.old.nor.now ++ text (answered reply.now)) }
 {
     let length = reply_text(reply, into);
     match volume.say(&into[..length]) {
@@ -162,12 +140,12 @@ fn last_line<B: Board>(volume: &mut Volume<'_, B>, lines: &Lines<'_>, scratch: &
     requires stands { has_failed volume.old ≡ false }
     requires no_break { NoBreak (slice_range lines.now.buf.now lines.now.start lines.now.end) }
     ensures later { IsLater result }
-    ensures ran { Ran B.NorState volume.old.view.nor.now volume.new.view.nor.now (Some result) (has_failed volume.new) }
-    ensures same { IsSameView volume.old.view volume.new.view }
+    ensures ran { Ran B.NorState volume.old.nor.now volume.new.nor.now (Some result) (has_failed volume.new) }
+    ensures same { IsSameVolume volume.old volume.new }
     ensures no_script { ¬ (result ≡ Ending.SourceFault) }
-    ensures turned { (m : Moment) → Stands B.NorState volume.old.view.geometry volume.old.view.nor.now m → Turned B.NorState volume.old.view.geometry (Some result) m
-        (at_run volume.old.view.nor.now lines.now.buf.now lines.now.start lines.now.end lines.now.taken lines.now.handed [])
-        (at_run volume.new.view.nor.now lines.now.buf.now lines.now.start lines.now.end lines.now.taken lines.now.handed []) }
+    ensures turned { (m : Moment) → Stands B.NorState volume.old.geometry volume.old.nor.now m → Turned B.NorState volume.old.geometry (Some result) m
+        (at_run volume.old.nor.now lines.now.buf.now lines.now.start lines.now.end lines.now.taken lines.now.handed [])
+        (at_run volume.new.nor.now lines.now.buf.now lines.now.start lines.now.end lines.now.taken lines.now.handed []) }
 {
     let line = lines.piece(lines.start, lines.end);
     if line.is_empty() {
@@ -191,16 +169,16 @@ fn take_more<B: Board, S: Source>(
     requires stands { has_failed volume.old ≡ false }
     requires no_break { NoBreak (slice_range lines.old.buf.now lines.old.start lines.old.end) }
     ensures later { IsLaterIf result }
-    ensures ran { Ran B.NorState volume.old.view.nor.now volume.new.view.nor.now result (has_failed volume.new) }
-    ensures same { IsSameView volume.old.view volume.new.view }
+    ensures ran { Ran B.NorState volume.old.nor.now volume.new.nor.now result (has_failed volume.new) }
+    ensures same { IsSameVolume volume.old volume.new }
     ensures script_faults { S.faults script.old ≤ S.faults script.new }
     ensures script_cause { result ≡ Some Ending.SourceFault → Rose (S.faults script.old) (S.faults script.new) }
     ensures told { S.tells script.old → S.tells script.new }
     ensures same_buf { lines.new.buf.ghost_name ≡ lines.old.buf.ghost_name }
     ensures smaller { IfNone result (2 * (16777216 - lines.new.taken) + (lines.new.end - lines.new.start) < 2 * (16777216 - lines.old.taken) + (lines.old.end - lines.old.start)) }
-    ensures turned { (m : Moment) → S.tells script.old → Stands B.NorState volume.old.view.geometry volume.old.view.nor.now m → Turned B.NorState volume.old.view.geometry result m
-        (at_run volume.old.view.nor.now lines.old.buf.now lines.old.start lines.old.end lines.old.taken lines.old.handed (S.left script.old))
-        (at_run volume.new.view.nor.now lines.new.buf.now lines.new.start lines.new.end lines.new.taken lines.new.handed (S.left script.new)) }
+    ensures turned { (m : Moment) → S.tells script.old → Stands B.NorState volume.old.geometry volume.old.nor.now m → Turned B.NorState volume.old.geometry result m
+        (at_run volume.old.nor.now lines.old.buf.now lines.old.start lines.old.end lines.old.taken lines.old.handed (S.left script.old))
+        (at_run volume.new.nor.now lines.new.buf.now lines.new.start lines.new.end lines.new.taken lines.new.handed (S.left script.new)) }
 {
     if lines.end - lines.start > LINE {
         return Some(Ending::BadLine(lines.handed.saturating_add(1)));
@@ -229,16 +207,16 @@ fn turn<B: Board, S: Source>(
     requires room { 4096 ≤ length scratch.old }
     requires stands { has_failed volume.old ≡ false }
     ensures later { IsLaterIf result }
-    ensures ran { Ran B.NorState volume.old.view.nor.now volume.new.view.nor.now result (has_failed volume.new) }
-    ensures same { IsSameView volume.old.view volume.new.view }
+    ensures ran { Ran B.NorState volume.old.nor.now volume.new.nor.now result (has_failed volume.new) }
+    ensures same { IsSameVolume volume.old volume.new }
     ensures script_faults { S.faults script.old ≤ S.faults script.new }
     ensures script_cause { result ≡ Some Ending.SourceFault → Rose (S.faults script.old) (S.faults script.new) }
     ensures told { S.tells script.old → S.tells script.new }
     ensures same_buf { lines.new.buf.ghost_name ≡ lines.old.buf.ghost_name }
     ensures smaller { IfNone result (2 * (16777216 - lines.new.taken) + (lines.new.end - lines.new.start) < 2 * (16777216 - lines.old.taken) + (lines.old.end - lines.old.start)) }
-    ensures turned { (m : Moment) → S.tells script.old → Stands B.NorState volume.old.view.geometry volume.old.view.nor.now m → Turned B.NorState volume.old.view.geometry result m
-        (at_run volume.old.view.nor.now lines.old.buf.now lines.old.start lines.old.end lines.old.taken lines.old.handed (S.left script.old))
-        (at_run volume.new.view.nor.now lines.new.buf.now lines.new.start lines.new.end lines.new.taken lines.new.handed (S.left script.new)) }
+    ensures turned { (m : Moment) → S.tells script.old → Stands B.NorState volume.old.geometry volume.old.nor.now m → Turned B.NorState volume.old.geometry result m
+        (at_run volume.old.nor.now lines.old.buf.now lines.old.start lines.old.end lines.old.taken lines.old.handed (S.left script.old))
+        (at_run volume.new.nor.now lines.new.buf.now lines.new.start lines.new.end lines.new.taken lines.new.handed (S.left script.new)) }
 {
     let from = lines.start;
     match lines.take_line() {
@@ -260,13 +238,13 @@ fn run_lines<B: Board, S: Source>(
     requires room { 4096 ≤ length scratch.old }
     requires stands { has_failed volume.old ≡ false }
     ensures later { IsLater result }
-    ensures ran { Ran B.NorState volume.old.view.nor.now volume.new.view.nor.now (Some result) (has_failed volume.new) }
-    ensures same { IsSameView volume.old.view volume.new.view }
+    ensures ran { Ran B.NorState volume.old.nor.now volume.new.nor.now (Some result) (has_failed volume.new) }
+    ensures same { IsSameVolume volume.old volume.new }
     ensures script_faults { S.faults script.old ≤ S.faults script.new }
     ensures script_cause { result ≡ Ending.SourceFault → Rose (S.faults script.old) (S.faults script.new) }
-    ensures turned { (m : Moment) → S.tells script.old → Stands B.NorState volume.old.view.geometry volume.old.view.nor.now m → Turned B.NorState volume.old.view.geometry (Some result) m
-        (at_run volume.old.view.nor.now lines.old.buf.now lines.old.start lines.old.end lines.old.taken lines.old.handed (S.left script.old))
-        (at_run volume.new.view.nor.now lines.new.buf.now lines.new.start lines.new.end lines.new.taken lines.new.handed (S.left script.new)) }
+    ensures turned { (m : Moment) → S.tells script.old → Stands B.NorState volume.old.geometry volume.old.nor.now m → Turned B.NorState volume.old.geometry (Some result) m
+        (at_run volume.old.nor.now lines.old.buf.now lines.old.start lines.old.end lines.old.taken lines.old.handed (S.left script.old))
+        (at_run volume.new.nor.now lines.new.buf.now lines.new.start lines.new.end lines.new.taken lines.new.handed (S.left script.new)) }
 {
     'turns: loop {
         if let Some(ending) = turn(volume, lines, script, scratch) {
@@ -284,12 +262,12 @@ fn run_script<B: Board, S: Source>(
     requires room { 12288 ≤ length line.old }
     requires stands { has_failed volume.old ≡ false }
     ensures later { IsLater result }
-    ensures ran { Ran B.NorState volume.old.view.nor.now volume.new.view.nor.now (Some result) (has_failed volume.new) }
-    ensures same { IsSameView volume.old.view volume.new.view }
+    ensures ran { Ran B.NorState volume.old.nor.now volume.new.nor.now (Some result) (has_failed volume.new) }
+    ensures same { IsSameVolume volume.old volume.new }
     ensures script_faults { S.faults script.old ≤ S.faults script.new }
     ensures script_cause { result ≡ Ending.SourceFault → Rose (S.faults script.old) (S.faults script.new) }
-    ensures ends { (m : Moment) → S.tells script.old → Stands B.NorState volume.old.view.geometry volume.old.view.nor.now m → RunEnds B.NorState volume.old.view.geometry volume.old.view.nor.now volume.new.view.nor.now m (S.left script.old) (S.left script.new) result }
-    ensures cuts { (m : Moment) → S.tells script.old → Stands B.NorState volume.old.view.geometry volume.old.view.nor.now m → MayCut B.NorState volume.old.view.geometry volume.old.view.nor.now volume.new.view.nor.now m (calls (S.left script.old)) }
+    ensures ends { (m : Moment) → S.tells script.old → Stands B.NorState volume.old.geometry volume.old.nor.now m → RunEnds B.NorState volume.old.geometry volume.old.nor.now volume.new.nor.now m (S.left script.old) (S.left script.new) result }
+    ensures cuts { (m : Moment) → S.tells script.old → Stands B.NorState volume.old.geometry volume.old.nor.now m → MayCut B.NorState volume.old.geometry volume.old.nor.now volume.new.nor.now m (calls (S.left script.old)) }
 {
     let (taken, scratch) = line.split_at_mut(LINES);
     let mut lines = Lines::new(taken);
@@ -313,17 +291,24 @@ fn settle<B: Board>(volume: &mut Volume<'_, B>, ending: Ending) -> Ending
 
 // Mounts and checks a volume, or says how the run ends there.
 fn begin<B: Board>(volume: &mut Volume<'_, B>) -> Result<(), Ending>
-    requires writable { write_refusal volume.old.view.geometry ≡ None }
+    requires writable { write_refusal volume.old.geometry ≡ None }
     requires stands { has_failed volume.old ≡ false }
     ensures later { IfErr result IsLater }
-    ensures ran { Ran B.NorState volume.old.view.nor.now volume.new.view.nor.now (result_err result) (has_failed volume.new) }
+    ensures ran { Ran B.NorState volume.old.nor.now volume.new.nor.now (result_err result) (has_failed volume.new) }
     ensures no_script { ¬ (result ≡ Err Ending.SourceFault) }
-    ensures same { IsSameView volume.old.view volume.new.view }
-    ensures changes { Changes B.NorState volume.old.view.nor.now volume.new.view.nor.now (ChecksPlain volume.old.view.geometry) }
-    ensures begun { B.tells volume.old.view.nor.now → OnOk result (Begun volume.old.view.geometry (B.bytes volume.old.view.nor.now) (B.bytes volume.new.view.nor.now)) }
-    ensures stops { B.tells volume.old.view.nor.now → IfErr result (StopsCheck B.NorState volume.old.view.geometry volume.old.view.nor.now volume.new.view.nor.now) }
+    ensures same { IsSameVolume volume.old volume.new }
+    ensures changes { Changes B.NorState volume.old.nor.now volume.new.nor.now (ChecksPlain volume.old.geometry) }
+    ensures begun { B.tells volume.old.nor.now → OnOk result (Begun volume.old.geometry (B.bytes volume.old.nor.now) (B.bytes volume.new.nor.now)) }
+    ensures stops { B.tells volume.old.nor.now → IfErr result (StopsCheck B.NorState volume.old.geometry volume.old.nor.now volume.new.nor.now) }
 {
-    Ok(())
+    if let Err(why) = volume.mount() {
+        return Err(mount_ending(why));
+    }
+    match volume.check() {
+        Ok(report) if report.free_blocks < 2 => Err(Ending::Tight(report.free_blocks)),
+        Ok(_) => Ok(()),
+        Err(why) => Err(check_ending(why)),
+    }
 }
 
 // Mounts and checks a volume, and runs a script on it.
@@ -332,16 +317,16 @@ fn run_volume<B: Board, S: Source>(
     script: &mut S,
     line: &mut [u8],
 ) -> Ending
-    requires writable { write_refusal volume.old.view.geometry ≡ None }
+    requires writable { write_refusal volume.old.geometry ≡ None }
     requires room { 12288 ≤ length line.old }
     requires stands { has_failed volume.old ≡ false }
     ensures later { IsLater result }
-    ensures ran { Ran B.NorState volume.old.view.nor.now volume.new.view.nor.now (Some result) (has_failed volume.new) }
-    ensures same { IsSameView volume.old.view volume.new.view }
+    ensures ran { Ran B.NorState volume.old.nor.now volume.new.nor.now (Some result) (has_failed volume.new) }
+    ensures same { IsSameVolume volume.old volume.new }
     ensures script_faults { S.faults script.old ≤ S.faults script.new }
     ensures script_cause { result ≡ Ending.SourceFault → Rose (S.faults script.old) (S.faults script.new) }
-    ensures ends { (slots : ℕ) → S.tells script.old → B.tells volume.old.view.nor.now → RunsTo B.NorState volume.old.view.geometry volume.old.view.nor.now volume.new.view.nor.now (first_moment volume.old.view.geometry slots (B.bytes volume.old.view.nor.now)) (S.left script.old) (S.left script.new) result }
-    ensures cuts { (slots : ℕ) → S.tells script.old → B.tells volume.old.view.nor.now → IsPlain volume.old.view.geometry (B.bytes volume.old.view.nor.now) → HasReserve volume.old.view.geometry (B.bytes volume.old.view.nor.now) → Leaves B.NorState volume.old.view.nor.now volume.new.view.nor.now (CutIn B.NorState volume.old.view.geometry volume.old.view.nor.now (first_moment volume.old.view.geometry slots (B.bytes volume.old.view.nor.now)) (calls (S.left script.old))) }
+    ensures ends { (slots : ℕ) → S.tells script.old → B.tells volume.old.nor.now → RunsTo B.NorState volume.old.geometry volume.old.nor.now volume.new.nor.now (first_moment volume.old.geometry slots (B.bytes volume.old.nor.now)) (S.left script.old) (S.left script.new) result }
+    ensures cuts { (slots : ℕ) → S.tells script.old → B.tells volume.old.nor.now → IsPlain volume.old.geometry (B.bytes volume.old.nor.now) → HasReserve volume.old.geometry (B.bytes volume.old.nor.now) → Leaves B.NorState volume.old.nor.now volume.new.nor.now (CutIn B.NorState volume.old.geometry volume.old.nor.now (first_moment volume.old.geometry slots (B.bytes volume.old.nor.now)) (calls (S.left script.old))) }
 {
     match begin(volume) {
         Err(ending) => ending,
@@ -371,7 +356,7 @@ pub(crate) fn run<'b, B: Board, S: Source>(
     ensures ends { (slots : ℕ) → S.tells script.old → B.tells board.old → RunsTo B.NorState g board.old board.new (first_moment g slots (B.bytes board.old)) (S.left script.old) (S.left script.new) result }
     ensures cuts { (slots : ℕ) → S.tells script.old → B.tells board.old → IsPlain g (B.bytes board.old) → HasReserve g (B.bytes board.old) → Leaves B.NorState board.old board.new (CutIn B.NorState g board.old (first_moment g slots (B.bytes board.old)) (calls (S.left script.old))) }
 {
-    let mut volume = Volume::new(Unchecked::new(g, board, lent));
+    let mut volume = Volume::new(g, board, lent);
     let ending = run_volume(&mut volume, script, line);
     settle(&mut volume, ending)
 }

@@ -10,7 +10,7 @@ turns-init g c = record {
   script = omega arith;
   stands = search rules;
   told = λ tells. tells;
-  turned = λ m tells stands. took_more c.args.volume.now.view.nor.now m (slice_range c.args.lines.now.buf.now c.args.lines.now.start c.args.lines.now.end) (g.S.Source.left c.args.script.now) (slice_range c.args.lines.now.buf.now c.args.lines.now.start c.args.lines.now.end) (g.S.Source.left c.args.script.now) c.args.lines.now.taken c.args.lines.now.taken c.args.lines.now.handed stands refl refl;
+  turned = λ m tells stands. took_more c.args.volume.now.nor.now m (slice_range c.args.lines.now.buf.now c.args.lines.now.start c.args.lines.now.end) (g.S.Source.left c.args.script.now) (slice_range c.args.lines.now.buf.now c.args.lines.now.start c.args.lines.now.end) (g.S.Source.left c.args.script.now) c.args.lines.now.taken c.args.lines.now.taken c.args.lines.now.handed stands refl refl;
 }
 
 pub turns-preserved : goal.turns-preserved
