@@ -1,24 +1,32 @@
 -- From the first image over the check to the end of a run.
-use Rattle.std.proofs.Common.{◌≡◌, ℕ, ◌+◌, ◌≤◌, List, [], ◌++◌, length, refl, sym, ◌∙◌, ap, subst, arith, inl, inr, ⊎_elim, append-nil, None}
+use Rattle.std.proofs.Common.{◌≡◌, ℕ, ◌+◌, ◌<◌, ◌≤◌, List, [], ◌++◌, length, refl, sym, ◌∙◌, ap, subst, arith, inl, inr, ⊎_elim, append-nil, None}
 use Rattle.std.specs.Prelude.{replicate}
 use Rattle.geometry.specs.declared.geometry.Geometry.{Geometry}
 use Rattle.nor_core.specs.declared.state.NorState.{Ghosts as NorOf}
-use Rattle.nor_core.specs.Device.{Leaves, Changes}
-use Rattle.nor_core.proofs.Cuts.{andthen, widened}
+use Rattle.nor_core.specs.Device.{OnlyReads, Leaves, Changes}
+use Rattle.nor_core.proofs.Cuts.{andthen, widened, reads_then}
 use Rattle.table_model.specs.Ask.{Ask}
 use Rattle.table_model.specs.Window.{Moment, settled_at}
 use Rattle.call_script.specs.Lines.{calls}
 use Rattle.image_model.specs.Tables.{table_of}
 use Rattle.image_model.specs.Tidy.{HasReserve}
+use Rattle.image_model.specs.Kinds.{spoiled_blocks}
 use Rattle.image_model.specs.Plain.{IsPlain}
 use Rattle.run_model.specs.Runs.{after_all, replies}
 use Rattle.run_model.specs.Safe.{IsSafe, IsAt}
 use Rattle.run_model.specs.Ran.{Stands, CutIn, MayCut, Reached, SaidPart}
 use Rattle.run_model.proofs.Runs.{is_settled, cut_none}
 use Rattle.run_model.proofs.Chain.{later_reached, later_said, cut_behind}
+use Rattle.vol_mount.specs.declared.lent.MountErr.{MountErr}
+use Rattle.vol_mount.specs.declared.lent.MountErr.TheVariants.{NotAFs as MountNotAFs, DeviceFault as MountFault}
+use Rattle.vol_mount.specs.Mounts.{IsLate}
+use Rattle.volume.specs.declared.checking.CheckErr.{CheckErr}
+use Rattle.volume.specs.declared.checking.CheckErr.TheVariants.{Wrong as CheckWrong, Unbuilt as CheckUnbuilt, DeviceFault as CheckFault}
+use Rattle.volume.specs.Checks.{IsWritable}
+use Rattle.tool_core.specs.Stub.{MountCause}
 use Rattle.tool_core.specs.declared.ending.Ending.{Ending}
 use Rattle.tool_core.specs.declared.ending.Ending.TheVariants.{Done, NotAFs, BadLine, BoardFault, SourceFault, TooLong, Tight, Unbuilt, UnbuiltImage}
-use Rattle.tool_core.specs.Begins.{Checks, ChecksPlain, Begun, StopsCheck}
+use Rattle.tool_core.specs.Begins.{Checks, ChecksPlain, Begun, StopsCheck, mount_ends, check_ends}
 use Rattle.tool_core.specs.Outcomes.{WhyEnds, WhyRan, IsChecked, Went, RunEnds, Came, RunsTo, first_moment}
 
 -- at first nothing waits, and the settled table is that of the image
@@ -61,6 +69,12 @@ why_ran _ g m first image script left front later checked why = (checked, why)
 -- what the check leaves is safe
 safe_check : {g : Geometry} {was image : List ℕ} → Checks g was image → HasReserve g was → IsSafe g was image
 safe_check here reserve = record { sound = here.keeps.sound; reserve = omega (arith, reserve, here.free); plain = λ plain. here.plain }
+
+-- a volume that wasn't mounted
+pub mount_stops : {D : Type 0} {nor : NorOf D} (g : Geometry) (why : MountErr) {old new : D} → IsLate why → OnlyReads nor old new → MountCause g (nor.bytes old) why → StopsCheck nor g old new (mount_ends why)
+mount_stops g (MountNotAFs spoiled) late reads cause = (reads, cause.0, cause.1)
+mount_stops g MountFault late reads cause = tt {0}
+mount_stops g _ late reads cause = absurd late
 
 module _ {D : Type 0} {nor : NorOf D} {g : Geometry} where
   -- a cut in the check
@@ -141,3 +155,13 @@ module _ {D : Type 0} {nor : NorOf D} {g : Geometry} where
   early_ends {old} {mid} slots script left (Tight n) changes tells stops = early_came slots script left (Tight n) changes tells (changes.now tells stops.0).keeps.table (refl, stops.0, stops.1, stops.2)
   early_ends {old} {mid} slots script left BoardFault changes tells stops = inl (refl, record { part = []; rest = replies g (first_moment g slots (nor.bytes old)) (calls script); said = changes.said ∙ sym (append-nil (nor.said old)); whole_is = refl })
   early_ends _ script left _ changes tells stops = absurd stops
+
+  -- a volume that was mounted, and not checked
+  pub check_stops : (why : CheckErr) {old mid new : D} (h : Geometry) → h ≡ g → IsWritable why → OnlyReads nor old mid → spoiled_blocks g (nor.bytes old) < 2 → (why ≡ CheckUnbuilt → OnlyReads nor mid new × (IsPlain h (nor.bytes mid) → ⊥)) → StopsCheck nor g old new (check_ends why)
+  check_stops CheckUnbuilt {old} {mid} {new} h same writable reads few unbuilt = let here = unbuilt refl in (reads_then reads here.0, few, λ plain. here.1 (subst (λ (l : List ℕ). IsPlain h l) (sym reads.bytes) (subst (λ (k : Geometry). IsPlain k (nor.bytes old)) (sym same) plain)))
+  check_stops CheckFault h same writable reads few unbuilt = tt {0}
+  check_stops (CheckWrong why) h same writable reads few unbuilt = absurd writable
+
+  -- the same cuts by other names
+  pub same_cuts : {old new old' new' : D} (h : Geometry) (slots : ℕ) (asks : List Ask) → old ≡ old' → new ≡ new' → g ≡ h → (IsPlain h (nor.bytes old') → HasReserve h (nor.bytes old') → Leaves nor old' new' (CutIn nor h old' (first_moment h slots (nor.bytes old')) asks)) → IsPlain g (nor.bytes old) → HasReserve g (nor.bytes old) → Leaves nor old new (CutIn nor g old (first_moment g slots (nor.bytes old)) asks)
+  same_cuts h slots asks same_old same_new same_g cuts = rw same_old (rw same_new (rw same_g cuts))
