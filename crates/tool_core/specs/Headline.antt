@@ -10,9 +10,9 @@ use Rattle.image_model.specs.Tables.{table_of}
 use Rattle.image_model.specs.Tidy.{free_blocks, HasReserve}
 use Rattle.image_model.specs.Kinds.{spoiled_blocks}
 use Rattle.image_model.specs.Plain.{IsPlain}
-use Rattle.run_model.specs.Runs.{after_all, replies}
+use Rattle.run_model.specs.Runs.{after_all, replies, IsCutAfter}
 use Rattle.run_model.specs.Safe.{IsSafe}
-use Rattle.run_model.specs.Ran.{CutIn, SaidPart}
+use Rattle.run_model.specs.Ran.{SaidPart}
 use Rattle.tool_core.specs.declared.words.Shape.{Shape}
 use Rattle.tool_core.specs.declared.plan.Lengths.{Lengths}
 use Rattle.tool_core.specs.declared.ending.Ending.{Ending}
@@ -63,6 +63,13 @@ pub record RanWhole {D : Type 0} (nor : NorOf D) (g : Geometry) (old new : D) (m
   pub said : nor.said new ≡ nor.said old ++ replies g m (calls script)
   pub table : table_of g (nor.bytes new) ≡ (after_all g m (calls script)).state.table
 
+-- A cut in the calls: the image may follow the first one, and the replies said and its table are those of a cut in the calls.
+pub record CallCut {D : Type 0} (nor : NorOf D) (g : Geometry) (old : D) (m : Moment) (asks : List Ask) (image : List ℕ) (count : ℕ) : Type 0 where
+  pub said : List ℕ
+  pub count_is : count ≡ length (nor.said old) + length said
+  pub safe : IsSafe g (nor.bytes old) image
+  pub cut : IsCutAfter g m asks said (table_of g image)
+
 -- A cut in the closing line: the replies to some first calls were said and then a front of that line, which the status names, and
 -- the table is that of the state after these calls.
 pub record ClosingCut {D : Type 0} (nor : NorOf D) (g : Geometry) (old : D) (m : Moment) (script left : List ℕ) (status : ℕ) (image : List ℕ) (count : ℕ) : Type 0 where
@@ -82,7 +89,7 @@ pub record ClosingCut {D : Type 0} (nor : NorOf D) (g : Geometry) (old : D) (m :
 
 -- what a cut in a run may leave: an image and a count of bytes said of a cut in its calls, or in its closing line
 abbrev pub RunCut : {D : Type 0} (nor : NorOf D) (g : Geometry) (old : D) (m : Moment) (script left : List ℕ) (status : ℕ) (image : List ℕ) (count : ℕ) → Type 0
-RunCut nor g old m script left status image count = CutIn nor g old m (calls script) image count ⊎ ClosingCut nor g old m script left status image count
+RunCut nor g old m script left status image count = CallCut nor g old m (calls script) image count ⊎ ClosingCut nor g old m script left status image count
 
 -- The statuses of a first image, where no fault was counted: 3 exactly where two or more blocks lack their magic; 16 where fewer
 -- lack it and the image isn't plain; 14 exactly where fewer than two blocks are free in the end; never 21.
