@@ -1,7 +1,9 @@
-ghost use Rattle.std.specs.Prelude.{◌≡◌, ◌≢◌, ◌+◌, ◌<◌, ◌≤◌, length, All, OnErr, IsErrOf, true, ◌⊎◌};
+ghost use Rattle.std.specs.Prelude.{◌≡◌, ◌≢◌, ◌+◌, ◌<◌, ◌≤◌, length, All, OnOk, OnErr, IfErr, IsErrOf, true};
 ghost use Rattle.nor_core.specs.Count.{Rose};
+ghost use Rattle.nor_core.specs.Device.{Changes};
 ghost use Rattle.flash_view.specs.Places.{IsEntryPage};
 ghost use Rattle.flash_view.specs.Same.{IsSameView};
+ghost use Rattle.file_write.specs.Creates.{CanCreate, CreateCut, Created, CanPut};
 
 use flash_view::{Kind, StepErr, View};
 use free_search::free_page;
@@ -39,6 +41,8 @@ fn put_header_page<N: Nor>(
     ensures faults { N.faults v.old.nor.now ≤ N.faults v.new.nor.now }
     ensures same { IsSameView v.old v.new }
     ensures wrote { v.new.wrote ≡ true }
+    ensures changes { Changes N.NorState v.old.nor.now v.new.nor.now (λ was image. CanPut v.old.geometry was page id name.now → CreateCut v.old.geometry was id name.now image) }
+    ensures done { N.tells v.old.nor.now → CanPut v.old.geometry (N.bytes v.old.nor.now) page id name.now → OnOk result (Created v.old.geometry (N.bytes v.old.nor.now) id name.now (N.bytes v.new.nor.now)) }
 {
     let g = v.geometry;
     let len = g.page() as usize;
@@ -48,9 +52,9 @@ fn put_header_page<N: Nor>(
     finish(v, page)
 }
 
-/// Makes an empty file of that name under that id, in one page step. The image is to be tidy, with a free
-/// index page that leaves two blocks free; the id and the name are to be unused, the name 1 to 31 bytes
-/// without a zero.
+/// Makes an empty file of that name under that id, in one page step: at a cut it is there whole or not at
+/// all. The image is to be tidy with its reserve, with an index page to be had; the id and the name are to be
+/// unused, the name 1 to 31 bytes without a zero. Where that holds, a fault of the device is the one error.
 pub fn create_step<N: Nor>(v: &mut View<'_, N>, id: u16, name: &[u8]) -> Result<(), StepErr>
     requires id { (1 ≤ id) × (id ≤ 0x7FFE) }
     requires name { (1 ≤ length name.now) × (length name.now ≤ 31) }
@@ -58,6 +62,9 @@ pub fn create_step<N: Nor>(v: &mut View<'_, N>, id: u16, name: &[u8]) -> Result<
     ensures cause { IsErrOf result StepErr.DeviceFault → Rose (N.faults v.old.nor.now) (N.faults v.new.nor.now) }
     ensures faults { N.faults v.old.nor.now ≤ N.faults v.new.nor.now }
     ensures same { IsSameView v.old v.new }
+    ensures changes { Changes N.NorState v.old.nor.now v.new.nor.now (λ was image. CanCreate v.old.geometry was id name.now → CreateCut v.old.geometry was id name.now image) }
+    ensures done { N.tells v.old.nor.now → CanCreate v.old.geometry (N.bytes v.old.nor.now) id name.now → OnOk result (Created v.old.geometry (N.bytes v.old.nor.now) id name.now (N.bytes v.new.nor.now)) }
+    ensures undamaged { N.tells v.old.nor.now → CanCreate v.old.geometry (N.bytes v.old.nor.now) id name.now → IfErr result (λ why. why ≡ StepErr.DeviceFault) }
 {
     match free_page(v, Kind::Index, 2, None) {
         Err(Failed) => Err(StepErr::DeviceFault),

@@ -125,17 +125,17 @@ had_page test a (suc n) e = had_step test a n (test a) refl (had_page test (a + 
 
 -- ---- the ids that have header pages, and those of pages
 
-heads : (g : Geometry) (image : List ℕ) (q id : ℕ) → q < page_count g → headed (live_at g image q) ≡ Some id → has_header g image id ≡ true
+pub heads : (g : Geometry) (image : List ℕ) (q id : ℕ) → q < page_count g → headed (live_at g image q) ≡ Some id → has_header g image id ≡ true
 unfolding has_header index_page own
 heads g image q id low e = has_page (λ p. is_index (own (live_at g image) id p) 0) 0 (page_count g) q (omega arith) (omega arith) (id_head (live_at g image q) id e)
 
 -- a page of an id that has a header page
-record Headed (g : Geometry) (image : List ℕ) (id : ℕ) : Type 0 where
-  page : ℕ
-  below : page < page_count g
-  is : headed (live_at g image page) ≡ Some id
+pub record Headed (g : Geometry) (image : List ℕ) (id : ℕ) : Type 0 where
+  pub page : ℕ
+  pub below : page < page_count g
+  pub is : headed (live_at g image page) ≡ Some id
 
-headed_of : (g : Geometry) (image : List ℕ) (id : ℕ) → has_header g image id ≡ true → Headed g image id
+pub headed_of : (g : Geometry) (image : List ℕ) (id : ℕ) → has_header g image id ≡ true → Headed g image id
 unfolding has_header index_page own
 headed_of g image id e =
     let w = had_page (λ p. is_index (own (live_at g image) id p) 0) 0 (page_count g) e in

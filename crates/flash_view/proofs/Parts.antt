@@ -5,6 +5,7 @@ use Rattle.image_model.specs.Headers.{word_at}
 use Rattle.image_model.specs.Places.{page_of}
 use Rattle.image_model.specs.Headers.{is_finished as is_finished_page}
 use Rattle.page_layout.specs.Layout.{header_at, is_finished}
+use Rattle.flash_view.specs.Places.{IsWordAt}
 
 -- a byte of a part
 pub part_byte : (a b i : ℕ) (xs : List ℕ) → a + i < b → slice_index (slice_range xs a b) i ≡ slice_index xs (a + i)
@@ -16,6 +17,13 @@ word_read at bytes slot is =
     let low : slice_index (slice_range bytes at (at + 2)) 0 ≡ slice_index bytes at = part_byte at (at + 2) 0 bytes (omega arith) ∙ rw (add-zero at) refl in
     let high : slice_index (slice_range bytes at (at + 2)) 1 ≡ slice_index bytes (at + 1) = part_byte at (at + 2) 1 bytes (omega arith) in
     rw (is, low, high) refl
+
+-- they are below 256 where those that were read are
+pub word_small : (at : ℕ) (bytes slot : List ℕ) → slot ≡ slice_range bytes at (at + 2) → ((k : ℕ) → slice_index slot k < 256) → IsWordAt bytes at
+word_small at bytes slot is small =
+    let low : slice_index (slice_range bytes at (at + 2)) 0 ≡ slice_index bytes at = part_byte at (at + 2) 0 bytes (omega arith) ∙ rw (add-zero at) refl in
+    let high : slice_index (slice_range bytes at (at + 2)) 1 ≡ slice_index bytes (at + 1) = part_byte at (at + 2) 1 bytes (omega arith) in
+    record { low = rw (is, low) at (small 0); high = rw (is, high) at (small 1) }
 
 -- the first five bytes of a page, read by themselves, are its header
 pub header_read : (g : Geometry) (page : ℕ) (bytes head : List ℕ) → head ≡ slice_range bytes (page * g.page) (page * g.page + 5) → header_at head ≡ header_at (page_of g bytes page)

@@ -1,5 +1,5 @@
 -- Where pages and entries stand on the device.
-use Rattle.std.specs.Prelude.{ℕ, ◌+◌, ◌-◌, ◌*◌, ◌/◌, ◌%◌, ◌<◌, ◌≤◌}
+use Rattle.std.specs.Prelude.{ℕ, ◌+◌, ◌-◌, ◌*◌, ◌/◌, ◌%◌, ◌<◌, ◌≤◌, List, slice_index}
 use Rattle.geometry.specs.declared.geometry.Geometry.{Geometry}
 use Rattle.geometry.specs.Numbers.{per_block, lookups, page_count, slots}
 
@@ -33,3 +33,8 @@ magic_start g block = slot_start g block (slots g - 2)
 
 abbrev pub count_start : Geometry → ℕ → ℕ
 count_start g block = slot_start g block (slots g - 1)
+
+-- the two bytes at a place are below 256: one word alone stands for them
+pub record IsWordAt (image : List ℕ) (at : ℕ) : Type 0 where
+  pub low : slice_index image at < 256
+  pub high : slice_index image (at + 1) < 256

@@ -58,6 +58,7 @@ impl<'b, N: Nor> View<'b, N> {
         ensures cause { OnErr result (Rose (N.faults self.old.nor.now) (N.faults self.new.nor.now)) }
         ensures looks { OnlyLooks self.old self.new }
         ensures told { N.tells self.old.nor.now → IfOk result (λ head. head ≡ option_map header_at (live_at self.old.geometry (N.bytes self.old.nor.now) page)) }
+        ensures work { self.new.work.now ≡ self.old.work.now }
     {
         let g = self.geometry;
         if !is_entry_page(&g, page) {
@@ -81,6 +82,7 @@ impl<'b, N: Nor> View<'b, N> {
         ensures cause { OnErr result (Rose (N.faults self.old.nor.now) (N.faults self.new.nor.now)) }
         ensures looks { OnlyLooks self.old self.new }
         ensures told { N.tells self.old.nor.now → IfOk result (λ live. live ≡ the_live self.old.geometry (N.bytes self.old.nor.now) page) }
+        ensures work { self.new.work.now ≡ self.old.work.now }
     {
         Ok(self.live_header(page)?.is_some())
     }
@@ -160,13 +162,14 @@ impl<'b, N: Nor> View<'b, N> {
         })
     }
 
-    // The id of a live header page.
+    /// The id of the object whose header page a page is, if it is a live one.
     #[tactic(auto, using(crate::proofs::Names::headed_by, crate::proofs::Names::unheaded_by))]
-    fn header_id(&mut self, page: u16) -> Result<Option<u16>, Failed>
+    pub fn header_id(&mut self, page: u16) -> Result<Option<u16>, Failed>
         requires { page < page_count self.old.geometry }
         ensures cause { OnErr result (Rose (N.faults self.old.nor.now) (N.faults self.new.nor.now)) }
         ensures looks { OnlyLooks self.old self.new }
         ensures told { N.tells self.old.nor.now → IfOk result (λ id. id ≡ headed (live_at self.old.geometry (N.bytes self.old.nor.now) page)) }
+        ensures work { self.new.work.now ≡ self.old.work.now }
     {
         Ok(match self.live_header(page)? {
             Some(head) => headed_id(head),

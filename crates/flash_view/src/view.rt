@@ -30,16 +30,16 @@ pub struct View<'b, N: Nor> {
 }
 
 impl<'b, N: Nor> View<'b, N> {
-    ghost use Rattle.std.specs.Prelude.{◌≡◌, ◌+◌, ◌*◌, ◌/◌, ◌<◌, ◌≤◌, length, take, slice_range, OnOk, OnErr, IfOk, true, false};
+    ghost use Rattle.std.specs.Prelude.{◌≡◌, ℕ, ◌+◌, ◌*◌, ◌/◌, ◌<◌, ◌≤◌, length, take, slice_index, slice_range, OnOk, OnErr, IfOk, true, false};
     ghost use Rattle.std.specs.Option.{ForSome};
     ghost use Rattle.std.specs.Int.{to_le_bytes, w16};
     ghost use Rattle.geometry.specs.Numbers.{work_need, cache_need, page_count, right_magic};
     ghost use Rattle.nor_core.specs.Count.{Rose};
     ghost use Rattle.nor_core.specs.Flash.{HalfProgrammed, programmed};
     ghost use Rattle.nor_core.specs.Device.{Changes, InErase};
-    ghost use Rattle.flash_view.specs.Places.{IsEntryPage, page_start as the_page_start, entry_start as the_entry_start};
+    ghost use Rattle.flash_view.specs.Places.{IsEntryPage, IsWordAt, page_start as the_page_start, entry_start as the_entry_start};
     ghost use Rattle.image_model.specs.Headers.{word_at};
-    ghost use Rattle.image_model.specs.Places.{page_of, entry_of as the_entry_of, has_magic as the_magic, erase_count as the_erase_count};
+    ghost use Rattle.image_model.specs.Places.{page_of, entry_at, entry_of as the_entry_of, has_magic as the_magic, erase_count as the_erase_count};
     ghost use Rattle.image_model.specs.Tidy.{is_erased as the_erased};
     ghost use Rattle.page_layout.specs.Layout.{header_at};
     ghost use Rattle.flash_view.specs.Same.{IsSameView, OnlyLooks};
@@ -85,17 +85,21 @@ impl<'b, N: Nor> View<'b, N> {
         ensures cause { OnErr result (Rose (N.faults self.old.nor.now) (N.faults self.new.nor.now)) }
         ensures looks { OnlyLooks self.old self.new }
         ensures told { N.tells self.old.nor.now → OnOk result (into.new ≡ slice_range (N.bytes self.old.nor.now) at (at + length into.old)) }
+        ensures work { self.new.work.now ≡ self.old.work.now }
+        ensures small { (k : ℕ) → slice_index into.new k < 256 }
     {
         self.nor.read(at, into)
     }
 
     /// Reads a slot of two bytes.
-    #[tactic(auto, using(crate::proofs::Parts::word_read))]
+    #[tactic(auto, using(crate::proofs::Parts::word_read, crate::proofs::Parts::word_small))]
     fn word(&mut self, at: u32) -> Result<u16, Failed>
         requires { at + 2 ≤ self.old.geometry.blocks * self.old.geometry.block }
         ensures cause { OnErr result (Rose (N.faults self.old.nor.now) (N.faults self.new.nor.now)) }
         ensures looks { OnlyLooks self.old self.new }
         ensures told { N.tells self.old.nor.now → IfOk result (λ word. word ≡ word_at (N.bytes self.old.nor.now) at) }
+        ensures work { self.new.work.now ≡ self.old.work.now }
+        ensures bytes { N.tells self.old.nor.now → OnOk result (IsWordAt (N.bytes self.old.nor.now) at) }
     {
         let mut slot = [0u8; 2];
         self.read(at, &mut slot)?;
@@ -109,6 +113,8 @@ impl<'b, N: Nor> View<'b, N> {
         ensures cause { OnErr result (Rose (N.faults self.old.nor.now) (N.faults self.new.nor.now)) }
         ensures looks { OnlyLooks self.old self.new }
         ensures told { N.tells self.old.nor.now → IfOk result (λ entry. entry ≡ the_entry_of self.old.geometry (N.bytes self.old.nor.now) page) }
+        ensures work { self.new.work.now ≡ self.old.work.now }
+        ensures bytes { N.tells self.old.nor.now → OnOk result (IsWordAt (N.bytes self.old.nor.now) (entry_at self.old.geometry page)) }
     {
         let at = entry_start(&self.geometry, page);
         self.word(at)
@@ -121,6 +127,7 @@ impl<'b, N: Nor> View<'b, N> {
         ensures cause { OnErr result (Rose (N.faults self.old.nor.now) (N.faults self.new.nor.now)) }
         ensures looks { OnlyLooks self.old self.new }
         ensures told { N.tells self.old.nor.now → IfOk result (λ has. has ≡ the_magic self.old.geometry (N.bytes self.old.nor.now) block) }
+        ensures work { self.new.work.now ≡ self.old.work.now }
     {
         let at = magic_start(&self.geometry, block);
         let magic = self.geometry.magic_of(u32::from(block));
@@ -134,6 +141,7 @@ impl<'b, N: Nor> View<'b, N> {
         ensures cause { OnErr result (Rose (N.faults self.old.nor.now) (N.faults self.new.nor.now)) }
         ensures looks { OnlyLooks self.old self.new }
         ensures told { N.tells self.old.nor.now → IfOk result (λ count. count ≡ the_erase_count self.old.geometry (N.bytes self.old.nor.now) block) }
+        ensures work { self.new.work.now ≡ self.old.work.now }
     {
         let at = count_start(&self.geometry, block);
         Ok(read_count(self.word(at)?))
@@ -146,6 +154,7 @@ impl<'b, N: Nor> View<'b, N> {
         ensures cause { OnErr result (Rose (N.faults self.old.nor.now) (N.faults self.new.nor.now)) }
         ensures looks { OnlyLooks self.old self.new }
         ensures told { N.tells self.old.nor.now → IfOk result (λ head. head ≡ header_at (page_of self.old.geometry (N.bytes self.old.nor.now) page)) }
+        ensures work { self.new.work.now ≡ self.old.work.now }
     {
         let at = page_start(&self.geometry, page);
         let mut head = [0u8; 5];

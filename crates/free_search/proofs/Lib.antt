@@ -1,0 +1,6 @@
+pub mod Scans
+pub mod Counting
+pub mod FreePages
+pub mod Worn
+pub mod Had
+pub mod Bits

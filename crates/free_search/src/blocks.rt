@@ -1,8 +1,10 @@
 ghost use Rattle.std.specs.Prelude.{◌≡◌, ◌+◌, ◌<◌, ◌≤◌, OnErr, IfOk};
+ghost use Rattle.image_model.specs.Tidy.{is_free_entry, is_free_block as the_free_block, free_blocks as the_free_blocks};
 ghost use Rattle.geometry.specs.Numbers.{entries};
 ghost use Rattle.nor_core.specs.Count.{Rose};
 ghost use Rattle.flash_view.specs.Places.{IsEntryPage};
 ghost use Rattle.flash_view.specs.Same.{OnlyLooks};
+ghost use Rattle.free_search.specs.Counts.{the_sort, total_of, one_more, AreCounts};
 
 use flash_view::{View, entry_page};
 use nor_core::{Failed, Nor, NorState};
@@ -23,11 +25,16 @@ pub struct BlockCounts {
     pub erases: u16,
 }
 
-// What an entry counts as.
-enum Sort {
+/// What an entry of a block counts as.
+#[derive(Clone, Copy, Debug, PartialEq, Eq)]
+pub enum Sort {
+    /// Its page is a live index page.
     Index,
+    /// Its page is a live data page.
     Data,
+    /// It isn't free, and its page isn't live.
     Deleted,
+    /// It is 0xFFFF.
     Free,
 }
 
@@ -35,6 +42,7 @@ fn sort_of<N: Nor>(v: &mut View<'_, N>, page: u16) -> Result<Sort, Failed>
     requires { IsEntryPage v.old.geometry page }
     ensures cause { OnErr result (Rose (N.faults v.old.nor.now) (N.faults v.new.nor.now)) }
     ensures looks { OnlyLooks v.old v.new }
+    ensures told { N.tells v.old.nor.now → IfOk result (λ sort. sort ≡ the_sort v.old.geometry (N.bytes v.old.nor.now) page) }
 {
     if v.entry(page)? == FREE {
         return Ok(Sort::Free);
@@ -46,11 +54,37 @@ fn sort_of<N: Nor>(v: &mut View<'_, N>, page: u16) -> Result<Sort, Failed>
     })
 }
 
+// The counts with one entry more.
+fn with_one(counts: BlockCounts, sort: Sort) -> BlockCounts
+    requires { total_of counts < 65535 }
+    ensures { result ≡ one_more counts sort }
+{
+    match sort {
+        Sort::Index => BlockCounts {
+            index_live: counts.index_live + 1,
+            ..counts
+        },
+        Sort::Data => BlockCounts {
+            data_live: counts.data_live + 1,
+            ..counts
+        },
+        Sort::Deleted => BlockCounts {
+            deleted: counts.deleted + 1,
+            ..counts
+        },
+        Sort::Free => BlockCounts {
+            free: counts.free + 1,
+            ..counts
+        },
+    }
+}
+
 /// The counts of a block's entries, and its erase count.
 pub fn counts<N: Nor>(v: &mut View<'_, N>, block: u16) -> Result<BlockCounts, Failed>
     requires { block < v.old.geometry.blocks }
     ensures cause { OnErr result (Rose (N.faults v.old.nor.now) (N.faults v.new.nor.now)) }
     ensures looks { OnlyLooks v.old v.new }
+    ensures told { N.tells v.old.nor.now → IfOk result (λ counts. AreCounts v.old.geometry (N.bytes v.old.nor.now) block counts) }
 {
     let g = v.geometry;
     let mut counts = BlockCounts {
@@ -61,12 +95,8 @@ pub fn counts<N: Nor>(v: &mut View<'_, N>, block: u16) -> Result<BlockCounts, Fa
         erases: v.erase_count(block)?,
     };
     for i in 0..g.entries() {
-        match sort_of(v, entry_page(&g, block, i))? {
-            Sort::Index => counts.index_live += 1,
-            Sort::Data => counts.data_live += 1,
-            Sort::Deleted => counts.deleted += 1,
-            Sort::Free => counts.free += 1,
-        }
+        let sort = sort_of(v, entry_page(&g, block, i))?;
+        counts = with_one(counts, sort);
     }
     Ok(counts)
 }
@@ -76,6 +106,7 @@ fn is_unused<N: Nor>(v: &mut View<'_, N>, page: u16) -> Result<bool, Failed>
     requires { IsEntryPage v.old.geometry page }
     ensures cause { OnErr result (Rose (N.faults v.old.nor.now) (N.faults v.new.nor.now)) }
     ensures looks { OnlyLooks v.old v.new }
+    ensures told { N.tells v.old.nor.now → IfOk result (λ unused. unused ≡ is_free_entry v.old.geometry (N.bytes v.old.nor.now) page) }
 {
     Ok(v.entry(page)? == FREE && v.is_blank(page)?)
 }
@@ -85,6 +116,7 @@ pub fn is_free_block<N: Nor>(v: &mut View<'_, N>, block: u16) -> Result<bool, Fa
     requires { block < v.old.geometry.blocks }
     ensures cause { OnErr result (Rose (N.faults v.old.nor.now) (N.faults v.new.nor.now)) }
     ensures looks { OnlyLooks v.old v.new }
+    ensures told { N.tells v.old.nor.now → IfOk result (λ free. free ≡ the_free_block v.old.geometry (N.bytes v.old.nor.now) block) }
 {
     let g = v.geometry;
     if !v.has_magic(block)? {
@@ -103,6 +135,7 @@ pub fn free_blocks<N: Nor>(v: &mut View<'_, N>) -> Result<u32, Failed>
     ensures cause { OnErr result (Rose (N.faults v.old.nor.now) (N.faults v.new.nor.now)) }
     ensures looks { OnlyLooks v.old v.new }
     ensures most { IfOk result (λ n. n ≤ v.old.geometry.blocks) }
+    ensures told { N.tells v.old.nor.now → IfOk result (λ n. n ≡ the_free_blocks v.old.geometry (N.bytes v.old.nor.now)) }
 {
     let mut free = 0;
     for block in 0..v.geometry.blocks() as u16 {

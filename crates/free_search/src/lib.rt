@@ -5,6 +5,6 @@ mod blocks;
 mod ids;
 mod pages;
 
-pub use blocks::{BlockCounts, counts, free_blocks, is_free_block};
+pub use blocks::{BlockCounts, Sort, counts, free_blocks, is_free_block};
 pub use ids::free_id;
-pub use pages::free_page;
+pub use pages::{free_page, index_pages_had};

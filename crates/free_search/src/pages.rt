@@ -2,6 +2,10 @@ ghost use Rattle.std.specs.Prelude.{◌≡◌, ◌<◌, OnErr, IfOk, IfSome};
 ghost use Rattle.nor_core.specs.Count.{Rose};
 ghost use Rattle.flash_view.specs.Places.{IsEntryPage};
 ghost use Rattle.flash_view.specs.Same.{OnlyLooks};
+ghost use Rattle.image_model.specs.Tidy.{IsTidy, is_free_block as the_free_block};
+ghost use Rattle.free_search.specs.Counts.{the_takes};
+ghost use Rattle.geometry.specs.declared.geometry.Geometry.{Geometry};
+ghost use Rattle.free_search.specs.Free.{FreePage, OpenIf, OpenBlock, FreeEntry, FreeBlock, IsWorn, IndexPageHad};
 
 use crate::{BlockCounts, counts, free_blocks, is_free_block};
 use flash_view::{Kind, View, entry_page};
@@ -10,7 +14,9 @@ use page_layout::FREE;
 
 // Whether pages of a kind go into a block in use: index pages where no live data page is and the block isn't
 // empty, data pages beside live data pages alone.
-fn takes(counts: &BlockCounts, kind: Kind, entries: u32) -> bool {
+fn takes(counts: &BlockCounts, kind: Kind, entries: u32) -> bool
+    ensures { result ≡ the_takes counts.now kind entries }
+{
     match kind {
         Kind::Index => {
             counts.data_live == 0 && counts.free > 0 && u32::from(counts.free) < entries
@@ -25,6 +31,7 @@ fn first_free<N: Nor>(v: &mut View<'_, N>, block: u16) -> Result<Option<u16>, Fa
     ensures cause { OnErr result (Rose (N.faults v.old.nor.now) (N.faults v.new.nor.now)) }
     ensures looks { OnlyLooks v.old v.new }
     ensures entry { IfOk result (λ page. IfSome page (λ p. IsEntryPage v.old.geometry p)) }
+    ensures told { N.tells v.old.nor.now → IsTidy v.old.geometry (N.bytes v.old.nor.now) → IfOk result (λ found. FreeEntry v.old.geometry (N.bytes v.old.nor.now) block found) }
 {
     let g = v.geometry;
     for i in 0..g.entries() {
@@ -41,6 +48,7 @@ fn is_open<N: Nor>(v: &mut View<'_, N>, block: u16, kind: Kind) -> Result<bool, 
     requires { block < v.old.geometry.blocks }
     ensures cause { OnErr result (Rose (N.faults v.old.nor.now) (N.faults v.new.nor.now)) }
     ensures looks { OnlyLooks v.old v.new }
+    ensures told { N.tells v.old.nor.now → IsTidy v.old.geometry (N.bytes v.old.nor.now) → IfOk result (λ takes_one. OpenIf v.old.geometry (N.bytes v.old.nor.now) kind block takes_one) }
 {
     if !v.has_magic(block)? {
         return Ok(false);
@@ -58,6 +66,7 @@ fn open_block<N: Nor>(
     ensures cause { OnErr result (Rose (N.faults v.old.nor.now) (N.faults v.new.nor.now)) }
     ensures looks { OnlyLooks v.old v.new }
     ensures below { IfOk result (λ found. IfSome found (λ block. block < v.old.geometry.blocks)) }
+    ensures told { N.tells v.old.nor.now → IsTidy v.old.geometry (N.bytes v.old.nor.now) → IfOk result (λ found. OpenBlock v.old.geometry (N.bytes v.old.nor.now) kind not_in found) }
 {
     for block in 0..v.geometry.blocks() as u16 {
         if Some(block) != not_in && is_open(v, block, kind)? {
@@ -69,9 +78,9 @@ fn open_block<N: Nor>(
 
 // A block and its erase count.
 #[derive(Clone, Copy)]
-struct Worn {
-    block: u16,
-    erases: u16,
+pub(crate) struct Worn {
+    pub(crate) block: u16,
+    pub(crate) erases: u16,
 }
 
 // The less worn of the block so far and this one, if that is free; the earlier one among equals.
@@ -85,6 +94,7 @@ fn less_worn<N: Nor>(
     ensures cause { OnErr result (Rose (N.faults v.old.nor.now) (N.faults v.new.nor.now)) }
     ensures looks { OnlyLooks v.old v.new }
     ensures below { IfOk result (λ found. IfSome found (λ worn. worn.block < v.old.geometry.blocks)) }
+    ensures told { N.tells v.old.nor.now → IfOk result (λ found. IsWorn v.old.geometry (N.bytes v.old.nor.now) least block found) }
 {
     if !is_free_block(v, block)? {
         return Ok(least);
@@ -101,6 +111,7 @@ fn least_worn<N: Nor>(v: &mut View<'_, N>, not_in: Option<u16>) -> Result<Option
     ensures cause { OnErr result (Rose (N.faults v.old.nor.now) (N.faults v.new.nor.now)) }
     ensures looks { OnlyLooks v.old v.new }
     ensures below { IfOk result (λ found. IfSome found (λ block. block < v.old.geometry.blocks)) }
+    ensures told { N.tells v.old.nor.now → IsTidy v.old.geometry (N.bytes v.old.nor.now) → IfOk result (λ found. FreeBlock v.old.geometry (N.bytes v.old.nor.now) not_in found) }
 {
     let mut least = None;
     for block in 0..v.geometry.blocks() as u16 {
@@ -123,6 +134,7 @@ pub fn free_page<N: Nor>(
     ensures cause { OnErr result (Rose (N.faults v.old.nor.now) (N.faults v.new.nor.now)) }
     ensures looks { OnlyLooks v.old v.new }
     ensures entry { IfOk result (λ page. IfSome page (λ p. IsEntryPage v.old.geometry p)) }
+    ensures told { N.tells v.old.nor.now → IsTidy v.old.geometry (N.bytes v.old.nor.now) → IfOk result (λ found. FreePage v.old.geometry (N.bytes v.old.nor.now) kind keep not_in found) }
 {
     if let Some(block) = open_block(v, kind, not_in)? {
         return first_free(v, block);
@@ -135,3 +147,9 @@ pub fn free_page<N: Nor>(
         None => Ok(None),
     }
 }
+
+/// A page for an index page of a file call is found exactly where one is had.
+#[tactic(auto, using(crate::proofs::Had::page_had))]
+pub fn index_pages_had()
+    ensures { (g : Geometry) → IndexPageHad g }
+{}

@@ -1,8 +1,8 @@
 -- Bytes past the end of a file.
-use Rattle.std.proofs.Common.{◌≡◌, ◌≢◌, ℕ, zero, suc, ◌+◌, ◌-◌, ◌*◌, ◌%◌, ◌<◌, ◌≤◌, ◌⊎◌, List, ◌++◌, length, take, slice_index, slice_range, Bool, true, false, not, ◌==◌, ◌&&◌, Option, Some, None, Result, ap, refl, sym, ◌∙◌, arith, ⊎_elim, inl, inr, subst, min, length-take, length-drop, get_or-take, get_or-drop}
+use Rattle.std.proofs.Common.{◌≡◌, ◌≢◌, ℕ, zero, suc, ◌+◌, ◌-◌, ◌*◌, ◌%◌, ◌<◌, ◌≤◌, ◌⊎◌, List, ◌++◌, length, take, slice_index, slice_range, Bool, true, false, not, ◌==◌, ◌&&◌, ◌||◌, Option, Some, None, Result, ap, refl, sym, ◌∙◌, arith, ⊎_elim, inl, inr, subst, min, length-take, length-drop, get_or-take, get_or-drop}
 use Rattle.std.proofs.Math.Path.{fun_ext}
-use Rattle.std.specs.Prelude.{find, option_and_then, is_none}
-use Rattle.std.specs.List.{range_with_len, flat_map}
+use Rattle.std.specs.Prelude.{find, option_and_then, is_none, is_some}
+use Rattle.std.specs.List.{range_with_len, flat_map, list_any}
 use Rattle.std.proofs.lemmas.Bool.{cases_lt, cases_eq, cases_Bool, ne_eqb, eq-eqb, eqb-true, and_parts}
 use Rattle.std.proofs.lemmas.List.{ext_get_or, take-append-le, take_all}
 use Rattle.std.proofs.Math.Seq.{take-append-add}
@@ -11,16 +11,17 @@ use Rattle.geometry.specs.declared.geometry.Geometry.{Geometry}
 use Rattle.image_model.specs.Within.{sizes}
 use Rattle.image_model.specs.declared.damage.Damage.{Damage}
 use Rattle.image_model.specs.Volume.{page_count}
-use Rattle.table_model.specs.Room.{data_pages}
+use Rattle.table_model.specs.Room.{data_pages, index_pages}
 use Rattle.geometry.specs.Numbers.{body}
 use Rattle.nor_core.specs.Flash.{SameOutside}
 use Rattle.image_model.specs.Within.{Sizes, page_length}
 use Rattle.image_model.specs.Live.{live_at, Live, own}
 use Rattle.image_model.specs.Headers.{is_finished, obj_id, span_of, names_index, size_of, name_of}
-use Rattle.image_model.specs.Places.{page_of, is_entry_page, block_of, IsImage}
+use Rattle.image_model.specs.Places.{page_of, block_of, IsImage}
 use Rattle.table_model.specs.Table.{File}
 use Rattle.image_model.specs.Tables.{Found, has_of, records, table_of, damaged_of, damages}
 use Rattle.image_model.specs.Files.{is_index, index_page, further, entry_number, data_of, data_page, span_bytes, first_missing, judged, judged_by, found}
+use Rattle.image_model.specs.Tidy.{is_number, serves}
 use Rattle.image_laws.specs.Programs.{AppendingKeeps}
 use Rattle.image_laws.proofs.Placing.{page_byte, wider}
 use Rattle.image_laws.proofs.Frames.{LivePage, live_parts, live_from, live-page_other, magic-same_page, entry-same_page}
@@ -213,6 +214,22 @@ module _ (g : Geometry) (geo : Sizes g) (p : ℕ) (x y : List ℕ) (pages now : 
   unfolding judged
   judged-alters id = rw missing-altered (named_at id (first_missing g pages head) refl)
 
+  some-altered : (span q : ℕ) → is_some (data_of (now q) span) ≡ is_some (data_of (pages q) span)
+  some-altered span q =
+      ⊎_elim
+      (λ (same : data_of (now q) span ≡ data_of (pages q) span). ap is_some same)
+      (λ (w : (data_of (pages q) span ≡ Some x) × (data_of (now q) span ≡ Some y) × (span_of x ≡ span)). rw (w.0, w.1) refl)
+      (data-altered span q)
+
+  serves-alters : (r : ℕ) → serves g now head r ≡ serves g pages head r
+  unfolding serves
+  serves-alters r =
+      let first : (λ (j : ℕ). is_number (index_page g now j) r) ≡ (λ (j : ℕ). is_number (index_page g pages j) r) = fun_ext (λ (j : ℕ). ap (λ (o : Option ℕ). is_number o r) (index-alters j)) in
+      let second : (λ (t : ℕ). is_number (entry_number g now head t) r && is_some (data_of (now r) t)) ≡ (λ (t : ℕ). is_number (entry_number g pages head t) r && is_some (data_of (pages r) t)) =
+      fun_ext (λ (t : ℕ). rw (entry-alters t, some-altered t r) refl) in
+      ap (λ (test : ℕ → Bool). list_any test (range_with_len 0 (index_pages g (size_of head))) || list_any (λ (t : ℕ). is_number (entry_number g now head t) r && is_some (data_of (now r) t)) (range_with_len 0 (data_pages g (size_of head)))) first
+      ∙ ap (λ (test : ℕ → Bool). list_any (λ (j : ℕ). is_number (index_page g pages j) r) (range_with_len 0 (index_pages g (size_of head))) || list_any test (range_with_len 0 (data_pages g (size_of head)))) second
+
   head_stays : (h : ℕ) → pages h ≡ Some head → names_index head ≡ true → now h ≡ Some head
   head_stays h e index = others h (λ k. let e' : pages p ≡ Some head = ap pages (sym k) ∙ e in let same : x ≡ head = same_Some x head (sym was ∙ e') in let no = alters.data_x in let yes : names_index x ≡ true = rw same index in cc) ∙ e
 
@@ -263,45 +280,85 @@ kept_byte g a b p at n x m low high same bytes len i small =
     let inside : i < g.page = omega arith in
     page_byte g b p i inside ∙ same.before (p * g.page + i) (omega arith) ∙ sym (page_byte g a p i inside) ∙ ap (λ (z : List ℕ). slice_index z i) bytes
 
+module _ (g : Geometry) (a b : List ℕ) (p h at : ℕ) (asked x head : List ℕ) (is : IsImage g a) (live : live_at g a p ≡ Some x) (no_index : names_index x ≡ false)
+    (first : index_page g (own (live_at g a) (obj_id x % 0x8000)) 0 ≡ Some h) (header : own (live_at g a) (obj_id x % 0x8000) h ≡ Some head)
+    (low : p * g.page + 5 + (size_of head - span_of x * body g) ≤ at) (high : at + length asked ≤ p * g.page + g.page) (same : SameOutside at (length asked) a b) where
+  parts : LivePage g a p x
+  parts = live_parts g a p x live
+
+  pub append_wide : SameOutside (p * g.page) g.page a b
+  append_wide = wider at (length asked) (p * g.page) g.page a b (omega arith) high same
+
+  len_x : length x ≡ g.page
+  len_x = page_size g a p x is live
+
+  len_y : length (page_of g b p) ≡ g.page
+  len_y = page_length g b p (record { len = omega (arith, append_wide.size, is.len) }) parts.entry_page
+
+  kept : (i : ℕ) → i < 5 + (size_of head - span_of x * body g) → slice_index (page_of g b p) i ≡ slice_index x i
+  kept i small = kept_byte g a b p at (length asked) x (5 + (size_of head - span_of x * body g)) (omega arith) high same parts.bytes len_x i small
+
+  front : (i : ℕ) → i < 5 → slice_index (page_of g b p) i ≡ slice_index x i
+  front i small = kept i (omega arith)
+
+  pub append_kind : names_index (page_of g b p) ≡ names_index x
+  append_kind = index-same x (page_of g b p) front
+
+  now : live_at g b p ≡ Some (page_of g b p)
+  now = live_from g b p (page_of g b p) (record {
+    entry_page = parts.entry_page;
+    magic = magic-same_page g (sizes g) a b p parts.entry_page append_wide (block_of g p) ∙ parts.magic;
+    entry = entry-same_page g (sizes g) a b p parts.entry_page append_wide p ∙ parts.entry ∙ sym (id-same x (page_of g b p) front);
+    finished = finished-same x (page_of g b p) front ∙ parts.finished;
+    bytes = refl;
+  })
+
+  of : obj_id (page_of g b p) % 0x8000 ≡ obj_id x % 0x8000
+  of = ap (λ (k : ℕ). k % 0x8000) (id-same x (page_of g b p) front)
+
+  pub append_now : own (live_at g b) (obj_id x % 0x8000) p ≡ Some (page_of g b p)
+  append_now = own-some (live_at g b) (obj_id x % 0x8000) p (page_of g b p) now of
+
+  was : own (live_at g a) (obj_id x % 0x8000) p ≡ Some x
+  was = own-some (live_at g a) (obj_id x % 0x8000) p x live refl
+
+  others : (q : ℕ) → q ≢ p → own (live_at g b) (obj_id x % 0x8000) q ≡ own (live_at g a) (obj_id x % 0x8000) q
+  others q differ = own-live (live_at g a) (live_at g b) (obj_id x % 0x8000) q (live-page_other g (sizes g) a b p parts.entry_page append_wide q differ)
+
+  lengths : (q : ℕ) (z : List ℕ) → own (live_at g a) (obj_id x % 0x8000) q ≡ Some z → length z ≡ g.page
+  lengths q z e = page_size g a q z is (own-parts (live_at g a) (obj_id x % 0x8000) q z e).0
+
+  alters : Alters g (5 + (size_of head - span_of x * body g)) x (page_of g b p)
+  alters = record { data_x = no_index; data_y = append_kind ∙ no_index; span = span-same x (page_of g b p) front; len_x = len_x; len_y = len_y; same = kept }
+
+  mine : found g (own (live_at g b) (obj_id x % 0x8000)) (obj_id x % 0x8000) ≡ found g (own (live_at g a) (obj_id x % 0x8000)) (obj_id x % 0x8000)
+  mine = found-alters g (sizes g) p x (page_of g b p) (own (live_at g a) (obj_id x % 0x8000)) (own (live_at g b) (obj_id x % 0x8000)) was append_now others lengths head alters (obj_id x % 0x8000) h first header
+
+  pub append_first : index_page g (own (live_at g b) (obj_id x % 0x8000)) 0 ≡ Some h
+  append_first = index-alters g (sizes g) p x (page_of g b p) (own (live_at g a) (obj_id x % 0x8000)) (own (live_at g b) (obj_id x % 0x8000)) was append_now others lengths head alters 0 ∙ first
+
+  pub append_header : own (live_at g b) (obj_id x % 0x8000) h ≡ Some head
+  append_header =
+      let index : is_index (own (live_at g a) (obj_id x % 0x8000) h) 0 ≡ true = index_passes g (own (live_at g a) (obj_id x % 0x8000)) 0 h first in
+      head_stays g (sizes g) p x (page_of g b p) (own (live_at g a) (obj_id x % 0x8000)) (own (live_at g b) (obj_id x % 0x8000)) was append_now others lengths head alters h header (and_parts _ _ (rw header at index)).0
+
+  pub append_serves : (r : ℕ) → serves g (own (live_at g b) (obj_id x % 0x8000)) head r ≡ serves g (own (live_at g a) (obj_id x % 0x8000)) head r
+  append_serves = serves-alters g (sizes g) p x (page_of g b p) (own (live_at g a) (obj_id x % 0x8000)) (own (live_at g b) (obj_id x % 0x8000)) was append_now others lengths head alters
+
+  pub append_has : has_of g (live_at g b) ≡ has_of g (live_at g a)
+  unfolding has_of
+  append_has =
+      fun_ext (λ (j : ℕ). ⊎_elim
+      (λ (e : obj_id x % 0x8000 ≡ j). subst (λ (k : ℕ). found g (own (live_at g b) k) k ≡ found g (own (live_at g a) k) k) e mine)
+      (λ (differ : obj_id x % 0x8000 ≡ j → ⊥). ap (λ (pages : Live). found g pages j)
+      (fun_ext (λ (q : ℕ). ⊎_elim
+      (λ (k : q ≡ p). rw k (own-other (live_at g b) j p (page_of g b p) now (λ e. differ (sym of ∙ e)) ∙ sym (own-other (live_at g a) j p x live differ)))
+      (λ (k : q ≡ p → ⊥). own-live (live_at g a) (live_at g b) j q (live-page_other g (sizes g) a b p parts.entry_page append_wide q k))
+      (cases_eq q p))))
+      (cases_eq (obj_id x % 0x8000) j))
+
 pub appending-keeps : (g : Geometry) → AppendingKeeps g
-unfolding table_of damaged_of has_of
-appending-keeps g a b p h at asked x head is live no_index there here low high torn =
-    let geo : Sizes g = (sizes g) in
-    let big : 128 ≤ g.page = geo.page in
-    let parts : LivePage g a p x = live_parts g a p x live in
-    let entry_page : is_entry_page g p ≡ true = parts.entry_page in
-    let same : SameOutside (p * g.page) g.page a b = wider at (length asked) (p * g.page) g.page a b (omega arith) high torn.outside in
-    let y : List ℕ = page_of g b p in
-    let len_x : length x ≡ g.page = ap length (sym parts.bytes) ∙ page_length g a p is entry_page in
-    let len_y : length (page_of g b p) ≡ g.page = page_length g b p (record { len = omega (arith, same.size, is.len) }) entry_page in
-    let kept : (i : ℕ) → i < 5 + (size_of head - span_of x * body g) → slice_index (page_of g b p) i ≡ slice_index x i =
-    λ i small. kept_byte g a b p at (length asked) x (5 + (size_of head - span_of x * body g)) (omega arith) high torn.outside parts.bytes len_x i small in
-    let header : (i : ℕ) → i < 5 → slice_index (page_of g b p) i ≡ slice_index x i = λ i small. kept i (omega arith) in
-    let now : live_at g b p ≡ Some (page_of g b p) =
-    live_from g b p (page_of g b p) (record {
-      entry_page = entry_page;
-      magic = magic-same_page g geo a b p entry_page same (block_of g p) ∙ parts.magic;
-      entry = entry-same_page g geo a b p entry_page same p ∙ parts.entry ∙ sym (id-same x (page_of g b p) header);
-      finished = finished-same x (page_of g b p) header ∙ parts.finished;
-      bytes = refl;
-    }) in
-    let id : ℕ = obj_id x % 0x8000 in
-    let of : obj_id (page_of g b p) % 0x8000 ≡ obj_id x % 0x8000 = ap (λ (k : ℕ). k % 0x8000) (id-same x (page_of g b p) header) in
-    let mine : found g (own (live_at g b) (obj_id x % 0x8000)) (obj_id x % 0x8000) ≡ found g (own (live_at g a) (obj_id x % 0x8000)) (obj_id x % 0x8000) =
-    found-alters g geo p x (page_of g b p) (own (live_at g a) (obj_id x % 0x8000)) (own (live_at g b) (obj_id x % 0x8000))
-    (own-some (live_at g a) (obj_id x % 0x8000) p x live refl) (own-some (live_at g b) (obj_id x % 0x8000) p (page_of g b p) now of)
-    (λ q differ. own-live (live_at g a) (live_at g b) (obj_id x % 0x8000) q (live-page_other g geo a b p entry_page same q differ))
-    (λ q z e. page_size g a q z is (own-parts (live_at g a) (obj_id x % 0x8000) q z e).0)
-    head
-    (record { data_x = no_index; data_y = index-same x (page_of g b p) header ∙ no_index; span = span-same x (page_of g b p) header; len_x = len_x; len_y = len_y; same = kept })
-    (obj_id x % 0x8000) h there here in
-    let has : has_of g (live_at g b) ≡ has_of g (live_at g a) =
-    fun_ext (λ (j : ℕ). ⊎_elim
-    (λ (e : obj_id x % 0x8000 ≡ j). subst (λ (k : ℕ). found g (own (live_at g b) k) k ≡ found g (own (live_at g a) k) k) e mine)
-    (λ (differ : obj_id x % 0x8000 ≡ j → ⊥). ap (λ (pages : Live). found g pages j)
-    (fun_ext (λ (q : ℕ). ⊎_elim
-    (λ (k : q ≡ p). rw k (own-other (live_at g b) j p (page_of g b p) now (λ e. differ (sym of ∙ e)) ∙ sym (own-other (live_at g a) j p x live differ)))
-    (λ (k : q ≡ p → ⊥). own-live (live_at g a) (live_at g b) j q (live-page_other g geo a b p entry_page same q k))
-    (cases_eq q p))))
-    (cases_eq (obj_id x % 0x8000) j)) in
+unfolding table_of damaged_of
+appending-keeps g a b p h at asked x head is live no_index first header low high torn =
+    let has = append_has g a b p h at asked x head is live no_index first header low high torn.outside in
     (ap (λ (f : Found). records f 0x7FFF) has, ap (λ (f : Found). damages f 0x7FFF) has)

@@ -1,10 +1,10 @@
 -- An entry past the page count, in place.
-use Rattle.std.proofs.Common.{◌≡◌, ◌≢◌, ℕ, ◌+◌, ◌-◌, ◌*◌, ◌/◌, ◌%◌, ◌<◌, ◌≤◌, ◌⊎◌, List, length, slice_index, slice_range, Bool, true, Option, Some, None, Result, ap, refl, sym, ◌∙◌, arith, ⊎_elim, subst, inl, inr}
+use Rattle.std.proofs.Common.{◌≡◌, ◌≢◌, ℕ, ◌+◌, ◌-◌, ◌*◌, ◌/◌, ◌%◌, ◌<◌, ◌≤◌, ◌⊎◌, List, length, slice_index, slice_range, Bool, true, ◌&&◌, Option, Some, None, Result, ap, refl, sym, ◌∙◌, arith, ⊎_elim, subst, inl, inr}
 use Rattle.std.proofs.Math.Path.{fun_ext}
 use Rattle.std.proofs.Math.Nat.{div-add-mod}
-use Rattle.std.specs.Prelude.{option_and_then, find}
+use Rattle.std.specs.Prelude.{option_and_then, find, is_some}
 use Rattle.std.specs.Option.{option_map}
-use Rattle.std.specs.List.{range_with_len}
+use Rattle.std.specs.List.{range_with_len, list_any}
 use Rattle.std.proofs.lemmas.Bool.{cases_eq, cases_lt, lt-ltb, le-ltb}
 use Rattle.std.proofs.lemmas.Option.{same_Some}
 use Rattle.geometry.specs.declared.geometry.Geometry.{Geometry}
@@ -14,7 +14,7 @@ use Rattle.nor_core.specs.Flash.{SameOutside}
 use Rattle.image_model.specs.Within.{Sizes, page_length}
 use Rattle.image_model.specs.Volume.{page_count}
 use Rattle.geometry.specs.Numbers.{head_slots, span_slots}
-use Rattle.table_model.specs.Room.{data_pages}
+use Rattle.table_model.specs.Room.{data_pages, index_pages}
 use Rattle.image_model.specs.Live.{live_at, Live, own}
 use Rattle.image_model.specs.Headers.{word_at, obj_id, span_of, names_index, size_of, name_of}
 use Rattle.image_model.specs.Places.{page_of, block_of, IsImage}
@@ -22,7 +22,11 @@ use Rattle.image_model.specs.Tables.{Found, has_of, records, damages, table_of, 
 use Rattle.image_model.specs.Files.{is_index, index_page, further, entry_number, data_of, data_page, found}
 use Rattle.image_model.specs.Sound.{HasMagics, IsMixed, Keeps}
 use Rattle.image_laws.specs.Reindex.{index_span, slot_word}
-use Rattle.image_laws.specs.InPlace.{slot_at, EntryInPlaceKeeps}
+use Rattle.image_laws.specs.InPlace.{slot_at, EntryInPlaceKeeps, EntryInPlaceTidies}
+use Rattle.image_laws.specs.TidySteps.{IsTidyBut}
+use Rattle.image_model.specs.Tidy.{is_number, serves}
+use Rattle.image_laws.proofs.Leading.{any-range}
+use Rattle.image_laws.proofs.StayTidy.{stays-tidy}
 use Rattle.image_laws.proofs.Frames.{LivePage, live_parts, live_from, live-page_other, magic-same_page, entry-same_page, range-same}
 use Rattle.image_laws.proofs.Placing.{page_byte, wider}
 use Rattle.image_laws.proofs.Judge.{judged-alike, found_from, index_passes}
@@ -80,6 +84,30 @@ module _ (g : Geometry) (p h id : ℕ) (x y head : List ℕ) (one two : Live) (w
     found_by = found_from g two id h head' (index_same 0 ∙ at) now
         ∙ ap (λ (r : Result _ Damage). Some (h, r)) (judged-alike g one two id head head' (record { size = fields.0; name = fields.1; kind = fields.2; meta = fields.3; bytes = reads }))
         ∙ sym (found_from g one id h head at header)
+
+    serves_by : (r : ℕ) → serves g two head' r ≡ serves g one head r
+    unfolding serves
+    serves_by r =
+        let index : list_any (λ (j : ℕ). is_number (index_page g two j) r) (range_with_len 0 (index_pages g (size_of head'))) ≡ list_any (λ (j : ℕ). is_number (index_page g one j) r) (range_with_len 0 (index_pages g (size_of head))) =
+        ap (λ (n : ℕ). list_any (λ (j : ℕ). is_number (index_page g two j) r) (range_with_len 0 (index_pages g n))) fields.0
+        ∙ any-range (λ (j : ℕ). is_number (index_page g one j) r) (λ (j : ℕ). is_number (index_page g two j) r) 0 (index_pages g (size_of head)) (λ j low high. ap (λ (o : Option ℕ). is_number o r) (index_same j)) in
+        let second : list_any (λ (s : ℕ). is_number (entry_number g two head' s) r && is_some (data_of (two r) s)) (range_with_len 0 (data_pages g (size_of head'))) ≡
+        list_any (λ (s : ℕ). is_number (entry_number g one head s) r && is_some (data_of (one r) s)) (range_with_len 0 (data_pages g (size_of head))) =
+        ap (λ (n : ℕ). list_any (λ (s : ℕ). is_number (entry_number g two head' s) r && is_some (data_of (two r) s)) (range_with_len 0 (data_pages g n))) fields.0
+        ∙ any-range (λ (s : ℕ). is_number (entry_number g one head s) r && is_some (data_of (one r) s)) (λ (s : ℕ). is_number (entry_number g two head' s) r && is_some (data_of (two r) s)) 0 (data_pages g (size_of head))
+        (λ s low high. rw (entry_same s (omega arith), data_same s r) refl) in
+        rw (index, second) refl
+
+  -- the header page is where it was, and the same pages serve the file
+  pub header-in_place : (head' : List ℕ) × (two h ≡ Some head') × ((r : ℕ) → serves g two head' r ≡ serves g one head r)
+  header-in_place =
+      ⊎_elim
+      (λ (here : h ≡ p).
+      let mine : head ≡ x = same_Some head x (sym header ∙ ap one here ∙ was) in
+      let now : two h ≡ Some y = ap two here ∙ is in
+      (y, now, serves_by y now (rw mine (same here))))
+      (λ (there : h ≡ p → ⊥). let now : two h ≡ Some head = others h there ∙ header in (head, now, serves_by head now (refl, refl, refl, refl)))
+      (cases_eq h p)
 
   pub found-in_place : found g two id ≡ found g one id
   found-in_place =
@@ -143,7 +171,7 @@ slot-head g t e =
 
 -- ---- the image
 
-module _ (g : Geometry) (a b : List ℕ) (p h t id : ℕ) (x head : List ℕ) (is : IsImage g a) (m : HasMagics g a) (mine : own (live_at g a) id p ≡ Some x) (index : names_index x ≡ true)
+module _ (g : Geometry) (a b : List ℕ) (p h t id : ℕ) (x head : List ℕ) (is : IsImage g a) (mine : own (live_at g a) id p ≡ Some x) (index : names_index x ≡ true)
     (at : index_page g (own (live_at g a) id) 0 ≡ Some h) (header : own (live_at g a) id h ≡ Some head) (past : data_pages g (size_of head) ≤ t) (here : index_span g t ≡ span_of x)
     (same : SameOutside (p * g.page + slot_at g t) 2 a b) where
   geo : Sizes g
@@ -232,6 +260,16 @@ module _ (g : Geometry) (a b : List ℕ) (p h t id : ℕ) (x head : List ℕ) (i
       (cases_eq q p))))
       (cases_eq id j))
 
+  pub stays_tidy : (spare : ℕ → Bool) → IsTidyBut g a spare → IsTidyBut g b spare × (table_of g b ≡ table_of g a)
+  stays_tidy spare t =
+      let others : (r : ℕ) → r ≢ p → own (live_at g b) id r ≡ own (live_at g a) id r = λ r there. own-live (live_at g a) (live_at g b) id r (other r there) in
+      let mine_now : own (live_at g b) id p ≡ Some (page_of g b p) = own-some (live_at g b) id p (page_of g b p) now of in
+      let kind : names_index (page_of g b p) ≡ names_index x = index-same x (page_of g b p) front in
+      let w = header-in_place g p h id x (page_of g b p) head (own (live_at g a) id) (own (live_at g b) id) mine mine_now others index (kind ∙ index) (span-same x (page_of g b p) front) at header words fields in
+      let first : index_page g (own (live_at g b) id) 0 ≡ Some h =
+      index_same g p h id x (page_of g b p) head (own (live_at g a) id) (own (live_at g b) id) mine mine_now others index (kind ∙ index) (span-same x (page_of g b p) front) at header words fields 0 ∙ at in
+      stays-tidy g a b p id h x (page_of g b p) head w.0 wide mine mine_now kind at header first w.1 has w.2 spare t
+
   back : (q : ℕ) (z : List ℕ) → live_at g b q ≡ Some z → (w : List ℕ) × (live_at g a q ≡ Some w) × (names_index w ≡ names_index z)
   back q z e =
       ⊎_elim
@@ -247,13 +285,17 @@ module _ (g : Geometry) (a b : List ℕ) (p h t id : ℕ) (x head : List ℕ) (i
       let v = back i.q i.y i.q_is in
       record { p = i.p; q = i.q; x = u.0; y = v.0; p_at = i.p_at; q_at = i.q_at; p_is = u.1; q_is = v.1; names = u.2 ∙ i.names; holds = v.2 ∙ i.holds }
 
-  keeps : Keeps g a b
+  keeps : HasMagics g a → Keeps g a b
   unfolding table_of damaged_of
-  keeps = record {
+  keeps m = record {
     sound = sound-by g a b m (magic-same_page g geo a b p parts.entry_page wide) mixed (ap (λ (l : Found). damages l 0x7FFF) has);
     table = ap (λ (l : Found). records l 0x7FFF) has;
   }
 
 pub entry-in_place : (g : Geometry) → EntryInPlaceKeeps g
 entry-in_place g a b p h t id asked x head is m mine index at header past here two torn =
-    keeps g a b p h t id x head is m mine index at header past here (subst (λ (n : ℕ). SameOutside (p * g.page + slot_at g t) n a b) two torn.outside)
+    keeps g a b p h t id x head is mine index at header past here (subst (λ (n : ℕ). SameOutside (p * g.page + slot_at g t) n a b) two torn.outside) m
+
+pub entry-in_place-tidies : (g : Geometry) → EntryInPlaceTidies g
+entry-in_place-tidies g a b p h t id asked x head spare is tidy mine index at header past here two torn =
+    stays_tidy g a b p h t id x head is mine index at header past here (subst (λ (n : ℕ). SameOutside (p * g.page + slot_at g t) n a b) two torn.outside) spare tidy

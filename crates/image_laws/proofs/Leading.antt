@@ -32,7 +32,8 @@ copies-same g pages id head new f0 file same =
     (pieces-same (span_bytes g pages head) (λ (t : ℕ). slice_range (unwrap_or (now_data g pages head new t) []) 5 g.page) 0 (data_pages g (size_of head)) (λ q low high. same q (omega arith)))
     ∙ file-bytes g pages id head f0 file
 
-any-range : (f now : ℕ → Bool) (a n : ℕ) → ((q : ℕ) → a ≤ q → q < a + n → now q ≡ f q) → list_any now (range_with_len a n) ≡ list_any f (range_with_len a n)
+-- some number of a range passes where it did
+pub any-range : (f now : ℕ → Bool) (a n : ℕ) → ((q : ℕ) → a ≤ q → q < a + n → now q ≡ f q) → list_any now (range_with_len a n) ≡ list_any f (range_with_len a n)
 any-range f now a zero same = refl
 any-range f now a (suc n) same = rw (same a (omega arith) (omega arith)) (ap (λ (b : Bool). f a || b) (any-range f now (a + 1) n (λ q low high. same q (omega arith) (omega arith))))
 
@@ -77,7 +78,8 @@ module _ (g : Geometry) (pages : Live) (head head' : List ℕ) (spans : SameSpan
 pub renamed-leads : (g : Geometry) → RenamedLeads g
 renamed-leads g pages id head head' name f0 file spans named = (leads_to g pages head head' spans id name f0 file named, serves-renamed g pages head head' spans)
 
-no_leftover : (g : Geometry) (pages : Live) (head : List ℕ) (r : ℕ) → ((x : List ℕ) → pages r ≡ Some x → serves g pages head r ≡ true) → leftover g pages head r ≡ true → ⊥
+-- where all pages of the id serve it, none is left over
+pub no_leftover : (g : Geometry) (pages : Live) (head : List ℕ) (r : ℕ) → ((x : List ℕ) → pages r ≡ Some x → serves g pages head r ≡ true) → leftover g pages head r ≡ true → ⊥
 unfolding leftover
 no_leftover g pages head r all e =
     let v : (is_some (pages r) ≡ true) × (not (serves g pages head r) ≡ true) = and_parts (is_some (pages r)) _ e in

@@ -46,7 +46,11 @@ pub mod Reindexed
 pub mod ReindexSteps
 pub mod RecopyStep
 pub mod RecopyTidy
+pub mod StayTidy
 pub mod EntryInPlace
+pub mod AppendTidy
+pub mod RemoveTidy
 pub mod Leading
 pub mod Truncating
+pub mod Appended
 pub mod MixedBlocks

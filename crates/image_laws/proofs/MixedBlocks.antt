@@ -1,18 +1,17 @@
 -- The test of a mixed block, and the magic after an interrupted erase.
-use Rattle.std.proofs.Common.{◌≡◌, ℕ, zero, suc, ◌+◌, ◌-◌, ◌*◌, ◌<◌, ◌≤◌, Bool, true, false, not, ◌&&◌, List, refl, sym, ◌∙◌, subst, arith, ⊎_elim}
-use Rattle.std.specs.Prelude.{Option, Some, None, ◌↔◌}
+use Rattle.std.proofs.Common.{◌≡◌, ℕ, zero, suc, ◌+◌, ◌*◌, ◌<◌, ◌≤◌, Bool, true, false, List, refl, subst, arith, ⊎_elim}
+use Rattle.std.specs.Prelude.{Option, Some, None}
 use Rattle.std.specs.List.{range_with_len, list_any}
 use Rattle.std.proofs.lemmas.Bool.{cases_eq, cases_Bool, and_parts, and_from, or_cases, or_left, or_right, ne_eqb}
 use Rattle.geometry.specs.declared.geometry.Geometry.{Geometry}
-use Rattle.nor_core.specs.Flash.{Scrambled}
 use Rattle.image_model.specs.Volume.{per_block, lookups, entries}
-use Rattle.image_model.specs.Places.{has_magic, slot_of, block_of, is_entry_page}
+use Rattle.image_model.specs.Places.{has_magic, slot_of, is_entry_page}
 use Rattle.image_model.specs.Headers.{names_index}
 use Rattle.image_model.specs.Live.{live_at, is_live}
 use Rattle.image_model.specs.Sound.{IsMixed}
 use Rattle.image_model.specs.Kinds.{is_index_page, is_data_page, is_index_block, is_data_block, is_mixed}
 use Rattle.image_model.specs.Within.{entry_in, entry_of_block}
-use Rattle.image_laws.specs.Blocks.{magic_mark, ScrambledLacksMagic, MixedIsTested}
+use Rattle.image_laws.specs.Blocks.{ScrambledLacksMagic, MixedIsTested}
 
 any_in : (test : ℕ → Bool) (a n q : ℕ) → a ≤ q → q < a + n → test q ≡ true → list_any test (range_with_len a n) ≡ true
 any_in test a zero q low high h = absurd (omega arith)

@@ -145,7 +145,7 @@ drop-other k (Some x) xs differ = rw (ne_eqb x.id k (differ x refl)) refl
 
 module _ (has now : Found) (m : ℕ) (keyed : IsKeyed has) (k : ℕ) (new : now k ≡ None) (same : (j : ℕ) → j ≢ k → now j ≡ has j)
     (was_apart : (j q r : ℕ) (h e : File) → j ≢ k → has j ≡ Some (q, Ok h) → has k ≡ Some (r, Ok e) → e.name ≢ h.name) where
-  counts-left : (j q : ℕ) (h : File) → j ≢ k → has j ≡ Some (q, Ok h) → counts now m q h.name ≡ counts has m q h.name
+  pub counts-left : (j q : ℕ) (h : File) → j ≢ k → has j ≡ Some (q, Ok h) → counts now m q h.name ≡ counts has m q h.name
   unfolding counts
   counts-left j q h other e =
       ap (λ (test : ℕ → Bool). not (list_any test (ids m)))
@@ -157,7 +157,7 @@ module _ (has now : Found) (m : ℕ) (keyed : IsKeyed has) (k : ℕ) (new : now 
       (λ (there : i ≡ k → ⊥). rw (same i there) refl)
       (cases_eq i k)))
 
-  counted-left : (j : ℕ) → j ≢ k → counted now m (now j) ≡ counted has m (has j)
+  pub counted-left : (j : ℕ) → j ≢ k → counted now m (now j) ≡ counted has m (has j)
   counted-left j there = rw (same j there) (counted-same has now m (has j) (λ q h e. counts-left j q h there e))
 
   from-drop : (a n : ℕ) → from now m a n ≡ drop_file k (from has m a n)

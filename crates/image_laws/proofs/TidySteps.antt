@@ -91,7 +91,7 @@ entries-but g a b p spare later agree t leaves wants here q e =
     (cases_eq q p)
 
 -- where the live pages stay
-tidy_live : (g : Geometry) (a b : List ℕ) (p : ℕ) (spare later : ℕ → Bool) → Agree g a b p → IsTidyBut g a spare → ((q : ℕ) → q ≢ p → spare q ≡ true → later q ≡ true) →
+pub tidy_live : (g : Geometry) (a b : List ℕ) (p : ℕ) (spare later : ℕ → Bool) → Agree g a b p → IsTidyBut g a spare → ((q : ℕ) → q ≢ p → spare q ≡ true → later q ≡ true) →
     ((q : ℕ) → live_at g b q ≡ live_at g a q) → ((later p ≡ true) ⊎ Entry g b p) → IsTidyBut g b later
 tidy_live g a b p spare later agree t leaves live here = record {
   magic = λ c low. agree.magic c ∙ t.magic c low;

@@ -31,7 +31,7 @@ takes-prefix f w m a (suc k) (suc n) h small each =
     take-pieces (f a) (f a) (flat_map f (range_with_len (a + 1) n)) (flat_map f (range_with_len (a + 1) k)) m refl refl
     (rw (each a (omega arith) (omega arith)) (takes-prefix f w (m - w) (a + 1) k n (omega arith) (omega arith) (λ q low high. each q (omega arith) (omega arith))))
 
-ceil-mono : (a c b : ℕ) → 0 < b → a ≤ c → (a + b - 1) / b ≤ (c + b - 1) / b
+pub ceil-mono : (a c b : ℕ) → 0 < b → a ≤ c → (a + b - 1) / b ≤ (c + b - 1) / b
 ceil-mono a c b pos h = let x : (a + b - 1) / b * b ≤ a + b - 1 = div-mul-le_self (a + b - 1) b in le-div ((a + b - 1) / b) (c + b - 1) b pos (omega (arith, x))
 
 module _ (g : Geometry) (pages : Live) (id : ℕ) (head head' name : List ℕ) (f0 : File) (big : 128 ≤ g.page) (lengths : (q : ℕ) (z : List ℕ) → pages q ≡ Some z → length z ≡ g.page)

@@ -11,11 +11,11 @@ use Rattle.image_model.specs.Tables.{Found, counts, damage, damages, records, ha
 use Rattle.image_laws.proofs.Records.{IsKeyed, counts-kept, counts-new, filter_map-nil, counts_from_quiet, whole-in_table, names-apart}
 use Rattle.image_laws.proofs.Finish.{has_of-keyed, has_of-within, heads-apart}
 
-filter_map-none : {Y : Type 0} (h : ℕ → Option Y) (a n : ℕ) → ((j : ℕ) → a ≤ j → j < a + n → h j ≡ None) → filter_map h (range_with_len a n) ≡ []
+pub filter_map-none : {Y : Type 0} (h : ℕ → Option Y) (a n : ℕ) → ((j : ℕ) → a ≤ j → j < a + n → h j ≡ None) → filter_map h (range_with_len a n) ≡ []
 filter_map-none h a zero none = refl
 filter_map-none h a (suc n) none = rw (none a (omega arith) (omega arith)) (filter_map-none h (a + 1) n (λ j low high. none j (omega arith) (omega arith)))
 
-damage-quiet : (has now : Found) (m j : ℕ) (o : Option (ℕ × Result File Damage)) → ((q : ℕ) (h : File) → o ≡ Some (q, Ok h) → counts now m q h.name ≡ counts has m q h.name) →
+pub damage-quiet : (has now : Found) (m j : ℕ) (o : Option (ℕ × Result File Damage)) → ((q : ℕ) (h : File) → o ≡ Some (q, Ok h) → counts now m q h.name ≡ counts has m q h.name) →
     damage has m j o ≡ None → damage now m j o ≡ None
 damage-quiet has now m j None same h = refl
 damage-quiet has now m j (Some (q, Err e)) same h = absurd (none-some _ (sym h))

@@ -21,3 +21,5 @@ pub mod Reindex
 pub mod Renew
 pub mod Spares
 pub mod Truncate
+pub mod Append
+pub mod Remove

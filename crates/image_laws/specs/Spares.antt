@@ -40,3 +40,7 @@ abbrev pub RenewLeaves : Geometry → Type 0
 RenewLeaves g = (a0 a1 a2 a3 a4 a5 a6 : List ℕ) (p o id : ℕ) (old head : List ℕ) (fin kill : ℕ) (f : File) (before : ℕ → Bool) → Renews g a0 p o id old head fin kill f →
     Finished g p head fin a0 a1 a2 a3 a4 → Kills g o kill a4 a5 a6 → IsTidyBut g a0 before → ((r : ℕ) → before r ≡ true → is_some (own (live_at g a0) id r) ≡ true) →
     Spares g (λ r. not (r == o) && leftover g (own (live_at g a0) id) (slice_set head 4 fin) r) a6 × (table_of g a6 ≡ put_file f (table_of g a0))
+
+-- An image that is tidy but for some pages has all its magics.
+abbrev pub TidyHasMagics : Geometry → Type 0
+TidyHasMagics g = (a : List ℕ) (spare : ℕ → Bool) → IsTidyBut g a spare → HasMagics g a

@@ -5,10 +5,10 @@ ghost use Rattle.image_laws.specs.LiveSteps.{PutChanges, KillChanges};
 ghost use Rattle.image_laws.specs.Renew.{RenewIsSound, RenewTidies};
 ghost use Rattle.image_laws.specs.Truncate.{TruncatedLeads};
 ghost use Rattle.image_laws.specs.Leads.{CopiesSame, RenamedLeads, RenameTidies};
-ghost use Rattle.image_laws.specs.InPlace.{EntryInPlaceKeeps};
+ghost use Rattle.image_laws.specs.InPlace.{EntryInPlaceKeeps, EntryInPlaceTidies};
 ghost use Rattle.image_laws.specs.Recopy.{RecopyIsSound, PutDataKeeps, PutDataSpares, RecopyTidies, PutSame};
 ghost use Rattle.image_laws.specs.Flash.{FinishedIsProgrammed};
-ghost use Rattle.image_laws.specs.Spares.{SpareKills, SparesEnd, RenewLeaves};
+ghost use Rattle.image_laws.specs.Spares.{SpareKills, SparesEnd, RenewLeaves, TidyHasMagics};
 
 /// Where the pages of one id have changed, its file is put into the table and the image is tidy.
 pub fn changes_tidy()
@@ -37,6 +37,7 @@ pub fn renewing_puts()
 pub fn spares_go()
     ensures kill { (g : Geometry) → SpareKills g }
     ensures end { (g : Geometry) → SparesEnd g }
+    ensures magics { (g : Geometry) → TidyHasMagics g }
 {}
 
 /// What a finished program leaves, byte by byte.
@@ -55,7 +56,8 @@ pub fn recopying_puts()
 
 /// An entry at or past the page count may be programmed in place.
 pub fn entries_in_place()
-    ensures { (g : Geometry) → EntryInPlaceKeeps g }
+    ensures keeps { (g : Geometry) → EntryInPlaceKeeps g }
+    ensures tidy { (g : Geometry) → EntryInPlaceTidies g }
 {}
 
 /// What a renewed page leads to; a rename leaves the image tidy.

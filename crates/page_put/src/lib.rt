@@ -1,6 +1,8 @@
 //! Putting pages onto the chip, one program at a time and in the order that survives a power cut.
 #![tactic(auto)]
 
+mod killing;
 mod put;
 
-pub use put::{finish, place};
+pub use killing::kill;
+pub use put::{finish, place, puts_by_programs};

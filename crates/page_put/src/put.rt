@@ -1,7 +1,12 @@
-ghost use Rattle.std.specs.Prelude.{◌≡◌, ◌+◌, ◌<◌, ◌≤◌, OnErr, true};
+ghost use Rattle.std.specs.Prelude.{◌≡◌, ◌+◌, ◌*◌, ◌/◌, ◌%◌, ◌<◌, ◌≤◌, length, [], ◌∷◌, OnOk, OnErr, true};
 ghost use Rattle.nor_core.specs.Count.{Rose};
+ghost use Rattle.nor_core.specs.Flash.{HalfProgrammed, programmed};
+ghost use Rattle.nor_core.specs.Device.{Changes};
+ghost use Rattle.page_layout.specs.Layout.{bits_of};
 ghost use Rattle.flash_view.specs.Places.{IsEntryPage};
 ghost use Rattle.flash_view.specs.Same.{IsSameView};
+ghost use Rattle.page_put.specs.Placing.{placed_id, placed_flags, placed_page, with_page, IsPlacing, ProgramsPlace, FinishClearsFinal};
+ghost use Rattle.geometry.specs.declared.geometry.Geometry.{Geometry};
 
 use flash_view::{Kind, View};
 use nor_core::{Failed, Nor, NorState};
@@ -9,7 +14,12 @@ use page_layout::{Flags, INDEX_BIT, PageHeader, put_header};
 use table_model::Tag;
 
 // The header of a page that is placed and not finished.
-fn placed(kind: Kind, tag: Tag) -> PageHeader {
+fn placed(kind: Kind, tag: Tag) -> PageHeader
+    requires { tag.id < 0x8000 }
+    ensures id { result.id ≡ placed_id kind tag.id }
+    ensures span { result.span ≡ tag.span }
+    ensures flags { bits_of result.flags ≡ placed_flags kind }
+{
     match kind {
         Kind::Index => PageHeader {
             id: tag.id | INDEX_BIT,
@@ -24,9 +34,17 @@ fn placed(kind: Kind, tag: Tag) -> PageHeader {
     }
 }
 
+// Fills five bytes with a header.
+fn fill_header(bytes: &mut [u8], head: PageHeader)
+    requires { length bytes.old ≡ 5 }
+    ensures { bytes.new ≡ head.id % 256 ∷ head.id / 256 ∷ head.span % 256 ∷ head.span / 256 ∷ bits_of head.flags ∷ [] }
+{
+    put_header(bytes, head);
+}
+
 /// Places a page: its entry, its header with USED cleared, and the rest of the page that is being built.
-/// These are three programs. The entry and the page are to be erased, and the id without bit 15 is from 1
-/// to 0x7FFE.
+/// These are three programs, and the page isn't live after any of them, nor where one is cut off. The entry
+/// and the page are to be erased, and the id without bit 15 is from 1 to 0x7FFE.
 pub fn place<N: Nor>(v: &mut View<'_, N>, page: u16, kind: Kind, tag: Tag) -> Result<(), Failed>
     requires page { IsEntryPage v.old.geometry page }
     requires id { (1 ≤ tag.id) × (tag.id ≤ 0x7FFE) }
@@ -34,11 +52,13 @@ pub fn place<N: Nor>(v: &mut View<'_, N>, page: u16, kind: Kind, tag: Tag) -> Re
     ensures faults { N.faults v.old.nor.now ≤ N.faults v.new.nor.now }
     ensures same { IsSameView v.old v.new }
     ensures wrote { v.new.wrote ≡ true }
+    ensures changes { Changes N.NorState v.old.nor.now v.new.nor.now (IsPlacing v.old.geometry page (placed_page v.old.geometry kind tag v.old.work.now)) }
+    ensures done { N.tells v.old.nor.now → OnOk result (N.bytes v.new.nor.now ≡ with_page v.old.geometry page (placed_page v.old.geometry kind tag v.old.work.now) (N.bytes v.old.nor.now)) }
 {
     let head = placed(kind, tag);
     v.program_entry(page, head.id)?;
     let mut bytes = [0u8; 5];
-    put_header(&mut bytes, head);
+    fill_header(&mut bytes, head);
     v.program_in(page, 0, &bytes)?;
     v.program_build(page, 5)
 }
@@ -50,7 +70,16 @@ pub fn finish<N: Nor>(v: &mut View<'_, N>, page: u16) -> Result<(), Failed>
     ensures faults { N.faults v.old.nor.now ≤ N.faults v.new.nor.now }
     ensures same { IsSameView v.old v.new }
     ensures wrote { v.new.wrote ≡ true }
+    ensures changes { Changes N.NorState v.old.nor.now v.new.nor.now (HalfProgrammed (page * v.old.geometry.page + 4) (0xFD ∷ [])) }
+    ensures done { N.tells v.old.nor.now → OnOk result (N.bytes v.new.nor.now ≡ programmed (N.bytes v.old.nor.now) (page * v.old.geometry.page + 4) (0xFD ∷ [])) }
 {
     let erased = Flags::from_bits(0xFF);
     v.program_in(page, 4, &[erased.finished().bits()])
 }
+
+/// What `place` and `finish` leave is what the laws of a put speak of: a placed page, and the program of its
+/// finished flags.
+pub fn puts_by_programs()
+    ensures places { (g : Geometry) → ProgramsPlace g }
+    ensures finishes { FinishClearsFinal }
+{}

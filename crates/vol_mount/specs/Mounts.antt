@@ -1,7 +1,8 @@
 -- What mounting refuses, and what it leaves.
-use Rattle.std.specs.Prelude.{ℕ, ◌≡◌, ◌*◌, ◌≤◌, length, Option}
+use Rattle.std.specs.Prelude.{ℕ, ◌≡◌, ◌*◌, ◌≤◌, List, length, Option}
 use Rattle.geometry.specs.declared.geometry.Geometry.{Geometry}
 use Rattle.geometry.specs.Numbers.{work_need, cache_need, check_need}
+use Rattle.image_model.specs.Kinds.{spoiled_blocks}
 use Rattle.vol_mount.specs.declared.lent.Lent.{Lent}
 use Rattle.vol_mount.specs.declared.lent.MountErr.{MountErr}
 use Rattle.vol_mount.specs.declared.lent.MountErr.TheVariants.{Wrong, ShortBuffer, NotAFs, DeviceFault}
@@ -13,6 +14,11 @@ IsLate (Wrong why) = ⊥
 IsLate (ShortBuffer part need given) = ⊥
 IsLate (NotAFs spoiled) = Unit {0}
 IsLate DeviceFault = Unit {0}
+
+-- it names how many blocks of the image lack their magic, two or more
+abbrev pub CountsSpoiled : Geometry → List ℕ → MountErr → Type 0
+CountsSpoiled g image (NotAFs spoiled) = (spoiled ≡ spoiled_blocks g image) × (2 ≤ spoiled)
+CountsSpoiled g image _ = Unit {0}
 
 -- the first part of the lent memory that is too short
 abbrev pub short_of : Geometry → Lent → Option MountErr

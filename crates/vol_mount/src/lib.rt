@@ -4,9 +4,7 @@
 mod formatting;
 mod lent;
 mod mounting;
-mod unchecked;
 
 pub use formatting::format;
 pub use lent::{Lent, MountErr, Part, Returned};
 pub use mounting::{accept, mount};
-pub use unchecked::{Parts, Unchecked};

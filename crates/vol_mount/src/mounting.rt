@@ -1,12 +1,12 @@
-ghost use Rattle.std.specs.Prelude.{◌≡◌, ◌≢◌, ◌+◌, ◌*◌, ◌<◌, ◌≤◌, length, IfErr, IsOk, OnOk, OnErr, Some, None, Err, true, false, nat_lt, if◌then◌else◌};
+ghost use Rattle.std.specs.Prelude.{◌≡◌, ◌+◌, ◌*◌, ◌<◌, ◌≤◌, length, IfOk, IfErr, IsOk, OnOk, OnErr, Some, None, Err, true, false, nat_lt, if◌then◌else◌};
 ghost use Rattle.std.specs.Option.{IfSome};
 ghost use Rattle.nor_core.specs.Count.{Rose};
-ghost use Rattle.nor_core.specs.Device.{OnlyReads};
+ghost use Rattle.image_model.specs.Kinds.{spoiled_blocks as the_spoiled};
 ghost use Rattle.flash_view.specs.Same.{OnlyLooks};
-ghost use Rattle.vol_mount.specs.Mounts.{IsLate, Fits, short_of};
+ghost use Rattle.vol_mount.specs.Mounts.{IsLate, CountsSpoiled, Fits, short_of};
 ghost use Rattle.vol_mount.specs.Needs.{is_wrong_chip, short_buffer};
 
-use crate::{Lent, MountErr, Part, Unchecked};
+use crate::{Lent, MountErr, Part};
 use flash_view::View;
 use geometry::{GeoErr, Geometry};
 use nor_core::{Failed, Nor, NorState};
@@ -52,6 +52,7 @@ fn short(g: &Geometry, lent: &Lent<'_>) -> Option<MountErr>
 fn spoiled_blocks<N: Nor>(v: &mut View<'_, N>) -> Result<u32, Failed>
     ensures cause { OnErr result (Rose (N.faults v.old.nor.now) (N.faults v.new.nor.now)) }
     ensures looks { OnlyLooks v.old v.new }
+    ensures told { N.tells v.old.nor.now → IfOk result (λ n. n ≡ the_spoiled v.old.geometry (N.bytes v.old.nor.now)) }
 {
     let mut spoiled = 0;
     for block in 0..v.geometry.blocks() as u16 {
@@ -62,23 +63,8 @@ fn spoiled_blocks<N: Nor>(v: &mut View<'_, N>) -> Result<u32, Failed>
     Ok(spoiled)
 }
 
-// Reads the magic of every block: two or more that lack theirs make no volume.
-fn survey<N: Nor>(v: &mut View<'_, N>) -> Result<(), MountErr>
-    ensures late { IfErr result IsLate }
-    ensures cause { result ≡ Err MountErr.DeviceFault → Rose (N.faults v.old.nor.now) (N.faults v.new.nor.now) }
-    ensures looks { OnlyLooks v.old v.new }
-    ensures no_fault { result ≡ Err MountErr.DeviceFault → Rose (N.faults v.old.nor.now) (N.faults v.new.nor.now) }
-{
-    match spoiled_blocks(v) {
-        Err(Failed) => Err(MountErr::DeviceFault),
-        Ok(spoiled) if spoiled >= 2 => Err(MountErr::NotAFs { spoiled }),
-        Ok(_) => Ok(()),
-    }
-}
-
 /// Whether a device and the lent memory fit a volume. Nothing is read. Refused are, in this order, a device
-/// that doesn't fit (`Wrong`), and lent memory that is too short (`ShortBuffer`). `Unchecked::new` then takes
-/// them.
+/// that doesn't fit (`Wrong`), and lent memory that is too short (`ShortBuffer`). `View::new` then takes them.
 pub fn accept<N: Nor>(g: &Geometry, nor: &N, lent: &Lent<'_>) -> Result<(), MountErr>
     ensures wrong { is_wrong_chip g.now (N.unit nor.now) (N.size nor.now) ≡ true → result ≡ Err (MountErr.Wrong GeoErr.WrongChip) }
     ensures short { is_wrong_chip g.now (N.unit nor.now) (N.size nor.now) ≡ false → IfSome (short_of g.now lent.now) (λ why. result ≡ Err why) }
@@ -97,12 +83,16 @@ pub fn accept<N: Nor>(g: &Geometry, nor: &N, lent: &Lent<'_>) -> Result<(), Moun
 /// Mounts a volume: reads the magic of each block, and writes nothing. Refused are a device that fails, and a
 /// volume of which two or more blocks lack their magic (`NotAFs`). One such block is accepted: a cut while it
 /// was erased left it.
-pub fn mount<N: Nor>(unchecked: &mut Unchecked<'_, N>) -> Result<(), MountErr>
+pub fn mount<N: Nor>(v: &mut View<'_, N>) -> Result<(), MountErr>
     ensures late { IfErr result IsLate }
-    ensures cause { result ≡ Err MountErr.DeviceFault → Rose (N.faults unchecked.old.view.nor.now) (N.faults unchecked.new.view.nor.now) }
-    ensures looks { OnlyLooks unchecked.old.view unchecked.new.view }
-    ensures slots_name { unchecked.new.slots.ghost_name ≡ unchecked.old.slots.ghost_name }
-    ensures check_name { unchecked.new.check.ghost_name ≡ unchecked.old.check.ghost_name }
+    ensures cause { result ≡ Err MountErr.DeviceFault → Rose (N.faults v.old.nor.now) (N.faults v.new.nor.now) }
+    ensures looks { OnlyLooks v.old v.new }
+    ensures told { N.tells v.old.nor.now → OnOk result (the_spoiled v.old.geometry (N.bytes v.old.nor.now) ≤ 1) }
+    ensures spoiled { N.tells v.old.nor.now → IfErr result (CountsSpoiled v.old.geometry (N.bytes v.old.nor.now)) }
 {
-    survey(&mut unchecked.view)
+    match spoiled_blocks(v) {
+        Err(Failed) => Err(MountErr::DeviceFault),
+        Ok(spoiled) if spoiled >= 2 => Err(MountErr::NotAFs { spoiled }),
+        Ok(_) => Ok(()),
+    }
 }

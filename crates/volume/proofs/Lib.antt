@@ -1,0 +1,4 @@
+pub mod Counting
+pub mod Creating
+pub mod Recording
+pub mod Answering

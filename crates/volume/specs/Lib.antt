@@ -1,2 +1,7 @@
-pub mod Checks
-pub mod Fails
+pub mod Pages
+pub mod Refusals
+pub mod Opening
+pub mod Stages
+pub mod Same
+pub mod Answers
+pub mod Records

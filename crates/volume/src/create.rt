@@ -1,32 +1,51 @@
-ghost use Rattle.std.specs.Prelude.{◌≡◌, ◌≢◌, ◌<◌, ◌≤◌, length, All, IsErrOf, IfOk, OnErr, Ok, Some};
+ghost use Rattle.std.specs.Prelude.{◌≡◌, ◌≢◌, ◌<◌, ◌≤◌, length, All, IsErrOf, IfOk, IfErr, OnErr, OnOk, Ok, Some, None};
 ghost use Rattle.geometry.specs.Numbers.{usable};
 ghost use Rattle.nor_core.specs.Count.{Rose};
+ghost use Rattle.nor_core.specs.Device.{Changes};
 ghost use Rattle.flash_view.specs.Same.{IsSameView, OnlyLooks};
+ghost use Rattle.table_model.specs.Table.{least_id, has_name as the_name};
+ghost use Rattle.image_model.specs.Tables.{table_of};
+ghost use Rattle.image_model.specs.Tidy.{IsTidy, HasReserve};
+ghost use Rattle.volume.specs.Refusals.{create_refusal, Prepares};
+ghost use Rattle.volume.specs.Answers.{IsReady, CreateLeaves, CreateGoes};
 
-use crate::room::{file_count, has_room};
+use crate::room::{has_room, is_had};
 use file_write::create_step;
-use flash_view::{Kind, StepErr, View};
-use free_search::{free_blocks, free_id, free_page};
+use flash_view::{StepErr, View};
+use free_search::{free_blocks, free_id};
+use header_laws::ids::names_are_told;
+use header_laws::room::ids_are_least;
 use nor_core::{Failed, Nor, NorState};
 use table_model::FsErr;
 
+// Whether a file of that name is there.
+fn is_there<N: Nor>(v: &mut View<'_, N>, name: &[u8]) -> Result<bool, Failed>
+    ensures cause { OnErr result (Rose (N.faults v.old.nor.now) (N.faults v.new.nor.now)) }
+    ensures looks { OnlyLooks v.old v.new }
+    ensures told { N.tells v.old.nor.now → IsTidy v.old.geometry (N.bytes v.old.nor.now) → IfOk result (λ has. has ≡ the_name name.now (table_of v.old.geometry (N.bytes v.old.nor.now))) }
+{
+    names_are_told();
+    Ok(v.find_name(name)?.is_some())
+}
+
 // What stands against a new file of that name, or nothing.
+#[tactic(auto, unfolding(crate::specs::Refusals::create_refusal))]
 fn obstacle<N: Nor>(v: &mut View<'_, N>, name: &[u8]) -> Result<Option<FsErr>, Failed>
     ensures cause { OnErr result (Rose (N.faults v.old.nor.now) (N.faults v.new.nor.now)) }
     ensures looks { OnlyLooks v.old v.new }
     ensures no_fault { ¬ (result ≡ Ok (Some FsErr.DeviceFault)) }
+    ensures told { N.tells v.old.nor.now → IsTidy v.old.geometry (N.bytes v.old.nor.now) → IfOk result (λ why. why ≡ create_refusal v.old.geometry (N.bytes v.old.nor.now) name.now) }
 {
-    if v.find_name(name)?.is_some() {
+    if is_there(v, name)? {
         return Ok(Some(FsErr::ConflictingName));
     }
     if free_blocks(v)? < 2 {
         return Ok(Some(FsErr::Tight));
     }
-    let files = file_count(v)?;
-    if !has_room(&v.geometry, files + 1, 0) {
+    if !has_room(v)? {
         return Ok(Some(FsErr::Full));
     }
-    if free_page(v, Kind::Index, 2, None)?.is_none() {
+    if !is_had(v)? {
         return Ok(Some(FsErr::Unbuilt));
     }
     Ok(None)
@@ -37,12 +56,14 @@ fn prepare<N: Nor>(v: &mut View<'_, N>, name: &[u8]) -> Result<u16, FsErr>
     ensures cause { IsErrOf result FsErr.DeviceFault → Rose (N.faults v.old.nor.now) (N.faults v.new.nor.now) }
     ensures looks { OnlyLooks v.old v.new }
     ensures id { IfOk result (λ id. (1 ≤ id) × (id ≤ usable v.old.geometry)) }
+    ensures told { N.tells v.old.nor.now → IsTidy v.old.geometry (N.bytes v.old.nor.now) → Prepares v.old.geometry (N.bytes v.old.nor.now) name.now result }
 {
     match obstacle(v, name) {
         Err(Failed) => return Err(FsErr::DeviceFault),
         Ok(Some(why)) => return Err(why),
         Ok(None) => {}
     }
+    ids_are_least();
     match free_id(v) {
         Err(Failed) => Err(FsErr::DeviceFault),
         Ok(Some(id)) => Ok(id),
@@ -59,6 +80,8 @@ pub(crate) fn create_in<N: Nor>(v: &mut View<'_, N>, name: &[u8]) -> Result<(), 
     ensures cause { IsErrOf result FsErr.DeviceFault → Rose (N.faults v.old.nor.now) (N.faults v.new.nor.now) }
     ensures faults { N.faults v.old.nor.now ≤ N.faults v.new.nor.now }
     ensures same { IsSameView v.old v.new }
+    ensures changes { Changes N.NorState v.old.nor.now v.new.nor.now (λ was image. IsReady v.old.geometry was → CreateLeaves v.old.geometry name.now was image) }
+    ensures goes { N.tells v.old.nor.now → IsReady v.old.geometry (N.bytes v.old.nor.now) → CreateGoes N.NorState v.old.geometry name.now v.old.nor.now v.new.nor.now result }
 {
     let id = prepare(v, name)?;
     match create_step(v, id, name) {

@@ -1,11 +1,13 @@
-//! A checked volume and its file calls.
+//! A mounted volume and its file calls.
 #![tactic(auto)]
 
-mod checking;
 mod create;
 mod names;
+mod records;
 mod room;
+mod stage;
 mod volume;
 
-pub use checking::{CheckErr, Report, check};
+pub use stage::Stage;
+pub use vol_check::{CheckErr, Report};
 pub use volume::{Unmounted, Volume};

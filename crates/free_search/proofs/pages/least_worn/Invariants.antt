@@ -1,6 +1,8 @@
-use Rattle.std.proofs.Common.{◌≡◌, ◌<◌}
-use Rattle.std.specs.Prelude.{IfSome}
+use Rattle.std.proofs.Common.{◌≡◌, ◌≢◌, ◌<◌, ℕ, true, false}
+use Rattle.std.specs.Prelude.{IfSome, Some}
+use Rattle.image_model.specs.Tidy.{is_free_block}
 use Rattle.flash_view.specs.Same.{OnlyLooks}
+use Rattle.free_search.proofs.Worn.{WornBelow}
 use Rattle.free_search.proofs.pages.least_worn.Given as goal
 
 abbrev pub invariant-loop-block : goal.invariant-loop-block
@@ -8,4 +10,5 @@ invariant-loop-block g l = record {
   looks : OnlyLooks l.fn.v l.v;
   end : l.block-end ≡ l.fn.v.geometry.blocks;
   below : IfSome l.least (λ worn. worn.block < l.fn.v.geometry.blocks);
+  told : g.N.NorState.tells l.fn.v.nor.now → WornBelow l.fn.v.geometry (g.N.NorState.bytes l.fn.v.nor.now) l.not_in l.block l.least;
 }

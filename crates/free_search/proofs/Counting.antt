@@ -1,0 +1,124 @@
+-- The counts of a block's entries, entry after entry.
+use Rattle.std.proofs.Common.{◌≡◌, ◌≢◌, ℕ, ◌+◌, ◌-◌, ◌*◌, ◌<◌, ◌≤◌, List, Bool, true, false, not, ◌==◌, ◌&&◌, length, refl, sym, ◌∙◌, ap, arith, subst, if◌then◌else◌}
+use Rattle.std.specs.Prelude.{filter, Option, Some, None, is_none}
+use Rattle.std.specs.List.{range_with_len}
+use Rattle.std.proofs.lemmas.Bool.{eqb-true, eq-eqb}
+use Rattle.geometry.specs.declared.geometry.Geometry.{Geometry}
+use Rattle.image_model.specs.Volume.{per_block, lookups, entries}
+use Rattle.image_model.specs.Headers.{names_index, is_finished}
+use Rattle.image_model.specs.Places.{entry_of, erase_count}
+use Rattle.image_model.specs.Live.{live_at}
+use Rattle.image_model.specs.Kinds.{is_index_page, is_data_page}
+use Rattle.image_model.specs.Collect.{index_in, data_in, deleted_in, is_deleted_entry}
+use Rattle.image_laws.proofs.Tally.{is_finished-ones}
+use Rattle.image_laws.proofs.Frames.{live_parts}
+use Rattle.free_search.specs.declared.blocks.BlockCounts.{BlockCounts}
+use Rattle.free_search.specs.declared.blocks.Sort.{Sort}
+use Rattle.free_search.specs.declared.blocks.Sort.TheVariants.{Index, Data, Deleted, Free}
+use Rattle.free_search.specs.Counts.{the_sort, sort_of_page, one_more, total_of, AreCounts}
+use Rattle.free_search.proofs.Scans.{count_start, count_yes, count_no, count_end}
+
+-- an entry of 0xFFFF is of no live page
+pub free_is_dead : (g : Geometry) (image : List ℕ) (p : ℕ) → entry_of g image p ≡ 0xFFFF → live_at g image p ≡ None
+free_is_dead g image p ones = dead (live_at g image p) refl
+  where
+    dead : (o : Option (List ℕ)) → live_at g image p ≡ o → o ≡ None
+    dead None e = refl
+    dead (Some page) e =
+        let w = live_parts g image p page e in
+        let no : is_finished page ≡ false = is_finished-ones page (sym w.entry ∙ ones) in
+        let yes : is_finished page ≡ true = w.finished in
+        absurd (cc)
+
+-- which of the four tests an entry passes, by what it counts as
+abbrev pub is_index_sort : Sort → Bool
+is_index_sort Index = true
+is_index_sort _ = false
+
+abbrev pub is_data_sort : Sort → Bool
+is_data_sort Data = true
+is_data_sort _ = false
+
+abbrev pub is_deleted_sort : Sort → Bool
+is_deleted_sort Deleted = true
+is_deleted_sort _ = false
+
+abbrev pub is_free_sort : Sort → Bool
+is_free_sort Free = true
+is_free_sort _ = false
+
+pub record Passes (g : Geometry) (image : List ℕ) (p : ℕ) (s : Sort) : Type 0 where
+  pub index : is_index_page (live_at g image p) ≡ is_index_sort s
+  pub pages : is_data_page (live_at g image p) ≡ is_data_sort s
+  pub deleted : is_deleted_entry g image p ≡ is_deleted_sort s
+  pub free : (entry_of g image p == 0xFFFF) ≡ is_free_sort s
+
+page_passes : (index : Bool) → (index ≡ is_index_sort (if index then Index else Data)) × (not index ≡ is_data_sort (if index then Index else Data)) × (false ≡ is_deleted_sort (if index then Index else Data)) × (false ≡ is_free_sort (if index then Index else Data))
+page_passes true = (refl, refl, refl, refl)
+page_passes false = (refl, refl, refl, refl)
+
+used_passes : (g : Geometry) (image : List ℕ) (p : ℕ) (o : Option (List ℕ)) → live_at g image p ≡ o → (entry_of g image p == 0xFFFF) ≡ false → Passes g image p (sort_of_page o)
+used_passes g image p None dead used = record { index = rw dead refl; pages = rw dead refl; deleted = rw (dead, used) refl; free = used }
+used_passes g image p (Some page) live used =
+    let all = page_passes (names_index page) in
+    record { index = rw live all.0; pages = rw live all.1; deleted = rw (live, used) all.2; free = used ∙ all.3 }
+
+passes_by : (g : Geometry) (image : List ℕ) (p : ℕ) (ones : Bool) → (entry_of g image p == 0xFFFF) ≡ ones → Passes g image p (if ones then Free else sort_of_page (live_at g image p))
+passes_by g image p true ones = let dead : live_at g image p ≡ None = free_is_dead g image p (eqb-true _ 0xFFFF ones) in record { index = rw dead refl; pages = rw dead refl; deleted = rw (dead, ones) refl; free = ones }
+passes_by g image p false used = used_passes g image p (live_at g image p) refl used
+
+pub entry_passes : (g : Geometry) (image : List ℕ) (p : ℕ) → Passes g image p (the_sort g image p)
+entry_passes g image p = passes_by g image p (entry_of g image p == 0xFFFF) refl
+
+-- those so far and those to come, of each sort
+pub record Counting (g : Geometry) (image : List ℕ) (first n i block : ℕ) (c : BlockCounts) : Type 0 where
+  pub index : c.index_live + length (filter (λ p. is_index_page (live_at g image p)) (range_with_len (first + i) (n - i))) ≡ index_in g image block
+  pub pages : c.data_live + length (filter (λ p. is_data_page (live_at g image p)) (range_with_len (first + i) (n - i))) ≡ data_in g image block
+  pub deleted : c.deleted + length (filter (λ p. is_deleted_entry g image p) (range_with_len (first + i) (n - i))) ≡ deleted_in g image block
+  pub free : c.free + length (filter (λ p. entry_of g image p == 0xFFFF) (range_with_len (first + i) (n - i))) ≡ length (filter (λ p. entry_of g image p == 0xFFFF) (range_with_len first n))
+  pub erases : c.erases ≡ erase_count g image block
+
+pub counting_start : (g : Geometry) (image : List ℕ) (block : ℕ) (c : BlockCounts) → c.index_live ≡ 0 → c.data_live ≡ 0 → c.deleted ≡ 0 → c.free ≡ 0 → c.erases ≡ erase_count g image block →
+    Counting g image (block * per_block g + lookups g) (entries g) 0 block c
+unfolding index_in data_in deleted_in
+counting_start g image block c a b d e erases = record {
+  index = rw a (count_start (λ p. is_index_page (live_at g image p)) (block * per_block g + lookups g) (entries g));
+  pages = rw b (count_start (λ p. is_data_page (live_at g image p)) (block * per_block g + lookups g) (entries g));
+  deleted = rw d (count_start (λ p. is_deleted_entry g image p) (block * per_block g + lookups g) (entries g));
+  free = rw e (count_start (λ p. entry_of g image p == 0xFFFF) (block * per_block g + lookups g) (entries g));
+  erases = erases;
+}
+
+pub counting_more : (g : Geometry) (image : List ℕ) (first n i block p : ℕ) (c : BlockCounts) (s : Sort) → i < n → Counting g image first n i block c → first + i ≡ p → s ≡ the_sort g image p →
+    Counting g image first n (i + 1) block (one_more c s)
+counting_more g image first n i block p c s less was at_p is = turn s (subst (Passes g image p) (sym is) (entry_passes g image p))
+  where
+    turn : (s : Sort) → Passes g image p s → Counting g image first n (i + 1) block (one_more c s)
+    turn Index w = record {
+      index = count_yes _ first n i _ _ p less was.index at_p w.index; pages = count_no _ first n i _ _ p less was.pages at_p w.pages;
+      deleted = count_no _ first n i _ _ p less was.deleted at_p w.deleted; free = count_no _ first n i _ _ p less was.free at_p w.free; erases = was.erases }
+    turn Data w = record {
+      index = count_no _ first n i _ _ p less was.index at_p w.index; pages = count_yes _ first n i _ _ p less was.pages at_p w.pages;
+      deleted = count_no _ first n i _ _ p less was.deleted at_p w.deleted; free = count_no _ first n i _ _ p less was.free at_p w.free; erases = was.erases }
+    turn Deleted w = record {
+      index = count_no _ first n i _ _ p less was.index at_p w.index; pages = count_no _ first n i _ _ p less was.pages at_p w.pages;
+      deleted = count_yes _ first n i _ _ p less was.deleted at_p w.deleted; free = count_no _ first n i _ _ p less was.free at_p w.free; erases = was.erases }
+    turn Free w = record {
+      index = count_no _ first n i _ _ p less was.index at_p w.index; pages = count_no _ first n i _ _ p less was.pages at_p w.pages;
+      deleted = count_no _ first n i _ _ p less was.deleted at_p w.deleted; free = count_yes _ first n i _ _ p less was.free at_p w.free; erases = was.erases }
+
+pub counting_end : (g : Geometry) (image : List ℕ) (block first n i : ℕ) (c : BlockCounts) → first ≡ block * per_block g + lookups g → n ≡ entries g → n ≤ i → Counting g image first n i block c → AreCounts g image block c
+counting_end g image block first n i c at_first at_n most was = record {
+  index = count_end _ first n i _ _ most was.index;
+  pages = count_end _ first n i _ _ most was.pages;
+  deleted = count_end _ first n i _ _ most was.deleted;
+  free = count_end _ first n i _ _ most was.free ∙ rw (at_first, at_n) refl;
+  erases = was.erases;
+}
+
+-- one entry more was counted
+pub total_more : (c : BlockCounts) (s : Sort) → total_of (one_more c s) ≡ total_of c + 1
+total_more c Index = omega arith
+total_more c Data = omega arith
+total_more c Deleted = omega arith
+total_more c Free = omega arith

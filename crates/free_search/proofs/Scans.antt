@@ -1,0 +1,43 @@
+-- Scans over numbers in a row: what those from a loop's counter on still bring.
+use Rattle.std.proofs.Common.{◌≡◌, ℕ, suc, ◌+◌, ◌-◌, ◌<◌, ◌≤◌, List, [], ◌∷◌, Bool, true, false, length, refl, sym, ◌∙◌, ap, arith, add_assoc, add-zero}
+use Rattle.std.specs.Prelude.{filter}
+use Rattle.std.specs.List.{range_with_len, list_all}
+use Rattle.std.proofs.Math.Nat.{sub-zero}
+
+pub scan_step : (first n i : ℕ) → i < n → range_with_len (first + i) (n - i) ≡ (first + i) ∷ range_with_len (first + (i + 1)) (n - (i + 1))
+scan_step first n i h = let left : n - i ≡ suc (n - (i + 1)) = omega arith in let next : first + i + 1 ≡ first + (i + 1) = omega arith in rw (left, next) refl
+
+scan_end : (first n i : ℕ) → n ≤ i → range_with_len (first + i) (n - i) ≡ []
+scan_end first n i h = let left : n - i ≡ 0 = omega arith in rw left refl
+
+scan_start : (first n : ℕ) → range_with_len (first + 0) (n - 0) ≡ range_with_len first n
+scan_start first n = rw (add-zero, sub-zero n) refl
+
+-- whether all pass is what those from the counter on say, as long as the others passed
+pub all_start : (test : ℕ → Bool) (first n : ℕ) → list_all test (range_with_len (first + 0) (n - 0)) ≡ list_all test (range_with_len first n)
+all_start test first n = ap (list_all test) (scan_start first n)
+
+pub all_later : (test : ℕ → Bool) (first n i : ℕ) (total : Bool) → i < n → list_all test (range_with_len (first + i) (n - i)) ≡ total → test (first + i) ≡ true →
+    list_all test (range_with_len (first + (i + 1)) (n - (i + 1))) ≡ total
+all_later test first n i total h all passes = sym (ap (list_all test) (scan_step first n i h) ∙ rw passes refl) ∙ all
+
+pub all_fails : (test : ℕ → Bool) (first n i : ℕ) (total : Bool) → i < n → list_all test (range_with_len (first + i) (n - i)) ≡ total → test (first + i) ≡ false → false ≡ total
+all_fails test first n i total h all fails = sym (ap (list_all test) (scan_step first n i h) ∙ rw fails refl) ∙ all
+
+pub all_end : (test : ℕ → Bool) (first n i : ℕ) (total : Bool) → n ≤ i → list_all test (range_with_len (first + i) (n - i)) ≡ total → true ≡ total
+all_end test first n i total h all = sym (ap (list_all test) (scan_end first n i h)) ∙ all
+
+-- those that passed so far, and those to come, are all of them
+pub count_start : (test : ℕ → Bool) (first n : ℕ) → 0 + length (filter test (range_with_len (first + 0) (n - 0))) ≡ length (filter test (range_with_len first n))
+count_start test first n = let all = ap (λ (xs : List ℕ). length (filter test xs)) (scan_start first n) in omega (arith, all)
+
+pub count_yes : (test : ℕ → Bool) (first n i count total p : ℕ) → i < n → count + length (filter test (range_with_len (first + i) (n - i))) ≡ total → first + i ≡ p → test p ≡ true →
+    count + 1 + length (filter test (range_with_len (first + (i + 1)) (n - (i + 1)))) ≡ total
+count_yes test first n i count total p h all at_p passes = let step = rw (scan_step first n i h, at_p, passes) at all in omega (arith, step)
+
+pub count_no : (test : ℕ → Bool) (first n i count total p : ℕ) → i < n → count + length (filter test (range_with_len (first + i) (n - i))) ≡ total → first + i ≡ p → test p ≡ false →
+    count + length (filter test (range_with_len (first + (i + 1)) (n - (i + 1)))) ≡ total
+count_no test first n i count total p h all at_p fails = rw (scan_step first n i h, at_p, fails) at all
+
+pub count_end : (test : ℕ → Bool) (first n i count total : ℕ) → n ≤ i → count + length (filter test (range_with_len (first + i) (n - i))) ≡ total → count ≡ total
+count_end test first n i count total h all = let last = rw (scan_end first n i h) at all in omega (arith, last)

@@ -1,0 +1,24 @@
+-- Ids without a header page, noted as bits.
+use Rattle.std.specs.Prelude.{◌≡◌, ◌≢◌, ℕ, ◌+◌, ◌*◌, ◌/◌, ◌%◌, ◌≤◌, List, drop, not, Option, Some, None, find, slice_index}
+use Rattle.std.specs.List.{range_with_len}
+use Rattle.std.specs.Int.{bit_at}
+use Rattle.geometry.specs.declared.geometry.Geometry.{Geometry}
+use Rattle.geometry.specs.Numbers.{per_block, usable}
+use Rattle.flash_view.specs.Found.{has_header}
+
+-- the bit of an id: eight to a byte, the lowest first
+unfoldable pub bit_of : List ℕ → ℕ → ℕ
+bit_of bits id = bit_at (slice_index bits (id / 8)) (id % 8)
+
+-- the bits among the bytes for work: behind the pages and the notes on pages and blocks
+abbrev pub bits_at : Geometry → List ℕ → List ℕ
+bits_at g work = drop (4 * g.page + 4 * per_block g + 16 * g.blocks) work
+
+-- the least id from 1 to the number of entry pages that has no header page
+unfoldable pub unused_id : Geometry → List ℕ → Option ℕ
+unused_id g image = find (λ id. not (has_header g image id)) (range_with_len 1 (usable g))
+
+-- the bits with the id of a page noted, if it is a header page and the id isn't above the most
+pub record Notes (most : ℕ) (found : Option ℕ) (old new : List ℕ) : Type 0 where
+  pub noted : (id : ℕ) → found ≡ Some id → id ≤ most → bit_of new id ≡ 1
+  pub others : (k : ℕ) → found ≢ Some k → bit_of new k ≡ bit_of old k

@@ -1,0 +1,5 @@
+pub mod Ids
+pub mod Heads
+pub mod Names
+pub mod Sums
+pub mod Room

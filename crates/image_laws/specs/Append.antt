@@ -1,0 +1,69 @@
+-- Data bytes are appended to a file.
+use Rattle.std.specs.Prelude.{◌≡◌, ℕ, ◌+◌, ◌-◌, ◌*◌, ◌/◌, ◌%◌, ◌<◌, ◌≤◌, List, ◌++◌, length, Bool, true, false, Some, Ok, is_some, slice_index, slice_range, slice_set}
+use Rattle.geometry.specs.declared.geometry.Geometry.{Geometry}
+use Rattle.nor_core.specs.Flash.{HalfProgrammed}
+use Rattle.geometry.specs.Numbers.{body, head_slots}
+use Rattle.table_model.specs.Table.{File, put_file}
+use Rattle.table_model.specs.Files.{written}
+use Rattle.table_model.specs.Room.{data_pages, index_pages}
+use Rattle.image_model.specs.Live.{Live, live_at, own}
+use Rattle.image_model.specs.Headers.{word_at, obj_id, names_index, span_of, size_of, name_of}
+use Rattle.image_model.specs.Files.{index_page, entry_number, data_page, judged}
+use Rattle.image_model.specs.Places.{IsImage}
+use Rattle.image_model.specs.Tables.{table_of}
+use Rattle.image_model.specs.Tidy.{IsTidy, serves, free_blocks}
+use Rattle.image_model.specs.Sound.{HasMagics, Keeps}
+use Rattle.image_laws.specs.TidySteps.{IsTidyBut}
+use Rattle.image_laws.specs.LiveSteps.{Finished, Kills}
+use Rattle.image_laws.specs.Renew.{Renews}
+
+-- Programming bytes of a live data page past the end of its file, done or cut off, leaves the image tidy but for what was
+-- spare, with its table.
+abbrev pub AppendingTidies : Geometry → Type 0
+AppendingTidies g = (a b : List ℕ) (p h at : ℕ) (asked page head : List ℕ) (spare : ℕ → Bool) → IsImage g a → IsTidyBut g a spare → live_at g a p ≡ Some page → names_index page ≡ false →
+    index_page g (own (live_at g a) (obj_id page % 0x8000)) 0 ≡ Some h → own (live_at g a) (obj_id page % 0x8000) h ≡ Some head →
+    p * g.page + 5 + (size_of head - span_of page * body g) ≤ at → at + length asked ≤ p * g.page + g.page → HalfProgrammed at asked a b →
+    IsTidyBut g b spare × (table_of g b ≡ table_of g a)
+
+-- It keeps an image that isn't tidy too, with its free blocks.
+abbrev pub AppendingIsSound : Geometry → Type 0
+AppendingIsSound g = (a b : List ℕ) (p h at : ℕ) (asked page head : List ℕ) → IsImage g a → HasMagics g a → live_at g a p ≡ Some page → names_index page ≡ false →
+    index_page g (own (live_at g a) (obj_id page % 0x8000)) 0 ≡ Some h → own (live_at g a) (obj_id page % 0x8000) h ≡ Some head →
+    p * g.page + 5 + (size_of head - span_of page * body g) ≤ at → at + length asked ≤ p * g.page + g.page → HalfProgrammed at asked a b →
+    Keeps g a b × (free_blocks g a ≤ free_blocks g b)
+
+-- A header page says that a file has these bytes more: they stand in data page z, behind the old size.
+pub record Appends (g : Geometry) (pages : Live) (head head' bytes z : List ℕ) : Type 0 where
+  pub some : 0 < length bytes
+  pub fits : size_of head % body g + length bytes ≤ body g
+  pub size : size_of head' ≡ size_of head + length bytes
+  pub words : (t : ℕ) → t < data_pages g (size_of head) → t < head_slots g → word_at head' (45 + g.meta + 2 * t) ≡ word_at head (45 + g.meta + 2 * t)
+  pub page : data_page g pages head' (size_of head / body g) ≡ Some z
+  pub holds : slice_range z (5 + size_of head % body g) (5 + size_of head % body g + length bytes) ≡ bytes
+
+-- It leads to the file with these bytes at its end.
+abbrev pub AppendedLeads : Geometry → Type 0
+AppendedLeads g = (pages : Live) (id : ℕ) (head head' name bytes z : List ℕ) (f0 : File) → ((q : ℕ) (x : List ℕ) → pages q ≡ Some x → length x ≡ g.page) → judged g pages id head ≡ Ok f0 →
+    Appends g pages head head' bytes z → name_of head' ≡ Some name →
+    judged g pages id head' ≡ Ok (record { id = id; name = name; kind = slice_index head' 12; meta = slice_range head' 45 (45 + g.meta); bytes = f0.bytes ++ bytes })
+
+-- Where it keeps name, type and meta, that is the file with the bytes written at its end.
+abbrev pub AppendedIsWritten : Geometry → Type 0
+AppendedIsWritten g = (pages : Live) (id : ℕ) (head head' bytes z : List ℕ) (f0 : File) → ((q : ℕ) (x : List ℕ) → pages q ≡ Some x → length x ≡ g.page) → judged g pages id head ≡ Ok f0 →
+    Appends g pages head head' bytes z → name_of head' ≡ name_of head → slice_index head' 12 ≡ slice_index head 12 → slice_range head' 45 (45 + g.meta) ≡ slice_range head 45 (45 + g.meta) →
+    judged g pages id head' ≡ Ok (written (length f0.bytes) bytes f0)
+
+-- The pages that served the file serve it still, and so do those that the new size needs.
+abbrev pub AppendedServes : Geometry → Type 0
+AppendedServes g = (pages : Live) (head head' bytes z : List ℕ) → Appends g pages head head' bytes z → (r : ℕ) →
+    (serves g pages head r ≡ true → serves g pages head' r ≡ true)
+    × (entry_number g pages head' (size_of head / body g) ≡ Some r → serves g pages head' r ≡ true)
+    × ((j : ℕ) → j < index_pages g (size_of head') → index_page g pages j ≡ Some r → serves g pages head' r ≡ true)
+
+-- A renewed header page that all pages of its file serve, those that were spare among them, leaves the image tidy.
+abbrev pub RenewedTidies : Geometry → Type 0
+RenewedTidies g = (a0 a1 a2 a3 a4 a5 a6 : List ℕ) (p o id : ℕ) (old head : List ℕ) (fin kill : ℕ) (f : File) (before : ℕ → Bool) → Renews g a0 p o id old head fin kill f →
+    index_page g (own (live_at g a0) id) 0 ≡ Some o → Finished g p head fin a0 a1 a2 a3 a4 → Kills g o kill a4 a5 a6 → IsTidyBut g a0 before →
+    ((r : ℕ) → before r ≡ true → (is_some (own (live_at g a0) id r) ≡ true) × (serves g (own (live_at g a0) id) (slice_set head 4 fin) r ≡ true)) →
+    ((r : ℕ) → serves g (own (live_at g a0) id) old r ≡ true → serves g (own (live_at g a0) id) (slice_set head 4 fin) r ≡ true) →
+    IsTidy g a6 × (table_of g a6 ≡ put_file f (table_of g a0))

@@ -1,0 +1,26 @@
+ghost use Rattle.std.specs.Prelude.{◌≡◌, ◌≤◌, OnErr, OnOk, true};
+ghost use Rattle.nor_core.specs.Count.{Rose};
+ghost use Rattle.nor_core.specs.Device.{Changes};
+ghost use Rattle.flash_view.specs.Places.{IsEntryPage};
+ghost use Rattle.flash_view.specs.Same.{IsSameView};
+ghost use Rattle.page_put.specs.Kills.{HalfKilled, killed};
+
+use flash_view::View;
+use nor_core::{Failed, Nor, NorState};
+use page_layout::{DELETED, Flags};
+
+/// Kills a page: a program that clears DELET in its flags, and one that sets its entry to zero. Whatever the
+/// page and the entry hold, no page is finished by it, also where it is cut off.
+pub fn kill<N: Nor>(v: &mut View<'_, N>, page: u16) -> Result<(), Failed>
+    requires page { IsEntryPage v.old.geometry page }
+    ensures cause { OnErr result (Rose (N.faults v.old.nor.now) (N.faults v.new.nor.now)) }
+    ensures faults { N.faults v.old.nor.now ≤ N.faults v.new.nor.now }
+    ensures changes { Changes N.NorState v.old.nor.now v.new.nor.now (HalfKilled v.old.geometry page) }
+    ensures done { N.tells v.old.nor.now → OnOk result (N.bytes v.new.nor.now ≡ killed v.old.geometry page (N.bytes v.old.nor.now)) }
+    ensures same { IsSameView v.old v.new }
+    ensures wrote { v.new.wrote ≡ true }
+{
+    let erased = Flags::from_bits(0xFF);
+    v.program_in(page, 4, &[erased.deleted().bits()])?;
+    v.program_entry(page, DELETED)
+}

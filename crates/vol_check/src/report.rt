@@ -1,0 +1,26 @@
+use geometry::GeoErr;
+
+/// What a check found and did.
+#[derive(Clone, Copy, Debug, PartialEq, Eq)]
+pub struct Report {
+    /// Whether a block without its magic was erased.
+    pub erased: bool,
+    /// Entries that were set to zero.
+    pub killed: u32,
+    /// Ids that were damaged, and are gone.
+    pub damaged: u32,
+    /// Free blocks in the end.
+    pub free_blocks: u32,
+}
+
+/// Why a volume isn't checked.
+#[derive(Clone, Copy, Debug, PartialEq, Eq)]
+pub enum CheckErr {
+    /// The numbers don't allow writing.
+    Wrong(GeoErr),
+    /// The image isn't of the kind that this build takes: every block with its magic, and every live page the
+    /// header page of an empty file, with ids and names that differ.
+    Unbuilt,
+    /// The device failed.
+    DeviceFault,
+}

@@ -1,9 +1,0 @@
-use Rattle.std.proofs.Common.{◌≡◌}
-use Rattle.flash_view.specs.Same.{OnlyLooks}
-use Rattle.volume.proofs.checking.has_magics.Given as goal
-
-abbrev pub invariant-loop-block : goal.invariant-loop-block
-invariant-loop-block g l = record {
-  looks : OnlyLooks l.fn.v l.v;
-  end : l.block-end ≡ l.fn.v.geometry.blocks;
-}

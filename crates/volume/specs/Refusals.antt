@@ -1,0 +1,27 @@
+-- What stands against a create.
+use Rattle.std.specs.Prelude.{◌≡◌, ℕ, List, not, nat_lt, Option, Some, None, Result, Ok, Err, if◌then◌else◌}
+use Rattle.geometry.specs.declared.geometry.Geometry.{Geometry}
+use Rattle.table_model.specs.declared.error.FsErr.{FsErr}
+use Rattle.table_model.specs.declared.error.FsErr.TheVariants.{ConflictingName, Tight, Full, Unbuilt, DeviceFault}
+use Rattle.table_model.specs.Table.{has_name, least_id}
+use Rattle.table_model.specs.Room.{has_room}
+use Rattle.table_model.specs.Files.{created}
+use Rattle.image_model.specs.Tables.{table_of}
+use Rattle.image_model.specs.Tidy.{free_blocks}
+use Rattle.image_model.specs.Collect.{are_had}
+
+-- Why a new file of a fine name isn't made: the name is there, fewer than two blocks are free, the table with it has no room,
+-- or no index page is had without collecting garbage.
+unfoldable pub create_refusal : Geometry → List ℕ → List ℕ → Option FsErr
+create_refusal g image name =
+    if has_name name (table_of g image) then Some ConflictingName
+    else if nat_lt (free_blocks g image) 2 then Some Tight
+    else if not (has_room g (created g name (table_of g image))) then Some Full
+    else if not (are_had g image 1 0) then Some Unbuilt
+    else None
+
+-- the id of a new file, where nothing stands against it, or what does
+abbrev pub Prepares : Geometry → List ℕ → List ℕ → Result ℕ FsErr → Type 0
+Prepares g image name (Ok id) = (create_refusal g image name ≡ None) × (id ≡ least_id (table_of g image))
+Prepares g image name (Err DeviceFault) = Unit {0}
+Prepares g image name (Err why) = create_refusal g image name ≡ Some why
