@@ -1,16 +1,18 @@
 -- From the first image over the check to the end of a run.
-use Rattle.std.proofs.Common.{◌≡◌, ℕ, ◌+◌, ◌<◌, ◌≤◌, List, [], ◌++◌, length, refl, sym, ◌∙◌, ap, subst, arith, inl, inr, ⊎_elim, append-nil, None}
+use Rattle.std.proofs.Common.{◌≡◌, ℕ, ◌+◌, ◌<◌, ◌≤◌, List, [], ◌++◌, length, refl, sym, ◌∙◌, ap, subst, arith, inl, inr, ⊎_elim, append-nil, Bool, true, false, None}
 use Rattle.std.specs.Prelude.{replicate}
 use Rattle.geometry.specs.declared.geometry.Geometry.{Geometry}
 use Rattle.nor_core.specs.declared.state.NorState.{Ghosts as NorOf}
 use Rattle.nor_core.specs.Device.{OnlyReads, Leaves, Changes}
-use Rattle.nor_core.proofs.Cuts.{andthen, widened, reads_then}
+use Rattle.nor_core.proofs.Cuts.{andthen, widened, wider, unchanged, read_after, after_reads, reads_then}
 use Rattle.table_model.specs.Ask.{Ask}
 use Rattle.table_model.specs.Window.{Moment, settled_at}
 use Rattle.call_script.specs.Lines.{calls}
 use Rattle.image_model.specs.Tables.{table_of}
 use Rattle.image_model.specs.Tidy.{HasReserve}
 use Rattle.image_model.specs.Kinds.{spoiled_blocks}
+use Rattle.image_model.specs.Places.{has_magic}
+use Rattle.image_model.specs.Sound.{HasMagics}
 use Rattle.image_model.specs.Plain.{IsPlain}
 use Rattle.run_model.specs.Runs.{after_all, replies}
 use Rattle.run_model.specs.Safe.{IsSafe, IsAt}
@@ -19,11 +21,11 @@ use Rattle.run_model.proofs.Runs.{is_settled, cut_none}
 use Rattle.run_model.proofs.Chain.{later_reached, later_said, cut_behind}
 use Rattle.vol_mount.specs.declared.lent.MountErr.{MountErr}
 use Rattle.vol_mount.specs.declared.lent.MountErr.TheVariants.{NotAFs as MountNotAFs, DeviceFault as MountFault}
-use Rattle.vol_mount.specs.Mounts.{IsLate}
-use Rattle.volume.specs.declared.checking.CheckErr.{CheckErr}
-use Rattle.volume.specs.declared.checking.CheckErr.TheVariants.{Wrong as CheckWrong, Unbuilt as CheckUnbuilt, DeviceFault as CheckFault}
-use Rattle.volume.specs.Checks.{IsWritable}
-use Rattle.tool_core.specs.Stub.{MountCause}
+use Rattle.vol_mount.specs.Mounts.{IsLate, CountsSpoiled}
+use Rattle.vol_check.specs.declared.report.CheckErr.{CheckErr}
+use Rattle.vol_check.specs.declared.report.CheckErr.TheVariants.{Wrong as CheckWrong, Unbuilt as CheckUnbuilt, DeviceFault as CheckFault}
+use Rattle.vol_check.specs.Checks.{IsWritable, IsRefusal, KeepsAll, Checked}
+use Rattle.vol_check.specs.declared.report.Report.{Report}
 use Rattle.tool_core.specs.declared.ending.Ending.{Ending}
 use Rattle.tool_core.specs.declared.ending.Ending.TheVariants.{Done, NotAFs, BadLine, BoardFault, SourceFault, TooLong, Tight, Unbuilt, UnbuiltImage}
 use Rattle.tool_core.specs.Begins.{Checks, ChecksPlain, Begun, StopsCheck, mount_ends, check_ends}
@@ -70,8 +72,19 @@ why_ran _ g m first image script left front later checked why = (checked, why)
 safe_check : {g : Geometry} {was image : List ℕ} → Checks g was image → HasReserve g was → IsSafe g was image
 safe_check here reserve = record { sound = here.keeps.sound; reserve = omega (arith, reserve, here.free); plain = λ plain. here.plain }
 
+clash : (b : Bool) → b ≡ true → b ≡ false → ⊥
+clash b is not = cc
+
+-- every block of a plain image has its magic
+plain_magics : {g : Geometry} (image : List ℕ) → IsPlain g image → HasMagics g image
+plain_magics {g} image plain = record { one = λ b c under over none also. absurd (clash (has_magic g image b) (plain.magic b under) none) }
+
+-- a plain image may stay
+checks_itself : {g : Geometry} (image : List ℕ) → IsPlain g image → Checks g image image
+checks_itself image plain = record { keeps = record { sound = record { magics = plain_magics image plain; mixed = λ block h. h; damaged = λ id h. h }; table = refl }; plain = plain; free = omega arith }
+
 -- a volume that wasn't mounted
-pub mount_stops : {D : Type 0} {nor : NorOf D} (g : Geometry) (why : MountErr) {old new : D} → IsLate why → OnlyReads nor old new → MountCause g (nor.bytes old) why → StopsCheck nor g old new (mount_ends why)
+pub mount_stops : {D : Type 0} {nor : NorOf D} (g : Geometry) (why : MountErr) {old new : D} → IsLate why → OnlyReads nor old new → CountsSpoiled g (nor.bytes old) why → StopsCheck nor g old new (mount_ends why)
 mount_stops g (MountNotAFs spoiled) late reads cause = (reads, cause.0, cause.1)
 mount_stops g MountFault late reads cause = tt {0}
 mount_stops g _ late reads cause = absurd late
@@ -157,10 +170,26 @@ module _ {D : Type 0} {nor : NorOf D} {g : Geometry} where
   early_ends _ script left _ changes tells stops = absurd stops
 
   -- a volume that was mounted, and not checked
-  pub check_stops : (why : CheckErr) {old mid new : D} (h : Geometry) → h ≡ g → IsWritable why → OnlyReads nor old mid → spoiled_blocks g (nor.bytes old) < 2 → (why ≡ CheckUnbuilt → OnlyReads nor mid new × (IsPlain h (nor.bytes mid) → ⊥)) → StopsCheck nor g old new (check_ends why)
-  check_stops CheckUnbuilt {old} {mid} {new} h same writable reads few unbuilt = let here = unbuilt refl in (reads_then reads here.0, few, λ plain. here.1 (subst (λ (l : List ℕ). IsPlain h l) (sym reads.bytes) (subst (λ (k : Geometry). IsPlain k (nor.bytes old)) (sym same) plain)))
-  check_stops CheckFault h same writable reads few unbuilt = tt {0}
-  check_stops (CheckWrong why) h same writable reads few unbuilt = absurd writable
+  pub check_stops : (why : CheckErr) {old mid new : D} (h : Geometry) → h ≡ g → IsWritable why → OnlyReads nor old mid → spoiled_blocks g (nor.bytes old) ≤ 1 → (IsRefusal why → OnlyReads nor mid new) → (why ≡ CheckUnbuilt → IsPlain h (nor.bytes mid) → ⊥) → StopsCheck nor g old new (check_ends why)
+  check_stops CheckUnbuilt {old} {mid} {new} h same writable reads few refused unbuilt = (reads_then reads (refused (tt {0})), omega (arith, few), λ plain. unbuilt refl (subst (λ (l : List ℕ). IsPlain h l) (sym reads.bytes) (subst (λ (k : Geometry). IsPlain k (nor.bytes old)) (sym same) plain)))
+  check_stops CheckFault h same writable reads few refused unbuilt = tt {0}
+  check_stops (CheckWrong why) h same writable reads few refused unbuilt = absurd writable
+
+  -- mounting changes nothing
+  pub mount_changes : {old mid : D} → OnlyReads nor old mid → Changes nor old mid (ChecksPlain g)
+  mount_changes {old} {mid} reads = read_after (unchanged old (ChecksPlain g) (λ tells plain. checks_itself (nor.bytes old) plain)) reads
+
+  -- what the check leaves after that
+  pub check_changes : {old mid new : D} (h : Geometry) → h ≡ g → OnlyReads nor old mid → Changes nor mid new (KeepsAll h) → Changes nor old new (ChecksPlain g)
+  check_changes {old} {mid} {new} h same reads changes = after_reads reads (wider (subst (λ (k : Geometry). Changes nor mid new (KeepsAll k)) same changes) (λ tells image here plain. record { keeps = here.keeps (plain_magics (nor.bytes mid) plain); plain = here.plain plain; free = here.free }))
+
+  -- a checked volume with two free blocks
+  pub begun_of : {old mid new : D} (h : Geometry) (report : Report) → h ≡ g → OnlyReads nor old mid → IsPlain h (nor.bytes mid) → Checked h (nor.bytes mid) (nor.bytes new) report → 2 ≤ report.free_blocks → Begun g (nor.bytes old) (nor.bytes new)
+  begun_of {old} {mid} {new} h report same reads plain done two = subst (λ (k : Geometry). Begun k (nor.bytes old) (nor.bytes new)) same (record { plain = subst (λ (l : List ℕ). IsPlain h l) reads.bytes plain; tidy = done.tidy; reserve = omega (arith, done.free, two) })
+
+  -- one with fewer
+  pub tight_of : {old mid new : D} (h : Geometry) (report : Report) → h ≡ g → OnlyReads nor old mid → IsPlain h (nor.bytes mid) → Checked h (nor.bytes mid) (nor.bytes new) report → report.free_blocks < 2 → StopsCheck nor g old new (Tight report.free_blocks)
+  tight_of {old} {mid} {new} h report same reads plain done few = subst (λ (k : Geometry). StopsCheck nor k old new (Tight report.free_blocks)) same (subst (λ (l : List ℕ). IsPlain h l) reads.bytes plain, done.free, few)
 
   -- the same cuts by other names
   pub same_cuts : {old new old' new' : D} (h : Geometry) (slots : ℕ) (asks : List Ask) → old ≡ old' → new ≡ new' → g ≡ h → (IsPlain h (nor.bytes old') → HasReserve h (nor.bytes old') → Leaves nor old' new' (CutIn nor h old' (first_moment h slots (nor.bytes old')) asks)) → IsPlain g (nor.bytes old) → HasReserve g (nor.bytes old) → Leaves nor old new (CutIn nor g old (first_moment g slots (nor.bytes old)) asks)

@@ -10,8 +10,8 @@ use Rattle.image_model.specs.Sound.{Keeps}
 use Rattle.image_model.specs.Plain.{IsPlain}
 use Rattle.vol_mount.specs.declared.lent.MountErr.{MountErr}
 use Rattle.vol_mount.specs.declared.lent.MountErr.TheVariants.{Wrong as MountWrong, ShortBuffer as MountShort, NotAFs as MountNotAFs, DeviceFault as MountFault}
-use Rattle.volume.specs.declared.checking.CheckErr.{CheckErr}
-use Rattle.volume.specs.declared.checking.CheckErr.TheVariants.{Wrong as CheckWrong, Unbuilt as CheckUnbuilt, DeviceFault as CheckFault}
+use Rattle.vol_check.specs.declared.report.CheckErr.{CheckErr}
+use Rattle.vol_check.specs.declared.report.CheckErr.TheVariants.{Wrong as CheckWrong, Unbuilt as CheckUnbuilt, DeviceFault as CheckFault}
 use Rattle.tool_core.specs.declared.ending.Ending.{Ending}
 use Rattle.tool_core.specs.declared.ending.Ending.TheVariants.{Geometry as WrongGeometry, ShortBuffer, NotAFs, BoardFault, Tight, UnbuiltImage}
 

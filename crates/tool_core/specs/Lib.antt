@@ -11,4 +11,3 @@ pub mod Outcomes
 pub mod Begins
 pub mod Headline
 pub mod Early
-pub mod Stub

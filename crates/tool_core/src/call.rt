@@ -3,13 +3,14 @@ ghost use Rattle.table_model.specs.Ask.{asked, Creates, Stats, NextAbove, Inform
 ghost use Rattle.call_script.specs.Pieces.{IsShort};
 ghost use Rattle.tool_core.specs.Later.{IsLater};
 ghost use Rattle.tool_core.specs.Runs.{Ran, result_err};
-ghost use Rattle.tool_core.specs.Stub.{has_failed, IsSameVolume};
+ghost use Rattle.volume.specs.Stages.{takes_calls};
+ghost use Rattle.volume.specs.Same.{IsSameVolume};
 ghost use Rattle.tool_core.specs.Turns.{DoesCall, refused_as, not_created_as};
 
 use crate::ending::Ending;
-use crate::stub::Volume;
 use nor_core::{Board, NorState};
 use table_model::{Call, FsErr, Reply};
+use volume::Volume;
 
 // The reply of a refusal, or how the run ends where the device failed or a page reads otherwise.
 fn refusal(why: FsErr) -> Result<Reply<'static>, Ending>
@@ -33,10 +34,10 @@ fn not_created(why: FsErr) -> Result<Reply<'static>, Ending>
 }
 
 fn create<B: Board>(volume: &mut Volume<'_, B>, name: &[u8]) -> Result<Reply<'static>, Ending>
-    requires { has_failed volume.old ≡ false }
+    requires { takes_calls volume.old ≡ true }
     ensures short { IfOk result IsShort }
     ensures later { IfErr result IsLater }
-    ensures ran { Ran B.NorState volume.old.nor.now volume.new.nor.now (result_err result) (has_failed volume.new) }
+    ensures ran { Ran B.NorState volume.old.nor.now volume.new.nor.now (result_err result) (takes_calls volume.new) }
     ensures no_script { ¬ (result ≡ Err Ending.SourceFault) }
     ensures same { IsSameVolume volume.old volume.new }
     ensures does { DoesCall B.NorState volume.old.geometry volume.old.nor.now volume.new.nor.now (Creates name.now) result }
@@ -48,10 +49,10 @@ fn create<B: Board>(volume: &mut Volume<'_, B>, name: &[u8]) -> Result<Reply<'st
 }
 
 fn stat<B: Board>(volume: &mut Volume<'_, B>, name: &[u8]) -> Result<Reply<'static>, Ending>
-    requires { has_failed volume.old ≡ false }
+    requires { takes_calls volume.old ≡ true }
     ensures short { IfOk result IsShort }
     ensures later { IfErr result IsLater }
-    ensures ran { Ran B.NorState volume.old.nor.now volume.new.nor.now (result_err result) (has_failed volume.new) }
+    ensures ran { Ran B.NorState volume.old.nor.now volume.new.nor.now (result_err result) (takes_calls volume.new) }
     ensures no_script { ¬ (result ≡ Err Ending.SourceFault) }
     ensures same { IsSameVolume volume.old volume.new }
     ensures does { DoesCall B.NorState volume.old.geometry volume.old.nor.now volume.new.nor.now (Stats name.now) result }
@@ -63,10 +64,10 @@ fn stat<B: Board>(volume: &mut Volume<'_, B>, name: &[u8]) -> Result<Reply<'stat
 }
 
 fn next<B: Board>(volume: &mut Volume<'_, B>, after: u16) -> Result<Reply<'static>, Ending>
-    requires { has_failed volume.old ≡ false }
+    requires { takes_calls volume.old ≡ true }
     ensures short { IfOk result IsShort }
     ensures later { IfErr result IsLater }
-    ensures ran { Ran B.NorState volume.old.nor.now volume.new.nor.now (result_err result) (has_failed volume.new) }
+    ensures ran { Ran B.NorState volume.old.nor.now volume.new.nor.now (result_err result) (takes_calls volume.new) }
     ensures no_script { ¬ (result ≡ Err Ending.SourceFault) }
     ensures same { IsSameVolume volume.old volume.new }
     ensures does { DoesCall B.NorState volume.old.geometry volume.old.nor.now volume.new.nor.now (NextAbove after) result }
@@ -79,10 +80,10 @@ fn next<B: Board>(volume: &mut Volume<'_, B>, after: u16) -> Result<Reply<'stati
 }
 
 fn info<B: Board>(volume: &mut Volume<'_, B>) -> Result<Reply<'static>, Ending>
-    requires { has_failed volume.old ≡ false }
+    requires { takes_calls volume.old ≡ true }
     ensures short { IfOk result IsShort }
     ensures later { IfErr result IsLater }
-    ensures ran { Ran B.NorState volume.old.nor.now volume.new.nor.now (result_err result) (has_failed volume.new) }
+    ensures ran { Ran B.NorState volume.old.nor.now volume.new.nor.now (result_err result) (takes_calls volume.new) }
     ensures no_script { ¬ (result ≡ Err Ending.SourceFault) }
     ensures same { IsSameVolume volume.old volume.new }
     ensures does { DoesCall B.NorState volume.old.geometry volume.old.nor.now volume.new.nor.now (Informs) result }
@@ -98,10 +99,10 @@ pub(crate) fn apply<B: Board>(
     volume: &mut Volume<'_, B>,
     call: &Call<'_>,
 ) -> Result<Reply<'static>, Ending>
-    requires { has_failed volume.old ≡ false }
+    requires { takes_calls volume.old ≡ true }
     ensures short { IfOk result IsShort }
     ensures later { IfErr result IsLater }
-    ensures ran { Ran B.NorState volume.old.nor.now volume.new.nor.now (result_err result) (has_failed volume.new) }
+    ensures ran { Ran B.NorState volume.old.nor.now volume.new.nor.now (result_err result) (takes_calls volume.new) }
     ensures no_script { ¬ (result ≡ Err Ending.SourceFault) }
     ensures same { IsSameVolume volume.old volume.new }
     ensures does { DoesCall B.NorState volume.old.geometry volume.old.nor.now volume.new.nor.now (asked call.now) result }

@@ -7,7 +7,6 @@ mod ending;
 mod lines;
 mod plan;
 mod run;
-mod stub;
 mod tool;
 mod words;
 

@@ -13,9 +13,10 @@ ghost use Rattle.tool_core.specs.Outcomes.{RunEnds, RunsTo, first_moment};
 ghost use Rattle.tool_core.specs.Turns.{DidLine, OneMore, Turned, at_run};
 ghost use Rattle.call_script.specs.Pieces.{IsShort};
 ghost use Rattle.vol_mount.specs.Mounts.{IsLate};
-ghost use Rattle.volume.specs.Checks.{IsWritable};
+ghost use Rattle.vol_check.specs.Checks.{IsWritable};
 ghost use Rattle.nor_core.specs.Count.{Rose};
-ghost use Rattle.tool_core.specs.Stub.{has_failed, IsSameVolume};
+ghost use Rattle.volume.specs.Stages.{takes_calls};
+ghost use Rattle.volume.specs.Same.{IsSameVolume};
 ghost use Rattle.tool_core.specs.Later.{IsLater, IsLaterIf};
 ghost use Rattle.tool_core.specs.Runs.{Ran, StandsBy, result_err};
 ghost use Rattle.geometry.specs.Numbers.{usable, write_refusal, work_need, cache_need, check_need};
@@ -28,9 +29,8 @@ use call_script::{parse_line, reply_text};
 use geometry::Geometry;
 use nor_core::{Board, Failed, Nor, NorState, Source};
 use table_model::Reply;
-use crate::stub::Volume;
 use vol_mount::{Lent, MountErr};
-use volume::CheckErr;
+use volume::{CheckErr, Volume};
 
 /// The number of bytes of the line buffer that hold lines; the others hold names, texts and replies.
 const LINES: usize = 8192;
@@ -74,9 +74,9 @@ fn answer<B: Board>(
     scratch: &mut [u8],
 ) -> Option<Ending>
     requires room { 4096 ≤ length scratch.old }
-    requires stands { has_failed volume.old ≡ false }
+    requires stands { takes_calls volume.old ≡ true }
     ensures later { IsLaterIf result }
-    ensures ran { Ran B.NorState volume.old.nor.now volume.new.nor.now result (has_failed volume.new) }
+    ensures ran { Ran B.NorState volume.old.nor.now volume.new.nor.now result (takes_calls volume.new) }
     ensures same { IsSameVolume volume.old volume.new }
     ensures no_script { ¬ (result ≡ Some Ending.SourceFault) }
     ensures leaves { (m : Moment) → MayCut B.NorState volume.old.geometry volume.old.nor.now volume.new.nor.now m (calls_of (line.now ∷ [])) }
@@ -101,10 +101,10 @@ fn say_reply<B: Board>(
     into: &mut [u8],
 ) -> Option<Ending>
     requires room { 4096 ≤ length into.old }
-    requires stands { has_failed volume.old ≡ false }
+    requires stands { takes_calls volume.old ≡ true }
     requires short { IsShort reply.now }
     ensures later { IsLaterIf result }
-    ensures ran { Ran B.NorState volume.old.nor.now volume.new.nor.now result (has_failed volume.new) }
+    ensures ran { Ran B.NorState volume.old.nor.now volume.new.nor.now result (takes_calls volume.new) }
     ensures same { IsSameVolume volume.old volume.new }
     ensures no_script { ¬ (result ≡ Some Ending.SourceFault) }
     ensures fault { IfSome result (λ ending. ending ≡ Ending.BoardFault) }
@@ -137,10 +137,10 @@ fn gives_more<S: Source>(script: &mut S) -> Result<bool, Failed>
 // Does the bytes that were taken as the last line, and ends the run.
 fn last_line<B: Board>(volume: &mut Volume<'_, B>, lines: &Lines<'_>, scratch: &mut [u8]) -> Ending
     requires room { 4096 ≤ length scratch.old }
-    requires stands { has_failed volume.old ≡ false }
+    requires stands { takes_calls volume.old ≡ true }
     requires no_break { NoBreak (slice_range lines.now.buf.now lines.now.start lines.now.end) }
     ensures later { IsLater result }
-    ensures ran { Ran B.NorState volume.old.nor.now volume.new.nor.now (Some result) (has_failed volume.new) }
+    ensures ran { Ran B.NorState volume.old.nor.now volume.new.nor.now (Some result) (takes_calls volume.new) }
     ensures same { IsSameVolume volume.old volume.new }
     ensures no_script { ¬ (result ≡ Ending.SourceFault) }
     ensures turned { (m : Moment) → Stands B.NorState volume.old.geometry volume.old.nor.now m → Turned B.NorState volume.old.geometry (Some result) m
@@ -166,10 +166,10 @@ fn take_more<B: Board, S: Source>(
     scratch: &mut [u8],
 ) -> Option<Ending>
     requires room { 4096 ≤ length scratch.old }
-    requires stands { has_failed volume.old ≡ false }
+    requires stands { takes_calls volume.old ≡ true }
     requires no_break { NoBreak (slice_range lines.old.buf.now lines.old.start lines.old.end) }
     ensures later { IsLaterIf result }
-    ensures ran { Ran B.NorState volume.old.nor.now volume.new.nor.now result (has_failed volume.new) }
+    ensures ran { Ran B.NorState volume.old.nor.now volume.new.nor.now result (takes_calls volume.new) }
     ensures same { IsSameVolume volume.old volume.new }
     ensures script_faults { S.faults script.old ≤ S.faults script.new }
     ensures script_cause { result ≡ Some Ending.SourceFault → Rose (S.faults script.old) (S.faults script.new) }
@@ -205,9 +205,9 @@ fn turn<B: Board, S: Source>(
     scratch: &mut [u8],
 ) -> Option<Ending>
     requires room { 4096 ≤ length scratch.old }
-    requires stands { has_failed volume.old ≡ false }
+    requires stands { takes_calls volume.old ≡ true }
     ensures later { IsLaterIf result }
-    ensures ran { Ran B.NorState volume.old.nor.now volume.new.nor.now result (has_failed volume.new) }
+    ensures ran { Ran B.NorState volume.old.nor.now volume.new.nor.now result (takes_calls volume.new) }
     ensures same { IsSameVolume volume.old volume.new }
     ensures script_faults { S.faults script.old ≤ S.faults script.new }
     ensures script_cause { result ≡ Some Ending.SourceFault → Rose (S.faults script.old) (S.faults script.new) }
@@ -236,9 +236,9 @@ fn run_lines<B: Board, S: Source>(
     scratch: &mut [u8],
 ) -> Ending
     requires room { 4096 ≤ length scratch.old }
-    requires stands { has_failed volume.old ≡ false }
+    requires stands { takes_calls volume.old ≡ true }
     ensures later { IsLater result }
-    ensures ran { Ran B.NorState volume.old.nor.now volume.new.nor.now (Some result) (has_failed volume.new) }
+    ensures ran { Ran B.NorState volume.old.nor.now volume.new.nor.now (Some result) (takes_calls volume.new) }
     ensures same { IsSameVolume volume.old volume.new }
     ensures script_faults { S.faults script.old ≤ S.faults script.new }
     ensures script_cause { result ≡ Ending.SourceFault → Rose (S.faults script.old) (S.faults script.new) }
@@ -260,9 +260,9 @@ fn run_script<B: Board, S: Source>(
     line: &mut [u8],
 ) -> Ending
     requires room { 12288 ≤ length line.old }
-    requires stands { has_failed volume.old ≡ false }
+    requires stands { takes_calls volume.old ≡ true }
     ensures later { IsLater result }
-    ensures ran { Ran B.NorState volume.old.nor.now volume.new.nor.now (Some result) (has_failed volume.new) }
+    ensures ran { Ran B.NorState volume.old.nor.now volume.new.nor.now (Some result) (takes_calls volume.new) }
     ensures same { IsSameVolume volume.old volume.new }
     ensures script_faults { S.faults script.old ≤ S.faults script.new }
     ensures script_cause { result ≡ Ending.SourceFault → Rose (S.faults script.old) (S.faults script.new) }
@@ -276,7 +276,7 @@ fn run_script<B: Board, S: Source>(
 
 // Settles a volume at the end of a run.
 fn settle<B: Board>(volume: &mut Volume<'_, B>, ending: Ending) -> Ending
-    requires { StandsBy (Some ending) (has_failed volume.old) }
+    requires { StandsBy (Some ending) (takes_calls volume.old) }
     ensures ending { result ≡ ending }
     ensures same { volume.new ≡ volume.old }
 {
@@ -291,10 +291,11 @@ fn settle<B: Board>(volume: &mut Volume<'_, B>, ending: Ending) -> Ending
 
 // Mounts and checks a volume, or says how the run ends there.
 fn begin<B: Board>(volume: &mut Volume<'_, B>) -> Result<(), Ending>
-    requires writable { write_refusal volume.old.geometry ≡ None }
-    requires stands { has_failed volume.old ≡ false }
+    requires { write_refusal volume.old.geometry ≡ None }
     ensures later { IfErr result IsLater }
-    ensures ran { Ran B.NorState volume.old.nor.now volume.new.nor.now (result_err result) (has_failed volume.new) }
+    ensures faults { B.faults volume.old.nor.now ≤ B.faults volume.new.nor.now }
+    ensures cause { result ≡ Err Ending.BoardFault → Rose (B.faults volume.old.nor.now) (B.faults volume.new.nor.now) }
+    ensures taken { OnOk result (takes_calls volume.new ≡ true) }
     ensures no_script { ¬ (result ≡ Err Ending.SourceFault) }
     ensures same { IsSameVolume volume.old volume.new }
     ensures changes { Changes B.NorState volume.old.nor.now volume.new.nor.now (ChecksPlain volume.old.geometry) }
@@ -319,9 +320,9 @@ fn run_volume<B: Board, S: Source>(
 ) -> Ending
     requires writable { write_refusal volume.old.geometry ≡ None }
     requires room { 12288 ≤ length line.old }
-    requires stands { has_failed volume.old ≡ false }
     ensures later { IsLater result }
-    ensures ran { Ran B.NorState volume.old.nor.now volume.new.nor.now (Some result) (has_failed volume.new) }
+    ensures faults { B.faults volume.old.nor.now ≤ B.faults volume.new.nor.now }
+    ensures cause { result ≡ Ending.BoardFault → Rose (B.faults volume.old.nor.now) (B.faults volume.new.nor.now) }
     ensures same { IsSameVolume volume.old volume.new }
     ensures script_faults { S.faults script.old ≤ S.faults script.new }
     ensures script_cause { result ≡ Ending.SourceFault → Rose (S.faults script.old) (S.faults script.new) }
@@ -330,7 +331,10 @@ fn run_volume<B: Board, S: Source>(
 {
     match begin(volume) {
         Err(ending) => ending,
-        Ok(()) => run_script(volume, script, line),
+        Ok(()) => {
+            let ending = run_script(volume, script, line);
+            settle(volume, ending)
+        }
     }
 }
 
@@ -357,6 +361,5 @@ pub(crate) fn run<'b, B: Board, S: Source>(
     ensures cuts { (slots : ℕ) → S.tells script.old → B.tells board.old → IsPlain g (B.bytes board.old) → HasReserve g (B.bytes board.old) → Leaves B.NorState board.old board.new (CutIn B.NorState g board.old (first_moment g slots (B.bytes board.old)) (calls (S.left script.old))) }
 {
     let mut volume = Volume::new(g, board, lent);
-    let ending = run_volume(&mut volume, script, line);
-    settle(&mut volume, ending)
+    run_volume(&mut volume, script, line)
 }
