@@ -24,8 +24,7 @@ use Rattle.vol_mount.specs.declared.lent.MountErr.TheVariants.{NotAFs as MountNo
 use Rattle.vol_mount.specs.Mounts.{IsLate, CountsSpoiled}
 use Rattle.vol_check.specs.declared.report.CheckErr.{CheckErr}
 use Rattle.vol_check.specs.declared.report.CheckErr.TheVariants.{Wrong as CheckWrong, Unbuilt as CheckUnbuilt, DeviceFault as CheckFault}
-use Rattle.vol_check.specs.Checks.{IsWritable, IsRefusal, KeepsAll, Checked}
-use Rattle.vol_check.specs.declared.report.Report.{Report}
+use Rattle.vol_check.specs.Checks.{IsWritable, IsRefusal, KeepsAll}
 use Rattle.tool_core.specs.declared.ending.Ending.{Ending}
 use Rattle.tool_core.specs.declared.ending.Ending.TheVariants.{Done, NotAFs, BadLine, BoardFault, SourceFault, TooLong, Tight, Unbuilt, UnbuiltImage}
 use Rattle.tool_core.specs.Begins.{Checks, ChecksPlain, Begun, StopsCheck, mount_ends, check_ends}
@@ -182,14 +181,6 @@ module _ {D : Type 0} {nor : NorOf D} {g : Geometry} where
   -- what the check leaves after that
   pub check_changes : {old mid new : D} (h : Geometry) → h ≡ g → OnlyReads nor old mid → Changes nor mid new (KeepsAll h) → Changes nor old new (ChecksPlain g)
   check_changes {old} {mid} {new} h same reads changes = after_reads reads (wider (subst (λ (k : Geometry). Changes nor mid new (KeepsAll k)) same changes) (λ tells image here plain. record { keeps = here.keeps (plain_magics (nor.bytes mid) plain); plain = here.plain plain; free = here.free }))
-
-  -- a checked volume with two free blocks
-  pub begun_of : {old mid new : D} (h : Geometry) (report : Report) → h ≡ g → OnlyReads nor old mid → IsPlain h (nor.bytes mid) → Checked h (nor.bytes mid) (nor.bytes new) report → 2 ≤ report.free_blocks → Begun g (nor.bytes old) (nor.bytes new)
-  begun_of {old} {mid} {new} h report same reads plain done two = subst (λ (k : Geometry). Begun k (nor.bytes old) (nor.bytes new)) same (record { plain = subst (λ (l : List ℕ). IsPlain h l) reads.bytes plain; tidy = done.tidy; reserve = omega (arith, done.free, two) })
-
-  -- one with fewer
-  pub tight_of : {old mid new : D} (h : Geometry) (report : Report) → h ≡ g → OnlyReads nor old mid → IsPlain h (nor.bytes mid) → Checked h (nor.bytes mid) (nor.bytes new) report → report.free_blocks < 2 → StopsCheck nor g old new (Tight report.free_blocks)
-  tight_of {old} {mid} {new} h report same reads plain done few = subst (λ (k : Geometry). StopsCheck nor k old new (Tight report.free_blocks)) same (subst (λ (l : List ℕ). IsPlain h l) reads.bytes plain, done.free, few)
 
   -- the same cuts by other names
   pub same_cuts : {old new old' new' : D} (h : Geometry) (slots : ℕ) (asks : List Ask) → old ≡ old' → new ≡ new' → g ≡ h → (IsPlain h (nor.bytes old') → HasReserve h (nor.bytes old') → Leaves nor old' new' (CutIn nor h old' (first_moment h slots (nor.bytes old')) asks)) → IsPlain g (nor.bytes old) → HasReserve g (nor.bytes old) → Leaves nor old new (CutIn nor g old (first_moment g slots (nor.bytes old)) asks)
