@@ -51,3 +51,10 @@ early_status Usage early = λ (is : 1 ≡ 8). absurd (omega arith)
 early_status (Geometry why) early = λ (is : 2 ≡ 8). absurd (omega arith)
 early_status (ShortBuffer part need given) early = λ (is : 10 ≡ 8). absurd (omega arith)
 early_status _ early = absurd early
+
+-- nor a fault of the board
+pub early_board : (ending : Ending) → IsEarly ending → status_of ending ≢ 7
+early_board Usage early = λ (is : 1 ≡ 7). absurd (omega arith)
+early_board (Geometry why) early = λ (is : 2 ≡ 7). absurd (omega arith)
+early_board (ShortBuffer part need given) early = λ (is : 10 ≡ 7). absurd (omega arith)
+early_board _ early = absurd early

@@ -6,4 +6,8 @@ pub mod Fits
 pub mod Lent
 pub mod Later
 pub mod Runs
+pub mod Turns
+pub mod Outcomes
+pub mod Begins
+pub mod Headline
 pub mod Early

@@ -2,6 +2,7 @@
 //! said.
 #![tactic(auto)]
 
+mod call;
 mod ending;
 mod lines;
 mod plan;

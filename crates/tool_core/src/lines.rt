@@ -26,6 +26,7 @@ pub(crate) struct Lines<'l> {
     pub ghost inside: { end ≤ length buf.now },
     pub ghost room: { 4097 ≤ length buf.now },
     pub ghost few: { taken ≤ 16777216 },
+    pub ghost counted: { handed + (end - start) ≤ taken },
 }
 
 fn find_break(bytes: &[u8]) -> Option<usize>
@@ -76,6 +77,7 @@ impl<'l> Lines<'l> {
         ensures start { result.start ≡ 0 }
         ensures end { result.end ≡ 0 }
         ensures taken { result.taken ≡ 0 }
+        ensures handed { result.handed ≡ 0 }
     {
         Lines {
             buf,
@@ -104,6 +106,8 @@ impl<'l> Lines<'l> {
         ensures line { IfSome result (λ to. NoBreak (slice_range self.old.buf.now self.old.start to) × (slice_range self.old.buf.now self.old.start self.old.end
             ≡ slice_range self.old.buf.now self.old.start to ++ 10 ∷ slice_range self.new.buf.now self.new.start self.new.end)) }
         ensures none { IfNone result (NoBreak (slice_range self.old.buf.now self.old.start self.old.end) × (self.new.start ≡ self.old.start)) }
+        ensures handed { IfSome result (λ to. self.new.handed ≡ self.old.handed + 1) }
+        ensures not_handed { IfNone result (self.new.handed ≡ self.old.handed) }
     {
         let at = self.at_break()?;
         let to = self.start + at;
@@ -126,6 +130,7 @@ impl<'l> Lines<'l> {
         requires short { self.old.end ≤ self.old.start + 4096 }
         requires below { self.old.taken < 16777216 }
         ensures same_buf { self.new.buf.ghost_name ≡ self.old.buf.ghost_name }
+        ensures handed { self.new.handed ≡ self.old.handed }
         ensures more { IfOk result (λ n. (self.new.taken ≡ self.old.taken + n) × (self.new.start ≡ 0) × (self.new.end ≡ (self.old.end - self.old.start) + n)) }
         ensures rest { S.tells source.old → slice_range self.old.buf.now self.old.start self.old.end ++ S.left source.old ≡ slice_range self.new.buf.now self.new.start self.new.end ++ S.left source.new }
         ensures finished { S.tells source.old → IfOk result (λ n. n ≡ 0 → S.left source.old ≡ []) }

@@ -1,6 +1,7 @@
 ghost use Rattle.std.specs.Prelude.{◌≡◌, ◌*◌, ◌≤◌, length, map, string_bytes, IfOk, IfErr, OnOk, Some, None};
 ghost use Rattle.geometry.specs.Numbers.{IsOf};
 ghost use Rattle.tool_core.specs.Plan.{device_refusal, shape_refusal, length_refusal, shorter, refusal_of};
+ghost use Rattle.tool_core.specs.Headline.{IsRun};
 ghost use Rattle.tool_core.specs.Fits.{IsFitting, HasLengths};
 
 use crate::ending::Ending;
@@ -89,6 +90,7 @@ pub(crate) fn plan(
     ensures accepted { OnOk result (refusal_of (map string_bytes words.now) unit size lent.now ≡ None) }
     ensures fits { IfOk result (λ g. IsFitting g unit size) }
     ensures room { IfOk result (λ g. HasLengths g lent.now) }
+    ensures run { IfOk result (IsRun (map string_bytes words.now) unit size lent.now) }
 {
     let Some(shape) = run_shape(words) else {
         return Err(Ending::Usage);

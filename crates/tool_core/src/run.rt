@@ -1,25 +1,36 @@
-ghost use Rattle.std.specs.Prelude.{◌≡◌, ◌≢◌, ◌+◌, ◌-◌, ◌*◌, ◌<◌, ◌≤◌, length, IfErr, OnOk, Err, Some, None, false};
-ghost use Rattle.std.specs.Option.{IfNone};
-ghost use Rattle.std.specs.Prelude.{IfOk};
+ghost use Rattle.std.specs.Prelude.{ℕ, ◌≡◌, ◌≢◌, ◌+◌, ◌-◌, ◌*◌, ◌<◌, ◌≤◌, ◌++◌, ◌∷◌, [], length, slice_range, IfOk, IfErr, OnOk, OnErr, Err, Some, None, true, false};
+ghost use Rattle.std.specs.Option.{IfSome, IfNone};
+ghost use Rattle.nor_core.specs.Device.{Changes, Leaves, Says, InSay};
+ghost use Rattle.table_model.specs.Reply.{answered};
+ghost use Rattle.table_model.specs.Window.{Moment};
+ghost use Rattle.call_script.specs.Lines.{NoBreak, calls, calls_of};
+ghost use Rattle.call_script.specs.Replies.{text};
+ghost use Rattle.run_model.specs.Ran.{Stands, CutIn, MayCut};
+ghost use Rattle.image_model.specs.Plain.{IsPlain};
+ghost use Rattle.image_model.specs.Tidy.{HasReserve};
+ghost use Rattle.tool_core.specs.Begins.{ChecksPlain, Begun, StopsCheck, mount_ends, check_ends};
+ghost use Rattle.tool_core.specs.Outcomes.{RunEnds, RunsTo, first_moment};
+ghost use Rattle.tool_core.specs.Turns.{DidLine, OneMore, Turned, at_run};
 ghost use Rattle.call_script.specs.Pieces.{IsShort};
 ghost use Rattle.vol_mount.specs.Mounts.{IsLate};
-ghost use Rattle.volume.specs.Checks.{IsWritable};
+ghost use Rattle.vol_check.specs.Checks.{IsWritable};
 ghost use Rattle.nor_core.specs.Count.{Rose};
-ghost use Rattle.flash_view.specs.Same.{IsSameView, OnlyLooks};
-ghost use Rattle.volume.specs.Fails.{has_failed};
+ghost use Rattle.volume.specs.Stages.{takes_calls};
+ghost use Rattle.volume.specs.Same.{IsSameVolume};
 ghost use Rattle.tool_core.specs.Later.{IsLater, IsLaterIf};
 ghost use Rattle.tool_core.specs.Runs.{Ran, StandsBy, result_err};
 ghost use Rattle.geometry.specs.Numbers.{usable, write_refusal, work_need, cache_need, check_need};
 ghost use Rattle.tool_core.specs.Fits.{IsFitting};
 
+use crate::call::apply;
 use crate::ending::Ending;
 use crate::lines::{LIMIT, LINE, Lines};
 use call_script::{parse_line, reply_text};
 use geometry::Geometry;
 use nor_core::{Board, Failed, Nor, NorState, Source};
-use table_model::{Call, FsErr, Reply};
-use vol_mount::{Lent, MountErr, Unchecked, mount};
-use volume::{CheckErr, Volume, check};
+use table_model::Reply;
+use vol_mount::{Lent, MountErr};
+use volume::{CheckErr, Volume};
 
 /// The number of bytes of the line buffer that hold lines; the others hold names, texts and replies.
 const LINES: usize = 8192;
@@ -27,6 +38,7 @@ const LINES: usize = 8192;
 // How a run ends that doesn't mount the volume.
 fn mount_ending(why: MountErr) -> Ending
     requires { IsLate why }
+    ensures ends { result ≡ mount_ends why }
     ensures later { IsLater result }
     ensures fault { result ≡ Ending.BoardFault → why ≡ MountErr.DeviceFault }
     ensures no_script { result ≢ Ending.SourceFault }
@@ -42,6 +54,7 @@ fn mount_ending(why: MountErr) -> Ending
 // How a run ends that doesn't check the volume.
 fn check_ending(why: CheckErr) -> Ending
     requires { IsWritable why }
+    ensures ends { result ≡ check_ends why }
     ensures later { IsLater result }
     ensures fault { result ≡ Ending.BoardFault → why ≡ CheckErr.DeviceFault }
     ensures no_script { result ≢ Ending.SourceFault }
@@ -53,27 +66,6 @@ fn check_ending(why: CheckErr) -> Ending
     }
 }
 
-// Does a call, or says how the run ends there.
-fn apply<B: Board>(volume: &mut Volume<'_, B>, call: &Call<'_>) -> Result<Reply<'static>, Ending>
-    requires { has_failed volume.old ≡ false }
-    ensures short { IfOk result IsShort }
-    ensures later { IfErr result IsLater }
-    ensures ran { Ran B.NorState volume.old.view.nor.now volume.new.view.nor.now (result_err result) (has_failed volume.new) }
-    ensures no_script { ¬ (result ≡ Err Ending.SourceFault) }
-    ensures same { IsSameView volume.old.view volume.new.view }
-{
-    let Call::Create { name } = call else {
-        return Ok(Reply::Refusal(FsErr::Unbuilt));
-    };
-    match volume.create(name) {
-        Ok(()) => Ok(Reply::Done),
-        Err(FsErr::DeviceFault) => Err(Ending::BoardFault),
-        Err(FsErr::Damaged(differ)) => Err(Ending::Differ(differ)),
-        Err(FsErr::Unbuilt) => Err(Ending::Unbuilt),
-        Err(why) => Ok(Reply::Refusal(why)),
-    }
-}
-
 // Does a call and says its reply, or says how the run ends there.
 fn answer<B: Board>(
     volume: &mut Volume<'_, B>,
@@ -82,11 +74,13 @@ fn answer<B: Board>(
     scratch: &mut [u8],
 ) -> Option<Ending>
     requires room { 4096 ≤ length scratch.old }
-    requires stands { has_failed volume.old ≡ false }
+    requires stands { takes_calls volume.old ≡ true }
     ensures later { IsLaterIf result }
-    ensures ran { Ran B.NorState volume.old.view.nor.now volume.new.view.nor.now result (has_failed volume.new) }
-    ensures same { IsSameView volume.old.view volume.new.view }
+    ensures ran { Ran B.NorState volume.old.nor.now volume.new.nor.now result (takes_calls volume.new) }
+    ensures same { IsSameVolume volume.old volume.new }
     ensures no_script { ¬ (result ≡ Some Ending.SourceFault) }
+    ensures leaves { (m : Moment) → MayCut B.NorState volume.old.geometry volume.old.nor.now volume.new.nor.now m (calls_of (line.now ∷ [])) }
+    ensures did { (m : Moment) → Stands B.NorState volume.old.geometry volume.old.nor.now m → DidLine B.NorState volume.old.geometry volume.old.nor.now volume.new.nor.now m line.now number result }
 {
     let Ok(parsed) = parse_line(line, scratch) else {
         return Some(Ending::BadLine(number));
@@ -107,12 +101,16 @@ fn say_reply<B: Board>(
     into: &mut [u8],
 ) -> Option<Ending>
     requires room { 4096 ≤ length into.old }
-    requires stands { has_failed volume.old ≡ false }
+    requires stands { takes_calls volume.old ≡ true }
     requires short { IsShort reply.now }
     ensures later { IsLaterIf result }
-    ensures ran { Ran B.NorState volume.old.view.nor.now volume.new.view.nor.now result (has_failed volume.new) }
-    ensures same { IsSameView volume.old.view volume.new.view }
+    ensures ran { Ran B.NorState volume.old.nor.now volume.new.nor.now result (takes_calls volume.new) }
+    ensures same { IsSameVolume volume.old volume.new }
     ensures no_script { ¬ (result ≡ Some Ending.SourceFault) }
+    ensures fault { IfSome result (λ ending. ending ≡ Ending.BoardFault) }
+    ensures says { Says B.NorState volume.old.nor.now volume.new.nor.now (text (answered reply.now)) }
+    ensures cuts { Leaves B.NorState volume.old.nor.now volume.new.nor.now (InSay B.NorState volume.old.nor.now (text (answered reply.now))) }
+    ensures done { B.tells volume.old.nor.now → IfNone result (B.said volume.new.nor.now ≡ B.said volume.old.nor.now ++ text (answered reply.now)) }
 {
     let length = reply_text(reply, into);
     match volume.say(&into[..length]) {
@@ -121,14 +119,33 @@ fn say_reply<B: Board>(
     }
 }
 
+// Whether a script gives a byte more.
+fn gives_more<S: Source>(script: &mut S) -> Result<bool, Failed>
+    ensures more { S.tells script.old → IfOk result (λ more. more ≡ true → OneMore (S.left script.old) (S.left script.new)) }
+    ensures end { S.tells script.old → IfOk result (λ more. more ≡ false → S.left script.old ≡ []) }
+    ensures end_new { S.tells script.old → IfOk result (λ more. more ≡ false → S.left script.new ≡ []) }
+    ensures err { OnErr result (S.left script.new ≡ S.left script.old) }
+    ensures told { S.tells script.old → S.tells script.new }
+    ensures faults { S.faults script.old ≤ S.faults script.new }
+    ensures cause { OnErr result (Rose (S.faults script.old) (S.faults script.new)) }
+{
+    let mut one = [0u8; 1];
+    let n = script.read(&mut one)?;
+    Ok(n != 0)
+}
+
 // Does the bytes that were taken as the last line, and ends the run.
 fn last_line<B: Board>(volume: &mut Volume<'_, B>, lines: &Lines<'_>, scratch: &mut [u8]) -> Ending
     requires room { 4096 ≤ length scratch.old }
-    requires stands { has_failed volume.old ≡ false }
+    requires stands { takes_calls volume.old ≡ true }
+    requires no_break { NoBreak (slice_range lines.now.buf.now lines.now.start lines.now.end) }
     ensures later { IsLater result }
-    ensures ran { Ran B.NorState volume.old.view.nor.now volume.new.view.nor.now (Some result) (has_failed volume.new) }
-    ensures same { IsSameView volume.old.view volume.new.view }
+    ensures ran { Ran B.NorState volume.old.nor.now volume.new.nor.now (Some result) (takes_calls volume.new) }
+    ensures same { IsSameVolume volume.old volume.new }
     ensures no_script { ¬ (result ≡ Ending.SourceFault) }
+    ensures turned { (m : Moment) → Stands B.NorState volume.old.geometry volume.old.nor.now m → Turned B.NorState volume.old.geometry (Some result) m
+        (at_run volume.old.nor.now lines.now.buf.now lines.now.start lines.now.end lines.now.taken lines.now.handed [])
+        (at_run volume.new.nor.now lines.now.buf.now lines.now.start lines.now.end lines.now.taken lines.now.handed []) }
 {
     let line = lines.piece(lines.start, lines.end);
     if line.is_empty() {
@@ -149,23 +166,28 @@ fn take_more<B: Board, S: Source>(
     scratch: &mut [u8],
 ) -> Option<Ending>
     requires room { 4096 ≤ length scratch.old }
-    requires stands { has_failed volume.old ≡ false }
+    requires stands { takes_calls volume.old ≡ true }
+    requires no_break { NoBreak (slice_range lines.old.buf.now lines.old.start lines.old.end) }
     ensures later { IsLaterIf result }
-    ensures ran { Ran B.NorState volume.old.view.nor.now volume.new.view.nor.now result (has_failed volume.new) }
-    ensures same { IsSameView volume.old.view volume.new.view }
+    ensures ran { Ran B.NorState volume.old.nor.now volume.new.nor.now result (takes_calls volume.new) }
+    ensures same { IsSameVolume volume.old volume.new }
     ensures script_faults { S.faults script.old ≤ S.faults script.new }
     ensures script_cause { result ≡ Some Ending.SourceFault → Rose (S.faults script.old) (S.faults script.new) }
+    ensures told { S.tells script.old → S.tells script.new }
     ensures same_buf { lines.new.buf.ghost_name ≡ lines.old.buf.ghost_name }
     ensures smaller { IfNone result (2 * (16777216 - lines.new.taken) + (lines.new.end - lines.new.start) < 2 * (16777216 - lines.old.taken) + (lines.old.end - lines.old.start)) }
+    ensures turned { (m : Moment) → S.tells script.old → Stands B.NorState volume.old.geometry volume.old.nor.now m → Turned B.NorState volume.old.geometry result m
+        (at_run volume.old.nor.now lines.old.buf.now lines.old.start lines.old.end lines.old.taken lines.old.handed (S.left script.old))
+        (at_run volume.new.nor.now lines.new.buf.now lines.new.start lines.new.end lines.new.taken lines.new.handed (S.left script.new)) }
 {
     if lines.end - lines.start > LINE {
         return Some(Ending::BadLine(lines.handed.saturating_add(1)));
     }
     if lines.taken == LIMIT {
-        return Some(match script.read(&mut [0u8; 1]) {
+        return Some(match gives_more(script) {
             Err(Failed) => Ending::SourceFault,
-            Ok(0) => last_line(volume, lines, scratch),
-            Ok(_) => Ending::TooLong,
+            Ok(true) => Ending::TooLong,
+            Ok(false) => last_line(volume, lines, scratch),
         });
     }
     match lines.fill(script) {
@@ -183,18 +205,21 @@ fn turn<B: Board, S: Source>(
     scratch: &mut [u8],
 ) -> Option<Ending>
     requires room { 4096 ≤ length scratch.old }
-    requires stands { has_failed volume.old ≡ false }
+    requires stands { takes_calls volume.old ≡ true }
     ensures later { IsLaterIf result }
-    ensures ran { Ran B.NorState volume.old.view.nor.now volume.new.view.nor.now result (has_failed volume.new) }
-    ensures same { IsSameView volume.old.view volume.new.view }
+    ensures ran { Ran B.NorState volume.old.nor.now volume.new.nor.now result (takes_calls volume.new) }
+    ensures same { IsSameVolume volume.old volume.new }
     ensures script_faults { S.faults script.old ≤ S.faults script.new }
     ensures script_cause { result ≡ Some Ending.SourceFault → Rose (S.faults script.old) (S.faults script.new) }
+    ensures told { S.tells script.old → S.tells script.new }
     ensures same_buf { lines.new.buf.ghost_name ≡ lines.old.buf.ghost_name }
     ensures smaller { IfNone result (2 * (16777216 - lines.new.taken) + (lines.new.end - lines.new.start) < 2 * (16777216 - lines.old.taken) + (lines.old.end - lines.old.start)) }
+    ensures turned { (m : Moment) → S.tells script.old → Stands B.NorState volume.old.geometry volume.old.nor.now m → Turned B.NorState volume.old.geometry result m
+        (at_run volume.old.nor.now lines.old.buf.now lines.old.start lines.old.end lines.old.taken lines.old.handed (S.left script.old))
+        (at_run volume.new.nor.now lines.new.buf.now lines.new.start lines.new.end lines.new.taken lines.new.handed (S.left script.new)) }
 {
     let from = lines.start;
     match lines.take_line() {
-        Some(to) if to - from > LINE => Some(Ending::BadLine(lines.handed)),
         Some(to) => {
             let number = lines.handed;
             answer(volume, lines.piece(from, to), number, scratch)
@@ -211,12 +236,15 @@ fn run_lines<B: Board, S: Source>(
     scratch: &mut [u8],
 ) -> Ending
     requires room { 4096 ≤ length scratch.old }
-    requires stands { has_failed volume.old ≡ false }
+    requires stands { takes_calls volume.old ≡ true }
     ensures later { IsLater result }
-    ensures ran { Ran B.NorState volume.old.view.nor.now volume.new.view.nor.now (Some result) (has_failed volume.new) }
-    ensures same { IsSameView volume.old.view volume.new.view }
+    ensures ran { Ran B.NorState volume.old.nor.now volume.new.nor.now (Some result) (takes_calls volume.new) }
+    ensures same { IsSameVolume volume.old volume.new }
     ensures script_faults { S.faults script.old ≤ S.faults script.new }
     ensures script_cause { result ≡ Ending.SourceFault → Rose (S.faults script.old) (S.faults script.new) }
+    ensures turned { (m : Moment) → S.tells script.old → Stands B.NorState volume.old.geometry volume.old.nor.now m → Turned B.NorState volume.old.geometry (Some result) m
+        (at_run volume.old.nor.now lines.old.buf.now lines.old.start lines.old.end lines.old.taken lines.old.handed (S.left script.old))
+        (at_run volume.new.nor.now lines.new.buf.now lines.new.start lines.new.end lines.new.taken lines.new.handed (S.left script.new)) }
 {
     'turns: loop {
         if let Some(ending) = turn(volume, lines, script, scratch) {
@@ -225,25 +253,22 @@ fn run_lines<B: Board, S: Source>(
     }
 }
 
-// Runs a script on a checked volume with that many free blocks.
+// Runs a script on a checked volume.
 fn run_script<B: Board, S: Source>(
     volume: &mut Volume<'_, B>,
-    free_blocks: u32,
     script: &mut S,
     line: &mut [u8],
 ) -> Ending
     requires room { 12288 ≤ length line.old }
-    requires stands { has_failed volume.old ≡ false }
+    requires stands { takes_calls volume.old ≡ true }
     ensures later { IsLater result }
-    ensures ran { Ran B.NorState volume.old.view.nor.now volume.new.view.nor.now (Some result) (has_failed volume.new) }
-    ensures same { IsSameView volume.old.view volume.new.view }
-    ensures nor_name { volume.new.view.nor.ghost_name ≡ volume.old.view.nor.ghost_name }
+    ensures ran { Ran B.NorState volume.old.nor.now volume.new.nor.now (Some result) (takes_calls volume.new) }
+    ensures same { IsSameVolume volume.old volume.new }
     ensures script_faults { S.faults script.old ≤ S.faults script.new }
     ensures script_cause { result ≡ Ending.SourceFault → Rose (S.faults script.old) (S.faults script.new) }
+    ensures ends { (m : Moment) → S.tells script.old → Stands B.NorState volume.old.geometry volume.old.nor.now m → RunEnds B.NorState volume.old.geometry volume.old.nor.now volume.new.nor.now m (S.left script.old) (S.left script.new) result }
+    ensures cuts { (m : Moment) → S.tells script.old → Stands B.NorState volume.old.geometry volume.old.nor.now m → MayCut B.NorState volume.old.geometry volume.old.nor.now volume.new.nor.now m (calls (S.left script.old)) }
 {
-    if free_blocks < 2 {
-        return Ending::Tight(free_blocks);
-    }
     let (taken, scratch) = line.split_at_mut(LINES);
     let mut lines = Lines::new(taken);
     run_lines(volume, &mut lines, script, scratch)
@@ -251,7 +276,7 @@ fn run_script<B: Board, S: Source>(
 
 // Settles a volume at the end of a run.
 fn settle<B: Board>(volume: &mut Volume<'_, B>, ending: Ending) -> Ending
-    requires { StandsBy (Some ending) (has_failed volume.old) }
+    requires { StandsBy (Some ending) (takes_calls volume.old) }
     ensures ending { result ≡ ending }
     ensures same { volume.new ≡ volume.old }
 {
@@ -264,24 +289,52 @@ fn settle<B: Board>(volume: &mut Volume<'_, B>, ending: Ending) -> Ending
     }
 }
 
-// Mounts and checks a volume, or says how the run ends there. What is answered is how many blocks are free.
-fn begin<B: Board>(unchecked: &mut Unchecked<'_, B>) -> Result<u32, Ending>
-    requires { write_refusal unchecked.old.view.geometry ≡ None }
+// Mounts and checks a volume, or says how the run ends there.
+fn begin<B: Board>(volume: &mut Volume<'_, B>) -> Result<(), Ending>
+    requires { write_refusal volume.old.geometry ≡ None }
     ensures later { IfErr result IsLater }
-    ensures few { OnOk result (usable unchecked.old.view.geometry ≤ 32766) }
-    ensures cause { result ≡ Err Ending.BoardFault → Rose (B.faults unchecked.old.view.nor.now) (B.faults unchecked.new.view.nor.now) }
+    ensures faults { B.faults volume.old.nor.now ≤ B.faults volume.new.nor.now }
+    ensures cause { result ≡ Err Ending.BoardFault → Rose (B.faults volume.old.nor.now) (B.faults volume.new.nor.now) }
+    ensures taken { OnOk result (takes_calls volume.new ≡ true) }
     ensures no_script { ¬ (result ≡ Err Ending.SourceFault) }
-    ensures looks { OnlyLooks unchecked.old.view unchecked.new.view }
-    ensures nor_name { unchecked.new.view.nor.ghost_name ≡ unchecked.old.view.nor.ghost_name }
-    ensures slots_name { unchecked.new.slots.ghost_name ≡ unchecked.old.slots.ghost_name }
-    ensures check_name { unchecked.new.check.ghost_name ≡ unchecked.old.check.ghost_name }
+    ensures same { IsSameVolume volume.old volume.new }
+    ensures changes { Changes B.NorState volume.old.nor.now volume.new.nor.now (ChecksPlain volume.old.geometry) }
+    ensures begun { B.tells volume.old.nor.now → OnOk result (Begun volume.old.geometry (B.bytes volume.old.nor.now) (B.bytes volume.new.nor.now)) }
+    ensures stops { B.tells volume.old.nor.now → IfErr result (StopsCheck B.NorState volume.old.geometry volume.old.nor.now volume.new.nor.now) }
 {
-    if let Err(why) = mount(unchecked) {
+    if let Err(why) = volume.mount() {
         return Err(mount_ending(why));
     }
-    match check(unchecked) {
-        Ok(report) => Ok(report.free_blocks),
+    match volume.check() {
+        Ok(report) if report.free_blocks < 2 => Err(Ending::Tight(report.free_blocks)),
+        Ok(_) => Ok(()),
         Err(why) => Err(check_ending(why)),
+    }
+}
+
+// Mounts and checks a volume, and runs a script on it.
+fn run_volume<B: Board, S: Source>(
+    volume: &mut Volume<'_, B>,
+    script: &mut S,
+    line: &mut [u8],
+) -> Ending
+    requires writable { write_refusal volume.old.geometry ≡ None }
+    requires room { 12288 ≤ length line.old }
+    ensures later { IsLater result }
+    ensures faults { B.faults volume.old.nor.now ≤ B.faults volume.new.nor.now }
+    ensures cause { result ≡ Ending.BoardFault → Rose (B.faults volume.old.nor.now) (B.faults volume.new.nor.now) }
+    ensures same { IsSameVolume volume.old volume.new }
+    ensures script_faults { S.faults script.old ≤ S.faults script.new }
+    ensures script_cause { result ≡ Ending.SourceFault → Rose (S.faults script.old) (S.faults script.new) }
+    ensures ends { (slots : ℕ) → S.tells script.old → B.tells volume.old.nor.now → RunsTo B.NorState volume.old.geometry volume.old.nor.now volume.new.nor.now (first_moment volume.old.geometry slots (B.bytes volume.old.nor.now)) (S.left script.old) (S.left script.new) result }
+    ensures cuts { (slots : ℕ) → S.tells script.old → B.tells volume.old.nor.now → IsPlain volume.old.geometry (B.bytes volume.old.nor.now) → HasReserve volume.old.geometry (B.bytes volume.old.nor.now) → Leaves B.NorState volume.old.nor.now volume.new.nor.now (CutIn B.NorState volume.old.geometry volume.old.nor.now (first_moment volume.old.geometry slots (B.bytes volume.old.nor.now)) (calls (S.left script.old))) }
+{
+    match begin(volume) {
+        Err(ending) => ending,
+        Ok(()) => {
+            let ending = run_script(volume, script, line);
+            settle(volume, ending)
+        }
     }
 }
 
@@ -302,14 +355,11 @@ pub(crate) fn run<'b, B: Board, S: Source>(
     ensures later { IsLater result }
     ensures script_faults { S.faults script.old ≤ S.faults script.new }
     ensures script_cause { result ≡ Ending.SourceFault → Rose (S.faults script.old) (S.faults script.new) }
+    ensures board_faults { B.faults board.old ≤ B.faults board.new }
+    ensures board_cause { result ≡ Ending.BoardFault → Rose (B.faults board.old) (B.faults board.new) }
+    ensures ends { (slots : ℕ) → S.tells script.old → B.tells board.old → RunsTo B.NorState g board.old board.new (first_moment g slots (B.bytes board.old)) (S.left script.old) (S.left script.new) result }
+    ensures cuts { (slots : ℕ) → S.tells script.old → B.tells board.old → IsPlain g (B.bytes board.old) → HasReserve g (B.bytes board.old) → Leaves B.NorState board.old board.new (CutIn B.NorState g board.old (first_moment g slots (B.bytes board.old)) (calls (S.left script.old))) }
 {
-    let mut unchecked = Unchecked::new(g, board, lent);
-    match begin(&mut unchecked) {
-        Err(ending) => ending,
-        Ok(free_blocks) => {
-            let mut volume = Volume::new(unchecked);
-            let ending = run_script(&mut volume, free_blocks, script, line);
-            settle(&mut volume, ending)
-        }
-    }
+    let mut volume = Volume::new(g, board, lent);
+    run_volume(&mut volume, script, line)
 }

@@ -1,12 +1,19 @@
-ghost use Rattle.std.specs.Prelude.{◌≡◌, ◌≢◌, ◌≤◌, ◌++◌, length, map, string_bytes};
+ghost use Rattle.std.specs.Prelude.{◌≡◌, ◌≢◌, ◌≤◌, ◌++◌, [], length, map, string_bytes};
 ghost use Rattle.nor_core.specs.Count.{Rose};
-ghost use Rattle.nor_core.specs.Device.{Says};
+ghost use Rattle.nor_core.specs.Device.{Leaves, Says, InSay};
+ghost use Rattle.call_script.specs.Lines.{calls};
+ghost use Rattle.image_model.specs.Plain.{IsPlain};
+ghost use Rattle.image_model.specs.Tidy.{HasReserve};
+ghost use Rattle.run_model.specs.Ran.{CutIn};
+ghost use Rattle.geometry.specs.declared.geometry.Geometry.{Geometry};
+ghost use Rattle.tool_core.specs.Headline.{IsRun, Outcome, RanWhole, RunCut, IsExact, IsComplete};
+ghost use Rattle.tool_core.specs.Outcomes.{RunsTo};
 ghost use Rattle.tool_core.specs.Plan.{refusal_of};
 ghost use Rattle.tool_core.specs.Closing.{closing_line_of};
 ghost use Rattle.tool_core.specs.Endings.{EndsAs, Refuses, RefusesIf};
 ghost use Rattle.tool_core.specs.Fits.{IsFitting, HasLengths};
 ghost use Rattle.tool_core.specs.Later.{IsLater};
-ghost use Rattle.tool_core.specs.Lent.{lengths_of};
+ghost use Rattle.tool_core.specs.Lent.{lengths_of, start_of};
 
 use crate::ending::{Ending, closing_line};
 use crate::plan::{Lengths, plan};
@@ -49,6 +56,8 @@ fn conclude<B: Board>(board: &mut B, ending: Ending) -> u8
     ensures ends { EndsAs B.NorState board.old board.new ending result }
     ensures says { Says B.NorState board.old board.new (closing_line_of ending) }
     ensures whole { B.tells board.old → result ≢ 7 → B.said board.new ≡ B.said board.old ++ closing_line_of ending }
+    ensures leaves { Leaves B.NorState board.old board.new (InSay B.NorState board.old (closing_line_of ending)) }
+    ensures silent { closing_line_of ending ≡ [] → board.new ≡ board.old }
 {
     let line = closing_line(ending);
     if line.is_empty() {
@@ -72,6 +81,12 @@ fn run_on<B: Board, S: Source>(
     ensures later { IsLater result }
     ensures script_faults { S.faults script.old ≤ S.faults script.new }
     ensures script_cause { result ≡ Ending.SourceFault → Rose (S.faults script.old) (S.faults script.new) }
+    ensures board_faults { B.faults board.old ≤ B.faults board.new }
+    ensures board_cause { result ≡ Ending.BoardFault → Rose (B.faults board.old) (B.faults board.new) }
+    ensures ends { S.tells script.old → B.tells board.old →
+        RunsTo B.NorState g board.old board.new (start_of g bufs.old (B.bytes board.old)) (S.left script.old) (S.left script.new) result }
+    ensures cuts { S.tells script.old → B.tells board.old → IsPlain g (B.bytes board.old) → HasReserve g (B.bytes board.old) →
+        Leaves B.NorState board.old board.new (CutIn B.NorState g board.old (start_of g bufs.old (B.bytes board.old)) (calls (S.left script.old))) }
 {
     let lent = Lent {
         work: &mut *bufs.work,
@@ -94,6 +109,18 @@ pub fn spiffs_tool<B: Board, S: Source>(
 ) -> u8
     ensures refused { RefusesIf B.NorState board.old board.new (refusal_of (map string_bytes words.now) (B.unit board.old) (B.size board.old) (lengths_of bufs.old)) result }
     ensures script_fault { result ≡ 8 → Rose (S.faults script.old) (S.faults script.new) }
+    ensures board_fault { result ≡ 7 → Rose (B.faults board.old) (B.faults board.new) }
+    ensures outcome { (g : Geometry) → IsRun (map string_bytes words.now) (B.unit board.old) (B.size board.old) (lengths_of bufs.old) g → S.tells script.old → B.tells board.old →
+        Outcome B.NorState g board.old board.new (start_of g bufs.old (B.bytes board.old)) (S.left script.old) (S.left script.new) result }
+    ensures whole { (g : Geometry) → IsRun (map string_bytes words.now) (B.unit board.old) (B.size board.old) (lengths_of bufs.old) g → S.tells script.old → B.tells board.old →
+        result ≡ 0 → RanWhole B.NorState g board.old board.new (start_of g bufs.old (B.bytes board.old)) (S.left script.old) (S.left script.new) }
+    ensures cuts { (g : Geometry) → IsRun (map string_bytes words.now) (B.unit board.old) (B.size board.old) (lengths_of bufs.old) g → S.tells script.old → B.tells board.old →
+        IsPlain g (B.bytes board.old) → HasReserve g (B.bytes board.old) →
+        Leaves B.NorState board.old board.new (RunCut B.NorState g board.old (start_of g bufs.old (B.bytes board.old)) (S.left script.old) (S.left script.new) result) }
+    ensures exact { (g : Geometry) → IsRun (map string_bytes words.now) (B.unit board.old) (B.size board.old) (lengths_of bufs.old) g → S.tells script.old → B.tells board.old →
+        ¬ Rose (B.faults board.old) (B.faults board.new) → IsExact B.NorState g board.old board.new result }
+    ensures complete { (g : Geometry) → IsRun (map string_bytes words.now) (B.unit board.old) (B.size board.old) (lengths_of bufs.old) g → S.tells script.old → B.tells board.old →
+        ¬ Rose (B.faults board.old) (B.faults board.new) → ¬ Rose (S.faults script.old) (S.faults script.new) → IsComplete B.NorState g board.old (S.left script.old) result }
 {
     match plan(words, board.unit(), board.size(), &lengths(bufs)) {
         Err(ending) => conclude(board, ending),

@@ -1,14 +1,21 @@
-use Rattle.std.proofs.Common.{◌≡◌, ◌≤◌, ◌+◌, ◌-◌, ◌*◌, false}
-use Rattle.flash_view.specs.Same.{IsSameView}
-use Rattle.volume.specs.Fails.{has_failed}
+use Rattle.std.proofs.Common.{◌≡◌, ◌≤◌, ◌+◌, ◌-◌, ◌*◌, None, true}
+use Rattle.volume.specs.Stages.{takes_calls}
+use Rattle.volume.specs.Same.{IsSameVolume}
+use Rattle.table_model.specs.Window.{Moment}
+use Rattle.run_model.specs.Ran.{Stands}
+use Rattle.tool_core.specs.Turns.{Turned, at_run}
 use Rattle.tool_core.proofs.run.run_lines.Given as goal
 
 abbrev pub invariant-turns : goal.invariant-turns
 invariant-turns g l = record {
-  same : IsSameView l.fn.volume.view l.volume.view;
-  faults : g.B.NorState.faults l.fn.volume.view.nor.now ≤ g.B.NorState.faults l.volume.view.nor.now;
+  same : IsSameVolume l.fn.volume l.volume;
+  faults : g.B.NorState.faults l.fn.volume.nor.now ≤ g.B.NorState.faults l.volume.nor.now;
   script : g.S.Source.faults l.fn.script ≤ g.S.Source.faults l.script;
-  stands : has_failed l.volume ≡ false;
+  stands : takes_calls l.volume ≡ true;
+  told : g.S.Source.tells l.fn.script → g.S.Source.tells l.script;
+  turned : (m : Moment) → g.S.Source.tells l.fn.script → Stands g.B.NorState l.fn.volume.geometry l.fn.volume.nor.now m → Turned g.B.NorState l.fn.volume.geometry None m
+    (at_run l.fn.volume.nor.now l.fn.lines.buf.now l.fn.lines.start l.fn.lines.end l.fn.lines.taken l.fn.lines.handed (g.S.Source.left l.fn.script))
+    (at_run l.volume.nor.now l.lines.buf.now l.lines.start l.lines.end l.lines.taken l.lines.handed (g.S.Source.left l.script));
 }
 
 abbrev pub decreases-turns : goal.decreases-turns

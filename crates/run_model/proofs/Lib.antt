@@ -1,0 +1,4 @@
+pub mod Runs
+pub mod Safety
+pub mod Chain
+pub mod OneCall

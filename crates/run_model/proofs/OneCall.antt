@@ -1,0 +1,90 @@
+-- One call and its reply.
+use Rattle.std.proofs.Common.{◌≡◌, ℕ, ◌+◌, ◌-◌, ◌<◌, ◌≤◌, List, [], ◌∷◌, ◌++◌, length, take, drop, refl, sym, ◌∙◌, ap, subst, arith, inl, inr, ⊎_elim, append-nil, true}
+use Rattle.std.proofs.lemmas.List.{take-append-drop, length-take-le, take_all, length-drop}
+use Rattle.std.proofs.lemmas.Bool.{cases_lt}
+use Rattle.geometry.specs.declared.geometry.Geometry.{Geometry}
+use Rattle.nor_core.specs.declared.state.NorState.{Ghosts as NorOf}
+use Rattle.nor_core.specs.Device.{Leaves, Changes, InSay, Says}
+use Rattle.nor_core.proofs.Cuts.{andthen, widened}
+use Rattle.table_model.specs.Table.{File}
+use Rattle.table_model.specs.Ask.{Ask}
+use Rattle.table_model.specs.Reply.{Answer}
+use Rattle.table_model.specs.Steps.{steps}
+use Rattle.table_model.specs.Window.{Moment, after, from_settled}
+use Rattle.call_script.specs.Replies.{text}
+use Rattle.image_model.specs.Tables.{table_of}
+use Rattle.run_model.specs.Runs.{said_of, after_all, replies, IsAmong, IsCut}
+use Rattle.run_model.specs.Safe.{IsSafe, IsAt}
+use Rattle.run_model.specs.Ran.{Stands, Publishes, Answers, MayCut, Reached, SaidPart}
+use Rattle.run_model.proofs.Runs.{said_some, is_settled}
+
+-- the one reply of one call
+one_reply : (g : Geometry) (m : Moment) (ask : Ask) → replies g m (ask ∷ []) ≡ said_of g m ask
+unfolding replies
+one_reply g m ask = append-nil (said_of g m ask)
+
+one_call : (g : Geometry) (m : Moment) (ask : Ask) → after_all g m (ask ∷ []) ≡ after g true m ask
+unfolding after_all
+one_call g m ask = refl
+
+-- nothing was said of a reply
+cut_call : (g : Geometry) (m : Moment) (ask : Ask) (t : List File) → IsAmong t (from_settled m (steps g true m.state ask)) → IsCut g m (ask ∷ []) [] t
+unfolding IsCut
+cut_call g m ask t among = inl (record { rest = said_of g m ask; whole_is = refl; some = said_some g m ask }, among)
+
+-- a front of a reply line was said
+cut_say : (g : Geometry) (m : Moment) (ask : Ask) (n : ℕ) (t : List File) → n ≤ length (said_of g m ask) → t ≡ (after g true m ask).settled → IsAmong t (from_settled m (steps g true m.state ask)) → IsCut g m (ask ∷ []) (take n (said_of g m ask)) t
+unfolding IsCut
+cut_say g m ask n t le is among = ⊎_elim
+    (λ below. inl (record { rest = drop n (said_of g m ask); whole_is = sym (take-append-drop n (said_of g m ask)); some = omega (arith, length-drop n (said_of g m ask), below) }, among))
+    (λ above. inr ([], take_all n (said_of g m ask) above ∙ sym (append-nil (said_of g m ask)), (refl, is_settled (after g true m ask) t [] is)))
+    (cases_lt n (length (said_of g m ask)))
+
+module _ {D : Type 0} {nor : NorOf D} {g : Geometry} where
+  -- a cut in the call, before its reply
+  pub call_cut : {old mid : D} {m : Moment} {ask : Ask} → Changes nor old mid (Publishes g m ask) → MayCut nor g old mid m (ask ∷ [])
+  call_cut {old} {mid} {m} {ask} changes = widened changes.cuts (λ image count here stands. let now = here.1 stands.tells stands.image in record {
+      part = [];
+      count_is = here.0 ∙ omega arith;
+      safe = now.0;
+      cut = cut_call g m ask (table_of g image) now.1;
+    })
+
+  -- nothing was said in the call
+  pub call_said : {old mid : D} {m : Moment} (ask : Ask) → Changes nor old mid (Publishes g m ask) → SaidPart nor old mid (replies g m (ask ∷ []))
+  call_said {old} {mid} {m} ask changes = record { part = []; rest = replies g m (ask ∷ []); said = changes.said ∙ sym (append-nil (nor.said old)); whole_is = refl }
+
+  -- a cut in the call or in its reply
+  pub reply_cut : {old mid new : D} {m : Moment} {ask : Ask} {reply : Answer} → Changes nor old mid (Publishes g m ask) → (Stands nor g old m → Answers nor g mid m ask reply) → Leaves nor mid new (InSay nor mid (text reply)) → MayCut nor g old new m (ask ∷ [])
+  unfolding said_of
+  reply_cut {old} {mid} {new} {m} {ask} {reply} changes answers leaves = andthen (call_cut changes) (widened leaves (λ image count here stands.
+      let ok = answers stands in
+      let whole : text reply ≡ said_of g m ask = ap text ok.reply_is in
+      let within : count - length (nor.said old) ≤ length (said_of g m ask) = omega (arith, here.most, ap length changes.said, ap length whole) in
+      let same_image : image ≡ nor.bytes mid = here.all_bytes ok.stands.tells in
+      let now = changes.now stands.tells stands.image in
+      record {
+        part = take (count - length (nor.said old)) (said_of g m ask);
+        count_is = omega (arith, here.least, ap length changes.said, length-take-le (count - length (nor.said old)) (said_of g m ask) within);
+        safe = subst (λ (l : List ℕ). IsSafe g (nor.bytes old) l) (sym same_image) now.0;
+        cut = cut_say g m ask (count - length (nor.said old)) (table_of g image) within (ap (table_of g) same_image ∙ ok.stands.image.table) (subst (λ (l : List ℕ). IsAmong (table_of g l) (from_settled m (steps g true m.state ask))) (sym same_image) now.1);
+      }))
+
+  -- a front of the reply was said
+  pub reply_said : {old mid new : D} {m : Moment} (ask : Ask) {reply : Answer} → Changes nor old mid (Publishes g m ask) → Answers nor g mid m ask reply → Says nor mid new (text reply) → SaidPart nor old new (replies g m (ask ∷ []))
+  unfolding said_of
+  reply_said {old} {mid} {new} {m} ask {reply} changes ok says = record {
+      part = take says.said.0 (text reply);
+      rest = drop says.said.0 (text reply);
+      said = says.said.1 ∙ ap (λ (l : List ℕ). l ++ take says.said.0 (text reply)) changes.said;
+      whole_is = one_reply g m ask ∙ sym (ap text ok.reply_is) ∙ sym (take-append-drop says.said.0 (text reply));
+    }
+
+  -- the call was done and its reply said
+  pub reply_reached : {old mid new : D} {m : Moment} {ask : Ask} {reply : Answer} → Changes nor old mid (Publishes g m ask) → Answers nor g mid m ask reply → Says nor mid new (text reply) → Leaves nor mid new (InSay nor mid (text reply)) → nor.said new ≡ nor.said mid ++ text reply → Stands nor g old m → Reached nor g old new m (ask ∷ [])
+  unfolding said_of
+  reply_reached {old} {mid} {new} {m} {ask} {reply} changes ok says leaves done stands = record {
+      said = done ∙ ap (λ (l : List ℕ). l ++ text reply) changes.said ∙ ap (λ (l : List ℕ). nor.said old ++ l) (ap text ok.reply_is ∙ sym (one_reply g m ask));
+      stands = subst (λ (j : Moment). Stands nor g new j) (sym (one_call g m ask)) (record { tells = leaves.told ok.stands.tells; image = subst (λ (l : List ℕ). IsAt g l (after g true m ask)) (sym says.bytes) ok.stands.image });
+      safe = subst (λ (l : List ℕ). IsSafe g (nor.bytes old) l) (sym says.bytes) (changes.now stands.tells stands.image).0;
+    }

@@ -1,0 +1,22 @@
+use Rattle.std.proofs.Common.{◌≡◌, ◌∙◌, Err, ap, rules}
+use Rattle.geometry.specs.Numbers.{write_refusal}
+use Rattle.tool_core.proofs.Beginning.{mount_stops, mount_changes, check_stops, check_changes}
+use Rattle.tool_core.proofs.run.begin.Goals as goal
+
+pub returns-in-Err-clause-changes : goal.returns-in-Err-clause-changes
+returns-in-Err-clause-changes g c = mount_changes c.mount.ensures.looks
+
+pub returns-in-Err-clause-stops : goal.returns-in-Err-clause-stops
+returns-in-Err-clause-stops g c = λ tells. rw c.mount_ending.ensures.ends (mount_stops c.args.volume.now.geometry c.in-Err.why c.in-Err.ensures.late c.mount.ensures.looks (c.in-Err.ensures.spoiled tells))
+
+pub returns-in-Ok-clause-changes : goal.returns-in-Ok-clause-changes
+returns-in-Ok-clause-changes g c = check_changes c.mount.new.self.geometry c.mount.ensures.same.geometry c.mount.ensures.looks c.check.ensures.changes
+
+pub returns-in-Ok-2-clause-changes : goal.returns-in-Ok-2-clause-changes
+returns-in-Ok-2-clause-changes g c = check_changes c.mount.new.self.geometry c.mount.ensures.same.geometry c.mount.ensures.looks c.check.ensures.changes
+
+pub returns-in-Err-check-clause-changes : goal.returns-in-Err-check-clause-changes
+returns-in-Err-check-clause-changes g c = check_changes c.mount.new.self.geometry c.mount.ensures.same.geometry c.mount.ensures.looks c.check.ensures.changes
+
+pub returns-in-Err-check-clause-stops : goal.returns-in-Err-check-clause-stops
+returns-in-Err-check-clause-stops g c = λ tells. rw c.check_ending.ensures.ends (check_stops c.in-Err-check.why c.mount.new.self.geometry c.mount.ensures.same.geometry (c.in-Err-check.ensures.writable (ap write_refusal c.mount.ensures.same.geometry ∙ c.requires)) c.mount.ensures.looks (search rules) c.in-Err-check.ensures.refused (λ is. c.check.ensures.unbuilt (c.mount.ensures.looks.told tells) (c.in-Err-check.is ∙ ap Err is)))

@@ -1,0 +1,117 @@
+-- What a run leaves, by how it ends.
+use Rattle.std.specs.Prelude.{ℕ, ◌≡◌, ◌+◌, ◌<◌, ◌≤◌, ◌⊎◌, List, [], ◌∷◌, ◌++◌, length, replicate, None}
+use Rattle.geometry.specs.declared.geometry.Geometry.{Geometry}
+use Rattle.nor_core.specs.declared.state.NorState.{Ghosts as NorOf}
+use Rattle.nor_core.specs.Count.{Rose}
+use Rattle.table_model.specs.Ask.{Ask}
+use Rattle.table_model.specs.Window.{Moment, settled_at}
+use Rattle.call_script.specs.Lines.{Bad, lines, of_line, calls, NoBreak}
+use Rattle.image_model.specs.Tables.{table_of}
+use Rattle.image_model.specs.Tidy.{free_blocks, HasReserve}
+use Rattle.image_model.specs.Kinds.{spoiled_blocks}
+use Rattle.image_model.specs.Plain.{IsPlain}
+use Rattle.run_model.specs.Runs.{after_all, replies}
+use Rattle.run_model.specs.Safe.{IsSafe}
+use Rattle.run_model.specs.Ran.{CutIn, Reached, SaidPart}
+use Rattle.tool_core.specs.declared.ending.Ending.{Ending}
+use Rattle.tool_core.specs.declared.ending.Ending.TheVariants.{Done, NotAFs, BadLine, BoardFault, SourceFault, TooLong, Tight, Unbuilt, UnbuiltImage}
+use Rattle.tool_core.specs.Closing.{status_of, closing_line_of}
+use Rattle.tool_core.specs.Endings.{EndsAs}
+use Rattle.tool_core.specs.Turns.{AllGood, LacksPage}
+
+-- a line of a script is outside the grammar, the first such, by its number from 1
+pub record HasBad (script : List ℕ) (number : ℕ) : Type 0 where
+  pub done : List (List ℕ)
+  pub bad : List ℕ
+  pub others : List (List ℕ)
+  pub lines_are : lines script ≡ done ++ (bad ∷ others)
+  pub good : AllGood done
+  pub is_bad : of_line bad ≡ Bad
+  pub number_is : number ≡ length done + 1
+
+-- A script is whole lines in the grammar, a front of the next of at most 4,096 bytes, and what is left.
+pub record IsTaken (script whole rest left : List ℕ) : Type 0 where
+  pub script_is : script ≡ whole ++ (rest ++ left)
+  pub ended : (more : List ℕ) → lines (whole ++ more) ≡ lines whole ++ lines more
+  pub good : AllGood (lines whole)
+  pub no_break : NoBreak rest
+  pub few : length rest ≤ 4096
+
+-- a script was taken up to what is left, and these are the calls of its lines so far
+pub record IsTakenTo (script left : List ℕ) (front : List Ask) : Type 0 where
+  pub whole : List ℕ
+  pub rest : List ℕ
+  pub taken : IsTaken script whole rest left
+  pub calls_are : calls whole ≡ front
+
+-- 16,777,216 bytes of a script were taken, it has more, and these are the calls of its lines so far
+pub record IsTooLong (script : List ℕ) (front : List Ask) : Type 0 where
+  pub whole : List ℕ
+  pub rest : List ℕ
+  pub byte : ℕ
+  pub left : List ℕ
+  pub taken : IsTaken script whole rest (byte ∷ left)
+  pub count : length whole + length rest ≡ 16777216
+  pub calls_are : calls whole ≡ front
+
+-- the first of some calls lacks its page
+pub record LacksNext (g : Geometry) (m : Moment) (image : List ℕ) (later : List Ask) : Type 0 where
+  pub ask : Ask
+  pub more : List Ask
+  pub later_is : later ≡ ask ∷ more
+  pub lacks : LacksPage g m image ask
+
+-- why a run ends after some calls and before others, where it stands at that moment over this image
+abbrev pub WhyEnds : (g : Geometry) (m : Moment) (image script left : List ℕ) (front later : List Ask) → Ending → Type 0
+WhyEnds g m image script left front later Done = (later ≡ []) × AllGood (lines script) × (left ≡ [])
+WhyEnds g m image script left front later (BadLine number) = (later ≡ []) × HasBad script number
+WhyEnds g m image script left front later TooLong = IsTooLong script front
+WhyEnds g m image script left front later SourceFault = IsTakenTo script left front
+WhyEnds g m image script left front later Unbuilt = LacksNext g m image later
+WhyEnds g m image script left front later _ = ⊥
+
+-- a run came to the moment after the first of its script's calls, and ends there
+pub record Went {D : Type 0} (nor : NorOf D) (g : Geometry) (old new : D) (m : Moment) (script left : List ℕ) (ending : Ending) : Type 0 where
+  pub front : List Ask
+  pub later : List Ask
+  pub asks_are : calls script ≡ front ++ later
+  pub reached : Reached nor g old new m front
+  pub why : WhyEnds g (after_all g m front) (nor.bytes new) script left front later ending
+
+-- it came there, or the board failed
+abbrev pub RunEnds : {D : Type 0} (nor : NorOf D) (g : Geometry) (old new : D) (m : Moment) (script left : List ℕ) → Ending → Type 0
+RunEnds nor g old new m script left ending =
+    ((ending ≡ BoardFault) × SaidPart nor old new (replies g m (calls script))) ⊎ Went nor g old new m script left ending
+
+-- a volume with that image and that many descriptors, all closed
+abbrev pub first_moment : Geometry → (slots : ℕ) (image : List ℕ) → Moment
+first_moment g slots image = settled_at (record { table = table_of g image; slots = replicate slots None })
+
+-- the check took the first image, and left the volume its reserve
+pub record IsChecked (g : Geometry) (first image : List ℕ) : Type 0 where
+  pub plain : IsPlain g first
+  pub reserve : HasReserve g image
+
+-- Why a run ends after some calls and before others: for its first image before the first call, or for what it met.
+abbrev pub WhyRan : (g : Geometry) (m : Moment) (first image script left : List ℕ) (front later : List Ask) → Ending → Type 0
+WhyRan g m first image script left front later (NotAFs spoiled) = (front ≡ []) × (spoiled ≡ spoiled_blocks g first) × (2 ≤ spoiled)
+WhyRan g m first image script left front later UnbuiltImage = (front ≡ []) × (spoiled_blocks g first < 2) × (IsPlain g first → ⊥)
+WhyRan g m first image script left front later (Tight free) = (front ≡ []) × IsPlain g first × (free ≡ free_blocks g image) × (free < 2)
+WhyRan g m first image script left front later ending = IsChecked g first image × WhyEnds g m image script left front later ending
+
+-- before its closing line: the replies to the first calls were said, and the table is theirs
+pub record Came {D : Type 0} (nor : NorOf D) (g : Geometry) (old new : D) (m : Moment) (script left : List ℕ) (ending : Ending) : Type 0 where
+  pub front : List Ask
+  pub later : List Ask
+  pub asks_are : calls script ≡ front ++ later
+  pub said : nor.said new ≡ nor.said old ++ replies g m front
+  pub tells : nor.tells new
+  pub settled : table_of g (nor.bytes new) ≡ (after_all g m front).settled
+  pub table : table_of g (nor.bytes new) ≡ (after_all g m front).state.table
+  pub why : WhyRan g (after_all g m front) (nor.bytes old) (nor.bytes new) script left front later ending
+  pub safe : IsPlain g (nor.bytes old) → HasReserve g (nor.bytes old) → IsSafe g (nor.bytes old) (nor.bytes new)
+
+-- it came there, or the board failed
+abbrev pub RunsTo : {D : Type 0} (nor : NorOf D) (g : Geometry) (old new : D) (m : Moment) (script left : List ℕ) → Ending → Type 0
+RunsTo nor g old new m script left ending =
+    ((ending ≡ BoardFault) × SaidPart nor old new (replies g m (calls script))) ⊎ Came nor g old new m script left ending
