@@ -95,17 +95,33 @@ counting_more g image first n i block p c s less was at_p is = turn s (subst (Pa
   where
     turn : (s : Sort) → Passes g image p s → Counting g image first n (i + 1) block (one_more c s)
     turn Index w = record {
-      index = count_yes _ first n i _ _ p less was.index at_p w.index; pages = count_no _ first n i _ _ p less was.pages at_p w.pages;
-      deleted = count_no _ first n i _ _ p less was.deleted at_p w.deleted; free = count_no _ first n i _ _ p less was.free at_p w.free; erases = was.erases }
+      index = count_yes _ first n i _ _ p less was.index at_p w.index;
+      pages = count_no _ first n i _ _ p less was.pages at_p w.pages;
+      deleted = count_no _ first n i _ _ p less was.deleted at_p w.deleted;
+      free = count_no _ first n i _ _ p less was.free at_p w.free;
+      erases = was.erases;
+    }
     turn Data w = record {
-      index = count_no _ first n i _ _ p less was.index at_p w.index; pages = count_yes _ first n i _ _ p less was.pages at_p w.pages;
-      deleted = count_no _ first n i _ _ p less was.deleted at_p w.deleted; free = count_no _ first n i _ _ p less was.free at_p w.free; erases = was.erases }
+      index = count_no _ first n i _ _ p less was.index at_p w.index;
+      pages = count_yes _ first n i _ _ p less was.pages at_p w.pages;
+      deleted = count_no _ first n i _ _ p less was.deleted at_p w.deleted;
+      free = count_no _ first n i _ _ p less was.free at_p w.free;
+      erases = was.erases;
+    }
     turn Deleted w = record {
-      index = count_no _ first n i _ _ p less was.index at_p w.index; pages = count_no _ first n i _ _ p less was.pages at_p w.pages;
-      deleted = count_yes _ first n i _ _ p less was.deleted at_p w.deleted; free = count_no _ first n i _ _ p less was.free at_p w.free; erases = was.erases }
+      index = count_no _ first n i _ _ p less was.index at_p w.index;
+      pages = count_no _ first n i _ _ p less was.pages at_p w.pages;
+      deleted = count_yes _ first n i _ _ p less was.deleted at_p w.deleted;
+      free = count_no _ first n i _ _ p less was.free at_p w.free;
+      erases = was.erases;
+    }
     turn Free w = record {
-      index = count_no _ first n i _ _ p less was.index at_p w.index; pages = count_no _ first n i _ _ p less was.pages at_p w.pages;
-      deleted = count_no _ first n i _ _ p less was.deleted at_p w.deleted; free = count_yes _ first n i _ _ p less was.free at_p w.free; erases = was.erases }
+      index = count_no _ first n i _ _ p less was.index at_p w.index;
+      pages = count_no _ first n i _ _ p less was.pages at_p w.pages;
+      deleted = count_no _ first n i _ _ p less was.deleted at_p w.deleted;
+      free = count_yes _ first n i _ _ p less was.free at_p w.free;
+      erases = was.erases;
+    }
 
 pub counting_end : (g : Geometry) (image : List ℕ) (block first n i : ℕ) (c : BlockCounts) → first ≡ block * per_block g + lookups g → n ≡ entries g → n ≤ i → Counting g image first n i block c → AreCounts g image block c
 counting_end g image block first n i c at_first at_n most was = record {

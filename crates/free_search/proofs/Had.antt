@@ -113,7 +113,7 @@ page_had g image None none =
     let index = (needed (free_where g image (takes_index g image)) (entries g) e).0 (no_entries g image (λ block below takes. none.full block below (λ is. absurd (cc)) takes)) in
     let pages = none_left (free_where g image (takes_data g image)) (entries g) e in
     let few : free_blocks g image ≤ 2 = ⊎_elim (λ (kept : free_blocks g image ≤ 2). kept)
-        (λ (never : (block : ℕ) → block < g.blocks → Some block ≢ None → is_free_block g image block ≡ false). let zero_blocks = no_blocks g image (λ block below. never block below (λ is. absurd (cc))) in omega (arith, zero_blocks)) none.kept in
+    (λ (never : (block : ℕ) → block < g.blocks → Some block ≢ None → is_free_block g image block ≡ false). let zero_blocks = no_blocks g image (λ block below. never block below (λ is. absurd (cc))) in omega (arith, zero_blocks)) none.kept in
     let left : free_blocks g image - 2 ≡ 0 = omega (arith, few) in
     rw (index, pages, left) refl
 page_had g image (Some p) is =

@@ -140,11 +140,22 @@ fn meta_bytes_of_new_files_are_shown(rt: HostRuntime) -> Result<(), Fail> {
     let g = Geometry::new(256, 4096, 16, 4096, 2, MagicKind::Plain)?;
     format(&g, &mut board)?;
     let words = "run 256 4096 16 2 plain chip";
-    assert_eq!(rt; run(rt.alloc(), words, &mut board, b"create a b\ncreate a\nstat a\n")?, 5);
+    assert_eq!(rt;
+        run(
+            rt.alloc(),
+            words,
+            &mut board,
+            b"create a b\ncreate a\nstat a\n"
+        )?,
+        5
+    );
     assert_eq!(rt; board.said(), b"! bad line 1\n".as_slice());
     let mut board = blank(rt.alloc())?;
     format(&g, &mut board)?;
-    assert_eq!(rt; run(rt.alloc(), words, &mut board, b"create a\nstat a\n")?, 0);
+    assert_eq!(rt;
+        run(rt.alloc(), words, &mut board, b"create a\nstat a\n")?,
+        0
+    );
     assert_eq!(rt; board.said(), b"ok\nok 1 1 0 a FFFF\n".as_slice());
     Ok(())
 }

@@ -30,7 +30,9 @@ fn front_of(alloc: Global, image: &[u8]) -> Result<Option<usize>, Fail> {
     let g = small()?;
     let table = table_of(alloc, &g, image)?;
     for (i, file) in table.iter().enumerate() {
-        let is_next = NAMES.get(i).is_some_and(|name| file.name.as_slice() == *name);
+        let is_next = NAMES
+            .get(i)
+            .is_some_and(|name| file.name.as_slice() == *name);
         if !is_next || usize::from(file.id) != i + 1 || !file.bytes.is_empty() {
             return Ok(None);
         }
@@ -46,19 +48,36 @@ fn fresh(alloc: Global) -> Result<MemBoard, Fail> {
 }
 
 #[test]
-fn a_cut_run_leaves_the_files_that_it_told_and_at_most_one_more(rt: HostRuntime) -> Result<(), Fail> {
+fn a_cut_run_leaves_the_files_that_it_told_and_at_most_one_more(
+    rt: HostRuntime,
+) -> Result<(), Fail> {
     let alloc = rt.alloc();
     for passed in 0..CALLS {
         for pick in 0..5 {
             let mut board = fresh(alloc)?;
             board.cut_after(passed, pick);
-            assert_eq!(rt; run(alloc, SMALL, &mut board, SCRIPT)?, 7, "at {passed} by {pick}");
+            assert_eq!(rt;
+                run(alloc, SMALL, &mut board, SCRIPT)?,
+                7,
+                "at {passed} by {pick}"
+            );
             let told = board.said().iter().filter(|byte| **byte == b'\n').count();
             let files = front_of(alloc, board.image())?;
-            assert!(rt; files == Some(told) || files == Some(told + 1), "at {passed} by {pick}");
+            assert!(rt;
+                files == Some(told) || files == Some(told + 1),
+                "at {passed} by {pick}"
+            );
             let mut after = board_of(alloc, board.image())?;
-            assert_eq!(rt; run(alloc, SMALL, &mut after, b"")?, 0, "at {passed} by {pick}");
-            assert_eq!(rt; front_of(alloc, after.image())?, files, "at {passed} by {pick}");
+            assert_eq!(rt;
+                run(alloc, SMALL, &mut after, b"")?,
+                0,
+                "at {passed} by {pick}"
+            );
+            assert_eq!(rt;
+                front_of(alloc, after.image())?,
+                files,
+                "at {passed} by {pick}"
+            );
         }
     }
     Ok(())
@@ -77,10 +96,22 @@ fn a_recovery_that_is_cut_leaves_the_files_too(rt: HostRuntime) -> Result<(), Fa
                 let mut first = board_of(alloc, board.image())?;
                 first.cut_after(calls, pick);
                 run(alloc, SMALL, &mut first, b"")?;
-                assert_eq!(rt; front_of(alloc, first.image())?, files, "at {passed}, {calls} by {pick}");
+                assert_eq!(rt;
+                    front_of(alloc, first.image())?,
+                    files,
+                    "at {passed}, {calls} by {pick}"
+                );
                 let mut second = board_of(alloc, first.image())?;
-                assert_eq!(rt; run(alloc, SMALL, &mut second, b"")?, 0, "at {passed}, {calls} by {pick}");
-                assert_eq!(rt; front_of(alloc, second.image())?, files, "at {passed}, {calls} by {pick}");
+                assert_eq!(rt;
+                    run(alloc, SMALL, &mut second, b"")?,
+                    0,
+                    "at {passed}, {calls} by {pick}"
+                );
+                assert_eq!(rt;
+                    front_of(alloc, second.image())?,
+                    files,
+                    "at {passed}, {calls} by {pick}"
+                );
             }
         }
     }

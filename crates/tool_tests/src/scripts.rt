@@ -120,7 +120,10 @@ fn a_create_without_a_free_page_is_unbuilt(rt: HostRuntime) -> Result<(), Fail> 
     for block in 0..14u32 {
         nor_core::Nor::program(&mut board, block * 4096, &[0; 30])?;
     }
-    assert_eq!(rt; run(rt.alloc(), RUN, &mut board, b"next 0\ncreate a\nnext 0\n")?, 16);
+    assert_eq!(rt;
+        run(rt.alloc(), RUN, &mut board, b"next 0\ncreate a\nnext 0\n")?,
+        16
+    );
     assert_eq!(rt; board.said(), b"ok none\n! unbuilt\n".as_slice());
     Ok(())
 }

@@ -95,11 +95,7 @@ pub(crate) fn has_room<N: Nor>(v: &mut View<'_, N>) -> Result<bool, Failed>
     let counts = page_counts(v)?;
     tidy_counts();
     files_add_up();
-    Ok(leaves_two(
-        &v.geometry,
-        counts.index_pages + 1,
-        counts.data_pages,
-    ))
+    Ok(leaves_two(&v.geometry, counts.index_pages + 1, counts.data_pages))
 }
 
 // Whether an index page is had that leaves two blocks free.

@@ -22,21 +22,21 @@ loop-block-preserved g c =
     let image = g.N.NorState.bytes c.args.v.now.nor.now in
     elim c.if-branch.branch [
       | then-branch w ↦ record {
-          looks = looks_then was.looks looked.looks;
-          end = was.end;
-          few = omega (arith, was.few, w.free-is);
-          told = λ tells.
-              let passes : is_free_block geometry image c.loop-block.block ≡ true = cc (looked.told (was.looks.reads.told tells), was.looks.reads.bytes, was.looks.same.geometry, w.if-branch.true) in
-              rw w.free-is (count_yes (λ b. is_free_block geometry image b) 0 _ c.loop-block.block _ _ _ c.loop-block-test.true (was.told tells) (zero-add c.loop-block.block) passes);
-        }
+        looks = looks_then was.looks looked.looks;
+        end = was.end;
+        few = omega (arith, was.few, w.free-is);
+        told = λ tells.
+            let passes : is_free_block geometry image c.loop-block.block ≡ true = cc (looked.told (was.looks.reads.told tells), was.looks.reads.bytes, was.looks.same.geometry, w.if-branch.true) in
+            rw w.free-is (count_yes (λ b. is_free_block geometry image b) 0 _ c.loop-block.block _ _ _ c.loop-block-test.true (was.told tells) (zero-add c.loop-block.block) passes);
+      }
       | else-branch w ↦ record {
-          looks = looks_then was.looks looked.looks;
-          end = was.end;
-          few = omega (arith, was.few, w.free-is);
-          told = λ tells.
-              let fails : is_free_block geometry image c.loop-block.block ≡ false = cc (looked.told (was.looks.reads.told tells), was.looks.reads.bytes, was.looks.same.geometry, w.if-branch.false) in
-              rw w.free-is (count_no (λ b. is_free_block geometry image b) 0 _ c.loop-block.block _ _ _ c.loop-block-test.true (was.told tells) (zero-add c.loop-block.block) fails);
-        }
+        looks = looks_then was.looks looked.looks;
+        end = was.end;
+        few = omega (arith, was.few, w.free-is);
+        told = λ tells.
+            let fails : is_free_block geometry image c.loop-block.block ≡ false = cc (looked.told (was.looks.reads.told tells), was.looks.reads.bytes, was.looks.same.geometry, w.if-branch.false) in
+            rw w.free-is (count_no (λ b. is_free_block geometry image b) 0 _ c.loop-block.block _ _ _ c.loop-block-test.true (was.told tells) (zero-add c.loop-block.block) fails);
+      }
     ]
 
 pub returns-clause-told : goal.returns-clause-told

@@ -19,7 +19,7 @@ loop-page-preserved g c =
           let geometry = c.args.v.now.geometry in
           let image = g.N.NorState.bytes c.args.v.now.nor.now in
           let turn : Notes (usable geometry) (headed (live_at geometry image c.loop-page.page)) (bits_at geometry c.loop-page.v.work.now) (bits_at geometry c.note_page.new.v.work.now) =
-              rw (was.looks.same.geometry, was.looks.reads.bytes) at (looked.told (was.looks.reads.told tells)) in
+          rw (was.looks.same.geometry, was.looks.reads.bytes) at (looked.told (was.looks.reads.told tells)) in
           noted_more geometry image _ _ c.loop-page.page (was.told tells) turn;
     }
 

@@ -13,7 +13,7 @@ returns-in-Ok-clause-goes g c = λ tells ready.
     let looked = c.in_ok-id.ensures in
     let geometry = c.args.v.now.geometry in
     step_makes geometry c.args.name.now c.in_ok-id.id looked.looks.reads looked.told tells ready
-        ((rw looked.looks.same.geometry at c.in-Ok.ensures.done) (looked.looks.reads.told tells) (step_can geometry c.args.name.now c.in_ok-id.id looked.looks.reads looked.told tells ready))
+    ((rw looked.looks.same.geometry at c.in-Ok.ensures.done) (looked.looks.reads.told tells) (step_can geometry c.args.name.now c.in_ok-id.id looked.looks.reads looked.told tells ready))
 
 pub returns-in-Err-DeviceFault-clause-changes : goal.returns-in-Err-DeviceFault-clause-changes
 returns-in-Err-DeviceFault-clause-changes g c =
