@@ -10,12 +10,15 @@ use vol_mount::format;
 /// A run on four blocks of 4,096 bytes.
 const SMALL: &str = "run 256 4096 4 0 len chip";
 
-/// The script, and its names in order: each create is four programs and a reply.
+/// The script, and its names in order.
 const SCRIPT: &[u8] = b"create a\ncreate b\ncreate c\n";
 
 const NAMES: [&[u8]; 3] = [b"a", b"b", b"c"];
 
-const CALLS: u64 = 15;
+/// The programs and the reply of one create.
+const EACH: u64 = 5;
+
+const CALLS: u64 = 3 * EACH;
 
 fn small() -> Result<Geometry, Fail> {
     Ok(Geometry::new(256, 4096, 4, 4096, 0, MagicKind::Length)?)
@@ -86,12 +89,12 @@ fn a_cut_run_leaves_the_files_that_it_told_and_at_most_one_more(
 #[test]
 fn a_recovery_that_is_cut_leaves_the_files_too(rt: HostRuntime) -> Result<(), Fail> {
     let alloc = rt.alloc();
-    for passed in 0..CALLS {
+    for passed in EACH..2 * EACH {
         let mut board = fresh(alloc)?;
         board.cut_after(passed, 3);
         run(alloc, SMALL, &mut board, SCRIPT)?;
         let files = front_of(alloc, board.image())?;
-        for calls in 0..3 {
+        for calls in 0..2 {
             for pick in 0..5 {
                 let mut first = board_of(alloc, board.image())?;
                 first.cut_after(calls, pick);
