@@ -1,8 +1,8 @@
 -- Bits of ids in a row of bytes.
-use Rattle.std.proofs.Common.{◌≡◌, ◌≢◌, ℕ, ◌+◌, ◌*◌, ◌/◌, ◌%◌, ◌^◌, ◌<◌, ◌≤◌, ◌⊎◌, ⊎_elim, List, Bool, true, false, ◌==◌, not, length, take, drop, ◌-◌, refl, sym, ◌∙◌, ap, arith, slice_index, slice_set, get_or, Option, Some, None}
+use Rattle.std.proofs.Common.{◌≡◌, ◌≢◌, ℕ, ◌+◌, ◌*◌, ◌/◌, ◌%◌, ◌^◌, ◌<◌, ◌≤◌, ⊎_elim, List, ◌==◌, not, length, take, drop, ◌-◌, refl, sym, ◌∙◌, ap, arith, slice_index, slice_set, get_or, Option, Some, None}
 use Rattle.std.specs.Prelude.{bit_or, bit_and, find}
 use Rattle.std.specs.List.{range_with_len}
-use Rattle.std.specs.Int.{bit_at, w8}
+use Rattle.std.specs.Int.{w8}
 use Rattle.std.proofs.Math.Nat.{div-add-mod}
 use Rattle.std.proofs.lemmas.Bool.{cases_lt, cases_eq, eqb-true, eq-eqb}
 use Rattle.std.specs.Cmp.{both_ways}
@@ -14,7 +14,7 @@ use Rattle.geometry.specs.Numbers.{usable}
 use Rattle.image_model.specs.Volume.{page_count}
 use Rattle.image_model.specs.Live.{live_at}
 use Rattle.flash_view.specs.Found.{headed, has_header}
-use Rattle.flash_view.proofs.Least.{heads, Headed, headed_of}
+use Rattle.flash_view.proofs.Least.{heads, headed_of}
 use Rattle.free_search.specs.Ids.{bit_of, Notes, unused_id}
 
 -- the bytes from a place on, as a slice to the end

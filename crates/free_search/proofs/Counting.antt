@@ -1,8 +1,8 @@
 -- The counts of a block's entries, entry after entry.
-use Rattle.std.proofs.Common.{◌≡◌, ◌≢◌, ℕ, ◌+◌, ◌-◌, ◌*◌, ◌<◌, ◌≤◌, List, Bool, true, false, not, ◌==◌, ◌&&◌, length, refl, sym, ◌∙◌, ap, arith, subst, if◌then◌else◌}
-use Rattle.std.specs.Prelude.{filter, Option, Some, None, is_none}
+use Rattle.std.proofs.Common.{◌≡◌, ℕ, ◌+◌, ◌-◌, ◌*◌, ◌<◌, ◌≤◌, List, Bool, true, false, not, ◌==◌, length, refl, sym, ◌∙◌, arith, subst, if◌then◌else◌}
+use Rattle.std.specs.Prelude.{filter, Option, Some, None}
 use Rattle.std.specs.List.{range_with_len}
-use Rattle.std.proofs.lemmas.Bool.{eqb-true, eq-eqb}
+use Rattle.std.proofs.lemmas.Bool.{eqb-true}
 use Rattle.geometry.specs.declared.geometry.Geometry.{Geometry}
 use Rattle.image_model.specs.Volume.{per_block, lookups, entries}
 use Rattle.image_model.specs.Headers.{names_index, is_finished}

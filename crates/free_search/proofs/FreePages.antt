@@ -1,23 +1,23 @@
 -- Free pages of a tidy image, by the counts of blocks.
-use Rattle.std.proofs.Common.{◌≡◌, ◌≢◌, ℕ, ◌+◌, ◌-◌, ◌*◌, ◌<◌, ◌≤◌, ◌⊎◌, ⊎_elim, inl, inr, List, [], ◌∷◌, Bool, true, false, not, ◌==◌, ◌&&◌, ◌||◌, length, refl, sym, ◌∙◌, ap, arith, subst, if◌then◌else◌, nat_lt}
+use Rattle.std.proofs.Common.{◌≡◌, ℕ, ◌+◌, ◌*◌, ◌<◌, ◌≤◌, ◌⊎◌, ⊎_elim, inl, inr, List, [], ◌∷◌, Bool, true, false, not, ◌==◌, ◌&&◌, length, refl, sym, ◌∙◌, arith, nat_lt}
 use Rattle.std.specs.Prelude.{filter, Option, Some, None}
 use Rattle.std.specs.List.{range_with_len, list_any, list_all}
 use Rattle.std.proofs.lemmas.Bool.{eqb-true, eq-eqb, ltb-true, ltb-false, and_parts, false_from_ne_true}
 use Rattle.std.proofs.lemmas.List.FromFn.{length-range_with_len}
 use Rattle.geometry.specs.declared.geometry.Geometry.{Geometry}
 use Rattle.image_model.specs.Volume.{per_block, lookups, entries}
-use Rattle.image_model.specs.Places.{entry_of, has_magic, block_of, is_entry_page}
+use Rattle.image_model.specs.Places.{entry_of, has_magic, is_entry_page}
 use Rattle.image_model.specs.Live.{live_at}
 use Rattle.image_model.specs.Tidy.{IsTidy, is_free_entry, is_free_block, free_blocks, is_wanted}
 use Rattle.image_model.specs.Kinds.{is_index_page, is_data_page, is_index_block, is_data_block}
-use Rattle.image_model.specs.Collect.{count_in, index_in, data_in, deleted_in, free_in, takes_index, takes_data}
+use Rattle.image_model.specs.Collect.{count_in, index_in, data_in, free_in, takes_index, takes_data}
 use Rattle.image_model.specs.Within.{entry_in, sizes}
 use Rattle.image_laws.proofs.FreeBlocks.{all-at, filter-same}
 use Rattle.flash_view.specs.declared.kinds.Kind.{Kind}
 use Rattle.flash_view.specs.declared.kinds.Kind.TheVariants.{Index, Data}
 use Rattle.free_search.specs.declared.blocks.BlockCounts.{BlockCounts}
 use Rattle.free_search.specs.Counts.{AreCounts, the_takes}
-use Rattle.free_search.specs.Free.{IsOpen, OpenIf, OpenBlock, FreeEntry, FreeBlock, FreePage, takes_kind, holds_other, IsFreeFor}
+use Rattle.free_search.specs.Free.{IsOpen, OpenIf, FreeEntry, FreePage, holds_other}
 use Rattle.free_search.proofs.Counting.{free_is_dead}
 
 -- ---- tests over lists, and how many pass them

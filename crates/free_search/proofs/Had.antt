@@ -1,10 +1,10 @@
 -- An index page is had exactly where one is found that leaves two blocks free.
-use Rattle.std.proofs.Common.{◌≡◌, ◌≢◌, ℕ, zero, suc, ◌+◌, ◌-◌, ◌*◌, ◌/◌, ◌<◌, ◌≤◌, ◌⊎◌, ⊎_elim, List, [], ◌∷◌, Bool, true, false, not, ◌&&◌, length, refl, sym, ◌∙◌, ap, arith, if◌then◌else◌, nat_le}
+use Rattle.std.proofs.Common.{◌≡◌, ◌≢◌, ℕ, zero, suc, ◌+◌, ◌-◌, ◌*◌, ◌<◌, ◌≤◌, ⊎_elim, List, [], ◌∷◌, Bool, true, false, length, refl, sym, ◌∙◌, ap, arith, if◌then◌else◌, nat_le}
 use Rattle.std.specs.Prelude.{filter, Option, Some, None, is_some, sum_by}
 use Rattle.std.specs.List.{range_with_len}
 use Rattle.std.proofs.Math.Nat.{div-eq_of_lt, div_self}
 use Rattle.std.proofs.lemmas.List.Sums.{sum_by-cons}
-use Rattle.std.proofs.lemmas.Bool.{le-leb, lt-leb, leb-false, cases_lt, cases_eq}
+use Rattle.std.proofs.lemmas.Bool.{le-leb, cases_eq}
 use Rattle.geometry.specs.declared.geometry.Geometry.{Geometry}
 use Rattle.geometry.specs.Numbers.{ceil}
 use Rattle.image_model.specs.Volume.{per_block, lookups, entries}
@@ -12,10 +12,10 @@ use Rattle.image_model.specs.Places.{has_magic, block_of, is_entry_page}
 use Rattle.image_model.specs.Tidy.{is_free_entry, is_free_block, free_blocks}
 use Rattle.image_model.specs.Kinds.{is_data_block}
 use Rattle.image_model.specs.Collect.{free_in, takes_index, takes_data, free_where, are_had}
-use Rattle.image_model.specs.Within.{sizes, page_number, block_number, entry_of_block}
+use Rattle.image_model.specs.Within.{page_number, block_number, entry_of_block}
 use Rattle.image_laws.proofs.FreeBlocks.{filter-same}
 use Rattle.flash_view.specs.declared.kinds.Kind.TheVariants.{Index}
-use Rattle.free_search.specs.Free.{HasNone, IsFreeFor, FreePage}
+use Rattle.free_search.specs.Free.{IsFreeFor, FreePage}
 use Rattle.free_search.proofs.FreePages.{some_entries}
 
 -- ---- sums over the blocks

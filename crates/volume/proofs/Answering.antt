@@ -1,5 +1,5 @@
 -- What the calls answer is what the flat model answers.
-use Rattle.std.proofs.Common.{◌≡◌, ◌≢◌, ℕ, ◌+◌, ◌<◌, ◌≤◌, ◌⊎◌, ⊎_elim, inl, inr, List, Bool, true, false, not, ◌||◌, refl, sym, ◌∙◌, ap, subst, arith, nat_lt, if◌then◌else◌}
+use Rattle.std.proofs.Common.{◌≡◌, ℕ, ◌<◌, ◌⊎◌, ⊎_elim, inl, inr, List, Bool, true, false, not, refl, sym, ◌∙◌, ap, arith, nat_lt, if◌then◌else◌}
 use Rattle.std.specs.Prelude.{Option, Some, None, Result, Ok, Err}
 use Rattle.std.specs.Option.{option_map}
 use Rattle.std.proofs.lemmas.Bool.{ltb-true}
@@ -16,15 +16,15 @@ use Rattle.table_model.specs.Names.{name_refusal, is_bad_name, is_long_name}
 use Rattle.table_model.specs.Files.{created, stat_of}
 use Rattle.table_model.specs.Calls.{answer_create, answer_stat, answer_next, info_of}
 use Rattle.table_model.specs.Outcome.{page_refusal}
-use Rattle.table_model.specs.Reply.{Fine, Shows, Ends, Counts, Refuses}
+use Rattle.table_model.specs.Reply.{Fine, Shows, Counts, Refuses}
 use Rattle.table_model.specs.Ask.{Creates, Stats, NextAbove, Informs}
 use Rattle.table_model.specs.Flat.{answer, full_answer}
 use Rattle.image_model.specs.Tables.{table_of}
-use Rattle.image_model.specs.Tidy.{free_blocks, HasReserve}
+use Rattle.image_model.specs.Tidy.{free_blocks}
 use Rattle.image_model.specs.Collect.{are_had}
 use Rattle.volume.specs.Refusals.{create_refusal}
-use Rattle.volume.specs.Answers.{IsReady, CreateGoes, CreateAnswers, CreateLeaves, CreateCuts, StatAnswers, NextAnswers, shown_or_end}
-use Rattle.volume.proofs.Creating.{Allowed, allowed}
+use Rattle.volume.specs.Answers.{IsReady, CreateGoes, CreateAnswers, CreateLeaves, CreateCuts, StatAnswers, shown_or_end}
+use Rattle.volume.proofs.Creating.{allowed}
 
 -- ---- names
 

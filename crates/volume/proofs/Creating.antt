@@ -1,20 +1,18 @@
 -- What stands against a create, and what a create leaves.
-use Rattle.std.proofs.Common.{◌≡◌, ℕ, ◌+◌, ◌<◌, ◌≤◌, ◌⊎◌, ⊎_elim, inl, inr, List, Bool, true, false, not, refl, sym, ◌∙◌, ap, subst, arith, nat_lt, if◌then◌else◌}
-use Rattle.std.specs.Prelude.{Option, Some, None}
+use Rattle.std.proofs.Common.{◌≡◌, ℕ, ⊎_elim, inl, inr, List, Bool, true, false, not, refl, sym, ◌∙◌, subst, nat_lt, if◌then◌else◌}
+use Rattle.std.specs.Prelude.{Some, None}
 use Rattle.geometry.specs.declared.geometry.Geometry.{Geometry}
 use Rattle.nor_core.specs.declared.state.NorState.{Ghosts as NorOf}
 use Rattle.nor_core.specs.Device.{OnlyReads, Changes}
 use Rattle.nor_core.proofs.Cuts.{wider, after_reads}
 use Rattle.image_model.specs.Tidy.{IsTidy}
-use Rattle.table_model.specs.declared.error.FsErr.{FsErr}
 use Rattle.table_model.specs.declared.error.FsErr.TheVariants.{ConflictingName, Tight, Full, Unbuilt}
-use Rattle.table_model.specs.Table.{has_name, has_id, least_id}
+use Rattle.table_model.specs.Table.{has_name, least_id}
 use Rattle.table_model.specs.Room.{has_room}
-use Rattle.table_model.specs.Files.{created, new_file}
+use Rattle.table_model.specs.Files.{created}
 use Rattle.image_model.specs.Tables.{table_of}
 use Rattle.image_model.specs.Tidy.{free_blocks}
 use Rattle.image_model.specs.Collect.{are_had}
-use Rattle.flash_view.specs.Found.{has_header}
 use Rattle.header_laws.proofs.HeadPages.{has-ids}
 use Rattle.header_laws.proofs.LeastIds.{least-unused}
 use Rattle.file_write.specs.Creates.{CanCreate, CreateCut, Created}

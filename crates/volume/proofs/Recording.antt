@@ -1,25 +1,23 @@
 -- The records of files, and how full a volume is.
-use Rattle.std.proofs.Common.{◌≡◌, ℕ, zero, suc, ◌+◌, ◌-◌, ◌*◌, ◌%◌, ◌≤◌, List, Bool, true, false, length, refl, sym, ◌∙◌, ap, subst, arith}
-use Rattle.std.specs.Prelude.{Option, Some, None, option_and_then, find}
+use Rattle.std.proofs.Common.{◌≡◌, ℕ, zero, suc, ◌+◌, ◌-◌, ◌*◌, List, Bool, true, false, refl, sym, ◌∙◌, ap}
+use Rattle.std.specs.Prelude.{Option, Some, None, find}
 use Rattle.std.specs.List.{range_with_len}
 use Rattle.std.specs.Option.{option_map}
 use Rattle.geometry.specs.declared.geometry.Geometry.{Geometry}
 use Rattle.geometry.specs.Numbers.{entries}
-use Rattle.table_model.specs.declared.reply.Stat.{Stat}
-use Rattle.table_model.specs.declared.reply.Info.{Info}
 use Rattle.table_model.specs.Table.{File, file_of, file_named, file_above}
 use Rattle.table_model.specs.Files.{stat_of}
 use Rattle.table_model.specs.Calls.{info_of}
 use Rattle.image_model.specs.Places.{IsImage, page_of}
-use Rattle.image_model.specs.Live.{live_at, own, is_live}
+use Rattle.image_model.specs.Live.{live_at, own}
 use Rattle.image_model.specs.Volume.{page_count}
 use Rattle.image_model.specs.Files.{index_page, is_index}
 use Rattle.image_laws.proofs.Frames.{live_parts}
 use Rattle.image_model.specs.Tables.{table_of}
 use Rattle.image_model.specs.Tidy.{IsTidy}
-use Rattle.flash_view.specs.Found.{first_named, NextId, has_header}
+use Rattle.flash_view.specs.Found.{first_named, NextId}
 use Rattle.image_laws.proofs.Tally.{tidy-counts}
-use Rattle.header_laws.specs.Heads.{Tells, HasHead}
+use Rattle.header_laws.specs.Heads.{Tells}
 use Rattle.header_laws.proofs.HeadCount.{file-count}
 use Rattle.header_laws.proofs.HeadPages.{next-is}
 use Rattle.header_laws.proofs.HeadNames.{named}

@@ -4,13 +4,13 @@ use Rattle.geometry.specs.declared.geometry.Geometry.{Geometry}
 use Rattle.nor_core.specs.declared.state.NorState.{Ghosts as NorOf}
 use Rattle.nor_core.specs.Device.{OnlyReads}
 use Rattle.table_model.specs.declared.error.FsErr.{FsErr}
-use Rattle.table_model.specs.declared.error.FsErr.TheVariants.{Failed, Unbuilt, DeviceFault, Damaged}
+use Rattle.table_model.specs.declared.error.FsErr.TheVariants.{Unbuilt, DeviceFault}
 use Rattle.table_model.specs.declared.reply.Stat.{Stat}
 use Rattle.table_model.specs.declared.reply.Info.{Info}
 use Rattle.table_model.specs.Table.{State}
 use Rattle.table_model.specs.Files.{created}
 use Rattle.table_model.specs.Reply.{Answer, Fine, Shows, Ends, Counts, Refuses}
-use Rattle.table_model.specs.Ask.{Ask, Creates, Stats, NextAbove, Informs}
+use Rattle.table_model.specs.Ask.{Creates, Stats, NextAbove, Informs}
 use Rattle.table_model.specs.Flat.{answer}
 use Rattle.image_model.specs.Tables.{table_of}
 use Rattle.image_model.specs.Tidy.{IsTidy, HasReserve}

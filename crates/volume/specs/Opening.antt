@@ -1,9 +1,9 @@
 -- The stages of a volume.
-use Rattle.std.specs.Prelude.{◌≡◌, Bool, true, false, Result, Ok, Err}
+use Rattle.std.specs.Prelude.{◌≡◌, Bool, true, false, Result, Err}
 use Rattle.table_model.specs.declared.error.FsErr.{FsErr}
 use Rattle.table_model.specs.declared.error.FsErr.TheVariants.{DeviceFault, Damaged}
 use Rattle.volume.specs.declared.stage.Stage.{Stage}
-use Rattle.volume.specs.declared.stage.Stage.TheVariants.{Unchecked, Checked, Failed}
+use Rattle.volume.specs.declared.stage.Stage.TheVariants.{Checked, Failed}
 
 -- a stage in which calls are taken
 abbrev pub is_open : Stage → Bool

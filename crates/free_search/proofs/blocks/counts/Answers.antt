@@ -1,9 +1,8 @@
-use Rattle.std.proofs.Common.{◌≡◌, ◌+◌, ◌*◌, ◌≤◌, refl, sym, ◌∙◌, arith}
-use Rattle.geometry.specs.Numbers.{entries as entries_of, per_block as pages_of, lookups as lookups_of}
+use Rattle.std.proofs.Common.{◌≡◌, refl, sym, arith}
 use Rattle.image_model.specs.Volume.{per_block, lookups, entries}
-use Rattle.flash_view.proofs.Looking.{looks_none, looks_then}
-use Rattle.free_search.specs.Counts.{the_sort, total_of, one_more}
-use Rattle.free_search.proofs.Counting.{Counting, counting_start, counting_more, counting_end, total_more}
+use Rattle.flash_view.proofs.Looking.{looks_then}
+use Rattle.free_search.specs.Counts.{the_sort}
+use Rattle.free_search.proofs.Counting.{counting_start, counting_more, counting_end, total_more}
 use Rattle.free_search.proofs.blocks.counts.Goals as goal
 
 pub loop-i-init : goal.loop-i-init

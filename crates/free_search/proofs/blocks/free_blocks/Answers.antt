@@ -1,4 +1,4 @@
-use Rattle.std.proofs.Common.{◌≡◌, ◌+◌, ℕ, true, false, refl, sym, ◌∙◌, ap, arith, zero-add}
+use Rattle.std.proofs.Common.{◌≡◌, true, false, arith, zero-add}
 use Rattle.image_model.specs.Tidy.{is_free_block, free_blocks}
 use Rattle.flash_view.proofs.Looking.{looks_none, looks_then}
 use Rattle.free_search.proofs.Scans.{count_start, count_yes, count_no, count_end}

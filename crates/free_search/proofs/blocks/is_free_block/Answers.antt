@@ -1,11 +1,10 @@
-use Rattle.std.proofs.Common.{◌≡◌, ◌+◌, ◌*◌, ℕ, true, false, refl, sym, ◌∙◌, ap, arith}
-use Rattle.std.specs.Prelude.{◌&&◌}
+use Rattle.std.proofs.Common.{◌≡◌, ◌+◌, ◌*◌, true, false, refl, ◌∙◌}
 use Rattle.geometry.specs.Numbers.{entries as entries_of, per_block as pages_of, lookups as lookups_of}
 use Rattle.image_model.specs.Volume.{per_block, lookups, entries}
 use Rattle.image_model.specs.Places.{has_magic}
 use Rattle.image_model.specs.Tidy.{is_free_entry, is_free_block}
-use Rattle.flash_view.proofs.Looking.{looks_none, looks_then}
-use Rattle.free_search.proofs.Scans.{all_start, all_later, all_fails, all_end}
+use Rattle.flash_view.proofs.Looking.{looks_then}
+use Rattle.free_search.proofs.Scans.{all_start, all_later, all_fails}
 use Rattle.free_search.proofs.blocks.is_free_block.Goals as goal
 
 pub returns-then-not-branch-clause-told : goal.returns-then-not-branch-clause-told

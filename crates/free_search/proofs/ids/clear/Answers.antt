@@ -1,4 +1,4 @@
-use Rattle.std.proofs.Common.{◌≡◌, arith}
+use Rattle.std.proofs.Common.{arith}
 use Rattle.free_search.proofs.Bits.{none_set}
 use Rattle.free_search.proofs.ids.clear.Goals as goal
 

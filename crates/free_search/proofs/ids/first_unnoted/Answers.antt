@@ -1,4 +1,4 @@
-use Rattle.std.proofs.Common.{◌≡◌, ◌+◌, ◌==◌, not, false, true, ap, sym, ◌∙◌}
+use Rattle.std.proofs.Common.{◌≡◌, ◌+◌, ◌==◌, not, false, ap, sym}
 use Rattle.flash_view.proofs.Finds.{find_later}
 use Rattle.free_search.specs.Ids.{bit_of}
 use Rattle.free_search.proofs.ids.first_unnoted.Goals as goal

@@ -1,10 +1,10 @@
-use Rattle.std.proofs.Common.{◌≡◌, refl, sym, ◌∙◌, ap, arith, subst}
+use Rattle.std.proofs.Common.{◌≡◌, ◌∙◌, arith, subst}
 use Rattle.geometry.specs.Numbers.{page_count as pages_of, usable}
 use Rattle.image_model.specs.Volume.{page_count, per_block}
 use Rattle.image_model.specs.Live.{live_at}
 use Rattle.flash_view.specs.Found.{headed}
 use Rattle.flash_view.proofs.Looking.{looks_then}
-use Rattle.free_search.specs.Ids.{bits_at, Notes, unused_id}
+use Rattle.free_search.specs.Ids.{bits_at, Notes}
 use Rattle.free_search.proofs.Bits.{Noted, noted_more, noted_all, tail_of}
 use Rattle.free_search.proofs.ids.free_id.Goals as goal
 

@@ -1,4 +1,4 @@
-use Rattle.std.proofs.Common.{◌≡◌, ◌==◌, ap}
+use Rattle.std.proofs.Common.{◌==◌, ap}
 use Rattle.free_search.proofs.Bits.{test_bit}
 use Rattle.free_search.proofs.ids.is_noted.Goals as goal
 

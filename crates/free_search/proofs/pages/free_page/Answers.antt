@@ -1,6 +1,6 @@
-use Rattle.std.proofs.Common.{◌≡◌, ◌<◌, true, refl, sym, ◌∙◌, arith, IfOk, Some}
+use Rattle.std.proofs.Common.{◌≡◌, ◌<◌, true, arith, IfOk}
 use Rattle.std.proofs.lemmas.Result.{IfOk-weaker}
-use Rattle.image_model.specs.Tidy.{IsTidy, is_free_block, free_blocks}
+use Rattle.image_model.specs.Tidy.{is_free_block, free_blocks}
 use Rattle.flash_view.proofs.Looking.{looks_then}
 use Rattle.free_search.specs.Free.{FreeBlock, FreeEntry}
 use Rattle.free_search.proofs.FreePages.{page_new}

@@ -1,8 +1,7 @@
-use Rattle.std.proofs.Common.{◌≡◌, true, false, refl, sym, ◌∙◌, subst}
+use Rattle.std.proofs.Common.{◌≡◌, true, false}
 use Rattle.image_model.specs.Volume.{per_block, lookups, entries}
 use Rattle.image_model.specs.Places.{has_magic}
-use Rattle.free_search.specs.Counts.{AreCounts, the_takes}
-use Rattle.free_search.specs.Free.{OpenIf}
+use Rattle.free_search.specs.Counts.{AreCounts}
 use Rattle.free_search.proofs.FreePages.{opens, shut}
 use Rattle.free_search.proofs.pages.is_open.Goals as goal
 

@@ -1,6 +1,5 @@
-use Rattle.std.proofs.Common.{◌≡◌, ◌≢◌, ◌<◌, ℕ, true, false}
-use Rattle.std.specs.Prelude.{IfSome, Some}
-use Rattle.image_model.specs.Tidy.{is_free_block}
+use Rattle.std.proofs.Common.{◌≡◌, ◌<◌}
+use Rattle.std.specs.Prelude.{IfSome}
 use Rattle.flash_view.specs.Same.{OnlyLooks}
 use Rattle.free_search.proofs.Worn.{WornBelow}
 use Rattle.free_search.proofs.pages.least_worn.Given as goal

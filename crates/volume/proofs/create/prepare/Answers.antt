@@ -1,7 +1,5 @@
-use Rattle.std.proofs.Common.{◌≡◌, true, refl, sym, ◌∙◌, Some, None}
+use Rattle.std.proofs.Common.{◌≡◌, sym, ◌∙◌, Some, None}
 use Rattle.table_model.specs.Table.{least_id}
-use Rattle.table_model.specs.Room.{has_room}
-use Rattle.table_model.specs.Files.{created}
 use Rattle.image_model.specs.Tables.{table_of}
 use Rattle.free_search.specs.Ids.{unused_id}
 use Rattle.volume.specs.Refusals.{create_refusal}

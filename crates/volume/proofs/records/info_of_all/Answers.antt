@@ -1,9 +1,5 @@
-use Rattle.std.proofs.Common.{◌≡◌, ◌*◌, ◌≤◌, length, refl, sym, ◌∙◌, ap, arith}
+use Rattle.std.proofs.Common.{arith}
 use Rattle.image_model.specs.Places.{IsImage}
-use Rattle.image_model.specs.Tidy.{IsTidy}
-use Rattle.image_laws.proofs.Tally.{tidy-counts}
-use Rattle.header_laws.proofs.HeadCount.{file-count}
-use Rattle.volume.specs.Pages.{AreLive}
 use Rattle.volume.proofs.Recording.{info_by}
 use Rattle.volume.proofs.records.info_of_all.Goals as goal
 

@@ -1,10 +1,7 @@
-use Rattle.std.proofs.Common.{◌≡◌, ◌≤◌, refl, sym, ◌∙◌, ap, arith, Some, None, IfOk}
+use Rattle.std.proofs.Common.{◌≡◌, sym, ◌∙◌, arith, Some}
 use Rattle.std.proofs.lemmas.Result.{IfOk-weaker}
-use Rattle.image_model.specs.Places.{IsImage, page_of}
-use Rattle.image_model.specs.Live.{live_at, own}
-use Rattle.image_model.specs.Files.{index_page}
-use Rattle.flash_view.specs.Found.{first_named, NextId}
-use Rattle.flash_view.proofs.Looking.{looks_then}
+use Rattle.image_model.specs.Places.{IsImage}
+use Rattle.flash_view.specs.Found.{first_named}
 use Rattle.volume.proofs.Recording.{of_name, no_name}
 use Rattle.volume.proofs.records.stat_named.Goals as goal
 

@@ -1,11 +1,10 @@
-use Rattle.std.proofs.Common.{◌≡◌, ◌+◌, ◌≤◌, refl, sym, ◌∙◌, arith}
+use Rattle.std.proofs.Common.{◌≡◌, refl, arith}
 use Rattle.std.specs.Option.{option_map}
 use Rattle.page_layout.specs.Layout.{header_at}
 use Rattle.image_model.specs.Volume.{page_count, per_block}
 use Rattle.image_model.specs.Live.{live_at}
 use Rattle.flash_view.proofs.Looking.{looks_none, looks_then}
-use Rattle.volume.specs.Pages.{with_page}
-use Rattle.volume.proofs.Counting.{counting_start, counting_more, counting_end, few_more}
+use Rattle.volume.proofs.Counting.{counting_start, counting_more, few_more}
 use Rattle.volume.proofs.room.page_counts.Goals as goal
 
 pub loop-page-init : goal.loop-page-init

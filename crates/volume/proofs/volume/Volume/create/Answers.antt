@@ -1,4 +1,3 @@
-use Rattle.std.proofs.Common.{◌≡◌, sym, ◌∙◌, Some, None}
 use Rattle.nor_core.proofs.Cuts.{wider, reads_none}
 use Rattle.volume.proofs.Answering.{create_refused, goes_answers, leaves_cuts}
 use Rattle.volume.proofs.volume.Volume.create.Goals as goal

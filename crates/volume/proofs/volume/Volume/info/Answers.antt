@@ -1,4 +1,3 @@
-use Rattle.std.proofs.Common.{◌≡◌, sym, ◌∙◌, Some, None}
 use Rattle.volume.proofs.Answering.{info_counted}
 use Rattle.volume.proofs.volume.Volume.info.Goals as goal
 

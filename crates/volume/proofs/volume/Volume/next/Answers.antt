@@ -1,4 +1,3 @@
-use Rattle.std.proofs.Common.{◌≡◌, sym, ◌∙◌, Some, None}
 use Rattle.volume.proofs.Answering.{next_shown}
 use Rattle.volume.proofs.volume.Volume.next.Goals as goal
 

@@ -1,4 +1,4 @@
-use Rattle.std.proofs.Common.{◌≡◌, sym, ◌∙◌, Some, None}
+use Rattle.std.proofs.Common.{sym, ◌∙◌}
 use Rattle.volume.proofs.Answering.{stat_refused, stat_shown, stat_missing}
 use Rattle.volume.proofs.volume.Volume.stat.Goals as goal
 
