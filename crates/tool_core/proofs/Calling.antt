@@ -258,7 +258,7 @@ module _ {D : Type 0} {nor : NorOf D} {g : Geometry} where
   create_refused Unbuilt name changes told = record {
       changes = publishes name changes;
       answers = λ m stands. tt {0};
-      stops = λ m stands. let here = told m stands in (here.2, record { accepted = ap is_refusal here.0; lacks = ap (λ (l : List ℕ). are_had g l 1 0) here.2.bytes ∙ here.1 });
+      stops = λ m stands. let here = told m stands in (here.2, record { name = name; creates = refl; accepted = ap is_refusal here.0; lacks = ap (λ (l : List ℕ). are_had g l 1 0) here.2.bytes ∙ here.1 });
     }
   create_refused _ name changes told = create_stays name _ changes told
 

@@ -54,7 +54,7 @@ pub record IsTooLong (script : List ℕ) (front : List Ask) : Type 0 where
   pub count : length whole + length rest ≡ 16777216
   pub calls_are : calls whole ≡ front
 
--- the first of some calls lacks its page
+-- the first of some calls is a create that lacks its page
 pub record LacksNext (g : Geometry) (m : Moment) (image : List ℕ) (later : List Ask) : Type 0 where
   pub ask : Ask
   pub more : List Ask
