@@ -1,6 +1,5 @@
 -- From the first image over the check to the end of a run.
-use Rattle.std.proofs.Common.{◌≡◌, ℕ, ◌+◌, ◌<◌, ◌≤◌, List, [], ◌++◌, length, refl, sym, ◌∙◌, ap, subst, arith, inl, inr, ⊎_elim, append-nil, Bool, true, false, None}
-use Rattle.std.specs.Prelude.{replicate}
+use Rattle.std.proofs.Common.{◌≡◌, ℕ, ◌≤◌, List, [], ◌++◌, refl, sym, ◌∙◌, ap, subst, arith, inl, inr, ⊎_elim, append-nil, Bool, true, false}
 use Rattle.geometry.specs.declared.geometry.Geometry.{Geometry}
 use Rattle.nor_core.specs.declared.state.NorState.{Ghosts as NorOf}
 use Rattle.nor_core.specs.Device.{OnlyReads, Leaves, Changes}
@@ -26,9 +25,9 @@ use Rattle.vol_check.specs.declared.report.CheckErr.{CheckErr}
 use Rattle.vol_check.specs.declared.report.CheckErr.TheVariants.{Wrong as CheckWrong, Unbuilt as CheckUnbuilt, DeviceFault as CheckFault}
 use Rattle.vol_check.specs.Checks.{IsWritable, IsRefusal, KeepsAll}
 use Rattle.tool_core.specs.declared.ending.Ending.{Ending}
-use Rattle.tool_core.specs.declared.ending.Ending.TheVariants.{Done, NotAFs, BadLine, BoardFault, SourceFault, TooLong, Tight, Unbuilt, UnbuiltImage}
+use Rattle.tool_core.specs.declared.ending.Ending.TheVariants.{NotAFs, BoardFault, Tight, UnbuiltImage}
 use Rattle.tool_core.specs.Begins.{Checks, ChecksPlain, Begun, StopsCheck, mount_ends, check_ends}
-use Rattle.tool_core.specs.Outcomes.{WhyEnds, WhyRan, IsChecked, Went, RunEnds, Came, RunsTo, first_moment}
+use Rattle.tool_core.specs.Outcomes.{WhyEnds, WhyRan, IsChecked, RunEnds, RunsTo, first_moment}
 
 -- at first nothing waits, and the settled table is that of the image
 first_still : (g : Geometry) (slots : ℕ) (image : List ℕ) → first_moment g slots image ≡ settled_at (first_moment g slots image).state
@@ -131,34 +130,34 @@ module _ {D : Type 0} {nor : NorOf D} {g : Geometry} where
       let r = begun_reached slots changes tells begun in
       let next : (j : Moment) → Stands nor g mid j → RunEnds nor g mid new j script left ending = subst (λ (k : Geometry). (j : Moment) → Stands nor k mid j → RunEnds nor k mid new j script left ending) same ends in
       ⊎_elim
-        (λ broken. inl (broken.0, later_said (calls script) r (subst (λ (j : Moment). SaidPart nor mid new (replies g j (calls script))) (sym (no_calls g m)) broken.1)))
-        (λ went.
-          let whole : Reached nor g old new m went.front = later_reached r (subst (λ (j : Moment). Reached nor g mid new j went.front) (sym (no_calls g m)) went.reached) in
-          inr (record {
-            front = went.front;
-            later = went.later;
-            asks_are = went.asks_are;
-            said = whole.said;
-            tells = whole.stands.tells;
-            settled = whole.stands.image.table;
-            table = here_table g (nor.bytes new) (after_all g m went.front) whole.stands.image;
-            why = why_ran ending g (after_all g m went.front) (nor.bytes old) (nor.bytes new) script left went.front went.later (record { plain = begun.plain; reserve = whole.stands.image.reserve }) went.why;
-            safe = λ plain reserve. whole.safe;
-          }))
-        (next m (begun_stands m r))
+      (λ broken. inl (broken.0, later_said (calls script) r (subst (λ (j : Moment). SaidPart nor mid new (replies g j (calls script))) (sym (no_calls g m)) broken.1)))
+      (λ went.
+      let whole : Reached nor g old new m went.front = later_reached r (subst (λ (j : Moment). Reached nor g mid new j went.front) (sym (no_calls g m)) went.reached) in
+      inr (record {
+        front = went.front;
+        later = went.later;
+        asks_are = went.asks_are;
+        said = whole.said;
+        tells = whole.stands.tells;
+        settled = whole.stands.image.table;
+        table = here_table g (nor.bytes new) (after_all g m went.front) whole.stands.image;
+        why = why_ran ending g (after_all g m went.front) (nor.bytes old) (nor.bytes new) script left went.front went.later (record { plain = begun.plain; reserve = whole.stands.image.reserve }) went.why;
+        safe = λ plain reserve. whole.safe;
+      }))
+      (next m (begun_stands m r))
 
   early_came : {old mid : D} (slots : ℕ) (script left : List ℕ) (ending : Ending) → Changes nor old mid (ChecksPlain g) → nor.tells old → table_of g (nor.bytes mid) ≡ table_of g (nor.bytes old) → WhyRan g (after_all g (first_moment g slots (nor.bytes old)) []) (nor.bytes old) (nor.bytes mid) script left [] (calls script) ending → RunsTo nor g old mid (first_moment g slots (nor.bytes old)) script left ending
   early_came {old} {mid} slots script left ending changes tells same why = inr (record {
-      front = [];
-      later = calls script;
-      asks_are = refl;
-      said = changes.said ∙ sym (ap (λ (l : List ℕ). nor.said old ++ l) (none_said g (first_moment g slots (nor.bytes old))) ∙ append-nil (nor.said old));
-      tells = changes.cuts.told tells;
-      settled = same ∙ sym (first_settled g slots (nor.bytes old));
-      table = same ∙ sym (first_state g slots (nor.bytes old));
-      why = why;
-      safe = λ plain reserve. safe_check (changes.now tells plain) reserve;
-    })
+    front = [];
+    later = calls script;
+    asks_are = refl;
+    said = changes.said ∙ sym (ap (λ (l : List ℕ). nor.said old ++ l) (none_said g (first_moment g slots (nor.bytes old))) ∙ append-nil (nor.said old));
+    tells = changes.cuts.told tells;
+    settled = same ∙ sym (first_settled g slots (nor.bytes old));
+    table = same ∙ sym (first_state g slots (nor.bytes old));
+    why = why;
+    safe = λ plain reserve. safe_check (changes.now tells plain) reserve;
+  })
 
   -- a run that ends before its first line
   pub early_ends : {old mid : D} (slots : ℕ) (script left : List ℕ) (ending : Ending) → Changes nor old mid (ChecksPlain g) → nor.tells old → StopsCheck nor g old mid ending → RunsTo nor g old mid (first_moment g slots (nor.bytes old)) script left ending
