@@ -1,34 +1,36 @@
 -- Calls after calls.
-use Rattle.std.proofs.Common.{◌≡◌, ℕ, ◌+◌, ◌<◌, ◌≤◌, List, [], ◌∷◌, ◌++◌, length, refl, sym, ◌∙◌, ap, subst, arith, append_assoc, append-nil, length-append}
+use Rattle.std.proofs.Common.{◌≡◌, ℕ, List, [], ◌++◌, length, refl, sym, ◌∙◌, ap, subst, arith, append_assoc, append-nil, length-append}
 use Rattle.geometry.specs.declared.geometry.Geometry.{Geometry}
 use Rattle.nor_core.specs.declared.state.NorState.{Ghosts as NorOf}
-use Rattle.nor_core.specs.Device.{Leaves, OnlyReads}
+use Rattle.nor_core.specs.Device.{OnlyReads}
 use Rattle.nor_core.proofs.Cuts.{andthen, widened, read_on}
 use Rattle.table_model.specs.Ask.{Ask}
 use Rattle.table_model.specs.Window.{Moment}
 use Rattle.image_model.specs.Tables.{table_of}
-use Rattle.run_model.specs.Runs.{after_all, replies, IsCut}
+use Rattle.run_model.specs.Runs.{after_all, replies}
 use Rattle.run_model.specs.Safe.{IsSafe, IsAt}
 use Rattle.run_model.specs.Ran.{Stands, CutIn, MayCut, Reached, SaidPart}
 use Rattle.run_model.proofs.Runs.{after_all-append, replies-append, cut_wider, cut_later}
 use Rattle.run_model.proofs.Safety.{passes, stays}
 
-no_replies : (g : Geometry) (m : Moment) → replies g m [] ≡ []
+-- no call has no reply
+pub no_replies : (g : Geometry) (m : Moment) → replies g m [] ≡ []
 unfolding replies
 no_replies g m = refl
 
-no_calls : (g : Geometry) (m : Moment) → after_all g m [] ≡ m
+-- and leaves the volume as it was
+pub no_calls : (g : Geometry) (m : Moment) → after_all g m [] ≡ m
 unfolding after_all
 no_calls g m = refl
 
 -- a front of the replies to calls is one of the replies to more calls
 pub said_wider : {D : Type 0} {nor : NorOf D} {old new : D} (g : Geometry) (m : Moment) (xs ys : List Ask) → SaidPart nor old new (replies g m xs) → SaidPart nor old new (replies g m (xs ++ ys))
 said_wider {D} {nor} {old} {new} g m xs ys s = record {
-    part = s.part;
-    rest = s.rest ++ replies g (after_all g m xs) ys;
-    said = s.said;
-    whole_is = replies-append g m xs ys ∙ ap (λ (l : List ℕ). l ++ replies g (after_all g m xs) ys) s.whole_is ∙ append_assoc s.part s.rest (replies g (after_all g m xs) ys);
-  }
+  part = s.part;
+  rest = s.rest ++ replies g (after_all g m xs) ys;
+  said = s.said;
+  whole_is = replies-append g m xs ys ∙ ap (λ (l : List ℕ). l ++ replies g (after_all g m xs) ys) s.whole_is ∙ append_assoc s.part s.rest (replies g (after_all g m xs) ys);
+}
 
 module _ {D : Type 0} {nor : NorOf D} {g : Geometry} where
   -- a cut in the front of a run
@@ -38,11 +40,11 @@ module _ {D : Type 0} {nor : NorOf D} {g : Geometry} where
   -- a cut in calls after those that were done
   pub cut_behind : {old mid : D} {m : Moment} {xs ys : List Ask} {image : List ℕ} {count : ℕ} → Reached nor g old mid m xs → CutIn nor g mid (after_all g m xs) ys image count → CutIn nor g old m (xs ++ ys) image count
   cut_behind {old} {mid} {m} {xs} {ys} {image} {count} r c = record {
-      part = replies g m xs ++ c.part;
-      count_is = omega (arith, c.count_is, ap length r.said, length-append (nor.said old) (replies g m xs), length-append (replies g m xs) c.part);
-      safe = passes g (nor.bytes old) (nor.bytes mid) image r.safe c.safe;
-      cut = cut_later g m xs ys c.part (table_of g image) c.cut;
-    }
+    part = replies g m xs ++ c.part;
+    count_is = omega (arith, c.count_is, ap length r.said, length-append (nor.said old) (replies g m xs), length-append (replies g m xs) c.part);
+    safe = passes g (nor.bytes old) (nor.bytes mid) image r.safe c.safe;
+    cut = cut_later g m xs ys c.part (table_of g image) c.cut;
+  }
 
   -- a cut in calls, and one in those that come after
   pub later_cut : {old mid new : D} {m : Moment} {xs ys : List Ask} → MayCut nor g old mid m xs → (Stands nor g old m → Reached nor g old mid m xs) → MayCut nor g mid new (after_all g m xs) ys → MayCut nor g old new m (xs ++ ys)
@@ -51,19 +53,19 @@ module _ {D : Type 0} {nor : NorOf D} {g : Geometry} where
   -- calls were done, and others after them
   pub later_reached : {old mid new : D} {m : Moment} {xs ys : List Ask} → Reached nor g old mid m xs → Reached nor g mid new (after_all g m xs) ys → Reached nor g old new m (xs ++ ys)
   later_reached {old} {mid} {new} {m} {xs} {ys} r s = record {
-      said = s.said ∙ ap (λ (l : List ℕ). l ++ replies g (after_all g m xs) ys) r.said ∙ append_assoc (nor.said old) (replies g m xs) (replies g (after_all g m xs) ys) ∙ ap (λ (l : List ℕ). nor.said old ++ l) (sym (replies-append g m xs ys));
-      stands = subst (λ (j : Moment). Stands nor g new j) (sym (after_all-append g m xs ys)) s.stands;
-      safe = passes g (nor.bytes old) (nor.bytes mid) (nor.bytes new) r.safe s.safe;
-    }
+    said = s.said ∙ ap (λ (l : List ℕ). l ++ replies g (after_all g m xs) ys) r.said ∙ append_assoc (nor.said old) (replies g m xs) (replies g (after_all g m xs) ys) ∙ ap (λ (l : List ℕ). nor.said old ++ l) (sym (replies-append g m xs ys));
+    stands = subst (λ (j : Moment). Stands nor g new j) (sym (after_all-append g m xs ys)) s.stands;
+    safe = passes g (nor.bytes old) (nor.bytes mid) (nor.bytes new) r.safe s.safe;
+  }
 
   -- the replies to calls were said, and a front of those after them
   pub later_said : {old mid new : D} {m : Moment} {xs : List Ask} (ys : List Ask) → Reached nor g old mid m xs → SaidPart nor mid new (replies g (after_all g m xs) ys) → SaidPart nor old new (replies g m (xs ++ ys))
   later_said {old} {mid} {new} {m} {xs} ys r s = record {
-      part = replies g m xs ++ s.part;
-      rest = s.rest;
-      said = s.said ∙ ap (λ (l : List ℕ). l ++ s.part) r.said ∙ append_assoc (nor.said old) (replies g m xs) s.part;
-      whole_is = replies-append g m xs ys ∙ ap (λ (l : List ℕ). replies g m xs ++ l) s.whole_is ∙ sym (append_assoc (replies g m xs) s.part s.rest);
-    }
+    part = replies g m xs ++ s.part;
+    rest = s.rest;
+    said = s.said ∙ ap (λ (l : List ℕ). l ++ s.part) r.said ∙ append_assoc (nor.said old) (replies g m xs) s.part;
+    whole_is = replies-append g m xs ys ∙ ap (λ (l : List ℕ). replies g m xs ++ l) s.whole_is ∙ sym (append_assoc (replies g m xs) s.part s.rest);
+  }
 
   -- where only reads were made, no call was
   pub reached_reads : {old new : D} {m : Moment} → OnlyReads nor old new → Stands nor g old m → Reached nor g old new m []
@@ -78,10 +80,10 @@ module _ {D : Type 0} {nor : NorOf D} {g : Geometry} where
   -- nothing was called
   pub reached_none : (d : D) (m : Moment) → Stands nor g d m → Reached nor g d d m []
   reached_none d m stands = record {
-      said = sym (ap (λ (l : List ℕ). nor.said d ++ l) (no_replies g m) ∙ append-nil (nor.said d));
-      stands = subst (λ (j : Moment). Stands nor g d j) (sym (no_calls g m)) stands;
-      safe = stays g (nor.bytes d) stands.image.tidy stands.image.reserve;
-    }
+    said = sym (ap (λ (l : List ℕ). nor.said d ++ l) (no_replies g m) ∙ append-nil (nor.said d));
+    stands = subst (λ (j : Moment). Stands nor g d j) (sym (no_calls g m)) stands;
+    safe = stays g (nor.bytes d) stands.image.tidy stands.image.reserve;
+  }
 
   -- reads leave what no call may
   pub cut_reads : {old new : D} (m : Moment) (asks : List Ask) → OnlyReads nor old new → MayCut nor g old new m asks

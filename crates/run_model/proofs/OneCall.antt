@@ -1,5 +1,5 @@
 -- One call and its reply.
-use Rattle.std.proofs.Common.{◌≡◌, ℕ, ◌+◌, ◌-◌, ◌<◌, ◌≤◌, List, [], ◌∷◌, ◌++◌, length, take, drop, refl, sym, ◌∙◌, ap, subst, arith, inl, inr, ⊎_elim, append-nil, true}
+use Rattle.std.proofs.Common.{◌≡◌, ℕ, ◌-◌, ◌≤◌, List, [], ◌∷◌, ◌++◌, length, take, drop, refl, sym, ◌∙◌, ap, subst, arith, inl, inr, ⊎_elim, append-nil, true}
 use Rattle.std.proofs.lemmas.List.{take-append-drop, length-take-le, take_all, length-drop}
 use Rattle.std.proofs.lemmas.Bool.{cases_lt}
 use Rattle.geometry.specs.declared.geometry.Geometry.{Geometry}
@@ -44,11 +44,11 @@ module _ {D : Type 0} {nor : NorOf D} {g : Geometry} where
   -- a cut in the call, before its reply
   pub call_cut : {old mid : D} {m : Moment} {ask : Ask} → Changes nor old mid (Publishes g m ask) → MayCut nor g old mid m (ask ∷ [])
   call_cut {old} {mid} {m} {ask} changes = widened changes.cuts (λ image count here stands. let now = here.1 stands.tells stands.image in record {
-      part = [];
-      count_is = here.0 ∙ omega arith;
-      safe = now.0;
-      cut = cut_call g m ask (table_of g image) now.1;
-    })
+    part = [];
+    count_is = here.0 ∙ omega arith;
+    safe = now.0;
+    cut = cut_call g m ask (table_of g image) now.1;
+  })
 
   -- nothing was said in the call
   pub call_said : {old mid : D} {m : Moment} (ask : Ask) → Changes nor old mid (Publishes g m ask) → SaidPart nor old mid (replies g m (ask ∷ []))
@@ -74,17 +74,17 @@ module _ {D : Type 0} {nor : NorOf D} {g : Geometry} where
   pub reply_said : {old mid new : D} {m : Moment} (ask : Ask) {reply : Answer} → Changes nor old mid (Publishes g m ask) → Answers nor g mid m ask reply → Says nor mid new (text reply) → SaidPart nor old new (replies g m (ask ∷ []))
   unfolding said_of
   reply_said {old} {mid} {new} {m} ask {reply} changes ok says = record {
-      part = take says.said.0 (text reply);
-      rest = drop says.said.0 (text reply);
-      said = says.said.1 ∙ ap (λ (l : List ℕ). l ++ take says.said.0 (text reply)) changes.said;
-      whole_is = one_reply g m ask ∙ sym (ap text ok.reply_is) ∙ sym (take-append-drop says.said.0 (text reply));
-    }
+    part = take says.said.0 (text reply);
+    rest = drop says.said.0 (text reply);
+    said = says.said.1 ∙ ap (λ (l : List ℕ). l ++ take says.said.0 (text reply)) changes.said;
+    whole_is = one_reply g m ask ∙ sym (ap text ok.reply_is) ∙ sym (take-append-drop says.said.0 (text reply));
+  }
 
   -- the call was done and its reply said
   pub reply_reached : {old mid new : D} {m : Moment} {ask : Ask} {reply : Answer} → Changes nor old mid (Publishes g m ask) → Answers nor g mid m ask reply → Says nor mid new (text reply) → Leaves nor mid new (InSay nor mid (text reply)) → nor.said new ≡ nor.said mid ++ text reply → Stands nor g old m → Reached nor g old new m (ask ∷ [])
   unfolding said_of
   reply_reached {old} {mid} {new} {m} {ask} {reply} changes ok says leaves done stands = record {
-      said = done ∙ ap (λ (l : List ℕ). l ++ text reply) changes.said ∙ ap (λ (l : List ℕ). nor.said old ++ l) (ap text ok.reply_is ∙ sym (one_reply g m ask));
-      stands = subst (λ (j : Moment). Stands nor g new j) (sym (one_call g m ask)) (record { tells = leaves.told ok.stands.tells; image = subst (λ (l : List ℕ). IsAt g l (after g true m ask)) (sym says.bytes) ok.stands.image });
-      safe = subst (λ (l : List ℕ). IsSafe g (nor.bytes old) l) (sym says.bytes) (changes.now stands.tells stands.image).0;
-    }
+    said = done ∙ ap (λ (l : List ℕ). l ++ text reply) changes.said ∙ ap (λ (l : List ℕ). nor.said old ++ l) (ap text ok.reply_is ∙ sym (one_reply g m ask));
+    stands = subst (λ (j : Moment). Stands nor g new j) (sym (one_call g m ask)) (record { tells = leaves.told ok.stands.tells; image = subst (λ (l : List ℕ). IsAt g l (after g true m ask)) (sym says.bytes) ok.stands.image });
+    safe = subst (λ (l : List ℕ). IsSafe g (nor.bytes old) l) (sym says.bytes) (changes.now stands.tells stands.image).0;
+  }

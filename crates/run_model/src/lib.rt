@@ -1,5 +1,6 @@
 //! What a script does to a volume: the replies to its calls on the flat table, and what a power cut may leave.
 #![tactic(auto)]
+
 ghost use Rattle.std.specs.Prelude.{◌≡◌, ℕ, List};
 ghost use Rattle.geometry.specs.declared.geometry.Geometry.{Geometry};
 ghost use Rattle.table_model.specs.Table.{File};

@@ -17,7 +17,8 @@ use Rattle.run_model.specs.Runs.{after_all, replies}
 use Rattle.run_model.specs.Safe.{IsSafe, IsAt}
 use Rattle.run_model.specs.Ran.{Stands, CutIn, MayCut, Reached, SaidPart}
 use Rattle.run_model.proofs.Runs.{is_settled, cut_none}
-use Rattle.run_model.proofs.Chain.{later_reached, later_said, cut_behind}
+use Rattle.run_model.proofs.Safety.{clash}
+use Rattle.run_model.proofs.Chain.{no_replies, no_calls, later_reached, later_said, cut_behind}
 use Rattle.vol_mount.specs.declared.lent.MountErr.{MountErr}
 use Rattle.vol_mount.specs.declared.lent.MountErr.TheVariants.{NotAFs as MountNotAFs, DeviceFault as MountFault}
 use Rattle.vol_mount.specs.Mounts.{IsLate, CountsSpoiled}
@@ -46,14 +47,6 @@ first_state : (g : Geometry) (slots : ℕ) (image : List ℕ) → (after_all g (
 unfolding settled_at after_all
 first_state g slots image = refl
 
-none_said : (g : Geometry) (m : Moment) → replies g m [] ≡ []
-unfolding replies
-none_said g m = refl
-
-no_calls : (g : Geometry) (m : Moment) → after_all g m [] ≡ m
-unfolding after_all
-no_calls g m = refl
-
 -- the table of a moment at which a volume stands
 here_table : (g : Geometry) (image : List ℕ) (m : Moment) → IsAt g image m → table_of g image ≡ m.state.table
 unfolding settled_at
@@ -69,9 +62,6 @@ why_ran _ g m first image script left front later checked why = (checked, why)
 -- what the check leaves is safe
 safe_check : {g : Geometry} {was image : List ℕ} → Checks g was image → HasReserve g was → IsSafe g was image
 safe_check here reserve = record { sound = here.keeps.sound; reserve = omega (arith, reserve, here.free); plain = λ plain. here.plain }
-
-clash : (b : Bool) → b ≡ true → b ≡ false → ⊥
-clash b is not = cc
 
 -- every block of a plain image has its magic
 plain_magics : {g : Geometry} (image : List ℕ) → IsPlain g image → HasMagics g image
@@ -105,7 +95,7 @@ module _ {D : Type 0} {nor : NorOf D} {g : Geometry} where
       let m = first_moment g slots (nor.bytes old) in
       let now = changes.now tells begun.plain in
       record {
-        said = changes.said ∙ sym (ap (λ (l : List ℕ). nor.said old ++ l) (none_said g m) ∙ append-nil (nor.said old));
+        said = changes.said ∙ sym (ap (λ (l : List ℕ). nor.said old ++ l) (no_replies g m) ∙ append-nil (nor.said old));
         stands = subst (λ (j : Moment). Stands nor g mid j) (sym (no_calls g m)) (record { tells = changes.cuts.told tells; image = record { tidy = begun.tidy; reserve = begun.reserve; table = now.keeps.table ∙ sym (first_table g slots (nor.bytes old)); still = first_still g slots (nor.bytes old) } });
         safe = record { sound = now.keeps.sound; reserve = begun.reserve; plain = λ plain. now.plain };
       }
@@ -151,7 +141,7 @@ module _ {D : Type 0} {nor : NorOf D} {g : Geometry} where
     front = [];
     later = calls script;
     asks_are = refl;
-    said = changes.said ∙ sym (ap (λ (l : List ℕ). nor.said old ++ l) (none_said g (first_moment g slots (nor.bytes old))) ∙ append-nil (nor.said old));
+    said = changes.said ∙ sym (ap (λ (l : List ℕ). nor.said old ++ l) (no_replies g (first_moment g slots (nor.bytes old))) ∙ append-nil (nor.said old));
     tells = changes.cuts.told tells;
     settled = same ∙ sym (first_settled g slots (nor.bytes old));
     table = same ∙ sym (first_state g slots (nor.bytes old));
