@@ -1,23 +1,25 @@
 -- Calls after calls.
-use Rattle.std.proofs.Common.{◌≡◌, ℕ, ◌+◌, ◌<◌, ◌≤◌, List, [], ◌∷◌, ◌++◌, length, refl, sym, ◌∙◌, ap, subst, arith, append_assoc, append-nil, length-append}
+use Rattle.std.proofs.Common.{◌≡◌, ℕ, List, [], ◌++◌, length, refl, sym, ◌∙◌, ap, subst, arith, append_assoc, append-nil, length-append}
 use Rattle.geometry.specs.declared.geometry.Geometry.{Geometry}
 use Rattle.nor_core.specs.declared.state.NorState.{Ghosts as NorOf}
-use Rattle.nor_core.specs.Device.{Leaves, OnlyReads}
+use Rattle.nor_core.specs.Device.{OnlyReads}
 use Rattle.nor_core.proofs.Cuts.{andthen, widened, read_on}
 use Rattle.table_model.specs.Ask.{Ask}
 use Rattle.table_model.specs.Window.{Moment}
 use Rattle.image_model.specs.Tables.{table_of}
-use Rattle.run_model.specs.Runs.{after_all, replies, IsCut}
+use Rattle.run_model.specs.Runs.{after_all, replies}
 use Rattle.run_model.specs.Safe.{IsSafe, IsAt}
 use Rattle.run_model.specs.Ran.{Stands, CutIn, MayCut, Reached, SaidPart}
 use Rattle.run_model.proofs.Runs.{after_all-append, replies-append, cut_wider, cut_later}
 use Rattle.run_model.proofs.Safety.{passes, stays}
 
-no_replies : (g : Geometry) (m : Moment) → replies g m [] ≡ []
+-- no call has no reply
+pub no_replies : (g : Geometry) (m : Moment) → replies g m [] ≡ []
 unfolding replies
 no_replies g m = refl
 
-no_calls : (g : Geometry) (m : Moment) → after_all g m [] ≡ m
+-- and leaves the volume as it was
+pub no_calls : (g : Geometry) (m : Moment) → after_all g m [] ≡ m
 unfolding after_all
 no_calls g m = refl
 

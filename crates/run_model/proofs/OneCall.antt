@@ -1,5 +1,5 @@
 -- One call and its reply.
-use Rattle.std.proofs.Common.{◌≡◌, ℕ, ◌+◌, ◌-◌, ◌<◌, ◌≤◌, List, [], ◌∷◌, ◌++◌, length, take, drop, refl, sym, ◌∙◌, ap, subst, arith, inl, inr, ⊎_elim, append-nil, true}
+use Rattle.std.proofs.Common.{◌≡◌, ℕ, ◌-◌, ◌≤◌, List, [], ◌∷◌, ◌++◌, length, take, drop, refl, sym, ◌∙◌, ap, subst, arith, inl, inr, ⊎_elim, append-nil, true}
 use Rattle.std.proofs.lemmas.List.{take-append-drop, length-take-le, take_all, length-drop}
 use Rattle.std.proofs.lemmas.Bool.{cases_lt}
 use Rattle.geometry.specs.declared.geometry.Geometry.{Geometry}

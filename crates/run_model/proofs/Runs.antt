@@ -1,5 +1,5 @@
 -- Runs of calls, one after another.
-use Rattle.std.proofs.Common.{◌≡◌, ℕ, ◌+◌, ◌<◌, ◌⊎◌, List, [], ◌∷◌, ◌++◌, length, refl, sym, ◌∙◌, ap, subst, arith, inl, inr, ⊎_elim, append_assoc, append-nil, length-append, true}
+use Rattle.std.proofs.Common.{◌≡◌, ℕ, ◌<◌, List, [], ◌∷◌, ◌++◌, length, refl, sym, ◌∙◌, ap, subst, arith, inl, inr, ⊎_elim, append_assoc, append-nil, length-append, true}
 use Rattle.geometry.specs.declared.geometry.Geometry.{Geometry}
 use Rattle.table_model.specs.Table.{File}
 use Rattle.table_model.specs.Ask.{Ask}
@@ -7,7 +7,7 @@ use Rattle.table_model.specs.Flat.{answer}
 use Rattle.table_model.specs.Steps.{steps}
 use Rattle.table_model.specs.Window.{Moment, after, from_settled}
 use Rattle.call_script.specs.Replies.{told}
-use Rattle.run_model.specs.Runs.{after_all, said_of, replies, IsAmong, IsPart, IsCut, IsUnderWay, IsCutAfter}
+use Rattle.run_model.specs.Runs.{after_all, said_of, replies, IsAmong, IsCut, IsUnderWay, IsCutAfter}
 
 pub after_all-append : (g : Geometry) (m : Moment) (xs ys : List Ask) → after_all g m (xs ++ ys) ≡ after_all g (after_all g m xs) ys
 unfolding after_all

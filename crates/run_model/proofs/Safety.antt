@@ -3,7 +3,6 @@ use Rattle.std.proofs.Common.{◌≡◌, ℕ, List, Bool, true, false}
 use Rattle.geometry.specs.declared.geometry.Geometry.{Geometry}
 use Rattle.image_model.specs.Places.{has_magic}
 use Rattle.image_model.specs.Tidy.{IsTidy, HasReserve}
-use Rattle.image_model.specs.Sound.{IsSound}
 use Rattle.run_model.specs.Safe.{IsSafe}
 
 -- what may follow an image that may follow another may follow that
@@ -18,7 +17,8 @@ passes g a b c first second = record {
   plain = λ plain. second.plain (first.plain plain);
 }
 
-clash : (b : Bool) → b ≡ true → b ≡ false → ⊥
+-- no test is met and not met
+pub clash : (b : Bool) → b ≡ true → b ≡ false → ⊥
 clash b is not = cc
 
 -- a tidy image with its reserve may stay

@@ -1,14 +1,11 @@
 -- Images of a volume that has its reserve.
 use Rattle.std.specs.Prelude.{◌≡◌, ℕ, List}
 use Rattle.geometry.specs.declared.geometry.Geometry.{Geometry}
-use Rattle.table_model.specs.Ask.{Ask}
-use Rattle.table_model.specs.Window.{Moment, from_settled, settled_at}
-use Rattle.table_model.specs.Steps.{steps}
+use Rattle.table_model.specs.Window.{Moment, settled_at}
 use Rattle.image_model.specs.Tables.{table_of}
 use Rattle.image_model.specs.Tidy.{IsTidy, HasReserve}
 use Rattle.image_model.specs.Sound.{IsSound}
 use Rattle.image_model.specs.Plain.{IsPlain}
-use Rattle.run_model.specs.Runs.{IsAmong}
 
 -- an image may follow another: it is sound with respect to that, has its reserve, and is plain where that is
 pub record IsSafe (g : Geometry) (was image : List ℕ) : Type 0 where

@@ -1,17 +1,17 @@
 -- Where a run of turns has come to.
-use Rattle.std.proofs.Common.{◌≡◌, ℕ, ◌+◌, ◌≤◌, List, [], ◌∷◌, ◌++◌, length, refl, sym, ◌∙◌, ap, subst, arith, inl, inr, ⊎_elim, append-nil, Some}
+use Rattle.std.proofs.Common.{◌≡◌, ℕ, List, [], ◌∷◌, ◌++◌, length, refl, sym, ◌∙◌, ap, subst, arith, inl, inr, ⊎_elim, append-nil, Some}
 use Rattle.geometry.specs.declared.geometry.Geometry.{Geometry}
 use Rattle.nor_core.specs.declared.state.NorState.{Ghosts as NorOf}
 use Rattle.table_model.specs.Ask.{Ask}
 use Rattle.table_model.specs.Window.{Moment}
 use Rattle.call_script.specs.Lines.{Parsed, Bad, Asks, lines, of_line, calls_of, calls, with_line}
-use Rattle.run_model.specs.Runs.{after_all, replies}
-use Rattle.run_model.specs.Ran.{MayCut, Reached, SaidPart}
+use Rattle.run_model.specs.Runs.{after_all}
+use Rattle.run_model.specs.Ran.{MayCut}
 use Rattle.run_model.proofs.Chain.{said_wider, wider_cut}
 use Rattle.tool_core.specs.declared.ending.Ending.{Ending}
 use Rattle.tool_core.specs.declared.ending.Ending.TheVariants.{Done, BadLine, BoardFault, SourceFault, TooLong, Unbuilt}
-use Rattle.tool_core.specs.Turns.{AllGood, BeginsBad, BeginsLacking, Short, At, Follows, WhyHere, Turned}
-use Rattle.tool_core.specs.Outcomes.{HasBad, IsTaken, IsTakenTo, IsTooLong, LacksNext, WhyEnds, Went, RunEnds}
+use Rattle.tool_core.specs.Turns.{AllGood, Short, At, Follows, WhyHere, Turned}
+use Rattle.tool_core.specs.Outcomes.{IsTaken, WhyEnds, RunEnds}
 use Rattle.tool_core.proofs.LineWork.{calls-append, same_cut, same_said}
 
 follows_self : (ending : Ending) (tail : List ℕ) → Follows (Some ending) tail tail

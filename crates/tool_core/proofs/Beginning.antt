@@ -1,6 +1,5 @@
 -- From the first image over the check to the end of a run.
-use Rattle.std.proofs.Common.{◌≡◌, ℕ, ◌+◌, ◌<◌, ◌≤◌, List, [], ◌++◌, length, refl, sym, ◌∙◌, ap, subst, arith, inl, inr, ⊎_elim, append-nil, Bool, true, false, None}
-use Rattle.std.specs.Prelude.{replicate}
+use Rattle.std.proofs.Common.{◌≡◌, ℕ, ◌≤◌, List, [], ◌++◌, refl, sym, ◌∙◌, ap, subst, arith, inl, inr, ⊎_elim, append-nil, Bool, true, false}
 use Rattle.geometry.specs.declared.geometry.Geometry.{Geometry}
 use Rattle.nor_core.specs.declared.state.NorState.{Ghosts as NorOf}
 use Rattle.nor_core.specs.Device.{OnlyReads, Leaves, Changes}
@@ -18,7 +17,8 @@ use Rattle.run_model.specs.Runs.{after_all, replies}
 use Rattle.run_model.specs.Safe.{IsSafe, IsAt}
 use Rattle.run_model.specs.Ran.{Stands, CutIn, MayCut, Reached, SaidPart}
 use Rattle.run_model.proofs.Runs.{is_settled, cut_none}
-use Rattle.run_model.proofs.Chain.{later_reached, later_said, cut_behind}
+use Rattle.run_model.proofs.Safety.{clash}
+use Rattle.run_model.proofs.Chain.{no_replies, no_calls, later_reached, later_said, cut_behind}
 use Rattle.vol_mount.specs.declared.lent.MountErr.{MountErr}
 use Rattle.vol_mount.specs.declared.lent.MountErr.TheVariants.{NotAFs as MountNotAFs, DeviceFault as MountFault}
 use Rattle.vol_mount.specs.Mounts.{IsLate, CountsSpoiled}
@@ -26,9 +26,9 @@ use Rattle.vol_check.specs.declared.report.CheckErr.{CheckErr}
 use Rattle.vol_check.specs.declared.report.CheckErr.TheVariants.{Wrong as CheckWrong, Unbuilt as CheckUnbuilt, DeviceFault as CheckFault}
 use Rattle.vol_check.specs.Checks.{IsWritable, IsRefusal, KeepsAll}
 use Rattle.tool_core.specs.declared.ending.Ending.{Ending}
-use Rattle.tool_core.specs.declared.ending.Ending.TheVariants.{Done, NotAFs, BadLine, BoardFault, SourceFault, TooLong, Tight, Unbuilt, UnbuiltImage}
+use Rattle.tool_core.specs.declared.ending.Ending.TheVariants.{NotAFs, BoardFault, Tight, UnbuiltImage}
 use Rattle.tool_core.specs.Begins.{Checks, ChecksPlain, Begun, StopsCheck, mount_ends, check_ends}
-use Rattle.tool_core.specs.Outcomes.{WhyEnds, WhyRan, IsChecked, Went, RunEnds, Came, RunsTo, first_moment}
+use Rattle.tool_core.specs.Outcomes.{WhyEnds, WhyRan, IsChecked, RunEnds, RunsTo, first_moment}
 
 -- at first nothing waits, and the settled table is that of the image
 first_still : (g : Geometry) (slots : ℕ) (image : List ℕ) → first_moment g slots image ≡ settled_at (first_moment g slots image).state
@@ -47,14 +47,6 @@ first_state : (g : Geometry) (slots : ℕ) (image : List ℕ) → (after_all g (
 unfolding settled_at after_all
 first_state g slots image = refl
 
-none_said : (g : Geometry) (m : Moment) → replies g m [] ≡ []
-unfolding replies
-none_said g m = refl
-
-no_calls : (g : Geometry) (m : Moment) → after_all g m [] ≡ m
-unfolding after_all
-no_calls g m = refl
-
 -- the table of a moment at which a volume stands
 here_table : (g : Geometry) (image : List ℕ) (m : Moment) → IsAt g image m → table_of g image ≡ m.state.table
 unfolding settled_at
@@ -70,9 +62,6 @@ why_ran _ g m first image script left front later checked why = (checked, why)
 -- what the check leaves is safe
 safe_check : {g : Geometry} {was image : List ℕ} → Checks g was image → HasReserve g was → IsSafe g was image
 safe_check here reserve = record { sound = here.keeps.sound; reserve = omega (arith, reserve, here.free); plain = λ plain. here.plain }
-
-clash : (b : Bool) → b ≡ true → b ≡ false → ⊥
-clash b is not = cc
 
 -- every block of a plain image has its magic
 plain_magics : {g : Geometry} (image : List ℕ) → IsPlain g image → HasMagics g image
@@ -106,7 +95,7 @@ module _ {D : Type 0} {nor : NorOf D} {g : Geometry} where
       let m = first_moment g slots (nor.bytes old) in
       let now = changes.now tells begun.plain in
       record {
-        said = changes.said ∙ sym (ap (λ (l : List ℕ). nor.said old ++ l) (none_said g m) ∙ append-nil (nor.said old));
+        said = changes.said ∙ sym (ap (λ (l : List ℕ). nor.said old ++ l) (no_replies g m) ∙ append-nil (nor.said old));
         stands = subst (λ (j : Moment). Stands nor g mid j) (sym (no_calls g m)) (record { tells = changes.cuts.told tells; image = record { tidy = begun.tidy; reserve = begun.reserve; table = now.keeps.table ∙ sym (first_table g slots (nor.bytes old)); still = first_still g slots (nor.bytes old) } });
         safe = record { sound = now.keeps.sound; reserve = begun.reserve; plain = λ plain. now.plain };
       }
@@ -131,34 +120,34 @@ module _ {D : Type 0} {nor : NorOf D} {g : Geometry} where
       let r = begun_reached slots changes tells begun in
       let next : (j : Moment) → Stands nor g mid j → RunEnds nor g mid new j script left ending = subst (λ (k : Geometry). (j : Moment) → Stands nor k mid j → RunEnds nor k mid new j script left ending) same ends in
       ⊎_elim
-        (λ broken. inl (broken.0, later_said (calls script) r (subst (λ (j : Moment). SaidPart nor mid new (replies g j (calls script))) (sym (no_calls g m)) broken.1)))
-        (λ went.
-          let whole : Reached nor g old new m went.front = later_reached r (subst (λ (j : Moment). Reached nor g mid new j went.front) (sym (no_calls g m)) went.reached) in
-          inr (record {
-            front = went.front;
-            later = went.later;
-            asks_are = went.asks_are;
-            said = whole.said;
-            tells = whole.stands.tells;
-            settled = whole.stands.image.table;
-            table = here_table g (nor.bytes new) (after_all g m went.front) whole.stands.image;
-            why = why_ran ending g (after_all g m went.front) (nor.bytes old) (nor.bytes new) script left went.front went.later (record { plain = begun.plain; reserve = whole.stands.image.reserve }) went.why;
-            safe = λ plain reserve. whole.safe;
-          }))
-        (next m (begun_stands m r))
+      (λ broken. inl (broken.0, later_said (calls script) r (subst (λ (j : Moment). SaidPart nor mid new (replies g j (calls script))) (sym (no_calls g m)) broken.1)))
+      (λ went.
+      let whole : Reached nor g old new m went.front = later_reached r (subst (λ (j : Moment). Reached nor g mid new j went.front) (sym (no_calls g m)) went.reached) in
+      inr (record {
+        front = went.front;
+        later = went.later;
+        asks_are = went.asks_are;
+        said = whole.said;
+        tells = whole.stands.tells;
+        settled = whole.stands.image.table;
+        table = here_table g (nor.bytes new) (after_all g m went.front) whole.stands.image;
+        why = why_ran ending g (after_all g m went.front) (nor.bytes old) (nor.bytes new) script left went.front went.later (record { plain = begun.plain; reserve = whole.stands.image.reserve }) went.why;
+        safe = λ plain reserve. whole.safe;
+      }))
+      (next m (begun_stands m r))
 
   early_came : {old mid : D} (slots : ℕ) (script left : List ℕ) (ending : Ending) → Changes nor old mid (ChecksPlain g) → nor.tells old → table_of g (nor.bytes mid) ≡ table_of g (nor.bytes old) → WhyRan g (after_all g (first_moment g slots (nor.bytes old)) []) (nor.bytes old) (nor.bytes mid) script left [] (calls script) ending → RunsTo nor g old mid (first_moment g slots (nor.bytes old)) script left ending
   early_came {old} {mid} slots script left ending changes tells same why = inr (record {
-      front = [];
-      later = calls script;
-      asks_are = refl;
-      said = changes.said ∙ sym (ap (λ (l : List ℕ). nor.said old ++ l) (none_said g (first_moment g slots (nor.bytes old))) ∙ append-nil (nor.said old));
-      tells = changes.cuts.told tells;
-      settled = same ∙ sym (first_settled g slots (nor.bytes old));
-      table = same ∙ sym (first_state g slots (nor.bytes old));
-      why = why;
-      safe = λ plain reserve. safe_check (changes.now tells plain) reserve;
-    })
+    front = [];
+    later = calls script;
+    asks_are = refl;
+    said = changes.said ∙ sym (ap (λ (l : List ℕ). nor.said old ++ l) (no_replies g (first_moment g slots (nor.bytes old))) ∙ append-nil (nor.said old));
+    tells = changes.cuts.told tells;
+    settled = same ∙ sym (first_settled g slots (nor.bytes old));
+    table = same ∙ sym (first_state g slots (nor.bytes old));
+    why = why;
+    safe = λ plain reserve. safe_check (changes.now tells plain) reserve;
+  })
 
   -- a run that ends before its first line
   pub early_ends : {old mid : D} (slots : ℕ) (script left : List ℕ) (ending : Ending) → Changes nor old mid (ChecksPlain g) → nor.tells old → StopsCheck nor g old mid ending → RunsTo nor g old mid (first_moment g slots (nor.bytes old)) script left ending

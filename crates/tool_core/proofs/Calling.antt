@@ -6,9 +6,9 @@ use Rattle.nor_core.specs.Device.{OnlyReads, Changes}
 use Rattle.nor_core.proofs.Cuts.{unchanged, read_after, wider}
 use Rattle.table_model.specs.Table.{File, State, has_name, file_named}
 use Rattle.table_model.specs.declared.error.FsErr.{FsErr}
-use Rattle.table_model.specs.declared.error.FsErr.TheVariants.{BadName, NameTooLong, NotFound, ConflictingName, Tight, Full, DeviceFault, Damaged, Unbuilt}
+use Rattle.table_model.specs.declared.error.FsErr.TheVariants.{ConflictingName, DeviceFault, Damaged, Unbuilt}
 use Rattle.table_model.specs.declared.error.Differ.{Differ}
-use Rattle.table_model.specs.Ask.{Ask, Creates, Opens, Reads, Writes, Fills, Seeks, Tells, Truncates, Flushes, Closes, Removes, RemovesOpen, Renames, Stats, StatsOpen, NextAbove, Informs, Collects, SetsMeta, SetsMetaOpen}
+use Rattle.table_model.specs.Ask.{Ask, Creates, Tells, Stats, NextAbove, Informs}
 use Rattle.table_model.specs.Reply.{Answer, Refuses, Shows}
 use Rattle.table_model.specs.Outcome.{Outcome, refused, gives, unless, page_refusal, on_found, on_name}
 use Rattle.table_model.specs.Names.{is_bad_name, is_long_name, name_refusal}
@@ -185,10 +185,13 @@ create_among g s name t fine is = rw (create_steps g s name fine) (inr (inl is))
 
 -- what a cut in a create leaves is what one in a run may
 create_publishes : (g : Geometry) (m : Moment) (name was image : List ℕ) → IsAt g was m → CreateCuts g m.state name was image → IsSafe g was image × IsAmong (table_of g image) (from_settled m (steps g true m.state (Creates name)))
-create_publishes g m name was image at here = (record { sound = here.sound; reserve = here.reserve; plain = here.plain }, ⊎_elim
-    (λ same. is_settled m (table_of g image) (steps g true m.state (Creates name)) (same ∙ at.table))
-    (λ made. from_state m (steps g true m.state (Creates name)) (table_of g image) at.still (create_among g m.state name (table_of g image) made.0 made.1))
-    here.table)
+create_publishes g m name was image at here = (
+  record { sound = here.sound; reserve = here.reserve; plain = here.plain },
+  ⊎_elim
+      (λ same. is_settled m (table_of g image) (steps g true m.state (Creates name)) (same ∙ at.table))
+      (λ made. from_state m (steps g true m.state (Creates name)) (table_of g image) at.still (create_among g m.state name (table_of g image) made.0 made.1))
+      here.table,
+)
 
 -- the moment of an image at which a volume works on
 pub at_ready : (g : Geometry) (image : List ℕ) (m : Moment) → IsAt g image m → IsReady g image
@@ -224,10 +227,10 @@ module _ {D : Type 0} {nor : NorOf D} {g : Geometry} where
   -- a call that only reads was answered
   pub read_done : {old new : D} (ask : Ask) (reply : Reply) → is_built ask ≡ true → OnlyReads nor old new → ((s : State) → (answer g true s ask).next ≡ s) → ((m : Moment) → Stands nor g old m → (answer g true m.state ask).answer ≡ answered reply) → DoesCall nor g old new ask (Ok reply)
   read_done {old} {new} ask reply built reads same is = record {
-      changes = publishes_none ask reads;
-      answers = λ m stands. answers_read m ask (answered reply) built reads stands (same m.state) (sym (is m stands));
-      stops = λ m stands. tt {0};
-    }
+    changes = publishes_none ask reads;
+    answers = λ m stands. answers_read m ask (answered reply) built reads stands (same m.state) (sym (is m stands));
+    stops = λ m stands. tt {0};
+  }
 
   -- a call that only reads was refused
   pub read_refused : (why : FsErr) {old new : D} (ask : Ask) → is_built ask ≡ true → OnlyReads nor old new → ((s : State) → (answer g true s ask).next ≡ s) → ((m : Moment) → Stands nor g old m → RefusedAs (answer g true m.state ask) why) → DoesCall nor g old new ask (refused_as why)
@@ -238,28 +241,28 @@ module _ {D : Type 0} {nor : NorOf D} {g : Geometry} where
   -- a file was made
   pub create_done : {old new : D} (name : List ℕ) → CutsOf nor g old new name → ((m : Moment) → Stands nor g old m → CreateAnswers nor g m.state name old new (Ok (tt {0}))) → DoesCall nor g old new (Creates name) (Ok Done)
   create_done {old} {new} name changes told = record {
-      changes = publishes name changes;
-      answers = λ m stands. let here = told m stands in answers_ready m (Creates name) Fine refl ((changes m.state).cuts.told stands.tells) (sym here.0) here.1 here.2;
-      stops = λ m stands. tt {0};
-    }
+    changes = publishes name changes;
+    answers = λ m stands. let here = told m stands in answers_ready m (Creates name) Fine refl ((changes m.state).cuts.told stands.tells) (sym here.0) here.1 here.2;
+    stops = λ m stands. tt {0};
+  }
 
   -- none was made, and the flat table says why
   create_stays : {old new : D} (name : List ℕ) (why : FsErr) → CutsOf nor g old new name → ((m : Moment) → Stands nor g old m → ((answer g true m.state (Creates name)).answer ≡ Refuses why) × OnlyReads nor old new) → DoesCall nor g old new (Creates name) (Ok (Refusal why))
   create_stays {old} {new} name why changes told = record {
-      changes = publishes name changes;
-      answers = λ m stands. let here = told m stands in answers_read m (Creates name) (Refuses why) refl here.1 stands (create_stands g m.state name why here.0) (sym here.0);
-      stops = λ m stands. tt {0};
-    }
+    changes = publishes name changes;
+    answers = λ m stands. let here = told m stands in answers_read m (Creates name) (Refuses why) refl here.1 stands (create_stands g m.state name why here.0) (sym here.0);
+    stops = λ m stands. tt {0};
+  }
 
   -- none was made, or it isn't known
   pub create_refused : (why : FsErr) {old new : D} (name : List ℕ) → CutsOf nor g old new name → ((m : Moment) → Stands nor g old m → CreateAnswers nor g m.state name old new (Err why)) → DoesCall nor g old new (Creates name) (not_created_as why)
   create_refused DeviceFault name changes told = record { changes = publishes name changes; answers = λ m stands. tt {0}; stops = λ m stands. tt {0} }
   create_refused (Damaged differ) name changes told = record { changes = publishes name changes; answers = λ m stands. tt {0}; stops = λ m stands. create_not_damaged g m.state name differ (told m stands).0 }
   create_refused Unbuilt name changes told = record {
-      changes = publishes name changes;
-      answers = λ m stands. tt {0};
-      stops = λ m stands. let here = told m stands in (here.2, record { accepted = ap is_refusal here.0; lacks = ap (λ (l : List ℕ). are_had g l 1 0) here.2.bytes ∙ here.1 });
-    }
+    changes = publishes name changes;
+    answers = λ m stands. tt {0};
+    stops = λ m stands. let here = told m stands in (here.2, record { name = name; creates = refl; accepted = ap is_refusal here.0; lacks = ap (λ (l : List ℕ). are_had g l 1 0) here.2.bytes ∙ here.1 });
+  }
   create_refused _ name changes told = create_stays name _ changes told
 
 -- the calls that this build doesn't have

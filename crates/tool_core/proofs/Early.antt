@@ -8,7 +8,7 @@ use Rattle.vol_mount.specs.declared.lent.Part.TheVariants.{Work, Slots, Cache, C
 use Rattle.tool_core.specs.declared.words.Shape.{Shape}
 use Rattle.tool_core.specs.declared.plan.Lengths.{Lengths}
 use Rattle.tool_core.specs.declared.ending.Ending.{Ending}
-use Rattle.tool_core.specs.declared.ending.Ending.TheVariants.{Done, Usage, Geometry, ShortBuffer, NotAFs, BadLine, BoardFault, SourceFault, TooLong, Tight, Unbuilt, UnbuiltImage, Differ}
+use Rattle.tool_core.specs.declared.ending.Ending.TheVariants.{Usage, Geometry, ShortBuffer}
 use Rattle.tool_core.specs.Closing.{status_of}
 use Rattle.tool_core.specs.Words.{run_form}
 use Rattle.tool_core.specs.Plan.{shape_refusal, length_refusal, work_need_in, shorter, refused_as, refusal_for, refusal_of}

@@ -13,22 +13,22 @@ use Rattle.tool_core.specs.Headline.{IsRun}
 -- the rules are met in one way
 one_volume : (page block blocks phys meta : ℕ) (v w : IsVolume page block blocks phys meta) → v ≡ w
 one_volume page block blocks phys meta v w = λ i. record {
-    page_least = le_prop v.page_least w.page_least i;
-    page_most = le_prop v.page_most w.page_most i;
-    page_divides = ℕ_set _ _ v.page_divides w.page_divides i;
-    whole_pages = ℕ_set _ _ v.whole_pages w.whole_pages i;
-    whole_units = ℕ_set _ _ v.whole_units w.whole_units i;
-    some_pages = le_prop v.some_pages w.some_pages i;
-    some_entries = le_prop v.some_entries w.some_entries i;
-    lookups_fit = le_prop v.lookups_fit w.lookups_fit i;
-    magic_fits = le_prop v.magic_fits w.magic_fits i;
-    some_blocks = le_prop v.some_blocks w.some_blocks i;
-    few_blocks = le_prop v.few_blocks w.few_blocks i;
-    few_pages = le_prop v.few_pages w.few_pages i;
-    few_in_block = le_prop v.few_in_block w.few_in_block i;
-    few_bytes = le_prop v.few_bytes w.few_bytes i;
-    meta_most = le_prop v.meta_most w.meta_most i;
-  }
+  page_least = le_prop v.page_least w.page_least i;
+  page_most = le_prop v.page_most w.page_most i;
+  page_divides = ℕ_set _ _ v.page_divides w.page_divides i;
+  whole_pages = ℕ_set _ _ v.whole_pages w.whole_pages i;
+  whole_units = ℕ_set _ _ v.whole_units w.whole_units i;
+  some_pages = le_prop v.some_pages w.some_pages i;
+  some_entries = le_prop v.some_entries w.some_entries i;
+  lookups_fit = le_prop v.lookups_fit w.lookups_fit i;
+  magic_fits = le_prop v.magic_fits w.magic_fits i;
+  some_blocks = le_prop v.some_blocks w.some_blocks i;
+  few_blocks = le_prop v.few_blocks w.few_blocks i;
+  few_pages = le_prop v.few_pages w.few_pages i;
+  few_in_block = le_prop v.few_in_block w.few_in_block i;
+  few_bytes = le_prop v.few_bytes w.few_bytes i;
+  meta_most = le_prop v.meta_most w.meta_most i;
+}
 
 made : (page block blocks phys meta : ℕ) (magic : MagicKind) → IsVolume page block blocks phys meta → Geometry
 made page block blocks phys meta magic v = record { page = page; block = block; blocks = blocks; phys = phys; meta = meta; magic = magic; valid = v }

@@ -3,24 +3,19 @@ use Rattle.std.proofs.Common.{◌≡◌, ℕ, suc, ◌+◌, ◌<◌, ◌≤◌, 
 use Rattle.std.proofs.lemmas.Grind.{common_steps}
 use Rattle.geometry.specs.declared.geometry.Geometry.{Geometry}
 use Rattle.nor_core.specs.declared.state.NorState.{Ghosts as NorOf}
-use Rattle.nor_core.specs.Device.{OnlyReads}
 use Rattle.nor_core.proofs.Cuts.{started}
 use Rattle.table_model.specs.Ask.{Ask}
 use Rattle.table_model.specs.Window.{Moment}
-use Rattle.call_script.specs.Lines.{onto, Bad, of_line, calls_of, lines, NoBreak}
+use Rattle.call_script.specs.Lines.{onto, calls_of, lines, NoBreak}
 use Rattle.call_script.proofs.Breaks.{line_first, line_last}
-use Rattle.run_model.specs.Runs.{after_all, replies}
-use Rattle.run_model.specs.Ran.{Stands, MayCut, Reached, SaidPart}
+use Rattle.run_model.specs.Runs.{after_all}
+use Rattle.run_model.specs.Ran.{Stands, MayCut, Reached}
 use Rattle.run_model.proofs.Runs.{after_all-append}
-use Rattle.run_model.proofs.Chain.{later_cut, later_reached, later_said, reached_none}
+use Rattle.run_model.proofs.Chain.{no_calls, later_cut, later_reached, later_said, reached_none}
 use Rattle.tool_core.specs.declared.ending.Ending.{Ending}
 use Rattle.tool_core.specs.declared.ending.Ending.TheVariants.{Done, BadLine, BoardFault, SourceFault, TooLong, Unbuilt}
-use Rattle.tool_core.specs.Turns.{DidLine, AllGood, BeginsBad, BeginsLacking, Short, At, Follows, CountsLines, CountsBytes, WhyHere, Stops, Turned, OneMore, ended_turn}
+use Rattle.tool_core.specs.Turns.{DidLine, AllGood, BeginsBad, BeginsLacking, At, CountsLines, CountsBytes, WhyHere, Stops, Turned, OneMore, ended_turn}
 use Rattle.tool_core.proofs.LineWork.{bad_long, bad_calls, calls-append, good-append, same_cut}
-
-no_calls : (g : Geometry) (m : Moment) → after_all g m [] ≡ m
-unfolding after_all
-no_calls g m = refl
 
 -- the lines of two parts of a run are counted
 count_lines : (ending : Option Ending) (a b c i j : ℕ) → b ≡ a + i → CountsLines ending b c j → CountsLines ending a c (i + j)

@@ -2,7 +2,6 @@
 use Rattle.std.specs.Prelude.{ℕ, ◌≡◌, ◌+◌, ◌<◌, ◌≤◌, ◌⊎◌, List, [], ◌∷◌, ◌++◌, length, replicate, None}
 use Rattle.geometry.specs.declared.geometry.Geometry.{Geometry}
 use Rattle.nor_core.specs.declared.state.NorState.{Ghosts as NorOf}
-use Rattle.nor_core.specs.Count.{Rose}
 use Rattle.table_model.specs.Ask.{Ask}
 use Rattle.table_model.specs.Window.{Moment, settled_at}
 use Rattle.call_script.specs.Lines.{Bad, lines, of_line, calls, NoBreak}
@@ -12,11 +11,9 @@ use Rattle.image_model.specs.Kinds.{spoiled_blocks}
 use Rattle.image_model.specs.Plain.{IsPlain}
 use Rattle.run_model.specs.Runs.{after_all, replies}
 use Rattle.run_model.specs.Safe.{IsSafe}
-use Rattle.run_model.specs.Ran.{CutIn, Reached, SaidPart}
+use Rattle.run_model.specs.Ran.{Reached, SaidPart}
 use Rattle.tool_core.specs.declared.ending.Ending.{Ending}
 use Rattle.tool_core.specs.declared.ending.Ending.TheVariants.{Done, NotAFs, BadLine, BoardFault, SourceFault, TooLong, Tight, Unbuilt, UnbuiltImage}
-use Rattle.tool_core.specs.Closing.{status_of, closing_line_of}
-use Rattle.tool_core.specs.Endings.{EndsAs}
 use Rattle.tool_core.specs.Turns.{AllGood, LacksPage}
 
 -- a line of a script is outside the grammar, the first such, by its number from 1
@@ -54,7 +51,7 @@ pub record IsTooLong (script : List ℕ) (front : List Ask) : Type 0 where
   pub count : length whole + length rest ≡ 16777216
   pub calls_are : calls whole ≡ front
 
--- the first of some calls lacks its page
+-- the first of some calls is a create that lacks its page
 pub record LacksNext (g : Geometry) (m : Moment) (image : List ℕ) (later : List Ask) : Type 0 where
   pub ask : Ask
   pub more : List Ask

@@ -8,7 +8,7 @@ use Rattle.table_model.specs.declared.error.FsErr.TheVariants.{DeviceFault, Dama
 use Rattle.table_model.specs.declared.reply.Reply.{Reply}
 use Rattle.table_model.specs.declared.reply.Reply.TheVariants.{Refusal}
 use Rattle.table_model.specs.Reply.{answered}
-use Rattle.table_model.specs.Ask.{Ask}
+use Rattle.table_model.specs.Ask.{Ask, Creates}
 use Rattle.table_model.specs.Flat.{answer}
 use Rattle.table_model.specs.Steps.{is_refusal}
 use Rattle.table_model.specs.Window.{Moment}
@@ -19,8 +19,10 @@ use Rattle.run_model.specs.Ran.{Stands, Publishes, Answers, MayCut, Reached, Sai
 use Rattle.tool_core.specs.declared.ending.Ending.{Ending}
 use Rattle.tool_core.specs.declared.ending.Ending.TheVariants.{Done, BadLine, BoardFault, SourceFault, TooLong, Unbuilt, Differ}
 
--- a call isn't refused by the flat table, but finds no page: garbage would have to be collected first
+-- a create isn't refused by the flat table, but finds no page: garbage would have to be collected first
 pub record LacksPage (g : Geometry) (m : Moment) (image : List ℕ) (ask : Ask) : Type 0 where
+  pub name : List ℕ
+  pub creates : ask ≡ Creates name
   pub accepted : is_refusal (answer g true m.state ask).answer ≡ false
   pub lacks : are_had g image 1 0 ≡ false
 

@@ -1,4 +1,4 @@
-ghost use Rattle.std.specs.Prelude.{◌≡◌, ◌≢◌, ◌≤◌, ◌++◌, [], length, map, string_bytes};
+ghost use Rattle.std.specs.Prelude.{◌≡◌, ◌≢◌, ◌≤◌, ◌++◌, [], length, map, string_bytes, None};
 ghost use Rattle.nor_core.specs.Count.{Rose};
 ghost use Rattle.nor_core.specs.Device.{Leaves, Says, InSay};
 ghost use Rattle.call_script.specs.Lines.{calls};
@@ -110,6 +110,7 @@ pub fn spiffs_tool<B: Board, S: Source>(
     ensures refused { RefusesIf B.NorState board.old board.new (refusal_of (map string_bytes words.now) (B.unit board.old) (B.size board.old) (lengths_of bufs.old)) result }
     ensures script_fault { result ≡ 8 → Rose (S.faults script.old) (S.faults script.new) }
     ensures board_fault { result ≡ 7 → Rose (B.faults board.old) (B.faults board.new) }
+    ensures runs { refusal_of (map string_bytes words.now) (B.unit board.old) (B.size board.old) (lengths_of bufs.old) ≡ None → (g : Geometry) × IsRun (map string_bytes words.now) (B.unit board.old) (B.size board.old) (lengths_of bufs.old) g }
     ensures outcome { (g : Geometry) → IsRun (map string_bytes words.now) (B.unit board.old) (B.size board.old) (lengths_of bufs.old) g → S.tells script.old → B.tells board.old →
         Outcome B.NorState g board.old board.new (start_of g bufs.old (B.bytes board.old)) (S.left script.old) (S.left script.new) result }
     ensures whole { (g : Geometry) → IsRun (map string_bytes words.now) (B.unit board.old) (B.size board.old) (lengths_of bufs.old) g → S.tells script.old → B.tells board.old →

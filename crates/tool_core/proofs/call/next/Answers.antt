@@ -1,6 +1,5 @@
-use Rattle.std.proofs.Common.{refl, subst, true, Option, Ok}
+use Rattle.std.proofs.Common.{refl, subst, Option, Ok}
 use Rattle.table_model.specs.declared.reply.Stat.{Stat}
-use Rattle.table_model.specs.Flat.{answer}
 use Rattle.volume.specs.Answers.{NextAnswers}
 use Rattle.table_model.specs.Table.{State}
 use Rattle.table_model.specs.Ask.{NextAbove}

@@ -14,8 +14,8 @@ invariant-turns g l = record {
   stands : takes_calls l.volume ≡ true;
   told : g.S.Source.tells l.fn.script → g.S.Source.tells l.script;
   turned : (m : Moment) → g.S.Source.tells l.fn.script → Stands g.B.NorState l.fn.volume.geometry l.fn.volume.nor.now m → Turned g.B.NorState l.fn.volume.geometry None m
-    (at_run l.fn.volume.nor.now l.fn.lines.buf.now l.fn.lines.start l.fn.lines.end l.fn.lines.taken l.fn.lines.handed (g.S.Source.left l.fn.script))
-    (at_run l.volume.nor.now l.lines.buf.now l.lines.start l.lines.end l.lines.taken l.lines.handed (g.S.Source.left l.script));
+      (at_run l.fn.volume.nor.now l.fn.lines.buf.now l.fn.lines.start l.fn.lines.end l.fn.lines.taken l.fn.lines.handed (g.S.Source.left l.fn.script))
+      (at_run l.volume.nor.now l.lines.buf.now l.lines.start l.lines.end l.lines.taken l.lines.handed (g.S.Source.left l.script));
 }
 
 abbrev pub decreases-turns : goal.decreases-turns

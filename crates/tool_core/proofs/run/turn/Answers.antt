@@ -1,4 +1,4 @@
-use Rattle.std.proofs.Common.{◌≡◌, ℕ, ◌+◌, ◌++◌, ◌∷◌, List, sym, subst, ◌∙◌, ap}
+use Rattle.std.proofs.Common.{◌≡◌, ℕ, ◌++◌, ◌∷◌, List, sym, subst, ◌∙◌, ap}
 use Rattle.std.specs.Prelude.{slice_range}
 use Rattle.call_script.specs.Lines.{NoBreak}
 use Rattle.tool_core.proofs.Turning.{line_done}

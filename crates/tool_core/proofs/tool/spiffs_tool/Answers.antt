@@ -46,3 +46,6 @@ returns-in-Ok-clause-complete g c = λ h run script tells no_fault no_script.
 pub returns-in-Ok-clause-whole : goal.returns-in-Ok-clause-whole
 returns-in-Ok-clause-whole g c = λ h run script tells is.
     rw (one_geometry _ _ _ _ _ _ _ h c.in-Ok.g run c.in-Ok.ensures.run) (ran_whole is (outcome_of _ (g.S.Source.left c.args.script.now) (g.S.Source.left c.run_on-ending.new.script) c.run_on-ending.result c.conclude-in-Ok.result c.run_on-ending.ensures.board_faults (c.run_on-ending.ensures.ends script tells) c.conclude-in-Ok.ensures.ends c.conclude-in-Ok.ensures.says c.conclude-in-Ok.ensures.whole c.conclude-in-Ok.ensures.silent))
+
+pub returns-in-Ok-clause-runs : goal.returns-in-Ok-clause-runs
+returns-in-Ok-clause-runs g c = λ accepted. (c.in-Ok.g, record { shape = c.in-Ok.ensures.run.shape; form_is = c.in-Ok.ensures.run.form_is; numbers = c.in-Ok.ensures.run.numbers; accepted = accepted })
