@@ -22,9 +22,8 @@ swept_where g a b block after before moved chosen tidy tidy_after same free is_a
     deleted = (let low : after ≤ before + moved = grind (arith, few) in rw (← is_after, ← is_before, ← is_data) low);
   },
   λ (s : Swept g a b).
-    let here : s.block ≡ block = some_same _ _ (sym s.chosen ∙ chosen) in
-    let low = subst (λ (n : ℕ). deleted_outside g b n ≤ deleted_outside g a n + data_in g a n) here s.deleted in
-    let within : after ≤ before + moved = rw (is_after, is_before, is_data) low in
-    grind (arith, within),
+      let here : s.block ≡ block = some_same _ _ (sym s.chosen ∙ chosen) in
+      let low = subst (λ (n : ℕ). deleted_outside g b n ≤ deleted_outside g a n + data_in g a n) here s.deleted in
+      let within : after ≤ before + moved = rw (is_after, is_before, is_data) low in
+      grind (arith, within),
 )
-

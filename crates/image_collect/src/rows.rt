@@ -130,10 +130,16 @@ fn check_row(
         assert_eq!(rt;
             numbers_of(g, image, block),
             Some(row.1[block as usize]),
-            "{}, block {block}", row.0
+            "{}, block {block}",
+            row.0
         );
     }
-    assert_eq!(rt; next_of(alloc, g, image)?, Some((row.2, row.3)), "{}", row.0);
+    assert_eq!(rt;
+        next_of(alloc, g, image)?,
+        Some((row.2, row.3)),
+        "{}",
+        row.0
+    );
     Ok(())
 }
 

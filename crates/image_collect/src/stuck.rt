@@ -1,5 +1,5 @@
 // Whether wanted pages are had, and whether collection is stuck.
-ghost use Rattle.std.specs.Prelude.{◌≡◌, ◌&&◌, ℕ, ◌<◌};
+ghost use Rattle.std.specs.Prelude.{◌≡◌, ◌&&◌};
 ghost use Rattle.std.specs.List.{range_with_len, list_any};
 ghost use Rattle.image_model.specs.Places.{IsImage};
 ghost use Rattle.image_model.specs.Collect.{is_worth as the_worth, is_fitting as the_fitting, are_had as the_had, is_stuck as the_stuck};

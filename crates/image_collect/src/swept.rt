@@ -1,5 +1,5 @@
 // What one cleaning leaves.
-ghost use Rattle.std.specs.Prelude.{◌≡◌, ◌==◌, ◌&&◌, ◌↔◌, ℕ, ◌<◌, ◌^◌, map, IfOk, IfSome, IsTrue, if◌then◌else◌};
+ghost use Rattle.std.specs.Prelude.{◌≡◌, ◌==◌, ◌↔◌, ◌<◌, ◌^◌, map, IfOk, IsTrue, if◌then◌else◌};
 ghost use Rattle.image_model.specs.Places.{IsImage};
 ghost use Rattle.image_model.specs.Tables.{table_of as the_table};
 ghost use Rattle.image_model.specs.Collect.{deleted_in as the_deleted_in, deleted_outside as the_deleted_outside, Swept};

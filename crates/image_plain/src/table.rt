@@ -33,11 +33,14 @@ fn is_before(
     let Some(q) = header_of(heads, id) else {
         return false;
     };
+    if q >= p {
+        return false;
+    }
     let Some(head) = own(g, image, id, q) else {
         return false;
     };
     match name_of(head) {
-        Some(other) => q < p && other == name && first_missing(g, image, id, head).is_none(),
+        Some(other) => other == name && first_missing(g, image, id, head).is_none(),
         None => false,
     }
 }
