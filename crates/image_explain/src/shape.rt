@@ -1,5 +1,6 @@
 // The numbers of a volume, as words give them.
-ghost use Rattle.std.specs.Prelude.{◌≡◌, length, OnSome};
+ghost use Rattle.std.specs.Prelude.{◌≡◌, OnSome, length, map, string_bytes};
+ghost use Rattle.image_explain.specs.Words.{shape_form, number_word, magic_word};
 
 use call_script::parse_number;
 use geometry::MagicKind;
@@ -20,14 +21,18 @@ pub(crate) struct Shape {
 }
 
 // A number below 2 ^ 32 of decimal digits, without a leading zero save `0` itself.
-fn number(word: &String) -> Option<u32> {
+fn number(word: &String) -> Option<u32>
+    ensures { result ≡ number_word (string_bytes word.now) }
+{
     match parse_number(word.as_bytes(), 4_294_967_295) {
         Some(number) => Some(number as u32),
         None => None,
     }
 }
 
-fn magic(word: &String) -> Option<MagicKind> {
+fn magic(word: &String) -> Option<MagicKind>
+    ensures { result ≡ magic_word (string_bytes word.now) }
+{
     match word.as_bytes() {
         b"plain" => Some(MagicKind::Plain),
         b"len" => Some(MagicKind::Length),
@@ -35,18 +40,25 @@ fn magic(word: &String) -> Option<MagicKind> {
     }
 }
 
+#[tactic(auto, unfolding(crate::specs::Words::shape_form))]
 /// The numbers that the words `PAGE BLOCK BLOCKS META MAGIC CHIP` give, or None for other words.
 pub(crate) fn shape_of(words: &[String]) -> Option<Shape>
-    ensures { OnSome result (length words.now ≡ 6) }
+    ensures exact { result ≡ shape_form (map string_bytes words.now) }
+    ensures six { OnSome result (length words.now ≡ 6) }
 {
     if words.len() != 6 || words[5].is_empty() {
         return None;
     }
+    let page = number(&words[0])?;
+    let block = number(&words[1])?;
+    let blocks = number(&words[2])?;
+    let meta = number(&words[3])?;
+    let magic = magic(&words[4])?;
     Some(Shape {
-        page: number(&words[0])?,
-        block: number(&words[1])?,
-        blocks: number(&words[2])?,
-        meta: number(&words[3])?,
-        magic: magic(&words[4])?,
+        page,
+        block,
+        blocks,
+        meta,
+        magic,
     })
 }
