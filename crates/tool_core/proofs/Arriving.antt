@@ -1,5 +1,5 @@
 -- Where a run of turns has come to.
-use Rattle.std.proofs.Common.{◌≡◌, ℕ, List, [], ◌∷◌, ◌++◌, length, refl, sym, ◌∙◌, ap, subst, arith, inl, inr, ⊎_elim, append-nil, Some}
+use Rattle.std.proofs.Common.{◌≡◌, ℕ, List, [], ◌∷◌, ◌++◌, length, refl, sym, ◌∙◌, ap, subst, arith, inl, inr, ⊎_elim, append-nil, length-append, Some}
 use Rattle.geometry.specs.declared.geometry.Geometry.{Geometry}
 use Rattle.nor_core.specs.declared.state.NorState.{Ghosts as NorOf}
 use Rattle.table_model.specs.Ask.{Ask}
@@ -63,7 +63,7 @@ module _ {D : Type 0} {nor : NorOf D} {g : Geometry} where
 
   -- why the run ends there
   why_of : (ending : Ending) (m n : Moment) (a b : At D) (script : List ℕ) → script ≡ a.pending ++ a.left → a.pending ≡ [] → a.taken ≡ 0 → a.handed ≡ 0 → (t : Turned nor g (Some ending) m a b) → WhyHere g n nor b t.tail (Some ending) → WhyEnds g n (nor.bytes b.device) script b.left (calls_of t.done) (calls_of (lines t.tail)) ending
-  why_of Done m n a b script e fresh none first t why = (ap (λ (l : List ℕ). calls_of (lines l)) why.0 ∙ none_left, subst AllGood (sym (lines_split script e t ∙ ap (λ (l : List ℕ). t.done ++ lines l) why.0 ∙ ap (λ (l : List (List ℕ)). t.done ++ l) no_lines ∙ append-nil t.done)) t.good, why.1)
+  why_of Done m n a b script e fresh none first t why = (ap (λ (l : List ℕ). calls_of (lines l)) why.0 ∙ none_left, subst AllGood (sym (lines_split script e t ∙ ap (λ (l : List ℕ). t.done ++ lines l) why.0 ∙ ap (λ (l : List (List ℕ)). t.done ++ l) no_lines ∙ append-nil t.done)) t.good, why.1, omega (arith, t.bytes.0, t.bytes.1, none, ap length fresh, ap length (e ∙ t.rest_is), length-append t.seg t.tail, ap length why.0))
   why_of (BadLine n) m k a b script e fresh none first t why = (ap calls_of why.lines_are ∙ bad_first why.bad why.others why.is_bad, record { done = t.done; bad = why.bad; others = why.others; lines_are = lines_split script e t ∙ ap (λ (l : List (List ℕ)). t.done ++ l) why.lines_are; good = t.good; is_bad = why.is_bad; number_is = omega (arith, t.number, first) })
   why_of TooLong m n a b script e fresh none first t why = record { whole = t.seg; rest = b.pending; byte = why.0; left = why.1; taken = taken_of script b.pending (why.0 ∷ why.1) e t (λ more. tt {0}) why.2; count = omega (arith, t.bytes, none, why.3, ap length fresh); calls_are = ap calls_of (done_lines t (λ more. tt {0})) }
   why_of SourceFault m n a b script e fresh none first t why = record { whole = t.seg; rest = b.pending; taken = taken_of script b.pending b.left e t (λ more. tt {0}) why; calls_are = ap calls_of (done_lines t (λ more. tt {0})) }

@@ -117,6 +117,18 @@ whole_status TooLong g m first image script left front later status why is plain
 whole_status SourceFault g m first image script left front later status why is plain reserve few lacks read good = absurd (read is)
 whole_status _ g m first image script left front later status why is plain reserve few lacks read good = absurd why.1
 
+-- of a plain image with its reserve and a script that is too long
+long_status : (ending : Ending) (g : Geometry) (m : Moment) (first image script left : List ℕ) (front later : List Ask) (status : ℕ) → WhyRan g m first image script left front later ending → status ≡ status_of ending → IsPlain g first → HasReserve g image → 16777216 < length script → status ≢ 16 → status ≢ 8 → AllGood (lines script) → status ≡ 11
+long_status Done g m first image script left front later status why is plain reserve long lacks read good = absurd (omega (arith, why.1.3, long))
+long_status (NotAFs n) g m first image script left front later status why is plain reserve long lacks read good = absurd (omega (arith, why.1, why.2, plain_unspoiled g first plain))
+long_status UnbuiltImage g m first image script left front later status why is plain reserve long lacks read good = absurd (lacks is)
+long_status Unbuilt g m first image script left front later status why is plain reserve long lacks read good = absurd (lacks is)
+long_status (Tight n) g m first image script left front later status why is plain reserve long lacks read good = absurd (omega (arith, why.2, why.3, reserve))
+long_status (BadLine n) g m first image script left front later status why is plain reserve long lacks read good = absurd (bad_not_good script n why.1.1 good)
+long_status TooLong g m first image script left front later status why is plain reserve long lacks read good = is
+long_status SourceFault g m first image script left front later status why is plain reserve long lacks read good = absurd (read is)
+long_status _ g m first image script left front later status why is plain reserve long lacks read good = absurd why.1
+
 bad_status : (ending : Ending) (g : Geometry) (m : Moment) (first image script left : List ℕ) (front later : List Ask) (status : ℕ) → WhyRan g m first image script left front later ending → status ≡ status_of ending → IsPlain g first → HasReserve g image → length script ≤ 16777216 → status ≢ 16 → status ≢ 8 → (n : ℕ) → HasBad script n → status ≡ 5
 bad_status Done g m first image script left front later status why is plain reserve few lacks read n bad = absurd (bad_not_good script n bad why.1.1)
 bad_status (NotAFs k) g m first image script left front later status why is plain reserve few lacks read n bad = absurd (omega (arith, why.1, why.2, plain_unspoiled g first plain))
@@ -150,6 +162,7 @@ module _ {D : Type 0} {nor : NorOf D} {g : Geometry} where
       let fine : status ≢ 7 = λ is. no_fault (fault is) in
       record {
         done = λ plain reserve few lacks good. by_ending (status ≡ 0) fine outcome (λ c is. whole_status c.ending g _ (nor.bytes old) (nor.bytes new) script left c.front c.later status c.why is plain (c.safe plain reserve).reserve few lacks read good);
+        long = λ plain reserve long lacks good. by_ending (status ≡ 11) fine outcome (λ c is. long_status c.ending g _ (nor.bytes old) (nor.bytes new) script left c.front c.later status c.why is plain (c.safe plain reserve).reserve long lacks read good);
         bad_line = λ plain reserve few lacks n bad. by_ending (status ≡ 5) fine outcome (λ c is. bad_status c.ending g _ (nor.bytes old) (nor.bytes new) script left c.front c.later status c.why is plain (c.safe plain reserve).reserve few lacks read n bad);
       }
 
@@ -159,6 +172,7 @@ module _ {D : Type 0} {nor : NorOf D} {g : Geometry} where
       record {
         good = why.1.1;
         none_left = why.1.2;
+        few = why.1.3;
         said = said ∙ ap (λ (l : List ℕ). nor.said old ++ l) (append-nil (replies g m front) ∙ ap (replies g m) (sym all));
         table = table ∙ ap (λ (l : List Ask). (after_all g m l).state.table) (sym all);
       }

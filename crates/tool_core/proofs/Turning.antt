@@ -26,6 +26,7 @@ count_lines _ a b c i j e h = tt {0}
 -- the bytes of two parts of a run are counted
 count_bytes : (ending : Option Ending) {D : Type 0} (a b c : At D) (xs ys : List ℕ) → b.taken + length a.pending ≡ a.taken + length xs + length b.pending → CountsBytes ending b c ys → CountsBytes ending a c (xs ++ ys)
 count_bytes None {D} a b c xs ys e h = omega (arith, e, h, length-append xs ys)
+count_bytes (Some Done) {D} a b c xs ys e h = (omega (arith, e, h.0, length-append xs ys), h.1)
 count_bytes (Some TooLong) {D} a b c xs ys e h = omega (arith, e, h, length-append xs ys)
 count_bytes _ {D} a b c xs ys e h = tt {0}
 
@@ -118,19 +119,19 @@ module _ {D : Type 0} {nor : NorOf D} {g : Geometry} where
   line_done _ d e m p line q l k h n plain is number leaves did = absurd did
 
   -- no byte is left
-  pub no_last : (d : D) (m : Moment) (p : List ℕ) (k h : ℕ) → Stands nor g d m → length p ≡ 0 → Turned nor g (Some Done) m (record { device = d; pending = p; left = []; taken = k; handed = h }) (record { device = d; pending = p; left = []; taken = k; handed = h })
+  pub no_last : (d : D) (m : Moment) (p : List ℕ) (k h : ℕ) → Stands nor g d m → length p ≡ 0 → k ≤ 16777216 → Turned nor g (Some Done) m (record { device = d; pending = p; left = []; taken = k; handed = h }) (record { device = d; pending = p; left = []; taken = k; handed = h })
   unfolding calls_of AllGood
-  no_last d m [] k h stands e = record { seg = []; done = []; tail = []; rest_is = refl; lines_are = λ more follows. refl; good = tt {0}; number = tt {0}; bytes = tt {0}; leaves = started d _; stops = inr (reached_none d m stands, (refl, refl)) }
-  no_last d m (x ∷ p) k h stands e = absurd (omega (arith, e))
+  no_last d m [] k h stands e few = record { seg = []; done = []; tail = []; rest_is = refl; lines_are = λ more follows. refl; good = tt {0}; number = tt {0}; bytes = (refl, few); leaves = started d _; stops = inr (reached_none d m stands, (refl, refl)) }
+  no_last d m (x ∷ p) k h stands e few = absurd (omega (arith, e))
 
   -- a last line that was not ended was done
-  pub last_done : (ending : Option Ending) (d e : D) (m : Moment) (line : List ℕ) (k h n : ℕ) → NoBreak line → 0 < length line → n ≡ h + 1 → MayCut nor g d e m (calls_of (line ∷ [])) → DidLine nor g d e m line n ending → Turned nor g (Some (ended_turn ending)) m (record { device = d; pending = line; left = []; taken = k; handed = h }) (record { device = e; pending = line; left = []; taken = k; handed = h })
+  pub last_done : (ending : Option Ending) (d e : D) (m : Moment) (line : List ℕ) (k h n : ℕ) → NoBreak line → 0 < length line → k ≤ 16777216 → n ≡ h + 1 → MayCut nor g d e m (calls_of (line ∷ [])) → DidLine nor g d e m line n ending → Turned nor g (Some (ended_turn ending)) m (record { device = d; pending = line; left = []; taken = k; handed = h }) (record { device = e; pending = line; left = []; taken = k; handed = h })
   unfolding AllGood calls_of lines
-  last_done None d e m line k h n plain some number leaves did = record { seg = line; done = line ∷ []; tail = []; rest_is = refl; lines_are = λ more follows. ap (λ (x : List ℕ). lines (line ++ x)) follows ∙ ap lines (append-nil line) ∙ line_last line some plain ∙ ap (λ (x : List ℕ). line ∷ lines x) (sym follows); good = (did.0, tt {0}); number = tt {0}; bytes = tt {0}; leaves = leaves; stops = inr (did.1, (refl, refl)) }
-  last_done (Some (BadLine x)) d e m line k h n plain some number leaves did = record { seg = []; done = []; tail = line ++ []; rest_is = refl; lines_are = λ more follows. refl; good = tt {0}; number = omega (arith, did.1, number); bytes = tt {0}; leaves = same_cut (sym (bad_calls line did.0)) leaves; stops = inr (did.2, record { bad = line; others = []; lines_are = ap lines (append-nil line) ∙ line_last line some plain; is_bad = did.0 }) }
-  last_done (Some BoardFault) d e m line k h n plain some number leaves did = record { seg = line; done = line ∷ []; tail = []; rest_is = refl; lines_are = λ more follows. ap (λ (x : List ℕ). lines (line ++ x)) follows ∙ ap lines (append-nil line) ∙ line_last line some plain ∙ ap (λ (x : List ℕ). line ∷ lines x) (sym follows); good = (did.0, tt {0}); number = tt {0}; bytes = tt {0}; leaves = leaves; stops = inl (refl, did.1) }
-  last_done (Some Unbuilt) d e m line k h n plain some number leaves did = record { seg = []; done = []; tail = line ++ []; rest_is = refl; lines_are = λ more follows. refl; good = tt {0}; number = tt {0}; bytes = tt {0}; leaves = did.leaves; stops = inr (did.reached, subst (λ (j : Moment). BeginsLacking g j (nor.bytes e) (line ++ [])) (sym (no_calls g m)) (record { line = line; others = []; lines_are = ap lines (append-nil line) ∙ line_last line some plain; ask = did.ask; spells = did.spells; lacks = did.lacks })) }
-  last_done _ d e m line k h n plain some number leaves did = absurd did
+  last_done None d e m line k h n plain some few number leaves did = record { seg = line; done = line ∷ []; tail = []; rest_is = refl; lines_are = λ more follows. ap (λ (x : List ℕ). lines (line ++ x)) follows ∙ ap lines (append-nil line) ∙ line_last line some plain ∙ ap (λ (x : List ℕ). line ∷ lines x) (sym follows); good = (did.0, tt {0}); number = tt {0}; bytes = (refl, few); leaves = leaves; stops = inr (did.1, (refl, refl)) }
+  last_done (Some (BadLine x)) d e m line k h n plain some few number leaves did = record { seg = []; done = []; tail = line ++ []; rest_is = refl; lines_are = λ more follows. refl; good = tt {0}; number = omega (arith, did.1, number); bytes = tt {0}; leaves = same_cut (sym (bad_calls line did.0)) leaves; stops = inr (did.2, record { bad = line; others = []; lines_are = ap lines (append-nil line) ∙ line_last line some plain; is_bad = did.0 }) }
+  last_done (Some BoardFault) d e m line k h n plain some few number leaves did = record { seg = line; done = line ∷ []; tail = []; rest_is = refl; lines_are = λ more follows. ap (λ (x : List ℕ). lines (line ++ x)) follows ∙ ap lines (append-nil line) ∙ line_last line some plain ∙ ap (λ (x : List ℕ). line ∷ lines x) (sym follows); good = (did.0, tt {0}); number = tt {0}; bytes = tt {0}; leaves = leaves; stops = inl (refl, did.1) }
+  last_done (Some Unbuilt) d e m line k h n plain some few number leaves did = record { seg = []; done = []; tail = line ++ []; rest_is = refl; lines_are = λ more follows. refl; good = tt {0}; number = tt {0}; bytes = tt {0}; leaves = did.leaves; stops = inr (did.reached, subst (λ (j : Moment). BeginsLacking g j (nor.bytes e) (line ++ [])) (sym (no_calls g m)) (record { line = line; others = []; lines_are = ap lines (append-nil line) ∙ line_last line some plain; ask = did.ask; spells = did.spells; lacks = did.lacks })) }
+  last_done _ d e m line k h n plain some few number leaves did = absurd did
 
   -- a turn after others, by the geometry that the run began with
   pub turn_then : (ending : Option Ending) (h : Geometry) (m : Moment) (a b c : At D) → h ≡ g → Turned nor g None m a b → ((n : Moment) → Stands nor h b.device n → Turned nor h ending n b c) → Turned nor g ending m a c

@@ -56,10 +56,12 @@ pub record Closes {D : Type 0} (nor : NorOf D) (g : Geometry) (old new : D) (m :
 abbrev pub Outcome : {D : Type 0} (nor : NorOf D) (g : Geometry) (old new : D) (m : Moment) (script left : List ℕ) (status : ℕ) → Type 0
 Outcome nor g old new m script left status = Breaks nor g old new m script status ⊎ Closes nor g old new m script left status
 
--- The whole script was run: all replies were said and nothing else, and the image's table is that of the last state.
+-- The whole script was run, of at most 16,777,216 bytes: all replies were said and nothing else, and the image's table is that of
+-- the last state.
 pub record RanWhole {D : Type 0} (nor : NorOf D) (g : Geometry) (old new : D) (m : Moment) (script left : List ℕ) : Type 0 where
   pub good : AllGood (lines script)
   pub none_left : left ≡ []
+  pub few : length script ≤ 16777216
   pub said : nor.said new ≡ nor.said old ++ replies g m (calls script)
   pub table : table_of g (nor.bytes new) ≡ (after_all g m (calls script)).state.table
 
@@ -101,8 +103,9 @@ pub record IsExact {D : Type 0} (nor : NorOf D) (g : Geometry) (old new : D) (st
   pub tight_only : status ≡ 14 → IsPlain g (nor.bytes old) × (free_blocks g (nor.bytes new) < 2)
   pub never_differs : status ≢ 21
 
--- A plain first image with its reserve, a script that isn't too long, and no call that lacks its page: the status is 0 where every line
--- is in the grammar, and 5 where one isn't.
+-- A plain first image with its reserve, and no call that lacks its page. Where every line is in the grammar, the status is 0 for a
+-- script of at most 16,777,216 bytes and 11 for a longer one; where a line of one that isn't longer is outside, it is 5.
 pub record IsComplete {D : Type 0} (nor : NorOf D) (g : Geometry) (old : D) (script : List ℕ) (status : ℕ) : Type 0 where
   pub done : IsPlain g (nor.bytes old) → HasReserve g (nor.bytes old) → length script ≤ 16777216 → status ≢ 16 → AllGood (lines script) → status ≡ 0
+  pub long : IsPlain g (nor.bytes old) → HasReserve g (nor.bytes old) → 16777216 < length script → status ≢ 16 → AllGood (lines script) → status ≡ 11
   pub bad_line : IsPlain g (nor.bytes old) → HasReserve g (nor.bytes old) → length script ≤ 16777216 → status ≢ 16 → (number : ℕ) → HasBad script number → status ≡ 5

@@ -60,7 +60,7 @@ pub record LacksNext (g : Geometry) (m : Moment) (image : List ℕ) (later : Lis
 
 -- why a run ends after some calls and before others, where it stands at that moment over this image
 abbrev pub WhyEnds : (g : Geometry) (m : Moment) (image script left : List ℕ) (front later : List Ask) → Ending → Type 0
-WhyEnds g m image script left front later Done = (later ≡ []) × AllGood (lines script) × (left ≡ [])
+WhyEnds g m image script left front later Done = (later ≡ []) × AllGood (lines script) × (left ≡ []) × (length script ≤ 16777216)
 WhyEnds g m image script left front later (BadLine number) = (later ≡ []) × HasBad script number
 WhyEnds g m image script left front later TooLong = IsTooLong script front
 WhyEnds g m image script left front later SourceFault = IsTakenTo script left front

@@ -117,9 +117,11 @@ CountsLines None before now done = now ≡ before + done
 CountsLines (Some (BadLine n)) before now done = n ≡ before + done + 1
 CountsLines _ before now done = Unit {0}
 
--- the bytes that were taken are those of the lines that were done, and the pending ones
+-- The bytes that were taken are those of the lines that were done, and the pending ones; at the script's end all of them are
+-- those of lines, and no more than the limit.
 abbrev pub CountsBytes : Option Ending → {D : Type 0} → (a b : At D) (seg : List ℕ) → Type 0
 CountsBytes None a b seg = b.taken + length a.pending ≡ a.taken + length seg + length b.pending
+CountsBytes (Some Done) a b seg = (a.taken + length seg ≡ b.taken + length a.pending) × (b.taken ≤ 16777216)
 CountsBytes (Some TooLong) a b seg = b.taken + length a.pending ≡ a.taken + length seg + length b.pending
 CountsBytes _ a b seg = Unit {0}
 
