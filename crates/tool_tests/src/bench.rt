@@ -1,7 +1,7 @@
 //! Devices in memory, and a run of the top call on them.
 use fd_table::FdSlot;
 use geometry::{Geometry, MagicKind};
-use nor_core::{MemBoard, MemSource};
+use nor_core::{Failed, MemBoard, MemSource, Nor};
 use std::alloc::Global;
 use std::test::Fail;
 use tool_core::{Buffers, spiffs_tool};
@@ -22,6 +22,16 @@ pub(crate) fn formatted(alloc: Global, magic: MagicKind) -> Result<MemBoard, Fai
     let g = Geometry::new(256, 4096, 16, 4096, 0, magic)?;
     format(&g, &mut board)?;
     Ok(board)
+}
+
+/// Programs bytes of a device, where it has them.
+pub(crate) fn program(board: &mut MemBoard, at: u32, bytes: &[u8]) -> Result<(), Fail> {
+    let size = board.size() as usize;
+    if bytes.is_empty() || bytes.len() > size || at as usize > size - bytes.len() {
+        Err::<(), Failed>(Failed)?;
+    }
+    board.program(at, bytes)?;
+    Ok(())
 }
 
 /// Memory for one volume of these tests.

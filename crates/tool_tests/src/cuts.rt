@@ -1,8 +1,8 @@
 //! Power cuts in a run of creates, and in the recovery after them.
 use crate::bench::run;
 use geometry::{Geometry, MagicKind};
-use image_plain::table_of;
-use nor_core::MemBoard;
+use image_plain::{holds_volume, table_of};
+use nor_core::{Failed, MemBoard};
 use std::alloc::Global;
 use std::test::Fail;
 use vol_mount::format;
@@ -25,12 +25,18 @@ fn small() -> Result<Geometry, Fail> {
 }
 
 fn board_of(alloc: Global, image: &[u8]) -> Result<MemBoard, Fail> {
+    if image.len() != 16384 {
+        Err::<(), Failed>(Failed)?;
+    }
     Ok(MemBoard::new(alloc, image.to_vec(alloc)?, 4096)?)
 }
 
 // How many of the names the table has, if it has a front of them.
 fn front_of(alloc: Global, image: &[u8]) -> Result<Option<usize>, Fail> {
     let g = small()?;
+    if !holds_volume(&g, image) {
+        return Ok(None);
+    }
     let table = table_of(alloc, &g, image)?;
     for (i, file) in table.iter().enumerate() {
         let is_next = NAMES

@@ -1,4 +1,4 @@
-use crate::bench::{AMPLE, RUN, blank, formatted, run, run_with};
+use crate::bench::{AMPLE, RUN, blank, formatted, program, run, run_with};
 use geometry::MagicKind;
 use nor_core::{CallKind, MemSource};
 use std::test::Fail;
@@ -96,8 +96,8 @@ fn an_erased_chip_is_no_volume(rt: HostRuntime) -> Result<(), Fail> {
 #[test]
 fn two_blocks_without_magic_are_told_and_left(rt: HostRuntime) -> Result<(), Fail> {
     let mut board = formatted(rt.alloc(), MagicKind::Length)?;
-    nor_core::Nor::program(&mut board, 252, &[0, 0])?;
-    nor_core::Nor::program(&mut board, 4096 + 252, &[0, 0])?;
+    program(&mut board, 252, &[0, 0])?;
+    program(&mut board, 4096 + 252, &[0, 0])?;
     let before = board.image().to_vec(rt.alloc())?;
     assert_eq!(rt; run(rt.alloc(), RUN, &mut board, b"create a\n")?, 3);
     let closing = b"! not a volume, 2 blocks without magic\n";
@@ -110,7 +110,7 @@ fn two_blocks_without_magic_are_told_and_left(rt: HostRuntime) -> Result<(), Fai
 fn a_volume_without_its_reserve_is_told(rt: HostRuntime) -> Result<(), Fail> {
     let mut board = formatted(rt.alloc(), MagicKind::Length)?;
     for block in 0..15u32 {
-        nor_core::Nor::program(&mut board, block * 4096, &[0, 0])?;
+        program(&mut board, block * 4096, &[0, 0])?;
     }
     assert_eq!(rt; run(rt.alloc(), RUN, &mut board, b"create a\n")?, 14);
     assert_eq!(rt; board.said(), b"! free blocks 1\n".as_slice());
@@ -121,7 +121,7 @@ fn a_volume_without_its_reserve_is_told(rt: HostRuntime) -> Result<(), Fail> {
 fn a_create_without_a_free_page_is_unbuilt(rt: HostRuntime) -> Result<(), Fail> {
     let mut board = formatted(rt.alloc(), MagicKind::Length)?;
     for block in 0..14u32 {
-        nor_core::Nor::program(&mut board, block * 4096, &[0; 30])?;
+        program(&mut board, block * 4096, &[0; 30])?;
     }
     assert_eq!(rt;
         run(rt.alloc(), RUN, &mut board, b"next 0\ncreate a\nnext 0\n")?,
@@ -134,8 +134,8 @@ fn a_create_without_a_free_page_is_unbuilt(rt: HostRuntime) -> Result<(), Fail> 
 #[test]
 fn a_volume_with_data_is_not_run(rt: HostRuntime) -> Result<(), Fail> {
     let mut board = formatted(rt.alloc(), MagicKind::Length)?;
-    nor_core::Nor::program(&mut board, 0, &[1, 0])?;
-    nor_core::Nor::program(&mut board, 256, &[1, 0, 0, 0, 0xFC])?;
+    program(&mut board, 0, &[1, 0])?;
+    program(&mut board, 256, &[1, 0, 0, 0, 0xFC])?;
     assert_eq!(rt; run(rt.alloc(), RUN, &mut board, b"create a\n")?, 16);
     assert_eq!(rt; board.said(), b"! unbuilt image\n".as_slice());
     Ok(())

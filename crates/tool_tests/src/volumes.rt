@@ -1,5 +1,5 @@
 //! The volume itself, below the top call.
-use crate::bench::{Memory, blank, formatted};
+use crate::bench::{Memory, blank, formatted, program};
 use geometry::{Geometry, MagicKind};
 use nor_core::CallKind;
 use std::test::Fail;
@@ -64,7 +64,7 @@ fn a_volume_stands_where_a_read_fails(rt: HostRuntime) -> Result<(), Fail> {
 #[test]
 fn a_torn_entry_is_killed_by_the_check(rt: HostRuntime) -> Result<(), Fail> {
     let mut board = formatted(rt.alloc(), MagicKind::Length)?;
-    nor_core::Nor::program(&mut board, 0, &[0xFF, 0x9F])?;
+    program(&mut board, 0, &[0xFF, 0x9F])?;
     let g = Geometry::new(256, 4096, 16, 4096, 0, MagicKind::Length)?;
     let mut memory = Memory::new(rt.alloc())?;
     let lent = memory.lend();
@@ -88,8 +88,8 @@ fn a_torn_entry_is_killed_by_the_check(rt: HostRuntime) -> Result<(), Fail> {
 #[test]
 fn a_volume_with_data_pages_is_not_taken(rt: HostRuntime) -> Result<(), Fail> {
     let mut board = formatted(rt.alloc(), MagicKind::Length)?;
-    nor_core::Nor::program(&mut board, 0, &[1, 0])?;
-    nor_core::Nor::program(&mut board, 256, &[1, 0, 0, 0, 0xFC])?;
+    program(&mut board, 0, &[1, 0])?;
+    program(&mut board, 256, &[1, 0, 0, 0, 0xFC])?;
     let g = Geometry::new(256, 4096, 16, 4096, 0, MagicKind::Length)?;
     let mut memory = Memory::new(rt.alloc())?;
     let lent = memory.lend();
