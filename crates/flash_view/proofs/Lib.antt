@@ -5,3 +5,4 @@ pub mod Heads
 pub mod Finds
 pub mod Names
 pub mod Least
+pub mod Within

@@ -162,6 +162,36 @@ impl<'b, N: Nor> View<'b, N> {
         Ok(header_of(&head))
     }
 
+    /// Reads bytes of a page, from its byte `start` on.
+    #[tactic(auto, using(crate::proofs::Within::part_of_page))]
+    pub fn read_in(&mut self, page: u16, start: u32, into: &mut [u8]) -> Result<(), Failed>
+        requires page { page < page_count self.old.geometry }
+        requires some { 0 < length into.old }
+        requires inside { start + length into.old ≤ self.old.geometry.page }
+        ensures cause { OnErr result (Rose (N.faults self.old.nor.now) (N.faults self.new.nor.now)) }
+        ensures looks { OnlyLooks self.old self.new }
+        ensures told { N.tells self.old.nor.now → OnOk result (into.new ≡ slice_range (page_of self.old.geometry (N.bytes self.old.nor.now) page) start (start + length into.old)) }
+        ensures work { self.new.work.now ≡ self.old.work.now }
+        ensures small { (k : ℕ) → slice_index into.new k < 256 }
+    {
+        let at = page_start(&self.geometry, page) + start;
+        self.read(at, into)
+    }
+
+    /// Reads the two bytes of a page at its byte `start`, as a number with the lower byte first.
+    #[tactic(auto, using(crate::proofs::Within::word_of_page))]
+    pub fn word_in(&mut self, page: u16, start: u32) -> Result<u16, Failed>
+        requires page { page < page_count self.old.geometry }
+        requires inside { start + 2 ≤ self.old.geometry.page }
+        ensures cause { OnErr result (Rose (N.faults self.old.nor.now) (N.faults self.new.nor.now)) }
+        ensures looks { OnlyLooks self.old self.new }
+        ensures told { N.tells self.old.nor.now → IfOk result (λ word. word ≡ word_at (page_of self.old.geometry (N.bytes self.old.nor.now) page) start) }
+        ensures work { self.new.work.now ≡ self.old.work.now }
+    {
+        let at = page_start(&self.geometry, page) + start;
+        self.word(at)
+    }
+
     /// The page that is being built becomes a copy of a page.
     #[tactic(auto, unfolding(image_model::specs::Places::page_of))]
     pub fn load(&mut self, page: u16) -> Result<(), Failed>
