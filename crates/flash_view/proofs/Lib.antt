@@ -6,3 +6,4 @@ pub mod Finds
 pub mod Names
 pub mod Least
 pub mod Within
+pub mod Entries
