@@ -7,3 +7,4 @@ pub mod Names
 pub mod Least
 pub mod Within
 pub mod Entries
+pub mod Spans
