@@ -8,3 +8,4 @@ pub mod Least
 pub mod Within
 pub mod Entries
 pub mod Spans
+pub mod Marking

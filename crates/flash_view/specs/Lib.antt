@@ -2,3 +2,4 @@ pub mod Places
 pub mod Same
 pub mod Found
 pub mod Judging
+pub mod Marks

@@ -4,6 +4,7 @@
 mod judging;
 mod kinds;
 mod live;
+mod marks;
 mod places;
 mod view;
 
