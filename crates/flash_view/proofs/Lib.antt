@@ -6,3 +6,6 @@ pub mod Finds
 pub mod Names
 pub mod Least
 pub mod Within
+pub mod Entries
+pub mod Spans
+pub mod Marking

@@ -6,7 +6,7 @@ use Rattle.image_model.specs.Live.{live_at}
 use Rattle.flash_view.specs.Found.{named_at, first_named}
 use Rattle.flash_view.proofs.Finds.{first_here, first_later}
 use Rattle.flash_view.proofs.Looking.{looks_none, looks_then}
-use Rattle.flash_view.proofs.view.View.find_name.Goals as goal
+use Rattle.flash_view.proofs.view.View.find_header_name.Goals as goal
 
 pub loop-page-init : goal.loop-page-init
 unfolding first_named page_count per_block

@@ -6,7 +6,7 @@ use Rattle.geometry.specs.Numbers.{page_count}
 use Rattle.image_model.specs.Live.{live_at}
 use Rattle.flash_view.specs.Found.{named_at, first_named}
 use Rattle.flash_view.specs.Same.{OnlyLooks}
-use Rattle.flash_view.proofs.view.View.find_name.Given as goal
+use Rattle.flash_view.proofs.view.View.find_header_name.Given as goal
 
 abbrev pub invariant-loop-page : goal.invariant-loop-page
 invariant-loop-page g l = record {
