@@ -1,6 +1,6 @@
 -- What a step makes of a read that goes on.
-use Rattle.std.proofs.Common.{◌≡◌, ℕ, List, length}
-use Rattle.std.specs.Prelude.{Result, Ok, Err, IsErr, IsErrAnd}
+use Rattle.std.proofs.Common.{◌≡◌, refl}
+use Rattle.std.specs.Prelude.{Result, Ok, Err, IsErr, IsErrAnd, IfOk, IfErr}
 use Rattle.flash_view.specs.declared.kinds.StepErr.{StepErr}
 use Rattle.flash_view.specs.declared.kinds.StepErr.TheVariants.{DeviceFault, Damaged}
 use Rattle.file_read.specs.Missing.{HoldsOrFault}
@@ -20,3 +20,13 @@ holds_more (Err (Damaged differ)) P Q more h = h
 pub passed : {T U : Type 0} (e : StepErr) (r : Result U StepErr) (P : T → Type 0) (Q : U → Type 0) → IsErr r → IsErrAnd r (λ x. x ≡ e) → HoldsOrFault (Err e) P → HoldsOrFault r Q
 passed e (Ok x) P Q err same h = absurd (cc)
 passed e (Err x) P Q err same h = rw same (fault e P Q h)
+
+-- the two halves of it
+pub holds_ok : {T : Type 0} (r : Result T StepErr) (P : T → Type 0) → HoldsOrFault r P → IfOk r P
+holds_ok (Ok x) P h = h
+holds_ok (Err why) P h = tt
+
+pub holds_err : {T : Type 0} (r : Result T StepErr) (P : T → Type 0) → HoldsOrFault r P → IfErr r (λ why. why ≡ DeviceFault)
+holds_err (Ok x) P h = tt
+holds_err (Err DeviceFault) P h = refl
+holds_err (Err (Damaged differ)) P h = absurd h

@@ -1,16 +1,16 @@
 -- The bytes of a whole file by its data pages.
 use Rattle.std.proofs.Common.{◌≡◌, ℕ, ◌+◌, ◌-◌, ◌*◌, ◌/◌, ◌%◌, ◌<◌, ◌≤◌, Bool, true, false, List, [], ◌++◌, length, take, drop, slice_range, refl, sym, subst, ◌∙◌, ap, arith, ⊎_elim, length-take, length-drop, length-append}
-use Rattle.std.specs.Prelude.{Option, Some, None, Ok, is_none, unwrap_or}
+use Rattle.std.specs.Prelude.{Option, Some, None, Ok, is_none, unwrap_or, min}
 use Rattle.std.specs.List.{range_with_len, flat_map}
 use Rattle.std.proofs.Math.Nat.{div-add-mod, mul_comm, le-div_iff_mul-le}
-use Rattle.std.proofs.lemmas.List.{length-take-le, take-append-le, append_assoc}
+use Rattle.std.proofs.lemmas.List.{length-take-le, take-append-le, append_assoc, take_all, drop_all, take_at, drop_at}
 use Rattle.geometry.specs.declared.geometry.Geometry.{Geometry}
 use Rattle.geometry.specs.Numbers.{body, ceil}
 use Rattle.table_model.specs.Table.{File}
 use Rattle.table_model.specs.Files.{bytes_at}
 use Rattle.table_model.specs.Room.{data_pages}
-use Rattle.std.proofs.lemmas.Bool.{cases_Bool}
-use Rattle.std.proofs.lemmas.Option.{none-some}
+use Rattle.std.proofs.lemmas.Bool.{cases_Bool, cases_lt}
+use Rattle.std.proofs.lemmas.Option.{none-some, same_Some}
 use Rattle.image_model.specs.Places.{page_of, IsImage, is_entry_page}
 use Rattle.image_model.specs.Within.{page_length, sizes}
 use Rattle.image_model.specs.Headers.{size_of}
@@ -22,7 +22,7 @@ use Rattle.image_laws.proofs.Matching.{length-pieces}
 use Rattle.image_laws.proofs.Reindexed.{judged-parts}
 use Rattle.image_laws.proofs.Serving.{ceil-enough}
 use Rattle.image_laws.proofs.Wanted.{judged-whole}
-use Rattle.file_read.specs.Whole.{IsFileOf, Reading}
+use Rattle.file_read.specs.Whole.{IsFileOf, IsRead, Reading}
 use Rattle.file_read.specs.Spans.{index_span, named_page}
 use Rattle.file_read.proofs.Names.{own_page, named_is, index_there}
 use Rattle.file_read.proofs.Bytes.{in_piece, before_cut, in_body, read_more}
@@ -176,3 +176,40 @@ reads_part g image id f index at done len count into part tail was n some fits i
     let cut : take (done + len) (take done into ++ (part ++ tail)) ≡ take (done + len) (take done into ++ part) =
     ap (λ (xs : List ℕ). take (done + len) xs) (sym (append_assoc (take done into) part tail)) ∙ take-append-le (done + len) (take done into ++ part) tail (omega (arith, both)) in
     reads_on g image id f at done len into part (take done into ++ (part ++ tail)) was (omega (arith, fits)) bytes whole cut
+
+-- ---- the whole read
+
+-- the size that the header page tells
+pub size_told : (g : Geometry) (image : List ℕ) (id : ℕ) (f : File) (header size : ℕ) → IsImage g image → IsFileOf g image id f → index_page g (own (live_at g image) id) 0 ≡ Some header →
+    size ≡ size_of (page_of g image header) → size ≡ length f.bytes
+size_told g image id f header size whole file first told =
+    let p = parts g image id f file in
+    let same : p.header ≡ header = same_Some p.header header (sym p.first ∙ first) in
+    let head : page_of g image header ≡ p.head = ap (page_of g image) (sym same) ∙ own_page g image id p.header p.head p.is in
+    told ∙ ap size_of head ∙ sym (size_is g image id f whole p)
+
+-- as many of the asked bytes as there are
+front_of : (bytes : List ℕ) (count n : ℕ) → count ≡ min n (length bytes) → take count bytes ≡ take n bytes
+front_of bytes count n is =
+    ⊎_elim
+    (λ (low : n < length bytes). ap (λ (k : ℕ). take k bytes) (let same : count ≡ n = omega (arith, is, low) in same))
+    (λ (high : length bytes ≤ n). take_all count bytes (omega (arith, is, high)) ∙ sym (take_all n bytes high))
+    (cases_lt n (length bytes))
+
+pub read_front : (f : File) (at count n : ℕ) (into part tail : List ℕ) → at < length f.bytes → n ≡ length into → count ≡ min n (length f.bytes - at) → part ≡ bytes_at count at f → length part ≡ count → tail ≡ drop count into →
+    IsRead f at into (part ++ tail) count
+read_front f at count n into part tail inside all is bytes size rest =
+    let left : length (drop at f.bytes) ≡ length f.bytes - at = length-drop at f.bytes in
+    let few : count ≡ min (length into) (length (drop at f.bytes)) = omega (arith, is, left, all) in
+    record {
+      count = few ∙ sym (length-take (length into) (drop at f.bytes));
+      bytes = take_at part tail count size ∙ bytes ∙ front_of (drop at f.bytes) count (length into) few;
+      rest = drop_at part tail count size ∙ rest;
+    }
+
+-- none at the end of the file and past it
+pub read_none : (f : File) (at : ℕ) (into : List ℕ) → length f.bytes ≤ at → IsRead f at into into 0
+read_none f at into past =
+    let none : drop at f.bytes ≡ [] = drop_all at f.bytes past in
+    let front : bytes_at (length into) at f ≡ [] = ap (λ (xs : List ℕ). take (length into) xs) none ∙ take_all (length into) [] (omega arith) in
+    record { count = sym (ap length front); bytes = sym front; rest = refl }

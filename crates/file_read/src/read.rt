@@ -241,13 +241,15 @@ fn read_by<N: Nor>(
     ensures told { N.tells v.old.nor.now → (f : File) → IsFileOf v.old.geometry (N.bytes v.old.nor.now) id f →
         index_page v.old.geometry (own (live_at v.old.geometry (N.bytes v.old.nor.now)) id) 0 ≡ Some header → HoldsOrFault result (λ n. IsRead f at into.old into.new n) }
 {
-    let size = match size_in(v, header) {
-        Err(Failed) => return Err(StepErr::DeviceFault),
-        Ok(size) => size,
-    };
-    let count = into.len().min(size.saturating_sub(at) as usize);
-    read_inside(v, id, header, at, &mut into[..count])?;
-    Ok(count as u32)
+    match size_in(v, header) {
+        Err(Failed) => Err(StepErr::DeviceFault),
+        Ok(size) if at >= size => Ok(0),
+        Ok(size) => {
+            let count = into.len().min((size - at) as usize);
+            read_inside(v, id, header, at, &mut into[..count])?;
+            Ok(count as u32)
+        }
+    }
 }
 
 /// The bytes of a whole file from byte `at` on, as many as there are and fit; none at the file's end and past it. The
