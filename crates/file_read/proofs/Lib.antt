@@ -1,4 +1,3 @@
-pub mod Seen
 pub mod Bytes
 pub mod Names
 pub mod Pieces

@@ -13,7 +13,7 @@ ghost use Rattle.file_read.specs.Whole.{IsFileOf, IsWhole, IsRead, Reading};
 ghost use Rattle.file_read.specs.Spans.{index_span as the_index_span, named_page};
 ghost use Rattle.file_read.specs.Missing.{IsNoPage, IsMissing, HoldsOrFault};
 
-use crate::pages::{entry_place, find_index, index_span, is_data_of};
+use crate::pages::{entry_place, index_span};
 use flash_view::{StepErr, View};
 use nor_core::{Failed, Nor, NorState};
 use page_layout::{INDEX_BIT, UNDEFINED_SIZE};
@@ -68,7 +68,7 @@ fn find_data<N: Nor>(
 {
     let at = entry_place(&v.geometry, span);
     let page = v.word_in(index, at)?;
-    Ok(if is_data_of(v, page, id, span)? {
+    Ok(if v.is_data_of(page, id, span)? {
         Some(page)
     } else {
         None
@@ -181,7 +181,7 @@ fn index_for<N: Nor>(
     if which == 0 {
         return Ok(header);
     }
-    match find_index(v, id, which) {
+    match v.find_span(id, which) {
         Err(Failed) => Err(StepErr::DeviceFault),
         Ok(None) => Err(StepErr::Damaged(no_data(id, span))),
         Ok(Some(page)) => Ok(page),
@@ -268,7 +268,7 @@ pub fn read_at<N: Nor>(
     ensures undamaged { N.tells v.old.nor.now → IfErr result (λ why. why ≡ StepErr.DeviceFault) }
     ensures told { N.tells v.old.nor.now → (f : File) → IsFileOf v.old.geometry (N.bytes v.old.nor.now) id f → IfOk result (λ n. IsRead f at into.old into.new n) }
 {
-    match find_index(v, id, 0) {
+    match v.find_index(id, 0) {
         Err(Failed) => Err(StepErr::DeviceFault),
         Ok(None) => Err(StepErr::Damaged(no_header(id))),
         Ok(Some(header)) => read_by(v, id, header, at, into),

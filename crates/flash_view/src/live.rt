@@ -149,8 +149,8 @@ impl<'b, N: Nor> View<'b, N> {
         self.find_span(id, u32::from(span))
     }
 
-    // The same for any span: those above 65535 have no page.
-    pub(crate) fn find_span(&mut self, id: u16, span: u32) -> Result<Option<u16>, Failed>
+    /// The index page of an object and a span as `find_index` gives it, for any span: those above 65,535 have no page.
+    pub fn find_span(&mut self, id: u16, span: u32) -> Result<Option<u16>, Failed>
         ensures cause { OnErr result (Rose (N.faults self.old.nor.now) (N.faults self.new.nor.now)) }
         ensures looks { OnlyLooks self.old self.new }
         ensures inside { IfOk result (λ page. IfSome page (λ p. p < page_count self.old.geometry)) }
