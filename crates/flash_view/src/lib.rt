@@ -4,6 +4,7 @@
 mod kinds;
 mod live;
 mod places;
+mod through;
 mod view;
 
 pub use kinds::{Kind, StepErr};
