@@ -9,3 +9,4 @@ pub mod Within
 pub mod Entries
 pub mod Spans
 pub mod Marking
+pub mod Nearest

@@ -230,7 +230,7 @@ impl<'b, N: Nor> View<'b, N> {
     }
 
     // Whether a page holds that name, in the field of header pages.
-    fn has_name(&mut self, page: u16, name: &[u8]) -> Result<bool, Failed>
+    pub(crate) fn has_name(&mut self, page: u16, name: &[u8]) -> Result<bool, Failed>
         requires { page < page_count self.old.geometry }
         ensures cause { OnErr result (Rose (N.faults self.old.nor.now) (N.faults self.new.nor.now)) }
         ensures looks { OnlyLooks self.old self.new }

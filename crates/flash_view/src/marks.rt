@@ -1,13 +1,16 @@
-ghost use Rattle.std.specs.Prelude.{◌≡◌, ◌<◌, ◌≤◌, length, Option, OnOk, OnErr, IfOk, if◌then◌else◌};
+ghost use Rattle.std.specs.Prelude.{◌≡◌, ◌<◌, ◌≤◌, length, Some, OnOk, OnErr, IfOk, IfSome};
 ghost use Rattle.geometry.specs.Numbers.{page_count};
 ghost use Rattle.nor_core.specs.Count.{Rose};
+ghost use Rattle.image_model.specs.Live.{live_at, own};
+ghost use Rattle.image_model.specs.Files.{index_page};
 ghost use Rattle.image_model.specs.Tidy.{is_number};
 ghost use Rattle.flash_view.specs.Same.{OnlyLooks};
-ghost use Rattle.flash_view.specs.Marks.{mark_of, mark_for as the_mark_for, IsMarked};
+ghost use Rattle.flash_view.specs.Marks.{mark_of, mark_for as the_mark_for, IsMarked, marked_id as the_marked_id, NextHead, nearer as the_nearer};
 
 use crate::View;
 use image_model::Damage;
 use nor_core::{Failed, Nor, NorState};
+use page_layout::INDEX_BIT;
 
 // The mark of the header page of a whole file.
 const WHOLE: u8 = 1;
@@ -30,6 +33,26 @@ fn mark_for(cause: Option<Damage>) -> u8
     ensures { result ≡ the_mark_for cause }
 {
     if cause.is_none() { WHOLE } else { DAMAGED }
+}
+
+// The nearer of two header pages by their ids above `after`: the second counts where its id is above `after` and less.
+fn nearer(
+    after: u16,
+    least: Option<(u16, u16)>,
+    found: Option<u16>,
+    page: u16,
+) -> Option<(u16, u16)>
+    ensures { result ≡ the_nearer after least found page }
+{
+    match (least, found) {
+        (_, None) => least,
+        (None, Some(id)) => if id > after { Some((id, page)) } else { None },
+        (Some((old, first)), Some(id)) => if id > after && id < old {
+            Some((id, page))
+        } else {
+            Some((old, first))
+        },
+    }
 }
 
 impl<'b, N: Nor> View<'b, N> {
@@ -62,5 +85,40 @@ impl<'b, N: Nor> View<'b, N> {
             return Ok(0);
         }
         Ok(mark_for(self.judge(id, page)?))
+    }
+
+    /// The least id above `after` that has a header page, with that page, by right marks. Pages without a mark aren't
+    /// looked at.
+    pub fn next_marked(&mut self, marks: &[u8], after: u16) -> Result<Option<(u16, u16)>, Failed>
+        requires room { page_count self.old.geometry ≤ length marks.now }
+        requires marked { N.tells self.old.nor.now → IsMarked self.old.geometry (N.bytes self.old.nor.now) marks.now }
+        ensures cause { OnErr result (Rose (N.faults self.old.nor.now) (N.faults self.new.nor.now)) }
+        ensures looks { OnlyLooks self.old self.new }
+        ensures inside { IfOk result (λ next. IfSome next (λ n. n.1 < page_count self.old.geometry)) }
+        ensures told { N.tells self.old.nor.now → IfOk result (λ next. NextHead self.old.geometry (N.bytes self.old.nor.now) after next) }
+        ensures work { self.new.work.now ≡ self.old.work.now }
+    {
+        let mut least = None;
+        for page in 0..self.geometry.pages() as u16 {
+            let found = self.marked_id(marks[page as usize], page)?;
+            least = nearer(after, least, found, page);
+        }
+        Ok(least)
+    }
+
+    // The id whose header page a page with this mark is.
+    #[tactic(auto, using(crate::proofs::Nearest::unmarked, crate::proofs::Nearest::id_of_entry))]
+    fn marked_id(&mut self, mark: u8, page: u16) -> Result<Option<u16>, Failed>
+        requires page { page < page_count self.old.geometry }
+        requires marked { N.tells self.old.nor.now → mark ≡ mark_of self.old.geometry (N.bytes self.old.nor.now) page }
+        ensures cause { OnErr result (Rose (N.faults self.old.nor.now) (N.faults self.new.nor.now)) }
+        ensures looks { OnlyLooks self.old self.new }
+        ensures told { N.tells self.old.nor.now → IfOk result (λ id. id ≡ the_marked_id self.old.geometry (N.bytes self.old.nor.now) page) }
+        ensures work { self.new.work.now ≡ self.old.work.now }
+    {
+        if mark == 0 {
+            return Ok(None);
+        }
+        Ok(Some(self.lookup_entry(page)? % INDEX_BIT))
     }
 }
