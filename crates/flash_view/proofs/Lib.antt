@@ -10,3 +10,4 @@ pub mod Entries
 pub mod Spans
 pub mod Marking
 pub mod Nearest
+pub mod Holders

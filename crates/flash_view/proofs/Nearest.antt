@@ -68,6 +68,10 @@ mark_page : (g : Geometry) (image : List ℕ) (id p : ℕ) (o : Option ℕ) → 
 mark_page g image id p None is marked = absurd (marked (rw (has_none g (live_at g image) id is) refl))
 mark_page g image id p (Some q) is marked = same_page (judged g (own (live_at g image) id) id (page_of g image q)) q p (λ e. marked (rw (has_at g image id q is) e))
 
+pub mark_head : (g : Geometry) (image : List ℕ) (p id : ℕ) → headed (live_at g image p) ≡ Some id → mark_of g image p ≢ 0 → index_page g (own (live_at g image) id) 0 ≡ Some p
+unfolding mark_of
+mark_head g image p id is marked = mark_page g image id p (index_page g (own (live_at g image) id) 0) refl (λ e. marked (rw is e))
+
 marked_parts : (g : Geometry) (image : List ℕ) (p id mark : ℕ) (o : Option ℕ) (none : Bool) → (mark == 0) ≡ none → mark ≡ mark_as g (live_at g image) o p → (if none then None else o) ≡ Some id →
     (o ≡ Some id) × (mark_by (has_of g (live_at g image) id) p ≢ 0)
 marked_parts g image p id mark o true zeroed is e = absurd (cc)

@@ -234,7 +234,7 @@ impl<'b, N: Nor> View<'b, N> {
     }
 
     // The name and the size in bytes that a header page tells.
-    pub(crate) fn head_of(&mut self, header: u16) -> Result<(Option<Name>, u32), Failed>
+    fn head_of(&mut self, header: u16) -> Result<(Option<Name>, u32), Failed>
         requires { header < page_count self.old.geometry }
         ensures cause { OnErr result (Rose (N.faults self.old.nor.now) (N.faults self.new.nor.now)) }
         ensures looks { OnlyLooks self.old self.new }

@@ -5,7 +5,7 @@ ghost use Rattle.image_model.specs.Live.{live_at, own};
 ghost use Rattle.image_model.specs.Files.{index_page};
 ghost use Rattle.image_model.specs.Tidy.{is_number};
 ghost use Rattle.flash_view.specs.Same.{OnlyLooks};
-ghost use Rattle.flash_view.specs.Marks.{mark_of, mark_for as the_mark_for, IsMarked, marked_id as the_marked_id, NextHead, nearer as the_nearer};
+ghost use Rattle.flash_view.specs.Marks.{mark_of, mark_for as the_mark_for, IsMarked, marked_id as the_marked_id, whole_at as the_whole_at, NextHead, nearer as the_nearer, same_name as the_same_name, table_id, cause_at};
 
 use crate::View;
 use image_model::Damage;
@@ -52,6 +52,18 @@ fn nearer(
         } else {
             Some((old, first))
         },
+    }
+}
+
+// The damage of a whole file of an id, by the id that the table has for its name.
+fn same_name(holder: Option<u16>, id: u16) -> Option<Damage>
+    ensures { result ≡ the_same_name holder id }
+{
+    let holder = holder.unwrap_or(0);
+    if holder == id {
+        None
+    } else {
+        Some(Damage::SameName(holder))
     }
 }
 
@@ -120,5 +132,64 @@ impl<'b, N: Nor> View<'b, N> {
             return Ok(None);
         }
         Ok(Some(self.lookup_entry(page)? % INDEX_BIT))
+    }
+
+    /// The id of the table's file of that name, by right marks: that of the first whole file of this name in the order
+    /// of header pages. Only pages of whole files are looked at.
+    pub fn find_name(&mut self, marks: &[u8], name: &[u8]) -> Result<Option<u16>, Failed>
+        requires room { page_count self.old.geometry ≤ length marks.now }
+        requires marked { N.tells self.old.nor.now → IsMarked self.old.geometry (N.bytes self.old.nor.now) marks.now }
+        ensures cause { OnErr result (Rose (N.faults self.old.nor.now) (N.faults self.new.nor.now)) }
+        ensures looks { OnlyLooks self.old self.new }
+        ensures told { N.tells self.old.nor.now → IfOk result (λ id. id ≡ table_id self.old.geometry (N.bytes self.old.nor.now) name.now) }
+    {
+        for page in 0..self.geometry.pages() as u16 {
+            if let Some(id) = self.whole_at(marks[page as usize], page, name)? {
+                return Ok(Some(id));
+            }
+        }
+        Ok(None)
+    }
+
+    // The id whose header page a page with this mark is, where its file is whole and has that name.
+    #[tactic(auto, using(crate::proofs::Holders::not_whole, crate::proofs::Holders::other_name, crate::proofs::Holders::whole_by_entry))]
+    fn whole_at(&mut self, mark: u8, page: u16, name: &[u8]) -> Result<Option<u16>, Failed>
+        requires page { page < page_count self.old.geometry }
+        requires marked { N.tells self.old.nor.now → mark ≡ mark_of self.old.geometry (N.bytes self.old.nor.now) page }
+        ensures cause { OnErr result (Rose (N.faults self.old.nor.now) (N.faults self.new.nor.now)) }
+        ensures looks { OnlyLooks self.old self.new }
+        ensures told { N.tells self.old.nor.now → IfOk result (λ id. id ≡ the_whole_at self.old.geometry (N.bytes self.old.nor.now) name.now page) }
+    {
+        if mark != WHOLE {
+            return Ok(None);
+        }
+        if !self.has_name(page, name)? {
+            return Ok(None);
+        }
+        Ok(Some(self.lookup_entry(page)? % INDEX_BIT))
+    }
+
+    /// Why an id with this header page has no file in the table, by right marks; none where it has one.
+    pub fn damage(
+        &mut self,
+        marks: &[u8],
+        id: u16,
+        header: u16,
+    ) -> Result<Option<Damage>, Failed>
+        requires room { page_count self.old.geometry ≤ length marks.now }
+        requires header { header < page_count self.old.geometry }
+        requires marked { N.tells self.old.nor.now → IsMarked self.old.geometry (N.bytes self.old.nor.now) marks.now }
+        requires first { N.tells self.old.nor.now → index_page self.old.geometry (own (live_at self.old.geometry (N.bytes self.old.nor.now)) id) 0 ≡ Some header }
+        ensures cause { OnErr result (Rose (N.faults self.old.nor.now) (N.faults self.new.nor.now)) }
+        ensures looks { OnlyLooks self.old self.new }
+        ensures told { N.tells self.old.nor.now → IfOk result (λ cause. cause ≡ cause_at self.old.geometry (N.bytes self.old.nor.now) id) }
+    {
+        if marks[header as usize] != WHOLE {
+            return self.judge(id, header);
+        }
+        let Some(name) = self.name_at(header)? else {
+            return Ok(Some(Damage::BadName));
+        };
+        Ok(same_name(self.find_name(marks, name.as_slice())?, id))
     }
 }
