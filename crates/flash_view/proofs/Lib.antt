@@ -10,3 +10,5 @@ pub mod Within
 pub mod Entries
 pub mod Spans
 pub mod Marking
+pub mod Nearest
+pub mod Holders
