@@ -9,7 +9,7 @@ ghost use Rattle.image_model.specs.Headers.{size_of};
 ghost use Rattle.image_model.specs.Live.{live_at, own};
 ghost use Rattle.image_model.specs.Files.{index_page};
 ghost use Rattle.flash_view.specs.Same.{OnlyLooks};
-ghost use Rattle.file_read.specs.Whole.{IsFileOf, IsWhole, IsRead, Reading};
+ghost use Rattle.file_read.specs.Whole.{IsFileOf, IsFileAt, IsWhole, IsRead, Reading};
 ghost use Rattle.file_read.specs.Spans.{index_span as the_index_span, named_page};
 ghost use Rattle.file_read.specs.Missing.{IsNoPage, IsMissing, HoldsOrFault};
 
@@ -226,20 +226,19 @@ fn size_in<N: Nor>(v: &mut View<'_, N>, header: u16) -> Result<u32, Failed>
     Ok(if size == UNDEFINED_SIZE { 0 } else { size })
 }
 
-// Reads what of the asked bytes there is, from a header page that was found.
-fn read_by<N: Nor>(
+/// The bytes of a whole file whose header page is known, as `read_at` gives them.
+pub fn read_from<N: Nor>(
     v: &mut View<'_, N>,
     id: u16,
     header: u16,
     at: u32,
     into: &mut [u8],
 ) -> Result<u32, StepErr>
-    requires header { header < page_count v.old.geometry }
+    requires { header < page_count v.old.geometry }
     ensures cause { IsErrOf result StepErr.DeviceFault → Rose (N.faults v.old.nor.now) (N.faults v.new.nor.now) }
     ensures looks { OnlyLooks v.old v.new }
     ensures missing { IfErr result (IsMissing id) }
-    ensures told { N.tells v.old.nor.now → (f : File) → IsFileOf v.old.geometry (N.bytes v.old.nor.now) id f →
-        index_page v.old.geometry (own (live_at v.old.geometry (N.bytes v.old.nor.now)) id) 0 ≡ Some header → HoldsOrFault result (λ n. IsRead f at into.old into.new n) }
+    ensures told { N.tells v.old.nor.now → (f : File) → IsFileAt v.old.geometry (N.bytes v.old.nor.now) id header f → HoldsOrFault result (λ n. IsRead f at into.old into.new n) }
 {
     match size_in(v, header) {
         Err(Failed) => Err(StepErr::DeviceFault),
@@ -271,6 +270,6 @@ pub fn read_at<N: Nor>(
     match v.find_index(id, 0) {
         Err(Failed) => Err(StepErr::DeviceFault),
         Ok(None) => Err(StepErr::Damaged(no_header(id))),
-        Ok(Some(header)) => read_by(v, id, header, at, into),
+        Ok(Some(header)) => read_from(v, id, header, at, into),
     }
 }
