@@ -1,12 +1,12 @@
 -- The table and the damaged files, by stepping over the ids that have header pages.
-use Rattle.std.proofs.Common.{◌≡◌, ◌≢◌, ℕ, zero, suc, ◌+◌, ◌<◌, ◌≤◌, ⊎_elim, nat_lt, not, Bool, true, false, List, [], ◌∷◌, refl, sym, ◌∙◌, ap, arith, Option, Some, None, if◌then◌else◌}
+use Rattle.std.proofs.Common.{◌≡◌, ◌≢◌, ℕ, zero, suc, ◌+◌, ◌<◌, ◌≤◌, ⊎_elim, nat_lt, not, ◌==◌, Bool, true, false, List, [], ◌∷◌, refl, sym, ◌∙◌, ap, arith, Option, Some, None, if◌then◌else◌}
 use Rattle.std.specs.Prelude.{Result, Ok, Err, find, is_some}
 use Rattle.std.specs.Option.{option_map}
 use Rattle.std.specs.List.{range_with_len, filter_map, cons_option}
-use Rattle.std.proofs.lemmas.Bool.{cases_lt, cases_eq, cases_Bool, lt-ltb, le-ltb}
+use Rattle.std.proofs.lemmas.Bool.{cases_lt, cases_eq, cases_Bool, lt-ltb, le-ltb, eq-eqb, ne_eqb}
 use Rattle.std.proofs.lemmas.Option.{none-some, same_Some}
 use Rattle.geometry.specs.declared.geometry.Geometry.{Geometry}
-use Rattle.table_model.specs.Table.{File, file_above}
+use Rattle.table_model.specs.Table.{File, file_of as file_of_id, file_above}
 use Rattle.image_model.specs.declared.damage.Damage.{Damage}
 use Rattle.image_model.specs.declared.damage.Damage.TheVariants.{SameName}
 use Rattle.image_model.specs.Places.{page_of}
@@ -16,7 +16,7 @@ use Rattle.image_model.specs.Files.{index_page, judged, judged_by, file_of, firs
 use Rattle.image_model.specs.Tables.{Found, has_of, ids, counts, counted, records, table_of, holder, damage, damages, damaged_of}
 use Rattle.flash_view.specs.Found.{has_header, IsNextId, IsLastId}
 use Rattle.flash_view.specs.Marks.{NextHead, cause_at}
-use Rattle.flash_view.specs.Listing.{IsNextFile, damaged_above}
+use Rattle.flash_view.specs.Listing.{IsNextFile, IsTheFile, damaged_above}
 use Rattle.flash_view.proofs.Marking.{has_at, has_none}
 use Rattle.flash_view.proofs.Nearest.{header_parts}
 use Rattle.flash_view.proofs.Holders.{has_parts, head_within}
@@ -47,6 +47,23 @@ module _ {Y : Type 0} (key : Y → ℕ) (c : ℕ → Option Y) (keyed : (j : ℕ
       ⊎_elim
       (λ (here : a ≡ k). let at : c a ≡ Some y = ap c here ∙ is in let key_is : key y ≡ k = keyed k y is in rw at (rw (lt-ltb after (key y) (omega (arith, key_is))) refl))
       (λ (later : a ≡ k → ⊥). skip a n (λ less. none a less (omega (arith, later))) ∙ next_some (a + 1) n k y (omega (arith, later)) (omega arith) above is none)
+      (cases_eq a k)
+
+-- the element of a number, and of no other
+module _ {Y : Type 0} (key : Y → ℕ) (c : ℕ → Option Y) (keyed : (j : ℕ) (y : Y) → c j ≡ Some y → key y ≡ j) (k : ℕ) where
+  miss : (a n : ℕ) → ((y : Y) → c a ≡ Some y → key y ≢ k) → find (λ y. key y == k) (cons_option (c a) (filter_map c (range_with_len (a + 1) n))) ≡ find (λ y. key y == k) (filter_map c (range_with_len (a + 1) n))
+  miss a n other = find_skip (λ (y : Y). key y == k) (c a) (filter_map c (range_with_len (a + 1) n)) (λ y is. ne_eqb (key y) k (other y is))
+
+  pub of_none : (a n : ℕ) → c k ≡ None → find (λ y. key y == k) (filter_map c (range_with_len a n)) ≡ None
+  of_none a zero none = refl
+  of_none a (suc n) none = miss a n (λ y is e. let at : a ≡ k = sym (keyed a y is) ∙ e in none-some y (sym none ∙ ap c (sym at) ∙ is)) ∙ of_none (a + 1) n none
+
+  pub of_some : (a n : ℕ) (y : Y) → a ≤ k → k < a + n → c k ≡ Some y → find (λ y. key y == k) (filter_map c (range_with_len a n)) ≡ Some y
+  of_some a zero y low high is = absurd (omega arith)
+  of_some a (suc n) y low high is =
+      ⊎_elim
+      (λ (here : a ≡ k). let at : c a ≡ Some y = ap c here ∙ is in rw at (rw (eq-eqb (key y) k (keyed k y is)) refl))
+      (λ (later : a ≡ k → ⊥). miss a n (λ x has e. later (sym (keyed a x has) ∙ e)) ∙ of_some (a + 1) n y (omega (arith, later)) (omega arith) is)
       (cases_eq a k)
 
 -- ---- what the table and the damaged files have of an id
@@ -263,6 +280,28 @@ module _ (g : Geometry) (image : List ℕ) (after : ℕ) where
       (λ (past' : at < j). damage_none g image j (past g image at j last past'))
       (λ (before : j ≤ at). was.none j less before)
       (cases_lt at j)))
+
+-- ---- the file of an id
+
+pub file_headless : (g : Geometry) (image : List ℕ) (id : ℕ) → None ≡ index_page g (own (live_at g image) id) 0 → file_of_id id (table_of g image) ≡ None
+unfolding file_of_id table_of records file_at
+file_headless g image id none = of_none (λ (f : File). f.id) (file_at g image) (file_at-keyed g image) id 1 0x7FFF (file_none g image id (has_none g (live_at g image) id (sym none)))
+
+pub file_damaged : (g : Geometry) (image : List ℕ) (id page : ℕ) (cause : Damage) → Some page ≡ index_page g (own (live_at g image) id) 0 → Some cause ≡ cause_at g image id → file_of_id id (table_of g image) ≡ None
+unfolding file_of_id table_of records file_at
+file_damaged g image id page cause at some =
+    let here = damaged_here g image id page cause (sym at) some in
+    of_none (λ (f : File). f.id) (file_at g image) (file_at-keyed g image) id 1 0x7FFF here.0
+
+pub file_whole : (g : Geometry) (image : List ℕ) (id page : ℕ) → Some page ≡ index_page g (own (live_at g image) id) 0 → None ≡ cause_at g image id → IsTheFile g image id page
+unfolding file_of_id table_of records file_at
+file_whole g image id page at none =
+    let here = whole_here g image id page (sym at) none in
+    record {
+      file = here.0;
+      listed = of_some (λ (f : File). f.id) (file_at g image) (file_at-keyed g image) id 1 0x7FFF here.0 here.4 (omega (arith, here.5)) here.2;
+      has = here.1;
+    }
 
 -- ---- what an optional value is
 

@@ -3,7 +3,7 @@ ghost use Rattle.geometry.specs.Numbers.{page_count};
 ghost use Rattle.nor_core.specs.Count.{Rose};
 ghost use Rattle.flash_view.specs.Same.{OnlyLooks};
 ghost use Rattle.flash_view.specs.Marks.{IsMarked};
-ghost use Rattle.flash_view.specs.Listing.{NextFile, damaged_above};
+ghost use Rattle.flash_view.specs.Listing.{NextFile, TheFile, damaged_above};
 
 use crate::View;
 use image_model::Damage;
@@ -27,6 +27,24 @@ impl<'b, N: Nor> View<'b, N> {
             at = id;
         }
         Ok(None)
+    }
+
+    /// The header page of the table's file of an id, by right marks.
+    pub fn find_file(&mut self, marks: &[u8], id: u16) -> Result<Option<u16>, Failed>
+        requires room { page_count self.old.geometry ≤ length marks.now }
+        requires marked { N.tells self.old.nor.now → IsMarked self.old.geometry (N.bytes self.old.nor.now) marks.now }
+        ensures cause { OnErr result (Rose (N.faults self.old.nor.now) (N.faults self.new.nor.now)) }
+        ensures looks { OnlyLooks self.old self.new }
+        ensures inside { IfOk result (λ page. IfSome page (λ p. p < page_count self.old.geometry)) }
+        ensures told { N.tells self.old.nor.now → IfOk result (λ page. TheFile self.old.geometry (N.bytes self.old.nor.now) id page) }
+    {
+        let Some(header) = self.find_index(id, 0)? else {
+            return Ok(None);
+        };
+        Ok(match self.damage(marks, id, header)? {
+            Some(_) => None,
+            None => Some(header),
+        })
     }
 
     /// The damaged file of the least id above `after`, by right marks, with the first cause of its damage.
