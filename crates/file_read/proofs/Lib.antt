@@ -1,5 +1,5 @@
-pub mod Seen
 pub mod Bytes
 pub mod Names
 pub mod Pieces
 pub mod Going
+pub mod Stats

@@ -22,7 +22,7 @@ use Rattle.image_laws.proofs.Matching.{length-pieces}
 use Rattle.image_laws.proofs.Reindexed.{judged-parts}
 use Rattle.image_laws.proofs.Serving.{ceil-enough}
 use Rattle.image_laws.proofs.Wanted.{judged-whole}
-use Rattle.file_read.specs.Whole.{IsFileOf, IsRead, Reading}
+use Rattle.file_read.specs.Whole.{IsFileOf, IsFileAt, IsRead, Reading}
 use Rattle.file_read.specs.Spans.{index_span, named_page}
 use Rattle.file_read.proofs.Names.{own_page, named_is, index_there}
 use Rattle.file_read.proofs.Bytes.{in_piece, before_cut, in_body, read_more}
@@ -213,3 +213,17 @@ read_none f at into past =
     let none : drop at f.bytes ≡ [] = drop_all at f.bytes past in
     let front : bytes_at (length into) at f ≡ [] = ap (λ (xs : List ℕ). take (length into) xs) none ∙ take_all (length into) [] (omega arith) in
     record { count = sym (ap length front); bytes = sym front; rest = refl }
+
+-- ---- the header page is known
+
+pub file_at : (g : Geometry) (image : List ℕ) (id header : ℕ) (f : File) → IsFileAt g image id header f → IsFileOf g image id f
+file_at g image id header f file = record { page = header; is = file.is }
+
+pub first_at : (g : Geometry) (image : List ℕ) (id header : ℕ) (f : File) → IsFileAt g image id header f → index_page g (own (live_at g image) id) 0 ≡ Some header
+first_at g image id header f file = (found_parts g (own (live_at g image) id) id header (Ok f) file.is).1
+
+pub at_first : (g : Geometry) (image : List ℕ) (id header : ℕ) (f : File) → IsFileOf g image id f → index_page g (own (live_at g image) id) 0 ≡ Some header → IsFileAt g image id header f
+at_first g image id header f file first =
+    let w = found_parts g (own (live_at g image) id) id file.page (Ok f) file.is in
+    let same : file.page ≡ header = same_Some file.page header (sym w.1 ∙ first) in
+    record { is = rw same at file.is }

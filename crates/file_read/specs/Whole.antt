@@ -11,6 +11,10 @@ pub record IsFileOf (g : Geometry) (image : List ℕ) (id : ℕ) (f : File) : Ty
   pub page : ℕ
   pub is : found g (own (live_at g image) id) id ≡ Some (page, Ok f)
 
+-- the same with that header page
+pub record IsFileAt (g : Geometry) (image : List ℕ) (id page : ℕ) (f : File) : Type 0 where
+  pub is : found g (own (live_at g image) id) id ≡ Some (page, Ok f)
+
 -- the id is whole
 pub record IsWhole (g : Geometry) (image : List ℕ) (id : ℕ) : Type 0 where
   pub file : File

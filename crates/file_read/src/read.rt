@@ -9,11 +9,11 @@ ghost use Rattle.image_model.specs.Headers.{size_of};
 ghost use Rattle.image_model.specs.Live.{live_at, own};
 ghost use Rattle.image_model.specs.Files.{index_page};
 ghost use Rattle.flash_view.specs.Same.{OnlyLooks};
-ghost use Rattle.file_read.specs.Whole.{IsFileOf, IsWhole, IsRead, Reading};
+ghost use Rattle.file_read.specs.Whole.{IsFileOf, IsFileAt, IsWhole, IsRead, Reading};
 ghost use Rattle.file_read.specs.Spans.{index_span as the_index_span, named_page};
 ghost use Rattle.file_read.specs.Missing.{IsNoPage, IsMissing, HoldsOrFault};
 
-use crate::pages::{entry_place, find_index, index_span, is_data_of};
+use crate::pages::{entry_place, index_span};
 use flash_view::{StepErr, View};
 use nor_core::{Failed, Nor, NorState};
 use page_layout::{INDEX_BIT, UNDEFINED_SIZE};
@@ -68,7 +68,7 @@ fn find_data<N: Nor>(
 {
     let at = entry_place(&v.geometry, span);
     let page = v.word_in(index, at)?;
-    Ok(if is_data_of(v, page, id, span)? {
+    Ok(if v.is_data_of(page, id, span)? {
         Some(page)
     } else {
         None
@@ -181,7 +181,7 @@ fn index_for<N: Nor>(
     if which == 0 {
         return Ok(header);
     }
-    match find_index(v, id, which) {
+    match v.find_span(id, which) {
         Err(Failed) => Err(StepErr::DeviceFault),
         Ok(None) => Err(StepErr::Damaged(no_data(id, span))),
         Ok(Some(page)) => Ok(page),
@@ -226,20 +226,19 @@ fn size_in<N: Nor>(v: &mut View<'_, N>, header: u16) -> Result<u32, Failed>
     Ok(if size == UNDEFINED_SIZE { 0 } else { size })
 }
 
-// Reads what of the asked bytes there is, from a header page that was found.
-fn read_by<N: Nor>(
+/// The bytes of a whole file whose header page is known, as `read_at` gives them.
+pub fn read_from<N: Nor>(
     v: &mut View<'_, N>,
     id: u16,
     header: u16,
     at: u32,
     into: &mut [u8],
 ) -> Result<u32, StepErr>
-    requires header { header < page_count v.old.geometry }
+    requires { header < page_count v.old.geometry }
     ensures cause { IsErrOf result StepErr.DeviceFault → Rose (N.faults v.old.nor.now) (N.faults v.new.nor.now) }
     ensures looks { OnlyLooks v.old v.new }
     ensures missing { IfErr result (IsMissing id) }
-    ensures told { N.tells v.old.nor.now → (f : File) → IsFileOf v.old.geometry (N.bytes v.old.nor.now) id f →
-        index_page v.old.geometry (own (live_at v.old.geometry (N.bytes v.old.nor.now)) id) 0 ≡ Some header → HoldsOrFault result (λ n. IsRead f at into.old into.new n) }
+    ensures told { N.tells v.old.nor.now → (f : File) → IsFileAt v.old.geometry (N.bytes v.old.nor.now) id header f → HoldsOrFault result (λ n. IsRead f at into.old into.new n) }
 {
     match size_in(v, header) {
         Err(Failed) => Err(StepErr::DeviceFault),
@@ -268,9 +267,9 @@ pub fn read_at<N: Nor>(
     ensures undamaged { N.tells v.old.nor.now → IfErr result (λ why. why ≡ StepErr.DeviceFault) }
     ensures told { N.tells v.old.nor.now → (f : File) → IsFileOf v.old.geometry (N.bytes v.old.nor.now) id f → IfOk result (λ n. IsRead f at into.old into.new n) }
 {
-    match find_index(v, id, 0) {
+    match v.find_index(id, 0) {
         Err(Failed) => Err(StepErr::DeviceFault),
         Ok(None) => Err(StepErr::Damaged(no_header(id))),
-        Ok(Some(header)) => read_by(v, id, header, at, into),
+        Ok(Some(header)) => read_from(v, id, header, at, into),
     }
 }

@@ -1,4 +1,5 @@
 pub mod Inside
+pub mod InPage
 pub mod Looking
 pub mod Parts
 pub mod Heads

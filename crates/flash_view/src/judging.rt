@@ -1,4 +1,4 @@
-ghost use Rattle.std.specs.Prelude.{◌≡◌, ◌+◌, ◌-◌, ◌*◌, ◌/◌, ◌<◌, ◌≤◌, ◌%◌, ◌^◌, ◌==◌, ◌&&◌, not, min, List, ℕ, OnErr, IfOk, is_some};
+ghost use Rattle.std.specs.Prelude.{◌≡◌, ◌+◌, ◌-◌, ◌*◌, ◌/◌, ◌<◌, ◌≤◌, ◌%◌, ◌^◌, ◌==◌, ◌&&◌, not, min, List, ℕ, OnErr, IfOk, IsTrue, is_some};
 ghost use Rattle.geometry.specs.Numbers.{page_count, head_slots, span_slots};
 ghost use Rattle.nor_core.specs.Count.{Rose};
 ghost use Rattle.page_layout.specs.Layout.{names_index};
@@ -116,12 +116,13 @@ impl<'b, N: Nor> View<'b, N> {
         })
     }
 
-    // Whether a page is a live data page of an object and a span. The number may be past the volume's end. The page's
-    // header is read only where its entry is that of the object's data pages.
+    /// Whether a page is a live data page of an object and a span. The number may be past the volume's end. The page's
+    /// header is read only where its entry is that of the object's data pages.
     #[tactic(auto, using(crate::proofs::Spans::data_seen, crate::proofs::Spans::data_unseen, crate::proofs::Spans::data_beyond, crate::proofs::Spans::passed_data))]
-    fn is_data_of(&mut self, page: u16, id: u16, span: u32) -> Result<bool, Failed>
+    pub fn is_data_of(&mut self, page: u16, id: u16, span: u32) -> Result<bool, Failed>
         ensures cause { OnErr result (Rose (N.faults self.old.nor.now) (N.faults self.new.nor.now)) }
         ensures looks { OnlyLooks self.old self.new }
+        ensures inside { IfOk result (λ holds. IsTrue holds → page < page_count self.old.geometry) }
         ensures told { N.tells self.old.nor.now → IfOk result (λ holds. holds ≡ is_some (data_of (own (live_at self.old.geometry (N.bytes self.old.nor.now)) id page) span)) }
         ensures work { self.new.work.now ≡ self.old.work.now }
     {

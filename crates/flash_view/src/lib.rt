@@ -7,6 +7,7 @@ mod listing;
 mod live;
 mod marks;
 mod places;
+mod through;
 mod view;
 
 pub use kinds::{Kind, StepErr};

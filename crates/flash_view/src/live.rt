@@ -140,6 +140,7 @@ impl<'b, N: Nor> View<'b, N> {
     }
 
     /// The index page of an object and a span: the first live one in page order. Span 0 is the header page.
+    #[tactic(auto, using(crate::proofs::Looking::looks_then))]
     pub fn find_index(&mut self, id: u16, span: u16) -> Result<Option<u16>, Failed>
         ensures cause { OnErr result (Rose (N.faults self.old.nor.now) (N.faults self.new.nor.now)) }
         ensures looks { OnlyLooks self.old self.new }
@@ -150,8 +151,8 @@ impl<'b, N: Nor> View<'b, N> {
         self.find_span(id, u32::from(span))
     }
 
-    // The same for any span: those above 65535 have no page.
-    pub(crate) fn find_span(&mut self, id: u16, span: u32) -> Result<Option<u16>, Failed>
+    /// The index page of an object and a span as `find_index` gives it, for any span: those above 65,535 have no page.
+    pub fn find_span(&mut self, id: u16, span: u32) -> Result<Option<u16>, Failed>
         ensures cause { OnErr result (Rose (N.faults self.old.nor.now) (N.faults self.new.nor.now)) }
         ensures looks { OnlyLooks self.old self.new }
         ensures inside { IfOk result (λ page. IfSome page (λ p. p < page_count self.old.geometry)) }
@@ -181,6 +182,7 @@ impl<'b, N: Nor> View<'b, N> {
     }
 
     /// The id whose header page holds that name: the first live one in page order, whether its file is whole or damaged.
+    #[tactic(auto, using(crate::proofs::Looking::looks_then))]
     pub fn find_header_name(&mut self, name: &[u8]) -> Result<Option<u16>, Failed>
         ensures cause { OnErr result (Rose (N.faults self.old.nor.now) (N.faults self.new.nor.now)) }
         ensures looks { OnlyLooks self.old self.new }
@@ -195,7 +197,7 @@ impl<'b, N: Nor> View<'b, N> {
     }
 
     // The id of a live header page that holds that name.
-    #[tactic(auto, using(crate::proofs::Names::named_by, crate::proofs::Names::unnamed_by))]
+    #[tactic(auto, using(crate::proofs::Names::named_by, crate::proofs::Names::unnamed_by, crate::proofs::Looking::looks_then))]
     fn named_id(&mut self, page: u16, name: &[u8]) -> Result<Option<u16>, Failed>
         requires { page < page_count self.old.geometry }
         ensures cause { OnErr result (Rose (N.faults self.old.nor.now) (N.faults self.new.nor.now)) }

@@ -2,13 +2,15 @@ use Rattle.std.proofs.Common.{◌≡◌, ◌+◌, ◌-◌, ◌<◌, ◌≤◌, l
 use Rattle.table_model.specs.Files.{bytes_at}
 use Rattle.std.proofs.lemmas.Grind.{common_steps}
 use Rattle.image_model.specs.Places.{IsImage}
-use Rattle.file_read.proofs.Pieces.{size_told, read_front, read_none}
+use Rattle.file_read.proofs.Pieces.{file_at, first_at, size_told, read_front, read_none}
 use Rattle.file_read.proofs.Going.{passed}
-use Rattle.file_read.proofs.read.read_by.Goals as goal
+use Rattle.file_read.proofs.read.read_from.Goals as goal
 
 pub returns-in-Ok-clause-told : goal.returns-in-Ok-clause-told
-returns-in-Ok-clause-told g c = λ tells f file first.
+returns-in-Ok-clause-told g c = λ tells f given.
     let view = c.args.v.now in
+    let file = file_at view.geometry (g.N.NorState.bytes view.nor.now) c.args.id c.args.header f given in
+    let first = first_at view.geometry (g.N.NorState.bytes view.nor.now) c.args.id c.args.header f given in
     let image = g.N.NorState.bytes view.nor.now in
     let bytes = g.met.N.Nor.sized view.nor.now tells in
     let whole : IsImage view.geometry image = record { len = omega (arith, bytes, view.volume) } in
@@ -16,8 +18,10 @@ returns-in-Ok-clause-told g c = λ tells f file first.
     read_none f c.args.at c.args.into.now (omega (arith, size, c.if-at-size.true))
 
 pub returns-in_err-read_inside-in-Ok-2-clause-told : goal.returns-in_err-read_inside-in-Ok-2-clause-told
-returns-in_err-read_inside-in-Ok-2-clause-told g c = λ tells f file first.
+returns-in_err-read_inside-in-Ok-2-clause-told g c = λ tells f given.
     let view = c.args.v.now in
+    let file = file_at view.geometry (g.N.NorState.bytes view.nor.now) c.args.id c.args.header f given in
+    let first = first_at view.geometry (g.N.NorState.bytes view.nor.now) c.args.id c.args.header f given in
     let image = g.N.NorState.bytes view.nor.now in
     let bytes = g.met.N.Nor.sized view.nor.now tells in
     let whole : IsImage view.geometry image = record { len = omega (arith, bytes, view.volume) } in
@@ -27,8 +31,10 @@ returns-in_err-read_inside-in-Ok-2-clause-told g c = λ tells f file first.
     passed c.in_err-read_inside-in-Ok-2.field-0.0 c.from_residual.result _ _ c.from_residual.ensures.0 c.from_residual.ensures.1 told
 
 pub returns-in_ok-read_inside-in-Ok-2-clause-told : goal.returns-in_ok-read_inside-in-Ok-2-clause-told
-returns-in_ok-read_inside-in-Ok-2-clause-told g c = λ tells f file first.
+returns-in_ok-read_inside-in-Ok-2-clause-told g c = λ tells f given.
     let view = c.args.v.now in
+    let file = file_at view.geometry (g.N.NorState.bytes view.nor.now) c.args.id c.args.header f given in
+    let first = first_at view.geometry (g.N.NorState.bytes view.nor.now) c.args.id c.args.header f given in
     let image = g.N.NorState.bytes view.nor.now in
     let bytes = g.met.N.Nor.sized view.nor.now tells in
     let whole : IsImage view.geometry image = record { len = omega (arith, bytes, view.volume) } in
