@@ -1,2 +1,3 @@
 pub mod Units
 mod Counting
+pub mod Stepping

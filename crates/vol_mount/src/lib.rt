@@ -1,7 +1,8 @@
-//! Formatting and mounting.
+//! Formatting and mounting, and reading a volume of any image.
 #![tactic(auto)]
 
 mod formatting;
+mod heads;
 mod lent;
 mod mounting;
 
