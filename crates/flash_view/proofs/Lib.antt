@@ -1,4 +1,5 @@
 pub mod Inside
+pub mod InPage
 pub mod Looking
 pub mod Parts
 pub mod Heads
@@ -9,3 +10,5 @@ pub mod Within
 pub mod Entries
 pub mod Spans
 pub mod Marking
+pub mod Nearest
+pub mod Holders

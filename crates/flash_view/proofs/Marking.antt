@@ -3,7 +3,7 @@ use Rattle.std.proofs.Common.{◌≡◌, ℕ, zero, suc, ◌+◌, ◌<◌, ◌�
 use Rattle.std.specs.Prelude.{Option, Some, None, Result, Ok, Err, find, is_none, is_some, option_and_then}
 use Rattle.std.specs.Option.{option_map}
 use Rattle.std.specs.List.{range_with_len}
-use Rattle.std.proofs.lemmas.Bool.{cases_Bool, eqb-true, eq-eqb}
+use Rattle.std.proofs.lemmas.Bool.{cases_Bool, cases_eq, eqb-true, eq-eqb}
 use Rattle.std.proofs.lemmas.Option.{some_pair_parts}
 use Rattle.geometry.specs.declared.geometry.Geometry.{Geometry}
 use Rattle.table_model.specs.Table.{File}
@@ -34,7 +34,7 @@ number_is : (o : Option ℕ) (p : ℕ) → is_number o p ≡ true → o ≡ Some
 number_is None p e = absurd (cc)
 number_is (Some q) p e = ap (λ (x : ℕ). Some x) (eqb-true q p e)
 
-other_mark : (r : Result File Damage) (q p : ℕ) → (q == p) ≡ false → mark_by (Some (q, r)) p ≡ 0
+pub other_mark : (r : Result File Damage) (q p : ℕ) → (q == p) ≡ false → mark_by (Some (q, r)) p ≡ 0
 other_mark (Ok f) q p other = rw other refl
 other_mark (Err e) q p other = rw other refl
 
@@ -43,7 +43,7 @@ not_mark : (g : Geometry) (image : List ℕ) (id p : ℕ) (o : Option ℕ) → i
 not_mark g image id p None is other = rw (has_none g (live_at g image) id is) refl
 not_mark g image id p (Some q) is other = rw (has_at g image id q is) (other_mark (judged g (own (live_at g image) id) id (page_of g image q)) q p other)
 
-first_mark : (r : Result File Damage) (p : ℕ) → mark_by (Some (p, r)) p ≡ mark_for (cause_of r)
+pub first_mark : (r : Result File Damage) (p : ℕ) → mark_by (Some (p, r)) p ≡ mark_for (cause_of r)
 first_mark (Ok f) p = rw (eq-eqb p p refl) refl
 first_mark (Err e) p = rw (eq-eqb p p refl) refl
 
@@ -63,3 +63,22 @@ unfolding mark_of
 mark_first g image p id first cause is told same judging =
     let at : index_page g (own (live_at g image) id) 0 ≡ Some p = sym told ∙ number_is first p same in
     rw (sym is) (rw (has_at g image id p at) (ap mark_for judging ∙ sym (first_mark (judged g (own (live_at g image) id) id (page_of g image p)) p)))
+
+-- ---- the first number that passes: it passes, it lies in the range, and none before it passes
+
+pub find_parts : (t : ℕ → Bool) (a n k : ℕ) → find t (range_with_len a n) ≡ Some k → (t k ≡ true) × (a ≤ k) × (k < a + n) × ((i : ℕ) → a ≤ i → i < k → t i ≡ false)
+find_parts t a zero k e = absurd (cc)
+find_parts t a (suc n) k e =
+    ⊎_elim
+    (λ (here : t a ≡ true). let same : Some a ≡ Some k = rw here at e in let at : a ≡ k = cc in (rw at at here, omega arith, omega arith, λ i low less. absurd (omega arith)))
+    (λ (later : t a ≡ false).
+    let w = find_parts t (a + 1) n k (rw later at e) in (
+      w.0,
+      omega (arith, w.1),
+      omega (arith, w.2),
+      λ i low less. ⊎_elim
+          (λ (x : a ≡ i). rw x at later)
+          (λ (x : a ≡ i → ⊥). w.3 i (omega (arith, x)) less)
+          (cases_eq a i),
+    ))
+    (cases_Bool (t a))

@@ -1,10 +1,11 @@
 -- Marks of pages: a byte for each, that tells the header pages of whole and of damaged files.
-use Rattle.std.specs.Prelude.{◌≡◌, ℕ, ◌<◌, List, ◌==◌, ◌&&◌, Option, Some, None, Result, Ok, Err, find, slice_index, if◌then◌else◌}
+use Rattle.std.specs.Prelude.{◌≡◌, ℕ, ◌<◌, List, ◌==◌, ◌&&◌, Option, Some, None, Result, Ok, Err, find, nat_lt, unwrap_or, slice_index, if◌then◌else◌}
 use Rattle.std.specs.Option.{option_map}
 use Rattle.geometry.specs.declared.geometry.Geometry.{Geometry}
 use Rattle.geometry.specs.Numbers.{page_count}
 use Rattle.table_model.specs.Table.{File}
 use Rattle.image_model.specs.declared.damage.Damage.{Damage}
+use Rattle.image_model.specs.declared.damage.Damage.TheVariants.{SameName}
 use Rattle.image_model.specs.Places.{page_of}
 use Rattle.image_model.specs.Headers.{name_of}
 use Rattle.image_model.specs.Live.{Live, live_at, own}
@@ -49,9 +50,19 @@ abbrev pub NextHead : Geometry → List ℕ → ℕ → Option (ℕ × ℕ) → 
 NextHead g image after None = IsLastId g image after
 NextHead g image after (Some (id, page)) = IsNextId g image after id × (index_page g (own (live_at g image) id) 0 ≡ Some page)
 
+-- the nearer of two header pages by their ids, where the second counts if its id is above `after` and less
+abbrev pub nearer : ℕ → Option (ℕ × ℕ) → Option ℕ → ℕ → Option (ℕ × ℕ)
+nearer after least None page = least
+nearer after None (Some id) page = if nat_lt after id then Some (id, page) else None
+nearer after (Some (old, first)) (Some id) page = if nat_lt after id then (if nat_lt id old then Some (id, page) else Some (old, first)) else Some (old, first)
+
 -- the id of the table's file of that name
 unfoldable pub table_id : Geometry → List ℕ → List ℕ → Option ℕ
 table_id g image name = find (λ id. is_named (counted (has_of g (live_at g image)) 0x7FFF (has_of g (live_at g image) id)) name) (ids 0x7FFF)
+
+-- the damage of a whole file of an id, by the id that the table has for its name
+abbrev pub same_name : Option ℕ → ℕ → Option Damage
+same_name holder id = if unwrap_or holder 0 == id then None else Some (SameName (unwrap_or holder 0))
 
 -- why an id that has a header page has no file in the table, where it has none
 unfoldable pub cause_at : Geometry → List ℕ → ℕ → Option Damage

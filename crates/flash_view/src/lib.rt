@@ -6,6 +6,7 @@ mod kinds;
 mod live;
 mod marks;
 mod places;
+mod through;
 mod view;
 
 pub use kinds::{Kind, StepErr};

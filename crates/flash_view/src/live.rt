@@ -16,6 +16,7 @@ use crate::View;
 use crate::places::{block_of, is_entry_page};
 use nor_core::{Failed, Nor, NorState};
 use page_layout::{FREE, INDEX_BIT, PageHeader, name_of};
+use table_model::Name;
 
 // The lesser of two ids, of which the second counts only where it is above `after`.
 fn lower(after: u16, least: Option<u16>, found: Option<u16>) -> Option<u16>
@@ -139,6 +140,7 @@ impl<'b, N: Nor> View<'b, N> {
     }
 
     /// The index page of an object and a span: the first live one in page order. Span 0 is the header page.
+    #[tactic(auto, using(crate::proofs::Looking::looks_then))]
     pub fn find_index(&mut self, id: u16, span: u16) -> Result<Option<u16>, Failed>
         ensures cause { OnErr result (Rose (N.faults self.old.nor.now) (N.faults self.new.nor.now)) }
         ensures looks { OnlyLooks self.old self.new }
@@ -180,6 +182,7 @@ impl<'b, N: Nor> View<'b, N> {
     }
 
     /// The id whose header page holds that name: the first live one in page order, whether its file is whole or damaged.
+    #[tactic(auto, using(crate::proofs::Looking::looks_then))]
     pub fn find_header_name(&mut self, name: &[u8]) -> Result<Option<u16>, Failed>
         ensures cause { OnErr result (Rose (N.faults self.old.nor.now) (N.faults self.new.nor.now)) }
         ensures looks { OnlyLooks self.old self.new }
@@ -194,7 +197,7 @@ impl<'b, N: Nor> View<'b, N> {
     }
 
     // The id of a live header page that holds that name.
-    #[tactic(auto, using(crate::proofs::Names::named_by, crate::proofs::Names::unnamed_by))]
+    #[tactic(auto, using(crate::proofs::Names::named_by, crate::proofs::Names::unnamed_by, crate::proofs::Looking::looks_then))]
     fn named_id(&mut self, page: u16, name: &[u8]) -> Result<Option<u16>, Failed>
         requires { page < page_count self.old.geometry }
         ensures cause { OnErr result (Rose (N.faults self.old.nor.now) (N.faults self.new.nor.now)) }
@@ -229,15 +232,25 @@ impl<'b, N: Nor> View<'b, N> {
         })
     }
 
+    // The name that a page tells in the field of header pages, where it tells one.
+    pub(crate) fn name_at(&mut self, page: u16) -> Result<Option<Name>, Failed>
+        requires { page < page_count self.old.geometry }
+        ensures cause { OnErr result (Rose (N.faults self.old.nor.now) (N.faults self.new.nor.now)) }
+        ensures looks { OnlyLooks self.old self.new }
+        ensures told { N.tells self.old.nor.now → IfOk result (λ name. name ≡ the_name_of (page_of self.old.geometry (N.bytes self.old.nor.now) page)) }
+    {
+        self.fetch(page)?;
+        Ok(name_of(self.fetched()))
+    }
+
     // Whether a page holds that name, in the field of header pages.
-    fn has_name(&mut self, page: u16, name: &[u8]) -> Result<bool, Failed>
+    pub(crate) fn has_name(&mut self, page: u16, name: &[u8]) -> Result<bool, Failed>
         requires { page < page_count self.old.geometry }
         ensures cause { OnErr result (Rose (N.faults self.old.nor.now) (N.faults self.new.nor.now)) }
         ensures looks { OnlyLooks self.old self.new }
         ensures told { N.tells self.old.nor.now → IfOk result (λ has. has ≡ is_name (the_name_of (page_of self.old.geometry (N.bytes self.old.nor.now) page)) name.now) }
     {
-        self.fetch(page)?;
-        Ok(match name_of(self.fetched()) {
+        Ok(match self.name_at(page)? {
             Some(found) => found.as_slice() == name,
             None => false,
         })
