@@ -1,3 +1,2 @@
 pub mod Units
 mod Counting
-pub mod Stepping

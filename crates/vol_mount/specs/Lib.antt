@@ -2,3 +2,4 @@ pub mod Goes
 pub mod Mounts
 pub mod Needs
 pub mod Reads
+pub mod Readers

@@ -1,32 +1,23 @@
 -- What a reader answers, on any image.
-use Rattle.std.specs.Prelude.{◌≡◌, ◌<◌, ◌≤◌, ℕ, List, Bool, true, nat_lt, Option, Some, None, Result, Ok, Err, find}
+use Rattle.std.specs.Prelude.{◌≡◌, ◌≤◌, ℕ, List, length, Option, Some, None, Result, Ok, Err}
 use Rattle.geometry.specs.declared.geometry.Geometry.{Geometry}
+use Rattle.nor_core.specs.declared.state.NorState.{Ghosts as NorOf}
+use Rattle.nor_core.specs.Device.{OnlyReads}
 use Rattle.table_model.specs.declared.error.FsErr.{FsErr}
 use Rattle.table_model.specs.declared.error.FsErr.TheVariants.{NotFound, DeviceFault, Damaged}
-use Rattle.table_model.specs.Table.{File, file_of, file_above}
-use Rattle.image_model.specs.declared.damage.Damage.{Damage}
-use Rattle.image_model.specs.Live.{live_at, own}
-use Rattle.image_model.specs.Files.{index_page}
-use Rattle.image_model.specs.Tables.{table_of, damaged_of}
-use Rattle.flash_view.specs.Found.{IsNextId, IsLastId}
-use Rattle.flash_view.specs.Marks.{cause_at}
-use Rattle.file_read.specs.Whole.{IsFileAt, IsRead}
+use Rattle.table_model.specs.Table.{File, file_of}
+use Rattle.image_model.specs.Tables.{table_of}
+use Rattle.page_cache.specs.Kept.{IsKept, FewReads}
+use Rattle.file_read.specs.Whole.{IsRead}
 use Rattle.file_read.specs.Missing.{IsNoPage}
-use Rattle.vol_mount.specs.declared.heads.Head.{Head}
 
--- the damaged file of the least id above that one, with its cause
-unfoldable pub damage_above : ℕ → List (ℕ × Damage) → Option (ℕ × Damage)
-damage_above after files = find (λ d. nat_lt after d.0) files
-
--- the next id that has a header page, with that page and the cause for which its file isn't in the table; or none is left
-abbrev pub NextCause : Geometry → List ℕ → ℕ → Option Head → Type 0
-NextCause g image after None = IsLastId g image after
-NextCause g image after (Some head) = IsNextId g image after head.id × (index_page g (own (live_at g image) head.id) 0 ≡ Some head.page) × (head.cause ≡ cause_at g image head.id)
-
--- the table's file of the least id above that one, by its id and its header page; or there is none
-abbrev pub NextFile : Geometry → List ℕ → ℕ → Option (ℕ × ℕ) → Type 0
-NextFile g image after None = file_above after (table_of g image) ≡ None
-NextFile g image after (Some (id, page)) = (f : File) × (file_above after (table_of g image) ≡ Some f) × IsFileAt g image id page f
+-- The device was only read, and the copies of its pages are right: each read of the device has got one more page held, where
+-- there is a frame for each page and no fault was counted.
+pub record OnlyCopies {D : Type 0} (nor : NorOf D) (g : Geometry) (old : D) (old_cache : List ℕ) (new : D) (new_cache : List ℕ) : Type 0 where
+  pub reads : OnlyReads nor old new
+  pub kept : IsKept nor g new new_cache
+  pub size : length new_cache ≡ length old_cache
+  pub few : FewReads nor g old old_cache new new_cache
 
 -- how a read of an id goes: its file's bytes, or the table has no such file
 abbrev pub ReadAnswers : Geometry → List ℕ → ℕ → ℕ → List ℕ → List ℕ → Result ℕ FsErr → Type 0

@@ -2,10 +2,12 @@
 #![tactic(auto)]
 
 mod formatting;
-mod heads;
 mod lent;
 mod mounting;
+mod reader;
+mod reading;
 
 pub use formatting::format;
 pub use lent::{Lent, MountErr, Part, Returned};
 pub use mounting::{accept, mount};
+pub use reader::Reader;
