@@ -11,6 +11,7 @@ use nor_core::{Failed, Nor, NorState};
 
 impl<'b, N: Nor> View<'b, N> {
     /// The table's file of the least id above `after`, by right marks: its id and its header page.
+    #[tactic(auto, using(crate::proofs::Looking::looks_then))]
     pub fn next_file(&mut self, marks: &[u8], after: u16) -> Result<Option<(u16, u16)>, Failed>
         requires room { page_count self.old.geometry ≤ length marks.now }
         requires marked { N.tells self.old.nor.now → IsMarked self.old.geometry (N.bytes self.old.nor.now) marks.now }
@@ -30,6 +31,7 @@ impl<'b, N: Nor> View<'b, N> {
     }
 
     /// The header page of the table's file of an id, by right marks.
+    #[tactic(auto, using(crate::proofs::Looking::looks_then))]
     pub fn find_file(&mut self, marks: &[u8], id: u16) -> Result<Option<u16>, Failed>
         requires room { page_count self.old.geometry ≤ length marks.now }
         requires marked { N.tells self.old.nor.now → IsMarked self.old.geometry (N.bytes self.old.nor.now) marks.now }
@@ -48,6 +50,7 @@ impl<'b, N: Nor> View<'b, N> {
     }
 
     /// The damaged file of the least id above `after`, by right marks, with the first cause of its damage.
+    #[tactic(auto, using(crate::proofs::Looking::looks_then))]
     pub fn next_damaged(
         &mut self,
         marks: &[u8],
