@@ -1,6 +1,7 @@
 use Rattle.std.proofs.Common.{◌≡◌, ◌∙◌, sym, Some, None}
 use Rattle.flash_view.specs.Marks.{cause_at}
 use Rattle.flash_view.proofs.Stepping.{file_headless, file_damaged, file_whole}
+use Rattle.flash_view.proofs.Looking.{looks_then}
 use Rattle.flash_view.proofs.view.View.find_file.Goals as goal
 
 pub returns-in_default-clause-told : goal.returns-in_default-clause-told
@@ -22,3 +23,9 @@ returns-in-None-clause-told g c = λ tells.
     let head = c.in_ok-header.ensures in
     let cause : c.in_ok-damage.field-0 ≡ cause_at geo image c.args.id = rw (head.looks.same.geometry, head.looks.reads.bytes) at (c.in_ok-damage.ensures.told (head.looks.reads.told tells)) in
     file_whole geo image c.args.id c.in-Some.header (sym c.in-Some.is ∙ head.told tells) (sym c.in-None.is ∙ cause)
+
+pub returns-in-Some-2-clause-looks : goal.returns-in-Some-2-clause-looks
+returns-in-Some-2-clause-looks g c = looks_then c.in_ok-header.ensures.looks c.in_ok-damage.ensures.looks
+
+pub returns-in-None-clause-looks : goal.returns-in-None-clause-looks
+returns-in-None-clause-looks g c = looks_then c.in_ok-header.ensures.looks c.in_ok-damage.ensures.looks

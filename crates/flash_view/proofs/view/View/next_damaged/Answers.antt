@@ -40,3 +40,9 @@ returns-clause-told g c = λ tells.
     let from = rw (was.looks.same.geometry, was.looks.reads.bytes) at (c.in_ok-id.ensures.told (was.looks.reads.told tells)) in
     let last : NextHead geo image c.ids.at None = subst (λ (o : Option (ℕ × ℕ)). NextHead geo image c.ids.at o) c.in_default.is from in
     damage_last geo image c.args.after c.ids.at last (was.told tells)
+
+pub returns-in-Some-2-clause-looks : goal.returns-in-Some-2-clause-looks
+returns-in-Some-2-clause-looks g c = looks_then (looks_then c.ids.invariant.looks c.in_ok-id.ensures.looks) c.in_ok-cause.ensures.looks
+
+pub returns-clause-looks : goal.returns-clause-looks
+returns-clause-looks g c = looks_then c.ids.invariant.looks c.in_ok-id.ensures.looks
