@@ -18,6 +18,7 @@ impl<'b, N: Nor> View<'b, N> {
         ensures cause { OnErr result (Rose (N.faults self.old.nor.now) (N.faults self.new.nor.now)) }
         ensures looks { OnlyLooks self.old self.new }
         ensures inside { IfOk result (λ next. IfSome next (λ n. n.1 < page_count self.old.geometry)) }
+        ensures above { IfOk result (λ next. IfSome next (λ n. after < n.0)) }
         ensures told { N.tells self.old.nor.now → IfOk result (λ next. NextFile self.old.geometry (N.bytes self.old.nor.now) after next) }
     {
         let mut at = after;
@@ -60,6 +61,7 @@ impl<'b, N: Nor> View<'b, N> {
         requires marked { N.tells self.old.nor.now → IsMarked self.old.geometry (N.bytes self.old.nor.now) marks.now }
         ensures cause { OnErr result (Rose (N.faults self.old.nor.now) (N.faults self.new.nor.now)) }
         ensures looks { OnlyLooks self.old self.new }
+        ensures above { IfOk result (λ next. IfSome next (λ n. after < n.0)) }
         ensures told { N.tells self.old.nor.now → IfOk result (λ next. next ≡ damaged_above self.old.geometry (N.bytes self.old.nor.now) after) }
     {
         let mut at = after;
