@@ -1,2 +1,5 @@
 pub mod Units
 mod Counting
+pub mod Listed
+pub mod Same
+pub mod Copies

@@ -6,10 +6,10 @@ ghost use Rattle.flash_view.specs.Marks.{IsMarked};
 use crate::reading::{damaged_on, mount_on, next_on, read_on, survey_on};
 use crate::{Lent, MountErr, Returned};
 use fd_table::FdSlot;
-use flash_view::View;
 use geometry::Geometry;
 use image_model::Damage;
 use nor_core::{Board, Failed, Nor, NorState};
+use page_cache::Cached;
 use table_model::{FsErr, Stat};
 
 /// A volume that is read and never written, in lent memory: its image may be any that mounts, damaged ones too. The
@@ -78,7 +78,7 @@ impl<'b, N: Nor> Reader<'b, N> {
             cache,
             check,
         } = lent;
-        let (nor, work, cache) = View::new(g, nor, work, cache).give_back();
+        let (nor, cache) = Cached::new(g, nor, cache).give_back();
         Reader {
             geometry: g,
             nor,

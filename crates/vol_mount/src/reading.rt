@@ -3,16 +3,17 @@ ghost use Rattle.std.specs.Prelude.{◌≡◌, ◌*◌, ◌<◌, ◌≤◌, leng
 ghost use Rattle.std.specs.Option.{option_map};
 ghost use Rattle.geometry.specs.Numbers.{page_count, work_need, cache_need};
 ghost use Rattle.nor_core.specs.Count.{Rose};
+ghost use Rattle.nor_core.specs.Device.{OnlyReads};
 ghost use Rattle.table_model.specs.Table.{file_above};
 ghost use Rattle.table_model.specs.Files.{stat_of};
 ghost use Rattle.image_model.specs.Kinds.{spoiled_blocks};
 ghost use Rattle.image_model.specs.Tables.{table_of};
-ghost use Rattle.page_cache.specs.Kept.{IsKept};
+ghost use Rattle.page_cache.specs.Kept.{IsKept, FewReads};
 ghost use Rattle.flash_view.specs.Same.{OnlyLooks};
 ghost use Rattle.flash_view.specs.Marks.{IsMarked};
 ghost use Rattle.flash_view.specs.Listing.{damaged_above};
 ghost use Rattle.vol_mount.specs.Mounts.{IsLate, CountsSpoiled};
-ghost use Rattle.vol_mount.specs.Reads.{OnlyCopies, ReadAnswers, IsReadErr};
+ghost use Rattle.vol_mount.specs.Reads.{ReadAnswers, IsReadErr};
 
 use crate::{MountErr, mount};
 use file_read::{read_from, stat_at};
@@ -36,7 +37,9 @@ pub(crate) fn mount_on<N: Nor>(
     requires kept { IsKept N.NorState g nor.old cache.old }
     ensures late { IfErr result IsLate }
     ensures cause { result ≡ Err MountErr.DeviceFault → Rose (N.faults nor.old) (N.faults nor.new) }
-    ensures copies { OnlyCopies N.NorState g nor.old cache.old nor.new cache.new }
+    ensures looks { OnlyReads N.NorState nor.old nor.new }
+    ensures kept { IsKept N.NorState g nor.new cache.new }
+    ensures few { FewReads N.NorState g nor.old cache.old nor.new cache.new }
     ensures told { N.tells nor.old → OnOk result (spoiled_blocks g (N.bytes nor.old) ≤ 1) }
     ensures spoiled { N.tells nor.old → IfErr result (CountsSpoiled g (N.bytes nor.old)) }
 {
@@ -59,7 +62,9 @@ pub(crate) fn survey_on<N: Nor>(
     requires kept { IsKept N.NorState g nor.old cache.old }
     requires room { page_count g ≤ length marks.old }
     ensures cause { OnErr result (Rose (N.faults nor.old) (N.faults nor.new)) }
-    ensures copies { OnlyCopies N.NorState g nor.old cache.old nor.new cache.new }
+    ensures looks { OnlyReads N.NorState nor.old nor.new }
+    ensures kept { IsKept N.NorState g nor.new cache.new }
+    ensures few { FewReads N.NorState g nor.old cache.old nor.new cache.new }
     ensures told { N.tells nor.old → OnOk result (IsMarked g (N.bytes nor.old) marks.new) }
 {
     let mut v = View::resume(g, nor, work, cache);
@@ -67,6 +72,7 @@ pub(crate) fn survey_on<N: Nor>(
 }
 
 // The record of the table's file of the least id above `after`.
+#[tactic(auto, using(flash_view::proofs::Looking::looks_then))]
 fn next_stat<N: Nor>(
     v: &mut View<'_, N>,
     marks: &[u8],
@@ -101,7 +107,9 @@ pub(crate) fn next_on<N: Nor>(
     requires room { page_count g ≤ length marks.now }
     requires marked { N.tells nor.old → IsMarked g (N.bytes nor.old) marks.now }
     ensures cause { OnErr result (Rose (N.faults nor.old) (N.faults nor.new)) }
-    ensures copies { OnlyCopies N.NorState g nor.old cache.old nor.new cache.new }
+    ensures looks { OnlyReads N.NorState nor.old nor.new }
+    ensures kept { IsKept N.NorState g nor.new cache.new }
+    ensures few { FewReads N.NorState g nor.old cache.old nor.new cache.new }
     ensures told { N.tells nor.old → IfOk result (λ found. found ≡ option_map stat_of (file_above after (table_of g (N.bytes nor.old)))) }
 {
     let mut v = View::resume(g, nor, work, cache);
@@ -125,7 +133,9 @@ pub(crate) fn damaged_on<N: Nor>(
     requires room { page_count g ≤ length marks.now }
     requires marked { N.tells nor.old → IsMarked g (N.bytes nor.old) marks.now }
     ensures cause { OnErr result (Rose (N.faults nor.old) (N.faults nor.new)) }
-    ensures copies { OnlyCopies N.NorState g nor.old cache.old nor.new cache.new }
+    ensures looks { OnlyReads N.NorState nor.old nor.new }
+    ensures kept { IsKept N.NorState g nor.new cache.new }
+    ensures few { FewReads N.NorState g nor.old cache.old nor.new cache.new }
     ensures told { N.tells nor.old → IfOk result (λ found. found ≡ damaged_above g (N.bytes nor.old) after) }
 {
     let mut v = View::resume(g, nor, work, cache);
@@ -133,6 +143,7 @@ pub(crate) fn damaged_on<N: Nor>(
 }
 
 // The bytes of the table's file of an id.
+#[tactic(auto, using(flash_view::proofs::Looking::looks_then))]
 fn read_file<N: Nor>(
     v: &mut View<'_, N>,
     marks: &[u8],
@@ -178,7 +189,9 @@ pub(crate) fn read_on<N: Nor>(
     requires marked { N.tells nor.old → IsMarked g (N.bytes nor.old) marks.now }
     ensures cause { IsErrOf result FsErr.DeviceFault → Rose (N.faults nor.old) (N.faults nor.new) }
     ensures only { IfErr result (IsReadErr id) }
-    ensures copies { OnlyCopies N.NorState g nor.old cache.old nor.new cache.new }
+    ensures looks { OnlyReads N.NorState nor.old nor.new }
+    ensures kept { IsKept N.NorState g nor.new cache.new }
+    ensures few { FewReads N.NorState g nor.old cache.old nor.new cache.new }
     ensures told { N.tells nor.old → ReadAnswers g (N.bytes nor.old) id at into.old into.new result }
 {
     let mut v = View::resume(g, nor, work, cache);
