@@ -190,15 +190,17 @@ near_all g image after p None all was = record {
       let few = was.none w.0 other (omega (arith, all, low)) (header_marked g image other w.0 w.1) in omega (arith, few, above));
 }
 near_all g image after p (Some (id, page)) all was =
-    let at = marked_page g image page id was.here in
-    (record {
-      above = was.above;
-      has = heads g image page id (omega (arith, all, was.below)) at.0;
-      least = λ other above e.
-          let w = header_of g image other e in
-          let low = (header_parts g image other w.0 w.1).1 in
-          was.least w.0 other (omega (arith, all, low)) (header_marked g image other w.0 w.1) above;
-    }, at.1)
+    let at = marked_page g image page id was.here in (
+      record {
+        above = was.above;
+        has = heads g image page id (omega (arith, all, was.below)) at.0;
+        least = λ other above e.
+            let w = header_of g image other e in
+            let low = (header_parts g image other w.0 w.1).1 in
+            was.least w.0 other (omega (arith, all, low)) (header_marked g image other w.0 w.1) above;
+      },
+      at.1,
+    )
 
 -- its page is one of the pages looked at
 choice_inside : (n id page : ℕ) (b : Bool) (old : Option (ℕ × ℕ)) → page < n → IfSome old (λ x. x.1 < n) → IfSome (if b then Some (id, page) else old) (λ x. x.1 < n)
