@@ -11,12 +11,14 @@ use nor_core::{Failed, Nor, NorState};
 
 impl<'b, N: Nor> View<'b, N> {
     /// The table's file of the least id above `after`, by right marks: its id and its header page.
+    #[tactic(auto, using(crate::proofs::Looking::looks_then))]
     pub fn next_file(&mut self, marks: &[u8], after: u16) -> Result<Option<(u16, u16)>, Failed>
         requires room { page_count self.old.geometry ≤ length marks.now }
         requires marked { N.tells self.old.nor.now → IsMarked self.old.geometry (N.bytes self.old.nor.now) marks.now }
         ensures cause { OnErr result (Rose (N.faults self.old.nor.now) (N.faults self.new.nor.now)) }
         ensures looks { OnlyLooks self.old self.new }
         ensures inside { IfOk result (λ next. IfSome next (λ n. n.1 < page_count self.old.geometry)) }
+        ensures above { IfOk result (λ next. IfSome next (λ n. after < n.0)) }
         ensures told { N.tells self.old.nor.now → IfOk result (λ next. NextFile self.old.geometry (N.bytes self.old.nor.now) after next) }
     {
         let mut at = after;
@@ -30,6 +32,7 @@ impl<'b, N: Nor> View<'b, N> {
     }
 
     /// The header page of the table's file of an id, by right marks.
+    #[tactic(auto, using(crate::proofs::Looking::looks_then))]
     pub fn find_file(&mut self, marks: &[u8], id: u16) -> Result<Option<u16>, Failed>
         requires room { page_count self.old.geometry ≤ length marks.now }
         requires marked { N.tells self.old.nor.now → IsMarked self.old.geometry (N.bytes self.old.nor.now) marks.now }
@@ -48,6 +51,7 @@ impl<'b, N: Nor> View<'b, N> {
     }
 
     /// The damaged file of the least id above `after`, by right marks, with the first cause of its damage.
+    #[tactic(auto, using(crate::proofs::Looking::looks_then))]
     pub fn next_damaged(
         &mut self,
         marks: &[u8],
@@ -57,6 +61,7 @@ impl<'b, N: Nor> View<'b, N> {
         requires marked { N.tells self.old.nor.now → IsMarked self.old.geometry (N.bytes self.old.nor.now) marks.now }
         ensures cause { OnErr result (Rose (N.faults self.old.nor.now) (N.faults self.new.nor.now)) }
         ensures looks { OnlyLooks self.old self.new }
+        ensures above { IfOk result (λ next. IfSome next (λ n. after < n.0)) }
         ensures told { N.tells self.old.nor.now → IfOk result (λ next. next ≡ damaged_above self.old.geometry (N.bytes self.old.nor.now) after) }
     {
         let mut at = after;

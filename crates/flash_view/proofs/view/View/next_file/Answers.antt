@@ -1,4 +1,4 @@
-use Rattle.std.proofs.Common.{◌≡◌, ◌∙◌, subst, Some, None, Option, ℕ}
+use Rattle.std.proofs.Common.{◌≡◌, ◌∙◌, subst, Some, None, Option, ℕ, arith}
 use Rattle.flash_view.specs.Marks.{NextHead, cause_at}
 use Rattle.flash_view.proofs.Stepping.{file_more, file_next, file_last, is_gone, is_there}
 use Rattle.flash_view.proofs.Looking.{looks_then}
@@ -22,6 +22,7 @@ ids-preserved g c =
     let head = c.in_ok-id.ensures in
     record {
       looks = looks_then (looks_then was.looks head.looks) c.in_ok-damage.ensures.looks;
+      low = (let above = rw c.in-Some.is at head.above in omega (arith, above, was.low));
       told = λ tells.
           let geo = c.args.self.now.geometry in
           let image = g.N.NorState.bytes c.args.self.now.nor.now in
