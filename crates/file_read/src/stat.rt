@@ -1,4 +1,4 @@
-ghost use Rattle.std.specs.Prelude.{◌≡◌, ◌<◌, length, IfOk, OnErr, Some};
+ghost use Rattle.std.specs.Prelude.{◌≡◌, ◌<◌, length, IfOk, IfSome, OnErr, Some};
 ghost use Rattle.geometry.specs.Numbers.{page_count};
 ghost use Rattle.nor_core.specs.Count.{Rose};
 ghost use Rattle.table_model.specs.Table.{File};
@@ -17,7 +17,8 @@ use table_model::Stat;
 /// The record that a header page tells of the file of an id; none where the page has no name.
 pub fn stat_in(g: &Geometry, page: &[u8], id: u16) -> Option<Stat>
     requires { length page.now ≡ g.now.page }
-    ensures { result ≡ the_stat_in g.now page.now id }
+    ensures record_of { result ≡ the_stat_in g.now page.now id }
+    ensures id { IfSome result (λ stat. stat.id ≡ id) }
 {
     let name = name_of(page)?;
     Some(Stat {
@@ -38,6 +39,7 @@ pub fn stat_at<N: Nor>(
     requires { header < page_count v.old.geometry }
     ensures cause { OnErr result (Rose (N.faults v.old.nor.now) (N.faults v.new.nor.now)) }
     ensures looks { OnlyLooks v.old v.new }
+    ensures id { IfOk result (λ found. IfSome found (λ stat. stat.id ≡ id)) }
     ensures page { N.tells v.old.nor.now → IfOk result (λ stat. stat ≡ the_stat_in v.old.geometry (page_of v.old.geometry (N.bytes v.old.nor.now) header) id) }
     ensures told { N.tells v.old.nor.now → (f : File) → IsFileAt v.old.geometry (N.bytes v.old.nor.now) id header f → IfOk result (λ stat. stat ≡ Some (stat_of f)) }
 {

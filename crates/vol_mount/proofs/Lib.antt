@@ -2,4 +2,3 @@ pub mod Units
 mod Counting
 pub mod Listed
 pub mod Same
-pub mod Copies

@@ -12,5 +12,5 @@ returns-clause-told g c = λ tells f file.
     let whole : IsImage view.geometry image = record { len = omega (arith, size, view.volume) } in
     let looks = c.in_ok-fetch.ensures.looks in
     let page : c.stat_in.result ≡ stat_in view.geometry (page_of view.geometry image c.args.header) c.args.id =
-    c.stat_in.ensures ∙ cc (c.fetched.ensures.bytes, c.in_ok-fetch.ensures.told tells, looks.same.geometry) in
+    c.stat_in.ensures.record_of ∙ cc (c.fetched.ensures.bytes, c.in_ok-fetch.ensures.told tells, looks.same.geometry) in
     page ∙ told_stat view.geometry image c.args.id c.args.header f whole file
