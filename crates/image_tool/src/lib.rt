@@ -1,0 +1,13 @@
+//! What a tool says of a chip that it only reads: the list of its files.
+#![tactic(auto)]
+
+mod damaged;
+mod error;
+mod lines;
+mod list;
+mod reader;
+mod records;
+
+pub use error::ToolErr;
+pub use list::list;
+pub use reader::Reader;
