@@ -1,1 +1,5 @@
-
+pub mod Ascending
+pub mod Speaking
+pub mod Walking
+pub mod Found
+pub mod Readers

@@ -4,10 +4,10 @@
 mod damaged;
 mod error;
 mod lines;
-mod list;
+mod listing;
 mod reader;
 mod records;
 
 pub use error::ToolErr;
-pub use list::list;
+pub use listing::list;
 pub use reader::Reader;
