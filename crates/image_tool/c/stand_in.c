@@ -1,0 +1,1 @@
+unsigned stand_in_never(void) { for (;;) {} }

@@ -1,5 +1,0 @@
-use Rattle.image_tool.proofs.reader.Reader.mount.Goals as goal
-
--- the stand-in is left open
-pub returns-clause-cause : goal.returns-clause-cause
-returns-clause-cause g c = ?
