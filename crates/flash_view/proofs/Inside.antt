@@ -7,7 +7,7 @@ use Rattle.geometry.specs.Numbers.{per_block, lookups, entries, page_count, slot
 use Rattle.flash_view.specs.Places.{IsEntryPage, block_of, place_of, entry_start, magic_start}
 
 -- a block is its pages
-block_pages : (g : Geometry) → per_block g * g.page ≡ g.block
+pub block_pages : (g : Geometry) → per_block g * g.page ≡ g.block
 block_pages g = grind (arith, g.valid.whole_pages)
 
 -- the volume is below 2 ^ 28 bytes
@@ -17,11 +17,14 @@ volume_small g = omega (arith, g.valid.few_bytes, mul-le-mul_left 65535 g.valid.
 pub block_inside : (g : Geometry) (b : ℕ) → b < g.blocks → b * g.block + g.block ≤ g.blocks * g.block
 block_inside g b below = let next : b + 1 ≤ g.blocks = omega arith in omega (arith, mul-le-mul_right g.block next)
 
+-- the volume is its pages
+pub volume_pages : (g : Geometry) → page_count g * g.page ≡ g.blocks * g.block
+volume_pages g = mul_assoc g.blocks (per_block g) g.page ∙ ap (λ n. g.blocks * n) (block_pages g)
+
 pub page_inside : (g : Geometry) (p : ℕ) → p < page_count g → p * g.page + g.page ≤ g.blocks * g.block
 page_inside g p below =
     let next : p + 1 ≤ g.blocks * per_block g = omega arith in
-    let all : g.blocks * per_block g * g.page ≡ g.blocks * g.block = mul_assoc g.blocks (per_block g) g.page ∙ ap (λ n. g.blocks * n) (block_pages g) in
-    omega (arith, mul-le-mul_right g.page next, all)
+    omega (arith, mul-le-mul_right g.page next, volume_pages g)
 
 -- the lookup pages lie in the block
 pub lookups_inside : (g : Geometry) → lookups g * g.page ≤ g.block

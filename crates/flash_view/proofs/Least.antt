@@ -77,7 +77,7 @@ own_if : (page : List ℕ) (mine : Bool) → is_index (if mine then Some page el
 own_if page true e = (refl, e)
 own_if page false e = absurd (cc)
 
-head_id : (o : Option (List ℕ)) (id : ℕ) → is_index (option_and_then (λ page. if obj_id page % 0x8000 == id then Some page else None) o) 0 ≡ true → headed o ≡ Some id
+pub head_id : (o : Option (List ℕ)) (id : ℕ) → is_index (option_and_then (λ page. if obj_id page % 0x8000 == id then Some page else None) o) 0 ≡ true → headed o ≡ Some id
 head_id None id e = absurd (cc)
 head_id (Some page) id e =
     let w = own_if page (obj_id page % 0x8000 == id) e in

@@ -1,7 +1,14 @@
 pub mod Inside
+pub mod InPage
 pub mod Looking
 pub mod Parts
 pub mod Heads
 pub mod Finds
 pub mod Names
 pub mod Least
+pub mod Within
+pub mod Entries
+pub mod Spans
+pub mod Marking
+pub mod Nearest
+pub mod Holders

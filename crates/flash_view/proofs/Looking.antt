@@ -1,20 +1,27 @@
 -- Looking at a volume time after time.
-use Rattle.std.proofs.Common.{◌∙◌, refl}
+use Rattle.std.proofs.Common.{◌∙◌, refl, subst, arith}
 use Rattle.nor_core.proofs.Cuts.{reads_then, reads_none}
+use Rattle.nor_core.specs.declared.state.NorState.{Ghosts as NorOf}
+use Rattle.geometry.specs.declared.geometry.Geometry.{Geometry}
+use Rattle.page_cache.specs.Kept.{FewReads}
+use Rattle.page_cache.proofs.Held.{few_none, few_then}
 use Rattle.flash_view.specs.declared.view.View.{View}
 use Rattle.flash_view.specs.Same.{IsSameView, OnlyLooks}
 
-module _ {N : Type 0} {nor : _} where
+module _ {N : Type 0} {nor : NorOf N} where
   pub same_then : {old mid new : View N nor} → IsSameView old mid → IsSameView mid new → IsSameView old new
-  same_then first second = record {
+  same_then {old} {mid} {new} first second = record {
     geometry = second.geometry ∙ first.geometry;
     nor_name = second.nor_name ∙ first.nor_name;
     work_name = second.work_name ∙ first.work_name;
     cache_name = second.cache_name ∙ first.cache_name;
+    cache_size = second.cache_size ∙ first.cache_size;
+    faults = omega (arith, first.faults, second.faults);
+    few = few_then _ first.cache_size first.faults second.faults first.few (subst (λ (g : Geometry). FewReads nor g mid.nor.now mid.cache.now new.nor.now new.cache.now) first.geometry second.few);
   }
 
   pub same_none : (v : View N nor) → IsSameView v v
-  same_none v = record { geometry = refl; nor_name = refl; work_name = refl; cache_name = refl }
+  same_none v = record { geometry = refl; nor_name = refl; work_name = refl; cache_name = refl; cache_size = refl; faults = omega arith; few = few_none v.geometry v.nor.now v.cache.now }
 
   pub looks_then : {old mid new : View N nor} → OnlyLooks old mid → OnlyLooks mid new → OnlyLooks old new
   looks_then first second = record { reads = reads_then first.reads second.reads; wrote = second.wrote ∙ first.wrote; same = same_then first.same second.same }

@@ -1,3 +1,5 @@
 pub mod Places
 pub mod Same
 pub mod Found
+pub mod Judging
+pub mod Marks

@@ -1,17 +1,22 @@
 -- What every call over a view leaves as it was.
-use Rattle.std.specs.Prelude.{◌≡◌}
+use Rattle.std.specs.Prelude.{◌≡◌, ◌≤◌, length}
 use Rattle.nor_core.specs.Device.{OnlyReads}
+use Rattle.nor_core.specs.declared.state.NorState.{Ghosts as NorOf}
+use Rattle.page_cache.specs.Kept.{FewReads}
 use Rattle.flash_view.specs.declared.view.View.{View}
 
--- the same geometry, over the same device, work and cache
-pub record IsSameView {N : Type 0} {nor : _} (old new : View N nor) : Type 0 where
+-- the same geometry, over the same device, work and cache; each read of the device has got one more page held, where there is a frame for each page and no fault was counted
+pub record IsSameView {N : Type 0} {nor : NorOf N} (old new : View N nor) : Type 0 where
   pub geometry : new.geometry ≡ old.geometry
   pub nor_name : new.nor.ghost_name ≡ old.nor.ghost_name
   pub work_name : new.work.ghost_name ≡ old.work.ghost_name
   pub cache_name : new.cache.ghost_name ≡ old.cache.ghost_name
+  pub cache_size : length new.cache.now ≡ length old.cache.now
+  pub faults : nor.faults old.nor.now ≤ nor.faults new.nor.now
+  pub few : FewReads nor old.geometry old.nor.now old.cache.now new.nor.now new.cache.now
 
 -- the device was only read
-pub record OnlyLooks {N : Type 0} {nor : _} (old new : View N nor) : Type 0 where
+pub record OnlyLooks {N : Type 0} {nor : NorOf N} (old new : View N nor) : Type 0 where
   pub reads : OnlyReads nor old.nor.now new.nor.now
   pub wrote : new.wrote ≡ old.wrote
   pub same : IsSameView old new

@@ -1,9 +1,12 @@
 //! A volume's device, its geometry and the bytes lent for its work: pages, entries, and which pages are live.
 #![tactic(auto)]
 
+mod judging;
 mod kinds;
 mod live;
+mod marks;
 mod places;
+mod through;
 mod view;
 
 pub use kinds::{Kind, StepErr};

@@ -1,4 +1,4 @@
-ghost use Rattle.std.specs.Prelude.{◌≡◌, ◌<◌, ◌%◌, ◌==◌, ◌&&◌, OnErr, IfOk, IfSome, Some, None, if◌then◌else◌};
+ghost use Rattle.std.specs.Prelude.{◌≡◌, ◌<◌, ◌%◌, ◌==◌, ◌&&◌, not, nat_lt, OnErr, IfOk, IfSome, Some, None, if◌then◌else◌};
 ghost use Rattle.std.specs.Option.{option_map};
 ghost use Rattle.geometry.specs.Numbers.{page_count};
 ghost use Rattle.nor_core.specs.Count.{Rose};
@@ -9,12 +9,14 @@ ghost use Rattle.image_model.specs.Live.{live_at, own, is_live as the_live};
 ghost use Rattle.image_model.specs.Files.{is_index, index_page};
 ghost use Rattle.flash_view.specs.Places.{IsEntryPage};
 ghost use Rattle.flash_view.specs.Same.{OnlyLooks};
+ghost use Rattle.flash_view.specs.Judging.{lookup_entry as the_lookup_entry};
 ghost use Rattle.flash_view.specs.Found.{NextId, headed, lower as the_lower, is_name, named_at, first_named};
 
 use crate::View;
 use crate::places::{block_of, is_entry_page};
 use nor_core::{Failed, Nor, NorState};
-use page_layout::{PageHeader, name_of};
+use page_layout::{FREE, INDEX_BIT, PageHeader, name_of};
+use table_model::Name;
 
 // The lesser of two ids, of which the second counts only where it is above `after`.
 fn lower(after: u16, least: Option<u16>, found: Option<u16>) -> Option<u16>
@@ -43,10 +45,24 @@ fn headed_id(head: PageHeader) -> Option<u16>
 }
 
 // Whether a header is that of an index page of an object and a span.
-fn is_of(head: PageHeader, id: u16, span: u16) -> bool
+fn is_of(head: PageHeader, id: u16, span: u32) -> bool
     ensures { result ≡ ((head.id % 0x8000 == id) && (names_index head && (head.span == span))) }
 {
-    head.object() == id && head.is_index() && head.span == span
+    head.object() == id && head.is_index() && u32::from(head.span) == span
+}
+
+// Whether a lookup entry is that of index pages of an object.
+fn is_entry_of(entry: u16, id: u16) -> bool
+    ensures { result ≡ (not (nat_lt entry 0x8000) && (entry % 0x8000 == id)) }
+{
+    entry >= INDEX_BIT && entry % INDEX_BIT == id
+}
+
+// Whether a lookup entry is that of index pages of any object.
+fn is_index_entry(entry: u16) -> bool
+    ensures { result ≡ (not (nat_lt entry 0x8000) && not (entry == 0xFFFF)) }
+{
+    entry >= INDEX_BIT && entry != FREE
 }
 
 impl<'b, N: Nor> View<'b, N> {
@@ -87,14 +103,36 @@ impl<'b, N: Nor> View<'b, N> {
         Ok(self.live_header(page)?.is_some())
     }
 
-    // Whether a page is a live index page of an object and a span.
-    #[tactic(auto, using(crate::proofs::Heads::index_seen, crate::proofs::Heads::none_seen))]
-    fn is_index_of(&mut self, page: u16, id: u16, span: u16) -> Result<bool, Failed>
+    // The lookup entry of a page, and 0 where the page is a lookup page itself.
+    #[tactic(auto, unfolding(crate::specs::Judging::lookup_entry))]
+    pub(crate) fn lookup_entry(&mut self, page: u16) -> Result<u16, Failed>
+        requires { page < page_count self.old.geometry }
+        ensures cause { OnErr result (Rose (N.faults self.old.nor.now) (N.faults self.new.nor.now)) }
+        ensures looks { OnlyLooks self.old self.new }
+        ensures told { N.tells self.old.nor.now → IfOk result (λ entry. entry ≡ the_lookup_entry self.old.geometry (N.bytes self.old.nor.now) page) }
+        ensures work { self.new.work.now ≡ self.old.work.now }
+    {
+        let g = self.geometry;
+        if is_entry_page(&g, page) {
+            self.entry(page)
+        } else {
+            Ok(0)
+        }
+    }
+
+    // Whether a page is a live index page of an object and a span. Its header is read only where its entry is that
+    // of the object's index pages.
+    #[tactic(auto, using(crate::proofs::Heads::index_seen, crate::proofs::Heads::none_seen, crate::proofs::Entries::passed_index))]
+    fn is_index_of(&mut self, page: u16, id: u16, span: u32) -> Result<bool, Failed>
         requires { page < page_count self.old.geometry }
         ensures cause { OnErr result (Rose (N.faults self.old.nor.now) (N.faults self.new.nor.now)) }
         ensures looks { OnlyLooks self.old self.new }
         ensures told { N.tells self.old.nor.now → IfOk result (λ index. index ≡ is_index (own (live_at self.old.geometry (N.bytes self.old.nor.now)) id page) span) }
+        ensures work { self.new.work.now ≡ self.old.work.now }
     {
+        if !is_entry_of(self.lookup_entry(page)?, id) {
+            return Ok(false);
+        }
         Ok(match self.live_header(page)? {
             Some(head) => is_of(head, id, span),
             None => false,
@@ -102,11 +140,24 @@ impl<'b, N: Nor> View<'b, N> {
     }
 
     /// The index page of an object and a span: the first live one in page order. Span 0 is the header page.
+    #[tactic(auto, using(crate::proofs::Looking::looks_then))]
     pub fn find_index(&mut self, id: u16, span: u16) -> Result<Option<u16>, Failed>
         ensures cause { OnErr result (Rose (N.faults self.old.nor.now) (N.faults self.new.nor.now)) }
         ensures looks { OnlyLooks self.old self.new }
         ensures inside { IfOk result (λ page. IfSome page (λ p. p < page_count self.old.geometry)) }
         ensures told { N.tells self.old.nor.now → IfOk result (λ page. page ≡ index_page self.old.geometry (own (live_at self.old.geometry (N.bytes self.old.nor.now)) id) span) }
+        ensures work { self.new.work.now ≡ self.old.work.now }
+    {
+        self.find_span(id, u32::from(span))
+    }
+
+    /// The index page of an object and a span as `find_index` gives it, for any span: those above 65,535 have no page.
+    pub fn find_span(&mut self, id: u16, span: u32) -> Result<Option<u16>, Failed>
+        ensures cause { OnErr result (Rose (N.faults self.old.nor.now) (N.faults self.new.nor.now)) }
+        ensures looks { OnlyLooks self.old self.new }
+        ensures inside { IfOk result (λ page. IfSome page (λ p. p < page_count self.old.geometry)) }
+        ensures told { N.tells self.old.nor.now → IfOk result (λ page. page ≡ index_page self.old.geometry (own (live_at self.old.geometry (N.bytes self.old.nor.now)) id) span) }
+        ensures work { self.new.work.now ≡ self.old.work.now }
     {
         for page in 0..self.geometry.pages() as u16 {
             if self.is_index_of(page, id, span)? {
@@ -130,8 +181,9 @@ impl<'b, N: Nor> View<'b, N> {
         Ok(least)
     }
 
-    /// The id of the file whose header page holds that name: the first one in page order.
-    pub fn find_name(&mut self, name: &[u8]) -> Result<Option<u16>, Failed>
+    /// The id whose header page holds that name: the first live one in page order, whether its file is whole or damaged.
+    #[tactic(auto, using(crate::proofs::Looking::looks_then))]
+    pub fn find_header_name(&mut self, name: &[u8]) -> Result<Option<u16>, Failed>
         ensures cause { OnErr result (Rose (N.faults self.old.nor.now) (N.faults self.new.nor.now)) }
         ensures looks { OnlyLooks self.old self.new }
         ensures told { N.tells self.old.nor.now → IfOk result (λ id. id ≡ first_named self.old.geometry (N.bytes self.old.nor.now) name.now) }
@@ -145,7 +197,7 @@ impl<'b, N: Nor> View<'b, N> {
     }
 
     // The id of a live header page that holds that name.
-    #[tactic(auto, using(crate::proofs::Names::named_by, crate::proofs::Names::unnamed_by))]
+    #[tactic(auto, using(crate::proofs::Names::named_by, crate::proofs::Names::unnamed_by, crate::proofs::Looking::looks_then))]
     fn named_id(&mut self, page: u16, name: &[u8]) -> Result<Option<u16>, Failed>
         requires { page < page_count self.old.geometry }
         ensures cause { OnErr result (Rose (N.faults self.old.nor.now) (N.faults self.new.nor.now)) }
@@ -163,7 +215,7 @@ impl<'b, N: Nor> View<'b, N> {
     }
 
     /// The id of the object whose header page a page is, if it is a live one.
-    #[tactic(auto, using(crate::proofs::Names::headed_by, crate::proofs::Names::unheaded_by))]
+    #[tactic(auto, using(crate::proofs::Names::headed_by, crate::proofs::Names::unheaded_by, crate::proofs::Entries::passed_head))]
     pub fn header_id(&mut self, page: u16) -> Result<Option<u16>, Failed>
         requires { page < page_count self.old.geometry }
         ensures cause { OnErr result (Rose (N.faults self.old.nor.now) (N.faults self.new.nor.now)) }
@@ -171,21 +223,34 @@ impl<'b, N: Nor> View<'b, N> {
         ensures told { N.tells self.old.nor.now → IfOk result (λ id. id ≡ headed (live_at self.old.geometry (N.bytes self.old.nor.now) page)) }
         ensures work { self.new.work.now ≡ self.old.work.now }
     {
+        if !is_index_entry(self.lookup_entry(page)?) {
+            return Ok(None);
+        }
         Ok(match self.live_header(page)? {
             Some(head) => headed_id(head),
             None => None,
         })
     }
 
+    // The name that a page tells in the field of header pages, where it tells one.
+    pub(crate) fn name_at(&mut self, page: u16) -> Result<Option<Name>, Failed>
+        requires { page < page_count self.old.geometry }
+        ensures cause { OnErr result (Rose (N.faults self.old.nor.now) (N.faults self.new.nor.now)) }
+        ensures looks { OnlyLooks self.old self.new }
+        ensures told { N.tells self.old.nor.now → IfOk result (λ name. name ≡ the_name_of (page_of self.old.geometry (N.bytes self.old.nor.now) page)) }
+    {
+        self.fetch(page)?;
+        Ok(name_of(self.fetched()))
+    }
+
     // Whether a page holds that name, in the field of header pages.
-    fn has_name(&mut self, page: u16, name: &[u8]) -> Result<bool, Failed>
+    pub(crate) fn has_name(&mut self, page: u16, name: &[u8]) -> Result<bool, Failed>
         requires { page < page_count self.old.geometry }
         ensures cause { OnErr result (Rose (N.faults self.old.nor.now) (N.faults self.new.nor.now)) }
         ensures looks { OnlyLooks self.old self.new }
         ensures told { N.tells self.old.nor.now → IfOk result (λ has. has ≡ is_name (the_name_of (page_of self.old.geometry (N.bytes self.old.nor.now) page)) name.now) }
     {
-        self.fetch(page)?;
-        Ok(match name_of(self.fetched()) {
+        Ok(match self.name_at(page)? {
             Some(found) => found.as_slice() == name,
             None => false,
         })

@@ -3,6 +3,7 @@ ghost use Rattle.std.specs.Bool.{OnTrue, OnFalse};
 ghost use Rattle.geometry.specs.Numbers.{page_count, per_block, lookups, entries};
 ghost use Rattle.flash_view.specs.Places.{IsEntryPage, block_of as the_block_of, page_start as the_page_start, entry_start as the_entry_start, magic_start as the_magic_start, count_start as the_count_start};
 ghost use Rattle.image_model.specs.Places.{is_entry_page as the_entry_page};
+ghost use Rattle.page_cache.specs.Frames.{InOnePage};
 
 use geometry::Geometry;
 use page_layout::{count_offset, entry_offset, magic_offset};
@@ -18,11 +19,12 @@ pub(crate) fn page_start(g: &Geometry, page: u16) -> u32
 }
 
 // The first byte of a page's entry.
-#[tactic(auto, using(crate::proofs::Inside::entry_inside))]
+#[tactic(auto, using(crate::proofs::Inside::entry_inside, crate::proofs::InPage::entry_in_page))]
 pub(crate) fn entry_start(g: &Geometry, page: u16) -> u32
     requires { IsEntryPage g.now page }
     ensures start { result ≡ the_entry_start g.now page }
     ensures inside { result + 2 ≤ g.now.blocks * g.now.block }
+    ensures one_page { InOnePage g.now result 2 }
 {
     let page = u32::from(page);
     let slot = page % g.per_block() - g.lookups();
@@ -30,21 +32,23 @@ pub(crate) fn entry_start(g: &Geometry, page: u16) -> u32
 }
 
 // The first byte of a block's magic.
-#[tactic(auto, using(crate::proofs::Inside::magic_inside))]
+#[tactic(auto, using(crate::proofs::Inside::magic_inside, crate::proofs::InPage::magic_in_page, crate::proofs::InPage::count_in_page))]
 pub(crate) fn magic_start(g: &Geometry, block: u16) -> u32
     requires { block < g.now.blocks }
     ensures start { result ≡ the_magic_start g.now block }
     ensures inside { result + 2 ≤ g.now.blocks * g.now.block }
+    ensures one_page { InOnePage g.now result 2 }
 {
     u32::from(block) * g.block() + magic_offset(g)
 }
 
 // The first byte of a block's erase count.
-#[tactic(auto, using(crate::proofs::Inside::magic_inside))]
+#[tactic(auto, using(crate::proofs::Inside::magic_inside, crate::proofs::InPage::magic_in_page, crate::proofs::InPage::count_in_page))]
 pub(crate) fn count_start(g: &Geometry, block: u16) -> u32
     requires { block < g.now.blocks }
     ensures start { result ≡ the_count_start g.now block }
     ensures inside { result + 2 ≤ g.now.blocks * g.now.block }
+    ensures one_page { InOnePage g.now result 2 }
 {
     u32::from(block) * g.block() + count_offset(g)
 }

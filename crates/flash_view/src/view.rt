@@ -4,10 +4,13 @@ ghost use Rattle.nor_core.specs.Count.{Rose};
 ghost use Rattle.nor_core.specs.Flash.{HalfProgrammed, programmed};
 ghost use Rattle.nor_core.specs.Device.{Changes};
 ghost use Rattle.image_model.specs.Tidy.{is_erased as the_erased};
+ghost use Rattle.page_cache.specs.Kept.{IsKept};
 
 use crate::places::{count_start, entry_start, magic_start, page_start};
+use crate::through::{erase_cached, program_cached, program_part, read_cached, say_cached};
 use geometry::Geometry;
 use nor_core::{Board, Failed, Mark, Nor, NorState};
+use page_cache::Cached;
 use page_layout::{PageHeader, header_of, read_count, read_word};
 
 /// A volume's device, with its geometry and the bytes that were lent for its work.
@@ -27,6 +30,7 @@ pub struct View<'b, N: Nor> {
     pub ghost volume: { geometry.blocks * geometry.block ≤ N.size nor.now },
     pub ghost work_fits: { work_need geometry ≤ length work.now },
     pub ghost cache_fits: { cache_need geometry ≤ length cache.now },
+    pub ghost kept: { IsKept N.NorState geometry nor.now cache.now },
 }
 
 impl<'b, N: Nor> View<'b, N> {
@@ -42,9 +46,11 @@ impl<'b, N: Nor> View<'b, N> {
     ghost use Rattle.image_model.specs.Places.{page_of, entry_at, entry_of as the_entry_of, has_magic as the_magic, erase_count as the_erase_count};
     ghost use Rattle.image_model.specs.Tidy.{is_erased as the_erased};
     ghost use Rattle.page_layout.specs.Layout.{header_at};
+    ghost use Rattle.page_cache.specs.Frames.{held, InOnePage};
+    ghost use Rattle.page_cache.specs.Kept.{IsKept};
     ghost use Rattle.flash_view.specs.Same.{IsSameView, OnlyLooks};
 
-    /// A view of the volume on a device. The device may be larger than the volume.
+    /// A view of the volume on a device, with no page in the cache bytes. The device may be larger than the volume.
     pub fn new(
         geometry: Geometry,
         nor: &'b mut N,
@@ -60,6 +66,39 @@ impl<'b, N: Nor> View<'b, N> {
         ensures nor { result.nor.now ≡ nor.old }
         ensures nor_name { result.nor.ghost_name ≡ nor.entry.ghost_name }
         ensures work_name { result.work.ghost_name ≡ work.entry.ghost_name }
+        ensures cache_name { result.cache.ghost_name ≡ cache.entry.ghost_name }
+        ensures cache_size { length result.cache.now ≡ length cache.old }
+        ensures empty { held geometry result.cache.now ≡ 0 }
+    {
+        let (nor, cache) = Cached::new(geometry, nor, cache).give_back();
+        View {
+            geometry,
+            nor,
+            work,
+            cache,
+            wrote: false,
+        }
+    }
+
+    /// A view of the volume on a device, over cache bytes whose copies of pages are right, as those of the view before it
+    /// are: what they hold is not read again.
+    pub fn resume(
+        geometry: Geometry,
+        nor: &'b mut N,
+        work: &'b mut [u8],
+        cache: &'b mut [u8],
+    ) -> View<'b, N>
+        requires unit { N.unit nor.old ≡ geometry.phys }
+        requires volume { geometry.blocks * geometry.block ≤ N.size nor.old }
+        requires work { work_need geometry ≤ length work.old }
+        requires cache { cache_need geometry ≤ length cache.old }
+        requires kept { IsKept N.NorState geometry nor.old cache.old }
+        ensures geometry { result.geometry ≡ geometry }
+        ensures wrote { result.wrote ≡ false }
+        ensures nor { result.nor.now ≡ nor.old }
+        ensures nor_name { result.nor.ghost_name ≡ nor.entry.ghost_name }
+        ensures work_name { result.work.ghost_name ≡ work.entry.ghost_name }
+        ensures cache { result.cache.now ≡ cache.old }
         ensures cache_name { result.cache.ghost_name ≡ cache.entry.ghost_name }
     {
         View {
@@ -78,23 +117,25 @@ impl<'b, N: Nor> View<'b, N> {
         &self.geometry
     }
 
-    /// Reads bytes of the volume, from byte `at` on.
+    /// Reads bytes of one page of the volume, from byte `at` on.
     fn read(&mut self, at: u32, into: &mut [u8]) -> Result<(), Failed>
         requires some { 0 < length into.old }
         requires inside { at + length into.old ≤ self.old.geometry.blocks * self.old.geometry.block }
+        requires one_page { InOnePage self.old.geometry at (length into.old) }
         ensures cause { OnErr result (Rose (N.faults self.old.nor.now) (N.faults self.new.nor.now)) }
         ensures looks { OnlyLooks self.old self.new }
         ensures told { N.tells self.old.nor.now → OnOk result (into.new ≡ slice_range (N.bytes self.old.nor.now) at (at + length into.old)) }
         ensures work { self.new.work.now ≡ self.old.work.now }
         ensures small { (k : ℕ) → slice_index into.new k < 256 }
     {
-        self.nor.read(at, into)
+        read_cached(self.geometry, self.nor, self.cache, at, into)
     }
 
     /// Reads a slot of two bytes.
     #[tactic(auto, using(crate::proofs::Parts::word_read, crate::proofs::Parts::word_small))]
     fn word(&mut self, at: u32) -> Result<u16, Failed>
-        requires { at + 2 ≤ self.old.geometry.blocks * self.old.geometry.block }
+        requires inside { at + 2 ≤ self.old.geometry.blocks * self.old.geometry.block }
+        requires one_page { InOnePage self.old.geometry at 2 }
         ensures cause { OnErr result (Rose (N.faults self.old.nor.now) (N.faults self.new.nor.now)) }
         ensures looks { OnlyLooks self.old self.new }
         ensures told { N.tells self.old.nor.now → IfOk result (λ word. word ≡ word_at (N.bytes self.old.nor.now) at) }
@@ -162,6 +203,36 @@ impl<'b, N: Nor> View<'b, N> {
         Ok(header_of(&head))
     }
 
+    /// Reads bytes of a page, from its byte `start` on.
+    #[tactic(auto, using(crate::proofs::Within::part_of_page, crate::proofs::InPage::part_in_page))]
+    pub fn read_in(&mut self, page: u16, start: u32, into: &mut [u8]) -> Result<(), Failed>
+        requires page { page < page_count self.old.geometry }
+        requires some { 0 < length into.old }
+        requires inside { start + length into.old ≤ self.old.geometry.page }
+        ensures cause { OnErr result (Rose (N.faults self.old.nor.now) (N.faults self.new.nor.now)) }
+        ensures looks { OnlyLooks self.old self.new }
+        ensures told { N.tells self.old.nor.now → OnOk result (into.new ≡ slice_range (page_of self.old.geometry (N.bytes self.old.nor.now) page) start (start + length into.old)) }
+        ensures work { self.new.work.now ≡ self.old.work.now }
+        ensures small { (k : ℕ) → slice_index into.new k < 256 }
+    {
+        let at = page_start(&self.geometry, page) + start;
+        self.read(at, into)
+    }
+
+    /// Reads the two bytes of a page at its byte `start`, as a number with the lower byte first.
+    #[tactic(auto, using(crate::proofs::Within::word_of_page, crate::proofs::InPage::part_in_page))]
+    pub fn word_in(&mut self, page: u16, start: u32) -> Result<u16, Failed>
+        requires page { page < page_count self.old.geometry }
+        requires inside { start + 2 ≤ self.old.geometry.page }
+        ensures cause { OnErr result (Rose (N.faults self.old.nor.now) (N.faults self.new.nor.now)) }
+        ensures looks { OnlyLooks self.old self.new }
+        ensures told { N.tells self.old.nor.now → IfOk result (λ word. word ≡ word_at (page_of self.old.geometry (N.bytes self.old.nor.now) page) start) }
+        ensures work { self.new.work.now ≡ self.old.work.now }
+    {
+        let at = page_start(&self.geometry, page) + start;
+        self.word(at)
+    }
+
     /// The page that is being built becomes a copy of a page.
     #[tactic(auto, unfolding(image_model::specs::Places::page_of))]
     pub fn load(&mut self, page: u16) -> Result<(), Failed>
@@ -172,7 +243,7 @@ impl<'b, N: Nor> View<'b, N> {
     {
         let at = page_start(&self.geometry, page);
         let len = self.geometry.page() as usize;
-        self.nor.read(at, &mut self.work[..len])
+        read_cached(self.geometry, self.nor, self.cache, at, &mut self.work[..len])
     }
 
     /// Reads a page, for `fetched`. The page that is being built stays.
@@ -186,7 +257,13 @@ impl<'b, N: Nor> View<'b, N> {
     {
         let at = page_start(&self.geometry, page);
         let len = self.geometry.page() as usize;
-        self.nor.read(at, &mut self.work[len..2 * len])
+        read_cached(
+            self.geometry,
+            self.nor,
+            self.cache,
+            at,
+            &mut self.work[len..2 * len],
+        )
     }
 
     /// The bytes of the page that was fetched last.
@@ -230,7 +307,7 @@ impl<'b, N: Nor> View<'b, N> {
         ensures wrote { self.new.wrote ≡ true }
     {
         self.wrote = true;
-        self.nor.program(at, from)
+        program_cached(self.geometry, self.nor, self.cache, at, from)
     }
 
     /// Erases a unit of the volume: its bytes become 0xFF. A cut never leaves the mark's word in its place.
@@ -243,7 +320,7 @@ impl<'b, N: Nor> View<'b, N> {
         ensures wrote { self.new.wrote ≡ true }
     {
         self.wrote = true;
-        self.nor.erase(unit_ix, mark)
+        erase_cached(self.geometry, self.nor, self.cache, unit_ix, mark)
     }
 
     /// Programs the page that is being built, from byte `start` to its end, into a page of the volume.
@@ -260,7 +337,15 @@ impl<'b, N: Nor> View<'b, N> {
         let at = page_start(&self.geometry, page) + start;
         let end = self.geometry.page() as usize;
         self.wrote = true;
-        program_part(self.nor, at, self.work, start as usize, end)
+        program_part(
+            self.geometry,
+            self.nor,
+            self.cache,
+            at,
+            self.work,
+            start as usize,
+            end,
+        )
     }
 
     /// Programs bytes of a page, from its byte `start` on.
@@ -298,7 +383,9 @@ impl<'b, N: Nor> View<'b, N> {
         ensures nor { result.0.now ≡ self.entry.nor.now }
         ensures nor_name { result.0.ghost_name ≡ self.entry.nor.ghost_name }
         ensures work_name { result.1.ghost_name ≡ self.entry.work.ghost_name }
+        ensures cache { result.2.now ≡ self.entry.cache.now }
         ensures cache_name { result.2.ghost_name ≡ self.entry.cache.ghost_name }
+        ensures kept { IsKept N.NorState self.entry.geometry result.0.now result.2.now }
     {
         let View {
             geometry: _,
@@ -326,7 +413,7 @@ impl<'b, B: Board> View<'b, B> {
         ensures same { IsSameView self.old self.new }
         ensures wrote { self.new.wrote ≡ self.old.wrote }
     {
-        self.nor.say(piece)
+        say_cached(self.geometry, self.nor, self.cache, piece)
     }
 }
 
@@ -335,23 +422,4 @@ fn is_erased(bytes: &[u8]) -> bool
     ensures { result ≡ the_erased bytes.now }
 {
     bytes.iter().all(|byte| *byte == 0xFF)
-}
-
-// Programs a part of these bytes.
-fn program_part<N: Nor>(
-    nor: &mut N,
-    at: u32,
-    bytes: &mut [u8],
-    start: usize,
-    end: usize,
-) -> Result<(), Failed>
-    requires some { start < end }
-    requires inside { end ≤ length bytes.old }
-    requires fits { at + (end - start) ≤ N.size nor.old }
-    ensures cause { OnErr result (Rose (N.faults nor.old) (N.faults nor.new)) }
-    ensures changes { Changes N.NorState nor.old nor.new (HalfProgrammed at (slice_range bytes.old start end)) }
-    ensures done { N.tells nor.old → OnOk result (N.bytes nor.new ≡ programmed (N.bytes nor.old) at (slice_range bytes.old start end)) }
-    ensures kept { bytes.new ≡ bytes.old }
-{
-    nor.program(at, &bytes[start..end])
 }

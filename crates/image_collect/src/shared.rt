@@ -258,7 +258,11 @@ mod tests {
             (16, 0, 0, true, true),
         ] {
             let g = Geometry::new(256, 4096, blocks, 4096, 0, MagicKind::Length)?;
-            let image = sample(rt.alloc(), &g, spans)?;
+            let mut image = sample(rt.alloc(), &g, spans)?;
+            if spans == 30 {
+                // The last entry of block 2 is deleted.
+                put(&mut image, 2 * 4096 + 28, &[0, 0]);
+            }
             let numbers = SharedBlocks {
                 shared,
                 index_pages: u64::from(shared),

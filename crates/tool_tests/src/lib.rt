@@ -8,6 +8,10 @@ mod creates;
 #[cfg(test)]
 mod cuts;
 #[cfg(test)]
+mod images;
+#[cfg(test)]
+mod lists;
+#[cfg(test)]
 mod refusals;
 #[cfg(test)]
 mod scripts;

@@ -50,7 +50,7 @@ fn is_name_of<N: Nor>(v: &mut View<'_, N>, name: &[u8], object: u16) -> Result<b
     ensures looks { OnlyLooks v.old v.new }
     ensures told { N.tells v.old.nor.now → IfOk result (λ is. is ≡ is_number (first_named v.old.geometry (N.bytes v.old.nor.now) name.now) object) }
 {
-    Ok(match v.find_name(name)? {
+    Ok(match v.find_header_name(name)? {
         Some(id) => id == object,
         None => false,
     })

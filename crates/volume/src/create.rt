@@ -25,7 +25,7 @@ fn is_there<N: Nor>(v: &mut View<'_, N>, name: &[u8]) -> Result<bool, Failed>
     ensures told { N.tells v.old.nor.now → IsTidy v.old.geometry (N.bytes v.old.nor.now) → IfOk result (λ has. has ≡ the_name name.now (table_of v.old.geometry (N.bytes v.old.nor.now))) }
 {
     names_are_told();
-    Ok(v.find_name(name)?.is_some())
+    Ok(v.find_header_name(name)?.is_some())
 }
 
 // What stands against a new file of that name, or nothing.

@@ -54,7 +54,7 @@ pub(crate) fn stat_named<N: Nor>(v: &mut View<'_, N>, name: &[u8]) -> Result<Opt
     ensures looks { OnlyLooks v.old v.new }
     ensures told { N.tells v.old.nor.now → IsTidy v.old.geometry (N.bytes v.old.nor.now) → IfOk result (λ found. found ≡ option_map the_stat (file_named name.now (table_of v.old.geometry (N.bytes v.old.nor.now)))) }
 {
-    match v.find_name(name)? {
+    match v.find_header_name(name)? {
         Some(id) => stat_of_id(v, id),
         None => Ok(None),
     }

@@ -6,13 +6,14 @@ use Rattle.image_model.specs.Live.{live_at, own}
 use Rattle.image_model.specs.Files.{index_page, is_index}
 use Rattle.flash_view.proofs.Finds.{find_here, find_later}
 use Rattle.flash_view.proofs.Looking.{looks_none, looks_then}
-use Rattle.flash_view.proofs.view.View.find_index.Goals as goal
+use Rattle.flash_view.proofs.view.View.find_span.Goals as goal
 
 pub loop-page-init : goal.loop-page-init
 unfolding index_page page_count per_block
 loop-page-init g c = record {
   pages = c.pages-page-end.ensures;
   looks = looks_none c.args.self.now;
+  work = refl;
   told = λ tells. rw (sub-zero c.pages-page-end.result, c.pages-page-end.ensures) refl;
 }
 
@@ -33,6 +34,7 @@ loop-page-preserved g c =
     record {
       pages = was.pages ∙ ap pages_of (sym looked.looks.same.geometry);
       looks = looks;
+      work = looked.work ∙ was.work;
       told = λ tells.
           let turn = looked.told (was.looks.reads.told tells) in
           let view = c.args.self.now in

@@ -1,0 +1,5 @@
+pub mod Bytes
+pub mod Names
+pub mod Pieces
+pub mod Going
+pub mod Stats

@@ -1,0 +1,4 @@
+pub mod Whole
+pub mod Spans
+pub mod Missing
+pub mod Stats

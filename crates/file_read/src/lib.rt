@@ -1,0 +1,12 @@
+//! Reading a file: its record from its header page, and its bytes by its index pages from its data pages.
+#![tactic(auto)]
+
+mod pages;
+mod read;
+mod stat;
+
+pub use read::{read_at, read_from};
+pub use stat::{stat_at, stat_in};
+
+#[cfg(test)]
+mod tests;

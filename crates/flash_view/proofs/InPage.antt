@@ -1,0 +1,80 @@
+-- Slots and parts of pages lie in one page.
+use Rattle.std.proofs.Common.{ℕ, ◌≡◌, ◌+◌, ◌-◌, ◌*◌, ◌/◌, ◌%◌, ◌<◌, ◌≤◌, ◌⊎◌, ⊎_elim, ap, sym, ◌∙◌, arith}
+use Rattle.std.proofs.Math.Nat.{mul-le-mul_right, div-lt_iff_lt-mul, mod-lt}
+use Rattle.std.proofs.lemmas.Nat.{mod-mul-add, div-mul-add, div-add-mod'}
+use Rattle.geometry.specs.declared.geometry.Geometry.{Geometry}
+use Rattle.geometry.specs.Numbers.{per_block, page_count, lookups, slots}
+use Rattle.page_cache.specs.Frames.{InOnePage}
+use Rattle.page_cache.proofs.Places.{lt_or_le}
+use Rattle.flash_view.specs.Places.{IsEntryPage, slot_start, entry_start, magic_start, count_start, block_of, place_of}
+use Rattle.flash_view.proofs.Inside.{entry_inside, magic_inside, volume_pages, block_pages}
+
+-- a part of a page
+pub part_in_page : (g : Geometry) (page start n at : ℕ) → page < page_count g → 0 < n → start + n ≤ g.page → at ≡ page * g.page + start → InOnePage g at n
+part_in_page g page start n at below some fits at_is =
+    let d : at / g.page ≡ page = ap (λ (k : ℕ). k / g.page) at_is ∙ div-mul-add page g.page start (omega arith) in
+    let m : at % g.page ≡ start = ap (λ (k : ℕ). k % g.page) at_is ∙ mod-mul-add page g.page start (omega arith) in
+    record { page = omega (arith, d, below); inside = omega (arith, m, fits) }
+
+-- half of a number's multiples of an odd number
+halved : (page q n : ℕ) → page % 2 ≡ 1 → q * page ≡ 2 * n → q / 2 * page ≡ n
+halved page q n odd is = ⊎_elim
+    (λ (even : q % 2 < 1). let e : q ≡ 2 * (q / 2) = omega (arith, even) in omega (arith, is, ap (λ (k : ℕ). k * page) e))
+    (λ (odd_q : 1 ≤ q % 2). let e : q ≡ 2 * (q / 2) + 1 = omega (arith, odd_q) in absurd (omega (arith, is, odd, ap (λ (k : ℕ). k * page) e)))
+    (lt_or_le (q % 2) 1)
+
+-- pages have an even number of bytes, since 4096 is a whole number of pages
+pub even_page : (g : Geometry) → g.page % 2 ≡ 0
+even_page g = ⊎_elim
+    (λ (even : g.page % 2 < 1). omega (arith, even))
+    (λ (not_even : 1 ≤ g.page % 2).
+      let odd : g.page % 2 ≡ 1 = omega (arith, not_even) in
+      let q : ℕ = 4096 / g.page in
+      let all : 4096 / g.page * g.page ≡ 2 * 2048 = grind (arith, g.valid.page_divides) in
+      let a = halved g.page (4096 / g.page) 2048 odd all in
+      let b = halved g.page (4096 / g.page / 2) 1024 odd (omega (arith, a)) in
+      let c = halved g.page (4096 / g.page / 2 / 2) 512 odd (omega (arith, b)) in
+      let d = halved g.page (4096 / g.page / 2 / 2 / 2) 256 odd (omega (arith, c)) in
+      let e = halved g.page (4096 / g.page / 2 / 2 / 2 / 2) 128 odd (omega (arith, d)) in
+      let f = halved g.page (4096 / g.page / 2 / 2 / 2 / 2 / 2) 64 odd (omega (arith, e)) in
+      absurd (too_few g.page (4096 / g.page / 2 / 2 / 2 / 2 / 2 / 2) g.valid.page_least f))
+    (lt_or_le (g.page % 2) 1)
+  where
+  too_few : (page q : ℕ) → 128 ≤ page → q * page ≡ 64 → ⊥
+  too_few page q long is = ⊎_elim
+      (λ (none : q < 1). let z : q ≡ 0 = omega (arith, none) in omega (arith, is, ap (λ (k : ℕ). k * page) z))
+      (λ (some : 1 ≤ q). omega (arith, is, long, mul-le-mul_right page some))
+      (lt_or_le q 1)
+
+-- so have blocks
+even_block : (g : Geometry) → g.block % 2 ≡ 0
+even_block g =
+    let half : g.page ≡ 2 * (g.page / 2) = omega (arith, even_page g) in
+    omega (arith, block_pages g, ap (λ (k : ℕ). per_block g * k) half)
+
+even_slot : (g : Geometry) (b slot : ℕ) → slot_start g b slot % 2 ≡ 0
+even_slot g b slot =
+    let half : g.block ≡ 2 * (g.block / 2) = omega (arith, even_block g) in
+    omega (arith, ap (λ (k : ℕ). b * k) half)
+
+-- two bytes at an even place
+pub even_in_page : (g : Geometry) (at : ℕ) → at % 2 ≡ 0 → at + 2 ≤ g.blocks * g.block → InOnePage g at 2
+even_in_page g at even inside =
+    let some : 0 < g.page = omega (arith, g.valid.page_least) in
+    let half : g.page ≡ 2 * (g.page / 2) = omega (arith, even_page g) in
+    let whole : at / g.page * g.page + at % g.page ≡ at = div-add-mod' at g.page in
+    let twice : at / g.page * g.page ≡ at / g.page * (2 * (g.page / 2)) = ap (λ (k : ℕ). at / g.page * k) half in
+    let low : at % g.page < g.page = mod-lt at some in
+    record {
+      page = (div-lt_iff_lt-mul some).1 (omega (arith, inside, volume_pages g));
+      inside = omega (arith, whole, twice, low, even, half);
+    }
+
+pub entry_in_page : (g : Geometry) (page : ℕ) → IsEntryPage g page → InOnePage g (entry_start g page) 2
+entry_in_page g page place = even_in_page g (entry_start g page) (even_slot g (block_of g page) (place_of g page - lookups g)) (entry_inside g page place)
+
+pub magic_in_page : (g : Geometry) (block : ℕ) → block < g.blocks → InOnePage g (magic_start g block) 2
+magic_in_page g block below = even_in_page g (magic_start g block) (even_slot g block (slots g - 2)) (omega (arith, magic_inside g block below))
+
+pub count_in_page : (g : Geometry) (block : ℕ) → block < g.blocks → InOnePage g (count_start g block) 2
+count_in_page g block below = even_in_page g (count_start g block) (even_slot g block (slots g - 1)) (omega (arith, magic_inside g block below, g.valid.magic_fits))

@@ -1,0 +1,6 @@
+pub mod Places
+pub mod Loops
+pub mod Copies
+pub mod Counts
+pub mod Held
+pub mod Keeping

@@ -1,0 +1,12 @@
+use Rattle.std.proofs.Common.{ℕ, ◌+◌, ◌-◌, ◌∙◌, subst, arith}
+use borrow.Rule.Slice.PartMut.{put_mid}
+use Rattle.page_cache.specs.Frames.{GivenUp, frame_at}
+use Rattle.page_cache.proofs.Places.{put_made, put_there, part_length}
+use Rattle.page_cache.proofs.frames.give_up_one.Goals as goal
+
+pub returns-clause-here : goal.returns-clause-here
+returns-clause-here c = subst (λ (p : ℕ). GivenUp p c.args.at c.args.count (frame_at c.args.g.now c.args.frames.now c.args.f) (frame_at c.args.g.now (put_mid c.start_of-start.result (c.start_of-start.result + c.frame_len.result - c.start_of-start.result) c.args.frames.now c.give_up_met.new.frame) c.args.f)) c.page.ensures
+    (put_made c.args.g.now (GivenUp c.page.result c.args.at c.args.count) c.args.frames.now c.give_up_met.new.frame c.args.f c.start_of-start.result (c.start_of-start.result + c.frame_len.result) c.start_of-start.ensures.start (omega (arith, c.frame_len.ensures)) (omega (arith, c.start_of-start.ensures.inside, c.frame_len.ensures)) (c.give_up_met.auto.frame ∙ part_length c.args.frames.now c.start_of-start.result c.frame_len.result (omega (arith, c.start_of-start.ensures.inside, c.frame_len.ensures)) ∙ c.frame_len.ensures) c.give_up_met.ensures)
+
+pub returns-clause-others : goal.returns-clause-others
+returns-clause-others c = put_there c.args.g.now c.args.frames.now c.give_up_met.new.frame c.args.f c.start_of-start.result (c.start_of-start.result + c.frame_len.result) c.start_of-start.ensures.start (omega (arith, c.frame_len.ensures)) (omega (arith, c.start_of-start.ensures.inside, c.frame_len.ensures)) (c.give_up_met.auto.frame ∙ part_length c.args.frames.now c.start_of-start.result c.frame_len.result (omega (arith, c.start_of-start.ensures.inside, c.frame_len.ensures)) ∙ c.frame_len.ensures)

@@ -1,0 +1,4 @@
+pub mod Counting
+pub mod Frames
+pub mod Kept
+pub mod Same

@@ -1,0 +1,123 @@
+//! One frame: the number of a page, little endian, six spare bytes, and the page's bytes.
+ghost use Rattle.std.specs.Prelude.{◌≡◌, ℕ, ◌+◌, ◌*◌, ◌^◌, ◌<◌, ◌≤◌, ◌⊎◌, length, slice_index, slice_range, bit_and, OnOk, OnErr};
+ghost use Rattle.nor_core.specs.Count.{Rose};
+ghost use Rattle.nor_core.specs.Device.{OnlyReads};
+ghost use Rattle.page_cache.specs.Frames.{number_of as the_number_of, IsCopy, GoesWithProgram, GoesWithErase, GivenUp};
+
+use nor_core::{Failed, Nor, NorState};
+
+// Bytes before the page's.
+pub(crate) const HEAD: usize = 8;
+
+// The number that tells that a frame is free. No volume has a page of this number.
+const FREE: u16 = 0xFFFF;
+
+// The number in a frame.
+pub(crate) fn number_of(frame: &[u8]) -> u16
+    requires { 8 ≤ length frame.now }
+    ensures { result ≡ the_number_of frame.now }
+{
+    u16::from(frame[0]) + 256 * u16::from(frame[1])
+}
+
+// Puts a number into a frame.
+fn put_number(frame: &mut [u8], number: u16)
+    requires { 8 ≤ length frame.old }
+    ensures number { the_number_of frame.new ≡ number }
+    ensures rest { (k : ℕ) → 8 ≤ k → slice_index frame.new k ≡ slice_index frame.old k }
+{
+    frame[0] = (number % 256) as u8;
+    frame[1] = (number / 256) as u8;
+}
+
+// Gives up what a frame holds.
+pub(crate) fn give_up(frame: &mut [u8])
+    requires { 8 ≤ length frame.old }
+    ensures { the_number_of frame.new ≡ 65535 }
+{
+    put_number(frame, FREE);
+}
+
+// A frame gets a page from the device.
+pub(crate) fn fill<N: Nor>(
+    nor: &mut N,
+    frame: &mut [u8],
+    len: u32,
+    page: u16,
+) -> Result<(), Failed>
+    requires size { length frame.old ≡ len + 8 }
+    requires some { 0 < len }
+    requires inside { page * len + len ≤ N.size nor.old }
+    ensures cause { OnErr result (Rose (N.faults nor.old) (N.faults nor.new)) }
+    ensures reads { OnlyReads N.NorState nor.old nor.new }
+    ensures once { N.device_reads nor.new ≤ N.device_reads nor.old + 1 }
+    ensures number { OnOk result (the_number_of frame.new ≡ page) }
+    ensures free { OnErr result (the_number_of frame.new ≡ 65535) }
+    ensures copy { N.tells nor.old → OnOk result (IsCopy len (N.bytes nor.old) frame.new) }
+{
+    give_up(frame);
+    let at = u32::from(page) * len;
+    nor.read(at, &mut frame[HEAD..])?;
+    put_number(frame, page);
+    Ok(())
+}
+
+// Clears the bits of these bytes that others don't have.
+fn and_bytes(bytes: &mut [u8], others: &[u8])
+    requires { length bytes.old ≡ length others.now }
+    ensures { (k : ℕ) → k < length others.now → slice_index bytes.new k ≡ bit_and (slice_index bytes.old k) (slice_index others.now k) }
+{
+    for k in 0..others.len() {
+        bytes[k] &= others[k];
+    }
+}
+
+// A frame goes with a program of bytes from byte `at` of the device on.
+pub(crate) fn program_copy(frame: &mut [u8], page: usize, at: usize, from: &[u8])
+    requires size { length frame.old ≡ page + 8 }
+    requires page { page ≤ 4096 }
+    requires fits { at + length from.now < 2 ^ 32 }
+    ensures { GoesWithProgram page at from.now frame.old frame.new }
+{
+    let start = usize::from(number_of(frame)) * page;
+    let low = start.max(at);
+    let high = (start + page).min(at + from.len());
+    if low < high {
+        and_bytes(&mut frame[HEAD + low - start..HEAD + high - start], &from[low - at..high - at]);
+    }
+}
+
+// Makes these bytes 0xFF.
+fn blank(bytes: &mut [u8])
+    ensures { (k : ℕ) → k < length bytes.old → slice_index bytes.new k ≡ 255 }
+{
+    bytes.fill(0xFF);
+}
+
+// A frame goes with an erase of bytes from byte `at` of the device on.
+pub(crate) fn erase_copy(frame: &mut [u8], page: usize, at: usize, count: usize)
+    requires size { length frame.old ≡ page + 8 }
+    requires page { page ≤ 4096 }
+    requires fits { at + count < 2 ^ 32 }
+    ensures { GoesWithErase page at count frame.old frame.new }
+{
+    let start = usize::from(number_of(frame)) * page;
+    let low = start.max(at);
+    let high = (start + page).min(at + count);
+    if low < high {
+        blank(&mut frame[HEAD + low - start..HEAD + high - start]);
+    }
+}
+
+// Gives up what a frame holds, if a range of the device meets its page.
+pub(crate) fn give_up_met(frame: &mut [u8], page: usize, at: usize, count: usize)
+    requires size { length frame.old ≡ page + 8 }
+    requires page { page ≤ 4096 }
+    requires fits { at + count < 2 ^ 32 }
+    ensures { GivenUp page at count frame.old frame.new }
+{
+    let start = usize::from(number_of(frame)) * page;
+    if at < start + page && start < at + count {
+        give_up(frame);
+    }
+}

@@ -1,0 +1,216 @@
+//! Calls of a device through the copies of its pages.
+ghost use Rattle.std.specs.Prelude.{◌≡◌, ◌≢◌, ℕ, ◌+◌, ◌*◌, ◌/◌, ◌%◌, ◌<◌, ◌≤◌, ◌⊎◌, length, slice_index, slice_range, OnOk, OnErr, IfOk, IsOk, true, None};
+ghost use Rattle.std.specs.Option.{ForSome};
+ghost use Rattle.geometry.specs.Numbers.{page_count, cache_need};
+ghost use Rattle.nor_core.specs.Count.{Rose};
+ghost use Rattle.nor_core.specs.Flash.{programmed, HalfProgrammed, erased, HalfErased};
+ghost use Rattle.nor_core.specs.Device.{OnlyReads, Changes, InErase, Writes};
+ghost use Rattle.page_cache.specs.Frames.{frame_size, frame_count as the_frame_count, frame_at, page_in, holds, KeepsHeld, IsCopy, InOnePage};
+ghost use Rattle.page_cache.specs.Kept.{IsKept, FewReads, Stays};
+
+use crate::frame::{HEAD, fill};
+use crate::frames::{erase_all, find, frame, frame_len, give_up_all, pick, program_all, start_of};
+use geometry::Geometry;
+use nor_core::{Failed, Mark, Nor, NorState};
+
+// A frame gets a page from the device.
+fn load_frame<N: Nor>(
+    nor: &mut N,
+    frames: &mut [u8],
+    g: &Geometry,
+    f: usize,
+    page: u16,
+) -> Result<(), Failed>
+    requires frame { f < the_frame_count g.now frames.old }
+    requires page { page < page_count g.now }
+    requires volume { g.now.blocks * g.now.block ≤ N.size nor.old }
+    ensures cause { OnErr result (Rose (N.faults nor.old) (N.faults nor.new)) }
+    ensures reads { OnlyReads N.NorState nor.old nor.new }
+    ensures once { N.device_reads nor.new ≤ N.device_reads nor.old + 1 }
+    ensures number { OnOk result (page_in g.now frames.new f ≡ page) }
+    ensures free { OnErr result (page_in g.now frames.new f ≡ 65535) }
+    ensures copy { N.tells nor.old → OnOk result (IsCopy g.now.page (N.bytes nor.old) (frame_at g.now frames.new f)) }
+    ensures others { (h : ℕ) → h ≢ f → frame_at g.now frames.new h ≡ frame_at g.now frames.old h }
+{
+    let start = start_of(g, frames, f);
+    let end = start + frame_len(g);
+    fill(nor, &mut frames[start..end], g.page(), page)
+}
+
+// A page that is not held gets into a frame.
+fn bring_missing<N: Nor>(
+    nor: &mut N,
+    frames: &mut [u8],
+    g: &Geometry,
+    page: u16,
+) -> Result<usize, Failed>
+    requires need { cache_need g.now ≤ length frames.old }
+    requires page { page < page_count g.now }
+    requires volume { g.now.blocks * g.now.block ≤ N.size nor.old }
+    requires kept { IsKept N.NorState g.now nor.old frames.old }
+    requires missing { (f : ℕ) → f < the_frame_count g.now frames.old → page_in g.now frames.old f ≢ page }
+    ensures cause { OnErr result (Rose (N.faults nor.old) (N.faults nor.new)) }
+    ensures reads { OnlyReads N.NorState nor.old nor.new }
+    ensures kept { IsKept N.NorState g.now nor.new frames.new }
+    ensures below { IfOk result (λ f. f < the_frame_count g.now frames.new) }
+    ensures number { IfOk result (λ f. page_in g.now frames.new f ≡ page) }
+    ensures once { N.device_reads nor.new ≤ N.device_reads nor.old + 1 }
+    ensures stays { Stays g.now frames.old frames.new }
+    ensures few { FewReads N.NorState g.now nor.old frames.old nor.new frames.new }
+{
+    let f = pick(g, frames, page);
+    load_frame(nor, frames, g, f, page)?;
+    Ok(f)
+}
+
+// The frame of a page, which gets there from the device if it is not held.
+pub(crate) fn bring<N: Nor>(
+    nor: &mut N,
+    frames: &mut [u8],
+    g: &Geometry,
+    page: u16,
+) -> Result<usize, Failed>
+    requires need { cache_need g.now ≤ length frames.old }
+    requires page { page < page_count g.now }
+    requires volume { g.now.blocks * g.now.block ≤ N.size nor.old }
+    requires kept { IsKept N.NorState g.now nor.old frames.old }
+    ensures cause { OnErr result (Rose (N.faults nor.old) (N.faults nor.new)) }
+    ensures reads { OnlyReads N.NorState nor.old nor.new }
+    ensures kept { IsKept N.NorState g.now nor.new frames.new }
+    ensures below { IfOk result (λ f. f < the_frame_count g.now frames.new) }
+    ensures number { IfOk result (λ f. page_in g.now frames.new f ≡ page) }
+    ensures hit { holds g.now frames.old page ≡ true → IsOk result × (nor.new ≡ nor.old) × (frames.new ≡ frames.old) }
+    ensures once { N.device_reads nor.new ≤ N.device_reads nor.old + 1 }
+    ensures stays { Stays g.now frames.old frames.new }
+    ensures few { FewReads N.NorState g.now nor.old frames.old nor.new frames.new }
+{
+    match find(g, frames, page) {
+        Some(f) => Ok(f),
+        None => bring_missing(nor, frames, g, page),
+    }
+}
+
+// Reads bytes of a page, from its byte `start` on.
+fn read_within<N: Nor>(
+    nor: &mut N,
+    frames: &mut [u8],
+    g: &Geometry,
+    page: u16,
+    start: usize,
+    into: &mut [u8],
+) -> Result<(), Failed>
+    requires need { cache_need g.now ≤ length frames.old }
+    requires page { page < page_count g.now }
+    requires inside { start + length into.old ≤ g.now.page }
+    requires volume { g.now.blocks * g.now.block ≤ N.size nor.old }
+    requires kept { IsKept N.NorState g.now nor.old frames.old }
+    ensures read { N.tells nor.old → OnOk result (into.new ≡ slice_range (N.bytes nor.old) (page * g.now.page + start) (page * g.now.page + start + length into.old)) }
+    ensures cause { OnErr result (Rose (N.faults nor.old) (N.faults nor.new)) }
+    ensures reads { OnlyReads N.NorState nor.old nor.new }
+    ensures kept { IsKept N.NorState g.now nor.new frames.new }
+    ensures hit { holds g.now frames.old page ≡ true → IsOk result × (nor.new ≡ nor.old) × (frames.new ≡ frames.old) }
+    ensures once { N.device_reads nor.new ≤ N.device_reads nor.old + 1 }
+    ensures stays { Stays g.now frames.old frames.new }
+    ensures few { FewReads N.NorState g.now nor.old frames.old nor.new frames.new }
+{
+    let f = bring(nor, frames, g, page)?;
+    let first = HEAD + start;
+    let end = first + into.len();
+    into.copy_from_slice(&frame(g, frames, f)[first..end]);
+    Ok(())
+}
+
+// Reads bytes: through the copies where they lie in one page of the volume, else from the device.
+pub(crate) fn read_through<N: Nor>(
+    nor: &mut N,
+    frames: &mut [u8],
+    g: &Geometry,
+    at: u32,
+    into: &mut [u8],
+) -> Result<(), Failed>
+    requires need { cache_need g.now ≤ length frames.old }
+    requires some { 0 < length into.old }
+    requires inside { at + length into.old ≤ N.size nor.old }
+    requires volume { g.now.blocks * g.now.block ≤ N.size nor.old }
+    requires kept { IsKept N.NorState g.now nor.old frames.old }
+    ensures read { N.tells nor.old → OnOk result (into.new ≡ slice_range (N.bytes nor.old) at (at + length into.old)) }
+    ensures counted { N.device_reads nor.new ≤ N.device_reads nor.old + 1 }
+    ensures cause { OnErr result (Rose (N.faults nor.old) (N.faults nor.new)) }
+    ensures only_reads { OnlyReads N.NorState nor.old nor.new }
+    ensures kept { IsKept N.NorState g.now nor.new frames.new }
+    ensures hit { InOnePage g.now at (length into.old) → holds g.now frames.old (at / g.now.page) ≡ true → IsOk result × (nor.new ≡ nor.old) × (frames.new ≡ frames.old) }
+    ensures stays { Stays g.now frames.old frames.new }
+    ensures few { InOnePage g.now at (length into.old) → FewReads N.NorState g.now nor.old frames.old nor.new frames.new }
+{
+    let page = at / g.page();
+    let start = (at % g.page()) as usize;
+    if page < g.pages() && start + into.len() <= g.page() as usize {
+        return read_within(nor, frames, g, page as u16, start, into);
+    }
+    nor.read(at, into)
+}
+
+// A program. Copies go with it, or are given up where it failed.
+pub(crate) fn program_through<N: Nor>(
+    nor: &mut N,
+    frames: &mut [u8],
+    g: &Geometry,
+    at: u32,
+    from: &[u8],
+) -> Result<(), Failed>
+    requires some { 0 < length from.now }
+    requires inside { at + length from.now ≤ N.size nor.old }
+    requires kept { IsKept N.NorState g.now nor.old frames.old }
+    ensures done { N.tells nor.old → OnOk result (N.bytes nor.new ≡ programmed (N.bytes nor.old) at from.now) }
+    ensures changes { Changes N.NorState nor.old nor.new (HalfProgrammed at from.now) }
+    ensures cause { OnErr result (Rose (N.faults nor.old) (N.faults nor.new)) }
+    ensures writes { Writes N.NorState nor.old nor.new }
+    ensures kept { IsKept N.NorState g.now nor.new frames.new }
+    ensures stays { OnOk result (KeepsHeld g.now frames.old frames.new) }
+    ensures few { FewReads N.NorState g.now nor.old frames.old nor.new frames.new }
+{
+    match nor.program(at, from) {
+        Ok(()) => {
+            program_all(g, frames, at as usize, from);
+            Ok(())
+        }
+        Err(failed) => {
+            give_up_all(g, frames, at as usize, from.len());
+            Err(failed)
+        }
+    }
+}
+
+// An erase. Copies go with it, or are given up where it failed.
+pub(crate) fn erase_through<N: Nor>(
+    nor: &mut N,
+    frames: &mut [u8],
+    g: &Geometry,
+    unit_ix: u32,
+    mark: Option<Mark>,
+) -> Result<(), Failed>
+    requires inside { unit_ix < N.size nor.old / N.unit nor.old }
+    requires marked { ForSome mark (λ m. m.at + 2 ≤ N.unit nor.old) }
+    requires kept { IsKept N.NorState g.now nor.old frames.old }
+    ensures done { N.tells nor.old → OnOk result (N.bytes nor.new ≡ erased (N.bytes nor.old) (unit_ix * N.unit nor.old) (N.unit nor.old)) }
+    ensures half { N.tells nor.old → OnErr result (HalfErased (unit_ix * N.unit nor.old) (N.unit nor.old) mark (N.bytes nor.old) (N.bytes nor.new)) }
+    ensures cause { OnErr result (Rose (N.faults nor.old) (N.faults nor.new)) }
+    ensures writes { Writes N.NorState nor.old nor.new }
+    ensures changes { Changes N.NorState nor.old nor.new (InErase N.NorState nor.old nor.new unit_ix mark) }
+    ensures kept { IsKept N.NorState g.now nor.new frames.new }
+    ensures stays { OnOk result (KeepsHeld g.now frames.old frames.new) }
+    ensures few { FewReads N.NorState g.now nor.old frames.old nor.new frames.new }
+{
+    let unit = nor.unit() as usize;
+    let at = unit_ix as usize * unit;
+    match nor.erase(unit_ix, mark) {
+        Ok(()) => {
+            erase_all(g, frames, at, unit);
+            Ok(())
+        }
+        Err(failed) => {
+            give_up_all(g, frames, at, unit);
+            Err(failed)
+        }
+    }
+}
