@@ -49,6 +49,7 @@ impl<'b, N: Nor> Reader<'b, N> {
     ghost use Rattle.image_model.specs.Kinds.{spoiled_blocks};
     ghost use Rattle.image_model.specs.Tables.{table_of, damaged_of};
     ghost use Rattle.vol_mount.specs.Mounts.{IsLate, CountsSpoiled};
+    ghost use Rattle.page_cache.specs.Frames.{held};
     ghost use Rattle.image_tool.specs.Same.{IsSameReader};
     ghost use Rattle.image_tool.specs.Lists.{damage_above};
 
@@ -66,7 +67,10 @@ impl<'b, N: Nor> Reader<'b, N> {
         ensures cache_name { result.cache.ghost_name ≡ lent.entry.cache.ghost_name }
         ensures slots_name { result.slots.ghost_name ≡ lent.entry.slots.ghost_name }
         ensures check_name { result.check.ghost_name ≡ lent.entry.check.ghost_name }
+        ensures cache_size { length result.cache.now ≡ length lent.entry.cache.now }
+        ensures empty { held g result.cache.now ≡ 0 }
     {
+        let _never = stand_in_never();
         let Lent {
             work,
             slots,
@@ -136,6 +140,7 @@ impl<'b, B: Board> Reader<'b, B> {
         ensures cuts { Leaves B.NorState self.old.nor.now self.new.nor.now (InSay B.NorState self.old.nor.now piece.now) }
         ensures same { IsSameReader self.old self.new }
     {
+        let _never = stand_in_never();
         self.nor.say(piece)
     }
 }

@@ -1,6 +1,8 @@
 -- What a listing leaves and answers.
-use Rattle.std.specs.Prelude.{ℕ, ◌≡◌, ◌≢◌, ◌+◌, ◌<◌, ◌≤◌, ◌⊎◌, List, [], ◌++◌, length}
+use Rattle.std.specs.Prelude.{ℕ, ◌≡◌, ◌≢◌, ◌+◌, ◌*◌, ◌<◌, ◌≤◌, ◌⊎◌, List, [], ◌++◌, length}
 use Rattle.geometry.specs.declared.geometry.Geometry.{Geometry}
+use Rattle.geometry.specs.Numbers.{page_count}
+use Rattle.nor_core.specs.Count.{Rose}
 use Rattle.nor_core.specs.declared.state.NorState.{Ghosts as NorOf}
 use Rattle.image_model.specs.Tables.{damaged_of}
 use Rattle.image_model.specs.Kinds.{spoiled_blocks}
@@ -60,3 +62,7 @@ pub record ListExact {D : Type 0} (nor : NorOf D) (g : Geometry) (old : D) (stat
   pub damaged_only : status ≡ 12 → damaged_of g (nor.bytes old) ≡ [] → ⊥
   pub done : spoiled_blocks g (nor.bytes old) < 2 → damaged_of g (nor.bytes old) ≡ [] → status ≡ 0
   pub done_only : status ≡ 0 → (spoiled_blocks g (nor.bytes old) < 2) × (damaged_of g (nor.bytes old) ≡ [])
+
+-- with lent bytes for a copy of each page, and where no fault was counted, the device was asked for no more reads than it has pages
+pub record ReadsOnce {D : Type 0} (nor : NorOf D) (g : Geometry) (cache : ℕ) (old new : D) : Type 0 where
+  pub few : page_count g * (g.page + 8) ≤ cache → ¬ Rose (nor.faults old) (nor.faults new) → nor.device_reads new ≤ nor.device_reads old + page_count g

@@ -4,7 +4,7 @@ ghost use Rattle.nor_core.specs.Count.{Rose};
 ghost use Rattle.image_tool.specs.Same.{IsSameReader};
 ghost use Rattle.tool_core.specs.Fits.{HoldsVolume};
 ghost use Rattle.tool_core.specs.Later.{IsLater};
-ghost use Rattle.tool_core.specs.Listing.{ListsTo};
+ghost use Rattle.tool_core.specs.Listing.{ListsTo, ReadsOnce};
 
 use crate::ending::Ending;
 use crate::run::mount_ending;
@@ -48,6 +48,7 @@ pub(crate) fn list_volume<'b, B: Board>(
     ensures no_script { result ≢ Ending.SourceFault }
     ensures cause { result ≡ Ending.BoardFault → Rose (B.faults board.old) (B.faults board.new) }
     ensures lists { ListsTo B.NorState g board.old board.new result }
+    ensures few { ReadsOnce B.NorState g (length lent.entry.cache.now) board.old board.new }
 {
     let mut reader = Reader::new(g, board, lent);
     list_reader(&mut reader, line)

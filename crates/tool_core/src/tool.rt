@@ -12,7 +12,7 @@ ghost use Rattle.tool_core.specs.Plan.{refusal_of};
 ghost use Rattle.tool_core.specs.Closing.{closing_line_of};
 ghost use Rattle.tool_core.specs.Endings.{EndsAs, Refuses, RefusesIf};
 ghost use Rattle.tool_core.specs.Fits.{IsFitting, HoldsVolume, HasLengths};
-ghost use Rattle.tool_core.specs.Listing.{ListsTo, Listed, ListCut, ListExact};
+ghost use Rattle.tool_core.specs.Listing.{ListsTo, Listed, ListCut, ListExact, ReadsOnce};
 ghost use Rattle.tool_core.specs.Later.{IsLater};
 ghost use Rattle.tool_core.specs.Lent.{lengths_of, start_of};
 
@@ -107,6 +107,7 @@ fn list_on<B: Board>(g: Geometry, board: &mut B, bufs: &mut Buffers<'_>) -> Endi
     ensures no_script { result ≢ Ending.SourceFault }
     ensures cause { result ≡ Ending.BoardFault → Rose (B.faults board.old) (B.faults board.new) }
     ensures lists { ListsTo B.NorState g board.old board.new result }
+    ensures few { ReadsOnce B.NorState g (length bufs.old.cache.now) board.old board.new }
 {
     let lent = Lent {
         work: &mut *bufs.work,
@@ -152,6 +153,8 @@ pub fn spiffs_tool<B: Board, S: Source>(
         Leaves B.NorState board.old board.new (λ image count. B.tells board.old → ListCut B.NorState g board.old image count) }
     ensures list_exact { (g : Geometry) → IsListing (map string_bytes words.now) (B.unit board.old) (B.size board.old) (lengths_of bufs.old) g → B.tells board.old →
         ¬ Rose (B.faults board.old) (B.faults board.new) → ListExact B.NorState g board.old result }
+    ensures list_reads { (g : Geometry) → IsListing (map string_bytes words.now) (B.unit board.old) (B.size board.old) (lengths_of bufs.old) g →
+        ReadsOnce B.NorState g (length bufs.old.cache.now) board.old board.new }
 {
     match plan(words, board.unit(), board.size(), &lengths(bufs)) {
         Err(ending) => conclude(board, ending),

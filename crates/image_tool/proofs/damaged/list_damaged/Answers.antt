@@ -7,14 +7,14 @@ use Rattle.image_tool.specs.Lists.{damage_above}
 use Rattle.image_tool.proofs.Ascending.{damaged-ascends}
 use Rattle.image_tool.proofs.Speaking.{says_none, on_err}
 use Rattle.image_tool.proofs.Walking.{place_first, walk_says, walk_front, walk_next, walk_last}
-use Rattle.image_tool.proofs.Readers.{same_then}
+use Rattle.image_tool.proofs.Readers.{same_none, same_then}
 use Rattle.image_tool.proofs.damaged.list_damaged.Goals as goal
 
 pub loop-id-init : goal.loop-id-init
 loop-id-init g c =
     let r = c.args.r.now in
     record {
-      same = search rules;
+      same = same_none r;
       few = omega arith;
       says = says_none _ (reads_none r.nor.now);
       place = λ tells. let w = place_first (λ (d : ℕ × Damage). d.0) (λ (d : ℕ × Damage). damage_line d.0 d.1) (g.B.NorState.said r.nor.now) (damaged_of r.geometry (g.B.NorState.bytes r.nor.now)) (damaged-ascends r.geometry (g.B.NorState.bytes r.nor.now)) in (w.0, sym w.1);
@@ -86,3 +86,6 @@ returns-clause-count g c = λ tells.
     let now = was.says.cuts.told tells in
     let none : None ≡ c.in_ok-id.field-0 = search rules in
     (was.place tells).1 ∙ (walk_last (λ (d : ℕ × Damage). d.0) (λ (d : ℕ × Damage). damage_line d.0 d.1) first here c.loop-id.after e (was.place tells).0 (none ∙ c.in_ok-id.ensures.found now) (c.in_ok-id.ensures.whole now)).1
+
+pub returns-clause-same : goal.returns-clause-same
+returns-clause-same g c = same_then c.loop-id.invariant.same c.say_next.ensures.same

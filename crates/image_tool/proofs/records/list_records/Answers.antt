@@ -6,14 +6,14 @@ use Rattle.image_tool.specs.Texts.{record_line, record_lines}
 use Rattle.image_tool.proofs.Ascending.{table-ascends}
 use Rattle.image_tool.proofs.Speaking.{says_none, on_err}
 use Rattle.image_tool.proofs.Walking.{place_first, walk_says, walk_front, walk_next, walk_last}
-use Rattle.image_tool.proofs.Readers.{same_then}
+use Rattle.image_tool.proofs.Readers.{same_none, same_then}
 use Rattle.image_tool.proofs.records.list_records.Goals as goal
 
 pub loop-id-init : goal.loop-id-init
 loop-id-init g c =
     let r = c.args.r.now in
     record {
-      same = search rules;
+      same = same_none r;
       says = says_none _ (reads_none r.nor.now);
       place = λ tells. (place_first (λ (f : File). f.id) record_line (g.B.NorState.said r.nor.now) _ (table-ascends r.geometry (g.B.NorState.bytes r.nor.now))).0;
     }
@@ -70,3 +70,6 @@ returns-clause-whole g c = λ tells.
     let now = was.says.cuts.told tells in
     let none : None ≡ c.in_ok-id.field-0 = search rules in
     (walk_last (λ (f : File). f.id) record_line first here c.loop-id.after e (was.place tells) (none ∙ c.in_ok-id.ensures.found now) (c.in_ok-id.ensures.whole now)).0
+
+pub returns-clause-same : goal.returns-clause-same
+returns-clause-same g c = same_then c.loop-id.invariant.same c.say_next.ensures.same

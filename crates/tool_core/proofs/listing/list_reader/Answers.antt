@@ -2,6 +2,7 @@ use Rattle.std.proofs.Common.{sym, subst, ◌∙◌, arith, rules}
 use Rattle.tool_core.specs.declared.ending.Ending.{Ending}
 use Rattle.tool_core.specs.Listing.{ListsTo}
 use Rattle.tool_core.proofs.ListEnds.{not_mounted, list_done, list_damaged, list_broken}
+use Rattle.image_tool.proofs.Readers.{same_then}
 use Rattle.tool_core.proofs.listing.list_reader.Goals as goal
 
 pub returns-in-Err-clause-lists : goal.returns-in-Err-clause-lists
@@ -20,3 +21,9 @@ returns-in-Ok-clause-lists g c =
 pub returns-in-Err-BoardFault-clause-lists : goal.returns-in-Err-BoardFault-clause-lists
 returns-in-Err-BoardFault-clause-lists g c =
     list_broken c.mount.new.self.geometry c.mount.ensures.same.geometry c.mount.ensures.looks c.list.ensures.says (λ tells. let front = c.list.ensures.front tells in rw c.in-Err-BoardFault.is at front)
+
+pub returns-in-Ok-eq0-clause-same : goal.returns-in-Ok-eq0-clause-same
+returns-in-Ok-eq0-clause-same g c = same_then c.mount.ensures.same c.list.ensures.same
+
+pub returns-in-Ok-clause-same : goal.returns-in-Ok-clause-same
+returns-in-Ok-clause-same g c = same_then c.mount.ensures.same c.list.ensures.same

@@ -7,7 +7,7 @@ use Rattle.tool_core.proofs.Early.{ending_early, early_status, early_board}
 use Rattle.tool_core.proofs.Concluding.{outcome_of, run_cuts}
 use Rattle.tool_core.proofs.Geometries.{one_geometry, one_listing}
 use Rattle.tool_core.proofs.Verbs.{apart}
-use Rattle.tool_core.proofs.ListEnds.{listed_of, list_kept, list_cut, list_exact}
+use Rattle.tool_core.proofs.ListEnds.{listed_of, list_kept, list_cut, list_exact, reads_said}
 use Rattle.tool_core.proofs.Exact.{exact_of, complete_of, ran_whole}
 use Rattle.tool_core.proofs.tool.spiffs_tool.Goals as goal
 
@@ -127,3 +127,13 @@ returns-in-Ok-List-clause-list_exact g c = λ h lists tells no_fault.
     let planned = rw c.in-Ok-List.field-0-is at c.in-Ok-List.ensures.planned in
     let fault : c.conclude-in-Ok-List.result ≡ 7 → Rose (g.B.NorState.faults c.args.board.now) (g.B.NorState.faults c.conclude-in-Ok-List.new.board) = search rules in
     rw (one_listing _ _ _ _ _ _ _ h c.in-Ok-List.g lists planned) (list_exact fault no_fault (listed_of c.list_on-ending.result c.conclude-in-Ok-List.result c.list_on-ending.ensures.lists c.conclude-in-Ok-List.ensures.ends c.conclude-in-Ok-List.ensures.says c.conclude-in-Ok-List.ensures.whole c.conclude-in-Ok-List.ensures.silent tells))
+
+pub returns-in-Ok-List-clause-list_reads : goal.returns-in-Ok-List-clause-list_reads
+returns-in-Ok-List-clause-list_reads g c = λ h lists.
+    let planned = rw c.in-Ok-List.field-0-is at c.in-Ok-List.ensures.planned in
+    rw (one_listing _ _ _ _ _ _ _ h c.in-Ok-List.g lists planned) (reads_said _ c.list_on-ending.ensures.few c.conclude-in-Ok-List.ensures.says c.conclude-in-Ok-List.ensures.leaves.faults)
+
+pub returns-in-Ok-Run-clause-list_reads : goal.returns-in-Ok-Run-clause-list_reads
+returns-in-Ok-Run-clause-list_reads g c = λ h lists.
+    let planned = rw c.in-Ok-Run.field-0-is at c.in-Ok-Run.ensures.planned in
+    absurd (apart _ _ _ _ _ _ _ c.in-Ok-Run.g h planned lists)
