@@ -7,8 +7,8 @@ use Rattle.image_model.specs.Tables.{table_of, damaged_of}
 use Rattle.image_tool.specs.Texts.{record_line, damage_line, list_text, line_if}
 
 -- the damaged id next above one, with its cause
-unfoldable pub damage_above : ℕ → List (ℕ × Damage) → Option (ℕ × Damage)
-damage_above after damaged = find (λ d. nat_lt after d.0) damaged
+unfoldable pub damaged_above : Geometry → List ℕ → ℕ → Option (ℕ × Damage)
+damaged_above g image after = find (λ d. nat_lt after d.0) (damaged_of g image)
 
 -- the line of the file of the least id above one, or nothing
 abbrev pub next_record : Geometry → List ℕ → ℕ → List ℕ
@@ -16,7 +16,7 @@ next_record g image after = line_if record_line (file_above after (table_of g im
 
 -- the line of the damaged id next above one, or nothing
 abbrev pub next_damage : Geometry → List ℕ → ℕ → List ℕ
-next_damage g image after = line_if (λ d. damage_line d.0 d.1) (damage_above after (damaged_of g image))
+next_damage g image after = line_if (λ d. damage_line d.0 d.1) (damaged_above g image after)
 
 -- the list of an image
 abbrev pub list_of : Geometry → List ℕ → List ℕ

@@ -2,17 +2,47 @@
 ghost use Rattle.std.specs.Prelude.{◌≡◌, ◌<◌, ◌≤◌, ◌++◌, length, IfOk, OnOk, OnErr};
 ghost use Rattle.std.specs.Option.{option_map, IfSome};
 ghost use Rattle.nor_core.specs.Count.{Rose};
+ghost use Rattle.nor_core.specs.Device.{OnlyReads};
 ghost use Rattle.image_model.specs.Tables.{damaged_of};
 ghost use Rattle.image_tool.specs.Same.{IsSameReader};
 ghost use Rattle.image_tool.specs.Texts.{damage_line, damage_lines};
-ghost use Rattle.image_tool.specs.Lists.{damage_above, next_damage};
+ghost use Rattle.image_tool.specs.Lists.{damaged_above, next_damage};
 ghost use Rattle.image_tool.specs.Saying.{OnlySays, SaysFront};
 
 use crate::error::ToolErr;
 use crate::lines::put_damaged;
 use crate::reader::Reader;
 use image_model::Damage;
-use nor_core::{Board, Failed, NorState};
+use nor_core::{Board, Failed, Nor, NorState};
+
+// Passes on a damaged id that is above one.
+fn above(found: Option<(u16, Damage)>, after: u16) -> Option<(u16, Damage)>
+    ensures above { IfSome result (λ d. after < d.0) }
+    ensures same { IfSome found (λ d. after < d.0) → result ≡ found }
+{
+    match found {
+        Some((id, cause)) if id > after => Some((id, cause)),
+        _ => None,
+    }
+}
+
+// The damaged id next above one, with its cause. It is always above, unless the device's bytes change by themselves:
+// then there is none.
+fn next_damaged<N: Nor>(
+    r: &mut Reader<'_, N>,
+    after: u16,
+) -> Result<Option<(u16, Damage)>, ToolErr>
+    ensures cause { OnErr result (Rose (N.faults r.old.nor.now) (N.faults r.new.nor.now)) }
+    ensures looks { OnlyReads N.NorState r.old.nor.now r.new.nor.now }
+    ensures above { IfOk result (λ found. IfSome found (λ d. after < d.0)) }
+    ensures told { N.tells r.old.nor.now → IfOk result (λ found. found ≡ damaged_above r.old.geometry (N.bytes r.old.nor.now) after) }
+    ensures same { IsSameReader r.old r.new }
+{
+    match r.next_damaged(after) {
+        Ok(found) => Ok(above(found, after)),
+        Err(_) => Err(ToolErr::BoardFault),
+    }
+}
 
 // Says the line of a damaged id.
 fn say_damaged<B: Board>(
@@ -46,14 +76,11 @@ fn say_next<B: Board>(
     ensures same { IsSameReader r.old r.new }
     ensures above { IfOk result (λ found. IfSome found (λ id. after < id)) }
     ensures says { OnlySays B.NorState r.old.nor.now r.new.nor.now (next_damage r.old.geometry (B.bytes r.old.nor.now) after) }
-    ensures found { B.tells r.old.nor.now → IfOk result (λ found. found ≡ option_map (λ d. d.0) (damage_above after (damaged_of r.old.geometry (B.bytes r.old.nor.now)))) }
+    ensures found { B.tells r.old.nor.now → IfOk result (λ found. found ≡ option_map (λ d. d.0) (damaged_above r.old.geometry (B.bytes r.old.nor.now) after)) }
     ensures whole { B.tells r.old.nor.now → OnOk result (B.said r.new.nor.now ≡ B.said r.old.nor.now ++ next_damage r.old.geometry (B.bytes r.old.nor.now) after) }
     ensures front { B.tells r.old.nor.now → OnErr result (SaysFront B.NorState r.old.nor.now r.new.nor.now (next_damage r.old.geometry (B.bytes r.old.nor.now) after)) }
 {
-    let Ok(found) = r.next_damaged(after) else {
-        return Err(ToolErr::BoardFault);
-    };
-    let Some((id, cause)) = found else {
+    let Some((id, cause)) = next_damaged(r, after)? else {
         return Ok(None);
     };
     say_damaged(r, id, cause, line)?;

@@ -39,7 +39,7 @@ pub struct Reader<'b, N: Nor> {
 }
 
 impl<'b, N: Nor> Reader<'b, N> {
-    ghost use Rattle.std.specs.Prelude.{◌≡◌, ◌<◌, ◌*◌, ◌≤◌, OnErr, OnOk, IfOk, IfErr, Err, length};
+    ghost use Rattle.std.specs.Prelude.{◌≡◌, ◌<◌, ◌*◌, ◌≤◌, OnErr, OnOk, IfOk, IfErr, IsErrOf, Err, length};
     ghost use Rattle.std.specs.Option.{option_map, IfSome};
     ghost use Rattle.geometry.specs.Numbers.{work_need, cache_need, check_need};
     ghost use Rattle.nor_core.specs.Count.{Rose};
@@ -51,7 +51,7 @@ impl<'b, N: Nor> Reader<'b, N> {
     ghost use Rattle.vol_mount.specs.Mounts.{IsLate, CountsSpoiled};
     ghost use Rattle.page_cache.specs.Frames.{held};
     ghost use Rattle.image_tool.specs.Same.{IsSameReader};
-    ghost use Rattle.image_tool.specs.Lists.{damage_above};
+    ghost use Rattle.image_tool.specs.Lists.{damaged_above};
 
     /// A reader of a device.
     pub fn new(g: Geometry, nor: &'b mut N, lent: Lent<'b>) -> Reader<'b, N>
@@ -103,9 +103,9 @@ impl<'b, N: Nor> Reader<'b, N> {
 
     /// The record of the least id above one.
     pub fn next(&mut self, after: u16) -> Result<Option<Stat>, FsErr>
-        ensures cause { OnErr result (Rose (N.faults self.old.nor.now) (N.faults self.new.nor.now)) }
+        ensures cause { IsErrOf result FsErr.DeviceFault → Rose (N.faults self.old.nor.now) (N.faults self.new.nor.now) }
+        ensures only { IfErr result (λ why. why ≡ FsErr.DeviceFault) }
         ensures looks { OnlyReads N.NorState self.old.nor.now self.new.nor.now }
-        ensures above { IfOk result (λ found. IfSome found (λ stat. after < stat.id)) }
         ensures told { N.tells self.old.nor.now → IfOk result (λ found. found ≡ option_map stat_of (file_above after (table_of self.old.geometry (N.bytes self.old.nor.now)))) }
         ensures same { IsSameReader self.old self.new }
     {
@@ -115,10 +115,10 @@ impl<'b, N: Nor> Reader<'b, N> {
 
     /// The damaged id next above one, with its cause.
     pub fn next_damaged(&mut self, after: u16) -> Result<Option<(u16, Damage)>, FsErr>
-        ensures cause { OnErr result (Rose (N.faults self.old.nor.now) (N.faults self.new.nor.now)) }
+        ensures cause { IsErrOf result FsErr.DeviceFault → Rose (N.faults self.old.nor.now) (N.faults self.new.nor.now) }
+        ensures only { IfErr result (λ why. why ≡ FsErr.DeviceFault) }
         ensures looks { OnlyReads N.NorState self.old.nor.now self.new.nor.now }
-        ensures above { IfOk result (λ found. IfSome found (λ damaged. after < damaged.0)) }
-        ensures told { N.tells self.old.nor.now → IfOk result (λ found. found ≡ damage_above after (damaged_of self.old.geometry (N.bytes self.old.nor.now))) }
+        ensures told { N.tells self.old.nor.now → IfOk result (λ found. found ≡ damaged_above self.old.geometry (N.bytes self.old.nor.now) after) }
         ensures same { IsSameReader self.old self.new }
     {
         let _never = stand_in_never();

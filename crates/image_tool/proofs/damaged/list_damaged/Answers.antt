@@ -3,7 +3,7 @@ use Rattle.nor_core.proofs.Cuts.{reads_none}
 use Rattle.image_model.specs.declared.damage.Damage.{Damage}
 use Rattle.image_model.specs.Tables.{damaged_of}
 use Rattle.image_tool.specs.Texts.{damage_line, damage_lines}
-use Rattle.image_tool.specs.Lists.{damage_above}
+use Rattle.image_tool.specs.Lists.{damaged_above}
 use Rattle.image_tool.proofs.Ascending.{damaged-ascends}
 use Rattle.image_tool.proofs.Speaking.{says_none, on_err}
 use Rattle.image_tool.proofs.Walking.{place_first, walk_says, walk_front, walk_next, walk_last}
@@ -21,7 +21,7 @@ loop-id-init g c =
     }
 
 pub returns-in_err-id-clause-says : goal.returns-in_err-id-clause-says
-unfolding damage_lines damage_above
+unfolding damage_lines damaged_above
 returns-in_err-id-clause-says g c =
     let was = c.loop-id.invariant in
     let first : List (ℕ × Damage) = damaged_of c.args.r.now.geometry (g.B.NorState.bytes c.args.r.now.nor.now) in
@@ -30,7 +30,7 @@ returns-in_err-id-clause-says g c =
     walk_says (λ (d : ℕ × Damage). d.0) (λ (d : ℕ × Damage). damage_line d.0 d.1) first here c.loop-id.after e was.says (λ tells. (was.place tells).0) c.say_next.ensures.says
 
 pub returns-in_err-id-clause-front : goal.returns-in_err-id-clause-front
-unfolding damage_lines damage_above
+unfolding damage_lines damaged_above
 returns-in_err-id-clause-front g c = λ tells.
     let was = c.loop-id.invariant in
     let first : List (ℕ × Damage) = damaged_of c.args.r.now.geometry (g.B.NorState.bytes c.args.r.now.nor.now) in
@@ -39,7 +39,7 @@ returns-in_err-id-clause-front g c = λ tells.
     on_err c.from_residual.result (walk_front (λ (d : ℕ × Damage). d.0) (λ (d : ℕ × Damage). damage_line d.0 d.1) first here c.loop-id.after e (was.place tells).0 (c.in_err-id.ensures.front (was.says.cuts.told tells)))
 
 pub loop-id-preserved : goal.loop-id-preserved
-unfolding damage_lines damage_above
+unfolding damage_lines damaged_above
 loop-id-preserved g c =
     let was = c.loop-id.invariant in
     let first : List (ℕ × Damage) = damaged_of c.args.r.now.geometry (g.B.NorState.bytes c.args.r.now.nor.now) in
@@ -57,7 +57,7 @@ loop-id-preserved g c =
     }
 
 pub returns-clause-says : goal.returns-clause-says
-unfolding damage_lines damage_above
+unfolding damage_lines damaged_above
 returns-clause-says g c =
     let was = c.loop-id.invariant in
     let first : List (ℕ × Damage) = damaged_of c.args.r.now.geometry (g.B.NorState.bytes c.args.r.now.nor.now) in
@@ -66,7 +66,7 @@ returns-clause-says g c =
     walk_says (λ (d : ℕ × Damage). d.0) (λ (d : ℕ × Damage). damage_line d.0 d.1) first here c.loop-id.after e was.says (λ tells. (was.place tells).0) c.say_next.ensures.says
 
 pub returns-clause-whole : goal.returns-clause-whole
-unfolding damage_lines damage_above
+unfolding damage_lines damaged_above
 returns-clause-whole g c = λ tells.
     let was = c.loop-id.invariant in
     let first : List (ℕ × Damage) = damaged_of c.args.r.now.geometry (g.B.NorState.bytes c.args.r.now.nor.now) in
@@ -77,7 +77,7 @@ returns-clause-whole g c = λ tells.
     (walk_last (λ (d : ℕ × Damage). d.0) (λ (d : ℕ × Damage). damage_line d.0 d.1) first here c.loop-id.after e (was.place tells).0 (none ∙ c.in_ok-id.ensures.found now) (c.in_ok-id.ensures.whole now)).0
 
 pub returns-clause-count : goal.returns-clause-count
-unfolding damage_lines damage_above
+unfolding damage_lines damaged_above
 returns-clause-count g c = λ tells.
     let was = c.loop-id.invariant in
     let first : List (ℕ × Damage) = damaged_of c.args.r.now.geometry (g.B.NorState.bytes c.args.r.now.nor.now) in
