@@ -54,6 +54,7 @@ fn no_data(id: u16, span: u32) -> Differ
 }
 
 // The data page of a span that an index page names, where there is one.
+#[tactic(auto, using(flash_view::proofs::Looking::looks_then))]
 fn find_data<N: Nor>(
     v: &mut View<'_, N>,
     id: u16,
@@ -77,6 +78,7 @@ fn find_data<N: Nor>(
 
 // Reads bytes of the data page of a span, of which an index page has the number: from byte `from` of its file
 // bytes on, as many as `part` holds.
+#[tactic(auto, using(flash_view::proofs::Looking::looks_then))]
 fn read_span<N: Nor>(
     v: &mut View<'_, N>,
     id: u16,
@@ -104,6 +106,7 @@ fn read_span<N: Nor>(
 }
 
 // Reads on to the end of a data page, or of what is asked. The answer is how many bytes there are now.
+#[tactic(auto, using(flash_view::proofs::Looking::looks_then))]
 fn read_piece<N: Nor>(
     v: &mut View<'_, N>,
     id: u16,
@@ -132,6 +135,7 @@ fn read_piece<N: Nor>(
 }
 
 // Reads on as long as one index page names the data pages.
+#[tactic(auto, using(flash_view::proofs::Looking::looks_then))]
 fn read_named<N: Nor>(
     v: &mut View<'_, N>,
     id: u16,
@@ -189,6 +193,7 @@ fn index_for<N: Nor>(
 }
 
 // Reads bytes that lie inside the file. Each index page is found once.
+#[tactic(auto, using(flash_view::proofs::Looking::looks_then))]
 fn read_inside<N: Nor>(
     v: &mut View<'_, N>,
     id: u16,
@@ -215,6 +220,7 @@ fn read_inside<N: Nor>(
 }
 
 // The size of the file of a header page, in bytes.
+#[tactic(auto, using(flash_view::proofs::Looking::looks_then))]
 fn size_in<N: Nor>(v: &mut View<'_, N>, header: u16) -> Result<u32, Failed>
     requires { header < page_count v.old.geometry }
     ensures cause { OnErr result (Rose (N.faults v.old.nor.now) (N.faults v.new.nor.now)) }
@@ -227,6 +233,7 @@ fn size_in<N: Nor>(v: &mut View<'_, N>, header: u16) -> Result<u32, Failed>
 }
 
 /// The bytes of a whole file whose header page is known, as `read_at` gives them.
+#[tactic(auto, using(flash_view::proofs::Looking::looks_then))]
 pub fn read_from<N: Nor>(
     v: &mut View<'_, N>,
     id: u16,
@@ -254,6 +261,7 @@ pub fn read_from<N: Nor>(
 /// The bytes of a whole file from byte `at` on, as many as there are and fit; none at the file's end and past it. The
 /// answer is how many bytes were read. What is refused beside a fault (`Damaged`) is a page that is no longer there,
 /// which only a device that doesn't tell its bytes can answer. A file that has the name of another one is read too.
+#[tactic(auto, using(flash_view::proofs::Looking::looks_then))]
 pub fn read_at<N: Nor>(
     v: &mut View<'_, N>,
     id: u16,

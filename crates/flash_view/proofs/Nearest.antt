@@ -214,3 +214,22 @@ near_inside n after (Some (old, first)) (Some id) page low was =
     (λ (yes' : nat_lt after id ≡ true). rw yes' (choice_inside n id page (nat_lt id old) (Some (old, first)) low was))
     (λ (no' : nat_lt after id ≡ false). rw no' was)
     (cases_Bool (nat_lt after id))
+
+-- its id is above `after`
+choice_above : (after id page : ℕ) (b : Bool) (old : Option (ℕ × ℕ)) → after < id → IfSome old (λ x. after < x.0) → IfSome (if b then Some (id, page) else old) (λ x. after < x.0)
+choice_above after id page true old above was = above
+choice_above after id page false old above was = was
+
+pub near_above : (after : ℕ) (least : Option (ℕ × ℕ)) (o : Option ℕ) (page : ℕ) → IfSome least (λ x. after < x.0) → IfSome (nearer after least o page) (λ x. after < x.0)
+near_above after None None page was = was
+near_above after (Some m) None page was = was
+near_above after None (Some id) page was =
+    ⊎_elim
+    (λ (above : after < id). rw (lt-ltb after id above) above)
+    (λ (few : id ≤ after). rw (le-ltb after id few) was)
+    (cases_lt after id)
+near_above after (Some (old, first)) (Some id) page was =
+    ⊎_elim
+    (λ (above : after < id). rw (lt-ltb after id above) (choice_above after id page (nat_lt id old) (Some (old, first)) above was))
+    (λ (few : id ≤ after). rw (le-ltb after id few) was)
+    (cases_lt after id)

@@ -3,3 +3,4 @@ pub mod Same
 pub mod Found
 pub mod Judging
 pub mod Marks
+pub mod Listing

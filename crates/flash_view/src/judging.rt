@@ -56,6 +56,7 @@ fn is_data(head: PageHeader, id: u16, span: u32) -> bool
 impl<'b, N: Nor> View<'b, N> {
     /// The data page of a span of an id, by the first live header page of the id: the page that its index entry names,
     /// where that is a live data page of the id and the span.
+    #[tactic(auto, using(crate::proofs::Looking::looks_then))]
     pub fn find_data(&mut self, id: u16, span: u16) -> Result<Option<u16>, Failed>
         ensures cause { OnErr result (Rose (N.faults self.old.nor.now) (N.faults self.new.nor.now)) }
         ensures looks { OnlyLooks self.old self.new }
@@ -69,6 +70,7 @@ impl<'b, N: Nor> View<'b, N> {
     }
 
     // The data page of a span, by a header page.
+    #[tactic(auto, using(crate::proofs::Looking::looks_then))]
     fn named_data(&mut self, id: u16, header: u16, span: u32) -> Result<Option<u16>, Failed>
         requires header { header < page_count self.old.geometry }
         requires span { span < 2 ^ 16 }
@@ -94,6 +96,7 @@ impl<'b, N: Nor> View<'b, N> {
     }
 
     // The page whose number stands at byte `at` of an index page, where it is a live data page of an object and a span.
+    #[tactic(auto, using(crate::proofs::Looking::looks_then))]
     fn data_in(
         &mut self,
         index: u16,
@@ -118,7 +121,7 @@ impl<'b, N: Nor> View<'b, N> {
 
     /// Whether a page is a live data page of an object and a span. The number may be past the volume's end. The page's
     /// header is read only where its entry is that of the object's data pages.
-    #[tactic(auto, using(crate::proofs::Spans::data_seen, crate::proofs::Spans::data_unseen, crate::proofs::Spans::data_beyond, crate::proofs::Spans::passed_data))]
+    #[tactic(auto, using(crate::proofs::Looking::looks_then, crate::proofs::Spans::data_seen, crate::proofs::Spans::data_unseen, crate::proofs::Spans::data_beyond, crate::proofs::Spans::passed_data))]
     pub fn is_data_of(&mut self, page: u16, id: u16, span: u32) -> Result<bool, Failed>
         ensures cause { OnErr result (Rose (N.faults self.old.nor.now) (N.faults self.new.nor.now)) }
         ensures looks { OnlyLooks self.old self.new }
@@ -140,6 +143,7 @@ impl<'b, N: Nor> View<'b, N> {
 
     // The first of the spans from `first` on and below `end` that has no data page, where their page numbers stand in
     // an index page from byte `at` on.
+    #[tactic(auto, using(crate::proofs::Looking::looks_then))]
     fn missing_in(
         &mut self,
         id: u16,
@@ -164,6 +168,7 @@ impl<'b, N: Nor> View<'b, N> {
     }
 
     // The same for the spans that further index page `k` names, counted from 0, and that are below `spans`.
+    #[tactic(auto, using(crate::proofs::Looking::looks_then))]
     fn missing_of(&mut self, id: u16, k: u32, spans: u32) -> Result<Option<u32>, Failed>
         requires some { head_slots self.old.geometry + k * span_slots self.old.geometry < spans }
         requires few { spans < 2 ^ 26 }
@@ -182,6 +187,7 @@ impl<'b, N: Nor> View<'b, N> {
     }
 
     // The same for all spans that further index pages name, and that are below `spans`.
+    #[tactic(auto, using(crate::proofs::Looking::looks_then))]
     fn missing_behind(&mut self, id: u16, spans: u32) -> Result<Option<u32>, Failed>
         requires { spans < 2 ^ 26 }
         ensures cause { OnErr result (Rose (N.faults self.old.nor.now) (N.faults self.new.nor.now)) }
@@ -199,6 +205,7 @@ impl<'b, N: Nor> View<'b, N> {
     }
 
     // The first of the spans below `spans` that has no data page, by this header page.
+    #[tactic(auto, using(crate::proofs::Looking::looks_then))]
     fn first_missing(&mut self, id: u16, header: u16, spans: u32) -> Result<Option<u32>, Failed>
         requires header { header < page_count self.old.geometry }
         requires few { spans < 2 ^ 26 }
@@ -217,6 +224,7 @@ impl<'b, N: Nor> View<'b, N> {
 
     /// Why the file of an id with this header page isn't whole, where it isn't: its name is none, or the first data
     /// span below its size has no data page. The size may be any; each further index page is looked for once.
+    #[tactic(auto, using(crate::proofs::Looking::looks_then))]
     pub fn judge(&mut self, id: u16, header: u16) -> Result<Option<Damage>, Failed>
         requires { header < page_count self.old.geometry }
         ensures cause { OnErr result (Rose (N.faults self.old.nor.now) (N.faults self.new.nor.now)) }

@@ -3,6 +3,7 @@
 
 mod judging;
 mod kinds;
+mod listing;
 mod live;
 mod marks;
 mod places;

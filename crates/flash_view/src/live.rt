@@ -122,7 +122,7 @@ impl<'b, N: Nor> View<'b, N> {
 
     // Whether a page is a live index page of an object and a span. Its header is read only where its entry is that
     // of the object's index pages.
-    #[tactic(auto, using(crate::proofs::Heads::index_seen, crate::proofs::Heads::none_seen, crate::proofs::Entries::passed_index))]
+    #[tactic(auto, using(crate::proofs::Looking::looks_then, crate::proofs::Heads::index_seen, crate::proofs::Heads::none_seen, crate::proofs::Entries::passed_index))]
     fn is_index_of(&mut self, page: u16, id: u16, span: u32) -> Result<bool, Failed>
         requires { page < page_count self.old.geometry }
         ensures cause { OnErr result (Rose (N.faults self.old.nor.now) (N.faults self.new.nor.now)) }
@@ -152,6 +152,7 @@ impl<'b, N: Nor> View<'b, N> {
     }
 
     /// The index page of an object and a span as `find_index` gives it, for any span: those above 65,535 have no page.
+    #[tactic(auto, using(crate::proofs::Looking::looks_then))]
     pub fn find_span(&mut self, id: u16, span: u32) -> Result<Option<u16>, Failed>
         ensures cause { OnErr result (Rose (N.faults self.old.nor.now) (N.faults self.new.nor.now)) }
         ensures looks { OnlyLooks self.old self.new }
@@ -215,7 +216,7 @@ impl<'b, N: Nor> View<'b, N> {
     }
 
     /// The id of the object whose header page a page is, if it is a live one.
-    #[tactic(auto, using(crate::proofs::Names::headed_by, crate::proofs::Names::unheaded_by, crate::proofs::Entries::passed_head))]
+    #[tactic(auto, using(crate::proofs::Looking::looks_then, crate::proofs::Names::headed_by, crate::proofs::Names::unheaded_by, crate::proofs::Entries::passed_head))]
     pub fn header_id(&mut self, page: u16) -> Result<Option<u16>, Failed>
         requires { page < page_count self.old.geometry }
         ensures cause { OnErr result (Rose (N.faults self.old.nor.now) (N.faults self.new.nor.now)) }

@@ -70,6 +70,7 @@ fn same_name(holder: Option<u16>, id: u16) -> Option<Damage>
 impl<'b, N: Nor> View<'b, N> {
     /// Marks each page, a byte for each page of the volume: 1 where it is the header page of an id whose file is whole,
     /// 2 where it is that of an id whose file is damaged, and else 0. Of several files of one name all are whole here.
+    #[tactic(auto, using(crate::proofs::Looking::looks_then))]
     pub fn survey(&mut self, marks: &mut [u8]) -> Result<(), Failed>
         requires { page_count self.old.geometry ≤ length marks.old }
         ensures cause { OnErr result (Rose (N.faults self.old.nor.now) (N.faults self.new.nor.now)) }
@@ -83,7 +84,7 @@ impl<'b, N: Nor> View<'b, N> {
     }
 
     // The mark of a page.
-    #[tactic(auto, using(crate::proofs::Marking::mark_none, crate::proofs::Marking::mark_later, crate::proofs::Marking::mark_first))]
+    #[tactic(auto, using(crate::proofs::Looking::looks_then, crate::proofs::Marking::mark_none, crate::proofs::Marking::mark_later, crate::proofs::Marking::mark_first))]
     fn mark(&mut self, page: u16) -> Result<u8, Failed>
         requires { page < page_count self.old.geometry }
         ensures cause { OnErr result (Rose (N.faults self.old.nor.now) (N.faults self.new.nor.now)) }
@@ -107,6 +108,7 @@ impl<'b, N: Nor> View<'b, N> {
         ensures cause { OnErr result (Rose (N.faults self.old.nor.now) (N.faults self.new.nor.now)) }
         ensures looks { OnlyLooks self.old self.new }
         ensures inside { IfOk result (λ next. IfSome next (λ n. n.1 < page_count self.old.geometry)) }
+        ensures above { IfOk result (λ next. IfSome next (λ n. after < n.0)) }
         ensures told { N.tells self.old.nor.now → IfOk result (λ next. NextHead self.old.geometry (N.bytes self.old.nor.now) after next) }
         ensures work { self.new.work.now ≡ self.old.work.now }
     {
@@ -136,6 +138,7 @@ impl<'b, N: Nor> View<'b, N> {
 
     /// The id of the table's file of that name, by right marks: that of the first whole file of this name in the order
     /// of header pages. Only pages of whole files are looked at.
+    #[tactic(auto, using(crate::proofs::Looking::looks_then))]
     pub fn find_name(&mut self, marks: &[u8], name: &[u8]) -> Result<Option<u16>, Failed>
         requires room { page_count self.old.geometry ≤ length marks.now }
         requires marked { N.tells self.old.nor.now → IsMarked self.old.geometry (N.bytes self.old.nor.now) marks.now }
@@ -152,7 +155,7 @@ impl<'b, N: Nor> View<'b, N> {
     }
 
     // The id whose header page a page with this mark is, where its file is whole and has that name.
-    #[tactic(auto, using(crate::proofs::Holders::not_whole, crate::proofs::Holders::other_name, crate::proofs::Holders::whole_by_entry))]
+    #[tactic(auto, using(crate::proofs::Looking::looks_then, crate::proofs::Holders::not_whole, crate::proofs::Holders::other_name, crate::proofs::Holders::whole_by_entry))]
     fn whole_at(&mut self, mark: u8, page: u16, name: &[u8]) -> Result<Option<u16>, Failed>
         requires page { page < page_count self.old.geometry }
         requires marked { N.tells self.old.nor.now → mark ≡ mark_of self.old.geometry (N.bytes self.old.nor.now) page }
@@ -170,6 +173,7 @@ impl<'b, N: Nor> View<'b, N> {
     }
 
     /// Why an id with this header page has no file in the table, by right marks; none where it has one.
+    #[tactic(auto, using(crate::proofs::Looking::looks_then))]
     pub fn damage(
         &mut self,
         marks: &[u8],

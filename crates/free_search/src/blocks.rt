@@ -38,6 +38,7 @@ pub enum Sort {
     Free,
 }
 
+#[tactic(auto, using(flash_view::proofs::Looking::looks_then))]
 fn sort_of<N: Nor>(v: &mut View<'_, N>, page: u16) -> Result<Sort, Failed>
     requires { IsEntryPage v.old.geometry page }
     ensures cause { OnErr result (Rose (N.faults v.old.nor.now) (N.faults v.new.nor.now)) }
@@ -102,6 +103,7 @@ pub fn counts<N: Nor>(v: &mut View<'_, N>, block: u16) -> Result<BlockCounts, Fa
 }
 
 // Whether an entry is free over a page that holds 0xFF alone.
+#[tactic(auto, using(flash_view::proofs::Looking::looks_then))]
 fn is_unused<N: Nor>(v: &mut View<'_, N>, page: u16) -> Result<bool, Failed>
     requires { IsEntryPage v.old.geometry page }
     ensures cause { OnErr result (Rose (N.faults v.old.nor.now) (N.faults v.new.nor.now)) }
@@ -112,6 +114,7 @@ fn is_unused<N: Nor>(v: &mut View<'_, N>, page: u16) -> Result<bool, Failed>
 }
 
 /// Whether a block has its magic, all its entries are free, and all its entry pages hold 0xFF alone.
+#[tactic(auto, using(flash_view::proofs::Looking::looks_then))]
 pub fn is_free_block<N: Nor>(v: &mut View<'_, N>, block: u16) -> Result<bool, Failed>
     requires { block < v.old.geometry.blocks }
     ensures cause { OnErr result (Rose (N.faults v.old.nor.now) (N.faults v.new.nor.now)) }

@@ -26,6 +26,7 @@ fn takes(counts: &BlockCounts, kind: Kind, entries: u32) -> bool
 }
 
 // The first free entry of a block.
+#[tactic(auto, using(flash_view::proofs::Looking::looks_then))]
 fn first_free<N: Nor>(v: &mut View<'_, N>, block: u16) -> Result<Option<u16>, Failed>
     requires { block < v.old.geometry.blocks }
     ensures cause { OnErr result (Rose (N.faults v.old.nor.now) (N.faults v.new.nor.now)) }
@@ -44,6 +45,7 @@ fn first_free<N: Nor>(v: &mut View<'_, N>, block: u16) -> Result<Option<u16>, Fa
 }
 
 // Whether a block in use takes a page of that kind.
+#[tactic(auto, using(flash_view::proofs::Looking::looks_then))]
 fn is_open<N: Nor>(v: &mut View<'_, N>, block: u16, kind: Kind) -> Result<bool, Failed>
     requires { block < v.old.geometry.blocks }
     ensures cause { OnErr result (Rose (N.faults v.old.nor.now) (N.faults v.new.nor.now)) }
@@ -58,6 +60,7 @@ fn is_open<N: Nor>(v: &mut View<'_, N>, block: u16, kind: Kind) -> Result<bool, 
 }
 
 // The lowest-numbered block in use that takes a page of that kind.
+#[tactic(auto, using(flash_view::proofs::Looking::looks_then))]
 fn open_block<N: Nor>(
     v: &mut View<'_, N>,
     kind: Kind,
@@ -84,6 +87,7 @@ pub(crate) struct Worn {
 }
 
 // The less worn of the block so far and this one, if that is free; the earlier one among equals.
+#[tactic(auto, using(flash_view::proofs::Looking::looks_then))]
 fn less_worn<N: Nor>(
     v: &mut View<'_, N>,
     least: Option<Worn>,
@@ -107,6 +111,7 @@ fn less_worn<N: Nor>(
 }
 
 // The free block that was erased least often, the lowest-numbered among equals.
+#[tactic(auto, using(flash_view::proofs::Looking::looks_then))]
 fn least_worn<N: Nor>(v: &mut View<'_, N>, not_in: Option<u16>) -> Result<Option<u16>, Failed>
     ensures cause { OnErr result (Rose (N.faults v.old.nor.now) (N.faults v.new.nor.now)) }
     ensures looks { OnlyLooks v.old v.new }
@@ -125,6 +130,7 @@ fn least_worn<N: Nor>(v: &mut View<'_, N>, not_in: Option<u16>) -> Result<Option
 /// The page into which the next one of a kind goes: the first free entry of the lowest-numbered block in use
 /// that takes the kind, else the first entry of the least worn free block. A free block is taken only where
 /// more than `keep` are free; `not_in` is a block that is never chosen. None where there is no such page.
+#[tactic(auto, using(flash_view::proofs::Looking::looks_then))]
 pub fn free_page<N: Nor>(
     v: &mut View<'_, N>,
     kind: Kind,

@@ -11,6 +11,7 @@ use page_layout::{DELETED, Flags};
 
 /// Kills a page: a program that clears DELET in its flags, and one that sets its entry to zero. Whatever the
 /// page and the entry hold, no page is finished by it, also where it is cut off.
+#[tactic(auto, using(flash_view::proofs::Looking::same_then))]
 pub fn kill<N: Nor>(v: &mut View<'_, N>, page: u16) -> Result<(), Failed>
     requires page { IsEntryPage v.old.geometry page }
     ensures cause { OnErr result (Rose (N.faults v.old.nor.now) (N.faults v.new.nor.now)) }

@@ -45,6 +45,7 @@ fn fill_header(bytes: &mut [u8], head: PageHeader)
 /// Places a page: its entry, its header with USED cleared, and the rest of the page that is being built.
 /// These are three programs, and the page isn't live after any of them, nor where one is cut off. The entry
 /// and the page are to be erased, and the id without bit 15 is from 1 to 0x7FFE.
+#[tactic(auto, using(flash_view::proofs::Looking::same_then))]
 pub fn place<N: Nor>(v: &mut View<'_, N>, page: u16, kind: Kind, tag: Tag) -> Result<(), Failed>
     requires page { IsEntryPage v.old.geometry page }
     requires id { (1 ≤ tag.id) × (tag.id ≤ 0x7FFE) }

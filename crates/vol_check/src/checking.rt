@@ -15,6 +15,7 @@ use free_search::free_blocks;
 use nor_core::{Failed, Nor, NorState};
 
 // Kills what is to be killed in an image that the check takes.
+#[tactic(auto, using(flash_view::proofs::Looking::same_then))]
 fn clean<N: Nor>(v: &mut View<'_, N>) -> Result<Report, Failed>
     ensures cause { OnErr result (Rose (N.faults v.old.nor.now) (N.faults v.new.nor.now)) }
     ensures faults { N.faults v.old.nor.now ≤ N.faults v.new.nor.now }
@@ -36,6 +37,7 @@ fn clean<N: Nor>(v: &mut View<'_, N>) -> Result<Report, Failed>
 /// aren't live. Refused, with nothing written, are a volume that may not be written (`Wrong`) and an image that
 /// this build doesn't take (`Unbuilt`). Where the device fails, what was done stays, and the check can be called
 /// again.
+#[tactic(auto, using(flash_view::proofs::Looking::same_then))]
 pub fn check<N: Nor>(v: &mut View<'_, N>) -> Result<Report, CheckErr>
     ensures wrong { IfSome (write_refusal v.old.geometry) (λ why. result ≡ Err (CheckErr.Wrong why)) }
     ensures writable { write_refusal v.old.geometry ≡ None → IfErr result IsWritable }

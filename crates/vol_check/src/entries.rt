@@ -15,6 +15,7 @@ use page_layout::{DELETED, FREE};
 use page_put::kill;
 
 // Whether the entry of a page is neither deleted nor free over a page that holds 0xFF alone.
+#[tactic(auto, using(flash_view::proofs::Looking::looks_then))]
 fn is_taken<N: Nor>(v: &mut View<'_, N>, page: u16) -> Result<bool, Failed>
     requires { IsEntryPage v.old.geometry page }
     ensures cause { OnErr result (Rose (N.faults v.old.nor.now) (N.faults v.new.nor.now)) }
@@ -48,6 +49,7 @@ fn is_dead_entry<N: Nor>(v: &mut View<'_, N>, page: u16) -> Result<bool, Failed>
 }
 
 // Kills the entry of a page, if it is in use and its page isn't live: whether it was killed.
+#[tactic(auto, using(flash_view::proofs::Looking::same_then))]
 fn clean_entry<N: Nor>(v: &mut View<'_, N>, page: u16) -> Result<bool, Failed>
     requires { page < page_count v.old.geometry }
     ensures cause { OnErr result (Rose (N.faults v.old.nor.now) (N.faults v.new.nor.now)) }

@@ -58,6 +58,7 @@ fn is_name_of<N: Nor>(v: &mut View<'_, N>, name: &[u8], object: u16) -> Result<b
 
 // Whether a live page with this header is the header page of an empty file, the first of its id and of its
 // name.
+#[tactic(auto, using(flash_view::proofs::Looking::looks_then))]
 fn is_empty_file<N: Nor>(v: &mut View<'_, N>, page: u16, head: PageHeader) -> Result<bool, Failed>
     requires { page < page_count v.old.geometry }
     ensures cause { OnErr result (Rose (N.faults v.old.nor.now) (N.faults v.new.nor.now)) }
@@ -74,6 +75,7 @@ fn is_empty_file<N: Nor>(v: &mut View<'_, N>, page: u16, head: PageHeader) -> Re
 }
 
 // Whether a page isn't live, or is the header page of an empty file.
+#[tactic(auto, using(flash_view::proofs::Looking::looks_then))]
 fn is_plain_page<N: Nor>(v: &mut View<'_, N>, page: u16) -> Result<bool, Failed>
     requires { page < page_count v.old.geometry }
     ensures cause { OnErr result (Rose (N.faults v.old.nor.now) (N.faults v.new.nor.now)) }
@@ -87,6 +89,7 @@ fn is_plain_page<N: Nor>(v: &mut View<'_, N>, page: u16) -> Result<bool, Failed>
 }
 
 // Whether every block has its magic.
+#[tactic(auto, using(flash_view::proofs::Looking::looks_then))]
 fn has_magics<N: Nor>(v: &mut View<'_, N>) -> Result<bool, Failed>
     ensures cause { OnErr result (Rose (N.faults v.old.nor.now) (N.faults v.new.nor.now)) }
     ensures looks { OnlyLooks v.old v.new }
@@ -101,6 +104,7 @@ fn has_magics<N: Nor>(v: &mut View<'_, N>) -> Result<bool, Failed>
 }
 
 // Whether every page is plain.
+#[tactic(auto, using(flash_view::proofs::Looking::looks_then))]
 fn has_plain_pages<N: Nor>(v: &mut View<'_, N>) -> Result<bool, Failed>
     ensures cause { OnErr result (Rose (N.faults v.old.nor.now) (N.faults v.new.nor.now)) }
     ensures looks { OnlyLooks v.old v.new }
@@ -116,6 +120,7 @@ fn has_plain_pages<N: Nor>(v: &mut View<'_, N>) -> Result<bool, Failed>
 
 /// Whether the image is one that the check takes: every block has its magic, and every live page is the header
 /// page of an empty file, the first of its id and of its name.
+#[tactic(auto, using(flash_view::proofs::Looking::looks_then))]
 pub(crate) fn is_plain<N: Nor>(v: &mut View<'_, N>) -> Result<bool, Failed>
     ensures cause { OnErr result (Rose (N.faults v.old.nor.now) (N.faults v.new.nor.now)) }
     ensures looks { OnlyLooks v.old v.new }

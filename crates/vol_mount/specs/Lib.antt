@@ -1,3 +1,5 @@
 pub mod Goes
 pub mod Mounts
 pub mod Needs
+pub mod Reads
+pub mod Readers

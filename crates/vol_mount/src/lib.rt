@@ -1,10 +1,13 @@
-//! Formatting and mounting.
+//! Formatting and mounting, and reading a volume of any image.
 #![tactic(auto)]
 
 mod formatting;
 mod lent;
 mod mounting;
+mod reader;
+mod reading;
 
 pub use formatting::format;
 pub use lent::{Lent, MountErr, Part, Returned};
 pub use mounting::{accept, mount};
+pub use reader::Reader;

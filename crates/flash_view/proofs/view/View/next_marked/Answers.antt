@@ -2,7 +2,7 @@ use Rattle.std.proofs.Common.{◌≡◌, ◌∙◌, ap, sym, refl, arith}
 use Rattle.geometry.specs.Numbers.{page_count as pages_of}
 use Rattle.image_model.specs.Volume.{page_count, per_block}
 use Rattle.flash_view.specs.Marks.{marked_id}
-use Rattle.flash_view.proofs.Nearest.{near_more, near_all, near_inside}
+use Rattle.flash_view.proofs.Nearest.{near_more, near_all, near_inside, near_above}
 use Rattle.flash_view.proofs.Looking.{looks_none, looks_then}
 use Rattle.flash_view.proofs.view.View.next_marked.Goals as goal
 
@@ -15,6 +15,7 @@ loop-page-preserved g c =
       looks = looks_then was.looks looked.looks;
       work = looked.work ∙ was.work;
       inside = rw c.nearer-least.ensures (near_inside (pages_of c.args.self.now.geometry) c.args.after c.loop-page.least c.in_ok-found.found c.loop-page.page (omega (arith, was.pages)) was.inside);
+      above = rw c.nearer-least.ensures (near_above c.args.after c.loop-page.least c.in_ok-found.found c.loop-page.page was.above);
       told = λ tells.
           let turn = looked.told (was.looks.reads.told tells) in
           let view = c.args.self.now in

@@ -13,6 +13,7 @@ invariant-loop-page g l = record {
   looks : OnlyLooks l.fn.self l.self;
   work : l.self.work.now ≡ l.fn.self.work.now;
   inside : IfSome l.least (λ n. n.1 < page_count l.fn.self.geometry);
+  above : IfSome l.least (λ n. l.after < n.0);
   told :
       (let image = g.N.NorState.bytes l.fn.self.nor.now in
       g.N.NorState.tells l.fn.self.nor.now →

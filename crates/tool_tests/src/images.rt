@@ -1,0 +1,66 @@
+//! Images made by hand, on the volume of these tests: pages of 256 bytes, 16 blocks of 4,096.
+use geometry::Geometry;
+use nor_core::{Failed, MemBoard};
+use std::alloc::{AllocError, Global};
+use std::test::Fail;
+
+/// Puts bytes at a place of an image, as far as it has them.
+pub(crate) fn put(image: &mut Vec<u8>, at: usize, bytes: &[u8]) {
+    for (i, byte) in bytes.iter().enumerate() {
+        if let Some(place) = image.get_mut(at.saturating_add(i)) {
+            *place = *byte;
+        }
+    }
+}
+
+/// Bytes of 0xFF, and in each block its magic and an erase count of 0.
+pub(crate) fn empty(alloc: Global, g: &Geometry) -> Result<Vec<u8>, AllocError> {
+    let mut image = vec![in alloc; 0xFFu8; g.blocks as usize * g.block as usize]?;
+    for block in 0..g.blocks {
+        let end = block as usize * g.block as usize + g.lookups() as usize * g.page as usize;
+        put(
+            &mut image,
+            end.saturating_sub(4),
+            &g.magic_of(block).to_le_bytes(),
+        );
+        put(&mut image, end.saturating_sub(2), &[0, 0]);
+    }
+    Ok(image)
+}
+
+/// The header page of a file, and its entry in the first block: `slot` counts the entries from 0.
+pub(crate) fn put_header(image: &mut Vec<u8>, slot: u8, id: u8, size: u32, name: &[u8]) {
+    let page = 256 * (usize::from(slot) + 1);
+    put(image, 2 * usize::from(slot), &[id, 0x80]);
+    put(image, page, &[id, 0x80, 0, 0, 0xF8]);
+    put(image, page + 8, &size.to_le_bytes());
+    put(image, page + 12, &[1]);
+    put(image, page + 13, &[0; 32]);
+    put(image, page + 13, name);
+}
+
+/// A data page of a file, and its entry in the second block, which `slot` counts from 0.
+pub(crate) fn put_data(image: &mut Vec<u8>, slot: u8, id: u8, span: u8, bytes: &[u8]) {
+    let page = 4096 + 256 * (usize::from(slot) + 1);
+    put(image, 4096 + 2 * usize::from(slot), &[id, 0]);
+    put(image, page, &[id, 0, span, 0, 0xFC]);
+    put(image, page + 5, bytes);
+}
+
+/// The file `a` with the bytes `hello`: its header is page 2, its data page 17. Page 1 was its first header.
+pub(crate) fn put_hello(image: &mut Vec<u8>) {
+    put_header(image, 0, 1, 0xFFFF_FFFF, b"a");
+    put(image, 0, &[0, 0]);
+    put(image, 260, &[0x78]);
+    put_header(image, 1, 1, 5, b"a");
+    put(image, 557, &[0x11, 0]);
+    put_data(image, 0, 1, 0, b"hello");
+}
+
+/// A device in memory that holds an image of 65,536 bytes, in erase units of 4,096.
+pub(crate) fn board_of(alloc: Global, image: &[u8]) -> Result<MemBoard, Fail> {
+    if image.len() != 65536 {
+        Err::<(), Failed>(Failed)?;
+    }
+    Ok(MemBoard::new(alloc, image.to_vec(alloc)?, 4096)?)
+}
