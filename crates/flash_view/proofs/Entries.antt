@@ -1,12 +1,12 @@
 -- What the lookup entry of a page tells before its header is read.
-use Rattle.std.proofs.Common.{◌≡◌, ℕ, ◌%◌, ◌==◌, ◌&&◌, not, nat_lt, Bool, true, false, List, refl, sym, ◌∙◌, if◌then◌else◌, ⊎_elim}
-use Rattle.std.specs.Prelude.{Option, Some, None, is_some, option_and_then}
-use Rattle.std.proofs.lemmas.Bool.{and_parts, cases_Bool, eqb-true}
+use Rattle.std.proofs.Common.{◌≡◌, ℕ, ◌%◌, ◌==◌, ◌&&◌, not, nat_lt, Bool, true, false, List, refl, ◌∙◌, if◌then◌else◌}
+use Rattle.std.specs.Prelude.{Option, Some, None, option_and_then}
+use Rattle.std.proofs.lemmas.Bool.{and_parts, eqb-true}
 use Rattle.geometry.specs.declared.geometry.Geometry.{Geometry}
 use Rattle.image_model.specs.Headers.{obj_id, span_of, names_index, is_finished}
 use Rattle.image_model.specs.Places.{page_of, entry_of, has_magic, block_of, is_entry_page}
-use Rattle.image_model.specs.Live.{Live, live_at, is_live, own}
-use Rattle.image_model.specs.Files.{is_index, data_of}
+use Rattle.image_model.specs.Live.{live_at, is_live, own}
+use Rattle.image_model.specs.Files.{is_index}
 use Rattle.flash_view.specs.Found.{headed}
 use Rattle.flash_view.specs.Judging.{lookup_entry}
 

@@ -1,5 +1,5 @@
 -- What the header of a live page tells of it.
-use Rattle.std.proofs.Common.{◌≡◌, ℕ, ◌*◌, ◌%◌, ◌==◌, ◌&&◌, Bool, true, false, List, refl, sym, subst, ◌∙◌, ap, if◌then◌else◌}
+use Rattle.std.proofs.Common.{◌≡◌, ℕ, ◌*◌, ◌%◌, ◌==◌, ◌&&◌, Bool, true, false, List, refl, sym, subst, ◌∙◌, if◌then◌else◌}
 use Rattle.std.specs.Prelude.{Option, Some, None, is_some, option_and_then}
 use Rattle.std.specs.Option.{option_map}
 use Rattle.geometry.specs.declared.geometry.Geometry.{Geometry}

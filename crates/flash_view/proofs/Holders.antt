@@ -1,10 +1,9 @@
 -- The file that the table has for a name, by marked pages.
-use Rattle.std.proofs.Common.{◌≡◌, ◌≢◌, ℕ, zero, suc, ◌+◌, ◌%◌, ◌==◌, ◌&&◌, ◌||◌, ◌<◌, ◌≤◌, not, nat_lt, nat_eq, ⊎_elim, Bool, true, false, List, [], ◌∷◌, refl, sym, subst, ◌∙◌, ap, arith, Option, Some, None, if◌then◌else◌}
+use Rattle.std.proofs.Common.{◌≡◌, ◌≢◌, ℕ, zero, suc, ◌+◌, ◌%◌, ◌==◌, ◌&&◌, ◌<◌, ◌≤◌, not, nat_lt, ⊎_elim, Bool, true, false, List, [], ◌∷◌, refl, sym, ◌∙◌, ap, arith, Option, Some, None, if◌then◌else◌}
 use Rattle.std.specs.Prelude.{Result, Ok, Err, find, is_some, unwrap_or, option_and_then}
 use Rattle.std.specs.Option.{option_map}
 use Rattle.std.specs.List.{range_with_len, list_any}
-use Rattle.std.specs.Cmp.Lexicographic.{pointwise, same_text as text_is}
-use Rattle.std.proofs.Math.Nat.{sub-zero}
+use Rattle.std.specs.Cmp.Lexicographic.{same_text as text_is}
 use Rattle.std.proofs.lemmas.Bool.{cases_lt, cases_eq, cases_Bool, and_parts, lt-ltb, le-ltb, eqb-true, eq-eqb, ne_eqb}
 use Rattle.std.proofs.lemmas.Option.{none-some, some_pair_parts}
 use Rattle.geometry.specs.declared.geometry.Geometry.{Geometry}
@@ -20,7 +19,7 @@ use Rattle.image_model.specs.Tables.{Found, has_of, ids, is_before, counts, coun
 use Rattle.flash_view.specs.Found.{headed, is_name}
 use Rattle.flash_view.specs.Judging.{lookup_entry, cause_of}
 use Rattle.flash_view.specs.Marks.{mark_of, mark_for, whole_at, table_id, same_name, cause_at}
-use Rattle.flash_view.proofs.Entries.{LivePage, live_page}
+use Rattle.flash_view.proofs.Entries.{live_page}
 use Rattle.flash_view.proofs.Marking.{has_at, has_none, find_parts}
 use Rattle.flash_view.proofs.Nearest.{mark_entry, header_parts, header_mark, mark_head}
 

@@ -1,23 +1,19 @@
 -- The mark of a page, by its id's header page and the judging of its file.
-use Rattle.std.proofs.Common.{◌≡◌, ℕ, zero, suc, ◌+◌, ◌<◌, ◌≤◌, ◌%◌, ◌==◌, ◌&&◌, not, Bool, true, false, List, refl, sym, subst, ◌∙◌, ap, if◌then◌else◌, ⊎_elim, arith}
-use Rattle.std.specs.Prelude.{Option, Some, None, Result, Ok, Err, find, is_none, is_some, option_and_then}
-use Rattle.std.specs.Option.{option_map}
+use Rattle.std.proofs.Common.{◌≡◌, ℕ, zero, suc, ◌+◌, ◌<◌, ◌≤◌, ◌==◌, Bool, true, false, List, refl, sym, ◌∙◌, ap, ⊎_elim, arith}
+use Rattle.std.specs.Prelude.{Option, Some, None, Result, Ok, Err, find}
 use Rattle.std.specs.List.{range_with_len}
 use Rattle.std.proofs.lemmas.Bool.{cases_Bool, cases_eq, eqb-true, eq-eqb}
-use Rattle.std.proofs.lemmas.Option.{some_pair_parts}
 use Rattle.geometry.specs.declared.geometry.Geometry.{Geometry}
 use Rattle.table_model.specs.Table.{File}
 use Rattle.image_model.specs.declared.damage.Damage.{Damage}
-use Rattle.image_model.specs.Volume.{page_count}
-use Rattle.image_model.specs.Headers.{obj_id}
 use Rattle.image_model.specs.Places.{page_of}
 use Rattle.image_model.specs.Live.{Live, live_at, own}
-use Rattle.image_model.specs.Files.{is_index, index_page, judged, found}
-use Rattle.image_model.specs.Tables.{Found, has_of}
+use Rattle.image_model.specs.Files.{index_page, judged, found}
+use Rattle.image_model.specs.Tables.{has_of}
 use Rattle.image_model.specs.Tidy.{is_number}
 use Rattle.flash_view.specs.Found.{headed}
 use Rattle.flash_view.specs.Judging.{cause_of}
-use Rattle.flash_view.specs.Marks.{mark_by, mark_as, mark_of, mark_for}
+use Rattle.flash_view.specs.Marks.{mark_by, mark_of, mark_for}
 use Rattle.flash_view.proofs.Spans.{index_known}
 
 -- ---- what an id has, by its header page

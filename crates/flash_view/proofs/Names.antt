@@ -1,13 +1,13 @@
 -- Ids and names of live header pages.
-use Rattle.std.proofs.Common.{◌≡◌, ℕ, ◌%◌, ◌==◌, ◌&&◌, Bool, true, false, List, refl, sym, subst, ◌∙◌, ap, if◌then◌else◌}
-use Rattle.std.specs.Prelude.{Option, Some, None, is_some}
+use Rattle.std.proofs.Common.{◌≡◌, ℕ, ◌%◌, ◌==◌, ◌&&◌, Bool, true, false, List, refl, sym, if◌then◌else◌}
+use Rattle.std.specs.Prelude.{Option, Some, None}
 use Rattle.std.specs.Option.{option_map}
 use Rattle.geometry.specs.declared.geometry.Geometry.{Geometry}
 use Rattle.page_layout.specs.declared.header.PageHeader.{PageHeader}
 use Rattle.page_layout.specs.Layout.{header_at, names_index}
 use Rattle.image_model.specs.Headers.{name_of}
 use Rattle.image_model.specs.Places.{page_of}
-use Rattle.image_model.specs.Live.{Live, live_at, is_live}
+use Rattle.image_model.specs.Live.{live_at, is_live}
 use Rattle.flash_view.specs.Found.{headed, named_at, is_name}
 
 -- the id that a live page's header tells

@@ -1,26 +1,21 @@
 -- The nearest marked header page of the pages below a loop's counter.
-use Rattle.std.proofs.Common.{◌≡◌, ◌≢◌, ℕ, zero, suc, ◌+◌, ◌*◌, ◌%◌, ◌==◌, ◌<◌, ◌≤◌, ◌⊎◌, ⊎_elim, inl, inr, Bool, true, false, nat_lt, List, [], ◌∷◌, refl, sym, subst, ◌∙◌, ap, arith, Option, Some, None, if◌then◌else◌}
-use Rattle.std.specs.Prelude.{Result, Ok, Err, IfSome, find, is_some, option_and_then}
-use Rattle.std.specs.Option.{option_map}
-use Rattle.std.specs.List.{range_with_len}
-use Rattle.std.proofs.lemmas.Bool.{cases_lt, cases_eq, cases_Bool, lt-ltb, le-ltb, eqb-true, eq-eqb, ne_eqb}
-use Rattle.std.proofs.lemmas.Option.{some_pair_parts}
+use Rattle.std.proofs.Common.{◌≡◌, ◌≢◌, ℕ, ◌+◌, ◌%◌, ◌==◌, ◌<◌, ◌≤◌, ◌⊎◌, ⊎_elim, inl, inr, Bool, true, false, nat_lt, List, refl, sym, subst, ◌∙◌, ap, arith, Option, Some, None, if◌then◌else◌}
+use Rattle.std.specs.Prelude.{Result, IfSome, is_some}
+use Rattle.std.proofs.lemmas.Bool.{cases_lt, cases_eq, cases_Bool, lt-ltb, le-ltb, eq-eqb, ne_eqb}
 use Rattle.geometry.specs.declared.geometry.Geometry.{Geometry}
-use Rattle.geometry.specs.Numbers.{page_count as pages_of}
 use Rattle.table_model.specs.Table.{File}
 use Rattle.image_model.specs.declared.damage.Damage.{Damage}
-use Rattle.image_model.specs.Volume.{page_count, per_block}
-use Rattle.image_model.specs.Headers.{obj_id, is_finished}
+use Rattle.image_model.specs.Volume.{page_count}
+use Rattle.image_model.specs.Headers.{obj_id}
 use Rattle.image_model.specs.Places.{page_of}
-use Rattle.image_model.specs.Live.{Live, live_at, own}
+use Rattle.image_model.specs.Live.{live_at, own}
 use Rattle.image_model.specs.Files.{index_page, is_index, judged}
 use Rattle.image_model.specs.Tables.{has_of}
-use Rattle.flash_view.specs.Found.{headed, has_header, IsNextId, IsLastId}
+use Rattle.flash_view.specs.Found.{headed, has_header}
 use Rattle.flash_view.specs.Judging.{lookup_entry, cause_of}
 use Rattle.flash_view.specs.Marks.{mark_by, mark_as, mark_of, mark_for, marked_id, nearer, NextHead}
-use Rattle.flash_view.proofs.Entries.{LivePage, live_page}
+use Rattle.flash_view.proofs.Entries.{live_page}
 use Rattle.flash_view.proofs.Least.{heads, head_id}
-use Rattle.flash_view.proofs.Spans.{index_known}
 use Rattle.flash_view.proofs.Marking.{has_at, has_none, first_mark, other_mark, find_parts}
 
 -- ---- the id of a marked page, by its entry
@@ -190,15 +185,17 @@ near_all g image after p None all was = record {
       let few = was.none w.0 other (omega (arith, all, low)) (header_marked g image other w.0 w.1) in omega (arith, few, above));
 }
 near_all g image after p (Some (id, page)) all was =
-    let at = marked_page g image page id was.here in
-    (record {
-      above = was.above;
-      has = heads g image page id (omega (arith, all, was.below)) at.0;
-      least = λ other above e.
-          let w = header_of g image other e in
-          let low = (header_parts g image other w.0 w.1).1 in
-          was.least w.0 other (omega (arith, all, low)) (header_marked g image other w.0 w.1) above;
-    }, at.1)
+    let at = marked_page g image page id was.here in (
+      record {
+        above = was.above;
+        has = heads g image page id (omega (arith, all, was.below)) at.0;
+        least = λ other above e.
+            let w = header_of g image other e in
+            let low = (header_parts g image other w.0 w.1).1 in
+            was.least w.0 other (omega (arith, all, low)) (header_marked g image other w.0 w.1) above;
+      },
+      at.1,
+    )
 
 -- its page is one of the pages looked at
 choice_inside : (n id page : ℕ) (b : Bool) (old : Option (ℕ × ℕ)) → page < n → IfSome old (λ x. x.1 < n) → IfSome (if b then Some (id, page) else old) (λ x. x.1 < n)

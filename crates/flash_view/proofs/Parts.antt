@@ -1,5 +1,5 @@
 -- Words and headers within bytes that were read.
-use Rattle.std.proofs.Common.{ℕ, ◌≡◌, ◌+◌, ◌-◌, ◌*◌, ◌<◌, ◌≤◌, List, take, drop, slice_index, slice_range, get_or-take, get_or-drop, add-zero, arith, refl, ◌∙◌}
+use Rattle.std.proofs.Common.{ℕ, ◌≡◌, ◌+◌, ◌-◌, ◌*◌, ◌<◌, List, drop, slice_index, slice_range, get_or-take, get_or-drop, add-zero, arith, refl, ◌∙◌}
 use Rattle.geometry.specs.declared.geometry.Geometry.{Geometry}
 use Rattle.image_model.specs.Headers.{word_at}
 use Rattle.image_model.specs.Places.{page_of}

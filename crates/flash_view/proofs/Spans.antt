@@ -1,11 +1,11 @@
 -- Data pages by the entries that name them, and the first span that has none.
-use Rattle.std.proofs.Common.{◌≡◌, ◌≢◌, ℕ, zero, suc, ◌+◌, ◌-◌, ◌*◌, ◌/◌, ◌%◌, ◌^◌, ◌<◌, ◌≤◌, ◌==◌, ◌&&◌, not, nat_lt, Bool, true, false, List, [], ◌∷◌, ap, refl, sym, ◌∙◌, min, if◌then◌else◌, ⊎_elim, arith}
+use Rattle.std.proofs.Common.{◌≡◌, ◌≢◌, ℕ, zero, suc, ◌+◌, ◌-◌, ◌*◌, ◌/◌, ◌%◌, ◌<◌, ◌≤◌, ◌==◌, ◌&&◌, not, nat_lt, Bool, true, false, List, ap, refl, sym, ◌∙◌, min, if◌then◌else◌, ⊎_elim, arith}
 use Rattle.std.specs.Prelude.{Result, Ok, Err, IfOk, Option, Some, None, find, is_none, is_some, option_and_then}
 use Rattle.std.specs.List.{range_with_len}
 use Rattle.std.specs.Option.{option_map}
 use Rattle.std.proofs.Math.Nat.{sub-zero, div-add-mod, mul-le-mul_right}
 use Rattle.std.proofs.lemmas.Nat.{div-mul-add, mod-mul-add}
-use Rattle.std.proofs.lemmas.Bool.{and_parts, cases_Bool, cases_lt, eqb-true, ltb-true, lt-ltb, le-ltb, false_from_ne_true, not-true}
+use Rattle.std.proofs.lemmas.Bool.{cases_Bool, cases_lt, eqb-true, lt-ltb, le-ltb}
 use Rattle.geometry.specs.declared.geometry.Geometry.{Geometry}
 use Rattle.geometry.specs.Numbers.{head_slots, span_slots, page_count as pages_of}
 use Rattle.page_layout.specs.declared.header.PageHeader.{PageHeader}
@@ -18,7 +18,7 @@ use Rattle.image_model.specs.Places.{page_of, is_entry_page}
 use Rattle.image_model.specs.Live.{Live, live_at, is_live, own}
 use Rattle.image_model.specs.Files.{is_index, index_page, entry_number, data_of, data_page, first_missing, judged, judged_by}
 use Rattle.flash_view.specs.Judging.{lookup_entry, numbered, data_number, entry_data, missing_entry, missing_between, cause_of}
-use Rattle.flash_view.proofs.Entries.{LivePage, live_page}
+use Rattle.flash_view.proofs.Entries.{live_page}
 
 -- ---- whether a page is a data page
 

@@ -1,5 +1,5 @@
 -- The table and the damaged files, by stepping over the ids that have header pages.
-use Rattle.std.proofs.Common.{◌≡◌, ◌≢◌, ℕ, zero, suc, ◌+◌, ◌<◌, ◌≤◌, ⊎_elim, nat_lt, not, ◌==◌, Bool, true, false, List, [], ◌∷◌, refl, sym, ◌∙◌, ap, arith, Option, Some, None, if◌then◌else◌}
+use Rattle.std.proofs.Common.{◌≡◌, ◌≢◌, ℕ, zero, suc, ◌+◌, ◌<◌, ◌≤◌, ⊎_elim, nat_lt, not, ◌==◌, Bool, true, false, List, refl, sym, ◌∙◌, ap, arith, Option, Some, None}
 use Rattle.std.specs.Prelude.{Result, Ok, Err, find, is_some}
 use Rattle.std.specs.Option.{option_map}
 use Rattle.std.specs.List.{range_with_len, filter_map, cons_option}
@@ -13,8 +13,8 @@ use Rattle.image_model.specs.Places.{page_of}
 use Rattle.image_model.specs.Headers.{name_of}
 use Rattle.image_model.specs.Live.{Live, live_at, own}
 use Rattle.image_model.specs.Files.{index_page, judged, judged_by, file_of, first_missing}
-use Rattle.image_model.specs.Tables.{Found, has_of, ids, counts, counted, records, table_of, holder, damage, damages, damaged_of}
-use Rattle.flash_view.specs.Found.{has_header, IsNextId, IsLastId}
+use Rattle.image_model.specs.Tables.{Found, has_of, counts, counted, records, table_of, holder, damage, damages, damaged_of}
+use Rattle.flash_view.specs.Found.{has_header}
 use Rattle.flash_view.specs.Marks.{NextHead, cause_at}
 use Rattle.flash_view.specs.Listing.{IsNextFile, IsTheFile, damaged_above}
 use Rattle.flash_view.proofs.Marking.{has_at, has_none}

@@ -97,13 +97,7 @@ impl<'b, N: Nor> View<'b, N> {
 
     // The page whose number stands at byte `at` of an index page, where it is a live data page of an object and a span.
     #[tactic(auto, using(crate::proofs::Looking::looks_then))]
-    fn data_in(
-        &mut self,
-        index: u16,
-        at: u32,
-        id: u16,
-        span: u32,
-    ) -> Result<Option<u16>, Failed>
+    fn data_in(&mut self, index: u16, at: u32, id: u16, span: u32) -> Result<Option<u16>, Failed>
         requires index { index < page_count self.old.geometry }
         requires at { at + 2 ≤ self.old.geometry.page }
         ensures cause { OnErr result (Rose (N.faults self.old.nor.now) (N.faults self.new.nor.now)) }
@@ -160,7 +154,10 @@ impl<'b, N: Nor> View<'b, N> {
         ensures work { self.new.work.now ≡ self.old.work.now }
     {
         for span in first..end {
-            if self.data_in(index, at + 2 * (span - first), id, span)?.is_none() {
+            if self
+                .data_in(index, at + 2 * (span - first), id, span)?
+                .is_none()
+            {
                 return Ok(Some(span));
             }
         }

@@ -174,12 +174,7 @@ impl<'b, N: Nor> View<'b, N> {
 
     /// Why an id with this header page has no file in the table, by right marks; none where it has one.
     #[tactic(auto, using(crate::proofs::Looking::looks_then))]
-    pub fn damage(
-        &mut self,
-        marks: &[u8],
-        id: u16,
-        header: u16,
-    ) -> Result<Option<Damage>, Failed>
+    pub fn damage(&mut self, marks: &[u8], id: u16, header: u16) -> Result<Option<Damage>, Failed>
         requires room { page_count self.old.geometry ≤ length marks.now }
         requires header { header < page_count self.old.geometry }
         requires marked { N.tells self.old.nor.now → IsMarked self.old.geometry (N.bytes self.old.nor.now) marks.now }

@@ -243,7 +243,13 @@ impl<'b, N: Nor> View<'b, N> {
     {
         let at = page_start(&self.geometry, page);
         let len = self.geometry.page() as usize;
-        read_cached(self.geometry, self.nor, self.cache, at, &mut self.work[..len])
+        read_cached(
+            self.geometry,
+            self.nor,
+            self.cache,
+            at,
+            &mut self.work[..len],
+        )
     }
 
     /// Reads a page, for `fetched`. The page that is being built stays.

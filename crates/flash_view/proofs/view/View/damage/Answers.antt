@@ -1,4 +1,4 @@
-use Rattle.std.proofs.Common.{◌≡◌, ◌∙◌, ap, sym, Some, None, refl}
+use Rattle.std.proofs.Common.{◌≡◌, ◌∙◌, sym}
 use Rattle.flash_view.specs.Marks.{table_id}
 use Rattle.flash_view.proofs.Spans.{told_along}
 use Rattle.flash_view.proofs.Holders.{cause_judged, cause_named, whole_named}

@@ -1,4 +1,4 @@
-use Rattle.std.proofs.Common.{◌≡◌, ℕ, ◌+◌, ◌*◌, ◌-◌, length, take, drop, length-drop, arith}
+use Rattle.std.proofs.Common.{◌≡◌, ◌*◌, ◌-◌, length, take, drop, length-drop, arith}
 use Rattle.std.proofs.lemmas.List.{length-take}
 use Rattle.flash_view.proofs.InPage.{part_in_page}
 use Rattle.flash_view.proofs.view.View.fetch.Goals as goal

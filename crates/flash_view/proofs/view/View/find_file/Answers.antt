@@ -1,4 +1,4 @@
-use Rattle.std.proofs.Common.{◌≡◌, ◌∙◌, sym, Some, None}
+use Rattle.std.proofs.Common.{◌≡◌, ◌∙◌, sym}
 use Rattle.flash_view.specs.Marks.{cause_at}
 use Rattle.flash_view.proofs.Stepping.{file_headless, file_damaged, file_whole}
 use Rattle.flash_view.proofs.Looking.{looks_then}

@@ -1,4 +1,4 @@
-use Rattle.std.proofs.Common.{◌≡◌, ◌∙◌, ap, sym, Some, None, refl}
+use Rattle.std.proofs.Common.{◌≡◌, ◌∙◌, sym, Some, None}
 use Rattle.std.proofs.Math.Nat.{sub-zero}
 use Rattle.image_model.specs.Volume.{page_count, per_block}
 use Rattle.flash_view.specs.Marks.{whole_at}

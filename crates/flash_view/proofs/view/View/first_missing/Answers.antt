@@ -1,8 +1,8 @@
-use Rattle.std.proofs.Common.{◌≡◌, ◌+◌, min, ℕ, List, sym, ◌∙◌, ap, refl, Some, None}
+use Rattle.std.proofs.Common.{◌≡◌, ◌+◌, min, sym, ◌∙◌, Some, None}
 use Rattle.geometry.specs.Numbers.{head_slots}
 use Rattle.image_model.specs.Places.{page_of}
 use Rattle.image_model.specs.Live.{live_at, own}
-use Rattle.flash_view.specs.Judging.{missing_entry, missing_between}
+use Rattle.flash_view.specs.Judging.{missing_entry}
 use Rattle.flash_view.proofs.Spans.{front_some, front_none, told_of_each}
 use Rattle.flash_view.proofs.view.View.first_missing.Goals as goal
 

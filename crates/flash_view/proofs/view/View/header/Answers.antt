@@ -1,4 +1,4 @@
-use Rattle.std.proofs.Common.{◌≡◌, ℕ, ◌+◌, ◌*◌, length, arith}
+use Rattle.std.proofs.Common.{arith}
 use Rattle.flash_view.proofs.InPage.{part_in_page}
 use Rattle.flash_view.proofs.view.View.header.Goals as goal
 

@@ -1,8 +1,6 @@
-use Rattle.std.proofs.Common.{◌≡◌, ℕ, sym, ◌∙◌, ap, refl, Some, None, true, false, Option}
+use Rattle.std.proofs.Common.{◌≡◌, sym, ◌∙◌, ap, None, false}
 use Rattle.std.specs.Prelude.{is_none}
-use Rattle.std.specs.Option.{option_map}
 use Rattle.table_model.specs.Room.{data_pages}
-use Rattle.image_model.specs.declared.damage.Damage.TheVariants.{Missing}
 use Rattle.image_model.specs.Headers.{name_of, size_of}
 use Rattle.image_model.specs.Places.{page_of}
 use Rattle.image_model.specs.Live.{live_at, own}

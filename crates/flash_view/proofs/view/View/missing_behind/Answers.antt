@@ -1,9 +1,9 @@
-use Rattle.std.proofs.Common.{◌≡◌, ◌+◌, ◌-◌, ◌*◌, ◌/◌, ◌<◌, ◌≤◌, min, ℕ, List, sym, ◌∙◌, ap, refl, Some, None, true, false, arith}
+use Rattle.std.proofs.Common.{◌≡◌, ◌+◌, ◌-◌, ◌*◌, ◌/◌, ◌≤◌, min, sym, ◌∙◌, arith}
 use Rattle.geometry.specs.Numbers.{head_slots, span_slots}
 use Rattle.image_model.specs.Live.{live_at, own}
 use Rattle.flash_view.specs.Judging.{missing_between}
 use Rattle.flash_view.proofs.Spans.{part_some, part_none, part_all, slots_some}
-use Rattle.flash_view.proofs.Looking.{looks_none, looks_then}
+use Rattle.flash_view.proofs.Looking.{looks_then}
 use Rattle.flash_view.proofs.view.View.missing_behind.Goals as goal
 
 pub returns-then-is_some-clause-told : goal.returns-then-is_some-clause-told

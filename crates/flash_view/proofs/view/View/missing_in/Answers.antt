@@ -1,4 +1,4 @@
-use Rattle.std.proofs.Common.{◌≡◌, ◌∙◌, ◌+◌, ◌-◌, ◌*◌, ℕ, ap, sym, true, false, refl}
+use Rattle.std.proofs.Common.{◌≡◌, ◌∙◌, ◌+◌, ◌-◌, ◌*◌, ℕ, true, false, refl}
 use Rattle.std.specs.Prelude.{is_none}
 use Rattle.image_model.specs.Headers.{word_at}
 use Rattle.image_model.specs.Places.{page_of}

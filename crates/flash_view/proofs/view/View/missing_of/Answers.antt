@@ -1,9 +1,8 @@
-use Rattle.std.proofs.Common.{◌≡◌, ◌+◌, ◌*◌, ◌<◌, ◌≤◌, min, ℕ, List, sym, ◌∙◌, ap, refl, Some, None, arith}
+use Rattle.std.proofs.Common.{◌≡◌, ◌+◌, ◌*◌, min, sym, ◌∙◌, Some, None, arith}
 use Rattle.geometry.specs.Numbers.{head_slots, span_slots}
 use Rattle.image_model.specs.Places.{page_of}
 use Rattle.image_model.specs.Live.{live_at, own}
 use Rattle.image_model.specs.Files.{index_page}
-use Rattle.flash_view.specs.Judging.{missing_between}
 use Rattle.flash_view.proofs.Spans.{index_known, behind_missing, behind_none, slots_some, told_each}
 use Rattle.flash_view.proofs.view.View.missing_of.Goals as goal
 

@@ -1,8 +1,8 @@
-use Rattle.std.proofs.Common.{◌≡◌, Bool, true, false, Some, None, sym, ◌∙◌, refl, if◌then◌else◌}
+use Rattle.std.proofs.Common.{◌≡◌, true, false, Some, sym, ◌∙◌, refl}
 use Rattle.image_model.specs.Places.{page_of}
 use Rattle.image_model.specs.Headers.{name_of}
 use Rattle.image_model.specs.Live.{live_at}
-use Rattle.flash_view.specs.Found.{headed, is_name, named_at}
+use Rattle.flash_view.specs.Found.{headed, is_name}
 use Rattle.flash_view.proofs.Names.{named_by}
 use Rattle.flash_view.proofs.view.View.named_id.Goals as goal
 

@@ -1,4 +1,4 @@
-use Rattle.std.proofs.Common.{◌≡◌, ◌∙◌, sym, subst, Some, None, Option, ℕ, arith}
+use Rattle.std.proofs.Common.{◌≡◌, ◌∙◌, subst, Some, None, Option, ℕ, arith}
 use Rattle.flash_view.specs.Marks.{NextHead, cause_at}
 use Rattle.flash_view.proofs.Stepping.{file_more, file_next, file_last, is_gone, is_there}
 use Rattle.flash_view.proofs.Looking.{looks_then}

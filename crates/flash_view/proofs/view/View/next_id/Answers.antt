@@ -1,4 +1,4 @@
-use Rattle.std.proofs.Common.{◌≡◌, ◌∙◌, ap, sym, refl, arith}
+use Rattle.std.proofs.Common.{◌≡◌, ◌∙◌, ap, sym, arith}
 use Rattle.geometry.specs.Numbers.{page_count as pages_of}
 use Rattle.image_model.specs.Volume.{page_count, per_block}
 use Rattle.image_model.specs.Live.{live_at}

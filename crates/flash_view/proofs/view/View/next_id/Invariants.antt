@@ -1,5 +1,5 @@
 -- The least id of the pages below `page`.
-use Rattle.std.proofs.Common.{◌≡◌, ◌≤◌, ℕ}
+use Rattle.std.proofs.Common.{◌≡◌, ℕ}
 use Rattle.geometry.specs.Numbers.{page_count}
 use Rattle.image_model.specs.Live.{live_at}
 use Rattle.flash_view.specs.Found.{headed}

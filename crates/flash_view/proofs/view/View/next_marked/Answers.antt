@@ -1,9 +1,9 @@
-use Rattle.std.proofs.Common.{◌≡◌, ◌∙◌, ap, sym, refl, arith}
+use Rattle.std.proofs.Common.{◌≡◌, ◌∙◌, arith}
 use Rattle.geometry.specs.Numbers.{page_count as pages_of}
 use Rattle.image_model.specs.Volume.{page_count, per_block}
 use Rattle.flash_view.specs.Marks.{marked_id}
 use Rattle.flash_view.proofs.Nearest.{near_more, near_all, near_inside, near_above}
-use Rattle.flash_view.proofs.Looking.{looks_none, looks_then}
+use Rattle.flash_view.proofs.Looking.{looks_then}
 use Rattle.flash_view.proofs.view.View.next_marked.Goals as goal
 
 pub loop-page-preserved : goal.loop-page-preserved

@@ -1,5 +1,5 @@
 -- The nearest marked header page of the pages below `page`.
-use Rattle.std.proofs.Common.{◌≡◌, ◌<◌, ℕ}
+use Rattle.std.proofs.Common.{◌≡◌, ◌<◌}
 use Rattle.std.specs.Prelude.{IfSome}
 use Rattle.geometry.specs.Numbers.{page_count}
 use Rattle.flash_view.specs.Marks.{marked_id}

@@ -1,4 +1,4 @@
-use Rattle.std.proofs.Common.{◌≡◌, ℕ, ◌+◌, ◌*◌, length, arith}
+use Rattle.std.proofs.Common.{length, arith}
 use Rattle.flash_view.proofs.InPage.{part_in_page}
 use Rattle.flash_view.proofs.view.View.read_in.Goals as goal
 
