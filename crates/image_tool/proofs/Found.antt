@@ -8,7 +8,7 @@ use Rattle.table_model.specs.Files.{stat_of}
 use Rattle.table_model.specs.declared.reply.Stat.{Stat}
 use Rattle.image_model.specs.declared.damage.Damage.{Damage}
 use Rattle.image_model.specs.Tables.{damaged_of}
-use Rattle.image_tool.specs.Lists.{damaged_above}
+use Rattle.flash_view.specs.Listing.{damaged_above}
 use Rattle.image_tool.proofs.Ascending.{found_above}
 use Rattle.image_tool.specs.Texts.{stat_line, damage_line, record_line, line_if}
 

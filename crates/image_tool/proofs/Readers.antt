@@ -4,8 +4,8 @@ use Rattle.geometry.specs.declared.geometry.Geometry.{Geometry}
 use Rattle.nor_core.specs.declared.state.NorState.{Ghosts as NorOf}
 use Rattle.page_cache.specs.Kept.{FewReads}
 use Rattle.page_cache.proofs.Held.{few_none, few_then}
-use Rattle.image_tool.specs.declared.reader.Reader.{Reader}
-use Rattle.image_tool.specs.Same.{IsSameReader}
+use Rattle.vol_mount.specs.declared.reader.Reader.{Reader}
+use Rattle.vol_mount.specs.Readers.{IsSameReader}
 
 module _ {N : Type 0} {nor : NorOf N} where
   pub same_then : {old mid new : Reader N nor} → IsSameReader old mid → IsSameReader mid new → IsSameReader old new

@@ -1,4 +1,3 @@
-pub mod Same
 pub mod Texts
 pub mod Saying
 pub mod Lists

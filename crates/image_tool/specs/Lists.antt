@@ -1,14 +1,10 @@
 -- The line that a list says next.
-use Rattle.std.specs.Prelude.{ℕ, List, nat_lt, Option, find}
+use Rattle.std.specs.Prelude.{ℕ, List}
 use Rattle.geometry.specs.declared.geometry.Geometry.{Geometry}
 use Rattle.table_model.specs.Table.{file_above}
-use Rattle.image_model.specs.declared.damage.Damage.{Damage}
 use Rattle.image_model.specs.Tables.{table_of, damaged_of}
+use Rattle.flash_view.specs.Listing.{damaged_above}
 use Rattle.image_tool.specs.Texts.{record_line, damage_line, list_text, line_if}
-
--- the damaged id next above one, with its cause
-unfoldable pub damaged_above : Geometry → List ℕ → ℕ → Option (ℕ × Damage)
-damaged_above g image after = find (λ d. nat_lt after d.0) (damaged_of g image)
 
 -- the line of the file of the least id above one, or nothing
 abbrev pub next_record : Geometry → List ℕ → ℕ → List ℕ

@@ -4,16 +4,17 @@ ghost use Rattle.std.specs.Option.{option_map, IfSome};
 ghost use Rattle.nor_core.specs.Count.{Rose};
 ghost use Rattle.nor_core.specs.Device.{OnlyReads};
 ghost use Rattle.image_model.specs.Tables.{damaged_of};
-ghost use Rattle.image_tool.specs.Same.{IsSameReader};
+ghost use Rattle.vol_mount.specs.Readers.{IsSameReader};
 ghost use Rattle.image_tool.specs.Texts.{damage_line, damage_lines};
-ghost use Rattle.image_tool.specs.Lists.{damaged_above, next_damage};
+ghost use Rattle.flash_view.specs.Listing.{damaged_above};
+ghost use Rattle.image_tool.specs.Lists.{next_damage};
 ghost use Rattle.image_tool.specs.Saying.{OnlySays, SaysFront};
 
 use crate::error::ToolErr;
 use crate::lines::put_damaged;
-use crate::reader::Reader;
 use image_model::Damage;
 use nor_core::{Board, Failed, Nor, NorState};
+use vol_mount::Reader;
 
 // Passes on a damaged id that is above one.
 fn above(found: Option<(u16, Damage)>, after: u16) -> Option<(u16, Damage)>

@@ -5,9 +5,7 @@ mod damaged;
 mod error;
 mod lines;
 mod listing;
-mod reader;
 mod records;
 
 pub use error::ToolErr;
 pub use listing::list;
-pub use reader::Reader;

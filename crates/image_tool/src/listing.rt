@@ -1,15 +1,15 @@
 ghost use Rattle.std.specs.Prelude.{◌≡◌, ◌<◌, ◌≤◌, ◌++◌, length, IfOk, OnOk, OnErr};
 ghost use Rattle.nor_core.specs.Count.{Rose};
 ghost use Rattle.image_model.specs.Tables.{damaged_of};
-ghost use Rattle.image_tool.specs.Same.{IsSameReader};
+ghost use Rattle.vol_mount.specs.Readers.{IsSameReader};
 ghost use Rattle.image_tool.specs.Lists.{list_of};
 ghost use Rattle.image_tool.specs.Saying.{OnlySays, SaysFront};
 
 use crate::damaged::list_damaged;
 use crate::error::ToolErr;
-use crate::reader::Reader;
 use crate::records::list_records;
 use nor_core::{Board, NorState};
+use vol_mount::Reader;
 
 /// Says the list of a volume: a line `ID TYPE SIZE NAME` for each file of the table in order of ids, the name
 /// printed as replies print it, then a line `damaged ID span S`, `damaged ID name` or `damaged ID same ID2` for each

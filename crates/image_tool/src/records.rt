@@ -6,16 +6,16 @@ ghost use Rattle.nor_core.specs.Device.{OnlyReads};
 ghost use Rattle.table_model.specs.Files.{stat_of};
 ghost use Rattle.table_model.specs.Table.{file_above};
 ghost use Rattle.image_model.specs.Tables.{table_of};
-ghost use Rattle.image_tool.specs.Same.{IsSameReader};
+ghost use Rattle.vol_mount.specs.Readers.{IsSameReader};
 ghost use Rattle.image_tool.specs.Texts.{stat_line, record_lines};
 ghost use Rattle.image_tool.specs.Lists.{next_record as the_next};
 ghost use Rattle.image_tool.specs.Saying.{OnlySays, SaysFront};
 
 use crate::error::ToolErr;
 use crate::lines::put_record;
-use crate::reader::Reader;
 use nor_core::{Board, Failed, Nor, NorState};
 use table_model::Stat;
+use vol_mount::Reader;
 
 // Passes on a record whose id is above one.
 fn above(found: Option<Stat>, after: u16) -> Option<Stat>

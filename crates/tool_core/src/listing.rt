@@ -1,7 +1,7 @@
 ghost use Rattle.std.specs.Prelude.{◌≡◌, ◌≢◌, ◌*◌, ◌≤◌, length};
 ghost use Rattle.geometry.specs.Numbers.{work_need, cache_need, check_need};
 ghost use Rattle.nor_core.specs.Count.{Rose};
-ghost use Rattle.image_tool.specs.Same.{IsSameReader};
+ghost use Rattle.vol_mount.specs.Readers.{IsSameReader};
 ghost use Rattle.tool_core.specs.Fits.{HoldsVolume};
 ghost use Rattle.tool_core.specs.Later.{IsLater};
 ghost use Rattle.tool_core.specs.Listing.{ListsTo, ReadsOnce};
@@ -9,9 +9,9 @@ ghost use Rattle.tool_core.specs.Listing.{ListsTo, ReadsOnce};
 use crate::ending::Ending;
 use crate::run::mount_ending;
 use geometry::Geometry;
-use image_tool::{Reader, ToolErr, list};
+use image_tool::{ToolErr, list};
 use nor_core::{Board, Nor, NorState};
-use vol_mount::Lent;
+use vol_mount::{Lent, Reader};
 
 // Mounts a volume, and says its list.
 fn list_reader<B: Board>(reader: &mut Reader<'_, B>, line: &mut [u8]) -> Ending

@@ -2,7 +2,7 @@
 use Rattle.std.proofs.Common.{◌≡◌, ◌≤◌, ℕ, ◌-◌}
 use Rattle.image_model.specs.declared.damage.Damage.{Damage}
 use Rattle.image_model.specs.Tables.{damaged_of}
-use Rattle.image_tool.specs.Same.{IsSameReader}
+use Rattle.vol_mount.specs.Readers.{IsSameReader}
 use Rattle.image_tool.specs.Texts.{damage_line, damage_lines}
 use Rattle.image_tool.specs.Saying.{OnlySays}
 use Rattle.image_tool.proofs.Walking.{Place}

@@ -2,7 +2,7 @@
 use Rattle.std.proofs.Common.{◌≡◌, ℕ, ◌-◌}
 use Rattle.table_model.specs.Table.{File}
 use Rattle.image_model.specs.Tables.{table_of}
-use Rattle.image_tool.specs.Same.{IsSameReader}
+use Rattle.vol_mount.specs.Readers.{IsSameReader}
 use Rattle.image_tool.specs.Texts.{record_line, record_lines}
 use Rattle.image_tool.specs.Saying.{OnlySays}
 use Rattle.image_tool.proofs.Walking.{Place}

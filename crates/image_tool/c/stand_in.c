@@ -1,1 +1,0 @@
-unsigned stand_in_never(void) { for (;;) {} }
