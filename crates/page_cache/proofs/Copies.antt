@@ -1,5 +1,5 @@
 -- What a program and an erase leave in a copy.
-use Rattle.std.proofs.Common.{◌≡◌, ◌≢◌, ℕ, zero, suc, ◌+◌, ◌-◌, ◌*◌, ◌<◌, ◌≤◌, ◌⊎◌, ◌++◌, inl, inr, ⊎_elim, List, length, get_or, take, drop, replicate, max, min, slice_range, refl, sym, ◌∙◌, ap, subst, arith}
+use Rattle.std.proofs.Common.{◌≡◌, ℕ, ◌+◌, ◌-◌, ◌*◌, ◌<◌, ◌≤◌, ⊎_elim, List, length, get_or, max, min, slice_range, refl, sym, ◌∙◌, ap, arith}
 use Rattle.std.specs.Int.Bits.{bit_and}
 use Rattle.std.proofs.lemmas.Grind.{common_steps, get_or_default_zero}
 use Rattle.std.proofs.lemmas.List.{same_lists}
@@ -24,18 +24,18 @@ pub program_misses : (page at start : ℕ) (from old : List ℕ) → start ≡ n
 program_misses page at start from old start_is apart = record {
   number = refl;
   goes = λ bytes copy i inside. copy i inside ∙ ⊎_elim
-    (λ (before : number_of old * page + i < at). sym (get_or-programmed_before bytes at from (number_of old * page + i) before))
-    (λ (behind : at ≤ number_of old * page + i). sym (get_or-programmed_after bytes at from (number_of old * page + i) (omega (arith, behind, apart, inside, start_is))))
-    (lt_or_le (number_of old * page + i) at);
+      (λ (before : number_of old * page + i < at). sym (get_or-programmed_before bytes at from (number_of old * page + i) before))
+      (λ (behind : at ≤ number_of old * page + i). sym (get_or-programmed_after bytes at from (number_of old * page + i) (omega (arith, behind, apart, inside, start_is))))
+      (lt_or_le (number_of old * page + i) at);
 }
 
 pub erase_misses : (page at count start : ℕ) (old : List ℕ) → start ≡ number_of old * page → min (start + page) (at + count) ≤ max start at → GoesWithErase page at count old old
 erase_misses page at count start old start_is apart = record {
   number = refl;
   goes = λ bytes fits copy i inside. copy i inside ∙ ⊎_elim
-    (λ (before : number_of old * page + i < at). sym (erased_before bytes at count (number_of old * page + i) fits before))
-    (λ (behind : at ≤ number_of old * page + i). sym (erased_after bytes at count (number_of old * page + i) fits (omega (arith, behind, apart, inside, start_is))))
-    (lt_or_le (number_of old * page + i) at);
+      (λ (before : number_of old * page + i < at). sym (erased_before bytes at count (number_of old * page + i) fits before))
+      (λ (behind : at ≤ number_of old * page + i). sym (erased_after bytes at count (number_of old * page + i) fits (omega (arith, behind, apart, inside, start_is))))
+      (lt_or_le (number_of old * page + i) at);
 }
 
 -- where it meets it, that part goes with it
@@ -60,19 +60,19 @@ module _ (page at start low high n a : ℕ) (old part : List ℕ) (long : length
       let there : number_of (put_mid a n old part) * page + i ≡ start + i = omega (arith, ap (λ (m : ℕ). m * page) same_number, start_is) in
       let was : get_or old (8 + i) 0 ≡ get_or bytes (start + i) 0 = copy i within ∙ ap (λ (m : ℕ). get_or bytes m 0) (let e : number_of old * page + i ≡ start + i = omega (arith, start_is) in e) in
       let now : get_or (put_mid a n old part) (8 + i) 0 ≡ get_or (after bytes) (start + i) 0 =
-        ⊎_elim
-          (λ (less : start + i < low). put_before old part a n fits size (8 + i) (omega (arith, less, a_is, low_is)) ∙ was ∙ sym (before (start + i) less (omega arith)))
-          (λ (more : low ≤ start + i). ⊎_elim
-            (λ (in_it : start + i < high).
-              let j : ℕ = start + i - low in
-              let j_is : low + (start + i - low) ≡ start + i = omega (arith, more) in
-              let p_is : a + (start + i - low) ≡ 8 + i = omega (arith, more, a_is, low_is) in
-              ap (λ (m : ℕ). get_or (put_mid a n old part) m 0) (sym p_is) ∙ put_inside old part a n fits size (start + i - low) (omega (arith, in_it, more, n_is))
-              ∙ here (start + i - low) (omega (arith, in_it, more, n_is)) (ap (λ (m : ℕ). get_or old m 0) p_is ∙ was ∙ ap (λ (m : ℕ). get_or bytes m 0) (sym j_is))
-              ∙ ap (λ (m : ℕ). get_or (after bytes) m 0) j_is)
-            (λ (past : high ≤ start + i). put_after old part a n fits size (8 + i) (omega (arith, past, a_is, low_is, n_is, some)) ∙ was ∙ sym (behind (start + i) past (omega (arith, within))))
-            (lt_or_le (start + i) high))
-          (lt_or_le (start + i) low) in
+      ⊎_elim
+      (λ (less : start + i < low). put_before old part a n fits size (8 + i) (omega (arith, less, a_is, low_is)) ∙ was ∙ sym (before (start + i) less (omega arith)))
+      (λ (more : low ≤ start + i). ⊎_elim
+      (λ (in_it : start + i < high).
+      let j : ℕ = start + i - low in
+      let j_is : low + (start + i - low) ≡ start + i = omega (arith, more) in
+      let p_is : a + (start + i - low) ≡ 8 + i = omega (arith, more, a_is, low_is) in
+      ap (λ (m : ℕ). get_or (put_mid a n old part) m 0) (sym p_is) ∙ put_inside old part a n fits size (start + i - low) (omega (arith, in_it, more, n_is))
+      ∙ here (start + i - low) (omega (arith, in_it, more, n_is)) (ap (λ (m : ℕ). get_or old m 0) p_is ∙ was ∙ ap (λ (m : ℕ). get_or bytes m 0) (sym j_is))
+      ∙ ap (λ (m : ℕ). get_or (after bytes) m 0) j_is)
+      (λ (past : high ≤ start + i). put_after old part a n fits size (8 + i) (omega (arith, past, a_is, low_is, n_is, some)) ∙ was ∙ sym (behind (start + i) past (omega (arith, within))))
+      (lt_or_le (start + i) high))
+      (lt_or_le (start + i) low) in
       now ∙ ap (λ (m : ℕ). get_or (after bytes) m 0) (sym there)
 
 -- a program that meets the page
@@ -81,9 +81,9 @@ pub program_meets : (page at start low high n a : ℕ) (from old part : List ℕ
 program_meets page at start low high n a from old part long start_is low_is high_is some a_is n_is size anded = record {
   number = same_number page at start low high n a old part long start_is low_is some (omega (arith, high_is)) a_is n_is size;
   goes = λ bytes copy. by_place page at start low high n a old part long start_is low_is some (omega (arith, high_is)) a_is n_is size (λ (b : List ℕ). programmed b at from) bytes copy
-    (λ k below above. get_or-programmed_before bytes at from k (omega (arith, below, above, low_is)))
-    (λ k above below. get_or-programmed_after bytes at from k (omega (arith, below, above, high_is)))
-    (λ j below was. anded j below ∙ ap (λ (b : ℕ). bit_and b (get_or from (low - at + j) 0)) was
+      (λ k below above. get_or-programmed_before bytes at from k (omega (arith, below, above, low_is)))
+      (λ k above below. get_or-programmed_after bytes at from k (omega (arith, below, above, high_is)))
+      (λ j below was. anded j below ∙ ap (λ (b : ℕ). bit_and b (get_or from (low - at + j) 0)) was
       ∙ sym (get_or-programmed_inside bytes at from (low - at + j) (low + j) (omega (arith, low_is)) (omega (arith, below, n_is, high_is, low_is))));
 }
 
@@ -93,9 +93,9 @@ pub erase_meets : (page at count start low high n a : ℕ) (old part : List ℕ)
 erase_meets page at count start low high n a old part long start_is low_is high_is some a_is n_is size blank = record {
   number = same_number page at start low high n a old part long start_is low_is some (omega (arith, high_is)) a_is n_is size;
   goes = λ bytes fits copy. by_place page at start low high n a old part long start_is low_is some (omega (arith, high_is)) a_is n_is size (λ (b : List ℕ). erased b at count) bytes copy
-    (λ k below above. erased_before bytes at count k fits (omega (arith, below, above, low_is)))
-    (λ k above below. erased_after bytes at count k fits (omega (arith, below, above, high_is)))
-    (λ j below was. blank j below ∙ sym (erased_inside bytes at count (low + j) fits (omega (arith, low_is)) (omega (arith, below, n_is, high_is))));
+      (λ k below above. erased_before bytes at count k fits (omega (arith, below, above, low_is)))
+      (λ k above below. erased_after bytes at count k fits (omega (arith, below, above, high_is)))
+      (λ j below was. blank j below ∙ sym (erased_inside bytes at count (low + j) fits (omega (arith, low_is)) (omega (arith, below, n_is, high_is))));
 }
 
 -- a part of a copy is that part of its page
@@ -104,10 +104,10 @@ pub copy_range : (len page start n first end : ℕ) (bytes frame : List ℕ) →
 copy_range len page start n first end bytes frame copy number fits inside size first_is end_is = same_lists _ _
     (range_length frame first end (omega (arith, end_is), omega (arith, end_is, first_is, size, fits)) ∙ omega (arith, end_is, range_length bytes (page * len + start) (page * len + start + n) (omega arith, omega (arith, inside, fits))))
     (λ k d below.
-      let here : k < n = omega (arith, below, end_is, range_length frame first end (omega (arith, end_is), omega (arith, end_is, first_is, size, fits))) in
-      let there : k < length (slice_range bytes (page * len + start) (page * len + start + n)) = omega (arith, here, range_length bytes (page * len + start) (page * len + start + n) (omega arith, omega (arith, inside, fits))) in
-      let at : first + k ≡ 8 + (start + k) = omega (arith, first_is) in
-      let place : number_of frame * len + (start + k) ≡ page * len + start + k = omega (arith, ap (λ (m : ℕ). m * len) number) in
-      get_or_default_zero (slice_range frame first end) k d below ∙ range_byte frame first end k (omega (arith, here, end_is)) ∙ ap (λ (m : ℕ). get_or frame m 0) at
-      ∙ copy (start + k) (omega (arith, here, fits)) ∙ ap (λ (m : ℕ). get_or bytes m 0) place
-      ∙ sym (range_byte bytes (page * len + start) (page * len + start + n) k (omega (arith, here))) ∙ sym (get_or_default_zero (slice_range bytes (page * len + start) (page * len + start + n)) k d there))
+    let here : k < n = omega (arith, below, end_is, range_length frame first end (omega (arith, end_is), omega (arith, end_is, first_is, size, fits))) in
+    let there : k < length (slice_range bytes (page * len + start) (page * len + start + n)) = omega (arith, here, range_length bytes (page * len + start) (page * len + start + n) (omega arith, omega (arith, inside, fits))) in
+    let at : first + k ≡ 8 + (start + k) = omega (arith, first_is) in
+    let place : number_of frame * len + (start + k) ≡ page * len + start + k = omega (arith, ap (λ (m : ℕ). m * len) number) in
+    get_or_default_zero (slice_range frame first end) k d below ∙ range_byte frame first end k (omega (arith, here, end_is)) ∙ ap (λ (m : ℕ). get_or frame m 0) at
+    ∙ copy (start + k) (omega (arith, here, fits)) ∙ ap (λ (m : ℕ). get_or bytes m 0) place
+    ∙ sym (range_byte bytes (page * len + start) (page * len + start + n) k (omega (arith, here))) ∙ sym (get_or_default_zero (slice_range bytes (page * len + start) (page * len + start + n)) k d there))

@@ -1,5 +1,5 @@
 -- Pages that are held, and how few reads they leave.
-use Rattle.std.proofs.Common.{◌≡◌, ◌≢◌, ℕ, zero, suc, ◌+◌, ◌<◌, ◌≤◌, ◌⊎◌, ◌==◌, inl, inr, ⊎_elim, Bool, true, false, List, length, refl, sym, ◌∙◌, ap, subst, arith}
+use Rattle.std.proofs.Common.{◌≡◌, ◌≢◌, ℕ, ◌+◌, ◌<◌, ◌≤◌, ◌==◌, Bool, true, false, List, length, refl, sym, ◌∙◌, ap, arith}
 use Rattle.std.proofs.lemmas.Bool.{eq-eqb, eqb-true}
 use Rattle.std.specs.Prelude.{Option, Some, None, is_some, IfSome}
 use Rattle.geometry.specs.declared.geometry.Geometry.{Geometry}
@@ -62,10 +62,12 @@ module _ {D : Type 0} {nor : NorOf D} (g : Geometry) where
 
   -- one after another
   pub few_then : {old mid new : D} {a b c : List ℕ} → length b ≡ length a → nor.faults old ≤ nor.faults mid → nor.faults mid ≤ nor.faults new → FewReads nor g old a mid b → FewReads nor g mid b new c → FewReads nor g old a new c
-  few_then size first_faults second_faults first second = record { few = λ many calm.
-      let one = first.few many (λ rose. calm (omega (arith, rose, second_faults))) in
-      let two = second.few (omega (arith, many, count_same g _ _ size)) (λ rose. calm (omega (arith, rose, first_faults))) in
-      omega (arith, one, two) }
+  few_then size first_faults second_faults first second = record {
+    few = λ many calm.
+        let one = first.few many (λ rose. calm (omega (arith, rose, second_faults))) in
+        let two = second.few (omega (arith, many, count_same g _ _ size)) (λ rose. calm (omega (arith, rose, first_faults))) in
+        omega (arith, one, two);
+  }
 
   -- reads that rose not, where the held pages are kept
   pub few_kept : (old new : D) (a b : List ℕ) → nor.device_reads new ≤ nor.device_reads old → KeepsHeld g a b → FewReads nor g old a new b

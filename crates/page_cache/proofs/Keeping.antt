@@ -1,5 +1,5 @@
 -- Copies that stay right.
-use Rattle.std.proofs.Common.{◌≡◌, ◌≢◌, ℕ, zero, suc, ◌+◌, ◌*◌, ◌<◌, ◌≤◌, ◌⊎◌, inl, inr, ⊎_elim, Bool, true, false, List, length, refl, sym, ◌∙◌, ap, subst, arith}
+use Rattle.std.proofs.Common.{◌≡◌, ◌≢◌, ℕ, ◌+◌, ◌*◌, ◌<◌, ◌≤◌, ◌⊎◌, inl, inr, ⊎_elim, List, length, sym, ◌∙◌, ap, subst, arith}
 use Rattle.geometry.specs.declared.geometry.Geometry.{Geometry}
 use Rattle.geometry.specs.Numbers.{page_count}
 use Rattle.nor_core.specs.Flash.{programmed, erased, SameOutside, HalfErased}
@@ -7,7 +7,7 @@ use Rattle.nor_core.specs.declared.device.Mark.{Mark}
 use Rattle.std.specs.declared.option.Option.{Option}
 use Rattle.std.specs.Prelude.{slice_index}
 use Rattle.nor_core.specs.declared.state.NorState.{Ghosts as NorOf}
-use Rattle.page_cache.specs.Frames.{frame_count, frame_at, number_of, page_in, IsPlaced, IsCopy, AreCopies, GoesWithProgram, GoesWithErase, GivenUp, IsFree, EachFrame}
+use Rattle.page_cache.specs.Frames.{frame_count, frame_at, number_of, page_in, IsPlaced, IsCopy, GoesWithProgram, GoesWithErase, GivenUp, IsFree, EachFrame}
 use Rattle.page_cache.specs.Kept.{IsKept}
 use Rattle.page_cache.proofs.Places.{same_or_not}
 
@@ -29,8 +29,8 @@ module _ {D : Type 0} {nor : NorOf D} (g : Geometry) (old new : D) (a b : List �
   kept_programmed at from kept told bytes each = record {
     placed = placed_still g a b same kept.placed (λ f below. inl (each f below).number);
     right = λ tells f below used.
-      let e = each f (omega (arith, below, same)) in
-      subst (λ (l : List ℕ). IsCopy g.page l (frame_at g b f)) (sym (bytes (told tells)))
+        let e = each f (omega (arith, below, same)) in
+        subst (λ (l : List ℕ). IsCopy g.page l (frame_at g b f)) (sym (bytes (told tells)))
         (e.goes (nor.bytes old) (kept.right (told tells) f (omega (arith, below, same)) (omega (arith, used, e.number))));
   }
 
@@ -38,8 +38,8 @@ module _ {D : Type 0} {nor : NorOf D} (g : Geometry) (old new : D) (a b : List �
   kept_erased at count kept told fits bytes each = record {
     placed = placed_still g a b same kept.placed (λ f below. inl (each f below).number);
     right = λ tells f below used.
-      let e = each f (omega (arith, below, same)) in
-      subst (λ (l : List ℕ). IsCopy g.page l (frame_at g b f)) (sym (bytes (told tells)))
+        let e = each f (omega (arith, below, same)) in
+        subst (λ (l : List ℕ). IsCopy g.page l (frame_at g b f)) (sym (bytes (told tells)))
         (e.goes (nor.bytes old) (fits (told tells)) (kept.right (told tells) f (omega (arith, below, same)) (omega (arith, used, e.number))));
   }
 
@@ -47,11 +47,11 @@ module _ {D : Type 0} {nor : NorOf D} (g : Geometry) (old new : D) (a b : List �
   kept_failed at count kept told outside each = record {
     placed = placed_still g a b same kept.placed (λ f below. ⊎_elim (λ free. inr free) (λ stays. inl (ap number_of stays.0)) (each f below));
     right = λ tells f below used. ⊎_elim
-      (λ free. absurd (omega (arith, free, used, g.valid.few_pages)))
-      (λ stays. subst (IsCopy g.page (nor.bytes new)) (sym stays.0)
+        (λ free. absurd (omega (arith, free, used, g.valid.few_pages)))
+        (λ stays. subst (IsCopy g.page (nor.bytes new)) (sym stays.0)
         (outside_copy g.page at count (nor.bytes old) (nor.bytes new) (frame_at g a f) (outside (told tells)) stays.1
-          (kept.right (told tells) f (omega (arith, below, same)) (subst (λ (l : List ℕ). number_of l < page_count g) stays.0 used))))
-      (each f (omega (arith, below, same)));
+        (kept.right (told tells) f (omega (arith, below, same)) (subst (λ (l : List ℕ). number_of l < page_count g) stays.0 used))))
+        (each f (omega (arith, below, same)));
   }
 
   -- one frame gets a page, or becomes free
@@ -59,13 +59,13 @@ module _ {D : Type 0} {nor : NorOf D} (g : Geometry) (old new : D) (a b : List �
       → (page_count g ≤ frame_count g a → page_in g b f < page_count g → page_in g b f ≡ f) → (nor.tells old → page_in g b f < page_count g → IsCopy g.page (nor.bytes old) (frame_at g b f)) → IsKept nor g new b
   kept_loaded f kept told bytes others place copy = record {
     placed = λ many h below used. ⊎_elim
-      (λ e. subst (λ (k : ℕ). page_in g b k ≡ k) (sym e) (place (omega (arith, many, same)) (subst (λ (k : ℕ). page_in g b k < page_count g) e used)))
-      (λ ne. let t = ap number_of (others h ne) in t ∙ kept.placed (omega (arith, many, same)) h (omega (arith, below, same)) (omega (arith, t, used)))
-      (same_or_not h f);
+        (λ e. subst (λ (k : ℕ). page_in g b k ≡ k) (sym e) (place (omega (arith, many, same)) (subst (λ (k : ℕ). page_in g b k < page_count g) e used)))
+        (λ ne. let t = ap number_of (others h ne) in t ∙ kept.placed (omega (arith, many, same)) h (omega (arith, below, same)) (omega (arith, t, used)))
+        (same_or_not h f);
     right = λ tells h below used. subst (λ (l : List ℕ). IsCopy g.page l (frame_at g b h)) (sym bytes) (⊎_elim
-      (λ e. subst (λ (k : ℕ). IsCopy g.page (nor.bytes old) (frame_at g b k)) (sym e) (copy (told tells) (subst (λ (k : ℕ). page_in g b k < page_count g) e used)))
-      (λ ne. subst (IsCopy g.page (nor.bytes old)) (sym (others h ne)) (kept.right (told tells) h (omega (arith, below, same)) (subst (λ (l : List ℕ). number_of l < page_count g) (others h ne) used)))
-      (same_or_not h f));
+        (λ e. subst (λ (k : ℕ). IsCopy g.page (nor.bytes old) (frame_at g b k)) (sym e) (copy (told tells) (subst (λ (k : ℕ). page_in g b k < page_count g) e used)))
+        (λ ne. subst (IsCopy g.page (nor.bytes old)) (sym (others h ne)) (kept.right (told tells) h (omega (arith, below, same)) (subst (λ (l : List ℕ). number_of l < page_count g) (others h ne) used)))
+        (same_or_not h f));
   }
 
 -- a failed erase changes nothing outside its unit

@@ -1,5 +1,5 @@
 -- Loops over frames: those below a number are changed, the others are as before.
-use Rattle.std.proofs.Common.{◌≡◌, ◌≢◌, ℕ, zero, suc, ◌+◌, ◌<◌, ◌≤◌, ◌⊎◌, inl, inr, ⊎_elim, List, refl, sym, ◌∙◌, ap, subst, arith}
+use Rattle.std.proofs.Common.{◌≡◌, ◌≢◌, ℕ, ◌+◌, ◌<◌, ◌≤◌, ⊎_elim, List, refl, sym, ◌∙◌, subst, arith}
 use Rattle.geometry.specs.declared.geometry.Geometry.{Geometry}
 use Rattle.page_cache.specs.Frames.{frame_count, frame_at, EachFrame}
 use Rattle.page_cache.proofs.Places.{same_or_not}
@@ -17,9 +17,9 @@ module _ (g : Geometry) (R : List ℕ → List ℕ → Type 0) (old : List ℕ) 
   pub changed_more : (now new : List ℕ) (n : ℕ) → Changed g R old now n → R (frame_at g now n) (frame_at g new n) → ((h : ℕ) → h ≢ n → frame_at g new h ≡ frame_at g now h) → Changed g R old new (n + 1)
   changed_more now new n was here others = record {
     done = λ f below. ⊎_elim
-      (λ e. subst (λ (h : ℕ). R (frame_at g old h) (frame_at g new h)) (sym e) (subst (λ (l : List ℕ). R l (frame_at g new n)) (was.rest n (omega arith)) here))
-      (λ ne. subst (R (frame_at g old f)) (sym (others f ne)) (was.done f (omega (arith, below, ne))))
-      (same_or_not f n);
+        (λ e. subst (λ (h : ℕ). R (frame_at g old h) (frame_at g new h)) (sym e) (subst (λ (l : List ℕ). R l (frame_at g new n)) (was.rest n (omega arith)) here))
+        (λ ne. subst (R (frame_at g old f)) (sym (others f ne)) (was.done f (omega (arith, below, ne))))
+        (same_or_not f n);
     rest = λ f above. others f (λ e. omega (arith, e, above)) ∙ was.rest f (omega (arith, above));
   }
 

@@ -1,6 +1,6 @@
 -- Where frames lie, and what a write into one of them leaves.
-use Rattle.std.proofs.Common.{◌≡◌, ◌≢◌, ℕ, zero, suc, ◌+◌, ◌-◌, ◌*◌, ◌/◌, ◌<◌, ◌≤◌, ◌⊎◌, ◌++◌, inl, inr, ⊎_elim, List, length, get_or, min, take, drop, slice_range, refl, sym, ◌∙◌, ap, subst, arith, length-drop}
-use Rattle.std.proofs.Math.Nat.{mul_assoc, mul-le-mul_right, mul-le-mul, div-mul-le_self, le-div_iff_mul-le}
+use Rattle.std.proofs.Common.{◌≡◌, ◌≢◌, ℕ, zero, suc, ◌+◌, ◌-◌, ◌*◌, ◌/◌, ◌<◌, ◌≤◌, ◌⊎◌, inl, inr, ⊎_elim, List, length, get_or, min, drop, slice_range, refl, sym, ◌∙◌, ap, subst, arith, length-drop}
+use Rattle.std.proofs.Math.Nat.{mul_assoc, mul-le-mul_right, div-mul-le_self, le-div_iff_mul-le}
 use Rattle.std.proofs.lemmas.Slice.{between-put_mid}
 use Rattle.std.proofs.lemmas.List.{length-take, get_or-take, get_or-drop, same_lists}
 use Rattle.std.proofs.lemmas.Grind.{common_steps, get_or_default_zero}
@@ -32,11 +32,11 @@ frame_inside g frames f below =
 pub apart : (size f h : ℕ) → h ≢ f → (h * size + size ≤ f * size) ⊎ (f * size + size ≤ h * size)
 apart size f h ne = ⊎_elim (λ below. inl (omega (arith, mul-le-mul_right size below))) (λ above. inr (omega (arith, mul-le-mul_right size above))) (which f h ne)
   where
-  which : (f h : ℕ) → h ≢ f → (h + 1 ≤ f) ⊎ (f + 1 ≤ h)
-  which zero zero ne = absurd (ne refl)
-  which zero (suc h) ne = inr (omega arith)
-  which (suc f) zero ne = inl (omega arith)
-  which (suc f) (suc h) ne = ⊎_elim (λ a. inl (omega (arith, a))) (λ b. inr (omega (arith, b))) (which f h (λ e. ne (ap suc e)))
+    which : (f h : ℕ) → h ≢ f → (h + 1 ≤ f) ⊎ (f + 1 ≤ h)
+    which zero zero ne = absurd (ne refl)
+    which zero (suc h) ne = inr (omega arith)
+    which (suc f) zero ne = inl (omega arith)
+    which (suc f) (suc h) ne = ⊎_elim (λ a. inl (omega (arith, a))) (λ b. inr (omega (arith, b))) (which f h (λ e. ne (ap suc e)))
 
 -- what a write of a part leaves
 module _ (xs ys : List ℕ) (a n : ℕ) (inside : a + n ≤ length xs) (size : length ys ≡ n) where
@@ -57,11 +57,11 @@ pub range_stays : (old new : List ℕ) (a b : ℕ) → length new ≡ length old
 range_stays old new a b size same = same_lists (slice_range new a b) (slice_range old a b)
     (length-take (b - a) (drop a new) ∙ ap (λ (n : ℕ). min (b - a) n) (length-drop a new ∙ ap (λ (n : ℕ). n - a) size ∙ sym (length-drop a old)) ∙ sym (length-take (b - a) (drop a old)))
     (λ k d below.
-      let inside : k < b - a = omega (arith, below, length-take (b - a) (drop a new)) in
-      let there : a + k < length new = omega (arith, below, length-take (b - a) (drop a new), length-drop a new) in
-      let there_old : a + k < length old = omega (arith, there, size) in
-      get_or-take (b - a) (drop a new) k d inside ∙ get_or-drop a new k d ∙ get_or_default_zero new (a + k) d there ∙ same (a + k) (omega arith) (omega (arith, inside))
-      ∙ sym (get_or_default_zero old (a + k) d there_old) ∙ sym (get_or-drop a old k d) ∙ sym (get_or-take (b - a) (drop a old) k d inside))
+    let inside : k < b - a = omega (arith, below, length-take (b - a) (drop a new)) in
+    let there : a + k < length new = omega (arith, below, length-take (b - a) (drop a new), length-drop a new) in
+    let there_old : a + k < length old = omega (arith, there, size) in
+    get_or-take (b - a) (drop a new) k d inside ∙ get_or-drop a new k d ∙ get_or_default_zero new (a + k) d there ∙ same (a + k) (omega arith) (omega (arith, inside))
+    ∙ sym (get_or_default_zero old (a + k) d there_old) ∙ sym (get_or-drop a old k d) ∙ sym (get_or-take (b - a) (drop a old) k d inside))
 
 -- how long a range is
 pub range_length : (xs : List ℕ) (a b : ℕ) → (a ≤ b) × (b ≤ length xs) → length (slice_range xs a b) ≡ b - a
@@ -88,7 +88,7 @@ module _ (g : Geometry) where
   unfolding frame_at
   put_made R frames new f start end start_is end_is inside size made =
       subst (R (frame_at g frames f)) (sym (put_here frames new f start end start_is end_is inside size))
-        (let e : frame_at g frames f ≡ slice_range frames start end = rw (← start_is, ← end_is) refl in subst (λ (l : List ℕ). R l new) (sym e) made)
+      (let e : frame_at g frames f ≡ slice_range frames start end = rw (← start_is, ← end_is) refl in subst (λ (l : List ℕ). R l new) (sym e) made)
 
   -- the others stay
   pub put_there : (frames new : List ℕ) (f start end : ℕ) → start ≡ f * frame_size g → end ≡ start + frame_size g → end ≤ length frames → length new ≡ frame_size g →
@@ -99,10 +99,10 @@ module _ (g : Geometry) where
       let size_is : length now ≡ length frames = put_length frames new start (end - start) (omega (arith, inside, end_is)) (omega (arith, size, end_is)) in
       let far = apart (frame_size g) f h ne in
       range_stays frames now (h * frame_size g) (h * frame_size g + frame_size g) size_is
-        (λ k low high. ⊎_elim
-          (λ below. put_before frames new start (end - start) (omega (arith, inside, end_is)) (omega (arith, size, end_is)) k (omega (arith, below, high, start_is)))
-          (λ above. put_after frames new start (end - start) (omega (arith, inside, end_is)) (omega (arith, size, end_is)) k (omega (arith, above, low, start_is, end_is)))
-          far)
+      (λ k low high. ⊎_elim
+      (λ below. put_before frames new start (end - start) (omega (arith, inside, end_is)) (omega (arith, size, end_is)) k (omega (arith, below, high, start_is)))
+      (λ above. put_after frames new start (end - start) (omega (arith, inside, end_is)) (omega (arith, size, end_is)) k (omega (arith, above, low, start_is, end_is)))
+      far)
 
 -- as many frames where the bytes are as many
 pub count_same : (g : Geometry) (old new : List ℕ) → length new ≡ length old → frame_count g new ≡ frame_count g old

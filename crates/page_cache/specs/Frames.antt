@@ -2,7 +2,7 @@
 use Rattle.std.specs.Prelude.{ℕ, ◌≡◌, ◌+◌, ◌*◌, ◌/◌, ◌%◌, ◌<◌, ◌≤◌, ◌==◌, ◌⊎◌, min, true, Bool, List, length, slice_index, slice_range}
 use Rattle.geometry.specs.declared.geometry.Geometry.{Geometry}
 use Rattle.geometry.specs.Numbers.{page_count}
-use Rattle.nor_core.specs.Flash.{programmed, erased, SameOutside}
+use Rattle.nor_core.specs.Flash.{programmed, erased}
 use Rattle.page_cache.specs.Counting.{some_below, many_below}
 
 -- bytes of a frame

@@ -39,12 +39,7 @@ pub(crate) fn give_up(frame: &mut [u8])
 }
 
 // A frame gets a page from the device.
-pub(crate) fn fill<N: Nor>(
-    nor: &mut N,
-    frame: &mut [u8],
-    len: u32,
-    page: u16,
-) -> Result<(), Failed>
+pub(crate) fn fill<N: Nor>(nor: &mut N, frame: &mut [u8], len: u32, page: u16) -> Result<(), Failed>
     requires size { length frame.old ≡ len + 8 }
     requires some { 0 < len }
     requires inside { page * len + len ≤ N.size nor.old }
@@ -83,7 +78,10 @@ pub(crate) fn program_copy(frame: &mut [u8], page: usize, at: usize, from: &[u8]
     let low = start.max(at);
     let high = (start + page).min(at + from.len());
     if low < high {
-        and_bytes(&mut frame[HEAD + low - start..HEAD + high - start], &from[low - at..high - at]);
+        and_bytes(
+            &mut frame[HEAD + low - start..HEAD + high - start],
+            &from[low - at..high - at],
+        );
     }
 }
 

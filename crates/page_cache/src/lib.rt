@@ -7,3 +7,6 @@ mod frames;
 mod through;
 
 pub use cached::Cached;
+
+#[cfg(test)]
+mod tests;

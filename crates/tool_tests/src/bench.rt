@@ -45,10 +45,15 @@ pub(crate) struct Memory {
 
 impl Memory {
     pub(crate) fn new(alloc: Global) -> Result<Memory, Fail> {
+        Memory::with_cache(alloc, 1024)
+    }
+
+    /// Memory with that many bytes for copies of pages.
+    pub(crate) fn with_cache(alloc: Global, cache: usize) -> Result<Memory, Fail> {
         Ok(Memory {
             work: vec![in alloc; 0u8; 4096]?,
             slots: vec![in alloc; FdSlot::empty(); 4]?,
-            cache: vec![in alloc; 0u8; 1024]?,
+            cache: vec![in alloc; 0u8; cache]?,
             check: vec![in alloc; 0u8; 16384]?,
         })
     }

@@ -12,6 +12,8 @@ mod images;
 #[cfg(test)]
 mod lists;
 #[cfg(test)]
+mod readers;
+#[cfg(test)]
 mod refusals;
 #[cfg(test)]
 mod scripts;

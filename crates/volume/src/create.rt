@@ -29,7 +29,7 @@ fn is_there<N: Nor>(v: &mut View<'_, N>, name: &[u8]) -> Result<bool, Failed>
 }
 
 // What stands against a new file of that name, or nothing.
-#[tactic(auto, unfolding(crate::specs::Refusals::create_refusal))]
+#[tactic(auto, using(flash_view::proofs::Looking::looks_then), unfolding(crate::specs::Refusals::create_refusal))]
 fn obstacle<N: Nor>(v: &mut View<'_, N>, name: &[u8]) -> Result<Option<FsErr>, Failed>
     ensures cause { OnErr result (Rose (N.faults v.old.nor.now) (N.faults v.new.nor.now)) }
     ensures looks { OnlyLooks v.old v.new }
@@ -52,6 +52,7 @@ fn obstacle<N: Nor>(v: &mut View<'_, N>, name: &[u8]) -> Result<Option<FsErr>, F
 }
 
 // The id of a new file of that name, or why there is none.
+#[tactic(auto, using(flash_view::proofs::Looking::looks_then))]
 fn prepare<N: Nor>(v: &mut View<'_, N>, name: &[u8]) -> Result<u16, FsErr>
     ensures cause { IsErrOf result FsErr.DeviceFault → Rose (N.faults v.old.nor.now) (N.faults v.new.nor.now) }
     ensures looks { OnlyLooks v.old v.new }
@@ -72,6 +73,7 @@ fn prepare<N: Nor>(v: &mut View<'_, N>, name: &[u8]) -> Result<u16, FsErr>
 }
 
 // Makes an empty file of a name that is accepted.
+#[tactic(auto, using(flash_view::proofs::Looking::same_then))]
 pub(crate) fn create_in<N: Nor>(v: &mut View<'_, N>, name: &[u8]) -> Result<(), FsErr>
     requires usable { usable v.old.geometry ≤ 32766 }
     requires some { 1 ≤ length name.now }

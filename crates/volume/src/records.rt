@@ -36,6 +36,7 @@ fn stat_in(g: &Geometry, page: &[u8], id: u16) -> Option<Stat>
 }
 
 // The record of the file of an id.
+#[tactic(auto, using(flash_view::proofs::Looking::looks_then))]
 fn stat_of_id<N: Nor>(v: &mut View<'_, N>, id: u16) -> Result<Option<Stat>, Failed>
     ensures cause { OnErr result (Rose (N.faults v.old.nor.now) (N.faults v.new.nor.now)) }
     ensures looks { OnlyLooks v.old v.new }
@@ -49,6 +50,7 @@ fn stat_of_id<N: Nor>(v: &mut View<'_, N>, id: u16) -> Result<Option<Stat>, Fail
 }
 
 /// The record of the file of a name.
+#[tactic(auto, using(flash_view::proofs::Looking::looks_then))]
 pub(crate) fn stat_named<N: Nor>(v: &mut View<'_, N>, name: &[u8]) -> Result<Option<Stat>, Failed>
     ensures cause { OnErr result (Rose (N.faults v.old.nor.now) (N.faults v.new.nor.now)) }
     ensures looks { OnlyLooks v.old v.new }
@@ -61,6 +63,7 @@ pub(crate) fn stat_named<N: Nor>(v: &mut View<'_, N>, name: &[u8]) -> Result<Opt
 }
 
 /// The record of the least id above one.
+#[tactic(auto, using(flash_view::proofs::Looking::looks_then))]
 pub(crate) fn stat_above<N: Nor>(v: &mut View<'_, N>, after: u16) -> Result<Option<Stat>, Failed>
     ensures cause { OnErr result (Rose (N.faults v.old.nor.now) (N.faults v.new.nor.now)) }
     ensures looks { OnlyLooks v.old v.new }

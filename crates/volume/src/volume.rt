@@ -16,7 +16,6 @@ ghost use Rattle.vol_mount.specs.Mounts.{IsLate, CountsSpoiled};
 ghost use Rattle.vol_check.specs.Checks.{IsWritable, IsRefusal, KeepsAll, Checked as WasChecked};
 ghost use Rattle.volume.specs.Opening.{is_open, StaysUnless};
 ghost use Rattle.volume.specs.Answers.{IsReady, CreateLeaves, CreateGoes};
-ghost use Rattle.page_cache.specs.Kept.{IsKept, FewReads};
 
 use crate::create::create_in;
 use crate::names::accept;
@@ -52,7 +51,6 @@ pub struct Volume<'b, N: Nor> {
     pub ghost fits: { geometry.blocks * geometry.block ≤ N.size nor.now },
     pub ghost work_fits: { work_need geometry ≤ length work.now },
     pub ghost cache_fits: { cache_need geometry ≤ length cache.now },
-    pub ghost kept: { IsKept N.NorState geometry nor.now cache.now },
     pub ghost writable: { is_open stage ≡ true → usable geometry ≤ 32766 },
 }
 
@@ -76,16 +74,13 @@ fn mount_on<N: Nor>(
     requires fits { g.blocks * g.block ≤ N.size nor.old }
     requires work { work_need g ≤ length work.old }
     requires cache { cache_need g ≤ length cache.old }
-    requires kept { IsKept N.NorState g nor.old cache.old }
     ensures late { IfErr result IsLate }
     ensures cause { result ≡ Err MountErr.DeviceFault → Rose (N.faults nor.old) (N.faults nor.new) }
     ensures looks { OnlyReads N.NorState nor.old nor.new }
     ensures told { N.tells nor.old → OnOk result (spoiled_blocks g (N.bytes nor.old) ≤ 1) }
     ensures spoiled { N.tells nor.old → IfErr result (CountsSpoiled g (N.bytes nor.old)) }
-    ensures kept { IsKept N.NorState g nor.new cache.new }
-    ensures few { FewReads N.NorState g nor.old cache.old nor.new cache.new }
 {
-    let mut v = View::resume(g, nor, work, cache);
+    let mut v = View::new(g, nor, work, cache);
     vol_mount::mount(&mut v)
 }
 
@@ -100,7 +95,6 @@ fn check_on<N: Nor>(
     requires fits { g.blocks * g.block ≤ N.size nor.old }
     requires work { work_need g ≤ length work.old }
     requires cache { cache_need g ≤ length cache.old }
-    requires kept { IsKept N.NorState g nor.old cache.old }
     ensures wrong { IfSome (write_refusal g) (λ why. result ≡ Err (CheckErr.Wrong why)) }
     ensures writable { write_refusal g ≡ None → IfErr result IsWritable }
     ensures few { OnOk result (usable g ≤ 32766) }
@@ -111,10 +105,8 @@ fn check_on<N: Nor>(
     ensures refused { IfErr result (λ why. IsRefusal why → OnlyReads N.NorState nor.old nor.new) }
     ensures done { N.tells nor.old → IfOk result (λ report. WasChecked g (N.bytes nor.old) (N.bytes nor.new) report) }
     ensures idle { N.tells nor.old → IsTidy g (N.bytes nor.old) → OnlyReads N.NorState nor.old nor.new }
-    ensures kept { IsKept N.NorState g nor.new cache.new }
-    ensures few { FewReads N.NorState g nor.old cache.old nor.new cache.new }
 {
-    let mut v = View::resume(g, nor, work, cache);
+    let mut v = View::new(g, nor, work, cache);
     vol_check::check(&mut v)
 }
 
@@ -137,7 +129,6 @@ fn create_on<N: Nor>(
     requires fits { g.blocks * g.block ≤ N.size nor.old }
     requires work { work_need g ≤ length work.old }
     requires cache { cache_need g ≤ length cache.old }
-    requires kept { IsKept N.NorState g nor.old cache.old }
     requires usable { usable g ≤ 32766 }
     requires some { 1 ≤ length name.now }
     requires short { length name.now ≤ 31 }
@@ -147,10 +138,8 @@ fn create_on<N: Nor>(
     ensures changes { Changes N.NorState nor.old nor.new (λ was image. IsReady g was → CreateLeaves g name.now was image) }
     ensures goes { N.tells nor.old → IsReady g (N.bytes nor.old) → CreateGoes N.NorState g name.now nor.old nor.new result.done }
     ensures untouched { result.wrote ≡ false → OnlyReads N.NorState nor.old nor.new }
-    ensures kept { IsKept N.NorState g nor.new cache.new }
-    ensures few { FewReads N.NorState g nor.old cache.old nor.new cache.new }
 {
-    let mut v = View::resume(g, nor, work, cache);
+    let mut v = View::new(g, nor, work, cache);
     let done = create_in(&mut v, name);
     Attempt {
         done,
@@ -181,14 +170,11 @@ fn stat_on<N: Nor>(
     requires fits { g.blocks * g.block ≤ N.size nor.old }
     requires work { work_need g ≤ length work.old }
     requires cache { cache_need g ≤ length cache.old }
-    requires kept { IsKept N.NorState g nor.old cache.old }
     ensures cause { OnErr result (Rose (N.faults nor.old) (N.faults nor.new)) }
     ensures looks { OnlyReads N.NorState nor.old nor.new }
     ensures told { N.tells nor.old → IsTidy g (N.bytes nor.old) → IfOk result (λ found. found ≡ option_map stat_of (file_named name.now (table_of g (N.bytes nor.old)))) }
-    ensures kept { IsKept N.NorState g nor.new cache.new }
-    ensures few { FewReads N.NorState g nor.old cache.old nor.new cache.new }
 {
-    let mut v = View::resume(g, nor, work, cache);
+    let mut v = View::new(g, nor, work, cache);
     stat_named(&mut v, name)
 }
 
@@ -204,14 +190,11 @@ fn next_on<N: Nor>(
     requires fits { g.blocks * g.block ≤ N.size nor.old }
     requires work { work_need g ≤ length work.old }
     requires cache { cache_need g ≤ length cache.old }
-    requires kept { IsKept N.NorState g nor.old cache.old }
     ensures cause { OnErr result (Rose (N.faults nor.old) (N.faults nor.new)) }
     ensures looks { OnlyReads N.NorState nor.old nor.new }
     ensures told { N.tells nor.old → IsTidy g (N.bytes nor.old) → IfOk result (λ found. found ≡ option_map stat_of (file_above after (table_of g (N.bytes nor.old)))) }
-    ensures kept { IsKept N.NorState g nor.new cache.new }
-    ensures few { FewReads N.NorState g nor.old cache.old nor.new cache.new }
 {
-    let mut v = View::resume(g, nor, work, cache);
+    let mut v = View::new(g, nor, work, cache);
     stat_above(&mut v, after)
 }
 
@@ -226,14 +209,11 @@ fn info_on<N: Nor>(
     requires fits { g.blocks * g.block ≤ N.size nor.old }
     requires work { work_need g ≤ length work.old }
     requires cache { cache_need g ≤ length cache.old }
-    requires kept { IsKept N.NorState g nor.old cache.old }
     ensures cause { OnErr result (Rose (N.faults nor.old) (N.faults nor.new)) }
     ensures looks { OnlyReads N.NorState nor.old nor.new }
     ensures told { N.tells nor.old → IsTidy g (N.bytes nor.old) → IfOk result (λ info. info ≡ info_of g (table_of g (N.bytes nor.old))) }
-    ensures kept { IsKept N.NorState g nor.new cache.new }
-    ensures few { FewReads N.NorState g nor.old cache.old nor.new cache.new }
 {
-    let mut v = View::resume(g, nor, work, cache);
+    let mut v = View::new(g, nor, work, cache);
     info_of_all(&mut v)
 }
 
@@ -251,13 +231,10 @@ impl<'b, N: Nor> Volume<'b, N> {
     ghost use Rattle.vol_check.specs.Checks.{IsWritable, IsRefusal, KeepsAll, Checked as WasChecked};
     ghost use Rattle.volume.specs.Opening.{StaysUnless};
     ghost use Rattle.volume.specs.Stages.{takes_calls, has_failed};
-    ghost use Rattle.page_cache.specs.Frames.{held};
-    ghost use Rattle.page_cache.specs.Kept.{IsKept};
     ghost use Rattle.volume.specs.Same.{IsSameVolume};
     ghost use Rattle.volume.specs.Answers.{IsReady, CreateAnswers, CreateCuts, StatAnswers, NextAnswers, InfoAnswers};
 
-    /// The volume of a device that `vol_mount::accept` takes with this lent memory, with every descriptor closed and no
-    /// page in its cache bytes.
+    /// The volume of a device that `vol_mount::accept` takes with this lent memory, with every descriptor closed.
     pub fn new(g: Geometry, nor: &'b mut N, lent: Lent<'b>) -> Volume<'b, N>
         requires unit { N.unit nor.old ≡ g.phys }
         requires fits { g.blocks * g.block ≤ N.size nor.old }
@@ -271,7 +248,6 @@ impl<'b, N: Nor> Volume<'b, N> {
         ensures slots_name { result.slots.ghost_name ≡ lent.entry.slots.ghost_name }
         ensures check_name { result.check.ghost_name ≡ lent.entry.check.ghost_name }
         ensures unchecked { takes_calls result ≡ false }
-        ensures empty { held g result.cache.now ≡ 0 }
     {
         let Lent {
             work,
@@ -279,7 +255,6 @@ impl<'b, N: Nor> Volume<'b, N> {
             cache,
             check,
         } = lent;
-        let (nor, work, cache) = View::new(g, nor, work, cache).give_back();
         slots.fill(FdSlot::empty());
         Volume {
             geometry: g,
@@ -443,7 +418,6 @@ impl<'b, N: Nor> Volume<'b, N> {
     pub fn unmount(self) -> Unmounted<'b, N>
         ensures nor { result.back.nor.now ≡ self.entry.nor.now }
         ensures nor_name { result.back.nor.ghost_name ≡ self.entry.nor.ghost_name }
-        ensures kept { IsKept N.NorState self.entry.geometry result.back.nor.now result.back.lent.cache.now }
     {
         let Volume {
             geometry: _,

@@ -1,6 +1,5 @@
-use Rattle.std.proofs.Common.{ℕ, ◌+◌, ◌-◌, ◌∙◌, subst, arith}
-use borrow.Rule.Slice.PartMut.{put_mid}
-use Rattle.page_cache.specs.Frames.{IsFree, frame_at}
+use Rattle.std.proofs.Common.{◌+◌, ◌∙◌, arith}
+use Rattle.page_cache.specs.Frames.{IsFree}
 use Rattle.page_cache.proofs.Places.{put_made, put_there, part_length}
 use Rattle.page_cache.proofs.frames.clear_one.Goals as goal
 

@@ -1,4 +1,3 @@
-use Rattle.std.proofs.Common.{◌≡◌, ℕ, true, false}
 use Rattle.page_cache.proofs.Held.{not_held}
 use Rattle.page_cache.proofs.frames.holder.Goals as goal
 

@@ -1,4 +1,3 @@
-use Rattle.std.proofs.Common.{◌≡◌, ℕ, true, false, sym, ◌∙◌}
 use Rattle.page_cache.proofs.Held.{not_held}
 use Rattle.page_cache.proofs.through.bring.Goals as goal
 

@@ -1,6 +1,5 @@
-use Rattle.std.proofs.Common.{◌≡◌, ℕ, ◌+◌, ◌-◌, ◌*◌, ◌≤◌, List, ◌∙◌, ap, sym, subst, arith, OnOk, OnErr}
-use borrow.Rule.Slice.PartMut.{put_mid}
-use Rattle.page_cache.specs.Frames.{number_of, IsCopy, frame_at}
+use Rattle.std.proofs.Common.{◌≡◌, ℕ, ◌+◌, ◌*◌, List, ◌∙◌, ap, sym, subst, arith, OnOk, OnErr}
+use Rattle.page_cache.specs.Frames.{number_of, IsCopy}
 use Rattle.page_cache.proofs.Places.{put_here, put_there, part_length, page_inside}
 use Rattle.page_cache.proofs.through.load_frame.Goals as goal
 
@@ -27,7 +26,7 @@ returns-clause-copy g c tells =
     let size = c.fill.auto.frame ∙ part_length c.args.frames.now c.start_of-start.result c.frame_len.result (omega (arith, c.start_of-start.ensures.inside, c.frame_len.ensures)) ∙ c.frame_len.ensures in
     let here = put_here c.args.g.now c.args.frames.now c.fill.new.frame c.args.f c.start_of-start.result (c.start_of-start.result + c.frame_len.result) c.start_of-start.ensures.start (omega (arith, c.frame_len.ensures)) (omega (arith, c.start_of-start.ensures.inside, c.frame_len.ensures)) size in
     subst (λ (l : List ℕ). OnOk c.fill.result (IsCopy c.args.g.now.page (g.N.NorState.bytes c.args.nor.now) l)) (sym here)
-      (subst (λ (n : ℕ). OnOk c.fill.result (IsCopy n (g.N.NorState.bytes c.args.nor.now) c.fill.new.frame)) c.page.ensures (c.fill.ensures.copy tells))
+    (subst (λ (n : ℕ). OnOk c.fill.result (IsCopy n (g.N.NorState.bytes c.args.nor.now) c.fill.new.frame)) c.page.ensures (c.fill.ensures.copy tells))
 
 pub returns-clause-others : goal.returns-clause-others
 returns-clause-others g c =

@@ -1,4 +1,4 @@
-use Rattle.std.proofs.Common.{◌≡◌, ◌≢◌, ℕ, ◌+◌, ◌*◌, ◌/◌, ◌<◌, ◌≤◌, ◌⊎◌, inl, inr, ⊎_elim, List, length, refl, sym, ◌∙◌, ap, subst, arith, true}
+use Rattle.std.proofs.Common.{length, arith}
 use Rattle.page_cache.proofs.Places.{count_same}
 use Rattle.page_cache.proofs.Held.{keeps_numbers, few_kept}
 use Rattle.page_cache.proofs.Keeping.{kept_programmed, kept_failed}
@@ -18,7 +18,7 @@ pub returns-in-Ok-clause-few : goal.returns-in-Ok-clause-few
 returns-in-Ok-clause-few g c =
     let same = count_same c.args.g.now c.args.frames.now c.program_all.new.frames c.program_all.auto.frames in
     few_kept c.args.g.now c.args.nor.now c.program.new.self c.args.frames.now c.program_all.new.frames (omega (arith, c.program.ensures.writes.reads))
-      (keeps_numbers c.args.g.now c.args.frames.now c.program_all.new.frames same (λ f below. (c.program_all.ensures f below).number))
+    (keeps_numbers c.args.g.now c.args.frames.now c.program_all.new.frames same (λ f below. (c.program_all.ensures f below).number))
 
 pub returns-in-Err-clause-kept : goal.returns-in-Err-clause-kept
 returns-in-Err-clause-kept g c =

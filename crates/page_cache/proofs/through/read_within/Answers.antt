@@ -1,4 +1,4 @@
-use Rattle.std.proofs.Common.{◌≡◌, ℕ, ◌+◌, ◌*◌, ◌<◌, List, length, sym, ◌∙◌, ap, subst, arith}
+use Rattle.std.proofs.Common.{ℕ, ◌+◌, ◌<◌, List, length, sym, ◌∙◌, ap, subst, arith}
 use Rattle.geometry.specs.Numbers.{page_count}
 use Rattle.page_cache.specs.Frames.{IsCopy, number_of, page_in, frame_at}
 use Rattle.page_cache.proofs.Places.{page_inside}

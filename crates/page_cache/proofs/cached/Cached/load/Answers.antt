@@ -1,4 +1,3 @@
-use Rattle.std.proofs.Common.{arith}
 use Rattle.page_cache.proofs.Held.{holds_by}
 use Rattle.page_cache.proofs.cached.Cached.load.Goals as goal
 

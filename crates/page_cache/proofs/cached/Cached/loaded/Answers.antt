@@ -1,4 +1,4 @@
-use Rattle.std.proofs.Common.{◌≡◌, ℕ, ◌+◌, ◌*◌, ◌<◌, List, length, sym, refl, ◌∙◌, ap, subst, arith, slice_range}
+use Rattle.std.proofs.Common.{◌≡◌, ◌+◌, ◌*◌, ◌<◌, length, sym, refl, ◌∙◌, ap, subst, arith}
 use Rattle.geometry.specs.Numbers.{page_count}
 use Rattle.page_cache.specs.Frames.{IsCopy, number_of, page_in}
 use Rattle.page_cache.proofs.Places.{page_inside}

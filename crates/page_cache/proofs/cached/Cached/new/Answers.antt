@@ -1,4 +1,4 @@
-use Rattle.std.proofs.Common.{◌≡◌, ℕ, arith}
+use Rattle.std.proofs.Common.{arith}
 use Rattle.page_cache.proofs.Places.{count_same}
 use Rattle.page_cache.proofs.Held.{held_none}
 use Rattle.page_cache.proofs.Keeping.{kept_free}
