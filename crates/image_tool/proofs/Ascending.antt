@@ -1,9 +1,8 @@
 -- Lists in order of ids.
-use Rattle.std.proofs.Common.{◌≡◌, ℕ, zero, suc, ◌+◌, ◌<◌, ◌≤◌, List, [], ◌∷◌, Bool, true, false, Option, Some, None, Result, Ok, Err, ap, refl, sym, ◌∙◌, arith, subst, cond, ⊎_elim}
+use Rattle.std.proofs.Common.{◌≡◌, ℕ, zero, suc, ◌+◌, ◌<◌, ◌≤◌, List, [], ◌∷◌, Bool, true, false, Option, Some, None, Result, Ok, Err, ap, refl, sym, ◌∙◌, arith, subst, cond}
 use Rattle.std.specs.Prelude.{nat_lt, find}
 use Rattle.std.specs.List.{range_with_len, filter_map, cons_option}
-use Rattle.std.specs.Option.{IfSome}
-use Rattle.std.proofs.lemmas.Bool.{lt-ltb, le-ltb, cases_lt}
+use Rattle.std.proofs.lemmas.Bool.{lt-ltb, le-ltb}
 use Rattle.std.proofs.lemmas.Option.{none-some, same_Some}
 use Rattle.geometry.specs.declared.geometry.Geometry.{Geometry}
 use Rattle.table_model.specs.Table.{File}
@@ -66,10 +65,3 @@ unfolding damaged_of damages
 damaged-ascends g image =
     let has = has_of g (live_at g image) in
     ranged (λ (d : ℕ × Damage). d.0) (λ (id : ℕ). damage has 0x7FFF id (has id)) (λ j d e. damage-keyed has 0x7FFF j (has j) d e) 0 1 0x7FFF (omega arith)
-
--- what is found above a number is above it
-pub found_above : {X : Type 0} (key : X → ℕ) (after : ℕ) (xs : List X) → IfSome (find (λ (x : X). nat_lt after (key x)) xs) (λ (x : X). after < key x)
-found_above key after [] = tt {0}
-found_above {X} key after (x ∷ xs) =
-    let P : Option X → Type 0 = λ o. IfSome o (λ (y : X). after < key y) in
-    ⊎_elim (λ lt. subst P (sym (head_found key x xs after lt)) lt) (λ ge. subst P (sym (found_behind key x xs after ge)) (found_above key after xs)) (cases_lt after (key x))

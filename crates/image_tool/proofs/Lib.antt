@@ -2,4 +2,3 @@ pub mod Ascending
 pub mod Speaking
 pub mod Walking
 pub mod Found
-pub mod Readers

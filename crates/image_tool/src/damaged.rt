@@ -2,7 +2,6 @@
 ghost use Rattle.std.specs.Prelude.{◌≡◌, ◌<◌, ◌≤◌, ◌++◌, length, IfOk, OnOk, OnErr};
 ghost use Rattle.std.specs.Option.{option_map, IfSome};
 ghost use Rattle.nor_core.specs.Count.{Rose};
-ghost use Rattle.nor_core.specs.Device.{OnlyReads};
 ghost use Rattle.image_model.specs.Tables.{damaged_of};
 ghost use Rattle.vol_mount.specs.Readers.{IsSameReader};
 ghost use Rattle.image_tool.specs.Texts.{damage_line, damage_lines};
@@ -13,37 +12,8 @@ ghost use Rattle.image_tool.specs.Saying.{OnlySays, SaysFront};
 use crate::error::ToolErr;
 use crate::lines::put_damaged;
 use image_model::Damage;
-use nor_core::{Board, Failed, Nor, NorState};
+use nor_core::{Board, Failed, NorState};
 use vol_mount::Reader;
-
-// Passes on a damaged id that is above one.
-fn above(found: Option<(u16, Damage)>, after: u16) -> Option<(u16, Damage)>
-    ensures above { IfSome result (λ d. after < d.0) }
-    ensures same { IfSome found (λ d. after < d.0) → result ≡ found }
-{
-    match found {
-        Some((id, cause)) if id > after => Some((id, cause)),
-        _ => None,
-    }
-}
-
-// The damaged id next above one, with its cause. It is always above, unless the device's bytes change by themselves:
-// then there is none.
-fn next_damaged<N: Nor>(
-    r: &mut Reader<'_, N>,
-    after: u16,
-) -> Result<Option<(u16, Damage)>, ToolErr>
-    ensures cause { OnErr result (Rose (N.faults r.old.nor.now) (N.faults r.new.nor.now)) }
-    ensures looks { OnlyReads N.NorState r.old.nor.now r.new.nor.now }
-    ensures above { IfOk result (λ found. IfSome found (λ d. after < d.0)) }
-    ensures told { N.tells r.old.nor.now → IfOk result (λ found. found ≡ damaged_above r.old.geometry (N.bytes r.old.nor.now) after) }
-    ensures same { IsSameReader r.old r.new }
-{
-    match r.next_damaged(after) {
-        Ok(found) => Ok(above(found, after)),
-        Err(_) => Err(ToolErr::BoardFault),
-    }
-}
 
 // Says the line of a damaged id.
 fn say_damaged<B: Board>(
@@ -53,11 +23,11 @@ fn say_damaged<B: Board>(
     line: &mut [u8],
 ) -> Result<(), ToolErr>
     requires { 12288 ≤ length line.old }
-    ensures cause { OnErr result (Rose (B.faults r.old.nor.now) (B.faults r.new.nor.now)) }
+    ensures cause { OnErr result (Rose (B.faults r.old.view.nor.now) (B.faults r.new.view.nor.now)) }
     ensures same { IsSameReader r.old r.new }
-    ensures says { OnlySays B.NorState r.old.nor.now r.new.nor.now (damage_line id cause) }
-    ensures whole { B.tells r.old.nor.now → OnOk result (B.said r.new.nor.now ≡ B.said r.old.nor.now ++ damage_line id cause) }
-    ensures front { OnErr result (SaysFront B.NorState r.old.nor.now r.new.nor.now (damage_line id cause)) }
+    ensures says { OnlySays B.NorState r.old.view.nor.now r.new.view.nor.now (damage_line id cause) }
+    ensures whole { B.tells r.old.view.nor.now → OnOk result (B.said r.new.view.nor.now ≡ B.said r.old.view.nor.now ++ damage_line id cause) }
+    ensures front { OnErr result (SaysFront B.NorState r.old.view.nor.now r.new.view.nor.now (damage_line id cause)) }
 {
     let end = put_damaged(line, id, cause);
     match r.say(&line[..end]) {
@@ -73,15 +43,18 @@ fn say_next<B: Board>(
     line: &mut [u8],
 ) -> Result<Option<u16>, ToolErr>
     requires { 12288 ≤ length line.old }
-    ensures cause { OnErr result (Rose (B.faults r.old.nor.now) (B.faults r.new.nor.now)) }
+    ensures cause { OnErr result (Rose (B.faults r.old.view.nor.now) (B.faults r.new.view.nor.now)) }
     ensures same { IsSameReader r.old r.new }
     ensures above { IfOk result (λ found. IfSome found (λ id. after < id)) }
-    ensures says { OnlySays B.NorState r.old.nor.now r.new.nor.now (next_damage r.old.geometry (B.bytes r.old.nor.now) after) }
-    ensures found { B.tells r.old.nor.now → IfOk result (λ found. found ≡ option_map (λ d. d.0) (damaged_above r.old.geometry (B.bytes r.old.nor.now) after)) }
-    ensures whole { B.tells r.old.nor.now → OnOk result (B.said r.new.nor.now ≡ B.said r.old.nor.now ++ next_damage r.old.geometry (B.bytes r.old.nor.now) after) }
-    ensures front { B.tells r.old.nor.now → OnErr result (SaysFront B.NorState r.old.nor.now r.new.nor.now (next_damage r.old.geometry (B.bytes r.old.nor.now) after)) }
+    ensures says { OnlySays B.NorState r.old.view.nor.now r.new.view.nor.now (next_damage r.old.view.geometry (B.bytes r.old.view.nor.now) after) }
+    ensures found { B.tells r.old.view.nor.now → IfOk result (λ found. found ≡ option_map (λ d. d.0) (damaged_above r.old.view.geometry (B.bytes r.old.view.nor.now) after)) }
+    ensures whole { B.tells r.old.view.nor.now → OnOk result (B.said r.new.view.nor.now ≡ B.said r.old.view.nor.now ++ next_damage r.old.view.geometry (B.bytes r.old.view.nor.now) after) }
+    ensures front { B.tells r.old.view.nor.now → OnErr result (SaysFront B.NorState r.old.view.nor.now r.new.view.nor.now (next_damage r.old.view.geometry (B.bytes r.old.view.nor.now) after)) }
 {
-    let Some((id, cause)) = next_damaged(r, after)? else {
+    let Ok(found) = r.next_damaged(after) else {
+        return Err(ToolErr::BoardFault);
+    };
+    let Some((id, cause)) = found else {
         return Ok(None);
     };
     say_damaged(r, id, cause, line)?;
@@ -94,12 +67,12 @@ pub(crate) fn list_damaged<B: Board>(
     line: &mut [u8],
 ) -> Result<u32, ToolErr>
     requires { 12288 ≤ length line.old }
-    ensures cause { OnErr result (Rose (B.faults r.old.nor.now) (B.faults r.new.nor.now)) }
+    ensures cause { OnErr result (Rose (B.faults r.old.view.nor.now) (B.faults r.new.view.nor.now)) }
     ensures same { IsSameReader r.old r.new }
-    ensures says { OnlySays B.NorState r.old.nor.now r.new.nor.now (damage_lines (damaged_of r.old.geometry (B.bytes r.old.nor.now))) }
-    ensures count { B.tells r.old.nor.now → IfOk result (λ count. count ≡ length (damaged_of r.old.geometry (B.bytes r.old.nor.now))) }
-    ensures whole { B.tells r.old.nor.now → OnOk result (B.said r.new.nor.now ≡ B.said r.old.nor.now ++ damage_lines (damaged_of r.old.geometry (B.bytes r.old.nor.now))) }
-    ensures front { B.tells r.old.nor.now → OnErr result (SaysFront B.NorState r.old.nor.now r.new.nor.now (damage_lines (damaged_of r.old.geometry (B.bytes r.old.nor.now)))) }
+    ensures says { OnlySays B.NorState r.old.view.nor.now r.new.view.nor.now (damage_lines (damaged_of r.old.view.geometry (B.bytes r.old.view.nor.now))) }
+    ensures count { B.tells r.old.view.nor.now → IfOk result (λ count. count ≡ length (damaged_of r.old.view.geometry (B.bytes r.old.view.nor.now))) }
+    ensures whole { B.tells r.old.view.nor.now → OnOk result (B.said r.new.view.nor.now ≡ B.said r.old.view.nor.now ++ damage_lines (damaged_of r.old.view.geometry (B.bytes r.old.view.nor.now))) }
+    ensures front { B.tells r.old.view.nor.now → OnErr result (SaysFront B.NorState r.old.view.nor.now r.new.view.nor.now (damage_lines (damaged_of r.old.view.geometry (B.bytes r.old.view.nor.now)))) }
 {
     let mut after = 0;
     let mut count = 0;

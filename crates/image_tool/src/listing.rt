@@ -17,12 +17,12 @@ use vol_mount::Reader;
 /// The lent line buffer needs 12,288 bytes. Nothing is written; a board fault ends it.
 pub fn list<B: Board>(r: &mut Reader<'_, B>, line: &mut [u8]) -> Result<u32, ToolErr>
     requires { 12288 ≤ length line.old }
-    ensures cause { OnErr result (Rose (B.faults r.old.nor.now) (B.faults r.new.nor.now)) }
+    ensures cause { OnErr result (Rose (B.faults r.old.view.nor.now) (B.faults r.new.view.nor.now)) }
     ensures same { IsSameReader r.old r.new }
-    ensures says { OnlySays B.NorState r.old.nor.now r.new.nor.now (list_of r.old.geometry (B.bytes r.old.nor.now)) }
-    ensures count { B.tells r.old.nor.now → IfOk result (λ count. count ≡ length (damaged_of r.old.geometry (B.bytes r.old.nor.now))) }
-    ensures whole { B.tells r.old.nor.now → OnOk result (B.said r.new.nor.now ≡ B.said r.old.nor.now ++ list_of r.old.geometry (B.bytes r.old.nor.now)) }
-    ensures front { B.tells r.old.nor.now → OnErr result (SaysFront B.NorState r.old.nor.now r.new.nor.now (list_of r.old.geometry (B.bytes r.old.nor.now))) }
+    ensures says { OnlySays B.NorState r.old.view.nor.now r.new.view.nor.now (list_of r.old.view.geometry (B.bytes r.old.view.nor.now)) }
+    ensures count { B.tells r.old.view.nor.now → IfOk result (λ count. count ≡ length (damaged_of r.old.view.geometry (B.bytes r.old.view.nor.now))) }
+    ensures whole { B.tells r.old.view.nor.now → OnOk result (B.said r.new.view.nor.now ≡ B.said r.old.view.nor.now ++ list_of r.old.view.geometry (B.bytes r.old.view.nor.now)) }
+    ensures front { B.tells r.old.view.nor.now → OnErr result (SaysFront B.NorState r.old.view.nor.now r.new.view.nor.now (list_of r.old.view.geometry (B.bytes r.old.view.nor.now))) }
 {
     list_records(r, line)?;
     list_damaged(r, line)

@@ -18,9 +18,9 @@ fn list_reader<B: Board>(reader: &mut Reader<'_, B>, line: &mut [u8]) -> Ending
     requires { 12288 ≤ length line.old }
     ensures later { IsLater result }
     ensures no_script { result ≢ Ending.SourceFault }
-    ensures cause { result ≡ Ending.BoardFault → Rose (B.faults reader.old.nor.now) (B.faults reader.new.nor.now) }
+    ensures cause { result ≡ Ending.BoardFault → Rose (B.faults reader.old.view.nor.now) (B.faults reader.new.view.nor.now) }
     ensures same { IsSameReader reader.old reader.new }
-    ensures lists { ListsTo B.NorState reader.old.geometry reader.old.nor.now reader.new.nor.now result }
+    ensures lists { ListsTo B.NorState reader.old.view.geometry reader.old.view.nor.now reader.new.view.nor.now result }
 {
     if let Err(why) = reader.mount() {
         return mount_ending(why);

@@ -10,12 +10,12 @@ use Rattle.image_tool.proofs.damaged.list_damaged.Given as goal
 
 abbrev pub invariant-loop-id : goal.invariant-loop-id
 invariant-loop-id g l =
-    let damaged = damaged_of l.fn.r.geometry (g.B.NorState.bytes l.fn.r.nor.now) in
+    let damaged = damaged_of l.fn.r.view.geometry (g.B.NorState.bytes l.fn.r.view.nor.now) in
     record {
       same : IsSameReader l.fn.r l.r;
       few : l.count ≤ l.after;
-      says : OnlySays g.B.NorState l.fn.r.nor.now l.r.nor.now (damage_lines damaged);
-      place : g.B.NorState.tells l.fn.r.nor.now → (p : Place (λ (d : ℕ × Damage). d.0) (λ (d : ℕ × Damage). damage_line d.0 d.1) (g.B.NorState.said l.fn.r.nor.now) (g.B.NorState.said l.r.nor.now) damaged l.after) × (l.count ≡ p.done);
+      says : OnlySays g.B.NorState l.fn.r.view.nor.now l.r.view.nor.now (damage_lines damaged);
+      place : g.B.NorState.tells l.fn.r.view.nor.now → (p : Place (λ (d : ℕ × Damage). d.0) (λ (d : ℕ × Damage). damage_line d.0 d.1) (g.B.NorState.said l.fn.r.view.nor.now) (g.B.NorState.said l.r.view.nor.now) damaged l.after) × (l.count ≡ p.done);
     }
 
 abbrev pub decreases-loop-id : goal.decreases-loop-id

@@ -10,11 +10,11 @@ use Rattle.image_tool.proofs.records.list_records.Given as goal
 
 abbrev pub invariant-loop-id : goal.invariant-loop-id
 invariant-loop-id g l =
-    let table = table_of l.fn.r.geometry (g.B.NorState.bytes l.fn.r.nor.now) in
+    let table = table_of l.fn.r.view.geometry (g.B.NorState.bytes l.fn.r.view.nor.now) in
     record {
       same : IsSameReader l.fn.r l.r;
-      says : OnlySays g.B.NorState l.fn.r.nor.now l.r.nor.now (record_lines table);
-      place : g.B.NorState.tells l.fn.r.nor.now → Place (λ (f : File). f.id) record_line (g.B.NorState.said l.fn.r.nor.now) (g.B.NorState.said l.r.nor.now) table l.after;
+      says : OnlySays g.B.NorState l.fn.r.view.nor.now l.r.view.nor.now (record_lines table);
+      place : g.B.NorState.tells l.fn.r.view.nor.now → Place (λ (f : File). f.id) record_line (g.B.NorState.said l.fn.r.view.nor.now) (g.B.NorState.said l.r.view.nor.now) table l.after;
     }
 
 abbrev pub decreases-loop-id : goal.decreases-loop-id

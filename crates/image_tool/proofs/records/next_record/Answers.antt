@@ -1,9 +1,0 @@
-use Rattle.std.proofs.Common.{◌∙◌}
-use Rattle.image_model.specs.Tables.{table_of}
-use Rattle.image_tool.proofs.Found.{record_above}
-use Rattle.image_tool.proofs.records.next_record.Goals as goal
-
-pub returns-in-Ok-clause-told : goal.returns-in-Ok-clause-told
-returns-in-Ok-clause-told g c = λ tells.
-    let e = c.in-Ok.ensures.told tells in
-    c.above.ensures.same (record_above (table_of c.args.r.now.geometry (g.N.NorState.bytes c.args.r.now.nor.now)) c.args.after c.in-Ok.found e) ∙ e
