@@ -1,4 +1,3 @@
 pub mod Units
 mod Counting
 pub mod Listed
-pub mod Same

@@ -16,7 +16,7 @@ use table_model::{FsErr, Stat};
 
 /// The record of the table's file of the least id above `after`, by right marks.
 #[tactic(auto, using(flash_view::proofs::Looking::looks_then))]
-pub(crate) fn next_stat<N: Nor>(
+pub fn next_record<N: Nor>(
     v: &mut View<'_, N>,
     marks: &[u8],
     after: u16,
