@@ -8,7 +8,6 @@ use fd_table::FdSlot;
 use geometry::Geometry;
 use image_model::Damage;
 use nor_core::{Board, Failed, Nor, NorState};
-use page_cache::Cached;
 use table_model::{FsErr, Stat};
 
 /// A volume that is read and never written, in lent memory: its image may be any that mounts, damaged ones too. The
@@ -74,7 +73,6 @@ impl<'b, N: Nor> Reader<'b, N> {
             cache,
             check,
         } = lent;
-        let (nor, cache) = Cached::new(g, nor, cache).give_back();
         Reader {
             geometry: g,
             nor,
