@@ -57,17 +57,19 @@ module _ {X : Type 0} (key : X → ℕ) (line : X → List ℕ) where
   some_next first now new all (x ∷ xs) part after done id asc same text said counted is new_is =
       let here : first_above key after (x ∷ xs) ≡ Some x = head_found key x xs after asc.0 in
       let at : key x ≡ id = same_Some (key x) id (sym (ap (option_map key) here) ∙ is) in
-      let above : after < key x = asc.0 in
-      (record {
-        rest = xs;
-        part = part ++ line x;
-        done = done + 1;
-        ascends = subst (λ (n : ℕ). Ascends key n xs) at asc.1;
-        same = λ other le. same other (omega (arith, at, above, le)) ∙ found_behind key x xs other (omega (arith, at, le));
-        text = text ∙ ap (λ (l : List ℕ). part ++ l) (flat_map-cons line x xs) ∙ sym (append_assoc part (line x) (flat_map line xs));
-        said = new_is ∙ ap (λ (o : Option X). now ++ line_if line o) here ∙ ap (λ (l : List ℕ). l ++ line x) said ∙ append_assoc first part (line x);
-        counted = omega (arith, counted);
-      }, refl)
+      let above : after < key x = asc.0 in (
+        record {
+          rest = xs;
+          part = part ++ line x;
+          done = done + 1;
+          ascends = subst (λ (n : ℕ). Ascends key n xs) at asc.1;
+          same = λ other le. same other (omega (arith, at, above, le)) ∙ found_behind key x xs other (omega (arith, at, le));
+          text = text ∙ ap (λ (l : List ℕ). part ++ l) (flat_map-cons line x xs) ∙ sym (append_assoc part (line x) (flat_map line xs));
+          said = new_is ∙ ap (λ (o : Option X). now ++ line_if line o) here ∙ ap (λ (l : List ℕ). l ++ line x) said ∙ append_assoc first part (line x);
+          counted = omega (arith, counted);
+        },
+        refl,
+      )
 
   -- a line more
   pub place_next : {first now new : List ℕ} {all : List X} {after : ℕ} (id : ℕ) → (p : Place key line first now all after) →
@@ -91,9 +93,10 @@ module _ {X : Type 0} (key : X → ℕ) (line : X → List ℕ) where
   place_last {first} {now} {new} {all} {after} p is new_is =
       let e : first_above key after all ≡ first_above key after p.rest = p.same after (omega arith) in
       let none : p.rest ≡ [] = none_next after p.rest p.ascends (sym (ap (option_map key) e) ∙ is) in
-      let whole : flat_map line all ≡ p.part = p.text ∙ ap (λ (l : List X). p.part ++ flat_map line l) none ∙ append-nil p.part in
-      ( new_is ∙ ap (λ (l : List ℕ). now ++ l) (no_line (first_above key after all) is) ∙ append-nil now ∙ p.said ∙ ap (λ (l : List ℕ). first ++ l) (sym whole),
-        omega (arith, p.counted, ap length none) )
+      let whole : flat_map line all ≡ p.part = p.text ∙ ap (λ (l : List X). p.part ++ flat_map line l) none ∙ append-nil p.part in (
+        new_is ∙ ap (λ (l : List ℕ). now ++ l) (no_line (first_above key after all) is) ∙ append-nil now ∙ p.said ∙ ap (λ (l : List ℕ). first ++ l) (sym whole),
+        omega (arith, p.counted, ap length none),
+      )
 
 module _ {D : Type 0} {nor : NorOf D} {X : Type 0} (key : X → ℕ) (line : X → List ℕ) where
   -- a turn at a list by another name, and what it leaves

@@ -99,9 +99,9 @@ module _ {D : Type 0} {nor : NorOf D} {g : Geometry} where
             (lists.said tells);
         front = ⊎_elim
             (λ broken.
-              let f = broken.1 in
-              let still : new ≡ mid = silent (ap closing_line_of broken.0) in
-              record { part = f.part; rest = f.rest ++ closing; said = ap nor.said still ∙ f.said; whole_is = ap (λ (l : List ℕ). l ++ closing) f.whole_is ∙ append_assoc f.part f.rest closing })
+            let f = broken.1 in
+            let still : new ≡ mid = silent (ap closing_line_of broken.0) in
+            record { part = f.part; rest = f.rest ++ closing; said = ap nor.said still ∙ f.said; whole_is = ap (λ (l : List ℕ). l ++ closing) f.whole_is ∙ append_assoc f.part f.rest closing })
             (λ said. record {
               part = text ++ take says.said.0 closing;
               rest = drop says.said.0 closing;
@@ -122,13 +122,13 @@ module _ {D : Type 0} {nor : NorOf D} {g : Geometry} where
       let both = length-append text (closing_line_of ending) in
       andthen
       (widened lists.says.cuts (λ image count here tells.
-        let i = here tells in
-        record { image_is = i.all_bytes tells; ending = ending; why = lists.why tells; least = i.least; most = omega (arith, i.most, both) }))
+      let i = here tells in
+      record { image_is = i.all_bytes tells; ending = ending; why = lists.why tells; least = i.least; most = omega (arith, i.most, both) }))
       (widened leaves (λ image count here tells.
-        let f = said_front ending lists tells in
-        let e = ap length f.said ∙ length-append (nor.said old) f.part in
-        let t = ap length f.whole_is ∙ length-append f.part f.rest in
-        record { image_is = here.all_bytes (lists.says.cuts.told tells) ∙ lists.says.bytes; ending = ending; why = lists.why tells; least = omega (arith, here.least, e); most = omega (arith, here.most, e, t, both) }))
+      let f = said_front ending lists tells in
+      let e = ap length f.said ∙ length-append (nor.said old) f.part in
+      let t = ap length f.whole_is ∙ length-append f.part f.rest in
+      record { image_is = here.all_bytes (lists.says.cuts.told tells) ∙ lists.says.bytes; ending = ending; why = lists.why tells; least = omega (arith, here.least, e); most = omega (arith, here.most, e, t, both) }))
 
   exact_status : (ending : Ending) (old : D) (status : ℕ) → WhyLists g (nor.bytes old) ending → status ≢ 7 → status ≡ status_of ending → ListExact nor g old status
   exact_status Done old status why fine is = record {
@@ -167,10 +167,12 @@ module _ {D : Type 0} {nor : NorOf D} {g : Geometry} where
   -- a listing by frames that held no page
   pub reads_once : {old new : D} (a b : List ℕ) (cache : ℕ) → FewReads nor g old a new b → held g a ≡ 0 → length a ≡ cache → ReadsOnce nor g cache old new
   unfolding frame_count
-  reads_once a b cache few none size = record { few = λ room calm.
-      let frames : page_count g ≤ length a / (g.page + 8) = (le-div_iff_mul-le {k = g.page + 8} {x = page_count g} {y = length a} (omega arith)).1 (omega (arith, room, size)) in
-      let many : page_count g ≤ frame_count g a = omega (arith, frames, g.valid.few_pages) in
-      omega (arith, few.few many calm, none, held_most g b) }
+  reads_once a b cache few none size = record {
+    few = λ room calm.
+        let frames : page_count g ≤ length a / (g.page + 8) = (le-div_iff_mul-le {k = g.page + 8} {x = page_count g} {y = length a} (omega arith)).1 (omega (arith, room, size)) in
+        let many : page_count g ≤ frame_count g a = omega (arith, frames, g.valid.few_pages) in
+        omega (arith, few.few many calm, none, held_most g b);
+  }
 
   -- saying reads nothing
   pub reads_said : {old mid new : D} {piece : List ℕ} (cache : ℕ) → ReadsOnce nor g cache old mid → Says nor mid new piece → nor.faults mid ≤ nor.faults new → ReadsOnce nor g cache old new

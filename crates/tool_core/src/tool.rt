@@ -109,13 +109,7 @@ fn list_on<B: Board>(g: Geometry, board: &mut B, bufs: &mut Buffers<'_>) -> Endi
     ensures lists { ListsTo B.NorState g board.old board.new result }
     ensures few { ReadsOnce B.NorState g (length bufs.old.cache.now) board.old board.new }
 {
-    let lent = Lent {
-        work: &mut *bufs.work,
-        slots: &mut *bufs.slots,
-        cache: &mut *bufs.cache,
-        check: &mut *bufs.check,
-    };
-    list_volume(g, board, lent, bufs.line)
+    list_volume(g, board, bufs.work, bufs.cache, bufs.check, bufs.line)
 }
 
 /// Does the command that the words spell, on a board, and answers its status. The forms are

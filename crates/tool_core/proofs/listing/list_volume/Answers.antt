@@ -4,7 +4,7 @@ use Rattle.tool_core.proofs.listing.list_volume.Goals as goal
 
 pub returns-clause-few : goal.returns-clause-few
 returns-clause-few g c =
-    let made = c.new-reader.ensures in
-    let few = c.list_reader.ensures.same.view.few in
+    let made = c.new-v.ensures in
+    let few = c.list_view.ensures.same.few in
     let here = rw (made.geometry, made.nor) at few in
     reads_as _ (reads_once _ _ _ here made.empty made.cache_size) (search rules)
