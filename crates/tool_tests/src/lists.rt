@@ -183,7 +183,7 @@ fn what_is_no_volume_is_not_listed(rt: HostRuntime) -> Result<(), Fail> {
         run(rt.alloc(), "list 256 32768 4 0 len chip", &mut board, b"")?,
         2
     );
-    assert!(rt; board.said() == b"! geometry 5\n");
+    assert!(rt; board.said() == b"! geometry 5\n".as_slice());
     Ok(())
 }
 
