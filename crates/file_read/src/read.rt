@@ -130,7 +130,14 @@ fn read_piece<N: Nor>(
     let place = at + done as u32;
     let from = place % body;
     let len = (into.len() - done).min((body - from) as usize);
-    read_span(v, id, place / body, index, from, &mut into[done..done + len])?;
+    read_span(
+        v,
+        id,
+        place / body,
+        index,
+        from,
+        &mut into[done..done + len],
+    )?;
     Ok(done + len)
 }
 
@@ -167,12 +174,7 @@ fn read_named<N: Nor>(
 }
 
 // The index page that names the data page of a span; that of the first spans is the header page.
-fn index_for<N: Nor>(
-    v: &mut View<'_, N>,
-    id: u16,
-    header: u16,
-    span: u32,
-) -> Result<u16, StepErr>
+fn index_for<N: Nor>(v: &mut View<'_, N>, id: u16, header: u16, span: u32) -> Result<u16, StepErr>
     requires { header < page_count v.old.geometry }
     ensures cause { IsErrOf result StepErr.DeviceFault → Rose (N.faults v.old.nor.now) (N.faults v.new.nor.now) }
     ensures looks { OnlyLooks v.old v.new }

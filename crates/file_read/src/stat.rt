@@ -31,11 +31,7 @@ pub fn stat_in(g: &Geometry, page: &[u8], id: u16) -> Option<Stat>
 }
 
 /// The record of the file of an id, by its header page.
-pub fn stat_at<N: Nor>(
-    v: &mut View<'_, N>,
-    id: u16,
-    header: u16,
-) -> Result<Option<Stat>, Failed>
+pub fn stat_at<N: Nor>(v: &mut View<'_, N>, id: u16, header: u16) -> Result<Option<Stat>, Failed>
     requires { header < page_count v.old.geometry }
     ensures cause { OnErr result (Rose (N.faults v.old.nor.now) (N.faults v.new.nor.now)) }
     ensures looks { OnlyLooks v.old v.new }

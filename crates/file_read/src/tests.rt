@@ -119,7 +119,12 @@ fn image(alloc: Global) -> Result<Vec<u8>, Fail> {
     put(&mut image, 128 + 8, &[0x78, 0x05, 0, 0, 1, b'a', 0]);
     put_page(&mut image, 2, [0x01, 0x80, 1, 0, 0xF8], &[]);
     for span in 0..12u32 {
-        put_page(&mut image, 3 + span as usize, [1, 0, span as u8, 0, 0xFC], &piece(span));
+        put_page(
+            &mut image,
+            3 + span as usize,
+            [1, 0, span as u8, 0, 0xFC],
+            &piece(span),
+        );
         let entry = if span < 9 {
             128 + 109 + 2 * span
         } else {

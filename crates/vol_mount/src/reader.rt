@@ -175,7 +175,16 @@ impl<'b, N: Nor> Reader<'b, N> {
             Err(Failed) => Err(FsErr::DeviceFault),
             Ok(()) => {
                 let marks = &mut *self.check;
-                read_on(self.geometry, self.nor, self.work, self.cache, marks, id, at, into)
+                read_on(
+                    self.geometry,
+                    self.nor,
+                    self.work,
+                    self.cache,
+                    marks,
+                    id,
+                    at,
+                    into,
+                )
             }
         }
     }

@@ -85,11 +85,7 @@ pub(crate) fn survey_on<N: Nor>(
 
 // The record of the table's file of the least id above `after`.
 #[tactic(auto, using(flash_view::proofs::Looking::looks_then))]
-fn next_stat<N: Nor>(
-    v: &mut View<'_, N>,
-    marks: &[u8],
-    after: u16,
-) -> Result<Option<Stat>, Failed>
+fn next_stat<N: Nor>(v: &mut View<'_, N>, marks: &[u8], after: u16) -> Result<Option<Stat>, Failed>
     requires room { page_count v.old.geometry ≤ length marks.now }
     requires marked { N.tells v.old.nor.now → IsMarked v.old.geometry (N.bytes v.old.nor.now) marks.now }
     ensures cause { OnErr result (Rose (N.faults v.old.nor.now) (N.faults v.new.nor.now)) }
