@@ -13,7 +13,7 @@ pub use laws::{
 };
 pub use line::{BadLine, parse_line};
 pub use number::parse_number;
-pub use reply::reply_text;
+pub use reply::{put, put_behind_space, put_count, put_number, reply_text};
 
 #[cfg(test)]
 mod tests {

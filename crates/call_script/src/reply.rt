@@ -66,8 +66,8 @@ fn put_bytes(into: &mut [u8], at: usize, bytes: &[u8]) -> usize
     put_behind_space(into, at, bytes)
 }
 
-// Writes a space, and a name or a text.
-fn put_behind_space(into: &mut [u8], at: usize, bytes: &[u8]) -> usize
+/// Writes a space, and a name or a text as replies print it, behind the first `at` bytes. Answers where it ends.
+pub fn put_behind_space(into: &mut [u8], at: usize, bytes: &[u8]) -> usize
     requires { at + 1 + 3 * length bytes.now ≤ length into.old }
     ensures put { Puts into.old at (32 ∷ printed bytes.now) into.new result }
     ensures bound { result ≤ at + 1 + 3 * length bytes.now }
@@ -114,8 +114,8 @@ fn put_info(into: &mut [u8], at: usize, info: &Info) -> usize
     put_count(into, at, b" usable ", info.usable_pages)
 }
 
-// Writes a label and a number.
-fn put_count(into: &mut [u8], at: usize, label: &[u8], number: u32) -> usize
+/// Writes a label and a number in decimal digits behind the first `at` bytes. Answers where it ends.
+pub fn put_count(into: &mut [u8], at: usize, label: &[u8], number: u32) -> usize
     requires { at + length label.now + 10 ≤ length into.old }
     ensures put { Puts into.old at (label.now ++ decimal number) into.new result }
     ensures bound { result ≤ at + length label.now + 10 }
@@ -124,8 +124,8 @@ fn put_count(into: &mut [u8], at: usize, label: &[u8], number: u32) -> usize
     put_number(into, at, number)
 }
 
-// Writes a piece behind the first `at` bytes, and answers where it ends.
-fn put(into: &mut [u8], at: usize, piece: &[u8]) -> usize
+/// Writes a piece behind the first `at` bytes, and answers where it ends.
+pub fn put(into: &mut [u8], at: usize, piece: &[u8]) -> usize
     requires { at + length piece.now ≤ length into.old }
     ensures { Puts into.old at piece.now into.new result }
 {
@@ -134,8 +134,8 @@ fn put(into: &mut [u8], at: usize, piece: &[u8]) -> usize
     end
 }
 
-// Writes a number in decimal digits.
-fn put_number(into: &mut [u8], at: usize, number: u32) -> usize
+/// Writes a number in decimal digits behind the first `at` bytes. Answers where it ends.
+pub fn put_number(into: &mut [u8], at: usize, number: u32) -> usize
     requires { at + 10 ≤ length into.old }
     ensures put { Puts into.old at (decimal number) into.new result }
     ensures bound { result ≤ at + 10 }

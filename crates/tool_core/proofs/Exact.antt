@@ -15,7 +15,7 @@ use Rattle.image_model.specs.Kinds.{spoiled_blocks}
 use Rattle.image_model.specs.Plain.{IsPlain}
 use Rattle.run_model.specs.Runs.{after_all, replies}
 use Rattle.tool_core.specs.declared.ending.Ending.{Ending}
-use Rattle.tool_core.specs.declared.ending.Ending.TheVariants.{Done, Usage, Geometry as WrongGeometry, ShortBuffer, NotAFs, BadLine, BoardFault, SourceFault, TooLong, Tight, Unbuilt, UnbuiltImage, Differ}
+use Rattle.tool_core.specs.declared.ending.Ending.TheVariants.{Done, Usage, Geometry as WrongGeometry, ShortBuffer, NotAFs, BadLine, BoardFault, SourceFault, TooLong, Damaged, Tight, Unbuilt, UnbuiltImage, Differ}
 use Rattle.tool_core.specs.Closing.{status_of, closing_line_of}
 use Rattle.tool_core.specs.Turns.{AllGood}
 use Rattle.tool_core.specs.Outcomes.{HasBad, IsTooLong, WhyRan}
@@ -58,6 +58,7 @@ spoiled_cause (BadLine n) g m first image script left front later why is = absur
 spoiled_cause BoardFault g m first image script left front later why is = absurd (omega (arith, is))
 spoiled_cause SourceFault g m first image script left front later why is = absurd (omega (arith, is))
 spoiled_cause TooLong g m first image script left front later why is = absurd (omega (arith, is))
+spoiled_cause (Damaged n) g m first image script left front later why is = absurd (omega (arith, is))
 spoiled_cause (Tight n) g m first image script left front later why is = absurd (omega (arith, is))
 spoiled_cause Unbuilt g m first image script left front later why is = absurd (omega (arith, is))
 spoiled_cause UnbuiltImage g m first image script left front later why is = absurd (omega (arith, is))
@@ -86,6 +87,7 @@ tight_cause (BadLine n) g m first image script left front later why is = absurd 
 tight_cause BoardFault g m first image script left front later why is = absurd (omega (arith, is))
 tight_cause SourceFault g m first image script left front later why is = absurd (omega (arith, is))
 tight_cause TooLong g m first image script left front later why is = absurd (omega (arith, is))
+tight_cause (Damaged n) g m first image script left front later why is = absurd (omega (arith, is))
 tight_cause Unbuilt g m first image script left front later why is = absurd (omega (arith, is))
 tight_cause UnbuiltImage g m first image script left front later why is = absurd (omega (arith, is))
 tight_cause (Differ d) g m first image script left front later why is = absurd (omega (arith, is))
@@ -101,6 +103,7 @@ no_differ (BadLine n) g m first image script left front later why is = omega (ar
 no_differ BoardFault g m first image script left front later why is = omega (arith, is)
 no_differ SourceFault g m first image script left front later why is = omega (arith, is)
 no_differ TooLong g m first image script left front later why is = omega (arith, is)
+no_differ (Damaged n) g m first image script left front later why is = omega (arith, is)
 no_differ (Tight n) g m first image script left front later why is = omega (arith, is)
 no_differ Unbuilt g m first image script left front later why is = omega (arith, is)
 no_differ UnbuiltImage g m first image script left front later why is = omega (arith, is)
@@ -184,6 +187,7 @@ module _ {D : Type 0} {nor : NorOf D} {g : Geometry} where
   whole_of BoardFault m script left front later is asks_are why said table = absurd (omega (arith, is))
   whole_of SourceFault m script left front later is asks_are why said table = absurd (omega (arith, is))
   whole_of TooLong m script left front later is asks_are why said table = absurd (omega (arith, is))
+  whole_of (Damaged n) m script left front later is asks_are why said table = absurd (omega (arith, is))
   whole_of (Tight n) m script left front later is asks_are why said table = absurd (omega (arith, is))
   whole_of Unbuilt m script left front later is asks_are why said table = absurd (omega (arith, is))
   whole_of UnbuiltImage m script left front later is asks_are why said table = absurd (omega (arith, is))

@@ -10,6 +10,11 @@ pub record IsFitting (g : Geometry) (unit size : ℕ) : Type 0 where
   pub holds : g.blocks * g.block ≤ size
   pub writable : write_refusal g ≡ None
 
+-- the device has the volume's erase unit and holds the volume
+pub record HoldsVolume (g : Geometry) (unit size : ℕ) : Type 0 where
+  pub unit_is : unit ≡ g.phys
+  pub holds : g.blocks * g.block ≤ size
+
 -- every part of the lent memory has its need
 pub record HasLengths (g : Geometry) (lent : Lengths) : Type 0 where
   pub work : work_need g ≤ lent.work

@@ -11,3 +11,5 @@ pub mod Outcomes
 pub mod Begins
 pub mod Headline
 pub mod Early
+pub mod Planned
+pub mod Listing

@@ -10,22 +10,29 @@ use Rattle.tool_core.specs.declared.words.Shape.{Shape}
 use Rattle.tool_core.specs.declared.plan.Lengths.{Lengths}
 use Rattle.tool_core.specs.declared.ending.Ending.{Ending}
 use Rattle.tool_core.specs.declared.ending.Ending.TheVariants.{Usage, Geometry, ShortBuffer}
-use Rattle.tool_core.specs.Words.{run_form}
+use Rattle.tool_core.specs.Words.{run_form, list_form}
 
--- why these numbers may not be written, or a device of that unit and size doesn't fit them; an erase unit is a block
+-- why a device of that unit and size doesn't fit these numbers; an erase unit is a block
+abbrev pub chip_refusal : ℕ → ℕ → ℕ → ℕ → Option GeoErr
+chip_refusal block blocks unit size = if not (unit == block) || nat_lt size (blocks * block) then Some WrongChip else None
+
+-- why these numbers may not be written, or a device of that unit and size doesn't fit them
 abbrev pub device_refusal : ℕ → ℕ → ℕ → ℕ → ℕ → Option GeoErr
 device_refusal page block blocks unit size =
     if nat_lt 32766 (blocks * entries_in page block) then Some TooManyUsable
     else if nat_lt blocks 4 then Some TooFewToWrite
-    else if not (unit == block) || nat_lt size (blocks * block) then Some WrongChip
-    else None
+    else chip_refusal block blocks unit size
 
 -- the first of two reasons, if there is one
 abbrev pub first_of : Option GeoErr → Option GeoErr → Option GeoErr
 first_of (Some why) later = Some why
 first_of None later = later
 
--- why the numbers or the device are refused
+-- why the numbers or the device are refused for a volume that is only read
+abbrev pub list_refusal : Shape → ℕ → ℕ → Option GeoErr
+list_refusal s unit size = first_of (refusal s.page s.block s.blocks s.block s.meta) (chip_refusal s.block s.blocks unit size)
+
+-- why the numbers or the device are refused for a volume that is written
 abbrev pub shape_refusal : Shape → ℕ → ℕ → Option GeoErr
 shape_refusal s unit size = first_of (refusal s.page s.block s.blocks s.block s.meta) (device_refusal s.page s.block s.blocks unit size)
 
@@ -50,10 +57,12 @@ abbrev pub refused_as : Option GeoErr → Option Ending → Option Ending
 refused_as (Some why) later = Some (Geometry why)
 refused_as None later = later
 
-abbrev pub refusal_for : Option Shape → ℕ → ℕ → Lengths → Option Ending
-refusal_for None unit size lent = Some Usage
-refusal_for (Some s) unit size lent = refused_as (shape_refusal s unit size) (length_refusal s.page s.block s.blocks lent)
+-- how a command is refused, by the numbers of a run, or else of a listing
+abbrev pub refusal_for : Option Shape → Option Shape → ℕ → ℕ → Lengths → Option Ending
+refusal_for None None unit size lent = Some Usage
+refusal_for None (Some s) unit size lent = refused_as (list_refusal s unit size) (length_refusal s.page s.block s.blocks lent)
+refusal_for (Some s) other unit size lent = refused_as (shape_refusal s unit size) (length_refusal s.page s.block s.blocks lent)
 
--- how a run is refused, by its words, the device's erase unit and size, and what is lent
+-- how a command is refused, by its words, the device's erase unit and size, and what is lent
 unfoldable pub refusal_of : List (List ℕ) → ℕ → ℕ → Lengths → Option Ending
-refusal_of words unit size lent = refusal_for (run_form words) unit size lent
+refusal_of words unit size lent = refusal_for (run_form words) (list_form words) unit size lent

@@ -25,15 +25,23 @@ magic_word word =
     else if is_text word (codes "len") then Some Length
     else None
 
--- the words `run PAGE BLOCK BLOCKS META MAGIC CHIP`, where CHIP is any word that isn't empty
-abbrev pub is_run : List (List ℕ) → Bool
-is_run words = (length words == 7) && is_text (word_at words 0) (codes "run") && not (length (word_at words 6) == 0)
+-- the words `VERB PAGE BLOCK BLOCKS META MAGIC CHIP`, where CHIP is any word that isn't empty
+abbrev pub has_form : List ℕ → List (List ℕ) → Bool
+has_form verb words = (length words == 7) && is_text (word_at words 0) verb && not (length (word_at words 6) == 0)
 
 -- the numbers that these words give
-unfoldable pub run_form : List (List ℕ) → Option Shape
-run_form words =
-    if is_run words then
+unfoldable pub volume_form : List ℕ → List (List ℕ) → Option Shape
+volume_form verb words =
+    if has_form verb words then
     option_and_then (λ page. option_and_then (λ block. option_and_then (λ blocks. option_and_then (λ meta. option_and_then (λ magic.
     Some (record { page = page; block = block; blocks = blocks; meta = meta; magic = magic }))
     (magic_word (word_at words 5))) (number_word (word_at words 4))) (number_word (word_at words 3))) (number_word (word_at words 2))) (number_word (word_at words 1))
     else None
+
+-- the numbers of the words `run PAGE BLOCK BLOCKS META MAGIC CHIP`
+unfoldable pub run_form : List (List ℕ) → Option Shape
+run_form words = volume_form (codes "run") words
+
+-- the numbers of the words `list PAGE BLOCK BLOCKS META MAGIC CHIP`
+unfoldable pub list_form : List (List ℕ) → Option Shape
+list_form words = volume_form (codes "list") words

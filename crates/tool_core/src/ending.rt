@@ -29,6 +29,8 @@ pub(crate) enum Ending {
     SourceFault,
     /// The script is too long.
     TooLong,
+    /// Some ids are damaged: their number.
+    Damaged(u32),
     /// The check left fewer than two free blocks.
     Tight(u32),
     /// A call needs what this build doesn't have.
@@ -57,6 +59,7 @@ impl Ending {
             Ending::SourceFault => 8,
             Ending::ShortBuffer { .. } => 10,
             Ending::TooLong => 11,
+            Ending::Damaged(_) => 12,
             Ending::Tight(_) => 14,
             Ending::Unbuilt | Ending::UnbuiltImage => 16,
             Ending::Differ(_) => 21,
@@ -147,6 +150,7 @@ fn put_closing(line: &mut Closing, ending: Ending)
         Ending::BadLine(number) => put_count(line, b"! bad line ", u64::from(number)),
         Ending::SourceFault => put(line, b"! script fault"),
         Ending::TooLong => put(line, b"! script longer than 16777216 bytes"),
+        Ending::Damaged(count) => put_count(line, b"! damaged ", u64::from(count)),
         Ending::Tight(free) => put_count(line, b"! free blocks ", u64::from(free)),
         Ending::Unbuilt => put(line, b"! unbuilt"),
         Ending::UnbuiltImage => put(line, b"! unbuilt image"),

@@ -5,6 +5,7 @@
 mod call;
 mod ending;
 mod lines;
+mod listing;
 mod plan;
 mod run;
 mod tool;

@@ -1,11 +1,11 @@
-ghost use Rattle.std.specs.Prelude.{◌≡◌, ◌*◌, ◌≤◌, length, map, string_bytes, IfOk, IfErr, OnOk, Some, None};
-ghost use Rattle.geometry.specs.Numbers.{IsOf};
-ghost use Rattle.tool_core.specs.Plan.{device_refusal, shape_refusal, length_refusal, shorter, refusal_of};
-ghost use Rattle.tool_core.specs.Headline.{IsRun};
-ghost use Rattle.tool_core.specs.Fits.{IsFitting, HasLengths};
+ghost use Rattle.std.specs.Prelude.{◌≡◌, ◌*◌, ◌≤◌, length, map, string_bytes, IfOk, IfErr, OnOk, Ok, Err, Some, None};
+ghost use Rattle.geometry.specs.Numbers.{IsOf, refusal};
+ghost use Rattle.tool_core.specs.Plan.{chip_refusal, device_refusal, list_refusal, shape_refusal, length_refusal, shorter, refusal_of};
+ghost use Rattle.tool_core.specs.Planned.{IsPlanned, FitsPlan, geometry_in};
+ghost use Rattle.tool_core.specs.Fits.{IsFitting, HoldsVolume, HasLengths};
 
 use crate::ending::Ending;
-use crate::words::{Shape, run_shape};
+use crate::words::{Shape, list_shape, run_shape};
 use geometry::{GeoErr, Geometry};
 use vol_mount::Part;
 
@@ -22,6 +22,28 @@ pub(crate) struct Lengths {
     pub line: usize,
 }
 
+/// A command that isn't refused, on volumes of a geometry.
+#[derive(Clone, Copy)]
+pub(crate) enum Command {
+    /// Mounts and checks a volume, and runs a script on it.
+    Run(Geometry),
+    /// Mounts a volume, and says its list.
+    List(Geometry),
+}
+
+// Refuses a device that doesn't fit a volume.
+fn accept_chip(g: &Geometry, unit: u32, size: u32) -> Result<(), GeoErr>
+    requires { g.now.phys ≡ g.now.block }
+    ensures refused { IfErr result (λ why. chip_refusal g.now.block g.now.blocks unit size ≡ Some why) }
+    ensures accepted { OnOk result (chip_refusal g.now.block g.now.blocks unit size ≡ None) }
+    ensures fits { OnOk result (HoldsVolume g.now unit size) }
+{
+    if unit != g.phys() || size < g.blocks() * g.block() {
+        return Err(GeoErr::WrongChip);
+    }
+    Ok(())
+}
+
 // Refuses a volume that may not be written, and a device that doesn't fit it.
 fn accept_device(g: &Geometry, unit: u32, size: u32) -> Result<(), GeoErr>
     requires { g.now.phys ≡ g.now.block }
@@ -30,28 +52,46 @@ fn accept_device(g: &Geometry, unit: u32, size: u32) -> Result<(), GeoErr>
     ensures fits { OnOk result (IsFitting g.now unit size) }
 {
     g.writable()?;
-    if unit != g.phys() || size < g.blocks() * g.block() {
-        return Err(GeoErr::WrongChip);
-    }
-    Ok(())
+    accept_chip(g, unit, size)
 }
 
-// The geometry of these numbers on a device of that unit and size, to be written.
-fn geometry_of(shape: Shape, unit: u32, size: u32) -> Result<Geometry, GeoErr>
+// The geometry of these numbers.
+fn geometry_of(shape: Shape) -> Result<Geometry, GeoErr>
     ensures made { IfOk result (λ g. IsOf g shape.page shape.block shape.blocks shape.block shape.meta shape.magic) }
-    ensures accepted { OnOk result (shape_refusal shape unit size ≡ None) }
-    ensures fits { IfOk result (λ g. IsFitting g unit size) }
-    ensures refused { IfErr result (λ why. shape_refusal shape unit size ≡ Some why) }
+    ensures accepted { OnOk result (refusal shape.page shape.block shape.blocks shape.block shape.meta ≡ None) }
+    ensures refused { IfErr result (λ why. refusal shape.page shape.block shape.blocks shape.block shape.meta ≡ Some why) }
 {
-    let g = Geometry::new(
+    Geometry::new(
         shape.page,
         shape.block,
         shape.blocks,
         shape.block,
         shape.meta,
         shape.magic,
-    )?;
+    )
+}
+
+// The geometry of these numbers on a device of that unit and size, to be written.
+fn run_geometry(shape: Shape, unit: u32, size: u32) -> Result<Geometry, GeoErr>
+    ensures made { IfOk result (λ g. IsOf g shape.page shape.block shape.blocks shape.block shape.meta shape.magic) }
+    ensures accepted { OnOk result (shape_refusal shape unit size ≡ None) }
+    ensures fits { IfOk result (λ g. IsFitting g unit size) }
+    ensures refused { IfErr result (λ why. shape_refusal shape unit size ≡ Some why) }
+{
+    let g = geometry_of(shape)?;
     accept_device(&g, unit, size)?;
+    Ok(g)
+}
+
+// The geometry of these numbers on a device of that unit and size, to be read.
+fn list_geometry(shape: Shape, unit: u32, size: u32) -> Result<Geometry, GeoErr>
+    ensures made { IfOk result (λ g. IsOf g shape.page shape.block shape.blocks shape.block shape.meta shape.magic) }
+    ensures accepted { OnOk result (list_refusal shape unit size ≡ None) }
+    ensures fits { IfOk result (λ g. HoldsVolume g unit size) }
+    ensures refused { IfErr result (λ why. list_refusal shape unit size ≡ Some why) }
+{
+    let g = geometry_of(shape)?;
+    accept_chip(&g, unit, size)?;
     Ok(g)
 }
 
@@ -77,25 +117,15 @@ fn too_short(part: Part, need: u32, given: usize) -> Option<Ending>
     }
 }
 
-/// The geometry of a run that is not refused, by its words, the device's erase unit and size in bytes, and
-/// what is lent.
-#[tactic(auto, unfolding(crate::specs::Plan::refusal_of))]
-pub(crate) fn plan(
-    words: &[String],
-    unit: u32,
-    size: u32,
-    lent: &Lengths,
-) -> Result<Geometry, Ending>
-    ensures refused { IfErr result (λ ending. refusal_of (map string_bytes words.now) unit size lent.now ≡ Some ending) }
-    ensures accepted { OnOk result (refusal_of (map string_bytes words.now) unit size lent.now ≡ None) }
-    ensures fits { IfOk result (λ g. IsFitting g unit size) }
+// The geometry, where its needs of lent memory are met.
+fn with_room(g: Result<Geometry, GeoErr>, lent: &Lengths) -> Result<Geometry, Ending>
     ensures room { IfOk result (λ g. HasLengths g lent.now) }
-    ensures run { IfOk result (IsRun (map string_bytes words.now) unit size lent.now) }
+    ensures wrong { IfErr g (λ why. result ≡ Err (Ending.Geometry why)) }
+    ensures made { IfOk result (λ made. g ≡ Ok made) }
+    ensures short { IfOk g (λ g. IfErr result (λ ending. length_refusal g.page g.block g.blocks lent.now ≡ Some ending)) }
+    ensures enough { IfOk g (λ g. OnOk result (length_refusal g.page g.block g.blocks lent.now ≡ None)) }
 {
-    let Some(shape) = run_shape(words) else {
-        return Err(Ending::Usage);
-    };
-    let g = match geometry_of(shape, unit, size) {
+    let g = match g {
         Ok(g) => g,
         Err(why) => return Err(Ending::Geometry(why)),
     };
@@ -103,4 +133,30 @@ pub(crate) fn plan(
         Some(ending) => Err(ending),
         None => Ok(g),
     }
+}
+
+/// The command that the words spell, where it is not refused, by the device's erase unit and size in bytes, and
+/// what is lent.
+#[tactic(auto, unfolding(crate::specs::Plan::refusal_of))]
+pub(crate) fn plan(
+    words: &[String],
+    unit: u32,
+    size: u32,
+    lent: &Lengths,
+) -> Result<Command, Ending>
+    ensures refused { IfErr result (λ ending. refusal_of (map string_bytes words.now) unit size lent.now ≡ Some ending) }
+    ensures accepted { OnOk result (refusal_of (map string_bytes words.now) unit size lent.now ≡ None) }
+    ensures fits { IfOk result (FitsPlan unit size) }
+    ensures room { IfOk result (λ command. HasLengths (geometry_in command) lent.now) }
+    ensures planned { IfOk result (IsPlanned (map string_bytes words.now) unit size lent.now) }
+{
+    if let Some(shape) = run_shape(words) {
+        let g = with_room(run_geometry(shape, unit, size), lent)?;
+        return Ok(Command::Run(g));
+    }
+    let Some(shape) = list_shape(words) else {
+        return Err(Ending::Usage);
+    };
+    let g = with_room(list_geometry(shape, unit, size), lent)?;
+    Ok(Command::List(g))
 }

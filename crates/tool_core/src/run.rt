@@ -35,8 +35,8 @@ use volume::{CheckErr, Volume};
 /// The number of bytes of the line buffer that hold lines; the others hold names, texts and replies.
 const LINES: usize = 8192;
 
-// How a run ends that doesn't mount the volume.
-fn mount_ending(why: MountErr) -> Ending
+/// How a command ends that doesn't mount the volume.
+pub(crate) fn mount_ending(why: MountErr) -> Ending
     requires { IsLate why }
     ensures ends { result ≡ mount_ends why }
     ensures later { IsLater result }

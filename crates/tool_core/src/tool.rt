@@ -1,4 +1,4 @@
-ghost use Rattle.std.specs.Prelude.{◌≡◌, ◌≢◌, ◌≤◌, ◌++◌, [], length, map, string_bytes, None};
+ghost use Rattle.std.specs.Prelude.{◌≡◌, ◌≢◌, ◌≤◌, ◌++◌, ◌⊎◌, [], length, map, string_bytes, None};
 ghost use Rattle.nor_core.specs.Count.{Rose};
 ghost use Rattle.nor_core.specs.Device.{Leaves, Says, InSay};
 ghost use Rattle.call_script.specs.Lines.{calls};
@@ -6,17 +6,19 @@ ghost use Rattle.image_model.specs.Plain.{IsPlain};
 ghost use Rattle.image_model.specs.Tidy.{HasReserve};
 ghost use Rattle.run_model.specs.Ran.{CutIn};
 ghost use Rattle.geometry.specs.declared.geometry.Geometry.{Geometry};
-ghost use Rattle.tool_core.specs.Headline.{IsRun, Outcome, RanWhole, RunCut, IsExact, IsComplete};
+ghost use Rattle.tool_core.specs.Headline.{IsRun, IsListing, Outcome, RanWhole, RunCut, IsExact, IsComplete};
 ghost use Rattle.tool_core.specs.Outcomes.{RunsTo};
 ghost use Rattle.tool_core.specs.Plan.{refusal_of};
 ghost use Rattle.tool_core.specs.Closing.{closing_line_of};
 ghost use Rattle.tool_core.specs.Endings.{EndsAs, Refuses, RefusesIf};
-ghost use Rattle.tool_core.specs.Fits.{IsFitting, HasLengths};
+ghost use Rattle.tool_core.specs.Fits.{IsFitting, HoldsVolume, HasLengths};
+ghost use Rattle.tool_core.specs.Listing.{ListsTo, Listed, ListCut, ListExact, ReadsOnce};
 ghost use Rattle.tool_core.specs.Later.{IsLater};
 ghost use Rattle.tool_core.specs.Lent.{lengths_of, start_of};
 
 use crate::ending::{Ending, closing_line};
-use crate::plan::{Lengths, plan};
+use crate::listing::list_volume;
+use crate::plan::{Command, Lengths, plan};
 use crate::run::run;
 use fd_table::FdSlot;
 use geometry::Geometry;
@@ -97,10 +99,24 @@ fn run_on<B: Board, S: Source>(
     run(g, board, script, lent, bufs.line)
 }
 
-/// Does the command that the words spell, on a board, and answers its status. The form is
-/// `run PAGE BLOCK BLOCKS META MAGIC CHIP`: the numbers in decimal digits below 2 ^ 32 without a leading
-/// zero, MAGIC `plain` or `len`, CHIP any word that isn't empty, which isn't read here. The volume is mounted
-/// and checked, and each line of the script is run as a call. It takes no memory but what is lent.
+// Mounts the volume of a board in the lent memory, and says its list.
+fn list_on<B: Board>(g: Geometry, board: &mut B, bufs: &mut Buffers<'_>) -> Ending
+    requires fits { HoldsVolume g (B.unit board.old) (B.size board.old) }
+    requires room { HasLengths g (lengths_of bufs.old) }
+    ensures later { IsLater result }
+    ensures no_script { result ≢ Ending.SourceFault }
+    ensures cause { result ≡ Ending.BoardFault → Rose (B.faults board.old) (B.faults board.new) }
+    ensures lists { ListsTo B.NorState g board.old board.new result }
+    ensures few { ReadsOnce B.NorState g (length bufs.old.cache.now) board.old board.new }
+{
+    list_volume(g, board, bufs.work, bufs.cache, bufs.check, bufs.line)
+}
+
+/// Does the command that the words spell, on a board, and answers its status. The forms are
+/// `run PAGE BLOCK BLOCKS META MAGIC CHIP` and `list PAGE BLOCK BLOCKS META MAGIC CHIP`: the numbers in decimal
+/// digits below 2 ^ 32 without a leading zero, MAGIC `plain` or `len`, CHIP any word that isn't empty, which isn't
+/// read here. `run` mounts and checks the volume, and runs each line of the script as a call; `list` mounts it and
+/// says its files and its damaged ids, and writes nothing. It takes no memory but what is lent.
 pub fn spiffs_tool<B: Board, S: Source>(
     words: &[String],
     board: &mut B,
@@ -110,7 +126,8 @@ pub fn spiffs_tool<B: Board, S: Source>(
     ensures refused { RefusesIf B.NorState board.old board.new (refusal_of (map string_bytes words.now) (B.unit board.old) (B.size board.old) (lengths_of bufs.old)) result }
     ensures script_fault { result ≡ 8 → Rose (S.faults script.old) (S.faults script.new) }
     ensures board_fault { result ≡ 7 → Rose (B.faults board.old) (B.faults board.new) }
-    ensures runs { refusal_of (map string_bytes words.now) (B.unit board.old) (B.size board.old) (lengths_of bufs.old) ≡ None → (g : Geometry) × IsRun (map string_bytes words.now) (B.unit board.old) (B.size board.old) (lengths_of bufs.old) g }
+    ensures runs { refusal_of (map string_bytes words.now) (B.unit board.old) (B.size board.old) (lengths_of bufs.old) ≡ None → (g : Geometry) ×
+        (IsRun (map string_bytes words.now) (B.unit board.old) (B.size board.old) (lengths_of bufs.old) g ⊎ IsListing (map string_bytes words.now) (B.unit board.old) (B.size board.old) (lengths_of bufs.old) g) }
     ensures outcome { (g : Geometry) → IsRun (map string_bytes words.now) (B.unit board.old) (B.size board.old) (lengths_of bufs.old) g → S.tells script.old → B.tells board.old →
         Outcome B.NorState g board.old board.new (start_of g bufs.old (B.bytes board.old)) (S.left script.old) (S.left script.new) result }
     ensures whole { (g : Geometry) → IsRun (map string_bytes words.now) (B.unit board.old) (B.size board.old) (lengths_of bufs.old) g → S.tells script.old → B.tells board.old →
@@ -122,11 +139,25 @@ pub fn spiffs_tool<B: Board, S: Source>(
         ¬ Rose (B.faults board.old) (B.faults board.new) → IsExact B.NorState g board.old board.new result }
     ensures complete { (g : Geometry) → IsRun (map string_bytes words.now) (B.unit board.old) (B.size board.old) (lengths_of bufs.old) g → S.tells script.old → B.tells board.old →
         ¬ Rose (B.faults board.old) (B.faults board.new) → ¬ Rose (S.faults script.old) (S.faults script.new) → IsComplete B.NorState g board.old (S.left script.old) result }
+    ensures list_keeps { (g : Geometry) → IsListing (map string_bytes words.now) (B.unit board.old) (B.size board.old) (lengths_of bufs.old) g →
+        (B.bytes board.new ≡ B.bytes board.old) × (B.device_writes board.new ≡ B.device_writes board.old) }
+    ensures listed { (g : Geometry) → IsListing (map string_bytes words.now) (B.unit board.old) (B.size board.old) (lengths_of bufs.old) g → B.tells board.old →
+        Listed B.NorState g board.old board.new result }
+    ensures list_cuts { (g : Geometry) → IsListing (map string_bytes words.now) (B.unit board.old) (B.size board.old) (lengths_of bufs.old) g →
+        Leaves B.NorState board.old board.new (λ image count. B.tells board.old → ListCut B.NorState g board.old image count) }
+    ensures list_exact { (g : Geometry) → IsListing (map string_bytes words.now) (B.unit board.old) (B.size board.old) (lengths_of bufs.old) g → B.tells board.old →
+        ¬ Rose (B.faults board.old) (B.faults board.new) → ListExact B.NorState g board.old result }
+    ensures list_reads { (g : Geometry) → IsListing (map string_bytes words.now) (B.unit board.old) (B.size board.old) (lengths_of bufs.old) g →
+        ReadsOnce B.NorState g (length bufs.old.cache.now) board.old board.new }
 {
     match plan(words, board.unit(), board.size(), &lengths(bufs)) {
         Err(ending) => conclude(board, ending),
-        Ok(g) => {
+        Ok(Command::Run(g)) => {
             let ending = run_on(g, board, script, bufs);
+            conclude(board, ending)
+        }
+        Ok(Command::List(g)) => {
+            let ending = list_on(g, board, bufs);
             conclude(board, ending)
         }
     }

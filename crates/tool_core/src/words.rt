@@ -1,5 +1,5 @@
 ghost use Rattle.std.specs.Prelude.{◌≡◌, ◌+◌, ◌*◌, ◌<◌, ◌≤◌, ◌^◌, length, map, string_bytes, option_copied, IfSome, Some, None};
-ghost use Rattle.tool_core.specs.Words.{run_form, number_word, magic_word};
+ghost use Rattle.tool_core.specs.Words.{volume_form, run_form, list_form, number_word, magic_word};
 
 use call_script::parse_number;
 use geometry::MagicKind;
@@ -39,12 +39,12 @@ fn magic(word: &String) -> Option<MagicKind>
     }
 }
 
-#[tactic(auto, unfolding(crate::specs::Words::run_form))]
-/// The numbers that the words `run PAGE BLOCK BLOCKS META MAGIC CHIP` give, or None for other words.
-pub(crate) fn run_shape(words: &[String]) -> Option<Shape>
-    ensures { result ≡ run_form (map string_bytes words.now) }
+// The numbers that the words `VERB PAGE BLOCK BLOCKS META MAGIC CHIP` give, or None for other words.
+#[tactic(auto, unfolding(crate::specs::Words::volume_form))]
+fn volume_shape(words: &[String], verb: &[u8]) -> Option<Shape>
+    ensures { result ≡ volume_form verb.now (map string_bytes words.now) }
 {
-    if words.len() != 7 || words[0].as_bytes() != b"run".as_slice() || words[6].is_empty() {
+    if words.len() != 7 || words[0].as_bytes() != verb || words[6].is_empty() {
         return None;
     }
     let page = number(&words[1])?;
@@ -59,6 +59,22 @@ pub(crate) fn run_shape(words: &[String]) -> Option<Shape>
         meta,
         magic,
     })
+}
+
+/// The numbers that the words `run PAGE BLOCK BLOCKS META MAGIC CHIP` give, or None for other words.
+#[tactic(auto, unfolding(crate::specs::Words::run_form))]
+pub(crate) fn run_shape(words: &[String]) -> Option<Shape>
+    ensures { result ≡ run_form (map string_bytes words.now) }
+{
+    volume_shape(words, b"run")
+}
+
+/// The numbers that the words `list PAGE BLOCK BLOCKS META MAGIC CHIP` give, or None for other words.
+#[tactic(auto, unfolding(crate::specs::Words::list_form))]
+pub(crate) fn list_shape(words: &[String]) -> Option<Shape>
+    ensures { result ≡ list_form (map string_bytes words.now) }
+{
+    volume_shape(words, b"list")
 }
 
 // The word at a place as a number, where it is one.

@@ -91,11 +91,7 @@ fn a_file_of_two_full_blocks_is_listed(rt: HostRuntime) -> Result<(), Fail> {
             usize::from(block) * 4096 + 2 * usize::from(span % 15),
             &[1, 0],
         );
-        put(
-            &mut image,
-            usize::from(page) * 256,
-            &[1, 0, span, 0, 0xFC],
-        );
+        put(&mut image, usize::from(page) * 256, &[1, 0, span, 0, 0xFC]);
     }
     check_list(
         &rt,
@@ -183,7 +179,10 @@ fn what_is_no_volume_is_not_listed(rt: HostRuntime) -> Result<(), Fail> {
         check_list(&rt, rt.alloc(), LIST, &image, (3, said))?;
     }
     let mut board = blank(rt.alloc())?;
-    assert_eq!(rt; run(rt.alloc(), "list 256 32768 4 0 len chip", &mut board, b"")?, 2);
+    assert_eq!(rt;
+        run(rt.alloc(), "list 256 32768 4 0 len chip", &mut board, b"")?,
+        2
+    );
     assert!(rt; board.said() == b"! geometry 5\n");
     Ok(())
 }
@@ -267,9 +266,7 @@ fn damaged_image(alloc: Global, g: &Geometry, seed: u64) -> Result<Vec<u8>, Fail
 }
 
 #[test]
-fn damaged_images_are_listed_as_the_plain_program_reads_them(
-    rt: HostRuntime,
-) -> Result<(), Fail> {
+fn damaged_images_are_listed_as_the_plain_program_reads_them(rt: HostRuntime) -> Result<(), Fail> {
     let g = volume()?;
     for seed in 0..60 {
         let image = damaged_image(rt.alloc(), &g, seed)?;

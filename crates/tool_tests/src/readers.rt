@@ -39,7 +39,9 @@ fn a_reader_gives_the_table_and_the_damage(rt: HostRuntime) -> Result<(), Fail> 
     let mut after = 0;
     for (id, size, name) in [(1, 5, b"a"), (2, 300, b"b")] {
         let found = reader.next(after).ok().flatten();
-        assert!(rt; found.as_ref().is_some_and(|stat| stat.id == id && stat.size == size && stat.kind == 1));
+        assert!(rt;
+            found.as_ref().is_some_and(|stat| stat.id == id && stat.size == size && stat.kind == 1)
+        );
         assert!(rt; found.is_some_and(|stat| stat.name.as_slice() == name.as_slice()));
         after = id;
         files += 1;

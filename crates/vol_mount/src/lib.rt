@@ -1,6 +1,7 @@
 //! Formatting and mounting, and reading a volume of any image.
 #![tactic(auto)]
 
+mod calls;
 mod formatting;
 mod lent;
 mod mounting;
@@ -11,3 +12,4 @@ pub use formatting::format;
 pub use lent::{Lent, MountErr, Part, Returned};
 pub use mounting::{accept, mount};
 pub use reader::Reader;
+pub use reading::next_record;

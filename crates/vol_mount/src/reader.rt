@@ -3,7 +3,7 @@ ghost use Rattle.geometry.specs.Numbers.{page_count, work_need, cache_need};
 ghost use Rattle.page_cache.specs.Kept.{IsKept};
 ghost use Rattle.flash_view.specs.Marks.{IsMarked};
 
-use crate::reading::{damaged_on, mount_on, next_on, read_on, survey_on};
+use crate::calls::{damaged_on, mount_on, next_on, read_on, survey_on};
 use crate::{Lent, MountErr, Returned};
 use fd_table::FdSlot;
 use geometry::Geometry;

@@ -1,11 +1,13 @@
-use Rattle.std.proofs.Common.{◌≡◌, ◌≢◌, ◌∙◌, sym, subst, ⊎_elim, arith, rules}
+use Rattle.std.proofs.Common.{◌≡◌, ◌≢◌, ◌∙◌, sym, subst, ⊎_elim, inl, inr, arith, rules}
 use Rattle.geometry.specs.declared.geometry.Geometry.{Geometry}
 use Rattle.nor_core.specs.Count.{Rose}
 use Rattle.image_model.specs.Plain.{IsPlain}
 use Rattle.image_model.specs.Tidy.{HasReserve}
 use Rattle.tool_core.proofs.Early.{ending_early, early_status, early_board}
 use Rattle.tool_core.proofs.Concluding.{outcome_of, run_cuts}
-use Rattle.tool_core.proofs.Geometries.{one_geometry}
+use Rattle.tool_core.proofs.Geometries.{one_geometry, one_listing}
+use Rattle.tool_core.proofs.Verbs.{apart}
+use Rattle.tool_core.proofs.ListEnds.{listed_of, list_kept, list_cut, list_exact, reads_said}
 use Rattle.tool_core.proofs.Exact.{exact_of, complete_of, ran_whole}
 use Rattle.tool_core.proofs.tool.spiffs_tool.Goals as goal
 
@@ -21,31 +23,117 @@ returns-in-Err-clause-board_fault g c = λ (is : c.conclude.result ≡ 7). ⊎_e
     (λ fault. fault.1)
     c.conclude.ensures.ends
 
-pub returns-in-Ok-clause-outcome : goal.returns-in-Ok-clause-outcome
-returns-in-Ok-clause-outcome g c = λ h run script tells.
-    rw (one_geometry _ _ _ _ _ _ _ h c.in-Ok.g run c.in-Ok.ensures.run) (outcome_of _ (g.S.Source.left c.args.script.now) (g.S.Source.left c.run_on-ending.new.script) c.run_on-ending.result c.conclude-in-Ok.result c.run_on-ending.ensures.board_faults (c.run_on-ending.ensures.ends script tells) c.conclude-in-Ok.ensures.ends c.conclude-in-Ok.ensures.says c.conclude-in-Ok.ensures.whole c.conclude-in-Ok.ensures.silent)
+pub returns-in-Ok-Run-clause-outcome : goal.returns-in-Ok-Run-clause-outcome
+returns-in-Ok-Run-clause-outcome g c = λ h run script tells.
+    let planned = rw c.in-Ok-Run.field-0-is at c.in-Ok-Run.ensures.planned in
+    rw (one_geometry _ _ _ _ _ _ _ h c.in-Ok-Run.g run planned) (outcome_of _ (g.S.Source.left c.args.script.now) (g.S.Source.left c.run_on-ending.new.script) c.run_on-ending.result c.conclude-in-Ok-Run.result c.run_on-ending.ensures.board_faults (c.run_on-ending.ensures.ends script tells) c.conclude-in-Ok-Run.ensures.ends c.conclude-in-Ok-Run.ensures.says c.conclude-in-Ok-Run.ensures.whole c.conclude-in-Ok-Run.ensures.silent)
 
-pub returns-in-Ok-clause-cuts : goal.returns-in-Ok-clause-cuts
-returns-in-Ok-clause-cuts g c = λ h run script tells plain reserve.
-    let same : h ≡ c.in-Ok.g = one_geometry _ _ _ _ _ _ _ h c.in-Ok.g run c.in-Ok.ensures.run in
+pub returns-in-Ok-Run-clause-cuts : goal.returns-in-Ok-Run-clause-cuts
+returns-in-Ok-Run-clause-cuts g c = λ h run script tells plain reserve.
+    let planned = rw c.in-Ok-Run.field-0-is at c.in-Ok-Run.ensures.planned in
+    let same : h ≡ c.in-Ok-Run.g = one_geometry _ _ _ _ _ _ _ h c.in-Ok-Run.g run planned in
     let plain_here = subst (λ (k : Geometry). IsPlain k (g.B.NorState.bytes c.args.board.now)) same plain in
     let reserve_here = subst (λ (k : Geometry). HasReserve k (g.B.NorState.bytes c.args.board.now)) same reserve in
-    rw same (run_cuts _ (g.S.Source.left c.args.script.now) (g.S.Source.left c.run_on-ending.new.script) c.run_on-ending.result c.conclude-in-Ok.result plain_here reserve_here (c.run_on-ending.ensures.cuts script tells plain_here reserve_here) (c.run_on-ending.ensures.ends script tells) c.conclude-in-Ok.ensures.ends c.conclude-in-Ok.ensures.leaves c.conclude-in-Ok.ensures.silent)
+    rw same (run_cuts _ (g.S.Source.left c.args.script.now) (g.S.Source.left c.run_on-ending.new.script) c.run_on-ending.result c.conclude-in-Ok-Run.result plain_here reserve_here (c.run_on-ending.ensures.cuts script tells plain_here reserve_here) (c.run_on-ending.ensures.ends script tells) c.conclude-in-Ok-Run.ensures.ends c.conclude-in-Ok-Run.ensures.leaves c.conclude-in-Ok-Run.ensures.silent)
 
-pub returns-in-Ok-clause-exact : goal.returns-in-Ok-clause-exact
-returns-in-Ok-clause-exact g c = λ h run script tells no_fault.
-    let fault : c.conclude-in-Ok.result ≡ 7 → Rose (g.B.NorState.faults c.args.board.now) (g.B.NorState.faults c.conclude-in-Ok.new.board) = search rules in
-    rw (one_geometry _ _ _ _ _ _ _ h c.in-Ok.g run c.in-Ok.ensures.run) (exact_of fault no_fault (outcome_of _ (g.S.Source.left c.args.script.now) (g.S.Source.left c.run_on-ending.new.script) c.run_on-ending.result c.conclude-in-Ok.result c.run_on-ending.ensures.board_faults (c.run_on-ending.ensures.ends script tells) c.conclude-in-Ok.ensures.ends c.conclude-in-Ok.ensures.says c.conclude-in-Ok.ensures.whole c.conclude-in-Ok.ensures.silent))
+pub returns-in-Ok-Run-clause-exact : goal.returns-in-Ok-Run-clause-exact
+returns-in-Ok-Run-clause-exact g c = λ h run script tells no_fault.
+    let planned = rw c.in-Ok-Run.field-0-is at c.in-Ok-Run.ensures.planned in
+    let fault : c.conclude-in-Ok-Run.result ≡ 7 → Rose (g.B.NorState.faults c.args.board.now) (g.B.NorState.faults c.conclude-in-Ok-Run.new.board) = search rules in
+    rw (one_geometry _ _ _ _ _ _ _ h c.in-Ok-Run.g run planned) (exact_of fault no_fault (outcome_of _ (g.S.Source.left c.args.script.now) (g.S.Source.left c.run_on-ending.new.script) c.run_on-ending.result c.conclude-in-Ok-Run.result c.run_on-ending.ensures.board_faults (c.run_on-ending.ensures.ends script tells) c.conclude-in-Ok-Run.ensures.ends c.conclude-in-Ok-Run.ensures.says c.conclude-in-Ok-Run.ensures.whole c.conclude-in-Ok-Run.ensures.silent))
 
-pub returns-in-Ok-clause-complete : goal.returns-in-Ok-clause-complete
-returns-in-Ok-clause-complete g c = λ h run script tells no_fault no_script.
-    let fault : c.conclude-in-Ok.result ≡ 7 → Rose (g.B.NorState.faults c.args.board.now) (g.B.NorState.faults c.conclude-in-Ok.new.board) = search rules in
-    let read : c.conclude-in-Ok.result ≢ 8 = search rules in
-    rw (one_geometry _ _ _ _ _ _ _ h c.in-Ok.g run c.in-Ok.ensures.run) (complete_of fault no_fault read (outcome_of _ (g.S.Source.left c.args.script.now) (g.S.Source.left c.run_on-ending.new.script) c.run_on-ending.result c.conclude-in-Ok.result c.run_on-ending.ensures.board_faults (c.run_on-ending.ensures.ends script tells) c.conclude-in-Ok.ensures.ends c.conclude-in-Ok.ensures.says c.conclude-in-Ok.ensures.whole c.conclude-in-Ok.ensures.silent))
+pub returns-in-Ok-Run-clause-complete : goal.returns-in-Ok-Run-clause-complete
+returns-in-Ok-Run-clause-complete g c = λ h run script tells no_fault no_script.
+    let planned = rw c.in-Ok-Run.field-0-is at c.in-Ok-Run.ensures.planned in
+    let fault : c.conclude-in-Ok-Run.result ≡ 7 → Rose (g.B.NorState.faults c.args.board.now) (g.B.NorState.faults c.conclude-in-Ok-Run.new.board) = search rules in
+    let read : c.conclude-in-Ok-Run.result ≢ 8 = search rules in
+    rw (one_geometry _ _ _ _ _ _ _ h c.in-Ok-Run.g run planned) (complete_of fault no_fault read (outcome_of _ (g.S.Source.left c.args.script.now) (g.S.Source.left c.run_on-ending.new.script) c.run_on-ending.result c.conclude-in-Ok-Run.result c.run_on-ending.ensures.board_faults (c.run_on-ending.ensures.ends script tells) c.conclude-in-Ok-Run.ensures.ends c.conclude-in-Ok-Run.ensures.says c.conclude-in-Ok-Run.ensures.whole c.conclude-in-Ok-Run.ensures.silent))
 
-pub returns-in-Ok-clause-whole : goal.returns-in-Ok-clause-whole
-returns-in-Ok-clause-whole g c = λ h run script tells is.
-    rw (one_geometry _ _ _ _ _ _ _ h c.in-Ok.g run c.in-Ok.ensures.run) (ran_whole is (outcome_of _ (g.S.Source.left c.args.script.now) (g.S.Source.left c.run_on-ending.new.script) c.run_on-ending.result c.conclude-in-Ok.result c.run_on-ending.ensures.board_faults (c.run_on-ending.ensures.ends script tells) c.conclude-in-Ok.ensures.ends c.conclude-in-Ok.ensures.says c.conclude-in-Ok.ensures.whole c.conclude-in-Ok.ensures.silent))
+pub returns-in-Ok-Run-clause-whole : goal.returns-in-Ok-Run-clause-whole
+returns-in-Ok-Run-clause-whole g c = λ h run script tells is.
+    let planned = rw c.in-Ok-Run.field-0-is at c.in-Ok-Run.ensures.planned in
+    rw (one_geometry _ _ _ _ _ _ _ h c.in-Ok-Run.g run planned) (ran_whole is (outcome_of _ (g.S.Source.left c.args.script.now) (g.S.Source.left c.run_on-ending.new.script) c.run_on-ending.result c.conclude-in-Ok-Run.result c.run_on-ending.ensures.board_faults (c.run_on-ending.ensures.ends script tells) c.conclude-in-Ok-Run.ensures.ends c.conclude-in-Ok-Run.ensures.says c.conclude-in-Ok-Run.ensures.whole c.conclude-in-Ok-Run.ensures.silent))
 
-pub returns-in-Ok-clause-runs : goal.returns-in-Ok-clause-runs
-returns-in-Ok-clause-runs g c = λ accepted. (c.in-Ok.g, record { shape = c.in-Ok.ensures.run.shape; form_is = c.in-Ok.ensures.run.form_is; numbers = c.in-Ok.ensures.run.numbers; accepted = accepted })
+pub returns-in-Ok-Run-clause-runs : goal.returns-in-Ok-Run-clause-runs
+returns-in-Ok-Run-clause-runs g c = λ accepted.
+    let planned = rw c.in-Ok-Run.field-0-is at c.in-Ok-Run.ensures.planned in
+    (c.in-Ok-Run.g, inl (record { shape = planned.shape; form_is = planned.form_is; numbers = planned.numbers; accepted = accepted }))
+
+pub returns-in-Ok-Run-clause-list_keeps : goal.returns-in-Ok-Run-clause-list_keeps
+returns-in-Ok-Run-clause-list_keeps g c = λ h lists.
+    let planned = rw c.in-Ok-Run.field-0-is at c.in-Ok-Run.ensures.planned in
+    absurd (apart _ _ _ _ _ _ _ c.in-Ok-Run.g h planned lists)
+
+pub returns-in-Ok-Run-clause-listed : goal.returns-in-Ok-Run-clause-listed
+returns-in-Ok-Run-clause-listed g c = λ h lists tells.
+    let planned = rw c.in-Ok-Run.field-0-is at c.in-Ok-Run.ensures.planned in
+    absurd (apart _ _ _ _ _ _ _ c.in-Ok-Run.g h planned lists)
+
+pub returns-in-Ok-Run-clause-list_cuts : goal.returns-in-Ok-Run-clause-list_cuts
+returns-in-Ok-Run-clause-list_cuts g c = λ h lists.
+    let planned = rw c.in-Ok-Run.field-0-is at c.in-Ok-Run.ensures.planned in
+    absurd (apart _ _ _ _ _ _ _ c.in-Ok-Run.g h planned lists)
+
+pub returns-in-Ok-Run-clause-list_exact : goal.returns-in-Ok-Run-clause-list_exact
+returns-in-Ok-Run-clause-list_exact g c = λ h lists tells no_fault.
+    let planned = rw c.in-Ok-Run.field-0-is at c.in-Ok-Run.ensures.planned in
+    absurd (apart _ _ _ _ _ _ _ c.in-Ok-Run.g h planned lists)
+
+pub returns-in-Ok-List-clause-outcome : goal.returns-in-Ok-List-clause-outcome
+returns-in-Ok-List-clause-outcome g c = λ h run script tells.
+    let planned = rw c.in-Ok-List.field-0-is at c.in-Ok-List.ensures.planned in
+    absurd (apart _ _ _ _ _ _ _ h c.in-Ok-List.g run planned)
+
+pub returns-in-Ok-List-clause-cuts : goal.returns-in-Ok-List-clause-cuts
+returns-in-Ok-List-clause-cuts g c = λ h run script tells plain reserve.
+    let planned = rw c.in-Ok-List.field-0-is at c.in-Ok-List.ensures.planned in
+    absurd (apart _ _ _ _ _ _ _ h c.in-Ok-List.g run planned)
+
+pub returns-in-Ok-List-clause-exact : goal.returns-in-Ok-List-clause-exact
+returns-in-Ok-List-clause-exact g c = λ h run script tells no_fault.
+    let planned = rw c.in-Ok-List.field-0-is at c.in-Ok-List.ensures.planned in
+    absurd (apart _ _ _ _ _ _ _ h c.in-Ok-List.g run planned)
+
+pub returns-in-Ok-List-clause-complete : goal.returns-in-Ok-List-clause-complete
+returns-in-Ok-List-clause-complete g c = λ h run script tells no_fault no_script.
+    let planned = rw c.in-Ok-List.field-0-is at c.in-Ok-List.ensures.planned in
+    absurd (apart _ _ _ _ _ _ _ h c.in-Ok-List.g run planned)
+
+pub returns-in-Ok-List-clause-whole : goal.returns-in-Ok-List-clause-whole
+returns-in-Ok-List-clause-whole g c = λ h run script tells is.
+    let planned = rw c.in-Ok-List.field-0-is at c.in-Ok-List.ensures.planned in
+    absurd (apart _ _ _ _ _ _ _ h c.in-Ok-List.g run planned)
+
+pub returns-in-Ok-List-clause-runs : goal.returns-in-Ok-List-clause-runs
+returns-in-Ok-List-clause-runs g c = λ accepted.
+    let planned = rw c.in-Ok-List.field-0-is at c.in-Ok-List.ensures.planned in
+    (c.in-Ok-List.g, inr (record { shape = planned.shape; form_is = planned.form_is; numbers = planned.numbers; accepted = accepted }))
+
+pub returns-in-Ok-List-clause-list_keeps : goal.returns-in-Ok-List-clause-list_keeps
+returns-in-Ok-List-clause-list_keeps g c = λ h lists. list_kept c.list_on-ending.result c.list_on-ending.ensures.lists c.conclude-in-Ok-List.ensures.says
+
+pub returns-in-Ok-List-clause-listed : goal.returns-in-Ok-List-clause-listed
+returns-in-Ok-List-clause-listed g c = λ h lists tells.
+    let planned = rw c.in-Ok-List.field-0-is at c.in-Ok-List.ensures.planned in
+    rw (one_listing _ _ _ _ _ _ _ h c.in-Ok-List.g lists planned) (listed_of c.list_on-ending.result c.conclude-in-Ok-List.result c.list_on-ending.ensures.lists c.conclude-in-Ok-List.ensures.ends c.conclude-in-Ok-List.ensures.says c.conclude-in-Ok-List.ensures.whole c.conclude-in-Ok-List.ensures.silent tells)
+
+pub returns-in-Ok-List-clause-list_cuts : goal.returns-in-Ok-List-clause-list_cuts
+returns-in-Ok-List-clause-list_cuts g c = λ h lists.
+    let planned = rw c.in-Ok-List.field-0-is at c.in-Ok-List.ensures.planned in
+    rw (one_listing _ _ _ _ _ _ _ h c.in-Ok-List.g lists planned) (list_cut c.list_on-ending.result c.list_on-ending.ensures.lists c.conclude-in-Ok-List.ensures.leaves)
+
+pub returns-in-Ok-List-clause-list_exact : goal.returns-in-Ok-List-clause-list_exact
+returns-in-Ok-List-clause-list_exact g c = λ h lists tells no_fault.
+    let planned = rw c.in-Ok-List.field-0-is at c.in-Ok-List.ensures.planned in
+    let fault : c.conclude-in-Ok-List.result ≡ 7 → Rose (g.B.NorState.faults c.args.board.now) (g.B.NorState.faults c.conclude-in-Ok-List.new.board) = search rules in
+    rw (one_listing _ _ _ _ _ _ _ h c.in-Ok-List.g lists planned) (list_exact fault no_fault (listed_of c.list_on-ending.result c.conclude-in-Ok-List.result c.list_on-ending.ensures.lists c.conclude-in-Ok-List.ensures.ends c.conclude-in-Ok-List.ensures.says c.conclude-in-Ok-List.ensures.whole c.conclude-in-Ok-List.ensures.silent tells))
+
+pub returns-in-Ok-List-clause-list_reads : goal.returns-in-Ok-List-clause-list_reads
+returns-in-Ok-List-clause-list_reads g c = λ h lists.
+    let planned = rw c.in-Ok-List.field-0-is at c.in-Ok-List.ensures.planned in
+    rw (one_listing _ _ _ _ _ _ _ h c.in-Ok-List.g lists planned) (reads_said _ c.list_on-ending.ensures.few c.conclude-in-Ok-List.ensures.says c.conclude-in-Ok-List.ensures.leaves.faults)
+
+pub returns-in-Ok-Run-clause-list_reads : goal.returns-in-Ok-Run-clause-list_reads
+returns-in-Ok-Run-clause-list_reads g c = λ h lists.
+    let planned = rw c.in-Ok-Run.field-0-is at c.in-Ok-Run.ensures.planned in
+    absurd (apart _ _ _ _ _ _ _ c.in-Ok-Run.g h planned lists)

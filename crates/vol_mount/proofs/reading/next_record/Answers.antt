@@ -1,10 +1,10 @@
-use Rattle.std.proofs.Common.{◌≡◌, Some, sym, ◌∙◌, ap}
+use Rattle.std.proofs.Common.{Some, sym, ◌∙◌, ap}
 use Rattle.std.specs.Option.{option_map}
 use Rattle.std.proofs.lemmas.Result.{IfOk-weaker}
 use Rattle.table_model.specs.Files.{stat_of}
 use Rattle.flash_view.specs.Listing.{NextFile}
 use Rattle.vol_mount.proofs.Listed.{file_of_head}
-use Rattle.vol_mount.proofs.reading.next_stat.Goals as goal
+use Rattle.vol_mount.proofs.reading.next_record.Goals as goal
 
 pub returns-in-Some-clause-told : goal.returns-in-Some-clause-told
 returns-in-Some-clause-told g c = λ tells.

@@ -1,0 +1,4 @@
+pub mod Ascending
+pub mod Speaking
+pub mod Walking
+pub mod Found

@@ -1,0 +1,59 @@
+ghost use Rattle.std.specs.Prelude.{◌≡◌, ◌≢◌, ◌*◌, ◌≤◌, length};
+ghost use Rattle.geometry.specs.Numbers.{page_count, work_need, cache_need, check_need};
+ghost use Rattle.nor_core.specs.Count.{Rose};
+ghost use Rattle.flash_view.specs.Same.{IsSameView};
+ghost use Rattle.tool_core.specs.Fits.{HoldsVolume};
+ghost use Rattle.tool_core.specs.Later.{IsLater};
+ghost use Rattle.tool_core.specs.Listing.{ListsTo, ReadsOnce};
+
+use crate::ending::Ending;
+use crate::run::mount_ending;
+use flash_view::View;
+use geometry::Geometry;
+use image_tool::{ToolErr, list};
+use nor_core::{Board, Nor, NorState};
+use vol_mount::mount;
+
+// Mounts a volume, and says its list.
+fn list_view<B: Board>(v: &mut View<'_, B>, marks: &mut [u8], line: &mut [u8]) -> Ending
+    requires room { page_count v.old.geometry ≤ length marks.old }
+    requires line { 12288 ≤ length line.old }
+    ensures later { IsLater result }
+    ensures no_script { result ≢ Ending.SourceFault }
+    ensures cause { result ≡ Ending.BoardFault → Rose (B.faults v.old.nor.now) (B.faults v.new.nor.now) }
+    ensures same { IsSameView v.old v.new }
+    ensures lists { ListsTo B.NorState v.old.geometry v.old.nor.now v.new.nor.now result }
+{
+    if let Err(why) = mount(v) {
+        return mount_ending(why);
+    }
+    match list(v, marks, line) {
+        Ok(0) => Ending::Done,
+        Ok(count) => Ending::Damaged(count),
+        Err(ToolErr::BoardFault) => Ending::BoardFault,
+    }
+}
+
+/// Mounts the volume of a board, and says its list.
+pub(crate) fn list_volume<B: Board>(
+    g: Geometry,
+    board: &mut B,
+    work: &mut [u8],
+    cache: &mut [u8],
+    marks: &mut [u8],
+    line: &mut [u8],
+) -> Ending
+    requires fits { HoldsVolume g (B.unit board.old) (B.size board.old) }
+    requires work { work_need g ≤ length work.old }
+    requires cache { cache_need g ≤ length cache.old }
+    requires check { check_need g ≤ length marks.old }
+    requires line { 12288 ≤ length line.old }
+    ensures later { IsLater result }
+    ensures no_script { result ≢ Ending.SourceFault }
+    ensures cause { result ≡ Ending.BoardFault → Rose (B.faults board.old) (B.faults board.new) }
+    ensures lists { ListsTo B.NorState g board.old board.new result }
+    ensures few { ReadsOnce B.NorState g (length cache.old) board.old board.new }
+{
+    let mut v = View::new(g, board, work, cache);
+    list_view(&mut v, marks, line)
+}
