@@ -1,3 +1,4 @@
 pub mod Units
 mod Counting
 pub mod Listed
+pub mod Same

@@ -1,4 +1,4 @@
-//! Calls over a view of a reader's device, which is made for the call.
+//! Calls over a view of a reader's device, with the copies of its pages that are there.
 ghost use Rattle.std.specs.Prelude.{◌≡◌, ◌*◌, ◌<◌, ◌≤◌, length, OnOk, OnErr, IfOk, IfErr, IfSome, IsErrOf, Err};
 ghost use Rattle.std.specs.Option.{option_map};
 ghost use Rattle.geometry.specs.Numbers.{page_count, work_need, cache_need};
@@ -8,6 +8,7 @@ ghost use Rattle.table_model.specs.Table.{file_above};
 ghost use Rattle.table_model.specs.Files.{stat_of};
 ghost use Rattle.image_model.specs.Kinds.{spoiled_blocks};
 ghost use Rattle.image_model.specs.Tables.{table_of};
+ghost use Rattle.page_cache.specs.Kept.{IsKept, FewReads};
 ghost use Rattle.flash_view.specs.Marks.{IsMarked};
 ghost use Rattle.flash_view.specs.Listing.{damaged_above};
 ghost use Rattle.vol_mount.specs.Mounts.{IsLate, CountsSpoiled};
@@ -32,13 +33,22 @@ pub(crate) fn mount_on<N: Nor>(
     requires fits { g.blocks * g.block ≤ N.size nor.old }
     requires work { work_need g ≤ length work.old }
     requires cache { cache_need g ≤ length cache.old }
+    requires kept { IsKept N.NorState g nor.old cache.old }
     ensures late { IfErr result IsLate }
     ensures cause { result ≡ Err MountErr.DeviceFault → Rose (N.faults nor.old) (N.faults nor.new) }
     ensures looks { OnlyReads N.NorState nor.old nor.new }
+    ensures kept { IsKept N.NorState g nor.new cache.new }
+    ensures few { FewReads N.NorState g nor.old cache.old nor.new cache.new }
     ensures told { N.tells nor.old → OnOk result (spoiled_blocks g (N.bytes nor.old) ≤ 1) }
     ensures spoiled { N.tells nor.old → IfErr result (CountsSpoiled g (N.bytes nor.old)) }
 {
-    let mut v = View::new(g, nor, work, cache);
+    let mut v = View {
+        geometry: g,
+        nor,
+        work,
+        cache,
+        wrote: false,
+    };
     mount(&mut v)
 }
 
@@ -54,12 +64,21 @@ pub(crate) fn survey_on<N: Nor>(
     requires fits { g.blocks * g.block ≤ N.size nor.old }
     requires work { work_need g ≤ length work.old }
     requires cache { cache_need g ≤ length cache.old }
+    requires kept { IsKept N.NorState g nor.old cache.old }
     requires room { page_count g ≤ length marks.old }
     ensures cause { OnErr result (Rose (N.faults nor.old) (N.faults nor.new)) }
     ensures looks { OnlyReads N.NorState nor.old nor.new }
+    ensures kept { IsKept N.NorState g nor.new cache.new }
+    ensures few { FewReads N.NorState g nor.old cache.old nor.new cache.new }
     ensures told { N.tells nor.old → OnOk result (IsMarked g (N.bytes nor.old) marks.new) }
 {
-    let mut v = View::new(g, nor, work, cache);
+    let mut v = View {
+        geometry: g,
+        nor,
+        work,
+        cache,
+        wrote: false,
+    };
     v.survey(marks)
 }
 
@@ -76,14 +95,23 @@ pub(crate) fn next_on<N: Nor>(
     requires fits { g.blocks * g.block ≤ N.size nor.old }
     requires work { work_need g ≤ length work.old }
     requires cache { cache_need g ≤ length cache.old }
+    requires kept { IsKept N.NorState g nor.old cache.old }
     requires room { page_count g ≤ length marks.now }
     requires marked { N.tells nor.old → IsMarked g (N.bytes nor.old) marks.now }
     ensures cause { OnErr result (Rose (N.faults nor.old) (N.faults nor.new)) }
     ensures looks { OnlyReads N.NorState nor.old nor.new }
+    ensures kept { IsKept N.NorState g nor.new cache.new }
+    ensures few { FewReads N.NorState g nor.old cache.old nor.new cache.new }
     ensures above { IfOk result (λ found. IfSome found (λ stat. after < stat.id)) }
     ensures told { N.tells nor.old → IfOk result (λ found. found ≡ option_map stat_of (file_above after (table_of g (N.bytes nor.old)))) }
 {
-    let mut v = View::new(g, nor, work, cache);
+    let mut v = View {
+        geometry: g,
+        nor,
+        work,
+        cache,
+        wrote: false,
+    };
     next_record(&mut v, marks, after)
 }
 
@@ -100,14 +128,23 @@ pub(crate) fn damaged_on<N: Nor>(
     requires fits { g.blocks * g.block ≤ N.size nor.old }
     requires work { work_need g ≤ length work.old }
     requires cache { cache_need g ≤ length cache.old }
+    requires kept { IsKept N.NorState g nor.old cache.old }
     requires room { page_count g ≤ length marks.now }
     requires marked { N.tells nor.old → IsMarked g (N.bytes nor.old) marks.now }
     ensures cause { OnErr result (Rose (N.faults nor.old) (N.faults nor.new)) }
     ensures looks { OnlyReads N.NorState nor.old nor.new }
+    ensures kept { IsKept N.NorState g nor.new cache.new }
+    ensures few { FewReads N.NorState g nor.old cache.old nor.new cache.new }
     ensures above { IfOk result (λ found. IfSome found (λ damaged. after < damaged.0)) }
     ensures told { N.tells nor.old → IfOk result (λ found. found ≡ damaged_above g (N.bytes nor.old) after) }
 {
-    let mut v = View::new(g, nor, work, cache);
+    let mut v = View {
+        geometry: g,
+        nor,
+        work,
+        cache,
+        wrote: false,
+    };
     v.next_damaged(marks, after)
 }
 
@@ -126,13 +163,22 @@ pub(crate) fn read_on<N: Nor>(
     requires fits { g.blocks * g.block ≤ N.size nor.old }
     requires work { work_need g ≤ length work.old }
     requires cache { cache_need g ≤ length cache.old }
+    requires kept { IsKept N.NorState g nor.old cache.old }
     requires room { page_count g ≤ length marks.now }
     requires marked { N.tells nor.old → IsMarked g (N.bytes nor.old) marks.now }
     ensures cause { IsErrOf result FsErr.DeviceFault → Rose (N.faults nor.old) (N.faults nor.new) }
     ensures only { IfErr result (IsReadErr id) }
     ensures looks { OnlyReads N.NorState nor.old nor.new }
+    ensures kept { IsKept N.NorState g nor.new cache.new }
+    ensures few { FewReads N.NorState g nor.old cache.old nor.new cache.new }
     ensures told { N.tells nor.old → ReadAnswers g (N.bytes nor.old) id at into.old into.new result }
 {
-    let mut v = View::new(g, nor, work, cache);
+    let mut v = View {
+        geometry: g,
+        nor,
+        work,
+        cache,
+        wrote: false,
+    };
     read_file(&mut v, marks, id, at, into)
 }

@@ -1,5 +1,6 @@
 ghost use Rattle.std.specs.Prelude.{◌≡◌, ◌*◌, ◌≤◌, length, true};
 ghost use Rattle.geometry.specs.Numbers.{page_count, work_need, cache_need};
+ghost use Rattle.page_cache.specs.Kept.{IsKept};
 ghost use Rattle.flash_view.specs.Marks.{IsMarked};
 
 use crate::calls::{damaged_on, mount_on, next_on, read_on, survey_on};
@@ -8,11 +9,11 @@ use fd_table::FdSlot;
 use geometry::Geometry;
 use image_model::Damage;
 use nor_core::{Board, Failed, Nor, NorState};
+use page_cache::Cached;
 use table_model::{FsErr, Stat};
 
 /// A volume that is read and never written, in lent memory: its image may be any that mounts, damaged ones too. The
-/// first call that asks for files surveys the volume, and later ones go by what it found. Copies of pages are made anew in
-/// each call. No call takes memory.
+/// first call that asks for files surveys the volume, and later ones go by what it found. No call takes memory.
 #[derive(Drop)]
 pub struct Reader<'b, N: Nor> {
     /// The numbers of the volume.
@@ -34,6 +35,7 @@ pub struct Reader<'b, N: Nor> {
     pub ghost work_fits: { work_need geometry ≤ length work.now },
     pub ghost cache_fits: { cache_need geometry ≤ length cache.now },
     pub ghost check_fits: { page_count geometry ≤ length check.now },
+    pub ghost kept: { IsKept N.NorState geometry nor.now cache.now },
     pub ghost marked: { known ≡ true → N.tells nor.now → IsMarked geometry (N.bytes nor.now) check.now },
 }
 
@@ -47,6 +49,7 @@ impl<'b, N: Nor> Reader<'b, N> {
     ghost use Rattle.table_model.specs.Files.{stat_of};
     ghost use Rattle.image_model.specs.Kinds.{spoiled_blocks};
     ghost use Rattle.image_model.specs.Tables.{table_of};
+    ghost use Rattle.page_cache.specs.Frames.{held};
     ghost use Rattle.flash_view.specs.Listing.{damaged_above};
     ghost use Rattle.vol_mount.specs.Mounts.{IsLate, CountsSpoiled};
     ghost use Rattle.vol_mount.specs.Reads.{ReadAnswers, IsReadErr};
@@ -66,6 +69,8 @@ impl<'b, N: Nor> Reader<'b, N> {
         ensures cache_name { result.cache.ghost_name ≡ lent.entry.cache.ghost_name }
         ensures slots_name { result.slots.ghost_name ≡ lent.entry.slots.ghost_name }
         ensures check_name { result.check.ghost_name ≡ lent.entry.check.ghost_name }
+        ensures cache_size { length result.cache.now ≡ length lent.entry.cache.now }
+        ensures empty { held g result.cache.now ≡ 0 }
     {
         let Lent {
             work,
@@ -73,6 +78,7 @@ impl<'b, N: Nor> Reader<'b, N> {
             cache,
             check,
         } = lent;
+        let (nor, cache) = Cached::new(g, nor, cache).give_back();
         Reader {
             geometry: g,
             nor,
@@ -116,8 +122,8 @@ impl<'b, N: Nor> Reader<'b, N> {
     pub fn next(&mut self, after: u16) -> Result<Option<Stat>, FsErr>
         ensures cause { OnErr result (Rose (N.faults self.old.nor.now) (N.faults self.new.nor.now)) }
         ensures only { IfErr result (λ why. why ≡ FsErr.DeviceFault) }
-        ensures looks { OnlyReads N.NorState self.old.nor.now self.new.nor.now }
         ensures above { IfOk result (λ found. IfSome found (λ stat. after < stat.id)) }
+        ensures looks { OnlyReads N.NorState self.old.nor.now self.new.nor.now }
         ensures told { N.tells self.old.nor.now → IfOk result (λ found. found ≡ option_map stat_of (file_above after (table_of self.old.geometry (N.bytes self.old.nor.now)))) }
         ensures same { IsSameReader self.old self.new }
     {
@@ -138,8 +144,8 @@ impl<'b, N: Nor> Reader<'b, N> {
     pub fn next_damaged(&mut self, after: u16) -> Result<Option<(u16, Damage)>, FsErr>
         ensures cause { OnErr result (Rose (N.faults self.old.nor.now) (N.faults self.new.nor.now)) }
         ensures only { IfErr result (λ why. why ≡ FsErr.DeviceFault) }
-        ensures looks { OnlyReads N.NorState self.old.nor.now self.new.nor.now }
         ensures above { IfOk result (λ found. IfSome found (λ damaged. after < damaged.0)) }
+        ensures looks { OnlyReads N.NorState self.old.nor.now self.new.nor.now }
         ensures told { N.tells self.old.nor.now → IfOk result (λ found. found ≡ damaged_above self.old.geometry (N.bytes self.old.nor.now) after) }
         ensures same { IsSameReader self.old self.new }
     {

@@ -1,0 +1,19 @@
+use Rattle.std.proofs.Common.{arith, ◌∙◌}
+use Rattle.vol_mount.proofs.Same.{few_more}
+use Rattle.vol_mount.proofs.reader.Reader.read_at.Goals as goal
+
+pub returns-in-Ok-clause-same : goal.returns-in-Ok-clause-same
+returns-in-Ok-clause-same g c =
+    let first = c.in-Ok.ensures.same in
+    let call = c.read_on.ensures in
+    record {
+      geometry = first.geometry;
+      nor_name = first.nor_name;
+      work_name = first.work_name;
+      cache_name = first.cache_name;
+      slots_name = first.slots_name;
+      check_name = first.check_name;
+      cache_size = c.read_on.auto.cache ∙ first.cache_size;
+      faults = omega (arith, first.faults, call.looks.faults);
+      few = few_more c.args.self.now c.survey.new.self c.read_on.new.nor c.read_on.new.cache first call.looks call.few;
+    }
