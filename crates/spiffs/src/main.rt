@@ -20,8 +20,11 @@ const WORK: usize = 1_048_576;
 /// Descriptors that are lent.
 const SLOTS: usize = 16;
 
-/// Bytes of cache that are lent.
-const CACHE: usize = 262_144;
+/// The least bytes of cache that are lent.
+const LEAST_CACHE: usize = 262_144;
+
+/// The most bytes of cache that are lent.
+const MOST_CACHE: usize = 67_108_864;
 
 /// Bytes of check that are lent.
 const CHECK: usize = 131_072;
@@ -39,12 +42,19 @@ struct Memory {
     line: Vec<u8>,
 }
 
+// Bytes of cache for a volume of that many bytes: a frame for each page, within the limits. A frame has eight bytes
+// more than a page, which has at least 128.
+fn cache_for(volume: u32) -> usize {
+    let frames = volume as usize + volume as usize / 16;
+    frames.max(LEAST_CACHE).min(MOST_CACHE)
+}
+
 impl Memory {
-    fn new(alloc: Global) -> Result<Memory, AllocError> {
+    fn new(alloc: Global, cache: usize) -> Result<Memory, AllocError> {
         Ok(Memory {
             work: vec![in alloc; 0u8; WORK]?,
             slots: vec![in alloc; FdSlot::empty(); SLOTS]?,
-            cache: vec![in alloc; 0u8; CACHE]?,
+            cache: vec![in alloc; 0u8; cache]?,
             check: vec![in alloc; 0u8; CHECK]?,
             line: vec![in alloc; 0u8; LINE]?,
         })
@@ -115,7 +125,7 @@ fn start(rt: &HostRuntime) -> u8 {
     if words.len() == 1 && words[0].as_str() == "--version" {
         return tell(rt, VERSION, 0);
     }
-    match Memory::new(rt.alloc()) {
+    match Memory::new(rt.alloc(), cache_for(chip_size_of(&words, 1))) {
         Ok(mut memory) => run(rt, &words, &mut memory),
         Err(_) => tell(rt, "! memory\n", 15),
     }

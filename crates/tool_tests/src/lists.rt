@@ -4,7 +4,7 @@ use crate::images::{board_of, empty, put, put_data, put_header, put_hello};
 use geometry::{Geometry, MagicKind};
 use image_model::Damage;
 use image_plain::{damaged_of, holds_volume, spoiled_blocks, table_of};
-use nor_core::{CallKind, MemSource, draw};
+use nor_core::{CallKind, MemBoard, MemSource, draw};
 use std::alloc::Global;
 use std::process::Abort;
 use std::test::Fail;
@@ -184,6 +184,16 @@ fn what_is_no_volume_is_not_listed(rt: HostRuntime) -> Result<(), Fail> {
         2
     );
     assert!(rt; board.said() == b"! geometry 5\n".as_slice());
+    Ok(())
+}
+
+#[test]
+fn blocks_with_two_lookup_pages_are_no_refused_geometry(rt: HostRuntime) -> Result<(), Fail> {
+    let image = vec![in rt.alloc(); 0xFFu8; 262144]?;
+    let mut board = MemBoard::new(rt.alloc(), image, 65536)?;
+    let words = "list 256 65536 4 0 len chip";
+    assert_eq!(rt; run(rt.alloc(), words, &mut board, b"")?, 3);
+    assert!(rt; board.said() == b"! not a volume, 4 blocks without magic\n".as_slice());
     Ok(())
 }
 
