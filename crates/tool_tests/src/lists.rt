@@ -6,7 +6,6 @@ use image_model::Damage;
 use image_plain::{damaged_of, holds_volume, spoiled_blocks, table_of};
 use nor_core::{CallKind, MemBoard, MemSource, draw};
 use std::alloc::Global;
-use std::process::Abort;
 use std::test::Fail;
 
 const LIST: &str = "list 256 4096 16 0 len chip";
@@ -15,40 +14,45 @@ fn volume() -> Result<Geometry, Fail> {
     Ok(Geometry::new(256, 4096, 16, 4096, 0, MagicKind::Length)?)
 }
 
-// Lists an image, and checks the status, what was said, and that the image is as it was.
-fn check_list(
-    rt: &impl Abort,
+// Whether a listing of an image ends with that status, says that, and leaves the image as it was.
+fn lists_as(
     alloc: Global,
     words: &str,
     image: &[u8],
-    wanted: (u8, &str),
-) -> Result<(), Fail> {
+    status: u8,
+    said: &[u8],
+) -> Result<bool, Fail> {
     let mut board = board_of(alloc, image)?;
-    let status = run(alloc, words, &mut board, b"")?;
-    assert_eq!(rt; status, wanted.0, "for {}", wanted.1);
-    assert!(rt; board.said() == wanted.1.as_bytes(), "for {}", wanted.1);
-    assert!(rt; board.image() == image, "for {}", wanted.1);
-    Ok(())
+    let is = run(alloc, words, &mut board, b"")?;
+    Ok(is == status && same(board.said(), said) && same(board.image(), image))
+}
+
+// Whether bytes are the same.
+fn same(one: &[u8], other: &[u8]) -> bool {
+    one == other
 }
 
 #[test]
 fn a_listing_tells_each_file(rt: HostRuntime) -> Result<(), Fail> {
     let g = volume()?;
     let mut image = empty(rt.alloc(), &g)?;
-    check_list(&rt, rt.alloc(), LIST, &image, (0, ""))?;
+    assert!(rt; lists_as(rt.alloc(), LIST, &image, 0, "".as_bytes())?);
     put_hello(&mut image);
-    check_list(&rt, rt.alloc(), LIST, &image, (0, "1 1 5 a\n"))?;
+    assert!(rt; lists_as(rt.alloc(), LIST, &image, 0, "1 1 5 a\n".as_bytes())?);
     put_header(&mut image, 2, 9, 0xFFFF_FFFF, b"a b");
     put_header(&mut image, 3, 4, 7, b"c");
     put_data(&mut image, 1, 4, 0, b"1234567");
     put(&mut image, 256 * 4 + 45, &[0x12, 0]);
-    check_list(
-        &rt,
-        rt.alloc(),
-        LIST,
-        &image,
-        (0, "1 1 5 a\n4 1 7 c\n9 1 0 a%20b\n"),
-    )
+    assert!(rt;
+        lists_as(
+            rt.alloc(),
+            LIST,
+            &image,
+            0,
+            "1 1 5 a\n4 1 7 c\n9 1 0 a%20b\n".as_bytes()
+        )?
+    );
+    Ok(())
 }
 
 #[test]
@@ -67,13 +71,16 @@ fn files_of_both_kinds_of_pages_in_one_block_are_listed(rt: HostRuntime) -> Resu
     put(&mut image, 301, &[1, 2, 3, 4, 2, 0]);
     put(&mut image, 512, &[1, 0, 0, 0, 0xFC]);
     put(&mut image, 517, b"hello");
-    check_list(
-        &rt,
-        rt.alloc(),
-        "list 256 4096 16 4 len chip",
-        &image,
-        (0, "1 1 5 /index.html\n"),
-    )
+    assert!(rt;
+        lists_as(
+            rt.alloc(),
+            "list 256 4096 16 4 len chip",
+            &image,
+            0,
+            "1 1 5 /index.html\n".as_bytes()
+        )?
+    );
+    Ok(())
 }
 
 #[test]
@@ -93,13 +100,16 @@ fn a_file_of_two_full_blocks_is_listed(rt: HostRuntime) -> Result<(), Fail> {
         );
         put(&mut image, usize::from(page) * 256, &[1, 0, span, 0, 0xFC]);
     }
-    check_list(
-        &rt,
-        rt.alloc(),
-        "list 256 4096 4 0 len chip",
-        &image,
-        (0, "1 1 7530 big\n"),
-    )
+    assert!(rt;
+        lists_as(
+            rt.alloc(),
+            "list 256 4096 4 0 len chip",
+            &image,
+            0,
+            "1 1 7530 big\n".as_bytes()
+        )?
+    );
+    Ok(())
 }
 
 #[test]
@@ -110,7 +120,7 @@ fn the_greatest_ids_are_listed(rt: HostRuntime) -> Result<(), Fail> {
         put_header(&mut image, 0, low, 0xFFFF_FFFF, b"a");
         put(&mut image, 1, &[0xFF]);
         put(&mut image, 257, &[0xFF]);
-        check_list(&rt, rt.alloc(), LIST, &image, (0, said))?;
+        assert!(rt; lists_as(rt.alloc(), LIST, &image, 0, said.as_bytes())?);
     }
     Ok(())
 }
@@ -131,7 +141,7 @@ fn damaged_files_are_told_with_their_cause(rt: HostRuntime) -> Result<(), Fail> 
         let mut image = empty(rt.alloc(), &g)?;
         put_hello(&mut image);
         put(&mut image, at, &bytes);
-        check_list(&rt, rt.alloc(), LIST, &image, (12, said))?;
+        assert!(rt; lists_as(rt.alloc(), LIST, &image, 12, said.as_bytes())?);
     }
     Ok(())
 }
@@ -142,33 +152,40 @@ fn names_count_once_and_have_an_end(rt: HostRuntime) -> Result<(), Fail> {
     let mut image = empty(rt.alloc(), &g)?;
     put_header(&mut image, 0, 1, 0xFFFF_FFFF, b"a");
     put_header(&mut image, 1, 2, 0xFFFF_FFFF, b"a");
-    check_list(
-        &rt,
-        rt.alloc(),
-        LIST,
-        &image,
-        (12, "1 1 0 a\ndamaged 2 same 1\n! damaged 1\n"),
-    )?;
+    assert!(rt;
+        lists_as(
+            rt.alloc(),
+            LIST,
+            &image,
+            12,
+            "1 1 0 a\ndamaged 2 same 1\n! damaged 1\n".as_bytes()
+        )?
+    );
     put(&mut image, 2, &[1]);
     put(&mut image, 512, &[1]);
     put(&mut image, 525, b"b");
-    check_list(&rt, rt.alloc(), LIST, &image, (0, "1 1 0 a\n"))?;
+    assert!(rt; lists_as(rt.alloc(), LIST, &image, 0, "1 1 0 a\n".as_bytes())?);
     put(&mut image, 269, &[b'a'; 32]);
-    check_list(
-        &rt,
-        rt.alloc(),
-        LIST,
-        &image,
-        (12, "damaged 1 name\n! damaged 1\n"),
-    )?;
+    assert!(rt;
+        lists_as(
+            rt.alloc(),
+            LIST,
+            &image,
+            12,
+            "damaged 1 name\n! damaged 1\n".as_bytes()
+        )?
+    );
     put_header(&mut image, 0, 1, 0xFFFF_FFFE, b"a");
-    check_list(
-        &rt,
-        rt.alloc(),
-        LIST,
-        &image,
-        (12, "damaged 1 span 0\n! damaged 1\n"),
-    )
+    assert!(rt;
+        lists_as(
+            rt.alloc(),
+            LIST,
+            &image,
+            12,
+            "damaged 1 span 0\n! damaged 1\n".as_bytes()
+        )?
+    );
+    Ok(())
 }
 
 #[test]
@@ -176,7 +193,7 @@ fn what_is_no_volume_is_not_listed(rt: HostRuntime) -> Result<(), Fail> {
     for byte in [0xFF, 0] {
         let image = vec![in rt.alloc(); byte; 65536]?;
         let said = "! not a volume, 16 blocks without magic\n";
-        check_list(&rt, rt.alloc(), LIST, &image, (3, said))?;
+        assert!(rt; lists_as(rt.alloc(), LIST, &image, 3, said.as_bytes())?);
     }
     let mut board = blank(rt.alloc())?;
     assert_eq!(rt;

@@ -35,7 +35,6 @@ fn a_reader_gives_the_table_and_the_damage(rt: HostRuntime) -> Result<(), Fail> 
     accept(&g, &board, &lent)?;
     let mut reader = Reader::new(g, &mut board, lent);
     reader.mount()?;
-    let mut files = 0;
     let mut after = 0;
     for (id, size, name) in [(1, 5, b"a"), (2, 300, b"b")] {
         let found = reader.next(after).ok().flatten();
@@ -44,9 +43,7 @@ fn a_reader_gives_the_table_and_the_damage(rt: HostRuntime) -> Result<(), Fail> 
         );
         assert!(rt; found.is_some_and(|stat| stat.name.as_slice() == name.as_slice()));
         after = id;
-        files += 1;
     }
-    assert_eq!(rt; files, 2);
     assert!(rt; matches!(reader.next(after), Ok(None)));
     assert_eq!(rt; reader.next_damaged(0), Ok(Some((3, Damage::Missing(0)))));
     assert_eq!(rt; reader.next_damaged(3), Ok(None));
