@@ -9,10 +9,8 @@ use Rattle.image_model.specs.Killed.{is_dead_entry}
 use Rattle.image_model.specs.Sound.{HasMagics}
 use Rattle.page_put.specs.Kills.{killed, HalfKilled}
 use Rattle.vol_check.specs.Stage.{LeavesLive, CleansEntry}
-use Rattle.vol_check.specs.Checks.{KeepsAll}
 use Rattle.vol_check.proofs.Turning.{half_killed, whole_killed}
 use Rattle.vol_check.proofs.Staged.{leaves_on, Cleaning, cleaning_next}
-use Rattle.vol_check.proofs.Tidied.{keeps_all}
 
 -- a device that holds the volume holds an image of it
 pub image_of : (g : Geometry) (bytes : List ℕ) (size : ℕ) → length bytes ≡ size → g.blocks * g.block ≤ size → IsImage g bytes
@@ -35,9 +33,6 @@ module _ {D : Type 0} {nor : NorOf D} (g : Geometry) where
   -- one change after another
   pub leaves_then : (h : Geometry) {old mid new : D} → h ≡ g → Changes nor old mid (LeavesLive g) → Changes nor mid new (LeavesLive h) → Changes nor old new (LeavesLive g)
   leaves_then h {old} {mid} {new} e first second = both (leaves_on g) first (subst (λ (k : Geometry). Changes nor mid new (LeavesLive k)) e second)
-
-  pub leaves_all : {old new : D} → Changes nor old new (LeavesLive g) → Changes nor old new (KeepsAll g)
-  leaves_all {old} changes = wider changes (λ tells image left. keeps_all g (nor.bytes old) image left)
 
 -- one turn more
 pub turn_on : (g h : Geometry) (first a b : List ℕ) (p n m : ℕ) (dead : Bool) → h ≡ g → Cleaning g first a p n → (HasMagics h a → CleansEntry h p dead a b) → m ≡ n + cond dead 1 0 → Cleaning g first b (p + 1) m

@@ -1,10 +1,5 @@
-pub mod Finding
-pub mod Names
-pub mod Taken
 pub mod Turning
 pub mod Staged
 pub mod Tidied
 pub mod Dead
-pub mod Pages
 pub mod Calls
-pub mod Told

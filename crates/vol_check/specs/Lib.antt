@@ -1,3 +1,4 @@
-pub mod Tests
 pub mod Stage
+pub mod Culls
+pub mod Mends
 pub mod Checks

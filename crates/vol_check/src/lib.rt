@@ -1,10 +1,12 @@
 //! The check of a mounted volume, after which it may be written.
 #![tactic(auto)]
 
-mod checking;
+mod culling;
+mod damaged;
+mod doubled;
 mod entries;
-mod plain;
+mod mixed;
 mod report;
+mod unwanted;
 
-pub use checking::check;
 pub use report::{CheckErr, Report};

@@ -18,9 +18,11 @@ pub struct Report {
 pub enum CheckErr {
     /// The numbers don't allow writing.
     Wrong(GeoErr),
-    /// The image isn't of the kind that this build takes: every block with its magic, and every live page the
-    /// header page of an empty file, with ids and names that differ.
-    Unbuilt,
+    /// So many blocks hold live pages of both kinds.
+    Mixed {
+        /// How many.
+        blocks: u32,
+    },
     /// The device failed.
     DeviceFault,
 }

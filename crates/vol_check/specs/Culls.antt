@@ -1,0 +1,93 @@
+-- What the check's kills of live pages leave.
+use Rattle.std.specs.Prelude.{◌≡◌, ◌≢◌, ℕ, ◌+◌, ◌*◌, ◌%◌, ◌≤◌, ◌&&◌, List, [], ◌∷◌, length, Bool, true, false, not, Option, Some, None, is_some, slice_index, if◌then◌else◌}
+use Rattle.geometry.specs.declared.geometry.Geometry.{Geometry}
+use Rattle.nor_core.specs.Flash.{HalfProgrammed}
+use Rattle.image_model.specs.Places.{has_magic}
+use Rattle.image_model.specs.Headers.{obj_id, span_of, names_index}
+use Rattle.image_model.specs.Live.{live_at, own}
+use Rattle.image_model.specs.Files.{index_page}
+use Rattle.image_model.specs.Tables.{damaged_of}
+use Rattle.image_model.specs.Tidy.{is_wanted, is_number, free_blocks}
+use Rattle.image_model.specs.Killed.{killed_of}
+use Rattle.image_model.specs.Sound.{Keeps}
+use Rattle.image_laws.specs.Programs.{ClearsBit}
+use Rattle.vol_check.specs.Stage.{IsClean}
+
+-- at each cut: the image is sound with its table, and no fewer blocks are free
+pub record KeepsAll (g : Geometry) (was image : List ℕ) : Type 0 where
+  pub keeps : Keeps g was image
+  pub free : free_blocks g was ≤ free_blocks g image
+
+-- Page p may be killed: it is live and not wanted, and clearing DELET in it, done or cut off, keeps the image and leaves every
+-- other page as wanted as it was.
+pub record MayCull (g : Geometry) (image : List ℕ) (p : ℕ) : Type 0 where
+  pub page : List ℕ
+  pub live : live_at g image p ≡ Some page
+  pub unwanted : is_wanted g image p ≡ false
+  pub keeps : (flags : ℕ) (b : List ℕ) → ClearsBit 7 (slice_index image (p * g.page + 4)) flags → HalfProgrammed (p * g.page + 4) (flags ∷ []) image b →
+      Keeps g image b × ((q : ℕ) → q ≢ p → is_wanted g b q ≡ is_wanted g image q)
+
+-- after a turn at page p, in which it was killed or not
+pub record Culls (g : Geometry) (p : ℕ) (killed : Bool) (was now : List ℕ) : Type 0 where
+  pub keeps : Keeps g was now
+  pub count : (if killed then 1 else 0) + killed_of g now ≡ killed_of g was
+  pub gone : killed ≡ true → live_at g now p ≡ None
+  pub others : (q : ℕ) → q ≢ p → live_at g now q ≡ live_at g was q
+  pub stays : killed ≡ false → now ≡ was
+  pub clean : IsClean g was → IsClean g now
+  pub magic : (block : ℕ) → has_magic g now block ≡ has_magic g was block
+  pub free : free_blocks g was ≤ free_blocks g now
+
+-- after a pass over the image that killed n live pages
+pub record Passes (g : Geometry) (n : ℕ) (was now : List ℕ) : Type 0 where
+  pub keeps : Keeps g was now
+  pub count : n + killed_of g now ≡ killed_of g was
+  pub clean : IsClean g was → IsClean g now
+  pub magic : (block : ℕ) → has_magic g now block ≡ has_magic g was block
+  pub free : free_blocks g was ≤ free_blocks g now
+
+-- a live page is an index page, and not the index page of its id and span
+abbrev pub is_doubled_as : Geometry → List ℕ → ℕ → Option (List ℕ) → Bool
+is_doubled_as g image p None = false
+is_doubled_as g image p (Some page) = names_index page && not (is_number (index_page g (own (live_at g image) (obj_id page % 0x8000)) (span_of page)) p)
+
+-- page p is doubled: it is a live index page, and another one of its id and span stands before it
+unfoldable pub is_doubled : Geometry → List ℕ → ℕ → Bool
+is_doubled g image p = is_doubled_as g image p (live_at g image p)
+
+-- no page is doubled
+abbrev pub HasNoDoubles : Geometry → List ℕ → Type 0
+HasNoDoubles g image = (p : ℕ) → is_doubled g image p ≡ false
+
+-- page p is live and not wanted
+unfoldable pub is_unwanted : Geometry → List ℕ → ℕ → Bool
+is_unwanted g image p = is_some (live_at g image p) && not (is_wanted g image p)
+
+-- every live page is wanted
+abbrev pub IsServed : Geometry → List ℕ → Type 0
+IsServed g image = (p : ℕ) → is_unwanted g image p ≡ false
+
+-- after a turn of the first pass
+pub record CullsDoubled (g : Geometry) (p : ℕ) (killed : Bool) (was now : List ℕ) : Type 0 where
+  pub culls : Culls g p killed was now
+  pub single : is_doubled g now p ≡ false
+  pub others : (q : ℕ) → q ≢ p → is_doubled g now q ≡ is_doubled g was q
+  pub damaged : damaged_of g now ≡ damaged_of g was
+
+-- after the first pass no page is doubled, and the same files are damaged
+pub record PassesDoubled (g : Geometry) (n : ℕ) (was now : List ℕ) : Type 0 where
+  pub passes : Passes g n was now
+  pub single : HasNoDoubles g now
+  pub damaged : damaged_of g now ≡ damaged_of g was
+
+-- after the second pass nothing is damaged, and one header page of each damaged file was killed
+pub record PassesDamaged (g : Geometry) (n : ℕ) (was now : List ℕ) : Type 0 where
+  pub passes : Passes g n was now
+  pub single : HasNoDoubles g now
+  pub none : damaged_of g now ≡ []
+  pub count : n ≡ length (damaged_of g was)
+
+-- after the third pass every live page is wanted
+pub record PassesRest (g : Geometry) (n : ℕ) (was now : List ℕ) : Type 0 where
+  pub passes : Passes g n was now
+  pub served : IsServed g now
