@@ -91,3 +91,10 @@ pub record PassesDamaged (g : Geometry) (n : ℕ) (was now : List ℕ) : Type 0 
 pub record PassesRest (g : Geometry) (n : ℕ) (was now : List ℕ) : Type 0 where
   pub passes : Passes g n was now
   pub served : IsServed g now
+
+-- after all three passes: every live page is wanted and nothing is damaged, and so many files were
+pub record CullsPages (g : Geometry) (pages damaged : ℕ) (was now : List ℕ) : Type 0 where
+  pub passes : Passes g pages was now
+  pub served : IsServed g now
+  pub none : damaged_of g now ≡ []
+  pub count : damaged ≡ length (damaged_of g was)

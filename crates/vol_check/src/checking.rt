@@ -1,44 +1,88 @@
-ghost use Rattle.std.specs.Prelude.{◌≡◌, ◌≤◌, OnErr, OnOk, IsErrOf, IfOk, IfErr, IfSome, Err, None};
-ghost use Rattle.geometry.specs.Numbers.{usable, write_refusal};
+ghost use Rattle.std.specs.Prelude.{◌≡◌, ◌≤◌, length, OnErr, OnOk, IsErrOf, IfOk, IfErr, IfSome, Err, None};
+ghost use Rattle.geometry.specs.Numbers.{usable, write_refusal, page_count};
 ghost use Rattle.nor_core.specs.Count.{Rose};
 ghost use Rattle.nor_core.specs.Device.{Changes, OnlyReads};
-ghost use Rattle.image_model.specs.Plain.{IsPlain};
+ghost use Rattle.image_model.specs.Kinds.{mixed_blocks as the_mixed_blocks};
+ghost use Rattle.image_model.specs.Sound.{HasMagics};
 ghost use Rattle.image_model.specs.Tidy.{IsTidy};
 ghost use Rattle.flash_view.specs.Same.{IsSameView};
-ghost use Rattle.vol_check.specs.Checks.{IsWritable, IsRefusal, KeepsAll, Checked};
+ghost use Rattle.vol_check.specs.Culls.{KeepsAll, CullsPages};
+ghost use Rattle.vol_check.specs.Checks.{IsWritable, IsRefusal, CountsMixed, Checked};
 
+use crate::damaged::cull_damaged;
+use crate::doubled::cull_doubles;
 use crate::entries::clean_entries;
-use crate::plain::is_plain;
+use crate::mixed::mixed_blocks;
+use crate::spoiled::mend;
+use crate::unwanted::cull_rest;
 use crate::{CheckErr, Report};
 use flash_view::View;
 use free_search::free_blocks;
 use nor_core::{Failed, Nor, NorState};
 
-// Kills what is to be killed in an image that the check takes.
+// How many live pages were killed, and how many files were damaged.
+#[derive(Clone, Copy)]
+struct Culled {
+    pages: u32,
+    damaged: u32,
+}
+
+// Kills the live pages that the table doesn't need: doubled ones, then the header pages of damaged files, then the rest.
 #[tactic(auto, using(flash_view::proofs::Looking::same_then))]
-fn clean<N: Nor>(v: &mut View<'_, N>) -> Result<Report, Failed>
+fn cull_pages<N: Nor>(v: &mut View<'_, N>, marks: &mut [u8]) -> Result<Culled, Failed>
+    requires room { page_count v.old.geometry ≤ length marks.old }
+    requires magics { N.tells v.old.nor.now → HasMagics v.old.geometry (N.bytes v.old.nor.now) }
+    ensures cause { OnErr result (Rose (N.faults v.old.nor.now) (N.faults v.new.nor.now)) }
+    ensures faults { N.faults v.old.nor.now ≤ N.faults v.new.nor.now }
+    ensures same { IsSameView v.old v.new }
+    ensures most { IfOk result (λ culled. culled.pages ≤ 196605) }
+    ensures changes { Changes N.NorState v.old.nor.now v.new.nor.now (KeepsAll v.old.geometry) }
+    ensures done { N.tells v.old.nor.now → IfOk result (λ culled. CullsPages v.old.geometry culled.pages culled.damaged (N.bytes v.old.nor.now) (N.bytes v.new.nor.now)) }
+    ensures idle { N.tells v.old.nor.now → IsTidy v.old.geometry (N.bytes v.old.nor.now) → OnlyReads N.NorState v.old.nor.now v.new.nor.now }
+{
+    let doubled = cull_doubles(v)?;
+    let damaged = cull_damaged(v, marks)?;
+    let rest = cull_rest(v)?;
+    Ok(Culled {
+        pages: doubled + damaged + rest,
+        damaged,
+    })
+}
+
+// Mends the block without its magic, and kills what is to be killed.
+#[tactic(auto, using(flash_view::proofs::Looking::same_then))]
+fn clean<N: Nor>(v: &mut View<'_, N>, marks: &mut [u8]) -> Result<Report, Failed>
+    requires room { page_count v.old.geometry ≤ length marks.old }
+    requires magics { N.tells v.old.nor.now → HasMagics v.old.geometry (N.bytes v.old.nor.now) }
     ensures cause { OnErr result (Rose (N.faults v.old.nor.now) (N.faults v.new.nor.now)) }
     ensures faults { N.faults v.old.nor.now ≤ N.faults v.new.nor.now }
     ensures same { IsSameView v.old v.new }
     ensures changes { Changes N.NorState v.old.nor.now v.new.nor.now (KeepsAll v.old.geometry) }
-    ensures done { N.tells v.old.nor.now → IsPlain v.old.geometry (N.bytes v.old.nor.now) → IfOk result (λ report. Checked v.old.geometry (N.bytes v.old.nor.now) (N.bytes v.new.nor.now) report) }
+    ensures done { N.tells v.old.nor.now → the_mixed_blocks v.old.geometry (N.bytes v.old.nor.now) ≡ 0 → IfOk result (λ report. Checked v.old.geometry (N.bytes v.old.nor.now) (N.bytes v.new.nor.now) report) }
     ensures idle { N.tells v.old.nor.now → IsTidy v.old.geometry (N.bytes v.old.nor.now) → OnlyReads N.NorState v.old.nor.now v.new.nor.now }
 {
-    let killed = clean_entries(v)?;
+    let erased = mend(v)?;
+    let dead = clean_entries(v)?;
+    let culled = cull_pages(v, marks)?;
     Ok(Report {
-        erased: false,
-        killed,
-        damaged: 0,
+        erased,
+        killed: dead + culled.pages,
+        damaged: culled.damaged,
         free_blocks: free_blocks(v)?,
     })
 }
 
-/// Checks a mounted volume, so that it may be written: kills the entries that a cut has left over pages that
-/// aren't live. Refused, with nothing written, are a volume that may not be written (`Wrong`) and an image that
-/// this build doesn't take (`Unbuilt`). Where the device fails, what was done stays, and the check can be called
-/// again.
+/// Checks a mounted volume, so that it may be written, in whatever state a cut or another program left it. The block
+/// without its magic is made fresh, if there is one; then every entry is killed that is neither deleted, free nor that
+/// of a page that a file of the table needs: first those over pages that aren't live, then doubled index pages, then the
+/// header pages of damaged files, then the rest. So damaged files go, and the table stays, also at a cut. Refused, with
+/// nothing written, are a volume that may not be written (`Wrong`) and one of which a block holds live pages of both
+/// kinds (`Mixed`). Where the device fails, what was done stays, and the check can be called again. The marks are bytes
+/// for notes, one for each page of the volume at least.
 #[tactic(auto, using(flash_view::proofs::Looking::same_then))]
-pub fn check<N: Nor>(v: &mut View<'_, N>) -> Result<Report, CheckErr>
+pub fn check_stages<N: Nor>(v: &mut View<'_, N>, marks: &mut [u8]) -> Result<Report, CheckErr>
+    requires room { page_count v.old.geometry ≤ length marks.old }
+    requires magics { N.tells v.old.nor.now → HasMagics v.old.geometry (N.bytes v.old.nor.now) }
     ensures wrong { IfSome (write_refusal v.old.geometry) (λ why. result ≡ Err (CheckErr.Wrong why)) }
     ensures writable { write_refusal v.old.geometry ≡ None → IfErr result IsWritable }
     ensures few { OnOk result (usable v.old.geometry ≤ 32766) }
@@ -46,8 +90,8 @@ pub fn check<N: Nor>(v: &mut View<'_, N>) -> Result<Report, CheckErr>
     ensures faults { N.faults v.old.nor.now ≤ N.faults v.new.nor.now }
     ensures same { IsSameView v.old v.new }
     ensures changes { Changes N.NorState v.old.nor.now v.new.nor.now (KeepsAll v.old.geometry) }
-    ensures takes { N.tells v.old.nor.now → OnOk result (IsPlain v.old.geometry (N.bytes v.old.nor.now)) }
-    ensures unbuilt { N.tells v.old.nor.now → IsErrOf result CheckErr.Unbuilt → IsPlain v.old.geometry (N.bytes v.old.nor.now) → ⊥ }
+    ensures unmixed { N.tells v.old.nor.now → OnOk result (the_mixed_blocks v.old.geometry (N.bytes v.old.nor.now) ≡ 0) }
+    ensures mixed { N.tells v.old.nor.now → IfErr result (CountsMixed v.old.geometry (N.bytes v.old.nor.now)) }
     ensures refused { IfErr result (λ why. IsRefusal why → OnlyReads N.NorState v.old.nor.now v.new.nor.now) }
     ensures done { N.tells v.old.nor.now → IfOk result (λ report. Checked v.old.geometry (N.bytes v.old.nor.now) (N.bytes v.new.nor.now) report) }
     ensures idle { N.tells v.old.nor.now → IsTidy v.old.geometry (N.bytes v.old.nor.now) → OnlyReads N.NorState v.old.nor.now v.new.nor.now }
@@ -55,12 +99,12 @@ pub fn check<N: Nor>(v: &mut View<'_, N>) -> Result<Report, CheckErr>
     if let Err(why) = v.geometry.writable() {
         return Err(CheckErr::Wrong(why));
     }
-    match is_plain(v) {
-        Ok(true) => {}
-        Ok(false) => return Err(CheckErr::Unbuilt),
+    match mixed_blocks(v) {
+        Ok(0) => {}
+        Ok(blocks) => return Err(CheckErr::Mixed { blocks }),
         Err(Failed) => return Err(CheckErr::DeviceFault),
     }
-    match clean(v) {
+    match clean(v, marks) {
         Ok(report) => Ok(report),
         Err(Failed) => Err(CheckErr::DeviceFault),
     }
