@@ -40,7 +40,6 @@ use Rattle.page_put.proofs.Finishing.{programs_place, finish_clears_final}
 use Rattle.flash_view.specs.declared.kinds.Kind.TheVariants.{Index}
 use Rattle.file_write.specs.Creates.{CanPut, CreateCut, Created}
 use Rattle.file_write.proofs.NewHead.{finished_head, length-new_header, byte-new_header, index, of, first, live, leads}
-use Rattle.file_write.proofs.Plain.{plain-same, plain-gains}
 
 -- ---- what is known of the image
 
@@ -171,11 +170,6 @@ module _ (g : Geometry) (a0 : List ℕ) (p id : ℕ) (name : List ℕ) (is : IsI
         sound = sound.sound;
         table = sound.table;
         reserve = reserve c put.agree;
-        plain = λ plain. ⊎_elim
-            (λ (same : live_at g c ≡ live_at g a0). plain-same g a0 c put.agree.magic same plain)
-            (λ (gains : Gains p (finished_head g.page id name) (live_at g a0) (live_at g c)).
-            plain-gains g a0 c p id (finished_head g.page id name) (new_file g id name) (page_number g p can.free.entry_page) gains leads_to new_none put.agree.magic refl plain)
-            put.live;
       }
 
   -- a cut while it is placed, a cut while it is finished, and the whole create

@@ -45,7 +45,7 @@ free_of g image p is free =
 stays : (g : Geometry) (image : List ℕ) (id : ℕ) (name : List ℕ) → CanCreate g image id name → CreateCut g image id name image
 stays g image id name can =
     let magics : HasMagics g image = record { one = λ b c low low' no no'. let bad : true ≡ false = sym (can.tidy.magic b low) ∙ no in absurd (cc) } in
-    record { sound = (keeps-itself g image magics).sound; table = inl refl; reserve = can.reserve; plain = λ plain. plain }
+    record { sound = (keeps-itself g image magics).sound; table = inl refl; reserve = can.reserve }
 
 -- where an index page is had, one is found
 pub found_one : (g : Geometry) (image : List ℕ) (id : ℕ) (name : List ℕ) → CanCreate g image id name → FreePage g image Index 2 None None → ⊥

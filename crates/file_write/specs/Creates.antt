@@ -7,7 +7,6 @@ use Rattle.image_model.specs.Places.{block_of}
 use Rattle.image_model.specs.Tables.{table_of}
 use Rattle.image_model.specs.Tidy.{IsTidy, HasReserve, is_free_block, free_blocks}
 use Rattle.image_model.specs.Sound.{IsSound}
-use Rattle.image_model.specs.Plain.{IsPlain}
 use Rattle.image_model.specs.Kinds.{is_data_block}
 use Rattle.image_model.specs.Collect.{are_had}
 use Rattle.flash_view.specs.Found.{has_header}
@@ -26,7 +25,6 @@ pub record CreateCut (g : Geometry) (was : List ℕ) (id : ℕ) (name image : Li
   pub sound : IsSound g image was
   pub table : IsBeforeOrAfter g was (new_file g id name) image
   pub reserve : HasReserve g image
-  pub plain : IsPlain g was → IsPlain g image
 
 -- A create that is done leaves an image that is tidy with its reserve, and the new file is in its table.
 pub record Created (g : Geometry) (was : List ℕ) (id : ℕ) (name now : List ℕ) : Type 0 where

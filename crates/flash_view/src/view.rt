@@ -37,7 +37,7 @@ impl<'b, N: Nor> View<'b, N> {
     ghost use Rattle.std.specs.Prelude.{◌≡◌, ℕ, ◌+◌, ◌*◌, ◌/◌, ◌<◌, ◌≤◌, length, take, slice_index, slice_range, OnOk, OnErr, IfOk, true, false};
     ghost use Rattle.std.specs.Option.{ForSome};
     ghost use Rattle.std.specs.Int.{to_le_bytes, w16};
-    ghost use Rattle.geometry.specs.Numbers.{work_need, cache_need, page_count, right_magic};
+    ghost use Rattle.geometry.specs.Numbers.{work_need, cache_need, page_count};
     ghost use Rattle.nor_core.specs.Count.{Rose};
     ghost use Rattle.nor_core.specs.Flash.{HalfProgrammed, programmed};
     ghost use Rattle.nor_core.specs.Device.{Changes, InErase};
@@ -71,36 +71,6 @@ impl<'b, N: Nor> View<'b, N> {
         ensures empty { held geometry result.cache.now ≡ 0 }
     {
         let (nor, cache) = Cached::new(geometry, nor, cache).give_back();
-        View {
-            geometry,
-            nor,
-            work,
-            cache,
-            wrote: false,
-        }
-    }
-
-    /// A view of the volume on a device, over cache bytes whose copies of pages are right, as those of the view before it
-    /// are: what they hold is not read again.
-    pub fn resume(
-        geometry: Geometry,
-        nor: &'b mut N,
-        work: &'b mut [u8],
-        cache: &'b mut [u8],
-    ) -> View<'b, N>
-        requires unit { N.unit nor.old ≡ geometry.phys }
-        requires volume { geometry.blocks * geometry.block ≤ N.size nor.old }
-        requires work { work_need geometry ≤ length work.old }
-        requires cache { cache_need geometry ≤ length cache.old }
-        requires kept { IsKept N.NorState geometry nor.old cache.old }
-        ensures geometry { result.geometry ≡ geometry }
-        ensures wrote { result.wrote ≡ false }
-        ensures nor { result.nor.now ≡ nor.old }
-        ensures nor_name { result.nor.ghost_name ≡ nor.entry.ghost_name }
-        ensures work_name { result.work.ghost_name ≡ work.entry.ghost_name }
-        ensures cache { result.cache.now ≡ cache.old }
-        ensures cache_name { result.cache.ghost_name ≡ cache.entry.ghost_name }
-    {
         View {
             geometry,
             nor,

@@ -11,4 +11,3 @@ pub mod Kinds
 pub mod Within
 pub mod Collect
 pub mod Shared
-pub mod Plain

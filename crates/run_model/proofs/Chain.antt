@@ -74,7 +74,7 @@ module _ {D : Type 0} {nor : NorOf D} {g : Geometry} where
       record {
         said = reads.said ∙ sym (ap (λ (l : List ℕ). nor.said old ++ l) (no_replies g m) ∙ append-nil (nor.said old));
         stands = subst (λ (j : Moment). Stands nor g new j) (sym (no_calls g m)) (record { tells = reads.told stands.tells; image = here });
-        safe = subst (λ (l : List ℕ). IsSafe g l (nor.bytes new)) reads.bytes (stays g (nor.bytes new) here.tidy here.reserve);
+        safe = subst (λ (l : List ℕ). IsSafe g l (nor.bytes new)) reads.bytes (stays g (nor.bytes new));
       }
 
   -- nothing was called
@@ -82,7 +82,7 @@ module _ {D : Type 0} {nor : NorOf D} {g : Geometry} where
   reached_none d m stands = record {
     said = sym (ap (λ (l : List ℕ). nor.said d ++ l) (no_replies g m) ∙ append-nil (nor.said d));
     stands = subst (λ (j : Moment). Stands nor g d j) (sym (no_calls g m)) stands;
-    safe = stays g (nor.bytes d) stands.image.tidy stands.image.reserve;
+    safe = stays g (nor.bytes d);
   }
 
   -- reads leave what no call may

@@ -1,7 +1,5 @@
-ghost use Rattle.std.specs.Prelude.{◌≡◌, ◌+◌, ◌*◌, ◌/◌, ◌<◌, ◌≤◌, OnErr, OnOk, IfErr, Some, Err};
-ghost use Rattle.geometry.specs.Numbers.{write_refusal};
+ghost use Rattle.std.specs.Prelude.{◌≡◌, ◌+◌, ◌*◌, ◌/◌, ◌<◌, ◌≤◌, OnErr, Some, Err};
 ghost use Rattle.nor_core.specs.Count.{Rose};
-ghost use Rattle.vol_mount.specs.Needs.{is_wrong_chip};
 ghost use Rattle.vol_mount.specs.Goes.{GoesOn};
 
 use crate::MountErr;
