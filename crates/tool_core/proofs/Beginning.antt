@@ -8,26 +8,23 @@ use Rattle.table_model.specs.Ask.{Ask}
 use Rattle.table_model.specs.Window.{Moment, settled_at}
 use Rattle.call_script.specs.Lines.{calls}
 use Rattle.image_model.specs.Tables.{table_of}
-use Rattle.image_model.specs.Tidy.{HasReserve}
-use Rattle.image_model.specs.Kinds.{spoiled_blocks}
-use Rattle.image_model.specs.Places.{has_magic}
+use Rattle.image_model.specs.Kinds.{spoiled_blocks, mixed_blocks}
 use Rattle.image_model.specs.Sound.{HasMagics}
-use Rattle.image_model.specs.Plain.{IsPlain}
 use Rattle.run_model.specs.Runs.{after_all, replies}
 use Rattle.run_model.specs.Safe.{IsSafe, IsAt}
 use Rattle.run_model.specs.Ran.{Stands, CutIn, MayCut, Reached, SaidPart}
 use Rattle.run_model.proofs.Runs.{is_settled, cut_none}
-use Rattle.run_model.proofs.Safety.{clash}
 use Rattle.run_model.proofs.Chain.{no_replies, no_calls, later_reached, later_said, cut_behind}
 use Rattle.vol_mount.specs.declared.lent.MountErr.{MountErr}
 use Rattle.vol_mount.specs.declared.lent.MountErr.TheVariants.{NotAFs as MountNotAFs, DeviceFault as MountFault}
 use Rattle.vol_mount.specs.Mounts.{IsLate, CountsSpoiled}
 use Rattle.vol_check.specs.declared.report.CheckErr.{CheckErr}
-use Rattle.vol_check.specs.declared.report.CheckErr.TheVariants.{Wrong as CheckWrong, Unbuilt as CheckUnbuilt, DeviceFault as CheckFault}
-use Rattle.vol_check.specs.Checks.{IsWritable, IsRefusal, KeepsAll}
+use Rattle.vol_check.specs.declared.report.CheckErr.TheVariants.{Wrong as CheckWrong, Mixed as CheckMixed, DeviceFault as CheckFault}
+use Rattle.vol_check.specs.Culls.{KeepsAll}
+use Rattle.vol_check.specs.Checks.{IsWritable, IsRefusal, CountsMixed}
 use Rattle.tool_core.specs.declared.ending.Ending.{Ending}
-use Rattle.tool_core.specs.declared.ending.Ending.TheVariants.{NotAFs, BoardFault, Tight, UnbuiltImage}
-use Rattle.tool_core.specs.Begins.{Checks, ChecksPlain, Begun, StopsCheck, mount_ends, check_ends}
+use Rattle.tool_core.specs.declared.ending.Ending.TheVariants.{NotAFs, BoardFault, Tight, Mixed}
+use Rattle.tool_core.specs.Begins.{Checks, Begun, StopsCheck, mount_ends, check_ends}
 use Rattle.tool_core.specs.Outcomes.{WhyEnds, WhyRan, IsChecked, RunEnds, RunsTo, first_moment}
 
 -- at first nothing waits, and the settled table is that of the image
@@ -55,21 +52,17 @@ here_table g image m here = here.table ∙ ap (λ (j : Moment). j.settled) here.
 -- why a run of lines ends is why a whole run does
 why_ran : (ending : Ending) (g : Geometry) (m : Moment) (first image script left : List ℕ) (front later : List Ask) → IsChecked g first image → WhyEnds g m image script left front later ending → WhyRan g m first image script left front later ending
 why_ran (NotAFs n) g m first image script left front later checked why = absurd why
-why_ran UnbuiltImage g m first image script left front later checked why = absurd why
+why_ran (Mixed n) g m first image script left front later checked why = absurd why
 why_ran (Tight n) g m first image script left front later checked why = absurd why
 why_ran _ g m first image script left front later checked why = (checked, why)
 
 -- what the check leaves is safe
-safe_check : {g : Geometry} {was image : List ℕ} → Checks g was image → HasReserve g was → IsSafe g was image
-safe_check here reserve = record { sound = here.keeps.sound; reserve = omega (arith, reserve, here.free); plain = λ plain. here.plain }
+safe_check : {g : Geometry} {was image : List ℕ} → Checks g was image → IsSafe g was image
+safe_check here = record { sound = here.sound; reserve = λ reserve. omega (arith, reserve, here.free) }
 
--- every block of a plain image has its magic
-plain_magics : {g : Geometry} (image : List ℕ) → IsPlain g image → HasMagics g image
-plain_magics {g} image plain = record { one = λ b c under over none also. absurd (clash (has_magic g image b) (plain.magic b under) none) }
-
--- a plain image may stay
-checks_itself : {g : Geometry} (image : List ℕ) → IsPlain g image → Checks g image image
-checks_itself image plain = record { keeps = record { sound = record { magics = plain_magics image plain; mixed = λ block h. h; damaged = λ id h. h }; table = refl }; plain = plain; free = omega arith }
+-- any image may stay
+checks_itself : {g : Geometry} (image : List ℕ) → Checks g image image
+checks_itself image = record { sound = λ magics. record { magics = magics; mixed = λ block h. h; damaged = λ id h. h }; table = refl; free = omega arith }
 
 -- a volume that wasn't mounted
 pub mount_stops : {D : Type 0} {nor : NorOf D} (g : Geometry) (why : MountErr) {old new : D} → IsLate why → OnlyReads nor old new → CountsSpoiled g (nor.bytes old) why → StopsCheck nor g old new (mount_ends why)
@@ -79,25 +72,25 @@ mount_stops g _ late reads cause = absurd late
 
 module _ {D : Type 0} {nor : NorOf D} {g : Geometry} where
   -- a cut in the check
-  pub check_cut : {old mid : D} (slots : ℕ) (asks : List Ask) → Changes nor old mid (ChecksPlain g) → nor.tells old → IsPlain g (nor.bytes old) → HasReserve g (nor.bytes old) → Leaves nor old mid (CutIn nor g old (first_moment g slots (nor.bytes old)) asks)
-  check_cut {old} {mid} slots asks changes tells plain reserve = widened changes.cuts (λ image count here.
-      let now = here.1 tells plain in
+  pub check_cut : {old mid : D} (slots : ℕ) (asks : List Ask) → Changes nor old mid (Checks g) → nor.tells old → Leaves nor old mid (CutIn nor g old (first_moment g slots (nor.bytes old)) asks)
+  check_cut {old} {mid} slots asks changes tells = widened changes.cuts (λ image count here.
+      let now = here.1 tells in
       record {
         part = [];
         count_is = here.0 ∙ omega arith;
-        safe = safe_check now reserve;
-        cut = cut_none g (first_moment g slots (nor.bytes old)) asks (table_of g image) (is_settled (first_moment g slots (nor.bytes old)) (table_of g image) [] (now.keeps.table ∙ sym (first_table g slots (nor.bytes old))));
+        safe = safe_check now;
+        cut = cut_none g (first_moment g slots (nor.bytes old)) asks (table_of g image) (is_settled (first_moment g slots (nor.bytes old)) (table_of g image) [] (now.table ∙ sym (first_table g slots (nor.bytes old))));
       })
 
   -- the volume stands at its first moment once it is checked
-  begun_reached : {old mid : D} (slots : ℕ) → Changes nor old mid (ChecksPlain g) → nor.tells old → Begun g (nor.bytes old) (nor.bytes mid) → Reached nor g old mid (first_moment g slots (nor.bytes old)) []
+  begun_reached : {old mid : D} (slots : ℕ) → Changes nor old mid (Checks g) → nor.tells old → Begun g (nor.bytes old) (nor.bytes mid) → Reached nor g old mid (first_moment g slots (nor.bytes old)) []
   begun_reached {old} {mid} slots changes tells begun =
       let m = first_moment g slots (nor.bytes old) in
-      let now = changes.now tells begun.plain in
+      let now = changes.now tells in
       record {
         said = changes.said ∙ sym (ap (λ (l : List ℕ). nor.said old ++ l) (no_replies g m) ∙ append-nil (nor.said old));
-        stands = subst (λ (j : Moment). Stands nor g mid j) (sym (no_calls g m)) (record { tells = changes.cuts.told tells; image = record { tidy = begun.tidy; reserve = begun.reserve; table = now.keeps.table ∙ sym (first_table g slots (nor.bytes old)); still = first_still g slots (nor.bytes old) } });
-        safe = record { sound = now.keeps.sound; reserve = begun.reserve; plain = λ plain. now.plain };
+        stands = subst (λ (j : Moment). Stands nor g mid j) (sym (no_calls g m)) (record { tells = changes.cuts.told tells; image = record { tidy = begun.tidy; reserve = begun.reserve; table = now.table ∙ sym (first_table g slots (nor.bytes old)); still = first_still g slots (nor.bytes old) } });
+        safe = record { sound = now.sound; reserve = λ reserve. begun.reserve };
       }
 
   -- it stands there
@@ -105,16 +98,16 @@ module _ {D : Type 0} {nor : NorOf D} {g : Geometry} where
   begun_stands {old} {mid} m r = subst (λ (j : Moment). Stands nor g mid j) (no_calls g m) r.stands
 
   -- a cut in the check or in the calls after it
-  pub whole_cut : {old mid new : D} (slots : ℕ) (asks : List Ask) → Changes nor old mid (ChecksPlain g) → nor.tells old → IsPlain g (nor.bytes old) → HasReserve g (nor.bytes old) → Begun g (nor.bytes old) (nor.bytes mid) → (h : Geometry) → h ≡ g → ((m : Moment) → Stands nor h mid m → MayCut nor h mid new m asks) → Leaves nor old new (CutIn nor g old (first_moment g slots (nor.bytes old)) asks)
-  whole_cut {old} {mid} {new} slots asks changes tells plain reserve begun h same leaves =
+  pub whole_cut : {old mid new : D} (slots : ℕ) (asks : List Ask) → Changes nor old mid (Checks g) → nor.tells old → Begun g (nor.bytes old) (nor.bytes mid) → (h : Geometry) → h ≡ g → ((m : Moment) → Stands nor h mid m → MayCut nor h mid new m asks) → Leaves nor old new (CutIn nor g old (first_moment g slots (nor.bytes old)) asks)
+  whole_cut {old} {mid} {new} slots asks changes tells begun h same leaves =
       let m = first_moment g slots (nor.bytes old) in
       let r = begun_reached slots changes tells begun in
       let stands = begun_stands m r in
       let next : (j : Moment) → Stands nor g mid j → MayCut nor g mid new j asks = subst (λ (k : Geometry). (j : Moment) → Stands nor k mid j → MayCut nor k mid new j asks) same leaves in
-      andthen (check_cut slots asks changes tells plain reserve) (widened (next m stands) (λ image count here. cut_behind r (subst (λ (j : Moment). CutIn nor g mid j asks image count) (sym (no_calls g m)) (here stands))))
+      andthen (check_cut slots asks changes tells) (widened (next m stands) (λ image count here. cut_behind r (subst (λ (j : Moment). CutIn nor g mid j asks image count) (sym (no_calls g m)) (here stands))))
 
   -- a run that was begun
-  pub begun_ends : {old mid new : D} (slots : ℕ) (script left : List ℕ) (ending : Ending) → Changes nor old mid (ChecksPlain g) → nor.tells old → Begun g (nor.bytes old) (nor.bytes mid) → (h : Geometry) → h ≡ g → ((m : Moment) → Stands nor h mid m → RunEnds nor h mid new m script left ending) → RunsTo nor g old new (first_moment g slots (nor.bytes old)) script left ending
+  pub begun_ends : {old mid new : D} (slots : ℕ) (script left : List ℕ) (ending : Ending) → Changes nor old mid (Checks g) → nor.tells old → Begun g (nor.bytes old) (nor.bytes mid) → (h : Geometry) → h ≡ g → ((m : Moment) → Stands nor h mid m → RunEnds nor h mid new m script left ending) → RunsTo nor g old new (first_moment g slots (nor.bytes old)) script left ending
   begun_ends {old} {mid} {new} slots script left ending changes tells begun h same ends =
       let m = first_moment g slots (nor.bytes old) in
       let r = begun_reached slots changes tells begun in
@@ -131,12 +124,12 @@ module _ {D : Type 0} {nor : NorOf D} {g : Geometry} where
         tells = whole.stands.tells;
         settled = whole.stands.image.table;
         table = here_table g (nor.bytes new) (after_all g m went.front) whole.stands.image;
-        why = why_ran ending g (after_all g m went.front) (nor.bytes old) (nor.bytes new) script left went.front went.later (record { plain = begun.plain; reserve = whole.stands.image.reserve }) went.why;
-        safe = λ plain reserve. whole.safe;
+        why = why_ran ending g (after_all g m went.front) (nor.bytes old) (nor.bytes new) script left went.front went.later (record { takes = begun.takes; reserve = whole.stands.image.reserve }) went.why;
+        safe = whole.safe;
       }))
       (next m (begun_stands m r))
 
-  early_came : {old mid : D} (slots : ℕ) (script left : List ℕ) (ending : Ending) → Changes nor old mid (ChecksPlain g) → nor.tells old → table_of g (nor.bytes mid) ≡ table_of g (nor.bytes old) → WhyRan g (after_all g (first_moment g slots (nor.bytes old)) []) (nor.bytes old) (nor.bytes mid) script left [] (calls script) ending → RunsTo nor g old mid (first_moment g slots (nor.bytes old)) script left ending
+  early_came : {old mid : D} (slots : ℕ) (script left : List ℕ) (ending : Ending) → Changes nor old mid (Checks g) → nor.tells old → table_of g (nor.bytes mid) ≡ table_of g (nor.bytes old) → WhyRan g (after_all g (first_moment g slots (nor.bytes old)) []) (nor.bytes old) (nor.bytes mid) script left [] (calls script) ending → RunsTo nor g old mid (first_moment g slots (nor.bytes old)) script left ending
   early_came {old} {mid} slots script left ending changes tells same why = inr (record {
     front = [];
     later = calls script;
@@ -146,31 +139,33 @@ module _ {D : Type 0} {nor : NorOf D} {g : Geometry} where
     settled = same ∙ sym (first_settled g slots (nor.bytes old));
     table = same ∙ sym (first_state g slots (nor.bytes old));
     why = why;
-    safe = λ plain reserve. safe_check (changes.now tells plain) reserve;
+    safe = safe_check (changes.now tells);
   })
 
   -- a run that ends before its first line
-  pub early_ends : {old mid : D} (slots : ℕ) (script left : List ℕ) (ending : Ending) → Changes nor old mid (ChecksPlain g) → nor.tells old → StopsCheck nor g old mid ending → RunsTo nor g old mid (first_moment g slots (nor.bytes old)) script left ending
+  pub early_ends : {old mid : D} (slots : ℕ) (script left : List ℕ) (ending : Ending) → Changes nor old mid (Checks g) → nor.tells old → StopsCheck nor g old mid ending → RunsTo nor g old mid (first_moment g slots (nor.bytes old)) script left ending
   early_ends {old} {mid} slots script left (NotAFs n) changes tells stops = early_came slots script left (NotAFs n) changes tells (ap (table_of g) stops.0.bytes) (refl, stops.1, stops.2)
-  early_ends {old} {mid} slots script left UnbuiltImage changes tells stops = early_came slots script left UnbuiltImage changes tells (ap (table_of g) stops.0.bytes) (refl, stops.1, stops.2)
-  early_ends {old} {mid} slots script left (Tight n) changes tells stops = early_came slots script left (Tight n) changes tells (changes.now tells stops.0).keeps.table (refl, stops.0, stops.1, stops.2)
+  early_ends {old} {mid} slots script left (Mixed n) changes tells stops = early_came slots script left (Mixed n) changes tells (ap (table_of g) stops.0.bytes) (refl, stops.1, stops.2, stops.3)
+  early_ends {old} {mid} slots script left (Tight n) changes tells stops = early_came slots script left (Tight n) changes tells (changes.now tells).table (refl, stops.0, stops.1, stops.2)
   early_ends {old} {mid} slots script left BoardFault changes tells stops = inl (refl, record { part = []; rest = replies g (first_moment g slots (nor.bytes old)) (calls script); said = changes.said ∙ sym (append-nil (nor.said old)); whole_is = refl })
   early_ends _ script left _ changes tells stops = absurd stops
 
   -- a volume that was mounted, and not checked
-  pub check_stops : (why : CheckErr) {old mid new : D} (h : Geometry) → h ≡ g → IsWritable why → OnlyReads nor old mid → spoiled_blocks g (nor.bytes old) ≤ 1 → (IsRefusal why → OnlyReads nor mid new) → (why ≡ CheckUnbuilt → IsPlain h (nor.bytes mid) → ⊥) → StopsCheck nor g old new (check_ends why)
-  check_stops CheckUnbuilt {old} {mid} {new} h same writable reads few refused unbuilt = (reads_then reads (refused (tt {0})), omega (arith, few), λ plain. unbuilt refl (subst (λ (l : List ℕ). IsPlain h l) (sym reads.bytes) (subst (λ (k : Geometry). IsPlain k (nor.bytes old)) (sym same) plain)))
-  check_stops CheckFault h same writable reads few refused unbuilt = tt {0}
-  check_stops (CheckWrong why) h same writable reads few refused unbuilt = absurd writable
+  pub check_stops : (why : CheckErr) {old mid new : D} (h : Geometry) → h ≡ g → IsWritable why → OnlyReads nor old mid → spoiled_blocks g (nor.bytes old) ≤ 1 → (IsRefusal why → OnlyReads nor mid new) → CountsMixed h (nor.bytes mid) why → StopsCheck nor g old new (check_ends why)
+  check_stops (CheckMixed blocks) {old} {mid} {new} h same writable reads few refused counts =
+      let here : blocks ≡ mixed_blocks g (nor.bytes old) = counts.0 ∙ cc (reads.bytes, same) in
+      (reads_then reads (refused (tt {0})), omega (arith, few), here, counts.1)
+  check_stops CheckFault h same writable reads few refused counts = tt {0}
+  check_stops (CheckWrong why) h same writable reads few refused counts = absurd writable
 
   -- mounting changes nothing
-  pub mount_changes : {old mid : D} → OnlyReads nor old mid → Changes nor old mid (ChecksPlain g)
-  mount_changes {old} {mid} reads = read_after (unchanged old (ChecksPlain g) (λ tells plain. checks_itself (nor.bytes old) plain)) reads
+  pub mount_changes : {old mid : D} → OnlyReads nor old mid → Changes nor old mid (Checks g)
+  mount_changes {old} {mid} reads = read_after (unchanged old (Checks g) (λ tells. checks_itself (nor.bytes old))) reads
 
   -- what the check leaves after that
-  pub check_changes : {old mid new : D} (h : Geometry) → h ≡ g → OnlyReads nor old mid → Changes nor mid new (KeepsAll h) → Changes nor old new (ChecksPlain g)
-  check_changes {old} {mid} {new} h same reads changes = after_reads reads (wider (subst (λ (k : Geometry). Changes nor mid new (KeepsAll k)) same changes) (λ tells image here plain. record { keeps = here.keeps (plain_magics (nor.bytes mid) plain); plain = here.plain plain; free = here.free }))
+  pub check_changes : {old mid new : D} (h : Geometry) → h ≡ g → OnlyReads nor old mid → Changes nor mid new (KeepsAll h) → Changes nor old new (Checks g)
+  check_changes {old} {mid} {new} h same reads changes = after_reads reads (wider (subst (λ (k : Geometry). Changes nor mid new (KeepsAll k)) same changes) (λ tells image here. record { sound = λ magics. here.keeps.sound; table = here.keeps.table; free = here.free }))
 
   -- the same cuts by other names
-  pub same_cuts : {old new old' new' : D} (h : Geometry) (slots : ℕ) (asks : List Ask) → old ≡ old' → new ≡ new' → g ≡ h → (IsPlain h (nor.bytes old') → HasReserve h (nor.bytes old') → Leaves nor old' new' (CutIn nor h old' (first_moment h slots (nor.bytes old')) asks)) → IsPlain g (nor.bytes old) → HasReserve g (nor.bytes old) → Leaves nor old new (CutIn nor g old (first_moment g slots (nor.bytes old)) asks)
+  pub same_cuts : {old new old' new' : D} (h : Geometry) (slots : ℕ) (asks : List Ask) → old ≡ old' → new ≡ new' → g ≡ h → Leaves nor old' new' (CutIn nor h old' (first_moment h slots (nor.bytes old')) asks) → Leaves nor old new (CutIn nor g old (first_moment g slots (nor.bytes old)) asks)
   same_cuts h slots asks same_old same_new same_g cuts = rw same_old (rw same_new (rw same_g cuts))

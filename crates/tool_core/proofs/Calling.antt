@@ -186,7 +186,7 @@ create_among g s name t fine is = rw (create_steps g s name fine) (inr (inl is))
 -- what a cut in a create leaves is what one in a run may
 create_publishes : (g : Geometry) (m : Moment) (name was image : List ℕ) → IsAt g was m → CreateCuts g m.state name was image → IsSafe g was image × IsAmong (table_of g image) (from_settled m (steps g true m.state (Creates name)))
 create_publishes g m name was image at here = (
-  record { sound = here.sound; reserve = here.reserve; plain = here.plain },
+  record { sound = λ magics. here.sound; reserve = λ reserve. here.reserve },
   ⊎_elim
       (λ same. is_settled m (table_of g image) (steps g true m.state (Creates name)) (same ∙ at.table))
       (λ made. from_state m (steps g true m.state (Creates name)) (table_of g image) at.still (create_among g m.state name (table_of g image) made.0 made.1))
@@ -208,7 +208,7 @@ module _ {D : Type 0} {nor : NorOf D} {g : Geometry} where
 
   -- reads publish nothing
   pub publishes_none : {old new : D} (ask : Ask) → OnlyReads nor old new → (m : Moment) → Changes nor old new (Publishes g m ask)
-  publishes_none {old} {new} ask reads m = read_after (unchanged old (Publishes g m ask) (λ tells at. (stays g (nor.bytes old) at.tidy at.reserve, is_settled m (table_of g (nor.bytes old)) (steps g true m.state ask) at.table))) reads
+  publishes_none {old} {new} ask reads m = read_after (unchanged old (Publishes g m ask) (λ tells at. (stays g (nor.bytes old), is_settled m (table_of g (nor.bytes old)) (steps g true m.state ask) at.table))) reads
 
   -- a call of this build was answered, and the image is that of the state after it
   answers_ready : {new : D} (m : Moment) (ask : Ask) (reply : Answer) → is_built ask ≡ true → nor.tells new → reply ≡ (answer g true m.state ask).answer → IsReady g (nor.bytes new) → table_of g (nor.bytes new) ≡ (answer g true m.state ask).next.table → Answers nor g new m ask reply

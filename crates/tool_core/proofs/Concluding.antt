@@ -9,8 +9,6 @@ use Rattle.table_model.specs.Ask.{Ask}
 use Rattle.table_model.specs.Window.{Moment}
 use Rattle.call_script.specs.Lines.{calls}
 use Rattle.image_model.specs.Tables.{table_of}
-use Rattle.image_model.specs.Tidy.{HasReserve}
-use Rattle.image_model.specs.Plain.{IsPlain}
 use Rattle.run_model.specs.Runs.{after_all, replies, IsCut}
 use Rattle.run_model.specs.Safe.{IsSafe}
 use Rattle.run_model.specs.Ran.{CutIn, SaidPart}
@@ -46,19 +44,19 @@ module _ {D : Type 0} {nor : NorOf D} {g : Geometry} where
         closing_is = sym (take-append-drop says.said.0 (closing_line_of ending));
         said = says.said.1 ∙ ap (λ (l : List ℕ). l ++ take says.said.0 (closing_line_of ending)) came.said ∙ append_assoc (nor.said old) (replies g m came.front) (take says.said.0 (closing_line_of ending));
         table = ap (table_of g) says.bytes ∙ came.table;
-        safe = λ plain reserve. subst (λ (l : List ℕ). IsSafe g (nor.bytes old) l) (sym says.bytes) (came.safe plain reserve);
+        safe = subst (λ (l : List ℕ). IsSafe g (nor.bytes old) l) (sym says.bytes) came.safe;
       }))
       ran
 
   -- so many bytes of the closing line were said
-  closing_case : {old mid : D} (m : Moment) (script left : List ℕ) (ending : Ending) (status : ℕ) (image : List ℕ) (count : ℕ) (part rest : List ℕ) → IsPlain g (nor.bytes old) → HasReserve g (nor.bytes old) → (status ≡ status_of ending) ⊎ (status ≡ 7) → Came nor g old mid m script left ending → image ≡ nor.bytes mid → closing_line_of ending ≡ part ++ rest → count ≡ length (nor.said mid) + length part → RunCut nor g old m script left status image count
-  closing_case {old} {mid} m script left ending status image count [] rest plain reserve named came same closing_is count_is = inl (call_cut (record {
+  closing_case : {old mid : D} (m : Moment) (script left : List ℕ) (ending : Ending) (status : ℕ) (image : List ℕ) (count : ℕ) (part rest : List ℕ) → (status ≡ status_of ending) ⊎ (status ≡ 7) → Came nor g old mid m script left ending → image ≡ nor.bytes mid → closing_line_of ending ≡ part ++ rest → count ≡ length (nor.said mid) + length part → RunCut nor g old m script left status image count
+  closing_case {old} {mid} m script left ending status image count [] rest named came same closing_is count_is = inl (call_cut (record {
     part = replies g m came.front ++ [];
     count_is = omega (arith, count_is, ap length came.said, length-append (nor.said old) (replies g m came.front), length-append (replies g m came.front) []);
-    safe = subst (λ (l : List ℕ). IsSafe g (nor.bytes old) l) (sym same) (came.safe plain reserve);
+    safe = subst (λ (l : List ℕ). IsSafe g (nor.bytes old) l) (sym same) came.safe;
     cut = subst (λ (zs : List Ask). IsCut g m zs (replies g m came.front ++ []) (table_of g image)) (sym came.asks_are) (cut_later g m came.front came.later [] (table_of g image) (cut_none g (after_all g m came.front) came.later (table_of g image) (is_settled (after_all g m came.front) (table_of g image) [] (ap (table_of g) same ∙ came.settled))));
   }))
-  closing_case {old} {mid} m script left ending status image count (x ∷ part) rest plain reserve named came same closing_is count_is = inr (record {
+  closing_case {old} {mid} m script left ending status image count (x ∷ part) rest named came same closing_is count_is = inr (record {
     ending = ending;
     named = named;
     front = came.front;
@@ -70,16 +68,16 @@ module _ {D : Type 0} {nor : NorOf D} {g : Geometry} where
     closing_is = closing_is;
     some = omega arith;
     count_is = omega (arith, count_is, ap length came.said, length-append (nor.said old) (replies g m came.front), length-append (replies g m came.front) (x ∷ part));
-    safe = subst (λ (l : List ℕ). IsSafe g (nor.bytes old) l) (sym same) (came.safe plain reserve);
+    safe = subst (λ (l : List ℕ). IsSafe g (nor.bytes old) l) (sym same) came.safe;
     table = ap (table_of g) same ∙ came.table;
   })
 
   -- what a cut in a run and in its closing line may leave
-  pub run_cuts : {old mid new : D} (m : Moment) (script left : List ℕ) (ending : Ending) (status : ℕ) → IsPlain g (nor.bytes old) → HasReserve g (nor.bytes old) → Leaves nor old mid (CutIn nor g old m (calls script)) → RunsTo nor g old mid m script left ending → EndsAs nor mid new ending status → Leaves nor mid new (InSay nor mid (closing_line_of ending)) → (closing_line_of ending ≡ [] → new ≡ mid) → Leaves nor old new (RunCut nor g old m script left status)
-  run_cuts {old} {mid} {new} m script left ending status plain reserve first ran ends leaves silent = ⊎_elim
+  pub run_cuts : {old mid new : D} (m : Moment) (script left : List ℕ) (ending : Ending) (status : ℕ) → Leaves nor old mid (CutIn nor g old m (calls script)) → RunsTo nor g old mid m script left ending → EndsAs nor mid new ending status → Leaves nor mid new (InSay nor mid (closing_line_of ending)) → (closing_line_of ending ≡ [] → new ≡ mid) → Leaves nor old new (RunCut nor g old m script left status)
+  run_cuts {old} {mid} {new} m script left ending status first ran ends leaves silent = ⊎_elim
       (λ broken. subst (λ (d : D). Leaves nor old d (RunCut nor g old m script left status)) (sym (silent (ap closing_line_of broken.0))) (widened first (λ image count here. inl (call_cut here))))
       (λ came. andthen (widened first (λ image count here. inl (call_cut here))) (widened leaves (λ image count here.
       let n = count - length (nor.said mid) in
       let within : n ≤ length (closing_line_of ending) = omega (arith, here.most) in
-      closing_case m script left ending status image count (take n (closing_line_of ending)) (drop n (closing_line_of ending)) plain reserve (⊎_elim (λ told. inl told) (λ fault. inr fault.0) ends) came (here.all_bytes came.tells) (sym (take-append-drop n (closing_line_of ending))) (omega (arith, here.least, length-take-le n (closing_line_of ending) within)))))
+      closing_case m script left ending status image count (take n (closing_line_of ending)) (drop n (closing_line_of ending)) (⊎_elim (λ told. inl told) (λ fault. inr fault.0) ends) came (here.all_bytes came.tells) (sym (take-append-drop n (closing_line_of ending))) (omega (arith, here.least, length-take-le n (closing_line_of ending) within)))))
       ran

@@ -1,34 +1,22 @@
 -- Which status a run answers, by its first image and its script.
 use Rattle.std.proofs.Common.{◌≡◌, ◌≢◌, ℕ, zero, suc, ◌+◌, ◌<◌, ◌≤◌, List, [], ◌∷◌, ◌++◌, length, refl, sym, ◌∙◌, ap, subst, arith, ⊎_elim, Bool, false, length-append, append-nil}
-use Rattle.std.specs.Prelude.{filter, not}
-use Rattle.std.specs.List.{range_with_len}
 use Rattle.geometry.specs.declared.geometry.Geometry.{Geometry}
 use Rattle.nor_core.specs.declared.state.NorState.{Ghosts as NorOf}
 use Rattle.nor_core.specs.Count.{Rose}
 use Rattle.table_model.specs.Ask.{Ask}
 use Rattle.table_model.specs.Window.{Moment}
 use Rattle.call_script.specs.Lines.{Bad, lines, of_line, calls}
-use Rattle.image_model.specs.Places.{has_magic}
 use Rattle.image_model.specs.Tables.{table_of}
 use Rattle.image_model.specs.Tidy.{free_blocks, HasReserve}
-use Rattle.image_model.specs.Kinds.{spoiled_blocks}
-use Rattle.image_model.specs.Plain.{IsPlain}
+use Rattle.image_model.specs.Kinds.{spoiled_blocks, mixed_blocks}
 use Rattle.run_model.specs.Runs.{after_all, replies}
 use Rattle.tool_core.specs.declared.ending.Ending.{Ending}
-use Rattle.tool_core.specs.declared.ending.Ending.TheVariants.{Done, Usage, Geometry as WrongGeometry, ShortBuffer, NotAFs, BadLine, BoardFault, SourceFault, TooLong, Damaged, Tight, Unbuilt, UnbuiltImage, Differ}
+use Rattle.tool_core.specs.declared.ending.Ending.TheVariants.{Done, Usage, Geometry as WrongGeometry, ShortBuffer, NotAFs, BadLine, BoardFault, SourceFault, TooLong, Damaged, Tight, Unbuilt, Mixed, Differ}
 use Rattle.tool_core.specs.Closing.{status_of, closing_line_of}
+use Rattle.tool_core.specs.Begins.{IsCheckable}
 use Rattle.tool_core.specs.Turns.{AllGood}
 use Rattle.tool_core.specs.Outcomes.{HasBad, IsTooLong, WhyRan}
 use Rattle.tool_core.specs.Headline.{Closes, Outcome, RanWhole, IsExact, IsComplete}
-
-none_pass : (test : ℕ → Bool) (a n : ℕ) → ((q : ℕ) → a ≤ q → q < a + n → test q ≡ false) → length (filter test (range_with_len a n)) ≡ 0
-none_pass test a zero none = refl
-none_pass test a (suc n) none = rw (none a (omega arith) (omega arith)) (none_pass test (a + 1) n (λ q low high. none q (omega arith) (omega arith)))
-
--- every block of a plain image has its magic
-plain_unspoiled : (g : Geometry) (image : List ℕ) → IsPlain g image → spoiled_blocks g image ≡ 0
-unfolding spoiled_blocks
-plain_unspoiled g image plain = none_pass (λ block. not (has_magic g image block)) 0 g.blocks (λ q low high. ap not (plain.magic q (omega (arith, high))))
 
 good_has_no_bad : (done : List (List ℕ)) (bad : List ℕ) (others : List (List ℕ)) → AllGood (done ++ (bad ∷ others)) → of_line bad ≡ Bad → ⊥
 unfolding AllGood
@@ -44,9 +32,9 @@ not_too_long script front few long = omega (arith, few, long.count, ap length lo
 
 spoiled_status : (ending : Ending) (g : Geometry) (m : Moment) (first image script left : List ℕ) (front later : List Ask) → WhyRan g m first image script left front later ending → 2 ≤ spoiled_blocks g first → status_of ending ≡ 3
 spoiled_status (NotAFs n) g m first image script left front later why two = refl
-spoiled_status UnbuiltImage g m first image script left front later why two = absurd (omega (arith, why.1, two))
-spoiled_status (Tight n) g m first image script left front later why two = absurd (omega (arith, plain_unspoiled g first why.1, two))
-spoiled_status _ g m first image script left front later why two = absurd (omega (arith, plain_unspoiled g first why.0.plain, two))
+spoiled_status (Mixed n) g m first image script left front later why two = absurd (omega (arith, why.1, two))
+spoiled_status (Tight n) g m first image script left front later why two = absurd (omega (arith, why.1.magics, two))
+spoiled_status _ g m first image script left front later why two = absurd (omega (arith, why.0.takes.magics, two))
 
 spoiled_cause : (ending : Ending) (g : Geometry) (m : Moment) (first image script left : List ℕ) (front later : List Ask) → WhyRan g m first image script left front later ending → status_of ending ≡ 3 → 2 ≤ spoiled_blocks g first
 spoiled_cause (NotAFs n) g m first image script left front later why is = omega (arith, why.1, why.2)
@@ -61,22 +49,38 @@ spoiled_cause TooLong g m first image script left front later why is = absurd (o
 spoiled_cause (Damaged n) g m first image script left front later why is = absurd (omega (arith, is))
 spoiled_cause (Tight n) g m first image script left front later why is = absurd (omega (arith, is))
 spoiled_cause Unbuilt g m first image script left front later why is = absurd (omega (arith, is))
-spoiled_cause UnbuiltImage g m first image script left front later why is = absurd (omega (arith, is))
+spoiled_cause (Mixed n) g m first image script left front later why is = absurd (omega (arith, is))
 spoiled_cause (Differ d) g m first image script left front later why is = absurd (omega (arith, is))
 
-unbuilt_status : (ending : Ending) (g : Geometry) (m : Moment) (first image script left : List ℕ) (front later : List Ask) → WhyRan g m first image script left front later ending → spoiled_blocks g first < 2 → (IsPlain g first → ⊥) → status_of ending ≡ 16
-unbuilt_status (NotAFs n) g m first image script left front later why few not_plain = absurd (omega (arith, why.1, why.2, few))
-unbuilt_status UnbuiltImage g m first image script left front later why few not_plain = refl
-unbuilt_status (Tight n) g m first image script left front later why few not_plain = absurd (not_plain why.1)
-unbuilt_status _ g m first image script left front later why few not_plain = absurd (not_plain why.0.plain)
+mixed_status : (ending : Ending) (g : Geometry) (m : Moment) (first image script left : List ℕ) (front later : List Ask) → WhyRan g m first image script left front later ending → spoiled_blocks g first < 2 → 0 < mixed_blocks g first → status_of ending ≡ 4
+mixed_status (NotAFs n) g m first image script left front later why few some = absurd (omega (arith, why.1, why.2, few))
+mixed_status (Mixed n) g m first image script left front later why few some = refl
+mixed_status (Tight n) g m first image script left front later why few some = absurd (omega (arith, why.1.unmixed, some))
+mixed_status _ g m first image script left front later why few some = absurd (omega (arith, why.0.takes.unmixed, some))
 
-tight_status : (ending : Ending) (g : Geometry) (m : Moment) (first image script left : List ℕ) (front later : List Ask) → WhyRan g m first image script left front later ending → IsPlain g first → free_blocks g image < 2 → status_of ending ≡ 14
-tight_status (NotAFs n) g m first image script left front later why plain few = absurd (omega (arith, why.1, why.2, plain_unspoiled g first plain))
-tight_status UnbuiltImage g m first image script left front later why plain few = absurd (why.2 plain)
-tight_status (Tight n) g m first image script left front later why plain few = refl
-tight_status _ g m first image script left front later why plain few = absurd (omega (arith, why.0.reserve, few))
+mixed_cause : (ending : Ending) (g : Geometry) (m : Moment) (first image script left : List ℕ) (front later : List Ask) → WhyRan g m first image script left front later ending → status_of ending ≡ 4 → (spoiled_blocks g first < 2) × (0 < mixed_blocks g first)
+mixed_cause (Mixed n) g m first image script left front later why is = (why.1, omega (arith, why.2, why.3))
+mixed_cause Done g m first image script left front later why is = absurd (omega (arith, is))
+mixed_cause Usage g m first image script left front later why is = absurd (omega (arith, is))
+mixed_cause (WrongGeometry e) g m first image script left front later why is = absurd (omega (arith, is))
+mixed_cause (ShortBuffer p n h) g m first image script left front later why is = absurd (omega (arith, is))
+mixed_cause (NotAFs n) g m first image script left front later why is = absurd (omega (arith, is))
+mixed_cause (BadLine n) g m first image script left front later why is = absurd (omega (arith, is))
+mixed_cause BoardFault g m first image script left front later why is = absurd (omega (arith, is))
+mixed_cause SourceFault g m first image script left front later why is = absurd (omega (arith, is))
+mixed_cause TooLong g m first image script left front later why is = absurd (omega (arith, is))
+mixed_cause (Damaged n) g m first image script left front later why is = absurd (omega (arith, is))
+mixed_cause (Tight n) g m first image script left front later why is = absurd (omega (arith, is))
+mixed_cause Unbuilt g m first image script left front later why is = absurd (omega (arith, is))
+mixed_cause (Differ d) g m first image script left front later why is = absurd (omega (arith, is))
 
-tight_cause : (ending : Ending) (g : Geometry) (m : Moment) (first image script left : List ℕ) (front later : List Ask) → WhyRan g m first image script left front later ending → status_of ending ≡ 14 → IsPlain g first × (free_blocks g image < 2)
+tight_status : (ending : Ending) (g : Geometry) (m : Moment) (first image script left : List ℕ) (front later : List Ask) → WhyRan g m first image script left front later ending → IsCheckable g first → free_blocks g image < 2 → status_of ending ≡ 14
+tight_status (NotAFs n) g m first image script left front later why takes few = absurd (omega (arith, why.1, why.2, takes.magics))
+tight_status (Mixed n) g m first image script left front later why takes few = absurd (omega (arith, why.2, why.3, takes.unmixed))
+tight_status (Tight n) g m first image script left front later why takes few = refl
+tight_status _ g m first image script left front later why takes few = absurd (omega (arith, why.0.reserve, few))
+
+tight_cause : (ending : Ending) (g : Geometry) (m : Moment) (first image script left : List ℕ) (front later : List Ask) → WhyRan g m first image script left front later ending → status_of ending ≡ 14 → IsCheckable g first × (free_blocks g image < 2)
 tight_cause (Tight n) g m first image script left front later why is = (why.1, omega (arith, why.2, why.3))
 tight_cause Done g m first image script left front later why is = absurd (omega (arith, is))
 tight_cause Usage g m first image script left front later why is = absurd (omega (arith, is))
@@ -89,7 +93,7 @@ tight_cause SourceFault g m first image script left front later why is = absurd 
 tight_cause TooLong g m first image script left front later why is = absurd (omega (arith, is))
 tight_cause (Damaged n) g m first image script left front later why is = absurd (omega (arith, is))
 tight_cause Unbuilt g m first image script left front later why is = absurd (omega (arith, is))
-tight_cause UnbuiltImage g m first image script left front later why is = absurd (omega (arith, is))
+tight_cause (Mixed n) g m first image script left front later why is = absurd (omega (arith, is))
 tight_cause (Differ d) g m first image script left front later why is = absurd (omega (arith, is))
 
 no_differ : (ending : Ending) (g : Geometry) (m : Moment) (first image script left : List ℕ) (front later : List Ask) → WhyRan g m first image script left front later ending → status_of ending ≡ 21 → ⊥
@@ -106,42 +110,42 @@ no_differ TooLong g m first image script left front later why is = omega (arith,
 no_differ (Damaged n) g m first image script left front later why is = omega (arith, is)
 no_differ (Tight n) g m first image script left front later why is = omega (arith, is)
 no_differ Unbuilt g m first image script left front later why is = omega (arith, is)
-no_differ UnbuiltImage g m first image script left front later why is = omega (arith, is)
+no_differ (Mixed n) g m first image script left front later why is = omega (arith, is)
 
--- of a plain image with its reserve and a script that isn't too long, where no page lacks and nothing failed
-whole_status : (ending : Ending) (g : Geometry) (m : Moment) (first image script left : List ℕ) (front later : List Ask) (status : ℕ) → WhyRan g m first image script left front later ending → status ≡ status_of ending → IsPlain g first → HasReserve g image → length script ≤ 16777216 → status ≢ 16 → status ≢ 8 → AllGood (lines script) → status ≡ 0
-whole_status Done g m first image script left front later status why is plain reserve few lacks read good = is
-whole_status (NotAFs n) g m first image script left front later status why is plain reserve few lacks read good = absurd (omega (arith, why.1, why.2, plain_unspoiled g first plain))
-whole_status UnbuiltImage g m first image script left front later status why is plain reserve few lacks read good = absurd (lacks is)
-whole_status Unbuilt g m first image script left front later status why is plain reserve few lacks read good = absurd (lacks is)
-whole_status (Tight n) g m first image script left front later status why is plain reserve few lacks read good = absurd (omega (arith, why.2, why.3, reserve))
-whole_status (BadLine n) g m first image script left front later status why is plain reserve few lacks read good = absurd (bad_not_good script n why.1.1 good)
-whole_status TooLong g m first image script left front later status why is plain reserve few lacks read good = absurd (not_too_long script front few why.1)
-whole_status SourceFault g m first image script left front later status why is plain reserve few lacks read good = absurd (read is)
-whole_status _ g m first image script left front later status why is plain reserve few lacks read good = absurd why.1
+-- of an image that the check takes, with its reserve and a script that isn't too long, where no page lacks and nothing failed
+whole_status : (ending : Ending) (g : Geometry) (m : Moment) (first image script left : List ℕ) (front later : List Ask) (status : ℕ) → WhyRan g m first image script left front later ending → status ≡ status_of ending → IsCheckable g first → HasReserve g image → length script ≤ 16777216 → status ≢ 16 → status ≢ 8 → AllGood (lines script) → status ≡ 0
+whole_status Done g m first image script left front later status why is takes reserve few lacks read good = is
+whole_status (NotAFs n) g m first image script left front later status why is takes reserve few lacks read good = absurd (omega (arith, why.1, why.2, takes.magics))
+whole_status (Mixed n) g m first image script left front later status why is takes reserve few lacks read good = absurd (omega (arith, why.2, why.3, takes.unmixed))
+whole_status Unbuilt g m first image script left front later status why is takes reserve few lacks read good = absurd (lacks is)
+whole_status (Tight n) g m first image script left front later status why is takes reserve few lacks read good = absurd (omega (arith, why.2, why.3, reserve))
+whole_status (BadLine n) g m first image script left front later status why is takes reserve few lacks read good = absurd (bad_not_good script n why.1.1 good)
+whole_status TooLong g m first image script left front later status why is takes reserve few lacks read good = absurd (not_too_long script front few why.1)
+whole_status SourceFault g m first image script left front later status why is takes reserve few lacks read good = absurd (read is)
+whole_status _ g m first image script left front later status why is takes reserve few lacks read good = absurd why.1
 
--- of a plain image with its reserve and a script that is too long
-long_status : (ending : Ending) (g : Geometry) (m : Moment) (first image script left : List ℕ) (front later : List Ask) (status : ℕ) → WhyRan g m first image script left front later ending → status ≡ status_of ending → IsPlain g first → HasReserve g image → 16777216 < length script → status ≢ 16 → status ≢ 8 → AllGood (lines script) → status ≡ 11
-long_status Done g m first image script left front later status why is plain reserve long lacks read good = absurd (omega (arith, why.1.3, long))
-long_status (NotAFs n) g m first image script left front later status why is plain reserve long lacks read good = absurd (omega (arith, why.1, why.2, plain_unspoiled g first plain))
-long_status UnbuiltImage g m first image script left front later status why is plain reserve long lacks read good = absurd (lacks is)
-long_status Unbuilt g m first image script left front later status why is plain reserve long lacks read good = absurd (lacks is)
-long_status (Tight n) g m first image script left front later status why is plain reserve long lacks read good = absurd (omega (arith, why.2, why.3, reserve))
-long_status (BadLine n) g m first image script left front later status why is plain reserve long lacks read good = absurd (bad_not_good script n why.1.1 good)
-long_status TooLong g m first image script left front later status why is plain reserve long lacks read good = is
-long_status SourceFault g m first image script left front later status why is plain reserve long lacks read good = absurd (read is)
-long_status _ g m first image script left front later status why is plain reserve long lacks read good = absurd why.1
+-- of an image that the check takes, with its reserve and a script that is too long
+long_status : (ending : Ending) (g : Geometry) (m : Moment) (first image script left : List ℕ) (front later : List Ask) (status : ℕ) → WhyRan g m first image script left front later ending → status ≡ status_of ending → IsCheckable g first → HasReserve g image → 16777216 < length script → status ≢ 16 → status ≢ 8 → AllGood (lines script) → status ≡ 11
+long_status Done g m first image script left front later status why is takes reserve long lacks read good = absurd (omega (arith, why.1.3, long))
+long_status (NotAFs n) g m first image script left front later status why is takes reserve long lacks read good = absurd (omega (arith, why.1, why.2, takes.magics))
+long_status (Mixed n) g m first image script left front later status why is takes reserve long lacks read good = absurd (omega (arith, why.2, why.3, takes.unmixed))
+long_status Unbuilt g m first image script left front later status why is takes reserve long lacks read good = absurd (lacks is)
+long_status (Tight n) g m first image script left front later status why is takes reserve long lacks read good = absurd (omega (arith, why.2, why.3, reserve))
+long_status (BadLine n) g m first image script left front later status why is takes reserve long lacks read good = absurd (bad_not_good script n why.1.1 good)
+long_status TooLong g m first image script left front later status why is takes reserve long lacks read good = is
+long_status SourceFault g m first image script left front later status why is takes reserve long lacks read good = absurd (read is)
+long_status _ g m first image script left front later status why is takes reserve long lacks read good = absurd why.1
 
-bad_status : (ending : Ending) (g : Geometry) (m : Moment) (first image script left : List ℕ) (front later : List Ask) (status : ℕ) → WhyRan g m first image script left front later ending → status ≡ status_of ending → IsPlain g first → HasReserve g image → length script ≤ 16777216 → status ≢ 16 → status ≢ 8 → (n : ℕ) → HasBad script n → status ≡ 5
-bad_status Done g m first image script left front later status why is plain reserve few lacks read n bad = absurd (bad_not_good script n bad why.1.1)
-bad_status (NotAFs k) g m first image script left front later status why is plain reserve few lacks read n bad = absurd (omega (arith, why.1, why.2, plain_unspoiled g first plain))
-bad_status UnbuiltImage g m first image script left front later status why is plain reserve few lacks read n bad = absurd (lacks is)
-bad_status Unbuilt g m first image script left front later status why is plain reserve few lacks read n bad = absurd (lacks is)
-bad_status (Tight k) g m first image script left front later status why is plain reserve few lacks read n bad = absurd (omega (arith, why.2, why.3, reserve))
-bad_status (BadLine k) g m first image script left front later status why is plain reserve few lacks read n bad = is
-bad_status TooLong g m first image script left front later status why is plain reserve few lacks read n bad = absurd (not_too_long script front few why.1)
-bad_status SourceFault g m first image script left front later status why is plain reserve few lacks read n bad = absurd (read is)
-bad_status _ g m first image script left front later status why is plain reserve few lacks read n bad = absurd why.1
+bad_status : (ending : Ending) (g : Geometry) (m : Moment) (first image script left : List ℕ) (front later : List Ask) (status : ℕ) → WhyRan g m first image script left front later ending → status ≡ status_of ending → IsCheckable g first → HasReserve g image → length script ≤ 16777216 → status ≢ 16 → status ≢ 8 → (n : ℕ) → HasBad script n → status ≡ 5
+bad_status Done g m first image script left front later status why is takes reserve few lacks read n bad = absurd (bad_not_good script n bad why.1.1)
+bad_status (NotAFs k) g m first image script left front later status why is takes reserve few lacks read n bad = absurd (omega (arith, why.1, why.2, takes.magics))
+bad_status (Mixed k) g m first image script left front later status why is takes reserve few lacks read n bad = absurd (omega (arith, why.2, why.3, takes.unmixed))
+bad_status Unbuilt g m first image script left front later status why is takes reserve few lacks read n bad = absurd (lacks is)
+bad_status (Tight k) g m first image script left front later status why is takes reserve few lacks read n bad = absurd (omega (arith, why.2, why.3, reserve))
+bad_status (BadLine k) g m first image script left front later status why is takes reserve few lacks read n bad = is
+bad_status TooLong g m first image script left front later status why is takes reserve few lacks read n bad = absurd (not_too_long script front few why.1)
+bad_status SourceFault g m first image script left front later status why is takes reserve few lacks read n bad = absurd (read is)
+bad_status _ g m first image script left front later status why is takes reserve few lacks read n bad = absurd why.1
 
 module _ {D : Type 0} {nor : NorOf D} {g : Geometry} where
   -- a run that didn't end in a fault has the status of its ending
@@ -154,9 +158,10 @@ module _ {D : Type 0} {nor : NorOf D} {g : Geometry} where
       record {
         spoiled = λ two. by_ending (status ≡ 3) fine outcome (λ c is. is ∙ spoiled_status c.ending g _ (nor.bytes old) (nor.bytes new) script left c.front c.later c.why two);
         spoiled_only = λ three. by_ending (2 ≤ spoiled_blocks g (nor.bytes old)) fine outcome (λ c is. spoiled_cause c.ending g _ (nor.bytes old) (nor.bytes new) script left c.front c.later c.why (sym is ∙ three));
-        unbuilt_image = λ few not_plain. by_ending (status ≡ 16) fine outcome (λ c is. is ∙ unbuilt_status c.ending g _ (nor.bytes old) (nor.bytes new) script left c.front c.later c.why few not_plain);
-        tight = λ plain few. by_ending (status ≡ 14) fine outcome (λ c is. is ∙ tight_status c.ending g _ (nor.bytes old) (nor.bytes new) script left c.front c.later c.why plain few);
-        tight_only = λ tight. by_ending (IsPlain g (nor.bytes old) × (free_blocks g (nor.bytes new) < 2)) fine outcome (λ c is. tight_cause c.ending g _ (nor.bytes old) (nor.bytes new) script left c.front c.later c.why (sym is ∙ tight));
+        mixed = λ few some. by_ending (status ≡ 4) fine outcome (λ c is. is ∙ mixed_status c.ending g _ (nor.bytes old) (nor.bytes new) script left c.front c.later c.why few some);
+        mixed_only = λ four. by_ending ((spoiled_blocks g (nor.bytes old) < 2) × (0 < mixed_blocks g (nor.bytes old))) fine outcome (λ c is. mixed_cause c.ending g _ (nor.bytes old) (nor.bytes new) script left c.front c.later c.why (sym is ∙ four));
+        tight = λ takes few. by_ending (status ≡ 14) fine outcome (λ c is. is ∙ tight_status c.ending g _ (nor.bytes old) (nor.bytes new) script left c.front c.later c.why takes few);
+        tight_only = λ tight. by_ending (IsCheckable g (nor.bytes old) × (free_blocks g (nor.bytes new) < 2)) fine outcome (λ c is. tight_cause c.ending g _ (nor.bytes old) (nor.bytes new) script left c.front c.later c.why (sym is ∙ tight));
         never_differs = λ differs. by_ending ⊥ fine outcome (λ c is. no_differ c.ending g _ (nor.bytes old) (nor.bytes new) script left c.front c.later c.why (sym is ∙ differs));
       }
 
@@ -164,9 +169,9 @@ module _ {D : Type 0} {nor : NorOf D} {g : Geometry} where
   complete_of {old} {new} {m} {script} {left} {status} fault no_fault read outcome =
       let fine : status ≢ 7 = λ is. no_fault (fault is) in
       record {
-        done = λ plain reserve few lacks good. by_ending (status ≡ 0) fine outcome (λ c is. whole_status c.ending g _ (nor.bytes old) (nor.bytes new) script left c.front c.later status c.why is plain (c.safe plain reserve).reserve few lacks read good);
-        long = λ plain reserve long lacks good. by_ending (status ≡ 11) fine outcome (λ c is. long_status c.ending g _ (nor.bytes old) (nor.bytes new) script left c.front c.later status c.why is plain (c.safe plain reserve).reserve long lacks read good);
-        bad_line = λ plain reserve few lacks n bad. by_ending (status ≡ 5) fine outcome (λ c is. bad_status c.ending g _ (nor.bytes old) (nor.bytes new) script left c.front c.later status c.why is plain (c.safe plain reserve).reserve few lacks read n bad);
+        done = λ takes reserve few lacks good. by_ending (status ≡ 0) fine outcome (λ c is. whole_status c.ending g _ (nor.bytes old) (nor.bytes new) script left c.front c.later status c.why is takes (c.safe.reserve reserve) few lacks read good);
+        long = λ takes reserve long lacks good. by_ending (status ≡ 11) fine outcome (λ c is. long_status c.ending g _ (nor.bytes old) (nor.bytes new) script left c.front c.later status c.why is takes (c.safe.reserve reserve) long lacks read good);
+        bad_line = λ takes reserve few lacks n bad. by_ending (status ≡ 5) fine outcome (λ c is. bad_status c.ending g _ (nor.bytes old) (nor.bytes new) script left c.front c.later status c.why is takes (c.safe.reserve reserve) few lacks read n bad);
       }
 
   whole_of : {old new : D} (ending : Ending) (m : Moment) (script left : List ℕ) (front later : List Ask) → status_of ending ≡ 0 → calls script ≡ front ++ later → WhyRan g (after_all g m front) (nor.bytes old) (nor.bytes new) script left front later ending → nor.said new ≡ nor.said old ++ (replies g m front ++ closing_line_of ending) → table_of g (nor.bytes new) ≡ (after_all g m front).state.table → RanWhole nor g old new m script left
@@ -190,7 +195,7 @@ module _ {D : Type 0} {nor : NorOf D} {g : Geometry} where
   whole_of (Damaged n) m script left front later is asks_are why said table = absurd (omega (arith, is))
   whole_of (Tight n) m script left front later is asks_are why said table = absurd (omega (arith, is))
   whole_of Unbuilt m script left front later is asks_are why said table = absurd (omega (arith, is))
-  whole_of UnbuiltImage m script left front later is asks_are why said table = absurd (omega (arith, is))
+  whole_of (Mixed n) m script left front later is asks_are why said table = absurd (omega (arith, is))
   whole_of (Differ d) m script left front later is asks_are why said table = absurd (omega (arith, is))
 
   -- with status 0 the whole script was run

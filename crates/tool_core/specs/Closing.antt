@@ -5,7 +5,7 @@ use Rattle.table_model.specs.declared.error.Differ.{Differ as Differs}
 use Rattle.vol_mount.specs.declared.lent.Part.{Part}
 use Rattle.vol_mount.specs.declared.lent.Part.TheVariants.{Work, Slots, Cache, Check, Line}
 use Rattle.tool_core.specs.declared.ending.Ending.{Ending}
-use Rattle.tool_core.specs.declared.ending.Ending.TheVariants.{Done, Usage, Geometry, ShortBuffer, NotAFs, BadLine, BoardFault, SourceFault, TooLong, Damaged, Tight, Unbuilt, UnbuiltImage, Differ}
+use Rattle.tool_core.specs.declared.ending.Ending.TheVariants.{Done, Usage, Geometry, ShortBuffer, NotAFs, BadLine, BoardFault, SourceFault, TooLong, Damaged, Tight, Unbuilt, Mixed, Differ}
 
 -- the status that a command answers
 abbrev pub status_of : Ending → ℕ
@@ -13,6 +13,7 @@ status_of Done = 0
 status_of Usage = 1
 status_of (Geometry why) = 2
 status_of (NotAFs spoiled) = 3
+status_of (Mixed blocks) = 4
 status_of (BadLine number) = 5
 status_of BoardFault = 7
 status_of SourceFault = 8
@@ -21,7 +22,6 @@ status_of TooLong = 11
 status_of (Damaged count) = 12
 status_of (Tight free) = 14
 status_of Unbuilt = 16
-status_of UnbuiltImage = 16
 status_of (Differ differ) = 21
 
 -- the word for a part of the lent memory
@@ -51,6 +51,7 @@ closing_of Usage = codes "! usage"
 closing_of (Geometry why) = codes "! geometry " ++ decimal (code_of why)
 closing_of (ShortBuffer part need given) = short_text part need given
 closing_of (NotAFs spoiled) = spoiled_text spoiled
+closing_of (Mixed blocks) = codes "! mixed blocks " ++ decimal blocks
 closing_of (BadLine number) = codes "! bad line " ++ decimal number
 closing_of BoardFault = []
 closing_of SourceFault = codes "! script fault"
@@ -58,7 +59,6 @@ closing_of TooLong = codes "! script longer than 16777216 bytes"
 closing_of (Damaged count) = codes "! damaged " ++ decimal count
 closing_of (Tight free) = codes "! free blocks " ++ decimal free
 closing_of Unbuilt = codes "! unbuilt"
-closing_of UnbuiltImage = codes "! unbuilt image"
 closing_of (Differ differ) = differ_text differ
 
 -- a line with the byte that ends it, if there is one

@@ -8,8 +8,7 @@ use Rattle.table_model.specs.Window.{Moment}
 use Rattle.call_script.specs.Lines.{lines, calls}
 use Rattle.image_model.specs.Tables.{table_of}
 use Rattle.image_model.specs.Tidy.{free_blocks, HasReserve}
-use Rattle.image_model.specs.Kinds.{spoiled_blocks}
-use Rattle.image_model.specs.Plain.{IsPlain}
+use Rattle.image_model.specs.Kinds.{spoiled_blocks, mixed_blocks}
 use Rattle.run_model.specs.Runs.{after_all, replies, IsCutAfter}
 use Rattle.run_model.specs.Safe.{IsSafe}
 use Rattle.run_model.specs.Ran.{SaidPart}
@@ -20,6 +19,7 @@ use Rattle.tool_core.specs.Words.{run_form, list_form}
 use Rattle.tool_core.specs.Plan.{refusal_of}
 use Rattle.tool_core.specs.Closing.{status_of, closing_line_of}
 use Rattle.tool_core.specs.Endings.{EndsAs}
+use Rattle.tool_core.specs.Begins.{IsCheckable}
 use Rattle.tool_core.specs.Turns.{AllGood}
 use Rattle.tool_core.specs.Outcomes.{HasBad, WhyRan}
 
@@ -57,7 +57,7 @@ pub record Closes {D : Type 0} (nor : NorOf D) (g : Geometry) (old new : D) (m :
   pub closing_is : closing_line_of ending ≡ part ++ rest
   pub said : nor.said new ≡ nor.said old ++ (replies g m front ++ part)
   pub table : table_of g (nor.bytes new) ≡ (after_all g m front).state.table
-  pub safe : IsPlain g (nor.bytes old) → HasReserve g (nor.bytes old) → IsSafe g (nor.bytes old) (nor.bytes new)
+  pub safe : IsSafe g (nor.bytes old) (nor.bytes new)
 
 -- what a run leaves and answers
 abbrev pub Outcome : {D : Type 0} (nor : NorOf D) (g : Geometry) (old new : D) (m : Moment) (script left : List ℕ) (status : ℕ) → Type 0
@@ -100,19 +100,21 @@ pub record ClosingCut {D : Type 0} (nor : NorOf D) (g : Geometry) (old : D) (m :
 abbrev pub RunCut : {D : Type 0} (nor : NorOf D) (g : Geometry) (old : D) (m : Moment) (script left : List ℕ) (status : ℕ) (image : List ℕ) (count : ℕ) → Type 0
 RunCut nor g old m script left status image count = CallCut nor g old m (calls script) image count ⊎ ClosingCut nor g old m script left status image count
 
--- The statuses of a first image, where no fault was counted: 3 exactly where two or more blocks lack their magic; 16 where fewer
--- lack it and the image isn't plain; 14 exactly where fewer than two blocks are free in the end; never 21.
+-- The statuses of a first image, where no fault was counted: 3 exactly where two or more blocks lack their magic; 4 exactly where
+-- fewer lack it and a block is mixed; 14 exactly where none is mixed and fewer than two blocks are free in the end; never 21.
 pub record IsExact {D : Type 0} (nor : NorOf D) (g : Geometry) (old new : D) (status : ℕ) : Type 0 where
   pub spoiled : 2 ≤ spoiled_blocks g (nor.bytes old) → status ≡ 3
   pub spoiled_only : status ≡ 3 → 2 ≤ spoiled_blocks g (nor.bytes old)
-  pub unbuilt_image : spoiled_blocks g (nor.bytes old) < 2 → (IsPlain g (nor.bytes old) → ⊥) → status ≡ 16
-  pub tight : IsPlain g (nor.bytes old) → free_blocks g (nor.bytes new) < 2 → status ≡ 14
-  pub tight_only : status ≡ 14 → IsPlain g (nor.bytes old) × (free_blocks g (nor.bytes new) < 2)
+  pub mixed : spoiled_blocks g (nor.bytes old) < 2 → 0 < mixed_blocks g (nor.bytes old) → status ≡ 4
+  pub mixed_only : status ≡ 4 → (spoiled_blocks g (nor.bytes old) < 2) × (0 < mixed_blocks g (nor.bytes old))
+  pub tight : IsCheckable g (nor.bytes old) → free_blocks g (nor.bytes new) < 2 → status ≡ 14
+  pub tight_only : status ≡ 14 → IsCheckable g (nor.bytes old) × (free_blocks g (nor.bytes new) < 2)
   pub never_differs : status ≢ 21
 
--- A plain first image with its reserve, and no call that lacks its page. Where every line is in the grammar, the status is 0 for a
--- script of at most 16,777,216 bytes and 11 for a longer one; where a line of one that isn't longer is outside, it is 5.
+-- A first image that the check takes, with its reserve, and no call that lacks its page. Where every line is in the grammar, the
+-- status is 0 for a script of at most 16,777,216 bytes and 11 for a longer one; where a line of one that isn't longer is outside,
+-- it is 5.
 pub record IsComplete {D : Type 0} (nor : NorOf D) (g : Geometry) (old : D) (script : List ℕ) (status : ℕ) : Type 0 where
-  pub done : IsPlain g (nor.bytes old) → HasReserve g (nor.bytes old) → length script ≤ 16777216 → status ≢ 16 → AllGood (lines script) → status ≡ 0
-  pub long : IsPlain g (nor.bytes old) → HasReserve g (nor.bytes old) → 16777216 < length script → status ≢ 16 → AllGood (lines script) → status ≡ 11
-  pub bad_line : IsPlain g (nor.bytes old) → HasReserve g (nor.bytes old) → length script ≤ 16777216 → status ≢ 16 → (number : ℕ) → HasBad script number → status ≡ 5
+  pub done : IsCheckable g (nor.bytes old) → HasReserve g (nor.bytes old) → length script ≤ 16777216 → status ≢ 16 → AllGood (lines script) → status ≡ 0
+  pub long : IsCheckable g (nor.bytes old) → HasReserve g (nor.bytes old) → 16777216 < length script → status ≢ 16 → AllGood (lines script) → status ≡ 11
+  pub bad_line : IsCheckable g (nor.bytes old) → HasReserve g (nor.bytes old) → length script ≤ 16777216 → status ≢ 16 → (number : ℕ) → HasBad script number → status ≡ 5

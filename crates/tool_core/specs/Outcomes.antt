@@ -7,13 +7,13 @@ use Rattle.table_model.specs.Window.{Moment, settled_at}
 use Rattle.call_script.specs.Lines.{Bad, lines, of_line, calls, NoBreak}
 use Rattle.image_model.specs.Tables.{table_of}
 use Rattle.image_model.specs.Tidy.{free_blocks, HasReserve}
-use Rattle.image_model.specs.Kinds.{spoiled_blocks}
-use Rattle.image_model.specs.Plain.{IsPlain}
+use Rattle.image_model.specs.Kinds.{spoiled_blocks, mixed_blocks}
 use Rattle.run_model.specs.Runs.{after_all, replies}
 use Rattle.run_model.specs.Safe.{IsSafe}
 use Rattle.run_model.specs.Ran.{Reached, SaidPart}
 use Rattle.tool_core.specs.declared.ending.Ending.{Ending}
-use Rattle.tool_core.specs.declared.ending.Ending.TheVariants.{Done, NotAFs, BadLine, BoardFault, SourceFault, TooLong, Tight, Unbuilt, UnbuiltImage}
+use Rattle.tool_core.specs.declared.ending.Ending.TheVariants.{Done, NotAFs, BadLine, BoardFault, SourceFault, TooLong, Tight, Unbuilt, Mixed}
+use Rattle.tool_core.specs.Begins.{IsCheckable}
 use Rattle.tool_core.specs.Turns.{AllGood, LacksPage}
 
 -- a line of a script is outside the grammar, the first such, by its number from 1
@@ -86,14 +86,14 @@ first_moment g slots image = settled_at (record { table = table_of g image; slot
 
 -- the check took the first image, and left the volume its reserve
 pub record IsChecked (g : Geometry) (first image : List ℕ) : Type 0 where
-  pub plain : IsPlain g first
+  pub takes : IsCheckable g first
   pub reserve : HasReserve g image
 
 -- Why a run ends after some calls and before others: for its first image before the first call, or for what it met.
 abbrev pub WhyRan : (g : Geometry) (m : Moment) (first image script left : List ℕ) (front later : List Ask) → Ending → Type 0
 WhyRan g m first image script left front later (NotAFs spoiled) = (front ≡ []) × (spoiled ≡ spoiled_blocks g first) × (2 ≤ spoiled)
-WhyRan g m first image script left front later UnbuiltImage = (front ≡ []) × (spoiled_blocks g first < 2) × (IsPlain g first → ⊥)
-WhyRan g m first image script left front later (Tight free) = (front ≡ []) × IsPlain g first × (free ≡ free_blocks g image) × (free < 2)
+WhyRan g m first image script left front later (Mixed blocks) = (front ≡ []) × (spoiled_blocks g first < 2) × (blocks ≡ mixed_blocks g first) × (0 < blocks)
+WhyRan g m first image script left front later (Tight free) = (front ≡ []) × IsCheckable g first × (free ≡ free_blocks g image) × (free < 2)
 WhyRan g m first image script left front later ending = IsChecked g first image × WhyEnds g m image script left front later ending
 
 -- before its closing line: the replies to the first calls were said, and the table is theirs
@@ -106,7 +106,7 @@ pub record Came {D : Type 0} (nor : NorOf D) (g : Geometry) (old new : D) (m : M
   pub settled : table_of g (nor.bytes new) ≡ (after_all g m front).settled
   pub table : table_of g (nor.bytes new) ≡ (after_all g m front).state.table
   pub why : WhyRan g (after_all g m front) (nor.bytes old) (nor.bytes new) script left front later ending
-  pub safe : IsPlain g (nor.bytes old) → HasReserve g (nor.bytes old) → IsSafe g (nor.bytes old) (nor.bytes new)
+  pub safe : IsSafe g (nor.bytes old) (nor.bytes new)
 
 -- it came there, or the board failed
 abbrev pub RunsTo : {D : Type 0} (nor : NorOf D) (g : Geometry) (old new : D) (m : Moment) (script left : List ℕ) → Ending → Type 0

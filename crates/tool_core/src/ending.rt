@@ -19,8 +19,10 @@ pub(crate) enum Ending {
     Geometry(GeoErr),
     /// Lent memory is too short.
     ShortBuffer { part: Part, need: u32, given: usize },
-    /// Two or more blocks lack their magic.
+    /// Two or more blocks lack their magic: their number.
     NotAFs(u32),
+    /// Some blocks hold live pages of both kinds: their number.
+    Mixed(u32),
     /// A line of the script isn't in the grammar: its number, from 1.
     BadLine(u32),
     /// The board failed.
@@ -35,8 +37,6 @@ pub(crate) enum Ending {
     Tight(u32),
     /// A call needs what this build doesn't have.
     Unbuilt,
-    /// The image isn't of the kind that this build takes.
-    UnbuiltImage,
     /// A page doesn't read as what was written there.
     Differ(Differ),
 }
@@ -54,6 +54,7 @@ impl Ending {
             Ending::Usage => 1,
             Ending::Geometry(_) => 2,
             Ending::NotAFs(_) => 3,
+            Ending::Mixed(_) => 4,
             Ending::BadLine(_) => 5,
             Ending::BoardFault => 7,
             Ending::SourceFault => 8,
@@ -61,7 +62,7 @@ impl Ending {
             Ending::TooLong => 11,
             Ending::Damaged(_) => 12,
             Ending::Tight(_) => 14,
-            Ending::Unbuilt | Ending::UnbuiltImage => 16,
+            Ending::Unbuilt => 16,
             Ending::Differ(_) => 21,
         }
     }
@@ -147,13 +148,13 @@ fn put_closing(line: &mut Closing, ending: Ending)
         Ending::Geometry(why) => put_count(line, b"! geometry ", u64::from(why.code())),
         Ending::ShortBuffer { part, need, given } => put_short(line, part, need, given),
         Ending::NotAFs(spoiled) => put_spoiled(line, spoiled),
+        Ending::Mixed(blocks) => put_count(line, b"! mixed blocks ", u64::from(blocks)),
         Ending::BadLine(number) => put_count(line, b"! bad line ", u64::from(number)),
         Ending::SourceFault => put(line, b"! script fault"),
         Ending::TooLong => put(line, b"! script longer than 16777216 bytes"),
         Ending::Damaged(count) => put_count(line, b"! damaged ", u64::from(count)),
         Ending::Tight(free) => put_count(line, b"! free blocks ", u64::from(free)),
         Ending::Unbuilt => put(line, b"! unbuilt"),
-        Ending::UnbuiltImage => put(line, b"! unbuilt image"),
         Ending::Differ(differ) => put_differ(line, differ),
     }
 }

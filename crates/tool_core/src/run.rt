@@ -6,9 +6,7 @@ ghost use Rattle.table_model.specs.Window.{Moment};
 ghost use Rattle.call_script.specs.Lines.{NoBreak, calls, calls_of};
 ghost use Rattle.call_script.specs.Replies.{text};
 ghost use Rattle.run_model.specs.Ran.{Stands, CutIn, MayCut};
-ghost use Rattle.image_model.specs.Plain.{IsPlain};
-ghost use Rattle.image_model.specs.Tidy.{HasReserve};
-ghost use Rattle.tool_core.specs.Begins.{ChecksPlain, Begun, StopsCheck, mount_ends, check_ends};
+ghost use Rattle.tool_core.specs.Begins.{Checks, Begun, StopsCheck, mount_ends, check_ends};
 ghost use Rattle.tool_core.specs.Outcomes.{RunEnds, RunsTo, first_moment};
 ghost use Rattle.tool_core.specs.Turns.{DidLine, OneMore, Turned, at_run};
 ghost use Rattle.call_script.specs.Pieces.{IsShort};
@@ -61,7 +59,7 @@ fn check_ending(why: CheckErr) -> Ending
 {
     match why {
         CheckErr::Wrong(why) => Ending::Geometry(why),
-        CheckErr::Unbuilt => Ending::UnbuiltImage,
+        CheckErr::Mixed { blocks } => Ending::Mixed(blocks),
         CheckErr::DeviceFault => Ending::BoardFault,
     }
 }
@@ -298,7 +296,7 @@ fn begin<B: Board>(volume: &mut Volume<'_, B>) -> Result<(), Ending>
     ensures taken { OnOk result (takes_calls volume.new ≡ true) }
     ensures no_script { ¬ (result ≡ Err Ending.SourceFault) }
     ensures same { IsSameVolume volume.old volume.new }
-    ensures changes { Changes B.NorState volume.old.nor.now volume.new.nor.now (ChecksPlain volume.old.geometry) }
+    ensures changes { Changes B.NorState volume.old.nor.now volume.new.nor.now (Checks volume.old.geometry) }
     ensures begun { B.tells volume.old.nor.now → OnOk result (Begun volume.old.geometry (B.bytes volume.old.nor.now) (B.bytes volume.new.nor.now)) }
     ensures stops { B.tells volume.old.nor.now → IfErr result (StopsCheck B.NorState volume.old.geometry volume.old.nor.now volume.new.nor.now) }
 {
@@ -327,7 +325,7 @@ fn run_volume<B: Board, S: Source>(
     ensures script_faults { S.faults script.old ≤ S.faults script.new }
     ensures script_cause { result ≡ Ending.SourceFault → Rose (S.faults script.old) (S.faults script.new) }
     ensures ends { (slots : ℕ) → S.tells script.old → B.tells volume.old.nor.now → RunsTo B.NorState volume.old.geometry volume.old.nor.now volume.new.nor.now (first_moment volume.old.geometry slots (B.bytes volume.old.nor.now)) (S.left script.old) (S.left script.new) result }
-    ensures cuts { (slots : ℕ) → S.tells script.old → B.tells volume.old.nor.now → IsPlain volume.old.geometry (B.bytes volume.old.nor.now) → HasReserve volume.old.geometry (B.bytes volume.old.nor.now) → Leaves B.NorState volume.old.nor.now volume.new.nor.now (CutIn B.NorState volume.old.geometry volume.old.nor.now (first_moment volume.old.geometry slots (B.bytes volume.old.nor.now)) (calls (S.left script.old))) }
+    ensures cuts { (slots : ℕ) → S.tells script.old → B.tells volume.old.nor.now → Leaves B.NorState volume.old.nor.now volume.new.nor.now (CutIn B.NorState volume.old.geometry volume.old.nor.now (first_moment volume.old.geometry slots (B.bytes volume.old.nor.now)) (calls (S.left script.old))) }
 {
     match begin(volume) {
         Err(ending) => ending,
@@ -358,7 +356,7 @@ pub(crate) fn run<'b, B: Board, S: Source>(
     ensures board_faults { B.faults board.old ≤ B.faults board.new }
     ensures board_cause { result ≡ Ending.BoardFault → Rose (B.faults board.old) (B.faults board.new) }
     ensures ends { (slots : ℕ) → S.tells script.old → B.tells board.old → RunsTo B.NorState g board.old board.new (first_moment g slots (B.bytes board.old)) (S.left script.old) (S.left script.new) result }
-    ensures cuts { (slots : ℕ) → S.tells script.old → B.tells board.old → IsPlain g (B.bytes board.old) → HasReserve g (B.bytes board.old) → Leaves B.NorState board.old board.new (CutIn B.NorState g board.old (first_moment g slots (B.bytes board.old)) (calls (S.left script.old))) }
+    ensures cuts { (slots : ℕ) → S.tells script.old → B.tells board.old → Leaves B.NorState board.old board.new (CutIn B.NorState g board.old (first_moment g slots (B.bytes board.old)) (calls (S.left script.old))) }
 {
     let mut volume = Volume::new(g, board, lent);
     run_volume(&mut volume, script, line)

@@ -2,8 +2,6 @@ ghost use Rattle.std.specs.Prelude.{◌≡◌, ◌≢◌, ◌≤◌, ◌++◌, �
 ghost use Rattle.nor_core.specs.Count.{Rose};
 ghost use Rattle.nor_core.specs.Device.{Leaves, Says, InSay};
 ghost use Rattle.call_script.specs.Lines.{calls};
-ghost use Rattle.image_model.specs.Plain.{IsPlain};
-ghost use Rattle.image_model.specs.Tidy.{HasReserve};
 ghost use Rattle.run_model.specs.Ran.{CutIn};
 ghost use Rattle.geometry.specs.declared.geometry.Geometry.{Geometry};
 ghost use Rattle.tool_core.specs.Headline.{IsRun, IsListing, Outcome, RanWhole, RunCut, IsExact, IsComplete};
@@ -87,7 +85,7 @@ fn run_on<B: Board, S: Source>(
     ensures board_cause { result ≡ Ending.BoardFault → Rose (B.faults board.old) (B.faults board.new) }
     ensures ends { S.tells script.old → B.tells board.old →
         RunsTo B.NorState g board.old board.new (start_of g bufs.old (B.bytes board.old)) (S.left script.old) (S.left script.new) result }
-    ensures cuts { S.tells script.old → B.tells board.old → IsPlain g (B.bytes board.old) → HasReserve g (B.bytes board.old) →
+    ensures cuts { S.tells script.old → B.tells board.old →
         Leaves B.NorState board.old board.new (CutIn B.NorState g board.old (start_of g bufs.old (B.bytes board.old)) (calls (S.left script.old))) }
 {
     let lent = Lent {
@@ -133,7 +131,6 @@ pub fn spiffs_tool<B: Board, S: Source>(
     ensures whole { (g : Geometry) → IsRun (map string_bytes words.now) (B.unit board.old) (B.size board.old) (lengths_of bufs.old) g → S.tells script.old → B.tells board.old →
         result ≡ 0 → RanWhole B.NorState g board.old board.new (start_of g bufs.old (B.bytes board.old)) (S.left script.old) (S.left script.new) }
     ensures cuts { (g : Geometry) → IsRun (map string_bytes words.now) (B.unit board.old) (B.size board.old) (lengths_of bufs.old) g → S.tells script.old → B.tells board.old →
-        IsPlain g (B.bytes board.old) → HasReserve g (B.bytes board.old) →
         Leaves B.NorState board.old board.new (RunCut B.NorState g board.old (start_of g bufs.old (B.bytes board.old)) (S.left script.old) (S.left script.new) result) }
     ensures exact { (g : Geometry) → IsRun (map string_bytes words.now) (B.unit board.old) (B.size board.old) (lengths_of bufs.old) g → S.tells script.old → B.tells board.old →
         ¬ Rose (B.faults board.old) (B.faults board.new) → IsExact B.NorState g board.old board.new result }

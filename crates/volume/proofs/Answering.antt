@@ -151,7 +151,6 @@ leaves_cuts g s name was image fine same leaves = record {
       let flat = flat_makes g s name fine (ap (has_name name) same ∙ w.new_name) (ap (λ files. has_room g (created g name files)) same ∙ w.room) in
       inr (flat.0, after.1 ∙ sym (flat.1 ∙ ap (λ files. created g name files) same))) leaves.table;
   reserve = leaves.reserve;
-  plain = leaves.plain;
 }
 
 -- ---- records

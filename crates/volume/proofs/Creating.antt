@@ -55,7 +55,6 @@ leaves_by g was name image id none least cut = record {
   sound = cut.sound;
   table = ⊎_elim (λ before. inl before) (λ after. inr (none, rw (sym least) after)) cut.table;
   reserve = cut.reserve;
-  plain = cut.plain;
 }
 
 pub makes_by : (g : Geometry) (was name now : List ℕ) (id : ℕ) → create_refusal g was name ≡ None → id ≡ least_id (table_of g was) → Created g was id name now → CreateMakes g name was now

@@ -15,7 +15,6 @@ use Rattle.table_model.specs.Flat.{answer}
 use Rattle.image_model.specs.Tables.{table_of}
 use Rattle.image_model.specs.Tidy.{IsTidy, HasReserve}
 use Rattle.image_model.specs.Sound.{IsSound}
-use Rattle.image_model.specs.Plain.{IsPlain}
 use Rattle.image_model.specs.Collect.{are_had}
 use Rattle.volume.specs.Refusals.{create_refusal}
 
@@ -29,7 +28,6 @@ pub record CreateLeaves (g : Geometry) (name was image : List ℕ) : Type 0 wher
   pub sound : IsSound g image was
   pub table : (table_of g image ≡ table_of g was) ⊎ ((create_refusal g was name ≡ None) × (table_of g image ≡ created g name (table_of g was)))
   pub reserve : HasReserve g image
-  pub plain : IsPlain g was → IsPlain g image
 
 -- the new image works on, and its table has the file
 pub record CreateMakes (g : Geometry) (name was now : List ℕ) : Type 0 where
@@ -56,7 +54,6 @@ pub record CreateCuts (g : Geometry) (s : State) (name was image : List ℕ) : T
   pub sound : IsSound g image was
   pub table : (table_of g image ≡ table_of g was) ⊎ (((answer g true s (Creates name)).answer ≡ Fine) × (table_of g image ≡ (answer g true s (Creates name)).next.table))
   pub reserve : HasReserve g image
-  pub plain : IsPlain g was → IsPlain g image
 
 -- the record of a name, by the flat model, or why there is none
 abbrev pub StatAnswers : Geometry → State → List ℕ → Result Stat FsErr → Type 0

@@ -1,11 +1,12 @@
-ghost use Rattle.std.specs.Prelude.{◌≡◌, ◌*◌, ◌<◌, ◌≤◌, length, true};
-ghost use Rattle.geometry.specs.Numbers.{usable, work_need, cache_need, check_need};
+ghost use Rattle.std.specs.Prelude.{◌≡◌, ◌*◌, ◌<◌, ◌≤◌, ◌++◌, length, true};
+ghost use Rattle.geometry.specs.Numbers.{usable, work_need, cache_need, page_count};
 ghost use Rattle.nor_core.specs.Count.{Rose};
-ghost use Rattle.nor_core.specs.Device.{Changes, OnlyReads};
+ghost use Rattle.nor_core.specs.Device.{Changes, OnlyReads, Leaves, Says, InSay};
 ghost use Rattle.std.specs.Prelude.{◌≢◌, All, IsErrOf, IfOk, IfErr, IfSome, OnOk, OnErr, Err, None, false};
 ghost use Rattle.geometry.specs.Numbers.{write_refusal};
 ghost use Rattle.image_model.specs.Kinds.{spoiled_blocks};
-ghost use Rattle.image_model.specs.Plain.{IsPlain};
+ghost use Rattle.image_model.specs.Kinds.{mixed_blocks};
+ghost use Rattle.image_model.specs.Sound.{HasMagics};
 ghost use Rattle.image_model.specs.Tidy.{IsTidy};
 ghost use Rattle.std.specs.Option.{option_map};
 ghost use Rattle.table_model.specs.Table.{file_named, file_above};
@@ -13,7 +14,9 @@ ghost use Rattle.table_model.specs.Files.{stat_of};
 ghost use Rattle.table_model.specs.Calls.{info_of};
 ghost use Rattle.image_model.specs.Tables.{table_of};
 ghost use Rattle.vol_mount.specs.Mounts.{IsLate, CountsSpoiled};
-ghost use Rattle.vol_check.specs.Checks.{IsWritable, IsRefusal, KeepsAll, Checked as WasChecked};
+ghost use Rattle.page_cache.specs.Kept.{IsKept, FewReads};
+ghost use Rattle.vol_check.specs.Culls.{KeepsAll};
+ghost use Rattle.vol_check.specs.Checks.{IsWritable, IsRefusal, CountsMixed, Checked as WasChecked};
 ghost use Rattle.volume.specs.Opening.{is_open, StaysUnless};
 ghost use Rattle.volume.specs.Answers.{IsReady, CreateLeaves, CreateGoes};
 
@@ -26,7 +29,9 @@ use fd_table::FdSlot;
 use flash_view::View;
 use geometry::Geometry;
 use nor_core::{Board, Failed, Nor, NorState};
+use page_cache::Cached;
 use table_model::{FsErr, Info, Stat};
+use vol_check::check_stages;
 use vol_mount::{Lent, MountErr, Returned};
 
 /// A volume on a device, in lent memory. Mount it, then check it: then it takes file calls. One caller at a time
@@ -51,6 +56,8 @@ pub struct Volume<'b, N: Nor> {
     pub ghost fits: { geometry.blocks * geometry.block ≤ N.size nor.now },
     pub ghost work_fits: { work_need geometry ≤ length work.now },
     pub ghost cache_fits: { cache_need geometry ≤ length cache.now },
+    pub ghost check_fits: { page_count geometry ≤ length check.now },
+    pub ghost kept: { IsKept N.NorState geometry nor.now cache.now },
     pub ghost writable: { is_open stage ≡ true → usable geometry ≤ 32766 },
 }
 
@@ -74,13 +81,23 @@ fn mount_on<N: Nor>(
     requires fits { g.blocks * g.block ≤ N.size nor.old }
     requires work { work_need g ≤ length work.old }
     requires cache { cache_need g ≤ length cache.old }
+    requires kept { IsKept N.NorState g nor.old cache.old }
+    ensures kept { IsKept N.NorState g nor.new cache.new }
+    ensures cache_size { length cache.new ≡ length cache.old }
+    ensures few { FewReads N.NorState g nor.old cache.old nor.new cache.new }
     ensures late { IfErr result IsLate }
     ensures cause { result ≡ Err MountErr.DeviceFault → Rose (N.faults nor.old) (N.faults nor.new) }
     ensures looks { OnlyReads N.NorState nor.old nor.new }
     ensures told { N.tells nor.old → OnOk result (spoiled_blocks g (N.bytes nor.old) ≤ 1) }
     ensures spoiled { N.tells nor.old → IfErr result (CountsSpoiled g (N.bytes nor.old)) }
 {
-    let mut v = View::new(g, nor, work, cache);
+    let mut v = View {
+        geometry: g,
+        nor,
+        work,
+        cache,
+        wrote: false,
+    };
     vol_mount::mount(&mut v)
 }
 
@@ -90,24 +107,37 @@ fn check_on<N: Nor>(
     nor: &mut N,
     work: &mut [u8],
     cache: &mut [u8],
+    marks: &mut [u8],
 ) -> Result<Report, CheckErr>
     requires unit { N.unit nor.old ≡ g.phys }
     requires fits { g.blocks * g.block ≤ N.size nor.old }
     requires work { work_need g ≤ length work.old }
     requires cache { cache_need g ≤ length cache.old }
+    requires room { page_count g ≤ length marks.old }
+    requires magics { N.tells nor.old → HasMagics g (N.bytes nor.old) }
+    requires kept { IsKept N.NorState g nor.old cache.old }
+    ensures kept { IsKept N.NorState g nor.new cache.new }
+    ensures cache_size { length cache.new ≡ length cache.old }
+    ensures few { FewReads N.NorState g nor.old cache.old nor.new cache.new }
     ensures wrong { IfSome (write_refusal g) (λ why. result ≡ Err (CheckErr.Wrong why)) }
     ensures writable { write_refusal g ≡ None → IfErr result IsWritable }
-    ensures few { OnOk result (usable g ≤ 32766) }
+    ensures usable { OnOk result (usable g ≤ 32766) }
     ensures cause { IsErrOf result CheckErr.DeviceFault → Rose (N.faults nor.old) (N.faults nor.new) }
     ensures changes { Changes N.NorState nor.old nor.new (KeepsAll g) }
-    ensures takes { N.tells nor.old → OnOk result (IsPlain g (N.bytes nor.old)) }
-    ensures unbuilt { N.tells nor.old → IsErrOf result CheckErr.Unbuilt → IsPlain g (N.bytes nor.old) → ⊥ }
+    ensures unmixed { N.tells nor.old → OnOk result (mixed_blocks g (N.bytes nor.old) ≡ 0) }
+    ensures mixed { N.tells nor.old → IfErr result (CountsMixed g (N.bytes nor.old)) }
     ensures refused { IfErr result (λ why. IsRefusal why → OnlyReads N.NorState nor.old nor.new) }
     ensures done { N.tells nor.old → IfOk result (λ report. WasChecked g (N.bytes nor.old) (N.bytes nor.new) report) }
     ensures idle { N.tells nor.old → IsTidy g (N.bytes nor.old) → OnlyReads N.NorState nor.old nor.new }
 {
-    let mut v = View::new(g, nor, work, cache);
-    vol_check::check(&mut v)
+    let mut v = View {
+        geometry: g,
+        nor,
+        work,
+        cache,
+        wrote: false,
+    };
+    check_stages(&mut v, marks)
 }
 
 /// How a call went, and whether the device was asked for a program or an erase.
@@ -129,17 +159,27 @@ fn create_on<N: Nor>(
     requires fits { g.blocks * g.block ≤ N.size nor.old }
     requires work { work_need g ≤ length work.old }
     requires cache { cache_need g ≤ length cache.old }
+    requires kept { IsKept N.NorState g nor.old cache.old }
     requires usable { usable g ≤ 32766 }
     requires some { 1 ≤ length name.now }
     requires short { length name.now ≤ 31 }
     requires no_zero { All (λ b. b ≢ 0) name.now }
+    ensures kept { IsKept N.NorState g nor.new cache.new }
+    ensures cache_size { length cache.new ≡ length cache.old }
+    ensures few { FewReads N.NorState g nor.old cache.old nor.new cache.new }
     ensures cause { IsErrOf result.done FsErr.DeviceFault → Rose (N.faults nor.old) (N.faults nor.new) }
     ensures faults { N.faults nor.old ≤ N.faults nor.new }
     ensures changes { Changes N.NorState nor.old nor.new (λ was image. IsReady g was → CreateLeaves g name.now was image) }
     ensures goes { N.tells nor.old → IsReady g (N.bytes nor.old) → CreateGoes N.NorState g name.now nor.old nor.new result.done }
     ensures untouched { result.wrote ≡ false → OnlyReads N.NorState nor.old nor.new }
 {
-    let mut v = View::new(g, nor, work, cache);
+    let mut v = View {
+        geometry: g,
+        nor,
+        work,
+        cache,
+        wrote: false,
+    };
     let done = create_in(&mut v, name);
     Attempt {
         done,
@@ -170,11 +210,21 @@ fn stat_on<N: Nor>(
     requires fits { g.blocks * g.block ≤ N.size nor.old }
     requires work { work_need g ≤ length work.old }
     requires cache { cache_need g ≤ length cache.old }
+    requires kept { IsKept N.NorState g nor.old cache.old }
+    ensures kept { IsKept N.NorState g nor.new cache.new }
+    ensures cache_size { length cache.new ≡ length cache.old }
+    ensures few { FewReads N.NorState g nor.old cache.old nor.new cache.new }
     ensures cause { OnErr result (Rose (N.faults nor.old) (N.faults nor.new)) }
     ensures looks { OnlyReads N.NorState nor.old nor.new }
     ensures told { N.tells nor.old → IsTidy g (N.bytes nor.old) → IfOk result (λ found. found ≡ option_map stat_of (file_named name.now (table_of g (N.bytes nor.old)))) }
 {
-    let mut v = View::new(g, nor, work, cache);
+    let mut v = View {
+        geometry: g,
+        nor,
+        work,
+        cache,
+        wrote: false,
+    };
     stat_named(&mut v, name)
 }
 
@@ -190,11 +240,21 @@ fn next_on<N: Nor>(
     requires fits { g.blocks * g.block ≤ N.size nor.old }
     requires work { work_need g ≤ length work.old }
     requires cache { cache_need g ≤ length cache.old }
+    requires kept { IsKept N.NorState g nor.old cache.old }
+    ensures kept { IsKept N.NorState g nor.new cache.new }
+    ensures cache_size { length cache.new ≡ length cache.old }
+    ensures few { FewReads N.NorState g nor.old cache.old nor.new cache.new }
     ensures cause { OnErr result (Rose (N.faults nor.old) (N.faults nor.new)) }
     ensures looks { OnlyReads N.NorState nor.old nor.new }
     ensures told { N.tells nor.old → IsTidy g (N.bytes nor.old) → IfOk result (λ found. found ≡ option_map stat_of (file_above after (table_of g (N.bytes nor.old)))) }
 {
-    let mut v = View::new(g, nor, work, cache);
+    let mut v = View {
+        geometry: g,
+        nor,
+        work,
+        cache,
+        wrote: false,
+    };
     stat_above(&mut v, after)
 }
 
@@ -209,26 +269,71 @@ fn info_on<N: Nor>(
     requires fits { g.blocks * g.block ≤ N.size nor.old }
     requires work { work_need g ≤ length work.old }
     requires cache { cache_need g ≤ length cache.old }
+    requires kept { IsKept N.NorState g nor.old cache.old }
+    ensures kept { IsKept N.NorState g nor.new cache.new }
+    ensures cache_size { length cache.new ≡ length cache.old }
+    ensures few { FewReads N.NorState g nor.old cache.old nor.new cache.new }
     ensures cause { OnErr result (Rose (N.faults nor.old) (N.faults nor.new)) }
     ensures looks { OnlyReads N.NorState nor.old nor.new }
     ensures told { N.tells nor.old → IsTidy g (N.bytes nor.old) → IfOk result (λ info. info ≡ info_of g (table_of g (N.bytes nor.old))) }
 {
-    let mut v = View::new(g, nor, work, cache);
+    let mut v = View {
+        geometry: g,
+        nor,
+        work,
+        cache,
+        wrote: false,
+    };
     info_of_all(&mut v)
+}
+
+// The device says a piece.
+fn say_on<B: Board>(
+    g: Geometry,
+    nor: &mut B,
+    work: &mut [u8],
+    cache: &mut [u8],
+    piece: &[u8],
+) -> Result<(), Failed>
+    requires unit { B.unit nor.old ≡ g.phys }
+    requires fits { g.blocks * g.block ≤ B.size nor.old }
+    requires work { work_need g ≤ length work.old }
+    requires cache { cache_need g ≤ length cache.old }
+    requires kept { IsKept B.NorState g nor.old cache.old }
+    ensures kept { IsKept B.NorState g nor.new cache.new }
+    ensures cache_size { length cache.new ≡ length cache.old }
+    ensures few { FewReads B.NorState g nor.old cache.old nor.new cache.new }
+    ensures cause { OnErr result (Rose (B.faults nor.old) (B.faults nor.new)) }
+    ensures faults { B.faults nor.old ≤ B.faults nor.new }
+    ensures says { Says B.NorState nor.old nor.new piece.now }
+    ensures done { B.tells nor.old → OnOk result (B.said nor.new ≡ B.said nor.old ++ piece.now) }
+    ensures cuts { Leaves B.NorState nor.old nor.new (InSay B.NorState nor.old piece.now) }
+{
+    let mut v = View {
+        geometry: g,
+        nor,
+        work,
+        cache,
+        wrote: false,
+    };
+    v.say(piece)
 }
 
 impl<'b, N: Nor> Volume<'b, N> {
     ghost use Rattle.std.specs.Prelude.{◌≡◌, ◌≢◌, ◌⊎◌, ◌*◌, ◌<◌, ◌≤◌, length, All, OnOk, OnErr, IsErrOf, IfOk, IfErr, IfSome, IsOk, Err, None, true, false};
-    ghost use Rattle.geometry.specs.Numbers.{usable, write_refusal, work_need, cache_need};
+    ghost use Rattle.geometry.specs.Numbers.{usable, write_refusal, work_need, cache_need, check_need};
     ghost use Rattle.nor_core.specs.Count.{Rose};
     ghost use Rattle.nor_core.specs.Device.{Changes, OnlyReads};
     ghost use Rattle.table_model.specs.Table.{State};
     ghost use Rattle.image_model.specs.Tables.{table_of};
     ghost use Rattle.image_model.specs.Kinds.{spoiled_blocks};
-    ghost use Rattle.image_model.specs.Plain.{IsPlain};
+    ghost use Rattle.image_model.specs.Kinds.{mixed_blocks};
+    ghost use Rattle.image_model.specs.Sound.{HasMagics};
     ghost use Rattle.image_model.specs.Tidy.{IsTidy};
+    ghost use Rattle.page_cache.specs.Frames.{held};
     ghost use Rattle.vol_mount.specs.Mounts.{IsLate, CountsSpoiled};
-    ghost use Rattle.vol_check.specs.Checks.{IsWritable, IsRefusal, KeepsAll, Checked as WasChecked};
+    ghost use Rattle.vol_check.specs.Culls.{KeepsAll};
+    ghost use Rattle.vol_check.specs.Checks.{IsWritable, IsRefusal, CountsMixed, Checked as WasChecked};
     ghost use Rattle.volume.specs.Opening.{StaysUnless};
     ghost use Rattle.volume.specs.Stages.{takes_calls, has_failed};
     ghost use Rattle.volume.specs.Same.{IsSameVolume};
@@ -240,6 +345,7 @@ impl<'b, N: Nor> Volume<'b, N> {
         requires fits { g.blocks * g.block ≤ N.size nor.old }
         requires work { work_need g ≤ length lent.work.now }
         requires cache { cache_need g ≤ length lent.cache.now }
+        requires check { check_need g ≤ length lent.check.now }
         ensures geometry { result.geometry ≡ g }
         ensures nor { result.nor.now ≡ nor.old }
         ensures nor_name { result.nor.ghost_name ≡ nor.entry.ghost_name }
@@ -247,6 +353,8 @@ impl<'b, N: Nor> Volume<'b, N> {
         ensures cache_name { result.cache.ghost_name ≡ lent.entry.cache.ghost_name }
         ensures slots_name { result.slots.ghost_name ≡ lent.entry.slots.ghost_name }
         ensures check_name { result.check.ghost_name ≡ lent.entry.check.ghost_name }
+        ensures cache_size { length result.cache.now ≡ length lent.entry.cache.now }
+        ensures empty { held g result.cache.now ≡ 0 }
         ensures unchecked { takes_calls result ≡ false }
     {
         let Lent {
@@ -256,6 +364,7 @@ impl<'b, N: Nor> Volume<'b, N> {
             check,
         } = lent;
         slots.fill(FdSlot::empty());
+        let (nor, cache) = Cached::new(g, nor, cache).give_back();
         Volume {
             geometry: g,
             nor,
@@ -281,24 +390,31 @@ impl<'b, N: Nor> Volume<'b, N> {
         mount_on(self.geometry, self.nor, self.work, self.cache)
     }
 
-    /// Checks a mounted volume, so that it takes calls: kills the entries that a cut has left over pages that aren't
-    /// live. Refused, with nothing written, are a volume that may not be written (`Wrong`) and an image that this
-    /// build doesn't take (`Unbuilt`). Where the device fails, what was done stays, and the check can be called
-    /// again.
+    /// Checks a mounted volume, so that it takes calls, in whatever state a cut or another program left it: a block
+    /// without its magic is made fresh, and every entry is killed that no file needs, those of damaged files too. Refused,
+    /// with nothing written, are a volume that may not be written (`Wrong`) and one of which a block holds live pages of
+    /// both kinds (`Mixed`). Where the device fails, what was done stays, and the check can be called again.
     pub fn check(&mut self) -> Result<Report, CheckErr>
+        requires magics { N.tells self.old.nor.now → HasMagics self.old.geometry (N.bytes self.old.nor.now) }
         ensures wrong { IfSome (write_refusal self.old.geometry) (λ why. result ≡ Err (CheckErr.Wrong why)) }
         ensures writable { write_refusal self.old.geometry ≡ None → IfErr result IsWritable }
         ensures cause { IsErrOf result CheckErr.DeviceFault → Rose (N.faults self.old.nor.now) (N.faults self.new.nor.now) }
         ensures changes { Changes N.NorState self.old.nor.now self.new.nor.now (KeepsAll self.old.geometry) }
-        ensures takes { N.tells self.old.nor.now → OnOk result (IsPlain self.old.geometry (N.bytes self.old.nor.now)) }
-        ensures unbuilt { N.tells self.old.nor.now → IsErrOf result CheckErr.Unbuilt → IsPlain self.old.geometry (N.bytes self.old.nor.now) → ⊥ }
+        ensures unmixed { N.tells self.old.nor.now → OnOk result (mixed_blocks self.old.geometry (N.bytes self.old.nor.now) ≡ 0) }
+        ensures mixed { N.tells self.old.nor.now → IfErr result (CountsMixed self.old.geometry (N.bytes self.old.nor.now)) }
         ensures refused { IfErr result (λ why. IsRefusal why → OnlyReads N.NorState self.old.nor.now self.new.nor.now) }
         ensures done { N.tells self.old.nor.now → IfOk result (λ report. WasChecked self.old.geometry (N.bytes self.old.nor.now) (N.bytes self.new.nor.now) report) }
         ensures idle { N.tells self.old.nor.now → IsTidy self.old.geometry (N.bytes self.old.nor.now) → OnlyReads N.NorState self.old.nor.now self.new.nor.now }
         ensures taken { OnOk result (takes_calls self.new ≡ true) }
         ensures same { IsSameVolume self.old self.new }
     {
-        let report = check_on(self.geometry, self.nor, self.work, self.cache)?;
+        let report = check_on(
+            self.geometry,
+            self.nor,
+            self.work,
+            self.cache,
+            self.check,
+        )?;
         self.stage = Stage::Checked;
         Ok(report)
     }
@@ -461,6 +577,6 @@ impl<'b, B: Board> Volume<'b, B> {
         ensures stays { takes_calls self.new ≡ takes_calls self.old }
         ensures same { IsSameVolume self.old self.new }
     {
-        self.nor.say(piece)
+        say_on(self.geometry, self.nor, self.work, self.cache, piece)
     }
 }

@@ -19,4 +19,4 @@ pub returns-in-Err-check-clause-changes : goal.returns-in-Err-check-clause-chang
 returns-in-Err-check-clause-changes g c = check_changes c.mount.new.self.geometry c.mount.ensures.same.geometry c.mount.ensures.looks c.check.ensures.changes
 
 pub returns-in-Err-check-clause-stops : goal.returns-in-Err-check-clause-stops
-returns-in-Err-check-clause-stops g c = λ tells. rw c.check_ending.ensures.ends (check_stops c.in-Err-check.why c.mount.new.self.geometry c.mount.ensures.same.geometry (c.in-Err-check.ensures.writable (ap write_refusal c.mount.ensures.same.geometry ∙ c.requires)) c.mount.ensures.looks (search rules) c.in-Err-check.ensures.refused (λ is. c.check.ensures.unbuilt (c.mount.ensures.looks.told tells) (c.in-Err-check.is ∙ ap Err is)))
+returns-in-Err-check-clause-stops g c = λ tells. rw c.check_ending.ensures.ends (check_stops c.in-Err-check.why c.mount.new.self.geometry c.mount.ensures.same.geometry (c.in-Err-check.ensures.writable (ap write_refusal c.mount.ensures.same.geometry ∙ c.requires)) c.mount.ensures.looks (search rules) c.in-Err-check.ensures.refused (c.in-Err-check.ensures.mixed (c.mount.ensures.looks.told tells)))

@@ -1,4 +1,4 @@
 use Rattle.tool_core.proofs.tool.run_on.Goals as goal
 
 pub returns-clause-cuts : goal.returns-clause-cuts
-returns-clause-cuts g c = λ script tells plain reserve. c.run.ensures.cuts _ script tells plain reserve
+returns-clause-cuts g c = λ script tells. c.run.ensures.cuts _ script tells

@@ -1,8 +1,6 @@
 use Rattle.std.proofs.Common.{◌≡◌, ◌≢◌, ◌∙◌, sym, subst, ⊎_elim, inl, inr, arith, rules}
 use Rattle.geometry.specs.declared.geometry.Geometry.{Geometry}
 use Rattle.nor_core.specs.Count.{Rose}
-use Rattle.image_model.specs.Plain.{IsPlain}
-use Rattle.image_model.specs.Tidy.{HasReserve}
 use Rattle.tool_core.proofs.Early.{ending_early, early_status, early_board}
 use Rattle.tool_core.proofs.Concluding.{outcome_of, run_cuts}
 use Rattle.tool_core.proofs.Geometries.{one_geometry, one_listing}
@@ -29,12 +27,10 @@ returns-in-Ok-Run-clause-outcome g c = λ h run script tells.
     rw (one_geometry _ _ _ _ _ _ _ h c.in-Ok-Run.g run planned) (outcome_of _ (g.S.Source.left c.args.script.now) (g.S.Source.left c.run_on-ending.new.script) c.run_on-ending.result c.conclude-in-Ok-Run.result c.run_on-ending.ensures.board_faults (c.run_on-ending.ensures.ends script tells) c.conclude-in-Ok-Run.ensures.ends c.conclude-in-Ok-Run.ensures.says c.conclude-in-Ok-Run.ensures.whole c.conclude-in-Ok-Run.ensures.silent)
 
 pub returns-in-Ok-Run-clause-cuts : goal.returns-in-Ok-Run-clause-cuts
-returns-in-Ok-Run-clause-cuts g c = λ h run script tells plain reserve.
+returns-in-Ok-Run-clause-cuts g c = λ h run script tells.
     let planned = rw c.in-Ok-Run.field-0-is at c.in-Ok-Run.ensures.planned in
     let same : h ≡ c.in-Ok-Run.g = one_geometry _ _ _ _ _ _ _ h c.in-Ok-Run.g run planned in
-    let plain_here = subst (λ (k : Geometry). IsPlain k (g.B.NorState.bytes c.args.board.now)) same plain in
-    let reserve_here = subst (λ (k : Geometry). HasReserve k (g.B.NorState.bytes c.args.board.now)) same reserve in
-    rw same (run_cuts _ (g.S.Source.left c.args.script.now) (g.S.Source.left c.run_on-ending.new.script) c.run_on-ending.result c.conclude-in-Ok-Run.result plain_here reserve_here (c.run_on-ending.ensures.cuts script tells plain_here reserve_here) (c.run_on-ending.ensures.ends script tells) c.conclude-in-Ok-Run.ensures.ends c.conclude-in-Ok-Run.ensures.leaves c.conclude-in-Ok-Run.ensures.silent)
+    rw same (run_cuts _ (g.S.Source.left c.args.script.now) (g.S.Source.left c.run_on-ending.new.script) c.run_on-ending.result c.conclude-in-Ok-Run.result (c.run_on-ending.ensures.cuts script tells) (c.run_on-ending.ensures.ends script tells) c.conclude-in-Ok-Run.ensures.ends c.conclude-in-Ok-Run.ensures.leaves c.conclude-in-Ok-Run.ensures.silent)
 
 pub returns-in-Ok-Run-clause-exact : goal.returns-in-Ok-Run-clause-exact
 returns-in-Ok-Run-clause-exact g c = λ h run script tells no_fault.
@@ -85,7 +81,7 @@ returns-in-Ok-List-clause-outcome g c = λ h run script tells.
     absurd (apart _ _ _ _ _ _ _ h c.in-Ok-List.g run planned)
 
 pub returns-in-Ok-List-clause-cuts : goal.returns-in-Ok-List-clause-cuts
-returns-in-Ok-List-clause-cuts g c = λ h run script tells plain reserve.
+returns-in-Ok-List-clause-cuts g c = λ h run script tells.
     let planned = rw c.in-Ok-List.field-0-is at c.in-Ok-List.ensures.planned in
     absurd (apart _ _ _ _ _ _ _ h c.in-Ok-List.g run planned)
 
