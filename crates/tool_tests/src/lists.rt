@@ -1,18 +1,14 @@
 //! Listings of images made by hand, whole and damaged ones.
 use crate::bench::{AMPLE, Lends, blank, run, run_with};
-use crate::images::{board_of, empty, put, put_data, put_header, put_hello};
+use crate::images::{board_of, damaged_image, empty, put, put_data, put_header, put_hello, same, volume};
 use geometry::{Geometry, MagicKind};
 use image_model::Damage;
 use image_plain::{damaged_of, holds_volume, spoiled_blocks, table_of};
-use nor_core::{CallKind, MemBoard, MemSource, draw};
+use nor_core::{CallKind, MemBoard, MemSource};
 use std::alloc::Global;
 use std::test::Fail;
 
 const LIST: &str = "list 256 4096 16 0 len chip";
-
-fn volume() -> Result<Geometry, Fail> {
-    Ok(Geometry::new(256, 4096, 16, 4096, 0, MagicKind::Length)?)
-}
 
 // Whether a listing of an image ends with that status, says that, and leaves the image as it was.
 fn lists_as(
@@ -25,11 +21,6 @@ fn lists_as(
     let mut board = board_of(alloc, image)?;
     let is = run(alloc, words, &mut board, b"")?;
     Ok(is == status && same(board.said(), said) && same(board.image(), image))
-}
-
-// Whether bytes are the same.
-fn same(one: &[u8], other: &[u8]) -> bool {
-    one == other
 }
 
 #[test]
@@ -268,28 +259,6 @@ fn wanted_of(alloc: Global, g: &Geometry, image: &[u8]) -> Result<Option<(u8, Ve
     let line = format!(in alloc; "! damaged {}\n", damaged.len())?;
     said.extend_from_slice(line.as_bytes())?;
     Ok(Some((12, said)))
-}
-
-// An image of a few files, of which some bytes were damaged as a seed says: of pages, entries and magics.
-fn damaged_image(alloc: Global, g: &Geometry, seed: u64) -> Result<Vec<u8>, Fail> {
-    let mut image = empty(alloc, g)?;
-    put_hello(&mut image);
-    put_header(&mut image, 2, 2, 300, b"b");
-    put_data(&mut image, 1, 2, 0, b"two");
-    put_data(&mut image, 2, 2, 1, b"pages");
-    put(&mut image, 256 * 3 + 45, &[0x12, 0, 0x13, 0]);
-    put_header(&mut image, 3, 3, 0xFFFF_FFFF, b"a");
-    put_header(&mut image, 4, 4, 0xFFFF_FFFF, b"c");
-    let mut x = seed;
-    for _ in 0..4 {
-        let place = draw(&mut x);
-        let value = draw(&mut x);
-        let page = [0usize, 1, 2, 3, 4, 16, 17, 18][place as usize % 8];
-        let offset = place as usize / 8 % 64;
-        let byte = [1u8, 2, 3, 4, 0x80, 0x11, 0x12, 0xFF, 0, 0xF8, 0xFC, 0x78][value as usize % 12];
-        put(&mut image, page * 256 + offset, &[byte]);
-    }
-    Ok(image)
 }
 
 #[test]

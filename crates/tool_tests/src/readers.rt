@@ -1,18 +1,13 @@
 //! A reader of a volume, and the view that it works with, below the top call.
 use crate::bench::Memory;
-use crate::images::{board_of, empty, put, put_data, put_header, put_hello};
+use crate::images::{board_of, empty, put, put_data, put_header, put_hello, volume};
 use flash_view::View;
-use geometry::{Geometry, MagicKind};
 use image_model::Damage;
 use nor_core::{CallKind, MemBoard};
 use std::alloc::Global;
 use std::test::Fail;
 use table_model::FsErr;
 use vol_mount::{Lent, Reader, accept};
-
-fn volume() -> Result<Geometry, Fail> {
-    Ok(Geometry::new(256, 4096, 16, 4096, 0, MagicKind::Length)?)
-}
 
 // The file `a` with the bytes `hello`, the file `b` of 300 bytes in two data pages, and a file that lacks its data page.
 fn sample(alloc: Global) -> Result<Vec<u8>, Fail> {

@@ -132,16 +132,6 @@ fn a_create_without_a_free_page_is_unbuilt(rt: HostRuntime) -> Result<(), Fail> 
 }
 
 #[test]
-fn a_volume_with_data_is_not_run(rt: HostRuntime) -> Result<(), Fail> {
-    let mut board = formatted(rt.alloc(), MagicKind::Length)?;
-    program(&mut board, 0, &[1, 0])?;
-    program(&mut board, 256, &[1, 0, 0, 0, 0xFC])?;
-    assert_eq!(rt; run(rt.alloc(), RUN, &mut board, b"create a\n")?, 16);
-    assert_eq!(rt; board.said(), b"! unbuilt image\n".as_slice());
-    Ok(())
-}
-
-#[test]
 fn what_was_made_is_there_in_the_next_run(rt: HostRuntime) -> Result<(), Fail> {
     let mut board = formatted(rt.alloc(), MagicKind::Length)?;
     assert_eq!(rt; run(rt.alloc(), RUN, &mut board, b"create a\n")?, 0);

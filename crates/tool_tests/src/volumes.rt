@@ -5,7 +5,7 @@ use nor_core::CallKind;
 use std::test::Fail;
 use table_model::FsErr;
 use vol_mount::{MountErr, accept};
-use volume::{CheckErr, Report, Volume};
+use volume::{Report, Volume};
 
 #[test]
 fn a_volume_refuses_names_that_are_empty_or_long(rt: HostRuntime) -> Result<(), Fail> {
@@ -82,22 +82,6 @@ fn a_torn_entry_is_killed_by_the_check(rt: HostRuntime) -> Result<(), Fail> {
     assert_eq!(rt; image.get(..2), Some([0u8, 0].as_slice()));
     assert_eq!(rt; image.get(260), Some(&0x7F));
     assert!(rt; matches!(volume.next(0), Ok(None)));
-    Ok(())
-}
-
-#[test]
-fn a_volume_with_data_pages_is_not_taken(rt: HostRuntime) -> Result<(), Fail> {
-    let mut board = formatted(rt.alloc(), MagicKind::Length)?;
-    program(&mut board, 0, &[1, 0])?;
-    program(&mut board, 256, &[1, 0, 0, 0, 0xFC])?;
-    let g = Geometry::new(256, 4096, 16, 4096, 0, MagicKind::Length)?;
-    let mut memory = Memory::new(rt.alloc())?;
-    let lent = memory.lend();
-    accept(&g, &board, &lent)?;
-    let mut volume = Volume::new(g, &mut board, lent);
-    volume.mount()?;
-    assert_eq!(rt; volume.check(), Err(CheckErr::Unbuilt));
-    assert_eq!(rt; volume.create(b"a"), Err(FsErr::Failed));
     Ok(())
 }
 

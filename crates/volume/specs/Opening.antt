@@ -3,12 +3,17 @@ use Rattle.std.specs.Prelude.{◌≡◌, Bool, true, false, Result, Err}
 use Rattle.table_model.specs.declared.error.FsErr.{FsErr}
 use Rattle.table_model.specs.declared.error.FsErr.TheVariants.{DeviceFault, Damaged}
 use Rattle.volume.specs.declared.stage.Stage.{Stage}
-use Rattle.volume.specs.declared.stage.Stage.TheVariants.{Checked, Failed}
+use Rattle.volume.specs.declared.stage.Stage.TheVariants.{Mounted, Checked, Failed}
 
 -- a stage in which calls are taken
 abbrev pub is_open : Stage → Bool
 is_open Checked = true
 is_open _ = false
+
+-- a stage in which a volume may be checked
+abbrev pub is_mounted : Stage → Bool
+is_mounted Mounted = true
+is_mounted _ = false
 
 -- a stage to which a failed call led
 abbrev pub is_failed : Stage → Bool

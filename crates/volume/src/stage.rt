@@ -1,8 +1,10 @@
 /// How far a volume has come.
 #[derive(Clone, Copy, Debug, PartialEq, Eq)]
 pub enum Stage {
-    /// It wasn't checked: it may be mounted and checked.
-    Unchecked,
+    /// It is to be mounted.
+    Unmounted,
+    /// It was mounted: at most one block lacks its magic. It is to be checked.
+    Mounted,
     /// It was checked, and takes calls.
     Checked,
     /// A call failed after it had asked the device for a program or an erase. Mount and check again.

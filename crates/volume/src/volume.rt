@@ -17,7 +17,7 @@ ghost use Rattle.vol_mount.specs.Mounts.{IsLate, CountsSpoiled};
 ghost use Rattle.page_cache.specs.Kept.{IsKept, FewReads};
 ghost use Rattle.vol_check.specs.Culls.{KeepsAll};
 ghost use Rattle.vol_check.specs.Checks.{IsWritable, IsRefusal, CountsMixed, Checked as WasChecked};
-ghost use Rattle.volume.specs.Opening.{is_open, StaysUnless};
+ghost use Rattle.volume.specs.Opening.{is_open, is_mounted, StaysUnless};
 ghost use Rattle.volume.specs.Answers.{IsReady, CreateLeaves, CreateGoes};
 
 use crate::create::create_in;
@@ -58,6 +58,7 @@ pub struct Volume<'b, N: Nor> {
     pub ghost cache_fits: { cache_need geometry ≤ length cache.now },
     pub ghost check_fits: { page_count geometry ≤ length check.now },
     pub ghost kept: { IsKept N.NorState geometry nor.now cache.now },
+    pub ghost magics: { is_mounted stage ≡ true → N.tells nor.now → HasMagics geometry (N.bytes nor.now) },
     pub ghost writable: { is_open stage ≡ true → usable geometry ≤ 32766 },
 }
 
@@ -328,13 +329,12 @@ impl<'b, N: Nor> Volume<'b, N> {
     ghost use Rattle.image_model.specs.Tables.{table_of};
     ghost use Rattle.image_model.specs.Kinds.{spoiled_blocks};
     ghost use Rattle.image_model.specs.Kinds.{mixed_blocks};
-    ghost use Rattle.image_model.specs.Sound.{HasMagics};
     ghost use Rattle.image_model.specs.Tidy.{IsTidy};
     ghost use Rattle.page_cache.specs.Frames.{held};
     ghost use Rattle.vol_mount.specs.Mounts.{IsLate, CountsSpoiled};
     ghost use Rattle.vol_check.specs.Culls.{KeepsAll};
     ghost use Rattle.vol_check.specs.Checks.{IsWritable, IsRefusal, CountsMixed, Checked as WasChecked};
-    ghost use Rattle.volume.specs.Opening.{StaysUnless};
+    ghost use Rattle.volume.specs.Opening.{is_mounted, StaysUnless};
     ghost use Rattle.volume.specs.Stages.{takes_calls, has_failed};
     ghost use Rattle.volume.specs.Same.{IsSameVolume};
     ghost use Rattle.volume.specs.Answers.{IsReady, CreateAnswers, CreateCuts, StatAnswers, NextAnswers, InfoAnswers};
@@ -355,7 +355,7 @@ impl<'b, N: Nor> Volume<'b, N> {
         ensures check_name { result.check.ghost_name ≡ lent.entry.check.ghost_name }
         ensures cache_size { length result.cache.now ≡ length lent.entry.cache.now }
         ensures empty { held g result.cache.now ≡ 0 }
-        ensures unchecked { takes_calls result ≡ false }
+        ensures unmounted { takes_calls result ≡ false }
     {
         let Lent {
             work,
@@ -372,7 +372,7 @@ impl<'b, N: Nor> Volume<'b, N> {
             cache,
             slots,
             check,
-            stage: Stage::Unchecked,
+            stage: Stage::Unmounted,
         }
     }
 
@@ -385,9 +385,12 @@ impl<'b, N: Nor> Volume<'b, N> {
         ensures looks { OnlyReads N.NorState self.old.nor.now self.new.nor.now }
         ensures told { N.tells self.old.nor.now → OnOk result (spoiled_blocks self.old.geometry (N.bytes self.old.nor.now) ≤ 1) }
         ensures spoiled { N.tells self.old.nor.now → IfErr result (CountsSpoiled self.old.geometry (N.bytes self.old.nor.now)) }
+        ensures mounted { OnOk result (is_mounted self.new.stage ≡ true) }
         ensures same { IsSameVolume self.old self.new }
     {
-        mount_on(self.geometry, self.nor, self.work, self.cache)
+        mount_on(self.geometry, self.nor, self.work, self.cache)?;
+        self.stage = Stage::Mounted;
+        Ok(())
     }
 
     /// Checks a mounted volume, so that it takes calls, in whatever state a cut or another program left it: a block
@@ -395,7 +398,7 @@ impl<'b, N: Nor> Volume<'b, N> {
     /// with nothing written, are a volume that may not be written (`Wrong`) and one of which a block holds live pages of
     /// both kinds (`Mixed`). Where the device fails, what was done stays, and the check can be called again.
     pub fn check(&mut self) -> Result<Report, CheckErr>
-        requires magics { N.tells self.old.nor.now → HasMagics self.old.geometry (N.bytes self.old.nor.now) }
+        requires mounted { is_mounted self.old.stage ≡ true }
         ensures wrong { IfSome (write_refusal self.old.geometry) (λ why. result ≡ Err (CheckErr.Wrong why)) }
         ensures writable { write_refusal self.old.geometry ≡ None → IfErr result IsWritable }
         ensures cause { IsErrOf result CheckErr.DeviceFault → Rose (N.faults self.old.nor.now) (N.faults self.new.nor.now) }

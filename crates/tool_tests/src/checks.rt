@@ -1,0 +1,171 @@
+//! The check of images that cuts and other programs leave, and runs on volumes with files.
+use crate::bench::{Memory, RUN, run};
+use crate::images::{board_of, damaged_image, empty, put, put_data, put_header, put_hello, same, volume};
+use geometry::Geometry;
+use image_plain::{
+    Record, damaged_of, free_blocks, holds_volume, is_tidy, killed_of, mixed_blocks, spoiled_blocks,
+    table_of,
+};
+use nor_core::MemBoard;
+use std::alloc::Global;
+use std::test::Fail;
+use vol_mount::{MountErr, accept};
+use volume::{CheckErr, Report, Volume};
+
+// Mounts and checks the volume of a device.
+fn check(alloc: Global, g: Geometry, board: &mut MemBoard) -> Result<Result<Report, CheckErr>, Fail> {
+    let mut memory = Memory::new(alloc)?;
+    let lent = memory.lend();
+    accept(&g, board, &lent)?;
+    let mut volume = Volume::new(g, board, lent);
+    volume.mount()?;
+    Ok(volume.check())
+}
+
+// What a check tells of an image.
+fn report_on(alloc: Global, g: Geometry, image: &[u8]) -> Result<Result<Report, CheckErr>, Fail> {
+    let mut board = board_of(alloc, image)?;
+    check(alloc, g, &mut board)
+}
+
+// A report of a check that erased no block.
+fn kept(killed: u32, damaged: u32, free_blocks: u32) -> Result<Report, CheckErr> {
+    Ok(Report {
+        erased: false,
+        killed,
+        damaged,
+        free_blocks,
+    })
+}
+
+#[test]
+fn a_check_tells_what_it_killed(rt: HostRuntime) -> Result<(), Fail> {
+    let g = volume()?;
+    let mut hello = empty(rt.alloc(), &g)?;
+    put_hello(&mut hello);
+    assert_eq!(rt; report_on(rt.alloc(), g, &hello)?, kept(0, 0, 14));
+    let mut deleted = hello.clone()?;
+    put(&mut deleted, 516, &[0x78]);
+    assert_eq!(rt; report_on(rt.alloc(), g, &deleted)?, kept(2, 0, 14));
+    let mut elsewhere = hello.clone()?;
+    put(&mut elsewhere, 557, &[2, 0]);
+    assert_eq!(rt; report_on(rt.alloc(), g, &elsewhere)?, kept(2, 1, 14));
+    let mut doubled = hello.clone()?;
+    put_header(&mut doubled, 2, 1, 5, b"b");
+    assert_eq!(rt; report_on(rt.alloc(), g, &doubled)?, kept(1, 0, 14));
+    let mut large = empty(rt.alloc(), &g)?;
+    put_header(&mut large, 0, 1, 0xFFFF_FFFE, b"a");
+    assert_eq!(rt; report_on(rt.alloc(), g, &large)?, kept(1, 1, 15));
+    put_header(&mut large, 0, 1, 0xFFFF_FFFF, &[b'a'; 32]);
+    assert_eq!(rt; report_on(rt.alloc(), g, &large)?, kept(1, 1, 15));
+    put_header(&mut large, 0, 1, 0xFFFF_FFFF, b"a");
+    put_header(&mut large, 1, 2, 0xFFFF_FFFF, b"a");
+    assert_eq!(rt; report_on(rt.alloc(), g, &large)?, kept(1, 1, 15));
+    Ok(())
+}
+
+#[test]
+fn a_block_without_its_magic_is_made_fresh(rt: HostRuntime) -> Result<(), Fail> {
+    let g = volume()?;
+    let mut image = empty(rt.alloc(), &g)?;
+    put_hello(&mut image);
+    put(&mut image, 4096 * 5, &[0x12; 4096]);
+    let mut board = board_of(rt.alloc(), &image)?;
+    let report = Report {
+        erased: true,
+        killed: 0,
+        damaged: 0,
+        free_blocks: 14,
+    };
+    assert_eq!(rt; check(rt.alloc(), g, &mut board)?, Ok(report));
+    let mut fresh = empty(rt.alloc(), &g)?;
+    put_hello(&mut fresh);
+    put(&mut fresh, 4096 * 5 + 254, &[1, 0]);
+    assert!(rt; board.image() == fresh.as_slice());
+    Ok(())
+}
+
+#[test]
+fn blocks_with_both_kinds_of_pages_are_told_and_left(rt: HostRuntime) -> Result<(), Fail> {
+    let g = volume()?;
+    let mut image = empty(rt.alloc(), &g)?;
+    put_hello(&mut image);
+    put(&mut image, 4, &[1, 0]);
+    put(&mut image, 768, &[1, 0, 0, 0, 0xFC]);
+    let refused = Err(CheckErr::Mixed { blocks: 1 });
+    assert_eq!(rt; report_on(rt.alloc(), g, &image)?, refused);
+    let mut board = board_of(rt.alloc(), &image)?;
+    assert_eq!(rt; run(rt.alloc(), RUN, &mut board, b"create b\n")?, 4);
+    assert_eq!(rt; board.said(), b"! mixed blocks 1\n".as_slice());
+    assert!(rt; board.image() == image.as_slice());
+    Ok(())
+}
+
+#[test]
+fn files_with_bytes_are_shown_beside_new_ones(rt: HostRuntime) -> Result<(), Fail> {
+    let g = volume()?;
+    let mut image = empty(rt.alloc(), &g)?;
+    put_hello(&mut image);
+    put_header(&mut image, 2, 7, 300, b"two");
+    put_data(&mut image, 1, 7, 0, b"first");
+    put_data(&mut image, 2, 7, 1, b"second");
+    put(&mut image, 256 * 3 + 45, &[0x12, 0, 0x13, 0]);
+    put_header(&mut image, 3, 9, 10, b"lost");
+    let mut board = board_of(rt.alloc(), &image)?;
+    let script = b"stat a\nstat lost\ncreate b\ncreate a\nnext 2\ninfo\n";
+    assert_eq!(rt; run(rt.alloc(), RUN, &mut board, script)?, 0);
+    let said = b"ok 1 1 5 a\n-10002\nok\n-10023\nok 7 1 300 two\nok files 3 index 3 data 3 usable 210\n";
+    assert!(rt; board.said() == said.as_slice());
+    Ok(())
+}
+
+// Whether two tables hold the same files.
+fn same_files(one: &[Record], other: &[Record]) -> bool {
+    one.len() == other.len()
+        && one.iter().zip(other.iter()).all(|(a, b)| {
+            a.id == b.id
+                && a.kind == b.kind
+                && same(&a.name, &b.name)
+                && same(&a.meta, &b.meta)
+                && same(&a.bytes, &b.bytes)
+        })
+}
+
+// Whether a check of this image does what the plain program says of it.
+fn agrees(alloc: Global, g: &Geometry, image: &[u8]) -> Result<bool, Fail> {
+    if !holds_volume(g, image) {
+        return Ok(false);
+    }
+    let mut board = board_of(alloc, image)?;
+    let mixed = mixed_blocks(g, image);
+    let found = check(alloc, *g, &mut board)?;
+    if mixed > 0 {
+        return Ok(found == Err(CheckErr::Mixed { blocks: mixed }) && same(board.image(), image));
+    }
+    let Ok(report) = found else {
+        return Ok(false);
+    };
+    let now = board.image();
+    if !holds_volume(g, now) {
+        return Ok(false);
+    }
+    Ok(report.erased == (spoiled_blocks(g, image) > 0)
+        && report.killed == killed_of(alloc, g, image)?
+        && report.damaged as usize == damaged_of(alloc, g, image)?.len()
+        && report.free_blocks == free_blocks(g, now)
+        && is_tidy(alloc, g, now)?
+        && same_files(&table_of(alloc, g, now)?, &table_of(alloc, g, image)?))
+}
+
+#[test]
+fn damaged_images_are_checked_as_the_plain_program_reads_them(rt: HostRuntime) -> Result<(), Fail> {
+    let g = volume()?;
+    for seed in 0..60 {
+        let image = damaged_image(rt.alloc(), &g, seed)?;
+        if !holds_volume(&g, &image) || spoiled_blocks(&g, &image) > 1 {
+            continue;
+        }
+        assert!(rt; agrees(rt.alloc(), &g, &image)?, "at {seed}");
+    }
+    Ok(())
+}
