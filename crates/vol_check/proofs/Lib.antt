@@ -4,3 +4,5 @@ pub mod Tidied
 pub mod Dead
 pub mod Calls
 pub mod Passing
+pub mod Twins
+pub mod CullStep
