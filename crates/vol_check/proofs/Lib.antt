@@ -3,3 +3,6 @@ pub mod Staged
 pub mod Tidied
 pub mod Dead
 pub mod Calls
+pub mod Passing
+pub mod Twins
+pub mod CullStep
