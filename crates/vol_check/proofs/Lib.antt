@@ -3,3 +3,4 @@ pub mod Staged
 pub mod Tidied
 pub mod Dead
 pub mod Calls
+pub mod Mixing
