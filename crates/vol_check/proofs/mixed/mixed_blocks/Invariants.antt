@@ -1,0 +1,17 @@
+use Rattle.std.proofs.Common.{◌≡◌, ◌+◌, ◌-◌, ◌≤◌, ℕ, length}
+use Rattle.std.specs.Prelude.{filter}
+use Rattle.std.specs.List.{range_with_len}
+use Rattle.image_model.specs.Kinds.{is_mixed, mixed_blocks}
+use Rattle.flash_view.specs.Same.{OnlyLooks}
+use Rattle.vol_check.proofs.mixed.mixed_blocks.Given as goal
+
+abbrev pub invariant-loop-block : goal.invariant-loop-block
+invariant-loop-block g l = record {
+  looks : OnlyLooks l.fn.v l.v;
+  end : l.block-end ≡ l.fn.v.geometry.blocks;
+  few : l.mixed ≤ l.block;
+  told :
+      (let image = g.N.NorState.bytes l.fn.v.nor.now in
+      g.N.NorState.tells l.fn.v.nor.now →
+      l.mixed + length (filter (λ (b : ℕ). is_mixed l.fn.v.geometry image b) (range_with_len (0 + l.block) (l.block-end - l.block))) ≡ mixed_blocks l.fn.v.geometry image);
+}
