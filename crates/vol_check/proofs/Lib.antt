@@ -4,3 +4,4 @@ pub mod Tidied
 pub mod Dead
 pub mod Calls
 pub mod Mixing
+pub mod Resting
