@@ -4,4 +4,7 @@ pub mod Tidied
 pub mod Dead
 pub mod Calls
 pub mod Mixing
+pub mod Passing
+pub mod Twins
+pub mod CullStep
 pub mod Resting
