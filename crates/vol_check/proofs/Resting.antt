@@ -1,6 +1,6 @@
 -- Pages that no file of the table needs, where no page is doubled and nothing is damaged.
-use Rattle.std.proofs.Common.{◌≡◌, ◌≢◌, ℕ, ◌+◌, ◌*◌, ◌%◌, ◌<◌, ◌≤◌, List, [], ◌∷◌, Bool, true, false, not, ◌==◌, ◌&&◌, Option, Some, None, Result, Ok, Err, ap, refl, sym, ◌∙◌, arith, ⊎_elim, inl, inr, subst, ◌⊎◌, cond, if◌then◌else◌}
-use Rattle.std.specs.Prelude.{nat_lt, is_some, option_and_then, slice_index}
+use Rattle.std.proofs.Common.{◌≡◌, ◌≢◌, ℕ, ◌+◌, ◌%◌, ◌<◌, ◌≤◌, List, [], Bool, true, false, not, ◌&&◌, Option, Some, None, Result, Ok, Err, ap, refl, sym, ◌∙◌, arith, ⊎_elim, inl, inr, subst, ◌⊎◌, cond, if◌then◌else◌}
+use Rattle.std.specs.Prelude.{nat_lt, is_some, option_and_then}
 use Rattle.std.specs.Option.{option_map}
 use Rattle.std.specs.List.{range_with_len, list_any}
 use Rattle.std.proofs.lemmas.Bool.{true≢false, cases_Bool, cases_eq, cases_lt, lt-ltb, le-ltb, ltb-true, not-true, not-false, eq-eqb, eqb-true, and_parts, and_from, or_left, or_right, or_cases, false_from_ne_true, true_from_ne_false}
@@ -10,25 +10,22 @@ use Rattle.table_model.specs.Table.{File}
 use Rattle.table_model.specs.Room.{data_pages, index_pages}
 use Rattle.page_layout.specs.declared.header.PageHeader.{PageHeader}
 use Rattle.page_layout.specs.Layout.{header_at}
-use Rattle.nor_core.specs.Flash.{HalfProgrammed}
 use Rattle.image_model.specs.declared.damage.Damage.{Damage}
 use Rattle.image_model.specs.Volume.{page_count}
 use Rattle.image_model.specs.Places.{IsImage, is_entry_page, page_of}
 use Rattle.image_model.specs.Headers.{obj_id, span_of, names_index, size_of}
 use Rattle.image_model.specs.Live.{Live, live_at, own, is_live}
 use Rattle.image_model.specs.Files.{is_index, index_page, entry_number, data_of, judged, found}
-use Rattle.image_model.specs.Tables.{Found, has_of, counts, counted, damage, damages, damaged_of}
-use Rattle.image_model.specs.Tidy.{is_number, serves, serves_head, is_wanted, is_wanted_as}
-use Rattle.image_model.specs.Sound.{HasMagics, Keeps}
-use Rattle.image_model.specs.Within.{page_number}
+use Rattle.image_model.specs.Tables.{Found, has_of, counted, damage, damages, damaged_of}
+use Rattle.image_model.specs.Tidy.{is_number, serves, is_wanted, is_wanted_as}
+use Rattle.image_model.specs.Sound.{HasMagics}
 use Rattle.image_laws.specs.Changes.{Loses}
-use Rattle.image_laws.specs.Programs.{IsIdle, ClearsBit}
 use Rattle.image_laws.proofs.Records.{filter_map-nil, counts_from_quiet}
 use Rattle.image_laws.proofs.Judge.{found_from, found_none, index_passes}
 use Rattle.image_laws.proofs.Finish.{has_of-within, own-parts}
 use Rattle.image_laws.proofs.Damaged.{any_at, any_from, same_truth}
 use Rattle.image_laws.proofs.Frames.{live_parts}
-use Rattle.image_laws.proofs.Kill.{index-loses, own-loses, own-loses_other, has_of-loses}
+use Rattle.image_laws.proofs.Kill.{index-loses, own-loses, has_of-loses}
 use Rattle.image_laws.proofs.Sounding.{killing-sound}
 use Rattle.image_laws.proofs.Wanted.{unwanted-idle}
 use Rattle.image_laws.proofs.Wants.{number-is, wanted_from}

@@ -1,11 +1,8 @@
-use Rattle.std.proofs.Common.{◌≡◌, ◌+◌, ◌≤◌, ◌∙◌, refl, arith, false, cond, [], subst}
-use Rattle.geometry.specs.declared.geometry.Geometry.{Geometry}
+use Rattle.std.proofs.Common.{◌≡◌, ◌+◌, ◌≤◌, refl, arith, false, cond}
 use Rattle.image_model.specs.Volume.{page_count, per_block}
-use Rattle.image_model.specs.Sound.{HasMagics}
-use Rattle.image_model.specs.Tables.{damaged_of}
 use Rattle.nor_core.proofs.Cuts.{reads_none, reads_then}
 use Rattle.flash_view.proofs.Looking.{same_none, same_then}
-use Rattle.vol_check.specs.Culls.{KeepsAll, HasNoDoubles, is_unwanted}
+use Rattle.vol_check.specs.Culls.{is_unwanted}
 use Rattle.vol_check.proofs.Passing.{cut_none, cut_then, cut_magics}
 use Rattle.vol_check.proofs.Resting.{resting_start, resting_on, resting_end}
 use Rattle.vol_check.proofs.unwanted.cull_rest.Goals as goal

@@ -1,12 +1,5 @@
-use Rattle.std.proofs.Common.{◌≡◌, Some, sym, ◌∙◌}
-use Rattle.std.specs.Option.{option_map}
-use Rattle.page_layout.specs.Layout.{header_at}
-use Rattle.image_model.specs.Live.{live_at, own}
-use Rattle.image_model.specs.Files.{index_page}
-use Rattle.image_model.specs.Headers.{size_of}
-use Rattle.image_model.specs.Places.{page_of}
+use Rattle.std.proofs.Common.{sym, ◌∙◌}
 use Rattle.flash_view.proofs.Looking.{looks_then}
-use Rattle.vol_check.specs.Culls.{is_served_by}
 use Rattle.vol_check.proofs.Resting.{lookup_is_wanted, dead_is_wanted, alone_told, rest_told}
 use Rattle.vol_check.proofs.unwanted.is_unwanted.Goals as goal
 
