@@ -7,3 +7,4 @@ pub mod Passing
 pub mod Twins
 pub mod CullStep
 pub mod Mixing
+pub mod Resting

@@ -1,6 +1,9 @@
 -- What the check's kills of live pages leave.
-use Rattle.std.specs.Prelude.{◌≡◌, ◌≢◌, ℕ, ◌+◌, ◌*◌, ◌%◌, ◌≤◌, ◌&&◌, List, [], ◌∷◌, length, Bool, true, false, not, Option, Some, None, is_some, slice_index, if◌then◌else◌}
+use Rattle.std.specs.Prelude.{◌≡◌, ◌≢◌, ℕ, ◌+◌, ◌*◌, ◌%◌, ◌≤◌, ◌&&◌, List, [], ◌∷◌, length, Bool, true, false, not, nat_lt, Option, Some, None, is_some, slice_index, if◌then◌else◌}
 use Rattle.geometry.specs.declared.geometry.Geometry.{Geometry}
+use Rattle.table_model.specs.Room.{data_pages, index_pages}
+use Rattle.page_layout.specs.declared.header.PageHeader.{PageHeader}
+use Rattle.page_layout.specs.Layout.{names_index as header_names_index}
 use Rattle.nor_core.specs.Flash.{HalfProgrammed}
 use Rattle.image_model.specs.Places.{has_magic}
 use Rattle.image_model.specs.Headers.{obj_id, span_of, names_index}
@@ -11,6 +14,7 @@ use Rattle.image_model.specs.Tidy.{is_wanted, is_number, free_blocks}
 use Rattle.image_model.specs.Killed.{killed_of}
 use Rattle.image_model.specs.Sound.{Keeps}
 use Rattle.image_laws.specs.Programs.{ClearsBit}
+use Rattle.flash_view.specs.Judging.{data_number_of}
 use Rattle.vol_check.specs.Stage.{IsClean}
 
 -- at each cut: the image is sound with its table, and no fewer blocks are free
@@ -67,12 +71,27 @@ is_unwanted g image p = is_some (live_at g image p) && not (is_wanted g image p)
 abbrev pub IsServed : Geometry → List ℕ → Type 0
 IsServed g image = (p : ℕ) → is_unwanted g image p ≡ false
 
+-- A page with this header serves its id's file, where that has this size and no page is doubled: as an index page by its
+-- span alone, as a data page where the index entry of its span names it.
+abbrev pub is_served_by : Geometry → List ℕ → PageHeader → ℕ → ℕ → Bool
+is_served_by g image head size p =
+    if header_names_index head then nat_lt head.span (index_pages g size)
+    else nat_lt head.span (data_pages g size) && is_number (data_number_of g image (head.id % 0x8000) head.span) p
+
 -- after a turn of the first pass
 pub record CullsDoubled (g : Geometry) (p : ℕ) (killed : Bool) (was now : List ℕ) : Type 0 where
   pub culls : Culls g p killed was now
   pub single : is_doubled g now p ≡ false
   pub others : (q : ℕ) → q ≢ p → is_doubled g now q ≡ is_doubled g was q
   pub damaged : damaged_of g now ≡ damaged_of g was
+
+-- after a turn of the third pass
+pub record CullsRest (g : Geometry) (p : ℕ) (killed : Bool) (was now : List ℕ) : Type 0 where
+  pub culls : Culls g p killed was now
+  pub served : is_unwanted g now p ≡ false
+  pub others : (q : ℕ) → q ≢ p → is_unwanted g now q ≡ is_unwanted g was q
+  pub single : HasNoDoubles g now
+  pub undamaged : damaged_of g now ≡ []
 
 -- after the first pass no page is doubled, and the same files are damaged
 pub record PassesDoubled (g : Geometry) (n : ℕ) (was now : List ℕ) : Type 0 where

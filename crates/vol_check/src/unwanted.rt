@@ -1,17 +1,78 @@
-ghost use Rattle.std.specs.Prelude.{◌≡◌, ◌<◌, ◌≤◌, [], OnErr, IfOk, false};
+ghost use Rattle.std.specs.Prelude.{◌≡◌, ◌+◌, ◌-◌, ◌^◌, ◌<◌, ◌≤◌, [], OnErr, IfOk, false};
 ghost use Rattle.std.specs.Bool.{OnTrue};
 ghost use Rattle.geometry.specs.Numbers.{page_count};
 ghost use Rattle.nor_core.specs.Count.{Rose};
 ghost use Rattle.nor_core.specs.Device.{Changes, OnlyReads};
+ghost use Rattle.table_model.specs.Room.{data_pages as the_data_pages, index_pages as the_index_pages};
+ghost use Rattle.image_model.specs.Places.{page_of};
+ghost use Rattle.image_model.specs.Headers.{size_of};
 ghost use Rattle.image_model.specs.Sound.{HasMagics};
 ghost use Rattle.image_model.specs.Tables.{damaged_of};
 ghost use Rattle.flash_view.specs.Places.{IsEntryPage};
 ghost use Rattle.flash_view.specs.Same.{IsSameView, OnlyLooks};
-ghost use Rattle.vol_check.specs.Culls.{KeepsAll, HasNoDoubles, is_unwanted as the_unwanted, IsServed, PassesRest};
+ghost use Rattle.vol_check.specs.Culls.{KeepsAll, HasNoDoubles, is_unwanted as the_unwanted, IsServed, is_served_by, CullsRest, PassesRest};
 
 use crate::culling::cull;
-use flash_view::View;
+use flash_view::{View, is_entry_page};
+use geometry::Geometry;
 use nor_core::{Failed, Nor, NorState};
+use page_layout::{PageHeader, file_size};
+
+// Data pages of a file of that size.
+fn data_pages(g: &Geometry, size: u32) -> u32
+    ensures pages { result ≡ the_data_pages g.now size }
+    ensures few { result < 2 ^ 26 }
+{
+    let body = u64::from(g.body());
+    ((u64::from(size) + body - 1) / body) as u32
+}
+
+// Index pages of a file of that size.
+#[tactic(auto)]
+fn index_pages(g: &Geometry, size: u32) -> u32
+    ensures { result ≡ the_index_pages g.now size }
+{
+    let spans = data_pages(g, size);
+    let near = g.head_slots();
+    if spans <= near {
+        return 1;
+    }
+    let slots = g.span_slots();
+    1 + (spans - near + slots - 1) / slots
+}
+
+// The size in bytes that a header page tells.
+fn size_at<N: Nor>(v: &mut View<'_, N>, header: u16) -> Result<u32, Failed>
+    requires { header < page_count v.old.geometry }
+    ensures cause { OnErr result (Rose (N.faults v.old.nor.now) (N.faults v.new.nor.now)) }
+    ensures looks { OnlyLooks v.old v.new }
+    ensures told { N.tells v.old.nor.now → IfOk result (λ size. size ≡ size_of (page_of v.old.geometry (N.bytes v.old.nor.now) header)) }
+{
+    v.fetch(header)?;
+    Ok(file_size(v.fetched()))
+}
+
+// Whether a page with this header is needed by the file of its object, where that has this size and no page is doubled.
+#[tactic(auto, using(flash_view::proofs::Looking::looks_then))]
+fn serves<N: Nor>(
+    v: &mut View<'_, N>,
+    page: u16,
+    head: PageHeader,
+    size: u32,
+) -> Result<bool, Failed>
+    ensures cause { OnErr result (Rose (N.faults v.old.nor.now) (N.faults v.new.nor.now)) }
+    ensures looks { OnlyLooks v.old v.new }
+    ensures told { N.tells v.old.nor.now → IfOk result (λ served. served ≡ is_served_by v.old.geometry (N.bytes v.old.nor.now) head size page) }
+{
+    let span = u32::from(head.span);
+    if head.is_index() {
+        return Ok(span < index_pages(&v.geometry, size));
+    }
+    if span >= data_pages(&v.geometry, size) {
+        return Ok(false);
+    }
+    Ok(v.find_data(head.object(), head.span)? == Some(page))
+}
 
 // Whether a page is live and no file of the table needs it.
 #[tactic(auto, using(flash_view::proofs::Looking::looks_then))]
@@ -24,6 +85,9 @@ fn is_unwanted<N: Nor>(v: &mut View<'_, N>, page: u16) -> Result<bool, Failed>
     ensures entry { IfOk result (λ unwanted. OnTrue unwanted (IsEntryPage v.old.geometry page)) }
     ensures told { N.tells v.old.nor.now → IfOk result (λ unwanted. unwanted ≡ the_unwanted v.old.geometry (N.bytes v.old.nor.now) page) }
 {
+    if !is_entry_page(&v.geometry, page) {
+        return Ok(false);
+    }
     let Some(head) = v.live_header(page)? else {
         return Ok(false);
     };
@@ -32,6 +96,27 @@ fn is_unwanted<N: Nor>(v: &mut View<'_, N>, page: u16) -> Result<bool, Failed>
     };
     let size = size_at(v, header)?;
     Ok(!serves(v, page, head, size)?)
+}
+
+// Kills a page, if it is live and no file of the table needs it: whether it was killed.
+#[tactic(auto, using(flash_view::proofs::Looking::same_then))]
+fn cull_unwanted<N: Nor>(v: &mut View<'_, N>, page: u16) -> Result<bool, Failed>
+    requires page { page < page_count v.old.geometry }
+    requires magics { N.tells v.old.nor.now → HasMagics v.old.geometry (N.bytes v.old.nor.now) }
+    requires single { N.tells v.old.nor.now → HasNoDoubles v.old.geometry (N.bytes v.old.nor.now) }
+    requires undamaged { N.tells v.old.nor.now → damaged_of v.old.geometry (N.bytes v.old.nor.now) ≡ [] }
+    ensures cause { OnErr result (Rose (N.faults v.old.nor.now) (N.faults v.new.nor.now)) }
+    ensures faults { N.faults v.old.nor.now ≤ N.faults v.new.nor.now }
+    ensures same { IsSameView v.old v.new }
+    ensures changes { Changes N.NorState v.old.nor.now v.new.nor.now (KeepsAll v.old.geometry) }
+    ensures done { N.tells v.old.nor.now → IfOk result (λ killed. CullsRest v.old.geometry page killed (N.bytes v.old.nor.now) (N.bytes v.new.nor.now)) }
+    ensures idle { N.tells v.old.nor.now → the_unwanted v.old.geometry (N.bytes v.old.nor.now) page ≡ false → OnlyReads N.NorState v.old.nor.now v.new.nor.now }
+{
+    if !is_unwanted(v, page)? {
+        return Ok(false);
+    }
+    cull(v, page)?;
+    Ok(true)
 }
 
 /// Kills each live page that no file of the table needs, in page order: how many were killed. No page may be doubled and
