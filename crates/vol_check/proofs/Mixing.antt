@@ -48,7 +48,7 @@ none_passes test a (suc n) q none low high =
     (cases_eq q a))
     (cases_Bool (test a))
 
-none_passing : (test : ℕ → Bool) (a n : ℕ) → ((q : ℕ) → a ≤ q → q < a + n → test q ≡ false) → length (filter test (range_with_len a n)) ≡ 0
+pub none_passing : (test : ℕ → Bool) (a n : ℕ) → ((q : ℕ) → a ≤ q → q < a + n → test q ≡ false) → length (filter test (range_with_len a n)) ≡ 0
 none_passing test a zero fails = refl
 none_passing test a (suc n) fails = rw (fails a (omega arith) (omega arith)) (none_passing test (a + 1) n (λ q low high. fails q (omega arith) (omega arith)))
 

@@ -356,6 +356,7 @@ pub resting_end : (g : Geometry) (first a : List ℕ) (p n : ℕ) → page_count
 resting_end g first a p n all s = record {
   passes = s.passes;
   served = λ q. ⊎_elim (λ (low : q < p). s.served q low) (λ (past : p ≤ q). beyond_served g a q (omega arith)) (cases_lt q p);
+  none = s.undamaged;
 }
 
 -- as a later view's geometry tells of it

@@ -33,4 +33,4 @@ cleaning_next g first a b p n m killed s t e =
     record { stage = stage_next g first a b p n m killed s.stage t.turned e (omega (arith, e, few)); free = t.free ∙ s.free }
 
 pub cleaning_end : (g : Geometry) (first a : List ℕ) (p n : ℕ) → page_count g ≤ p → Cleaning g first a p n → CleansEntries g n first a
-cleaning_end g first a p n all s = record { clean = stage_clean g first a p n all s.stage; count = stage_count g first a p n all s.stage; free = s.free }
+cleaning_end g first a p n all s = record { clean = stage_clean g first a p n all s.stage; count = stage_count g first a p n all s.stage; killed_more = s.stage.count; free = s.free }

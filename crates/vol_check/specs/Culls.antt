@@ -106,10 +106,11 @@ pub record PassesDamaged (g : Geometry) (n : ℕ) (was now : List ℕ) : Type 0 
   pub none : damaged_of g now ≡ []
   pub count : n ≡ length (damaged_of g was)
 
--- after the third pass every live page is wanted
+-- after the third pass every live page is wanted, and still nothing is damaged
 pub record PassesRest (g : Geometry) (n : ℕ) (was now : List ℕ) : Type 0 where
   pub passes : Passes g n was now
   pub served : IsServed g now
+  pub none : damaged_of g now ≡ []
 
 -- after all three passes: every live page is wanted and nothing is damaged, and so many files were
 pub record CullsPages (g : Geometry) (pages damaged : ℕ) (was now : List ℕ) : Type 0 where

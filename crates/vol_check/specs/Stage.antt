@@ -1,10 +1,10 @@
 -- What the check's kills leave.
-use Rattle.std.specs.Prelude.{◌≡◌, ℕ, ◌≤◌, List, length, Bool, false, not, ◌==◌, ◌&&◌}
+use Rattle.std.specs.Prelude.{◌≡◌, ℕ, ◌+◌, ◌≤◌, List, length, Bool, false, not, ◌==◌, ◌&&◌}
 use Rattle.geometry.specs.declared.geometry.Geometry.{Geometry}
 use Rattle.image_model.specs.Places.{has_magic, entry_of}
 use Rattle.image_model.specs.Live.{live_at}
 use Rattle.image_model.specs.Tidy.{is_free_entry, free_blocks}
-use Rattle.image_model.specs.Killed.{is_dead_entry, dead_entries}
+use Rattle.image_model.specs.Killed.{killed_of, is_dead_entry, dead_entries}
 use Rattle.image_laws.specs.Kills.{Turned}
 
 -- an entry that is neither deleted nor free
@@ -31,4 +31,5 @@ IsClean g image = (p : ℕ) → is_dead_entry g image p ≡ false
 pub record CleansEntries (g : Geometry) (killed : ℕ) (was now : List ℕ) : Type 0 where
   pub clean : IsClean g now
   pub count : killed ≡ dead_entries g was
+  pub killed_more : killed + killed_of g now ≡ killed_of g was
   pub free : free_blocks g now ≡ free_blocks g was
