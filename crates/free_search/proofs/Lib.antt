@@ -4,3 +4,4 @@ pub mod FreePages
 pub mod Worn
 pub mod Had
 pub mod Bits
+pub mod Greatest

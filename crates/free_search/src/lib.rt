@@ -2,9 +2,11 @@
 #![tactic(auto)]
 
 mod blocks;
+mod erases;
 mod ids;
 mod pages;
 
 pub use blocks::{BlockCounts, Sort, counts, free_blocks, is_free_block};
+pub use erases::next_count;
 pub use ids::free_id;
 pub use pages::{free_page, index_pages_had};

@@ -1,8 +1,10 @@
 //! Putting pages onto the chip, one program at a time and in the order that survives a power cut.
 #![tactic(auto)]
 
+mod fresh;
 mod killing;
 mod put;
 
+pub use fresh::fresh_block;
 pub use killing::kill;
 pub use put::{finish, place, puts_by_programs};

@@ -1,4 +1,4 @@
-use Rattle.std.proofs.Common.{◌≡◌, ℕ, rules}
+use Rattle.std.proofs.Common.{rules}
 use Rattle.flash_view.proofs.Looking.{looks_then}
 use Rattle.free_search.proofs.Worn.{worn_more, worn_over}
 use Rattle.free_search.proofs.pages.least_worn.Goals.{then-ne+in_ok-least, else-ne}

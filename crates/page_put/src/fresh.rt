@@ -1,0 +1,137 @@
+ghost use Rattle.std.specs.Prelude.{◌≡◌, ◌+◌, ◌*◌, ◌/◌, ◌<◌, ◌≤◌, ◌⊎◌, length, OnErr, OnOk, Some, true};
+ghost use Rattle.std.specs.Option.{ForSome};
+ghost use Rattle.geometry.specs.Numbers.{cache_need};
+ghost use Rattle.nor_core.specs.Count.{Rose};
+ghost use Rattle.nor_core.specs.Flash.{SameOutside, erased, HalfErased};
+ghost use Rattle.nor_core.specs.Device.{Changes, InErase};
+ghost use Rattle.page_cache.specs.Kept.{IsKept, FewReads};
+ghost use Rattle.image_laws.specs.Blocks.{magic_mark};
+ghost use Rattle.flash_view.specs.Places.{magic_start};
+ghost use Rattle.flash_view.specs.Same.{IsSameView};
+ghost use Rattle.page_put.specs.Fresh.{Freshens, IsFresh, UnitGoes, UnitErased, ErasedTo, with_magic};
+
+use flash_view::View;
+use geometry::Geometry;
+use nor_core::{Failed, Mark, Nor, NorState};
+use page_cache::Cached;
+use page_layout::{count_offset, magic_offset};
+
+// Erases a unit of a device behind copies of pages.
+fn erase_cached<N: Nor>(
+    g: Geometry,
+    nor: &mut N,
+    cache: &mut [u8],
+    unit_ix: u32,
+    mark: Option<Mark>,
+) -> Result<(), Failed>
+    requires volume { g.blocks * g.block ≤ N.size nor.old }
+    requires need { cache_need g ≤ length cache.old }
+    requires kept { IsKept N.NorState g nor.old cache.old }
+    requires inside { unit_ix < N.size nor.old / N.unit nor.old }
+    requires marked { ForSome mark (λ m. m.at + 2 ≤ N.unit nor.old) }
+    ensures cause { OnErr result (Rose (N.faults nor.old) (N.faults nor.new)) }
+    ensures done { N.tells nor.old → OnOk result (N.bytes nor.new ≡ erased (N.bytes nor.old) (unit_ix * N.unit nor.old) (N.unit nor.old)) }
+    ensures half { N.tells nor.old → OnErr result (HalfErased (unit_ix * N.unit nor.old) (N.unit nor.old) mark (N.bytes nor.old) (N.bytes nor.new)) }
+    ensures changes { Changes N.NorState nor.old nor.new (InErase N.NorState nor.old nor.new unit_ix mark) }
+    ensures few { FewReads N.NorState g nor.old cache.old nor.new cache.new }
+    ensures kept { IsKept N.NorState g nor.new cache.new }
+{
+    let mut cached = Cached::resume(g, nor, cache);
+    cached.erase_through(unit_ix, mark)
+}
+
+// Erases a unit of the volume, as `View::erase` does: what it leaves is told where it is done, and where it failed.
+fn erase_told<N: Nor>(v: &mut View<'_, N>, unit_ix: u32, mark: Option<Mark>) -> Result<(), Failed>
+    requires inside { (unit_ix + 1) * v.old.geometry.phys ≤ v.old.geometry.blocks * v.old.geometry.block }
+    requires marked { ForSome mark (λ m. m.at + 2 ≤ v.old.geometry.phys) }
+    ensures cause { OnErr result (Rose (N.faults v.old.nor.now) (N.faults v.new.nor.now)) }
+    ensures done { N.tells v.old.nor.now → OnOk result (N.bytes v.new.nor.now ≡ erased (N.bytes v.old.nor.now) (unit_ix * v.old.geometry.phys) v.old.geometry.phys) }
+    ensures half { N.tells v.old.nor.now → OnErr result (HalfErased (unit_ix * v.old.geometry.phys) v.old.geometry.phys mark (N.bytes v.old.nor.now) (N.bytes v.new.nor.now)) }
+    ensures changes { Changes N.NorState v.old.nor.now v.new.nor.now (InErase N.NorState v.old.nor.now v.new.nor.now unit_ix mark) }
+    ensures same { IsSameView v.old v.new }
+    ensures wrote { v.new.wrote ≡ true }
+{
+    v.wrote = true;
+    erase_cached(v.geometry, v.nor, v.cache, unit_ix, mark)
+}
+
+// The mark of a unit's erase: the magic of the block in its first unit.
+fn unit_mark(g: &Geometry, block: u16, i: u32) -> Option<Mark>
+    requires { block < g.now.blocks }
+    ensures first { i ≡ 0 → result ≡ Some (magic_mark g.now block) }
+    ensures inside { ForSome result (λ m. m.at + 2 ≤ g.now.phys) }
+{
+    if i > 0 {
+        return None;
+    }
+    Some(Mark {
+        at: magic_offset(g),
+        word: g.magic_of(u32::from(block)),
+    })
+}
+
+// Erases unit `i` of a block.
+fn erase_unit<N: Nor>(v: &mut View<'_, N>, block: u16, i: u32) -> Result<(), Failed>
+    requires block { block < v.old.geometry.blocks }
+    requires unit { i < v.old.geometry.block / v.old.geometry.phys }
+    ensures cause { OnErr result (Rose (N.faults v.old.nor.now) (N.faults v.new.nor.now)) }
+    ensures changes { Changes N.NorState v.old.nor.now v.new.nor.now (UnitGoes v.old.geometry block i) }
+    ensures done { N.tells v.old.nor.now → OnOk result (UnitErased v.old.geometry block i (N.bytes v.old.nor.now) (N.bytes v.new.nor.now)) }
+    ensures same { IsSameView v.old v.new }
+    ensures wrote { v.new.wrote ≡ true }
+{
+    let g = v.geometry;
+    let units = g.block() / g.phys();
+    erase_told(v, u32::from(block) * units + i, unit_mark(&g, block, i))
+}
+
+// Erases the units of a block from the first upwards.
+fn erase_block<N: Nor>(v: &mut View<'_, N>, block: u16) -> Result<(), Failed>
+    requires block { block < v.old.geometry.blocks }
+    ensures cause { OnErr result (Rose (N.faults v.old.nor.now) (N.faults v.new.nor.now)) }
+    ensures changes { Changes N.NorState v.old.nor.now v.new.nor.now (Freshens v.old.geometry block) }
+    ensures done { N.tells v.old.nor.now → OnOk result (ErasedTo v.old.geometry block v.old.geometry.block (N.bytes v.old.nor.now) (N.bytes v.new.nor.now)) }
+    ensures same { IsSameView v.old v.new }
+    ensures wrote { v.new.wrote ≡ true }
+{
+    v.wrote = true;
+    let units = v.geometry.block() / v.geometry.phys();
+    for i in 0..units {
+        erase_unit(v, block, i)?;
+    }
+    Ok(())
+}
+
+// Programs the erase count of a block, then its magic.
+#[tactic(auto, using(flash_view::proofs::Looking::same_then))]
+fn mark_block<N: Nor>(v: &mut View<'_, N>, block: u16, count: u16) -> Result<(), Failed>
+    requires { block < v.old.geometry.blocks }
+    ensures cause { OnErr result (Rose (N.faults v.old.nor.now) (N.faults v.new.nor.now)) }
+    ensures changes { Changes N.NorState v.old.nor.now v.new.nor.now (SameOutside (magic_start v.old.geometry block) 4) }
+    ensures done { N.tells v.old.nor.now → OnOk result (N.bytes v.new.nor.now ≡ with_magic v.old.geometry block count (N.bytes v.old.nor.now)) }
+    ensures same { IsSameView v.old v.new }
+    ensures wrote { v.new.wrote ≡ true }
+{
+    let g = v.geometry;
+    let start = u32::from(block) * g.block();
+    let magic = g.magic_of(u32::from(block));
+    v.program(start + count_offset(&g), &count.to_le_bytes())?;
+    v.program(start + magic_offset(&g), &magic.to_le_bytes())
+}
+
+/// Makes a block fresh: erases its units from the first upwards, the first with the block's magic as its mark, then
+/// programs the erase count, then the magic. A cut leaves the block as it was, or without any live page.
+#[tactic(auto, using(flash_view::proofs::Looking::same_then))]
+pub fn fresh_block<N: Nor>(v: &mut View<'_, N>, block: u16, count: u16) -> Result<(), Failed>
+    requires block { block < v.old.geometry.blocks }
+    requires count { count ≤ 0x7FFF }
+    ensures cause { OnErr result (Rose (N.faults v.old.nor.now) (N.faults v.new.nor.now)) }
+    ensures faults { N.faults v.old.nor.now ≤ N.faults v.new.nor.now }
+    ensures same { IsSameView v.old v.new }
+    ensures wrote { v.new.wrote ≡ true }
+    ensures changes { Changes N.NorState v.old.nor.now v.new.nor.now (Freshens v.old.geometry block) }
+    ensures done { N.tells v.old.nor.now → OnOk result (IsFresh v.old.geometry block count (N.bytes v.old.nor.now) (N.bytes v.new.nor.now)) }
+{
+    erase_block(v, block)?;
+    mark_block(v, block, count)
+}
