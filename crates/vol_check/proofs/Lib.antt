@@ -6,3 +6,4 @@ pub mod Calls
 pub mod Passing
 pub mod Twins
 pub mod CullStep
+pub mod Doubles
