@@ -1,10 +1,10 @@
 -- Index pages that aren't the first of their id and span.
-use Rattle.std.proofs.Common.{◌≡◌, ◌≢◌, ℕ, ◌+◌, ◌*◌, ◌%◌, ◌<◌, ◌≤◌, List, Bool, true, false, not, cond, ◌==◌, ◌&&◌, Option, Some, None, ap, refl, sym, ◌∙◌, arith, ⊎_elim, subst}
+use Rattle.std.proofs.Common.{◌≡◌, ◌≢◌, ℕ, ◌+◌, ◌%◌, ◌<◌, ◌≤◌, List, Bool, true, false, not, cond, ◌==◌, ◌&&◌, Option, Some, None, ap, refl, sym, ◌∙◌, arith, ⊎_elim, subst}
 use Rattle.std.specs.Prelude.{is_some}
 use Rattle.std.specs.List.{range_with_len, list_any}
 use Rattle.std.specs.Option.{option_map, option_eq}
 use Rattle.std.proofs.lemmas.Bool.{cases_eq, cases_lt, cases_Bool, and_parts, eq-eqb, le-ltb, or_cases}
-use Rattle.std.proofs.lemmas.Option.{none-some, same_Some}
+use Rattle.std.proofs.lemmas.Option.{same_Some}
 use Rattle.geometry.specs.declared.geometry.Geometry.{Geometry}
 use Rattle.table_model.specs.Room.{index_pages, data_pages}
 use Rattle.page_layout.specs.declared.header.PageHeader.{PageHeader}
@@ -15,7 +15,7 @@ use Rattle.image_model.specs.Headers.{obj_id, span_of, names_index, size_of}
 use Rattle.image_model.specs.Live.{live_at, is_live, Live, own}
 use Rattle.image_model.specs.Places.{IsImage, is_entry_page}
 use Rattle.image_model.specs.Files.{index_page, is_index, entry_number, data_of}
-use Rattle.image_model.specs.Tables.{Found, has_of, damaged_of, damages}
+use Rattle.image_model.specs.Tables.{Found, damaged_of, damages}
 use Rattle.image_model.specs.Tidy.{is_number, is_wanted, is_wanted_as, serves}
 use Rattle.image_model.specs.Sound.{HasMagics}
 use Rattle.image_laws.specs.Changes.{Loses}
@@ -25,7 +25,7 @@ use Rattle.image_laws.proofs.Judge.{index_passes}
 use Rattle.image_laws.proofs.Kill.{own-loses, own-loses_other, index-loses}
 use Rattle.image_laws.proofs.Wanted.{number-other}
 use Rattle.image_laws.proofs.Wants.{number-is, wanted_parts}
-use Rattle.vol_check.specs.Culls.{MayCull, Culls, Passes, is_doubled, is_doubled_as, HasNoDoubles, CullsDoubled, PassesDoubled}
+use Rattle.vol_check.specs.Culls.{MayCull, Culls, Passes, is_doubled, is_doubled_as, CullsDoubled, PassesDoubled}
 use Rattle.vol_check.proofs.Passing.{passes_none, passes_next}
 
 -- ---- what the header of a page tells

@@ -1,7 +1,6 @@
 use Rattle.std.proofs.Common.{◌≡◌, true, List, sym, ◌∙◌, subst}
 use Rattle.geometry.specs.declared.geometry.Geometry.{Geometry}
 use Rattle.vol_check.specs.Culls.{MayCull, Culls}
-use Rattle.image_model.specs.Sound.{HasMagics}
 use Rattle.vol_check.specs.Culls.{is_doubled as the_doubled}
 use Rattle.vol_check.proofs.Calls.{image_of}
 use Rattle.vol_check.proofs.Doubles.{may_cull_double, culls_double}
