@@ -1,13 +1,12 @@
 -- A kill of a live page that isn't wanted, at each cut and done.
-use Rattle.std.proofs.Common.{◌≡◌, ◌≢◌, ℕ, ◌+◌, ◌*◌, ◌%◌, ◌<◌, ◌≤◌, List, [], ◌∷◌, length, slice_index, set, Bool, true, false, not, ◌==◌, ◌&&◌, Option, Some, None, ap, refl, sym, ◌∙◌, arith, ⊎_elim, subst, add-zero, length-set, get_or-set_other}
-use Rattle.std.specs.Prelude.{is_none}
+use Rattle.std.proofs.Common.{◌≡◌, ◌≢◌, ℕ, ◌+◌, ◌*◌, ◌%◌, ◌<◌, ◌≤◌, List, [], ◌∷◌, slice_index, set, true, false, ◌==◌, Some, ap, refl, sym, ◌∙◌, arith, ⊎_elim, subst, add-zero, length-set, get_or-set_other}
 use Rattle.std.specs.Int.{bit_at}
 use Rattle.std.specs.Int.Bits.{bit_xor}
 use Rattle.std.proofs.lemmas.Nat.Bits.{bit_at_xor, bit_at-pow_other, bit_at-lt}
 use Rattle.std.proofs.lemmas.Bool.{cases_lt, cases_eq, cases_Bool, ne_eqb}
 use Rattle.geometry.specs.declared.geometry.Geometry.{Geometry}
 use Rattle.nor_core.specs.Flash.{SameOutside, HalfProgrammed, programmed}
-use Rattle.nor_core.specs.Device.{OnlyReads, Changes}
+use Rattle.nor_core.specs.Device.{Changes}
 use Rattle.nor_core.specs.declared.state.NorState.{Ghosts as NorOf}
 use Rattle.nor_core.proofs.Cuts.{wider}
 use Rattle.nor_core.proofs.Programs.{half_programmed}
@@ -17,7 +16,7 @@ use Rattle.image_model.specs.Headers.{is_finished, obj_id}
 use Rattle.image_model.specs.Places.{page_of, block_of, has_magic, entry_of, is_entry_page, IsImage, entry_at}
 use Rattle.image_model.specs.Tables.{Found, has_of, table_of, damaged_of, records, damages}
 use Rattle.image_model.specs.Tidy.{is_free_entry, is_wanted, free_blocks}
-use Rattle.image_model.specs.Killed.{is_used, is_dead_entry, is_killable, killed_of}
+use Rattle.image_model.specs.Killed.{is_used, is_killable}
 use Rattle.image_model.specs.Sound.{HasMagics, Keeps}
 use Rattle.image_laws.specs.Flash.{Programmed}
 use Rattle.image_laws.specs.Changes.{Loses}
@@ -39,7 +38,6 @@ use Rattle.image_laws.proofs.DeadEntries.{dead_entry-keeps, and_false}
 use Rattle.image_laws.proofs.Unwanted.{kill-counts}
 use Rattle.page_put.specs.Kills.{deleted, killed, HalfKilled}
 use Rattle.flash_view.specs.Places.{entry_start}
-use Rattle.vol_check.specs.Stage.{IsClean}
 use Rattle.vol_check.specs.Culls.{MayCull, KeepsAll, Culls}
 use Rattle.vol_check.proofs.Turning.{bit_stays, finished-same, flags_magic, flags_done, entry_place}
 use Rattle.vol_check.proofs.Twins.{IsTwin, Twins, twin_id, has-twin, mixed-twin}

@@ -8,3 +8,4 @@ pub mod Twins
 pub mod CullStep
 pub mod Mixing
 pub mod Resting
+pub mod Doubles

@@ -1,11 +1,9 @@
 -- The check's kills of live pages one after the other.
-use Rattle.std.proofs.Common.{◌≡◌, ℕ, ◌+◌, ◌≤◌, List, Bool, true, false, cond, refl, sym, ◌∙◌, arith, subst}
+use Rattle.std.proofs.Common.{◌≡◌, ℕ, ◌+◌, List, Bool, cond, refl, sym, ◌∙◌, arith, subst}
 use Rattle.geometry.specs.declared.geometry.Geometry.{Geometry}
 use Rattle.nor_core.specs.declared.state.NorState.{Ghosts as NorOf}
-use Rattle.nor_core.specs.Device.{OnlyReads, Changes}
+use Rattle.nor_core.specs.Device.{Changes}
 use Rattle.nor_core.proofs.Cuts.{both, unchanged}
-use Rattle.image_model.specs.Tidy.{free_blocks}
-use Rattle.image_model.specs.Killed.{killed_of}
 use Rattle.image_model.specs.Sound.{HasMagics}
 use Rattle.image_laws.proofs.Sounding.{keeps-itself, keeps-on}
 use Rattle.vol_check.specs.Culls.{KeepsAll, Culls, Passes}

@@ -1,10 +1,11 @@
 -- A live page whose flags byte changes, and that stays live, means what it meant.
-use Rattle.std.proofs.Common.{◌≡◌, ◌≢◌, ℕ, ◌+◌, ◌-◌, ◌*◌, ◌%◌, ◌<◌, ◌≤◌, List, [], slice_index, slice_range, take, Bool, true, false, not, ◌==◌, ◌&&◌, Option, Some, None, Result, Ok, if◌then◌else◌, ap, refl, sym, ◌∙◌, arith, ⊎_elim, subst}
+use Rattle.std.proofs.Common.{◌≡◌, ◌≢◌, ℕ, ◌+◌, ◌-◌, ◌*◌, ◌%◌, ◌<◌, ◌≤◌, List, [], slice_index, slice_range, take, Bool, true, false, not, ◌==◌, ◌&&◌, Option, Some, None, Result, if◌then◌else◌, ap, refl, sym, ◌∙◌, arith, ⊎_elim, subst}
 use Rattle.std.proofs.Math.Path.{fun_ext}
-use Rattle.std.specs.Prelude.{find, option_and_then, is_none, position, unwrap_or, length}
+use Rattle.std.specs.Prelude.{find, option_and_then, is_none, position, unwrap_or, length, nat_lt}
 use Rattle.std.specs.Option.{option_map}
 use Rattle.std.specs.List.{range_with_len, flat_map}
-use Rattle.std.proofs.lemmas.Bool.{cases_eq, cases_lt, lt-ltb, le-ltb, ne_eqb}
+use Rattle.std.proofs.lemmas.Bool.{cases_eq, cases_lt, lt-ltb, le-ltb, ne_eqb, eq-eqb}
+use Rattle.std.proofs.lemmas.Option.{same_Some}
 use Rattle.geometry.specs.declared.geometry.Geometry.{Geometry}
 use Rattle.image_model.specs.Volume.{page_count}
 use Rattle.table_model.specs.Room.{data_pages}
@@ -13,8 +14,7 @@ use Rattle.table_model.specs.Table.{File}
 use Rattle.image_model.specs.declared.damage.Damage.{Damage}
 use Rattle.image_model.specs.Headers.{word_at, obj_id, span_of, names_index, size_of, name_of}
 use Rattle.image_model.specs.Live.{Live, own}
-use Rattle.image_model.specs.Places.{block_of}
-use Rattle.image_model.specs.Files.{is_index, index_page, further, entry_number, data_of, data_page, span_bytes, bytes_of, file_of, first_missing, judged, judged_by, found}
+use Rattle.image_model.specs.Files.{is_index, index_page, further, entry_number, data_of, data_page, span_bytes, bytes_of, first_missing, judged, judged_by, found}
 use Rattle.image_model.specs.Tables.{has_of}
 use Rattle.image_model.specs.Sound.{IsMixed}
 use Rattle.image_laws.proofs.Frames.{range-same}
@@ -54,7 +54,7 @@ module _ (x y : List ℕ) (t : IsTwin x y) where
       cc
 
   twin_names : names_index y ≡ names_index x
-  twin_names = ap (λ (n : ℕ). not (Rattle.std.specs.Prelude.nat_lt n 0x8000)) twin_id
+  twin_names = ap (λ (n : ℕ). not (nat_lt n 0x8000)) twin_id
 
   twin_part : (from n : ℕ) → 5 ≤ from → slice_range y from (from + n) ≡ slice_range x from (from + n)
   twin_part from n high = range-same x y from n t.size (λ i low below. t.bytes i (λ e. omega (arith, e, low, high)))
@@ -184,8 +184,8 @@ module _ (p : ℕ) (page twin : List ℕ) (old new : Live) (t : Twins p page twi
   own-twin : Twins p page twin (own old (obj_id page % 0x8000)) (own new (obj_id page % 0x8000))
   unfolding own
   own-twin = record {
-    was = rw t.was (rw (Rattle.std.proofs.lemmas.Bool.eq-eqb (obj_id page % 0x8000) (obj_id page % 0x8000) refl) refl);
-    is = rw t.is (rw same_id (rw (Rattle.std.proofs.lemmas.Bool.eq-eqb (obj_id page % 0x8000) (obj_id page % 0x8000) refl) refl));
+    was = rw t.was (rw (eq-eqb (obj_id page % 0x8000) (obj_id page % 0x8000) refl) refl);
+    is = rw t.is (rw same_id (rw (eq-eqb (obj_id page % 0x8000) (obj_id page % 0x8000) refl) refl));
     like = t.like;
     others = λ q there. rw (t.others q there) refl;
   }
@@ -211,7 +211,7 @@ module _ (p : ℕ) (page twin : List ℕ) (old new : Live) (t : Twins p page twi
   back : (q : ℕ) (x : List ℕ) → new q ≡ Some x → (w : List ℕ) × (old q ≡ Some w) × (names_index w ≡ names_index x)
   back q x e =
       ⊎_elim
-      (λ (here : q ≡ p). let same : twin ≡ x = Rattle.std.proofs.lemmas.Option.same_Some twin x (sym t.is ∙ ap new (sym here) ∙ e) in
+      (λ (here : q ≡ p). let same : twin ≡ x = same_Some twin x (sym t.is ∙ ap new (sym here) ∙ e) in
       (page, ap old here ∙ t.was, sym (twin_names page twin t.like) ∙ ap names_index same))
       (λ (there : q ≡ p → ⊥). (x, sym (t.others q there) ∙ e, refl))
       (cases_eq q p)

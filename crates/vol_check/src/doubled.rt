@@ -9,7 +9,7 @@ ghost use Rattle.flash_view.specs.Same.{IsSameView, OnlyLooks};
 ghost use Rattle.vol_check.specs.Culls.{KeepsAll, is_doubled as the_doubled, HasNoDoubles, CullsDoubled, PassesDoubled};
 
 use crate::culling::cull;
-use flash_view::View;
+use flash_view::{View, is_entry_page};
 use nor_core::{Failed, Nor, NorState};
 
 // Whether a page is a live index page, and another one of its id and span stands before it.
@@ -21,6 +21,10 @@ fn is_doubled<N: Nor>(v: &mut View<'_, N>, page: u16) -> Result<bool, Failed>
     ensures entry { IfOk result (λ doubled. OnTrue doubled (IsEntryPage v.old.geometry page)) }
     ensures told { N.tells v.old.nor.now → IfOk result (λ doubled. doubled ≡ the_doubled v.old.geometry (N.bytes v.old.nor.now) page) }
 {
+    let g = v.geometry;
+    if !is_entry_page(&g, page) {
+        return Ok(false);
+    }
     let Some(head) = v.live_header(page)? else {
         return Ok(false);
     };

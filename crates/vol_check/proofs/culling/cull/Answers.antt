@@ -1,7 +1,5 @@
-use Rattle.std.proofs.Common.{◌≡◌, true, Result, Ok, Err}
+use Rattle.std.proofs.Common.{Result, Ok, Err}
 use Rattle.std.specs.Prelude.{OnOk}
-use Rattle.page_put.specs.Kills.{killed}
-use Rattle.vol_check.specs.Culls.{Culls}
 use Rattle.vol_check.proofs.Calls.{image_of}
 use Rattle.vol_check.proofs.CullStep.{cull_keeps, whole_culled}
 use Rattle.vol_check.proofs.culling.cull.Goals as goal
