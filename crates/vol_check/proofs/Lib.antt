@@ -5,3 +5,6 @@ pub mod Dead
 pub mod Calls
 pub mod Heads
 pub mod Heading
+pub mod Passing
+pub mod Twins
+pub mod CullStep

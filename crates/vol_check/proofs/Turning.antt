@@ -37,7 +37,7 @@ bits_below : (k : ℕ) → k < 7 → bit_at 0x7F k ≡ 1
 bits_below k low = eqb-true _ 1 (agree_below_at (λ (j : ℕ). bit_at 0x7F j == 1) (λ (j : ℕ). true) 7 k refl low)
 
 -- a bit that isn't DELET's stays
-bit_stays : (old new k : ℕ) → TornByte old 0x7F new → k < 7 → bit_at new k ≡ bit_at old k
+pub bit_stays : (old new k : ℕ) → TornByte old 0x7F new → k < 7 → bit_at new k ≡ bit_at old k
 bit_stays old new k h low =
     ⊎_elim
     (λ (was : bit_at old k ≡ 1). h.kept k was (bits_below k low) ∙ sym was)
@@ -47,7 +47,7 @@ bit_stays old new k h low =
     (bit_cases new k))
     (bit_cases old k)
 
-finished-same : (x y : List ℕ) → ((i : ℕ) → i < 4 → slice_index y i ≡ slice_index x i) → ((k : ℕ) → k < 8 → bit_at (slice_index y 4) k ≡ bit_at (slice_index x 4) k) → is_finished y ≡ is_finished x
+pub finished-same : (x y : List ℕ) → ((i : ℕ) → i < 4 → slice_index y i ≡ slice_index x i) → ((k : ℕ) → k < 8 → bit_at (slice_index y 4) k ≡ bit_at (slice_index x 4) k) → is_finished y ≡ is_finished x
 unfolding is_finished
 finished-same x y bytes bits =
     let b0 = bytes 0 (omega arith) in
@@ -108,7 +108,7 @@ module _ (g : Geometry) (a b : List ℕ) (p : ℕ) (is : IsImage g a) (page : is
       (cases_eq q p)
 
 -- done, the page isn't finished
-flags_done : (g : Geometry) (a b : List ℕ) (p : ℕ) → Programmed (p * g.page + 4) (0x7F ∷ []) a b → is_finished (page_of g b p) ≡ false
+pub flags_done : (g : Geometry) (a b : List ℕ) (p : ℕ) → Programmed (p * g.page + 4) (0x7F ∷ []) a b → is_finished (page_of g b p) ≡ false
 flags_done g a b p h =
     let big : 128 ≤ g.page = (sizes g).page in
     let byte : slice_index b (p * g.page + 4 + 0) ≡ bit_and (slice_index a (p * g.page + 4 + 0)) 0x7F = h.bytes 0 (omega arith) in
@@ -184,7 +184,7 @@ module _ (g : Geometry) (a : List ℕ) (p : ℕ) (is : IsImage g a) (unused : is
 
 -- ---- by the contract of a kill
 
-entry_place : (g : Geometry) (p : ℕ) → entry_start g p ≡ entry_at g p
+pub entry_place : (g : Geometry) (p : ℕ) → entry_start g p ≡ entry_at g p
 unfolding per_block lookups
 entry_place g p = refl
 
