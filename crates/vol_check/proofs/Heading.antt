@@ -1,6 +1,5 @@
 -- Killing the header pages of damaged files, one after the other.
-use Rattle.std.proofs.Common.{◌≡◌, ◌≢◌, ℕ, ◌+◌, ◌<◌, ◌≤◌, List, [], length, Bool, true, false, cond, Option, Some, None, ap, refl, sym, ◌∙◌, arith, ⊎_elim}
-use Rattle.std.specs.Prelude.{if◌then◌else◌}
+use Rattle.std.proofs.Common.{◌≡◌, ℕ, ◌+◌, ◌<◌, ◌≤◌, List, [], length, Bool, cond, Some, None, ap, refl, ◌∙◌, arith, ⊎_elim}
 use Rattle.std.proofs.lemmas.Bool.{cases_lt, cases_eq}
 use Rattle.geometry.specs.declared.geometry.Geometry.{Geometry}
 use Rattle.image_model.specs.Places.{page_of}
@@ -53,9 +52,9 @@ pub heading_end : (g : Geometry) (first a marks : List ℕ) (at n : ℕ) → Hea
 unfolding damaged_of cause_at
 heading_end g first a marks at n was last =
     let none : damaged_of g a ≡ [] = none_damaged (has_of g (live_at g a)) 0x7FFF (λ j low. ⊎_elim
-        (λ (above : at < j). headless_none g a j (past g a at j last above))
-        (λ (below : j ≤ at). was.none j low below)
-        (cases_lt at j)) in
+    (λ (above : at < j). headless_none g a j (past g a at j last above))
+    (λ (below : j ≤ at). was.none j low below)
+    (cases_lt at j)) in
     let zero : length (damaged_of g a) ≡ 0 = ap length none in
     record { passes = was.passes; single = was.single; none = none; count = omega (arith, was.count, zero) }
 

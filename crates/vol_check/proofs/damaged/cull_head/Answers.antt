@@ -1,6 +1,4 @@
-use Rattle.std.proofs.Common.{◌≡◌, ◌∙◌, ℕ, List, true, false, None, sym, subst, refl, arith}
-use Rattle.geometry.specs.declared.geometry.Geometry.{Geometry}
-use Rattle.nor_core.proofs.Cuts.{after_reads, read_after, unchanged}
+use Rattle.std.proofs.Common.{◌≡◌, ◌∙◌, true, None, sym, arith}
 use Rattle.flash_view.specs.Marks.{cause_at}
 use Rattle.flash_view.proofs.Stepping.{is_gone, is_there}
 use Rattle.vol_check.specs.Culls.{Culls}
