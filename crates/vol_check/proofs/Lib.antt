@@ -3,6 +3,8 @@ pub mod Staged
 pub mod Tidied
 pub mod Dead
 pub mod Calls
+pub mod Heads
+pub mod Heading
 pub mod Passing
 pub mod Twins
 pub mod CullStep

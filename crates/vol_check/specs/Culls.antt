@@ -15,6 +15,7 @@ use Rattle.image_model.specs.Killed.{killed_of}
 use Rattle.image_model.specs.Sound.{Keeps}
 use Rattle.image_laws.specs.Programs.{ClearsBit}
 use Rattle.flash_view.specs.Judging.{data_number_of}
+use Rattle.flash_view.specs.Marks.{cause_at}
 use Rattle.vol_check.specs.Stage.{IsClean}
 
 -- at each cut: the image is sound with its table, and no fewer blocks are free
@@ -98,6 +99,15 @@ pub record PassesDoubled (g : Geometry) (n : ℕ) (was now : List ℕ) : Type 0 
   pub passes : Passes g n was now
   pub single : HasNoDoubles g now
   pub damaged : damaged_of g now ≡ damaged_of g was
+
+-- after a turn of the second pass at an id with this header page, which was killed where the id was damaged: it isn't now, and
+-- the others are damaged as they were
+pub record CullsHead (g : Geometry) (id p : ℕ) (killed : Bool) (was now : List ℕ) : Type 0 where
+  pub culls : Culls g p killed was now
+  pub single : HasNoDoubles g now
+  pub none : cause_at g now id ≡ None
+  pub others : (j : ℕ) → j ≢ id → cause_at g now j ≡ cause_at g was j
+  pub count : (if killed then 1 else 0) + length (damaged_of g now) ≡ length (damaged_of g was)
 
 -- after the second pass nothing is damaged, and one header page of each damaged file was killed
 pub record PassesDamaged (g : Geometry) (n : ℕ) (was now : List ℕ) : Type 0 where

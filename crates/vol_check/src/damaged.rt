@@ -1,15 +1,52 @@
-ghost use Rattle.std.specs.Prelude.{◌≡◌, ◌≤◌, length, [], OnErr, IfOk};
+ghost use Rattle.std.specs.Prelude.{◌≡◌, ◌<◌, ◌≤◌, length, [], None, Some, OnErr, OnOk, IfOk};
 ghost use Rattle.geometry.specs.Numbers.{page_count};
 ghost use Rattle.nor_core.specs.Count.{Rose};
 ghost use Rattle.nor_core.specs.Device.{Changes, OnlyReads};
+ghost use Rattle.image_model.specs.Live.{live_at, own};
+ghost use Rattle.image_model.specs.Files.{index_page};
 ghost use Rattle.image_model.specs.Sound.{HasMagics};
 ghost use Rattle.image_model.specs.Tables.{damaged_of};
 ghost use Rattle.flash_view.specs.Same.{IsSameView};
-ghost use Rattle.vol_check.specs.Culls.{KeepsAll, HasNoDoubles, PassesDamaged};
+ghost use Rattle.flash_view.specs.Marks.{IsMarked, cause_at};
+ghost use Rattle.vol_check.specs.Culls.{KeepsAll, HasNoDoubles, CullsHead, PassesDamaged};
 
 use crate::culling::cull;
-use flash_view::View;
+use flash_view::{View, is_entry_page};
 use nor_core::{Failed, Nor, NorState};
+
+// Kills the header page of an id, if the id is damaged: whether it was killed. The marks are right before and after.
+#[tactic(auto, using(flash_view::proofs::Looking::same_then))]
+fn cull_head<N: Nor>(
+    v: &mut View<'_, N>,
+    marks: &mut [u8],
+    id: u16,
+    header: u16,
+) -> Result<bool, Failed>
+    requires room { page_count v.old.geometry ≤ length marks.old }
+    requires header { header < page_count v.old.geometry }
+    requires magics { N.tells v.old.nor.now → HasMagics v.old.geometry (N.bytes v.old.nor.now) }
+    requires single { N.tells v.old.nor.now → HasNoDoubles v.old.geometry (N.bytes v.old.nor.now) }
+    requires marked { N.tells v.old.nor.now → IsMarked v.old.geometry (N.bytes v.old.nor.now) marks.old }
+    requires first { N.tells v.old.nor.now → index_page v.old.geometry (own (live_at v.old.geometry (N.bytes v.old.nor.now)) id) 0 ≡ Some header }
+    ensures cause { OnErr result (Rose (N.faults v.old.nor.now) (N.faults v.new.nor.now)) }
+    ensures faults { N.faults v.old.nor.now ≤ N.faults v.new.nor.now }
+    ensures same { IsSameView v.old v.new }
+    ensures changes { Changes N.NorState v.old.nor.now v.new.nor.now (KeepsAll v.old.geometry) }
+    ensures done { N.tells v.old.nor.now → IfOk result (λ killed. CullsHead v.old.geometry id header killed (N.bytes v.old.nor.now) (N.bytes v.new.nor.now)) }
+    ensures marked { N.tells v.old.nor.now → OnOk result (IsMarked v.old.geometry (N.bytes v.new.nor.now) marks.new) }
+    ensures idle { N.tells v.old.nor.now → cause_at v.old.geometry (N.bytes v.old.nor.now) id ≡ None → OnlyReads N.NorState v.old.nor.now v.new.nor.now }
+{
+    let g = v.geometry;
+    if !is_entry_page(&g, header) {
+        return Ok(false);
+    }
+    if v.damage(marks, id, header)?.is_none() {
+        return Ok(false);
+    }
+    cull(v, header)?;
+    marks[usize::from(header)] = 0;
+    Ok(true)
+}
 
 /// Kills the header page of each damaged file, in order of ids: how many there were. No page may be doubled. The marks
 /// are bytes for notes, one for each page of the volume at least.
@@ -29,9 +66,7 @@ pub(crate) fn cull_damaged<N: Nor>(v: &mut View<'_, N>, marks: &mut [u8]) -> Res
     let mut killed = 0;
     let mut at = 0;
     'ids: while let Some((id, header)) = v.next_marked(marks, at)? {
-        if v.damage(marks, id, header)?.is_some() {
-            cull(v, header)?;
-            marks[usize::from(header)] = 0;
+        if cull_head(v, marks, id, header)? {
             killed += 1;
         }
         at = id;
