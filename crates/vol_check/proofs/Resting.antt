@@ -65,7 +65,7 @@ single_index g image p page single live index =
     number-is _ p (true_from_ne_false _ (λ no. let bad = rw no at none' in absurd (cc)))
 
 -- its own page
-own_self : (live : Live) (p : ℕ) (page : List ℕ) → live p ≡ Some page → own live (obj_id page % 0x8000) p ≡ Some page
+pub own_self : (live : Live) (p : ℕ) (page : List ℕ) → live p ≡ Some page → own live (obj_id page % 0x8000) p ≡ Some page
 unfolding own
 own_self live p page e = rw e (rw (eq-eqb (obj_id page % 0x8000) _ refl) refl)
 
@@ -86,22 +86,30 @@ data_at (Some x) page span is e =
     let same : x ≡ page = same_Some x page is in
     (sym (ap names_index same) ∙ not-true (names_index x) w.0, sym (ap span_of same) ∙ eqb-true _ span w.1)
 
+-- an index page that serves is the one of its span, and that is below the file's number of them
+pub served_index : (g : Geometry) (pages : Live) (head page : List ℕ) (p : ℕ) → pages p ≡ Some page → names_index page ≡ true → serves g pages head p ≡ true →
+    (index_page g pages (span_of page) ≡ Some p) × (span_of page < index_pages g (size_of head))
+unfolding serves
+served_index g pages head page p is index e =
+    ⊎_elim
+    (λ (some : list_any (λ (j : ℕ). is_number (index_page g pages j) p) (range_with_len 0 (index_pages g (size_of head))) ≡ true).
+    let w = any_at (λ (j : ℕ). is_number (index_page g pages j) p) 0 (index_pages g (size_of head)) some in
+    let found : index_page g pages w.0 ≡ Some p = number-is _ p w.3 in
+    let at : span_of page ≡ w.0 = (index_at (pages p) page w.0 is (index_passes g pages w.0 p found)).1 in
+    (rw at found, omega (arith, at, w.2)))
+    (λ (some : list_any (λ (span : ℕ). is_number (entry_number g pages head span) p && is_some (data_of (pages p) span)) (range_with_len 0 (data_pages g (size_of head))) ≡ true).
+    let w = any_at (λ (span : ℕ). is_number (entry_number g pages head span) p && is_some (data_of (pages p) span)) 0 (data_pages g (size_of head)) some in
+    let other : names_index page ≡ false = (data_at (pages p) page w.0 is (and_parts _ _ w.3).1).0 in
+    absurd (true≢false (sym index ∙ other)))
+    (or_cases _ _ e)
+
 -- an index page of the id, by its span alone
 index_serves : (g : Geometry) (pages : Live) (head page : List ℕ) (p : ℕ) → pages p ≡ Some page → names_index page ≡ true → index_page g pages (span_of page) ≡ Some p →
     serves g pages head p ≡ nat_lt (span_of page) (index_pages g (size_of head))
 unfolding serves
 index_serves g pages head page p is index single =
     same_truth _ _
-    (λ e. ⊎_elim
-    (λ (some : list_any (λ (j : ℕ). is_number (index_page g pages j) p) (range_with_len 0 (index_pages g (size_of head))) ≡ true).
-    let w = any_at (λ (j : ℕ). is_number (index_page g pages j) p) 0 (index_pages g (size_of head)) some in
-    let at = (index_at (pages p) page w.0 is (index_passes g pages w.0 p (number-is _ p w.3))).1 in
-    lt-ltb (span_of page) (index_pages g (size_of head)) (omega (arith, at, w.2)))
-    (λ (some : list_any (λ (span : ℕ). is_number (entry_number g pages head span) p && is_some (data_of (pages p) span)) (range_with_len 0 (data_pages g (size_of head))) ≡ true).
-    let w = any_at (λ (span : ℕ). is_number (entry_number g pages head span) p && is_some (data_of (pages p) span)) 0 (data_pages g (size_of head)) some in
-    let other : names_index page ≡ false = (data_at (pages p) page w.0 is (and_parts _ _ w.3).1).0 in
-    absurd (true≢false (sym index ∙ other)))
-    (or_cases _ _ e))
+    (λ e. lt-ltb (span_of page) (index_pages g (size_of head)) (served_index g pages head page p is index e).1)
     (λ e. or_left _ _ (any_from (λ (j : ℕ). is_number (index_page g pages j) p) 0 (index_pages g (size_of head)) (span_of page) (omega arith) (omega (arith, ltb-true _ _ e)) (rw single (eq-eqb p p refl))))
 
 numbered_is : (pages : Live) (span p : ℕ) (o : Option ℕ) → option_and_then (numbered pages span) o ≡ Some p → (o ≡ Some p) × (is_some (data_of (pages p) span) ≡ true)

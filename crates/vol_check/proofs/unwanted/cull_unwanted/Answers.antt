@@ -12,7 +12,7 @@ cull-requires-clause-may g c = λ tells.
     let image = g.N.NorState.bytes view.nor.now in
     let unwanted : is_unwanted view.geometry image c.args.page ≡ true = cc (c.in_ok-is_unwanted.ensures.told before, c.if-not-branch.false) in
     let may = may_cull view.geometry image c.args.page (image_of view.geometry image (g.N.NorState.size view.nor.now) (g.met.N.Nor.sized view.nor.now before) view.volume)
-        (c.requires.magics before) (c.requires.undamaged before) unwanted in
+    (c.requires.magics before) (c.requires.undamaged before) unwanted in
     rw (looks.same.geometry, looks.reads.bytes) may
 
 pub returns-clause-done : goal.returns-clause-done
