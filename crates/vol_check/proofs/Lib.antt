@@ -11,3 +11,4 @@ pub mod CullStep
 pub mod Mixing
 pub mod Resting
 pub mod Doubles
+pub mod Composing

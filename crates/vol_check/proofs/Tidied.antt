@@ -99,7 +99,7 @@ not_none None e = absurd (true≢false e)
 not_none (Some page) e = refl
 
 -- an entry in use whose page isn't dead is that of a wanted page
-wanted_by : (g : Geometry) (a : List ℕ) (p : ℕ) → IsClean g a → IsServed g a → is_used g a p ≡ true → is_wanted g a p ≡ true
+pub wanted_by : (g : Geometry) (a : List ℕ) (p : ℕ) → IsClean g a → IsServed g a → is_used g a p ≡ true → is_wanted g a p ≡ true
 unfolding is_unwanted
 wanted_by g a p clean served used =
     let alive : is_none (live_at g a p) ≡ false = rw used at (clean p) in
