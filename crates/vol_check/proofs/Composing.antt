@@ -2,6 +2,9 @@
 use Rattle.std.proofs.Common.{◌≡◌, ℕ, ◌+◌, ◌≤◌, List, length, Bool, true, false, refl, ◌∙◌, ap, arith, subst, ⊎_elim}
 use Rattle.std.proofs.lemmas.Bool.{cases_Bool}
 use Rattle.geometry.specs.declared.geometry.Geometry.{Geometry}
+use Rattle.nor_core.specs.declared.state.NorState.{Ghosts as NorOf}
+use Rattle.nor_core.specs.Device.{Changes}
+use Rattle.nor_core.proofs.Cuts.{wider}
 use Rattle.image_model.specs.Volume.{page_count}
 use Rattle.image_model.specs.Tables.{damaged_of}
 use Rattle.image_model.specs.Tidy.{IsTidy, free_blocks}
@@ -15,13 +18,20 @@ use Rattle.vol_check.specs.Stage.{LeavesLive, IsClean, CleansEntries}
 use Rattle.vol_check.specs.Culls.{KeepsAll, IsServed, PassesDoubled, PassesDamaged, PassesRest, CullsPages}
 use Rattle.vol_check.specs.Mends.{Mends}
 use Rattle.vol_check.specs.Checks.{Checked}
-use Rattle.vol_check.proofs.Passing.{passes_then}
+use Rattle.vol_check.proofs.Passing.{passes_then, cut_then, cut_magics}
 use Rattle.vol_check.proofs.Mixing.{none_passing, unmixed_after}
 use Rattle.vol_check.proofs.Tidied.{wanted_by, tidy_after}
 
 -- what the first stage leaves keeps the image
 pub live_keeps : (g : Geometry) (a b : List ℕ) → HasMagics g a → LeavesLive g a b → KeepsAll g a b
 live_keeps g a b magics left = record { keeps = keeps-by_live g a b magics left.magic left.live; free = left.free }
+
+module _ {D : Type 0} {nor : NorOf D} (g : Geometry) where
+  -- the first stage after other changes
+  pub live_cut : (h : Geometry) {old mid new : D} → h ≡ g → Changes nor old mid (KeepsAll g) → Changes nor mid new (LeavesLive h) → Changes nor old new (KeepsAll g)
+  live_cut h {old} {mid} {new} e first second =
+      let kept : Changes nor mid new (KeepsAll h) = wider second (λ tells image left. live_keeps h (nor.bytes mid) image (cut_magics g h e first tells) left) in
+      cut_then g h e first kept
 
 -- what was only read is tidy still
 pub tidy_there : (g h : Geometry) (a b : List ℕ) → h ≡ g → b ≡ a → IsTidy g a → IsTidy h b
