@@ -3,3 +3,5 @@ pub mod Staged
 pub mod Tidied
 pub mod Dead
 pub mod Calls
+pub mod Mending
+pub mod Mended

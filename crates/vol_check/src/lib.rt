@@ -7,6 +7,7 @@ mod doubled;
 mod entries;
 mod mixed;
 mod report;
+mod spoiled;
 mod unwanted;
 
 pub use report::{CheckErr, Report};
