@@ -12,3 +12,5 @@ pub mod Mixing
 pub mod Resting
 pub mod Doubles
 pub mod Composing
+pub mod Mending
+pub mod Mended

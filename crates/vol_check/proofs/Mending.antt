@@ -1,0 +1,218 @@
+-- The block without its magic, made fresh, over plain images.
+use Rattle.std.proofs.Common.{◌≡◌, ◌≢◌, ℕ, zero, suc, ◌+◌, ◌-◌, ◌*◌, ◌/◌, ◌%◌, ◌<◌, ◌≤◌, ⊎_elim, List, length, Bool, true, false, not, ◌==◌, ◌&&◌, Some, None, ap, refl, sym, ◌∙◌, subst, arith}
+use Rattle.std.specs.Prelude.{Option, filter, find}
+use Rattle.std.specs.List.{range_with_len, list_all}
+use Rattle.std.proofs.Math.Nat.{mul-le-mul_right, div-add-mod}
+use Rattle.std.proofs.lemmas.Bool.{cases_lt, cases_eq, cases_Bool, and_parts, eqb-true, lt-ltb}
+use Rattle.geometry.specs.declared.geometry.Geometry.{Geometry}
+use Rattle.geometry.specs.Numbers.{right_magic}
+use Rattle.nor_core.specs.Flash.{SameOutside}
+use Rattle.image_model.specs.Volume.{per_block, lookups, slots, entries, page_count}
+use Rattle.image_model.specs.Live.{live_at}
+use Rattle.image_model.specs.Places.{has_magic, entry_of, page_of, block_of, place_of, is_entry_page, IsImage}
+use Rattle.image_model.specs.Tidy.{is_free_entry, is_free_block, free_blocks}
+use Rattle.image_model.specs.Kinds.{spoiled_blocks}
+use Rattle.image_model.specs.Killed.{is_used, is_killable, killed_of}
+use Rattle.image_model.specs.Sound.{HasMagics}
+use Rattle.image_model.specs.Within.{Sizes, sizes, entry_in, entry_of_block, entry_slot}
+use Rattle.image_laws.proofs.Frames.{range-same, live_parts}
+use Rattle.image_laws.proofs.Tables.{find_passes}
+use Rattle.image_laws.proofs.Append.{find-all}
+use Rattle.image_laws.proofs.Erase.{spoiled-is_dead, slot-other, live-other}
+use Rattle.image_laws.proofs.Erasing.{erasing-sound}
+use Rattle.image_laws.proofs.FreeBlocks.{all-at, filter-same, filter-but}
+use Rattle.image_laws.proofs.Sounding.{keeps-itself}
+use Rattle.image_laws.proofs.TidySteps.{wanted-same}
+use Rattle.free_search.proofs.Counting.{free_is_dead}
+use Rattle.page_put.specs.Fresh.{Freshens, IsFresh}
+use Rattle.vol_check.specs.Culls.{KeepsAll}
+use Rattle.vol_check.specs.Mends.{HasAllMagics, Mends}
+
+-- ---- the first block that lacks its magic
+
+not_true : (x : Bool) → not x ≡ true → x ≡ false
+not_true true h = cc
+not_true false h = refl
+
+not_false : (x : Bool) → not x ≡ false → x ≡ true
+not_false true h = refl
+not_false false h = cc
+
+pub found_spoiled : (g : Geometry) (a : List ℕ) (block : ℕ) → find (λ b. not (has_magic g a b)) (range_with_len 0 g.blocks) ≡ Some block → (block < g.blocks) × (has_magic g a block ≡ false)
+found_spoiled g a block found =
+    let w = find_passes (λ (b : ℕ). not (has_magic g a b)) 0 g.blocks block found in
+    (omega (arith, w.2), not_true (has_magic g a block) w.0)
+
+pub none_spoiled : (g : Geometry) (a : List ℕ) → find (λ b. not (has_magic g a b)) (range_with_len 0 g.blocks) ≡ None → HasAllMagics g a
+none_spoiled g a none block low = not_false (has_magic g a block) (find-all (λ (b : ℕ). not (has_magic g a b)) 0 g.blocks none block (omega arith) (omega arith))
+
+-- ---- a change inside one block, as the other blocks see it
+
+module _ (g : Geometry) (a b : List ℕ) (c : ℕ) (same : SameOutside (c * g.block) g.block a b) where
+  page_other : (p : ℕ) → block_of g p ≢ c → page_of g b p ≡ page_of g a p
+  unfolding page_of
+  page_other p differ =
+      let geo : Sizes g = sizes g in
+      let whole : per_block g * (p / per_block g) + p % per_block g ≡ p = div-add-mod p (per_block g) in
+      let times : (per_block g * (p / per_block g) + p % per_block g) * g.page ≡ p * g.page = ap (λ (x : ℕ). x * g.page) whole in
+      let block : (p / per_block g) * g.block ≡ (p / per_block g) * (per_block g * g.page) = ap (λ (x : ℕ). (p / per_block g) * x) geo.block in
+      let place : p % per_block g + 1 ≤ per_block g = omega (arith, geo.lookups_fit) in
+      let row : (p % per_block g + 1) * g.page ≤ per_block g * g.page = mul-le-mul_right g.page place in
+      range-same a b (p * g.page) g.page same.size
+      (λ i from to. ⊎_elim
+      (λ (before : p / per_block g < c).
+      let step : (p / per_block g + 1) * g.block ≤ c * g.block = mul-le-mul_right g.block (omega arith) in
+      same.before i (omega (arith, geo.block)))
+      (λ (behind : c ≤ p / per_block g).
+      let more : c + 1 ≤ p / per_block g = omega (arith, differ) in
+      let step : (c + 1) * g.block ≤ (p / per_block g) * g.block = mul-le-mul_right g.block more in
+      same.after i (omega (arith, geo.block)))
+      (cases_lt (p / per_block g) c))
+
+  magic_other : (d : ℕ) → d ≢ c → has_magic g b d ≡ has_magic g a d
+  unfolding has_magic
+  magic_other d differ = ap (λ (w : ℕ). w == right_magic g d) (slot-other g (sizes g) a b c same d (slots g - 2) differ (omega (arith, (sizes g).slots_fit)))
+
+  entry_other : (p : ℕ) → block_of g p ≢ c → entry_of g b p ≡ entry_of g a p
+  unfolding entry_of
+  entry_other p differ = slot-other g (sizes g) a b c same (block_of g p) (place_of g p - lookups g) differ (entry_slot g p)
+
+  free_entry_other : (p : ℕ) → block_of g p ≢ c → is_free_entry g b p ≡ is_free_entry g a p
+  free_entry_other p differ = rw (entry_other p differ, page_other p differ) refl
+
+  used_other : (p : ℕ) → block_of g p ≢ c → is_used g b p ≡ is_used g a p
+  unfolding is_used
+  used_other p differ = rw (magic_other (block_of g p) differ, entry_other p differ, page_other p differ) refl
+
+  free_block_other : (d : ℕ) → d < g.blocks → d ≢ c → is_free_block g b d ≡ is_free_block g a d
+  unfolding is_free_block
+  free_block_other d low differ =
+      let all = all_same (λ (q : ℕ). is_free_entry g a q) (λ (q : ℕ). is_free_entry g b q) (d * per_block g + lookups g) (entries g)
+      (λ q from to. free_entry_other q (λ e. differ (sym (entry_in g d q low from to).0 ∙ e))) in
+      rw (magic_other d differ, all) refl
+    where
+      all_same : (test now : ℕ → Bool) (x n : ℕ) → ((q : ℕ) → x ≤ q → q < x + n → now q ≡ test q) → list_all now (range_with_len x n) ≡ list_all test (range_with_len x n)
+      all_same test now x zero h = refl
+      all_same test now x (suc n) h = rw (h x (omega arith) (omega arith)) (ap (λ (r : Bool). test x && r) (all_same test now (x + 1) n (λ q low high. h q (omega arith) (omega arith))))
+
+-- ---- a free block
+
+module _ (g : Geometry) (b : List ℕ) (c : ℕ) (free : is_free_block g b c ≡ true) where
+  free_magic : has_magic g b c ≡ true
+  unfolding is_free_block
+  free_magic = (and_parts _ _ free).0
+
+  free_entry_at : (p : ℕ) → is_entry_page g p ≡ true → block_of g p ≡ c → is_free_entry g b p ≡ true
+  unfolding is_free_block
+  free_entry_at p page here =
+      let w = subst (λ (d : ℕ). (d * per_block g + lookups g ≤ p) × (p < d * per_block g + lookups g + entries g)) here (entry_of_block g p page) in
+      all-at (λ (q : ℕ). is_free_entry g b q) (c * per_block g + lookups g) (entries g) (and_parts _ _ free).1 p w.0 w.1
+
+  free_dead : (p : ℕ) → block_of g p ≡ c → live_at g b p ≡ None
+  free_dead p here = dead (live_at g b p) refl
+    where
+      dead : (o : Option (List ℕ)) → live_at g b p ≡ o → live_at g b p ≡ None
+      dead None e = e
+      dead (Some page) e = free_is_dead g b p (eqb-true _ 0xFFFF (and_parts _ _ (free_entry_at p (live_parts g b p page e).entry_page here)).0)
+
+  free_unused : (p : ℕ) → block_of g p ≡ c → is_used g b p ≡ false
+  unfolding is_used
+  free_unused p here =
+      ⊎_elim
+      (λ (page : is_entry_page g p ≡ true). rw (free_entry_at p page here) (and_false _))
+      (λ (lookup : is_entry_page g p ≡ false). rw lookup refl)
+      (cases_Bool (is_entry_page g p))
+    where
+      and_false : (x : Bool) → (x && false) ≡ false
+      and_false true = refl
+      and_false false = refl
+
+-- ---- what making it fresh leaves
+
+some_pass : (test : ℕ → Bool) (a n q : ℕ) → a ≤ q → q < a + n → test q ≡ true → 0 < length (filter test (range_with_len a n))
+some_pass test a zero q low high h = absurd (omega arith)
+some_pass test a (suc n) q low high h =
+    ⊎_elim
+    (λ (yes : test a ≡ true). rw yes (omega arith))
+    (λ (no : test a ≡ false).
+    let later : a ≢ q = λ e. let bad : true ≡ false = sym h ∙ (rw e at no) in absurd (cc) in
+    rw no (some_pass test (a + 1) n q (omega (arith, later)) (omega arith) h))
+    (cases_Bool (test a))
+
+module _ (g : Geometry) (a : List ℕ) (c : ℕ) (is : IsImage g a) (h : HasMagics g a) (low : c < g.blocks) (lacks : has_magic g a c ≡ false) where
+  others : (d : ℕ) → d < g.blocks → d ≢ c → has_magic g a d ≡ true
+  others d below differ = ⊎_elim (λ (yes : has_magic g a d ≡ true). yes) (λ (no : has_magic g a d ≡ false). absurd (differ (h.one d c below low no lacks))) (cases_Bool (has_magic g a d))
+
+  dead_before : (p : ℕ) → block_of g p ≡ c → live_at g a p ≡ None
+  dead_before = spoiled-is_dead g a c lacks
+
+  not_free : is_free_block g a c ≡ false
+  unfolding is_free_block
+  not_free = rw lacks refl
+
+  unused_before : (p : ℕ) → block_of g p ≡ c → is_used g a p ≡ false
+  unfolding is_used
+  unused_before p here = let no : has_magic g a (block_of g p) ≡ false = rw here lacks in rw (no, and_false (is_entry_page g p)) refl
+    where
+      and_false : (x : Bool) → (x && false) ≡ false
+      and_false true = refl
+      and_false false = refl
+
+  more_free : (x : List ℕ) → SameOutside (c * g.block) g.block a x → free_blocks g a ≤ free_blocks g x
+  unfolding free_blocks
+  more_free x outside =
+      let fall = filter-but (λ (d : ℕ). is_free_block g a d) (λ (d : ℕ). is_free_block g x d) c 0 g.blocks (λ d from to there. free_block_other g a x c outside d (omega arith) there) in
+      let tight = rw not_free at fall in
+      omega (arith, tight)
+
+  pub mends_cut : (x : List ℕ) → Freshens g c a x → KeepsAll g a x
+  mends_cut x cut = record {
+    keeps = erasing-sound g a x c is others cut.outside dead_before
+        (⊎_elim
+        (λ (same : x ≡ a). subst (λ (l : List ℕ). (p : ℕ) → block_of g p ≡ c → live_at g l p ≡ None) (sym same) dead_before)
+        (λ (dead : (p : ℕ) → block_of g p ≡ c → live_at g x p ≡ None). dead)
+        cut.dead);
+    free = more_free x cut.outside;
+  }
+
+  module _ (b : List ℕ) (erases : ℕ) (fresh : IsFresh g c erases a b) where
+    mends_live : (p : ℕ) → live_at g b p ≡ live_at g a p
+    mends_live p =
+        ⊎_elim
+        (λ (here : block_of g p ≡ c). free_dead g b c fresh.free p here ∙ sym (dead_before p here))
+        (λ (there : block_of g p ≡ c → ⊥). live-other g (sizes g) a b c fresh.outside p there)
+        (cases_eq (block_of g p) c)
+
+    mends_killed : killed_of g b ≡ killed_of g a
+    unfolding killed_of
+    mends_killed =
+        let used : (p : ℕ) → is_used g b p ≡ is_used g a p = λ p. ⊎_elim
+        (λ (here : block_of g p ≡ c). free_unused g b c fresh.free p here ∙ sym (unused_before p here))
+        (λ (there : block_of g p ≡ c → ⊥). used_other g a b c fresh.outside p there)
+        (cases_eq (block_of g p) c) in
+        filter-same (λ (p : ℕ). is_killable g a p) (λ (p : ℕ). is_killable g b p) 0 (page_count g) (λ p from to. rw (used p, wanted-same g a b mends_live p) refl)
+
+    pub mends : Mends g true a b
+    unfolding spoiled_blocks
+    mends = record {
+      erased_is = sym (lt-ltb 0 _ (some_pass (λ (d : ℕ). not (has_magic g a d)) 0 g.blocks c (omega arith) (omega arith) (rw lacks refl)));
+      keeps = erasing-sound g a b c is others fresh.outside dead_before (free_dead g b c fresh.free);
+      magics = λ d below. ⊎_elim
+          (λ (here : d ≡ c). rw here (free_magic g b c fresh.free))
+          (λ (there : d ≡ c → ⊥). magic_other g a b c fresh.outside d there ∙ others d below there)
+          (cases_eq d c);
+      live = mends_live;
+      killed = mends_killed;
+      free = more_free b fresh.outside;
+    }
+
+-- where all blocks have their magic nothing is done
+none_pass : (test : ℕ → Bool) (a n : ℕ) → ((q : ℕ) → a ≤ q → q < a + n → test q ≡ false) → length (filter test (range_with_len a n)) ≡ 0
+none_pass test a zero none = refl
+none_pass test a (suc n) none = rw (none a (omega arith) (omega arith)) (none_pass test (a + 1) n (λ q low high. none q (omega arith) (omega arith)))
+
+pub mends_none : (g : Geometry) (a b : List ℕ) → HasMagics g a → HasAllMagics g a → b ≡ a → Mends g false a b
+unfolding spoiled_blocks
+mends_none g a b h all same =
+    let count = none_pass (λ (d : ℕ). not (has_magic g a d)) 0 g.blocks (λ d from to. rw (all d (omega arith)) refl) in
+    rw same (record { erased_is = rw count refl; keeps = keeps-itself g a h; magics = all; live = λ p. refl; killed = refl; free = omega arith })
