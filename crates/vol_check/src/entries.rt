@@ -71,6 +71,7 @@ pub(crate) fn clean_entries<N: Nor>(v: &mut View<'_, N>) -> Result<u32, Failed>
     ensures cause { OnErr result (Rose (N.faults v.old.nor.now) (N.faults v.new.nor.now)) }
     ensures faults { N.faults v.old.nor.now ≤ N.faults v.new.nor.now }
     ensures same { IsSameView v.old v.new }
+    ensures most { IfOk result (λ killed. killed ≤ 65535) }
     ensures changes { Changes N.NorState v.old.nor.now v.new.nor.now (LeavesLive v.old.geometry) }
     ensures done { N.tells v.old.nor.now → HasMagics v.old.geometry (N.bytes v.old.nor.now) → IfOk result (λ killed. CleansEntries v.old.geometry killed (N.bytes v.old.nor.now) (N.bytes v.new.nor.now)) }
     ensures idle { N.tells v.old.nor.now → IsClean v.old.geometry (N.bytes v.old.nor.now) → OnlyReads N.NorState v.old.nor.now v.new.nor.now }
