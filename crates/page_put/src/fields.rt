@@ -1,0 +1,78 @@
+ghost use Rattle.std.specs.Prelude.{◌≡◌, ◌+◌, ◌*◌, ◌<◌, ◌≤◌, length, [], ◌∷◌, OnErr, OnOk, true};
+ghost use Rattle.std.specs.Int.{to_le_bytes, w16};
+ghost use Rattle.geometry.specs.Numbers.{page_count};
+ghost use Rattle.nor_core.specs.Count.{Rose};
+ghost use Rattle.nor_core.specs.Flash.{HalfProgrammed, programmed};
+ghost use Rattle.nor_core.specs.Device.{Changes};
+ghost use Rattle.image_laws.specs.InPlace.{slot_at};
+ghost use Rattle.flash_view.specs.Same.{IsSameView};
+
+use flash_view::View;
+use geometry::Geometry;
+use nor_core::{Failed, Nor, NorState};
+use page_layout::Flags;
+
+/// Marks a header page: its file is being removed. One program, which clears IXDELE alone, so that a live header page
+/// is live no more; that bit is to be set before.
+pub fn mark_removed<N: Nor>(v: &mut View<'_, N>, page: u16) -> Result<(), Failed>
+    requires page { page < page_count v.old.geometry }
+    ensures cause { OnErr result (Rose (N.faults v.old.nor.now) (N.faults v.new.nor.now)) }
+    ensures faults { N.faults v.old.nor.now ≤ N.faults v.new.nor.now }
+    ensures same { IsSameView v.old v.new }
+    ensures wrote { v.new.wrote ≡ true }
+    ensures changes { Changes N.NorState v.old.nor.now v.new.nor.now (HalfProgrammed (page * v.old.geometry.page + 4) (0xBF ∷ [])) }
+    ensures done { N.tells v.old.nor.now → OnOk result (N.bytes v.new.nor.now ≡ programmed (N.bytes v.old.nor.now) (page * v.old.geometry.page + 4) (0xBF ∷ [])) }
+{
+    let erased = Flags::from_bits(0xFF);
+    v.program_in(page, 4, &[erased.removing().bits()])
+}
+
+/// Programs bytes behind those that a data page holds, in one program. `at` counts bytes from the page's first one, its
+/// header of 5 bytes included. The bytes from there on are to be erased, and past the size of the file.
+pub fn fill_tail<N: Nor>(v: &mut View<'_, N>, page: u16, at: u32, from: &[u8]) -> Result<(), Failed>
+    requires page { page < page_count v.old.geometry }
+    requires some { 0 < length from.now }
+    requires inside { at + length from.now ≤ v.old.geometry.page }
+    ensures cause { OnErr result (Rose (N.faults v.old.nor.now) (N.faults v.new.nor.now)) }
+    ensures faults { N.faults v.old.nor.now ≤ N.faults v.new.nor.now }
+    ensures same { IsSameView v.old v.new }
+    ensures wrote { v.new.wrote ≡ true }
+    ensures changes { Changes N.NorState v.old.nor.now v.new.nor.now (HalfProgrammed (page * v.old.geometry.page + at) from.now) }
+    ensures done { N.tells v.old.nor.now → OnOk result (N.bytes v.new.nor.now ≡ programmed (N.bytes v.old.nor.now) (page * v.old.geometry.page + at) from.now) }
+{
+    v.program_in(page, at, from)
+}
+
+// The byte of an index page at which the entry of a data span stands: in the header page or in a further index page.
+fn slot_start(g: &Geometry, span: u16) -> u32
+    ensures place { result ≡ slot_at g.now span }
+    ensures inside { result + 2 ≤ g.now.page }
+{
+    let span = u32::from(span);
+    if span < g.head_slots() {
+        45 + g.meta() + 2 * span
+    } else {
+        8 + 2 * ((span - g.head_slots()) % g.span_slots())
+    }
+}
+
+/// Names the data page of a span in the index page that has its entry, in one program of two bytes. `slot` is the data
+/// span, counted through the whole file from 0, and `target` the number of the data page. The entry is to be 0xFFFF
+/// before, and at or past the page count of the file.
+pub fn name_slot<N: Nor>(
+    v: &mut View<'_, N>,
+    page: u16,
+    slot: u16,
+    target: u16,
+) -> Result<(), Failed>
+    requires page { page < page_count v.old.geometry }
+    ensures cause { OnErr result (Rose (N.faults v.old.nor.now) (N.faults v.new.nor.now)) }
+    ensures faults { N.faults v.old.nor.now ≤ N.faults v.new.nor.now }
+    ensures same { IsSameView v.old v.new }
+    ensures wrote { v.new.wrote ≡ true }
+    ensures changes { Changes N.NorState v.old.nor.now v.new.nor.now (HalfProgrammed (page * v.old.geometry.page + slot_at v.old.geometry slot) (to_le_bytes w16 target)) }
+    ensures done { N.tells v.old.nor.now → OnOk result (N.bytes v.new.nor.now ≡ programmed (N.bytes v.old.nor.now) (page * v.old.geometry.page + slot_at v.old.geometry slot) (to_le_bytes w16 target)) }
+{
+    let start = slot_start(&v.geometry, slot);
+    v.program_in(page, start, &target.to_le_bytes())
+}
