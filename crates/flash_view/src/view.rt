@@ -39,7 +39,7 @@ impl<'b, N: Nor> View<'b, N> {
     ghost use Rattle.std.specs.Int.{to_le_bytes, w16};
     ghost use Rattle.geometry.specs.Numbers.{work_need, cache_need, page_count};
     ghost use Rattle.nor_core.specs.Count.{Rose};
-    ghost use Rattle.nor_core.specs.Flash.{HalfProgrammed, programmed};
+    ghost use Rattle.nor_core.specs.Flash.{HalfProgrammed, programmed, HalfErased, erased};
     ghost use Rattle.nor_core.specs.Device.{Changes, InErase};
     ghost use Rattle.flash_view.specs.Places.{IsEntryPage, IsWordAt, page_start as the_page_start, entry_start as the_entry_start};
     ghost use Rattle.image_model.specs.Headers.{word_at};
@@ -291,6 +291,8 @@ impl<'b, N: Nor> View<'b, N> {
         requires inside { (unit_ix + 1) * self.old.geometry.phys ≤ self.old.geometry.blocks * self.old.geometry.block }
         requires marked { ForSome mark (λ m. m.at + 2 ≤ self.old.geometry.phys) }
         ensures cause { OnErr result (Rose (N.faults self.old.nor.now) (N.faults self.new.nor.now)) }
+        ensures done { N.tells self.old.nor.now → OnOk result (N.bytes self.new.nor.now ≡ erased (N.bytes self.old.nor.now) (unit_ix * self.old.geometry.phys) self.old.geometry.phys) }
+        ensures half { N.tells self.old.nor.now → OnErr result (HalfErased (unit_ix * self.old.geometry.phys) self.old.geometry.phys mark (N.bytes self.old.nor.now) (N.bytes self.new.nor.now)) }
         ensures changes { Changes N.NorState self.old.nor.now self.new.nor.now (InErase N.NorState self.old.nor.now self.new.nor.now unit_ix mark) }
         ensures same { IsSameView self.old self.new }
         ensures wrote { self.new.wrote ≡ true }

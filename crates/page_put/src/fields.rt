@@ -56,13 +56,13 @@ fn slot_start(g: &Geometry, span: u16) -> u32
     }
 }
 
-/// Names the data page of a span in the index page that has its entry, in one program of two bytes. `slot` is the data
-/// span, counted through the whole file from 0, and `target` the number of the data page. The entry is to be 0xFFFF
-/// before, and at or past the page count of the file.
+/// Names the data page of a span in the index page that has its entry, in one program of two bytes. The data span is
+/// counted through the whole file from 0, and `target` is the number of the data page. The entry is to be 0xFFFF before,
+/// and at or past the page count of the file.
 pub fn name_slot<N: Nor>(
     v: &mut View<'_, N>,
     page: u16,
-    slot: u16,
+    span: u16,
     target: u16,
 ) -> Result<(), Failed>
     requires page { page < page_count v.old.geometry }
@@ -70,9 +70,9 @@ pub fn name_slot<N: Nor>(
     ensures faults { N.faults v.old.nor.now ≤ N.faults v.new.nor.now }
     ensures same { IsSameView v.old v.new }
     ensures wrote { v.new.wrote ≡ true }
-    ensures changes { Changes N.NorState v.old.nor.now v.new.nor.now (HalfProgrammed (page * v.old.geometry.page + slot_at v.old.geometry slot) (to_le_bytes w16 target)) }
-    ensures done { N.tells v.old.nor.now → OnOk result (N.bytes v.new.nor.now ≡ programmed (N.bytes v.old.nor.now) (page * v.old.geometry.page + slot_at v.old.geometry slot) (to_le_bytes w16 target)) }
+    ensures changes { Changes N.NorState v.old.nor.now v.new.nor.now (HalfProgrammed (page * v.old.geometry.page + slot_at v.old.geometry span) (to_le_bytes w16 target)) }
+    ensures done { N.tells v.old.nor.now → OnOk result (N.bytes v.new.nor.now ≡ programmed (N.bytes v.old.nor.now) (page * v.old.geometry.page + slot_at v.old.geometry span) (to_le_bytes w16 target)) }
 {
-    let start = slot_start(&v.geometry, slot);
+    let start = slot_start(&v.geometry, span);
     v.program_in(page, start, &target.to_le_bytes())
 }

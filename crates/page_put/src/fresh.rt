@@ -1,10 +1,8 @@
 ghost use Rattle.std.specs.Prelude.{◌≡◌, ◌+◌, ◌*◌, ◌/◌, ◌<◌, ◌≤◌, ◌⊎◌, length, OnErr, OnOk, Some, true};
 ghost use Rattle.std.specs.Option.{ForSome};
-ghost use Rattle.geometry.specs.Numbers.{cache_need};
 ghost use Rattle.nor_core.specs.Count.{Rose};
-ghost use Rattle.nor_core.specs.Flash.{SameOutside, erased, HalfErased};
-ghost use Rattle.nor_core.specs.Device.{Changes, InErase};
-ghost use Rattle.page_cache.specs.Kept.{IsKept, FewReads};
+ghost use Rattle.nor_core.specs.Flash.{SameOutside};
+ghost use Rattle.nor_core.specs.Device.{Changes};
 ghost use Rattle.image_laws.specs.Blocks.{magic_mark};
 ghost use Rattle.flash_view.specs.Places.{magic_start};
 ghost use Rattle.flash_view.specs.Same.{IsSameView};
@@ -13,47 +11,7 @@ ghost use Rattle.page_put.specs.Fresh.{Freshens, IsFresh, UnitGoes, UnitErased, 
 use flash_view::View;
 use geometry::Geometry;
 use nor_core::{Failed, Mark, Nor, NorState};
-use page_cache::Cached;
 use page_layout::{count_offset, magic_offset};
-
-// Erases a unit of a device behind copies of pages.
-fn erase_cached<N: Nor>(
-    g: Geometry,
-    nor: &mut N,
-    cache: &mut [u8],
-    unit_ix: u32,
-    mark: Option<Mark>,
-) -> Result<(), Failed>
-    requires volume { g.blocks * g.block ≤ N.size nor.old }
-    requires need { cache_need g ≤ length cache.old }
-    requires kept { IsKept N.NorState g nor.old cache.old }
-    requires inside { unit_ix < N.size nor.old / N.unit nor.old }
-    requires marked { ForSome mark (λ m. m.at + 2 ≤ N.unit nor.old) }
-    ensures cause { OnErr result (Rose (N.faults nor.old) (N.faults nor.new)) }
-    ensures done { N.tells nor.old → OnOk result (N.bytes nor.new ≡ erased (N.bytes nor.old) (unit_ix * N.unit nor.old) (N.unit nor.old)) }
-    ensures half { N.tells nor.old → OnErr result (HalfErased (unit_ix * N.unit nor.old) (N.unit nor.old) mark (N.bytes nor.old) (N.bytes nor.new)) }
-    ensures changes { Changes N.NorState nor.old nor.new (InErase N.NorState nor.old nor.new unit_ix mark) }
-    ensures few { FewReads N.NorState g nor.old cache.old nor.new cache.new }
-    ensures kept { IsKept N.NorState g nor.new cache.new }
-{
-    let mut cached = Cached::resume(g, nor, cache);
-    cached.erase_through(unit_ix, mark)
-}
-
-// Erases a unit of the volume, as `View::erase` does: what it leaves is told where it is done, and where it failed.
-fn erase_told<N: Nor>(v: &mut View<'_, N>, unit_ix: u32, mark: Option<Mark>) -> Result<(), Failed>
-    requires inside { (unit_ix + 1) * v.old.geometry.phys ≤ v.old.geometry.blocks * v.old.geometry.block }
-    requires marked { ForSome mark (λ m. m.at + 2 ≤ v.old.geometry.phys) }
-    ensures cause { OnErr result (Rose (N.faults v.old.nor.now) (N.faults v.new.nor.now)) }
-    ensures done { N.tells v.old.nor.now → OnOk result (N.bytes v.new.nor.now ≡ erased (N.bytes v.old.nor.now) (unit_ix * v.old.geometry.phys) v.old.geometry.phys) }
-    ensures half { N.tells v.old.nor.now → OnErr result (HalfErased (unit_ix * v.old.geometry.phys) v.old.geometry.phys mark (N.bytes v.old.nor.now) (N.bytes v.new.nor.now)) }
-    ensures changes { Changes N.NorState v.old.nor.now v.new.nor.now (InErase N.NorState v.old.nor.now v.new.nor.now unit_ix mark) }
-    ensures same { IsSameView v.old v.new }
-    ensures wrote { v.new.wrote ≡ true }
-{
-    v.wrote = true;
-    erase_cached(v.geometry, v.nor, v.cache, unit_ix, mark)
-}
 
 // The mark of a unit's erase: the magic of the block in its first unit.
 fn unit_mark(g: &Geometry, block: u16, i: u32) -> Option<Mark>
@@ -82,7 +40,7 @@ fn erase_unit<N: Nor>(v: &mut View<'_, N>, block: u16, i: u32) -> Result<(), Fai
 {
     let g = v.geometry;
     let units = g.block() / g.phys();
-    erase_told(v, u32::from(block) * units + i, unit_mark(&g, block, i))
+    v.erase(u32::from(block) * units + i, unit_mark(&g, block, i))
 }
 
 // Erases the units of a block from the first upwards.

@@ -1,20 +1,20 @@
 use Rattle.page_put.proofs.Erasures.{image_of, unit_fits, erase_done, erase_goes}
 use Rattle.page_put.proofs.fresh.erase_unit.Goals as goal
 
-pub erase_told-requires-clause-inside : goal.erase_told-requires-clause-inside
-erase_told-requires-clause-inside g c =
+pub erase-requires-clause-inside : goal.erase-requires-clause-inside
+erase-requires-clause-inside g c =
     unit_fits c.args.v.now.geometry c.args.block c.args.i _ c.requires.block c.requires.unit (cc (c.from.ensures, c.block.ensures, c.phys.ensures))
 
 pub returns-clause-changes : goal.returns-clause-changes
 returns-clause-changes g c =
     let view = c.args.v.now in
-    erase_goes view.geometry c.args.block c.args.i _ c.requires.block c.requires.unit (cc (c.from.ensures, c.block.ensures, c.phys.ensures)) _ c.erase_told.result
+    erase_goes view.geometry c.args.block c.args.i _ c.requires.block c.requires.unit (cc (c.from.ensures, c.block.ensures, c.phys.ensures)) _ c.erase.result
     (λ tells. image_of view.geometry (g.N.NorState.bytes view.nor.now) (g.N.NorState.size view.nor.now) (g.met.N.Nor.sized view.nor.now tells) view.volume)
-    c.erase_told.ensures.done c.unit_mark.ensures.first view.unit c.erase_told.ensures.half c.erase_told.ensures.changes
+    c.erase.ensures.done c.unit_mark.ensures.first view.unit c.erase.ensures.half c.erase.ensures.changes
 
 pub returns-clause-done : goal.returns-clause-done
 returns-clause-done g c = λ tells.
     let view = c.args.v.now in
-    erase_done view.geometry c.args.block c.args.i _ c.requires.block c.requires.unit (cc (c.from.ensures, c.block.ensures, c.phys.ensures)) c.erase_told.result _ _
+    erase_done view.geometry c.args.block c.args.i _ c.requires.block c.requires.unit (cc (c.from.ensures, c.block.ensures, c.phys.ensures)) c.erase.result _ _
     (image_of view.geometry (g.N.NorState.bytes view.nor.now) (g.N.NorState.size view.nor.now) (g.met.N.Nor.sized view.nor.now tells) view.volume)
-    (c.erase_told.ensures.done tells)
+    (c.erase.ensures.done tells)
