@@ -1,14 +1,14 @@
 -- The header page of a file is marked, and then killed.
-use Rattle.std.proofs.Common.{◌≡◌, ◌≢◌, ℕ, ◌+◌, ◌*◌, ◌<◌, ◌≤◌, ◌⊎◌, List, [], ◌∷◌, slice_index, Bool, true, false, not, ◌==◌, ◌&&◌, Option, Some, None, ap, refl, sym, ◌∙◌, arith, ⊎_elim, inl, inr, subst}
-use Rattle.std.specs.Prelude.{bit_and, is_some, min}
+use Rattle.std.proofs.Common.{◌≡◌, ℕ, ◌+◌, ◌*◌, ◌<◌, ◌≤◌, List, [], ◌∷◌, slice_index, Bool, true, false, not, ◌==◌, ◌&&◌, Option, Some, None, ap, refl, sym, ◌∙◌, arith, ⊎_elim, inl, inr, subst}
+use Rattle.std.specs.Prelude.{bit_and, is_some}
 use Rattle.std.specs.Int.{bit_at}
 use Rattle.geometry.specs.declared.geometry.Geometry.{Geometry}
 use Rattle.nor_core.specs.Flash.{HalfProgrammed, programmed}
 use Rattle.table_model.specs.Table.{drop_file}
 use Rattle.image_model.specs.Within.{sizes}
-use Rattle.image_model.specs.Places.{page_of, is_entry_page, IsImage, entry_at}
+use Rattle.image_model.specs.Places.{page_of, IsImage, entry_at}
 use Rattle.image_model.specs.Headers.{is_finished, names_index, span_of}
-use Rattle.image_model.specs.Live.{Live, live_at, own}
+use Rattle.image_model.specs.Live.{live_at, own}
 use Rattle.image_model.specs.Files.{is_index}
 use Rattle.image_model.specs.Tables.{table_of, damaged_of}
 use Rattle.image_model.specs.Tidy.{free_blocks}
@@ -151,7 +151,7 @@ module _ (g : Geometry) (a : List ℕ) (id p : ℕ) (is : IsImage g a) (can : Ca
       let one = unused_flags-keep g marked (deleted g p marked) p (flags_left g marked p) left.image magics_now parts.entry_page left.dead deletes first in
       let image : IsImage g (deleted g p marked) = record { len = omega (arith, first.outside.size, left.image.len) } in
       let two = dead_entry-keeps g (deleted g p marked) later p (0 ∷ 0 ∷ []) image one.1.sound.magics parts.entry_page
-          (deleted_done g marked (deleted g p marked) p (flags_left g marked p) left.image deletes kills.delete) refl second in
+      (deleted_done g marked (deleted g p marked) p (flags_left g marked p) left.image deletes kills.delete) refl second in
       two.0 q ∙ one.0 q
 
   all_lost : Loses p (live_at g a) (live_at g later)

@@ -1,5 +1,5 @@
 -- The kills of a remove one after the other.
-use Rattle.std.proofs.Common.{◌≡◌, ◌≢◌, ℕ, ◌+◌, ◌*◌, ◌<◌, ◌≤◌, List, [], ◌∷◌, length, slice_index, true, Option, Some, None, Result, Ok, Err, ap, refl, sym, ◌∙◌, arith, ⊎_elim, inl, inr, false, subst}
+use Rattle.std.proofs.Common.{◌≡◌, ℕ, ◌+◌, ◌*◌, ◌<◌, ◌≤◌, List, [], ◌∷◌, length, slice_index, true, Option, Some, None, Result, Ok, Err, ap, refl, sym, ◌∙◌, arith, ⊎_elim, inl, inr, false, subst}
 use Rattle.std.specs.Prelude.{is_some, OnOk}
 use Rattle.std.proofs.lemmas.Bool.{cases_eq}
 use Rattle.geometry.specs.declared.geometry.Geometry.{Geometry}
@@ -10,10 +10,9 @@ use Rattle.nor_core.proofs.Cuts.{wider, unchanged, go_on, after_reads}
 use Rattle.image_model.specs.Volume.{page_count}
 use Rattle.image_model.specs.Within.{page_number}
 use Rattle.image_model.specs.Places.{IsImage}
-use Rattle.image_model.specs.Live.{Live, live_at, own}
+use Rattle.image_model.specs.Live.{live_at, own}
 use Rattle.image_model.specs.Files.{index_page}
 use Rattle.image_model.specs.Sound.{HasMagics}
-use Rattle.image_model.specs.Tidy.{IsTidy}
 use Rattle.image_laws.proofs.Finish.{own-parts}
 use Rattle.image_laws.proofs.Frames.{live_parts}
 use Rattle.image_laws.proofs.RemoveTidy.{orphans-end}

@@ -1,5 +1,4 @@
-use Rattle.std.proofs.Common.{◌≡◌, true, false, sym, ◌∙◌}
-use Rattle.file_drop.specs.Removals.{is_of}
+use Rattle.std.proofs.Common.{sym, ◌∙◌}
 use Rattle.file_drop.proofs.Passing.{image_of, on_ok, cut_reads, cut_kill, drops_none, killed_page}
 use Rattle.file_drop.proofs.pages.drop_page.Goals as goal
 

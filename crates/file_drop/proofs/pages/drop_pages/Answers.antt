@@ -1,4 +1,4 @@
-use Rattle.std.proofs.Common.{◌≡◌, ◌+◌, ◌≤◌, refl, arith, true}
+use Rattle.std.proofs.Common.{arith}
 use Rattle.image_model.specs.Volume.{page_count, per_block}
 use Rattle.flash_view.proofs.Looking.{same_none, same_then}
 use Rattle.file_drop.proofs.Passing.{cut_none, cut_then, dropping_start, dropping_on, dropping_end}

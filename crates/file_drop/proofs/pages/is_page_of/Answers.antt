@@ -1,4 +1,4 @@
-use Rattle.std.proofs.Common.{◌≡◌, Bool, true, false, sym, ◌∙◌}
+use Rattle.std.proofs.Common.{Bool, true, false, sym, ◌∙◌}
 use Rattle.std.specs.Bool.{OnTrue}
 use Rattle.file_drop.proofs.Seeing.{lookup_not_of, dead_not_of, of_by_header, byte_by_header}
 use Rattle.file_drop.proofs.pages.is_page_of.Goals as goal
