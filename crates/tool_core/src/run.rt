@@ -364,7 +364,7 @@ pub(crate) fn run<'b, B: Board, S: Source>(
     ensures script_cause { result ≡ Ending.SourceFault → Rose (S.faults script.old) (S.faults script.new) }
     ensures board_faults { B.faults board.old ≤ B.faults board.new }
     ensures board_cause { result ≡ Ending.BoardFault → Rose (B.faults board.old) (B.faults board.new) }
-    ensures few { ReadsOnce B.NorState g (length lent.cache.now) board.old board.new }
+    ensures few { ReadsOnce B.NorState g (length lent.entry.cache.now) board.old board.new }
     ensures ends { (slots : ℕ) → S.tells script.old → B.tells board.old → RunsTo B.NorState g board.old board.new (first_moment g slots (B.bytes board.old)) (S.left script.old) (S.left script.new) result }
     ensures cuts { (slots : ℕ) → S.tells script.old → B.tells board.old → Leaves B.NorState board.old board.new (CutIn B.NorState g board.old (first_moment g slots (B.bytes board.old)) (calls (S.left script.old))) }
 {
