@@ -32,7 +32,7 @@ pub record BlankTo (g : Geometry) (count : ℕ) (was now : List ℕ) : Type 0 wh
   pub blank : (block : ℕ) → block < count → IsBlank g block now
   pub behind : (k : ℕ) → count * g.block ≤ k → slice_index now k ≡ slice_index was k
 
--- An empty volume: every block is blank, so it is free with an erase count of 0, the table is empty, and the image is tidy with its reserve. What the device has behind the volume is as it was.
+-- An empty volume: every block is blank, and so free with an erase count of 0, the table is empty, the image is tidy and has its reserve, and what the device has behind the volume is as it was.
 pub record IsFormatted (g : Geometry) (was now : List ℕ) : Type 0 where
   pub size : length now ≡ length was
   pub blank : (block : ℕ) → block < g.blocks → IsBlank g block now
