@@ -1,0 +1,7 @@
+//! Garbage collection: which block is cleaned next, and when it must be.
+#![tactic(auto)]
+
+mod scores;
+mod totals;
+
+pub use scores::score;
