@@ -1,6 +1,7 @@
 //! Garbage collection: which block is cleaned next, and when it must be.
 #![tactic(auto)]
 
+mod choice;
 mod scores;
 mod totals;
 
