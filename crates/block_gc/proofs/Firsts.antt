@@ -1,12 +1,12 @@
 -- The first number of the greatest value, one number after the other.
-use Rattle.std.proofs.Common.{◌≡◌, ℕ, zero, suc, ◌+◌, ◌-◌, ◌*◌, ◌<◌, ◌≤◌, ⊎_elim, List, [], ◌∷◌, Bool, true, false, not, nat_lt, nat_le, ◌==◌, ◌&&◌, ◌||◌, length, refl, sym, ◌∙◌, ap, arith, if◌then◌else◌}
+use Rattle.std.proofs.Common.{◌≡◌, ℕ, zero, suc, ◌+◌, ◌-◌, ◌<◌, ◌≤◌, ⊎_elim, List, [], ◌∷◌, Bool, true, false, ◌&&◌, ◌||◌, refl, ◌∙◌, ap, arith, if◌then◌else◌}
 use Rattle.std.specs.Prelude.{Option, Some, None, is_some, ℤ, int_le, filter, find}
 use Rattle.std.specs.Option.{option_map}
 use Rattle.std.specs.List.{range_with_len, list_all, list_any}
 use Rattle.std.proofs.lemmas.Int.{ints}
 use Rattle.std.proofs.lemmas.Bool.{cases_Bool, cases_eq, cases_lt}
 use Rattle.block_gc.specs.declared.choice.Scored.{Scored}
-use Rattle.block_gc.specs.Best.{better_of, Leads, IsFirst}
+use Rattle.block_gc.specs.Best.{better_of, IsFirst}
 
 le_self : (a : ℤ) → int_le a a ≡ true
 le_self a = grind (arith, ints)

@@ -1,20 +1,19 @@
 -- Whether a block is worth cleaning, whether it fits, and its score, by its counts and the room of all blocks.
-use Rattle.std.proofs.Common.{◌≡◌, ℕ, zero, suc, ◌+◌, ◌-◌, ◌*◌, ◌<◌, ◌≤◌, ⊎_elim, List, [], ◌∷◌, Bool, true, false, not, nat_lt, nat_le, ◌==◌, ◌&&◌, length, refl, sym, ◌∙◌, ap, arith, if◌then◌else◌}
+use Rattle.std.proofs.Common.{◌≡◌, ℕ, zero, suc, ◌+◌, ◌-◌, ◌<◌, ◌≤◌, ⊎_elim, List, Bool, true, false, not, nat_lt, ◌==◌, ◌&&◌, refl, ◌∙◌, ap, arith, if◌then◌else◌}
 use Rattle.std.specs.Prelude.{sum_by}
 use Rattle.std.specs.List.{range_with_len}
 use Rattle.std.proofs.lemmas.List.Sums.{sum_by-cons}
-use Rattle.std.proofs.lemmas.Bool.{cases_Bool, cases_eq, eq-eqb, ne_eqb, lt-ltb}
+use Rattle.std.proofs.lemmas.Bool.{cases_eq, eq-eqb, ne_eqb}
 use Rattle.geometry.specs.declared.geometry.Geometry.{Geometry}
 use Rattle.image_model.specs.Volume.{entries}
 use Rattle.image_model.specs.Places.{next_count}
-use Rattle.image_model.specs.Tidy.{IsTidy, is_free_block, free_blocks}
-use Rattle.image_model.specs.Kinds.{is_data_block}
-use Rattle.image_model.specs.Collect.{index_in, data_in, deleted_in, free_in, free_where, free_outside, takes_index, takes_data, holds_index, is_worth, is_fitting, score}
+use Rattle.image_model.specs.Tidy.{IsTidy, is_free_block}
+use Rattle.image_model.specs.Collect.{free_in, free_where, free_outside, takes_index, takes_data, holds_index, is_worth, is_fitting, score}
 use Rattle.free_search.specs.declared.blocks.BlockCounts.{BlockCounts}
 use Rattle.free_search.specs.Counts.{AreCounts}
 use Rattle.block_gc.specs.declared.totals.Room.{Room}
 use Rattle.block_gc.specs.declared.choice.Bests.{Bests}
-use Rattle.block_gc.specs.Totals.{score_by, room_by, worth_by, fits_by, IsRoom, AreTotals}
+use Rattle.block_gc.specs.Totals.{score_by, room_by, worth_by, fits_by, AreTotals}
 use Rattle.block_gc.specs.Best.{bests_by, bests_with}
 use Rattle.block_gc.proofs.Rooms.{room_is, data_is}
 
@@ -90,7 +89,7 @@ module _ (g : Geometry) (image : List ℕ) (block : ℕ) (c : BlockCounts) (all 
   unfolding is_fitting
   fits_is = rw (index_left, pages_left, (data_is g image block c counts).0, counts.pages, counts.index, totals.blocks) refl
 
-  score_is : (next : ℕ) → next ≡ next_count g image → score_by c next ≡ score g image block
+  pub score_is : (next : ℕ) → next ≡ next_count g image → score_by c next ≡ score g image block
   unfolding score
   score_is next is = rw (is, counts.deleted, counts.erases, counts.index, counts.pages) refl
 

@@ -1,5 +1,5 @@
 -- Which of the blocks are the best so far.
-use Rattle.std.specs.Prelude.{◌≡◌, ℕ, ◌+◌, ◌-◌, ◌<◌, ◌≤◌, List, Bool, true, false, not, ◌&&◌, ◌||◌, Option, Some, None, ℤ, pos, ◌-ℤ◌, ◌*◌, ◌%◌, ◌==◌, nat_lt, int_le, if◌then◌else◌}
+use Rattle.std.specs.Prelude.{◌≡◌, ℕ, ◌<◌, List, Bool, true, false, not, ◌&&◌, ◌||◌, Option, Some, None, is_some, ℤ, ◌==◌, nat_lt, int_le, if◌then◌else◌}
 use Rattle.geometry.specs.declared.geometry.Geometry.{Geometry}
 use Rattle.std.specs.List.{range_with_len, list_any}
 use Rattle.free_search.specs.declared.blocks.BlockCounts.{BlockCounts}
@@ -66,6 +66,14 @@ pub record AreBests (g : Geometry) (image : List ℕ) (bests : Bests) : Type 0 w
   pub worth : bests.worth ≡ list_any (λ block. is_worth g image block) (range_with_len 0 g.blocks)
   pub any : IsFirst (is_candidate g image) (score g image) g.blocks bests.any
   pub plain : IsFirst (is_plain g image) (score g image) g.blocks bests.plain
+
+-- of the bests the one that is taken, by the number of free blocks
+abbrev pub pick_of : ℕ → Bests → Option Scored
+pick_of free bests = if nat_lt free 2 && is_some bests.plain then bests.plain else bests.any
+
+-- by the number of free blocks and the bests, collection is stuck
+abbrev pub stuck_by : ℕ → Bests → Bool
+stuck_by free bests = nat_lt free 2 && bests.worth && not (is_some bests.any)
 
 -- the block of the best one is below a number
 abbrev pub IsBelow : ℕ → Option Scored → Type 0

@@ -89,6 +89,7 @@ fn better(best: Option<Scored>, other: Scored) -> Option<Scored>
     }
 }
 
+// The better one where the other passes.
 fn better_if(passes: bool, best: Option<Scored>, other: Scored) -> Option<Scored>
     ensures { result ≡ (if passes then better_of best other else best) }
 {
@@ -97,14 +98,7 @@ fn better_if(passes: bool, best: Option<Scored>, other: Scored) -> Option<Scored
 
 // The bests so far with a block more, by its counts.
 #[tactic(auto, unfolding(image_model::specs::Volume::entries, image_model::specs::Volume::per_block, image_model::specs::Volume::lookups))]
-fn rated(
-    g: &Geometry,
-    c: &BlockCounts,
-    all: &Room,
-    next: u16,
-    bests: &Bests,
-    block: u16,
-) -> Bests
+fn rated(g: &Geometry, c: &BlockCounts, all: &Room, next: u16, bests: &Bests, block: u16) -> Bests
     ensures { result ≡ bests_by g.now c.now all.now next bests.now block }
 {
     let own = room_of(c, g.entries());
@@ -144,7 +138,7 @@ fn with_block<N: Nor>(
 
 // The bests of all blocks.
 #[tactic(auto, using(flash_view::proofs::Looking::looks_then))]
-fn all_bests<N: Nor>(v: &mut View<'_, N>, all: &Room, next: u16) -> Result<Bests, Failed>
+pub(crate) fn all_bests<N: Nor>(v: &mut View<'_, N>, all: &Room, next: u16) -> Result<Bests, Failed>
     ensures cause { OnErr result (Rose (N.faults v.old.nor.now) (N.faults v.new.nor.now)) }
     ensures looks { OnlyLooks v.old v.new }
     ensures below { IfOk result (λ bests. AreBelow v.old.geometry.blocks bests) }

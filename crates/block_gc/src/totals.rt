@@ -22,6 +22,7 @@ pub(crate) struct Room {
     pub(crate) blocks: u32,
 }
 
+// The free entries of a block, where it passes.
 fn free_if(passes: bool, c: &BlockCounts) -> u32
     ensures { result ≡ (if passes then c.now.free else 0) }
 {
@@ -42,6 +43,7 @@ pub(crate) fn room_of(c: &BlockCounts, entries: u32) -> Room
     }
 }
 
+// The room of two together.
 fn both(a: &Room, b: &Room) -> Room
     requires first { AtMost 4294836225 a.now }
     requires second { AtMost 65535 b.now }

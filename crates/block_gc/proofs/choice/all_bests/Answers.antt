@@ -1,9 +1,5 @@
-use Rattle.std.proofs.Common.{◌≡◌, refl, sym, ◌∙◌, arith, rules, subst}
-use Rattle.image_model.specs.Tidy.{IsTidy}
-use Rattle.image_model.specs.Places.{next_count}
+use Rattle.std.proofs.Common.{arith, rules}
 use Rattle.flash_view.proofs.Looking.{looks_none, looks_then}
-use Rattle.block_gc.specs.Totals.{AreTotals}
-use Rattle.block_gc.specs.Best.{bests_with}
 use Rattle.block_gc.proofs.Chosen.{besting_start, besting_more, besting_end}
 use Rattle.block_gc.proofs.choice.all_bests.Goals as goal
 

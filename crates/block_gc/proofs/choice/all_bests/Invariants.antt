@@ -1,9 +1,7 @@
 -- The bests of the blocks so far.
-use Rattle.std.proofs.Common.{◌≡◌, ◌-◌, ◌||◌, ℕ}
-use Rattle.std.specs.List.{range_with_len, list_any}
+use Rattle.std.proofs.Common.{◌≡◌}
 use Rattle.image_model.specs.Tidy.{IsTidy}
 use Rattle.image_model.specs.Places.{next_count}
-use Rattle.image_model.specs.Collect.{is_worth, score}
 use Rattle.flash_view.specs.Same.{OnlyLooks}
 use Rattle.block_gc.specs.Totals.{AreTotals}
 use Rattle.block_gc.specs.Best.{AreBelow}

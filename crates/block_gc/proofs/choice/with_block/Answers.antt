@@ -1,5 +1,3 @@
-use Rattle.std.proofs.Common.{◌≡◌, ◌∙◌, refl}
-use Rattle.free_search.specs.Counts.{AreCounts}
 use Rattle.block_gc.proofs.Judged.{bests_are}
 use Rattle.block_gc.proofs.choice.with_block.Goals as goal
 
@@ -7,4 +5,4 @@ pub returns-clause-told : goal.returns-clause-told
 returns-clause-told g c = λ tells tidy totals next.
     let geometry = c.args.v.now.geometry in
     let image = g.N.NorState.bytes c.args.v.now.nor.now in
-    c.rated.ensures ∙ bests_are geometry image c.args.block c.in_ok-c.c c.args.all.now tidy c.requires.block (c.in_ok-c.ensures.told tells) totals c.args.next c.args.bests.now next
+    rw c.rated.ensures (bests_are geometry image c.args.block c.in_ok-c.c c.args.all.now tidy c.requires.block (c.in_ok-c.ensures.told tells) totals c.args.next c.args.bests.now next)
