@@ -6,7 +6,7 @@ use Rattle.std.specs.List.{range_with_len, list_all, list_any}
 use Rattle.std.proofs.lemmas.Int.{ints}
 use Rattle.std.proofs.lemmas.Bool.{cases_Bool, cases_eq, cases_lt}
 use Rattle.block_gc.specs.declared.choice.Scored.{Scored}
-use Rattle.block_gc.specs.Best.{better_of, IsFirst}
+use Rattle.block_gc.specs.Best.{better_of, IsFirst, IsBelow}
 
 le_self : (a : ℤ) → int_le a a ≡ true
 le_self a = grind (arith, ints)
@@ -74,6 +74,16 @@ module _ (test : ℕ → Bool) (value : ℕ → ℤ) where
       turn : (passes : Bool) → test n ≡ passes → IsFirst test value (n + 1) (if passes then better_of best (record { block = n; score = value n }) else best)
       turn true e = first_yes n best e was
       turn false e = first_no n best e was
+
+-- the best stays below a number that the other one is below
+pub below_more : (n : ℕ) (passes : Bool) (best : Option Scored) (other : Scored) → other.block < n → IsBelow n best → IsBelow n (if passes then better_of best other else best)
+below_more n false best other low was = was
+below_more n true None other low was = low
+below_more n true (Some s) other low was = either (int_le other.score s.score)
+  where
+    either : (b : Bool) → IsBelow n (if b then Some s else Some other)
+    either true = was
+    either false = low
 
 -- ---- all of them
 
