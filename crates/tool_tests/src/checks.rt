@@ -160,7 +160,7 @@ fn agrees(alloc: Global, g: &Geometry, image: &[u8]) -> Result<bool, Fail> {
 #[test]
 fn damaged_images_are_checked_as_the_plain_program_reads_them(rt: HostRuntime) -> Result<(), Fail> {
     let g = volume()?;
-    for seed in 0..60 {
+    for seed in 0..16 {
         let image = damaged_image(rt.alloc(), &g, seed)?;
         if !holds_volume(&g, &image) || spoiled_blocks(&g, &image) > 1 {
             continue;
