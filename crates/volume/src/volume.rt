@@ -412,13 +412,7 @@ impl<'b, N: Nor> Volume<'b, N> {
         ensures taken { OnOk result (takes_calls self.new ≡ true) }
         ensures same { IsSameVolume self.old self.new }
     {
-        let report = check_on(
-            self.geometry,
-            self.nor,
-            self.work,
-            self.cache,
-            self.check,
-        )?;
+        let report = check_on(self.geometry, self.nor, self.work, self.cache, self.check)?;
         self.stage = Stage::Checked;
         Ok(report)
     }
