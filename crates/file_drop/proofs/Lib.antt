@@ -1,0 +1,5 @@
+pub mod Clearing
+pub mod Killing
+pub mod Marking
+pub mod Seeing
+pub mod Passing
