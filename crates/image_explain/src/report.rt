@@ -1,6 +1,10 @@
 // The lines that tell what an image means.
-ghost use Rattle.std.specs.Prelude.{◌<◌};
+ghost use Rattle.std.specs.Prelude.{◌≡◌, ◌<◌, ◌++◌, ◌∷◌, [], ◌↔◌, IsTrue, map, OnOk, IfOk, string_bytes};
+ghost use Rattle.std.specs.List.{flat_map, range_with_len};
 ghost use Rattle.image_model.specs.Places.{IsImage};
+ghost use Rattle.image_model.specs.Tidy.{IsTidy};
+ghost use Rattle.image_plain.specs.Seen.{file};
+ghost use Rattle.image_explain.specs.Report.{is_tidy as the_tidy, is_unfit as the_unfit, counts_text, room_line, shared_line, file_line, damage_line, worth_text, held_text, block_line, chosen_line, report_of};
 
 use crate::text::{push_meta, push_name, yes_no};
 use geometry::Geometry;
@@ -13,7 +17,18 @@ use image_plain::{
 use std::alloc::{AllocError, Global};
 use std::fmt::Write;
 
+// Whether an image is tidy.
+fn tidiness(alloc: Global, g: &Geometry, image: &[u8]) -> Result<bool, AllocError>
+    requires { IsImage g.now image.now }
+    ensures value { IfOk result (λ yes. yes ≡ the_tidy g.now image.now) }
+    ensures tidy { IfOk result (λ yes. IsTrue yes ↔ IsTidy g.now image.now) }
+{
+    let tidy = is_tidy(alloc, g, image)?;
+    Ok(tidy)
+}
+
 // Adds the counts of the whole image, and whether it is tidy.
+#[tactic(auto, unfolding(crate::specs::Report::counts_text))]
 fn push_counts(
     text: &mut String,
     alloc: Global,
@@ -21,16 +36,20 @@ fn push_counts(
     image: &[u8],
 ) -> Result<(), AllocError>
     requires { IsImage g.now image.now }
+    ensures { OnOk result (string_bytes text.new ≡ string_bytes text.old ++ counts_text g.now image.now) }
 {
     writeln!(text, "spoiled {}", spoiled_blocks(g, image))?;
     writeln!(text, "mixed {}", mixed_blocks(g, image))?;
-    writeln!(text, "tidy {}", yes_no(is_tidy(alloc, g, image)?))?;
+    writeln!(text, "tidy {}", yes_no(tidiness(alloc, g, image)?))?;
     writeln!(text, "killed {}", killed_of(alloc, g, image)?)?;
     writeln!(text, "free {}", free_blocks(g, image))
 }
 
 // Adds how many pages the table takes, and whether it has room.
-fn push_room(text: &mut String, g: &Geometry, table: &[Record]) -> Result<(), AllocError> {
+#[tactic(auto, unfolding(crate::specs::Report::room_line))]
+fn push_room(text: &mut String, g: &Geometry, table: &[Record]) -> Result<(), AllocError>
+    ensures { OnOk result (string_bytes text.new ≡ string_bytes text.old ++ room_line g.now (map file table.now)) }
+{
     let room = room_of(g, table);
     writeln!(
         text,
@@ -42,6 +61,7 @@ fn push_room(text: &mut String, g: &Geometry, table: &[Record]) -> Result<(), Al
 }
 
 // Adds the numbers of the shared blocks.
+#[tactic(auto, unfolding(crate::specs::Report::shared_line))]
 fn push_shared(
     text: &mut String,
     alloc: Global,
@@ -49,6 +69,7 @@ fn push_shared(
     image: &[u8],
 ) -> Result<(), AllocError>
     requires { IsImage g.now image.now }
+    ensures { OnOk result (string_bytes text.new ≡ string_bytes text.old ++ shared_line g.now image.now) }
 {
     let over = parting(alloc, g, image)?;
     writeln!(
@@ -61,41 +82,72 @@ fn push_shared(
     )
 }
 
+// Adds the line of a file.
+#[tactic(auto, unfolding(crate::specs::Report::file_line))]
+fn push_file(text: &mut String, listed: &Record) -> Result<(), AllocError>
+    ensures { OnOk result (string_bytes text.new ≡ string_bytes text.old ++ file_line (file listed.now)) }
+{
+    write!(
+        text,
+        "file {} {} {} ",
+        listed.id,
+        listed.kind,
+        listed.bytes.len()
+    )?;
+    push_name(text, listed.name.as_slice())?;
+    push_meta(text, listed.meta.as_slice())?;
+    text.push('\n')
+}
+
 // Adds a line for each file of the table.
-fn push_files(text: &mut String, table: &[Record]) -> Result<(), AllocError> {
-    for record in table {
-        write!(
-            text,
-            "file {} {} {} ",
-            record.id,
-            record.kind,
-            record.bytes.len()
-        )?;
-        push_name(text, record.name.as_slice())?;
-        push_meta(text, record.meta.as_slice())?;
-        text.push('\n')?;
+fn push_files(text: &mut String, table: &[Record]) -> Result<(), AllocError>
+    ensures { OnOk result (string_bytes text.new ≡ string_bytes text.old ++ flat_map file_line (map file table.now)) }
+{
+    for listed in table {
+        push_file(text, listed)?;
     }
     Ok(())
+}
+
+// Adds the line of a damaged file.
+#[tactic(auto, unfolding(crate::specs::Report::damage_line))]
+fn push_damage(text: &mut String, id: u16, cause: &Damage) -> Result<(), AllocError>
+    ensures { OnOk result (string_bytes text.new ≡ string_bytes text.old ++ damage_line id cause.now) }
+{
+    match cause {
+        Damage::BadName => writeln!(text, "damaged {} name", id),
+        Damage::Missing(span) => writeln!(text, "damaged {} span {}", id, *span),
+        Damage::SameName(other) => writeln!(text, "damaged {} same {}", id, *other),
+    }
 }
 
 // Adds a line for each damaged file.
-fn push_damages(text: &mut String, damages: &[(u16, Damage)]) -> Result<(), AllocError> {
+fn push_damages(text: &mut String, damages: &[(u16, Damage)]) -> Result<(), AllocError>
+    ensures { OnOk result (string_bytes text.new ≡ string_bytes text.old ++ flat_map (λ d. damage_line d.0 d.1) damages.now) }
+{
     for (id, cause) in damages {
-        match cause {
-            Damage::BadName => writeln!(text, "damaged {} name", *id)?,
-            Damage::Missing(span) => writeln!(text, "damaged {} span {}", *id, *span)?,
-            Damage::SameName(other) => writeln!(text, "damaged {} same {}", *id, *other)?,
-        }
+        push_damage(text, *id, cause)?;
     }
     Ok(())
 }
 
+// Whether a block lacks its magic or is mixed.
+fn is_unfit(g: &Geometry, image: &[u8], block: u32) -> bool
+    requires image { IsImage g.now image.now }
+    requires block { block < g.now.blocks }
+    ensures { result ≡ the_unfit g.now image.now block }
+{
+    !has_magic(g, image, block) || is_mixed(g, image, block)
+}
+
 // Adds whether a block is worth cleaning, whether it fits, and its score, where it has its magic and isn't mixed.
+#[tactic(auto, unfolding(crate::specs::Report::worth_text))]
 fn push_worth(text: &mut String, g: &Geometry, image: &[u8], block: u32) -> Result<(), AllocError>
     requires image { IsImage g.now image.now }
     requires block { block < g.now.blocks }
+    ensures { OnOk result (string_bytes text.new ≡ string_bytes text.old ++ (worth_text g.now image.now block ++ 10 ∷ [])) }
 {
-    if !has_magic(g, image, block) || is_mixed(g, image, block) {
+    if is_unfit(g, image, block) {
         return writeln!(text, " worth - fits - score -");
     }
     writeln!(
@@ -107,28 +159,45 @@ fn push_worth(text: &mut String, g: &Geometry, image: &[u8], block: u32) -> Resu
     )
 }
 
-// Adds the line of a block.
-fn push_block(text: &mut String, g: &Geometry, image: &[u8], block: u32) -> Result<(), AllocError>
+// Adds what a block holds.
+#[tactic(auto, unfolding(crate::specs::Report::held_text, image_model::specs::Collect::index_in, image_model::specs::Collect::data_in, image_model::specs::Collect::deleted_in, image_model::specs::Collect::free_in))]
+fn push_held(text: &mut String, g: &Geometry, image: &[u8], block: u32) -> Result<(), AllocError>
     requires image { IsImage g.now image.now }
     requires block { block < g.now.blocks }
+    ensures { OnOk result (string_bytes text.new ≡ string_bytes text.old ++ held_text g.now image.now block) }
 {
     write!(
         text,
-        "block {} magic {} index {} data {} deleted {} free {} count {}",
-        block,
-        yes_no(has_magic(g, image, block)),
+        " index {} data {} deleted {} free {} count {}",
         count_entries(g, image, block, EntryKind::Index),
         count_entries(g, image, block, EntryKind::Data),
         count_entries(g, image, block, EntryKind::Deleted),
         count_entries(g, image, block, EntryKind::Free),
         erase_count(g, image, block)
+    )
+}
+
+// Adds the line of a block.
+#[tactic(auto, unfolding(crate::specs::Report::block_line))]
+fn push_block(text: &mut String, g: &Geometry, image: &[u8], block: u32) -> Result<(), AllocError>
+    requires image { IsImage g.now image.now }
+    requires block { block < g.now.blocks }
+    ensures { OnOk result (string_bytes text.new ≡ string_bytes text.old ++ block_line g.now image.now block) }
+{
+    write!(
+        text,
+        "block {} magic {}",
+        block,
+        yes_no(has_magic(g, image, block))
     )?;
+    push_held(text, g, image, block)?;
     push_worth(text, g, image, block)
 }
 
 // Adds a line for each block.
 fn push_blocks(text: &mut String, g: &Geometry, image: &[u8]) -> Result<(), AllocError>
     requires { IsImage g.now image.now }
+    ensures { OnOk result (string_bytes text.new ≡ string_bytes text.old ++ flat_map (block_line g.now image.now) (range_with_len 0 g.now.blocks)) }
 {
     for block in 0..g.blocks {
         push_block(text, g, image, block)?;
@@ -137,6 +206,7 @@ fn push_blocks(text: &mut String, g: &Geometry, image: &[u8]) -> Result<(), Allo
 }
 
 // Adds which block is cleaned next, where each has its magic and none is mixed.
+#[tactic(auto, unfolding(crate::specs::Report::chosen_line))]
 fn push_chosen(
     text: &mut String,
     alloc: Global,
@@ -144,6 +214,7 @@ fn push_chosen(
     image: &[u8],
 ) -> Result<(), AllocError>
     requires { IsImage g.now image.now }
+    ensures { OnOk result (string_bytes text.new ≡ string_bytes text.old ++ chosen_line g.now image.now) }
 {
     if spoiled_blocks(g, image) > 0 || mixed_blocks(g, image) > 0 {
         return writeln!(text, "chosen -");
@@ -155,9 +226,11 @@ fn push_chosen(
 }
 
 /// What the definitions say of an image: its counts, room and shared blocks, a line for each file, each damaged file and
-/// each block, and which block is cleaned next.
+/// each block, and which block is cleaned next. Fails only for want of memory.
+#[tactic(auto, unfolding(crate::specs::Report::report_of))]
 pub(crate) fn report(alloc: Global, g: &Geometry, image: &[u8]) -> Result<String, AllocError>
     requires { IsImage g.now image.now }
+    ensures { IfOk result (λ text. string_bytes text ≡ report_of g.now image.now) }
 {
     let table = table_of(alloc, g, image)?;
     let damages = damaged_of(alloc, g, image)?;

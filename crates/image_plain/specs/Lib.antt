@@ -4,3 +4,4 @@ pub mod Counted
 pub mod Sorts
 pub mod Tallied
 pub mod Wanting
+pub mod Leading

@@ -10,42 +10,29 @@ ghost use Rattle.image_plain.specs.Headed.{IsHeads};
 use crate::Record;
 use crate::files::found;
 use crate::headers::header_pages;
-use crate::table::{counted, counts};
+use crate::table::{counts, earlier};
 use geometry::Geometry;
 use image_model::Damage;
 use std::alloc::{AllocError, Global};
 
-// Whether there is a file, and it has that name.
-fn is_named(record: &Option<Record>, name: &[u8]) -> bool
-    ensures { result ≡ the_named (option_map file record.now) name.now }
-{
-    match record {
-        Some(record) => record.name.as_slice() == name,
-        None => false,
-    }
-}
-
-// The id that counts of those with that name, among the ids from 1 to n; 0 where there is none.
-#[tactic(auto, unfolding(image_model::specs::Tables::holder), using(crate::proofs::Ranges::range_step, crate::proofs::Ranges::range_end))]
-fn holder(
-    alloc: Global,
-    g: &Geometry,
-    image: &[u8],
-    heads: &[Option<u32>],
-    n: u16,
-    name: &[u8],
-) -> Result<u16, AllocError>
+// The id that counts of those with that name, among the ids from 1 to n: of their whole files the first with the least
+// header page. 0 where there is none.
+#[tactic(auto, unfolding(image_model::specs::Volume::page_count, image_model::specs::Volume::per_block), using(crate::proofs::Leading::leads_none, crate::proofs::Leading::leads_yes, crate::proofs::Leading::leads_no, crate::proofs::Leading::leads_end, crate::proofs::Leading::has_within))]
+fn holder(g: &Geometry, image: &[u8], heads: &[Option<u32>], n: u16, name: &[u8]) -> u16
     requires image { IsImage g.now image.now }
     requires heads { IsHeads g.now (the_live_at g.now image.now) heads.now }
     requires fits { n ≤ 0x7FFF }
-    ensures { IfOk result (λ id. id ≡ the_holder (the_has g.now (the_live_at g.now image.now)) n name.now) }
+    ensures { result ≡ the_holder (the_has g.now (the_live_at g.now image.now)) n name.now }
 {
+    let mut best = 0;
+    let mut least = g.pages();
     for id in 1..n + 1 {
-        if is_named(&counted(alloc, g, image, heads, n, id)?, name) {
-            return Ok(id);
+        if let Some(q) = earlier(g, image, heads, id, least, name) {
+            best = id;
+            least = q;
         }
     }
-    Ok(0)
+    best
 }
 
 // The damage of an id, where it has a header page and no file that counts.
@@ -73,7 +60,7 @@ fn damage(
     if counts(g, image, heads, n, p, record.name.as_slice()) {
         return Ok(None);
     }
-    let other = holder(alloc, g, image, heads, n, record.name.as_slice())?;
+    let other = holder(g, image, heads, n, record.name.as_slice());
     Ok(Some((id, Damage::SameName(other))))
 }
 

@@ -6,6 +6,7 @@ ghost use Rattle.image_model.specs.Live.{live_at as the_live_at};
 ghost use Rattle.image_model.specs.Tables.{has_of as the_has, is_before as the_before, counts as the_counts, counted as the_counted, records as the_records, table_of as the_table};
 ghost use Rattle.image_plain.specs.Seen.{seen_at, file};
 ghost use Rattle.image_plain.specs.Headed.{IsHeads};
+ghost use Rattle.image_plain.specs.Leading.{earlier as the_earlier};
 
 use crate::Record;
 use crate::files::{first_missing, found, name_of};
@@ -15,8 +16,36 @@ use geometry::Geometry;
 use image_model::Damage;
 use std::alloc::{AllocError, Global};
 
-// Whether a whole file of that name has its header page before page p.
+// The header page of an id that has a whole file of that name, where it stands before page p.
 #[tactic(auto, unfolding(image_model::specs::Files::found, image_model::specs::Tables::has_of, image_model::specs::Files::judged), using(crate::proofs::Headed::head_known))]
+pub(crate) fn earlier(
+    g: &Geometry,
+    image: &[u8],
+    heads: &[Option<u32>],
+    id: u16,
+    p: u32,
+    name: &[u8],
+) -> Option<u32>
+    requires image { IsImage g.now image.now }
+    requires heads { IsHeads g.now (the_live_at g.now image.now) heads.now }
+    requires id { id < 0x8000 }
+    ensures { result ≡ the_earlier (the_has g.now (the_live_at g.now image.now) id) p name.now }
+{
+    let q = header_of(heads, id)?;
+    if q >= p {
+        return None;
+    }
+    let head = own(g, image, id, q)?;
+    let other = name_of(head)?;
+    if other == name && first_missing(g, image, id, head).is_none() {
+        Some(q)
+    } else {
+        None
+    }
+}
+
+// Whether a whole file of that name has its header page before page p.
+#[tactic(auto, using(crate::proofs::Leading::earlier_before))]
 fn is_before(
     g: &Geometry,
     image: &[u8],
@@ -30,19 +59,7 @@ fn is_before(
     requires id { id < 0x8000 }
     ensures { result ≡ the_before (the_has g.now (the_live_at g.now image.now) id) p name.now }
 {
-    let Some(q) = header_of(heads, id) else {
-        return false;
-    };
-    if q >= p {
-        return false;
-    }
-    let Some(head) = own(g, image, id, q) else {
-        return false;
-    };
-    match name_of(head) {
-        Some(other) => other == name && first_missing(g, image, id, head).is_none(),
-        None => false,
-    }
+    earlier(g, image, heads, id, p, name).is_some()
 }
 
 // Whether a file counts, of those that have its name among the ids from 1 to n.

@@ -19,6 +19,7 @@ ghost use Rattle.tool_core.specs.Later.{IsLater, IsLaterIf};
 ghost use Rattle.tool_core.specs.Runs.{Ran, StandsBy, result_err};
 ghost use Rattle.geometry.specs.Numbers.{usable, write_refusal, work_need, cache_need, check_need};
 ghost use Rattle.tool_core.specs.Fits.{IsFitting};
+ghost use Rattle.tool_core.specs.Listing.{ReadsOnce};
 
 use crate::call::apply;
 use crate::ending::Ending;
@@ -65,6 +66,7 @@ fn check_ending(why: CheckErr) -> Ending
 }
 
 // Does a call and says its reply, or says how the run ends there.
+#[tactic(auto, using(volume::proofs::Staying::same_then))]
 fn answer<B: Board>(
     volume: &mut Volume<'_, B>,
     line: &[u8],
@@ -133,6 +135,7 @@ fn gives_more<S: Source>(script: &mut S) -> Result<bool, Failed>
 }
 
 // Does the bytes that were taken as the last line, and ends the run.
+#[tactic(auto, using(volume::proofs::Staying::same_then))]
 fn last_line<B: Board>(volume: &mut Volume<'_, B>, lines: &Lines<'_>, scratch: &mut [u8]) -> Ending
     requires room { 4096 ≤ length scratch.old }
     requires stands { takes_calls volume.old ≡ true }
@@ -157,6 +160,7 @@ fn last_line<B: Board>(volume: &mut Volume<'_, B>, lines: &Lines<'_>, scratch: &
 }
 
 // One turn where no line is ended in the bytes that were taken.
+#[tactic(auto, using(volume::proofs::Staying::same_then))]
 fn take_more<B: Board, S: Source>(
     volume: &mut Volume<'_, B>,
     lines: &mut Lines<'_>,
@@ -196,6 +200,7 @@ fn take_more<B: Board, S: Source>(
 }
 
 // One turn of a run: a line, or more bytes.
+#[tactic(auto, using(volume::proofs::Staying::same_then))]
 fn turn<B: Board, S: Source>(
     volume: &mut Volume<'_, B>,
     lines: &mut Lines<'_>,
@@ -227,6 +232,7 @@ fn turn<B: Board, S: Source>(
 }
 
 // Runs the lines of a script up to its end, or to what stops it.
+#[tactic(auto, using(volume::proofs::Staying::same_then))]
 fn run_lines<B: Board, S: Source>(
     volume: &mut Volume<'_, B>,
     lines: &mut Lines<'_>,
@@ -252,6 +258,7 @@ fn run_lines<B: Board, S: Source>(
 }
 
 // Runs a script on a checked volume.
+#[tactic(auto, using(volume::proofs::Staying::same_then))]
 fn run_script<B: Board, S: Source>(
     volume: &mut Volume<'_, B>,
     script: &mut S,
@@ -288,6 +295,7 @@ fn settle<B: Board>(volume: &mut Volume<'_, B>, ending: Ending) -> Ending
 }
 
 // Mounts and checks a volume, or says how the run ends there.
+#[tactic(auto, using(volume::proofs::Staying::same_then))]
 fn begin<B: Board>(volume: &mut Volume<'_, B>) -> Result<(), Ending>
     requires { write_refusal volume.old.geometry ≡ None }
     ensures later { IfErr result IsLater }
@@ -311,6 +319,7 @@ fn begin<B: Board>(volume: &mut Volume<'_, B>) -> Result<(), Ending>
 }
 
 // Mounts and checks a volume, and runs a script on it.
+#[tactic(auto, using(volume::proofs::Staying::same_then))]
 fn run_volume<B: Board, S: Source>(
     volume: &mut Volume<'_, B>,
     script: &mut S,
@@ -355,6 +364,7 @@ pub(crate) fn run<'b, B: Board, S: Source>(
     ensures script_cause { result ≡ Ending.SourceFault → Rose (S.faults script.old) (S.faults script.new) }
     ensures board_faults { B.faults board.old ≤ B.faults board.new }
     ensures board_cause { result ≡ Ending.BoardFault → Rose (B.faults board.old) (B.faults board.new) }
+    ensures few { ReadsOnce B.NorState g (length lent.entry.cache.now) board.old board.new }
     ensures ends { (slots : ℕ) → S.tells script.old → B.tells board.old → RunsTo B.NorState g board.old board.new (first_moment g slots (B.bytes board.old)) (S.left script.old) (S.left script.new) result }
     ensures cuts { (slots : ℕ) → S.tells script.old → B.tells board.old → Leaves B.NorState board.old board.new (CutIn B.NorState g board.old (first_moment g slots (B.bytes board.old)) (calls (S.left script.old))) }
 {

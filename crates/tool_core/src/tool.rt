@@ -83,6 +83,7 @@ fn run_on<B: Board, S: Source>(
     ensures script_cause { result ≡ Ending.SourceFault → Rose (S.faults script.old) (S.faults script.new) }
     ensures board_faults { B.faults board.old ≤ B.faults board.new }
     ensures board_cause { result ≡ Ending.BoardFault → Rose (B.faults board.old) (B.faults board.new) }
+    ensures few { ReadsOnce B.NorState g (length bufs.old.cache.now) board.old board.new }
     ensures ends { S.tells script.old → B.tells board.old →
         RunsTo B.NorState g board.old board.new (start_of g bufs.old (B.bytes board.old)) (S.left script.old) (S.left script.new) result }
     ensures cuts { S.tells script.old → B.tells board.old →
@@ -136,6 +137,8 @@ pub fn spiffs_tool<B: Board, S: Source>(
         ¬ Rose (B.faults board.old) (B.faults board.new) → IsExact B.NorState g board.old board.new result }
     ensures complete { (g : Geometry) → IsRun (map string_bytes words.now) (B.unit board.old) (B.size board.old) (lengths_of bufs.old) g → S.tells script.old → B.tells board.old →
         ¬ Rose (B.faults board.old) (B.faults board.new) → ¬ Rose (S.faults script.old) (S.faults script.new) → IsComplete B.NorState g board.old (S.left script.old) result }
+    ensures reads { (g : Geometry) → IsRun (map string_bytes words.now) (B.unit board.old) (B.size board.old) (lengths_of bufs.old) g →
+        ReadsOnce B.NorState g (length bufs.old.cache.now) board.old board.new }
     ensures list_keeps { (g : Geometry) → IsListing (map string_bytes words.now) (B.unit board.old) (B.size board.old) (lengths_of bufs.old) g →
         (B.bytes board.new ≡ B.bytes board.old) × (B.device_writes board.new ≡ B.device_writes board.old) }
     ensures listed { (g : Geometry) → IsListing (map string_bytes words.now) (B.unit board.old) (B.size board.old) (lengths_of bufs.old) g → B.tells board.old →
@@ -144,6 +147,7 @@ pub fn spiffs_tool<B: Board, S: Source>(
         Leaves B.NorState board.old board.new (λ image count. B.tells board.old → ListCut B.NorState g board.old image count) }
     ensures list_exact { (g : Geometry) → IsListing (map string_bytes words.now) (B.unit board.old) (B.size board.old) (lengths_of bufs.old) g → B.tells board.old →
         ¬ Rose (B.faults board.old) (B.faults board.new) → ListExact B.NorState g board.old result }
+    ensures list_script { (g : Geometry) → IsListing (map string_bytes words.now) (B.unit board.old) (B.size board.old) (lengths_of bufs.old) g → script.new ≡ script.old }
     ensures list_reads { (g : Geometry) → IsListing (map string_bytes words.now) (B.unit board.old) (B.size board.old) (lengths_of bufs.old) g →
         ReadsOnce B.NorState g (length bufs.old.cache.now) board.old board.new }
 {

@@ -1,19 +1,25 @@
 //! The check of images that cuts and other programs leave, and runs on volumes with files.
 use crate::bench::{Memory, RUN, run};
-use crate::images::{board_of, damaged_image, empty, put, put_data, put_header, put_hello, same, volume};
+use crate::images::{
+    board_of, damaged_image, empty, put, put_data, put_header, put_hello, same, volume,
+};
 use geometry::Geometry;
 use image_plain::{
-    Record, damaged_of, free_blocks, holds_volume, is_tidy, killed_of, mixed_blocks, spoiled_blocks,
-    table_of,
+    Record, damaged_of, free_blocks, holds_volume, is_tidy, killed_of, mixed_blocks,
+    spoiled_blocks, table_of,
 };
 use nor_core::MemBoard;
 use std::alloc::Global;
 use std::test::Fail;
-use vol_mount::{MountErr, accept};
+use vol_mount::accept;
 use volume::{CheckErr, Report, Volume};
 
 // Mounts and checks the volume of a device.
-fn check(alloc: Global, g: Geometry, board: &mut MemBoard) -> Result<Result<Report, CheckErr>, Fail> {
+fn check(
+    alloc: Global,
+    g: Geometry,
+    board: &mut MemBoard,
+) -> Result<Result<Report, CheckErr>, Fail> {
     let mut memory = Memory::new(alloc)?;
     let lent = memory.lend();
     accept(&g, board, &lent)?;
@@ -114,7 +120,8 @@ fn files_with_bytes_are_shown_beside_new_ones(rt: HostRuntime) -> Result<(), Fai
     let mut board = board_of(rt.alloc(), &image)?;
     let script = b"stat a\nstat lost\ncreate b\ncreate a\nnext 2\ninfo\n";
     assert_eq!(rt; run(rt.alloc(), RUN, &mut board, script)?, 0);
-    let said = b"ok 1 1 5 a\n-10002\nok\n-10023\nok 7 1 300 two\nok files 3 index 3 data 3 usable 210\n";
+    let said =
+        b"ok 1 1 5 a\n-10002\nok\n-10023\nok 7 1 300 two\nok files 3 index 3 data 3 usable 210\n";
     assert!(rt; board.said() == said.as_slice());
     Ok(())
 }
@@ -149,18 +156,20 @@ fn agrees(alloc: Global, g: &Geometry, image: &[u8]) -> Result<bool, Fail> {
     if !holds_volume(g, now) {
         return Ok(false);
     }
-    Ok(report.erased == (spoiled_blocks(g, image) > 0)
-        && report.killed == killed_of(alloc, g, image)?
-        && report.damaged as usize == damaged_of(alloc, g, image)?.len()
-        && report.free_blocks == free_blocks(g, now)
-        && is_tidy(alloc, g, now)?
-        && same_files(&table_of(alloc, g, now)?, &table_of(alloc, g, image)?))
+    Ok(
+        report.erased == (spoiled_blocks(g, image) > 0)
+            && report.killed == killed_of(alloc, g, image)?
+            && report.damaged as usize == damaged_of(alloc, g, image)?.len()
+            && report.free_blocks == free_blocks(g, now)
+            && is_tidy(alloc, g, now)?
+            && same_files(&table_of(alloc, g, now)?, &table_of(alloc, g, image)?),
+    )
 }
 
 #[test]
 fn damaged_images_are_checked_as_the_plain_program_reads_them(rt: HostRuntime) -> Result<(), Fail> {
     let g = volume()?;
-    for seed in 0..60 {
+    for seed in 0..16 {
         let image = damaged_image(rt.alloc(), &g, seed)?;
         if !holds_volume(&g, &image) || spoiled_blocks(&g, &image) > 1 {
             continue;

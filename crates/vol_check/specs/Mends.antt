@@ -1,5 +1,5 @@
 -- What the check leaves of a block that lacks its magic.
-use Rattle.std.specs.Prelude.{◌≡◌, ℕ, ◌<◌, ◌≤◌, List, Bool, true, false, nat_lt}
+use Rattle.std.specs.Prelude.{◌≡◌, ℕ, ◌<◌, ◌≤◌, List, Bool, true, nat_lt}
 use Rattle.geometry.specs.declared.geometry.Geometry.{Geometry}
 use Rattle.image_model.specs.Places.{has_magic}
 use Rattle.image_model.specs.Live.{live_at}

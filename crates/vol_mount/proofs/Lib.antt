@@ -1,4 +1,7 @@
+pub mod Going
 pub mod Units
+pub mod Blanks
+pub mod Empty
 mod Counting
 pub mod Listed
 pub mod Same

@@ -1,12 +1,9 @@
 -- Calls of a reader, one after the other.
-use Rattle.std.proofs.Common.{◌≡◌, ◌≤◌, length, ◌∙◌, arith, ℕ, List}
-use Rattle.geometry.specs.declared.geometry.Geometry.{Geometry}
+use Rattle.std.proofs.Common.{ℕ, List}
 use Rattle.nor_core.specs.Device.{OnlyReads}
 use Rattle.nor_core.specs.declared.state.NorState.{Ghosts as NorOf}
-use Rattle.page_cache.specs.Kept.{IsKept, FewReads}
+use Rattle.page_cache.specs.Kept.{FewReads}
 use Rattle.page_cache.proofs.Held.{few_then}
-use Rattle.flash_view.specs.declared.view.View.{View}
-use Rattle.flash_view.specs.Same.{OnlyLooks}
 use Rattle.vol_mount.specs.declared.reader.Reader.{Reader}
 use Rattle.vol_mount.specs.Readers.{IsSameReader}
 

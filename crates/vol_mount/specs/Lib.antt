@@ -1,3 +1,4 @@
+pub mod Formatted
 pub mod Goes
 pub mod Mounts
 pub mod Needs

@@ -1,6 +1,11 @@
-ghost use Rattle.std.specs.Prelude.{◌≡◌, ◌+◌, ◌*◌, ◌/◌, ◌<◌, ◌≤◌, OnErr, Some, Err};
+ghost use Rattle.std.specs.Prelude.{◌≡◌, ◌+◌, ◌*◌, ◌/◌, ◌<◌, ◌≤◌, OnOk, OnErr, IfErr, Some, None, Err, true, false};
+ghost use Rattle.std.specs.Option.{IfSome};
+ghost use Rattle.geometry.specs.Numbers.{write_refusal};
 ghost use Rattle.nor_core.specs.Count.{Rose};
+ghost use Rattle.page_put.specs.Fresh.{ErasedTo};
+ghost use Rattle.vol_mount.specs.Formatted.{MakesBlank, BlankTo, IsFormatted};
 ghost use Rattle.vol_mount.specs.Goes.{GoesOn};
+ghost use Rattle.vol_mount.specs.Needs.{is_wrong_chip};
 
 use crate::MountErr;
 use crate::mounting::wrong_chip;
@@ -15,6 +20,7 @@ fn erase_block<N: Nor>(g: &Geometry, nor: &mut N, block: u32) -> Result<(), Fail
     requires volume { g.now.blocks * g.now.block ≤ N.size nor.old }
     ensures cause { OnErr result (Rose (N.faults nor.old) (N.faults nor.new)) }
     ensures goes { GoesOn N.NorState nor.old nor.new }
+    ensures done { N.tells nor.old → OnOk result (ErasedTo g.now block g.now.block (N.bytes nor.old) (N.bytes nor.new)) }
 {
     let units = g.block() / g.phys();
     let mark = Mark {
@@ -34,6 +40,7 @@ fn format_block<N: Nor>(g: &Geometry, nor: &mut N, block: u32) -> Result<(), Fai
     requires volume { g.now.blocks * g.now.block ≤ N.size nor.old }
     ensures cause { OnErr result (Rose (N.faults nor.old) (N.faults nor.new)) }
     ensures goes { GoesOn N.NorState nor.old nor.new }
+    ensures done { N.tells nor.old → OnOk result (MakesBlank g.now block (N.bytes nor.old) (N.bytes nor.new)) }
 {
     erase_block(g, nor, block)?;
     let start = block * g.block();
@@ -41,10 +48,12 @@ fn format_block<N: Nor>(g: &Geometry, nor: &mut N, block: u32) -> Result<(), Fai
     nor.program(start + magic_offset(g), &g.magic_of(block).to_le_bytes())
 }
 
+// Makes all blocks of the volume fresh.
 fn format_blocks<N: Nor>(g: &Geometry, nor: &mut N) -> Result<(), Failed>
     requires unit { N.unit nor.old ≡ g.now.phys }
     requires volume { g.now.blocks * g.now.block ≤ N.size nor.old }
     ensures cause { OnErr result (Rose (N.faults nor.old) (N.faults nor.new)) }
+    ensures done { N.tells nor.old → OnOk result (BlankTo g.now g.now.blocks (N.bytes nor.old) (N.bytes nor.new)) }
 {
     for block in 0..g.blocks() {
         format_block(g, nor, block)?;
@@ -56,7 +65,12 @@ fn format_blocks<N: Nor>(g: &Geometry, nor: &mut N) -> Result<(), Failed>
 /// that may not be written and a device that doesn't fit are refused first (`Wrong`); where the device
 /// fails, it can be called again. A cut inside leaves what the next call makes good.
 pub fn format<N: Nor>(g: &Geometry, nor: &mut N) -> Result<(), MountErr>
+    ensures writable { IfSome (write_refusal g.now) (λ why. result ≡ Err (MountErr.Wrong why)) }
+    ensures chip { write_refusal g.now ≡ None → is_wrong_chip g.now (N.unit nor.old) (N.size nor.old) ≡ true → result ≡ Err (MountErr.Wrong GeoErr.WrongChip) }
+    ensures refused { (why : GeoErr) → result ≡ Err (MountErr.Wrong why) → nor.new ≡ nor.old }
+    ensures only { write_refusal g.now ≡ None → is_wrong_chip g.now (N.unit nor.old) (N.size nor.old) ≡ false → IfErr result (λ why. why ≡ MountErr.DeviceFault) }
     ensures cause { result ≡ Err MountErr.DeviceFault → Rose (N.faults nor.old) (N.faults nor.new) }
+    ensures done { N.tells nor.old → OnOk result (IsFormatted g.now (N.bytes nor.old) (N.bytes nor.new)) }
 {
     if let Err(why) = g.writable() {
         return Err(MountErr::Wrong(why));

@@ -1,3 +1,4 @@
+pub mod Staying
 pub mod Magics
 pub mod Counting
 pub mod Creating

@@ -13,7 +13,7 @@ one_at_least : (test : ℕ → Bool) (a n q : ℕ) → a ≤ q → q < a + n →
 one_at_least test a zero q low high passes = absurd (omega arith)
 one_at_least test a (suc n) q low high passes =
     ⊎_elim
-    (λ (yes : test a ≡ true). rw yes (omega arith))
+    (λ (here : test a ≡ true). rw here (omega arith))
     (λ (no : test a ≡ false).
     let there : a ≡ q → ⊥ = λ e. let bad : true ≡ false = sym passes ∙ ap test (sym e) ∙ no in absurd (cc) in
     rw no (one_at_least test (a + 1) n q (omega (arith, there)) (omega arith) passes))
@@ -29,16 +29,17 @@ is_first test a n q none low high passes =
 
 -- where no more than one passes, two that pass are one
 pub same_one : (test : ℕ → Bool) (a n b c : ℕ) → length (filter test (range_with_len a n)) ≤ 1 → a ≤ b → b < a + n → test b ≡ true → a ≤ c → c < a + n → test c ≡ true → b ≡ c
-same_one test a zero b c few low high yes low' high' yes' = absurd (omega arith)
-same_one test a (suc n) b c few low high yes low' high' yes' =
+same_one test a zero b c few low high here low' high' here' = absurd (omega arith)
+same_one test a (suc n) b c few low high here low' high' here' =
     ⊎_elim
     (λ (first : test a ≡ true).
-    let rest : length (filter test (range_with_len (a + 1) n)) + 1 ≤ 1 = rw first at few in
-    is_first test a n b (omega arith) low high yes ∙ sym (is_first test a n c (omega arith) low' high' yes'))
+    let one : suc (length (filter test (range_with_len (a + 1) n))) ≤ 1 = rw first at few in
+    let rest : length (filter test (range_with_len (a + 1) n)) ≤ 0 = omega (arith, one) in
+    is_first test a n b rest low high here ∙ sym (is_first test a n c rest low' high' here'))
     (λ (no : test a ≡ false).
-    let not_b : a ≡ b → ⊥ = λ e. let bad : true ≡ false = sym yes ∙ ap test (sym e) ∙ no in absurd (cc) in
-    let not_c : a ≡ c → ⊥ = λ e. let bad : true ≡ false = sym yes' ∙ ap test (sym e) ∙ no in absurd (cc) in
-    same_one test (a + 1) n b c (rw no at few) (omega (arith, not_b)) (omega arith) yes (omega (arith, not_c)) (omega arith) yes')
+    let not_b : a ≡ b → ⊥ = λ e. let bad : true ≡ false = sym here ∙ ap test (sym e) ∙ no in absurd (cc) in
+    let not_c : a ≡ c → ⊥ = λ e. let bad : true ≡ false = sym here' ∙ ap test (sym e) ∙ no in absurd (cc) in
+    same_one test (a + 1) n b c (rw no at few) (omega (arith, not_b)) (omega arith) here (omega (arith, not_c)) (omega arith) here')
     (cases_Bool (test a))
 
 pub few_spoiled : (g : Geometry) (image : List ℕ) → spoiled_blocks g image ≤ 1 → HasMagics g image

@@ -192,6 +192,7 @@ fn create_on<N: Nor>(
 fn stage_after(tried: Attempt) -> Stage
     ensures stays { StaysUnless tried.done true (is_open result) }
     ensures fails { IsErrOf tried.done FsErr.DeviceFault → tried.wrote ≡ true → is_open result ≡ false }
+    ensures unmounted { is_mounted result ≡ false }
 {
     match tried.done {
         Err(FsErr::DeviceFault | FsErr::Damaged(_)) if tried.wrote => Stage::Failed,
@@ -411,13 +412,7 @@ impl<'b, N: Nor> Volume<'b, N> {
         ensures taken { OnOk result (takes_calls self.new ≡ true) }
         ensures same { IsSameVolume self.old self.new }
     {
-        let report = check_on(
-            self.geometry,
-            self.nor,
-            self.work,
-            self.cache,
-            self.check,
-        )?;
+        let report = check_on(self.geometry, self.nor, self.work, self.cache, self.check)?;
         self.stage = Stage::Checked;
         Ok(report)
     }

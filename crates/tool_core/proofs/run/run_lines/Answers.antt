@@ -1,11 +1,12 @@
 use Rattle.std.proofs.Common.{◌≡◌, arith, refl, sym, None, Some, rules}
 use Rattle.std.specs.Prelude.{slice_range}
+use Rattle.volume.proofs.Staying.{same_then, same_none}
 use Rattle.tool_core.proofs.Turning.{took_more, turn_then}
 use Rattle.tool_core.proofs.run.run_lines.Goals as goal
 
 pub turns-init : goal.turns-init
 turns-init g c = record {
-  same = search rules;
+  same = same_none c.args.volume.now;
   faults = omega arith;
   script = omega arith;
   stands = search rules;
@@ -15,7 +16,7 @@ turns-init g c = record {
 
 pub turns-preserved : goal.turns-preserved
 turns-preserved g c = record {
-  same = search rules;
+  same = same_then c.turns.invariant.same c.turn.ensures.same;
   faults = search rules;
   script = search rules;
   stands = search rules;

@@ -133,3 +133,18 @@ pub returns-in-Ok-Run-clause-list_reads : goal.returns-in-Ok-Run-clause-list_rea
 returns-in-Ok-Run-clause-list_reads g c = λ h lists.
     let planned = rw c.in-Ok-Run.field-0-is at c.in-Ok-Run.ensures.planned in
     absurd (apart _ _ _ _ _ _ _ c.in-Ok-Run.g h planned lists)
+
+pub returns-in-Ok-Run-clause-reads : goal.returns-in-Ok-Run-clause-reads
+returns-in-Ok-Run-clause-reads g c = λ h run.
+    let planned = rw c.in-Ok-Run.field-0-is at c.in-Ok-Run.ensures.planned in
+    rw (one_geometry _ _ _ _ _ _ _ h c.in-Ok-Run.g run planned) (reads_said _ c.run_on-ending.ensures.few c.conclude-in-Ok-Run.ensures.says c.conclude-in-Ok-Run.ensures.leaves.faults)
+
+pub returns-in-Ok-List-clause-reads : goal.returns-in-Ok-List-clause-reads
+returns-in-Ok-List-clause-reads g c = λ h run.
+    let planned = rw c.in-Ok-List.field-0-is at c.in-Ok-List.ensures.planned in
+    absurd (apart _ _ _ _ _ _ _ h c.in-Ok-List.g run planned)
+
+pub returns-in-Ok-Run-clause-list_script : goal.returns-in-Ok-Run-clause-list_script
+returns-in-Ok-Run-clause-list_script g c = λ h lists.
+    let planned = rw c.in-Ok-Run.field-0-is at c.in-Ok-Run.ensures.planned in
+    absurd (apart _ _ _ _ _ _ _ c.in-Ok-Run.g h planned lists)

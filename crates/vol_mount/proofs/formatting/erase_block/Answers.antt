@@ -1,4 +1,6 @@
-use Rattle.std.proofs.Common.{◌≡◌, ◌*◌, ◌/◌, ◌<◌, ◌≤◌, ◌∙◌}
+use Rattle.std.proofs.Common.{◌≡◌, ◌*◌, ◌/◌, ◌<◌, ◌≤◌, ◌∙◌, length, arith}
+use Rattle.page_put.proofs.Freshening.{erased_all}
+use Rattle.vol_mount.proofs.Blanks.{unit_more}
 use Rattle.vol_mount.proofs.Units.{unit_inside}
 use Rattle.vol_mount.proofs.formatting.erase_block.Goals as goal
 
@@ -8,3 +10,29 @@ erase-requires-clause-inside g c =
     let fits : c.args.g.now.blocks * c.args.g.now.block ≤ g.N.NorState.size c.loop-i.nor = rw c.loop-i.invariant.goes.size c.requires.volume in
     let i : c.loop-i.i < c.args.g.now.block / c.args.g.now.phys = rw (← c.block.ensures, ← c.phys.ensures) c.loop-i-test.true in
     rw (unit, c.block.ensures, c.phys.ensures) (unit_inside c.args.g.now c.args.block c.loop-i.i (g.N.NorState.size c.loop-i.nor) c.requires.block i fits)
+
+pub loop-i-preserved : goal.loop-i-preserved
+loop-i-preserved g c =
+    let was = c.loop-i.invariant in
+    let volume = c.args.g.now in
+    let step = c.in_ok-erase.ensures in
+    record {
+      goes = record {
+        unit = step.changes.cuts.unit ∙ was.goes.unit;
+        size = step.changes.cuts.size ∙ was.goes.size;
+        told = λ tells. step.changes.cuts.told (was.goes.told tells);
+        faults = omega (arith, was.goes.faults, step.changes.cuts.faults);
+      };
+      units = was.units;
+      mark = was.mark;
+      done = λ tells.
+          let unit : g.N.NorState.unit c.loop-i.nor ≡ volume.phys = was.goes.unit ∙ c.requires.unit in
+          let fits : volume.blocks * volume.block ≤ length (g.N.NorState.bytes c.args.nor.now) = omega (arith, g.met.N.Nor.sized c.args.nor.now tells, c.requires.volume) in
+          unit_more volume c.args.block c.loop-i.i _ (g.N.NorState.unit c.loop-i.nor) (g.N.NorState.bytes c.args.nor.now) (g.N.NorState.bytes c.loop-i.nor) (g.N.NorState.bytes c.erase.new.self)
+          c.requires.block (omega (arith, was.units, c.loop-i-test.true)) (cc) unit fits (was.done tells) (step.done (was.goes.told tells));
+    }
+
+pub returns-clause-done : goal.returns-clause-done
+returns-clause-done g c = λ tells.
+    let was = c.loop-i.invariant in
+    erased_all c.args.g.now c.args.block c.loop-i.i (g.N.NorState.bytes c.args.nor.now) (g.N.NorState.bytes c.loop-i.nor) (omega (arith, was.units, c.loop-i-test.false)) (was.done tells)

@@ -1,4 +1,6 @@
-use Rattle.std.proofs.Common.{◌≡◌, ◌+◌, ◌/◌, ◌≤◌}
+-- The units below `i` are erased, and all other blocks are as they were.
+use Rattle.std.proofs.Common.{◌≡◌, ◌+◌, ◌*◌, ◌/◌, ◌≤◌}
+use Rattle.page_put.specs.Fresh.{ErasedTo}
 use Rattle.vol_mount.specs.Goes.{GoesOn}
 use Rattle.vol_mount.proofs.formatting.erase_block.Given as goal
 
@@ -7,4 +9,5 @@ invariant-loop-i g l = record {
   goes : GoesOn g.N.NorState l.fn.nor l.nor;
   units : l.units ≡ l.g.block / l.g.phys;
   mark : l.mark.at + 2 ≤ l.g.phys;
+  done : (g.N.NorState.tells l.fn.nor → ErasedTo l.g l.block (l.i * l.g.phys) (g.N.NorState.bytes l.fn.nor) (g.N.NorState.bytes l.nor));
 }

@@ -1,4 +1,6 @@
+-- The blocks below `block` are blank, and all behind them is as it was.
 use Rattle.std.proofs.Common.{◌≡◌}
+use Rattle.vol_mount.specs.Formatted.{BlankTo}
 use Rattle.vol_mount.specs.Goes.{GoesOn}
 use Rattle.vol_mount.proofs.formatting.format_blocks.Given as goal
 
@@ -6,4 +8,5 @@ abbrev pub invariant-loop-block : goal.invariant-loop-block
 invariant-loop-block g l = record {
   goes : GoesOn g.N.NorState l.fn.nor l.nor;
   end : l.block-end ≡ l.g.blocks;
+  done : (g.N.NorState.tells l.fn.nor → BlankTo l.g l.block (g.N.NorState.bytes l.fn.nor) (g.N.NorState.bytes l.nor));
 }

@@ -1,0 +1,4 @@
+pub mod Rooms
+pub mod Judged
+pub mod Firsts
+pub mod Chosen

@@ -1,0 +1,10 @@
+//! Garbage collection: which block is cleaned next, and whether there is need of one.
+#![tactic(auto)]
+
+mod choice;
+mod next;
+mod scores;
+mod totals;
+
+pub use next::{are_had, choose, is_stuck};
+pub use scores::score;
