@@ -1,4 +1,4 @@
-use Rattle.std.proofs.Common.{◌≡◌, sym, ◌∙◌, arith}
+use Rattle.std.proofs.Common.{sym, ◌∙◌, arith}
 use Rattle.image_model.specs.Places.{IsImage}
 use Rattle.volume.proofs.Removing.{named_some, named_none}
 use Rattle.volume.proofs.remove.find_named.Goals as goal
