@@ -34,7 +34,7 @@ name_why true long why e = inl (cc)
 name_why false true why e = inr (cc)
 name_why false false why e = absurd (cc)
 
-refused_so : (name : List ℕ) (why : FsErr) → name_refusal name ≡ Some why → (why ≡ BadName) ⊎ (why ≡ NameTooLong)
+pub refused_so : (name : List ℕ) (why : FsErr) → name_refusal name ≡ Some why → (why ≡ BadName) ⊎ (why ≡ NameTooLong)
 unfolding name_refusal
 refused_so name why e = name_why (is_bad_name name) (is_long_name name) why e
 

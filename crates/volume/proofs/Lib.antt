@@ -4,3 +4,4 @@ pub mod Counting
 pub mod Creating
 pub mod Recording
 pub mod Answering
+pub mod Removing

@@ -5,3 +5,4 @@ pub mod Stages
 pub mod Same
 pub mod Answers
 pub mod Records
+pub mod Removes

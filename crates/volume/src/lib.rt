@@ -4,6 +4,7 @@
 mod create;
 mod names;
 mod records;
+mod remove;
 mod room;
 mod stage;
 mod volume;

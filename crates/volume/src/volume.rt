@@ -19,10 +19,12 @@ ghost use Rattle.vol_check.specs.Culls.{KeepsAll};
 ghost use Rattle.vol_check.specs.Checks.{IsWritable, IsRefusal, CountsMixed, Checked as WasChecked};
 ghost use Rattle.volume.specs.Opening.{is_open, is_mounted, StaysUnless};
 ghost use Rattle.volume.specs.Answers.{IsReady, CreateLeaves, CreateGoes};
+ghost use Rattle.volume.specs.Removes.{RemoveLeaves, RemoveGoes};
 
 use crate::create::create_in;
 use crate::names::accept;
 use crate::records::{info_of_all, stat_above, stat_named};
+use crate::remove::remove_in;
 use crate::stage::Stage;
 use crate::{CheckErr, Report};
 use fd_table::FdSlot;
@@ -188,6 +190,42 @@ fn create_on<N: Nor>(
     }
 }
 
+// Removes the file of a name that is accepted.
+fn remove_on<N: Nor>(
+    g: Geometry,
+    nor: &mut N,
+    work: &mut [u8],
+    cache: &mut [u8],
+    name: &[u8],
+) -> Attempt
+    requires unit { N.unit nor.old ≡ g.phys }
+    requires fits { g.blocks * g.block ≤ N.size nor.old }
+    requires work { work_need g ≤ length work.old }
+    requires cache { cache_need g ≤ length cache.old }
+    requires kept { IsKept N.NorState g nor.old cache.old }
+    ensures kept { IsKept N.NorState g nor.new cache.new }
+    ensures cache_size { length cache.new ≡ length cache.old }
+    ensures few { FewReads N.NorState g nor.old cache.old nor.new cache.new }
+    ensures cause { IsErrOf result.done FsErr.DeviceFault → Rose (N.faults nor.old) (N.faults nor.new) }
+    ensures faults { N.faults nor.old ≤ N.faults nor.new }
+    ensures changes { Changes N.NorState nor.old nor.new (λ was image. IsReady g was → RemoveLeaves g name.now was image) }
+    ensures goes { N.tells nor.old → IsReady g (N.bytes nor.old) → RemoveGoes N.NorState g name.now nor.old nor.new result.done }
+    ensures untouched { result.wrote ≡ false → OnlyReads N.NorState nor.old nor.new }
+{
+    let mut v = View {
+        geometry: g,
+        nor,
+        work,
+        cache,
+        wrote: false,
+    };
+    let done = remove_in(&mut v, name);
+    Attempt {
+        done,
+        wrote: v.wrote,
+    }
+}
+
 // Where a call leads that a checked volume took.
 fn stage_after(tried: Attempt) -> Stage
     ensures stays { StaysUnless tried.done true (is_open result) }
@@ -339,6 +377,7 @@ impl<'b, N: Nor> Volume<'b, N> {
     ghost use Rattle.volume.specs.Stages.{takes_calls, has_failed};
     ghost use Rattle.volume.specs.Same.{IsSameVolume};
     ghost use Rattle.volume.specs.Answers.{IsReady, CreateAnswers, CreateCuts, StatAnswers, NextAnswers, InfoAnswers};
+    ghost use Rattle.volume.specs.Removes.{RemoveAnswers, RemoveCuts};
 
     /// The volume of a device that `vol_mount::accept` takes with this lent memory, with every descriptor closed.
     pub fn new(g: Geometry, nor: &'b mut N, lent: Lent<'b>) -> Volume<'b, N>
@@ -440,6 +479,34 @@ impl<'b, N: Nor> Volume<'b, N> {
             Err(why) => Err(why),
             Ok(()) => {
                 let tried = create_on(self.geometry, self.nor, self.work, self.cache, name);
+                self.stage = stage_after(tried);
+                tried.done
+            }
+        }
+    }
+
+    /// Removes the file of a name, and kills its pages; it needs no page. Refused, in this order: `Failed` (also where the
+    /// volume wasn't checked), `BadName`, `NameTooLong`, `NotFound`. After `DeviceFault` the volume has failed if a
+    /// program was asked for; mounting and checking again gives the table with the file or without it. No call of this
+    /// build opens a descriptor, so there is none to close: `slots` stay as they are.
+    pub fn remove(&mut self, name: &[u8]) -> Result<(), FsErr>
+        ensures cause { IsErrOf result FsErr.DeviceFault → Rose (N.faults self.old.nor.now) (N.faults self.new.nor.now) }
+        ensures faults { N.faults self.old.nor.now ≤ N.faults self.new.nor.now }
+        ensures stays { StaysUnless result (takes_calls self.old) (takes_calls self.new) }
+        ensures changes { (s : State) → Changes N.NorState self.old.nor.now self.new.nor.now (λ was image. s.table ≡ table_of self.old.geometry was → IsReady self.old.geometry was → RemoveCuts self.old.geometry s name.now was image) }
+        ensures answers { N.tells self.old.nor.now → takes_calls self.old ≡ true → IsReady self.old.geometry (N.bytes self.old.nor.now) → (s : State) → s.table ≡ table_of self.old.geometry (N.bytes self.old.nor.now) →
+            RemoveAnswers N.NorState self.old.geometry s name.now self.old.nor.now self.new.nor.now result }
+        ensures closed { takes_calls self.old ≡ false → (result ≡ Err FsErr.Failed) × (self.new.nor.now ≡ self.old.nor.now) }
+        ensures failed { IsErrOf result FsErr.DeviceFault → (takes_calls self.new ≡ false) ⊎ OnlyReads N.NorState self.old.nor.now self.new.nor.now }
+        ensures same { IsSameVolume self.old self.new }
+    {
+        if self.stage != Stage::Checked {
+            return Err(FsErr::Failed);
+        }
+        match accept(name) {
+            Err(why) => Err(why),
+            Ok(()) => {
+                let tried = remove_on(self.geometry, self.nor, self.work, self.cache, name);
                 self.stage = stage_after(tried);
                 tried.done
             }

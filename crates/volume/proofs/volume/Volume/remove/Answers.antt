@@ -1,0 +1,14 @@
+use Rattle.nor_core.proofs.Cuts.{wider, reads_none}
+use Rattle.volume.proofs.Removing.{remove_refused, goes_answers, leaves_cuts}
+use Rattle.volume.proofs.volume.Volume.remove.Goals as goal
+
+pub returns-in-Err-clause-answers : goal.returns-in-Err-clause-answers
+returns-in-Err-clause-answers g c = λ tells takes ready s same.
+    remove_refused g.N.NorState c.args.self.now.geometry s c.args.name.now c.args.self.now.nor.now c.args.self.now.nor.now c.in-Err.why c.in-Err.ensures.refused (reads_none c.args.self.now.nor.now)
+
+pub returns-in-Ok-clause-changes : goal.returns-in-Ok-clause-changes
+returns-in-Ok-clause-changes g c = λ s. wider c.remove_on-tried.ensures.changes (λ tells image leaves same ready. leaves_cuts c.args.self.now.geometry s c.args.name.now _ image c.in-Ok.ensures.fine same (leaves ready))
+
+pub returns-in-Ok-clause-answers : goal.returns-in-Ok-clause-answers
+returns-in-Ok-clause-answers g c = λ tells takes ready s same.
+    goes_answers g.N.NorState c.args.self.now.geometry s c.args.name.now c.args.self.now.nor.now c.remove_on-tried.new.nor c.in-Ok.ensures.fine same c.remove_on-tried.result.done (c.remove_on-tried.ensures.goes tells ready)
