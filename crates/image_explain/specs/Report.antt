@@ -1,5 +1,5 @@
 -- The printed text.
-use Rattle.std.specs.Prelude.{ℕ, List, [], ◌∷◌, ◌++◌, length, Bool, true, false, not, nat_lt, ◌==◌, ◌&&◌, ◌||◌, Option, Some, None, if◌then◌else◌, codes, decimal}
+use Rattle.std.specs.Prelude.{ℕ, List, [], ◌∷◌, ◌++◌, length, Bool, true, false, not, nat_lt, ◌==◌, ◌&&◌, ◌||◌, Option, Some, None, if◌then◌else◌, codes, decimal, nat_le, ◌*◌}
 use Rattle.std.specs.Fmt.{signed_decimal}
 use Rattle.std.specs.List.{flat_map, range_with_len}
 use Rattle.geometry.specs.declared.geometry.Geometry.{Geometry}
@@ -104,6 +104,10 @@ unfoldable pub report_of : Geometry → List ℕ → List ℕ
 report_of g image =
     counts_text g image ++ room_line g (table_of g image) ++ shared_line g image ++ flat_map file_line (table_of g image)
     ++ flat_map (λ d. damage_line d.0 d.1) (damaged_of g image) ++ flat_map (block_line g image) (range_with_len 0 g.blocks) ++ chosen_line g image
+
+-- what is printed of the bytes of a chip, where they hold the volume
+unfoldable pub explained_of : Geometry → List ℕ → Option (List ℕ)
+explained_of g image = if nat_le (g.blocks * g.block) (length image) then Some (report_of g image) else None
 
 -- the line that tells why a volume of these numbers is refused
 abbrev pub refused_line : ℕ → List ℕ

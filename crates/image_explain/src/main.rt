@@ -7,8 +7,7 @@ mod shape;
 mod text;
 
 use geometry::Geometry;
-use image_plain::holds_volume;
-use report::report;
+use report::explained;
 use shape::{Shape, shape_of};
 use std::alloc::{AllocError, Global};
 use std::process::ExitCode;
@@ -40,11 +39,9 @@ fn tell_unread(rt: &impl Print, why: &io::Error) -> u8 {
 
 // Prints what an image means.
 fn explain(rt: &HostRuntime, g: &Geometry, image: &[u8]) -> u8 {
-    if !holds_volume(g, image) {
-        return 7;
-    }
-    match report(rt.alloc(), g, image) {
-        Ok(text) => tell(rt, text.as_str(), 0),
+    match explained(rt.alloc(), g, image) {
+        Ok(Some(text)) => tell(rt, text.as_str(), 0),
+        Ok(None) => 7,
         Err(_) => tell(rt, "! memory\n", 15),
     }
 }

@@ -1,18 +1,19 @@
 // The lines that tell what an image means.
-ghost use Rattle.std.specs.Prelude.{◌≡◌, ◌<◌, ◌++◌, ◌∷◌, [], ◌↔◌, IsTrue, map, OnOk, IfOk, string_bytes};
+ghost use Rattle.std.specs.Prelude.{◌≡◌, ◌<◌, ◌≤◌, ◌*◌, length, ◌++◌, ◌∷◌, [], ◌↔◌, IsTrue, map, OnOk, IfOk, string_bytes};
 ghost use Rattle.std.specs.List.{flat_map, range_with_len};
+ghost use Rattle.std.specs.Option.{option_map};
 ghost use Rattle.image_model.specs.Places.{IsImage};
 ghost use Rattle.image_model.specs.Tidy.{IsTidy};
 ghost use Rattle.image_plain.specs.Seen.{file};
-ghost use Rattle.image_explain.specs.Report.{is_tidy as the_tidy, is_unfit as the_unfit, counts_text, room_line, shared_line, file_line, damage_line, worth_text, held_text, block_line, chosen_line, report_of};
+ghost use Rattle.image_explain.specs.Report.{is_tidy as the_tidy, is_unfit as the_unfit, counts_text, room_line, shared_line, file_line, damage_line, worth_text, held_text, block_line, chosen_line, report_of, explained_of};
 
 use crate::text::{push_meta, push_name, yes_no};
 use geometry::Geometry;
 use image_collect::{chosen_block, is_fitting, is_worth, parting, score};
 use image_model::Damage;
 use image_plain::{
-    EntryKind, Record, count_entries, damaged_of, erase_count, free_blocks, has_magic, is_mixed,
-    is_tidy, killed_of, mixed_blocks, room_of, spoiled_blocks, table_of,
+    EntryKind, Record, count_entries, damaged_of, erase_count, free_blocks, has_magic,
+    holds_volume, is_mixed, is_tidy, killed_of, mixed_blocks, room_of, spoiled_blocks, table_of,
 };
 use std::alloc::{AllocError, Global};
 use std::fmt::Write;
@@ -225,10 +226,10 @@ fn push_chosen(
     }
 }
 
-/// What the definitions say of an image: its counts, room and shared blocks, a line for each file, each damaged file and
-/// each block, and which block is cleaned next. Fails only for want of memory.
+// What the definitions say of an image: its counts, room and shared blocks, a line for each file, each damaged file and
+// each block, and which block is cleaned next. Fails only for want of memory.
 #[tactic(auto, unfolding(crate::specs::Report::report_of))]
-pub(crate) fn report(alloc: Global, g: &Geometry, image: &[u8]) -> Result<String, AllocError>
+fn report(alloc: Global, g: &Geometry, image: &[u8]) -> Result<String, AllocError>
     requires { IsImage g.now image.now }
     ensures { IfOk result (λ text. string_bytes text ≡ report_of g.now image.now) }
 {
@@ -243,4 +244,21 @@ pub(crate) fn report(alloc: Global, g: &Geometry, image: &[u8]) -> Result<String
     push_blocks(&mut text, g, image)?;
     push_chosen(&mut text, alloc, g, image)?;
     Ok(text)
+}
+
+/// What is printed of the bytes of a chip: what the definitions say of it, or None where they don't hold the volume. Fails
+/// only for want of memory.
+#[tactic(auto, unfolding(crate::specs::Report::explained_of))]
+pub(crate) fn explained(
+    alloc: Global,
+    g: &Geometry,
+    image: &[u8],
+) -> Result<Option<String>, AllocError>
+    ensures { IfOk result (λ text. option_map string_bytes text ≡ explained_of g.now image.now) }
+{
+    if !holds_volume(g, image) {
+        return Ok(None);
+    }
+    let text = report(alloc, g, image)?;
+    Ok(Some(text))
 }

@@ -1,19 +1,21 @@
 -- The id that counts of a name has the least header page of the whole files of that name.
-use Rattle.std.proofs.Common.{◌≡◌, ℕ, zero, suc, ◌+◌, ◌==◌, ◌&&◌, ◌<◌, ◌≤◌, not, nat_lt, ⊎_elim, inl, inr, Bool, true, false, List, [], ◌∷◌, refl, sym, ◌∙◌, ap, arith, subst, Option, Some, None, if◌then◌else◌}
-use Rattle.std.specs.Prelude.{Result, Ok, Err, find, is_some, unwrap_or, option_and_then, ◌⊎◌}
+use Rattle.std.proofs.Common.{◌≡◌, ℕ, zero, suc, ◌+◌, ◌&&◌, ◌<◌, ◌≤◌, ◌++◌, length, get_or, not, nat_lt, ⊎_elim, inl, inr, Bool, true, false, List, [], ◌∷◌, refl, sym, ◌∙◌, ap, arith, subst, Option, Some, None, if◌then◌else◌}
+use Rattle.std.specs.Prelude.{Result, Ok, Err, find, is_some, option_and_then}
 use Rattle.std.specs.Option.{option_map}
 use Rattle.std.specs.List.{range_with_len, list_any}
 use Rattle.std.specs.Cmp.Lexicographic.{same_text as text_is}
-use Rattle.std.proofs.lemmas.Bool.{cases_lt, cases_eq, cases_Bool, and_parts, lt-ltb, le-ltb, eq-eqb}
+use Rattle.std.proofs.lemmas.Bool.{cases_lt, cases_eq, cases_Bool, lt-ltb, le-ltb, eq-eqb}
 use Rattle.std.proofs.lemmas.Option.{some_pair_parts}
+use Rattle.std.proofs.lemmas.List.{get_or_append_left, get_or_at, length-append}
 use Rattle.geometry.specs.declared.geometry.Geometry.{Geometry}
 use Rattle.table_model.specs.Table.{File, same_text}
 use Rattle.image_model.specs.declared.damage.Damage.{Damage}
 use Rattle.image_model.specs.Volume.{page_count}
 use Rattle.image_model.specs.Live.{Live, own}
-use Rattle.image_model.specs.Files.{index_page, is_index, judged, found}
+use Rattle.image_model.specs.Headers.{name_of}
+use Rattle.image_model.specs.Files.{index_page, is_index, judged, judged_by, file_of, first_missing, found}
 use Rattle.image_model.specs.Tables.{Found, has_of, ids, is_before, counts, counted, is_named, holder}
-use Rattle.image_plain.specs.Leading.{earlier, IsFirst, Leads}
+use Rattle.image_plain.specs.Leading.{file_page, AreFiles, has_name, earlier, IsFirst, Leads}
 
 -- ---- searches over a range
 
@@ -234,3 +236,69 @@ module _ (has : Found) (pages n : ℕ) (name : List ℕ) where
       (λ (x : (best ≡ 0) × (least ≡ pages)). rw (none_holds within (subst (λ (p : ℕ). (j : ℕ) → 1 ≤ j → j < n + 1 → is_before (has j) p name ≡ false) x.1 was.none)) x.0)
       (λ (x : IsFirst has name (n + 1) best least). rw (first_holds best least was.none x) refl)
       was.place
+
+-- ---- the whole files, by id
+
+pub files_none : (g : Geometry) (live : Live) (files : List (Option ℕ)) → files ≡ [] → AreFiles g live 0 files
+files_none g live files none = record { len = ap length none; each = λ p low. absurd (omega arith) }
+
+pub files_more : (g : Geometry) (live : Live) (n : ℕ) (old new : List (Option ℕ)) (b : Option ℕ) → AreFiles g live n old → new ≡ old ++ b ∷ [] → b ≡ file_page (has_of g live n) → AreFiles g live (n + 1) new
+files_more g live n old new b was more is = record {
+  len = ap length more ∙ (let long = length-append old (b ∷ []) in omega (arith, long, was.len));
+  each = λ p low. ap (λ (l : List (Option ℕ)). get_or l p None) more ∙ ⊎_elim
+      (λ (last : p ≡ n). (let here = get_or_at old b [] None p (was.len ∙ sym last) in here ∙ is ∙ ap (λ (j : ℕ). file_page (has_of g live j)) (sym last)))
+      (λ (other : p ≡ n → ⊥). (let below : p < n = omega (arith, other) in get_or_append_left old (b ∷ []) None p (omega (arith, was.len)) ∙ was.each p below))
+      (cases_eq p n);
+}
+
+record IsWhole (g : Geometry) (live : Live) (id q : ℕ) : Type 0 where
+  head : List ℕ
+  file : File
+  own_is : own live id q ≡ Some head
+  name_is : name_of head ≡ Some file.name
+  has_is : has_of g live id ≡ Some (q, Ok file)
+
+whole_named : (g : Geometry) (live : Live) (id p q : ℕ) (head : List ℕ) (name : Option (List ℕ)) (missing : Option ℕ) → index_page g (own live id) 0 ≡ Some p → own live id p ≡ Some head → name_of head ≡ name → first_missing g (own live id) head ≡ missing →
+    file_page (Some (p, judged_by g (own live id) id head name missing)) ≡ Some q → IsWhole g live id q
+unfolding has_of found judged
+whole_named g live id p q head None missing at is named miss e = absurd (cc)
+whole_named g live id p q head (Some name) (Some span) at is named miss e = absurd (cc)
+whole_named g live id p q head (Some name) None at is named miss e =
+    let same : p ≡ q = cc in
+    record {
+      head = head;
+      file = file_of g (own live id) id head name;
+      own_is = rw (← same) is;
+      name_is = named;
+      has_is = rw (at, is, named, miss, same) refl;
+    }
+
+whole_own : (g : Geometry) (live : Live) (id p q : ℕ) (o : Option (List ℕ)) → index_page g (own live id) 0 ≡ Some p → own live id p ≡ o →
+    file_page (option_map {U = ℕ × Result File Damage} (λ (head : List ℕ). (p, judged g (own live id) id head)) o) ≡ Some q → IsWhole g live id q
+unfolding judged
+whole_own g live id p q None at is e = absurd (cc)
+whole_own g live id p q (Some head) at is e = whole_named g live id p q head (name_of head) (first_missing g (own live id) head) at is refl refl e
+
+whole_at : (g : Geometry) (live : Live) (id q : ℕ) (o : Option ℕ) → index_page g (own live id) 0 ≡ o →
+    file_page (option_and_then {U = ℕ × Result File Damage} (λ (p : ℕ). option_map {U = ℕ × Result File Damage} (λ (head : List ℕ). (p, judged g (own live id) id head)) (own live id p)) o) ≡ Some q → IsWhole g live id q
+whole_at g live id q None at e = absurd (cc)
+whole_at g live id q (Some p) at e = whole_own g live id p q (own live id p) at refl e
+
+whole_of : (g : Geometry) (live : Live) (id q : ℕ) → file_page (has_of g live id) ≡ Some q → IsWhole g live id q
+unfolding has_of found
+whole_of g live id q e = whole_at g live id q (index_page g (own live id) 0) refl e
+
+-- an id with no whole file has none that is earlier
+no_earlier : (o : Option (ℕ × Result File Damage)) (p : ℕ) (name : List ℕ) → file_page o ≡ None → earlier o p name ≡ None
+no_earlier None p name e = refl
+no_earlier (Some (q, Err x)) p name e = refl
+no_earlier (Some (q, Ok f)) p name e = absurd (cc)
+
+pub earlier_none : (g : Geometry) (live : Live) (n id p : ℕ) (files : List (Option ℕ)) (name : List ℕ) → AreFiles g live n files → id < n → get_or files id None ≡ None → earlier (has_of g live id) p name ≡ None
+earlier_none g live n id p files name are low none = no_earlier (has_of g live id) p name (sym (are.each id low) ∙ none)
+
+pub earlier_some : (g : Geometry) (live : Live) (n id p q : ℕ) (files : List (Option ℕ)) (name : List ℕ) → AreFiles g live n files → id < n → get_or files id None ≡ Some q →
+    earlier (has_of g live id) p name ≡ (if nat_lt q p && has_name (own live id q) name then Some q else None)
+earlier_some g live n id p q files name are low some =
+    let w = whole_of g live id q (sym (are.each id low) ∙ some) in
+    rw (w.has_is, w.own_is, w.name_is) refl

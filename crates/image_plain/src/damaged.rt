@@ -6,11 +6,13 @@ ghost use Rattle.image_model.specs.Live.{live_at as the_live_at};
 ghost use Rattle.image_model.specs.Tables.{has_of as the_has, is_named as the_named, holder as the_holder, damage as the_damage, damages as the_damages, damaged_of as the_damaged};
 ghost use Rattle.image_plain.specs.Seen.{file};
 ghost use Rattle.image_plain.specs.Headed.{IsHeads};
+ghost use Rattle.image_plain.specs.Leading.{AreFiles};
 
 use crate::Record;
 use crate::files::found;
 use crate::headers::header_pages;
 use crate::table::{counts, earlier};
+use crate::wholes::file_pages;
 use geometry::Geometry;
 use image_model::Damage;
 use std::alloc::{AllocError, Global};
@@ -18,16 +20,16 @@ use std::alloc::{AllocError, Global};
 // The id that counts of those with that name, among the ids from 1 to n: of their whole files the first with the least
 // header page. 0 where there is none.
 #[tactic(auto, unfolding(image_model::specs::Volume::page_count, image_model::specs::Volume::per_block), using(crate::proofs::Leading::leads_none, crate::proofs::Leading::leads_yes, crate::proofs::Leading::leads_no, crate::proofs::Leading::leads_end, crate::proofs::Leading::has_within))]
-fn holder(g: &Geometry, image: &[u8], heads: &[Option<u32>], n: u16, name: &[u8]) -> u16
+fn holder(g: &Geometry, image: &[u8], files: &[Option<u32>], n: u16, name: &[u8]) -> u16
     requires image { IsImage g.now image.now }
-    requires heads { IsHeads g.now (the_live_at g.now image.now) heads.now }
+    requires files { AreFiles g.now (the_live_at g.now image.now) 0x8000 files.now }
     requires fits { n ≤ 0x7FFF }
     ensures { result ≡ the_holder (the_has g.now (the_live_at g.now image.now)) n name.now }
 {
     let mut best = 0;
     let mut least = g.pages();
     for id in 1..n + 1 {
-        if let Some(q) = earlier(g, image, heads, id, least, name) {
+        if let Some(q) = earlier(g, image, files, id, least, name) {
             best = id;
             least = q;
         }
@@ -41,11 +43,13 @@ fn damage(
     g: &Geometry,
     image: &[u8],
     heads: &[Option<u32>],
+    files: &[Option<u32>],
     n: u16,
     id: u16,
 ) -> Result<Option<(u16, Damage)>, AllocError>
     requires image { IsImage g.now image.now }
     requires heads { IsHeads g.now (the_live_at g.now image.now) heads.now }
+    requires files { AreFiles g.now (the_live_at g.now image.now) 0x8000 files.now }
     requires fits { n ≤ 0x7FFF }
     requires id { id < 0x8000 }
     ensures { IfOk result (λ d. d ≡ the_damage (the_has g.now (the_live_at g.now image.now)) n id (the_has g.now (the_live_at g.now image.now) id)) }
@@ -57,10 +61,10 @@ fn damage(
         Ok(record) => record,
         Err(cause) => return Ok(Some((id, cause))),
     };
-    if counts(g, image, heads, n, p, record.name.as_slice()) {
+    if counts(g, image, files, n, p, record.name.as_slice()) {
         return Ok(None);
     }
-    let other = holder(g, image, heads, n, record.name.as_slice());
+    let other = holder(g, image, files, n, record.name.as_slice());
     Ok(Some((id, Damage::SameName(other))))
 }
 
@@ -71,16 +75,18 @@ fn damages(
     g: &Geometry,
     image: &[u8],
     heads: &[Option<u32>],
+    files: &[Option<u32>],
     n: u16,
 ) -> Result<Vec<(u16, Damage)>, AllocError>
     requires image { IsImage g.now image.now }
     requires heads { IsHeads g.now (the_live_at g.now image.now) heads.now }
+    requires files { AreFiles g.now (the_live_at g.now image.now) 0x8000 files.now }
     requires fits { n ≤ 0x7FFF }
     ensures { IfOk result (λ damages. damages.items ≡ the_damages (the_has g.now (the_live_at g.now image.now)) n) }
 {
     let mut damages = Vec::new(alloc);
     for id in 1..n + 1 {
-        if let Some(cause) = damage(alloc, g, image, heads, n, id)? {
+        if let Some(cause) = damage(alloc, g, image, heads, files, n, id)? {
             damages.push(cause)?;
         }
     }
@@ -99,5 +105,6 @@ pub fn damaged_of(
     ensures { IfOk result (λ damages. damages.items ≡ the_damaged g.now image.now) }
 {
     let heads = header_pages(alloc, g, image)?;
-    damages(alloc, g, image, heads.as_slice(), 0x7FFF)
+    let files = file_pages(alloc, g, image, heads.as_slice())?;
+    damages(alloc, g, image, heads.as_slice(), files.as_slice(), 0x7FFF)
 }

@@ -15,6 +15,7 @@ mod rows;
 mod table;
 mod tidiness;
 mod tidy;
+mod wholes;
 
 pub use blocks::{
     first_entry, free_blocks, is_data_block, is_data_page, is_free_block, is_index_block,

@@ -6,38 +6,32 @@ ghost use Rattle.image_model.specs.Live.{live_at as the_live_at};
 ghost use Rattle.image_model.specs.Tables.{has_of as the_has, is_before as the_before, counts as the_counts, counted as the_counted, records as the_records, table_of as the_table};
 ghost use Rattle.image_plain.specs.Seen.{seen_at, file};
 ghost use Rattle.image_plain.specs.Headed.{IsHeads};
-ghost use Rattle.image_plain.specs.Leading.{earlier as the_earlier};
+ghost use Rattle.image_plain.specs.Leading.{AreFiles, earlier as the_earlier};
 
 use crate::Record;
-use crate::files::{first_missing, found, name_of};
+use crate::files::found;
 use crate::headers::{header_of, header_pages};
-use crate::pages::own;
+use crate::wholes::{file_pages, has_name};
 use geometry::Geometry;
 use image_model::Damage;
 use std::alloc::{AllocError, Global};
 
 // The header page of an id that has a whole file of that name, where it stands before page p.
-#[tactic(auto, unfolding(image_model::specs::Files::found, image_model::specs::Tables::has_of, image_model::specs::Files::judged), using(crate::proofs::Headed::head_known))]
 pub(crate) fn earlier(
     g: &Geometry,
     image: &[u8],
-    heads: &[Option<u32>],
+    files: &[Option<u32>],
     id: u16,
     p: u32,
     name: &[u8],
 ) -> Option<u32>
     requires image { IsImage g.now image.now }
-    requires heads { IsHeads g.now (the_live_at g.now image.now) heads.now }
+    requires files { AreFiles g.now (the_live_at g.now image.now) 0x8000 files.now }
     requires id { id < 0x8000 }
     ensures { result ≡ the_earlier (the_has g.now (the_live_at g.now image.now) id) p name.now }
 {
-    let q = header_of(heads, id)?;
-    if q >= p {
-        return None;
-    }
-    let head = own(g, image, id, q)?;
-    let other = name_of(head)?;
-    if other == name && first_missing(g, image, id, head).is_none() {
+    let q = header_of(files, id)?;
+    if q < p && has_name(g, image, id, q, name) {
         Some(q)
     } else {
         None
@@ -49,17 +43,17 @@ pub(crate) fn earlier(
 fn is_before(
     g: &Geometry,
     image: &[u8],
-    heads: &[Option<u32>],
+    files: &[Option<u32>],
     id: u16,
     p: u32,
     name: &[u8],
 ) -> bool
     requires image { IsImage g.now image.now }
-    requires heads { IsHeads g.now (the_live_at g.now image.now) heads.now }
+    requires files { AreFiles g.now (the_live_at g.now image.now) 0x8000 files.now }
     requires id { id < 0x8000 }
     ensures { result ≡ the_before (the_has g.now (the_live_at g.now image.now) id) p name.now }
 {
-    earlier(g, image, heads, id, p, name).is_some()
+    earlier(g, image, files, id, p, name).is_some()
 }
 
 // Whether a file counts, of those that have its name among the ids from 1 to n.
@@ -67,18 +61,18 @@ fn is_before(
 pub(crate) fn counts(
     g: &Geometry,
     image: &[u8],
-    heads: &[Option<u32>],
+    files: &[Option<u32>],
     n: u16,
     p: u32,
     name: &[u8],
 ) -> bool
     requires image { IsImage g.now image.now }
-    requires heads { IsHeads g.now (the_live_at g.now image.now) heads.now }
+    requires files { AreFiles g.now (the_live_at g.now image.now) 0x8000 files.now }
     requires fits { n ≤ 0x7FFF }
     ensures { result ≡ the_counts (the_has g.now (the_live_at g.now image.now)) n p name.now }
 {
     for id in 1..n + 1 {
-        if is_before(g, image, heads, id, p, name) {
+        if is_before(g, image, files, id, p, name) {
             return false;
         }
     }
@@ -91,18 +85,20 @@ pub(crate) fn counted(
     g: &Geometry,
     image: &[u8],
     heads: &[Option<u32>],
+    files: &[Option<u32>],
     n: u16,
     id: u16,
 ) -> Result<Option<Record>, AllocError>
     requires image { IsImage g.now image.now }
     requires heads { IsHeads g.now (the_live_at g.now image.now) heads.now }
+    requires files { AreFiles g.now (the_live_at g.now image.now) 0x8000 files.now }
     requires fits { n ≤ 0x7FFF }
     requires id { id < 0x8000 }
     ensures { IfOk result (λ r. option_map file r ≡ the_counted (the_has g.now (the_live_at g.now image.now)) n (the_has g.now (the_live_at g.now image.now) id)) }
 {
     match found(alloc, g, image, heads, id)? {
         Some((p, Ok(r))) => {
-            if counts(g, image, heads, n, p, r.name.as_slice()) {
+            if counts(g, image, files, n, p, r.name.as_slice()) {
                 Ok(Some(r))
             } else {
                 Ok(None)
@@ -119,16 +115,18 @@ fn records(
     g: &Geometry,
     image: &[u8],
     heads: &[Option<u32>],
+    files: &[Option<u32>],
     n: u16,
 ) -> Result<Vec<Record>, AllocError>
     requires image { IsImage g.now image.now }
     requires heads { IsHeads g.now (the_live_at g.now image.now) heads.now }
+    requires files { AreFiles g.now (the_live_at g.now image.now) 0x8000 files.now }
     requires fits { n ≤ 0x7FFF }
     ensures { IfOk result (λ records. map file records.items ≡ the_records (the_has g.now (the_live_at g.now image.now)) n) }
 {
     let mut records = Vec::new(alloc);
     for id in 1..n + 1 {
-        if let Some(record) = counted(alloc, g, image, heads, n, id)? {
+        if let Some(record) = counted(alloc, g, image, heads, files, n, id)? {
             records.push(record)?;
         }
     }
@@ -143,5 +141,6 @@ pub fn table_of(alloc: Global, g: &Geometry, image: &[u8]) -> Result<Vec<Record>
     ensures { IfOk result (λ records. map file records.items ≡ the_table g.now image.now) }
 {
     let heads = header_pages(alloc, g, image)?;
-    records(alloc, g, image, heads.as_slice(), 0x7FFF)
+    let files = file_pages(alloc, g, image, heads.as_slice())?;
+    records(alloc, g, image, heads.as_slice(), files.as_slice(), 0x7FFF)
 }

@@ -12,6 +12,7 @@ ghost use Rattle.image_model.specs.Tidy.{is_number, serves as the_serves, is_wan
 ghost use Rattle.image_model.specs.Killed.{is_used as the_used, is_killable as the_killable, killed_of as the_killed};
 ghost use Rattle.table_model.specs.Room.{data_pages as the_data_pages, index_pages as the_index_pages};
 ghost use Rattle.image_plain.specs.Headed.{IsHeads};
+ghost use Rattle.image_plain.specs.Leading.{AreFiles};
 ghost use Rattle.image_plain.specs.Wanting.{AreWanted, is_whole as the_whole, AreWhole};
 
 use crate::blocks::is_free_entry;
@@ -19,6 +20,7 @@ use crate::files::{data_pages, entry_number, index_page, size_of};
 use crate::headers::{header_of, header_pages};
 use crate::pages::{entry_of, has_magic, live_at, own, page_of, word};
 use crate::table::counted;
+use crate::wholes::file_pages;
 use geometry::Geometry;
 use std::alloc::{AllocError, Global};
 
@@ -112,14 +114,16 @@ fn is_whole(
     g: &Geometry,
     image: &[u8],
     heads: &[Option<u32>],
+    files: &[Option<u32>],
     id: u16,
 ) -> Result<bool, AllocError>
     requires image { IsImage g.now image.now }
     requires heads { IsHeads g.now (the_live_at g.now image.now) heads.now }
+    requires files { AreFiles g.now (the_live_at g.now image.now) 0x8000 files.now }
     requires id { id < 0x8000 }
     ensures { IfOk result (λ yes. yes ≡ the_whole g.now image.now id) }
 {
-    match counted(alloc, g, image, heads, 0x7FFF, id)? {
+    match counted(alloc, g, image, heads, files, 0x7FFF, id)? {
         Some(_record) => Ok(true),
         None => Ok(false),
     }
@@ -137,9 +141,10 @@ fn whole_ids(
     requires heads { IsHeads g.now (the_live_at g.now image.now) heads.now }
     ensures { IfOk result (λ whole. AreWhole g.now image.now 0x8000 whole.items) }
 {
+    let files = file_pages(alloc, g, image, heads)?;
     let mut whole = Vec::new(alloc);
     for id in 0..0x8000u16 {
-        whole.push(is_whole(alloc, g, image, heads, id)?)?;
+        whole.push(is_whole(alloc, g, image, heads, files.as_slice(), id)?)?;
     }
     Ok(whole)
 }
