@@ -59,7 +59,8 @@ reported_text g was now _ = check_text g was now
 abbrev pub spoken_text : Geometry → (was now : List ℕ) → Ending → List ℕ
 spoken_text g was now ending = reported_text g was now ending ++ closing_line_of ending
 
--- a cut before the closing line: the first image with no byte said, or what the check left of it, or the last image with a front of the line
+-- A cut before the closing line: an image that the check may leave of the first one, and a front of its line; once a byte of that was
+-- said, the last image.
 pub record ReportCut {D : Type 0} (nor : NorOf D) (g : Geometry) (old new : D) (ending : Ending) (image : List ℕ) (count : ℕ) : Type 0 where
   pub leaves : Checks g (nor.bytes old) image
   pub least : length (nor.said old) ≤ count

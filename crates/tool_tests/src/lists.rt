@@ -1,6 +1,8 @@
 //! Listings of images made by hand, whole and damaged ones.
 use crate::bench::{AMPLE, Lends, blank, run, run_with};
-use crate::images::{board_of, damaged_image, empty, put, put_data, put_header, put_hello, same, volume};
+use crate::images::{
+    board_of, damaged_image, empty, put, put_data, put_header, put_hello, same, volume,
+};
 use geometry::{Geometry, MagicKind};
 use image_model::Damage;
 use image_plain::{damaged_of, holds_volume, spoiled_blocks, table_of};

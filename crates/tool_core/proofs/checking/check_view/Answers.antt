@@ -1,7 +1,7 @@
-use Rattle.std.proofs.Common.{◌∙◌, sym, ap, subst}
+use Rattle.std.proofs.Common.{◌≡◌, ◌∙◌, sym, ap, subst}
 use Rattle.geometry.specs.Numbers.{write_refusal}
 use Rattle.tool_core.specs.declared.ending.Ending.{Ending}
-use Rattle.tool_core.specs.Checking.{ChecksTo}
+use Rattle.tool_core.specs.Checking.{ChecksTo, report_text}
 use Rattle.volume.proofs.Magics.{few_spoiled}
 use Rattle.tool_core.proofs.Beginning.{check_changes}
 use Rattle.tool_core.proofs.CheckEnds.{check_not_mounted, check_refused, check_reported, check_broken, checked_here, checkable_here, few_here}
@@ -28,7 +28,9 @@ returns-in-Ok-say-clause-checks g c =
     let looks = c.mount.ensures.looks in
     let h = c.mount.new.v.geometry in
     let stages = c.in-Ok.ensures in
-    check_reported c.report_ending.result c.in-Ok.report (c.as_slice.ensures.value ∙ c.report_line.ensures) c.report_ending.ensures.why (check_changes h looks.same.geometry looks.reads c.check_stages.ensures.changes)
+    let r = c.in-Ok.report in
+    let line : c.as_slice.result.now ≡ report_text r.erased r.killed r.damaged r.free_blocks = c.as_slice.ensures.value ∙ c.report_line.ensures in
+    check_reported c.report_ending.result r line c.report_ending.ensures.why (check_changes h looks.same.geometry looks.reads c.check_stages.ensures.changes)
     (λ tells. checkable_here h looks.same.geometry looks.reads (c.in_default.ensures.told tells) (stages.unmixed (looks.reads.told tells)))
     (λ tells. checked_here c.in-Ok.report h looks.same.geometry looks.reads (stages.done (looks.reads.told tells)))
     c.say.ensures.says c.say.ensures.cuts c.in-Ok-say.ensures.done
@@ -37,6 +39,8 @@ pub returns-in-Err-say-clause-checks : goal.returns-in-Err-say-clause-checks
 returns-in-Err-say-clause-checks g c =
     let looks = c.mount.ensures.looks in
     let h = c.mount.new.v.geometry in
-    check_broken c.in-Ok.report (c.as_slice.ensures.value ∙ c.report_line.ensures) (check_changes h looks.same.geometry looks.reads c.check_stages.ensures.changes)
+    let r = c.in-Ok.report in
+    let line : c.as_slice.result.now ≡ report_text r.erased r.killed r.damaged r.free_blocks = c.as_slice.ensures.value ∙ c.report_line.ensures in
+    check_broken r line (check_changes h looks.same.geometry looks.reads c.check_stages.ensures.changes)
     (λ tells. checked_here c.in-Ok.report h looks.same.geometry looks.reads (c.in-Ok.ensures.done (looks.reads.told tells)))
     c.say.ensures.says c.say.ensures.cuts
