@@ -9,7 +9,6 @@ use Rattle.table_model.specs.Window.{Moment, settled_at}
 use Rattle.call_script.specs.Lines.{calls}
 use Rattle.image_model.specs.Tables.{table_of}
 use Rattle.image_model.specs.Kinds.{spoiled_blocks, mixed_blocks}
-use Rattle.image_model.specs.Sound.{HasMagics}
 use Rattle.run_model.specs.Runs.{after_all, replies}
 use Rattle.run_model.specs.Safe.{IsSafe, IsAt}
 use Rattle.run_model.specs.Ran.{Stands, CutIn, MayCut, Reached, SaidPart}
@@ -57,7 +56,7 @@ why_ran (Tight n) g m first image script left front later checked why = absurd w
 why_ran _ g m first image script left front later checked why = (checked, why)
 
 -- what the check leaves is safe
-safe_check : {g : Geometry} {was image : List ℕ} → Checks g was image → IsSafe g was image
+pub safe_check : {g : Geometry} {was image : List ℕ} → Checks g was image → IsSafe g was image
 safe_check here = record { sound = here.sound; reserve = λ reserve. omega (arith, reserve, here.free) }
 
 -- any image may stay

@@ -10,7 +10,7 @@ use Rattle.tool_core.specs.declared.plan.Lengths.{Lengths}
 use Rattle.tool_core.specs.declared.ending.Ending.{Ending}
 use Rattle.tool_core.specs.declared.ending.Ending.TheVariants.{Usage, Geometry, ShortBuffer}
 use Rattle.tool_core.specs.Closing.{status_of}
-use Rattle.tool_core.specs.Words.{run_form, list_form}
+use Rattle.tool_core.specs.Words.{run_form, list_form, check_form}
 use Rattle.tool_core.specs.Plan.{list_refusal, shape_refusal, length_refusal, work_need_in, shorter, refused_as, refusal_for, refusal_of}
 use Rattle.tool_core.specs.Early.{IsEarly, IsEarlyIf}
 
@@ -33,14 +33,15 @@ refused_early : (why : Option GeoErr) (later : Option Ending) → IsEarlyIf late
 refused_early None later early = early
 refused_early (Some why) later early = tt {0}
 
-shape_early : (run list : Option Shape) (unit size : ℕ) (lent : Lengths) → IsEarlyIf (refusal_for run list unit size lent)
-shape_early None None unit size lent = tt {0}
-shape_early None (Some s) unit size lent = refused_early (list_refusal s unit size) _ (length_early s.page s.block s.blocks lent)
-shape_early (Some s) list unit size lent = refused_early (shape_refusal s unit size) _ (length_early s.page s.block s.blocks lent)
+shape_early : (run list check : Option Shape) (unit size : ℕ) (lent : Lengths) → IsEarlyIf (refusal_for run list check unit size lent)
+shape_early None None None unit size lent = tt {0}
+shape_early None None (Some s) unit size lent = refused_early (shape_refusal s unit size) _ (length_early s.page s.block s.blocks lent)
+shape_early None (Some s) check unit size lent = refused_early (list_refusal s unit size) _ (length_early s.page s.block s.blocks lent)
+shape_early (Some s) list check unit size lent = refused_early (shape_refusal s unit size) _ (length_early s.page s.block s.blocks lent)
 
 refusal_early : (words : List (List ℕ)) (unit size : ℕ) (lent : Lengths) → IsEarlyIf (refusal_of words unit size lent)
 unfolding refusal_of
-refusal_early words unit size lent = shape_early (run_form words) (list_form words) unit size lent
+refusal_early words unit size lent = shape_early (run_form words) (list_form words) (check_form words) unit size lent
 
 -- such an ending
 pub ending_early : (words : List (List ℕ)) (unit size : ℕ) (lent : Lengths) (ending : Ending) → refusal_of words unit size lent ≡ Some ending → IsEarly ending

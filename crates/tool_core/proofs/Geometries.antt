@@ -8,7 +8,7 @@ use Rattle.geometry.specs.Rules.{IsVolume}
 use Rattle.geometry.specs.Numbers.{IsOf}
 use Rattle.tool_core.specs.declared.words.Shape.{Shape}
 use Rattle.tool_core.specs.declared.plan.Lengths.{Lengths}
-use Rattle.tool_core.specs.Headline.{IsRun, IsListing}
+use Rattle.tool_core.specs.Headline.{IsRun, IsListing, IsCheck}
 
 -- the rules are met in one way
 one_volume : (page block blocks phys meta : ℕ) (v w : IsVolume page block blocks phys meta) → v ≡ w
@@ -61,6 +61,13 @@ one_geometry words unit size unit' size' lent lent' g h first second =
 -- and those of a listing
 pub one_listing : (words : List (List ℕ)) (unit size unit' size' : ℕ) (lent lent' : Lengths) (g h : Geometry) → IsListing words unit size lent g → IsListing words unit' size' lent' h → g ≡ h
 one_listing words unit size unit' size' lent lent' g h first second =
+    let both : Some first.shape ≡ Some second.shape = sym first.form_is ∙ second.form_is in
+    let same : first.shape ≡ second.shape = cc in
+    shape_geometry first.shape second.shape g h same first.numbers second.numbers
+
+-- and those of a check
+pub one_check : (words : List (List ℕ)) (unit size unit' size' : ℕ) (lent lent' : Lengths) (g h : Geometry) → IsCheck words unit size lent g → IsCheck words unit' size' lent' h → g ≡ h
+one_check words unit size unit' size' lent lent' g h first second =
     let both : Some first.shape ≡ Some second.shape = sym first.form_is ∙ second.form_is in
     let same : first.shape ≡ second.shape = cc in
     shape_geometry first.shape second.shape g h same first.numbers second.numbers

@@ -1,5 +1,5 @@
 -- How a listing ends, before its closing line and with it.
-use Rattle.std.proofs.Common.{◌≡◌, ◌≢◌, ℕ, ◌+◌, ◌*◌, ◌/◌, ◌<◌, ◌≤◌, ◌⊎◌, List, [], ◌∷◌, ◌++◌, length, take, drop, refl, sym, ◌∙◌, ap, subst, arith, inl, inr, ⊎_elim, append_assoc, append-nil, length-append}
+use Rattle.std.proofs.Common.{◌≡◌, ◌≢◌, ℕ, ◌+◌, ◌/◌, ◌≤◌, List, [], ◌∷◌, ◌++◌, length, take, drop, refl, sym, ◌∙◌, ap, subst, arith, inl, inr, ⊎_elim, append_assoc, append-nil, length-append}
 use Rattle.std.proofs.lemmas.List.{take-append-drop}
 use Rattle.std.proofs.Math.Nat.{le-div_iff_mul-le}
 use Rattle.geometry.specs.declared.geometry.Geometry.{Geometry}
@@ -24,7 +24,7 @@ use Rattle.tool_core.specs.declared.ending.Ending.TheVariants.{Done, NotAFs, Boa
 use Rattle.tool_core.specs.Closing.{status_of, closing_line_of}
 use Rattle.tool_core.specs.Endings.{EndsAs}
 use Rattle.tool_core.specs.Begins.{mount_ends}
-use Rattle.tool_core.specs.Listing.{WhyLists, listed_text, whole_text, ListsTo, Listed, ListCut, ListExact, ReadsOnce}
+use Rattle.tool_core.specs.Listing.{WhyLists, listed_text, ListsTo, Listed, ListCut, ListExact, ReadsOnce}
 
 empty : {X : Type 0} (xs : List X) → length xs ≡ 0 → xs ≡ []
 empty [] e = refl

@@ -1,4 +1,4 @@
--- No words are both a run and a listing.
+-- No words are of two forms.
 use Rattle.std.proofs.Common.{◌≡◌, ℕ, List, [], ◌∷◌, length, Bool, true, false, Option, Some, None, refl, sym, ◌∙◌, ap, arith, cond}
 use Rattle.std.specs.Prelude.{nat_eq, ◌==◌, ◌&&◌, not, codes}
 use Rattle.std.specs.Cmp.Lexicographic.{pointwise}
@@ -7,8 +7,8 @@ use Rattle.std.proofs.lemmas.Option.{none-some}
 use Rattle.geometry.specs.declared.geometry.Geometry.{Geometry}
 use Rattle.tool_core.specs.declared.words.Shape.{Shape}
 use Rattle.tool_core.specs.declared.plan.Lengths.{Lengths}
-use Rattle.tool_core.specs.Words.{word_at, is_text, has_form, volume_form, run_form, list_form}
-use Rattle.tool_core.specs.Headline.{IsRun, IsListing}
+use Rattle.tool_core.specs.Words.{word_at, is_text, has_form, volume_form, run_form, list_form, check_form}
+use Rattle.tool_core.specs.Headline.{IsRun, IsListing, IsCheck}
 
 same_bytes : (xs ys : List ℕ) → pointwise nat_eq xs ys ≡ true → xs ≡ ys
 same_bytes [] [] h = refl
@@ -37,3 +37,23 @@ no_run_lists words s t run lists =
 
 pub apart : (words : List (List ℕ)) (unit size unit' size' : ℕ) (lent lent' : Lengths) (g h : Geometry) → IsRun words unit size lent g → IsListing words unit' size' lent' h → ⊥
 apart words unit size unit' size' lent lent' g h run lists = no_run_lists words run.shape lists.shape run.form_is lists.form_is
+
+pub no_run_checks : (words : List (List ℕ)) (s t : Shape) → run_form words ≡ Some s → check_form words ≡ Some t → ⊥
+unfolding run_form check_form
+no_run_checks words s t run checks =
+    let e : codes "run" ≡ codes "check" = sym (verb_of (codes "run") words s run) ∙ verb_of (codes "check") words t checks in
+    let n : 3 ≡ 5 = ap length e in
+    omega (arith, n)
+
+pub no_list_checks : (words : List (List ℕ)) (s t : Shape) → list_form words ≡ Some s → check_form words ≡ Some t → ⊥
+unfolding list_form check_form
+no_list_checks words s t lists checks =
+    let e : codes "list" ≡ codes "check" = sym (verb_of (codes "list") words s lists) ∙ verb_of (codes "check") words t checks in
+    let n : 4 ≡ 5 = ap length e in
+    omega (arith, n)
+
+pub run_no_check : (words : List (List ℕ)) (unit size unit' size' : ℕ) (lent lent' : Lengths) (g h : Geometry) → IsRun words unit size lent g → IsCheck words unit' size' lent' h → ⊥
+run_no_check words unit size unit' size' lent lent' g h run checks = no_run_checks words run.shape checks.shape run.form_is checks.form_is
+
+pub list_no_check : (words : List (List ℕ)) (unit size unit' size' : ℕ) (lent lent' : Lengths) (g h : Geometry) → IsListing words unit size lent g → IsCheck words unit' size' lent' h → ⊥
+list_no_check words unit size unit' size' lent lent' g h lists checks = no_list_checks words lists.shape checks.shape lists.form_is checks.form_is

@@ -15,7 +15,7 @@ use Rattle.run_model.specs.Ran.{SaidPart}
 use Rattle.tool_core.specs.declared.words.Shape.{Shape}
 use Rattle.tool_core.specs.declared.plan.Lengths.{Lengths}
 use Rattle.tool_core.specs.declared.ending.Ending.{Ending}
-use Rattle.tool_core.specs.Words.{run_form, list_form}
+use Rattle.tool_core.specs.Words.{run_form, list_form, check_form}
 use Rattle.tool_core.specs.Plan.{refusal_of}
 use Rattle.tool_core.specs.Closing.{status_of, closing_line_of}
 use Rattle.tool_core.specs.Endings.{EndsAs}
@@ -34,6 +34,13 @@ pub record IsRun (words : List (List ℕ)) (unit size : ℕ) (lent : Lengths) (g
 pub record IsListing (words : List (List ℕ)) (unit size : ℕ) (lent : Lengths) (g : Geometry) : Type 0 where
   pub shape : Shape
   pub form_is : list_form words ≡ Some shape
+  pub numbers : IsOf g shape.page shape.block shape.blocks shape.block shape.meta shape.magic
+  pub accepted : refusal_of words unit size lent ≡ None
+
+-- the words are a check of volumes of that geometry, which nothing refuses
+pub record IsCheck (words : List (List ℕ)) (unit size : ℕ) (lent : Lengths) (g : Geometry) : Type 0 where
+  pub shape : Shape
+  pub form_is : check_form words ≡ Some shape
   pub numbers : IsOf g shape.page shape.block shape.blocks shape.block shape.meta shape.magic
   pub accepted : refusal_of words unit size lent ≡ None
 

@@ -13,3 +13,4 @@ pub mod Headline
 pub mod Early
 pub mod Planned
 pub mod Listing
+pub mod Checking

@@ -10,7 +10,7 @@ use Rattle.tool_core.specs.declared.words.Shape.{Shape}
 use Rattle.tool_core.specs.declared.plan.Lengths.{Lengths}
 use Rattle.tool_core.specs.declared.ending.Ending.{Ending}
 use Rattle.tool_core.specs.declared.ending.Ending.TheVariants.{Usage, Geometry, ShortBuffer}
-use Rattle.tool_core.specs.Words.{run_form, list_form}
+use Rattle.tool_core.specs.Words.{run_form, list_form, check_form}
 
 -- why a device of that unit and size doesn't fit these numbers; an erase unit is a block
 abbrev pub chip_refusal : ℕ → ℕ → ℕ → ℕ → Option GeoErr
@@ -57,12 +57,13 @@ abbrev pub refused_as : Option GeoErr → Option Ending → Option Ending
 refused_as (Some why) later = Some (Geometry why)
 refused_as None later = later
 
--- how a command is refused, by the numbers of a run, or else of a listing
-abbrev pub refusal_for : Option Shape → Option Shape → ℕ → ℕ → Lengths → Option Ending
-refusal_for None None unit size lent = Some Usage
-refusal_for None (Some s) unit size lent = refused_as (list_refusal s unit size) (length_refusal s.page s.block s.blocks lent)
-refusal_for (Some s) other unit size lent = refused_as (shape_refusal s unit size) (length_refusal s.page s.block s.blocks lent)
+-- how a command is refused, by the numbers of a run, or else of a listing, or else of a check
+abbrev pub refusal_for : Option Shape → Option Shape → Option Shape → ℕ → ℕ → Lengths → Option Ending
+refusal_for None None None unit size lent = Some Usage
+refusal_for None None (Some s) unit size lent = refused_as (shape_refusal s unit size) (length_refusal s.page s.block s.blocks lent)
+refusal_for None (Some s) check unit size lent = refused_as (list_refusal s unit size) (length_refusal s.page s.block s.blocks lent)
+refusal_for (Some s) list check unit size lent = refused_as (shape_refusal s unit size) (length_refusal s.page s.block s.blocks lent)
 
 -- how a command is refused, by its words, the device's erase unit and size, and what is lent
 unfoldable pub refusal_of : List (List ℕ) → ℕ → ℕ → Lengths → Option Ending
-refusal_of words unit size lent = refusal_for (run_form words) (list_form words) unit size lent
+refusal_of words unit size lent = refusal_for (run_form words) (list_form words) (check_form words) unit size lent

@@ -45,3 +45,7 @@ run_form words = volume_form (codes "run") words
 -- the numbers of the words `list PAGE BLOCK BLOCKS META MAGIC CHIP`
 unfoldable pub list_form : List (List ℕ) → Option Shape
 list_form words = volume_form (codes "list") words
+
+-- the numbers of the words `check PAGE BLOCK BLOCKS META MAGIC CHIP`
+unfoldable pub check_form : List (List ℕ) → Option Shape
+check_form words = volume_form (codes "check") words

@@ -83,7 +83,7 @@ fn word_of(part: Part) -> &'static [u8]
 }
 
 // Appends a piece to a line.
-fn put(line: &mut Closing, piece: &[u8])
+pub(crate) fn put(line: &mut Closing, piece: &[u8])
     requires { array_vec_len line.old + length piece.now ≤ 128 }
     ensures items { line.new.items ≡ line.old.items ++ piece.now }
     ensures len { array_vec_len line.new ≡ array_vec_len line.old + length piece.now }
@@ -92,7 +92,7 @@ fn put(line: &mut Closing, piece: &[u8])
 }
 
 // Appends a label and a number to a line.
-fn put_count(line: &mut Closing, label: &[u8], number: u64)
+pub(crate) fn put_count(line: &mut Closing, label: &[u8], number: u64)
     requires { array_vec_len line.old + length label.now + 20 ≤ 128 }
     ensures items { line.new.items ≡ line.old.items ++ (label.now ++ decimal number) }
     ensures len { array_vec_len line.new ≤ array_vec_len line.old + length label.now + 20 }

@@ -3,6 +3,7 @@
 #![tactic(auto)]
 
 mod call;
+mod checking;
 mod ending;
 mod lines;
 mod listing;

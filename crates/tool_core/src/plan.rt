@@ -5,7 +5,7 @@ ghost use Rattle.tool_core.specs.Planned.{IsPlanned, FitsPlan, geometry_in};
 ghost use Rattle.tool_core.specs.Fits.{IsFitting, HoldsVolume, HasLengths};
 
 use crate::ending::Ending;
-use crate::words::{Shape, list_shape, run_shape};
+use crate::words::{Shape, check_shape, list_shape, run_shape};
 use geometry::{GeoErr, Geometry};
 use vol_mount::Part;
 
@@ -29,6 +29,8 @@ pub(crate) enum Command {
     Run(Geometry),
     /// Mounts a volume, and says its list.
     List(Geometry),
+    /// Mounts and checks a volume, and says what the check found and did.
+    Check(Geometry),
 }
 
 // Refuses a device that doesn't fit a volume.
@@ -154,9 +156,13 @@ pub(crate) fn plan(
         let g = with_room(run_geometry(shape, unit, size), lent)?;
         return Ok(Command::Run(g));
     }
-    let Some(shape) = list_shape(words) else {
+    if let Some(shape) = list_shape(words) {
+        let g = with_room(list_geometry(shape, unit, size), lent)?;
+        return Ok(Command::List(g));
+    }
+    let Some(shape) = check_shape(words) else {
         return Err(Ending::Usage);
     };
-    let g = with_room(list_geometry(shape, unit, size), lent)?;
-    Ok(Command::List(g))
+    let g = with_room(run_geometry(shape, unit, size), lent)?;
+    Ok(Command::Check(g))
 }

@@ -50,8 +50,8 @@ pub(crate) fn mount_ending(why: MountErr) -> Ending
     }
 }
 
-// How a run ends that doesn't check the volume.
-fn check_ending(why: CheckErr) -> Ending
+/// How a command ends that doesn't check the volume.
+pub(crate) fn check_ending(why: CheckErr) -> Ending
     requires { IsWritable why }
     ensures ends { result ≡ check_ends why }
     ensures later { IsLater result }

@@ -4,16 +4,18 @@ ghost use Rattle.nor_core.specs.Device.{Leaves, Says, InSay};
 ghost use Rattle.call_script.specs.Lines.{calls};
 ghost use Rattle.run_model.specs.Ran.{CutIn};
 ghost use Rattle.geometry.specs.declared.geometry.Geometry.{Geometry};
-ghost use Rattle.tool_core.specs.Headline.{IsRun, IsListing, Outcome, RanWhole, RunCut, IsExact, IsComplete};
+ghost use Rattle.tool_core.specs.Headline.{IsRun, IsListing, IsCheck, Outcome, RanWhole, RunCut, IsExact, IsComplete};
 ghost use Rattle.tool_core.specs.Outcomes.{RunsTo};
 ghost use Rattle.tool_core.specs.Plan.{refusal_of};
 ghost use Rattle.tool_core.specs.Closing.{closing_line_of};
 ghost use Rattle.tool_core.specs.Endings.{EndsAs, Refuses, RefusesIf};
 ghost use Rattle.tool_core.specs.Fits.{IsFitting, HoldsVolume, HasLengths};
 ghost use Rattle.tool_core.specs.Listing.{ListsTo, Listed, ListCut, ListExact, ReadsOnce};
+ghost use Rattle.tool_core.specs.Checking.{ChecksTo, CheckTold, CheckCut, CheckExact};
 ghost use Rattle.tool_core.specs.Later.{IsLater};
 ghost use Rattle.tool_core.specs.Lent.{lengths_of, start_of};
 
+use crate::checking::check_volume;
 use crate::ending::{Ending, closing_line};
 use crate::listing::list_volume;
 use crate::plan::{Command, Lengths, plan};
@@ -111,11 +113,25 @@ fn list_on<B: Board>(g: Geometry, board: &mut B, bufs: &mut Buffers<'_>) -> Endi
     list_volume(g, board, bufs.work, bufs.cache, bufs.check, bufs.line)
 }
 
+// Mounts and checks the volume of a board in the lent memory, and says what the check found and did.
+fn check_on<B: Board>(g: Geometry, board: &mut B, bufs: &mut Buffers<'_>) -> Ending
+    requires fits { IsFitting g (B.unit board.old) (B.size board.old) }
+    requires room { HasLengths g (lengths_of bufs.old) }
+    ensures later { IsLater result }
+    ensures no_script { result ≢ Ending.SourceFault }
+    ensures cause { result ≡ Ending.BoardFault → Rose (B.faults board.old) (B.faults board.new) }
+    ensures checks { ChecksTo B.NorState g board.old board.new result }
+    ensures few { ReadsOnce B.NorState g (length bufs.old.cache.now) board.old board.new }
+{
+    check_volume(g, board, bufs.work, bufs.cache, bufs.check)
+}
+
 /// Does the command that the words spell, on a board, and answers its status. The forms are
-/// `run PAGE BLOCK BLOCKS META MAGIC CHIP` and `list PAGE BLOCK BLOCKS META MAGIC CHIP`: the numbers in decimal
-/// digits below 2 ^ 32 without a leading zero, MAGIC `plain` or `len`, CHIP any word that isn't empty, which isn't
-/// read here. `run` mounts and checks the volume, and runs each line of the script as a call; `list` mounts it and
-/// says its files and its damaged ids, and writes nothing. It takes no memory but what is lent.
+/// `run PAGE BLOCK BLOCKS META MAGIC CHIP`, and the same with `list` or `check` in the place of `run`: the numbers in
+/// decimal digits below 2 ^ 32 without a leading zero, MAGIC `plain` or `len`, CHIP any word that isn't empty, which
+/// isn't read here. `run` mounts and checks the volume, and runs each line of the script as a call; `list` mounts it
+/// and says its files and its damaged ids, and writes nothing; `check` mounts and checks it, and says what the check
+/// found and did. It takes no memory but what is lent.
 pub fn spiffs_tool<B: Board, S: Source>(
     words: &[String],
     board: &mut B,
@@ -126,7 +142,7 @@ pub fn spiffs_tool<B: Board, S: Source>(
     ensures script_fault { result ≡ 8 → Rose (S.faults script.old) (S.faults script.new) }
     ensures board_fault { result ≡ 7 → Rose (B.faults board.old) (B.faults board.new) }
     ensures runs { refusal_of (map string_bytes words.now) (B.unit board.old) (B.size board.old) (lengths_of bufs.old) ≡ None → (g : Geometry) ×
-        (IsRun (map string_bytes words.now) (B.unit board.old) (B.size board.old) (lengths_of bufs.old) g ⊎ IsListing (map string_bytes words.now) (B.unit board.old) (B.size board.old) (lengths_of bufs.old) g) }
+        (IsRun (map string_bytes words.now) (B.unit board.old) (B.size board.old) (lengths_of bufs.old) g ⊎ (IsListing (map string_bytes words.now) (B.unit board.old) (B.size board.old) (lengths_of bufs.old) g ⊎ IsCheck (map string_bytes words.now) (B.unit board.old) (B.size board.old) (lengths_of bufs.old) g)) }
     ensures outcome { (g : Geometry) → IsRun (map string_bytes words.now) (B.unit board.old) (B.size board.old) (lengths_of bufs.old) g → S.tells script.old → B.tells board.old →
         Outcome B.NorState g board.old board.new (start_of g bufs.old (B.bytes board.old)) (S.left script.old) (S.left script.new) result }
     ensures whole { (g : Geometry) → IsRun (map string_bytes words.now) (B.unit board.old) (B.size board.old) (lengths_of bufs.old) g → S.tells script.old → B.tells board.old →
@@ -150,6 +166,15 @@ pub fn spiffs_tool<B: Board, S: Source>(
     ensures list_script { (g : Geometry) → IsListing (map string_bytes words.now) (B.unit board.old) (B.size board.old) (lengths_of bufs.old) g → script.new ≡ script.old }
     ensures list_reads { (g : Geometry) → IsListing (map string_bytes words.now) (B.unit board.old) (B.size board.old) (lengths_of bufs.old) g →
         ReadsOnce B.NorState g (length bufs.old.cache.now) board.old board.new }
+    ensures checked { (g : Geometry) → IsCheck (map string_bytes words.now) (B.unit board.old) (B.size board.old) (lengths_of bufs.old) g → B.tells board.old →
+        CheckTold B.NorState g board.old board.new result }
+    ensures check_cuts { (g : Geometry) → IsCheck (map string_bytes words.now) (B.unit board.old) (B.size board.old) (lengths_of bufs.old) g →
+        Leaves B.NorState board.old board.new (λ image count. B.tells board.old → CheckCut B.NorState g board.old board.new result image count) }
+    ensures check_exact { (g : Geometry) → IsCheck (map string_bytes words.now) (B.unit board.old) (B.size board.old) (lengths_of bufs.old) g → B.tells board.old →
+        ¬ Rose (B.faults board.old) (B.faults board.new) → CheckExact B.NorState g board.old board.new result }
+    ensures check_script { (g : Geometry) → IsCheck (map string_bytes words.now) (B.unit board.old) (B.size board.old) (lengths_of bufs.old) g → script.new ≡ script.old }
+    ensures check_reads { (g : Geometry) → IsCheck (map string_bytes words.now) (B.unit board.old) (B.size board.old) (lengths_of bufs.old) g →
+        ReadsOnce B.NorState g (length bufs.old.cache.now) board.old board.new }
 {
     match plan(words, board.unit(), board.size(), &lengths(bufs)) {
         Err(ending) => conclude(board, ending),
@@ -159,6 +184,10 @@ pub fn spiffs_tool<B: Board, S: Source>(
         }
         Ok(Command::List(g)) => {
             let ending = list_on(g, board, bufs);
+            conclude(board, ending)
+        }
+        Ok(Command::Check(g)) => {
+            let ending = check_on(g, board, bufs);
             conclude(board, ending)
         }
     }

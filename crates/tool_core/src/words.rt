@@ -1,5 +1,5 @@
 ghost use Rattle.std.specs.Prelude.{◌≡◌, ◌+◌, ◌*◌, ◌<◌, ◌≤◌, ◌^◌, length, map, string_bytes, option_copied, IfSome, Some, None};
-ghost use Rattle.tool_core.specs.Words.{volume_form, run_form, list_form, number_word, magic_word};
+ghost use Rattle.tool_core.specs.Words.{volume_form, run_form, list_form, check_form, number_word, magic_word};
 
 use call_script::parse_number;
 use geometry::MagicKind;
@@ -75,6 +75,14 @@ pub(crate) fn list_shape(words: &[String]) -> Option<Shape>
     ensures { result ≡ list_form (map string_bytes words.now) }
 {
     volume_shape(words, b"list")
+}
+
+/// The numbers that the words `check PAGE BLOCK BLOCKS META MAGIC CHIP` give, or None for other words.
+#[tactic(auto, unfolding(crate::specs::Words::check_form))]
+pub(crate) fn check_shape(words: &[String]) -> Option<Shape>
+    ensures { result ≡ check_form (map string_bytes words.now) }
+{
+    volume_shape(words, b"check")
 }
 
 // The word at a place as a number, where it is one.

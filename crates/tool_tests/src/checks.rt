@@ -1,14 +1,14 @@
 //! The check of images that cuts and other programs leave, and runs on volumes with files.
-use crate::bench::{Memory, RUN, run};
+use crate::bench::{AMPLE, Lends, Memory, RUN, formatted, program, run, run_with};
 use crate::images::{
     board_of, damaged_image, empty, put, put_data, put_header, put_hello, same, volume,
 };
-use geometry::Geometry;
+use geometry::{Geometry, MagicKind};
 use image_plain::{
     Record, damaged_of, free_blocks, holds_volume, is_tidy, killed_of, mixed_blocks,
     spoiled_blocks, table_of,
 };
-use nor_core::MemBoard;
+use nor_core::{CallKind, MemBoard, MemSource};
 use std::alloc::Global;
 use std::test::Fail;
 use vol_mount::accept;
@@ -175,6 +175,181 @@ fn damaged_images_are_checked_as_the_plain_program_reads_them(rt: HostRuntime) -
             continue;
         }
         assert!(rt; agrees(rt.alloc(), &g, &image)?, "at {seed}");
+    }
+    Ok(())
+}
+
+const CHECK: &str = "check 256 4096 16 0 len chip";
+
+// Whether a check by the command ends with that status, and says that.
+fn tells(
+    alloc: Global,
+    words: &str,
+    board: &mut MemBoard,
+    status: u8,
+    said: &str,
+) -> Result<bool, Fail> {
+    let is = run(alloc, words, board, b"create a\n")?;
+    Ok(is == status && same(board.said(), said.as_bytes()))
+}
+
+// Whether a check of this image is refused so, and writes nothing.
+fn refuses(alloc: Global, image: &[u8], status: u8, said: &str) -> Result<bool, Fail> {
+    let mut board = board_of(alloc, image)?;
+    Ok(tells(alloc, CHECK, &mut board, status, said)? && same(board.image(), image))
+}
+
+#[test]
+fn the_command_tells_what_the_check_did(rt: HostRuntime) -> Result<(), Fail> {
+    let g = volume()?;
+    let mut board = formatted(rt.alloc(), MagicKind::Length)?;
+    program(&mut board, 0, &[0xFF, 0x9F])?;
+    let said = "erased 0 killed 1 damaged 0 free 15\n";
+    assert!(rt; tells(rt.alloc(), CHECK, &mut board, 0, said)?);
+    assert_eq!(rt; board.image().get(..2), Some([0u8, 0].as_slice()));
+    let mut large = empty(rt.alloc(), &g)?;
+    put_header(&mut large, 0, 1, 0xFFFF_FFFE, b"a");
+    let mut board = board_of(rt.alloc(), &large)?;
+    let said = "erased 0 killed 1 damaged 1 free 15\n! damaged 1\n";
+    assert!(rt; tells(rt.alloc(), CHECK, &mut board, 12, said)?);
+    let mut spoiled = empty(rt.alloc(), &g)?;
+    put_hello(&mut spoiled);
+    put(&mut spoiled, 4096 * 5, &[0x12; 4096]);
+    let mut board = board_of(rt.alloc(), &spoiled)?;
+    let said = "erased 1 killed 0 damaged 0 free 14\n";
+    assert!(rt; tells(rt.alloc(), CHECK, &mut board, 0, said)?);
+    let mut tidy = board_of(rt.alloc(), board.image())?;
+    let said = "erased 0 killed 0 damaged 0 free 14\n";
+    assert!(rt; tells(rt.alloc(), CHECK, &mut tidy, 0, said)?);
+    assert!(rt; tidy.image() == board.image());
+    Ok(())
+}
+
+#[test]
+fn the_command_refuses_what_the_check_refuses(rt: HostRuntime) -> Result<(), Fail> {
+    let g = volume()?;
+    let mut image = empty(rt.alloc(), &g)?;
+    put_hello(&mut image);
+    put(&mut image, 4, &[1, 0]);
+    put(&mut image, 768, &[1, 0, 0, 0, 0xFC]);
+    assert!(rt; refuses(rt.alloc(), &image, 4, "! mixed blocks 1\n")?);
+    put(&mut image, 4096 * 5, &[0x12; 8192]);
+    let said = "! not a volume, 2 blocks without magic\n";
+    assert!(rt; refuses(rt.alloc(), &image, 3, said)?);
+    Ok(())
+}
+
+#[test]
+fn the_command_tells_that_a_volume_is_tight(rt: HostRuntime) -> Result<(), Fail> {
+    let g = Geometry::new(256, 4096, 4, 4096, 0, MagicKind::Length)?;
+    let mut image = empty(rt.alloc(), &g)?;
+    image.extend_from_slice(&vec![in rt.alloc(); 0xFFu8; 49152]?)?;
+    put_header(&mut image, 0, 1, 0xFFFF_FFFF, b"a");
+    put(&mut image, 4096, &[0, 0]);
+    put(&mut image, 8192, &[0, 0]);
+    let words = "check 256 4096 4 0 len chip";
+    let mut board = board_of(rt.alloc(), &image)?;
+    let said = "erased 0 killed 0 damaged 0 free 1\n! free blocks 1\n";
+    assert!(rt; tells(rt.alloc(), words, &mut board, 14, said)?);
+    put_header(&mut image, 0, 1, 0xFFFF_FFFE, b"a");
+    let mut board = board_of(rt.alloc(), &image)?;
+    let said = "erased 0 killed 1 damaged 1 free 1\n! damaged 1\n";
+    assert!(rt; tells(rt.alloc(), words, &mut board, 12, said)?);
+    Ok(())
+}
+
+#[test]
+fn words_and_numbers_of_a_check_are_refused(rt: HostRuntime) -> Result<(), Fail> {
+    let g = volume()?;
+    let image = empty(rt.alloc(), &g)?;
+    for (words, status, said) in [
+        ("check 256 4096 16 0 len", 1, "! usage\n"),
+        ("check 256 4096 16 0 len chip more", 1, "! usage\n"),
+        ("check 256 4096 16 0 len ", 1, "! usage\n"),
+        ("checks 256 4096 16 0 len chip", 1, "! usage\n"),
+        ("Check 256 4096 16 0 len chip", 1, "! usage\n"),
+        ("check 0256 4096 16 0 len chip", 1, "! usage\n"),
+        ("check 257 4096 16 0 len chip", 2, "! geometry 1\n"),
+        ("check 256 4096 4000 0 len chip", 2, "! geometry 7\n"),
+        ("check 256 4096 3 0 len chip", 2, "! geometry 8\n"),
+        ("check 256 4096 17 0 len chip", 2, "! geometry 10\n"),
+    ] {
+        let mut board = board_of(rt.alloc(), &image)?;
+        assert!(rt;
+            tells(rt.alloc(), words, &mut board, status, said)?,
+            "of {words}"
+        );
+        assert!(rt; board.image() == image.as_slice(), "of {words}");
+    }
+    let lends = Lends { line: 0, ..AMPLE };
+    let mut board = board_of(rt.alloc(), &image)?;
+    let mut source = MemSource::new(Vec::new(rt.alloc()));
+    assert_eq!(rt;
+        run_with(rt.alloc(), CHECK, &mut board, &mut source, &lends)?,
+        10
+    );
+    assert!(rt; board.said() == b"! short buffer line need 12288 given 0\n".as_slice());
+    Ok(())
+}
+
+#[test]
+fn a_check_whose_report_is_not_said_is_done(rt: HostRuntime) -> Result<(), Fail> {
+    let g = volume()?;
+    let mut image = empty(rt.alloc(), &g)?;
+    put(&mut image, 0, &[0xFF, 0x9F]);
+    let mut board = board_of(rt.alloc(), &image)?;
+    board.fail_nth(CallKind::Say, 1);
+    assert!(rt; tells(rt.alloc(), CHECK, &mut board, 7, "")?);
+    assert!(rt; is_tidy(rt.alloc(), &g, board.image())?);
+    let mut board = board_of(rt.alloc(), &image)?;
+    board.fail_nth(CallKind::Read, 1);
+    assert!(rt; tells(rt.alloc(), CHECK, &mut board, 7, "")?);
+    assert!(rt; board.image() == image.as_slice());
+    Ok(())
+}
+
+// What the command is to say of an image that it checks, by the plain program.
+fn wanted_of(
+    alloc: Global,
+    g: &Geometry,
+    was: &[u8],
+    now: &[u8],
+) -> Result<Option<(u8, String)>, Fail> {
+    if !holds_volume(g, was) || !holds_volume(g, now) {
+        return Ok(None);
+    }
+    let erased = if spoiled_blocks(g, was) > 0 { 1 } else { 0 };
+    let killed = killed_of(alloc, g, was)?;
+    let damaged = damaged_of(alloc, g, was)?.len();
+    let free = free_blocks(g, now);
+    let line = format!(in alloc;
+        "erased {erased} killed {killed} damaged {damaged} free {free}\n"
+    )?;
+    if damaged > 0 {
+        let both = format!(in alloc; "{line}! damaged {damaged}\n")?;
+        return Ok(Some((12, both)));
+    }
+    Ok(Some((0, line)))
+}
+
+#[test]
+fn the_command_tells_what_the_plain_program_finds(rt: HostRuntime) -> Result<(), Fail> {
+    let g = volume()?;
+    for seed in 0..20 {
+        let image = damaged_image(rt.alloc(), &g, seed)?;
+        if !holds_volume(&g, &image)
+            || spoiled_blocks(&g, &image) > 1
+            || mixed_blocks(&g, &image) > 0
+        {
+            continue;
+        }
+        let mut board = board_of(rt.alloc(), &image)?;
+        let is = run(rt.alloc(), CHECK, &mut board, b"")?;
+        let Some((status, said)) = wanted_of(rt.alloc(), &g, &image, board.image())? else {
+            continue;
+        };
+        assert_eq!(rt; is, status, "at {seed}");
+        assert!(rt; board.said() == said.as_bytes(), "at {seed}");
     }
     Ok(())
 }

@@ -1,4 +1,4 @@
-use Rattle.std.proofs.Common.{◌∙◌, Err, ap, rules}
+use Rattle.std.proofs.Common.{◌∙◌, ap, rules}
 use Rattle.geometry.specs.Numbers.{write_refusal}
 use Rattle.tool_core.proofs.Beginning.{mount_stops, mount_changes, check_stops, check_changes}
 use Rattle.tool_core.proofs.run.begin.Goals as goal
