@@ -2,6 +2,7 @@
 #![tactic(auto)]
 
 mod choice;
+mod copying;
 mod next;
 mod scores;
 mod totals;
