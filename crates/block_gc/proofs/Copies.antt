@@ -1,5 +1,5 @@
 -- The copy of an index page, from the writes that make it.
-use Rattle.std.proofs.Common.{◌≡◌, ◌≢◌, ℕ, ◌+◌, ◌*◌, ◌-◌, ◌<◌, ◌≤◌, ◌⊎◌, List, length, slice_index, get_or, Option, Some, None, true, false, ◌==◌, position, take, refl, sym, ◌∙◌, arith, ⊎_elim, inl, inr}
+use Rattle.std.proofs.Common.{◌≡◌, ◌≢◌, ℕ, ◌+◌, ◌*◌, ◌-◌, ◌<◌, ◌≤◌, ◌⊎◌, List, length, slice_index, get_or, Option, Some, None, true, false, ◌==◌, position, take, refl, sym, ◌∙◌, arith, ⊎_elim, inl, inr, length-take}
 use Rattle.std.specs.List.{All}
 use Rattle.std.specs.Prelude.{option_and_then, if◌then◌else◌}
 use Rattle.std.proofs.lemmas.List.{get_or-take}
@@ -22,7 +22,7 @@ name_by field name (Some n) at is =
     let taken : take n field ≡ name = same_Some (take n field) name (rw more at is) in
     let w = position-Some (λ (b : ℕ). b == 0) field n 0 at in
     rw (← taken) (All-from_get_or (λ (b : ℕ). b ≢ 0) (take n field) 0 (λ k within zero.
-    let low : k < n = omega (arith, within, Rattle.std.proofs.Common.length-take n field) in
+    let low : k < n = omega (arith, within, length-take n field) in
     let no : (get_or field k 0 == 0) ≡ false = w.2 k low in
     let yes : (get_or field k 0 == 0) ≡ true = eq-eqb (get_or field k 0) 0 (sym (get_or-take n field k 0 low) ∙ zero) in
     absurd (cc))))

@@ -3,3 +3,7 @@ pub mod Judged
 pub mod Firsts
 pub mod Chosen
 pub mod Copies
+pub mod Renewed
+pub mod MovedIndexes
+pub mod Building
+pub mod MoveCalls

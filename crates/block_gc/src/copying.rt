@@ -56,12 +56,20 @@ fn slots_end(g: &Geometry, span: u16, kept: u32) -> usize
     end as usize
 }
 
+// Tells that a slice holds bytes.
+fn see_bytes(bytes: &[u8])
+    ensures { (k : ℕ) → slice_index bytes.now k < 256 }
+{}
+
 // Makes an index page of that span its copy, of whose page numbers so many are kept.
 pub(crate) fn copy_index(g: &Geometry, page: &mut [u8], span: u16, kept: u32)
     requires page { length page.old ≡ g.now.page }
     requires kept { kept ≤ slots_of g.now span }
-    ensures { IsCopy g.now span kept page.old page.new }
+    ensures copy { IsCopy g.now span kept page.old page.new }
+    ensures old_bytes { (k : ℕ) → slice_index page.old k < 256 }
+    ensures new_bytes { (k : ℕ) → slice_index page.new k < 256 }
 {
+    see_bytes(page);
     erase_part(page, 5, 8);
     if span == 0 {
         pad_name(page);
