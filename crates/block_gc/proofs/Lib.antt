@@ -2,3 +2,8 @@ pub mod Rooms
 pub mod Judged
 pub mod Firsts
 pub mod Chosen
+pub mod Copies
+pub mod Renewed
+pub mod MovedIndexes
+pub mod Building
+pub mod MoveCalls

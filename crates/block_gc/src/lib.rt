@@ -2,9 +2,12 @@
 #![tactic(auto)]
 
 mod choice;
+mod copying;
+mod moving;
 mod next;
 mod scores;
 mod totals;
 
+pub use moving::move_index;
 pub use next::{are_had, choose, is_stuck};
 pub use scores::score;

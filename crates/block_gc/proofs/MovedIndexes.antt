@@ -1,0 +1,279 @@
+-- Moving an index page, from what its programs leave.
+use Rattle.std.proofs.Common.{◌≡◌, ◌≢◌, ℕ, zero, suc, ◌+◌, ◌*◌, ◌%◌, ◌<◌, ◌≤◌, ◌⊎◌, List, [], ◌∷◌, length, set, slice_index, Bool, true, false, not, ◌==◌, ◌&&◌, ◌||◌, Option, Some, None, Ok, ap, refl, sym, ◌∙◌, arith, ⊎_elim, inl, inr, subst, length-set, get_or-set_same, get_or-set_other}
+use Rattle.std.specs.Prelude.{is_some}
+use Rattle.std.specs.Int.{bit_at}
+use Rattle.std.specs.List.{range_with_len, list_any}
+use Rattle.std.proofs.lemmas.Nat.Bits.{bit_at_above}
+use Rattle.std.proofs.lemmas.Bool.{cases_lt, cases_eq, and_parts, or_cases, eq-eqb, eqb-true, agree_below_at, not-false}
+use Rattle.std.proofs.lemmas.Option.{none-some, same_Some}
+use Rattle.geometry.specs.declared.geometry.Geometry.{Geometry}
+use Rattle.nor_core.specs.Flash.{HalfProgrammed, programmed}
+use Rattle.table_model.specs.Table.{File, put_file}
+use Rattle.table_model.specs.Room.{data_pages, index_pages}
+use Rattle.image_model.specs.Within.{sizes, page_length, entry_of_block}
+use Rattle.image_model.specs.Volume.{per_block, lookups, entries}
+use Rattle.image_model.specs.Headers.{obj_id, span_of, names_index, size_of}
+use Rattle.image_model.specs.Live.{Live, live_at, own}
+use Rattle.image_model.specs.Places.{block_of, IsImage}
+use Rattle.image_model.specs.Files.{is_index, index_page, entry_number, data_of, judged}
+use Rattle.image_model.specs.Tables.{has_of, counted, table_of}
+use Rattle.image_model.specs.Tidy.{IsTidy, is_number, serves, is_free_block, free_blocks}
+use Rattle.image_model.specs.Kinds.{is_index_page, is_data_page, is_data_block}
+use Rattle.image_model.specs.Sound.{HasMagics}
+use Rattle.image_laws.specs.Flash.{Programmed}
+use Rattle.image_laws.specs.Programs.{ClearsBit}
+use Rattle.image_laws.specs.NewFile.{IsBeforeOrAfter}
+use Rattle.image_laws.specs.SoundSteps.{IsOfKind}
+use Rattle.image_laws.specs.TidySteps.{Agree}
+use Rattle.image_laws.specs.Creating.{CutOf}
+use Rattle.image_laws.specs.Put.{IsReadyPage}
+use Rattle.image_laws.specs.LiveSteps.{Finished, Kills, PutCut, KillCut, PutLeaves, PutDone, KillLeaves, KillDone}
+use Rattle.image_laws.specs.Reindex.{Reindexes}
+use Rattle.image_laws.specs.Recopy.{Recopies}
+use Rattle.image_laws.proofs.Damaged.{any_at}
+use Rattle.image_laws.proofs.Doubled.{index-span_is}
+use Rattle.image_laws.proofs.Frames.{live_parts}
+use Rattle.image_laws.proofs.FreeBlocks.{free_blocks-fall, used-is_not_free}
+use Rattle.image_laws.proofs.Judge.{found_parts, index_passes}
+use Rattle.image_laws.proofs.LiveStep.{put-changes, kill-changes}
+use Rattle.image_laws.proofs.Records.{counted-some, list_any-at}
+use Rattle.image_laws.proofs.RecopyStep.{recopy-is_sound, live4, clears4}
+use Rattle.image_laws.proofs.RecopyTidy.{recopy-tidies, put-same}
+use Rattle.image_laws.proofs.RenewStep.{live-used}
+use Rattle.image_laws.proofs.SpareKill.{spares-end, tidy-has_magics}
+use Rattle.image_laws.proofs.Tally.{counted-in, served}
+use Rattle.image_laws.proofs.TidySteps.{tidy-is_tidy}
+use Rattle.image_laws.proofs.Wanted.{some_file}
+use Rattle.image_laws.proofs.Wants.{number-is}
+use Rattle.block_gc.specs.Moves.{count_of, kept_of, IsCopy, IsCopyIn, CanMove, MoveCut, IsMovedCopy, MovedIndex}
+use Rattle.image_laws.specs.Spares.{leftover}
+use Rattle.image_laws.proofs.Finished.{torn_from}
+use Rattle.block_gc.proofs.Renewed.{finished, slot_same, renewed}
+
+-- ---- what is known of an index page of a tidy image
+
+pub some_index : (o : Option (List ℕ)) → is_index_page o ≡ true → (x : List ℕ) × (o ≡ Some x) × (names_index x ≡ true)
+some_index None h = absurd (cc)
+some_index (Some x) h = (x, refl, h)
+
+pub index_some : (o : Option (List ℕ)) (j : ℕ) → is_index o j ≡ true → (x : List ℕ) × (o ≡ Some x) × (names_index x ≡ true) × (span_of x ≡ j)
+index_some None j h = absurd (cc)
+index_some (Some x) j h = let w = and_parts _ _ h in (x, refl, w.0, eqb-true _ j w.1)
+
+-- an index page is no data page
+no_data : (o : Option (List ℕ)) (page : List ℕ) (span : ℕ) → o ≡ Some page → names_index page ≡ true → is_some (data_of o span) ≡ true → ⊥
+no_data o page span was index h = let none : is_some (data_of o span) ≡ false = rw was (rw index refl) in let bad : true ≡ false = sym h ∙ none in absurd (cc)
+
+-- so one that serves its file is the first of its span
+serves_first : (g : Geometry) (pages : Live) (head page : List ℕ) (p : ℕ) → pages p ≡ Some page → names_index page ≡ true → serves g pages head p ≡ true → index_page g pages (span_of page) ≡ Some p
+unfolding serves
+serves_first g pages head page p was index e =
+    ⊎_elim
+    (λ (yes : list_any (λ (j : ℕ). is_number (index_page g pages j) p) (range_with_len 0 (index_pages g (size_of head))) ≡ true).
+    let w = any_at (λ (j : ℕ). is_number (index_page g pages j) p) 0 (index_pages g (size_of head)) yes in
+    let is : index_page g pages w.0 ≡ Some p = number-is (index_page g pages w.0) p w.3 in
+    let passes : is_index (Some page) w.0 ≡ true = rw was at (index_passes g pages w.0 p is) in
+    ap (λ (k : ℕ). index_page g pages k) (index-span_is page w.0 passes) ∙ is)
+    (λ (yes : list_any (λ (span : ℕ). is_number (entry_number g pages head span) p && is_some (data_of (pages p) span)) (range_with_len 0 (data_pages g (size_of head))) ≡ true).
+    let w = any_at (λ (span : ℕ). is_number (entry_number g pages head span) p && is_some (data_of (pages p) span)) 0 (data_pages g (size_of head)) yes in
+    absurd (no_data (pages p) page w.0 was index (and_parts _ _ w.3).1))
+    (or_cases _ _ e)
+
+own_of : (live : Live) (p : ℕ) (x : List ℕ) → live p ≡ Some x → own live (obj_id x % 0x8000) p ≡ Some x
+unfolding own
+own_of live p x e = rw e (rw (eq-eqb (obj_id x % 0x8000) (obj_id x % 0x8000) refl) refl)
+
+-- the live pages of a block without data pages are index pages
+of_kind : (g : Geometry) (image : List ℕ) (p : ℕ) (page : List ℕ) → is_data_block g image (block_of g p) ≡ false → names_index page ≡ true → IsOfKind g (live_at g image) p page
+unfolding is_data_block
+of_kind g image p page none index = record {
+  same = λ q x is at.
+      let w = entry_of_block g q (live_parts g image q x is).entry_page in
+      let low : block_of g p * per_block g + lookups g ≤ q = rw at at w.0 in
+      let high : q < block_of g p * per_block g + lookups g + entries g = rw at at w.1 in
+      let no : is_data_page (live_at g image q) ≡ false = list_any-at (λ (r : ℕ). is_data_page (live_at g image r)) _ _ none q low high in
+      let names : not (names_index x) ≡ false = rw is at no in
+      not-false (names_index x) names ∙ sym index;
+}
+
+-- the finished flags clear FINAL alone
+clears_final : ClearsBit 1 0xFA 0xF8
+clears_final = record {
+  set = refl;
+  cleared = refl;
+  others = λ j other. ⊎_elim
+      (λ (low : j < 8).
+      let one = agree_below_at (λ (k : ℕ). (k == 1) || (bit_at 0xF8 k == bit_at 0xFA k)) (λ (k : ℕ). true) 8 j refl low in
+      ⊎_elim (λ (e : (j == 1) ≡ true). absurd (other (eqb-true j 1 e))) (λ (e : (bit_at 0xF8 j == bit_at 0xFA j) ≡ true). eqb-true _ _ e) (or_cases _ _ one))
+      (λ (high : 8 ≤ j). bit_at_above 0xF8 8 j (omega arith) high ∙ sym (bit_at_above 0xFA 8 j (omega arith) high))
+      (cases_lt j 8);
+}
+
+set_twice : (l : List ℕ) (i a b : ℕ) → set (set l i a) i b ≡ set l i b
+set_twice [] i a b = refl
+set_twice (x ∷ l) zero a b = refl
+set_twice (x ∷ l) (suc i) a b = ap (λ (t : List ℕ). x ∷ t) (set_twice l i a b)
+
+-- what the file of its id is
+pub record Home (g : Geometry) (a : List ℕ) (id : ℕ) : Type 0 where
+  pub h : ℕ
+  pub head : List ℕ
+  pub f : File
+  pub has : has_of g (live_at g a) id ≡ Some (h, Ok f)
+  pub at : index_page g (own (live_at g a) id) 0 ≡ Some h
+  pub header : own (live_at g a) id h ≡ Some head
+  pub file : judged g (own (live_at g a) id) id head ≡ Ok f
+
+home_of : (g : Geometry) (a : List ℕ) → IsImage g a → IsTidy g a → (p : ℕ) (page : List ℕ) → live_at g a p ≡ Some page → Home g a (obj_id page % 0x8000)
+unfolding has_of
+home_of g a is t p page live =
+    let yes = counted-in g a is t (obj_id page % 0x8000) p page (own_of (live_at g a) p page live) in
+    let f = some_file (counted (has_of g (live_at g a)) 0x7FFF (has_of g (live_at g a) (obj_id page % 0x8000))) yes in
+    let w = counted-some (has_of g (live_at g a)) 0x7FFF (has_of g (live_at g a) (obj_id page % 0x8000)) f.0 f.1 in
+    let v = found_parts g (own (live_at g a) (obj_id page % 0x8000)) (obj_id page % 0x8000) w.0 (Ok f.0) w.1 in
+    record { h = w.0; head = v.0; f = f.0; has = w.1; at = v.1; header = v.2; file = v.3 }
+
+-- ---- the step
+
+module _ (g : Geometry) (a0 : List ℕ) (o p : ℕ) (is : IsImage g a0) (can : CanMove g a0 o p) (old y : List ℕ) (live : live_at g a0 o ≡ Some old) (small : (k : ℕ) → k < g.page → slice_index y k < 256)
+    (copy : IsCopyIn g a0 old y) (kill : ℕ) (clears : ClearsBit 7 (slice_index a0 (o * g.page + 4)) kill) where
+  abbrev id : ℕ
+  id = obj_id old % 0x8000
+
+  abbrev page : List ℕ
+  page = set y 4 0xFA
+
+  abbrev new : List ℕ
+  new = set (set y 4 0xFA) 4 0xF8
+
+  pub index : names_index old ≡ true
+  index = let w = some_index (live_at g a0 o) can.index in ap names_index (same_Some old w.0 (sym live ∙ w.1)) ∙ w.2
+
+  home : Home g a0 id
+  home = home_of g a0 is can.tidy o old live
+
+  mine : own (live_at g a0) id o ≡ Some old
+  mine = own_of (live_at g a0) o old live
+
+  pub len : length old ≡ g.page
+  len = let w = live_parts g a0 o old live in ap length (sym w.bytes) ∙ page_length g a0 o is w.entry_page
+
+  y_len : length y ≡ g.page
+  y_len = copy.size ∙ len
+
+  sets : new ≡ set y 4 0xF8
+  sets = set_twice y 4 0xFA 0xF8
+
+  first : index_page g (own (live_at g a0) id) (span_of old) ≡ Some o
+  first = serves_first g (own (live_at g a0) id) home.head old o mine index (served g a0 is can.tidy id home.h home.head home.at home.header o old mine)
+
+  alone : (r : ℕ) → is_index (own (live_at g a0) id r) (span_of old) ≡ true → r ≡ o
+  alone r passes =
+      let x = index_some (own (live_at g a0) id r) (span_of old) passes in
+      let w : index_page g (own (live_at g a0) id) (span_of x.0) ≡ Some r = serves_first g (own (live_at g a0) id) home.head x.0 r x.1 x.2 (served g a0 is can.tidy id home.h home.head home.at home.header r x.0 x.1) in
+      same_Some r o (sym w ∙ ap (λ (k : ℕ). index_page g (own (live_at g a0) id) k) x.3 ∙ first)
+
+  count : count_of g a0 id ≡ data_pages g (size_of home.head)
+  unfolding count_of
+  count = rw (home.at) (rw (home.header) refl)
+
+  pages : (head' : List ℕ) × Reindexes g (own (live_at g a0) id) id o home.h old new home.head head' home.f home.f
+  pages = renewed g old y new (count_of g a0 id) copy sets len (own (live_at g a0) id) id o home.h home.head home.f mine first alone index refl home.at home.header home.file count
+
+  pub ready : IsReadyPage g page 0xF8
+  ready =
+      let big : 128 ≤ g.page = (sizes g).page in
+      let four : slice_index page 4 ≡ 0xFA = get_or-set_same y 4 0xFA 0 (omega (arith, big, y_len)) in
+      record {
+        len = length-set y 4 0xFA ∙ y_len;
+        bytes = λ i within. ⊎_elim
+            (λ (here : i ≡ 4). rw here (rw four (omega arith)))
+            (λ (there : i ≡ 4 → ⊥). rw (get_or-set_other y 4 i 0xFA 0 there) (small i within))
+            (cases_eq i 4);
+        clears = rw four clears_final;
+        finished = finished g old y new (count_of g a0 id) copy sets len index (live_parts g a0 o old live).finished;
+      }
+
+  start : Recopies g a0 p o id home.h old page home.head pages.0 0xF8 kill home.f home.f
+  start = record {
+    image = is;
+    undamaged = can.tidy.undamaged;
+    free = can.free;
+    ready = ready;
+    kind = of_kind g a0 p new can.kind pages.1.new_index;
+    pages = pages.1;
+    clears = clears;
+  }
+
+  pub magics : HasMagics g a0
+  magics = tidy-has_magics g a0 (λ (r : ℕ). false) ((tidy-is_tidy g a0 (λ (r : ℕ). false)).0 can.tidy)
+
+  same_table : put_file home.f (table_of g a0) ≡ table_of g a0
+  same_table = put-same g a0 id home.h home.f can.tidy.undamaged home.has
+
+  module _ (a1 a2 a3 a4 a5 a6 : List ℕ) (put : Finished g p page 0xF8 a0 a1 a2 a3 a4) where
+    pub put_law : ((c : List ℕ) → PutCut g p page 0xF8 a0 a1 a2 a3 c → PutLeaves g p new a0 c) × PutDone g p new a0 a4
+    put_law = put-changes g a0 a1 a2 a3 a4 p page 0xF8 is can.free ready put
+
+    there : live_at g a4 o ≡ Some old
+    there = live4 g a0 p o id home.h old page home.head pages.0 0xF8 kill home.f home.f start a4 put_law.1.gains
+
+    -- a cut in any program, by the free blocks that it leaves
+    cut_by : (c : List ℕ) → CutOf g a0 home.f c → free_blocks g a0 ≤ free_blocks g c + 1 → (is_free_block g a0 (block_of g p) ≡ false → free_blocks g a0 ≤ free_blocks g c) → MoveCut g p a0 c
+    cut_by c cut free used = record {
+      keeps = record {
+        sound = cut.sound;
+        table = ⊎_elim
+            (λ (x : table_of g c ≡ table_of g a0). x)
+            (λ (x : table_of g c ≡ put_file home.f (table_of g a0)). x ∙ same_table)
+            cut.table;
+      };
+      free = free;
+      used = used;
+    }
+
+    module _ (kills : Kills g o kill a4 a5 a6) where
+      kill_law : ((c : List ℕ) → KillCut g o kill a4 a5 c → KillLeaves g o a4 c) × KillDone g o a4 a6
+      kill_law = kill-changes g a4 a5 a6 o kill old put_law.1.image there (clears4 g a0 p o id home.h old page home.head pages.0 0xF8 kill home.f home.f start a4 put_law.1) kills
+
+      pub placing_left : (c : List ℕ) → PutCut g p page 0xF8 a0 a1 a2 a3 c → MoveCut g p a0 c
+      placing_left c cut =
+          let law = recopy-is_sound g a0 a1 a2 a3 a4 a5 a6 c p o id home.h old page home.head pages.0 0xF8 kill home.f home.f start magics put kills (inl cut) in
+          let fall = free_blocks-fall g a0 c p (put_law.0 c cut).agree in
+          cut_by c law.0 fall.0 fall.1
+
+      -- the free blocks after any change of the old page
+      free_after : (c : List ℕ) → Agree g a4 c o → (free_blocks g a0 ≤ free_blocks g c + 1) × (is_free_block g a0 (block_of g p) ≡ false → free_blocks g a0 ≤ free_blocks g c)
+      free_after c agree =
+          let one = free_blocks-fall g a0 a4 p put_law.1.agree in
+          let two : free_blocks g a4 ≤ free_blocks g c = (free_blocks-fall g a4 c o agree).1 (used-is_not_free g a4 o (live_parts g a4 o old there).entry_page (live-used g a4 o old there)) in
+          (let first = one.0 in omega arith, λ used. let same = one.1 used in omega arith)
+
+      pub killing_left : (c : List ℕ) → KillCut g o kill a4 a5 c → MoveCut g p a0 c
+      killing_left c cut =
+          let law = recopy-is_sound g a0 a1 a2 a3 a4 a5 a6 c p o id home.h old page home.head pages.0 0xF8 kill home.f home.f start magics put kills (inr cut) in
+          let free = free_after c (kill_law.0 c cut).agree in
+          cut_by c law.0 free.0 free.1
+
+      pub moved_done : MovedIndex g o p a0 a6
+      moved_done =
+          let put' = put_law.1 in
+          let last = kill_law.1 in
+          let apart : p ≢ o = λ e. none-some old (sym put'.gains.before ∙ ap (live_at g a0) e ∙ live) in
+          let tidied = recopy-tidies g a0 a1 a2 a3 a4 a5 a6 p o id home.h old page home.head pages.0 0xF8 kill home.f home.f (λ (r : ℕ). false) (λ (r : ℕ). false) start put kills ((tidy-is_tidy g a0 (λ (r : ℕ). false)).0 can.tidy)
+          (record {
+            named = λ r e. absurd (cc);
+            left = λ t below at. inl (slot_same g old y new (count_of g a0 id) copy sets len t (omega (arith, below, count)) at);
+          }) in
+          record {
+            cut = killing_left a6 (inr (torn_from _ _ _ _ kills.clear));
+            tidy = spares-end g a6 (λ (r : ℕ). false && leftover g (own (live_at g a6) id) pages.0 r) (λ r e. absurd (cc)) tidied.0;
+            table = tidied.1 ∙ same_table;
+            gone = last.loses.after;
+            killed = last.zero;
+            moved = record { old = old; copy = y; was_live = live; copied = copy; is_live = last.loses.others p apart ∙ put'.gains.after ∙ ap (λ (l : List ℕ). Some l) sets };
+            magic = λ c. last.agree.magic c ∙ put'.agree.magic c;
+            entries = λ q inside gone new'. last.agree.entry q inside gone ∙ put'.agree.entry q inside new';
+            pages = λ q inside gone new'. last.agree.page q inside gone ∙ put'.agree.page q inside new';
+            live = λ q gone new'. last.loses.others q gone ∙ put'.gains.others q new';
+          }

@@ -1,0 +1,114 @@
+// Moving one index page out of a block, the step of which the cleaning of an index block consists.
+ghost use Rattle.std.specs.Prelude.{◌≡◌, ◌+◌, ◌-◌, ◌^◌, ◌<◌, ◌≤◌, OnErr, OnOk, IfOk, true};
+ghost use Rattle.geometry.specs.Numbers.{page_count};
+ghost use Rattle.table_model.specs.Room.{data_pages as the_data_pages};
+ghost use Rattle.nor_core.specs.Count.{Rose};
+ghost use Rattle.nor_core.specs.Device.{Changes};
+ghost use Rattle.image_model.specs.Kinds.{is_index_page};
+ghost use Rattle.image_model.specs.Live.{live_at};
+ghost use Rattle.image_model.specs.Headers.{size_of};
+ghost use Rattle.image_model.specs.Places.{page_of};
+ghost use Rattle.flash_view.specs.Places.{IsEntryPage};
+ghost use Rattle.flash_view.specs.Same.{IsSameView, OnlyLooks};
+ghost use Rattle.block_gc.specs.Moves.{count_of, CanMove, MoveCut, MovedIndex};
+ghost use Rattle.block_gc.specs.Built.{IsBuilt};
+
+use crate::copying::{copy_index, kept_slots};
+use flash_view::{Kind, View};
+use geometry::Geometry;
+use nor_core::{Failed, Nor, NorState};
+use page_layout::file_size;
+use page_put::{finish, kill, place};
+use table_model::Tag;
+
+// Data pages of a file of that size.
+fn data_pages(g: &Geometry, size: u32) -> u32
+    ensures { result ≡ the_data_pages g.now size }
+{
+    let body = u64::from(g.body());
+    ((u64::from(size) + body - 1) / body) as u32
+}
+
+// The size in bytes that a header page tells.
+fn size_at<N: Nor>(v: &mut View<'_, N>, header: u16) -> Result<u32, Failed>
+    requires { header < page_count v.old.geometry }
+    ensures cause { OnErr result (Rose (N.faults v.old.nor.now) (N.faults v.new.nor.now)) }
+    ensures looks { OnlyLooks v.old v.new }
+    ensures told { N.tells v.old.nor.now → IfOk result (λ size. size ≡ size_of (page_of v.old.geometry (N.bytes v.old.nor.now) header)) }
+{
+    v.fetch(header)?;
+    Ok(file_size(v.fetched()))
+}
+
+// How many data pages the file of an id has by its header page.
+#[tactic(auto, using(flash_view::proofs::Looking::looks_then))]
+fn count_at<N: Nor>(v: &mut View<'_, N>, id: u16) -> Result<u32, Failed>
+    ensures cause { OnErr result (Rose (N.faults v.old.nor.now) (N.faults v.new.nor.now)) }
+    ensures looks { OnlyLooks v.old v.new }
+    ensures told { N.tells v.old.nor.now → IfOk result (λ count. count ≡ count_of v.old.geometry (N.bytes v.old.nor.now) id) }
+{
+    let Some(header) = v.find_index(id, 0)? else {
+        return Ok(0);
+    };
+    let size = size_at(v, header)?;
+    Ok(data_pages(&v.geometry, size))
+}
+
+// Builds the copy of an index page: its id without bit 15, and its span.
+#[tactic(auto, using(flash_view::proofs::Looking::looks_then))]
+fn build_copy<N: Nor>(v: &mut View<'_, N>, page: u16) -> Result<Tag, Failed>
+    requires page { page < page_count v.old.geometry }
+    ensures cause { OnErr result (Rose (N.faults v.old.nor.now) (N.faults v.new.nor.now)) }
+    ensures looks { OnlyLooks v.old v.new }
+    ensures told { N.tells v.old.nor.now → is_index_page (live_at v.old.geometry (N.bytes v.old.nor.now) page) ≡ true → IfOk result (λ tag. IsBuilt v.old.geometry (N.bytes v.old.nor.now) page tag v.new.work.now) }
+{
+    let head = v.header(page)?;
+    let id = head.object();
+    let span = head.span;
+    let count = count_at(v, id)?;
+    v.load(page)?;
+    let g = v.geometry;
+    let kept = kept_slots(&g, span, count);
+    let len = g.page() as usize;
+    let work = &mut *v.work;
+    copy_index(&g, &mut work[..len], span, kept);
+    Ok(Tag { id, span })
+}
+
+// Puts the copy that was built, and kills the page: six programs.
+#[tactic(auto, using(flash_view::proofs::Looking::same_then))]
+fn put_copy<N: Nor>(v: &mut View<'_, N>, page: u16, to: u16, tag: Tag) -> Result<(), Failed>
+    requires page { IsEntryPage v.old.geometry page }
+    requires to { IsEntryPage v.old.geometry to }
+    requires id { (1 ≤ tag.id) × (tag.id ≤ 0x7FFE) }
+    requires built { N.tells v.old.nor.now → CanMove v.old.geometry (N.bytes v.old.nor.now) page to → IsBuilt v.old.geometry (N.bytes v.old.nor.now) page tag v.old.work.now }
+    ensures cause { OnErr result (Rose (N.faults v.old.nor.now) (N.faults v.new.nor.now)) }
+    ensures faults { N.faults v.old.nor.now ≤ N.faults v.new.nor.now }
+    ensures same { IsSameView v.old v.new }
+    ensures wrote { v.new.wrote ≡ true }
+    ensures changes { Changes N.NorState v.old.nor.now v.new.nor.now (λ was image. CanMove v.old.geometry was page to → MoveCut v.old.geometry to was image) }
+    ensures done { N.tells v.old.nor.now → CanMove v.old.geometry (N.bytes v.old.nor.now) page to → OnOk result (MovedIndex v.old.geometry page to (N.bytes v.old.nor.now) (N.bytes v.new.nor.now)) }
+{
+    place(v, to, Kind::Index, tag)?;
+    finish(v, to)?;
+    kill(v, page)
+}
+
+/// Moves an index page: a copy of it is put at `to`, and the old page is killed. A cut leaves the table as it is. Where
+/// the page has no id of a file nothing is moved.
+#[tactic(auto, using(flash_view::proofs::Looking::same_then))]
+pub fn move_index<N: Nor>(v: &mut View<'_, N>, page: u16, to: u16) -> Result<(), Failed>
+    requires page { IsEntryPage v.old.geometry page }
+    requires to { IsEntryPage v.old.geometry to }
+    ensures cause { OnErr result (Rose (N.faults v.old.nor.now) (N.faults v.new.nor.now)) }
+    ensures faults { N.faults v.old.nor.now ≤ N.faults v.new.nor.now }
+    ensures same { IsSameView v.old v.new }
+    ensures changes { Changes N.NorState v.old.nor.now v.new.nor.now (λ was image. CanMove v.old.geometry was page to → MoveCut v.old.geometry to was image) }
+    ensures done { N.tells v.old.nor.now → CanMove v.old.geometry (N.bytes v.old.nor.now) page to → OnOk result (MovedIndex v.old.geometry page to (N.bytes v.old.nor.now) (N.bytes v.new.nor.now)) }
+{
+    let tag = build_copy(v, page)?;
+    if tag.id == 0 || tag.id > 0x7FFE {
+        return Ok(());
+    }
+    put_copy(v, page, to, tag)
+}
