@@ -1,6 +1,5 @@
 -- The copy of an index page in the bytes for work.
-use Rattle.std.proofs.Common.{◌≡◌, ℕ, ◌+◌, ◌-◌, ◌*◌, ◌/◌, ◌%◌, ◌<◌, ◌≤◌, List, [], ◌∷◌, ◌++◌, length, take, drop, set, slice_index, get_or, Bool, true, false, not, ◌==◌, Option, Some, None, ap, refl, sym, ◌∙◌, arith, subst, length-take}
-use Rattle.std.proofs.lemmas.Bool.{and_parts}
+use Rattle.std.proofs.Common.{◌≡◌, ℕ, ◌+◌, ◌-◌, ◌*◌, ◌/◌, ◌%◌, ◌<◌, ◌≤◌, List, ◌∷◌, ◌++◌, length, take, drop, set, slice_index, get_or, true, Some, None, ap, refl, sym, ◌∙◌, arith, subst}
 use Rattle.std.proofs.Math.Nat.{div-eq_of_lt}
 use Rattle.std.proofs.lemmas.List.{drop-take, drop_more, take_at, get_or-take, get_or_append_left}
 use Rattle.geometry.specs.declared.geometry.Geometry.{Geometry}

@@ -1,5 +1,5 @@
 -- The copy of an index page, from the writes that make it.
-use Rattle.std.proofs.Common.{◌≡◌, ◌≢◌, ℕ, ◌+◌, ◌*◌, ◌-◌, ◌<◌, ◌≤◌, ◌⊎◌, List, length, slice_index, get_or, Option, Some, None, true, false, ◌==◌, position, take, refl, sym, ◌∙◌, arith, ⊎_elim, inl, inr, length-take}
+use Rattle.std.proofs.Common.{◌≡◌, ◌≢◌, ℕ, ◌+◌, ◌*◌, ◌-◌, ◌<◌, ◌≤◌, List, slice_index, get_or, Option, Some, None, true, false, ◌==◌, position, take, refl, sym, ◌∙◌, arith, ⊎_elim, inl, inr, length-take}
 use Rattle.std.specs.List.{All}
 use Rattle.std.specs.Prelude.{option_and_then, if◌then◌else◌}
 use Rattle.std.proofs.lemmas.List.{get_or-take}

@@ -1,5 +1,5 @@
 -- Moving an index page, over a device.
-use Rattle.std.proofs.Common.{◌≡◌, ◌≢◌, ℕ, ◌+◌, ◌*◌, ◌%◌, ◌<◌, ◌≤◌, ◌⊎◌, List, [], ◌∷◌, length, take, set, slice_index, true, false, Some, ap, refl, sym, ◌∙◌, arith, inl, inr, subst, length-set, get_or-set_same}
+use Rattle.std.proofs.Common.{◌≡◌, ◌≢◌, ℕ, ◌+◌, ◌*◌, ◌%◌, ◌<◌, ◌≤◌, List, [], ◌∷◌, length, take, set, slice_index, true, false, ap, sym, ◌∙◌, arith, inl, inr, subst, length-set, get_or-set_same}
 use Rattle.std.specs.Prelude.{bit_and}
 use Rattle.std.proofs.lemmas.List.{get_or-take}
 use Rattle.std.proofs.lemmas.Option.{none-some}
@@ -13,7 +13,7 @@ use Rattle.flash_view.specs.declared.kinds.Kind.TheVariants.{Index}
 use Rattle.image_model.specs.Within.{sizes}
 use Rattle.image_model.specs.Headers.{obj_id}
 use Rattle.image_model.specs.Live.{live_at}
-use Rattle.image_model.specs.Places.{page_of, IsImage}
+use Rattle.image_model.specs.Places.{IsImage}
 use Rattle.image_laws.specs.Flash.{Programmed}
 use Rattle.image_laws.specs.Programs.{ClearsBit}
 use Rattle.image_laws.specs.Creating.{Placed}

@@ -1,5 +1,5 @@
 -- Moving an index page, from what its programs leave.
-use Rattle.std.proofs.Common.{◌≡◌, ◌≢◌, ℕ, zero, suc, ◌+◌, ◌*◌, ◌%◌, ◌<◌, ◌≤◌, ◌⊎◌, List, [], ◌∷◌, length, set, slice_index, Bool, true, false, not, ◌==◌, ◌&&◌, ◌||◌, Option, Some, None, Ok, ap, refl, sym, ◌∙◌, arith, ⊎_elim, inl, inr, subst, length-set, get_or-set_same, get_or-set_other}
+use Rattle.std.proofs.Common.{◌≡◌, ◌≢◌, ℕ, zero, suc, ◌+◌, ◌*◌, ◌%◌, ◌<◌, ◌≤◌, List, [], ◌∷◌, length, set, slice_index, true, false, not, ◌==◌, ◌&&◌, ◌||◌, Option, Some, None, Ok, ap, refl, sym, ◌∙◌, arith, ⊎_elim, inl, inr, length-set, get_or-set_same, get_or-set_other}
 use Rattle.std.specs.Prelude.{is_some}
 use Rattle.std.specs.Int.{bit_at}
 use Rattle.std.specs.List.{range_with_len, list_any}
@@ -7,7 +7,6 @@ use Rattle.std.proofs.lemmas.Nat.Bits.{bit_at_above}
 use Rattle.std.proofs.lemmas.Bool.{cases_lt, cases_eq, and_parts, or_cases, eq-eqb, eqb-true, agree_below_at, not-false}
 use Rattle.std.proofs.lemmas.Option.{none-some, same_Some}
 use Rattle.geometry.specs.declared.geometry.Geometry.{Geometry}
-use Rattle.nor_core.specs.Flash.{HalfProgrammed, programmed}
 use Rattle.table_model.specs.Table.{File, put_file}
 use Rattle.table_model.specs.Room.{data_pages, index_pages}
 use Rattle.image_model.specs.Within.{sizes, page_length, entry_of_block}
@@ -20,9 +19,7 @@ use Rattle.image_model.specs.Tables.{has_of, counted, table_of}
 use Rattle.image_model.specs.Tidy.{IsTidy, is_number, serves, is_free_block, free_blocks}
 use Rattle.image_model.specs.Kinds.{is_index_page, is_data_page, is_data_block}
 use Rattle.image_model.specs.Sound.{HasMagics}
-use Rattle.image_laws.specs.Flash.{Programmed}
 use Rattle.image_laws.specs.Programs.{ClearsBit}
-use Rattle.image_laws.specs.NewFile.{IsBeforeOrAfter}
 use Rattle.image_laws.specs.SoundSteps.{IsOfKind}
 use Rattle.image_laws.specs.TidySteps.{Agree}
 use Rattle.image_laws.specs.Creating.{CutOf}
@@ -45,7 +42,7 @@ use Rattle.image_laws.proofs.Tally.{counted-in, served}
 use Rattle.image_laws.proofs.TidySteps.{tidy-is_tidy}
 use Rattle.image_laws.proofs.Wanted.{some_file}
 use Rattle.image_laws.proofs.Wants.{number-is}
-use Rattle.block_gc.specs.Moves.{count_of, kept_of, IsCopy, IsCopyIn, CanMove, MoveCut, IsMovedCopy, MovedIndex}
+use Rattle.block_gc.specs.Moves.{count_of, IsCopyIn, CanMove, MoveCut, MovedIndex}
 use Rattle.image_laws.specs.Spares.{leftover}
 use Rattle.image_laws.proofs.Finished.{torn_from}
 use Rattle.block_gc.proofs.Renewed.{finished, slot_same, renewed}

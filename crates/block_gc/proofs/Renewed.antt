@@ -1,8 +1,8 @@
 -- The finished copy of an index page leads to what the page leads to.
 use Rattle.std.proofs.Common.{◌≡◌, ◌≢◌, ℕ, ◌+◌, ◌-◌, ◌*◌, ◌/◌, ◌%◌, ◌<◌, ◌≤◌, ◌⊎◌, List, [], length, min, set, slice_index, slice_range, Bool, true, false, not, ◌==◌, Option, Some, None, Ok, ap, refl, sym, ◌∙◌, arith, ⊎_elim, inl, inr, subst, length-set, get_or-set_same, get_or-set_other}
-use Rattle.std.specs.Prelude.{is_some, is_none, option_and_then, unwrap_or, nat_lt}
+use Rattle.std.specs.Prelude.{is_some, is_none, unwrap_or, nat_lt}
 use Rattle.std.proofs.Math.Nat.{div-add-mod}
-use Rattle.std.proofs.lemmas.Bool.{cases_lt, cases_eq, cases_Bool, lt-ltb, le-ltb, ne_eqb, eq-eqb, eqb-true}
+use Rattle.std.proofs.lemmas.Bool.{cases_lt, cases_eq, lt-ltb, le-ltb, ne_eqb, eq-eqb}
 use Rattle.std.proofs.lemmas.Option.{same_Some}
 use Rattle.geometry.specs.declared.geometry.Geometry.{Geometry}
 use Rattle.geometry.specs.Numbers.{head_slots, span_slots}
@@ -13,7 +13,7 @@ use Rattle.page_layout.proofs.Stays.{name_stays}
 use Rattle.image_model.specs.Within.{sizes}
 use Rattle.image_model.specs.Headers.{word_at, obj_id, span_of, names_index, is_finished, size_of, name_of}
 use Rattle.image_model.specs.Live.{Live}
-use Rattle.image_model.specs.Files.{is_index, index_page, further, entry_number, data_of, data_page, judged, first_missing}
+use Rattle.image_model.specs.Files.{is_index, index_page, further, entry_number, data_page, judged}
 use Rattle.image_laws.specs.Reindex.{Reindexes, index_span, slot_word, now_data, now_bytes}
 use Rattle.image_laws.proofs.Append.{find-all}
 use Rattle.image_laws.proofs.Finish.{is_finished-zero}
@@ -185,8 +185,10 @@ module _ (g : Geometry) (old y new : List ℕ) (count : ℕ) (copy : IsCopy g (s
         ⊎_elim
         (λ (zero : span_of old ≡ 0).
         let place : o ≡ h = same_Some o h (sym first ∙ ap (index_page g pages) zero ∙ at) in
-        let same : old ≡ head = same_Some old head (sym was ∙ ap pages place ∙ header) in
-        (new, reindexed new (λ z. refl) (λ more. absurd (more zero)) (same_size zero ∙ ap size_of same) (same_name zero ∙ ap name_of same) (same_kind zero ∙ ap (λ (x : List ℕ). slice_index x 12) same)
-        (same_meta zero ∙ ap (λ (x : List ℕ). slice_range x 45 (45 + g.meta)) same)))
+        let same : old ≡ head = same_Some old head (sym was ∙ ap pages place ∙ header) in (
+          new,
+          reindexed new (λ z. refl) (λ more. absurd (more zero)) (same_size zero ∙ ap size_of same) (same_name zero ∙ ap name_of same) (same_kind zero ∙ ap (λ (x : List ℕ). slice_index x 12) same)
+              (same_meta zero ∙ ap (λ (x : List ℕ). slice_range x 45 (45 + g.meta)) same),
+        ))
         (λ (more : span_of old ≡ 0 → ⊥). (head, reindexed head (λ zero. absurd (more zero)) (λ m. refl) refl refl refl refl))
         (cases_eq (span_of old) 0)

@@ -1,4 +1,3 @@
-use Rattle.std.proofs.Common.{sym}
 use Rattle.block_gc.proofs.Copies.{further_copy, header_copy}
 use Rattle.block_gc.proofs.copying.copy_index.Goals.{then-span-eq0, else-span-eq0}
 use Rattle.block_gc.proofs.copying.copy_index.Goals as goal

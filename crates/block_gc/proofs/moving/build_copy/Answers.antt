@@ -1,6 +1,5 @@
-use Rattle.std.proofs.Common.{sym, ◌∙◌, drop, ap}
+use Rattle.std.proofs.Common.{drop}
 use Rattle.flash_view.proofs.Looking.{looks_then}
-use Rattle.block_gc.specs.Moves.{kept_of}
 use Rattle.block_gc.proofs.Building.{built_by}
 use Rattle.block_gc.proofs.moving.build_copy.Goals as goal
 
