@@ -300,6 +300,7 @@ fn a_check_whose_report_is_not_said_is_done(rt: HostRuntime) -> Result<(), Fail>
     let mut board = board_of(rt.alloc(), &image)?;
     board.fail_nth(CallKind::Say, 1);
     assert!(rt; tells(rt.alloc(), CHECK, &mut board, 7, "")?);
+    assert!(rt; holds_volume(&g, board.image()));
     assert!(rt; is_tidy(rt.alloc(), &g, board.image())?);
     let mut board = board_of(rt.alloc(), &image)?;
     board.fail_nth(CallKind::Read, 1);
