@@ -45,33 +45,6 @@ fn a_volume_fails_where_a_program_fails(rt: HostRuntime) -> Result<(), Fail> {
 }
 
 #[test]
-fn a_volume_stands_where_a_read_fails(rt: HostRuntime) -> Result<(), Fail> {
-    let mut failed = 0;
-    for nth in 1..=120 {
-        let mut board = formatted(rt.alloc(), MagicKind::Length)?;
-        board.fail_nth(CallKind::Read, nth);
-        let g = Geometry::new(256, 4096, 16, 4096, 0, MagicKind::Length)?;
-        let mut memory = Memory::new(rt.alloc())?;
-        let lent = memory.lend();
-        accept(&g, &board, &lent)?;
-        let mut volume = Volume::new(g, &mut board, lent);
-        if volume.mount().is_err() || volume.check().is_err() {
-            continue;
-        }
-        let answer = volume.create(b"a");
-        if answer.is_ok() {
-            continue;
-        }
-        failed += 1;
-        assert_eq!(rt; answer, Err(FsErr::DeviceFault));
-        assert!(rt; !volume.has_failed());
-        assert_eq!(rt; volume.create(b"a"), Ok(()));
-    }
-    assert!(rt; failed > 0);
-    Ok(())
-}
-
-#[test]
 fn a_torn_entry_is_killed_by_the_check(rt: HostRuntime) -> Result<(), Fail> {
     let mut board = formatted(rt.alloc(), MagicKind::Length)?;
     program(&mut board, 0, &[0xFF, 0x9F])?;
