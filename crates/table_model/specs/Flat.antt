@@ -40,6 +40,7 @@ full_answer g spare s (SetsMetaOpen fd meta) = answer_fmeta g spare s fd meta
 -- the calls that this build has
 abbrev pub is_built : Ask → Bool
 is_built (Creates name) = true
+is_built (Removes name) = true
 is_built (Stats name) = true
 is_built (NextAbove after) = true
 is_built Informs = true
