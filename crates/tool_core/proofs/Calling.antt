@@ -8,22 +8,22 @@ use Rattle.table_model.specs.Table.{File, State, has_name, file_named}
 use Rattle.table_model.specs.declared.error.FsErr.{FsErr}
 use Rattle.table_model.specs.declared.error.FsErr.TheVariants.{ConflictingName, DeviceFault, Damaged, Unbuilt}
 use Rattle.table_model.specs.declared.error.Differ.{Differ}
-use Rattle.table_model.specs.Ask.{Ask, Creates, Tells, Stats, NextAbove, Informs}
+use Rattle.table_model.specs.Ask.{Ask, Creates, Removes, Tells, Stats, NextAbove, Informs}
 use Rattle.table_model.specs.Reply.{Answer, Refuses, Shows}
 use Rattle.table_model.specs.Outcome.{Outcome, refused, gives, unless, page_refusal, on_found, on_name}
 use Rattle.table_model.specs.Names.{is_bad_name, is_long_name, name_refusal}
 use Rattle.table_model.specs.Room.{has_room}
 use Rattle.std.specs.Prelude.{not}
 use Rattle.image_model.specs.Collect.{are_had}
-use Rattle.table_model.specs.Files.{created, stat_of}
-use Rattle.table_model.specs.Calls.{answer_create, answer_stat, answer_next}
+use Rattle.table_model.specs.Files.{created, stat_of, without}
+use Rattle.table_model.specs.Calls.{answer_create, answer_remove, answer_stat, answer_next}
 use Rattle.table_model.specs.Flat.{is_built, full_answer, answer}
 use Rattle.table_model.specs.Steps.{is_refusal, done_steps, steps}
 use Rattle.table_model.specs.Window.{Moment, Waiting, settled_at, incoming_of, continues, after, from_settled}
 use Rattle.image_model.specs.Tables.{table_of}
 use Rattle.table_model.specs.Ask.{asked}
 use Rattle.table_model.specs.declared.call.Call.{Call}
-use Rattle.table_model.specs.declared.call.Call.TheVariants.{Create, StatName, Next, GetInfo}
+use Rattle.table_model.specs.declared.call.Call.TheVariants.{Create, Remove, StatName, Next, GetInfo}
 use Rattle.table_model.specs.declared.reply.Reply.{Reply}
 use Rattle.table_model.specs.declared.reply.Reply.TheVariants.{Done, Refusal}
 use Rattle.table_model.specs.Reply.{Fine, answered}
@@ -32,7 +32,8 @@ use Rattle.run_model.specs.Safe.{IsSafe, IsAt}
 use Rattle.run_model.specs.Ran.{Stands, Publishes, Answers}
 use Rattle.run_model.proofs.Runs.{is_settled}
 use Rattle.run_model.proofs.Safety.{stays}
-use Rattle.volume.specs.Answers.{IsReady, CreateCuts, CreateAnswers, StatAnswers, NextAnswers, InfoAnswers}
+use Rattle.volume.specs.Answers.{IsReady, StepCuts, CreateAnswers, StatAnswers, NextAnswers, InfoAnswers}
+use Rattle.volume.specs.Removes.{RemoveAnswers}
 use Rattle.tool_core.specs.Turns.{DoesCall, refused_as, not_created_as}
 
 -- a call that is no write continues nothing
@@ -48,6 +49,7 @@ either false x y e = e
 pub after_built : (g : Geometry) (m : Moment) (ask : Ask) → is_built ask ≡ true → after g true m ask ≡ settled_at (answer g true m.state ask).next
 unfolding after incoming_of
 after_built g m (Creates name) built = either (is_refusal (answer g true m.state (Creates name)).answer) _ _ (rw (goes_on_none g m.window) refl)
+after_built g m (Removes name) built = either (is_refusal (answer g true m.state (Removes name)).answer) _ _ (rw (goes_on_none g m.window) refl)
 after_built g m (Stats name) built = either (is_refusal (answer g true m.state (Stats name)).answer) _ _ (rw (goes_on_none g m.window) refl)
 after_built g m (NextAbove id) built = either (is_refusal (answer g true m.state (NextAbove id)).answer) _ _ (rw (goes_on_none g m.window) refl)
 after_built g m Informs built = either (is_refusal (answer g true m.state Informs).answer) _ _ (rw (goes_on_none g m.window) refl)
@@ -57,6 +59,7 @@ after_built g m _ built = absurd (let no : false ≡ true = built in cc)
 pub after_unbuilt : (g : Geometry) (m : Moment) (ask : Ask) → is_built ask ≡ false → m ≡ settled_at m.state → after g true m ask ≡ m
 unfolding after incoming_of answer
 after_unbuilt g m (Creates name) built still = absurd (let no : true ≡ false = built in cc)
+after_unbuilt g m (Removes name) built still = absurd (let no : true ≡ false = built in cc)
 after_unbuilt g m (Stats name) built still = absurd (let no : true ≡ false = built in cc)
 after_unbuilt g m (NextAbove id) built still = absurd (let no : true ≡ false = built in cc)
 after_unbuilt g m Informs built still = absurd (let no : true ≡ false = built in cc)
@@ -104,6 +107,15 @@ create_stands : (g : Geometry) (s : State) (name : List ℕ) (why : FsErr) → (
 unfolding answer full_answer answer_create
 create_stands g s name why is = unless_refused (name_refusal name) s _ why (pick_next (has_name name s.table) s _ why (unless_refused (page_refusal g true (created g name s.table)) s (gives Fine (record s { table = created g name s.table })) why (λ e. absurd (no_refusal why e)))) is
 
+-- so does a remove
+drop_refused : (found : Option File) (s : State) (why : FsErr) → (on_found found s (λ f. gives Fine (without f s))).answer ≡ Refuses why → (on_found found s (λ f. gives Fine (without f s))).next ≡ s
+drop_refused None s why e = refl
+drop_refused (Some f) s why e = absurd (no_refusal why e)
+
+remove_stands : (g : Geometry) (s : State) (name : List ℕ) (why : FsErr) → (answer g true s (Removes name)).answer ≡ Refuses why → (answer g true s (Removes name)).next ≡ s
+unfolding answer full_answer answer_remove
+remove_stands g s name why is = unless_refused (name_refusal name) s (on_name name s (λ f. gives Fine (without f s))) why (drop_refused (file_named name s.table) s why) is
+
 -- no refusal of the flat table tells a page that reads otherwise
 not_damaged : (d : Differ) (b : Bool) (x y : Option FsErr) → (x ≡ Some (Damaged d) → ⊥) → (y ≡ Some (Damaged d) → ⊥) → cond b x y ≡ Some (Damaged d) → ⊥
 not_damaged d true x y first second = first
@@ -135,6 +147,14 @@ fine_not_damaged d e = cc
 create_not_damaged : (g : Geometry) (s : State) (name : List ℕ) (d : Differ) → (answer g true s (Creates name)).answer ≡ Refuses (Damaged d) → ⊥
 unfolding answer full_answer answer_create
 create_not_damaged g s name d = unless_not_damaged d (name_refusal name) s _ (name_not_damaged d name) (pick_not_damaged d (has_name name s.table) s _ (unless_not_damaged d (page_refusal g true (created g name s.table)) s (gives Fine (record s { table = created g name s.table })) (page_not_damaged d g (created g name s.table)) (fine_not_damaged d)))
+
+drop_not_damaged : (d : Differ) (found : Option File) (s : State) → (on_found found s (λ f. gives Fine (without f s))).answer ≡ Refuses (Damaged d) → ⊥
+drop_not_damaged d None s e = cc
+drop_not_damaged d (Some f) s e = cc
+
+remove_not_damaged : (g : Geometry) (s : State) (name : List ℕ) (d : Differ) → (answer g true s (Removes name)).answer ≡ Refuses (Damaged d) → ⊥
+unfolding answer full_answer answer_remove
+remove_not_damaged g s name d = unless_not_damaged d (name_refusal name) s (on_name name s (λ f. gives Fine (without f s))) (name_not_damaged d name) (drop_not_damaged d (file_named name s.table) s)
 
 stat_not_damaged : (g : Geometry) (s : State) (name : List ℕ) (d : Differ) → (answer g true s (Stats name)).answer ≡ Refuses (Damaged d) → ⊥
 unfolding answer full_answer answer_stat
@@ -174,22 +194,54 @@ from_state : (m : Moment) (more : List (List File)) (t : List File) → m ≡ se
 unfolding settled_at
 from_state m more t still among = rw still among
 
--- a create that is done has one step
-create_steps : (g : Geometry) (s : State) (name : List ℕ) → (answer g true s (Creates name)).answer ≡ Fine → steps g true s (Creates name) ≡ (answer g true s (Creates name)).next.table ∷ []
-unfolding steps done_steps
-create_steps g s name fine = let done : is_refusal (answer g true s (Creates name)).answer ≡ false = ap is_refusal fine in rw done refl
+-- A call that publishes one step: this build has it, done it has that step alone, and refused it leaves the state, and never for a
+-- page that reads otherwise.
+record IsStep (g : Geometry) (ask : Ask) : Type 0 where
+  built : is_built ask ≡ true
+  one : (s : State) → (answer g true s ask).answer ≡ Fine → steps g true s ask ≡ (answer g true s ask).next.table ∷ []
+  stands : (s : State) (why : FsErr) → (answer g true s ask).answer ≡ Refuses why → (answer g true s ask).next ≡ s
+  undamaged : (s : State) (d : Differ) → (answer g true s ask).answer ≡ Refuses (Damaged d) → ⊥
 
-create_among : (g : Geometry) (s : State) (name : List ℕ) (t : List File) → (answer g true s (Creates name)).answer ≡ Fine → t ≡ (answer g true s (Creates name)).next.table → IsAmong t (s.table ∷ steps g true s (Creates name))
+-- the steps of a call that is done
+done_at : (g : Geometry) (s : State) (ask : Ask) → (answer g true s ask).answer ≡ Fine → steps g true s ask ≡ done_steps g s ask (answer g true s ask).next.table
+unfolding steps
+done_at g s ask fine = let done : is_refusal (answer g true s ask).answer ≡ false = ap is_refusal fine in rw done refl
+
+create_one : (g : Geometry) (s : State) (name : List ℕ) (files : List File) → done_steps g s (Creates name) files ≡ files ∷ []
+unfolding done_steps
+create_one g s name files = refl
+
+remove_one : (g : Geometry) (s : State) (name : List ℕ) (files : List File) → done_steps g s (Removes name) files ≡ files ∷ []
+unfolding done_steps
+remove_one g s name files = refl
+
+pub create_is_step : (g : Geometry) (name : List ℕ) → IsStep g (Creates name)
+create_is_step g name = record {
+  built = refl;
+  one = λ s fine. done_at g s (Creates name) fine ∙ create_one g s name (answer g true s (Creates name)).next.table;
+  stands = λ s why is. create_stands g s name why is;
+  undamaged = λ s d is. create_not_damaged g s name d is;
+}
+
+pub remove_is_step : (g : Geometry) (name : List ℕ) → IsStep g (Removes name)
+remove_is_step g name = record {
+  built = refl;
+  one = λ s fine. done_at g s (Removes name) fine ∙ remove_one g s name (answer g true s (Removes name)).next.table;
+  stands = λ s why is. remove_stands g s name why is;
+  undamaged = λ s d is. remove_not_damaged g s name d is;
+}
+
+step_among : (g : Geometry) (s : State) (ask : Ask) (t : List File) → IsStep g ask → (answer g true s ask).answer ≡ Fine → t ≡ (answer g true s ask).next.table → IsAmong t (s.table ∷ steps g true s ask)
 unfolding IsAmong
-create_among g s name t fine is = rw (create_steps g s name fine) (inr (inl is))
+step_among g s ask t step fine is = rw (step.one s fine) (inr (inl is))
 
--- what a cut in a create leaves is what one in a run may
-create_publishes : (g : Geometry) (m : Moment) (name was image : List ℕ) → IsAt g was m → CreateCuts g m.state name was image → IsSafe g was image × IsAmong (table_of g image) (from_settled m (steps g true m.state (Creates name)))
-create_publishes g m name was image at here = (
+-- what a cut in such a call leaves is what one in a run may
+step_publishes : (g : Geometry) (m : Moment) (ask : Ask) (was image : List ℕ) → IsStep g ask → IsAt g was m → StepCuts g m.state ask was image → IsSafe g was image × IsAmong (table_of g image) (from_settled m (steps g true m.state ask))
+step_publishes g m ask was image step at here = (
   record { sound = λ magics. here.sound; reserve = λ reserve. here.reserve },
   ⊎_elim
-      (λ same. is_settled m (table_of g image) (steps g true m.state (Creates name)) (same ∙ at.table))
-      (λ made. from_state m (steps g true m.state (Creates name)) (table_of g image) at.still (create_among g m.state name (table_of g image) made.0 made.1))
+      (λ same. is_settled m (table_of g image) (steps g true m.state ask) (same ∙ at.table))
+      (λ made. from_state m (steps g true m.state ask) (table_of g image) at.still (step_among g m.state ask (table_of g image) step made.0 made.1))
       here.table,
 )
 
@@ -197,14 +249,14 @@ create_publishes g m name was image at here = (
 pub at_ready : (g : Geometry) (image : List ℕ) (m : Moment) → IsAt g image m → IsReady g image
 at_ready g image m here = record { tidy = here.tidy; reserve = here.reserve }
 
--- what each create of a volume may leave at a cut
-abbrev CutsOf : {D : Type 0} (nor : NorOf D) (g : Geometry) (old new : D) (name : List ℕ) → Type 0
-CutsOf nor g old new name = (s : State) → Changes nor old new (λ was image. s.table ≡ table_of g was → IsReady g was → CreateCuts g s name was image)
+-- what each such call of a volume may leave at a cut
+abbrev CutsOf : {D : Type 0} (nor : NorOf D) (g : Geometry) (old new : D) (ask : Ask) → Type 0
+CutsOf nor g old new ask = (s : State) → Changes nor old new (λ was image. s.table ≡ table_of g was → IsReady g was → StepCuts g s ask was image)
 
 module _ {D : Type 0} {nor : NorOf D} {g : Geometry} where
-  -- what a create publishes is what one in a run may
-  publishes : {old new : D} (name : List ℕ) → CutsOf nor g old new name → (m : Moment) → Changes nor old new (Publishes g m (Creates name))
-  publishes {old} {new} name changes m = wider (changes m.state) (λ tells image here at. create_publishes g m name (nor.bytes old) image at (here (at_table g (nor.bytes old) m at) (at_ready g (nor.bytes old) m at)))
+  -- what it publishes is what one in a run may
+  publishes : {old new : D} (ask : Ask) → IsStep g ask → CutsOf nor g old new ask → (m : Moment) → Changes nor old new (Publishes g m ask)
+  publishes {old} {new} ask step changes m = wider (changes m.state) (λ tells image here at. step_publishes g m ask (nor.bytes old) image step at (here (at_table g (nor.bytes old) m at) (at_ready g (nor.bytes old) m at)))
 
   -- reads publish nothing
   pub publishes_none : {old new : D} (ask : Ask) → OnlyReads nor old new → (m : Moment) → Changes nor old new (Publishes g m ask)
@@ -238,37 +290,52 @@ module _ {D : Type 0} {nor : NorOf D} {g : Geometry} where
   read_refused (Damaged differ) ask built reads same is = record { changes = publishes_none ask reads; answers = λ m stands. tt {0}; stops = λ m stands. is m stands }
   read_refused _ ask built reads same is = read_done ask (Refusal _) built reads same is
 
-  -- a file was made
-  pub create_done : {old new : D} (name : List ℕ) → CutsOf nor g old new name → ((m : Moment) → Stands nor g old m → CreateAnswers nor g m.state name old new (Ok (tt {0}))) → DoesCall nor g old new (Creates name) (Ok Done)
-  create_done {old} {new} name changes told = record {
-    changes = publishes name changes;
-    answers = λ m stands. let here = told m stands in answers_ready m (Creates name) Fine refl ((changes m.state).cuts.told stands.tells) (sym here.0) here.1 here.2;
+  -- a step was done
+  pub step_done : {old new : D} (ask : Ask) → IsStep g ask → CutsOf nor g old new ask → ((m : Moment) → Stands nor g old m → ((answer g true m.state ask).answer ≡ Fine) × IsReady g (nor.bytes new) × (table_of g (nor.bytes new) ≡ (answer g true m.state ask).next.table)) → DoesCall nor g old new ask (Ok Done)
+  step_done {old} {new} ask step changes told = record {
+    changes = publishes ask step changes;
+    answers = λ m stands. let here = told m stands in answers_ready m ask Fine step.built ((changes m.state).cuts.told stands.tells) (sym here.0) here.1 here.2;
     stops = λ m stands. tt {0};
   }
 
-  -- none was made, and the flat table says why
-  create_stays : {old new : D} (name : List ℕ) (why : FsErr) → CutsOf nor g old new name → ((m : Moment) → Stands nor g old m → ((answer g true m.state (Creates name)).answer ≡ Refuses why) × OnlyReads nor old new) → DoesCall nor g old new (Creates name) (Ok (Refusal why))
-  create_stays {old} {new} name why changes told = record {
-    changes = publishes name changes;
-    answers = λ m stands. let here = told m stands in answers_read m (Creates name) (Refuses why) refl here.1 stands (create_stands g m.state name why here.0) (sym here.0);
+  -- none was done, and the flat table says why
+  step_stays : {old new : D} (ask : Ask) (why : FsErr) → IsStep g ask → CutsOf nor g old new ask → ((m : Moment) → Stands nor g old m → ((answer g true m.state ask).answer ≡ Refuses why) × OnlyReads nor old new) → DoesCall nor g old new ask (Ok (Refusal why))
+  step_stays {old} {new} ask why step changes told = record {
+    changes = publishes ask step changes;
+    answers = λ m stands. let here = told m stands in answers_read m ask (Refuses why) step.built here.1 stands (step.stands m.state why here.0) (sym here.0);
     stops = λ m stands. tt {0};
   }
 
-  -- none was made, or it isn't known
-  pub create_refused : (why : FsErr) {old new : D} (name : List ℕ) → CutsOf nor g old new name → ((m : Moment) → Stands nor g old m → CreateAnswers nor g m.state name old new (Err why)) → DoesCall nor g old new (Creates name) (not_created_as why)
-  create_refused DeviceFault name changes told = record { changes = publishes name changes; answers = λ m stands. tt {0}; stops = λ m stands. tt {0} }
-  create_refused (Damaged differ) name changes told = record { changes = publishes name changes; answers = λ m stands. tt {0}; stops = λ m stands. create_not_damaged g m.state name differ (told m stands).0 }
+  -- the device failed, and it isn't known
+  step_failed : {old new : D} (ask : Ask) → IsStep g ask → CutsOf nor g old new ask → DoesCall nor g old new ask (Err BoardFault)
+  step_failed ask step changes = record { changes = publishes ask step changes; answers = λ m stands. tt {0}; stops = λ m stands. tt {0} }
+
+  -- the flat table never says that a page reads otherwise
+  step_differs : {old new : D} (ask : Ask) (differ : Differ) → IsStep g ask → CutsOf nor g old new ask → ((m : Moment) → Stands nor g old m → (answer g true m.state ask).answer ≡ Refuses (Damaged differ)) → DoesCall nor g old new ask (Err (Differ differ))
+  step_differs ask differ step changes told = record { changes = publishes ask step changes; answers = λ m stands. tt {0}; stops = λ m stands. step.undamaged m.state differ (told m stands) }
+
+  -- a file was removed, or none was
+  pub remove_refused : (why : FsErr) {old new : D} (name : List ℕ) → CutsOf nor g old new (Removes name) → ((m : Moment) → Stands nor g old m → RemoveAnswers nor g m.state name old new (Err why)) → DoesCall nor g old new (Removes name) (refused_as why)
+  remove_refused DeviceFault name changes told = step_failed (Removes name) (remove_is_step g name) changes
+  remove_refused (Damaged differ) name changes told = step_differs (Removes name) differ (remove_is_step g name) changes (λ m stands. (told m stands).0)
+  remove_refused _ name changes told = step_stays (Removes name) _ (remove_is_step g name) changes told
+
+  -- a file was not made, for want of a page too
+  pub create_refused : (why : FsErr) {old new : D} (name : List ℕ) → CutsOf nor g old new (Creates name) → ((m : Moment) → Stands nor g old m → CreateAnswers nor g m.state name old new (Err why)) → DoesCall nor g old new (Creates name) (not_created_as why)
+  create_refused DeviceFault name changes told = step_failed (Creates name) (create_is_step g name) changes
+  create_refused (Damaged differ) name changes told = step_differs (Creates name) differ (create_is_step g name) changes (λ m stands. (told m stands).0)
   create_refused Unbuilt name changes told = record {
-    changes = publishes name changes;
+    changes = publishes (Creates name) (create_is_step g name) changes;
     answers = λ m stands. tt {0};
     stops = λ m stands. let here = told m stands in (here.2, record { name = name; creates = refl; accepted = ap is_refusal here.0; lacks = ap (λ (l : List ℕ). are_had g l 1 0) here.2.bytes ∙ here.1 });
   }
-  create_refused _ name changes told = create_stays name _ changes told
+  create_refused _ name changes told = step_stays (Creates name) _ (create_is_step g name) changes told
 
 -- the calls that this build doesn't have
-pub unbuilt_call : (call : Call) → ((name : _) → call ≡ Create name → ⊥) → ((name : _) → call ≡ StatName name → ⊥) → ((after : ℕ) → call ≡ Next after → ⊥) → (call ≡ GetInfo → ⊥) → is_built (asked call) ≡ false
-unbuilt_call (Create name) create stat next info = absurd (create name refl)
-unbuilt_call (StatName name) create stat next info = absurd (stat name refl)
-unbuilt_call (Next after) create stat next info = absurd (next after refl)
-unbuilt_call GetInfo create stat next info = absurd (info refl)
-unbuilt_call _ create stat next info = refl
+pub unbuilt_call : (call : Call) → ((name : _) → call ≡ Create name → ⊥) → ((name : _) → call ≡ Remove name → ⊥) → ((name : _) → call ≡ StatName name → ⊥) → ((after : ℕ) → call ≡ Next after → ⊥) → (call ≡ GetInfo → ⊥) → is_built (asked call) ≡ false
+unbuilt_call (Create name) create remove stat next info = absurd (create name refl)
+unbuilt_call (Remove name) create remove stat next info = absurd (remove name refl)
+unbuilt_call (StatName name) create remove stat next info = absurd (stat name refl)
+unbuilt_call (Next after) create remove stat next info = absurd (next after refl)
+unbuilt_call GetInfo create remove stat next info = absurd (info refl)
+unbuilt_call _ create remove stat next info = refl

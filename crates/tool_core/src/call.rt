@@ -1,5 +1,5 @@
 ghost use Rattle.std.specs.Prelude.{◌≡◌, IfOk, IfErr, Err, true, false};
-ghost use Rattle.table_model.specs.Ask.{asked, Creates, Stats, NextAbove, Informs};
+ghost use Rattle.table_model.specs.Ask.{asked, Creates, Removes, Stats, NextAbove, Informs};
 ghost use Rattle.call_script.specs.Pieces.{IsShort};
 ghost use Rattle.tool_core.specs.Later.{IsLater};
 ghost use Rattle.tool_core.specs.Runs.{Ran, result_err};
@@ -45,6 +45,21 @@ fn create<B: Board>(volume: &mut Volume<'_, B>, name: &[u8]) -> Result<Reply<'st
     match volume.create(name) {
         Ok(()) => Ok(Reply::Done),
         Err(why) => not_created(why),
+    }
+}
+
+fn remove<B: Board>(volume: &mut Volume<'_, B>, name: &[u8]) -> Result<Reply<'static>, Ending>
+    requires { takes_calls volume.old ≡ true }
+    ensures short { IfOk result IsShort }
+    ensures later { IfErr result IsLater }
+    ensures ran { Ran B.NorState volume.old.nor.now volume.new.nor.now (result_err result) (takes_calls volume.new) }
+    ensures no_script { ¬ (result ≡ Err Ending.SourceFault) }
+    ensures same { IsSameVolume volume.old volume.new }
+    ensures does { DoesCall B.NorState volume.old.geometry volume.old.nor.now volume.new.nor.now (Removes name.now) result }
+{
+    match volume.remove(name) {
+        Ok(()) => Ok(Reply::Done),
+        Err(why) => refusal(why),
     }
 }
 
@@ -109,6 +124,7 @@ pub(crate) fn apply<B: Board>(
 {
     match call {
         Call::Create { name } => create(volume, name),
+        Call::Remove { name } => remove(volume, name),
         Call::StatName { name } => stat(volume, name),
         Call::Next { after } => next(volume, *after),
         Call::GetInfo => info(volume),

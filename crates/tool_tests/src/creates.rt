@@ -98,10 +98,9 @@ fn names_are_refused_by_length_and_zeros(rt: HostRuntime) -> Result<(), Fail> {
 create 12345678901234567890123456789012
 create a%00b
 create 1234567890123456789012345678901
-remove a
 ";
     assert_eq!(rt; run(rt.alloc(), RUN, &mut board, script)?, 0);
-    let said = b"ok\n-10036\n-11000\n-10023\n-11008\n";
+    let said = b"ok\n-10036\n-11000\n-10023\n";
     assert_eq!(rt; board.said(), said.as_slice());
     Ok(())
 }

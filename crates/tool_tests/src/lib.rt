@@ -18,6 +18,8 @@ mod readers;
 #[cfg(test)]
 mod refusals;
 #[cfg(test)]
+mod removes;
+#[cfg(test)]
 mod scripts;
 #[cfg(test)]
 mod volumes;

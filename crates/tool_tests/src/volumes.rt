@@ -2,6 +2,7 @@
 use crate::bench::{Memory, blank, formatted, program};
 use geometry::{Geometry, MagicKind};
 use nor_core::CallKind;
+use std::alloc::Global;
 use std::test::Fail;
 use table_model::FsErr;
 use vol_mount::{MountErr, accept};
@@ -41,6 +42,49 @@ fn a_volume_fails_where_a_program_fails(rt: HostRuntime) -> Result<(), Fail> {
     assert_eq!(rt; volume.create(b"b"), Err(FsErr::DeviceFault));
     assert!(rt; volume.has_failed());
     assert_eq!(rt; volume.create(b"c"), Err(FsErr::Failed));
+    Ok(())
+}
+
+// Whether a volume is mounted and checked where the read of that number fails.
+fn opens(alloc: Global, nth: u64) -> Result<bool, Fail> {
+    let mut board = formatted(alloc, MagicKind::Length)?;
+    board.fail_nth(CallKind::Read, nth);
+    let g = Geometry::new(256, 4096, 16, 4096, 0, MagicKind::Length)?;
+    let mut memory = Memory::new(alloc)?;
+    let lent = memory.lend();
+    accept(&g, &board, &lent)?;
+    let mut volume = Volume::new(g, &mut board, lent);
+    Ok(volume.mount().is_ok() && volume.check().is_ok())
+}
+
+// The number of the last read of a mount and a check, which are told from the top bit down.
+fn last_read(alloc: Global) -> Result<u64, Fail> {
+    let mut last = 0;
+    for shift in 0..16u64 {
+        let tried = last | (0x8000 >> shift);
+        if !opens(alloc, tried)? {
+            last = tried;
+        }
+    }
+    Ok(last)
+}
+
+#[test]
+fn a_volume_stands_where_a_read_fails(rt: HostRuntime) -> Result<(), Fail> {
+    let mut board = formatted(rt.alloc(), MagicKind::Length)?;
+    board.fail_nth(CallKind::Read, last_read(rt.alloc())?.saturating_add(1));
+    let g = Geometry::new(256, 4096, 16, 4096, 0, MagicKind::Length)?;
+    let mut memory = Memory::new(rt.alloc())?;
+    let lent = memory.lend();
+    accept(&g, &board, &lent)?;
+    let mut volume = Volume::new(g, &mut board, lent);
+    volume.mount()?;
+    volume.check()?;
+    assert_eq!(rt; volume.create(b"a"), Err(FsErr::DeviceFault));
+    assert!(rt; !volume.has_failed());
+    assert_eq!(rt; volume.create(b"a"), Ok(()));
+    assert_eq!(rt; volume.remove(b"a"), Ok(()));
+    assert_eq!(rt; volume.remove(b"a"), Err(FsErr::NotFound));
     Ok(())
 }
 
