@@ -14,7 +14,7 @@ use Rattle.table_model.specs.Files.{without}
 use Rattle.table_model.specs.Calls.{answer_remove}
 use Rattle.table_model.specs.Reply.{Fine, Refuses}
 use Rattle.table_model.specs.Ask.{Removes}
-use Rattle.table_model.specs.Flat.{full_answer}
+use Rattle.table_model.specs.Flat.{answer, full_answer}
 use Rattle.image_model.specs.Places.{IsImage}
 use Rattle.image_model.specs.Tables.{table_of}
 use Rattle.image_model.specs.Tidy.{IsTidy}
@@ -97,8 +97,8 @@ module _ {D : Type 0} {nor : NorOf D} {old mid : D} (g : Geometry) (name : List 
 
 -- ---- the flat model's answers
 
-bad_remove : (g : Geometry) (s : State) (name : List ℕ) (why : FsErr) → name_refusal name ≡ Some why → (full_answer g true s (Removes name)).answer ≡ Refuses why
-unfolding full_answer answer_remove
+bad_remove : (g : Geometry) (s : State) (name : List ℕ) (why : FsErr) → name_refusal name ≡ Some why → (answer g true s (Removes name)).answer ≡ Refuses why
+unfolding answer full_answer answer_remove
 bad_remove g s name why e = rw e refl
 
 pub remove_refused : {D : Type 0} (nor : NorOf D) (g : Geometry) (s : State) (name : List ℕ) (old new : D) (why : FsErr) → name_refusal name ≡ Some why → OnlyReads nor old new → RemoveAnswers nor g s name old new (Err why)
@@ -110,17 +110,17 @@ remove_refused nor g s name old new why e reads =
 
 -- where the name is there the flat model takes the file out
 flat_removes : (g : Geometry) (s : State) (name : List ℕ) (now : List File) (o : Option File) → name_refusal name ≡ None → file_named name s.table ≡ o → option_map (λ f. drop_file f.id s.table) o ≡ Some now →
-    ((full_answer g true s (Removes name)).answer ≡ Fine) × (now ≡ (full_answer g true s (Removes name)).next.table)
-unfolding full_answer answer_remove without
+    ((answer g true s (Removes name)).answer ≡ Fine) × (now ≡ (answer g true s (Removes name)).next.table)
+unfolding answer full_answer answer_remove without
 flat_removes g s name now None fine at e = absurd (cc)
 flat_removes g s name now (Some f) fine at e = let same : now ≡ drop_file f.id s.table = cc in (rw (fine, at) refl, rw (fine, at) same)
 
-flat_missing : (g : Geometry) (s : State) (name : List ℕ) → name_refusal name ≡ None → file_named name s.table ≡ None → (full_answer g true s (Removes name)).answer ≡ Refuses NotFound
-unfolding full_answer answer_remove
+flat_missing : (g : Geometry) (s : State) (name : List ℕ) → name_refusal name ≡ None → file_named name s.table ≡ None → (answer g true s (Removes name)).answer ≡ Refuses NotFound
+unfolding answer full_answer answer_remove
 flat_missing g s name fine at = rw (fine, at) refl
 
 removes : (g : Geometry) (s : State) (name : List ℕ) (files now : List File) → name_refusal name ≡ None → s.table ≡ files → without_named name files ≡ Some now →
-    ((full_answer g true s (Removes name)).answer ≡ Fine) × (now ≡ (full_answer g true s (Removes name)).next.table)
+    ((answer g true s (Removes name)).answer ≡ Fine) × (now ≡ (answer g true s (Removes name)).next.table)
 removes g s name files now fine same is = flat_removes g s name now (file_named name s.table) fine refl (ap (without_named name) same ∙ is)
 
 module _ {D : Type 0} (nor : NorOf D) (g : Geometry) (s : State) (name : List ℕ) (old new : D) (fine : name_refusal name ≡ None) (same : s.table ≡ table_of g (nor.bytes old)) where

@@ -9,7 +9,7 @@ use Rattle.table_model.specs.declared.error.FsErr.TheVariants.{NotFound, DeviceF
 use Rattle.table_model.specs.Table.{File, State, file_named, drop_file}
 use Rattle.table_model.specs.Reply.{Fine, Refuses}
 use Rattle.table_model.specs.Ask.{Removes}
-use Rattle.table_model.specs.Flat.{full_answer}
+use Rattle.table_model.specs.Flat.{answer}
 use Rattle.image_model.specs.Tables.{table_of}
 use Rattle.image_model.specs.Tidy.{HasReserve}
 use Rattle.image_model.specs.Sound.{IsSound}
@@ -50,12 +50,12 @@ RemoveGoes nor g name old new (Err why) = ⊥
 
 -- How a remove goes, by the flat model: done and answered so, or refused so with the device only read.
 abbrev pub RemoveAnswers : {D : Type 0} (nor : NorOf D) (g : Geometry) (s : State) (name : List ℕ) (old new : D) → Result (Unit {0}) FsErr → Type 0
-RemoveAnswers nor g s name old new (Ok done) = ((full_answer g true s (Removes name)).answer ≡ Fine) × (IsReady g (nor.bytes new)) × (table_of g (nor.bytes new) ≡ (full_answer g true s (Removes name)).next.table)
+RemoveAnswers nor g s name old new (Ok done) = ((answer g true s (Removes name)).answer ≡ Fine) × (IsReady g (nor.bytes new)) × (table_of g (nor.bytes new) ≡ (answer g true s (Removes name)).next.table)
 RemoveAnswers nor g s name old new (Err DeviceFault) = Unit {0}
-RemoveAnswers nor g s name old new (Err why) = ((full_answer g true s (Removes name)).answer ≡ Refuses why) × OnlyReads nor old new
+RemoveAnswers nor g s name old new (Err why) = ((answer g true s (Removes name)).answer ≡ Refuses why) × OnlyReads nor old new
 
 -- what a cut in a remove may leave, by the flat model
 pub record RemoveCuts (g : Geometry) (s : State) (name was image : List ℕ) : Type 0 where
   pub sound : IsSound g image was
-  pub table : (table_of g image ≡ table_of g was) ⊎ (((full_answer g true s (Removes name)).answer ≡ Fine) × (table_of g image ≡ (full_answer g true s (Removes name)).next.table))
+  pub table : (table_of g image ≡ table_of g was) ⊎ (((answer g true s (Removes name)).answer ≡ Fine) × (table_of g image ≡ (answer g true s (Removes name)).next.table))
   pub reserve : HasReserve g image
