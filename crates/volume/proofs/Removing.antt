@@ -1,6 +1,6 @@
 -- The file that a remove takes out, what it leaves, and that it answers what the flat model answers.
 use Rattle.std.proofs.Common.{◌≡◌, ℕ, ◌==◌, ⊎_elim, inl, inr, List, true, refl, sym, ◌∙◌, ap, subst, arith}
-use Rattle.std.specs.Prelude.{Option, Some, None, Result, Ok, Err, is_some}
+use Rattle.std.specs.Prelude.{Option, Some, None, Result, Err, is_some}
 use Rattle.std.specs.Option.{option_map}
 use Rattle.geometry.specs.declared.geometry.Geometry.{Geometry}
 use Rattle.nor_core.specs.declared.state.NorState.{Ghosts as NorOf}
