@@ -1,18 +1,18 @@
 -- What the calls answer is what the flat model answers.
 use Rattle.std.proofs.Common.{◌≡◌, ℕ, ◌<◌, ◌⊎◌, ⊎_elim, inl, inr, List, Bool, true, false, not, refl, sym, ◌∙◌, ap, arith, nat_lt, if◌then◌else◌}
-use Rattle.std.specs.Prelude.{Option, Some, None, Result, Ok, Err}
+use Rattle.std.specs.Prelude.{Option, Some, None, Result, Err}
 use Rattle.std.specs.Option.{option_map}
 use Rattle.std.proofs.lemmas.Bool.{ltb-true}
 use Rattle.geometry.specs.declared.geometry.Geometry.{Geometry}
 use Rattle.nor_core.specs.declared.state.NorState.{Ghosts as NorOf}
 use Rattle.nor_core.specs.Device.{OnlyReads}
 use Rattle.table_model.specs.declared.error.FsErr.{FsErr}
-use Rattle.table_model.specs.declared.error.FsErr.TheVariants.{Failed, BadName, NameTooLong, BadFlags, BadDescriptor, OutOfDescriptors, NotFound, FileExists, ConflictingName, NotReadable, NotWritable, SeekBounds, Tight, Full, DeviceFault, Damaged, Unbuilt}
+use Rattle.table_model.specs.declared.error.FsErr.TheVariants.{BadName, NameTooLong, NotFound, ConflictingName, Tight, Full, Unbuilt}
 use Rattle.table_model.specs.declared.reply.Stat.{Stat}
 use Rattle.table_model.specs.declared.reply.Info.{Info}
 use Rattle.table_model.specs.Table.{File, State, has_name, file_named, file_above}
 use Rattle.table_model.specs.Room.{has_room}
-use Rattle.table_model.specs.Names.{name_refusal, is_bad_name, is_long_name}
+use Rattle.table_model.specs.Names.{name_refusal}
 use Rattle.table_model.specs.Files.{created, stat_of}
 use Rattle.table_model.specs.Calls.{answer_create, answer_stat, answer_next, info_of}
 use Rattle.table_model.specs.Outcome.{page_refusal}
@@ -23,20 +23,12 @@ use Rattle.image_model.specs.Tables.{table_of}
 use Rattle.image_model.specs.Tidy.{free_blocks}
 use Rattle.image_model.specs.Collect.{are_had}
 use Rattle.volume.specs.Refusals.{create_refusal}
-use Rattle.volume.specs.Answers.{IsReady, CreateGoes, CreateAnswers, CreateLeaves, CreateCuts, StatAnswers, shown_or_end}
+use Rattle.volume.specs.Answers.{IsReady, LacksPage, CreateAnswers, CreateCuts, StatAnswers, shown_or_end}
+use Rattle.volume.specs.Creates.{IsCreated, CreateLeaves, CreateGoes}
 use Rattle.volume.proofs.Creating.{allowed}
+use Rattle.volume.proofs.Stepping.{refused_so, IsFlat, cuts_by, name_refused, answers_by}
 
 -- ---- names
-
--- a name is refused as a bad one or a long one
-name_why : (bad long : Bool) (why : FsErr) → (if bad then Some BadName else if long then Some NameTooLong else None) ≡ Some why → (why ≡ BadName) ⊎ (why ≡ NameTooLong)
-name_why true long why e = inl (cc)
-name_why false true why e = inr (cc)
-name_why false false why e = absurd (cc)
-
-pub refused_so : (name : List ℕ) (why : FsErr) → name_refusal name ≡ Some why → (why ≡ BadName) ⊎ (why ≡ NameTooLong)
-unfolding name_refusal
-refused_so name why e = name_why (is_bad_name name) (is_long_name name) why e
 
 bad_create : (g : Geometry) (s : State) (name : List ℕ) (why : FsErr) → name_refusal name ≡ Some why → (answer g true s (Creates name)).answer ≡ Refuses why
 unfolding answer full_answer answer_create
@@ -47,11 +39,7 @@ unfolding answer full_answer answer_stat
 bad_stat g s name why e = rw e refl
 
 pub create_refused : {D : Type 0} (nor : NorOf D) (g : Geometry) (s : State) (name : List ℕ) (old new : D) (why : FsErr) → name_refusal name ≡ Some why → OnlyReads nor old new → CreateAnswers nor g s name old new (Err why)
-create_refused nor g s name old new why e reads =
-    ⊎_elim
-    (λ (bad : why ≡ BadName). let flat = bad_create g s name BadName (e ∙ ap (λ w. Some w) bad) in rw bad (flat, reads))
-    (λ (long : why ≡ NameTooLong). let flat = bad_create g s name NameTooLong (e ∙ ap (λ w. Some w) long) in rw long (flat, reads))
-    (refused_so name why e)
+create_refused nor g s name old new why e reads = name_refused g s (Creates name) nor (LacksPage nor g s name old new) old new name why (λ w is. bad_create g s name w is) e reads
 
 pub stat_refused : (g : Geometry) (s : State) (name : List ℕ) (why : FsErr) → name_refusal name ≡ Some why → StatAnswers g s name (Err why)
 stat_refused g s name why e =
@@ -104,54 +92,45 @@ reasons : (g : Geometry) (image name : List ℕ) (why : FsErr) → create_refusa
 unfolding create_refusal
 reasons g image name why e = reasons_by g image name why (has_name name (table_of g image)) (nat_lt (free_blocks g image) 2) (has_room g (created g name (table_of g image))) (are_had g image 1 0) refl refl refl refl e
 
-none_else : (g : Geometry) (image name : List ℕ) (why : FsErr) → create_refusal g image name ≡ Some why → (why ≡ ConflictingName → ⊥) → (why ≡ Tight → ⊥) → (why ≡ Full → ⊥) → (why ≡ Unbuilt → ⊥) → ⊥
-none_else g image name why e a b c d = ⊎_elim a (⊎_elim b (⊎_elim c d)) (reasons g image name why e).one
+-- where nothing stands against it the flat model makes the file
+made : (g : Geometry) (s : State) (name was : List ℕ) → name_refusal name ≡ None → s.table ≡ table_of g was → (files : List File) → IsCreated g name was files → IsFlat g s (Creates name) files
+made g s name was fine same files after =
+    let w = allowed g was name after.0 in
+    let flat = flat_makes g s name fine (ap (has_name name) same ∙ w.new_name) (ap (λ table. has_room g (created g name table)) same ∙ w.room) in
+    (flat.0, after.1 ∙ sym (flat.1 ∙ ap (λ table. created g name table) same))
 
-module _ {D : Type 0} (nor : NorOf D) (g : Geometry) (s : State) (name : List ℕ) (old new : D) (fine : name_refusal name ≡ None) (same : s.table ≡ table_of g (nor.bytes old)) (ready : IsReady g (nor.bytes old)) where
-  made : create_refusal g (nor.bytes old) name ≡ None → ((answer g true s (Creates name)).answer ≡ Fine) × ((answer g true s (Creates name)).next.table ≡ created g name (table_of g (nor.bytes old)))
-  made none =
-      let w = allowed g (nor.bytes old) name none in
-      let flat = flat_makes g s name fine (ap (has_name name) same ∙ w.new_name) (ap (λ files. has_room g (created g name files)) same ∙ w.room) in
-      (flat.0, flat.1 ∙ ap (λ files. created g name files) same)
+module _ (g : Geometry) (s : State) (name was : List ℕ) (fine : name_refusal name ≡ None) (same : s.table ≡ table_of g was) where
+  -- the volume stops in no other
+  pub create_stops : create_refusal g was name ≡ None → ((answer g true s (Creates name)).answer ≡ Fine) × (are_had g was 1 0 ≡ true)
+  create_stops none = ((made g s name was fine same (created g name (table_of g was)) (none, refl)).0, (allowed g was name none).had)
 
-  other : (why : FsErr) → create_refusal g (nor.bytes old) name ≡ Some why → (why ≡ ConflictingName → ⊥) → (why ≡ Full → ⊥) → (why ≡ Unbuilt → ⊥) → ⊥
-  other why e a c d = none_else g (nor.bytes old) name why e a (λ (x : why ≡ Tight). let few = (reasons g (nor.bytes old) name why e).tight x in let two = ready.reserve in absurd (omega (arith, few, two))) c d
+  -- a cut in it
+  pub leaves_cuts : (image : List ℕ) → CreateLeaves g name was image → CreateCuts g s name was image
+  leaves_cuts image leaves = cuts_by g s (Creates name) (IsCreated g name was) was image (made g s name was fine same) leaves
 
-  pub goes_answers : (result : Result (Unit {0}) FsErr) → CreateGoes nor g name old new result → CreateAnswers nor g s name old new result
-  goes_answers (Ok done) makes = let flat = made makes.allowed in (flat.0, makes.ready, makes.table ∙ sym flat.1)
-  goes_answers (Err DeviceFault) goes = tt
-  goes_answers (Err ConflictingName) (e, reads) = (flat_conflicts g s name fine (ap (has_name name) same ∙ (reasons g (nor.bytes old) name ConflictingName e).there refl), reads)
-  goes_answers (Err Full) (e, reads) =
-      let w = (reasons g (nor.bytes old) name Full e).full refl in
-      (flat_full g s name fine (ap (has_name name) same ∙ w.0) (ap (λ files. has_room g (created g name files)) same ∙ w.1), reads)
-  goes_answers (Err Unbuilt) (e, reads) =
+  -- why else it isn't made
+  refuses : IsReady g was → (why : FsErr) → create_refusal g was name ≡ Some why → (why ≡ Unbuilt → ⊥) → (answer g true s (Creates name)).answer ≡ Refuses why
+  refuses ready why e built =
+      let r = reasons g was name why e in
+      ⊎_elim
+      (λ (is : why ≡ ConflictingName). rw is (flat_conflicts g s name fine (ap (has_name name) same ∙ r.there is)))
+      (⊎_elim
+      (λ (is : why ≡ Tight). let few = r.tight is in let two = ready.reserve in absurd (omega (arith, few, two)))
+      (⊎_elim
+      (λ (is : why ≡ Full). let w = r.full is in rw is (flat_full g s name fine (ap (has_name name) same ∙ w.0) (ap (λ files. has_room g (created g name files)) same ∙ w.1)))
+      (λ (is : why ≡ Unbuilt). absurd (built is))))
+      r.one
+
+module _ {D : Type 0} (nor : NorOf D) (g : Geometry) (s : State) (name : List ℕ) (old new : D) (fine : name_refusal name ≡ None) (same : s.table ≡ table_of g (nor.bytes old)) where
+  lacks : create_refusal g (nor.bytes old) name ≡ Some Unbuilt → OnlyReads nor old new → LacksPage nor g s name old new
+  lacks e reads =
       let w = (reasons g (nor.bytes old) name Unbuilt e).lacking refl in
       let flat = flat_makes g s name fine (ap (has_name name) same ∙ w.0) (ap (λ files. has_room g (created g name files)) same ∙ w.1) in
       (flat.0, w.2, reads)
-  goes_answers (Err Failed) (e, reads) = absurd (other Failed e (λ x. absurd (cc)) (λ x. absurd (cc)) (λ x. absurd (cc)))
-  goes_answers (Err BadName) (e, reads) = absurd (other BadName e (λ x. absurd (cc)) (λ x. absurd (cc)) (λ x. absurd (cc)))
-  goes_answers (Err NameTooLong) (e, reads) = absurd (other NameTooLong e (λ x. absurd (cc)) (λ x. absurd (cc)) (λ x. absurd (cc)))
-  goes_answers (Err BadFlags) (e, reads) = absurd (other BadFlags e (λ x. absurd (cc)) (λ x. absurd (cc)) (λ x. absurd (cc)))
-  goes_answers (Err BadDescriptor) (e, reads) = absurd (other BadDescriptor e (λ x. absurd (cc)) (λ x. absurd (cc)) (λ x. absurd (cc)))
-  goes_answers (Err OutOfDescriptors) (e, reads) = absurd (other OutOfDescriptors e (λ x. absurd (cc)) (λ x. absurd (cc)) (λ x. absurd (cc)))
-  goes_answers (Err NotFound) (e, reads) = absurd (other NotFound e (λ x. absurd (cc)) (λ x. absurd (cc)) (λ x. absurd (cc)))
-  goes_answers (Err FileExists) (e, reads) = absurd (other FileExists e (λ x. absurd (cc)) (λ x. absurd (cc)) (λ x. absurd (cc)))
-  goes_answers (Err NotReadable) (e, reads) = absurd (other NotReadable e (λ x. absurd (cc)) (λ x. absurd (cc)) (λ x. absurd (cc)))
-  goes_answers (Err NotWritable) (e, reads) = absurd (other NotWritable e (λ x. absurd (cc)) (λ x. absurd (cc)) (λ x. absurd (cc)))
-  goes_answers (Err SeekBounds) (e, reads) = absurd (other SeekBounds e (λ x. absurd (cc)) (λ x. absurd (cc)) (λ x. absurd (cc)))
-  goes_answers (Err Tight) (e, reads) = absurd (other Tight e (λ x. absurd (cc)) (λ x. absurd (cc)) (λ x. absurd (cc)))
-  goes_answers (Err (Damaged differ)) (e, reads) = absurd (other (Damaged differ) e (λ x. absurd (cc)) (λ x. absurd (cc)) (λ x. absurd (cc)))
 
--- a cut in it
-pub leaves_cuts : (g : Geometry) (s : State) (name was image : List ℕ) → name_refusal name ≡ None → s.table ≡ table_of g was → CreateLeaves g name was image → CreateCuts g s name was image
-leaves_cuts g s name was image fine same leaves = record {
-  sound = leaves.sound;
-  table = ⊎_elim (λ before. inl before)
-      (λ after. let w = allowed g was name after.0 in
-      let flat = flat_makes g s name fine (ap (has_name name) same ∙ w.new_name) (ap (λ files. has_room g (created g name files)) same ∙ w.room) in
-      inr (flat.0, after.1 ∙ sym (flat.1 ∙ ap (λ files. created g name files) same))) leaves.table;
-  reserve = leaves.reserve;
-}
+  pub goes_answers : IsReady g (nor.bytes old) → (result : Result (Unit {0}) FsErr) → CreateGoes nor g name old new result → CreateAnswers nor g s name old new result
+  goes_answers ready result goes = answers_by g s (Creates name) nor (LacksPage nor g s name old new) old new (IsCreated g name (nor.bytes old)) (λ why. create_refusal g (nor.bytes old) name ≡ Some why)
+      (made g s name (nor.bytes old) fine same) (refuses g s name (nor.bytes old) fine same ready) lacks result goes
 
 -- ---- records
 

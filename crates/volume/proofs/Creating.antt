@@ -17,7 +17,9 @@ use Rattle.header_laws.proofs.HeadPages.{has-ids}
 use Rattle.header_laws.proofs.LeastIds.{least-unused}
 use Rattle.file_write.specs.Creates.{CanCreate, CreateCut, Created}
 use Rattle.volume.specs.Refusals.{create_refusal}
-use Rattle.volume.specs.Answers.{IsReady, CreateLeaves, CreateMakes}
+use Rattle.volume.specs.Answers.{IsReady}
+use Rattle.volume.specs.Steps.{StepMakes}
+use Rattle.volume.specs.Creates.{IsCreated, CreateLeaves}
 
 -- nothing stands against it
 pub record Allowed (g : Geometry) (image name : List ℕ) : Type 0 where
@@ -57,11 +59,10 @@ leaves_by g was name image id none least cut = record {
   reserve = cut.reserve;
 }
 
-pub makes_by : (g : Geometry) (was name now : List ℕ) (id : ℕ) → create_refusal g was name ≡ None → id ≡ least_id (table_of g was) → Created g was id name now → CreateMakes g name was now
+pub makes_by : (g : Geometry) (was name now : List ℕ) (id : ℕ) → create_refusal g was name ≡ None → id ≡ least_id (table_of g was) → Created g was id name now → StepMakes g (IsCreated g name was) now
 makes_by g was name now id none least done = record {
-  allowed = none;
   ready = record { tidy = done.tidy; reserve = done.reserve };
-  table = rw (sym least) done.table;
+  table = (none, rw (sym least) done.table);
 }
 
 -- ---- over a device: searches that only read, and then the step
@@ -73,12 +74,9 @@ module _ {D : Type 0} {nor : NorOf D} {old mid : D} (g : Geometry) (name : List 
 
   module _ {new : D} where
     pub step_changes : Changes nor mid new (λ was image. CanCreate g was id name → CreateCut g was id name image) → Changes nor old new (λ was image. IsReady g was → CreateLeaves g name was image)
-    step_changes step = after_reads looked (wider step (λ tells image cut ready.
-        let same : nor.bytes mid ≡ nor.bytes old = looked.bytes in
-        let was : IsReady g (nor.bytes old) = subst (λ (l : List ℕ). IsReady g l) same ready in
-        let told = looked.told_before tells in
-        let w = prepared told was.tidy in
-        subst (λ (l : List ℕ). CreateLeaves g name l image) (sym same) (leaves_by g (nor.bytes old) name image id w.0 w.1 (subst (λ (l : List ℕ). CreateCut g l id name image) same (cut (step_can told was))))))
+    step_changes step = wider (after_reads looked step) (λ tells image cut ready.
+        let w = prepared tells ready.tidy in
+        leaves_by g (nor.bytes old) name image id w.0 w.1 (cut (can_create g (nor.bytes old) name id ready w.0 w.1)))
 
-    pub step_makes : nor.tells old → IsReady g (nor.bytes old) → Created g (nor.bytes mid) id name (nor.bytes new) → CreateMakes g name (nor.bytes old) (nor.bytes new)
+    pub step_makes : nor.tells old → IsReady g (nor.bytes old) → Created g (nor.bytes mid) id name (nor.bytes new) → StepMakes g (IsCreated g name (nor.bytes old)) (nor.bytes new)
     step_makes tells ready done = let w = prepared tells ready.tidy in makes_by g (nor.bytes old) name (nor.bytes new) id w.0 w.1 (subst (λ (l : List ℕ). Created g l id name (nor.bytes new)) looked.bytes done)

@@ -1,20 +1,20 @@
 -- The file that a remove takes out, what it leaves, and that it answers what the flat model answers.
 use Rattle.std.proofs.Common.{◌≡◌, ℕ, ◌==◌, ⊎_elim, inl, inr, List, true, refl, sym, ◌∙◌, ap, subst, arith}
-use Rattle.std.specs.Prelude.{Option, Some, None, Result, Ok, Err, is_some}
+use Rattle.std.specs.Prelude.{Option, Some, None, Result, Err, is_some}
 use Rattle.std.specs.Option.{option_map}
 use Rattle.geometry.specs.declared.geometry.Geometry.{Geometry}
 use Rattle.nor_core.specs.declared.state.NorState.{Ghosts as NorOf}
 use Rattle.nor_core.specs.Device.{OnlyReads, Changes}
 use Rattle.nor_core.proofs.Cuts.{wider, after_reads}
 use Rattle.table_model.specs.declared.error.FsErr.{FsErr}
-use Rattle.table_model.specs.declared.error.FsErr.TheVariants.{Failed, BadName, NameTooLong, BadFlags, BadDescriptor, OutOfDescriptors, NotFound, FileExists, ConflictingName, NotReadable, NotWritable, SeekBounds, Tight, Full, DeviceFault, Damaged, Unbuilt}
+use Rattle.table_model.specs.declared.error.FsErr.TheVariants.{NotFound, Unbuilt}
 use Rattle.table_model.specs.Table.{File, State, file_named, file_of, has_id, drop_file}
 use Rattle.table_model.specs.Names.{name_refusal}
 use Rattle.table_model.specs.Files.{without}
 use Rattle.table_model.specs.Calls.{answer_remove}
 use Rattle.table_model.specs.Reply.{Fine, Refuses}
 use Rattle.table_model.specs.Ask.{Removes}
-use Rattle.table_model.specs.Flat.{full_answer}
+use Rattle.table_model.specs.Flat.{answer, full_answer}
 use Rattle.image_model.specs.Places.{IsImage}
 use Rattle.image_model.specs.Tables.{table_of}
 use Rattle.image_model.specs.Tidy.{IsTidy}
@@ -23,9 +23,10 @@ use Rattle.header_laws.proofs.Listed.{any-found}
 use Rattle.header_laws.proofs.HeadNames.{named}
 use Rattle.header_laws.proofs.Telling.{found-by_id}
 use Rattle.file_drop.specs.Removals.{CanRemove, RemoveCut, IsRemoved}
-use Rattle.volume.specs.Answers.{IsReady}
-use Rattle.volume.specs.Removes.{id_named, without_named, RemoveLeaves, RemoveMakes, RemoveGoes, RemoveAnswers, RemoveCuts}
-use Rattle.volume.proofs.Answering.{refused_so}
+use Rattle.volume.specs.Answers.{IsReady, IsRefused}
+use Rattle.volume.specs.Steps.{StepMakes}
+use Rattle.volume.specs.Removes.{id_named, without_named, IsMissing, IsWithout, RemoveLeaves, RemoveGoes, RemoveAnswers, RemoveCuts}
+use Rattle.volume.proofs.Stepping.{IsFlat, cuts_by, name_refused, answers_by}
 
 -- ---- the file of a name
 
@@ -39,6 +40,14 @@ missing_by name files (Some f) at e = absurd (cc)
 
 pub named_none : (g : Geometry) (image name : List ℕ) → IsImage g image → IsTidy g image → first_named g image name ≡ None → file_named name (table_of g image) ≡ None
 named_none g image name whole tidy first = missing_by name (table_of g image) (file_named name (table_of g image)) refl (sym (named g image whole tidy name) ∙ first)
+
+-- it is there
+is_there : (o : Option File) (id : ℕ) → option_map (λ f. f.id) o ≡ Some id → is_some o ≡ true
+is_there None id e = absurd (cc)
+is_there (Some f) id e = refl
+
+pub named_there : (name : List ℕ) (files : List File) (id : ℕ) → id_named name files ≡ Some id → is_some (file_named name files) ≡ true
+named_there name files id is = is_there (file_named name files) id is
 
 -- it is in the table under its id
 has_by : (id : ℕ) (files : List File) (f : File) → file_of id files ≡ Some f → has_id id files ≡ true
@@ -71,7 +80,7 @@ leaves_by g was name image id ready is cut = record {
   reserve = let few = ready.reserve in let free = cut.free in omega (arith, few, free);
 }
 
-pub makes_by : (g : Geometry) (was name now : List ℕ) (id : ℕ) → IsReady g was → id_named name (table_of g was) ≡ Some id → IsRemoved g was id now → RemoveMakes g name was now
+pub makes_by : (g : Geometry) (was name now : List ℕ) (id : ℕ) → IsReady g was → id_named name (table_of g was) ≡ Some id → IsRemoved g was id now → StepMakes g (IsWithout g name was) now
 makes_by g was name now id ready is done = record {
   ready = record { tidy = done.tidy; reserve = let few = ready.reserve in let free = done.free in omega (arith, few, free) };
   table = without_id name (table_of g was) id is ∙ ap (λ (files : List File). Some files) (sym done.table);
@@ -86,68 +95,57 @@ module _ {D : Type 0} {nor : NorOf D} {old mid : D} (g : Geometry) (name : List 
 
   module _ {new : D} where
     pub step_changes : Changes nor mid new (λ was image. CanRemove g was id → RemoveCut g was id image) → Changes nor old new (λ was image. IsReady g was → RemoveLeaves g name was image)
-    step_changes step = after_reads looked (wider step (λ tells image cut ready.
-        let same : nor.bytes mid ≡ nor.bytes old = looked.bytes in
-        let was : IsReady g (nor.bytes old) = subst (λ (l : List ℕ). IsReady g l) same ready in
-        let told = looked.told_before tells in
-        subst (λ (l : List ℕ). RemoveLeaves g name l image) (sym same) (leaves_by g (nor.bytes old) name image id was (found told was.tidy) (subst (λ (l : List ℕ). RemoveCut g l id image) same (cut (step_can told was))))))
+    step_changes step = wider (after_reads looked step) (λ tells image cut ready.
+        let is = found tells ready.tidy in
+        leaves_by g (nor.bytes old) name image id ready is (cut (can_remove g (nor.bytes old) name id ready.tidy is)))
 
-    pub step_makes : nor.tells old → IsReady g (nor.bytes old) → IsRemoved g (nor.bytes mid) id (nor.bytes new) → RemoveMakes g name (nor.bytes old) (nor.bytes new)
+    pub step_makes : nor.tells old → IsReady g (nor.bytes old) → IsRemoved g (nor.bytes mid) id (nor.bytes new) → StepMakes g (IsWithout g name (nor.bytes old)) (nor.bytes new)
     step_makes tells ready done = makes_by g (nor.bytes old) name (nor.bytes new) id ready (found tells ready.tidy) (subst (λ (l : List ℕ). IsRemoved g l id (nor.bytes new)) looked.bytes done)
 
 -- ---- the flat model's answers
 
-bad_remove : (g : Geometry) (s : State) (name : List ℕ) (why : FsErr) → name_refusal name ≡ Some why → (full_answer g true s (Removes name)).answer ≡ Refuses why
-unfolding full_answer answer_remove
+bad_remove : (g : Geometry) (s : State) (name : List ℕ) (why : FsErr) → name_refusal name ≡ Some why → (answer g true s (Removes name)).answer ≡ Refuses why
+unfolding answer full_answer answer_remove
 bad_remove g s name why e = rw e refl
 
 pub remove_refused : {D : Type 0} (nor : NorOf D) (g : Geometry) (s : State) (name : List ℕ) (old new : D) (why : FsErr) → name_refusal name ≡ Some why → OnlyReads nor old new → RemoveAnswers nor g s name old new (Err why)
-remove_refused nor g s name old new why e reads =
-    ⊎_elim
-    (λ (bad : why ≡ BadName). let flat = bad_remove g s name BadName (e ∙ ap (λ w. Some w) bad) in rw bad (flat, reads))
-    (λ (long : why ≡ NameTooLong). let flat = bad_remove g s name NameTooLong (e ∙ ap (λ w. Some w) long) in rw long (flat, reads))
-    (refused_so name why e)
+remove_refused nor g s name old new why e reads = name_refused g s (Removes name) nor (IsRefused nor g s (Removes name) Unbuilt old new) old new name why (λ w is. bad_remove g s name w is) e reads
 
 -- where the name is there the flat model takes the file out
 flat_removes : (g : Geometry) (s : State) (name : List ℕ) (now : List File) (o : Option File) → name_refusal name ≡ None → file_named name s.table ≡ o → option_map (λ f. drop_file f.id s.table) o ≡ Some now →
-    ((full_answer g true s (Removes name)).answer ≡ Fine) × (now ≡ (full_answer g true s (Removes name)).next.table)
-unfolding full_answer answer_remove without
+    ((answer g true s (Removes name)).answer ≡ Fine) × (now ≡ (answer g true s (Removes name)).next.table)
+unfolding answer full_answer answer_remove without
 flat_removes g s name now None fine at e = absurd (cc)
 flat_removes g s name now (Some f) fine at e = let same : now ≡ drop_file f.id s.table = cc in (rw (fine, at) refl, rw (fine, at) same)
 
-flat_missing : (g : Geometry) (s : State) (name : List ℕ) → name_refusal name ≡ None → file_named name s.table ≡ None → (full_answer g true s (Removes name)).answer ≡ Refuses NotFound
-unfolding full_answer answer_remove
+flat_missing : (g : Geometry) (s : State) (name : List ℕ) → name_refusal name ≡ None → file_named name s.table ≡ None → (answer g true s (Removes name)).answer ≡ Refuses NotFound
+unfolding answer full_answer answer_remove
 flat_missing g s name fine at = rw (fine, at) refl
 
-removes : (g : Geometry) (s : State) (name : List ℕ) (files now : List File) → name_refusal name ≡ None → s.table ≡ files → without_named name files ≡ Some now →
-    ((full_answer g true s (Removes name)).answer ≡ Fine) × (now ≡ (full_answer g true s (Removes name)).next.table)
-removes g s name files now fine same is = flat_removes g s name now (file_named name s.table) fine refl (ap (without_named name) same ∙ is)
+there_by_name : (g : Geometry) (s : State) (name : List ℕ) (o : Option File) → name_refusal name ≡ None → file_named name s.table ≡ o → is_some o ≡ true → (answer g true s (Removes name)).answer ≡ Fine
+unfolding answer full_answer answer_remove without
+there_by_name g s name None fine at is = absurd (cc)
+there_by_name g s name (Some f) fine at is = rw (fine, at) refl
+
+module _ (g : Geometry) (s : State) (name was : List ℕ) (fine : name_refusal name ≡ None) (same : s.table ≡ table_of g was) where
+  removes : (files : List File) → IsWithout g name was files → IsFlat g s (Removes name) files
+  removes files is = flat_removes g s name files (file_named name s.table) fine refl (ap (without_named name) same ∙ is)
+
+  refuses : (why : FsErr) → IsMissing name (table_of g was) why → (answer g true s (Removes name)).answer ≡ Refuses why
+  refuses why missing = rw missing.0 (flat_missing g s name fine (ap (file_named name) same ∙ missing.1))
+
+  -- the volume stops in no other
+  pub remove_stops : is_some (file_named name (table_of g was)) ≡ true → (answer g true s (Removes name)).answer ≡ Fine
+  remove_stops there = there_by_name g s name (file_named name s.table) fine refl (ap (λ (files : List File). is_some (file_named name files)) same ∙ there)
+
+  -- a cut in it
+  pub leaves_cuts : (image : List ℕ) → RemoveLeaves g name was image → RemoveCuts g s name was image
+  leaves_cuts image leaves = cuts_by g s (Removes name) (IsWithout g name was) was image removes leaves
 
 module _ {D : Type 0} (nor : NorOf D) (g : Geometry) (s : State) (name : List ℕ) (old new : D) (fine : name_refusal name ≡ None) (same : s.table ≡ table_of g (nor.bytes old)) where
-  pub goes_answers : (result : Result (Unit {0}) FsErr) → RemoveGoes nor g name old new result → RemoveAnswers nor g s name old new result
-  goes_answers (Ok done) makes = let flat = removes g s name (table_of g (nor.bytes old)) (table_of g (nor.bytes new)) fine same makes.table in (flat.0, makes.ready, flat.1)
-  goes_answers (Err DeviceFault) goes = tt
-  goes_answers (Err NotFound) (e, reads) = (flat_missing g s name fine (ap (file_named name) same ∙ e), reads)
-  goes_answers (Err Failed) goes = absurd goes
-  goes_answers (Err BadName) goes = absurd goes
-  goes_answers (Err NameTooLong) goes = absurd goes
-  goes_answers (Err BadFlags) goes = absurd goes
-  goes_answers (Err BadDescriptor) goes = absurd goes
-  goes_answers (Err OutOfDescriptors) goes = absurd goes
-  goes_answers (Err FileExists) goes = absurd goes
-  goes_answers (Err ConflictingName) goes = absurd goes
-  goes_answers (Err NotReadable) goes = absurd goes
-  goes_answers (Err NotWritable) goes = absurd goes
-  goes_answers (Err SeekBounds) goes = absurd goes
-  goes_answers (Err Tight) goes = absurd goes
-  goes_answers (Err Full) goes = absurd goes
-  goes_answers (Err Unbuilt) goes = absurd goes
-  goes_answers (Err (Damaged differ)) goes = absurd goes
+  never_unbuilt : IsMissing name (table_of g (nor.bytes old)) Unbuilt → ⊥
+  never_unbuilt missing = let is : Unbuilt ≡ NotFound = missing.0 in absurd (cc)
 
--- a cut in it
-pub leaves_cuts : (g : Geometry) (s : State) (name was image : List ℕ) → name_refusal name ≡ None → s.table ≡ table_of g was → RemoveLeaves g name was image → RemoveCuts g s name was image
-leaves_cuts g s name was image fine same leaves = record {
-  sound = leaves.sound;
-  table = ⊎_elim (λ before. inl before) (λ after. inr (removes g s name (table_of g was) (table_of g image) fine same after)) leaves.table;
-  reserve = leaves.reserve;
-}
+  pub goes_answers : (result : Result (Unit {0}) FsErr) → RemoveGoes nor g name old new result → RemoveAnswers nor g s name old new result
+  goes_answers result goes = answers_by g s (Removes name) nor (IsRefused nor g s (Removes name) Unbuilt old new) old new (IsWithout g name (nor.bytes old)) (IsMissing name (table_of g (nor.bytes old)))
+      (removes g s name (nor.bytes old) fine same) (λ why missing built. refuses g s name (nor.bytes old) fine same why missing) (λ missing reads. absurd (never_unbuilt missing)) result goes

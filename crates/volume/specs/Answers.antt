@@ -8,52 +8,48 @@ use Rattle.table_model.specs.declared.error.FsErr.TheVariants.{Unbuilt, DeviceFa
 use Rattle.table_model.specs.declared.reply.Stat.{Stat}
 use Rattle.table_model.specs.declared.reply.Info.{Info}
 use Rattle.table_model.specs.Table.{State}
-use Rattle.table_model.specs.Files.{created}
 use Rattle.table_model.specs.Reply.{Answer, Fine, Shows, Ends, Counts, Refuses}
-use Rattle.table_model.specs.Ask.{Creates, Stats, NextAbove, Informs}
+use Rattle.table_model.specs.Ask.{Ask, Creates, Stats, NextAbove, Informs}
 use Rattle.table_model.specs.Flat.{answer}
 use Rattle.image_model.specs.Tables.{table_of}
 use Rattle.image_model.specs.Tidy.{IsTidy, HasReserve}
 use Rattle.image_model.specs.Sound.{IsSound}
 use Rattle.image_model.specs.Collect.{are_had}
-use Rattle.volume.specs.Refusals.{create_refusal}
 
 -- an image that a volume works on: tidy, with its reserve
 pub record IsReady (g : Geometry) (image : List ℕ) : Type 0 where
   pub tidy : IsTidy g image
   pub reserve : HasReserve g image
 
--- What a cut in a create of a fine name may leave: the table before, or with the file where nothing stands against it.
-pub record CreateLeaves (g : Geometry) (name was image : List ℕ) : Type 0 where
+-- the flat model refuses a call so, and the device was only read
+abbrev pub IsRefused : {D : Type 0} (nor : NorOf D) (g : Geometry) (s : State) (ask : Ask) (why : FsErr) (old new : D) → Type 0
+IsRefused nor g s ask why old new = ((answer g true s ask).answer ≡ Refuses why) × OnlyReads nor old new
+
+-- How a call that may change the table goes, by the flat model: done and answered so, or refused so. What Unbuilt tells is
+-- given.
+abbrev pub StepAnswers : {D : Type 0} (nor : NorOf D) (g : Geometry) (s : State) (ask : Ask) (AtUnbuilt : Type 0) (old new : D) → Result (Unit {0}) FsErr → Type 0
+StepAnswers nor g s ask AtUnbuilt old new (Ok done) = ((answer g true s ask).answer ≡ Fine) × (IsReady g (nor.bytes new)) × (table_of g (nor.bytes new) ≡ (answer g true s ask).next.table)
+StepAnswers nor g s ask AtUnbuilt old new (Err DeviceFault) = Unit {0}
+StepAnswers nor g s ask AtUnbuilt old new (Err Unbuilt) = AtUnbuilt
+StepAnswers nor g s ask AtUnbuilt old new (Err why) = IsRefused nor g s ask why old new
+
+-- What a cut in such a call may leave, by the flat model: the table before or, where the model does the call, the one after.
+pub record StepCuts (g : Geometry) (s : State) (ask : Ask) (was image : List ℕ) : Type 0 where
   pub sound : IsSound g image was
-  pub table : (table_of g image ≡ table_of g was) ⊎ ((create_refusal g was name ≡ None) × (table_of g image ≡ created g name (table_of g was)))
+  pub table : (table_of g image ≡ table_of g was) ⊎ (((answer g true s ask).answer ≡ Fine) × (table_of g image ≡ (answer g true s ask).next.table))
   pub reserve : HasReserve g image
 
--- the new image works on, and its table has the file
-pub record CreateMakes (g : Geometry) (name was now : List ℕ) : Type 0 where
-  pub allowed : create_refusal g was name ≡ None
-  pub ready : IsReady g now
-  pub table : table_of g now ≡ created g name (table_of g was)
+-- no page is had for a file that the flat model makes
+abbrev pub LacksPage : {D : Type 0} (nor : NorOf D) (g : Geometry) (s : State) (name : List ℕ) (old new : D) → Type 0
+LacksPage nor g s name old new = ((answer g true s (Creates name)).answer ≡ Fine) × (are_had g (nor.bytes old) 1 0 ≡ false) × OnlyReads nor old new
 
--- how a create of a fine name goes
-abbrev pub CreateGoes : {D : Type 0} (nor : NorOf D) (g : Geometry) (name : List ℕ) (old new : D) → Result (Unit {0}) FsErr → Type 0
-CreateGoes nor g name old new (Ok done) = CreateMakes g name (nor.bytes old) (nor.bytes new)
-CreateGoes nor g name old new (Err DeviceFault) = Unit {0}
-CreateGoes nor g name old new (Err why) = (create_refusal g (nor.bytes old) name ≡ Some why) × OnlyReads nor old new
-
--- How a create goes, by the flat model: done and answered so, or refused so with the device only read. Without a page to be
--- had it is Unbuilt, though the flat model makes the file.
+-- how a create goes; without a page to be had it is Unbuilt, though the flat model makes the file
 abbrev pub CreateAnswers : {D : Type 0} (nor : NorOf D) (g : Geometry) (s : State) (name : List ℕ) (old new : D) → Result (Unit {0}) FsErr → Type 0
-CreateAnswers nor g s name old new (Ok done) = ((answer g true s (Creates name)).answer ≡ Fine) × (IsReady g (nor.bytes new)) × (table_of g (nor.bytes new) ≡ (answer g true s (Creates name)).next.table)
-CreateAnswers nor g s name old new (Err DeviceFault) = Unit {0}
-CreateAnswers nor g s name old new (Err Unbuilt) = ((answer g true s (Creates name)).answer ≡ Fine) × (are_had g (nor.bytes old) 1 0 ≡ false) × OnlyReads nor old new
-CreateAnswers nor g s name old new (Err why) = ((answer g true s (Creates name)).answer ≡ Refuses why) × OnlyReads nor old new
+CreateAnswers nor g s name old new result = StepAnswers nor g s (Creates name) (LacksPage nor g s name old new) old new result
 
--- what a cut in a create may leave, by the flat model
-pub record CreateCuts (g : Geometry) (s : State) (name was image : List ℕ) : Type 0 where
-  pub sound : IsSound g image was
-  pub table : (table_of g image ≡ table_of g was) ⊎ (((answer g true s (Creates name)).answer ≡ Fine) × (table_of g image ≡ (answer g true s (Creates name)).next.table))
-  pub reserve : HasReserve g image
+-- what a cut in a create may leave
+abbrev pub CreateCuts : Geometry → State → List ℕ → List ℕ → List ℕ → Type 0
+CreateCuts g s name was image = StepCuts g s (Creates name) was image
 
 -- the record of a name, by the flat model, or why there is none
 abbrev pub StatAnswers : Geometry → State → List ℕ → Result Stat FsErr → Type 0

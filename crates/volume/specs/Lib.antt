@@ -5,4 +5,6 @@ pub mod Stages
 pub mod Same
 pub mod Answers
 pub mod Records
+pub mod Steps
+pub mod Creates
 pub mod Removes

@@ -1,4 +1,4 @@
-ghost use Rattle.std.specs.Prelude.{◌≡◌, ◌≢◌, ◌<◌, ◌≤◌, length, All, IsErrOf, IfOk, IfErr, OnErr, OnOk, Ok, Some, None, false};
+ghost use Rattle.std.specs.Prelude.{◌≡◌, ◌≢◌, ◌<◌, ◌≤◌, length, All, IsErrOf, IfOk, IfErr, OnErr, OnOk, Ok, Some, None, true, false};
 ghost use Rattle.geometry.specs.Numbers.{usable};
 ghost use Rattle.nor_core.specs.Count.{Rose};
 ghost use Rattle.nor_core.specs.Device.{Changes, OnlyReads};
@@ -7,11 +7,13 @@ ghost use Rattle.table_model.specs.Table.{least_id, has_name as the_name};
 ghost use Rattle.image_model.specs.Tables.{table_of};
 ghost use Rattle.image_model.specs.Tidy.{IsTidy, HasReserve};
 ghost use Rattle.volume.specs.Refusals.{create_refusal, Prepares};
-ghost use Rattle.volume.specs.Answers.{IsReady, CreateLeaves, CreateGoes};
+ghost use Rattle.volume.specs.Answers.{IsReady};
+ghost use Rattle.volume.specs.Creates.{CreateLeaves, CreateGoes};
 
 use crate::room::{has_room, is_had};
+use crate::steps::failed_as;
 use file_write::create_step;
-use flash_view::{StepErr, View};
+use flash_view::View;
 use free_search::{free_blocks, free_id};
 use header_laws::ids::names_are_told;
 use header_laws::room::ids_are_least;
@@ -85,11 +87,11 @@ pub(crate) fn create_in<N: Nor>(v: &mut View<'_, N>, name: &[u8]) -> Result<(), 
     ensures changes { Changes N.NorState v.old.nor.now v.new.nor.now (λ was image. IsReady v.old.geometry was → CreateLeaves v.old.geometry name.now was image) }
     ensures goes { N.tells v.old.nor.now → IsReady v.old.geometry (N.bytes v.old.nor.now) → CreateGoes N.NorState v.old.geometry name.now v.old.nor.now v.new.nor.now result }
     ensures untouched { v.old.wrote ≡ false → v.new.wrote ≡ false → OnlyReads N.NorState v.old.nor.now v.new.nor.now }
+    ensures begun { v.old.wrote ≡ false → v.new.wrote ≡ true → N.tells v.old.nor.now → IsTidy v.old.geometry (N.bytes v.old.nor.now) → create_refusal v.old.geometry (N.bytes v.old.nor.now) name.now ≡ None }
 {
     let id = prepare(v, name)?;
     match create_step(v, id, name) {
         Ok(()) => Ok(()),
-        Err(StepErr::DeviceFault) => Err(FsErr::DeviceFault),
-        Err(StepErr::Damaged(differ)) => Err(FsErr::Damaged(differ)),
+        Err(why) => Err(failed_as(why)),
     }
 }

@@ -1,12 +1,16 @@
 //! A mounted volume and its file calls.
 #![tactic(auto)]
 
+mod changing;
 mod create;
+mod looking;
 mod names;
 mod records;
 mod remove;
 mod room;
+mod saying;
 mod stage;
+mod steps;
 mod volume;
 
 pub use stage::Stage;

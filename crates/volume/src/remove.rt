@@ -1,14 +1,16 @@
-ghost use Rattle.std.specs.Prelude.{◌≡◌, ◌≤◌, IsErrOf, IfOk, Some, None, false};
+ghost use Rattle.std.specs.Prelude.{◌≡◌, ◌≤◌, is_some, IsErrOf, true, false};
 ghost use Rattle.nor_core.specs.Count.{Rose};
 ghost use Rattle.nor_core.specs.Device.{Changes, OnlyReads};
 ghost use Rattle.flash_view.specs.Same.{IsSameView, OnlyLooks};
+ghost use Rattle.table_model.specs.Table.{file_named};
 ghost use Rattle.image_model.specs.Tables.{table_of};
 ghost use Rattle.image_model.specs.Tidy.{IsTidy};
 ghost use Rattle.volume.specs.Answers.{IsReady};
 ghost use Rattle.volume.specs.Removes.{FindsNamed, RemoveLeaves, RemoveGoes};
 
+use crate::steps::failed_as;
 use file_drop::remove_step;
-use flash_view::{StepErr, View};
+use flash_view::View;
 use nor_core::{Failed, Nor, NorState};
 use table_model::FsErr;
 
@@ -34,11 +36,11 @@ pub(crate) fn remove_in<N: Nor>(v: &mut View<'_, N>, name: &[u8]) -> Result<(), 
     ensures changes { Changes N.NorState v.old.nor.now v.new.nor.now (λ was image. IsReady v.old.geometry was → RemoveLeaves v.old.geometry name.now was image) }
     ensures goes { N.tells v.old.nor.now → IsReady v.old.geometry (N.bytes v.old.nor.now) → RemoveGoes N.NorState v.old.geometry name.now v.old.nor.now v.new.nor.now result }
     ensures untouched { v.old.wrote ≡ false → v.new.wrote ≡ false → OnlyReads N.NorState v.old.nor.now v.new.nor.now }
+    ensures begun { v.old.wrote ≡ false → v.new.wrote ≡ true → N.tells v.old.nor.now → IsTidy v.old.geometry (N.bytes v.old.nor.now) → is_some (file_named name.now (table_of v.old.geometry (N.bytes v.old.nor.now))) ≡ true }
 {
     let id = find_named(v, name)?;
     match remove_step(v, id) {
         Ok(()) => Ok(()),
-        Err(StepErr::DeviceFault) => Err(FsErr::DeviceFault),
-        Err(StepErr::Damaged(differ)) => Err(FsErr::Damaged(differ)),
+        Err(why) => Err(failed_as(why)),
     }
 }

@@ -1,5 +1,5 @@
-use Rattle.std.proofs.Common.{◌≡◌, sym, ◌∙◌}
-use Rattle.flash_view.specs.declared.kinds.StepErr.TheVariants.{DeviceFault, Damaged}
+use Rattle.std.proofs.Common.{◌≡◌}
+use Rattle.flash_view.specs.declared.kinds.StepErr.TheVariants.{DeviceFault}
 use Rattle.volume.proofs.Creating.{step_changes, step_can, step_makes}
 use Rattle.volume.proofs.create.create_in.Goals as goal
 
@@ -15,20 +15,20 @@ returns-in-Ok-clause-goes g c = λ tells ready.
     step_makes geometry c.args.name.now c.in_ok-id.id looked.looks.reads looked.told tells ready
     ((rw looked.looks.same.geometry at c.in-Ok.ensures.done) (looked.looks.reads.told tells) (step_can geometry c.args.name.now c.in_ok-id.id looked.looks.reads looked.told tells ready))
 
-pub returns-in-Err-DeviceFault-clause-changes : goal.returns-in-Err-DeviceFault-clause-changes
-returns-in-Err-DeviceFault-clause-changes g c =
+pub returns-in-Err-clause-changes : goal.returns-in-Err-clause-changes
+returns-in-Err-clause-changes g c =
     let looked = c.in_ok-id.ensures in
-    step_changes c.args.v.now.geometry c.args.name.now c.in_ok-id.id looked.looks.reads looked.told (rw looked.looks.same.geometry at c.in-Err-DeviceFault.ensures.changes)
+    step_changes c.args.v.now.geometry c.args.name.now c.in_ok-id.id looked.looks.reads looked.told (rw looked.looks.same.geometry at c.in-Err.ensures.changes)
 
-pub returns-in-Err-Damaged-clause-changes : goal.returns-in-Err-Damaged-clause-changes
-returns-in-Err-Damaged-clause-changes g c =
-    let looked = c.in_ok-id.ensures in
-    step_changes c.args.v.now.geometry c.args.name.now c.in_ok-id.id looked.looks.reads looked.told (rw looked.looks.same.geometry at c.in-Err-Damaged.ensures.changes)
-
-pub returns-in-Err-Damaged-clause-goes : goal.returns-in-Err-Damaged-clause-goes
-returns-in-Err-Damaged-clause-goes g c = λ tells ready.
+pub returns-in-Err-clause-goes : goal.returns-in-Err-clause-goes
+returns-in-Err-clause-goes g c = λ tells ready.
     let looked = c.in_ok-id.ensures in
     let geometry = c.args.v.now.geometry in
-    let only : c.in-Err-Damaged.field-0 ≡ DeviceFault = (rw looked.looks.same.geometry at c.in-Err-Damaged.ensures.undamaged) (looked.looks.reads.told tells) (step_can geometry c.args.name.now c.in_ok-id.id looked.looks.reads looked.told tells ready) in
-    let never : Damaged c.in-Err-Damaged.differ ≡ DeviceFault = sym c.in-Err-Damaged.field-0-is ∙ only in
-    absurd (cc)
+    let only : c.in-Err.why ≡ DeviceFault = (rw looked.looks.same.geometry at c.in-Err.ensures.undamaged) (looked.looks.reads.told tells) (step_can geometry c.args.name.now c.in_ok-id.id looked.looks.reads looked.told tells ready) in
+    rw (c.failed_as.ensures.fault only) tt
+
+pub returns-in-Ok-clause-begun : goal.returns-in-Ok-clause-begun
+returns-in-Ok-clause-begun g c = λ before after tells tidy. (c.in_ok-id.ensures.told tells tidy).0
+
+pub returns-in-Err-clause-begun : goal.returns-in-Err-clause-begun
+returns-in-Err-clause-begun g c = λ before after tells tidy. (c.in_ok-id.ensures.told tells tidy).0

@@ -1,4 +1,4 @@
-use Rattle.std.proofs.Common.{sym, ◌∙◌, arith}
+use Rattle.std.proofs.Common.{refl, sym, ◌∙◌, arith}
 use Rattle.image_model.specs.Places.{IsImage}
 use Rattle.volume.proofs.Removing.{named_some, named_none}
 use Rattle.volume.proofs.remove.find_named.Goals as goal
@@ -17,4 +17,4 @@ returns-in-Ok-None-clause-told g c = λ tells tidy.
     let image = g.N.NorState.bytes view.nor.now in
     let size = g.met.N.Nor.sized view.nor.now tells in
     let whole : IsImage view.geometry image = record { len = omega (arith, size, view.volume) } in
-    named_none view.geometry image c.args.name.now whole tidy (sym (c.in-Ok-None.ensures.told tells) ∙ c.in-Ok-None.field-0-is)
+    (refl, named_none view.geometry image c.args.name.now whole tidy (sym (c.in-Ok-None.ensures.told tells) ∙ c.in-Ok-None.field-0-is))
