@@ -196,11 +196,11 @@ from_state m more t still among = rw still among
 
 -- A call that publishes one step: this build has it, done it has that step alone, and refused it leaves the state, and never for a
 -- page that reads otherwise.
-record IsStep (g : Geometry) (ask : Ask) : Type 0 where
-  built : is_built ask ≡ true
-  one : (s : State) → (answer g true s ask).answer ≡ Fine → steps g true s ask ≡ (answer g true s ask).next.table ∷ []
-  stands : (s : State) (why : FsErr) → (answer g true s ask).answer ≡ Refuses why → (answer g true s ask).next ≡ s
-  undamaged : (s : State) (d : Differ) → (answer g true s ask).answer ≡ Refuses (Damaged d) → ⊥
+pub record IsStep (g : Geometry) (ask : Ask) : Type 0 where
+  pub built : is_built ask ≡ true
+  pub one : (s : State) → (answer g true s ask).answer ≡ Fine → steps g true s ask ≡ (answer g true s ask).next.table ∷ []
+  pub stands : (s : State) (why : FsErr) → (answer g true s ask).answer ≡ Refuses why → (answer g true s ask).next ≡ s
+  pub undamaged : (s : State) (d : Differ) → (answer g true s ask).answer ≡ Refuses (Damaged d) → ⊥
 
 -- the steps of a call that is done
 done_at : (g : Geometry) (s : State) (ask : Ask) → (answer g true s ask).answer ≡ Fine → steps g true s ask ≡ done_steps g s ask (answer g true s ask).next.table
@@ -250,7 +250,7 @@ pub at_ready : (g : Geometry) (image : List ℕ) (m : Moment) → IsAt g image m
 at_ready g image m here = record { tidy = here.tidy; reserve = here.reserve }
 
 -- what each such call of a volume may leave at a cut
-abbrev CutsOf : {D : Type 0} (nor : NorOf D) (g : Geometry) (old new : D) (ask : Ask) → Type 0
+abbrev pub CutsOf : {D : Type 0} (nor : NorOf D) (g : Geometry) (old new : D) (ask : Ask) → Type 0
 CutsOf nor g old new ask = (s : State) → Changes nor old new (λ was image. s.table ≡ table_of g was → IsReady g was → StepCuts g s ask was image)
 
 module _ {D : Type 0} {nor : NorOf D} {g : Geometry} where
@@ -307,11 +307,11 @@ module _ {D : Type 0} {nor : NorOf D} {g : Geometry} where
   }
 
   -- the device failed, and it isn't known
-  step_failed : {old new : D} (ask : Ask) → IsStep g ask → CutsOf nor g old new ask → DoesCall nor g old new ask (Err BoardFault)
+  step_failed : {old new : D} (ask : Ask) → IsStep g ask → CutsOf nor g old new ask → DoesCall nor g old new ask (refused_as DeviceFault)
   step_failed ask step changes = record { changes = publishes ask step changes; answers = λ m stands. tt {0}; stops = λ m stands. tt {0} }
 
   -- the flat table never says that a page reads otherwise
-  step_differs : {old new : D} (ask : Ask) (differ : Differ) → IsStep g ask → CutsOf nor g old new ask → ((m : Moment) → Stands nor g old m → (answer g true m.state ask).answer ≡ Refuses (Damaged differ)) → DoesCall nor g old new ask (Err (Differ differ))
+  step_differs : {old new : D} (ask : Ask) (differ : Differ) → IsStep g ask → CutsOf nor g old new ask → ((m : Moment) → Stands nor g old m → (answer g true m.state ask).answer ≡ Refuses (Damaged differ)) → DoesCall nor g old new ask (refused_as (Damaged differ))
   step_differs ask differ step changes told = record { changes = publishes ask step changes; answers = λ m stands. tt {0}; stops = λ m stands. step.undamaged m.state differ (told m stands) }
 
   -- a file was removed, or none was
