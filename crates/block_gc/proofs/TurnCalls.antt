@@ -1,9 +1,9 @@
 -- Emptying a block and making it fresh, over a device.
-use Rattle.std.proofs.Common.{◌≡◌, ℕ, ◌+◌, ◌<◌, List, true, Some, sym, subst}
+use Rattle.std.proofs.Common.{◌≡◌, ◌∙◌, ℕ, ◌+◌, ◌<◌, List, true, Some, sym, subst, Bool, false, refl}
 use Rattle.geometry.specs.declared.geometry.Geometry.{Geometry}
 use Rattle.nor_core.specs.declared.state.NorState.{Ghosts as NorOf}
 use Rattle.nor_core.specs.Device.{OnlyReads, Changes}
-use Rattle.nor_core.proofs.Cuts.{wider, unchanged, go_on, after_reads}
+use Rattle.nor_core.proofs.Cuts.{wider, unchanged, go_on, after_reads, reads_then}
 use Rattle.image_model.specs.Volume.{page_count}
 use Rattle.image_model.specs.Live.{live_at}
 use Rattle.image_model.specs.Places.{block_of, is_entry_page, next_count, IsImage}
@@ -16,6 +16,12 @@ use Rattle.block_gc.specs.Moves.{CanMove, MoveCut, MovedIndex}
 use Rattle.block_gc.specs.Emptied.{HasPlaces, CanMoveOut, TurnCut, TurnDone, CleanCut, Emptied, CanCleanIndex, CleanedIndex}
 use Rattle.block_gc.proofs.OneTurn.{turn_stays, can_move, move_cut, turn_moves}
 use Rattle.block_gc.proofs.Turns.{emptied_on, cut_on, clean_stays, places_of, fresh_cut, fresh_done}
+
+-- where nothing was asked for after all only reads were called
+pub untouched_then : {D : Type 0} {nor : NorOf D} {old mid new : D} (a b c : Bool) → (a ≡ false → b ≡ false → OnlyReads nor old mid) → (b ≡ true → c ≡ true) → (b ≡ false → c ≡ false → OnlyReads nor mid new) →
+    a ≡ false → c ≡ false → OnlyReads nor old new
+untouched_then a true c first wrote second was is = absurd (let bad : true ≡ false = sym (wrote refl) ∙ is in cc)
+untouched_then a false c first wrote second was is = reads_then (first was refl) (second refl is)
 
 -- a turn after others
 pub emptied_then : (g h : Geometry) (block p q next : ℕ) (first a b : List ℕ) → h ≡ g → q ≡ p → next ≡ p + 1 → Emptied g block p first a → (HasPlaces h a block → TurnDone h block q a b) → Emptied g block next first b

@@ -1,7 +1,7 @@
 // Cleaning an index block: its live index pages are moved out in page order, and then it is made fresh.
-ghost use Rattle.std.specs.Prelude.{◌≡◌, ◌<◌, ◌≤◌, OnErr, OnOk, IfOk, IfErr, IsErrOf};
+ghost use Rattle.std.specs.Prelude.{◌≡◌, ◌<◌, ◌≤◌, OnErr, OnOk, IfOk, IfErr, IsErrOf, true, false};
 ghost use Rattle.nor_core.specs.Count.{Rose};
-ghost use Rattle.nor_core.specs.Device.{Changes};
+ghost use Rattle.nor_core.specs.Device.{Changes, OnlyReads};
 ghost use Rattle.geometry.specs.Numbers.{page_count};
 ghost use Rattle.image_model.specs.Kinds.{is_index_page};
 ghost use Rattle.image_model.specs.Live.{live_at};
@@ -53,6 +53,8 @@ fn move_out<N: Nor>(v: &mut View<'_, N>, page: u16, block: u16) -> Result<(), St
     ensures cause { IsErrOf result StepErr.DeviceFault → Rose (N.faults v.old.nor.now) (N.faults v.new.nor.now) }
     ensures faults { N.faults v.old.nor.now ≤ N.faults v.new.nor.now }
     ensures same { IsSameView v.old v.new }
+    ensures wrote { v.old.wrote ≡ true → v.new.wrote ≡ true }
+    ensures untouched { v.old.wrote ≡ false → v.new.wrote ≡ false → OnlyReads N.NorState v.old.nor.now v.new.nor.now }
     ensures changes { Changes N.NorState v.old.nor.now v.new.nor.now (λ was image. CanMoveOut v.old.geometry was block page → TurnCut v.old.geometry block was image) }
     ensures done { N.tells v.old.nor.now → CanMoveOut v.old.geometry (N.bytes v.old.nor.now) block page → OnOk result (TurnDone v.old.geometry block page (N.bytes v.old.nor.now) (N.bytes v.new.nor.now)) }
     ensures undamaged { N.tells v.old.nor.now → CanMoveOut v.old.geometry (N.bytes v.old.nor.now) block page → IfErr result (λ why. why ≡ StepErr.DeviceFault) }
@@ -75,6 +77,8 @@ fn empty_page<N: Nor>(v: &mut View<'_, N>, page: u16, block: u16) -> Result<(), 
     ensures cause { IsErrOf result StepErr.DeviceFault → Rose (N.faults v.old.nor.now) (N.faults v.new.nor.now) }
     ensures faults { N.faults v.old.nor.now ≤ N.faults v.new.nor.now }
     ensures same { IsSameView v.old v.new }
+    ensures wrote { v.old.wrote ≡ true → v.new.wrote ≡ true }
+    ensures untouched { v.old.wrote ≡ false → v.new.wrote ≡ false → OnlyReads N.NorState v.old.nor.now v.new.nor.now }
     ensures changes { Changes N.NorState v.old.nor.now v.new.nor.now (λ was image. HasPlaces v.old.geometry was block → TurnCut v.old.geometry block was image) }
     ensures done { N.tells v.old.nor.now → HasPlaces v.old.geometry (N.bytes v.old.nor.now) block → OnOk result (TurnDone v.old.geometry block page (N.bytes v.old.nor.now) (N.bytes v.new.nor.now)) }
     ensures undamaged { N.tells v.old.nor.now → HasPlaces v.old.geometry (N.bytes v.old.nor.now) block → IfErr result (λ why. why ≡ StepErr.DeviceFault) }
@@ -92,6 +96,8 @@ fn empty_block<N: Nor>(v: &mut View<'_, N>, block: u16) -> Result<(), StepErr>
     ensures cause { IsErrOf result StepErr.DeviceFault → Rose (N.faults v.old.nor.now) (N.faults v.new.nor.now) }
     ensures faults { N.faults v.old.nor.now ≤ N.faults v.new.nor.now }
     ensures same { IsSameView v.old v.new }
+    ensures wrote { v.old.wrote ≡ true → v.new.wrote ≡ true }
+    ensures untouched { v.old.wrote ≡ false → v.new.wrote ≡ false → OnlyReads N.NorState v.old.nor.now v.new.nor.now }
     ensures changes { Changes N.NorState v.old.nor.now v.new.nor.now (λ was image. HasPlaces v.old.geometry was block → CleanCut v.old.geometry was image) }
     ensures done { N.tells v.old.nor.now → HasPlaces v.old.geometry (N.bytes v.old.nor.now) block → OnOk result (Emptied v.old.geometry block (page_count v.old.geometry) (N.bytes v.old.nor.now) (N.bytes v.new.nor.now)) }
     ensures undamaged { N.tells v.old.nor.now → HasPlaces v.old.geometry (N.bytes v.old.nor.now) block → IfErr result (λ why. why ≡ StepErr.DeviceFault) }
@@ -112,6 +118,8 @@ pub fn clean_index<N: Nor>(v: &mut View<'_, N>, block: u16) -> Result<(), StepEr
     ensures cause { IsErrOf result StepErr.DeviceFault → Rose (N.faults v.old.nor.now) (N.faults v.new.nor.now) }
     ensures faults { N.faults v.old.nor.now ≤ N.faults v.new.nor.now }
     ensures same { IsSameView v.old v.new }
+    ensures wrote { v.old.wrote ≡ true → v.new.wrote ≡ true }
+    ensures untouched { v.old.wrote ≡ false → v.new.wrote ≡ false → OnlyReads N.NorState v.old.nor.now v.new.nor.now }
     ensures changes { Changes N.NorState v.old.nor.now v.new.nor.now (λ was image. CanCleanIndex v.old.geometry was block → CleanCut v.old.geometry was image) }
     ensures done { N.tells v.old.nor.now → CanCleanIndex v.old.geometry (N.bytes v.old.nor.now) block → OnOk result (CleanedIndex v.old.geometry block (N.bytes v.old.nor.now) (N.bytes v.new.nor.now)) }
     ensures undamaged { N.tells v.old.nor.now → CanCleanIndex v.old.geometry (N.bytes v.old.nor.now) block → IfErr result (λ why. why ≡ StepErr.DeviceFault) }
