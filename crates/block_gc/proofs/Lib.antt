@@ -7,3 +7,8 @@ pub mod Renewed
 pub mod MovedIndexes
 pub mod Building
 pub mod MoveCalls
+pub mod Sums
+pub mod SameBlocks
+pub mod OneTurn
+pub mod Turns
+pub mod TurnCalls
