@@ -1,0 +1,9 @@
+pub mod Totals
+pub mod Numbers
+pub mod Bounding
+pub mod Packings
+pub mod Measures
+pub mod Mend
+pub mod Cuts
+pub mod Moves
+pub mod Orders

@@ -1,0 +1,10 @@
+pub mod Counts
+pub mod Volume
+pub mod Cleaning
+pub mod Bounds
+pub mod Packing
+pub mod Measure
+pub mod Mending
+pub mod Cut
+pub mod Steps
+pub mod Order
