@@ -7,3 +7,7 @@ pub mod Mend
 pub mod Cuts
 pub mod Moves
 pub mod Orders
+pub mod Ranges
+pub mod Blocks
+pub mod Tallies
+pub mod Judged

@@ -8,3 +8,4 @@ pub mod Mending
 pub mod Cut
 pub mod Steps
 pub mod Order
+pub mod Counting
