@@ -11,3 +11,4 @@ pub mod Ranges
 pub mod Blocks
 pub mod Tallies
 pub mod Judged
+pub mod Chosen

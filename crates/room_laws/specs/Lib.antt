@@ -9,3 +9,4 @@ pub mod Cut
 pub mod Steps
 pub mod Order
 pub mod Counting
+pub mod Choosing
