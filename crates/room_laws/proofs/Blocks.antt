@@ -80,7 +80,7 @@ module _ (g : Geometry) (image : List ℕ) (t : IsTidy g image) where
     whole = four_kinds (λ p. is_index_page (live_at g image p)) (λ p. is_data_page (live_at g image p)) (λ p. is_deleted_entry g image p) (λ p. is_free_entry g image p)
         (block * per_block g + lookups g) (entries g) (λ q from to. each_one q (entry_in g block q low from to).1)
 
-    data_is : nat_lt 0 (data_in g image block) ≡ is_data_block g image block
+    pub data_is : nat_lt 0 (data_in g image block) ≡ is_data_block g image block
     unfolding data_in is_data_block
     data_is = any_counted (λ p. is_data_page (live_at g image p)) (range_with_len (block * per_block g + lookups g) (entries g))
 

@@ -12,3 +12,5 @@ pub mod Blocks
 pub mod Tallies
 pub mod Judged
 pub mod Chosen
+pub mod Cleans
+pub mod Stops

@@ -25,15 +25,23 @@ sum_but f h k a (suc n) low high none same =
     omega (arith, rest, left, right, first))
     (cases_eq a k)
 
--- a number of the sum is at most the sum
-pub sum_some : (f : ℕ → ℕ) (a n q : ℕ) → a ≤ q → q < a + n → f q ≤ sum_by f (range_with_len a n)
-sum_some f a zero q low high = absurd (omega arith)
-sum_some f a (suc n) q low high =
-    let whole = sum_by-cons f a (range_with_len (a + 1) n) in
-    ⊎_elim
-    (λ (here : a ≡ q). let same : f a ≡ f q = ap f here in omega (arith, whole, same))
-    (λ (there : a ≡ q → ⊥). let rest = sum_some f (a + 1) n q (omega (arith, there)) (omega arith) in omega (arith, whole, rest))
-    (cases_eq a q)
+sum_le : (f h : ℕ → ℕ) (a n : ℕ) → ((q : ℕ) → a ≤ q → q < a + n → f q ≤ h q) → sum_by f (range_with_len a n) ≤ sum_by h (range_with_len a n)
+sum_le f h a zero le = omega arith
+sum_le f h a (suc n) le =
+    let left = sum_by-cons f a (range_with_len (a + 1) n) in
+    let right = sum_by-cons h a (range_with_len (a + 1) n) in
+    let rest = sum_le f h (a + 1) n (λ q low high. le q (omega arith) (omega arith)) in
+    omega (arith, left, right, le a (omega arith) (omega arith), rest)
+
+-- a sum with no number above the other's, and with 0 at one place
+pub sum_less : (f h : ℕ → ℕ) (k a n : ℕ) → a ≤ k → k < a + n → f k ≡ 0 → ((q : ℕ) → a ≤ q → q < a + n → (q ≡ k → ⊥) → f q ≤ h q) → sum_by f (range_with_len a n) + h k ≤ sum_by h (range_with_len a n)
+sum_less f h k a n low high none less =
+    let but = sum_but (λ q. cond (q == k) 0 (h q)) h k a n low high (rw (eq-eqb k k refl) refl) (λ q from to there. rw (ne_eqb q k there) refl) in
+    let under = sum_le f (λ q. cond (q == k) 0 (h q)) a n (λ q from to. ⊎_elim
+    (λ (here : q ≡ k). rw here (omega (arith, none)))
+    (λ (there : q ≡ k → ⊥). rw (ne_eqb q k there) (less q from to there))
+    (cases_eq q k)) in
+    omega (arith, but, under)
 
 count_append : (t : ℕ → Bool) (a n m : ℕ) → length (filter t (range_with_len a (n + m))) ≡ length (filter t (range_with_len a n)) + length (filter t (range_with_len (a + n) m))
 count_append t a zero m = let at : a + 0 ≡ a = omega arith in let all : 0 + m ≡ m = omega arith in rw (at, all) (omega arith)

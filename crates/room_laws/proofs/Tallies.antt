@@ -50,7 +50,7 @@ index_counted : (g : Geometry) (image : List ℕ) (b : ℕ) → (block_counts g 
 unfolding block_counts
 index_counted g image b = refl
 
-deleted_counted : (g : Geometry) (image : List ℕ) (b : ℕ) → (block_counts g image b).deleted ≡ deleted_in g image b
+pub deleted_counted : (g : Geometry) (image : List ℕ) (b : ℕ) → (block_counts g image b).deleted ≡ deleted_in g image b
 unfolding block_counts
 deleted_counted g image b = refl
 
@@ -117,7 +117,7 @@ module _ (g : Geometry) (image : List ℕ) where
     is_index (told_index f d k p) = rw (f, d, k) refl
     is_index (told_data f d j k i) = rw (f, d, k) refl
 
-    is_data : Told g image b → if_kind for_data (block_counts g image b) 1 ≡ cond (is_data_block g image b) 1 0
+    pub is_data : Told g image b → if_kind for_data (block_counts g image b) 1 ≡ cond (is_data_block g image b) 1 0
     is_data (told_free f d j k i p x) = rw (d, k) refl
     is_data (told_index f d k p) = rw (d, k) refl
     is_data (told_data f d j k i) = rw (d, k) refl
@@ -145,7 +145,7 @@ module _ (g : Geometry) (image : List ℕ) where
     index_lost (told_index f d k p) = rw (d, k) (deleted_counted g image b)
     index_lost (told_data f d j k i) = rw (d, k) refl
 
-    data_lost : Told g image b → if_kind for_data (block_counts g image b) (block_counts g image b).deleted ≡ cond (is_data_block g image b) (deleted_in g image b) 0
+    pub data_lost : Told g image b → if_kind for_data (block_counts g image b) (block_counts g image b).deleted ≡ cond (is_data_block g image b) (deleted_in g image b) 0
     data_lost (told_free f d j k i p x) = rw (d, k) refl
     data_lost (told_index f d k p) = rw (d, k) refl
     data_lost (told_data f d j k i) = rw (d, k) (deleted_counted g image b)

@@ -10,3 +10,5 @@ pub mod Steps
 pub mod Order
 pub mod Counting
 pub mod Choosing
+pub mod Cleans
+pub mod Stopping

@@ -1,8 +1,10 @@
-//! The arithmetic of garbage collection: when it stops, what it keeps, and what a cut leaves to it.
+//! The arithmetic of garbage collection: which blocks are cleaned, what cleanings keep, and where they stop.
 #![tactic(auto)]
 
 pub mod choosing;
+pub mod cleaning;
 pub mod images;
 pub mod mending;
 pub mod steps;
+pub mod stopping;
 pub mod volumes;
