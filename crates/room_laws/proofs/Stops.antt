@@ -3,7 +3,7 @@ use Rattle.std.proofs.Common.{◌≡◌, ℕ, ◌+◌, ◌-◌, ◌*◌, ◌/◌
 use Rattle.std.specs.Prelude.{Contains, Option, Some, None}
 use Rattle.std.specs.List.{range_with_len, list_any}
 use Rattle.std.proofs.Math.Nat.{mul-le-mul, mul-le-mul_left, mul-le-mul_right}
-use Rattle.std.proofs.lemmas.Bool.{cases_Bool, cases_lt, and_from, lt-ltb, le-ltb, false_from_ne_true}
+use Rattle.std.proofs.lemmas.Bool.{cases_Bool, cases_lt, and_from, and_parts, or_left, lt-ltb, le-ltb, false_from_ne_true}
 use Rattle.std.proofs.lemmas.List.FromFn.{length-map-range_with_len, get_or-map-range_with_len}
 use Rattle.geometry.specs.declared.geometry.Geometry.{Geometry}
 use Rattle.geometry.specs.Numbers.{ceil}
@@ -12,26 +12,27 @@ use Rattle.image_model.specs.Volume.{per_block, lookups, entries}
 use Rattle.image_model.specs.Places.{IsImage}
 use Rattle.image_model.specs.Tables.{table_of}
 use Rattle.image_model.specs.Tidy.{IsTidy, free_blocks, HasReserve}
-use Rattle.image_model.specs.Kinds.{is_data_block, data_blocks}
-use Rattle.image_model.specs.Collect.{is_worth, is_fitting, chosen_block, are_had, is_stuck}
+use Rattle.image_model.specs.Kinds.{is_data_block, data_blocks, other_blocks}
+use Rattle.image_model.specs.Collect.{deleted_in, is_worth, is_fitting, chosen_block, are_had, is_stuck}
 use Rattle.image_laws.proofs.BlockCounts.{reserve-room}
-use Rattle.image_laws.proofs.Damaged.{any_from}
+use Rattle.image_laws.proofs.Damaged.{any_at, any_from}
+use Rattle.image_laws.proofs.Truncating.{ceil-mono}
 use Rattle.image_laws.proofs.Tally.{tidy-counts}
 use Rattle.room_laws.specs.Counts.{Counts, unused, for_index, for_data, kind_of}
 use Rattle.room_laws.specs.Volume.{IsVolume, blocks_of, free_of, deleted_of, index_total, pages_total, Worth, Fits}
 use Rattle.room_laws.specs.Bounds.{Bound}
-use Rattle.room_laws.specs.Packing.{RoomFor}
+use Rattle.room_laws.specs.Packing.{NoneWorth, Packed, RoomFor}
 use Rattle.room_laws.specs.Measure.{digits, measure}
 use Rattle.room_laws.specs.Counting.{block_counts, counts_of}
 use Rattle.room_laws.specs.Choosing.{IsCandidate}
 use Rattle.room_laws.specs.Cleans.{IsCleaned}
-use Rattle.room_laws.specs.Stopping.{HasBound, HasRoomFor, gc_measure, CanClean, ReserveCanClean, CleanedCanClean, CleanedIsLower, MeasureIsSmall, ReserveFitsEach, LastFreeIsPlain, StoppedHasReserve, StoppedHasNoWorth, NeverStuck, StoppedHasPages, HadNeedsRoom}
+use Rattle.room_laws.specs.Stopping.{HasBound, HasRoomFor, gc_measure, CanClean, ReserveCanClean, CleanedCanClean, CleanedIsLower, MeasureIsSmall, ReserveFitsEach, LastFreeIsPlain, StoppedHasReserve, StoppedHasNoWorth, NeverStuck, StoppedHasPages, HadNeedsRoom, IsPacked, NoWorthIsPacked, UnstuckHasNoWorth, UnstuckHasPages}
 use Rattle.room_laws.proofs.Totals.{sums}
 use Rattle.room_laws.proofs.Bounding.{reserve_fits, bound_kept, last_free_fits}
-use Rattle.room_laws.proofs.Packings.{had_room, stopped_had}
+use Rattle.room_laws.proofs.Packings.{none_worth_packed, had_room, stopped_had}
 use Rattle.room_laws.proofs.Measures.{cleaning_lowers}
 use Rattle.room_laws.proofs.Blocks.{Told, told_free, told_index, told_data, told}
-use Rattle.room_laws.proofs.Tallies.{tidy_counts_tell, tidy_is_volume}
+use Rattle.room_laws.proofs.Tallies.{entries_pos, tidy_counts_tell, tidy_is_volume}
 use Rattle.room_laws.proofs.Judged.{worth_is_tested, fits_is_tested, had_is_tested}
 use Rattle.room_laws.proofs.Chosen.{none_is_candidate, chosen_is_plain}
 use Rattle.room_laws.proofs.Cleans.{cleaned_is_counted, block_in}
@@ -145,6 +146,64 @@ pub had_needs_room : (g : Geometry) → HadNeedsRoom g
 had_needs_room g image i d is t two had =
     room_from g image t is i d
     (had_room (entries g) (counts_of g image) i d (tidy_is_volume g image t) (omega (arith, two, (tidy_counts_tell g image t).unused_blocks)) ((had_is_tested g image i d t).0 had))
+
+-- ---- whatever is free
+
+module _ (g : Geometry) (image : List ℕ) (t : IsTidy g image) (none : (block : ℕ) → block < g.blocks → is_worth g image block ≡ false) where
+  none_worth : NoneWorth (counts_of g image)
+  none_worth c at worth =
+      let b = block_of_counts g image c at in
+      let w = (worth_is_tested g image b.0 t b.1).1 (subst (λ (d : Counts). Worth (counts_of g image) d) (sym b.2) worth) in
+      let bad : true ≡ false = sym w ∙ none b.0 b.1 in absurd (cc)
+
+  packed : Packed (entries g) (counts_of g image)
+  packed = none_worth_packed (entries g) (counts_of g image) (tidy_is_volume g image t) none_worth
+
+  -- a block with a deleted entry is worth cleaning
+  none_deleted : (block : ℕ) → block < g.blocks → deleted_in g image block ≡ 0
+  unfolding is_worth
+  none_deleted block low = ⊎_elim
+      (λ (some : 0 < deleted_in g image block). let worth = or_left _ _ (lt-ltb 0 (deleted_in g image block) some) in let bad : true ≡ false = sym worth ∙ none block low in absurd (cc))
+      (λ (few : deleted_in g image block ≤ 0). omega arith)
+      (cases_lt 0 (deleted_in g image block))
+
+pub no_worth_is_packed : (g : Geometry) → NoWorthIsPacked g
+no_worth_is_packed g image is t none =
+    let p = packed g image t none in
+    let s = tidy_counts_tell g image t in
+    record {
+      deleted = none_deleted g image t none;
+      index = sym s.index_blocks ∙ p.index ∙ (rw (index_are g image t is) refl);
+      pages = sym s.data_blocks_are ∙ p.pages ∙ (rw (pages_are g image t is) refl);
+    }
+
+pub unstuck_has_no_worth : (g : Geometry) → UnstuckHasNoWorth g
+unfolding is_stuck
+unstuck_has_no_worth g image block t none free low = ⊎_elim
+    (λ (few : free_blocks g image < 2). false_from_ne_true _ (λ worth.
+    let some = any_from (λ block. is_worth g image block) 0 g.blocks block (omega arith) (omega (arith, low)) worth in
+    let stuck = rw (lt-ltb (free_blocks g image) 2 few, some) at free in
+    let found : list_any (λ block. is_worth g image block && is_fitting g image block) (range_with_len 0 g.blocks) ≡ true = ⊎_elim
+    (λ (yes : list_any (λ block. is_worth g image block && is_fitting g image block) (range_with_len 0 g.blocks) ≡ true). yes)
+    (λ (no : list_any (λ block. is_worth g image block && is_fitting g image block) (range_with_len 0 g.blocks) ≡ false). let bad : true ≡ false = rw no at stuck in absurd (cc))
+    (cases_Bool (list_any (λ block. is_worth g image block && is_fitting g image block) (range_with_len 0 g.blocks))) in
+    let w = any_at (λ block. is_worth g image block && is_fitting g image block) 0 g.blocks found in
+    let both = and_parts _ _ w.3 in
+    none_is_candidate g image w.0 none (record { within = omega (arith, w.2); worth = both.0; fits = both.1 })))
+    (λ (enough : 2 ≤ free_blocks g image). false_from_ne_true _ (λ worth.
+    none_is_candidate g image block none (record { within = low; worth = worth; fits = reserve_fits_each g image block t enough low })))
+    (cases_lt (free_blocks g image) 2)
+
+pub unstuck_has_pages : (g : Geometry) → UnstuckHasPages g
+unstuck_has_pages g image i d is t none free room =
+    let p = packed g image t (λ block low. unstuck_has_no_worth g image block t none free low) in
+    let s = sums (entries g) (counts_of g image) (tidy_is_volume g image t).blocks in
+    let r = room_to g image t is i d room in
+    let index = ceil-mono (index_total (counts_of g image)) (index_total (counts_of g image) + i) (entries g) (entries_pos g) (omega arith) in
+    let pages = ceil-mono (pages_total (counts_of g image)) (pages_total (counts_of g image) + d) (entries g) (entries_pos g) (omega arith) in
+    let two : 2 ≤ blocks_of unused (counts_of g image) = omega (arith, s.all, p.index, p.pages, r, index, pages) in
+    let reserve : HasReserve g image = omega (arith, two, (tidy_counts_tell g image t).unused_blocks) in
+    (reserve, stopped_has_pages g image i d (reserve_can_clean g image is t reserve) room none)
 
 -- ---- the measure fits 64 bits
 

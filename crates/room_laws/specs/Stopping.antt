@@ -7,8 +7,8 @@ use Rattle.image_model.specs.Volume.{entries}
 use Rattle.image_model.specs.Places.{IsImage}
 use Rattle.image_model.specs.Tables.{table_of}
 use Rattle.image_model.specs.Tidy.{IsTidy, free_blocks, HasReserve}
-use Rattle.image_model.specs.Kinds.{is_data_block, data_blocks}
-use Rattle.image_model.specs.Collect.{is_worth, is_fitting, chosen_block, are_had, is_stuck}
+use Rattle.image_model.specs.Kinds.{is_data_block, data_blocks, other_blocks}
+use Rattle.image_model.specs.Collect.{deleted_in, is_worth, is_fitting, chosen_block, are_had, is_stuck}
 use Rattle.room_laws.specs.Measure.{measure}
 use Rattle.room_laws.specs.Counting.{counts_of}
 use Rattle.room_laws.specs.Cleans.{IsCleaned}
@@ -67,6 +67,25 @@ StoppedHasNoWorth g = (image : List ℕ) (block : ℕ) → CanClean g image → 
 -- Collection is never stuck.
 abbrev pub NeverStuck : Geometry → Type 0
 NeverStuck g = (image : List ℕ) → CanClean g image → is_stuck g image ≡ false
+
+-- The image is packed: its index pages and data pages lie in as few blocks as they can, and nothing is deleted.
+pub record IsPacked (g : Geometry) (image : List ℕ) : Type 0 where
+  pub deleted : (block : ℕ) → block < g.blocks → deleted_in g image block ≡ 0
+  pub index : other_blocks g image ≡ ceil (index_count g (table_of g image)) (entries g)
+  pub pages : data_blocks g image ≡ ceil (data_count g (table_of g image)) (entries g)
+
+-- Where no block is worth cleaning the image is packed.
+abbrev pub NoWorthIsPacked : Geometry → Type 0
+NoWorthIsPacked g = (image : List ℕ) → IsImage g image → IsTidy g image → ((block : ℕ) → block < g.blocks → is_worth g image block ≡ false) → IsPacked g image
+
+-- Whatever is free, where no block is chosen and collection isn't stuck, no block is worth cleaning.
+abbrev pub UnstuckHasNoWorth : Geometry → Type 0
+UnstuckHasNoWorth g = (image : List ℕ) (block : ℕ) → IsTidy g image → chosen_block g image ≡ None → is_stuck g image ≡ false → block < g.blocks → is_worth g image block ≡ false
+
+-- Then all pages for which there is room are had, with two free blocks.
+abbrev pub UnstuckHasPages : Geometry → Type 0
+UnstuckHasPages g = (image : List ℕ) (index pages : ℕ) → IsImage g image → IsTidy g image → chosen_block g image ≡ None → is_stuck g image ≡ false → HasRoomFor g image index pages →
+    HasReserve g image × (are_had g image index pages ≡ true)
 
 -- Where there is room for pages they are had once no block is chosen.
 abbrev pub StoppedHasPages : Geometry → Type 0

@@ -1,5 +1,5 @@
 ghost use Rattle.geometry.specs.declared.geometry.Geometry.{Geometry};
-ghost use Rattle.room_laws.specs.Stopping.{ReserveCanClean, ReserveFitsEach, LastFreeIsPlain, StoppedHasReserve, StoppedHasNoWorth, NeverStuck, StoppedHasPages, HadNeedsRoom};
+ghost use Rattle.room_laws.specs.Stopping.{ReserveCanClean, ReserveFitsEach, LastFreeIsPlain, StoppedHasReserve, StoppedHasNoWorth, NeverStuck, StoppedHasPages, HadNeedsRoom, NoWorthIsPacked, UnstuckHasNoWorth, UnstuckHasPages};
 
 /// An image with its reserve can be cleaned, whichever block is chosen.
 pub fn reserve_is_enough()
@@ -19,4 +19,11 @@ pub fn stopped_is_enough()
     ensures worth { (g : Geometry) → StoppedHasNoWorth g }
     ensures had { (g : Geometry) → StoppedHasPages g }
     ensures room { (g : Geometry) → HadNeedsRoom g }
+{}
+
+/// Whatever is free, cleaning leads to a packed image that has all pages for which there is room, or is stuck.
+pub fn unstuck_is_enough()
+    ensures worth { (g : Geometry) → UnstuckHasNoWorth g }
+    ensures packed { (g : Geometry) → NoWorthIsPacked g }
+    ensures had { (g : Geometry) → UnstuckHasPages g }
 {}
