@@ -1,24 +1,23 @@
 -- A cleaning of an image is one of its counts.
-use Rattle.std.proofs.Common.{◌≡◌, ◌≢◌, ℕ, zero, suc, ◌+◌, ◌<◌, ◌≤◌, List, length, Bool, true, false, not, cond, nat_lt, refl, sym, ◌∙◌, ap, arith, ⊎_elim}
-use Rattle.std.specs.Prelude.{filter, sum_by, Contains}
+use Rattle.std.proofs.Common.{◌≡◌, ℕ, zero, suc, ◌+◌, ◌<◌, ◌≤◌, List, length, Bool, true, false, not, cond, nat_lt, refl, sym, ◌∙◌, ap, arith, ⊎_elim}
+use Rattle.std.specs.Prelude.{filter, Contains}
 use Rattle.std.specs.List.{range_with_len}
 use Rattle.std.proofs.lemmas.Bool.{cases_Bool, cases_eq}
 use Rattle.std.proofs.lemmas.List.FromFn.{length-map-range_with_len, get_or-map-range_with_len}
 use Rattle.geometry.specs.declared.geometry.Geometry.{Geometry}
 use Rattle.image_model.specs.Volume.{entries}
 use Rattle.image_model.specs.Places.{IsImage, has_magic}
-use Rattle.image_model.specs.Tables.{table_of}
 use Rattle.image_model.specs.Tidy.{IsTidy, is_free_block, free_blocks}
-use Rattle.image_model.specs.Kinds.{live_index, live_data, is_data_block, data_blocks, other_blocks}
-use Rattle.image_model.specs.Collect.{data_in, deleted_in, free_where, takes_index, takes_data}
+use Rattle.image_model.specs.Kinds.{is_data_block, data_blocks}
+use Rattle.image_model.specs.Collect.{deleted_in, takes_index}
 use Rattle.image_laws.proofs.FreeBlocks.{filter-same}
 use Rattle.image_laws.proofs.Matching.{sum-range}
 use Rattle.image_laws.proofs.Tally.{tidy-counts}
-use Rattle.room_laws.specs.Counts.{Counts, unused, for_index, for_data, kind_of, if_kind}
+use Rattle.room_laws.specs.Counts.{unused, for_index, for_data, kind_of}
 use Rattle.room_laws.specs.Volume.{blocks_of, index_total, pages_total}
 use Rattle.room_laws.specs.Cleaning.{KindKept}
 use Rattle.room_laws.specs.Counting.{block_counts, counts_of, deleted_where, deleted_for_index, deleted_for_data}
-use Rattle.room_laws.specs.Cleans.{IndexKept, DataKept, IsCleaned, CleansIndex, IndexIsCleaned, CleansData, DataIsCleaned, CleanedIsCounted}
+use Rattle.room_laws.specs.Cleans.{IsCleaned, CleansIndex, IndexIsCleaned, CleansData, DataIsCleaned, CleanedIsCounted}
 use Rattle.room_laws.proofs.Totals.{sums}
 use Rattle.room_laws.proofs.Ranges.{sum_but, sum_less}
 use Rattle.room_laws.proofs.Blocks.{Told, told_free, told_index, told_data, told, data_is}

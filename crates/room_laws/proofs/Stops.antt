@@ -1,32 +1,30 @@
 -- Where collection stops, by the counts of an image.
-use Rattle.std.proofs.Common.{◌≡◌, ℕ, ◌+◌, ◌-◌, ◌*◌, ◌/◌, ◌<◌, ◌≤◌, ◌^◌, List, length, Bool, true, false, not, nat_lt, ◌&&◌, refl, sym, ◌∙◌, subst, arith, ⊎_elim}
-use Rattle.std.specs.Prelude.{Contains, Option, Some, None}
+use Rattle.std.proofs.Common.{◌≡◌, ℕ, ◌+◌, ◌-◌, ◌*◌, ◌<◌, ◌≤◌, ◌^◌, List, length, Bool, true, false, not, ◌&&◌, refl, sym, ◌∙◌, subst, arith, ⊎_elim}
+use Rattle.std.specs.Prelude.{Contains}
 use Rattle.std.specs.List.{range_with_len, list_any}
 use Rattle.std.proofs.Math.Nat.{mul-le-mul, mul-le-mul_left, mul-le-mul_right}
 use Rattle.std.proofs.lemmas.Bool.{cases_Bool, cases_lt, and_from, and_parts, or_left, lt-ltb, le-ltb, false_from_ne_true}
 use Rattle.std.proofs.lemmas.List.FromFn.{length-map-range_with_len, get_or-map-range_with_len}
 use Rattle.geometry.specs.declared.geometry.Geometry.{Geometry}
-use Rattle.geometry.specs.Numbers.{ceil}
 use Rattle.table_model.specs.Room.{index_count, data_count}
 use Rattle.image_model.specs.Volume.{per_block, lookups, entries}
 use Rattle.image_model.specs.Places.{IsImage}
 use Rattle.image_model.specs.Tables.{table_of}
 use Rattle.image_model.specs.Tidy.{IsTidy, free_blocks, HasReserve}
-use Rattle.image_model.specs.Kinds.{is_data_block, data_blocks, other_blocks}
-use Rattle.image_model.specs.Collect.{deleted_in, is_worth, is_fitting, chosen_block, are_had, is_stuck}
+use Rattle.image_model.specs.Kinds.{is_data_block}
+use Rattle.image_model.specs.Collect.{deleted_in, is_worth, is_fitting, is_stuck}
 use Rattle.image_laws.proofs.BlockCounts.{reserve-room}
 use Rattle.image_laws.proofs.Damaged.{any_at, any_from}
 use Rattle.image_laws.proofs.Truncating.{ceil-mono}
 use Rattle.image_laws.proofs.Tally.{tidy-counts}
 use Rattle.room_laws.specs.Counts.{Counts, unused, for_index, for_data, kind_of}
-use Rattle.room_laws.specs.Volume.{IsVolume, blocks_of, free_of, deleted_of, index_total, pages_total, Worth, Fits}
+use Rattle.room_laws.specs.Volume.{blocks_of, deleted_of, index_total, pages_total, Worth, Fits}
 use Rattle.room_laws.specs.Bounds.{Bound}
 use Rattle.room_laws.specs.Packing.{NoneWorth, Packed, RoomFor}
 use Rattle.room_laws.specs.Measure.{digits, measure}
 use Rattle.room_laws.specs.Counting.{block_counts, counts_of}
 use Rattle.room_laws.specs.Choosing.{IsCandidate}
-use Rattle.room_laws.specs.Cleans.{IsCleaned}
-use Rattle.room_laws.specs.Stopping.{HasBound, HasRoomFor, gc_measure, CanClean, ReserveCanClean, CleanedCanClean, CleanedIsLower, MeasureIsSmall, ReserveFitsEach, LastFreeIsPlain, StoppedHasReserve, StoppedHasNoWorth, NeverStuck, StoppedHasPages, HadNeedsRoom, IsPacked, NoWorthIsPacked, UnstuckHasNoWorth, UnstuckHasPages}
+use Rattle.room_laws.specs.Stopping.{HasBound, HasRoomFor, gc_measure, CanClean, ReserveCanClean, CleanedCanClean, CleanedIsLower, MeasureIsSmall, ReserveFitsEach, LastFreeIsPlain, StoppedHasReserve, StoppedHasNoWorth, NeverStuck, StoppedHasPages, HadNeedsRoom, NoWorthIsPacked, UnstuckHasNoWorth, UnstuckHasPages}
 use Rattle.room_laws.proofs.Totals.{sums}
 use Rattle.room_laws.proofs.Bounding.{reserve_fits, bound_kept, last_free_fits}
 use Rattle.room_laws.proofs.Packings.{none_worth_packed, had_room, stopped_had}

@@ -1,9 +1,9 @@
 -- What the counts of a tidy image add up to.
-use Rattle.std.proofs.Common.{◌≡◌, ℕ, zero, suc, ◌+◌, ◌*◌, ◌<◌, ◌≤◌, List, [], ◌∷◌, length, Bool, true, false, not, cond, nat_lt, ◌==◌, ◌&&◌, Option, Some, refl, sym, ◌∙◌, ap, arith, ⊎_elim}
-use Rattle.std.specs.Prelude.{filter, map, sum_by, All}
+use Rattle.std.proofs.Common.{◌≡◌, ℕ, zero, suc, ◌+◌, ◌*◌, ◌<◌, ◌≤◌, List, [], ◌∷◌, length, Bool, true, false, not, cond, nat_lt, ◌==◌, ◌&&◌, Option, Some, refl, sym, ◌∙◌, arith}
+use Rattle.std.specs.Prelude.{filter, map, sum_by}
 use Rattle.std.specs.List.{range_with_len}
 use Rattle.std.proofs.Math.Nat.{mul-le-mul_right}
-use Rattle.std.proofs.lemmas.Bool.{cases_Bool, and_parts, eqb-true, eq-eqb, lt-ltb, false_from_ne_true}
+use Rattle.std.proofs.lemmas.Bool.{and_parts, eqb-true, eq-eqb, lt-ltb, false_from_ne_true}
 use Rattle.std.proofs.lemmas.List.Sums.{sum_by-cons, length-filter}
 use Rattle.std.proofs.lemmas.List.FromFn.{length-map-range_with_len, get_or-map-range_with_len}
 use Rattle.geometry.specs.declared.geometry.Geometry.{Geometry}
@@ -13,13 +13,13 @@ use Rattle.image_model.specs.Live.{live_at}
 use Rattle.image_model.specs.Tidy.{IsTidy, is_free_block, free_blocks}
 use Rattle.image_model.specs.Kinds.{is_index_page, is_data_page, live_index, live_data, is_index_block, is_data_block, data_blocks, is_other_block, other_blocks}
 use Rattle.image_model.specs.Collect.{index_in, data_in, deleted_in, free_in, free_where, takes_index, takes_data, holds_index}
-use Rattle.image_model.specs.Within.{Sizes, sizes, block_number, entry_in, entry_of_block}
+use Rattle.image_model.specs.Within.{sizes, block_number, entry_in, entry_of_block}
 use Rattle.image_laws.proofs.Frames.{live_parts}
 use Rattle.image_laws.proofs.Matching.{sum-range}
 use Rattle.image_laws.proofs.Serving.{some_of, some_of_data}
-use Rattle.room_laws.specs.Counts.{Counts, IsBlock, Kind, unused, for_index, for_data, if_kind, if_any}
-use Rattle.room_laws.specs.Volume.{IsVolume, total, blocks_of, free_of, deleted_of, index_total, pages_total, free_beside}
-use Rattle.room_laws.specs.Counting.{block_counts, counts_of, deleted_where, CountsTell, TidyIsVolume, TidyCountsTell}
+use Rattle.room_laws.specs.Counts.{Counts, unused, for_index, for_data, if_kind, if_any}
+use Rattle.room_laws.specs.Volume.{total, blocks_of, free_of, deleted_of, index_total, pages_total, free_beside}
+use Rattle.room_laws.specs.Counting.{block_counts, counts_of, deleted_where, TidyIsVolume, TidyCountsTell}
 use Rattle.room_laws.proofs.Ranges.{count_within, count_by_block}
 use Rattle.room_laws.proofs.Blocks.{Told, told_free, told_index, told_data, told, counts_are, index_is}
 
