@@ -1,15 +1,15 @@
 -- A cleaning of an image is one of its counts.
-use Rattle.std.proofs.Common.{◌≡◌, ℕ, zero, suc, ◌+◌, ◌<◌, ◌≤◌, List, length, Bool, true, false, not, cond, nat_lt, refl, sym, ◌∙◌, ap, arith, ⊎_elim}
+use Rattle.std.proofs.Common.{◌≡◌, ℕ, zero, suc, ◌+◌, ◌<◌, ◌≤◌, List, length, Bool, true, false, not, cond, nat_lt, ◌==◌, refl, sym, ◌∙◌, ap, arith, ⊎_elim}
 use Rattle.std.specs.Prelude.{filter, Contains}
 use Rattle.std.specs.List.{range_with_len}
-use Rattle.std.proofs.lemmas.Bool.{cases_Bool, cases_eq}
+use Rattle.std.proofs.lemmas.Bool.{cases_Bool, cases_eq, eq-eqb}
 use Rattle.std.proofs.lemmas.List.FromFn.{length-map-range_with_len, get_or-map-range_with_len}
 use Rattle.geometry.specs.declared.geometry.Geometry.{Geometry}
 use Rattle.image_model.specs.Volume.{entries}
 use Rattle.image_model.specs.Places.{IsImage, has_magic}
 use Rattle.image_model.specs.Tidy.{IsTidy, is_free_block, free_blocks}
 use Rattle.image_model.specs.Kinds.{is_data_block, data_blocks}
-use Rattle.image_model.specs.Collect.{deleted_in, takes_index}
+use Rattle.image_model.specs.Collect.{deleted_outside, chosen_block, Swept, deleted_in, takes_index}
 use Rattle.image_laws.proofs.FreeBlocks.{filter-same}
 use Rattle.image_laws.proofs.Matching.{sum-range}
 use Rattle.image_laws.proofs.Tally.{tidy-counts}
@@ -17,7 +17,7 @@ use Rattle.room_laws.specs.Counts.{unused, for_index, for_data, kind_of}
 use Rattle.room_laws.specs.Volume.{blocks_of, index_total, pages_total}
 use Rattle.room_laws.specs.Cleaning.{KindKept}
 use Rattle.room_laws.specs.Counting.{block_counts, counts_of, deleted_where, deleted_for_index, deleted_for_data}
-use Rattle.room_laws.specs.Cleans.{IsCleaned, CleansIndex, IndexIsCleaned, CleansData, DataIsCleaned, CleanedIsCounted}
+use Rattle.room_laws.specs.Cleans.{IndexIsSwept, IsCleaned, CleansIndex, IndexIsCleaned, CleansData, DataIsCleaned, CleanedIsCounted}
 use Rattle.room_laws.proofs.Totals.{sums}
 use Rattle.room_laws.proofs.Ranges.{sum_but, sum_less}
 use Rattle.room_laws.proofs.Blocks.{Told, told_free, told_index, told_data, told, data_is}
@@ -166,6 +166,15 @@ index_is_cleaned g was now block t low plain c =
         deleted = rw plain (omega (arith, data_deleted_same g was now block t low plain c));
       };
     }
+
+pub index_is_swept : (g : Geometry) → IndexIsSwept g
+unfolding deleted_outside
+index_is_swept g was now block t chosen plain c =
+    let same : deleted_outside g now block ≡ deleted_outside g was block = sum-range (λ b. cond (b == block) 0 (deleted_in g now b)) (λ b. cond (b == block) 0 (deleted_in g was b)) 0 g.blocks (λ b from to. ⊎_elim
+    (λ (here : b ≡ block). rw (eq-eqb b block here) refl)
+    (λ (there : b ≡ block → ⊥). rw (c.deleted b (omega arith) there) refl)
+    (cases_eq b block)) in
+    record { block = block; chosen = chosen; tidy_before = t; tidy_after = c.tidy; table = c.table; free = c.free; deleted = omega (arith, same) }
 
 -- ---- cleaning a data block
 

@@ -203,7 +203,7 @@ unstuck_has_pages g image i d is t none free room =
     let reserve : HasReserve g image = omega (arith, two, (tidy_counts_tell g image t).unused_blocks) in
     (reserve, stopped_has_pages g image i d (reserve_can_clean g image is t reserve) room none)
 
--- ---- the measure fits 64 bits
+-- ---- the measure is below the greatest number of 64 bits
 
 digits_less : (m x y z w : ℕ) → x < m → y < m → z < m → w < m → digits m x y z w < m * m * m * m
 digits_less m x y z w a b c d =
@@ -212,16 +212,19 @@ digits_less m x y z w a b c d =
     let r : ((x * m + y) * m + z + 1) * m ≤ m * m * m * m = mul-le-mul_right m (omega (arith, q)) in
     omega (arith, r)
 
-power_most : (m : ℕ) → m ≤ 65536 → m * m * m * m ≤ 2 ^ 64
+power_most : (m : ℕ) → m ≤ 65533 → m * m * m * m < 2 ^ 64 - 1
 power_most m le =
-    let a : m * m ≤ 65536 * 65536 = mul-le-mul le le in
-    let b : m * m * m ≤ 65536 * 65536 * 65536 = mul-le-mul a le in
-    let c : m * m * m * m ≤ 65536 * 65536 * 65536 * 65536 = mul-le-mul b le in
+    let a : m * m ≤ 65533 * 65533 = mul-le-mul le le in
+    let b : m * m * m ≤ 65533 * 65533 * 65533 = mul-le-mul a le in
+    let c : m * m * m * m ≤ 65533 * 65533 * 65533 * 65533 = mul-le-mul b le in
     omega (arith, c)
 
-entries_most : (g : Geometry) → g.blocks * entries g ≤ 65535
-unfolding entries per_block
-entries_most g = let m : g.blocks * (per_block g - lookups g) ≤ g.blocks * per_block g = mul-le-mul_left g.blocks (omega arith) in omega (arith, m, g.valid.few_pages)
+-- each block has a lookup page, and there are three blocks
+entries_most : (g : Geometry) → g.blocks * entries g ≤ 65532
+unfolding entries per_block lookups
+entries_most g =
+    let m : g.blocks * (per_block g - lookups g + 1) ≤ g.blocks * per_block g = mul-le-mul_left g.blocks (omega (arith, g.valid.some_entries)) in
+    omega (arith, m, g.valid.few_pages, g.valid.some_blocks)
 
 pub measure_is_small : (g : Geometry) → MeasureIsSmall g
 unfolding gc_measure measure

@@ -1,12 +1,12 @@
 -- What one whole cleaning leaves of an image.
-use Rattle.std.specs.Prelude.{◌≡◌, ◌≢◌, ℕ, ◌+◌, ◌<◌, ◌≤◌, List, true, false, if◌then◌else◌}
+use Rattle.std.specs.Prelude.{◌≡◌, ◌≢◌, ℕ, ◌+◌, ◌<◌, ◌≤◌, List, true, false, Some, if◌then◌else◌}
 use Rattle.geometry.specs.declared.geometry.Geometry.{Geometry}
 use Rattle.image_model.specs.Volume.{entries}
 use Rattle.image_model.specs.Places.{IsImage}
 use Rattle.image_model.specs.Tables.{table_of}
 use Rattle.image_model.specs.Tidy.{IsTidy, is_free_block, free_blocks}
 use Rattle.image_model.specs.Kinds.{is_data_block, data_blocks, other_blocks}
-use Rattle.image_model.specs.Collect.{data_in, deleted_in, free_where, takes_index, takes_data}
+use Rattle.image_model.specs.Collect.{data_in, deleted_in, free_where, takes_index, takes_data, chosen_block, Swept}
 use Rattle.room_laws.specs.Cleaning.{Cleaned}
 use Rattle.room_laws.specs.Counting.{block_counts, counts_of, deleted_for_index, deleted_for_data}
 
@@ -65,3 +65,7 @@ DataIsCleaned g = (was now : List ℕ) (block : ℕ) → IsTidy g was → block 
 abbrev pub CleanedIsCounted : Geometry → Type 0
 CleanedIsCounted g = (was now : List ℕ) (block : ℕ) → IsImage g was → IsImage g now → IsCleaned g was block now →
     Cleaned (entries g) (counts_of g was) (block_counts g was block) (counts_of g now)
+
+-- Such a cleaning of the chosen block, if it holds no live data page, has swept the image.
+abbrev pub IndexIsSwept : Geometry → Type 0
+IndexIsSwept g = (was now : List ℕ) (block : ℕ) → IsTidy g was → chosen_block g was ≡ Some block → is_data_block g was block ≡ false → CleansIndex g was block now → Swept g was now

@@ -1,5 +1,5 @@
 -- Where collection stops, and which pages are had then.
-use Rattle.std.specs.Prelude.{◌≡◌, ℕ, ◌+◌, ◌<◌, ◌≤◌, ◌^◌, List, true, false, Some, None}
+use Rattle.std.specs.Prelude.{◌≡◌, ℕ, ◌+◌, ◌-◌, ◌<◌, ◌≤◌, ◌^◌, List, true, false, Some, None}
 use Rattle.geometry.specs.declared.geometry.Geometry.{Geometry}
 use Rattle.geometry.specs.Numbers.{ceil}
 use Rattle.table_model.specs.Room.{index_count, data_count}
@@ -44,9 +44,9 @@ CleanedCanClean g = (was now : List ℕ) (block : ℕ) → CanClean g was → Is
 abbrev pub CleanedIsLower : Geometry → Type 0
 CleanedIsLower g = (was now : List ℕ) (block : ℕ) → IsImage g was → IsImage g now → IsCleaned g was block now → is_worth g was block ≡ true → gc_measure g now < gc_measure g was
 
--- Of a tidy image the number fits 64 bits.
+-- Of a tidy image the number is below the greatest of 64 bits.
 abbrev pub MeasureIsSmall : Geometry → Type 0
-MeasureIsSmall g = (image : List ℕ) → IsTidy g image → gc_measure g image < 2 ^ 64
+MeasureIsSmall g = (image : List ℕ) → IsTidy g image → gc_measure g image < 2 ^ 64 - 1
 
 -- With two free blocks every block fits.
 abbrev pub ReserveFitsEach : Geometry → Type 0

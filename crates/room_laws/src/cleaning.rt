@@ -1,5 +1,5 @@
 ghost use Rattle.geometry.specs.declared.geometry.Geometry.{Geometry};
-ghost use Rattle.room_laws.specs.Cleans.{IndexIsCleaned, DataIsCleaned, CleanedIsCounted};
+ghost use Rattle.room_laws.specs.Cleans.{IndexIsCleaned, DataIsCleaned, CleanedIsCounted, IndexIsSwept};
 ghost use Rattle.room_laws.specs.Stopping.{CleanedCanClean, CleanedIsLower, MeasureIsSmall};
 
 /// What the cleaning of a block tells of its image is a cleaning, also of the counts.
@@ -7,6 +7,7 @@ pub fn images_are_cleaned()
     ensures index { (g : Geometry) → IndexIsCleaned g }
     ensures pages { (g : Geometry) → DataIsCleaned g }
     ensures counts { (g : Geometry) → CleanedIsCounted g }
+    ensures swept { (g : Geometry) → IndexIsSwept g }
 {}
 
 /// Cleanings of blocks that are worth it come to an end, and each leaves an image that can be cleaned.
