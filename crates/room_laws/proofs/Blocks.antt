@@ -45,7 +45,7 @@ module _ (g : Geometry) (image : List ℕ) (p : ℕ) where
       (λ (none : names_index x ≡ false). rw none refl)
       (cases_Bool (names_index x)))
 
-  unlive : (n : ℕ) → entry_of g image p ≡ n → ((x : List ℕ) → obj_id x ≡ n → is_finished x ≡ false) → live_at g image p ≡ None
+  pub unlive : (n : ℕ) → entry_of g image p ≡ n → ((x : List ℕ) → obj_id x ≡ n → is_finished x ≡ false) → live_at g image p ≡ None
   unlive n at dead = either (live_at g image p) refl
     where
       either : (o : Option (List ℕ)) → live_at g image p ≡ o → live_at g image p ≡ None
@@ -94,7 +94,7 @@ module _ (g : Geometry) (image : List ℕ) (t : IsTidy g image) where
         let same : names_index m.x ≡ names_index m.y = t.unmixed m.p m.q m.x m.y m.p_is m.q_is (m.p_at ∙ sym m.q_at) in
         let bad : true ≡ false = sym m.names ∙ same ∙ m.holds in absurd (cc))
 
-    free_all : is_free_block g image block ≡ true → free_in g image block ≡ entries g
+    pub free_all : is_free_block g image block ≡ true → free_in g image block ≡ entries g
     unfolding free_in is_free_block
     free_all free =
         all_counted (λ p. is_free_entry g image p) (range_with_len (block * per_block g + lookups g) (entries g)) (and_parts _ _ free).1

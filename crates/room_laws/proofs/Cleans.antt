@@ -41,7 +41,7 @@ block_in g image block low =
     (block, omega (arith, size, low), get_or-map-range_with_len (block_counts g image) 0 g.blocks block block (block_counts g image block) low (omega arith))
 
 -- a free block holds no data page and no deleted entry
-free_told : (g : Geometry) (image : List ℕ) (block : ℕ) → Told g image block → is_free_block g image block ≡ true → (is_data_block g image block ≡ false) × (deleted_in g image block ≡ 0)
+pub free_told : (g : Geometry) (image : List ℕ) (block : ℕ) → Told g image block → is_free_block g image block ≡ true → (is_data_block g image block ≡ false) × (deleted_in g image block ≡ 0)
 free_told g image block (told_free f d j k i p x) free = (d, x)
 free_told g image block (told_index f d k p) free = let bad : true ≡ false = sym free ∙ f in absurd (cc)
 free_told g image block (told_data f d j k i) free = let bad : true ≡ false = sym free ∙ f in absurd (cc)

@@ -14,3 +14,5 @@ pub mod Judged
 pub mod Chosen
 pub mod Cleans
 pub mod Stops
+pub mod Moved
+pub mod Emptied

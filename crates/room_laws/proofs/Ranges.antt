@@ -2,8 +2,8 @@
 use Rattle.std.proofs.Common.{◌≡◌, ℕ, zero, suc, ◌+◌, ◌-◌, ◌<◌, ◌≤◌, List, [], ◌∷◌, length, Bool, true, false, cond, ◌==◌, ◌&&◌, nat_lt, ap, refl, sym, ◌∙◌, arith, ⊎_elim}
 use Rattle.std.specs.Prelude.{filter, sum_by}
 use Rattle.std.specs.List.{range_with_len, list_any, list_all}
-use Rattle.std.proofs.lemmas.List.Sums.{sum_by-cons}
-use Rattle.std.proofs.lemmas.Bool.{cases_Bool, cases_eq, eq-eqb, ne_eqb, lt-ltb}
+use Rattle.std.proofs.lemmas.List.Sums.{sum_by-cons, length-filter}
+use Rattle.std.proofs.lemmas.Bool.{cases_Bool, cases_eq, eq-eqb, ne_eqb, lt-ltb, and_parts, and_from}
 use Rattle.image_laws.proofs.FreeBlocks.{filter-same}
 use Rattle.image_laws.proofs.Matching.{filter-none_in, count_one, count_by_key, sum-range}
 
@@ -25,7 +25,7 @@ sum_but f h k a (suc n) low high none same =
     omega (arith, rest, left, right, first))
     (cases_eq a k)
 
-sum_le : (f h : ℕ → ℕ) (a n : ℕ) → ((q : ℕ) → a ≤ q → q < a + n → f q ≤ h q) → sum_by f (range_with_len a n) ≤ sum_by h (range_with_len a n)
+pub sum_le : (f h : ℕ → ℕ) (a n : ℕ) → ((q : ℕ) → a ≤ q → q < a + n → f q ≤ h q) → sum_by f (range_with_len a n) ≤ sum_by h (range_with_len a n)
 sum_le f h a zero le = omega arith
 sum_le f h a (suc n) le =
     let left = sum_by-cons f a (range_with_len (a + 1) n) in
@@ -121,3 +121,33 @@ four_kinds s t u v a (suc n) one =
   where
     cons_counted : (t : ℕ → Bool) (x : ℕ) (xs : List ℕ) → length (filter t (x ∷ xs)) ≡ cond (t x) 1 0 + length (filter t xs)
     cons_counted t x xs = ⊎_elim (λ (y : t x ≡ true). rw y (omega arith)) (λ (n : t x ≡ false). rw n (omega arith)) (cases_Bool (t x))
+
+-- two counts that are the same but at one number, which doesn't pass the first test
+pub count_but : (s t : ℕ → Bool) (k a n : ℕ) → a ≤ k → k < a + n → s k ≡ false → ((q : ℕ) → a ≤ q → q < a + n → (q ≡ k → ⊥) → s q ≡ t q) →
+    length (filter s (range_with_len a n)) + cond (t k) 1 0 ≡ length (filter t (range_with_len a n))
+count_but s t k a n low high none same =
+    let but = sum_but (λ q. cond (s q) 1 0) (λ q. cond (t q) 1 0) k a n low high (rw none refl) (λ q from to there. rw (same q from to there) refl) in
+    let left = length-filter s (range_with_len a n) in
+    let right = length-filter t (range_with_len a n) in
+    omega (arith, but, left, right)
+
+sum_zero : (a n : ℕ) → sum_by (λ (q : ℕ). 0) (range_with_len a n) ≡ 0
+sum_zero a zero = refl
+sum_zero a (suc n) = let whole = sum_by-cons (λ (q : ℕ). 0) a (range_with_len (a + 1) n) in let rest = sum_zero (a + 1) n in omega (arith, whole, rest)
+
+-- a sum of which one number alone isn't 0
+pub sum_one : (h : ℕ → ℕ) (k a n : ℕ) → a ≤ k → k < a + n → ((q : ℕ) → a ≤ q → q < a + n → (q ≡ k → ⊥) → h q ≡ 0) → sum_by h (range_with_len a n) ≡ h k
+sum_one h k a n low high none =
+    let but = sum_but (λ q. 0) h k a n low high refl (λ q from to there. sym (none q from to there)) in
+    let zero = sum_zero a n in
+    omega (arith, but, zero)
+
+pub any_same : (s t : ℕ → Bool) (a n : ℕ) → ((q : ℕ) → a ≤ q → q < a + n → s q ≡ t q) → list_any s (range_with_len a n) ≡ list_any t (range_with_len a n)
+any_same s t a zero same = refl
+any_same s t a (suc n) same = rw (same a (omega arith) (omega arith), any_same s t (a + 1) n (λ q low high. same q (omega arith) (omega arith))) refl
+
+pub all_wider : (s t : ℕ → Bool) (a n : ℕ) → ((q : ℕ) → a ≤ q → q < a + n → s q ≡ true → t q ≡ true) → list_all s (range_with_len a n) ≡ true → list_all t (range_with_len a n) ≡ true
+all_wider s t a zero wider all = refl
+all_wider s t a (suc n) wider all =
+    let w = and_parts (s a) _ all in
+    and_from (t a) _ (wider a (omega arith) (omega arith) w.0) (all_wider s t (a + 1) n (λ q low high passes. wider q (omega arith) (omega arith) passes) w.1)

@@ -12,3 +12,4 @@ pub mod Counting
 pub mod Choosing
 pub mod Cleans
 pub mod Stopping
+pub mod Emptying
