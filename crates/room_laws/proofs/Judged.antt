@@ -16,7 +16,7 @@ use Rattle.room_laws.proofs.Blocks.{Told, told_free, told_index, told_data, told
 use Rattle.room_laws.proofs.Tallies.{entries_pos, tidy_counts_tell}
 
 -- the free entries outside a block
-outside : (g : Geometry) (image : List ℕ) (block : ℕ) (test : ℕ → Bool) → block < g.blocks → free_outside g image block test + cond (test block) (free_in g image block) 0 ≡ free_where g image test
+pub outside : (g : Geometry) (image : List ℕ) (block : ℕ) (test : ℕ → Bool) → block < g.blocks → free_outside g image block test + cond (test block) (free_in g image block) 0 ≡ free_where g image test
 unfolding free_where
 outside g image block test low =
     sum_but (λ b. cond (not (b == block) && test b) (free_in g image b) 0) (λ b. cond (test b) (free_in g image b) 0) block 0 g.blocks (omega arith) (omega arith)

@@ -16,3 +16,4 @@ pub mod Cleans
 pub mod Stops
 pub mod Moved
 pub mod Emptied
+pub mod Freed

@@ -3,6 +3,7 @@
 
 pub mod choosing;
 pub mod cleaning;
+pub mod emptying;
 pub mod images;
 pub mod mending;
 pub mod steps;

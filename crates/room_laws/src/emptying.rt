@@ -1,0 +1,10 @@
+ghost use Rattle.geometry.specs.declared.geometry.Geometry.{Geometry};
+ghost use Rattle.room_laws.specs.Emptying.{EmptyingBegins, EmptyingGoesOn, EmptyingEnds};
+
+/// Moving the data pages out of a block, each into a block for data pages or where there is no place in one into a free block,
+/// and then making the block fresh, is a cleaning.
+pub fn moves_clean()
+    ensures begins { (g : Geometry) → EmptyingBegins g }
+    ensures goes_on { (g : Geometry) → EmptyingGoesOn g }
+    ensures ends { (g : Geometry) → EmptyingEnds g }
+{}
