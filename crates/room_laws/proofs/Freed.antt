@@ -1,24 +1,59 @@
 -- A block made fresh once its data pages were moved out of it.
-use Rattle.std.proofs.Common.{◌≡◌, ◌≢◌, ℕ, ◌+◌, ◌*◌, ◌<◌, ◌≤◌, List, length, Bool, true, false, not, cond, ◌==◌, ◌&&◌, refl, sym, ◌∙◌, arith, ⊎_elim}
+use Rattle.std.proofs.Common.{◌≡◌, ◌≢◌, ℕ, ◌+◌, ◌-◌, ◌*◌, ◌/◌, ◌<◌, ◌≤◌, ◌⊎◌, List, length, Bool, true, false, not, cond, ◌==◌, ◌&&◌, refl, sym, ◌∙◌, ap, arith, ⊎_elim, inl, inr}
 use Rattle.std.specs.Prelude.{filter}
 use Rattle.std.specs.List.{range_with_len}
-use Rattle.std.proofs.lemmas.Bool.{cases_eq, eq-eqb, ne_eqb}
+use Rattle.std.proofs.Math.Nat.{mul-le-mul_right}
+use Rattle.std.proofs.lemmas.Nat.{div-mul-add}
+use Rattle.std.proofs.lemmas.Bool.{cases_eq, cases_lt, eq-eqb, ne_eqb}
 use Rattle.geometry.specs.declared.geometry.Geometry.{Geometry}
+use Rattle.nor_core.specs.Flash.{SameOutside}
 use Rattle.image_model.specs.Volume.{per_block, lookups, entries}
-use Rattle.image_model.specs.Places.{block_of, is_entry_page}
+use Rattle.image_model.specs.Places.{block_of, place_of, entry_of, page_of, is_entry_page}
 use Rattle.image_model.specs.Live.{live_at}
 use Rattle.image_model.specs.Tidy.{IsTidy, is_free_entry, is_free_block}
 use Rattle.image_model.specs.Kinds.{is_data_page, is_data_block, data_blocks}
 use Rattle.image_model.specs.Collect.{deleted_in, free_in, free_where, free_outside, takes_data, is_deleted_entry}
-use Rattle.image_model.specs.Within.{entry_in}
+use Rattle.image_model.specs.Within.{sizes, entry_in, entry_slot}
+use Rattle.image_laws.proofs.Erase.{slot-other, live-other}
+use Rattle.image_laws.proofs.Frames.{range-same}
 use Rattle.image_laws.proofs.FreeBlocks.{filter-same}
 use Rattle.image_laws.proofs.Matching.{sum-range}
-use Rattle.room_laws.specs.Emptying.{data_beside, PageStays, DataEmptying, BlockFreed, EmptyingEnds}
+use Rattle.room_laws.specs.Emptying.{data_beside, PageStays, DataEmptying, BlockFreed, OthersStay, EmptyingEnds}
 use Rattle.room_laws.proofs.Ranges.{any_same, count_but}
 use Rattle.room_laws.proofs.Blocks.{told}
 use Rattle.room_laws.proofs.Judged.{outside}
 use Rattle.room_laws.proofs.Cleans.{free_told}
 use Rattle.room_laws.proofs.Moved.{data_takes}
+
+-- a page of another block lies before the block or behind it
+lies_outside : (P p block : ℕ) → 0 < P → (p / P ≡ block → ⊥) → (p < block * P) ⊎ (block * P + P ≤ p)
+lies_outside P p block pos out = ⊎_elim
+    (λ (low : p < block * P). inl low)
+    (λ (from : block * P ≤ p). ⊎_elim
+    (λ (up : p < block * P + P). let at : p ≡ block * P + (p - block * P) = omega arith in let bad : p / P ≡ block = rw at (div-mul-add block P (p - block * P) (omega arith)) in absurd (out bad))
+    (λ (high : block * P + P ≤ p). inr high)
+    (cases_lt p (block * P + P)))
+    (cases_lt p (block * P))
+
+bytes_stay : (g : Geometry) (was now : List ℕ) (block p : ℕ) → SameOutside (block * g.block) g.block was now → block_of g p ≢ block → page_of g now p ≡ page_of g was p
+unfolding page_of
+bytes_stay g was now block p same out =
+    let whole : block * g.block ≡ block * (per_block g * g.page) = ap (λ (k : ℕ). block * k) (sizes g).block in
+    let size : g.block ≡ per_block g * g.page = (sizes g).block in
+    ⊎_elim
+    (λ (before : p < block * per_block g). let m : (p + 1) * g.page ≤ block * per_block g * g.page = mul-le-mul_right g.page (omega arith) in
+    range-same was now (p * g.page) g.page same.size (λ i from to. same.before i (omega (arith, whole, m, to))))
+    (λ (after : block * per_block g + per_block g ≤ p). let m : (block * per_block g + per_block g) * g.page ≤ p * g.page = mul-le-mul_right g.page after in
+    range-same was now (p * g.page) g.page same.size (λ i from to. same.after i (omega (arith, whole, size, m, from))))
+    (lies_outside (per_block g) p block (omega (arith, (sizes g).lookups_fit)) out)
+
+pub others_stay : (g : Geometry) → OthersStay g
+unfolding entry_of
+others_stay g was now block p same entry out = record {
+  entry = slot-other g (sizes g) was now block same (block_of g p) (place_of g p - lookups g) out (entry_slot g p);
+  bytes = bytes_stay g was now block p same out;
+  live = live-other g (sizes g) was now block same p out;
+}
 
 -- the data blocks are those beside a block, and the block if it is one
 with_beside : (g : Geometry) (image : List ℕ) (block : ℕ) → block < g.blocks → data_beside g image block + cond (is_data_block g image block) 1 0 ≡ data_blocks g image

@@ -1,7 +1,8 @@
 -- Moving the data pages out of a block, one after the other, until it is made fresh.
-use Rattle.std.specs.Prelude.{◌≡◌, ◌≢◌, ℕ, ◌<◌, ◌⊎◌, List, length, true, false, not, ◌==◌, ◌&&◌, filter}
+use Rattle.std.specs.Prelude.{◌≡◌, ◌≢◌, ℕ, ◌*◌, ◌<◌, ◌⊎◌, List, length, true, false, not, ◌==◌, ◌&&◌, filter}
 use Rattle.std.specs.List.{range_with_len}
 use Rattle.geometry.specs.declared.geometry.Geometry.{Geometry}
+use Rattle.nor_core.specs.Flash.{SameOutside}
 use Rattle.image_model.specs.Volume.{entries}
 use Rattle.image_model.specs.Places.{entry_of, page_of, block_of, is_entry_page}
 use Rattle.image_model.specs.Live.{live_at}
@@ -62,6 +63,10 @@ pub record BlockFreed (g : Geometry) (block : ℕ) (was now : List ℕ) : Type 0
   pub table : table_of g now ≡ table_of g was
   pub free : is_free_block g now block ≡ true
   pub others : (p : ℕ) → is_entry_page g p ≡ true → block_of g p ≢ block → PageStays g was now p
+
+-- A change inside a block leaves the pages of all other blocks.
+abbrev pub OthersStay : Geometry → Type 0
+OthersStay g = (was now : List ℕ) (block p : ℕ) → SameOutside (block * g.block) g.block was now → is_entry_page g p ≡ true → block_of g p ≢ block → PageStays g was now p
 
 -- At first nothing was moved.
 abbrev pub EmptyingBegins : Geometry → Type 0

@@ -1,5 +1,5 @@
 ghost use Rattle.geometry.specs.declared.geometry.Geometry.{Geometry};
-ghost use Rattle.room_laws.specs.Emptying.{EmptyingBegins, EmptyingGoesOn, EmptyingEnds};
+ghost use Rattle.room_laws.specs.Emptying.{EmptyingBegins, EmptyingGoesOn, EmptyingEnds, OthersStay};
 
 /// Moving the data pages out of a block, each into a block for data pages or where there is no place in one into a free block,
 /// and then making the block fresh, is a cleaning.
@@ -7,4 +7,9 @@ pub fn moves_clean()
     ensures begins { (g : Geometry) → EmptyingBegins g }
     ensures goes_on { (g : Geometry) → EmptyingGoesOn g }
     ensures ends { (g : Geometry) → EmptyingEnds g }
+{}
+
+/// A change inside a block, as making it fresh, leaves all others.
+pub fn others_stay()
+    ensures { (g : Geometry) → OthersStay g }
 {}
