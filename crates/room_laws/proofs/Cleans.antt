@@ -54,7 +54,7 @@ index_takes g image block m (told_index f d k p) kind = rw (m, f, d) refl
 index_takes g image block m (told_data f d j k i) kind = absurd (let bad : for_data ≡ for_index = sym k ∙ kind in cc)
 
 -- and the other way round
-takes_is_index : (g : Geometry) (image : List ℕ) (block : ℕ) → has_magic g image block ≡ true → Told g image block → takes_index g image block ≡ true → is_data_block g image block ≡ false
+pub takes_is_index : (g : Geometry) (image : List ℕ) (block : ℕ) → has_magic g image block ≡ true → Told g image block → takes_index g image block ≡ true → is_data_block g image block ≡ false
 unfolding takes_index
 takes_is_index g image block m (told_free f d j k i p x) takes = d
 takes_is_index g image block m (told_index f d k p) takes = d

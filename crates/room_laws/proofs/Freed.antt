@@ -19,7 +19,7 @@ use Rattle.image_laws.proofs.Frames.{range-same}
 use Rattle.image_laws.proofs.FreeBlocks.{filter-same}
 use Rattle.image_laws.proofs.Matching.{sum-range}
 use Rattle.room_laws.specs.Emptying.{data_beside, PageStays, DataEmptying, BlockFreed, OthersStay, EmptyingEnds}
-use Rattle.room_laws.proofs.Ranges.{any_same, count_but}
+use Rattle.room_laws.proofs.Ranges.{list_any_same, count_but}
 use Rattle.room_laws.proofs.Blocks.{told}
 use Rattle.room_laws.proofs.Judged.{outside}
 use Rattle.room_laws.proofs.Cleans.{free_told}
@@ -65,21 +65,21 @@ with_beside g image block low =
 
 module _ (g : Geometry) (was now : List ℕ) (block : ℕ) (f : BlockFreed g block was now) where
   -- the pages of another block stay
-  page_stays : (b q : ℕ) → b < g.blocks → b ≢ block → b * per_block g + lookups g ≤ q → q < b * per_block g + lookups g + entries g → PageStays g was now q
+  pub page_stays : (b q : ℕ) → b < g.blocks → b ≢ block → b * per_block g + lookups g ≤ q → q < b * per_block g + lookups g + entries g → PageStays g was now q
   page_stays b q low out from up = let w = entry_in g b q low from up in f.others q w.1 (λ same. out (sym w.0 ∙ same))
 
   module _ (b : ℕ) (low : b < g.blocks) (out : b ≢ block) where
-    data_stays : is_data_block g now b ≡ is_data_block g was b
+    pub data_stays : is_data_block g now b ≡ is_data_block g was b
     unfolding is_data_block
-    data_stays = any_same (λ p. is_data_page (live_at g now p)) (λ p. is_data_page (live_at g was p)) (b * per_block g + lookups g) (entries g)
+    data_stays = list_any_same (λ p. is_data_page (live_at g now p)) (λ p. is_data_page (live_at g was p)) (b * per_block g + lookups g) (entries g)
         (λ q from up. let s = page_stays b q low out from up in rw s.live refl)
 
-    deleted_stays : deleted_in g now b ≡ deleted_in g was b
+    pub deleted_stays : deleted_in g now b ≡ deleted_in g was b
     unfolding deleted_in
     deleted_stays = filter-same (λ p. is_deleted_entry g was p) (λ p. is_deleted_entry g now p) (b * per_block g + lookups g) (entries g)
         (λ q from up. let s = page_stays b q low out from up in rw (s.entry, s.live) refl)
 
-    free_stays : free_in g now b ≡ free_in g was b
+    pub free_stays : free_in g now b ≡ free_in g was b
     unfolding free_in
     free_stays = filter-same (λ p. is_free_entry g was p) (λ p. is_free_entry g now p) (b * per_block g + lookups g) (entries g)
         (λ q from up. let s = page_stays b q low out from up in rw (s.entry, s.bytes) refl)

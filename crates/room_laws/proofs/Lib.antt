@@ -17,3 +17,5 @@ pub mod Stops
 pub mod Moved
 pub mod Emptied
 pub mod Freed
+pub mod IndexMoves
+pub mod IndexFreed

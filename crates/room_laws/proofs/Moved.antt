@@ -19,32 +19,44 @@ use Rattle.image_laws.proofs.Frames.{live_parts}
 use Rattle.image_laws.proofs.Serving.{some_of, some_of_data}
 use Rattle.image_laws.proofs.Tally.{is_finished-ones}
 use Rattle.room_laws.specs.Emptying.{PageStays, DataMoved}
-use Rattle.room_laws.proofs.Ranges.{any_same, all_wider, count_but}
+use Rattle.room_laws.proofs.Ranges.{list_any_same, all_wider, count_but}
 use Rattle.room_laws.proofs.Blocks.{Told, told_free, told_index, told_data, told, unlive}
 
 -- ---- entries
 
 module _ (g : Geometry) (image : List ℕ) (p : ℕ) where
   -- the page of a free entry isn't live
-  free_unlive : is_free_entry g image p ≡ true → live_at g image p ≡ None
+  pub free_unlive : is_free_entry g image p ≡ true → live_at g image p ≡ None
   free_unlive free = unlive g image p 0xFFFF (eqb-true _ 0xFFFF (and_parts _ _ free).0) (λ x id. is_finished-ones x id)
 
   -- nor is that of a deleted one
-  killed_unlive : entry_of g image p ≡ 0 → live_at g image p ≡ None
+  pub killed_unlive : entry_of g image p ≡ 0 → live_at g image p ≡ None
   killed_unlive killed = unlive g image p 0 killed (λ x id. is_finished-zero x (rw id refl))
 
   -- the entry of a live page is no free one
-  live_not_free : (x : List ℕ) → live_at g image p ≡ Some x → is_free_entry g image p ≡ false
+  pub live_not_free : (x : List ℕ) → live_at g image p ≡ Some x → is_free_entry g image p ≡ false
   live_not_free x e = false_from_ne_true _ (λ free. let bad : Some x ≡ None = sym e ∙ free_unlive free in absurd (cc))
 
-  index_not_data : is_index_page (live_at g image p) ≡ true → is_data_page (live_at g image p) ≡ false
+  pub index_not_data : is_index_page (live_at g image p) ≡ true → is_data_page (live_at g image p) ≡ false
   index_not_data index = either (live_at g image p) index
     where
       either : (o : Option (List ℕ)) → is_index_page o ≡ true → is_data_page o ≡ false
       either None h = refl
       either (Some x) h = rw h refl
 
+-- an entry that was free and whose page is live then was not deleted, nor is it
+pub filled_is : (g : Geometry) (was now : List ℕ) (p : ℕ) → is_free_entry g was p ≡ true → (x : List ℕ) → live_at g now p ≡ Some x → is_deleted_entry g now p ≡ is_deleted_entry g was p
+filled_is g was now p free x e = let ones : (entry_of g was p == 0xFFFF) ≡ true = (and_parts _ _ free).0 in rw (e, ones) (neither (entry_of g now p == 0xFFFF))
+  where
+    neither : (b : Bool) → (not b && false) ≡ (not true && is_none (live_at g was p))
+    neither true = refl
+    neither false = refl
+
 -- ---- blocks
+
+-- a page of a block isn't one of another block
+pub elsewhere : (g : Geometry) (b q p : ℕ) → block_of g q ≡ b → b ≢ block_of g p → q ≢ p
+elsewhere g b q p at other = λ e. other (sym at ∙ ap (λ (k : ℕ). block_of g k) e)
 
 -- the block of a live page of a kind is one of its kind
 block_with : (g : Geometry) (image : List ℕ) (p : ℕ) (k : Option (List ℕ) → Bool) (x : List ℕ) → live_at g image p ≡ Some x → k (live_at g image p) ≡ true →
@@ -60,12 +72,12 @@ data_block_at : (g : Geometry) (image : List ℕ) (p : ℕ) → is_data_page (li
 unfolding is_data_block
 data_block_at g image p holds = let x = some_of_data (live_at g image p) holds in (live_block g image p x.0 x.1, block_with g image p is_data_page x.0 x.1 holds)
 
-index_block_at : (g : Geometry) (image : List ℕ) (p : ℕ) → is_index_page (live_at g image p) ≡ true → (block_of g p < g.blocks) × (is_index_block g image (block_of g p) ≡ true)
+pub index_block_at : (g : Geometry) (image : List ℕ) (p : ℕ) → is_index_page (live_at g image p) ≡ true → (block_of g p < g.blocks) × (is_index_block g image (block_of g p) ≡ true)
 unfolding is_index_block
 index_block_at g image p names = let x = some_of (live_at g image p) names in (live_block g image p x.0 x.1, block_with g image p is_index_page x.0 x.1 names)
 
 -- in a tidy image the block of a live index page is no data block, nor is it free
-index_is_plain : (g : Geometry) (image : List ℕ) (block : ℕ) → Told g image block → is_index_block g image block ≡ true → (is_data_block g image block ≡ false) × (is_free_block g image block ≡ false)
+pub index_is_plain : (g : Geometry) (image : List ℕ) (block : ℕ) → Told g image block → is_index_block g image block ≡ true → (is_data_block g image block ≡ false) × (is_free_block g image block ≡ false)
 index_is_plain g image block (told_free f d j k i p x) index = let bad : true ≡ false = sym index ∙ j in absurd (cc)
 index_is_plain g image block (told_index f d k p) index = (d, f)
 index_is_plain g image block (told_data f d j k i) index = let bad : true ≡ false = sym index ∙ j in absurd (cc)
@@ -110,19 +122,11 @@ module _ (g : Geometry) (page to named renamed : ℕ) (was now : List ℕ) (m : 
       (cases_eq p to))
       (cases_eq p page)
 
-  -- a free entry whose page is live then was not deleted, nor is it
-  filled : (p : ℕ) → is_free_entry g was p ≡ true → (x : List ℕ) → live_at g now p ≡ Some x → is_deleted_entry g now p ≡ is_deleted_entry g was p
-  filled p free x e = let ones : (entry_of g was p == 0xFFFF) ≡ true = (and_parts _ _ free).0 in rw (e, ones) (neither (entry_of g now p == 0xFFFF))
-    where
-      neither : (b : Bool) → (not b && false) ≡ (not true && is_none (live_at g was p))
-      neither true = refl
-      neither false = refl
-
   deleted_test : (p : ℕ) → is_entry_page g p ≡ true → p ≢ page → p ≢ named → is_deleted_entry g now p ≡ is_deleted_entry g was p
   deleted_test p entry a c = ⊎_elim
-      (λ (b : p ≡ to). let x = some_of_data (live_at g now to) m.to_held in rw b (filled to m.to_free x.0 x.1))
+      (λ (b : p ≡ to). let x = some_of_data (live_at g now to) m.to_held in rw b (filled_is g was now to m.to_free x.0 x.1))
       (λ (b : p ≡ to → ⊥). ⊎_elim
-      (λ (d : p ≡ renamed). let x = some_of (live_at g now renamed) m.renamed_index in rw d (filled renamed m.renamed_free x.0 x.1))
+      (λ (d : p ≡ renamed). let x = some_of (live_at g now renamed) m.renamed_index in rw d (filled_is g was now renamed m.renamed_free x.0 x.1))
       (λ (d : p ≡ renamed → ⊥). let s = m.others p entry a b c d in rw (s.entry, s.live) refl)
       (cases_eq p renamed))
       (cases_eq p to)
@@ -141,15 +145,11 @@ module _ (g : Geometry) (page to named renamed : ℕ) (was now : List ℕ) (m : 
   renamed_plain : is_data_block g now (block_of g renamed) ≡ false
   renamed_plain = let w = index_block_at g now renamed m.renamed_index in (index_is_plain g now (block_of g renamed) (told g now m.after (block_of g renamed) w.0) w.1).0
 
-  -- a page of a block isn't one of another block
-  elsewhere : (b q p : ℕ) → block_of g q ≡ b → b ≢ block_of g p → q ≢ p
-  elsewhere b q p at other = λ e. other (sym at ∙ ap (λ (k : ℕ). block_of g k) e)
-
   module _ (b : ℕ) (low : b < g.blocks) (out : b ≢ block_of g page) where
     pub data_block_same : b ≢ block_of g to → is_data_block g now b ≡ is_data_block g was b
     unfolding is_data_block
-    data_block_same off = any_same (λ p. is_data_page (live_at g now p)) (λ p. is_data_page (live_at g was p)) (b * per_block g + lookups g) (entries g)
-        (λ q from up. let w = entry_in g b q low from up in data_test q w.1 (elsewhere b q page w.0 out) (elsewhere b q to w.0 off))
+    data_block_same off = list_any_same (λ p. is_data_page (live_at g now p)) (λ p. is_data_page (live_at g was p)) (b * per_block g + lookups g) (entries g)
+        (λ q from up. let w = entry_in g b q low from up in data_test q w.1 (elsewhere g b q page w.0 out) (elsewhere g b q to w.0 off))
 
     pub free_block_before : is_free_block g now b ≡ true → is_free_block g was b ≡ true
     unfolding is_free_block
@@ -161,7 +161,7 @@ module _ (g : Geometry) (page to named renamed : ℕ) (was now : List ℕ) (m : 
     pub deleted_same : b ≢ block_of g named → deleted_in g now b ≡ deleted_in g was b
     unfolding deleted_in
     deleted_same off = filter-same (λ p. is_deleted_entry g was p) (λ p. is_deleted_entry g now p) (b * per_block g + lookups g) (entries g)
-        (λ q from up. let w = entry_in g b q low from up in deleted_test q w.1 (elsewhere b q page w.0 out) (elsewhere b q named w.0 off))
+        (λ q from up. let w = entry_in g b q low from up in deleted_test q w.1 (elsewhere g b q page w.0 out) (elsewhere g b q named w.0 off))
 
     -- a data block holds neither of the two index pages
     pub off_named : (b ≢ block_of g to) ⊎ (is_data_block g was b ≡ true) → is_data_block g now b ≡ true → b ≢ block_of g named
@@ -175,7 +175,7 @@ module _ (g : Geometry) (page to named renamed : ℕ) (was now : List ℕ) (m : 
     pub data_free_same : b ≢ block_of g to → is_data_block g now b ≡ true → free_in g now b ≡ free_in g was b
     unfolding free_in
     data_free_same off held = filter-same (λ p. is_free_entry g was p) (λ p. is_free_entry g now p) (b * per_block g + lookups g) (entries g)
-        (λ q from up. let w = entry_in g b q low from up in free_same q w.1 (elsewhere b q page w.0 out) (elsewhere b q to w.0 off) (elsewhere b q named w.0 (off_named (inl off) held)) (elsewhere b q renamed w.0 (off_renamed held)))
+        (λ q from up. let w = entry_in g b q low from up in free_same q w.1 (elsewhere g b q page w.0 out) (elsewhere g b q to w.0 off) (elsewhere g b q named w.0 (off_named (inl off) held)) (elsewhere g b q renamed w.0 (off_renamed held)))
 
   -- in the block of the page that was taken a free entry is gone
   pub taken_free : block_of g to ≢ block_of g page → block_of g to ≢ block_of g named → free_in g now (block_of g to) + 1 ≡ free_in g was (block_of g to)
@@ -186,5 +186,5 @@ module _ (g : Geometry) (page to named renamed : ℕ) (was now : List ℕ) (m : 
       let gone : is_free_entry g now to ≡ false = live_not_free g now to x.0 x.1 in
       let but = count_but (λ p. is_free_entry g now p) (λ p. is_free_entry g was p) to (block_of g to * per_block g + lookups g) (entries g) v.0 v.1 gone
       (λ q from up there. let w = entry_in g (block_of g to) q to_block.0 from up in
-      free_same q w.1 (elsewhere (block_of g to) q page w.0 out) there (elsewhere (block_of g to) q named w.0 off) (elsewhere (block_of g to) q renamed w.0 (off_renamed (block_of g to) to_block.0 out to_block.1))) in
+      free_same q w.1 (elsewhere g (block_of g to) q page w.0 out) there (elsewhere g (block_of g to) q named w.0 off) (elsewhere g (block_of g to) q renamed w.0 (off_renamed (block_of g to) to_block.0 out to_block.1))) in
       let but' = rw m.to_free at but in but'

@@ -142,12 +142,16 @@ sum_one h k a n low high none =
     let zero = sum_zero a n in
     omega (arith, but, zero)
 
-pub any_same : (s t : ℕ → Bool) (a n : ℕ) → ((q : ℕ) → a ≤ q → q < a + n → s q ≡ t q) → list_any s (range_with_len a n) ≡ list_any t (range_with_len a n)
-any_same s t a zero same = refl
-any_same s t a (suc n) same = rw (same a (omega arith) (omega arith), any_same s t (a + 1) n (λ q low high. same q (omega arith) (omega arith))) refl
+pub list_any_same : (s t : ℕ → Bool) (a n : ℕ) → ((q : ℕ) → a ≤ q → q < a + n → s q ≡ t q) → list_any s (range_with_len a n) ≡ list_any t (range_with_len a n)
+list_any_same s t a zero same = refl
+list_any_same s t a (suc n) same = rw (same a (omega arith) (omega arith), list_any_same s t (a + 1) n (λ q low high. same q (omega arith) (omega arith))) refl
 
 pub all_wider : (s t : ℕ → Bool) (a n : ℕ) → ((q : ℕ) → a ≤ q → q < a + n → s q ≡ true → t q ≡ true) → list_all s (range_with_len a n) ≡ true → list_all t (range_with_len a n) ≡ true
 all_wider s t a zero wider all = refl
 all_wider s t a (suc n) wider all =
     let w = and_parts (s a) _ all in
     and_from (t a) _ (wider a (omega arith) (omega arith) w.0) (all_wider s t (a + 1) n (λ q low high passes. wider q (omega arith) (omega arith) passes) w.1)
+
+pub list_all_same : (s t : ℕ → Bool) (a n : ℕ) → ((q : ℕ) → a ≤ q → q < a + n → t q ≡ s q) → list_all t (range_with_len a n) ≡ list_all s (range_with_len a n)
+list_all_same s t a zero same = refl
+list_all_same s t a (suc n) same = rw (same a (omega arith) (omega arith), list_all_same s t (a + 1) n (λ q low high. same q (omega arith) (omega arith))) refl

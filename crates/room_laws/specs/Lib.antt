@@ -13,3 +13,4 @@ pub mod Choosing
 pub mod Cleans
 pub mod Stopping
 pub mod Emptying
+pub mod EmptyingIndex

@@ -1,6 +1,6 @@
 use Rattle.room_laws.proofs.Emptied.{emptying_begins, emptying_goes_on}
 use Rattle.room_laws.proofs.Freed.{emptying_ends}
-use Rattle.room_laws.proofs.emptying.moves_clean.Goals as goal
+use Rattle.room_laws.proofs.emptying.data_moves_clean.Goals as goal
 
 pub returns-clause-begins : goal.returns-clause-begins
 returns-clause-begins c = emptying_begins
