@@ -23,6 +23,7 @@ emptying_begins g first block t = record {
   tidy = t;
   table = refl;
   deleted = λ b low out held. refl;
+  stays = λ b low out held. held;
   begun = λ b low out held none. let bad : true ≡ false = sym held ∙ none in absurd (cc);
   free = λ b low out free. free;
   taken = λ h. absurd (omega (arith, h));
@@ -68,6 +69,12 @@ module _ (g : Geometry) (first was now : List ℕ) (page to named renamed : ℕ)
       (λ (other : b ≡ target → ⊥).
       let away = off_named g page to named renamed was now m b below out (inl other) pages in
       deleted_same g page to named renamed was now m b below out away ∙ e.deleted b below out (before b below out other pages))
+      (cases_eq b target)
+
+  data_stays : (b : ℕ) → b < g.blocks → b ≢ block_of g page → is_data_block g first b ≡ true → is_data_block g now b ≡ true
+  data_stays b below out old = ⊎_elim
+      (λ (here : b ≡ target). rw here held)
+      (λ (other : b ≡ target → ⊥). data_block_same g page to named renamed was now m b below out other ∙ e.stays b below out old)
       (cases_eq b target)
 
   begun_free : (b : ℕ) → b < g.blocks → b ≢ block_of g page → is_data_block g now b ≡ true → is_data_block g first b ≡ false → is_free_block g first b ≡ true
@@ -153,6 +160,7 @@ emptying_goes_on g first was now page to named renamed e place m = record {
   tidy = m.after;
   table = m.table ∙ e.table;
   deleted = deleted_stays g first was now page to named renamed e place m;
+  stays = data_stays g first was now page to named renamed e place m;
   begun = begun_free g first was now page to named renamed e place m;
   free = λ b below out free. e.free b below out (free_block_before g page to named renamed was now m b below out free);
   taken = few_left g first was now page to named renamed e place m;

@@ -56,7 +56,7 @@ others_stay g was now block p same entry out = record {
 }
 
 -- the data blocks are those beside a block, and the block if it is one
-with_beside : (g : Geometry) (image : List ℕ) (block : ℕ) → block < g.blocks → data_beside g image block + cond (is_data_block g image block) 1 0 ≡ data_blocks g image
+pub with_beside : (g : Geometry) (image : List ℕ) (block : ℕ) → block < g.blocks → data_beside g image block + cond (is_data_block g image block) 1 0 ≡ data_blocks g image
 unfolding data_beside data_blocks
 with_beside g image block low =
     count_but (λ b. not (b == block) && is_data_block g image b) (λ b. is_data_block g image b) block 0 g.blocks (omega arith) (omega (arith, low))
@@ -119,6 +119,7 @@ emptying_ends g first was now block low held e f =
       table = f.table ∙ e.table;
       free = f.free;
       deleted = λ b below out pages. deleted_stays g was now block f b below out ∙ e.deleted b below out (sym (data_stays g was now block f b below out) ∙ pages);
+      stays = λ b below out old. data_stays g was now block f b below out ∙ e.stays b below out old;
       begun = λ b below pages before. ⊎_elim
           (λ (here : b ≡ block). let bad : true ≡ false = sym pages ∙ (rw here none) in absurd (cc))
           (λ (out : b ≡ block → ⊥). e.begun b below out (sym (data_stays g was now block f b below out) ∙ pages) before)

@@ -24,7 +24,7 @@ use Rattle.room_laws.proofs.Freed.{page_stays, data_stays, deleted_stays, free_s
 use Rattle.room_laws.proofs.IndexMoves.{other_takes}
 
 -- the blocks for index pages are those beside a block, and the block if it is one
-with_beside : (g : Geometry) (image : List ℕ) (block : ℕ) → block < g.blocks → index_beside g image block + cond (is_other_block g image block) 1 0 ≡ other_blocks g image
+pub with_beside : (g : Geometry) (image : List ℕ) (block : ℕ) → block < g.blocks → index_beside g image block + cond (is_other_block g image block) 1 0 ≡ other_blocks g image
 unfolding index_beside other_blocks
 with_beside g image block low =
     count_but (λ b. not (b == block) && is_other_block g image b) (λ b. is_other_block g image b) block 0 g.blocks (omega arith) (omega (arith, low))

@@ -19,3 +19,4 @@ pub mod Emptied
 pub mod Freed
 pub mod IndexMoves
 pub mod IndexFreed
+pub mod Besides

@@ -22,7 +22,7 @@ length-without [] i within = absurd (omega arith)
 length-without (x ∷ v) zero within = refl
 length-without (x ∷ v) (suc i) within = ap suc (length-without v i (omega arith))
 
-others-in : (v : List Counts) (i : ℕ) (c : Counts) → Contains (without i v) c → Contains v c
+pub others-in : (v : List Counts) (i : ℕ) (c : Counts) → Contains (without i v) c → Contains v c
 others-in [] i c (k, low, e) = (k, low, e)
 others-in (x ∷ v) zero c (k, low, e) = (suc k, omega arith, e)
 others-in (x ∷ v) (suc i) c (zero, low, e) = (zero, omega arith, e)
@@ -78,7 +78,7 @@ mending_rearranged e a b r (near_none bound c at o f) = near_none (near-same e a
 pub cleaned_mends : CleanedMends
 cleaned_mends e a b c k bound = strong (bound_kept e a b c k bound) k.free
 
-same-at : (s : List Counts) (i : ℕ) (x y : Counts) → i < length s → slice_index_or s i x ≡ slice_index_or s i y
+pub same-at : (s : List Counts) (i : ℕ) (x y : Counts) → i < length s → slice_index_or s i x ≡ slice_index_or s i y
 same-at [] i x y within = absurd (omega arith)
 same-at (z ∷ s) zero x y within = refl
 same-at (z ∷ s) (suc i) x y within = same-at s i x y (omega arith)

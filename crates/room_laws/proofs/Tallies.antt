@@ -42,13 +42,17 @@ and_same : (x y : Bool) → y ≡ true → (x && y) ≡ x
 and_same true y h = h
 and_same false y h = refl
 
-free_counted : (g : Geometry) (image : List ℕ) (b : ℕ) → (block_counts g image b).free ≡ free_in g image b
+pub free_counted : (g : Geometry) (image : List ℕ) (b : ℕ) → (block_counts g image b).free ≡ free_in g image b
 unfolding block_counts
 free_counted g image b = refl
 
-index_counted : (g : Geometry) (image : List ℕ) (b : ℕ) → (block_counts g image b).index ≡ index_in g image b
+pub index_counted : (g : Geometry) (image : List ℕ) (b : ℕ) → (block_counts g image b).index ≡ index_in g image b
 unfolding block_counts
 index_counted g image b = refl
+
+pub pages_counted : (g : Geometry) (image : List ℕ) (b : ℕ) → (block_counts g image b).pages ≡ data_in g image b
+unfolding block_counts
+pages_counted g image b = refl
 
 pub deleted_counted : (g : Geometry) (image : List ℕ) (b : ℕ) → (block_counts g image b).deleted ≡ deleted_in g image b
 unfolding block_counts
@@ -107,12 +111,12 @@ module _ (g : Geometry) (image : List ℕ) where
 
   -- by its sort, what a block of a tidy image adds
   module _ (b : ℕ) where
-    is_unused : Told g image b → if_kind unused (block_counts g image b) 1 ≡ cond (is_free_block g image b) 1 0
+    pub is_unused : Told g image b → if_kind unused (block_counts g image b) 1 ≡ cond (is_free_block g image b) 1 0
     is_unused (told_free f d j k i p x) = rw (f, k) refl
     is_unused (told_index f d k p) = rw (f, k) refl
     is_unused (told_data f d j k i) = rw (f, k) refl
 
-    is_index : Told g image b → if_kind for_index (block_counts g image b) 1 ≡ cond (is_other_block g image b) 1 0
+    pub is_index : Told g image b → if_kind for_index (block_counts g image b) 1 ≡ cond (is_other_block g image b) 1 0
     is_index (told_free f d j k i p x) = rw (f, k) refl
     is_index (told_index f d k p) = rw (f, d, k) refl
     is_index (told_data f d j k i) = rw (f, d, k) refl
@@ -122,13 +126,13 @@ module _ (g : Geometry) (image : List ℕ) where
     is_data (told_index f d k p) = rw (d, k) refl
     is_data (told_data f d j k i) = rw (d, k) refl
 
-    index_room : has_magic g image b ≡ true → Told g image b → if_kind for_index (block_counts g image b) (block_counts g image b).free ≡ cond (takes_index g image b) (free_in g image b) 0
+    pub index_room : has_magic g image b ≡ true → Told g image b → if_kind for_index (block_counts g image b) (block_counts g image b).free ≡ cond (takes_index g image b) (free_in g image b) 0
     unfolding takes_index
     index_room m (told_free f d j k i p x) = rw (m, f, k) refl
     index_room m (told_index f d k p) = rw (m, f, d, k) (free_counted g image b)
     index_room m (told_data f d j k i) = rw (m, f, d, k) refl
 
-    data_room : Told g image b → if_kind for_data (block_counts g image b) (block_counts g image b).free ≡ cond (takes_data g image b) (free_in g image b) 0
+    pub data_room : Told g image b → if_kind for_data (block_counts g image b) (block_counts g image b).free ≡ cond (takes_data g image b) (free_in g image b) 0
     unfolding takes_data
     data_room (told_free f d j k i p x) = rw (d, k) refl
     data_room (told_index f d k p) = rw (d, k) refl
@@ -140,7 +144,7 @@ module _ (g : Geometry) (image : List ℕ) where
     beside_room n (told_index f d k p) = rw (d, k, if_any_is, index_counted g image b, n, free_counted g image b) (and_true (is_index_block g image b) (free_in g image b))
     beside_room n (told_data f d j k i) = rw (d, j, k, if_any_is) (none_either (nat_lt 0 (block_counts g image b).index) 0 refl)
 
-    index_lost : Told g image b → if_kind for_index (block_counts g image b) (block_counts g image b).deleted ≡ cond (not (is_data_block g image b)) (deleted_in g image b) 0
+    pub index_lost : Told g image b → if_kind for_index (block_counts g image b) (block_counts g image b).deleted ≡ cond (not (is_data_block g image b)) (deleted_in g image b) 0
     index_lost (told_free f d j k i p x) = rw (d, k, x) refl
     index_lost (told_index f d k p) = rw (d, k) (deleted_counted g image b)
     index_lost (told_data f d j k i) = rw (d, k) refl

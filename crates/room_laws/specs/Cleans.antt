@@ -47,13 +47,14 @@ abbrev pub IndexIsCleaned : Geometry → Type 0
 IndexIsCleaned g = (was now : List ℕ) (block : ℕ) → IsTidy g was → block < g.blocks → is_data_block g was block ≡ false → CleansIndex g was block now → IsCleaned g was block now
 
 -- What the cleaning of a block with live data pages tells: the image is tidy with the same table, the block is free, each
--- other data block has the deleted entries that it had, each new one was free, and where no data block less is there fewer
--- free entries for data pages are left than a block has.
+-- other data block stays one and has the deleted entries that it had, each new one was free, and where no data block less
+-- is there fewer free entries for data pages are left than a block has.
 pub record CleansData (g : Geometry) (was : List ℕ) (block : ℕ) (now : List ℕ) : Type 0 where
   pub tidy : IsTidy g now
   pub table : table_of g now ≡ table_of g was
   pub free : is_free_block g now block ≡ true
   pub deleted : (b : ℕ) → b < g.blocks → b ≢ block → is_data_block g now b ≡ true → deleted_in g now b ≡ deleted_in g was b
+  pub stays : (b : ℕ) → b < g.blocks → b ≢ block → is_data_block g was b ≡ true → is_data_block g now b ≡ true
   pub begun : (b : ℕ) → b < g.blocks → is_data_block g now b ≡ true → is_data_block g was b ≡ false → is_free_block g was b ≡ true
   pub taken : data_blocks g was ≤ data_blocks g now → free_where g now (takes_data g now) < entries g
 

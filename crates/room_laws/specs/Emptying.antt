@@ -45,14 +45,15 @@ pub record IsDataPlace (g : Geometry) (image : List ℕ) (block to : ℕ) : Type
   pub kind : (takes_data g image (block_of g to) ≡ true) ⊎ (is_free_block g image (block_of g to) ≡ true)
   pub last : is_free_block g image (block_of g to) ≡ true → (other : ℕ) → other < g.blocks → other ≢ block → takes_data g image other ≡ true → free_in g image other ≡ 0
 
--- Some live data pages were moved out of a block: of the other blocks each data block has the deleted entries that it had,
--- each new one was free, each free one was free, and where there are more data blocks fewer free entries for data pages are
+-- Some live data pages were moved out of a block: of the other blocks each data block stays one and has the deleted entries
+-- that it had, each new one was free, each free one was free, and where there are more data blocks fewer free entries for data pages are
 -- left than a block has.
 pub record DataEmptying (g : Geometry) (first : List ℕ) (block : ℕ) (image : List ℕ) : Type 0 where
   pub before : IsTidy g first
   pub tidy : IsTidy g image
   pub table : table_of g image ≡ table_of g first
   pub deleted : (other : ℕ) → other < g.blocks → other ≢ block → is_data_block g image other ≡ true → deleted_in g image other ≡ deleted_in g first other
+  pub stays : (other : ℕ) → other < g.blocks → other ≢ block → is_data_block g first other ≡ true → is_data_block g image other ≡ true
   pub begun : (other : ℕ) → other < g.blocks → other ≢ block → is_data_block g image other ≡ true → is_data_block g first other ≡ false → is_free_block g first other ≡ true
   pub free : (other : ℕ) → other < g.blocks → other ≢ block → is_free_block g image other ≡ true → is_free_block g first other ≡ true
   pub taken : data_beside g first block < data_beside g image block → free_outside g image block (takes_data g image) < entries g

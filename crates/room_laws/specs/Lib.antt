@@ -14,3 +14,4 @@ pub mod Cleans
 pub mod Stopping
 pub mod Emptying
 pub mod EmptyingIndex
+pub mod Mends
