@@ -20,3 +20,4 @@ pub mod Freed
 pub mod IndexMoves
 pub mod IndexFreed
 pub mod Besides
+pub mod ImageMends

@@ -35,19 +35,19 @@ front-in v i c d within at (suc k, low, e) = others-in v i d (k, omega arith, e)
 pub to_front : ToFront
 to_front v i c within at = record { long = length-without v i within; totals = λ f. total-without f v i c within at; blocks = λ d h. front-in v i c d within at h }
 
-blocks-same : (k : Kind) (a b : List Counts) → Rearranged a b → blocks_of k a ≡ blocks_of k b
+pub blocks-same : (k : Kind) (a b : List Counts) → Rearranged a b → blocks_of k a ≡ blocks_of k b
 unfolding blocks_of
 blocks-same k a b r = sym (r.totals (λ c. if_kind k c 1))
 
-free-same : (k : Kind) (a b : List Counts) → Rearranged a b → free_of k a ≡ free_of k b
+pub free-same : (k : Kind) (a b : List Counts) → Rearranged a b → free_of k a ≡ free_of k b
 unfolding free_of
 free-same k a b r = sym (r.totals (λ c. if_kind k c c.free))
 
-beside-same : (a b : List Counts) → Rearranged a b → free_beside a ≡ free_beside b
+pub beside-same : (a b : List Counts) → Rearranged a b → free_beside a ≡ free_beside b
 unfolding free_beside
 beside-same a b r = sym (r.totals (λ c. if_any c.index (if_kind for_index c c.free)))
 
-index-same : (a b : List Counts) → Rearranged a b → index_total a ≡ index_total b
+pub index-same : (a b : List Counts) → Rearranged a b → index_total a ≡ index_total b
 unfolding index_total
 index-same a b r = sym (r.totals (λ c. c.index))
 

@@ -42,7 +42,7 @@ plain_kind g image block (told_index f d k p) kind = d
 plain_kind g image block (told_data f d j k i) kind = absurd (let bad : for_data ≡ for_index = sym k ∙ kind in cc)
 
 -- counts among those of an image are those of a block
-block_of_counts : (g : Geometry) (image : List ℕ) (c : Counts) → Contains (counts_of g image) c → (block : ℕ) × (block < g.blocks) × (block_counts g image block ≡ c)
+pub block_of_counts : (g : Geometry) (image : List ℕ) (c : Counts) → Contains (counts_of g image) c → (block : ℕ) × (block < g.blocks) × (block_counts g image block ≡ c)
 unfolding counts_of
 block_of_counts g image c (k, low, is) =
     let size = length-map-range_with_len (block_counts g image) 0 g.blocks in
@@ -51,7 +51,7 @@ block_of_counts g image c (k, low, is) =
 
 module _ (g : Geometry) (image : List ℕ) (t : IsTidy g image) where
   -- a candidate by the counts is one of the image
-  candidate_of : (c : Counts) → Contains (counts_of g image) c → Worth (counts_of g image) c → Fits (entries g) (counts_of g image) c → (block : ℕ) × IsCandidate g image block × (block_counts g image block ≡ c)
+  pub candidate_of : (c : Counts) → Contains (counts_of g image) c → Worth (counts_of g image) c → Fits (entries g) (counts_of g image) c → (block : ℕ) × IsCandidate g image block × (block_counts g image block ≡ c)
   candidate_of c at worth fits =
       let b = block_of_counts g image c at in
       let w = (worth_is_tested g image b.0 t b.1).1 (subst (λ (d : Counts). Worth (counts_of g image) d) (sym b.2) worth) in
@@ -65,7 +65,7 @@ module _ (g : Geometry) (image : List ℕ) (t : IsTidy g image) where
     pages_are : pages_total (counts_of g image) ≡ data_count g (table_of g image)
     pages_are = (tidy_counts_tell g image t).pages ∙ (tidy-counts g image is t).1
 
-    bound_to : HasBound g image → Bound (entries g) (counts_of g image)
+    pub bound_to : HasBound g image → Bound (entries g) (counts_of g image)
     bound_to bound = rw index_are (omega (arith, bound, (tidy_counts_tell g image t).data_blocks_are, (tidy_counts_tell g image t).blocks))
 
     bound_from : Bound (entries g) (counts_of g image) → HasBound g image
