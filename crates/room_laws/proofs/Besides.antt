@@ -1,14 +1,14 @@
 -- What the counts of all blocks but one add up to.
-use Rattle.std.proofs.Common.{◌≡◌, ◌≢◌, ℕ, zero, suc, ◌+◌, ◌<◌, ◌≤◌, List, [], ◌∷◌, length, Bool, true, false, not, cond, ◌==◌, ◌&&◌, slice_index_or, refl, sym, ◌∙◌, subst, arith, ⊎_elim}
+use Rattle.std.proofs.Common.{◌≡◌, ℕ, suc, ◌+◌, ◌<◌, List, ◌∷◌, length, Bool, not, cond, ◌==◌, ◌&&◌, slice_index_or, refl, sym, ◌∙◌, subst, arith}
 use Rattle.std.specs.Prelude.{All, Contains}
 use Rattle.std.proofs.lemmas.Bool.{eq-eqb, ne_eqb}
 use Rattle.std.proofs.lemmas.List.FromFn.{length-map-range_with_len, get_or-map-range_with_len}
 use Rattle.geometry.specs.declared.geometry.Geometry.{Geometry}
 use Rattle.image_model.specs.Volume.{entries}
 use Rattle.image_model.specs.Tidy.{IsTidy, is_free_block, free_blocks}
-use Rattle.image_model.specs.Kinds.{live_index, live_data, is_data_block, data_blocks, is_other_block, other_blocks}
-use Rattle.image_model.specs.Collect.{index_in, data_in, deleted_in, free_in, free_where, free_outside, takes_index, takes_data}
-use Rattle.room_laws.specs.Counts.{Counts, IsBlock, Kind, unused, for_index, for_data, kind_of, if_kind}
+use Rattle.image_model.specs.Kinds.{live_index, live_data, is_data_block}
+use Rattle.image_model.specs.Collect.{index_in, data_in, deleted_in, free_outside, takes_index, takes_data}
+use Rattle.room_laws.specs.Counts.{Counts, IsBlock, unused, for_index, for_data, if_kind}
 use Rattle.room_laws.specs.Volume.{total, IsVolume, blocks_of, free_of, deleted_of, index_total, pages_total}
 use Rattle.room_laws.specs.Counting.{block_counts, counts_of, deleted_where}
 use Rattle.room_laws.specs.Order.{without, Rearranged}

@@ -9,7 +9,7 @@ use Rattle.image_model.specs.Volume.{entries}
 use Rattle.image_model.specs.Places.{IsImage, has_magic}
 use Rattle.image_model.specs.Tidy.{IsTidy, is_free_block, free_blocks}
 use Rattle.image_model.specs.Kinds.{is_data_block, data_blocks}
-use Rattle.image_model.specs.Collect.{deleted_outside, chosen_block, Swept, deleted_in, takes_index}
+use Rattle.image_model.specs.Collect.{deleted_outside, deleted_in, takes_index}
 use Rattle.image_laws.proofs.FreeBlocks.{filter-same}
 use Rattle.image_laws.proofs.Matching.{sum-range}
 use Rattle.image_laws.proofs.Tally.{tidy-counts}

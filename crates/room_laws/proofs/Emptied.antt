@@ -1,19 +1,16 @@
 -- Moving the data pages out of a block, step by step.
-use Rattle.std.proofs.Common.{◌≡◌, ◌≢◌, ℕ, ◌+◌, ◌<◌, ◌≤◌, ◌⊎◌, List, length, Bool, true, false, not, cond, ◌==◌, ◌&&◌, refl, sym, ◌∙◌, arith, ⊎_elim, inl, inr}
-use Rattle.std.specs.Prelude.{filter}
-use Rattle.std.specs.List.{range_with_len}
+use Rattle.std.proofs.Common.{◌≡◌, ◌≢◌, ℕ, ◌+◌, ◌<◌, ◌≤◌, ◌⊎◌, List, true, false, not, cond, ◌==◌, ◌&&◌, refl, sym, ◌∙◌, arith, ⊎_elim, inl, inr}
 use Rattle.std.proofs.lemmas.Bool.{cases_Bool, cases_eq, eq-eqb, ne_eqb}
 use Rattle.geometry.specs.declared.geometry.Geometry.{Geometry}
 use Rattle.image_model.specs.Volume.{entries}
 use Rattle.image_model.specs.Places.{block_of}
-use Rattle.image_model.specs.Tidy.{IsTidy, is_free_block}
+use Rattle.image_model.specs.Tidy.{is_free_block}
 use Rattle.image_model.specs.Kinds.{is_data_block}
 use Rattle.image_model.specs.Collect.{deleted_in, free_in, free_where, free_outside, takes_data}
 use Rattle.image_laws.proofs.FreeBlocks.{filter-same}
 use Rattle.room_laws.specs.Emptying.{data_beside, DataMoved, IsDataPlace, DataEmptying, EmptyingBegins, EmptyingGoesOn}
 use Rattle.room_laws.proofs.Ranges.{sum_le, sum_one}
 use Rattle.room_laws.proofs.Blocks.{told, free_all}
-use Rattle.room_laws.proofs.Tallies.{entries_pos}
 use Rattle.room_laws.proofs.Cleans.{free_told}
 use Rattle.room_laws.proofs.Moved.{data_takes, to_block, named_plain, data_block_same, free_block_before, deleted_same, off_named, data_free_same, taken_free}
 

@@ -1,16 +1,14 @@
 -- A block made fresh once its data pages were moved out of it.
-use Rattle.std.proofs.Common.{◌≡◌, ◌≢◌, ℕ, ◌+◌, ◌-◌, ◌*◌, ◌/◌, ◌<◌, ◌≤◌, ◌⊎◌, List, length, Bool, true, false, not, cond, ◌==◌, ◌&&◌, refl, sym, ◌∙◌, ap, arith, ⊎_elim, inl, inr}
-use Rattle.std.specs.Prelude.{filter}
-use Rattle.std.specs.List.{range_with_len}
+use Rattle.std.proofs.Common.{◌≡◌, ◌≢◌, ℕ, ◌+◌, ◌-◌, ◌*◌, ◌/◌, ◌<◌, ◌≤◌, ◌⊎◌, List, true, false, not, cond, ◌==◌, ◌&&◌, refl, sym, ◌∙◌, ap, arith, ⊎_elim, inl, inr}
 use Rattle.std.proofs.Math.Nat.{mul-le-mul_right}
 use Rattle.std.proofs.lemmas.Nat.{div-mul-add}
 use Rattle.std.proofs.lemmas.Bool.{cases_eq, cases_lt, eq-eqb, ne_eqb}
 use Rattle.geometry.specs.declared.geometry.Geometry.{Geometry}
 use Rattle.nor_core.specs.Flash.{SameOutside}
 use Rattle.image_model.specs.Volume.{per_block, lookups, entries}
-use Rattle.image_model.specs.Places.{block_of, place_of, entry_of, page_of, is_entry_page}
+use Rattle.image_model.specs.Places.{block_of, place_of, entry_of, page_of}
 use Rattle.image_model.specs.Live.{live_at}
-use Rattle.image_model.specs.Tidy.{IsTidy, is_free_entry, is_free_block}
+use Rattle.image_model.specs.Tidy.{IsTidy, is_free_entry}
 use Rattle.image_model.specs.Kinds.{is_data_page, is_data_block, data_blocks}
 use Rattle.image_model.specs.Collect.{deleted_in, free_in, free_where, free_outside, takes_data, is_deleted_entry}
 use Rattle.image_model.specs.Within.{sizes, entry_in, entry_slot}
@@ -18,7 +16,7 @@ use Rattle.image_laws.proofs.Erase.{slot-other, live-other}
 use Rattle.image_laws.proofs.Frames.{range-same}
 use Rattle.image_laws.proofs.FreeBlocks.{filter-same}
 use Rattle.image_laws.proofs.Matching.{sum-range}
-use Rattle.room_laws.specs.Emptying.{data_beside, PageStays, DataEmptying, BlockFreed, OthersStay, EmptyingEnds}
+use Rattle.room_laws.specs.Emptying.{data_beside, PageStays, BlockFreed, OthersStay, EmptyingEnds}
 use Rattle.room_laws.proofs.Ranges.{list_any_same, count_but}
 use Rattle.room_laws.proofs.Blocks.{told}
 use Rattle.room_laws.proofs.Judged.{outside}

@@ -1,27 +1,26 @@
 -- Images that cleanings give back their reserve.
-use Rattle.std.proofs.Common.{◌≡◌, ◌≢◌, ℕ, zero, suc, ◌+◌, ◌<◌, ◌≤◌, ◌⊎◌, List, [], ◌∷◌, length, Bool, true, false, not, cond, nat_lt, slice_index_or, max, refl, sym, ◌∙◌, ap, subst, arith, ⊎_elim, inl, inr}
-use Rattle.std.specs.Prelude.{Contains, None}
-use Rattle.std.proofs.lemmas.Bool.{cases_eq, cases_Bool}
+use Rattle.std.proofs.Common.{◌≡◌, ◌≢◌, ℕ, zero, suc, ◌+◌, ◌<◌, ◌≤◌, ◌⊎◌, List, [], ◌∷◌, length, true, false, nat_lt, slice_index_or, refl, sym, ◌∙◌, ap, subst, arith, ⊎_elim, inl, inr}
+use Rattle.std.specs.Prelude.{Contains}
+use Rattle.std.proofs.lemmas.Bool.{cases_eq}
 use Rattle.std.proofs.lemmas.List.FromFn.{length-map-range_with_len, get_or-map-range_with_len}
 use Rattle.geometry.specs.declared.geometry.Geometry.{Geometry}
 use Rattle.image_model.specs.Volume.{entries}
 use Rattle.image_model.specs.Places.{IsImage, has_magic}
 use Rattle.image_model.specs.Tables.{table_of}
-use Rattle.image_model.specs.Tidy.{IsTidy, is_free_block, free_blocks, HasReserve}
-use Rattle.image_model.specs.Kinds.{live_index, live_data, is_data_block, data_blocks}
-use Rattle.image_model.specs.Collect.{index_in, data_in, deleted_in, free_in, takes_index, takes_data, chosen_block}
+use Rattle.image_model.specs.Tidy.{IsTidy, is_free_block, free_blocks}
+use Rattle.image_model.specs.Kinds.{live_index, live_data, is_data_block}
+use Rattle.image_model.specs.Collect.{index_in, takes_index}
 use Rattle.image_laws.proofs.Tally.{tidy-counts}
 use Rattle.room_laws.specs.Counts.{Counts, Kind, unused, for_index, for_data, kind_of}
-use Rattle.room_laws.specs.Volume.{blocks_of, index_total, pages_total, WorthAs, Worth}
+use Rattle.room_laws.specs.Volume.{pages_total, WorthAs, Worth}
 use Rattle.room_laws.specs.Bounds.{Bound}
-use Rattle.room_laws.specs.Mending.{Mending, strong, DataStay}
+use Rattle.room_laws.specs.Mending.{strong, DataStay}
 use Rattle.room_laws.specs.Cut.{CutIndex, Batches, DeadBlock, CutData}
 use Rattle.room_laws.specs.Order.{without, Rearranged}
 use Rattle.room_laws.specs.Counting.{block_counts, counts_of}
 use Rattle.room_laws.specs.Choosing.{IsCandidate}
-use Rattle.room_laws.specs.Cleans.{IsCleaned, CleansIndex, CleansData}
 use Rattle.room_laws.specs.Stopping.{CanClean}
-use Rattle.room_laws.specs.Mends.{CanMend, CleanMends, MendedHasReserve, DataStays, CleanedKeepsMend, IndexLeavesData, DataLeavesData, CutsIndex, LosesBatch, LeavesDead, CutsData, CutIndexMends, CutDataMends}
+use Rattle.room_laws.specs.Mends.{CanMend, CleanMends, MendedHasReserve, DataStays, CleanedKeepsMend, IndexLeavesData, DataLeavesData, LosesBatch, LeavesDead, CutsData, CutIndexMends, CutDataMends}
 use Rattle.room_laws.proofs.Mend.{mending_kept}
 use Rattle.room_laws.proofs.Cuts.{cut_mends}
 use Rattle.room_laws.proofs.Totals.{Seen, is_unused, is_index, is_data, seen}

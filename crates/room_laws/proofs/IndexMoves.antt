@@ -1,23 +1,19 @@
 -- Moving the index pages out of a block, step by step.
-use Rattle.std.proofs.Common.{◌≡◌, ◌≢◌, ℕ, ◌+◌, ◌*◌, ◌<◌, ◌≤◌, ◌⊎◌, List, length, Bool, true, false, not, cond, ◌==◌, ◌&&◌, Option, Some, None, refl, sym, ◌∙◌, ap, arith, ⊎_elim, inl, inr}
-use Rattle.std.specs.Prelude.{filter}
-use Rattle.std.specs.List.{range_with_len, list_any, list_all}
-use Rattle.std.proofs.lemmas.Bool.{cases_Bool, cases_eq, and_parts, eq-eqb, ne_eqb}
+use Rattle.std.proofs.Common.{◌≡◌, ◌≢◌, ℕ, ◌+◌, ◌*◌, ◌<◌, ◌≤◌, ◌⊎◌, List, Bool, true, false, not, cond, ◌==◌, ◌&&◌, refl, sym, ◌∙◌, ap, arith, ⊎_elim, inl, inr}
+use Rattle.std.proofs.lemmas.Bool.{cases_Bool, cases_eq, eq-eqb, ne_eqb}
 use Rattle.geometry.specs.declared.geometry.Geometry.{Geometry}
 use Rattle.image_model.specs.Volume.{per_block, lookups, entries}
-use Rattle.image_model.specs.Places.{entry_of, page_of, block_of, is_entry_page, has_magic}
+use Rattle.image_model.specs.Places.{block_of, is_entry_page, has_magic}
 use Rattle.image_model.specs.Live.{live_at}
-use Rattle.image_model.specs.Tidy.{IsTidy, is_free_entry, is_free_block, free_blocks}
-use Rattle.image_model.specs.Kinds.{is_index_page, is_data_page, is_index_block, is_data_block, is_other_block, data_blocks, other_blocks}
+use Rattle.image_model.specs.Tidy.{is_free_entry, is_free_block}
+use Rattle.image_model.specs.Kinds.{is_data_page, is_data_block, is_other_block}
 use Rattle.image_model.specs.Collect.{data_in, deleted_in, free_in, free_where, free_outside, takes_index, is_deleted_entry}
 use Rattle.image_model.specs.Within.{entry_in, entry_of_block}
 use Rattle.image_laws.proofs.FreeBlocks.{filter-same}
-use Rattle.image_laws.proofs.Matching.{sum-range}
 use Rattle.image_laws.proofs.Serving.{some_of}
-use Rattle.room_laws.specs.Emptying.{PageStays}
 use Rattle.room_laws.specs.EmptyingIndex.{index_beside, IndexMoved, IsIndexPlace, IndexEmptying, IndexBegins, IndexGoesOn}
 use Rattle.room_laws.proofs.Ranges.{list_any_same, list_all_same, count_but, sum_le, sum_one}
-use Rattle.room_laws.proofs.Blocks.{Told, told_free, told_index, told_data, told, free_all}
+use Rattle.room_laws.proofs.Blocks.{told, free_all}
 use Rattle.room_laws.proofs.Moved.{free_unlive, killed_unlive, live_not_free, index_not_data, index_block_at, index_is_plain, filled_is, elsewhere}
 
 -- in a tidy image a block for index pages is one that is neither free nor a data block

@@ -1,16 +1,15 @@
 -- What moving a data page does to the counts of each block.
-use Rattle.std.proofs.Common.{◌≡◌, ◌≢◌, ℕ, ◌+◌, ◌*◌, ◌<◌, ◌≤◌, ◌⊎◌, List, length, Bool, true, false, not, cond, ◌==◌, ◌&&◌, Option, Some, None, refl, sym, ◌∙◌, ap, arith, ⊎_elim, inl, inr}
-use Rattle.std.specs.Prelude.{filter, is_none}
-use Rattle.std.specs.List.{range_with_len, list_any, list_all}
-use Rattle.std.proofs.lemmas.Bool.{cases_Bool, cases_eq, and_parts, and_from, eqb-true, false_from_ne_true}
+use Rattle.std.proofs.Common.{◌≡◌, ◌≢◌, ℕ, ◌+◌, ◌*◌, ◌<◌, ◌⊎◌, List, Bool, true, false, not, ◌==◌, ◌&&◌, Option, Some, None, refl, sym, ◌∙◌, ap, ⊎_elim, inl, inr}
+use Rattle.std.specs.Prelude.{is_none}
+use Rattle.std.specs.List.{range_with_len, list_any}
+use Rattle.std.proofs.lemmas.Bool.{cases_eq, and_parts, and_from, eqb-true, false_from_ne_true}
 use Rattle.geometry.specs.declared.geometry.Geometry.{Geometry}
 use Rattle.image_model.specs.Volume.{per_block, lookups, entries}
-use Rattle.image_model.specs.Headers.{obj_id}
-use Rattle.image_model.specs.Places.{entry_of, page_of, block_of, is_entry_page}
+use Rattle.image_model.specs.Places.{entry_of, block_of, is_entry_page}
 use Rattle.image_model.specs.Live.{live_at}
-use Rattle.image_model.specs.Tidy.{IsTidy, is_free_entry, is_free_block}
+use Rattle.image_model.specs.Tidy.{is_free_entry, is_free_block}
 use Rattle.image_model.specs.Kinds.{is_index_page, is_data_page, is_index_block, is_data_block}
-use Rattle.image_model.specs.Collect.{data_in, deleted_in, free_in, takes_data, is_deleted_entry}
+use Rattle.image_model.specs.Collect.{deleted_in, free_in, takes_data, is_deleted_entry}
 use Rattle.image_model.specs.Within.{entry_in, entry_of_block, page_number, block_number}
 use Rattle.image_laws.proofs.Damaged.{any_from}
 use Rattle.image_laws.proofs.Finish.{is_finished-zero}
@@ -18,7 +17,7 @@ use Rattle.image_laws.proofs.FreeBlocks.{filter-same}
 use Rattle.image_laws.proofs.Frames.{live_parts}
 use Rattle.image_laws.proofs.Serving.{some_of, some_of_data}
 use Rattle.image_laws.proofs.Tally.{is_finished-ones}
-use Rattle.room_laws.specs.Emptying.{PageStays, DataMoved}
+use Rattle.room_laws.specs.Emptying.{DataMoved}
 use Rattle.room_laws.proofs.Ranges.{list_any_same, all_wider, count_but}
 use Rattle.room_laws.proofs.Blocks.{Told, told_free, told_index, told_data, told, unlive}
 

@@ -1,5 +1,5 @@
 -- Moving the index pages out of a block, one after the other, until it is made fresh.
-use Rattle.std.specs.Prelude.{◌≡◌, ◌≢◌, ℕ, ◌<◌, ◌⊎◌, List, length, true, false, not, ◌==◌, ◌&&◌, filter}
+use Rattle.std.specs.Prelude.{◌≡◌, ◌≢◌, ℕ, ◌<◌, ◌⊎◌, List, length, true, not, ◌==◌, ◌&&◌, filter}
 use Rattle.std.specs.List.{range_with_len}
 use Rattle.geometry.specs.declared.geometry.Geometry.{Geometry}
 use Rattle.image_model.specs.Volume.{entries}
@@ -7,7 +7,7 @@ use Rattle.image_model.specs.Places.{entry_of, block_of, is_entry_page}
 use Rattle.image_model.specs.Live.{live_at}
 use Rattle.image_model.specs.Tables.{table_of}
 use Rattle.image_model.specs.Tidy.{IsTidy, is_free_entry, is_free_block}
-use Rattle.image_model.specs.Kinds.{is_index_page, is_data_block, is_other_block}
+use Rattle.image_model.specs.Kinds.{is_index_page, is_other_block}
 use Rattle.image_model.specs.Collect.{data_in, deleted_in, free_in, free_outside, takes_index}
 use Rattle.room_laws.specs.Cleans.{CleansIndex}
 use Rattle.room_laws.specs.Emptying.{PageStays, BlockFreed}

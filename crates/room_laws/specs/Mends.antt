@@ -1,5 +1,5 @@
 -- Images that cleanings give back their reserve, also after a cut in a cleaning.
-use Rattle.std.specs.Prelude.{◌≡◌, ◌≢◌, ℕ, ◌+◌, ◌<◌, ◌≤◌, ◌⊎◌, List, Bool, true, false, not, ◌==◌, ◌&&◌, None, max}
+use Rattle.std.specs.Prelude.{◌≡◌, ◌≢◌, ℕ, ◌+◌, ◌<◌, ◌≤◌, ◌⊎◌, List, true, not, ◌==◌, ◌&&◌, None, max}
 use Rattle.geometry.specs.declared.geometry.Geometry.{Geometry}
 use Rattle.image_model.specs.Volume.{entries}
 use Rattle.image_model.specs.Places.{IsImage}
