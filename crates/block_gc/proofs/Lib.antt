@@ -7,3 +7,9 @@ pub mod Renewed
 pub mod MovedIndexes
 pub mod Building
 pub mod MoveCalls
+pub mod SlotNames
+pub mod DataCopies
+pub mod DataRenewed
+pub mod DataOwners
+pub mod DataCalls
+pub mod DataBuilding

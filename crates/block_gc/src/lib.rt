@@ -4,10 +4,13 @@
 mod choice;
 mod copying;
 mod moving;
+mod moving_data;
+mod naming;
 mod next;
 mod scores;
 mod totals;
 
 pub use moving::move_index;
+pub use moving_data::move_data;
 pub use next::{are_had, choose, is_stuck};
 pub use scores::score;
