@@ -1,45 +1,17 @@
 -- A create, from the free page that was found.
-use Rattle.std.proofs.Common.{◌≡◌, ℕ, ◌+◌, ◌*◌, ◌<◌, ◌≤◌, List, [], ◌∷◌, zero, suc, length, slice_index, true, false, ◌==◌, None, refl, sym, ◌∙◌, subst, arith, ⊎_elim, inl, add-zero}
-use Rattle.std.proofs.lemmas.Bool.{cases_eq, and_parts, eqb-true}
+use Rattle.std.proofs.Common.{◌≡◌, ℕ, ◌*◌, ◌≤◌, List, length, true, false, None, refl, sym, ◌∙◌, subst, inl}
 use Rattle.geometry.specs.declared.geometry.Geometry.{Geometry}
 use Rattle.nor_core.specs.declared.state.NorState.{Ghosts as NorOf}
 use Rattle.nor_core.specs.Device.{OnlyReads, Changes}
 use Rattle.nor_core.proofs.Cuts.{wider, unchanged, read_after, after_reads}
 use Rattle.flash_view.specs.declared.kinds.Kind.TheVariants.{Index}
-use Rattle.image_model.specs.Places.{page_of, entry_of, slot_of, IsImage, entry_at}
-use Rattle.image_model.specs.Tidy.{IsTidy, is_erased}
+use Rattle.image_model.specs.Tidy.{IsTidy}
 use Rattle.image_model.specs.Sound.{HasMagics}
-use Rattle.image_model.specs.Within.{page_length}
-use Rattle.image_laws.specs.NewFile.{IsFreePage}
-use Rattle.image_laws.proofs.Placing.{page_byte}
 use Rattle.image_laws.proofs.Sounding.{keeps-itself}
 use Rattle.free_search.specs.Free.{IsFreeFor, FreePage}
+use Rattle.free_search.proofs.FoundPage.{free_of}
 use Rattle.free_search.proofs.Had.{page_had}
 use Rattle.file_write.specs.Creates.{CanCreate, CanPut, CreateCut, Created}
-
--- an erased byte
-ones_at : (bytes : List ℕ) → is_erased bytes ≡ true → (i : ℕ) → i < length bytes → slice_index bytes i ≡ 255
-ones_at [] all i small = absurd (omega arith)
-ones_at (b ∷ bytes) all zero small = eqb-true b 255 (and_parts (b == 255) (is_erased bytes) all).0
-ones_at (b ∷ bytes) all (suc i) small = ones_at bytes (and_parts (b == 255) (is_erased bytes) all).1 i (omega arith)
-
--- a page that is free for an index page is a free page
-free_of : (g : Geometry) (image : List ℕ) (p : ℕ) → IsImage g image → IsFreeFor g image Index 2 p → IsFreePage g image p
-unfolding entry_of slot_of
-free_of g image p is free =
-    let parts = and_parts (entry_of g image p == 0xFFFF) (is_erased (page_of g image p)) free.free in
-    let ones : slice_index image (entry_at g p) + 256 * slice_index image (entry_at g p + 1) ≡ 0xFFFF = eqb-true _ 0xFFFF parts.0 in
-    let low : slice_index image (entry_at g p) ≡ 255 = omega (arith, ones, free.word.low, free.word.high) in
-    let high : slice_index image (entry_at g p + 1) ≡ 255 = omega (arith, ones, free.word.low, free.word.high) in
-    record {
-      entry_page = free.page;
-      magic = free.magic;
-      entry = λ i small. ⊎_elim
-          (λ (first : i ≡ 0). rw (first, add-zero (entry_at g p)) low)
-          (λ (other : i ≡ 0 → ⊥). let second : i ≡ 1 = omega (arith, other) in rw second high)
-          (cases_eq i 0);
-      erased = λ i small. sym (page_byte g image p i small) ∙ ones_at (page_of g image p) parts.1 i (rw (page_length g image p is free.page) small);
-    }
 
 -- what stands is what a cut may leave
 stays : (g : Geometry) (image : List ℕ) (id : ℕ) (name : List ℕ) → CanCreate g image id name → CreateCut g image id name image
@@ -57,11 +29,11 @@ module _ {D : Type 0} {nor : NorOf D} (g : Geometry) (id : ℕ) (name : List ℕ
   looked = read_after (unchanged old _ (λ tells can. stays g (nor.bytes old) id name can)) reads
 
   module _ (size : ℕ) (sized : nor.tells old → length (nor.bytes old) ≡ size) (fits : g.blocks * g.block ≤ size) (p : ℕ)
-      (free : nor.tells old → IsTidy g (nor.bytes old) → IsFreeFor g (nor.bytes old) Index 2 p) (g1 : Geometry) (same : g1 ≡ g) where
+      (free : nor.tells old → IsTidy g (nor.bytes old) → IsFreeFor g (nor.bytes old) Index 2 None p) (g1 : Geometry) (same : g1 ≡ g) where
     can_put : nor.tells old → CanCreate g (nor.bytes old) id name → CanPut g (nor.bytes old) p id name
     can_put tells can =
         let found = free tells can.tidy in
-        record { can = can; free = free_of g (nor.bytes old) p (record { len = rw (sized tells) fits }) found; kind = found.kind_is; keeps = found.keeps }
+        record { can = can; free = free_of g (nor.bytes old) Index 2 p None (record { len = rw (sized tells) fits }) found; kind = found.kind_is; keeps = found.keeps }
 
     -- the page is put after it
     pub put_cut : {new : D} → Changes nor mid new (λ was image. CanPut g1 was p id name → CreateCut g1 was id name image) → Changes nor old new (λ was image. CanCreate g was id name → CreateCut g was id name image)

@@ -1,12 +1,12 @@
 -- Free pages of a tidy image, by the counts of blocks.
-use Rattle.std.proofs.Common.{◌≡◌, ℕ, ◌+◌, ◌*◌, ◌<◌, ◌≤◌, ◌⊎◌, ⊎_elim, inl, inr, List, [], ◌∷◌, Bool, true, false, not, ◌==◌, ◌&&◌, length, refl, sym, ◌∙◌, arith, nat_lt}
+use Rattle.std.proofs.Common.{◌≡◌, ◌≢◌, ℕ, ◌+◌, ◌*◌, ◌<◌, ◌≤◌, ◌⊎◌, ⊎_elim, inl, inr, List, [], ◌∷◌, Bool, true, false, not, ◌==◌, ◌&&◌, length, refl, sym, ◌∙◌, arith, nat_lt}
 use Rattle.std.specs.Prelude.{filter, Option, Some, None}
 use Rattle.std.specs.List.{range_with_len, list_any, list_all}
 use Rattle.std.proofs.lemmas.Bool.{eqb-true, eq-eqb, ltb-true, ltb-false, and_parts, false_from_ne_true}
 use Rattle.std.proofs.lemmas.List.FromFn.{length-range_with_len}
 use Rattle.geometry.specs.declared.geometry.Geometry.{Geometry}
 use Rattle.image_model.specs.Volume.{per_block, lookups, entries}
-use Rattle.image_model.specs.Places.{entry_of, has_magic, is_entry_page}
+use Rattle.image_model.specs.Places.{entry_of, has_magic, block_of, is_entry_page}
 use Rattle.image_model.specs.Live.{live_at}
 use Rattle.image_model.specs.Tidy.{IsTidy, is_free_entry, is_free_block, free_blocks, is_wanted}
 use Rattle.image_model.specs.Kinds.{is_index_page, is_data_page, is_index_block, is_data_block}
@@ -17,7 +17,7 @@ use Rattle.flash_view.specs.declared.kinds.Kind.{Kind}
 use Rattle.flash_view.specs.declared.kinds.Kind.TheVariants.{Index, Data}
 use Rattle.free_search.specs.declared.blocks.BlockCounts.{BlockCounts}
 use Rattle.free_search.specs.Counts.{AreCounts, the_takes}
-use Rattle.free_search.specs.Free.{IsOpen, OpenIf, FreeEntry, FreePage, holds_other}
+use Rattle.free_search.specs.Free.{IsOpen, OpenIf, OpenBlock, FreeEntry, FreePage, holds_other}
 use Rattle.free_search.proofs.Counting.{free_is_dead}
 
 -- ---- tests over lists, and how many pass them
@@ -223,15 +223,17 @@ shut g image block kind tidy below none = λ takes. absurd (let all : has_magic 
 -- ---- the page
 
 -- the entry of a block in use
-pub page_open : (g : Geometry) (image : List ℕ) (kind : Kind) (keep block : ℕ) (not_in found : Option ℕ) → IsOpen g image kind block → FreeEntry g image block found → FreePage g image kind keep not_in found
-page_open g image kind keep block not_in None is none = absurd (let some = is.some in omega (arith, some, none))
-page_open g image kind keep block not_in (Some p) is (page, at, free, word) = record {
+pub page_open : (g : Geometry) (image : List ℕ) (kind : Kind) (keep block : ℕ) (not_in found : Option ℕ) → (Some block ≢ not_in) × IsOpen g image kind block → FreeEntry g image block found → FreePage g image kind keep not_in found
+page_open g image kind keep block not_in None (apart, is) none = absurd (let some = is.some in omega (arith, some, none))
+page_open g image kind keep block not_in (Some p) (apart, is) (page, at, free, word) = record {
   page = page;
   magic = rw at is.magic;
   free = free;
   word = word;
   kind_is = rw at is.kind_is;
   keeps = inl (rw at is.used);
+  apart = rw at apart;
+  last = λ free. absurd (let used : is_free_block g image (block_of g p) ≡ false = rw at is.used in cc);
 }
 
 no_other : (g : Geometry) (image : List ℕ) (kind : Kind) (block : ℕ) → is_free_block g image block ≡ true → holds_other g image kind block ≡ false
@@ -247,13 +249,15 @@ unfolding entries
 some_entries g = let fits = (sizes g).lookups_fit in omega (arith, fits)
 
 -- the entry of a free block
-pub page_new : (g : Geometry) (image : List ℕ) (kind : Kind) (keep block : ℕ) (not_in found : Option ℕ) → keep < free_blocks g image → is_free_block g image block ≡ true → FreeEntry g image block found → FreePage g image kind keep not_in found
-page_new g image kind keep block not_in None more free none = absurd (let whole = free_whole g image block free in let some = some_entries g in omega (arith, whole, some, none))
-page_new g image kind keep block not_in (Some p) more free (page, at, entry, word) = record {
+pub page_new : (g : Geometry) (image : List ℕ) (kind : Kind) (keep block : ℕ) (not_in found : Option ℕ) → keep < free_blocks g image → OpenBlock g image kind not_in None → (Some block ≢ not_in) × (is_free_block g image block ≡ true) → FreeEntry g image block found → FreePage g image kind keep not_in found
+page_new g image kind keep block not_in None more none_open (apart, free) none = absurd (let whole = free_whole g image block free in let some = some_entries g in omega (arith, whole, some, none))
+page_new g image kind keep block not_in (Some p) more none_open (apart, free) (page, at, entry, word) = record {
   page = page;
   magic = rw at (magic_of g image block free);
   free = entry;
   word = word;
   kind_is = rw at (no_other g image kind block free);
   keeps = inr more;
+  apart = rw at apart;
+  last = λ whole. none_open;
 }

@@ -20,7 +20,7 @@ use Rattle.free_search.proofs.FreePages.{some_entries}
 
 -- ---- sums over the blocks
 
-sum_none : (f : ℕ → ℕ) (a n : ℕ) → ((q : ℕ) → a ≤ q → q < a + n → f q ≡ 0) → sum_by f (range_with_len a n) ≡ 0
+pub sum_none : (f : ℕ → ℕ) (a n : ℕ) → ((q : ℕ) → a ≤ q → q < a + n → f q ≡ 0) → sum_by f (range_with_len a n) ≡ 0
 sum_none f a zero none = refl
 sum_none f a (suc n) none =
     let first = none a (omega arith) (omega arith) in
@@ -37,7 +37,7 @@ sum_some f a (suc n) q low high =
     (λ (there : a ≡ q → ⊥). let rest = sum_some f (a + 1) n q (omega (arith, there)) (omega arith) in omega (arith, whole, rest))
     (cases_eq a q)
 
-filter_some : (t : ℕ → Bool) (a n q : ℕ) → a ≤ q → q < a + n → t q ≡ true → 0 < length (filter t (range_with_len a n))
+pub filter_some : (t : ℕ → Bool) (a n q : ℕ) → a ≤ q → q < a + n → t q ≡ true → 0 < length (filter t (range_with_len a n))
 filter_some t a zero q low high passes = absurd (omega arith)
 filter_some t a (suc n) q low high passes =
     ⊎_elim
@@ -81,7 +81,7 @@ no_entries g image none = sum_none (λ block. if takes_index g image block then 
     either q high true e = none q high e
     either q high false e = refl
 
-no_blocks : (g : Geometry) (image : List ℕ) → ((block : ℕ) → block < g.blocks → is_free_block g image block ≡ false) → free_blocks g image ≡ 0
+pub no_blocks : (g : Geometry) (image : List ℕ) → ((block : ℕ) → block < g.blocks → is_free_block g image block ≡ false) → free_blocks g image ≡ 0
 unfolding free_blocks
 no_blocks g image none = filter-same (λ b. false) (λ b. is_free_block g image b) 0 g.blocks (λ q low high. none q (omega arith)) ∙ none_in (range_with_len 0 g.blocks)
 
@@ -91,12 +91,12 @@ some_entry g image p page free =
     let at = entry_of_block g p page in
     filter_some (λ q. is_free_entry g image q) (block_of g p * per_block g + lookups g) (entries g) p at.0 at.1 free
 
-takes : (g : Geometry) (image : List ℕ) (block : ℕ) → has_magic g image block ≡ true → is_free_block g image block ≡ false → is_data_block g image block ≡ false → takes_index g image block ≡ true
+pub takes : (g : Geometry) (image : List ℕ) (block : ℕ) → has_magic g image block ≡ true → is_free_block g image block ≡ false → is_data_block g image block ≡ false → takes_index g image block ≡ true
 unfolding takes_index
 takes g image block magic used index = rw (magic, used, index) refl
 
 -- of a block in use
-entries_had : (g : Geometry) (image : List ℕ) (p : ℕ) → IsFreeFor g image Index 2 p → is_free_block g image (block_of g p) ≡ false → 0 < free_where g image (takes_index g image)
+entries_had : (g : Geometry) (image : List ℕ) (p : ℕ) → IsFreeFor g image Index 2 None p → is_free_block g image (block_of g p) ≡ false → 0 < free_where g image (takes_index g image)
 unfolding free_where
 entries_had g image p is used =
     let some = some_entry g image p is.page is.free in

@@ -5,3 +5,5 @@ pub mod Worn
 pub mod Had
 pub mod Bits
 pub mod Greatest
+pub mod FoundPage
+pub mod Beside

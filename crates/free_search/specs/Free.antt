@@ -20,15 +20,19 @@ abbrev pub takes_kind : Geometry → List ℕ → Kind → ℕ → Bool
 takes_kind g image Index block = takes_index g image block
 takes_kind g image Data block = takes_data g image block
 
--- A free page for the next one of a kind: its block has its magic and holds no live page of the other kind, and if that
--- block is free, more than `keep` blocks are.
-pub record IsFreeFor (g : Geometry) (image : List ℕ) (kind : Kind) (keep p : ℕ) : Type 0 where
+-- A free page for the next one of a kind: its block isn't the one that is never chosen, has its magic and holds no live
+-- page of the other kind, and if that block is free, more than `keep` blocks are, and no block in use has a free entry for
+-- the kind.
+pub record IsFreeFor (g : Geometry) (image : List ℕ) (kind : Kind) (keep : ℕ) (not_in : Option ℕ) (p : ℕ) : Type 0 where
   pub page : is_entry_page g p ≡ true
   pub magic : has_magic g image (block_of g p) ≡ true
   pub free : is_free_entry g image p ≡ true
   pub word : IsWordAt image (entry_at g p)
   pub kind_is : holds_other g image kind (block_of g p) ≡ false
   pub keeps : (is_free_block g image (block_of g p) ≡ false) ⊎ (keep < free_blocks g image)
+  pub apart : Some (block_of g p) ≢ not_in
+  pub last : is_free_block g image (block_of g p) ≡ true →
+      (block : ℕ) → block < g.blocks → Some block ≢ not_in → takes_kind g image kind block ≡ true → free_in g image block ≡ 0
 
 -- There is none: no block in use has a free entry for the kind, and at most `keep` blocks are free, or none but the one
 -- that is never chosen.
@@ -39,7 +43,7 @@ pub record HasNone (g : Geometry) (image : List ℕ) (kind : Kind) (keep : ℕ) 
 -- the page for the next one of a kind, or none
 abbrev pub FreePage : Geometry → List ℕ → Kind → ℕ → Option ℕ → Option ℕ → Type 0
 FreePage g image kind keep not_in None = HasNone g image kind keep not_in
-FreePage g image kind keep not_in (Some p) = IsFreeFor g image kind keep p
+FreePage g image kind keep not_in (Some p) = IsFreeFor g image kind keep not_in p
 
 -- a block in use has a free entry for the kind
 pub record IsOpen (g : Geometry) (image : List ℕ) (kind : Kind) (block : ℕ) : Type 0 where
@@ -56,7 +60,7 @@ OpenIf g image kind block false = takes_kind g image kind block ≡ true → fre
 -- the first such block, or none but the one that is never chosen
 abbrev pub OpenBlock : Geometry → List ℕ → Kind → Option ℕ → Option ℕ → Type 0
 OpenBlock g image kind not_in None = (block : ℕ) → block < g.blocks → Some block ≢ not_in → takes_kind g image kind block ≡ true → free_in g image block ≡ 0
-OpenBlock g image kind not_in (Some block) = IsOpen g image kind block
+OpenBlock g image kind not_in (Some block) = (Some block ≢ not_in) × IsOpen g image kind block
 
 -- a free entry of a block, or none
 abbrev pub FreeEntry : Geometry → List ℕ → ℕ → Option ℕ → Type 0
@@ -66,7 +70,7 @@ FreeEntry g image block (Some p) = (is_entry_page g p ≡ true) × (block_of g p
 -- a free block, or none but the one that is never chosen
 abbrev pub FreeBlock : Geometry → List ℕ → Option ℕ → Option ℕ → Type 0
 FreeBlock g image not_in None = (block : ℕ) → block < g.blocks → Some block ≢ not_in → is_free_block g image block ≡ false
-FreeBlock g image not_in (Some block) = is_free_block g image block ≡ true
+FreeBlock g image not_in (Some block) = (Some block ≢ not_in) × (is_free_block g image block ≡ true)
 
 -- the less worn of the block so far and this one, where that is free: it is free if the one before was
 abbrev pub IsWorn : Geometry → List ℕ → Option Worn → ℕ → Option Worn → Type 0

@@ -14,7 +14,7 @@ loop-block-preserved g c =
         looks = rw w.v-is (looks_then was.looks w.in_ok-least.ensures.looks);
         end = was.end;
         below = rw (w.least-is, ← was.looks.same.geometry) w.in_ok-least.ensures.below;
-        told = λ tells. rw w.least-is (worn_more geometry image c.args.not_in c.loop-block.block c.loop-block.least w.in_ok-least.least (was.told tells)
+        told = λ tells. rw w.least-is (worn_more geometry image c.args.not_in c.loop-block.block c.loop-block.least w.in_ok-least.least (let h = w.if-ne.ensures in search rules) (was.told tells)
             (rw (was.looks.same.geometry, was.looks.reads.bytes) at (w.in_ok-least.ensures.told (was.looks.reads.told tells))));
       }
       | else-ne w ↦ record {
