@@ -1,5 +1,5 @@
 -- Moving a data page, over a device.
-use Rattle.std.proofs.Common.{◌≡◌, ◌≢◌, ℕ, ◌+◌, ◌*◌, ◌%◌, ◌<◌, ◌≤◌, List, [], ◌∷◌, length, take, set, slice_index, true, false, ap, sym, refl, ◌∙◌, arith, inl, inr, subst}
+use Rattle.std.proofs.Common.{◌≡◌, ◌≢◌, ℕ, ◌+◌, ◌*◌, ◌%◌, ◌<◌, ◌≤◌, List, [], ◌∷◌, length, take, set, slice_index, true, false, Option, Some, ap, sym, refl, ◌∙◌, arith, inl, inr, subst}
 use Rattle.std.specs.Prelude.{bit_and}
 use Rattle.std.proofs.lemmas.Option.{none-some}
 use Rattle.geometry.specs.declared.geometry.Geometry.{Geometry}
@@ -13,8 +13,6 @@ use Rattle.image_model.specs.Within.{sizes}
 use Rattle.image_model.specs.Kinds.{is_index_page}
 use Rattle.image_model.specs.Live.{live_at}
 use Rattle.image_model.specs.Places.{IsImage}
-use Rattle.image_laws.specs.Flash.{Programmed}
-use Rattle.image_laws.specs.Creating.{Placed}
 use Rattle.image_laws.specs.Put.{IsPut, IsReadyPage}
 use Rattle.image_laws.specs.NewFile.{IsFreePage}
 use Rattle.image_laws.specs.LiveSteps.{Finished, Kills, KillCut, PutDone}
@@ -32,7 +30,7 @@ use Rattle.page_put.proofs.Finishing.{programs_place, finish_clears_final}
 use Rattle.file_drop.proofs.Killing.{flags_left, kill_cut, kill_done}
 use Rattle.image_model.specs.Sound.{HasMagics}
 use Rattle.block_gc.specs.Moves.{MoveCut}
-use Rattle.block_gc.specs.DataMoves.{CanCopyData, CanMoveData, IsTagOf, IsNamedBy, IsLoaded, IsRenamed, CopiedData, DataMoveCut, MovedData}
+use Rattle.block_gc.specs.DataMoves.{CanCopyData, CanMoveData, IsTagOf, IsNamedBy, IsFoundFor, IsLoaded, IsRenamed, CopiedData, DataMoveCut, MovedData}
 use Rattle.block_gc.proofs.DataCopies.{is_ready, copying_left, copying_done}
 use Rattle.block_gc.proofs.DataCopies.{magics as copy_magics}
 use Rattle.block_gc.proofs.DataRenewed.{index_live, placed_is, ready, magics, placing_left, killing_left, last_left, moved_done}
@@ -244,6 +242,9 @@ renew_looked g o p j w tag {D} {nor} {old} {new} reads = after_reads reads (unch
 
 -- ---- the whole move
 
+pub found_is : (g : Geometry) (image : List ℕ) (page : ℕ) (found : Option (ℕ × Tag)) (index : ℕ) (tag : Tag) → found ≡ Some (index, tag) → IsFoundFor g image page found → IsNamedBy g image page index tag
+found_is g image page found index tag is h = rw is at h
+
 -- the put of the copy alone, as the move claims it
 wide_cut : (g : Geometry) (p j : ℕ) (was image : List ℕ) → MoveCut g p was image → DataMoveCut g p j was image
 wide_cut g p j was image cut =
@@ -267,7 +268,7 @@ module _ (g : Geometry) (o p j w : ℕ) (tag : Tag) {D : Type 0} {nor : NorOf D}
   move_cut1 = wider (copy_before g o p reads g1 same1 copying) (λ tells image cut can. wide_cut g p j (nor.bytes old) image (cut can.copy))
 
   module _ (copied : nor.tells mid → CanCopyData g1 (nor.bytes mid) o p → CopiedData g1 o p (nor.bytes mid) (nor.bytes m1)) (named : nor.tells old → CanMoveData g (nor.bytes old) o p j → IsNamedBy g (nor.bytes old) o w tag) where
-    copied_is : nor.tells old → CanMoveData g (nor.bytes old) o p j → CopiedData g o p (nor.bytes old) (nor.bytes m1)
+    pub copied_is : nor.tells old → CanMoveData g (nor.bytes old) o p j → CopiedData g o p (nor.bytes old) (nor.bytes m1)
     copied_is tells can =
         let copy = can.copy in
         let before : CanCopyData g1 (nor.bytes mid) o p = rw (same1, reads.bytes) copy in
@@ -276,7 +277,3 @@ module _ (g : Geometry) (o p j w : ℕ) (tag : Tag) {D : Type 0} {nor : NorOf D}
     pub move_cut2 : {new : D} (g2 : Geometry) → g2 ≡ g → Changes nor m1 new (RenewCut g2 o p j w tag) → Changes nor old new (λ was image. CanMoveData g was o p j → DataMoveCut g p j was image)
     move_cut2 {new} g2 same2 renewing = go_on move_cut1 (subst (λ (x : Geometry). Changes nor m1 new (RenewCut x o p j w tag)) same2 renewing)
         (λ tells image before after can. after (nor.bytes old) can (copied_is tells can) (named tells can))
-
-    pub move_done : (b : List ℕ) (g2 : Geometry) → g2 ≡ g → nor.tells old → (can : CanMoveData g (nor.bytes old) o p j) →
-        ((first : List ℕ) → CanMoveData g2 first o p j → CopiedData g2 o p first (nor.bytes m1) → IsNamedBy g2 first o w tag → MovedData g2 o p j first b) → MovedData g o p j (nor.bytes old) b
-    move_done b g2 same2 tells can done = (rw same2 at done) (nor.bytes old) can (copied_is tells can) (named tells can)

@@ -6,7 +6,7 @@ use Rattle.std.specs.List.{range_with_len, list_any}
 use Rattle.std.proofs.Math.Nat.{mul-le-mul_left}
 use Rattle.std.proofs.lemmas.Nat.Bits.{bit_at_above}
 use Rattle.std.proofs.lemmas.Bool.{cases_lt, cases_eq, and_parts, or_cases, eq-eqb, ne_eqb, lt-ltb, eqb-true, agree_below_at, false_from_ne_true}
-use Rattle.std.proofs.lemmas.List.{drop-take, drop_more, get_or-take, get_or-drop}
+use Rattle.std.proofs.lemmas.List.{drop-take, get_or-take, get_or-drop}
 use Rattle.std.proofs.lemmas.Option.{same_Some}
 use Rattle.geometry.specs.declared.geometry.Geometry.{Geometry}
 use Rattle.table_model.specs.declared.error.Tag.{Tag}
@@ -17,16 +17,16 @@ use Rattle.image_model.specs.Within.{Sizes, sizes, page_length, behind, entry_sl
 use Rattle.image_model.specs.Volume.{per_block, lookups, entries}
 use Rattle.image_model.specs.Headers.{obj_id, span_of, names_index, is_finished, size_of}
 use Rattle.image_model.specs.Live.{Live, live_at}
-use Rattle.image_model.specs.Places.{page_of, block_of, place_of, has_magic, is_entry_page, IsImage, entry_at}
+use Rattle.image_model.specs.Places.{block_of, place_of, has_magic, is_entry_page, IsImage, entry_at}
 use Rattle.image_model.specs.Files.{index_page, entry_number, data_of}
-use Rattle.image_model.specs.Tidy.{IsTidy, is_number, serves, is_free_entry, is_free_block, free_blocks}
+use Rattle.image_model.specs.Tidy.{is_number, serves, is_free_entry, is_free_block}
 use Rattle.image_model.specs.Kinds.{is_index_page, is_data_page, is_index_block}
 use Rattle.image_model.specs.Collect.{free_in}
 use Rattle.image_model.specs.Sound.{HasMagics}
 use Rattle.image_laws.specs.NewFile.{IsFreePage}
 use Rattle.image_laws.specs.Programs.{ClearsBit}
 use Rattle.image_laws.specs.SoundSteps.{IsOfKind}
-use Rattle.image_laws.specs.TidySteps.{Agree, IsTidyBut}
+use Rattle.image_laws.specs.TidySteps.{Agree}
 use Rattle.image_laws.specs.Put.{IsReadyPage}
 use Rattle.image_laws.specs.LiveSteps.{Finished, PutCut, PutDone}
 use Rattle.image_laws.specs.Recopy.{PutsData}
@@ -38,7 +38,7 @@ use Rattle.image_laws.proofs.FreeBlocks.{filter-same, free_blocks-fall}
 use Rattle.image_laws.proofs.Judge.{index_passes}
 use Rattle.image_laws.proofs.LiveStep.{put-changes}
 use Rattle.image_laws.proofs.Placing.{page_byte}
-use Rattle.image_laws.proofs.Places.{pages_apart, lookups_apart, blocks_disjoint}
+use Rattle.image_laws.proofs.Places.{lookups_apart, blocks_disjoint}
 use Rattle.image_laws.proofs.Records.{list_any-at}
 use Rattle.image_laws.proofs.RecopyStep.{put_data-keeps}
 use Rattle.image_laws.proofs.RecopyTidy.{put_data-spares}
@@ -49,7 +49,7 @@ use Rattle.free_search.proofs.FreePages.{free_whole, used_less}
 use Rattle.page_put.specs.Placing.{placed_page}
 use Rattle.block_gc.specs.Moves.{MoveCut}
 use Rattle.block_gc.specs.DataMoves.{CanCopyData, IsLoaded, IsDataCopy, CopiedData}
-use Rattle.block_gc.proofs.MovedIndexes.{own_of, index_some, Home, home_of}
+use Rattle.block_gc.proofs.MovedIndexes.{index_some, Home, home_of}
 
 -- ---- bytes that programs of a page leave
 

@@ -1,10 +1,9 @@
 -- The index page that names a data page of a tidy image.
-use Rattle.std.proofs.Common.{◌≡◌, ◌≢◌, ℕ, ◌*◌, ◌%◌, ◌<◌, ◌≤◌, ◌⊎◌, List, Bool, true, false, not, Option, Some, None, ap, refl, sym, ◌∙◌, arith, ⊎_elim}
+use Rattle.std.proofs.Common.{◌≡◌, ◌≢◌, ℕ, ◌%◌, ◌<◌, ◌≤◌, ◌⊎◌, List, Bool, true, false, Option, Some, None, ap, refl, sym, ◌∙◌, arith, ⊎_elim}
 use Rattle.std.specs.Prelude.{option_and_then}
 use Rattle.std.specs.Option.{option_map}
-use Rattle.std.proofs.lemmas.Option.{none-some, same_Some}
+use Rattle.std.proofs.lemmas.Option.{none-some}
 use Rattle.geometry.specs.declared.geometry.Geometry.{Geometry}
-use Rattle.table_model.specs.declared.error.Tag.{Tag}
 use Rattle.table_model.specs.Room.{data_pages}
 use Rattle.page_layout.specs.Layout.{header_at}
 use Rattle.page_layout.specs.declared.header.PageHeader.{PageHeader}

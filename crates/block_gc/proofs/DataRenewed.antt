@@ -1,8 +1,8 @@
 -- The index page is renewed to name the copy of a data page, from what the programs leave.
-use Rattle.std.proofs.Common.{◌≡◌, ◌≢◌, ℕ, ◌+◌, ◌*◌, ◌%◌, ◌<◌, ◌≤◌, ◌⊎◌, List, [], length, take, set, slice_index, slice_range, Bool, true, false, not, ◌==◌, ◌&&◌, Option, Some, None, Result, Ok, ap, refl, sym, ◌∙◌, arith, ⊎_elim, inl, inr, subst, length-set, get_or-set_same, get_or-set_other}
+use Rattle.std.proofs.Common.{◌≡◌, ◌≢◌, ℕ, ◌+◌, ◌*◌, ◌%◌, ◌<◌, ◌≤◌, List, length, take, set, slice_index, Bool, true, false, not, ◌==◌, ◌&&◌, Option, Some, None, Result, Ok, ap, refl, sym, ◌∙◌, arith, ⊎_elim, inl, inr, subst, length-set, get_or-set_same, get_or-set_other}
 use Rattle.std.specs.Prelude.{is_some, option_and_then}
 use Rattle.std.specs.Option.{option_map}
-use Rattle.std.proofs.lemmas.Bool.{cases_eq, cases_Bool, and_parts, eq-eqb, ne_eqb, eqb-true}
+use Rattle.std.proofs.lemmas.Bool.{cases_eq, cases_Bool, and_parts, eq-eqb, eqb-true}
 use Rattle.std.proofs.lemmas.Option.{none-some, same_Some}
 use Rattle.geometry.specs.declared.geometry.Geometry.{Geometry}
 use Rattle.table_model.specs.declared.error.Tag.{Tag}
@@ -12,15 +12,15 @@ use Rattle.page_layout.specs.Layout.{SameOutside}
 use Rattle.page_layout.proofs.Stays.{word_stays}
 use Rattle.image_model.specs.declared.damage.Damage.{Damage}
 use Rattle.image_model.specs.Within.{sizes, page_length, page_number, block_number}
-use Rattle.image_model.specs.Headers.{word_at, obj_id, span_of, names_index, is_finished, size_of}
-use Rattle.image_model.specs.Live.{Live, live_at, own}
+use Rattle.image_model.specs.Headers.{obj_id, span_of, names_index, size_of}
+use Rattle.image_model.specs.Live.{live_at, own}
 use Rattle.image_model.specs.Places.{block_of, IsImage}
 use Rattle.image_model.specs.Files.{is_index, index_page, entry_number, data_of, data_page, judged}
-use Rattle.image_model.specs.Tables.{has_of, table_of, damaged_of}
+use Rattle.image_model.specs.Tables.{has_of, table_of}
 use Rattle.image_model.specs.Tidy.{serves, is_free_block, free_blocks}
 use Rattle.image_model.specs.Kinds.{is_index_page}
 use Rattle.image_model.specs.Sound.{HasMagics, Keeps}
-use Rattle.image_laws.specs.Changes.{Gains, Loses}
+use Rattle.image_laws.specs.Changes.{Gains}
 use Rattle.image_laws.specs.InPlace.{slot_at}
 use Rattle.image_laws.specs.Programs.{ClearsBit}
 use Rattle.image_laws.specs.SoundSteps.{IsOfKind}
@@ -31,7 +31,7 @@ use Rattle.image_laws.specs.Creating.{CutOf}
 use Rattle.image_laws.specs.Reindex.{Reindexes, index_span, slot_word}
 use Rattle.image_laws.specs.Recopy.{Recopies, Renamed}
 use Rattle.image_laws.specs.Spares.{Spares, leftover}
-use Rattle.image_laws.proofs.Append.{finished-same, own-some}
+use Rattle.image_laws.proofs.Append.{finished-same}
 use Rattle.image_laws.proofs.Finish.{own-parts}
 use Rattle.image_laws.proofs.Finished.{torn_from}
 use Rattle.image_laws.proofs.Frames.{live_parts}
@@ -493,6 +493,7 @@ module _ (g : Geometry) (a0 b0 : List ℕ) (o p j w : ℕ) (tag : Tag) (can : Ca
               index = w;
               old = copied.old;
               copy = copied.copy;
+              index_copy = new;
               cut = last_left b8 (inr (torn_from _ _ _ _ kills'.clear));
               tidy = spares-end g b8 (λ (q : ℕ). ((q == o) && leftover g (own (live_at g b6) id) leads.0 q) && not (q == o)) no_spare spare_law.3;
               table = spare_law.2.table ∙ keeps6.table ∙ copied.keeps.table;
@@ -504,7 +505,9 @@ module _ (g : Geometry) (a0 b0 : List ℕ) (o p j w : ℕ) (tag : Tag) (can : Ca
               was_live = copied.was_live;
               copied = copied.copied;
               moved = last.loses.others p (λ e. o_not_p (sym e)) ∙ killed.loses.others p (λ e. w_not_p (sym e)) ∙ put'.gains.others p (λ e. j_not_p (sym e)) ∙ copied.put.gains.after;
-              renewed = rw (last.loses.others j (λ e. o_not_j (sym e)) ∙ killed.loses.others j j_not_w ∙ put'.gains.after) leads.1.new_index;
+              renewed = last.loses.others j (λ e. o_not_j (sym e)) ∙ killed.loses.others j j_not_w ∙ put'.gains.after;
+              index_kind = leads.1.new_index;
+              names = entry;
               magic = λ c. last.agree.magic c ∙ killed.agree.magic c ∙ put'.agree.magic c ∙ copied.put.agree.magic c;
               entries = λ q inside not_o not_p not_w not_j. last.agree.entry q inside not_o ∙ killed.agree.entry q inside not_w ∙ put'.agree.entry q inside not_j ∙ copied.put.agree.entry q inside not_p;
               pages = λ q inside not_o not_p not_w not_j. last.agree.page q inside not_o ∙ killed.agree.page q inside not_w ∙ put'.agree.page q inside not_j ∙ copied.put.agree.page q inside not_p;

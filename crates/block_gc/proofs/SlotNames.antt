@@ -1,5 +1,5 @@
 -- An index page that names a copy of a data page in the place of the data page leads to the same file.
-use Rattle.std.proofs.Common.{◌≡◌, ◌≢◌, ℕ, ◌+◌, ◌-◌, ◌*◌, ◌/◌, ◌%◌, ◌<◌, ◌≤◌, List, [], slice_index, slice_range, true, false, ◌==◌, Option, Some, Ok, ap, refl, sym, ◌∙◌, arith, ⊎_elim, inl, inr, subst}
+use Rattle.std.proofs.Common.{◌≡◌, ◌≢◌, ℕ, ◌+◌, ◌-◌, ◌*◌, ◌/◌, ◌%◌, ◌<◌, ◌≤◌, List, [], slice_index, slice_range, true, false, ◌==◌, Option, Some, ap, refl, sym, ◌∙◌, arith, ⊎_elim, inl, inr, subst}
 use Rattle.std.specs.Prelude.{is_some, unwrap_or}
 use Rattle.std.proofs.lemmas.Bool.{cases_lt, cases_eq, lt-ltb, le-ltb, ne_eqb, eq-eqb}
 use Rattle.geometry.specs.declared.geometry.Geometry.{Geometry}
@@ -8,7 +8,7 @@ use Rattle.table_model.specs.Table.{File}
 use Rattle.table_model.specs.Room.{data_pages}
 use Rattle.page_layout.specs.Layout.{SameOutside, IsApart}
 use Rattle.page_layout.proofs.Stays.{word_stays, range_stays, name_stays}
-use Rattle.image_model.specs.Headers.{word_at, obj_id, span_of, names_index, size_of, name_of}
+use Rattle.image_model.specs.Headers.{word_at, obj_id, span_of, size_of, name_of}
 use Rattle.image_model.specs.Live.{Live}
 use Rattle.image_model.specs.Files.{data_of, data_page, span_bytes}
 use Rattle.image_laws.specs.InPlace.{slot_at}

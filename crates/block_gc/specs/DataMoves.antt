@@ -97,6 +97,7 @@ pub record MovedData (g : Geometry) (page to index_to : ℕ) (was now : List ℕ
   pub index : ℕ
   pub old : List ℕ
   pub copy : List ℕ
+  pub index_copy : List ℕ
   pub cut : DataMoveCut g to index_to was now
   pub tidy : IsTidy g now
   pub table : table_of g now ≡ table_of g was
@@ -108,7 +109,9 @@ pub record MovedData (g : Geometry) (page to index_to : ℕ) (was now : List ℕ
   pub was_live : live_at g was page ≡ Some old
   pub copied : IsDataCopy g old copy
   pub moved : live_at g now to ≡ Some copy
-  pub renewed : is_index_page (live_at g now index_to) ≡ true
+  pub renewed : live_at g now index_to ≡ Some index_copy
+  pub index_kind : names_index index_copy ≡ true
+  pub names : slot_word g index_copy (span_of old) ≡ to
   pub magic : (block : ℕ) → has_magic g now block ≡ has_magic g was block
   pub entries : (p : ℕ) → is_entry_page g p ≡ true → p ≢ page → p ≢ to → p ≢ index → p ≢ index_to → entry_of g now p ≡ entry_of g was p
   pub pages : (p : ℕ) → is_entry_page g p ≡ true → p ≢ page → p ≢ to → p ≢ index → p ≢ index_to → page_of g now p ≡ page_of g was p

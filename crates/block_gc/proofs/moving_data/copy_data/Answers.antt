@@ -1,4 +1,3 @@
-use Rattle.std.proofs.Common.{◌∙◌}
 use Rattle.block_gc.proofs.DataCalls.{copy_looked, copy_before}
 use Rattle.block_gc.proofs.moving_data.copy_data.Goals as goal
 

@@ -1,4 +1,3 @@
-use Rattle.std.proofs.Common.{◌∙◌}
 use Rattle.std.proofs.lemmas.Result.{on_ok_weaker}
 use Rattle.block_gc.proofs.DataCalls.{copy_cut1, copy_cut2, copy_done2}
 use Rattle.block_gc.proofs.moving_data.put_data.Goals as goal
