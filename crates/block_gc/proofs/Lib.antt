@@ -12,3 +12,9 @@ pub mod SameBlocks
 pub mod OneTurn
 pub mod Turns
 pub mod TurnCalls
+pub mod SlotNames
+pub mod DataCopies
+pub mod DataRenewed
+pub mod DataOwners
+pub mod DataCalls
+pub mod DataBuilding

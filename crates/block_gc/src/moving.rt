@@ -56,7 +56,7 @@ fn count_at<N: Nor>(v: &mut View<'_, N>, id: u16) -> Result<u32, Failed>
 
 // Builds the copy of an index page: its id without bit 15, and its span.
 #[tactic(auto, using(flash_view::proofs::Looking::looks_then))]
-fn build_copy<N: Nor>(v: &mut View<'_, N>, page: u16) -> Result<Tag, Failed>
+pub(crate) fn build_copy<N: Nor>(v: &mut View<'_, N>, page: u16) -> Result<Tag, Failed>
     requires page { page < page_count v.old.geometry }
     ensures cause { OnErr result (Rose (N.faults v.old.nor.now) (N.faults v.new.nor.now)) }
     ensures looks { OnlyLooks v.old v.new }

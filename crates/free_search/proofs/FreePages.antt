@@ -17,11 +17,7 @@ use Rattle.flash_view.specs.declared.kinds.Kind.{Kind}
 use Rattle.flash_view.specs.declared.kinds.Kind.TheVariants.{Index, Data}
 use Rattle.free_search.specs.declared.blocks.BlockCounts.{BlockCounts}
 use Rattle.free_search.specs.Counts.{AreCounts, the_takes}
-<<<<<<< HEAD
 use Rattle.free_search.specs.Free.{IsOpen, OpenIf, OpenBlock, FreeEntry, FreePage, holds_other, takes_kind}
-=======
-use Rattle.free_search.specs.Free.{IsOpen, OpenIf, OpenBlock, FreeEntry, FreePage, holds_other}
->>>>>>> 80933e47d783d2fcc16d09ca6e107ad67d7852fb
 use Rattle.free_search.proofs.Counting.{free_is_dead}
 
 -- ---- tests over lists, and how many pass them
@@ -249,10 +245,7 @@ page_open g image kind keep block not_in (Some p) (apart, is) (page, at, free, w
   kind_is = rw at is.kind_is;
   keeps = inl (rw at is.used);
   apart = rw at apart;
-<<<<<<< HEAD
   opened = λ used. rw at is.takes;
-=======
->>>>>>> 80933e47d783d2fcc16d09ca6e107ad67d7852fb
   last = λ free. absurd (let used : is_free_block g image (block_of g p) ≡ false = rw at is.used in cc);
 }
 
@@ -279,9 +272,6 @@ page_new g image kind keep block not_in (Some p) more none_open (apart, free) (p
   kind_is = rw at (no_other g image kind block free);
   keeps = inr more;
   apart = rw at apart;
-<<<<<<< HEAD
   opened = λ used. absurd (let whole : is_free_block g image (block_of g p) ≡ true = rw at free in cc);
-=======
->>>>>>> 80933e47d783d2fcc16d09ca6e107ad67d7852fb
   last = λ whole. none_open;
 }
