@@ -47,37 +47,41 @@ count_some g image id h size at is =
 pub high_id : (x : List ℕ) → names_index x ≡ true → 0x8000 ≤ obj_id x
 high_id x h = grind arith
 
+-- the bytes that are placed of an index page that stands in the bytes for work
+pub placed_index : (n : ℕ) (tag : Tag) (work y old : List ℕ) → 128 ≤ n → length y ≡ n → y ≡ take n work → names_index old ≡ true → tag.id ≡ obj_id old % 0x8000 → tag.span ≡ span_of old →
+    ((k : ℕ) → k < 4 → get_or y k 0 ≡ get_or old k 0) → ((k : ℕ) → k < 4 → get_or work k 0 < 256) →
+    ((tag.id + 0x8000) % 256 ∷ (tag.id + 0x8000) / 256 ∷ tag.span % 256 ∷ tag.span / 256 ∷ 0xFA ∷ take (n - 5) (drop 5 work)) ≡ set y 4 0xFA
+placed_index n tag work y old big len is_y index id span head small =
+    let low : (k : ℕ) → k < 4 → get_or y k 0 ≡ get_or work k 0 = λ k below. rw is_y (get_or-take n work k 0 (omega arith)) in
+    let e0 : get_or y 0 0 ≡ get_or old 0 0 = head 0 (omega arith) in
+    let e1 : get_or y 1 0 ≡ get_or old 1 0 = head 1 (omega arith) in
+    let e2 : get_or y 2 0 ≡ get_or old 2 0 = head 2 (omega arith) in
+    let e3 : get_or y 3 0 ≡ get_or old 3 0 = head 3 (omega arith) in
+    let y0 : get_or y 0 0 < 256 = rw (low 0 (omega arith)) (small 0 (omega arith)) in
+    let y1 : get_or y 1 0 < 256 = rw (low 1 (omega arith)) (small 1 (omega arith)) in
+    let y2 : get_or y 2 0 < 256 = rw (low 2 (omega arith)) (small 2 (omega arith)) in
+    let y3 : get_or y 3 0 < 256 = rw (low 3 (omega arith)) (small 3 (omega arith)) in
+    let high : 0x8000 ≤ obj_id old = high_id old index in
+    let f0 : (tag.id + 0x8000) % 256 ≡ get_or y 0 0 = omega (arith, id, high, e0, e1, y0, y1) in
+    let f1 : (tag.id + 0x8000) / 256 ≡ get_or y 1 0 = omega (arith, id, high, e0, e1, y0, y1) in
+    let f2 : tag.span % 256 ≡ get_or y 2 0 = omega (arith, span, e2, e3, y2, y3) in
+    let f3 : tag.span / 256 ≡ get_or y 3 0 = omega (arith, span, e2, e3, y2, y3) in
+    let d0 : y ≡ get_or y 0 0 ∷ drop 1 y = drop_more y 0 0 (omega arith) in
+    let d1 : drop 1 y ≡ get_or y 1 0 ∷ drop 2 y = drop_more y 1 0 (omega arith) in
+    let d2 : drop 2 y ≡ get_or y 2 0 ∷ drop 3 y = drop_more y 2 0 (omega arith) in
+    let d3 : drop 3 y ≡ get_or y 3 0 ∷ drop 4 y = drop_more y 3 0 (omega arith) in
+    let d4 : drop 4 y ≡ get_or y 4 0 ∷ drop 5 y = drop_more y 4 0 (omega arith) in
+    let rest : take (n - 5) (drop 5 work) ≡ drop 5 y = rw is_y (sym (drop-take 5 (n - 5) work) ∙ ap (λ (m : ℕ). drop 5 (take m work)) (omega arith)) in
+    let whole : y ≡ get_or y 0 0 ∷ get_or y 1 0 ∷ get_or y 2 0 ∷ get_or y 3 0 ∷ get_or y 4 0 ∷ drop 5 y = cc in
+    rw (f0, f1, f2, f3, rest) (sym (ap (λ (l : List ℕ). set l 4 0xFA) whole))
+
 pub built_page : (g : Geometry) (image : List ℕ) (o : ℕ) (tag : Tag) (work : List ℕ) → IsImage g image → IsBuilt g image o tag work → placed_page g Index tag work ≡ set (take g.page work) 4 0xFA
 built_page g image o tag work is built =
     let big : 128 ≤ g.page = (sizes g).page in
     let parts : LivePage g image o built.old = live_parts g image o built.old built.live in
     let len : length built.old ≡ g.page = ap length (sym parts.bytes) ∙ page_length g image o is parts.entry_page in
-    go g.page (take g.page work) big (built.copied.size ∙ len) refl built.index (built.copied.head 0 (omega arith)) (built.copied.head 1 (omega arith)) (built.copied.head 2 (omega arith)) (built.copied.head 3 (omega arith))
-    (built.small 0 (omega arith)) (built.small 1 (omega arith)) (built.small 2 (omega arith)) (built.small 3 (omega arith))
-  where
-    go : (n : ℕ) (y : List ℕ) → 128 ≤ n → length y ≡ n → y ≡ take n work → names_index built.old ≡ true → get_or y 0 0 ≡ get_or built.old 0 0 → get_or y 1 0 ≡ get_or built.old 1 0 → get_or y 2 0 ≡ get_or built.old 2 0 → get_or y 3 0 ≡ get_or built.old 3 0 →
-        get_or work 0 0 < 256 → get_or work 1 0 < 256 → get_or work 2 0 < 256 → get_or work 3 0 < 256 → ((tag.id + 0x8000) % 256 ∷ (tag.id + 0x8000) / 256 ∷ tag.span % 256 ∷ tag.span / 256 ∷ 0xFA ∷ take (n - 5) (drop 5 work)) ≡ set y 4 0xFA
-    go n y big len is_y index e0 e1 e2 e3 s0 s1 s2 s3 =
-        let low : (k : ℕ) → k < 4 → get_or y k 0 ≡ get_or work k 0 = λ k below. rw is_y (get_or-take n work k 0 (omega arith)) in
-        let y0 : get_or y 0 0 < 256 = rw (low 0 (omega arith)) s0 in
-        let y1 : get_or y 1 0 < 256 = rw (low 1 (omega arith)) s1 in
-        let y2 : get_or y 2 0 < 256 = rw (low 2 (omega arith)) s2 in
-        let y3 : get_or y 3 0 < 256 = rw (low 3 (omega arith)) s3 in
-        let high : 0x8000 ≤ obj_id built.old = high_id built.old index in
-        let id : tag.id ≡ obj_id built.old % 0x8000 = built.id in
-        let span : tag.span ≡ span_of built.old = built.span in
-        let f0 : (tag.id + 0x8000) % 256 ≡ get_or y 0 0 = omega (arith, id, high, e0, e1, y0, y1) in
-        let f1 : (tag.id + 0x8000) / 256 ≡ get_or y 1 0 = omega (arith, id, high, e0, e1, y0, y1) in
-        let f2 : tag.span % 256 ≡ get_or y 2 0 = omega (arith, span, e2, e3, y2, y3) in
-        let f3 : tag.span / 256 ≡ get_or y 3 0 = omega (arith, span, e2, e3, y2, y3) in
-        let d0 : y ≡ get_or y 0 0 ∷ drop 1 y = drop_more y 0 0 (omega arith) in
-        let d1 : drop 1 y ≡ get_or y 1 0 ∷ drop 2 y = drop_more y 1 0 (omega arith) in
-        let d2 : drop 2 y ≡ get_or y 2 0 ∷ drop 3 y = drop_more y 2 0 (omega arith) in
-        let d3 : drop 3 y ≡ get_or y 3 0 ∷ drop 4 y = drop_more y 3 0 (omega arith) in
-        let d4 : drop 4 y ≡ get_or y 4 0 ∷ drop 5 y = drop_more y 4 0 (omega arith) in
-        let rest : take (n - 5) (drop 5 work) ≡ drop 5 y = rw is_y (sym (drop-take 5 (n - 5) work) ∙ ap (λ (m : ℕ). drop 5 (take m work)) (omega arith)) in
-        let whole : y ≡ get_or y 0 0 ∷ get_or y 1 0 ∷ get_or y 2 0 ∷ get_or y 3 0 ∷ get_or y 4 0 ∷ drop 5 y = cc in
-        rw (f0, f1, f2, f3, rest) (sym (ap (λ (l : List ℕ). set l 4 0xFA) whole))
+    placed_index g.page tag work (take g.page work) built.old big (built.copied.size ∙ len) refl built.index built.id built.span
+    (λ k below. built.copied.head k (omega arith)) (λ k below. built.small k (omega arith))
 
 -- ---- from the calls that build it
 

@@ -7,3 +7,14 @@ pub mod Renewed
 pub mod MovedIndexes
 pub mod Building
 pub mod MoveCalls
+pub mod Sums
+pub mod SameBlocks
+pub mod OneTurn
+pub mod Turns
+pub mod TurnCalls
+pub mod SlotNames
+pub mod DataCopies
+pub mod DataRenewed
+pub mod DataOwners
+pub mod DataCalls
+pub mod DataBuilding

@@ -62,7 +62,7 @@ no_data : (o : Option (List ℕ)) (page : List ℕ) (span : ℕ) → o ≡ Some 
 no_data o page span was index h = let none : is_some (data_of o span) ≡ false = rw was (rw index refl) in let bad : true ≡ false = sym h ∙ none in absurd (cc)
 
 -- so one that serves its file is the first of its span
-serves_first : (g : Geometry) (pages : Live) (head page : List ℕ) (p : ℕ) → pages p ≡ Some page → names_index page ≡ true → serves g pages head p ≡ true → index_page g pages (span_of page) ≡ Some p
+pub serves_first : (g : Geometry) (pages : Live) (head page : List ℕ) (p : ℕ) → pages p ≡ Some page → names_index page ≡ true → serves g pages head p ≡ true → index_page g pages (span_of page) ≡ Some p
 unfolding serves
 serves_first g pages head page p was index e =
     ⊎_elim
@@ -76,12 +76,12 @@ serves_first g pages head page p was index e =
     absurd (no_data (pages p) page w.0 was index (and_parts _ _ w.3).1))
     (or_cases _ _ e)
 
-own_of : (live : Live) (p : ℕ) (x : List ℕ) → live p ≡ Some x → own live (obj_id x % 0x8000) p ≡ Some x
+pub own_of : (live : Live) (p : ℕ) (x : List ℕ) → live p ≡ Some x → own live (obj_id x % 0x8000) p ≡ Some x
 unfolding own
 own_of live p x e = rw e (rw (eq-eqb (obj_id x % 0x8000) (obj_id x % 0x8000) refl) refl)
 
 -- the live pages of a block without data pages are index pages
-of_kind : (g : Geometry) (image : List ℕ) (p : ℕ) (page : List ℕ) → is_data_block g image (block_of g p) ≡ false → names_index page ≡ true → IsOfKind g (live_at g image) p page
+pub of_kind : (g : Geometry) (image : List ℕ) (p : ℕ) (page : List ℕ) → is_data_block g image (block_of g p) ≡ false → names_index page ≡ true → IsOfKind g (live_at g image) p page
 unfolding is_data_block
 of_kind g image p page none index = record {
   same = λ q x is at.
@@ -94,7 +94,7 @@ of_kind g image p page none index = record {
 }
 
 -- the finished flags clear FINAL alone
-clears_final : ClearsBit 1 0xFA 0xF8
+pub clears_final : ClearsBit 1 0xFA 0xF8
 clears_final = record {
   set = refl;
   cleared = refl;
@@ -106,7 +106,7 @@ clears_final = record {
       (cases_lt j 8);
 }
 
-set_twice : (l : List ℕ) (i a b : ℕ) → set (set l i a) i b ≡ set l i b
+pub set_twice : (l : List ℕ) (i a b : ℕ) → set (set l i a) i b ≡ set l i b
 set_twice [] i a b = refl
 set_twice (x ∷ l) zero a b = refl
 set_twice (x ∷ l) (suc i) a b = ap (λ (t : List ℕ). x ∷ t) (set_twice l i a b)
@@ -121,7 +121,7 @@ pub record Home (g : Geometry) (a : List ℕ) (id : ℕ) : Type 0 where
   pub header : own (live_at g a) id h ≡ Some head
   pub file : judged g (own (live_at g a) id) id head ≡ Ok f
 
-home_of : (g : Geometry) (a : List ℕ) → IsImage g a → IsTidy g a → (p : ℕ) (page : List ℕ) → live_at g a p ≡ Some page → Home g a (obj_id page % 0x8000)
+pub home_of : (g : Geometry) (a : List ℕ) → IsImage g a → IsTidy g a → (p : ℕ) (page : List ℕ) → live_at g a p ≡ Some page → Home g a (obj_id page % 0x8000)
 unfolding has_of
 home_of g a is t p page live =
     let yes = counted-in g a is t (obj_id page % 0x8000) p page (own_of (live_at g a) p page live) in

@@ -135,7 +135,7 @@ module _ (g : Geometry) (old y new : List ℕ) (count : ℕ) (copy : IsCopy g (s
     slot_now : (t : ℕ) → t < data_pages g (size_of head) → index_span g t ≡ span_of old → slot_word g new t ≡ slot_word g old t
     slot_now t below = slot_same t (omega (arith, below, all))
 
-    now_same : (t : ℕ) → t < data_pages g (size_of head) → now_data g pages head new t ≡ data_page g pages head t
+    pub now_same : (t : ℕ) → t < data_pages g (size_of head) → now_data g pages head new t ≡ data_page g pages head t
     unfolding now_data data_page
     now_same t below =
         ⊎_elim

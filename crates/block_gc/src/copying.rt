@@ -57,7 +57,7 @@ fn slots_end(g: &Geometry, span: u16, kept: u32) -> usize
 }
 
 // Tells that a slice holds bytes.
-fn see_bytes(bytes: &[u8])
+pub(crate) fn see_bytes(bytes: &[u8])
     ensures { (k : ℕ) → slice_index bytes.now k < 256 }
 {}
 

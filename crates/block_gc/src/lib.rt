@@ -3,11 +3,16 @@
 
 mod choice;
 mod copying;
+mod emptying;
 mod moving;
+mod moving_data;
+mod naming;
 mod next;
 mod scores;
 mod totals;
 
+pub use emptying::clean_index;
 pub use moving::move_index;
+pub use moving_data::move_data;
 pub use next::{are_had, choose, is_stuck};
 pub use scores::score;

@@ -2,7 +2,7 @@
 use Rattle.std.proofs.Common.{◌≡◌, ◌≢◌, ℕ, ◌+◌, ◌*◌, ◌<◌, ◌≤◌, ◌⊎◌, ⊎_elim, inl, inr, List, [], ◌∷◌, Bool, true, false, not, ◌==◌, ◌&&◌, length, refl, sym, ◌∙◌, arith, nat_lt}
 use Rattle.std.specs.Prelude.{filter, Option, Some, None}
 use Rattle.std.specs.List.{range_with_len, list_any, list_all}
-use Rattle.std.proofs.lemmas.Bool.{eqb-true, eq-eqb, ltb-true, ltb-false, and_parts, false_from_ne_true}
+use Rattle.std.proofs.lemmas.Bool.{eqb-true, eq-eqb, ltb-true, ltb-false, and_parts, cases_Bool, false_from_ne_true}
 use Rattle.std.proofs.lemmas.List.FromFn.{length-range_with_len}
 use Rattle.geometry.specs.declared.geometry.Geometry.{Geometry}
 use Rattle.image_model.specs.Volume.{per_block, lookups, entries}
@@ -17,7 +17,7 @@ use Rattle.flash_view.specs.declared.kinds.Kind.{Kind}
 use Rattle.flash_view.specs.declared.kinds.Kind.TheVariants.{Index, Data}
 use Rattle.free_search.specs.declared.blocks.BlockCounts.{BlockCounts}
 use Rattle.free_search.specs.Counts.{AreCounts, the_takes}
-use Rattle.free_search.specs.Free.{IsOpen, OpenIf, OpenBlock, FreeEntry, FreePage, holds_other}
+use Rattle.free_search.specs.Free.{IsOpen, OpenIf, OpenBlock, FreeEntry, FreePage, holds_other, takes_kind}
 use Rattle.free_search.proofs.Counting.{free_is_dead}
 
 -- ---- tests over lists, and how many pass them
@@ -146,7 +146,7 @@ used_less g image block magic used =
     let all = length-range_with_len (block * per_block g + lookups g) (entries g) in
     omega (arith, less, all)
 
-not_free : (g : Geometry) (image : List ℕ) (block : ℕ) → free_in g image block < entries g → is_free_block g image block ≡ false
+pub not_free : (g : Geometry) (image : List ℕ) (block : ℕ) → free_in g image block < entries g → is_free_block g image block ≡ false
 not_free g image block less = false_from_ne_true (is_free_block g image block) (λ free. let whole = free_whole g image block free in absurd (omega (arith, whole, less)))
 
 -- a free block has no live page
@@ -162,7 +162,7 @@ dead_in t fails g image block free =
     none_in [] = refl
     none_in (x ∷ xs) = none_in xs
 
-dead_data : (g : Geometry) (image : List ℕ) (block : ℕ) → is_free_block g image block ≡ true → data_in g image block ≡ 0
+pub dead_data : (g : Geometry) (image : List ℕ) (block : ℕ) → is_free_block g image block ≡ true → data_in g image block ≡ 0
 unfolding data_in
 dead_data g image block free = dead_in is_data_page refl g image block free
 
@@ -174,13 +174,13 @@ not_of : (b : Bool) → not b ≡ true → b ≡ false
 not_of true h = absurd (cc)
 not_of false h = refl
 
-index_parts : (g : Geometry) (image : List ℕ) (block : ℕ) → takes_index g image block ≡ true → (is_free_block g image block ≡ false) × (is_data_block g image block ≡ false)
+pub index_parts : (g : Geometry) (image : List ℕ) (block : ℕ) → takes_index g image block ≡ true → (is_free_block g image block ≡ false) × (is_data_block g image block ≡ false)
 unfolding takes_index
 index_parts g image block h =
     let w = and_parts (has_magic g image block && not (is_free_block g image block)) _ h in
     (not_of _ (and_parts (has_magic g image block) _ w.0).1, not_of _ w.1)
 
-data_parts : (g : Geometry) (image : List ℕ) (block : ℕ) → takes_data g image block ≡ true → (is_data_block g image block ≡ true) × (is_index_block g image block ≡ false)
+pub data_parts : (g : Geometry) (image : List ℕ) (block : ℕ) → takes_data g image block ≡ true → (is_data_block g image block ≡ true) × (is_index_block g image block ≡ false)
 unfolding takes_data
 data_parts g image block h = let w = and_parts (is_data_block g image block) _ h in (w.0, not_of _ w.1)
 
@@ -190,11 +190,22 @@ module _ (g : Geometry) (image : List ℕ) (block : ℕ) (c : BlockCounts) (magi
   none_free : nat_lt 0 c.free ≡ false → free_in g image block ≡ 0
   none_free h = let few = ltb-false 0 c.free h in omega (arith, few, free)
 
+  takes_by_index : is_free_block g image block ≡ false → is_data_block g image block ≡ false → takes_index g image block ≡ true
+  unfolding takes_index
+  takes_by_index used none = rw (magic, used, none) refl
+
+  takes_by_data : 0 < data_in g image block → is_index_block g image block ≡ false → takes_data g image block ≡ true
+  unfolding takes_data
+  takes_by_data some none =
+      let is : is_data_block g image block ≡ true = ⊎_elim (λ (yes : is_data_block g image block ≡ true). yes) (λ (no : is_data_block g image block ≡ false). let zero_data = data_none g image block no in absurd (omega (arith, some, zero_data))) (cases_Bool (is_data_block g image block)) in
+      rw (is, none) refl
+
   index_opens : (x y z : Bool) → (c.data_live == 0) ≡ x → nat_lt 0 c.free ≡ y → nat_lt c.free (entries g) ≡ z → OpenIf g image Index block (x && y && z)
   index_opens true true true ex ey ez = record {
     magic = magic;
     used = (let less = ltb-true _ _ ez in not_free g image block (omega (arith, free, less)));
     kind_is = no_data g image block (sym counts.pages ∙ eqb-true _ 0 ex);
+    takes = takes_by_index (let less = ltb-true _ _ ez in not_free g image block (omega (arith, free, less))) (no_data g image block (sym counts.pages ∙ eqb-true _ 0 ex));
     some = (let some = ltb-true 0 c.free ey in omega (arith, some, free));
   }
   index_opens true true false ex ey ez = λ takes. absurd (let less = used_less g image block magic (index_parts g image block takes).0 in let most = ltb-false _ _ ez in omega (arith, less, most, free))
@@ -206,6 +217,7 @@ module _ (g : Geometry) (image : List ℕ) (block : ℕ) (c : BlockCounts) (magi
     magic = magic;
     used = false_from_ne_true (is_free_block g image block) (λ yes. let none = dead_data g image block yes in let some = ltb-true 0 c.data_live ex in absurd (omega (arith, none, some, counts.pages)));
     kind_is = no_index g image block (sym counts.index ∙ eqb-true _ 0 ey);
+    takes = takes_by_data (let some = ltb-true 0 c.data_live ex in omega (arith, some, counts.pages)) (no_index g image block (sym counts.index ∙ eqb-true _ 0 ey));
     some = (let some = ltb-true 0 c.free ez in omega (arith, some, free));
   }
   data_opens true true false ex ey ez = λ takes. none_free ez
@@ -233,6 +245,7 @@ page_open g image kind keep block not_in (Some p) (apart, is) (page, at, free, w
   kind_is = rw at is.kind_is;
   keeps = inl (rw at is.used);
   apart = rw at apart;
+  opened = λ used. rw at is.takes;
   last = λ free. absurd (let used : is_free_block g image (block_of g p) ≡ false = rw at is.used in cc);
 }
 
@@ -259,5 +272,6 @@ page_new g image kind keep block not_in (Some p) more none_open (apart, free) (p
   kind_is = rw at (no_other g image kind block free);
   keeps = inr more;
   apart = rw at apart;
+  opened = λ used. absurd (let whole : is_free_block g image (block_of g p) ≡ true = rw at free in cc);
   last = λ whole. none_open;
 }

@@ -21,8 +21,8 @@ takes_kind g image Index block = takes_index g image block
 takes_kind g image Data block = takes_data g image block
 
 -- A free page for the next one of a kind: its block isn't the one that is never chosen, has its magic and holds no live
--- page of the other kind, and if that block is free, more than `keep` blocks are, and no block in use has a free entry for
--- the kind.
+-- page of the other kind. If that block is in use its free entries are for the kind; if it is free, more than `keep` blocks
+-- are, and no block in use has a free entry for the kind.
 pub record IsFreeFor (g : Geometry) (image : List ℕ) (kind : Kind) (keep : ℕ) (not_in : Option ℕ) (p : ℕ) : Type 0 where
   pub page : is_entry_page g p ≡ true
   pub magic : has_magic g image (block_of g p) ≡ true
@@ -31,6 +31,7 @@ pub record IsFreeFor (g : Geometry) (image : List ℕ) (kind : Kind) (keep : ℕ
   pub kind_is : holds_other g image kind (block_of g p) ≡ false
   pub keeps : (is_free_block g image (block_of g p) ≡ false) ⊎ (keep < free_blocks g image)
   pub apart : Some (block_of g p) ≢ not_in
+  pub opened : is_free_block g image (block_of g p) ≡ false → takes_kind g image kind (block_of g p) ≡ true
   pub last : is_free_block g image (block_of g p) ≡ true →
       (block : ℕ) → block < g.blocks → Some block ≢ not_in → takes_kind g image kind block ≡ true → free_in g image block ≡ 0
 
@@ -50,6 +51,7 @@ pub record IsOpen (g : Geometry) (image : List ℕ) (kind : Kind) (block : ℕ) 
   pub magic : has_magic g image block ≡ true
   pub used : is_free_block g image block ≡ false
   pub kind_is : holds_other g image kind block ≡ false
+  pub takes : takes_kind g image kind block ≡ true
   pub some : 0 < free_in g image block
 
 -- whether it has

@@ -1,0 +1,341 @@
+-- Putting the copy of a data page, from what its programs leave.
+use Rattle.std.proofs.Common.{◌≡◌, ◌≢◌, ℕ, zero, suc, ◌+◌, ◌-◌, ◌*◌, ◌/◌, ◌%◌, ◌<◌, ◌≤◌, ◌⊎◌, List, [], ◌∷◌, length, take, drop, set, get_or, slice_index, slice_range, Bool, true, false, not, ◌==◌, ◌&&◌, ◌||◌, Option, Some, None, Ok, ap, refl, sym, ◌∙◌, arith, ⊎_elim, inl, inr, subst, lit<, length-drop, length-set, get_or-set_same}
+use Rattle.std.specs.Prelude.{is_some, nat_lt}
+use Rattle.std.specs.Int.{bit_at}
+use Rattle.std.specs.List.{range_with_len, list_any}
+use Rattle.std.proofs.Math.Nat.{mul-le-mul_left}
+use Rattle.std.proofs.lemmas.Nat.Bits.{bit_at_above}
+use Rattle.std.proofs.lemmas.Bool.{cases_lt, cases_eq, and_parts, or_cases, eq-eqb, ne_eqb, lt-ltb, eqb-true, agree_below_at, false_from_ne_true}
+use Rattle.std.proofs.lemmas.List.{drop-take, get_or-take, get_or-drop}
+use Rattle.std.proofs.lemmas.Option.{same_Some}
+use Rattle.geometry.specs.declared.geometry.Geometry.{Geometry}
+use Rattle.table_model.specs.declared.error.Tag.{Tag}
+use Rattle.table_model.specs.Room.{data_pages, index_pages}
+use Rattle.nor_core.specs.Flash.{SameOutside}
+use Rattle.flash_view.specs.declared.kinds.Kind.TheVariants.{Data}
+use Rattle.image_model.specs.Within.{Sizes, sizes, page_length, behind, entry_slot, entry_of_block, entry_in}
+use Rattle.image_model.specs.Volume.{per_block, lookups, entries}
+use Rattle.image_model.specs.Headers.{obj_id, span_of, names_index, is_finished, size_of}
+use Rattle.image_model.specs.Live.{Live, live_at}
+use Rattle.image_model.specs.Places.{block_of, place_of, has_magic, is_entry_page, IsImage, entry_at}
+use Rattle.image_model.specs.Files.{index_page, entry_number, data_of}
+use Rattle.image_model.specs.Tidy.{is_number, serves, is_free_entry, is_free_block}
+use Rattle.image_model.specs.Kinds.{is_index_page, is_data_page, is_index_block}
+use Rattle.image_model.specs.Collect.{free_in}
+use Rattle.image_model.specs.Sound.{HasMagics}
+use Rattle.image_laws.specs.NewFile.{IsFreePage}
+use Rattle.image_laws.specs.Programs.{ClearsBit}
+use Rattle.image_laws.specs.SoundSteps.{IsOfKind}
+use Rattle.image_laws.specs.TidySteps.{Agree}
+use Rattle.image_laws.specs.Put.{IsReadyPage}
+use Rattle.image_laws.specs.LiveSteps.{Finished, PutCut, PutDone}
+use Rattle.image_laws.specs.Recopy.{PutsData}
+use Rattle.image_laws.proofs.Damaged.{any_at}
+use Rattle.image_laws.proofs.Finish.{is_finished-zero}
+use Rattle.image_laws.proofs.Tally.{is_finished-ones}
+use Rattle.image_laws.proofs.Frames.{live_parts}
+use Rattle.image_laws.proofs.FreeBlocks.{filter-same, free_blocks-fall}
+use Rattle.image_laws.proofs.Judge.{index_passes}
+use Rattle.image_laws.proofs.LiveStep.{put-changes}
+use Rattle.image_laws.proofs.Placing.{page_byte}
+use Rattle.image_laws.proofs.Places.{lookups_apart, blocks_disjoint}
+use Rattle.image_laws.proofs.Records.{list_any-at}
+use Rattle.image_laws.proofs.RecopyStep.{put_data-keeps}
+use Rattle.image_laws.proofs.RecopyTidy.{put_data-spares}
+use Rattle.image_laws.proofs.SpareKill.{tidy-has_magics}
+use Rattle.image_laws.proofs.TidySteps.{tidy-is_tidy}
+use Rattle.image_laws.proofs.Wants.{number-is}
+use Rattle.free_search.proofs.FreePages.{free_whole, used_less}
+use Rattle.page_put.specs.Placing.{placed_page}
+use Rattle.block_gc.specs.Moves.{MoveCut}
+use Rattle.block_gc.specs.DataMoves.{CanCopyData, IsLoaded, IsDataCopy, CopiedData}
+use Rattle.block_gc.proofs.MovedIndexes.{index_some, Home, home_of}
+
+-- ---- bytes that programs of a page leave
+
+outside_byte : (at n k : ℕ) (a b : List ℕ) → SameOutside at n a b → (k < at) ⊎ (at + n ≤ k) → slice_index b k ≡ slice_index a k
+outside_byte at n k a b same place = ⊎_elim (λ (low : k < at). same.before k low) (λ (high : at + n ≤ k). same.after k high) place
+
+-- an entry lies in no entry page
+entry_apart : (g : Geometry) (q p i : ℕ) → is_entry_page g p ≡ true → i < 2 → (entry_at g q + i < p * g.page) ⊎ (p * g.page + g.page ≤ entry_at g q + i)
+entry_apart g q p i page small =
+    let geo : Sizes g = sizes g in
+    let slot : place_of g q - lookups g < lookups g * g.page / 2 = entry_slot g q in
+    let fits : lookups g < per_block g = geo.lookups_fit in
+    let from : lookups g ≤ place_of g p = behind g p page in
+    let same : block_of g q * g.block ≡ block_of g q * (per_block g * g.page) = ap (λ (x : ℕ). block_of g q * x) geo.block in
+    ⊎_elim
+    (λ (h : block_of g q * (per_block g * g.page) + (2 * (place_of g q - lookups g) + i) < p * g.page). inl (omega (arith, h, same)))
+    (λ (h : p * g.page + g.page ≤ block_of g q * (per_block g * g.page) + (2 * (place_of g q - lookups g) + i)). inr (omega (arith, h, same)))
+    (lookups_apart (per_block g) (lookups g) g.page (block_of g q) p (2 * (place_of g q - lookups g) + i) (omega (arith, fits)) (omega (arith, fits)) from (omega (arith, slot, small)))
+
+-- the entries of two blocks have no byte in common
+entries_apart : (g : Geometry) (q p i : ℕ) → block_of g q ≢ block_of g p → i < 2 → (entry_at g q + i < entry_at g p) ⊎ (entry_at g p + 2 ≤ entry_at g q + i)
+entries_apart g q p i differ small =
+    ⊎_elim
+    (λ (less : block_of g q < block_of g p). inl (let one = blocks_disjoint g.block (block_of g q) (block_of g p) (2 * (place_of g q - lookups g) + i) (2 * (place_of g p - lookups g)) less (low q i small) in omega (arith, one)))
+    (λ (more : block_of g p ≤ block_of g q). inr (let one = blocks_disjoint g.block (block_of g p) (block_of g q) (2 * (place_of g p - lookups g) + 1) (2 * (place_of g q - lookups g) + i) (omega (arith, more, differ)) (low p 1 (omega arith)) in omega (arith, one)))
+    (cases_lt (block_of g q) (block_of g p))
+  where
+    low : (r k : ℕ) → k < 2 → 2 * (place_of g r - lookups g) + k < g.block
+    low r k few =
+        let geo : Sizes g = sizes g in
+        let slot : place_of g r - lookups g < lookups g * g.page / 2 = entry_slot g r in
+        let fits : lookups g < per_block g = geo.lookups_fit in
+        let rows : lookups g * g.page ≤ per_block g * g.page = Rattle.std.proofs.Math.Nat.mul-le-mul_right g.page (omega (arith, fits)) in
+        let whole : g.block ≡ per_block g * g.page = geo.block in
+        omega (arith, slot, rows, whole, few)
+
+module _ (g : Geometry) (a0 a1 a2 a3 a4 : List ℕ) (p : ℕ) (page : List ℕ) (fin : ℕ) (inside : is_entry_page g p ≡ true) (len : length page ≡ g.page) (all : Finished g p page fin a0 a1 a2 a3 a4) where
+  kept_byte : (k : ℕ) → (k < entry_at g p) ⊎ (entry_at g p + 2 ≤ k) → (k < p * g.page) ⊎ (p * g.page + g.page ≤ k) → slice_index a4 k ≡ slice_index a0 k
+  kept_byte k entry there =
+      let big : 128 ≤ g.page = (sizes g).page in
+      let two : length (take 2 page) ≡ 2 = omega (arith, big, Rattle.std.proofs.Common.length-take 2 page, len) in
+      let five : length (take 5 page) ≡ 5 = omega (arith, big, Rattle.std.proofs.Common.length-take 5 page, len) in
+      let rest : length (drop 5 page) ≡ g.page - 5 = omega (arith, big, length-drop 5 page, len) in
+      let one = all.placed.one.outside in
+      let next = all.placed.two.outside in
+      let third = all.placed.three.outside in
+      let last = all.finish.outside in
+      let e1 : slice_index a1 k ≡ slice_index a0 k = outside_byte (entry_at g p) (length (take 2 page)) k a0 a1 one (⊎_elim (λ (x : k < entry_at g p). inl x) (λ (x : entry_at g p + 2 ≤ k). inr (omega (arith, x, two))) entry) in
+      let e2 : slice_index a2 k ≡ slice_index a1 k = outside_byte (p * g.page) (length (take 5 page)) k a1 a2 next (⊎_elim (λ (x : k < p * g.page). inl x) (λ (x : p * g.page + g.page ≤ k). inr (omega (arith, x, five, big))) there) in
+      let e3 : slice_index a3 k ≡ slice_index a2 k = outside_byte (p * g.page + 5) (length (drop 5 page)) k a2 a3 third (⊎_elim (λ (x : k < p * g.page). inl (omega (arith, x))) (λ (x : p * g.page + g.page ≤ k). inr (omega (arith, x, rest, big))) there) in
+      let e4 : slice_index a4 k ≡ slice_index a3 k = outside_byte (p * g.page + 4) 1 k a3 a4 last (⊎_elim (λ (x : k < p * g.page). inl (omega (arith, x))) (λ (x : p * g.page + g.page ≤ k). inr (omega (arith, x, big))) there) in
+      e4 ∙ e3 ∙ e2 ∙ e1
+
+  -- a free page of another block stays free
+  pub still_free : Agree g a0 a4 p → (q : ℕ) → block_of g q ≢ block_of g p → IsFreePage g a0 q → IsFreePage g a4 q
+  still_free agree q differ free =
+      let other : q ≢ p = λ e. differ (ap (λ (x : ℕ). block_of g x) e) in
+      record {
+        entry_page = free.entry_page;
+        magic = agree.magic (block_of g q) ∙ free.magic;
+        entry = λ i small. kept_byte (entry_at g q + i) (entries_apart g q p i differ small) (entry_apart g q p i inside small) ∙ free.entry i small;
+        erased = λ i small. sym (page_byte g a4 q i small) ∙ ap (λ (l : List ℕ). slice_index l i) (agree.page q free.entry_page other) ∙ page_byte g a0 q i small ∙ free.erased i small;
+      }
+
+-- a block in use stays in use
+pub used_stays : (g : Geometry) (a b : List ℕ) (p c : ℕ) → Agree g a b p → c < g.blocks → c ≢ block_of g p → has_magic g a c ≡ true → is_free_block g a c ≡ false → is_free_block g b c ≡ false
+unfolding free_in
+used_stays g a b p c agree low there magic used =
+    let less = used_less g a c magic used in
+    let same : free_in g b c ≡ free_in g a c = filter-same (λ (q : ℕ). is_free_entry g a q) (λ (q : ℕ). is_free_entry g b q) (c * per_block g + lookups g) (entries g)
+    (λ q from to. let w = entry_in g c q low from to in
+    let other : q ≢ p = λ e. there (sym w.0 ∙ ap (λ (k : ℕ). block_of g k) e) in
+    rw (agree.entry q w.1 other, agree.page q w.1 other) refl) in
+    false_from_ne_true (is_free_block g b c) (λ free. let whole = free_whole g b c free in absurd (omega (arith, less, same, whole)))
+
+-- ---- what is known of a data page of a tidy image
+
+pub some_data : (o : Option (List ℕ)) (x : List ℕ) → o ≡ Some x → is_data_page o ≡ true → names_index x ≡ false
+some_data o x is page = go (names_index x) (rw is at page)
+  where
+    go : (b : Bool) → not b ≡ true → b ≡ false
+    go true e = absurd (cc)
+    go false e = refl
+
+data_span : (page : List ℕ) (t : ℕ) → names_index page ≡ false → is_some (data_of (Some page) t) ≡ true → span_of page ≡ t
+data_span page t kind some =
+    ⊎_elim
+    (λ (yes : span_of page ≡ t). yes)
+    (λ (no : span_of page ≡ t → ⊥). let none : is_some (data_of (Some page) t) ≡ false = rw (kind, ne_eqb (span_of page) t no) refl in let bad : true ≡ false = sym some ∙ none in absurd (cc))
+    (cases_eq (span_of page) t)
+
+pub data_there : (page : List ℕ) (t : ℕ) → names_index page ≡ false → span_of page ≡ t → data_of (Some page) t ≡ Some page
+data_there page t kind at = rw (kind, eq-eqb (span_of page) t at) refl
+
+-- one that serves its file is named by the entry of its span
+pub serves_data : (g : Geometry) (pages : Live) (head page : List ℕ) (p : ℕ) → pages p ≡ Some page → names_index page ≡ false → serves g pages head p ≡ true →
+    (span_of page < data_pages g (size_of head)) × (entry_number g pages head (span_of page) ≡ Some p)
+unfolding serves
+serves_data g pages head page p was kind e =
+    ⊎_elim
+    (λ (yes : list_any (λ (j : ℕ). is_number (index_page g pages j) p) (range_with_len 0 (index_pages g (size_of head))) ≡ true).
+    let w = any_at (λ (j : ℕ). is_number (index_page g pages j) p) 0 (index_pages g (size_of head)) yes in
+    let x = index_some (pages p) w.0 (index_passes g pages w.0 p (number-is (index_page g pages w.0) p w.3)) in
+    let same : x.0 ≡ page = same_Some x.0 page (sym x.1 ∙ was) in
+    let bad : true ≡ false = sym x.2 ∙ ap names_index same ∙ kind in absurd (cc))
+    (λ (yes : list_any (λ (t : ℕ). is_number (entry_number g pages head t) p && is_some (data_of (pages p) t)) (range_with_len 0 (data_pages g (size_of head))) ≡ true).
+    let w = any_at (λ (t : ℕ). is_number (entry_number g pages head t) p && is_some (data_of (pages p) t)) 0 (data_pages g (size_of head)) yes in
+    let v = and_parts _ _ w.3 in
+    let some : is_some (data_of (Some page) w.0) ≡ true = ap (λ (x : Option (List ℕ)). is_some (data_of x w.0)) (sym was) ∙ v.1 in
+    let span : span_of page ≡ w.0 = data_span page w.0 kind some in
+    let entry : entry_number g pages head w.0 ≡ Some p = number-is (entry_number g pages head w.0) p v.0 in
+    (omega (arith, w.2, span), ap (λ (t : ℕ). entry_number g pages head t) span ∙ entry))
+    (or_cases _ _ e)
+
+-- the live pages of a block without index pages are data pages
+data_kind_there : (g : Geometry) (image : List ℕ) (p : ℕ) (page : List ℕ) → is_index_block g image (block_of g p) ≡ false → names_index page ≡ false → IsOfKind g (live_at g image) p page
+unfolding is_index_block
+data_kind_there g image p page none kind = record {
+  same = λ q x is at.
+      let w = entry_of_block g q (live_parts g image q x is).entry_page in
+      let low : block_of g p * per_block g + lookups g ≤ q = rw at at w.0 in
+      let high : q < block_of g p * per_block g + lookups g + entries g = rw at at w.1 in
+      let no : is_index_page (live_at g image q) ≡ false = list_any-at (λ (r : ℕ). is_index_page (live_at g image r)) _ _ none q low high in
+      let names : names_index x ≡ false = rw is at no in
+      names ∙ sym kind;
+}
+
+-- the finished flags clear FINAL alone
+clears_final : ClearsBit 1 0xFE 0xFC
+clears_final = record {
+  set = refl;
+  cleared = refl;
+  others = λ j other. ⊎_elim
+      (λ (low : j < 8).
+      let one = agree_below_at (λ (k : ℕ). (k == 1) || (bit_at 0xFC k == bit_at 0xFE k)) (λ (k : ℕ). true) 8 j refl low in
+      ⊎_elim (λ (e : (j == 1) ≡ true). absurd (other (eqb-true j 1 e))) (λ (e : (bit_at 0xFC j == bit_at 0xFE j) ≡ true). eqb-true _ _ e) (or_cases _ _ one))
+      (λ (high : 8 ≤ j). bit_at_above 0xFC 8 j (omega arith) high ∙ sym (bit_at_above 0xFE 8 j (omega arith) high))
+      (cases_lt j 8);
+}
+
+-- a copy of a live data page says that it is live
+finished_copy : (old new : List ℕ) → obj_id new ≡ obj_id old → slice_index new 4 ≡ 0xFC → obj_id old < 0x8000 → is_finished old ≡ true → is_finished new ≡ true
+unfolding is_finished
+finished_copy old new id flags small alive =
+    let some_id : (obj_id old % 0x8000 == 0) ≡ false = ne_eqb (obj_id old % 0x8000) 0 (λ z. let bad : false ≡ true = sym (is_finished-zero old z) ∙ alive in absurd (cc)) in
+    let not_free : (obj_id old == 0xFFFF) ≡ false = ne_eqb (obj_id old) 0xFFFF (λ z. let bad : false ≡ true = sym (is_finished-ones old z) ∙ alive in absurd (cc)) in
+    let low : nat_lt (obj_id old) 0x8000 ≡ true = lt-ltb (obj_id old) 0x8000 small in
+    rw (id, flags) (rw (some_id, not_free, low) refl)
+
+-- a page of five bytes and a rest holds bytes
+bytes_by : (a b c d e : ℕ) (rest : List ℕ) → a < 256 → b < 256 → c < 256 → d < 256 → e < 256 → (i n : ℕ) → ((k : ℕ) → k + 5 < n → get_or rest k 0 < 256) → i < n → get_or (a ∷ b ∷ c ∷ d ∷ e ∷ rest) i 0 < 256
+bytes_by a b c d e rest one two three four five zero n small within = one
+bytes_by a b c d e rest one two three four five (suc zero) n small within = two
+bytes_by a b c d e rest one two three four five (suc (suc zero)) n small within = three
+bytes_by a b c d e rest one two three four five (suc (suc (suc zero))) n small within = four
+bytes_by a b c d e rest one two three four five (suc (suc (suc (suc zero)))) n small within = five
+bytes_by a b c d e rest one two three four five (suc (suc (suc (suc (suc i))))) n small within = small i (omega arith)
+
+-- ---- the step
+
+module _ (g : Geometry) (a0 : List ℕ) (o p : ℕ) (tag : Tag) (work : List ℕ) (is : IsImage g a0) (can : CanCopyData g a0 o p) (old : List ℕ) (live : live_at g a0 o ≡ Some old) (tag_id : tag.id ≡ obj_id old) (tag_span : tag.span ≡ span_of old) (loaded : IsLoaded g a0 o work) where
+  abbrev id : ℕ
+  id = obj_id old % 0x8000
+
+  abbrev page : List ℕ
+  page = placed_page g Data tag work
+
+  abbrev new : List ℕ
+  new = set (placed_page g Data tag work) 4 0xFC
+
+  pub kind : names_index old ≡ false
+  kind = some_data (live_at g a0 o) old live can.is_data
+
+  low_id : obj_id old < 0x8000
+  low_id = let no : not (nat_lt (obj_id old) 0x8000) ≡ false = kind in grind arith
+
+  same : take g.page work ≡ old
+  same = loaded.same ∙ (live_parts g a0 o old live).bytes
+
+  len : length old ≡ g.page
+  len = let w = live_parts g a0 o old live in ap length (sym w.bytes) ∙ page_length g a0 o is w.entry_page
+
+  small : (k : ℕ) → k < g.page → slice_index old k < 256
+  small k below = rw (← same, get_or-take g.page work k 0 below) (loaded.small k below)
+
+  rest : slice_range work 5 g.page ≡ drop 5 old
+  rest = let big : 128 ≤ g.page = (sizes g).page in
+      sym (drop-take 5 (g.page - 5) work) ∙ ap (λ (m : ℕ). drop 5 (take m work)) (omega arith) ∙ ap (drop 5) same
+
+  abbrev header : List ℕ → List ℕ
+  header l = tag.id % 256 ∷ tag.id / 256 ∷ tag.span % 256 ∷ tag.span / 256 ∷ 0xFE ∷ l
+
+  page_is : page ≡ header (drop 5 old)
+  page_is = ap header rest
+
+  words : (tag.id / 256 < 256) × (tag.span / 256 < 256)
+  words =
+      let big : 128 ≤ g.page = (sizes g).page in
+      let b0 = small 0 (omega arith) in
+      let b1 = small 1 (omega arith) in
+      let b2 = small 2 (omega arith) in
+      let b3 = small 3 (omega arith) in
+      let e = tag_id in
+      let f = tag_span in
+      (omega arith, omega arith)
+
+  pub new_id : obj_id new ≡ obj_id old
+  new_id = let e = tag_id in let f : tag.id % 256 + 256 * (tag.id / 256) ≡ obj_id old = omega arith in f
+
+  pub new_span : span_of new ≡ span_of old
+  new_span = let e = tag_span in let f : tag.span % 256 + 256 * (tag.span / 256) ≡ span_of old = omega arith in f
+
+  pub new_kind : names_index new ≡ false
+  new_kind = ap (λ (n : ℕ). not (nat_lt n 0x8000)) new_id ∙ kind
+
+  page_len : length page ≡ g.page
+  page_len =
+      let big : 128 ≤ g.page = (sizes g).page in
+      let five : length (header (drop 5 old)) ≡ g.page = omega (arith, length-drop 5 old, len, big) in
+      ap length page_is ∙ five
+
+  pub copied : IsDataCopy g old new
+  copied = record {
+    data_kind = new_kind;
+    id = new_id;
+    span = new_span;
+    body = ap (take (g.page - 5)) rest;
+  }
+
+  pub is_ready : IsReadyPage g page 0xFC
+  is_ready =
+      let w = words in
+      record {
+        len = page_len;
+        bytes = λ i within. subst (λ (l : List ℕ). slice_index l i < 256) (sym page_is)
+            (bytes_by (tag.id % 256) (tag.id / 256) (tag.span % 256) (tag.span / 256) 0xFE (drop 5 old) (omega arith) w.0 (omega arith) w.1 (omega arith) i g.page
+            (λ k below. rw (get_or-drop 5 old k 0) (small (5 + k) (omega arith))) within);
+        clears = clears_final;
+        finished = finished_copy old new new_id refl low_id (live_parts g a0 o old live).finished;
+      }
+
+  home : Home g a0 id
+  home = home_of g a0 is can.tidy o old live
+
+  start : PutsData g a0 p id home.h page home.head 0xFC home.f
+  start = record {
+    image = is;
+    free = can.free;
+    ready = is_ready;
+    kind = data_kind_there g a0 p new can.kind new_kind;
+    data_kind = new_kind;
+    of = ap (λ (n : ℕ). n % 0x8000) new_id;
+    at = home.at;
+    header = home.header;
+    file = home.file;
+  }
+
+  pub magics : HasMagics g a0
+  magics = tidy-has_magics g a0 (λ (r : ℕ). false) ((tidy-is_tidy g a0 (λ (r : ℕ). false)).0 can.tidy)
+
+  module _ (a1 a2 a3 a4 : List ℕ) (all : Finished g p page 0xFC a0 a1 a2 a3 a4) where
+    pub copying_left : (c : List ℕ) → PutCut g p page 0xFC a0 a1 a2 a3 c → MoveCut g p a0 c
+    copying_left c cut =
+        let law = (put_data-keeps g a0 a1 a2 a3 a4 p id home.h page home.head 0xFC home.f start magics all).0 c cut in
+        let fall = free_blocks-fall g a0 c p law.1 in
+        record { keeps = law.0; free = fall.0; used = fall.1 }
+
+    done4 : PutDone g p new a0 a4
+    done4 = (put-changes g a0 a1 a2 a3 a4 p page 0xFC is can.free is_ready all).1
+
+    pub copying_done : CopiedData g o p a0 a4
+    copying_done = record {
+      old = old;
+      copy = new;
+      image = is;
+      was_live = live;
+      copied = copied;
+      put = done4;
+      keeps = (put_data-keeps g a0 a1 a2 a3 a4 p id home.h page home.head 0xFC home.f start magics all).1;
+      tidy = put_data-spares g a0 a1 a2 a3 a4 p id home.h page home.head 0xFC home.f (λ (r : ℕ). false) start ((tidy-is_tidy g a0 (λ (r : ℕ). false)).0 can.tidy) all;
+      free = λ q differ. still_free g a0 a1 a2 a3 a4 p page 0xFC can.free.entry_page page_len all done4.agree q differ;
+      flags =
+          let big : 128 ≤ g.page = (sizes g).page in
+          let near : 4 < g.page = omega arith in
+          let apart : o ≢ p = λ e. Rattle.std.proofs.lemmas.Option.none-some old (sym done4.gains.before ∙ ap (live_at g a0) (sym e) ∙ live) in
+          let byte : slice_index a4 (o * g.page + 4) ≡ slice_index a0 (o * g.page + 4) =
+          sym (page_byte g a4 o 4 near) ∙ ap (λ (l : List ℕ). slice_index l 4) (done4.agree.page o (live_parts g a0 o old live).entry_page apart) ∙ page_byte g a0 o 4 near in
+          rw byte loaded.flags;
+    }

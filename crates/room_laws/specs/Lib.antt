@@ -1,0 +1,17 @@
+pub mod Counts
+pub mod Volume
+pub mod Cleaning
+pub mod Bounds
+pub mod Packing
+pub mod Measure
+pub mod Mending
+pub mod Cut
+pub mod Steps
+pub mod Order
+pub mod Counting
+pub mod Choosing
+pub mod Cleans
+pub mod Stopping
+pub mod Emptying
+pub mod EmptyingIndex
+pub mod Mends

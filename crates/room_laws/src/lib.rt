@@ -1,0 +1,11 @@
+//! The arithmetic of garbage collection: which blocks are cleaned, what cleanings keep, and where they stop.
+#![tactic(auto)]
+
+pub mod choosing;
+pub mod cleaning;
+pub mod emptying;
+pub mod images;
+pub mod mending;
+pub mod steps;
+pub mod stopping;
+pub mod volumes;

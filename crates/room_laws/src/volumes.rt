@@ -1,0 +1,32 @@
+ghost use Rattle.room_laws.specs.Bounds.{ReserveIsBound, CleaningKeepsBound, ReserveFitsAll, LastFreeFitsOne};
+ghost use Rattle.room_laws.specs.Measure.{CleaningFalls, CleaningLowers};
+ghost use Rattle.room_laws.specs.Packing.{NoneWorthIsPacked, HadHasRoom, StoppedIsHad};
+
+/// Where no block is worth cleaning nothing is deleted, and each kind has as few blocks as it can.
+pub fn none_worth_is_packed()
+    ensures { NoneWorthIsPacked }
+{}
+
+/// The bound holds with two free blocks, and every cleaning keeps it.
+pub fn bound_is_kept()
+    ensures reserve { ReserveIsBound }
+    ensures kept { CleaningKeepsBound }
+{}
+
+/// With two free blocks every block fits, with one and the bound a block for index pages that is worth cleaning.
+pub fn blocks_fit()
+    ensures all { ReserveFitsAll }
+    ensures one { LastFreeFitsOne }
+{}
+
+/// Cleanings come to an end.
+pub fn cleanings_end()
+    ensures falls { CleaningFalls }
+    ensures lowers { CleaningLowers }
+{}
+
+/// The pages that are had where cleaning stops are those for which there is room.
+pub fn room_is_exact()
+    ensures needed { HadHasRoom }
+    ensures enough { StoppedIsHad }
+{}
