@@ -20,7 +20,7 @@ use Rattle.table_model.specs.Reply.{Fine, Shows, Counts, Refuses}
 use Rattle.table_model.specs.Ask.{Creates, Stats, NextAbove, Informs}
 use Rattle.table_model.specs.Flat.{answer, full_answer}
 use Rattle.image_model.specs.Tables.{table_of}
-use Rattle.image_model.specs.Tidy.{free_blocks}
+use Rattle.image_model.specs.Tidy.{free_blocks, HasReserve}
 use Rattle.image_model.specs.Collect.{are_had}
 use Rattle.volume.specs.Refusals.{create_refusal}
 use Rattle.volume.specs.Answers.{IsReady, LacksPage, CreateAnswers, CreateCuts, StatAnswers, shown_or_end}
@@ -101,8 +101,10 @@ made g s name was fine same files after =
 
 module _ (g : Geometry) (s : State) (name was : List ℕ) (fine : name_refusal name ≡ None) (same : s.table ≡ table_of g was) where
   -- the volume stops in no other
-  pub create_stops : create_refusal g was name ≡ None → ((answer g true s (Creates name)).answer ≡ Fine) × (are_had g was 1 0 ≡ true)
-  create_stops none = ((made g s name was fine same (created g name (table_of g was)) (none, refl)).0, (allowed g was name none).had)
+  pub create_stops : create_refusal g was name ≡ None → ((answer g true s (Creates name)).answer ≡ Fine) × HasReserve g was × (are_had g was 1 0 ≡ true)
+  create_stops none =
+      let w = allowed g was name none in
+      ((made g s name was fine same (created g name (table_of g was)) (none, refl)).0, w.reserve, w.had)
 
   -- a cut in it
   pub leaves_cuts : (image : List ℕ) → CreateLeaves g name was image → CreateCuts g s name was image

@@ -1,6 +1,7 @@
 -- What stands against a create, and what a create leaves.
 use Rattle.std.proofs.Common.{◌≡◌, ℕ, ⊎_elim, inl, inr, List, Bool, true, false, not, refl, sym, ◌∙◌, subst, nat_lt, if◌then◌else◌}
 use Rattle.std.specs.Prelude.{Some, None}
+use Rattle.std.proofs.lemmas.Bool.{ltb-false}
 use Rattle.geometry.specs.declared.geometry.Geometry.{Geometry}
 use Rattle.nor_core.specs.declared.state.NorState.{Ghosts as NorOf}
 use Rattle.nor_core.specs.Device.{OnlyReads, Changes}
@@ -11,7 +12,7 @@ use Rattle.table_model.specs.Table.{has_name, least_id}
 use Rattle.table_model.specs.Room.{has_room}
 use Rattle.table_model.specs.Files.{created}
 use Rattle.image_model.specs.Tables.{table_of}
-use Rattle.image_model.specs.Tidy.{free_blocks}
+use Rattle.image_model.specs.Tidy.{free_blocks, HasReserve}
 use Rattle.image_model.specs.Collect.{are_had}
 use Rattle.header_laws.proofs.HeadPages.{has-ids}
 use Rattle.header_laws.proofs.LeastIds.{least-unused}
@@ -24,20 +25,21 @@ use Rattle.volume.specs.Creates.{IsCreated, CreateLeaves}
 -- nothing stands against it
 pub record Allowed (g : Geometry) (image name : List ℕ) : Type 0 where
   pub new_name : has_name name (table_of g image) ≡ false
+  pub reserve : HasReserve g image
   pub room : has_room g (created g name (table_of g image)) ≡ true
   pub had : are_had g image 1 0 ≡ true
 
-allowed_by : (g : Geometry) (image name : List ℕ) (there few room had : Bool) → has_name name (table_of g image) ≡ there → has_room g (created g name (table_of g image)) ≡ room → are_had g image 1 0 ≡ had →
+allowed_by : (g : Geometry) (image name : List ℕ) (there few room had : Bool) → has_name name (table_of g image) ≡ there → nat_lt (free_blocks g image) 2 ≡ few → has_room g (created g name (table_of g image)) ≡ room → are_had g image 1 0 ≡ had →
     (if there then Some ConflictingName else if few then Some Tight else if not room then Some Full else if not had then Some Unbuilt else None) ≡ None → Allowed g image name
-allowed_by g image name true few room had et er eh e = absurd (cc)
-allowed_by g image name false true room had et er eh e = absurd (cc)
-allowed_by g image name false false false had et er eh e = absurd (cc)
-allowed_by g image name false false true false et er eh e = absurd (cc)
-allowed_by g image name false false true true et er eh e = record { new_name = et; room = er; had = eh }
+allowed_by g image name true few room had et ef er eh e = absurd (cc)
+allowed_by g image name false true room had et ef er eh e = absurd (cc)
+allowed_by g image name false false false had et ef er eh e = absurd (cc)
+allowed_by g image name false false true false et ef er eh e = absurd (cc)
+allowed_by g image name false false true true et ef er eh e = record { new_name = et; reserve = ltb-false (free_blocks g image) 2 ef; room = er; had = eh }
 
 pub allowed : (g : Geometry) (image name : List ℕ) → create_refusal g image name ≡ None → Allowed g image name
 unfolding create_refusal
-allowed g image name e = allowed_by g image name (has_name name (table_of g image)) (nat_lt (free_blocks g image) 2) (has_room g (created g name (table_of g image))) (are_had g image 1 0) refl refl refl e
+allowed g image name e = allowed_by g image name (has_name name (table_of g image)) (nat_lt (free_blocks g image) 2) (has_room g (created g name (table_of g image))) (are_had g image 1 0) refl refl refl refl e
 
 -- so the step may be done
 pub can_create : (g : Geometry) (image name : List ℕ) (id : ℕ) → IsReady g image → create_refusal g image name ≡ None → id ≡ least_id (table_of g image) → CanCreate g image id name

@@ -7,7 +7,7 @@ ghost use Rattle.table_model.specs.Reply.{Fine};
 ghost use Rattle.table_model.specs.Ask.{Creates, Removes};
 ghost use Rattle.table_model.specs.Flat.{answer};
 ghost use Rattle.image_model.specs.Tables.{table_of};
-ghost use Rattle.image_model.specs.Tidy.{IsTidy};
+ghost use Rattle.image_model.specs.Tidy.{IsTidy, HasReserve};
 ghost use Rattle.image_model.specs.Collect.{are_had};
 ghost use Rattle.page_cache.specs.Kept.{IsKept, FewReads};
 ghost use Rattle.volume.specs.Opening.{is_open, is_mounted, StaysUnless};
@@ -131,7 +131,7 @@ impl<'b, N: Nor> Volume<'b, N> {
     /// this order: `Failed` (also where the volume wasn't checked), `BadName`, `NameTooLong`, `ConflictingName`,
     /// `Tight`, `Full`, and `Unbuilt` where there is room but no free page without collecting garbage. After
     /// `DeviceFault` the volume has failed if a program was asked for; mounting and checking again gives the table
-    /// without the file or with it.
+    /// without the file or with it. A read that fails while the name and the room are looked up leaves it taking calls.
     pub fn create(&mut self, name: &[u8]) -> Result<(), FsErr>
         ensures cause { IsErrOf result FsErr.DeviceFault → Rose (N.faults self.old.nor.now) (N.faults self.new.nor.now) }
         ensures faults { N.faults self.old.nor.now ≤ N.faults self.new.nor.now }
@@ -142,7 +142,7 @@ impl<'b, N: Nor> Volume<'b, N> {
         ensures closed { takes_calls self.old ≡ false → (result ≡ Err FsErr.Failed) × (self.new.nor.now ≡ self.old.nor.now) }
         ensures failed { IsErrOf result FsErr.DeviceFault → (takes_calls self.new ≡ false) ⊎ OnlyReads N.NorState self.old.nor.now self.new.nor.now }
         ensures stops { takes_calls self.old ≡ true → takes_calls self.new ≡ false → N.tells self.old.nor.now → IsTidy self.old.geometry (N.bytes self.old.nor.now) → (s : State) → s.table ≡ table_of self.old.geometry (N.bytes self.old.nor.now) →
-            ((answer self.old.geometry true s (Creates name.now)).answer ≡ Fine) × (are_had self.old.geometry (N.bytes self.old.nor.now) 1 0 ≡ true) }
+            ((answer self.old.geometry true s (Creates name.now)).answer ≡ Fine) × HasReserve self.old.geometry (N.bytes self.old.nor.now) × (are_had self.old.geometry (N.bytes self.old.nor.now) 1 0 ≡ true) }
         ensures same { IsSameVolume self.old self.new }
     {
         if self.stage != Stage::Checked {
@@ -160,8 +160,9 @@ impl<'b, N: Nor> Volume<'b, N> {
 
     /// Removes the file of a name, and kills its pages; it needs no page. Refused, in this order: `Failed` (also where the
     /// volume wasn't checked), `BadName`, `NameTooLong`, `NotFound`. After `DeviceFault` the volume has failed if a
-    /// program was asked for; mounting and checking again gives the table with the file or without it. No call of this
-    /// build opens a descriptor, so there is none to close: `slots` stay as they are.
+    /// program was asked for; mounting and checking again gives the table with the file or without it. A read that fails
+    /// while the name is looked up leaves it taking calls. No call of this build opens a descriptor, so there is none to
+    /// close: `slots` stay as they are.
     pub fn remove(&mut self, name: &[u8]) -> Result<(), FsErr>
         ensures cause { IsErrOf result FsErr.DeviceFault → Rose (N.faults self.old.nor.now) (N.faults self.new.nor.now) }
         ensures faults { N.faults self.old.nor.now ≤ N.faults self.new.nor.now }
