@@ -103,13 +103,28 @@ fn a_cut_remove_leaves_the_whole_file_or_none(rt: HostRuntime) -> Result<(), Fai
         for pick in 0..5 {
             let mut board = board_of(alloc, &image)?;
             board.cut_after(passed, pick);
-            assert_eq!(rt; run(alloc, RUN, &mut board, b"remove a\n")?, 7, "at {passed} by {pick}");
+            assert_eq!(rt;
+                run(alloc, RUN, &mut board, b"remove a\n")?,
+                7,
+                "at {passed} by {pick}"
+            );
             let left = has_hello(alloc, board.image())?;
             let told = board.said() == b"ok\n".as_slice();
-            assert!(rt; left.is_some() && !(told && left == Some(true)), "at {passed} by {pick}");
+            assert!(rt;
+                left.is_some() && !(told && left == Some(true)),
+                "at {passed} by {pick}"
+            );
             let mut after = board_of(alloc, board.image())?;
-            assert_eq!(rt; run(alloc, RUN, &mut after, b"")?, 0, "at {passed} by {pick}");
-            assert_eq!(rt; has_hello(alloc, after.image())?, left, "at {passed} by {pick}");
+            assert_eq!(rt;
+                run(alloc, RUN, &mut after, b"")?,
+                0,
+                "at {passed} by {pick}"
+            );
+            assert_eq!(rt;
+                has_hello(alloc, after.image())?,
+                left,
+                "at {passed} by {pick}"
+            );
         }
     }
     Ok(())
