@@ -90,7 +90,7 @@ fn has_hello(alloc: Global, image: &[u8]) -> Result<Option<bool>, Fail> {
     let table = table_of(alloc, &g, image)?;
     Ok(match table.first() {
         None => Some(false),
-        Some(file) if table.len() == 1 && file.bytes.as_slice() == b"hello" => Some(true),
+        Some(file) if table.len() == 1 && file.bytes.as_slice() == b"hello".as_slice() => Some(true),
         Some(_) => None,
     })
 }
