@@ -1,5 +1,6 @@
-//! Power cuts in a run of creates, and in the recovery after them.
+//! Power cuts in a run of creates, in a remove, and in the recovery after them.
 use crate::bench::run;
+use crate::images::{empty, put_hello};
 use geometry::{Geometry, MagicKind};
 use image_plain::{holds_volume, table_of};
 use nor_core::{Failed, MemBoard};
@@ -19,6 +20,9 @@ const NAMES: [&[u8]; 3] = [b"a", b"b", b"c"];
 const EACH: u64 = 5;
 
 const CALLS: u64 = 3 * EACH;
+
+/// The programs and the reply of a remove of the file `a`: a mark, and two of each page that is killed.
+const REMOVE: u64 = 6;
 
 fn small() -> Result<Geometry, Fail> {
     Ok(Geometry::new(256, 4096, 4, 4096, 0, MagicKind::Length)?)
@@ -122,6 +126,58 @@ fn a_recovery_that_is_cut_leaves_the_files_too(rt: HostRuntime) -> Result<(), Fa
                     "at {passed}, {calls} by {pick}"
                 );
             }
+        }
+    }
+    Ok(())
+}
+
+// Whether an image holds the file `a` with its five bytes, if it holds that or nothing.
+fn has_hello(alloc: Global, image: &[u8]) -> Result<Option<bool>, Fail> {
+    let g = small()?;
+    if !holds_volume(&g, image) {
+        return Ok(None);
+    }
+    let table = table_of(alloc, &g, image)?;
+    Ok(match table.first() {
+        None => Some(false),
+        Some(file) if table.len() == 1 && file.bytes.as_slice() == b"hello".as_slice() => {
+            Some(true)
+        }
+        Some(_) => None,
+    })
+}
+
+#[test]
+fn a_cut_remove_leaves_the_whole_file_or_none(rt: HostRuntime) -> Result<(), Fail> {
+    let alloc = rt.alloc();
+    let mut image = empty(alloc, &small()?)?;
+    put_hello(&mut image);
+    for passed in 0..REMOVE {
+        for pick in 0..5 {
+            let mut board = board_of(alloc, &image)?;
+            board.cut_after(passed, pick);
+            assert_eq!(rt;
+                run(alloc, SMALL, &mut board, b"remove a\n")?,
+                7,
+                "at {passed} by {pick}"
+            );
+            let left = has_hello(alloc, board.image())?;
+            let told = board.said() == b"ok\n".as_slice();
+            assert!(rt;
+                left.is_some() && !(told && left == Some(true)),
+                "at {passed} by {pick}"
+            );
+            let mut after = board_of(alloc, board.image())?;
+            assert_eq!(rt;
+                run(alloc, SMALL, &mut after, b"")?,
+                0,
+                "at {passed} by {pick}"
+            );
+            assert_eq!(rt;
+                has_hello(alloc, after.image())?,
+                left,
+                "at {passed} by {pick}"
+            );
         }
     }
     Ok(())

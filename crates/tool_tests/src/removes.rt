@@ -1,13 +1,10 @@
-//! Files that are removed, and power cuts in a remove.
+//! Files that are removed.
 use crate::bench::{RUN, formatted, run};
 use crate::images::{board_of, empty, put_hello, volume};
 use geometry::MagicKind;
-use image_plain::{holds_volume, is_tidy, table_of};
+use image_plain::{holds_volume, is_tidy};
 use std::alloc::Global;
 use std::test::Fail;
-
-/// The programs of a remove of the file of `put_hello`, and its reply: a mark, and two of each killed page.
-const CALLS: u64 = 6;
 
 #[test]
 fn a_removed_file_is_gone_and_its_id_is_taken_again(rt: HostRuntime) -> Result<(), Fail> {
@@ -78,54 +75,5 @@ fn the_pages_of_a_removed_file_are_killed(rt: HostRuntime) -> Result<(), Fail> {
     assert_eq!(rt; image.get(4356), Some(&0x7C));
     assert!(rt; holds_volume(&g, image));
     assert!(rt; is_tidy(rt.alloc(), &g, image)?);
-    Ok(())
-}
-
-// Whether an image holds the file `a` with its five bytes, if it holds that or nothing.
-fn has_hello(alloc: Global, image: &[u8]) -> Result<Option<bool>, Fail> {
-    let g = volume()?;
-    if !holds_volume(&g, image) {
-        return Ok(None);
-    }
-    let table = table_of(alloc, &g, image)?;
-    Ok(match table.first() {
-        None => Some(false),
-        Some(file) if table.len() == 1 && file.bytes.as_slice() == b"hello".as_slice() => Some(true),
-        Some(_) => None,
-    })
-}
-
-#[test]
-fn a_cut_remove_leaves_the_whole_file_or_none(rt: HostRuntime) -> Result<(), Fail> {
-    let alloc = rt.alloc();
-    let image = hello(alloc)?;
-    for passed in 0..CALLS {
-        for pick in 0..5 {
-            let mut board = board_of(alloc, &image)?;
-            board.cut_after(passed, pick);
-            assert_eq!(rt;
-                run(alloc, RUN, &mut board, b"remove a\n")?,
-                7,
-                "at {passed} by {pick}"
-            );
-            let left = has_hello(alloc, board.image())?;
-            let told = board.said() == b"ok\n".as_slice();
-            assert!(rt;
-                left.is_some() && !(told && left == Some(true)),
-                "at {passed} by {pick}"
-            );
-            let mut after = board_of(alloc, board.image())?;
-            assert_eq!(rt;
-                run(alloc, RUN, &mut after, b"")?,
-                0,
-                "at {passed} by {pick}"
-            );
-            assert_eq!(rt;
-                has_hello(alloc, after.image())?,
-                left,
-                "at {passed} by {pick}"
-            );
-        }
-    }
     Ok(())
 }
