@@ -3,6 +3,7 @@
 
 mod choice;
 mod copying;
+mod emptying_data;
 mod moving;
 mod moving_data;
 mod naming;
@@ -10,6 +11,7 @@ mod next;
 mod scores;
 mod totals;
 
+pub use emptying_data::empty_data;
 pub use moving::move_index;
 pub use moving_data::move_data;
 pub use next::{are_had, choose, is_stuck};
