@@ -20,7 +20,8 @@ use Rattle.free_search.proofs.Had.{sum_none, no_blocks}
 use Rattle.block_gc.specs.DataMoves.{DataMoveCut}
 use Rattle.block_gc.specs.DataEmptied.{HasDataPlaces, DataTurnCut}
 use Rattle.block_gc.proofs.DataTurns.{data_there}
-use Rattle.block_gc.proofs.Tallies.{count_but, ceil_some}
+use Rattle.block_gc.proofs.Sums.{count_at}
+use Rattle.block_gc.proofs.Tallies.{ceil_some}
 
 pub page_counts : (g : Geometry) (a : List ℕ) (o block : ℕ) → is_entry_page g o ≡ true → block_of g o ≡ block → is_data_page (live_at g a o) ≡ true → 1 ≤ data_in g a block
 page_counts g a o block page at is =
@@ -42,7 +43,7 @@ no_parts g a block test none = sum_none (λ (c : ℕ). if not (c == block) && te
 one_block : (g : Geometry) (a : List ℕ) (x : ℕ) → x < g.blocks → ((c : ℕ) → c < g.blocks → c ≢ x → is_free_block g a c ≡ false) → free_blocks g a ≤ 1
 unfolding free_blocks
 one_block g a x small none =
-    let e = count_but (λ (c : ℕ). false) (λ (c : ℕ). is_free_block g a c) x 0 g.blocks (omega arith) (omega arith) (λ c from end other. none c (omega (arith, end)) other) in
+    let e = count_at (λ (c : ℕ). false) (λ (c : ℕ). is_free_block g a c) x 0 g.blocks (omega arith) (omega arith) (λ c from end other. none c (omega (arith, end)) other) in
     let zero_all = none_in (range_with_len 0 g.blocks) in
     ⊎_elim
     (λ (y : is_free_block g a x ≡ true). let f = rw y at e in omega (arith, f, zero_all))

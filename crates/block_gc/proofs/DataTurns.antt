@@ -26,7 +26,9 @@ use Rattle.free_search.proofs.Had.{sum_none}
 use Rattle.block_gc.specs.DataMoves.{CanMoveData, MovedData}
 use Rattle.block_gc.specs.DataEmptied.{blocks_needed, DataTurnCut, DataTurn}
 use Rattle.block_gc.proofs.MovedIndexes.{some_index}
-use Rattle.block_gc.proofs.Tallies.{count_but, sum_but, PlaceTaken, place_taken}
+use Rattle.block_gc.proofs.SameBlocks.{free_alike}
+use Rattle.block_gc.proofs.Sums.{count_at, sum_at}
+use Rattle.block_gc.proofs.Tallies.{PlaceTaken, place_taken}
 
 -- ---- pages of a block
 
@@ -176,19 +178,7 @@ module _ (g : Geometry) (a b : List ℕ) (o p j block : ℕ) (can : CanMoveData 
   magic_b c small = m.tidy.magic c small
 
   free_block_same : (c : ℕ) → c < g.blocks → c ≢ block_of g p → c ≢ block_of g j → is_free_block g b c ≡ is_free_block g a c
-  free_block_same c small not_p not_j =
-      let same = free_in_same c small not_p not_j in
-      ⊎_elim
-      (λ (free : is_free_block g a c ≡ true).
-      let whole = free_whole g a c free in
-      ⊎_elim
-      (λ (x : is_free_block g b c ≡ true). x ∙ sym free)
-      (λ (x : is_free_block g b c ≡ false). let less = used_less g b c (magic_b c small) x in absurd (omega (arith, whole, less, same)))
-      (cases_Bool (is_free_block g b c)))
-      (λ (used : is_free_block g a c ≡ false).
-      let less = used_less g a c (magic_a c small) used in
-      not_free g b c (omega (arith, less, same)) ∙ sym used)
-      (cases_Bool (is_free_block g a c))
+  free_block_same c small not_p not_j = free_alike g a b c (magic_a c small) (magic_b c small) (free_in_same c small not_p not_j)
 
   data_block_same : (c : ℕ) → c < g.blocks → c ≢ block → c ≢ block_of g p → is_data_block g b c ≡ is_data_block g a c
   unfolding is_data_block
@@ -225,7 +215,7 @@ module _ (g : Geometry) (a b : List ℕ) (o p j block : ℕ) (can : CanMoveData 
   unfolding free_in
   p_less =
       let v = entry_of_block g p to.page in
-      let e = count_but (λ (q : ℕ). is_free_entry g a q) (λ (q : ℕ). is_free_entry g b q) p (block_of g p * per_block g + lookups g) (entries g) v.0 v.1
+      let e = count_at (λ (q : ℕ). is_free_entry g a q) (λ (q : ℕ). is_free_entry g b q) p (block_of g p * per_block g + lookups g) (entries g) v.0 v.1
       (λ q from end other. let u = entry_in g (block_of g p) q p_low from end in free_same q u.1 other (other_page (block_of g p) q j u.0 (λ z. j_not_p (sym z)))) in
       let f = rw (to.free, p_used) at e in omega (arith, f)
 
@@ -233,7 +223,7 @@ module _ (g : Geometry) (a b : List ℕ) (o p j block : ℕ) (can : CanMoveData 
   unfolding free_in
   j_less =
       let v = entry_of_block g j index_to.page in
-      let e = count_but (λ (q : ℕ). is_free_entry g a q) (λ (q : ℕ). is_free_entry g b q) j (block_of g j * per_block g + lookups g) (entries g) v.0 v.1
+      let e = count_at (λ (q : ℕ). is_free_entry g a q) (λ (q : ℕ). is_free_entry g b q) j (block_of g j * per_block g + lookups g) (entries g) v.0 v.1
       (λ q from end other. let u = entry_in g (block_of g j) q j_low from end in free_same q u.1 (other_page (block_of g j) q p u.0 j_not_p) other) in
       let f = rw (index_to.free, j_used) at e in omega (arith, f)
 
@@ -244,7 +234,7 @@ module _ (g : Geometry) (a b : List ℕ) (o p j block : ℕ) (can : CanMoveData 
       let w = entry_of_block g o o_page in
       let from' : block * per_block g + lookups g ≤ o = rw at at w.0 in
       let end' : o < block * per_block g + lookups g + entries g = rw at at w.1 in
-      let e = count_but (λ (q : ℕ). is_data_page (live_at g a q)) (λ (q : ℕ). is_data_page (live_at g b q)) o (block * per_block g + lookups g) (entries g) from' end'
+      let e = count_at (λ (q : ℕ). is_data_page (live_at g a q)) (λ (q : ℕ). is_data_page (live_at g b q)) o (block * per_block g + lookups g) (entries g) from' end'
       (λ q from end other. let u = entry_in g block q low from end in data_same q other (other_page block q p u.0 (λ z. p_not_block (sym z)))) in
       let gone : is_data_page (live_at g b o) ≡ false = rw m.gone refl in
       let f = rw (can.copy.is_data, gone) at e in omega (arith, f)
@@ -261,9 +251,9 @@ module _ (g : Geometry) (a b : List ℕ) (o p j block : ℕ) (can : CanMoveData 
   unfolding free_blocks
   blocks_taken =
       let mid : ℕ → Bool = λ q. if q == block_of g p then is_free_block g b q else is_free_block g a q in
-      let first = count_but (λ (c : ℕ). is_free_block g a c) mid (block_of g p) 0 g.blocks (omega arith) (let small = p_low in omega arith)
+      let first = count_at (λ (c : ℕ). is_free_block g a c) mid (block_of g p) 0 g.blocks (omega arith) (let small = p_low in omega arith)
       (λ c from end other. rw (ne_eqb c (block_of g p) other) refl) in
-      let second = count_but mid (λ (c : ℕ). is_free_block g b c) (block_of g j) 0 g.blocks (omega arith) (let small = j_low in omega arith)
+      let second = count_at mid (λ (c : ℕ). is_free_block g b c) (block_of g j) 0 g.blocks (omega arith) (let small = j_low in omega arith)
       (λ c from end other. ⊎_elim
       (λ (here : c ≡ block_of g p). rw (eq-eqb c (block_of g p) here) refl)
       (λ (there : c ≡ block_of g p → ⊥). rw (ne_eqb c (block_of g p) there) (free_block_same c (omega (arith, end)) there other))
@@ -307,8 +297,8 @@ module _ (g : Geometry) (a b : List ℕ) (o p j block : ℕ) (can : CanMoveData 
 
   data_sum : free_outside g b block (takes_data g b) + data_part a (block_of g p) ≡ free_outside g a block (takes_data g a) + data_part b (block_of g p)
   unfolding free_where
-  data_sum = sum_but (λ (c : ℕ). if not (c == block) && takes_data g a c then free_in g a c else 0) (λ (c : ℕ). if not (c == block) && takes_data g b c then free_in g b c else 0)
-      (block_of g p) 0 g.blocks (omega arith) (let small = p_low in omega arith) (λ c from end other. data_others c (omega (arith, end)) other)
+  data_sum = sum_at (λ (c : ℕ). if not (c == block) && takes_data g b c then free_in g b c else 0) (λ (c : ℕ). if not (c == block) && takes_data g a c then free_in g a c else 0)
+      (block_of g p) 0 g.blocks (omega arith) (let small = p_low in omega arith) (λ c end other. data_others c (omega (arith, end)) other)
 
   p_takes : takes_data g b (block_of g p) ≡ true
   unfolding takes_data
@@ -379,8 +369,8 @@ module _ (g : Geometry) (a b : List ℕ) (o p j block : ℕ) (can : CanMoveData 
 
   index_sum : free_outside g b block (takes_index g b) + index_part a (block_of g j) ≡ free_outside g a block (takes_index g a) + index_part b (block_of g j)
   unfolding free_where
-  index_sum = sum_but (λ (c : ℕ). if not (c == block) && takes_index g a c then free_in g a c else 0) (λ (c : ℕ). if not (c == block) && takes_index g b c then free_in g b c else 0)
-      (block_of g j) 0 g.blocks (omega arith) (let small = j_low in omega arith) (λ c from end other. index_others c (omega (arith, end)) other)
+  index_sum = sum_at (λ (c : ℕ). if not (c == block) && takes_index g b c then free_in g b c else 0) (λ (c : ℕ). if not (c == block) && takes_index g a c then free_in g a c else 0)
+      (block_of g j) 0 g.blocks (omega arith) (let small = j_low in omega arith) (λ c end other. index_others c (omega (arith, end)) other)
 
   j_takes : takes_index g b (block_of g j) ≡ true
   unfolding takes_index

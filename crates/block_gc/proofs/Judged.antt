@@ -19,7 +19,7 @@ use Rattle.block_gc.proofs.Rooms.{room_is, data_is}
 
 -- ---- the free entries outside a block
 
-sum_same : (f h : ℕ → ℕ) (a n : ℕ) → ((q : ℕ) → a ≤ q → q < a + n → f q ≡ h q) → sum_by f (range_with_len a n) ≡ sum_by h (range_with_len a n)
+pub sum_same : (f h : ℕ → ℕ) (a n : ℕ) → ((q : ℕ) → a ≤ q → q < a + n → f q ≡ h q) → sum_by f (range_with_len a n) ≡ sum_by h (range_with_len a n)
 sum_same f h a zero same = refl
 sum_same f h a (suc n) same =
     let first = same a (omega arith) (omega arith) in
@@ -45,7 +45,7 @@ sum_but f h k a (suc n) low high none same =
     omega (arith, rest, left, right, first))
     (cases_eq a k)
 
-outside : (g : Geometry) (image : List ℕ) (block : ℕ) (test : ℕ → Bool) → block < g.blocks → free_outside g image block test + (if test block then free_in g image block else 0) ≡ free_where g image test
+pub outside : (g : Geometry) (image : List ℕ) (block : ℕ) (test : ℕ → Bool) → block < g.blocks → free_outside g image block test + (if test block then free_in g image block else 0) ≡ free_where g image test
 unfolding free_where
 outside g image block test below =
     sum_but

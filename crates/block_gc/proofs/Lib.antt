@@ -7,6 +7,11 @@ pub mod Renewed
 pub mod MovedIndexes
 pub mod Building
 pub mod MoveCalls
+pub mod Sums
+pub mod SameBlocks
+pub mod OneTurn
+pub mod Turns
+pub mod TurnCalls
 pub mod SlotNames
 pub mod DataCopies
 pub mod DataRenewed

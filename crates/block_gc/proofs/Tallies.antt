@@ -1,53 +1,8 @@
--- Counts and sums over a range where one number changes, and the places that so many pages need.
-use Rattle.std.proofs.Common.{◌≡◌, ◌≢◌, ℕ, zero, suc, ◌+◌, ◌-◌, ◌/◌, ◌<◌, ◌≤◌, ◌⊎◌, length, Bool, true, false, cond, ap, sym, arith, ⊎_elim}
-use Rattle.std.specs.Prelude.{filter, sum_by}
-use Rattle.std.specs.List.{range_with_len}
+-- The free blocks that so many pages need beside the free entries, and one place less.
+use Rattle.std.proofs.Common.{◌≡◌, ℕ, ◌+◌, ◌-◌, ◌/◌, ◌<◌, ◌≤◌, ◌⊎◌, sym, arith, ⊎_elim}
 use Rattle.std.proofs.Math.Nat.{div-eq_of_lt, add-div_right}
-use Rattle.std.proofs.lemmas.Bool.{cases_lt, cases_eq, cases_Bool}
-use Rattle.std.proofs.lemmas.List.Sums.{sum_by-cons}
+use Rattle.std.proofs.lemmas.Bool.{cases_lt}
 use Rattle.geometry.specs.Numbers.{ceil}
-use Rattle.image_laws.proofs.FreeBlocks.{filter-same}
-use Rattle.image_laws.proofs.Matching.{sum-range}
-
--- how many pass, where one number alone passes otherwise
-pub count_but : (test now : ℕ → Bool) (c a n : ℕ) → a ≤ c → c < a + n → ((q : ℕ) → a ≤ q → q < a + n → q ≢ c → now q ≡ test q) →
-    length (filter now (range_with_len a n)) + cond (test c) 1 0 ≡ length (filter test (range_with_len a n)) + cond (now c) 1 0
-count_but test now c a zero low high same = absurd (omega arith)
-count_but test now c a (suc n) low high same =
-    ⊎_elim
-    (λ (here : a ≡ c).
-    let rest : length (filter now (range_with_len (a + 1) n)) ≡ length (filter test (range_with_len (a + 1) n)) =
-    filter-same test now (a + 1) n (λ q from to. same q (omega arith) (omega arith) (λ e. omega (arith, e, here))) in
-    let t : test c ≡ test a = ap test (sym here) in
-    let u : now c ≡ now a = ap now (sym here) in
-    rw (t, u)
-    (⊎_elim
-    (λ (x : test a ≡ true). ⊎_elim (λ (y : now a ≡ true). rw (x, y) (omega (arith, rest))) (λ (y : now a ≡ false). rw (x, y) (omega (arith, rest))) (cases_Bool (now a)))
-    (λ (x : test a ≡ false). ⊎_elim (λ (y : now a ≡ true). rw (x, y) (omega (arith, rest))) (λ (y : now a ≡ false). rw (x, y) (omega (arith, rest))) (cases_Bool (now a)))
-    (cases_Bool (test a))))
-    (λ (there : a ≡ c → ⊥).
-    let rest = count_but test now c (a + 1) n (omega (arith, there)) (omega arith) (λ q from to other. same q (omega arith) (omega arith) other) in
-    rw (same a (omega arith) (omega arith) there)
-    (⊎_elim (λ (x : test a ≡ true). rw x (omega (arith, rest))) (λ (x : test a ≡ false). rw x (omega (arith, rest))) (cases_Bool (test a))))
-    (cases_eq a c)
-
--- a sum in which one part changes
-pub sum_but : (f h : ℕ → ℕ) (c a n : ℕ) → a ≤ c → c < a + n → ((q : ℕ) → a ≤ q → q < a + n → q ≢ c → h q ≡ f q) → sum_by h (range_with_len a n) + f c ≡ sum_by f (range_with_len a n) + h c
-sum_but f h c a zero low high same = absurd (omega arith)
-sum_but f h c a (suc n) low high same =
-    let x = sum_by-cons f a (range_with_len (a + 1) n) in
-    let y = sum_by-cons h a (range_with_len (a + 1) n) in
-    ⊎_elim
-    (λ (here : a ≡ c).
-    let rest : sum_by h (range_with_len (a + 1) n) ≡ sum_by f (range_with_len (a + 1) n) = sum-range h f (a + 1) n (λ q from to. same q (omega arith) (omega arith) (λ e. omega (arith, e, here))) in
-    let t : f c ≡ f a = ap f (sym here) in
-    let u : h c ≡ h a = ap h (sym here) in
-    omega (arith, rest, t, u, x, y))
-    (λ (there : a ≡ c → ⊥).
-    let rest = sum_but f h c (a + 1) n (omega (arith, there)) (omega arith) (λ q from to other. same q (omega arith) (omega arith) other) in
-    let first = same a (omega arith) (omega arith) there in
-    omega (arith, rest, first, x, y))
-    (cases_eq a c)
 
 -- one place less is free, or a block is opened: x blocks are taken
 pub record PlaceTaken (entries free now x : ℕ) : Type 0 where

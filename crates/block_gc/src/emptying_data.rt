@@ -11,24 +11,11 @@ ghost use Rattle.flash_view.specs.Places.{IsEntryPage};
 ghost use Rattle.flash_view.specs.Same.{IsSameView, OnlyLooks};
 ghost use Rattle.block_gc.specs.DataEmptied.{HasDataPlaces, CanMoveDataOut, ArePlaces, DataTurnCut, DataTurn, DataEmptied};
 
+use crate::emptying::no_place;
 use crate::moving_data::move_data;
 use flash_view::{Kind, StepErr, View, block_of, entry_page};
 use free_search::free_page;
 use nor_core::{Failed, Nor, NorState};
-use table_model::{Differ, Tag};
-
-// That no place was found for a data page.
-fn no_data_place(page: u16) -> Differ {
-    let none = Tag {
-        id: 0xFFFF,
-        span: 0xFFFF,
-    };
-    Differ {
-        page,
-        wanted: none,
-        found: none,
-    }
-}
 
 // Whether a page is a live data page.
 #[tactic(auto, using(flash_view::proofs::Looking::looks_then))]
@@ -76,7 +63,7 @@ fn move_out<N: Nor>(v: &mut View<'_, N>, page: u16, block: u16) -> Result<(), St
 {
     match find_places(v, block) {
         Err(Failed) => Err(StepErr::DeviceFault),
-        Ok(None) => Err(StepErr::Damaged(no_data_place(page))),
+        Ok(None) => Err(StepErr::Damaged(no_place(page))),
         Ok(Some((to, index_to))) => match move_data(v, page, to, index_to) {
             Err(Failed) => Err(StepErr::DeviceFault),
             Ok(()) => Ok(()),

@@ -3,6 +3,7 @@
 
 mod choice;
 mod copying;
+mod emptying;
 mod emptying_data;
 mod moving;
 mod moving_data;
@@ -11,6 +12,7 @@ mod next;
 mod scores;
 mod totals;
 
+pub use emptying::clean_index;
 pub use emptying_data::empty_data;
 pub use moving::move_index;
 pub use moving_data::move_data;

@@ -1,9 +1,9 @@
 // Moving one index page out of a block, the step of which the cleaning of an index block consists.
-ghost use Rattle.std.specs.Prelude.{◌≡◌, ◌+◌, ◌-◌, ◌^◌, ◌<◌, ◌≤◌, OnErr, OnOk, IfOk, true};
+ghost use Rattle.std.specs.Prelude.{◌≡◌, ◌+◌, ◌-◌, ◌^◌, ◌<◌, ◌≤◌, OnErr, OnOk, IfOk, true, false};
 ghost use Rattle.geometry.specs.Numbers.{page_count};
 ghost use Rattle.table_model.specs.Room.{data_pages as the_data_pages};
 ghost use Rattle.nor_core.specs.Count.{Rose};
-ghost use Rattle.nor_core.specs.Device.{Changes};
+ghost use Rattle.nor_core.specs.Device.{Changes, OnlyReads};
 ghost use Rattle.image_model.specs.Kinds.{is_index_page};
 ghost use Rattle.image_model.specs.Live.{live_at};
 ghost use Rattle.image_model.specs.Headers.{size_of};
@@ -103,6 +103,8 @@ pub fn move_index<N: Nor>(v: &mut View<'_, N>, page: u16, to: u16) -> Result<(),
     ensures cause { OnErr result (Rose (N.faults v.old.nor.now) (N.faults v.new.nor.now)) }
     ensures faults { N.faults v.old.nor.now ≤ N.faults v.new.nor.now }
     ensures same { IsSameView v.old v.new }
+    ensures wrote { v.old.wrote ≡ true → v.new.wrote ≡ true }
+    ensures untouched { v.old.wrote ≡ false → v.new.wrote ≡ false → OnlyReads N.NorState v.old.nor.now v.new.nor.now }
     ensures changes { Changes N.NorState v.old.nor.now v.new.nor.now (λ was image. CanMove v.old.geometry was page to → MoveCut v.old.geometry to was image) }
     ensures done { N.tells v.old.nor.now → CanMove v.old.geometry (N.bytes v.old.nor.now) page to → OnOk result (MovedIndex v.old.geometry page to (N.bytes v.old.nor.now) (N.bytes v.new.nor.now)) }
 {
