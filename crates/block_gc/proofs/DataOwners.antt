@@ -69,7 +69,7 @@ module _ (g : Geometry) (image : List ℕ) (page : ℕ) (is : IsImage g image) (
   -- there is one
   pub one_found : None ≡ index_page g (own (live_at g image) id) span → ⊥
   one_found none =
-      let gone : index_page g (own (live_at g image) (obj_id there.0 % 0x8000)) (index_span g (span_of there.0)) ≡ None = 
+      let gone : index_page g (own (live_at g image) (obj_id there.0 % 0x8000)) (index_span g (span_of there.0)) ≡ None =
       sym (none ∙ ap (λ (n : ℕ). index_page g (own (live_at g image) n) span) id_of ∙ ap (index_page g (own (live_at g image) (obj_id there.0 % 0x8000))) span_at) in
       no_entry _ (own (live_at g image) (obj_id there.0 % 0x8000)) (λ (l : List ℕ). slot_word g l (span_of there.0)) _ page
       (entry-slot g (own (live_at g image) (obj_id there.0 % 0x8000)) home.h home.head (span_of there.0) home.at home.header) gone named.1

@@ -81,6 +81,7 @@ some_in o f n is x at = let e : Some (f x) ≡ Some n = rw at at is in same_Some
 module _ (g : Geometry) (a0 b0 : List ℕ) (o p j w : ℕ) (tag : Tag) (can : CanMoveData g a0 o p j) (copied : CopiedData g o p a0 b0) (named : IsNamedBy g a0 o w tag) where
   is : IsImage g a0
   is = copied.image
+
   abbrev id : ℕ
   id = obj_id copied.old % 0x8000
 

@@ -19,6 +19,7 @@ use Rattle.image_laws.proofs.SpareKill.{tidy-has_magics}
 use Rattle.image_laws.proofs.TidySteps.{tidy-is_tidy}
 use Rattle.flash_view.specs.Places.{block_of as block_at}
 use Rattle.image_model.specs.Volume.{per_block, lookups, entries}
+use Rattle.room_laws.proofs.Emptied.{emptying_begins}
 use Rattle.free_search.specs.Free.{IsFreeFor, FreePage}
 use Rattle.free_search.proofs.FoundPage.{free_of}
 use Rattle.block_gc.specs.DataMoves.{CanMoveData, DataMoveCut, MovedData}
@@ -103,6 +104,8 @@ idle_turn g a o block places none = record {
   places = places;
   gone = none;
   others = λ q here was. was;
+  used = λ was. was;
+  moves = λ first so_far. so_far;
   taken = refl;
 }
 
@@ -118,11 +121,11 @@ turn_before g o block {D} {nor} {old} {mid} {new} reads g1 same seen change =
 
 -- ---- turn after turn
 
-no_page : (g : Geometry) (a : List ℕ) (q : ℕ) → (is_entry_page g q ≡ true → ⊥) → is_data_page (live_at g a q) ≡ false
+pub no_page : (g : Geometry) (a : List ℕ) (q : ℕ) → (is_entry_page g q ≡ true → ⊥) → is_data_page (live_at g a q) ≡ false
 no_page g a q none = false_from_ne_true _ (λ yes. none (live_entry g a q yes))
 
 -- a page of such a block that isn't a live data page isn't live
-dead_of : (g : Geometry) (a : List ℕ) (block q : ℕ) → HasDataPlaces g a block → block_of g q ≡ block → is_data_page (live_at g a q) ≡ false → live_at g a q ≡ None
+pub dead_of : (g : Geometry) (a : List ℕ) (block q : ℕ) → HasDataPlaces g a block → block_of g q ≡ block → is_data_page (live_at g a q) ≡ false → live_at g a q ≡ None
 dead_of g a block q places here none = go (live_at g a q) refl
   where
     go : (x : Option (List ℕ)) → live_at g a q ≡ x → live_at g a q ≡ None
@@ -137,6 +140,8 @@ emptied_start g block p a first places = record {
   keeps = (turn_stays g a block places).keeps;
   places = places;
   gone = λ q here below. no_page g a q (λ page. let v = entry_of_block g q page in let low : block * per_block g + lookups g ≤ q = rw here at v.0 in absurd (omega (arith, low, below, first)));
+  used = λ was. was;
+  moves = emptying_begins g a block places.tidy;
   taken = refl;
 }
 
@@ -153,6 +158,8 @@ emptied_then g g1 block p at next was mid now same here more before turn =
           (λ (other : q ≡ p → ⊥).
           let none = step.others q inside (dead_of g mid block q before.places inside (before.gone q inside (omega (arith, below, more, other)))) in rw none refl)
           (cases_eq q p);
+      used = λ e. step.used (before.used e);
+      moves = step.moves was before.moves;
       taken = omega (arith, sums, taken);
     }
 
@@ -164,6 +171,8 @@ emptied_end g block p was now all last before = record {
       (λ (low : q < p). before.gone q inside low)
       (λ (high : p ≤ q). no_page g now q (λ page. let v = entry_of_block g q page in let end : q < block * per_block g + lookups g + entries g = rw inside at v.1 in absurd (omega (arith, end, high, last))))
       (cases_lt q p);
+  used = before.used;
+  moves = before.moves;
   taken = before.taken;
 }
 

@@ -1,5 +1,5 @@
 -- After a data page was moved out of its block: which blocks have changed, and how many are needed then.
-use Rattle.std.proofs.Common.{◌≡◌, ◌≢◌, ℕ, ◌+◌, ◌-◌, ◌*◌, ◌<◌, ◌≤◌, List, Bool, true, false, not, cond, ◌==◌, ◌&&◌, Option, Some, None, ap, refl, sym, ◌∙◌, arith, ⊎_elim, inl, inr}
+use Rattle.std.proofs.Common.{◌≡◌, ◌≢◌, ℕ, ◌+◌, ◌-◌, ◌*◌, ◌<◌, ◌≤◌, List, Bool, true, false, not, cond, ◌==◌, ◌&&◌, Option, Some, None, ap, refl, sym, ◌∙◌, subst, arith, ⊎_elim, inl, inr}
 use Rattle.std.specs.Prelude.{if◌then◌else◌}
 use Rattle.std.proofs.lemmas.Bool.{cases_eq, cases_Bool, and_parts, eq-eqb, ne_eqb, eqb-true, false_from_ne_true}
 use Rattle.std.proofs.lemmas.Option.{none-some}
@@ -23,6 +23,8 @@ use Rattle.free_search.specs.Free.{IsFreeFor}
 use Rattle.free_search.proofs.Counting.{free_is_dead}
 use Rattle.free_search.proofs.FreePages.{free_whole, used_less, not_free, dead_data, data_none, data_parts, index_parts, some_entries}
 use Rattle.free_search.proofs.Had.{sum_none}
+use Rattle.room_laws.specs.Emptying.{DataMoved, IsDataPlace, DataEmptying}
+use Rattle.room_laws.proofs.Emptied.{emptying_goes_on}
 use Rattle.block_gc.specs.DataMoves.{CanMoveData, MovedData}
 use Rattle.block_gc.specs.DataEmptied.{blocks_needed, DataTurnCut, DataTurn}
 use Rattle.block_gc.proofs.MovedIndexes.{some_index}
@@ -429,6 +431,36 @@ module _ (g : Geometry) (a b : List ℕ) (o p j block : ℕ) (can : CanMoveData 
       let two = place_taken (entries g) (data_in g a block) (free_outside g a block (takes_data g a)) (free_outside g b block (takes_data g b)) free_p some some_data data_taken in
       rw now (omega (arith, one, two))
 
+  -- the pages went where a cleaning puts them
+  place : IsDataPlace g a (block_of g o) p
+  place = record {
+    apart = λ e. p_not_block (e ∙ at);
+    kind = ⊎_elim (λ (free : is_free_block g a (block_of g p) ≡ true). inr free) (λ (used : is_free_block g a (block_of g p) ≡ false). inl (to.opened used)) (cases_Bool (is_free_block g a (block_of g p)));
+    last = λ free other below differ takes. to.last free other below (λ e. differ (Rattle.std.proofs.lemmas.Option.same_Some other block e ∙ sym at)) takes;
+  }
+
+  moved : DataMoved g o p m.index j a b
+  moved = record {
+    before = can.copy.tidy;
+    after = m.tidy;
+    table = m.table;
+    held = can.copy.is_data;
+    index = m.index_was;
+    to_page = to.page;
+    to_free = to.free;
+    renamed_free = index_to.free;
+    page_killed = m.killed;
+    named_killed = m.index_killed;
+    to_held = rw m.moved (rw m.copied.data_kind refl);
+    renamed_index = rw m.renewed m.index_kind;
+    others = λ q page w x y z. record { entry = m.entries q page w x y z; bytes = m.pages q page w x y z; live = m.live q w x y z };
+  }
+
+  moves : (first : List ℕ) → DataEmptying g first block a → DataEmptying g first block b
+  moves first so_far =
+      subst (λ (c : ℕ). DataEmptying g first c b) at
+      (emptying_goes_on g first a b o p m.index j (subst (λ (c : ℕ). DataEmptying g first c a) (sym at) so_far) place moved)
+
   pub turn_done : blocks_needed g a block ≤ free_blocks g a → DataTurnCut g block a b → DataTurn g block o a b
   turn_done fits cut =
       let need = needed in
@@ -445,5 +477,7 @@ module _ (g : Geometry) (a b : List ℕ) (o p j block : ℕ) (can : CanMoveData 
             let not_o : q ≢ o = λ e. none-some page_o.0 (sym was ∙ ap (live_at g a) e ∙ page_o.1) in
             let not_w : q ≢ m.index = λ e. none-some index.0 (sym was ∙ ap (live_at g a) e ∙ index.1) in
             m.live q not_o (other_page block q p here (λ e. p_not_block (sym e))) not_w (other_page block q j here (λ e. j_not_block (sym e))) ∙ was;
+        used = λ was. free_block_same block low (λ e. p_not_block (sym e)) (λ e. j_not_block (sym e)) ∙ was;
+        moves = moves;
         taken = omega (arith, need, taken);
       }

@@ -22,3 +22,7 @@ pub mod Tallies
 pub mod DataTurns
 pub mod DataPlaces
 pub mod DataTurnCalls
+pub mod Freshened
+pub mod CleanedBlocks
+pub mod DataCleaned
+pub mod Cleanings

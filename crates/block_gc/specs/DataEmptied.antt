@@ -3,11 +3,12 @@ use Rattle.std.specs.Prelude.{◌≡◌, ℕ, ◌+◌, ◌<◌, ◌≤◌, List,
 use Rattle.geometry.specs.declared.geometry.Geometry.{Geometry}
 use Rattle.image_model.specs.Live.{live_at}
 use Rattle.image_model.specs.Places.{block_of}
-use Rattle.image_model.specs.Tidy.{IsTidy, free_blocks}
+use Rattle.image_model.specs.Tidy.{IsTidy, is_free_block, free_blocks}
 use Rattle.image_model.specs.Kinds.{is_data_page, is_index_block}
 use Rattle.image_model.specs.Collect.{data_in, free_outside, takes_index, takes_data, blocks_for}
 use Rattle.image_model.specs.Sound.{Keeps}
 use Rattle.flash_view.specs.declared.kinds.Kind.TheVariants.{Index, Data}
+use Rattle.room_laws.specs.Emptying.{DataEmptying}
 use Rattle.free_search.specs.Free.{IsFreeFor}
 
 -- the free blocks that the live data pages of a block, and as many index pages, need beside the free entries of other blocks
@@ -31,12 +32,14 @@ pub record DataTurnCut (g : Geometry) (block : ℕ) (was image : List ℕ) : Typ
   pub keeps : Keeps g was image
   pub free : free_blocks g was ≤ free_blocks g image + blocks_needed g was block
 
--- After the turn of page p of the block that page isn't a live data page, and no other page of the block is live that wasn't. As many free blocks were taken as fewer are needed.
+-- After the turn of page p of the block that page isn't a live data page, and no other page of the block is live that wasn't. As many free blocks were taken as fewer are needed, each page going where a cleaning puts it.
 pub record DataTurn (g : Geometry) (block p : ℕ) (was now : List ℕ) : Type 0 where
   pub cut : DataTurnCut g block was now
   pub places : HasDataPlaces g now block
   pub gone : is_data_page (live_at g now p) ≡ false
   pub others : (q : ℕ) → block_of g q ≡ block → live_at g was q ≡ None → live_at g now q ≡ None
+  pub used : is_free_block g was block ≡ false → is_free_block g now block ≡ false
+  pub moves : (first : List ℕ) → DataEmptying g first block was → DataEmptying g first block now
   pub taken : free_blocks g was + blocks_needed g now block ≡ free_blocks g now + blocks_needed g was block
 
 -- the places of a data page and of the index page that names it: neither is in the block, and they are in two blocks
@@ -44,9 +47,11 @@ abbrev pub ArePlaces : Geometry → List ℕ → ℕ → Option (ℕ × ℕ) →
 ArePlaces g image block None = ⊥
 ArePlaces g image block (Some (to, index_to)) = IsFreeFor g image Data 0 (Some block) to × IsFreeFor g image Index 0 (Some (block_of g to)) index_to
 
--- No page of the block below p is a live data page any more. As many free blocks were taken as fewer are needed.
+-- No page of the block below p is a live data page any more. As many free blocks were taken as fewer are needed, and the pages that were moved went where a cleaning puts them.
 pub record DataEmptied (g : Geometry) (block p : ℕ) (was now : List ℕ) : Type 0 where
   pub keeps : Keeps g was now
   pub places : HasDataPlaces g now block
   pub gone : (q : ℕ) → block_of g q ≡ block → q < p → is_data_page (live_at g now q) ≡ false
+  pub used : is_free_block g was block ≡ false → is_free_block g now block ≡ false
+  pub moves : DataEmptying g was block now
   pub taken : free_blocks g was + blocks_needed g now block ≡ free_blocks g now + blocks_needed g was block

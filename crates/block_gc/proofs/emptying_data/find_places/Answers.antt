@@ -20,7 +20,8 @@ pub returns-clause-told : goal.returns-clause-told
 returns-clause-told g c = λ tells places some.
     let looks = c.in_ok-to.ensures.looks in
     let geometry = c.args.v.now.geometry in
-    let image = g.N.NorState.bytes c.args.v.now.nor.now in
-    (rw c.in-Some.is at (c.in_ok-to.ensures.told tells places.tidy),
-    beside_told geometry image c.in-Some.to c.block_of-beside.result (Some c.in-Some-2.index_to) (rw looks.same.geometry at c.block_of-beside.ensures.block)
-    (rw c.in-Some-2.is at (rw (looks.same.geometry, looks.reads.bytes) at (c.in_ok-index_to.ensures.told (looks.reads.told tells) (rw (looks.same.geometry, looks.reads.bytes) places.tidy)))))
+    let image = g.N.NorState.bytes c.args.v.now.nor.now in (
+      rw c.in-Some.is at (c.in_ok-to.ensures.told tells places.tidy),
+      beside_told geometry image c.in-Some.to c.block_of-beside.result (Some c.in-Some-2.index_to) (rw looks.same.geometry at c.block_of-beside.ensures.block)
+          (rw c.in-Some-2.is at (rw (looks.same.geometry, looks.reads.bytes) at (c.in_ok-index_to.ensures.told (looks.reads.told tells) (rw (looks.same.geometry, looks.reads.bytes) places.tidy)))),
+    )
