@@ -18,3 +18,11 @@ pub mod DataRenewed
 pub mod DataOwners
 pub mod DataCalls
 pub mod DataBuilding
+pub mod Tallies
+pub mod DataTurns
+pub mod DataPlaces
+pub mod DataTurnCalls
+pub mod Freshened
+pub mod CleanedBlocks
+pub mod DataCleaned
+pub mod Cleanings

@@ -5,27 +5,22 @@ use Rattle.std.proofs.Math.Nat.{div-add-mod}
 use Rattle.std.proofs.lemmas.Bool.{cases_eq, cases_lt, cases_Bool, eq-eqb, leb-true}
 use Rattle.geometry.specs.declared.geometry.Geometry.{Geometry}
 use Rattle.geometry.specs.Numbers.{ceil}
-use Rattle.nor_core.specs.Flash.{SameOutside}
 use Rattle.image_model.specs.Volume.{per_block, lookups, entries, page_count}
-use Rattle.image_model.specs.Within.{sizes, page_number, entry_of_block}
+use Rattle.image_model.specs.Within.{page_number, entry_of_block}
 use Rattle.image_model.specs.Live.{live_at}
-use Rattle.image_model.specs.Places.{block_of, has_magic, entry_of, next_count, IsImage}
-use Rattle.image_model.specs.Tidy.{IsTidy, is_free_entry, is_wanted, is_free_block, free_blocks}
+use Rattle.image_model.specs.Places.{block_of, next_count, IsImage}
+use Rattle.image_model.specs.Tidy.{is_free_block, free_blocks}
 use Rattle.image_model.specs.Kinds.{is_data_block}
 use Rattle.image_model.specs.Collect.{index_in, data_in, free_where, free_outside, takes_index, takes_data, is_fitting}
-use Rattle.image_laws.proofs.Erase.{live-other}
-use Rattle.image_laws.proofs.Erasing.{erasing-sound}
-use Rattle.image_laws.proofs.Frames.{live_parts, table_of-same, damaged_of-same}
+use Rattle.image_laws.proofs.Frames.{live_parts, table_of-same}
 use Rattle.image_laws.proofs.Sounding.{keeps-on}
-use Rattle.image_laws.proofs.TidySteps.{wanted-same}
-use Rattle.free_search.proofs.Beside.{page_other, magic_other, entry_other, free_entry_other, free_magic, free_entry_at, free_dead}
 use Rattle.free_search.proofs.FreePages.{data_none, data_some, some_entries}
 use Rattle.page_put.specs.Fresh.{Freshens, IsFresh}
 use Rattle.block_gc.specs.Emptied.{CanCleanIndex, places_beside, HasPlaces, HasFewPlaces, TurnCut, IsSameBeside, TurnDone, CleanCut, Emptied, CleanedIndex}
 use Rattle.block_gc.proofs.Judged.{sum_same, outside}
 use Rattle.block_gc.proofs.OneTurn.{share, turn_stays, free_takes}
-use Rattle.block_gc.proofs.SameBlocks.{SameBlock, same_deleted, same_pages, same_entries, same_free, same_takes}
-use Rattle.block_gc.proofs.Sums.{count_at}
+use Rattle.block_gc.proofs.SameBlocks.{SameBlock, same_deleted, same_pages, same_entries, same_takes}
+use Rattle.block_gc.proofs.Freshened.{away, free_changes, free_falls, fresh_keeps, fresh_live, fresh_tidy}
 
 -- ---- turn after turn
 
@@ -162,43 +157,11 @@ module _ (g : Geometry) (block : ℕ) (first a : List ℕ) (is : IsImage g a) (b
       none None e high = e
       none (Some x) e high = let low = page_number g q (live_parts g a q x e).entry_page in absurd (omega (arith, low, high))
 
-  magics : (d : ℕ) → d < g.blocks → has_magic g a d ≡ true
-  magics d low = empty.places.tidy.magic d low
-
-  module _ (b : List ℕ) (change : SameOutside (block * g.block) g.block a b) where
-    away : (d : ℕ) → d ≢ block → SameBlock g d a b
-    away d differ =
-        let there : (q : ℕ) → block_of g q ≡ d → block_of g q ≢ block = λ q here e. differ (sym here ∙ e) in
-        record {
-          magic = magic_other g a b block change d differ;
-          entry = λ q page here. entry_other g a b block change q (there q here);
-          page = λ q page here. page_other g a b block change q (there q here);
-          live = λ q page here. live-other g (sizes g) a b block change q (there q here);
-        }
-
-    free_changes : free_blocks g b + cond (is_free_block g a block) 1 0 ≡ free_blocks g a + cond (is_free_block g b block) 1 0
-    unfolding free_blocks
-    free_changes =
-        count_at (λ d. is_free_block g a d) (λ d. is_free_block g b d) block 0 g.blocks (omega arith) (omega (arith, below))
-        (λ d low high differ. same_free g a b d (omega arith) (away d differ) (magics d (omega arith)))
-
-    -- so fewer blocks are free by one at most, and that only where this one was
-    free_falls : (free_blocks g a ≤ free_blocks g b + 1) × (is_free_block g a block ≡ false → free_blocks g a ≤ free_blocks g b)
-    free_falls =
-        let all = free_changes in (
-          ⊎_elim (λ (yes : is_free_block g a block ≡ true). let step = rw yes at all in omega (arith, step)) (λ (no : is_free_block g a block ≡ false). let step = rw no at all in omega (arith, step)) (cases_Bool (is_free_block g a block)),
-          λ no. let step = rw no at all in omega (arith, step),
-        )
-
   pub fresh_cut : (x : List ℕ) → Freshens g block a x → CleanCut g first x
   fresh_cut x cut =
-      let fall = free_falls x cut.outside in
+      let fall = free_falls g block a x cut.outside below empty.places.tidy in
       record {
-        keeps = keeps-on g first a x empty.keeps (erasing-sound g a x block is (λ d low differ. magics d low) cut.outside dead
-            (⊎_elim
-            (λ (same : x ≡ a). λ q here. ap (λ (l : List ℕ). live_at g l q) same ∙ dead q here)
-            (λ (gone : (q : ℕ) → block_of g q ≡ block → live_at g x q ≡ None). gone)
-            cut.dead));
+        keeps = keeps-on g first a x empty.keeps (fresh_keeps g block a empty.places.tidy dead is x cut);
         free = ⊎_elim
             (λ (none : free_blocks g first ≤ free_blocks g a). omega (arith, none, fall.0))
             (λ (one : (free_blocks g first ≤ free_blocks g a + 1) × HasFewPlaces g a block). let more = fall.1 one.1.used in omega (arith, one.0, more))
@@ -206,38 +169,14 @@ module _ (g : Geometry) (block : ℕ) (first a : List ℕ) (is : IsImage g a) (b
       }
 
   module _ (count : ℕ) (b : List ℕ) (fresh : IsFresh g block count a b) (next : count ≡ next_count g first) where
-    live : (q : ℕ) → live_at g b q ≡ live_at g a q
-    live q =
-        ⊎_elim
-        (λ (here : block_of g q ≡ block). free_dead g b block fresh.free q here ∙ sym (dead q here))
-        (λ (there : block_of g q ≡ block → ⊥). live-other g (sizes g) a b block fresh.outside q there)
-        (cases_eq (block_of g q) block)
-
-    tidy : IsTidy g b
-    tidy = record {
-      magic = λ d low. ⊎_elim
-          (λ (here : d ≡ block). rw here (free_magic g b block fresh.free))
-          (λ (there : d ≡ block → ⊥). magic_other g a b block fresh.outside d there ∙ magics d low)
-          (cases_eq d block);
-      entries = λ q page. ⊎_elim
-          (λ (here : block_of g q ≡ block). inr (inl (free_entry_at g b block fresh.free q page here)))
-          (λ (there : block_of g q ≡ block → ⊥). ⊎_elim
-          (λ (zero : entry_of g a q ≡ 0). inl (entry_other g a b block fresh.outside q there ∙ zero))
-          (λ (rest : (is_free_entry g a q ≡ true) ⊎ (is_wanted g a q ≡ true)). inr (⊎_elim
-          (λ (free : is_free_entry g a q ≡ true). inl (free_entry_other g a b block fresh.outside q there ∙ free))
-          (λ (wanted : is_wanted g a q ≡ true). inr (wanted-same g a b live q ∙ wanted))
-          rest))
-          (empty.places.tidy.entries q page))
-          (cases_eq (block_of g q) block);
-      undamaged = damaged_of-same g b a live ∙ empty.places.tidy.undamaged;
-      unmixed = λ p q x y e f same. empty.places.tidy.unmixed p q x y (sym (live p) ∙ e) (sym (live q) ∙ f) same;
-    }
+    apart : (d : ℕ) → d ≢ block → SameBlock g d a b
+    apart d differ = away g block a b fresh.outside d differ
 
     beside : IsSameBeside g block a b
     beside = record {
-      deleted = λ d low other. same_deleted g a b d low (away b fresh.outside d other);
-      pages = λ d low other. same_pages g a b d low (away b fresh.outside d other);
-      free = λ d low other holds. same_entries g a b d low (away b fresh.outside d other);
+      deleted = λ d low other. same_deleted g a b d low (apart d other);
+      pages = λ d low other. same_pages g a b d low (apart d other);
+      free = λ d low other holds. same_entries g a b d low (apart d other);
     }
 
     -- all free entries for index pages are beside it
@@ -247,24 +186,24 @@ module _ (g : Geometry) (block : ℕ) (first a : List ℕ) (is : IsImage g a) (b
         sum_same (λ d. share g b block d) (λ d. share g a block d) 0 g.blocks
         (λ d low high. ⊎_elim
         (λ (here : d ≡ block). rw (eq-eqb d block here) refl)
-        (λ (other : d ≡ block → ⊥). let same = away b fresh.outside d other in rw (same_takes g a b d (omega arith) same (magics d (omega arith)), same_entries g a b d (omega arith) same) refl)
+        (λ (other : d ≡ block → ⊥). let same = apart d other in rw (same_takes g a b d (omega arith) same (empty.places.tidy.magic d (omega arith)), same_entries g a b d (omega arith) same) refl)
         (cases_eq d block))
 
     places_all : free_where g b (takes_index g b) ≡ places_beside g a block
     places_all = sym (outside g b block (takes_index g b) below) ∙ rw (free_takes g b block fresh.free) (omega (arith, places_same))
 
     more_free : is_free_block g a block ≡ false → free_blocks g b ≡ free_blocks g a + 1
-    more_free used = let all = rw (used, fresh.free) at (free_changes b fresh.outside) in omega (arith, all)
+    more_free used = let all = rw (used, fresh.free) at (free_changes g block a b fresh.outside below empty.places.tidy) in omega (arith, all)
 
     pub fresh_done : CleanedIndex g block first b
     fresh_done = record {
-      tidy = tidy;
-      table = table_of-same g b a live ∙ empty.keeps.table;
+      tidy = fresh_tidy g block a empty.places.tidy dead count b fresh;
+      table = table_of-same g b a (fresh_live g block a empty.places.tidy dead count b fresh) ∙ empty.keeps.table;
       free = fresh.free;
       count = fresh.count ∙ next;
       beside = beside_then g block first a b empty.beside beside;
       kept = ⊎_elim
-          (λ (none : free_blocks g first ≤ free_blocks g a). let all = rw fresh.free at (free_changes b fresh.outside) in let most = cond_most (is_free_block g a block) in omega (arith, none, all, most))
+          (λ (none : free_blocks g first ≤ free_blocks g a). let all = rw fresh.free at (free_changes g block a b fresh.outside below empty.places.tidy) in let most = cond_most (is_free_block g a block) in omega (arith, none, all, most))
           (λ (one : (free_blocks g first ≤ free_blocks g a + 1) × HasFewPlaces g a block). let more = more_free one.1.used in omega (arith, one.0, more))
           empty.free;
       taken = λ used few. ⊎_elim

@@ -19,7 +19,7 @@ use page_put::fresh_block;
 use table_model::{Differ, Tag};
 
 // That no place was found for a page.
-fn no_place(page: u16) -> Differ {
+pub(crate) fn no_place(page: u16) -> Differ {
     let none = Tag {
         id: 0xFFFF,
         span: 0xFFFF,

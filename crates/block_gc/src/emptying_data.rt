@@ -1,0 +1,110 @@
+// Moving the live data pages of a block out of it, in page order.
+ghost use Rattle.std.specs.Prelude.{◌≡◌, ◌*◌, ◌+◌, ◌<◌, ◌≤◌, OnErr, OnOk, IfOk, IfErr, IfSome, IsErrOf};
+ghost use Rattle.geometry.specs.Numbers.{page_count};
+ghost use Rattle.nor_core.specs.Count.{Rose};
+ghost use Rattle.nor_core.specs.Device.{Changes};
+ghost use Rattle.image_model.specs.Collect.{data_in};
+ghost use Rattle.image_model.specs.Kinds.{is_data_page};
+ghost use Rattle.image_model.specs.Live.{live_at};
+ghost use Rattle.image_model.specs.Places.{block_of as the_block_of};
+ghost use Rattle.flash_view.specs.Places.{IsEntryPage};
+ghost use Rattle.flash_view.specs.Same.{IsSameView, OnlyLooks};
+ghost use Rattle.block_gc.specs.DataEmptied.{HasDataPlaces, CanMoveDataOut, ArePlaces, DataTurnCut, DataTurn, DataEmptied};
+
+use crate::emptying::no_place;
+use crate::moving_data::move_data;
+use flash_view::{Kind, StepErr, View, block_of, entry_page};
+use free_search::free_page;
+use nor_core::{Failed, Nor, NorState};
+
+// Whether a page is a live data page.
+#[tactic(auto, using(flash_view::proofs::Looking::looks_then))]
+fn is_data<N: Nor>(v: &mut View<'_, N>, page: u16) -> Result<bool, Failed>
+    requires { page < page_count v.old.geometry }
+    ensures cause { OnErr result (Rose (N.faults v.old.nor.now) (N.faults v.new.nor.now)) }
+    ensures looks { OnlyLooks v.old v.new }
+    ensures told { N.tells v.old.nor.now → IfOk result (λ yes. yes ≡ is_data_page (live_at v.old.geometry (N.bytes v.old.nor.now) page)) }
+{
+    Ok(match v.live_header(page)? {
+        Some(head) => !head.is_index(),
+        None => false,
+    })
+}
+
+// The places of a data page of a block and of the index page that names it.
+#[tactic(auto, using(flash_view::proofs::Looking::looks_then))]
+fn find_places<N: Nor>(v: &mut View<'_, N>, block: u16) -> Result<Option<(u16, u16)>, Failed>
+    ensures cause { OnErr result (Rose (N.faults v.old.nor.now) (N.faults v.new.nor.now)) }
+    ensures looks { OnlyLooks v.old v.new }
+    ensures entry { IfOk result (λ found. IfSome found (λ f. IsEntryPage v.old.geometry f.0 × IsEntryPage v.old.geometry f.1)) }
+    ensures told { N.tells v.old.nor.now → HasDataPlaces v.old.geometry (N.bytes v.old.nor.now) block → 1 ≤ data_in v.old.geometry (N.bytes v.old.nor.now) block → IfOk result (λ found. ArePlaces v.old.geometry (N.bytes v.old.nor.now) block found) }
+{
+    let Some(to) = free_page(v, Kind::Data, 0, Some(block))? else {
+        return Ok(None);
+    };
+    let beside = block_of(&v.geometry, to);
+    let Some(index_to) = free_page(v, Kind::Index, 0, Some(beside))? else {
+        return Ok(None);
+    };
+    Ok(Some((to, index_to)))
+}
+
+// Moves a live data page out of a block.
+#[tactic(auto, using(flash_view::proofs::Looking::same_then))]
+fn move_out<N: Nor>(v: &mut View<'_, N>, page: u16, block: u16) -> Result<(), StepErr>
+    requires page { IsEntryPage v.old.geometry page }
+    requires at { the_block_of v.old.geometry page ≡ block }
+    ensures cause { IsErrOf result StepErr.DeviceFault → Rose (N.faults v.old.nor.now) (N.faults v.new.nor.now) }
+    ensures faults { N.faults v.old.nor.now ≤ N.faults v.new.nor.now }
+    ensures same { IsSameView v.old v.new }
+    ensures changes { Changes N.NorState v.old.nor.now v.new.nor.now (λ was image. CanMoveDataOut v.old.geometry was block page → DataTurnCut v.old.geometry block was image) }
+    ensures done { N.tells v.old.nor.now → CanMoveDataOut v.old.geometry (N.bytes v.old.nor.now) block page → OnOk result (DataTurn v.old.geometry block page (N.bytes v.old.nor.now) (N.bytes v.new.nor.now)) }
+    ensures undamaged { N.tells v.old.nor.now → CanMoveDataOut v.old.geometry (N.bytes v.old.nor.now) block page → IfErr result (λ why. why ≡ StepErr.DeviceFault) }
+{
+    match find_places(v, block) {
+        Err(Failed) => Err(StepErr::DeviceFault),
+        Ok(None) => Err(StepErr::Damaged(no_place(page))),
+        Ok(Some((to, index_to))) => match move_data(v, page, to, index_to) {
+            Err(Failed) => Err(StepErr::DeviceFault),
+            Ok(()) => Ok(()),
+        },
+    }
+}
+
+// The turn of a page: it is moved out of its block where it is a live data page.
+#[tactic(auto, using(flash_view::proofs::Looking::same_then))]
+fn empty_page<N: Nor>(v: &mut View<'_, N>, page: u16, block: u16) -> Result<(), StepErr>
+    requires page { IsEntryPage v.old.geometry page }
+    requires at { the_block_of v.old.geometry page ≡ block }
+    ensures cause { IsErrOf result StepErr.DeviceFault → Rose (N.faults v.old.nor.now) (N.faults v.new.nor.now) }
+    ensures faults { N.faults v.old.nor.now ≤ N.faults v.new.nor.now }
+    ensures same { IsSameView v.old v.new }
+    ensures changes { Changes N.NorState v.old.nor.now v.new.nor.now (λ was image. HasDataPlaces v.old.geometry was block → DataTurnCut v.old.geometry block was image) }
+    ensures done { N.tells v.old.nor.now → HasDataPlaces v.old.geometry (N.bytes v.old.nor.now) block → OnOk result (DataTurn v.old.geometry block page (N.bytes v.old.nor.now) (N.bytes v.new.nor.now)) }
+    ensures undamaged { N.tells v.old.nor.now → HasDataPlaces v.old.geometry (N.bytes v.old.nor.now) block → IfErr result (λ why. why ≡ StepErr.DeviceFault) }
+{
+    match is_data(v, page) {
+        Err(Failed) => Err(StepErr::DeviceFault),
+        Ok(false) => Ok(()),
+        Ok(true) => move_out(v, page, block),
+    }
+}
+
+/// Moves the live data pages of a block out of it, in page order, each with a renewed index page. The image is to be tidy,
+/// and the block to hold no live index page and to fit. A cut leaves the table as it is, and takes no more free blocks than
+/// the block's data pages need. Where that holds, a fault of the device is the one error.
+pub fn empty_data<N: Nor>(v: &mut View<'_, N>, block: u16) -> Result<(), StepErr>
+    requires { block < v.old.geometry.blocks }
+    ensures cause { IsErrOf result StepErr.DeviceFault → Rose (N.faults v.old.nor.now) (N.faults v.new.nor.now) }
+    ensures faults { N.faults v.old.nor.now ≤ N.faults v.new.nor.now }
+    ensures same { IsSameView v.old v.new }
+    ensures changes { Changes N.NorState v.old.nor.now v.new.nor.now (λ was image. HasDataPlaces v.old.geometry was block → DataTurnCut v.old.geometry block was image) }
+    ensures done { N.tells v.old.nor.now → HasDataPlaces v.old.geometry (N.bytes v.old.nor.now) block → OnOk result (DataEmptied v.old.geometry block (page_count v.old.geometry) (N.bytes v.old.nor.now) (N.bytes v.new.nor.now)) }
+    ensures undamaged { N.tells v.old.nor.now → HasDataPlaces v.old.geometry (N.bytes v.old.nor.now) block → IfErr result (λ why. why ≡ StepErr.DeviceFault) }
+{
+    let g = v.geometry;
+    for i in 0..g.entries() {
+        empty_page(v, entry_page(&g, block, i), block)?;
+    }
+    Ok(())
+}

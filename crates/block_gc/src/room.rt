@@ -1,0 +1,142 @@
+// Cleaning block after block: until wanted pages are had, or until none is worth cleaning.
+ghost use Rattle.std.specs.Prelude.{◌≡◌, ◌≢◌, ◌<◌, ◌≤◌, OnErr, OnOk, IfOk, IfErr, IsErrOf, true, false};
+ghost use Rattle.nor_core.specs.Count.{Rose};
+ghost use Rattle.nor_core.specs.Device.{Changes, OnlyReads};
+ghost use Rattle.image_model.specs.Tidy.{IsTidy};
+ghost use Rattle.image_model.specs.Sound.{Keeps};
+ghost use Rattle.flash_view.specs.Same.{IsSameView, OnlyLooks};
+ghost use Rattle.room_laws.specs.Stopping.{CanClean, HasRoomFor};
+ghost use Rattle.block_gc.specs.RoomMade.{IsFaultOrTight, IsReady, IfReady, CleanedOrNone, MadeRoom, IsTight, RoomTurn, IsCompact, IsStuck, PackTurn};
+
+use crate::cleaning::clean;
+use crate::next::{are_had, choose, is_stuck};
+use flash_view::{StepErr, View};
+use free_search::free_blocks;
+use nor_core::{Failed, Nor, NorState};
+
+/// Why room was not made.
+#[derive(Clone, Copy, Debug, PartialEq, Eq)]
+pub enum RoomErr {
+    /// A step was not done.
+    Step(StepErr),
+    /// No block that is worth cleaning can be cleaned, and there is too little room.
+    Tight,
+}
+
+// Whether so many pages of each kind are had and two blocks are free.
+#[tactic(auto, using(flash_view::proofs::Looking::looks_then))]
+fn is_ready<N: Nor>(v: &mut View<'_, N>, index: u32, data_pages: u32) -> Result<bool, Failed>
+    ensures cause { OnErr result (Rose (N.faults v.old.nor.now) (N.faults v.new.nor.now)) }
+    ensures looks { OnlyLooks v.old v.new }
+    ensures told { N.tells v.old.nor.now → IsTidy v.old.geometry (N.bytes v.old.nor.now) → IfOk result (λ ready. IfReady v.old.geometry (N.bytes v.old.nor.now) index data_pages ready) }
+{
+    Ok(free_blocks(v)? >= 2 && are_had(v, index, data_pages)?)
+}
+
+// Cleans the chosen block, and tells whether there was one.
+#[tactic(auto, using(flash_view::proofs::Looking::same_then))]
+fn clean_chosen<N: Nor>(v: &mut View<'_, N>) -> Result<bool, StepErr>
+    ensures cause { IsErrOf result StepErr.DeviceFault → Rose (N.faults v.old.nor.now) (N.faults v.new.nor.now) }
+    ensures faults { N.faults v.old.nor.now ≤ N.faults v.new.nor.now }
+    ensures same { IsSameView v.old v.new }
+    ensures changes { Changes N.NorState v.old.nor.now v.new.nor.now (λ was image. IsTidy v.old.geometry was → Keeps v.old.geometry was image) }
+    ensures told { N.tells v.old.nor.now → IsTidy v.old.geometry (N.bytes v.old.nor.now) → IfOk result (λ cleaned. CleanedOrNone v.old.geometry cleaned (N.bytes v.old.nor.now) (N.bytes v.new.nor.now)) }
+    ensures undamaged { N.tells v.old.nor.now → IsTidy v.old.geometry (N.bytes v.old.nor.now) → IfErr result (λ why. why ≡ StepErr.DeviceFault) }
+{
+    match choose(v) {
+        Err(Failed) => Err(StepErr::DeviceFault),
+        Ok(None) => Ok(false),
+        Ok(Some(block)) => {
+            clean(v, block)?;
+            Ok(true)
+        }
+    }
+}
+
+// A turn of making room: whether a block more was cleaned, or the pages are had.
+#[tactic(auto, using(flash_view::proofs::Looking::same_then))]
+fn room_turn<N: Nor>(v: &mut View<'_, N>, index: u32, data_pages: u32) -> Result<bool, RoomErr>
+    ensures cause { IsErrOf result (RoomErr.Step StepErr.DeviceFault) → Rose (N.faults v.old.nor.now) (N.faults v.new.nor.now) }
+    ensures faults { N.faults v.old.nor.now ≤ N.faults v.new.nor.now }
+    ensures same { IsSameView v.old v.new }
+    ensures changes { Changes N.NorState v.old.nor.now v.new.nor.now (λ was image. IsTidy v.old.geometry was → Keeps v.old.geometry was image) }
+    ensures idle { N.tells v.old.nor.now → IsTidy v.old.geometry (N.bytes v.old.nor.now) → IsReady v.old.geometry (N.bytes v.old.nor.now) index data_pages → OnlyReads N.NorState v.old.nor.now v.new.nor.now }
+    ensures told { N.tells v.old.nor.now → IsTidy v.old.geometry (N.bytes v.old.nor.now) → IfOk result (λ more. RoomTurn v.old.geometry index data_pages more (N.bytes v.old.nor.now) (N.bytes v.new.nor.now)) }
+    ensures tight { N.tells v.old.nor.now → IsTidy v.old.geometry (N.bytes v.old.nor.now) → IsErrOf result RoomErr.Tight → IsTight v.old.geometry index data_pages (N.bytes v.old.nor.now) (N.bytes v.new.nor.now) }
+    ensures undamaged { N.tells v.old.nor.now → IsTidy v.old.geometry (N.bytes v.old.nor.now) → IfErr result (λ why. IsFaultOrTight why) }
+{
+    match is_ready(v, index, data_pages) {
+        Err(Failed) => Err(RoomErr::Step(StepErr::DeviceFault)),
+        Ok(true) => Ok(false),
+        Ok(false) => match clean_chosen(v) {
+            Err(why) => Err(RoomErr::Step(why)),
+            Ok(true) => Ok(true),
+            Ok(false) => Err(RoomErr::Tight),
+        },
+    }
+}
+
+/// Cleans blocks until so many index pages and data pages are had and two blocks are free, and cleans none where that is so
+/// already. Tight where no block can be cleaned any more before that. A cut leaves the table as it is.
+#[tactic(auto, using(flash_view::proofs::Looking::same_then))]
+pub fn make_room<N: Nor>(v: &mut View<'_, N>, index: u32, data_pages: u32) -> Result<(), RoomErr>
+    ensures cause { IsErrOf result (RoomErr.Step StepErr.DeviceFault) → Rose (N.faults v.old.nor.now) (N.faults v.new.nor.now) }
+    ensures faults { N.faults v.old.nor.now ≤ N.faults v.new.nor.now }
+    ensures same { IsSameView v.old v.new }
+    ensures changes { Changes N.NorState v.old.nor.now v.new.nor.now (λ was image. IsTidy v.old.geometry was → Keeps v.old.geometry was image) }
+    ensures idle { N.tells v.old.nor.now → IsTidy v.old.geometry (N.bytes v.old.nor.now) → IsReady v.old.geometry (N.bytes v.old.nor.now) index data_pages → OnlyReads N.NorState v.old.nor.now v.new.nor.now }
+    ensures done { N.tells v.old.nor.now → IsTidy v.old.geometry (N.bytes v.old.nor.now) → OnOk result (MadeRoom v.old.geometry index data_pages (N.bytes v.old.nor.now) (N.bytes v.new.nor.now)) }
+    ensures tight { N.tells v.old.nor.now → IsTidy v.old.geometry (N.bytes v.old.nor.now) → IsErrOf result RoomErr.Tight → IsTight v.old.geometry index data_pages (N.bytes v.old.nor.now) (N.bytes v.new.nor.now) }
+    ensures never_tight { N.tells v.old.nor.now → CanClean v.old.geometry (N.bytes v.old.nor.now) → HasRoomFor v.old.geometry (N.bytes v.old.nor.now) index data_pages → IfErr result (λ why. why ≢ RoomErr.Tight) }
+    ensures undamaged { N.tells v.old.nor.now → IsTidy v.old.geometry (N.bytes v.old.nor.now) → IfErr result (λ why. IsFaultOrTight why) }
+{
+    for _turn in 0..u64::MAX {
+        if !room_turn(v, index, data_pages)? {
+            return Ok(());
+        }
+    }
+    Err(RoomErr::Tight)
+}
+
+// A turn of packing: whether a block more was cleaned, or none is worth cleaning.
+#[tactic(auto, using(flash_view::proofs::Looking::same_then))]
+fn pack_turn<N: Nor>(v: &mut View<'_, N>) -> Result<bool, RoomErr>
+    ensures cause { IsErrOf result (RoomErr.Step StepErr.DeviceFault) → Rose (N.faults v.old.nor.now) (N.faults v.new.nor.now) }
+    ensures faults { N.faults v.old.nor.now ≤ N.faults v.new.nor.now }
+    ensures same { IsSameView v.old v.new }
+    ensures changes { Changes N.NorState v.old.nor.now v.new.nor.now (λ was image. IsTidy v.old.geometry was → Keeps v.old.geometry was image) }
+    ensures told { N.tells v.old.nor.now → IsTidy v.old.geometry (N.bytes v.old.nor.now) → IfOk result (λ more. PackTurn v.old.geometry more (N.bytes v.old.nor.now) (N.bytes v.new.nor.now)) }
+    ensures tight { N.tells v.old.nor.now → IsTidy v.old.geometry (N.bytes v.old.nor.now) → IsErrOf result RoomErr.Tight → IsStuck v.old.geometry (N.bytes v.old.nor.now) (N.bytes v.new.nor.now) }
+    ensures undamaged { N.tells v.old.nor.now → IsTidy v.old.geometry (N.bytes v.old.nor.now) → IfErr result (λ why. IsFaultOrTight why) }
+{
+    match clean_chosen(v) {
+        Err(why) => Err(RoomErr::Step(why)),
+        Ok(true) => Ok(true),
+        Ok(false) => match is_stuck(v) {
+            Err(Failed) => Err(RoomErr::Step(StepErr::DeviceFault)),
+            Ok(true) => Err(RoomErr::Tight),
+            Ok(false) => Ok(false),
+        },
+    }
+}
+
+/// Cleans blocks until none is worth cleaning. Tight exactly where collection is stuck before that. A cut leaves the table
+/// as it is.
+#[tactic(auto, using(flash_view::proofs::Looking::same_then))]
+pub fn compact<N: Nor>(v: &mut View<'_, N>) -> Result<(), RoomErr>
+    ensures cause { IsErrOf result (RoomErr.Step StepErr.DeviceFault) → Rose (N.faults v.old.nor.now) (N.faults v.new.nor.now) }
+    ensures faults { N.faults v.old.nor.now ≤ N.faults v.new.nor.now }
+    ensures same { IsSameView v.old v.new }
+    ensures changes { Changes N.NorState v.old.nor.now v.new.nor.now (λ was image. IsTidy v.old.geometry was → Keeps v.old.geometry was image) }
+    ensures done { N.tells v.old.nor.now → IsTidy v.old.geometry (N.bytes v.old.nor.now) → OnOk result (IsCompact v.old.geometry (N.bytes v.old.nor.now) (N.bytes v.new.nor.now)) }
+    ensures tight { N.tells v.old.nor.now → IsTidy v.old.geometry (N.bytes v.old.nor.now) → IsErrOf result RoomErr.Tight → IsStuck v.old.geometry (N.bytes v.old.nor.now) (N.bytes v.new.nor.now) }
+    ensures never_tight { N.tells v.old.nor.now → CanClean v.old.geometry (N.bytes v.old.nor.now) → IfErr result (λ why. why ≢ RoomErr.Tight) }
+    ensures undamaged { N.tells v.old.nor.now → IsTidy v.old.geometry (N.bytes v.old.nor.now) → IfErr result (λ why. IsFaultOrTight why) }
+{
+    for _turn in 0..u64::MAX {
+        if !pack_turn(v)? {
+            return Ok(());
+        }
+    }
+    Err(RoomErr::Tight)
+}
