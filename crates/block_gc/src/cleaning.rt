@@ -20,6 +20,8 @@ fn clean_data<N: Nor>(v: &mut View<'_, N>, block: u16) -> Result<(), StepErr>
     ensures cause { IsErrOf result StepErr.DeviceFault → Rose (N.faults v.old.nor.now) (N.faults v.new.nor.now) }
     ensures faults { N.faults v.old.nor.now ≤ N.faults v.new.nor.now }
     ensures same { IsSameView v.old v.new }
+    ensures wrote { v.old.wrote ≡ true → v.new.wrote ≡ true }
+    ensures untouched { v.old.wrote ≡ false → v.new.wrote ≡ false → OnlyReads N.NorState v.old.nor.now v.new.nor.now }
     ensures changes { Changes N.NorState v.old.nor.now v.new.nor.now (λ was image. CanCleanData v.old.geometry was block → CleanDataCut v.old.geometry was image) }
     ensures done { N.tells v.old.nor.now → CanCleanData v.old.geometry (N.bytes v.old.nor.now) block → OnOk result (CleanedData v.old.geometry block (N.bytes v.old.nor.now) (N.bytes v.new.nor.now)) }
     ensures undamaged { N.tells v.old.nor.now → CanCleanData v.old.geometry (N.bytes v.old.nor.now) block → IfErr result (λ why. why ≡ StepErr.DeviceFault) }
@@ -43,6 +45,8 @@ pub fn clean<N: Nor>(v: &mut View<'_, N>, block: u16) -> Result<(), StepErr>
     ensures cause { IsErrOf result StepErr.DeviceFault → Rose (N.faults v.old.nor.now) (N.faults v.new.nor.now) }
     ensures faults { N.faults v.old.nor.now ≤ N.faults v.new.nor.now }
     ensures same { IsSameView v.old v.new }
+    ensures wrote { v.old.wrote ≡ true → v.new.wrote ≡ true }
+    ensures untouched { v.old.wrote ≡ false → v.new.wrote ≡ false → OnlyReads N.NorState v.old.nor.now v.new.nor.now }
     ensures changes { Changes N.NorState v.old.nor.now v.new.nor.now (λ was image. CanCleanBlock v.old.geometry was block → CleanBlockCut v.old.geometry block was image) }
     ensures done { N.tells v.old.nor.now → CanCleanBlock v.old.geometry (N.bytes v.old.nor.now) block → OnOk result (CleanedBlock v.old.geometry block (N.bytes v.old.nor.now) (N.bytes v.new.nor.now)) }
     ensures undamaged { N.tells v.old.nor.now → CanCleanBlock v.old.geometry (N.bytes v.old.nor.now) block → IfErr result (λ why. why ≡ StepErr.DeviceFault) }

@@ -1,8 +1,8 @@
 // Moving the live data pages of a block out of it, in page order.
-ghost use Rattle.std.specs.Prelude.{◌≡◌, ◌*◌, ◌+◌, ◌<◌, ◌≤◌, OnErr, OnOk, IfOk, IfErr, IfSome, IsErrOf};
+ghost use Rattle.std.specs.Prelude.{◌≡◌, ◌*◌, ◌+◌, ◌<◌, ◌≤◌, OnErr, OnOk, IfOk, IfErr, IfSome, IsErrOf, true, false};
 ghost use Rattle.geometry.specs.Numbers.{page_count};
 ghost use Rattle.nor_core.specs.Count.{Rose};
-ghost use Rattle.nor_core.specs.Device.{Changes};
+ghost use Rattle.nor_core.specs.Device.{Changes, OnlyReads};
 ghost use Rattle.image_model.specs.Collect.{data_in};
 ghost use Rattle.image_model.specs.Kinds.{is_data_page};
 ghost use Rattle.image_model.specs.Live.{live_at};
@@ -57,6 +57,8 @@ fn move_out<N: Nor>(v: &mut View<'_, N>, page: u16, block: u16) -> Result<(), St
     ensures cause { IsErrOf result StepErr.DeviceFault → Rose (N.faults v.old.nor.now) (N.faults v.new.nor.now) }
     ensures faults { N.faults v.old.nor.now ≤ N.faults v.new.nor.now }
     ensures same { IsSameView v.old v.new }
+    ensures wrote { v.old.wrote ≡ true → v.new.wrote ≡ true }
+    ensures untouched { v.old.wrote ≡ false → v.new.wrote ≡ false → OnlyReads N.NorState v.old.nor.now v.new.nor.now }
     ensures changes { Changes N.NorState v.old.nor.now v.new.nor.now (λ was image. CanMoveDataOut v.old.geometry was block page → DataTurnCut v.old.geometry block was image) }
     ensures done { N.tells v.old.nor.now → CanMoveDataOut v.old.geometry (N.bytes v.old.nor.now) block page → OnOk result (DataTurn v.old.geometry block page (N.bytes v.old.nor.now) (N.bytes v.new.nor.now)) }
     ensures undamaged { N.tells v.old.nor.now → CanMoveDataOut v.old.geometry (N.bytes v.old.nor.now) block page → IfErr result (λ why. why ≡ StepErr.DeviceFault) }
@@ -79,6 +81,8 @@ fn empty_page<N: Nor>(v: &mut View<'_, N>, page: u16, block: u16) -> Result<(), 
     ensures cause { IsErrOf result StepErr.DeviceFault → Rose (N.faults v.old.nor.now) (N.faults v.new.nor.now) }
     ensures faults { N.faults v.old.nor.now ≤ N.faults v.new.nor.now }
     ensures same { IsSameView v.old v.new }
+    ensures wrote { v.old.wrote ≡ true → v.new.wrote ≡ true }
+    ensures untouched { v.old.wrote ≡ false → v.new.wrote ≡ false → OnlyReads N.NorState v.old.nor.now v.new.nor.now }
     ensures changes { Changes N.NorState v.old.nor.now v.new.nor.now (λ was image. HasDataPlaces v.old.geometry was block → DataTurnCut v.old.geometry block was image) }
     ensures done { N.tells v.old.nor.now → HasDataPlaces v.old.geometry (N.bytes v.old.nor.now) block → OnOk result (DataTurn v.old.geometry block page (N.bytes v.old.nor.now) (N.bytes v.new.nor.now)) }
     ensures undamaged { N.tells v.old.nor.now → HasDataPlaces v.old.geometry (N.bytes v.old.nor.now) block → IfErr result (λ why. why ≡ StepErr.DeviceFault) }
@@ -98,6 +102,8 @@ pub fn empty_data<N: Nor>(v: &mut View<'_, N>, block: u16) -> Result<(), StepErr
     ensures cause { IsErrOf result StepErr.DeviceFault → Rose (N.faults v.old.nor.now) (N.faults v.new.nor.now) }
     ensures faults { N.faults v.old.nor.now ≤ N.faults v.new.nor.now }
     ensures same { IsSameView v.old v.new }
+    ensures wrote { v.old.wrote ≡ true → v.new.wrote ≡ true }
+    ensures untouched { v.old.wrote ≡ false → v.new.wrote ≡ false → OnlyReads N.NorState v.old.nor.now v.new.nor.now }
     ensures changes { Changes N.NorState v.old.nor.now v.new.nor.now (λ was image. HasDataPlaces v.old.geometry was block → DataTurnCut v.old.geometry block was image) }
     ensures done { N.tells v.old.nor.now → HasDataPlaces v.old.geometry (N.bytes v.old.nor.now) block → OnOk result (DataEmptied v.old.geometry block (page_count v.old.geometry) (N.bytes v.old.nor.now) (N.bytes v.new.nor.now)) }
     ensures undamaged { N.tells v.old.nor.now → HasDataPlaces v.old.geometry (N.bytes v.old.nor.now) block → IfErr result (λ why. why ≡ StepErr.DeviceFault) }

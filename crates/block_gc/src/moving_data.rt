@@ -1,8 +1,8 @@
 // Moving one data page out of a block, the step of which the cleaning of a data block consists.
-ghost use Rattle.std.specs.Prelude.{◌≡◌, ◌+◌, ◌*◌, ◌%◌, ◌<◌, ◌≤◌, ◌∷◌, [], OnErr, OnOk, IfOk, IfSome, List, true, ℕ};
+ghost use Rattle.std.specs.Prelude.{◌≡◌, ◌+◌, ◌*◌, ◌%◌, ◌<◌, ◌≤◌, ◌∷◌, [], OnErr, OnOk, IfOk, IfSome, List, true, false, ℕ};
 ghost use Rattle.geometry.specs.Numbers.{page_count};
 ghost use Rattle.nor_core.specs.Count.{Rose};
-ghost use Rattle.nor_core.specs.Device.{Changes};
+ghost use Rattle.nor_core.specs.Device.{Changes, OnlyReads};
 ghost use Rattle.image_model.specs.Kinds.{is_data_page, is_index_page};
 ghost use Rattle.image_model.specs.Live.{live_at};
 ghost use Rattle.image_model.specs.Tidy.{IsTidy};
@@ -77,6 +77,7 @@ fn put_data<N: Nor>(v: &mut View<'_, N>, page: u16, to: u16, tag: Tag) -> Result
     ensures cause { OnErr result (Rose (N.faults v.old.nor.now) (N.faults v.new.nor.now)) }
     ensures faults { N.faults v.old.nor.now ≤ N.faults v.new.nor.now }
     ensures same { IsSameView v.old v.new }
+    ensures wrote { v.new.wrote ≡ true }
     ensures changes { Changes N.NorState v.old.nor.now v.new.nor.now (λ was image. CanCopyData v.old.geometry was page to → MoveCut v.old.geometry to was image) }
     ensures done { N.tells v.old.nor.now → CanCopyData v.old.geometry (N.bytes v.old.nor.now) page to → OnOk result (CopiedData v.old.geometry page to (N.bytes v.old.nor.now) (N.bytes v.new.nor.now)) }
 {
@@ -94,6 +95,8 @@ fn copy_data<N: Nor>(v: &mut View<'_, N>, page: u16, to: u16, tag: Tag) -> Resul
     ensures cause { OnErr result (Rose (N.faults v.old.nor.now) (N.faults v.new.nor.now)) }
     ensures faults { N.faults v.old.nor.now ≤ N.faults v.new.nor.now }
     ensures same { IsSameView v.old v.new }
+    ensures wrote { v.old.wrote ≡ true → v.new.wrote ≡ true }
+    ensures untouched { v.old.wrote ≡ false → v.new.wrote ≡ false → OnlyReads N.NorState v.old.nor.now v.new.nor.now }
     ensures changes { Changes N.NorState v.old.nor.now v.new.nor.now (λ was image. CanCopyData v.old.geometry was page to → MoveCut v.old.geometry to was image) }
     ensures done { N.tells v.old.nor.now → CanCopyData v.old.geometry (N.bytes v.old.nor.now) page to → OnOk result (CopiedData v.old.geometry page to (N.bytes v.old.nor.now) (N.bytes v.new.nor.now)) }
 {
@@ -135,6 +138,7 @@ fn put_renamed<N: Nor>(
     ensures cause { OnErr result (Rose (N.faults v.old.nor.now) (N.faults v.new.nor.now)) }
     ensures faults { N.faults v.old.nor.now ≤ N.faults v.new.nor.now }
     ensures same { IsSameView v.old v.new }
+    ensures wrote { v.new.wrote ≡ true }
     ensures changes { Changes N.NorState v.old.nor.now v.new.nor.now (λ was image. (first : List ℕ) → CanMoveData v.old.geometry first page to index_to → CopiedData v.old.geometry page to first was → IsNamedBy v.old.geometry first page index tag → DataMoveCut v.old.geometry to index_to first image) }
     ensures done { N.tells v.old.nor.now → (first : List ℕ) → CanMoveData v.old.geometry first page to index_to → CopiedData v.old.geometry page to first (N.bytes v.old.nor.now) → IsNamedBy v.old.geometry first page index tag → OnOk result (MovedData v.old.geometry page to index_to first (N.bytes v.new.nor.now)) }
 {
@@ -165,6 +169,8 @@ fn name_copy<N: Nor>(
     ensures cause { OnErr result (Rose (N.faults v.old.nor.now) (N.faults v.new.nor.now)) }
     ensures faults { N.faults v.old.nor.now ≤ N.faults v.new.nor.now }
     ensures same { IsSameView v.old v.new }
+    ensures wrote { v.old.wrote ≡ true → v.new.wrote ≡ true }
+    ensures untouched { v.old.wrote ≡ false → v.new.wrote ≡ false → OnlyReads N.NorState v.old.nor.now v.new.nor.now }
     ensures changes { Changes N.NorState v.old.nor.now v.new.nor.now (λ was image. (first : List ℕ) → CanMoveData v.old.geometry first page to index_to → CopiedData v.old.geometry page to first was → IsNamedBy v.old.geometry first page index tag → DataMoveCut v.old.geometry to index_to first image) }
     ensures done { N.tells v.old.nor.now → (first : List ℕ) → CanMoveData v.old.geometry first page to index_to → CopiedData v.old.geometry page to first (N.bytes v.old.nor.now) → IsNamedBy v.old.geometry first page index tag → OnOk result (MovedData v.old.geometry page to index_to first (N.bytes v.new.nor.now)) }
 {
@@ -188,6 +194,8 @@ pub fn move_data<N: Nor>(
     ensures cause { OnErr result (Rose (N.faults v.old.nor.now) (N.faults v.new.nor.now)) }
     ensures faults { N.faults v.old.nor.now ≤ N.faults v.new.nor.now }
     ensures same { IsSameView v.old v.new }
+    ensures wrote { v.old.wrote ≡ true → v.new.wrote ≡ true }
+    ensures untouched { v.old.wrote ≡ false → v.new.wrote ≡ false → OnlyReads N.NorState v.old.nor.now v.new.nor.now }
     ensures changes { Changes N.NorState v.old.nor.now v.new.nor.now (λ was image. CanMoveData v.old.geometry was page to index_to → DataMoveCut v.old.geometry to index_to was image) }
     ensures done { N.tells v.old.nor.now → CanMoveData v.old.geometry (N.bytes v.old.nor.now) page to index_to → OnOk result (MovedData v.old.geometry page to index_to (N.bytes v.old.nor.now) (N.bytes v.new.nor.now)) }
 {

@@ -39,6 +39,8 @@ fn clean_chosen<N: Nor>(v: &mut View<'_, N>) -> Result<bool, StepErr>
     ensures cause { IsErrOf result StepErr.DeviceFault → Rose (N.faults v.old.nor.now) (N.faults v.new.nor.now) }
     ensures faults { N.faults v.old.nor.now ≤ N.faults v.new.nor.now }
     ensures same { IsSameView v.old v.new }
+    ensures wrote { v.old.wrote ≡ true → v.new.wrote ≡ true }
+    ensures untouched { v.old.wrote ≡ false → v.new.wrote ≡ false → OnlyReads N.NorState v.old.nor.now v.new.nor.now }
     ensures changes { Changes N.NorState v.old.nor.now v.new.nor.now (λ was image. IsTidy v.old.geometry was → Keeps v.old.geometry was image) }
     ensures told { N.tells v.old.nor.now → IsTidy v.old.geometry (N.bytes v.old.nor.now) → IfOk result (λ cleaned. CleanedOrNone v.old.geometry cleaned (N.bytes v.old.nor.now) (N.bytes v.new.nor.now)) }
     ensures undamaged { N.tells v.old.nor.now → IsTidy v.old.geometry (N.bytes v.old.nor.now) → IfErr result (λ why. why ≡ StepErr.DeviceFault) }
@@ -59,6 +61,8 @@ fn room_turn<N: Nor>(v: &mut View<'_, N>, index: u32, data_pages: u32) -> Result
     ensures cause { IsErrOf result (RoomErr.Step StepErr.DeviceFault) → Rose (N.faults v.old.nor.now) (N.faults v.new.nor.now) }
     ensures faults { N.faults v.old.nor.now ≤ N.faults v.new.nor.now }
     ensures same { IsSameView v.old v.new }
+    ensures wrote { v.old.wrote ≡ true → v.new.wrote ≡ true }
+    ensures untouched { v.old.wrote ≡ false → v.new.wrote ≡ false → OnlyReads N.NorState v.old.nor.now v.new.nor.now }
     ensures changes { Changes N.NorState v.old.nor.now v.new.nor.now (λ was image. IsTidy v.old.geometry was → Keeps v.old.geometry was image) }
     ensures idle { N.tells v.old.nor.now → IsTidy v.old.geometry (N.bytes v.old.nor.now) → IsReady v.old.geometry (N.bytes v.old.nor.now) index data_pages → OnlyReads N.NorState v.old.nor.now v.new.nor.now }
     ensures told { N.tells v.old.nor.now → IsTidy v.old.geometry (N.bytes v.old.nor.now) → IfOk result (λ more. RoomTurn v.old.geometry index data_pages more (N.bytes v.old.nor.now) (N.bytes v.new.nor.now)) }
@@ -83,6 +87,8 @@ pub fn make_room<N: Nor>(v: &mut View<'_, N>, index: u32, data_pages: u32) -> Re
     ensures cause { IsErrOf result (RoomErr.Step StepErr.DeviceFault) → Rose (N.faults v.old.nor.now) (N.faults v.new.nor.now) }
     ensures faults { N.faults v.old.nor.now ≤ N.faults v.new.nor.now }
     ensures same { IsSameView v.old v.new }
+    ensures wrote { v.old.wrote ≡ true → v.new.wrote ≡ true }
+    ensures untouched { v.old.wrote ≡ false → v.new.wrote ≡ false → OnlyReads N.NorState v.old.nor.now v.new.nor.now }
     ensures changes { Changes N.NorState v.old.nor.now v.new.nor.now (λ was image. IsTidy v.old.geometry was → Keeps v.old.geometry was image) }
     ensures idle { N.tells v.old.nor.now → IsTidy v.old.geometry (N.bytes v.old.nor.now) → IsReady v.old.geometry (N.bytes v.old.nor.now) index data_pages → OnlyReads N.NorState v.old.nor.now v.new.nor.now }
     ensures done { N.tells v.old.nor.now → IsTidy v.old.geometry (N.bytes v.old.nor.now) → OnOk result (MadeRoom v.old.geometry index data_pages (N.bytes v.old.nor.now) (N.bytes v.new.nor.now)) }
@@ -104,6 +110,8 @@ fn pack_turn<N: Nor>(v: &mut View<'_, N>) -> Result<bool, RoomErr>
     ensures cause { IsErrOf result (RoomErr.Step StepErr.DeviceFault) → Rose (N.faults v.old.nor.now) (N.faults v.new.nor.now) }
     ensures faults { N.faults v.old.nor.now ≤ N.faults v.new.nor.now }
     ensures same { IsSameView v.old v.new }
+    ensures wrote { v.old.wrote ≡ true → v.new.wrote ≡ true }
+    ensures untouched { v.old.wrote ≡ false → v.new.wrote ≡ false → OnlyReads N.NorState v.old.nor.now v.new.nor.now }
     ensures changes { Changes N.NorState v.old.nor.now v.new.nor.now (λ was image. IsTidy v.old.geometry was → Keeps v.old.geometry was image) }
     ensures told { N.tells v.old.nor.now → IsTidy v.old.geometry (N.bytes v.old.nor.now) → IfOk result (λ more. PackTurn v.old.geometry more (N.bytes v.old.nor.now) (N.bytes v.new.nor.now)) }
     ensures tight { N.tells v.old.nor.now → IsTidy v.old.geometry (N.bytes v.old.nor.now) → IsErrOf result RoomErr.Tight → IsStuck v.old.geometry (N.bytes v.old.nor.now) (N.bytes v.new.nor.now) }
@@ -127,6 +135,8 @@ pub fn compact<N: Nor>(v: &mut View<'_, N>) -> Result<(), RoomErr>
     ensures cause { IsErrOf result (RoomErr.Step StepErr.DeviceFault) → Rose (N.faults v.old.nor.now) (N.faults v.new.nor.now) }
     ensures faults { N.faults v.old.nor.now ≤ N.faults v.new.nor.now }
     ensures same { IsSameView v.old v.new }
+    ensures wrote { v.old.wrote ≡ true → v.new.wrote ≡ true }
+    ensures untouched { v.old.wrote ≡ false → v.new.wrote ≡ false → OnlyReads N.NorState v.old.nor.now v.new.nor.now }
     ensures changes { Changes N.NorState v.old.nor.now v.new.nor.now (λ was image. IsTidy v.old.geometry was → Keeps v.old.geometry was image) }
     ensures done { N.tells v.old.nor.now → IsTidy v.old.geometry (N.bytes v.old.nor.now) → OnOk result (IsCompact v.old.geometry (N.bytes v.old.nor.now) (N.bytes v.new.nor.now)) }
     ensures tight { N.tells v.old.nor.now → IsTidy v.old.geometry (N.bytes v.old.nor.now) → IsErrOf result RoomErr.Tight → IsStuck v.old.geometry (N.bytes v.old.nor.now) (N.bytes v.new.nor.now) }

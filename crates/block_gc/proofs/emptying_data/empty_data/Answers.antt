@@ -1,8 +1,10 @@
 use Rattle.std.proofs.Common.{◌+◌, ◌*◌, ◌<◌, refl, arith}
 use Rattle.geometry.specs.Numbers.{entries as entries_of, page_count}
+use Rattle.nor_core.proofs.Cuts.{reads_none}
 use Rattle.image_model.specs.Volume.{per_block, lookups, entries}
 use Rattle.image_model.specs.Within.{entry_in}
 use Rattle.flash_view.proofs.Looking.{same_none, same_then}
+use Rattle.block_gc.proofs.TurnCalls.{untouched_then}
 use Rattle.block_gc.proofs.DataTurnCalls.{none_emptied, emptied_start, emptied_cut, emptied_then, emptied_end}
 use Rattle.block_gc.proofs.emptying_data.empty_data.Goals as goal
 
@@ -14,6 +16,8 @@ loop-i-init g c =
       end = c.entries-i-end.ensures;
       same = same_none view;
       faults = omega arith;
+      wrote = λ e. e;
+      untouched = λ was is. reads_none view.nor.now;
       changes = none_emptied view.geometry c.args.block view.nor.now;
       done = λ tells places. emptied_start view.geometry c.args.block (c.args.block * per_block view.geometry + lookups view.geometry + 0) (g.N.NorState.bytes view.nor.now) (omega arith) places;
     }
@@ -48,6 +52,8 @@ loop-i-preserved g c =
       end = was.end;
       same = same_then was.same step.same;
       faults = omega (arith, was.faults, step.faults);
+      wrote = λ e. step.wrote (was.wrote e);
+      untouched = untouched_then c.args.v.now.wrote c.loop-i.v.wrote c.empty_page.new.v.wrote was.untouched step.wrote step.untouched;
       changes = emptied_cut geometry c.args.block c.loop-i.v.geometry _ was.same.geometry was.changes was.done step.changes;
       done = λ tells places.
           emptied_then geometry c.loop-i.v.geometry c.args.block (c.args.block * per_block geometry + lookups geometry + c.loop-i.i) c.entry_page.result (c.args.block * per_block geometry + lookups geometry + (c.loop-i.i + 1))
@@ -60,3 +66,9 @@ returns-clause-done g c = λ tells places.
     let was = c.loop-i.invariant in
     let geometry = c.args.v.now.geometry in
     emptied_end geometry c.args.block (c.args.block * per_block geometry + lookups geometry + c.loop-i.i) (g.N.NorState.bytes c.args.v.now.nor.now) (g.N.NorState.bytes c.loop-i.v.nor.now) (page_count geometry) (omega (arith, was.end, c.loop-i-test.false)) (was.done tells places)
+
+pub returns-in_err-empty_page-clause-untouched : goal.returns-in_err-empty_page-clause-untouched
+returns-in_err-empty_page-clause-untouched g c =
+    let was = c.loop-i.invariant in
+    let step = c.empty_page.ensures in
+    untouched_then c.args.v.now.wrote c.loop-i.v.wrote c.empty_page.new.v.wrote was.untouched step.wrote step.untouched
