@@ -27,7 +27,7 @@ use Rattle.image_laws.proofs.PutStep.{placing-is_sound}
 use Rattle.page_put.specs.Placing.{placed_page, with_entry, with_header, with_page, IsPlacing}
 use Rattle.page_put.specs.Kills.{deleted, killed, HalfKilled}
 use Rattle.page_put.proofs.Finishing.{programs_place, finish_clears_final}
-use Rattle.file_drop.proofs.Killing.{flags_left, kill_cut, kill_done}
+use Rattle.page_put.proofs.Killed.{flags_left, kill_cut, kill_done}
 use Rattle.image_model.specs.Sound.{HasMagics}
 use Rattle.block_gc.specs.Moves.{MoveCut}
 use Rattle.block_gc.specs.DataMoves.{CanCopyData, CanMoveData, IsTagOf, IsNamedBy, IsFoundFor, IsLoaded, IsRenamed, CopiedData, DataMoveCut, MovedData}

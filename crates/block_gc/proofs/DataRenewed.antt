@@ -48,8 +48,8 @@ use Rattle.image_laws.proofs.Sounding.{keeps-on}
 use Rattle.image_laws.proofs.SpareKill.{spare-kills, spares-end, tidy-has_magics}
 use Rattle.image_laws.proofs.Tables.{own-gains_page, own-gains_rest}
 use Rattle.image_laws.proofs.Tally.{served}
-use Rattle.file_drop.proofs.Clearing.{clears_deleted}
-use Rattle.file_drop.proofs.Killing.{flags_left, set_in}
+use Rattle.page_put.proofs.Clearing.{clears_deleted}
+use Rattle.page_put.proofs.Killed.{flags_left, set_in}
 use Rattle.block_gc.specs.Moves.{count_of}
 use Rattle.block_gc.specs.DataMoves.{CanMoveData, IsNamedBy, IsRenamed, CopiedData, DataMoveCut, MovedData}
 use Rattle.flash_view.specs.declared.kinds.Kind.TheVariants.{Index}

@@ -24,7 +24,7 @@ use Rattle.image_laws.specs.SoundSteps.{IsOfKind}
 use Rattle.image_laws.specs.TidySteps.{Agree}
 use Rattle.image_laws.specs.Creating.{CutOf}
 use Rattle.image_laws.specs.Put.{IsReadyPage}
-use Rattle.image_laws.specs.LiveSteps.{Finished, Kills, PutCut, KillCut, PutLeaves, PutDone, KillLeaves, KillDone}
+use Rattle.image_laws.specs.LiveSteps.{PutLeaves, PutDone, KillLeaves, KillDone}
 use Rattle.image_laws.specs.Reindex.{Reindexes}
 use Rattle.image_laws.specs.Recopy.{Recopies}
 use Rattle.image_laws.proofs.Damaged.{any_at}
@@ -32,10 +32,9 @@ use Rattle.image_laws.proofs.Doubled.{index-span_is}
 use Rattle.image_laws.proofs.Frames.{live_parts}
 use Rattle.image_laws.proofs.FreeBlocks.{free_blocks-fall, used-is_not_free}
 use Rattle.image_laws.proofs.Judge.{found_parts, index_passes}
-use Rattle.image_laws.proofs.LiveStep.{put-changes, kill-changes}
 use Rattle.image_laws.proofs.Records.{counted-some, list_any-at}
-use Rattle.image_laws.proofs.RecopyStep.{recopy-is_sound, live4, clears4}
-use Rattle.image_laws.proofs.RecopyTidy.{recopy-tidies, put-same}
+use Rattle.image_laws.proofs.RecopyStep.{live4, cut_put, cut_kill}
+use Rattle.image_laws.proofs.RecopyTidy.{recopied, put-same}
 use Rattle.image_laws.proofs.RenewStep.{live-used}
 use Rattle.image_laws.proofs.SpareKill.{spares-end, tidy-has_magics}
 use Rattle.image_laws.proofs.Tally.{counted-in, served}
@@ -44,7 +43,6 @@ use Rattle.image_laws.proofs.Wanted.{some_file}
 use Rattle.image_laws.proofs.Wants.{number-is}
 use Rattle.block_gc.specs.Moves.{count_of, IsCopyIn, CanMove, MoveCut, MovedIndex}
 use Rattle.image_laws.specs.Spares.{leftover}
-use Rattle.image_laws.proofs.Finished.{torn_from}
 use Rattle.block_gc.proofs.Renewed.{finished, slot_same, renewed}
 
 -- ---- what is known of an index page of a tidy image
@@ -208,69 +206,60 @@ module _ (g : Geometry) (a0 : List ℕ) (o p : ℕ) (is : IsImage g a0) (can : C
   same_table : put_file home.f (table_of g a0) ≡ table_of g a0
   same_table = put-same g a0 id home.h home.f can.tidy.undamaged home.has
 
-  module _ (a1 a2 a3 a4 a5 a6 : List ℕ) (put : Finished g p page 0xF8 a0 a1 a2 a3 a4) where
-    pub put_law : ((c : List ℕ) → PutCut g p page 0xF8 a0 a1 a2 a3 c → PutLeaves g p new a0 c) × PutDone g p new a0 a4
-    put_law = put-changes g a0 a1 a2 a3 a4 p page 0xF8 is can.free ready put
+  -- a cut, by the free blocks that it leaves
+  cut_by : (c : List ℕ) → CutOf g a0 home.f c → free_blocks g a0 ≤ free_blocks g c + 1 → (is_free_block g a0 (block_of g p) ≡ false → free_blocks g a0 ≤ free_blocks g c) → MoveCut g p a0 c
+  cut_by c cut free used = record {
+    keeps = record {
+      sound = cut.sound;
+      table = ⊎_elim
+          (λ (x : table_of g c ≡ table_of g a0). x)
+          (λ (x : table_of g c ≡ put_file home.f (table_of g a0)). x ∙ same_table)
+          cut.table;
+    };
+    free = free;
+    used = used;
+  }
 
-    there : live_at g a4 o ≡ Some old
-    there = live4 g a0 p o id home.h old page home.head pages.0 0xF8 kill home.f home.f start a4 put_law.1.gains
+  pub putting_left : (c : List ℕ) → PutLeaves g p new a0 c → MoveCut g p a0 c
+  putting_left c put =
+      let fall = free_blocks-fall g a0 c p put.agree in
+      cut_by c (cut_put g a0 p o id home.h old page home.head pages.0 0xF8 kill home.f home.f start magics c put).0 fall.0 fall.1
 
-    -- a cut in any program, by the free blocks that it leaves
-    cut_by : (c : List ℕ) → CutOf g a0 home.f c → free_blocks g a0 ≤ free_blocks g c + 1 → (is_free_block g a0 (block_of g p) ≡ false → free_blocks g a0 ≤ free_blocks g c) → MoveCut g p a0 c
-    cut_by c cut free used = record {
-      keeps = record {
-        sound = cut.sound;
-        table = ⊎_elim
-            (λ (x : table_of g c ≡ table_of g a0). x)
-            (λ (x : table_of g c ≡ put_file home.f (table_of g a0)). x ∙ same_table)
-            cut.table;
-      };
-      free = free;
-      used = used;
-    }
+  module _ (a4 : List ℕ) (put : PutDone g p new a0 a4) where
+    pub there : live_at g a4 o ≡ Some old
+    there = live4 g a0 p o id home.h old page home.head pages.0 0xF8 kill home.f home.f start a4 put.gains
 
-    module _ (kills : Kills g o kill a4 a5 a6) where
-      kill_law : ((c : List ℕ) → KillCut g o kill a4 a5 c → KillLeaves g o a4 c) × KillDone g o a4 a6
-      kill_law = kill-changes g a4 a5 a6 o kill old put_law.1.image there (clears4 g a0 p o id home.h old page home.head pages.0 0xF8 kill home.f home.f start a4 put_law.1) kills
+    pub apart : o ≢ p
+    apart e = none-some old (sym put.gains.before ∙ ap (live_at g a0) (sym e) ∙ live)
 
-      pub placing_left : (c : List ℕ) → PutCut g p page 0xF8 a0 a1 a2 a3 c → MoveCut g p a0 c
-      placing_left c cut =
-          let law = recopy-is_sound g a0 a1 a2 a3 a4 a5 a6 c p o id home.h old page home.head pages.0 0xF8 kill home.f home.f start magics put kills (inl cut) in
-          let fall = free_blocks-fall g a0 c p (put_law.0 c cut).agree in
-          cut_by c law.0 fall.0 fall.1
+    -- the free blocks after any change of the old page
+    free_after : (c : List ℕ) → Agree g a4 c o → (free_blocks g a0 ≤ free_blocks g c + 1) × (is_free_block g a0 (block_of g p) ≡ false → free_blocks g a0 ≤ free_blocks g c)
+    free_after c agree =
+        let one = free_blocks-fall g a0 a4 p put.agree in
+        let two : free_blocks g a4 ≤ free_blocks g c = (free_blocks-fall g a4 c o agree).1 (used-is_not_free g a4 o (live_parts g a4 o old there).entry_page (live-used g a4 o old there)) in
+        (let first = one.0 in omega arith, λ used. let same = one.1 used in omega arith)
 
-      -- the free blocks after any change of the old page
-      free_after : (c : List ℕ) → Agree g a4 c o → (free_blocks g a0 ≤ free_blocks g c + 1) × (is_free_block g a0 (block_of g p) ≡ false → free_blocks g a0 ≤ free_blocks g c)
-      free_after c agree =
-          let one = free_blocks-fall g a0 a4 p put_law.1.agree in
-          let two : free_blocks g a4 ≤ free_blocks g c = (free_blocks-fall g a4 c o agree).1 (used-is_not_free g a4 o (live_parts g a4 o old there).entry_page (live-used g a4 o old there)) in
-          (let first = one.0 in omega arith, λ used. let same = one.1 used in omega arith)
+    pub killing_left : (c : List ℕ) → KillLeaves g o a4 c → MoveCut g p a0 c
+    killing_left c cut =
+        let free = free_after c cut.agree in
+        cut_by c (cut_kill g a0 p o id home.h old page home.head pages.0 0xF8 kill home.f home.f start magics a4 c put cut).0 free.0 free.1
 
-      pub killing_left : (c : List ℕ) → KillCut g o kill a4 a5 c → MoveCut g p a0 c
-      killing_left c cut =
-          let law = recopy-is_sound g a0 a1 a2 a3 a4 a5 a6 c p o id home.h old page home.head pages.0 0xF8 kill home.f home.f start magics put kills (inr cut) in
-          let free = free_after c (kill_law.0 c cut).agree in
-          cut_by c law.0 free.0 free.1
-
-      pub moved_done : MovedIndex g o p a0 a6
-      moved_done =
-          let put' = put_law.1 in
-          let last = kill_law.1 in
-          let apart : p ≢ o = λ e. none-some old (sym put'.gains.before ∙ ap (live_at g a0) e ∙ live) in
-          let tidied = recopy-tidies g a0 a1 a2 a3 a4 a5 a6 p o id home.h old page home.head pages.0 0xF8 kill home.f home.f (λ (r : ℕ). false) (λ (r : ℕ). false) start put kills ((tidy-is_tidy g a0 (λ (r : ℕ). false)).0 can.tidy)
-          (record {
-            named = λ r e. absurd (cc);
-            left = λ t below at. inl (slot_same g old y new (count_of g a0 id) copy sets len t (omega (arith, below, count)) at);
-          }) in
-          record {
-            cut = killing_left a6 (inr (torn_from _ _ _ _ kills.clear));
-            tidy = spares-end g a6 (λ (r : ℕ). false && leftover g (own (live_at g a6) id) pages.0 r) (λ r e. absurd (cc)) tidied.0;
-            table = tidied.1 ∙ same_table;
-            gone = last.loses.after;
-            killed = last.zero;
-            moved = record { old = old; copy = y; was_live = live; copied = copy; is_live = last.loses.others p apart ∙ put'.gains.after ∙ ap (λ (l : List ℕ). Some l) sets };
-            magic = λ c. last.agree.magic c ∙ put'.agree.magic c;
-            entries = λ q inside gone new'. last.agree.entry q inside gone ∙ put'.agree.entry q inside new';
-            pages = λ q inside gone new'. last.agree.page q inside gone ∙ put'.agree.page q inside new';
-            live = λ q gone new'. last.loses.others q gone ∙ put'.gains.others q new';
-          }
+    pub moved_done : (a6 : List ℕ) → KillDone g o a4 a6 → MovedIndex g o p a0 a6
+    moved_done a6 last =
+        let tidied = recopied g a0 a4 a6 p o id home.h old page home.head pages.0 0xF8 kill home.f home.f (λ (r : ℕ). false) (λ (r : ℕ). false) start put last ((tidy-is_tidy g a0 (λ (r : ℕ). false)).0 can.tidy)
+        (record {
+          named = λ r e. absurd (cc);
+          left = λ t below at. inl (slot_same g old y new (count_of g a0 id) copy sets len t (omega (arith, below, count)) at);
+        }) in
+        record {
+          cut = killing_left a6 (record { image = last.image; agree = last.agree; live = inr last.loses });
+          tidy = spares-end g a6 (λ (r : ℕ). false && leftover g (own (live_at g a6) id) pages.0 r) (λ r e. absurd (cc)) tidied.0;
+          table = tidied.1 ∙ same_table;
+          gone = last.loses.after;
+          killed = last.zero;
+          moved = record { old = old; copy = y; was_live = live; copied = copy; is_live = last.loses.others p (λ e. apart (sym e)) ∙ put.gains.after ∙ ap (λ (l : List ℕ). Some l) sets };
+          magic = λ c. last.agree.magic c ∙ put.agree.magic c;
+          entries = λ q inside gone new'. last.agree.entry q inside gone ∙ put.agree.entry q inside new';
+          pages = λ q inside gone new'. last.agree.page q inside gone ∙ put.agree.page q inside new';
+          live = λ q gone new'. last.loses.others q gone ∙ put.gains.others q new';
+        }

@@ -9,6 +9,8 @@ use Rattle.image_model.specs.Tidy.{IsTidy, is_free_block, free_blocks}
 use Rattle.image_model.specs.Kinds.{is_index_page, is_data_block}
 use Rattle.image_model.specs.Collect.{index_in, data_in, deleted_in, free_in, free_where, free_outside, takes_index, is_fitting}
 use Rattle.image_model.specs.Sound.{Keeps}
+use Rattle.image_model.specs.Volume.{page_count}
+use Rattle.flash_view.specs.Steps.{Step}
 
 -- The image is tidy, and the block holds no live data page and fits: its live index pages find places in other blocks.
 pub record CanCleanIndex (g : Geometry) (image : List ℕ) (block : ℕ) : Type 0 where
@@ -85,3 +87,17 @@ pub record CleanedIndex (g : Geometry) (block : ℕ) (was now : List ℕ) : Type
   pub beside : IsSameBeside g block was now
   pub kept : free_blocks g was ≤ free_blocks g now
   pub taken : is_free_block g was block ≡ false → free_blocks g now ≤ free_blocks g was → free_where g now (takes_index g now) < entries g
+
+-- ---- the steps of a cleaning: a page is moved out, a page has its turn, all have theirs, and the whole cleaning
+
+abbrev pub moving_out : ℕ → ℕ → Step (Unit {0})
+moving_out block page = record { needs = λ g was. CanMoveOut g was block page; cut = λ g was image. TurnCut g block was image; done = λ g was now ok. TurnDone g block page was now }
+
+abbrev pub turning : ℕ → ℕ → Step (Unit {0})
+turning block page = record { needs = λ g was. HasPlaces g was block; cut = λ g was image. TurnCut g block was image; done = λ g was now ok. TurnDone g block page was now }
+
+abbrev pub emptying : ℕ → Step (Unit {0})
+emptying block = record { needs = λ g was. HasPlaces g was block; cut = λ g was image. CleanCut g was image; done = λ g was now ok. Emptied g block (page_count g) was now }
+
+abbrev pub cleaning_index : ℕ → Step (Unit {0})
+cleaning_index block = record { needs = λ g was. CanCleanIndex g was block; cut = λ g was image. CleanCut g was image; done = λ g was now ok. CleanedIndex g block was now }

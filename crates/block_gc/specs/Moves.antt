@@ -13,6 +13,7 @@ use Rattle.image_model.specs.Tidy.{IsTidy, is_free_block, free_blocks}
 use Rattle.image_model.specs.Kinds.{is_index_page, is_data_block}
 use Rattle.image_model.specs.Sound.{Keeps}
 use Rattle.image_laws.specs.NewFile.{IsFreePage}
+use Rattle.flash_view.specs.Steps.{Step}
 
 -- how many page numbers of an index page of that span are below the number of data pages
 abbrev pub kept_of : Geometry → (span count : ℕ) → ℕ
@@ -74,3 +75,6 @@ pub record MovedIndex (g : Geometry) (page to : ℕ) (was now : List ℕ) : Type
   pub entries : (p : ℕ) → is_entry_page g p ≡ true → p ≢ page → p ≢ to → entry_of g now p ≡ entry_of g was p
   pub pages : (p : ℕ) → is_entry_page g p ≡ true → p ≢ page → p ≢ to → page_of g now p ≡ page_of g was p
   pub live : (p : ℕ) → p ≢ page → p ≢ to → live_at g now p ≡ live_at g was p
+
+abbrev pub moving : ℕ → ℕ → Step (Unit {0})
+moving page to = record { needs = λ g was. CanMove g was page to; cut = λ g was image. MoveCut g to was image; done = λ g was now ok. MovedIndex g page to was now }

@@ -1,14 +1,14 @@
 // Cleaning an index block: its live index pages are moved out in page order, and then it is made fresh.
-ghost use Rattle.std.specs.Prelude.{◌≡◌, ◌<◌, ◌≤◌, OnErr, OnOk, IfOk, IfErr, IsErrOf, true, false};
+ghost use Rattle.std.specs.Prelude.{◌≡◌, ◌≢◌, ◌<◌, OnErr, IfOk};
 ghost use Rattle.nor_core.specs.Count.{Rose};
-ghost use Rattle.nor_core.specs.Device.{Changes, OnlyReads};
 ghost use Rattle.geometry.specs.Numbers.{page_count};
 ghost use Rattle.image_model.specs.Kinds.{is_index_page};
 ghost use Rattle.image_model.specs.Live.{live_at};
 ghost use Rattle.image_model.specs.Places.{block_of};
 ghost use Rattle.flash_view.specs.Places.{IsEntryPage};
-ghost use Rattle.flash_view.specs.Same.{IsSameView, OnlyLooks};
-ghost use Rattle.block_gc.specs.Emptied.{HasPlaces, CanMoveOut, TurnCut, TurnDone, CleanCut, Emptied, CanCleanIndex, CleanedIndex};
+ghost use Rattle.flash_view.specs.Same.{OnlyLooks};
+ghost use Rattle.flash_view.specs.Steps.{Stepped, stopped};
+ghost use Rattle.block_gc.specs.Emptied.{moving_out, turning, emptying, cleaning_index};
 
 use crate::moving::move_index;
 use flash_view::{Kind, StepErr, View, entry_page};
@@ -19,15 +19,18 @@ use page_put::fresh_block;
 use table_model::{Differ, Tag};
 
 // That no place was found for a page.
-pub(crate) fn no_place(page: u16) -> Differ {
-    let none = Tag {
+pub(crate) fn no_place(page: u16) -> Differ
+    ensures { result.wanted ≢ result.found }
+{
+    let wanted = Tag {
         id: 0xFFFF,
         span: 0xFFFF,
     };
+    let found = Tag { id: 0, span: 0 };
     Differ {
         page,
-        wanted: none,
-        found: none,
+        wanted,
+        found,
     }
 }
 
@@ -46,18 +49,10 @@ fn is_index<N: Nor>(v: &mut View<'_, N>, page: u16) -> Result<bool, Failed>
 }
 
 // Moves a live index page out of a block.
-#[tactic(auto, using(flash_view::proofs::Looking::same_then))]
 fn move_out<N: Nor>(v: &mut View<'_, N>, page: u16, block: u16) -> Result<(), StepErr>
     requires page { IsEntryPage v.old.geometry page }
     requires at { block_of v.old.geometry page ≡ block }
-    ensures cause { IsErrOf result StepErr.DeviceFault → Rose (N.faults v.old.nor.now) (N.faults v.new.nor.now) }
-    ensures faults { N.faults v.old.nor.now ≤ N.faults v.new.nor.now }
-    ensures same { IsSameView v.old v.new }
-    ensures wrote { v.old.wrote ≡ true → v.new.wrote ≡ true }
-    ensures untouched { v.old.wrote ≡ false → v.new.wrote ≡ false → OnlyReads N.NorState v.old.nor.now v.new.nor.now }
-    ensures changes { Changes N.NorState v.old.nor.now v.new.nor.now (λ was image. CanMoveOut v.old.geometry was block page → TurnCut v.old.geometry block was image) }
-    ensures done { N.tells v.old.nor.now → CanMoveOut v.old.geometry (N.bytes v.old.nor.now) block page → OnOk result (TurnDone v.old.geometry block page (N.bytes v.old.nor.now) (N.bytes v.new.nor.now)) }
-    ensures undamaged { N.tells v.old.nor.now → CanMoveOut v.old.geometry (N.bytes v.old.nor.now) block page → IfErr result (λ why. why ≡ StepErr.DeviceFault) }
+    ensures { Stepped stopped v.old v.new result (moving_out block page) }
 {
     match free_page(v, Kind::Index, 0, Some(block)) {
         Err(Failed) => Err(StepErr::DeviceFault),
@@ -70,18 +65,10 @@ fn move_out<N: Nor>(v: &mut View<'_, N>, page: u16, block: u16) -> Result<(), St
 }
 
 // The turn of a page: it is moved out of its block where it is a live index page.
-#[tactic(auto, using(flash_view::proofs::Looking::same_then))]
 fn empty_page<N: Nor>(v: &mut View<'_, N>, page: u16, block: u16) -> Result<(), StepErr>
     requires page { IsEntryPage v.old.geometry page }
     requires at { block_of v.old.geometry page ≡ block }
-    ensures cause { IsErrOf result StepErr.DeviceFault → Rose (N.faults v.old.nor.now) (N.faults v.new.nor.now) }
-    ensures faults { N.faults v.old.nor.now ≤ N.faults v.new.nor.now }
-    ensures same { IsSameView v.old v.new }
-    ensures wrote { v.old.wrote ≡ true → v.new.wrote ≡ true }
-    ensures untouched { v.old.wrote ≡ false → v.new.wrote ≡ false → OnlyReads N.NorState v.old.nor.now v.new.nor.now }
-    ensures changes { Changes N.NorState v.old.nor.now v.new.nor.now (λ was image. HasPlaces v.old.geometry was block → TurnCut v.old.geometry block was image) }
-    ensures done { N.tells v.old.nor.now → HasPlaces v.old.geometry (N.bytes v.old.nor.now) block → OnOk result (TurnDone v.old.geometry block page (N.bytes v.old.nor.now) (N.bytes v.new.nor.now)) }
-    ensures undamaged { N.tells v.old.nor.now → HasPlaces v.old.geometry (N.bytes v.old.nor.now) block → IfErr result (λ why. why ≡ StepErr.DeviceFault) }
+    ensures { Stepped stopped v.old v.new result (turning block page) }
 {
     match is_index(v, page) {
         Err(Failed) => Err(StepErr::DeviceFault),
@@ -93,14 +80,7 @@ fn empty_page<N: Nor>(v: &mut View<'_, N>, page: u16, block: u16) -> Result<(), 
 // Moves the live index pages of a block out of it, in page order.
 fn empty_block<N: Nor>(v: &mut View<'_, N>, block: u16) -> Result<(), StepErr>
     requires { block < v.old.geometry.blocks }
-    ensures cause { IsErrOf result StepErr.DeviceFault → Rose (N.faults v.old.nor.now) (N.faults v.new.nor.now) }
-    ensures faults { N.faults v.old.nor.now ≤ N.faults v.new.nor.now }
-    ensures same { IsSameView v.old v.new }
-    ensures wrote { v.old.wrote ≡ true → v.new.wrote ≡ true }
-    ensures untouched { v.old.wrote ≡ false → v.new.wrote ≡ false → OnlyReads N.NorState v.old.nor.now v.new.nor.now }
-    ensures changes { Changes N.NorState v.old.nor.now v.new.nor.now (λ was image. HasPlaces v.old.geometry was block → CleanCut v.old.geometry was image) }
-    ensures done { N.tells v.old.nor.now → HasPlaces v.old.geometry (N.bytes v.old.nor.now) block → OnOk result (Emptied v.old.geometry block (page_count v.old.geometry) (N.bytes v.old.nor.now) (N.bytes v.new.nor.now)) }
-    ensures undamaged { N.tells v.old.nor.now → HasPlaces v.old.geometry (N.bytes v.old.nor.now) block → IfErr result (λ why. why ≡ StepErr.DeviceFault) }
+    ensures { Stepped stopped v.old v.new result (emptying block) }
 {
     let g = v.geometry;
     for i in 0..g.entries() {
@@ -112,17 +92,9 @@ fn empty_block<N: Nor>(v: &mut View<'_, N>, block: u16) -> Result<(), StepErr>
 /// Cleans an index block: moves its live index pages to other blocks in page order, and makes it fresh with the next erase
 /// count, which is taken first. The image is to be tidy, and the block to have no live data page and to fit. A cut leaves
 /// the table as it is, and at most one free block less. Where that holds, a fault of the device is the one error.
-#[tactic(auto, using(flash_view::proofs::Looking::same_then))]
 pub fn clean_index<N: Nor>(v: &mut View<'_, N>, block: u16) -> Result<(), StepErr>
     requires { block < v.old.geometry.blocks }
-    ensures cause { IsErrOf result StepErr.DeviceFault → Rose (N.faults v.old.nor.now) (N.faults v.new.nor.now) }
-    ensures faults { N.faults v.old.nor.now ≤ N.faults v.new.nor.now }
-    ensures same { IsSameView v.old v.new }
-    ensures wrote { v.old.wrote ≡ true → v.new.wrote ≡ true }
-    ensures untouched { v.old.wrote ≡ false → v.new.wrote ≡ false → OnlyReads N.NorState v.old.nor.now v.new.nor.now }
-    ensures changes { Changes N.NorState v.old.nor.now v.new.nor.now (λ was image. CanCleanIndex v.old.geometry was block → CleanCut v.old.geometry was image) }
-    ensures done { N.tells v.old.nor.now → CanCleanIndex v.old.geometry (N.bytes v.old.nor.now) block → OnOk result (CleanedIndex v.old.geometry block (N.bytes v.old.nor.now) (N.bytes v.new.nor.now)) }
-    ensures undamaged { N.tells v.old.nor.now → CanCleanIndex v.old.geometry (N.bytes v.old.nor.now) block → IfErr result (λ why. why ≡ StepErr.DeviceFault) }
+    ensures { Stepped stopped v.old v.new result (cleaning_index block) }
 {
     let Ok(count) = next_count(v) else {
         return Err(StepErr::DeviceFault);

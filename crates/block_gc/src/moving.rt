@@ -3,14 +3,14 @@ ghost use Rattle.std.specs.Prelude.{◌≡◌, ◌+◌, ◌-◌, ◌^◌, ◌<�
 ghost use Rattle.geometry.specs.Numbers.{page_count};
 ghost use Rattle.table_model.specs.Room.{data_pages as the_data_pages};
 ghost use Rattle.nor_core.specs.Count.{Rose};
-ghost use Rattle.nor_core.specs.Device.{Changes, OnlyReads};
 ghost use Rattle.image_model.specs.Kinds.{is_index_page};
 ghost use Rattle.image_model.specs.Live.{live_at};
 ghost use Rattle.image_model.specs.Headers.{size_of};
 ghost use Rattle.image_model.specs.Places.{page_of};
 ghost use Rattle.flash_view.specs.Places.{IsEntryPage};
-ghost use Rattle.flash_view.specs.Same.{IsSameView, OnlyLooks};
-ghost use Rattle.block_gc.specs.Moves.{count_of, CanMove, MoveCut, MovedIndex};
+ghost use Rattle.flash_view.specs.Same.{OnlyLooks};
+ghost use Rattle.flash_view.specs.Steps.{Stepped, failed};
+ghost use Rattle.block_gc.specs.Moves.{count_of, CanMove, moving};
 ghost use Rattle.block_gc.specs.Built.{IsBuilt};
 
 use crate::copying::{copy_index, kept_slots};
@@ -18,7 +18,7 @@ use flash_view::{Kind, View};
 use geometry::Geometry;
 use nor_core::{Failed, Nor, NorState};
 use page_layout::file_size;
-use page_put::{finish, kill, place};
+use page_put::{kill, put_page};
 use table_model::Tag;
 
 // Data pages of a file of that size.
@@ -76,37 +76,23 @@ pub(crate) fn build_copy<N: Nor>(v: &mut View<'_, N>, page: u16) -> Result<Tag, 
 }
 
 // Puts the copy that was built, and kills the page: six programs.
-#[tactic(auto, using(flash_view::proofs::Looking::same_then))]
 fn put_copy<N: Nor>(v: &mut View<'_, N>, page: u16, to: u16, tag: Tag) -> Result<(), Failed>
     requires page { IsEntryPage v.old.geometry page }
     requires to { IsEntryPage v.old.geometry to }
     requires id { (1 ≤ tag.id) × (tag.id ≤ 0x7FFE) }
     requires built { N.tells v.old.nor.now → CanMove v.old.geometry (N.bytes v.old.nor.now) page to → IsBuilt v.old.geometry (N.bytes v.old.nor.now) page tag v.old.work.now }
-    ensures cause { OnErr result (Rose (N.faults v.old.nor.now) (N.faults v.new.nor.now)) }
-    ensures faults { N.faults v.old.nor.now ≤ N.faults v.new.nor.now }
-    ensures same { IsSameView v.old v.new }
-    ensures wrote { v.new.wrote ≡ true }
-    ensures changes { Changes N.NorState v.old.nor.now v.new.nor.now (λ was image. CanMove v.old.geometry was page to → MoveCut v.old.geometry to was image) }
-    ensures done { N.tells v.old.nor.now → CanMove v.old.geometry (N.bytes v.old.nor.now) page to → OnOk result (MovedIndex v.old.geometry page to (N.bytes v.old.nor.now) (N.bytes v.new.nor.now)) }
+    ensures { Stepped failed v.old v.new result (moving page to) }
 {
-    place(v, to, Kind::Index, tag)?;
-    finish(v, to)?;
+    put_page(v, to, Kind::Index, tag)?;
     kill(v, page)
 }
 
 /// Moves an index page: a copy of it is put at `to`, and the old page is killed. A cut leaves the table as it is. Where
 /// the page has no id of a file nothing is moved.
-#[tactic(auto, using(flash_view::proofs::Looking::same_then))]
 pub fn move_index<N: Nor>(v: &mut View<'_, N>, page: u16, to: u16) -> Result<(), Failed>
     requires page { IsEntryPage v.old.geometry page }
     requires to { IsEntryPage v.old.geometry to }
-    ensures cause { OnErr result (Rose (N.faults v.old.nor.now) (N.faults v.new.nor.now)) }
-    ensures faults { N.faults v.old.nor.now ≤ N.faults v.new.nor.now }
-    ensures same { IsSameView v.old v.new }
-    ensures wrote { v.old.wrote ≡ true → v.new.wrote ≡ true }
-    ensures untouched { v.old.wrote ≡ false → v.new.wrote ≡ false → OnlyReads N.NorState v.old.nor.now v.new.nor.now }
-    ensures changes { Changes N.NorState v.old.nor.now v.new.nor.now (λ was image. CanMove v.old.geometry was page to → MoveCut v.old.geometry to was image) }
-    ensures done { N.tells v.old.nor.now → CanMove v.old.geometry (N.bytes v.old.nor.now) page to → OnOk result (MovedIndex v.old.geometry page to (N.bytes v.old.nor.now) (N.bytes v.new.nor.now)) }
+    ensures { Stepped failed v.old v.new result (moving page to) }
 {
     let tag = build_copy(v, page)?;
     if tag.id == 0 || tag.id > 0x7FFE {

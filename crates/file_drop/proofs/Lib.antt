@@ -1,4 +1,3 @@
-pub mod Clearing
 pub mod Killing
 pub mod Marking
 pub mod Seeing

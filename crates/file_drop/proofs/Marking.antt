@@ -1,26 +1,23 @@
 -- The header page of a file is marked, and then killed.
-use Rattle.std.proofs.Common.{◌≡◌, ℕ, ◌+◌, ◌*◌, ◌<◌, ◌≤◌, List, [], ◌∷◌, slice_index, Bool, true, false, not, ◌==◌, ◌&&◌, Option, Some, None, ap, refl, sym, ◌∙◌, arith, ⊎_elim, inl, inr, subst}
+use Rattle.std.proofs.Common.{◌≡◌, ◌≢◌, ℕ, ◌+◌, ◌*◌, ◌<◌, ◌≤◌, List, [], ◌∷◌, slice_index, true, false, Option, Some, None, ap, refl, sym, ◌∙◌, arith, ⊎_elim, inl, inr, subst}
 use Rattle.std.specs.Prelude.{bit_and, is_some}
 use Rattle.std.specs.Int.{bit_at}
 use Rattle.geometry.specs.declared.geometry.Geometry.{Geometry}
 use Rattle.nor_core.specs.Flash.{HalfProgrammed, programmed}
-use Rattle.table_model.specs.Table.{drop_file}
 use Rattle.image_model.specs.Within.{sizes}
-use Rattle.image_model.specs.Places.{page_of, IsImage, entry_at}
+use Rattle.image_model.specs.Places.{page_of, IsImage}
 use Rattle.image_model.specs.Headers.{is_finished, names_index, span_of}
 use Rattle.image_model.specs.Live.{live_at, own}
 use Rattle.image_model.specs.Files.{is_index}
-use Rattle.image_model.specs.Tables.{table_of, damaged_of}
+use Rattle.image_model.specs.Tables.{damaged_of}
 use Rattle.image_model.specs.Tidy.{free_blocks}
-use Rattle.image_model.specs.Sound.{HasMagics, IsSound, Keeps}
+use Rattle.image_model.specs.Sound.{HasMagics, IsSound}
 use Rattle.image_laws.specs.Changes.{Loses}
 use Rattle.image_laws.specs.Flash.{Programmed}
-use Rattle.image_laws.specs.Kills.{Deletes}
 use Rattle.image_laws.specs.Programs.{ClearsBit, HasOneHead}
-use Rattle.image_laws.specs.LiveSteps.{Kills, KillCut}
-use Rattle.image_laws.specs.Remove.{Removes, Removed, Orphans}
+use Rattle.image_laws.specs.Remove.{Removes, Removed}
+use Rattle.image_laws.proofs.Append.{own-live, own-some}
 use Rattle.image_laws.proofs.Bits.{bit_cases}
-use Rattle.image_laws.proofs.DeadEntries.{deletes_by, unused_flags-keep, dead_entry-keeps, deleted_done}
 use Rattle.image_laws.proofs.Finish.{own-parts}
 use Rattle.image_laws.proofs.Finished.{torn_from}
 use Rattle.image_laws.proofs.Frames.{LivePage, live_parts}
@@ -28,15 +25,16 @@ use Rattle.image_laws.proofs.Judge.{index_passes}
 use Rattle.image_laws.proofs.LiveStep.{done_byte}
 use Rattle.image_laws.proofs.Placing.{page_byte}
 use Rattle.image_laws.proofs.Remove.{removing-loses, removing-drops}
-use Rattle.image_laws.proofs.RemoveTidy.{removing-is_sound, removing-leaves, dead-kills}
+use Rattle.image_laws.proofs.RemoveTidy.{removing-is_sound, removing-leaves}
 use Rattle.image_laws.proofs.Sounding.{sound-on}
 use Rattle.image_laws.proofs.SpareKill.{tidy-has_magics}
 use Rattle.image_laws.proofs.TidySteps.{tidy-is_tidy}
 use Rattle.header_laws.proofs.Telling.{one-head}
-use Rattle.page_put.specs.Kills.{deleted, killed, HalfKilled}
-use Rattle.file_drop.specs.Removals.{CanDrop, RemoveCut, HeaderDropped}
-use Rattle.file_drop.proofs.Clearing.{left_half, left_done, clears_mark, below_byte}
-use Rattle.file_drop.proofs.Killing.{flags_left, kill_cut, kill_done, spare_left}
+use Rattle.flash_view.specs.Steps.{Begins, Finishes, making}
+use Rattle.page_put.specs.LivePages.{clearing, Stays, Cleared}
+use Rattle.page_put.proofs.Clearing.{left_half, left_done, clears_mark, below_byte}
+use Rattle.file_drop.specs.Removals.{is_of, CanDrop, RemoveCut, HeaderDropped, KeepsAll, dropping_header}
+use Rattle.file_drop.proofs.Killing.{some_page, dead_keeps, dead_orphans}
 
 some_index : (o : Option (List ℕ)) → is_index o 0 ≡ true → (x : List ℕ) × (o ≡ Some x)
 some_index None e = absurd (cc)
@@ -96,7 +94,7 @@ module _ (g : Geometry) (a : List ℕ) (id p : ℕ) (is : IsImage g a) (can : Ca
   sound : (c : List ℕ) → HalfProgrammed at (flags ∷ []) a c → IsSound g c a × (damaged_of g c ≡ []) × (free_blocks g a ≤ free_blocks g c)
   sound c half = removing-is_sound g a c p flags id 6 page.0 start magics half
 
-  pub mark_cut : (c : List ℕ) → HalfProgrammed at (0xBF ∷ []) a c → RemoveCut g a id c
+  mark_cut : (c : List ℕ) → HalfProgrammed at (0xBF ∷ []) a c → RemoveCut g a id c
   mark_cut c h =
       let half = left_half at 0xBF a c h in
       let left = sound c half in
@@ -117,63 +115,47 @@ module _ (g : Geometry) (a : List ℕ) (id p : ℕ) (is : IsImage g a) (can : Ca
   left : Removed g p id a marked
   left = removing-leaves g a marked p flags id 6 page.0 start can.can.tidy program
 
+  pub marks : Begins g a (making (λ h. HalfProgrammed (p * h.page + 4) (0xBF ∷ [])) (λ h b. programmed b (p * h.page + 4) (0xBF ∷ []))) (dropping_header id p)
+  marks = record { needs = tt; cut = mark_cut }
+
   -- ---- the kill
 
   small : slice_index marked at < 256
   small = rw byte (below_byte (slice_index a at) 0xBF can.byte)
 
-  deletes : Deletes (slice_index marked at) (flags_left g marked p)
-  deletes = deletes_by (slice_index marked at) small
-
   magics_now : HasMagics g marked
   magics_now = tidy-has_magics g marked (λ r. is_some (own (live_at g a) id r)) left.orphans.tidy
 
-  abbrev later : List ℕ
-  later = killed g p marked
+  kept : (c : List ℕ) → Stays g p marked c → KeepsAll g marked c
+  kept c h = dead_keeps g marked c p magics_now parts.entry_page left.used h
 
-  kills : Kills g p (flags_left g marked p) marked (deleted g p marked) later
-  kills = kill_done g marked p
-
-  law : ((c : List ℕ) → KillCut g p (flags_left g marked p) marked (deleted g p marked) c → Keeps g marked c × (free_blocks g marked ≤ free_blocks g c)) × IsImage g later × Keeps g marked later
-      × Orphans g (λ q. is_some (own (live_at g a) id q) && not (q == p)) later
-  law =
-      dead-kills g marked (deleted g p marked) later p (flags_left g marked p) (λ r. is_some (own (live_at g a) id r)) left.image magics_now left.orphans (ap is_some page.1) parts.entry_page left.dead left.used
-      deletes kills
-
-  first : HalfProgrammed at (flags_left g marked p ∷ []) marked (deleted g p marked)
-  first = torn_from at (flags_left g marked p ∷ []) marked (deleted g p marked) kills.delete
-
-  second : HalfProgrammed (entry_at g p) (0 ∷ 0 ∷ []) (deleted g p marked) later
-  second = torn_from (entry_at g p) (0 ∷ 0 ∷ []) (deleted g p marked) later kills.clear
-
-  lives : (q : ℕ) → live_at g later q ≡ live_at g marked q
-  lives q =
-      let one = unused_flags-keep g marked (deleted g p marked) p (flags_left g marked p) left.image magics_now parts.entry_page left.dead deletes first in
-      let image : IsImage g (deleted g p marked) = record { len = omega (arith, first.outside.size, left.image.len) } in
-      let two = dead_entry-keeps g (deleted g p marked) later p (0 ∷ 0 ∷ []) image one.1.sound.magics parts.entry_page
-      (deleted_done g marked (deleted g p marked) p (flags_left g marked p) left.image deletes kills.delete) refl second in
-      two.0 q ∙ one.0 q
-
-  all_lost : Loses p (live_at g a) (live_at g later)
-  all_lost = record { after = lives p ∙ loses.after; others = λ q there. lives q ∙ loses.others q there }
-
-  kept : (c : List ℕ) → KillCut g p (flags_left g marked p) marked (deleted g p marked) c → IsSound g c a × (table_of g c ≡ drop_file id (table_of g a)) × (free_blocks g a ≤ free_blocks g c)
-  kept c cut =
+  cut : (c : List ℕ) → Stays g p marked c → RemoveCut g a id c
+  cut c h =
       let before = sound marked half in
-      let after = law.0 c cut in
-      let more : free_blocks g a ≤ free_blocks g marked = before.2 in
-      let still : free_blocks g marked ≤ free_blocks g c = after.1 in
-      (sound-on g a marked c before.0 after.0.sound, after.0.table ∙ left.table, omega (arith, more, still))
+      let after = kept c h in
+      record { sound = sound-on g a marked c before.0 after.keeps.sound; table = inr (after.keeps.table ∙ left.table); free = omega (arith, before.2, after.free) }
 
-  pub header_cut : (c : List ℕ) → HalfKilled g p marked c → RemoveCut g a id c
-  header_cut c h = let k = kept c (kill_cut g marked c p h) in record { sound = k.0; table = inr k.1; free = k.2 }
+  leaves : (q : ℕ) → q ≢ p → is_some (own (live_at g a) id q) ≡ true → is_of g marked id q ≡ true
+  leaves q there mine = ap is_some (own-live (live_at g a) (live_at g marked) id q (loses.others q there)) ∙ mine
 
-  pub header_done : HeaderDropped g a id later
-  header_done =
-      let k = kept later (inr second) in
+  back : (q : ℕ) → is_of g marked id q ≡ true → is_some (own (live_at g a) id q) ≡ true
+  back q mine =
+      let w = some_page (own (live_at g marked) id q) mine in
+      let z = own-parts (live_at g marked) id q w.0 w.1 in
+      ap is_some (own-some (live_at g a) id q w.0 (left.others q w.0 z.0) z.1)
+
+  done : (c : List ℕ) → Cleared g p marked c → HeaderDropped g a id c
+  done c h =
+      let before = sound marked half in
+      let after = kept c h.stays in
       record {
-        sound = k.0;
-        table = k.1;
-        free = k.2;
-        orphans = subst (λ (spare : ℕ → Bool). Orphans g spare later) (sym (spare_left id p (live_at g a) (live_at g later) all_lost)) law.3;
+        sound = sound-on g a marked c before.0 after.keeps.sound;
+        table = after.keeps.table ∙ left.table;
+        free = omega (arith, before.2, after.free);
+        orphans = dead_orphans g marked c id p (λ r. is_some (own (live_at g a) id r)) left.orphans leaves back h;
       }
+
+  pub clears_header : (b : List ℕ) → b ≡ marked → Finishes g a b (clearing p) (dropping_header id p)
+  clears_header b e =
+      subst (λ (l : List ℕ). Finishes g a l (clearing p) (dropping_header id p)) (sym e)
+      (record { needs = record { inside = parts.entry_page; dead = left.dead; byte = small }; cut = cut; done = λ c ok h. done c h })

@@ -8,6 +8,7 @@ use Rattle.image_model.specs.Tables.{table_of}
 use Rattle.image_model.specs.Tidy.{IsTidy, free_blocks}
 use Rattle.image_model.specs.Sound.{IsSound, Keeps}
 use Rattle.image_laws.specs.Remove.{Orphans}
+use Rattle.flash_view.specs.Steps.{Step}
 
 -- The image is tidy, and its table has a file of that id.
 pub record CanRemove (g : Geometry) (image : List ℕ) (id : ℕ) : Type 0 where
@@ -63,3 +64,20 @@ pub record DropsPage (g : Geometry) (id p : ℕ) (was now : List ℕ) : Type 0 w
 pub record DropsPages (g : Geometry) (was now : List ℕ) : Type 0 where
   pub kept : KeepsAll g was now
   pub tidy : IsTidy g now
+
+-- ---- the steps of a remove: a turn at page p, all turns, that of the header page p, all of them, and the whole remove
+
+abbrev pub dropping : ℕ → ℕ → Step (Unit {0})
+dropping id p = record { needs = λ g was. HasOrphans g id was; cut = λ g was image. KeepsAll g was image; done = λ g was now ok. DropsPage g id p was now }
+
+abbrev pub dropping_all : ℕ → Step (Unit {0})
+dropping_all id = record { needs = λ g was. HasOrphans g id was; cut = λ g was image. KeepsAll g was image; done = λ g was now ok. DropsPages g was now }
+
+abbrev pub dropping_header : ℕ → ℕ → Step (Unit {0})
+dropping_header id p = record { needs = λ g was. CanDrop g was id p; cut = λ g was image. RemoveCut g was id image; done = λ g was now ok. HeaderDropped g was id now }
+
+abbrev pub removing_by : ℕ → ℕ → Step (Unit {0})
+removing_by id p = record { needs = λ g was. CanDrop g was id p; cut = λ g was image. RemoveCut g was id image; done = λ g was now ok. IsRemoved g was id now }
+
+abbrev pub removing : ℕ → Step (Unit {0})
+removing id = record { needs = λ g was. CanRemove g was id; cut = λ g was image. RemoveCut g was id image; done = λ g was now ok. IsRemoved g was id now }

@@ -1,12 +1,12 @@
-ghost use Rattle.std.specs.Prelude.{◌≡◌, ◌+◌, ◌*◌, ◌%◌, ◌==◌, ◌<◌, ◌≤◌, OnErr, OnOk, IfOk, true, slice_index};
+ghost use Rattle.std.specs.Prelude.{◌≡◌, ◌+◌, ◌*◌, ◌%◌, ◌==◌, ◌<◌, OnErr, IfOk, slice_index};
 ghost use Rattle.std.specs.Bool.{OnTrue};
 ghost use Rattle.geometry.specs.Numbers.{page_count};
 ghost use Rattle.nor_core.specs.Count.{Rose};
-ghost use Rattle.nor_core.specs.Device.{Changes};
 ghost use Rattle.page_layout.specs.Layout.{bits_of};
 ghost use Rattle.flash_view.specs.Places.{IsEntryPage};
-ghost use Rattle.flash_view.specs.Same.{IsSameView, OnlyLooks};
-ghost use Rattle.file_drop.specs.Removals.{is_of, HasOrphans, KeepsAll, DropsPage, DropsPages};
+ghost use Rattle.flash_view.specs.Same.{OnlyLooks};
+ghost use Rattle.flash_view.specs.Steps.{Stepped, failed};
+ghost use Rattle.file_drop.specs.Removals.{is_of, dropping, dropping_all};
 
 use flash_view::{View, is_entry_page};
 use nor_core::{Failed, Nor, NorState};
@@ -42,15 +42,9 @@ pub(crate) fn is_page_of<N: Nor>(v: &mut View<'_, N>, page: u16, id: u16) -> Res
 }
 
 // Kills a page, if it is a live page of an id that has no header page.
-#[tactic(auto, using(flash_view::proofs::Looking::same_then))]
 fn drop_page<N: Nor>(v: &mut View<'_, N>, page: u16, id: u16) -> Result<(), Failed>
     requires { page < page_count v.old.geometry }
-    ensures cause { OnErr result (Rose (N.faults v.old.nor.now) (N.faults v.new.nor.now)) }
-    ensures faults { N.faults v.old.nor.now ≤ N.faults v.new.nor.now }
-    ensures same { IsSameView v.old v.new }
-    ensures wrote { v.old.wrote ≡ true → v.new.wrote ≡ true }
-    ensures changes { Changes N.NorState v.old.nor.now v.new.nor.now (λ was image. HasOrphans v.old.geometry id was → KeepsAll v.old.geometry was image) }
-    ensures done { N.tells v.old.nor.now → HasOrphans v.old.geometry id (N.bytes v.old.nor.now) → OnOk result (DropsPage v.old.geometry id page (N.bytes v.old.nor.now) (N.bytes v.new.nor.now)) }
+    ensures { Stepped failed v.old v.new result (dropping id page) }
 {
     if !is_page_of(v, page, id)? {
         return Ok(());
@@ -60,12 +54,7 @@ fn drop_page<N: Nor>(v: &mut View<'_, N>, page: u16, id: u16) -> Result<(), Fail
 
 /// Kills each live page of an id that has no header page, in page order.
 pub(crate) fn drop_pages<N: Nor>(v: &mut View<'_, N>, id: u16) -> Result<(), Failed>
-    ensures cause { OnErr result (Rose (N.faults v.old.nor.now) (N.faults v.new.nor.now)) }
-    ensures faults { N.faults v.old.nor.now ≤ N.faults v.new.nor.now }
-    ensures same { IsSameView v.old v.new }
-    ensures wrote { v.old.wrote ≡ true → v.new.wrote ≡ true }
-    ensures changes { Changes N.NorState v.old.nor.now v.new.nor.now (λ was image. HasOrphans v.old.geometry id was → KeepsAll v.old.geometry was image) }
-    ensures done { N.tells v.old.nor.now → HasOrphans v.old.geometry id (N.bytes v.old.nor.now) → OnOk result (DropsPages v.old.geometry (N.bytes v.old.nor.now) (N.bytes v.new.nor.now)) }
+    ensures { Stepped failed v.old v.new result (dropping_all id) }
 {
     for page in 0..v.geometry.pages() as u16 {
         drop_page(v, page, id)?;

@@ -1,11 +1,11 @@
-ghost use Rattle.std.specs.Prelude.{◌≡◌, ◌+◌, ◌*◌, ◌<◌, ◌≤◌, OnErr, OnOk, IfOk, IfErr, IfSome, IsErrOf, true, false, slice_index};
+ghost use Rattle.std.specs.Prelude.{◌≡◌, ◌≢◌, ◌+◌, ◌*◌, ◌<◌, OnErr, IfOk, IfSome, slice_index};
 ghost use Rattle.nor_core.specs.Count.{Rose};
-ghost use Rattle.nor_core.specs.Device.{Changes, OnlyReads};
 ghost use Rattle.image_model.specs.Live.{live_at, own};
 ghost use Rattle.image_model.specs.Files.{index_page};
 ghost use Rattle.flash_view.specs.Places.{IsEntryPage};
-ghost use Rattle.flash_view.specs.Same.{IsSameView, OnlyLooks};
-ghost use Rattle.file_drop.specs.Removals.{CanRemove, RemoveCut, IsRemoved, CanDrop, HeaderDropped};
+ghost use Rattle.flash_view.specs.Same.{OnlyLooks};
+ghost use Rattle.flash_view.specs.Steps.{Stepped, failed, stopped};
+ghost use Rattle.file_drop.specs.Removals.{dropping_header, removing_by, removing};
 
 use crate::pages::{drop_pages, is_page_of};
 use flash_view::{StepErr, View};
@@ -14,7 +14,9 @@ use page_put::{kill, mark_removed};
 use table_model::{Differ, Tag};
 
 // That no header page was found where one was wanted.
-fn missing(id: u16) -> Differ {
+fn missing(id: u16) -> Differ
+    ensures { result.wanted ≢ result.found }
+{
     let wanted = Tag { id, span: 0 };
     let found = Tag {
         id: 0xFFFF,
@@ -47,30 +49,18 @@ fn find_header<N: Nor>(v: &mut View<'_, N>, id: u16) -> Result<Option<u16>, Fail
 }
 
 // Marks the header page of an id, by which the file is removed, and kills it.
-#[tactic(auto, using(flash_view::proofs::Looking::same_then))]
 fn drop_header<N: Nor>(v: &mut View<'_, N>, header: u16, id: u16) -> Result<(), Failed>
     requires { IsEntryPage v.old.geometry header }
-    ensures cause { OnErr result (Rose (N.faults v.old.nor.now) (N.faults v.new.nor.now)) }
-    ensures faults { N.faults v.old.nor.now ≤ N.faults v.new.nor.now }
-    ensures same { IsSameView v.old v.new }
-    ensures wrote { v.new.wrote ≡ true }
-    ensures changes { Changes N.NorState v.old.nor.now v.new.nor.now (λ was image. CanDrop v.old.geometry was id header → RemoveCut v.old.geometry was id image) }
-    ensures done { N.tells v.old.nor.now → CanDrop v.old.geometry (N.bytes v.old.nor.now) id header → OnOk result (HeaderDropped v.old.geometry (N.bytes v.old.nor.now) id (N.bytes v.new.nor.now)) }
+    ensures { Stepped failed v.old v.new result (dropping_header id header) }
 {
     mark_removed(v, header)?;
     kill(v, header)
 }
 
 // Removes a file by its header page.
-#[tactic(auto, using(flash_view::proofs::Looking::same_then))]
 fn drop_by<N: Nor>(v: &mut View<'_, N>, header: u16, id: u16) -> Result<(), Failed>
     requires { IsEntryPage v.old.geometry header }
-    ensures cause { OnErr result (Rose (N.faults v.old.nor.now) (N.faults v.new.nor.now)) }
-    ensures faults { N.faults v.old.nor.now ≤ N.faults v.new.nor.now }
-    ensures same { IsSameView v.old v.new }
-    ensures wrote { v.new.wrote ≡ true }
-    ensures changes { Changes N.NorState v.old.nor.now v.new.nor.now (λ was image. CanDrop v.old.geometry was id header → RemoveCut v.old.geometry was id image) }
-    ensures done { N.tells v.old.nor.now → CanDrop v.old.geometry (N.bytes v.old.nor.now) id header → OnOk result (IsRemoved v.old.geometry (N.bytes v.old.nor.now) id (N.bytes v.new.nor.now)) }
+    ensures { Stepped failed v.old v.new result (removing_by id header) }
 {
     drop_header(v, header, id)?;
     drop_pages(v, id)
@@ -79,15 +69,8 @@ fn drop_by<N: Nor>(v: &mut View<'_, N>, header: u16, id: u16) -> Result<(), Fail
 /// Removes the file of an id: its header page is marked, which is the step, then the header page, then every other page
 /// of the id is killed. At a cut the file is there whole or not at all, and a check frees what is left of it. The image
 /// is to be tidy, and its table to have a file of that id. Where that holds, a fault of the device is the one error.
-#[tactic(auto, using(flash_view::proofs::Looking::same_then))]
 pub fn remove_step<N: Nor>(v: &mut View<'_, N>, id: u16) -> Result<(), StepErr>
-    ensures cause { IsErrOf result StepErr.DeviceFault → Rose (N.faults v.old.nor.now) (N.faults v.new.nor.now) }
-    ensures faults { N.faults v.old.nor.now ≤ N.faults v.new.nor.now }
-    ensures same { IsSameView v.old v.new }
-    ensures changes { Changes N.NorState v.old.nor.now v.new.nor.now (λ was image. CanRemove v.old.geometry was id → RemoveCut v.old.geometry was id image) }
-    ensures done { N.tells v.old.nor.now → CanRemove v.old.geometry (N.bytes v.old.nor.now) id → OnOk result (IsRemoved v.old.geometry (N.bytes v.old.nor.now) id (N.bytes v.new.nor.now)) }
-    ensures undamaged { N.tells v.old.nor.now → CanRemove v.old.geometry (N.bytes v.old.nor.now) id → IfErr result (λ why. why ≡ StepErr.DeviceFault) }
-    ensures untouched { v.old.wrote ≡ false → v.new.wrote ≡ false → OnlyReads N.NorState v.old.nor.now v.new.nor.now }
+    ensures { Stepped stopped v.old v.new result (removing id) }
 {
     match find_header(v, id) {
         Err(Failed) => Err(StepErr::DeviceFault),

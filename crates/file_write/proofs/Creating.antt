@@ -1,45 +1,46 @@
--- A create, from what its programs leave.
-use Rattle.std.proofs.Common.{◌≡◌, ◌≢◌, ℕ, ◌+◌, ◌*◌, ◌<◌, ◌≤◌, ◌⊎◌, List, [], ◌∷◌, length, slice_index, true, false, ◌==◌, ◌||◌, Option, Some, None, is_some, not, refl, sym, ◌∙◌, arith, ⊎_elim, inl, inr, zero, suc, Bool, get_or}
+-- A create, from what the put of its header page leaves.
+use Rattle.std.proofs.Common.{◌≡◌, ◌≢◌, ℕ, ◌+◌, ◌-◌, ◌*◌, ◌/◌, ◌%◌, ◌<◌, ◌≤◌, List, [], ◌∷◌, ◌++◌, length, replicate, slice_index, subst, take, true, false, Option, Some, None, is_some, not, ap, refl, sym, ◌∙◌, arith, ⊎_elim, inl, inr, zero, suc, Bool, get_or}
 use Rattle.std.specs.List.{All, list_any}
-use Rattle.std.specs.Int.{bit_at}
-use Rattle.std.proofs.lemmas.Nat.Bits.{bit_at_above}
-use Rattle.std.proofs.lemmas.Bool.{cases_lt, agree_below_at, or_cases, or_parts, eqb-true, not-false}
+use Rattle.std.proofs.lemmas.Bool.{cases_eq, or_parts, not-false}
+use Rattle.std.proofs.lemmas.List.{take_at}
+use Rattle.std.proofs.lemmas.Option.{none-some, same_Some}
 use Rattle.geometry.specs.declared.geometry.Geometry.{Geometry}
-use Rattle.nor_core.specs.Flash.{HalfProgrammed, programmed}
-use Rattle.table_model.specs.Table.{File, has_name, same_text}
+use Rattle.table_model.specs.declared.error.Tag.{Tag}
+use Rattle.table_model.specs.Table.{File, has_name, same_text, put_file}
 use Rattle.table_model.specs.Files.{new_file}
-use Rattle.page_layout.specs.Layout.{new_header_page, IsNewHeader}
-use Rattle.image_model.specs.Places.{block_of, IsImage}
+use Rattle.page_layout.specs.Layout.{new_header_page, padded, IsNewHeader}
+use Rattle.image_model.specs.Places.{block_of}
 use Rattle.image_model.specs.Headers.{names_index}
-use Rattle.image_model.specs.Live.{live_at, own}
+use Rattle.image_model.specs.Live.{Live, live_at, own}
 use Rattle.image_model.specs.Files.{index_page}
-use Rattle.image_model.specs.Tables.{table_of}
-use Rattle.image_model.specs.Tidy.{HasReserve, is_free_block, free_blocks}
-use Rattle.image_model.specs.Sound.{HasMagics}
+use Rattle.image_model.specs.Tables.{table_of, damaged_of}
+use Rattle.image_model.specs.Tidy.{IsTidy, HasReserve, is_free_block, free_blocks, is_wanted}
+use Rattle.image_model.specs.Sound.{HasMagics, IsSound}
 use Rattle.image_model.specs.Kinds.{is_data_block, is_data_page}
+use Rattle.image_model.specs.Volume.{page_count, per_block, lookups, entries}
 use Rattle.image_model.specs.Within.{sizes, entry_of_block, page_number}
 use Rattle.flash_view.specs.Found.{has_header}
-use Rattle.image_laws.specs.Flash.{Programmed}
-use Rattle.image_laws.specs.Programs.{ClearsBit, LeadsTo}
-use Rattle.image_laws.specs.NewFile.{IsNewHead}
-use Rattle.image_laws.specs.SoundSteps.{IsOfKind}
-use Rattle.image_laws.specs.TidySteps.{Agree}
-use Rattle.image_laws.specs.Creating.{Creates, Placed}
-use Rattle.image_laws.specs.Put.{IsReadyPage}
-use Rattle.image_laws.specs.LiveSteps.{PutCut, PutLeaves, PutDone}
-use Rattle.image_laws.proofs.Records.{bytes_equal, list_any-at}
-use Rattle.image_model.specs.Volume.{per_block, lookups, entries}
-use Rattle.image_laws.proofs.Frames.{live_parts}
-use Rattle.image_laws.proofs.FreeBlocks.{free_blocks-fall}
-use Rattle.image_laws.proofs.LiveStep.{put-changes}
-use Rattle.image_laws.proofs.CreateTidy.{create-tidies, create-sound}
-use Rattle.image_laws.specs.Changes.{Gains}
-use Rattle.image_laws.proofs.CreateStep.{byte3}
-use Rattle.page_put.specs.Placing.{with_entry, with_header, with_page, IsPlacing}
-use Rattle.page_put.proofs.Finishing.{programs_place, finish_clears_final}
 use Rattle.flash_view.specs.declared.kinds.Kind.TheVariants.{Index}
-use Rattle.file_write.specs.Creates.{CanPut, CreateCut, Created}
-use Rattle.file_write.proofs.NewHead.{finished_head, length-new_header, byte-new_header, index, of, first, live, leads}
+use Rattle.image_laws.specs.Changes.{Gains}
+use Rattle.image_laws.specs.Programs.{LeadsTo}
+use Rattle.image_laws.specs.SoundSteps.{IsOfKind}
+use Rattle.image_laws.specs.TidySteps.{Agree, IsTidyBut}
+use Rattle.image_laws.specs.LiveSteps.{PutLeaves, PutDone}
+use Rattle.image_laws.proofs.Finish.{records-changed}
+use Rattle.image_laws.proofs.Frames.{live_parts, table_of-same}
+use Rattle.image_laws.proofs.FreeBlocks.{free_blocks-fall}
+use Rattle.image_laws.proofs.Judge.{judged-keyed}
+use Rattle.image_laws.proofs.Publish as publish
+use Rattle.image_laws.proofs.Records.{bytes_equal, list_any-at}
+use Rattle.image_laws.proofs.Sounding.{sound-by, keeps-by_live, mixed-gains, other-kind, gains-undamaged}
+use Rattle.image_laws.proofs.TidySteps.{tidy-is_tidy, entries-but}
+use Rattle.image_laws.proofs.Wants.{wanted-gains, wanted-new}
+use Rattle.flash_view.specs.Steps.{Finishes}
+use Rattle.page_put.specs.Placing.{placed_page}
+use Rattle.page_put.specs.LivePages.{finished_page, putting}
+use Rattle.page_put.proofs.Putting.{ready}
+use Rattle.file_write.specs.Creates.{CanPut, CreateCut, Created, creating_at}
+use Rattle.file_write.proofs.NewHead.{finished_head, length-new_header, byte-new_header, index, of, first, leads}
 
 -- ---- what is known of the image
 
@@ -80,107 +81,136 @@ of_kind g image p page none index = record {
       not-false (names_index x) names ∙ sym index;
 }
 
--- the finished flags clear FINAL alone
-clears_final : ClearsBit 1 0xFA 0xF8
-clears_final = record {
-  set = refl;
-  cleared = refl;
-  others = λ j other. ⊎_elim
-      (λ (low : j < 8).
-      let one = agree_below_at (λ (k : ℕ). (k == 1) || (bit_at 0xF8 k == bit_at 0xFA k)) (λ (k : ℕ). true) 8 j refl low in
-      ⊎_elim (λ (e : (j == 1) ≡ true). absurd (other (eqb-true j 1 e))) (λ (e : (bit_at 0xF8 j == bit_at 0xFA j) ≡ true). eqb-true _ _ e) (or_cases _ _ one))
-      (λ (high : 8 ≤ j). bit_at_above 0xF8 8 j (omega arith) high ∙ sym (bit_at_above 0xFA 8 j (omega arith) high))
-      (cases_lt j 8);
-}
+-- ---- a header page more
 
--- four ways, grouped otherwise
-one_of_four : {A B C D : Type 0} → (A ⊎ (B ⊎ C)) ⊎ D → A ⊎ (B ⊎ (C ⊎ D))
-one_of_four (inl (inl a)) = inl a
-one_of_four (inl (inr (inl b))) = inr (inl b)
-one_of_four (inl (inr (inr c))) = inr (inr (inl c))
-one_of_four (inr d) = inr (inr (inr d))
+module _ (g : Geometry) (a : List ℕ) (p id : ℕ) (name : List ℕ) (some : 1 ≤ id) (small : id ≤ 0x7FFE) (fields : IsNewHeader g id name (new_header_page g.page id name)) (can : CanPut g a p id name) where
+  abbrev head : List ℕ
+  head = finished_head g.page id name
 
--- ---- what the programs leave
+  abbrev file : File
+  file = new_file g id name
 
-module _ (g : Geometry) (a0 : List ℕ) (p id : ℕ) (name : List ℕ) (is : IsImage g a0) (some : 1 ≤ id) (small : id ≤ 0x7FFE) (few : length name ≤ 31) (bytes : All (λ b. b < 256) name)
-    (fields : IsNewHeader g id name (new_header_page g.page id name)) (can : CanPut g a0 p id name) where
-  -- no header page of the id is there
-  new_none : index_page g (own (live_at g a0) id) 0 ≡ None
-  new_none = no_head g a0 id can.can.new_id
+  none : index_page g (own (live_at g a) id) 0 ≡ None
+  none = no_head g a id can.can.new_id
 
-  -- the header page leads to the new file once it is finished
-  leads_to : LeadsTo g a0 id (finished_head g.page id name) (new_file g id name)
+  -- it leads to the new file
+  leads_to : LeadsTo g a id head file
   leads_to = record {
     is_head = record { index = index g id name small; of = of g id name small; first = first g id name small };
     low = some;
     high = omega (arith, small);
-    file = leads g id name small fields (own (live_at g a0) id);
+    file = leads g id name small fields (own (live_at g a) id);
     undamaged = can.can.tidy.undamaged;
-    unused = unused id name (table_of g a0) can.can.new_name;
+    unused = unused id name (table_of g a) can.can.new_name;
   }
 
-  -- so it is a new header page, a create begins on it, and it is a page to be placed
-  new_head : IsNewHead g a0 id (new_header_page g.page id name) (new_file g id name)
-  new_head = record {
-    len = length-new_header g.page id name (omega (arith, (sizes g).page)) few;
-    bytes = byte-new_header g.page id name small (omega (arith, (sizes g).page)) few bytes;
-    flags = refl;
-    finished = live g id name small some;
-    leads = leads_to;
-    new = new_none;
-  }
+  within : p < page_count g
+  within = page_number g p can.free.entry_page
 
-  start : Creates g a0 p id (new_header_page g.page id name) (new_file g id name)
-  start = record { image = is; free = can.free; ready = new_head; kind = of_kind g a0 p (finished_head g.page id name) can.kind (index g id name small) }
+  kind : IsOfKind g (live_at g a) p head
+  kind = of_kind g a p head can.kind (index g id name small)
 
-  ready : IsReadyPage g (new_header_page g.page id name) 0xF8
-  ready = record { len = new_head.len; bytes = new_head.bytes; clears = clears_final; finished = new_head.finished }
-
-  -- every block has its magic, and the reserve stays
-  magics : HasMagics g a0
+  magics : HasMagics g a
   magics = record { one = λ b c low low' no no'. let bad : true ≡ false = sym (can.can.tidy.magic b low) ∙ no in absurd (cc) }
 
-  reserve : (c : List ℕ) → Agree g a0 c p → HasReserve g c
+  reserve : (c : List ℕ) → Agree g a c p → HasReserve g c
   reserve c agree =
-      let fall = free_blocks-fall g a0 c p agree in
-      let two : 2 ≤ free_blocks g a0 = can.can.reserve in
+      let fall = free_blocks-fall g a c p agree in
+      let two : 2 ≤ free_blocks g a = can.can.reserve in
       ⊎_elim
-      (λ (used : is_free_block g a0 (block_of g p) ≡ false). let kept : free_blocks g a0 ≤ free_blocks g c = fall.1 used in omega arith)
-      (λ (more : 2 < free_blocks g a0). let one : free_blocks g a0 ≤ free_blocks g c + 1 = fall.0 in omega arith)
+      (λ (used : is_free_block g a (block_of g p) ≡ false). let kept : free_blocks g a ≤ free_blocks g c = fall.1 used in omega arith)
+      (λ (more : 2 < free_blocks g a). let one : free_blocks g a ≤ free_blocks g c + 1 = fall.0 in omega arith)
       can.keeps
 
-  -- the programs that place it
-  placed : Placed g p (new_header_page g.page id name) a0 (with_entry g p (new_header_page g.page id name) a0) (with_header g p (new_header_page g.page id name) a0) (with_page g p (new_header_page g.page id name) a0)
-  placed = programs_place g p (new_header_page g.page id name) a0
+  module _ (c : List ℕ) (agree : Agree g a c p) (gains : Gains p head (live_at g a) (live_at g c)) where
+    undamaged : damaged_of g c ≡ []
+    unfolding damaged_of
+    undamaged = gains-undamaged g a (live_at g c) p id head file within gains leads_to
 
-  -- the flags before it is finished
-  flags : slice_index (with_page g p (new_header_page g.page id name) a0) (p * g.page + 4) ≡ 0xFA
-  flags = byte3 g a0 p id (new_header_page g.page id name) (new_file g id name) is can.free new_head _ placed.one _ placed.two _ placed.three 4 (omega (arith, (sizes g).page))
+    puts : table_of g c ≡ put_file file (table_of g a)
+    unfolding table_of damaged_of
+    puts =
+        records-changed g a (live_at g c) id p file leads_to.low leads_to.high leads_to.undamaged leads_to.unused (judged-keyed g (own (live_at g a) id) id head file leads_to.file)
+        (publish.first g a (live_at g c) p id head file within gains leads_to (λ q k. absurd (none-some q (sym none ∙ k)))) (publish.others-same g a (live_at g c) p id head file within gains leads_to)
 
-  -- the program that finishes it
-  finish : Programmed (p * g.page + 4) (0xF8 ∷ []) (with_page g p (new_header_page g.page id name) a0) (programmed (with_page g p (new_header_page g.page id name) a0) (p * g.page + 4) (0xFD ∷ []))
-  finish = (finish_clears_final Index _ _ flags).1
+    sound : IsSound g c a
+    sound = sound-by g a c magics agree.magic (mixed-gains g (live_at g a) (live_at g c) p head gains kind) (undamaged ∙ sym leads_to.undamaged)
 
-  -- a cut in any of the four
-  left : (c : List ℕ) → PutCut g p (new_header_page g.page id name) 0xF8 a0 (with_entry g p (new_header_page g.page id name) a0) (with_header g p (new_header_page g.page id name) a0) (with_page g p (new_header_page g.page id name) a0) c → CreateCut g a0 id name c
-  left c cut =
-      let put : PutLeaves g p (finished_head g.page id name) a0 c = (put-changes g a0 _ _ _ _ p (new_header_page g.page id name) 0xF8 is can.free ready (record { placed = placed; finish = finish })).0 c cut in
-      let sound = create-sound g a0 _ _ _ c p id (new_header_page g.page id name) (new_file g id name) start magics placed (one_of_four cut) in
-      record {
-        sound = sound.sound;
-        table = sound.table;
-        reserve = reserve c put.agree;
-      }
+    unmixed : (q r : ℕ) (x y : List ℕ) → live_at g c q ≡ Some x → live_at g c r ≡ Some y → block_of g q ≡ block_of g r → names_index x ≡ names_index y
+    unmixed q r x y e f at =
+        ⊎_elim
+        (λ (here : q ≡ p). ⊎_elim
+        (λ (too : r ≡ p). ap names_index (same_Some x y (sym e ∙ ap (live_at g c) (here ∙ sym too) ∙ f)))
+        (λ (there : r ≡ p → ⊥). sym (other-kind g (live_at g a) (live_at g c) p head gains kind r q y x f e (sym at) there here))
+        (cases_eq r p))
+        (λ (apart : q ≡ p → ⊥). ⊎_elim
+        (λ (here : r ≡ p). other-kind g (live_at g a) (live_at g c) p head gains kind q r x y e f at apart here)
+        (λ (there : r ≡ p → ⊥). can.can.tidy.unmixed q r x y (sym (gains.others q apart) ∙ e) (sym (gains.others r there) ∙ f) at)
+        (cases_eq r p))
+        (cases_eq q p)
 
-  -- a cut while it is placed, a cut while it is finished, and the whole create
-  pub placing_left : (c : List ℕ) → IsPlacing g p (new_header_page g.page id name) a0 c → CreateCut g a0 id name c
-  placing_left c cut = left c (inl cut)
+    tidy : IsTidy g c
+    unfolding is_wanted
+    tidy =
+        let t : IsTidyBut g a (λ q. false) = (tidy-is_tidy g a (λ (q : ℕ). false)).0 can.can.tidy in
+        (tidy-is_tidy g c (λ (q : ℕ). false)).1 (λ q e. absurd (cc))
+        (record {
+          magic = λ b low. agree.magic b ∙ t.magic b low;
+          entries = entries-but g a c p (λ (q : ℕ). false) (λ (q : ℕ). false) agree t (λ q there s. s)
+              (λ q there w. wanted-gains g a (live_at g c) p id head file within gains leads_to none q there w)
+              (inr (inr (inr (wanted-new g a (live_at g c) p id head file within gains leads_to none))));
+          undamaged = undamaged;
+          unmixed = unmixed;
+        })
 
-  pub finishing_left : (c : List ℕ) → HalfProgrammed (p * g.page + 4) (0xFD ∷ []) (with_page g p (new_header_page g.page id name) a0) c → CreateCut g a0 id name c
-  finishing_left c cut = left c (inr ((finish_clears_final Index _ _ flags).0 c cut))
+  put_cut : (c : List ℕ) → PutLeaves g p head a c → CreateCut g a id name c
+  put_cut c h =
+      ⊎_elim
+      (λ (same : live_at g c ≡ live_at g a).
+      let live : (q : ℕ) → live_at g c q ≡ live_at g a q = λ q. ap (λ (l : Live). l q) same in
+      record { sound = (keeps-by_live g a c magics h.agree.magic live).sound; table = inl (table_of-same g c a live); reserve = reserve c h.agree })
+      (λ (gains : Gains p head (live_at g a) (live_at g c)). record { sound = sound c h.agree gains; table = inr (puts c h.agree gains); reserve = reserve c h.agree })
+      h.live
 
-  pub create_done : Created g a0 id name (programmed (with_page g p (new_header_page g.page id name) a0) (p * g.page + 4) (0xFD ∷ []))
-  create_done =
-      let put : PutDone g p (finished_head g.page id name) a0 _ = (put-changes g a0 _ _ _ _ p (new_header_page g.page id name) 0xF8 is can.free ready (record { placed = placed; finish = finish })).1 in
-      let tidy = create-tidies g a0 _ _ _ _ p id (new_header_page g.page id name) (new_file g id name) start placed finish can.can.tidy in
-      record { tidy = tidy.0; reserve = reserve _ put.agree; table = tidy.1 }
+  put_done : (c : List ℕ) → PutDone g p head a c → Created g a id name c
+  put_done c h = record { tidy = tidy c h.agree h.gains; reserve = reserve c h.agree; table = puts c h.agree h.gains }
+
+  -- ---- the page that is built
+
+  module _ (few : length name ≤ 31) (bytes : All (λ b. b < 256) name) (page rest : List ℕ) (built : page ≡ new_header_page g.page id name) where
+    abbrev back : List ℕ
+    back = replicate 7 0xFF ++ (1 ∷ (padded name ++ replicate (g.page - 45) 0xFF))
+
+    behind : take (g.page - 5) (back ++ rest) ≡ back
+    behind =
+        let whole : length (new_header_page g.page id name) ≡ g.page = length-new_header g.page id name (omega (arith, (sizes g).page)) few in
+        let len : length back ≡ g.page - 5 = omega (arith, whole) in
+        take_at back rest (g.page - 5) len
+
+    abbrev tag : Tag
+    tag = record { id = id; span = 0 }
+
+    low : (id + 0x8000) % 256 ≡ id % 256
+    low = omega arith
+
+    high : (id + 0x8000) / 256 ≡ id / 256 + 128
+    high = omega arith
+
+    placed_is : placed_page g Index tag (page ++ rest) ≡ new_header_page g.page id name
+    placed_is = rw (built, low, high) (ap (λ (l : List ℕ). id % 256 ∷ (id / 256 + 128) ∷ 0 ∷ 0 ∷ 0xFA ∷ l) behind)
+
+    finished_is : finished_page g Index tag (page ++ rest) ≡ head
+    finished_is = rw (built, low, high) (ap (λ (l : List ℕ). id % 256 ∷ (id / 256 + 128) ∷ 0 ∷ 0 ∷ 0xF8 ∷ l) behind)
+
+    pub puts_head : Finishes g a a (putting p Index tag (page ++ rest)) (creating_at p id name)
+    puts_head =
+        let least : 45 ≤ g.page = omega (arith, (sizes g).page) in
+        record {
+          needs = record {
+            free = can.free;
+            ready = ready g Index tag (page ++ rest) (ap length placed_is ∙ length-new_header g.page id name least few)
+                (λ i within. subst (λ (l : List ℕ). slice_index l i < 256) (sym placed_is) (byte-new_header g.page id name small least few bytes i within)) some small;
+          };
+          cut = λ c h. put_cut c (rw finished_is at h);
+          done = λ c ok h. put_done c (rw finished_is at h);
+        }

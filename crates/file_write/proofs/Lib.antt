@@ -1,4 +1,3 @@
 pub mod NewHead
 pub mod Creating
-pub mod PutHead
 pub mod Finding

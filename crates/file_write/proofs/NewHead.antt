@@ -1,15 +1,15 @@
 -- The header page of a new file, once it is finished.
-use Rattle.std.proofs.Common.{◌≡◌, ℕ, ◌+◌, ◌-◌, ◌/◌, ◌%◌, ◌<◌, ◌≤◌, List, [], ◌∷◌, ◌++◌, length, replicate, slice_index, slice_range, true, false, nat_lt, ◌==◌, Some, Ok, refl, ap, arith}
+use Rattle.std.proofs.Common.{◌≡◌, ℕ, ◌+◌, ◌-◌, ◌/◌, ◌%◌, ◌<◌, ◌≤◌, List, [], ◌∷◌, ◌++◌, length, replicate, slice_index, slice_range, true, Some, Ok, refl, ap, arith}
 use Rattle.std.specs.List.{All}
 use Rattle.std.proofs.Math.Nat.{div-eq_of_lt}
 use Rattle.std.proofs.lemmas.Grind.{common_steps}
-use Rattle.std.proofs.lemmas.Bool.{le-ltb, ne_eqb}
+use Rattle.std.proofs.lemmas.Bool.{le-ltb}
 use Rattle.std.proofs.lemmas.List.Elements.{All-append, All-cons, All-replicate, All-get_or}
 use Rattle.geometry.specs.declared.geometry.Geometry.{Geometry}
 use Rattle.table_model.specs.Room.{data_pages}
 use Rattle.table_model.specs.Files.{new_file}
 use Rattle.page_layout.specs.Layout.{new_header_page, padded, IsNewHeader}
-use Rattle.image_model.specs.Headers.{obj_id, span_of, names_index, is_finished, name_of}
+use Rattle.image_model.specs.Headers.{obj_id, span_of, names_index, name_of}
 use Rattle.image_model.specs.Live.{Live}
 use Rattle.image_model.specs.Files.{judged}
 use Rattle.image_model.specs.Within.{sizes}
@@ -58,15 +58,6 @@ module _ (g : Geometry) (id : ℕ) (name : List ℕ) (small : id ≤ 0x7FFE) whe
 
   pub first : span_of (finished_head g.page id name) ≡ 0
   first = refl
-
-  -- it says itself that it is live
-  pub live : 1 ≤ id → is_finished (finished_head g.page id name) ≡ true
-  unfolding is_finished
-  live some =
-      let some_id : ((id + 0x8000) % 0x8000 == 0) ≡ false = ne_eqb _ _ (omega arith) in
-      let not_free : (id + 0x8000 == 0xFFFF) ≡ false = ne_eqb _ _ (omega arith) in
-      let high : nat_lt (id + 0x8000) 0x8000 ≡ false = le-ltb (id + 0x8000) 0x8000 (omega arith) in
-      rw (id_is, some_id, not_free, high) refl
 
   -- it leads to the new file, whatever other pages the id has
   pub leads : IsNewHeader g id name (new_header_page g.page id name) → (pages : Live) → judged g pages id (finished_head g.page id name) ≡ Ok (new_file g id name)

@@ -11,6 +11,7 @@ use Rattle.image_model.specs.Kinds.{is_data_block}
 use Rattle.image_model.specs.Collect.{are_had}
 use Rattle.flash_view.specs.Found.{has_header}
 use Rattle.image_laws.specs.NewFile.{IsFreePage, IsBeforeOrAfter}
+use Rattle.flash_view.specs.Steps.{Step}
 
 -- The image is tidy with its reserve, the id and the name are unused, and an index page is to be had.
 pub record CanCreate (g : Geometry) (image : List ℕ) (id : ℕ) (name : List ℕ) : Type 0 where
@@ -38,3 +39,11 @@ pub record CanPut (g : Geometry) (image : List ℕ) (p id : ℕ) (name : List �
   pub free : IsFreePage g image p
   pub kind : is_data_block g image (block_of g p) ≡ false
   pub keeps : (is_free_block g image (block_of g p) ≡ false) ⊎ (2 < free_blocks g image)
+
+-- ---- the steps of a create: the header page at page p, and the whole create
+
+abbrev pub creating_at : ℕ → ℕ → List ℕ → Step (Unit {0})
+creating_at p id name = record { needs = λ g was. CanPut g was p id name; cut = λ g was image. CreateCut g was id name image; done = λ g was now ok. Created g was id name now }
+
+abbrev pub creating : ℕ → List ℕ → Step (Unit {0})
+creating id name = record { needs = λ g was. CanCreate g was id name; cut = λ g was image. CreateCut g was id name image; done = λ g was now ok. Created g was id name now }

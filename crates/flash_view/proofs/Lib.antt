@@ -13,3 +13,4 @@ pub mod Marking
 pub mod Nearest
 pub mod Holders
 pub mod Stepping
+pub mod Stepped

@@ -4,3 +4,4 @@ pub mod Found
 pub mod Judging
 pub mod Marks
 pub mod Listing
+pub mod Steps

@@ -2,7 +2,7 @@ ghost use Rattle.std.specs.Prelude.{◌≡◌, pos, ◌+ℤ◌, replicate, IfOk}
 ghost use Rattle.table_model.specs.Ask.{asked};
 ghost use Rattle.table_model.specs.Calls.{answer_flush, answer_seek, answer_write, info_of};
 ghost use Rattle.table_model.specs.Files.{place_within};
-ghost use Rattle.table_model.specs.Flat.{full_answer};
+ghost use Rattle.table_model.specs.Flat.{answer};
 ghost use Rattle.flat_plain.specs.Seen.{said, state_of};
 
 use crate::counts::{counted, data_count, index_count};
@@ -41,10 +41,10 @@ impl Flat {
 
     /// Answers a call as the flat model does, and moves to the state after it. `spare` says whether at least two blocks
     /// are free. Wants memory for the table after the call.
-    #[tactic(auto, unfolding(table_model::specs::Flat::full_answer))]
+    #[tactic(auto, unfolding(table_model::specs::Flat::answer))]
     pub fn answer(&mut self, spare: bool, call: &Call<'_>) -> Result<Said, AllocError>
-        ensures answer { IfOk result (λ r. said r ≡ (full_answer self.old.geometry spare (state_of self.old) (asked call.now)).answer) }
-        ensures next { IfOk result (λ r. state_of self.new ≡ (full_answer self.old.geometry spare (state_of self.old) (asked call.now)).next) }
+        ensures answer { IfOk result (λ r. said r ≡ (answer self.old.geometry spare (state_of self.old) (asked call.now)).answer) }
+        ensures next { IfOk result (λ r. state_of self.new ≡ (answer self.old.geometry spare (state_of self.old) (asked call.now)).next) }
         ensures geometry { self.new.geometry ≡ self.old.geometry }
     {
         match *call {

@@ -164,7 +164,7 @@ module _ (g : Geometry) (a0 : List ℕ) (p o id h : ℕ) (old page head head' : 
     fall4 : (c : List ℕ) → Agree g a0 c p → free_blocks g a0 ≤ free_blocks g c + 1
     fall4 c h = (free_blocks-fall g a0 c p h).0
 
-    cut_put : (c : List ℕ) → PutLeaves g p (set page 4 fin) a0 c → CutOf g a0 f c × (damaged_of g c ≡ [])
+    pub cut_put : (c : List ℕ) → PutLeaves g p (set page 4 fin) a0 c → CutOf g a0 f c × (damaged_of g c ≡ [])
     cut_put c h =
         ⊎_elim
         (λ (same : live_at g c ≡ live_at g a0).
@@ -179,7 +179,7 @@ module _ (g : Geometry) (a0 : List ℕ) (p o id h : ℕ) (old page head head' : 
         ))
         h.live
 
-    cut_kill : (a4 c : List ℕ) → PutDone g p (set page 4 fin) a0 a4 → KillLeaves g o a4 c → CutOf g a0 f c × (damaged_of g c ≡ [])
+    pub cut_kill : (a4 c : List ℕ) → PutDone g p (set page 4 fin) a0 a4 → KillLeaves g o a4 c → CutOf g a0 f c × (damaged_of g c ≡ [])
     cut_kill a4 c put h =
         let live = live4 a4 put.gains in
         let free : free_blocks g a0 ≤ free_blocks g c + 1 =

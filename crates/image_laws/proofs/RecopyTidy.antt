@@ -11,12 +11,12 @@ use Rattle.image_model.specs.Live.{live_at, Live, own}
 use Rattle.image_model.specs.Headers.{obj_id, size_of}
 use Rattle.image_model.specs.Places.{entry_of}
 use Rattle.image_laws.specs.Changes.{Gains}
-use Rattle.table_model.specs.Table.{File}
+use Rattle.table_model.specs.Table.{File, put_file}
 use Rattle.image_model.specs.Tables.{Found, damages, damaged_of, table_of}
 use Rattle.image_model.specs.Files.{index_page, entry_number, data_of}
 use Rattle.image_model.specs.Tidy.{is_number, serves, is_wanted, is_free_entry}
 use Rattle.image_laws.specs.TidySteps.{Agree, IsTidyBut}
-use Rattle.image_laws.specs.Spares.{leftover}
+use Rattle.image_laws.specs.Spares.{leftover, Spares}
 use Rattle.image_laws.specs.OneId.{OneIdChanges}
 use Rattle.image_laws.specs.LiveSteps.{PutDone, KillDone}
 use Rattle.image_laws.specs.Recopy.{Recopies, PutsData, PutDataSpares, Renamed, RecopyTidies, PutSame}
@@ -268,14 +268,21 @@ module _ (g : Geometry) (a0 a4 a6 : List ℕ) (p o id h : ℕ) (old page head he
         ⊎_elim (λ (s : serves g (own (live_at g a6) id) head' r ≡ true). let bad : false ≡ true = rw s at v.1 in absurd (cc)) (λ (n : serves g (own (live_at g a6) id) head' r ≡ false). n) (cases_Bool (serves g (own (live_at g a6) id) head' r)),
       )
 
-pub recopy-tidies : (g : Geometry) → RecopyTidies g
-recopy-tidies g a0 a1 a2 a3 a4 a5 a6 p o id h old page head head' fin kill f0 f copies olds start all kills t names =
-    let done = (put-changes g a0 a1 a2 a3 a4 p page fin start.image start.free start.ready all).1 in
-    let last = (kill-changes g a4 a5 a6 o kill old done.image (live4 g a0 p o id h old page head head' fin kill f0 f start a4 done.gains) (clears4 g a0 p o id h old page head head' fin kill f0 f start a4 done) kills).1 in
+-- a put and a kill of live pages, done
+pub recopied : (g : Geometry) (a0 a4 a6 : List ℕ) (p o id h : ℕ) (old page head head' : List ℕ) (fin kill : ℕ) (f0 f : File) (copies olds : ℕ → Bool) → Recopies g a0 p o id h old page head head' fin kill f0 f →
+    PutDone g p (set page 4 fin) a0 a4 → KillDone g o a4 a6 → IsTidyBut g a0 copies → Renamed g (own (live_at g a0) id) head old (set page 4 fin) copies olds →
+    Spares g (λ r. olds r && leftover g (own (live_at g a6) id) head' r) a6 × (table_of g a6 ≡ put_file f (table_of g a0))
+recopied g a0 a4 a6 p o id h old page head head' fin kill f0 f copies olds start done last t names =
     one_id-spares g a0 a6 id (header g a0 a4 a6 p o id h old page head head' fin kill f0 f copies olds start t done last names).0 head' f copies (λ (r : ℕ). copies r || ((r == p) || (r == o)))
     (λ (r : ℕ). olds r && leftover g (own (live_at g a6) id) head' r) start.image t (λ r e. rw e refl)
     (changes g a0 a4 a6 p o id h old page head head' fin kill f0 f copies olds start t done last names)
     (idle g a0 a4 a6 p o id h old page head head' fin kill f0 f copies olds start t done last names)
+
+pub recopy-tidies : (g : Geometry) → RecopyTidies g
+recopy-tidies g a0 a1 a2 a3 a4 a5 a6 p o id h old page head head' fin kill f0 f copies olds start all kills t names =
+    let done = (put-changes g a0 a1 a2 a3 a4 p page fin start.image start.free start.ready all).1 in
+    let last = (kill-changes g a4 a5 a6 o kill old done.image (live4 g a0 p o id h old page head head' fin kill f0 f start a4 done.gains) (clears4 g a0 p o id h old page head head' fin kill f0 f start a4 done) kills).1 in
+    recopied g a0 a4 a6 p o id h old page head head' fin kill f0 f copies olds start done last t names
 
 pub put-same : (g : Geometry) → PutSame g
 unfolding table_of damaged_of

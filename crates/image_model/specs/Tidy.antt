@@ -1,5 +1,5 @@
 -- Wanted pages, free blocks, and tidy images.
-use Rattle.std.specs.Prelude.{◌≡◌, ℕ, ◌+◌, ◌*◌, ◌%◌, ◌<◌, ◌≤◌, ◌⊎◌, List, [], length, Bool, true, false, ◌==◌, ◌&&◌, ◌||◌, Option, Some, None, is_some, option_and_then, filter}
+use Rattle.std.specs.Prelude.{◌≡◌, ℕ, ◌+◌, ◌*◌, ◌%◌, ◌<◌, ◌≤◌, ◌⊎◌, List, [], length, Bool, true, false, ◌==◌, ◌&&◌, ◌||◌, Option, Some, None, is_some, option_and_then, filter, nat_le}
 use Rattle.std.specs.List.{range_with_len, list_any, list_all}
 use Rattle.geometry.specs.declared.geometry.Geometry.{Geometry}
 use Rattle.table_model.specs.Room.{data_pages, index_pages}
@@ -67,3 +67,11 @@ free_blocks g image = length (filter (λ block. is_free_block g image block) (ra
 -- A volume has its reserve where at least two blocks are free.
 abbrev pub HasReserve : Geometry → List ℕ → Type 0
 HasReserve g image = 2 ≤ free_blocks g image
+
+-- whether at least two blocks are free, as the flat table is told it
+abbrev pub has_spare : Geometry → List ℕ → Bool
+has_spare g image = nat_le 2 (free_blocks g image)
+
+-- An image mends where mounting and checking it gives two free blocks back. Without a collection in the check it is one that has them.
+unfoldable pub Mends : Geometry → List ℕ → Type 0
+Mends g image = HasReserve g image

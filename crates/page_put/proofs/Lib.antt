@@ -3,3 +3,6 @@ pub mod Finishing
 pub mod Placed
 pub mod Freshening
 pub mod Erasures
+pub mod Clearing
+pub mod Killed
+pub mod Putting

@@ -9,4 +9,4 @@ mod put;
 pub use fields::{fill_tail, mark_removed, name_slot};
 pub use fresh::fresh_block;
 pub use killing::kill;
-pub use put::{finish, place, puts_by_programs};
+pub use put::{finish, place, put_page, puts_by_programs};

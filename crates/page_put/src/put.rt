@@ -5,6 +5,8 @@ ghost use Rattle.nor_core.specs.Device.{Changes};
 ghost use Rattle.page_layout.specs.Layout.{bits_of};
 ghost use Rattle.flash_view.specs.Places.{IsEntryPage};
 ghost use Rattle.flash_view.specs.Same.{IsSameView};
+ghost use Rattle.flash_view.specs.Steps.{Stepped, failed};
+ghost use Rattle.page_put.specs.LivePages.{putting};
 ghost use Rattle.page_put.specs.Placing.{placed_id, placed_flags, placed_page, with_page, IsPlacing, ProgramsPlace, FinishClearsFinal};
 ghost use Rattle.geometry.specs.declared.geometry.Geometry.{Geometry};
 
@@ -76,6 +78,18 @@ pub fn finish<N: Nor>(v: &mut View<'_, N>, page: u16) -> Result<(), Failed>
 {
     let erased = Flags::from_bits(0xFF);
     v.program_in(page, 4, &[erased.finished().bits()])
+}
+
+/// Puts the page that is being built: places it, and finishes it by a fourth program, the one that makes it live. At a
+/// cut it is live or not, and all else is as it was. The page and its entry are to be erased, in a block with its magic.
+pub fn put_page<N: Nor>(v: &mut View<'_, N>, page: u16, kind: Kind, tag: Tag) -> Result<(), Failed>
+    requires page { IsEntryPage v.old.geometry page }
+    requires id { (1 ≤ tag.id) × (tag.id ≤ 0x7FFE) }
+    ensures step { Stepped failed v.old v.new result (putting page kind tag v.old.work.now) }
+    ensures wrote { v.new.wrote ≡ true }
+{
+    place(v, page, kind, tag)?;
+    finish(v, page)
 }
 
 /// What `place` and `finish` leave is what the laws of a put speak of: a placed page, and the program of its

@@ -1,7 +1,6 @@
 -- What a call answers on the flat state, and the state after it.
-use Rattle.std.specs.Prelude.{Bool, true, false, replicate, if◌then◌else◌}
+use Rattle.std.specs.Prelude.{Bool, replicate}
 use Rattle.geometry.specs.declared.geometry.Geometry.{Geometry}
-use Rattle.table_model.specs.declared.error.FsErr.TheVariants.{Unbuilt}
 use Rattle.table_model.specs.Table.{State}
 use Rattle.table_model.specs.Ask.{Ask, Creates, Opens, Reads, Writes, Fills, Seeks, Tells, Truncates, Flushes, Closes, Removes, RemovesOpen, Renames, Stats, StatsOpen, NextAbove, Informs, Collects, SetsMeta, SetsMetaOpen}
 use Rattle.table_model.specs.Reply.{Fine, Counts}
@@ -15,37 +14,24 @@ use Rattle.table_model.specs.Calls.{answer_read, answer_write, answer_seek, answ
 
 -- The answer of each call; `spare` says whether at least two blocks are free.
 -- A collection changes no state; where it stops without its reserve depends on more than the state, and isn't said here.
-unfoldable pub full_answer : Geometry → Bool → State → Ask → Outcome
-full_answer g spare s (Creates name) = answer_create g spare s name
-full_answer g spare s (Opens name flags) = answer_open g spare s name flags
-full_answer g spare s (Reads fd count) = answer_read s fd count
-full_answer g spare s (Writes fd bytes) = answer_write g spare s fd bytes
-full_answer g spare s (Fills fd count byte) = answer_write g spare s fd (replicate count byte)
-full_answer g spare s (Seeks fd offset from) = answer_seek s fd offset from
-full_answer g spare s (Tells fd) = answer_tell s fd
-full_answer g spare s (Truncates fd size) = answer_truncate g spare s fd size
-full_answer g spare s (Flushes fd) = answer_flush s fd
-full_answer g spare s (Closes fd) = answer_close s fd
-full_answer g spare s (Removes name) = answer_remove s name
-full_answer g spare s (RemovesOpen fd) = answer_fremove s fd
-full_answer g spare s (Renames old_name new_name) = answer_rename g spare s old_name new_name
-full_answer g spare s (Stats name) = answer_stat s name
-full_answer g spare s (StatsOpen fd) = answer_fstat s fd
-full_answer g spare s (NextAbove after) = answer_next s after
-full_answer g spare s Informs = gives (Counts (info_of g s.table)) s
-full_answer g spare s Collects = gives Fine s
-full_answer g spare s (SetsMeta name meta) = answer_meta g spare s name meta
-full_answer g spare s (SetsMetaOpen fd meta) = answer_fmeta g spare s fd meta
-
--- the calls that this build has
-abbrev pub is_built : Ask → Bool
-is_built (Creates name) = true
-is_built (Removes name) = true
-is_built (Stats name) = true
-is_built (NextAbove after) = true
-is_built Informs = true
-is_built _ = false
-
--- the answer of a call; one that isn't built is refused, and leaves the state
 unfoldable pub answer : Geometry → Bool → State → Ask → Outcome
-answer g spare s ask = if is_built ask then full_answer g spare s ask else refused Unbuilt s
+answer g spare s (Creates name) = answer_create g spare s name
+answer g spare s (Opens name flags) = answer_open g spare s name flags
+answer g spare s (Reads fd count) = answer_read s fd count
+answer g spare s (Writes fd bytes) = answer_write g spare s fd bytes
+answer g spare s (Fills fd count byte) = answer_write g spare s fd (replicate count byte)
+answer g spare s (Seeks fd offset from) = answer_seek s fd offset from
+answer g spare s (Tells fd) = answer_tell s fd
+answer g spare s (Truncates fd size) = answer_truncate g spare s fd size
+answer g spare s (Flushes fd) = answer_flush s fd
+answer g spare s (Closes fd) = answer_close s fd
+answer g spare s (Removes name) = answer_remove s name
+answer g spare s (RemovesOpen fd) = answer_fremove s fd
+answer g spare s (Renames old_name new_name) = answer_rename g spare s old_name new_name
+answer g spare s (Stats name) = answer_stat s name
+answer g spare s (StatsOpen fd) = answer_fstat s fd
+answer g spare s (NextAbove after) = answer_next s after
+answer g spare s Informs = gives (Counts (info_of g s.table)) s
+answer g spare s Collects = gives Fine s
+answer g spare s (SetsMeta name meta) = answer_meta g spare s name meta
+answer g spare s (SetsMetaOpen fd meta) = answer_fmeta g spare s fd meta

@@ -1,5 +1,5 @@
 -- The write window: bytes of the last writes that are not on the chip yet, all inside one data page.
-use Rattle.std.specs.Prelude.{ℕ, ◌+◌, ◌*◌, ◌/◌, List, [], ◌∷◌, ◌++◌, length, Option, Some, None, Bool, true, false, not, nat_lt, nat_le, ◌==◌, ◌&&◌, if◌then◌else◌}
+use Rattle.std.specs.Prelude.{ℕ, ◌≡◌, ◌⊎◌, ◌+◌, ◌*◌, ◌/◌, List, [], ◌∷◌, ◌++◌, length, Option, Some, None, Bool, true, false, not, nat_lt, nat_le, ◌==◌, ◌&&◌, if◌then◌else◌}
 use Rattle.geometry.specs.declared.geometry.Geometry.{Geometry}
 use Rattle.geometry.specs.Numbers.{body}
 use Rattle.table_model.specs.Table.{File, Open, State}
@@ -102,3 +102,8 @@ after g spare m ask = moved g m ask (answer g spare m.state ask) (steps g spare 
 -- the tables from the last settled one to the last of these further steps
 abbrev pub from_settled : Moment → List (List File) → List (List File)
 from_settled m more = m.settled ∷ m.waiting ++ more
+
+-- the table is one of these
+unfoldable pub IsAmong : List File → List (List File) → Type 0
+IsAmong t [] = ⊥
+IsAmong t (u ∷ us) = (t ≡ u) ⊎ IsAmong t us

@@ -44,7 +44,7 @@ module _ {D : Type 0} {nor : NorOf D} {g : Geometry} where
   calls_split script e t = ap calls_of (lines_split script e t) ∙ calls-append t.done (lines t.tail) t.good
 
   -- a cut in the lines that were done
-  pub run_cut : {ending : Ending} {m : Moment} {a b : At D} (script : List ℕ) → script ≡ a.pending ++ a.left → Turned nor g (Some ending) m a b → MayCut nor g a.device b.device m (calls script)
+  run_cut : {ending : Ending} {m : Moment} {a b : At D} (script : List ℕ) → script ≡ a.pending ++ a.left → Turned nor g (Some ending) m a b → MayCut nor g a.device b.device m (calls script)
   run_cut script e t = same_cut (calls_split script e t) (wider_cut (calls_of (lines t.tail)) t.leaves)
 
   done_lines : {ending : Ending} {m : Moment} {a b : At D} (t : Turned nor g (Some ending) m a b) → ((more : List ℕ) → Follows (Some ending) t.tail more) → lines t.seg ≡ t.done
@@ -73,6 +73,6 @@ module _ {D : Type 0} {nor : NorOf D} {g : Geometry} where
   -- how a run of turns ends that began with its script's first byte
   pub run_ends : (ending : Ending) (m : Moment) (a b : At D) (script : List ℕ) → script ≡ a.pending ++ a.left → a.pending ≡ [] → a.taken ≡ 0 → a.handed ≡ 0 → Turned nor g (Some ending) m a b → RunEnds nor g a.device b.device m script b.left ending
   run_ends ending m a b script e fresh none first t = ⊎_elim
-      (λ broken. inl (let same : Some ending ≡ Some BoardFault = broken.0 in cc, same_said g m (calls_of t.done ++ calls_of (lines t.tail)) (calls script) (calls_split script e t) (said_wider g m (calls_of t.done) (calls_of (lines t.tail)) broken.1)))
-      (λ here. inr (record { front = calls_of t.done; later = calls_of (lines t.tail); asks_are = calls_split script e t; reached = here.0; why = why_of ending m (after_all g m (calls_of t.done)) a b script e fresh none first t here.1 }))
+      (λ broken. inl (let same : Some ending ≡ Some BoardFault = broken.0 in cc, same_said g m (calls_of t.done ++ calls_of (lines t.tail)) (calls script) (calls_split script e t) (said_wider g m (calls_of t.done) (calls_of (lines t.tail)) broken.1), run_cut script e t))
+      (λ here. inr (record { front = calls_of t.done; later = calls_of (lines t.tail); asks_are = calls_split script e t; reached = here.0; leaves = t.leaves; why = why_of ending m (after_all g m (calls_of t.done)) a b script e fresh none first t here.1 }))
       t.stops

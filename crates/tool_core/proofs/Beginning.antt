@@ -1,5 +1,5 @@
 -- From the first image over the check to the end of a run.
-use Rattle.std.proofs.Common.{◌≡◌, ℕ, ◌≤◌, List, [], ◌++◌, refl, sym, ◌∙◌, ap, subst, arith, inl, inr, ⊎_elim, append-nil}
+use Rattle.std.proofs.Common.{◌≡◌, ℕ, ◌<◌, ◌≤◌, ◌⊎◌, List, [], ◌++◌, refl, sym, ◌∙◌, ap, subst, arith, inl, inr, ⊎_elim, append-nil, Some, None}
 use Rattle.geometry.specs.declared.geometry.Geometry.{Geometry}
 use Rattle.nor_core.specs.declared.state.NorState.{Ghosts as NorOf}
 use Rattle.nor_core.specs.Device.{OnlyReads, Leaves, Changes}
@@ -9,6 +9,7 @@ use Rattle.table_model.specs.Window.{Moment, settled_at}
 use Rattle.call_script.specs.Lines.{calls}
 use Rattle.image_model.specs.Tables.{table_of}
 use Rattle.image_model.specs.Kinds.{spoiled_blocks, mixed_blocks}
+use Rattle.image_model.specs.Tidy.{free_blocks, HasReserve}
 use Rattle.run_model.specs.Runs.{after_all, replies}
 use Rattle.run_model.specs.Safe.{IsSafe, IsAt}
 use Rattle.run_model.specs.Ran.{Stands, CutIn, MayCut, Reached, SaidPart}
@@ -22,9 +23,12 @@ use Rattle.vol_check.specs.declared.report.CheckErr.TheVariants.{Wrong as CheckW
 use Rattle.vol_check.specs.Culls.{KeepsAll}
 use Rattle.vol_check.specs.Checks.{IsWritable, IsRefusal, CountsMixed}
 use Rattle.tool_core.specs.declared.ending.Ending.{Ending}
-use Rattle.tool_core.specs.declared.ending.Ending.TheVariants.{NotAFs, BoardFault, Tight, Mixed}
-use Rattle.tool_core.specs.Begins.{Checks, Begun, StopsCheck, mount_ends, check_ends}
-use Rattle.tool_core.specs.Outcomes.{WhyEnds, WhyRan, IsChecked, RunEnds, RunsTo, first_moment}
+use Rattle.tool_core.specs.declared.ending.Ending.TheVariants.{Tight}
+use Rattle.tool_core.specs.Begins.{Checks, Begun, IsRefused, IsTight, StopsCheck, mount_ends, check_ends}
+use Rattle.tool_core.specs.Refusals.{check_refusal, begin_refusal}
+use Rattle.tool_core.specs.Outcomes.{WhyRan, RunEnds, RunsTo, Refused, first_moment}
+use Rattle.tool_core.proofs.Refusals.{not_both, no_fault, check_two, check_mixed, check_takes, tight_some, tight_none}
+use Rattle.tool_core.proofs.Speaking.{writes_none}
 
 -- at first nothing waits, and the settled table is that of the image
 first_still : (g : Geometry) (slots : ℕ) (image : List ℕ) → first_moment g slots image ≡ settled_at (first_moment g slots image).state
@@ -48,12 +52,9 @@ here_table : (g : Geometry) (image : List ℕ) (m : Moment) → IsAt g image m �
 unfolding settled_at
 here_table g image m here = here.table ∙ ap (λ (j : Moment). j.settled) here.still
 
--- why a run of lines ends is why a whole run does
-why_ran : (ending : Ending) (g : Geometry) (m : Moment) (first image script left : List ℕ) (front later : List Ask) → IsChecked g first image → WhyEnds g m image script left front later ending → WhyRan g m first image script left front later ending
-why_ran (NotAFs n) g m first image script left front later checked why = absurd why
-why_ran (Mixed n) g m first image script left front later checked why = absurd why
-why_ran (Tight n) g m first image script left front later checked why = absurd why
-why_ran _ g m first image script left front later checked why = (checked, why)
+-- images that don't end a run before its first call
+pub begins_on : (g : Geometry) (first image : List ℕ) → check_refusal g first ≡ None → HasReserve g image → begin_refusal g first image ≡ None
+begins_on g first image takes reserve = rw takes (tight_none g image reserve)
 
 -- what the check leaves is safe
 pub safe_check : {g : Geometry} {was image : List ℕ} → Checks g was image → IsSafe g was image
@@ -65,13 +66,13 @@ checks_itself image = record { sound = λ magics. record { magics = magics; mixe
 
 -- a volume that wasn't mounted
 pub mount_stops : {D : Type 0} {nor : NorOf D} (g : Geometry) (why : MountErr) {old new : D} → IsLate why → OnlyReads nor old new → CountsSpoiled g (nor.bytes old) why → StopsCheck nor g old new (mount_ends why)
-mount_stops g (MountNotAFs spoiled) late reads cause = (reads, cause.0, cause.1)
-mount_stops g MountFault late reads cause = tt {0}
+mount_stops {D} {nor} g (MountNotAFs spoiled) {old} late reads cause = inr (inl (record { refusal = check_two g (nor.bytes old) spoiled cause.0 cause.1; reads = reads }))
+mount_stops g MountFault late reads cause = inl refl
 mount_stops g _ late reads cause = absurd late
 
 module _ {D : Type 0} {nor : NorOf D} {g : Geometry} where
   -- a cut in the check
-  pub check_cut : {old mid : D} (slots : ℕ) (asks : List Ask) → Changes nor old mid (Checks g) → nor.tells old → Leaves nor old mid (CutIn nor g old (first_moment g slots (nor.bytes old)) asks)
+  check_cut : {old mid : D} (slots : ℕ) (asks : List Ask) → Changes nor old mid (Checks g) → nor.tells old → Leaves nor old mid (CutIn nor g old (first_moment g slots (nor.bytes old)) asks)
   check_cut {old} {mid} slots asks changes tells = widened changes.cuts (λ image count here.
       let now = here.1 tells in
       record {
@@ -82,7 +83,7 @@ module _ {D : Type 0} {nor : NorOf D} {g : Geometry} where
       })
 
   -- the volume stands at its first moment once it is checked
-  begun_reached : {old mid : D} (slots : ℕ) → Changes nor old mid (Checks g) → nor.tells old → Begun g (nor.bytes old) (nor.bytes mid) → Reached nor g old mid (first_moment g slots (nor.bytes old)) []
+  pub begun_reached : {old mid : D} (slots : ℕ) → Changes nor old mid (Checks g) → nor.tells old → Begun g (nor.bytes old) (nor.bytes mid) → Reached nor g old mid (first_moment g slots (nor.bytes old)) []
   begun_reached {old} {mid} slots changes tells begun =
       let m = first_moment g slots (nor.bytes old) in
       let now = changes.now tells in
@@ -93,17 +94,15 @@ module _ {D : Type 0} {nor : NorOf D} {g : Geometry} where
       }
 
   -- it stands there
-  begun_stands : {old mid : D} (m : Moment) → Reached nor g old mid m [] → Stands nor g mid m
+  pub begun_stands : {old mid : D} (m : Moment) → Reached nor g old mid m [] → Stands nor g mid m
   begun_stands {old} {mid} m r = subst (λ (j : Moment). Stands nor g mid j) (no_calls g m) r.stands
 
   -- a cut in the check or in the calls after it
-  pub whole_cut : {old mid new : D} (slots : ℕ) (asks : List Ask) → Changes nor old mid (Checks g) → nor.tells old → Begun g (nor.bytes old) (nor.bytes mid) → (h : Geometry) → h ≡ g → ((m : Moment) → Stands nor h mid m → MayCut nor h mid new m asks) → Leaves nor old new (CutIn nor g old (first_moment g slots (nor.bytes old)) asks)
-  whole_cut {old} {mid} {new} slots asks changes tells begun h same leaves =
+  whole_cut : {old mid new : D} (slots : ℕ) (asks : List Ask) → Changes nor old mid (Checks g) → nor.tells old → Begun g (nor.bytes old) (nor.bytes mid) → MayCut nor g mid new (first_moment g slots (nor.bytes old)) asks → Leaves nor old new (CutIn nor g old (first_moment g slots (nor.bytes old)) asks)
+  whole_cut {old} {mid} {new} slots asks changes tells begun leaves =
       let m = first_moment g slots (nor.bytes old) in
       let r = begun_reached slots changes tells begun in
-      let stands = begun_stands m r in
-      let next : (j : Moment) → Stands nor g mid j → MayCut nor g mid new j asks = subst (λ (k : Geometry). (j : Moment) → Stands nor k mid j → MayCut nor k mid new j asks) same leaves in
-      andthen (check_cut slots asks changes tells) (widened (next m stands) (λ image count here. cut_behind r (subst (λ (j : Moment). CutIn nor g mid j asks image count) (sym (no_calls g m)) (here stands))))
+      andthen (check_cut slots asks changes tells) (widened leaves (λ image count here. cut_behind r (subst (λ (j : Moment). CutIn nor g mid j asks image count) (sym (no_calls g m)) (here (begun_stands m r)))))
 
   -- a run that was begun
   pub begun_ends : {old mid new : D} (slots : ℕ) (script left : List ℕ) (ending : Ending) → Changes nor old mid (Checks g) → nor.tells old → Begun g (nor.bytes old) (nor.bytes mid) → (h : Geometry) → h ≡ g → ((m : Moment) → Stands nor h mid m → RunEnds nor h mid new m script left ending) → RunsTo nor g old new (first_moment g slots (nor.bytes old)) script left ending
@@ -112,7 +111,7 @@ module _ {D : Type 0} {nor : NorOf D} {g : Geometry} where
       let r = begun_reached slots changes tells begun in
       let next : (j : Moment) → Stands nor g mid j → RunEnds nor g mid new j script left ending = subst (λ (k : Geometry). (j : Moment) → Stands nor k mid j → RunEnds nor k mid new j script left ending) same ends in
       ⊎_elim
-      (λ broken. inl (broken.0, later_said (calls script) r (subst (λ (j : Moment). SaidPart nor mid new (replies g j (calls script))) (sym (no_calls g m)) broken.1)))
+      (λ broken. inl (broken.0, later_said (calls script) r (subst (λ (j : Moment). SaidPart nor mid new (replies g j (calls script))) (sym (no_calls g m)) broken.1), whole_cut slots (calls script) changes tells begun broken.2))
       (λ went.
       let whole : Reached nor g old new m went.front = later_reached r (subst (λ (j : Moment). Reached nor g mid new j went.front) (sym (no_calls g m)) went.reached) in
       inr (record {
@@ -123,8 +122,9 @@ module _ {D : Type 0} {nor : NorOf D} {g : Geometry} where
         tells = whole.stands.tells;
         settled = whole.stands.image.table;
         table = here_table g (nor.bytes new) (after_all g m went.front) whole.stands.image;
-        why = why_ran ending g (after_all g m went.front) (nor.bytes old) (nor.bytes new) script left went.front went.later (record { takes = begun.takes; reserve = whole.stands.image.reserve }) went.why;
+        why = inr (begins_on g (nor.bytes old) (nor.bytes new) begun.takes whole.stands.image.reserve, went.why);
         safe = whole.safe;
+        cuts = whole_cut slots went.front changes tells begun went.leaves;
       }))
       (next m (begun_stands m r))
 
@@ -139,23 +139,57 @@ module _ {D : Type 0} {nor : NorOf D} {g : Geometry} where
     table = same ∙ sym (first_state g slots (nor.bytes old));
     why = why;
     safe = safe_check (changes.now tells);
+    cuts = check_cut slots [] changes tells;
   })
+
+  -- why a run ends before its first line
+  pub early_why : {old mid : D} {ending : Ending} → IsRefused nor g old mid ending ⊎ IsTight g (nor.bytes old) (nor.bytes mid) ending → begin_refusal g (nor.bytes old) (nor.bytes mid) ≡ Some ending
+  early_why ends = ⊎_elim (λ refused. rw refused.refusal refl) (λ tight. rw tight.takes tight.tight) ends
 
   -- a run that ends before its first line
   pub early_ends : {old mid : D} (slots : ℕ) (script left : List ℕ) (ending : Ending) → Changes nor old mid (Checks g) → nor.tells old → StopsCheck nor g old mid ending → RunsTo nor g old mid (first_moment g slots (nor.bytes old)) script left ending
-  early_ends {old} {mid} slots script left (NotAFs n) changes tells stops = early_came slots script left (NotAFs n) changes tells (ap (table_of g) stops.0.bytes) (refl, stops.1, stops.2)
-  early_ends {old} {mid} slots script left (Mixed n) changes tells stops = early_came slots script left (Mixed n) changes tells (ap (table_of g) stops.0.bytes) (refl, stops.1, stops.2, stops.3)
-  early_ends {old} {mid} slots script left (Tight n) changes tells stops = early_came slots script left (Tight n) changes tells (changes.now tells).table (refl, stops.0, stops.1, stops.2)
-  early_ends {old} {mid} slots script left BoardFault changes tells stops = inl (refl, record { part = []; rest = replies g (first_moment g slots (nor.bytes old)) (calls script); said = changes.said ∙ sym (append-nil (nor.said old)); whole_is = refl })
-  early_ends _ script left _ changes tells stops = absurd stops
+  early_ends {old} {mid} slots script left ending changes tells stops = ⊎_elim
+      (λ fault. inl (fault, record { part = []; rest = replies g (first_moment g slots (nor.bytes old)) (calls script); said = changes.said ∙ sym (append-nil (nor.said old)); whole_is = refl }, check_cut slots (calls script) changes tells))
+      (λ ends. early_came slots script left ending changes tells (changes.now tells).table (inl (refl, early_why ends)))
+      stops
+
+  -- one whose image isn't taken
+  pub early_refused : {old mid : D} (ending result : Ending) → Changes nor old mid (Checks g) → nor.tells old → check_refusal g (nor.bytes old) ≡ Some ending → StopsCheck nor g old mid result → Refused nor old mid ending result
+  early_refused {old} {mid} ending result changes tells is stops = ⊎_elim
+      (λ fault. record {
+        tells = changes.cuts.told tells;
+        speaks = inl (fault, record { part = []; rest = []; said = changes.said ∙ sym (append-nil (nor.said old)); whole_is = refl });
+        kept = λ same. absurd (no_fault g (nor.bytes old) ending is (sym same ∙ fault));
+      })
+      (λ ends. ⊎_elim
+      (λ refused.
+      let both : Some result ≡ Some ending = sym refused.refusal ∙ is in
+      let same : result ≡ ending = cc in
+      record { tells = changes.cuts.told tells; speaks = inr (same, changes.said ∙ sym (append-nil (nor.said old))); kept = λ e. writes_none refused.reads })
+      (λ tight. absurd (not_both tight.takes is))
+      ends)
+      stops
+
+  -- mounting and the check take the first image
+  pub check_taken : {old mid : D} (h : Geometry) → h ≡ g → OnlyReads nor old mid → spoiled_blocks g (nor.bytes old) ≤ 1 → mixed_blocks h (nor.bytes mid) ≡ 0 → check_refusal g (nor.bytes old) ≡ None
+  check_taken {old} {mid} h same reads few none =
+      let number : mixed_blocks h (nor.bytes mid) ≡ mixed_blocks g (nor.bytes old) = ap (λ (k : Geometry). mixed_blocks k (nor.bytes mid)) same ∙ ap (mixed_blocks g) reads.bytes in
+      check_takes g (nor.bytes old) few (sym number ∙ none)
 
   -- a volume that was mounted, and not checked
   pub check_stops : (why : CheckErr) {old mid new : D} (h : Geometry) → h ≡ g → IsWritable why → OnlyReads nor old mid → spoiled_blocks g (nor.bytes old) ≤ 1 → (IsRefusal why → OnlyReads nor mid new) → CountsMixed h (nor.bytes mid) why → StopsCheck nor g old new (check_ends why)
   check_stops (CheckMixed blocks) {old} {mid} {new} h same writable reads few refused counts =
       let here : blocks ≡ mixed_blocks g (nor.bytes old) = counts.0 ∙ cc (reads.bytes, same) in
-      (reads_then reads (refused (tt {0})), omega (arith, few), here, counts.1)
-  check_stops CheckFault h same writable reads few refused counts = tt {0}
+      inr (inl (record { refusal = check_mixed g (nor.bytes old) blocks few here counts.1; reads = reads_then reads (refused (tt {0})) }))
+  check_stops CheckFault h same writable reads few refused counts = inl refl
   check_stops (CheckWrong why) h same writable reads few refused counts = absurd writable
+
+  -- one that was checked, and has too few free blocks
+  pub tight_stops : {old mid new : D} (h : Geometry) (free : ℕ) → h ≡ g → OnlyReads nor old mid → spoiled_blocks g (nor.bytes old) ≤ 1 → mixed_blocks h (nor.bytes mid) ≡ 0 → free ≡ free_blocks h (nor.bytes new) → free < 2 → StopsCheck nor g old new (Tight free)
+  tight_stops {old} {mid} {new} h free same reads few none is less = inr (inr (record {
+    takes = check_taken h same reads few none;
+    tight = tight_some g (nor.bytes new) free (is ∙ ap (λ (k : Geometry). free_blocks k (nor.bytes new)) same) less;
+  }))
 
   -- mounting changes nothing
   pub mount_changes : {old mid : D} → OnlyReads nor old mid → Changes nor old mid (Checks g)
@@ -164,7 +198,3 @@ module _ {D : Type 0} {nor : NorOf D} {g : Geometry} where
   -- what the check leaves after that
   pub check_changes : {old mid new : D} (h : Geometry) → h ≡ g → OnlyReads nor old mid → Changes nor mid new (KeepsAll h) → Changes nor old new (Checks g)
   check_changes {old} {mid} {new} h same reads changes = after_reads reads (wider (subst (λ (k : Geometry). Changes nor mid new (KeepsAll k)) same changes) (λ tells image here. record { sound = λ magics. here.keeps.sound; table = here.keeps.table; free = here.free }))
-
-  -- the same cuts by other names
-  pub same_cuts : {old new old' new' : D} (h : Geometry) (slots : ℕ) (asks : List Ask) → old ≡ old' → new ≡ new' → g ≡ h → Leaves nor old' new' (CutIn nor h old' (first_moment h slots (nor.bytes old')) asks) → Leaves nor old new (CutIn nor g old (first_moment g slots (nor.bytes old)) asks)
-  same_cuts h slots asks same_old same_new same_g cuts = rw same_old (rw same_new (rw same_g cuts))

@@ -1,17 +1,18 @@
 -- A run that is refused before the device was read is refused for its words, numbers, device or memory.
-use Rattle.std.proofs.Common.{ℕ, ◌≡◌, ◌≢◌, ◌+◌, ◌*◌, List, true, false, subst, arith}
+use Rattle.std.proofs.Common.{ℕ, ◌≡◌, ◌≢◌, ◌+◌, ◌*◌, true, false, subst, arith}
 use Rattle.std.specs.Prelude.{Option, Some, None, nat_lt, if◌then◌else◌}
 use Rattle.geometry.specs.declared.error.GeoErr.{GeoErr}
 use Rattle.geometry.specs.Rules.{pages_in}
 use Rattle.vol_mount.specs.declared.lent.Part.{Part}
 use Rattle.vol_mount.specs.declared.lent.Part.TheVariants.{Work, Slots, Cache, Check, Line}
-use Rattle.tool_core.specs.declared.words.Shape.{Shape}
+use Rattle.tool_core.specs.declared.words.Form.{Form}
 use Rattle.tool_core.specs.declared.plan.Lengths.{Lengths}
 use Rattle.tool_core.specs.declared.ending.Ending.{Ending}
 use Rattle.tool_core.specs.declared.ending.Ending.TheVariants.{Usage, Geometry, ShortBuffer}
 use Rattle.tool_core.specs.Closing.{status_of}
-use Rattle.tool_core.specs.Words.{run_form, list_form, check_form}
-use Rattle.tool_core.specs.Plan.{list_refusal, shape_refusal, length_refusal, work_need_in, shorter, refused_as, refusal_for, refusal_of}
+use Rattle.tool_core.specs.Words.{form_of}
+use Rattle.tool_core.specs.Asked.{Asked}
+use Rattle.tool_core.specs.Plan.{volume_refusal, length_refusal, work_need_in, shorter, refused_as, refusal_for, refusal_of}
 use Rattle.tool_core.specs.Early.{IsEarly, IsEarlyIf}
 
 shorter_early : (part : Part) (need given : ℕ) (later : Option Ending) → IsEarlyIf later → IsEarlyIf (shorter part need given later)
@@ -33,19 +34,17 @@ refused_early : (why : Option GeoErr) (later : Option Ending) → IsEarlyIf late
 refused_early None later early = early
 refused_early (Some why) later early = tt {0}
 
-shape_early : (run list check : Option Shape) (unit size : ℕ) (lent : Lengths) → IsEarlyIf (refusal_for run list check unit size lent)
-shape_early None None None unit size lent = tt {0}
-shape_early None None (Some s) unit size lent = refused_early (shape_refusal s unit size) _ (length_early s.page s.block s.blocks lent)
-shape_early None (Some s) check unit size lent = refused_early (list_refusal s unit size) _ (length_early s.page s.block s.blocks lent)
-shape_early (Some s) list check unit size lent = refused_early (shape_refusal s unit size) _ (length_early s.page s.block s.blocks lent)
+form_early : (form : Option Form) (unit size : ℕ) (lent : Lengths) → IsEarlyIf (refusal_for form unit size lent)
+form_early None unit size lent = tt {0}
+form_early (Some f) unit size lent = refused_early (volume_refusal f unit size) _ (length_early f.page f.block f.blocks lent)
 
-refusal_early : (words : List (List ℕ)) (unit size : ℕ) (lent : Lengths) → IsEarlyIf (refusal_of words unit size lent)
+refusal_early : (a : Asked) → IsEarlyIf (refusal_of a)
 unfolding refusal_of
-refusal_early words unit size lent = shape_early (run_form words) (list_form words) (check_form words) unit size lent
+refusal_early a = form_early (form_of a.words) a.unit a.size a.lent
 
 -- such an ending
-pub ending_early : (words : List (List ℕ)) (unit size : ℕ) (lent : Lengths) (ending : Ending) → refusal_of words unit size lent ≡ Some ending → IsEarly ending
-ending_early words unit size lent ending is = subst (λ (o : Option Ending). IsEarlyIf o) is (refusal_early words unit size lent)
+pub ending_early : (a : Asked) (ending : Ending) → refusal_of a ≡ Some ending → IsEarly ending
+ending_early a ending is = subst (λ (o : Option Ending). IsEarlyIf o) is (refusal_early a)
 
 -- its status is no script fault
 pub early_status : (ending : Ending) → IsEarly ending → status_of ending ≢ 8

@@ -1,22 +1,21 @@
--- Which status a run answers, by its first image and its script.
-use Rattle.std.proofs.Common.{◌≡◌, ◌≢◌, ℕ, ◌<◌, ◌≤◌, List, [], ◌∷◌, ◌++◌, length, refl, sym, ◌∙◌, ap, subst, arith, ⊎_elim, length-append, append-nil}
+-- Which status a run answers, by its images and its script.
+use Rattle.std.proofs.Common.{◌≡◌, ◌≢◌, ℕ, ◌<◌, ◌≤◌, List, [], ◌∷◌, ◌++◌, length, sym, ◌∙◌, ap, subst, arith, ⊎_elim, length-append, append-nil, None}
 use Rattle.geometry.specs.declared.geometry.Geometry.{Geometry}
 use Rattle.nor_core.specs.declared.state.NorState.{Ghosts as NorOf}
-use Rattle.nor_core.specs.Count.{Rose}
 use Rattle.table_model.specs.Ask.{Ask}
 use Rattle.table_model.specs.Window.{Moment}
 use Rattle.call_script.specs.Lines.{Bad, lines, of_line, calls}
 use Rattle.image_model.specs.Tables.{table_of}
-use Rattle.image_model.specs.Tidy.{free_blocks, HasReserve}
-use Rattle.image_model.specs.Kinds.{spoiled_blocks, mixed_blocks}
 use Rattle.run_model.specs.Runs.{after_all, replies}
 use Rattle.tool_core.specs.declared.ending.Ending.{Ending}
-use Rattle.tool_core.specs.declared.ending.Ending.TheVariants.{Done, Usage, Geometry as WrongGeometry, ShortBuffer, NotAFs, BadLine, BoardFault, SourceFault, TooLong, Damaged, Tight, Unbuilt, Mixed, Differ}
+use Rattle.tool_core.specs.declared.ending.Ending.TheVariants.{Done, BadLine, SourceFault, TooLong, Unbuilt}
 use Rattle.tool_core.specs.Closing.{status_of, closing_line_of}
-use Rattle.tool_core.specs.Begins.{IsCheckable}
+use Rattle.tool_core.specs.Refusals.{begin_refusal}
+use Rattle.tool_core.specs.Endings.{OnlyCloses}
 use Rattle.tool_core.specs.Turns.{AllGood}
-use Rattle.tool_core.specs.Outcomes.{HasBad, IsTooLong, WhyRan}
-use Rattle.tool_core.specs.Headline.{Closes, Outcome, RanWhole, IsExact, IsComplete}
+use Rattle.tool_core.specs.Outcomes.{HasBad, IsTooLong, WhyEnds, WhyRan, IsOfScript, EndsByImages}
+use Rattle.tool_core.specs.Running.{Closes, Outcome, RanWhole, BeginsAs, Lacks, IsComplete}
+use Rattle.tool_core.proofs.Refusals.{not_both, begin_undone}
 
 good_has_no_bad : (done : List (List ℕ)) (bad : List ℕ) (others : List (List ℕ)) → AllGood (done ++ (bad ∷ others)) → of_line bad ≡ Bad → ⊥
 unfolding AllGood
@@ -30,174 +29,84 @@ bad_not_good script n bad good = good_has_no_bad bad.done bad.bad bad.others (su
 not_too_long : (script : List ℕ) (front : List Ask) → length script ≤ 16777216 → IsTooLong script front → ⊥
 not_too_long script front few long = omega (arith, few, long.count, ap length long.taken.script_is, length-append long.whole (long.rest ++ (long.byte ∷ long.left)), length-append long.rest (long.byte ∷ long.left))
 
-spoiled_status : (ending : Ending) (g : Geometry) (m : Moment) (first image script left : List ℕ) (front later : List Ask) → WhyRan g m first image script left front later ending → 2 ≤ spoiled_blocks g first → status_of ending ≡ 3
-spoiled_status (NotAFs n) g m first image script left front later why two = refl
-spoiled_status (Mixed n) g m first image script left front later why two = absurd (omega (arith, why.1, two))
-spoiled_status (Tight n) g m first image script left front later why two = absurd (omega (arith, why.1.magics, two))
-spoiled_status _ g m first image script left front later why two = absurd (omega (arith, why.0.takes.magics, two))
+module _ (g : Geometry) (m : Moment) (image script left : List ℕ) (front later : List Ask) where
+  -- why it ended that did not end for its images
+  why_ends : (first : List ℕ) (ending : Ending) → begin_refusal g first image ≡ None → WhyRan g m first image script left front later ending → WhyEnds g m image script left front later ending
+  why_ends first ending takes why = ⊎_elim (λ early. absurd (not_both takes early.1)) (λ ran. ran.1) why
 
-spoiled_cause : (ending : Ending) (g : Geometry) (m : Moment) (first image script left : List ℕ) (front later : List Ask) → WhyRan g m first image script left front later ending → status_of ending ≡ 3 → 2 ≤ spoiled_blocks g first
-spoiled_cause (NotAFs n) g m first image script left front later why is = omega (arith, why.1, why.2)
-spoiled_cause Done g m first image script left front later why is = absurd (omega (arith, is))
-spoiled_cause Usage g m first image script left front later why is = absurd (omega (arith, is))
-spoiled_cause (WrongGeometry e) g m first image script left front later why is = absurd (omega (arith, is))
-spoiled_cause (ShortBuffer p n h) g m first image script left front later why is = absurd (omega (arith, is))
-spoiled_cause (BadLine n) g m first image script left front later why is = absurd (omega (arith, is))
-spoiled_cause BoardFault g m first image script left front later why is = absurd (omega (arith, is))
-spoiled_cause SourceFault g m first image script left front later why is = absurd (omega (arith, is))
-spoiled_cause TooLong g m first image script left front later why is = absurd (omega (arith, is))
-spoiled_cause (Damaged n) g m first image script left front later why is = absurd (omega (arith, is))
-spoiled_cause (Tight n) g m first image script left front later why is = absurd (omega (arith, is))
-spoiled_cause Unbuilt g m first image script left front later why is = absurd (omega (arith, is))
-spoiled_cause (Mixed n) g m first image script left front later why is = absurd (omega (arith, is))
-spoiled_cause (Differ d) g m first image script left front later why is = absurd (omega (arith, is))
+  whole_status : (ending : Ending) (status : ℕ) → WhyEnds g m image script left front later ending → status ≡ status_of ending → length script ≤ 16777216 → status ≢ 16 → status ≢ 8 → AllGood (lines script) → status ≡ 0
+  whole_status Done status why is few lacks read good = is
+  whole_status Unbuilt status why is few lacks read good = absurd (lacks is)
+  whole_status (BadLine n) status why is few lacks read good = absurd (bad_not_good script n why.1 good)
+  whole_status TooLong status why is few lacks read good = absurd (not_too_long script front few why)
+  whole_status SourceFault status why is few lacks read good = absurd (read is)
+  whole_status _ status why is few lacks read good = absurd why
 
-mixed_status : (ending : Ending) (g : Geometry) (m : Moment) (first image script left : List ℕ) (front later : List Ask) → WhyRan g m first image script left front later ending → spoiled_blocks g first < 2 → 0 < mixed_blocks g first → status_of ending ≡ 4
-mixed_status (NotAFs n) g m first image script left front later why few some = absurd (omega (arith, why.1, why.2, few))
-mixed_status (Mixed n) g m first image script left front later why few some = refl
-mixed_status (Tight n) g m first image script left front later why few some = absurd (omega (arith, why.1.unmixed, some))
-mixed_status _ g m first image script left front later why few some = absurd (omega (arith, why.0.takes.unmixed, some))
+  long_status : (ending : Ending) (status : ℕ) → WhyEnds g m image script left front later ending → status ≡ status_of ending → 16777216 < length script → status ≢ 16 → status ≢ 8 → AllGood (lines script) → status ≡ 11
+  long_status Done status why is long lacks read good = absurd (omega (arith, why.3, long))
+  long_status Unbuilt status why is long lacks read good = absurd (lacks is)
+  long_status (BadLine n) status why is long lacks read good = absurd (bad_not_good script n why.1 good)
+  long_status TooLong status why is long lacks read good = is
+  long_status SourceFault status why is long lacks read good = absurd (read is)
+  long_status _ status why is long lacks read good = absurd why
 
-mixed_cause : (ending : Ending) (g : Geometry) (m : Moment) (first image script left : List ℕ) (front later : List Ask) → WhyRan g m first image script left front later ending → status_of ending ≡ 4 → (spoiled_blocks g first < 2) × (0 < mixed_blocks g first)
-mixed_cause (Mixed n) g m first image script left front later why is = (why.1, omega (arith, why.2, why.3))
-mixed_cause Done g m first image script left front later why is = absurd (omega (arith, is))
-mixed_cause Usage g m first image script left front later why is = absurd (omega (arith, is))
-mixed_cause (WrongGeometry e) g m first image script left front later why is = absurd (omega (arith, is))
-mixed_cause (ShortBuffer p n h) g m first image script left front later why is = absurd (omega (arith, is))
-mixed_cause (NotAFs n) g m first image script left front later why is = absurd (omega (arith, is))
-mixed_cause (BadLine n) g m first image script left front later why is = absurd (omega (arith, is))
-mixed_cause BoardFault g m first image script left front later why is = absurd (omega (arith, is))
-mixed_cause SourceFault g m first image script left front later why is = absurd (omega (arith, is))
-mixed_cause TooLong g m first image script left front later why is = absurd (omega (arith, is))
-mixed_cause (Damaged n) g m first image script left front later why is = absurd (omega (arith, is))
-mixed_cause (Tight n) g m first image script left front later why is = absurd (omega (arith, is))
-mixed_cause Unbuilt g m first image script left front later why is = absurd (omega (arith, is))
-mixed_cause (Differ d) g m first image script left front later why is = absurd (omega (arith, is))
+  bad_status : (ending : Ending) (status : ℕ) → WhyEnds g m image script left front later ending → status ≡ status_of ending → length script ≤ 16777216 → status ≢ 16 → status ≢ 8 → (n : ℕ) → HasBad script n → status ≡ 5
+  bad_status Done status why is few lacks read n bad = absurd (bad_not_good script n bad why.1)
+  bad_status Unbuilt status why is few lacks read n bad = absurd (lacks is)
+  bad_status (BadLine k) status why is few lacks read n bad = is
+  bad_status TooLong status why is few lacks read n bad = absurd (not_too_long script front few why)
+  bad_status SourceFault status why is few lacks read n bad = absurd (read is)
+  bad_status _ status why is few lacks read n bad = absurd why
 
-tight_status : (ending : Ending) (g : Geometry) (m : Moment) (first image script left : List ℕ) (front later : List Ask) → WhyRan g m first image script left front later ending → IsCheckable g first → free_blocks g image < 2 → status_of ending ≡ 14
-tight_status (NotAFs n) g m first image script left front later why takes few = absurd (omega (arith, why.1, why.2, takes.magics))
-tight_status (Mixed n) g m first image script left front later why takes few = absurd (omega (arith, why.2, why.3, takes.unmixed))
-tight_status (Tight n) g m first image script left front later why takes few = refl
-tight_status _ g m first image script left front later why takes few = absurd (omega (arith, why.0.reserve, few))
-
-tight_cause : (ending : Ending) (g : Geometry) (m : Moment) (first image script left : List ℕ) (front later : List Ask) → WhyRan g m first image script left front later ending → status_of ending ≡ 14 → IsCheckable g first × (free_blocks g image < 2)
-tight_cause (Tight n) g m first image script left front later why is = (why.1, omega (arith, why.2, why.3))
-tight_cause Done g m first image script left front later why is = absurd (omega (arith, is))
-tight_cause Usage g m first image script left front later why is = absurd (omega (arith, is))
-tight_cause (WrongGeometry e) g m first image script left front later why is = absurd (omega (arith, is))
-tight_cause (ShortBuffer p n h) g m first image script left front later why is = absurd (omega (arith, is))
-tight_cause (NotAFs n) g m first image script left front later why is = absurd (omega (arith, is))
-tight_cause (BadLine n) g m first image script left front later why is = absurd (omega (arith, is))
-tight_cause BoardFault g m first image script left front later why is = absurd (omega (arith, is))
-tight_cause SourceFault g m first image script left front later why is = absurd (omega (arith, is))
-tight_cause TooLong g m first image script left front later why is = absurd (omega (arith, is))
-tight_cause (Damaged n) g m first image script left front later why is = absurd (omega (arith, is))
-tight_cause Unbuilt g m first image script left front later why is = absurd (omega (arith, is))
-tight_cause (Mixed n) g m first image script left front later why is = absurd (omega (arith, is))
-tight_cause (Differ d) g m first image script left front later why is = absurd (omega (arith, is))
-
-no_differ : (ending : Ending) (g : Geometry) (m : Moment) (first image script left : List ℕ) (front later : List Ask) → WhyRan g m first image script left front later ending → status_of ending ≡ 21 → ⊥
-no_differ (Differ d) g m first image script left front later why is = why.1
-no_differ Done g m first image script left front later why is = omega (arith, is)
-no_differ Usage g m first image script left front later why is = omega (arith, is)
-no_differ (WrongGeometry e) g m first image script left front later why is = omega (arith, is)
-no_differ (ShortBuffer p n h) g m first image script left front later why is = omega (arith, is)
-no_differ (NotAFs n) g m first image script left front later why is = omega (arith, is)
-no_differ (BadLine n) g m first image script left front later why is = omega (arith, is)
-no_differ BoardFault g m first image script left front later why is = omega (arith, is)
-no_differ SourceFault g m first image script left front later why is = omega (arith, is)
-no_differ TooLong g m first image script left front later why is = omega (arith, is)
-no_differ (Damaged n) g m first image script left front later why is = omega (arith, is)
-no_differ (Tight n) g m first image script left front later why is = omega (arith, is)
-no_differ Unbuilt g m first image script left front later why is = omega (arith, is)
-no_differ (Mixed n) g m first image script left front later why is = omega (arith, is)
-
--- of an image that the check takes, with its reserve and a script that isn't too long, where no page lacks and nothing failed
-whole_status : (ending : Ending) (g : Geometry) (m : Moment) (first image script left : List ℕ) (front later : List Ask) (status : ℕ) → WhyRan g m first image script left front later ending → status ≡ status_of ending → IsCheckable g first → HasReserve g image → length script ≤ 16777216 → status ≢ 16 → status ≢ 8 → AllGood (lines script) → status ≡ 0
-whole_status Done g m first image script left front later status why is takes reserve few lacks read good = is
-whole_status (NotAFs n) g m first image script left front later status why is takes reserve few lacks read good = absurd (omega (arith, why.1, why.2, takes.magics))
-whole_status (Mixed n) g m first image script left front later status why is takes reserve few lacks read good = absurd (omega (arith, why.2, why.3, takes.unmixed))
-whole_status Unbuilt g m first image script left front later status why is takes reserve few lacks read good = absurd (lacks is)
-whole_status (Tight n) g m first image script left front later status why is takes reserve few lacks read good = absurd (omega (arith, why.2, why.3, reserve))
-whole_status (BadLine n) g m first image script left front later status why is takes reserve few lacks read good = absurd (bad_not_good script n why.1.1 good)
-whole_status TooLong g m first image script left front later status why is takes reserve few lacks read good = absurd (not_too_long script front few why.1)
-whole_status SourceFault g m first image script left front later status why is takes reserve few lacks read good = absurd (read is)
-whole_status _ g m first image script left front later status why is takes reserve few lacks read good = absurd why.1
-
--- of an image that the check takes, with its reserve and a script that is too long
-long_status : (ending : Ending) (g : Geometry) (m : Moment) (first image script left : List ℕ) (front later : List Ask) (status : ℕ) → WhyRan g m first image script left front later ending → status ≡ status_of ending → IsCheckable g first → HasReserve g image → 16777216 < length script → status ≢ 16 → status ≢ 8 → AllGood (lines script) → status ≡ 11
-long_status Done g m first image script left front later status why is takes reserve long lacks read good = absurd (omega (arith, why.1.3, long))
-long_status (NotAFs n) g m first image script left front later status why is takes reserve long lacks read good = absurd (omega (arith, why.1, why.2, takes.magics))
-long_status (Mixed n) g m first image script left front later status why is takes reserve long lacks read good = absurd (omega (arith, why.2, why.3, takes.unmixed))
-long_status Unbuilt g m first image script left front later status why is takes reserve long lacks read good = absurd (lacks is)
-long_status (Tight n) g m first image script left front later status why is takes reserve long lacks read good = absurd (omega (arith, why.2, why.3, reserve))
-long_status (BadLine n) g m first image script left front later status why is takes reserve long lacks read good = absurd (bad_not_good script n why.1.1 good)
-long_status TooLong g m first image script left front later status why is takes reserve long lacks read good = is
-long_status SourceFault g m first image script left front later status why is takes reserve long lacks read good = absurd (read is)
-long_status _ g m first image script left front later status why is takes reserve long lacks read good = absurd why.1
-
-bad_status : (ending : Ending) (g : Geometry) (m : Moment) (first image script left : List ℕ) (front later : List Ask) (status : ℕ) → WhyRan g m first image script left front later ending → status ≡ status_of ending → IsCheckable g first → HasReserve g image → length script ≤ 16777216 → status ≢ 16 → status ≢ 8 → (n : ℕ) → HasBad script n → status ≡ 5
-bad_status Done g m first image script left front later status why is takes reserve few lacks read n bad = absurd (bad_not_good script n bad why.1.1)
-bad_status (NotAFs k) g m first image script left front later status why is takes reserve few lacks read n bad = absurd (omega (arith, why.1, why.2, takes.magics))
-bad_status (Mixed k) g m first image script left front later status why is takes reserve few lacks read n bad = absurd (omega (arith, why.2, why.3, takes.unmixed))
-bad_status Unbuilt g m first image script left front later status why is takes reserve few lacks read n bad = absurd (lacks is)
-bad_status (Tight k) g m first image script left front later status why is takes reserve few lacks read n bad = absurd (omega (arith, why.2, why.3, reserve))
-bad_status (BadLine k) g m first image script left front later status why is takes reserve few lacks read n bad = is
-bad_status TooLong g m first image script left front later status why is takes reserve few lacks read n bad = absurd (not_too_long script front few why.1)
-bad_status SourceFault g m first image script left front later status why is takes reserve few lacks read n bad = absurd (read is)
-bad_status _ g m first image script left front later status why is takes reserve few lacks read n bad = absurd why.1
+-- the status by the images
+pub begins_as : {D : Type 0} {nor : NorOf D} (g : Geometry) (first : List ℕ) {mid new : D} (result : Ending) (status : ℕ) → (status ≢ 7) → EndsByImages g first (nor.bytes mid) result → OnlyCloses nor mid new result status → BeginsAs (begin_refusal g first (nor.bytes new)) status
+begins_as {D} {nor} g first {mid} {new} result status fine ends closes =
+    let is : status ≡ status_of result = ⊎_elim (λ told. told) (λ fault. absurd (fine fault.0)) closes.ends in
+    subst (λ (l : List ℕ). BeginsAs (begin_refusal g first l) status) (sym closes.says.bytes) (⊎_elim
+    (λ fault. absurd (fine (is ∙ ap status_of fault)))
+    (λ images. ⊎_elim (λ early. rw early is) (λ script. rw script.0 (subst IsOfScript (sym is) script.1)) images)
+    ends)
 
 module _ {D : Type 0} {nor : NorOf D} {g : Geometry} where
   -- a run that didn't end in a fault has the status of its ending
   by_ending : {old new : D} {m : Moment} {script left : List ℕ} {status : ℕ} (Q : Type 0) → (status ≢ 7) → Outcome nor g old new m script left status → ((c : Closes nor g old new m script left status) → status ≡ status_of c.ending → Q) → Q
   by_ending Q fine outcome then = ⊎_elim (λ broken. absurd (fine broken.status_is)) (λ c. ⊎_elim (λ told. then c told) (λ fault. absurd (fine fault.0)) c.ends) outcome
 
-  pub exact_of : {old new : D} {m : Moment} {script left : List ℕ} {status : ℕ} → (status ≡ 7 → Rose (nor.faults old) (nor.faults new)) → (Rose (nor.faults old) (nor.faults new) → ⊥) → Outcome nor g old new m script left status → IsExact nor g old new status
-  exact_of {old} {new} {m} {script} {left} {status} fault no_fault outcome =
-      let fine : status ≢ 7 = λ is. no_fault (fault is) in
-      record {
-        spoiled = λ two. by_ending (status ≡ 3) fine outcome (λ c is. is ∙ spoiled_status c.ending g _ (nor.bytes old) (nor.bytes new) script left c.front c.later c.why two);
-        spoiled_only = λ three. by_ending (2 ≤ spoiled_blocks g (nor.bytes old)) fine outcome (λ c is. spoiled_cause c.ending g _ (nor.bytes old) (nor.bytes new) script left c.front c.later c.why (sym is ∙ three));
-        mixed = λ few some. by_ending (status ≡ 4) fine outcome (λ c is. is ∙ mixed_status c.ending g _ (nor.bytes old) (nor.bytes new) script left c.front c.later c.why few some);
-        mixed_only = λ four. by_ending ((spoiled_blocks g (nor.bytes old) < 2) × (0 < mixed_blocks g (nor.bytes old))) fine outcome (λ c is. mixed_cause c.ending g _ (nor.bytes old) (nor.bytes new) script left c.front c.later c.why (sym is ∙ four));
-        tight = λ takes few. by_ending (status ≡ 14) fine outcome (λ c is. is ∙ tight_status c.ending g _ (nor.bytes old) (nor.bytes new) script left c.front c.later c.why takes few);
-        tight_only = λ tight. by_ending (IsCheckable g (nor.bytes old) × (free_blocks g (nor.bytes new) < 2)) fine outcome (λ c is. tight_cause c.ending g _ (nor.bytes old) (nor.bytes new) script left c.front c.later c.why (sym is ∙ tight));
-        never_differs = λ differs. by_ending ⊥ fine outcome (λ c is. no_differ c.ending g _ (nor.bytes old) (nor.bytes new) script left c.front c.later c.why (sym is ∙ differs));
-      }
+  lacks_of : {new : D} (ending : Ending) (m : Moment) (script left : List ℕ) (front later : List Ask) → calls script ≡ front ++ later → WhyEnds g (after_all g m front) (nor.bytes new) script left front later ending → status_of ending ≡ 16 → Lacks nor g new m script
+  lacks_of Unbuilt m script left front later asks_are why is = record { front = front; later = later; asks_are = asks_are; lacks = why }
+  lacks_of Done m script left front later asks_are why is = absurd (omega (arith, is))
+  lacks_of (BadLine n) m script left front later asks_are why is = absurd (omega (arith, is))
+  lacks_of TooLong m script left front later asks_are why is = absurd (omega (arith, is))
+  lacks_of SourceFault m script left front later asks_are why is = absurd (omega (arith, is))
+  lacks_of _ m script left front later asks_are why is = absurd why
 
-  pub complete_of : {old new : D} {m : Moment} {script left : List ℕ} {status : ℕ} → (status ≡ 7 → Rose (nor.faults old) (nor.faults new)) → (Rose (nor.faults old) (nor.faults new) → ⊥) → (status ≢ 8) → Outcome nor g old new m script left status → IsComplete nor g old script status
-  complete_of {old} {new} {m} {script} {left} {status} fault no_fault read outcome =
-      let fine : status ≢ 7 = λ is. no_fault (fault is) in
-      record {
-        done = λ takes reserve few lacks good. by_ending (status ≡ 0) fine outcome (λ c is. whole_status c.ending g _ (nor.bytes old) (nor.bytes new) script left c.front c.later status c.why is takes (c.safe.reserve reserve) few lacks read good);
-        long = λ takes reserve long lacks good. by_ending (status ≡ 11) fine outcome (λ c is. long_status c.ending g _ (nor.bytes old) (nor.bytes new) script left c.front c.later status c.why is takes (c.safe.reserve reserve) long lacks read good);
-        bad_line = λ takes reserve few lacks n bad. by_ending (status ≡ 5) fine outcome (λ c is. bad_status c.ending g _ (nor.bytes old) (nor.bytes new) script left c.front c.later status c.why is takes (c.safe.reserve reserve) few lacks read n bad);
-      }
+  pub complete_of : {old new : D} {m : Moment} {script left : List ℕ} {status : ℕ} → (status ≢ 7) → (status ≢ 8) → begin_refusal g (nor.bytes old) (nor.bytes new) ≡ None → Outcome nor g old new m script left status → IsComplete nor g new m script status
+  complete_of {old} {new} {m} {script} {left} {status} fine read takes outcome = record {
+    done = λ few lacks good. by_ending (status ≡ 0) fine outcome (λ c is. whole_status g (after_all g m c.front) (nor.bytes new) script left c.front c.later c.ending status (why_ends g (after_all g m c.front) (nor.bytes new) script left c.front c.later (nor.bytes old) c.ending takes c.why) is few lacks read good);
+    long = λ long lacks good. by_ending (status ≡ 11) fine outcome (λ c is. long_status g (after_all g m c.front) (nor.bytes new) script left c.front c.later c.ending status (why_ends g (after_all g m c.front) (nor.bytes new) script left c.front c.later (nor.bytes old) c.ending takes c.why) is long lacks read good);
+    bad_line = λ few lacks n bad. by_ending (status ≡ 5) fine outcome (λ c is. bad_status g (after_all g m c.front) (nor.bytes new) script left c.front c.later c.ending status (why_ends g (after_all g m c.front) (nor.bytes new) script left c.front c.later (nor.bytes old) c.ending takes c.why) is few lacks read n bad);
+    lacks = λ sixteen. by_ending (Lacks nor g new m script) fine outcome (λ c is. lacks_of c.ending m script left c.front c.later c.asks_are (why_ends g (after_all g m c.front) (nor.bytes new) script left c.front c.later (nor.bytes old) c.ending takes c.why) (sym is ∙ sixteen));
+  }
 
-  whole_of : {old new : D} (ending : Ending) (m : Moment) (script left : List ℕ) (front later : List Ask) → status_of ending ≡ 0 → calls script ≡ front ++ later → WhyRan g (after_all g m front) (nor.bytes old) (nor.bytes new) script left front later ending → nor.said new ≡ nor.said old ++ (replies g m front ++ closing_line_of ending) → table_of g (nor.bytes new) ≡ (after_all g m front).state.table → RanWhole nor g old new m script left
+  whole_of : {old new : D} (ending : Ending) (m : Moment) (script left : List ℕ) (front later : List Ask) → status_of ending ≡ 0 → calls script ≡ front ++ later → WhyEnds g (after_all g m front) (nor.bytes new) script left front later ending → nor.said new ≡ nor.said old ++ (replies g m front ++ closing_line_of ending) → table_of g (nor.bytes new) ≡ (after_all g m front).state.table → RanWhole nor g old new m script left
   whole_of {old} {new} Done m script left front later is asks_are why said table =
-      let all : calls script ≡ front = asks_are ∙ ap (λ (l : List Ask). front ++ l) why.1.0 ∙ append-nil front in
+      let all : calls script ≡ front = asks_are ∙ ap (λ (l : List Ask). front ++ l) why.0 ∙ append-nil front in
       record {
-        good = why.1.1;
-        none_left = why.1.2;
-        few = why.1.3;
+        good = why.1;
+        none_left = why.2;
+        few = why.3;
         said = said ∙ ap (λ (l : List ℕ). nor.said old ++ l) (append-nil (replies g m front) ∙ ap (replies g m) (sym all));
         table = table ∙ ap (λ (l : List Ask). (after_all g m l).state.table) (sym all);
       }
-  whole_of Usage m script left front later is asks_are why said table = absurd (omega (arith, is))
-  whole_of (WrongGeometry e) m script left front later is asks_are why said table = absurd (omega (arith, is))
-  whole_of (ShortBuffer p n h) m script left front later is asks_are why said table = absurd (omega (arith, is))
-  whole_of (NotAFs n) m script left front later is asks_are why said table = absurd (omega (arith, is))
   whole_of (BadLine n) m script left front later is asks_are why said table = absurd (omega (arith, is))
-  whole_of BoardFault m script left front later is asks_are why said table = absurd (omega (arith, is))
   whole_of SourceFault m script left front later is asks_are why said table = absurd (omega (arith, is))
   whole_of TooLong m script left front later is asks_are why said table = absurd (omega (arith, is))
-  whole_of (Damaged n) m script left front later is asks_are why said table = absurd (omega (arith, is))
-  whole_of (Tight n) m script left front later is asks_are why said table = absurd (omega (arith, is))
   whole_of Unbuilt m script left front later is asks_are why said table = absurd (omega (arith, is))
-  whole_of (Mixed n) m script left front later is asks_are why said table = absurd (omega (arith, is))
-  whole_of (Differ d) m script left front later is asks_are why said table = absurd (omega (arith, is))
+  whole_of _ m script left front later is asks_are why said table = absurd why
 
   -- with status 0 the whole script was run
   pub ran_whole : {old new : D} {m : Moment} {script left : List ℕ} {status : ℕ} → status ≡ 0 → Outcome nor g old new m script left status → RanWhole nor g old new m script left
-  ran_whole {old} {new} {m} {script} {left} {status} zero_is outcome = by_ending (RanWhole nor g old new m script left) (λ is. omega (arith, is, zero_is)) outcome (λ c is. whole_of c.ending m script left c.front c.later (sym is ∙ zero_is) c.asks_are c.why (c.whole (λ fault. omega (arith, fault, zero_is))) c.table)
+  ran_whole {old} {new} {m} {script} {left} {status} zero_is outcome = by_ending (RanWhole nor g old new m script left) (λ is. omega (arith, is, zero_is)) outcome (λ c is. ⊎_elim
+      (λ early. absurd (begin_undone g (nor.bytes old) (nor.bytes new) c.ending early.1 (sym is ∙ zero_is)))
+      (λ ran. whole_of c.ending m script left c.front c.later (sym is ∙ zero_is) c.asks_are ran.1 (c.whole (λ fault. omega (arith, fault, zero_is))) c.table)
+      c.why)

@@ -1,14 +1,15 @@
--- Two geometries of the same numbers are one.
-use Rattle.std.proofs.Common.{◌≡◌, ℕ, List, sym, ◌∙◌, ap, subst, Some}
+-- Two geometries of the same numbers are one, and words spell one command.
+use Rattle.std.proofs.Common.{◌≡◌, ℕ, sym, ◌∙◌, ap, subst, Some}
 use Rattle.std.proofs.Math.Nat.{ℕ_set}
 use Rattle.std.proofs.Math.Bridge.{le_prop}
 use Rattle.geometry.specs.declared.geometry.Geometry.{Geometry}
 use Rattle.geometry.specs.declared.magic.MagicKind.{MagicKind}
 use Rattle.geometry.specs.Rules.{IsVolume}
 use Rattle.geometry.specs.Numbers.{IsOf}
-use Rattle.tool_core.specs.declared.words.Shape.{Shape}
-use Rattle.tool_core.specs.declared.plan.Lengths.{Lengths}
-use Rattle.tool_core.specs.Headline.{IsRun, IsListing, IsCheck}
+use Rattle.tool_core.specs.declared.words.Form.{Form}
+use Rattle.tool_core.specs.declared.plan.Command.{Command}
+use Rattle.tool_core.specs.Asked.{Asked}
+use Rattle.tool_core.specs.Planned.{IsPlanned}
 
 -- the rules are met in one way
 one_volume : (page block blocks phys meta : ℕ) (v w : IsVolume page block blocks phys meta) → v ≡ w
@@ -46,28 +47,15 @@ same_numbers g h page block blocks phys meta magic =
     let last : (w : IsVolume h.page h.block h.blocks h.phys h.meta) → g ≡ made h.page h.block h.blocks h.phys h.meta h.magic w = subst (λ (x : MagicKind). (w : IsVolume h.page h.block h.blocks h.phys h.meta) → g ≡ made h.page h.block h.blocks h.phys h.meta x w) magic sixth in
     last h.valid
 
-shape_geometry : (s t : Shape) (g h : Geometry) → s ≡ t → IsOf g s.page s.block s.blocks s.block s.meta s.magic → IsOf h t.page t.block t.blocks t.block t.meta t.magic → g ≡ h
-shape_geometry s t g h e first second =
-    let again : IsOf h s.page s.block s.blocks s.block s.meta s.magic = subst (λ (x : Shape). IsOf h x.page x.block x.blocks x.block x.meta x.magic) (sym e) second in
-    same_numbers g h (first.page_is ∙ sym again.page_is) (first.block_is ∙ sym again.block_is) (first.blocks_is ∙ sym again.blocks_is) (first.phys_is ∙ sym again.phys_is) (first.meta_is ∙ sym again.meta_is) (first.magic_is ∙ sym again.magic_is)
+same_command : (x y : Command) → x.verb ≡ y.verb → x.geometry ≡ y.geometry → x ≡ y
+same_command x y verb geometry = λ i. record { verb = verb i; geometry = geometry i }
 
--- the words of a run give one geometry
-pub one_geometry : (words : List (List ℕ)) (unit size unit' size' : ℕ) (lent lent' : Lengths) (g h : Geometry) → IsRun words unit size lent g → IsRun words unit' size' lent' h → g ≡ h
-one_geometry words unit size unit' size' lent lent' g h first second =
-    let both : Some first.shape ≡ Some second.shape = sym first.form_is ∙ second.form_is in
-    let same : first.shape ≡ second.shape = cc in
-    shape_geometry first.shape second.shape g h same first.numbers second.numbers
-
--- and those of a listing
-pub one_listing : (words : List (List ℕ)) (unit size unit' size' : ℕ) (lent lent' : Lengths) (g h : Geometry) → IsListing words unit size lent g → IsListing words unit' size' lent' h → g ≡ h
-one_listing words unit size unit' size' lent lent' g h first second =
-    let both : Some first.shape ≡ Some second.shape = sym first.form_is ∙ second.form_is in
-    let same : first.shape ≡ second.shape = cc in
-    shape_geometry first.shape second.shape g h same first.numbers second.numbers
-
--- and those of a check
-pub one_check : (words : List (List ℕ)) (unit size unit' size' : ℕ) (lent lent' : Lengths) (g h : Geometry) → IsCheck words unit size lent g → IsCheck words unit' size' lent' h → g ≡ h
-one_check words unit size unit' size' lent lent' g h first second =
-    let both : Some first.shape ≡ Some second.shape = sym first.form_is ∙ second.form_is in
-    let same : first.shape ≡ second.shape = cc in
-    shape_geometry first.shape second.shape g h same first.numbers second.numbers
+-- words spell one command
+pub one_plan : {a : Asked} {x y : Command} → IsPlanned a x → IsPlanned a y → x ≡ y
+one_plan {a} {x} {y} first second =
+    let both : Some first.form ≡ Some second.form = sym first.words_are ∙ second.words_are in
+    let same : first.form ≡ second.form = cc in
+    let again : IsOf y.geometry first.form.page first.form.block first.form.blocks first.form.block first.form.meta first.form.magic = subst (λ (f : Form). IsOf y.geometry f.page f.block f.blocks f.block f.meta f.magic) (sym same) second.numbers in
+    let numbers = first.numbers in
+    same_command x y (first.verb_is ∙ ap (λ (f : Form). f.verb) same ∙ sym second.verb_is)
+    (same_numbers x.geometry y.geometry (numbers.page_is ∙ sym again.page_is) (numbers.block_is ∙ sym again.block_is) (numbers.blocks_is ∙ sym again.blocks_is) (numbers.phys_is ∙ sym again.phys_is) (numbers.meta_is ∙ sym again.meta_is) (numbers.magic_is ∙ sym again.magic_is))

@@ -1,5 +1,5 @@
 -- What a run that isn't refused begins with.
-use Rattle.std.specs.Prelude.{ℕ, ◌≡◌, ◌*◌, ◌≤◌, None}
+use Rattle.std.specs.Prelude.{ℕ, ◌≡◌, ◌*◌, ◌≤◌, Bool, true, false, None}
 use Rattle.geometry.specs.declared.geometry.Geometry.{Geometry}
 use Rattle.geometry.specs.Numbers.{write_refusal, work_need, cache_need, check_need}
 use Rattle.tool_core.specs.declared.plan.Lengths.{Lengths}
@@ -14,6 +14,11 @@ pub record IsFitting (g : Geometry) (unit size : ℕ) : Type 0 where
 pub record HoldsVolume (g : Geometry) (unit size : ℕ) : Type 0 where
   pub unit_is : unit ≡ g.phys
   pub holds : g.blocks * g.block ≤ size
+
+-- what a command wants of the device that writes its volume, or only reads it
+abbrev pub FitsFor : (writes : Bool) → Geometry → (unit size : ℕ) → Type 0
+FitsFor true g unit size = IsFitting g unit size
+FitsFor false g unit size = HoldsVolume g unit size
 
 -- every part of the lent memory has its need
 pub record HasLengths (g : Geometry) (lent : Lengths) : Type 0 where

@@ -1,5 +1,5 @@
 -- Endings of a run that was not refused before the device was read.
-use Rattle.std.specs.Prelude.{◌≢◌, Option, Some, None}
+use Rattle.std.specs.Prelude.{ℕ, ◌≢◌, Option, Some, None}
 use Rattle.tool_core.specs.declared.ending.Ending.{Ending}
 use Rattle.tool_core.specs.Closing.{status_of}
 
@@ -13,3 +13,9 @@ pub record IsLater (ending : Ending) : Type 0 where
 abbrev pub IsLaterIf : Option Ending → Type 0
 IsLaterIf None = Unit {0}
 IsLaterIf (Some ending) = IsLater ending
+
+-- a status that is none of those of a refusal
+pub record IsLaterStatus (status : ℕ) : Type 0 where
+  pub no_usage : status ≢ 1
+  pub no_geometry : status ≢ 2
+  pub no_short : status ≢ 10

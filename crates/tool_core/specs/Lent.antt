@@ -1,15 +1,14 @@
--- How much of each part of the lent memory there is.
+-- What the top call is handed, by its parameters.
 use Rattle.std.specs.Prelude.{ℕ, List, length}
-use Rattle.geometry.specs.declared.geometry.Geometry.{Geometry}
-use Rattle.table_model.specs.Window.{Moment}
+use Rattle.nor_core.specs.declared.state.NorState.{Ghosts as NorOf}
 use Rattle.tool_core.specs.declared.tool.Buffers.{Buffers}
-use Rattle.tool_core.specs.Outcomes.{first_moment}
 use Rattle.tool_core.specs.declared.plan.Lengths.{Lengths}
+use Rattle.tool_core.specs.Asked.{Asked, asked_by}
 
 -- the lengths of what is lent
 abbrev pub lengths_of : Buffers → Lengths
 lengths_of bufs = record { work = length bufs.work.now; slots = length bufs.slots.now; cache = length bufs.cache.now; check = length bufs.check.now; line = length bufs.line.now }
 
--- the moment at which a volume of that image stands with the lent descriptors
-abbrev pub start_of : Geometry → Buffers → List ℕ → Moment
-start_of g bufs image = first_moment g (length bufs.slots.now) image
+-- the words, and what a device and the lent memory are
+abbrev pub asked_of : {D : Type 0} (nor : NorOf D) (words : List (List ℕ)) → D → Buffers → Asked
+asked_of nor words board bufs = asked_by words (nor.unit board) (nor.size board) (lengths_of bufs)

@@ -1,7 +1,11 @@
 pub mod Words
+pub mod Asked
 pub mod Plan
+pub mod Planned
 pub mod Closing
 pub mod Endings
+pub mod Refusals
+pub mod Reads
 pub mod Fits
 pub mod Lent
 pub mod Later
@@ -9,8 +13,8 @@ pub mod Runs
 pub mod Turns
 pub mod Outcomes
 pub mod Begins
-pub mod Headline
+pub mod Running
 pub mod Early
-pub mod Planned
 pub mod Listing
 pub mod Checking
+pub mod Does

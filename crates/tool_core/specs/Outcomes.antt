@@ -1,19 +1,20 @@
 -- What a run leaves, by how it ends.
-use Rattle.std.specs.Prelude.{ℕ, ◌≡◌, ◌+◌, ◌<◌, ◌≤◌, ◌⊎◌, List, [], ◌∷◌, ◌++◌, length, replicate, None}
+use Rattle.std.specs.Prelude.{ℕ, ◌≡◌, ◌+◌, ◌≤◌, ◌⊎◌, List, [], ◌∷◌, ◌++◌, length, replicate, Some, None}
 use Rattle.geometry.specs.declared.geometry.Geometry.{Geometry}
 use Rattle.nor_core.specs.declared.state.NorState.{Ghosts as NorOf}
+use Rattle.nor_core.specs.Device.{Leaves}
 use Rattle.table_model.specs.Ask.{Ask}
 use Rattle.table_model.specs.Window.{Moment, settled_at}
 use Rattle.call_script.specs.Lines.{Bad, lines, of_line, calls, NoBreak}
 use Rattle.image_model.specs.Tables.{table_of}
-use Rattle.image_model.specs.Tidy.{free_blocks, HasReserve}
-use Rattle.image_model.specs.Kinds.{spoiled_blocks, mixed_blocks}
 use Rattle.run_model.specs.Runs.{after_all, replies}
 use Rattle.run_model.specs.Safe.{IsSafe}
-use Rattle.run_model.specs.Ran.{Reached, SaidPart}
+use Rattle.run_model.specs.Ran.{CutIn, MayCut, Reached, SaidPart}
 use Rattle.tool_core.specs.declared.ending.Ending.{Ending}
-use Rattle.tool_core.specs.declared.ending.Ending.TheVariants.{Done, NotAFs, BadLine, BoardFault, SourceFault, TooLong, Tight, Unbuilt, Mixed}
-use Rattle.tool_core.specs.Begins.{IsCheckable}
+use Rattle.tool_core.specs.declared.ending.Ending.TheVariants.{Done, BadLine, BoardFault, SourceFault, TooLong, Unbuilt}
+use Rattle.tool_core.specs.Refusals.{begin_refusal}
+use Rattle.tool_core.specs.Closing.{status_of}
+use Rattle.tool_core.specs.Endings.{Speaks, WritesNone}
 use Rattle.tool_core.specs.Turns.{AllGood, LacksPage}
 
 -- a line of a script is outside the grammar, the first such, by its number from 1
@@ -73,28 +74,23 @@ pub record Went {D : Type 0} (nor : NorOf D) (g : Geometry) (old new : D) (m : M
   pub later : List Ask
   pub asks_are : calls script ≡ front ++ later
   pub reached : Reached nor g old new m front
+  pub leaves : MayCut nor g old new m front
   pub why : WhyEnds g (after_all g m front) (nor.bytes new) script left front later ending
 
--- it came there, or the board failed
+-- the board failed in the calls, or it came there
 abbrev pub RunEnds : {D : Type 0} (nor : NorOf D) (g : Geometry) (old new : D) (m : Moment) (script left : List ℕ) → Ending → Type 0
 RunEnds nor g old new m script left ending =
-    ((ending ≡ BoardFault) × SaidPart nor old new (replies g m (calls script))) ⊎ Went nor g old new m script left ending
+    ((ending ≡ BoardFault) × SaidPart nor old new (replies g m (calls script)) × MayCut nor g old new m (calls script)) ⊎ Went nor g old new m script left ending
 
 -- a volume with that image and that many descriptors, all closed
 abbrev pub first_moment : Geometry → (slots : ℕ) (image : List ℕ) → Moment
 first_moment g slots image = settled_at (record { table = table_of g image; slots = replicate slots None })
 
--- the check took the first image, and left the volume its reserve
-pub record IsChecked (g : Geometry) (first image : List ℕ) : Type 0 where
-  pub takes : IsCheckable g first
-  pub reserve : HasReserve g image
-
--- Why a run ends after some calls and before others: for its first image before the first call, or for what it met.
+-- Why a run ends after some calls and before others: for its images before the first call, or for what it met.
 abbrev pub WhyRan : (g : Geometry) (m : Moment) (first image script left : List ℕ) (front later : List Ask) → Ending → Type 0
-WhyRan g m first image script left front later (NotAFs spoiled) = (front ≡ []) × (spoiled ≡ spoiled_blocks g first) × (2 ≤ spoiled)
-WhyRan g m first image script left front later (Mixed blocks) = (front ≡ []) × (spoiled_blocks g first < 2) × (blocks ≡ mixed_blocks g first) × (0 < blocks)
-WhyRan g m first image script left front later (Tight free) = (front ≡ []) × IsCheckable g first × (free ≡ free_blocks g image) × (free < 2)
-WhyRan g m first image script left front later ending = IsChecked g first image × WhyEnds g m image script left front later ending
+WhyRan g m first image script left front later ending =
+    ((front ≡ []) × (begin_refusal g first image ≡ Some ending))
+    ⊎ ((begin_refusal g first image ≡ None) × WhyEnds g m image script left front later ending)
 
 -- before its closing line: the replies to the first calls were said, and the table is theirs
 pub record Came {D : Type 0} (nor : NorOf D) (g : Geometry) (old new : D) (m : Moment) (script left : List ℕ) (ending : Ending) : Type 0 where
@@ -107,8 +103,23 @@ pub record Came {D : Type 0} (nor : NorOf D) (g : Geometry) (old new : D) (m : M
   pub table : table_of g (nor.bytes new) ≡ (after_all g m front).state.table
   pub why : WhyRan g (after_all g m front) (nor.bytes old) (nor.bytes new) script left front later ending
   pub safe : IsSafe g (nor.bytes old) (nor.bytes new)
+  pub cuts : Leaves nor old new (CutIn nor g old m front)
 
--- it came there, or the board failed
+-- the board failed in the calls, or it came there
 abbrev pub RunsTo : {D : Type 0} (nor : NorOf D) (g : Geometry) (old new : D) (m : Moment) (script left : List ℕ) → Ending → Type 0
 RunsTo nor g old new m script left ending =
-    ((ending ≡ BoardFault) × SaidPart nor old new (replies g m (calls script))) ⊎ Came nor g old new m script left ending
+    ((ending ≡ BoardFault) × SaidPart nor old new (replies g m (calls script)) × Leaves nor old new (CutIn nor g old m (calls script))) ⊎ Came nor g old new m script left ending
+
+-- the status of a script that was run on an image that the check left fit to be worked on: 0, 5, 8, 11 or 16
+abbrev pub IsOfScript : ℕ → Type 0
+IsOfScript status = (status ≡ 0) ⊎ ((status ≡ 5) ⊎ ((status ≡ 8) ⊎ ((status ≡ 11) ⊎ (status ≡ 16))))
+
+-- before its closing line: the board failed, or the images ended the run, or else the script
+abbrev pub EndsByImages : Geometry → (was now : List ℕ) → Ending → Type 0
+EndsByImages g was now ending = (ending ≡ BoardFault) ⊎ ((begin_refusal g was now ≡ Some ending) ⊎ ((begin_refusal g was now ≡ None) × IsOfScript (status_of ending)))
+
+-- before the first call: what an image that isn't taken leaves of a run
+pub record Refused {D : Type 0} (nor : NorOf D) (old new : D) (ending result : Ending) : Type 0 where
+  pub tells : nor.tells new
+  pub speaks : Speaks nor old new [] ending result
+  pub kept : result ≡ ending → WritesNone nor old new

@@ -1,16 +1,17 @@
 -- What is refused before the device is read: words, then numbers, then the device, then the lent memory.
-use Rattle.std.specs.Prelude.{ℕ, ◌+◌, ◌*◌, ◌/◌, List, not, ◌==◌, ◌||◌, nat_lt, Option, Some, None, if◌then◌else◌}
+use Rattle.std.specs.Prelude.{ℕ, ◌+◌, ◌*◌, ◌/◌, not, ◌==◌, ◌||◌, nat_lt, Option, Some, None, if◌then◌else◌}
 use Rattle.geometry.specs.declared.error.GeoErr.{GeoErr}
 use Rattle.geometry.specs.declared.error.GeoErr.TheVariants.{TooManyUsable, TooFewToWrite, WrongChip}
 use Rattle.geometry.specs.Rules.{pages_in, entries_in}
 use Rattle.geometry.specs.Numbers.{refusal}
 use Rattle.vol_mount.specs.declared.lent.Part.{Part}
 use Rattle.vol_mount.specs.declared.lent.Part.TheVariants.{Work, Slots, Cache, Check, Line}
-use Rattle.tool_core.specs.declared.words.Shape.{Shape}
+use Rattle.tool_core.specs.declared.words.Form.{Form}
 use Rattle.tool_core.specs.declared.plan.Lengths.{Lengths}
 use Rattle.tool_core.specs.declared.ending.Ending.{Ending}
 use Rattle.tool_core.specs.declared.ending.Ending.TheVariants.{Usage, Geometry, ShortBuffer}
-use Rattle.tool_core.specs.Words.{run_form, list_form, check_form}
+use Rattle.tool_core.specs.Words.{writes, form_of}
+use Rattle.tool_core.specs.Asked.{Asked}
 
 -- why a device of that unit and size doesn't fit these numbers; an erase unit is a block
 abbrev pub chip_refusal : ℕ → ℕ → ℕ → ℕ → Option GeoErr
@@ -29,12 +30,16 @@ first_of (Some why) later = Some why
 first_of None later = later
 
 -- why the numbers or the device are refused for a volume that is only read
-abbrev pub list_refusal : Shape → ℕ → ℕ → Option GeoErr
-list_refusal s unit size = first_of (refusal s.page s.block s.blocks s.block s.meta) (chip_refusal s.block s.blocks unit size)
+abbrev pub read_refusal : Form → ℕ → ℕ → Option GeoErr
+read_refusal f unit size = first_of (refusal f.page f.block f.blocks f.block f.meta) (chip_refusal f.block f.blocks unit size)
 
 -- why the numbers or the device are refused for a volume that is written
-abbrev pub shape_refusal : Shape → ℕ → ℕ → Option GeoErr
-shape_refusal s unit size = first_of (refusal s.page s.block s.blocks s.block s.meta) (device_refusal s.page s.block s.blocks unit size)
+abbrev pub write_refusal_of : Form → ℕ → ℕ → Option GeoErr
+write_refusal_of f unit size = first_of (refusal f.page f.block f.blocks f.block f.meta) (device_refusal f.page f.block f.blocks unit size)
+
+-- why the numbers or the device are refused for a command
+abbrev pub volume_refusal : Form → ℕ → ℕ → Option GeoErr
+volume_refusal f unit size = if writes f.verb then write_refusal_of f unit size else read_refusal f unit size
 
 -- bytes of work that are needed
 abbrev pub work_need_in : ℕ → ℕ → ℕ → ℕ
@@ -57,13 +62,11 @@ abbrev pub refused_as : Option GeoErr → Option Ending → Option Ending
 refused_as (Some why) later = Some (Geometry why)
 refused_as None later = later
 
--- how a command is refused, by the numbers of a run, or else of a listing, or else of a check
-abbrev pub refusal_for : Option Shape → Option Shape → Option Shape → ℕ → ℕ → Lengths → Option Ending
-refusal_for None None None unit size lent = Some Usage
-refusal_for None None (Some s) unit size lent = refused_as (shape_refusal s unit size) (length_refusal s.page s.block s.blocks lent)
-refusal_for None (Some s) check unit size lent = refused_as (list_refusal s unit size) (length_refusal s.page s.block s.blocks lent)
-refusal_for (Some s) list check unit size lent = refused_as (shape_refusal s unit size) (length_refusal s.page s.block s.blocks lent)
+-- how words are refused that give this, or nothing
+abbrev pub refusal_for : Option Form → (unit size : ℕ) → Lengths → Option Ending
+refusal_for None unit size lent = Some Usage
+refusal_for (Some f) unit size lent = refused_as (volume_refusal f unit size) (length_refusal f.page f.block f.blocks lent)
 
--- how a command is refused, by its words, the device's erase unit and size, and what is lent
-unfoldable pub refusal_of : List (List ℕ) → ℕ → ℕ → Lengths → Option Ending
-refusal_of words unit size lent = refusal_for (run_form words) (list_form words) (check_form words) unit size lent
+-- how a command is refused
+unfoldable pub refusal_of : Asked → Option Ending
+refusal_of a = refusal_for (form_of a.words) a.unit a.size a.lent

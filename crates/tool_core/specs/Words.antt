@@ -1,10 +1,13 @@
 -- The words of a command.
-use Rattle.std.specs.Prelude.{ℕ, List, [], length, Bool, not, ◌==◌, ◌&&◌, nat_eq, Option, Some, None, if◌then◌else◌, codes, unwrap_or, slice_get, option_and_then}
+use Rattle.std.specs.Prelude.{ℕ, List, [], length, Bool, true, false, not, ◌*◌, ◌==◌, ◌&&◌, ◌||◌, nat_eq, nat_lt, Option, Some, None, if◌then◌else◌, codes, unwrap_or, slice_get, option_and_then}
+use Rattle.std.specs.Int.{div_ceil}
 use Rattle.std.specs.Cmp.Lexicographic.{pointwise}
 use Rattle.geometry.specs.declared.magic.MagicKind.{MagicKind}
 use Rattle.geometry.specs.declared.magic.MagicKind.TheVariants.{Plain, Length}
 use Rattle.call_script.specs.Numerals.{number_up_to}
-use Rattle.tool_core.specs.declared.words.Shape.{Shape}
+use Rattle.tool_core.specs.declared.words.Verb.{Verb}
+use Rattle.tool_core.specs.declared.words.Verb.TheVariants.{Run, List as Lists, Check}
+use Rattle.tool_core.specs.declared.words.Form.{Form}
 
 -- a word is this text
 abbrev pub is_text : List ℕ → List ℕ → Bool
@@ -25,27 +28,52 @@ magic_word word =
     else if is_text word (codes "len") then Some Length
     else None
 
--- the words `VERB PAGE BLOCK BLOCKS META MAGIC CHIP`, where CHIP is any word that isn't empty
-abbrev pub has_form : List ℕ → List (List ℕ) → Bool
-has_form verb words = (length words == 7) && is_text (word_at words 0) verb && not (length (word_at words 6) == 0)
-
--- the numbers that these words give
-unfoldable pub volume_form : List ℕ → List (List ℕ) → Option Shape
-volume_form verb words =
-    if has_form verb words then
-    option_and_then (λ page. option_and_then (λ block. option_and_then (λ blocks. option_and_then (λ meta. option_and_then (λ magic.
-    Some (record { page = page; block = block; blocks = blocks; meta = meta; magic = magic }))
-    (magic_word (word_at words 5))) (number_word (word_at words 4))) (number_word (word_at words 3))) (number_word (word_at words 2))) (number_word (word_at words 1))
+-- what a command does, by its first word
+abbrev pub verb_word : List ℕ → Option Verb
+verb_word word =
+    if is_text word (codes "run") then Some Run
+    else if is_text word (codes "list") then Some Lists
+    else if is_text word (codes "check") then Some Check
     else None
 
--- the numbers of the words `run PAGE BLOCK BLOCKS META MAGIC CHIP`
-unfoldable pub run_form : List (List ℕ) → Option Shape
-run_form words = volume_form (codes "run") words
+-- a command writes its volume
+abbrev pub writes : Verb → Bool
+writes Run = true
+writes Lists = false
+writes Check = true
 
--- the numbers of the words `list PAGE BLOCK BLOCKS META MAGIC CHIP`
-unfoldable pub list_form : List (List ℕ) → Option Shape
-list_form words = volume_form (codes "list") words
+-- a command takes a script
+abbrev pub has_script : Verb → Bool
+has_script Run = true
+has_script Lists = false
+has_script Check = false
 
--- the numbers of the words `check PAGE BLOCK BLOCKS META MAGIC CHIP`
-unfoldable pub check_form : List (List ℕ) → Option Shape
-check_form words = volume_form (codes "check") words
+-- seven words, of which the last isn't empty
+abbrev pub has_form : List (List ℕ) → Bool
+has_form words = (length words == 7) && not (length (word_at words 6) == 0)
+
+-- what the words `VERB PAGE BLOCK BLOCKS META MAGIC CHIP` give, where CHIP is any word that isn't empty
+unfoldable pub form_of : List (List ℕ) → Option Form
+form_of words =
+    if has_form words then
+    option_and_then (λ verb. option_and_then (λ page. option_and_then (λ block. option_and_then (λ blocks. option_and_then (λ meta. option_and_then (λ magic.
+    Some (record { verb = verb; page = page; block = block; blocks = blocks; meta = meta; magic = magic }))
+    (magic_word (word_at words 5))) (number_word (word_at words 4))) (number_word (word_at words 3))) (number_word (word_at words 2))) (number_word (word_at words 1))) (verb_word (word_at words 0))
+    else None
+
+-- the bytes of a block and the number of blocks, by their places, where they give a volume of some bytes, below 2 ^ 32
+abbrev pub blocks_in : List (List ℕ) → Option (ℕ × ℕ)
+blocks_in words =
+    option_and_then (λ block. option_and_then (λ blocks.
+    if (block * blocks == 0) || not (nat_lt (block * blocks) 4294967296) then None else Some (block, blocks))
+    (number_word (word_at words 3))) (number_word (word_at words 2))
+
+-- the erase unit of chips for these words, in bytes
+abbrev pub unit_for : Option (ℕ × ℕ) → ℕ
+unit_for None = 4096
+unit_for (Some b) = b.0
+
+-- the size in bytes of each of so many chips
+abbrev pub chip_size_for : Option (ℕ × ℕ) → ℕ → ℕ
+chip_size_for None number = 4096
+chip_size_for (Some b) number = b.0 * div_ceil b.1 number

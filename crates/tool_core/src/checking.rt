@@ -2,10 +2,11 @@ ghost use Rattle.std.specs.Prelude.{◌≡◌, ◌≢◌, ◌*◌, ◌≤◌, le
 ghost use Rattle.geometry.specs.Numbers.{page_count, write_refusal, work_need, cache_need, check_need};
 ghost use Rattle.nor_core.specs.Count.{Rose};
 ghost use Rattle.flash_view.specs.Same.{IsSameView};
-ghost use Rattle.tool_core.specs.Checking.{ChecksTo, WhyReports, report_text};
+ghost use Rattle.tool_core.specs.Checking.{ChecksTo, report_text};
+ghost use Rattle.tool_core.specs.Refusals.{report_ending};
 ghost use Rattle.tool_core.specs.Fits.{IsFitting};
 ghost use Rattle.tool_core.specs.Later.{IsLater};
-ghost use Rattle.tool_core.specs.Listing.{ReadsOnce};
+ghost use Rattle.tool_core.specs.Reads.{ReadsOnce};
 
 use crate::ending::{Closing, Ending, put, put_count};
 use crate::run::{check_ending, mount_ending};
@@ -29,8 +30,8 @@ fn report_line(report: Report) -> Closing
 }
 
 // How a check ends that said the line of its report.
-fn report_ending(report: Report) -> Ending
-    ensures why { WhyReports report.damaged report.free_blocks result }
+fn end_of_check(report: Report) -> Ending
+    ensures ending { result ≡ report_ending report.damaged report.free_blocks }
     ensures later { IsLater result }
     ensures no_script { result ≢ Ending.SourceFault }
     ensures no_fault { result ≢ Ending.BoardFault }
@@ -63,7 +64,7 @@ fn check_view<B: Board>(v: &mut View<'_, B>, marks: &mut [u8]) -> Ending
         Err(why) => return check_ending(why),
     };
     match v.say(report_line(report).as_slice()) {
-        Ok(()) => report_ending(report),
+        Ok(()) => end_of_check(report),
         Err(Failed) => Ending::BoardFault,
     }
 }

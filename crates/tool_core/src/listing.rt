@@ -4,7 +4,9 @@ ghost use Rattle.nor_core.specs.Count.{Rose};
 ghost use Rattle.flash_view.specs.Same.{IsSameView};
 ghost use Rattle.tool_core.specs.Fits.{HoldsVolume};
 ghost use Rattle.tool_core.specs.Later.{IsLater};
-ghost use Rattle.tool_core.specs.Listing.{ListsTo, ReadsOnce};
+ghost use Rattle.tool_core.specs.Listing.{ListsTo};
+ghost use Rattle.tool_core.specs.Reads.{ReadsOnce};
+ghost use Rattle.tool_core.specs.Refusals.{said_ending};
 
 use crate::ending::Ending;
 use crate::run::mount_ending;
@@ -13,6 +15,20 @@ use geometry::Geometry;
 use image_tool::{ToolErr, list};
 use nor_core::{Board, Nor, NorState};
 use vol_mount::mount;
+
+// How a list ends that said so many damaged ids.
+fn end_of_list(damaged: u32) -> Ending
+    ensures ending { result ≡ said_ending damaged }
+    ensures later { IsLater result }
+    ensures no_script { result ≢ Ending.SourceFault }
+    ensures no_fault { result ≢ Ending.BoardFault }
+{
+    if damaged > 0 {
+        Ending::Damaged(damaged)
+    } else {
+        Ending::Done
+    }
+}
 
 // Mounts a volume, and says its list.
 fn list_view<B: Board>(v: &mut View<'_, B>, marks: &mut [u8], line: &mut [u8]) -> Ending
@@ -28,8 +44,7 @@ fn list_view<B: Board>(v: &mut View<'_, B>, marks: &mut [u8], line: &mut [u8]) -
         return mount_ending(why);
     }
     match list(v, marks, line) {
-        Ok(0) => Ending::Done,
-        Ok(count) => Ending::Damaged(count),
+        Ok(damaged) => end_of_list(damaged),
         Err(ToolErr::BoardFault) => Ending::BoardFault,
     }
 }

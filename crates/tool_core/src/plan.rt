@@ -1,11 +1,13 @@
 ghost use Rattle.std.specs.Prelude.{◌≡◌, ◌*◌, ◌≤◌, length, map, string_bytes, IfOk, IfErr, OnOk, Ok, Err, Some, None};
 ghost use Rattle.geometry.specs.Numbers.{IsOf, refusal};
-ghost use Rattle.tool_core.specs.Plan.{chip_refusal, device_refusal, list_refusal, shape_refusal, length_refusal, shorter, refusal_of};
-ghost use Rattle.tool_core.specs.Planned.{IsPlanned, FitsPlan, geometry_in};
-ghost use Rattle.tool_core.specs.Fits.{IsFitting, HoldsVolume, HasLengths};
+ghost use Rattle.tool_core.specs.Asked.{asked_by};
+ghost use Rattle.tool_core.specs.Plan.{chip_refusal, device_refusal, read_refusal, write_refusal_of, volume_refusal, length_refusal, shorter, refusal_of};
+ghost use Rattle.tool_core.specs.Planned.{IsPlanned};
+ghost use Rattle.tool_core.specs.Words.{writes};
+ghost use Rattle.tool_core.specs.Fits.{IsFitting, HoldsVolume, FitsFor, HasLengths};
 
 use crate::ending::Ending;
-use crate::words::{Shape, check_shape, list_shape, run_shape};
+use crate::words::{Form, Verb, read_form};
 use geometry::{GeoErr, Geometry};
 use vol_mount::Part;
 
@@ -22,15 +24,11 @@ pub(crate) struct Lengths {
     pub line: usize,
 }
 
-/// A command that isn't refused, on volumes of a geometry.
+/// A command that isn't refused: what it does, and the geometry of its volumes.
 #[derive(Clone, Copy)]
-pub(crate) enum Command {
-    /// Mounts and checks a volume, and runs a script on it.
-    Run(Geometry),
-    /// Mounts a volume, and says its list.
-    List(Geometry),
-    /// Mounts and checks a volume, and says what the check found and did.
-    Check(Geometry),
+pub(crate) struct Command {
+    pub verb: Verb,
+    pub geometry: Geometry,
 }
 
 // Refuses a device that doesn't fit a volume.
@@ -58,43 +56,57 @@ fn accept_device(g: &Geometry, unit: u32, size: u32) -> Result<(), GeoErr>
 }
 
 // The geometry of these numbers.
-fn geometry_of(shape: Shape) -> Result<Geometry, GeoErr>
-    ensures made { IfOk result (λ g. IsOf g shape.page shape.block shape.blocks shape.block shape.meta shape.magic) }
-    ensures accepted { OnOk result (refusal shape.page shape.block shape.blocks shape.block shape.meta ≡ None) }
-    ensures refused { IfErr result (λ why. refusal shape.page shape.block shape.blocks shape.block shape.meta ≡ Some why) }
+fn geometry_of(form: Form) -> Result<Geometry, GeoErr>
+    ensures made { IfOk result (λ g. IsOf g form.page form.block form.blocks form.block form.meta form.magic) }
+    ensures accepted { OnOk result (refusal form.page form.block form.blocks form.block form.meta ≡ None) }
+    ensures refused { IfErr result (λ why. refusal form.page form.block form.blocks form.block form.meta ≡ Some why) }
 {
     Geometry::new(
-        shape.page,
-        shape.block,
-        shape.blocks,
-        shape.block,
-        shape.meta,
-        shape.magic,
+        form.page,
+        form.block,
+        form.blocks,
+        form.block,
+        form.meta,
+        form.magic,
     )
 }
 
 // The geometry of these numbers on a device of that unit and size, to be written.
-fn run_geometry(shape: Shape, unit: u32, size: u32) -> Result<Geometry, GeoErr>
-    ensures made { IfOk result (λ g. IsOf g shape.page shape.block shape.blocks shape.block shape.meta shape.magic) }
-    ensures accepted { OnOk result (shape_refusal shape unit size ≡ None) }
+fn written_geometry(form: Form, unit: u32, size: u32) -> Result<Geometry, GeoErr>
+    ensures made { IfOk result (λ g. IsOf g form.page form.block form.blocks form.block form.meta form.magic) }
+    ensures accepted { OnOk result (write_refusal_of form unit size ≡ None) }
     ensures fits { IfOk result (λ g. IsFitting g unit size) }
-    ensures refused { IfErr result (λ why. shape_refusal shape unit size ≡ Some why) }
+    ensures refused { IfErr result (λ why. write_refusal_of form unit size ≡ Some why) }
 {
-    let g = geometry_of(shape)?;
+    let g = geometry_of(form)?;
     accept_device(&g, unit, size)?;
     Ok(g)
 }
 
 // The geometry of these numbers on a device of that unit and size, to be read.
-fn list_geometry(shape: Shape, unit: u32, size: u32) -> Result<Geometry, GeoErr>
-    ensures made { IfOk result (λ g. IsOf g shape.page shape.block shape.blocks shape.block shape.meta shape.magic) }
-    ensures accepted { OnOk result (list_refusal shape unit size ≡ None) }
+fn read_geometry(form: Form, unit: u32, size: u32) -> Result<Geometry, GeoErr>
+    ensures made { IfOk result (λ g. IsOf g form.page form.block form.blocks form.block form.meta form.magic) }
+    ensures accepted { OnOk result (read_refusal form unit size ≡ None) }
     ensures fits { IfOk result (λ g. HoldsVolume g unit size) }
-    ensures refused { IfErr result (λ why. list_refusal shape unit size ≡ Some why) }
+    ensures refused { IfErr result (λ why. read_refusal form unit size ≡ Some why) }
 {
-    let g = geometry_of(shape)?;
+    let g = geometry_of(form)?;
     accept_chip(&g, unit, size)?;
     Ok(g)
+}
+
+// The geometry of a command's numbers on a device of that unit and size.
+fn volume_geometry(form: Form, unit: u32, size: u32) -> Result<Geometry, GeoErr>
+    ensures made { IfOk result (λ g. IsOf g form.page form.block form.blocks form.block form.meta form.magic) }
+    ensures accepted { OnOk result (volume_refusal form unit size ≡ None) }
+    ensures fits { IfOk result (λ g. FitsFor (writes form.verb) g unit size) }
+    ensures refused { IfErr result (λ why. volume_refusal form unit size ≡ Some why) }
+{
+    if form.verb.writes() {
+        written_geometry(form, unit, size)
+    } else {
+        read_geometry(form, unit, size)
+    }
 }
 
 // The first part of the lent memory that is too short.
@@ -146,23 +158,18 @@ pub(crate) fn plan(
     size: u32,
     lent: &Lengths,
 ) -> Result<Command, Ending>
-    ensures refused { IfErr result (λ ending. refusal_of (map string_bytes words.now) unit size lent.now ≡ Some ending) }
-    ensures accepted { OnOk result (refusal_of (map string_bytes words.now) unit size lent.now ≡ None) }
-    ensures fits { IfOk result (FitsPlan unit size) }
-    ensures room { IfOk result (λ command. HasLengths (geometry_in command) lent.now) }
-    ensures planned { IfOk result (IsPlanned (map string_bytes words.now) unit size lent.now) }
+    ensures refused { IfErr result (λ ending. refusal_of (asked_by (map string_bytes words.now) unit size lent.now) ≡ Some ending) }
+    ensures accepted { OnOk result (refusal_of (asked_by (map string_bytes words.now) unit size lent.now) ≡ None) }
+    ensures fits { IfOk result (λ command. FitsFor (writes command.verb) command.geometry unit size) }
+    ensures room { IfOk result (λ command. HasLengths command.geometry lent.now) }
+    ensures planned { IfOk result (IsPlanned (asked_by (map string_bytes words.now) unit size lent.now)) }
 {
-    if let Some(shape) = run_shape(words) {
-        let g = with_room(run_geometry(shape, unit, size), lent)?;
-        return Ok(Command::Run(g));
-    }
-    if let Some(shape) = list_shape(words) {
-        let g = with_room(list_geometry(shape, unit, size), lent)?;
-        return Ok(Command::List(g));
-    }
-    let Some(shape) = check_shape(words) else {
+    let Some(form) = read_form(words) else {
         return Err(Ending::Usage);
     };
-    let g = with_room(run_geometry(shape, unit, size), lent)?;
-    Ok(Command::Check(g))
+    let geometry = with_room(volume_geometry(form, unit, size), lent)?;
+    Ok(Command {
+        verb: form.verb,
+        geometry,
+    })
 }

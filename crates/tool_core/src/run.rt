@@ -7,7 +7,7 @@ ghost use Rattle.call_script.specs.Lines.{NoBreak, calls, calls_of};
 ghost use Rattle.call_script.specs.Replies.{text};
 ghost use Rattle.run_model.specs.Ran.{Stands, CutIn, MayCut};
 ghost use Rattle.tool_core.specs.Begins.{Checks, Begun, StopsCheck, mount_ends, check_ends};
-ghost use Rattle.tool_core.specs.Outcomes.{RunEnds, RunsTo, first_moment};
+ghost use Rattle.tool_core.specs.Outcomes.{RunEnds, RunsTo, Refused, EndsByImages, first_moment};
 ghost use Rattle.tool_core.specs.Turns.{DidLine, OneMore, Turned, at_run};
 ghost use Rattle.call_script.specs.Pieces.{IsShort};
 ghost use Rattle.vol_mount.specs.Mounts.{IsLate};
@@ -16,10 +16,12 @@ ghost use Rattle.nor_core.specs.Count.{Rose};
 ghost use Rattle.volume.specs.Stages.{takes_calls};
 ghost use Rattle.volume.specs.Same.{IsSameVolume};
 ghost use Rattle.tool_core.specs.Later.{IsLater, IsLaterIf};
-ghost use Rattle.tool_core.specs.Runs.{Ran, StandsBy, result_err};
+ghost use Rattle.tool_core.specs.Runs.{Ran, StandsBy, Works, result_err};
 ghost use Rattle.geometry.specs.Numbers.{usable, write_refusal, work_need, cache_need, check_need};
 ghost use Rattle.tool_core.specs.Fits.{IsFitting};
-ghost use Rattle.tool_core.specs.Listing.{ReadsOnce};
+ghost use Rattle.tool_core.specs.Reads.{ReadsOnce};
+ghost use Rattle.tool_core.specs.Refusals.{check_refusal};
+ghost use Rattle.tool_core.specs.declared.ending.Ending.{Ending};
 
 use crate::call::apply;
 use crate::ending::Ending;
@@ -81,6 +83,7 @@ fn answer<B: Board>(
     ensures no_script { ¬ (result ≡ Some Ending.SourceFault) }
     ensures leaves { (m : Moment) → MayCut B.NorState volume.old.geometry volume.old.nor.now volume.new.nor.now m (calls_of (line.now ∷ [])) }
     ensures did { (m : Moment) → Stands B.NorState volume.old.geometry volume.old.nor.now m → DidLine B.NorState volume.old.geometry volume.old.nor.now volume.new.nor.now m line.now number result }
+    ensures works { Works B.NorState volume.old.geometry volume.old.nor.now volume.new.nor.now result }
 {
     let Ok(parsed) = parse_line(line, scratch) else {
         return Some(Ending::BadLine(number));
@@ -147,6 +150,7 @@ fn last_line<B: Board>(volume: &mut Volume<'_, B>, lines: &Lines<'_>, scratch: &
     ensures turned { (m : Moment) → Stands B.NorState volume.old.geometry volume.old.nor.now m → Turned B.NorState volume.old.geometry (Some result) m
         (at_run volume.old.nor.now lines.now.buf.now lines.now.start lines.now.end lines.now.taken lines.now.handed [])
         (at_run volume.new.nor.now lines.now.buf.now lines.now.start lines.now.end lines.now.taken lines.now.handed []) }
+    ensures works { Works B.NorState volume.old.geometry volume.old.nor.now volume.new.nor.now (Some result) }
 {
     let line = lines.piece(lines.start, lines.end);
     if line.is_empty() {
@@ -181,6 +185,7 @@ fn take_more<B: Board, S: Source>(
     ensures turned { (m : Moment) → S.tells script.old → Stands B.NorState volume.old.geometry volume.old.nor.now m → Turned B.NorState volume.old.geometry result m
         (at_run volume.old.nor.now lines.old.buf.now lines.old.start lines.old.end lines.old.taken lines.old.handed (S.left script.old))
         (at_run volume.new.nor.now lines.new.buf.now lines.new.start lines.new.end lines.new.taken lines.new.handed (S.left script.new)) }
+    ensures works { Works B.NorState volume.old.geometry volume.old.nor.now volume.new.nor.now result }
 {
     if lines.end - lines.start > LINE {
         return Some(Ending::BadLine(lines.handed.saturating_add(1)));
@@ -220,6 +225,7 @@ fn turn<B: Board, S: Source>(
     ensures turned { (m : Moment) → S.tells script.old → Stands B.NorState volume.old.geometry volume.old.nor.now m → Turned B.NorState volume.old.geometry result m
         (at_run volume.old.nor.now lines.old.buf.now lines.old.start lines.old.end lines.old.taken lines.old.handed (S.left script.old))
         (at_run volume.new.nor.now lines.new.buf.now lines.new.start lines.new.end lines.new.taken lines.new.handed (S.left script.new)) }
+    ensures works { Works B.NorState volume.old.geometry volume.old.nor.now volume.new.nor.now result }
 {
     let from = lines.start;
     match lines.take_line() {
@@ -249,6 +255,7 @@ fn run_lines<B: Board, S: Source>(
     ensures turned { (m : Moment) → S.tells script.old → Stands B.NorState volume.old.geometry volume.old.nor.now m → Turned B.NorState volume.old.geometry (Some result) m
         (at_run volume.old.nor.now lines.old.buf.now lines.old.start lines.old.end lines.old.taken lines.old.handed (S.left script.old))
         (at_run volume.new.nor.now lines.new.buf.now lines.new.start lines.new.end lines.new.taken lines.new.handed (S.left script.new)) }
+    ensures works { Works B.NorState volume.old.geometry volume.old.nor.now volume.new.nor.now (Some result) }
 {
     'turns: loop {
         if let Some(ending) = turn(volume, lines, script, scratch) {
@@ -272,7 +279,7 @@ fn run_script<B: Board, S: Source>(
     ensures script_faults { S.faults script.old ≤ S.faults script.new }
     ensures script_cause { result ≡ Ending.SourceFault → Rose (S.faults script.old) (S.faults script.new) }
     ensures ends { (m : Moment) → S.tells script.old → Stands B.NorState volume.old.geometry volume.old.nor.now m → RunEnds B.NorState volume.old.geometry volume.old.nor.now volume.new.nor.now m (S.left script.old) (S.left script.new) result }
-    ensures cuts { (m : Moment) → S.tells script.old → Stands B.NorState volume.old.geometry volume.old.nor.now m → MayCut B.NorState volume.old.geometry volume.old.nor.now volume.new.nor.now m (calls (S.left script.old)) }
+    ensures works { Works B.NorState volume.old.geometry volume.old.nor.now volume.new.nor.now (Some result) }
 {
     let (taken, scratch) = line.split_at_mut(LINES);
     let mut lines = Lines::new(taken);
@@ -334,7 +341,9 @@ fn run_volume<B: Board, S: Source>(
     ensures script_faults { S.faults script.old ≤ S.faults script.new }
     ensures script_cause { result ≡ Ending.SourceFault → Rose (S.faults script.old) (S.faults script.new) }
     ensures ends { (slots : ℕ) → S.tells script.old → B.tells volume.old.nor.now → RunsTo B.NorState volume.old.geometry volume.old.nor.now volume.new.nor.now (first_moment volume.old.geometry slots (B.bytes volume.old.nor.now)) (S.left script.old) (S.left script.new) result }
-    ensures cuts { (slots : ℕ) → S.tells script.old → B.tells volume.old.nor.now → Leaves B.NorState volume.old.nor.now volume.new.nor.now (CutIn B.NorState volume.old.geometry volume.old.nor.now (first_moment volume.old.geometry slots (B.bytes volume.old.nor.now)) (calls (S.left script.old))) }
+    ensures refused { B.tells volume.old.nor.now → (ending : Ending) → check_refusal volume.old.geometry (B.bytes volume.old.nor.now) ≡ Some ending → Refused B.NorState volume.old.nor.now volume.new.nor.now ending result }
+    ensures begins { B.tells volume.old.nor.now → EndsByImages volume.old.geometry (B.bytes volume.old.nor.now) (B.bytes volume.new.nor.now) result }
+    ensures goes { Leaves B.NorState volume.old.nor.now volume.new.nor.now (λ image count. Unit {0}) }
 {
     match begin(volume) {
         Err(ending) => ending,
@@ -366,7 +375,9 @@ pub(crate) fn run<'b, B: Board, S: Source>(
     ensures board_cause { result ≡ Ending.BoardFault → Rose (B.faults board.old) (B.faults board.new) }
     ensures few { ReadsOnce B.NorState g (length lent.entry.cache.now) board.old board.new }
     ensures ends { (slots : ℕ) → S.tells script.old → B.tells board.old → RunsTo B.NorState g board.old board.new (first_moment g slots (B.bytes board.old)) (S.left script.old) (S.left script.new) result }
-    ensures cuts { (slots : ℕ) → S.tells script.old → B.tells board.old → Leaves B.NorState board.old board.new (CutIn B.NorState g board.old (first_moment g slots (B.bytes board.old)) (calls (S.left script.old))) }
+    ensures refused { B.tells board.old → (ending : Ending) → check_refusal g (B.bytes board.old) ≡ Some ending → Refused B.NorState board.old board.new ending result }
+    ensures begins { B.tells board.old → EndsByImages g (B.bytes board.old) (B.bytes board.new) result }
+    ensures goes { Leaves B.NorState board.old board.new (λ image count. Unit {0}) }
 {
     let mut volume = Volume::new(g, board, lent);
     run_volume(&mut volume, script, line)

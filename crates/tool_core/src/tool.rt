@@ -1,25 +1,24 @@
-ghost use Rattle.std.specs.Prelude.{◌≡◌, ◌≢◌, ◌≤◌, ◌++◌, ◌⊎◌, [], length, map, string_bytes, None};
+ghost use Rattle.std.specs.Prelude.{◌≡◌, ◌≢◌, length, map, string_bytes, false, None};
 ghost use Rattle.nor_core.specs.Count.{Rose};
-ghost use Rattle.nor_core.specs.Device.{Leaves, Says, InSay};
-ghost use Rattle.call_script.specs.Lines.{calls};
-ghost use Rattle.run_model.specs.Ran.{CutIn};
-ghost use Rattle.geometry.specs.declared.geometry.Geometry.{Geometry};
-ghost use Rattle.tool_core.specs.Headline.{IsRun, IsListing, IsCheck, Outcome, RanWhole, RunCut, IsExact, IsComplete};
-ghost use Rattle.tool_core.specs.Outcomes.{RunsTo};
 ghost use Rattle.tool_core.specs.Plan.{refusal_of};
-ghost use Rattle.tool_core.specs.Closing.{closing_line_of};
-ghost use Rattle.tool_core.specs.Endings.{EndsAs, Refuses, RefusesIf};
-ghost use Rattle.tool_core.specs.Fits.{IsFitting, HoldsVolume, HasLengths};
-ghost use Rattle.tool_core.specs.Listing.{ListsTo, Listed, ListCut, ListExact, ReadsOnce};
-ghost use Rattle.tool_core.specs.Checking.{ChecksTo, CheckTold, CheckCut, CheckExact};
-ghost use Rattle.tool_core.specs.Later.{IsLater};
-ghost use Rattle.tool_core.specs.Lent.{lengths_of, start_of};
+ghost use Rattle.tool_core.specs.Planned.{IsPlanned};
+ghost use Rattle.tool_core.specs.Words.{writes, has_script};
+ghost use Rattle.tool_core.specs.Endings.{OnlyCloses, RefusesIf};
+ghost use Rattle.tool_core.specs.Does.{Does};
+ghost use Rattle.tool_core.specs.Running.{DoesRun};
+ghost use Rattle.tool_core.specs.Listing.{DoesList};
+ghost use Rattle.tool_core.specs.Checking.{DoesCheck};
+ghost use Rattle.tool_core.specs.Fits.{IsFitting, HoldsVolume, FitsFor, HasLengths};
+ghost use Rattle.tool_core.specs.Later.{IsLaterStatus};
+ghost use Rattle.tool_core.specs.Lent.{lengths_of, asked_of};
+ghost use Rattle.tool_core.specs.declared.plan.Command.{Command};
 
 use crate::checking::check_volume;
 use crate::ending::{Ending, closing_line};
 use crate::listing::list_volume;
 use crate::plan::{Command, Lengths, plan};
 use crate::run::run;
+use crate::words::Verb;
 use fd_table::FdSlot;
 use geometry::Geometry;
 use nor_core::{Board, Nor, NorState, Source};
@@ -55,11 +54,7 @@ fn lengths(bufs: &Buffers<'_>) -> Lengths
 
 // Says the closing line of an ending, and answers the status: 7 where the board failed.
 fn conclude<B: Board>(board: &mut B, ending: Ending) -> u8
-    ensures ends { EndsAs B.NorState board.old board.new ending result }
-    ensures says { Says B.NorState board.old board.new (closing_line_of ending) }
-    ensures whole { B.tells board.old → result ≢ 7 → B.said board.new ≡ B.said board.old ++ closing_line_of ending }
-    ensures leaves { Leaves B.NorState board.old board.new (InSay B.NorState board.old (closing_line_of ending)) }
-    ensures silent { closing_line_of ending ≡ [] → board.new ≡ board.old }
+    ensures { OnlyCloses B.NorState board.old board.new ending result }
 {
     let line = closing_line(ending);
     if line.is_empty() {
@@ -77,19 +72,13 @@ fn run_on<B: Board, S: Source>(
     board: &mut B,
     script: &mut S,
     bufs: &mut Buffers<'_>,
-) -> Ending
+) -> u8
     requires fits { IsFitting g (B.unit board.old) (B.size board.old) }
     requires room { HasLengths g (lengths_of bufs.old) }
-    ensures later { IsLater result }
-    ensures script_faults { S.faults script.old ≤ S.faults script.new }
-    ensures script_cause { result ≡ Ending.SourceFault → Rose (S.faults script.old) (S.faults script.new) }
-    ensures board_faults { B.faults board.old ≤ B.faults board.new }
-    ensures board_cause { result ≡ Ending.BoardFault → Rose (B.faults board.old) (B.faults board.new) }
-    ensures few { ReadsOnce B.NorState g (length bufs.old.cache.now) board.old board.new }
-    ensures ends { S.tells script.old → B.tells board.old →
-        RunsTo B.NorState g board.old board.new (start_of g bufs.old (B.bytes board.old)) (S.left script.old) (S.left script.new) result }
-    ensures cuts { S.tells script.old → B.tells board.old →
-        Leaves B.NorState board.old board.new (CutIn B.NorState g board.old (start_of g bufs.old (B.bytes board.old)) (calls (S.left script.old))) }
+    ensures later { IsLaterStatus result }
+    ensures board_fault { result ≡ 7 → Rose (B.faults board.old) (B.faults board.new) }
+    ensures script_fault { result ≡ 8 → Rose (S.faults script.old) (S.faults script.new) }
+    ensures does { DoesRun B.NorState S.Source g (lengths_of bufs.old) board.old board.new script.old script.new result }
 {
     let lent = Lent {
         work: &mut *bufs.work,
@@ -97,33 +86,57 @@ fn run_on<B: Board, S: Source>(
         cache: &mut *bufs.cache,
         check: &mut *bufs.check,
     };
-    run(g, board, script, lent, bufs.line)
+    let ending = run(g, board, script, lent, bufs.line);
+    conclude(board, ending)
 }
 
 // Mounts the volume of a board in the lent memory, and says its list.
-fn list_on<B: Board>(g: Geometry, board: &mut B, bufs: &mut Buffers<'_>) -> Ending
+fn list_on<B: Board>(g: Geometry, board: &mut B, bufs: &mut Buffers<'_>) -> u8
     requires fits { HoldsVolume g (B.unit board.old) (B.size board.old) }
     requires room { HasLengths g (lengths_of bufs.old) }
-    ensures later { IsLater result }
-    ensures no_script { result ≢ Ending.SourceFault }
-    ensures cause { result ≡ Ending.BoardFault → Rose (B.faults board.old) (B.faults board.new) }
-    ensures lists { ListsTo B.NorState g board.old board.new result }
-    ensures few { ReadsOnce B.NorState g (length bufs.old.cache.now) board.old board.new }
+    ensures later { IsLaterStatus result }
+    ensures board_fault { result ≡ 7 → Rose (B.faults board.old) (B.faults board.new) }
+    ensures no_script { result ≢ 8 }
+    ensures does { DoesList B.NorState g (length bufs.old.cache.now) board.old board.new result }
 {
-    list_volume(g, board, bufs.work, bufs.cache, bufs.check, bufs.line)
+    let ending = list_volume(g, board, bufs.work, bufs.cache, bufs.check, bufs.line);
+    conclude(board, ending)
 }
 
 // Mounts and checks the volume of a board in the lent memory, and says what the check found and did.
-fn check_on<B: Board>(g: Geometry, board: &mut B, bufs: &mut Buffers<'_>) -> Ending
+fn check_on<B: Board>(g: Geometry, board: &mut B, bufs: &mut Buffers<'_>) -> u8
     requires fits { IsFitting g (B.unit board.old) (B.size board.old) }
     requires room { HasLengths g (lengths_of bufs.old) }
-    ensures later { IsLater result }
-    ensures no_script { result ≢ Ending.SourceFault }
-    ensures cause { result ≡ Ending.BoardFault → Rose (B.faults board.old) (B.faults board.new) }
-    ensures checks { ChecksTo B.NorState g board.old board.new result }
-    ensures few { ReadsOnce B.NorState g (length bufs.old.cache.now) board.old board.new }
+    ensures later { IsLaterStatus result }
+    ensures board_fault { result ≡ 7 → Rose (B.faults board.old) (B.faults board.new) }
+    ensures no_script { result ≢ 8 }
+    ensures does { DoesCheck B.NorState g (length bufs.old.cache.now) board.old board.new result }
 {
-    check_volume(g, board, bufs.work, bufs.cache, bufs.check)
+    let ending = check_volume(g, board, bufs.work, bufs.cache, bufs.check);
+    conclude(board, ending)
+}
+
+// Does a command that isn't refused.
+fn perform<B: Board, S: Source>(
+    command: Command,
+    board: &mut B,
+    script: &mut S,
+    bufs: &mut Buffers<'_>,
+) -> u8
+    requires fits { FitsFor (writes command.verb) command.geometry (B.unit board.old) (B.size board.old) }
+    requires room { HasLengths command.geometry (lengths_of bufs.old) }
+    ensures later { IsLaterStatus result }
+    ensures board_fault { result ≡ 7 → Rose (B.faults board.old) (B.faults board.new) }
+    ensures script_fault { result ≡ 8 → Rose (S.faults script.old) (S.faults script.new) }
+    ensures does { Does B.NorState S.Source (lengths_of bufs.old) command.verb command.geometry board.old board.new script.old script.new result }
+    ensures untaken { has_script command.verb ≡ false → script.new ≡ script.old }
+{
+    let g = command.geometry;
+    match command.verb {
+        Verb::Run => run_on(g, board, script, bufs),
+        Verb::List => list_on(g, board, bufs),
+        Verb::Check => check_on(g, board, bufs),
+    }
 }
 
 /// Does the command that the words spell, on a board, and answers its status. The forms are
@@ -138,57 +151,23 @@ pub fn spiffs_tool<B: Board, S: Source>(
     script: &mut S,
     bufs: &mut Buffers<'_>,
 ) -> u8
-    ensures refused { RefusesIf B.NorState board.old board.new (refusal_of (map string_bytes words.now) (B.unit board.old) (B.size board.old) (lengths_of bufs.old)) result }
-    ensures script_fault { result ≡ 8 → Rose (S.faults script.old) (S.faults script.new) }
+    // What is refused before the device is read: its closing line is said, and nothing else happens.
+    ensures refused { RefusesIf B.NorState board.old board.new (refusal_of (asked_of B.NorState (map string_bytes words.now) board.old bufs.old)) result }
+    // All else is a command, on volumes of one geometry ..
+    ensures planned { refusal_of (asked_of B.NorState (map string_bytes words.now) board.old bufs.old) ≡ None →
+        (command : Command) × IsPlanned (asked_of B.NorState (map string_bytes words.now) board.old bufs.old) command }
+    // .. and it is done as that command says.
+    ensures does { (command : Command) → IsPlanned (asked_of B.NorState (map string_bytes words.now) board.old bufs.old) command →
+        Does B.NorState S.Source (lengths_of bufs.old) command.verb command.geometry board.old board.new script.old script.new result }
+    // Nothing is taken of a script but by a command that has one.
+    ensures untaken { ((command : Command) → IsPlanned (asked_of B.NorState (map string_bytes words.now) board.old bufs.old) command → has_script command.verb ≡ false) →
+        script.new ≡ script.old }
+    // A fault is told only where one was counted.
     ensures board_fault { result ≡ 7 → Rose (B.faults board.old) (B.faults board.new) }
-    ensures runs { refusal_of (map string_bytes words.now) (B.unit board.old) (B.size board.old) (lengths_of bufs.old) ≡ None → (g : Geometry) ×
-        (IsRun (map string_bytes words.now) (B.unit board.old) (B.size board.old) (lengths_of bufs.old) g ⊎ (IsListing (map string_bytes words.now) (B.unit board.old) (B.size board.old) (lengths_of bufs.old) g ⊎ IsCheck (map string_bytes words.now) (B.unit board.old) (B.size board.old) (lengths_of bufs.old) g)) }
-    ensures outcome { (g : Geometry) → IsRun (map string_bytes words.now) (B.unit board.old) (B.size board.old) (lengths_of bufs.old) g → S.tells script.old → B.tells board.old →
-        Outcome B.NorState g board.old board.new (start_of g bufs.old (B.bytes board.old)) (S.left script.old) (S.left script.new) result }
-    ensures whole { (g : Geometry) → IsRun (map string_bytes words.now) (B.unit board.old) (B.size board.old) (lengths_of bufs.old) g → S.tells script.old → B.tells board.old →
-        result ≡ 0 → RanWhole B.NorState g board.old board.new (start_of g bufs.old (B.bytes board.old)) (S.left script.old) (S.left script.new) }
-    ensures cuts { (g : Geometry) → IsRun (map string_bytes words.now) (B.unit board.old) (B.size board.old) (lengths_of bufs.old) g → S.tells script.old → B.tells board.old →
-        Leaves B.NorState board.old board.new (RunCut B.NorState g board.old (start_of g bufs.old (B.bytes board.old)) (S.left script.old) (S.left script.new) result) }
-    ensures exact { (g : Geometry) → IsRun (map string_bytes words.now) (B.unit board.old) (B.size board.old) (lengths_of bufs.old) g → S.tells script.old → B.tells board.old →
-        ¬ Rose (B.faults board.old) (B.faults board.new) → IsExact B.NorState g board.old board.new result }
-    ensures complete { (g : Geometry) → IsRun (map string_bytes words.now) (B.unit board.old) (B.size board.old) (lengths_of bufs.old) g → S.tells script.old → B.tells board.old →
-        ¬ Rose (B.faults board.old) (B.faults board.new) → ¬ Rose (S.faults script.old) (S.faults script.new) → IsComplete B.NorState g board.old (S.left script.old) result }
-    ensures reads { (g : Geometry) → IsRun (map string_bytes words.now) (B.unit board.old) (B.size board.old) (lengths_of bufs.old) g →
-        ReadsOnce B.NorState g (length bufs.old.cache.now) board.old board.new }
-    ensures list_keeps { (g : Geometry) → IsListing (map string_bytes words.now) (B.unit board.old) (B.size board.old) (lengths_of bufs.old) g →
-        (B.bytes board.new ≡ B.bytes board.old) × (B.device_writes board.new ≡ B.device_writes board.old) }
-    ensures listed { (g : Geometry) → IsListing (map string_bytes words.now) (B.unit board.old) (B.size board.old) (lengths_of bufs.old) g → B.tells board.old →
-        Listed B.NorState g board.old board.new result }
-    ensures list_cuts { (g : Geometry) → IsListing (map string_bytes words.now) (B.unit board.old) (B.size board.old) (lengths_of bufs.old) g →
-        Leaves B.NorState board.old board.new (λ image count. B.tells board.old → ListCut B.NorState g board.old image count) }
-    ensures list_exact { (g : Geometry) → IsListing (map string_bytes words.now) (B.unit board.old) (B.size board.old) (lengths_of bufs.old) g → B.tells board.old →
-        ¬ Rose (B.faults board.old) (B.faults board.new) → ListExact B.NorState g board.old result }
-    ensures list_script { (g : Geometry) → IsListing (map string_bytes words.now) (B.unit board.old) (B.size board.old) (lengths_of bufs.old) g → script.new ≡ script.old }
-    ensures list_reads { (g : Geometry) → IsListing (map string_bytes words.now) (B.unit board.old) (B.size board.old) (lengths_of bufs.old) g →
-        ReadsOnce B.NorState g (length bufs.old.cache.now) board.old board.new }
-    ensures checked { (g : Geometry) → IsCheck (map string_bytes words.now) (B.unit board.old) (B.size board.old) (lengths_of bufs.old) g → B.tells board.old →
-        CheckTold B.NorState g board.old board.new result }
-    ensures check_cuts { (g : Geometry) → IsCheck (map string_bytes words.now) (B.unit board.old) (B.size board.old) (lengths_of bufs.old) g →
-        Leaves B.NorState board.old board.new (λ image count. B.tells board.old → CheckCut B.NorState g board.old board.new result image count) }
-    ensures check_exact { (g : Geometry) → IsCheck (map string_bytes words.now) (B.unit board.old) (B.size board.old) (lengths_of bufs.old) g → B.tells board.old →
-        ¬ Rose (B.faults board.old) (B.faults board.new) → CheckExact B.NorState g board.old board.new result }
-    ensures check_script { (g : Geometry) → IsCheck (map string_bytes words.now) (B.unit board.old) (B.size board.old) (lengths_of bufs.old) g → script.new ≡ script.old }
-    ensures check_reads { (g : Geometry) → IsCheck (map string_bytes words.now) (B.unit board.old) (B.size board.old) (lengths_of bufs.old) g →
-        ReadsOnce B.NorState g (length bufs.old.cache.now) board.old board.new }
+    ensures script_fault { result ≡ 8 → Rose (S.faults script.old) (S.faults script.new) }
 {
     match plan(words, board.unit(), board.size(), &lengths(bufs)) {
         Err(ending) => conclude(board, ending),
-        Ok(Command::Run(g)) => {
-            let ending = run_on(g, board, script, bufs);
-            conclude(board, ending)
-        }
-        Ok(Command::List(g)) => {
-            let ending = list_on(g, board, bufs);
-            conclude(board, ending)
-        }
-        Ok(Command::Check(g)) => {
-            let ending = check_on(g, board, bufs);
-            conclude(board, ending)
-        }
+        Ok(command) => perform(command, board, script, bufs),
     }
 }

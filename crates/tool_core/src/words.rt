@@ -1,12 +1,37 @@
 ghost use Rattle.std.specs.Prelude.{◌≡◌, ◌+◌, ◌*◌, ◌<◌, ◌≤◌, ◌^◌, length, map, string_bytes, option_copied, IfSome, Some, None};
-ghost use Rattle.tool_core.specs.Words.{volume_form, run_form, list_form, check_form, number_word, magic_word};
+ghost use Rattle.tool_core.specs.Words.{form_of, verb_word, number_word, magic_word, word_at, writes, blocks_in, unit_for, chip_size_for};
 
 use call_script::parse_number;
 use geometry::MagicKind;
 
-/// The numbers of a volume, as the words of a command give them.
+/// What a command does.
 #[derive(Clone, Copy, Debug, PartialEq, Eq)]
-pub(crate) struct Shape {
+pub(crate) enum Verb {
+    /// Mounts and checks a volume, and runs a script on it.
+    Run,
+    /// Mounts a volume, and says its list.
+    List,
+    /// Mounts and checks a volume, and says what the check found and did.
+    Check,
+}
+
+impl Verb {
+    /// Whether it writes the volume.
+    pub(crate) fn writes(self) -> bool
+        ensures { result ≡ writes self }
+    {
+        match self {
+            Verb::Run | Verb::Check => true,
+            Verb::List => false,
+        }
+    }
+}
+
+/// A command as its words give it: what it does, and the numbers of its volumes.
+#[derive(Clone, Copy, Debug, PartialEq, Eq)]
+pub(crate) struct Form {
+    /// What it does.
+    pub verb: Verb,
     /// Bytes of a page.
     pub page: u32,
     /// Bytes of a block.
@@ -39,20 +64,33 @@ fn magic(word: &String) -> Option<MagicKind>
     }
 }
 
-// The numbers that the words `VERB PAGE BLOCK BLOCKS META MAGIC CHIP` give, or None for other words.
-#[tactic(auto, unfolding(crate::specs::Words::volume_form))]
-fn volume_shape(words: &[String], verb: &[u8]) -> Option<Shape>
-    ensures { result ≡ volume_form verb.now (map string_bytes words.now) }
+fn read_verb(word: &String) -> Option<Verb>
+    ensures { result ≡ verb_word (string_bytes word.now) }
 {
-    if words.len() != 7 || words[0].as_bytes() != verb || words[6].is_empty() {
+    match word.as_bytes() {
+        b"run" => Some(Verb::Run),
+        b"list" => Some(Verb::List),
+        b"check" => Some(Verb::Check),
+        _ => None,
+    }
+}
+
+/// What the words `VERB PAGE BLOCK BLOCKS META MAGIC CHIP` give, or None for other words.
+#[tactic(auto, unfolding(crate::specs::Words::form_of))]
+pub(crate) fn read_form(words: &[String]) -> Option<Form>
+    ensures { result ≡ form_of (map string_bytes words.now) }
+{
+    if words.len() != 7 || words[6].is_empty() {
         return None;
     }
+    let verb = read_verb(&words[0])?;
     let page = number(&words[1])?;
     let block = number(&words[2])?;
     let blocks = number(&words[3])?;
     let meta = number(&words[4])?;
     let magic = magic(&words[5])?;
-    Some(Shape {
+    Some(Form {
+        verb,
         page,
         block,
         blocks,
@@ -61,32 +99,10 @@ fn volume_shape(words: &[String], verb: &[u8]) -> Option<Shape>
     })
 }
 
-/// The numbers that the words `run PAGE BLOCK BLOCKS META MAGIC CHIP` give, or None for other words.
-#[tactic(auto, unfolding(crate::specs::Words::run_form))]
-pub(crate) fn run_shape(words: &[String]) -> Option<Shape>
-    ensures { result ≡ run_form (map string_bytes words.now) }
-{
-    volume_shape(words, b"run")
-}
-
-/// The numbers that the words `list PAGE BLOCK BLOCKS META MAGIC CHIP` give, or None for other words.
-#[tactic(auto, unfolding(crate::specs::Words::list_form))]
-pub(crate) fn list_shape(words: &[String]) -> Option<Shape>
-    ensures { result ≡ list_form (map string_bytes words.now) }
-{
-    volume_shape(words, b"list")
-}
-
-/// The numbers that the words `check PAGE BLOCK BLOCKS META MAGIC CHIP` give, or None for other words.
-#[tactic(auto, unfolding(crate::specs::Words::check_form))]
-pub(crate) fn check_shape(words: &[String]) -> Option<Shape>
-    ensures { result ≡ check_form (map string_bytes words.now) }
-{
-    volume_shape(words, b"check")
-}
-
 // The word at a place as a number, where it is one.
-fn number_at(words: &[String], i: usize) -> Option<u32> {
+fn number_at(words: &[String], i: usize) -> Option<u32>
+    ensures { result ≡ number_word (word_at (map string_bytes words.now) i) }
+{
     match words.get(i) {
         Some(word) => number(word),
         None => None,
@@ -95,7 +111,8 @@ fn number_at(words: &[String], i: usize) -> Option<u32> {
 
 // The block size and the number of blocks, where the words give a volume of some bytes, below 2 ^ 32.
 fn blocks_of(words: &[String]) -> Option<(u32, u32)>
-    ensures { IfSome result (λ b. (0 < b.0) × (0 < b.1) × (b.0 * b.1 < 2 ^ 32)) }
+    ensures blocks { result ≡ blocks_in (map string_bytes words.now) }
+    ensures some { IfSome result (λ b. (0 < b.0) × (0 < b.1) × (b.0 * b.1 < 2 ^ 32)) }
 {
     let block = number_at(words, 2)?;
     let blocks = number_at(words, 3)?;
@@ -109,7 +126,8 @@ fn blocks_of(words: &[String]) -> Option<(u32, u32)>
 /// The erase unit of the chips that the words ask for, in bytes: BLOCK, read by its place. It is 4096 where
 /// the words can't be read, or give no volume of 1 to 2 ^ 32 - 1 bytes.
 pub fn unit_of(words: &[String]) -> u32
-    ensures { 0 < result }
+    ensures unit { result ≡ unit_for (blocks_in (map string_bytes words.now)) }
+    ensures some { 0 < result }
 {
     match blocks_of(words) {
         Some((block, _)) => block,
@@ -121,7 +139,8 @@ pub fn unit_of(words: &[String]) -> u32
 /// number, rounded up. It is 4096 where `unit_of` is that for want of numbers.
 pub fn chip_size_of(words: &[String], number: u32) -> u32
     requires { 1 ≤ number }
-    ensures { 0 < result }
+    ensures size { result ≡ chip_size_for (blocks_in (map string_bytes words.now)) number }
+    ensures some { 0 < result }
 {
     match blocks_of(words) {
         Some((block, blocks)) => block * blocks.div_ceil(number),

@@ -1,26 +1,32 @@
 -- What stands against a create, and what a create leaves.
-use Rattle.std.proofs.Common.{◌≡◌, ℕ, ⊎_elim, inl, inr, List, Bool, true, false, not, refl, sym, ◌∙◌, subst, nat_lt, if◌then◌else◌}
+use Rattle.std.proofs.Common.{◌≡◌, ℕ, ◌⊎◌, ⊎_elim, inl, inr, List, [], ◌∷◌, Bool, true, false, not, refl, sym, ◌∙◌, ap, subst, nat_lt, if◌then◌else◌}
 use Rattle.std.specs.Prelude.{Some, None}
-use Rattle.std.proofs.lemmas.Bool.{ltb-false}
+use Rattle.std.proofs.lemmas.Bool.{ltb-true, ltb-false, le-leb, lt-leb}
 use Rattle.geometry.specs.declared.geometry.Geometry.{Geometry}
 use Rattle.nor_core.specs.declared.state.NorState.{Ghosts as NorOf}
-use Rattle.nor_core.specs.Device.{OnlyReads, Changes}
-use Rattle.nor_core.proofs.Cuts.{wider, after_reads}
-use Rattle.image_model.specs.Tidy.{IsTidy}
+use Rattle.table_model.specs.declared.error.FsErr.{FsErr}
 use Rattle.table_model.specs.declared.error.FsErr.TheVariants.{ConflictingName, Tight, Full, Unbuilt}
-use Rattle.table_model.specs.Table.{has_name, least_id}
+use Rattle.table_model.specs.Table.{File, State, has_name, least_id}
 use Rattle.table_model.specs.Room.{has_room}
+use Rattle.table_model.specs.Names.{name_refusal}
 use Rattle.table_model.specs.Files.{created}
+use Rattle.table_model.specs.Outcome.{Outcome, refused, gives, page_refusal}
+use Rattle.table_model.specs.Calls.{answer_create}
+use Rattle.table_model.specs.Reply.{Fine}
+use Rattle.table_model.specs.Ask.{Creates}
+use Rattle.table_model.specs.Flat.{full_answer}
+use Rattle.table_model.specs.Steps.{is_refusal, done_steps}
 use Rattle.image_model.specs.Tables.{table_of}
-use Rattle.image_model.specs.Tidy.{free_blocks, HasReserve}
+use Rattle.image_model.specs.Tidy.{IsTidy, free_blocks, HasReserve}
 use Rattle.image_model.specs.Collect.{are_had}
 use Rattle.header_laws.proofs.HeadPages.{has-ids}
 use Rattle.header_laws.proofs.LeastIds.{least-unused}
-use Rattle.file_write.specs.Creates.{CanCreate, CreateCut, Created}
+use Rattle.file_write.specs.Creates.{CanCreate, creating}
+use Rattle.volume.specs.Flat.{flat}
+use Rattle.volume.specs.Holds.{spare_in}
+use Rattle.volume.specs.Goes.{LacksPage, IsDoable}
 use Rattle.volume.specs.Refusals.{create_refusal}
-use Rattle.volume.specs.Answers.{IsReady}
-use Rattle.volume.specs.Steps.{StepMakes}
-use Rattle.volume.specs.Creates.{IsCreated, CreateLeaves}
+use Rattle.volume.proofs.Going.{IsOneStep, one_step, reserve_mends, before_or_after, IsStep}
 
 -- nothing stands against it
 pub record Allowed (g : Geometry) (image name : List ℕ) : Type 0 where
@@ -41,44 +47,87 @@ pub allowed : (g : Geometry) (image name : List ℕ) → create_refusal g image 
 unfolding create_refusal
 allowed g image name e = allowed_by g image name (has_name name (table_of g image)) (nat_lt (free_blocks g image) 2) (has_room g (created g name (table_of g image))) (are_had g image 1 0) refl refl refl refl e
 
+-- ---- the flat table
+
+flat_makes : (g : Geometry) (spare : Bool) (s : State) (name : List ℕ) → spare ≡ true → name_refusal name ≡ None → has_name name s.table ≡ false → has_room g (created g name s.table) ≡ true →
+    flat g spare s (Creates name) ≡ gives Fine (record s { table = created g name s.table })
+unfolding flat full_answer answer_create page_refusal
+flat_makes g spare s name two fine new room = rw (two, fine, new, room) refl
+
+flat_conflicts : (g : Geometry) (spare : Bool) (s : State) (name : List ℕ) → name_refusal name ≡ None → has_name name s.table ≡ true → flat g spare s (Creates name) ≡ refused ConflictingName s
+unfolding flat full_answer answer_create
+flat_conflicts g spare s name fine there = rw (fine, there) refl
+
+flat_tight : (g : Geometry) (spare : Bool) (s : State) (name : List ℕ) → spare ≡ false → name_refusal name ≡ None → has_name name s.table ≡ false → flat g spare s (Creates name) ≡ refused Tight s
+unfolding flat full_answer answer_create page_refusal
+flat_tight g spare s name few fine new = rw (few, fine, new) refl
+
+flat_full : (g : Geometry) (spare : Bool) (s : State) (name : List ℕ) → spare ≡ true → name_refusal name ≡ None → has_name name s.table ≡ false → has_room g (created g name s.table) ≡ false → flat g spare s (Creates name) ≡ refused Full s
+unfolding flat full_answer answer_create page_refusal
+flat_full g spare s name two fine new none = rw (two, fine, new, none) refl
+
+create_one : (g : Geometry) (s : State) (name : List ℕ) (files : List File) → done_steps g s (Creates name) files ≡ files ∷ []
+unfolding done_steps
+create_one g s name files = refl
+
+-- ---- a fine name on an image
+
+module _ (g : Geometry) (image : List ℕ) (s : State) (name : List ℕ) (fine : name_refusal name ≡ None) (same : s.table ≡ table_of g image) where
+  -- where nothing stands against it the flat table makes the file
+  makes : Allowed g image name → flat g (spare_in g image) s (Creates name) ≡ gives Fine (record s { table = created g name s.table })
+  makes w = flat_makes g (spare_in g image) s name (le-leb 2 (free_blocks g image) w.reserve) fine (ap (has_name name) same ∙ w.new_name) (ap (λ table. has_room g (created g name table)) same ∙ w.room)
+
+  one : Allowed g image name → IsOneStep g (spare_in g image) s (Creates name) (created g name (table_of g image))
+  one w = subst (λ (table : List File). IsOneStep g (spare_in g image) s (Creates name) (created g name table)) same
+      (one_step g (spare_in g image) s (record s { table = created g name s.table }) (Creates name) (makes w) (create_one g s name (created g name s.table)))
+
+  -- else it refuses it so, but for want of a page
+  refused_by : (why : FsErr) (there few room had : Bool) → has_name name (table_of g image) ≡ there → nat_lt (free_blocks g image) 2 ≡ few → has_room g (created g name (table_of g image)) ≡ room → are_had g image 1 0 ≡ had →
+      (if there then Some ConflictingName else if few then Some Tight else if not room then Some Full else if not had then Some Unbuilt else None) ≡ Some why → ((why ≡ Unbuilt → ⊥) × (flat g (spare_in g image) s (Creates name) ≡ refused why s)) ⊎ ((why ≡ Unbuilt) × LacksPage g image s (Creates name))
+  refused_by why true few room had et ef er eh e = let is : why ≡ ConflictingName = cc in inl (λ x. cc, rw is (flat_conflicts g (spare_in g image) s name fine (ap (has_name name) same ∙ et)))
+  refused_by why false true room had et ef er eh e = let is : why ≡ Tight = cc in inl (λ x. cc, rw is (flat_tight g (spare_in g image) s name (lt-leb 2 (free_blocks g image) (ltb-true (free_blocks g image) 2 ef)) fine (ap (has_name name) same ∙ et)))
+  refused_by why false false false had et ef er eh e = let is : why ≡ Full = cc in inl (λ x. cc, rw is (flat_full g (spare_in g image) s name (le-leb 2 (free_blocks g image) (ltb-false (free_blocks g image) 2 ef)) fine (ap (has_name name) same ∙ et) (ap (λ table. has_room g (created g name table)) same ∙ er)))
+  refused_by why false false true false et ef er eh e =
+      let is : why ≡ Unbuilt = cc in
+      let made = flat_makes g (spare_in g image) s name (le-leb 2 (free_blocks g image) (ltb-false (free_blocks g image) 2 ef)) fine (ap (has_name name) same ∙ et) (ap (λ table. has_room g (created g name table)) same ∙ er) in
+      inr (is, record { takes = refl; done = ap (λ (o : Outcome). is_refusal o.answer) made; lacks = eh })
+  refused_by why false false true true et ef er eh e = absurd (cc)
+
+  pub refuses : (why : FsErr) → create_refusal g image name ≡ Some why → ((why ≡ Unbuilt → ⊥) × (flat g (spare_in g image) s (Creates name) ≡ refused why s)) ⊎ ((why ≡ Unbuilt) × LacksPage g image s (Creates name))
+  unfolding create_refusal
+  refuses why e = refused_by why (has_name name (table_of g image)) (nat_lt (free_blocks g image) 2) (has_room g (created g name (table_of g image))) (are_had g image 1 0) refl refl refl refl e
+
+  doable : Allowed g image name → IsDoable g image s (Creates name)
+  doable w = record { done = ap (λ (o : Outcome). is_refusal o.answer) (makes w); had = λ takes. w.had }
+
 -- so the step may be done
-pub can_create : (g : Geometry) (image name : List ℕ) (id : ℕ) → IsReady g image → create_refusal g image name ≡ None → id ≡ least_id (table_of g image) → CanCreate g image id name
-can_create g image name id ready none least =
+can_create : (g : Geometry) (image name : List ℕ) (id : ℕ) → IsTidy g image → create_refusal g image name ≡ None → id ≡ least_id (table_of g image) → CanCreate g image id name
+can_create g image name id tidy none least =
     let w = allowed g image name none in
     record {
-      tidy = ready.tidy;
-      reserve = ready.reserve;
-      new_id = rw least (has-ids g image ready.tidy.undamaged (least_id (table_of g image)) ∙ (least-unused (table_of g image)).unused);
+      tidy = tidy;
+      reserve = w.reserve;
+      new_id = rw least (has-ids g image tidy.undamaged (least_id (table_of g image)) ∙ (least-unused (table_of g image)).unused);
       new_name = w.new_name;
       had = w.had;
     }
 
--- the table before, or with the file
-pub leaves_by : (g : Geometry) (was name image : List ℕ) (id : ℕ) → create_refusal g was name ≡ None → id ≡ least_id (table_of g was) → CreateCut g was id name image → CreateLeaves g name was image
-leaves_by g was name image id none least cut = record {
-  sound = cut.sound;
-  table = ⊎_elim (λ before. inl before) (λ after. inr (none, rw (sym least) after)) cut.table;
-  reserve = cut.reserve;
-}
+-- ---- over a device
 
-pub makes_by : (g : Geometry) (was name now : List ℕ) (id : ℕ) → create_refusal g was name ≡ None → id ≡ least_id (table_of g was) → Created g was id name now → StepMakes g (IsCreated g name was) now
-makes_by g was name now id none least done = record {
-  ready = record { tidy = done.tidy; reserve = done.reserve };
-  table = (none, rw (sym least) done.table);
-}
-
--- ---- over a device: searches that only read, and then the step
-
-module _ {D : Type 0} {nor : NorOf D} {old mid : D} (g : Geometry) (name : List ℕ) (id : ℕ) (looked : OnlyReads nor old mid)
-    (prepared : nor.tells old → IsTidy g (nor.bytes old) → (create_refusal g (nor.bytes old) name ≡ None) × (id ≡ least_id (table_of g (nor.bytes old)))) where
-  pub step_can : nor.tells old → IsReady g (nor.bytes old) → CanCreate g (nor.bytes mid) id name
-  step_can tells ready = let w = prepared tells ready.tidy in subst (λ (l : List ℕ). CanCreate g l id name) (sym looked.bytes) (can_create g (nor.bytes old) name id ready w.0 w.1)
-
-  module _ {new : D} where
-    pub step_changes : Changes nor mid new (λ was image. CanCreate g was id name → CreateCut g was id name image) → Changes nor old new (λ was image. IsReady g was → CreateLeaves g name was image)
-    step_changes step = wider (after_reads looked step) (λ tells image cut ready.
-        let w = prepared tells ready.tidy in
-        leaves_by g (nor.bytes old) name image id w.0 w.1 (cut (can_create g (nor.bytes old) name id ready w.0 w.1)))
-
-    pub step_makes : nor.tells old → IsReady g (nor.bytes old) → Created g (nor.bytes mid) id name (nor.bytes new) → StepMakes g (IsCreated g name (nor.bytes old)) (nor.bytes new)
-    step_makes tells ready done = let w = prepared tells ready.tidy in makes_by g (nor.bytes old) name (nor.bytes new) id w.0 w.1 (subst (λ (l : List ℕ). Created g l id name (nor.bytes new)) looked.bytes done)
+module _ {D : Type 0} {nor : NorOf D} {g : Geometry} {old : D} (name : List ℕ) (fine : name_refusal name ≡ None) where
+  -- the step
+  pub create_step : (id : ℕ) → (nor.tells old → IsTidy g (nor.bytes old) → (create_refusal g (nor.bytes old) name ≡ None) × (id ≡ least_id (table_of g (nor.bytes old)))) →
+      IsStep nor g (Creates name) Fine old (creating id name)
+  create_step id prepared = record {
+    can = λ s here. let w = prepared here.tells here.tidy in can_create g (nor.bytes old) name id here.tidy w.0 w.1;
+    cut = λ s here image cut.
+        let w = prepared here.tells here.tidy in
+        let a = allowed g (nor.bytes old) name w.0 in
+        before_or_after g (nor.bytes old) image s (Creates name) (created g name (table_of g (nor.bytes old))) (one g (nor.bytes old) s name fine here.table a) here.table cut.sound (λ reserve. reserve_mends g image cut.reserve)
+        (⊎_elim (λ before. inl before) (λ after. inr (rw (sym w.1) after)) cut.table);
+    done = λ s here now done.
+        let w = prepared here.tells here.tidy in
+        let o = one g (nor.bytes old) s name fine here.table (allowed g (nor.bytes old) name w.0) in
+        record { answer_is = o.answer_is; tidy = done.tidy; table = o.table_is ∙ sym (rw (sym w.1) done.table); reserve = λ reserve. done.reserve };
+    doable = λ s here. let w = prepared here.tells here.tidy in doable g (nor.bytes old) s name fine here.table (allowed g (nor.bytes old) name w.0);
+  }

@@ -1,8 +1,9 @@
 pub mod Staying
 pub mod Magics
 pub mod Counting
-pub mod Creating
 pub mod Recording
-pub mod Stepping
-pub mod Answering
+pub mod Going
+pub mod Creating
 pub mod Removing
+pub mod Showing
+pub mod Calling

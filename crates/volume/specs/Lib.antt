@@ -1,10 +1,12 @@
 pub mod Pages
 pub mod Refusals
+pub mod Flat
+pub mod Replies
 pub mod Opening
 pub mod Stages
 pub mod Same
-pub mod Answers
+pub mod Holds
+pub mod Goes
+pub mod Calls
 pub mod Records
-pub mod Steps
-pub mod Creates
 pub mod Removes

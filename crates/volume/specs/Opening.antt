@@ -1,7 +1,7 @@
 -- The stages of a volume.
-use Rattle.std.specs.Prelude.{◌≡◌, Bool, true, false, Result, Err}
-use Rattle.table_model.specs.declared.error.FsErr.{FsErr}
-use Rattle.table_model.specs.declared.error.FsErr.TheVariants.{DeviceFault, Damaged}
+use Rattle.std.specs.Prelude.{Bool, true, false, ◌&&◌, if◌then◌else◌}
+use Rattle.table_model.specs.Reply.{Answer}
+use Rattle.volume.specs.Replies.{breaks}
 use Rattle.volume.specs.declared.stage.Stage.{Stage}
 use Rattle.volume.specs.declared.stage.Stage.TheVariants.{Mounted, Checked, Failed}
 
@@ -20,8 +20,6 @@ abbrev pub is_failed : Stage → Bool
 is_failed Failed = true
 is_failed _ = false
 
--- a volume fails in no call but one that tells a fault or a page that reads otherwise
-abbrev pub StaysUnless : {T : Type 0} → Result T FsErr → Bool → Bool → Type 0
-StaysUnless (Err DeviceFault) old new = Unit {0}
-StaysUnless (Err (Damaged differ)) old new = Unit {0}
-StaysUnless _ old new = new ≡ old
+-- where a call leads that a checked volume took: to Failed, where it broke and had asked for a program or an erase
+abbrev pub stage_after : Bool → Answer → Stage
+stage_after wrote reply = if wrote && breaks reply then Failed else Checked

@@ -23,5 +23,4 @@ create_refusal g image name =
 -- the id of a new file, where nothing stands against it, or what does
 abbrev pub Prepares : Geometry → List ℕ → List ℕ → Result ℕ FsErr → Type 0
 Prepares g image name (Ok id) = (create_refusal g image name ≡ None) × (id ≡ least_id (table_of g image))
-Prepares g image name (Err DeviceFault) = Unit {0}
-Prepares g image name (Err why) = create_refusal g image name ≡ Some why
+Prepares g image name (Err why) = ¬ (why ≡ DeviceFault) → create_refusal g image name ≡ Some why

@@ -1,15 +1,16 @@
-ghost use Rattle.std.specs.Prelude.{◌≡◌, ◌≢◌, ◌<◌, ◌≤◌, length, All, IsErrOf, IfOk, IfErr, OnErr, OnOk, Ok, Some, None, true, false};
+ghost use Rattle.std.specs.Prelude.{◌≡◌, ◌≤◌, IsErrOf, IfOk, IfErr, IfSome, OnErr, Ok, Some, true, false};
 ghost use Rattle.geometry.specs.Numbers.{usable};
 ghost use Rattle.nor_core.specs.Count.{Rose};
-ghost use Rattle.nor_core.specs.Device.{Changes, OnlyReads};
 ghost use Rattle.flash_view.specs.Same.{IsSameView, OnlyLooks};
-ghost use Rattle.table_model.specs.Table.{least_id, has_name as the_name};
+ghost use Rattle.table_model.specs.Table.{has_name as the_name};
+ghost use Rattle.table_model.specs.Ask.{Creates};
 ghost use Rattle.image_model.specs.Tables.{table_of};
-ghost use Rattle.image_model.specs.Tidy.{IsTidy, HasReserve};
+ghost use Rattle.image_model.specs.Tidy.{IsTidy};
 ghost use Rattle.volume.specs.Refusals.{create_refusal, Prepares};
-ghost use Rattle.volume.specs.Answers.{IsReady};
-ghost use Rattle.volume.specs.Creates.{CreateLeaves, CreateGoes};
+ghost use Rattle.volume.specs.Replies.{reply_of, may_meet};
+ghost use Rattle.volume.specs.Goes.{Goes};
 
+use crate::names::accept;
 use crate::room::{has_room, is_had};
 use crate::steps::failed_as;
 use file_write::create_step;
@@ -18,7 +19,7 @@ use free_search::{free_blocks, free_id};
 use header_laws::ids::names_are_told;
 use header_laws::room::ids_are_least;
 use nor_core::{Failed, Nor, NorState};
-use table_model::FsErr;
+use table_model::{FsErr, Reply};
 
 // Whether a file of that name is there.
 fn is_there<N: Nor>(v: &mut View<'_, N>, name: &[u8]) -> Result<bool, Failed>
@@ -36,6 +37,7 @@ fn obstacle<N: Nor>(v: &mut View<'_, N>, name: &[u8]) -> Result<Option<FsErr>, F
     ensures cause { OnErr result (Rose (N.faults v.old.nor.now) (N.faults v.new.nor.now)) }
     ensures looks { OnlyLooks v.old v.new }
     ensures no_fault { ¬ (result ≡ Ok (Some FsErr.DeviceFault)) }
+    ensures among { IfOk result (λ found. IfSome found (λ why. may_meet (Creates name.now) why ≡ true)) }
     ensures told { N.tells v.old.nor.now → IsTidy v.old.geometry (N.bytes v.old.nor.now) → IfOk result (λ why. why ≡ create_refusal v.old.geometry (N.bytes v.old.nor.now) name.now) }
 {
     if is_there(v, name)? {
@@ -59,6 +61,7 @@ fn prepare<N: Nor>(v: &mut View<'_, N>, name: &[u8]) -> Result<u16, FsErr>
     ensures cause { IsErrOf result FsErr.DeviceFault → Rose (N.faults v.old.nor.now) (N.faults v.new.nor.now) }
     ensures looks { OnlyLooks v.old v.new }
     ensures id { IfOk result (λ id. (1 ≤ id) × (id ≤ usable v.old.geometry)) }
+    ensures among { IfErr result (λ why. may_meet (Creates name.now) why ≡ true) }
     ensures told { N.tells v.old.nor.now → IsTidy v.old.geometry (N.bytes v.old.nor.now) → Prepares v.old.geometry (N.bytes v.old.nor.now) name.now result }
 {
     match obstacle(v, name) {
@@ -74,24 +77,18 @@ fn prepare<N: Nor>(v: &mut View<'_, N>, name: &[u8]) -> Result<u16, FsErr>
     }
 }
 
-// Makes an empty file of a name that is accepted.
-#[tactic(auto, using(flash_view::proofs::Looking::same_then))]
-pub(crate) fn create_in<N: Nor>(v: &mut View<'_, N>, name: &[u8]) -> Result<(), FsErr>
+/// Makes an empty file of a name.
+#[tactic(auto, using(flash_view::proofs::Looking::same_then, flash_view::proofs::Looking::same_none))]
+pub(crate) fn create_in<N: Nor>(v: &mut View<'_, N>, name: &[u8]) -> Result<Reply<'static>, FsErr>
     requires usable { usable v.old.geometry ≤ 32766 }
-    requires some { 1 ≤ length name.now }
-    requires short { length name.now ≤ 31 }
-    requires no_zero { All (λ b. b ≢ 0) name.now }
-    ensures cause { IsErrOf result FsErr.DeviceFault → Rose (N.faults v.old.nor.now) (N.faults v.new.nor.now) }
-    ensures faults { N.faults v.old.nor.now ≤ N.faults v.new.nor.now }
+    requires fresh { v.old.wrote ≡ false }
     ensures same { IsSameView v.old v.new }
-    ensures changes { Changes N.NorState v.old.nor.now v.new.nor.now (λ was image. IsReady v.old.geometry was → CreateLeaves v.old.geometry name.now was image) }
-    ensures goes { N.tells v.old.nor.now → IsReady v.old.geometry (N.bytes v.old.nor.now) → CreateGoes N.NorState v.old.geometry name.now v.old.nor.now v.new.nor.now result }
-    ensures untouched { v.old.wrote ≡ false → v.new.wrote ≡ false → OnlyReads N.NorState v.old.nor.now v.new.nor.now }
-    ensures begun { v.old.wrote ≡ false → v.new.wrote ≡ true → N.tells v.old.nor.now → IsTidy v.old.geometry (N.bytes v.old.nor.now) → create_refusal v.old.geometry (N.bytes v.old.nor.now) name.now ≡ None }
+    ensures goes { Goes N.NorState v.old.geometry (Creates name.now) v.old.nor.now v.new.nor.now v.new.wrote (reply_of result) }
 {
+    accept(name)?;
     let id = prepare(v, name)?;
     match create_step(v, id, name) {
-        Ok(()) => Ok(()),
+        Ok(()) => Ok(Reply::Done),
         Err(why) => Err(failed_as(why)),
     }
 }

@@ -1,7 +1,7 @@
 //! A mounted volume and its file calls.
 #![tactic(auto)]
 
-mod changing;
+mod calls;
 mod create;
 mod looking;
 mod names;

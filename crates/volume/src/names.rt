@@ -1,5 +1,6 @@
-ghost use Rattle.std.specs.Prelude.{◌≡◌, ◌≢◌, ◌<◌, ◌≤◌, length, All, IfErr, OnOk, Err, Some, None};
+ghost use Rattle.std.specs.Prelude.{◌≡◌, ◌≢◌, ◌<◌, ◌≤◌, length, All, IfErr, OnOk, Some, None, true};
 ghost use Rattle.table_model.specs.Names.{name_refusal};
+ghost use Rattle.volume.specs.Replies.{is_of_name};
 
 use table_model::FsErr;
 
@@ -10,7 +11,7 @@ pub(crate) fn accept(name: &[u8]) -> Result<(), FsErr>
     ensures short { OnOk result (length name.now ≤ 31) }
     ensures no_zero { OnOk result (All (λ b. b ≢ 0) name.now) }
     ensures fine { OnOk result (name_refusal name.now ≡ None) }
-    ensures no_fault { ¬ (result ≡ Err FsErr.DeviceFault) }
+    ensures among { IfErr result (λ why. is_of_name why ≡ true) }
     ensures refused { IfErr result (λ why. name_refusal name.now ≡ Some why) }
 {
     if name.is_empty() || name.contains(&0) {

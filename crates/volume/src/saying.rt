@@ -51,6 +51,7 @@ impl<'b, B: Board> Volume<'b, B> {
         ensures done { B.tells self.old.nor.now → OnOk result (B.said self.new.nor.now ≡ B.said self.old.nor.now ++ piece.now) }
         ensures cuts { Leaves B.NorState self.old.nor.now self.new.nor.now (InSay B.NorState self.old.nor.now piece.now) }
         ensures stays { takes_calls self.new ≡ takes_calls self.old }
+        ensures slots { self.new.slots.now ≡ self.old.slots.now }
         ensures same { IsSameVolume self.old self.new }
     {
         say_on(self.geometry, self.nor, self.work, self.cache, piece)

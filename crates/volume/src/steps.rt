@@ -1,12 +1,12 @@
 ghost use Rattle.std.specs.Prelude.{◌≡◌};
+ghost use Rattle.volume.specs.Replies.{as_fs_err};
 
 use flash_view::StepErr;
 use table_model::FsErr;
 
 // The answer of a call whose step failed so.
 pub(crate) fn failed_as(why: StepErr) -> FsErr
-    ensures fault { why ≡ StepErr.DeviceFault → result ≡ FsErr.DeviceFault }
-    ensures only { result ≡ FsErr.DeviceFault → why ≡ StepErr.DeviceFault }
+    ensures { result ≡ as_fs_err why }
 {
     match why {
         StepErr::DeviceFault => FsErr::DeviceFault,

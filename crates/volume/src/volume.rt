@@ -13,7 +13,7 @@ ghost use Rattle.volume.specs.Opening.{is_open, is_mounted};
 
 use crate::stage::Stage;
 use crate::{CheckErr, Report};
-use fd_table::FdSlot;
+use fd_table::{FdSlot, FdTable};
 use flash_view::View;
 use geometry::Geometry;
 use nor_core::{Nor, NorState};
@@ -130,13 +130,14 @@ fn check_on<N: Nor>(
 }
 
 impl<'b, N: Nor> Volume<'b, N> {
-    ghost use Rattle.std.specs.Prelude.{◌≡◌, ◌*◌, ◌≤◌, length, OnOk, IsErrOf, IfOk, IfErr, IfSome, IsOk, Err, None, true, false};
+    ghost use Rattle.std.specs.Prelude.{◌≡◌, ◌*◌, ◌≤◌, length, min, replicate, OnOk, IsErrOf, IfOk, IfErr, IfSome, IsOk, Err, None, true, false};
     ghost use Rattle.geometry.specs.Numbers.{write_refusal, work_need, cache_need, check_need};
     ghost use Rattle.nor_core.specs.Count.{Rose};
     ghost use Rattle.nor_core.specs.Device.{Changes, OnlyReads};
     ghost use Rattle.image_model.specs.Kinds.{spoiled_blocks, mixed_blocks};
     ghost use Rattle.image_model.specs.Tidy.{IsTidy};
     ghost use Rattle.page_cache.specs.Frames.{held};
+    ghost use Rattle.fd_table.specs.Slots.{descriptors};
     ghost use Rattle.vol_mount.specs.Mounts.{IsLate, CountsSpoiled};
     ghost use Rattle.vol_check.specs.Culls.{KeepsAll};
     ghost use Rattle.vol_check.specs.Checks.{IsWritable, IsRefusal, CountsMixed, Checked as WasChecked};
@@ -161,6 +162,7 @@ impl<'b, N: Nor> Volume<'b, N> {
         ensures cache_size { length result.cache.now ≡ length lent.entry.cache.now }
         ensures empty { held g result.cache.now ≡ 0 }
         ensures unmounted { takes_calls result ≡ false }
+        ensures closed { descriptors result.slots.now ≡ replicate (min 65535 (length lent.entry.slots.now)) None }
     {
         let Lent {
             work,
@@ -168,7 +170,7 @@ impl<'b, N: Nor> Volume<'b, N> {
             cache,
             check,
         } = lent;
-        slots.fill(FdSlot::empty());
+        let slots = FdTable::new(slots).give_back();
         let (nor, cache) = Cached::new(g, nor, cache).give_back();
         Volume {
             geometry: g,
@@ -191,6 +193,7 @@ impl<'b, N: Nor> Volume<'b, N> {
         ensures told { N.tells self.old.nor.now → OnOk result (spoiled_blocks self.old.geometry (N.bytes self.old.nor.now) ≤ 1) }
         ensures spoiled { N.tells self.old.nor.now → IfErr result (CountsSpoiled self.old.geometry (N.bytes self.old.nor.now)) }
         ensures mounted { OnOk result (is_mounted self.new.stage ≡ true) }
+        ensures slots { self.new.slots.now ≡ self.old.slots.now }
         ensures same { IsSameVolume self.old self.new }
     {
         mount_on(self.geometry, self.nor, self.work, self.cache)?;
@@ -214,6 +217,7 @@ impl<'b, N: Nor> Volume<'b, N> {
         ensures done { N.tells self.old.nor.now → IfOk result (λ report. WasChecked self.old.geometry (N.bytes self.old.nor.now) (N.bytes self.new.nor.now) report) }
         ensures idle { N.tells self.old.nor.now → IsTidy self.old.geometry (N.bytes self.old.nor.now) → OnlyReads N.NorState self.old.nor.now self.new.nor.now }
         ensures taken { OnOk result (takes_calls self.new ≡ true) }
+        ensures slots { self.new.slots.now ≡ self.old.slots.now }
         ensures same { IsSameVolume self.old self.new }
     {
         let report = check_on(self.geometry, self.nor, self.work, self.cache, self.check)?;
@@ -247,6 +251,12 @@ impl<'b, N: Nor> Volume<'b, N> {
     pub fn unmount(self) -> Unmounted<'b, N>
         ensures nor { result.back.nor.now ≡ self.entry.nor.now }
         ensures nor_name { result.back.nor.ghost_name ≡ self.entry.nor.ghost_name }
+        ensures work_name { result.back.lent.work.ghost_name ≡ self.entry.work.ghost_name }
+        ensures cache_name { result.back.lent.cache.ghost_name ≡ self.entry.cache.ghost_name }
+        ensures slots_name { result.back.lent.slots.ghost_name ≡ self.entry.slots.ghost_name }
+        ensures check_name { result.back.lent.check.ghost_name ≡ self.entry.check.ghost_name }
+        ensures whole { has_failed self.entry ≡ false → IsOk result.last }
+        ensures failed { has_failed self.entry ≡ true → result.last ≡ Err FsErr.Failed }
     {
         let Volume {
             geometry: _,

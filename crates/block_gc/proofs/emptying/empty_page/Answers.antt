@@ -1,17 +1,22 @@
-use Rattle.std.proofs.Common.{sym, ◌∙◌}
+use Rattle.std.proofs.Common.{refl, sym, ◌∙◌}
 use Rattle.flash_view.proofs.Heads.{entry_page_told}
-use Rattle.block_gc.proofs.OneTurn.{turn_passes}
-use Rattle.block_gc.proofs.TurnCalls.{turn_cut}
+use Rattle.flash_view.proofs.Stepped.{looked, after_look}
+use Rattle.block_gc.proofs.OneTurn.{turn_stays, turn_passes}
+use Rattle.block_gc.proofs.TurnCalls.{has_turn}
 use Rattle.block_gc.proofs.emptying.empty_page.Goals as goal
 
-pub returns-in-Ok-true-clause-changes : goal.returns-in-Ok-true-clause-changes
-returns-in-Ok-true-clause-changes g c =
-    let seen = c.in-Ok-true.ensures in
-    turn_cut c.args.v.now.geometry c.args.block _ c.args.page seen.looks.same.geometry seen.looks.reads (λ tells. sym (seen.told tells) ∙ c.in-Ok-true.field-0-test) c.move_out.ensures.changes
+pub returns-in-Err : goal.returns-in-Err
+returns-in-Err g c = let seen = c.in-Err.ensures in looked seen.looks (λ e. seen.cause) tt (λ tells places. (turn_stays _ _ _ places, refl))
 
-pub returns-in-Ok-false-clause-done : goal.returns-in-Ok-false-clause-done
-returns-in-Ok-false-clause-done g c = λ tells places.
-    let view = c.args.v.now in
+pub returns-in-Ok-false : goal.returns-in-Ok-false
+returns-in-Ok-false g c =
     let seen = c.in-Ok-false.ensures in
-    rw seen.looks.reads.bytes
-    (turn_passes view.geometry (g.N.NorState.bytes view.nor.now) c.args.block c.args.page places (entry_page_told view.geometry c.args.page c.requires.page) c.requires.at (sym (seen.told tells) ∙ c.in-Ok-false.field-0-test))
+    looked seen.looks (λ e. absurd (cc)) tt (λ tells places. (
+      turn_stays _ _ _ places,
+      turn_passes _ _ _ _ places (entry_page_told _ _ c.requires.page) c.requires.at (sym (seen.told tells) ∙ c.in-Ok-false.field-0-test),
+    ))
+
+pub returns-in-Ok-true : goal.returns-in-Ok-true
+returns-in-Ok-true g c =
+    let seen = c.in-Ok-true.ensures in
+    after_look seen.looks c.move_out.ensures (λ tells places. has_turn _ _ _ _ (sym (seen.told tells) ∙ c.in-Ok-true.field-0-test) places)

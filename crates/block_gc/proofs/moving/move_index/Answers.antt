@@ -1,18 +1,22 @@
 use Rattle.std.proofs.Common.{◌≡◌, ◌<◌, ⊎_elim, arith}
-use Rattle.block_gc.proofs.MoveCalls.{looked, looked_before, id_range}
+use Rattle.flash_view.proofs.Stepped.{looked, look_fails, after_look}
+use Rattle.block_gc.proofs.MoveCalls.{none_cut, id_range}
 use Rattle.block_gc.proofs.moving.move_index.Goals as goal
 
-pub returns-then-tag-eq0-clause-changes : goal.returns-then-tag-eq0-clause-changes
-returns-then-tag-eq0-clause-changes g c = looked c.args.v.now.geometry c.args.page c.args.to c.in_ok-tag.ensures.looks.reads
+pub returns-in_err-tag : goal.returns-in_err-tag
+returns-in_err-tag g c = let seen = c.in_err-tag.ensures in look_fails seen.looks seen.cause c.from_residual.ensures.0 (λ tells can. none_cut _ _ _ _ can)
 
-pub returns-then-tag-eq0-clause-done : goal.returns-then-tag-eq0-clause-done
-returns-then-tag-eq0-clause-done g c = λ tells can.
-    let range = id_range c.args.v.now.geometry _ c.args.page c.in_ok-tag.tag _ (c.in_ok-tag.ensures.told tells can.index) in
-    absurd (⊎_elim
-    (λ (zero : c.in_ok-tag.tag.id ≡ 0). omega (arith, zero, range.0))
-    (λ (more : (c.in_ok-tag.tag.id ≡ 0 → ⊥) × (0x7FFE < c.in_ok-tag.tag.id)). omega (arith, more.1, range.1))
-    c.then-tag-eq0.either)
+pub returns-then-tag-eq0 : goal.returns-then-tag-eq0
+returns-then-tag-eq0 g c =
+    let seen = c.in_ok-tag.ensures in
+    looked seen.looks (λ e. absurd (cc)) tt (λ tells can. (
+      none_cut _ _ _ _ can,
+      let range = id_range c.args.v.now.geometry _ c.args.page c.in_ok-tag.tag _ (seen.told tells can.index) in
+          absurd (⊎_elim
+          (λ (zero : c.in_ok-tag.tag.id ≡ 0). omega (arith, zero, range.0))
+          (λ (more : (c.in_ok-tag.tag.id ≡ 0 → ⊥) × (0x7FFE < c.in_ok-tag.tag.id)). omega (arith, more.1, range.1))
+          c.then-tag-eq0.either),
+    ))
 
-pub returns-clause-changes : goal.returns-clause-changes
-returns-clause-changes g c =
-    looked_before c.args.v.now.geometry c.args.page c.args.to c.in_ok-tag.ensures.looks.reads _ c.in_ok-tag.ensures.looks.same.geometry c.put_copy.ensures.changes
+pub returns : goal.returns
+returns g c = after_look c.in_ok-tag.ensures.looks c.put_copy.ensures (λ tells can. record { needs = can; cut = λ d cut. cut; done = λ d ok done. done })

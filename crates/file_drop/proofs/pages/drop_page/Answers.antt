@@ -1,34 +1,20 @@
 use Rattle.std.proofs.Common.{sym, ◌∙◌}
-use Rattle.file_drop.proofs.Passing.{image_of, on_ok, cut_reads, cut_kill, drops_none, killed_page}
+use Rattle.flash_view.proofs.Stepped.{looked, look_fails, after_look}
+use Rattle.file_drop.proofs.Killing.{drops}
+use Rattle.file_drop.proofs.Passing.{keeps_none, drops_none}
 use Rattle.file_drop.proofs.pages.drop_page.Goals as goal
 
-pub returns-in_err-is_page_of-clause-changes : goal.returns-in_err-is_page_of-clause-changes
-returns-in_err-is_page_of-clause-changes g c = cut_reads c.args.v.now.geometry c.args.id c.is_page_of.ensures.looks.reads
+pub returns-in_err-is_page_of : goal.returns-in_err-is_page_of
+returns-in_err-is_page_of g c =
+    let seen = c.in_err-is_page_of.ensures in
+    look_fails seen.looks seen.cause c.from_residual.ensures.0 (λ tells o. keeps_none _ _ _ o)
 
-pub returns-then-not-branch-clause-changes : goal.returns-then-not-branch-clause-changes
-returns-then-not-branch-clause-changes g c = cut_reads c.args.v.now.geometry c.args.id c.in_ok-is_page_of.ensures.looks.reads
-
-pub returns-then-not-branch-clause-done : goal.returns-then-not-branch-clause-done
-returns-then-not-branch-clause-done g c = λ tells orphans.
-    let view = c.args.v.now in
-    let image = g.N.NorState.bytes view.nor.now in
-    rw c.in_ok-is_page_of.ensures.looks.reads.bytes (drops_none view.geometry image c.args.id c.args.page (sym (c.in_ok-is_page_of.ensures.told tells) ∙ c.if-not-branch.true) orphans)
-
-pub returns-clause-changes : goal.returns-clause-changes
-returns-clause-changes g c =
-    let view = c.args.v.now in
+pub returns-then-not-branch : goal.returns-then-not-branch
+returns-then-not-branch g c =
     let seen = c.in_ok-is_page_of.ensures in
-    cut_kill view.geometry c.is_page_of.new.v.geometry c.args.id c.args.page seen.looks.same.geometry seen.looks.reads c.kill.ensures.changes
-    (λ tells. image_of view.geometry (g.N.NorState.bytes view.nor.now) (g.N.NorState.size view.nor.now) (g.met.N.Nor.sized view.nor.now tells) view.volume)
-    (λ tells. sym (seen.told tells) ∙ c.if-not-branch.false)
-    (λ tells. rw c.if-not-branch.false at (seen.byte tells))
+    looked seen.looks (λ e. absurd (cc)) tt (λ tells o. (keeps_none _ _ _ o, drops_none _ _ _ _ (sym (seen.told tells) ∙ c.if-not-branch.true) o))
 
-pub returns-clause-done : goal.returns-clause-done
-returns-clause-done g c = λ tells orphans.
-    let view = c.args.v.now in
-    let image = g.N.NorState.bytes view.nor.now in
+pub returns : goal.returns
+returns g c =
     let seen = c.in_ok-is_page_of.ensures in
-    on_ok c.kill.result
-    (killed_page view.geometry c.is_page_of.new.v.geometry image (g.N.NorState.bytes c.is_page_of.new.v.nor.now) (g.N.NorState.bytes c.kill.new.v.nor.now) c.args.id c.args.page seen.looks.same.geometry seen.looks.reads.bytes
-    (image_of view.geometry image (g.N.NorState.size view.nor.now) (g.met.N.Nor.sized view.nor.now tells) view.volume) orphans (sym (seen.told tells) ∙ c.if-not-branch.false) (rw c.if-not-branch.false at (seen.byte tells)))
-    (c.kill.ensures.done (seen.looks.reads.told tells))
+    after_look seen.looks c.kill.ensures.live (λ tells o. drops _ _ _ _ o (sym (seen.told tells) ∙ c.if-not-branch.false) (rw c.if-not-branch.false at (seen.byte tells)))

@@ -1,27 +1,20 @@
-use Rattle.file_drop.proofs.Passing.{image_of, on_ok, marking, killing, killed_after}
+use Rattle.std.proofs.Common.{◌+◌, ◌*◌, [], ◌∷◌}
+use Rattle.nor_core.specs.Flash.{HalfProgrammed, programmed}
+use Rattle.flash_view.proofs.Stepped.{made, fails, stepped_then, view_image}
+use Rattle.file_drop.proofs.Marking.{marks, clears_header}
 use Rattle.file_drop.proofs.remove.drop_header.Goals as goal
 
-pub returns-in_err-mark_removed-clause-changes : goal.returns-in_err-mark_removed-clause-changes
-returns-in_err-mark_removed-clause-changes g c =
-    let view = c.args.v.now in
-    marking view.geometry c.args.id c.args.header
-    (λ tells. image_of view.geometry (g.N.NorState.bytes view.nor.now) (g.N.NorState.size view.nor.now) (g.met.N.Nor.sized view.nor.now tells) view.volume)
-    c.mark_removed.ensures.changes
+pub returns-in_err-mark_removed : goal.returns-in_err-mark_removed
+returns-in_err-mark_removed g c =
+    let page = c.args.header in
+    let first = c.in_err-mark_removed.ensures in
+    fails (made (λ h. HalfProgrammed (page * h.page + 4) (0xBF ∷ [])) (λ h b. programmed b (page * h.page + 4) (0xBF ∷ [])) first.same first.wrote first.cause first.changes first.done) c.from_residual.ensures.0
+    (λ tells can. marks _ _ _ page (view_image c.args.v.now (g.met.N.Nor.sized _) tells) can)
 
-pub returns-clause-changes : goal.returns-clause-changes
-returns-clause-changes g c =
-    let view = c.args.v.now in
+pub returns : goal.returns
+returns g c =
+    let page = c.args.header in
     let first = c.in_ok-mark_removed.ensures in
-    killing view.geometry c.mark_removed.new.v.geometry c.args.id c.args.header first.same.geometry
-    (λ tells. image_of view.geometry (g.N.NorState.bytes view.nor.now) (g.N.NorState.size view.nor.now) (g.met.N.Nor.sized view.nor.now tells) view.volume)
-    first.changes first.done c.kill.ensures.changes
-
-pub returns-clause-done : goal.returns-clause-done
-returns-clause-done g c = λ tells can.
-    let view = c.args.v.now in
-    let image = g.N.NorState.bytes view.nor.now in
-    let first = c.in_ok-mark_removed.ensures in
-    on_ok c.kill.result
-    (killed_after view.geometry c.mark_removed.new.v.geometry image (g.N.NorState.bytes c.mark_removed.new.v.nor.now) (g.N.NorState.bytes c.kill.new.v.nor.now) c.args.id c.args.header first.same.geometry
-    (image_of view.geometry image (g.N.NorState.size view.nor.now) (g.met.N.Nor.sized view.nor.now tells) view.volume) can (first.done tells))
-    (c.kill.ensures.done (first.changes.cuts.told tells))
+    stepped_then (made (λ h. HalfProgrammed (page * h.page + 4) (0xBF ∷ [])) (λ h b. programmed b (page * h.page + 4) (0xBF ∷ [])) first.same first.wrote first.cause first.changes first.done) c.kill.ensures.dead
+    (λ tells can. marks _ _ _ page (view_image c.args.v.now (g.met.N.Nor.sized _) tells) can)
+    (λ tells can. clears_header _ _ _ page (view_image c.args.v.now (g.met.N.Nor.sized _) tells) can _)

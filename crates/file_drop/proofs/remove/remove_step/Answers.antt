@@ -1,30 +1,25 @@
-use Rattle.file_drop.proofs.Passing.{looked, found_cut, found_done}
+use Rattle.std.proofs.Common.{refl, sym}
+use Rattle.flash_view.proofs.Stepped.{looked, after_look, fault_as, done_as}
+use Rattle.file_drop.proofs.Passing.{stays, by_header}
 use Rattle.file_drop.proofs.Seeing.{has_first}
 use Rattle.file_drop.proofs.remove.remove_step.Goals as goal
 
-pub returns-in-Err-clause-changes : goal.returns-in-Err-clause-changes
-returns-in-Err-clause-changes g c = looked c.args.v.now.geometry c.args.id c.in-Err.ensures.looks.reads
+pub returns-in-Err : goal.returns-in-Err
+returns-in-Err g c = let seen = c.in-Err.ensures in looked seen.looks (λ e. seen.cause) tt (λ tells can. (stays _ _ _ can, refl))
 
-pub returns-in-Ok-None-clause-changes : goal.returns-in-Ok-None-clause-changes
-returns-in-Ok-None-clause-changes g c = looked c.args.v.now.geometry c.args.id c.in-Ok-None.ensures.looks.reads
+pub returns-in-Ok-None : goal.returns-in-Ok-None
+returns-in-Ok-None g c =
+    let seen = c.in-Ok-None.ensures in
+    looked seen.looks (λ e. absurd (cc)) c.missing.ensures (λ tells can. (stays _ _ _ can, absurd (has_first _ _ _ can (rw c.in-Ok-None.field-0-is at (seen.told tells)))))
 
-pub returns-in-Ok-None-clause-undamaged : goal.returns-in-Ok-None-clause-undamaged
-returns-in-Ok-None-clause-undamaged g c = λ tells can. absurd (has_first _ _ _ can (rw c.in-Ok-None.field-0-is at (c.in-Ok-None.ensures.told tells)))
+pub returns-in-Err-drop_by : goal.returns-in-Err-drop_by
+returns-in-Err-drop_by g c =
+    let seen = c.in-Ok-Some.ensures in
+    let is = c.in-Ok-Some.field-0-is in
+    fault_as (after_look seen.looks c.in-Err-drop_by.ensures (λ tells can. by_header _ _ _ _ (record { can = can; first = sym (rw is at (seen.told tells)); byte = rw is at (seen.byte tells) })))
 
-pub returns-in-Err-drop_by-clause-changes : goal.returns-in-Err-drop_by-clause-changes
-returns-in-Err-drop_by-clause-changes g c =
-    found_cut c.args.v.now.geometry c.args.id c.in-Ok-Some.ensures.looks.reads c.in-Ok-Some.header _ c.in-Ok-Some.ensures.looks.same.geometry
-    (λ tells. rw c.in-Ok-Some.field-0-is at (c.in-Ok-Some.ensures.told tells))
-    (λ tells. rw c.in-Ok-Some.field-0-is at (c.in-Ok-Some.ensures.byte tells)) c.drop_by.ensures.changes
-
-pub returns-in-Ok-clause-changes : goal.returns-in-Ok-clause-changes
-returns-in-Ok-clause-changes g c =
-    found_cut c.args.v.now.geometry c.args.id c.in-Ok-Some.ensures.looks.reads c.in-Ok-Some.header _ c.in-Ok-Some.ensures.looks.same.geometry
-    (λ tells. rw c.in-Ok-Some.field-0-is at (c.in-Ok-Some.ensures.told tells))
-    (λ tells. rw c.in-Ok-Some.field-0-is at (c.in-Ok-Some.ensures.byte tells)) c.drop_by.ensures.changes
-
-pub returns-in-Ok-clause-done : goal.returns-in-Ok-clause-done
-returns-in-Ok-clause-done g c = λ tells can.
-    found_done c.args.v.now.geometry c.args.id c.in-Ok-Some.ensures.looks.reads c.in-Ok-Some.header _ c.in-Ok-Some.ensures.looks.same.geometry
-    (λ tells. rw c.in-Ok-Some.field-0-is at (c.in-Ok-Some.ensures.told tells))
-    (λ tells. rw c.in-Ok-Some.field-0-is at (c.in-Ok-Some.ensures.byte tells)) _ c.in-Ok.ensures.done tells can
+pub returns-in-Ok : goal.returns-in-Ok
+returns-in-Ok g c =
+    let seen = c.in-Ok-Some.ensures in
+    let is = c.in-Ok-Some.field-0-is in
+    done_as (after_look seen.looks c.in-Ok.ensures (λ tells can. by_header _ _ _ _ (record { can = can; first = sym (rw is at (seen.told tells)); byte = rw is at (seen.byte tells) })))

@@ -1,26 +1,22 @@
-use Rattle.file_write.proofs.Finding.{found_one, looked, put_cut, put_done}
+use Rattle.std.proofs.Common.{refl}
+use Rattle.flash_view.proofs.Stepped.{looked, after_look, fault_as, done_as, view_image}
+use Rattle.file_write.proofs.Finding.{stays, found_one, by_page}
 use Rattle.file_write.proofs.create.create_step.Goals as goal
 
-pub returns-in-Err-clause-changes : goal.returns-in-Err-clause-changes
-returns-in-Err-clause-changes g c = looked _ _ _ c.in-Err.ensures.looks.reads
+pub returns-in-Err : goal.returns-in-Err
+returns-in-Err g c = let seen = c.in-Err.ensures in looked seen.looks (λ e. seen.cause) tt (λ tells can. (stays _ _ _ _ can, refl))
 
-pub returns-in-Ok-None-clause-changes : goal.returns-in-Ok-None-clause-changes
-returns-in-Ok-None-clause-changes g c = looked _ _ _ c.in-Ok-None.ensures.looks.reads
+pub returns-in-Ok-None : goal.returns-in-Ok-None
+returns-in-Ok-None g c =
+    let seen = c.in-Ok-None.ensures in
+    looked seen.looks (λ e. absurd (cc)) c.missing.ensures (λ tells can. (stays _ _ _ _ can, absurd (found_one _ _ _ _ can (rw c.in-Ok-None.field-0-is at (seen.told tells can.tidy)))))
 
-pub returns-in-Ok-None-clause-undamaged : goal.returns-in-Ok-None-clause-undamaged
-returns-in-Ok-None-clause-undamaged g c = λ tells can. absurd (found_one _ _ _ _ can (rw c.in-Ok-None.field-0-is at (c.in-Ok-None.ensures.told tells can.tidy)))
+pub returns-in-Err-put_header_page : goal.returns-in-Err-put_header_page
+returns-in-Err-put_header_page g c =
+    let seen = c.in-Ok-Some.ensures in
+    fault_as (after_look seen.looks c.in-Err-put_header_page.ensures (λ tells can. by_page _ _ _ _ _ (view_image c.args.v.now (g.met.N.Nor.sized _) tells) can (rw c.in-Ok-Some.field-0-is at (seen.told tells can.tidy))))
 
-pub returns-in-Err-put_header_page-clause-changes : goal.returns-in-Err-put_header_page-clause-changes
-returns-in-Err-put_header_page-clause-changes g c =
-    put_cut c.args.v.now.geometry c.args.id c.args.name.now c.in-Ok-Some.ensures.looks.reads _ (g.met.N.Nor.sized _) c.args.v.now.volume c.in-Ok-Some.page
-    (λ tells tidy. rw c.in-Ok-Some.field-0-is at (c.in-Ok-Some.ensures.told tells tidy)) _ c.in-Ok-Some.ensures.looks.same.geometry c.put_header_page.ensures.changes
-
-pub returns-in-Ok-clause-changes : goal.returns-in-Ok-clause-changes
-returns-in-Ok-clause-changes g c =
-    put_cut c.args.v.now.geometry c.args.id c.args.name.now c.in-Ok-Some.ensures.looks.reads _ (g.met.N.Nor.sized _) c.args.v.now.volume c.in-Ok-Some.page
-    (λ tells tidy. rw c.in-Ok-Some.field-0-is at (c.in-Ok-Some.ensures.told tells tidy)) _ c.in-Ok-Some.ensures.looks.same.geometry c.put_header_page.ensures.changes
-
-pub returns-in-Ok-clause-done : goal.returns-in-Ok-clause-done
-returns-in-Ok-clause-done g c = λ tells can.
-    put_done c.args.v.now.geometry c.args.id c.args.name.now c.in-Ok-Some.ensures.looks.reads _ (g.met.N.Nor.sized _) c.args.v.now.volume c.in-Ok-Some.page
-    (λ tells tidy. rw c.in-Ok-Some.field-0-is at (c.in-Ok-Some.ensures.told tells tidy)) _ c.in-Ok-Some.ensures.looks.same.geometry _ c.in-Ok.ensures.done tells can
+pub returns-in-Ok : goal.returns-in-Ok
+returns-in-Ok g c =
+    let seen = c.in-Ok-Some.ensures in
+    done_as (after_look seen.looks c.in-Ok.ensures (λ tells can. by_page _ _ _ _ _ (view_image c.args.v.now (g.met.N.Nor.sized _) tells) can (rw c.in-Ok-Some.field-0-is at (seen.told tells can.tidy))))

@@ -1,23 +1,14 @@
-use Rattle.std.proofs.Common.{drop}
-use Rattle.std.proofs.lemmas.Result.{on_ok_weaker}
-use Rattle.file_write.proofs.PutHead.{placed_cut, finished_cut, finished_done}
+use Rattle.std.proofs.Common.{◌<◌, ℕ, List, subst, drop, get_or, Fits, w8, rules, arith}
+use Rattle.std.proofs.lemmas.List.Elements.{All-from_get_or}
+use Rattle.flash_view.proofs.Stepped.{after_look, rebuilt}
+use Rattle.page_layout.specs.Layout.{IsNewHeader}
+use Rattle.file_write.proofs.Creating.{puts_head}
 use Rattle.file_write.proofs.create.put_header_page.Goals as goal
 
-pub returns-in_err-place-clause-changes : goal.returns-in_err-place-clause-changes
-returns-in_err-place-clause-changes g c =
-    placed_cut c.args.v.now.geometry c.args.page c.args.id c.args.name.now c.requires.id.0 c.requires.id.1 c.requires.name.1 c.type_inv.name
-    _ (drop c.page-len.result c.args.v.now.work.now) c.build_header_page.ensures.bytes c.build_header_page.ensures.fields
-    _ (g.met.N.Nor.sized _) c.args.v.now.volume c.place.ensures.changes
-
-pub returns-clause-changes : goal.returns-clause-changes
-returns-clause-changes g c =
-    finished_cut c.args.v.now.geometry c.args.page c.args.id c.args.name.now c.requires.id.0 c.requires.id.1 c.requires.name.1 c.type_inv.name
-    _ (drop c.page-len.result c.args.v.now.work.now) c.build_header_page.ensures.bytes c.build_header_page.ensures.fields
-    _ (g.met.N.Nor.sized _) c.args.v.now.volume c.place.ensures.changes c.in_ok-place.ensures.done _ c.place.ensures.same.geometry c.finish.ensures.changes
-
-pub returns-clause-done : goal.returns-clause-done
-returns-clause-done g c = λ tells can. on_ok_weaker _
-    (λ is. finished_done c.args.v.now.geometry c.args.page c.args.id c.args.name.now c.requires.id.0 c.requires.id.1 c.requires.name.1 c.type_inv.name
-    _ (drop c.page-len.result c.args.v.now.work.now) c.build_header_page.ensures.bytes c.build_header_page.ensures.fields
-    _ (g.met.N.Nor.sized _) c.args.v.now.volume c.place.ensures.changes c.in_ok-place.ensures.done _ c.place.ensures.same.geometry c.finish.ensures.changes tells can is)
-    (c.finish.ensures.done (c.place.ensures.changes.cuts.told tells))
+pub returns : goal.returns
+returns g c =
+    after_look (rebuilt (search rules)) c.put_page.ensures.step
+    (λ tells can. puts_head c.args.v.now.geometry _ c.args.page c.args.id c.args.name.now c.requires.id.0 c.requires.id.1
+    (subst (λ (l : List ℕ). IsNewHeader c.args.v.now.geometry c.args.id c.args.name.now l) c.build_header_page.ensures.bytes c.build_header_page.ensures.fields) can c.requires.name.1
+    (All-from_get_or (λ (b : ℕ). b < 256) c.args.name.now 0 (λ k within. let fits : Fits w8 (get_or c.args.name.now k 0) = c.type_inv.name k in omega arith))
+    c.build_header_page.new.page (drop c.page-len.result c.args.v.now.work.now) c.build_header_page.ensures.bytes)

@@ -3,8 +3,8 @@ use Rattle.geometry.specs.Numbers.{write_refusal}
 use Rattle.tool_core.specs.declared.ending.Ending.{Ending}
 use Rattle.tool_core.specs.Checking.{ChecksTo, report_text}
 use Rattle.volume.proofs.Magics.{few_spoiled}
-use Rattle.tool_core.proofs.Beginning.{check_changes}
-use Rattle.tool_core.proofs.CheckEnds.{check_not_mounted, check_refused, check_reported, check_broken, checked_here, checkable_here, few_here}
+use Rattle.tool_core.proofs.Beginning.{check_changes, check_taken}
+use Rattle.tool_core.proofs.CheckEnds.{check_not_mounted, check_refused, check_reported, check_broken, checked_here, few_here}
 use Rattle.tool_core.proofs.checking.check_view.Goals as goal
 
 pub returns-in-Err-clause-checks : goal.returns-in-Err-clause-checks
@@ -30,8 +30,8 @@ returns-in-Ok-say-clause-checks g c =
     let stages = c.in-Ok.ensures in
     let r = c.in-Ok.report in
     let line : c.as_slice.result.now ≡ report_text r.erased r.killed r.damaged r.free_blocks = c.as_slice.ensures.value ∙ c.report_line.ensures in
-    check_reported c.report_ending.result r line c.report_ending.ensures.why (check_changes h looks.same.geometry looks.reads c.check_stages.ensures.changes)
-    (λ tells. checkable_here h looks.same.geometry looks.reads (c.in_default.ensures.told tells) (stages.unmixed (looks.reads.told tells)))
+    check_reported c.end_of_check.result r line c.end_of_check.ensures.ending (check_changes h looks.same.geometry looks.reads c.check_stages.ensures.changes)
+    (λ tells. check_taken h looks.same.geometry looks.reads (c.in_default.ensures.told tells) (stages.unmixed (looks.reads.told tells)))
     (λ tells. checked_here c.in-Ok.report h looks.same.geometry looks.reads (stages.done (looks.reads.told tells)))
     c.say.ensures.says c.say.ensures.cuts c.in-Ok-say.ensures.done
 
@@ -42,5 +42,6 @@ returns-in-Err-say-clause-checks g c =
     let r = c.in-Ok.report in
     let line : c.as_slice.result.now ≡ report_text r.erased r.killed r.damaged r.free_blocks = c.as_slice.ensures.value ∙ c.report_line.ensures in
     check_broken r line (check_changes h looks.same.geometry looks.reads c.check_stages.ensures.changes)
+    (λ tells. check_taken h looks.same.geometry looks.reads (c.in_default.ensures.told tells) (c.in-Ok.ensures.unmixed (looks.reads.told tells)))
     (λ tells. checked_here c.in-Ok.report h looks.same.geometry looks.reads (c.in-Ok.ensures.done (looks.reads.told tells)))
     c.say.ensures.says c.say.ensures.cuts

@@ -1,10 +1,12 @@
-use Rattle.std.proofs.Common.{◌≡◌, sym, refl, rules}
+use Rattle.std.proofs.Common.{◌≡◌, sym, refl, rules, Some}
 use Rattle.table_model.specs.Ask.{asked}
 use Rattle.call_script.specs.Lines.{of_line, NoCall, Asks, Bad}
 use Rattle.run_model.proofs.Chain.{reached_none}
 use Rattle.run_model.proofs.OneCall.{call_cut, reply_cut}
 use Rattle.tool_core.proofs.LineWork.{no_call, one_call, none_good, same_cut, same_reached}
 use Rattle.tool_core.proofs.OneLine.{reply_did, stop_did}
+use Rattle.tool_core.proofs.Working.{works_line, works_none, works_end}
+use Rattle.tool_core.specs.declared.ending.Ending.TheVariants.{BadLine}
 use Rattle.tool_core.proofs.run.answer.Goals as goal
 
 pub returns-in_default-clause-did : goal.returns-in_default-clause-did
@@ -41,3 +43,15 @@ returns-in-Err-clause-did g c = λ m stands.
     let ask = asked c.in-Some.call in
     let p : Asks ask ≡ of_line c.args.line.now = search rules in
     stop_did c.in-Err.ending c.args.line.now c.args.number ask (sym p) (c.apply.ensures.does.changes m) (c.in-Err.ensures.does.stops m stands) stands
+
+pub returns-in_default-clause-works : goal.returns-in_default-clause-works
+returns-in_default-clause-works g c = works_end (BadLine c.args.number) c.args.volume.now.nor.now (λ here. here)
+
+pub returns-in_default-parsed-clause-works : goal.returns-in_default-parsed-clause-works
+returns-in_default-parsed-clause-works g c = works_none c.args.volume.now.nor.now
+
+pub returns-in-Ok-apply-clause-works : goal.returns-in-Ok-apply-clause-works
+returns-in-Ok-apply-clause-works g c = works_line c.say_reply.result c.args.line.now c.args.number (returns-in-Ok-apply-clause-leaves g c) (returns-in-Ok-apply-clause-did g c)
+
+pub returns-in-Err-clause-works : goal.returns-in-Err-clause-works
+returns-in-Err-clause-works g c = works_line (Some c.in-Err.ending) c.args.line.now c.args.number (returns-in-Err-clause-leaves g c) (returns-in-Err-clause-did g c)

@@ -1,6 +1,6 @@
 use Rattle.std.proofs.Common.{◌∙◌, ap, rules}
 use Rattle.geometry.specs.Numbers.{write_refusal}
-use Rattle.tool_core.proofs.Beginning.{mount_stops, mount_changes, check_stops, check_changes}
+use Rattle.tool_core.proofs.Beginning.{mount_stops, mount_changes, check_stops, check_changes, check_taken, tight_stops}
 use Rattle.tool_core.proofs.run.begin.Goals as goal
 
 pub returns-in-Err-clause-changes : goal.returns-in-Err-clause-changes
@@ -20,3 +20,13 @@ returns-in-Err-check-clause-changes g c = check_changes c.mount.new.self.geometr
 
 pub returns-in-Err-check-clause-stops : goal.returns-in-Err-check-clause-stops
 returns-in-Err-check-clause-stops g c = λ tells. rw c.check_ending.ensures.ends (check_stops c.in-Err-check.why c.mount.new.self.geometry c.mount.ensures.same.geometry (c.in-Err-check.ensures.writable (ap write_refusal c.mount.ensures.same.geometry ∙ c.requires)) c.mount.ensures.looks (search rules) c.in-Err-check.ensures.refused (c.in-Err-check.ensures.mixed (c.mount.ensures.looks.told tells)))
+
+pub returns-in-Ok-clause-stops : goal.returns-in-Ok-clause-stops
+returns-in-Ok-clause-stops g c = λ tells. tight_stops c.mount.new.self.geometry _ c.mount.ensures.same.geometry c.mount.ensures.looks (search rules) (search rules) (search rules) (search rules)
+
+pub returns-in-Ok-2-clause-begun : goal.returns-in-Ok-2-clause-begun
+returns-in-Ok-2-clause-begun g c = λ tells. record {
+  takes = check_taken c.mount.new.self.geometry c.mount.ensures.same.geometry c.mount.ensures.looks (search rules) (search rules);
+  tidy = search rules;
+  reserve = search rules;
+}

@@ -3,6 +3,8 @@ use Rattle.std.proofs.lemmas.Grind.{common_steps}
 use Rattle.std.specs.Prelude.{slice_range}
 use Rattle.call_script.specs.Lines.{NoBreak}
 use Rattle.tool_core.proofs.Turning.{no_last, last_done}
+use Rattle.tool_core.proofs.Working.{works_end, works_last}
+use Rattle.tool_core.specs.declared.ending.Ending.TheVariants.{Done}
 use Rattle.tool_core.proofs.run.last_line.Goals as goal
 
 pub returns-then-is_empty-clause-turned : goal.returns-then-is_empty-clause-turned
@@ -23,3 +25,12 @@ returns-in-Some-clause-turned g c = λ m stands.
     let number : c.saturating_add-number.result ≡ c.args.lines.now.handed + 1 = omega arith in
     let plain : NoBreak c.piece-line.result.now = subst NoBreak (sym c.piece-line.ensures) c.requires.no_break in
     rw (sym c.piece-line.ensures) (last_done (Some c.in-Some.ending) c.args.volume.now.nor.now c.answer.new.volume.nor.now m c.piece-line.result.now c.args.lines.now.taken c.args.lines.now.handed c.saturating_add-number.result plain some (omega arith) number (c.in-Some.ensures.leaves m) (c.in-Some.ensures.did m stands))
+
+pub returns-then-is_empty-clause-works : goal.returns-then-is_empty-clause-works
+returns-then-is_empty-clause-works g c = works_end Done c.args.volume.now.nor.now (λ here. here)
+
+pub returns-in-None-clause-works : goal.returns-in-None-clause-works
+returns-in-None-clause-works g c = works_last None c.in-None.ensures.works
+
+pub returns-in-Some-clause-works : goal.returns-in-Some-clause-works
+returns-in-Some-clause-works g c = works_last (Some c.in-Some.ending) c.in-Some.ensures.works

@@ -3,6 +3,7 @@ use Rattle.volume.specs.Stages.{takes_calls}
 use Rattle.volume.specs.Same.{IsSameVolume}
 use Rattle.table_model.specs.Window.{Moment}
 use Rattle.run_model.specs.Ran.{Stands}
+use Rattle.tool_core.specs.Runs.{Works}
 use Rattle.tool_core.specs.Turns.{Turned, at_run}
 use Rattle.tool_core.proofs.run.run_lines.Given as goal
 
@@ -13,6 +14,7 @@ invariant-turns g l = record {
   script : g.S.Source.faults l.fn.script ≤ g.S.Source.faults l.script;
   stands : takes_calls l.volume ≡ true;
   told : g.S.Source.tells l.fn.script → g.S.Source.tells l.script;
+  works : Works g.B.NorState l.fn.volume.geometry l.fn.volume.nor.now l.volume.nor.now None;
   turned : (m : Moment) → g.S.Source.tells l.fn.script → Stands g.B.NorState l.fn.volume.geometry l.fn.volume.nor.now m → Turned g.B.NorState l.fn.volume.geometry None m
       (at_run l.fn.volume.nor.now l.fn.lines.buf.now l.fn.lines.start l.fn.lines.end l.fn.lines.taken l.fn.lines.handed (g.S.Source.left l.fn.script))
       (at_run l.volume.nor.now l.lines.buf.now l.lines.start l.lines.end l.lines.taken l.lines.handed (g.S.Source.left l.script));

@@ -11,5 +11,5 @@ pub overflow_mul-result : goal.overflow_mul-result
 overflow_mul-result c =
     let some : 0 < c.args.number = omega arith in
     let share : c.div_ceil.result ≤ c.in-Some.blocks = rw c.div_ceil.ensures (share_within c.in-Some.blocks c.args.number some) in
-    let whole : c.in-Some.block * c.in-Some.blocks < 2 ^ 32 = c.in-Some.ensures.2 in
+    let whole : c.in-Some.block * c.in-Some.blocks < 2 ^ 32 = c.in-Some.ensures.some.2 in
     omega (arith, mul-le-mul_left c.in-Some.block share, whole)

@@ -1,34 +1,35 @@
-use Rattle.std.proofs.Common.{◌≡◌}
-use Rattle.flash_view.specs.declared.kinds.StepErr.TheVariants.{DeviceFault}
-use Rattle.volume.proofs.Creating.{step_changes, step_can, step_makes}
+use Rattle.std.proofs.Common.{refl, ◌∙◌}
+use Rattle.std.proofs.lemmas.Result.{err_from_is_err_and}
+use Rattle.nor_core.proofs.Cuts.{reads_none}
+use Rattle.table_model.specs.Reply.{Fine}
+use Rattle.table_model.specs.Ask.{Creates}
+use Rattle.volume.proofs.Going.{goes_named, goes_refused, goes_done, goes_broken}
+use Rattle.volume.proofs.Creating.{refuses, create_step}
 use Rattle.volume.proofs.create.create_in.Goals as goal
 
-pub returns-in-Ok-clause-changes : goal.returns-in-Ok-clause-changes
-returns-in-Ok-clause-changes g c =
-    let looked = c.in_ok-id.ensures in
-    step_changes c.args.v.now.geometry c.args.name.now c.in_ok-id.id looked.looks.reads looked.told (rw looked.looks.same.geometry at c.in-Ok.ensures.changes)
+pub returns-in_err-accept-clause-goes : goal.returns-in_err-accept-clause-goes
+returns-in_err-accept-clause-goes g c =
+    let p = err_from_is_err_and c.from_residual.result c.from_residual.ensures.1 in
+    let bad = c.in_err-accept.ensures in
+    rw (p.1, p.2) (goes_named (Creates c.args.name.now) _ c.args.v.now.wrote c.requires.fresh (reads_none c.args.v.now.nor.now) refl refl bad.among bad.refused)
+
+pub returns-in_err-id-clause-goes : goal.returns-in_err-id-clause-goes
+returns-in_err-id-clause-goes g c =
+    let p = err_from_is_err_and c.from_residual-in_err-id.result c.from_residual-in_err-id.ensures.1 in
+    let failed = c.in_err-id.ensures in
+    let name = c.args.name.now in
+    let fine = c.in_ok-accept.ensures.fine in
+    rw (p.1, p.2) (goes_refused (Creates name) c.in_err-id.field-0.0 c.prepare.new.v.wrote (failed.looks.wrote ∙ c.requires.fresh) failed.looks.reads refl fine failed.among failed.cause
+    (λ s here no_fault. refuses c.args.v.now.geometry _ s name fine here.table _ (failed.told here.tells here.tidy no_fault)))
 
 pub returns-in-Ok-clause-goes : goal.returns-in-Ok-clause-goes
-returns-in-Ok-clause-goes g c = λ tells ready.
+returns-in-Ok-clause-goes g c =
     let looked = c.in_ok-id.ensures in
-    let geometry = c.args.v.now.geometry in
-    step_makes geometry c.args.name.now c.in_ok-id.id looked.looks.reads looked.told tells ready
-    ((rw looked.looks.same.geometry at c.in-Ok.ensures.done) (looked.looks.reads.told tells) (step_can geometry c.args.name.now c.in_ok-id.id looked.looks.reads looked.told tells ready))
-
-pub returns-in-Err-clause-changes : goal.returns-in-Err-clause-changes
-returns-in-Err-clause-changes g c =
-    let looked = c.in_ok-id.ensures in
-    step_changes c.args.v.now.geometry c.args.name.now c.in_ok-id.id looked.looks.reads looked.told (rw looked.looks.same.geometry at c.in-Err.ensures.changes)
+    let fine = c.in_ok-accept.ensures.fine in
+    goes_done (Creates c.args.name.now) Fine refl refl fine (create_step c.args.name.now fine c.in_ok-id.id looked.told) looked.looks c.requires.fresh refl refl c.in-Ok.ensures
 
 pub returns-in-Err-clause-goes : goal.returns-in-Err-clause-goes
-returns-in-Err-clause-goes g c = λ tells ready.
+returns-in-Err-clause-goes g c =
     let looked = c.in_ok-id.ensures in
-    let geometry = c.args.v.now.geometry in
-    let only : c.in-Err.why ≡ DeviceFault = (rw looked.looks.same.geometry at c.in-Err.ensures.undamaged) (looked.looks.reads.told tells) (step_can geometry c.args.name.now c.in_ok-id.id looked.looks.reads looked.told tells ready) in
-    rw (c.failed_as.ensures.fault only) tt
-
-pub returns-in-Ok-clause-begun : goal.returns-in-Ok-clause-begun
-returns-in-Ok-clause-begun g c = λ before after tells tidy. (c.in_ok-id.ensures.told tells tidy).0
-
-pub returns-in-Err-clause-begun : goal.returns-in-Err-clause-begun
-returns-in-Err-clause-begun g c = λ before after tells tidy. (c.in_ok-id.ensures.told tells tidy).0
+    let fine = c.in_ok-accept.ensures.fine in
+    rw c.failed_as.ensures (goes_broken (Creates c.args.name.now) Fine refl refl fine (create_step c.args.name.now fine c.in_ok-id.id looked.told) looked.looks c.requires.fresh c.in-Err.why refl c.in-Err.ensures)

@@ -12,7 +12,7 @@ returns-in-Ok-Some-clause-told g c = λ tells tidy.
     named_some view.geometry image c.args.name.now c.in-Ok-Some.id whole tidy (sym (c.in-Ok-Some.ensures.told tells) ∙ c.in-Ok-Some.field-0-is)
 
 pub returns-in-Ok-None-clause-told : goal.returns-in-Ok-None-clause-told
-returns-in-Ok-None-clause-told g c = λ tells tidy.
+returns-in-Ok-None-clause-told g c = λ tells tidy no_fault.
     let view = c.args.v.now in
     let image = g.N.NorState.bytes view.nor.now in
     let size = g.met.N.Nor.sized view.nor.now tells in

@@ -1,0 +1,95 @@
+-- Which images are refused, and how.
+use Rattle.std.proofs.Common.{◌≡◌, ℕ, ◌<◌, ◌≤◌, ◌⊎◌, List, ◌∷◌, refl, sym, ap, arith, inl, inr, ⊎_elim, Bool, true, false, cond, Option, Some, None}
+use Rattle.std.proofs.lemmas.Bool.Decides.{nat_tests}
+use Rattle.std.specs.Prelude.{nat_lt}
+use Rattle.geometry.specs.declared.geometry.Geometry.{Geometry}
+use Rattle.image_model.specs.Tidy.{free_blocks}
+use Rattle.image_model.specs.Kinds.{spoiled_blocks, mixed_blocks}
+use Rattle.tool_core.specs.declared.ending.Ending.{Ending}
+use Rattle.tool_core.specs.declared.ending.Ending.TheVariants.{NotAFs, Mixed, Tight, BoardFault}
+use Rattle.tool_core.specs.Closing.{status_of, closing_line_of}
+use Rattle.tool_core.specs.Refusals.{mount_refusal, check_refusal, tight_refusal, or_ending, begin_refusal}
+
+below : (m n : ℕ) → m < n → nat_lt m n ≡ true
+below m n h = grind (arith, nat_tests)
+
+not_below : (m n : ℕ) → n ≤ m → nat_lt m n ≡ false
+not_below m n h = grind (arith, nat_tests)
+
+-- there is one, or none
+pub option_cases : (o : Option Ending) → (o ≡ None) ⊎ ((ending : Ending) × (o ≡ Some ending))
+option_cases None = inl refl
+option_cases (Some ending) = inr (ending, refl)
+
+pub not_both : {o : Option Ending} {ending : Ending} → o ≡ None → o ≡ Some ending → ⊥
+not_both none some = cc
+
+pub mount_two : (g : Geometry) (image : List ℕ) (spoiled : ℕ) → spoiled ≡ spoiled_blocks g image → 2 ≤ spoiled → mount_refusal g image ≡ Some (NotAFs spoiled)
+unfolding mount_refusal
+mount_two g image spoiled is two = rw (below 1 (spoiled_blocks g image) (omega (arith, is, two))) (ap (λ (n : ℕ). Some (NotAFs n)) (sym is))
+
+pub mount_few : (g : Geometry) (image : List ℕ) → spoiled_blocks g image ≤ 1 → mount_refusal g image ≡ None
+unfolding mount_refusal
+mount_few g image few = rw (not_below 1 (spoiled_blocks g image) few) refl
+
+pub check_two : (g : Geometry) (image : List ℕ) (spoiled : ℕ) → spoiled ≡ spoiled_blocks g image → 2 ≤ spoiled → check_refusal g image ≡ Some (NotAFs spoiled)
+unfolding check_refusal
+check_two g image spoiled is two = rw (below 1 (spoiled_blocks g image) (omega (arith, is, two))) (ap (λ (n : ℕ). Some (NotAFs n)) (sym is))
+
+pub check_mixed : (g : Geometry) (image : List ℕ) (blocks : ℕ) → spoiled_blocks g image ≤ 1 → blocks ≡ mixed_blocks g image → 0 < blocks → check_refusal g image ≡ Some (Mixed blocks)
+unfolding check_refusal
+check_mixed g image blocks few is some = rw (not_below 1 (spoiled_blocks g image) few) (rw (below 0 (mixed_blocks g image) (omega (arith, is, some))) (ap (λ (n : ℕ). Some (Mixed n)) (sym is)))
+
+pub check_takes : (g : Geometry) (image : List ℕ) → spoiled_blocks g image ≤ 1 → mixed_blocks g image ≡ 0 → check_refusal g image ≡ None
+unfolding check_refusal
+check_takes g image few none = rw (not_below 1 (spoiled_blocks g image) few) (rw (not_below 0 (mixed_blocks g image) (omega (arith, none))) refl)
+
+pub tight_some : (g : Geometry) (image : List ℕ) (free : ℕ) → free ≡ free_blocks g image → free < 2 → tight_refusal g image ≡ Some (Tight free)
+unfolding tight_refusal
+tight_some g image free is few = rw (below (free_blocks g image) 2 (omega (arith, is, few))) (ap (λ (n : ℕ). Some (Tight n)) (sym is))
+
+pub tight_none : (g : Geometry) (image : List ℕ) → 2 ≤ free_blocks g image → tight_refusal g image ≡ None
+unfolding tight_refusal
+tight_none g image enough = rw (not_below (free_blocks g image) 2 enough) refl
+
+pick : (b c : Bool) (m n : ℕ) (ending : Ending) → cond b (Some (NotAFs m)) (cond c (Some (Mixed n)) None) ≡ Some ending → (ending ≡ NotAFs m) ⊎ (ending ≡ Mixed n)
+pick true c m n ending is = inl cc
+pick false true m n ending is = inr cc
+pick false false m n ending is = cc
+
+refusal_is : (g : Geometry) (image : List ℕ) (ending : Ending) → check_refusal g image ≡ Some ending → (ending ≡ NotAFs (spoiled_blocks g image)) ⊎ (ending ≡ Mixed (mixed_blocks g image))
+unfolding check_refusal
+refusal_is g image ending is = pick (nat_lt 1 (spoiled_blocks g image)) (nat_lt 0 (mixed_blocks g image)) (spoiled_blocks g image) (mixed_blocks g image) ending is
+
+-- no image makes a fault
+pub no_fault : (g : Geometry) (image : List ℕ) (ending : Ending) → check_refusal g image ≡ Some ending → ending ≡ BoardFault → ⊥
+no_fault g image ending is fault = ⊎_elim (λ two. cc) (λ mixed. cc) (refusal_is g image ending is)
+
+-- its closing line begins so
+pub refusal_line : (g : Geometry) (image : List ℕ) (ending : Ending) → check_refusal g image ≡ Some ending → (xs : List ℕ) × (closing_line_of ending ≡ 33 ∷ xs)
+refusal_line g image ending is = ⊎_elim
+    (λ two. (_, ap closing_line_of two))
+    (λ mixed. (_, ap closing_line_of mixed))
+    (refusal_is g image ending is)
+
+or_cases : (o p : Option Ending) (ending : Ending) → or_ending o p ≡ Some ending → (o ≡ Some ending) ⊎ (p ≡ Some ending)
+or_cases None p ending is = inr is
+or_cases (Some first) p ending is = inl is
+
+pick_tight : (b : Bool) (n : ℕ) (ending : Ending) → cond b (Some (Tight n)) None ≡ Some ending → ending ≡ Tight n
+pick_tight true n ending is = cc
+pick_tight false n ending is = cc
+
+tight_is : (g : Geometry) (image : List ℕ) (ending : Ending) → tight_refusal g image ≡ Some ending → ending ≡ Tight (free_blocks g image)
+unfolding tight_refusal
+tight_is g image ending is = pick_tight (nat_lt (free_blocks g image) 2) (free_blocks g image) ending is
+
+-- a run that is ended by its images isn't done
+pub begin_undone : (g : Geometry) (was now : List ℕ) (ending : Ending) → begin_refusal g was now ≡ Some ending → status_of ending ≡ 0 → ⊥
+begin_undone g was now ending is done = ⊎_elim
+    (λ refused. ⊎_elim
+    (λ two. omega (arith, done, ap status_of two))
+    (λ mixed. omega (arith, done, ap status_of mixed))
+    (refusal_is g was ending refused))
+    (λ tight. omega (arith, done, ap status_of (tight_is g now ending tight)))
+    (or_cases (check_refusal g was) (tight_refusal g now) ending is)

@@ -1,0 +1,117 @@
+-- What a run leaves and answers.
+use Rattle.std.specs.Prelude.{ℕ, ◌≡◌, ◌≢◌, ◌+◌, ◌<◌, ◌≤◌, ◌⊎◌, List, [], ◌++◌, length, min, Option, None, Some}
+use Rattle.geometry.specs.declared.geometry.Geometry.{Geometry}
+use Rattle.nor_core.specs.declared.state.NorState.{Ghosts as NorOf}
+use Rattle.nor_core.specs.declared.source.Source.{Ghosts as SourceOf}
+use Rattle.nor_core.specs.Device.{Leaves}
+use Rattle.table_model.specs.Ask.{Ask}
+use Rattle.table_model.specs.Window.{Moment}
+use Rattle.call_script.specs.Lines.{lines, calls}
+use Rattle.image_model.specs.Tables.{table_of}
+use Rattle.run_model.specs.Runs.{after_all, replies, IsCutAfter}
+use Rattle.run_model.specs.Safe.{IsSafe}
+use Rattle.run_model.specs.Ran.{SaidPart}
+use Rattle.tool_core.specs.declared.plan.Lengths.{Lengths}
+use Rattle.tool_core.specs.declared.ending.Ending.{Ending}
+use Rattle.tool_core.specs.Closing.{status_of, closing_line_of}
+use Rattle.tool_core.specs.Endings.{EndsAs, Concludes, WritesNone}
+use Rattle.tool_core.specs.Reads.{ReadsOnce}
+use Rattle.tool_core.specs.Refusals.{check_refusal, begin_refusal}
+use Rattle.tool_core.specs.Turns.{AllGood}
+use Rattle.tool_core.specs.Outcomes.{HasBad, LacksNext, WhyRan, IsOfScript, first_moment}
+
+-- A cut in the calls: the image may follow the first one, and the replies said and its table are those of a cut in the calls.
+pub record CallCut {D : Type 0} (nor : NorOf D) (g : Geometry) (old : D) (m : Moment) (asks : List Ask) (image : List ℕ) (count : ℕ) : Type 0 where
+  pub said : List ℕ
+  pub count_is : count ≡ length (nor.said old) + length said
+  pub safe : IsSafe g (nor.bytes old) image
+  pub cut : IsCutAfter g m asks said (table_of g image)
+
+-- A cut in the closing line: the last image, and so many bytes of that line behind what was said before it.
+pub record ClosingCut {D : Type 0} (nor : NorOf D) (old new : D) (before closing : List ℕ) (image : List ℕ) (count : ℕ) : Type 0 where
+  pub image_is : image ≡ nor.bytes new
+  pub part : List ℕ
+  pub rest : List ℕ
+  pub closing_is : closing ≡ part ++ rest
+  pub some : 0 < length part
+  pub count_is : count ≡ length (nor.said old) + length (before ++ part)
+
+-- the board failed in a call: a front of the replies was said, and a cut leaves what one in the calls may
+pub record Breaks {D : Type 0} (nor : NorOf D) (g : Geometry) (old new : D) (m : Moment) (script : List ℕ) (status : ℕ) : Type 0 where
+  pub status_is : status ≡ 7
+  pub said : SaidPart nor old new (replies g m (calls script))
+  pub cuts : Leaves nor old new (CallCut nor g old m (calls script))
+
+-- A run was done up to some call: the replies before it were said, and then its closing line, or a front of that where the board
+-- failed; the image's table is that of the state after these calls. A cut leaves what one in these calls may, or in that line.
+pub record Closes {D : Type 0} (nor : NorOf D) (g : Geometry) (old new : D) (m : Moment) (script left : List ℕ) (status : ℕ) : Type 0 where
+  pub ending : Ending
+  pub ends : EndsAs nor old new ending status
+  pub front : List Ask
+  pub later : List Ask
+  pub asks_are : calls script ≡ front ++ later
+  pub why : WhyRan g (after_all g m front) (nor.bytes old) (nor.bytes new) script left front later ending
+  pub whole : status ≢ 7 → nor.said new ≡ nor.said old ++ (replies g m front ++ closing_line_of ending)
+  pub part : List ℕ
+  pub rest : List ℕ
+  pub closing_is : closing_line_of ending ≡ part ++ rest
+  pub said : nor.said new ≡ nor.said old ++ (replies g m front ++ part)
+  pub table : table_of g (nor.bytes new) ≡ (after_all g m front).state.table
+  pub safe : IsSafe g (nor.bytes old) (nor.bytes new)
+  pub cuts : Leaves nor old new (λ image count. CallCut nor g old m front image count ⊎ ClosingCut nor old new (replies g m front) (closing_line_of ending) image count)
+
+-- what a run leaves and answers
+abbrev pub Outcome : {D : Type 0} (nor : NorOf D) (g : Geometry) (old new : D) (m : Moment) (script left : List ℕ) (status : ℕ) → Type 0
+Outcome nor g old new m script left status = Breaks nor g old new m script status ⊎ Closes nor g old new m script left status
+
+-- The whole script was run, of at most 16,777,216 bytes: all replies were said and nothing else, and the image's table is that of
+-- the last state.
+pub record RanWhole {D : Type 0} (nor : NorOf D) (g : Geometry) (old new : D) (m : Moment) (script left : List ℕ) : Type 0 where
+  pub good : AllGood (lines script)
+  pub none_left : left ≡ []
+  pub few : length script ≤ 16777216
+  pub said : nor.said new ≡ nor.said old ++ replies g m (calls script)
+  pub table : table_of g (nor.bytes new) ≡ (after_all g m (calls script)).state.table
+
+-- the moment at which a volume of that image stands with the lent descriptors
+abbrev pub first_of : Geometry → Lengths → List ℕ → Moment
+first_of g lent image = first_moment g (min 65535 lent.slots) image
+
+-- the status is that of a refusal, or one of a script
+abbrev pub BeginsAs : (refusal : Option Ending) (status : ℕ) → Type 0
+BeginsAs (Some ending) status = status ≡ status_of ending
+BeginsAs None status = IsOfScript status
+
+-- a create of a script lacks its page
+pub record Lacks {D : Type 0} (nor : NorOf D) (g : Geometry) (new : D) (m : Moment) (script : List ℕ) : Type 0 where
+  pub front : List Ask
+  pub later : List Ask
+  pub asks_are : calls script ≡ front ++ later
+  pub lacks : LacksNext g (after_all g m front) (nor.bytes new) later
+
+-- A run whose images are worked on, and neither the board nor the script failed. Where no call lacks its page the status is 0 for a script of at most
+-- 16,777,216 bytes of which every line is in the grammar, 11 for a longer one, and 5 for one that isn't longer with a line outside.
+pub record IsComplete {D : Type 0} (nor : NorOf D) (g : Geometry) (new : D) (m : Moment) (script : List ℕ) (status : ℕ) : Type 0 where
+  pub done : length script ≤ 16777216 → status ≢ 16 → AllGood (lines script) → status ≡ 0
+  pub long : 16777216 < length script → status ≢ 16 → AllGood (lines script) → status ≡ 11
+  pub bad_line : length script ≤ 16777216 → status ≢ 16 → (number : ℕ) → HasBad script number → status ≡ 5
+  pub lacks : status ≡ 16 → Lacks nor g new m script
+
+-- A run mounts and checks the volume, and does the calls of the script.
+pub record DoesRun {D X : Type 0} (nor : NorOf D) (source : SourceOf X) (g : Geometry) (lent : Lengths) (old new : D) (script after : X) (status : ℕ) : Type 0 where
+  -- the replies to some first calls are said, then a closing line, whose cause stands beside it; the table is that after these calls,
+  -- and a cut at any moment leaves what they may
+  pub outcome : source.tells script → nor.tells old → Outcome nor g old new (first_of g lent (nor.bytes old)) (source.left script) (source.left after) status
+  -- with status 0 it was the whole script
+  pub whole : source.tells script → nor.tells old → status ≡ 0 → RanWhole nor g old new (first_of g lent (nor.bytes old)) (source.left script) (source.left after)
+  -- the status, if it isn't 7, is that of the images, where they end the run, or else one of a script ..
+  pub begins : nor.tells old → status ≢ 7 → BeginsAs (begin_refusal g (nor.bytes old) (nor.bytes new)) status
+  -- .. and, if it isn't 8, that of this script
+  pub complete : source.tells script → nor.tells old → status ≢ 7 → status ≢ 8 →
+      begin_refusal g (nor.bytes old) (nor.bytes new) ≡ None → IsComplete nor g new (first_of g lent (nor.bytes old)) (source.left script) status
+  -- an image that isn't taken stays, and its closing line is said alone
+  pub refused : nor.tells old → (ending : Ending) → check_refusal g (nor.bytes old) ≡ Some ending → Concludes nor old new [] ending status × (status ≢ 7 → WritesNone nor old new)
+  -- whatever is told, time goes on
+  pub goes : Leaves nor old new (λ image count. Unit {0})
+  -- each page is read once at most
+  pub reads : ReadsOnce nor g lent.cache old new

@@ -1,0 +1,15 @@
+use Rattle.std.proofs.Common.{◌≡◌, false, refl, rules}
+use Rattle.table_model.specs.Ask.{asked}
+use Rattle.table_model.specs.Reply.{answered}
+use Rattle.volume.specs.declared.stage.Stage.TheVariants.{Checked}
+use Rattle.volume.specs.Opening.{is_open}
+use Rattle.volume.proofs.Calling.{calls_closed, calls_by}
+use Rattle.volume.proofs.volume.Volume.answer.Goals as goal
+
+pub returns-then-ne : goal.returns-then-ne
+returns-then-ne g c = let shut : is_open c.args.self.now.stage ≡ false = search rules in calls_closed (asked c.args.call.now) c.args.self.now shut
+
+pub returns : goal.returns
+returns g c =
+    let checked : c.args.self.now.stage ≡ Checked = search rules in
+    calls_by (asked c.args.call.now) c.call_on-reply.result.wrote (answered c.call_on-reply.result.reply) checked (search rules) refl c.stage_after-self.ensures c.call_on-reply.ensures.goes
