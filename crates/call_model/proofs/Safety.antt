@@ -2,7 +2,7 @@
 use Rattle.std.proofs.Common.{ℕ, List}
 use Rattle.geometry.specs.declared.geometry.Geometry.{Geometry}
 use Rattle.image_model.specs.Tidy.{HasReserve, Mends}
-use Rattle.image_model.specs.Sound.{HasMagics, IsSound}
+use Rattle.image_model.specs.Sound.{IsSound}
 use Rattle.call_model.specs.Safe.{IsSafe, Holds}
 
 pub reserve_mends : (g : Geometry) (image : List ℕ) → HasReserve g image → Mends g image

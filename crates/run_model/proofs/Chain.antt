@@ -9,9 +9,8 @@ use Rattle.table_model.specs.Window.{Moment}
 use Rattle.image_model.specs.Tables.{table_of}
 use Rattle.run_model.specs.Runs.{after_all, replies}
 use Rattle.image_model.specs.Tidy.{HasReserve}
-use Rattle.call_model.specs.Safe.{IsSafe, Holds}
+use Rattle.call_model.specs.Safe.{Holds}
 use Rattle.call_model.specs.Memory.{Memory, IsAt}
-use Rattle.call_model.specs.Calls.{Stands}
 use Rattle.call_model.proofs.Safety.{holds_safe, holds_then, holds_itself}
 use Rattle.run_model.specs.Ran.{RunStands, CutIn, MayCut, Reached, SaidPart}
 use Rattle.run_model.proofs.Runs.{after_all-append, replies-append, cut_wider, cut_later}
