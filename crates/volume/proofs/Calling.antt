@@ -22,7 +22,6 @@ use Rattle.table_model.specs.Flat.{answer}
 use Rattle.table_model.specs.Steps.{is_refusal, steps}
 use Rattle.table_model.specs.Window.{Moment, Waiting, settled_at, incoming_of, continues, from_settled, IsAmong}
 use Rattle.image_model.specs.Tables.{table_of}
-use Rattle.image_model.specs.Tidy.{IsTidy}
 use Rattle.fd_table.specs.Slots.{descriptors}
 use Rattle.volume.specs.declared.stage.Stage.{Stage}
 use Rattle.volume.specs.declared.stage.Stage.TheVariants.{Checked, Failed}
@@ -127,17 +126,17 @@ staged_by old new false reply broke was is e = inl (e ∙ sym was, λ w b. let n
 
 module _ {N : Type 0} {nor : NorOf N} where
   -- the image of a volume at a moment is that of its state
-  image_at : {v : Volume N nor} {m : Moment} → nor.tells v.nor.now → IsAt v.geometry (nor.bytes v.nor.now) (memory v) m → IsImageOf nor v.geometry v.nor.now m.state
+  image_at : (v : Volume N nor) (m : Moment) → nor.tells v.nor.now → IsAt v.geometry (nor.bytes v.nor.now) (memory v) m → IsImageOf nor v.geometry v.nor.now m.state
   unfolding settled_at
-  image_at {v} {m} tells at = record { tells = tells; tidy = at.tidy; table = sym (at.table ∙ ap (λ (j : Moment). j.settled) at.run) }
+  image_at v m tells at = record { tells = tells; tidy = at.tidy; table = sym (at.table ∙ ap (λ (j : Moment). j.settled) at.run) }
 
-  image_of : {v : Volume N nor} {m : Moment} → Holds v m → IsImageOf nor v.geometry v.nor.now m.state
-  image_of {v} {m} here = image_at {v = v} {m = m} here.tells here.image
+  image_of : (v : Volume N nor) (m : Moment) → Holds v m → IsImageOf nor v.geometry v.nor.now m.state
+  image_of v m here = image_at v m here.tells here.image
 
   -- the volume stands at the moment of a state
-  stands_by : {old new : Volume N nor} {m : Moment} (s : State) → Holds old m → new.slots.now ≡ old.slots.now → s.slots ≡ m.state.slots → IsImageOf nor old.geometry new.nor.now s → Stands nor old.geometry new.nor.now (memory new) (settled_at s)
+  stands_by : (old new : Volume N nor) (m : Moment) (s : State) → Holds old m → new.slots.now ≡ old.slots.now → s.slots ≡ m.state.slots → IsImageOf nor old.geometry new.nor.now s → Stands nor old.geometry new.nor.now (memory new) (settled_at s)
   unfolding settled_at
-  stands_by {old} {new} {m} s was slots stand here = record {
+  stands_by old new m s was slots stand here = record {
     tells = here.tells;
     image = record {
       tidy = here.tidy;
@@ -153,7 +152,7 @@ module _ {N : Type 0} {nor : NorOf N} where
   calls_closed ask v shut = record {
     same = same_none v;
     cuts = unchanged v.nor.now (λ was image. (m : Moment) → Publishes v.geometry (memory v) m ask was image) (λ tells m at.
-        let i = image_at {v = v} {m = m} tells at in publishes v.geometry (nor.bytes v.nor.now) (nor.bytes v.nor.now) m ask at.run (stays v.geometry (nor.bytes v.nor.now) m.state ask i.tidy i.table));
+        let i = image_at v m tells at in publishes v.geometry (nor.bytes v.nor.now) (nor.bytes v.nor.now) m ask at.run (stays v.geometry (nor.bytes v.nor.now) m.state ask i.tidy i.table));
     answers = λ m takes here no_fault no_lack. absurd (let no : true ≡ false = sym takes ∙ shut in cc);
     refused = λ m takes here no_fault refusal. absurd (let no : true ≡ false = sym takes ∙ shut in cc);
     lacks = λ m takes built here e. absurd (let no : true ≡ false = sym takes ∙ shut in cc);
@@ -190,29 +189,29 @@ module _ {N : Type 0} {nor : NorOf N} where
 
     -- a call that wrote is one that the flat table does
     done_by : (m : Moment) → Holds old m → wrote ≡ true → reply ≡ (answer old.geometry (has_spare old.geometry (nor.bytes old.nor.now)) m.state ask).answer → is_refusal reply ≡ true → ⊥
-    done_by m here w is refusal = let no : true ≡ false = sym refusal ∙ ap is_refusal is ∙ (goes.begun m.state (image_of here) w).done in cc
+    done_by m here w is refusal = let no : true ≡ false = sym refusal ∙ ap is_refusal is ∙ (goes.begun m.state (image_of old m here) w).done in cc
 
     answered_by : (m : Moment) → Holds old m → (reply ≡ Refuses DeviceFault → ⊥) → (reply ≡ Refuses Unbuilt → ⊥) → is_built ask ≡ true → Answers nor old.geometry old.nor.now new.nor.now (memory new) m ask reply
     answered_by m here no_fault no_lack built =
         let spare = has_spare old.geometry (nor.bytes old.nor.now) in
-        let r = goes.answers m.state (image_of here) no_fault no_lack in
+        let r = goes.answers m.state (image_of old m here) no_fault no_lack in
         record {
           reply_is = r.reply_is;
           stands = subst (λ (j : Moment). Stands nor old.geometry new.nor.now (memory new) j) (sym (after_built old.geometry spare m ask built))
-              (stands_by (answer old.geometry spare m.state ask).next here slots (slots_stand old.geometry spare m.state ask built here.image.closed) r.holds);
-          holds = record { sound = λ magics. (goes.cuts.now here.tells m.state (image_of here)).sound; reserve = r.reserve };
+              (stands_by old new m (answer old.geometry spare m.state ask).next here slots (slots_stand old.geometry spare m.state ask built here.image.closed) r.holds);
+          holds = record { sound = λ magics. (goes.cuts.now here.tells m.state (image_of old m here)).sound; reserve = r.reserve };
         }
 
     refused_by : (m : Moment) → Holds old m → (reply ≡ Refuses DeviceFault → ⊥) → is_refusal reply ≡ true → is_built ask ≡ true → Unchanged old new
     refused_by m here no_fault refusal built = ⊎_elim
-        (λ (w : wrote ≡ true). absurd (done_by m here w (goes.answers m.state (image_of here) no_fault (λ lacking. let no : true ≡ false = sym w ∙ (goes.lacks m.state built (image_of here) lacking).1 in cc)).reply_is refusal))
+        (λ (w : wrote ≡ true). absurd (done_by m here w (goes.answers m.state (image_of old m here) no_fault (λ lacking. let no : true ≡ false = sym w ∙ (goes.lacks m.state built (image_of old m here) lacking).1 in cc)).reply_is refusal))
         (λ (none : wrote ≡ false). untouched none)
         (cases_Bool wrote)
 
     pub calls_by : Calls ask old new reply
     calls_by = record {
       same = same;
-      cuts = wider goes.cuts (λ tells image cut m at. publishes old.geometry (nor.bytes old.nor.now) image m ask at.run (cut m.state (image_at {v = old} {m = m} tells at)));
+      cuts = wider goes.cuts (λ tells image cut m at. publishes old.geometry (nor.bytes old.nor.now) image m ask at.run (cut m.state (image_at old m tells at)));
       answers = λ m takes here no_fault no_lack. ⊎_elim
           (λ (built : is_built ask ≡ true). answered_by m here no_fault no_lack built)
           (λ (not_built : is_built ask ≡ false). absurd (no_lack (goes.unbuilt not_built).0))
@@ -221,12 +220,12 @@ module _ {N : Type 0} {nor : NorOf N} where
           (λ (built : is_built ask ≡ true). refused_by m here no_fault refusal built)
           (λ (not_built : is_built ask ≡ false). untouched (goes.unbuilt not_built).1)
           (cases_Bool (is_built ask));
-      lacks = λ m takes built here e. let w = goes.lacks m.state built (image_of here) e in (w.0, untouched w.1);
+      lacks = λ m takes built here e. let w = goes.lacks m.state built (image_of old m here) e in (w.0, untouched w.1);
       unbuilt = λ takes not_built. let w = goes.unbuilt not_built in (w.0, untouched w.1);
       closed = λ shut. absurd (let no : true ≡ false = sym open_is ∙ shut in cc);
       cause = goes.cause;
       differs = goes.differs;
-      undamaged = λ m here. goes.undamaged m.state (image_of here);
+      undamaged = λ m here. goes.undamaged m.state (image_of old m here);
       among = λ takes. goes.among;
       brief = λ bytes e. absurd (no_bytes ask bytes (subst (λ (a : Answer). may_answer ask a ≡ true) e goes.among));
       named = λ takes built why e. let w = goes.named.refused built why e in (w.0, untouched w.1);
@@ -241,7 +240,7 @@ module _ {N : Type 0} {nor : NorOf N} where
           staged;
       stops = λ m takes stopped here. ⊎_elim
           (λ (stood : (new.stage ≡ old.stage) × (wrote ≡ true → breaks reply ≡ true → ⊥)). absurd (let no : true ≡ false = sym open_is ∙ sym (ap is_open stood.0) ∙ stopped in cc))
-          (λ (failed : (new.stage ≡ Failed) × (wrote ≡ true) × (breaks reply ≡ true)). goes.begun m.state (image_of here) failed.1)
+          (λ (failed : (new.stage ≡ Failed) × (wrote ≡ true) × (breaks reply ≡ true)). goes.begun m.state (image_of old m here) failed.1)
           staged;
       looks = λ look. untouched (goes.looks look);
     }

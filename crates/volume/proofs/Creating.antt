@@ -22,7 +22,6 @@ use Rattle.image_model.specs.Collect.{are_had}
 use Rattle.header_laws.proofs.HeadPages.{has-ids}
 use Rattle.header_laws.proofs.LeastIds.{least-unused}
 use Rattle.file_write.specs.Creates.{CanCreate, creating}
-
 use Rattle.image_model.specs.Tidy.{has_spare}
 use Rattle.volume.specs.Goes.{LacksPage, IsDoable}
 use Rattle.volume.specs.Refusals.{create_refusal}

@@ -23,7 +23,6 @@ use Rattle.header_laws.proofs.Listed.{any-found}
 use Rattle.header_laws.proofs.HeadNames.{named}
 use Rattle.header_laws.proofs.Telling.{found-by_id}
 use Rattle.file_drop.specs.Removals.{CanRemove, removing}
-
 use Rattle.image_model.specs.Tidy.{has_spare}
 use Rattle.volume.specs.Holds.{IsImageOf}
 use Rattle.volume.specs.Goes.{LacksPage}

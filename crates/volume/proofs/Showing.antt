@@ -14,7 +14,6 @@ use Rattle.table_model.specs.Outcome.{refused, gives}
 use Rattle.table_model.specs.Reply.{Shows, Counts}
 use Rattle.table_model.specs.Ask.{Stats, NextAbove, Informs}
 use Rattle.table_model.specs.Flat.{answer}
-
 use Rattle.volume.specs.Replies.{shown_or_end}
 
 stat_by : (g : Geometry) (spare : Bool) (s : State) (name : List ℕ) (o : Option File) → name_refusal name ≡ None → file_named name s.table ≡ o → (stat : Stat) → Some stat ≡ option_map stat_of o → answer g spare s (Stats name) ≡ gives (Shows stat) s
