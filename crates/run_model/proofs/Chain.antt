@@ -8,10 +8,12 @@ use Rattle.table_model.specs.Ask.{Ask}
 use Rattle.table_model.specs.Window.{Moment}
 use Rattle.image_model.specs.Tables.{table_of}
 use Rattle.run_model.specs.Runs.{after_all, replies}
-use Rattle.run_model.specs.Safe.{IsSafe, IsAt}
-use Rattle.run_model.specs.Ran.{Stands, CutIn, MayCut, Reached, SaidPart}
+use Rattle.image_model.specs.Tidy.{HasReserve}
+use Rattle.call_model.specs.Safe.{Holds}
+use Rattle.call_model.specs.Memory.{Memory, IsAt}
+use Rattle.call_model.proofs.Safety.{holds_safe, holds_then, holds_itself}
+use Rattle.run_model.specs.Ran.{RunStands, CutIn, MayCut, Reached, SaidPart}
 use Rattle.run_model.proofs.Runs.{after_all-append, replies-append, cut_wider, cut_later}
-use Rattle.run_model.proofs.Safety.{passes, stays}
 
 -- no call has no reply
 pub no_replies : (g : Geometry) (m : Moment) → replies g m [] ≡ []
@@ -34,57 +36,62 @@ said_wider {D} {nor} {old} {new} g m xs ys s = record {
 
 module _ {D : Type 0} {nor : NorOf D} {g : Geometry} where
   -- a cut in the front of a run
-  pub wider_cut : {old new : D} {m : Moment} {xs : List Ask} (ys : List Ask) → MayCut nor g old new m xs → MayCut nor g old new m (xs ++ ys)
-  wider_cut {old} {new} {m} {xs} ys leaves = widened leaves (λ image count here stands. let c = here stands in record { part = c.part; count_is = c.count_is; safe = c.safe; cut = cut_wider g m xs ys c.part (table_of g image) c.cut })
+  pub wider_cut : {old new : D} {memory : Memory} {m : Moment} {xs : List Ask} (ys : List Ask) → MayCut nor g old new memory m xs → MayCut nor g old new memory m (xs ++ ys)
+  wider_cut {old} {new} {memory} {m} {xs} ys leaves = widened leaves (λ image count here stands. let c = here stands in record { part = c.part; count_is = c.count_is; safe = c.safe; cut = cut_wider g m xs ys c.part (table_of g image) c.cut })
 
   -- a cut in calls after those that were done
-  pub cut_behind : {old mid : D} {m : Moment} {xs ys : List Ask} {image : List ℕ} {count : ℕ} → Reached nor g old mid m xs → CutIn nor g mid (after_all g m xs) ys image count → CutIn nor g old m (xs ++ ys) image count
-  cut_behind {old} {mid} {m} {xs} {ys} {image} {count} r c = record {
+  pub cut_behind : {old mid : D} {memory : Memory} {m : Moment} {xs ys : List Ask} {image : List ℕ} {count : ℕ} → Reached nor g old mid memory m xs → CutIn nor g mid (after_all g m xs) ys image count → CutIn nor g old m (xs ++ ys) image count
+  cut_behind {old} {mid} {memory} {m} {xs} {ys} {image} {count} r c = record {
     part = replies g m xs ++ c.part;
     count_is = omega (arith, c.count_is, ap length r.said, length-append (nor.said old) (replies g m xs), length-append (replies g m xs) c.part);
-    safe = passes g (nor.bytes old) (nor.bytes mid) image r.safe c.safe;
+    safe = holds_safe g (nor.bytes old) (nor.bytes mid) image r.holds c.safe;
     cut = cut_later g m xs ys c.part (table_of g image) c.cut;
   }
 
   -- a cut in calls, and one in those that come after
-  pub later_cut : {old mid new : D} {m : Moment} {xs ys : List Ask} → MayCut nor g old mid m xs → (Stands nor g old m → Reached nor g old mid m xs) → MayCut nor g mid new (after_all g m xs) ys → MayCut nor g old new m (xs ++ ys)
-  later_cut {old} {mid} {new} {m} {xs} {ys} first reached second = andthen (wider_cut ys first) (widened second (λ image count here stands. let r = reached stands in cut_behind r (here r.stands)))
+  pub later_cut : {old mid new : D} {before between : Memory} {m : Moment} {xs ys : List Ask} → MayCut nor g old mid before m xs → (RunStands nor g old before m → Reached nor g old mid between m xs) → MayCut nor g mid new between (after_all g m xs) ys → MayCut nor g old new before m (xs ++ ys)
+  later_cut {old} {mid} {new} {before} {between} {m} {xs} {ys} first reached second = andthen (wider_cut ys first) (widened second (λ image count here stands. let r = reached stands in cut_behind r (here r.stands)))
 
   -- calls were done, and others after them
-  pub later_reached : {old mid new : D} {m : Moment} {xs ys : List Ask} → Reached nor g old mid m xs → Reached nor g mid new (after_all g m xs) ys → Reached nor g old new m (xs ++ ys)
-  later_reached {old} {mid} {new} {m} {xs} {ys} r s = record {
+  pub later_reached : {old mid new : D} {between after : Memory} {m : Moment} {xs ys : List Ask} → Reached nor g old mid between m xs → Reached nor g mid new after (after_all g m xs) ys → Reached nor g old new after m (xs ++ ys)
+  later_reached {old} {mid} {new} {between} {after} {m} {xs} {ys} r s = record {
     said = s.said ∙ ap (λ (l : List ℕ). l ++ replies g (after_all g m xs) ys) r.said ∙ append_assoc (nor.said old) (replies g m xs) (replies g (after_all g m xs) ys) ∙ ap (λ (l : List ℕ). nor.said old ++ l) (sym (replies-append g m xs ys));
-    stands = subst (λ (j : Moment). Stands nor g new j) (sym (after_all-append g m xs ys)) s.stands;
-    safe = passes g (nor.bytes old) (nor.bytes mid) (nor.bytes new) r.safe s.safe;
+    stands = subst (λ (j : Moment). RunStands nor g new after j) (sym (after_all-append g m xs ys)) s.stands;
+    holds = holds_then g (nor.bytes old) (nor.bytes mid) (nor.bytes new) r.holds s.holds;
   }
 
   -- the replies to calls were said, and a front of those after them
-  pub later_said : {old mid new : D} {m : Moment} {xs : List Ask} (ys : List Ask) → Reached nor g old mid m xs → SaidPart nor mid new (replies g (after_all g m xs) ys) → SaidPart nor old new (replies g m (xs ++ ys))
-  later_said {old} {mid} {new} {m} {xs} ys r s = record {
+  pub later_said : {old mid new : D} {memory : Memory} {m : Moment} {xs : List Ask} (ys : List Ask) → Reached nor g old mid memory m xs → SaidPart nor mid new (replies g (after_all g m xs) ys) → SaidPart nor old new (replies g m (xs ++ ys))
+  later_said {old} {mid} {new} {memory} {m} {xs} ys r s = record {
     part = replies g m xs ++ s.part;
     rest = s.rest;
     said = s.said ∙ ap (λ (l : List ℕ). l ++ s.part) r.said ∙ append_assoc (nor.said old) (replies g m xs) s.part;
     whole_is = replies-append g m xs ys ∙ ap (λ (l : List ℕ). replies g m xs ++ l) s.whole_is ∙ sym (append_assoc (replies g m xs) s.part s.rest);
   }
 
+  -- a volume stands still where only reads were made
+  pub stands_read : {old new : D} {memory : Memory} {m : Moment} → OnlyReads nor old new → RunStands nor g old memory m → RunStands nor g new memory m
+  stands_read {old} {new} {memory} {m} reads stands = record {
+    stands = record { tells = reads.told stands.stands.tells; image = subst (λ (l : List ℕ). IsAt g l memory m) (sym reads.bytes) stands.stands.image };
+    reserve = subst (λ (l : List ℕ). HasReserve g l) (sym reads.bytes) stands.reserve;
+  }
+
   -- where only reads were made, no call was
-  pub reached_reads : {old new : D} {m : Moment} → OnlyReads nor old new → Stands nor g old m → Reached nor g old new m []
-  reached_reads {old} {new} {m} reads stands =
-      let here : IsAt g (nor.bytes new) m = subst (λ (l : List ℕ). IsAt g l m) (sym reads.bytes) stands.image in
-      record {
-        said = reads.said ∙ sym (ap (λ (l : List ℕ). nor.said old ++ l) (no_replies g m) ∙ append-nil (nor.said old));
-        stands = subst (λ (j : Moment). Stands nor g new j) (sym (no_calls g m)) (record { tells = reads.told stands.tells; image = here });
-        safe = subst (λ (l : List ℕ). IsSafe g l (nor.bytes new)) reads.bytes (stays g (nor.bytes new));
-      }
+  pub reached_reads : {old new : D} {memory : Memory} {m : Moment} → OnlyReads nor old new → RunStands nor g old memory m → Reached nor g old new memory m []
+  reached_reads {old} {new} {memory} {m} reads stands = record {
+    said = reads.said ∙ sym (ap (λ (l : List ℕ). nor.said old ++ l) (no_replies g m) ∙ append-nil (nor.said old));
+    stands = subst (λ (j : Moment). RunStands nor g new memory j) (sym (no_calls g m)) (stands_read reads stands);
+    holds = subst (λ (l : List ℕ). Holds g l (nor.bytes new)) reads.bytes (holds_itself g (nor.bytes new));
+  }
 
   -- nothing was called
-  pub reached_none : (d : D) (m : Moment) → Stands nor g d m → Reached nor g d d m []
-  reached_none d m stands = record {
+  pub reached_none : (d : D) (memory : Memory) (m : Moment) → RunStands nor g d memory m → Reached nor g d d memory m []
+  reached_none d memory m stands = record {
     said = sym (ap (λ (l : List ℕ). nor.said d ++ l) (no_replies g m) ∙ append-nil (nor.said d));
-    stands = subst (λ (j : Moment). Stands nor g d j) (sym (no_calls g m)) stands;
-    safe = stays g (nor.bytes d);
+    stands = subst (λ (j : Moment). RunStands nor g d memory j) (sym (no_calls g m)) stands;
+    holds = holds_itself g (nor.bytes d);
   }
 
   -- reads leave what no call may
-  pub cut_reads : {old new : D} (m : Moment) (asks : List Ask) → OnlyReads nor old new → MayCut nor g old new m asks
-  cut_reads {old} {new} m asks reads = read_on _ reads
+  pub cut_reads : {old new : D} (memory : Memory) (m : Moment) (asks : List Ask) → OnlyReads nor old new → MayCut nor g old new memory m asks
+  cut_reads {old} {new} memory m asks reads = read_on _ reads

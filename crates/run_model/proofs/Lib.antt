@@ -1,4 +1,3 @@
 pub mod Runs
-pub mod Safety
 pub mod Chain
 pub mod OneCall

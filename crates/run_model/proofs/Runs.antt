@@ -5,9 +5,9 @@ use Rattle.table_model.specs.Table.{File}
 use Rattle.table_model.specs.Ask.{Ask}
 use Rattle.table_model.specs.Flat.{answer}
 use Rattle.table_model.specs.Steps.{steps}
-use Rattle.table_model.specs.Window.{Moment, after, from_settled}
+use Rattle.table_model.specs.Window.{Moment, after, from_settled, IsAmong}
 use Rattle.call_script.specs.Replies.{told}
-use Rattle.run_model.specs.Runs.{after_all, said_of, replies, IsAmong, IsCut, IsUnderWay, IsCutAfter}
+use Rattle.run_model.specs.Runs.{after_all, said_of, replies, IsCut, IsUnderWay, IsCutAfter}
 
 pub after_all-append : (g : Geometry) (m : Moment) (xs ys : List Ask) → after_all g m (xs ++ ys) ≡ after_all g (after_all g m xs) ys
 unfolding after_all

@@ -5,7 +5,7 @@ use Rattle.table_model.specs.Table.{File}
 use Rattle.table_model.specs.Ask.{Ask}
 use Rattle.table_model.specs.Flat.{answer}
 use Rattle.table_model.specs.Steps.{steps}
-use Rattle.table_model.specs.Window.{Moment, after, from_settled}
+use Rattle.table_model.specs.Window.{Moment, after, from_settled, IsAmong}
 use Rattle.call_script.specs.Replies.{text}
 
 -- the reply line of a call: the flat answer of a volume that has its reserve
@@ -21,11 +21,6 @@ after_all g m (ask ∷ asks) = after_all g (after g true m ask) asks
 unfoldable pub replies : Geometry → Moment → List Ask → List ℕ
 replies g m [] = []
 replies g m (ask ∷ asks) = said_of g m ask ++ replies g (after g true m ask) asks
-
--- the table is one of these
-unfoldable pub IsAmong : List File → List (List File) → Type 0
-IsAmong t [] = ⊥
-IsAmong t (u ∷ us) = (t ≡ u) ⊎ IsAmong t us
 
 -- these bytes are a front of a line, and not all of it
 pub record IsPart (said whole : List ℕ) : Type 0 where

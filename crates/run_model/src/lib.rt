@@ -7,15 +7,9 @@ ghost use Rattle.table_model.specs.Table.{File};
 ghost use Rattle.table_model.specs.Ask.{Ask};
 ghost use Rattle.table_model.specs.Window.{Moment};
 ghost use Rattle.run_model.specs.Runs.{IsCut, IsCutAfter};
-ghost use Rattle.run_model.specs.Safe.{IsSafe};
 
 /// A cut in a run is told by the calls whose replies were said whole.
 #[tactic(auto, using(crate::proofs::Runs::cut_after))]
 pub fn cuts_are_after_calls()
     ensures { (g : Geometry) (m : Moment) (asks : List Ask) (said : List ℕ) (table : List File) → IsCut g m asks said table → IsCutAfter g m asks said table }
-{}
-
-/// What may follow an image that may follow another may follow that.
-pub fn safety_passes_on()
-    ensures { (g : Geometry) (a b c : List ℕ) → IsSafe g a b → IsSafe g b c → IsSafe g a c }
 {}

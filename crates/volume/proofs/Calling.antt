@@ -14,13 +14,13 @@ use Rattle.table_model.specs.Descriptors.{without_file}
 use Rattle.table_model.specs.Files.{created, stat_of, without}
 use Rattle.table_model.specs.Outcome.{Outcome, refused, gives, unless, on_found, page_refusal}
 use Rattle.table_model.specs.Calls.{answer_create, answer_remove, answer_stat, answer_next}
-use Rattle.table_model.specs.Reply.{Answer, Fine, Shows, Refuses}
+use Rattle.table_model.specs.Reply.{Answer, Fine, Gives, Shows, Refuses}
 use Rattle.table_model.specs.declared.call.Call.{Call}
 use Rattle.table_model.specs.declared.call.Call.TheVariants.{Create, Remove, StatName, Next, GetInfo}
 use Rattle.table_model.specs.Ask.{Ask, Creates, Removes, Stats, NextAbove, Informs, asked}
-use Rattle.table_model.specs.Flat.{full_answer}
-use Rattle.table_model.specs.Steps.{is_refusal}
-use Rattle.table_model.specs.Window.{Moment, Waiting, settled_at, incoming_of, continues}
+use Rattle.table_model.specs.Flat.{answer}
+use Rattle.table_model.specs.Steps.{is_refusal, steps}
+use Rattle.table_model.specs.Window.{Moment, Waiting, settled_at, incoming_of, continues, from_settled, IsAmong}
 use Rattle.image_model.specs.Tables.{table_of}
 use Rattle.image_model.specs.Tidy.{IsTidy}
 use Rattle.fd_table.specs.Slots.{descriptors}
@@ -30,11 +30,16 @@ use Rattle.volume.specs.declared.volume.Volume.{Volume}
 use Rattle.volume.specs.Opening.{is_open, is_failed, stage_after}
 use Rattle.volume.specs.Stages.{takes_calls}
 use Rattle.volume.specs.Same.{IsSameVolume}
-use Rattle.volume.specs.Flat.{flat, after, is_built}
+use Rattle.table_model.specs.Window.{after}
+use Rattle.volume.specs.Built.{is_built}
 use Rattle.volume.specs.Replies.{breaks, may_answer}
-use Rattle.volume.specs.Holds.{spare_in, IsImageOf, Holds}
-use Rattle.volume.specs.Goes.{Publishes, Goes}
-use Rattle.volume.specs.Calls.{Unchanged, Answers, Calls}
+use Rattle.image_model.specs.Tidy.{has_spare}
+use Rattle.volume.specs.Holds.{memory, IsImageOf, Holds}
+use Rattle.call_model.specs.Safe.{IsSafe}
+use Rattle.call_model.specs.Memory.{IsAt}
+use Rattle.call_model.specs.Calls.{Stands, Publishes, Answers}
+use Rattle.volume.specs.Goes.{CallCut, Goes}
+use Rattle.volume.specs.Calls.{Unchanged, Calls}
 use Rattle.volume.proofs.Going.{stays}
 use Rattle.volume.proofs.Staying.{same_none}
 
@@ -50,13 +55,13 @@ either true x y e = refl
 either false x y e = e
 
 -- after a call of this build nothing waits
-after_built : (g : Geometry) (spare : Bool) (m : Moment) (ask : Ask) → is_built ask ≡ true → after g spare m ask ≡ settled_at (flat g spare m.state ask).next
+after_built : (g : Geometry) (spare : Bool) (m : Moment) (ask : Ask) → is_built ask ≡ true → after g spare m ask ≡ settled_at (answer g spare m.state ask).next
 unfolding after incoming_of
-after_built g spare m (Creates name) built = either (is_refusal (flat g spare m.state (Creates name)).answer) _ _ (rw (goes_on_none g m.window) refl)
-after_built g spare m (Removes name) built = either (is_refusal (flat g spare m.state (Removes name)).answer) _ _ (rw (goes_on_none g m.window) refl)
-after_built g spare m (Stats name) built = either (is_refusal (flat g spare m.state (Stats name)).answer) _ _ (rw (goes_on_none g m.window) refl)
-after_built g spare m (NextAbove id) built = either (is_refusal (flat g spare m.state (NextAbove id)).answer) _ _ (rw (goes_on_none g m.window) refl)
-after_built g spare m Informs built = either (is_refusal (flat g spare m.state Informs).answer) _ _ (rw (goes_on_none g m.window) refl)
+after_built g spare m (Creates name) built = either (is_refusal (answer g spare m.state (Creates name)).answer) _ _ (rw (goes_on_none g m.window) refl)
+after_built g spare m (Removes name) built = either (is_refusal (answer g spare m.state (Removes name)).answer) _ _ (rw (goes_on_none g m.window) refl)
+after_built g spare m (Stats name) built = either (is_refusal (answer g spare m.state (Stats name)).answer) _ _ (rw (goes_on_none g m.window) refl)
+after_built g spare m (NextAbove id) built = either (is_refusal (answer g spare m.state (NextAbove id)).answer) _ _ (rw (goes_on_none g m.window) refl)
+after_built g spare m Informs built = either (is_refusal (answer g spare m.state Informs).answer) _ _ (rw (goes_on_none g m.window) refl)
 after_built g spare m _ built = absurd (let no : false ≡ true = built in cc)
 
 -- closed descriptors stay so
@@ -83,8 +88,8 @@ removed_slots None s closed = refl
 removed_slots (Some f) s closed = none_closed f.id s.slots closed
 
 -- so no call of this build changes the descriptors
-slots_stand : (g : Geometry) (spare : Bool) (s : State) (ask : Ask) → is_built ask ≡ true → All (λ d. d ≡ None) s.slots → (flat g spare s ask).next.slots ≡ s.slots
-unfolding flat full_answer answer_create answer_remove answer_stat answer_next
+slots_stand : (g : Geometry) (spare : Bool) (s : State) (ask : Ask) → is_built ask ≡ true → All (λ d. d ≡ None) s.slots → (answer g spare s ask).next.slots ≡ s.slots
+unfolding answer answer_create answer_remove answer_stat answer_next
 slots_stand g spare s (Creates name) built closed = unless_slots (name_refusal name) s _ (pick_slots (has_name name s.table) s (refused ConflictingName s) _ refl (unless_slots (page_refusal g spare (created g name s.table)) s (gives Fine (record s { table = created g name s.table })) refl))
 slots_stand g spare s (Removes name) built closed = unless_slots (name_refusal name) s _ (removed_slots (file_named name s.table) s closed)
 slots_stand g spare s (Stats name) built closed = unless_slots (name_refusal name) s _ (shown_slots (file_named name s.table) s)
@@ -92,9 +97,22 @@ slots_stand g spare s (NextAbove id) built closed = refl
 slots_stand g spare s Informs built closed = refl
 slots_stand g spare s _ built closed = absurd (let no : false ≡ true = built in cc)
 
-refusal_by : (reply : Answer) → breaks reply ≡ true → is_refusal reply ≡ true
-refusal_by (Refuses why) e = refl
-refusal_by _ e = absurd (let no : false ≡ true = e in cc)
+-- no call of this build gives bytes
+no_bytes : (ask : Ask) (bytes : List ℕ) → may_answer ask (Gives bytes) ≡ true → ⊥
+no_bytes (Creates name) bytes e = let no : false ≡ true = e in cc
+no_bytes (Removes name) bytes e = let no : false ≡ true = e in cc
+no_bytes (Stats name) bytes e = let no : false ≡ true = e in cc
+no_bytes (NextAbove id) bytes e = let no : false ≡ true = e in cc
+no_bytes Informs bytes e = let no : false ≡ true = e in cc
+no_bytes _ bytes e = let no : false ≡ true = e in cc
+
+-- where nothing waits, what a cut leaves of a state is what one may leave of its moment
+publishes : (g : Geometry) (was image : List ℕ) (m : Moment) (ask : Ask) → m ≡ settled_at m.state → CallCut g m.state ask was image → IsSafe g was image × IsAmong (table_of g image) (from_settled m (steps g (has_spare g was) m.state ask))
+unfolding settled_at
+publishes g was image m ask still cut = (
+  record { sound = λ magics. cut.sound; mends = cut.mends },
+  subst (λ (j : Moment). IsAmong (table_of g image) (from_settled j (steps g (has_spare g was) m.state ask))) (sym still) cut.table,
+)
 
 -- ---- the volume
 
@@ -109,30 +127,35 @@ staged_by old new false reply broke was is e = inl (e ∙ sym was, λ w b. let n
 
 module _ {N : Type 0} {nor : NorOf N} where
   -- the image of a volume at a moment is that of its state
-  image_of : {v : Volume N nor} {m : Moment} → Holds v m → IsImageOf nor v.geometry v.nor.now m.state
+  image_at : {v : Volume N nor} {m : Moment} → nor.tells v.nor.now → IsAt v.geometry (nor.bytes v.nor.now) (memory v) m → IsImageOf nor v.geometry v.nor.now m.state
   unfolding settled_at
-  image_of {v} {m} here = record { tells = here.tells; tidy = here.tidy; table = sym (ap (λ (j : Moment). j.settled) (here.still here.window)) ∙ here.table }
+  image_at {v} {m} tells at = record { tells = tells; tidy = at.tidy; table = sym (at.table ∙ ap (λ (j : Moment). j.settled) at.run) }
+
+  image_of : {v : Volume N nor} {m : Moment} → Holds v m → IsImageOf nor v.geometry v.nor.now m.state
+  image_of {v} {m} here = image_at {v = v} {m = m} here.tells here.image
 
   -- the volume stands at the moment of a state
-  stands_by : {old new : Volume N nor} {m : Moment} (s : State) → Holds old m → new.geometry ≡ old.geometry → new.slots.now ≡ old.slots.now → s.slots ≡ m.state.slots → IsImageOf nor old.geometry new.nor.now s → Holds new (settled_at s)
+  stands_by : {old new : Volume N nor} {m : Moment} (s : State) → Holds old m → new.slots.now ≡ old.slots.now → s.slots ≡ m.state.slots → IsImageOf nor old.geometry new.nor.now s → Stands nor old.geometry new.nor.now (memory new) (settled_at s)
   unfolding settled_at
-  stands_by {old} {new} {m} s was same slots stand here = record {
+  stands_by {old} {new} {m} s was slots stand here = record {
     tells = here.tells;
-    tidy = subst (λ (h : Geometry). IsTidy h (nor.bytes new.nor.now)) (sym same) here.tidy;
-    table = here.table ∙ ap (λ (h : Geometry). table_of h (nor.bytes new.nor.now)) (sym same);
-    slots = stand ∙ was.slots ∙ ap descriptors (sym slots);
-    window = refl;
-    still = λ none. refl;
-    closed = subst (λ (l : List (Option Open)). All (λ d. d ≡ None) l) (sym stand) was.closed;
+    image = record {
+      tidy = here.tidy;
+      table = sym here.table;
+      slots = ap descriptors slots ∙ was.image.slots ∙ sym stand;
+      run = refl;
+      closed = subst (λ (l : List (Option Open)). All (λ d. d ≡ None) l) (sym stand) was.image.closed;
+    };
   }
 
   -- a volume that takes no calls
   pub calls_closed : (ask : Ask) (v : Volume N nor) → takes_calls v ≡ false → Calls ask v v (Refuses FsFailed)
   calls_closed ask v shut = record {
     same = same_none v;
-    cuts = unchanged v.nor.now (λ was image. (m : Moment) → Holds v m → Publishes v.geometry m ask was image) (λ tells m here.
-        subst (λ (j : Moment). Publishes v.geometry j ask (nor.bytes v.nor.now) (nor.bytes v.nor.now)) (sym (here.still here.window)) (let i = image_of here in stays v.geometry (nor.bytes v.nor.now) m.state ask i.tidy i.table));
+    cuts = unchanged v.nor.now (λ was image. (m : Moment) → Publishes v.geometry (memory v) m ask was image) (λ tells m at.
+        let i = image_at {v = v} {m = m} tells at in publishes v.geometry (nor.bytes v.nor.now) (nor.bytes v.nor.now) m ask at.run (stays v.geometry (nor.bytes v.nor.now) m.state ask i.tidy i.table));
     answers = λ m takes here no_fault no_lack. absurd (let no : true ≡ false = sym takes ∙ shut in cc);
+    refused = λ m takes here no_fault refusal. absurd (let no : true ≡ false = sym takes ∙ shut in cc);
     lacks = λ m takes built here e. absurd (let no : true ≡ false = sym takes ∙ shut in cc);
     unbuilt = λ takes built. absurd (let no : true ≡ false = sym takes ∙ shut in cc);
     closed = λ e. (refl, refl, record { reads = reads_none v.nor.now; slots = refl; stage = refl });
@@ -140,6 +163,7 @@ module _ {N : Type 0} {nor : NorOf N} where
     differs = λ d e. absurd (cc);
     undamaged = λ m here d e. cc;
     among = λ takes. absurd (let no : true ≡ false = sym takes ∙ shut in cc);
+    brief = λ bytes e. absurd (cc);
     named = λ takes built why e. absurd (let no : true ≡ false = sym takes ∙ shut in cc);
     names = λ takes why name e. absurd (let no : true ≡ false = sym takes ∙ shut in cc);
     failed = λ e. absurd (let no : false ≡ true = e in cc);
@@ -165,28 +189,37 @@ module _ {N : Type 0} {nor : NorOf N} where
     }
 
     -- a call that wrote is one that the flat table does
-    done_by : (m : Moment) → Holds old m → wrote ≡ true → reply ≡ (flat old.geometry (spare_in old.geometry (nor.bytes old.nor.now)) m.state ask).answer → is_refusal reply ≡ true → ⊥
+    done_by : (m : Moment) → Holds old m → wrote ≡ true → reply ≡ (answer old.geometry (has_spare old.geometry (nor.bytes old.nor.now)) m.state ask).answer → is_refusal reply ≡ true → ⊥
     done_by m here w is refusal = let no : true ≡ false = sym refusal ∙ ap is_refusal is ∙ (goes.begun m.state (image_of here) w).done in cc
 
-    answered_by : (m : Moment) → Holds old m → (reply ≡ Refuses DeviceFault → ⊥) → (reply ≡ Refuses Unbuilt → ⊥) → is_built ask ≡ true → Answers old new m ask reply
+    answered_by : (m : Moment) → Holds old m → (reply ≡ Refuses DeviceFault → ⊥) → (reply ≡ Refuses Unbuilt → ⊥) → is_built ask ≡ true → Answers nor old.geometry old.nor.now new.nor.now (memory new) m ask reply
     answered_by m here no_fault no_lack built =
-        let spare = spare_in old.geometry (nor.bytes old.nor.now) in
+        let spare = has_spare old.geometry (nor.bytes old.nor.now) in
         let r = goes.answers m.state (image_of here) no_fault no_lack in
         record {
           reply_is = r.reply_is;
-          holds = subst (λ (j : Moment). Holds new j) (sym (after_built old.geometry spare m ask built))
-              (stands_by (flat old.geometry spare m.state ask).next here same.geometry slots (slots_stand old.geometry spare m.state ask built here.closed) r.holds);
-          reserve = r.reserve;
-          refused = λ refusal. ⊎_elim (λ (w : wrote ≡ true). absurd (done_by m here w r.reply_is refusal)) (λ (none : wrote ≡ false). untouched none) (cases_Bool wrote);
+          stands = subst (λ (j : Moment). Stands nor old.geometry new.nor.now (memory new) j) (sym (after_built old.geometry spare m ask built))
+              (stands_by (answer old.geometry spare m.state ask).next here slots (slots_stand old.geometry spare m.state ask built here.image.closed) r.holds);
+          holds = record { sound = λ magics. (goes.cuts.now here.tells m.state (image_of here)).sound; reserve = r.reserve };
         }
+
+    refused_by : (m : Moment) → Holds old m → (reply ≡ Refuses DeviceFault → ⊥) → is_refusal reply ≡ true → is_built ask ≡ true → Unchanged old new
+    refused_by m here no_fault refusal built = ⊎_elim
+        (λ (w : wrote ≡ true). absurd (done_by m here w (goes.answers m.state (image_of here) no_fault (λ lacking. let no : true ≡ false = sym w ∙ (goes.lacks m.state built (image_of here) lacking).1 in cc)).reply_is refusal))
+        (λ (none : wrote ≡ false). untouched none)
+        (cases_Bool wrote)
 
     pub calls_by : Calls ask old new reply
     calls_by = record {
       same = same;
-      cuts = wider goes.cuts (λ tells image cut m here. subst (λ (j : Moment). Publishes old.geometry j ask (nor.bytes old.nor.now) image) (sym (here.still here.window)) (cut m.state (image_of here)));
+      cuts = wider goes.cuts (λ tells image cut m at. publishes old.geometry (nor.bytes old.nor.now) image m ask at.run (cut m.state (image_at {v = old} {m = m} tells at)));
       answers = λ m takes here no_fault no_lack. ⊎_elim
           (λ (built : is_built ask ≡ true). answered_by m here no_fault no_lack built)
           (λ (not_built : is_built ask ≡ false). absurd (no_lack (goes.unbuilt not_built).0))
+          (cases_Bool (is_built ask));
+      refused = λ m takes here no_fault refusal. ⊎_elim
+          (λ (built : is_built ask ≡ true). refused_by m here no_fault refusal built)
+          (λ (not_built : is_built ask ≡ false). untouched (goes.unbuilt not_built).1)
           (cases_Bool (is_built ask));
       lacks = λ m takes built here e. let w = goes.lacks m.state built (image_of here) e in (w.0, untouched w.1);
       unbuilt = λ takes not_built. let w = goes.unbuilt not_built in (w.0, untouched w.1);
@@ -195,6 +228,7 @@ module _ {N : Type 0} {nor : NorOf N} where
       differs = goes.differs;
       undamaged = λ m here. goes.undamaged m.state (image_of here);
       among = λ takes. goes.among;
+      brief = λ bytes e. absurd (no_bytes ask bytes (subst (λ (a : Answer). may_answer ask a ≡ true) e goes.among));
       named = λ takes built why e. let w = goes.named.refused built why e in (w.0, untouched w.1);
       names = λ takes why name e. goes.named.only why name e;
       failed = λ broke. ⊎_elim

@@ -14,7 +14,7 @@ use Rattle.table_model.specs.Outcome.{Outcome, refused, gives, page_refusal}
 use Rattle.table_model.specs.Calls.{answer_create}
 use Rattle.table_model.specs.Reply.{Fine}
 use Rattle.table_model.specs.Ask.{Creates}
-use Rattle.table_model.specs.Flat.{full_answer}
+use Rattle.table_model.specs.Flat.{answer}
 use Rattle.table_model.specs.Steps.{is_refusal, done_steps}
 use Rattle.image_model.specs.Tables.{table_of}
 use Rattle.image_model.specs.Tidy.{IsTidy, free_blocks, HasReserve}
@@ -22,8 +22,8 @@ use Rattle.image_model.specs.Collect.{are_had}
 use Rattle.header_laws.proofs.HeadPages.{has-ids}
 use Rattle.header_laws.proofs.LeastIds.{least-unused}
 use Rattle.file_write.specs.Creates.{CanCreate, creating}
-use Rattle.volume.specs.Flat.{flat}
-use Rattle.volume.specs.Holds.{spare_in}
+
+use Rattle.image_model.specs.Tidy.{has_spare}
 use Rattle.volume.specs.Goes.{LacksPage, IsDoable}
 use Rattle.volume.specs.Refusals.{create_refusal}
 use Rattle.volume.proofs.Going.{IsOneStep, one_step, reserve_mends, before_or_after, IsStep}
@@ -50,20 +50,20 @@ allowed g image name e = allowed_by g image name (has_name name (table_of g imag
 -- ---- the flat table
 
 flat_makes : (g : Geometry) (spare : Bool) (s : State) (name : List ℕ) → spare ≡ true → name_refusal name ≡ None → has_name name s.table ≡ false → has_room g (created g name s.table) ≡ true →
-    flat g spare s (Creates name) ≡ gives Fine (record s { table = created g name s.table })
-unfolding flat full_answer answer_create page_refusal
+    answer g spare s (Creates name) ≡ gives Fine (record s { table = created g name s.table })
+unfolding answer answer_create page_refusal
 flat_makes g spare s name two fine new room = rw (two, fine, new, room) refl
 
-flat_conflicts : (g : Geometry) (spare : Bool) (s : State) (name : List ℕ) → name_refusal name ≡ None → has_name name s.table ≡ true → flat g spare s (Creates name) ≡ refused ConflictingName s
-unfolding flat full_answer answer_create
+flat_conflicts : (g : Geometry) (spare : Bool) (s : State) (name : List ℕ) → name_refusal name ≡ None → has_name name s.table ≡ true → answer g spare s (Creates name) ≡ refused ConflictingName s
+unfolding answer answer_create
 flat_conflicts g spare s name fine there = rw (fine, there) refl
 
-flat_tight : (g : Geometry) (spare : Bool) (s : State) (name : List ℕ) → spare ≡ false → name_refusal name ≡ None → has_name name s.table ≡ false → flat g spare s (Creates name) ≡ refused Tight s
-unfolding flat full_answer answer_create page_refusal
+flat_tight : (g : Geometry) (spare : Bool) (s : State) (name : List ℕ) → spare ≡ false → name_refusal name ≡ None → has_name name s.table ≡ false → answer g spare s (Creates name) ≡ refused Tight s
+unfolding answer answer_create page_refusal
 flat_tight g spare s name few fine new = rw (few, fine, new) refl
 
-flat_full : (g : Geometry) (spare : Bool) (s : State) (name : List ℕ) → spare ≡ true → name_refusal name ≡ None → has_name name s.table ≡ false → has_room g (created g name s.table) ≡ false → flat g spare s (Creates name) ≡ refused Full s
-unfolding flat full_answer answer_create page_refusal
+flat_full : (g : Geometry) (spare : Bool) (s : State) (name : List ℕ) → spare ≡ true → name_refusal name ≡ None → has_name name s.table ≡ false → has_room g (created g name s.table) ≡ false → answer g spare s (Creates name) ≡ refused Full s
+unfolding answer answer_create page_refusal
 flat_full g spare s name two fine new none = rw (two, fine, new, none) refl
 
 create_one : (g : Geometry) (s : State) (name : List ℕ) (files : List File) → done_steps g s (Creates name) files ≡ files ∷ []
@@ -74,26 +74,26 @@ create_one g s name files = refl
 
 module _ (g : Geometry) (image : List ℕ) (s : State) (name : List ℕ) (fine : name_refusal name ≡ None) (same : s.table ≡ table_of g image) where
   -- where nothing stands against it the flat table makes the file
-  makes : Allowed g image name → flat g (spare_in g image) s (Creates name) ≡ gives Fine (record s { table = created g name s.table })
-  makes w = flat_makes g (spare_in g image) s name (le-leb 2 (free_blocks g image) w.reserve) fine (ap (has_name name) same ∙ w.new_name) (ap (λ table. has_room g (created g name table)) same ∙ w.room)
+  makes : Allowed g image name → answer g (has_spare g image) s (Creates name) ≡ gives Fine (record s { table = created g name s.table })
+  makes w = flat_makes g (has_spare g image) s name (le-leb 2 (free_blocks g image) w.reserve) fine (ap (has_name name) same ∙ w.new_name) (ap (λ table. has_room g (created g name table)) same ∙ w.room)
 
-  one : Allowed g image name → IsOneStep g (spare_in g image) s (Creates name) (created g name (table_of g image))
-  one w = subst (λ (table : List File). IsOneStep g (spare_in g image) s (Creates name) (created g name table)) same
-      (one_step g (spare_in g image) s (record s { table = created g name s.table }) (Creates name) (makes w) (create_one g s name (created g name s.table)))
+  one : Allowed g image name → IsOneStep g (has_spare g image) s (Creates name) (created g name (table_of g image))
+  one w = subst (λ (table : List File). IsOneStep g (has_spare g image) s (Creates name) (created g name table)) same
+      (one_step g (has_spare g image) s (record s { table = created g name s.table }) (Creates name) (makes w) (create_one g s name (created g name s.table)))
 
   -- else it refuses it so, but for want of a page
   refused_by : (why : FsErr) (there few room had : Bool) → has_name name (table_of g image) ≡ there → nat_lt (free_blocks g image) 2 ≡ few → has_room g (created g name (table_of g image)) ≡ room → are_had g image 1 0 ≡ had →
-      (if there then Some ConflictingName else if few then Some Tight else if not room then Some Full else if not had then Some Unbuilt else None) ≡ Some why → ((why ≡ Unbuilt → ⊥) × (flat g (spare_in g image) s (Creates name) ≡ refused why s)) ⊎ ((why ≡ Unbuilt) × LacksPage g image s (Creates name))
-  refused_by why true few room had et ef er eh e = let is : why ≡ ConflictingName = cc in inl (λ x. cc, rw is (flat_conflicts g (spare_in g image) s name fine (ap (has_name name) same ∙ et)))
-  refused_by why false true room had et ef er eh e = let is : why ≡ Tight = cc in inl (λ x. cc, rw is (flat_tight g (spare_in g image) s name (lt-leb 2 (free_blocks g image) (ltb-true (free_blocks g image) 2 ef)) fine (ap (has_name name) same ∙ et)))
-  refused_by why false false false had et ef er eh e = let is : why ≡ Full = cc in inl (λ x. cc, rw is (flat_full g (spare_in g image) s name (le-leb 2 (free_blocks g image) (ltb-false (free_blocks g image) 2 ef)) fine (ap (has_name name) same ∙ et) (ap (λ table. has_room g (created g name table)) same ∙ er)))
+      (if there then Some ConflictingName else if few then Some Tight else if not room then Some Full else if not had then Some Unbuilt else None) ≡ Some why → ((why ≡ Unbuilt → ⊥) × (answer g (has_spare g image) s (Creates name) ≡ refused why s)) ⊎ ((why ≡ Unbuilt) × LacksPage g image s (Creates name))
+  refused_by why true few room had et ef er eh e = let is : why ≡ ConflictingName = cc in inl (λ x. cc, rw is (flat_conflicts g (has_spare g image) s name fine (ap (has_name name) same ∙ et)))
+  refused_by why false true room had et ef er eh e = let is : why ≡ Tight = cc in inl (λ x. cc, rw is (flat_tight g (has_spare g image) s name (lt-leb 2 (free_blocks g image) (ltb-true (free_blocks g image) 2 ef)) fine (ap (has_name name) same ∙ et)))
+  refused_by why false false false had et ef er eh e = let is : why ≡ Full = cc in inl (λ x. cc, rw is (flat_full g (has_spare g image) s name (le-leb 2 (free_blocks g image) (ltb-false (free_blocks g image) 2 ef)) fine (ap (has_name name) same ∙ et) (ap (λ table. has_room g (created g name table)) same ∙ er)))
   refused_by why false false true false et ef er eh e =
       let is : why ≡ Unbuilt = cc in
-      let made = flat_makes g (spare_in g image) s name (le-leb 2 (free_blocks g image) (ltb-false (free_blocks g image) 2 ef)) fine (ap (has_name name) same ∙ et) (ap (λ table. has_room g (created g name table)) same ∙ er) in
+      let made = flat_makes g (has_spare g image) s name (le-leb 2 (free_blocks g image) (ltb-false (free_blocks g image) 2 ef)) fine (ap (has_name name) same ∙ et) (ap (λ table. has_room g (created g name table)) same ∙ er) in
       inr (is, record { takes = refl; done = ap (λ (o : Outcome). is_refusal o.answer) made; lacks = eh })
   refused_by why false false true true et ef er eh e = absurd (cc)
 
-  pub refuses : (why : FsErr) → create_refusal g image name ≡ Some why → ((why ≡ Unbuilt → ⊥) × (flat g (spare_in g image) s (Creates name) ≡ refused why s)) ⊎ ((why ≡ Unbuilt) × LacksPage g image s (Creates name))
+  pub refuses : (why : FsErr) → create_refusal g image name ≡ Some why → ((why ≡ Unbuilt → ⊥) × (answer g (has_spare g image) s (Creates name) ≡ refused why s)) ⊎ ((why ≡ Unbuilt) × LacksPage g image s (Creates name))
   unfolding create_refusal
   refuses why e = refused_by why (has_name name (table_of g image)) (nat_lt (free_blocks g image) 2) (has_room g (created g name (table_of g image))) (are_had g image 1 0) refl refl refl refl e
 

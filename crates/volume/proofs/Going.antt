@@ -16,7 +16,7 @@ use Rattle.table_model.specs.Ask.{Ask, Creates, Opens, Removes, Renames, Stats, 
 use Rattle.table_model.specs.Outcome.{Outcome, refused, gives}
 use Rattle.table_model.specs.Calls.{answer_create, answer_remove, answer_rename, answer_stat, answer_meta}
 use Rattle.table_model.specs.Opening.{answer_open}
-use Rattle.table_model.specs.Flat.{full_answer}
+use Rattle.table_model.specs.Flat.{answer}
 use Rattle.table_model.specs.Steps.{is_refusal, done_steps}
 use Rattle.table_model.specs.Window.{settled_at}
 use Rattle.image_model.specs.Tables.{table_of}
@@ -28,16 +28,19 @@ use Rattle.flash_view.specs.declared.view.View.{View}
 use Rattle.flash_view.specs.Same.{OnlyLooks}
 use Rattle.flash_view.specs.Steps.{Step, Stepped, stopped}
 use Rattle.flash_view.proofs.Stepped.{after_look}
-use Rattle.volume.specs.Flat.{flat, steps, IsAmong, is_built}
+use Rattle.table_model.specs.Steps.{steps}
+use Rattle.table_model.specs.Window.{IsAmong}
+use Rattle.volume.specs.Built.{is_built}
 use Rattle.volume.specs.Replies.{as_fs_err, is_of_name, is_early, meets, may_meet, has_name, is_change, may_answer, names_fault}
-use Rattle.volume.specs.Holds.{spare_in, Mends, IsImageOf}
-use Rattle.volume.specs.Goes.{Publishes, IsDoable, LacksPage, IsNamed, Goes}
+use Rattle.image_model.specs.Tidy.{has_spare, Mends}
+use Rattle.volume.specs.Holds.{IsImageOf}
+use Rattle.volume.specs.Goes.{CallCut, IsDoable, LacksPage, IsNamed, Goes}
 
 -- ---- the flat table
 
 -- a call whose names are refused
-pub names_first : (g : Geometry) (spare : Bool) (s : State) (ask : Ask) (why : FsErr) → names_fault ask ≡ Some why → flat g spare s ask ≡ refused why s
-unfolding flat full_answer answer_create answer_open answer_remove answer_rename answer_stat answer_meta
+pub names_first : (g : Geometry) (spare : Bool) (s : State) (ask : Ask) (why : FsErr) → names_fault ask ≡ Some why → answer g spare s ask ≡ refused why s
+unfolding answer answer_create answer_open answer_remove answer_rename answer_stat answer_meta
 names_first g spare s (Creates name) why e = rw e refl
 names_first g spare s (Opens name flags) why e = rw e refl
 names_first g spare s (Removes name) why e = rw e refl
@@ -48,11 +51,11 @@ names_first g spare s _ why e = absurd (let no : None ≡ Some why = e in cc)
 
 -- the flat table does a call, and this is the one step of it
 pub record IsOneStep (g : Geometry) (spare : Bool) (s : State) (ask : Ask) (files : List File) : Type 0 where
-  pub answer_is : (flat g spare s ask).answer ≡ Fine
-  pub table_is : (flat g spare s ask).next.table ≡ files
+  pub answer_is : (answer g spare s ask).answer ≡ Fine
+  pub table_is : (answer g spare s ask).next.table ≡ files
   pub steps_are : steps g spare s ask ≡ files ∷ []
 
-pub one_step : (g : Geometry) (spare : Bool) (s next : State) (ask : Ask) → flat g spare s ask ≡ gives Fine next → done_steps g s ask next.table ≡ next.table ∷ [] → IsOneStep g spare s ask next.table
+pub one_step : (g : Geometry) (spare : Bool) (s next : State) (ask : Ask) → answer g spare s ask ≡ gives Fine next → done_steps g s ask next.table ≡ next.table ∷ [] → IsOneStep g spare s ask next.table
 unfolding steps
 one_step g spare s next ask e one = record {
   answer_is = ap (λ (o : Outcome). o.answer) e;
@@ -90,23 +93,23 @@ sound_itself g image tidy = record {
 }
 
 -- an image that stays
-pub stays : (g : Geometry) (image : List ℕ) (s : State) (ask : Ask) → IsTidy g image → s.table ≡ table_of g image → Publishes g (settled_at s) ask image image
+pub stays : (g : Geometry) (image : List ℕ) (s : State) (ask : Ask) → IsTidy g image → s.table ≡ table_of g image → CallCut g s ask image image
 unfolding settled_at
 stays g image s ask tidy same = record {
   sound = sound_itself g image tidy;
   mends = λ reserve. reserve_mends g image reserve;
-  table = is_first (table_of g image) s.table (steps g (spare_in g image) s ask) (sym same);
+  table = is_first (table_of g image) s.table (steps g (has_spare g image) s ask) (sym same);
 }
 
 -- an image in or after the one step of a call: the table before it, or the one after it
-pub before_or_after : (g : Geometry) (was image : List ℕ) (s : State) (ask : Ask) (files : List File) → IsOneStep g (spare_in g was) s ask files → s.table ≡ table_of g was → IsSound g image was → (HasReserve g was → Mends g image) →
-    (table_of g image ≡ table_of g was) ⊎ (table_of g image ≡ files) → Publishes g (settled_at s) ask was image
+pub before_or_after : (g : Geometry) (was image : List ℕ) (s : State) (ask : Ask) (files : List File) → IsOneStep g (has_spare g was) s ask files → s.table ≡ table_of g was → IsSound g image was → (HasReserve g was → Mends g image) →
+    (table_of g image ≡ table_of g was) ⊎ (table_of g image ≡ files) → CallCut g s ask was image
 unfolding settled_at
 before_or_after g was image s ask files one same sound mends table = record {
   sound = sound;
   mends = mends;
   table = ⊎_elim
-      (λ (before : table_of g image ≡ table_of g was). is_first (table_of g image) s.table (steps g (spare_in g was) s ask) (before ∙ sym same))
+      (λ (before : table_of g image ≡ table_of g was). is_first (table_of g image) s.table (steps g (has_spare g was) s ask) (before ∙ sym same))
       (λ (after : table_of g image ≡ files). rw one.steps_are (is_second (table_of g image) s.table files [] after))
       table;
 }
@@ -164,8 +167,8 @@ named_refused ask why wrote fault none = record {
 
 module _ {D : Type 0} {nor : NorOf D} {g : Geometry} where
   -- reads leave the image
-  reads_cuts : {old new : D} (ask : Ask) → OnlyReads nor old new → Changes nor old new (λ was image. (s : State) → IsImageOf nor g old s → Publishes g (settled_at s) ask was image)
-  reads_cuts {old} {new} ask reads = read_after (unchanged old (λ was image. (s : State) → IsImageOf nor g old s → Publishes g (settled_at s) ask was image) (λ tells s here. stays g (nor.bytes old) s ask here.tidy here.table)) reads
+  reads_cuts : {old new : D} (ask : Ask) → OnlyReads nor old new → Changes nor old new (λ was image. (s : State) → IsImageOf nor g old s → CallCut g s ask was image)
+  reads_cuts {old} {new} ask reads = read_after (unchanged old (λ was image. (s : State) → IsImageOf nor g old s → CallCut g s ask was image) (λ tells s here. stays g (nor.bytes old) s ask here.tidy here.table)) reads
 
   reads_image : {old new : D} (s : State) → OnlyReads nor old new → IsImageOf nor g old s → IsImageOf nor g new s
   reads_image {old} {new} s reads here = record {
@@ -176,7 +179,7 @@ module _ {D : Type 0} {nor : NorOf D} {g : Geometry} where
 
   -- A call that only read, and was answered as the flat table is, which leaves the state.
   goes_read : {old new : D} (ask : Ask) (reply : Answer) (wrote : Bool) → wrote ≡ false → OnlyReads nor old new → is_built ask ≡ true →
-      ((s : State) → IsImageOf nor g old s → (reply ≡ Refuses DeviceFault → ⊥) → (reply ≡ Refuses Unbuilt → ⊥) → flat g (spare_in g (nor.bytes old)) s ask ≡ gives reply s) →
+      ((s : State) → IsImageOf nor g old s → (reply ≡ Refuses DeviceFault → ⊥) → (reply ≡ Refuses Unbuilt → ⊥) → answer g (has_spare g (nor.bytes old)) s ask ≡ gives reply s) →
       ((s : State) → IsImageOf nor g old s → reply ≡ Refuses Unbuilt → LacksPage g (nor.bytes old) s ask) →
       (reply ≡ Refuses DeviceFault → Rose (nor.faults old) (nor.faults new)) → ((d : Differ) → reply ≡ Refuses (Damaged d) → ⊥) → may_answer ask reply ≡ true → IsNamed ask reply wrote → Goes nor g ask old new wrote reply
   goes_read {old} {new} ask reply wrote none reads built is lacks cause differs among named = record {
@@ -201,7 +204,7 @@ module _ {D : Type 0} {nor : NorOf D} {g : Geometry} where
 
   -- a call that was answered with a look
   pub goes_shown : {old new : D} (ask : Ask) (reply : Answer) (wrote : Bool) → wrote ≡ false → OnlyReads nor old new → is_built ask ≡ true → names_fault ask ≡ None → is_refusal reply ≡ false → may_answer ask reply ≡ true →
-      ((s : State) → IsImageOf nor g old s → flat g (spare_in g (nor.bytes old)) s ask ≡ gives reply s) → Goes nor g ask old new wrote reply
+      ((s : State) → IsImageOf nor g old s → answer g (has_spare g (nor.bytes old)) s ask ≡ gives reply s) → Goes nor g ask old new wrote reply
   goes_shown ask reply wrote none reads built fine other may is = goes_read ask reply wrote none reads built
       (λ s here no_fault no_lack. is s here)
       (λ s here e. absurd (no_refusal reply Unbuilt other e))
@@ -212,16 +215,16 @@ module _ {D : Type 0} {nor : NorOf D} {g : Geometry} where
   -- A call with accepted names that was refused, or that met a fault, before it asked for a program or an erase.
   pub goes_refused : {T : Type 0} {old new : D} (ask : Ask) (why : FsErr) (wrote : Bool) → wrote ≡ false → OnlyReads nor old new → is_built ask ≡ true → names_fault ask ≡ None → may_meet ask why ≡ true →
       (IsErrOf {T = T} (Err why) DeviceFault → Rose (nor.faults old) (nor.faults new)) →
-      ((s : State) → IsImageOf nor g old s → (why ≡ DeviceFault → ⊥) → ((why ≡ Unbuilt → ⊥) × (flat g (spare_in g (nor.bytes old)) s ask ≡ refused why s)) ⊎ ((why ≡ Unbuilt) × LacksPage g (nor.bytes old) s ask)) → Goes nor g ask old new wrote (Refuses why)
+      ((s : State) → IsImageOf nor g old s → (why ≡ DeviceFault → ⊥) → ((why ≡ Unbuilt → ⊥) × (answer g (has_spare g (nor.bytes old)) s ask ≡ refused why s)) ⊎ ((why ≡ Unbuilt) × LacksPage g (nor.bytes old) s ask)) → Goes nor g ask old new wrote (Refuses why)
   goes_refused {T} {old} {new} ask why wrote none reads built fine met cause is =
       let w = early why (and_parts (is_early why) (meets ask why) met).0 in
       goes_read ask (Refuses why) wrote none reads built
       (λ s here no_fault no_lack. ⊎_elim
-      (λ (refused_so : (why ≡ Unbuilt → ⊥) × (flat g (spare_in g (nor.bytes old)) s ask ≡ refused why s)). refused_so.1)
+      (λ (refused_so : (why ≡ Unbuilt → ⊥) × (answer g (has_spare g (nor.bytes old)) s ask ≡ refused why s)). refused_so.1)
       (λ (lack : (why ≡ Unbuilt) × LacksPage g (nor.bytes old) s ask). absurd (no_lack (ap (λ (v : FsErr). Refuses v) lack.0)))
       (is s here (λ fault. no_fault (ap (λ (v : FsErr). Refuses v) fault))))
       (λ s here e. let lacking : why ≡ Unbuilt = refuses_same why Unbuilt e in ⊎_elim
-      (λ (other : (why ≡ Unbuilt → ⊥) × (flat g (spare_in g (nor.bytes old)) s ask ≡ refused why s)). absurd (other.0 lacking))
+      (λ (other : (why ≡ Unbuilt → ⊥) × (answer g (has_spare g (nor.bytes old)) s ask ≡ refused why s)). absurd (other.0 lacking))
       (λ (lack : (why ≡ Unbuilt) × LacksPage g (nor.bytes old) s ask). lack.1)
       (is s here (λ fault. let no : Unbuilt ≡ DeviceFault = sym lacking ∙ fault in cc)))
       (λ e. cause (ap (λ (v : FsErr). Err v) (refuses_same why DeviceFault e)))
@@ -254,7 +257,7 @@ module _ {D : Type 0} {nor : NorOf D} {g : Geometry} where
   goes_named {d} ask why wrote none reads built takes name fault =
       let no = no_name why name in
       goes_read ask (Refuses why) wrote none reads built
-      (λ s here no_fault no_lack. names_first g (spare_in g (nor.bytes d)) s ask why fault)
+      (λ s here no_fault no_lack. names_first g (has_spare g (nor.bytes d)) s ask why fault)
       (λ s here e. absurd (no.1 (refuses_same why Unbuilt e)))
       (λ e. absurd (no.0 (refuses_same why DeviceFault e)))
       (λ x e. no.2 x (refuses_same why (Damaged x) e))
@@ -265,16 +268,16 @@ module _ {D : Type 0} {nor : NorOf D} {g : Geometry} where
 
 -- what a step leaves that is done: the flat table's answer and its table, and two free blocks where there were two
 pub record Makes (g : Geometry) (was : List ℕ) (s : State) (ask : Ask) (reply : Answer) (now : List ℕ) : Type 0 where
-  pub answer_is : (flat g (spare_in g was) s ask).answer ≡ reply
+  pub answer_is : (answer g (has_spare g was) s ask).answer ≡ reply
   pub tidy : IsTidy g now
-  pub table : (flat g (spare_in g was) s ask).next.table ≡ table_of g now
+  pub table : (answer g (has_spare g was) s ask).next.table ≡ table_of g now
   pub reserve : HasReserve g was → HasReserve g now
 
 -- A step does a call: where the image is that of a state it may be done, and what it leaves and the reply are what the flat table
 -- says.
 pub record IsStep {D : Type 0} (nor : NorOf D) (g : Geometry) (ask : Ask) (reply : Answer) (old : D) (step : Step (Unit {0})) : Type 0 where
   pub can : (s : State) → IsImageOf nor g old s → step.needs g (nor.bytes old)
-  pub cut : (s : State) → IsImageOf nor g old s → (image : List ℕ) → step.cut g (nor.bytes old) image → Publishes g (settled_at s) ask (nor.bytes old) image
+  pub cut : (s : State) → IsImageOf nor g old s → (image : List ℕ) → step.cut g (nor.bytes old) image → CallCut g s ask (nor.bytes old) image
   pub done : (s : State) → IsImageOf nor g old s → (now : List ℕ) → step.done g (nor.bytes old) now tt → Makes g (nor.bytes old) s ask reply now
   pub doable : (s : State) → IsImageOf nor g old s → IsDoable g (nor.bytes old) s ask
 

@@ -13,7 +13,7 @@ use Rattle.table_model.specs.Outcome.{refused, gives}
 use Rattle.table_model.specs.Calls.{answer_remove}
 use Rattle.table_model.specs.Reply.{Fine}
 use Rattle.table_model.specs.Ask.{Removes}
-use Rattle.table_model.specs.Flat.{full_answer}
+use Rattle.table_model.specs.Flat.{answer}
 use Rattle.table_model.specs.Steps.{is_refusal, done_steps}
 use Rattle.image_model.specs.Places.{IsImage}
 use Rattle.image_model.specs.Tables.{table_of}
@@ -23,8 +23,9 @@ use Rattle.header_laws.proofs.Listed.{any-found}
 use Rattle.header_laws.proofs.HeadNames.{named}
 use Rattle.header_laws.proofs.Telling.{found-by_id}
 use Rattle.file_drop.specs.Removals.{CanRemove, removing}
-use Rattle.volume.specs.Flat.{flat}
-use Rattle.volume.specs.Holds.{spare_in, IsImageOf}
+
+use Rattle.image_model.specs.Tidy.{has_spare}
+use Rattle.volume.specs.Holds.{IsImageOf}
 use Rattle.volume.specs.Goes.{LacksPage}
 use Rattle.volume.specs.Removes.{id_named, IsMissing}
 use Rattle.volume.proofs.Going.{IsOneStep, one_step, reserve_mends, before_or_after, IsStep}
@@ -58,12 +59,12 @@ can_remove g image name id tidy is = record { tidy = tidy; there = there_by g im
 
 -- ---- the flat table
 
-flat_removes : (g : Geometry) (spare : Bool) (s : State) (name : List ℕ) (f : File) → name_refusal name ≡ None → file_named name s.table ≡ Some f → flat g spare s (Removes name) ≡ gives Fine (without f s)
-unfolding flat full_answer answer_remove
+flat_removes : (g : Geometry) (spare : Bool) (s : State) (name : List ℕ) (f : File) → name_refusal name ≡ None → file_named name s.table ≡ Some f → answer g spare s (Removes name) ≡ gives Fine (without f s)
+unfolding answer answer_remove
 flat_removes g spare s name f fine at = rw (fine, at) refl
 
-flat_missing : (g : Geometry) (spare : Bool) (s : State) (name : List ℕ) → name_refusal name ≡ None → file_named name s.table ≡ None → flat g spare s (Removes name) ≡ refused NotFound s
-unfolding flat full_answer answer_remove
+flat_missing : (g : Geometry) (spare : Bool) (s : State) (name : List ℕ) → name_refusal name ≡ None → file_named name s.table ≡ None → answer g spare s (Removes name) ≡ refused NotFound s
+unfolding answer answer_remove
 flat_missing g spare s name fine at = rw (fine, at) refl
 
 remove_one : (g : Geometry) (s : State) (name : List ℕ) (files : List File) → done_steps g s (Removes name) files ≡ files ∷ []
@@ -79,18 +80,18 @@ one_by g spare s name id (Some f) fine at e =
     subst (λ (n : ℕ). IsOneStep g spare s (Removes name) (drop_file n s.table)) same
     (one_step g spare s (without f s) (Removes name) (flat_removes g spare s name f fine at) (remove_one g s name (without f s).table))
 
-one : (g : Geometry) (image : List ℕ) (s : State) (name : List ℕ) (id : ℕ) → name_refusal name ≡ None → s.table ≡ table_of g image → id_named name (table_of g image) ≡ Some id → IsOneStep g (spare_in g image) s (Removes name) (drop_file id (table_of g image))
-one g image s name id fine same is = subst (λ (table : List File). IsOneStep g (spare_in g image) s (Removes name) (drop_file id table)) same
-    (one_by g (spare_in g image) s name id (file_named name s.table) fine refl (ap (id_named name) same ∙ is))
+one : (g : Geometry) (image : List ℕ) (s : State) (name : List ℕ) (id : ℕ) → name_refusal name ≡ None → s.table ≡ table_of g image → id_named name (table_of g image) ≡ Some id → IsOneStep g (has_spare g image) s (Removes name) (drop_file id (table_of g image))
+one g image s name id fine same is = subst (λ (table : List File). IsOneStep g (has_spare g image) s (Removes name) (drop_file id table)) same
+    (one_by g (has_spare g image) s name id (file_named name s.table) fine refl (ap (id_named name) same ∙ is))
 
 -- ---- over a device
 
 module _ {D : Type 0} {nor : NorOf D} {g : Geometry} {old : D} (name : List ℕ) (fine : name_refusal name ≡ None) where
   -- not removed
-  pub remove_refuses : {why : FsErr} (s : State) → IsImageOf nor g old s → IsMissing name (table_of g (nor.bytes old)) why → ((why ≡ Unbuilt → ⊥) × (flat g (spare_in g (nor.bytes old)) s (Removes name) ≡ refused why s)) ⊎ ((why ≡ Unbuilt) × LacksPage g (nor.bytes old) s (Removes name))
+  pub remove_refuses : {why : FsErr} (s : State) → IsImageOf nor g old s → IsMissing name (table_of g (nor.bytes old)) why → ((why ≡ Unbuilt → ⊥) × (answer g (has_spare g (nor.bytes old)) s (Removes name) ≡ refused why s)) ⊎ ((why ≡ Unbuilt) × LacksPage g (nor.bytes old) s (Removes name))
   remove_refuses {why} s here missing = inl (
     λ lack. let no : NotFound ≡ Unbuilt = sym missing.0 ∙ lack in cc,
-    rw missing.0 (flat_missing g (spare_in g (nor.bytes old)) s name fine (ap (file_named name) here.table ∙ missing.1)),
+    rw missing.0 (flat_missing g (has_spare g (nor.bytes old)) s name fine (ap (file_named name) here.table ∙ missing.1)),
   )
 
   -- the step

@@ -1,23 +1,30 @@
 -- What a call does to a volume, by the flat table: the contract of every file call.
-use Rattle.std.specs.Prelude.{◌≡◌, ◌≢◌, ◌⊎◌, true, false, Some}
+use Rattle.std.specs.Prelude.{◌≡◌, ◌≢◌, ◌⊎◌, ◌≤◌, ℕ, List, length, true, false, Some}
 use Rattle.nor_core.specs.declared.state.NorState.{Ghosts as NorOf}
 use Rattle.nor_core.specs.Count.{Rose}
 use Rattle.nor_core.specs.Device.{Changes, OnlyReads}
 use Rattle.table_model.specs.declared.error.FsErr.{FsErr}
 use Rattle.table_model.specs.declared.error.FsErr.TheVariants.{Failed, DeviceFault, Damaged, Unbuilt}
 use Rattle.table_model.specs.declared.error.Differ.{Differ}
-use Rattle.table_model.specs.Reply.{Answer, Refuses}
-use Rattle.table_model.specs.Ask.{Ask}
+use Rattle.table_model.specs.Reply.{Answer, Gives, Refuses}
+use Rattle.table_model.specs.Ask.{Ask, Reads}
 use Rattle.table_model.specs.Steps.{is_refusal}
 use Rattle.table_model.specs.Window.{Moment}
-use Rattle.image_model.specs.Tidy.{HasReserve}
+use Rattle.call_model.specs.Calls.{Publishes, Answers}
 use Rattle.volume.specs.declared.volume.Volume.{Volume}
 use Rattle.volume.specs.Stages.{takes_calls, has_failed}
 use Rattle.volume.specs.Same.{IsSameVolume}
-use Rattle.volume.specs.Flat.{flat, after, is_built}
+use Rattle.volume.specs.Built.{is_built}
 use Rattle.volume.specs.Replies.{is_of_name, names_fault, may_answer, breaks, is_change}
-use Rattle.volume.specs.Holds.{spare_in, Holds}
-use Rattle.volume.specs.Goes.{Publishes, IsDoable, LacksPage}
+use Rattle.volume.specs.Holds.{memory, Holds}
+use Rattle.volume.specs.Goes.{IsDoable, LacksPage}
+
+-- bytes that are given to a read, no more than it asks for
+pub record IsGiven (ask : Ask) (bytes : List ℕ) : Type 0 where
+  pub fd : ℕ
+  pub count : ℕ
+  pub reads : ask ≡ Reads fd count
+  pub few : length bytes ≤ count
 
 module _ {N : Type 0} {nor : NorOf N} where
   -- the device was only read, and the descriptors and the stage are as before
@@ -26,21 +33,14 @@ module _ {N : Type 0} {nor : NorOf N} where
     pub slots : new.slots.now ≡ old.slots.now
     pub stage : new.stage ≡ old.stage
 
-  -- A call is answered as the flat table is, and the volume stands at the moment after it; where two blocks were free two are, and
-  -- refused it changes nothing.
-  pub record Answers (old new : Volume N nor) (m : Moment) (ask : Ask) (reply : Answer) : Type 0 where
-    pub reply_is : reply ≡ (flat old.geometry (spare_in old.geometry (nor.bytes old.nor.now)) m.state ask).answer
-    pub holds : Holds new (after old.geometry (spare_in old.geometry (nor.bytes old.nor.now)) m ask)
-    pub reserve : HasReserve old.geometry (nor.bytes old.nor.now) → HasReserve old.geometry (nor.bytes new.nor.now)
-    pub refused : is_refusal reply ≡ true → Unchanged old new
-
   -- What a call does. `old` and `new` are the volume before and after it.
   pub record Calls (ask : Ask) (old new : Volume N nor) (reply : Answer) : Type 0 where
     pub same : IsSameVolume old new
     -- what a cut leaves, of a volume that stands at a moment
-    pub cuts : Changes nor old.nor.now new.nor.now (λ was image. (m : Moment) → Holds old m → Publishes old.geometry m ask was image)
-    -- the answer, where the device doesn't fail
-    pub answers : (m : Moment) → takes_calls old ≡ true → Holds old m → ¬ (reply ≡ Refuses DeviceFault) → ¬ (reply ≡ Refuses Unbuilt) → Answers old new m ask reply
+    pub cuts : Changes nor old.nor.now new.nor.now (λ was image. (m : Moment) → Publishes old.geometry (memory old) m ask was image)
+    -- the answer, where the device doesn't fail; refused, the call changes nothing
+    pub answers : (m : Moment) → takes_calls old ≡ true → Holds old m → ¬ (reply ≡ Refuses DeviceFault) → ¬ (reply ≡ Refuses Unbuilt) → Answers nor old.geometry old.nor.now new.nor.now (memory new) m ask reply
+    pub refused : (m : Moment) → takes_calls old ≡ true → Holds old m → ¬ (reply ≡ Refuses DeviceFault) → is_refusal reply ≡ true → Unchanged old new
     -- a built call is Unbuilt where there is no page without collecting garbage
     pub lacks : (m : Moment) → takes_calls old ≡ true → is_built ask ≡ true → Holds old m → reply ≡ Refuses Unbuilt → LacksPage old.geometry (nor.bytes old.nor.now) m.state ask × Unchanged old new
     -- a call that isn't built says so
@@ -54,6 +54,7 @@ module _ {N : Type 0} {nor : NorOf N} where
     pub undamaged : (m : Moment) → Holds old m → (d : Differ) → reply ≡ Refuses (Damaged d) → ⊥
     -- the sort of the answer, and a name that is refused, whatever the device tells
     pub among : takes_calls old ≡ true → may_answer ask reply ≡ true
+    pub brief : (bytes : List ℕ) → reply ≡ Gives bytes → IsGiven ask bytes
     pub named : takes_calls old ≡ true → is_built ask ≡ true → (why : FsErr) → names_fault ask ≡ Some why → (reply ≡ Refuses why) × Unchanged old new
     pub names : takes_calls old ≡ true → (why : FsErr) → is_of_name why ≡ true → reply ≡ Refuses why → names_fault ask ≡ Some why
     -- after a fault the volume has failed, or nothing is changed; it fails in no other call, and in none that the flat table refuses

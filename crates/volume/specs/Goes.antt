@@ -1,5 +1,5 @@
 -- What a call does to a device that holds a checked volume.
-use Rattle.std.specs.Prelude.{◌≡◌, ◌≢◌, ℕ, List, Bool, true, false, Some}
+use Rattle.std.specs.Prelude.{◌≡◌, ◌≢◌, ℕ, List, ◌∷◌, Bool, true, false, Some}
 use Rattle.geometry.specs.declared.geometry.Geometry.{Geometry}
 use Rattle.nor_core.specs.declared.state.NorState.{Ghosts as NorOf}
 use Rattle.nor_core.specs.Count.{Rose}
@@ -10,40 +10,41 @@ use Rattle.table_model.specs.declared.error.Differ.{Differ}
 use Rattle.table_model.specs.Table.{State}
 use Rattle.table_model.specs.Reply.{Answer, Refuses}
 use Rattle.table_model.specs.Ask.{Ask}
-use Rattle.table_model.specs.Steps.{is_refusal}
-use Rattle.table_model.specs.Window.{Moment, settled_at, from_settled}
+use Rattle.table_model.specs.Flat.{answer}
+use Rattle.table_model.specs.Steps.{is_refusal, steps}
+use Rattle.table_model.specs.Window.{IsAmong}
 use Rattle.image_model.specs.Tables.{table_of}
-use Rattle.image_model.specs.Tidy.{HasReserve}
+use Rattle.image_model.specs.Tidy.{HasReserve, Mends, has_spare}
 use Rattle.image_model.specs.Sound.{IsSound}
 use Rattle.image_model.specs.Collect.{are_had}
-use Rattle.volume.specs.Flat.{flat, steps, IsAmong, is_built}
+use Rattle.volume.specs.Built.{is_built}
 use Rattle.volume.specs.Replies.{is_of_name, names_fault, may_answer, is_change, takes_page}
-use Rattle.volume.specs.Holds.{spare_in, Mends, IsImageOf}
+use Rattle.volume.specs.Holds.{IsImageOf}
 
--- What a cut in a call may leave: an image that is sound with respect to the one before, and with a table from the last settled one
--- to the last step of the call. Where two blocks were free, a check gives two.
-pub record Publishes (g : Geometry) (m : Moment) (ask : Ask) (was image : List ℕ) : Type 0 where
+-- What a cut in a call may leave of a volume at a state, on which nothing waits: an image that is sound with respect to the one before,
+-- with the table of the state or of a step of the call. Where two blocks were free, a check gives two.
+pub record CallCut (g : Geometry) (s : State) (ask : Ask) (was image : List ℕ) : Type 0 where
   pub sound : IsSound g image was
   pub mends : HasReserve g was → Mends g image
-  pub table : IsAmong (table_of g image) (from_settled m (steps g (spare_in g was) m.state ask))
+  pub table : IsAmong (table_of g image) (s.table ∷ steps g (has_spare g was) s ask)
 
 -- A call is answered as the flat table is, and the device tells the state after it; where two blocks were free two are, and
 -- refused it has only read.
 pub record Reaches {D : Type 0} (nor : NorOf D) (g : Geometry) (old new : D) (s : State) (ask : Ask) (reply : Answer) : Type 0 where
-  pub reply_is : reply ≡ (flat g (spare_in g (nor.bytes old)) s ask).answer
-  pub holds : IsImageOf nor g new (flat g (spare_in g (nor.bytes old)) s ask).next
+  pub reply_is : reply ≡ (answer g (has_spare g (nor.bytes old)) s ask).answer
+  pub holds : IsImageOf nor g new (answer g (has_spare g (nor.bytes old)) s ask).next
   pub reserve : HasReserve g (nor.bytes old) → HasReserve g (nor.bytes new)
   pub reads : is_refusal reply ≡ true → OnlyReads nor old new
 
 -- the flat table doesn't refuse a call, and where it takes a page there is one without collecting garbage
 pub record IsDoable (g : Geometry) (image : List ℕ) (s : State) (ask : Ask) : Type 0 where
-  pub done : is_refusal (flat g (spare_in g image) s ask).answer ≡ false
+  pub done : is_refusal (answer g (has_spare g image) s ask).answer ≡ false
   pub had : takes_page ask ≡ true → are_had g image 1 0 ≡ true
 
 -- the flat table does a call that takes a page, but there is none without collecting garbage
 pub record LacksPage (g : Geometry) (image : List ℕ) (s : State) (ask : Ask) : Type 0 where
   pub takes : takes_page ask ≡ true
-  pub done : is_refusal (flat g (spare_in g image) s ask).answer ≡ false
+  pub done : is_refusal (answer g (has_spare g image) s ask).answer ≡ false
   pub lacks : are_had g image 1 0 ≡ false
 
 -- a built call is refused for its names exactly where these are none, and then before all else
@@ -53,7 +54,7 @@ pub record IsNamed (ask : Ask) (reply : Answer) (wrote : Bool) : Type 0 where
 
 -- What a call does. `wrote` says whether a program or an erase was asked for.
 pub record Goes {D : Type 0} (nor : NorOf D) (g : Geometry) (ask : Ask) (old new : D) (wrote : Bool) (reply : Answer) : Type 0 where
-  pub cuts : Changes nor old new (λ was image. (s : State) → IsImageOf nor g old s → Publishes g (settled_at s) ask was image)
+  pub cuts : Changes nor old new (λ was image. (s : State) → IsImageOf nor g old s → CallCut g s ask was image)
   pub answers : (s : State) → IsImageOf nor g old s → ¬ (reply ≡ Refuses DeviceFault) → ¬ (reply ≡ Refuses Unbuilt) → Reaches nor g old new s ask reply
   pub lacks : (s : State) → is_built ask ≡ true → IsImageOf nor g old s → reply ≡ Refuses Unbuilt → LacksPage g (nor.bytes old) s ask × (wrote ≡ false)
   pub unbuilt : is_built ask ≡ false → (reply ≡ Refuses Unbuilt) × (wrote ≡ false)

@@ -1,6 +1,6 @@
 pub mod Pages
 pub mod Refusals
-pub mod Flat
+pub mod Built
 pub mod Replies
 pub mod Opening
 pub mod Stages
