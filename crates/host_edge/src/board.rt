@@ -1,6 +1,7 @@
 ghost use Rattle.std.specs.Prelude.{[], ◌+◌};
 
-use crate::FileChip;
+use crate::trouble::note;
+use crate::{FileChip, Trouble};
 use nor_core::{Board, Failed, Mark, Nor, NorState};
 use std::io::Write;
 
@@ -11,6 +12,7 @@ pub struct StdBoard<W: Write + Drop> {
     out: W,
     says: u64,
     faults: u64,
+    trouble: Option<Trouble>,
 }
 
 impl<W: Write + Drop> StdBoard<W> {
@@ -21,7 +23,13 @@ impl<W: Write + Drop> StdBoard<W> {
             out,
             says: 0,
             faults: 0,
+            trouble: None,
         }
+    }
+
+    /// What failed first, of the chip or else of what was said, if anything did.
+    pub fn trouble(&self) -> Option<&Trouble> {
+        self.chip.trouble().or(self.trouble.as_ref())
     }
 
     /// The chip and the writer.
@@ -31,6 +39,7 @@ impl<W: Write + Drop> StdBoard<W> {
             out,
             says: _,
             faults: _,
+            trouble: _,
         } = self;
         (chip, out)
     }
@@ -102,16 +111,22 @@ impl<W: Write + Drop> Nor for StdBoard<W> {
     ghost counts_now = { λ d t le tells. absurd tells };
 }
 
-// Writes a piece whole and flushes it.
-fn write_out<W: Write>(out: &mut W, piece: &[u8]) -> bool {
-    out.write_all(piece).is_ok() && out.flush().is_ok()
+// Writes a piece whole and flushes it, and answers whether that could be done.
+fn write_out<W: Write>(out: &mut W, first: &mut Option<Trouble>, piece: &[u8]) -> bool {
+    match out.write_all(piece).and_then(|()| out.flush()) {
+        Ok(()) => true,
+        Err(why) => {
+            note(first, Trouble::of_output(why));
+            false
+        }
+    }
 }
 
 impl<W: Write + Drop> Board for StdBoard<W> {
     fn say(&mut self, piece: &[u8]) -> Result<(), Failed> {
         let is_counted = self.says < u64::MAX;
         self.says = self.says.saturating_add(1);
-        if is_counted && write_out(&mut self.out, piece) {
+        if is_counted && write_out(&mut self.out, &mut self.trouble, piece) {
             return Ok(());
         }
         self.faults = self.faults.saturating_add(1);

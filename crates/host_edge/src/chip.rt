@@ -1,9 +1,22 @@
 ghost use Rattle.std.specs.Prelude.{[], ◌+◌, ◌<◌, ◌^◌};
 
+use crate::Trouble;
 use crate::file::{erase_at, program_at, read_at};
+use crate::trouble::note;
 use nor_core::{Failed, Mark, Nor, NorState};
 use std::fs::{File, OpenOptions};
 use std::rt::Files;
+
+/// What a chip file is opened for.
+#[derive(Clone, Copy, Debug, PartialEq, Eq)]
+pub enum Access {
+    /// Reading alone: a program or an erase fails.
+    Read,
+    /// Reading and writing.
+    Write,
+    /// Reading and writing; the file is made where it isn't there.
+    Create,
+}
 
 /// A NOR chip that is a file of the host. Bytes past the file's end are 0xFF. It tells no bytes.
 #[derive(Drop)]
@@ -15,23 +28,30 @@ pub struct FileChip {
     reads: u64,
     writes: u64,
     faults: u64,
+    trouble: Option<Trouble>,
     ghost fits: { size < 2 ^ 32 },
 }
 
 impl FileChip {
-    /// The chip of `size` bytes and erase units of `unit` bytes that stands in a file, which is made where
-    /// it isn't there if `create` is set. This never refuses: a file that can't be opened makes every later
-    /// call fail.
+    /// The chip of `size` bytes and erase units of `unit` bytes that stands in a file. This never refuses: a
+    /// file that can't be opened makes every later call fail.
     pub fn new<R: Files<File = File>>(
         rt: &R,
         path: &str,
-        create: bool,
+        access: Access,
         size: u32,
         unit: u32,
     ) -> FileChip {
         let mut options = OpenOptions::new();
-        options.read(true).write(true).create(create);
-        let file = options.open(rt, path).ok();
+        let writes = access != Access::Read;
+        options
+            .read(true)
+            .write(writes)
+            .create(access == Access::Create);
+        let (file, trouble) = match options.open(rt, path) {
+            Ok(file) => (Some(file), None),
+            Err(why) => (None, Some(Trouble::Open(why))),
+        };
         FileChip {
             file,
             size,
@@ -40,30 +60,67 @@ impl FileChip {
             reads: 0,
             writes: 0,
             faults: 0,
+            trouble,
+        }
+    }
+
+    /// What failed first, if anything did.
+    pub fn trouble(&self) -> Option<&Trouble> {
+        self.trouble.as_ref()
+    }
+}
+
+// Reads bytes of the file, and answers whether that could be done.
+fn read_file(
+    file: &mut Option<File>,
+    first: &mut Option<Trouble>,
+    at: u32,
+    into: &mut [u8],
+) -> bool {
+    let Some(file) = file else {
+        return false;
+    };
+    match read_at(file, u64::from(at), into) {
+        Ok(()) => true,
+        Err(why) => {
+            note(first, Trouble::Read(why));
+            false
         }
     }
 }
 
-fn read_file(file: &mut Option<File>, at: u32, into: &mut [u8]) -> Result<(), Failed> {
-    match file {
-        Some(file) => read_at(file, u64::from(at), into),
-        None => Err(Failed),
+// Programs bytes of the file, and answers whether that could be done.
+fn program_file(
+    file: &mut Option<File>,
+    first: &mut Option<Trouble>,
+    at: u32,
+    from: &[u8],
+) -> bool {
+    let Some(file) = file else {
+        return false;
+    };
+    match program_at(file, at, from) {
+        Ok(()) => true,
+        Err(why) => {
+            note(first, Trouble::Write(why));
+            false
+        }
     }
 }
 
-fn program_file(file: &mut Option<File>, at: u32, from: &[u8]) -> Result<(), Failed> {
-    match file {
-        Some(file) => program_at(file, at, from),
-        None => Err(Failed),
-    }
-}
-
-fn erase_file(file: &mut Option<File>, at: u64, count: u32) -> Result<(), Failed>
+// Erases bytes of the file, and answers whether that could be done.
+fn erase_file(file: &mut Option<File>, first: &mut Option<Trouble>, at: u64, count: u32) -> bool
     requires { at + count < 2 ^ 64 }
 {
-    match file {
-        Some(file) => erase_at(file, at, count),
-        None => Err(Failed),
+    let Some(file) = file else {
+        return false;
+    };
+    match erase_at(file, at, count) {
+        Ok(()) => true,
+        Err(why) => {
+            note(first, Trouble::Write(why));
+            false
+        }
     }
 }
 
@@ -100,7 +157,7 @@ impl Nor for FileChip {
 
     fn read(&mut self, at: u32, into: &mut [u8]) -> Result<(), Failed> {
         self.reads = self.reads.saturating_add(1);
-        if read_file(&mut self.file, at, into).is_ok() {
+        if read_file(&mut self.file, &mut self.trouble, at, into) {
             return Ok(());
         }
         self.faults = self.faults.saturating_add(1);
@@ -111,7 +168,7 @@ impl Nor for FileChip {
         self.writes = self.writes.saturating_add(1);
         let is_counted = self.moment < u64::MAX;
         self.moment = self.moment.saturating_add(1);
-        if is_counted && program_file(&mut self.file, at, from).is_ok() {
+        if is_counted && program_file(&mut self.file, &mut self.trouble, at, from) {
             return Ok(());
         }
         self.faults = self.faults.saturating_add(1);
@@ -123,7 +180,7 @@ impl Nor for FileChip {
         let is_counted = self.moment < u64::MAX;
         self.moment = self.moment.saturating_add(1);
         let at = u64::from(unit_ix) * u64::from(self.unit);
-        if is_counted && erase_file(&mut self.file, at, self.unit).is_ok() {
+        if is_counted && erase_file(&mut self.file, &mut self.trouble, at, self.unit) {
             return Ok(());
         }
         self.faults = self.faults.saturating_add(1);

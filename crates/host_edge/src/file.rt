@@ -1,27 +1,18 @@
 ghost use Rattle.std.specs.Prelude.{◌≡◌, ◌+◌, ◌<◌, ◌≤◌, ◌^◌, length};
 
-use nor_core::Failed;
 use std::fs::File;
+use std::io;
 use std::io::{Read, Seek, SeekFrom, Write};
 
 /// How many bytes are programmed or erased at a time.
 const CHUNK: usize = 256;
 
-fn seek(file: &mut File, at: u64) -> Result<(), Failed> {
-    match file.seek(SeekFrom::Start(at)) {
-        Ok(_) => Ok(()),
-        Err(_) => Err(Failed),
-    }
-}
-
 // Reads bytes from a place of the file. Past its end they are 0xFF.
-pub(crate) fn read_at(file: &mut File, at: u64, into: &mut [u8]) -> Result<(), Failed> {
-    seek(file, at)?;
+pub(crate) fn read_at(file: &mut File, at: u64, into: &mut [u8]) -> io::Result<()> {
+    file.seek(SeekFrom::Start(at))?;
     let mut filled = 0;
     while filled < into.len() {
-        let Ok(count) = file.read(&mut into[filled..]) else {
-            return Err(Failed);
-        };
+        let count = file.read(&mut into[filled..])?;
         if count == 0 {
             into[filled..].fill(0xFF);
             return Ok(());
@@ -33,36 +24,26 @@ pub(crate) fn read_at(file: &mut File, at: u64, into: &mut [u8]) -> Result<(), F
 
 // Appends 0xFF to the file until it reaches a place: bytes past its end count as erased, and those that a
 // write leaves out would otherwise read as zeros.
-fn pad_to(file: &mut File, at: u64) -> Result<(), Failed> {
+fn pad_to(file: &mut File, at: u64) -> io::Result<()> {
     let blank = [0xFFu8; CHUNK];
-    let Ok(length) = file.seek(SeekFrom::End(0)) else {
-        return Err(Failed);
-    };
-    let mut end = length;
+    let mut end = file.seek(SeekFrom::End(0))?;
     while end < at {
         let piece = (at - end).min(CHUNK as u64);
-        write_all(file, &blank[..piece as usize])?;
+        file.write_all(&blank[..piece as usize])?;
         end += piece;
     }
     Ok(())
 }
 
-fn write_all(file: &mut File, from: &[u8]) -> Result<(), Failed> {
-    match file.write_all(from) {
-        Ok(()) => Ok(()),
-        Err(_) => Err(Failed),
-    }
-}
-
 // Writes bytes at a place of the file.
-fn write_at(file: &mut File, at: u64, from: &[u8]) -> Result<(), Failed> {
+fn write_at(file: &mut File, at: u64, from: &[u8]) -> io::Result<()> {
     pad_to(file, at)?;
-    seek(file, at)?;
-    write_all(file, from)
+    file.seek(SeekFrom::Start(at))?;
+    file.write_all(from)
 }
 
 // Clears in a piece of the file the bits that are not set in the asked bytes.
-fn program_piece(file: &mut File, at: u64, from: &[u8]) -> Result<(), Failed>
+fn program_piece(file: &mut File, at: u64, from: &[u8]) -> io::Result<()>
     requires { length from.now ≤ 256 }
 {
     let mut held = [0u8; CHUNK];
@@ -75,7 +56,7 @@ fn program_piece(file: &mut File, at: u64, from: &[u8]) -> Result<(), Failed>
 }
 
 // Programs bytes at a place of the file: by reading, clearing bits and writing back.
-pub(crate) fn program_at(file: &mut File, at: u32, from: &[u8]) -> Result<(), Failed> {
+pub(crate) fn program_at(file: &mut File, at: u32, from: &[u8]) -> io::Result<()> {
     let mut at = u64::from(at);
     for piece in from.chunks(CHUNK) {
         program_piece(file, at, piece)?;
@@ -85,7 +66,7 @@ pub(crate) fn program_at(file: &mut File, at: u32, from: &[u8]) -> Result<(), Fa
 }
 
 // Erases bytes of the file: they become 0xFF.
-pub(crate) fn erase_at(file: &mut File, at: u64, count: u32) -> Result<(), Failed>
+pub(crate) fn erase_at(file: &mut File, at: u64, count: u32) -> io::Result<()>
     requires { at + count < 2 ^ 64 }
 {
     let blank = [0xFFu8; CHUNK];

@@ -1,5 +1,7 @@
 ghost use Rattle.std.specs.Prelude.{[]};
 
+use crate::Trouble;
+use crate::trouble::note;
 use nor_core::{Failed, Source};
 use std::io::Read;
 
@@ -8,12 +10,22 @@ use std::io::Read;
 pub struct StdSource<R: Read + Drop> {
     input: R,
     faults: u64,
+    trouble: Option<Trouble>,
 }
 
 impl<R: Read + Drop> StdSource<R> {
     /// The script that this reader gives.
     pub fn new(input: R) -> StdSource<R> {
-        StdSource { input, faults: 0 }
+        StdSource {
+            input,
+            faults: 0,
+            trouble: None,
+        }
+    }
+
+    /// What failed first, if anything did.
+    pub fn trouble(&self) -> Option<&Trouble> {
+        self.trouble.as_ref()
     }
 }
 
@@ -27,7 +39,8 @@ impl<R: Read + Drop> Source for StdSource<R> {
     fn read(&mut self, into: &mut [u8]) -> Result<usize, Failed> {
         match self.input.read(into) {
             Ok(count) => Ok(count),
-            Err(_) => {
+            Err(why) => {
+                note(&mut self.trouble, Trouble::Script(why));
                 self.faults = self.faults.saturating_add(1);
                 Err(Failed)
             }

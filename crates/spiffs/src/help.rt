@@ -7,10 +7,13 @@ spiffs: a SPIFFS 0.3.7 flash volume in a chip file
 
   spiffs run PAGE BLOCK BLOCKS META MAGIC CHIP < SCRIPT
       mounts and checks the volume, then runs each line of the script as a call
+      spiffs run 256 4096 16 0 len chip < script
   spiffs list PAGE BLOCK BLOCKS META MAGIC CHIP
       mounts the volume and tells its files and damaged ids; writes nothing
+      spiffs list 256 4096 16 0 len chip
   spiffs check PAGE BLOCK BLOCKS META MAGIC CHIP
       mounts and checks the volume, and tells what the check found and did
+      spiffs check 256 4096 16 0 len chip
   spiffs --help | --version
 
   PAGE    bytes of a page, a power of two from 128 to 4096
@@ -20,9 +23,20 @@ spiffs: a SPIFFS 0.3.7 flash volume in a chip file
   MAGIC   `len` (the magic tells the volume's length) or `plain`
   CHIP    the chip's file, BLOCK * BLOCKS bytes; bytes past its end are 0xFF
 
-A script is lines of at most 4096 bytes. `create NAME` makes an empty file;
-an empty line, or one that begins with `#`, is no call. Each call is answered
-by one line: `ok`, or the number of a refusal.
+A script is lines of at most 4096 bytes. Each is a call, and is answered by one
+line; an empty line, or one that begins with `#`, is no call.
+
+  create NAME   makes an empty file                      ok
+  remove NAME   removes a file                           ok
+  stat NAME     tells a file's record                    ok ID TYPE SIZE NAME
+  next ID       tells the file with the least id above   ok ID TYPE SIZE NAME
+                ID, if there is one                      ok none
+  info          tells how full the volume is             ok files F index I data D usable U
+
+A call that is refused is answered by a number: -11000 the name is empty or
+holds a zero byte, -10036 it is longer than 31 bytes, -10002 there is no such
+file, -10023 the name is there, -10001 the volume is full. A call that this
+build does not have (open, read, write and others) ends the run with status 16.
 
 A list is a line `ID TYPE SIZE NAME` for each file, then for each damaged id
 `damaged ID span S`, `damaged ID name` or `damaged ID same ID2`.
@@ -33,8 +47,8 @@ and are gone, and free blocks in the end.
 
 Statuses: 0 all was done; 1 usage; 2 numbers or device refused; 3 no volume;
 4 blocks with pages of both kinds; 5 a line outside the grammar; 7 the chip or
-the output failed; 8 the script could not be read; 10 lent memory too short;
-11 the script is too long; 12 an id is damaged; 14 fewer than two free blocks;
-15 no memory; 16 a call needs what this build does not have; 21 a page does not
-read as it was written.
+the output failed, and 8 the script could not be read: then standard error tells
+why; 10 lent memory too short; 11 the script is too long; 12 an id is damaged;
+14 fewer than two free blocks; 15 no memory; 16 a call needs what this build
+does not have; 21 a page does not read as it was written.
 ";

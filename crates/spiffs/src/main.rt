@@ -1,18 +1,24 @@
 //! The program `spiffs`: makes a board of a chip file and the standard streams, lends the memory, and ends
-//! with the status of the top call.
+//! with the status of the top call. Where the chip file, standard output or the script failed it says why on standard error.
 #![tactic(auto)]
 
 mod help;
 
 use fd_table::FdSlot;
 use help::{HELP, VERSION};
-use host_edge::{FileChip, StdBoard, StdSource};
+use host_edge::{Access, FileChip, StdBoard, StdSource, Trouble};
 use std::alloc::{AllocError, Global};
 use std::fs::File;
 use std::process::ExitCode;
 use std::rt::Env;
 use std::{env, fs};
 use tool_core::{Buffers, chip_size_of, spiffs_tool, unit_of};
+
+/// The status where the chip or standard output failed.
+const BOARD_FAULT: u8 = 7;
+
+/// The status where the script could not be read.
+const SCRIPT_FAULT: u8 = 8;
 
 /// Bytes of work that are lent.
 const WORK: usize = 1_048_576;
@@ -67,14 +73,34 @@ fn words_of<R: Env + Alloc<A = Global>>(rt: &R) -> Option<Result<Vec<String>, Al
     Some(args.skip(1).collect(rt.alloc()))
 }
 
-// Runs the command that the words spell, over the chip file that they name.
-fn run(rt: &HostRuntime, words: &[String], memory: &mut Memory) -> u8 {
-    let chip = match words.get(6) {
+// The word of that number, or an empty one.
+fn word(words: &[String], number: usize) -> &str {
+    match words.get(number) {
         Some(word) => word.as_str(),
         None => "",
-    };
+    }
+}
+
+// What the chip file is opened for: a listing writes nothing, and so takes a file that is for reading alone.
+fn access_of(words: &[String]) -> Access {
+    match word(words, 0) {
+        "list" => Access::Read,
+        _ => Access::Write,
+    }
+}
+
+// Says on standard error what failed, if anything did.
+fn explain(rt: &impl Eprint, trouble: Option<&Trouble>) {
+    if let Some(trouble) = trouble {
+        // (if standard error fails too there is nobody to tell)
+        let _said = eprintln!(rt; "spiffs: {trouble}");
+    }
+}
+
+// Runs the command that the words spell, over the chip file that they name.
+fn run(rt: &HostRuntime, words: &[String], memory: &mut Memory) -> u8 {
     let size = chip_size_of(words, 1);
-    let chip = FileChip::new(rt, chip, false, size, unit_of(words));
+    let chip = FileChip::new(rt, word(words, 6), access_of(words), size, unit_of(words));
     let mut board = StdBoard::new(chip, rt.stdout());
     let mut script = StdSource::new(rt.stdin());
     let mut bufs = Buffers {
@@ -84,7 +110,13 @@ fn run(rt: &HostRuntime, words: &[String], memory: &mut Memory) -> u8 {
         check: &mut memory.check,
         line: &mut memory.line,
     };
-    spiffs_tool(words, &mut board, &mut script, &mut bufs)
+    let status = spiffs_tool(words, &mut board, &mut script, &mut bufs);
+    match status {
+        BOARD_FAULT => explain(rt, board.trouble()),
+        SCRIPT_FAULT => explain(rt, script.trouble()),
+        _ => {}
+    }
+    status
 }
 
 // Three descriptors that read nothing. Held from the start on, they stand in the place of standard streams
@@ -106,10 +138,13 @@ impl Held {
 }
 
 // Prints a text, and answers the status.
-fn tell(rt: &impl Print, text: &str, status: u8) -> u8 {
+fn tell(rt: &(impl Print + Eprint), text: &str, status: u8) -> u8 {
     match rt.print(text) {
         Ok(()) => status,
-        Err(_) => 7,
+        Err(why) => {
+            explain(rt, Some(&Trouble::of_output(why)));
+            BOARD_FAULT
+        }
     }
 }
 
