@@ -1,0 +1,25 @@
+//! Tests that run the engine's crates at concrete types: garbage collection against the plain programs, programs of single
+//! fields, and volumes of several geometries.
+#![tactic(auto)]
+
+#[cfg(test)]
+mod bench;
+#[cfg(test)]
+mod collects;
+#[cfg(test)]
+mod cuts;
+#[cfg(test)]
+mod drawn;
+#[cfg(test)]
+mod fields;
+#[cfg(test)]
+mod hand;
+#[cfg(test)]
+mod pages;
+#[cfg(test)]
+mod shapes;
+#[cfg(test)]
+mod tables;
+
+/// How many images of each geometry are drawn.
+pub const IMAGES: u64 = 6;
