@@ -29,23 +29,23 @@ pub(crate) fn empty(alloc: Global, g: &Geometry) -> Result<Vec<u8>, AllocError> 
 /// The place of a page: its block, and which of the block's entry pages it is, from 0.
 #[derive(Clone, Copy)]
 pub(crate) struct Place {
-    pub block: u16,
-    pub entry: u16,
+    pub block: usize,
+    pub entry: usize,
 }
 
 impl Place {
     /// The number of the page in the volume.
-    pub(crate) fn page(self, g: &Geometry) -> u16 {
-        let first = self.block.saturating_mul(g.per_block() as u16);
+    pub(crate) fn page(self, g: &Geometry) -> usize {
+        let first = self.block.saturating_mul(g.per_block() as usize);
         first
-            .saturating_add(g.lookups() as u16)
+            .saturating_add(g.lookups() as usize)
             .saturating_add(self.entry)
     }
 
     /// The place of the entry page behind this one.
     pub(crate) fn next(self, g: &Geometry) -> Place {
         let entry = self.entry.saturating_add(1);
-        if u32::from(entry) < g.entries() {
+        if entry < g.entries() as usize {
             return Place { entry, ..self };
         }
         Place {
@@ -56,7 +56,7 @@ impl Place {
 
     // Where the page's bytes begin.
     fn at(self, g: &Geometry) -> usize {
-        usize::from(self.page(g)).saturating_mul(g.page as usize)
+        self.page(g).saturating_mul(g.page as usize)
     }
 }
 
@@ -69,15 +69,13 @@ pub(crate) fn put_page(
     span: u16,
     flags: u8,
 ) {
-    let block = usize::from(place.block).saturating_mul(g.block as usize);
-    let [low, high] = id.to_le_bytes();
-    let [span_low, span_high] = span.to_le_bytes();
-    put(
-        image,
-        block.saturating_add(2 * usize::from(place.entry)),
-        &[low, high],
-    );
-    put(image, place.at(g), &[low, high, span_low, span_high, flags]);
+    let entries = place.block.saturating_mul(g.block as usize);
+    let entry = entries.saturating_add(place.entry.saturating_mul(2));
+    let at = place.at(g);
+    put(image, entry, &id.to_le_bytes());
+    put(image, at, &id.to_le_bytes());
+    put(image, at.saturating_add(2), &span.to_le_bytes());
+    put(image, at.saturating_add(4), &[flags]);
 }
 
 /// Puts the header page of a file.
@@ -97,6 +95,18 @@ pub(crate) fn put_header(
     put(image, at.saturating_add(13), name);
 }
 
+// Where the index entry of a data span stands: the header page has so many, and the page behind it the others.
+fn named_at(g: &Geometry, span: usize) -> usize {
+    let header = Place { block: 0, entry: 0 };
+    let slots = g.head_slots() as usize;
+    if span < slots {
+        let names = header.at(g).saturating_add(45 + g.meta as usize);
+        return names.saturating_add(span.saturating_mul(2));
+    }
+    let names = header.next(g).at(g).saturating_add(8);
+    names.saturating_add((span - slots).saturating_mul(2))
+}
+
 /// Puts a file of so many data pages. Its index pages are the first two pages of the first block; its data pages fill
 /// the blocks behind that.
 pub(crate) fn put_file(
@@ -108,23 +118,15 @@ pub(crate) fn put_file(
     name: &[u8],
 ) {
     let header = Place { block: 0, entry: 0 };
-    let further = header.next(g);
-    let slots = g.head_slots() as u16;
     put_header(image, g, header, id, size, name);
-    if pages > slots {
-        put_page(image, g, further, id | 0x8000, 1, 0xF8);
+    if u32::from(pages) > g.head_slots() {
+        put_page(image, g, header.next(g), id | 0x8000, 1, 0xF8);
     }
     let mut data = Place { block: 1, entry: 0 };
     for span in 0..pages {
         put_page(image, g, data, id, span, 0xFC);
-        let named = if span < slots {
-            let names = header.at(g).saturating_add(45 + g.meta as usize);
-            names.saturating_add(2 * usize::from(span))
-        } else {
-            let names = further.at(g).saturating_add(8);
-            names.saturating_add(2 * usize::from(span - slots))
-        };
-        put(image, named, &data.page(g).to_le_bytes());
+        let page = (data.page(g) % 65536) as u16;
+        put(image, named_at(g, usize::from(span)), &page.to_le_bytes());
         data = data.next(g);
     }
 }

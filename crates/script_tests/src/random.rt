@@ -76,7 +76,7 @@ fn add(both: &mut Both, flat: &mut Flat, line: &[u8], call: &Call<'_>) -> Result
     for byte in text.iter().take(length) {
         both.replies.push(*byte)?;
     }
-    Ok(matches!((call, said), (Call::Create { .. }, Said::Done)))
+    Ok(matches!(call, Call::Create { .. }) && matches!(said, Said::Done))
 }
 
 // Adds a random call. Of eight draws, so many are creates.
@@ -114,10 +114,10 @@ fn drawn(alloc: Global, g: &Geometry, seed: u64, calls: usize, most: u32) -> Res
         script: Vec::new(alloc),
         replies: Vec::new(alloc),
     };
-    let mut made = 0;
+    let mut made = 0u32;
     for _ in 0..calls {
         if add_drawn(alloc, &mut both, &mut flat, &mut x, 3 + seed % 3)? {
-            made += 1;
+            made = made.saturating_add(1);
         }
         if made >= most {
             break;
@@ -128,12 +128,14 @@ fn drawn(alloc: Global, g: &Geometry, seed: u64, calls: usize, most: u32) -> Res
 
 // The number of the first line in which two texts differ, from 1.
 fn differs(one: &[u8], other: &[u8]) -> Option<usize> {
-    let mut lines = 1;
+    let mut lines = 1usize;
     for (a, b) in one.iter().zip(other.iter()) {
         if a != b {
             return Some(lines);
         }
-        lines += usize::from(*a == b'\n');
+        if *a == b'\n' {
+            lines = lines.saturating_add(1);
+        }
     }
     if one.len() == other.len() {
         None
@@ -169,13 +171,17 @@ fn agrees(
 
 #[test]
 fn random_scripts_are_answered_as_the_flat_table_says(rt: HostRuntime) -> Result<(), Fail> {
-    let alloc = rt.alloc();
     // all entries but those of two blocks are for new files, as long as nothing is collected
-    for seed in 0..18 {
-        let is = agrees(alloc, &small()?, seed, 120, 28)?;
-        assert_eq!(rt; is, Ok(true), "of script {seed} on small pages");
+    for seed in 0..15 {
+        let is = agrees(rt.alloc(), &small()?, seed, 120, 28)?;
+        assert_eq!(rt; is, Ok(true), "of script {seed}");
     }
-    let is = agrees(alloc, &large()?, 1, 250, 210)?;
+    Ok(())
+}
+
+#[test]
+fn a_random_script_on_more_blocks_is_answered_so_too(rt: HostRuntime) -> Result<(), Fail> {
+    let is = agrees(rt.alloc(), &large()?, 1, 200, 210)?;
     assert_eq!(rt; is, Ok(true));
     Ok(())
 }

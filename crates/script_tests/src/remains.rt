@@ -69,27 +69,27 @@ fn bytes_behind_the_end_of_a_file_stay(rt: HostRuntime) -> Result<(), Fail> {
 fn one_spoiled_block_is_erased_and_two_are_left(rt: HostRuntime) -> Result<(), Fail> {
     let alloc = rt.alloc();
     let g = large()?;
-    for (block, bytes) in [(5usize, [0x12u8; 4096]), (15, [0; 4096])] {
+    for (at, bytes) in [(20480usize, [0x12u8; 4096]), (61440, [0; 4096])] {
         let mut image = hello(alloc, &g)?;
-        put(&mut image, block * 4096, &bytes);
+        put(&mut image, at, &bytes);
         let checked = on(alloc, "check", &g, &image, "")?;
         assert!(rt;
             checked.is(0, "erased 1 killed 0 damaged 0 free 14\n"),
-            "of {block}"
+            "at {at}"
         );
         assert!(rt;
             on(alloc, "list", &g, &checked.image, "")?.is(0, "1 1 5 a\n"),
-            "of {block}"
+            "at {at}"
         );
-        assert!(rt; has_hello(alloc, &g, &checked.image, b"a")?, "of {block}");
-        put(&mut image, 7 * 4096, &bytes);
+        assert!(rt; has_hello(alloc, &g, &checked.image, b"a")?, "at {at}");
+        put(&mut image, 28672, &bytes);
         for words in ["check", "run", "list"] {
             let refused = on(alloc, words, &g, &image, "remove a\n")?;
             let said = "! not a volume, 2 blocks without magic\n";
-            assert!(rt; refused.is(3, said), "{words} of {block}");
+            assert!(rt; refused.is(3, said), "{words} at {at}");
             assert!(rt;
                 refused.image.as_slice() == image.as_slice(),
-                "{words} of {block}"
+                "{words} at {at}"
             );
         }
     }
