@@ -78,15 +78,16 @@ fn many_creates(alloc: Global, count: u32) -> Result<Vec<u8>, Fail> {
 }
 
 #[test]
-fn the_volume_takes_194_files_and_no_more(rt: HostRuntime) -> Result<(), Fail> {
+fn the_volume_takes_194_files_and_one_again_for_each_removed(rt: HostRuntime) -> Result<(), Fail> {
     let mut board = formatted(rt.alloc(), MagicKind::Length)?;
-    let script = many_creates(rt.alloc(), 195)?;
+    let mut script = many_creates(rt.alloc(), 195)?;
+    script.extend_from_slice(b"remove file100\ncreate file194\nstat file194\ncreate file100\n")?;
     assert_eq!(rt; run(rt.alloc(), RUN, &mut board, &script)?, 0);
     let mut want = Vec::new(rt.alloc());
     for _ in 0..194 {
         want.extend_from_slice(b"ok\n")?;
     }
-    want.extend_from_slice(b"-10001\n")?;
+    want.extend_from_slice(b"-10001\nok\nok\nok 101 1 0 file194\n-10001\n")?;
     assert!(rt; board.said() == want.as_slice());
     Ok(())
 }
@@ -117,8 +118,9 @@ next 1
 next 2
 info
 read 1 1
+info
 ";
-    assert_eq!(rt; run(rt.alloc(), RUN, &mut board, script)?, 0);
+    assert_eq!(rt; run(rt.alloc(), RUN, &mut board, script)?, 16);
     let said = b"ok
 ok 1 1 0 a
 -10002
@@ -127,7 +129,7 @@ ok 1 1 0 a
 ok 2 1 0 b
 ok none
 ok files 2 index 2 data 0 usable 210
--11008
+! unbuilt
 ";
     assert_eq!(rt; board.said(), said.as_slice());
     Ok(())

@@ -1,0 +1,144 @@
+//! Images made by hand.
+use geometry::Geometry;
+use std::alloc::{AllocError, Global};
+
+/// Puts bytes at a place of an image, as far as it has them.
+pub(crate) fn put(image: &mut Vec<u8>, at: usize, bytes: &[u8]) {
+    for (i, byte) in bytes.iter().enumerate() {
+        if let Some(place) = image.get_mut(at.saturating_add(i)) {
+            *place = *byte;
+        }
+    }
+}
+
+/// Bytes of 0xFF, and in each block its magic and an erase count of 0.
+pub(crate) fn empty(alloc: Global, g: &Geometry) -> Result<Vec<u8>, AllocError> {
+    let mut image = vec![in alloc; 0xFFu8; g.blocks as usize * g.block as usize]?;
+    for block in 0..g.blocks {
+        let end = block as usize * g.block as usize + g.lookups() as usize * g.page as usize;
+        put(
+            &mut image,
+            end.saturating_sub(4),
+            &g.magic_of(block).to_le_bytes(),
+        );
+        put(&mut image, end.saturating_sub(2), &[0, 0]);
+    }
+    Ok(image)
+}
+
+/// The place of a page: its block, and which of the block's entry pages it is, from 0.
+#[derive(Clone, Copy)]
+pub(crate) struct Place {
+    pub block: usize,
+    pub entry: usize,
+}
+
+impl Place {
+    /// The number of the page in the volume.
+    pub(crate) fn page(self, g: &Geometry) -> usize {
+        let first = self.block.saturating_mul(g.per_block() as usize);
+        first
+            .saturating_add(g.lookups() as usize)
+            .saturating_add(self.entry)
+    }
+
+    /// The place of the entry page behind this one.
+    pub(crate) fn next(self, g: &Geometry) -> Place {
+        let entry = self.entry.saturating_add(1);
+        if entry < g.entries() as usize {
+            return Place { entry, ..self };
+        }
+        Place {
+            block: self.block.saturating_add(1),
+            entry: 0,
+        }
+    }
+
+    // Where the page's bytes begin.
+    fn at(self, g: &Geometry) -> usize {
+        self.page(g).saturating_mul(g.page as usize)
+    }
+}
+
+/// Puts the entry and the first five bytes of a page: its id, its span and its flags.
+pub(crate) fn put_page(
+    image: &mut Vec<u8>,
+    g: &Geometry,
+    place: Place,
+    id: u16,
+    span: u16,
+    flags: u8,
+) {
+    let entries = place.block.saturating_mul(g.block as usize);
+    let entry = entries.saturating_add(place.entry.saturating_mul(2));
+    let at = place.at(g);
+    put(image, entry, &id.to_le_bytes());
+    put(image, at, &id.to_le_bytes());
+    put(image, at.saturating_add(2), &span.to_le_bytes());
+    put(image, at.saturating_add(4), &[flags]);
+}
+
+/// Puts the header page of a file.
+pub(crate) fn put_header(
+    image: &mut Vec<u8>,
+    g: &Geometry,
+    place: Place,
+    id: u16,
+    size: u32,
+    name: &[u8],
+) {
+    put_page(image, g, place, id | 0x8000, 0, 0xF8);
+    let at = place.at(g);
+    put(image, at.saturating_add(8), &size.to_le_bytes());
+    put(image, at.saturating_add(12), &[1]);
+    put(image, at.saturating_add(13), &[0; 32]);
+    put(image, at.saturating_add(13), name);
+}
+
+// Where the index entry of a data span stands: the header page has so many, and the page behind it the others.
+fn named_at(g: &Geometry, span: usize) -> usize {
+    let header = Place { block: 0, entry: 0 };
+    let slots = g.head_slots() as usize;
+    if span < slots {
+        let names = header.at(g).saturating_add(45 + g.meta as usize);
+        return names.saturating_add(span.saturating_mul(2));
+    }
+    let names = header.next(g).at(g).saturating_add(8);
+    names.saturating_add((span - slots).saturating_mul(2))
+}
+
+/// Puts a file of so many data pages. Its index pages are the first two pages of the first block; its data pages fill
+/// the blocks behind that.
+pub(crate) fn put_file(
+    image: &mut Vec<u8>,
+    g: &Geometry,
+    id: u16,
+    size: u32,
+    pages: u16,
+    name: &[u8],
+) {
+    let header = Place { block: 0, entry: 0 };
+    put_header(image, g, header, id, size, name);
+    if u32::from(pages) > g.head_slots() {
+        put_page(image, g, header.next(g), id | 0x8000, 1, 0xF8);
+    }
+    let mut data = Place { block: 1, entry: 0 };
+    for span in 0..pages {
+        put_page(image, g, data, id, span, 0xFC);
+        let page = (data.page(g) % 65536) as u16;
+        put(image, named_at(g, usize::from(span)), &page.to_le_bytes());
+        data = data.next(g);
+    }
+}
+
+/// The file `a` with the bytes `hello`, on pages of 256 bytes in blocks of 4,096: its header is page 2, its data page
+/// 17. Page 1 was its first header.
+pub(crate) fn put_hello(image: &mut Vec<u8>, g: &Geometry) {
+    put_header(image, g, Place { block: 0, entry: 0 }, 1, 0xFFFF_FFFF, b"a");
+    put(image, 0, &[0, 0]);
+    put(image, 260, &[0x78]);
+    put_header(image, g, Place { block: 0, entry: 1 }, 1, 5, b"a");
+    put(image, 557, &[17, 0]);
+    put_page(image, g, Place { block: 1, entry: 0 }, 1, 0, 0xFC);
+    put(image, 4357, b"hello");
+}

@@ -1,0 +1,22 @@
+//! Tests that run scripts of calls and the commands on volumes of several geometries, in memory.
+#![tactic(auto)]
+
+#[cfg(test)]
+mod bench;
+#[cfg(test)]
+mod endings;
+#[cfg(test)]
+mod faults;
+#[cfg(test)]
+mod geometries;
+#[cfg(test)]
+mod images;
+#[cfg(test)]
+mod random;
+#[cfg(test)]
+mod remains;
+#[cfg(test)]
+mod unbuilt;
+
+/// The status of a command of which everything was done.
+pub const ALL_DONE: u8 = 0;

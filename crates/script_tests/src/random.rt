@@ -1,0 +1,187 @@
+//! Random scripts, answered by the top call and by the flat table.
+use crate::bench::{formatted, large, on, small};
+use call_script::reply_text;
+use flat_plain::{Flat, PlainFile, Said};
+use geometry::Geometry;
+use nor_core::{Failed, draw};
+use std::alloc::Global;
+use std::test::Fail;
+use table_model::{Call, Meta, Name, Reply, Stat};
+
+// Some names, as a script spells them, and their bytes. The first two are refused.
+const NAMES: [(&[u8], &[u8]); 4] = [
+    (b"x%00y", b"x\0y"),
+    (
+        b"12345678901234567890123456789012",
+        b"12345678901234567890123456789012",
+    ),
+    (
+        b"1234567890123456789012345678901",
+        b"1234567890123456789012345678901",
+    ),
+    (b"%20%25a%fF%zz", b" %a\xFF%zz"),
+];
+
+// A name of the pool, as a script spells it, and its bytes.
+fn name_of(alloc: Global, number: u64) -> Result<(Vec<u8>, Vec<u8>), Fail> {
+    if let Some((text, name)) = NAMES.get(number as usize) {
+        return Ok((text.to_vec(alloc)?, name.to_vec(alloc)?));
+    }
+    let plain = format!(in alloc; "f{number}")?;
+    let name = plain.as_bytes();
+    Ok((name.to_vec(alloc)?, name.to_vec(alloc)?))
+}
+
+// Writes the reply line of a file's record, and answers its length.
+fn file_text(file: &PlainFile, into: &mut [u8; 4096]) -> Result<usize, Fail> {
+    if file.name.len() > 31 || file.meta.len() > 64 || file.bytes.len() > 65535 {
+        Err::<(), Failed>(Failed)?;
+    }
+    let stat = Stat {
+        id: file.id,
+        kind: file.kind,
+        size: file.bytes.len() as u32,
+        name: Name::from_slice(&file.name),
+        meta: Meta::from_slice(&file.meta),
+    };
+    Ok(reply_text(&Reply::File(stat), into))
+}
+
+// Writes the reply line of an answer of a built call, and answers its length.
+fn text_of(said: &Said, into: &mut [u8; 4096]) -> Result<usize, Fail> {
+    Ok(match said {
+        Said::Done => reply_text(&Reply::Done, into),
+        Said::NoMore => reply_text(&Reply::NoMore, into),
+        Said::Room(info) => reply_text(&Reply::Room(*info), into),
+        Said::Refusal(why) => reply_text(&Reply::Refusal(*why), into),
+        Said::File(file) => file_text(file, into)?,
+        Said::Number(_) | Said::Bytes(_) => Err(Failed)?,
+    })
+}
+
+// A script, and the reply lines of the flat table.
+#[derive(Drop)]
+struct Both {
+    script: Vec<u8>,
+    replies: Vec<u8>,
+}
+
+// Adds a line of a call, and what the flat table answers. Answers whether the call made a file.
+fn add(both: &mut Both, flat: &mut Flat, line: &[u8], call: &Call<'_>) -> Result<bool, Fail> {
+    both.script.extend_from_slice(line)?;
+    both.script.push(b'\n')?;
+    let said = flat.answer(true, call)?;
+    let mut text = [0; 4096];
+    let length = text_of(&said, &mut text)?;
+    for byte in text.iter().take(length) {
+        both.replies.push(*byte)?;
+    }
+    Ok(matches!(call, Call::Create { .. }) && matches!(said, Said::Done))
+}
+
+// Adds a random call. Of eight draws, so many are creates.
+fn add_drawn(
+    alloc: Global,
+    both: &mut Both,
+    flat: &mut Flat,
+    x: &mut u64,
+    creates: u64,
+) -> Result<bool, Fail> {
+    let (text, name) = name_of(alloc, draw(x) % 30)?;
+    let kind = draw(x) % 8;
+    let after = (draw(x) % 32) as u16;
+    let (word, call) = match kind {
+        _ if kind < creates => ("create", Call::Create { name: &name }),
+        4 | 5 => ("remove", Call::Remove { name: &name }),
+        6 => ("stat", Call::StatName { name: &name }),
+        7 if after % 4 == 0 => return add(both, flat, b"info", &Call::GetInfo),
+        _ => {
+            let line = format!(in alloc; "next {after}")?;
+            return add(both, flat, line.as_bytes(), &Call::Next { after });
+        }
+    };
+    let mut line = word.as_bytes().to_vec(alloc)?;
+    line.push(b' ')?;
+    line.extend_from_slice(&text)?;
+    add(both, flat, &line, &call)
+}
+
+// A random script of at most so many calls, and of at most so many creates that make a file.
+fn drawn(alloc: Global, g: &Geometry, seed: u64, calls: usize, most: u32) -> Result<Both, Fail> {
+    let mut x = seed;
+    let mut flat = Flat::new(alloc, *g, 2)?;
+    let mut both = Both {
+        script: Vec::new(alloc),
+        replies: Vec::new(alloc),
+    };
+    let mut made = 0u32;
+    for _ in 0..calls {
+        if add_drawn(alloc, &mut both, &mut flat, &mut x, 3 + seed % 3)? {
+            made = made.saturating_add(1);
+        }
+        if made >= most {
+            break;
+        }
+    }
+    Ok(both)
+}
+
+// The number of the first line in which two texts differ, from 1.
+fn differs(one: &[u8], other: &[u8]) -> Option<usize> {
+    let mut lines = 1usize;
+    for (a, b) in one.iter().zip(other.iter()) {
+        if a != b {
+            return Some(lines);
+        }
+        if *a == b'\n' {
+            lines = lines.saturating_add(1);
+        }
+    }
+    if one.len() == other.len() {
+        None
+    } else {
+        Some(lines)
+    }
+}
+
+// Whether a random script is answered as the flat table says, and leaves a volume on which a check finds nothing to do.
+// Of the first line that is answered otherwise the number is told.
+fn agrees(
+    alloc: Global,
+    g: &Geometry,
+    seed: u64,
+    calls: usize,
+    most: u32,
+) -> Result<Result<bool, usize>, Fail> {
+    let both = drawn(alloc, g, seed, calls, most)?;
+    let image = formatted(alloc, g, 0)?;
+    let ran = on(alloc, "run", g, &image, str::from_utf8(&both.script)?)?;
+    if let Some(line) = differs(&ran.said, &both.replies) {
+        return Ok(Err(line));
+    }
+    let checked = on(alloc, "check", g, &ran.image, "")?;
+    let report = b"erased 0 killed 0 damaged 0 free ";
+    Ok(Ok(
+        ran.status == 0
+            && checked.status == 0
+            && checked.said.as_slice().starts_with(report)
+            && checked.image.as_slice() == ran.image.as_slice(),
+    ))
+}
+
+#[test]
+fn random_scripts_are_answered_as_the_flat_table_says(rt: HostRuntime) -> Result<(), Fail> {
+    // all entries but those of two blocks are for new files, as long as nothing is collected
+    for seed in 0..15 {
+        let is = agrees(rt.alloc(), &small()?, seed, 120, 28)?;
+        assert_eq!(rt; is, Ok(true), "of script {seed}");
+    }
+    Ok(())
+}
+
+#[test]
+fn a_random_script_on_more_blocks_is_answered_so_too(rt: HostRuntime) -> Result<(), Fail> {
+    let is = agrees(rt.alloc(), &large()?, 1, 200, 210)?;
+    assert_eq!(rt; is, Ok(true));
+    Ok(())
+}

@@ -1,0 +1,34 @@
+//! Calls that this build doesn't have.
+use crate::bench::{formatted, on, small};
+use std::test::Fail;
+
+#[test]
+fn a_run_ends_at_a_call_that_is_not_built(rt: HostRuntime) -> Result<(), Fail> {
+    let alloc = rt.alloc();
+    let g = small()?;
+    let image = formatted(alloc, &g, 0)?;
+    for line in [
+        "open b 20",
+        "read 1 1",
+        "write 1 x",
+        "fill 1 1 00",
+        "seek 1 0 set",
+        "tell 1",
+        "truncate 1 0",
+        "flush 1",
+        "close 1",
+        "fremove 1",
+        "rename a b",
+        "fstat 1",
+        "gc",
+        "meta a x",
+        "fmeta 1 x",
+    ] {
+        let script = format!(in alloc; "create a\n{line}\ncreate c\n")?;
+        let ran = on(alloc, "run", &g, &image, &script)?;
+        assert!(rt; ran.is(16, "ok\n! unbuilt\n"), "at {line}");
+        let listed = on(alloc, "list", &g, &ran.image, "")?;
+        assert!(rt; listed.is(0, "1 1 0 a\n"), "at {line}");
+    }
+    Ok(())
+}
