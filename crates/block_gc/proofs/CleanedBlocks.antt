@@ -1,11 +1,12 @@
 -- What cleaning a block of either kind leaves, over plain images.
-use Rattle.std.proofs.Common.{◌≡◌, ℕ, ◌<◌, List, Bool, true, false, Result, refl, sym, ◌∙◌, subst, arith}
+use Rattle.std.proofs.Common.{◌≡◌, ℕ, ◌*◌, ◌<◌, ◌≤◌, List, length, Bool, true, false, Result, Ok, Err, refl, sym, ◌∙◌, subst, arith}
 use Rattle.std.specs.Prelude.{OnOk}
 use Rattle.std.proofs.lemmas.Bool.{false_from_ne_true}
 use Rattle.geometry.specs.declared.geometry.Geometry.{Geometry}
 use Rattle.nor_core.specs.declared.state.NorState.{Ghosts as NorOf}
 use Rattle.nor_core.specs.Device.{OnlyReads, Changes}
 use Rattle.nor_core.proofs.Cuts.{wider, unchanged, after_reads}
+use Rattle.image_model.specs.Places.{IsImage}
 use Rattle.image_model.specs.Tidy.{IsTidy, is_free_block}
 use Rattle.image_model.specs.Kinds.{is_data_block}
 use Rattle.image_model.specs.Collect.{data_in, is_worth}
@@ -16,9 +17,16 @@ use Rattle.image_laws.proofs.TidySteps.{tidy-is_tidy}
 use Rattle.room_laws.proofs.Blocks.{told}
 use Rattle.room_laws.proofs.Cleans.{free_told, index_is_cleaned, data_is_cleaned}
 use Rattle.free_search.proofs.FreePages.{data_none, data_some}
-use Rattle.file_drop.proofs.Passing.{on_ok}
 use Rattle.block_gc.specs.Emptied.{CanCleanIndex, CleanCut, CleanedIndex}
 use Rattle.block_gc.specs.Cleanings.{CanCleanData, CleanDataCut, CleanedData, CanCleanBlock, CleanBlockCut, CleanedBlock}
+
+-- a device that holds the volume holds an image of it
+pub image_of : (g : Geometry) (bytes : List ℕ) (size : ℕ) → length bytes ≡ size → g.blocks * g.block ≤ size → IsImage g bytes
+image_of g bytes size len fits = record { len = omega (arith, len, fits) }
+
+on_ok : {X Y : Type 0} (r : Result X Y) {P Q : Type 0} → (P → Q) → OnOk r P → OnOk r Q
+on_ok (Ok x) f h = f h
+on_ok (Err e) f h = tt
 
 pub tidy_keeps : (g : Geometry) (a : List ℕ) → IsTidy g a → Keeps g a a
 tidy_keeps g a t = keeps-itself g a (tidy-has_magics g a (λ p. false) ((tidy-is_tidy g a (λ p. false)).0 t))

@@ -1,5 +1,5 @@
 -- Moving a data page, over a device.
-use Rattle.std.proofs.Common.{◌≡◌, ◌≢◌, ℕ, ◌+◌, ◌*◌, ◌%◌, ◌<◌, ◌≤◌, List, [], ◌∷◌, length, take, set, slice_index, true, false, Option, Some, ap, sym, refl, ◌∙◌, arith, inl, inr, subst}
+use Rattle.std.proofs.Common.{◌≡◌, ◌≢◌, ℕ, ◌+◌, ◌*◌, ◌<◌, ◌≤◌, List, [], ◌∷◌, length, take, set, slice_index, true, false, Option, Some, ap, sym, refl, ◌∙◌, arith, inl, inr, subst}
 use Rattle.std.specs.Prelude.{bit_and}
 use Rattle.std.proofs.lemmas.Option.{none-some}
 use Rattle.geometry.specs.declared.geometry.Geometry.{Geometry}
@@ -30,9 +30,9 @@ use Rattle.page_put.proofs.Finishing.{programs_place, finish_clears_final}
 use Rattle.page_put.proofs.Killed.{flags_left, kill_cut, kill_done}
 use Rattle.image_model.specs.Sound.{HasMagics}
 use Rattle.block_gc.specs.Moves.{MoveCut}
-use Rattle.block_gc.specs.DataMoves.{CanCopyData, CanMoveData, IsTagOf, IsNamedBy, IsFoundFor, IsLoaded, IsRenamed, CopiedData, DataMoveCut, MovedData}
-use Rattle.block_gc.proofs.DataCopies.{is_ready, copying_left, copying_done}
-use Rattle.block_gc.proofs.DataCopies.{magics as copy_magics}
+use Rattle.block_gc.specs.DataMoves.{CanCopyData, CanMoveData, IsTagOf, IsNamedBy, IsFoundFor, CopiedData, DataMoveCut, MovedData}
+use Rattle.page_renew.specs.Built.{IsLoaded, IsRenamed}
+use Rattle.block_gc.proofs.DataCopies.{is_ready, copying_left, copying_done, magics as copy_magics}
 use Rattle.block_gc.proofs.DataRenewed.{index_live, placed_is, ready, magics, placing_left, killing_left, last_left, moved_done}
 
 -- the flags of a page that is placed

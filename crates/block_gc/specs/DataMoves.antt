@@ -1,5 +1,5 @@
 -- What moving a data page asks of an image and leaves: its copy is put, the index page that names it is renewed to name the copy, and both old pages are killed.
-use Rattle.std.specs.Prelude.{◌≡◌, ◌≢◌, ℕ, ◌+◌, ◌*◌, ◌<◌, ◌≤◌, List, take, Option, Some, None, true, false, ◌==◌, slice_index, slice_range}
+use Rattle.std.specs.Prelude.{◌≡◌, ◌≢◌, ℕ, ◌+◌, ◌*◌, ◌<◌, ◌≤◌, List, Option, Some, None, true, false, ◌==◌, slice_index, slice_range}
 use Rattle.geometry.specs.declared.geometry.Geometry.{Geometry}
 use Rattle.table_model.specs.declared.error.Tag.{Tag}
 use Rattle.image_model.specs.Headers.{obj_id, span_of, names_index}
@@ -12,11 +12,8 @@ use Rattle.image_model.specs.Kinds.{is_index_page, is_data_page, is_data_block, 
 use Rattle.image_model.specs.Sound.{Keeps}
 use Rattle.image_laws.specs.LiveSteps.{PutDone}
 use Rattle.image_laws.specs.NewFile.{IsFreePage}
-use Rattle.image_laws.specs.InPlace.{slot_at}
 use Rattle.image_laws.specs.Reindex.{index_span, slot_word}
 use Rattle.image_laws.specs.TidySteps.{IsTidyBut}
-use Rattle.page_layout.specs.Layout.{SameOutside}
-use Rattle.block_gc.specs.Built.{IsBuilt}
 
 -- In a tidy image `page` is a live data page, and `to` a free page of a block without live index pages.
 pub record CanCopyData (g : Geometry) (image : List ℕ) (page to : ℕ) : Type 0 where
@@ -48,21 +45,6 @@ pub record IsNamedBy (g : Geometry) (image : List ℕ) (page index : ℕ) (tag :
 abbrev pub IsFoundFor : Geometry → (image : List ℕ) (page : ℕ) → Option (ℕ × Tag) → Type 0
 IsFoundFor g image page None = ⊥
 IsFoundFor g image page (Some (index, tag)) = IsNamedBy g image page index tag
-
--- The first bytes are those of this live page, and they and the page's flags are bytes.
-pub record IsLoaded (g : Geometry) (image : List ℕ) (page : ℕ) (work : List ℕ) : Type 0 where
-  pub same : take g.page work ≡ page_of g image page
-  pub small : (k : ℕ) → k < g.page → slice_index work k < 256
-  pub flags : slice_index image (page * g.page + 4) < 256
-
--- The first bytes are a copy of the live index page `index`, in which alone the entry of a data span is another: it names `to`.
-pub record IsRenamed (g : Geometry) (image : List ℕ) (index span to : ℕ) (work : List ℕ) : Type 0 where
-  pub tag : Tag
-  pub plain : List ℕ
-  pub built : IsBuilt g image index tag plain
-  pub entry : slot_word g (take g.page work) span ≡ to
-  pub others : SameOutside (slot_at g span) 2 (take g.page plain) (take g.page work)
-  pub small : (k : ℕ) → k < g.page → slice_index work k < 256
 
 -- a data page with the id, the span and the file bytes of another
 pub record IsDataCopy (g : Geometry) (old new : List ℕ) : Type 0 where

@@ -1,5 +1,5 @@
 // Moving one data page out of a block, the step of which the cleaning of a data block consists.
-ghost use Rattle.std.specs.Prelude.{◌≡◌, ◌+◌, ◌*◌, ◌%◌, ◌<◌, ◌≤◌, ◌∷◌, [], OnErr, OnOk, IfOk, IfSome, List, true, false, ℕ};
+ghost use Rattle.std.specs.Prelude.{◌≡◌, ◌%◌, ◌<◌, ◌≤◌, OnErr, OnOk, IfOk, IfSome, List, true, false, ℕ};
 ghost use Rattle.geometry.specs.Numbers.{page_count};
 ghost use Rattle.nor_core.specs.Count.{Rose};
 ghost use Rattle.nor_core.specs.Device.{Changes, OnlyReads};
@@ -9,15 +9,14 @@ ghost use Rattle.image_model.specs.Tidy.{IsTidy};
 ghost use Rattle.flash_view.specs.Places.{IsEntryPage};
 ghost use Rattle.flash_view.specs.Same.{IsSameView, OnlyLooks};
 ghost use Rattle.block_gc.specs.Moves.{MoveCut};
-ghost use Rattle.block_gc.specs.DataMoves.{CanCopyData, CanMoveData, IsTagOf, IsNamedBy, IsFoundFor, IsLoaded, IsRenamed, CopiedData, DataMoveCut, MovedData};
+ghost use Rattle.block_gc.specs.DataMoves.{CanCopyData, CanMoveData, IsTagOf, IsNamedBy, IsFoundFor, CopiedData, DataMoveCut, MovedData};
+ghost use Rattle.page_renew.specs.Built.{IsLoaded, IsRenamed};
 
-use crate::copying::see_bytes;
-use crate::moving::build_copy;
-use crate::naming::{index_span, name_data};
 use flash_view::{Kind, View, is_entry_page};
 use nor_core::{Failed, Nor, NorState};
 use page_layout::PageHeader;
 use page_put::{finish, kill, place};
+use page_renew::{build_data, build_renamed, index_span};
 use table_model::Tag;
 
 // The id of the file whose index page has this header. The id in a header is a word.
@@ -52,19 +51,6 @@ fn index_of<N: Nor>(v: &mut View<'_, N>, page: u16) -> Result<Option<(u16, Tag)>
         span: head.span,
     };
     Ok(Some((index, tag)))
-}
-
-// Builds the copy of a data page.
-#[tactic(auto, using(flash_view::proofs::Looking::looks_then))]
-fn build_data<N: Nor>(v: &mut View<'_, N>, page: u16) -> Result<(), Failed>
-    requires page { page < page_count v.old.geometry }
-    ensures cause { OnErr result (Rose (N.faults v.old.nor.now) (N.faults v.new.nor.now)) }
-    ensures looks { OnlyLooks v.old v.new }
-    ensures told { N.tells v.old.nor.now → OnOk result (IsLoaded v.old.geometry (N.bytes v.old.nor.now) page v.new.work.now) }
-{
-    v.load(page)?;
-    see_bytes(v.built());
-    Ok(())
 }
 
 // Puts the copy of a data page that was built at `to`, under its id and span: four programs.
@@ -102,22 +88,6 @@ fn copy_data<N: Nor>(v: &mut View<'_, N>, page: u16, to: u16, tag: Tag) -> Resul
 {
     build_data(v, page)?;
     put_data(v, page, to, tag)
-}
-
-// Builds the copy of an index page, in which the entry of a data span names `to`.
-#[tactic(auto, using(flash_view::proofs::Looking::looks_then))]
-fn build_renamed<N: Nor>(v: &mut View<'_, N>, index: u16, span: u16, to: u16) -> Result<(), Failed>
-    requires index { index < page_count v.old.geometry }
-    ensures cause { OnErr result (Rose (N.faults v.old.nor.now) (N.faults v.new.nor.now)) }
-    ensures looks { OnlyLooks v.old v.new }
-    ensures told { N.tells v.old.nor.now → is_index_page (live_at v.old.geometry (N.bytes v.old.nor.now) index) ≡ true → OnOk result (IsRenamed v.old.geometry (N.bytes v.old.nor.now) index span to v.new.work.now) }
-{
-    build_copy(v, index)?;
-    let g = v.geometry;
-    let len = g.page() as usize;
-    let work = &mut *v.work;
-    name_data(&g, &mut work[..len], span, to);
-    Ok(())
 }
 
 // Puts the copy of an index page that was built, and kills that page and the data page that it named: eight programs.

@@ -1,9 +1,8 @@
 use Rattle.std.proofs.Common.{refl, ◌∙◌, rules}
 use Rattle.image_model.specs.Volume.{page_count, per_block}
-use Rattle.file_drop.proofs.Passing.{image_of}
+use Rattle.block_gc.proofs.CleanedBlocks.{image_of}
 use Rattle.block_gc.specs.DataEmptied.{HasDataPlaces}
-use Rattle.block_gc.proofs.DataCleaned.{data_places}
-use Rattle.block_gc.proofs.DataCleaned.{data_emptied, data_freshened, data_cleaned}
+use Rattle.block_gc.proofs.DataCleaned.{data_places, data_emptied, data_freshened, data_cleaned}
 use Rattle.block_gc.proofs.cleaning.clean_data.Goals as goal
 
 pub returns-in_err-empty_data-clause-changes : goal.returns-in_err-empty_data-clause-changes

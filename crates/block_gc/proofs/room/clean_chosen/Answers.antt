@@ -1,5 +1,5 @@
 use Rattle.std.proofs.Common.{◌∙◌, rules}
-use Rattle.file_drop.proofs.Passing.{image_of}
+use Rattle.block_gc.proofs.CleanedBlocks.{image_of}
 use Rattle.block_gc.proofs.Cleanings.{chosen_there, chosen_changes, chosen_cleaned}
 use Rattle.block_gc.proofs.room.clean_chosen.Goals as goal
 

@@ -1,4 +1,4 @@
-use Rattle.file_drop.proofs.Passing.{image_of}
+use Rattle.block_gc.proofs.CleanedBlocks.{image_of}
 use Rattle.block_gc.proofs.Cleanings.{packed_there}
 use Rattle.block_gc.proofs.room.pack_turn.Goals as goal
 
