@@ -14,6 +14,8 @@ use Rattle.image_laws.specs.LiveSteps.{PutDone}
 use Rattle.image_laws.specs.NewFile.{IsFreePage}
 use Rattle.image_laws.specs.Reindex.{index_span, slot_word}
 use Rattle.image_laws.specs.TidySteps.{IsTidyBut}
+use Rattle.block_gc.specs.Moves.{MoveCut}
+use Rattle.flash_view.specs.Steps.{Step}
 
 -- In a tidy image `page` is a live data page, and `to` a free page of a block without live index pages.
 pub record CanCopyData (g : Geometry) (image : List ℕ) (page to : ℕ) : Type 0 where
@@ -98,3 +100,28 @@ pub record MovedData (g : Geometry) (page to index_to : ℕ) (was now : List ℕ
   pub entries : (p : ℕ) → is_entry_page g p ≡ true → p ≢ page → p ≢ to → p ≢ index → p ≢ index_to → entry_of g now p ≡ entry_of g was p
   pub pages : (p : ℕ) → is_entry_page g p ≡ true → p ≢ page → p ≢ to → p ≢ index → p ≢ index_to → page_of g now p ≡ page_of g was p
   pub live : (p : ℕ) → p ≢ page → p ≢ to → p ≢ index → p ≢ index_to → live_at g now p ≡ live_at g was p
+
+-- A copy of the data page was put into the first image, and the index page `index` of that image names the page.
+pub record IsCopiedSince (g : Geometry) (page to index index_to : ℕ) (tag : Tag) (first image : List ℕ) : Type 0 where
+  pub can : CanMoveData g first page to index_to
+  pub copied : CopiedData g page to first image
+  pub named : IsNamedBy g first page index tag
+
+-- ---- the steps of a move: a copy of the data page is put, the index page is renewed, told since the image before the copy, and the whole move
+
+abbrev pub copying_data : ℕ → ℕ → Step (Unit {0})
+copying_data page to = record { needs = λ g was. CanCopyData g was page to; cut = λ g was image. MoveCut g to was image; done = λ g was now ok. CopiedData g page to was now }
+
+abbrev pub naming_copy : (page to index index_to : ℕ) → Tag → List ℕ → Step (Unit {0})
+naming_copy page to index index_to tag first = record {
+  needs = λ g was. IsCopiedSince g page to index index_to tag first was;
+  cut = λ g was image. DataMoveCut g to index_to first image;
+  done = λ g was now ok. MovedData g page to index_to first now;
+}
+
+abbrev pub moving_with_index : (page to index_to : ℕ) → Step (Unit {0})
+moving_with_index page to index_to = record {
+  needs = λ g was. CanMoveData g was page to index_to;
+  cut = λ g was image. DataMoveCut g to index_to was image;
+  done = λ g was now ok. MovedData g page to index_to was now;
+}

@@ -3,7 +3,7 @@ use Rattle.std.specs.Prelude.{◌≡◌, ◌≢◌, ℕ, ◌+◌, ◌<◌, ◌�
 use Rattle.geometry.specs.declared.geometry.Geometry.{Geometry}
 use Rattle.image_model.specs.Volume.{entries, page_count}
 use Rattle.image_model.specs.Live.{live_at}
-use Rattle.image_model.specs.Places.{block_of, erase_count, next_count}
+use Rattle.image_model.specs.Places.{block_of, erase_count, next_count, IsImage}
 use Rattle.image_model.specs.Tables.{table_of}
 use Rattle.image_model.specs.Tidy.{IsTidy, is_free_block, free_blocks}
 use Rattle.image_model.specs.Kinds.{is_index_page, is_data_block}
@@ -79,6 +79,7 @@ pub record Emptied (g : Geometry) (block p : ℕ) (was now : List ℕ) : Type 0 
 -- their deleted entries and live data pages, and those with a live data page their free entries. No fewer blocks are free; and if a block
 -- that was in use left no more of them, a free block was taken, and fewer free entries for index pages are left than a block has.
 pub record CleanedIndex (g : Geometry) (block : ℕ) (was now : List ℕ) : Type 0 where
+  pub image : IsImage g now
   pub tidy : IsTidy g now
   pub table : table_of g now ≡ table_of g was
   pub free : is_free_block g now block ≡ true
