@@ -1,11 +1,8 @@
 -- What cleaning a block of either kind leaves, over plain images.
-use Rattle.std.proofs.Common.{◌≡◌, ℕ, ◌<◌, List, Bool, true, false, Result, refl, sym, ◌∙◌, subst, arith}
-use Rattle.std.specs.Prelude.{OnOk}
+use Rattle.std.proofs.Common.{◌≡◌, ℕ, ◌*◌, ◌<◌, ◌≤◌, List, length, Bool, true, false, refl, sym, ◌∙◌, arith}
 use Rattle.std.proofs.lemmas.Bool.{false_from_ne_true}
 use Rattle.geometry.specs.declared.geometry.Geometry.{Geometry}
-use Rattle.nor_core.specs.declared.state.NorState.{Ghosts as NorOf}
-use Rattle.nor_core.specs.Device.{OnlyReads, Changes}
-use Rattle.nor_core.proofs.Cuts.{wider, unchanged, after_reads}
+use Rattle.image_model.specs.Places.{IsImage}
 use Rattle.image_model.specs.Tidy.{IsTidy, is_free_block}
 use Rattle.image_model.specs.Kinds.{is_data_block}
 use Rattle.image_model.specs.Collect.{data_in, is_worth}
@@ -13,12 +10,16 @@ use Rattle.image_model.specs.Sound.{Keeps}
 use Rattle.image_laws.proofs.Sounding.{keeps-itself}
 use Rattle.image_laws.proofs.SpareKill.{tidy-has_magics}
 use Rattle.image_laws.proofs.TidySteps.{tidy-is_tidy}
+use Rattle.flash_view.specs.Steps.{Finishes}
 use Rattle.room_laws.proofs.Blocks.{told}
 use Rattle.room_laws.proofs.Cleans.{free_told, index_is_cleaned, data_is_cleaned}
 use Rattle.free_search.proofs.FreePages.{data_none, data_some}
-use Rattle.file_drop.proofs.Passing.{on_ok}
-use Rattle.block_gc.specs.Emptied.{CanCleanIndex, CleanCut, CleanedIndex}
-use Rattle.block_gc.specs.Cleanings.{CanCleanData, CleanDataCut, CleanedData, CanCleanBlock, CleanBlockCut, CleanedBlock}
+use Rattle.block_gc.specs.Emptied.{CanCleanIndex, CleanCut, CleanedIndex, cleaning_index}
+use Rattle.block_gc.specs.Cleanings.{CanCleanData, CleanDataCut, CleanedData, CanCleanBlock, CleanBlockCut, CleanedBlock, cleaning_data, cleaning_block}
+
+-- a device that holds the volume holds an image of it
+pub image_of : (g : Geometry) (bytes : List ℕ) (size : ℕ) → length bytes ≡ size → g.blocks * g.block ≤ size → IsImage g bytes
+image_of g bytes size len fits = record { len = omega (arith, len, fits) }
 
 pub tidy_keeps : (g : Geometry) (a : List ℕ) → IsTidy g a → Keeps g a a
 tidy_keeps g a t = keeps-itself g a (tidy-has_magics g a (λ p. false) ((tidy-is_tidy g a (λ p. false)).0 t))
@@ -48,13 +49,14 @@ module _ (g : Geometry) (a : List ℕ) (block : ℕ) (can : CanCleanBlock g a bl
 
   pub index_done : data_in g a block ≡ 0 → block < g.blocks → (b : List ℕ) → CleanedIndex g block a b → CleanedBlock g block a b
   index_done none low b done = record {
+    image = done.image;
     cleaned = index_is_cleaned g a b block can.tidy low (index_can none).plain (record {
       tidy = done.tidy;
       table = done.table;
       free = done.free;
       deleted = done.beside.deleted;
       pages = done.beside.pages;
-      taken = done.taken (worth_used g a block can.tidy low can.worth);
+      taken = done.taken can.used;
     });
     count = done.count;
   }
@@ -75,45 +77,12 @@ module _ (g : Geometry) (a : List ℕ) (block : ℕ) (can : CanCleanBlock g a bl
   data_cut some x cut = record { keeps = cut.keeps; free = cut.free; plain = λ e. let bad : true ≡ false = sym (holds some) ∙ e in absurd (cc) }
 
   pub data_done : 0 < data_in g a block → block < g.blocks → (b : List ℕ) → CleanedData g block a b → CleanedBlock g block a b
-  data_done some low b done = record { cleaned = data_is_cleaned g a b block can.tidy low (holds some) done.cleans; count = done.count }
+  data_done some low b done = record { image = done.image; cleaned = data_is_cleaned g a b block can.tidy low (holds some) done.cleans; count = done.count }
 
--- ---- over a device
+-- ---- the steps
 
-module _ (g : Geometry) (block : ℕ) (low : block < g.blocks) {D : Type 0} {nor : NorOf D} {old mid : D} (reads : OnlyReads nor old mid) where
-  pub block_looked : Changes nor old mid (λ was image. CanCleanBlock g was block → CleanBlockCut g block was image)
-  block_looked = after_reads reads (unchanged mid (λ was image. CanCleanBlock g was block → CleanBlockCut g block was image) (λ tells can. block_stays g (nor.bytes mid) block can))
+pub cleans_index : (g : Geometry) (a : List ℕ) (block : ℕ) → block < g.blocks → data_in g a block ≡ 0 → CanCleanBlock g a block → Finishes g a a (cleaning_index block) (cleaning_block block)
+cleans_index g a block low none can = record { needs = index_can g a block can none; cut = λ c cut. index_cut g a block can none c cut; done = λ c ok done. index_done g a block can none low c done }
 
-  module _ (n : ℕ) (is : nor.tells old → n ≡ data_in g (nor.bytes old) block) (h : Geometry) (e : h ≡ g) where
-    module _ (none : n ≡ 0) where
-      no_data : nor.tells old → data_in g (nor.bytes old) block ≡ 0
-      no_data tells = sym (is tells) ∙ none
-
-      pub index_there : nor.tells old → CanCleanBlock g (nor.bytes old) block → CanCleanIndex h (nor.bytes mid) block
-      index_there tells can = rw (e, reads.bytes) (index_can g (nor.bytes old) block can (no_data tells))
-
-      pub index_changes : {new : D} → Changes nor mid new (λ was image. CanCleanIndex h was block → CleanCut h was image) → Changes nor old new (λ was image. CanCleanBlock g was block → CleanBlockCut g block was image)
-      index_changes {new} change =
-          wider (after_reads reads (subst (λ (k : Geometry). Changes nor mid new (λ was image. CanCleanIndex k was block → CleanCut k was image)) e change))
-          (λ tells image cut can. index_cut g (nor.bytes old) block can (no_data tells) image (cut (index_can g (nor.bytes old) block can (no_data tells))))
-
-      pub index_cleaned : {X Y : Type 0} (r : Result X Y) (b : List ℕ) → (nor.tells mid → CanCleanIndex h (nor.bytes mid) block → OnOk r (CleanedIndex h block (nor.bytes mid) b)) →
-          nor.tells old → CanCleanBlock g (nor.bytes old) block → OnOk r (CleanedBlock g block (nor.bytes old) b)
-      index_cleaned r b done tells can =
-          on_ok r (λ (x : CleanedIndex g block (nor.bytes old) b). index_done g (nor.bytes old) block can (no_data tells) low b x) (rw (e, reads.bytes) at (done (reads.told tells) (index_there tells can)))
-
-    module _ (some : 0 < n) where
-      has_data : nor.tells old → 0 < data_in g (nor.bytes old) block
-      has_data tells = let same = is tells in omega (arith, some, same)
-
-      pub data_there : nor.tells old → CanCleanBlock g (nor.bytes old) block → CanCleanData h (nor.bytes mid) block
-      data_there tells can = rw (e, reads.bytes) (data_can g (nor.bytes old) block can (has_data tells))
-
-      pub data_changes : {new : D} → Changes nor mid new (λ was image. CanCleanData h was block → CleanDataCut h was image) → Changes nor old new (λ was image. CanCleanBlock g was block → CleanBlockCut g block was image)
-      data_changes {new} change =
-          wider (after_reads reads (subst (λ (k : Geometry). Changes nor mid new (λ was image. CanCleanData k was block → CleanDataCut k was image)) e change))
-          (λ tells image cut can. data_cut g (nor.bytes old) block can (has_data tells) image (cut (data_can g (nor.bytes old) block can (has_data tells))))
-
-      pub data_cleaned : {X Y : Type 0} (r : Result X Y) (b : List ℕ) → (nor.tells mid → CanCleanData h (nor.bytes mid) block → OnOk r (CleanedData h block (nor.bytes mid) b)) →
-          nor.tells old → CanCleanBlock g (nor.bytes old) block → OnOk r (CleanedBlock g block (nor.bytes old) b)
-      data_cleaned r b done tells can =
-          on_ok r (λ (x : CleanedData g block (nor.bytes old) b). data_done g (nor.bytes old) block can (has_data tells) low b x) (rw (e, reads.bytes) at (done (reads.told tells) (data_there tells can)))
+pub cleans_data : (g : Geometry) (a : List ℕ) (block : ℕ) → block < g.blocks → 0 < data_in g a block → CanCleanBlock g a block → Finishes g a a (cleaning_data block) (cleaning_block block)
+cleans_data g a block low some can = record { needs = data_can g a block can some; cut = λ c cut. data_cut g a block can some c cut; done = λ c ok done. data_done g a block can some low c done }

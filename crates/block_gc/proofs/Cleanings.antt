@@ -1,45 +1,66 @@
--- Cleaning block after block, over plain images and over a device.
-use Rattle.std.proofs.Common.{◌≡◌, ◌≢◌, ℕ, ◌+◌, ◌-◌, ◌<◌, ◌≤◌, ◌^◌, List, Bool, true, false, Some, None, Err, ap, refl, sym, ◌∙◌, subst, arith}
-use Rattle.std.specs.Prelude.{Option, IsErrOf}
+-- Cleaning block after block, over plain images.
+use Rattle.std.proofs.Common.{◌≡◌, ℕ, ◌+◌, ◌-◌, ◌<◌, ◌^◌, List, map, Bool, true, false, Some, None, Result, refl, sym, ◌∙◌, subst, arith}
+use Rattle.std.specs.List.{Contains}
 use Rattle.geometry.specs.declared.geometry.Geometry.{Geometry}
 use Rattle.nor_core.specs.declared.state.NorState.{Ghosts as NorOf}
-use Rattle.nor_core.specs.Device.{OnlyReads, Changes}
-use Rattle.nor_core.proofs.Cuts.{wider, go_on, unchanged, after_reads, reads_then}
+use Rattle.nor_core.specs.Device.{OnlyReads}
+use Rattle.nor_core.proofs.Cuts.{reads_then}
+use Rattle.flash_view.specs.declared.view.View.{View}
+use Rattle.image_model.specs.declared.damage.Damage.{Damage}
+use Rattle.image_model.specs.Live.{live_at}
 use Rattle.image_model.specs.Places.{IsImage}
-use Rattle.image_model.specs.Tidy.{IsTidy}
+use Rattle.image_model.specs.Tables.{table_of}
+use Rattle.image_model.specs.Tidy.{IsTidy, HasReserve}
 use Rattle.image_model.specs.Collect.{chosen_block, is_stuck}
 use Rattle.image_model.specs.Sound.{Keeps}
 use Rattle.image_laws.proofs.BlockCounts.{blocks-split}
+use Rattle.image_laws.proofs.OneIdTidy.{mixed-none}
 use Rattle.image_laws.proofs.Sounding.{keeps-on}
+use Rattle.image_laws.proofs.SpareKill.{tidy-has_magics}
+use Rattle.image_laws.proofs.TidySteps.{tidy-is_tidy}
+use Rattle.flash_view.specs.Steps.{Step, Errors, Stepped, Begins, Finishes}
 use Rattle.room_laws.specs.Stopping.{CanClean, HasRoomFor}
 use Rattle.room_laws.proofs.Chosen.{chosen_is_candidate}
-use Rattle.room_laws.proofs.Stops.{cleaned_can_clean, cleaned_is_lower, measure_is_small, stopped_has_reserve, stopped_has_pages, never_stuck, no_worth_is_packed, unstuck_has_no_worth}
-use Rattle.block_gc.specs.declared.room.RoomErr.{RoomErr}
-use Rattle.block_gc.specs.declared.room.RoomErr.TheVariants.{Tight}
-use Rattle.block_gc.specs.Cleanings.{CanCleanBlock, CleanBlockCut, CleanedBlock}
-use Rattle.block_gc.specs.RoomMade.{IsReady, Cleanings, MadeRoom, IsTight, RoomTurn, IsCompact, IsStuck, PackTurn}
-use Rattle.block_gc.proofs.CleanedBlocks.{tidy_keeps}
+use Rattle.room_laws.proofs.Stops.{reserve_can_clean, cleaned_can_clean, cleaned_is_lower, measure_is_small, stopped_has_reserve, stopped_has_pages, never_stuck, no_worth_is_packed, unstuck_has_no_worth}
+use Rattle.block_gc.specs.declared.room.Goal.{Goal}
+use Rattle.block_gc.specs.declared.room.Goal.TheVariants.{Pages, Packed}
+use Rattle.block_gc.specs.Cleanings.{CanCleanBlock, CleanedBlock, cleaning_block}
+use Rattle.block_gc.proofs.CleanedBlocks.{worth_used}
+use Rattle.block_gc.specs.RoomMade.{Cleanings, MadeRoom, IsTight, IsCompact, IsStuck, IsMet, StopsAt, Collected, PackedOrStuck, cleaning_chosen, collecting, packing}
 
 -- ---- one cleaning
 
 pub chosen_can : (g : Geometry) (a : List ℕ) (block : ℕ) → IsTidy g a → chosen_block g a ≡ Some block → CanCleanBlock g a block
-chosen_can g a block t chosen = let is = chosen_is_candidate g a block chosen in record { tidy = t; worth = is.worth; fits = is.fits }
+chosen_can g a block t chosen = let is = chosen_is_candidate g a block chosen in record { tidy = t; used = worth_used g a block t is.within is.worth; fits = is.fits }
 
-pub one_cleaned : (g : Geometry) (a b : List ℕ) (block : ℕ) → IsImage g a → IsImage g b → CanCleanBlock g a block → CleanedBlock g block a b → Cleanings g 1 a b
-one_cleaned g a b block is is_now can done = record {
+pub one_cleaned : (g : Geometry) (a b : List ℕ) (block : ℕ) → IsImage g a → chosen_block g a ≡ Some block → CleanedBlock g block a b → Cleanings g 1 a b
+one_cleaned g a b block is chosen done = record {
+  image = done.image;
   tidy = done.cleaned.after;
   table = done.cleaned.table;
-  lower = let less = cleaned_is_lower g a b block is is_now done.cleaned can.worth in omega (arith, less);
-  again = λ before. cleaned_can_clean g a b block before is_now done.cleaned;
+  lower = let less = cleaned_is_lower g a b block is done.image done.cleaned (chosen_is_candidate g a block chosen).worth in omega (arith, less);
+  again = λ before. cleaned_can_clean g a b block before done.image done.cleaned;
 }
 
 -- ---- one after others
 
-pub cleanings_none : (g : Geometry) (a : List ℕ) → IsTidy g a → Cleanings g 0 a a
-cleanings_none g a t = record { tidy = t; table = refl; lower = omega arith; again = λ can. can }
+-- a tidy image keeps a tidy one with its table
+both_keep : (g : Geometry) (a b : List ℕ) → IsTidy g a → IsTidy g b → table_of g b ≡ table_of g a → Keeps g a b
+both_keep g a b t now table = record {
+  sound = record {
+    magics = tidy-has_magics g b (λ (r : ℕ). false) ((tidy-is_tidy g b (λ (r : ℕ). false)).0 now);
+    mixed = λ c m. absurd (mixed-none g (live_at g b) now.unmixed c m);
+    damaged = λ id is. subst (λ (l : List (ℕ × Damage)). Contains (map (λ (d : ℕ × Damage). d.0) l) id) (now.undamaged ∙ sym t.undamaged) is;
+  };
+  table = table;
+}
+
+pub cleanings_none : (g : Geometry) (a : List ℕ) → IsImage g a → IsTidy g a → Cleanings g 0 a a
+cleanings_none g a is t = record { image = is; tidy = t; table = refl; lower = omega arith; again = λ can. can }
 
 pub cleanings_on : (g : Geometry) (n : ℕ) (a b c : List ℕ) → Cleanings g n a b → Cleanings g 1 b c → Cleanings g (n + 1) a c
 cleanings_on g n a b c first second = record {
+  image = second.image;
   tidy = second.tidy;
   table = second.table ∙ first.table;
   lower = let p = first.lower in let q = second.lower in omega (arith, p, q);
@@ -50,130 +71,118 @@ cleanings_on g n a b c first second = record {
 pub cleanings_few : (g : Geometry) (n : ℕ) (a b : List ℕ) → IsTidy g a → Cleanings g n a b → n < 2 ^ 64 - 1
 cleanings_few g n a b t so_far = let small = measure_is_small g a t in let lower = so_far.lower in omega (arith, small, lower)
 
--- ---- where room is made, or none is
+-- ---- where collection stops
 
-pub room_here : (g : Geometry) (i d : ℕ) (a : List ℕ) → IsTidy g a → IsReady g a i d → MadeRoom g i d a a
-room_here g i d a t ready = record { tidy = t; table = refl; ready = ready }
+-- an image that was cleaned so often has its reserve where no block is chosen, if the first had
+pub keeps_reserve : (g : Geometry) (n : ℕ) (a b : List ℕ) → IsImage g a → IsTidy g a → Cleanings g n a b → chosen_block g b ≡ None → HasReserve g a → HasReserve g b
+keeps_reserve g n a b is t all none reserve = stopped_has_reserve g b (all.again (reserve_can_clean g a is t reserve)) none
 
-pub room_after : (g : Geometry) (i d n : ℕ) (a b c : List ℕ) → Cleanings g n a b → MadeRoom g i d b c → MadeRoom g i d a c
-room_after g i d n a b c first last = record { tidy = last.tidy; table = last.table ∙ first.table; ready = last.ready }
+pub made_room : (g : Geometry) (i d : ℕ) (a b : List ℕ) → Collected g (Pages i d) true a b → MadeRoom g i d a b
+made_room g i d a b all = record { tidy = all.cleanings.tidy; table = all.cleanings.table; ready = all.stops }
 
-pub tight_here : (g : Geometry) (i d : ℕ) (a : List ℕ) → IsTidy g a → chosen_block g a ≡ None → (IsReady g a i d → ⊥) → IsTight g i d a a
-tight_here g i d a t none short = record { tidy = t; table = refl; none = none; short = short; again = λ can. can }
+pub is_tight : (g : Geometry) (i d : ℕ) (a b : List ℕ) → IsImage g a → IsTidy g a → Collected g (Pages i d) false a b → IsTight g i d a b
+is_tight g i d a b is t all = record {
+  tidy = all.cleanings.tidy;
+  table = all.cleanings.table;
+  none = all.stops.0;
+  short = all.stops.1;
+  again = all.cleanings.again;
+  reserve = keeps_reserve g all.n a b is t all.cleanings all.stops.0;
+}
 
-pub tight_after : (g : Geometry) (i d n : ℕ) (a b c : List ℕ) → Cleanings g n a b → IsTight g i d b c → IsTight g i d a c
-tight_after g i d n a b c first last = record { tidy = last.tidy; table = last.table ∙ first.table; none = last.none; short = last.short; again = λ can. last.again (first.again can) }
+pub never_tight : (g : Geometry) (i d : ℕ) (a b : List ℕ) → CanClean g a → HasRoomFor g a i d → Collected g (Pages i d) false a b → ⊥
+never_tight g i d a b can room all =
+    let here = all.cleanings.again can in
+    let there : HasRoomFor g b i d = rw all.cleanings.table room in
+    all.stops.1 (record { had = stopped_has_pages g b i d here there all.stops.0; reserve = stopped_has_reserve g b here all.stops.0 })
 
-pub never_tight : (g : Geometry) (i d : ℕ) (a b : List ℕ) → CanClean g a → HasRoomFor g a i d → IsTight g i d a b → ⊥
-never_tight g i d a b can room tight =
-    let here = tight.again can in
-    let there : HasRoomFor g b i d = rw tight.table room in
-    tight.short (record { had = stopped_has_pages g b i d here there tight.none; reserve = stopped_has_reserve g b here tight.none })
+-- packing stops where no block is chosen
+pub packing_stops : (g : Geometry) (met : Bool) (a : List ℕ) → StopsAt g Packed met a → chosen_block g a ≡ None
+packing_stops g true a none = absurd (none)
+packing_stops g false a none = none.0
 
--- ---- where the image is packed, or collection is stuck
+module _ (g : Geometry) (met : Bool) (a b : List ℕ) (is : IsImage g a) (t : IsTidy g a) (all : Collected g Packed met a b) where
+  stopped : chosen_block g b ≡ None
+  stopped = packing_stops g met b all.stops
 
-pub packed_here : (g : Geometry) (a : List ℕ) → IsImage g a → IsTidy g a → chosen_block g a ≡ None → is_stuck g a ≡ false → IsCompact g a a
-packed_here g a is t none free =
-    let packed = no_worth_is_packed g a is t (λ block low. unstuck_has_no_worth g a block t none free low) in
-    record {
-      tidy = t;
-      table = refl;
-      worth = λ block low. unstuck_has_no_worth g a block t none free low;
-      packed = packed;
-      free = let all = (blocks-split g a is).0 in let index = packed.index in let pages = packed.pages in omega (arith, all, index, pages);
-      unstuck = free;
-    }
+  pub is_compact : is_stuck g b ≡ false → IsCompact g a b
+  is_compact free =
+      let now = all.cleanings.image in
+      let there = all.cleanings.tidy in
+      let packed = no_worth_is_packed g b now there (λ block low. unstuck_has_no_worth g b block there stopped free low) in
+      record {
+        tidy = there;
+        table = all.cleanings.table;
+        worth = λ block low. unstuck_has_no_worth g b block there stopped free low;
+        packed = packed;
+        free = let all' = (blocks-split g b now).0 in let index = packed.index in let pages = packed.pages in omega (arith, all', index, pages);
+        unstuck = free;
+        reserve = keeps_reserve g all.n a b is t all.cleanings stopped;
+      }
 
--- as it was asked
-pub packed_there : (g h : Geometry) (a b c : List ℕ) (s : Bool) → h ≡ g → b ≡ a → c ≡ b → IsImage g a → IsTidy g a → chosen_block g a ≡ None → (IsTidy h b → s ≡ is_stuck h b) → s ≡ false → IsCompact g a c
-packed_there g h a b c s e same still is t none told free =
-    let here : IsTidy g a → s ≡ is_stuck g a = rw (e, same) at told in
-    subst (λ (l : List ℕ). IsCompact g a l) (sym (still ∙ same)) (packed_here g a is t none (sym (here t) ∙ free))
-
-pub packed_after : (g : Geometry) (n : ℕ) (a b c : List ℕ) → Cleanings g n a b → IsCompact g b c → IsCompact g a c
-packed_after g n a b c first last = record { tidy = last.tidy; table = last.table ∙ first.table; worth = last.worth; packed = last.packed; free = last.free; unstuck = last.unstuck }
-
-pub stuck_here : (g : Geometry) (a : List ℕ) → IsTidy g a → chosen_block g a ≡ None → is_stuck g a ≡ true → IsStuck g a a
-stuck_here g a t none stuck = record { tidy = t; table = refl; none = none; stuck = stuck; again = λ can. can }
-
-pub stuck_after : (g : Geometry) (n : ℕ) (a b c : List ℕ) → Cleanings g n a b → IsStuck g b c → IsStuck g a c
-stuck_after g n a b c first last = record { tidy = last.tidy; table = last.table ∙ first.table; none = last.none; stuck = last.stuck; again = λ can. last.again (first.again can) }
+  pub is_stuck_there : is_stuck g b ≡ true → IsStuck g a b
+  is_stuck_there stuck = record {
+    tidy = all.cleanings.tidy;
+    table = all.cleanings.table;
+    none = stopped;
+    stuck = stuck;
+    again = all.cleanings.again;
+    reserve = keeps_reserve g all.n a b is t all.cleanings stopped;
+  }
 
 pub never_stuck_there : (g : Geometry) (a b : List ℕ) → CanClean g a → IsStuck g a b → ⊥
 never_stuck_there g a b can stuck = let bad : true ≡ false = sym stuck.stuck ∙ never_stuck g b (stuck.again can) in absurd (cc)
 
--- ---- over a device
+-- ---- the steps
 
--- the image is kept where it is tidy
-abbrev pub Keeping : Geometry → (was image : List ℕ) → Type 0
-Keeping g was image = IsTidy g was → Keeps g was image
+-- the first n cleanings, and the turn at which collection stops
+abbrev pub collecting_to : ℕ → Step (Unit {0})
+collecting_to n = record { needs = IsTidy; cut = Keeps; done = λ g was now ok. Cleanings g n was now }
 
-module _ (g : Geometry) {D : Type 0} {nor : NorOf D} where
-  pub keeps_looked : {old new : D} → OnlyReads nor old new → Changes nor old new (Keeping g)
-  keeps_looked {old} {new} reads = after_reads reads (unchanged new (Keeping g) (λ tells t. tidy_keeps g (nor.bytes new) t))
+abbrev pub stopping : Goal → Step Bool
+stopping goal = record { needs = IsTidy; cut = Keeps; done = λ g was now met. (now ≡ was) × StopsAt g goal met was }
 
-  pub keeps_none : (d : D) → Changes nor d d (Keeping g)
-  keeps_none d = unchanged d (Keeping g) (λ tells t. tidy_keeps g (nor.bytes d) t)
+pub cleans_chosen : (g : Geometry) (a : List ℕ) (block : ℕ) → chosen_block g a ≡ Some block → IsTidy g a → Begins g a (cleaning_block block) cleaning_chosen
+cleans_chosen g a block chosen t = record { needs = chosen_can g a block t chosen; cut = λ c cut. cut.keeps }
 
-  pub keeps_read : (h : Geometry) {old mid new : D} → h ≡ g → OnlyReads nor old mid → Changes nor mid new (Keeping h) → Changes nor old new (Keeping g)
-  keeps_read h {old} {mid} {new} e reads change = after_reads reads (subst (λ (k : Geometry). Changes nor mid new (Keeping k)) e change)
+-- a turn after n cleanings
+pub turn_begins : (g : Geometry) (n : ℕ) (a : List ℕ) {T : Type 0} (whole : Step T) → ((c : List ℕ) → Keeps g a c → whole.cut g a c) → IsTidy g a → Begins g a (collecting_to n) whole
+turn_begins g n a whole wide t = record { needs = t; cut = wide }
 
-  pub keeps_then : (n : ℕ) (h : Geometry) {old mid new : D} → h ≡ g → (nor.tells old → IsTidy g (nor.bytes old) → Cleanings g n (nor.bytes old) (nor.bytes mid)) →
-      Changes nor old mid (Keeping g) → Changes nor mid new (Keeping h) → Changes nor old new (Keeping g)
-  keeps_then n h {old} {mid} {new} e so_far first second =
-      go_on first (subst (λ (k : Geometry). Changes nor mid new (Keeping k)) e second)
-      (λ tells image before after t. keeps-on g (nor.bytes old) (nor.bytes mid) image (before t) (after (so_far tells t).tidy))
+pub turn_goes : (g : Geometry) (n : ℕ) (a b : List ℕ) → IsTidy g a → Cleanings g n a b → Finishes g a b (collecting_to 1) (collecting_to (n + 1))
+turn_goes g n a b t before = record { needs = before.tidy; cut = λ c cut. keeps-on g a b c (both_keep g a b t before.tidy before.table) cut; done = λ c ok one. cleanings_on g n a b c before one }
 
-  -- the chosen block is cleaned
-  module _ (block : ℕ) (found : Option ℕ) (is : found ≡ Some block) {old mid : D} (reads : OnlyReads nor old mid) (told : nor.tells old → IsTidy g (nor.bytes old) → found ≡ chosen_block g (nor.bytes old)) (h : Geometry) (e : h ≡ g) where
-    can : (tells : nor.tells old) → IsTidy g (nor.bytes old) → CanCleanBlock g (nor.bytes old) block
-    can tells t = chosen_can g (nor.bytes old) block t (sym (told tells t) ∙ is)
+pub turn_stops : (g : Geometry) (goal : Goal) (n : ℕ) (a b : List ℕ) → IsTidy g a → Cleanings g n a b → Finishes g a b (stopping goal) (collecting goal)
+turn_stops g goal n a b t before = record {
+  needs = before.tidy;
+  cut = λ c cut. keeps-on g a b c (both_keep g a b t before.tidy before.table) cut;
+  done = λ c met stops. record { n = n; cleanings = rw stops.0 before; stops = rw stops.0 stops.1 };
+}
 
-    pub chosen_there : nor.tells old → IsTidy g (nor.bytes old) → CanCleanBlock h (nor.bytes mid) block
-    chosen_there tells t = rw (e, reads.bytes) (can tells t)
+-- whether collection is stuck, after it
+abbrev pub telling : Step Bool
+telling = record { needs = IsTidy; cut = Keeps; done = λ g was now stuck. (now ≡ was) × (stuck ≡ is_stuck g was) }
 
-    pub chosen_changes : {new : D} → Changes nor mid new (λ was image. CanCleanBlock h was block → CleanBlockCut h block was image) → Changes nor old new (Keeping g)
-    chosen_changes {new} change =
-        wider (after_reads reads (subst (λ (k : Geometry). Changes nor mid new (λ was image. CanCleanBlock k was block → CleanBlockCut k block was image)) e change))
-        (λ tells image cut t. (cut (can tells t)).keeps)
+pub packing_begins : (g : Geometry) (a : List ℕ) → IsTidy g a → Begins g a (collecting Packed) packing
+packing_begins g a t = record { needs = t; cut = λ c cut. cut }
 
-    pub chosen_cleaned : {new : D} → (nor.tells old → IsImage g (nor.bytes old)) → (nor.tells old → IsImage g (nor.bytes new)) → (nor.tells mid → CanCleanBlock h (nor.bytes mid) block → CleanedBlock h block (nor.bytes mid) (nor.bytes new)) →
-        nor.tells old → IsTidy g (nor.bytes old) → Cleanings g 1 (nor.bytes old) (nor.bytes new)
-    chosen_cleaned {new} image image_now done tells t =
-        let there : CleanedBlock g block (nor.bytes old) (nor.bytes new) = rw (e, reads.bytes) at (done (reads.told tells) (chosen_there tells t)) in
-        one_cleaned g (nor.bytes old) (nor.bytes new) block (image tells) (image_now tells) (can tells t) there
+pub packing_ends : (g : Geometry) (met : Bool) (a b : List ℕ) → IsImage g a → IsTidy g a → Collected g Packed met a b → Finishes g a b telling packing
+packing_ends g met a b is t all = record {
+  needs = all.cleanings.tidy;
+  cut = λ c cut. keeps-on g a b c (both_keep g a b t all.cleanings.tidy all.cleanings.table) cut;
+  done = λ c stuck told. rw told.0 (by_stuck stuck told.1);
+}
+  where
+    by_stuck : (stuck : Bool) → stuck ≡ is_stuck g b → PackedOrStuck g stuck a b
+    by_stuck true e = is_stuck_there g met a b is t all (sym e)
+    by_stuck false e = is_compact g met a b is t all (sym e)
 
--- ---- a turn after others, over a device
-
-module _ (g : Geometry) {D : Type 0} (nor : NorOf D) (n : ℕ) (h : Geometry) (e : h ≡ g) (old mid : D) (so_far : nor.tells old → IsTidy g (nor.bytes old) → Cleanings g n (nor.bytes old) (nor.bytes mid)) (on : nor.tells old → nor.tells mid) where
-  tidy_there : nor.tells old → IsTidy g (nor.bytes old) → IsTidy h (nor.bytes mid)
-  tidy_there tells t = rw e (so_far tells t).tidy
-
-  pub pack_goes : (more : Bool) (c : List ℕ) → more ≡ true → (nor.tells mid → IsTidy h (nor.bytes mid) → PackTurn h more (nor.bytes mid) c) → nor.tells old → IsTidy g (nor.bytes old) → Cleanings g (n + 1) (nor.bytes old) c
-  pack_goes more c is turn tells t = cleanings_on g n (nor.bytes old) (nor.bytes mid) c (so_far tells t) (rw (e, is) at (turn (on tells) (tidy_there tells t)))
-
-  pub pack_never : {Says : Type 0} (c : List ℕ) → (nor.tells mid → IsTidy h (nor.bytes mid) → Says → IsStuck h (nor.bytes mid) c) → nor.tells old → CanClean g (nor.bytes old) → Says → ⊥
-  pack_never c turn tells can says =
-      let stuck : IsStuck g (nor.bytes mid) c = rw e at (turn (on tells) (tidy_there tells can.tidy) says) in
-      never_stuck_there g (nor.bytes old) c can (stuck_after g n (nor.bytes old) (nor.bytes mid) c (so_far tells can.tidy) stuck)
-
-  -- there are never so many turns
-  pub never_ends : 2 ^ 64 - 1 ≤ n → nor.tells old → IsTidy g (nor.bytes old) → ⊥
-  never_ends all tells t = let few = cleanings_few g n (nor.bytes old) (nor.bytes mid) t (so_far tells t) in omega (arith, few, all)
-
-  module _ (i d : ℕ) where
-    pub idle_then : {new : D} → (nor.tells old → IsTidy g (nor.bytes old) → IsReady g (nor.bytes old) i d → OnlyReads nor old mid) → (nor.tells mid → IsTidy h (nor.bytes mid) → IsReady h (nor.bytes mid) i d → OnlyReads nor mid new) →
-        nor.tells old → IsTidy g (nor.bytes old) → IsReady g (nor.bytes old) i d → OnlyReads nor old new
-    idle_then first second tells t ready = let before = first tells t ready in reads_then before (second (on tells) (tidy_there tells t) (rw (e, before.bytes) ready))
-
-    pub room_goes : (more : Bool) (c : List ℕ) → more ≡ true → (nor.tells mid → IsTidy h (nor.bytes mid) → RoomTurn h i d more (nor.bytes mid) c) → nor.tells old → IsTidy g (nor.bytes old) → Cleanings g (n + 1) (nor.bytes old) c
-    room_goes more c is turn tells t = cleanings_on g n (nor.bytes old) (nor.bytes mid) c (so_far tells t) (rw (e, is) at (turn (on tells) (tidy_there tells t)))
-
-    pub room_never : {Says : Type 0} (c : List ℕ) → (nor.tells mid → IsTidy h (nor.bytes mid) → Says → IsTight h i d (nor.bytes mid) c) → nor.tells old → CanClean g (nor.bytes old) → HasRoomFor g (nor.bytes old) i d → Says → ⊥
-    room_never c turn tells can room says =
-        let tight : IsTight g i d (nor.bytes mid) c = rw e at (turn (on tells) (tidy_there tells can.tidy) says) in
-        never_tight g i d (nor.bytes old) c can room (tight_after g i d n (nor.bytes old) (nor.bytes mid) c (so_far tells can.tidy) tight)
-
--- an answer that isn't Tight has another cause
-pub other_cause : {T : Type 0} (why : RoomErr) → (IsErrOf {T = T} (Err why) Tight → ⊥) → why ≢ Tight
-other_cause why not_tight e = not_tight (ap (λ (w : RoomErr). Err w) e)
+-- where the goal was met at first nothing is changed
+pub idle_then : {N T : Type 0} {nor : NorOf N} {old mid : View N nor} (new : View N nor) {r : Result (Unit {0}) T} {errors : Errors T} (goal : Goal) {n : ℕ} → Stepped errors old mid r (collecting_to n) →
+    (nor.tells old.nor.now → IsTidy old.geometry (nor.bytes old.nor.now) → IsMet old.geometry (nor.bytes old.nor.now) goal → OnlyReads nor old.nor.now mid.nor.now) →
+    (nor.tells mid.nor.now → IsTidy mid.geometry (nor.bytes mid.nor.now) → IsMet mid.geometry (nor.bytes mid.nor.now) goal → OnlyReads nor mid.nor.now new.nor.now) →
+    nor.tells old.nor.now → IsTidy old.geometry (nor.bytes old.nor.now) → IsMet old.geometry (nor.bytes old.nor.now) goal → OnlyReads nor old.nor.now new.nor.now
+idle_then new goal call first second tells t met =
+    let reads = first tells t met in
+    let same = call.framed.same.geometry in
+    reads_then reads (second (reads.told tells) (rw (same, reads.bytes) t) (rw (same, reads.bytes) met))

@@ -1,14 +1,13 @@
--- Moving a data page, over a device.
-use Rattle.std.proofs.Common.{◌≡◌, ◌≢◌, ℕ, ◌+◌, ◌*◌, ◌%◌, ◌<◌, ◌≤◌, List, [], ◌∷◌, length, take, set, slice_index, true, false, Option, Some, ap, sym, refl, ◌∙◌, arith, inl, inr, subst}
+-- Moving a data page: its programs one after the other.
+use Rattle.std.proofs.Common.{◌≡◌, ◌≢◌, ℕ, ◌+◌, ◌*◌, ◌<◌, ◌≤◌, List, [], ◌∷◌, take, set, slice_index, true, false, Option, Some, ap, sym, refl, ◌∙◌, arith, inl, inr, subst}
 use Rattle.std.specs.Prelude.{bit_and}
 use Rattle.std.proofs.lemmas.Option.{none-some}
 use Rattle.geometry.specs.declared.geometry.Geometry.{Geometry}
 use Rattle.table_model.specs.declared.error.Tag.{Tag}
 use Rattle.nor_core.specs.Flash.{HalfProgrammed, programmed}
-use Rattle.nor_core.specs.declared.state.NorState.{Ghosts as NorOf}
-use Rattle.nor_core.specs.Device.{Changes, OnlyReads}
-use Rattle.nor_core.proofs.Cuts.{wider, go_on, after_reads, unchanged}
+use Rattle.flash_view.specs.declared.kinds.Kind.{Kind}
 use Rattle.flash_view.specs.declared.kinds.Kind.TheVariants.{Index, Data}
+use Rattle.flash_view.specs.Steps.{Step, Begins, Finishes, making}
 use Rattle.image_model.specs.Within.{sizes}
 use Rattle.image_model.specs.Kinds.{is_index_page}
 use Rattle.image_model.specs.Live.{live_at}
@@ -21,6 +20,7 @@ use Rattle.image_laws.proofs.Sounding.{keeps-itself}
 use Rattle.image_laws.proofs.SpareKill.{tidy-has_magics}
 use Rattle.image_laws.proofs.TidySteps.{tidy-is_tidy}
 use Rattle.image_laws.proofs.Frames.{live_parts}
+use Rattle.image_laws.proofs.FreeBlocks.{free_blocks-fall}
 use Rattle.image_laws.proofs.LiveStep.{put-changes}
 use Rattle.image_laws.proofs.Placing.{page_byte}
 use Rattle.image_laws.proofs.PutStep.{placing-is_sound}
@@ -30,10 +30,39 @@ use Rattle.page_put.proofs.Finishing.{programs_place, finish_clears_final}
 use Rattle.page_put.proofs.Killed.{flags_left, kill_cut, kill_done}
 use Rattle.image_model.specs.Sound.{HasMagics}
 use Rattle.block_gc.specs.Moves.{MoveCut}
-use Rattle.block_gc.specs.DataMoves.{CanCopyData, CanMoveData, IsTagOf, IsNamedBy, IsFoundFor, IsLoaded, IsRenamed, CopiedData, DataMoveCut, MovedData}
-use Rattle.block_gc.proofs.DataCopies.{is_ready, copying_left, copying_done}
-use Rattle.block_gc.proofs.DataCopies.{magics as copy_magics}
+use Rattle.block_gc.specs.DataMoves.{CanCopyData, CanMoveData, IsTagOf, IsNamedBy, IsFoundFor, CopiedData, DataMoveCut, MovedData, IsCopiedSince, copying_data, naming_copy, moving_with_index}
+use Rattle.page_renew.specs.Built.{IsLoaded, IsRenamed}
+use Rattle.block_gc.proofs.DataCopies.{is_ready, copying_left, copying_done, magics as copy_magics}
 use Rattle.block_gc.proofs.DataRenewed.{index_live, placed_is, ready, magics, placing_left, killing_left, last_left, moved_done}
+
+-- ---- the programs of a put and of a kill as steps, and a step as far as its first programs bring it
+
+abbrev pub placing : ℕ → Kind → Tag → List ℕ → Step (Unit {0})
+placing p kind tag work = making (λ h. IsPlacing h p (placed_page h kind tag work)) (λ h. with_page h p (placed_page h kind tag work))
+
+abbrev pub finishing : ℕ → Step (Unit {0})
+finishing p = making (λ h. HalfProgrammed (p * h.page + 4) (0xFD ∷ [])) (λ h a. programmed a (p * h.page + 4) (0xFD ∷ []))
+
+abbrev pub killing_by : ℕ → Step (Unit {0})
+killing_by p = making (λ h. HalfKilled h p) (λ h. killed h p)
+
+abbrev pub so_far : Step (Unit {0}) → (Geometry → List ℕ → List ℕ) → Step (Unit {0})
+so_far whole make = record { needs = whole.needs; cut = whole.cut; done = λ g was now ok. now ≡ make g was }
+
+pub so_begins : {S : Type 0} {g : Geometry} {a : List ℕ} {first : Step S} {whole : Step (Unit {0})} {make : Geometry → List ℕ → List ℕ} → Begins g a first whole → Begins g a first (so_far whole make)
+so_begins h = record { needs = h.needs; cut = h.cut }
+
+pub so_on : {g : Geometry} {a : List ℕ} (whole : Step (Unit {0})) {make next : Geometry → List ℕ → List ℕ} → whole.needs g a → Begins g a (so_far whole make) (so_far whole next)
+so_on whole need = record { needs = need; cut = λ c cut. cut }
+
+pub so_ends : {g : Geometry} {a : List ℕ} (whole : Step (Unit {0})) {make : Geometry → List ℕ → List ℕ} → whole.needs g a → Begins g a (so_far whole make) whole
+so_ends whole need = record { needs = need; cut = λ c cut. cut }
+
+abbrev pub index_put_by : ℕ → Tag → List ℕ → Geometry → List ℕ → List ℕ
+index_put_by j t work g a = programmed (with_page g j (placed_page g Index t work) a) (j * g.page + 4) (0xFD ∷ [])
+
+abbrev pub index_killed_by : ℕ → Tag → List ℕ → ℕ → Geometry → List ℕ → List ℕ
+index_killed_by j t work w g a = killed g w (programmed (with_page g j (placed_page g Index t work) a) (j * g.page + 4) (0xFD ∷ []))
 
 -- the flags of a page that is placed
 placed_flags_at : (g : Geometry) (a : List ℕ) (p : ℕ) (page : List ℕ) (fin flags : ℕ) → IsImage g a → HasMagics g a → IsFreePage g a p → IsReadyPage g page fin → slice_index page 4 ≡ flags → slice_index (with_page g p page a) (p * g.page + 4) ≡ flags
@@ -71,27 +100,16 @@ module _ (g : Geometry) (a0 : List ℕ) (o p : ℕ) (tag : Tag) (work : List ℕ
   data_done : CopiedData g o p a0 a4
   data_done = copying_done g a0 o p tag work is can of.bytes of.is_live of.id of.span loaded (with_entry g p data_page a0) (with_header g p data_page a0) a3 a4 data_put
 
-module _ (g : Geometry) (o p : ℕ) (tag : Tag) (work : List ℕ) {D : Type 0} {nor : NorOf D} {old m1 : D} (size : ℕ) (sized : nor.tells old → length (nor.bytes old) ≡ size) (fits : g.blocks * g.block ≤ size)
-    (tagged : nor.tells old → CanCopyData g (nor.bytes old) o p → IsTagOf g (nor.bytes old) o tag) (loaded : nor.tells old → IsLoaded g (nor.bytes old) o work) (first : Changes nor old m1 (IsPlacing g p (placed_page g Data tag work))) where
-  copy_image : nor.tells old → IsImage g (nor.bytes old)
-  copy_image tells = record { len = rw (sized tells) fits }
+  -- as the two calls that make it
+  pub copy_begins : Begins g a0 (placing p Data tag work) (copying_data o p)
+  copy_begins = record { needs = tt; cut = data_placing }
 
-  pub copy_cut1 : Changes nor old m1 (λ was image. CanCopyData g was o p → MoveCut g p was image)
-  copy_cut1 = wider first (λ tells image cut can. data_placing g (nor.bytes old) o p tag work (copy_image tells) can (tagged tells can) (loaded tells) image cut)
-
-  module _ (done1 : nor.tells old → nor.bytes m1 ≡ with_page g p (placed_page g Data tag work) (nor.bytes old)) {m2 : D} (g1 : Geometry) (same1 : g1 ≡ g) (second : Changes nor m1 m2 (HalfProgrammed (p * g1.page + 4) (0xFD ∷ []))) where
-    copy_at : p * g1.page + 4 ≡ p * g.page + 4
-    copy_at = ap (λ (x : Geometry). p * x.page + 4) same1
-
-    pub copy_cut2 : Changes nor old m2 (λ was image. CanCopyData g was o p → MoveCut g p was image)
-    copy_cut2 = go_on copy_cut1 second (λ tells image before half can. data_finishing g (nor.bytes old) o p tag work (copy_image tells) can (tagged tells can) (loaded tells) image
-        (subst (λ (l : List ℕ). HalfProgrammed (p * g.page + 4) (0xFD ∷ []) l image) (done1 tells) (subst (λ (n : ℕ). HalfProgrammed n (0xFD ∷ []) (nor.bytes m1) image) copy_at half)))
-
-    pub copy_done2 : nor.tells old → CanCopyData g (nor.bytes old) o p → nor.bytes m2 ≡ programmed (nor.bytes m1) (p * g1.page + 4) (0xFD ∷ []) → CopiedData g o p (nor.bytes old) (nor.bytes m2)
-    copy_done2 tells can is2 =
-        let now : nor.bytes m2 ≡ programmed (with_page g p (placed_page g Data tag work) (nor.bytes old)) (p * g.page + 4) (0xFD ∷ []) =
-        is2 ∙ ap (λ (n : ℕ). programmed (nor.bytes m1) n (0xFD ∷ [])) copy_at ∙ ap (λ (l : List ℕ). programmed l (p * g.page + 4) (0xFD ∷ [])) (done1 tells) in
-        subst (λ (l : List ℕ). CopiedData g o p (nor.bytes old) l) (sym now) (data_done g (nor.bytes old) o p tag work (copy_image tells) can (tagged tells can) (loaded tells))
+  pub copy_ends : (b : List ℕ) → b ≡ a3 → Finishes g a0 b (finishing p) (copying_data o p)
+  copy_ends b e = record {
+    needs = tt;
+    cut = λ c cut. data_finishing c (subst (λ (l : List ℕ). HalfProgrammed (p * g.page + 4) (0xFD ∷ []) l c) e cut);
+    done = λ c ok now. subst (λ (l : List ℕ). CopiedData g o p a0 l) (sym (now ∙ ap (λ (l : List ℕ). programmed l (p * g.page + 4) (0xFD ∷ [])) e)) data_done;
+  }
 
 -- nothing was programmed before
 pub copy_stays : (g : Geometry) (a : List ℕ) (o p : ℕ) → CanCopyData g a o p → MoveCut g p a a
@@ -100,14 +118,6 @@ copy_stays g a o p can = record {
   free = omega arith;
   used = λ used. omega arith;
 }
-
-pub copy_looked : (g : Geometry) (o p : ℕ) {D : Type 0} {nor : NorOf D} {old new : D} → OnlyReads nor old new → Changes nor old new (λ was image. CanCopyData g was o p → MoveCut g p was image)
-copy_looked g o p {D} {nor} {old} {new} reads = after_reads reads (unchanged new (λ was image. CanCopyData g was o p → MoveCut g p was image) (λ tells can. copy_stays g (nor.bytes new) o p can))
-
-pub copy_before : (g : Geometry) (o p : ℕ) {D : Type 0} {nor : NorOf D} {old mid new : D} → OnlyReads nor old mid → (g1 : Geometry) → g1 ≡ g → Changes nor mid new (λ was image. CanCopyData g1 was o p → MoveCut g1 p was image) →
-    Changes nor old new (λ was image. CanCopyData g was o p → MoveCut g p was image)
-copy_before g o p {D} {nor} {old} {mid} {new} reads g1 same change =
-    after_reads reads (subst (λ (x : Geometry). Changes nor mid new (λ was image. CanCopyData x was o p → MoveCut x p was image)) same change)
 
 -- ---- the copy of the index page, and the kills
 
@@ -172,73 +182,59 @@ module _ (g : Geometry) (a0 b0 : List ℕ) (o p j w : ℕ) (tag : Tag) (can : Ca
   all_done : MovedData g o p j a0 (killed g o b6)
   all_done = moved_done g a0 b0 o p j w tag can copied named work renamed (with_entry g j page b0) (with_header g j page b0) b3 b4 (deleted g w b4) b6 index_put index_kills (deleted g o b6) (killed g o b6) data_kills
 
--- what the renewal of the index page claims at each cut, since the first image
-abbrev pub RenewCut : Geometry → (o p j w : ℕ) (tag : Tag) (was image : List ℕ) → Type 0
-RenewCut g o p j w tag was image = (first : List ℕ) → CanMoveData g first o p j → CopiedData g o p first was → IsNamedBy g first o w tag → DataMoveCut g p j first image
+-- the four calls that make the renewal, told since the image before the copy
+module _ (g : Geometry) (a0 b0 : List ℕ) (o p j w : ℕ) (tag : Tag) (since : IsCopiedSince g o p w j tag a0 b0) (t : Tag) (t_id : t.id ≡ tag.id) (t_span : t.span ≡ index_span g tag.span) (work : List ℕ)
+    (built : is_index_page (live_at g b0 w) ≡ true → IsRenamed g b0 w tag.span p work) where
+  renewed : IsRenamed g b0 w tag.span p work
+  renewed = built (index_live g a0 b0 o p j w tag since.can since.copied since.named)
 
-module _ (g : Geometry) (o p j w : ℕ) (tag : Tag) (t : Tag) (t_id : t.id ≡ tag.id) (t_span : t.span ≡ index_span g tag.span) (work : List ℕ) {D : Type 0} {nor : NorOf D} {old m1 : D}
-    (built : nor.tells old → is_index_page (live_at g (nor.bytes old) w) ≡ true → IsRenamed g (nor.bytes old) w tag.span p work) (first : Changes nor old m1 (IsPlacing g j (placed_page g Index t work))) where
-  renamed_at : (tells : nor.tells old) (a0 : List ℕ) (can : CanMoveData g a0 o p j) (copied : CopiedData g o p a0 (nor.bytes old)) → IsNamedBy g a0 o w tag → IsRenamed g (nor.bytes old) w tag.span p work
-  renamed_at tells a0 can copied named = built tells (index_live g a0 (nor.bytes old) o p j w tag can copied named)
+  page_at : placed_page g Index t work ≡ set (take g.page work) 4 0xFA
+  page_at = placed_is g a0 b0 o p j w tag since.can since.copied since.named work renewed t t_id t_span
 
-  page_at : (tells : nor.tells old) (a0 : List ℕ) (can : CanMoveData g a0 o p j) (copied : CopiedData g o p a0 (nor.bytes old)) (named : IsNamedBy g a0 o w tag) → placed_page g Index t work ≡ set (take g.page work) 4 0xFA
-  page_at tells a0 can copied named = placed_is g a0 (nor.bytes old) o p j w tag can copied named work (renamed_at tells a0 can copied named) t t_id t_span
+  three : with_page g j (placed_page g Index t work) b0 ≡ with_page g j (set (take g.page work) 4 0xFA) b0
+  three = ap (λ (l : List ℕ). with_page g j l b0) page_at
 
-  pub renew_cut1 : Changes nor old m1 (RenewCut g o p j w tag)
-  renew_cut1 = wider first (λ tells image cut a0 can copied named. index_placing g a0 (nor.bytes old) o p j w tag can copied named work (renamed_at tells a0 can copied named) image
-      (subst (λ (l : List ℕ). IsPlacing g j l (nor.bytes old) image) (page_at tells a0 can copied named) cut))
+  four : index_put_by j t work g b0 ≡ programmed (with_page g j (set (take g.page work) 4 0xFA) b0) (j * g.page + 4) (0xFD ∷ [])
+  four = ap (λ (l : List ℕ). programmed l (j * g.page + 4) (0xFD ∷ [])) three
 
-  module _ (done1 : nor.tells old → nor.bytes m1 ≡ with_page g j (placed_page g Index t work) (nor.bytes old)) {m2 : D} (g1 : Geometry) (same1 : g1 ≡ g) (second : Changes nor m1 m2 (HalfProgrammed (j * g1.page + 4) (0xFD ∷ []))) where
-    stands1 : (tells : nor.tells old) → placed_page g Index t work ≡ set (take g.page work) 4 0xFA → nor.bytes m1 ≡ with_page g j (set (take g.page work) 4 0xFA) (nor.bytes old)
-    stands1 tells same = done1 tells ∙ ap (λ (l : List ℕ). with_page g j l (nor.bytes old)) same
+  pub renew_begins : Begins g b0 (placing j Index t work) (naming_copy o p w j tag a0)
+  renew_begins = record { needs = tt; cut = λ c cut. index_placing g a0 b0 o p j w tag since.can since.copied since.named work renewed c (subst (λ (l : List ℕ). IsPlacing g j l b0 c) page_at cut) }
 
-    at : j * g1.page + 4 ≡ j * g.page + 4
-    at = ap (λ (x : Geometry). j * x.page + 4) same1
+  pub renew_finishes : (b : List ℕ) → b ≡ with_page g j (placed_page g Index t work) b0 → Finishes g b0 b (finishing j) (so_far (naming_copy o p w j tag a0) (index_put_by j t work))
+  renew_finishes b e = record {
+    needs = tt;
+    cut = λ c cut. index_finishing g a0 b0 o p j w tag since.can since.copied since.named work renewed c (subst (λ (l : List ℕ). HalfProgrammed (j * g.page + 4) (0xFD ∷ []) l c) (e ∙ three) cut);
+    done = λ c ok now. now ∙ ap (λ (l : List ℕ). programmed l (j * g.page + 4) (0xFD ∷ [])) e;
+  }
 
-    pub renew_cut2 : Changes nor old m2 (RenewCut g o p j w tag)
-    renew_cut2 = go_on renew_cut1 second (λ tells image before half a0 can copied named. index_finishing g a0 (nor.bytes old) o p j w tag can copied named work (renamed_at tells a0 can copied named) image
-        (subst (λ (l : List ℕ). HalfProgrammed (j * g.page + 4) (0xFD ∷ []) l image) (stands1 tells (page_at tells a0 can copied named)) (subst (λ (n : ℕ). HalfProgrammed n (0xFD ∷ []) (nor.bytes m1) image) at half)))
+  pub renew_kills : (b : List ℕ) → b ≡ index_put_by j t work g b0 → Finishes g b0 b (killing_by w) (so_far (naming_copy o p w j tag a0) (index_killed_by j t work w))
+  renew_kills b e = record {
+    needs = tt;
+    cut = λ c cut. index_killing g a0 b0 o p j w tag since.can since.copied since.named work renewed c (subst (λ (l : List ℕ). HalfKilled g w l c) (e ∙ four) cut);
+    done = λ c ok now. now ∙ ap (killed g w) e;
+  }
 
-    module _ (done2 : nor.tells m1 → nor.bytes m2 ≡ programmed (nor.bytes m1) (j * g1.page + 4) (0xFD ∷ [])) {m3 : D} (g2 : Geometry) (same2 : g2 ≡ g) (third : Changes nor m2 m3 (HalfKilled g2 w)) where
-      stands2 : (tells : nor.tells old) → placed_page g Index t work ≡ set (take g.page work) 4 0xFA → nor.bytes m2 ≡ programmed (with_page g j (set (take g.page work) 4 0xFA) (nor.bytes old)) (j * g.page + 4) (0xFD ∷ [])
-      stands2 tells same = done2 (first.cuts.told tells) ∙ ap (λ (n : ℕ). programmed (nor.bytes m1) n (0xFD ∷ [])) at ∙ ap (λ (l : List ℕ). programmed l (j * g.page + 4) (0xFD ∷ [])) (stands1 tells same)
-
-      pub renew_cut3 : Changes nor old m3 (RenewCut g o p j w tag)
-      renew_cut3 = go_on renew_cut2 third (λ tells image before half a0 can copied named. index_killing g a0 (nor.bytes old) o p j w tag can copied named work (renamed_at tells a0 can copied named) image
-          (subst (λ (l : List ℕ). HalfKilled g w l image) (stands2 tells (page_at tells a0 can copied named)) (subst (λ (x : Geometry). HalfKilled x w (nor.bytes m2) image) same2 half)))
-
-      module _ (done3 : nor.tells m2 → nor.bytes m3 ≡ killed g2 w (nor.bytes m2)) {new : D} (g3 : Geometry) (same3 : g3 ≡ g) (last : Changes nor m3 new (HalfKilled g3 o)) where
-        stands3 : (tells : nor.tells old) → placed_page g Index t work ≡ set (take g.page work) 4 0xFA → nor.bytes m3 ≡ killed g w (programmed (with_page g j (set (take g.page work) 4 0xFA) (nor.bytes old)) (j * g.page + 4) (0xFD ∷ []))
-        stands3 tells same = done3 (second.cuts.told (first.cuts.told tells)) ∙ ap (λ (x : Geometry). killed x w (nor.bytes m2)) same2 ∙ ap (killed g w) (stands2 tells same)
-
-        pub renew_cut4 : Changes nor old new (RenewCut g o p j w tag)
-        renew_cut4 = go_on renew_cut3 last (λ tells image before half a0 can copied named. data_killing g a0 (nor.bytes old) o p j w tag can copied named work (renamed_at tells a0 can copied named) image
-            (subst (λ (l : List ℕ). HalfKilled g o l image) (stands3 tells (page_at tells a0 can copied named)) (subst (λ (x : Geometry). HalfKilled x o (nor.bytes m3) image) same3 half)))
-
-        pub renew_done : nor.tells old → (a0 : List ℕ) → CanMoveData g a0 o p j → CopiedData g o p a0 (nor.bytes old) → IsNamedBy g a0 o w tag → nor.bytes new ≡ killed g3 o (nor.bytes m3) → MovedData g o p j a0 (nor.bytes new)
-        renew_done tells a0 can copied named is4 =
-            let now : nor.bytes new ≡ killed g o (killed g w (programmed (with_page g j (set (take g.page work) 4 0xFA) (nor.bytes old)) (j * g.page + 4) (0xFD ∷ []))) =
-            is4 ∙ ap (λ (x : Geometry). killed x o (nor.bytes m3)) same3 ∙ ap (killed g o) (stands3 tells (page_at tells a0 can copied named)) in
-            subst (λ (l : List ℕ). MovedData g o p j a0 l) (sym now) (all_done g a0 (nor.bytes old) o p j w tag can copied named work (renamed_at tells a0 can copied named))
-
-pub renew_before : (g : Geometry) (o p j w : ℕ) (tag : Tag) {D : Type 0} {nor : NorOf D} {old mid new : D} → OnlyReads nor old mid → (g1 : Geometry) → g1 ≡ g → Changes nor mid new (RenewCut g1 o p j w tag) → Changes nor old new (RenewCut g o p j w tag)
-renew_before g o p j w tag {D} {nor} {old} {mid} {new} reads g1 same change = after_reads reads (subst (λ (x : Geometry). Changes nor mid new (RenewCut x o p j w tag)) same change)
+  pub renew_ends : (b : List ℕ) → b ≡ index_killed_by j t work w g b0 → Finishes g b0 b (killing_by o) (naming_copy o p w j tag a0)
+  renew_ends b e =
+      let six : b ≡ killed g w (programmed (with_page g j (set (take g.page work) 4 0xFA) b0) (j * g.page + 4) (0xFD ∷ [])) = e ∙ ap (killed g w) four in
+      record {
+        needs = tt;
+        cut = λ c cut. data_killing g a0 b0 o p j w tag since.can since.copied since.named work renewed c (subst (λ (l : List ℕ). HalfKilled g o l c) six cut);
+        done = λ c ok now. subst (λ (l : List ℕ). MovedData g o p j a0 l) (sym (now ∙ ap (killed g o) six)) (all_done g a0 b0 o p j w tag since.can since.copied since.named work renewed);
+      }
 
 -- what stands before, as what the renewal leaves
-pub renew_stays : (g : Geometry) (o p j w : ℕ) (tag : Tag) (a0 b : List ℕ) → CanMoveData g a0 o p j → CopiedData g o p a0 b → DataMoveCut g p j a0 b
-renew_stays g o p j w tag a0 b can copied =
-    let fall = Rattle.image_laws.proofs.FreeBlocks.free_blocks-fall g a0 b p copied.put.agree in
+pub renew_stays : (g : Geometry) (o p j w : ℕ) (tag : Tag) (a0 b : List ℕ) → IsCopiedSince g o p w j tag a0 b → DataMoveCut g p j a0 b
+renew_stays g o p j w tag a0 b since =
+    let fall = free_blocks-fall g a0 b p since.copied.put.agree in
     let most = fall.0 in
     record {
-      keeps = copied.keeps;
+      keeps = since.copied.keeps;
       free = omega (arith, most);
       data_used = λ u. let x = fall.1 u in omega (arith, x);
       index_used = λ u. most;
       used = λ u v. fall.1 u;
     }
-
-pub renew_looked : (g : Geometry) (o p j w : ℕ) (tag : Tag) {D : Type 0} {nor : NorOf D} {old new : D} → OnlyReads nor old new → Changes nor old new (RenewCut g o p j w tag)
-renew_looked g o p j w tag {D} {nor} {old} {new} reads = after_reads reads (unchanged new (RenewCut g o p j w tag) (λ tells a0 can copied named. renew_stays g o p j w tag a0 (nor.bytes new) can copied))
 
 -- ---- the whole move
 
@@ -257,23 +253,11 @@ wide_cut g p j was image cut =
       used = λ u v. cut.used u;
     }
 
-none_cut : (g : Geometry) (a : List ℕ) (o p j : ℕ) → CanMoveData g a o p j → DataMoveCut g p j a a
-none_cut g a o p j can = wide_cut g p j a a (copy_stays g a o p can.copy)
+pub none_moved : (g : Geometry) (a : List ℕ) (o p j : ℕ) → CanMoveData g a o p j → DataMoveCut g p j a a
+none_moved g a o p j can = wide_cut g p j a a (copy_stays g a o p can.copy)
 
-pub move_looked : (g : Geometry) (o p j : ℕ) {D : Type 0} {nor : NorOf D} {old new : D} → OnlyReads nor old new → Changes nor old new (λ was image. CanMoveData g was o p j → DataMoveCut g p j was image)
-move_looked g o p j {D} {nor} {old} {new} reads = after_reads reads (unchanged new (λ was image. CanMoveData g was o p j → DataMoveCut g p j was image) (λ tells can. none_cut g (nor.bytes new) o p j can))
+pub copy_first : (g : Geometry) (a : List ℕ) (o p j : ℕ) → CanMoveData g a o p j → Begins g a (copying_data o p) (moving_with_index o p j)
+copy_first g a o p j can = record { needs = can.copy; cut = λ c cut. wide_cut g p j a c cut }
 
-module _ (g : Geometry) (o p j w : ℕ) (tag : Tag) {D : Type 0} {nor : NorOf D} {old mid m1 : D} (reads : OnlyReads nor old mid) (g1 : Geometry) (same1 : g1 ≡ g) (copying : Changes nor mid m1 (λ was image. CanCopyData g1 was o p → MoveCut g1 p was image)) where
-  pub move_cut1 : Changes nor old m1 (λ was image. CanMoveData g was o p j → DataMoveCut g p j was image)
-  move_cut1 = wider (copy_before g o p reads g1 same1 copying) (λ tells image cut can. wide_cut g p j (nor.bytes old) image (cut can.copy))
-
-  module _ (copied : nor.tells mid → CanCopyData g1 (nor.bytes mid) o p → CopiedData g1 o p (nor.bytes mid) (nor.bytes m1)) (named : nor.tells old → CanMoveData g (nor.bytes old) o p j → IsNamedBy g (nor.bytes old) o w tag) where
-    pub copied_is : nor.tells old → CanMoveData g (nor.bytes old) o p j → CopiedData g o p (nor.bytes old) (nor.bytes m1)
-    copied_is tells can =
-        let copy = can.copy in
-        let before : CanCopyData g1 (nor.bytes mid) o p = rw (same1, reads.bytes) copy in
-        rw (same1, reads.bytes) at (copied (reads.told tells) before)
-
-    pub move_cut2 : {new : D} (g2 : Geometry) → g2 ≡ g → Changes nor m1 new (RenewCut g2 o p j w tag) → Changes nor old new (λ was image. CanMoveData g was o p j → DataMoveCut g p j was image)
-    move_cut2 {new} g2 same2 renewing = go_on move_cut1 (subst (λ (x : Geometry). Changes nor m1 new (RenewCut x o p j w tag)) same2 renewing)
-        (λ tells image before after can. after (nor.bytes old) can (copied_is tells can) (named tells can))
+pub then_names : (g : Geometry) (a b : List ℕ) (o p j w : ℕ) (tag : Tag) → CanMoveData g a o p j → IsNamedBy g a o w tag → CopiedData g o p a b → Finishes g a b (naming_copy o p w j tag a) (moving_with_index o p j)
+then_names g a b o p j w tag can named copied = record { needs = record { can = can; copied = copied; named = named }; cut = λ c cut. cut; done = λ c ok done. done }

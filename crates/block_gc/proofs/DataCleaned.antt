@@ -1,11 +1,8 @@
--- A block whose live data pages were moved out is made fresh, over plain images and over a device.
-use Rattle.std.proofs.Common.{◌≡◌, ℕ, ◌+◌, ◌-◌, ◌<◌, ◌≤◌, ⊎_elim, List, true, false, None, sym, ◌∙◌, subst, arith}
+-- A block whose live data pages were moved out is made fresh.
+use Rattle.std.proofs.Common.{◌≡◌, ℕ, ◌+◌, ◌-◌, ◌<◌, ◌≤◌, ⊎_elim, List, true, false, None, sym, ◌∙◌, arith}
 use Rattle.std.proofs.lemmas.Bool.{cases_lt, false_from_ne_true, leb-true}
 use Rattle.geometry.specs.declared.geometry.Geometry.{Geometry}
 use Rattle.geometry.specs.Numbers.{ceil}
-use Rattle.nor_core.specs.declared.state.NorState.{Ghosts as NorOf}
-use Rattle.nor_core.specs.Device.{OnlyReads, Changes}
-use Rattle.nor_core.proofs.Cuts.{wider, unchanged, go_on, after_reads}
 use Rattle.image_model.specs.Volume.{entries, page_count}
 use Rattle.image_model.specs.Within.{page_number, entry_in}
 use Rattle.image_model.specs.Live.{live_at}
@@ -16,6 +13,7 @@ use Rattle.image_model.specs.Collect.{data_in, free_outside, takes_index, takes_
 use Rattle.image_laws.proofs.Damaged.{any_at}
 use Rattle.image_laws.proofs.Frames.{table_of-same}
 use Rattle.image_laws.proofs.Sounding.{keeps-on}
+use Rattle.flash_view.specs.Steps.{Begins, Finishes, acting}
 use Rattle.room_laws.specs.Counting.{block_counts}
 use Rattle.room_laws.specs.Emptying.{BlockFreed}
 use Rattle.room_laws.proofs.Totals.{ceil-le}
@@ -25,8 +23,8 @@ use Rattle.room_laws.proofs.Moved.{data_takes}
 use Rattle.room_laws.proofs.Freed.{others_stay, emptying_ends}
 use Rattle.free_search.proofs.FreePages.{data_none, data_parts, some_entries}
 use Rattle.page_put.specs.Fresh.{Freshens, IsFresh}
-use Rattle.block_gc.specs.DataEmptied.{blocks_needed, HasDataPlaces, DataTurnCut, DataEmptied}
-use Rattle.block_gc.specs.Cleanings.{CanCleanData, CleanDataCut, CleanedData}
+use Rattle.block_gc.specs.DataEmptied.{blocks_needed, HasDataPlaces, DataTurnCut, DataEmptied, emptying_of_data}
+use Rattle.block_gc.specs.Cleanings.{CanCleanData, CleanDataCut, CleanedData, cleaning_data}
 use Rattle.block_gc.proofs.CleanedBlocks.{tidy_keeps}
 use Rattle.block_gc.proofs.DataTurnCalls.{no_page, dead_of}
 use Rattle.block_gc.proofs.Freshened.{free_falls, fresh_keeps, fresh_live, fresh_tidy}
@@ -128,40 +126,20 @@ module _ (g : Geometry) (block : ℕ) (first a : List ℕ) (is : IsImage g a) (b
 
     pub freed_done : CleanedData g block first b
     freed_done = record {
+      image = let size = fresh.outside.size in let whole = is.len in record { len = omega (arith, size, whole) };
       cleans = emptying_ends g first a b block below can.holds empty.moves freed;
       count = fresh.count ∙ next;
     }
 
--- ---- over a device
+-- ---- the steps
 
-module _ {D : Type 0} {nor : NorOf D} (g : Geometry) (block : ℕ) (below : block < g.blocks) {old : D} where
-  pub data_looked : {new : D} → OnlyReads nor old new → Changes nor old new (λ was image. CanCleanData g was block → CleanDataCut g was image)
-  data_looked {new} reads = after_reads reads (unchanged new (λ was image. CanCleanData g was block → CleanDataCut g was image) (λ tells can. data_stays g (nor.bytes new) block can))
+pub data_empties : (g : Geometry) (a : List ℕ) (block : ℕ) → block < g.blocks → CanCleanData g a block → Begins g a (emptying_of_data block) (cleaning_data block)
+data_empties g a block low can = record { needs = data_places g a block low can; cut = λ x cut. moving_cut g a x block low can cut }
 
-  module _ {m1 : D} (reads : OnlyReads nor old m1) (h1 : Geometry) (e1 : h1 ≡ g) {m2 : D} (second : Changes nor m1 m2 (λ was image. HasDataPlaces h1 was block → DataTurnCut h1 block was image)) where
-    pub data_emptied : Changes nor old m2 (λ was image. CanCleanData g was block → CleanDataCut g was image)
-    data_emptied =
-        wider (after_reads reads (subst (λ (k : Geometry). Changes nor m1 m2 (λ was image. HasDataPlaces k was block → DataTurnCut k block was image)) e1 second))
-        (λ tells image cut can. moving_cut g (nor.bytes old) image block below can (cut (data_places g (nor.bytes old) block below can)))
-
-    module _ (n : ℕ) (pages : n ≡ page_count g) (image : nor.tells m2 → IsImage g (nor.bytes m2)) (done : nor.tells m1 → HasDataPlaces h1 (nor.bytes m1) block → DataEmptied h1 block n (nor.bytes m1) (nor.bytes m2)) where
-      emptied : nor.tells old → CanCleanData g (nor.bytes old) block → DataEmptied g block (page_count g) (nor.bytes old) (nor.bytes m2)
-      emptied tells can =
-          let there : HasDataPlaces g (nor.bytes m1) block → DataEmptied g block n (nor.bytes m1) (nor.bytes m2) = subst (λ (k : Geometry). HasDataPlaces k (nor.bytes m1) block → DataEmptied k block n (nor.bytes m1) (nor.bytes m2)) e1 (done (reads.told tells)) in
-          let here : HasDataPlaces g (nor.bytes old) block → DataEmptied g block n (nor.bytes old) (nor.bytes m2) = subst (λ (l : List ℕ). HasDataPlaces g l block → DataEmptied g block n l (nor.bytes m2)) reads.bytes there in
-          subst (λ (k : ℕ). DataEmptied g block k (nor.bytes old) (nor.bytes m2)) pages (here (data_places g (nor.bytes old) block below can))
-
-      image2 : nor.tells old → IsImage g (nor.bytes m2)
-      image2 tells = image (data_emptied.cuts.told tells)
-
-      module _ (h2 : Geometry) (e2 : h2 ≡ g) {new : D} (third : Changes nor m2 new (Freshens h2 block)) where
-        pub data_freshened : Changes nor old new (λ was image. CanCleanData g was block → CleanDataCut g was image)
-        data_freshened =
-            go_on data_emptied (subst (λ (k : Geometry). Changes nor m2 new (Freshens k block)) e2 third)
-            (λ tells x before cut can. freed_cut g block (nor.bytes old) (nor.bytes m2) (image2 tells) below can (emptied tells can) x cut)
-
-        pub data_cleaned : (count : ℕ) → (nor.tells old → count ≡ next_count g (nor.bytes old)) → (nor.tells m2 → IsFresh h2 block count (nor.bytes m2) (nor.bytes new)) →
-            nor.tells old → CanCleanData g (nor.bytes old) block → CleanedData g block (nor.bytes old) (nor.bytes new)
-        data_cleaned count next fresh tells can =
-            freed_done g block (nor.bytes old) (nor.bytes m2) (image2 tells) below can (emptied tells can) count (nor.bytes new)
-            (subst (λ (k : Geometry). IsFresh k block count (nor.bytes m2) (nor.bytes new)) e2 (fresh (data_emptied.cuts.told tells))) (next tells)
+pub data_freshens : (g : Geometry) (first a : List ℕ) (block count : ℕ) → IsImage g a → block < g.blocks → count ≡ next_count g first → CanCleanData g first block → DataEmptied g block (page_count g) first a →
+    Finishes g first a (acting (λ h. Freshens h block) (λ h. IsFresh h block count)) (cleaning_data block)
+data_freshens g first a block count is below next can empty = record {
+  needs = tt;
+  cut = λ x cut. freed_cut g block first a is below can empty x cut;
+  done = λ b ok fresh. freed_done g block first a is below can empty count b fresh next;
+}

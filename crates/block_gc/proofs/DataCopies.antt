@@ -1,25 +1,21 @@
 -- Putting the copy of a data page, from what its programs leave.
-use Rattle.std.proofs.Common.{◌≡◌, ◌≢◌, ℕ, zero, suc, ◌+◌, ◌-◌, ◌*◌, ◌/◌, ◌%◌, ◌<◌, ◌≤◌, ◌⊎◌, List, [], ◌∷◌, length, take, drop, set, get_or, slice_index, slice_range, Bool, true, false, not, ◌==◌, ◌&&◌, ◌||◌, Option, Some, None, Ok, ap, refl, sym, ◌∙◌, arith, ⊎_elim, inl, inr, subst, lit<, length-drop, length-set, get_or-set_same}
-use Rattle.std.specs.Prelude.{is_some, nat_lt}
+use Rattle.std.proofs.Common.{◌≡◌, ◌≢◌, ℕ, zero, suc, ◌+◌, ◌-◌, ◌*◌, ◌/◌, ◌%◌, ◌<◌, ◌≤◌, ◌⊎◌, List, ◌∷◌, length, take, drop, set, get_or, slice_index, slice_range, Bool, true, false, not, ◌==◌, ◌||◌, Option, Some, ap, refl, sym, ◌∙◌, arith, ⊎_elim, inl, inr, subst, lit<, length-drop}
+use Rattle.std.specs.Prelude.{nat_lt}
 use Rattle.std.specs.Int.{bit_at}
-use Rattle.std.specs.List.{range_with_len, list_any}
-use Rattle.std.proofs.Math.Nat.{mul-le-mul_left}
 use Rattle.std.proofs.lemmas.Nat.Bits.{bit_at_above}
-use Rattle.std.proofs.lemmas.Bool.{cases_lt, cases_eq, and_parts, or_cases, eq-eqb, ne_eqb, lt-ltb, eqb-true, agree_below_at, false_from_ne_true}
+use Rattle.std.proofs.lemmas.Bool.{cases_lt, or_cases, eq-eqb, ne_eqb, lt-ltb, eqb-true, agree_below_at, false_from_ne_true}
 use Rattle.std.proofs.lemmas.List.{drop-take, get_or-take, get_or-drop}
-use Rattle.std.proofs.lemmas.Option.{same_Some}
 use Rattle.geometry.specs.declared.geometry.Geometry.{Geometry}
 use Rattle.table_model.specs.declared.error.Tag.{Tag}
-use Rattle.table_model.specs.Room.{data_pages, index_pages}
 use Rattle.nor_core.specs.Flash.{SameOutside}
 use Rattle.flash_view.specs.declared.kinds.Kind.TheVariants.{Data}
 use Rattle.image_model.specs.Within.{Sizes, sizes, page_length, behind, entry_slot, entry_of_block, entry_in}
 use Rattle.image_model.specs.Volume.{per_block, lookups, entries}
-use Rattle.image_model.specs.Headers.{obj_id, span_of, names_index, is_finished, size_of}
-use Rattle.image_model.specs.Live.{Live, live_at}
+use Rattle.image_model.specs.Headers.{obj_id, span_of, names_index, is_finished}
+use Rattle.image_model.specs.Live.{live_at}
 use Rattle.image_model.specs.Places.{block_of, place_of, has_magic, is_entry_page, IsImage, entry_at}
-use Rattle.image_model.specs.Files.{index_page, entry_number, data_of}
-use Rattle.image_model.specs.Tidy.{is_number, serves, is_free_entry, is_free_block}
+use Rattle.image_model.specs.Files.{data_of}
+use Rattle.image_model.specs.Tidy.{is_free_entry, is_free_block}
 use Rattle.image_model.specs.Kinds.{is_index_page, is_data_page, is_index_block}
 use Rattle.image_model.specs.Collect.{free_in}
 use Rattle.image_model.specs.Sound.{HasMagics}
@@ -30,12 +26,10 @@ use Rattle.image_laws.specs.TidySteps.{Agree}
 use Rattle.image_laws.specs.Put.{IsReadyPage}
 use Rattle.image_laws.specs.LiveSteps.{Finished, PutCut, PutDone}
 use Rattle.image_laws.specs.Recopy.{PutsData}
-use Rattle.image_laws.proofs.Damaged.{any_at}
 use Rattle.image_laws.proofs.Finish.{is_finished-zero}
 use Rattle.image_laws.proofs.Tally.{is_finished-ones}
 use Rattle.image_laws.proofs.Frames.{live_parts}
 use Rattle.image_laws.proofs.FreeBlocks.{filter-same, free_blocks-fall}
-use Rattle.image_laws.proofs.Judge.{index_passes}
 use Rattle.image_laws.proofs.LiveStep.{put-changes}
 use Rattle.image_laws.proofs.Placing.{page_byte}
 use Rattle.image_laws.proofs.Places.{lookups_apart, blocks_disjoint}
@@ -44,12 +38,12 @@ use Rattle.image_laws.proofs.RecopyStep.{put_data-keeps}
 use Rattle.image_laws.proofs.RecopyTidy.{put_data-spares}
 use Rattle.image_laws.proofs.SpareKill.{tidy-has_magics}
 use Rattle.image_laws.proofs.TidySteps.{tidy-is_tidy}
-use Rattle.image_laws.proofs.Wants.{number-is}
 use Rattle.free_search.proofs.FreePages.{free_whole, used_less}
 use Rattle.page_put.specs.Placing.{placed_page}
 use Rattle.block_gc.specs.Moves.{MoveCut}
-use Rattle.block_gc.specs.DataMoves.{CanCopyData, IsLoaded, IsDataCopy, CopiedData}
-use Rattle.block_gc.proofs.MovedIndexes.{index_some, Home, home_of}
+use Rattle.block_gc.specs.DataMoves.{CanCopyData, IsDataCopy, CopiedData}
+use Rattle.page_renew.specs.Built.{IsLoaded}
+use Rattle.page_renew.proofs.Homes.{Home, home_of}
 
 -- ---- bytes that programs of a page leave
 
@@ -134,35 +128,8 @@ some_data o x is page = go (names_index x) (rw is at page)
     go true e = absurd (cc)
     go false e = refl
 
-data_span : (page : List ℕ) (t : ℕ) → names_index page ≡ false → is_some (data_of (Some page) t) ≡ true → span_of page ≡ t
-data_span page t kind some =
-    ⊎_elim
-    (λ (yes : span_of page ≡ t). yes)
-    (λ (no : span_of page ≡ t → ⊥). let none : is_some (data_of (Some page) t) ≡ false = rw (kind, ne_eqb (span_of page) t no) refl in let bad : true ≡ false = sym some ∙ none in absurd (cc))
-    (cases_eq (span_of page) t)
-
 pub data_there : (page : List ℕ) (t : ℕ) → names_index page ≡ false → span_of page ≡ t → data_of (Some page) t ≡ Some page
 data_there page t kind at = rw (kind, eq-eqb (span_of page) t at) refl
-
--- one that serves its file is named by the entry of its span
-pub serves_data : (g : Geometry) (pages : Live) (head page : List ℕ) (p : ℕ) → pages p ≡ Some page → names_index page ≡ false → serves g pages head p ≡ true →
-    (span_of page < data_pages g (size_of head)) × (entry_number g pages head (span_of page) ≡ Some p)
-unfolding serves
-serves_data g pages head page p was kind e =
-    ⊎_elim
-    (λ (yes : list_any (λ (j : ℕ). is_number (index_page g pages j) p) (range_with_len 0 (index_pages g (size_of head))) ≡ true).
-    let w = any_at (λ (j : ℕ). is_number (index_page g pages j) p) 0 (index_pages g (size_of head)) yes in
-    let x = index_some (pages p) w.0 (index_passes g pages w.0 p (number-is (index_page g pages w.0) p w.3)) in
-    let same : x.0 ≡ page = same_Some x.0 page (sym x.1 ∙ was) in
-    let bad : true ≡ false = sym x.2 ∙ ap names_index same ∙ kind in absurd (cc))
-    (λ (yes : list_any (λ (t : ℕ). is_number (entry_number g pages head t) p && is_some (data_of (pages p) t)) (range_with_len 0 (data_pages g (size_of head))) ≡ true).
-    let w = any_at (λ (t : ℕ). is_number (entry_number g pages head t) p && is_some (data_of (pages p) t)) 0 (data_pages g (size_of head)) yes in
-    let v = and_parts _ _ w.3 in
-    let some : is_some (data_of (Some page) w.0) ≡ true = ap (λ (x : Option (List ℕ)). is_some (data_of x w.0)) (sym was) ∙ v.1 in
-    let span : span_of page ≡ w.0 = data_span page w.0 kind some in
-    let entry : entry_number g pages head w.0 ≡ Some p = number-is (entry_number g pages head w.0) p v.0 in
-    (omega (arith, w.2, span), ap (λ (t : ℕ). entry_number g pages head t) span ∙ entry))
-    (or_cases _ _ e)
 
 -- the live pages of a block without index pages are data pages
 data_kind_there : (g : Geometry) (image : List ℕ) (p : ℕ) (page : List ℕ) → is_index_block g image (block_of g p) ≡ false → names_index page ≡ false → IsOfKind g (live_at g image) p page

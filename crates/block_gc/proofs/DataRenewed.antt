@@ -50,15 +50,17 @@ use Rattle.image_laws.proofs.Tables.{own-gains_page, own-gains_rest}
 use Rattle.image_laws.proofs.Tally.{served}
 use Rattle.page_put.proofs.Clearing.{clears_deleted}
 use Rattle.page_put.proofs.Killed.{flags_left, set_in}
-use Rattle.block_gc.specs.Moves.{count_of}
-use Rattle.block_gc.specs.DataMoves.{CanMoveData, IsNamedBy, IsRenamed, CopiedData, DataMoveCut, MovedData}
+use Rattle.page_renew.specs.Copies.{count_of}
+use Rattle.block_gc.specs.DataMoves.{CanMoveData, IsNamedBy, CopiedData, DataMoveCut, MovedData}
+use Rattle.page_renew.specs.Built.{IsRenamed}
 use Rattle.flash_view.specs.declared.kinds.Kind.TheVariants.{Index}
 use Rattle.page_put.specs.Placing.{placed_page}
-use Rattle.block_gc.proofs.Building.{placed_index}
-use Rattle.block_gc.proofs.DataCopies.{serves_data, data_there, used_stays}
-use Rattle.block_gc.proofs.MovedIndexes.{serves_first, index_some, own_of, of_kind, clears_final, set_twice, Home, home_of}
-use Rattle.block_gc.proofs.Renewed.{finished, slot_same, renewed, now_same}
-use Rattle.block_gc.proofs.SlotNames.{slot_word_at, slot_behind, other_word, named_leads}
+use Rattle.page_renew.proofs.IndexCopies.{placed_index}
+use Rattle.block_gc.proofs.DataCopies.{data_there, used_stays}
+use Rattle.page_renew.proofs.Homes.{serves_data, serves_first, index_some, own_of, of_kind, Home, home_of}
+use Rattle.block_gc.proofs.MovedIndexes.{clears_final, set_twice}
+use Rattle.page_renew.proofs.Renewed.{finished, slot_same, renewed, now_same}
+use Rattle.page_renew.proofs.SlotNames.{slot_word_at, slot_behind, other_word, named_leads}
 
 -- a byte of a page that both have makes no difference
 set_outside : (at n v : ℕ) (y z : List ℕ) → 4 < length y → 4 < length z → SameOutside at n y z → SameOutside at n (set y 4 v) (set z 4 v)

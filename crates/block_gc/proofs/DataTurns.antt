@@ -21,13 +21,13 @@ use Rattle.image_laws.proofs.Records.{list_any-at}
 use Rattle.image_laws.proofs.RenewStep.{live-used}
 use Rattle.free_search.specs.Free.{IsFreeFor}
 use Rattle.free_search.proofs.Counting.{free_is_dead}
-use Rattle.free_search.proofs.FreePages.{free_whole, used_less, not_free, dead_data, data_none, data_parts, index_parts, some_entries}
+use Rattle.free_search.proofs.FreePages.{free_whole, dead_data, data_parts, index_parts, some_entries}
 use Rattle.free_search.proofs.Had.{sum_none}
 use Rattle.room_laws.specs.Emptying.{DataMoved, IsDataPlace, DataEmptying}
 use Rattle.room_laws.proofs.Emptied.{emptying_goes_on}
 use Rattle.block_gc.specs.DataMoves.{CanMoveData, MovedData}
 use Rattle.block_gc.specs.DataEmptied.{blocks_needed, DataTurnCut, DataTurn}
-use Rattle.block_gc.proofs.MovedIndexes.{some_index}
+use Rattle.page_renew.proofs.Homes.{some_index}
 use Rattle.block_gc.proofs.SameBlocks.{free_alike}
 use Rattle.block_gc.proofs.Sums.{count_at, sum_at}
 use Rattle.block_gc.proofs.Tallies.{PlaceTaken, place_taken}

@@ -24,9 +24,9 @@ use Rattle.page_put.specs.LivePages.{finished_page, killing, putting}
 use Rattle.page_put.proofs.Clearing.{clears_deleted}
 use Rattle.page_put.proofs.Killed.{flags_left, set_in}
 use Rattle.block_gc.specs.Moves.{CanMove, MoveCut, moving}
-use Rattle.block_gc.specs.Built.{IsBuilt}
+use Rattle.page_renew.specs.Built.{IsBuilt}
 use Rattle.block_gc.proofs.MovedIndexes.{ready, putting_left, there, apart, killing_left, moved_done}
-use Rattle.block_gc.proofs.Building.{high_id, built_page}
+use Rattle.page_renew.proofs.IndexCopies.{high_id, built_page}
 
 module _ (g : Geometry) (a : List ℕ) (o p : ℕ) (tag : Tag) (work : List ℕ) (is : IsImage g a) (can : CanMove g a o p) (built : IsBuilt g a o tag work) where
   abbrev y : List ℕ

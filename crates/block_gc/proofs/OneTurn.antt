@@ -30,8 +30,8 @@ use Rattle.free_search.proofs.FreePages.{few_pass, free_whole}
 use Rattle.free_search.proofs.Had.{sum_none, filter_some, no_blocks, takes}
 use Rattle.block_gc.specs.Moves.{CanMove, MoveCut, MovedIndex}
 use Rattle.block_gc.specs.Emptied.{places_beside, HasPlaces, HasFewPlaces, TurnCut, IsSameBeside, TurnDone}
-use Rattle.block_gc.proofs.MovedIndexes.{some_index}
-use Rattle.block_gc.proofs.Renewed.{same_id}
+use Rattle.page_renew.proofs.Homes.{some_index}
+use Rattle.page_renew.proofs.Renewed.{same_id}
 use Rattle.block_gc.proofs.Sums.{sum_at, count_at}
 use Rattle.block_gc.proofs.SameBlocks.{SameBlock, data_alike, kind_alike, deleted_alike, same_entries, same_takes}
 

@@ -197,6 +197,7 @@ module _ (g : Geometry) (block : ℕ) (first a : List ℕ) (is : IsImage g a) (b
 
     pub fresh_done : CleanedIndex g block first b
     fresh_done = record {
+      image = let size = fresh.outside.size in let whole = is.len in record { len = omega (arith, size, whole) };
       tidy = fresh_tidy g block a empty.places.tidy dead count b fresh;
       table = table_of-same g b a (fresh_live g block a empty.places.tidy dead count b fresh) ∙ empty.keeps.table;
       free = fresh.free;

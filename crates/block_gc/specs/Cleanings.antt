@@ -1,11 +1,12 @@
 -- What cleaning a block asks of an image and leaves.
 use Rattle.std.specs.Prelude.{◌≡◌, ℕ, ◌+◌, ◌≤◌, List, true, false}
 use Rattle.geometry.specs.declared.geometry.Geometry.{Geometry}
-use Rattle.image_model.specs.Places.{erase_count, next_count}
-use Rattle.image_model.specs.Tidy.{IsTidy, free_blocks}
+use Rattle.image_model.specs.Places.{erase_count, next_count, IsImage}
+use Rattle.image_model.specs.Tidy.{IsTidy, is_free_block, free_blocks}
 use Rattle.image_model.specs.Kinds.{is_data_block}
-use Rattle.image_model.specs.Collect.{is_worth, is_fitting}
+use Rattle.image_model.specs.Collect.{is_fitting}
 use Rattle.image_model.specs.Sound.{Keeps}
+use Rattle.flash_view.specs.Steps.{Step}
 use Rattle.room_laws.specs.Cleans.{IsCleaned, CleansData}
 
 -- The image is tidy, and the block holds a live data page and fits: its live data pages and as many index pages find places in other blocks.
@@ -21,13 +22,14 @@ pub record CleanDataCut (g : Geometry) (was image : List ℕ) : Type 0 where
 
 -- The data block was cleaned, and has the next erase count.
 pub record CleanedData (g : Geometry) (block : ℕ) (was now : List ℕ) : Type 0 where
+  pub image : IsImage g now
   pub cleans : CleansData g was block now
   pub count : erase_count g now block ≡ next_count g was
 
--- The image is tidy, and the block is worth cleaning and fits.
+-- The image is tidy, and the block is in use and fits.
 pub record CanCleanBlock (g : Geometry) (image : List ℕ) (block : ℕ) : Type 0 where
   pub tidy : IsTidy g image
-  pub worth : is_worth g image block ≡ true
+  pub used : is_free_block g image block ≡ false
   pub fits : is_fitting g image block ≡ true
 
 -- A cut keeps the image, and at most two free blocks less are there, or one where the block held no live data page.
@@ -38,5 +40,14 @@ pub record CleanBlockCut (g : Geometry) (block : ℕ) (was image : List ℕ) : T
 
 -- The block was cleaned, and has the next erase count.
 pub record CleanedBlock (g : Geometry) (block : ℕ) (was now : List ℕ) : Type 0 where
+  pub image : IsImage g now
   pub cleaned : IsCleaned g was block now
   pub count : erase_count g now block ≡ next_count g was
+
+-- ---- the steps: a data block is cleaned, and a block of either kind
+
+abbrev pub cleaning_data : ℕ → Step (Unit {0})
+cleaning_data block = record { needs = λ g was. CanCleanData g was block; cut = λ g was image. CleanDataCut g was image; done = λ g was now ok. CleanedData g block was now }
+
+abbrev pub cleaning_block : ℕ → Step (Unit {0})
+cleaning_block block = record { needs = λ g was. CanCleanBlock g was block; cut = λ g was image. CleanBlockCut g block was image; done = λ g was now ok. CleanedBlock g block was now }

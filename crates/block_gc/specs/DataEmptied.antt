@@ -1,6 +1,7 @@
 -- What moving the live data pages out of a block asks of an image and leaves.
 use Rattle.std.specs.Prelude.{◌≡◌, ℕ, ◌+◌, ◌<◌, ◌≤◌, List, Option, Some, None, true, false}
 use Rattle.geometry.specs.declared.geometry.Geometry.{Geometry}
+use Rattle.image_model.specs.Volume.{page_count}
 use Rattle.image_model.specs.Live.{live_at}
 use Rattle.image_model.specs.Places.{block_of}
 use Rattle.image_model.specs.Tidy.{IsTidy, is_free_block, free_blocks}
@@ -8,6 +9,7 @@ use Rattle.image_model.specs.Kinds.{is_data_page, is_index_block}
 use Rattle.image_model.specs.Collect.{data_in, free_outside, takes_index, takes_data, blocks_for}
 use Rattle.image_model.specs.Sound.{Keeps}
 use Rattle.flash_view.specs.declared.kinds.Kind.TheVariants.{Index, Data}
+use Rattle.flash_view.specs.Steps.{Step}
 use Rattle.room_laws.specs.Emptying.{DataEmptying}
 use Rattle.free_search.specs.Free.{IsFreeFor}
 
@@ -55,3 +57,14 @@ pub record DataEmptied (g : Geometry) (block p : ℕ) (was now : List ℕ) : Typ
   pub used : is_free_block g was block ≡ false → is_free_block g now block ≡ false
   pub moves : DataEmptying g was block now
   pub taken : free_blocks g was + blocks_needed g now block ≡ free_blocks g now + blocks_needed g was block
+
+-- ---- the steps: a page is moved out, a page has its turn, and all have theirs
+
+abbrev pub moving_data_out : (block page : ℕ) → Step (Unit {0})
+moving_data_out block page = record { needs = λ g was. CanMoveDataOut g was block page; cut = λ g was image. DataTurnCut g block was image; done = λ g was now ok. DataTurn g block page was now }
+
+abbrev pub turning_data : (block page : ℕ) → Step (Unit {0})
+turning_data block page = record { needs = λ g was. HasDataPlaces g was block; cut = λ g was image. DataTurnCut g block was image; done = λ g was now ok. DataTurn g block page was now }
+
+abbrev pub emptying_of_data : ℕ → Step (Unit {0})
+emptying_of_data block = record { needs = λ g was. HasDataPlaces g was block; cut = λ g was image. DataTurnCut g block was image; done = λ g was now ok. DataEmptied g block (page_count g) was now }

@@ -1,5 +1,5 @@
 -- What moving a data page asks of an image and leaves: its copy is put, the index page that names it is renewed to name the copy, and both old pages are killed.
-use Rattle.std.specs.Prelude.{◌≡◌, ◌≢◌, ℕ, ◌+◌, ◌*◌, ◌<◌, ◌≤◌, List, take, Option, Some, None, true, false, ◌==◌, slice_index, slice_range}
+use Rattle.std.specs.Prelude.{◌≡◌, ◌≢◌, ℕ, ◌+◌, ◌*◌, ◌<◌, ◌≤◌, List, Option, Some, None, true, false, ◌==◌, slice_index, slice_range}
 use Rattle.geometry.specs.declared.geometry.Geometry.{Geometry}
 use Rattle.table_model.specs.declared.error.Tag.{Tag}
 use Rattle.image_model.specs.Headers.{obj_id, span_of, names_index}
@@ -12,11 +12,10 @@ use Rattle.image_model.specs.Kinds.{is_index_page, is_data_page, is_data_block, 
 use Rattle.image_model.specs.Sound.{Keeps}
 use Rattle.image_laws.specs.LiveSteps.{PutDone}
 use Rattle.image_laws.specs.NewFile.{IsFreePage}
-use Rattle.image_laws.specs.InPlace.{slot_at}
 use Rattle.image_laws.specs.Reindex.{index_span, slot_word}
 use Rattle.image_laws.specs.TidySteps.{IsTidyBut}
-use Rattle.page_layout.specs.Layout.{SameOutside}
-use Rattle.block_gc.specs.Built.{IsBuilt}
+use Rattle.block_gc.specs.Moves.{MoveCut}
+use Rattle.flash_view.specs.Steps.{Step}
 
 -- In a tidy image `page` is a live data page, and `to` a free page of a block without live index pages.
 pub record CanCopyData (g : Geometry) (image : List ℕ) (page to : ℕ) : Type 0 where
@@ -48,21 +47,6 @@ pub record IsNamedBy (g : Geometry) (image : List ℕ) (page index : ℕ) (tag :
 abbrev pub IsFoundFor : Geometry → (image : List ℕ) (page : ℕ) → Option (ℕ × Tag) → Type 0
 IsFoundFor g image page None = ⊥
 IsFoundFor g image page (Some (index, tag)) = IsNamedBy g image page index tag
-
--- The first bytes are those of this live page, and they and the page's flags are bytes.
-pub record IsLoaded (g : Geometry) (image : List ℕ) (page : ℕ) (work : List ℕ) : Type 0 where
-  pub same : take g.page work ≡ page_of g image page
-  pub small : (k : ℕ) → k < g.page → slice_index work k < 256
-  pub flags : slice_index image (page * g.page + 4) < 256
-
--- The first bytes are a copy of the live index page `index`, in which alone the entry of a data span is another: it names `to`.
-pub record IsRenamed (g : Geometry) (image : List ℕ) (index span to : ℕ) (work : List ℕ) : Type 0 where
-  pub tag : Tag
-  pub plain : List ℕ
-  pub built : IsBuilt g image index tag plain
-  pub entry : slot_word g (take g.page work) span ≡ to
-  pub others : SameOutside (slot_at g span) 2 (take g.page plain) (take g.page work)
-  pub small : (k : ℕ) → k < g.page → slice_index work k < 256
 
 -- a data page with the id, the span and the file bytes of another
 pub record IsDataCopy (g : Geometry) (old new : List ℕ) : Type 0 where
@@ -116,3 +100,28 @@ pub record MovedData (g : Geometry) (page to index_to : ℕ) (was now : List ℕ
   pub entries : (p : ℕ) → is_entry_page g p ≡ true → p ≢ page → p ≢ to → p ≢ index → p ≢ index_to → entry_of g now p ≡ entry_of g was p
   pub pages : (p : ℕ) → is_entry_page g p ≡ true → p ≢ page → p ≢ to → p ≢ index → p ≢ index_to → page_of g now p ≡ page_of g was p
   pub live : (p : ℕ) → p ≢ page → p ≢ to → p ≢ index → p ≢ index_to → live_at g now p ≡ live_at g was p
+
+-- A copy of the data page was put into the first image, and the index page `index` of that image names the page.
+pub record IsCopiedSince (g : Geometry) (page to index index_to : ℕ) (tag : Tag) (first image : List ℕ) : Type 0 where
+  pub can : CanMoveData g first page to index_to
+  pub copied : CopiedData g page to first image
+  pub named : IsNamedBy g first page index tag
+
+-- ---- the steps of a move: a copy of the data page is put, the index page is renewed, told since the image before the copy, and the whole move
+
+abbrev pub copying_data : ℕ → ℕ → Step (Unit {0})
+copying_data page to = record { needs = λ g was. CanCopyData g was page to; cut = λ g was image. MoveCut g to was image; done = λ g was now ok. CopiedData g page to was now }
+
+abbrev pub naming_copy : (page to index index_to : ℕ) → Tag → List ℕ → Step (Unit {0})
+naming_copy page to index index_to tag first = record {
+  needs = λ g was. IsCopiedSince g page to index index_to tag first was;
+  cut = λ g was image. DataMoveCut g to index_to first image;
+  done = λ g was now ok. MovedData g page to index_to first now;
+}
+
+abbrev pub moving_with_index : (page to index_to : ℕ) → Step (Unit {0})
+moving_with_index page to index_to = record {
+  needs = λ g was. CanMoveData g was page to index_to;
+  cut = λ g was image. DataMoveCut g to index_to was image;
+  done = λ g was now ok. MovedData g page to index_to was now;
+}

@@ -1,15 +1,14 @@
 -- What cleaning an index block asks of an image and leaves.
 use Rattle.std.specs.Prelude.{◌≡◌, ◌≢◌, ℕ, ◌+◌, ◌<◌, ◌≤◌, ◌⊎◌, List, None, true, false}
 use Rattle.geometry.specs.declared.geometry.Geometry.{Geometry}
-use Rattle.image_model.specs.Volume.{entries}
+use Rattle.image_model.specs.Volume.{entries, page_count}
 use Rattle.image_model.specs.Live.{live_at}
-use Rattle.image_model.specs.Places.{block_of, erase_count, next_count}
+use Rattle.image_model.specs.Places.{block_of, erase_count, next_count, IsImage}
 use Rattle.image_model.specs.Tables.{table_of}
 use Rattle.image_model.specs.Tidy.{IsTidy, is_free_block, free_blocks}
 use Rattle.image_model.specs.Kinds.{is_index_page, is_data_block}
 use Rattle.image_model.specs.Collect.{index_in, data_in, deleted_in, free_in, free_where, free_outside, takes_index, is_fitting}
 use Rattle.image_model.specs.Sound.{Keeps}
-use Rattle.image_model.specs.Volume.{page_count}
 use Rattle.flash_view.specs.Steps.{Step}
 
 -- The image is tidy, and the block holds no live data page and fits: its live index pages find places in other blocks.
@@ -80,6 +79,7 @@ pub record Emptied (g : Geometry) (block p : ℕ) (was now : List ℕ) : Type 0 
 -- their deleted entries and live data pages, and those with a live data page their free entries. No fewer blocks are free; and if a block
 -- that was in use left no more of them, a free block was taken, and fewer free entries for index pages are left than a block has.
 pub record CleanedIndex (g : Geometry) (block : ℕ) (was now : List ℕ) : Type 0 where
+  pub image : IsImage g now
   pub tidy : IsTidy g now
   pub table : table_of g now ≡ table_of g was
   pub free : is_free_block g now block ≡ true

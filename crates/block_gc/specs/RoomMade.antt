@@ -1,20 +1,30 @@
 -- What cleaning block after block leaves, and where it stops.
-use Rattle.std.specs.Prelude.{◌≡◌, ℕ, ◌+◌, ◌<◌, ◌≤◌, ◌⊎◌, List, Bool, true, false, None}
+use Rattle.std.specs.Prelude.{◌≡◌, ℕ, ◌+◌, ◌<◌, ◌≤◌, ◌⊎◌, List, Option, Bool, true, false, Some, None}
 use Rattle.geometry.specs.declared.geometry.Geometry.{Geometry}
 use Rattle.geometry.specs.Numbers.{ceil}
 use Rattle.table_model.specs.Room.{index_count, data_count}
 use Rattle.image_model.specs.Volume.{entries}
+use Rattle.image_model.specs.Places.{IsImage}
 use Rattle.image_model.specs.Tables.{table_of}
 use Rattle.image_model.specs.Tidy.{IsTidy, free_blocks, HasReserve}
 use Rattle.image_model.specs.Collect.{is_worth, chosen_block, are_had, is_stuck}
+use Rattle.image_model.specs.Sound.{Keeps}
+use Rattle.flash_view.specs.Steps.{is_apart, Step as Stage}
 use Rattle.room_laws.specs.Stopping.{gc_measure, CanClean, IsPacked}
 use Rattle.flash_view.specs.declared.kinds.StepErr.TheVariants.{DeviceFault}
+use Rattle.block_gc.specs.declared.room.Goal.{Goal}
+use Rattle.block_gc.specs.declared.room.Goal.TheVariants.{Pages, Packed}
 use Rattle.block_gc.specs.declared.room.RoomErr.{RoomErr}
 use Rattle.block_gc.specs.declared.room.RoomErr.TheVariants.{Step, Tight}
 
 -- a fault of the device, or want of room
 abbrev pub IsFaultOrTight : RoomErr → Type 0
 IsFaultOrTight why = (why ≡ Step DeviceFault) ⊎ (why ≡ Tight)
+
+-- where a page is damaged, what was wanted there and what was found differ
+abbrev pub is_apart_in : RoomErr → Type 0
+is_apart_in (Step why) = is_apart why
+is_apart_in Tight = Unit {0}
 
 -- So many pages of each kind are had, and two blocks are free.
 pub record IsReady (g : Geometry) (image : List ℕ) (index pages : ℕ) : Type 0 where
@@ -26,8 +36,19 @@ abbrev pub IfReady : Geometry → List ℕ → (index pages : ℕ) → Bool → 
 IfReady g image index pages true = IsReady g image index pages
 IfReady g image index pages false = IsReady g image index pages → ⊥
 
+-- what it is for to clean blocks: packing is never done before no block is chosen
+abbrev pub IsMet : Geometry → List ℕ → Goal → Type 0
+IsMet g image (Pages index pages) = IsReady g image index pages
+IsMet g image Packed = ⊥
+
+-- whether that is so
+abbrev pub IfMet : Geometry → List ℕ → Goal → Bool → Type 0
+IfMet g image goal true = IsMet g image goal
+IfMet g image goal false = IsMet g image goal → ⊥
+
 -- After n cleanings the image is tidy with the table of the first, and can be cleaned where the first could. Each has lowered the number that cleanings lower.
 pub record Cleanings (g : Geometry) (n : ℕ) (was now : List ℕ) : Type 0 where
+  pub image : IsImage g now
   pub tidy : IsTidy g now
   pub table : table_of g now ≡ table_of g was
   pub lower : gc_measure g now + n ≤ gc_measure g was
@@ -44,20 +65,16 @@ pub record MadeRoom (g : Geometry) (index pages : ℕ) (was now : List ℕ) : Ty
   pub table : table_of g now ≡ table_of g was
   pub ready : IsReady g now index pages
 
--- The image is tidy with its table, no block is chosen, and the pages aren't had or fewer than two blocks are free. It can be cleaned where the first could.
+-- The image is tidy with its table, no block is chosen, and the pages aren't had or fewer than two blocks are free. It can be cleaned where the first could, and has its reserve where the first had.
 pub record IsTight (g : Geometry) (index pages : ℕ) (was now : List ℕ) : Type 0 where
   pub tidy : IsTidy g now
   pub table : table_of g now ≡ table_of g was
   pub none : chosen_block g now ≡ None
   pub short : IsReady g now index pages → ⊥
   pub again : CanClean g was → CanClean g now
+  pub reserve : HasReserve g was → HasReserve g now
 
--- one cleaning more, or room is made
-abbrev pub RoomTurn : Geometry → (index pages : ℕ) → Bool → (was now : List ℕ) → Type 0
-RoomTurn g index pages true was now = Cleanings g 1 was now
-RoomTurn g index pages false was now = MadeRoom g index pages was now
-
--- The image is tidy with its table, and packed: no block is worth cleaning, and all blocks are free but those that the pages of each kind need.
+-- The image is tidy with its table, and packed: no block is worth cleaning, and all blocks are free but those that the pages of each kind need. It has its reserve where the first had.
 pub record IsCompact (g : Geometry) (was now : List ℕ) : Type 0 where
   pub tidy : IsTidy g now
   pub table : table_of g now ≡ table_of g was
@@ -65,16 +82,48 @@ pub record IsCompact (g : Geometry) (was now : List ℕ) : Type 0 where
   pub packed : IsPacked g now
   pub free : free_blocks g now + ceil (index_count g (table_of g now)) (entries g) + ceil (data_count g (table_of g now)) (entries g) ≡ g.blocks
   pub unstuck : is_stuck g now ≡ false
+  pub reserve : HasReserve g was → HasReserve g now
 
--- The image is tidy with its table, and collection is stuck. It can be cleaned where the first could.
+-- The image is tidy with its table, and collection is stuck. It can be cleaned where the first could, and has its reserve where the first had.
 pub record IsStuck (g : Geometry) (was now : List ℕ) : Type 0 where
   pub tidy : IsTidy g now
   pub table : table_of g now ≡ table_of g was
   pub none : chosen_block g now ≡ None
   pub stuck : is_stuck g now ≡ true
   pub again : CanClean g was → CanClean g now
+  pub reserve : HasReserve g was → HasReserve g now
 
--- one cleaning more, or the image is packed
-abbrev pub PackTurn : Geometry → Bool → (was now : List ℕ) → Type 0
-PackTurn g true was now = Cleanings g 1 was now
-PackTurn g false was now = IsCompact g was now
+-- where collection stops: the goal is met, or it isn't and no block is chosen
+abbrev pub StopsAt : Geometry → Goal → Bool → List ℕ → Type 0
+StopsAt g goal true now = IsMet g now goal
+StopsAt g goal false now = (chosen_block g now ≡ None) × (IsMet g now goal → ⊥)
+
+-- so many cleanings, and where they stopped
+pub record Collected (g : Geometry) (goal : Goal) (met : Bool) (was now : List ℕ) : Type 0 where
+  pub n : ℕ
+  pub cleanings : Cleanings g n was now
+  pub stops : StopsAt g goal met now
+
+-- a cleaning more, or collection stops there
+abbrev pub TurnOf : Geometry → Goal → Option Bool → (was now : List ℕ) → Type 0
+TurnOf g goal None was now = Cleanings g 1 was now
+TurnOf g goal (Some met) was now = (now ≡ was) × StopsAt g goal met was
+
+-- ---- the steps: the chosen block is cleaned, a turn of collection, and all turns
+
+abbrev pub cleaning_chosen : Stage Bool
+cleaning_chosen = record { needs = IsTidy; cut = Keeps; done = λ g was now cleaned. CleanedOrNone g cleaned was now }
+
+abbrev pub turning_to : Goal → Stage (Option Bool)
+turning_to goal = record { needs = IsTidy; cut = Keeps; done = λ g was now met. TurnOf g goal met was now }
+
+abbrev pub collecting : Goal → Stage Bool
+collecting goal = record { needs = IsTidy; cut = Keeps; done = λ g was now met. Collected g goal met was now }
+
+-- all is packed, or collection is stuck
+abbrev pub PackedOrStuck : Geometry → Bool → (was now : List ℕ) → Type 0
+PackedOrStuck g true was now = IsStuck g was now
+PackedOrStuck g false was now = IsCompact g was now
+
+abbrev pub packing : Stage Bool
+packing = record { needs = IsTidy; cut = Keeps; done = λ g was now stuck. PackedOrStuck g stuck was now }

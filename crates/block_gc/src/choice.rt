@@ -1,5 +1,5 @@
 // Blocks that are worth cleaning and fit, and the best of them.
-ghost use Rattle.std.specs.Prelude.{◌≡◌, ◌-◌, ◌<◌, ◌≤◌, OnErr, IfOk, IfSome, if◌then◌else◌};
+ghost use Rattle.std.specs.Prelude.{◌≡◌, ◌-◌, ◌<◌, OnErr, IfOk, if◌then◌else◌};
 ghost use Rattle.image_model.specs.Tidy.{IsTidy};
 ghost use Rattle.image_model.specs.Places.{next_count as the_next_count};
 ghost use Rattle.image_model.specs.Volume.{entries};

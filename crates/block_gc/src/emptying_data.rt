@@ -1,15 +1,15 @@
 // Moving the live data pages of a block out of it, in page order.
-ghost use Rattle.std.specs.Prelude.{◌≡◌, ◌*◌, ◌+◌, ◌<◌, ◌≤◌, OnErr, OnOk, IfOk, IfErr, IfSome, IsErrOf, true, false};
+ghost use Rattle.std.specs.Prelude.{◌≡◌, ◌<◌, ◌≤◌, OnErr, IfOk, IfSome, true, false};
 ghost use Rattle.geometry.specs.Numbers.{page_count};
 ghost use Rattle.nor_core.specs.Count.{Rose};
-ghost use Rattle.nor_core.specs.Device.{Changes, OnlyReads};
 ghost use Rattle.image_model.specs.Collect.{data_in};
 ghost use Rattle.image_model.specs.Kinds.{is_data_page};
 ghost use Rattle.image_model.specs.Live.{live_at};
 ghost use Rattle.image_model.specs.Places.{block_of as the_block_of};
 ghost use Rattle.flash_view.specs.Places.{IsEntryPage};
-ghost use Rattle.flash_view.specs.Same.{IsSameView, OnlyLooks};
-ghost use Rattle.block_gc.specs.DataEmptied.{HasDataPlaces, CanMoveDataOut, ArePlaces, DataTurnCut, DataTurn, DataEmptied};
+ghost use Rattle.flash_view.specs.Same.{OnlyLooks};
+ghost use Rattle.flash_view.specs.Steps.{Stepped, stopped};
+ghost use Rattle.block_gc.specs.DataEmptied.{HasDataPlaces, ArePlaces, moving_data_out, turning_data, emptying_of_data};
 
 use crate::emptying::no_place;
 use crate::moving_data::move_data;
@@ -50,18 +50,10 @@ fn find_places<N: Nor>(v: &mut View<'_, N>, block: u16) -> Result<Option<(u16, u
 }
 
 // Moves a live data page out of a block.
-#[tactic(auto, using(flash_view::proofs::Looking::same_then))]
 fn move_out<N: Nor>(v: &mut View<'_, N>, page: u16, block: u16) -> Result<(), StepErr>
     requires page { IsEntryPage v.old.geometry page }
     requires at { the_block_of v.old.geometry page ≡ block }
-    ensures cause { IsErrOf result StepErr.DeviceFault → Rose (N.faults v.old.nor.now) (N.faults v.new.nor.now) }
-    ensures faults { N.faults v.old.nor.now ≤ N.faults v.new.nor.now }
-    ensures same { IsSameView v.old v.new }
-    ensures wrote { v.old.wrote ≡ true → v.new.wrote ≡ true }
-    ensures untouched { v.old.wrote ≡ false → v.new.wrote ≡ false → OnlyReads N.NorState v.old.nor.now v.new.nor.now }
-    ensures changes { Changes N.NorState v.old.nor.now v.new.nor.now (λ was image. CanMoveDataOut v.old.geometry was block page → DataTurnCut v.old.geometry block was image) }
-    ensures done { N.tells v.old.nor.now → CanMoveDataOut v.old.geometry (N.bytes v.old.nor.now) block page → OnOk result (DataTurn v.old.geometry block page (N.bytes v.old.nor.now) (N.bytes v.new.nor.now)) }
-    ensures undamaged { N.tells v.old.nor.now → CanMoveDataOut v.old.geometry (N.bytes v.old.nor.now) block page → IfErr result (λ why. why ≡ StepErr.DeviceFault) }
+    ensures { Stepped stopped v.old v.new result (moving_data_out block page) }
 {
     match find_places(v, block) {
         Err(Failed) => Err(StepErr::DeviceFault),
@@ -74,18 +66,10 @@ fn move_out<N: Nor>(v: &mut View<'_, N>, page: u16, block: u16) -> Result<(), St
 }
 
 // The turn of a page: it is moved out of its block where it is a live data page.
-#[tactic(auto, using(flash_view::proofs::Looking::same_then))]
 fn empty_page<N: Nor>(v: &mut View<'_, N>, page: u16, block: u16) -> Result<(), StepErr>
     requires page { IsEntryPage v.old.geometry page }
     requires at { the_block_of v.old.geometry page ≡ block }
-    ensures cause { IsErrOf result StepErr.DeviceFault → Rose (N.faults v.old.nor.now) (N.faults v.new.nor.now) }
-    ensures faults { N.faults v.old.nor.now ≤ N.faults v.new.nor.now }
-    ensures same { IsSameView v.old v.new }
-    ensures wrote { v.old.wrote ≡ true → v.new.wrote ≡ true }
-    ensures untouched { v.old.wrote ≡ false → v.new.wrote ≡ false → OnlyReads N.NorState v.old.nor.now v.new.nor.now }
-    ensures changes { Changes N.NorState v.old.nor.now v.new.nor.now (λ was image. HasDataPlaces v.old.geometry was block → DataTurnCut v.old.geometry block was image) }
-    ensures done { N.tells v.old.nor.now → HasDataPlaces v.old.geometry (N.bytes v.old.nor.now) block → OnOk result (DataTurn v.old.geometry block page (N.bytes v.old.nor.now) (N.bytes v.new.nor.now)) }
-    ensures undamaged { N.tells v.old.nor.now → HasDataPlaces v.old.geometry (N.bytes v.old.nor.now) block → IfErr result (λ why. why ≡ StepErr.DeviceFault) }
+    ensures { Stepped stopped v.old v.new result (turning_data block page) }
 {
     match is_data(v, page) {
         Err(Failed) => Err(StepErr::DeviceFault),
@@ -99,14 +83,7 @@ fn empty_page<N: Nor>(v: &mut View<'_, N>, page: u16, block: u16) -> Result<(), 
 /// the block's data pages need. Where that holds, a fault of the device is the one error.
 pub fn empty_data<N: Nor>(v: &mut View<'_, N>, block: u16) -> Result<(), StepErr>
     requires { block < v.old.geometry.blocks }
-    ensures cause { IsErrOf result StepErr.DeviceFault → Rose (N.faults v.old.nor.now) (N.faults v.new.nor.now) }
-    ensures faults { N.faults v.old.nor.now ≤ N.faults v.new.nor.now }
-    ensures same { IsSameView v.old v.new }
-    ensures wrote { v.old.wrote ≡ true → v.new.wrote ≡ true }
-    ensures untouched { v.old.wrote ≡ false → v.new.wrote ≡ false → OnlyReads N.NorState v.old.nor.now v.new.nor.now }
-    ensures changes { Changes N.NorState v.old.nor.now v.new.nor.now (λ was image. HasDataPlaces v.old.geometry was block → DataTurnCut v.old.geometry block was image) }
-    ensures done { N.tells v.old.nor.now → HasDataPlaces v.old.geometry (N.bytes v.old.nor.now) block → OnOk result (DataEmptied v.old.geometry block (page_count v.old.geometry) (N.bytes v.old.nor.now) (N.bytes v.new.nor.now)) }
-    ensures undamaged { N.tells v.old.nor.now → HasDataPlaces v.old.geometry (N.bytes v.old.nor.now) block → IfErr result (λ why. why ≡ StepErr.DeviceFault) }
+    ensures { Stepped stopped v.old v.new result (emptying_of_data block) }
 {
     let g = v.geometry;
     for i in 0..g.entries() {

@@ -3,12 +3,10 @@
 
 mod choice;
 mod cleaning;
-mod copying;
 mod emptying;
 mod emptying_data;
 mod moving;
 mod moving_data;
-mod naming;
 mod next;
 mod room;
 mod scores;

@@ -1,79 +1,15 @@
 // Moving one index page out of a block, the step of which the cleaning of an index block consists.
-ghost use Rattle.std.specs.Prelude.{◌≡◌, ◌+◌, ◌-◌, ◌^◌, ◌<◌, ◌≤◌, OnErr, OnOk, IfOk, true, false};
-ghost use Rattle.geometry.specs.Numbers.{page_count};
-ghost use Rattle.table_model.specs.Room.{data_pages as the_data_pages};
-ghost use Rattle.nor_core.specs.Count.{Rose};
-ghost use Rattle.image_model.specs.Kinds.{is_index_page};
-ghost use Rattle.image_model.specs.Live.{live_at};
-ghost use Rattle.image_model.specs.Headers.{size_of};
-ghost use Rattle.image_model.specs.Places.{page_of};
+ghost use Rattle.std.specs.Prelude.{◌-◌, ◌<◌, ◌≤◌};
 ghost use Rattle.flash_view.specs.Places.{IsEntryPage};
-ghost use Rattle.flash_view.specs.Same.{OnlyLooks};
 ghost use Rattle.flash_view.specs.Steps.{Stepped, failed};
-ghost use Rattle.block_gc.specs.Moves.{count_of, CanMove, moving};
-ghost use Rattle.block_gc.specs.Built.{IsBuilt};
+ghost use Rattle.block_gc.specs.Moves.{CanMove, moving};
+ghost use Rattle.page_renew.specs.Built.{IsBuilt};
 
-use crate::copying::{copy_index, kept_slots};
 use flash_view::{Kind, View};
-use geometry::Geometry;
 use nor_core::{Failed, Nor, NorState};
-use page_layout::file_size;
 use page_put::{kill, put_page};
+use page_renew::build_copy;
 use table_model::Tag;
-
-// Data pages of a file of that size.
-fn data_pages(g: &Geometry, size: u32) -> u32
-    ensures { result ≡ the_data_pages g.now size }
-{
-    let body = u64::from(g.body());
-    ((u64::from(size) + body - 1) / body) as u32
-}
-
-// The size in bytes that a header page tells.
-fn size_at<N: Nor>(v: &mut View<'_, N>, header: u16) -> Result<u32, Failed>
-    requires { header < page_count v.old.geometry }
-    ensures cause { OnErr result (Rose (N.faults v.old.nor.now) (N.faults v.new.nor.now)) }
-    ensures looks { OnlyLooks v.old v.new }
-    ensures told { N.tells v.old.nor.now → IfOk result (λ size. size ≡ size_of (page_of v.old.geometry (N.bytes v.old.nor.now) header)) }
-{
-    v.fetch(header)?;
-    Ok(file_size(v.fetched()))
-}
-
-// How many data pages the file of an id has by its header page.
-#[tactic(auto, using(flash_view::proofs::Looking::looks_then))]
-fn count_at<N: Nor>(v: &mut View<'_, N>, id: u16) -> Result<u32, Failed>
-    ensures cause { OnErr result (Rose (N.faults v.old.nor.now) (N.faults v.new.nor.now)) }
-    ensures looks { OnlyLooks v.old v.new }
-    ensures told { N.tells v.old.nor.now → IfOk result (λ count. count ≡ count_of v.old.geometry (N.bytes v.old.nor.now) id) }
-{
-    let Some(header) = v.find_index(id, 0)? else {
-        return Ok(0);
-    };
-    let size = size_at(v, header)?;
-    Ok(data_pages(&v.geometry, size))
-}
-
-// Builds the copy of an index page: its id without bit 15, and its span.
-#[tactic(auto, using(flash_view::proofs::Looking::looks_then))]
-pub(crate) fn build_copy<N: Nor>(v: &mut View<'_, N>, page: u16) -> Result<Tag, Failed>
-    requires page { page < page_count v.old.geometry }
-    ensures cause { OnErr result (Rose (N.faults v.old.nor.now) (N.faults v.new.nor.now)) }
-    ensures looks { OnlyLooks v.old v.new }
-    ensures told { N.tells v.old.nor.now → is_index_page (live_at v.old.geometry (N.bytes v.old.nor.now) page) ≡ true → IfOk result (λ tag. IsBuilt v.old.geometry (N.bytes v.old.nor.now) page tag v.new.work.now) }
-{
-    let head = v.header(page)?;
-    let id = head.object();
-    let span = head.span;
-    let count = count_at(v, id)?;
-    v.load(page)?;
-    let g = v.geometry;
-    let kept = kept_slots(&g, span, count);
-    let len = g.page() as usize;
-    let work = &mut *v.work;
-    copy_index(&g, &mut work[..len], span, kept);
-    Ok(Tag { id, span })
-}
 
 // Puts the copy that was built, and kills the page: six programs.
 fn put_copy<N: Nor>(v: &mut View<'_, N>, page: u16, to: u16, tag: Tag) -> Result<(), Failed>

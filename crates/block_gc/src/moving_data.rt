@@ -1,23 +1,21 @@
 // Moving one data page out of a block, the step of which the cleaning of a data block consists.
-ghost use Rattle.std.specs.Prelude.{◌≡◌, ◌+◌, ◌*◌, ◌%◌, ◌<◌, ◌≤◌, ◌∷◌, [], OnErr, OnOk, IfOk, IfSome, List, true, false, ℕ};
+ghost use Rattle.std.specs.Prelude.{◌≡◌, ◌%◌, ◌<◌, ◌≤◌, OnErr, IfOk, IfSome, List, true, ℕ};
 ghost use Rattle.geometry.specs.Numbers.{page_count};
 ghost use Rattle.nor_core.specs.Count.{Rose};
-ghost use Rattle.nor_core.specs.Device.{Changes, OnlyReads};
 ghost use Rattle.image_model.specs.Kinds.{is_data_page, is_index_page};
 ghost use Rattle.image_model.specs.Live.{live_at};
 ghost use Rattle.image_model.specs.Tidy.{IsTidy};
 ghost use Rattle.flash_view.specs.Places.{IsEntryPage};
-ghost use Rattle.flash_view.specs.Same.{IsSameView, OnlyLooks};
-ghost use Rattle.block_gc.specs.Moves.{MoveCut};
-ghost use Rattle.block_gc.specs.DataMoves.{CanCopyData, CanMoveData, IsTagOf, IsNamedBy, IsFoundFor, IsLoaded, IsRenamed, CopiedData, DataMoveCut, MovedData};
+ghost use Rattle.flash_view.specs.Same.{OnlyLooks};
+ghost use Rattle.flash_view.specs.Steps.{Stepped, failed};
+ghost use Rattle.block_gc.specs.DataMoves.{CanCopyData, IsTagOf, IsFoundFor, copying_data, naming_copy, moving_with_index};
+ghost use Rattle.page_renew.specs.Built.{IsLoaded, IsRenamed};
 
-use crate::copying::see_bytes;
-use crate::moving::build_copy;
-use crate::naming::{index_span, name_data};
 use flash_view::{Kind, View, is_entry_page};
 use nor_core::{Failed, Nor, NorState};
 use page_layout::PageHeader;
 use page_put::{finish, kill, place};
+use page_renew::{build_data, build_renamed, index_span};
 use table_model::Tag;
 
 // The id of the file whose index page has this header. The id in a header is a word.
@@ -54,32 +52,13 @@ fn index_of<N: Nor>(v: &mut View<'_, N>, page: u16) -> Result<Option<(u16, Tag)>
     Ok(Some((index, tag)))
 }
 
-// Builds the copy of a data page.
-#[tactic(auto, using(flash_view::proofs::Looking::looks_then))]
-fn build_data<N: Nor>(v: &mut View<'_, N>, page: u16) -> Result<(), Failed>
-    requires page { page < page_count v.old.geometry }
-    ensures cause { OnErr result (Rose (N.faults v.old.nor.now) (N.faults v.new.nor.now)) }
-    ensures looks { OnlyLooks v.old v.new }
-    ensures told { N.tells v.old.nor.now → OnOk result (IsLoaded v.old.geometry (N.bytes v.old.nor.now) page v.new.work.now) }
-{
-    v.load(page)?;
-    see_bytes(v.built());
-    Ok(())
-}
-
 // Puts the copy of a data page that was built at `to`, under its id and span: four programs.
-#[tactic(auto, using(flash_view::proofs::Looking::same_then))]
 fn put_data<N: Nor>(v: &mut View<'_, N>, page: u16, to: u16, tag: Tag) -> Result<(), Failed>
     requires to { IsEntryPage v.old.geometry to }
     requires id { (1 ≤ tag.id) × (tag.id ≤ 0x7FFE) }
     requires tagged { N.tells v.old.nor.now → CanCopyData v.old.geometry (N.bytes v.old.nor.now) page to → IsTagOf v.old.geometry (N.bytes v.old.nor.now) page tag }
     requires loaded { N.tells v.old.nor.now → IsLoaded v.old.geometry (N.bytes v.old.nor.now) page v.old.work.now }
-    ensures cause { OnErr result (Rose (N.faults v.old.nor.now) (N.faults v.new.nor.now)) }
-    ensures faults { N.faults v.old.nor.now ≤ N.faults v.new.nor.now }
-    ensures same { IsSameView v.old v.new }
-    ensures wrote { v.new.wrote ≡ true }
-    ensures changes { Changes N.NorState v.old.nor.now v.new.nor.now (λ was image. CanCopyData v.old.geometry was page to → MoveCut v.old.geometry to was image) }
-    ensures done { N.tells v.old.nor.now → CanCopyData v.old.geometry (N.bytes v.old.nor.now) page to → OnOk result (CopiedData v.old.geometry page to (N.bytes v.old.nor.now) (N.bytes v.new.nor.now)) }
+    ensures { Stepped failed v.old v.new result (copying_data page to) }
 {
     place(v, to, Kind::Data, tag)?;
     finish(v, to)
@@ -92,36 +71,13 @@ fn copy_data<N: Nor>(v: &mut View<'_, N>, page: u16, to: u16, tag: Tag) -> Resul
     requires to { IsEntryPage v.old.geometry to }
     requires id { (1 ≤ tag.id) × (tag.id ≤ 0x7FFE) }
     requires tagged { N.tells v.old.nor.now → CanCopyData v.old.geometry (N.bytes v.old.nor.now) page to → IsTagOf v.old.geometry (N.bytes v.old.nor.now) page tag }
-    ensures cause { OnErr result (Rose (N.faults v.old.nor.now) (N.faults v.new.nor.now)) }
-    ensures faults { N.faults v.old.nor.now ≤ N.faults v.new.nor.now }
-    ensures same { IsSameView v.old v.new }
-    ensures wrote { v.old.wrote ≡ true → v.new.wrote ≡ true }
-    ensures untouched { v.old.wrote ≡ false → v.new.wrote ≡ false → OnlyReads N.NorState v.old.nor.now v.new.nor.now }
-    ensures changes { Changes N.NorState v.old.nor.now v.new.nor.now (λ was image. CanCopyData v.old.geometry was page to → MoveCut v.old.geometry to was image) }
-    ensures done { N.tells v.old.nor.now → CanCopyData v.old.geometry (N.bytes v.old.nor.now) page to → OnOk result (CopiedData v.old.geometry page to (N.bytes v.old.nor.now) (N.bytes v.new.nor.now)) }
+    ensures { Stepped failed v.old v.new result (copying_data page to) }
 {
     build_data(v, page)?;
     put_data(v, page, to, tag)
 }
 
-// Builds the copy of an index page, in which the entry of a data span names `to`.
-#[tactic(auto, using(flash_view::proofs::Looking::looks_then))]
-fn build_renamed<N: Nor>(v: &mut View<'_, N>, index: u16, span: u16, to: u16) -> Result<(), Failed>
-    requires index { index < page_count v.old.geometry }
-    ensures cause { OnErr result (Rose (N.faults v.old.nor.now) (N.faults v.new.nor.now)) }
-    ensures looks { OnlyLooks v.old v.new }
-    ensures told { N.tells v.old.nor.now → is_index_page (live_at v.old.geometry (N.bytes v.old.nor.now) index) ≡ true → OnOk result (IsRenamed v.old.geometry (N.bytes v.old.nor.now) index span to v.new.work.now) }
-{
-    build_copy(v, index)?;
-    let g = v.geometry;
-    let len = g.page() as usize;
-    let work = &mut *v.work;
-    name_data(&g, &mut work[..len], span, to);
-    Ok(())
-}
-
 // Puts the copy of an index page that was built, and kills that page and the data page that it named: eight programs.
-#[tactic(auto, using(flash_view::proofs::Looking::same_then))]
 fn put_renamed<N: Nor>(
     v: &mut View<'_, N>,
     page: u16,
@@ -135,12 +91,7 @@ fn put_renamed<N: Nor>(
     requires index_to { IsEntryPage v.old.geometry index_to }
     requires id { (1 ≤ tag.id) × (tag.id ≤ 0x7FFE) }
     requires built { N.tells v.old.nor.now → is_index_page (live_at v.old.geometry (N.bytes v.old.nor.now) index) ≡ true → IsRenamed v.old.geometry (N.bytes v.old.nor.now) index tag.span to v.old.work.now }
-    ensures cause { OnErr result (Rose (N.faults v.old.nor.now) (N.faults v.new.nor.now)) }
-    ensures faults { N.faults v.old.nor.now ≤ N.faults v.new.nor.now }
-    ensures same { IsSameView v.old v.new }
-    ensures wrote { v.new.wrote ≡ true }
-    ensures changes { Changes N.NorState v.old.nor.now v.new.nor.now (λ was image. (first : List ℕ) → CanMoveData v.old.geometry first page to index_to → CopiedData v.old.geometry page to first was → IsNamedBy v.old.geometry first page index tag → DataMoveCut v.old.geometry to index_to first image) }
-    ensures done { N.tells v.old.nor.now → (first : List ℕ) → CanMoveData v.old.geometry first page to index_to → CopiedData v.old.geometry page to first (N.bytes v.old.nor.now) → IsNamedBy v.old.geometry first page index tag → OnOk result (MovedData v.old.geometry page to index_to first (N.bytes v.new.nor.now)) }
+    ensures { (first : List ℕ) → Stepped failed v.old v.new result (naming_copy page to index index_to tag first) }
 {
     let index_tag = Tag {
         id: tag.id,
@@ -153,7 +104,6 @@ fn put_renamed<N: Nor>(
 }
 
 // Renews the index page that names a data page whose copy was put at `to`.
-#[tactic(auto, using(flash_view::proofs::Looking::same_then))]
 fn name_copy<N: Nor>(
     v: &mut View<'_, N>,
     page: u16,
@@ -166,13 +116,7 @@ fn name_copy<N: Nor>(
     requires index { IsEntryPage v.old.geometry index }
     requires index_to { IsEntryPage v.old.geometry index_to }
     requires id { (1 ≤ tag.id) × (tag.id ≤ 0x7FFE) }
-    ensures cause { OnErr result (Rose (N.faults v.old.nor.now) (N.faults v.new.nor.now)) }
-    ensures faults { N.faults v.old.nor.now ≤ N.faults v.new.nor.now }
-    ensures same { IsSameView v.old v.new }
-    ensures wrote { v.old.wrote ≡ true → v.new.wrote ≡ true }
-    ensures untouched { v.old.wrote ≡ false → v.new.wrote ≡ false → OnlyReads N.NorState v.old.nor.now v.new.nor.now }
-    ensures changes { Changes N.NorState v.old.nor.now v.new.nor.now (λ was image. (first : List ℕ) → CanMoveData v.old.geometry first page to index_to → CopiedData v.old.geometry page to first was → IsNamedBy v.old.geometry first page index tag → DataMoveCut v.old.geometry to index_to first image) }
-    ensures done { N.tells v.old.nor.now → (first : List ℕ) → CanMoveData v.old.geometry first page to index_to → CopiedData v.old.geometry page to first (N.bytes v.old.nor.now) → IsNamedBy v.old.geometry first page index tag → OnOk result (MovedData v.old.geometry page to index_to first (N.bytes v.new.nor.now)) }
+    ensures { (first : List ℕ) → Stepped failed v.old v.new result (naming_copy page to index index_to tag first) }
 {
     build_renamed(v, index, tag.span, to)?;
     put_renamed(v, page, to, index, index_to, tag)
@@ -181,7 +125,6 @@ fn name_copy<N: Nor>(
 /// Moves a data page: a copy of it is put at `to`, a copy of the index page that names it is put at `index_to` and names
 /// the new page, and both old pages are killed, the index page first. A cut leaves the table as it is. Where the page is
 /// that of no file nothing is moved.
-#[tactic(auto, using(flash_view::proofs::Looking::same_then))]
 pub fn move_data<N: Nor>(
     v: &mut View<'_, N>,
     page: u16,
@@ -191,13 +134,7 @@ pub fn move_data<N: Nor>(
     requires page { IsEntryPage v.old.geometry page }
     requires to { IsEntryPage v.old.geometry to }
     requires index_to { IsEntryPage v.old.geometry index_to }
-    ensures cause { OnErr result (Rose (N.faults v.old.nor.now) (N.faults v.new.nor.now)) }
-    ensures faults { N.faults v.old.nor.now ≤ N.faults v.new.nor.now }
-    ensures same { IsSameView v.old v.new }
-    ensures wrote { v.old.wrote ≡ true → v.new.wrote ≡ true }
-    ensures untouched { v.old.wrote ≡ false → v.new.wrote ≡ false → OnlyReads N.NorState v.old.nor.now v.new.nor.now }
-    ensures changes { Changes N.NorState v.old.nor.now v.new.nor.now (λ was image. CanMoveData v.old.geometry was page to index_to → DataMoveCut v.old.geometry to index_to was image) }
-    ensures done { N.tells v.old.nor.now → CanMoveData v.old.geometry (N.bytes v.old.nor.now) page to index_to → OnOk result (MovedData v.old.geometry page to index_to (N.bytes v.old.nor.now) (N.bytes v.new.nor.now)) }
+    ensures { Stepped failed v.old v.new result (moving_with_index page to index_to) }
 {
     let Some((index, tag)) = index_of(v, page)? else {
         return Ok(());

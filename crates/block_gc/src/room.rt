@@ -6,7 +6,8 @@ ghost use Rattle.image_model.specs.Tidy.{IsTidy};
 ghost use Rattle.image_model.specs.Sound.{Keeps};
 ghost use Rattle.flash_view.specs.Same.{IsSameView, OnlyLooks};
 ghost use Rattle.room_laws.specs.Stopping.{CanClean, HasRoomFor};
-ghost use Rattle.block_gc.specs.RoomMade.{IsFaultOrTight, IsReady, IfReady, CleanedOrNone, MadeRoom, IsTight, RoomTurn, IsCompact, IsStuck, PackTurn};
+ghost use Rattle.flash_view.specs.Steps.{Stepped, stopped};
+ghost use Rattle.block_gc.specs.RoomMade.{IsFaultOrTight, is_apart_in, IsReady, IfReady, IsMet, IfMet, MadeRoom, IsTight, IsCompact, IsStuck, cleaning_chosen, turning_to, collecting, packing};
 
 use crate::cleaning::clean;
 use crate::next::{are_had, choose, is_stuck};
@@ -23,6 +24,14 @@ pub enum RoomErr {
     Tight,
 }
 
+// What blocks are cleaned for: so many index pages and data pages, or that no block is worth cleaning.
+#[derive(Clone, Copy)]
+enum Goal {
+    // So many of each are had, and two blocks are free.
+    Pages(u32, u32),
+    Packed,
+}
+
 // Whether so many pages of each kind are had and two blocks are free.
 #[tactic(auto, using(flash_view::proofs::Looking::looks_then))]
 fn is_ready<N: Nor>(v: &mut View<'_, N>, index: u32, data_pages: u32) -> Result<bool, Failed>
@@ -33,17 +42,22 @@ fn is_ready<N: Nor>(v: &mut View<'_, N>, index: u32, data_pages: u32) -> Result<
     Ok(free_blocks(v)? >= 2 && are_had(v, index, data_pages)?)
 }
 
+// Whether the goal is met.
+#[tactic(auto, using(flash_view::proofs::Looking::looks_then))]
+fn is_met<N: Nor>(v: &mut View<'_, N>, goal: Goal) -> Result<bool, Failed>
+    ensures cause { OnErr result (Rose (N.faults v.old.nor.now) (N.faults v.new.nor.now)) }
+    ensures looks { OnlyLooks v.old v.new }
+    ensures told { N.tells v.old.nor.now → IsTidy v.old.geometry (N.bytes v.old.nor.now) → IfOk result (λ met. IfMet v.old.geometry (N.bytes v.old.nor.now) goal met) }
+{
+    match goal {
+        Goal::Pages(index, data_pages) => is_ready(v, index, data_pages),
+        Goal::Packed => Ok(false),
+    }
+}
+
 // Cleans the chosen block, and tells whether there was one.
-#[tactic(auto, using(flash_view::proofs::Looking::same_then))]
 fn clean_chosen<N: Nor>(v: &mut View<'_, N>) -> Result<bool, StepErr>
-    ensures cause { IsErrOf result StepErr.DeviceFault → Rose (N.faults v.old.nor.now) (N.faults v.new.nor.now) }
-    ensures faults { N.faults v.old.nor.now ≤ N.faults v.new.nor.now }
-    ensures same { IsSameView v.old v.new }
-    ensures wrote { v.old.wrote ≡ true → v.new.wrote ≡ true }
-    ensures untouched { v.old.wrote ≡ false → v.new.wrote ≡ false → OnlyReads N.NorState v.old.nor.now v.new.nor.now }
-    ensures changes { Changes N.NorState v.old.nor.now v.new.nor.now (λ was image. IsTidy v.old.geometry was → Keeps v.old.geometry was image) }
-    ensures told { N.tells v.old.nor.now → IsTidy v.old.geometry (N.bytes v.old.nor.now) → IfOk result (λ cleaned. CleanedOrNone v.old.geometry cleaned (N.bytes v.old.nor.now) (N.bytes v.new.nor.now)) }
-    ensures undamaged { N.tells v.old.nor.now → IsTidy v.old.geometry (N.bytes v.old.nor.now) → IfErr result (λ why. why ≡ StepErr.DeviceFault) }
+    ensures { Stepped stopped v.old v.new result cleaning_chosen }
 {
     match choose(v) {
         Err(Failed) => Err(StepErr::DeviceFault),
@@ -55,29 +69,33 @@ fn clean_chosen<N: Nor>(v: &mut View<'_, N>) -> Result<bool, StepErr>
     }
 }
 
-// A turn of making room: whether a block more was cleaned, or the pages are had.
-#[tactic(auto, using(flash_view::proofs::Looking::same_then))]
-fn room_turn<N: Nor>(v: &mut View<'_, N>, index: u32, data_pages: u32) -> Result<bool, RoomErr>
-    ensures cause { IsErrOf result (RoomErr.Step StepErr.DeviceFault) → Rose (N.faults v.old.nor.now) (N.faults v.new.nor.now) }
-    ensures faults { N.faults v.old.nor.now ≤ N.faults v.new.nor.now }
-    ensures same { IsSameView v.old v.new }
-    ensures wrote { v.old.wrote ≡ true → v.new.wrote ≡ true }
-    ensures untouched { v.old.wrote ≡ false → v.new.wrote ≡ false → OnlyReads N.NorState v.old.nor.now v.new.nor.now }
-    ensures changes { Changes N.NorState v.old.nor.now v.new.nor.now (λ was image. IsTidy v.old.geometry was → Keeps v.old.geometry was image) }
-    ensures idle { N.tells v.old.nor.now → IsTidy v.old.geometry (N.bytes v.old.nor.now) → IsReady v.old.geometry (N.bytes v.old.nor.now) index data_pages → OnlyReads N.NorState v.old.nor.now v.new.nor.now }
-    ensures told { N.tells v.old.nor.now → IsTidy v.old.geometry (N.bytes v.old.nor.now) → IfOk result (λ more. RoomTurn v.old.geometry index data_pages more (N.bytes v.old.nor.now) (N.bytes v.new.nor.now)) }
-    ensures tight { N.tells v.old.nor.now → IsTidy v.old.geometry (N.bytes v.old.nor.now) → IsErrOf result RoomErr.Tight → IsTight v.old.geometry index data_pages (N.bytes v.old.nor.now) (N.bytes v.new.nor.now) }
-    ensures undamaged { N.tells v.old.nor.now → IsTidy v.old.geometry (N.bytes v.old.nor.now) → IfErr result (λ why. IsFaultOrTight why) }
+// A turn of collection: a block more was cleaned, or whether the goal is met where collection stops.
+fn collect_turn<N: Nor>(v: &mut View<'_, N>, goal: Goal) -> Result<Option<bool>, StepErr>
+    ensures step { Stepped stopped v.old v.new result (turning_to goal) }
+    ensures idle { N.tells v.old.nor.now → IsTidy v.old.geometry (N.bytes v.old.nor.now) → IsMet v.old.geometry (N.bytes v.old.nor.now) goal → OnlyReads N.NorState v.old.nor.now v.new.nor.now }
 {
-    match is_ready(v, index, data_pages) {
-        Err(Failed) => Err(RoomErr::Step(StepErr::DeviceFault)),
-        Ok(true) => Ok(false),
+    match is_met(v, goal) {
+        Err(Failed) => Err(StepErr::DeviceFault),
+        Ok(true) => Ok(Some(true)),
         Ok(false) => match clean_chosen(v) {
-            Err(why) => Err(RoomErr::Step(why)),
-            Ok(true) => Ok(true),
-            Ok(false) => Err(RoomErr::Tight),
+            Err(why) => Err(why),
+            Ok(true) => Ok(None),
+            Ok(false) => Ok(Some(false)),
         },
     }
+}
+
+// Cleans the chosen block, one after the other, until the goal is met or no block is chosen: whether it is met.
+fn collect<N: Nor>(v: &mut View<'_, N>, goal: Goal) -> Result<bool, StepErr>
+    ensures step { Stepped stopped v.old v.new result (collecting goal) }
+    ensures idle { N.tells v.old.nor.now → IsTidy v.old.geometry (N.bytes v.old.nor.now) → IsMet v.old.geometry (N.bytes v.old.nor.now) goal → OnlyReads N.NorState v.old.nor.now v.new.nor.now }
+{
+    for _turn in 0..u64::MAX {
+        if let Some(met) = collect_turn(v, goal)? {
+            return Ok(met);
+        }
+    }
+    Ok(false)
 }
 
 /// Cleans blocks until so many index pages and data pages are had and two blocks are free, and cleans none where that is so
@@ -95,36 +113,23 @@ pub fn make_room<N: Nor>(v: &mut View<'_, N>, index: u32, data_pages: u32) -> Re
     ensures tight { N.tells v.old.nor.now → IsTidy v.old.geometry (N.bytes v.old.nor.now) → IsErrOf result RoomErr.Tight → IsTight v.old.geometry index data_pages (N.bytes v.old.nor.now) (N.bytes v.new.nor.now) }
     ensures never_tight { N.tells v.old.nor.now → CanClean v.old.geometry (N.bytes v.old.nor.now) → HasRoomFor v.old.geometry (N.bytes v.old.nor.now) index data_pages → IfErr result (λ why. why ≢ RoomErr.Tight) }
     ensures undamaged { N.tells v.old.nor.now → IsTidy v.old.geometry (N.bytes v.old.nor.now) → IfErr result (λ why. IsFaultOrTight why) }
+    ensures differs { IfErr result is_apart_in }
 {
-    for _turn in 0..u64::MAX {
-        if !room_turn(v, index, data_pages)? {
-            return Ok(());
-        }
+    match collect(v, Goal::Pages(index, data_pages)) {
+        Err(why) => Err(RoomErr::Step(why)),
+        Ok(true) => Ok(()),
+        Ok(false) => Err(RoomErr::Tight),
     }
-    Err(RoomErr::Tight)
 }
 
-// A turn of packing: whether a block more was cleaned, or none is worth cleaning.
-#[tactic(auto, using(flash_view::proofs::Looking::same_then))]
-fn pack_turn<N: Nor>(v: &mut View<'_, N>) -> Result<bool, RoomErr>
-    ensures cause { IsErrOf result (RoomErr.Step StepErr.DeviceFault) → Rose (N.faults v.old.nor.now) (N.faults v.new.nor.now) }
-    ensures faults { N.faults v.old.nor.now ≤ N.faults v.new.nor.now }
-    ensures same { IsSameView v.old v.new }
-    ensures wrote { v.old.wrote ≡ true → v.new.wrote ≡ true }
-    ensures untouched { v.old.wrote ≡ false → v.new.wrote ≡ false → OnlyReads N.NorState v.old.nor.now v.new.nor.now }
-    ensures changes { Changes N.NorState v.old.nor.now v.new.nor.now (λ was image. IsTidy v.old.geometry was → Keeps v.old.geometry was image) }
-    ensures told { N.tells v.old.nor.now → IsTidy v.old.geometry (N.bytes v.old.nor.now) → IfOk result (λ more. PackTurn v.old.geometry more (N.bytes v.old.nor.now) (N.bytes v.new.nor.now)) }
-    ensures tight { N.tells v.old.nor.now → IsTidy v.old.geometry (N.bytes v.old.nor.now) → IsErrOf result RoomErr.Tight → IsStuck v.old.geometry (N.bytes v.old.nor.now) (N.bytes v.new.nor.now) }
-    ensures undamaged { N.tells v.old.nor.now → IsTidy v.old.geometry (N.bytes v.old.nor.now) → IfErr result (λ why. IsFaultOrTight why) }
+// Cleans the chosen block, one after the other, until none is chosen: whether collection is stuck then.
+fn pack<N: Nor>(v: &mut View<'_, N>) -> Result<bool, StepErr>
+    ensures { Stepped stopped v.old v.new result packing }
 {
-    match clean_chosen(v) {
-        Err(why) => Err(RoomErr::Step(why)),
-        Ok(true) => Ok(true),
-        Ok(false) => match is_stuck(v) {
-            Err(Failed) => Err(RoomErr::Step(StepErr::DeviceFault)),
-            Ok(true) => Err(RoomErr::Tight),
-            Ok(false) => Ok(false),
-        },
+    collect(v, Goal::Packed)?;
+    match is_stuck(v) {
+        Err(Failed) => Err(StepErr::DeviceFault),
+        Ok(stuck) => Ok(stuck),
     }
 }
 
@@ -142,11 +147,11 @@ pub fn compact<N: Nor>(v: &mut View<'_, N>) -> Result<(), RoomErr>
     ensures tight { N.tells v.old.nor.now → IsTidy v.old.geometry (N.bytes v.old.nor.now) → IsErrOf result RoomErr.Tight → IsStuck v.old.geometry (N.bytes v.old.nor.now) (N.bytes v.new.nor.now) }
     ensures never_tight { N.tells v.old.nor.now → CanClean v.old.geometry (N.bytes v.old.nor.now) → IfErr result (λ why. why ≢ RoomErr.Tight) }
     ensures undamaged { N.tells v.old.nor.now → IsTidy v.old.geometry (N.bytes v.old.nor.now) → IfErr result (λ why. IsFaultOrTight why) }
+    ensures differs { IfErr result is_apart_in }
 {
-    for _turn in 0..u64::MAX {
-        if !pack_turn(v)? {
-            return Ok(());
-        }
+    match pack(v) {
+        Err(why) => Err(RoomErr::Step(why)),
+        Ok(true) => Err(RoomErr::Tight),
+        Ok(false) => Ok(()),
     }
-    Err(RoomErr::Tight)
 }

@@ -1,5 +1,5 @@
 // The room of a block, and that of all blocks together.
-ghost use Rattle.std.specs.Prelude.{◌≡◌, ◌≤◌, OnErr, IfOk, if◌then◌else◌};
+ghost use Rattle.std.specs.Prelude.{◌≡◌, OnErr, IfOk, if◌then◌else◌};
 ghost use Rattle.image_model.specs.Tidy.{IsTidy};
 ghost use Rattle.nor_core.specs.Count.{Rose};
 ghost use Rattle.flash_view.specs.Same.{OnlyLooks};

@@ -1,8 +1,17 @@
-use Rattle.std.proofs.Common.{sym, ◌∙◌}
-use Rattle.block_gc.proofs.DataTurnCalls.{turn_before}
+use Rattle.std.proofs.Common.{refl, sym, ◌∙◌}
+use Rattle.flash_view.proofs.Stepped.{looked, after_look}
+use Rattle.block_gc.proofs.DataTurnCalls.{turn_stays, idle_turn, has_turn}
 use Rattle.block_gc.proofs.emptying_data.empty_page.Goals as goal
 
-pub returns-in-Ok-true-clause-changes : goal.returns-in-Ok-true-clause-changes
-returns-in-Ok-true-clause-changes g c =
-    turn_before c.args.v.now.geometry c.args.page c.args.block c.is_data.ensures.looks.reads _ c.is_data.ensures.looks.same.geometry
-    (λ tells. sym (c.in-Ok-true.ensures.told tells) ∙ c.in-Ok-true.field-0-test) c.move_out.ensures.changes
+pub returns-in-Err : goal.returns-in-Err
+returns-in-Err g c = let seen = c.in-Err.ensures in looked seen.looks (λ e. seen.cause) tt (λ tells places. (turn_stays _ _ _ places, refl))
+
+pub returns-in-Ok-false : goal.returns-in-Ok-false
+returns-in-Ok-false g c =
+    let seen = c.in-Ok-false.ensures in
+    looked seen.looks (λ e. absurd (cc)) tt (λ tells places. (turn_stays _ _ _ places, idle_turn _ _ _ _ places (sym (seen.told tells) ∙ c.in-Ok-false.field-0-test)))
+
+pub returns-in-Ok-true : goal.returns-in-Ok-true
+returns-in-Ok-true g c =
+    let seen = c.in-Ok-true.ensures in
+    after_look seen.looks c.move_out.ensures (λ tells places. has_turn _ _ _ _ (sym (seen.told tells) ∙ c.in-Ok-true.field-0-test) places)

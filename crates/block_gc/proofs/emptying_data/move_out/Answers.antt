@@ -1,23 +1,28 @@
-use Rattle.block_gc.proofs.DataTurnCalls.{some_of, out_can, out_cut, out_done}
+use Rattle.std.proofs.Common.{refl}
+use Rattle.flash_view.proofs.Stepped.{looked, after_look, fault_as, done_as, view_image}
+use Rattle.block_gc.specs.DataEmptied.{moving_data_out}
+use Rattle.block_gc.proofs.DataTurnCalls.{none_found, some_of, found_places, moves_out, turn_stays}
 use Rattle.block_gc.proofs.emptying_data.move_out.Goals as goal
 
-pub returns-in-Ok-None-clause-undamaged : goal.returns-in-Ok-None-clause-undamaged
-returns-in-Ok-None-clause-undamaged g c = λ tells can.
-    absurd (rw c.in-Ok-None.field-0-is at (c.in-Ok-None.ensures.told tells can.places (some_of c.args.v.now.geometry (g.N.NorState.bytes c.args.v.now.nor.now) c.args.page c.args.block c.requires.at can)))
+pub returns-in-Err : goal.returns-in-Err
+returns-in-Err g c = let seen = c.in-Err.ensures in looked seen.looks (λ e. seen.cause) tt (λ tells can. (turn_stays _ _ _ can.places, refl))
 
-pub returns-in-Err-move_data-clause-changes : goal.returns-in-Err-move_data-clause-changes
-returns-in-Err-move_data-clause-changes g c = out_cut c.args.v.now.geometry c.args.page c.in-Ok-Some.to c.in-Ok-Some.index_to c.args.block c.requires.at _ (g.met.N.Nor.sized _) c.args.v.now.volume
-    c.in-Ok-Some.field-0 c.in-Ok-Some.field-0-is c.in-Ok-Some.ensures.told c.find_places.ensures.looks.reads _ c.find_places.ensures.looks.same.geometry c.move_data.ensures.changes
+pub returns-in-Ok-None : goal.returns-in-Ok-None
+returns-in-Ok-None g c =
+    let seen = c.in-Ok-None.ensures in
+    looked {step = moving_data_out c.args.block c.args.page} seen.looks (λ e. absurd (cc)) c.no_place.ensures (λ tells can. (
+      turn_stays _ _ _ can.places,
+      absurd (none_found _ _ _ _ c.in-Ok-None.field-0-is (seen.told tells can.places (some_of _ _ _ _ c.requires.at can))),
+    ))
 
-pub returns-in-Ok-clause-changes : goal.returns-in-Ok-clause-changes
-returns-in-Ok-clause-changes g c = out_cut c.args.v.now.geometry c.args.page c.in-Ok-Some.to c.in-Ok-Some.index_to c.args.block c.requires.at _ (g.met.N.Nor.sized _) c.args.v.now.volume
-    c.in-Ok-Some.field-0 c.in-Ok-Some.field-0-is c.in-Ok-Some.ensures.told c.find_places.ensures.looks.reads _ c.find_places.ensures.looks.same.geometry c.move_data.ensures.changes
+pub returns-in-Err-move_data : goal.returns-in-Err-move_data
+returns-in-Err-move_data g c =
+    let seen = c.in-Ok-Some.ensures in
+    fault_as (after_look seen.looks c.in-Err-move_data.ensures
+    (λ tells can. moves_out _ _ _ _ _ _ c.requires.at (view_image c.args.v.now (g.met.N.Nor.sized _) tells) can (found_places _ _ _ _ _ _ c.in-Ok-Some.field-0-is (seen.told tells can.places (some_of _ _ _ _ c.requires.at can)))))
 
-pub returns-in-Ok-clause-done : goal.returns-in-Ok-clause-done
-returns-in-Ok-clause-done g c = λ tells can.
-    let looks = c.find_places.ensures.looks in
-    out_done c.args.v.now.geometry c.args.page c.in-Ok-Some.to c.in-Ok-Some.index_to c.args.block c.requires.at _ (g.met.N.Nor.sized _) c.args.v.now.volume
-    c.in-Ok-Some.field-0 c.in-Ok-Some.field-0-is c.in-Ok-Some.ensures.told c.find_places.ensures.looks.reads _ c.find_places.ensures.looks.same.geometry _ tells can
-    ((rw (looks.same.geometry, looks.reads.bytes) at c.in-Ok.ensures.done) (looks.reads.told tells)
-    (out_can c.args.v.now.geometry c.args.page c.in-Ok-Some.to c.in-Ok-Some.index_to c.args.block c.requires.at _ (g.met.N.Nor.sized _) c.args.v.now.volume
-    c.in-Ok-Some.field-0 c.in-Ok-Some.field-0-is c.in-Ok-Some.ensures.told c.find_places.ensures.looks.reads _ c.find_places.ensures.looks.same.geometry tells can))
+pub returns-in-Ok : goal.returns-in-Ok
+returns-in-Ok g c =
+    let seen = c.in-Ok-Some.ensures in
+    done_as (after_look seen.looks c.in-Ok.ensures
+    (λ tells can. moves_out _ _ _ _ _ _ c.requires.at (view_image c.args.v.now (g.met.N.Nor.sized _) tells) can (found_places _ _ _ _ _ _ c.in-Ok-Some.field-0-is (seen.told tells can.places (some_of _ _ _ _ c.requires.at can)))))

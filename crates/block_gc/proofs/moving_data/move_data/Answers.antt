@@ -1,29 +1,23 @@
-use Rattle.std.proofs.Common.{◌∙◌}
-use Rattle.block_gc.proofs.DataCalls.{move_looked, move_cut1, move_cut2, copied_is, found_is}
+use Rattle.flash_view.proofs.Stepped.{looked, look_fails, after_look, fails, stepped_then}
+use Rattle.block_gc.proofs.DataCalls.{none_moved, copy_first, then_names, found_is}
 use Rattle.block_gc.proofs.moving_data.move_data.Goals as goal
 
-pub returns-in_default-clause-changes : goal.returns-in_default-clause-changes
-returns-in_default-clause-changes g c = move_looked c.args.v.now.geometry c.args.page c.args.to c.args.index_to c.index_of.ensures.looks.reads
+pub returns-in_err-index : goal.returns-in_err-index
+returns-in_err-index g c = let seen = c.in_err-index.ensures in look_fails seen.looks seen.cause c.from_residual.ensures.0 (λ tells can. none_moved _ _ _ _ _ can)
 
-pub returns-in_err-copy_data-clause-changes : goal.returns-in_err-copy_data-clause-changes
-returns-in_err-copy_data-clause-changes g c =
-    move_cut1 c.args.v.now.geometry c.args.page c.args.to c.args.index_to c.in-Some.index c.in-Some.tag c.index_of.ensures.looks.reads _ c.index_of.ensures.looks.same.geometry c.copy_data.ensures.changes
+pub returns-in_default : goal.returns-in_default
+returns-in_default g c =
+    let seen = c.in_ok-index.ensures in
+    looked seen.looks (λ e. absurd (cc)) tt (λ tells can. (none_moved _ _ _ _ _ can, absurd (rw c.in_default.is at (seen.told tells can.copy.tidy can.copy.is_data))))
 
-pub returns-clause-changes : goal.returns-clause-changes
-returns-clause-changes g c =
-    move_cut2 c.args.v.now.geometry c.args.page c.args.to c.args.index_to c.in-Some.index c.in-Some.tag c.index_of.ensures.looks.reads _ c.index_of.ensures.looks.same.geometry c.copy_data.ensures.changes
-    c.in_ok-copy_data.ensures.done
-    (λ tells can. found_is c.args.v.now.geometry (g.N.NorState.bytes c.args.v.now.nor.now) c.args.page c.in_ok-index.field-0 c.in-Some.index c.in-Some.tag c.in-Some.is
-    (c.in_ok-index.ensures.told tells can.copy.tidy can.copy.is_data))
-    _ (c.copy_data.ensures.same.geometry ∙ c.index_of.ensures.looks.same.geometry) c.name_copy.ensures.changes
+pub returns-in_err-copy_data : goal.returns-in_err-copy_data
+returns-in_err-copy_data g c =
+    fails (after_look c.in_ok-index.ensures.looks c.in_err-copy_data.ensures (λ tells can. record { needs = can; cut = λ d cut. cut; done = λ d ok done. done })) c.from_residual-in_err-copy_data.ensures.0
+    (λ tells can. copy_first _ _ _ _ _ can)
 
-pub returns-clause-done : goal.returns-clause-done
-returns-clause-done g c = λ tells can.
-    let same = c.copy_data.ensures.same.geometry ∙ c.index_of.ensures.looks.same.geometry in
-    (rw same at c.name_copy.ensures.done) (c.copy_data.ensures.changes.cuts.told (c.index_of.ensures.looks.reads.told tells)) (g.N.NorState.bytes c.args.v.now.nor.now) can
-    (copied_is c.args.v.now.geometry c.args.page c.args.to c.args.index_to c.in-Some.index c.in-Some.tag c.index_of.ensures.looks.reads _ c.index_of.ensures.looks.same.geometry c.copy_data.ensures.changes
-    c.in_ok-copy_data.ensures.done
-    (λ tells can. found_is c.args.v.now.geometry (g.N.NorState.bytes c.args.v.now.nor.now) c.args.page c.in_ok-index.field-0 c.in-Some.index c.in-Some.tag c.in-Some.is
-    (c.in_ok-index.ensures.told tells can.copy.tidy can.copy.is_data))
-    tells can)
-    (found_is c.args.v.now.geometry (g.N.NorState.bytes c.args.v.now.nor.now) c.args.page c.in_ok-index.field-0 c.in-Some.index c.in-Some.tag c.in-Some.is (c.in_ok-index.ensures.told tells can.copy.tidy can.copy.is_data))
+pub returns : goal.returns
+returns g c =
+    let seen = c.in_ok-index.ensures in
+    stepped_then (after_look seen.looks c.in_ok-copy_data.ensures (λ tells can. record { needs = can; cut = λ d cut. cut; done = λ d ok done. done })) (c.name_copy.ensures (g.N.NorState.bytes c.args.v.now.nor.now))
+    (λ tells can. copy_first _ _ _ _ _ can)
+    (λ tells can copied. then_names _ _ _ _ _ _ c.in-Some.index c.in-Some.tag can (found_is _ _ _ _ _ _ c.in-Some.is (seen.told tells can.copy.tidy can.copy.is_data)) copied)

@@ -1,13 +1,9 @@
-use Rattle.block_gc.proofs.DataCalls.{renew_looked, renew_before}
+use Rattle.flash_view.proofs.Stepped.{look_fails, after_look}
+use Rattle.block_gc.proofs.DataCalls.{renew_stays}
 use Rattle.block_gc.proofs.moving_data.name_copy.Goals as goal
 
-pub returns-in_err-build_renamed-clause-changes : goal.returns-in_err-build_renamed-clause-changes
-returns-in_err-build_renamed-clause-changes g c = renew_looked c.args.v.now.geometry c.args.page c.args.to c.args.index_to c.args.index c.args.tag c.build_renamed.ensures.looks.reads
+pub returns-in_err-build_renamed : goal.returns-in_err-build_renamed
+returns-in_err-build_renamed g c = λ first. let seen = c.in_err-build_renamed.ensures in look_fails seen.looks seen.cause c.from_residual.ensures.0 (λ tells since. renew_stays _ _ _ _ _ _ _ _ since)
 
-pub returns-clause-changes : goal.returns-clause-changes
-returns-clause-changes g c =
-    renew_before c.args.v.now.geometry c.args.page c.args.to c.args.index_to c.args.index c.args.tag c.build_renamed.ensures.looks.reads _ c.build_renamed.ensures.looks.same.geometry c.put_renamed.ensures.changes
-
-pub returns-clause-done : goal.returns-clause-done
-returns-clause-done g c = λ tells first can copied named.
-    (rw (c.build_renamed.ensures.looks.same.geometry, c.build_renamed.ensures.looks.reads.bytes) at c.put_renamed.ensures.done) (c.build_renamed.ensures.looks.reads.told tells) first can copied named
+pub returns : goal.returns
+returns g c = λ first. after_look c.in_ok-build_renamed.ensures.looks (c.put_renamed.ensures first) (λ tells since. record { needs = since; cut = λ d cut. cut; done = λ d ok done. done })

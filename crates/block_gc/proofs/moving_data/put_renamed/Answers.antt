@@ -1,34 +1,68 @@
-use Rattle.std.proofs.Common.{◌∙◌, refl}
-use Rattle.std.proofs.lemmas.Result.{on_ok_weaker}
-use Rattle.block_gc.proofs.DataCalls.{renew_cut1, renew_cut2, renew_cut3, renew_cut4, renew_done}
+use Rattle.std.proofs.Common.{◌+◌, ◌*◌, [], ◌∷◌, refl}
+use Rattle.table_model.specs.declared.error.Tag.{Tag}
+use Rattle.nor_core.specs.Flash.{HalfProgrammed, programmed}
+use Rattle.flash_view.specs.declared.kinds.Kind.TheVariants.{Index}
+use Rattle.flash_view.proofs.Stepped.{made, fails, stepped_then}
+use Rattle.page_put.specs.Kills.{killed, HalfKilled}
+use Rattle.page_put.specs.Placing.{placed_page, with_page, IsPlacing}
+use Rattle.block_gc.specs.DataMoves.{naming_copy}
+use Rattle.block_gc.proofs.DataCalls.{so_begins, so_on, so_ends, renew_begins, renew_finishes, renew_kills, renew_ends}
 use Rattle.block_gc.proofs.moving_data.put_renamed.Goals as goal
 
-pub returns-in_err-place-clause-changes : goal.returns-in_err-place-clause-changes
-returns-in_err-place-clause-changes g c =
-    renew_cut1 c.args.v.now.geometry c.args.page c.args.to c.args.index_to c.args.index c.args.tag _ refl c.index_span.ensures c.args.v.now.work.now c.requires.built c.place.ensures.changes
+pub returns-in_err-place : goal.returns-in_err-place
+returns-in_err-place g c = λ first.
+    let view = c.args.v.now in
+    let page = c.args.page in
+    let to = c.args.to in
+    let index = c.args.index in
+    let index_to = c.args.index_to in
+    let tag = c.args.tag in
+    let work = view.work.now in
+    let t : Tag = record { id = tag.id; span = c.index_span.result } in
+    let one = c.in_err-place.ensures in
+    fails (made (λ h. IsPlacing h index_to (placed_page h Index t work)) (λ h. with_page h index_to (placed_page h Index t work)) one.same one.wrote one.cause one.changes one.done) c.from_residual.ensures.0 (λ tells since. renew_begins _ _ _ page to index_to index tag since t refl c.index_span.ensures work (c.requires.built tells))
 
-pub returns-in_err-finish-clause-changes : goal.returns-in_err-finish-clause-changes
-returns-in_err-finish-clause-changes g c =
-    renew_cut2 c.args.v.now.geometry c.args.page c.args.to c.args.index_to c.args.index c.args.tag _ refl c.index_span.ensures c.args.v.now.work.now c.requires.built c.place.ensures.changes
-    c.in_ok-place.ensures.done _ c.place.ensures.same.geometry c.finish.ensures.changes
+pub returns-in_err-finish : goal.returns-in_err-finish
+returns-in_err-finish g c = λ first.
+    let view = c.args.v.now in
+    let page = c.args.page in
+    let to = c.args.to in
+    let index = c.args.index in
+    let index_to = c.args.index_to in
+    let tag = c.args.tag in
+    let work = view.work.now in
+    let t : Tag = record { id = tag.id; span = c.index_span.result } in
+    let one = c.in_ok-place.ensures in
+    let two = c.in_err-finish.ensures in
+    fails (stepped_then (made (λ h. IsPlacing h index_to (placed_page h Index t work)) (λ h. with_page h index_to (placed_page h Index t work)) one.same one.wrote one.cause one.changes one.done) (made (λ h. HalfProgrammed (index_to * h.page + 4) (0xFD ∷ [])) (λ h a. programmed a (index_to * h.page + 4) (0xFD ∷ [])) two.same two.wrote two.cause two.changes two.done) (λ tells since. so_begins (renew_begins _ _ _ page to index_to index tag since t refl c.index_span.ensures work (c.requires.built tells))) (λ tells since. renew_finishes _ _ _ page to index_to index tag since t refl c.index_span.ensures work (c.requires.built tells) _)) c.from_residual-in_err-finish.ensures.0 (λ tells since. so_ends (naming_copy page to index index_to tag first) since)
 
-pub returns-in_err-kill-clause-changes : goal.returns-in_err-kill-clause-changes
-returns-in_err-kill-clause-changes g c =
-    renew_cut3 c.args.v.now.geometry c.args.page c.args.to c.args.index_to c.args.index c.args.tag _ refl c.index_span.ensures c.args.v.now.work.now c.requires.built c.place.ensures.changes
-    c.in_ok-place.ensures.done _ c.place.ensures.same.geometry c.finish.ensures.changes
-    c.in_ok-finish.ensures.done _ (c.finish.ensures.same.geometry ∙ c.place.ensures.same.geometry) c.kill.ensures.changes
+pub returns-in_err-kill : goal.returns-in_err-kill
+returns-in_err-kill g c = λ first.
+    let view = c.args.v.now in
+    let page = c.args.page in
+    let to = c.args.to in
+    let index = c.args.index in
+    let index_to = c.args.index_to in
+    let tag = c.args.tag in
+    let work = view.work.now in
+    let t : Tag = record { id = tag.id; span = c.index_span.result } in
+    let one = c.in_ok-place.ensures in
+    let two = c.in_ok-finish.ensures in
+    let three = c.in_err-kill.ensures in
+    fails (stepped_then (stepped_then (made (λ h. IsPlacing h index_to (placed_page h Index t work)) (λ h. with_page h index_to (placed_page h Index t work)) one.same one.wrote one.cause one.changes one.done) (made (λ h. HalfProgrammed (index_to * h.page + 4) (0xFD ∷ [])) (λ h a. programmed a (index_to * h.page + 4) (0xFD ∷ [])) two.same two.wrote two.cause two.changes two.done) (λ tells since. so_begins (renew_begins _ _ _ page to index_to index tag since t refl c.index_span.ensures work (c.requires.built tells))) (λ tells since. renew_finishes _ _ _ page to index_to index tag since t refl c.index_span.ensures work (c.requires.built tells) _)) (made (λ h. HalfKilled h index) (λ h. killed h index) three.same three.wrote three.cause three.changes three.done) (λ tells since. so_on (naming_copy page to index index_to tag first) since) (λ tells since. renew_kills _ _ _ page to index_to index tag since t refl c.index_span.ensures work (c.requires.built tells) _)) c.from_residual-in_err-kill.ensures.0 (λ tells since. so_ends (naming_copy page to index index_to tag first) since)
 
-pub returns-clause-changes : goal.returns-clause-changes
-returns-clause-changes g c =
-    renew_cut4 c.args.v.now.geometry c.args.page c.args.to c.args.index_to c.args.index c.args.tag _ refl c.index_span.ensures c.args.v.now.work.now c.requires.built c.place.ensures.changes
-    c.in_ok-place.ensures.done _ c.place.ensures.same.geometry c.finish.ensures.changes
-    c.in_ok-finish.ensures.done _ (c.finish.ensures.same.geometry ∙ c.place.ensures.same.geometry) c.kill.ensures.changes
-    c.in_ok-kill.ensures.done _ (c.kill.ensures.same.geometry ∙ c.finish.ensures.same.geometry ∙ c.place.ensures.same.geometry) c.kill-2.ensures.changes
-
-pub returns-clause-done : goal.returns-clause-done
-returns-clause-done g c = λ tells first can copied named. on_ok_weaker _
-    (λ is. renew_done c.args.v.now.geometry c.args.page c.args.to c.args.index_to c.args.index c.args.tag _ refl c.index_span.ensures c.args.v.now.work.now c.requires.built c.place.ensures.changes
-    c.in_ok-place.ensures.done _ c.place.ensures.same.geometry c.finish.ensures.changes
-    c.in_ok-finish.ensures.done _ (c.finish.ensures.same.geometry ∙ c.place.ensures.same.geometry) c.kill.ensures.changes
-    c.in_ok-kill.ensures.done _ (c.kill.ensures.same.geometry ∙ c.finish.ensures.same.geometry ∙ c.place.ensures.same.geometry) c.kill-2.ensures.changes tells first can copied named is)
-    (c.kill-2.ensures.done (c.kill.ensures.changes.cuts.told (c.finish.ensures.changes.cuts.told (c.place.ensures.changes.cuts.told tells))))
+pub returns : goal.returns
+returns g c = λ first.
+    let view = c.args.v.now in
+    let page = c.args.page in
+    let to = c.args.to in
+    let index = c.args.index in
+    let index_to = c.args.index_to in
+    let tag = c.args.tag in
+    let work = view.work.now in
+    let t : Tag = record { id = tag.id; span = c.index_span.result } in
+    let one = c.in_ok-place.ensures in
+    let two = c.in_ok-finish.ensures in
+    let three = c.in_ok-kill.ensures in
+    let four = c.kill-2.ensures in
+    stepped_then (stepped_then (stepped_then (made (λ h. IsPlacing h index_to (placed_page h Index t work)) (λ h. with_page h index_to (placed_page h Index t work)) one.same one.wrote one.cause one.changes one.done) (made (λ h. HalfProgrammed (index_to * h.page + 4) (0xFD ∷ [])) (λ h a. programmed a (index_to * h.page + 4) (0xFD ∷ [])) two.same two.wrote two.cause two.changes two.done) (λ tells since. so_begins (renew_begins _ _ _ page to index_to index tag since t refl c.index_span.ensures work (c.requires.built tells))) (λ tells since. renew_finishes _ _ _ page to index_to index tag since t refl c.index_span.ensures work (c.requires.built tells) _)) (made (λ h. HalfKilled h index) (λ h. killed h index) three.same three.wrote three.cause three.changes three.done) (λ tells since. so_on (naming_copy page to index index_to tag first) since) (λ tells since. renew_kills _ _ _ page to index_to index tag since t refl c.index_span.ensures work (c.requires.built tells) _)) (made (λ h. HalfKilled h page) (λ h. killed h page) four.same four.wrote four.cause four.changes four.done) (λ tells since. so_ends (naming_copy page to index index_to tag first) since) (λ tells since. renew_ends _ _ _ page to index_to index tag since t refl c.index_span.ensures work (c.requires.built tells) _)

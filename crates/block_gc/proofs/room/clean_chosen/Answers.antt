@@ -1,31 +1,28 @@
-use Rattle.std.proofs.Common.{◌∙◌, rules}
-use Rattle.file_drop.proofs.Passing.{image_of}
-use Rattle.block_gc.proofs.Cleanings.{chosen_there, chosen_changes, chosen_cleaned}
+use Rattle.std.proofs.Common.{◌≡◌, refl, sym, ◌∙◌, rules, Err}
+use Rattle.flash_view.proofs.Stepped.{looked, after_look, passes, ends_as, view_image}
+use Rattle.block_gc.proofs.CleanedBlocks.{tidy_keeps}
+use Rattle.block_gc.proofs.Cleanings.{cleans_chosen, one_cleaned}
 use Rattle.block_gc.proofs.room.clean_chosen.Goals as goal
 
-pub returns-in_err-clean-in-Ok-Some-clause-changes : goal.returns-in_err-clean-in-Ok-Some-clause-changes
-returns-in_err-clean-in-Ok-Some-clause-changes g c =
-    let seen = c.choose.ensures.looks in
-    chosen_changes c.args.v.now.geometry c.in-Ok-Some.block c.in-Ok-Some.field-0 c.in-Ok-Some.field-0-is seen.reads c.in-Ok-Some.ensures.told _ seen.same.geometry c.clean.ensures.changes
+pub returns-in-Err : goal.returns-in-Err
+returns-in-Err g c = let seen = c.in-Err.ensures in looked seen.looks (λ e. seen.cause) tt (λ tells t. (tidy_keeps _ _ t, refl))
 
-pub returns-in_err-clean-in-Ok-Some-clause-undamaged : goal.returns-in_err-clean-in-Ok-Some-clause-undamaged
-returns-in_err-clean-in-Ok-Some-clause-undamaged g c = λ tells tidy.
-    let seen = c.choose.ensures.looks in
-    let why = c.in_err-clean-in-Ok-Some.ensures.undamaged (seen.reads.told tells)
-    (chosen_there c.args.v.now.geometry c.in-Ok-Some.block c.in-Ok-Some.field-0 c.in-Ok-Some.field-0-is seen.reads c.in-Ok-Some.ensures.told _ seen.same.geometry tells tidy) in
-    search rules
+pub returns-in-Ok-None : goal.returns-in-Ok-None
+returns-in-Ok-None g c =
+    let seen = c.in-Ok-None.ensures in
+    looked seen.looks (λ e. absurd (cc)) tt (λ tells t. (tidy_keeps _ _ t, (sym (seen.told tells t) ∙ c.in-Ok-None.field-0-is, refl)))
 
-pub returns-in_ok-clean-in-Ok-Some-clause-changes : goal.returns-in_ok-clean-in-Ok-Some-clause-changes
-returns-in_ok-clean-in-Ok-Some-clause-changes g c =
-    let seen = c.choose.ensures.looks in
-    chosen_changes c.args.v.now.geometry c.in-Ok-Some.block c.in-Ok-Some.field-0 c.in-Ok-Some.field-0-is seen.reads c.in-Ok-Some.ensures.told _ seen.same.geometry c.clean.ensures.changes
+pub returns-in_err-clean-in-Ok-Some : goal.returns-in_err-clean-in-Ok-Some
+returns-in_err-clean-in-Ok-Some g c =
+    let seen = c.in-Ok-Some.ensures in
+    let is : c.from_residual.result ≡ Err c.in_err-clean-in-Ok-Some.field-0.0 = search rules in
+    passes (after_look seen.looks c.in_err-clean-in-Ok-Some.ensures (λ tells can. record { needs = can; cut = λ d cut. cut; done = λ d ok done. done })) is
+    (λ tells t. cleans_chosen _ _ _ (sym (seen.told tells t) ∙ c.in-Ok-Some.field-0-is) t)
 
-pub returns-in_ok-clean-in-Ok-Some-clause-told : goal.returns-in_ok-clean-in-Ok-Some-clause-told
-returns-in_ok-clean-in-Ok-Some-clause-told g c = λ tells tidy.
-    let view = c.args.v.now in
-    let seen = c.choose.ensures.looks in
-    let still = c.clean.ensures.same.geometry ∙ seen.same.geometry in
-    chosen_cleaned view.geometry c.in-Ok-Some.block c.in-Ok-Some.field-0 c.in-Ok-Some.field-0-is seen.reads c.in-Ok-Some.ensures.told _ seen.same.geometry
-    (λ here. image_of view.geometry (g.N.NorState.bytes view.nor.now) (g.N.NorState.size view.nor.now) (g.met.N.Nor.sized view.nor.now here) view.volume)
-    (λ here. image_of view.geometry (g.N.NorState.bytes c.clean.new.v.nor.now) (g.N.NorState.size c.clean.new.v.nor.now) (g.met.N.Nor.sized c.clean.new.v.nor.now (c.clean.ensures.changes.cuts.told (seen.reads.told here))) (rw still at c.clean.new.v.volume))
-    c.in_ok-clean-in-Ok-Some.ensures.done tells tidy
+pub returns-in_ok-clean-in-Ok-Some : goal.returns-in_ok-clean-in-Ok-Some
+returns-in_ok-clean-in-Ok-Some g c =
+    let seen = c.in-Ok-Some.ensures in
+    let block = c.in-Ok-Some.block in
+    ends_as (after_look seen.looks c.in_ok-clean-in-Ok-Some.ensures (λ tells can. record { needs = can; cut = λ d cut. cut; done = λ d ok done. done }))
+    (λ tells t. cleans_chosen _ _ block (sym (seen.told tells t) ∙ c.in-Ok-Some.field-0-is) t)
+    (λ tells t done. one_cleaned _ _ _ block (view_image c.args.v.now (g.met.N.Nor.sized _) tells) (sym (seen.told tells t) ∙ c.in-Ok-Some.field-0-is) done)

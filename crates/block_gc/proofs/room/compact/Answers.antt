@@ -1,72 +1,16 @@
-use Rattle.std.proofs.Common.{◌≡◌, true, arith, rules}
-use Rattle.nor_core.proofs.Cuts.{reads_none}
-use Rattle.flash_view.proofs.Looking.{same_none, same_then}
-use Rattle.block_gc.proofs.TurnCalls.{untouched_then}
-use Rattle.block_gc.proofs.Cleanings.{cleanings_none, keeps_none, keeps_then, never_ends, other_cause, pack_goes, pack_never}
+use Rattle.std.proofs.Common.{ap, inl}
+use Rattle.block_gc.specs.declared.room.RoomErr.TheVariants.{Step}
+use Rattle.block_gc.proofs.Cleanings.{never_stuck_there}
 use Rattle.block_gc.proofs.room.compact.Goals as goal
 
-pub loop-turn-init : goal.loop-turn-init
-loop-turn-init g c =
-    let view = c.args.v.now in
-    record {
-      same = same_none view;
-      faults = omega arith;
-      wrote = λ e. e;
-      untouched = λ was is. reads_none view.nor.now;
-      changes = keeps_none view.geometry view.nor.now;
-      told = λ tells tidy. cleanings_none view.geometry (g.N.NorState.bytes view.nor.now) tidy;
-    }
+pub returns-in-Err-clause-undamaged : goal.returns-in-Err-clause-undamaged
+returns-in-Err-clause-undamaged g c = λ tells t. inl (ap Step (c.in-Err.ensures.ends tells t))
 
-pub returns-in_err-pack_turn-clause-changes : goal.returns-in_err-pack_turn-clause-changes
-returns-in_err-pack_turn-clause-changes g c =
-    let was = c.loop-turn.invariant in
-    keeps_then c.args.v.now.geometry c.loop-turn._turn _ was.same.geometry was.told was.changes c.pack_turn.ensures.changes
+pub returns-in-Ok-false-clause-done : goal.returns-in-Ok-false-clause-done
+returns-in-Ok-false-clause-done g c = λ tells t. rw c.in-Ok-false.field-0-test at (c.in-Ok-false.ensures.ends tells t)
 
-pub returns-in_err-pack_turn-clause-never_tight : goal.returns-in_err-pack_turn-clause-never_tight
-returns-in_err-pack_turn-clause-never_tight g c = λ tells can.
-    let view = c.args.v.now in
-    let was = c.loop-turn.invariant in
-    let why = other_cause _ (pack_never view.geometry g.N.NorState c.loop-turn._turn _ was.same.geometry view.nor.now c.loop-turn.v.nor.now was.told was.changes.cuts.told _ c.in_err-pack_turn.ensures.tight tells can) in
-    search rules
+pub returns-in-Ok-true-clause-tight : goal.returns-in-Ok-true-clause-tight
+returns-in-Ok-true-clause-tight g c = λ tells t says. rw c.in-Ok-true.field-0-test at (c.in-Ok-true.ensures.ends tells t)
 
-pub returns-then-not-branch-clause-changes : goal.returns-then-not-branch-clause-changes
-returns-then-not-branch-clause-changes g c =
-    let was = c.loop-turn.invariant in
-    keeps_then c.args.v.now.geometry c.loop-turn._turn _ was.same.geometry was.told was.changes c.pack_turn.ensures.changes
-
-pub loop-turn-preserved : goal.loop-turn-preserved
-loop-turn-preserved g c =
-    let view = c.args.v.now in
-    let was = c.loop-turn.invariant in
-    let step = c.pack_turn.ensures in
-    let more : c.in_ok-pack_turn.field-0 ≡ true = search rules in
-    record {
-      same = same_then was.same step.same;
-      faults = omega (arith, was.faults, step.faults);
-      wrote = λ e. step.wrote (was.wrote e);
-      untouched = untouched_then view.wrote c.loop-turn.v.wrote c.pack_turn.new.v.wrote was.untouched step.wrote step.untouched;
-      changes = keeps_then view.geometry c.loop-turn._turn _ was.same.geometry was.told was.changes step.changes;
-      told = pack_goes view.geometry g.N.NorState c.loop-turn._turn _ was.same.geometry view.nor.now c.loop-turn.v.nor.now was.told was.changes.cuts.told c.in_ok-pack_turn.field-0 _ more c.in_ok-pack_turn.ensures.told;
-    }
-
-pub returns-clause-tight : goal.returns-clause-tight
-returns-clause-tight g c = λ tells tidy says.
-    let was = c.loop-turn.invariant in
-    absurd (never_ends c.args.v.now.geometry g.N.NorState c.loop-turn._turn _ was.same.geometry c.args.v.now.nor.now c.loop-turn.v.nor.now was.told was.changes.cuts.told (omega (arith, c.loop-turn-test.false)) tells tidy)
-
-pub returns-clause-never_tight : goal.returns-clause-never_tight
-returns-clause-never_tight g c = λ tells can says.
-    let was = c.loop-turn.invariant in
-    never_ends c.args.v.now.geometry g.N.NorState c.loop-turn._turn _ was.same.geometry c.args.v.now.nor.now c.loop-turn.v.nor.now was.told was.changes.cuts.told (omega (arith, c.loop-turn-test.false)) tells can.tidy
-
-pub returns-in_err-pack_turn-clause-untouched : goal.returns-in_err-pack_turn-clause-untouched
-returns-in_err-pack_turn-clause-untouched g c =
-    let was = c.loop-turn.invariant in
-    let step = c.pack_turn.ensures in
-    untouched_then c.args.v.now.wrote c.loop-turn.v.wrote c.pack_turn.new.v.wrote was.untouched step.wrote step.untouched
-
-pub returns-then-not-branch-clause-untouched : goal.returns-then-not-branch-clause-untouched
-returns-then-not-branch-clause-untouched g c =
-    let was = c.loop-turn.invariant in
-    let step = c.pack_turn.ensures in
-    untouched_then c.args.v.now.wrote c.loop-turn.v.wrote c.pack_turn.new.v.wrote was.untouched step.wrote step.untouched
+pub returns-in-Ok-true-clause-never_tight : goal.returns-in-Ok-true-clause-never_tight
+returns-in-Ok-true-clause-never_tight g c = λ tells can says. never_stuck_there _ _ _ can (rw c.in-Ok-true.field-0-test at (c.in-Ok-true.ensures.ends tells can.tidy))

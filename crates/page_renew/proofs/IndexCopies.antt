@@ -19,9 +19,9 @@ use Rattle.image_laws.proofs.Frames.{LivePage, live_parts}
 use Rattle.image_laws.proofs.Judge.{index_passes}
 use Rattle.image_laws.proofs.Placing.{page_byte}
 use Rattle.page_put.specs.Placing.{placed_page}
-use Rattle.block_gc.specs.Moves.{count_of, kept_of, IsCopy}
-use Rattle.block_gc.specs.Built.{IsBuilt}
-use Rattle.block_gc.proofs.MovedIndexes.{some_index, index_some}
+use Rattle.page_renew.specs.Copies.{count_of, kept_of, IsCopy}
+use Rattle.page_renew.specs.Built.{IsBuilt}
+use Rattle.page_renew.proofs.Homes.{some_index, index_some}
 
 -- ---- how many data pages a file has
 

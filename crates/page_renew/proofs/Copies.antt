@@ -10,7 +10,7 @@ use Rattle.std.proofs.lemmas.Option.{none-some, same_Some}
 use Rattle.geometry.specs.declared.geometry.Geometry.{Geometry}
 use Rattle.page_layout.specs.Layout.{SameOutside, slot_place, name_of, name_field, padded}
 use Rattle.page_layout.proofs.Stays.{name_stays, range_stays}
-use Rattle.block_gc.specs.Moves.{IsCopy}
+use Rattle.page_renew.specs.Copies.{IsCopy}
 
 -- the bytes of a name aren't zero
 name_by : (field name : List ℕ) (o : Option ℕ) → position (λ b. b == 0) field ≡ o → option_and_then (λ n. if n == 0 then None else Some (take n field)) o ≡ Some name → All (λ b. b ≢ 0) name

@@ -1,7 +1,7 @@
 // The copy of an index page.
-ghost use Rattle.std.specs.Prelude.{◌≡◌, ◌≢◌, ℕ, ◌+◌, ◌-◌, ◌<◌, ◌≤◌, List, length, slice_index, Some};
+ghost use Rattle.std.specs.Prelude.{◌≡◌, ℕ, ◌+◌, ◌-◌, ◌<◌, ◌≤◌, List, length, slice_index, Some};
 ghost use Rattle.page_layout.specs.Layout.{SameOutside, name_of as name_in, name_field, padded, slots_of, slot_place};
-ghost use Rattle.block_gc.specs.Moves.{kept_of, IsCopy};
+ghost use Rattle.page_renew.specs.Copies.{kept_of, IsCopy};
 
 use geometry::Geometry;
 use page_layout::{name_of, put_name};

@@ -22,7 +22,7 @@ use Rattle.image_laws.proofs.Frames.{word_at-same, range-same}
 use Rattle.image_laws.proofs.Leading.{copies-same}
 use Rattle.image_laws.proofs.Reindexed.{entry-slot}
 use Rattle.image_laws.proofs.Wanted.{judged-whole}
-use Rattle.block_gc.specs.Moves.{kept_of, IsCopy}
+use Rattle.page_renew.specs.Copies.{kept_of, IsCopy}
 
 not-true : (b : Bool) → not b ≡ true → b ≡ false
 not-true true e = absurd (cc)

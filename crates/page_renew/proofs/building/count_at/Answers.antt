@@ -2,8 +2,8 @@ use Rattle.std.proofs.Common.{sym, ◌∙◌, ap}
 use Rattle.flash_view.proofs.Looking.{looks_then}
 use Rattle.geometry.specs.declared.geometry.Geometry.{Geometry}
 use Rattle.table_model.specs.Room.{data_pages}
-use Rattle.block_gc.proofs.Building.{count_none, count_some}
-use Rattle.block_gc.proofs.moving.count_at.Goals as goal
+use Rattle.page_renew.proofs.IndexCopies.{count_none, count_some}
+use Rattle.page_renew.proofs.building.count_at.Goals as goal
 
 pub returns-in_default-clause-told : goal.returns-in_default-clause-told
 returns-in_default-clause-told g c = λ tells.

@@ -1,5 +1,5 @@
 // Where an index page names a data page.
-ghost use Rattle.std.specs.Prelude.{◌≡◌, ℕ, ◌<◌, ◌≤◌, length, slice_index};
+ghost use Rattle.std.specs.Prelude.{◌≡◌, ℕ, ◌<◌, length, slice_index};
 ghost use Rattle.page_layout.specs.Layout.{SameOutside};
 ghost use Rattle.image_laws.specs.InPlace.{slot_at};
 ghost use Rattle.image_laws.specs.Reindex.{index_span as the_index_span, slot_word};
@@ -8,8 +8,8 @@ use crate::copying::see_bytes;
 use geometry::Geometry;
 use page_layout::put_slot;
 
-// The span of the index page that has the entry of a data span.
-pub(crate) fn index_span(g: &Geometry, span: u16) -> u16
+/// The span of the index page that has the entry of a data span.
+pub fn index_span(g: &Geometry, span: u16) -> u16
     ensures { result ≡ the_index_span g.now span }
 {
     let span = u32::from(span);

@@ -1,6 +1,6 @@
 use Rattle.std.proofs.Common.{drop}
-use Rattle.block_gc.proofs.DataBuilding.{renamed_by}
-use Rattle.block_gc.proofs.moving_data.build_renamed.Goals as goal
+use Rattle.page_renew.proofs.DataBuilding.{renamed_by}
+use Rattle.page_renew.proofs.building.build_renamed.Goals as goal
 
 pub returns-clause-told : goal.returns-clause-told
 returns-clause-told g c = λ tells index.

@@ -10,8 +10,7 @@ use Rattle.image_laws.specs.InPlace.{slot_at}
 use Rattle.image_laws.specs.Reindex.{slot_word}
 use Rattle.image_laws.proofs.Frames.{LivePage, live_parts}
 use Rattle.image_laws.proofs.Placing.{page_byte}
-use Rattle.block_gc.specs.Built.{IsBuilt}
-use Rattle.block_gc.specs.DataMoves.{IsLoaded, IsRenamed}
+use Rattle.page_renew.specs.Built.{IsBuilt, IsLoaded, IsRenamed}
 
 pub loaded_by : (g : Geometry) (image : List ℕ) (page : ℕ) (work built : List ℕ) → take g.page work ≡ page_of g image page → built ≡ take g.page work → ((k : ℕ) → slice_index built k < 256) → IsLoaded g image page work
 loaded_by g image page work built same is small = record {

@@ -1,7 +1,7 @@
 use Rattle.std.proofs.Common.{drop}
 use Rattle.flash_view.proofs.Looking.{looks_then}
-use Rattle.block_gc.proofs.Building.{built_by}
-use Rattle.block_gc.proofs.moving.build_copy.Goals as goal
+use Rattle.page_renew.proofs.IndexCopies.{built_by}
+use Rattle.page_renew.proofs.building.build_copy.Goals as goal
 
 pub returns-clause-looks : goal.returns-clause-looks
 returns-clause-looks g c =

@@ -1,6 +1,6 @@
-use Rattle.block_gc.proofs.Copies.{further_copy, header_copy}
-use Rattle.block_gc.proofs.copying.copy_index.Goals.{then-span-eq0, else-span-eq0}
-use Rattle.block_gc.proofs.copying.copy_index.Goals as goal
+use Rattle.page_renew.proofs.Copies.{further_copy, header_copy}
+use Rattle.page_renew.proofs.copying.copy_index.Goals.{then-span-eq0, else-span-eq0}
+use Rattle.page_renew.proofs.copying.copy_index.Goals as goal
 
 pub returns-clause-copy : goal.returns-clause-copy
 returns-clause-copy c = elim c.if-span-eq0.branch [

@@ -1,7 +1,7 @@
 use Rattle.std.proofs.Common.{◌∙◌, ap, take}
 use Rattle.geometry.specs.declared.geometry.Geometry.{Geometry}
-use Rattle.block_gc.proofs.DataBuilding.{loaded_by}
-use Rattle.block_gc.proofs.moving_data.build_data.Goals as goal
+use Rattle.page_renew.proofs.DataBuilding.{loaded_by}
+use Rattle.page_renew.proofs.building.build_data.Goals as goal
 
 pub returns-clause-told : goal.returns-clause-told
 returns-clause-told g c = λ tells.

@@ -1,0 +1,6 @@
+pub mod Copies
+pub mod Renewed
+pub mod Homes
+pub mod IndexCopies
+pub mod SlotNames
+pub mod DataBuilding
