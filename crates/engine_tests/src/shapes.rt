@@ -231,9 +231,15 @@ fn entries_go_on_in_a_second_lookup_page(rt: HostRuntime) -> Result<(), Fail> {
     }
     // The 65th entry is the first of the second lookup page, and its page is the 67th.
     let image = volume.nor.image();
-    assert_eq!(rt; image.get(126..130), Some([0x40, 0x80, 0x41, 0x80].as_slice()));
+    assert_eq!(rt;
+        image.get(126..130),
+        Some([0x40, 0x80, 0x41, 0x80].as_slice())
+    );
     assert_eq!(rt; image.get(130..132), Some([0xFF, 0xFF].as_slice()));
-    assert_eq!(rt; image.get(8448..8453), Some([0x41, 0x80, 0, 0, 0xF8].as_slice()));
+    assert_eq!(rt;
+        image.get(8448..8453),
+        Some([0x41, 0x80, 0, 0, 0xF8].as_slice())
+    );
     volume.remove(b"file64")?;
     assert_eq!(rt; volume.nor.image().get(128..130), Some([0u8, 0].as_slice()));
     assert_eq!(rt; volume.info()?.files, 64);
