@@ -1,5 +1,5 @@
 //! Devices in memory, and what is asked of the engine on them.
-ghost use Rattle.std.specs.Prelude.{◌≡◌, ◌*◌, ◌≤◌, length};
+ghost use Rattle.std.specs.Prelude.{◌<◌};
 
 use block_gc::{RoomErr, are_had, choose, clean, compact, is_stuck, make_room, score};
 use fd_table::FdSlot;

