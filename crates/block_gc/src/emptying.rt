@@ -154,7 +154,11 @@ fn empty_page<N: Nor>(v: &mut View<'_, N>, page: u16, block: u16, kind: Kind) ->
 }
 
 // Moves the live pages of a block that holds no others out of it, in page order, data pages each with a renewed index page.
-pub(crate) fn empty_block<N: Nor>(v: &mut View<'_, N>, block: u16, kind: Kind) -> Result<(), StepErr>
+pub(crate) fn empty_block<N: Nor>(
+    v: &mut View<'_, N>,
+    block: u16,
+    kind: Kind,
+) -> Result<(), StepErr>
     requires { block < v.old.geometry.blocks }
     ensures { Stepped stopped v.old v.new result (emptying_of kind block) }
 {

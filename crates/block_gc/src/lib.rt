@@ -13,7 +13,7 @@ mod scores;
 mod totals;
 
 pub use cleaning::clean;
+pub use laws::scores_are_told;
 pub use next::{are_had, choose, is_stuck};
 pub use room::{RoomErr, compact, make_room};
-pub use laws::scores_are_told;
 pub use scores::score;
