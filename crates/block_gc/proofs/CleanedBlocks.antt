@@ -10,12 +10,12 @@ use Rattle.image_model.specs.Sound.{Keeps}
 use Rattle.image_laws.proofs.Sounding.{keeps-itself}
 use Rattle.image_laws.proofs.SpareKill.{tidy-has_magics}
 use Rattle.image_laws.proofs.TidySteps.{tidy-is_tidy}
-use Rattle.flash_view.specs.Steps.{Finishes}
 use Rattle.room_laws.proofs.Blocks.{told}
 use Rattle.room_laws.proofs.Cleans.{free_told, index_is_cleaned, data_is_cleaned}
 use Rattle.free_search.proofs.FreePages.{data_none, data_some}
-use Rattle.block_gc.specs.Emptied.{CanCleanIndex, CleanCut, CleanedIndex, cleaning_index}
-use Rattle.block_gc.specs.Cleanings.{CanCleanData, CleanDataCut, CleanedData, CanCleanBlock, CleanBlockCut, CleanedBlock, cleaning_data, cleaning_block}
+use Rattle.block_gc.proofs.Freshened.{deleted_stays}
+use Rattle.block_gc.specs.Emptied.{CanCleanIndex, CleanCut, CleanedIndex}
+use Rattle.block_gc.specs.Cleanings.{CanCleanData, CleanDataCut, CleanedData, CanCleanBlock, CleanBlockCut, CleanedBlock}
 
 -- a device that holds the volume holds an image of it
 pub image_of : (g : Geometry) (bytes : List ℕ) (size : ℕ) → length bytes ≡ size → g.blocks * g.block ≤ size → IsImage g bytes
@@ -50,6 +50,7 @@ module _ (g : Geometry) (a : List ℕ) (block : ℕ) (can : CanCleanBlock g a bl
   pub index_done : data_in g a block ≡ 0 → block < g.blocks → (b : List ℕ) → CleanedIndex g block a b → CleanedBlock g block a b
   index_done none low b done = record {
     image = done.image;
+    deleted = let same = deleted_stays g block a b done.beside.deleted in omega (arith, same);
     cleaned = index_is_cleaned g a b block can.tidy low (index_can none).plain (record {
       tidy = done.tidy;
       table = done.table;
@@ -77,12 +78,4 @@ module _ (g : Geometry) (a : List ℕ) (block : ℕ) (can : CanCleanBlock g a bl
   data_cut some x cut = record { keeps = cut.keeps; free = cut.free; plain = λ e. let bad : true ≡ false = sym (holds some) ∙ e in absurd (cc) }
 
   pub data_done : 0 < data_in g a block → block < g.blocks → (b : List ℕ) → CleanedData g block a b → CleanedBlock g block a b
-  data_done some low b done = record { image = done.image; cleaned = data_is_cleaned g a b block can.tidy low (holds some) done.cleans; count = done.count }
-
--- ---- the steps
-
-pub cleans_index : (g : Geometry) (a : List ℕ) (block : ℕ) → block < g.blocks → data_in g a block ≡ 0 → CanCleanBlock g a block → Finishes g a a (cleaning_index block) (cleaning_block block)
-cleans_index g a block low none can = record { needs = index_can g a block can none; cut = λ c cut. index_cut g a block can none c cut; done = λ c ok done. index_done g a block can none low c done }
-
-pub cleans_data : (g : Geometry) (a : List ℕ) (block : ℕ) → block < g.blocks → 0 < data_in g a block → CanCleanBlock g a block → Finishes g a a (cleaning_data block) (cleaning_block block)
-cleans_data g a block low some can = record { needs = data_can g a block can some; cut = λ c cut. data_cut g a block can some c cut; done = λ c ok done. data_done g a block can some low c done }
+  data_done some low b done = record { image = done.image; deleted = done.deleted; cleaned = data_is_cleaned g a b block can.tidy low (holds some) done.cleans; count = done.count }

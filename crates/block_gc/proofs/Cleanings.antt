@@ -1,5 +1,5 @@
 -- Cleaning block after block, over plain images.
-use Rattle.std.proofs.Common.{◌≡◌, ℕ, ◌+◌, ◌-◌, ◌<◌, ◌^◌, List, map, Bool, true, false, Some, None, Result, refl, sym, ◌∙◌, subst, arith}
+use Rattle.std.proofs.Common.{◌≡◌, ℕ, ◌+◌, ◌-◌, ◌<◌, ◌^◌, List, [], ◌∷◌, ◌++◌, map, Bool, true, false, Some, None, Result, refl, sym, ◌∙◌, subst, arith}
 use Rattle.std.specs.List.{Contains}
 use Rattle.geometry.specs.declared.geometry.Geometry.{Geometry}
 use Rattle.nor_core.specs.declared.state.NorState.{Ghosts as NorOf}
@@ -11,7 +11,7 @@ use Rattle.image_model.specs.Live.{live_at}
 use Rattle.image_model.specs.Places.{IsImage}
 use Rattle.image_model.specs.Tables.{table_of}
 use Rattle.image_model.specs.Tidy.{IsTidy, HasReserve}
-use Rattle.image_model.specs.Collect.{chosen_block, is_stuck}
+use Rattle.image_model.specs.Collect.{chosen_block, is_stuck, Swept}
 use Rattle.image_model.specs.Sound.{Keeps}
 use Rattle.image_laws.proofs.BlockCounts.{blocks-split}
 use Rattle.image_laws.proofs.OneIdTidy.{mixed-none}
@@ -26,18 +26,37 @@ use Rattle.block_gc.specs.declared.room.Goal.{Goal}
 use Rattle.block_gc.specs.declared.room.Goal.TheVariants.{Pages, Packed}
 use Rattle.block_gc.specs.Cleanings.{CanCleanBlock, CleanedBlock, cleaning_block}
 use Rattle.block_gc.proofs.CleanedBlocks.{worth_used}
-use Rattle.block_gc.specs.RoomMade.{Cleanings, MadeRoom, IsTight, IsCompact, IsStuck, IsMet, StopsAt, Collected, PackedOrStuck, cleaning_chosen, collecting, packing}
+use Rattle.block_gc.specs.RoomMade.{SweptAlong, SweptTo, Cleanings, MadeRoom, IsTight, IsCompact, IsStuck, IsMet, StopsAt, Collected, PackedOrStuck, cleaning_chosen, collecting, packing}
+
+-- ---- swept steps
+
+swept_none : (g : Geometry) (a : List ℕ) → SweptTo g a a
+unfolding SweptAlong
+swept_none g a = record { through = []; steps = refl }
+
+swept_once : (g : Geometry) (a b : List ℕ) → Swept g a b → SweptTo g a b
+unfolding SweptAlong
+swept_once g a b swept = record { through = a ∷ []; steps = (refl, swept) }
+
+along_on : (g : Geometry) (a b c : List ℕ) (first second : List (List ℕ)) → SweptAlong g a first b → SweptAlong g b second c → SweptAlong g a (second ++ first) c
+unfolding SweptAlong
+along_on g a b c first [] x y = subst (λ (l : List ℕ). SweptAlong g a first l) (sym y) x
+along_on g a b c first (m ∷ more) x y = (along_on g a b m first more x y.0, y.1)
+
+swept_on : (g : Geometry) (a b c : List ℕ) → SweptTo g a b → SweptTo g b c → SweptTo g a c
+swept_on g a b c first second = record { through = second.through ++ first.through; steps = along_on g a b c first.through second.through first.steps second.steps }
 
 -- ---- one cleaning
 
 pub chosen_can : (g : Geometry) (a : List ℕ) (block : ℕ) → IsTidy g a → chosen_block g a ≡ Some block → CanCleanBlock g a block
 chosen_can g a block t chosen = let is = chosen_is_candidate g a block chosen in record { tidy = t; used = worth_used g a block t is.within is.worth; fits = is.fits }
 
-pub one_cleaned : (g : Geometry) (a b : List ℕ) (block : ℕ) → IsImage g a → chosen_block g a ≡ Some block → CleanedBlock g block a b → Cleanings g 1 a b
-one_cleaned g a b block is chosen done = record {
+pub one_cleaned : (g : Geometry) (a b : List ℕ) (block : ℕ) → IsImage g a → IsTidy g a → chosen_block g a ≡ Some block → CleanedBlock g block a b → Cleanings g 1 a b
+one_cleaned g a b block is t chosen done = record {
   image = done.image;
   tidy = done.cleaned.after;
   table = done.cleaned.table;
+  swept = swept_once g a b (record { block = block; chosen = chosen; tidy_before = t; tidy_after = done.cleaned.after; table = done.cleaned.table; free = done.cleaned.free; deleted = done.deleted });
   lower = let less = cleaned_is_lower g a b block is done.image done.cleaned (chosen_is_candidate g a block chosen).worth in omega (arith, less);
   again = λ before. cleaned_can_clean g a b block before done.image done.cleaned;
 }
@@ -56,13 +75,14 @@ both_keep g a b t now table = record {
 }
 
 pub cleanings_none : (g : Geometry) (a : List ℕ) → IsImage g a → IsTidy g a → Cleanings g 0 a a
-cleanings_none g a is t = record { image = is; tidy = t; table = refl; lower = omega arith; again = λ can. can }
+cleanings_none g a is t = record { image = is; tidy = t; table = refl; swept = swept_none g a; lower = omega arith; again = λ can. can }
 
 pub cleanings_on : (g : Geometry) (n : ℕ) (a b c : List ℕ) → Cleanings g n a b → Cleanings g 1 b c → Cleanings g (n + 1) a c
 cleanings_on g n a b c first second = record {
   image = second.image;
   tidy = second.tidy;
   table = second.table ∙ first.table;
+  swept = swept_on g a b c first.swept second.swept;
   lower = let p = first.lower in let q = second.lower in omega (arith, p, q);
   again = λ can. second.again (first.again can);
 }
@@ -78,12 +98,13 @@ pub keeps_reserve : (g : Geometry) (n : ℕ) (a b : List ℕ) → IsImage g a �
 keeps_reserve g n a b is t all none reserve = stopped_has_reserve g b (all.again (reserve_can_clean g a is t reserve)) none
 
 pub made_room : (g : Geometry) (i d : ℕ) (a b : List ℕ) → Collected g (Pages i d) true a b → MadeRoom g i d a b
-made_room g i d a b all = record { tidy = all.cleanings.tidy; table = all.cleanings.table; ready = all.stops }
+made_room g i d a b all = record { tidy = all.cleanings.tidy; table = all.cleanings.table; swept = all.cleanings.swept; ready = all.stops }
 
 pub is_tight : (g : Geometry) (i d : ℕ) (a b : List ℕ) → IsImage g a → IsTidy g a → Collected g (Pages i d) false a b → IsTight g i d a b
 is_tight g i d a b is t all = record {
   tidy = all.cleanings.tidy;
   table = all.cleanings.table;
+  swept = all.cleanings.swept;
   none = all.stops.0;
   short = all.stops.1;
   again = all.cleanings.again;
@@ -113,6 +134,7 @@ module _ (g : Geometry) (met : Bool) (a b : List ℕ) (is : IsImage g a) (t : Is
       record {
         tidy = there;
         table = all.cleanings.table;
+        swept = all.cleanings.swept;
         worth = λ block low. unstuck_has_no_worth g b block there stopped free low;
         packed = packed;
         free = let all' = (blocks-split g b now).0 in let index = packed.index in let pages = packed.pages in omega (arith, all', index, pages);
@@ -124,6 +146,7 @@ module _ (g : Geometry) (met : Bool) (a b : List ℕ) (is : IsImage g a) (t : Is
   is_stuck_there stuck = record {
     tidy = all.cleanings.tidy;
     table = all.cleanings.table;
+    swept = all.cleanings.swept;
     none = stopped;
     stuck = stuck;
     again = all.cleanings.again;

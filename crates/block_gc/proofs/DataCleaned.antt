@@ -13,7 +13,6 @@ use Rattle.image_model.specs.Collect.{data_in, free_outside, takes_index, takes_
 use Rattle.image_laws.proofs.Damaged.{any_at}
 use Rattle.image_laws.proofs.Frames.{table_of-same}
 use Rattle.image_laws.proofs.Sounding.{keeps-on}
-use Rattle.flash_view.specs.Steps.{Begins, Finishes, acting}
 use Rattle.room_laws.specs.Counting.{block_counts}
 use Rattle.room_laws.specs.Emptying.{BlockFreed}
 use Rattle.room_laws.proofs.Totals.{ceil-le}
@@ -23,11 +22,12 @@ use Rattle.room_laws.proofs.Moved.{data_takes}
 use Rattle.room_laws.proofs.Freed.{others_stay, emptying_ends}
 use Rattle.free_search.proofs.FreePages.{data_none, data_parts, some_entries}
 use Rattle.page_put.specs.Fresh.{Freshens, IsFresh}
-use Rattle.block_gc.specs.DataEmptied.{blocks_needed, HasDataPlaces, DataTurnCut, DataEmptied, emptying_of_data}
-use Rattle.block_gc.specs.Cleanings.{CanCleanData, CleanDataCut, CleanedData, cleaning_data}
+use Rattle.block_gc.specs.DataEmptied.{blocks_needed, HasDataPlaces, DataTurnCut, DataEmptied}
+use Rattle.block_gc.specs.Cleanings.{CanCleanData, CleanDataCut, CleanedData}
 use Rattle.block_gc.proofs.CleanedBlocks.{tidy_keeps}
 use Rattle.block_gc.proofs.DataTurnCalls.{no_page, dead_of}
-use Rattle.block_gc.proofs.Freshened.{free_falls, fresh_keeps, fresh_live, fresh_tidy}
+use Rattle.block_gc.proofs.SameBlocks.{same_deleted}
+use Rattle.block_gc.proofs.Freshened.{away, deleted_stays, free_falls, fresh_keeps, fresh_live, fresh_tidy}
 
 -- ---- so few free blocks are needed
 
@@ -128,18 +128,9 @@ module _ (g : Geometry) (block : ℕ) (first a : List ℕ) (is : IsImage g a) (b
     freed_done = record {
       image = let size = fresh.outside.size in let whole = is.len in record { len = omega (arith, size, whole) };
       cleans = emptying_ends g first a b block below can.holds empty.moves freed;
+      deleted =
+          let same = deleted_stays g block a b (λ d low other. same_deleted g a b d low (away g block a b fresh.outside d other)) in
+          let sums = empty.deleted in
+          omega (arith, same, sums);
       count = fresh.count ∙ next;
     }
-
--- ---- the steps
-
-pub data_empties : (g : Geometry) (a : List ℕ) (block : ℕ) → block < g.blocks → CanCleanData g a block → Begins g a (emptying_of_data block) (cleaning_data block)
-data_empties g a block low can = record { needs = data_places g a block low can; cut = λ x cut. moving_cut g a x block low can cut }
-
-pub data_freshens : (g : Geometry) (first a : List ℕ) (block count : ℕ) → IsImage g a → block < g.blocks → count ≡ next_count g first → CanCleanData g first block → DataEmptied g block (page_count g) first a →
-    Finishes g first a (acting (λ h. Freshens h block) (λ h. IsFresh h block count)) (cleaning_data block)
-data_freshens g first a block count is below next can empty = record {
-  needs = tt;
-  cut = λ x cut. freed_cut g block first a is below can empty x cut;
-  done = λ b ok fresh. freed_done g block first a is below can empty count b fresh next;
-}

@@ -90,6 +90,7 @@ idle_turn g a o block places none = record {
   used = λ was. was;
   moves = λ first so_far. so_far;
   taken = refl;
+  deleted = refl;
 }
 
 -- a live data page has its turn
@@ -120,6 +121,7 @@ emptied_start g block p a first places = record {
   used = λ was. was;
   moves = emptying_begins g a block places.tidy;
   taken = refl;
+  deleted = refl;
 }
 
 pub emptied_then : (g : Geometry) (block p next : ℕ) (was mid now : List ℕ) → next ≡ p + 1 → DataEmptied g block p was mid → DataTurn g block p mid now → DataEmptied g block next was now
@@ -137,6 +139,7 @@ emptied_then g block p next was mid now more before step =
       used = λ e. step.used (before.used e);
       moves = step.moves was before.moves;
       taken = omega (arith, sums, taken);
+      deleted = step.deleted ∙ before.deleted;
     }
 
 -- the turns of the first n pages of the block
@@ -168,4 +171,5 @@ emptied_end g block p was now all last before = record {
   used = before.used;
   moves = before.moves;
   taken = before.taken;
+  deleted = before.deleted;
 }

@@ -12,7 +12,7 @@ use Rattle.image_model.specs.Live.{live_at}
 use Rattle.image_model.specs.Places.{block_of, has_magic, entry_of, is_entry_page}
 use Rattle.image_model.specs.Tidy.{is_free_entry, is_free_block, free_blocks}
 use Rattle.image_model.specs.Kinds.{is_index_page, is_data_page, is_index_block, is_data_block}
-use Rattle.image_model.specs.Collect.{free_in, data_in, takes_index, takes_data, free_where, free_outside}
+use Rattle.image_model.specs.Collect.{free_in, data_in, takes_index, takes_data, free_where, free_outside, is_deleted_entry, deleted_in, deleted_outside}
 use Rattle.image_laws.proofs.Damaged.{any_from}
 use Rattle.image_laws.proofs.Frames.{live_parts}
 use Rattle.image_laws.proofs.FreeBlocks.{filter-same, used-is_not_free}
@@ -68,6 +68,20 @@ dead_used g a q zero = rw (ne_eqb (entry_of g a q) 0xFFFF (λ e. let bad : 0 ≡
 
 free_dead : (g : Geometry) (a : List ℕ) (q : ℕ) → is_free_entry g a q ≡ true → live_at g a q ≡ None
 free_dead g a q free = free_is_dead g a q (eqb-true _ 0xFFFF (and_parts _ _ free).0)
+
+-- neither a live page nor a free one has a deleted entry, and a killed one has
+and_false : (x : Bool) → (x && false) ≡ false
+and_false true = refl
+and_false false = refl
+
+live_undeleted : (g : Geometry) (a : List ℕ) (q : ℕ) (x : List ℕ) → live_at g a q ≡ Some x → is_deleted_entry g a q ≡ false
+live_undeleted g a q x live = rw live (and_false (not (entry_of g a q == 0xFFFF)))
+
+free_undeleted : (g : Geometry) (a : List ℕ) (q : ℕ) → is_free_entry g a q ≡ true → is_deleted_entry g a q ≡ false
+free_undeleted g a q free = let ones : (entry_of g a q == 0xFFFF) ≡ true = (and_parts _ _ free).0 in rw ones refl
+
+killed_deleted : (g : Geometry) (a : List ℕ) (q : ℕ) → entry_of g a q ≡ 0 → live_at g a q ≡ None → is_deleted_entry g a q ≡ true
+killed_deleted g a q zero none = rw (ne_eqb (entry_of g a q) 0xFFFF (λ e. let bad : 0 ≡ 0xFFFF = sym zero ∙ e in absurd (omega (arith, bad))), none) refl
 
 module _ (g : Geometry) (a b : List ℕ) (o p j block : ℕ) (can : CanMoveData g a o p j) (m : MovedData g o p j a b) (at : block_of g o ≡ block) (low : block < g.blocks) (plain : is_index_block g a block ≡ false)
     (to : IsFreeFor g a Data 0 (Some block) p) (index_to : IsFreeFor g a Index 0 (Some (block_of g p)) j) where
@@ -240,6 +254,47 @@ module _ (g : Geometry) (a b : List ℕ) (o p j block : ℕ) (can : CanMoveData 
       (λ q from end other. let u = entry_in g block q low from end in data_same q other (other_page block q p u.0 (λ z. p_not_block (sym z)))) in
       let gone : is_data_page (live_at g b o) ≡ false = rw m.gone refl in
       let f = rw (can.copy.is_data, gone) at e in omega (arith, f)
+
+  -- ---- deleted entries
+
+  deleted_same : (q : ℕ) → is_entry_page g q ≡ true → q ≢ o → q ≢ m.index → is_deleted_entry g b q ≡ is_deleted_entry g a q
+  deleted_same q page not_o not_w =
+      ⊎_elim
+      (λ (here : q ≡ p). rw here (live_undeleted g b p m.copy m.moved ∙ sym (free_undeleted g a p to.free)))
+      (λ (not_p : q ≡ p → ⊥). ⊎_elim
+      (λ (here : q ≡ j). rw here (live_undeleted g b j m.index_copy m.renewed ∙ sym (free_undeleted g a j index_to.free)))
+      (λ (not_j : q ≡ j → ⊥). rw (m.entries q page not_o not_p not_w not_j, m.live q not_o not_p not_w not_j) refl)
+      (cases_eq q j))
+      (cases_eq q p)
+
+  deleted_in_same : (c : ℕ) → c < g.blocks → c ≢ block → c ≢ block_of g m.index → deleted_in g b c ≡ deleted_in g a c
+  unfolding deleted_in
+  deleted_in_same c small not_block not_w =
+      filter-same (λ (q : ℕ). is_deleted_entry g a q) (λ (q : ℕ). is_deleted_entry g b q) (c * per_block g + lookups g) (entries g)
+      (λ q from end. let v = entry_in g c q small from end in deleted_same q v.1 (other_page c q o v.0 (λ e. not_block (e ∙ at))) (other_page c q m.index v.0 not_w))
+
+  w_low : block_of g m.index < g.blocks
+  w_low = block_number g m.index (page_number g m.index w_page)
+
+  -- the killed index page is one more
+  w_more : deleted_in g b (block_of g m.index) ≡ deleted_in g a (block_of g m.index) + 1
+  unfolding deleted_in
+  w_more =
+      let v = entry_of_block g m.index w_page in
+      let e = count_at (λ (q : ℕ). is_deleted_entry g a q) (λ (q : ℕ). is_deleted_entry g b q) m.index (block_of g m.index * per_block g + lookups g) (entries g) v.0 v.1
+      (λ q from end other. let u = entry_in g (block_of g m.index) q w_low from end in deleted_same q u.1 (other_page (block_of g m.index) q o u.0 (λ z. w_not_block (z ∙ at))) other) in
+      let f = rw (live_undeleted g a m.index index.0 index.1, killed_deleted g b m.index m.index_killed m.index_gone) at e in omega (arith, f)
+
+  deleted_more : deleted_outside g b block ≡ deleted_outside g a block + 1
+  unfolding deleted_outside
+  deleted_more =
+      let e = sum_at (λ (c : ℕ). if c == block then 0 else deleted_in g b c) (λ (c : ℕ). if c == block then 0 else deleted_in g a c) (block_of g m.index) 0 g.blocks (omega arith) (let small = w_low in omega arith)
+      (λ c end other. ⊎_elim
+      (λ (here : c ≡ block). rw (eq-eqb c block here) refl)
+      (λ (there : c ≡ block → ⊥). rw (deleted_in_same c (omega (arith, end)) there other) refl)
+      (cases_eq c block)) in
+      let more = w_more in
+      let f = rw (ne_eqb (block_of g m.index) block w_not_block) at e in omega (arith, f, more)
 
   -- ---- free blocks
 
@@ -480,4 +535,5 @@ module _ (g : Geometry) (a b : List ℕ) (o p j block : ℕ) (can : CanMoveData 
         used = λ was. free_block_same block low (λ e. p_not_block (sym e)) (λ e. j_not_block (sym e)) ∙ was;
         moves = moves;
         taken = omega (arith, need, taken);
+        deleted = let more = deleted_more in let less = data_less in omega (arith, more, less);
       }

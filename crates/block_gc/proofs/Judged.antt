@@ -68,6 +68,10 @@ one_if : (b : Bool) → nat_lt 0 (if b then 1 else 0) ≡ b
 one_if true = refl
 one_if false = refl
 
+pub score_is : (g : Geometry) (image : List ℕ) (block next : ℕ) (c : BlockCounts) → AreCounts g image block c → next ≡ next_count g image → score_by c next ≡ score g image block
+unfolding score
+score_is g image block next c counts is = rw (is, counts.deleted, counts.erases, counts.index, counts.pages) refl
+
 module _ (g : Geometry) (image : List ℕ) (block : ℕ) (c : BlockCounts) (all : Room) (tidy : IsTidy g image) (below : block < g.blocks) (counts : AreCounts g image block c) (totals : AreTotals g image all) where
   index_left : all.index - (room_by c (entries g)).index ≡ free_outside g image block (takes_index g image)
   index_left = left_over all.index _ _ _ _ totals.index (room_is g image block c counts tidy below).index (outside g image block (takes_index g image) below)
@@ -89,9 +93,5 @@ module _ (g : Geometry) (image : List ℕ) (block : ℕ) (c : BlockCounts) (all 
   unfolding is_fitting
   fits_is = rw (index_left, pages_left, (data_is g image block c counts).0, counts.pages, counts.index, totals.blocks) refl
 
-  pub score_is : (next : ℕ) → next ≡ next_count g image → score_by c next ≡ score g image block
-  unfolding score
-  score_is next is = rw (is, counts.deleted, counts.erases, counts.index, counts.pages) refl
-
   pub bests_are : (next : ℕ) (bests : Bests) → next ≡ next_count g image → bests_by g c all next bests block ≡ bests_with g image bests block
-  bests_are next bests is = rw (worth_is, fits_is, score_is next is, (data_is g image block c counts).1) refl
+  bests_are next bests is = rw (worth_is, fits_is, score_is g image block next c counts is, (data_is g image block c counts).1) refl

@@ -20,4 +20,5 @@ pub mod DataTurnCalls
 pub mod Freshened
 pub mod CleanedBlocks
 pub mod DataCleaned
+pub mod KindTurns
 pub mod Cleanings

@@ -8,7 +8,6 @@ use Rattle.geometry.specs.declared.geometry.Geometry.{Geometry}
 use Rattle.table_model.specs.Table.{put_file}
 use Rattle.table_model.specs.Room.{data_pages}
 use Rattle.image_model.specs.Within.{sizes, page_length}
-use Rattle.image_model.specs.Volume.{entries}
 use Rattle.image_model.specs.Headers.{obj_id, span_of, names_index, size_of}
 use Rattle.image_model.specs.Live.{live_at, own}
 use Rattle.image_model.specs.Places.{block_of, IsImage}

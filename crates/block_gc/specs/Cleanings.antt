@@ -4,7 +4,7 @@ use Rattle.geometry.specs.declared.geometry.Geometry.{Geometry}
 use Rattle.image_model.specs.Places.{erase_count, next_count, IsImage}
 use Rattle.image_model.specs.Tidy.{IsTidy, is_free_block, free_blocks}
 use Rattle.image_model.specs.Kinds.{is_data_block}
-use Rattle.image_model.specs.Collect.{is_fitting}
+use Rattle.image_model.specs.Collect.{data_in, deleted_outside, is_fitting}
 use Rattle.image_model.specs.Sound.{Keeps}
 use Rattle.flash_view.specs.Steps.{Step}
 use Rattle.room_laws.specs.Cleans.{IsCleaned, CleansData}
@@ -20,10 +20,11 @@ pub record CleanDataCut (g : Geometry) (was image : List ℕ) : Type 0 where
   pub keeps : Keeps g was image
   pub free : free_blocks g was ≤ free_blocks g image + 2
 
--- The data block was cleaned, and has the next erase count.
+-- The data block was cleaned, and has the next erase count. In the other blocks at most so many more entries are deleted as it had live data pages.
 pub record CleanedData (g : Geometry) (block : ℕ) (was now : List ℕ) : Type 0 where
   pub image : IsImage g now
   pub cleans : CleansData g was block now
+  pub deleted : deleted_outside g now block ≤ deleted_outside g was block + data_in g was block
   pub count : erase_count g now block ≡ next_count g was
 
 -- The image is tidy, and the block is in use and fits.
@@ -38,16 +39,12 @@ pub record CleanBlockCut (g : Geometry) (block : ℕ) (was image : List ℕ) : T
   pub free : free_blocks g was ≤ free_blocks g image + 2
   pub plain : is_data_block g was block ≡ false → free_blocks g was ≤ free_blocks g image + 1
 
--- The block was cleaned, and has the next erase count.
+-- The block was cleaned, and has the next erase count. In the other blocks at most so many more entries are deleted as it had live data pages.
 pub record CleanedBlock (g : Geometry) (block : ℕ) (was now : List ℕ) : Type 0 where
   pub image : IsImage g now
   pub cleaned : IsCleaned g was block now
+  pub deleted : deleted_outside g now block ≤ deleted_outside g was block + data_in g was block
   pub count : erase_count g now block ≡ next_count g was
-
--- ---- the steps: a data block is cleaned, and a block of either kind
-
-abbrev pub cleaning_data : ℕ → Step (Unit {0})
-cleaning_data block = record { needs = λ g was. CanCleanData g was block; cut = λ g was image. CleanDataCut g was image; done = λ g was now ok. CleanedData g block was now }
 
 abbrev pub cleaning_block : ℕ → Step (Unit {0})
 cleaning_block block = record { needs = λ g was. CanCleanBlock g was block; cut = λ g was image. CleanBlockCut g block was image; done = λ g was now ok. CleanedBlock g block was now }

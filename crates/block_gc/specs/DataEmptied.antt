@@ -6,7 +6,7 @@ use Rattle.image_model.specs.Live.{live_at}
 use Rattle.image_model.specs.Places.{block_of}
 use Rattle.image_model.specs.Tidy.{IsTidy, is_free_block, free_blocks}
 use Rattle.image_model.specs.Kinds.{is_data_page, is_index_block}
-use Rattle.image_model.specs.Collect.{data_in, free_outside, takes_index, takes_data, blocks_for}
+use Rattle.image_model.specs.Collect.{data_in, deleted_outside, free_outside, takes_index, takes_data, blocks_for}
 use Rattle.image_model.specs.Sound.{Keeps}
 use Rattle.flash_view.specs.declared.kinds.Kind.TheVariants.{Index, Data}
 use Rattle.flash_view.specs.Steps.{Step}
@@ -34,7 +34,7 @@ pub record DataTurnCut (g : Geometry) (block : ℕ) (was image : List ℕ) : Typ
   pub keeps : Keeps g was image
   pub free : free_blocks g was ≤ free_blocks g image + blocks_needed g was block
 
--- After the turn of page p of the block that page isn't a live data page, and no other page of the block is live that wasn't. As many free blocks were taken as fewer are needed, each page going where a cleaning puts it.
+-- After the turn of page p of the block that page isn't a live data page, and no other page of the block is live that wasn't. As many free blocks were taken as fewer are needed, each page going where a cleaning puts it, and as many entries more are deleted in other blocks as it has live data pages less.
 pub record DataTurn (g : Geometry) (block p : ℕ) (was now : List ℕ) : Type 0 where
   pub cut : DataTurnCut g block was now
   pub places : HasDataPlaces g now block
@@ -43,13 +43,14 @@ pub record DataTurn (g : Geometry) (block p : ℕ) (was now : List ℕ) : Type 0
   pub used : is_free_block g was block ≡ false → is_free_block g now block ≡ false
   pub moves : (first : List ℕ) → DataEmptying g first block was → DataEmptying g first block now
   pub taken : free_blocks g was + blocks_needed g now block ≡ free_blocks g now + blocks_needed g was block
+  pub deleted : deleted_outside g now block + data_in g now block ≡ deleted_outside g was block + data_in g was block
 
 -- the places of a data page and of the index page that names it: neither is in the block, and they are in two blocks
 abbrev pub ArePlaces : Geometry → List ℕ → ℕ → Option (ℕ × ℕ) → Type 0
 ArePlaces g image block None = ⊥
 ArePlaces g image block (Some (to, index_to)) = IsFreeFor g image Data 0 (Some block) to × IsFreeFor g image Index 0 (Some (block_of g to)) index_to
 
--- No page of the block below p is a live data page any more. As many free blocks were taken as fewer are needed, and the pages that were moved went where a cleaning puts them.
+-- No page of the block below p is a live data page any more. As many free blocks were taken as fewer are needed, the pages that were moved went where a cleaning puts them, and as many entries more are deleted in other blocks as it has live data pages less.
 pub record DataEmptied (g : Geometry) (block p : ℕ) (was now : List ℕ) : Type 0 where
   pub keeps : Keeps g was now
   pub places : HasDataPlaces g now block
@@ -57,6 +58,7 @@ pub record DataEmptied (g : Geometry) (block p : ℕ) (was now : List ℕ) : Typ
   pub used : is_free_block g was block ≡ false → is_free_block g now block ≡ false
   pub moves : DataEmptying g was block now
   pub taken : free_blocks g was + blocks_needed g now block ≡ free_blocks g now + blocks_needed g was block
+  pub deleted : deleted_outside g now block + data_in g now block ≡ deleted_outside g was block + data_in g was block
 
 -- ---- the steps: a page is moved out, a page has its turn, and all have theirs
 

@@ -88,7 +88,7 @@ pub record CleanedIndex (g : Geometry) (block : ℕ) (was now : List ℕ) : Type
   pub kept : free_blocks g was ≤ free_blocks g now
   pub taken : is_free_block g was block ≡ false → free_blocks g now ≤ free_blocks g was → free_where g now (takes_index g now) < entries g
 
--- ---- the steps of a cleaning: a page is moved out, a page has its turn, all have theirs, and the whole cleaning
+-- ---- the steps: a page is moved out, a page has its turn, and all have theirs
 
 abbrev pub moving_out : ℕ → ℕ → Step (Unit {0})
 moving_out block page = record { needs = λ g was. CanMoveOut g was block page; cut = λ g was image. TurnCut g block was image; done = λ g was now ok. TurnDone g block page was now }
@@ -98,6 +98,3 @@ turning block page = record { needs = λ g was. HasPlaces g was block; cut = λ 
 
 abbrev pub emptying : ℕ → Step (Unit {0})
 emptying block = record { needs = λ g was. HasPlaces g was block; cut = λ g was image. CleanCut g was image; done = λ g was now ok. Emptied g block (page_count g) was now }
-
-abbrev pub cleaning_index : ℕ → Step (Unit {0})
-cleaning_index block = record { needs = λ g was. CanCleanIndex g was block; cut = λ g was image. CleanCut g was image; done = λ g was now ok. CleanedIndex g block was now }

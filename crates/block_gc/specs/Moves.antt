@@ -1,5 +1,5 @@
 -- What moving an index page asks of an image and leaves.
-use Rattle.std.specs.Prelude.{◌≡◌, ◌≢◌, ℕ, ◌+◌, ◌-◌, ◌≤◌, List, Some, None, true, false, slice_set}
+use Rattle.std.specs.Prelude.{◌≡◌, ◌≢◌, ℕ, ◌+◌, ◌≤◌, List, Some, None, true, false, slice_set}
 use Rattle.geometry.specs.declared.geometry.Geometry.{Geometry}
 use Rattle.image_model.specs.Live.{live_at}
 use Rattle.image_model.specs.Places.{block_of, has_magic, entry_of, page_of, is_entry_page}

@@ -1,5 +1,5 @@
 -- What cleaning block after block leaves, and where it stops.
-use Rattle.std.specs.Prelude.{◌≡◌, ℕ, ◌+◌, ◌<◌, ◌≤◌, ◌⊎◌, List, Option, Bool, true, false, Some, None}
+use Rattle.std.specs.Prelude.{◌≡◌, ℕ, ◌+◌, ◌<◌, ◌≤◌, ◌⊎◌, List, [], ◌∷◌, Option, Bool, true, false, Some, None}
 use Rattle.geometry.specs.declared.geometry.Geometry.{Geometry}
 use Rattle.geometry.specs.Numbers.{ceil}
 use Rattle.table_model.specs.Room.{index_count, data_count}
@@ -7,7 +7,7 @@ use Rattle.image_model.specs.Volume.{entries}
 use Rattle.image_model.specs.Places.{IsImage}
 use Rattle.image_model.specs.Tables.{table_of}
 use Rattle.image_model.specs.Tidy.{IsTidy, free_blocks, HasReserve}
-use Rattle.image_model.specs.Collect.{is_worth, chosen_block, are_had, is_stuck}
+use Rattle.image_model.specs.Collect.{is_worth, chosen_block, Swept, are_had, is_stuck}
 use Rattle.image_model.specs.Sound.{Keeps}
 use Rattle.flash_view.specs.Steps.{is_apart, Step as Stage}
 use Rattle.room_laws.specs.Stopping.{gc_measure, CanClean, IsPacked}
@@ -46,11 +46,21 @@ abbrev pub IfMet : Geometry → List ℕ → Goal → Bool → Type 0
 IfMet g image goal true = IsMet g image goal
 IfMet g image goal false = IsMet g image goal → ⊥
 
--- After n cleanings the image is tidy with the table of the first, and can be cleaned where the first could. Each has lowered the number that cleanings lower.
+-- An image was reached from a first one by swept steps: these are the images from which each of them began, the last one first.
+unfoldable pub SweptAlong : Geometry → (first : List ℕ) → List (List ℕ) → (image : List ℕ) → Type 0
+SweptAlong g first [] image = image ≡ first
+SweptAlong g first (before ∷ more) image = SweptAlong g first more before × Swept g before image
+
+pub record SweptTo (g : Geometry) (first image : List ℕ) : Type 0 where
+  pub through : List (List ℕ)
+  pub steps : SweptAlong g first through image
+
+-- After n cleanings the image is tidy with the table of the first, and can be cleaned where the first could. Each was a swept step, and has lowered the number that cleanings lower.
 pub record Cleanings (g : Geometry) (n : ℕ) (was now : List ℕ) : Type 0 where
   pub image : IsImage g now
   pub tidy : IsTidy g now
   pub table : table_of g now ≡ table_of g was
+  pub swept : SweptTo g was now
   pub lower : gc_measure g now + n ≤ gc_measure g was
   pub again : CanClean g was → CanClean g now
 
@@ -63,12 +73,14 @@ CleanedOrNone g false was now = (chosen_block g was ≡ None) × (now ≡ was)
 pub record MadeRoom (g : Geometry) (index pages : ℕ) (was now : List ℕ) : Type 0 where
   pub tidy : IsTidy g now
   pub table : table_of g now ≡ table_of g was
+  pub swept : SweptTo g was now
   pub ready : IsReady g now index pages
 
 -- The image is tidy with its table, no block is chosen, and the pages aren't had or fewer than two blocks are free. It can be cleaned where the first could, and has its reserve where the first had.
 pub record IsTight (g : Geometry) (index pages : ℕ) (was now : List ℕ) : Type 0 where
   pub tidy : IsTidy g now
   pub table : table_of g now ≡ table_of g was
+  pub swept : SweptTo g was now
   pub none : chosen_block g now ≡ None
   pub short : IsReady g now index pages → ⊥
   pub again : CanClean g was → CanClean g now
@@ -78,6 +90,7 @@ pub record IsTight (g : Geometry) (index pages : ℕ) (was now : List ℕ) : Typ
 pub record IsCompact (g : Geometry) (was now : List ℕ) : Type 0 where
   pub tidy : IsTidy g now
   pub table : table_of g now ≡ table_of g was
+  pub swept : SweptTo g was now
   pub worth : (block : ℕ) → block < g.blocks → is_worth g now block ≡ false
   pub packed : IsPacked g now
   pub free : free_blocks g now + ceil (index_count g (table_of g now)) (entries g) + ceil (data_count g (table_of g now)) (entries g) ≡ g.blocks
@@ -88,6 +101,7 @@ pub record IsCompact (g : Geometry) (was now : List ℕ) : Type 0 where
 pub record IsStuck (g : Geometry) (was now : List ℕ) : Type 0 where
   pub tidy : IsTidy g now
   pub table : table_of g now ≡ table_of g was
+  pub swept : SweptTo g was now
   pub none : chosen_block g now ≡ None
   pub stuck : is_stuck g now ≡ true
   pub again : CanClean g was → CanClean g now

@@ -1,25 +1,28 @@
-// Cleaning an index block: its live index pages are moved out in page order, and then it is made fresh.
-ghost use Rattle.std.specs.Prelude.{◌≡◌, ◌≢◌, ◌<◌, OnErr, IfOk};
+// Moving the live pages of a block out of it, in page order.
+ghost use Rattle.std.specs.Prelude.{◌≡◌, ◌≢◌, ◌<◌, OnErr, IfOk, ◌≤◌, IfSome, true, false};
 ghost use Rattle.nor_core.specs.Count.{Rose};
 ghost use Rattle.geometry.specs.Numbers.{page_count};
-ghost use Rattle.image_model.specs.Kinds.{is_index_page};
+ghost use Rattle.image_model.specs.Kinds.{is_index_page, is_data_page};
 ghost use Rattle.image_model.specs.Live.{live_at};
-ghost use Rattle.image_model.specs.Places.{block_of};
+ghost use Rattle.image_model.specs.Places.{block_of as the_block_of};
 ghost use Rattle.flash_view.specs.Places.{IsEntryPage};
 ghost use Rattle.flash_view.specs.Same.{OnlyLooks};
 ghost use Rattle.flash_view.specs.Steps.{Stepped, stopped};
-ghost use Rattle.block_gc.specs.Emptied.{moving_out, turning, emptying, cleaning_index};
+ghost use Rattle.block_gc.specs.Emptied.{moving_out, turning};
+ghost use Rattle.image_model.specs.Collect.{data_in};
+ghost use Rattle.block_gc.specs.DataEmptied.{HasDataPlaces, ArePlaces, moving_data_out, turning_data};
+ghost use Rattle.block_gc.specs.Kinds.{turning_of, emptying_of};
 
 use crate::moving::move_index;
-use flash_view::{Kind, StepErr, View, entry_page};
-use free_search::{free_page, next_count};
+use crate::moving_data::move_data;
+use flash_view::{Kind, StepErr, View, block_of, entry_page};
+use free_search::free_page;
 use nor_core::{Failed, Nor, NorState};
 use page_layout::INDEX_BIT;
-use page_put::fresh_block;
 use table_model::{Differ, Tag};
 
 // That no place was found for a page.
-pub(crate) fn no_place(page: u16) -> Differ
+fn no_place(page: u16) -> Differ
     ensures { result.wanted ≢ result.found }
 {
     let wanted = Tag {
@@ -49,9 +52,9 @@ fn is_index<N: Nor>(v: &mut View<'_, N>, page: u16) -> Result<bool, Failed>
 }
 
 // Moves a live index page out of a block.
-fn move_out<N: Nor>(v: &mut View<'_, N>, page: u16, block: u16) -> Result<(), StepErr>
+fn move_index_out<N: Nor>(v: &mut View<'_, N>, page: u16, block: u16) -> Result<(), StepErr>
     requires page { IsEntryPage v.old.geometry page }
-    requires at { block_of v.old.geometry page ≡ block }
+    requires at { the_block_of v.old.geometry page ≡ block }
     ensures { Stepped stopped v.old v.new result (moving_out block page) }
 {
     match free_page(v, Kind::Index, 0, Some(block)) {
@@ -65,43 +68,103 @@ fn move_out<N: Nor>(v: &mut View<'_, N>, page: u16, block: u16) -> Result<(), St
 }
 
 // The turn of a page: it is moved out of its block where it is a live index page.
-fn empty_page<N: Nor>(v: &mut View<'_, N>, page: u16, block: u16) -> Result<(), StepErr>
+fn index_turn<N: Nor>(v: &mut View<'_, N>, page: u16, block: u16) -> Result<(), StepErr>
     requires page { IsEntryPage v.old.geometry page }
-    requires at { block_of v.old.geometry page ≡ block }
+    requires at { the_block_of v.old.geometry page ≡ block }
     ensures { Stepped stopped v.old v.new result (turning block page) }
 {
     match is_index(v, page) {
         Err(Failed) => Err(StepErr::DeviceFault),
         Ok(false) => Ok(()),
-        Ok(true) => move_out(v, page, block),
+        Ok(true) => move_index_out(v, page, block),
     }
 }
 
-// Moves the live index pages of a block out of it, in page order.
-fn empty_block<N: Nor>(v: &mut View<'_, N>, block: u16) -> Result<(), StepErr>
+// Whether a page is a live data page.
+#[tactic(auto, using(flash_view::proofs::Looking::looks_then))]
+fn is_data<N: Nor>(v: &mut View<'_, N>, page: u16) -> Result<bool, Failed>
+    requires { page < page_count v.old.geometry }
+    ensures cause { OnErr result (Rose (N.faults v.old.nor.now) (N.faults v.new.nor.now)) }
+    ensures looks { OnlyLooks v.old v.new }
+    ensures told { N.tells v.old.nor.now → IfOk result (λ yes. yes ≡ is_data_page (live_at v.old.geometry (N.bytes v.old.nor.now) page)) }
+{
+    Ok(match v.live_header(page)? {
+        Some(head) => !head.is_index(),
+        None => false,
+    })
+}
+
+// The places of a data page of a block and of the index page that names it.
+#[tactic(auto, using(flash_view::proofs::Looking::looks_then))]
+fn find_places<N: Nor>(v: &mut View<'_, N>, block: u16) -> Result<Option<(u16, u16)>, Failed>
+    ensures cause { OnErr result (Rose (N.faults v.old.nor.now) (N.faults v.new.nor.now)) }
+    ensures looks { OnlyLooks v.old v.new }
+    ensures entry { IfOk result (λ found. IfSome found (λ f. IsEntryPage v.old.geometry f.0 × IsEntryPage v.old.geometry f.1)) }
+    ensures told { N.tells v.old.nor.now → HasDataPlaces v.old.geometry (N.bytes v.old.nor.now) block → 1 ≤ data_in v.old.geometry (N.bytes v.old.nor.now) block → IfOk result (λ found. ArePlaces v.old.geometry (N.bytes v.old.nor.now) block found) }
+{
+    let Some(to) = free_page(v, Kind::Data, 0, Some(block))? else {
+        return Ok(None);
+    };
+    let beside = block_of(&v.geometry, to);
+    let Some(index_to) = free_page(v, Kind::Index, 0, Some(beside))? else {
+        return Ok(None);
+    };
+    Ok(Some((to, index_to)))
+}
+
+// Moves a live data page out of a block.
+fn move_data_out<N: Nor>(v: &mut View<'_, N>, page: u16, block: u16) -> Result<(), StepErr>
+    requires page { IsEntryPage v.old.geometry page }
+    requires at { the_block_of v.old.geometry page ≡ block }
+    ensures { Stepped stopped v.old v.new result (moving_data_out block page) }
+{
+    match find_places(v, block) {
+        Err(Failed) => Err(StepErr::DeviceFault),
+        Ok(None) => Err(StepErr::Damaged(no_place(page))),
+        Ok(Some((to, index_to))) => match move_data(v, page, to, index_to) {
+            Err(Failed) => Err(StepErr::DeviceFault),
+            Ok(()) => Ok(()),
+        },
+    }
+}
+
+// The turn of a page: it is moved out of its block where it is a live data page.
+fn data_turn<N: Nor>(v: &mut View<'_, N>, page: u16, block: u16) -> Result<(), StepErr>
+    requires page { IsEntryPage v.old.geometry page }
+    requires at { the_block_of v.old.geometry page ≡ block }
+    ensures { Stepped stopped v.old v.new result (turning_data block page) }
+{
+    match is_data(v, page) {
+        Err(Failed) => Err(StepErr::DeviceFault),
+        Ok(false) => Ok(()),
+        Ok(true) => move_data_out(v, page, block),
+    }
+}
+
+// The turn of a page: it is moved out of its block where it is a live page of that kind.
+fn empty_page<N: Nor>(v: &mut View<'_, N>, page: u16, block: u16, kind: Kind) -> Result<(), StepErr>
+    requires page { IsEntryPage v.old.geometry page }
+    requires at { the_block_of v.old.geometry page ≡ block }
+    ensures { Stepped stopped v.old v.new result (turning_of kind block page) }
+{
+    match kind {
+        Kind::Index => index_turn(v, page, block),
+        Kind::Data => data_turn(v, page, block),
+    }
+}
+
+// Moves the live pages of a block that holds no others out of it, in page order, data pages each with a renewed index page.
+pub(crate) fn empty_block<N: Nor>(
+    v: &mut View<'_, N>,
+    block: u16,
+    kind: Kind,
+) -> Result<(), StepErr>
     requires { block < v.old.geometry.blocks }
-    ensures { Stepped stopped v.old v.new result (emptying block) }
+    ensures { Stepped stopped v.old v.new result (emptying_of kind block) }
 {
     let g = v.geometry;
     for i in 0..g.entries() {
-        empty_page(v, entry_page(&g, block, i), block)?;
+        empty_page(v, entry_page(&g, block, i), block, kind)?;
     }
     Ok(())
-}
-
-/// Cleans an index block: moves its live index pages to other blocks in page order, and makes it fresh with the next erase
-/// count, which is taken first. The image is to be tidy, and the block to have no live data page and to fit. A cut leaves
-/// the table as it is, and at most one free block less. Where that holds, a fault of the device is the one error.
-pub fn clean_index<N: Nor>(v: &mut View<'_, N>, block: u16) -> Result<(), StepErr>
-    requires { block < v.old.geometry.blocks }
-    ensures { Stepped stopped v.old v.new result (cleaning_index block) }
-{
-    let Ok(count) = next_count(v) else {
-        return Err(StepErr::DeviceFault);
-    };
-    empty_block(v, block)?;
-    match fresh_block(v, block, count) {
-        Err(Failed) => Err(StepErr::DeviceFault),
-        Ok(()) => Ok(()),
-    }
 }

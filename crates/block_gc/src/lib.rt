@@ -4,7 +4,7 @@
 mod choice;
 mod cleaning;
 mod emptying;
-mod emptying_data;
+mod laws;
 mod moving;
 mod moving_data;
 mod next;
@@ -13,10 +13,7 @@ mod scores;
 mod totals;
 
 pub use cleaning::clean;
-pub use emptying::clean_index;
-pub use emptying_data::empty_data;
-pub use moving::move_index;
-pub use moving_data::move_data;
+pub use laws::scores_are_told;
 pub use next::{are_had, choose, is_stuck};
 pub use room::{RoomErr, compact, make_room};
 pub use scores::score;

@@ -23,9 +23,9 @@ fn put_copy<N: Nor>(v: &mut View<'_, N>, page: u16, to: u16, tag: Tag) -> Result
     kill(v, page)
 }
 
-/// Moves an index page: a copy of it is put at `to`, and the old page is killed. A cut leaves the table as it is. Where
-/// the page has no id of a file nothing is moved.
-pub fn move_index<N: Nor>(v: &mut View<'_, N>, page: u16, to: u16) -> Result<(), Failed>
+// Moves an index page: a copy of it is put at `to`, and the old page is killed. A cut leaves the table as it is. Where
+// the page has no id of a file nothing is moved.
+pub(crate) fn move_index<N: Nor>(v: &mut View<'_, N>, page: u16, to: u16) -> Result<(), Failed>
     requires page { IsEntryPage v.old.geometry page }
     requires to { IsEntryPage v.old.geometry to }
     ensures { Stepped failed v.old v.new result (moving page to) }

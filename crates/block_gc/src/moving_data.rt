@@ -122,10 +122,10 @@ fn name_copy<N: Nor>(
     put_renamed(v, page, to, index, index_to, tag)
 }
 
-/// Moves a data page: a copy of it is put at `to`, a copy of the index page that names it is put at `index_to` and names
-/// the new page, and both old pages are killed, the index page first. A cut leaves the table as it is. Where the page is
-/// that of no file nothing is moved.
-pub fn move_data<N: Nor>(
+// Moves a data page: a copy of it is put at `to`, a copy of the index page that names it is put at `index_to` and names
+// the new page, and both old pages are killed, the index page first. A cut leaves the table as it is. Where the page is
+// that of no file nothing is moved.
+pub(crate) fn move_data<N: Nor>(
     v: &mut View<'_, N>,
     page: u16,
     to: u16,

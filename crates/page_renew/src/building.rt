@@ -88,7 +88,12 @@ pub fn build_data<N: Nor>(v: &mut View<'_, N>, page: u16) -> Result<(), Failed>
 
 /// Builds the copy of an index page, in which the entry of a data span names `to`.
 #[tactic(auto, using(flash_view::proofs::Looking::looks_then))]
-pub fn build_renamed<N: Nor>(v: &mut View<'_, N>, index: u16, span: u16, to: u16) -> Result<(), Failed>
+pub fn build_renamed<N: Nor>(
+    v: &mut View<'_, N>,
+    index: u16,
+    span: u16,
+    to: u16,
+) -> Result<(), Failed>
     requires index { index < page_count v.old.geometry }
     ensures cause { OnErr result (Rose (N.faults v.old.nor.now) (N.faults v.new.nor.now)) }
     ensures looks { OnlyLooks v.old v.new }

@@ -1,11 +1,10 @@
-use Rattle.std.proofs.Common.{◌≡◌, ◌+◌, ◌*◌, ◌<◌, refl, arith, rules, Err}
+use Rattle.std.proofs.Common.{◌≡◌, ◌+◌, ◌<◌, refl, arith, rules, Err}
 use Rattle.geometry.specs.Numbers.{entries as entries_of}
 use Rattle.image_model.specs.Volume.{per_block, lookups, entries}
 use Rattle.image_model.specs.Within.{entry_in}
 use Rattle.flash_view.proofs.Looking.{looks_none}
 use Rattle.flash_view.proofs.Stepped.{looked, weaker, passes, stepped_then}
-use Rattle.block_gc.proofs.Turns.{emptied_start, emptied_end, clean_stays}
-use Rattle.block_gc.proofs.TurnCalls.{turn_then}
+use Rattle.block_gc.proofs.KindTurns.{none_turned, turns_begin, turns_pass, next_turn, turns_end}
 use Rattle.block_gc.proofs.emptying.empty_block.Goals as goal
 
 pub loop-i-init : goal.loop-i-init
@@ -14,7 +13,7 @@ loop-i-init g c =
     record {
       geometry = refl;
       end = c.entries-i-end.ensures;
-      step = looked (looks_none view) (λ e. absurd (cc)) tt (λ tells places. (clean_stays _ _ _ places, emptied_start view.geometry c.args.block (c.args.block * per_block view.geometry + lookups view.geometry + 0) _ (omega arith) places));
+      step = looked (looks_none view) (λ e. absurd (cc)) tt (λ tells places. none_turned c.args.kind _ _ c.args.block places);
     }
 
 pub empty_page-requires-clause-at : goal.empty_page-requires-clause-at
@@ -34,8 +33,8 @@ returns-in_err-empty_page g c =
     let place = rw was.geometry at c.entry_page.ensures.place in
     let is : c.from_residual.result ≡ Err c.in_err-empty_page.field-0.0 = search rules in
     passes
-    (stepped_then was.step c.in_err-empty_page.ensures (λ tells places. record { needs = places; cut = λ d cut. cut }) (λ tells places s. turn_then _ _ _ _ _ _ place (omega arith) s))
-    is (λ tells places. record { needs = places; cut = λ d cut. cut })
+    (stepped_then was.step c.in_err-empty_page.ensures (λ tells places. turns_begin c.args.kind _ _ c.args.block c.loop-i.i (c.loop-i.i + 1) places) (λ tells places s. next_turn c.args.kind _ _ _ _ _ _ place (omega arith) s))
+    is (λ tells places. turns_pass c.args.kind _ _ c.args.block (c.loop-i.i + 1) places)
 
 pub loop-i-preserved : goal.loop-i-preserved
 unfolding per_block lookups
@@ -45,11 +44,11 @@ loop-i-preserved g c =
     record {
       geometry = was.geometry;
       end = was.end;
-      step = stepped_then was.step c.in_ok-empty_page.ensures (λ tells places. record { needs = places; cut = λ d cut. cut }) (λ tells places s. turn_then _ _ _ _ _ _ place (omega arith) s);
+      step = stepped_then was.step c.in_ok-empty_page.ensures (λ tells places. turns_begin c.args.kind _ _ c.args.block c.loop-i.i (c.loop-i.i + 1) places) (λ tells places s. next_turn c.args.kind _ _ _ _ _ _ place (omega arith) s);
     }
 
 pub returns : goal.returns
 unfolding per_block lookups entries
 returns g c =
     let was = c.loop-i.invariant in
-    weaker was.step (λ tells places. record { needs = places; cut = λ d cut. cut; done = λ d ok s. emptied_end _ _ _ _ _ _ (omega (arith, was.end, c.loop-i-test.false)) s })
+    weaker was.step (λ tells places. turns_end c.args.kind _ _ c.args.block c.loop-i.i (omega (arith, was.end, c.loop-i-test.false)) places)

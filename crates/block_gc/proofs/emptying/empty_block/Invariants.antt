@@ -2,12 +2,12 @@
 use Rattle.std.proofs.Common.{◌≡◌, Ok}
 use Rattle.geometry.specs.Numbers.{entries}
 use Rattle.flash_view.specs.Steps.{Stepped, stopped}
-use Rattle.block_gc.proofs.TurnCalls.{emptying_to}
+use Rattle.block_gc.proofs.KindTurns.{emptying_first}
 use Rattle.block_gc.proofs.emptying.empty_block.Given as goal
 
 abbrev pub invariant-loop-i : goal.invariant-loop-i
 invariant-loop-i g l = record {
   geometry : l.g ≡ l.fn.v.geometry;
   end : l.i-end ≡ entries l.fn.v.geometry;
-  step : Stepped stopped l.fn.v l.v (Ok tt) (emptying_to l.block l.i);
+  step : Stepped stopped l.fn.v l.v (Ok tt) (emptying_first l.kind l.block l.i);
 }

@@ -25,4 +25,4 @@ returns-in_ok-clean-in-Ok-Some g c =
     let block = c.in-Ok-Some.block in
     ends_as (after_look seen.looks c.in_ok-clean-in-Ok-Some.ensures (λ tells can. record { needs = can; cut = λ d cut. cut; done = λ d ok done. done }))
     (λ tells t. cleans_chosen _ _ block (sym (seen.told tells t) ∙ c.in-Ok-Some.field-0-is) t)
-    (λ tells t done. one_cleaned _ _ _ block (view_image c.args.v.now (g.met.N.Nor.sized _) tells) (sym (seen.told tells t) ∙ c.in-Ok-Some.field-0-is) done)
+    (λ tells t done. one_cleaned _ _ _ block (view_image c.args.v.now (g.met.N.Nor.sized _) tells) t (sym (seen.told tells t) ∙ c.in-Ok-Some.field-0-is) done)

@@ -1,7 +1,7 @@
 use Rattle.std.proofs.Common.{refl, sym, ◌∙◌}
 use Rattle.flash_view.proofs.Stepped.{looked, after_look}
 use Rattle.block_gc.proofs.DataTurnCalls.{turn_stays, idle_turn, has_turn}
-use Rattle.block_gc.proofs.emptying_data.empty_page.Goals as goal
+use Rattle.block_gc.proofs.emptying.data_turn.Goals as goal
 
 pub returns-in-Err : goal.returns-in-Err
 returns-in-Err g c = let seen = c.in-Err.ensures in looked seen.looks (λ e. seen.cause) tt (λ tells places. (turn_stays _ _ _ places, refl))
@@ -14,4 +14,4 @@ returns-in-Ok-false g c =
 pub returns-in-Ok-true : goal.returns-in-Ok-true
 returns-in-Ok-true g c =
     let seen = c.in-Ok-true.ensures in
-    after_look seen.looks c.move_out.ensures (λ tells places. has_turn _ _ _ _ (sym (seen.told tells) ∙ c.in-Ok-true.field-0-test) places)
+    after_look seen.looks c.move_data_out.ensures (λ tells places. has_turn _ _ _ _ (sym (seen.told tells) ∙ c.in-Ok-true.field-0-test) places)

@@ -2,7 +2,7 @@ use Rattle.std.proofs.Common.{refl}
 use Rattle.flash_view.proofs.Stepped.{looked, after_look, fault_as, done_as, view_image}
 use Rattle.block_gc.specs.DataEmptied.{moving_data_out}
 use Rattle.block_gc.proofs.DataTurnCalls.{none_found, some_of, found_places, moves_out, turn_stays}
-use Rattle.block_gc.proofs.emptying_data.move_out.Goals as goal
+use Rattle.block_gc.proofs.emptying.move_data_out.Goals as goal
 
 pub returns-in-Err : goal.returns-in-Err
 returns-in-Err g c = let seen = c.in-Err.ensures in looked seen.looks (λ e. seen.cause) tt (λ tells can. (turn_stays _ _ _ can.places, refl))

@@ -3,7 +3,7 @@ use Rattle.flash_view.proofs.Heads.{entry_page_told}
 use Rattle.flash_view.proofs.Stepped.{looked, after_look, fault_as, done_as, view_image}
 use Rattle.block_gc.proofs.OneTurn.{one_found, turn_stays}
 use Rattle.block_gc.proofs.TurnCalls.{moves_out}
-use Rattle.block_gc.proofs.emptying.move_out.Goals as goal
+use Rattle.block_gc.proofs.emptying.move_index_out.Goals as goal
 
 pub returns-in-Err : goal.returns-in-Err
 returns-in-Err g c = let seen = c.in-Err.ensures in looked seen.looks (λ e. seen.cause) tt (λ tells can. (turn_stays _ _ _ can.places, refl))

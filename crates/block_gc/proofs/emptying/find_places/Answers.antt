@@ -1,7 +1,7 @@
 use Rattle.std.proofs.Common.{Some, None}
 use Rattle.block_gc.proofs.DataPlaces.{data_place, index_place}
 use Rattle.block_gc.proofs.DataTurnCalls.{beside_told}
-use Rattle.block_gc.proofs.emptying_data.find_places.Goals as goal
+use Rattle.block_gc.proofs.emptying.find_places.Goals as goal
 
 pub returns-in_default-clause-told : goal.returns-in_default-clause-told
 returns-in_default-clause-told g c = λ tells places some.
