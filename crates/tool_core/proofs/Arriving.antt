@@ -44,7 +44,7 @@ module _ {D : Type 0} {nor : NorOf D} {g : Geometry} where
   calls_split script e t = ap calls_of (lines_split script e t) ∙ calls-append t.done (lines t.tail) t.good
 
   -- a cut in the lines that were done
-  run_cut : {ending : Ending} {m : Moment} {a b : At D} (script : List ℕ) → script ≡ a.pending ++ a.left → Turned nor g (Some ending) m a b → MayCut nor g a.device b.device m (calls script)
+  run_cut : {ending : Ending} {m : Moment} {a b : At D} (script : List ℕ) → script ≡ a.pending ++ a.left → Turned nor g (Some ending) m a b → MayCut nor g a.device b.device a.memory m (calls script)
   run_cut script e t = same_cut (calls_split script e t) (wider_cut (calls_of (lines t.tail)) t.leaves)
 
   done_lines : {ending : Ending} {m : Moment} {a b : At D} (t : Turned nor g (Some ending) m a b) → ((more : List ℕ) → Follows (Some ending) t.tail more) → lines t.seg ≡ t.done
@@ -67,11 +67,11 @@ module _ {D : Type 0} {nor : NorOf D} {g : Geometry} where
   why_of (BadLine n) m k a b script e fresh none first t why = (ap calls_of why.lines_are ∙ bad_first why.bad why.others why.is_bad, record { done = t.done; bad = why.bad; others = why.others; lines_are = lines_split script e t ∙ ap (λ (l : List (List ℕ)). t.done ++ l) why.lines_are; good = t.good; is_bad = why.is_bad; number_is = omega (arith, t.number, first) })
   why_of TooLong m n a b script e fresh none first t why = record { whole = t.seg; rest = b.pending; byte = why.0; left = why.1; taken = taken_of script b.pending (why.0 ∷ why.1) e t (λ more. tt {0}) why.2; count = omega (arith, t.bytes, none, why.3, ap length fresh); calls_are = ap calls_of (done_lines t (λ more. tt {0})) }
   why_of SourceFault m n a b script e fresh none first t why = record { whole = t.seg; rest = b.pending; taken = taken_of script b.pending b.left e t (λ more. tt {0}) why; calls_are = ap calls_of (done_lines t (λ more. tt {0})) }
-  why_of Unbuilt m n a b script e fresh none first t why = record { ask = why.ask; more = calls_of why.others; later_is = ap calls_of why.lines_are ∙ call_first why.line why.others why.ask why.spells; lacks = why.lacks }
+  why_of Unbuilt m n a b script e fresh none first t why = record { ask = why.ask; more = calls_of why.others; later_is = ap calls_of why.lines_are ∙ call_first why.line why.others why.ask why.spells; unbuilt = why.unbuilt }
   why_of _ m n a b script e fresh none first t why = absurd why
 
   -- how a run of turns ends that began with its script's first byte
-  pub run_ends : (ending : Ending) (m : Moment) (a b : At D) (script : List ℕ) → script ≡ a.pending ++ a.left → a.pending ≡ [] → a.taken ≡ 0 → a.handed ≡ 0 → Turned nor g (Some ending) m a b → RunEnds nor g a.device b.device m script b.left ending
+  pub run_ends : (ending : Ending) (m : Moment) (a b : At D) (script : List ℕ) → script ≡ a.pending ++ a.left → a.pending ≡ [] → a.taken ≡ 0 → a.handed ≡ 0 → Turned nor g (Some ending) m a b → RunEnds nor g a.device b.device a.memory b.memory m script b.left ending
   run_ends ending m a b script e fresh none first t = ⊎_elim
       (λ broken. inl (let same : Some ending ≡ Some BoardFault = broken.0 in cc, same_said g m (calls_of t.done ++ calls_of (lines t.tail)) (calls script) (calls_split script e t) (said_wider g m (calls_of t.done) (calls_of (lines t.tail)) broken.1), run_cut script e t))
       (λ here. inr (record { front = calls_of t.done; later = calls_of (lines t.tail); asks_are = calls_split script e t; reached = here.0; leaves = t.leaves; why = why_of ending m (after_all g m (calls_of t.done)) a b script e fresh none first t here.1 }))

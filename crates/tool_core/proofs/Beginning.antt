@@ -1,33 +1,34 @@
 -- From the first image over the check to the end of a run.
-use Rattle.std.proofs.Common.{◌≡◌, ℕ, ◌<◌, ◌≤◌, ◌⊎◌, List, [], ◌++◌, refl, sym, ◌∙◌, ap, subst, arith, inl, inr, ⊎_elim, append-nil, Some, None}
+use Rattle.std.proofs.Common.{◌≡◌, ℕ, ◌<◌, ◌≤◌, ◌⊎◌, List, [], ◌++◌, refl, sym, ◌∙◌, ap, subst, arith, inl, inr, ⊎_elim, append-nil, replicate, Option, Some, None}
+use Rattle.std.proofs.lemmas.List.Elements.{All-replicate}
 use Rattle.geometry.specs.declared.geometry.Geometry.{Geometry}
 use Rattle.nor_core.specs.declared.state.NorState.{Ghosts as NorOf}
-use Rattle.nor_core.specs.Device.{OnlyReads, Leaves, Changes}
-use Rattle.nor_core.proofs.Cuts.{andthen, widened, wider, unchanged, read_after, after_reads, reads_then}
+use Rattle.nor_core.specs.Device.{Leaves, Changes}
+use Rattle.nor_core.proofs.Cuts.{andthen, widened}
+use Rattle.table_model.specs.Table.{Open}
 use Rattle.table_model.specs.Ask.{Ask}
 use Rattle.table_model.specs.Window.{Moment, settled_at}
 use Rattle.call_script.specs.Lines.{calls}
 use Rattle.image_model.specs.Tables.{table_of}
-use Rattle.image_model.specs.Kinds.{spoiled_blocks, mixed_blocks}
-use Rattle.image_model.specs.Tidy.{free_blocks, HasReserve}
+use Rattle.image_model.specs.Tidy.{HasReserve}
+use Rattle.vol_check.specs.declared.report.Report.{Report}
+use Rattle.fd_table.specs.Slots.{descriptors}
+use Rattle.volume.specs.declared.volume.Volume.{Volume}
+use Rattle.volume.specs.Holds.{memory}
+use Rattle.call_model.specs.Memory.{Memory, IsAt, RunWaits}
+use Rattle.write_window.specs.Runs.{Run}
 use Rattle.run_model.specs.Runs.{after_all, replies}
-use Rattle.run_model.specs.Safe.{IsSafe, IsAt}
-use Rattle.run_model.specs.Ran.{Stands, CutIn, MayCut, Reached, SaidPart}
+use Rattle.run_model.specs.Ran.{RunStands, CutIn, MayCut, Reached, SaidPart}
 use Rattle.run_model.proofs.Runs.{is_settled, cut_none}
 use Rattle.run_model.proofs.Chain.{no_replies, no_calls, later_reached, later_said, cut_behind}
-use Rattle.vol_mount.specs.declared.lent.MountErr.{MountErr}
-use Rattle.vol_mount.specs.declared.lent.MountErr.TheVariants.{NotAFs as MountNotAFs, DeviceFault as MountFault}
-use Rattle.vol_mount.specs.Mounts.{IsLate, CountsSpoiled}
-use Rattle.vol_check.specs.declared.report.CheckErr.{CheckErr}
-use Rattle.vol_check.specs.declared.report.CheckErr.TheVariants.{Wrong as CheckWrong, Mixed as CheckMixed, DeviceFault as CheckFault}
-use Rattle.vol_check.specs.Culls.{KeepsAll}
-use Rattle.vol_check.specs.Checks.{IsWritable, IsRefusal, CountsMixed}
 use Rattle.tool_core.specs.declared.ending.Ending.{Ending}
 use Rattle.tool_core.specs.declared.ending.Ending.TheVariants.{Tight}
-use Rattle.tool_core.specs.Begins.{Checks, Begun, IsRefused, IsTight, StopsCheck, mount_ends, check_ends}
+use Rattle.tool_core.specs.Mounting.{Checks, Reported, IsRefused, StopsCheck}
+use Rattle.tool_core.specs.Begins.{Begun, IsTight, StopsRun}
 use Rattle.tool_core.specs.Refusals.{check_refusal, begin_refusal}
-use Rattle.tool_core.specs.Outcomes.{WhyRan, RunEnds, RunsTo, Refused, first_moment}
-use Rattle.tool_core.proofs.Refusals.{not_both, no_fault, check_two, check_mixed, check_takes, tight_some, tight_none}
+use Rattle.tool_core.specs.Outcomes.{WhyRan, RunEnds, RunsTo, Refused, EndsByImages, first_moment, closed_memory}
+use Rattle.tool_core.proofs.Mounted.{safe_check, holds_check}
+use Rattle.tool_core.proofs.Refusals.{not_both, no_fault, tight_some, tight_none}
 use Rattle.tool_core.proofs.Speaking.{writes_none}
 
 -- at first nothing waits, and the settled table is that of the image
@@ -47,28 +48,31 @@ first_state : (g : Geometry) (slots : ℕ) (image : List ℕ) → (after_all g (
 unfolding settled_at after_all
 first_state g slots image = refl
 
--- the table of a moment at which a volume stands
-here_table : (g : Geometry) (image : List ℕ) (m : Moment) → IsAt g image m → table_of g image ≡ m.state.table
+first_slots : (g : Geometry) (slots : ℕ) (image : List ℕ) → (first_moment g slots image).state.slots ≡ replicate slots None
 unfolding settled_at
-here_table g image m here = here.table ∙ ap (λ (j : Moment). j.settled) here.still
+first_slots g slots image = refl
+
+-- the table of a moment at which a volume stands and nothing waits
+here_table : (g : Geometry) (image : List ℕ) (w : Memory) (m : Moment) → w.run ≡ None → IsAt g image w m → table_of g image ≡ m.state.table
+unfolding settled_at
+here_table g image w m idle here =
+    let still : m ≡ settled_at m.state = subst (λ (o : Option Run). RunWaits g image m o) idle here.run in
+    here.table ∙ ap (λ (j : Moment). j.settled) still
+
+-- an image that the check left is that of the first moment
+first_at : (g : Geometry) (slots : ℕ) (was image : List ℕ) (w : Memory) → w ≡ closed_memory slots → Begun g was image → table_of g image ≡ table_of g was → IsAt g image w (first_moment g slots was)
+unfolding settled_at
+first_at g slots was image w memory begun same = subst (λ (v : Memory). IsAt g image v (first_moment g slots was)) (sym memory) (record {
+  tidy = begun.tidy;
+  table = same ∙ sym (first_table g slots was);
+  slots = sym (first_slots g slots was);
+  run = first_still g slots was;
+  closed = All-replicate (λ (d : Option Open). d ≡ None) slots None refl;
+})
 
 -- images that don't end a run before its first call
 pub begins_on : (g : Geometry) (first image : List ℕ) → check_refusal g first ≡ None → HasReserve g image → begin_refusal g first image ≡ None
 begins_on g first image takes reserve = rw takes (tight_none g image reserve)
-
--- what the check leaves is safe
-pub safe_check : {g : Geometry} {was image : List ℕ} → Checks g was image → IsSafe g was image
-safe_check here = record { sound = here.sound; reserve = λ reserve. omega (arith, reserve, here.free) }
-
--- any image may stay
-checks_itself : {g : Geometry} (image : List ℕ) → Checks g image image
-checks_itself image = record { sound = λ magics. record { magics = magics; mixed = λ block h. h; damaged = λ id h. h }; table = refl; free = omega arith }
-
--- a volume that wasn't mounted
-pub mount_stops : {D : Type 0} {nor : NorOf D} (g : Geometry) (why : MountErr) {old new : D} → IsLate why → OnlyReads nor old new → CountsSpoiled g (nor.bytes old) why → StopsCheck nor g old new (mount_ends why)
-mount_stops {D} {nor} g (MountNotAFs spoiled) {old} late reads cause = inr (inl (record { refusal = check_two g (nor.bytes old) spoiled cause.0 cause.1; reads = reads }))
-mount_stops g MountFault late reads cause = inl refl
-mount_stops g _ late reads cause = absurd late
 
 module _ {D : Type 0} {nor : NorOf D} {g : Geometry} where
   -- a cut in the check
@@ -83,48 +87,52 @@ module _ {D : Type 0} {nor : NorOf D} {g : Geometry} where
       })
 
   -- the volume stands at its first moment once it is checked
-  pub begun_reached : {old mid : D} (slots : ℕ) → Changes nor old mid (Checks g) → nor.tells old → Begun g (nor.bytes old) (nor.bytes mid) → Reached nor g old mid (first_moment g slots (nor.bytes old)) []
-  begun_reached {old} {mid} slots changes tells begun =
+  pub begun_reached : {old mid : D} {w : Memory} (slots : ℕ) → w ≡ closed_memory slots → Changes nor old mid (Checks g) → nor.tells old → Begun g (nor.bytes old) (nor.bytes mid) → Reached nor g old mid w (first_moment g slots (nor.bytes old)) []
+  begun_reached {old} {mid} {w} slots memory changes tells begun =
       let m = first_moment g slots (nor.bytes old) in
       let now = changes.now tells in
       record {
         said = changes.said ∙ sym (ap (λ (l : List ℕ). nor.said old ++ l) (no_replies g m) ∙ append-nil (nor.said old));
-        stands = subst (λ (j : Moment). Stands nor g mid j) (sym (no_calls g m)) (record { tells = changes.cuts.told tells; image = record { tidy = begun.tidy; reserve = begun.reserve; table = now.table ∙ sym (first_table g slots (nor.bytes old)); still = first_still g slots (nor.bytes old) } });
-        safe = record { sound = now.sound; reserve = λ reserve. begun.reserve };
+        stands = subst (λ (j : Moment). RunStands nor g mid w j) (sym (no_calls g m)) (record {
+          stands = record { tells = changes.cuts.told tells; image = first_at g slots (nor.bytes old) (nor.bytes mid) w memory begun now.table };
+          reserve = begun.reserve;
+        });
+        holds = holds_check now;
       }
 
   -- it stands there
-  pub begun_stands : {old mid : D} (m : Moment) → Reached nor g old mid m [] → Stands nor g mid m
-  begun_stands {old} {mid} m r = subst (λ (j : Moment). Stands nor g mid j) (no_calls g m) r.stands
+  pub begun_stands : {old mid : D} {w : Memory} (m : Moment) → Reached nor g old mid w m [] → RunStands nor g mid w m
+  begun_stands {old} {mid} {w} m r = subst (λ (j : Moment). RunStands nor g mid w j) (no_calls g m) r.stands
 
   -- a cut in the check or in the calls after it
-  whole_cut : {old mid new : D} (slots : ℕ) (asks : List Ask) → Changes nor old mid (Checks g) → nor.tells old → Begun g (nor.bytes old) (nor.bytes mid) → MayCut nor g mid new (first_moment g slots (nor.bytes old)) asks → Leaves nor old new (CutIn nor g old (first_moment g slots (nor.bytes old)) asks)
-  whole_cut {old} {mid} {new} slots asks changes tells begun leaves =
+  whole_cut : {old mid new : D} {w : Memory} (slots : ℕ) (asks : List Ask) → w ≡ closed_memory slots → Changes nor old mid (Checks g) → nor.tells old → Begun g (nor.bytes old) (nor.bytes mid) → MayCut nor g mid new w (first_moment g slots (nor.bytes old)) asks → Leaves nor old new (CutIn nor g old (first_moment g slots (nor.bytes old)) asks)
+  whole_cut {old} {mid} {new} slots asks memory changes tells begun leaves =
       let m = first_moment g slots (nor.bytes old) in
-      let r = begun_reached slots changes tells begun in
+      let r = begun_reached slots memory changes tells begun in
       andthen (check_cut slots asks changes tells) (widened leaves (λ image count here. cut_behind r (subst (λ (j : Moment). CutIn nor g mid j asks image count) (sym (no_calls g m)) (here (begun_stands m r)))))
 
   -- a run that was begun
-  pub begun_ends : {old mid new : D} (slots : ℕ) (script left : List ℕ) (ending : Ending) → Changes nor old mid (Checks g) → nor.tells old → Begun g (nor.bytes old) (nor.bytes mid) → (h : Geometry) → h ≡ g → ((m : Moment) → Stands nor h mid m → RunEnds nor h mid new m script left ending) → RunsTo nor g old new (first_moment g slots (nor.bytes old)) script left ending
-  begun_ends {old} {mid} {new} slots script left ending changes tells begun h same ends =
+  pub begun_ends : {old mid new : D} {between now : Memory} (slots : ℕ) (script left : List ℕ) (ending : Ending) → between ≡ closed_memory slots → now.run ≡ None → Changes nor old mid (Checks g) → nor.tells old → Begun g (nor.bytes old) (nor.bytes mid) →
+      (h : Geometry) → h ≡ g → ((m : Moment) → RunStands nor h mid between m → RunEnds nor h mid new between now m script left ending) → RunsTo nor g old new (first_moment g slots (nor.bytes old)) script left ending
+  begun_ends {old} {mid} {new} {between} {now} slots script left ending memory idle changes tells begun h same ends =
       let m = first_moment g slots (nor.bytes old) in
-      let r = begun_reached slots changes tells begun in
-      let next : (j : Moment) → Stands nor g mid j → RunEnds nor g mid new j script left ending = subst (λ (k : Geometry). (j : Moment) → Stands nor k mid j → RunEnds nor k mid new j script left ending) same ends in
+      let r = begun_reached slots memory changes tells begun in
+      let next : (j : Moment) → RunStands nor g mid between j → RunEnds nor g mid new between now j script left ending = subst (λ (k : Geometry). (j : Moment) → RunStands nor k mid between j → RunEnds nor k mid new between now j script left ending) same ends in
       ⊎_elim
-      (λ broken. inl (broken.0, later_said (calls script) r (subst (λ (j : Moment). SaidPart nor mid new (replies g j (calls script))) (sym (no_calls g m)) broken.1), whole_cut slots (calls script) changes tells begun broken.2))
+      (λ broken. inl (broken.0, later_said (calls script) r (subst (λ (j : Moment). SaidPart nor mid new (replies g j (calls script))) (sym (no_calls g m)) broken.1), whole_cut slots (calls script) memory changes tells begun broken.2))
       (λ went.
-      let whole : Reached nor g old new m went.front = later_reached r (subst (λ (j : Moment). Reached nor g mid new j went.front) (sym (no_calls g m)) went.reached) in
+      let whole : Reached nor g old new now m went.front = later_reached r (subst (λ (j : Moment). Reached nor g mid new now j went.front) (sym (no_calls g m)) went.reached) in
       inr (record {
         front = went.front;
         later = went.later;
         asks_are = went.asks_are;
         said = whole.said;
-        tells = whole.stands.tells;
-        settled = whole.stands.image.table;
-        table = here_table g (nor.bytes new) (after_all g m went.front) whole.stands.image;
-        why = inr (begins_on g (nor.bytes old) (nor.bytes new) begun.takes whole.stands.image.reserve, went.why);
-        safe = whole.safe;
-        cuts = whole_cut slots went.front changes tells begun went.leaves;
+        tells = whole.stands.stands.tells;
+        settled = whole.stands.stands.image.table;
+        table = here_table g (nor.bytes new) now (after_all g m went.front) idle whole.stands.stands.image;
+        why = inr (begins_on g (nor.bytes old) (nor.bytes new) begun.takes whole.stands.reserve, went.why);
+        holds = whole.holds;
+        cuts = whole_cut slots went.front memory changes tells begun went.leaves;
       }))
       (next m (begun_stands m r))
 
@@ -138,7 +146,7 @@ module _ {D : Type 0} {nor : NorOf D} {g : Geometry} where
     settled = same ∙ sym (first_settled g slots (nor.bytes old));
     table = same ∙ sym (first_state g slots (nor.bytes old));
     why = why;
-    safe = safe_check (changes.now tells);
+    holds = holds_check (changes.now tells);
     cuts = check_cut slots [] changes tells;
   })
 
@@ -147,14 +155,14 @@ module _ {D : Type 0} {nor : NorOf D} {g : Geometry} where
   early_why ends = ⊎_elim (λ refused. rw refused.refusal refl) (λ tight. rw tight.takes tight.tight) ends
 
   -- a run that ends before its first line
-  pub early_ends : {old mid : D} (slots : ℕ) (script left : List ℕ) (ending : Ending) → Changes nor old mid (Checks g) → nor.tells old → StopsCheck nor g old mid ending → RunsTo nor g old mid (first_moment g slots (nor.bytes old)) script left ending
+  pub early_ends : {old mid : D} (slots : ℕ) (script left : List ℕ) (ending : Ending) → Changes nor old mid (Checks g) → nor.tells old → StopsRun nor g old mid ending → RunsTo nor g old mid (first_moment g slots (nor.bytes old)) script left ending
   early_ends {old} {mid} slots script left ending changes tells stops = ⊎_elim
       (λ fault. inl (fault, record { part = []; rest = replies g (first_moment g slots (nor.bytes old)) (calls script); said = changes.said ∙ sym (append-nil (nor.said old)); whole_is = refl }, check_cut slots (calls script) changes tells))
       (λ ends. early_came slots script left ending changes tells (changes.now tells).table (inl (refl, early_why ends)))
       stops
 
   -- one whose image isn't taken
-  pub early_refused : {old mid : D} (ending result : Ending) → Changes nor old mid (Checks g) → nor.tells old → check_refusal g (nor.bytes old) ≡ Some ending → StopsCheck nor g old mid result → Refused nor old mid ending result
+  pub early_refused : {old mid : D} (ending result : Ending) → Changes nor old mid (Checks g) → nor.tells old → check_refusal g (nor.bytes old) ≡ Some ending → StopsRun nor g old mid result → Refused nor old mid ending result
   early_refused {old} {mid} ending result changes tells is stops = ⊎_elim
       (λ fault. record {
         tells = changes.cuts.told tells;
@@ -170,31 +178,29 @@ module _ {D : Type 0} {nor : NorOf D} {g : Geometry} where
       ends)
       stops
 
-  -- mounting and the check take the first image
-  pub check_taken : {old mid : D} (h : Geometry) → h ≡ g → OnlyReads nor old mid → spoiled_blocks g (nor.bytes old) ≤ 1 → mixed_blocks h (nor.bytes mid) ≡ 0 → check_refusal g (nor.bytes old) ≡ None
-  check_taken {old} {mid} h same reads few none =
-      let number : mixed_blocks h (nor.bytes mid) ≡ mixed_blocks g (nor.bytes old) = ap (λ (k : Geometry). mixed_blocks k (nor.bytes mid)) same ∙ ap (mixed_blocks g) reads.bytes in
-      check_takes g (nor.bytes old) few (sym number ∙ none)
+module _ {D : Type 0} (nor : NorOf D) (g : Geometry) where
+  -- a volume that wasn't checked isn't run on
+  pub unchecked_stops : {old new : D} (ending : Ending) → StopsCheck nor g old new ending → StopsRun nor g old new ending
+  unchecked_stops ending stops = ⊎_elim (λ fault. inl fault) (λ refused. inr (inl refused)) stops
 
-  -- a volume that was mounted, and not checked
-  pub check_stops : (why : CheckErr) {old mid new : D} (h : Geometry) → h ≡ g → IsWritable why → OnlyReads nor old mid → spoiled_blocks g (nor.bytes old) ≤ 1 → (IsRefusal why → OnlyReads nor mid new) → CountsMixed h (nor.bytes mid) why → StopsCheck nor g old new (check_ends why)
-  check_stops (CheckMixed blocks) {old} {mid} {new} h same writable reads few refused counts =
-      let here : blocks ≡ mixed_blocks g (nor.bytes old) = counts.0 ∙ cc (reads.bytes, same) in
-      inr (inl (record { refusal = check_mixed g (nor.bytes old) blocks few here counts.1; reads = reads_then reads (refused (tt {0})) }))
-  check_stops CheckFault h same writable reads few refused counts = inl refl
-  check_stops (CheckWrong why) h same writable reads few refused counts = absurd writable
-
-  -- one that was checked, and has too few free blocks
-  pub tight_stops : {old mid new : D} (h : Geometry) (free : ℕ) → h ≡ g → OnlyReads nor old mid → spoiled_blocks g (nor.bytes old) ≤ 1 → mixed_blocks h (nor.bytes mid) ≡ 0 → free ≡ free_blocks h (nor.bytes new) → free < 2 → StopsCheck nor g old new (Tight free)
-  tight_stops {old} {mid} {new} h free same reads few none is less = inr (inr (record {
-    takes = check_taken h same reads few none;
-    tight = tight_some g (nor.bytes new) free (is ∙ ap (λ (k : Geometry). free_blocks k (nor.bytes new)) same) less;
+  -- nor is one with too few free blocks
+  pub tight_stops : {old new : D} (report : Report) → Reported g (nor.bytes old) (nor.bytes new) report → report.free_blocks < 2 → StopsRun nor g old new (Tight report.free_blocks)
+  tight_stops {old} {new} report reported less = inr (inr (record {
+    takes = reported.takes;
+    tight = tight_some g (nor.bytes new) report.free_blocks reported.done.free less;
   }))
 
-  -- mounting changes nothing
-  pub mount_changes : {old mid : D} → OnlyReads nor old mid → Changes nor old mid (Checks g)
-  mount_changes {old} {mid} reads = read_after (unchanged old (Checks g) (λ tells. checks_itself (nor.bytes old))) reads
+  -- the same device by another name
+  pub runs_as : {old mid new : D} {m : Moment} {script left : List ℕ} {ending : Ending} → mid ≡ new → RunsTo nor g old mid m script left ending → RunsTo nor g old new m script left ending
+  runs_as {old} {mid} {new} {m} {script} {left} {ending} same runs = subst (λ (d : D). RunsTo nor g old d m script left ending) same runs
 
-  -- what the check leaves after that
-  pub check_changes : {old mid new : D} (h : Geometry) → h ≡ g → OnlyReads nor old mid → Changes nor mid new (KeepsAll h) → Changes nor old new (Checks g)
-  check_changes {old} {mid} {new} h same reads changes = after_reads reads (wider (subst (λ (k : Geometry). Changes nor mid new (KeepsAll k)) same changes) (λ tells image here. record { sound = λ magics. here.keeps.sound; table = here.keeps.table; free = here.free }))
+  pub images_as : {was : List ℕ} {mid new : D} {ending : Ending} → mid ≡ new → EndsByImages g was (nor.bytes mid) ending → EndsByImages g was (nor.bytes new) ending
+  images_as {was} {mid} {new} {ending} same ends = subst (λ (d : D). EndsByImages g was (nor.bytes d) ending) same ends
+
+-- one that has enough is begun
+pub reported_begun : {g : Geometry} {was now : List ℕ} (report : Report) → Reported g was now report → 2 ≤ report.free_blocks → Begun g was now
+reported_begun report reported enough = record { takes = reported.takes; tidy = reported.done.tidy; reserve = omega (arith, reported.done.free, enough) }
+
+-- what a volume remembers that was checked, before the first call
+pub memory_begun : {N : Type 0} {nor : NorOf N} {old new : Volume N nor} {slots : ℕ} → new.slots.now ≡ old.slots.now → descriptors old.slots.now ≡ replicate slots None → memory new ≡ closed_memory slots
+memory_begun same closed = rw (same, closed) refl

@@ -11,12 +11,12 @@ use Rattle.image_model.specs.Tidy.{IsTidy, free_blocks}
 use Rattle.tool_core.specs.declared.ending.Ending.{Ending}
 use Rattle.tool_core.specs.declared.ending.Ending.TheVariants.{BoardFault}
 use Rattle.tool_core.specs.Closing.{closing_line_of}
-use Rattle.tool_core.specs.Begins.{Checks}
+use Rattle.tool_core.specs.Mounting.{Checks}
 use Rattle.tool_core.specs.Endings.{OnlyCloses, Concludes}
 use Rattle.tool_core.specs.Reads.{ReadsOnce}
 use Rattle.tool_core.specs.Refusals.{check_refusal, report_ending, check_ending, unless_refused}
 use Rattle.tool_core.specs.Checking.{check_text, reported_text, IsTidyOnceSaid, ChecksTo, CheckCut, DoesCheck}
-use Rattle.tool_core.proofs.Beginning.{safe_check}
+use Rattle.tool_core.proofs.Mounted.{safe_check, holds_check}
 use Rattle.tool_core.proofs.CheckEnds.{other_first, same_after}
 use Rattle.tool_core.proofs.Reading.{reads_said}
 use Rattle.tool_core.proofs.Refusals.{option_cases, refusal_line}
@@ -89,7 +89,7 @@ module _ {D : Type 0} {nor : NorOf D} {g : Geometry} where
         told = λ tells. subst (λ (l : List ℕ). Concludes nor old new (reported_text g (nor.bytes old) l) (check_ending g (nor.bytes old) l) status) (sym closes.says.bytes)
             (concludes (reported_text g (nor.bytes old) (nor.bytes mid)) (check_ending g (nor.bytes old) (nor.bytes mid)) result status (checks.cuts.told tells) checks.cuts.faults cause (checks.speaks tells) closes);
         table = λ tells. (left tells).table;
-        safe = λ tells. safe_check (left tells);
+        holds = λ tells. holds_check (left tells);
         tidy = tidy_said result status checks closes;
         kept = λ tells ending refused fine.
             let is : result ≡ ending = by_result (checks.speaks tells) closes fine ∙ ap (λ (o : Option Ending). unwrap_or o (report_ending (length (damaged_of g (nor.bytes old))) (free_blocks g (nor.bytes mid)))) refused in

@@ -10,7 +10,8 @@ use Rattle.table_model.specs.Window.{Moment}
 use Rattle.call_script.specs.Lines.{calls}
 use Rattle.image_model.specs.Tables.{table_of}
 use Rattle.run_model.specs.Runs.{after_all, replies, IsCut}
-use Rattle.run_model.specs.Safe.{IsSafe}
+use Rattle.call_model.specs.Safe.{IsSafe, Holds}
+use Rattle.call_model.proofs.Safety.{safe_as}
 use Rattle.run_model.specs.Ran.{CutIn, SaidPart}
 use Rattle.run_model.proofs.Runs.{is_settled, cut_none, cut_later, cut_after}
 use Rattle.tool_core.specs.declared.ending.Ending.{Ending}
@@ -32,7 +33,7 @@ module _ {D : Type 0} {nor : NorOf D} {g : Geometry} where
       inl (call_cut (record {
         part = replies g m came.front ++ [];
         count_is = omega (arith, count_is, ap length came.said, length-append (nor.said old) (replies g m came.front), ap length all);
-        safe = subst (λ (l : List ℕ). IsSafe g (nor.bytes old) l) (sym same) came.safe;
+        safe = subst (λ (l : List ℕ). IsSafe g (nor.bytes old) l) (sym same) (safe_as g (nor.bytes old) (nor.bytes mid) came.holds);
         cut = subst (λ (zs : List Ask). IsCut g m zs (replies g m came.front ++ []) (table_of g image)) (append-nil came.front) (cut_later g m came.front [] [] (table_of g image) (cut_none g (after_all g m came.front) [] (table_of g image) (is_settled (after_all g m came.front) (table_of g image) [] (ap (table_of g) same ∙ came.settled))));
       }))
   closing_case {old} {mid} {new} {m} ending image count (x ∷ part) rest came stays same closing_is count_is = inr (record {
@@ -65,7 +66,7 @@ module _ {D : Type 0} {nor : NorOf D} {g : Geometry} where
         closing_is = sym (take-append-drop closes.says.said.0 (closing_line_of ending));
         said = closes.says.said.1 ∙ ap (λ (l : List ℕ). l ++ take closes.says.said.0 (closing_line_of ending)) came.said ∙ append_assoc (nor.said old) (replies g m came.front) (take closes.says.said.0 (closing_line_of ending));
         table = ap (table_of g) closes.says.bytes ∙ came.table;
-        safe = subst (λ (l : List ℕ). IsSafe g (nor.bytes old) l) (sym closes.says.bytes) came.safe;
+        holds = subst (λ (l : List ℕ). Holds g (nor.bytes old) l) (sym closes.says.bytes) came.holds;
         cuts = andthen (widened came.cuts (λ image count here. inl (call_cut here))) (widened closes.cuts (λ image count here.
             let n = count - length (nor.said mid) in
             let within : n ≤ length (closing_line_of ending) = omega (arith, here.most) in

@@ -14,7 +14,7 @@ use Rattle.tool_core.specs.Refusals.{begin_refusal}
 use Rattle.tool_core.specs.Endings.{OnlyCloses}
 use Rattle.tool_core.specs.Turns.{AllGood}
 use Rattle.tool_core.specs.Outcomes.{HasBad, IsTooLong, WhyEnds, WhyRan, IsOfScript, EndsByImages}
-use Rattle.tool_core.specs.Running.{Closes, Outcome, RanWhole, BeginsAs, Lacks, IsComplete}
+use Rattle.tool_core.specs.Running.{Closes, Outcome, RanWhole, BeginsAs, HasUnbuilt, IsComplete}
 use Rattle.tool_core.proofs.Refusals.{not_both, begin_undone}
 
 good_has_no_bad : (done : List (List ℕ)) (bad : List ℕ) (others : List (List ℕ)) → AllGood (done ++ (bad ∷ others)) → of_line bad ≡ Bad → ⊥
@@ -72,20 +72,20 @@ module _ {D : Type 0} {nor : NorOf D} {g : Geometry} where
   by_ending : {old new : D} {m : Moment} {script left : List ℕ} {status : ℕ} (Q : Type 0) → (status ≢ 7) → Outcome nor g old new m script left status → ((c : Closes nor g old new m script left status) → status ≡ status_of c.ending → Q) → Q
   by_ending Q fine outcome then = ⊎_elim (λ broken. absurd (fine broken.status_is)) (λ c. ⊎_elim (λ told. then c told) (λ fault. absurd (fine fault.0)) c.ends) outcome
 
-  lacks_of : {new : D} (ending : Ending) (m : Moment) (script left : List ℕ) (front later : List Ask) → calls script ≡ front ++ later → WhyEnds g (after_all g m front) (nor.bytes new) script left front later ending → status_of ending ≡ 16 → Lacks nor g new m script
-  lacks_of Unbuilt m script left front later asks_are why is = record { front = front; later = later; asks_are = asks_are; lacks = why }
-  lacks_of Done m script left front later asks_are why is = absurd (omega (arith, is))
-  lacks_of (BadLine n) m script left front later asks_are why is = absurd (omega (arith, is))
-  lacks_of TooLong m script left front later asks_are why is = absurd (omega (arith, is))
-  lacks_of SourceFault m script left front later asks_are why is = absurd (omega (arith, is))
-  lacks_of _ m script left front later asks_are why is = absurd why
+  unbuilt_of : {new : D} (ending : Ending) (m : Moment) (script left : List ℕ) (front later : List Ask) → calls script ≡ front ++ later → WhyEnds g (after_all g m front) (nor.bytes new) script left front later ending → status_of ending ≡ 16 → HasUnbuilt nor g new m script
+  unbuilt_of Unbuilt m script left front later asks_are why is = record { front = front; later = later; asks_are = asks_are; unbuilt = why }
+  unbuilt_of Done m script left front later asks_are why is = absurd (omega (arith, is))
+  unbuilt_of (BadLine n) m script left front later asks_are why is = absurd (omega (arith, is))
+  unbuilt_of TooLong m script left front later asks_are why is = absurd (omega (arith, is))
+  unbuilt_of SourceFault m script left front later asks_are why is = absurd (omega (arith, is))
+  unbuilt_of _ m script left front later asks_are why is = absurd why
 
   pub complete_of : {old new : D} {m : Moment} {script left : List ℕ} {status : ℕ} → (status ≢ 7) → (status ≢ 8) → begin_refusal g (nor.bytes old) (nor.bytes new) ≡ None → Outcome nor g old new m script left status → IsComplete nor g new m script status
   complete_of {old} {new} {m} {script} {left} {status} fine read takes outcome = record {
     done = λ few lacks good. by_ending (status ≡ 0) fine outcome (λ c is. whole_status g (after_all g m c.front) (nor.bytes new) script left c.front c.later c.ending status (why_ends g (after_all g m c.front) (nor.bytes new) script left c.front c.later (nor.bytes old) c.ending takes c.why) is few lacks read good);
     long = λ long lacks good. by_ending (status ≡ 11) fine outcome (λ c is. long_status g (after_all g m c.front) (nor.bytes new) script left c.front c.later c.ending status (why_ends g (after_all g m c.front) (nor.bytes new) script left c.front c.later (nor.bytes old) c.ending takes c.why) is long lacks read good);
     bad_line = λ few lacks n bad. by_ending (status ≡ 5) fine outcome (λ c is. bad_status g (after_all g m c.front) (nor.bytes new) script left c.front c.later c.ending status (why_ends g (after_all g m c.front) (nor.bytes new) script left c.front c.later (nor.bytes old) c.ending takes c.why) is few lacks read n bad);
-    lacks = λ sixteen. by_ending (Lacks nor g new m script) fine outcome (λ c is. lacks_of c.ending m script left c.front c.later c.asks_are (why_ends g (after_all g m c.front) (nor.bytes new) script left c.front c.later (nor.bytes old) c.ending takes c.why) (sym is ∙ sixteen));
+    unbuilt = λ sixteen. by_ending (HasUnbuilt nor g new m script) fine outcome (λ c is. unbuilt_of c.ending m script left c.front c.later c.asks_are (why_ends g (after_all g m c.front) (nor.bytes new) script left c.front c.later (nor.bytes old) c.ending takes c.why) (sym is ∙ sixteen));
   }
 
   whole_of : {old new : D} (ending : Ending) (m : Moment) (script left : List ℕ) (front later : List Ask) → status_of ending ≡ 0 → calls script ≡ front ++ later → WhyEnds g (after_all g m front) (nor.bytes new) script left front later ending → nor.said new ≡ nor.said old ++ (replies g m front ++ closing_line_of ending) → table_of g (nor.bytes new) ≡ (after_all g m front).state.table → RanWhole nor g old new m script left

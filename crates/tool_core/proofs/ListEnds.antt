@@ -1,9 +1,8 @@
--- How a listing ends, before its closing line and with it.
+-- How a listing ends, before its closing line.
 use Rattle.std.proofs.Common.{◌≡◌, ℕ, ◌≤◌, List, ◌++◌, length, refl, sym, ◌∙◌, ap, subst, inl, inr, append-nil, Option}
 use Rattle.std.specs.Prelude.{unwrap_or}
 use Rattle.geometry.specs.declared.geometry.Geometry.{Geometry}
 use Rattle.nor_core.specs.declared.state.NorState.{Ghosts as NorOf}
-use Rattle.nor_core.specs.Count.{Rose}
 use Rattle.nor_core.specs.Device.{OnlyReads}
 use Rattle.image_model.specs.Tables.{damaged_of}
 use Rattle.image_model.specs.Kinds.{spoiled_blocks}
@@ -15,14 +14,10 @@ use Rattle.image_tool.specs.Saying.{OnlySays, SaysFront}
 use Rattle.image_tool.proofs.Speaking.{says_none, front_none, says_after, front_after, says_same}
 use Rattle.tool_core.specs.declared.ending.Ending.{Ending}
 use Rattle.tool_core.specs.declared.ending.Ending.TheVariants.{BoardFault}
-use Rattle.tool_core.specs.Begins.{mount_ends}
-use Rattle.tool_core.specs.Endings.{OnlyCloses}
-use Rattle.tool_core.specs.Listing.{listed_text, ListsTo, DoesList}
-use Rattle.tool_core.specs.Reads.{ReadsOnce}
-use Rattle.tool_core.specs.Refusals.{said_ending, list_ending}
+use Rattle.tool_core.specs.Mounting.{mount_ends}
+use Rattle.tool_core.specs.Listing.{listed_text, ListsTo}
+use Rattle.tool_core.specs.Refusals.{said_ending}
 use Rattle.tool_core.proofs.Refusals.{mount_two, mount_few}
-use Rattle.tool_core.proofs.Reading.{reads_said}
-use Rattle.tool_core.proofs.Speaking.{concludes, says_closed}
 
 module _ {D : Type 0} {nor : NorOf D} {g : Geometry} where
   -- a volume that wasn't mounted
@@ -60,12 +55,4 @@ module _ {D : Type 0} {nor : NorOf D} {g : Geometry} where
   list_broken {old} {mid} {new} h same reads few says front = record {
     says = list_says h same reads few says;
     speaks = λ tells. inl (refl, front_after reads (subst (λ (l : List ℕ). SaysFront nor mid new l) (same_list h same reads (few tells)) (front (reads.told tells))));
-  }
-
-  -- a whole listing
-  pub list_does : {old mid new : D} (cache : ℕ) (result : Ending) (status : ℕ) → ListsTo nor g old mid result → (result ≡ BoardFault → Rose (nor.faults old) (nor.faults mid)) → ReadsOnce nor g cache old mid → OnlyCloses nor mid new result status → DoesList nor g cache old new status
-  list_does {old} {mid} {new} cache result status lists cause reads closes = record {
-    says = says_closed (listed_text g (nor.bytes old)) (list_ending g (nor.bytes old)) result status lists.says lists.speaks closes;
-    told = λ tells. concludes (listed_text g (nor.bytes old)) (list_ending g (nor.bytes old)) result status (lists.says.cuts.told tells) lists.says.cuts.faults cause (lists.speaks tells) closes;
-    reads = reads_said cache reads closes.says closes.cuts.faults;
   }

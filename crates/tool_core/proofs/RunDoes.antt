@@ -1,5 +1,5 @@
 -- A whole run.
-use Rattle.std.proofs.Common.{◌≡◌, ℕ, ◌≤◌, [], min, Some}
+use Rattle.std.proofs.Common.{◌≡◌, ℕ, ◌≤◌, [], Some}
 use Rattle.geometry.specs.declared.geometry.Geometry.{Geometry}
 use Rattle.nor_core.specs.declared.state.NorState.{Ghosts as NorOf}
 use Rattle.nor_core.specs.declared.source.Source.{Ghosts as SourceOf}
@@ -11,7 +11,7 @@ use Rattle.tool_core.specs.declared.ending.Ending.TheVariants.{BoardFault}
 use Rattle.tool_core.specs.Endings.{OnlyCloses}
 use Rattle.tool_core.specs.Reads.{ReadsOnce}
 use Rattle.tool_core.specs.Refusals.{check_refusal}
-use Rattle.tool_core.specs.Outcomes.{RunsTo, Refused, EndsByImages, first_moment}
+use Rattle.tool_core.specs.Outcomes.{RunsTo, Refused, EndsByImages}
 use Rattle.tool_core.specs.Running.{Outcome, first_of, DoesRun}
 use Rattle.tool_core.proofs.Concluding.{outcome_of}
 use Rattle.tool_core.proofs.Exact.{begins_as, complete_of, ran_whole}
@@ -22,14 +22,14 @@ use Rattle.tool_core.proofs.Speaking.{concludes, by_result, none_closed}
 
 module _ {D X : Type 0} {nor : NorOf D} {source : SourceOf X} {g : Geometry} where
   pub run_does : {old mid new : D} {script after : X} (lent : Lengths) (result : Ending) (status : ℕ) →
-      ((slots : ℕ) → source.tells script → nor.tells old → RunsTo nor g old mid (first_moment g slots (nor.bytes old)) (source.left script) (source.left after) result) →
+      (source.tells script → nor.tells old → RunsTo nor g old mid (first_of g lent (nor.bytes old)) (source.left script) (source.left after) result) →
       (nor.tells old → (ending : Ending) → check_refusal g (nor.bytes old) ≡ Some ending → Refused nor old mid ending result) →
       (nor.tells old → EndsByImages g (nor.bytes old) (nor.bytes mid) result) → Leaves nor old mid (λ image count. Unit {0}) →
       nor.faults old ≤ nor.faults mid → (result ≡ BoardFault → Rose (nor.faults old) (nor.faults mid)) →
       ReadsOnce nor g lent.cache old mid → OnlyCloses nor mid new result status → DoesRun nor source g lent old new script after status
   run_does {old} {mid} {new} {script} {after} lent result status ends refused begins goes faults cause reads closes =
       let m = first_of g lent (nor.bytes old) in
-      let outcome : source.tells script → nor.tells old → Outcome nor g old new m (source.left script) (source.left after) status = λ read tells. outcome_of m (source.left script) (source.left after) result status faults (ends (min 65535 lent.slots) read tells) closes in
+      let outcome : source.tells script → nor.tells old → Outcome nor g old new m (source.left script) (source.left after) status = λ read tells. outcome_of m (source.left script) (source.left after) result status faults (ends read tells) closes in
       record {
         outcome = outcome;
         whole = λ read tells zero_is. ran_whole zero_is (outcome read tells);

@@ -8,13 +8,14 @@ use Rattle.table_model.specs.Ask.{Ask}
 use Rattle.table_model.specs.Window.{Moment}
 use Rattle.call_script.specs.Lines.{onto, calls_of, lines, NoBreak}
 use Rattle.call_script.proofs.Breaks.{line_first, line_last}
+use Rattle.call_model.specs.Memory.{Memory}
 use Rattle.run_model.specs.Runs.{after_all}
-use Rattle.run_model.specs.Ran.{Stands, MayCut, Reached}
+use Rattle.run_model.specs.Ran.{RunStands, MayCut, Reached}
 use Rattle.run_model.proofs.Runs.{after_all-append}
 use Rattle.run_model.proofs.Chain.{no_calls, later_cut, later_reached, later_said, reached_none}
 use Rattle.tool_core.specs.declared.ending.Ending.{Ending}
 use Rattle.tool_core.specs.declared.ending.Ending.TheVariants.{Done, BadLine, BoardFault, SourceFault, TooLong, Unbuilt}
-use Rattle.tool_core.specs.Turns.{DidLine, AllGood, BeginsBad, BeginsLacking, At, CountsLines, CountsBytes, WhyHere, Stops, Turned, OneMore, ended_turn}
+use Rattle.tool_core.specs.Turns.{DidLine, AllGood, BeginsBad, BeginsUnbuilt, At, CountsLines, CountsBytes, WhyHere, Stops, Turned, OneMore, ended_turn}
 use Rattle.tool_core.proofs.LineWork.{bad_long, bad_calls, calls-append, good-append, same_cut}
 
 -- the lines of two parts of a run are counted
@@ -32,10 +33,10 @@ count_bytes _ {D} a b c xs ys e h = tt {0}
 
 module _ {D : Type 0} {nor : NorOf D} {g : Geometry} where
   -- a run that goes on has come to a moment
-  pub went : {m : Moment} {a b : At D} → (t : Turned nor g None m a b) → Reached nor g a.device b.device m (calls_of t.done) × (t.tail ≡ b.pending ++ b.left)
+  pub went : {m : Moment} {a b : At D} → (t : Turned nor g None m a b) → Reached nor g a.device b.device b.memory m (calls_of t.done) × (t.tail ≡ b.pending ++ b.left)
   went {m} {a} {b} t = ⊎_elim (λ broken. absurd (let e : None ≡ Some BoardFault = broken.0 in cc)) (λ here. here) t.stops
 
-  stops_on : (ending : Option Ending) (m : Moment) (a b c : At D) (xs ys : List Ask) (tail : List ℕ) → Reached nor g a.device b.device m xs → Stops nor g (after_all g m xs) b c ys tail ending → Stops nor g m a c (xs ++ ys) tail ending
+  stops_on : (ending : Option Ending) (m : Moment) (a b c : At D) (xs ys : List Ask) (tail : List ℕ) → Reached nor g a.device b.device b.memory m xs → Stops nor g (after_all g m xs) b c ys tail ending → Stops nor g m a c (xs ++ ys) tail ending
   stops_on ending m a b c xs ys tail r s = ⊎_elim
       (λ broken. inl (broken.0, later_said ys r broken.1))
       (λ here. inr (later_reached r here.0, subst (λ (j : Moment). WhyHere g j nor c tail ending) (sym (after_all-append g m xs ys)) here.1))
@@ -90,51 +91,51 @@ bad_of tail (l ∷ ls) e h = record { bad = l; others = ls; lines_are = e; is_ba
 
 module _ {D : Type 0} {nor : NorOf D} {g : Geometry} where
   -- no line was done: more bytes were taken
-  pub took_more : (d : D) (m : Moment) (p l q r : List ℕ) (k j h : ℕ) → Stands nor g d m → p ++ l ≡ q ++ r → j + length p ≡ k + length q → Turned nor g None m (record { device = d; pending = p; left = l; taken = k; handed = h }) (record { device = d; pending = q; left = r; taken = j; handed = h })
+  pub took_more : (d : D) (w : Memory) (m : Moment) (p l q r : List ℕ) (k j h : ℕ) → RunStands nor g d w m → p ++ l ≡ q ++ r → j + length p ≡ k + length q → Turned nor g None m (record { device = d; memory = w; pending = p; left = l; taken = k; handed = h }) (record { device = d; memory = w; pending = q; left = r; taken = j; handed = h })
   unfolding calls_of AllGood after_all
-  took_more d m p l q r k j h stands e count = record { seg = []; done = []; tail = q ++ r; rest_is = e; lines_are = λ more follows. refl; good = tt {0}; number = omega arith; bytes = omega (arith, count); leaves = started d _; stops = inr (reached_none d m stands, refl) }
+  took_more d w m p l q r k j h stands e count = record { seg = []; done = []; tail = q ++ r; rest_is = e; lines_are = λ more follows. refl; good = tt {0}; number = omega arith; bytes = omega (arith, count); leaves = started d _; stops = inr (reached_none d w m stands, refl) }
 
   -- the bytes that were taken are more than a line may have
-  pub too_long_line : (d : D) (m : Moment) (p l : List ℕ) (k h n : ℕ) → Stands nor g d m → NoBreak p → 4096 < length p → n ≡ h + 1 → Turned nor g (Some (BadLine n)) m (record { device = d; pending = p; left = l; taken = k; handed = h }) (record { device = d; pending = p; left = l; taken = k; handed = h })
+  pub too_long_line : (d : D) (w : Memory) (m : Moment) (p l : List ℕ) (k h n : ℕ) → RunStands nor g d w m → NoBreak p → 4096 < length p → n ≡ h + 1 → Turned nor g (Some (BadLine n)) m (record { device = d; memory = w; pending = p; left = l; taken = k; handed = h }) (record { device = d; memory = w; pending = p; left = l; taken = k; handed = h })
   unfolding calls_of AllGood after_all
-  too_long_line d m p l k h n stands plain long is = record { seg = []; done = []; tail = p ++ l; rest_is = refl; lines_are = λ more follows. refl; good = tt {0}; number = omega (arith, is); bytes = tt {0}; leaves = started d _; stops = inr (reached_none d m stands, bad_of (p ++ l) (lines (p ++ l)) refl (omega (arith, long, first_long p l plain))) }
+  too_long_line d w m p l k h n stands plain long is = record { seg = []; done = []; tail = p ++ l; rest_is = refl; lines_are = λ more follows. refl; good = tt {0}; number = omega (arith, is); bytes = tt {0}; leaves = started d _; stops = inr (reached_none d w m stands, bad_of (p ++ l) (lines (p ++ l)) refl (omega (arith, long, first_long p l plain))) }
 
   -- the script could not be read
-  pub source_failed : (d : D) (m : Moment) (p l q r : List ℕ) (k j h : ℕ) → Stands nor g d m → NoBreak p → length p ≤ 4096 → q ≡ p → r ≡ l → Turned nor g (Some SourceFault) m (record { device = d; pending = p; left = l; taken = k; handed = h }) (record { device = d; pending = q; left = r; taken = j; handed = h })
+  pub source_failed : (d : D) (w : Memory) (m : Moment) (p l q r : List ℕ) (k j h : ℕ) → RunStands nor g d w m → NoBreak p → length p ≤ 4096 → q ≡ p → r ≡ l → Turned nor g (Some SourceFault) m (record { device = d; memory = w; pending = p; left = l; taken = k; handed = h }) (record { device = d; memory = w; pending = q; left = r; taken = j; handed = h })
   unfolding calls_of AllGood after_all
-  source_failed d m p l q r k j h stands plain few e f = record { seg = []; done = []; tail = p ++ l; rest_is = refl; lines_are = λ more follows. refl; good = tt {0}; number = tt {0}; bytes = tt {0}; leaves = started d _; stops = inr (reached_none d m stands, record { tail_is = ap (λ (x : List ℕ). x ++ l) (sym e) ∙ ap (λ (x : List ℕ). q ++ x) (sym f); no_break = subst NoBreak (sym e) plain; few = subst (λ (x : List ℕ). length x ≤ 4096) (sym e) few }) }
+  source_failed d w m p l q r k j h stands plain few e f = record { seg = []; done = []; tail = p ++ l; rest_is = refl; lines_are = λ more follows. refl; good = tt {0}; number = tt {0}; bytes = tt {0}; leaves = started d _; stops = inr (reached_none d w m stands, record { tail_is = ap (λ (x : List ℕ). x ++ l) (sym e) ∙ ap (λ (x : List ℕ). q ++ x) (sym f); no_break = subst NoBreak (sym e) plain; few = subst (λ (x : List ℕ). length x ≤ 4096) (sym e) few }) }
 
   -- the script has more bytes than are read
-  pub too_long : (d : D) (m : Moment) (p l r : List ℕ) (k h : ℕ) → Stands nor g d m → NoBreak p → length p ≤ 4096 → k ≡ 16777216 → OneMore l r → Turned nor g (Some TooLong) m (record { device = d; pending = p; left = l; taken = k; handed = h }) (record { device = d; pending = p; left = r; taken = k; handed = h })
+  pub too_long : (d : D) (w : Memory) (m : Moment) (p l r : List ℕ) (k h : ℕ) → RunStands nor g d w m → NoBreak p → length p ≤ 4096 → k ≡ 16777216 → OneMore l r → Turned nor g (Some TooLong) m (record { device = d; memory = w; pending = p; left = l; taken = k; handed = h }) (record { device = d; memory = w; pending = p; left = r; taken = k; handed = h })
   unfolding calls_of AllGood after_all
-  too_long d m p l r k h stands plain few all more = record { seg = []; done = []; tail = p ++ l; rest_is = refl; lines_are = λ more follows. refl; good = tt {0}; number = tt {0}; bytes = omega arith; leaves = started d _; stops = inr (reached_none d m stands, (more.byte, more.rest, record { tail_is = ap (λ (x : List ℕ). p ++ x) more.old_is; no_break = plain; few = few }, all)) }
+  too_long d w m p l r k h stands plain few all more = record { seg = []; done = []; tail = p ++ l; rest_is = refl; lines_are = λ more follows. refl; good = tt {0}; number = tt {0}; bytes = omega arith; leaves = started d _; stops = inr (reached_none d w m stands, (more.byte, more.rest, record { tail_is = ap (λ (x : List ℕ). p ++ x) more.old_is; no_break = plain; few = few }, all)) }
 
   -- a line that was ended was done
-  pub line_done : (ending : Option Ending) (d e : D) (m : Moment) (p line q l : List ℕ) (k h n : ℕ) → NoBreak line → p ≡ line ++ (10 ∷ q) → n ≡ h + 1 → MayCut nor g d e m (calls_of (line ∷ [])) → DidLine nor g d e m line n ending → Turned nor g ending m (record { device = d; pending = p; left = l; taken = k; handed = h }) (record { device = e; pending = q; left = l; taken = k; handed = n })
+  pub line_done : (ending : Option Ending) (d e : D) (w v : Memory) (m : Moment) (p line q l : List ℕ) (k h n : ℕ) → NoBreak line → p ≡ line ++ (10 ∷ q) → n ≡ h + 1 → MayCut nor g d e w m (calls_of (line ∷ [])) → DidLine nor g d e w v m line n ending → Turned nor g ending m (record { device = d; memory = w; pending = p; left = l; taken = k; handed = h }) (record { device = e; memory = v; pending = q; left = l; taken = k; handed = n })
   unfolding AllGood calls_of
-  line_done None d e m p line q l k h n plain is number leaves did = record { seg = line ++ (10 ∷ []); done = line ∷ []; tail = q ++ l; rest_is = ap (λ (x : List ℕ). x ++ l) is ∙ cut_here line q l; lines_are = λ more follows. ap lines (append_assoc line (10 ∷ []) more) ∙ line_first line more plain; good = (did.0, tt {0}); number = number; bytes = omega (arith, ap length is, length-append line (10 ∷ q), length-append line (10 ∷ [])); leaves = leaves; stops = inr (did.1, refl) }
-  line_done (Some (BadLine x)) d e m p line q l k h n plain is number leaves did = record { seg = []; done = []; tail = p ++ l; rest_is = refl; lines_are = λ more follows. refl; good = tt {0}; number = omega (arith, did.1, number); bytes = tt {0}; leaves = same_cut (sym (bad_calls line did.0)) leaves; stops = inr (did.2, record { bad = line; others = lines (q ++ l); lines_are = ap (λ (x : List ℕ). lines (x ++ l)) is ∙ ap lines (append_assoc line (10 ∷ q) l) ∙ line_first line (q ++ l) plain; is_bad = did.0 }) }
-  line_done (Some BoardFault) d e m p line q l k h n plain is number leaves did = record { seg = line ++ (10 ∷ []); done = line ∷ []; tail = q ++ l; rest_is = ap (λ (x : List ℕ). x ++ l) is ∙ cut_here line q l; lines_are = λ more follows. ap lines (append_assoc line (10 ∷ []) more) ∙ line_first line more plain; good = (did.0, tt {0}); number = tt {0}; bytes = tt {0}; leaves = leaves; stops = inl (refl, did.1) }
-  line_done (Some Unbuilt) d e m p line q l k h n plain is number leaves did = record { seg = []; done = []; tail = p ++ l; rest_is = refl; lines_are = λ more follows. refl; good = tt {0}; number = tt {0}; bytes = tt {0}; leaves = did.leaves; stops = inr (did.reached, subst (λ (j : Moment). BeginsLacking g j (nor.bytes e) (p ++ l)) (sym (no_calls g m)) (record { line = line; others = lines (q ++ l); lines_are = ap (λ (x : List ℕ). lines (x ++ l)) is ∙ ap lines (append_assoc line (10 ∷ q) l) ∙ line_first line (q ++ l) plain; ask = did.ask; spells = did.spells; lacks = did.lacks })) }
-  line_done _ d e m p line q l k h n plain is number leaves did = absurd did
+  line_done None d e w v m p line q l k h n plain is number leaves did = record { seg = line ++ (10 ∷ []); done = line ∷ []; tail = q ++ l; rest_is = ap (λ (x : List ℕ). x ++ l) is ∙ cut_here line q l; lines_are = λ more follows. ap lines (append_assoc line (10 ∷ []) more) ∙ line_first line more plain; good = (did.0, tt {0}); number = number; bytes = omega (arith, ap length is, length-append line (10 ∷ q), length-append line (10 ∷ [])); leaves = leaves; stops = inr (did.1, refl) }
+  line_done (Some (BadLine x)) d e w v m p line q l k h n plain is number leaves did = record { seg = []; done = []; tail = p ++ l; rest_is = refl; lines_are = λ more follows. refl; good = tt {0}; number = omega (arith, did.1, number); bytes = tt {0}; leaves = same_cut (sym (bad_calls line did.0)) leaves; stops = inr (did.2, record { bad = line; others = lines (q ++ l); lines_are = ap (λ (x : List ℕ). lines (x ++ l)) is ∙ ap lines (append_assoc line (10 ∷ q) l) ∙ line_first line (q ++ l) plain; is_bad = did.0 }) }
+  line_done (Some BoardFault) d e w v m p line q l k h n plain is number leaves did = record { seg = line ++ (10 ∷ []); done = line ∷ []; tail = q ++ l; rest_is = ap (λ (x : List ℕ). x ++ l) is ∙ cut_here line q l; lines_are = λ more follows. ap lines (append_assoc line (10 ∷ []) more) ∙ line_first line more plain; good = (did.0, tt {0}); number = tt {0}; bytes = tt {0}; leaves = leaves; stops = inl (refl, did.1) }
+  line_done (Some Unbuilt) d e w v m p line q l k h n plain is number leaves did = record { seg = []; done = []; tail = p ++ l; rest_is = refl; lines_are = λ more follows. refl; good = tt {0}; number = tt {0}; bytes = tt {0}; leaves = did.leaves; stops = inr (did.reached, subst (λ (j : Moment). BeginsUnbuilt g j (nor.bytes e) (p ++ l)) (sym (no_calls g m)) (record { line = line; others = lines (q ++ l); lines_are = ap (λ (x : List ℕ). lines (x ++ l)) is ∙ ap lines (append_assoc line (10 ∷ q) l) ∙ line_first line (q ++ l) plain; ask = did.ask; spells = did.spells; unbuilt = did.unbuilt })) }
+  line_done _ d e w v m p line q l k h n plain is number leaves did = absurd did
 
   -- no byte is left
-  pub no_last : (d : D) (m : Moment) (p : List ℕ) (k h : ℕ) → Stands nor g d m → length p ≡ 0 → k ≤ 16777216 → Turned nor g (Some Done) m (record { device = d; pending = p; left = []; taken = k; handed = h }) (record { device = d; pending = p; left = []; taken = k; handed = h })
+  pub no_last : (d : D) (w : Memory) (m : Moment) (p : List ℕ) (k h : ℕ) → RunStands nor g d w m → length p ≡ 0 → k ≤ 16777216 → Turned nor g (Some Done) m (record { device = d; memory = w; pending = p; left = []; taken = k; handed = h }) (record { device = d; memory = w; pending = p; left = []; taken = k; handed = h })
   unfolding calls_of AllGood
-  no_last d m [] k h stands e few = record { seg = []; done = []; tail = []; rest_is = refl; lines_are = λ more follows. refl; good = tt {0}; number = tt {0}; bytes = (refl, few); leaves = started d _; stops = inr (reached_none d m stands, (refl, refl)) }
-  no_last d m (x ∷ p) k h stands e few = absurd (omega (arith, e))
+  no_last d w m [] k h stands e few = record { seg = []; done = []; tail = []; rest_is = refl; lines_are = λ more follows. refl; good = tt {0}; number = tt {0}; bytes = (refl, few); leaves = started d _; stops = inr (reached_none d w m stands, (refl, refl)) }
+  no_last d w m (x ∷ p) k h stands e few = absurd (omega (arith, e))
 
   -- a last line that was not ended was done
-  pub last_done : (ending : Option Ending) (d e : D) (m : Moment) (line : List ℕ) (k h n : ℕ) → NoBreak line → 0 < length line → k ≤ 16777216 → n ≡ h + 1 → MayCut nor g d e m (calls_of (line ∷ [])) → DidLine nor g d e m line n ending → Turned nor g (Some (ended_turn ending)) m (record { device = d; pending = line; left = []; taken = k; handed = h }) (record { device = e; pending = line; left = []; taken = k; handed = h })
+  pub last_done : (ending : Option Ending) (d e : D) (w v : Memory) (m : Moment) (line : List ℕ) (k h n : ℕ) → NoBreak line → 0 < length line → k ≤ 16777216 → n ≡ h + 1 → MayCut nor g d e w m (calls_of (line ∷ [])) → DidLine nor g d e w v m line n ending → Turned nor g (Some (ended_turn ending)) m (record { device = d; memory = w; pending = line; left = []; taken = k; handed = h }) (record { device = e; memory = v; pending = line; left = []; taken = k; handed = h })
   unfolding AllGood calls_of lines
-  last_done None d e m line k h n plain some few number leaves did = record { seg = line; done = line ∷ []; tail = []; rest_is = refl; lines_are = λ more follows. ap (λ (x : List ℕ). lines (line ++ x)) follows ∙ ap lines (append-nil line) ∙ line_last line some plain ∙ ap (λ (x : List ℕ). line ∷ lines x) (sym follows); good = (did.0, tt {0}); number = tt {0}; bytes = (refl, few); leaves = leaves; stops = inr (did.1, (refl, refl)) }
-  last_done (Some (BadLine x)) d e m line k h n plain some few number leaves did = record { seg = []; done = []; tail = line ++ []; rest_is = refl; lines_are = λ more follows. refl; good = tt {0}; number = omega (arith, did.1, number); bytes = tt {0}; leaves = same_cut (sym (bad_calls line did.0)) leaves; stops = inr (did.2, record { bad = line; others = []; lines_are = ap lines (append-nil line) ∙ line_last line some plain; is_bad = did.0 }) }
-  last_done (Some BoardFault) d e m line k h n plain some few number leaves did = record { seg = line; done = line ∷ []; tail = []; rest_is = refl; lines_are = λ more follows. ap (λ (x : List ℕ). lines (line ++ x)) follows ∙ ap lines (append-nil line) ∙ line_last line some plain ∙ ap (λ (x : List ℕ). line ∷ lines x) (sym follows); good = (did.0, tt {0}); number = tt {0}; bytes = tt {0}; leaves = leaves; stops = inl (refl, did.1) }
-  last_done (Some Unbuilt) d e m line k h n plain some few number leaves did = record { seg = []; done = []; tail = line ++ []; rest_is = refl; lines_are = λ more follows. refl; good = tt {0}; number = tt {0}; bytes = tt {0}; leaves = did.leaves; stops = inr (did.reached, subst (λ (j : Moment). BeginsLacking g j (nor.bytes e) (line ++ [])) (sym (no_calls g m)) (record { line = line; others = []; lines_are = ap lines (append-nil line) ∙ line_last line some plain; ask = did.ask; spells = did.spells; lacks = did.lacks })) }
-  last_done _ d e m line k h n plain some few number leaves did = absurd did
+  last_done None d e w v m line k h n plain some few number leaves did = record { seg = line; done = line ∷ []; tail = []; rest_is = refl; lines_are = λ more follows. ap (λ (x : List ℕ). lines (line ++ x)) follows ∙ ap lines (append-nil line) ∙ line_last line some plain ∙ ap (λ (x : List ℕ). line ∷ lines x) (sym follows); good = (did.0, tt {0}); number = tt {0}; bytes = (refl, few); leaves = leaves; stops = inr (did.1, (refl, refl)) }
+  last_done (Some (BadLine x)) d e w v m line k h n plain some few number leaves did = record { seg = []; done = []; tail = line ++ []; rest_is = refl; lines_are = λ more follows. refl; good = tt {0}; number = omega (arith, did.1, number); bytes = tt {0}; leaves = same_cut (sym (bad_calls line did.0)) leaves; stops = inr (did.2, record { bad = line; others = []; lines_are = ap lines (append-nil line) ∙ line_last line some plain; is_bad = did.0 }) }
+  last_done (Some BoardFault) d e w v m line k h n plain some few number leaves did = record { seg = line; done = line ∷ []; tail = []; rest_is = refl; lines_are = λ more follows. ap (λ (x : List ℕ). lines (line ++ x)) follows ∙ ap lines (append-nil line) ∙ line_last line some plain ∙ ap (λ (x : List ℕ). line ∷ lines x) (sym follows); good = (did.0, tt {0}); number = tt {0}; bytes = tt {0}; leaves = leaves; stops = inl (refl, did.1) }
+  last_done (Some Unbuilt) d e w v m line k h n plain some few number leaves did = record { seg = []; done = []; tail = line ++ []; rest_is = refl; lines_are = λ more follows. refl; good = tt {0}; number = tt {0}; bytes = tt {0}; leaves = did.leaves; stops = inr (did.reached, subst (λ (j : Moment). BeginsUnbuilt g j (nor.bytes e) (line ++ [])) (sym (no_calls g m)) (record { line = line; others = []; lines_are = ap lines (append-nil line) ∙ line_last line some plain; ask = did.ask; spells = did.spells; unbuilt = did.unbuilt })) }
+  last_done _ d e w v m line k h n plain some few number leaves did = absurd did
 
   -- a turn after others, by the geometry that the run began with
-  pub turn_then : (ending : Option Ending) (h : Geometry) (m : Moment) (a b c : At D) → h ≡ g → Turned nor g None m a b → ((n : Moment) → Stands nor h b.device n → Turned nor h ending n b c) → Turned nor g ending m a c
+  pub turn_then : (ending : Option Ending) (h : Geometry) (m : Moment) (a b c : At D) → h ≡ g → Turned nor g None m a b → ((n : Moment) → RunStands nor h b.device b.memory n → Turned nor h ending n b c) → Turned nor g ending m a c
   turn_then ending h m a b c same f then =
-      let next : (n : Moment) → Stands nor g b.device n → Turned nor g ending n b c = subst (λ (k : Geometry). (n : Moment) → Stands nor k b.device n → Turned nor k ending n b c) same then in
+      let next : (n : Moment) → RunStands nor g b.device b.memory n → Turned nor g ending n b c = subst (λ (k : Geometry). (n : Moment) → RunStands nor k b.device b.memory n → Turned nor k ending n b c) same then in
       turn_on ending m a b c f (next (after_all g m (calls_of f.done)) (went f).0.stands)

@@ -7,13 +7,13 @@ use Rattle.image_model.specs.Tables.{table_of, damaged_of}
 use Rattle.image_model.specs.Tidy.{IsTidy, free_blocks}
 use Rattle.image_model.specs.Kinds.{spoiled_blocks}
 use Rattle.image_model.specs.Killed.{killed_of}
-use Rattle.run_model.specs.Safe.{IsSafe}
+use Rattle.call_model.specs.Safe.{IsSafe, Holds}
 use Rattle.tool_core.specs.declared.ending.Ending.{Ending}
 use Rattle.tool_core.specs.Closing.{closing_line_of}
 use Rattle.tool_core.specs.Endings.{Speaks, Concludes, WritesNone}
 use Rattle.tool_core.specs.Reads.{ReadsOnce}
 use Rattle.tool_core.specs.Refusals.{check_refusal, check_ending, unless_refused}
-use Rattle.tool_core.specs.Begins.{Checks}
+use Rattle.tool_core.specs.Mounting.{Checks}
 
 -- the line of a report: whether a block was erased, how many entries were killed, how many files were damaged, and how many blocks
 -- are free
@@ -65,7 +65,7 @@ pub record DoesCheck {D : Type 0} (nor : NorOf D) (g : Geometry) (cache : ℕ) (
   pub told : nor.tells old → Concludes nor old new (reported_text g (nor.bytes old) (nor.bytes new)) (check_ending g (nor.bytes old) (nor.bytes new)) status
   -- the last image has the table of the first one, which it may follow
   pub table : nor.tells old → table_of g (nor.bytes new) ≡ table_of g (nor.bytes old)
-  pub safe : nor.tells old → IsSafe g (nor.bytes old) (nor.bytes new)
+  pub holds : nor.tells old → Holds g (nor.bytes old) (nor.bytes new)
   -- it is tidy, once the report was said
   pub tidy : nor.tells old → IsTidyOnceSaid nor g old new
   -- an image that isn't taken stays

@@ -1,7 +1,7 @@
 -- What the top call is handed, by its parameters.
 use Rattle.std.specs.Prelude.{ℕ, List, length}
 use Rattle.nor_core.specs.declared.state.NorState.{Ghosts as NorOf}
-use Rattle.tool_core.specs.declared.tool.Buffers.{Buffers}
+use Rattle.tool_core.specs.declared.buffers.Buffers.{Buffers}
 use Rattle.tool_core.specs.declared.plan.Lengths.{Lengths}
 use Rattle.tool_core.specs.Asked.{Asked, asked_by}
 

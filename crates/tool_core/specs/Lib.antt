@@ -9,6 +9,8 @@ pub mod Reads
 pub mod Fits
 pub mod Lent
 pub mod Later
+pub mod Telling
+pub mod Mounting
 pub mod Runs
 pub mod Turns
 pub mod Outcomes

@@ -8,14 +8,15 @@ use Rattle.table_model.specs.Window.{Moment, settled_at}
 use Rattle.call_script.specs.Lines.{Bad, lines, of_line, calls, NoBreak}
 use Rattle.image_model.specs.Tables.{table_of}
 use Rattle.run_model.specs.Runs.{after_all, replies}
-use Rattle.run_model.specs.Safe.{IsSafe}
+use Rattle.call_model.specs.Memory.{Memory}
+use Rattle.call_model.specs.Safe.{Holds}
 use Rattle.run_model.specs.Ran.{CutIn, MayCut, Reached, SaidPart}
 use Rattle.tool_core.specs.declared.ending.Ending.{Ending}
 use Rattle.tool_core.specs.declared.ending.Ending.TheVariants.{Done, BadLine, BoardFault, SourceFault, TooLong, Unbuilt}
 use Rattle.tool_core.specs.Refusals.{begin_refusal}
 use Rattle.tool_core.specs.Closing.{status_of}
 use Rattle.tool_core.specs.Endings.{Speaks, WritesNone}
-use Rattle.tool_core.specs.Turns.{AllGood, LacksPage}
+use Rattle.tool_core.specs.Turns.{AllGood, IsUnbuilt}
 
 -- a line of a script is outside the grammar, the first such, by its number from 1
 pub record HasBad (script : List ℕ) (number : ℕ) : Type 0 where
@@ -52,12 +53,12 @@ pub record IsTooLong (script : List ℕ) (front : List Ask) : Type 0 where
   pub count : length whole + length rest ≡ 16777216
   pub calls_are : calls whole ≡ front
 
--- the first of some calls is a create that lacks its page
-pub record LacksNext (g : Geometry) (m : Moment) (image : List ℕ) (later : List Ask) : Type 0 where
+-- the first of some calls is one that this build can't do
+pub record UnbuiltNext (g : Geometry) (m : Moment) (image : List ℕ) (later : List Ask) : Type 0 where
   pub ask : Ask
   pub more : List Ask
   pub later_is : later ≡ ask ∷ more
-  pub lacks : LacksPage g m image ask
+  pub unbuilt : IsUnbuilt g image m.state ask
 
 -- why a run ends after some calls and before others, where it stands at that moment over this image
 abbrev pub WhyEnds : (g : Geometry) (m : Moment) (image script left : List ℕ) (front later : List Ask) → Ending → Type 0
@@ -65,26 +66,30 @@ WhyEnds g m image script left front later Done = (later ≡ []) × AllGood (line
 WhyEnds g m image script left front later (BadLine number) = (later ≡ []) × HasBad script number
 WhyEnds g m image script left front later TooLong = IsTooLong script front
 WhyEnds g m image script left front later SourceFault = IsTakenTo script left front
-WhyEnds g m image script left front later Unbuilt = LacksNext g m image later
+WhyEnds g m image script left front later Unbuilt = UnbuiltNext g m image later
 WhyEnds g m image script left front later _ = ⊥
 
 -- a run came to the moment after the first of its script's calls, and ends there
-pub record Went {D : Type 0} (nor : NorOf D) (g : Geometry) (old new : D) (m : Moment) (script left : List ℕ) (ending : Ending) : Type 0 where
+pub record Went {D : Type 0} (nor : NorOf D) (g : Geometry) (old new : D) (was now : Memory) (m : Moment) (script left : List ℕ) (ending : Ending) : Type 0 where
   pub front : List Ask
   pub later : List Ask
   pub asks_are : calls script ≡ front ++ later
-  pub reached : Reached nor g old new m front
-  pub leaves : MayCut nor g old new m front
+  pub reached : Reached nor g old new now m front
+  pub leaves : MayCut nor g old new was m front
   pub why : WhyEnds g (after_all g m front) (nor.bytes new) script left front later ending
 
 -- the board failed in the calls, or it came there
-abbrev pub RunEnds : {D : Type 0} (nor : NorOf D) (g : Geometry) (old new : D) (m : Moment) (script left : List ℕ) → Ending → Type 0
-RunEnds nor g old new m script left ending =
-    ((ending ≡ BoardFault) × SaidPart nor old new (replies g m (calls script)) × MayCut nor g old new m (calls script)) ⊎ Went nor g old new m script left ending
+abbrev pub RunEnds : {D : Type 0} (nor : NorOf D) (g : Geometry) (old new : D) (was now : Memory) (m : Moment) (script left : List ℕ) → Ending → Type 0
+RunEnds nor g old new was now m script left ending =
+    ((ending ≡ BoardFault) × SaidPart nor old new (replies g m (calls script)) × MayCut nor g old new was m (calls script)) ⊎ Went nor g old new was now m script left ending
 
 -- a volume with that image and that many descriptors, all closed
 abbrev pub first_moment : Geometry → (slots : ℕ) (image : List ℕ) → Moment
 first_moment g slots image = settled_at (record { table = table_of g image; slots = replicate slots None })
+
+-- what it remembers then: they are closed, and nothing waits
+abbrev pub closed_memory : (slots : ℕ) → Memory
+closed_memory slots = record { slots = replicate slots None; run = None }
 
 -- Why a run ends after some calls and before others: for its images before the first call, or for what it met.
 abbrev pub WhyRan : (g : Geometry) (m : Moment) (first image script left : List ℕ) (front later : List Ask) → Ending → Type 0
@@ -102,7 +107,7 @@ pub record Came {D : Type 0} (nor : NorOf D) (g : Geometry) (old new : D) (m : M
   pub settled : table_of g (nor.bytes new) ≡ (after_all g m front).settled
   pub table : table_of g (nor.bytes new) ≡ (after_all g m front).state.table
   pub why : WhyRan g (after_all g m front) (nor.bytes old) (nor.bytes new) script left front later ending
-  pub safe : IsSafe g (nor.bytes old) (nor.bytes new)
+  pub holds : Holds g (nor.bytes old) (nor.bytes new)
   pub cuts : Leaves nor old new (CutIn nor g old m front)
 
 -- the board failed in the calls, or it came there

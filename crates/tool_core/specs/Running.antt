@@ -9,7 +9,7 @@ use Rattle.table_model.specs.Window.{Moment}
 use Rattle.call_script.specs.Lines.{lines, calls}
 use Rattle.image_model.specs.Tables.{table_of}
 use Rattle.run_model.specs.Runs.{after_all, replies, IsCutAfter}
-use Rattle.run_model.specs.Safe.{IsSafe}
+use Rattle.call_model.specs.Safe.{IsSafe, Holds}
 use Rattle.run_model.specs.Ran.{SaidPart}
 use Rattle.tool_core.specs.declared.plan.Lengths.{Lengths}
 use Rattle.tool_core.specs.declared.ending.Ending.{Ending}
@@ -18,7 +18,7 @@ use Rattle.tool_core.specs.Endings.{EndsAs, Concludes, WritesNone}
 use Rattle.tool_core.specs.Reads.{ReadsOnce}
 use Rattle.tool_core.specs.Refusals.{check_refusal, begin_refusal}
 use Rattle.tool_core.specs.Turns.{AllGood}
-use Rattle.tool_core.specs.Outcomes.{HasBad, LacksNext, WhyRan, IsOfScript, first_moment}
+use Rattle.tool_core.specs.Outcomes.{HasBad, UnbuiltNext, WhyRan, IsOfScript, first_moment}
 
 -- A cut in the calls: the image may follow the first one, and the replies said and its table are those of a cut in the calls.
 pub record CallCut {D : Type 0} (nor : NorOf D) (g : Geometry) (old : D) (m : Moment) (asks : List Ask) (image : List ℕ) (count : ℕ) : Type 0 where
@@ -57,7 +57,7 @@ pub record Closes {D : Type 0} (nor : NorOf D) (g : Geometry) (old new : D) (m :
   pub closing_is : closing_line_of ending ≡ part ++ rest
   pub said : nor.said new ≡ nor.said old ++ (replies g m front ++ part)
   pub table : table_of g (nor.bytes new) ≡ (after_all g m front).state.table
-  pub safe : IsSafe g (nor.bytes old) (nor.bytes new)
+  pub holds : Holds g (nor.bytes old) (nor.bytes new)
   pub cuts : Leaves nor old new (λ image count. CallCut nor g old m front image count ⊎ ClosingCut nor old new (replies g m front) (closing_line_of ending) image count)
 
 -- what a run leaves and answers
@@ -82,20 +82,20 @@ abbrev pub BeginsAs : (refusal : Option Ending) (status : ℕ) → Type 0
 BeginsAs (Some ending) status = status ≡ status_of ending
 BeginsAs None status = IsOfScript status
 
--- a create of a script lacks its page
-pub record Lacks {D : Type 0} (nor : NorOf D) (g : Geometry) (new : D) (m : Moment) (script : List ℕ) : Type 0 where
+-- a call of a script is one that this build can't do
+pub record HasUnbuilt {D : Type 0} (nor : NorOf D) (g : Geometry) (new : D) (m : Moment) (script : List ℕ) : Type 0 where
   pub front : List Ask
   pub later : List Ask
   pub asks_are : calls script ≡ front ++ later
-  pub lacks : LacksNext g (after_all g m front) (nor.bytes new) later
+  pub unbuilt : UnbuiltNext g (after_all g m front) (nor.bytes new) later
 
--- A run whose images are worked on, and neither the board nor the script failed. Where no call lacks its page the status is 0 for a script of at most
+-- A run whose images are worked on, and neither the board nor the script failed. Where this build can do every call the status is 0 for a script of at most
 -- 16,777,216 bytes of which every line is in the grammar, 11 for a longer one, and 5 for one that isn't longer with a line outside.
 pub record IsComplete {D : Type 0} (nor : NorOf D) (g : Geometry) (new : D) (m : Moment) (script : List ℕ) (status : ℕ) : Type 0 where
   pub done : length script ≤ 16777216 → status ≢ 16 → AllGood (lines script) → status ≡ 0
   pub long : 16777216 < length script → status ≢ 16 → AllGood (lines script) → status ≡ 11
   pub bad_line : length script ≤ 16777216 → status ≢ 16 → (number : ℕ) → HasBad script number → status ≡ 5
-  pub lacks : status ≡ 16 → Lacks nor g new m script
+  pub unbuilt : status ≡ 16 → HasUnbuilt nor g new m script
 
 -- A run mounts and checks the volume, and does the calls of the script.
 pub record DoesRun {D X : Type 0} (nor : NorOf D) (source : SourceOf X) (g : Geometry) (lent : Lengths) (old new : D) (script after : X) (status : ℕ) : Type 0 where

@@ -5,7 +5,8 @@ use Rattle.nor_core.specs.declared.state.NorState.{Ghosts as NorOf}
 use Rattle.nor_core.specs.Count.{Rose}
 use Rattle.nor_core.specs.Device.{Leaves}
 use Rattle.table_model.specs.Window.{Moment}
-use Rattle.run_model.specs.Ran.{Stands}
+use Rattle.call_model.specs.Memory.{Memory}
+use Rattle.run_model.specs.Ran.{RunStands}
 use Rattle.tool_core.specs.declared.ending.Ending.{Ending}
 use Rattle.tool_core.specs.declared.ending.Ending.TheVariants.{Done, BadLine, BoardFault, SourceFault, TooLong, Unbuilt, Differ}
 
@@ -27,22 +28,22 @@ pub record Ran {D : Type 0} (nor : NorOf D) (old new : D) (ending : Option Endin
   pub stands : StandsBy ending takes
 
 -- a volume stands at some moment
-pub record StandsNow {D : Type 0} (nor : NorOf D) (g : Geometry) (d : D) : Type 0 where
+pub record StandsNow {D : Type 0} (nor : NorOf D) (g : Geometry) (d : D) (memory : Memory) : Type 0 where
   pub moment : Moment
-  pub stands : Stands nor g d moment
+  pub stands : RunStands nor g d memory moment
 
 -- a part of a script leaves a volume that stands, but where the board failed, and ends in no other way
-abbrev pub WorksTo : {D : Type 0} (nor : NorOf D) (g : Geometry) (d : D) → Option Ending → Type 0
-WorksTo nor g d None = StandsNow nor g d
-WorksTo nor g d (Some Done) = StandsNow nor g d
-WorksTo nor g d (Some (BadLine number)) = StandsNow nor g d
-WorksTo nor g d (Some BoardFault) = Unit {0}
-WorksTo nor g d (Some SourceFault) = StandsNow nor g d
-WorksTo nor g d (Some TooLong) = StandsNow nor g d
-WorksTo nor g d (Some Unbuilt) = StandsNow nor g d
-WorksTo nor g d _ = ⊥
+abbrev pub WorksTo : {D : Type 0} (nor : NorOf D) (g : Geometry) (d : D) (memory : Memory) → Option Ending → Type 0
+WorksTo nor g d memory None = StandsNow nor g d memory
+WorksTo nor g d memory (Some Done) = StandsNow nor g d memory
+WorksTo nor g d memory (Some (BadLine number)) = StandsNow nor g d memory
+WorksTo nor g d memory (Some BoardFault) = Unit {0}
+WorksTo nor g d memory (Some SourceFault) = StandsNow nor g d memory
+WorksTo nor g d memory (Some TooLong) = StandsNow nor g d memory
+WorksTo nor g d memory (Some Unbuilt) = StandsNow nor g d memory
+WorksTo nor g d memory _ = ⊥
 
 -- What a part of a script leaves whatever the script tells: time goes on, and a volume that stands goes on standing.
-pub record Works {D : Type 0} (nor : NorOf D) (g : Geometry) (old new : D) (ending : Option Ending) : Type 0 where
+pub record Works {D : Type 0} (nor : NorOf D) (g : Geometry) (old new : D) (was now : Memory) (ending : Option Ending) : Type 0 where
   pub goes : Leaves nor old new (λ image count. Unit {0})
-  pub stands : (m : Moment) → Stands nor g old m → WorksTo nor g new ending
+  pub stands : (m : Moment) → RunStands nor g old was m → WorksTo nor g new now ending

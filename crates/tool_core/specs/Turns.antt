@@ -1,69 +1,59 @@
 -- What a turn of a run leaves, and many turns.
-use Rattle.std.specs.Prelude.{ℕ, ◌≡◌, ◌+◌, ◌≤◌, ◌⊎◌, List, [], ◌∷◌, ◌++◌, length, slice_range, true, false, Option, Some, None, Result, Ok, Err, IfOk, IfErr}
+use Rattle.std.specs.Prelude.{ℕ, ◌≡◌, ◌+◌, ◌≤◌, ◌⊎◌, List, [], ◌∷◌, ◌++◌, length, slice_range, false, Option, Some, None, Result, IfOk, IfErr}
 use Rattle.geometry.specs.declared.geometry.Geometry.{Geometry}
 use Rattle.nor_core.specs.declared.state.NorState.{Ghosts as NorOf}
 use Rattle.nor_core.specs.Device.{OnlyReads, Changes}
-use Rattle.table_model.specs.declared.error.FsErr.{FsErr}
-use Rattle.table_model.specs.declared.error.FsErr.TheVariants.{DeviceFault, Damaged, Unbuilt as FsUnbuilt}
 use Rattle.table_model.specs.declared.reply.Reply.{Reply}
-use Rattle.table_model.specs.declared.reply.Reply.TheVariants.{Refusal}
 use Rattle.table_model.specs.Reply.{answered}
-use Rattle.table_model.specs.Ask.{Ask, Creates}
-use Rattle.table_model.specs.Flat.{answer}
-use Rattle.table_model.specs.Steps.{is_refusal}
+use Rattle.table_model.specs.Table.{State}
+use Rattle.table_model.specs.Ask.{Ask}
 use Rattle.table_model.specs.Window.{Moment}
 use Rattle.call_script.specs.Lines.{Bad, Asks, lines, of_line, calls_of, NoBreak}
-use Rattle.image_model.specs.Collect.{are_had}
+use Rattle.call_model.specs.Memory.{Memory}
 use Rattle.run_model.specs.Runs.{after_all, replies}
-use Rattle.run_model.specs.Ran.{Stands, Publishes, Answers, MayCut, Reached, SaidPart}
+use Rattle.run_model.specs.Ran.{RunStands, RunPublishes, RunAnswers, MayCut, Reached, SaidPart}
+use Rattle.volume.specs.Built.{is_built}
+use Rattle.volume.specs.Goes.{LacksPage}
 use Rattle.tool_core.specs.declared.ending.Ending.{Ending}
-use Rattle.tool_core.specs.declared.ending.Ending.TheVariants.{Done, BadLine, BoardFault, SourceFault, TooLong, Unbuilt, Differ}
+use Rattle.tool_core.specs.declared.ending.Ending.TheVariants.{Done, BadLine, BoardFault, SourceFault, TooLong, Unbuilt}
 
--- a create isn't refused by the flat table, but finds no page: garbage would have to be collected first
-pub record LacksPage (g : Geometry) (m : Moment) (image : List ℕ) (ask : Ask) : Type 0 where
-  pub name : List ℕ
-  pub creates : ask ≡ Creates name
-  pub accepted : is_refusal (answer g true m.state ask).answer ≡ false
-  pub lacks : are_had g image 1 0 ≡ false
+-- a call that this build can't do: it doesn't have it, or the call takes a page and there is none without collecting garbage
+abbrev pub IsUnbuilt : Geometry → List ℕ → State → Ask → Type 0
+IsUnbuilt g image s ask = (is_built ask ≡ false) ⊎ LacksPage g image s ask
 
--- how a call ends that isn't answered: the board failed, or nothing was changed, for want of a page
-abbrev pub StopsCall : {D : Type 0} (nor : NorOf D) (g : Geometry) (old new : D) (m : Moment) (ask : Ask) → Ending → Type 0
-StopsCall nor g old new m ask BoardFault = Unit {0}
-StopsCall nor g old new m ask Unbuilt = OnlyReads nor old new × LacksPage g m (nor.bytes new) ask
-StopsCall nor g old new m ask _ = ⊥
+-- a call that this build can't do was only looked at
+pub record StaysUnbuilt {D : Type 0} (nor : NorOf D) (g : Geometry) (old new : D) (was now : Memory) (m : Moment) (ask : Ask) : Type 0 where
+  pub unbuilt : IsUnbuilt g (nor.bytes old) m.state ask
+  pub reads : OnlyReads nor old new
+  pub memory : now ≡ was
+
+-- how a call ends that isn't answered: the board failed, or this build can't do it
+abbrev pub StopsCall : {D : Type 0} (nor : NorOf D) (g : Geometry) (old new : D) (was now : Memory) (m : Moment) (ask : Ask) → Ending → Type 0
+StopsCall nor g old new was now m ask BoardFault = Unit {0}
+StopsCall nor g old new was now m ask Unbuilt = StaysUnbuilt nor g old new was now m ask
+StopsCall nor g old new was now m ask _ = ⊥
 
 -- what doing a call leaves: what a run may at each cut, and its answer, or why it isn't answered
-pub record DoesCall {D : Type 0} (nor : NorOf D) (g : Geometry) (old new : D) (ask : Ask) (result : Result Reply Ending) : Type 0 where
-  pub changes : (m : Moment) → Changes nor old new (Publishes g m ask)
-  pub answers : (m : Moment) → Stands nor g old m → IfOk result (λ reply. Answers nor g new m ask (answered reply))
-  pub stops : (m : Moment) → Stands nor g old m → IfErr result (StopsCall nor g old new m ask)
+pub record DoesCall {D : Type 0} (nor : NorOf D) (g : Geometry) (old new : D) (was now : Memory) (ask : Ask) (result : Result Reply Ending) : Type 0 where
+  pub changes : (m : Moment) → Changes nor old new (RunPublishes g was m ask)
+  pub answers : (m : Moment) → RunStands nor g old was m → IfOk result (λ reply. RunAnswers nor g old new now m ask (answered reply))
+  pub stops : (m : Moment) → RunStands nor g old was m → IfErr result (StopsCall nor g old new was now m ask)
 
--- how a refusal is answered, or ends the run
-abbrev pub refused_as : FsErr → Result Reply Ending
-refused_as DeviceFault = Err BoardFault
-refused_as (Damaged differ) = Err (Differ differ)
-refused_as why = Ok (Refusal why)
-
--- the same of a create, which ends the run where it lacks its page
-abbrev pub not_created_as : FsErr → Result Reply Ending
-not_created_as FsUnbuilt = Err Unbuilt
-not_created_as why = refused_as why
-
--- a line spells a call that lacks its page, and nothing was changed
-pub record LineLacks {D : Type 0} (nor : NorOf D) (g : Geometry) (old new : D) (m : Moment) (line : List ℕ) : Type 0 where
+-- a line spells a call that this build can't do, and nothing was changed
+pub record LineLacks {D : Type 0} (nor : NorOf D) (g : Geometry) (old new : D) (was now : Memory) (m : Moment) (line : List ℕ) : Type 0 where
   pub ask : Ask
   pub spells : of_line line ≡ Asks ask
-  pub lacks : LacksPage g m (nor.bytes new) ask
-  pub leaves : MayCut nor g old new m []
-  pub reached : Reached nor g old new m []
+  pub unbuilt : IsUnbuilt g (nor.bytes new) m.state ask
+  pub leaves : MayCut nor g old new was m []
+  pub reached : Reached nor g old new now m []
 
 -- what doing the line of that number leaves, by how the run ends there
-abbrev pub DidLine : {D : Type 0} (nor : NorOf D) (g : Geometry) (old new : D) (m : Moment) (line : List ℕ) (number : ℕ) → Option Ending → Type 0
-DidLine nor g old new m line number None = (of_line line ≡ Bad → ⊥) × Reached nor g old new m (calls_of (line ∷ []))
-DidLine nor g old new m line number (Some (BadLine n)) = (of_line line ≡ Bad) × (n ≡ number) × Reached nor g old new m []
-DidLine nor g old new m line number (Some BoardFault) = (of_line line ≡ Bad → ⊥) × SaidPart nor old new (replies g m (calls_of (line ∷ [])))
-DidLine nor g old new m line number (Some Unbuilt) = LineLacks nor g old new m line
-DidLine nor g old new m line number _ = ⊥
+abbrev pub DidLine : {D : Type 0} (nor : NorOf D) (g : Geometry) (old new : D) (was now : Memory) (m : Moment) (line : List ℕ) (number : ℕ) → Option Ending → Type 0
+DidLine nor g old new was now m line number None = (of_line line ≡ Bad → ⊥) × Reached nor g old new now m (calls_of (line ∷ []))
+DidLine nor g old new was now m line number (Some (BadLine n)) = (of_line line ≡ Bad) × (n ≡ number) × Reached nor g old new now m []
+DidLine nor g old new was now m line number (Some BoardFault) = (of_line line ≡ Bad → ⊥) × SaidPart nor old new (replies g m (calls_of (line ∷ [])))
+DidLine nor g old new was now m line number (Some Unbuilt) = LineLacks nor g old new was now m line
+DidLine nor g old new was now m line number _ = ⊥
 
 -- each line is in the grammar
 unfoldable pub AllGood : List (List ℕ) → Type 0
@@ -77,14 +67,14 @@ pub record BeginsBad (tail : List ℕ) : Type 0 where
   pub lines_are : lines tail ≡ bad ∷ others
   pub is_bad : of_line bad ≡ Bad
 
--- the first line of these bytes is a call that lacks its page
-pub record BeginsLacking (g : Geometry) (m : Moment) (image tail : List ℕ) : Type 0 where
+-- the first line of these bytes is a call that this build can't do
+pub record BeginsUnbuilt (g : Geometry) (m : Moment) (image tail : List ℕ) : Type 0 where
   pub line : List ℕ
   pub others : List (List ℕ)
   pub lines_are : lines tail ≡ line ∷ others
   pub ask : Ask
   pub spells : of_line line ≡ Asks ask
-  pub lacks : LacksPage g m image ask
+  pub unbuilt : IsUnbuilt g image m.state ask
 
 -- these bytes are some that end no line and are 4,096 at most, and others
 pub record Short (tail a b : List ℕ) : Type 0 where
@@ -92,18 +82,19 @@ pub record Short (tail a b : List ℕ) : Type 0 where
   pub no_break : NoBreak a
   pub few : length a ≤ 4096
 
--- A run between two turns: the device, the bytes that were taken and are in no line that was done, those that the script has
+-- A run between two turns: the device, what the volume remembers beside it, the bytes that were taken and are in no line that was done, those that the script has
 -- left, how many were taken, and how many lines were handed out.
 pub record At (D : Type 0) : Type 0 where
   pub device : D
+  pub memory : Memory
   pub pending : List ℕ
   pub left : List ℕ
   pub taken : ℕ
   pub handed : ℕ
 
--- a run by its device, the bytes in its buffer, and what its script has left
-abbrev pub at_run : {D : Type 0} (d : D) (buf : List ℕ) (start end taken handed : ℕ) (left : List ℕ) → At D
-at_run d buf start end taken handed left = record { device = d; pending = slice_range buf start end; left = left; taken = taken; handed = handed }
+-- a run by its device and memory, the bytes in its buffer, and what its script has left
+abbrev pub at_run : {D : Type 0} (d : D) (memory : Memory) (buf : List ℕ) (start end taken handed : ℕ) (left : List ℕ) → At D
+at_run d memory buf start end taken handed left = record { device = d; memory = memory; pending = slice_range buf start end; left = left; taken = taken; handed = handed }
 
 -- which bytes may stand behind the lines that were done, so that the lines are still these
 abbrev pub Follows : Option Ending → List ℕ → List ℕ → Type 0
@@ -132,14 +123,14 @@ WhyHere g m nor b tail (Some Done) = (tail ≡ []) × (b.left ≡ [])
 WhyHere g m nor b tail (Some (BadLine n)) = BeginsBad tail
 WhyHere g m nor b tail (Some TooLong) = (x : ℕ) × (xs : List ℕ) × Short tail b.pending (x ∷ xs) × (b.taken ≡ 16777216)
 WhyHere g m nor b tail (Some SourceFault) = Short tail b.pending b.left
-WhyHere g m nor b tail (Some Unbuilt) = BeginsLacking g m (nor.bytes b.device) tail
+WhyHere g m nor b tail (Some Unbuilt) = BeginsUnbuilt g m (nor.bytes b.device) tail
 WhyHere g m nor b tail _ = ⊥
 
 -- a run came to the moment after these calls, or the board failed in them
 abbrev pub Stops : {D : Type 0} (nor : NorOf D) (g : Geometry) (m : Moment) (a b : At D) (asks : List Ask) (tail : List ℕ) → Option Ending → Type 0
 Stops nor g m a b asks tail ending =
     ((ending ≡ Some BoardFault) × SaidPart nor a.device b.device (replies g m asks))
-    ⊎ (Reached nor g a.device b.device m asks × WhyHere g (after_all g m asks) nor b tail ending)
+    ⊎ (Reached nor g a.device b.device b.memory m asks × WhyHere g (after_all g m asks) nor b tail ending)
 
 -- From one place of a run to another these lines were done.
 pub record Turned {D : Type 0} (nor : NorOf D) (g : Geometry) (ending : Option Ending) (m : Moment) (a b : At D) : Type 0 where
@@ -151,7 +142,7 @@ pub record Turned {D : Type 0} (nor : NorOf D) (g : Geometry) (ending : Option E
   pub good : AllGood done
   pub number : CountsLines ending a.handed b.handed (length done)
   pub bytes : CountsBytes ending a b seg
-  pub leaves : MayCut nor g a.device b.device m (calls_of done)
+  pub leaves : MayCut nor g a.device b.device a.memory m (calls_of done)
   pub stops : Stops nor g m a b (calls_of done) tail ending
 
 -- one byte more was left

@@ -1,20 +1,21 @@
 ghost use Rattle.std.specs.Prelude.{◌≡◌, ◌≢◌, ◌*◌, ◌≤◌, length, None};
-ghost use Rattle.geometry.specs.Numbers.{page_count, write_refusal, work_need, cache_need, check_need};
+ghost use Rattle.geometry.specs.Numbers.{write_refusal, work_need, cache_need, check_need};
 ghost use Rattle.nor_core.specs.Count.{Rose};
-ghost use Rattle.flash_view.specs.Same.{IsSameView};
-ghost use Rattle.tool_core.specs.Checking.{ChecksTo, report_text};
-ghost use Rattle.tool_core.specs.Refusals.{report_ending};
-ghost use Rattle.tool_core.specs.Fits.{IsFitting};
-ghost use Rattle.tool_core.specs.Later.{IsLater};
+ghost use Rattle.volume.specs.Same.{IsSameVolume};
+ghost use Rattle.tool_core.specs.Checking.{ChecksTo, DoesCheck, report_text};
+ghost use Rattle.tool_core.specs.Fits.{IsFitting, HasLengths};
+ghost use Rattle.tool_core.specs.Later.{IsLater, IsLaterStatus};
+ghost use Rattle.tool_core.specs.Lent.{lengths_of};
 ghost use Rattle.tool_core.specs.Reads.{ReadsOnce};
+ghost use Rattle.tool_core.specs.Refusals.{report_ending};
 
-use crate::ending::{Closing, Ending, put, put_count};
-use crate::run::{check_ending, mount_ending};
-use flash_view::View;
+use crate::buffers::Buffers;
+use crate::ending::{Closing, Ending, conclude, put, put_count};
+use crate::mounting::mount_and_check;
 use geometry::Geometry;
 use nor_core::{Board, Failed, Nor, NorState};
-use vol_check::{Report, check_stages};
-use vol_mount::mount;
+use vol_mount::Lent;
+use volume::{Report, Volume};
 
 // The line of a report.
 fn report_line(report: Report) -> Closing
@@ -45,48 +46,57 @@ fn end_of_check(report: Report) -> Ending
     Ending::Done
 }
 
-// Mounts a volume, checks it, and says what the check found and did.
-#[tactic(auto, using(flash_view::proofs::Looking::same_then))]
-fn check_view<B: Board>(v: &mut View<'_, B>, marks: &mut [u8]) -> Ending
-    requires writable { write_refusal v.old.geometry ≡ None }
-    requires room { page_count v.old.geometry ≤ length marks.old }
+// Mounts and checks a volume, and says what the check found and did.
+#[tactic(auto, using(volume::proofs::Staying::same_then))]
+fn check_volume<B: Board>(volume: &mut Volume<'_, B>) -> Ending
+    requires { write_refusal volume.old.geometry ≡ None }
     ensures later { IsLater result }
     ensures no_script { result ≢ Ending.SourceFault }
-    ensures cause { result ≡ Ending.BoardFault → Rose (B.faults v.old.nor.now) (B.faults v.new.nor.now) }
-    ensures same { IsSameView v.old v.new }
-    ensures checks { ChecksTo B.NorState v.old.geometry v.old.nor.now v.new.nor.now result }
+    ensures cause { result ≡ Ending.BoardFault → Rose (B.faults volume.old.nor.now) (B.faults volume.new.nor.now) }
+    ensures same { IsSameVolume volume.old volume.new }
+    ensures checks { ChecksTo B.NorState volume.old.geometry volume.old.nor.now volume.new.nor.now result }
 {
-    if let Err(why) = mount(v) {
-        return mount_ending(why);
-    }
-    let report = match check_stages(v, marks) {
+    let report = match mount_and_check(volume) {
         Ok(report) => report,
-        Err(why) => return check_ending(why),
+        Err(ending) => return ending,
     };
-    match v.say(report_line(report).as_slice()) {
+    match volume.say(report_line(report).as_slice()) {
         Ok(()) => end_of_check(report),
         Err(Failed) => Ending::BoardFault,
     }
 }
 
-/// Mounts and checks the volume of a board, and says what the check found and did.
-pub(crate) fn check_volume<B: Board>(
-    g: Geometry,
-    board: &mut B,
-    work: &mut [u8],
-    cache: &mut [u8],
-    marks: &mut [u8],
-) -> Ending
+// Mounts and checks the volume of a board, and says what the check found and did.
+fn check_board<'b, B: Board>(g: Geometry, board: &'b mut B, lent: Lent<'b>) -> Ending
     requires fits { IsFitting g (B.unit board.old) (B.size board.old) }
-    requires work { work_need g ≤ length work.old }
-    requires cache { cache_need g ≤ length cache.old }
-    requires check { check_need g ≤ length marks.old }
+    requires work { work_need g ≤ length lent.work.now }
+    requires cache { cache_need g ≤ length lent.cache.now }
+    requires check { check_need g ≤ length lent.check.now }
     ensures later { IsLater result }
     ensures no_script { result ≢ Ending.SourceFault }
     ensures cause { result ≡ Ending.BoardFault → Rose (B.faults board.old) (B.faults board.new) }
     ensures checks { ChecksTo B.NorState g board.old board.new result }
-    ensures few { ReadsOnce B.NorState g (length cache.old) board.old board.new }
+    ensures few { ReadsOnce B.NorState g (length lent.entry.cache.now) board.old board.new }
 {
-    let mut v = View::new(g, board, work, cache);
-    check_view(&mut v, marks)
+    let mut volume = Volume::new(g, board, lent);
+    check_volume(&mut volume)
+}
+
+/// Mounts and checks the volume of a board in the lent memory, and says what the check found and did.
+pub(crate) fn check_on<B: Board>(g: Geometry, board: &mut B, bufs: &mut Buffers<'_>) -> u8
+    requires fits { IsFitting g (B.unit board.old) (B.size board.old) }
+    requires room { HasLengths g (lengths_of bufs.old) }
+    ensures later { IsLaterStatus result }
+    ensures board_fault { result ≡ 7 → Rose (B.faults board.old) (B.faults board.new) }
+    ensures no_script { result ≢ 8 }
+    ensures does { DoesCheck B.NorState g (length bufs.old.cache.now) board.old board.new result }
+{
+    let lent = Lent {
+        work: &mut *bufs.work,
+        slots: &mut *bufs.slots,
+        cache: &mut *bufs.cache,
+        check: &mut *bufs.check,
+    };
+    let ending = check_board(g, board, lent);
+    conclude(board, ending)
 }

@@ -1,10 +1,12 @@
 ghost use Rattle.std.specs.Prelude.{◌≡◌, ◌+◌, ◌<◌, ◌≤◌, ◌++◌, [], length, decimal};
 ghost use Rattle.arrayvec.specs.ArrayVec.{array_vec_len};
+ghost use Rattle.tool_core.specs.Endings.{OnlyCloses};
 ghost use Rattle.tool_core.specs.Closing.{status_of, closing_of, closing_line_of, part_word, short_text, differ_text, spoiled_text};
 
 use arrayvec::ArrayVec;
 use geometry::GeoErr;
 use itoa::Buffer;
+use nor_core::{Board, NorState};
 use table_model::Differ;
 use vol_mount::Part;
 
@@ -169,4 +171,18 @@ pub(crate) fn closing_line(ending: Ending) -> Closing
         put(&mut line, b"\n");
     }
     line
+}
+
+/// Says the closing line of an ending, and answers the status: 7 where the board failed.
+pub(crate) fn conclude<B: Board>(board: &mut B, ending: Ending) -> u8
+    ensures { OnlyCloses B.NorState board.old board.new ending result }
+{
+    let line = closing_line(ending);
+    if line.is_empty() {
+        return ending.status();
+    }
+    match board.say(line.as_slice()) {
+        Ok(()) => ending.status(),
+        Err(_) => Ending::BoardFault.status(),
+    }
 }

@@ -2,15 +2,19 @@
 //! said.
 #![tactic(auto)]
 
+mod buffers;
 mod call;
 mod checking;
 mod ending;
 mod lines;
 mod listing;
+mod mounting;
 mod plan;
 mod run;
+mod script;
 mod tool;
 mod words;
 
-pub use tool::{Buffers, spiffs_tool};
+pub use buffers::Buffers;
+pub use tool::spiffs_tool;
 pub use words::{chip_size_of, unit_of};

@@ -1,15 +1,16 @@
-ghost use Rattle.std.specs.Prelude.{◌≡◌, ◌≢◌, ◌*◌, ◌≤◌, length};
-ghost use Rattle.geometry.specs.Numbers.{page_count, work_need, cache_need, check_need};
+ghost use Rattle.std.specs.Prelude.{◌≡◌, ◌≢◌, ◌≤◌, length};
+ghost use Rattle.geometry.specs.Numbers.{page_count};
 ghost use Rattle.nor_core.specs.Count.{Rose};
 ghost use Rattle.flash_view.specs.Same.{IsSameView};
-ghost use Rattle.tool_core.specs.Fits.{HoldsVolume};
-ghost use Rattle.tool_core.specs.Later.{IsLater};
-ghost use Rattle.tool_core.specs.Listing.{ListsTo};
-ghost use Rattle.tool_core.specs.Reads.{ReadsOnce};
+ghost use Rattle.tool_core.specs.Fits.{HoldsVolume, HasLengths};
+ghost use Rattle.tool_core.specs.Later.{IsLater, IsLaterStatus};
+ghost use Rattle.tool_core.specs.Lent.{lengths_of};
+ghost use Rattle.tool_core.specs.Listing.{ListsTo, DoesList};
 ghost use Rattle.tool_core.specs.Refusals.{said_ending};
 
-use crate::ending::Ending;
-use crate::run::mount_ending;
+use crate::buffers::Buffers;
+use crate::ending::{Ending, conclude};
+use crate::mounting::mount_ending;
 use flash_view::View;
 use geometry::Geometry;
 use image_tool::{ToolErr, list};
@@ -49,26 +50,16 @@ fn list_view<B: Board>(v: &mut View<'_, B>, marks: &mut [u8], line: &mut [u8]) -
     }
 }
 
-/// Mounts the volume of a board, and says its list.
-pub(crate) fn list_volume<B: Board>(
-    g: Geometry,
-    board: &mut B,
-    work: &mut [u8],
-    cache: &mut [u8],
-    marks: &mut [u8],
-    line: &mut [u8],
-) -> Ending
+/// Mounts the volume of a board in the lent memory, and says its list.
+pub(crate) fn list_on<B: Board>(g: Geometry, board: &mut B, bufs: &mut Buffers<'_>) -> u8
     requires fits { HoldsVolume g (B.unit board.old) (B.size board.old) }
-    requires work { work_need g ≤ length work.old }
-    requires cache { cache_need g ≤ length cache.old }
-    requires check { check_need g ≤ length marks.old }
-    requires line { 12288 ≤ length line.old }
-    ensures later { IsLater result }
-    ensures no_script { result ≢ Ending.SourceFault }
-    ensures cause { result ≡ Ending.BoardFault → Rose (B.faults board.old) (B.faults board.new) }
-    ensures lists { ListsTo B.NorState g board.old board.new result }
-    ensures few { ReadsOnce B.NorState g (length cache.old) board.old board.new }
+    requires room { HasLengths g (lengths_of bufs.old) }
+    ensures later { IsLaterStatus result }
+    ensures board_fault { result ≡ 7 → Rose (B.faults board.old) (B.faults board.new) }
+    ensures no_script { result ≢ 8 }
+    ensures does { DoesList B.NorState g (length bufs.old.cache.now) board.old board.new result }
 {
-    let mut v = View::new(g, board, work, cache);
-    list_view(&mut v, marks, line)
+    let mut v = View::new(g, board, bufs.work, bufs.cache);
+    let ending = list_view(&mut v, bufs.check, bufs.line);
+    conclude(board, ending)
 }

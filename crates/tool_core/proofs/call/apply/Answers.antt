@@ -1,15 +1,20 @@
-use Rattle.std.proofs.Common.{◌≡◌, false}
+use Rattle.std.proofs.Common.{rules, subst}
+use Rattle.table_model.specs.declared.error.FsErr.{FsErr}
 use Rattle.table_model.specs.Ask.{asked}
-use Rattle.table_model.specs.Flat.{is_built}
-use Rattle.tool_core.proofs.Calling.{publishes_none, answers_unbuilt, unbuilt_call}
-use Rattle.nor_core.proofs.Cuts.{reads_none}
+use Rattle.table_model.specs.Reply.{Refuses}
+use Rattle.volume.specs.Calls.{Calls}
+use Rattle.tool_core.proofs.Calling.{is_short, does_answer, does_fault, does_damage, does_unbuilt, ran_answer}
 use Rattle.tool_core.proofs.call.apply.Goals as goal
 
+pub returns-in-Refusal-Damaged-clause-does : goal.returns-in-Refusal-Damaged-clause-does
+returns-in-Refusal-Damaged-clause-does g c =
+    let here = c.in-Refusal-Damaged in
+    does_damage here.differ (subst (λ (why : FsErr). Calls (asked c.args.call.now) c.args.volume.now c.answer.new.self (Refuses why)) here.field-0-is here.ensures)
+
+pub returns-in-Refusal-Unbuilt-clause-does : goal.returns-in-Refusal-Unbuilt-clause-does
+returns-in-Refusal-Unbuilt-clause-does g c =
+    let here = c.in-Refusal-Unbuilt in
+    does_unbuilt c.requires.takes (subst (λ (why : FsErr). Calls (asked c.args.call.now) c.args.volume.now c.answer.new.self (Refuses why)) here.field-0-is here.ensures)
+
 pub returns-in_default-clause-does : goal.returns-in_default-clause-does
-returns-in_default-clause-does g c =
-    let unbuilt : is_built (asked c.args.call.now) ≡ false = unbuilt_call c.args.call.now c.in_default.not-Create c.in_default.not-Remove c.in_default.not-StatName c.in_default.not-Next c.in_default.not-GetInfo in
-    record {
-      changes = publishes_none (asked c.args.call.now) (reads_none c.args.volume.now.nor.now);
-      answers = λ m stands. answers_unbuilt m (asked c.args.call.now) unbuilt stands;
-      stops = λ m stands. tt {0};
-    }
+returns-in_default-clause-does g c = does_answer {old = c.args.volume.now} {new = c.answer.new.self} {ask = asked c.args.call.now} _ c.requires.takes (search rules) (search rules) (search rules)

@@ -1,32 +1,12 @@
-use Rattle.std.proofs.Common.{◌∙◌, ap, rules}
-use Rattle.geometry.specs.Numbers.{write_refusal}
-use Rattle.tool_core.proofs.Beginning.{mount_stops, mount_changes, check_stops, check_changes, check_taken, tight_stops}
+use Rattle.std.proofs.Common.{arith}
+use Rattle.tool_core.proofs.Beginning.{unchecked_stops, tight_stops, reported_begun}
 use Rattle.tool_core.proofs.run.begin.Goals as goal
 
-pub returns-in-Err-clause-changes : goal.returns-in-Err-clause-changes
-returns-in-Err-clause-changes g c = mount_changes c.mount.ensures.looks
-
 pub returns-in-Err-clause-stops : goal.returns-in-Err-clause-stops
-returns-in-Err-clause-stops g c = λ tells. rw c.mount_ending.ensures.ends (mount_stops c.args.volume.now.geometry c.in-Err.why c.in-Err.ensures.late c.mount.ensures.looks (c.in-Err.ensures.spoiled tells))
-
-pub returns-in-Ok-clause-changes : goal.returns-in-Ok-clause-changes
-returns-in-Ok-clause-changes g c = check_changes c.mount.new.self.geometry c.mount.ensures.same.geometry c.mount.ensures.looks c.check.ensures.changes
-
-pub returns-in-Ok-2-clause-changes : goal.returns-in-Ok-2-clause-changes
-returns-in-Ok-2-clause-changes g c = check_changes c.mount.new.self.geometry c.mount.ensures.same.geometry c.mount.ensures.looks c.check.ensures.changes
-
-pub returns-in-Err-check-clause-changes : goal.returns-in-Err-check-clause-changes
-returns-in-Err-check-clause-changes g c = check_changes c.mount.new.self.geometry c.mount.ensures.same.geometry c.mount.ensures.looks c.check.ensures.changes
-
-pub returns-in-Err-check-clause-stops : goal.returns-in-Err-check-clause-stops
-returns-in-Err-check-clause-stops g c = λ tells. rw c.check_ending.ensures.ends (check_stops c.in-Err-check.why c.mount.new.self.geometry c.mount.ensures.same.geometry (c.in-Err-check.ensures.writable (ap write_refusal c.mount.ensures.same.geometry ∙ c.requires)) c.mount.ensures.looks (search rules) c.in-Err-check.ensures.refused (c.in-Err-check.ensures.mixed (c.mount.ensures.looks.told tells)))
+returns-in-Err-clause-stops g c = λ tells. unchecked_stops _ _ c.in-Err.ending (c.in-Err.ensures.stops tells)
 
 pub returns-in-Ok-clause-stops : goal.returns-in-Ok-clause-stops
-returns-in-Ok-clause-stops g c = λ tells. tight_stops c.mount.new.self.geometry _ c.mount.ensures.same.geometry c.mount.ensures.looks (search rules) (search rules) (search rules) (search rules)
+returns-in-Ok-clause-stops g c = λ tells. tight_stops _ _ c.in-Ok.report (c.in-Ok.ensures.reported tells) (omega arith)
 
 pub returns-in-Ok-2-clause-begun : goal.returns-in-Ok-2-clause-begun
-returns-in-Ok-2-clause-begun g c = λ tells. record {
-  takes = check_taken c.mount.new.self.geometry c.mount.ensures.same.geometry c.mount.ensures.looks (search rules) (search rules);
-  tidy = search rules;
-  reserve = search rules;
-}
+returns-in-Ok-2-clause-begun g c = λ tells. reported_begun _ (c.in-Ok-2.ensures.reported tells) (omega arith)

@@ -1,0 +1,68 @@
+-- What mounting and checking a volume leave, and why they stop.
+use Rattle.std.proofs.Common.{◌≡◌, ℕ, ◌≤◌, List, refl, sym, ◌∙◌, ap, subst, arith, inl, inr, None}
+use Rattle.geometry.specs.declared.geometry.Geometry.{Geometry}
+use Rattle.nor_core.specs.declared.state.NorState.{Ghosts as NorOf}
+use Rattle.nor_core.specs.Device.{OnlyReads, Changes}
+use Rattle.nor_core.proofs.Cuts.{wider, unchanged, read_after, after_reads, reads_then}
+use Rattle.image_model.specs.Kinds.{spoiled_blocks, mixed_blocks}
+use Rattle.call_model.specs.Safe.{IsSafe, Holds}
+use Rattle.call_model.proofs.Safety.{safe_as}
+use Rattle.vol_mount.specs.declared.lent.MountErr.{MountErr}
+use Rattle.vol_mount.specs.declared.lent.MountErr.TheVariants.{NotAFs as MountNotAFs, DeviceFault as MountFault}
+use Rattle.vol_mount.specs.Mounts.{IsLate, CountsSpoiled}
+use Rattle.vol_check.specs.declared.report.CheckErr.{CheckErr}
+use Rattle.vol_check.specs.declared.report.CheckErr.TheVariants.{Wrong as CheckWrong, Mixed as CheckMixed, DeviceFault as CheckFault}
+use Rattle.vol_check.specs.declared.report.Report.{Report}
+use Rattle.vol_check.specs.Culls.{KeepsAll}
+use Rattle.vol_check.specs.Checks.{IsWritable, IsRefusal, CountsMixed, Checked}
+use Rattle.tool_core.specs.Mounting.{Checks, Reported, StopsCheck, mount_ends, check_ends}
+use Rattle.tool_core.specs.Refusals.{check_refusal}
+use Rattle.tool_core.proofs.Refusals.{check_two, check_mixed, check_takes}
+
+-- what the check leaves holds
+pub holds_check : {g : Geometry} {was image : List ℕ} → Checks g was image → Holds g was image
+holds_check here = record { sound = here.sound; reserve = λ reserve. omega (arith, reserve, here.free) }
+
+-- and a cut in it leaves what is safe
+pub safe_check : {g : Geometry} {was image : List ℕ} → Checks g was image → IsSafe g was image
+safe_check {g} {was} {image} here = safe_as g was image (holds_check here)
+
+-- any image may stay
+checks_itself : {g : Geometry} (image : List ℕ) → Checks g image image
+checks_itself image = record { sound = λ magics. record { magics = magics; mixed = λ block h. h; damaged = λ id h. h }; table = refl; free = omega arith }
+
+-- a volume that wasn't mounted
+pub mount_stops : {D : Type 0} {nor : NorOf D} (g : Geometry) (why : MountErr) {old new : D} → IsLate why → OnlyReads nor old new → CountsSpoiled g (nor.bytes old) why → StopsCheck nor g old new (mount_ends why)
+mount_stops {D} {nor} g (MountNotAFs spoiled) {old} late reads cause = inr (record { refusal = check_two g (nor.bytes old) spoiled cause.0 cause.1; reads = reads })
+mount_stops g MountFault late reads cause = inl refl
+mount_stops g _ late reads cause = absurd late
+
+module _ {D : Type 0} {nor : NorOf D} {g : Geometry} where
+  -- mounting and the check take the first image
+  check_taken : {old mid : D} (h : Geometry) → h ≡ g → OnlyReads nor old mid → spoiled_blocks g (nor.bytes old) ≤ 1 → mixed_blocks h (nor.bytes mid) ≡ 0 → check_refusal g (nor.bytes old) ≡ None
+  check_taken {old} {mid} h same reads few none =
+      let number : mixed_blocks h (nor.bytes mid) ≡ mixed_blocks g (nor.bytes old) = ap (λ (k : Geometry). mixed_blocks k (nor.bytes mid)) same ∙ ap (mixed_blocks g) reads.bytes in
+      check_takes g (nor.bytes old) few (sym number ∙ none)
+
+  -- a volume that was mounted and checked
+  pub was_reported : {old mid new : D} (report : Report) (h : Geometry) → h ≡ g → OnlyReads nor old mid → spoiled_blocks g (nor.bytes old) ≤ 1 → mixed_blocks h (nor.bytes mid) ≡ 0 → Checked h (nor.bytes mid) (nor.bytes new) report → Reported g (nor.bytes old) (nor.bytes new) report
+  was_reported {old} {mid} {new} report h same reads few none done = record {
+    takes = check_taken h same reads few none;
+    done = subst (λ (k : Geometry). Checked k (nor.bytes old) (nor.bytes new) report) same (subst (λ (l : List ℕ). Checked h l (nor.bytes new) report) reads.bytes done);
+  }
+
+  -- a volume that was mounted, and not checked
+  pub check_stops : (why : CheckErr) {old mid new : D} (h : Geometry) → h ≡ g → IsWritable why → OnlyReads nor old mid → spoiled_blocks g (nor.bytes old) ≤ 1 → (IsRefusal why → OnlyReads nor mid new) → CountsMixed h (nor.bytes mid) why → StopsCheck nor g old new (check_ends why)
+  check_stops (CheckMixed blocks) {old} {mid} {new} h same writable reads few refused counts =
+      let here : blocks ≡ mixed_blocks g (nor.bytes old) = counts.0 ∙ ap (λ (k : Geometry). mixed_blocks k (nor.bytes mid)) same ∙ ap (mixed_blocks g) reads.bytes in
+      inr (record { refusal = check_mixed g (nor.bytes old) blocks few here counts.1; reads = reads_then reads (refused (tt {0})) })
+  check_stops CheckFault h same writable reads few refused counts = inl refl
+  check_stops (CheckWrong why) h same writable reads few refused counts = absurd writable
+
+  -- mounting changes nothing
+  pub mount_changes : {old mid : D} → OnlyReads nor old mid → Changes nor old mid (Checks g)
+  mount_changes {old} {mid} reads = read_after (unchanged old (Checks g) (λ tells. checks_itself (nor.bytes old))) reads
+
+  -- what the check leaves after that
+  pub check_changes : {old mid new : D} (h : Geometry) → h ≡ g → OnlyReads nor old mid → Changes nor mid new (KeepsAll h) → Changes nor old new (Checks g)
+  check_changes {old} {mid} {new} h same reads changes = after_reads reads (wider (subst (λ (k : Geometry). Changes nor mid new (KeepsAll k)) same changes) (λ tells image here. record { sound = λ magics. here.keeps.sound; table = here.keeps.table; free = here.free }))

@@ -1,7 +1,0 @@
-use Rattle.tool_core.proofs.CheckTold.{check_does}
-use Rattle.tool_core.proofs.tool.check_on.Goals as goal
-
-pub returns-clause-does : goal.returns-clause-does
-returns-clause-does g c =
-    let checked = c.check_volume-ending.ensures in
-    check_does _ c.check_volume-ending.result c.conclude.result checked.checks checked.cause checked.few c.conclude.ensures

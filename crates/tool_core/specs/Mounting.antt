@@ -1,0 +1,50 @@
+-- What mounting and checking a volume leave.
+use Rattle.std.specs.Prelude.{◌≡◌, ℕ, ◌≤◌, ◌⊎◌, List, Some, None}
+use Rattle.geometry.specs.declared.geometry.Geometry.{Geometry}
+use Rattle.nor_core.specs.declared.state.NorState.{Ghosts as NorOf}
+use Rattle.nor_core.specs.Device.{OnlyReads}
+use Rattle.image_model.specs.Tables.{table_of}
+use Rattle.image_model.specs.Tidy.{free_blocks}
+use Rattle.image_model.specs.Sound.{HasMagics, IsSound}
+use Rattle.vol_mount.specs.declared.lent.MountErr.{MountErr}
+use Rattle.vol_mount.specs.declared.lent.MountErr.TheVariants.{Wrong as MountWrong, ShortBuffer as MountShort, NotAFs as MountNotAFs, DeviceFault as MountFault}
+use Rattle.vol_check.specs.declared.report.CheckErr.{CheckErr}
+use Rattle.vol_check.specs.declared.report.CheckErr.TheVariants.{Wrong as CheckWrong, Mixed as CheckMixed, DeviceFault as CheckFault}
+use Rattle.vol_check.specs.declared.report.Report.{Report}
+use Rattle.vol_check.specs.Checks.{Checked}
+use Rattle.tool_core.specs.declared.ending.Ending.{Ending}
+use Rattle.tool_core.specs.declared.ending.Ending.TheVariants.{Geometry as WrongGeometry, ShortBuffer, NotAFs, Mixed, BoardFault}
+use Rattle.tool_core.specs.Refusals.{check_refusal}
+
+-- what mounting and the check may leave of any image: its table, sound, and no fewer free blocks
+pub record Checks (g : Geometry) (was image : List ℕ) : Type 0 where
+  pub sound : HasMagics g was → IsSound g image was
+  pub table : table_of g image ≡ table_of g was
+  pub free : free_blocks g was ≤ free_blocks g image
+
+-- a volume that was checked: its image was one that the check takes, and the report tells what was found and done
+pub record Reported (g : Geometry) (was now : List ℕ) (report : Report) : Type 0 where
+  pub takes : check_refusal g was ≡ None
+  pub done : Checked g was now report
+
+-- the first image isn't taken, and was only read
+pub record IsRefused {D : Type 0} (nor : NorOf D) (g : Geometry) (old new : D) (ending : Ending) : Type 0 where
+  pub refusal : check_refusal g (nor.bytes old) ≡ Some ending
+  pub reads : OnlyReads nor old new
+
+-- why a volume isn't checked: the board failed, or its image isn't taken
+abbrev pub StopsCheck : {D : Type 0} (nor : NorOf D) (g : Geometry) (old new : D) → Ending → Type 0
+StopsCheck nor g old new ending = (ending ≡ BoardFault) ⊎ IsRefused nor g old new ending
+
+-- how a command ends that doesn't mount its volume
+abbrev pub mount_ends : MountErr → Ending
+mount_ends (MountWrong why) = WrongGeometry why
+mount_ends (MountShort part need given) = ShortBuffer part need given
+mount_ends (MountNotAFs spoiled) = NotAFs spoiled
+mount_ends MountFault = BoardFault
+
+-- how a command ends that doesn't check its volume
+abbrev pub check_ends : CheckErr → Ending
+check_ends (CheckWrong why) = WrongGeometry why
+check_ends (CheckMixed blocks) = Mixed blocks
+check_ends CheckFault = BoardFault
