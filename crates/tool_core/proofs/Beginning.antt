@@ -23,6 +23,7 @@ use Rattle.run_model.proofs.Runs.{is_settled, cut_none}
 use Rattle.run_model.proofs.Chain.{no_replies, no_calls, later_reached, later_said, cut_behind}
 use Rattle.tool_core.specs.declared.ending.Ending.{Ending}
 use Rattle.tool_core.specs.declared.ending.Ending.TheVariants.{Tight}
+use Rattle.tool_core.specs.Reads.{ReadsOnce}
 use Rattle.tool_core.specs.Mounting.{Checks, Reported, IsRefused, StopsCheck}
 use Rattle.tool_core.specs.Begins.{Begun, IsTight, StopsRun}
 use Rattle.tool_core.specs.Refusals.{check_refusal, begin_refusal}
@@ -194,13 +195,13 @@ module _ {D : Type 0} (nor : NorOf D) (g : Geometry) where
   pub runs_as : {old mid new : D} {m : Moment} {script left : List ℕ} {ending : Ending} → mid ≡ new → RunsTo nor g old mid m script left ending → RunsTo nor g old new m script left ending
   runs_as {old} {mid} {new} {m} {script} {left} {ending} same runs = subst (λ (d : D). RunsTo nor g old d m script left ending) same runs
 
-  pub images_as : {was : List ℕ} {mid new : D} {ending : Ending} → mid ≡ new → EndsByImages g was (nor.bytes mid) ending → EndsByImages g was (nor.bytes new) ending
-  images_as {was} {mid} {new} {ending} same ends = subst (λ (d : D). EndsByImages g was (nor.bytes d) ending) same ends
+  pub images_as : (was : List ℕ) {cache : ℕ} {old mid new : D} {ending : Ending} → ReadsOnce nor g cache old new → mid ≡ new → EndsByImages g was (nor.bytes mid) ending → EndsByImages g was (nor.bytes new) ending
+  images_as was {cache} {old} {mid} {new} {ending} reads same ends = subst (λ (d : D). EndsByImages g was (nor.bytes d) ending) same ends
 
 -- one that has enough is begun
 pub reported_begun : {g : Geometry} {was now : List ℕ} (report : Report) → Reported g was now report → 2 ≤ report.free_blocks → Begun g was now
 reported_begun report reported enough = record { takes = reported.takes; tidy = reported.done.tidy; reserve = omega (arith, reported.done.free, enough) }
 
 -- what a volume remembers that was checked, before the first call
-pub memory_begun : {N : Type 0} {nor : NorOf N} {old new : Volume N nor} {slots : ℕ} → new.slots.now ≡ old.slots.now → descriptors old.slots.now ≡ replicate slots None → memory new ≡ closed_memory slots
-memory_begun same closed = rw (same, closed) refl
+pub memory_begun : {N : Type 0} {nor : NorOf N} (old new : Volume N nor) (slots : ℕ) → new.slots.now ≡ old.slots.now → descriptors old.slots.now ≡ replicate slots None → memory new ≡ closed_memory slots
+memory_begun old new slots same closed = rw (same, closed) refl

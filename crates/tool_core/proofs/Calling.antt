@@ -1,5 +1,5 @@
 -- One call of a volume as a step of a run.
-use Rattle.std.proofs.Common.{◌≡◌, ◌≤◌, ℕ, List, refl, ◌∙◌, ap, subst, arith, inl, inr, ⊎_elim, true, false, Option, None, Some, Err, Ok}
+use Rattle.std.proofs.Common.{◌≡◌, ◌≤◌, ℕ, List, refl, ◌∙◌, ap, subst, arith, inl, inr, ⊎_elim, true, false, None, Some, Err, Ok}
 use Rattle.std.proofs.lemmas.Bool.{cases_Bool}
 use Rattle.nor_core.specs.declared.state.NorState.{Ghosts as NorOf}
 use Rattle.nor_core.specs.Device.{Changes}

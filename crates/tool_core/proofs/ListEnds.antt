@@ -19,16 +19,16 @@ use Rattle.tool_core.specs.Listing.{listed_text, ListsTo}
 use Rattle.tool_core.specs.Refusals.{said_ending}
 use Rattle.tool_core.proofs.Refusals.{mount_two, mount_few}
 
-module _ {D : Type 0} {nor : NorOf D} {g : Geometry} where
-  -- a volume that wasn't mounted
-  pub not_mounted : (why : MountErr) {old new : D} → IsLate why → OnlyReads nor old new → (nor.tells old → CountsSpoiled g (nor.bytes old) why) → ListsTo nor g old new (mount_ends why)
-  not_mounted (MountNotAFs spoiled) {old} {new} late reads cause = record {
-    says = says_none _ reads;
-    speaks = λ tells. let why = cause tells in rw (mount_two g (nor.bytes old) spoiled why.0 why.1) (inr (refl, reads.said ∙ sym (append-nil (nor.said old))));
-  }
-  not_mounted MountFault late reads cause = record { says = says_none _ reads; speaks = λ tells. inl (refl, front_none _ reads) }
-  not_mounted _ late reads cause = absurd late
+-- a volume that wasn't mounted
+pub not_mounted : {D : Type 0} {nor : NorOf D} (g : Geometry) (why : MountErr) {old new : D} → IsLate why → OnlyReads nor old new → (nor.tells old → CountsSpoiled g (nor.bytes old) why) → ListsTo nor g old new (mount_ends why)
+not_mounted {D} {nor} g (MountNotAFs spoiled) {old} {new} late reads cause = record {
+  says = says_none _ reads;
+  speaks = λ tells. let why = cause tells in rw (mount_two g (nor.bytes old) spoiled why.0 why.1) (inr (refl, reads.said ∙ sym (append-nil (nor.said old))));
+}
+not_mounted g MountFault late reads cause = record { says = says_none _ reads; speaks = λ tells. inl (refl, front_none _ reads) }
+not_mounted g _ late reads cause = absurd late
 
+module _ {D : Type 0} {nor : NorOf D} {g : Geometry} where
   -- the list of the first image, which mounts
   same_list : {old mid : D} (h : Geometry) → h ≡ g → OnlyReads nor old mid → spoiled_blocks g (nor.bytes old) ≤ 1 → list_of h (nor.bytes mid) ≡ listed_text g (nor.bytes old)
   same_list {old} {mid} h same reads few = rw (mount_few g (nor.bytes old) few) (ap (λ (k : Geometry). list_of k (nor.bytes mid)) same ∙ ap (list_of g) reads.bytes)

@@ -35,13 +35,13 @@ module _ {D : Type 0} {nor : NorOf D} {g : Geometry} where
       (same_said g m (ask ∷ []) (calls_of (line ∷ [])) (one_call line ask e) (reply_said ask changes ok says))
 
   -- a call was not answered
-  pub stop_did : (ending : Ending) {old new : D} {was now : Memory} {m : Moment} (line : List ℕ) (n : ℕ) (ask : Ask) → of_line line ≡ Asks ask → Changes nor old new (RunPublishes g was m ask) → StopsCall nor g old new was now m ask ending → RunStands nor g old was m → DidLine nor g old new was now m line n (Some ending)
-  stop_did BoardFault {old} {new} {was} {now} {m} line n ask e changes stops stands = (call_good line ask e, same_said g m (ask ∷ []) (calls_of (line ∷ [])) (one_call line ask e) (call_said ask changes))
-  stop_did Unbuilt {old} {new} {was} {now} {m} line n ask e changes stops stands = record {
+  pub stop_did : (ending : Ending) {old new : D} {was : Memory} (now : Memory) {m : Moment} (line : List ℕ) (n : ℕ) (ask : Ask) → of_line line ≡ Asks ask → Changes nor old new (RunPublishes g was m ask) → StopsCall nor g old new was now m ask ending → RunStands nor g old was m → DidLine nor g old new was now m line n (Some ending)
+  stop_did BoardFault {old} {new} {was} now {m} line n ask e changes stops stands = (call_good line ask e, same_said g m (ask ∷ []) (calls_of (line ∷ [])) (one_call line ask e) (call_said ask changes))
+  stop_did Unbuilt {old} {new} {was} now {m} line n ask e changes stops stands = record {
     ask = ask;
     spells = e;
     unbuilt = subst (λ (l : List ℕ). IsUnbuilt g l m.state ask) (sym stops.reads.bytes) stops.unbuilt;
     leaves = cut_reads was m [] stops.reads;
     reached = subst (λ (w : Memory). Reached nor g old new w m []) (sym stops.memory) (reached_reads stops.reads stands);
   }
-  stop_did _ line n ask e changes stops stands = absurd stops
+  stop_did _ now line n ask e changes stops stands = absurd stops

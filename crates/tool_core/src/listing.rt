@@ -1,11 +1,12 @@
 ghost use Rattle.std.specs.Prelude.{◌≡◌, ◌≢◌, ◌≤◌, length};
-ghost use Rattle.geometry.specs.Numbers.{page_count};
+ghost use Rattle.geometry.specs.Numbers.{page_count, work_need, cache_need, check_need};
 ghost use Rattle.nor_core.specs.Count.{Rose};
 ghost use Rattle.flash_view.specs.Same.{IsSameView};
 ghost use Rattle.tool_core.specs.Fits.{HoldsVolume, HasLengths};
 ghost use Rattle.tool_core.specs.Later.{IsLater, IsLaterStatus};
 ghost use Rattle.tool_core.specs.Lent.{lengths_of};
 ghost use Rattle.tool_core.specs.Listing.{ListsTo, DoesList};
+ghost use Rattle.tool_core.specs.Reads.{ReadsOnce};
 ghost use Rattle.tool_core.specs.Refusals.{said_ending};
 
 use crate::buffers::Buffers;
@@ -50,6 +51,30 @@ fn list_view<B: Board>(v: &mut View<'_, B>, marks: &mut [u8], line: &mut [u8]) -
     }
 }
 
+// Mounts the volume of a board, and says its list.
+fn list_board<B: Board>(
+    g: Geometry,
+    board: &mut B,
+    work: &mut [u8],
+    cache: &mut [u8],
+    marks: &mut [u8],
+    line: &mut [u8],
+) -> Ending
+    requires fits { HoldsVolume g (B.unit board.old) (B.size board.old) }
+    requires work { work_need g ≤ length work.old }
+    requires cache { cache_need g ≤ length cache.old }
+    requires check { check_need g ≤ length marks.old }
+    requires line { 12288 ≤ length line.old }
+    ensures later { IsLater result }
+    ensures no_script { result ≢ Ending.SourceFault }
+    ensures cause { result ≡ Ending.BoardFault → Rose (B.faults board.old) (B.faults board.new) }
+    ensures lists { ListsTo B.NorState g board.old board.new result }
+    ensures few { ReadsOnce B.NorState g (length cache.old) board.old board.new }
+{
+    let mut v = View::new(g, board, work, cache);
+    list_view(&mut v, marks, line)
+}
+
 /// Mounts the volume of a board in the lent memory, and says its list.
 pub(crate) fn list_on<B: Board>(g: Geometry, board: &mut B, bufs: &mut Buffers<'_>) -> u8
     requires fits { HoldsVolume g (B.unit board.old) (B.size board.old) }
@@ -59,7 +84,6 @@ pub(crate) fn list_on<B: Board>(g: Geometry, board: &mut B, bufs: &mut Buffers<'
     ensures no_script { result ≢ 8 }
     ensures does { DoesList B.NorState g (length bufs.old.cache.now) board.old board.new result }
 {
-    let mut v = View::new(g, board, bufs.work, bufs.cache);
-    let ending = list_view(&mut v, bufs.check, bufs.line);
+    let ending = list_board(g, board, bufs.work, bufs.cache, bufs.check, bufs.line);
     conclude(board, ending)
 }

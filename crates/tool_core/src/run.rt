@@ -55,8 +55,12 @@ fn begin<B: Board>(volume: &mut Volume<'_, B>) -> Result<(), Ending>
 {
     match mount_and_check(volume) {
         Err(ending) => Err(ending),
-        Ok(report) if report.free_blocks < 2 => Err(Ending::Tight(report.free_blocks)),
-        Ok(_) => Ok(()),
+        Ok(report) => {
+            if report.free_blocks < 2 {
+                return Err(Ending::Tight(report.free_blocks));
+            }
+            Ok(())
+        }
     }
 }
 

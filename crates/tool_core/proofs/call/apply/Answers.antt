@@ -3,7 +3,7 @@ use Rattle.table_model.specs.declared.error.FsErr.{FsErr}
 use Rattle.table_model.specs.Ask.{asked}
 use Rattle.table_model.specs.Reply.{Refuses}
 use Rattle.volume.specs.Calls.{Calls}
-use Rattle.tool_core.proofs.Calling.{is_short, does_answer, does_fault, does_damage, does_unbuilt, ran_answer}
+use Rattle.tool_core.proofs.Calling.{does_answer, does_damage, does_unbuilt}
 use Rattle.tool_core.proofs.call.apply.Goals as goal
 
 pub returns-in-Refusal-Damaged-clause-does : goal.returns-in-Refusal-Damaged-clause-does

@@ -22,4 +22,4 @@ returns-clause-begins g c = λ tells.
     let made = c.new-volume.ensures in
     let begins = c.run_volume.ensures.begins _ made.closed in
     let here = rw (made.geometry, made.nor) at begins in
-    images_as _ _ (search rules) (here tells)
+    images_as _ _ _ (returns-clause-few g c) (search rules) (here tells)

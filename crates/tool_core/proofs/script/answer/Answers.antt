@@ -43,7 +43,7 @@ pub returns-in-Err-clause-did : goal.returns-in-Err-clause-did
 returns-in-Err-clause-did g c = λ m stands.
     let ask = asked c.in-Some.call in
     let p : Asks ask ≡ of_line c.args.line.now = search rules in
-    stop_did c.in-Err.ending c.args.line.now c.args.number ask (sym p) (c.apply.ensures.does.changes m) (c.in-Err.ensures.does.stops m stands) stands
+    stop_did c.in-Err.ending (memory c.apply.new.volume) c.args.line.now c.args.number ask (sym p) (c.apply.ensures.does.changes m) (c.in-Err.ensures.does.stops m stands) stands
 
 pub returns-in_default-clause-works : goal.returns-in_default-clause-works
 returns-in_default-clause-works g c = works_end (BadLine c.args.number) c.args.volume.now.nor.now (memory c.args.volume.now) (λ here. here)
