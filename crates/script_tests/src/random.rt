@@ -79,6 +79,32 @@ fn add(both: &mut Both, flat: &mut Flat, line: &[u8], call: &Call<'_>) -> Result
     Ok(matches!(call, Call::Create { .. }) && matches!(said, Said::Done))
 }
 
+// Adds a call by a name of the pool.
+fn add_named(
+    alloc: Global,
+    both: &mut Both,
+    flat: &mut Flat,
+    number: u64,
+    word: &str,
+) -> Result<bool, Fail> {
+    let (text, name) = name_of(alloc, number)?;
+    let mut line = word.as_bytes().to_vec(alloc)?;
+    line.push(b' ')?;
+    line.extend_from_slice(&text)?;
+    let call = match word {
+        "create" => Call::Create { name: &name },
+        "remove" => Call::Remove { name: &name },
+        _ => Call::StatName { name: &name },
+    };
+    add(both, flat, &line, &call)
+}
+
+// Adds a call of the record behind an id.
+fn add_next(alloc: Global, both: &mut Both, flat: &mut Flat, after: u16) -> Result<bool, Fail> {
+    let line = format!(in alloc; "next {after}")?;
+    add(both, flat, line.as_bytes(), &Call::Next { after })
+}
+
 // Adds a random call. Of eight draws, so many are creates.
 fn add_drawn(
     alloc: Global,
@@ -87,23 +113,16 @@ fn add_drawn(
     x: &mut u64,
     creates: u64,
 ) -> Result<bool, Fail> {
-    let (text, name) = name_of(alloc, draw(x) % 30)?;
+    let number = draw(x) % 30;
     let kind = draw(x) % 8;
     let after = (draw(x) % 32) as u16;
-    let (word, call) = match kind {
-        _ if kind < creates => ("create", Call::Create { name: &name }),
-        4 | 5 => ("remove", Call::Remove { name: &name }),
-        6 => ("stat", Call::StatName { name: &name }),
-        7 if after % 4 == 0 => return add(both, flat, b"info", &Call::GetInfo),
-        _ => {
-            let line = format!(in alloc; "next {after}")?;
-            return add(both, flat, line.as_bytes(), &Call::Next { after });
-        }
-    };
-    let mut line = word.as_bytes().to_vec(alloc)?;
-    line.push(b' ')?;
-    line.extend_from_slice(&text)?;
-    add(both, flat, &line, &call)
+    match kind {
+        _ if kind < creates => add_named(alloc, both, flat, number, "create"),
+        4 | 5 => add_named(alloc, both, flat, number, "remove"),
+        6 => add_named(alloc, both, flat, number, "stat"),
+        7 if after % 4 == 0 => add(both, flat, b"info", &Call::GetInfo),
+        _ => add_next(alloc, both, flat, after),
+    }
 }
 
 // A random script of at most so many calls, and of at most so many creates that make a file.
