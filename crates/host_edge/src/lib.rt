@@ -61,6 +61,7 @@ mod tests {
         let path = path.as_str();
         fs::write(&rt, path, "abcd")?;
         let mut chip = FileChip::new(&rt, path, Access::Read, 8192, 4096);
+        assert_eq!(rt; (chip.size(), chip.unit()), (8192, 4096));
         let mut bytes = [0u8; 2];
         chip.read(1, &mut bytes).ok().ok_or("read")?;
         assert_eq!(rt; bytes.as_slice(), b"bc".as_slice());
@@ -82,6 +83,7 @@ mod tests {
             8192,
             4096,
         );
+        assert_eq!(rt; (chip.size(), chip.unit()), (8192, 4096));
         assert!(rt; chip.program(0, &[0]).is_err());
         let told = chip.trouble().ok_or("no trouble")?.to_string(rt.alloc())?;
         let wanted = "the chip file can't be opened: No such file or directory (os error 2)";
