@@ -25,7 +25,7 @@ use Rattle.image_laws.specs.SoundSteps.{IsOfKind}
 use Rattle.image_laws.specs.TidySteps.{Agree}
 use Rattle.image_laws.specs.Put.{IsReadyPage}
 use Rattle.image_laws.specs.LiveSteps.{Finished, PutCut, PutDone}
-use Rattle.image_laws.specs.Recopy.{PutsData}
+use Rattle.renew_laws.specs.Recopy.{PutsData}
 use Rattle.image_laws.proofs.Finish.{is_finished-zero}
 use Rattle.image_laws.proofs.Tally.{is_finished-ones}
 use Rattle.image_laws.proofs.Frames.{live_parts}
@@ -34,8 +34,8 @@ use Rattle.image_laws.proofs.LiveStep.{put-changes}
 use Rattle.image_laws.proofs.Placing.{page_byte}
 use Rattle.image_laws.proofs.Places.{lookups_apart, blocks_disjoint}
 use Rattle.image_laws.proofs.Records.{list_any-at}
-use Rattle.image_laws.proofs.RecopyStep.{put_data-keeps}
-use Rattle.image_laws.proofs.RecopyTidy.{put_data-spares}
+use Rattle.renew_laws.proofs.RecopyStep.{put_data-keeps}
+use Rattle.renew_laws.proofs.RecopyTidy.{put_data-spares}
 use Rattle.image_laws.proofs.SpareKill.{tidy-has_magics}
 use Rattle.image_laws.proofs.TidySteps.{tidy-is_tidy}
 use Rattle.free_search.proofs.FreePages.{free_whole, used_less}
@@ -44,69 +44,6 @@ use Rattle.block_gc.specs.Moves.{MoveCut}
 use Rattle.block_gc.specs.DataMoves.{CanCopyData, IsDataCopy, CopiedData}
 use Rattle.page_renew.specs.Built.{IsLoaded}
 use Rattle.page_renew.proofs.Homes.{Home, home_of}
-
--- ---- bytes that programs of a page leave
-
-outside_byte : (at n k : ℕ) (a b : List ℕ) → SameOutside at n a b → (k < at) ⊎ (at + n ≤ k) → slice_index b k ≡ slice_index a k
-outside_byte at n k a b same place = ⊎_elim (λ (low : k < at). same.before k low) (λ (high : at + n ≤ k). same.after k high) place
-
--- an entry lies in no entry page
-entry_apart : (g : Geometry) (q p i : ℕ) → is_entry_page g p ≡ true → i < 2 → (entry_at g q + i < p * g.page) ⊎ (p * g.page + g.page ≤ entry_at g q + i)
-entry_apart g q p i page small =
-    let geo : Sizes g = sizes g in
-    let slot : place_of g q - lookups g < lookups g * g.page / 2 = entry_slot g q in
-    let fits : lookups g < per_block g = geo.lookups_fit in
-    let from : lookups g ≤ place_of g p = behind g p page in
-    let same : block_of g q * g.block ≡ block_of g q * (per_block g * g.page) = ap (λ (x : ℕ). block_of g q * x) geo.block in
-    ⊎_elim
-    (λ (h : block_of g q * (per_block g * g.page) + (2 * (place_of g q - lookups g) + i) < p * g.page). inl (omega (arith, h, same)))
-    (λ (h : p * g.page + g.page ≤ block_of g q * (per_block g * g.page) + (2 * (place_of g q - lookups g) + i)). inr (omega (arith, h, same)))
-    (lookups_apart (per_block g) (lookups g) g.page (block_of g q) p (2 * (place_of g q - lookups g) + i) (omega (arith, fits)) (omega (arith, fits)) from (omega (arith, slot, small)))
-
--- the entries of two blocks have no byte in common
-entries_apart : (g : Geometry) (q p i : ℕ) → block_of g q ≢ block_of g p → i < 2 → (entry_at g q + i < entry_at g p) ⊎ (entry_at g p + 2 ≤ entry_at g q + i)
-entries_apart g q p i differ small =
-    ⊎_elim
-    (λ (less : block_of g q < block_of g p). inl (let one = blocks_disjoint g.block (block_of g q) (block_of g p) (2 * (place_of g q - lookups g) + i) (2 * (place_of g p - lookups g)) less (low q i small) in omega (arith, one)))
-    (λ (more : block_of g p ≤ block_of g q). inr (let one = blocks_disjoint g.block (block_of g p) (block_of g q) (2 * (place_of g p - lookups g) + 1) (2 * (place_of g q - lookups g) + i) (omega (arith, more, differ)) (low p 1 (omega arith)) in omega (arith, one)))
-    (cases_lt (block_of g q) (block_of g p))
-  where
-    low : (r k : ℕ) → k < 2 → 2 * (place_of g r - lookups g) + k < g.block
-    low r k few =
-        let geo : Sizes g = sizes g in
-        let slot : place_of g r - lookups g < lookups g * g.page / 2 = entry_slot g r in
-        let fits : lookups g < per_block g = geo.lookups_fit in
-        let rows : lookups g * g.page ≤ per_block g * g.page = Rattle.std.proofs.Math.Nat.mul-le-mul_right g.page (omega (arith, fits)) in
-        let whole : g.block ≡ per_block g * g.page = geo.block in
-        omega (arith, slot, rows, whole, few)
-
-module _ (g : Geometry) (a0 a1 a2 a3 a4 : List ℕ) (p : ℕ) (page : List ℕ) (fin : ℕ) (inside : is_entry_page g p ≡ true) (len : length page ≡ g.page) (all : Finished g p page fin a0 a1 a2 a3 a4) where
-  kept_byte : (k : ℕ) → (k < entry_at g p) ⊎ (entry_at g p + 2 ≤ k) → (k < p * g.page) ⊎ (p * g.page + g.page ≤ k) → slice_index a4 k ≡ slice_index a0 k
-  kept_byte k entry there =
-      let big : 128 ≤ g.page = (sizes g).page in
-      let two : length (take 2 page) ≡ 2 = omega (arith, big, Rattle.std.proofs.Common.length-take 2 page, len) in
-      let five : length (take 5 page) ≡ 5 = omega (arith, big, Rattle.std.proofs.Common.length-take 5 page, len) in
-      let rest : length (drop 5 page) ≡ g.page - 5 = omega (arith, big, length-drop 5 page, len) in
-      let one = all.placed.one.outside in
-      let next = all.placed.two.outside in
-      let third = all.placed.three.outside in
-      let last = all.finish.outside in
-      let e1 : slice_index a1 k ≡ slice_index a0 k = outside_byte (entry_at g p) (length (take 2 page)) k a0 a1 one (⊎_elim (λ (x : k < entry_at g p). inl x) (λ (x : entry_at g p + 2 ≤ k). inr (omega (arith, x, two))) entry) in
-      let e2 : slice_index a2 k ≡ slice_index a1 k = outside_byte (p * g.page) (length (take 5 page)) k a1 a2 next (⊎_elim (λ (x : k < p * g.page). inl x) (λ (x : p * g.page + g.page ≤ k). inr (omega (arith, x, five, big))) there) in
-      let e3 : slice_index a3 k ≡ slice_index a2 k = outside_byte (p * g.page + 5) (length (drop 5 page)) k a2 a3 third (⊎_elim (λ (x : k < p * g.page). inl (omega (arith, x))) (λ (x : p * g.page + g.page ≤ k). inr (omega (arith, x, rest, big))) there) in
-      let e4 : slice_index a4 k ≡ slice_index a3 k = outside_byte (p * g.page + 4) 1 k a3 a4 last (⊎_elim (λ (x : k < p * g.page). inl (omega (arith, x))) (λ (x : p * g.page + g.page ≤ k). inr (omega (arith, x, big))) there) in
-      e4 ∙ e3 ∙ e2 ∙ e1
-
-  -- a free page of another block stays free
-  pub still_free : Agree g a0 a4 p → (q : ℕ) → block_of g q ≢ block_of g p → IsFreePage g a0 q → IsFreePage g a4 q
-  still_free agree q differ free =
-      let other : q ≢ p = λ e. differ (ap (λ (x : ℕ). block_of g x) e) in
-      record {
-        entry_page = free.entry_page;
-        magic = agree.magic (block_of g q) ∙ free.magic;
-        entry = λ i small. kept_byte (entry_at g q + i) (entries_apart g q p i differ small) (entry_apart g q p i inside small) ∙ free.entry i small;
-        erased = λ i small. sym (page_byte g a4 q i small) ∙ ap (λ (l : List ℕ). slice_index l i) (agree.page q free.entry_page other) ∙ page_byte g a0 q i small ∙ free.erased i small;
-      }
 
 -- a block in use stays in use
 pub used_stays : (g : Geometry) (a b : List ℕ) (p c : ℕ) → Agree g a b p → c < g.blocks → c ≢ block_of g p → has_magic g a c ≡ true → is_free_block g a c ≡ false → is_free_block g b c ≡ false
@@ -297,7 +234,7 @@ module _ (g : Geometry) (a0 : List ℕ) (o p : ℕ) (tag : Tag) (work : List ℕ
       put = done4;
       keeps = (put_data-keeps g a0 a1 a2 a3 a4 p id home.h page home.head 0xFC home.f start magics all).1;
       tidy = put_data-spares g a0 a1 a2 a3 a4 p id home.h page home.head 0xFC home.f (λ (r : ℕ). false) start ((tidy-is_tidy g a0 (λ (r : ℕ). false)).0 can.tidy) all;
-      free = λ q differ. still_free g a0 a1 a2 a3 a4 p page 0xFC can.free.entry_page page_len all done4.agree q differ;
+      free = λ q differ. done4.free q (λ e. differ (ap (λ (x : ℕ). block_of g x) e));
       flags =
           let big : 128 ≤ g.page = (sizes g).page in
           let near : 4 < g.page = omega arith in

@@ -29,7 +29,7 @@ use Rattle.image_laws.specs.Put.{IsReadyPage}
 use Rattle.image_laws.specs.LiveSteps.{Finished, Kills, PutCut, KillCut, PutLeaves, PutDone, KillLeaves, KillDone}
 use Rattle.image_laws.specs.Creating.{CutOf}
 use Rattle.image_laws.specs.Reindex.{Reindexes, index_span, slot_word}
-use Rattle.image_laws.specs.Recopy.{Recopies, Renamed}
+use Rattle.renew_laws.specs.Recopy.{Recopies, Renamed}
 use Rattle.image_laws.specs.Spares.{Spares, leftover}
 use Rattle.image_laws.proofs.Append.{finished-same}
 use Rattle.image_laws.proofs.Finish.{own-parts}
@@ -39,11 +39,11 @@ use Rattle.image_laws.proofs.FreeBlocks.{free_blocks-fall, used-is_not_free}
 use Rattle.image_laws.proofs.Judge.{found_from, index_passes}
 use Rattle.image_laws.proofs.LiveStep.{put-changes, kill-changes}
 use Rattle.image_laws.proofs.Placing.{page_byte}
-use Rattle.image_laws.proofs.RecopyStep.{recopy-is_sound, live4, clears4, mine4, mine5, beside-index, beside-entry, beside-header, beside-judged}
-use Rattle.image_laws.proofs.RecopyTidy.{recopy-tidies, put-same}
+use Rattle.renew_laws.proofs.RecopyStep.{recopy-is_sound, live4, clears4, mine4, mine5, beside-index, beside-entry, beside-header, beside-judged}
+use Rattle.renew_laws.proofs.RecopyTidy.{recopy-tidies, put-same}
 use Rattle.image_laws.proofs.Reindexed.{entry-slot}
-use Rattle.image_laws.proofs.ReindexSteps.{entry3_here}
-use Rattle.image_laws.proofs.RenewStep.{live-used}
+use Rattle.renew_laws.proofs.ReindexSteps.{entry3_here}
+use Rattle.image_laws.proofs.StillFree.{live-used}
 use Rattle.image_laws.proofs.Sounding.{keeps-on}
 use Rattle.image_laws.proofs.SpareKill.{spare-kills, spares-end, tidy-has_magics}
 use Rattle.image_laws.proofs.Tables.{own-gains_page, own-gains_rest}

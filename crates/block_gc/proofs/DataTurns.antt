@@ -16,9 +16,9 @@ use Rattle.image_model.specs.Collect.{free_in, data_in, takes_index, takes_data,
 use Rattle.image_laws.proofs.Damaged.{any_from}
 use Rattle.image_laws.proofs.Frames.{live_parts}
 use Rattle.image_laws.proofs.FreeBlocks.{filter-same, used-is_not_free}
-use Rattle.image_laws.proofs.Leading.{any-range}
+use Rattle.renew_laws.proofs.Leading.{any-range}
 use Rattle.image_laws.proofs.Records.{list_any-at}
-use Rattle.image_laws.proofs.RenewStep.{live-used}
+use Rattle.image_laws.proofs.StillFree.{live-used}
 use Rattle.free_search.specs.Free.{IsFreeFor}
 use Rattle.free_search.proofs.Counting.{free_is_dead}
 use Rattle.free_search.proofs.FreePages.{free_whole, dead_data, data_parts, index_parts, some_entries}

@@ -21,12 +21,12 @@ use Rattle.image_laws.specs.Creating.{CutOf}
 use Rattle.image_laws.specs.Put.{IsReadyPage}
 use Rattle.image_laws.specs.LiveSteps.{PutLeaves, PutDone, KillLeaves, KillDone}
 use Rattle.image_laws.specs.Reindex.{Reindexes}
-use Rattle.image_laws.specs.Recopy.{Recopies}
+use Rattle.renew_laws.specs.Recopy.{Recopies}
 use Rattle.image_laws.proofs.Frames.{live_parts}
 use Rattle.image_laws.proofs.FreeBlocks.{free_blocks-fall, used-is_not_free}
-use Rattle.image_laws.proofs.RecopyStep.{live4, cut_put, cut_kill}
-use Rattle.image_laws.proofs.RecopyTidy.{recopied, put-same}
-use Rattle.image_laws.proofs.RenewStep.{live-used}
+use Rattle.renew_laws.proofs.RecopyStep.{live4, cut_put, cut_kill}
+use Rattle.renew_laws.proofs.RecopyTidy.{recopied, put-same}
+use Rattle.image_laws.proofs.StillFree.{live-used}
 use Rattle.image_laws.proofs.SpareKill.{spares-end, tidy-has_magics}
 use Rattle.image_laws.proofs.Tally.{served}
 use Rattle.image_laws.proofs.TidySteps.{tidy-is_tidy}
@@ -178,7 +178,7 @@ module _ (g : Geometry) (a0 : List ℕ) (o p : ℕ) (is : IsImage g a0) (can : C
           left = λ t below at. inl (slot_same g old y new (count_of g a0 id) copy sets len t (omega (arith, below, count)) at);
         }) in
         record {
-          cut = killing_left a6 (record { image = last.image; agree = last.agree; live = inr last.loses });
+          cut = killing_left a6 (record { image = last.image; agree = last.agree; live = inr last.loses; used = rw last.zero refl });
           tidy = spares-end g a6 (λ (r : ℕ). false && leftover g (own (live_at g a6) id) pages.0 r) (λ r e. absurd (cc)) tidied.0;
           table = tidied.1 ∙ same_table;
           gone = last.loses.after;

@@ -18,7 +18,7 @@ use Rattle.image_laws.proofs.DeadEntries.{and_false}
 use Rattle.image_laws.proofs.Frames.{live_parts}
 use Rattle.image_laws.proofs.FreeBlocks.{used-is_not_free}
 use Rattle.image_laws.proofs.Records.{list_any-at}
-use Rattle.image_laws.proofs.RenewStep.{live-used}
+use Rattle.image_laws.proofs.StillFree.{live-used}
 use Rattle.image_laws.proofs.Sounding.{keeps-itself}
 use Rattle.image_laws.proofs.SpareKill.{tidy-has_magics}
 use Rattle.image_laws.proofs.TidySteps.{tidy-is_tidy}

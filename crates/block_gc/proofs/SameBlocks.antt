@@ -9,7 +9,7 @@ use Rattle.image_model.specs.Tidy.{is_free_entry, is_free_block}
 use Rattle.image_model.specs.Kinds.{is_data_page, is_data_block}
 use Rattle.image_model.specs.Collect.{data_in, deleted_in, is_deleted_entry, free_in, takes_index}
 use Rattle.image_laws.proofs.FreeBlocks.{filter-same}
-use Rattle.image_laws.proofs.Leading.{any-range}
+use Rattle.renew_laws.proofs.Leading.{any-range}
 use Rattle.free_search.proofs.FreePages.{free_whole, used_less}
 
 -- the block has its magic, its entries, its pages and its live pages in both

@@ -23,7 +23,7 @@ use Rattle.image_laws.proofs.Frames.{live_parts}
 use Rattle.image_laws.proofs.FreeBlocks.{free_blocks-fall, used-is_not_free}
 use Rattle.image_laws.proofs.Headless.{headless-is_idle}
 use Rattle.image_laws.proofs.Kill.{own-loses, index-loses, has_of-loses}
-use Rattle.image_laws.proofs.RenewStep.{live-used}
+use Rattle.image_laws.proofs.StillFree.{live-used}
 use Rattle.image_laws.proofs.Sounding.{sound-by, mixed-from, loses-back, keeps-by_live}
 use Rattle.image_laws.proofs.SpareKill.{tidy-has_magics}
 use Rattle.image_laws.proofs.TidySteps.{entries-but, tidy_live}

@@ -7,6 +7,10 @@ use Rattle.std.proofs.lemmas.List.{ext_get_or}
 use Rattle.nor_core.specs.Flash.{HalfProgrammed}
 use Rattle.image_laws.proofs.BetweenTorn.{TornByte, torn_byte}
 use Rattle.image_laws.specs.Programs.{ClearsBit}
+use Rattle.std.specs.Prelude.{bit_and}
+use Rattle.std.specs.Int.Bits.{and_comm}
+use Rattle.std.proofs.lemmas.Nat.{and_mask}
+use Rattle.std.proofs.Math.Nat.{mod-eq_of_lt}
 
 pub bit_cases : (n k : ℕ) → (bit_at n k ≡ 1) ⊎ (bit_at n k ≡ 0)
 bit_cases n k = let small : bit_at n k < 2 = bit_at-lt n k in ⊎_elim (λ (x : bit_at n k ≡ 1). inl x) (λ (x : bit_at n k ≡ 1 → ⊥). inr (omega (arith, x, small))) (cases_eq (bit_at n k) 1)
@@ -50,3 +54,7 @@ one_bit_image k at asked old new c h =
     (cases_lt i at))))
     (λ (done : slice_index new at ≡ asked). inr done)
     (one_bit k (slice_index old at) asked (slice_index new at) c (rw add-zero at (torn_byte at (asked ∷ []) old new h 0 (omega arith))))
+
+-- an erased byte takes every byte
+pub and_comm_255 : (x : ℕ) → x < 256 → bit_and 255 x ≡ x
+and_comm_255 x small = and_comm 255 x ∙ and_mask x 8 ∙ mod-eq_of_lt small

@@ -18,6 +18,7 @@ use Rattle.image_model.specs.Tidy.{IsTidy, is_free_block, is_free_entry, free_bl
 use Rattle.table_model.specs.Room.{index_count}
 use Rattle.image_model.specs.Kinds.{is_index_page, is_data_page, live_index, live_data, is_data_block, is_other_block, data_blocks, other_blocks}
 use Rattle.image_laws.specs.BlockCounts.{BlocksSplit, IndexInOthers, ReserveRoom}
+use Rattle.image_laws.proofs.StillFree.{live-used}
 use Rattle.image_laws.proofs.Frames.{live_parts}
 use Rattle.image_model.specs.Within.{page_number, block_number}
 use Rattle.image_laws.proofs.Damaged.{any_at, any_from}
@@ -90,16 +91,8 @@ subst-holds : (o : Option (List ℕ)) (x : List ℕ) → o ≡ Some x → is_dat
 subst-holds o x e h = rw e at h
 
 module _ (g : Geometry) (a : List ℕ) (is : IsImage g a) where
-  -- the entry of a live page is not free
-  live-used : (p : ℕ) (x : List ℕ) → live_at g a p ≡ Some x → is_free_entry g a p ≡ false
-  live-used p x e =
-      let w = live_parts g a p x e in
-      false_from_ne_true _ (λ free.
-      let ones : entry_of g a p ≡ 0xFFFF = eqb-true _ 0xFFFF (and_parts _ _ free).0 in
-      let bad : false ≡ true = sym (is_finished-ones x (sym w.entry ∙ ones)) ∙ w.finished in absurd (cc))
-
   live-block_used : (p : ℕ) (x : List ℕ) → live_at g a p ≡ Some x → is_free_block g a (block_of g p) ≡ false
-  live-block_used p x e = used-is_not_free g a p (live_parts g a p x e).entry_page (live-used p x e)
+  live-block_used p x e = used-is_not_free g a p (live_parts g a p x e).entry_page (live-used g a p x e)
 
   free-no_data : (c : ℕ) → c < g.blocks → is_free_block g a c ≡ true → is_data_block g a c ≡ false
   unfolding is_data_block

@@ -7,6 +7,7 @@ use Rattle.nor_core.specs.Flash.{HalfProgrammed}
 use Rattle.image_laws.specs.Flash.{Programmed}
 use Rattle.image_model.specs.Within.{sizes}
 use Rattle.image_model.specs.Live.{live_at}
+use Rattle.image_model.specs.Tidy.{is_free_entry}
 use Rattle.image_model.specs.Headers.{is_finished}
 use Rattle.image_model.specs.Places.{page_of, entry_of, IsImage, entry_at}
 use Rattle.image_laws.specs.Changes.{Gains, Loses}
@@ -16,13 +17,14 @@ use Rattle.image_laws.specs.TidySteps.{Agree}
 use Rattle.image_laws.specs.Put.{IsReadyPage}
 use Rattle.image_laws.specs.LiveSteps.{Finished, PutCut, Kills, KillCut, PutLeaves, PutDone, KillLeaves, KillDone, PutChanges, KillChanges}
 use Rattle.image_laws.proofs.Bits.{one_bit_image}
-use Rattle.image_laws.proofs.Frames.{live_parts, live-entry_changed}
+use Rattle.image_laws.proofs.Frames.{live_parts, live-entry_changed, page-same_entry}
 use Rattle.image_laws.proofs.Placing.{page_byte}
 use Rattle.image_laws.proofs.Publish.{finishing-gains}
 use Rattle.image_laws.proofs.Kill.{killing-loses, deleted_from_flag}
 use Rattle.image_laws.proofs.Finished.{torn_from}
 use Rattle.image_laws.proofs.TidySteps.{agree_page, agree_entry, agree-on, wide_flags, zeroed}
 use Rattle.image_laws.proofs.PutAgain.{cleared-and}
+use Rattle.image_laws.proofs.StillFree.{live-used, not_free, deleted_no_ones, put_free, kill_free}
 use Rattle.image_laws.proofs.PutStep as put
 
 -- the flags byte, done
@@ -61,6 +63,7 @@ module _ (g : Geometry) (a0 a1 a2 a3 a4 : List ℕ) (p : ℕ) (page : List ℕ) 
         image = sized a3 a4 (p * g.page + 4) (fin ∷ []) image3 torn;
         agree = agree4 a4 torn;
         gains = gains4 a4 torn (done_byte 1 (p * g.page + 4) fin a3 a4 placed.clears all.finish);
+        free = put_free g a0 a1 a2 a3 a4 p page fin free.entry_page ready.len all (agree4 a4 torn);
       }
 
   put_cut : (c : List ℕ) → PutCut g p page fin a0 a1 a2 a3 c → PutLeaves g p (set page 4 fin) a0 c
@@ -128,14 +131,28 @@ module _ (g : Geometry) (a b d : List ℕ) (o kill : ℕ) (page : List ℕ) (is 
   agree2 : (c : List ℕ) → HalfProgrammed (entry_at g o) (0 ∷ 0 ∷ []) b c → Agree g a c o
   agree2 c h = agree-on g a b c o (agree1 b torn1) (agree_entry g b c o (sizes g) inside h.outside)
 
+  -- the program of the entry leaves the flags
+  flag2 : (c : List ℕ) → HalfProgrammed (entry_at g o) (0 ∷ 0 ∷ []) b c → slice_index c (o * g.page + 4) ≡ kill
+  flag2 c h =
+      let big : 128 ≤ g.page = (sizes g).page in
+      let same : page_of g c o ≡ page_of g b o = page-same_entry g (sizes g) b c o inside h.outside o inside in
+      sym (page_byte g c o 4 (omega arith)) ∙ ap (λ (l : List ℕ). slice_index l 4) same ∙ page_byte g b o 4 (omega arith) ∙ done
+
   loses2 : (c : List ℕ) → HalfProgrammed (entry_at g o) (0 ∷ 0 ∷ []) b c → Loses o (live_at g a) (live_at g c)
   loses2 c h = rw (live2 c h) loses
 
   image2 : (c : List ℕ) → HalfProgrammed (entry_at g o) (0 ∷ 0 ∷ []) b c → IsImage g c
   image2 c h = record { len = omega (arith, h.outside.size, (image1 b torn1).len) }
 
+  -- once its flags are those of a deleted page, it isn't erased
+  cleared_used : (c : List ℕ) → IsImage g c → slice_index c (o * g.page + 4) ≡ kill → is_free_entry g c o ≡ false
+  cleared_used c is byte =
+      let big : 128 ≤ g.page = (sizes g).page in
+      let there : slice_index (page_of g c o) 4 ≡ kill = page_byte g c o 4 (omega arith) ∙ byte in
+      not_free g c o 4 is inside (omega arith) (λ ones. deleted_no_ones kill clears.cleared (sym there ∙ ones))
+
   kill_done : KillDone g o a d
-  kill_done = let torn = torn_from _ _ _ _ all.clear in record { image = image2 d torn; agree = agree2 d torn; loses = loses2 d torn; zero = zeroed g b d o all.clear }
+  kill_done = let torn = torn_from _ _ _ _ all.clear in record { image = image2 d torn; agree = agree2 d torn; loses = loses2 d torn; zero = zeroed g b d o all.clear; free = kill_free g a b d o kill inside all (agree2 d torn) }
 
   kill_cut : (c : List ℕ) → KillCut g o kill a b c → KillLeaves g o a c
   kill_cut c h =
@@ -147,8 +164,12 @@ module _ (g : Geometry) (a b d : List ℕ) (o kill : ℕ) (page : List ℕ) (is 
             (λ (same : c ≡ a). inl (ap (live_at g) same))
             (λ (there : slice_index c (o * g.page + 4) ≡ kill). inr (killing-loses g a c o kill is inside clears.cleared x there))
             (one_bit_image 7 (o * g.page + 4) kill a c clears x);
+        used = ⊎_elim
+            (λ (same : c ≡ a). rw same (live-used g a o page live))
+            (λ (there : slice_index c (o * g.page + 4) ≡ kill). cleared_used c (image1 c x) there)
+            (one_bit_image 7 (o * g.page + 4) kill a c clears x);
       })
-      (λ (x : HalfProgrammed (entry_at g o) (0 ∷ 0 ∷ []) b c). record { image = image2 c x; agree = agree2 c x; live = inr (loses2 c x) })
+      (λ (x : HalfProgrammed (entry_at g o) (0 ∷ 0 ∷ []) b c). record { image = image2 c x; agree = agree2 c x; live = inr (loses2 c x); used = cleared_used c (image2 c x) (flag2 c x) })
       h
 
 pub kill-changes : (g : Geometry) → KillChanges g

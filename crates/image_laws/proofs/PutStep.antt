@@ -23,7 +23,7 @@ use Rattle.image_model.specs.Within.{page_length, page_number}
 use Rattle.image_laws.proofs.Placing.{page_byte, flag_from, wider, placing_entry-keeps, placing_page-keeps, live-placing_entry, live-placing_page}
 use Rattle.image_laws.proofs.Frames.{page-same_entry, magic-same_page, entry-same_page, magic-same_entry}
 use Rattle.image_laws.proofs.Finished.{torn_from}
-use Rattle.image_laws.proofs.CreateStep.{and_comm_255}
+use Rattle.image_laws.proofs.Bits.{and_comm_255}
 use Rattle.image_laws.proofs.Sounding.{placing_entry-sound, placing_page-sound, keeps-on}
 use Rattle.image_laws.proofs.TidySteps.{agree_page, agree_entry, agree-on}
 

@@ -31,7 +31,8 @@ use Rattle.image_laws.proofs.Kill.{own-loses, index-loses}
 use Rattle.image_laws.proofs.Headless.{headless-is_idle}
 use Rattle.image_laws.proofs.Wants.{wanted_parts, wanted_from}
 use Rattle.image_laws.proofs.DeadEntries.{unused_flags-keep, dead_entry-keeps, deleted_done}
-use Rattle.image_laws.proofs.RenewStep.{live-used, some_page'}
+use Rattle.image_laws.proofs.RenewStep.{some_page'}
+use Rattle.image_laws.proofs.StillFree.{live-used}
 use Rattle.image_laws.proofs.LiveStep.{done_byte}
 use Rattle.image_laws.proofs.Tally.{is_finished-ones}
 use Rattle.image_laws.proofs.Append.{own-some}

@@ -40,13 +40,7 @@ use Rattle.image_laws.proofs.TidySteps.{tidy-is_tidy}
 use Rattle.image_laws.proofs.HeadsServe.{serves-heads}
 use Rattle.image_laws.proofs.OneIdTidy.{one_id-is_tidy, one_id-spares}
 use Rattle.image_laws.proofs.LiveStep.{put-changes, kill-changes}
-
--- a live page is not free
-pub live-used : (g : Geometry) (a : List ℕ) (o : ℕ) (x : List ℕ) → live_at g a o ≡ Some x → is_free_entry g a o ≡ false
-live-used g a o x live =
-    let w = live_parts g a o x live in
-    let other : entry_of g a o ≢ 0xFFFF = λ e. let no : Rattle.image_model.specs.Headers.is_finished x ≡ false = is_finished-ones x (sym w.entry ∙ e) in let yes = w.finished in absurd (cc) in
-    rw (ne_eqb (entry_of g a o) 0xFFFF other) refl
+use Rattle.image_laws.proofs.StillFree.{live-used}
 
 pub some_page' : (o : Option (List ℕ)) → is_some o ≡ true → (x : List ℕ) × (o ≡ Some x)
 some_page' None h = cc

@@ -2,7 +2,8 @@
 use Rattle.std.proofs.Common.{◌≡◌, ℕ, zero, suc, ◌+◌, ◌-◌, ◌*◌, ◌/◌, ◌%◌, ◌<◌, ◌≤◌, List, length, true, false, not, ◌==◌, ◌&&◌, Option, Some, None, Ok, ap, refl, sym, ◌∙◌, arith, ⊎_elim, subst, length-take, length-drop, length-take-le}
 use Rattle.std.specs.Prelude.{filter, is_some, is_none, unwrap_or, option_and_then}
 use Rattle.std.specs.List.{range_with_len, list_any, flat_map}
-use Rattle.std.proofs.Math.Nat.{mul-le-mul_right, div-add-mod, mul-div_cancel}
+use Rattle.std.proofs.Math.Nat.{mul-le-mul_right, div-add-mod, mul-div_cancel, div-mul-le_self}
+use Rattle.std.proofs.lemmas.Nat.{le-div}
 use Rattle.std.proofs.lemmas.Bool.{cases_lt, cases_eq, and_parts, or_cases, eqb-true, eq-eqb, lt-ltb, le-ltb}
 use Rattle.std.proofs.lemmas.Option.{same_Some}
 use Rattle.geometry.specs.declared.geometry.Geometry.{Geometry}
@@ -20,6 +21,10 @@ use Rattle.image_laws.proofs.Damaged.{any_at}
 use Rattle.image_laws.proofs.Append.{find-all}
 use Rattle.image_laws.proofs.Wants.{number-is}
 use Rattle.image_laws.proofs.Matching.{count_match, length-pieces}
+
+-- a ceiling grows with what is divided
+pub ceil-mono : (a c b : ℕ) → 0 < b → a ≤ c → (a + b - 1) / b ≤ (c + b - 1) / b
+ceil-mono a c b pos h = let x : (a + b - 1) / b * b ≤ a + b - 1 = div-mul-le_self (a + b - 1) b in le-div ((a + b - 1) / b) (c + b - 1) b pos (omega (arith, x))
 
 -- index page k + 1 names a data span of the file
 further_span : (n h x k : ℕ) → 0 < x → h < n → k + 1 < 1 + (n - h + x - 1) / x → (h + k * x < n) × ((h + k * x - h) / x + 1 ≡ k + 1)

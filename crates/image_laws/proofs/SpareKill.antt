@@ -1,19 +1,21 @@
 -- Kills of spare pages.
-use Rattle.std.proofs.Common.{◌≡◌, ◌≢◌, ℕ, ◌+◌, ◌*◌, ◌%◌, ◌≤◌, List, [], ◌∷◌, slice_index, Bool, true, false, not, ◌==◌, ◌&&◌, Some, refl, ◌∙◌, arith, ⊎_elim}
-use Rattle.std.proofs.lemmas.Bool.{and_parts, ne_eqb, eq-eqb}
+use Rattle.std.proofs.Common.{◌≡◌, ◌≢◌, ℕ, ◌+◌, ◌*◌, ◌%◌, ◌≤◌, List, [], ◌∷◌, slice_index, Bool, true, false, not, ◌==◌, ◌&&◌, Some, ap, refl, sym, ◌∙◌, ◌⊎◌, inl, inr, arith, ⊎_elim}
+use Rattle.std.proofs.lemmas.Bool.{and_parts, ne_eqb, eq-eqb, eqb-true, false≢true}
 use Rattle.geometry.specs.declared.geometry.Geometry.{Geometry}
 use Rattle.nor_core.specs.Flash.{HalfProgrammed}
 use Rattle.image_model.specs.Live.{live_at, own}
 use Rattle.image_model.specs.Headers.{obj_id, is_finished}
-use Rattle.image_model.specs.Places.{page_of, is_entry_page, IsImage, entry_at}
+use Rattle.image_model.specs.Places.{page_of, is_entry_page, entry_of, IsImage, entry_at}
 use Rattle.image_model.specs.Tables.{has_of}
-use Rattle.image_model.specs.Tidy.{is_wanted, free_blocks}
+use Rattle.image_model.specs.Tidy.{is_wanted, is_free_entry, free_blocks}
 use Rattle.image_laws.specs.Programs.{IsIdle, ClearsBit}
 use Rattle.image_model.specs.Sound.{HasMagics, Keeps}
 use Rattle.image_laws.specs.TidySteps.{IsTidyBut, Agree}
 use Rattle.image_laws.specs.LiveSteps.{Kills, KillCut, KillDone}
 use Rattle.image_laws.specs.Spares.{Spares, SpareKills, SparesEnd, TidyHasMagics, is_in_table}
 use Rattle.image_laws.proofs.Frames.{live_parts}
+use Rattle.image_laws.proofs.Finish.{is_finished-zero}
+use Rattle.image_laws.proofs.Tally.{is_finished-ones}
 use Rattle.image_laws.proofs.Kill.{has_of-loses}
 use Rattle.image_laws.proofs.Wanted.{unwanted-idle}
 use Rattle.image_laws.proofs.Unwanted.{unwanted-leaves}
@@ -21,9 +23,28 @@ use Rattle.image_laws.proofs.Sounding.{killing-sound, keeps-on, loses-back}
 use Rattle.image_laws.proofs.DeadEntries.{dead_entry-keeps}
 use Rattle.image_laws.proofs.Finished.{torn_from}
 use Rattle.image_laws.proofs.FreeBlocks.{free_blocks-fall, used-is_not_free}
-use Rattle.image_laws.proofs.TidySteps.{tidy-is_tidy, killing-tidy, killed-tidies, wanted-same}
-use Rattle.image_laws.proofs.RenewStep.{live-used}
+use Rattle.image_laws.proofs.TidySteps.{Entry, tidy-is_tidy, killing-tidy, killed-tidies, wanted-same}
+use Rattle.image_laws.proofs.StillFree.{live-used}
 use Rattle.image_laws.proofs.LiveStep.{kill-changes, dead}
+
+-- a live page is spare or wanted
+pub wanted-or_spare : (g : Geometry) (a : List ℕ) (spare : ℕ → Bool) → IsTidyBut g a spare → (p : ℕ) (x : List ℕ) → live_at g a p ≡ Some x → (spare p ≡ true) ⊎ (is_wanted g a p ≡ true)
+wanted-or_spare g a spare t p x e =
+    let w = live_parts g a p x e in
+    ⊎_elim
+    (λ (s : spare p ≡ true). inl s)
+    (λ (old : Entry g a p). ⊎_elim
+    (λ (zero : entry_of g a p ≡ 0).
+    let none : obj_id x % 0x8000 ≡ 0 = ap (λ (k : ℕ). k % 0x8000) (sym w.entry ∙ zero) in
+    absurd (false≢true (sym (is_finished-zero x none) ∙ w.finished)))
+    (λ (more : (is_free_entry g a p ≡ true) ⊎ (is_wanted g a p ≡ true)). ⊎_elim
+    (λ (free : is_free_entry g a p ≡ true).
+    let ones : entry_of g a p ≡ 0xFFFF = eqb-true _ 0xFFFF (and_parts _ _ free).0 in
+    absurd (false≢true (sym (is_finished-ones x (sym w.entry ∙ ones)) ∙ w.finished)))
+    (λ (wanted : is_wanted g a p ≡ true). inr wanted)
+    more)
+    old)
+    (t.entries p w.entry_page)
 
 -- a live page that its id does not need is killed, where it is spare
 module _ (g : Geometry) (a b d : List ℕ) (r kill : ℕ) (x : List ℕ) (spare : ℕ → Bool) (is : IsImage g a) (m : HasMagics g a) (t : IsTidyBut g a spare) (sp : spare r ≡ true) (live : live_at g a r ≡ Some x)

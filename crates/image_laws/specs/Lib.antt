@@ -10,16 +10,11 @@ pub mod Creating
 pub mod Changes
 pub mod IndexStage
 pub mod InPlace
-pub mod Leads
 pub mod LiveSteps
-pub mod Moving
 pub mod NewFile
 pub mod OneId
 pub mod Put
-pub mod Recopy
 pub mod Reindex
 pub mod Renew
 pub mod Spares
-pub mod Truncate
-pub mod Append
 pub mod Remove

@@ -1,10 +1,11 @@
 -- A put and a kill, each at every cut and done, as changes of the live pages.
-use Rattle.std.specs.Prelude.{◌≡◌, ℕ, ◌+◌, ◌*◌, ◌⊎◌, List, [], ◌∷◌, slice_index, slice_set, Some}
+use Rattle.std.specs.Prelude.{◌≡◌, ◌≢◌, ℕ, ◌+◌, ◌*◌, ◌⊎◌, List, [], ◌∷◌, slice_index, slice_set, false, Some}
 use Rattle.geometry.specs.declared.geometry.Geometry.{Geometry}
 use Rattle.nor_core.specs.Flash.{HalfProgrammed}
 use Rattle.image_laws.specs.Flash.{Programmed}
 use Rattle.image_model.specs.Live.{live_at}
 use Rattle.image_model.specs.Places.{entry_of, IsImage, entry_at}
+use Rattle.image_model.specs.Tidy.{is_free_entry}
 use Rattle.image_laws.specs.Changes.{Gains, Loses}
 use Rattle.image_laws.specs.Programs.{ClearsBit}
 use Rattle.image_laws.specs.NewFile.{IsFreePage}
@@ -37,17 +38,23 @@ pub record PutDone (g : Geometry) (p : ℕ) (page a b : List ℕ) : Type 0 where
   pub image : IsImage g b
   pub agree : Agree g a b p
   pub gains : Gains p page (live_at g a) (live_at g b)
+  -- every other free page stays free
+  pub free : (q : ℕ) → q ≢ p → IsFreePage g a q → IsFreePage g b q
 
 pub record KillLeaves (g : Geometry) (o : ℕ) (a c : List ℕ) : Type 0 where
   pub image : IsImage g c
   pub agree : Agree g a c o
   pub live : (live_at g c ≡ live_at g a) ⊎ Loses o (live_at g a) (live_at g c)
+  -- its entry is not free
+  pub used : is_free_entry g c o ≡ false
 
 pub record KillDone (g : Geometry) (o : ℕ) (a b : List ℕ) : Type 0 where
   pub image : IsImage g b
   pub agree : Agree g a b o
   pub loses : Loses o (live_at g a) (live_at g b)
   pub zero : entry_of g b o ≡ 0
+  -- every other free page stays free
+  pub free : (q : ℕ) → q ≢ o → IsFreePage g a q → IsFreePage g b q
 
 abbrev pub PutChanges : Geometry → Type 0
 PutChanges g = (a0 a1 a2 a3 a4 : List ℕ) (p : ℕ) (page : List ℕ) (fin : ℕ) → IsImage g a0 → IsFreePage g a0 p → IsReadyPage g page fin → Finished g p page fin a0 a1 a2 a3 a4 →

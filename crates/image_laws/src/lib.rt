@@ -1,12 +1,10 @@
 //! Laws of what programs, kills and erases do to what a flash image means.
 #![tactic(auto)]
 
-pub mod appending;
 pub mod blocks;
 pub mod counting;
 pub mod killing;
 pub mod laws;
-pub mod moving;
 pub mod removing;
 pub mod renewing;
 pub mod sound;

@@ -3,10 +3,6 @@ ghost use Rattle.image_laws.specs.OneId.{OneIdIsTidy};
 ghost use Rattle.image_laws.specs.Put.{PlacingIsSound};
 ghost use Rattle.image_laws.specs.LiveSteps.{PutChanges, KillChanges};
 ghost use Rattle.image_laws.specs.Renew.{RenewIsSound, RenewTidies};
-ghost use Rattle.image_laws.specs.Truncate.{TruncatedLeads};
-ghost use Rattle.image_laws.specs.Leads.{CopiesSame, RenamedLeads, RenameTidies};
-ghost use Rattle.image_laws.specs.InPlace.{EntryInPlaceKeeps, EntryInPlaceTidies};
-ghost use Rattle.image_laws.specs.Recopy.{RecopyIsSound, PutDataKeeps, PutDataSpares, RecopyTidies, PutSame};
 ghost use Rattle.image_laws.specs.Flash.{FinishedIsProgrammed};
 ghost use Rattle.image_laws.specs.Spares.{SpareKills, SparesEnd, RenewLeaves, TidyHasMagics};
 
@@ -43,31 +39,4 @@ pub fn spares_go()
 /// What a finished program leaves, byte by byte.
 pub fn finished_is_programmed()
     ensures { FinishedIsProgrammed }
-{}
-
-/// A renewed index page: each cut is before or after, and sound.
-pub fn recopying_puts()
-    ensures cuts { (g : Geometry) → RecopyIsSound g }
-    ensures data_page { (g : Geometry) → PutDataKeeps g }
-    ensures spares { (g : Geometry) → PutDataSpares g }
-    ensures tidy { (g : Geometry) → RecopyTidies g }
-    ensures same { (g : Geometry) → PutSame g }
-{}
-
-/// An entry at or past the page count may be programmed in place.
-pub fn entries_in_place()
-    ensures keeps { (g : Geometry) → EntryInPlaceKeeps g }
-    ensures tidy { (g : Geometry) → EntryInPlaceTidies g }
-{}
-
-/// What a renewed page leads to; a rename leaves the image tidy.
-pub fn renaming_tidies()
-    ensures copies { (g : Geometry) → CopiesSame g }
-    ensures leads { (g : Geometry) → RenamedLeads g }
-    ensures tidy { (g : Geometry) → RenameTidies g }
-{}
-
-/// A truncated header page leads to the first bytes.
-pub fn truncating_leads()
-    ensures { (g : Geometry) → TruncatedLeads g }
 {}

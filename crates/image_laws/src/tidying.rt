@@ -1,6 +1,5 @@
 ghost use Rattle.geometry.specs.declared.geometry.Geometry.{Geometry};
 ghost use Rattle.image_laws.specs.TidySteps.{TidyIsTidy, PlacingEntryTidy, PlacingPageTidy, FinishingTidies, KillingTidy, KilledTidies, FreeBlocksFall, UsedIsNotFree, LiveIsUsed, ProgramsAgree};
-ghost use Rattle.image_laws.specs.Creating.{CreateTidies, CreateIsSound};
 
 /// Each program of a step leaves tidy what it does not touch; finished and killed pages are tidy.
 pub fn steps_tidy()
@@ -18,10 +17,4 @@ pub fn blocks_stay()
     ensures fall { (g : Geometry) → FreeBlocksFall g }
     ensures used { (g : Geometry) → UsedIsNotFree g }
     ensures live { (g : Geometry) → LiveIsUsed g }
-{}
-
-/// A whole create leaves the image tidy, and each cut of it is sound and has all free blocks but one.
-pub fn create_tidies()
-    ensures tidy { (g : Geometry) → CreateTidies g }
-    ensures cuts { (g : Geometry) → CreateIsSound g }
 {}

@@ -27,7 +27,7 @@ use Rattle.image_laws.proofs.Frames.{live_parts}
 use Rattle.image_laws.proofs.Tally.{is_finished-ones}
 use Rattle.image_laws.proofs.Erase.{spoiled-is_dead}
 use Rattle.image_laws.proofs.MixedBlocks.{scrambled-lacks}
-use Rattle.image_laws.proofs.CreateStep.{and_comm_255}
+use Rattle.image_laws.proofs.Bits.{and_comm_255}
 use Rattle.image_laws.proofs.Placing.{page_byte, wider}
 use Rattle.page_put.specs.Fresh.{Freshens, IsFresh, UnitGoes, UnitErased, ErasedTo, with_magic}
 

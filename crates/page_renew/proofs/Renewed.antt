@@ -19,7 +19,7 @@ use Rattle.image_laws.proofs.Append.{find-all}
 use Rattle.image_laws.proofs.Finish.{is_finished-zero}
 use Rattle.image_laws.proofs.Tally.{is_finished-ones}
 use Rattle.image_laws.proofs.Frames.{word_at-same, range-same}
-use Rattle.image_laws.proofs.Leading.{copies-same}
+use Rattle.renew_laws.proofs.Leading.{copies-same}
 use Rattle.image_laws.proofs.Reindexed.{entry-slot}
 use Rattle.image_laws.proofs.Wanted.{judged-whole}
 use Rattle.page_renew.specs.Copies.{kept_of, IsCopy}

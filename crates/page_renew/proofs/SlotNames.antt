@@ -13,7 +13,7 @@ use Rattle.image_model.specs.Live.{Live}
 use Rattle.image_model.specs.Files.{data_of, data_page, span_bytes}
 use Rattle.image_laws.specs.InPlace.{slot_at}
 use Rattle.image_laws.specs.Reindex.{Reindexes, index_span, slot_word, now_data, now_bytes}
-use Rattle.image_laws.proofs.Leading.{copies-same}
+use Rattle.renew_laws.proofs.Leading.{copies-same}
 use Rattle.image_laws.proofs.Places.{same_page}
 
 -- ---- where entries stand

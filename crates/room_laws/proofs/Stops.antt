@@ -15,7 +15,7 @@ use Rattle.image_model.specs.Kinds.{is_data_block}
 use Rattle.image_model.specs.Collect.{deleted_in, is_worth, is_fitting, is_stuck}
 use Rattle.image_laws.proofs.BlockCounts.{reserve-room}
 use Rattle.image_laws.proofs.Damaged.{any_at, any_from}
-use Rattle.image_laws.proofs.Truncating.{ceil-mono}
+use Rattle.image_laws.proofs.Serving.{ceil-mono}
 use Rattle.image_laws.proofs.Tally.{tidy-counts}
 use Rattle.room_laws.specs.Counts.{Counts, unused, for_index, for_data, kind_of}
 use Rattle.room_laws.specs.Volume.{blocks_of, deleted_of, index_total, pages_total, Worth, Fits}

@@ -4,7 +4,7 @@ use Rattle.std.specs.Prelude.{All, Contains}
 use Rattle.std.proofs.lemmas.Nat.{div-mul-add}
 use Rattle.std.proofs.lemmas.Bool.{cases_lt, lt-ltb, le-ltb}
 use Rattle.geometry.specs.Numbers.{ceil}
-use Rattle.image_laws.proofs.Truncating.{ceil-mono}
+use Rattle.image_laws.proofs.Serving.{ceil-mono}
 use Rattle.room_laws.specs.Counts.{Counts, IsBlock, Kind, unused, for_index, for_data, kind_of, if_same, if_kind, if_any}
 use Rattle.room_laws.specs.Volume.{total, blocks_of, free_of, deleted_of, index_total, pages_total, free_beside, IsVolume}
 

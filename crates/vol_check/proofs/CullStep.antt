@@ -31,7 +31,7 @@ use Rattle.image_laws.proofs.Kill.{deleted_from_flag, killing-loses}
 use Rattle.image_laws.proofs.LiveStep.{done_byte}
 use Rattle.image_laws.proofs.Placing.{page_byte}
 use Rattle.image_laws.proofs.Publish.{page-set}
-use Rattle.image_laws.proofs.RenewStep.{live-used}
+use Rattle.image_laws.proofs.StillFree.{live-used}
 use Rattle.image_laws.proofs.Sounding.{sound-by, keeps-by_live, keeps-on, magic-flags}
 use Rattle.image_laws.proofs.TidySteps.{agree_page, agree_entry, agree-on, wide_flags, wanted-same, zeroed}
 use Rattle.image_laws.proofs.DeadEntries.{dead_entry-keeps, and_false}

@@ -13,7 +13,7 @@ use Rattle.image_model.specs.Tables.{damaged_of}
 use Rattle.image_model.specs.Tidy.{IsTidy, is_wanted, is_free_entry, serves}
 use Rattle.image_model.specs.Killed.{is_used, is_dead_entry}
 use Rattle.image_model.specs.Within.{block_number, page_number}
-use Rattle.image_laws.proofs.AppendTidy.{wanted-or_spare}
+use Rattle.image_laws.proofs.SpareKill.{wanted-or_spare}
 use Rattle.image_laws.proofs.TidySteps.{tidy-is_tidy}
 use Rattle.image_laws.proofs.Wants.{wanted_parts}
 use Rattle.vol_check.specs.Stage.{IsClean}

@@ -20,7 +20,7 @@ use Rattle.image_laws.specs.Flash.{Programmed}
 use Rattle.image_laws.proofs.Finished.{finished-programmed}
 use Rattle.image_laws.proofs.Frames.{live_parts}
 use Rattle.image_laws.proofs.FreeBlocks.{all-at}
-use Rattle.image_laws.proofs.CreateStep.{and_comm_255}
+use Rattle.image_laws.proofs.Bits.{and_comm_255}
 use Rattle.page_put.specs.Fresh.{ErasedTo}
 use Rattle.page_put.proofs.Freshening.{magic_small, lies, unit_done, erased_more, counted, both, Stands, stands, outside_on, slots_wide, front_dead, is_free, count_is}
 use Rattle.page_put.proofs.Erasures.{unit_start, unit_fits}

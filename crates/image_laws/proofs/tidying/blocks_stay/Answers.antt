@@ -1,6 +1,6 @@
 use Rattle.image_laws.proofs.TidySteps.{programs-agree}
 use Rattle.image_laws.proofs.FreeBlocks.{free_blocks-fall, used-is_not_free}
-use Rattle.image_laws.proofs.RenewStep.{live-used}
+use Rattle.image_laws.proofs.StillFree.{live-used}
 use Rattle.image_laws.proofs.tidying.blocks_stay.Goals as goal
 
 pub returns-clause-agree : goal.returns-clause-agree

@@ -1,0 +1,11 @@
+pub mod MovedPage
+pub mod MovedTidy
+pub mod ReindexSteps
+pub mod RecopyStep
+pub mod RecopyTidy
+pub mod StayTidy
+pub mod EntryInPlace
+pub mod AppendTidy
+pub mod Leading
+pub mod Truncating
+pub mod Appended

@@ -1,0 +1,5 @@
+pub mod Leads
+pub mod Moving
+pub mod Recopy
+pub mod Truncate
+pub mod Append

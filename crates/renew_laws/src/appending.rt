@@ -1,0 +1,16 @@
+ghost use Rattle.geometry.specs.declared.geometry.Geometry.{Geometry};
+ghost use Rattle.renew_laws.specs.Append.{AppendingTidies, AppendingIsSound, AppendedLeads, AppendedIsWritten, AppendedServes, RenewedTidies};
+
+/// Bytes appended inside the last data page leave the image tidy, and so does a header page that all pages of its file serve.
+pub fn appending_tidies()
+    ensures beside { (g : Geometry) → AppendingTidies g }
+    ensures sound { (g : Geometry) → AppendingIsSound g }
+    ensures renewed { (g : Geometry) → RenewedTidies g }
+{}
+
+/// What a header page with more bytes leads to.
+pub fn appending_leads()
+    ensures leads { (g : Geometry) → AppendedLeads g }
+    ensures written { (g : Geometry) → AppendedIsWritten g }
+    ensures serves { (g : Geometry) → AppendedServes g }
+{}
