@@ -14,7 +14,7 @@ use Rattle.image_model.specs.Tidy.{IsTidy, HasReserve}
 use Rattle.image_model.specs.Collect.{chosen_block, is_stuck, Swept}
 use Rattle.image_model.specs.Sound.{Keeps}
 use Rattle.image_laws.proofs.BlockCounts.{blocks-split}
-use Rattle.image_laws.proofs.OneIdTidy.{mixed-none}
+use Rattle.renew_laws.proofs.OneIdTidy.{mixed-none}
 use Rattle.image_laws.proofs.Sounding.{keeps-on}
 use Rattle.image_laws.proofs.SpareKill.{tidy-has_magics}
 use Rattle.image_laws.proofs.TidySteps.{tidy-is_tidy}

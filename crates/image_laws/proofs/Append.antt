@@ -90,6 +90,10 @@ pub some_page : (o : Option (List ℕ)) → is_none o ≡ false → (z : List �
 some_page None h = cc
 some_page (Some z) h = (z, refl)
 
+pub page_there : (o : Option (List ℕ)) → is_some o ≡ true → (x : List ℕ) × (o ≡ Some x)
+page_there None h = cc
+page_there (Some x) h = (x, refl)
+
 data_of-is : (o : Option (List ℕ)) (span : ℕ) (z : List ℕ) → data_of o span ≡ Some z → o ≡ Some z
 data_of-is None span z h = absurd (none-some z h)
 data_of-is (Some w) span z h = ap (λ (v : List ℕ). Some v) (cond_some (not (names_index w) && (span_of w == span)) w z h).1

@@ -29,13 +29,10 @@ pub mod Doubled
 pub mod DamagedHead
 pub mod Headless
 pub mod Erasing
-pub mod OneIdTidy
 pub mod PutStep
 pub mod PutAgain
-pub mod HeadsServe
 pub mod StillFree
 pub mod LiveStep
-pub mod RenewStep
 pub mod SpareKill
 pub mod BetweenTorn
 pub mod Reindexed

@@ -31,7 +31,7 @@ use Rattle.image_laws.proofs.Kill.{own-loses, index-loses}
 use Rattle.image_laws.proofs.Headless.{headless-is_idle}
 use Rattle.image_laws.proofs.Wants.{wanted_parts, wanted_from}
 use Rattle.image_laws.proofs.DeadEntries.{unused_flags-keep, dead_entry-keeps, deleted_done}
-use Rattle.image_laws.proofs.RenewStep.{some_page'}
+use Rattle.image_laws.proofs.Append.{page_there}
 use Rattle.image_laws.proofs.StillFree.{live-used}
 use Rattle.image_laws.proofs.LiveStep.{done_byte}
 use Rattle.image_laws.proofs.Tally.{is_finished-ones}
@@ -122,7 +122,7 @@ module _ (g : Geometry) (a b : List ℕ) (p flags id k : ℕ) (head : List ℕ) 
           unmixed = λ q r x y e f at. t.unmixed q r x y (back q x e) (back r y f) at;
         };
         headless = λ r x mine e.
-            let z = some_page' (own (live_at g a) id r) mine in
+            let z = page_there (own (live_at g a) id r) mine in
             let w = own-parts (live_at g a) id r z.0 z.1 in
             let same : z.0 ≡ x = same_Some z.0 x (sym w.0 ∙ back r x e) in
             let key : obj_id x % 0x8000 ≡ id = ap (λ (y : List ℕ). obj_id y % 0x8000) (sym same) ∙ w.1 in

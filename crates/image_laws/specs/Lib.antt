@@ -12,9 +12,7 @@ pub mod IndexStage
 pub mod InPlace
 pub mod LiveSteps
 pub mod NewFile
-pub mod OneId
 pub mod Put
 pub mod Reindex
-pub mod Renew
 pub mod Spares
 pub mod Remove

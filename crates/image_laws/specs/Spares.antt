@@ -1,17 +1,15 @@
 -- The pages that a step leaves over, and their kills.
-use Rattle.std.specs.Prelude.{◌≡◌, ℕ, ◌+◌, ◌*◌, ◌%◌, ◌≤◌, List, Bool, true, false, not, ◌==◌, ◌&&◌, Some, is_some, slice_index, slice_set}
+use Rattle.std.specs.Prelude.{◌≡◌, ℕ, ◌+◌, ◌*◌, ◌%◌, ◌≤◌, List, Bool, true, false, not, ◌==◌, ◌&&◌, Some, is_some, slice_index}
 use Rattle.geometry.specs.declared.geometry.Geometry.{Geometry}
-use Rattle.image_model.specs.Live.{live_at, Live, own}
+use Rattle.image_model.specs.Live.{live_at, Live}
 use Rattle.image_model.specs.Headers.{obj_id}
-use Rattle.image_model.specs.Tables.{has_of, counted, table_of}
-use Rattle.table_model.specs.Table.{File, put_file}
+use Rattle.image_model.specs.Tables.{has_of, counted}
 use Rattle.image_model.specs.Tidy.{IsTidy, is_wanted, serves, free_blocks}
 use Rattle.image_laws.specs.TidySteps.{IsTidyBut}
 use Rattle.image_model.specs.Places.{IsImage}
 use Rattle.image_laws.specs.Programs.{ClearsBit}
 use Rattle.image_model.specs.Sound.{HasMagics, Keeps}
-use Rattle.image_laws.specs.LiveSteps.{Finished, Kills, KillCut}
-use Rattle.image_laws.specs.Renew.{Renews}
+use Rattle.image_laws.specs.LiveSteps.{Kills, KillCut}
 
 -- a live page of the id that does not serve it with this header page
 unfoldable pub leftover : Geometry → Live → List ℕ → ℕ → Bool
@@ -34,12 +32,6 @@ SpareKills g = (a b d : List ℕ) (r kill : ℕ) (x : List ℕ) (spare : ℕ →
 -- With none left the image is tidy.
 abbrev pub SparesEnd : Geometry → Type 0
 SparesEnd g = (a : List ℕ) (spare : ℕ → Bool) → ((r : ℕ) → spare r ≡ true → ⊥) → Spares g spare a → IsTidy g a
-
--- A renewed header page, where some pages of the id may be spare before, as data pages put beside: what the new one does not need is spare after the step.
-abbrev pub RenewLeaves : Geometry → Type 0
-RenewLeaves g = (a0 a1 a2 a3 a4 a5 a6 : List ℕ) (p o id : ℕ) (old head : List ℕ) (fin kill : ℕ) (f : File) (before : ℕ → Bool) → Renews g a0 p o id old head fin kill f →
-    Finished g p head fin a0 a1 a2 a3 a4 → Kills g o kill a4 a5 a6 → IsTidyBut g a0 before → ((r : ℕ) → before r ≡ true → is_some (own (live_at g a0) id r) ≡ true) →
-    Spares g (λ r. not (r == o) && leftover g (own (live_at g a0) id) (slice_set head 4 fin) r) a6 × (table_of g a6 ≡ put_file f (table_of g a0))
 
 -- An image that is tidy but for some pages has all its magics.
 abbrev pub TidyHasMagics : Geometry → Type 0

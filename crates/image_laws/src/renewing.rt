@@ -1,15 +1,8 @@
 ghost use Rattle.geometry.specs.declared.geometry.Geometry.{Geometry};
-ghost use Rattle.image_laws.specs.OneId.{OneIdIsTidy};
 ghost use Rattle.image_laws.specs.Put.{PlacingIsSound};
 ghost use Rattle.image_laws.specs.LiveSteps.{PutChanges, KillChanges};
-ghost use Rattle.image_laws.specs.Renew.{RenewIsSound, RenewTidies};
 ghost use Rattle.image_laws.specs.Flash.{FinishedIsProgrammed};
-ghost use Rattle.image_laws.specs.Spares.{SpareKills, SparesEnd, RenewLeaves, TidyHasMagics};
-
-/// Where the pages of one id have changed, its file is put into the table and the image is tidy.
-pub fn changes_tidy()
-    ensures { (g : Geometry) → OneIdIsTidy g }
-{}
+ghost use Rattle.image_laws.specs.Spares.{SpareKills, SparesEnd, TidyHasMagics};
 
 /// Placing any page keeps the image, also where it is cut off.
 pub fn placing_is_sound()
@@ -20,13 +13,6 @@ pub fn placing_is_sound()
 pub fn steps_change()
     ensures put { (g : Geometry) → PutChanges g }
     ensures kill { (g : Geometry) → KillChanges g }
-{}
-
-/// A renewed header page: each cut is before or after and sound, and done it is tidy but for what only the old one named.
-pub fn renewing_puts()
-    ensures cuts { (g : Geometry) → RenewIsSound g }
-    ensures tidy { (g : Geometry) → RenewTidies g }
-    ensures spares { (g : Geometry) → RenewLeaves g }
 {}
 
 /// The pages that a step leaves over may be killed one after the other.

@@ -21,7 +21,7 @@ use Rattle.image_laws.proofs.Tally.{is_finished-ones}
 use Rattle.image_laws.proofs.TidySteps.{Entry, agree_page}
 use Rattle.image_laws.proofs.FreeBlocks.{free_blocks-fall, used-is_not_free}
 use Rattle.image_laws.proofs.Sounding.{sound-by}
-use Rattle.image_laws.proofs.RenewStep.{renew-leaves}
+use Rattle.renew_laws.proofs.RenewStep.{renew-leaves}
 use Rattle.image_laws.proofs.StillFree.{live-used}
 use Rattle.image_laws.proofs.SpareKill.{spares-end, wanted-or_spare}
 use Rattle.renew_laws.proofs.Leading.{no_leftover}

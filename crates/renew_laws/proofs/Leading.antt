@@ -18,7 +18,8 @@ use Rattle.image_laws.proofs.Judge.{find-range}
 use Rattle.image_laws.proofs.Wanted.{judged-whole}
 use Rattle.image_laws.proofs.Reindexed.{judged-parts, pieces-same}
 use Rattle.image_laws.proofs.Tally.{served}
-use Rattle.image_laws.proofs.RenewStep.{renew-leaves, some_page'}
+use Rattle.renew_laws.proofs.RenewStep.{renew-leaves}
+use Rattle.image_laws.proofs.Append.{page_there}
 use Rattle.image_laws.proofs.SpareKill.{spares-end}
 use Rattle.image_laws.proofs.TidySteps.{tidy-is_tidy}
 
@@ -83,7 +84,7 @@ pub no_leftover : (g : Geometry) (pages : Live) (head : List ℕ) (r : ℕ) → 
 unfolding leftover
 no_leftover g pages head r all e =
     let v : (is_some (pages r) ≡ true) × (not (serves g pages head r) ≡ true) = and_parts (is_some (pages r)) _ e in
-    let x = some_page' (pages r) v.0 in
+    let x = page_there (pages r) v.0 in
     let s = all x.0 x.1 in
     let bad : false ≡ true = rw s at v.1 in absurd (cc)
 

@@ -1,3 +1,6 @@
+pub mod OneIdTidy
+pub mod HeadsServe
+pub mod RenewStep
 pub mod MovedPage
 pub mod MovedTidy
 pub mod ReindexSteps

@@ -17,7 +17,7 @@ use Rattle.image_model.specs.Files.{index_page, entry_number, data_of}
 use Rattle.image_model.specs.Tidy.{is_number, serves, is_wanted, is_free_entry}
 use Rattle.image_laws.specs.TidySteps.{Agree, IsTidyBut}
 use Rattle.image_laws.specs.Spares.{leftover, Spares}
-use Rattle.image_laws.specs.OneId.{OneIdChanges}
+use Rattle.renew_laws.specs.OneId.{OneIdChanges}
 use Rattle.image_laws.specs.LiveSteps.{PutDone, KillDone}
 use Rattle.renew_laws.specs.Recopy.{Recopies, PutsData, PutDataSpares, Renamed, RecopyTidies, PutSame}
 use Rattle.image_model.specs.Within.{page_number}
@@ -28,7 +28,7 @@ use Rattle.image_laws.proofs.Tables.{own-gains_other}
 use Rattle.image_laws.proofs.Wants.{wanted_parts, wanted_from}
 use Rattle.image_laws.proofs.Sounding.{mixed-gains}
 use Rattle.image_laws.proofs.TidySteps.{entries-but}
-use Rattle.image_laws.proofs.OneIdTidy.{one_id-spares, unmixed-from, mixed-none}
+use Rattle.renew_laws.proofs.OneIdTidy.{one_id-spares, unmixed-from, mixed-none}
 use Rattle.image_laws.proofs.LiveStep.{put-changes, kill-changes}
 use Rattle.renew_laws.proofs.ReindexSteps.{three_other, three_v, head3, judged3, serves_named, serves_copy, serves_still}
 use Rattle.renew_laws.proofs.RecopyStep.{beside-index, beside-entry, data_gains, data_has, mine4, mine5, live4, clears4, mixed5, others5, unused0, bounds}
@@ -261,7 +261,7 @@ module _ (g : Geometry) (a0 a4 a6 : List ℕ) (p o id h : ℕ) (old page head he
   idle r x e live =
       let w : (olds r ≡ true) × ((is_some (own (live_at g a6) id r) && not (serves g (own (live_at g a6) id) head' r)) ≡ true) = and_parts (olds r) _ e in
       let v : (is_some (own (live_at g a6) id r) ≡ true) × (not (serves g (own (live_at g a6) id) head' r) ≡ true) = and_parts (is_some (own (live_at g a6) id r)) _ w.1 in
-      let y = Rattle.image_laws.proofs.RenewStep.some_page' (own (live_at g a6) id r) v.0 in
+      let y = Rattle.image_laws.proofs.Append.page_there (own (live_at g a6) id r) v.0 in
       let z = own-parts (live_at g a6) id r y.0 y.1 in
       let same : x ≡ y.0 = same_Some x y.0 (sym live ∙ z.0) in (
         ap (λ (k : List ℕ). obj_id k % 0x8000) same ∙ z.1,

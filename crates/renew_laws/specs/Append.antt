@@ -15,7 +15,7 @@ use Rattle.image_model.specs.Tidy.{IsTidy, serves, free_blocks}
 use Rattle.image_model.specs.Sound.{HasMagics, Keeps}
 use Rattle.image_laws.specs.TidySteps.{IsTidyBut}
 use Rattle.image_laws.specs.LiveSteps.{Finished, Kills}
-use Rattle.image_laws.specs.Renew.{Renews}
+use Rattle.renew_laws.specs.Renew.{Renews}
 
 -- Programming bytes of a live data page past the end of its file, done or cut off, leaves the image tidy but for what was
 -- spare, with its table.

@@ -11,7 +11,7 @@ use Rattle.image_model.specs.Tables.{table_of}
 use Rattle.image_model.specs.Tidy.{IsTidy, serves}
 use Rattle.image_laws.specs.LiveSteps.{Finished, Kills}
 use Rattle.image_laws.specs.Reindex.{now_data, now_bytes}
-use Rattle.image_laws.specs.Renew.{Renews}
+use Rattle.renew_laws.specs.Renew.{Renews}
 
 -- Copies with the same bodies: the file is as it was.
 abbrev pub CopiesSame : Geometry → Type 0

@@ -1,3 +1,5 @@
+pub mod OneId
+pub mod Renew
 pub mod Leads
 pub mod Moving
 pub mod Recopy

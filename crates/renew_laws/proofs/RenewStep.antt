@@ -20,11 +20,12 @@ use Rattle.image_laws.specs.NewFile.{IsBeforeOrAfter}
 use Rattle.image_model.specs.Sound.{HasMagics, IsMixed}
 use Rattle.image_laws.specs.TidySteps.{Agree}
 use Rattle.image_laws.specs.Creating.{CutOf}
-use Rattle.image_laws.specs.OneId.{OneIdChanges}
+use Rattle.renew_laws.specs.OneId.{OneIdChanges}
 use Rattle.image_laws.specs.LiveSteps.{PutCut, KillCut, PutLeaves, PutDone, KillLeaves}
-use Rattle.image_laws.specs.Spares.{leftover, RenewLeaves}
-use Rattle.image_laws.specs.Renew.{Renews, RenewIsSound, RenewTidies}
+use Rattle.image_laws.specs.Spares.{leftover}
+use Rattle.renew_laws.specs.Renew.{Renews, RenewIsSound, RenewTidies, RenewLeaves}
 use Rattle.image_model.specs.Within.{page_number}
+use Rattle.image_laws.proofs.Append.{page_there}
 use Rattle.image_laws.proofs.Frames.{live_parts}
 use Rattle.image_laws.proofs.Placing.{page_byte}
 use Rattle.image_laws.proofs.Publish.{either, own-before, own-after, own-others}
@@ -37,14 +38,10 @@ use Rattle.image_laws.proofs.Sounding.{sound-by, mixed-gains, mixed-from, loses-
 use Rattle.image_laws.proofs.FreeBlocks.{free_blocks-fall, used-is_not_free}
 use Rattle.image_laws.proofs.Tally.{is_finished-ones}
 use Rattle.image_laws.proofs.TidySteps.{tidy-is_tidy}
-use Rattle.image_laws.proofs.HeadsServe.{serves-heads}
-use Rattle.image_laws.proofs.OneIdTidy.{one_id-is_tidy, one_id-spares}
+use Rattle.renew_laws.proofs.HeadsServe.{serves-heads}
+use Rattle.renew_laws.proofs.OneIdTidy.{one_id-is_tidy, one_id-spares}
 use Rattle.image_laws.proofs.LiveStep.{put-changes, kill-changes}
 use Rattle.image_laws.proofs.StillFree.{live-used}
-
-pub some_page' : (o : Option (List ℕ)) → is_some o ≡ true → (x : List ℕ) × (o ≡ Some x)
-some_page' None h = cc
-some_page' (Some x) h = (x, refl)
 
 module _ (g : Geometry) (a0 : List ℕ) (p o id : ℕ) (old head : List ℕ) (fin kill : ℕ) (f : File) (start : Renews g a0 p o id old head fin kill f) where
   page : List ℕ
@@ -190,7 +187,7 @@ module _ (g : Geometry) (a0 : List ℕ) (p o id : ℕ) (old head : List ℕ) (fi
         unused = start.leads.unused;
         killed = λ r e yes none. ⊎_elim
             (λ (b : before r ≡ true).
-            let x = some_page' (own (live_at g a0) id r) (inside r b) in
+            let x = page_there (own (live_at g a0) id r) (inside r b) in
             ⊎_elim
             (λ (gone : r ≡ o). inr (ap (entry_of g d) gone ∙ zero))
             (λ (left : r ≡ o → ⊥).
@@ -228,7 +225,7 @@ module _ (g : Geometry) (a0 : List ℕ) (p o id : ℕ) (old head : List ℕ) (fi
       idle5 : (r : ℕ) (x : List ℕ) → (not (r == o) && leftover g (own (live_at g a0) id) (set head 4 fin) r) ≡ true → live_at g d r ≡ Some x → (obj_id x % 0x8000 ≡ id) × (serves g (own (live_at g d) id) (set head 4 fin) r ≡ false)
       idle5 r x e live =
           let w = spared r e in
-          let y = some_page' (own (live_at g a0) id r) w.2 in
+          let y = page_there (own (live_at g a0) id r) w.2 in
           let z = own-parts (live_at g a0) id r y.0 y.1 in
           let same : x ≡ y.0 = same_Some x y.0 (sym live ∙ loses.others r w.0 ∙ gains.others r w.1 ∙ z.0) in
           (ap (λ (k : List ℕ). obj_id k % 0x8000) same ∙ z.1, serves5 r w.1 w.0 false w.3)

@@ -1,5 +1,5 @@
-use Rattle.image_laws.proofs.RenewStep.{renew-is_sound, renew-tidies, renew-leaves}
-use Rattle.image_laws.proofs.renewing.renewing_puts.Goals as goal
+use Rattle.renew_laws.proofs.RenewStep.{renew-is_sound, renew-tidies, renew-leaves}
+use Rattle.renew_laws.proofs.renewing.renewing_puts.Goals as goal
 
 pub returns-clause-cuts : goal.returns-clause-cuts
 returns-clause-cuts c = renew-is_sound

@@ -1,5 +1,5 @@
 -- A header page is renewed: the new one is put, the old one is killed.
-use Rattle.std.specs.Prelude.{◌≡◌, ◌≢◌, ℕ, ◌+◌, ◌*◌, ◌⊎◌, List, [], Bool, true, Some, slice_index, slice_set}
+use Rattle.std.specs.Prelude.{◌≡◌, ◌≢◌, ℕ, ◌+◌, ◌*◌, ◌⊎◌, List, [], Bool, true, not, ◌==◌, ◌&&◌, Some, is_some, slice_index, slice_set}
 use Rattle.geometry.specs.declared.geometry.Geometry.{Geometry}
 use Rattle.image_model.specs.Live.{live_at, own}
 use Rattle.table_model.specs.Table.{File, put_file}
@@ -13,6 +13,7 @@ use Rattle.image_model.specs.Sound.{HasMagics}
 use Rattle.image_laws.specs.SoundSteps.{IsOfKind}
 use Rattle.image_laws.specs.TidySteps.{IsTidyBut}
 use Rattle.image_laws.specs.Creating.{CutOf}
+use Rattle.image_laws.specs.Spares.{Spares, leftover}
 use Rattle.image_laws.specs.Put.{IsReadyPage}
 use Rattle.image_laws.specs.LiveSteps.{Finished, PutCut, Kills, KillCut}
 
@@ -40,3 +41,9 @@ RenewTidies g = (a0 a1 a2 a3 a4 a5 a6 : List ℕ) (p o id : ℕ) (old head : Lis
     Finished g p head fin a0 a1 a2 a3 a4 → Kills g o kill a4 a5 a6 → IsTidy g a0 →
     ((r : ℕ) (x : List ℕ) → r ≢ o → own (live_at g a0) id r ≡ Some x → (spare r ≡ true) ⊎ (serves g (own (live_at g a0) id) (slice_set head 4 fin) r ≡ true)) →
     IsTidyBut g a6 spare × (table_of g a6 ≡ put_file f (table_of g a0))
+
+-- A renewed header page, where some pages of the id may be spare before, as data pages put beside: what the new one does not need is spare after the step.
+abbrev pub RenewLeaves : Geometry → Type 0
+RenewLeaves g = (a0 a1 a2 a3 a4 a5 a6 : List ℕ) (p o id : ℕ) (old head : List ℕ) (fin kill : ℕ) (f : File) (before : ℕ → Bool) → Renews g a0 p o id old head fin kill f →
+    Finished g p head fin a0 a1 a2 a3 a4 → Kills g o kill a4 a5 a6 → IsTidyBut g a0 before → ((r : ℕ) → before r ≡ true → is_some (own (live_at g a0) id r) ≡ true) →
+    Spares g (λ r. not (r == o) && leftover g (own (live_at g a0) id) (slice_set head 4 fin) r) a6 × (table_of g a6 ≡ put_file f (table_of g a0))

@@ -13,7 +13,7 @@ use Rattle.image_model.specs.Tables.{has_of, counted, damages, table_of, damaged
 use Rattle.image_model.specs.Tidy.{IsTidy, serves, is_wanted, is_wanted_as}
 use Rattle.image_laws.specs.TidySteps.{IsTidyBut}
 use Rattle.image_model.specs.Sound.{IsMixed}
-use Rattle.image_laws.specs.OneId.{OneIdChanges, OneIdIsTidy}
+use Rattle.renew_laws.specs.OneId.{OneIdChanges, OneIdIsTidy}
 use Rattle.image_laws.specs.Spares.{Spares, is_in_table}
 use Rattle.image_laws.proofs.Frames.{live_at-kept}
 use Rattle.image_laws.proofs.Records.{counted-kept, counted-new}

@@ -1,5 +1,0 @@
-use Rattle.image_laws.proofs.OneIdTidy.{one_id-is_tidy}
-use Rattle.image_laws.proofs.renewing.changes_tidy.Goals as goal
-
-pub returns : goal.returns
-returns c = one_id-is_tidy
