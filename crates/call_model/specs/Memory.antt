@@ -1,7 +1,7 @@
 -- What a volume remembers beside its device, and the images of a volume at a moment of the flat table.
-use Rattle.std.specs.Prelude.{◌≡◌, ℕ, ◌+◌, ◌-◌, ◌<◌, ◌≤◌, List, length, take, All, true, Option, Some, None}
+use Rattle.std.specs.Prelude.{◌≡◌, ℕ, ◌+◌, ◌-◌, ◌<◌, ◌≤◌, List, length, take, true, Option, Some, None}
 use Rattle.geometry.specs.declared.geometry.Geometry.{Geometry}
-use Rattle.table_model.specs.Table.{File, Open, file_of, put_file}
+use Rattle.table_model.specs.Table.{File, Open, State, file_of, put_file}
 use Rattle.table_model.specs.Room.{has_room}
 use Rattle.table_model.specs.Descriptors.{open_at, appends, may_write}
 use Rattle.table_model.specs.Files.{written}
@@ -37,16 +37,26 @@ pub record Waits (g : Geometry) (m : Moment) (r : Run) : Type 0 where
   pub writes : may_write descriptor.flags ≡ true
   pub at_end : appends descriptor.flags ≡ true → r.start ≡ length file.bytes
 
+-- an open descriptor is on a file of the table, at a place inside it
+pub record IsOpenOn (s : State) (d : Open) : Type 0 where
+  pub file : File
+  pub there : file_of d.id s.table ≡ Some file
+  pub inside : d.offset ≤ length file.bytes
+
+-- each open descriptor of a state is so
+abbrev pub OpensFiles : State → Type 0
+OpensFiles s = (fd : ℕ) (d : Open) → open_at s.slots fd ≡ Some d → IsOpenOn s d
+
 -- what waits at a moment, on an image: nothing, and every step is settled; or a run, and two blocks are free
 abbrev pub RunWaits : Geometry → List ℕ → Moment → Option Run → Type 0
 RunWaits g image m None = m ≡ settled_at m.state
 RunWaits g image m (Some r) = Waits g m r × HasReserve g image
 
 -- An image and what is remembered are those of a volume at a moment: the image is tidy and has the settled table, the descriptors are
--- those of the state, and the run is what waits. No call of this build opens a descriptor.
+-- those of the state, each open one on a file of its table, and the run is what waits.
 pub record IsAt (g : Geometry) (image : List ℕ) (memory : Memory) (m : Moment) : Type 0 where
   pub tidy : IsTidy g image
   pub table : table_of g image ≡ m.settled
   pub slots : memory.slots ≡ m.state.slots
   pub run : RunWaits g image m memory.run
-  pub closed : All (λ d. d ≡ None) m.state.slots
+  pub opened : OpensFiles m.state

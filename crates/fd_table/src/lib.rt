@@ -8,6 +8,7 @@ mod table;
 
 pub use error::FdErr;
 pub use slot::FdSlot;
+pub use slots::{close_file, first_closed, open_slot, pull_file_back, put};
 pub use table::FdTable;
 
 #[cfg(test)]

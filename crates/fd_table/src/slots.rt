@@ -16,7 +16,7 @@ pub(crate) fn close(slots: &mut [FdSlot])
 }
 
 /// The lowest closed descriptor.
-pub(crate) fn first_closed(slots: &[FdSlot]) -> Result<u16, FdErr>
+pub fn first_closed(slots: &[FdSlot]) -> Result<u16, FdErr>
     ensures within { IfOk result (λ fd. (0 < fd) × (fd ≤ length slots.now)) }
     ensures lowest { IfOk result (λ fd. lowest_closed (descriptors slots.now) ≡ Some fd) }
     ensures full { OnErr result (lowest_closed (descriptors slots.now) ≡ None) }
@@ -34,7 +34,7 @@ pub(crate) fn first_closed(slots: &[FdSlot]) -> Result<u16, FdErr>
 }
 
 /// The slot of an open descriptor.
-pub(crate) fn open_slot(slots: &[FdSlot], fd: u16) -> Result<FdSlot, FdErr>
+pub fn open_slot(slots: &[FdSlot], fd: u16) -> Result<FdSlot, FdErr>
     ensures within { OnOk result ((0 < fd) × (fd ≤ length slots.now)) }
     ensures used { IfOk result (λ s. s.used ≡ true) }
     ensures found { IfOk result (λ s. open_at (descriptors slots.now) fd ≡ Some (opened s)) }
@@ -53,7 +53,7 @@ pub(crate) fn open_slot(slots: &[FdSlot], fd: u16) -> Result<FdSlot, FdErr>
 }
 
 /// Puts a slot in the place of a descriptor.
-pub(crate) fn put(slots: &mut [FdSlot], fd: u16, slot: FdSlot)
+pub fn put(slots: &mut [FdSlot], fd: u16, slot: FdSlot)
     requires some { 0 < fd }
     requires within { fd ≤ length slots.old }
     ensures { descriptors slots.new ≡ put_at (descriptors slots.old) fd (held slot) }
@@ -72,7 +72,7 @@ fn without(slot: FdSlot, id: u16) -> FdSlot
 }
 
 /// Closes each slot on a file.
-pub(crate) fn close_file(slots: &mut [FdSlot], id: u16)
+pub fn close_file(slots: &mut [FdSlot], id: u16)
     ensures { descriptors slots.new ≡ map (without_file id) (descriptors slots.old) }
 {
     for slot in slots.iter_mut() {
@@ -95,7 +95,7 @@ fn pulled(slot: FdSlot, id: u16, size: u32) -> FdSlot
 }
 
 /// Pulls each slot on a file back.
-pub(crate) fn pull_file_back(slots: &mut [FdSlot], id: u16, size: u32)
+pub fn pull_file_back(slots: &mut [FdSlot], id: u16, size: u32)
     ensures { descriptors slots.new ≡ map (pulled_back id size) (descriptors slots.old) }
 {
     for slot in slots.iter_mut() {
