@@ -9,7 +9,7 @@ ghost use Rattle.image_model.specs.Headers.{size_of};
 ghost use Rattle.image_model.specs.Live.{live_at, own};
 ghost use Rattle.image_model.specs.Files.{index_page};
 ghost use Rattle.flash_view.specs.Same.{OnlyLooks};
-ghost use Rattle.file_read.specs.Whole.{IsFileOf, IsFileAt, IsWhole, IsRead, Reading};
+ghost use Rattle.file_read.specs.Whole.{IsFileOf, IsFileAt, IsRead, Reading};
 ghost use Rattle.file_read.specs.Spans.{index_span as the_index_span, named_page};
 ghost use Rattle.file_read.specs.Missing.{IsNoPage, IsMissing, HoldsOrFault};
 
@@ -247,6 +247,7 @@ pub fn read_from<N: Nor>(
     ensures cause { IsErrOf result StepErr.DeviceFault → Rose (N.faults v.old.nor.now) (N.faults v.new.nor.now) }
     ensures looks { OnlyLooks v.old v.new }
     ensures missing { IfErr result (IsMissing id) }
+    ensures within { IfOk result (λ n. n ≤ length into.old) }
     ensures told { N.tells v.old.nor.now → (f : File) → IsFileAt v.old.geometry (N.bytes v.old.nor.now) id header f → HoldsOrFault result (λ n. IsRead f at into.old into.new n) }
 {
     match size_in(v, header) {
@@ -261,8 +262,8 @@ pub fn read_from<N: Nor>(
 }
 
 /// The bytes of a whole file from byte `at` on, as many as there are and fit; none at the file's end and past it. The
-/// answer is how many bytes were read. What is refused beside a fault (`Damaged`) is a page that is no longer there,
-/// which only a device that doesn't tell its bytes can answer. A file that has the name of another one is read too.
+/// answer is how many bytes were read. What is refused beside a fault (`Damaged`) is a page that isn't there: the id has no
+/// whole file, or the device doesn't tell its bytes. A file that has the name of another one is read too.
 #[tactic(auto, using(flash_view::proofs::Looking::looks_then))]
 pub fn read_at<N: Nor>(
     v: &mut View<'_, N>,
@@ -270,12 +271,11 @@ pub fn read_at<N: Nor>(
     at: u32,
     into: &mut [u8],
 ) -> Result<u32, StepErr>
-    requires { N.tells v.old.nor.now → IsWhole v.old.geometry (N.bytes v.old.nor.now) id }
     ensures cause { IsErrOf result StepErr.DeviceFault → Rose (N.faults v.old.nor.now) (N.faults v.new.nor.now) }
     ensures looks { OnlyLooks v.old v.new }
     ensures missing { IfErr result (IsMissing id) }
-    ensures undamaged { N.tells v.old.nor.now → IfErr result (λ why. why ≡ StepErr.DeviceFault) }
-    ensures told { N.tells v.old.nor.now → (f : File) → IsFileOf v.old.geometry (N.bytes v.old.nor.now) id f → IfOk result (λ n. IsRead f at into.old into.new n) }
+    ensures within { IfOk result (λ n. n ≤ length into.old) }
+    ensures told { N.tells v.old.nor.now → (f : File) → IsFileOf v.old.geometry (N.bytes v.old.nor.now) id f → HoldsOrFault result (λ n. IsRead f at into.old into.new n) }
 {
     match v.find_index(id, 0) {
         Err(Failed) => Err(StepErr::DeviceFault),
