@@ -83,7 +83,7 @@ fn one_field_is_programmed_and_nothing_else(rt: HostRuntime) -> Result<(), Fail>
 }
 
 // Reads the file of an id, where the table has one. The marks are one for each page.
-#[tactic(auto, using(flash_view::proofs::Looking::looks_then, crate::proofs::Whole::whole_of))]
+#[tactic(auto, using(flash_view::proofs::Looking::looks_then))]
 fn read_whole(
     v: &mut View<'_, MemBoard>,
     marks: &mut [u8],

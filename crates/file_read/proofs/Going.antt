@@ -22,11 +22,3 @@ passed e (Ok x) P Q err same h = absurd (cc)
 passed e (Err x) P Q err same h = rw same (fault e P Q h)
 
 -- the two halves of it
-pub holds_ok : {T : Type 0} (r : Result T StepErr) (P : T → Type 0) → HoldsOrFault r P → IfOk r P
-holds_ok (Ok x) P h = h
-holds_ok (Err why) P h = tt
-
-pub holds_err : {T : Type 0} (r : Result T StepErr) (P : T → Type 0) → HoldsOrFault r P → IfErr r (λ why. why ≡ DeviceFault)
-holds_err (Ok x) P h = tt
-holds_err (Err DeviceFault) P h = refl
-holds_err (Err (Damaged differ)) P h = absurd h

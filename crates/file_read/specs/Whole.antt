@@ -15,11 +15,6 @@ pub record IsFileOf (g : Geometry) (image : List ℕ) (id : ℕ) (f : File) : Ty
 pub record IsFileAt (g : Geometry) (image : List ℕ) (id page : ℕ) (f : File) : Type 0 where
   pub is : found g (own (live_at g image) id) id ≡ Some (page, Ok f)
 
--- the id is whole
-pub record IsWhole (g : Geometry) (image : List ℕ) (id : ℕ) : Type 0 where
-  pub file : File
-  pub is : IsFileOf g image id file
-
 -- The first n bytes are those of the file from a place on, as many as there are and fit. The others stay.
 pub record IsRead (f : File) (at : ℕ) (old new : List ℕ) (n : ℕ) : Type 0 where
   pub count : n ≡ length (bytes_at (length old) at f)
