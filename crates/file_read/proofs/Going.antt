@@ -20,5 +20,3 @@ holds_more (Err (Damaged differ)) P Q more h = h
 pub passed : {T U : Type 0} (e : StepErr) (r : Result U StepErr) (P : T → Type 0) (Q : U → Type 0) → IsErr r → IsErrAnd r (λ x. x ≡ e) → HoldsOrFault (Err e) P → HoldsOrFault r Q
 passed e (Ok x) P Q err same h = absurd (cc)
 passed e (Err x) P Q err same h = rw same (fault e P Q h)
-
--- the two halves of it

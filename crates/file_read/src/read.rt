@@ -247,7 +247,7 @@ pub fn read_from<N: Nor>(
     ensures cause { IsErrOf result StepErr.DeviceFault → Rose (N.faults v.old.nor.now) (N.faults v.new.nor.now) }
     ensures looks { OnlyLooks v.old v.new }
     ensures missing { IfErr result (IsMissing id) }
-    ensures within { IfOk result (λ n. n ≤ length into.old) }
+    ensures within { IfOk result (λ n. (n ≤ length into.old) × (at + n < 2 ^ 32)) }
     ensures told { N.tells v.old.nor.now → (f : File) → IsFileAt v.old.geometry (N.bytes v.old.nor.now) id header f → HoldsOrFault result (λ n. IsRead f at into.old into.new n) }
 {
     match size_in(v, header) {
@@ -274,7 +274,7 @@ pub fn read_at<N: Nor>(
     ensures cause { IsErrOf result StepErr.DeviceFault → Rose (N.faults v.old.nor.now) (N.faults v.new.nor.now) }
     ensures looks { OnlyLooks v.old v.new }
     ensures missing { IfErr result (IsMissing id) }
-    ensures within { IfOk result (λ n. n ≤ length into.old) }
+    ensures within { IfOk result (λ n. (n ≤ length into.old) × (at + n < 2 ^ 32)) }
     ensures told { N.tells v.old.nor.now → (f : File) → IsFileOf v.old.geometry (N.bytes v.old.nor.now) id f → HoldsOrFault result (λ n. IsRead f at into.old into.new n) }
 {
     match v.find_index(id, 0) {
