@@ -1,1 +1,6 @@
 pub mod Safety
+pub mod Slots
+pub mod Tables
+pub mod Unused
+pub mod Kept
+pub mod Opens
