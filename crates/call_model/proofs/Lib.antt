@@ -4,3 +4,4 @@ pub mod Tables
 pub mod Unused
 pub mod Kept
 pub mod Opens
+pub mod Names

@@ -48,7 +48,7 @@ all_pass t a (suc n) e = ⊎_elim
     (cases_Bool (t a))
 
 -- the first that passes does
-found-passes : {X : Type 0} (t : X → Bool) (xs : List X) (x : X) → find t xs ≡ Some x → t x ≡ true
+pub found-passes : {X : Type 0} (t : X → Bool) (xs : List X) (x : X) → find t xs ≡ Some x → t x ≡ true
 found-passes t [] x e = absurd (none-some x e)
 found-passes t (y ∷ xs) x e = ⊎_elim
     (λ (yes : t y ≡ true). let is = same_Some y x (rw yes at e) in rw (← is) yes)
