@@ -1,1 +1,7 @@
 pub mod Safety
+pub mod Slots
+pub mod Tables
+pub mod Unused
+pub mod Kept
+pub mod Opens
+pub mod Names

@@ -1,3 +1,4 @@
 pub mod Safe
 pub mod Memory
 pub mod Calls
+pub mod Tables

@@ -1,6 +1,8 @@
 //! A volume between two calls: what its device and its memory are, what a cut in a call may leave, and how a call is answered.
 #![tactic(auto)]
 
+pub mod descriptors;
+
 ghost use Rattle.std.specs.Prelude.{◌≡◌, ℕ, List};
 ghost use Rattle.geometry.specs.declared.geometry.Geometry.{Geometry};
 ghost use Rattle.image_model.specs.Tidy.{HasReserve, Mends};
