@@ -5,7 +5,7 @@ mod pages;
 mod read;
 mod stat;
 
-pub use read::{read_at, read_from};
+pub use read::{no_header, read_at, read_from};
 pub use stat::{stat_at, stat_in};
 
 #[cfg(test)]

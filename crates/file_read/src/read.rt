@@ -19,8 +19,8 @@ use nor_core::{Failed, Nor, NorState};
 use page_layout::{INDEX_BIT, UNDEFINED_SIZE};
 use table_model::{Differ, Tag};
 
-// That no header page of an object was found.
-fn no_header(id: u16) -> Differ
+/// That no header page of a file was found where one was wanted: no page number, and an id and a span that no page has.
+pub fn no_header(id: u16) -> Differ
     ensures { IsNoPage id result }
 {
     Differ {
