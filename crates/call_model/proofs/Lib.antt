@@ -5,3 +5,4 @@ pub mod Unused
 pub mod Kept
 pub mod Opens
 pub mod Names
+pub mod After

@@ -2,3 +2,4 @@ pub mod Safe
 pub mod Memory
 pub mod Calls
 pub mod Tables
+pub mod Moves

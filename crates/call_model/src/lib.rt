@@ -2,6 +2,7 @@
 #![tactic(auto)]
 
 pub mod descriptors;
+pub mod windows;
 
 ghost use Rattle.std.specs.Prelude.{◌≡◌, ℕ, List};
 ghost use Rattle.geometry.specs.declared.geometry.Geometry.{Geometry};
