@@ -6,3 +6,5 @@ pub mod Kept
 pub mod Opens
 pub mod Names
 pub mod After
+pub mod Room
+pub mod Parts

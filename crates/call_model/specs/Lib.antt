@@ -3,3 +3,4 @@ pub mod Memory
 pub mod Calls
 pub mod Tables
 pub mod Moves
+pub mod Parts
