@@ -5,3 +5,6 @@ pub mod Unused
 pub mod Kept
 pub mod Opens
 pub mod Names
+pub mod After
+pub mod Room
+pub mod Parts

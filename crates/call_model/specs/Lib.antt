@@ -2,3 +2,5 @@ pub mod Safe
 pub mod Memory
 pub mod Calls
 pub mod Tables
+pub mod Moves
+pub mod Parts

@@ -15,7 +15,6 @@ pub fn descriptors_stay_open()
 {}
 
 /// Where the files of an image's table go by their ids, those of a moment do, also while written bytes wait.
-#[tactic(auto, using(crate::proofs::Names::names_at))]
 pub fn names_stay_by_id()
     ensures { (g : Geometry) (image : List ℕ) (memory : Memory) (m : Moment) → NamesById (table_of g image) → IsAt g image memory m → NamesById m.state.table }
 {}

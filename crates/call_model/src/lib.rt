@@ -1,7 +1,10 @@
 //! A volume between two calls: what its device and its memory are, what a cut in a call may leave, and how a call is answered.
 #![tactic(auto)]
 
+pub mod capacity;
 pub mod descriptors;
+pub mod windows;
+pub mod writes;
 
 ghost use Rattle.std.specs.Prelude.{◌≡◌, ℕ, List};
 ghost use Rattle.geometry.specs.declared.geometry.Geometry.{Geometry};
