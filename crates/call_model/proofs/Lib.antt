@@ -11,3 +11,4 @@ pub mod Parts
 pub mod Writing
 pub mod Waiting
 pub mod Settling
+pub mod Empty

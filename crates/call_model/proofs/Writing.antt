@@ -32,7 +32,7 @@ write-steps : (g : Geometry) (spare : Bool) (s : State) (fd : ℕ) (bytes : List
 unfolding steps done_steps write_steps open_file
 write-steps g spare s fd bytes d f w = rw (write-answer g spare s fd bytes d f w) (rw w.descriptor (rw w.file refl))
 
-brings-by : (s : State) (fd : ℕ) (bytes : List ℕ) (d : Open) (f : File) → open_at s.slots fd ≡ Some d → file_of d.id s.table ≡ Some f → incoming_of s (Writes fd bytes) ≡ Some (brought fd bytes d f)
+pub brings-by : (s : State) (fd : ℕ) (bytes : List ℕ) (d : Open) (f : File) → open_at s.slots fd ≡ Some d → file_of d.id s.table ≡ Some f → incoming_of s (Writes fd bytes) ≡ Some (brought fd bytes d f)
 unfolding incoming_of open_file
 brings-by s fd bytes d f at there = rw at (rw there refl)
 

@@ -1,5 +1,5 @@
 -- A write that is done.
-use Rattle.std.specs.Prelude.{◌≡◌, ℕ, ◌<◌, ◌≤◌, ◌+◌, ◌⊎◌, List, ◌∷◌, length, Bool, true, false, Some, None}
+use Rattle.std.specs.Prelude.{◌≡◌, ℕ, ◌<◌, ◌≤◌, ◌+◌, ◌⊎◌, List, [], ◌∷◌, length, Bool, true, false, Some, None}
 use Rattle.geometry.specs.declared.geometry.Geometry.{Geometry}
 use Rattle.geometry.specs.Numbers.{body}
 use Rattle.table_model.specs.Table.{File, Open, State, file_of, put_file}
@@ -87,3 +87,13 @@ WaitEnds g = (m : Moment) (r : Run) (f : File) → Waits g m r → file_of r.id 
 -- An image with the table of a state, and nothing that waits, is at the moment where all is settled.
 abbrev pub EndedAt : Geometry → Type 0
 EndedAt g = (image : List ℕ) (s : State) → IsTidy g image → table_of g image ≡ s.table → OpensFiles s → IsAt g image (record { slots = s.slots; run = None }) (settled_at s)
+
+-- A write of no byte changes nothing, but that it settles what it doesn't go on with.
+pub record EmptyWrite (g : Geometry) (spare : Bool) (m : Moment) (fd : ℕ) : Type 0 where
+  pub answer_is : answer g spare m.state (Writes fd []) ≡ gives (Tells 0) m.state
+  pub steps_are : steps g spare m.state (Writes fd []) ≡ []
+  pub goes_on : continues g m.window (incoming_of m.state (Writes fd [])) ≡ true → after g spare m (Writes fd []) ≡ m
+  pub settles : continues g m.window (incoming_of m.state (Writes fd [])) ≡ false → after g spare m (Writes fd []) ≡ settled_at m.state
+
+abbrev pub EmptyIsDone : Geometry → Type 0
+EmptyIsDone g = (spare : Bool) (m : Moment) (fd : ℕ) (d : Open) (f : File) → open_at m.state.slots fd ≡ Some d → file_of d.id m.state.table ≡ Some f → may_write d.flags ≡ true → EmptyWrite g spare m fd

@@ -1,10 +1,11 @@
 ghost use Rattle.geometry.specs.declared.geometry.Geometry.{Geometry};
-ghost use Rattle.call_model.specs.Writing.{WriteIsDone, DoneIsWrite, ContinuesAccepted, BegunMoment, OnMoment, DirectMoment, WaitBegins, WaitGoesOn, WaitSettles, WaitEnds, EndedAt};
+ghost use Rattle.call_model.specs.Writing.{WriteIsDone, DoneIsWrite, EmptyIsDone, ContinuesAccepted, BegunMoment, OnMoment, DirectMoment, WaitBegins, WaitGoesOn, WaitSettles, WaitEnds, EndedAt};
 
-/// What a write of at least one byte answers where it isn't refused, its steps, and whether it goes on with what waits.
+/// What a write answers where it isn't refused, its steps, and whether it goes on with what waits.
 pub fn writes_are_done()
     ensures done { (g : Geometry) → WriteIsDone g }
     ensures only { (g : Geometry) → DoneIsWrite g }
+    ensures empty { (g : Geometry) → EmptyIsDone g }
     ensures accepted { (g : Geometry) → ContinuesAccepted g }
 {}
 
