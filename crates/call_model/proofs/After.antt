@@ -3,18 +3,33 @@ use Rattle.std.proofs.Common.{◌≡◌, ℕ, List, [], replicate, Bool, true, f
 use Rattle.std.proofs.lemmas.Bool.{cases_Bool}
 use Rattle.std.proofs.lemmas.List.{length-replicate}
 use Rattle.geometry.specs.declared.geometry.Geometry.{Geometry}
-use Rattle.table_model.specs.Table.{File, State}
-use Rattle.table_model.specs.Ask.{Writes, Fills}
+use Rattle.table_model.specs.Table.{File, Open, State}
+use Rattle.table_model.specs.Ask.{Writes, Fills, Tells}
+use Rattle.table_model.specs.Reply.{Tells as Told}
+use Rattle.table_model.specs.Descriptors.{open_at}
+use Rattle.table_model.specs.Outcome.{gives, on_descriptor}
+use Rattle.table_model.specs.Calls.{answer_tell}
 use Rattle.table_model.specs.Flat.{answer}
 use Rattle.table_model.specs.Steps.{steps, done_steps, is_refusal}
 use Rattle.table_model.specs.Window.{Moment, after, settled_at, incoming_of, incoming_at, from_settled, IsAmong}
 use Rattle.write_window.specs.Runs.{Run}
 use Rattle.call_model.specs.Memory.{RunWaits}
-use Rattle.call_model.specs.Moves.{LeavesWindow, RefusedSettles, OtherSettles, WriteGoesOn, WriteBegins, AfterSettled, AfterRefused, SettledAmong, FillsAsWrites}
+use Rattle.call_model.specs.Moves.{LeavesWindow, TellStays, RefusedSettles, OtherSettles, WriteGoesOn, WriteBegins, AfterSettled, AfterRefused, SettledAmong, FillsAsWrites}
 
 pub leaves-window : (g : Geometry) → LeavesWindow g
 unfolding after
 leaves-window g spare m ask leaves = rw leaves refl
+
+tell-by : (s : State) (o : Option Open) → (on_descriptor o s (λ d. gives (Told d.offset) s)).next ≡ s
+tell-by s None = refl
+tell-by s (Some d) = refl
+
+tell-next : (g : Geometry) (spare : Bool) (s : State) (fd : ℕ) → (answer g spare s (Tells fd)).next ≡ s
+unfolding answer answer_tell
+tell-next g spare s fd = tell-by s (open_at s.slots fd)
+
+pub tell-stays : (g : Geometry) → TellStays g
+tell-stays g spare m fd = leaves-window g spare m (Tells fd) refl ∙ ap (λ (s : State). record m { state = s }) (tell-next g spare m.state fd)
 
 pub refused-settles : (g : Geometry) → RefusedSettles g
 unfolding after

@@ -8,3 +8,7 @@ pub mod Names
 pub mod After
 pub mod Room
 pub mod Parts
+pub mod Writing
+pub mod Waiting
+pub mod Settling
+pub mod Empty

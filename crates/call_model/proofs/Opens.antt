@@ -107,7 +107,7 @@ opens-without s f opens fd d at =
 -- ---- a file that is written
 
 -- a write inside a file reaches its own end at least, and leaves no less than there was
-written-length : (at : ℕ) (bytes : List ℕ) (f : File) → at ≤ length f.bytes → (length f.bytes ≤ length (written at bytes f).bytes) × (at + length bytes ≤ length (written at bytes f).bytes)
+pub written-length : (at : ℕ) (bytes : List ℕ) (f : File) → at ≤ length f.bytes → (length f.bytes ≤ length (written at bytes f).bytes) × (at + length bytes ≤ length (written at bytes f).bytes)
 written-length at bytes f inside =
     let a = length-append (take at f.bytes ++ bytes) (drop (at + length bytes) f.bytes) in
     let b = length-append (take at f.bytes) bytes in
@@ -115,7 +115,16 @@ written-length at bytes f inside =
     let e = length-drop (at + length bytes) f.bytes in
     (omega (arith, a, b, c, e, inside), omega (arith, a, b, c, e, inside))
 
-place-inside : (d : Open) (f : File) → d.offset ≤ length f.bytes → write_place d f ≤ length f.bytes
+-- inside its old end it keeps its length
+pub written-same_length : (at : ℕ) (bytes : List ℕ) (f : File) → at + length bytes ≤ length f.bytes → length (written at bytes f).bytes ≡ length f.bytes
+written-same_length at bytes f inside =
+    let a = length-append (take at f.bytes ++ bytes) (drop (at + length bytes) f.bytes) in
+    let b = length-append (take at f.bytes) bytes in
+    let c = length-take at f.bytes in
+    let e = length-drop (at + length bytes) f.bytes in
+    omega (arith, a, b, c, e, inside)
+
+pub place-inside : (d : Open) (f : File) → d.offset ≤ length f.bytes → write_place d f ≤ length f.bytes
 place-inside d f inside = ⊎_elim
     (λ (yes : appends d.flags ≡ true). rw yes (omega arith))
     (λ (no : appends d.flags ≡ false). rw no inside)
@@ -124,7 +133,7 @@ place-inside d f inside = ⊎_elim
 -- ---- every call
 
 -- the file of an open descriptor is the one that the table has
-inside_file : (s : State) (fd : ℕ) (d : Open) (f : File) → OpensFiles s → open_at s.slots fd ≡ Some d → file_of d.id s.table ≡ Some f → d.offset ≤ length f.bytes
+pub inside_file : (s : State) (fd : ℕ) (d : Open) (f : File) → OpensFiles s → open_at s.slots fd ≡ Some d → file_of d.id s.table ≡ Some f → d.offset ≤ length f.bytes
 inside_file s fd d f opens at there = let on = opens fd d at in let is : on.file ≡ f = same_Some on.file f (sym on.there ∙ there) in rw (← is) on.inside
 
 module _ (g : Geometry) (s : State) (names : NamesById s.table) (opens : OpensFiles s) where

@@ -4,3 +4,4 @@ pub mod Calls
 pub mod Tables
 pub mod Moves
 pub mod Parts
+pub mod Writing

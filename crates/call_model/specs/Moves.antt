@@ -1,7 +1,7 @@
 -- What a call does to the waiting bytes of a volume.
 use Rattle.std.specs.Prelude.{◌≡◌, ℕ, List, [], Bool, true, false, replicate}
 use Rattle.geometry.specs.declared.geometry.Geometry.{Geometry}
-use Rattle.table_model.specs.Ask.{Ask, Writes, Fills}
+use Rattle.table_model.specs.Ask.{Ask, Writes, Fills, Tells}
 use Rattle.table_model.specs.Flat.{answer}
 use Rattle.table_model.specs.Steps.{steps, is_refusal}
 use Rattle.table_model.specs.Window.{Moment, after, settled_at, begins, goes_on, leaves_window, incoming_of, continues, may_wait, from_settled, IsAmong}
@@ -10,6 +10,10 @@ use Rattle.call_model.specs.Memory.{Memory, IsAt}
 -- Telling an offset leaves the window.
 abbrev pub LeavesWindow : Geometry → Type 0
 LeavesWindow g = (spare : Bool) (m : Moment) (ask : Ask) → leaves_window ask ≡ true → after g spare m ask ≡ record m { state = (answer g spare m.state ask).next }
+
+-- so it leaves the whole moment
+abbrev pub TellStays : Geometry → Type 0
+TellStays g = (spare : Bool) (m : Moment) (fd : ℕ) → after g spare m (Tells fd) ≡ m
 
 -- Any other call that is refused settles it, and so does one that writes nothing.
 abbrev pub RefusedSettles : Geometry → Type 0

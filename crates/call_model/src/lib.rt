@@ -3,6 +3,7 @@
 
 pub mod capacity;
 pub mod descriptors;
+pub mod runs;
 pub mod windows;
 pub mod writes;
 

@@ -1,11 +1,12 @@
 ghost use Rattle.std.specs.Prelude.{ℕ, Bool};
 ghost use Rattle.geometry.specs.declared.geometry.Geometry.{Geometry};
 ghost use Rattle.table_model.specs.Window.{Moment};
-ghost use Rattle.call_model.specs.Moves.{LeavesWindow, RefusedSettles, OtherSettles, WriteGoesOn, WriteBegins, AfterSettled, AfterRefused, SettledAmong, FillsAsWrites};
+ghost use Rattle.call_model.specs.Moves.{LeavesWindow, TellStays, RefusedSettles, OtherSettles, WriteGoesOn, WriteBegins, AfterSettled, AfterRefused, SettledAmong, FillsAsWrites};
 
 /// What a call does to the bytes that wait.
 pub fn calls_move_windows()
     ensures leaves { (g : Geometry) → LeavesWindow g }
+    ensures tells { (g : Geometry) → TellStays g }
     ensures refused { (g : Geometry) → RefusedSettles g }
     ensures other { (g : Geometry) → OtherSettles g }
     ensures goes_on { (g : Geometry) → WriteGoesOn g }

@@ -1,8 +1,11 @@
-use Rattle.call_model.proofs.After.{leaves-window, refused-settles, other-settles, write-goes_on, write-begins}
+use Rattle.call_model.proofs.After.{leaves-window, tell-stays, refused-settles, other-settles, write-goes_on, write-begins}
 use Rattle.call_model.proofs.windows.calls_move_windows.Goals as goal
 
 pub returns-clause-leaves : goal.returns-clause-leaves
 returns-clause-leaves c = leaves-window
+
+pub returns-clause-tells : goal.returns-clause-tells
+returns-clause-tells c = tell-stays
 
 pub returns-clause-refused : goal.returns-clause-refused
 returns-clause-refused c = refused-settles
