@@ -1,28 +1,25 @@
 -- A call on a volume, by what it does to the device.
 use Rattle.std.proofs.Common.{◌≡◌, ℕ, ◌⊎◌, ⊎_elim, inl, inr, List, [], ◌∷◌, Bool, true, false, cond, ◌&&◌, if◌then◌else◌, refl, sym, ◌∙◌, ap, subst}
-use Rattle.std.specs.Prelude.{Option, Some, None, All, map}
+use Rattle.std.specs.Prelude.{ℤ, Option, Some, None}
 use Rattle.std.proofs.lemmas.Bool.{cases_Bool}
-use Rattle.std.proofs.lemmas.List.Elements.{All-head, All-tail}
 use Rattle.geometry.specs.declared.geometry.Geometry.{Geometry}
 use Rattle.nor_core.specs.declared.state.NorState.{Ghosts as NorOf}
 use Rattle.nor_core.proofs.Cuts.{wider, unchanged, reads_none}
 use Rattle.table_model.specs.declared.error.FsErr.{FsErr}
-use Rattle.table_model.specs.declared.error.FsErr.TheVariants.{Failed as FsFailed, ConflictingName, DeviceFault, Unbuilt}
-use Rattle.table_model.specs.Table.{File, Open, State, has_name, file_named}
-use Rattle.table_model.specs.Names.{name_refusal}
-use Rattle.table_model.specs.Descriptors.{without_file}
-use Rattle.table_model.specs.Files.{created, stat_of, without}
-use Rattle.table_model.specs.Outcome.{Outcome, refused, gives, unless, on_found, page_refusal}
-use Rattle.table_model.specs.Calls.{answer_create, answer_remove, answer_stat, answer_next}
-use Rattle.table_model.specs.Reply.{Answer, Fine, Gives, Shows, Refuses}
+use Rattle.table_model.specs.declared.error.FsErr.TheVariants.{Failed as FsFailed, DeviceFault, Unbuilt}
+use Rattle.table_model.specs.Table.{Open, State}
+use Rattle.table_model.specs.Descriptors.{open_at}
+use Rattle.table_model.specs.Outcome.{gives, on_descriptor}
+use Rattle.table_model.specs.Calls.{answer_tell}
+use Rattle.table_model.specs.Reply.{Answer, Tells as Number, Refuses}
 use Rattle.table_model.specs.declared.call.Call.{Call}
-use Rattle.table_model.specs.declared.call.Call.TheVariants.{Create, Remove, StatName, Next, GetInfo}
-use Rattle.table_model.specs.Ask.{Ask, Creates, Removes, Stats, NextAbove, Informs, asked}
+use Rattle.table_model.specs.declared.call.Call.TheVariants.{Create, OpenFile, Read, Seek, Tell, Flush, Close, Remove, StatName, FStat, Next, GetInfo}
+use Rattle.table_model.specs.declared.call.Whence.{Whence}
+use Rattle.table_model.specs.Ask.{Ask, Creates, Opens, Reads, Seeks, Tells, Flushes, Closes, Removes, Stats, StatsOpen, NextAbove, Informs, asked}
 use Rattle.table_model.specs.Flat.{answer}
 use Rattle.table_model.specs.Steps.{is_refusal, steps}
 use Rattle.table_model.specs.Window.{Moment, Waiting, settled_at, incoming_of, continues, from_settled, IsAmong}
 use Rattle.image_model.specs.Tables.{table_of}
-use Rattle.fd_table.specs.Slots.{descriptors}
 use Rattle.volume.specs.declared.stage.Stage.{Stage}
 use Rattle.volume.specs.declared.stage.Stage.TheVariants.{Checked, Failed}
 use Rattle.volume.specs.declared.volume.Volume.{Volume}
@@ -53,57 +50,27 @@ either : {A : Type 0} (b : Bool) (x y : A) → y ≡ x → cond b x y ≡ x
 either true x y e = refl
 either false x y e = e
 
--- after a call of this build nothing waits
-after_built : (g : Geometry) (spare : Bool) (m : Moment) (ask : Ask) → is_built ask ≡ true → after g spare m ask ≡ settled_at (answer g spare m.state ask).next
-unfolding after incoming_of
-after_built g spare m (Creates name) built = either (is_refusal (answer g spare m.state (Creates name)).answer) _ _ (rw (goes_on_none g m.window) refl)
-after_built g spare m (Removes name) built = either (is_refusal (answer g spare m.state (Removes name)).answer) _ _ (rw (goes_on_none g m.window) refl)
-after_built g spare m (Stats name) built = either (is_refusal (answer g spare m.state (Stats name)).answer) _ _ (rw (goes_on_none g m.window) refl)
-after_built g spare m (NextAbove id) built = either (is_refusal (answer g spare m.state (NextAbove id)).answer) _ _ (rw (goes_on_none g m.window) refl)
-after_built g spare m Informs built = either (is_refusal (answer g spare m.state Informs).answer) _ _ (rw (goes_on_none g m.window) refl)
-after_built g spare m _ built = absurd (let no : false ≡ true = built in cc)
+-- telling an offset leaves the state
+tells_stay : (found : Option Open) (s : State) → (on_descriptor found s (λ d. gives (Number d.offset) s)).next ≡ s
+tells_stay None s = refl
+tells_stay (Some d) s = refl
 
--- closed descriptors stay so
-none_closed : (id : ℕ) (all : List (Option Open)) → All (λ d. d ≡ None) all → map (without_file id) all ≡ all
-none_closed id [] closed = refl
-none_closed id (None ∷ all) closed = ap (λ (l : List (Option Open)). None ∷ l) (none_closed id all (All-tail (λ d. d ≡ None) None all closed))
-none_closed id (Some x ∷ all) closed = absurd (let no : Some x ≡ None = All-head (λ d. d ≡ None) (Some x) all closed in cc)
-
-unless_slots : (o : Option FsErr) (s : State) (done : Outcome) → done.next.slots ≡ s.slots → (unless o s done).next.slots ≡ s.slots
-unless_slots None s done e = e
-unless_slots (Some why) s done e = refl
-
-pick_slots : (b : Bool) (s : State) (x y : Outcome) → x.next.slots ≡ s.slots → y.next.slots ≡ s.slots → (cond b x y).next.slots ≡ s.slots
-pick_slots true s x y e f = e
-pick_slots false s x y e f = f
-
-shown_slots : (found : Option File) (s : State) → (on_found found s (λ f. gives (Shows (stat_of f)) s)).next.slots ≡ s.slots
-shown_slots None s = refl
-shown_slots (Some f) s = refl
-
-removed_slots : (found : Option File) (s : State) → All (λ d. d ≡ None) s.slots → (on_found found s (λ f. gives Fine (without f s))).next.slots ≡ s.slots
-unfolding without
-removed_slots None s closed = refl
-removed_slots (Some f) s closed = none_closed f.id s.slots closed
-
--- so no call of this build changes the descriptors
-slots_stand : (g : Geometry) (spare : Bool) (s : State) (ask : Ask) → is_built ask ≡ true → All (λ d. d ≡ None) s.slots → (answer g spare s ask).next.slots ≡ s.slots
-unfolding answer answer_create answer_remove answer_stat answer_next
-slots_stand g spare s (Creates name) built closed = unless_slots (name_refusal name) s _ (pick_slots (has_name name s.table) s (refused ConflictingName s) _ refl (unless_slots (page_refusal g spare (created g name s.table)) s (gives Fine (record s { table = created g name s.table })) refl))
-slots_stand g spare s (Removes name) built closed = unless_slots (name_refusal name) s _ (removed_slots (file_named name s.table) s closed)
-slots_stand g spare s (Stats name) built closed = unless_slots (name_refusal name) s _ (shown_slots (file_named name s.table) s)
-slots_stand g spare s (NextAbove id) built closed = refl
-slots_stand g spare s Informs built closed = refl
-slots_stand g spare s _ built closed = absurd (let no : false ≡ true = built in cc)
-
--- no call of this build gives bytes
-no_bytes : (ask : Ask) (bytes : List ℕ) → may_answer ask (Gives bytes) ≡ true → ⊥
-no_bytes (Creates name) bytes e = let no : false ≡ true = e in cc
-no_bytes (Removes name) bytes e = let no : false ≡ true = e in cc
-no_bytes (Stats name) bytes e = let no : false ≡ true = e in cc
-no_bytes (NextAbove id) bytes e = let no : false ≡ true = e in cc
-no_bytes Informs bytes e = let no : false ≡ true = e in cc
-no_bytes _ bytes e = let no : false ≡ true = e in cc
+-- after a call of this build nothing waits, where nothing waited before
+after_built : (g : Geometry) (spare : Bool) (m : Moment) (ask : Ask) → m ≡ settled_at m.state → is_built ask ≡ true → after g spare m ask ≡ settled_at (answer g spare m.state ask).next
+unfolding after incoming_of answer answer_tell
+after_built g spare m (Creates name) still built = either (is_refusal (answer g spare m.state (Creates name)).answer) _ _ (rw (goes_on_none g m.window) refl)
+after_built g spare m (Opens name flags) still built = either (is_refusal (answer g spare m.state (Opens name flags)).answer) _ _ (rw (goes_on_none g m.window) refl)
+after_built g spare m (Reads fd count) still built = either (is_refusal (answer g spare m.state (Reads fd count)).answer) _ _ (rw (goes_on_none g m.window) refl)
+after_built g spare m (Seeks fd offset from) still built = either (is_refusal (answer g spare m.state (Seeks fd offset from)).answer) _ _ (rw (goes_on_none g m.window) refl)
+after_built g spare m (Tells fd) still built = rw (tells_stay (open_at m.state.slots fd) m.state) still
+after_built g spare m (Flushes fd) still built = either (is_refusal (answer g spare m.state (Flushes fd)).answer) _ _ (rw (goes_on_none g m.window) refl)
+after_built g spare m (Closes fd) still built = either (is_refusal (answer g spare m.state (Closes fd)).answer) _ _ (rw (goes_on_none g m.window) refl)
+after_built g spare m (Removes name) still built = either (is_refusal (answer g spare m.state (Removes name)).answer) _ _ (rw (goes_on_none g m.window) refl)
+after_built g spare m (Stats name) still built = either (is_refusal (answer g spare m.state (Stats name)).answer) _ _ (rw (goes_on_none g m.window) refl)
+after_built g spare m (StatsOpen fd) still built = either (is_refusal (answer g spare m.state (StatsOpen fd)).answer) _ _ (rw (goes_on_none g m.window) refl)
+after_built g spare m (NextAbove id) still built = either (is_refusal (answer g spare m.state (NextAbove id)).answer) _ _ (rw (goes_on_none g m.window) refl)
+after_built g spare m Informs still built = either (is_refusal (answer g spare m.state Informs).answer) _ _ (rw (goes_on_none g m.window) refl)
+after_built g spare m _ still built = absurd (let no : false ≡ true = built in cc)
 
 -- where nothing waits, what a cut leaves of a state is what one may leave of its moment
 publishes : (g : Geometry) (was image : List ℕ) (m : Moment) (ask : Ask) → m ≡ settled_at m.state → CallCut g m.state ask was image → IsSafe g was image × IsAmong (table_of g image) (from_settled m (steps g (has_spare g was) m.state ask))
@@ -112,6 +79,11 @@ publishes g was image m ask still cut = (
   record { sound = λ magics. cut.sound; mends = cut.mends },
   subst (λ (j : Moment). IsAmong (table_of g image) (from_settled j (steps g (has_spare g was) m.state ask))) (sym still) cut.table,
 )
+
+-- what breaks is a refusal
+broken_refusal : (reply : Answer) → breaks reply ≡ true → is_refusal reply ≡ true
+broken_refusal (Refuses why) e = refl
+broken_refusal _ e = absurd (let no : false ≡ true = e in cc)
 
 -- ---- the volume
 
@@ -126,26 +98,17 @@ staged_by old new false reply broke was is e = inl (e ∙ sym was, λ w b. let n
 
 module _ {N : Type 0} {nor : NorOf N} where
   -- the image of a volume at a moment is that of its state
-  image_at : (v : Volume N nor) (m : Moment) → nor.tells v.nor.now → IsAt v.geometry (nor.bytes v.nor.now) (memory v) m → IsImageOf nor v.geometry v.nor.now m.state
+  image_at : (v : Volume N nor) (m : Moment) → nor.tells v.nor.now → IsAt v.geometry (nor.bytes v.nor.now) (memory v) m → IsImageOf nor v.geometry v.nor.now v.slots.now m.state
   unfolding settled_at
-  image_at v m tells at = record { tells = tells; tidy = at.tidy; table = sym (at.table ∙ ap (λ (j : Moment). j.settled) at.run) }
+  image_at v m tells at = record { tells = tells; tidy = at.tidy; table = sym (at.table ∙ ap (λ (j : Moment). j.settled) at.run); slots = at.slots; opened = at.opened }
 
-  image_of : (v : Volume N nor) (m : Moment) → Holds v m → IsImageOf nor v.geometry v.nor.now m.state
+  image_of : (v : Volume N nor) (m : Moment) → Holds v m → IsImageOf nor v.geometry v.nor.now v.slots.now m.state
   image_of v m here = image_at v m here.tells here.image
 
   -- the volume stands at the moment of a state
-  stands_by : (old new : Volume N nor) (m : Moment) (s : State) → Holds old m → new.slots.now ≡ old.slots.now → s.slots ≡ m.state.slots → IsImageOf nor old.geometry new.nor.now s → Stands nor old.geometry new.nor.now (memory new) (settled_at s)
+  stands_by : (old new : Volume N nor) (s : State) → IsImageOf nor old.geometry new.nor.now new.slots.now s → Stands nor old.geometry new.nor.now (memory new) (settled_at s)
   unfolding settled_at
-  stands_by old new m s was slots stand here = record {
-    tells = here.tells;
-    image = record {
-      tidy = here.tidy;
-      table = sym here.table;
-      slots = ap descriptors slots ∙ was.image.slots ∙ sym stand;
-      run = refl;
-      closed = subst (λ (l : List (Option Open)). All (λ d. d ≡ None) l) (sym stand) was.image.closed;
-    };
-  }
+  stands_by old new s here = record { tells = here.tells; image = record { tidy = here.tidy; table = sym here.table; slots = here.slots; run = refl; opened = here.opened } }
 
   -- a volume that takes no calls
   pub calls_closed : (ask : Ask) (v : Volume N nor) → takes_calls v ≡ false → Calls ask v v (Refuses FsFailed)
@@ -168,24 +131,30 @@ module _ {N : Type 0} {nor : NorOf N} where
     failed = λ e. absurd (let no : false ≡ true = e in cc);
     stays = inl refl;
     stops = λ m takes stopped here. absurd (let no : true ≡ false = sym takes ∙ shut in cc);
-    looks = λ look. record { reads = reads_none v.nor.now; slots = refl; stage = refl };
+    looks = λ look. (reads_none v.nor.now, refl);
+    keeps = λ keeps. refl;
   }
 
-  module _ {old new : Volume N nor} (ask : Ask) (wrote : Bool) (reply : Answer) (checked : old.stage ≡ Checked) (same : IsSameVolume old new) (slots : new.slots.now ≡ old.slots.now) (stage : new.stage ≡ stage_after wrote reply)
-      (goes : Goes nor old.geometry ask old.nor.now new.nor.now wrote reply) where
+  module _ {old new : Volume N nor} (ask : Ask) (wrote : Bool) (reply : Answer) (checked : old.stage ≡ Checked) (same : IsSameVolume old new) (stage : new.stage ≡ stage_after wrote reply)
+      (goes : Goes nor old.geometry ask old.nor.now new.nor.now old.slots.now new.slots.now wrote reply) where
     open_is : takes_calls old ≡ true
     open_is = ap is_open checked
 
     staged : IsStaged old.stage new.stage wrote reply
     staged = staged_by old.stage new.stage wrote reply (breaks reply) checked refl stage
 
-    -- where nothing was written nothing is changed
-    untouched : wrote ≡ false → Unchanged old new
-    untouched none = record {
-      reads = goes.untouched none;
-      slots = slots;
-      stage = ⊎_elim (λ (stood : (new.stage ≡ old.stage) × (wrote ≡ true → breaks reply ≡ true → ⊥)). stood.0) (λ (broke : (new.stage ≡ Failed) × (wrote ≡ true) × (breaks reply ≡ true)). absurd (let no : true ≡ false = sym broke.1 ∙ none in cc)) staged;
-    }
+    stage_stays : wrote ≡ false → new.stage ≡ old.stage
+    stage_stays none = ⊎_elim (λ (stood : (new.stage ≡ old.stage) × (wrote ≡ true → breaks reply ≡ true → ⊥)). stood.0) (λ (broke : (new.stage ≡ Failed) × (wrote ≡ true) × (breaks reply ≡ true)). absurd (let no : true ≡ false = sym broke.1 ∙ none in cc)) staged
+
+    -- refused where nothing was written, nothing is changed
+    untouched : wrote ≡ false → is_refusal reply ≡ true → Unchanged old new
+    untouched none refusal = record { reads = goes.untouched none; slots = goes.still refusal; stage = stage_stays none }
+
+    refused_so : (why : FsErr) → reply ≡ Refuses why → wrote ≡ false → Unchanged old new
+    refused_so why e none = untouched none (ap is_refusal e)
+
+    broken_so : breaks reply ≡ true → is_refusal reply ≡ true
+    broken_so broke = broken_refusal reply broke
 
     -- a call that wrote is one that the flat table does
     done_by : (m : Moment) → Holds old m → wrote ≡ true → reply ≡ (answer old.geometry (has_spare old.geometry (nor.bytes old.nor.now)) m.state ask).answer → is_refusal reply ≡ true → ⊥
@@ -197,15 +166,15 @@ module _ {N : Type 0} {nor : NorOf N} where
         let r = goes.answers m.state (image_of old m here) no_fault no_lack in
         record {
           reply_is = r.reply_is;
-          stands = subst (λ (j : Moment). Stands nor old.geometry new.nor.now (memory new) j) (sym (after_built old.geometry spare m ask built))
-              (stands_by old new m (answer old.geometry spare m.state ask).next here slots (slots_stand old.geometry spare m.state ask built here.image.closed) r.holds);
+          stands = subst (λ (j : Moment). Stands nor old.geometry new.nor.now (memory new) j) (sym (after_built old.geometry spare m ask here.image.run built))
+              (stands_by old new (answer old.geometry spare m.state ask).next r.holds);
           holds = record { sound = λ magics. (goes.cuts.now here.tells m.state (image_of old m here)).sound; reserve = r.reserve };
         }
 
     refused_by : (m : Moment) → Holds old m → (reply ≡ Refuses DeviceFault → ⊥) → is_refusal reply ≡ true → is_built ask ≡ true → Unchanged old new
     refused_by m here no_fault refusal built = ⊎_elim
         (λ (w : wrote ≡ true). absurd (done_by m here w (goes.answers m.state (image_of old m here) no_fault (λ lacking. let no : true ≡ false = sym w ∙ (goes.lacks m.state built (image_of old m here) lacking).1 in cc)).reply_is refusal))
-        (λ (none : wrote ≡ false). untouched none)
+        (λ (none : wrote ≡ false). untouched none refusal)
         (cases_Bool wrote)
 
     pub calls_by : Calls ask old new reply
@@ -218,20 +187,20 @@ module _ {N : Type 0} {nor : NorOf N} where
           (cases_Bool (is_built ask));
       refused = λ m takes here no_fault refusal. ⊎_elim
           (λ (built : is_built ask ≡ true). refused_by m here no_fault refusal built)
-          (λ (not_built : is_built ask ≡ false). untouched (goes.unbuilt not_built).1)
+          (λ (not_built : is_built ask ≡ false). untouched (goes.unbuilt not_built).1 refusal)
           (cases_Bool (is_built ask));
-      lacks = λ m takes built here e. let w = goes.lacks m.state built (image_of old m here) e in (w.0, untouched w.1);
-      unbuilt = λ takes not_built. let w = goes.unbuilt not_built in (w.0, untouched w.1);
+      lacks = λ m takes built here e. let w = goes.lacks m.state built (image_of old m here) e in (w.0, refused_so Unbuilt e w.1);
+      unbuilt = λ takes not_built. let w = goes.unbuilt not_built in (w.0, refused_so Unbuilt w.0 w.1);
       closed = λ shut. absurd (let no : true ≡ false = sym open_is ∙ shut in cc);
       cause = goes.cause;
       differs = goes.differs;
       undamaged = λ m here. goes.undamaged m.state (image_of old m here);
       among = λ takes. goes.among;
-      brief = λ bytes e. absurd (no_bytes ask bytes (subst (λ (a : Answer). may_answer ask a ≡ true) e goes.among));
-      named = λ takes built why e. let w = goes.named.refused built why e in (w.0, untouched w.1);
+      brief = goes.brief;
+      named = λ takes built why e. let w = goes.named.refused built why e in (w.0, refused_so why w.0 w.1);
       names = λ takes why name e. goes.named.only why name e;
       failed = λ broke. ⊎_elim
-          (λ (stood : (new.stage ≡ old.stage) × (wrote ≡ true → breaks reply ≡ true → ⊥)). ⊎_elim (λ (w : wrote ≡ true). absurd (stood.1 w broke)) (λ (none : wrote ≡ false). inr (untouched none)) (cases_Bool wrote))
+          (λ (stood : (new.stage ≡ old.stage) × (wrote ≡ true → breaks reply ≡ true → ⊥)). ⊎_elim (λ (w : wrote ≡ true). absurd (stood.1 w broke)) (λ (none : wrote ≡ false). inr (untouched none (broken_so broke))) (cases_Bool wrote))
           (λ (failed : (new.stage ≡ Failed) × (wrote ≡ true) × (breaks reply ≡ true)). inl (ap is_failed failed.0))
           staged;
       stays = ⊎_elim
@@ -242,16 +211,38 @@ module _ {N : Type 0} {nor : NorOf N} where
           (λ (stood : (new.stage ≡ old.stage) × (wrote ≡ true → breaks reply ≡ true → ⊥)). absurd (let no : true ≡ false = sym open_is ∙ sym (ap is_open stood.0) ∙ stopped in cc))
           (λ (failed : (new.stage ≡ Failed) × (wrote ≡ true) × (breaks reply ≡ true)). goes.begun m.state (image_of old m here) failed.1)
           staged;
-      looks = λ look. untouched (goes.looks look);
+      looks = λ look. let none = goes.looks look in (goes.untouched none, stage_stays none);
+      keeps = goes.keeps;
     }
 
 -- ---- calls that aren't built
 
-pub not_built : (call : Call) → ((name : _) → call ≡ Create name → ⊥) → ((name : _) → call ≡ Remove name → ⊥) → ((name : _) → call ≡ StatName name → ⊥) → ((after : ℕ) → call ≡ Next after → ⊥) → (call ≡ GetInfo → ⊥) →
-    (is_built (asked call) ≡ false) × (may_answer (asked call) (Refuses Unbuilt) ≡ true)
-not_built (Create name) a b d e f = absurd (a name refl)
-not_built (Remove name) a b d e f = absurd (b name refl)
-not_built (StatName name) a b d e f = absurd (d name refl)
-not_built (Next after) a b d e f = absurd (e after refl)
-not_built GetInfo a b d e f = absurd (f refl)
-not_built _ a b d e f = (refl, refl)
+-- a call that is none of those that are built
+pub record IsOther (call : Call) : Type 0 where
+  pub create : (name : _) → call ≡ Create name → ⊥
+  pub opening : (name : _) (flags : ℕ) → call ≡ OpenFile name flags → ⊥
+  pub read : (fd count : ℕ) → call ≡ Read fd count → ⊥
+  pub seek : (fd : ℕ) (offset : ℤ) (from : Whence) → call ≡ Seek fd offset from → ⊥
+  pub tell : (fd : ℕ) → call ≡ Tell fd → ⊥
+  pub flush : (fd : ℕ) → call ≡ Flush fd → ⊥
+  pub close : (fd : ℕ) → call ≡ Close fd → ⊥
+  pub remove : (name : _) → call ≡ Remove name → ⊥
+  pub stat : (name : _) → call ≡ StatName name → ⊥
+  pub fstat : (fd : ℕ) → call ≡ FStat fd → ⊥
+  pub next : (after : ℕ) → call ≡ Next after → ⊥
+  pub info : call ≡ GetInfo → ⊥
+
+pub not_built : (call : Call) → IsOther call → (is_built (asked call) ≡ false) × (may_answer (asked call) (Refuses Unbuilt) ≡ true)
+not_built (Create name) other = absurd (other.create name refl)
+not_built (OpenFile name flags) other = absurd (other.opening name flags refl)
+not_built (Read fd count) other = absurd (other.read fd count refl)
+not_built (Seek fd offset from) other = absurd (other.seek fd offset from refl)
+not_built (Tell fd) other = absurd (other.tell fd refl)
+not_built (Flush fd) other = absurd (other.flush fd refl)
+not_built (Close fd) other = absurd (other.close fd refl)
+not_built (Remove name) other = absurd (other.remove name refl)
+not_built (StatName name) other = absurd (other.stat name refl)
+not_built (FStat fd) other = absurd (other.fstat fd refl)
+not_built (Next after) other = absurd (other.next after refl)
+not_built GetInfo other = absurd (other.info refl)
+not_built _ other = (refl, refl)

@@ -1,7 +1,7 @@
 -- What the exits of calls share.
 use Rattle.std.proofs.lemmas.Bool.{and_parts}
-use Rattle.std.proofs.Common.{◌&&◌, ◌||◌, ◌<◌, zero, suc, length, get_or, ◌≡◌, ◌≢◌, ℕ, ◌⊎◌, ⊎_elim, inl, inr, List, [], ◌∷◌, Bool, true, false, refl, sym, ◌∙◌, ap, subst, arith}
-use Rattle.std.specs.Prelude.{Some, None, Result, Ok, Err, IsErrOf}
+use Rattle.std.proofs.Common.{◌&&◌, ◌||◌, ◌<◌, zero, suc, length, get_or, ◌≡◌, ◌≢◌, ◌≤◌, ℕ, ◌⊎◌, ⊎_elim, inl, inr, List, [], ◌∷◌, Bool, true, false, refl, sym, ◌∙◌, ap, subst, arith}
+use Rattle.std.specs.Prelude.{Option, Some, None, Result, Ok, Err, IsErrOf}
 use Rattle.geometry.specs.declared.geometry.Geometry.{Geometry}
 use Rattle.nor_core.specs.declared.state.NorState.{Ghosts as NorOf}
 use Rattle.nor_core.specs.Count.{Rose}
@@ -10,8 +10,8 @@ use Rattle.nor_core.proofs.Cuts.{wider, read_after, unchanged}
 use Rattle.table_model.specs.declared.error.FsErr.{FsErr}
 use Rattle.table_model.specs.declared.error.FsErr.TheVariants.{BadName, NameTooLong, DeviceFault, Damaged, Unbuilt}
 use Rattle.table_model.specs.declared.error.Differ.{Differ}
-use Rattle.table_model.specs.Table.{File, State}
-use Rattle.table_model.specs.Reply.{Answer, Fine, Refuses}
+use Rattle.table_model.specs.Table.{File, Open, State, file_of, file_named}
+use Rattle.table_model.specs.Reply.{Answer, Gives, Refuses}
 use Rattle.table_model.specs.Ask.{Ask, Creates, Opens, Removes, Renames, Stats, SetsMeta}
 use Rattle.table_model.specs.Outcome.{Outcome, refused, gives}
 use Rattle.table_model.specs.Calls.{answer_create, answer_remove, answer_rename, answer_stat, answer_meta}
@@ -31,10 +31,19 @@ use Rattle.flash_view.proofs.Stepped.{after_look}
 use Rattle.table_model.specs.Steps.{steps}
 use Rattle.table_model.specs.Window.{IsAmong}
 use Rattle.volume.specs.Built.{is_built}
-use Rattle.volume.specs.Replies.{as_fs_err, is_of_name, is_early, meets, may_meet, has_name, is_change, may_answer, names_fault}
+use Rattle.volume.specs.Replies.{as_fs_err, is_of_name, is_of_descriptor, is_early, meets, may_meet, has_name, is_change, reads_file, keeps_slots, may_answer, names_fault, reply_of, is_calm}
+use Rattle.volume.specs.Moves.{with_slots, Moves}
+use Rattle.fd_table.specs.declared.slot.FdSlot.{FdSlot}
+use Rattle.fd_table.specs.Slots.{descriptors}
+use Rattle.header_laws.proofs.Telling.{found-by_id}
+use Rattle.call_model.specs.Memory.{OpensFiles}
+use Rattle.call_model.specs.Tables.{NamesById}
+use Rattle.call_model.proofs.Opens.{opens_kept}
+use Rattle.volume.specs.declared.told.Told.{Told}
+use Rattle.volume.specs.declared.told.Told.TheVariants.{Done, Number as AsNumber, Bytes, File as AsFile, NoMore, Room}
 use Rattle.image_model.specs.Tidy.{has_spare, Mends}
 use Rattle.volume.specs.Holds.{IsImageOf}
-use Rattle.volume.specs.Goes.{CallCut, IsDoable, LacksPage, IsNamed, Goes}
+use Rattle.volume.specs.Goes.{CallCut, IsDoable, LacksPage, IsNamed, IsGiven, Goes}
 
 -- ---- the flat table
 
@@ -50,18 +59,22 @@ names_first g spare s (SetsMeta name meta) why e = rw e refl
 names_first g spare s _ why e = absurd (let no : None ≡ Some why = e in cc)
 
 -- the flat table does a call, and this is the one step of it
-pub record IsOneStep (g : Geometry) (spare : Bool) (s : State) (ask : Ask) (files : List File) : Type 0 where
-  pub answer_is : (answer g spare s ask).answer ≡ Fine
+pub record IsOneStep (g : Geometry) (spare : Bool) (s : State) (ask : Ask) (reply : Answer) (files : List File) : Type 0 where
+  pub answer_is : (answer g spare s ask).answer ≡ reply
   pub table_is : (answer g spare s ask).next.table ≡ files
   pub steps_are : steps g spare s ask ≡ files ∷ []
 
-pub one_step : (g : Geometry) (spare : Bool) (s next : State) (ask : Ask) → answer g spare s ask ≡ gives Fine next → done_steps g s ask next.table ≡ next.table ∷ [] → IsOneStep g spare s ask next.table
+pub one_step : (g : Geometry) (spare : Bool) (s next : State) (ask : Ask) (reply : Answer) → is_refusal reply ≡ false → answer g spare s ask ≡ gives reply next → done_steps g s ask next.table ≡ next.table ∷ [] → IsOneStep g spare s ask reply next.table
 unfolding steps
-one_step g spare s next ask e one = record {
+one_step g spare s next ask reply other e one = record {
   answer_is = ap (λ (o : Outcome). o.answer) e;
   table_is = ap (λ (o : Outcome). o.next.table) e;
-  steps_are = rw e one;
+  steps_are = rw (e, other) one;
 }
+
+-- a state with its own descriptors
+pub same_slots : (s : State) (slots : List (Option Open)) → slots ≡ s.slots → with_slots slots s ≡ s
+same_slots s slots e = rw e refl
 
 -- ---- images
 
@@ -102,10 +115,10 @@ stays g image s ask tidy same = record {
 }
 
 -- an image in or after the one step of a call: the table before it, or the one after it
-pub before_or_after : (g : Geometry) (was image : List ℕ) (s : State) (ask : Ask) (files : List File) → IsOneStep g (has_spare g was) s ask files → s.table ≡ table_of g was → IsSound g image was → (HasReserve g was → Mends g image) →
+pub before_or_after : (g : Geometry) (was image : List ℕ) (s : State) (ask : Ask) (reply : Answer) (files : List File) → IsOneStep g (has_spare g was) s ask reply files → s.table ≡ table_of g was → IsSound g image was → (HasReserve g was → Mends g image) →
     (table_of g image ≡ table_of g was) ⊎ (table_of g image ≡ files) → CallCut g s ask was image
 unfolding settled_at
-before_or_after g was image s ask files one same sound mends table = record {
+before_or_after g was image s ask reply files one same sound mends table = record {
   sound = sound;
   mends = mends;
   table = ⊎_elim
@@ -138,7 +151,7 @@ early _ e = record { no_name = λ x. let no : false ≡ true = x in cc; undamage
 no_refusal : (reply : Answer) (why : FsErr) → is_refusal reply ≡ false → reply ≡ Refuses why → ⊥
 no_refusal reply why other e = let no : true ≡ false = sym (ap is_refusal e) ∙ other in cc
 
-or_first : (a b : Bool) → a ≡ true → (a || b) ≡ true
+pub or_first : (a b : Bool) → a ≡ true → (a || b) ≡ true
 or_first true b e = refl
 or_first false b e = absurd (let no : false ≡ true = e in cc)
 
@@ -165,28 +178,48 @@ named_refused ask why wrote fault none = record {
 
 -- ---- over a device
 
-module _ {D : Type 0} {nor : NorOf D} {g : Geometry} where
-  -- reads leave the image
-  reads_cuts : {old new : D} (ask : Ask) → OnlyReads nor old new → Changes nor old new (λ was image. (s : State) → IsImageOf nor g old s → CallCut g s ask was image)
-  reads_cuts {old} {new} ask reads = read_after (unchanged old (λ was image. (s : State) → IsImageOf nor g old s → CallCut g s ask was image) (λ tells s here. stays g (nor.bytes old) s ask here.tidy here.table)) reads
+-- the table of an image goes by its ids
+names_by : (g : Geometry) (image : List ℕ) (s : State) → s.table ≡ table_of g image → NamesById s.table
+names_by g image s same name f at = ap (file_of f.id) same ∙ (found-by_id g image f).0 name (sym (ap (file_named name) same) ∙ at)
 
-  reads_image : {old new : D} (s : State) → OnlyReads nor old new → IsImageOf nor g old s → IsImageOf nor g new s
-  reads_image {old} {new} s reads here = record {
+-- what any answer is, whatever the device tells
+record IsFit (ask : Ask) (slots after : List FdSlot) (wrote : Bool) (reply : Answer) : Type 0 where
+  among : may_answer ask reply ≡ true
+  brief : (bytes : List ℕ) → reply ≡ Gives bytes → IsGiven ask bytes
+  named : IsNamed ask reply wrote
+  still : is_refusal reply ≡ true → after ≡ slots
+  keeps : keeps_slots ask ≡ true → after ≡ slots
+
+no_gift : (reply : Answer) (bytes : List ℕ) → is_refusal reply ≡ true → reply ≡ Gives bytes → ⊥
+no_gift reply bytes refusal e = let no : false ≡ true = sym (ap is_refusal e) ∙ refusal in cc
+
+module _ {D : Type 0} {nor : NorOf D} {g : Geometry} {slots : List FdSlot} where
+  -- reads leave the image
+  reads_cuts : {old new : D} (ask : Ask) → OnlyReads nor old new → Changes nor old new (λ was image. (s : State) → IsImageOf nor g old slots s → CallCut g s ask was image)
+  reads_cuts {old} {new} ask reads = read_after (unchanged old (λ was image. (s : State) → IsImageOf nor g old slots s → CallCut g s ask was image) (λ tells s here. stays g (nor.bytes old) s ask here.tidy here.table)) reads
+
+  -- so the device is that of the state with other descriptors
+  reads_image : {old new : D} (after : List FdSlot) (s : State) → OnlyReads nor old new → IsImageOf nor g old slots s → OpensFiles (with_slots (descriptors after) s) → IsImageOf nor g new after (with_slots (descriptors after) s)
+  reads_image {old} {new} after s reads here opened = record {
     tells = reads.told here.tells;
     tidy = subst (λ (l : List ℕ). IsTidy g l) (sym reads.bytes) here.tidy;
     table = here.table ∙ ap (table_of g) (sym reads.bytes);
+    slots = refl;
+    opened = opened;
   }
 
-  -- A call that only read, and was answered as the flat table is, which leaves the state.
-  goes_read : {old new : D} (ask : Ask) (reply : Answer) (wrote : Bool) → wrote ≡ false → OnlyReads nor old new → is_built ask ≡ true →
-      ((s : State) → IsImageOf nor g old s → (reply ≡ Refuses DeviceFault → ⊥) → (reply ≡ Refuses Unbuilt → ⊥) → answer g (has_spare g (nor.bytes old)) s ask ≡ gives reply s) →
-      ((s : State) → IsImageOf nor g old s → reply ≡ Refuses Unbuilt → LacksPage g (nor.bytes old) s ask) →
-      (reply ≡ Refuses DeviceFault → Rose (nor.faults old) (nor.faults new)) → ((d : Differ) → reply ≡ Refuses (Damaged d) → ⊥) → may_answer ask reply ≡ true → IsNamed ask reply wrote → Goes nor g ask old new wrote reply
-  goes_read {old} {new} ask reply wrote none reads built is lacks cause differs among named = record {
+  -- A call that only read, and was answered as the flat table is, which leaves the table.
+  goes_read : {old new : D} {after : List FdSlot} (ask : Ask) (reply : Answer) (wrote : Bool) → wrote ≡ false → OnlyReads nor old new → is_built ask ≡ true → IsFit ask slots after wrote reply →
+      ((s : State) → IsImageOf nor g old slots s → (reply ≡ Refuses DeviceFault → ⊥) → (reply ≡ Refuses Unbuilt → ⊥) → answer g (has_spare g (nor.bytes old)) s ask ≡ gives reply (with_slots (descriptors after) s)) →
+      ((s : State) → IsImageOf nor g old slots s → reply ≡ Refuses Unbuilt → LacksPage g (nor.bytes old) s ask) →
+      (reply ≡ Refuses DeviceFault → Rose (nor.faults old) (nor.faults new)) →
+      ((d : Differ) → reply ≡ Refuses (Damaged d) → (d.wanted ≢ d.found) × ((s : State) → IsImageOf nor g old slots s → ⊥)) → Goes nor g ask old new slots after wrote reply
+  goes_read {old} {new} {after} ask reply wrote none reads built fit is lacks cause differs = record {
     cuts = reads_cuts ask reads;
     answers = λ s here no_fault no_lack. let e = is s here no_fault no_lack in record {
       reply_is = sym (ap (λ (o : Outcome). o.answer) e);
-      holds = subst (λ (n : State). IsImageOf nor g new n) (sym (ap (λ (o : Outcome). o.next) e)) (reads_image s reads here);
+      holds = subst (λ (n : State). IsImageOf nor g new after n) (sym (ap (λ (o : Outcome). o.next) e))
+          (reads_image after s reads here (subst (λ (o : Outcome). OpensFiles o.next) e (opens_kept g (has_spare g (nor.bytes old)) s ask (names_by g (nor.bytes old) s here.table) here.opened)));
       reserve = λ reserve. subst (λ (l : List ℕ). HasReserve g l) (sym reads.bytes) reserve;
       reads = λ refusal. reads;
     };
@@ -194,33 +227,50 @@ module _ {D : Type 0} {nor : NorOf D} {g : Geometry} where
     unbuilt = λ b. absurd (let no : true ≡ false = sym built ∙ b in cc);
     begun = λ s here w. absurd (let no : true ≡ false = sym w ∙ none in cc);
     untouched = λ w. reads;
+    still = fit.still;
+    keeps = fit.keeps;
     cause = cause;
-    differs = λ d e. absurd (differs d e);
-    undamaged = λ s here d e. differs d e;
-    among = among;
-    named = named;
+    differs = λ d e. (differs d e).0;
+    undamaged = λ s here d e. (differs d e).1 s here;
+    among = fit.among;
+    brief = fit.brief;
+    named = fit.named;
     looks = λ look. none;
   }
 
-  -- a call that was answered with a look
-  pub goes_shown : {old new : D} (ask : Ask) (reply : Answer) (wrote : Bool) → wrote ≡ false → OnlyReads nor old new → is_built ask ≡ true → names_fault ask ≡ None → is_refusal reply ≡ false → may_answer ask reply ≡ true →
-      ((s : State) → IsImageOf nor g old s → answer g (has_spare g (nor.bytes old)) s ask ≡ gives reply s) → Goes nor g ask old new wrote reply
-  goes_shown ask reply wrote none reads built fine other may is = goes_read ask reply wrote none reads built
+  -- a call that was answered with a look, and moved descriptors
+  pub goes_moved : {old new : D} {after : List FdSlot} (ask : Ask) (reply : Answer) (wrote : Bool) → wrote ≡ false → OnlyReads nor old new → is_built ask ≡ true → names_fault ask ≡ None → is_refusal reply ≡ false → may_answer ask reply ≡ true →
+      ((bytes : List ℕ) → reply ≡ Gives bytes → IsGiven ask bytes) → (keeps_slots ask ≡ true → after ≡ slots) →
+      ((s : State) → IsImageOf nor g old slots s → answer g (has_spare g (nor.bytes old)) s ask ≡ gives reply (with_slots (descriptors after) s)) → Goes nor g ask old new slots after wrote reply
+  goes_moved ask reply wrote none reads built fine other may brief keeps is = goes_read ask reply wrote none reads built
+      (record { among = may; brief = brief; named = named_fine ask reply wrote fine (λ why name e. no_refusal reply why other e); still = λ refusal. absurd (let no : true ≡ false = sym refusal ∙ other in cc); keeps = keeps })
       (λ s here no_fault no_lack. is s here)
       (λ s here e. absurd (no_refusal reply Unbuilt other e))
       (λ e. absurd (no_refusal reply DeviceFault other e))
-      (λ d e. no_refusal reply (Damaged d) other e)
-      may (named_fine ask reply wrote fine (λ why name e. no_refusal reply why other e))
+      (λ d e. absurd (no_refusal reply (Damaged d) other e))
+
+  -- and left them
+  pub goes_shown : {old new : D} (ask : Ask) (reply : Answer) (wrote : Bool) → wrote ≡ false → OnlyReads nor old new → is_built ask ≡ true → names_fault ask ≡ None → is_refusal reply ≡ false → may_answer ask reply ≡ true →
+      ((bytes : List ℕ) → reply ≡ Gives bytes → IsGiven ask bytes) → ((s : State) → IsImageOf nor g old slots s → answer g (has_spare g (nor.bytes old)) s ask ≡ gives reply s) → Goes nor g ask old new slots slots wrote reply
+  goes_shown ask reply wrote none reads built fine other may brief is = goes_moved ask reply wrote none reads built fine other may brief (λ k. refl)
+      (λ s here. is s here ∙ ap (λ (n : State). gives reply n) (sym (same_slots s (descriptors slots) here.slots)))
 
   -- A call with accepted names that was refused, or that met a fault, before it asked for a program or an erase.
   pub goes_refused : {T : Type 0} {old new : D} (ask : Ask) (why : FsErr) (wrote : Bool) → wrote ≡ false → OnlyReads nor old new → is_built ask ≡ true → names_fault ask ≡ None → may_meet ask why ≡ true →
       (IsErrOf {T = T} (Err why) DeviceFault → Rose (nor.faults old) (nor.faults new)) →
-      ((s : State) → IsImageOf nor g old s → (why ≡ DeviceFault → ⊥) → ((why ≡ Unbuilt → ⊥) × (answer g (has_spare g (nor.bytes old)) s ask ≡ refused why s)) ⊎ ((why ≡ Unbuilt) × LacksPage g (nor.bytes old) s ask)) → Goes nor g ask old new wrote (Refuses why)
+      ((s : State) → IsImageOf nor g old slots s → (why ≡ DeviceFault → ⊥) → ((why ≡ Unbuilt → ⊥) × (answer g (has_spare g (nor.bytes old)) s ask ≡ refused why s)) ⊎ ((why ≡ Unbuilt) × LacksPage g (nor.bytes old) s ask)) → Goes nor g ask old new slots slots wrote (Refuses why)
   goes_refused {T} {old} {new} ask why wrote none reads built fine met cause is =
       let w = early why (and_parts (is_early why) (meets ask why) met).0 in
       goes_read ask (Refuses why) wrote none reads built
+      (record {
+        among = or_first (may_meet ask why) _ met;
+        brief = λ bytes e. absurd (no_gift (Refuses why) bytes refl e);
+        named = named_fine ask (Refuses why) wrote fine (λ v name e. w.no_name (subst (λ (x : FsErr). is_of_name x ≡ true) (sym (refuses_same why v e)) name));
+        still = λ refusal. refl;
+        keeps = λ k. refl;
+      })
       (λ s here no_fault no_lack. ⊎_elim
-      (λ (refused_so : (why ≡ Unbuilt → ⊥) × (answer g (has_spare g (nor.bytes old)) s ask ≡ refused why s)). refused_so.1)
+      (λ (refused_so : (why ≡ Unbuilt → ⊥) × (answer g (has_spare g (nor.bytes old)) s ask ≡ refused why s)). refused_so.1 ∙ ap (λ (n : State). gives (Refuses why) n) (sym (same_slots s (descriptors slots) here.slots)))
       (λ (lack : (why ≡ Unbuilt) × LacksPage g (nor.bytes old) s ask). absurd (no_lack (ap (λ (v : FsErr). Refuses v) lack.0)))
       (is s here (λ fault. no_fault (ap (λ (v : FsErr). Refuses v) fault))))
       (λ s here e. let lacking : why ≡ Unbuilt = refuses_same why Unbuilt e in ⊎_elim
@@ -228,12 +278,26 @@ module _ {D : Type 0} {nor : NorOf D} {g : Geometry} where
       (λ (lack : (why ≡ Unbuilt) × LacksPage g (nor.bytes old) s ask). lack.1)
       (is s here (λ fault. let no : Unbuilt ≡ DeviceFault = sym lacking ∙ fault in cc)))
       (λ e. cause (ap (λ (v : FsErr). Err v) (refuses_same why DeviceFault e)))
-      (λ d e. w.undamaged d (refuses_same why (Damaged d) e))
-      (or_first (may_meet ask why) _ met)
-      (named_fine ask (Refuses why) wrote fine (λ v name e. w.no_name (subst (λ (x : FsErr). is_of_name x ≡ true) (sym (refuses_same why v e)) name)))
+      (λ d e. absurd (w.undamaged d (refuses_same why (Damaged d) e)))
+
+  -- A read of a descriptor's file that found a page not to be there: the device isn't one that stands at a state.
+  pub goes_missed : {old new : D} (ask : Ask) (d : Differ) (wrote : Bool) → wrote ≡ false → OnlyReads nor old new → is_built ask ≡ true → names_fault ask ≡ None → reads_file ask ≡ true → d.wanted ≢ d.found →
+      ((s : State) → IsImageOf nor g old slots s → ⊥) → Goes nor g ask old new slots slots wrote (Refuses (Damaged d))
+  goes_missed {old} {new} ask d wrote none reads built fine reader apart never = goes_read ask (Refuses (Damaged d)) wrote none reads built
+      (record {
+        among = or_last (may_meet ask (Damaged d)) _ (or_last (has_name ask && is_of_name (Damaged d)) _ (both_true (is_change ask || reads_file ask) true (or_last (is_change ask) (reads_file ask) reader) refl));
+        brief = λ bytes e. absurd (no_gift (Refuses (Damaged d)) bytes refl e);
+        named = named_fine ask (Refuses (Damaged d)) wrote fine (λ v name e. (no_name v name).2 d (sym (refuses_same (Damaged d) v e)));
+        still = λ refusal. refl;
+        keeps = λ k. refl;
+      })
+      (λ s here no_fault no_lack. absurd (never s here))
+      (λ s here e. absurd (never s here))
+      (λ e. absurd (let no : Damaged d ≡ DeviceFault = refuses_same (Damaged d) DeviceFault e in cc))
+      (λ x e. let same : d ≡ x = (let f : Damaged d ≡ Damaged x = refuses_same (Damaged d) (Damaged x) e in cc) in (subst (λ (y : Differ). y.wanted ≢ y.found) same apart, never))
 
   -- a call that isn't built
-  pub goes_unbuilt : {old new : D} (ask : Ask) (wrote : Bool) → wrote ≡ false → OnlyReads nor old new → is_built ask ≡ false → may_answer ask (Refuses Unbuilt) ≡ true → Goes nor g ask old new wrote (Refuses Unbuilt)
+  pub goes_unbuilt : {old new : D} (ask : Ask) (wrote : Bool) → wrote ≡ false → OnlyReads nor old new → is_built ask ≡ false → may_answer ask (Refuses Unbuilt) ≡ true → Goes nor g ask old new slots slots wrote (Refuses Unbuilt)
   goes_unbuilt {old} {new} ask wrote none reads built among = record {
     cuts = reads_cuts ask reads;
     answers = λ s here no_fault no_lack. absurd (no_lack refl);
@@ -241,10 +305,13 @@ module _ {D : Type 0} {nor : NorOf D} {g : Geometry} where
     unbuilt = λ b. (refl, none);
     begun = λ s here w. absurd (let no : true ≡ false = sym w ∙ none in cc);
     untouched = λ w. reads;
+    still = λ refusal. refl;
+    keeps = λ k. refl;
     cause = λ e. absurd (let no : Unbuilt ≡ DeviceFault = refuses_same Unbuilt DeviceFault e in cc);
     differs = λ d e. absurd (let no : Unbuilt ≡ Damaged d = refuses_same Unbuilt (Damaged d) e in cc);
     undamaged = λ s here d e. let no : Unbuilt ≡ Damaged d = refuses_same Unbuilt (Damaged d) e in cc;
     among = among;
+    brief = λ bytes e. absurd (no_gift (Refuses Unbuilt) bytes refl e);
     named = record {
       refused = λ b. absurd (let no : true ≡ false = sym b ∙ built in cc);
       only = λ why name e. absurd ((no_name why name).1 (sym (refuses_same Unbuilt why e)));
@@ -253,47 +320,121 @@ module _ {D : Type 0} {nor : NorOf D} {g : Geometry} where
   }
 
   -- a call whose names are refused
-  pub goes_named : {d : D} (ask : Ask) (why : FsErr) (wrote : Bool) → wrote ≡ false → OnlyReads nor d d → is_built ask ≡ true → has_name ask ≡ true → is_of_name why ≡ true → names_fault ask ≡ Some why → Goes nor g ask d d wrote (Refuses why)
+  pub goes_named : {d : D} (ask : Ask) (why : FsErr) (wrote : Bool) → wrote ≡ false → OnlyReads nor d d → is_built ask ≡ true → has_name ask ≡ true → is_of_name why ≡ true → names_fault ask ≡ Some why → Goes nor g ask d d slots slots wrote (Refuses why)
   goes_named {d} ask why wrote none reads built takes name fault =
       let no = no_name why name in
       goes_read ask (Refuses why) wrote none reads built
-      (λ s here no_fault no_lack. names_first g (has_spare g (nor.bytes d)) s ask why fault)
+      (record {
+        among = or_last (may_meet ask why) _ (or_first (has_name ask && is_of_name why) _ (both_true (has_name ask) (is_of_name why) takes name));
+        brief = λ bytes e. absurd (no_gift (Refuses why) bytes refl e);
+        named = named_refused ask why wrote fault none;
+        still = λ refusal. refl;
+        keeps = λ k. refl;
+      })
+      (λ s here no_fault no_lack. names_first g (has_spare g (nor.bytes d)) s ask why fault ∙ ap (λ (n : State). gives (Refuses why) n) (sym (same_slots s (descriptors slots) here.slots)))
       (λ s here e. absurd (no.1 (refuses_same why Unbuilt e)))
       (λ e. absurd (no.0 (refuses_same why DeviceFault e)))
-      (λ x e. no.2 x (refuses_same why (Damaged x) e))
-      (or_last (may_meet ask why) _ (or_first (has_name ask && is_of_name why) _ (both_true (has_name ask) (is_of_name why) takes name)))
-      (named_refused ask why wrote fault none)
+      (λ x e. absurd (no.2 x (refuses_same why (Damaged x) e)))
+
+-- ---- calls that ask nothing of the device
+
+calm_reply : (result : Result Told FsErr) (into : List ℕ) → is_calm (reply_of result []) ≡ true → reply_of result into ≡ reply_of result []
+calm_reply (Ok Done) into e = refl
+calm_reply (Ok (AsNumber n)) into e = refl
+calm_reply (Ok (Bytes n)) into e = absurd (let no : false ≡ true = e in cc)
+calm_reply (Ok (AsFile stat)) into e = refl
+calm_reply (Ok NoMore) into e = refl
+calm_reply (Ok (Room info)) into e = refl
+calm_reply (Err why) into e = refl
+
+-- such an answer is no fault, no damage, no bytes, no refusal of a name, and of a call that is built
+record IsCalm (reply : Answer) : Type 0 where
+  fault : reply ≡ Refuses DeviceFault → ⊥
+  unbuilt : reply ≡ Refuses Unbuilt → ⊥
+  damage : (d : Differ) → reply ≡ Refuses (Damaged d) → ⊥
+  name : (why : FsErr) → is_of_name why ≡ true → reply ≡ Refuses why → ⊥
+  bytes : (bytes : List ℕ) → reply ≡ Gives bytes → ⊥
+
+calm_no : (reply : Answer) (why : FsErr) → is_of_descriptor why ≡ false → is_calm reply ≡ true → reply ≡ Refuses why → ⊥
+calm_no reply why other calm e = let no : true ≡ false = sym calm ∙ ap is_calm e ∙ other in cc
+
+name_no_slot : (why : FsErr) → is_of_name why ≡ true → is_of_descriptor why ≡ false
+name_no_slot BadName e = refl
+name_no_slot NameTooLong e = refl
+name_no_slot _ e = absurd (let no : false ≡ true = e in cc)
+
+is_calm_so : (reply : Answer) → is_calm reply ≡ true → IsCalm reply
+is_calm_so reply calm = record {
+  fault = calm_no reply DeviceFault refl calm;
+  unbuilt = calm_no reply Unbuilt refl calm;
+  damage = λ d. calm_no reply (Damaged d) refl calm;
+  name = λ why name. calm_no reply why (name_no_slot why name) calm;
+  bytes = λ bytes e. let no : true ≡ false = sym calm ∙ ap is_calm e in cc;
+}
+
+pub goes_by_slots : {D : Type 0} {nor : NorOf D} {g : Geometry} {d : D} {slots after : List FdSlot} {result : Result Told FsErr} (ask : Ask) (into : List ℕ) (wrote : Bool) → Moves ask slots after result → wrote ≡ false → OnlyReads nor d d → is_built ask ≡ true → names_fault ask ≡ None →
+    (keeps_slots ask ≡ true → after ≡ slots) → Goes nor g ask d d slots after wrote (reply_of result into)
+goes_by_slots {D} {nor} {g} {d} {slots} {after} {result} ask into wrote moves none reads built fine keeps =
+    let w = is_calm_so (reply_of result []) moves.calm in
+    rw (calm_reply result into moves.calm) (goes_read ask (reply_of result []) wrote none reads built
+    (record {
+      among = moves.among;
+      brief = λ bytes e. absurd (w.bytes bytes e);
+      named = named_fine ask (reply_of result []) wrote fine w.name;
+      still = moves.still;
+      keeps = keeps;
+    })
+    (λ s here no_fault no_lack. moves.answers g (has_spare g (nor.bytes d)) s here.slots)
+    (λ s here e. absurd (w.unbuilt e))
+    (λ e. absurd (w.fault e))
+    (λ x e. absurd (w.damage x e)))
+
+-- ---- after a look
+
+pub err_same : {T : Type 0} (v w : FsErr) → IsErrOf {T = T} (Err v) w → v ≡ w
+err_same v w e = cc
+
+-- a count that rose later has risen
+pub rose_later : (a b c : ℕ) → a ≤ b → Rose b c → Rose a c
+rose_later a b c le rose = grind arith
+
+-- what is told after a look is told before it
+pub looked_back : {N : Type 0} {nor : NorOf N} {old mid : View N nor} (P : Geometry → List ℕ → Type 0) → OnlyLooks old mid → (nor.tells mid.nor.now → IsTidy mid.geometry (nor.bytes mid.nor.now) → P mid.geometry (nor.bytes mid.nor.now)) →
+    nor.tells old.nor.now → IsTidy old.geometry (nor.bytes old.nor.now) → P old.geometry (nor.bytes old.nor.now)
+looked_back P looks told tells tidy = (rw (looks.same.geometry, looks.reads.bytes) at told) (looks.reads.told tells) tidy
 
 -- ---- steps
 
--- what a step leaves that is done: the flat table's answer and its table, and two free blocks where there were two
-pub record Makes (g : Geometry) (was : List ℕ) (s : State) (ask : Ask) (reply : Answer) (now : List ℕ) : Type 0 where
+-- What a step leaves that is done: the flat table's answer and its table, and two free blocks where there were two. `after` are the
+-- descriptors then.
+pub record Makes (g : Geometry) (was : List ℕ) (s : State) (ask : Ask) (reply : Answer) (after : List (Option Open)) (now : List ℕ) : Type 0 where
   pub answer_is : (answer g (has_spare g was) s ask).answer ≡ reply
   pub tidy : IsTidy g now
   pub table : (answer g (has_spare g was) s ask).next.table ≡ table_of g now
+  pub slots : after ≡ (answer g (has_spare g was) s ask).next.slots
   pub reserve : HasReserve g was → HasReserve g now
 
 -- A step does a call: where the image is that of a state it may be done, and what it leaves and the reply are what the flat table
 -- says.
-pub record IsStep {D : Type 0} (nor : NorOf D) (g : Geometry) (ask : Ask) (reply : Answer) (old : D) (step : Step (Unit {0})) : Type 0 where
-  pub can : (s : State) → IsImageOf nor g old s → step.needs g (nor.bytes old)
-  pub cut : (s : State) → IsImageOf nor g old s → (image : List ℕ) → step.cut g (nor.bytes old) image → CallCut g s ask (nor.bytes old) image
-  pub done : (s : State) → IsImageOf nor g old s → (now : List ℕ) → step.done g (nor.bytes old) now tt → Makes g (nor.bytes old) s ask reply now
-  pub doable : (s : State) → IsImageOf nor g old s → IsDoable g (nor.bytes old) s ask
+pub record IsStep {D : Type 0} (nor : NorOf D) (g : Geometry) (slots : List FdSlot) (ask : Ask) (reply : Answer) (after : List (Option Open)) (old : D) (step : Step (Unit {0})) : Type 0 where
+  pub can : (s : State) → IsImageOf nor g old slots s → step.needs g (nor.bytes old)
+  pub cut : (s : State) → IsImageOf nor g old slots s → (image : List ℕ) → step.cut g (nor.bytes old) image → CallCut g s ask (nor.bytes old) image
+  pub done : (s : State) → IsImageOf nor g old slots s → (now : List ℕ) → step.done g (nor.bytes old) now tt → Makes g (nor.bytes old) s ask reply after now
+  pub doable : (s : State) → IsImageOf nor g old slots s → IsDoable g (nor.bytes old) s ask
 
 broken_name : (why : StepErr) (w : FsErr) → is_of_name w ≡ true → Refuses (as_fs_err why) ≡ Refuses w → ⊥
 broken_name StepFault w name e = (no_name w name).0 (sym (refuses_same DeviceFault w e))
 broken_name (StepDamaged d) w name e = (no_name w name).2 d (sym (refuses_same (Damaged d) w e))
 
 -- a call that took its step after a look
-module _ {N : Type 0} {nor : NorOf N} {old mid new : View N nor} {step : Step (Unit {0})} (ask : Ask) (reply : Answer) (built : is_built ask ≡ true) (change : is_change ask ≡ true) (fine : names_fault ask ≡ None)
-    (does : IsStep nor old.geometry ask reply old.nor.now step) (looks : OnlyLooks old mid) (fresh : old.wrote ≡ false) where
+module _ {N : Type 0} {nor : NorOf N} {old mid new : View N nor} {slots : List FdSlot} {step : Step (Unit {0})} {moved : List (Option Open)} (ask : Ask) (reply : Answer) (built : is_built ask ≡ true) (change : is_change ask ≡ true) (fine : names_fault ask ≡ None)
+    (does : IsStep nor old.geometry slots ask reply moved old.nor.now step) (looks : OnlyLooks old mid) (fresh : old.wrote ≡ false) where
   after : {r : Result (Unit {0}) StepErr} → Stepped stopped mid new r step → Stepped stopped old new r step
   after call = after_look looks call (λ tells need. record { needs = need; cut = λ c cut. cut; done = λ c ok done. done })
 
   -- the step was done
-  pub goes_done : is_refusal reply ≡ false → may_answer ask reply ≡ true → Stepped stopped mid new (Ok tt) step → Goes nor old.geometry ask old.nor.now new.nor.now new.wrote reply
-  goes_done other may taken =
+  pub goes_done : (last : List FdSlot) → descriptors last ≡ moved → is_refusal reply ≡ false → may_answer ask reply ≡ true → ((bytes : List ℕ) → reply ≡ Gives bytes → ⊥) → (keeps_slots ask ≡ true → last ≡ slots) → Stepped stopped mid new (Ok tt) step → Goes nor old.geometry ask old.nor.now new.nor.now slots last new.wrote reply
+  goes_done last moves other may no_bytes keeps taken =
       let call = after taken in
       record {
         cuts = wider call.cuts (λ tells image cut s here. does.cut s here image (cut (does.can s here)));
@@ -301,7 +442,7 @@ module _ {N : Type 0} {nor : NorOf N} {old mid new : View N nor} {step : Step (U
             let made = does.done s here (nor.bytes new.nor.now) (call.ends here.tells (does.can s here)) in
             record {
               reply_is = sym made.answer_is;
-              holds = record { tells = call.cuts.cuts.told here.tells; tidy = made.tidy; table = made.table };
+              holds = record { tells = call.cuts.cuts.told here.tells; tidy = made.tidy; table = made.table; slots = moves ∙ made.slots; opened = opens_kept old.geometry (has_spare old.geometry (nor.bytes old.nor.now)) s ask (names_by old.geometry (nor.bytes old.nor.now) s here.table) here.opened };
               reserve = made.reserve;
               reads = λ refusal. absurd (let no : true ≡ false = sym refusal ∙ other in cc);
             };
@@ -309,17 +450,20 @@ module _ {N : Type 0} {nor : NorOf N} {old mid new : View N nor} {step : Step (U
         unbuilt = λ b. absurd (let no : true ≡ false = sym built ∙ b in cc);
         begun = λ s here w. does.doable s here;
         untouched = λ none. call.framed.untouched fresh none;
+        still = λ refusal. absurd (let no : true ≡ false = sym refusal ∙ other in cc);
+        keeps = keeps;
         cause = λ e. absurd (no_refusal reply DeviceFault other e);
         differs = λ d e. absurd (no_refusal reply (Damaged d) other e);
         undamaged = λ s here d e. no_refusal reply (Damaged d) other e;
         among = may;
+        brief = λ bytes e. absurd (no_bytes bytes e);
         named = named_fine ask reply new.wrote fine (λ why name e. no_refusal reply why other e);
         looks = λ look. absurd (let no : true ≡ false = sym change ∙ look in cc);
       }
 
   -- the device failed in the step, or a page read otherwise
   broken_by : (why : StepErr) → may_answer ask (Refuses (as_fs_err why)) ≡ true → (as_fs_err why ≡ Unbuilt → ⊥) → ((d : Differ) → as_fs_err why ≡ Damaged d → (why ≡ StepFault → ⊥) × (d.wanted ≢ d.found)) → (as_fs_err why ≡ DeviceFault → why ≡ StepFault) →
-      Stepped stopped old new (Err why) step → Goes nor old.geometry ask old.nor.now new.nor.now new.wrote (Refuses (as_fs_err why))
+      Stepped stopped old new (Err why) step → Goes nor old.geometry ask old.nor.now new.nor.now slots slots new.wrote (Refuses (as_fs_err why))
   broken_by why may no_lack apart fault call = record {
     cuts = wider call.cuts (λ tells image cut s here. does.cut s here image (cut (does.can s here)));
     answers = λ s here no_fault no_lacks. absurd (no_fault (ap (λ (w : StepErr). Refuses (as_fs_err w)) (call.ends here.tells (does.can s here))));
@@ -327,18 +471,21 @@ module _ {N : Type 0} {nor : NorOf N} {old mid new : View N nor} {step : Step (U
     unbuilt = λ b. absurd (let no : true ≡ false = sym built ∙ b in cc);
     begun = λ s here w. does.doable s here;
     untouched = λ none. call.framed.untouched fresh none;
+    still = λ refusal. refl;
+    keeps = λ k. refl;
     cause = λ e. call.cause (ap (λ (w : StepErr). Err w) (fault (refuses_same (as_fs_err why) DeviceFault e)));
     differs = λ d e. (apart d (refuses_same (as_fs_err why) (Damaged d) e)).1;
     undamaged = λ s here d e. (apart d (refuses_same (as_fs_err why) (Damaged d) e)).0 (call.ends here.tells (does.can s here));
     among = may;
+    brief = λ bytes e. absurd (no_gift (Refuses (as_fs_err why)) bytes refl e);
     named = named_fine ask (Refuses (as_fs_err why)) new.wrote fine (broken_name why);
     looks = λ look. absurd (let no : true ≡ false = sym change ∙ look in cc);
   }
 
-  pub goes_broken : (why : StepErr) → may_answer ask (Refuses DeviceFault) ≡ true → Stepped stopped mid new (Err why) step → Goes nor old.geometry ask old.nor.now new.nor.now new.wrote (Refuses (as_fs_err why))
+  pub goes_broken : (why : StepErr) → may_answer ask (Refuses DeviceFault) ≡ true → Stepped stopped mid new (Err why) step → Goes nor old.geometry ask old.nor.now new.nor.now slots slots new.wrote (Refuses (as_fs_err why))
   goes_broken StepFault may taken = broken_by StepFault may (λ x. cc) (λ d e. absurd (cc)) (λ e. refl) (after taken)
   goes_broken (StepDamaged x) may taken = broken_by (StepDamaged x)
-      (or_last (may_meet ask (Damaged x)) _ (or_last (has_name ask && is_of_name (Damaged x)) _ (both_true (is_change ask) true change refl)))
+      (or_last (may_meet ask (Damaged x)) _ (or_last (has_name ask && is_of_name (Damaged x)) _ (both_true (is_change ask || reads_file ask) true (or_first (is_change ask) (reads_file ask) change) refl)))
       (λ e. cc)
       (λ d e. let same : x ≡ d = cc in (λ f. cc, subst (λ (y : Differ). y.wanted ≢ y.found) same taken.means))
       (λ e. absurd (cc)) (after taken)

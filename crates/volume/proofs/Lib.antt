@@ -3,7 +3,9 @@ pub mod Magics
 pub mod Counting
 pub mod Recording
 pub mod Going
-pub mod Creating
+pub mod NewFiles
 pub mod Removing
 pub mod Showing
+pub mod Openings
+pub mod Descriptors
 pub mod Calling

@@ -1,15 +1,18 @@
 -- The file that a remove takes out, and what it leaves.
 use Rattle.std.proofs.Common.{inl, ◌≡◌, ℕ, ◌==◌, List, [], ◌∷◌, Bool, true, false, ◌⊎◌, refl, sym, ◌∙◌, ap, subst, arith}
-use Rattle.std.specs.Prelude.{Option, Some, None, is_some}
+use Rattle.std.specs.Prelude.{Option, Some, None, is_some, map}
 use Rattle.std.specs.Option.{option_map}
 use Rattle.geometry.specs.declared.geometry.Geometry.{Geometry}
 use Rattle.nor_core.specs.declared.state.NorState.{Ghosts as NorOf}
 use Rattle.table_model.specs.declared.error.FsErr.{FsErr}
 use Rattle.table_model.specs.declared.error.FsErr.TheVariants.{NotFound, Unbuilt}
-use Rattle.table_model.specs.Table.{File, State, file_named, file_of, has_id, drop_file}
+use Rattle.table_model.specs.Table.{File, Open, State, file_named, file_of, has_id, drop_file}
 use Rattle.table_model.specs.Names.{name_refusal}
 use Rattle.table_model.specs.Files.{without}
-use Rattle.table_model.specs.Outcome.{refused, gives}
+use Rattle.table_model.specs.Descriptors.{without_file}
+use Rattle.table_model.specs.Outcome.{Outcome, refused, gives}
+use Rattle.fd_table.specs.declared.slot.FdSlot.{FdSlot}
+use Rattle.fd_table.specs.Slots.{descriptors}
 use Rattle.table_model.specs.Calls.{answer_remove}
 use Rattle.table_model.specs.Reply.{Fine}
 use Rattle.table_model.specs.Ask.{Removes}
@@ -71,39 +74,47 @@ unfolding done_steps
 remove_one g s name files = refl
 
 -- the file of the name is taken out
-one_by : (g : Geometry) (spare : Bool) (s : State) (name : List ℕ) (id : ℕ) (o : Option File) → name_refusal name ≡ None → file_named name s.table ≡ o → option_map (λ f. f.id) o ≡ Some id → IsOneStep g spare s (Removes name) (drop_file id s.table)
+one_by : (g : Geometry) (spare : Bool) (s : State) (name : List ℕ) (id : ℕ) (o : Option File) → name_refusal name ≡ None → file_named name s.table ≡ o → option_map (λ f. f.id) o ≡ Some id → IsOneStep g spare s (Removes name) Fine (drop_file id s.table)
 unfolding without
 one_by g spare s name id None fine at e = absurd (cc)
 one_by g spare s name id (Some f) fine at e =
     let same : f.id ≡ id = cc in
-    subst (λ (n : ℕ). IsOneStep g spare s (Removes name) (drop_file n s.table)) same
-    (one_step g spare s (without f s) (Removes name) (flat_removes g spare s name f fine at) (remove_one g s name (without f s).table))
+    subst (λ (n : ℕ). IsOneStep g spare s (Removes name) Fine (drop_file n s.table)) same
+    (one_step g spare s (without f s) (Removes name) Fine refl (flat_removes g spare s name f fine at) (remove_one g s name (without f s).table))
 
-one : (g : Geometry) (image : List ℕ) (s : State) (name : List ℕ) (id : ℕ) → name_refusal name ≡ None → s.table ≡ table_of g image → id_named name (table_of g image) ≡ Some id → IsOneStep g (has_spare g image) s (Removes name) (drop_file id (table_of g image))
-one g image s name id fine same is = subst (λ (table : List File). IsOneStep g (has_spare g image) s (Removes name) (drop_file id table)) same
+-- the descriptors on it are closed
+slots_by : (g : Geometry) (spare : Bool) (s : State) (name : List ℕ) (id : ℕ) (slots : List (Option Open)) (o : Option File) → name_refusal name ≡ None → file_named name s.table ≡ o → option_map (λ f. f.id) o ≡ Some id → slots ≡ s.slots →
+    map (without_file id) slots ≡ (answer g spare s (Removes name)).next.slots
+unfolding without
+slots_by g spare s name id slots None fine at e same = absurd (cc)
+slots_by g spare s name id slots (Some f) fine at e same =
+    let is : f.id ≡ id = cc in
+    sym (ap (λ (o : Outcome). o.next.slots) (flat_removes g spare s name f fine at) ∙ rw (is, same) refl)
+
+one : (g : Geometry) (image : List ℕ) (s : State) (name : List ℕ) (id : ℕ) → name_refusal name ≡ None → s.table ≡ table_of g image → id_named name (table_of g image) ≡ Some id → IsOneStep g (has_spare g image) s (Removes name) Fine (drop_file id (table_of g image))
+one g image s name id fine same is = subst (λ (table : List File). IsOneStep g (has_spare g image) s (Removes name) Fine (drop_file id table)) same
     (one_by g (has_spare g image) s name id (file_named name s.table) fine refl (ap (id_named name) same ∙ is))
 
 -- ---- over a device
 
-module _ {D : Type 0} {nor : NorOf D} {g : Geometry} {old : D} (name : List ℕ) (fine : name_refusal name ≡ None) where
+module _ {D : Type 0} {nor : NorOf D} {g : Geometry} {old : D} {slots : List FdSlot} (name : List ℕ) (fine : name_refusal name ≡ None) where
   -- not removed
-  pub remove_refuses : {why : FsErr} (s : State) → IsImageOf nor g old s → IsMissing name (table_of g (nor.bytes old)) why → ((why ≡ Unbuilt → ⊥) × (answer g (has_spare g (nor.bytes old)) s (Removes name) ≡ refused why s)) ⊎ ((why ≡ Unbuilt) × LacksPage g (nor.bytes old) s (Removes name))
+  pub remove_refuses : {why : FsErr} (s : State) → IsImageOf nor g old slots s → IsMissing name (table_of g (nor.bytes old)) why → ((why ≡ Unbuilt → ⊥) × (answer g (has_spare g (nor.bytes old)) s (Removes name) ≡ refused why s)) ⊎ ((why ≡ Unbuilt) × LacksPage g (nor.bytes old) s (Removes name))
   remove_refuses {why} s here missing = inl (
     λ lack. let no : NotFound ≡ Unbuilt = sym missing.0 ∙ lack in cc,
     rw missing.0 (flat_missing g (has_spare g (nor.bytes old)) s name fine (ap (file_named name) here.table ∙ missing.1)),
   )
 
   -- the step
-  pub remove_step : (id : ℕ) → (nor.tells old → IsTidy g (nor.bytes old) → id_named name (table_of g (nor.bytes old)) ≡ Some id) →
-      IsStep nor g (Removes name) Fine old (removing id)
+  pub remove_step : (id : ℕ) → (nor.tells old → IsTidy g (nor.bytes old) → id_named name (table_of g (nor.bytes old)) ≡ Some id) → IsStep nor g slots (Removes name) Fine (map (without_file id) (descriptors slots)) old (removing id)
   remove_step id found = record {
     can = λ s here. can_remove g (nor.bytes old) name id here.tidy (found here.tells here.tidy);
     cut = λ s here image cut.
-        before_or_after g (nor.bytes old) image s (Removes name) (drop_file id (table_of g (nor.bytes old))) (one g (nor.bytes old) s name id fine here.table (found here.tells here.tidy)) here.table cut.sound
+        before_or_after g (nor.bytes old) image s (Removes name) Fine (drop_file id (table_of g (nor.bytes old))) (one g (nor.bytes old) s name id fine here.table (found here.tells here.tidy)) here.table cut.sound
         (λ reserve. reserve_mends g image (let free = cut.free in omega (arith, reserve, free))) cut.table;
     done = λ s here now done.
         let o = one g (nor.bytes old) s name id fine here.table (found here.tells here.tidy) in
-        record { answer_is = o.answer_is; tidy = done.tidy; table = o.table_is ∙ sym done.table; reserve = λ reserve. let free = done.free in omega (arith, reserve, free) };
+        record { answer_is = o.answer_is; tidy = done.tidy; table = o.table_is ∙ sym done.table; slots = slots_by g (has_spare g (nor.bytes old)) s name id (descriptors slots) (file_named name s.table) fine refl (ap (id_named name) here.table ∙ found here.tells here.tidy) here.slots; reserve = λ reserve. let free = done.free in omega (arith, reserve, free) };
     doable = λ s here.
         let o = one g (nor.bytes old) s name id fine here.table (found here.tells here.tidy) in
         record { done = ap is_refusal o.answer_is; had = λ takes. absurd (let no : false ≡ true = takes in cc) };

@@ -1,5 +1,5 @@
 -- What a call does to a volume, by the flat table: the contract of every file call.
-use Rattle.std.specs.Prelude.{◌≡◌, ◌≢◌, ◌⊎◌, ◌≤◌, ℕ, List, length, true, false, Some}
+use Rattle.std.specs.Prelude.{◌≡◌, ◌≢◌, ◌⊎◌, ℕ, List, true, false, Some}
 use Rattle.nor_core.specs.declared.state.NorState.{Ghosts as NorOf}
 use Rattle.nor_core.specs.Count.{Rose}
 use Rattle.nor_core.specs.Device.{Changes, OnlyReads}
@@ -7,7 +7,7 @@ use Rattle.table_model.specs.declared.error.FsErr.{FsErr}
 use Rattle.table_model.specs.declared.error.FsErr.TheVariants.{Failed, DeviceFault, Damaged, Unbuilt}
 use Rattle.table_model.specs.declared.error.Differ.{Differ}
 use Rattle.table_model.specs.Reply.{Answer, Gives, Refuses}
-use Rattle.table_model.specs.Ask.{Ask, Reads}
+use Rattle.table_model.specs.Ask.{Ask}
 use Rattle.table_model.specs.Steps.{is_refusal}
 use Rattle.table_model.specs.Window.{Moment}
 use Rattle.call_model.specs.Calls.{Publishes, Answers}
@@ -15,16 +15,9 @@ use Rattle.volume.specs.declared.volume.Volume.{Volume}
 use Rattle.volume.specs.Stages.{takes_calls, has_failed}
 use Rattle.volume.specs.Same.{IsSameVolume}
 use Rattle.volume.specs.Built.{is_built}
-use Rattle.volume.specs.Replies.{is_of_name, names_fault, may_answer, breaks, is_change}
+use Rattle.volume.specs.Replies.{is_of_name, names_fault, may_answer, breaks, is_change, keeps_slots}
 use Rattle.volume.specs.Holds.{memory, Holds}
-use Rattle.volume.specs.Goes.{IsDoable, LacksPage}
-
--- bytes that are given to a read, no more than it asks for
-pub record IsGiven (ask : Ask) (bytes : List ℕ) : Type 0 where
-  pub fd : ℕ
-  pub count : ℕ
-  pub reads : ask ≡ Reads fd count
-  pub few : length bytes ≤ count
+use Rattle.volume.specs.Goes.{IsDoable, LacksPage, IsGiven}
 
 module _ {N : Type 0} {nor : NorOf N} where
   -- the device was only read, and the descriptors and the stage are as before
@@ -61,5 +54,6 @@ module _ {N : Type 0} {nor : NorOf N} where
     pub failed : breaks reply ≡ true → (has_failed new ≡ true) ⊎ Unchanged old new
     pub stays : (new.stage ≡ old.stage) ⊎ ((takes_calls old ≡ true) × (has_failed new ≡ true) × (breaks reply ≡ true))
     pub stops : (m : Moment) → takes_calls old ≡ true → takes_calls new ≡ false → Holds old m → IsDoable old.geometry (nor.bytes old.nor.now) m.state ask
-    -- a call that only looks changes nothing
-    pub looks : is_change ask ≡ false → Unchanged old new
+    -- a call that only looks asks for no program and no erase, and one that only looks at descriptors leaves them
+    pub looks : is_change ask ≡ false → OnlyReads nor old.nor.now new.nor.now × (new.stage ≡ old.stage)
+    pub keeps : keeps_slots ask ≡ true → new.slots.now ≡ old.slots.now

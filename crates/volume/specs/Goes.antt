@@ -1,5 +1,5 @@
 -- What a call does to a device that holds a checked volume.
-use Rattle.std.specs.Prelude.{◌≡◌, ◌≢◌, ℕ, List, ◌∷◌, Bool, true, false, Some}
+use Rattle.std.specs.Prelude.{◌≡◌, ◌≢◌, ◌≤◌, ℕ, List, ◌∷◌, length, Bool, true, false, Some}
 use Rattle.geometry.specs.declared.geometry.Geometry.{Geometry}
 use Rattle.nor_core.specs.declared.state.NorState.{Ghosts as NorOf}
 use Rattle.nor_core.specs.Count.{Rose}
@@ -8,8 +8,8 @@ use Rattle.table_model.specs.declared.error.FsErr.{FsErr}
 use Rattle.table_model.specs.declared.error.FsErr.TheVariants.{DeviceFault, Damaged, Unbuilt}
 use Rattle.table_model.specs.declared.error.Differ.{Differ}
 use Rattle.table_model.specs.Table.{State}
-use Rattle.table_model.specs.Reply.{Answer, Refuses}
-use Rattle.table_model.specs.Ask.{Ask}
+use Rattle.table_model.specs.Reply.{Answer, Gives, Refuses}
+use Rattle.table_model.specs.Ask.{Ask, Reads}
 use Rattle.table_model.specs.Flat.{answer}
 use Rattle.table_model.specs.Steps.{is_refusal, steps}
 use Rattle.table_model.specs.Window.{IsAmong}
@@ -17,8 +17,9 @@ use Rattle.image_model.specs.Tables.{table_of}
 use Rattle.image_model.specs.Tidy.{HasReserve, Mends, has_spare}
 use Rattle.image_model.specs.Sound.{IsSound}
 use Rattle.image_model.specs.Collect.{are_had}
+use Rattle.fd_table.specs.declared.slot.FdSlot.{FdSlot}
 use Rattle.volume.specs.Built.{is_built}
-use Rattle.volume.specs.Replies.{is_of_name, names_fault, may_answer, is_change, takes_page}
+use Rattle.volume.specs.Replies.{is_of_name, names_fault, may_answer, is_change, keeps_slots, takes_page}
 use Rattle.volume.specs.Holds.{IsImageOf}
 
 -- What a cut in a call may leave of a volume at a state, on which nothing waits: an image that is sound with respect to the one before,
@@ -28,11 +29,11 @@ pub record CallCut (g : Geometry) (s : State) (ask : Ask) (was image : List ℕ)
   pub mends : HasReserve g was → Mends g image
   pub table : IsAmong (table_of g image) (s.table ∷ steps g (has_spare g was) s ask)
 
--- A call is answered as the flat table is, and the device tells the state after it; where two blocks were free two are, and
--- refused it has only read.
-pub record Reaches {D : Type 0} (nor : NorOf D) (g : Geometry) (old new : D) (s : State) (ask : Ask) (reply : Answer) : Type 0 where
+-- A call is answered as the flat table is, and device and descriptors are those of the state after it; where two blocks were free two
+-- are, and refused it has only read.
+pub record Reaches {D : Type 0} (nor : NorOf D) (g : Geometry) (old new : D) (after : List FdSlot) (s : State) (ask : Ask) (reply : Answer) : Type 0 where
   pub reply_is : reply ≡ (answer g (has_spare g (nor.bytes old)) s ask).answer
-  pub holds : IsImageOf nor g new (answer g (has_spare g (nor.bytes old)) s ask).next
+  pub holds : IsImageOf nor g new after (answer g (has_spare g (nor.bytes old)) s ask).next
   pub reserve : HasReserve g (nor.bytes old) → HasReserve g (nor.bytes new)
   pub reads : is_refusal reply ≡ true → OnlyReads nor old new
 
@@ -52,17 +53,28 @@ pub record IsNamed (ask : Ask) (reply : Answer) (wrote : Bool) : Type 0 where
   pub refused : is_built ask ≡ true → (why : FsErr) → names_fault ask ≡ Some why → (reply ≡ Refuses why) × (wrote ≡ false)
   pub only : (why : FsErr) → is_of_name why ≡ true → reply ≡ Refuses why → names_fault ask ≡ Some why
 
--- What a call does. `wrote` says whether a program or an erase was asked for.
-pub record Goes {D : Type 0} (nor : NorOf D) (g : Geometry) (ask : Ask) (old new : D) (wrote : Bool) (reply : Answer) : Type 0 where
-  pub cuts : Changes nor old new (λ was image. (s : State) → IsImageOf nor g old s → CallCut g s ask was image)
-  pub answers : (s : State) → IsImageOf nor g old s → ¬ (reply ≡ Refuses DeviceFault) → ¬ (reply ≡ Refuses Unbuilt) → Reaches nor g old new s ask reply
-  pub lacks : (s : State) → is_built ask ≡ true → IsImageOf nor g old s → reply ≡ Refuses Unbuilt → LacksPage g (nor.bytes old) s ask × (wrote ≡ false)
+-- bytes that are given to a read, no more than it asks for
+pub record IsGiven (ask : Ask) (bytes : List ℕ) : Type 0 where
+  pub fd : ℕ
+  pub count : ℕ
+  pub reads : ask ≡ Reads fd count
+  pub few : length bytes ≤ count
+
+-- What a call does to a device and to the descriptors. `wrote` says whether a program or an erase was asked for.
+pub record Goes {D : Type 0} (nor : NorOf D) (g : Geometry) (ask : Ask) (old new : D) (slots after : List FdSlot) (wrote : Bool) (reply : Answer) : Type 0 where
+  pub cuts : Changes nor old new (λ was image. (s : State) → IsImageOf nor g old slots s → CallCut g s ask was image)
+  pub answers : (s : State) → IsImageOf nor g old slots s → ¬ (reply ≡ Refuses DeviceFault) → ¬ (reply ≡ Refuses Unbuilt) → Reaches nor g old new after s ask reply
+  pub lacks : (s : State) → is_built ask ≡ true → IsImageOf nor g old slots s → reply ≡ Refuses Unbuilt → LacksPage g (nor.bytes old) s ask × (wrote ≡ false)
   pub unbuilt : is_built ask ≡ false → (reply ≡ Refuses Unbuilt) × (wrote ≡ false)
-  pub begun : (s : State) → IsImageOf nor g old s → wrote ≡ true → IsDoable g (nor.bytes old) s ask
+  pub begun : (s : State) → IsImageOf nor g old slots s → wrote ≡ true → IsDoable g (nor.bytes old) s ask
   pub untouched : wrote ≡ false → OnlyReads nor old new
+  -- refused, or where the device failed, and in a call that only looks at them, the descriptors stay
+  pub still : is_refusal reply ≡ true → after ≡ slots
+  pub keeps : keeps_slots ask ≡ true → after ≡ slots
   pub cause : reply ≡ Refuses DeviceFault → Rose (nor.faults old) (nor.faults new)
   pub differs : (d : Differ) → reply ≡ Refuses (Damaged d) → d.wanted ≢ d.found
-  pub undamaged : (s : State) → IsImageOf nor g old s → (d : Differ) → reply ≡ Refuses (Damaged d) → ⊥
+  pub undamaged : (s : State) → IsImageOf nor g old slots s → (d : Differ) → reply ≡ Refuses (Damaged d) → ⊥
   pub among : may_answer ask reply ≡ true
+  pub brief : (bytes : List ℕ) → reply ≡ Gives bytes → IsGiven ask bytes
   pub named : IsNamed ask reply wrote
   pub looks : is_change ask ≡ false → wrote ≡ false

@@ -6,7 +6,10 @@ pub mod Opening
 pub mod Stages
 pub mod Same
 pub mod Holds
+pub mod Moves
 pub mod Goes
 pub mod Calls
 pub mod Records
 pub mod Removes
+pub mod Opens
+pub mod Recorded

@@ -1,19 +1,33 @@
 -- How a call may be answered at all, whatever the device tells.
-use Rattle.std.specs.Prelude.{Bool, true, false, not, ◌&&◌, ◌||◌, Option, Some, None, Result, Ok, Err}
+use Rattle.std.specs.Prelude.{◌≡◌, ◌≤◌, ℕ, List, take, Bool, true, false, not, nat_lt, ◌&&◌, ◌||◌, Option, Some, None, Result, Ok, Err}
 use Rattle.table_model.specs.declared.error.FsErr.{FsErr}
-use Rattle.table_model.specs.declared.error.FsErr.TheVariants.{BadName, NameTooLong, NotFound, ConflictingName, Tight, Full, DeviceFault, Damaged, Unbuilt}
-use Rattle.table_model.specs.declared.reply.Reply.{Reply}
+use Rattle.table_model.specs.declared.error.FsErr.TheVariants.{BadName, NameTooLong, BadFlags, BadDescriptor, OutOfDescriptors, NotFound, FileExists, ConflictingName, NotReadable, SeekBounds, Tight, Full, DeviceFault, Damaged, Unbuilt}
 use Rattle.table_model.specs.declared.reply.Stat.{Stat}
+use Rattle.volume.specs.declared.told.Told.{Told}
+use Rattle.volume.specs.declared.told.Told.TheVariants.{Done, Number as AsNumber, Bytes, File as AsFile, NoMore, Room}
+use Rattle.table_model.specs.declared.call.Whence.{Whence}
+use Rattle.table_model.specs.declared.call.Whence.TheVariants.{Set, Cur, End}
+use Rattle.table_model.specs.Table.{Open}
+use Rattle.table_model.specs.Descriptors.{empties, makes}
 use Rattle.flash_view.specs.declared.kinds.StepErr.{StepErr}
 use Rattle.flash_view.specs.declared.kinds.StepErr.TheVariants.{DeviceFault as StepFault, Damaged as StepDamaged}
 use Rattle.table_model.specs.Names.{name_refusal, names_refusal}
-use Rattle.table_model.specs.Reply.{Answer, Fine, Shows, Ends, Counts, Refuses, answered}
-use Rattle.table_model.specs.Ask.{Ask, Creates, Opens, Removes, Renames, Stats, NextAbove, Informs, SetsMeta}
+use Rattle.table_model.specs.Reply.{Answer, Fine, Tells as Number, Gives, Shows, Ends, Counts, Refuses}
+use Rattle.table_model.specs.Ask.{Ask, Creates, Opens, Reads, Seeks, Tells, Flushes, Closes, Removes, Renames, Stats, StatsOpen, NextAbove, Informs, SetsMeta}
+
+-- what a call told; bytes that were read stand at the front of those that were lent
+abbrev pub shown_by : Told → List ℕ → Answer
+shown_by Done into = Fine
+shown_by (AsNumber n) into = Number n
+shown_by (Bytes n) into = Gives (take n into)
+shown_by (AsFile stat) into = Shows stat
+shown_by NoMore into = Ends
+shown_by (Room info) into = Counts info
 
 -- what a result answers
-abbrev pub reply_of : Result Reply FsErr → Answer
-reply_of (Ok reply) = answered reply
-reply_of (Err why) = Refuses why
+abbrev pub reply_of : Result Told FsErr → List ℕ → Answer
+reply_of (Ok told) into = shown_by told into
+reply_of (Err why) into = Refuses why
 
 -- a typed result, by what it shows where it is Ok
 abbrev pub told : {T : Type 0} → (T → Answer) → Result T FsErr → Answer
@@ -46,13 +60,42 @@ abbrev pub is_missing : FsErr → Bool
 is_missing NotFound = true
 is_missing _ = false
 
--- the name is there, or there is no page for the file
+-- there is no page for a new file
+abbrev pub is_of_new_page : FsErr → Bool
+is_of_new_page Tight = true
+is_of_new_page Full = true
+is_of_new_page Unbuilt = true
+is_of_new_page _ = false
+
+-- the name of a new file is there, or there is no page for it
 abbrev pub is_of_new_file : FsErr → Bool
 is_of_new_file ConflictingName = true
-is_of_new_file Tight = true
-is_of_new_file Full = true
-is_of_new_file Unbuilt = true
-is_of_new_file _ = false
+is_of_new_file why = is_of_new_page why
+
+-- what stands against an opening, beside the name
+abbrev pub is_of_opening : FsErr → Bool
+is_of_opening BadFlags = true
+is_of_opening OutOfDescriptors = true
+is_of_opening NotFound = true
+is_of_opening FileExists = true
+is_of_opening why = is_of_new_page why
+
+-- no descriptor of that number is open
+abbrev pub is_of_descriptor : FsErr → Bool
+is_of_descriptor BadDescriptor = true
+is_of_descriptor _ = false
+
+-- .. or it may not be read
+abbrev pub is_of_reading : FsErr → Bool
+is_of_reading BadDescriptor = true
+is_of_reading NotReadable = true
+is_of_reading _ = false
+
+-- .. or the place isn't in the file
+abbrev pub is_of_seeking : FsErr → Bool
+is_of_seeking BadDescriptor = true
+is_of_seeking SeekBounds = true
+is_of_seeking _ = false
 
 -- the call isn't built
 abbrev pub is_unbuilt : FsErr → Bool
@@ -66,8 +109,15 @@ is_early why = not (is_of_name why) && not (is_damage why)
 -- of these, the ones of each call
 abbrev pub meets : Ask → FsErr → Bool
 meets (Creates name) why = is_of_new_file why || is_fault why
+meets (Opens name flags) why = is_of_opening why || is_fault why
+meets (Reads fd count) why = is_of_reading why || is_fault why
+meets (Seeks fd offset from) why = is_of_seeking why || is_fault why
+meets (Tells fd) why = is_of_descriptor why
+meets (Flushes fd) why = is_of_descriptor why
+meets (Closes fd) why = is_of_descriptor why
 meets (Removes name) why = is_missing why || is_fault why
 meets (Stats name) why = is_missing why || is_fault why
+meets (StatsOpen fd) why = is_of_descriptor why || is_fault why
 meets (NextAbove after) why = is_fault why
 meets Informs why = is_fault why
 meets _ why = is_unbuilt why
@@ -75,29 +125,58 @@ meets _ why = is_unbuilt why
 abbrev pub may_meet : Ask → FsErr → Bool
 may_meet ask why = is_early why && meets ask why
 
--- calls that change the table
+-- a create and an opening may meet this
+abbrev pub MeetsNew : FsErr → Type 0
+MeetsNew why = (name : List ℕ) (flags : ℕ) → (may_meet (Creates name) why ≡ true) × (may_meet (Opens name flags) why ≡ true)
+
+-- calls that may change the table
 abbrev pub is_change : Ask → Bool
 is_change (Creates name) = true
+is_change (Opens name flags) = makes flags || empties flags
 is_change (Removes name) = true
 is_change _ = false
+
+-- calls that read the pages of a descriptor's file
+abbrev pub reads_file : Ask → Bool
+reads_file (Reads fd count) = true
+reads_file (Seeks fd offset from) = true
+reads_file (StatsOpen fd) = true
+reads_file _ = false
+
+-- calls that leave the descriptors
+abbrev pub keeps_slots : Ask → Bool
+keeps_slots (Opens name flags) = false
+keeps_slots (Reads fd count) = false
+keeps_slots (Seeks fd offset from) = false
+keeps_slots (Closes fd) = false
+keeps_slots (Removes name) = false
+keeps_slots _ = true
 
 -- calls that take a name
 abbrev pub has_name : Ask → Bool
 has_name (Creates name) = true
+has_name (Opens name flags) = true
 has_name (Removes name) = true
 has_name (Stats name) = true
 has_name _ = false
 
 -- how a call may be refused
 abbrev pub may_refuse : Ask → FsErr → Bool
-may_refuse ask why = may_meet ask why || ((has_name ask && is_of_name why) || (is_change ask && is_damage why))
+may_refuse ask why = may_meet ask why || ((has_name ask && is_of_name why) || ((is_change ask || reads_file ask) && is_damage why))
 
 -- how a call may be answered
 abbrev pub may_answer : Ask → Answer → Bool
 may_answer ask (Refuses why) = may_refuse ask why
 may_answer (Creates name) Fine = true
+may_answer (Opens name flags) (Number fd) = nat_lt fd 65536
+may_answer (Reads fd count) (Gives bytes) = true
+may_answer (Seeks fd offset from) (Number at) = true
+may_answer (Tells fd) (Number at) = true
+may_answer (Flushes fd) Fine = true
+may_answer (Closes fd) Fine = true
 may_answer (Removes name) Fine = true
 may_answer (Stats name) (Shows stat) = true
+may_answer (StatsOpen fd) (Shows stat) = true
 may_answer (NextAbove after) (Shows stat) = true
 may_answer (NextAbove after) Ends = true
 may_answer Informs (Counts info) = true
@@ -121,9 +200,38 @@ breaks _ = false
 -- calls that take a page
 abbrev pub takes_page : Ask → Bool
 takes_page (Creates name) = true
+takes_page (Opens name flags) = makes flags
 takes_page _ = false
 
 -- a record, or the end of the table
 abbrev pub shown_or_end : Option Stat → Answer
 shown_or_end None = Ends
 shown_or_end (Some stat) = Shows stat
+
+-- the answer of a call that asks nothing of the device: no descriptor is open, or a number, or that it is done
+abbrev pub is_calm : Answer → Bool
+is_calm (Refuses why) = is_of_descriptor why
+is_calm (Number n) = true
+is_calm Fine = true
+is_calm _ = false
+
+-- what a read answers: bytes at the front of those that were lent
+abbrev pub as_read : Result ℕ FsErr → List ℕ → Answer
+as_read (Ok n) into = Gives (take n into)
+as_read (Err why) into = Refuses why
+
+-- what telling an offset answers
+abbrev pub offset_of : Option Open → Result ℕ FsErr
+offset_of None = Err BadDescriptor
+offset_of (Some d) = Ok d.offset
+
+-- the offset that a seek counts from, of a descriptor at an offset in a file of a size
+abbrev pub base_at : Whence → (offset size : ℕ) → ℕ
+base_at Set offset size = 0
+base_at Cur offset size = offset
+base_at End offset size = size
+
+-- the bytes that are lent for what is read are enough
+abbrev pub HasRoomFor : Ask → ℕ → Type 0
+HasRoomFor (Reads fd count) n = count ≤ n
+HasRoomFor ask n = Unit {0}

@@ -35,9 +35,9 @@ fn stat_in(g: &Geometry, page: &[u8], id: u16) -> Option<Stat>
     })
 }
 
-// The record of the file of an id.
+/// The record of the file of an id.
 #[tactic(auto, using(flash_view::proofs::Looking::looks_then))]
-fn stat_of_id<N: Nor>(v: &mut View<'_, N>, id: u16) -> Result<Option<Stat>, Failed>
+pub(crate) fn stat_of_id<N: Nor>(v: &mut View<'_, N>, id: u16) -> Result<Option<Stat>, Failed>
     ensures cause { OnErr result (Rose (N.faults v.old.nor.now) (N.faults v.new.nor.now)) }
     ensures looks { OnlyLooks v.old v.new }
     ensures told { N.tells v.old.nor.now → IsTidy v.old.geometry (N.bytes v.old.nor.now) → IfOk result (λ found. found ≡ option_map the_stat (file_of id (table_of v.old.geometry (N.bytes v.old.nor.now)))) }

@@ -1,4 +1,4 @@
-ghost use Rattle.std.specs.Prelude.{◌≡◌, IsErrOf, IfErr, true, false};
+ghost use Rattle.std.specs.Prelude.{◌≡◌, ℕ, List, IsErrOf, IfErr, true, false};
 ghost use Rattle.nor_core.specs.Count.{Rose};
 ghost use Rattle.flash_view.specs.Same.{IsSameView, OnlyLooks};
 ghost use Rattle.table_model.specs.Ask.{Removes};
@@ -8,12 +8,14 @@ ghost use Rattle.volume.specs.Removes.{FindsNamed};
 ghost use Rattle.volume.specs.Replies.{reply_of, may_meet};
 ghost use Rattle.volume.specs.Goes.{Goes};
 
+use crate::Told;
 use crate::names::accept;
 use crate::steps::failed_as;
+use fd_table::{FdSlot, close_file};
 use file_drop::remove_step;
 use flash_view::View;
 use nor_core::{Failed, Nor, NorState};
-use table_model::{FsErr, Reply};
+use table_model::FsErr;
 
 // The id of the file of a name, by its header page.
 fn find_named<N: Nor>(v: &mut View<'_, N>, name: &[u8]) -> Result<u16, FsErr>
@@ -29,17 +31,24 @@ fn find_named<N: Nor>(v: &mut View<'_, N>, name: &[u8]) -> Result<u16, FsErr>
     }
 }
 
-/// Removes the file of a name.
+/// Removes the file of a name, and closes each descriptor on it.
 #[tactic(auto, using(flash_view::proofs::Looking::same_then, flash_view::proofs::Looking::same_none))]
-pub(crate) fn remove_in<N: Nor>(v: &mut View<'_, N>, name: &[u8]) -> Result<Reply<'static>, FsErr>
+pub(crate) fn remove_in<N: Nor>(
+    v: &mut View<'_, N>,
+    slots: &mut [FdSlot],
+    name: &[u8],
+) -> Result<Told, FsErr>
     requires fresh { v.old.wrote ≡ false }
     ensures same { IsSameView v.old v.new }
-    ensures goes { Goes N.NorState v.old.geometry (Removes name.now) v.old.nor.now v.new.nor.now v.new.wrote (reply_of result) }
+    ensures goes { (into : List ℕ) → Goes N.NorState v.old.geometry (Removes name.now) v.old.nor.now v.new.nor.now slots.old slots.new v.new.wrote (reply_of result into) }
 {
     accept(name)?;
     let id = find_named(v, name)?;
     match remove_step(v, id) {
-        Ok(()) => Ok(Reply::Done),
+        Ok(()) => {
+            close_file(slots, id);
+            Ok(Told::Done)
+        }
         Err(why) => Err(failed_as(why)),
     }
 }

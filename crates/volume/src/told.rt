@@ -1,0 +1,38 @@
+ghost use Rattle.std.specs.Prelude.{◌≡◌};
+ghost use Rattle.table_model.specs.Reply.{answered};
+ghost use Rattle.volume.specs.Replies.{shown_by};
+
+use table_model::{Info, Reply, Stat};
+
+/// What a call told. Bytes that were read stand at the front of those that were lent for them.
+#[derive(Debug, Drop)]
+pub enum Told {
+    /// Done.
+    Done,
+    /// A number: a descriptor or an offset in bytes.
+    Number(u32),
+    /// How many bytes were read.
+    Bytes(u32),
+    /// A file's record.
+    File(Stat),
+    /// There is no further file.
+    NoMore,
+    /// How full the volume is.
+    Room(Info),
+}
+
+impl Told {
+    /// The reply that a script's line tells, with the bytes that were lent.
+    pub fn reply(self, lent: &[u8]) -> Reply<'_>
+        ensures { answered result ≡ shown_by self lent.now }
+    {
+        match self {
+            Told::Done => Reply::Done,
+            Told::Number(number) => Reply::Number(number),
+            Told::Bytes(count) => Reply::Bytes(&lent[..lent.len().min(count as usize)]),
+            Told::File(stat) => Reply::File(stat),
+            Told::NoMore => Reply::NoMore,
+            Told::Room(info) => Reply::Room(info),
+        }
+    }
+}

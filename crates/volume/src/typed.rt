@@ -1,0 +1,163 @@
+ghost use Rattle.std.specs.Prelude.{◌≡◌, length, min};
+ghost use Rattle.table_model.specs.Reply.{Fine, Tells as Number, Shows, Counts};
+ghost use Rattle.table_model.specs.Ask.{Creates, Opens, Reads, Seeks, Flushes, Closes, Removes, Stats, StatsOpen, NextAbove, Informs};
+ghost use Rattle.fd_table.specs.Slots.{descriptors, open_at};
+ghost use Rattle.volume.specs.Replies.{told, shown_or_end, as_read, offset_of};
+ghost use Rattle.volume.specs.Calls.{Calls};
+
+use crate::slots::opened;
+use crate::{Told, Volume};
+use nor_core::Nor;
+use table_model::{Call, FsErr, Info, Stat, Whence};
+
+impl<'b, N: Nor> Volume<'b, N> {
+    /// Makes an empty file of type 1 under the least unused id from 1, with meta bytes of 0xFF. Refused, in
+    /// this order: `Failed` (also where the volume wasn't checked), `BadName`, `NameTooLong`, `ConflictingName`,
+    /// `Tight`, `Full`, and `Unbuilt` where there is room but no free page without collecting garbage.
+    pub fn create(&mut self, name: &[u8]) -> Result<(), FsErr>
+        ensures { Calls (Creates name.now) self.old self.new (told (λ done. Fine) result) }
+    {
+        match self.answer(&Call::Create { name }, &mut []) {
+            Ok(Told::Done) => Ok(()),
+            Err(why) => Err(why),
+            _ => unreachable!(),
+        }
+    }
+
+    /// Opens a file under the lowest closed descriptor, whose number from 1 it answers, at offset 0. The flags are SPIFFS's own:
+    /// APPEND 1, TRUNC 2, CREAT 4, RDONLY 8, WRONLY 16, DIRECT 32, EXCL 64. A missing file is made where CREAT is set, as `create`
+    /// makes one. Refused, in this order: `Failed` (also where the volume wasn't checked), `Unbuilt` where TRUNC is set, `BadName`,
+    /// `NameTooLong`, `BadFlags` (a bit above 64), `OutOfDescriptors`, `FileExists` (it is there, and CREAT and EXCL are set),
+    /// `NotFound` (it isn't, and CREAT isn't set), and where it is to be made `Tight`, `Full`, and `Unbuilt` where there is room but
+    /// no free page without collecting garbage.
+    pub fn open_file(&mut self, name: &[u8], flags: u32) -> Result<u16, FsErr>
+        ensures { Calls (Opens name.now flags) self.old self.new (told (λ fd. Number fd) result) }
+    {
+        match self.answer(&Call::OpenFile { name, flags }, &mut []) {
+            Ok(Told::Number(fd)) => Ok(fd as u16),
+            Err(why) => Err(why),
+            _ => unreachable!(),
+        }
+    }
+
+    /// Reads from a descriptor's offset, as many bytes as there are and fit, which may be none, and answers their number; the offset
+    /// moves behind them. No more than 4,294,967,295 bytes are asked for. Refused, in this order: `Failed` (also where the volume
+    /// wasn't checked), `BadDescriptor`, `NotReadable`. After `DeviceFault` or `Damaged` the offset stands, and `into` holds anything.
+    pub fn read(&mut self, fd: u16, into: &mut [u8]) -> Result<u32, FsErr>
+        ensures { Calls (Reads fd (min (length into.old) 4294967295)) self.old self.new (as_read result into.new) }
+    {
+        let count = into.len().min(0xFFFF_FFFF) as u32;
+        match self.answer(&Call::Read { fd, count }, into) {
+            Ok(Told::Bytes(count)) => Ok(count),
+            Err(why) => Err(why),
+            _ => unreachable!(),
+        }
+    }
+
+    /// Moves a descriptor's offset, and answers the new one, in bytes from 0 to the file's size. Refused, in this order: `Failed` (also
+    /// where the volume wasn't checked), `BadDescriptor`, `SeekBounds`.
+    pub fn seek(&mut self, fd: u16, offset: i64, from: Whence) -> Result<u32, FsErr>
+        ensures { Calls (Seeks fd offset from) self.old self.new (told (λ at. Number at) result) }
+    {
+        match self.answer(&Call::Seek { fd, offset, from }, &mut []) {
+            Ok(Told::Number(at)) => Ok(at),
+            Err(why) => Err(why),
+            _ => unreachable!(),
+        }
+    }
+
+    /// A descriptor's offset in bytes. It asks nothing of the device, and answers on a volume that has failed too, by the descriptors
+    /// as the call that failed found them. Refused is `BadDescriptor` alone.
+    pub fn tell(&self, fd: u16) -> Result<u32, FsErr>
+        ensures { result ≡ offset_of (open_at (descriptors self.now.slots.now) fd) }
+    {
+        match opened(self.slots, fd) {
+            Ok(slot) => Ok(slot.offset),
+            Err(why) => Err(why),
+        }
+    }
+
+    /// Puts what was written through a descriptor onto the chip: this build keeps nothing back. Refused, in this order: `Failed`
+    /// (also where the volume wasn't checked), `BadDescriptor`.
+    pub fn flush(&mut self, fd: u16) -> Result<(), FsErr>
+        ensures { Calls (Flushes fd) self.old self.new (told (λ done. Fine) result) }
+    {
+        match self.answer(&Call::Flush { fd }, &mut []) {
+            Ok(Told::Done) => Ok(()),
+            Err(why) => Err(why),
+            _ => unreachable!(),
+        }
+    }
+
+    /// Closes a descriptor; its number is free again. Refused, in this order: `Failed` (also where the volume wasn't checked),
+    /// `BadDescriptor`.
+    pub fn close(&mut self, fd: u16) -> Result<(), FsErr>
+        ensures { Calls (Closes fd) self.old self.new (told (λ done. Fine) result) }
+    {
+        match self.answer(&Call::Close { fd }, &mut []) {
+            Ok(Told::Done) => Ok(()),
+            Err(why) => Err(why),
+            _ => unreachable!(),
+        }
+    }
+
+    /// Removes the file of a name, kills its pages, and closes every descriptor on it; it needs no page. Refused, in this order:
+    /// `Failed` (also where the volume wasn't checked), `BadName`, `NameTooLong`, `NotFound`.
+    pub fn remove(&mut self, name: &[u8]) -> Result<(), FsErr>
+        ensures { Calls (Removes name.now) self.old self.new (told (λ done. Fine) result) }
+    {
+        match self.answer(&Call::Remove { name }, &mut []) {
+            Ok(Told::Done) => Ok(()),
+            Err(why) => Err(why),
+            _ => unreachable!(),
+        }
+    }
+
+    /// The record of the file of a name. Refused, in this order: `Failed` (also where the volume wasn't checked),
+    /// `BadName`, `NameTooLong`, `NotFound`.
+    pub fn stat(&mut self, name: &[u8]) -> Result<Stat, FsErr>
+        ensures { Calls (Stats name.now) self.old self.new (told (λ stat. Shows stat) result) }
+    {
+        match self.answer(&Call::StatName { name }, &mut []) {
+            Ok(Told::File(stat)) => Ok(stat),
+            Err(why) => Err(why),
+            _ => unreachable!(),
+        }
+    }
+
+    /// The record of a descriptor's file. Refused, in this order: `Failed` (also where the volume wasn't checked),
+    /// `BadDescriptor`.
+    pub fn fstat(&mut self, fd: u16) -> Result<Stat, FsErr>
+        ensures { Calls (StatsOpen fd) self.old self.new (told (λ stat. Shows stat) result) }
+    {
+        match self.answer(&Call::FStat { fd }, &mut []) {
+            Ok(Told::File(stat)) => Ok(stat),
+            Err(why) => Err(why),
+            _ => unreachable!(),
+        }
+    }
+
+    /// The record of the file of the least id above one, or none. Refused is `Failed`, also where the volume wasn't
+    /// checked.
+    pub fn next(&mut self, after: u16) -> Result<Option<Stat>, FsErr>
+        ensures { Calls (NextAbove after) self.old self.new (told shown_or_end result) }
+    {
+        match self.answer(&Call::Next { after }, &mut []) {
+            Ok(Told::File(stat)) => Ok(Some(stat)),
+            Ok(Told::NoMore) => Ok(None),
+            Err(why) => Err(why),
+            _ => unreachable!(),
+        }
+    }
+
+    /// How full the volume is. Refused is `Failed`, also where the volume wasn't checked.
+    pub fn info(&mut self) -> Result<Info, FsErr>
+        ensures { Calls Informs self.old self.new (told (λ info. Counts info) result) }
+    {
+        match self.answer(&Call::GetInfo, &mut []) {
+            Ok(Told::Room(info)) => Ok(info),
+            Err(why) => Err(why),
+            _ => unreachable!(),
+        }
+    }
+}
