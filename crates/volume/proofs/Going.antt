@@ -40,7 +40,7 @@ use Rattle.call_model.specs.Memory.{OpensFiles}
 use Rattle.call_model.specs.Tables.{NamesById}
 use Rattle.call_model.proofs.Opens.{opens_kept}
 use Rattle.volume.specs.declared.told.Told.{Told}
-use Rattle.volume.specs.declared.told.Told.TheVariants.{Done, Number as AsNumber, Bytes, File as AsFile, NoMore, Room}
+use Rattle.volume.specs.declared.told.Told.TheVariants.{Done, Number as AsNumber, Bytes, File as AsFile, NoMore, Room, Refusal}
 use Rattle.image_model.specs.Tidy.{has_spare, Mends}
 use Rattle.volume.specs.Holds.{IsImageOf}
 use Rattle.volume.specs.Goes.{CallCut, IsDoable, LacksPage, IsNamed, IsGiven, Goes}
@@ -345,6 +345,7 @@ calm_reply (Ok (Bytes n)) into e = absurd (let no : false ≡ true = e in cc)
 calm_reply (Ok (AsFile stat)) into e = refl
 calm_reply (Ok NoMore) into e = refl
 calm_reply (Ok (Room info)) into e = refl
+calm_reply (Ok (Refusal why)) into e = refl
 calm_reply (Err why) into e = refl
 
 -- such an answer is no fault, no damage, no bytes, no refusal of a name, and of a call that is built

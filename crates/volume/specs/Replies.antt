@@ -4,7 +4,7 @@ use Rattle.table_model.specs.declared.error.FsErr.{FsErr}
 use Rattle.table_model.specs.declared.error.FsErr.TheVariants.{BadName, NameTooLong, BadFlags, BadDescriptor, OutOfDescriptors, NotFound, FileExists, ConflictingName, NotReadable, SeekBounds, Tight, Full, DeviceFault, Damaged, Unbuilt}
 use Rattle.table_model.specs.declared.reply.Stat.{Stat}
 use Rattle.volume.specs.declared.told.Told.{Told}
-use Rattle.volume.specs.declared.told.Told.TheVariants.{Done, Number as AsNumber, Bytes, File as AsFile, NoMore, Room}
+use Rattle.volume.specs.declared.told.Told.TheVariants.{Done, Number as AsNumber, Bytes, File as AsFile, NoMore, Room, Refusal}
 use Rattle.table_model.specs.declared.call.Whence.{Whence}
 use Rattle.table_model.specs.declared.call.Whence.TheVariants.{Set, Cur, End}
 use Rattle.table_model.specs.Table.{Open}
@@ -23,6 +23,7 @@ shown_by (Bytes n) into = Gives (take n into)
 shown_by (AsFile stat) into = Shows stat
 shown_by NoMore into = Ends
 shown_by (Room info) into = Counts info
+shown_by (Refusal why) into = Refuses why
 
 -- what a result answers
 abbrev pub reply_of : Result Told FsErr → List ℕ → Answer

@@ -3,7 +3,7 @@ ghost use Rattle.geometry.specs.Numbers.{usable, work_need, cache_need};
 ghost use Rattle.flash_view.specs.Same.{IsSameView};
 ghost use Rattle.page_cache.specs.Kept.{IsKept, FewReads};
 ghost use Rattle.table_model.specs.Ask.{asked};
-ghost use Rattle.volume.specs.Replies.{reply_of, breaks, HasRoomFor};
+ghost use Rattle.volume.specs.Replies.{reply_of, shown_by, breaks, HasRoomFor};
 ghost use Rattle.volume.specs.Opening.{stage_after as the_stage_after};
 ghost use Rattle.volume.specs.Goes.{Goes};
 ghost use Rattle.volume.specs.Calls.{Calls};
@@ -25,7 +25,7 @@ use table_model::{Call, FsErr};
 /// How a call went, and whether the device was asked for a program or an erase.
 #[derive(Drop)]
 struct Attempt {
-    told: Result<Told, FsErr>,
+    told: Told,
     wrote: bool,
 }
 
@@ -80,7 +80,7 @@ fn call_on<N: Nor>(
     ensures cache_size { length cache.new ≡ length cache.old }
     ensures few { FewReads N.NorState g nor.old cache.old nor.new cache.new }
     ensures faults { N.faults nor.old ≤ N.faults nor.new }
-    ensures goes { Goes N.NorState g (asked call.now) nor.old nor.new slots.old slots.new result.wrote (reply_of result.told into.new) }
+    ensures goes { Goes N.NorState g (asked call.now) nor.old nor.new slots.old slots.new result.wrote (shown_by result.told into.new) }
 {
     let mut v = View {
         geometry: g,
@@ -89,7 +89,10 @@ fn call_on<N: Nor>(
         cache,
         wrote: false,
     };
-    let told = call_in(&mut v, slots, call, into);
+    let told = match call_in(&mut v, slots, call, into) {
+        Ok(told) => told,
+        Err(why) => Told::Refusal(why),
+    };
     Attempt {
         told,
         wrote: v.wrote,
@@ -97,15 +100,15 @@ fn call_on<N: Nor>(
 }
 
 // Whether a call tells that the device failed, or that a page reads otherwise.
-fn is_broken(told: &Result<Told, FsErr>) -> bool
-    ensures { (into : List ℕ) → result ≡ breaks (reply_of told.now into) }
+fn is_broken(told: &Told) -> bool
+    ensures { (into : List ℕ) → result ≡ breaks (shown_by told.now into) }
 {
-    matches!(told, Err(FsErr::DeviceFault | FsErr::Damaged(_)))
+    matches!(told, Told::Refusal(FsErr::DeviceFault | FsErr::Damaged(_)))
 }
 
 // Where a call leads that a checked volume took.
-fn stage_after(told: &Result<Told, FsErr>, wrote: bool) -> Stage
-    ensures { (into : List ℕ) → result ≡ the_stage_after wrote (reply_of told.now into) }
+fn stage_after(told: &Told, wrote: bool) -> Stage
+    ensures { (into : List ℕ) → result ≡ the_stage_after wrote (shown_by told.now into) }
 {
     if wrote && is_broken(told) {
         Stage::Failed
@@ -119,12 +122,12 @@ impl<'b, N: Nor> Volume<'b, N> {
     /// written, or the volume takes no calls. Bytes that are read stand at the front of those that are lent for them, which are at
     /// least as many as a read asks for. After a fault the volume has failed if a program or an erase was asked for; mounting and
     /// checking again gives a table that the call may leave at a cut.
-    pub fn answer(&mut self, call: &Call<'_>, into: &mut [u8]) -> Result<Told, FsErr>
+    pub fn answer(&mut self, call: &Call<'_>, into: &mut [u8]) -> Told
         requires room { HasRoomFor (asked call.now) (length into.old) }
-        ensures { Calls (asked call.now) self.old self.new (reply_of result into.new) }
+        ensures { Calls (asked call.now) self.old self.new (shown_by result into.new) }
     {
         if self.stage != Stage::Checked {
-            return Err(FsErr::Failed);
+            return Told::Refusal(FsErr::Failed);
         }
         let Attempt { told, wrote } = call_on(
             self.geometry,

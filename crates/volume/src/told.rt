@@ -1,10 +1,10 @@
-ghost use Rattle.std.specs.Prelude.{◌≡◌};
-ghost use Rattle.table_model.specs.Reply.{answered};
+ghost use Rattle.std.specs.Prelude.{◌≡◌, ◌≤◌, ℕ, List, length};
+ghost use Rattle.table_model.specs.Reply.{Gives, answered};
 ghost use Rattle.volume.specs.Replies.{shown_by};
 
-use table_model::{Info, Reply, Stat};
+use table_model::{FsErr, Info, Reply, Stat};
 
-/// What a call told. Bytes that were read stand at the front of those that were lent for them.
+/// What a call told, refusals too. Bytes that were read stand at the front of those that were lent for them.
 #[derive(Debug, Drop)]
 pub enum Told {
     /// Done.
@@ -19,12 +19,15 @@ pub enum Told {
     NoMore,
     /// How full the volume is.
     Room(Info),
+    /// Refused.
+    Refusal(FsErr),
 }
 
 impl Told {
     /// The reply that a script's line tells, with the bytes that were lent.
     pub fn reply(self, lent: &[u8]) -> Reply<'_>
-        ensures { answered result ≡ shown_by self lent.now }
+        ensures shows { answered result ≡ shown_by self lent.now }
+        ensures within { (bytes : List ℕ) → answered result ≡ Gives bytes → length bytes ≤ length lent.now }
     {
         match self {
             Told::Done => Reply::Done,
@@ -33,6 +36,7 @@ impl Told {
             Told::File(stat) => Reply::File(stat),
             Told::NoMore => Reply::NoMore,
             Told::Room(info) => Reply::Room(info),
+            Told::Refusal(why) => Reply::Refusal(why),
         }
     }
 }

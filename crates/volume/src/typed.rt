@@ -18,8 +18,8 @@ impl<'b, N: Nor> Volume<'b, N> {
         ensures { Calls (Creates name.now) self.old self.new (told (λ done. Fine) result) }
     {
         match self.answer(&Call::Create { name }, &mut []) {
-            Ok(Told::Done) => Ok(()),
-            Err(why) => Err(why),
+            Told::Done => Ok(()),
+            Told::Refusal(why) => Err(why),
             _ => unreachable!(),
         }
     }
@@ -34,8 +34,8 @@ impl<'b, N: Nor> Volume<'b, N> {
         ensures { Calls (Opens name.now flags) self.old self.new (told (λ fd. Number fd) result) }
     {
         match self.answer(&Call::OpenFile { name, flags }, &mut []) {
-            Ok(Told::Number(fd)) => Ok(fd as u16),
-            Err(why) => Err(why),
+            Told::Number(fd) => Ok(fd as u16),
+            Told::Refusal(why) => Err(why),
             _ => unreachable!(),
         }
     }
@@ -48,8 +48,8 @@ impl<'b, N: Nor> Volume<'b, N> {
     {
         let count = into.len().min(0xFFFF_FFFF) as u32;
         match self.answer(&Call::Read { fd, count }, into) {
-            Ok(Told::Bytes(count)) => Ok(count),
-            Err(why) => Err(why),
+            Told::Bytes(count) => Ok(count),
+            Told::Refusal(why) => Err(why),
             _ => unreachable!(),
         }
     }
@@ -60,8 +60,8 @@ impl<'b, N: Nor> Volume<'b, N> {
         ensures { Calls (Seeks fd offset from) self.old self.new (told (λ at. Number at) result) }
     {
         match self.answer(&Call::Seek { fd, offset, from }, &mut []) {
-            Ok(Told::Number(at)) => Ok(at),
-            Err(why) => Err(why),
+            Told::Number(at) => Ok(at),
+            Told::Refusal(why) => Err(why),
             _ => unreachable!(),
         }
     }
@@ -83,8 +83,8 @@ impl<'b, N: Nor> Volume<'b, N> {
         ensures { Calls (Flushes fd) self.old self.new (told (λ done. Fine) result) }
     {
         match self.answer(&Call::Flush { fd }, &mut []) {
-            Ok(Told::Done) => Ok(()),
-            Err(why) => Err(why),
+            Told::Done => Ok(()),
+            Told::Refusal(why) => Err(why),
             _ => unreachable!(),
         }
     }
@@ -95,8 +95,8 @@ impl<'b, N: Nor> Volume<'b, N> {
         ensures { Calls (Closes fd) self.old self.new (told (λ done. Fine) result) }
     {
         match self.answer(&Call::Close { fd }, &mut []) {
-            Ok(Told::Done) => Ok(()),
-            Err(why) => Err(why),
+            Told::Done => Ok(()),
+            Told::Refusal(why) => Err(why),
             _ => unreachable!(),
         }
     }
@@ -107,8 +107,8 @@ impl<'b, N: Nor> Volume<'b, N> {
         ensures { Calls (Removes name.now) self.old self.new (told (λ done. Fine) result) }
     {
         match self.answer(&Call::Remove { name }, &mut []) {
-            Ok(Told::Done) => Ok(()),
-            Err(why) => Err(why),
+            Told::Done => Ok(()),
+            Told::Refusal(why) => Err(why),
             _ => unreachable!(),
         }
     }
@@ -119,8 +119,8 @@ impl<'b, N: Nor> Volume<'b, N> {
         ensures { Calls (Stats name.now) self.old self.new (told (λ stat. Shows stat) result) }
     {
         match self.answer(&Call::StatName { name }, &mut []) {
-            Ok(Told::File(stat)) => Ok(stat),
-            Err(why) => Err(why),
+            Told::File(stat) => Ok(stat),
+            Told::Refusal(why) => Err(why),
             _ => unreachable!(),
         }
     }
@@ -131,8 +131,8 @@ impl<'b, N: Nor> Volume<'b, N> {
         ensures { Calls (StatsOpen fd) self.old self.new (told (λ stat. Shows stat) result) }
     {
         match self.answer(&Call::FStat { fd }, &mut []) {
-            Ok(Told::File(stat)) => Ok(stat),
-            Err(why) => Err(why),
+            Told::File(stat) => Ok(stat),
+            Told::Refusal(why) => Err(why),
             _ => unreachable!(),
         }
     }
@@ -143,9 +143,9 @@ impl<'b, N: Nor> Volume<'b, N> {
         ensures { Calls (NextAbove after) self.old self.new (told shown_or_end result) }
     {
         match self.answer(&Call::Next { after }, &mut []) {
-            Ok(Told::File(stat)) => Ok(Some(stat)),
-            Ok(Told::NoMore) => Ok(None),
-            Err(why) => Err(why),
+            Told::File(stat) => Ok(Some(stat)),
+            Told::NoMore => Ok(None),
+            Told::Refusal(why) => Err(why),
             _ => unreachable!(),
         }
     }
@@ -155,8 +155,8 @@ impl<'b, N: Nor> Volume<'b, N> {
         ensures { Calls Informs self.old self.new (told (λ info. Counts info) result) }
     {
         match self.answer(&Call::GetInfo, &mut []) {
-            Ok(Told::Room(info)) => Ok(info),
-            Err(why) => Err(why),
+            Told::Room(info) => Ok(info),
+            Told::Refusal(why) => Err(why),
             _ => unreachable!(),
         }
     }

@@ -53,7 +53,7 @@ pub returns-in-Err-clause-goes : goal.returns-in-Err-clause-goes
 returns-in-Err-clause-goes g c =
     let failed = c.in-Err.ensures in
     rw c.failed_as.ensures (unread_by {T = ℕ} c.in_ok-slot.slot.id (Reads c.args.fd c.args.count) c.in-Err.why c.read_at.new.v.wrote (failed.looks.wrote ∙ c.requires.fresh) failed.looks.reads refl refl refl refl failed.missing failed.cause
-    (λ s here. 
+    (λ s here.
     let w = file_at c.args.fd c.in_ok-slot.slot c.in_ok-slot.ensures.found s here in
     let size = g.met.N.Nor.sized c.args.v.now.nor.now here.tells in
     let whole : IsImage c.args.v.now.geometry (g.N.NorState.bytes c.args.v.now.nor.now) = record { len = omega (arith, size, c.args.v.now.volume) } in

@@ -1,6 +1,6 @@
 use Rattle.std.proofs.Common.{◌≡◌, false, refl, rules}
 use Rattle.table_model.specs.Ask.{asked}
-use Rattle.volume.specs.Replies.{reply_of}
+use Rattle.volume.specs.Replies.{shown_by}
 use Rattle.volume.specs.declared.stage.Stage.TheVariants.{Checked}
 use Rattle.volume.specs.Opening.{is_open}
 use Rattle.volume.proofs.Calling.{calls_closed, calls_by}
@@ -12,4 +12,4 @@ returns-then-ne g c = let shut : is_open c.args.self.now.stage ≡ false = searc
 pub returns : goal.returns
 returns g c =
     let checked : c.args.self.now.stage ≡ Checked = search rules in
-    calls_by (asked c.args.call.now) c.call_on-told.result.wrote (reply_of c.call_on-told.result.told c.call_on-told.new.into) checked (search rules) (c.stage_after-self.ensures c.call_on-told.new.into) c.call_on-told.ensures.goes
+    calls_by (asked c.args.call.now) c.call_on-told.result.wrote (shown_by c.call_on-told.result.told c.call_on-told.new.into) checked (search rules) (c.stage_after-self.ensures c.call_on-told.new.into) c.call_on-told.ensures.goes
