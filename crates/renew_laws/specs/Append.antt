@@ -1,5 +1,5 @@
 -- Data bytes are appended to a file.
-use Rattle.std.specs.Prelude.{◌≡◌, ℕ, ◌+◌, ◌-◌, ◌*◌, ◌/◌, ◌%◌, ◌<◌, ◌≤◌, List, ◌++◌, length, Bool, true, false, Some, Ok, is_some, slice_index, slice_range, slice_set}
+use Rattle.std.specs.Prelude.{◌≡◌, ℕ, ◌+◌, ◌-◌, ◌*◌, ◌/◌, ◌%◌, ◌<◌, ◌≤◌, List, ◌++◌, length, Bool, true, false, Some, Ok, is_some, slice_index, slice_range}
 use Rattle.geometry.specs.declared.geometry.Geometry.{Geometry}
 use Rattle.nor_core.specs.Flash.{HalfProgrammed}
 use Rattle.geometry.specs.Numbers.{body, head_slots}
@@ -14,8 +14,8 @@ use Rattle.image_model.specs.Tables.{table_of}
 use Rattle.image_model.specs.Tidy.{IsTidy, serves, free_blocks}
 use Rattle.image_model.specs.Sound.{HasMagics, Keeps}
 use Rattle.image_laws.specs.TidySteps.{IsTidyBut}
-use Rattle.image_laws.specs.LiveSteps.{Finished, Kills}
-use Rattle.renew_laws.specs.Renew.{Renews}
+use Rattle.renew_laws.specs.Renew.{RenewsTo}
+use Rattle.renew_laws.specs.Replace.{Replaced}
 
 -- Programming bytes of a live data page past the end of its file, done or cut off, leaves the image tidy but for what was
 -- spare, with its table.
@@ -62,8 +62,7 @@ AppendedServes g = (pages : Live) (head head' bytes z : List ℕ) → Appends g 
 
 -- A renewed header page that all pages of its file serve, those that were spare among them, leaves the image tidy.
 abbrev pub RenewedTidies : Geometry → Type 0
-RenewedTidies g = (a0 a1 a2 a3 a4 a5 a6 : List ℕ) (p o id : ℕ) (old head : List ℕ) (fin kill : ℕ) (f : File) (before : ℕ → Bool) → Renews g a0 p o id old head fin kill f →
-    index_page g (own (live_at g a0) id) 0 ≡ Some o → Finished g p head fin a0 a1 a2 a3 a4 → Kills g o kill a4 a5 a6 → IsTidyBut g a0 before →
-    ((r : ℕ) → before r ≡ true → (is_some (own (live_at g a0) id r) ≡ true) × (serves g (own (live_at g a0) id) (slice_set head 4 fin) r ≡ true)) →
-    ((r : ℕ) → serves g (own (live_at g a0) id) old r ≡ true → serves g (own (live_at g a0) id) (slice_set head 4 fin) r ≡ true) →
-    IsTidy g a6 × (table_of g a6 ≡ put_file f (table_of g a0))
+RenewedTidies g = (a b : List ℕ) (p o id : ℕ) (old head : List ℕ) (f : File) (before : ℕ → Bool) → RenewsTo g a p o id old head f → index_page g (own (live_at g a) id) 0 ≡ Some o → Replaced g p o head a b →
+    IsTidyBut g a before → ((r : ℕ) → before r ≡ true → (is_some (own (live_at g a) id r) ≡ true) × (serves g (own (live_at g a) id) head r ≡ true)) →
+    ((r : ℕ) → serves g (own (live_at g a) id) old r ≡ true → serves g (own (live_at g a) id) head r ≡ true) →
+    IsTidy g b × (table_of g b ≡ put_file f (table_of g a))
