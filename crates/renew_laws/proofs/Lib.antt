@@ -1,3 +1,4 @@
+pub mod Serves
 pub mod LiveServes
 pub mod OneIdTidy
 pub mod HeadsServe
@@ -9,6 +10,7 @@ pub mod MovedTidy
 pub mod ReindexSteps
 pub mod RecopyCuts
 pub mod RecopyLeaves
+pub mod PutBeside
 pub mod Beside
 pub mod RecopyStep
 pub mod RecopyTidy
@@ -17,5 +19,9 @@ pub mod EntryInPlace
 pub mod AppendTidy
 pub mod Leading
 pub mod RenewTidy
+pub mod BesideIndex
+pub mod PrimeBeside
+pub mod PrimeInPlace
 pub mod Truncating
 pub mod Appended
+pub mod PrimeRenew

@@ -4,5 +4,6 @@
 pub mod appending;
 pub mod idling;
 pub mod moving;
+pub mod priming;
 pub mod recopying;
 pub mod renewing;
