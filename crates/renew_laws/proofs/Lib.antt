@@ -25,3 +25,4 @@ pub mod PrimeInPlace
 pub mod Truncating
 pub mod Appended
 pub mod PrimeRenew
+pub mod Overwritten

@@ -4,6 +4,7 @@
 pub mod appending;
 pub mod idling;
 pub mod moving;
+pub mod overwriting;
 pub mod priming;
 pub mod recopying;
 pub mod renewing;
