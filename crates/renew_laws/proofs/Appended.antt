@@ -26,7 +26,7 @@ use Rattle.image_laws.proofs.Reindexed.{judged-parts, pieces-same, find_none-in}
 -- ---- numbers of pages
 
 -- s pages and r bytes of one more
-pages_of : (s r B : ℕ) → 0 < r → r ≤ B → ceil (B * s + r) B ≡ s + 1
+pub pages_of : (s r B : ℕ) → 0 < r → r ≤ B → ceil (B * s + r) B ≡ s + 1
 pages_of s r B some fits =
     let whole : B * ((B * s + r + B - 1) / B) + (B * s + r + B - 1) % B ≡ B * s + r + B - 1 = div-add-mod (B * s + r + B - 1) B in
     let low : (B * s + r + B - 1) % B < B = omega arith in

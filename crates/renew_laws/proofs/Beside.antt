@@ -36,13 +36,13 @@ module _ (g : Geometry) (p h id : ℕ) (page head : List ℕ) (f0 : File) (one t
       (λ (there : r ≡ p → ⊥). rw (gains.others r there) refl)
       (cases_eq r p)))
 
-  bytes_same : (o : Option ℕ) → o ≢ Some p → option_and_then two o ≡ option_and_then one o
-  bytes_same None differ = refl
-  bytes_same (Some r) differ = gains.others r (λ e. differ (ap (λ (x : ℕ). Some x) e))
+  pub beside-bytes : (o : Option ℕ) → o ≢ Some p → option_and_then two o ≡ option_and_then one o
+  beside-bytes None differ = refl
+  beside-bytes (Some r) differ = gains.others r (λ e. differ (ap (λ (x : ℕ). Some x) e))
 
   pub beside-entry : (hd : List ℕ) (t : ℕ) → entry_number g two hd t ≡ entry_number g one hd t
   unfolding entry_number
-  beside-entry hd t = rw (beside-index (further g t)) (rw (bytes_same (index_page g one (further g t)) (λ e. index-none g one (further g t) p e gains.before)) refl)
+  beside-entry hd t = rw (beside-index (further g t)) (rw (beside-bytes (index_page g one (further g t)) (λ e. index-none g one (further g t) p e gains.before)) refl)
 
   data_at : (t : ℕ) (o : Option ℕ) → is_none (option_and_then (λ q. data_of (one q) t) o) ≡ false → option_and_then (λ q. data_of (two q) t) o ≡ option_and_then (λ q. data_of (one q) t) o
   data_at t None present = refl
@@ -52,9 +52,9 @@ module _ (g : Geometry) (p h id : ℕ) (page head : List ℕ) (f0 : File) (one t
       (λ (there : r ≡ p → ⊥). rw (gains.others r there) refl)
       (cases_eq r p)
 
-  data_same : (t : ℕ) → t < data_pages g (size_of head) → data_page g two head t ≡ data_page g one head t
+  pub beside-data : (t : ℕ) → t < data_pages g (size_of head) → data_page g two head t ≡ data_page g one head t
   unfolding data_page
-  data_same t below =
+  beside-data t below =
       let present : is_none (data_page g one head t) ≡ false = find-all (λ (span : ℕ). is_none (data_page g one head span)) 0 (data_pages g (size_of head)) (judged-whole g one id head f0 file) t (omega arith) (omega arith) in
       rw (beside-entry head t) (data_at t (entry_number g one head t) present)
 
@@ -62,7 +62,7 @@ module _ (g : Geometry) (p h id : ℕ) (page head : List ℕ) (f0 : File) (one t
   beside-header = gains.others h (λ e. none-some head (sym gains.before ∙ ap one (sym e) ∙ header)) ∙ header
 
   pub beside-judged : judged g two id head ≡ judged g one id head
-  beside-judged = judged-same g one two id head data_same
+  beside-judged = judged-same g one two id head beside-data
 
   pub beside-found : found g two id ≡ found g one id
   beside-found = found_from g two id h head (beside-index 0 ∙ at) beside-header ∙ ap (λ (r : Result File Damage). Some (h, r)) beside-judged ∙ sym (found_from g one id h head at header)

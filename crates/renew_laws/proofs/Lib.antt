@@ -26,3 +26,4 @@ pub mod Truncating
 pub mod Appended
 pub mod PrimeRenew
 pub mod Overwritten
+pub mod TailSteps

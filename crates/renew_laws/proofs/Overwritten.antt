@@ -147,7 +147,7 @@ module _ (w s n size from : ℕ) (old now : ℕ → List ℕ) (bytes : List ℕ)
 -- ---- a file
 
 -- a byte of the body of a page
-body_at : (page : List ℕ) (size k : ℕ) → k < size - 5 → slice_index (slice_range page 5 size) k ≡ slice_index page (5 + k)
+pub body_at : (page : List ℕ) (size k : ℕ) → k < size - 5 → slice_index (slice_range page 5 size) k ≡ slice_index page (5 + k)
 body_at page size k small = get_or-take (size - 5) (drop 5 page) k 0 small ∙ get_or-drop 5 page k 0
 
 pub patched-is_written : (g : Geometry) → PatchedIsWritten g

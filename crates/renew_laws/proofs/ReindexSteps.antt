@@ -100,10 +100,10 @@ module _ (g : Geometry) (one two three : Live) (id w v h : ℕ) (old new head he
       (λ (gone : r ≡ w). let a : is_index (Some old) j ≡ true = rw start.was at (subst (λ (k : ℕ). is_index (one k) j ≡ true) gone (index_passes g one j r e)) in differ (index-span_is old j a))
       (λ (copy : r ≡ v). first_not j (e ∙ ap (λ (x : ℕ). Some x) copy))
 
-  bytes3 : option_and_then three (index_page g three (span_of old)) ≡ Some new
+  pub bytes3 : option_and_then three (index_page g three (span_of old)) ≡ Some new
   bytes3 = rw span3 three_v
 
-  bytes3_other : (j : ℕ) → span_of old ≢ j → option_and_then three (index_page g three j) ≡ option_and_then one (index_page g one j)
+  pub bytes3_other : (j : ℕ) → span_of old ≢ j → option_and_then three (index_page g three j) ≡ option_and_then one (index_page g one j)
   bytes3_other j differ = rw (span3_other j differ) (three_bytes j differ (index_page g one j) refl)
 
   bytes2_other : (j : ℕ) → span_of old ≢ j → option_and_then two (index_page g two j) ≡ option_and_then one (index_page g one j)
@@ -168,9 +168,9 @@ module _ (g : Geometry) (one two three : Live) (id w v h : ℕ) (old new head he
   pub entry3_other : (t : ℕ) → index_span g t ≢ span_of old → entry_number g three head' t ≡ entry_number g one head t
   entry3_other t differ = entry-slot g three head3.0 head' t head3.1 head3.2 ∙ (rw (bytes3_other (index_span g t) (λ e. differ (sym e))) refl) ∙ sym (entry-slot g one h head t start.at start.header)
 
-  reads : (t : ℕ) → data_page g three head' t ≡ now_data g one head new t
+  pub reads3 : (t : ℕ) → data_page g three head' t ≡ now_data g one head new t
   unfolding data_page now_data
-  reads t =
+  reads3 t =
       ⊎_elim
       (λ (here : index_span g t ≡ span_of old). rw (eq-eqb (index_span g t) (span_of new) (here ∙ sym start.new_span)) (rw (entry3_here t here) (data3 t (slot_word g new t))))
       (λ (there : index_span g t ≡ span_of old → ⊥). rw (ne_eqb (index_span g t) (span_of new) (λ e. there (e ∙ start.new_span)))
@@ -179,7 +179,7 @@ module _ (g : Geometry) (one two three : Live) (id w v h : ℕ) (old new head he
 
   pub judged3 : judged g three id head' ≡ Ok f
   unfolding now_bytes
-  judged3 = judged-reads g one three id head head' f0 (now_data g one head new) start.file start.size start.name start.kind start.meta (λ t below. reads t) start.whole
+  judged3 = judged-reads g one three id head head' f0 (now_data g one head new) start.file start.size start.name start.kind start.meta (λ t below. reads3 t) start.whole
       ∙ ap (λ (x : File). Ok x) (sym start.result)
 
   pub found3 : found g three id ≡ Some (head3.0, Ok f)

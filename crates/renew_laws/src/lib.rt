@@ -8,3 +8,4 @@ pub mod overwriting;
 pub mod priming;
 pub mod recopying;
 pub mod renewing;
+pub mod tailing;
