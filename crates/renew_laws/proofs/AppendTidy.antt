@@ -7,14 +7,13 @@ use Rattle.image_model.specs.Live.{live_at}
 use Rattle.image_model.specs.Headers.{obj_id, names_index}
 use Rattle.image_model.specs.Places.{page_of, is_entry_page}
 use Rattle.image_model.specs.Within.{sizes}
+use Rattle.renew_laws.proofs.ReserveKept.{kill-reserve}
 use Rattle.renew_laws.specs.Append.{AppendingTidies, AppendingIsSound}
 use Rattle.image_laws.proofs.Append.{append_wide, append_kind, append_now, append_first, append_header, append_serves, append_has, own-some, appending-keeps}
 use Rattle.image_laws.proofs.Frames.{live_parts, live-page_other}
 use Rattle.image_laws.proofs.Finish.{own-parts}
 use Rattle.image_laws.proofs.TidySteps.{agree_page}
-use Rattle.image_laws.proofs.FreeBlocks.{free_blocks-fall, used-is_not_free}
 use Rattle.image_laws.proofs.Sounding.{sound-by}
-use Rattle.image_laws.proofs.StillFree.{live-used}
 use Rattle.renew_laws.proofs.StayTidy.{stays-tidy}
 
 pub appending-tidies : (g : Geometry) → AppendingTidies g
@@ -55,5 +54,5 @@ appending-is_sound g a b p h at asked x head is m live no_index first header low
             kept.1;
         table = kept.0;
       },
-      (free_blocks-fall g a b p agree).1 (used-is_not_free g a p entry_page (live-used g a p x live)),
+      kill-reserve g a b p x live agree,
     )

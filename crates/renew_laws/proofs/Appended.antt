@@ -17,9 +17,10 @@ use Rattle.image_model.specs.Files.{index_page, entry_number, data_of, data_page
 use Rattle.image_model.specs.Tidy.{serves}
 use Rattle.image_laws.proofs.Serving.{ceil-mono}
 use Rattle.renew_laws.specs.Append.{Appends, AppendedLeads, AppendedIsWritten, AppendedServes}
-use Rattle.image_laws.proofs.Wanted.{judged-whole, header-below}
+use Rattle.image_laws.proofs.Wanted.{header-below}
+use Rattle.renew_laws.proofs.Spans.{entry_by_word, page_by_word, span_there}
 use Rattle.renew_laws.proofs.Serves.{serves_parts, serves_index, serves_data}
-use Rattle.image_laws.proofs.Append.{find-all, some_page, data_page_is, body_length}
+use Rattle.image_laws.proofs.Append.{some_page, data_page_is, body_length}
 use Rattle.image_laws.proofs.Matching.{length-pieces}
 use Rattle.image_laws.proofs.Reindexed.{judged-parts, pieces-same, find_none-in}
 
@@ -99,16 +100,10 @@ module _ (g : Geometry) (pages : Live) (head head' bytes z : List ℕ) (add : Ap
       (cases_eq (size_of head % body g) 0)
 
   entry_same : (t : ℕ) → t < data_pages g (size_of head) → entry_number g pages head' t ≡ entry_number g pages head t
-  unfolding entry_number
-  entry_same t below =
-      ⊎_elim
-      (λ (low : t < head_slots g). rw (lt-ltb t (head_slots g) low) (ap (λ (k : ℕ). Some k) (add.words t below low)))
-      (λ (high : head_slots g ≤ t). rw (le-ltb t (head_slots g) high) refl)
-      (cases_lt t (head_slots g))
+  entry_same t below = entry_by_word g pages head head' t (add.words t below)
 
   data_same : (t : ℕ) → t < data_pages g (size_of head) → data_page g pages head' t ≡ data_page g pages head t
-  unfolding data_page
-  data_same t below = rw (entry_same t below) refl
+  data_same t below = page_by_word g pages head head' t (add.words t below)
 
   last_named : (r : ℕ) → entry_number g pages head' (size_of head / body g) ≡ Some r → is_some (data_of (pages r) (size_of head / body g)) ≡ true
   unfolding data_page
@@ -140,9 +135,6 @@ module _ (g : Geometry) (pages : Live) (head head' bytes z : List ℕ) (add : Ap
       (serves_parts g pages head r e)
 
   module _ (id : ℕ) (name : List ℕ) (f0 : File) (lengths : (q : ℕ) (x : List ℕ) → pages q ≡ Some x → length x ≡ g.page) (file : judged g pages id head ≡ Ok f0) (named : name_of head' ≡ Some name) where
-    present : (t : ℕ) → t < data_pages g (size_of head) → is_none (data_page g pages head t) ≡ false
-    present t below = find-all (λ (span : ℕ). is_none (data_page g pages head span)) 0 (data_pages g (size_of head)) (judged-whole g pages id head f0 file) t (omega arith) (omega arith)
-
     below_last : (t : ℕ) → t < size_of head / body g → t < data_pages g (size_of head)
     below_last t low = ⊎_elim
         (λ (w : (size_of head % body g ≡ 0) × (data_pages g (size_of head) ≡ size_of head / body g)). omega (arith, w.1, low))
@@ -152,7 +144,7 @@ module _ (g : Geometry) (pages : Live) (head head' bytes z : List ℕ) (add : Ap
     present_now : (t : ℕ) → t < size_of head / body g + 1 → is_none (data_page g pages head' t) ≡ false
     present_now t low =
         ⊎_elim
-        (λ (x : t < size_of head / body g). let below = below_last t x in rw (data_same t below) (present t below))
+        (λ (x : t < size_of head / body g). let below = below_last t x in rw (data_same t below) (span_there g pages id head f0 file t below))
         (λ (x : size_of head / body g ≤ t). let e : t ≡ size_of head / body g = omega (arith, low, x) in rw e (rw add.page refl))
         (cases_lt t (size_of head / body g))
 

@@ -1,7 +1,8 @@
 -- A data page put beside.
 use Rattle.renew_laws.proofs.PutBeside.{gains_own, beside_keeps, beside_spares}
+use Rattle.renew_laws.proofs.Spans.{span_there}
 use Rattle.renew_laws.proofs.Serves.{serves_parts, serves_index, serves_data}
-use Rattle.std.proofs.Common.{◌≡◌, ◌≢◌, ℕ, ◌<◌, ◌⊎◌, List, Bool, true, false, ◌==◌, Option, Some, None, Result, Ok, ap, refl, sym, ◌∙◌, arith, ⊎_elim, ◌||◌}
+use Rattle.std.proofs.Common.{◌≡◌, ◌≢◌, ℕ, ◌<◌, ◌⊎◌, List, Bool, true, false, ◌==◌, Option, Some, None, Result, Ok, ap, refl, sym, ◌∙◌, ⊎_elim, ◌||◌}
 use Rattle.std.proofs.Math.Path.{fun_ext}
 use Rattle.std.specs.Prelude.{option_and_then, find, is_none, is_some}
 use Rattle.std.specs.List.{range_with_len}
@@ -22,8 +23,6 @@ use Rattle.image_laws.specs.TidySteps.{Agree, IsTidyBut}
 use Rattle.renew_laws.specs.Recopy.{PutsDataTo, PutDataCuts, PutDataDone}
 use Rattle.image_laws.proofs.Judge.{found_from, judged-same, index-none}
 use Rattle.image_laws.proofs.Sounding.{keeps-by_live}
-use Rattle.image_laws.proofs.Wanted.{judged-whole}
-use Rattle.image_laws.proofs.Append.{find-all}
 
 module _ (g : Geometry) (p h id : ℕ) (page head : List ℕ) (f0 : File) (one two : Live) (gains : Gains p page one two) (kind : names_index page ≡ false)
     (at : index_page g one 0 ≡ Some h) (header : one h ≡ Some head) (file : judged g one id head ≡ Ok f0) where
@@ -55,7 +54,7 @@ module _ (g : Geometry) (p h id : ℕ) (page head : List ℕ) (f0 : File) (one t
   pub beside-data : (t : ℕ) → t < data_pages g (size_of head) → data_page g two head t ≡ data_page g one head t
   unfolding data_page
   beside-data t below =
-      let present : is_none (data_page g one head t) ≡ false = find-all (λ (span : ℕ). is_none (data_page g one head span)) 0 (data_pages g (size_of head)) (judged-whole g one id head f0 file) t (omega arith) (omega arith) in
+      let present : is_none (data_page g one head t) ≡ false = span_there g one id head f0 file t below in
       rw (beside-entry head t) (data_at t (entry_number g one head t) present)
 
   pub beside-header : two h ≡ Some head

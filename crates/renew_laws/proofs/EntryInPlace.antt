@@ -137,14 +137,14 @@ slot-apart g s t pos less same =
     (cases_lt s (head_slots g)))
     (cases_lt t (head_slots g))
 
-slot_word-at : (g : Geometry) (page : List ℕ) (t : ℕ) → slot_word g page t ≡ word_at page (slot_at g t)
+pub slot_word-at : (g : Geometry) (page : List ℕ) (t : ℕ) → slot_word g page t ≡ word_at page (slot_at g t)
 slot_word-at g page t =
     ⊎_elim
     (λ (low : t < head_slots g). rw (lt-ltb t (head_slots g) low) refl)
     (λ (high : head_slots g ≤ t). rw (le-ltb t (head_slots g) high) refl)
     (cases_lt t (head_slots g))
 
-slot-fits : (g : Geometry) (t : ℕ) → 128 ≤ g.page → slot_at g t + 2 ≤ g.page
+pub slot-fits : (g : Geometry) (t : ℕ) → 128 ≤ g.page → slot_at g t + 2 ≤ g.page
 slot-fits g t big =
     ⊎_elim
     (λ (low : t < head_slots g). rw (lt-ltb t (head_slots g) low) (omega arith))

@@ -16,18 +16,16 @@ use Rattle.image_laws.specs.Programs.{IsIdle}
 use Rattle.image_laws.specs.Remove.{Orphans}
 use Rattle.image_laws.specs.Spares.{Spares, is_in_table}
 use Rattle.image_laws.specs.TidySteps.{Agree, IsTidyBut}
-use Rattle.image_laws.proofs.Frames.{live_parts}
-use Rattle.image_laws.proofs.FreeBlocks.{free_blocks-fall, used-is_not_free}
 use Rattle.image_laws.proofs.Headless.{headless-is_idle}
 use Rattle.image_laws.proofs.Kill.{own-loses, index-loses, has_of-loses}
 use Rattle.image_laws.proofs.RemoveTidy.{orphans-end}
 use Rattle.image_laws.proofs.Sounding.{sound-by, keeps-by_live, mixed-from, loses-back}
 use Rattle.image_laws.proofs.SpareKill.{spare_but, spares-end, tidy-has_magics}
-use Rattle.image_laws.proofs.StillFree.{live-used}
 use Rattle.image_laws.proofs.TidySteps.{entries-but}
 use Rattle.image_laws.proofs.Unwanted.{wanted-as_before}
 use Rattle.image_laws.proofs.Wanted.{unwanted-idle}
 use Rattle.image_laws.proofs.Wants.{wanted_from, wanted-loses}
+use Rattle.renew_laws.proofs.ReserveKept.{kill-reserve}
 use Rattle.renew_laws.specs.Idles.{IdleKills, IdlesEnd}
 
 -- ---- a spare page that its id does not need
@@ -37,7 +35,7 @@ module _ (g : Geometry) (a : List ℕ) (r : ℕ) (x : List ℕ) (spare : ℕ →
   magics = tidy-has_magics g a spare t
 
   free : (c : List ℕ) → Agree g a c r → free_blocks g a ≤ free_blocks g c
-  free c h = (free_blocks-fall g a c r h).1 (used-is_not_free g a r (live_parts g a r x live).entry_page (live-used g a r x live))
+  free c h = kill-reserve g a c r x live h
 
   module _ (c : List ℕ) (agree : Agree g a c r) (loses : Loses r (live_at g a) (live_at g c)) where
     has : has_of g (live_at g c) ≡ has_of g (live_at g a)

@@ -1,10 +1,9 @@
 -- What a renewed page leads to.
-use Rattle.std.proofs.Common.{◌≡◌, ℕ, zero, suc, ◌+◌, ◌<◌, ◌≤◌, List, [], take, slice_index, slice_range, Bool, true, false, not, ◌&&◌, ◌||◌, Some, None, Ok, ap, refl, ◌∙◌, arith, ⊎_elim}
+use Rattle.std.proofs.Common.{◌≡◌, ℕ, zero, suc, ◌+◌, ◌<◌, ◌≤◌, List, [], take, slice_index, slice_range, Bool, true, false, not, ◌&&◌, ◌||◌, Some, None, Ok, ap, refl, ◌∙◌, arith}
 use Rattle.std.specs.Prelude.{is_some, is_none, unwrap_or}
 use Rattle.std.specs.List.{range_with_len, list_any}
-use Rattle.std.proofs.lemmas.Bool.{cases_lt, and_parts, lt-ltb, le-ltb}
+use Rattle.std.proofs.lemmas.Bool.{and_parts}
 use Rattle.geometry.specs.declared.geometry.Geometry.{Geometry}
-use Rattle.geometry.specs.Numbers.{head_slots}
 use Rattle.table_model.specs.Room.{data_pages, index_pages}
 use Rattle.image_model.specs.Live.{Live}
 use Rattle.table_model.specs.Table.{File}
@@ -18,6 +17,7 @@ use Rattle.image_laws.proofs.Judge.{find-range}
 use Rattle.image_laws.proofs.Wanted.{judged-whole}
 use Rattle.image_laws.proofs.Reindexed.{judged-parts, pieces-same}
 use Rattle.image_laws.proofs.Append.{page_there}
+use Rattle.renew_laws.proofs.Spans.{entry_by_word, page_by_word}
 
 file-bytes : (g : Geometry) (pages : Live) (id : ℕ) (head : List ℕ) (f0 : File) → judged g pages id head ≡ Ok f0 → bytes_of g pages head ≡ f0.bytes
 file-bytes g pages id head f0 file = let w = judged-parts g pages id head f0 file in ap (λ (f : File). f.bytes) w.2
@@ -36,16 +36,10 @@ any-range f now a (suc n) same = rw (same a (omega arith) (omega arith)) (ap (λ
 
 module _ (g : Geometry) (pages : Live) (head head' : List ℕ) (spans : SameSpans g head head') where
   entry_same : (t : ℕ) → t < data_pages g (size_of head) → entry_number g pages head' t ≡ entry_number g pages head t
-  unfolding entry_number
-  entry_same t below =
-      ⊎_elim
-      (λ (low : t < head_slots g). rw (lt-ltb t (head_slots g) low) (ap (λ (k : ℕ). Some k) (spans.words t below low)))
-      (λ (high : head_slots g ≤ t). rw (le-ltb t (head_slots g) high) refl)
-      (cases_lt t (head_slots g))
+  entry_same t below = entry_by_word g pages head head' t (spans.words t below)
 
   data_same : (t : ℕ) → t < data_pages g (size_of head) → data_page g pages head' t ≡ data_page g pages head t
-  unfolding data_page
-  data_same t below = rw (entry_same t below) refl
+  data_same t below = page_by_word g pages head head' t (spans.words t below)
 
   pub serves-renamed : (r : ℕ) → serves g pages head' r ≡ serves g pages head r
   unfolding serves

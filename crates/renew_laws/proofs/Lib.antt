@@ -1,4 +1,6 @@
+pub mod Spans
 pub mod Serves
+pub mod ReserveKept
 pub mod LiveServes
 pub mod OneIdTidy
 pub mod HeadsServe
@@ -22,6 +24,7 @@ pub mod RenewTidy
 pub mod BesideIndex
 pub mod PrimeBeside
 pub mod PrimeInPlace
+pub mod Holding
 pub mod Truncating
 pub mod Appended
 pub mod PrimeRenew

@@ -1,6 +1,6 @@
 -- Bytes of a file in pieces are overwritten inside one piece.
 use Rattle.std.proofs.Common.{◌≡◌, ◌≢◌, ℕ, zero, suc, ◌+◌, ◌-◌, ◌*◌, ◌/◌, ◌%◌, ◌<◌, ◌≤◌, ◌⊎◌, List, [], ◌++◌, length, take, drop, slice_index, slice_range, get_or, Some, ap, refl, sym, ◌∙◌, arith, ⊎_elim, inl, inr, length-take, length-drop, length-append}
-use Rattle.std.specs.Prelude.{unwrap_or, is_none}
+use Rattle.std.specs.Prelude.{unwrap_or}
 use Rattle.std.specs.List.{range_with_len, flat_map}
 use Rattle.std.proofs.Math.Nat.{div-add-mod, mul-le-mul_right, mul_comm}
 use Rattle.std.proofs.lemmas.Bool.{cases_eq, cases_lt}
@@ -13,11 +13,11 @@ use Rattle.image_model.specs.Within.{sizes}
 use Rattle.image_model.specs.Headers.{size_of}
 use Rattle.image_model.specs.Files.{data_page, span_bytes, bytes_of}
 use Rattle.image_laws.specs.Reindex.{now_data, now_bytes}
-use Rattle.image_laws.proofs.Append.{find-all, some_page, data_page_is, body_length}
+use Rattle.image_laws.proofs.Append.{data_page_is, body_length}
+use Rattle.renew_laws.proofs.Spans.{span_page}
 use Rattle.image_laws.proofs.Matching.{length-pieces}
 use Rattle.image_laws.proofs.Reindexed.{judged-parts}
 use Rattle.image_laws.proofs.Serving.{ceil-enough}
-use Rattle.image_laws.proofs.Wanted.{judged-whole}
 use Rattle.renew_laws.specs.Overwrite.{PatchedIsWritten}
 
 -- ---- lists
@@ -158,7 +158,7 @@ patched-is_written g pages id s head new z y bytes f file lengths below was now 
     let whole : bytes_of g pages head ≡ f.bytes = ap (λ (x : File). x.bytes) w.2 in
     let present : (t : ℕ) → t < data_pages g (size_of head) → (x : List ℕ) × (data_page g pages head t ≡ Some x) × (length x ≡ g.page) =
     λ t low.
-    let x = some_page (data_page g pages head t) (find-all (λ (t : ℕ). is_none (data_page g pages head t)) 0 (data_pages g (size_of head)) (judged-whole g pages id head f file) t (omega arith) (omega (arith, low))) in
+    let x = span_page g pages id head f file t low in
     let q = data_page_is g pages head t x.0 x.1 in (x.0, x.1, lengths q.0 x.0 q.1) in
     let old_len : (t : ℕ) → 0 ≤ t → t < 0 + data_pages g (size_of head) → length (span_bytes g pages head t) ≡ body g =
     λ t low high. let x = present t (omega (arith, high)) in rw x.1 (body_length g x.0 x.2) in

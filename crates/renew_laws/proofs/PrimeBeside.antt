@@ -27,13 +27,9 @@ use Rattle.renew_laws.proofs.Beside.{put_data-cuts, data_gains, data_first, data
 use Rattle.renew_laws.proofs.BesideIndex.{further_first, further_reads, further_keeps, further_spares}
 use Rattle.renew_laws.proofs.LiveServes.{served-or_spare}
 use Rattle.renew_laws.proofs.PutBeside.{gains_own}
-use Rattle.renew_laws.proofs.Serves.{served_index}
+use Rattle.renew_laws.proofs.Serves.{index_there, served_index}
 
 -- ---- a tidy image
-
-some_index : (o : Option (List ℕ)) (j : ℕ) → is_index o j ≡ true → (x : List ℕ) × (o ≡ Some x)
-some_index None j e = absurd (cc)
-some_index (Some x) j e = (x, refl)
 
 -- the file of an id in a table is what that id counts for
 find_cons : (id : ℕ) (o : Option File) (rest : List File) (f : File) → find (λ f. f.id == id) (cons_option o rest) ≡ Some f → ((o ≡ Some f) × (f.id ≡ id)) ⊎ (find (λ f. f.id == id) rest ≡ Some f)
@@ -70,7 +66,7 @@ prime-starts g a id f is t e =
         at = v.1;
         header = v.2;
         only = λ r passes.
-            let x = some_index (own (live_at g a) id r) 0 passes in
+            let x = index_there (own (live_at g a) id r) 0 passes in
             ⊎_elim
             (λ (none : false ≡ true). absurd (cc))
             (λ (s : serves g (own (live_at g a) id) v.0 r ≡ true). same_Some r w.0 (sym (served_index g (own (live_at g a) id) v.0 r 0 s passes) ∙ v.1))

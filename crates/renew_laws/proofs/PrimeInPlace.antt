@@ -4,7 +4,7 @@ use Rattle.std.proofs.Math.Path.{fun_ext}
 use Rattle.std.proofs.Math.Nat.{div-add-mod, mul_comm}
 use Rattle.std.specs.Prelude.{is_some, find, option_and_then}
 use Rattle.std.specs.List.{range_with_len}
-use Rattle.std.proofs.lemmas.Bool.{cases_eq, le-ltb, false_from_ne_true, eq-eqb}
+use Rattle.std.proofs.lemmas.Bool.{cases_eq, le-ltb, false_from_ne_true}
 use Rattle.std.proofs.lemmas.Option.{some_pair_parts}
 use Rattle.geometry.specs.declared.geometry.Geometry.{Geometry}
 use Rattle.geometry.specs.Numbers.{body, head_slots}
@@ -26,14 +26,14 @@ use Rattle.image_laws.proofs.Append.{append_wide, append_kind, append_now, appen
 use Rattle.image_laws.proofs.Doubled.{index-span_is}
 use Rattle.image_laws.proofs.Finish.{own-parts}
 use Rattle.image_laws.proofs.Frames.{live_parts, live-page_other}
-use Rattle.image_laws.proofs.FreeBlocks.{free_blocks-fall, used-is_not_free}
 use Rattle.image_laws.proofs.Judge.{found_from, index_passes}
 use Rattle.image_laws.proofs.Placing.{page_byte}
 use Rattle.image_laws.proofs.Sounding.{keeps-on}
 use Rattle.image_laws.proofs.SpareKill.{tidy-has_magics}
-use Rattle.image_laws.proofs.StillFree.{live-used}
 use Rattle.image_laws.proofs.TidySteps.{agree_page}
-use Rattle.renew_laws.specs.Primed.{Primed, PrimeFill, PrimeName}
+use Rattle.renew_laws.proofs.ReserveKept.{kill-reserve}
+use Rattle.renew_laws.specs.Primed.{Primed, ChangesInPlace, PrimeFill, PrimeName}
+use Rattle.renew_laws.proofs.Spans.{page_named}
 use Rattle.renew_laws.proofs.AppendTidy.{appending-tidies, appending-is_sound}
 use Rattle.renew_laws.proofs.EntryInPlace.{entry-in_place, entry-in_place-tidies, entry_has, entry_now, entry_others, entry_index, entry_span, entry_wide}
 
@@ -93,10 +93,6 @@ module _ (g : Geometry) (p : ℕ) (x y : List ℕ) (one two : Live) (was : one p
   unfolding entry_number
   entries_same head t = rw (index_same (further g t)) (rw (bytes_same (further g t) (index_page g one (further g t)) refl) refl)
 
-data_from : (g : Geometry) (pages : Live) (head : List ℕ) (t q : ℕ) (y : List ℕ) → entry_number g pages head t ≡ Some q → pages q ≡ Some y → names_index y ≡ false → span_of y ≡ t → data_page g pages head t ≡ Some y
-unfolding data_page
-data_from g pages head t q y e is kind span = rw e (rw is (rw (kind, eq-eqb (span_of y) t span) refl))
-
 module _ (g : Geometry) (a b c : List ℕ) (h q from : ℕ) (head z bytes : List ℕ) (f : File) (beside : ℕ → Bool) (prime : Primed g (obj_id z % 0x8000) h head f beside a b)
     (named : entry_number g (own (live_at g b) (obj_id z % 0x8000)) head (size_of head / body g) ≡ Some q) (mine : own (live_at g b) (obj_id z % 0x8000) q ≡ Some z) (kind : names_index z ≡ false)
     (span : span_of z ≡ size_of head / body g) (low : 5 + size_of head % body g ≤ from) (high : from + length bytes ≤ g.page) (torn : HalfProgrammed (q * g.page + from) bytes b c) where
@@ -142,8 +138,11 @@ module _ (g : Geometry) (a b c : List ℕ) (h q from : ℕ) (head z bytes : List
       (append_first g b c q h (q * g.page + from) bytes z head prime.image live kind prime.at prime.header past inside torn.outside)
       (append_has g b c q h (q * g.page + from) bytes z head prime.image live kind prime.at prime.header past inside torn.outside)
 
+  changed : ChangesInPlace g (obj_id z % 0x8000) q b c
+  changed = record { now = now; others = others; places = index_same g q z (page_of g c q) (own (live_at g b) (obj_id z % 0x8000)) (own (live_at g c) (obj_id z % 0x8000)) mine now others kind kind_now }
+
   reads_last : data_page g (own (live_at g c) (obj_id z % 0x8000)) head (size_of head / body g) ≡ Some (page_of g c q)
-  reads_last = data_from g (own (live_at g c) (obj_id z % 0x8000)) head (size_of head / body g) q (page_of g c q)
+  reads_last = page_named g (own (live_at g c) (obj_id z % 0x8000)) head (size_of head / body g) q (page_of g c q)
       (entries_same g q z (page_of g c q) (own (live_at g b) (obj_id z % 0x8000)) (own (live_at g c) (obj_id z % 0x8000)) mine now others kind kind_now head (size_of head / body g) ∙ named) now kind_now span_now
 
 pub prime-fill : (g : Geometry) → PrimeFill g
@@ -156,7 +155,7 @@ prime-fill g a b c id h q from head z bytes f beside prime named mine kind span 
       both.0,
       both.1,
       subst (λ (k : ℕ). Primed g k h head f beside a c) key (filled g a b c h q from head z bytes f beside prime' named' mine' kind span low high torn),
-      subst (λ (k : ℕ). own (live_at g c) k q ≡ Some (page_of g c q)) key (now g a b c h q from head z bytes f beside prime' named' mine' kind span low high torn),
+      subst (λ (k : ℕ). ChangesInPlace g k q b c) key (changed g a b c h q from head z bytes f beside prime' named' mine' kind span low high torn),
       subst (λ (k : ℕ). data_page g (own (live_at g c) k) head (size_of head / body g) ≡ Some (page_of g c q)) key (reads_last g a b c h q from head z bytes f beside prime' named' mine' kind span low high torn),
     )
 
@@ -169,6 +168,7 @@ prime-name g a b c id h w t head x asked f beside prime mine index past high her
     let tidy = (entry-in_place-tidies g b c w h t id asked x head beside prime.image prime.tidy mine index prime.at prime.header past here two torn).0 in
     let now = entry_now g b c w h t id x head prime.image mine index prime.at prime.header past here same in
     let places = entry_index g b c w h t id x head prime.image mine index prime.at prime.header past here same in
+    let others = entry_others g b c w h t id x head prime.image mine index prime.at prime.header past here same in
     let span = entry_span g b c w h t id x head prime.image mine index prime.at prime.header past here same in
     let behind : span_of x ≢ 0 = λ e. let zero : further g t ≡ 0 = rw (le-ltb t (head_slots g) high) at (here ∙ e) in absurd (omega (arith, zero)) in
     let was_other : is_index (own (live_at g b) id w) 0 ≡ false = rw mine (false_from_ne_true _ (λ yes. behind (index-span_is x 0 yes))) in
@@ -177,10 +177,9 @@ prime-name g a b c id h w t head x asked f beside prime mine index past high her
     let entry_page = (live_parts g b w x live).entry_page in
     let agree = agree_page g b c w (sizes g) entry_page (entry_wide g b c w h t id x head prime.image mine index prime.at prime.header past here same) in (
       keeps,
-      (free_blocks-fall g b c w agree).1 (used-is_not_free g b w entry_page (live-used g b w x live)),
+      kill-reserve g b c w x live agree,
       primed_on g a b c id h w head (page_of g c w) f beside prime (record { len = omega (arith, torn.outside.size, prime.image.len) }) keeps tidy
-          (entry_others g b c w h t id x head prime.image mine index prime.at prime.header past here same) now was_other is_other (places 0 ∙ prime.at)
+          others now was_other is_other (places 0 ∙ prime.at)
           (entry_has g b c w h t id x head prime.image mine index prime.at prime.header past here same),
-      now,
-      places,
+      record { now = now; others = others; places = places },
     )

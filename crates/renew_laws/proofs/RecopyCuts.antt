@@ -22,8 +22,9 @@ use Rattle.image_model.specs.Sound.{HasMagics, IsMixed}
 use Rattle.image_laws.specs.TidySteps.{Agree}
 use Rattle.image_laws.specs.Creating.{CutOf}
 use Rattle.image_laws.specs.LiveSteps.{PutLeaves, PutDone, KillLeaves}
+use Rattle.renew_laws.proofs.ReserveKept.{kill-reserve}
 use Rattle.renew_laws.specs.Recopy.{RecopiesTo, RecopyCuts}
-use Rattle.image_laws.proofs.Frames.{live_parts, table_of-same, damaged_of-same}
+use Rattle.image_laws.proofs.Frames.{table_of-same, damaged_of-same}
 use Rattle.image_laws.proofs.Kill.{own-loses, own-loses_other}
 use Rattle.image_laws.proofs.Tables.{own-gains_other, own-gains_page, own-gains_rest}
 use Rattle.image_laws.proofs.Judge.{found_from}
@@ -31,8 +32,7 @@ use Rattle.image_laws.proofs.Finish.{own-parts, records-changed, has_of-within, 
 use Rattle.image_laws.proofs.Records.{counted-some, names-apart}
 use Rattle.image_laws.proofs.Undamaged.{undamaged-changed}
 use Rattle.image_laws.proofs.Sounding.{sound-by, mixed-gains, mixed-from, loses-back}
-use Rattle.image_laws.proofs.FreeBlocks.{free_blocks-fall, used-is_not_free}
-use Rattle.image_laws.proofs.StillFree.{live-used}
+use Rattle.image_laws.proofs.FreeBlocks.{free_blocks-fall}
 use Rattle.renew_laws.proofs.ReindexSteps.{found2, found3}
 
 -- ---- no other file of an undamaged image has the name of a whole one
@@ -177,7 +177,7 @@ module _ (g : Geometry) (a0 : List ℕ) (p o id h : ℕ) (old page head head' : 
         let live = live4 a4 put.gains in
         let free : free_blocks g a0 ≤ free_blocks g c + 1 =
         let one = fall4 a4 put.agree in
-        let two = (free_blocks-fall g a4 c o h.agree).1 (used-is_not_free g a4 o (live_parts g a4 o old live).entry_page (live-used g a4 o old live)) in omega (arith, one, two) in
+        let two = kill-reserve g a4 c o old live h.agree in omega (arith, one, two) in
         ⊎_elim
         (λ (same : live_at g c ≡ live_at g a4).
         let table : table_of g c ≡ table_of g a4 = table_of-same g c a4 (λ q. ap (λ (l : Live). l q) same) in

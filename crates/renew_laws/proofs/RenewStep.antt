@@ -19,13 +19,13 @@ use Rattle.image_laws.specs.NewFile.{IsBeforeOrAfter}
 use Rattle.image_model.specs.Sound.{HasMagics, IsMixed}
 use Rattle.image_laws.specs.TidySteps.{Agree, IsTidyBut}
 use Rattle.image_laws.specs.Creating.{CutOf}
+use Rattle.renew_laws.proofs.ReserveKept.{kill-reserve}
 use Rattle.renew_laws.specs.OneId.{OneIdChanges}
 use Rattle.image_laws.specs.LiveSteps.{PutLeaves, PutDone, KillLeaves}
 use Rattle.image_laws.specs.Spares.{Spares, leftover}
 use Rattle.renew_laws.specs.Replace.{Replaced}
 use Rattle.renew_laws.specs.Renew.{RenewsTo, RenewCuts, RenewSpares}
 use Rattle.image_laws.proofs.Append.{page_there}
-use Rattle.image_laws.proofs.Frames.{live_parts}
 use Rattle.image_laws.proofs.Publish.{either, own-before, own-after, own-others}
 use Rattle.image_laws.proofs.Kill.{own-loses, own-loses_other}
 use Rattle.image_laws.proofs.Tables.{own-gains_other}
@@ -33,10 +33,9 @@ use Rattle.image_laws.proofs.Judge.{IsHeadAtMost, judged-heads, retired, found_p
 use Rattle.image_laws.proofs.Finish.{own-parts, records-changed}
 use Rattle.image_laws.proofs.Undamaged.{undamaged-changed}
 use Rattle.image_laws.proofs.Sounding.{sound-by, mixed-gains, mixed-from, loses-back, gains-undamaged}
-use Rattle.image_laws.proofs.FreeBlocks.{free_blocks-fall, used-is_not_free}
+use Rattle.image_laws.proofs.FreeBlocks.{free_blocks-fall}
 use Rattle.renew_laws.proofs.HeadsServe.{serves-heads}
 use Rattle.renew_laws.proofs.OneIdTidy.{one_id-spares}
-use Rattle.image_laws.proofs.StillFree.{live-used}
 
 module _ (g : Geometry) (a0 : List ℕ) (p o id : ℕ) (old head : List ℕ) (f : File) (start : RenewsTo g a0 p o id old head f) where
   within : p < page_count g
@@ -251,7 +250,7 @@ module _ (g : Geometry) (a0 : List ℕ) (p o id : ℕ) (old head : List ℕ) (f 
         let live = live4 a4 put.agree put.gains in
         let free : free_blocks g a0 ≤ free_blocks g c + 1 =
         let one = fall4 a4 put.agree in
-        let two = (free_blocks-fall g a4 c o h.agree).1 (used-is_not_free g a4 o (live_parts g a4 o old live).entry_page (live-used g a4 o old live)) in omega (arith, one, two) in
+        let two = kill-reserve g a4 c o old live h.agree in omega (arith, one, two) in
         ⊎_elim
         (λ (same : live_at g c ≡ live_at g a4).
         let table : table_of g c ≡ table_of g a4 = Rattle.image_laws.proofs.Frames.table_of-same g c a4 (λ q. ap (λ (l : Live). l q) same) in

@@ -14,6 +14,10 @@ use Rattle.image_laws.proofs.Doubled.{index-span_is}
 use Rattle.image_laws.proofs.Judge.{index_passes}
 use Rattle.image_laws.proofs.Wants.{number-is}
 
+pub index_there : (o : Option (List ℕ)) (j : ℕ) → is_index o j ≡ true → (x : List ℕ) × (o ≡ Some x)
+index_there None j e = absurd (cc)
+index_there (Some x) j e = (x, refl)
+
 -- as its index page of a span, or as its data page of one
 pub serves_parts : (g : Geometry) (pages : Live) (head : List ℕ) (r : ℕ) → serves g pages head r ≡ true →
     ((j : ℕ) × (j < index_pages g (size_of head)) × (index_page g pages j ≡ Some r)) ⊎ ((t : ℕ) × (t < data_pages g (size_of head)) × (entry_number g pages head t ≡ Some r) × (is_some (data_of (pages r) t) ≡ true))
@@ -43,7 +47,7 @@ serves_data g pages head r t below e some =
 -- an index page that serves is the index page of its span
 pub served_index : (g : Geometry) (pages : Live) (head : List ℕ) (r j : ℕ) → serves g pages head r ≡ true → is_index (pages r) j ≡ true → index_page g pages j ≡ Some r
 served_index g pages head r j e passes =
-    let x : (y : List ℕ) × (pages r ≡ Some y) = some_index (pages r) passes in
+    let x = index_there (pages r) j passes in
     let named : is_index (Some x.0) j ≡ true = rw x.1 at passes in
     ⊎_elim
     (λ (w : (i : ℕ) × (i < index_pages g (size_of head)) × (index_page g pages i ≡ Some r)).
@@ -55,7 +59,3 @@ served_index g pages head r j e passes =
     let none : is_some (data_of (pages r) w.0) ≡ false = rw x.1 (rw kind refl) in
     let bad : true ≡ false = sym w.3 ∙ none in absurd (cc))
     (serves_parts g pages head r e)
-  where
-    some_index : (o : Option (List ℕ)) → is_index o j ≡ true → (y : List ℕ) × (o ≡ Some y)
-    some_index None k = absurd (cc)
-    some_index (Some y) k = (y, refl)

@@ -1,6 +1,6 @@
 -- What stands behind the end of a file, while pages are put, killed and renewed.
 use Rattle.std.proofs.Common.{◌≡◌, ◌≢◌, ℕ, ◌+◌, ◌-◌, ◌*◌, ◌/◌, ◌%◌, ◌<◌, ◌≤◌, List, [], slice_index, slice_range, true, false, Option, Some, None, ap, refl, sym, ◌∙◌, arith, ⊎_elim, subst}
-use Rattle.std.specs.Prelude.{option_and_then, unwrap_or, is_none}
+use Rattle.std.specs.Prelude.{option_and_then, unwrap_or}
 use Rattle.std.proofs.Math.Nat.{div-add-mod}
 use Rattle.std.proofs.lemmas.Bool.{cases_eq, le-ltb}
 use Rattle.std.proofs.lemmas.Option.{none-some, same_Some}
@@ -15,19 +15,19 @@ use Rattle.image_model.specs.Files.{is_index, index_page, further, entry_number,
 use Rattle.image_laws.specs.Changes.{Gains, Loses}
 use Rattle.image_laws.specs.LiveSteps.{KillDone}
 use Rattle.image_laws.specs.Reindex.{index_span, slot_word, now_data}
-use Rattle.image_laws.proofs.Append.{find-all, some_page}
 use Rattle.image_laws.proofs.Finish.{own-parts}
 use Rattle.image_laws.proofs.Judge.{index_passes, index-none}
 use Rattle.image_laws.proofs.Kill.{own-loses, index-loses, bytes-loses, entry-loses}
 use Rattle.image_laws.proofs.Sounding.{loses-back}
 use Rattle.image_laws.proofs.Tables.{own-gains_other}
-use Rattle.image_laws.proofs.Wanted.{judged-whole}
 use Rattle.renew_laws.specs.Recopy.{RecopiesTo}
 use Rattle.renew_laws.specs.Replace.{Replaced}
 use Rattle.renew_laws.specs.Tails.{HasCleanEntry, HasCleanTail, IsTailReady, TailStays, TailBeside, TailDropped, TailCopied, TailReadied}
 use Rattle.renew_laws.proofs.Appended.{pages_of}
 use Rattle.renew_laws.proofs.Beside.{beside-index, beside-bytes, beside-data, data_gains, data_first}
 use Rattle.renew_laws.proofs.Overwritten.{body_at}
+use Rattle.renew_laws.proofs.Spans.{span_page}
+use Rattle.renew_laws.proofs.Serves.{index_there}
 use Rattle.renew_laws.proofs.RecopyCuts.{mine4, mine5, others5}
 use Rattle.renew_laws.proofs.ReindexSteps.{head3, reads3, bytes3, bytes3_other}
 
@@ -86,10 +86,6 @@ data_back p t one two loses (Some q) z e =
     (λ (there : q ≡ p → ⊥). ap (λ (x : Option (List ℕ)). data_of x t) (sym (loses.others q there)) ∙ e)
     (cases_eq q p)
 
-some_index : (o : Option (List ℕ)) (j : ℕ) → is_index o j ≡ true → (x : List ℕ) × (o ≡ Some x)
-some_index None j e = absurd (cc)
-some_index (Some x) j e = (x, refl)
-
 module _ (g : Geometry) (a b : List ℕ) (p : ℕ) (page : List ℕ) (live : live_at g a p ≡ Some page) (kind : names_index page ≡ false) (kill : KillDone g p a b) (j : ℕ) where
   less : Loses p (own (live_at g a) j) (own (live_at g b) j)
   less = own-loses p page (live_at g a) (live_at g b) live kill.loses j
@@ -97,7 +93,7 @@ module _ (g : Geometry) (a b : List ℕ) (p : ℕ) (page : List ℕ) (live : liv
   not_index : (s : ℕ) → index_page g (own (live_at g a) j) s ≢ Some p
   not_index s e =
       let passes = index_passes g (own (live_at g a) j) s p e in
-      let x = some_index (own (live_at g a) j p) s passes in
+      let x = index_there (own (live_at g a) j p) s passes in
       let same : x.0 ≡ page = same_Some x.0 page (sym (own-parts (live_at g a) j p x.0 x.1).0 ∙ live) in
       let no : is_index (own (live_at g a) j p) s ≡ false = rw x.1 (rw same (rw kind refl)) in
       let bad : true ≡ false = sym passes ∙ no in absurd (cc)
@@ -183,8 +179,7 @@ tail-copied g a b p o id h old page head head' f0 f start all same next j ready 
     (readied g a b p o id h old page head head' f0 f start all
     (λ z some now k low high.
     let below = last_below g (size_of head) some in
-    let x = some_page (data_page g (own (live_at g a) id) head (size_of head / body g))
-    (find-all (λ (t : ℕ). is_none (data_page g (own (live_at g a) id) head t)) 0 (data_pages g (size_of head)) (judged-whole g (own (live_at g a) id) id head f0 start.pages.file) (size_of head / body g) (omega arith) (omega (arith, below))) in
+    let x = span_page g (own (live_at g a) id) id head f0 start.pages.file (size_of head / body g) below in
     let kept : slice_range (unwrap_or (now_data g (own (live_at g a) id) head page (size_of head / body g)) []) 5 g.page ≡ span_bytes g (own (live_at g a) id) head (size_of head / body g) = same (size_of head / body g) below in
     let bodies : slice_range z 5 g.page ≡ slice_range x.0 5 g.page = rw (now, x.1) at kept in
     let place : 5 + (k - 5) ≡ k = omega (arith, low) in

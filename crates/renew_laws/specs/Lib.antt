@@ -1,5 +1,6 @@
 pub mod OneId
 pub mod Replace
+pub mod Reserve
 pub mod Idles
 pub mod Renew
 pub mod NewHead

@@ -1,5 +1,5 @@
 -- Between the first program of an append and its header page.
-use Rattle.std.specs.Prelude.{◌≡◌, ◌≢◌, ℕ, ◌+◌, ◌*◌, ◌/◌, ◌%◌, ◌≤◌, List, length, Bool, true, false, ◌==◌, ◌||◌, Some, None, Ok, is_some, slice_index, slice_range}
+use Rattle.std.specs.Prelude.{◌≡◌, ◌≢◌, ℕ, ◌+◌, ◌*◌, ◌/◌, ◌%◌, ◌<◌, ◌≤◌, List, length, Bool, true, false, ◌==◌, ◌||◌, Some, None, Ok, is_some, slice_index, slice_range}
 use Rattle.geometry.specs.declared.geometry.Geometry.{Geometry}
 use Rattle.geometry.specs.Numbers.{body, head_slots}
 use Rattle.nor_core.specs.Flash.{HalfProgrammed}
@@ -7,16 +7,17 @@ use Rattle.table_model.specs.Table.{File, file_of, put_file}
 use Rattle.table_model.specs.Files.{written}
 use Rattle.table_model.specs.Room.{data_pages, index_pages}
 use Rattle.image_model.specs.Live.{live_at, own}
-use Rattle.image_model.specs.Headers.{obj_id, names_index, span_of, size_of, name_of}
+use Rattle.image_model.specs.Headers.{word_at, obj_id, names_index, span_of, size_of, name_of}
 use Rattle.image_model.specs.Files.{is_index, index_page, entry_number, data_page, judged}
 use Rattle.image_model.specs.Places.{page_of, is_entry_page, IsImage}
 use Rattle.image_model.specs.Tables.{table_of}
 use Rattle.image_model.specs.Tidy.{IsTidy, serves, free_blocks}
 use Rattle.image_model.specs.Sound.{Keeps}
+use Rattle.image_laws.specs.Flash.{Programmed}
 use Rattle.image_laws.specs.InPlace.{slot_at}
 use Rattle.image_laws.specs.LiveSteps.{PutLeaves, PutDone}
 use Rattle.image_laws.specs.Programs.{IsHead}
-use Rattle.image_laws.specs.Reindex.{index_span}
+use Rattle.image_laws.specs.Reindex.{index_span, slot_word}
 use Rattle.image_laws.specs.SoundSteps.{IsOfKind}
 use Rattle.image_laws.specs.TidySteps.{IsTidyBut}
 use Rattle.renew_laws.specs.Append.{Appends}
@@ -50,20 +51,35 @@ PrimeIndex g = (a b : List ℕ) (id h p : ℕ) (head page : List ℕ) (f : File)
     obj_id page % 0x8000 ≡ id → index_pages g (size_of head) ≤ span_of page →
     ((c : List ℕ) → PutLeaves g p page b c → Keeps g b c) × ((c : List ℕ) → PutDone g p page b c → Primed g id h head f (λ r. beside r || (r == p)) a c)
 
+-- Page w of an id changes in place: it is live still, the other live pages of the id are the same, and each index page is where it was.
+pub record ChangesInPlace (g : Geometry) (id w : ℕ) (b c : List ℕ) : Type 0 where
+  pub now : own (live_at g c) id w ≡ Some (page_of g c w)
+  pub others : (r : ℕ) → r ≢ w → own (live_at g c) id r ≡ own (live_at g b) id r
+  pub places : (j : ℕ) → index_page g (own (live_at g c) id) j ≡ index_page g (own (live_at g b) id) j
+
 -- Bytes are programmed behind the end of the last data page, q.
 abbrev pub PrimeFill : Geometry → Type 0
 PrimeFill g = (a b c : List ℕ) (id h q from : ℕ) (head z bytes : List ℕ) (f : File) (beside : ℕ → Bool) → Primed g id h head f beside a b →
     entry_number g (own (live_at g b) id) head (size_of head / body g) ≡ Some q → own (live_at g b) id q ≡ Some z → names_index z ≡ false → span_of z ≡ size_of head / body g →
     5 + size_of head % body g ≤ from → from + length bytes ≤ g.page → HalfProgrammed (q * g.page + from) bytes b c →
-    Keeps g b c × (free_blocks g b ≤ free_blocks g c) × Primed g id h head f beside a c × (own (live_at g c) id q ≡ Some (page_of g c q))
+    Keeps g b c × (free_blocks g b ≤ free_blocks g c) × Primed g id h head f beside a c × ChangesInPlace g id q b c
     × (data_page g (own (live_at g c) id) head (size_of head / body g) ≡ Some (page_of g c q))
 
 -- The entry of a span behind the last is programmed in a further index page, w.
 abbrev pub PrimeName : Geometry → Type 0
 PrimeName g = (a b c : List ℕ) (id h w t : ℕ) (head x asked : List ℕ) (f : File) (beside : ℕ → Bool) → Primed g id h head f beside a b → own (live_at g b) id w ≡ Some x → names_index x ≡ true →
     data_pages g (size_of head) ≤ t → head_slots g ≤ t → index_span g t ≡ span_of x → length asked ≡ 2 → HalfProgrammed (w * g.page + slot_at g t) asked b c →
-    Keeps g b c × (free_blocks g b ≤ free_blocks g c) × Primed g id h head f beside a c × (own (live_at g c) id w ≡ Some (page_of g c w))
-    × ((j : ℕ) → index_page g (own (live_at g c) id) j ≡ index_page g (own (live_at g b) id) j)
+    Keeps g b c × (free_blocks g b ≤ free_blocks g c) × Primed g id h head f beside a c × ChangesInPlace g id w b c
+
+-- Bytes that were programmed over 0xFF in a live page stand there,
+abbrev pub FillHolds : Geometry → Type 0
+FillHolds g = (b c : List ℕ) (q from : ℕ) (z bytes : List ℕ) → IsImage g b → live_at g b q ≡ Some z → from + length bytes ≤ g.page → ((k : ℕ) → from ≤ k → k < from + length bytes → slice_index z k ≡ 0xFF) →
+    ((k : ℕ) → k < length bytes → slice_index bytes k < 256) → Programmed (q * g.page + from) bytes b c → slice_range (page_of g c q) from (from + length bytes) ≡ bytes
+
+-- and so does an entry.
+abbrev pub NameHolds : Geometry → Type 0
+NameHolds g = (b c : List ℕ) (w t : ℕ) (x asked : List ℕ) → IsImage g b → live_at g b w ≡ Some x → slice_index x (slot_at g t) ≡ 0xFF → slice_index x (slot_at g t + 1) ≡ 0xFF → length asked ≡ 2 →
+    ((k : ℕ) → k < 2 → slice_index asked k < 256) → Programmed (w * g.page + slot_at g t) asked b c → slot_word g (page_of g c w) t ≡ word_at asked 0
 
 -- Then the header page is renewed, and says that the file has these bytes more.
 abbrev pub PrimedRenews : Geometry → Type 0

@@ -8,4 +8,5 @@ pub mod overwriting;
 pub mod priming;
 pub mod recopying;
 pub mod renewing;
+pub mod reserving;
 pub mod tailing;

@@ -1,5 +1,5 @@
 ghost use Rattle.geometry.specs.declared.geometry.Geometry.{Geometry};
-ghost use Rattle.renew_laws.specs.Primed.{PrimeStarts, PrimeData, PrimeIndex, PrimeFill, PrimeName, PrimedRenews};
+ghost use Rattle.renew_laws.specs.Primed.{PrimeStarts, PrimeData, PrimeIndex, PrimeFill, PrimeName, FillHolds, NameHolds, PrimedRenews};
 
 /// What an append does before its header page keeps the image: a data page or a further index page is put beside, bytes or an entry are programmed in place.
 pub fn priming_keeps()
@@ -8,6 +8,12 @@ pub fn priming_keeps()
     ensures index_page { (g : Geometry) → PrimeIndex g }
     ensures fill { (g : Geometry) → PrimeFill g }
     ensures name { (g : Geometry) → PrimeName g }
+{}
+
+/// Bytes and entries that were programmed over 0xFF stand there.
+pub fn programs_hold()
+    ensures bytes { (g : Geometry) → FillHolds g }
+    ensures entry { (g : Geometry) → NameHolds g }
 {}
 
 /// Then the header page is renewed, and says that the file has these bytes more.
