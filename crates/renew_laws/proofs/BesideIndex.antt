@@ -4,7 +4,7 @@ use Rattle.std.proofs.Math.Path.{fun_ext}
 use Rattle.std.proofs.Math.Nat.{div-add-mod, mul-le-mul_left}
 use Rattle.std.specs.Prelude.{option_and_then, find, is_some}
 use Rattle.std.specs.List.{range_with_len}
-use Rattle.std.proofs.lemmas.Bool.{cases_eq, cases_lt, lt-ltb, le-ltb, false_from_ne_true}
+use Rattle.std.proofs.lemmas.Bool.{cases_eq, cases_lt, lt-ltb, le-ltb, false_from_ne_true, eq-eqb}
 use Rattle.geometry.specs.declared.geometry.Geometry.{Geometry}
 use Rattle.geometry.specs.Numbers.{head_slots, span_slots, ceil}
 use Rattle.table_model.specs.Room.{data_pages, index_pages}
@@ -18,6 +18,8 @@ use Rattle.image_model.specs.Tidy.{serves}
 use Rattle.image_laws.specs.Changes.{Gains}
 use Rattle.image_laws.specs.SoundSteps.{IsOfKind}
 use Rattle.image_laws.specs.TidySteps.{Agree, IsTidyBut}
+use Rattle.std.proofs.lemmas.Option.{none-some}
+use Rattle.image_laws.proofs.Tables.{find_gains}
 use Rattle.image_laws.proofs.Doubled.{index-span_is}
 use Rattle.image_laws.proofs.Judge.{judged-same, index-none}
 use Rattle.image_laws.proofs.Wanted.{header-below}
@@ -97,6 +99,14 @@ module _ (g : Geometry) (p h id : ℕ) (page head : List ℕ) (one two : Live) (
       (λ (w : (t : ℕ) × (t < data_pages g (size_of head)) × (entry_number g one head t ≡ Some r) × (is_some (data_of (one r) t) ≡ true)).
       serves_data g two head r w.0 w.1 (entry_below w.0 w.1 ∙ w.2) (ap is_some (data_as w.0 r) ∙ w.3))
       (serves_parts g one head r e)
+
+-- it is the index page of its span where none was
+pub index_here : (g : Geometry) (p : ℕ) (page : List ℕ) (one two : Live) → Gains p page one two → names_index page ≡ true → p < page_count g → index_page g one (span_of page) ≡ None → index_page g two (span_of page) ≡ Some p
+unfolding index_page
+index_here g p page one two gains kind within none =
+    let now : is_index (two p) (span_of page) ≡ true = rw gains.after (rw kind (eq-eqb (span_of page) (span_of page) refl)) in
+    (find_gains (λ (q : ℕ). is_index (one q) (span_of page)) (λ (q : ℕ). is_index (two q) (span_of page)) p 0 (page_count g) (λ q there. rw (gains.others q there) refl) now (omega arith) (omega (arith, within))).1
+    (λ q e. absurd (none-some q (sym none ∙ e)))
 
 -- ---- the image
 

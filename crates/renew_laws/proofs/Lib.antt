@@ -23,6 +23,7 @@ pub mod Leading
 pub mod RenewTidy
 pub mod BesideIndex
 pub mod PrimeBeside
+pub mod PrimePlaces
 pub mod PrimeInPlace
 pub mod Holding
 pub mod Truncating

@@ -6,6 +6,7 @@ use Rattle.std.proofs.lemmas.Bool.{cases_eq, cases_Bool, or_cases, eqb-true, fal
 use Rattle.std.proofs.lemmas.Option.{none-some, same_Some}
 use Rattle.geometry.specs.declared.geometry.Geometry.{Geometry}
 use Rattle.table_model.specs.Table.{File, file_of}
+use Rattle.image_model.specs.Within.{page_number}
 use Rattle.image_model.specs.Headers.{span_of, size_of}
 use Rattle.image_model.specs.Live.{Live, live_at, own}
 use Rattle.image_model.specs.Files.{is_index}
@@ -24,10 +25,10 @@ use Rattle.image_laws.proofs.Wanted.{header-below}
 use Rattle.renew_laws.specs.Primed.{Primed, PrimeStarts, PrimeData, PrimeIndex}
 use Rattle.renew_laws.specs.Recopy.{PutsDataTo}
 use Rattle.renew_laws.proofs.Beside.{put_data-cuts, data_gains, data_first, data_reads, data_keeps, data_spares}
-use Rattle.renew_laws.proofs.BesideIndex.{further_first, further_reads, further_keeps, further_spares}
+use Rattle.renew_laws.proofs.BesideIndex.{index_here, further_first, further_reads, further_keeps, further_spares}
 use Rattle.renew_laws.proofs.LiveServes.{served-or_spare}
 use Rattle.renew_laws.proofs.PutBeside.{gains_own}
-use Rattle.renew_laws.proofs.Serves.{index_there, served_index}
+use Rattle.renew_laws.proofs.Serves.{index_there, served_place}
 
 -- ---- a tidy image
 
@@ -69,7 +70,7 @@ prime-starts g a id f is t e =
             let x = index_there (own (live_at g a) id r) 0 passes in
             ⊎_elim
             (λ (none : false ≡ true). absurd (cc))
-            (λ (s : serves g (own (live_at g a) id) v.0 r ≡ true). same_Some r w.0 (sym (served_index g (own (live_at g a) id) v.0 r 0 s passes) ∙ v.1))
+            (λ (s : serves g (own (live_at g a) id) v.0 r ≡ true). same_Some r w.0 (sym (served_place g (own (live_at g a) id) v.0 r 0 s passes).0 ∙ v.1))
             (served-or_spare g a (λ (r : ℕ). false) but id w.0 v.0 v.1 v.2 r x.0 x.1);
         file = v.3;
       },
@@ -134,8 +135,8 @@ prime-index g a b id h p head page f beside prime kind index of past =
           (λ (gains : Gains p page (live_at g b) (live_at g c)). further_keeps g b c p id h page head of kind index past prime.at prime.header put.agree gains m)
           put.live,
       λ c put.
-          let mine = gains_own p id page (live_at g b) (live_at g c) of put.gains in
-          record {
+          let mine = gains_own p id page (live_at g b) (live_at g c) of put.gains in (
+            record {
             image = put.image;
             keeps = keeps-on g a b c prime.keeps (further_keeps g b c p id h page head of kind index past prime.at prime.header put.agree put.gains m);
             tidy = further_spares g b c p id h page head of kind index past prime.at prime.header put.agree put.gains beside prime.tidy;
@@ -144,5 +145,7 @@ prime-index g a b id h p head page f beside prime kind index of past =
             header = still_header g a b id h p head page f beside prime c mine other;
             only = only_now g a b id h p head page f beside prime c mine other;
             file = further_reads g b c p id h page head of kind index past prime.at prime.header put.agree put.gains ∙ prime.file;
-          },
+            },
+            λ entry none. index_here g p page (own (live_at g b) id) (own (live_at g c) id) mine index (page_number g p entry) none,
+          ),
     )

@@ -44,16 +44,16 @@ serves_data g pages head r t below e some =
     or_right _ _ (any_from (λ (i : ℕ). is_number (entry_number g pages head i) r && is_some (data_of (pages r) i)) 0 (data_pages g (size_of head)) t (omega arith) (omega arith)
     (and_from _ _ (ap (λ (o : Option ℕ). is_number o r) e ∙ eq-eqb r r refl) some))
 
--- an index page that serves is the index page of its span
-pub served_index : (g : Geometry) (pages : Live) (head : List ℕ) (r j : ℕ) → serves g pages head r ≡ true → is_index (pages r) j ≡ true → index_page g pages j ≡ Some r
-served_index g pages head r j e passes =
+-- an index page that serves is the index page of its span, and that is one of the file's
+pub served_place : (g : Geometry) (pages : Live) (head : List ℕ) (r j : ℕ) → serves g pages head r ≡ true → is_index (pages r) j ≡ true → (index_page g pages j ≡ Some r) × (j < index_pages g (size_of head))
+served_place g pages head r j e passes =
     let x = index_there (pages r) j passes in
     let named : is_index (Some x.0) j ≡ true = rw x.1 at passes in
     ⊎_elim
     (λ (w : (i : ℕ) × (i < index_pages g (size_of head)) × (index_page g pages i ≡ Some r)).
     let too : is_index (Some x.0) w.0 ≡ true = rw x.1 at (index_passes g pages w.0 r w.2) in
     let same : w.0 ≡ j = sym (index-span_is x.0 w.0 too) ∙ index-span_is x.0 j named in
-    ap (index_page g pages) (sym same) ∙ w.2)
+    (ap (index_page g pages) (sym same) ∙ w.2, omega (arith, w.1, same)))
     (λ (w : (t : ℕ) × (t < data_pages g (size_of head)) × (entry_number g pages head t ≡ Some r) × (is_some (data_of (pages r) t) ≡ true)).
     let kind : names_index x.0 ≡ true = (and_parts _ _ named).0 in
     let none : is_some (data_of (pages r) w.0) ≡ false = rw x.1 (rw kind refl) in

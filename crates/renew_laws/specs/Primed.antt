@@ -1,5 +1,5 @@
 -- Between the first program of an append and its header page.
-use Rattle.std.specs.Prelude.{◌≡◌, ◌≢◌, ℕ, ◌+◌, ◌*◌, ◌/◌, ◌%◌, ◌<◌, ◌≤◌, List, length, Bool, true, false, ◌==◌, ◌||◌, Some, None, Ok, is_some, slice_index, slice_range}
+use Rattle.std.specs.Prelude.{◌≡◌, ◌≢◌, ℕ, ◌+◌, ◌*◌, ◌/◌, ◌%◌, ◌<◌, ◌≤◌, ◌⊎◌, List, length, Bool, true, false, ◌==◌, ◌||◌, Some, None, Ok, is_some, slice_index, slice_range}
 use Rattle.geometry.specs.declared.geometry.Geometry.{Geometry}
 use Rattle.geometry.specs.Numbers.{body, head_slots}
 use Rattle.nor_core.specs.Flash.{HalfProgrammed}
@@ -39,17 +39,25 @@ pub record Primed (g : Geometry) (id h : ℕ) (head : List ℕ) (f : File) (besi
 abbrev pub PrimeStarts : Geometry → Type 0
 PrimeStarts g = (a : List ℕ) (id : ℕ) (f : File) → IsImage g a → IsTidy g a → file_of id (table_of g a) ≡ Some f → (h : ℕ) × (head : List ℕ) × Primed g id h head f (λ r. false) a a
 
+-- The index page of each of the file's spans is there, and any other index page of the id is one that was put beside.
+abbrev pub PrimedPlaces : Geometry → Type 0
+PrimedPlaces g = (a b : List ℕ) (id h : ℕ) (head : List ℕ) (f : File) (beside : ℕ → Bool) → Primed g id h head f beside a b →
+    ((j : ℕ) → j < index_pages g (size_of head) → is_some (index_page g (own (live_at g b) id) j) ≡ true)
+    × ((r j : ℕ) → is_index (own (live_at g b) id r) j ≡ true → (beside r ≡ true) ⊎ ((index_page g (own (live_at g b) id) j ≡ Some r) × (j < index_pages g (size_of head))))
+
 -- A data page that no entry names is put beside.
 abbrev pub PrimeData : Geometry → Type 0
 PrimeData g = (a b : List ℕ) (id h p : ℕ) (head page : List ℕ) (f : File) (beside : ℕ → Bool) → Primed g id h head f beside a b → IsOfKind g (live_at g b) p page → names_index page ≡ false →
     obj_id page % 0x8000 ≡ id →
     ((c : List ℕ) → PutLeaves g p page b c → Keeps g b c) × ((c : List ℕ) → PutDone g p page b c → Primed g id h head f (λ r. beside r || (r == p)) a c)
 
--- So is a further index page, of a span behind those of the file.
+-- So is a further index page, of a span behind those of the file; it is the index page of its span where none was.
 abbrev pub PrimeIndex : Geometry → Type 0
 PrimeIndex g = (a b : List ℕ) (id h p : ℕ) (head page : List ℕ) (f : File) (beside : ℕ → Bool) → Primed g id h head f beside a b → IsOfKind g (live_at g b) p page → names_index page ≡ true →
     obj_id page % 0x8000 ≡ id → index_pages g (size_of head) ≤ span_of page →
-    ((c : List ℕ) → PutLeaves g p page b c → Keeps g b c) × ((c : List ℕ) → PutDone g p page b c → Primed g id h head f (λ r. beside r || (r == p)) a c)
+    ((c : List ℕ) → PutLeaves g p page b c → Keeps g b c)
+    × ((c : List ℕ) → PutDone g p page b c → Primed g id h head f (λ r. beside r || (r == p)) a c
+    × (is_entry_page g p ≡ true → index_page g (own (live_at g b) id) (span_of page) ≡ None → index_page g (own (live_at g c) id) (span_of page) ≡ Some p))
 
 -- Page w of an id changes in place: it is live still, the other live pages of the id are the same, and each index page is where it was.
 pub record ChangesInPlace (g : Geometry) (id w : ℕ) (b c : List ℕ) : Type 0 where

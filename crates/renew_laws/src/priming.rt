@@ -1,9 +1,10 @@
 ghost use Rattle.geometry.specs.declared.geometry.Geometry.{Geometry};
-ghost use Rattle.renew_laws.specs.Primed.{PrimeStarts, PrimeData, PrimeIndex, PrimeFill, PrimeName, FillHolds, NameHolds, PrimedRenews};
+ghost use Rattle.renew_laws.specs.Primed.{PrimeStarts, PrimedPlaces, PrimeData, PrimeIndex, PrimeFill, PrimeName, FillHolds, NameHolds, PrimedRenews};
 
 /// What an append does before its header page keeps the image: a data page or a further index page is put beside, bytes or an entry are programmed in place.
 pub fn priming_keeps()
     ensures starts { (g : Geometry) → PrimeStarts g }
+    ensures places { (g : Geometry) → PrimedPlaces g }
     ensures data_page { (g : Geometry) → PrimeData g }
     ensures index_page { (g : Geometry) → PrimeIndex g }
     ensures fill { (g : Geometry) → PrimeFill g }

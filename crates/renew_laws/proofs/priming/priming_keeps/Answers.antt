@@ -1,9 +1,13 @@
 use Rattle.renew_laws.proofs.PrimeBeside.{prime-starts, prime-data, prime-index}
+use Rattle.renew_laws.proofs.PrimePlaces.{primed-places}
 use Rattle.renew_laws.proofs.PrimeInPlace.{prime-fill, prime-name}
 use Rattle.renew_laws.proofs.priming.priming_keeps.Goals as goal
 
 pub returns-clause-starts : goal.returns-clause-starts
 returns-clause-starts c = prime-starts
+
+pub returns-clause-places : goal.returns-clause-places
+returns-clause-places c = primed-places
 
 pub returns-clause-data_page : goal.returns-clause-data_page
 returns-clause-data_page c = prime-data
