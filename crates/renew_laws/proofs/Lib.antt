@@ -7,8 +7,6 @@ pub mod HeadsServe
 pub mod IdleKill
 pub mod RenewStep
 pub mod NewHeader
-pub mod MovedPage
-pub mod MovedTidy
 pub mod ReindexSteps
 pub mod RecopyCuts
 pub mod RecopyLeaves

@@ -5,7 +5,6 @@ pub mod Idles
 pub mod Renew
 pub mod NewHead
 pub mod Leads
-pub mod Moving
 pub mod Recopy
 pub mod Truncate
 pub mod Append

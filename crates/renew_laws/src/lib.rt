@@ -3,7 +3,6 @@
 
 pub mod appending;
 pub mod idling;
-pub mod moving;
 pub mod overwriting;
 pub mod priming;
 pub mod recopying;
