@@ -2,26 +2,25 @@
 use Rattle.renew_laws.proofs.PutBeside.{gains_own, beside_keeps, beside_spares}
 use Rattle.renew_laws.proofs.Spans.{span_there}
 use Rattle.renew_laws.proofs.Serves.{serves_parts, serves_index, serves_data}
-use Rattle.std.proofs.Common.{◌≡◌, ◌≢◌, ℕ, ◌<◌, ◌⊎◌, List, Bool, true, false, ◌==◌, Option, Some, None, Result, Ok, ap, refl, sym, ◌∙◌, ⊎_elim, ◌||◌}
+use Rattle.std.proofs.Common.{◌≡◌, ◌≢◌, ℕ, ◌<◌, ◌⊎◌, List, Bool, true, false, ◌==◌, Option, Some, None, Ok, ap, refl, sym, ◌∙◌, ⊎_elim, ◌||◌}
 use Rattle.std.proofs.Math.Path.{fun_ext}
 use Rattle.std.specs.Prelude.{option_and_then, find, is_none, is_some}
 use Rattle.std.specs.List.{range_with_len}
 use Rattle.std.proofs.lemmas.Bool.{cases_eq}
 use Rattle.std.proofs.lemmas.Option.{none-some}
 use Rattle.geometry.specs.declared.geometry.Geometry.{Geometry}
-use Rattle.image_model.specs.declared.damage.Damage.{Damage}
 use Rattle.image_model.specs.Volume.{page_count}
 use Rattle.table_model.specs.Room.{data_pages, index_pages}
 use Rattle.image_model.specs.Live.{live_at, Live, own}
 use Rattle.image_model.specs.Headers.{names_index, size_of}
 use Rattle.image_laws.specs.Changes.{Gains}
 use Rattle.table_model.specs.Table.{File}
-use Rattle.image_model.specs.Files.{is_index, index_page, further, entry_number, data_of, data_page, judged, found}
+use Rattle.image_model.specs.Files.{is_index, index_page, further, entry_number, data_of, data_page, judged}
 use Rattle.image_model.specs.Tidy.{serves}
 use Rattle.image_model.specs.Sound.{HasMagics, Keeps}
 use Rattle.image_laws.specs.TidySteps.{Agree, IsTidyBut}
 use Rattle.renew_laws.specs.Recopy.{PutsDataTo, PutDataCuts, PutDataDone}
-use Rattle.image_laws.proofs.Judge.{found_from, judged-same, index-none}
+use Rattle.image_laws.proofs.Judge.{judged-same, index-none}
 use Rattle.image_laws.proofs.Sounding.{keeps-by_live}
 
 module _ (g : Geometry) (p h id : ℕ) (page head : List ℕ) (f0 : File) (one two : Live) (gains : Gains p page one two) (kind : names_index page ≡ false)
@@ -62,9 +61,6 @@ module _ (g : Geometry) (p h id : ℕ) (page head : List ℕ) (f0 : File) (one t
 
   pub beside-judged : judged g two id head ≡ judged g one id head
   beside-judged = judged-same g one two id head beside-data
-
-  pub beside-found : found g two id ≡ found g one id
-  beside-found = found_from g two id h head (beside-index 0 ∙ at) beside-header ∙ ap (λ (r : Result File Damage). Some (h, r)) beside-judged ∙ sym (found_from g one id h head at header)
 
 -- the pages that served do so
 module _ (g : Geometry) (a c : List ℕ) (p id h : ℕ) (page head : List ℕ) (f0 : File) (start : PutsDataTo g a p id h page head f0) (gains : Gains p page (live_at g a) (live_at g c)) where

@@ -137,14 +137,14 @@ prime-index g a b id h p head page f beside prime kind index of past =
       λ c put.
           let mine = gains_own p id page (live_at g b) (live_at g c) of put.gains in (
             record {
-            image = put.image;
-            keeps = keeps-on g a b c prime.keeps (further_keeps g b c p id h page head of kind index past prime.at prime.header put.agree put.gains m);
-            tidy = further_spares g b c p id h page head of kind index past prime.at prime.header put.agree put.gains beside prime.tidy;
-            mine = mine_now g a b id h p head page f beside prime c mine other;
-            at = further_first g b c p id h page head of kind index past prime.at prime.header put.agree put.gains;
-            header = still_header g a b id h p head page f beside prime c mine other;
-            only = only_now g a b id h p head page f beside prime c mine other;
-            file = further_reads g b c p id h page head of kind index past prime.at prime.header put.agree put.gains ∙ prime.file;
+              image = put.image;
+              keeps = keeps-on g a b c prime.keeps (further_keeps g b c p id h page head of kind index past prime.at prime.header put.agree put.gains m);
+              tidy = further_spares g b c p id h page head of kind index past prime.at prime.header put.agree put.gains beside prime.tidy;
+              mine = mine_now g a b id h p head page f beside prime c mine other;
+              at = further_first g b c p id h page head of kind index past prime.at prime.header put.agree put.gains;
+              header = still_header g a b id h p head page f beside prime c mine other;
+              only = only_now g a b id h p head page f beside prime c mine other;
+              file = further_reads g b c p id h page head of kind index past prime.at prime.header put.agree put.gains ∙ prime.file;
             },
             λ entry none. index_here g p page (own (live_at g b) id) (own (live_at g c) id) mine index (page_number g p entry) none,
           ),

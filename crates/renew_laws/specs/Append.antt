@@ -1,5 +1,5 @@
 -- Data bytes are appended to a file.
-use Rattle.std.specs.Prelude.{◌≡◌, ℕ, ◌+◌, ◌-◌, ◌*◌, ◌/◌, ◌%◌, ◌<◌, ◌≤◌, List, ◌++◌, length, Bool, true, false, Some, Ok, is_some, slice_index, slice_range}
+use Rattle.std.specs.Prelude.{◌≡◌, ℕ, ◌+◌, ◌-◌, ◌*◌, ◌/◌, ◌%◌, ◌<◌, ◌≤◌, ◌⊎◌, List, ◌++◌, length, Bool, true, false, Some, Ok, is_some, slice_index, slice_range}
 use Rattle.geometry.specs.declared.geometry.Geometry.{Geometry}
 use Rattle.nor_core.specs.Flash.{HalfProgrammed}
 use Rattle.geometry.specs.Numbers.{body, head_slots}
@@ -8,11 +8,12 @@ use Rattle.table_model.specs.Files.{written}
 use Rattle.table_model.specs.Room.{data_pages, index_pages}
 use Rattle.image_model.specs.Live.{Live, live_at, own}
 use Rattle.image_model.specs.Headers.{word_at, obj_id, names_index, span_of, size_of, name_of}
-use Rattle.image_model.specs.Files.{index_page, entry_number, data_page, judged}
+use Rattle.image_model.specs.Files.{further, index_page, entry_number, data_page, judged}
 use Rattle.image_model.specs.Places.{IsImage}
 use Rattle.image_model.specs.Tables.{table_of}
 use Rattle.image_model.specs.Tidy.{IsTidy, serves, free_blocks}
 use Rattle.image_model.specs.Sound.{HasMagics, Keeps}
+use Rattle.image_laws.specs.Reindex.{slot_word}
 use Rattle.image_laws.specs.TidySteps.{IsTidyBut}
 use Rattle.renew_laws.specs.Renew.{RenewsTo}
 use Rattle.renew_laws.specs.Replace.{Replaced}
@@ -31,6 +32,18 @@ AppendingIsSound g = (a b : List ℕ) (p h at : ℕ) (asked page head : List ℕ
     index_page g (own (live_at g a) (obj_id page % 0x8000)) 0 ≡ Some h → own (live_at g a) (obj_id page % 0x8000) h ≡ Some head →
     p * g.page + 5 + (size_of head - span_of page * body g) ≤ at → at + length asked ≤ p * g.page + g.page → HalfProgrammed at asked a b →
     Keeps g a b × (free_blocks g a ≤ free_blocks g b)
+
+-- The entry of a data span is q: in the header page, or in a further index page that is there.
+abbrev pub IsEntryOf : Geometry → Live → List ℕ → ℕ → ℕ → Type 0
+IsEntryOf g pages head t q = ((t < head_slots g) × (slot_word g head t ≡ q)) ⊎ ((head_slots g ≤ t) × (w : ℕ) × (x : List ℕ) × (index_page g pages (further g t) ≡ Some w) × (pages w ≡ Some x) × (slot_word g x t ≡ q))
+
+-- A header page with the same entry for a span leads to the same data page,
+abbrev pub SpanIsKept : Geometry → Type 0
+SpanIsKept g = (pages : Live) (head head' : List ℕ) (t : ℕ) → (t < head_slots g → word_at head' (45 + g.meta + 2 * t) ≡ word_at head (45 + g.meta + 2 * t)) → data_page g pages head' t ≡ data_page g pages head t
+
+-- and one whose entry is the number of a live data page of the span leads to that one.
+abbrev pub SpanIsNamed : Geometry → Type 0
+SpanIsNamed g = (pages : Live) (head : List ℕ) (t q : ℕ) (y : List ℕ) → IsEntryOf g pages head t q → pages q ≡ Some y → names_index y ≡ false → span_of y ≡ t → (entry_number g pages head t ≡ Some q) × (data_page g pages head t ≡ Some y)
 
 -- A header page says that a file has these bytes more: they stand in data page z, behind the old size.
 pub record Appends (g : Geometry) (pages : Live) (head head' bytes z : List ℕ) : Type 0 where
