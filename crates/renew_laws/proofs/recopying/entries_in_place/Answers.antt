@@ -1,5 +1,5 @@
 use Rattle.renew_laws.proofs.EntryInPlace.{entry-in_place, entry-in_place-tidies}
-use Rattle.renew_laws.proofs.renewing.entries_in_place.Goals as goal
+use Rattle.renew_laws.proofs.recopying.entries_in_place.Goals as goal
 
 pub returns-clause-keeps : goal.returns-clause-keeps
 returns-clause-keeps c = entry-in_place

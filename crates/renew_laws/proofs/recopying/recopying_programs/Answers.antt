@@ -1,6 +1,6 @@
 use Rattle.renew_laws.proofs.RecopyStep.{recopy-is_sound, put_data-keeps}
-use Rattle.renew_laws.proofs.RecopyTidy.{put_data-spares, recopy-tidies, put-same}
-use Rattle.renew_laws.proofs.renewing.recopying_puts.Goals as goal
+use Rattle.renew_laws.proofs.RecopyTidy.{put_data-spares, recopy-tidies}
+use Rattle.renew_laws.proofs.recopying.recopying_programs.Goals as goal
 
 pub returns-clause-cuts : goal.returns-clause-cuts
 returns-clause-cuts c = recopy-is_sound
@@ -13,6 +13,3 @@ returns-clause-spares c = put_data-spares
 
 pub returns-clause-tidy : goal.returns-clause-tidy
 returns-clause-tidy c = recopy-tidies
-
-pub returns-clause-same : goal.returns-clause-same
-returns-clause-same c = put-same
