@@ -1,5 +1,5 @@
 -- Moving a data page: its copy is put, the index page is renewed to name it, and it is killed.
-use Rattle.std.proofs.Common.{◌≡◌, ℕ, ◌<◌, ◌≤◌, List, true, Option, Some, arith, inl, inr}
+use Rattle.std.proofs.Common.{◌≡◌, ℕ, ◌≤◌, List, true, Option, Some, arith, inl, inr}
 use Rattle.geometry.specs.declared.geometry.Geometry.{Geometry}
 use Rattle.table_model.specs.declared.error.Tag.{Tag}
 use Rattle.flash_view.specs.declared.kinds.Kind.TheVariants.{Index, Data}

@@ -24,7 +24,6 @@ use Rattle.free_search.proofs.FreePages.{data_none, data_parts, some_entries}
 use Rattle.page_put.specs.Fresh.{Freshens, IsFresh}
 use Rattle.block_gc.specs.DataEmptied.{blocks_needed, HasDataPlaces, DataTurnCut, DataEmptied}
 use Rattle.block_gc.specs.Cleanings.{CanCleanData, CleanDataCut, CleanedData}
-use Rattle.block_gc.proofs.Replacing.{tidy_keeps}
 use Rattle.block_gc.proofs.DataTurnCalls.{no_page, dead_of}
 use Rattle.block_gc.proofs.SameBlocks.{same_deleted}
 use Rattle.block_gc.proofs.Freshened.{away, deleted_stays, free_falls, fresh_keeps, fresh_live, fresh_tidy}

@@ -1,19 +1,16 @@
 -- Moving an index page, from what the put of its copy and its kill leave.
-use Rattle.std.proofs.Common.{◌≡◌, ◌≢◌, ℕ, ◌%◌, ◌<◌, ◌≤◌, List, length, take, set, slice_index, false, ◌&&◌, Some, ap, refl, sym, ◌∙◌, arith, inl}
+use Rattle.std.proofs.Common.{◌≡◌, ℕ, ◌%◌, ◌≤◌, List, length, take, set, false, ◌&&◌, Some, ap, refl, sym, ◌∙◌, arith, inl}
 use Rattle.std.proofs.lemmas.List.{get_or-take}
-use Rattle.std.proofs.lemmas.Option.{same_Some}
 use Rattle.geometry.specs.declared.geometry.Geometry.{Geometry}
 use Rattle.table_model.specs.declared.error.Tag.{Tag}
 use Rattle.table_model.specs.Room.{data_pages}
 use Rattle.flash_view.specs.declared.kinds.Kind.TheVariants.{Index}
 use Rattle.image_model.specs.Within.{page_length}
-use Rattle.image_model.specs.Headers.{obj_id, span_of, names_index, size_of}
+use Rattle.image_model.specs.Headers.{obj_id, span_of, size_of}
 use Rattle.image_model.specs.Live.{live_at, own}
 use Rattle.image_model.specs.Places.{IsImage}
 use Rattle.image_model.specs.Files.{index_page}
-use Rattle.image_model.specs.Sound.{Keeps}
 use Rattle.image_laws.specs.Put.{IsReadyPage}
-use Rattle.image_laws.specs.LiveSteps.{PutDone, KillLeaves, KillDone}
 use Rattle.image_laws.specs.Reindex.{Reindexes}
 use Rattle.image_laws.specs.Spares.{leftover}
 use Rattle.image_laws.proofs.Frames.{live_parts}
