@@ -12,6 +12,7 @@ use Rattle.table_model.specs.Room.{data_pages}
 use Rattle.page_layout.specs.Layout.{SameOutside}
 use Rattle.page_layout.proofs.Stays.{word_stays}
 use Rattle.flash_view.specs.declared.kinds.Kind.TheVariants.{Index}
+use Rattle.flash_view.specs.Steps.{Step, Begins, Finishes}
 use Rattle.image_model.specs.declared.damage.Damage.{Damage}
 use Rattle.image_model.specs.Within.{sizes, page_length, page_number, block_number}
 use Rattle.image_model.specs.Headers.{obj_id, span_of, names_index, size_of}
@@ -48,14 +49,14 @@ use Rattle.renew_laws.proofs.RecopyCuts.{recopy-cuts, mine4, mine5}
 use Rattle.renew_laws.proofs.RecopyLeaves.{recopy-spares}
 use Rattle.renew_laws.proofs.ReindexSteps.{entry3_here}
 use Rattle.page_put.specs.Placing.{placed_page}
-use Rattle.page_put.specs.LivePages.{finished_page, IsKillable}
+use Rattle.page_put.specs.LivePages.{finished_page, killing, putting}
 use Rattle.page_renew.specs.Built.{IsRenamed}
 use Rattle.page_renew.specs.Copies.{count_of}
 use Rattle.page_renew.proofs.Homes.{serves_data, index_some, own_of, of_kind, Home, home_of}
 use Rattle.page_renew.proofs.IndexCopies.{placed_index}
 use Rattle.page_renew.proofs.Renewed.{slot_same, renewed, now_same}
 use Rattle.page_renew.proofs.SlotNames.{slot_word_at, slot_behind, other_word, named_leads}
-use Rattle.block_gc.specs.DataMoves.{CanMoveData, IsNamedBy, CopiedData, DataMoveCut, MovedData}
+use Rattle.block_gc.specs.DataMoves.{CanMoveData, IsNamedBy, CopiedData, DataMoveCut, MovedData, IsCopiedSince, naming_copy}
 use Rattle.block_gc.proofs.DataCopies.{data_there, some_data, used_stays}
 use Rattle.block_gc.proofs.Replacing.{keeps_same, flags_stay, not_put, still_live, kill_left, replace_left, replace_free, index_alone, set_twice, index_ready}
 
@@ -84,7 +85,28 @@ set_inside at v y = record {
 some_in : (o : Option (List ℕ)) (f : List ℕ → ℕ) (n : ℕ) → option_map f o ≡ Some n → (x : List ℕ) → o ≡ Some x → f x ≡ n
 some_in o f n is x at = let e : Some (f x) ≡ Some n = rw at at is in same_Some (f x) n e
 
-module _ (g : Geometry) (a0 b0 : List ℕ) (o p j w : ℕ) (tag : Tag) (can : CanMoveData g a0 o p j) (copied : CopiedData g o p a0 b0) (named : IsNamedBy g a0 o w tag) where
+-- the first two calls of the renewal: the copy of the index page is put, and the index page is killed
+abbrev pub replacing : (page to index index_to : ℕ) → (tag t : Tag) → (first work : List ℕ) → Step (Unit {0})
+replacing page to index index_to tag t first work = record {
+  needs = λ g was. IsCopiedSince g page to index index_to tag first was;
+  cut = λ g was image. DataMoveCut g to index_to first image;
+  done = λ g was now ok. Replaced g index_to index (finished_page g Index t work) was now;
+}
+
+-- they begin all of it
+pub replaced_first : {g : Geometry} {b : List ℕ} (o p w j : ℕ) (tag t : Tag) (a work : List ℕ) → IsCopiedSince g o p w j tag a b → Begins g b (replacing o p w j tag t a work) (naming_copy o p w j tag a)
+replaced_first o p w j tag t a work since = record { needs = since; cut = λ c cut. cut }
+
+module _ (g : Geometry) (a0 b0 : List ℕ) (o p j w : ℕ) (tag : Tag) (since : IsCopiedSince g o p w j tag a0 b0) where
+  abbrev can : CanMoveData g a0 o p j
+  can = since.can
+
+  abbrev copied : CopiedData g o p a0 b0
+  copied = since.copied
+
+  abbrev named : IsNamedBy g a0 o w tag
+  named = since.named
+
   is : IsImage g a0
   is = copied.image
 
@@ -144,14 +166,13 @@ module _ (g : Geometry) (a0 b0 : List ℕ) (o p j w : ℕ) (tag : Tag) (can : Ca
   live_w : live_at g b0 w ≡ Some index_was.0
   live_w = copied.put.gains.others w w_not_p ∙ w_parts.0
 
-  pub index_live : is_index_page (live_at g b0 w) ≡ true
+  index_live : is_index_page (live_at g b0 w) ≡ true
   index_live = rw live_w index_was.2
 
-  -- the place of the index page is free still
-  pub free_still : IsFreePage g b0 j
-  free_still = copied.put.free j (λ e. can.apart (ap (λ (k : ℕ). block_of g k) (sym e))) can.index_free
+  module _ (t : Tag) (t_id : t.id ≡ tag.id) (t_span : t.span ≡ index_span g tag.span) (work : List ℕ) (built : is_index_page (live_at g b0 w) ≡ true → IsRenamed g b0 w tag.span p work) where
+    renamed : IsRenamed g b0 w tag.span p work
+    renamed = built index_live
 
-  module _ (work : List ℕ) (renamed : IsRenamed g b0 w tag.span p work) (t : Tag) (t_id : t.id ≡ tag.id) (t_span : t.span ≡ index_span g tag.span) where
     abbrev old : List ℕ
     old = renamed.built.old
 
@@ -254,9 +275,6 @@ module _ (g : Geometry) (a0 b0 : List ℕ) (o p j w : ℕ) (tag : Tag) (can : Ca
     sets : new ≡ set (take g.page work) 4 0xF8
     sets = ap (λ (l : List ℕ). set l 4 0xF8) placed_is ∙ set_twice (take g.page work) 4 0xFA 0xF8
 
-    pub renewed_ready : (1 ≤ t.id) × (t.id ≤ 0x7FFE) → IsReadyPage g (placed_page g Index t work) 0xF8
-    renewed_ready = index_ready g t work (take g.page work) placed_is page_len (λ k below. rw (get_or-take g.page work k 0 below) (renamed.small k below))
-
     others : SameOutside (slot_at g s) 2 plain new
     others =
         let size : 128 ≤ g.page = big in
@@ -316,14 +334,36 @@ module _ (g : Geometry) (a0 b0 : List ℕ) (o p j w : ℕ) (tag : Tag) (can : Ca
           used = λ u v. let x = one.1 u in let y = used (stays v) in omega (arith, x, y);
         }
 
-    pub renew_left : (c : List ℕ) → ReplaceCut g j w new b0 c → DataMoveCut g p j a0 c
+    renew_left : (c : List ℕ) → ReplaceCut g j w new b0 c → DataMoveCut g p j a0 c
     renew_left c cut = let free = replace_free g b0 c j w new old renamed.built.live cut in cut_by c (keeps_by c cut) free.0 free.1
 
-    -- the old index page can be killed
-    pub index_killable : (b : List ℕ) → PutDone g j new b0 b → IsKillable g b w
-    index_killable b put = record {
-      live = ap is_some (still_live g b0 b j w new old put renamed.built.live);
-      byte = flags_stay g b0 b j w old put.agree renamed.built.live (not_put g b0 b j w new old put renamed.built.live) renamed.built.flags;
+    j_not_p : j ≢ p
+    j_not_p e = can.apart (ap (λ (k : ℕ). block_of g k) (sym e))
+
+    -- ---- the copy is put, and the old index page is killed
+
+    pub renew_puts : (1 ≤ tag.id) × (tag.id ≤ 0x7FFE) → Begins g b0 (putting j Index t work) (naming_copy o p w j tag a0)
+    renew_puts range =
+        let id = t_id in
+        record {
+          needs = record {
+            free = copied.put.free j j_not_p can.index_free;
+            ready = index_ready g t work (take g.page work) placed_is page_len (λ k below. rw (get_or-take g.page work k 0 below) (renamed.small k below)) (omega (arith, id, range.0), omega (arith, id, range.1));
+          };
+          cut = λ c put. renew_left c (inl put);
+        }
+
+    pub renew_begins : (1 ≤ tag.id) × (tag.id ≤ 0x7FFE) → Begins g b0 (putting j Index t work) (replacing o p w j tag t a0 work)
+    renew_begins range = let puts = renew_puts range in record { needs = puts.needs; cut = puts.cut }
+
+    pub renew_kills : (c : List ℕ) → PutDone g j new b0 c → Finishes g b0 c (killing w) (replacing o p w j tag t a0 work)
+    renew_kills c put = record {
+      needs = record {
+        live = ap is_some (still_live g b0 c j w new old put renamed.built.live);
+        byte = flags_stay g b0 c j w old put.agree renamed.built.live (not_put g b0 c j w new old put renamed.built.live) renamed.built.flags;
+      };
+      cut = λ d kill. renew_left d (inr (c, put, kill));
+      done = λ d ok kill. record { middle = c; put = put; kill = kill };
     }
 
     -- ---- then the data page is spare
@@ -362,14 +402,6 @@ module _ (g : Geometry) (a0 b0 : List ℕ) (o p j w : ℕ) (tag : Tag) (can : Ca
       live6 : live_at g b6 o ≡ Some copied.old
       live6 = all.kill.loses.others o o_not_w ∙ still_live g b0 all.middle j o new copied.old all.put live_o
 
-      -- so that it can be killed
-      pub data_killable : IsKillable g b6 o
-      data_killable = record {
-        live = ap is_some live6;
-        byte = flags_stay g all.middle b6 w o copied.old all.kill.agree (still_live g b0 all.middle j o new copied.old all.put live_o) o_not_w
-            (flags_stay g b0 all.middle j o copied.old all.put.agree live_o o_not_j copied.flags);
-      }
-
       own_o : own (live_at g b6) id o ≡ Some copied.old
       own_o = own_of (live_at g b6) o copied.old live6
 
@@ -396,7 +428,7 @@ module _ (g : Geometry) (a0 b0 : List ℕ) (o p j w : ℕ) (tag : Tag) (can : Ca
           let tidied = recopy-spares g b0 b6 j w id home.h old new home.head leads.0 home.f home.f (λ (r : ℕ). r == p) (λ (r : ℕ). r == o) start all copied.tidy names_copy in
           idle-kills g b6 o copied.old (λ (r : ℕ). (r == o) && leftover g (own (live_at g b6) id) leads.0 r) tidied.0 spare live6
 
-      pub last_left : (c : List ℕ) → KillLeaves g o b6 c → DataMoveCut g p j a0 c
+      last_left : (c : List ℕ) → KillLeaves g o b6 c → DataMoveCut g p j a0 c
       last_left c cut =
           let law = kill_law.0 c cut in
           let before = replace_free g b0 b6 j w new old renamed.built.live (replace_left all) in
@@ -410,13 +442,10 @@ module _ (g : Geometry) (a0 b0 : List ℕ) (o p j w : ℕ) (tag : Tag) (can : Ca
           let x : ((r == o) ≡ true) × (leftover g (own (live_at g b6) id) leads.0 r ≡ true) = and_parts (r == o) (leftover g (own (live_at g b6) id) leads.0 r) v.0 in
           let bad : false ≡ true = rw x.0 at v.1 in absurd (cc)
 
-      j_not_p : j ≢ p
-      j_not_p e = can.apart (ap (λ (k : ℕ). block_of g k) (sym e))
-
       j_not_w : j ≢ w
       j_not_w e = not_put g b0 all.middle j w new old all.put renamed.built.live (sym e)
 
-      pub moved_done : (b8 : List ℕ) → KillDone g o b6 b8 → MovedData g o p j a0 b8
+      moved_done : (b8 : List ℕ) → KillDone g o b6 b8 → MovedData g o p j a0 b8
       moved_done b8 last =
           let put = all.put in
           let killed = all.kill in
@@ -445,3 +474,14 @@ module _ (g : Geometry) (a0 b0 : List ℕ) (o p j w : ℕ) (tag : Tag) (can : Ca
             pages = λ q inside not_o not_p not_w not_j. last.agree.page q inside not_o ∙ killed.agree.page q inside not_w ∙ put.agree.page q inside not_j ∙ copied.put.agree.page q inside not_p;
             live = λ q not_o not_p not_w not_j. last.loses.others q not_o ∙ killed.loses.others q not_w ∙ put.gains.others q not_j ∙ copied.put.gains.others q not_p;
           }
+
+      pub renew_ends : Finishes g b0 b6 (killing o) (naming_copy o p w j tag a0)
+      renew_ends = record {
+        needs = record {
+          live = ap is_some live6;
+          byte = flags_stay g all.middle b6 w o copied.old all.kill.agree (still_live g b0 all.middle j o new copied.old all.put live_o) o_not_w
+              (flags_stay g b0 all.middle j o copied.old all.put.agree live_o o_not_j copied.flags);
+        };
+        cut = λ d kill. last_left d kill;
+        done = λ d ok kill. moved_done d kill;
+      }
