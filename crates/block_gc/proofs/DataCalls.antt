@@ -1,31 +1,12 @@
--- Moving a data page: its copy is put, the index page is renewed to name it, and it is killed.
-use Rattle.std.proofs.Common.{◌≡◌, ℕ, ◌≤◌, List, true, Option, Some, arith, inl, inr}
+-- Moving a data page: where nothing is programmed yet, and the whole move by its two steps.
+use Rattle.std.proofs.Common.{◌≡◌, ℕ, List, Option, Some, arith}
 use Rattle.geometry.specs.declared.geometry.Geometry.{Geometry}
 use Rattle.table_model.specs.declared.error.Tag.{Tag}
-use Rattle.flash_view.specs.declared.kinds.Kind.TheVariants.{Index, Data}
-use Rattle.flash_view.specs.Steps.{Step, Begins, Finishes}
-use Rattle.image_model.specs.Kinds.{is_index_page}
-use Rattle.image_model.specs.Live.{live_at}
-use Rattle.image_model.specs.Places.{IsImage}
-use Rattle.image_laws.specs.LiveSteps.{PutDone}
-use Rattle.image_laws.specs.Reindex.{index_span}
+use Rattle.flash_view.specs.Steps.{Begins, Finishes}
 use Rattle.image_laws.proofs.FreeBlocks.{free_blocks-fall}
-use Rattle.renew_laws.specs.Replace.{Replaced}
-use Rattle.page_put.specs.LivePages.{finished_page, killing, putting}
-use Rattle.page_renew.specs.Built.{IsLoaded, IsRenamed}
 use Rattle.block_gc.specs.Moves.{MoveCut}
-use Rattle.block_gc.specs.DataMoves.{CanCopyData, CanMoveData, IsTagOf, IsNamedBy, IsFoundFor, CopiedData, DataMoveCut, IsCopiedSince, copying_data, naming_copy, moving_with_index}
-use Rattle.block_gc.proofs.DataCopies.{copy_ready, copy_left, copy_done}
+use Rattle.block_gc.specs.DataMoves.{CanCopyData, CanMoveData, IsNamedBy, IsFoundFor, CopiedData, DataMoveCut, IsCopiedSince, copying_data, naming_copy, moving_with_index}
 use Rattle.block_gc.proofs.Replacing.{tidy_keeps}
-
--- ---- the copy of the data page
-
-pub copy_puts : (g : Geometry) (a : List ℕ) (o p : ℕ) (tag : Tag) (work : List ℕ) → (1 ≤ tag.id) × (tag.id ≤ 0x7FFE) → IsImage g a → CanCopyData g a o p → IsTagOf g a o tag → IsLoaded g a o work → Finishes g a a (putting p Data tag work) (copying_data o p)
-copy_puts g a o p tag work range is can of loaded = record {
-  needs = record { free = can.free; ready = copy_ready g a o p tag work is can of loaded range };
-  cut = λ c put. copy_left g a o p tag work is can of loaded range c put;
-  done = λ c ok put. copy_done g a o p tag work is can of loaded range c put;
-}
 
 -- nothing was programmed before
 pub copy_stays : (g : Geometry) (a : List ℕ) (o p : ℕ) → CanCopyData g a o p → MoveCut g p a a

@@ -6,6 +6,7 @@ use Rattle.std.proofs.lemmas.List.{drop-take, get_or-take, get_or-drop}
 use Rattle.geometry.specs.declared.geometry.Geometry.{Geometry}
 use Rattle.table_model.specs.declared.error.Tag.{Tag}
 use Rattle.flash_view.specs.declared.kinds.Kind.TheVariants.{Data}
+use Rattle.flash_view.specs.Steps.{Finishes}
 use Rattle.image_model.specs.Within.{sizes, page_length, entry_of_block, entry_in}
 use Rattle.image_model.specs.Volume.{per_block, lookups, entries}
 use Rattle.image_model.specs.Headers.{obj_id, span_of, names_index}
@@ -28,12 +29,12 @@ use Rattle.renew_laws.specs.Recopy.{PutsDataTo}
 use Rattle.renew_laws.proofs.Beside.{put_data-cuts, put_data-done}
 use Rattle.free_search.proofs.FreePages.{free_whole, used_less}
 use Rattle.page_put.specs.Placing.{placed_page}
-use Rattle.page_put.specs.LivePages.{finished_page}
+use Rattle.page_put.specs.LivePages.{finished_page, putting}
 use Rattle.page_put.proofs.Putting.{ready}
 use Rattle.page_renew.specs.Built.{IsLoaded}
 use Rattle.page_renew.proofs.Homes.{Home, home_of}
 use Rattle.block_gc.specs.Moves.{MoveCut}
-use Rattle.block_gc.specs.DataMoves.{CanCopyData, IsTagOf, CopiedData}
+use Rattle.block_gc.specs.DataMoves.{CanCopyData, IsTagOf, CopiedData, copying_data}
 use Rattle.block_gc.proofs.Replacing.{flags_stay, not_put}
 
 -- a block in use stays in use
@@ -130,7 +131,7 @@ module _ (g : Geometry) (a0 : List ℕ) (o p : ℕ) (tag : Tag) (work : List ℕ
   new_kind : names_index new ≡ false
   new_kind = ap (λ (n : ℕ). not (nat_lt n 0x8000)) new_id ∙ some_data (live_at g a0 o) old of.is_live can.is_data
 
-  pub copy_ready : IsReadyPage g (placed_page g Data tag work) 0xFC
+  copy_ready : IsReadyPage g (placed_page g Data tag work) 0xFC
   copy_ready =
       let big : 128 ≤ g.page = (sizes g).page in
       let w = words in
@@ -157,12 +158,12 @@ module _ (g : Geometry) (a0 : List ℕ) (o p : ℕ) (tag : Tag) (work : List ℕ
   tidy : IsTidyBut g a0 (λ r. false)
   tidy = (tidy-is_tidy g a0 (λ (r : ℕ). false)).0 can.tidy
 
-  pub copy_left : (c : List ℕ) → PutLeaves g p new a0 c → MoveCut g p a0 c
+  copy_left : (c : List ℕ) → PutLeaves g p new a0 c → MoveCut g p a0 c
   copy_left c put =
       let fall = free_blocks-fall g a0 c p put.agree in
       record { keeps = put_data-cuts g a0 c p id home.h new home.head home.f start (tidy-has_magics g a0 (λ (r : ℕ). false) tidy) put; free = fall.0; used = fall.1 }
 
-  pub copy_done : (b : List ℕ) → PutDone g p new a0 b → CopiedData g o p a0 b
+  copy_done : (b : List ℕ) → PutDone g p new a0 b → CopiedData g o p a0 b
   copy_done b put =
       let law = put_data-done g a0 b p id home.h new home.head home.f start put in
       record {
@@ -176,3 +177,6 @@ module _ (g : Geometry) (a0 : List ℕ) (o p : ℕ) (tag : Tag) (work : List ℕ
         tidy = law.1 (λ (r : ℕ). false) tidy;
         flags = flags_stay g a0 b p o old put.agree of.is_live (not_put g a0 b p o new old put of.is_live) loaded.flags;
       }
+
+  pub copy_puts : Finishes g a0 a0 (putting p Data tag work) (copying_data o p)
+  copy_puts = record { needs = record { free = can.free; ready = copy_ready }; cut = λ c put. copy_left c put; done = λ c ok put. copy_done c put }

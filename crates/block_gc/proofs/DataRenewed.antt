@@ -25,9 +25,7 @@ use Rattle.image_model.specs.Kinds.{is_index_page}
 use Rattle.image_model.specs.Sound.{Keeps}
 use Rattle.image_laws.specs.Changes.{Gains}
 use Rattle.image_laws.specs.InPlace.{slot_at}
-use Rattle.image_laws.specs.NewFile.{IsFreePage}
 use Rattle.image_laws.specs.SoundSteps.{IsOfKind}
-use Rattle.image_laws.specs.Put.{IsReadyPage}
 use Rattle.image_laws.specs.LiveSteps.{PutDone, KillLeaves, KillDone}
 use Rattle.image_laws.specs.Reindex.{Reindexes, index_span, slot_word}
 use Rattle.image_laws.specs.Spares.{leftover}
