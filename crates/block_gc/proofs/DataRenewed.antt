@@ -386,7 +386,6 @@ module _ (g : Geometry) (a0 b0 : List ℕ) (o p j w : ℕ) (tag : Tag) (since : 
           (cases_eq t s);
     }
 
-
     live_o : live_at g b0 o ≡ Some copied.old
     live_o = still_live g a0 b0 p o copied.copy copied.old copied.put copied.was_live
 
