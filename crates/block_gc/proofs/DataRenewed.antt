@@ -1,5 +1,5 @@
 -- The index page is renewed to name the copy of a data page, from what a put and two kills leave.
-use Rattle.std.proofs.Common.{◌≡◌, ◌≢◌, ℕ, ◌+◌, ◌%◌, ◌<◌, ◌≤◌, List, length, take, set, slice_index, true, false, not, ◌==◌, ◌&&◌, Option, Some, Result, Ok, ap, refl, sym, ◌∙◌, arith, ⊎_elim, inl, inr, subst, length-set, get_or-set_same, get_or-set_other}
+use Rattle.std.proofs.Common.{◌≡◌, ◌≢◌, ℕ, ◌+◌, ◌%◌, ◌<◌, ◌≤◌, List, length, take, set, slice_index, Bool, true, false, not, ◌==◌, ◌&&◌, Option, Some, Result, Ok, ap, refl, sym, ◌∙◌, arith, ⊎_elim, inl, inr, subst, length-set, get_or-set_same, get_or-set_other}
 use Rattle.std.specs.Prelude.{is_some, option_and_then}
 use Rattle.std.specs.Option.{option_map}
 use Rattle.std.proofs.lemmas.Bool.{cases_eq, cases_Bool, and_parts, eq-eqb, eqb-true}
@@ -16,7 +16,7 @@ use Rattle.flash_view.specs.Steps.{Step, Begins, Finishes}
 use Rattle.image_model.specs.declared.damage.Damage.{Damage}
 use Rattle.image_model.specs.Within.{sizes, page_length, page_number, block_number}
 use Rattle.image_model.specs.Headers.{obj_id, span_of, names_index, size_of}
-use Rattle.image_model.specs.Live.{live_at, own}
+use Rattle.image_model.specs.Live.{Live, live_at, own}
 use Rattle.image_model.specs.Places.{block_of, IsImage}
 use Rattle.image_model.specs.Files.{is_index, index_page, entry_number, data_of, data_page, judged}
 use Rattle.image_model.specs.Tables.{has_of}
@@ -114,6 +114,13 @@ module _ (g : Geometry) (a0 b0 : List ℕ) (o p j w : ℕ) (tag : Tag) (since : 
   abbrev s : ℕ
   s = span_of copied.old
 
+  -- the pages of the file in the first image, and with the copy of its data page beside
+  abbrev pages0 : Live
+  pages0 = own (live_at g a0) id
+
+  abbrev pages4 : Live
+  pages4 = own (live_at g b0) id
+
   -- ---- in the first image
 
   kind : names_index copied.old ≡ false
@@ -122,11 +129,11 @@ module _ (g : Geometry) (a0 b0 : List ℕ) (o p j w : ℕ) (tag : Tag) (since : 
   home : Home g a0 id
   home = home_of g a0 is can.copy.tidy o copied.old copied.was_live
 
-  mine : own (live_at g a0) id o ≡ Some copied.old
+  mine : pages0 o ≡ Some copied.old
   mine = own_of (live_at g a0) o copied.old copied.was_live
 
-  entry0 : (span_of copied.old < data_pages g (size_of home.head)) × (entry_number g (own (live_at g a0) id) home.head s ≡ Some o)
-  entry0 = serves_data g (own (live_at g a0) id) home.head copied.old o mine kind (served g a0 is can.copy.tidy id home.h home.head home.at home.header o copied.old mine)
+  entry0 : (span_of copied.old < data_pages g (size_of home.head)) × (entry_number g pages0 home.head s ≡ Some o)
+  entry0 = serves_data g pages0 home.head copied.old o mine kind (served g a0 is can.copy.tidy id home.h home.head home.at home.header o copied.old mine)
 
   same_data : named.of.bytes ≡ copied.old
   same_data = same_Some named.of.bytes copied.old (sym named.of.is_live ∙ copied.was_live)
@@ -141,11 +148,11 @@ module _ (g : Geometry) (a0 b0 : List ℕ) (o p j w : ℕ) (tag : Tag) (since : 
       omega (arith, e, low)
 
   -- the index page that names it
-  names : index_page g (own (live_at g a0) id) (index_span g s) ≡ Some w
-  names = ap (λ (n : ℕ). index_page g (own (live_at g a0) id) (index_span g n)) (sym span_is) ∙ ap (λ (n : ℕ). index_page g (own (live_at g a0) n) (index_span g tag.span)) (sym id_is) ∙ named.first
+  names : index_page g pages0 (index_span g s) ≡ Some w
+  names = ap (λ (n : ℕ). index_page g pages0 (index_span g n)) (sym span_is) ∙ ap (λ (n : ℕ). index_page g (own (live_at g a0) n) (index_span g tag.span)) (sym id_is) ∙ named.first
 
-  index_was : (x : List ℕ) × (own (live_at g a0) id w ≡ Some x) × (names_index x ≡ true) × (span_of x ≡ index_span g s)
-  index_was = index_some (own (live_at g a0) id w) (index_span g s) (index_passes g (own (live_at g a0) id) (index_span g s) w names)
+  index_was : (x : List ℕ) × (pages0 w ≡ Some x) × (names_index x ≡ true) × (span_of x ≡ index_span g s)
+  index_was = index_some (pages0 w) (index_span g s) (index_passes g pages0 (index_span g s) w names)
 
   w_parts : (live_at g a0 w ≡ Some index_was.0) × (obj_id index_was.0 % 0x8000 ≡ id)
   w_parts = own-parts (live_at g a0) id w index_was.0 index_was.1
@@ -162,7 +169,7 @@ module _ (g : Geometry) (a0 b0 : List ℕ) (o p j w : ℕ) (tag : Tag) (since : 
       let bad : false ≡ true = sym kind ∙ ap names_index same ∙ index_was.2 in absurd (cc)
 
   live_w : live_at g b0 w ≡ Some index_was.0
-  live_w = copied.put.gains.others w w_not_p ∙ w_parts.0
+  live_w = still_live g a0 b0 p w copied.copy index_was.0 copied.put w_parts.0
 
   index_live : is_index_page (live_at g b0 w) ≡ true
   index_live = rw live_w index_was.2
@@ -192,13 +199,13 @@ module _ (g : Geometry) (a0 b0 : List ℕ) (o p j w : ℕ) (tag : Tag) (since : 
     of_id : obj_id old % 0x8000 ≡ id
     of_id = ap (λ (l : List ℕ). obj_id l % 0x8000) (sym old_is) ∙ w_parts.1
 
-    w0 : own (live_at g a0) id w ≡ Some old
+    w0 : pages0 w ≡ Some old
     w0 = index_was.1 ∙ ap (λ (l : List ℕ). Some l) old_is
 
-    first0 : index_page g (own (live_at g a0) id) (span_of old) ≡ Some w
-    first0 = ap (index_page g (own (live_at g a0) id)) (sym at_span) ∙ names
+    first0 : index_page g pages0 (span_of old) ≡ Some w
+    first0 = ap (index_page g pages0) (sym at_span) ∙ names
 
-    alone0 : (r : ℕ) → is_index (own (live_at g a0) id r) (span_of old) ≡ true → r ≡ w
+    alone0 : (r : ℕ) → is_index (pages0 r) (span_of old) ≡ true → r ≡ w
     alone0 = index_alone g a0 is can.copy.tidy id home (span_of old) w first0
 
     -- ---- with the copy beside
@@ -206,31 +213,31 @@ module _ (g : Geometry) (a0 b0 : List ℕ) (o p j w : ℕ) (tag : Tag) (since : 
     copy_of : obj_id copied.copy % 0x8000 ≡ id
     copy_of = ap (λ (n : ℕ). n % 0x8000) copied.copied.id
 
-    gains : Gains p copied.copy (own (live_at g a0) id) (own (live_at g b0) id)
+    gains : Gains p copied.copy pages0 pages4
     gains = gains_own p id copied.copy (live_at g a0) (live_at g b0) copy_of copied.put.gains
 
-    index_same : (k : ℕ) → index_page g (own (live_at g b0) id) k ≡ index_page g (own (live_at g a0) id) k
-    index_same = beside-index g p home.h id copied.copy home.head home.f (own (live_at g a0) id) (own (live_at g b0) id) gains copied.copied.data_kind home.at home.header home.file
+    index_same : (k : ℕ) → index_page g pages4 k ≡ index_page g pages0 k
+    index_same = beside-index g p home.h id copied.copy home.head home.f pages0 pages4 gains copied.copied.data_kind home.at home.header home.file
 
-    at4 : index_page g (own (live_at g b0) id) 0 ≡ Some home.h
+    at4 : index_page g pages4 0 ≡ Some home.h
     at4 = index_same 0 ∙ home.at
 
-    header4 : own (live_at g b0) id home.h ≡ Some home.head
-    header4 = beside-header g p home.h id copied.copy home.head home.f (own (live_at g a0) id) (own (live_at g b0) id) gains copied.copied.data_kind home.at home.header home.file
+    header4 : pages4 home.h ≡ Some home.head
+    header4 = beside-header g p home.h id copied.copy home.head home.f pages0 pages4 gains copied.copied.data_kind home.at home.header home.file
 
-    file4 : judged g (own (live_at g b0) id) id home.head ≡ Ok home.f
-    file4 = beside-judged g p home.h id copied.copy home.head home.f (own (live_at g a0) id) (own (live_at g b0) id) gains copied.copied.data_kind home.at home.header home.file ∙ home.file
+    file4 : judged g pages4 id home.head ≡ Ok home.f
+    file4 = beside-judged g p home.h id copied.copy home.head home.f pages0 pages4 gains copied.copied.data_kind home.at home.header home.file ∙ home.file
 
-    w4 : own (live_at g b0) id w ≡ Some old
+    w4 : pages4 w ≡ Some old
     w4 = gains.others w w_not_p ∙ w0
 
-    first4 : index_page g (own (live_at g b0) id) (span_of old) ≡ Some w
+    first4 : index_page g pages4 (span_of old) ≡ Some w
     first4 = index_same (span_of old) ∙ first0
 
-    alone4 : (r : ℕ) → is_index (own (live_at g b0) id r) (span_of old) ≡ true → r ≡ w
+    alone4 : (r : ℕ) → is_index (pages4 r) (span_of old) ≡ true → r ≡ w
     alone4 r passes =
         ⊎_elim
-        (λ (here : r ≡ p). let no : is_index (own (live_at g b0) id r) (span_of old) ≡ false = rw here (rw gains.after (rw copied.copied.data_kind refl)) in let bad : true ≡ false = sym passes ∙ no in absurd (cc))
+        (λ (here : r ≡ p). let no : is_index (pages4 r) (span_of old) ≡ false = rw here (rw gains.after (rw copied.copied.data_kind refl)) in let bad : true ≡ false = sym passes ∙ no in absurd (cc))
         (λ (there : r ≡ p → ⊥). alone0 r (ap (λ (x : Option (List ℕ)). is_index x (span_of old)) (sym (gains.others r there)) ∙ passes))
         (cases_eq r p)
 
@@ -238,15 +245,14 @@ module _ (g : Geometry) (a0 b0 : List ℕ) (o p j w : ℕ) (tag : Tag) (since : 
     unfolding count_of
     count = rw of_id (rw at4 (rw header4 refl))
 
-    data4 : data_page g (own (live_at g b0) id) home.head s ≡ Some copied.old
-    unfolding data_page
-    data4 =
-        let entry : entry_number g (own (live_at g b0) id) home.head s ≡ Some o =
-        beside-entry g p home.h id copied.copy home.head home.f (own (live_at g a0) id) (own (live_at g b0) id) gains copied.copied.data_kind home.at home.header home.file home.head s ∙ entry0.1 in
-        let there : own (live_at g b0) id o ≡ Some copied.old = gains.others o o_not_p ∙ mine in
-        rw entry (rw there (data_there copied.old s kind refl))
+    entry4 : entry_number g pages4 home.head s ≡ Some o
+    entry4 = beside-entry g p home.h id copied.copy home.head home.f pages0 pages4 gains copied.copied.data_kind home.at home.header home.file home.head s ∙ entry0.1
 
-    copy4 : data_of (own (live_at g b0) id p) s ≡ Some copied.copy
+    data4 : data_page g pages4 home.head s ≡ Some copied.old
+    unfolding data_page
+    data4 = let there : pages4 o ≡ Some copied.old = gains.others o o_not_p ∙ mine in rw entry4 (rw there (data_there copied.old s kind refl))
+
+    copy4 : data_of (pages4 p) s ≡ Some copied.copy
     copy4 = rw gains.after (data_there copied.copy s copied.copied.data_kind copied.copied.span)
 
     -- ---- the renewed page
@@ -288,14 +294,14 @@ module _ (g : Geometry) (a0 b0 : List ℕ) (o p j w : ℕ) (tag : Tag) (since : 
         let there : slot_word g (take g.page work) s ≡ p = subst (λ (n : ℕ). slot_word g (take g.page work) n ≡ p) span_is renamed.entry in
         slot_word_at g new s ∙ word_stays 4 1 (slot_at g s) (take g.page work) new only (inl (omega (arith, from))) ∙ sym (slot_word_at g (take g.page work) s) ∙ there
 
-    plain_leads : (head0 : List ℕ) × Reindexes g (own (live_at g b0) id) id w home.h old plain home.head head0 home.f home.f
-    plain_leads = renewed g old (take g.page renamed.plain) plain (count_of g b0 (obj_id old % 0x8000)) renamed.built.copied refl old_len (own (live_at g b0) id) id w home.h home.head home.f w4 first4 alone4 index of_id at4 header4 file4 count
+    plain_leads : (head0 : List ℕ) × Reindexes g pages4 id w home.h old plain home.head head0 home.f home.f
+    plain_leads = renewed g old (take g.page renamed.plain) plain (count_of g b0 (obj_id old % 0x8000)) renamed.built.copied refl old_len pages4 id w home.h home.head home.f w4 first4 alone4 index of_id at4 header4 file4 count
 
-    plain_same : (t : ℕ) → t < data_pages g (size_of home.head) → Rattle.image_laws.specs.Reindex.now_data g (own (live_at g b0) id) home.head plain t ≡ data_page g (own (live_at g b0) id) home.head t
-    plain_same = now_same g old (take g.page renamed.plain) plain (count_of g b0 (obj_id old % 0x8000)) renamed.built.copied refl old_len (own (live_at g b0) id) id w home.h home.head home.f w4 first4 alone4 index of_id at4 header4 file4 count
+    plain_same : (t : ℕ) → t < data_pages g (size_of home.head) → Rattle.image_laws.specs.Reindex.now_data g pages4 home.head plain t ≡ data_page g pages4 home.head t
+    plain_same = now_same g old (take g.page renamed.plain) plain (count_of g b0 (obj_id old % 0x8000)) renamed.built.copied refl old_len pages4 id w home.h home.head home.f w4 first4 alone4 index of_id at4 header4 file4 count
 
-    leads : (head' : List ℕ) × Reindexes g (own (live_at g b0) id) id w home.h old new home.head head' home.f home.f
-    leads = named_leads g (own (live_at g b0) id) id w home.h old plain new home.head plain_leads.0 home.f plain_leads.1 plain_same s p copied.old copied.copy at_span data4 copy4 copied.copied.body entry others
+    leads : (head' : List ℕ) × Reindexes g pages4 id w home.h old new home.head head' home.f home.f
+    leads = named_leads g pages4 id w home.h old plain new home.head plain_leads.0 home.f plain_leads.1 plain_same s p copied.old copied.copy at_span data4 copy4 copied.copied.body entry others
 
     -- the live pages of its block are index pages
     new_kind : IsOfKind g (live_at g b0) j new
@@ -310,7 +316,7 @@ module _ (g : Geometry) (a0 b0 : List ℕ) (o p j w : ℕ) (tag : Tag) (since : 
 
     has4 : has_of g (live_at g b0) id ≡ Some (home.h, Ok home.f)
     unfolding has_of
-    has4 = found_from g (own (live_at g b0) id) id home.h home.head at4 header4 ∙ ap (λ (r : Result File Damage). Some (home.h, r)) file4
+    has4 = found_from g pages4 id home.h home.head at4 header4 ∙ ap (λ (r : Result File Damage). Some (home.h, r)) file4
 
     keeps_by : (c : List ℕ) → ReplaceCut g j w new b0 c → Keeps g b0 c
     keeps_by c cut =
@@ -366,22 +372,20 @@ module _ (g : Geometry) (a0 b0 : List ℕ) (o p j w : ℕ) (tag : Tag) (since : 
 
     -- ---- then the data page is spare
 
-    names_copy : Renamed g (own (live_at g b0) id) home.head old new (λ r. r == p) (λ r. r == o)
+    names_copy : Renamed g pages4 home.head old new (λ r. r == p) (λ r. r == o)
     names_copy = record {
       named = λ r e.
           let here : r ≡ p = eqb-true r p e in
-          (s, entry0.0, at_span, entry ∙ sym here, ap (λ (k : ℕ). is_some (data_of (own (live_at g b0) id k) s)) here ∙ ap is_some copy4);
+          (s, entry0.0, at_span, entry ∙ sym here, ap (λ (k : ℕ). is_some (data_of (pages4 k) s)) here ∙ ap is_some copy4);
       left = λ t below at. ⊎_elim
           (λ (here : t ≡ s).
-          let slot : entry_number g (own (live_at g b0) id) home.head s ≡ option_map (λ (l : List ℕ). slot_word g l s) (option_and_then (own (live_at g b0) id) (index_page g (own (live_at g b0) id) (index_span g s))) =
-          entry-slot g (own (live_at g b0) id) home.h home.head s at4 header4 in
-          let number : entry_number g (own (live_at g b0) id) home.head s ≡ Some o =
-          beside-entry g p home.h id copied.copy home.head home.f (own (live_at g a0) id) (own (live_at g b0) id) gains copied.copied.data_kind home.at home.header home.file home.head s ∙ entry0.1 in
-          let found : option_and_then (own (live_at g b0) id) (index_page g (own (live_at g b0) id) (index_span g s)) ≡ Some old = rw at_span (rw first4 w4) in
-          let word : slot_word g old s ≡ o = some_in _ (λ (l : List ℕ). slot_word g l s) o (sym slot ∙ number) old found in
+          let slot : entry_number g pages4 home.head s ≡ option_map (λ (l : List ℕ). slot_word g l s) (option_and_then pages4 (index_page g pages4 (index_span g s))) =
+          entry-slot g pages4 home.h home.head s at4 header4 in
+          let found : option_and_then pages4 (index_page g pages4 (index_span g s)) ≡ Some old = rw at_span (rw first4 w4) in
+          let word : slot_word g old s ≡ o = some_in _ (λ (l : List ℕ). slot_word g l s) o (sym slot ∙ entry4) old found in
           inr (rw here (eq-eqb (slot_word g old s) o word)))
           (λ (differ : t ≡ s → ⊥).
-          inl (other_word g (own (live_at g b0) id) id w home.h old plain new home.head plain_leads.0 home.f plain_leads.1 plain_same s p copied.old copied.copy at_span data4 copy4 copied.copied.body entry others t differ at
+          inl (other_word g pages4 id w home.h old plain new home.head plain_leads.0 home.f plain_leads.1 plain_same s p copied.old copied.copy at_span data4 copy4 copied.copied.body entry others t differ at
           ∙ slot_same g old (take g.page renamed.plain) plain (count_of g b0 (obj_id old % 0x8000)) renamed.built.copied refl old_len t (omega (arith, below, count)) at))
           (cases_eq t s);
     }
@@ -390,6 +394,13 @@ module _ (g : Geometry) (a0 b0 : List ℕ) (o p j w : ℕ) (tag : Tag) (since : 
     live_o = still_live g a0 b0 p o copied.copy copied.old copied.put copied.was_live
 
     module _ (b6 : List ℕ) (all : Replaced g j w new b0 b6) where
+      abbrev pages6 : Live
+      pages6 = own (live_at g b6) id
+
+      -- the one page that is left over
+      abbrev spares : ℕ → Bool
+      spares r = (r == o) && leftover g pages6 leads.0 r
+
       keeps6 : Keeps g b0 b6
       keeps6 = keeps_by b6 (replace_left all)
 
@@ -399,31 +410,31 @@ module _ (g : Geometry) (a0 b0 : List ℕ) (o p j w : ℕ) (tag : Tag) (since : 
       live6 : live_at g b6 o ≡ Some copied.old
       live6 = all.kill.loses.others o o_not_w ∙ still_live g b0 all.middle j o new copied.old all.put live_o
 
-      own_o : own (live_at g b6) id o ≡ Some copied.old
+      own_o : pages6 o ≡ Some copied.old
       own_o = own_of (live_at g b6) o copied.old live6
 
-      unserved : serves g (own (live_at g b6) id) leads.0 o ≡ false
+      unserved : serves g pages6 leads.0 o ≡ false
       unserved =
           ⊎_elim
-          (λ (yes : serves g (own (live_at g b6) id) leads.0 o ≡ true).
-          let x = serves_data g (own (live_at g b6) id) leads.0 copied.old o own_o kind yes in
+          (λ (yes : serves g pages6 leads.0 o ≡ true).
+          let x = serves_data g pages6 leads.0 copied.old o own_o kind yes in
           let gains4 = mine4 g b0 j w id home.h old new home.head leads.0 home.f home.f start all.middle all.put.gains in
           let loses6 = mine5 g b0 j w id home.h old new home.head leads.0 home.f home.f start all.middle all.put.gains b6 all.kill.loses in
-          let now : entry_number g (own (live_at g b6) id) leads.0 s ≡ Some (slot_word g new s) =
-          entry3_here g (own (live_at g b0) id) (own (live_at g all.middle) id) (own (live_at g b6) id) id w j home.h old new home.head leads.0 home.f home.f leads.1 (page_number g j can.index_free.entry_page) gains4 loses6 s at_span in
+          let now : entry_number g pages6 leads.0 s ≡ Some (slot_word g new s) =
+          entry3_here g pages4 (own (live_at g all.middle) id) pages6 id w j home.h old new home.head leads.0 home.f home.f leads.1 (page_number g j can.index_free.entry_page) gains4 loses6 s at_span in
           absurd (o_not_p (same_Some o p (sym x.1 ∙ now ∙ ap (λ (n : ℕ). Some n) entry))))
-          (λ (no : serves g (own (live_at g b6) id) leads.0 o ≡ false). no)
-          (cases_Bool (serves g (own (live_at g b6) id) leads.0 o))
+          (λ (no : serves g pages6 leads.0 o ≡ false). no)
+          (cases_Bool (serves g pages6 leads.0 o))
 
-      spare : ((o == o) && leftover g (own (live_at g b6) id) leads.0 o) ≡ true
+      spare : spares o ≡ true
       unfolding leftover
       spare = rw (eq-eqb o o refl) (rw own_o (rw unserved refl))
 
       kill_law : ((c : List ℕ) → KillLeaves g o b6 c → Keeps g b6 c × (free_blocks g b6 ≤ free_blocks g c))
-          × ((d : List ℕ) → KillDone g o b6 d → Keeps g b6 d × (free_blocks g b6 ≤ free_blocks g d) × Idles g (λ q. ((q == o) && leftover g (own (live_at g b6) id) leads.0 q) && not (q == o)) d)
+          × ((d : List ℕ) → KillDone g o b6 d → Keeps g b6 d × (free_blocks g b6 ≤ free_blocks g d) × Idles g (λ q. spares q && not (q == o)) d)
       kill_law =
           let tidied = recopy-spares g b0 b6 j w id home.h old new home.head leads.0 home.f home.f (λ (r : ℕ). r == p) (λ (r : ℕ). r == o) start all copied.tidy names_copy in
-          idle-kills g b6 o copied.old (λ (r : ℕ). (r == o) && leftover g (own (live_at g b6) id) leads.0 r) tidied.0 spare live6
+          idle-kills g b6 o copied.old spares tidied.0 spare live6
 
       last_left : (c : List ℕ) → KillLeaves g o b6 c → DataMoveCut g p j a0 c
       last_left c cut =
@@ -433,10 +444,10 @@ module _ (g : Geometry) (a0 b0 : List ℕ) (o p j w : ℕ) (tag : Tag) (since : 
           let fewer = law.1 in
           cut_by c (keeps-on g b0 b6 c keeps6 law.0) (omega (arith, first, fewer)) (λ used. let same = before.1 used in omega (arith, same, fewer))
 
-      no_spare : (r : ℕ) → (((r == o) && leftover g (own (live_at g b6) id) leads.0 r) && not (r == o)) ≡ true → ⊥
+      no_spare : (r : ℕ) → (spares r && not (r == o)) ≡ true → ⊥
       no_spare r e =
-          let v : (((r == o) && leftover g (own (live_at g b6) id) leads.0 r) ≡ true) × (not (r == o) ≡ true) = and_parts ((r == o) && leftover g (own (live_at g b6) id) leads.0 r) (not (r == o)) e in
-          let x : ((r == o) ≡ true) × (leftover g (own (live_at g b6) id) leads.0 r ≡ true) = and_parts (r == o) (leftover g (own (live_at g b6) id) leads.0 r) v.0 in
+          let v : (spares r ≡ true) × (not (r == o) ≡ true) = and_parts (spares r) (not (r == o)) e in
+          let x : ((r == o) ≡ true) × (leftover g pages6 leads.0 r ≡ true) = and_parts (r == o) (leftover g pages6 leads.0 r) v.0 in
           let bad : false ≡ true = rw x.0 at v.1 in absurd (cc)
 
       j_not_w : j ≢ w
@@ -453,7 +464,7 @@ module _ (g : Geometry) (a0 b0 : List ℕ) (o p j w : ℕ) (tag : Tag) (since : 
             copy = copied.copy;
             index_copy = new;
             cut = last_left b8 (kill_left last);
-            tidy = idles-end g b8 (λ (q : ℕ). ((q == o) && leftover g (own (live_at g b6) id) leads.0 q) && not (q == o)) no_spare law.2;
+            tidy = idles-end g b8 (λ (q : ℕ). spares q && not (q == o)) no_spare law.2;
             table = law.0.table ∙ keeps6.table ∙ copied.keeps.table;
             gone = last.loses.after;
             killed = last.zero;
