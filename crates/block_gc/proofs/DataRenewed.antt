@@ -84,16 +84,16 @@ some_in : (o : Option (List ℕ)) (f : List ℕ → ℕ) (n : ℕ) → option_ma
 some_in o f n is x at = let e : Some (f x) ≡ Some n = rw at at is in same_Some (f x) n e
 
 -- the first two calls of the renewal: the copy of the index page is put, and the index page is killed
-abbrev pub replacing : (page to index index_to : ℕ) → (tag t : Tag) → (first work : List ℕ) → Step (Unit {0})
-replacing page to index index_to tag t first work = record {
+abbrev pub replacing : (page to index index_to : ℕ) → Tag → (span : ℕ) → (first work : List ℕ) → Step (Unit {0})
+replacing page to index index_to tag span first work = record {
   needs = λ g was. IsCopiedSince g page to index index_to tag first was;
   cut = λ g was image. DataMoveCut g to index_to first image;
-  done = λ g was now ok. Replaced g index_to index (finished_page g Index t work) was now;
+  done = λ g was now ok. Replaced g index_to index (finished_page g Index (record { id = tag.id; span = span }) work) was now;
 }
 
 -- they begin all of it
-pub replaced_first : {g : Geometry} {b : List ℕ} (o p w j : ℕ) (tag t : Tag) (a work : List ℕ) → IsCopiedSince g o p w j tag a b → Begins g b (replacing o p w j tag t a work) (naming_copy o p w j tag a)
-replaced_first o p w j tag t a work since = record { needs = since; cut = λ c cut. cut }
+pub replaced_first : {g : Geometry} {b : List ℕ} (o p w j : ℕ) (tag : Tag) (span : ℕ) (a work : List ℕ) → IsCopiedSince g o p w j tag a b → Begins g b (replacing o p w j tag span a work) (naming_copy o p w j tag a)
+replaced_first o p w j tag span a work since = record { needs = since; cut = λ c cut. cut }
 
 module _ (g : Geometry) (a0 b0 : List ℕ) (o p j w : ℕ) (tag : Tag) (since : IsCopiedSince g o p w j tag a0 b0) where
   abbrev can : CanMoveData g a0 o p j
@@ -174,7 +174,10 @@ module _ (g : Geometry) (a0 b0 : List ℕ) (o p j w : ℕ) (tag : Tag) (since : 
   index_live : is_index_page (live_at g b0 w) ≡ true
   index_live = rw live_w index_was.2
 
-  module _ (t : Tag) (t_id : t.id ≡ tag.id) (t_span : t.span ≡ index_span g tag.span) (work : List ℕ) (built : is_index_page (live_at g b0 w) ≡ true → IsRenamed g b0 w tag.span p work) where
+  module _ (span : ℕ) (t_span : span ≡ index_span g tag.span) (work : List ℕ) (built : is_index_page (live_at g b0 w) ≡ true → IsRenamed g b0 w tag.span p work) where
+    abbrev t : Tag
+    t = record { id = tag.id; span = span }
+
     renamed : IsRenamed g b0 w tag.span p work
     renamed = built index_live
 
@@ -273,7 +276,7 @@ module _ (g : Geometry) (a0 b0 : List ℕ) (o p j w : ℕ) (tag : Tag) (since : 
     placed_is : placed_page g Index t work ≡ set (take g.page work) 4 0xFA
     placed_is =
         let from = slot_behind g tag.span in
-        placed_index g.page t work (take g.page work) old big page_len refl index (t_id ∙ id_is ∙ sym of_id) (t_span ∙ ap (index_span g) span_is ∙ at_span)
+        placed_index g.page t work (take g.page work) old big page_len refl index (id_is ∙ sym of_id) (t_span ∙ ap (index_span g) span_is ∙ at_span)
         (λ k below. renamed.others.before k (omega (arith, from)) ∙ renamed.built.copied.head k (omega arith)) (λ k below. renamed.small k (let size = big in omega arith))
 
     sets : new ≡ set (take g.page work) 4 0xF8
@@ -347,20 +350,18 @@ module _ (g : Geometry) (a0 b0 : List ℕ) (o p j w : ℕ) (tag : Tag) (since : 
     -- ---- the copy is put, and the old index page is killed
 
     pub renew_puts : (1 ≤ tag.id) × (tag.id ≤ 0x7FFE) → Begins g b0 (putting j Index t work) (naming_copy o p w j tag a0)
-    renew_puts range =
-        let id = t_id in
-        record {
-          needs = record {
-            free = copied.put.free j j_not_p can.index_free;
-            ready = index_ready g t work (take g.page work) placed_is page_len (λ k below. rw (get_or-take g.page work k 0 below) (renamed.small k below)) (omega (arith, id, range.0), omega (arith, id, range.1));
-          };
-          cut = λ c put. renew_left c (inl put);
-        }
+    renew_puts range = record {
+      needs = record {
+        free = copied.put.free j j_not_p can.index_free;
+        ready = index_ready g t work (take g.page work) placed_is page_len (λ k below. rw (get_or-take g.page work k 0 below) (renamed.small k below)) range;
+      };
+      cut = λ c put. renew_left c (inl put);
+    }
 
-    pub renew_begins : (1 ≤ tag.id) × (tag.id ≤ 0x7FFE) → Begins g b0 (putting j Index t work) (replacing o p w j tag t a0 work)
+    pub renew_begins : (1 ≤ tag.id) × (tag.id ≤ 0x7FFE) → Begins g b0 (putting j Index t work) (replacing o p w j tag span a0 work)
     renew_begins range = let puts = renew_puts range in record { needs = puts.needs; cut = puts.cut }
 
-    pub renew_kills : (c : List ℕ) → PutDone g j new b0 c → Finishes g b0 c (killing w) (replacing o p w j tag t a0 work)
+    pub renew_kills : (c : List ℕ) → PutDone g j new b0 c → Finishes g b0 c (killing w) (replacing o p w j tag span a0 work)
     renew_kills c put = record {
       needs = record {
         live = ap is_some (still_live g b0 c j w new old put renamed.built.live);
