@@ -1,5 +1,5 @@
 -- The index page is renewed to name the copy of a data page, from what a put and two kills leave.
-use Rattle.std.proofs.Common.{◌≡◌, ◌≢◌, ℕ, ◌+◌, ◌%◌, ◌<◌, ◌≤◌, List, length, take, set, slice_index, Bool, true, false, not, ◌==◌, ◌&&◌, Option, Some, Result, Ok, ap, refl, sym, ◌∙◌, arith, ⊎_elim, inl, inr, subst, length-set, get_or-set_same, get_or-set_other}
+use Rattle.std.proofs.Common.{◌≡◌, ◌≢◌, ℕ, ◌+◌, ◌%◌, ◌<◌, ◌≤◌, List, length, take, set, Bool, true, false, not, ◌==◌, ◌&&◌, Option, Some, Result, Ok, ap, refl, sym, ◌∙◌, arith, ⊎_elim, inl, inr, subst}
 use Rattle.std.specs.Prelude.{is_some, option_and_then}
 use Rattle.std.specs.Option.{option_map}
 use Rattle.std.proofs.lemmas.Bool.{cases_eq, cases_Bool, and_parts, eq-eqb, eqb-true}
@@ -56,29 +56,7 @@ use Rattle.page_renew.proofs.Renewed.{slot_same, renewed, now_same}
 use Rattle.page_renew.proofs.SlotNames.{slot_word_at, slot_behind, other_word, named_leads}
 use Rattle.block_gc.specs.DataMoves.{CanMoveData, IsNamedBy, CopiedData, DataMoveCut, MovedData, IsCopiedSince, naming_copy}
 use Rattle.block_gc.proofs.DataCopies.{data_there, some_data, used_stays}
-use Rattle.block_gc.proofs.Replacing.{keeps_same, flags_stay, not_put, still_live, kill_left, replace_left, replace_free, index_alone, set_twice, index_ready}
-
--- a byte of a page that both have makes no difference
-set_outside : (at n v : ℕ) (y z : List ℕ) → 4 < length y → 4 < length z → SameOutside at n y z → SameOutside at n (set y 4 v) (set z 4 v)
-set_outside at n v y z long far same = record {
-  size = length-set z 4 v ∙ same.size ∙ sym (length-set y 4 v);
-  before = λ k below. at_byte k (same.before k below);
-  after = λ k above. at_byte k (same.after k above);
-}
-  where
-    at_byte : (k : ℕ) → slice_index z k ≡ slice_index y k → slice_index (set z 4 v) k ≡ slice_index (set y 4 v) k
-    at_byte k e =
-        ⊎_elim
-        (λ (here : k ≡ 4). rw here (get_or-set_same z 4 v 0 far ∙ sym (get_or-set_same y 4 v 0 long)))
-        (λ (there : k ≡ 4 → ⊥). get_or-set_other z 4 k v 0 there ∙ e ∙ sym (get_or-set_other y 4 k v 0 there))
-        (cases_eq k 4)
-
-set_inside : (at v : ℕ) (y : List ℕ) → SameOutside at 1 y (set y at v)
-set_inside at v y = record {
-  size = length-set y at v;
-  before = λ k below. get_or-set_other y at k v 0 (λ e. omega (arith, e, below));
-  after = λ k above. get_or-set_other y at k v 0 (λ e. omega (arith, e, above));
-}
+use Rattle.block_gc.proofs.Replacing.{keeps_same, flags_stay, not_put, still_live, kill_left, replace_left, replace_free, index_alone, set_twice, set_outside, set_inside, index_ready}
 
 some_in : (o : Option (List ℕ)) (f : List ℕ → ℕ) (n : ℕ) → option_map f o ≡ Some n → (x : List ℕ) → o ≡ Some x → f x ≡ n
 some_in o f n is x at = let e : Some (f x) ≡ Some n = rw at at is in same_Some (f x) n e

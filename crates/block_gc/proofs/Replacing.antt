@@ -6,6 +6,7 @@ use Rattle.geometry.specs.declared.geometry.Geometry.{Geometry}
 use Rattle.table_model.specs.declared.error.Tag.{Tag}
 use Rattle.table_model.specs.Table.{File, put_file}
 use Rattle.flash_view.specs.declared.kinds.Kind.TheVariants.{Index}
+use Rattle.page_layout.specs.Layout.{SameOutside}
 use Rattle.image_model.specs.Within.{sizes}
 use Rattle.image_model.specs.Headers.{names_index, span_of}
 use Rattle.image_model.specs.Live.{live_at, own}
@@ -97,6 +98,29 @@ pub set_twice : (l : List ℕ) (i a b : ℕ) → set (set l i a) i b ≡ set l i
 set_twice [] i a b = refl
 set_twice (x ∷ l) zero a b = refl
 set_twice (x ∷ l) (suc i) a b = ap (λ (t : List ℕ). x ∷ t) (set_twice l i a b)
+
+-- a byte of a page that both have makes no difference
+pub set_outside : (at n v : ℕ) (y z : List ℕ) → 4 < length y → 4 < length z → SameOutside at n y z → SameOutside at n (set y 4 v) (set z 4 v)
+set_outside at n v y z long far same = record {
+  size = length-set z 4 v ∙ same.size ∙ sym (length-set y 4 v);
+  before = λ k below. at_byte k (same.before k below);
+  after = λ k above. at_byte k (same.after k above);
+}
+  where
+    at_byte : (k : ℕ) → slice_index z k ≡ slice_index y k → slice_index (set z 4 v) k ≡ slice_index (set y 4 v) k
+    at_byte k e =
+        ⊎_elim
+        (λ (here : k ≡ 4). rw here (get_or-set_same z 4 v 0 far ∙ sym (get_or-set_same y 4 v 0 long)))
+        (λ (there : k ≡ 4 → ⊥). get_or-set_other z 4 k v 0 there ∙ e ∙ sym (get_or-set_other y 4 k v 0 there))
+        (cases_eq k 4)
+
+-- and a byte that is set is all that differs
+pub set_inside : (at v : ℕ) (y : List ℕ) → SameOutside at 1 y (set y at v)
+set_inside at v y = record {
+  size = length-set y at v;
+  before = λ k below. get_or-set_other y at k v 0 (λ e. omega (arith, e, below));
+  after = λ k above. get_or-set_other y at k v 0 (λ e. omega (arith, e, above));
+}
 
 -- an index page that is built is ready to be put
 pub index_ready : (g : Geometry) (tag : Tag) (work y : List ℕ) → placed_page g Index tag work ≡ set y 4 0xFA → length y ≡ g.page → ((k : ℕ) → k < g.page → slice_index y k < 256) → (1 ≤ tag.id) × (tag.id ≤ 0x7FFE) →
