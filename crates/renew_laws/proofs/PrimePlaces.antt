@@ -1,5 +1,5 @@
 -- The index pages of a file are there.
-use Rattle.std.proofs.Common.{◌≡◌, ℕ, zero, suc, ◌+◌, ◌-◌, ◌*◌, ◌/◌, ◌%◌, ◌<◌, ◌≤◌, ◌⊎◌, List, true, false, Option, Some, None, Ok, ap, refl, ◌∙◌, arith, ⊎_elim, subst, inl, inr}
+use Rattle.std.proofs.Common.{◌≡◌, ℕ, zero, suc, ◌+◌, ◌-◌, ◌*◌, ◌/◌, ◌%◌, ◌<◌, ◌≤◌, List, true, false, Option, Some, None, Ok, ap, refl, ◌∙◌, arith, ⊎_elim, subst, inl, inr}
 use Rattle.std.specs.Prelude.{is_some, is_none, option_and_then}
 use Rattle.std.specs.Option.{option_map}
 use Rattle.std.proofs.Math.Nat.{div-add-mod, mul-le-mul_left, mul-div_cancel}
