@@ -25,6 +25,7 @@ pub mod PrimePlaces
 pub mod PrimeInPlace
 pub mod Holding
 pub mod Truncating
+pub mod LeftPast
 pub mod Appended
 pub mod PrimeRenew
 pub mod Overwritten
