@@ -1,49 +1,17 @@
 -- The pages that a truncated header page leaves over.
-use Rattle.std.proofs.Common.{◌≡◌, ℕ, ◌<◌, ◌≤◌, ◌⊎◌, List, Bool, true, false, not, Option, Some, ap, refl, sym, ◌∙◌, arith, ⊎_elim, inl, inr}
+use Rattle.std.proofs.Common.{◌≡◌, ℕ, ◌<◌, ◌≤◌, List, Bool, true, false, not, Some, refl, sym, ◌∙◌, arith, ⊎_elim}
 use Rattle.std.specs.Prelude.{is_some}
-use Rattle.std.proofs.lemmas.Bool.{lt-leb, cases_Bool, cases_lt, cases_eq, and_parts, le-leb, false_from_ne_true, ne_eqb}
+use Rattle.std.proofs.lemmas.Bool.{lt-leb, cases_lt, le-leb, false_from_ne_true}
 use Rattle.geometry.specs.declared.geometry.Geometry.{Geometry}
 use Rattle.table_model.specs.Room.{data_pages, index_pages}
 use Rattle.image_model.specs.Headers.{names_index, span_of, size_of}
 use Rattle.image_model.specs.Live.{Live}
-use Rattle.image_model.specs.Files.{is_index, index_page, entry_number, data_of}
+use Rattle.image_model.specs.Files.{index_page, entry_number, data_of}
 use Rattle.image_model.specs.Tidy.{serves}
 use Rattle.image_laws.specs.Spares.{leftover}
-use Rattle.image_laws.proofs.Doubled.{index-span_is}
-use Rattle.image_laws.proofs.Judge.{index_passes}
 use Rattle.renew_laws.specs.Truncate.{LeftIsPast}
-use Rattle.renew_laws.proofs.Serves.{serves_parts, serves_index, serves_data}
+use Rattle.renew_laws.proofs.Serves.{served_as, serves_index, serves_data}
 use Rattle.renew_laws.proofs.Spans.{entry_by_word}
-
--- what kind of page it is of which span
-data_parts : (x : List ℕ) (t : ℕ) → is_some (data_of (Some x) t) ≡ true → (names_index x ≡ false) × (span_of x ≡ t)
-data_parts x t e =
-    ⊎_elim
-    (λ (yes : names_index x ≡ true). let none : is_some (data_of (Some x) t) ≡ false = rw yes refl in let bad : true ≡ false = sym e ∙ none in absurd (cc))
-    (λ (no : names_index x ≡ false). (
-      no,
-      ⊎_elim
-          (λ (same : span_of x ≡ t). same)
-          (λ (differ : span_of x ≡ t → ⊥). let none : is_some (data_of (Some x) t) ≡ false = rw (no, ne_eqb (span_of x) t differ) refl in let bad : true ≡ false = sym e ∙ none in absurd (cc))
-          (cases_eq (span_of x) t),
-    ))
-    (cases_Bool (names_index x))
-
--- a page that serves a file serves it as what it is
-served_as : (g : Geometry) (pages : Live) (head : List ℕ) (r : ℕ) (x : List ℕ) → pages r ≡ Some x → serves g pages head r ≡ true →
-    ((names_index x ≡ true) × (span_of x < index_pages g (size_of head)) × (index_page g pages (span_of x) ≡ Some r))
-    ⊎ ((names_index x ≡ false) × (span_of x < data_pages g (size_of head)) × (entry_number g pages head (span_of x) ≡ Some r) × (is_some (data_of (pages r) (span_of x)) ≡ true))
-served_as g pages head r x is e =
-    ⊎_elim
-    (λ (w : (j : ℕ) × (j < index_pages g (size_of head)) × (index_page g pages j ≡ Some r)).
-    let passes : is_index (Some x) w.0 ≡ true = rw is at (index_passes g pages w.0 r w.2) in
-    let same : span_of x ≡ w.0 = index-span_is x w.0 passes in
-    inl ((and_parts _ _ passes).0, omega (arith, w.1, same), ap (index_page g pages) same ∙ w.2))
-    (λ (w : (t : ℕ) × (t < data_pages g (size_of head)) × (entry_number g pages head t ≡ Some r) × (is_some (data_of (pages r) t) ≡ true)).
-    let some : is_some (data_of (Some x) w.0) ≡ true = ap (λ (o : Option (List ℕ)). is_some (data_of o w.0)) (sym is) ∙ w.3 in
-    let v = data_parts x w.0 some in
-    inr (v.0, omega (arith, w.1, v.1), ap (entry_number g pages head) v.1 ∙ w.2, ap (λ (t : ℕ). is_some (data_of (pages r) t)) v.1 ∙ w.3))
-    (serves_parts g pages head r e)
 
 -- left over where it doesn't serve
 left_where : (g : Geometry) (pages : Live) (head : List ℕ) (r : ℕ) (x : List ℕ) (v : Bool) → pages r ≡ Some x → serves g pages head r ≡ v → leftover g pages head r ≡ not v

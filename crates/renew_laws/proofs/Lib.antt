@@ -29,4 +29,5 @@ pub mod LeftPast
 pub mod Appended
 pub mod PrimeRenew
 pub mod Overwritten
+pub mod Relinking
 pub mod TailSteps

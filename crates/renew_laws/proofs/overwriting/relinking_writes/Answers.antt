@@ -1,0 +1,8 @@
+use Rattle.renew_laws.proofs.Relinking.{relink-recopies, relink-ends}
+use Rattle.renew_laws.proofs.overwriting.relinking_writes.Goals as goal
+
+pub returns-clause-recopies : goal.returns-clause-recopies
+returns-clause-recopies c = relink-recopies
+
+pub returns-clause-ends : goal.returns-clause-ends
+returns-clause-ends c = relink-ends
