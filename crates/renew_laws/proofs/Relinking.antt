@@ -25,7 +25,7 @@ use Rattle.image_laws.proofs.Judge.{index_passes}
 use Rattle.image_laws.proofs.Reindexed.{entry-slot}
 use Rattle.renew_laws.specs.Idles.{Idles}
 use Rattle.renew_laws.specs.Recopy.{RecopiesTo, Renamed}
-use Rattle.renew_laws.specs.Relink.{Relinks, RelinkRecopies, RelinkEnds}
+use Rattle.renew_laws.specs.Relink.{Relinks, RelinkRecopies, RelinkReads, RelinkEnds}
 use Rattle.renew_laws.specs.Replace.{Replaced}
 use Rattle.renew_laws.proofs.IdleKill.{idle-kills, idles-end}
 use Rattle.renew_laws.proofs.Serves.{data_parts, served_as}
@@ -189,6 +189,13 @@ module _ (g : Geometry) (a b : List ℕ) (id h s w q to p from used : ℕ) (head
 
 pub relink-recopies : (g : Geometry) → RelinkRecopies g
 relink-recopies g a b id h s w q to p from used head head' x y old copy bytes f beside start = recopies g a b id h s w q to p from used head head' x y old copy bytes f beside start
+
+pub relink-reads : (g : Geometry) → RelinkReads g
+relink-reads g a b id h s w q to p from used head head' x y old copy bytes f beside start = (
+  now_here g a b id h s w q to p from used head head' x y old copy bytes f beside start,
+  sym (here g a b id h s w q to p from used head head' x y old copy bytes f beside start),
+  now_other g a b id h s w q to p from used head head' x y old copy bytes f beside start,
+)
 
 pub relink-ends : (g : Geometry) → RelinkEnds g
 relink-ends g a b c id h s w q to p from used head head' x y old copy bytes f beside start all =

@@ -7,12 +7,12 @@ use Rattle.table_model.specs.Files.{written}
 use Rattle.table_model.specs.Room.{data_pages}
 use Rattle.image_model.specs.Live.{live_at, own}
 use Rattle.image_model.specs.Headers.{obj_id, names_index, span_of, size_of, name_of}
-use Rattle.image_model.specs.Files.{index_page, entry_number}
+use Rattle.image_model.specs.Files.{index_page, entry_number, data_page}
 use Rattle.image_model.specs.Places.{is_entry_page}
 use Rattle.image_model.specs.Tables.{table_of}
 use Rattle.image_model.specs.Tidy.{IsTidy}
 use Rattle.image_laws.specs.LiveSteps.{KillDone}
-use Rattle.image_laws.specs.Reindex.{index_span, slot_word}
+use Rattle.image_laws.specs.Reindex.{index_span, slot_word, now_data}
 use Rattle.image_laws.specs.SoundSteps.{IsOfKind}
 use Rattle.renew_laws.specs.Idles.{Idles}
 use Rattle.renew_laws.specs.Overwrite.{IsPatched}
@@ -60,6 +60,12 @@ pub record Relinks (g : Geometry) (a b : List ℕ) (id h s w q to p from used : 
 abbrev pub RelinkRecopies : Geometry → Type 0
 RelinkRecopies g = (a b : List ℕ) (id h s w q to p from used : ℕ) (head head' x y old copy bytes : List ℕ) (f : File) (beside : ℕ → Bool) → Relinks g a b id h s w q to p from used head head' x y old copy bytes f beside →
     RecopiesTo g b p w id h x y head head' f (written (s * body g + from) bytes f)
+
+-- The copy stands in the place of the page of span s, and the other spans have theirs.
+abbrev pub RelinkReads : Geometry → Type 0
+RelinkReads g = (a b : List ℕ) (id h s w q to p from used : ℕ) (head head' x y old copy bytes : List ℕ) (f : File) (beside : ℕ → Bool) → Relinks g a b id h s w q to p from used head head' x y old copy bytes f beside →
+    (now_data g (own (live_at g b) id) head y s ≡ Some copy) × (span_of x ≡ index_span g s)
+    × ((t : ℕ) → t < data_pages g (size_of head) → t ≢ s → now_data g (own (live_at g b) id) head y t ≡ data_page g (own (live_at g b) id) head t)
 
 -- Done, the file is in the table; the old data page alone is not needed, and once it is killed the image is tidy.
 abbrev pub RelinkEnds : Geometry → Type 0
