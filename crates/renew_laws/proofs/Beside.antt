@@ -2,7 +2,7 @@
 use Rattle.renew_laws.proofs.PutBeside.{gains_own, beside_keeps, beside_spares}
 use Rattle.renew_laws.proofs.Spans.{span_there}
 use Rattle.renew_laws.proofs.Serves.{serves_parts, serves_index, serves_data}
-use Rattle.std.proofs.Common.{◌≡◌, ◌≢◌, ℕ, ◌<◌, ◌⊎◌, List, Bool, true, false, ◌==◌, Option, Some, None, Ok, ap, refl, sym, ◌∙◌, ⊎_elim, ◌||◌}
+use Rattle.std.proofs.Common.{◌≡◌, ◌≢◌, ℕ, ◌<◌, List, Bool, true, false, ◌==◌, Option, Some, None, Ok, ap, refl, sym, ◌∙◌, ⊎_elim, ◌||◌}
 use Rattle.std.proofs.Math.Path.{fun_ext}
 use Rattle.std.specs.Prelude.{option_and_then, find, is_none, is_some}
 use Rattle.std.specs.List.{range_with_len}

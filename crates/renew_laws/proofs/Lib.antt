@@ -25,7 +25,9 @@ pub mod PrimePlaces
 pub mod PrimeInPlace
 pub mod Holding
 pub mod Truncating
+pub mod LeftPast
 pub mod Appended
 pub mod PrimeRenew
 pub mod Overwritten
+pub mod Relinking
 pub mod TailSteps

@@ -1,10 +1,10 @@
 -- Bytes of a file in pieces are overwritten inside one piece.
-use Rattle.std.proofs.Common.{◌≡◌, ◌≢◌, ℕ, zero, suc, ◌+◌, ◌-◌, ◌*◌, ◌/◌, ◌%◌, ◌<◌, ◌≤◌, ◌⊎◌, List, [], ◌++◌, length, take, drop, slice_index, slice_range, get_or, Some, ap, refl, sym, ◌∙◌, arith, ⊎_elim, inl, inr, length-take, length-drop, length-append}
+use Rattle.std.proofs.Common.{◌≡◌, ◌≢◌, ℕ, zero, suc, ◌+◌, ◌-◌, ◌*◌, ◌/◌, ◌%◌, ◌<◌, ◌≤◌, ◌⊎◌, List, [], ◌++◌, length, take, drop, slice_index, slice_range, get_or, Some, ap, refl, sym, ◌∙◌, arith, ⊎_elim, inl, inr, length-take, append-nil, length-drop, length-append}
 use Rattle.std.specs.Prelude.{unwrap_or}
 use Rattle.std.specs.List.{range_with_len, flat_map}
 use Rattle.std.proofs.Math.Nat.{div-add-mod, mul-le-mul_right, mul_comm}
 use Rattle.std.proofs.lemmas.Bool.{cases_eq, cases_lt}
-use Rattle.std.proofs.lemmas.List.{ext_get_or, get_or-take, get_or-drop, get_or_append_left, get_or-append_right}
+use Rattle.std.proofs.lemmas.List.{take-append-drop, ext_get_or, get_or-take, get_or-drop, get_or_append_left, get_or-append_right}
 use Rattle.geometry.specs.declared.geometry.Geometry.{Geometry}
 use Rattle.geometry.specs.Numbers.{body}
 use Rattle.table_model.specs.Table.{File}
@@ -18,7 +18,7 @@ use Rattle.renew_laws.proofs.Spans.{span_page}
 use Rattle.image_laws.proofs.Matching.{length-pieces}
 use Rattle.image_laws.proofs.Reindexed.{judged-parts}
 use Rattle.image_laws.proofs.Serving.{ceil-enough}
-use Rattle.renew_laws.specs.Overwrite.{PatchedIsWritten}
+use Rattle.renew_laws.specs.Overwrite.{PatchedIsWritten, NothingWritten}
 
 -- ---- lists
 
@@ -176,3 +176,9 @@ patched-is_written g pages id s head new z y bytes f file lengths below was now 
     ∙ ⊎_elim (λ (x : k < from). patch.before k x (needed k small high)) (λ (x : from + length bytes ≤ k). patch.after k x (needed k small high)) out
     ∙ sym (body_at z g.page k small)))
     ∙ ap (λ (xs : List ℕ). take (s * body g + from) xs ++ bytes ++ drop (s * body g + from + length bytes) xs) whole
+
+pub nothing-written : NothingWritten
+nothing-written at f =
+    let same : take at f.bytes ++ [] ++ drop (at + 0) f.bytes ≡ f.bytes =
+    ap (λ (xs : List ℕ). xs ++ drop (at + 0) f.bytes) (append-nil (take at f.bytes)) ∙ ap (λ (i : ℕ). take at f.bytes ++ drop i f.bytes) (let e : at + 0 ≡ at = omega arith in e) ∙ take-append-drop at f.bytes in
+    ap (λ (bs : List ℕ). record { id = f.id; name = f.name; kind = f.kind; meta = f.meta; bytes = bs }) same

@@ -1,8 +1,9 @@
 -- The index pages of a file are there.
-use Rattle.std.proofs.Common.{◌≡◌, ℕ, zero, suc, ◌+◌, ◌-◌, ◌*◌, ◌/◌, ◌%◌, ◌<◌, ◌≤◌, ◌⊎◌, List, true, false, Option, Some, None, Ok, ap, refl, ◌∙◌, arith, ⊎_elim, subst, inl, inr}
+use Rattle.std.proofs.Common.{◌%◌, ◌-◌, ◌≡◌, ℕ, zero, suc, ◌+◌, ◌*◌, ◌/◌, ◌<◌, ◌≤◌, List, true, false, Option, Some, None, Ok, ap, refl, ◌∙◌, arith, ⊎_elim, subst, inl, inr}
 use Rattle.std.specs.Prelude.{is_some, is_none, option_and_then}
 use Rattle.std.specs.Option.{option_map}
-use Rattle.std.proofs.Math.Nat.{div-add-mod, mul-le-mul_left, mul-div_cancel}
+use Rattle.std.proofs.Math.Nat.{div-add-mod, mul-le-mul_left, mul-div_cancel, mul_comm}
+use Rattle.std.proofs.lemmas.Nat.{div-mul-add}
 use Rattle.std.proofs.lemmas.Bool.{cases_lt, lt-ltb, le-ltb}
 use Rattle.geometry.specs.declared.geometry.Geometry.{Geometry}
 use Rattle.geometry.specs.Numbers.{head_slots, span_slots, ceil}
@@ -13,7 +14,9 @@ use Rattle.image_model.specs.Headers.{word_at, size_of}
 use Rattle.image_model.specs.Live.{Live, live_at, own}
 use Rattle.image_model.specs.Files.{index_page, further, entry_number, data_of, data_page, judged}
 use Rattle.image_model.specs.Tidy.{serves}
+use Rattle.image_laws.proofs.Judge.{index_passes}
 use Rattle.renew_laws.specs.Primed.{PrimedPlaces}
+use Rattle.renew_laws.specs.Tails.{TailTogether}
 use Rattle.renew_laws.proofs.LiveServes.{served-or_spare}
 use Rattle.renew_laws.proofs.Serves.{index_there, served_place}
 use Rattle.renew_laws.proofs.Spans.{span_there}
@@ -61,3 +64,41 @@ primed-places g a b id h head f beside prime = (
       (λ (s : serves g (own (live_at g b) id) head r ≡ true). inr (served_place g (own (live_at g b) id) head r j s passes))
       (served-or_spare g b beside prime.tidy id h head prime.at prime.header r x.0 x.1),
 )
+
+-- ---- behind the last span
+
+-- m pages in groups of s, the last of them not full
+same_group : (m s : ℕ) → 0 < s → m / s < ceil m s → (0 < m) × ((m - 1) / s ≡ m / s)
+same_group m s pos less =
+    let whole : s * (m / s) + m % s ≡ m = div-add-mod m s in
+    let product : s * (m / s) ≡ m / s * s = mul_comm s (m / s) in
+    let small : m % s < s = omega (arith, pos) in
+    let some : 0 < m % s =
+    ⊎_elim
+    (λ (x : 0 < m % s). x)
+    (λ (x : m % s ≤ 0).
+    let at : m + s - 1 ≡ m / s * s + (s - 1) = omega (arith, whole, product, x, pos) in
+    let full : ceil m s ≡ m / s = ap (λ (k : ℕ). k / s) at ∙ div-mul-add (m / s) s (s - 1) (omega (arith, pos)) in absurd (omega (arith, less, full)))
+    (cases_lt 0 (m % s)) in
+    let at : m - 1 ≡ m / s * s + (m % s - 1) = omega (arith, whole, product, some) in
+    (omega (arith, whole, some), ap (λ (k : ℕ). k / s) at ∙ div-mul-add (m / s) s (m % s - 1) (omega (arith, small, some)))
+
+pub tail-together : (g : Geometry) → TailTogether g
+tail-together g a b id h r head f prime high at =
+    let big : 128 ≤ g.page = (sizes g).page in
+    let n = data_pages g (size_of head) in
+    let below : further g n < index_pages g (size_of head) =
+    ⊎_elim
+    (λ (none : false ≡ true). absurd (cc))
+    (λ (v : (index_page g (own (live_at g b) id) (further g n) ≡ Some r) × (further g n < index_pages g (size_of head))). v.1)
+    ((primed-places g a b id h head f (λ (q : ℕ). false) prime).1 r (further g n) (index_passes g (own (live_at g b) id) (further g n) r at)) in
+    ⊎_elim
+    (λ (more : head_slots g < n).
+    let low : further g n < 1 + ceil (n - head_slots g) (span_slots g) = rw (lt-ltb (head_slots g) n more) at below in
+    let w = same_group (n - head_slots g) (span_slots g) (omega (arith, big)) (omega (arith, low)) in
+    let before : n - 1 - head_slots g ≡ n - head_slots g - 1 = omega arith in (
+      omega (arith, more),
+      rw (le-ltb (n - 1) (head_slots g) (omega (arith, more))) (ap (λ (k : ℕ). k / span_slots g + 1) before ∙ ap (λ (k : ℕ). k + 1) w.1),
+    ))
+    (λ (few : n ≤ head_slots g). let low : further g n < 1 = rw (le-ltb (head_slots g) n few) at below in absurd (omega (arith, low)))
+    (cases_lt (head_slots g) n)

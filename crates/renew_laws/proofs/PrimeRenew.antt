@@ -18,7 +18,7 @@ use Rattle.renew_laws.specs.Primed.{PrimedRenews}
 use Rattle.renew_laws.specs.Renew.{RenewsTo}
 use Rattle.renew_laws.proofs.Appended.{appended-is_written, appended-serves}
 use Rattle.renew_laws.proofs.RecopyCuts.{unused-name}
-use Rattle.renew_laws.proofs.RenewTidy.{renewed-tidies}
+use Rattle.renew_laws.proofs.RenewTidy.{none-left, renewed-tidies}
 
 -- the header page found first is one
 old_is_head : (g : Geometry) (b : List ℕ) (id h : ℕ) (head : List ℕ) → own (live_at g b) id h ≡ Some head → is_index (own (live_at g b) id h) 0 ≡ true → IsHead id head
@@ -51,6 +51,7 @@ primed-renews g a b id h p head head' bytes z f beside prime inside kind is_head
       only = prime.only;
     } in (
       start,
+      none-left g b h id head head' beside prime.tidy prime.at prime.header serving (λ r. (appended-serves g (own (live_at g b) id) head head' bytes z add r).0),
       λ c all.
           let w = renewed-tidies g b c p h id head head' (written (length f.bytes) bytes f) beside start prime.at all prime.tidy (λ r e. (prime.mine r e, serving r e)) (λ r. (appended-serves g (own (live_at g b) id) head head' bytes z add r).0) in
           (w.0, w.1 ∙ ap (put_file (written (length f.bytes) bytes f)) prime.keeps.table),

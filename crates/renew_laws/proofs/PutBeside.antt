@@ -1,5 +1,5 @@
 -- A page of a file's id is put beside, and the file reads as before.
-use Rattle.std.proofs.Common.{◌≡◌, ◌≢◌, ℕ, ◌%◌, ◌⊎◌, List, Bool, true, ◌==◌, ◌||◌, Some, None, Result, ap, refl, sym, ◌∙◌, ⊎_elim, inl}
+use Rattle.std.proofs.Common.{◌≡◌, ◌≢◌, ℕ, ◌%◌, List, Bool, true, ◌==◌, ◌||◌, Some, None, Result, ap, refl, sym, ◌∙◌, ⊎_elim, inl}
 use Rattle.std.proofs.lemmas.Bool.{cases_eq, or_right, eq-eqb}
 use Rattle.std.proofs.lemmas.Option.{none-some, same_Some}
 use Rattle.geometry.specs.declared.geometry.Geometry.{Geometry}

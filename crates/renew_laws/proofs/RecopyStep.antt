@@ -1,5 +1,5 @@
 -- A renewed index page, and a data page put beside, program by program.
-use Rattle.std.proofs.Common.{◌≡◌, ℕ, ◌+◌, ◌*◌, ◌<◌, ◌≤◌, ◌⊎◌, List, [], set, slice_index, Some, ap, sym, ◌∙◌, arith, ⊎_elim}
+use Rattle.std.proofs.Common.{◌≡◌, ℕ, ◌+◌, ◌*◌, ◌<◌, ◌≤◌, List, [], set, slice_index, Some, ap, sym, ◌∙◌, arith, ⊎_elim}
 use Rattle.geometry.specs.declared.geometry.Geometry.{Geometry}
 use Rattle.image_model.specs.Within.{sizes}
 use Rattle.image_model.specs.Live.{live_at, own}

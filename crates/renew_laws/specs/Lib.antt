@@ -10,4 +10,5 @@ pub mod Truncate
 pub mod Append
 pub mod Primed
 pub mod Overwrite
+pub mod Relink
 pub mod Tails

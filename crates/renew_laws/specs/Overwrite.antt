@@ -1,8 +1,9 @@
 -- Bytes of a file are overwritten, in a copy of one of its data pages.
-use Rattle.std.specs.Prelude.{◌≡◌, ◌≢◌, ℕ, ◌+◌, ◌*◌, ◌<◌, ◌≤◌, List, ◌++◌, length, take, drop, Some, Ok, slice_index}
+use Rattle.std.specs.Prelude.{◌≡◌, ◌≢◌, ℕ, ◌+◌, ◌*◌, ◌<◌, ◌≤◌, List, [], ◌++◌, length, take, drop, Some, Ok, slice_index}
 use Rattle.geometry.specs.declared.geometry.Geometry.{Geometry}
 use Rattle.geometry.specs.Numbers.{body}
 use Rattle.table_model.specs.Table.{File}
+use Rattle.table_model.specs.Files.{written}
 use Rattle.table_model.specs.Room.{data_pages}
 use Rattle.image_model.specs.Live.{Live}
 use Rattle.image_model.specs.Headers.{size_of}
@@ -23,3 +24,7 @@ PatchedIsWritten g = (pages : Live) (id s : ℕ) (head new z y bytes : List ℕ)
     ((t : ℕ) → t < data_pages g (size_of head) → t ≢ s → now_data g pages head new t ≡ data_page g pages head t) →
     (from used : ℕ) → from + length bytes ≤ body g → s * body g + from + length bytes ≤ size_of head → ((k : ℕ) → k < body g → s * body g + k < size_of head → k < used) → IsPatched g z y from used bytes →
     now_bytes g pages head new ≡ take (s * body g + from) f.bytes ++ bytes ++ drop (s * body g + from + length bytes) f.bytes
+
+-- Where no bytes are written the file is as it was.
+abbrev pub NothingWritten : Type 0
+NothingWritten = (at : ℕ) (f : File) → written at [] f ≡ f

@@ -19,6 +19,7 @@ use Rattle.image_laws.specs.LiveSteps.{PutLeaves, PutDone}
 use Rattle.image_laws.specs.Programs.{IsHead}
 use Rattle.image_laws.specs.Reindex.{index_span, slot_word}
 use Rattle.image_laws.specs.SoundSteps.{IsOfKind}
+use Rattle.image_laws.specs.Spares.{leftover}
 use Rattle.image_laws.specs.TidySteps.{IsTidyBut}
 use Rattle.renew_laws.specs.Append.{Appends}
 use Rattle.renew_laws.specs.Renew.{RenewsTo}
@@ -89,10 +90,11 @@ abbrev pub NameHolds : Geometry → Type 0
 NameHolds g = (b c : List ℕ) (w t : ℕ) (x asked : List ℕ) → IsImage g b → live_at g b w ≡ Some x → slice_index x (slot_at g t) ≡ 0xFF → slice_index x (slot_at g t + 1) ≡ 0xFF → length asked ≡ 2 →
     ((k : ℕ) → k < 2 → slice_index asked k < 256) → Programmed (w * g.page + slot_at g t) asked b c → slot_word g (page_of g c w) t ≡ word_at asked 0
 
--- Then the header page is renewed, and says that the file has these bytes more.
+-- Then the header page is renewed, and says that the file has these bytes more; no page is left over.
 abbrev pub PrimedRenews : Geometry → Type 0
 PrimedRenews g = (a b : List ℕ) (id h p : ℕ) (head head' bytes z : List ℕ) (f : File) (beside : ℕ → Bool) → Primed g id h head f beside a b → is_entry_page g p ≡ true → IsOfKind g (live_at g b) p head' →
     IsHead id head' → Appends g (own (live_at g b) id) head head' bytes z → name_of head' ≡ name_of head → slice_index head' 12 ≡ slice_index head 12 → slice_range head' 45 (45 + g.meta) ≡ slice_range head 45 (45 + g.meta) →
     ((r : ℕ) → beside r ≡ true → serves g (own (live_at g b) id) head' r ≡ true) →
     RenewsTo g b p h id head head' (written (length f.bytes) bytes f)
+    × ((r : ℕ) → leftover g (own (live_at g b) id) head' r ≡ true → ⊥)
     × ((c : List ℕ) → Replaced g p h head' b c → IsTidy g c × (table_of g c ≡ put_file (written (length f.bytes) bytes f) (table_of g a)))

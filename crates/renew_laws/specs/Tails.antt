@@ -1,5 +1,5 @@
 -- What stands behind the end of a file.
-use Rattle.std.specs.Prelude.{◌≡◌, ◌≢◌, ℕ, ◌+◌, ◌*◌, ◌/◌, ◌%◌, ◌<◌, ◌≤◌, List, [], Some, false, unwrap_or, option_and_then, slice_index, slice_range}
+use Rattle.std.specs.Prelude.{◌≡◌, ◌≢◌, ℕ, ◌+◌, ◌-◌, ◌/◌, ◌%◌, ◌<◌, ◌≤◌, List, [], Some, false, unwrap_or, option_and_then, slice_index, slice_range}
 use Rattle.geometry.specs.declared.geometry.Geometry.{Geometry}
 use Rattle.geometry.specs.Numbers.{body, head_slots}
 use Rattle.table_model.specs.Table.{File}
@@ -9,6 +9,7 @@ use Rattle.image_model.specs.Headers.{names_index, size_of, span_of}
 use Rattle.image_model.specs.Files.{index_page, further, data_page, span_bytes}
 use Rattle.image_laws.specs.LiveSteps.{PutDone, KillDone}
 use Rattle.image_laws.specs.Reindex.{index_span, slot_word, now_data}
+use Rattle.renew_laws.specs.Primed.{Primed}
 use Rattle.renew_laws.specs.Recopy.{RecopiesTo, PutsDataTo}
 use Rattle.renew_laws.specs.Replace.{Replaced}
 
@@ -57,3 +58,9 @@ TailReadied g = (a b : List ℕ) (p o id h : ℕ) (old page head head' : List �
     ((z : List ℕ) → size_of head % body g ≢ 0 → now_data g (own (live_at g a) id) head page (size_of head / body g) ≡ Some z → (k : ℕ) → 5 + size_of head % body g ≤ k → k < g.page → slice_index z k ≡ 0xFF) →
     (head_slots g ≤ data_pages g (size_of head) → index_span g (data_pages g (size_of head)) ≡ span_of old → slot_word g page (data_pages g (size_of head)) ≡ 0xFFFF) →
     (index_span g (data_pages g (size_of head)) ≢ span_of old → HasCleanEntry g (own (live_at g a) id) head) → IsTailReady g b id
+
+-- Where a further index page has the entry of the span behind the last, it has that of the last span too.
+abbrev pub TailTogether : Geometry → Type 0
+TailTogether g = (a b : List ℕ) (id h r : ℕ) (head : List ℕ) (f : File) → Primed g id h head f (λ q. false) a b → head_slots g ≤ data_pages g (size_of head) →
+    index_page g (own (live_at g b) id) (further g (data_pages g (size_of head))) ≡ Some r →
+    (0 < data_pages g (size_of head)) × (index_span g (data_pages g (size_of head) - 1) ≡ further g (data_pages g (size_of head)))

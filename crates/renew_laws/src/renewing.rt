@@ -1,8 +1,8 @@
 ghost use Rattle.geometry.specs.declared.geometry.Geometry.{Geometry};
 ghost use Rattle.renew_laws.specs.OneId.{OneIdIsTidy};
-ghost use Rattle.renew_laws.specs.Renew.{RenewCuts, RenewSpares};
+ghost use Rattle.renew_laws.specs.Renew.{RenewCuts, NoneLeft, RenewSpares};
 ghost use Rattle.renew_laws.specs.NewHead.{NewHeadCuts, NewHeadTidies};
-ghost use Rattle.renew_laws.specs.Truncate.{TruncatedLeads};
+ghost use Rattle.renew_laws.specs.Truncate.{TruncatedLeads, LeftIsPast};
 ghost use Rattle.renew_laws.specs.Leads.{RenamedLeads, RenameTidies};
 
 /// Where the pages of one id have changed, its file is put into the table and the image is tidy.
@@ -14,6 +14,7 @@ pub fn changes_tidy()
 pub fn renewing_puts()
     ensures cuts { (g : Geometry) → RenewCuts g }
     ensures spares { (g : Geometry) → RenewSpares g }
+    ensures none { (g : Geometry) → NoneLeft g }
 {}
 
 /// The header page of a new file: each cut is before or after and sound, and done the image is as tidy as before.
@@ -28,7 +29,8 @@ pub fn renaming_tidies()
     ensures tidy { (g : Geometry) → RenameTidies g }
 {}
 
-/// A truncated header page leads to the first bytes.
+/// A truncated header page leads to the first bytes, and does not need the pages past the new counts.
 pub fn truncating_leads()
-    ensures { (g : Geometry) → TruncatedLeads g }
+    ensures leads { (g : Geometry) → TruncatedLeads g }
+    ensures left { (g : Geometry) → LeftIsPast g }
 {}

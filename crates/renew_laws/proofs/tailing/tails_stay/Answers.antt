@@ -1,4 +1,5 @@
 use Rattle.renew_laws.proofs.TailSteps.{tail-stays, tail-beside, tail-dropped, tail-copied, tail-readied}
+use Rattle.renew_laws.proofs.PrimePlaces.{tail-together}
 use Rattle.renew_laws.proofs.tailing.tails_stay.Goals as goal
 
 pub returns-clause-stays : goal.returns-clause-stays
@@ -15,3 +16,6 @@ returns-clause-copied c = tail-copied
 
 pub returns-clause-readied : goal.returns-clause-readied
 returns-clause-readied c = tail-readied
+
+pub returns-clause-together : goal.returns-clause-together
+returns-clause-together c = tail-together
