@@ -1,28 +1,17 @@
 -- What cleaning a block of either kind leaves, over plain images.
-use Rattle.std.proofs.Common.{◌≡◌, ℕ, ◌*◌, ◌<◌, ◌≤◌, List, length, Bool, true, false, refl, sym, ◌∙◌, arith}
+use Rattle.std.proofs.Common.{◌≡◌, ℕ, ◌<◌, List, Bool, true, false, refl, sym, ◌∙◌, arith}
 use Rattle.std.proofs.lemmas.Bool.{false_from_ne_true}
 use Rattle.geometry.specs.declared.geometry.Geometry.{Geometry}
-use Rattle.image_model.specs.Places.{IsImage}
 use Rattle.image_model.specs.Tidy.{IsTidy, is_free_block}
 use Rattle.image_model.specs.Kinds.{is_data_block}
 use Rattle.image_model.specs.Collect.{data_in, is_worth}
-use Rattle.image_model.specs.Sound.{Keeps}
-use Rattle.image_laws.proofs.Sounding.{keeps-itself}
-use Rattle.image_laws.proofs.SpareKill.{tidy-has_magics}
-use Rattle.image_laws.proofs.TidySteps.{tidy-is_tidy}
 use Rattle.room_laws.proofs.Blocks.{told}
 use Rattle.room_laws.proofs.Cleans.{free_told, index_is_cleaned, data_is_cleaned}
 use Rattle.free_search.proofs.FreePages.{data_none, data_some}
 use Rattle.block_gc.proofs.Freshened.{deleted_stays}
+use Rattle.block_gc.proofs.Replacing.{tidy_keeps}
 use Rattle.block_gc.specs.Emptied.{CanCleanIndex, CleanCut, CleanedIndex}
 use Rattle.block_gc.specs.Cleanings.{CanCleanData, CleanDataCut, CleanedData, CanCleanBlock, CleanBlockCut, CleanedBlock}
-
--- a device that holds the volume holds an image of it
-pub image_of : (g : Geometry) (bytes : List ℕ) (size : ℕ) → length bytes ≡ size → g.blocks * g.block ≤ size → IsImage g bytes
-image_of g bytes size len fits = record { len = omega (arith, len, fits) }
-
-pub tidy_keeps : (g : Geometry) (a : List ℕ) → IsTidy g a → Keeps g a a
-tidy_keeps g a t = keeps-itself g a (tidy-has_magics g a (λ p. false) ((tidy-is_tidy g a (λ p. false)).0 t))
 
 -- a free block isn't worth cleaning
 pub worth_used : (g : Geometry) (a : List ℕ) (block : ℕ) → IsTidy g a → block < g.blocks → is_worth g a block ≡ true → is_free_block g a block ≡ false

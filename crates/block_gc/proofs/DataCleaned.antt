@@ -24,7 +24,6 @@ use Rattle.free_search.proofs.FreePages.{data_none, data_parts, some_entries}
 use Rattle.page_put.specs.Fresh.{Freshens, IsFresh}
 use Rattle.block_gc.specs.DataEmptied.{blocks_needed, HasDataPlaces, DataTurnCut, DataEmptied}
 use Rattle.block_gc.specs.Cleanings.{CanCleanData, CleanDataCut, CleanedData}
-use Rattle.block_gc.proofs.CleanedBlocks.{tidy_keeps}
 use Rattle.block_gc.proofs.DataTurnCalls.{no_page, dead_of}
 use Rattle.block_gc.proofs.SameBlocks.{same_deleted}
 use Rattle.block_gc.proofs.Freshened.{away, deleted_stays, free_falls, fresh_keeps, fresh_live, fresh_tidy}
@@ -73,9 +72,6 @@ data_places g a block low can = record {
   plain = (data_parts g a block (data_takes g a block (told g a can.tidy block low) ∙ can.holds)).1;
   fits = fits g a block can;
 }
-
-pub data_stays : (g : Geometry) (a : List ℕ) (block : ℕ) → CanCleanData g a block → CleanDataCut g a a
-data_stays g a block can = record { keeps = tidy_keeps g a can.tidy; free = omega arith }
 
 -- a cut while its pages are moved
 pub moving_cut : (g : Geometry) (a x : List ℕ) (block : ℕ) → block < g.blocks → CanCleanData g a block → DataTurnCut g block a x → CleanDataCut g a x

@@ -1,49 +1,41 @@
--- Putting the copy of a data page, from what its programs leave.
-use Rattle.std.proofs.Common.{◌≡◌, ◌≢◌, ℕ, zero, suc, ◌+◌, ◌-◌, ◌*◌, ◌/◌, ◌%◌, ◌<◌, ◌≤◌, ◌⊎◌, List, ◌∷◌, length, take, drop, set, get_or, slice_index, slice_range, Bool, true, false, not, ◌==◌, ◌||◌, Option, Some, ap, refl, sym, ◌∙◌, arith, ⊎_elim, inl, inr, subst, lit<, length-drop}
+-- Putting the copy of a data page, from what the put leaves.
+use Rattle.std.proofs.Common.{◌≡◌, ◌≢◌, ℕ, zero, suc, ◌+◌, ◌-◌, ◌*◌, ◌/◌, ◌%◌, ◌<◌, ◌≤◌, List, ◌∷◌, length, take, drop, get_or, slice_index, slice_range, Bool, true, false, not, Option, Some, ap, refl, sym, ◌∙◌, arith, subst, length-drop}
 use Rattle.std.specs.Prelude.{nat_lt}
-use Rattle.std.specs.Int.{bit_at}
-use Rattle.std.proofs.lemmas.Nat.Bits.{bit_at_above}
-use Rattle.std.proofs.lemmas.Bool.{cases_lt, or_cases, eq-eqb, ne_eqb, lt-ltb, eqb-true, agree_below_at, false_from_ne_true}
+use Rattle.std.proofs.lemmas.Bool.{eq-eqb, false_from_ne_true}
 use Rattle.std.proofs.lemmas.List.{drop-take, get_or-take, get_or-drop}
 use Rattle.geometry.specs.declared.geometry.Geometry.{Geometry}
 use Rattle.table_model.specs.declared.error.Tag.{Tag}
-use Rattle.nor_core.specs.Flash.{SameOutside}
 use Rattle.flash_view.specs.declared.kinds.Kind.TheVariants.{Data}
-use Rattle.image_model.specs.Within.{Sizes, sizes, page_length, behind, entry_slot, entry_of_block, entry_in}
+use Rattle.flash_view.specs.Steps.{Finishes}
+use Rattle.image_model.specs.Within.{sizes, page_length, entry_of_block, entry_in}
 use Rattle.image_model.specs.Volume.{per_block, lookups, entries}
-use Rattle.image_model.specs.Headers.{obj_id, span_of, names_index, is_finished}
+use Rattle.image_model.specs.Headers.{obj_id, span_of, names_index}
 use Rattle.image_model.specs.Live.{live_at}
-use Rattle.image_model.specs.Places.{block_of, place_of, has_magic, is_entry_page, IsImage, entry_at}
+use Rattle.image_model.specs.Places.{block_of, has_magic, IsImage}
 use Rattle.image_model.specs.Files.{data_of}
 use Rattle.image_model.specs.Tidy.{is_free_entry, is_free_block}
 use Rattle.image_model.specs.Kinds.{is_index_page, is_data_page, is_index_block}
 use Rattle.image_model.specs.Collect.{free_in}
-use Rattle.image_model.specs.Sound.{HasMagics}
-use Rattle.image_laws.specs.NewFile.{IsFreePage}
-use Rattle.image_laws.specs.Programs.{ClearsBit}
 use Rattle.image_laws.specs.SoundSteps.{IsOfKind}
-use Rattle.image_laws.specs.TidySteps.{Agree}
+use Rattle.image_laws.specs.TidySteps.{Agree, IsTidyBut}
 use Rattle.image_laws.specs.Put.{IsReadyPage}
-use Rattle.image_laws.specs.LiveSteps.{Finished, PutCut, PutDone}
-use Rattle.renew_laws.specs.Recopy.{PutsData}
-use Rattle.image_laws.proofs.Finish.{is_finished-zero}
-use Rattle.image_laws.proofs.Tally.{is_finished-ones}
+use Rattle.image_laws.specs.LiveSteps.{PutLeaves, PutDone}
 use Rattle.image_laws.proofs.Frames.{live_parts}
 use Rattle.image_laws.proofs.FreeBlocks.{filter-same, free_blocks-fall}
-use Rattle.image_laws.proofs.LiveStep.{put-changes}
-use Rattle.image_laws.proofs.Placing.{page_byte}
-use Rattle.image_laws.proofs.Places.{lookups_apart, blocks_disjoint}
 use Rattle.image_laws.proofs.Records.{list_any-at}
-use Rattle.renew_laws.proofs.RecopyStep.{put_data-keeps}
-use Rattle.renew_laws.proofs.RecopyTidy.{put_data-spares}
 use Rattle.image_laws.proofs.SpareKill.{tidy-has_magics}
 use Rattle.image_laws.proofs.TidySteps.{tidy-is_tidy}
+use Rattle.renew_laws.specs.Recopy.{PutsDataTo}
+use Rattle.renew_laws.proofs.Beside.{put_data-cuts, put_data-done}
 use Rattle.free_search.proofs.FreePages.{free_whole, used_less}
 use Rattle.page_put.specs.Placing.{placed_page}
-use Rattle.block_gc.specs.Moves.{MoveCut}
-use Rattle.block_gc.specs.DataMoves.{CanCopyData, IsDataCopy, CopiedData}
+use Rattle.page_put.specs.LivePages.{finished_page, putting}
+use Rattle.page_put.proofs.Putting.{ready}
 use Rattle.page_renew.specs.Built.{IsLoaded}
 use Rattle.page_renew.proofs.Homes.{Home, home_of}
+use Rattle.block_gc.specs.Moves.{MoveCut}
+use Rattle.block_gc.specs.DataMoves.{CanCopyData, IsTagOf, CopiedData, copying_data}
+use Rattle.block_gc.proofs.Replacing.{flags_stay, not_put}
 
 -- a block in use stays in use
 pub used_stays : (g : Geometry) (a b : List ℕ) (p c : ℕ) → Agree g a b p → c < g.blocks → c ≢ block_of g p → has_magic g a c ≡ true → is_free_block g a c ≡ false → is_free_block g b c ≡ false
@@ -81,28 +73,6 @@ data_kind_there g image p page none kind = record {
       names ∙ sym kind;
 }
 
--- the finished flags clear FINAL alone
-clears_final : ClearsBit 1 0xFE 0xFC
-clears_final = record {
-  set = refl;
-  cleared = refl;
-  others = λ j other. ⊎_elim
-      (λ (low : j < 8).
-      let one = agree_below_at (λ (k : ℕ). (k == 1) || (bit_at 0xFC k == bit_at 0xFE k)) (λ (k : ℕ). true) 8 j refl low in
-      ⊎_elim (λ (e : (j == 1) ≡ true). absurd (other (eqb-true j 1 e))) (λ (e : (bit_at 0xFC j == bit_at 0xFE j) ≡ true). eqb-true _ _ e) (or_cases _ _ one))
-      (λ (high : 8 ≤ j). bit_at_above 0xFC 8 j (omega arith) high ∙ sym (bit_at_above 0xFE 8 j (omega arith) high))
-      (cases_lt j 8);
-}
-
--- a copy of a live data page says that it is live
-finished_copy : (old new : List ℕ) → obj_id new ≡ obj_id old → slice_index new 4 ≡ 0xFC → obj_id old < 0x8000 → is_finished old ≡ true → is_finished new ≡ true
-unfolding is_finished
-finished_copy old new id flags small alive =
-    let some_id : (obj_id old % 0x8000 == 0) ≡ false = ne_eqb (obj_id old % 0x8000) 0 (λ z. let bad : false ≡ true = sym (is_finished-zero old z) ∙ alive in absurd (cc)) in
-    let not_free : (obj_id old == 0xFFFF) ≡ false = ne_eqb (obj_id old) 0xFFFF (λ z. let bad : false ≡ true = sym (is_finished-ones old z) ∙ alive in absurd (cc)) in
-    let low : nat_lt (obj_id old) 0x8000 ≡ true = lt-ltb (obj_id old) 0x8000 small in
-    rw (id, flags) (rw (some_id, not_free, low) refl)
-
 -- a page of five bytes and a rest holds bytes
 bytes_by : (a b c d e : ℕ) (rest : List ℕ) → a < 256 → b < 256 → c < 256 → d < 256 → e < 256 → (i n : ℕ) → ((k : ℕ) → k + 5 < n → get_or rest k 0 < 256) → i < n → get_or (a ∷ b ∷ c ∷ d ∷ e ∷ rest) i 0 < 256
 bytes_by a b c d e rest one two three four five zero n small within = one
@@ -114,27 +84,21 @@ bytes_by a b c d e rest one two three four five (suc (suc (suc (suc (suc i))))) 
 
 -- ---- the step
 
-module _ (g : Geometry) (a0 : List ℕ) (o p : ℕ) (tag : Tag) (work : List ℕ) (is : IsImage g a0) (can : CanCopyData g a0 o p) (old : List ℕ) (live : live_at g a0 o ≡ Some old) (tag_id : tag.id ≡ obj_id old) (tag_span : tag.span ≡ span_of old) (loaded : IsLoaded g a0 o work) where
-  abbrev id : ℕ
-  id = obj_id old % 0x8000
+module _ (g : Geometry) (a0 : List ℕ) (o p : ℕ) (tag : Tag) (work : List ℕ) (is : IsImage g a0) (can : CanCopyData g a0 o p) (of : IsTagOf g a0 o tag) (loaded : IsLoaded g a0 o work) (range : (1 ≤ tag.id) × (tag.id ≤ 0x7FFE)) where
+  abbrev old : List ℕ
+  old = of.bytes
 
-  abbrev page : List ℕ
-  page = placed_page g Data tag work
+  abbrev id : ℕ
+  id = obj_id of.bytes % 0x8000
 
   abbrev new : List ℕ
-  new = set (placed_page g Data tag work) 4 0xFC
-
-  pub kind : names_index old ≡ false
-  kind = some_data (live_at g a0 o) old live can.is_data
-
-  low_id : obj_id old < 0x8000
-  low_id = let no : not (nat_lt (obj_id old) 0x8000) ≡ false = kind in grind arith
+  new = finished_page g Data tag work
 
   same : take g.page work ≡ old
-  same = loaded.same ∙ (live_parts g a0 o old live).bytes
+  same = loaded.same ∙ (live_parts g a0 o old of.is_live).bytes
 
   len : length old ≡ g.page
-  len = let w = live_parts g a0 o old live in ap length (sym w.bytes) ∙ page_length g a0 o is w.entry_page
+  len = let w = live_parts g a0 o old of.is_live in ap length (sym w.bytes) ∙ page_length g a0 o is w.entry_page
 
   small : (k : ℕ) → k < g.page → slice_index old k < 256
   small k below = rw (← same, get_or-take g.page work k 0 below) (loaded.small k below)
@@ -146,63 +110,43 @@ module _ (g : Geometry) (a0 : List ℕ) (o p : ℕ) (tag : Tag) (work : List ℕ
   abbrev header : List ℕ → List ℕ
   header l = tag.id % 256 ∷ tag.id / 256 ∷ tag.span % 256 ∷ tag.span / 256 ∷ 0xFE ∷ l
 
-  page_is : page ≡ header (drop 5 old)
+  page_is : placed_page g Data tag work ≡ header (drop 5 old)
   page_is = ap header rest
 
   words : (tag.id / 256 < 256) × (tag.span / 256 < 256)
   words =
       let big : 128 ≤ g.page = (sizes g).page in
-      let b0 = small 0 (omega arith) in
-      let b1 = small 1 (omega arith) in
       let b2 = small 2 (omega arith) in
       let b3 = small 3 (omega arith) in
-      let e = tag_id in
-      let f = tag_span in
-      (omega arith, omega arith)
+      let high = range.1 in
+      let f = of.span in
+      (omega (arith, high), omega arith)
 
-  pub new_id : obj_id new ≡ obj_id old
-  new_id = let e = tag_id in let f : tag.id % 256 + 256 * (tag.id / 256) ≡ obj_id old = omega arith in f
+  new_id : obj_id new ≡ obj_id old
+  new_id = let e = of.id in let f : tag.id % 256 + 256 * (tag.id / 256) ≡ obj_id old = omega arith in f
 
-  pub new_span : span_of new ≡ span_of old
-  new_span = let e = tag_span in let f : tag.span % 256 + 256 * (tag.span / 256) ≡ span_of old = omega arith in f
+  new_span : span_of new ≡ span_of old
+  new_span = let e = of.span in let f : tag.span % 256 + 256 * (tag.span / 256) ≡ span_of old = omega arith in f
 
-  pub new_kind : names_index new ≡ false
-  new_kind = ap (λ (n : ℕ). not (nat_lt n 0x8000)) new_id ∙ kind
+  new_kind : names_index new ≡ false
+  new_kind = ap (λ (n : ℕ). not (nat_lt n 0x8000)) new_id ∙ some_data (live_at g a0 o) old of.is_live can.is_data
 
-  page_len : length page ≡ g.page
-  page_len =
+  copy_ready : IsReadyPage g (placed_page g Data tag work) 0xFC
+  copy_ready =
       let big : 128 ≤ g.page = (sizes g).page in
-      let five : length (header (drop 5 old)) ≡ g.page = omega (arith, length-drop 5 old, len, big) in
-      ap length page_is ∙ five
-
-  pub copied : IsDataCopy g old new
-  copied = record {
-    data_kind = new_kind;
-    id = new_id;
-    span = new_span;
-    body = ap (take (g.page - 5)) rest;
-  }
-
-  pub is_ready : IsReadyPage g page 0xFC
-  is_ready =
       let w = words in
-      record {
-        len = page_len;
-        bytes = λ i within. subst (λ (l : List ℕ). slice_index l i < 256) (sym page_is)
-            (bytes_by (tag.id % 256) (tag.id / 256) (tag.span % 256) (tag.span / 256) 0xFE (drop 5 old) (omega arith) w.0 (omega arith) w.1 (omega arith) i g.page
-            (λ k below. rw (get_or-drop 5 old k 0) (small (5 + k) (omega arith))) within);
-        clears = clears_final;
-        finished = finished_copy old new new_id refl low_id (live_parts g a0 o old live).finished;
-      }
+      let five : length (header (drop 5 old)) ≡ g.page = omega (arith, length-drop 5 old, len, big) in
+      ready g Data tag work (ap length page_is ∙ five)
+      (λ i within. subst (λ (l : List ℕ). slice_index l i < 256) (sym page_is)
+      (bytes_by (tag.id % 256) (tag.id / 256) (tag.span % 256) (tag.span / 256) 0xFE (drop 5 old) (omega arith) w.0 (omega arith) w.1 (omega arith) i g.page
+      (λ k below. rw (get_or-drop 5 old k 0) (small (5 + k) (omega arith))) within))
+      range.0 range.1
 
   home : Home g a0 id
-  home = home_of g a0 is can.tidy o old live
+  home = home_of g a0 is can.tidy o old of.is_live
 
-  start : PutsData g a0 p id home.h page home.head 0xFC home.f
+  start : PutsDataTo g a0 p id home.h new home.head home.f
   start = record {
-    image = is;
-    free = can.free;
-    ready = is_ready;
     kind = data_kind_there g a0 p new can.kind new_kind;
     data_kind = new_kind;
     of = ap (λ (n : ℕ). n % 0x8000) new_id;
@@ -211,35 +155,28 @@ module _ (g : Geometry) (a0 : List ℕ) (o p : ℕ) (tag : Tag) (work : List ℕ
     file = home.file;
   }
 
-  pub magics : HasMagics g a0
-  magics = tidy-has_magics g a0 (λ (r : ℕ). false) ((tidy-is_tidy g a0 (λ (r : ℕ). false)).0 can.tidy)
+  tidy : IsTidyBut g a0 (λ r. false)
+  tidy = (tidy-is_tidy g a0 (λ (r : ℕ). false)).0 can.tidy
 
-  module _ (a1 a2 a3 a4 : List ℕ) (all : Finished g p page 0xFC a0 a1 a2 a3 a4) where
-    pub copying_left : (c : List ℕ) → PutCut g p page 0xFC a0 a1 a2 a3 c → MoveCut g p a0 c
-    copying_left c cut =
-        let law = (put_data-keeps g a0 a1 a2 a3 a4 p id home.h page home.head 0xFC home.f start magics all).0 c cut in
-        let fall = free_blocks-fall g a0 c p law.1 in
-        record { keeps = law.0; free = fall.0; used = fall.1 }
+  copy_left : (c : List ℕ) → PutLeaves g p new a0 c → MoveCut g p a0 c
+  copy_left c put =
+      let fall = free_blocks-fall g a0 c p put.agree in
+      record { keeps = put_data-cuts g a0 c p id home.h new home.head home.f start (tidy-has_magics g a0 (λ (r : ℕ). false) tidy) put; free = fall.0; used = fall.1 }
 
-    done4 : PutDone g p new a0 a4
-    done4 = (put-changes g a0 a1 a2 a3 a4 p page 0xFC is can.free is_ready all).1
+  copy_done : (b : List ℕ) → PutDone g p new a0 b → CopiedData g o p a0 b
+  copy_done b put =
+      let law = put_data-done g a0 b p id home.h new home.head home.f start put in
+      record {
+        old = old;
+        copy = new;
+        image = is;
+        was_live = of.is_live;
+        copied = record { data_kind = new_kind; id = new_id; span = new_span; body = ap (take (g.page - 5)) rest };
+        put = put;
+        keeps = law.0 (tidy-has_magics g a0 (λ (r : ℕ). false) tidy);
+        tidy = law.1 (λ (r : ℕ). false) tidy;
+        flags = flags_stay g a0 b p o old put.agree of.is_live (not_put g a0 b p o new old put of.is_live) loaded.flags;
+      }
 
-    pub copying_done : CopiedData g o p a0 a4
-    copying_done = record {
-      old = old;
-      copy = new;
-      image = is;
-      was_live = live;
-      copied = copied;
-      put = done4;
-      keeps = (put_data-keeps g a0 a1 a2 a3 a4 p id home.h page home.head 0xFC home.f start magics all).1;
-      tidy = put_data-spares g a0 a1 a2 a3 a4 p id home.h page home.head 0xFC home.f (λ (r : ℕ). false) start ((tidy-is_tidy g a0 (λ (r : ℕ). false)).0 can.tidy) all;
-      free = λ q differ. done4.free q (λ e. differ (ap (λ (x : ℕ). block_of g x) e));
-      flags =
-          let big : 128 ≤ g.page = (sizes g).page in
-          let near : 4 < g.page = omega arith in
-          let apart : o ≢ p = λ e. Rattle.std.proofs.lemmas.Option.none-some old (sym done4.gains.before ∙ ap (live_at g a0) (sym e) ∙ live) in
-          let byte : slice_index a4 (o * g.page + 4) ≡ slice_index a0 (o * g.page + 4) =
-          sym (page_byte g a4 o 4 near) ∙ ap (λ (l : List ℕ). slice_index l 4) (done4.agree.page o (live_parts g a0 o old live).entry_page apart) ∙ page_byte g a0 o 4 near in
-          rw byte loaded.flags;
-    }
+  pub copy_puts : Finishes g a0 a0 (putting p Data tag work) (copying_data o p)
+  copy_puts = record { needs = record { free = can.free; ready = copy_ready }; cut = λ c put. copy_left c put; done = λ c ok put. copy_done c put }

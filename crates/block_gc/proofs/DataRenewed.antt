@@ -1,86 +1,88 @@
--- The index page is renewed to name the copy of a data page, from what the programs leave.
-use Rattle.std.proofs.Common.{◌≡◌, ◌≢◌, ℕ, ◌+◌, ◌*◌, ◌%◌, ◌<◌, ◌≤◌, List, length, take, set, slice_index, Bool, true, false, not, ◌==◌, ◌&&◌, Option, Some, None, Result, Ok, ap, refl, sym, ◌∙◌, arith, ⊎_elim, inl, inr, subst, length-set, get_or-set_same, get_or-set_other}
+-- The index page is renewed to name the copy of a data page, from what a put and two kills leave.
+use Rattle.std.proofs.Common.{◌≡◌, ◌≢◌, ℕ, ◌+◌, ◌%◌, ◌<◌, ◌≤◌, List, length, take, set, Bool, true, false, not, ◌==◌, ◌&&◌, Option, Some, Result, Ok, ap, refl, sym, ◌∙◌, arith, ⊎_elim, inl, inr, subst}
 use Rattle.std.specs.Prelude.{is_some, option_and_then}
 use Rattle.std.specs.Option.{option_map}
 use Rattle.std.proofs.lemmas.Bool.{cases_eq, cases_Bool, and_parts, eq-eqb, eqb-true}
-use Rattle.std.proofs.lemmas.Option.{none-some, same_Some}
+use Rattle.std.proofs.lemmas.List.{get_or-take}
+use Rattle.std.proofs.lemmas.Option.{same_Some}
 use Rattle.geometry.specs.declared.geometry.Geometry.{Geometry}
 use Rattle.table_model.specs.declared.error.Tag.{Tag}
-use Rattle.table_model.specs.Table.{File, put_file}
+use Rattle.table_model.specs.Table.{File}
 use Rattle.table_model.specs.Room.{data_pages}
 use Rattle.page_layout.specs.Layout.{SameOutside}
 use Rattle.page_layout.proofs.Stays.{word_stays}
+use Rattle.flash_view.specs.declared.kinds.Kind.TheVariants.{Index}
+use Rattle.flash_view.specs.Steps.{Step, Begins, Finishes}
 use Rattle.image_model.specs.declared.damage.Damage.{Damage}
 use Rattle.image_model.specs.Within.{sizes, page_length, page_number, block_number}
 use Rattle.image_model.specs.Headers.{obj_id, span_of, names_index, size_of}
-use Rattle.image_model.specs.Live.{live_at, own}
+use Rattle.image_model.specs.Live.{Live, live_at, own}
 use Rattle.image_model.specs.Places.{block_of, IsImage}
 use Rattle.image_model.specs.Files.{is_index, index_page, entry_number, data_of, data_page, judged}
-use Rattle.image_model.specs.Tables.{has_of, table_of}
+use Rattle.image_model.specs.Tables.{has_of}
 use Rattle.image_model.specs.Tidy.{serves, is_free_block, free_blocks}
 use Rattle.image_model.specs.Kinds.{is_index_page}
-use Rattle.image_model.specs.Sound.{HasMagics, Keeps}
+use Rattle.image_model.specs.Sound.{Keeps}
 use Rattle.image_laws.specs.Changes.{Gains}
 use Rattle.image_laws.specs.InPlace.{slot_at}
-use Rattle.image_laws.specs.Programs.{ClearsBit}
 use Rattle.image_laws.specs.SoundSteps.{IsOfKind}
-use Rattle.image_laws.specs.TidySteps.{Agree}
-use Rattle.image_laws.specs.Put.{IsReadyPage}
-use Rattle.image_laws.specs.LiveSteps.{Finished, Kills, PutCut, KillCut, PutLeaves, PutDone, KillLeaves, KillDone}
-use Rattle.image_laws.specs.Creating.{CutOf}
+use Rattle.image_laws.specs.LiveSteps.{PutDone, KillLeaves, KillDone}
 use Rattle.image_laws.specs.Reindex.{Reindexes, index_span, slot_word}
-use Rattle.renew_laws.specs.Recopy.{Recopies, Renamed}
-use Rattle.image_laws.specs.Spares.{Spares, leftover}
-use Rattle.image_laws.proofs.Append.{finished-same}
+use Rattle.image_laws.specs.Spares.{leftover}
 use Rattle.image_laws.proofs.Finish.{own-parts}
-use Rattle.image_laws.proofs.Finished.{torn_from}
 use Rattle.image_laws.proofs.Frames.{live_parts}
-use Rattle.image_laws.proofs.FreeBlocks.{free_blocks-fall, used-is_not_free}
+use Rattle.image_laws.proofs.FreeBlocks.{free_blocks-fall}
 use Rattle.image_laws.proofs.Judge.{found_from, index_passes}
-use Rattle.image_laws.proofs.LiveStep.{put-changes, kill-changes}
-use Rattle.image_laws.proofs.Placing.{page_byte}
-use Rattle.renew_laws.proofs.RecopyStep.{recopy-is_sound, live4, clears4, mine4, mine5, beside-index, beside-entry, beside-header, beside-judged}
-use Rattle.renew_laws.proofs.RecopyTidy.{recopy-tidies, put-same}
 use Rattle.image_laws.proofs.Reindexed.{entry-slot}
-use Rattle.renew_laws.proofs.ReindexSteps.{entry3_here}
-use Rattle.image_laws.proofs.StillFree.{live-used}
 use Rattle.image_laws.proofs.Sounding.{keeps-on}
-use Rattle.image_laws.proofs.SpareKill.{spare-kills, spares-end, tidy-has_magics}
-use Rattle.image_laws.proofs.Tables.{own-gains_page, own-gains_rest}
+use Rattle.image_laws.proofs.SpareKill.{tidy-has_magics}
 use Rattle.image_laws.proofs.Tally.{served}
-use Rattle.page_put.proofs.Clearing.{clears_deleted}
-use Rattle.page_put.proofs.Killed.{flags_left, set_in}
-use Rattle.page_renew.specs.Copies.{count_of}
-use Rattle.block_gc.specs.DataMoves.{CanMoveData, IsNamedBy, CopiedData, DataMoveCut, MovedData}
-use Rattle.page_renew.specs.Built.{IsRenamed}
-use Rattle.flash_view.specs.declared.kinds.Kind.TheVariants.{Index}
+use Rattle.renew_laws.specs.Idles.{Idles}
+use Rattle.renew_laws.specs.Recopy.{RecopiesTo, Renamed}
+use Rattle.renew_laws.specs.Replace.{ReplaceCut, Replaced}
+use Rattle.renew_laws.proofs.Beside.{beside-index, beside-entry, beside-header, beside-judged}
+use Rattle.renew_laws.proofs.IdleKill.{idle-kills, idles-end}
+use Rattle.renew_laws.proofs.PutBeside.{gains_own}
+use Rattle.renew_laws.proofs.RecopyCuts.{recopy-cuts, mine4, mine5}
+use Rattle.renew_laws.proofs.RecopyLeaves.{recopy-spares}
+use Rattle.renew_laws.proofs.ReindexSteps.{entry3_here}
 use Rattle.page_put.specs.Placing.{placed_page}
+use Rattle.page_put.specs.LivePages.{finished_page, killing, putting}
+use Rattle.page_renew.specs.Built.{IsRenamed}
+use Rattle.page_renew.specs.Copies.{count_of}
+use Rattle.page_renew.proofs.Homes.{serves_data, index_some, own_of, of_kind, Home, home_of}
 use Rattle.page_renew.proofs.IndexCopies.{placed_index}
-use Rattle.block_gc.proofs.DataCopies.{data_there, used_stays}
-use Rattle.page_renew.proofs.Homes.{serves_data, serves_first, index_some, own_of, of_kind, Home, home_of}
-use Rattle.block_gc.proofs.MovedIndexes.{clears_final, set_twice}
-use Rattle.page_renew.proofs.Renewed.{finished, slot_same, renewed, now_same}
+use Rattle.page_renew.proofs.Renewed.{slot_same, renewed, now_same}
 use Rattle.page_renew.proofs.SlotNames.{slot_word_at, slot_behind, other_word, named_leads}
-
--- a byte of a page that both have makes no difference
-set_outside : (at n v : ℕ) (y z : List ℕ) → 4 < length y → 4 < length z → SameOutside at n y z → SameOutside at n (set y 4 v) (set z 4 v)
-set_outside at n v y z long far same = record {
-  size = length-set z 4 v ∙ same.size ∙ sym (length-set y 4 v);
-  before = λ k below. at_byte k (same.before k below);
-  after = λ k above. at_byte k (same.after k above);
-}
-  where
-    at_byte : (k : ℕ) → slice_index z k ≡ slice_index y k → slice_index (set z 4 v) k ≡ slice_index (set y 4 v) k
-    at_byte k e =
-        ⊎_elim
-        (λ (here : k ≡ 4). rw here (get_or-set_same z 4 v 0 far ∙ sym (get_or-set_same y 4 v 0 long)))
-        (λ (there : k ≡ 4 → ⊥). get_or-set_other z 4 k v 0 there ∙ e ∙ sym (get_or-set_other y 4 k v 0 there))
-        (cases_eq k 4)
+use Rattle.block_gc.specs.DataMoves.{CanMoveData, IsNamedBy, CopiedData, DataMoveCut, MovedData, IsCopiedSince, naming_copy}
+use Rattle.block_gc.proofs.DataCopies.{data_there, some_data, used_stays}
+use Rattle.block_gc.proofs.Replacing.{keeps_same, flags_stay, not_put, still_live, kill_left, replace_left, replace_free, index_alone, set_twice, set_outside, set_inside, index_ready}
 
 some_in : (o : Option (List ℕ)) (f : List ℕ → ℕ) (n : ℕ) → option_map f o ≡ Some n → (x : List ℕ) → o ≡ Some x → f x ≡ n
 some_in o f n is x at = let e : Some (f x) ≡ Some n = rw at at is in same_Some (f x) n e
 
-module _ (g : Geometry) (a0 b0 : List ℕ) (o p j w : ℕ) (tag : Tag) (can : CanMoveData g a0 o p j) (copied : CopiedData g o p a0 b0) (named : IsNamedBy g a0 o w tag) where
+-- the first two calls of the renewal: the copy of the index page is put, and the index page is killed
+abbrev pub replacing : (page to index index_to : ℕ) → Tag → (span : ℕ) → (first work : List ℕ) → Step (Unit {0})
+replacing page to index index_to tag span first work = record {
+  needs = λ g was. IsCopiedSince g page to index index_to tag first was;
+  cut = λ g was image. DataMoveCut g to index_to first image;
+  done = λ g was now ok. Replaced g index_to index (finished_page g Index (record { id = tag.id; span = span }) work) was now;
+}
+
+-- they begin all of it
+pub replaced_first : {g : Geometry} {b : List ℕ} (o p w j : ℕ) (tag : Tag) (span : ℕ) (a work : List ℕ) → IsCopiedSince g o p w j tag a b → Begins g b (replacing o p w j tag span a work) (naming_copy o p w j tag a)
+replaced_first o p w j tag span a work since = record { needs = since; cut = λ c cut. cut }
+
+module _ (g : Geometry) (a0 b0 : List ℕ) (o p j w : ℕ) (tag : Tag) (since : IsCopiedSince g o p w j tag a0 b0) where
+  abbrev can : CanMoveData g a0 o p j
+  can = since.can
+
+  abbrev copied : CopiedData g o p a0 b0
+  copied = since.copied
+
+  abbrev named : IsNamedBy g a0 o w tag
+  named = since.named
+
   is : IsImage g a0
   is = copied.image
 
@@ -90,23 +92,26 @@ module _ (g : Geometry) (a0 b0 : List ℕ) (o p j w : ℕ) (tag : Tag) (can : Ca
   abbrev s : ℕ
   s = span_of copied.old
 
+  -- the pages of the file in the first image, and with the copy of its data page beside
+  abbrev pages0 : Live
+  pages0 = own (live_at g a0) id
+
+  abbrev pages4 : Live
+  pages4 = own (live_at g b0) id
+
   -- ---- in the first image
 
   kind : names_index copied.old ≡ false
-  kind = go (names_index copied.old) (let d = can.copy.is_data in rw copied.was_live at d)
-    where
-      go : (b : Bool) → not b ≡ true → b ≡ false
-      go true e = absurd (cc)
-      go false e = refl
+  kind = some_data (live_at g a0 o) copied.old copied.was_live can.copy.is_data
 
   home : Home g a0 id
   home = home_of g a0 is can.copy.tidy o copied.old copied.was_live
 
-  mine : own (live_at g a0) id o ≡ Some copied.old
+  mine : pages0 o ≡ Some copied.old
   mine = own_of (live_at g a0) o copied.old copied.was_live
 
-  entry0 : (span_of copied.old < data_pages g (size_of home.head)) × (entry_number g (own (live_at g a0) id) home.head s ≡ Some o)
-  entry0 = serves_data g (own (live_at g a0) id) home.head copied.old o mine kind (served g a0 is can.copy.tidy id home.h home.head home.at home.header o copied.old mine)
+  entry0 : (span_of copied.old < data_pages g (size_of home.head)) × (entry_number g pages0 home.head s ≡ Some o)
+  entry0 = serves_data g pages0 home.head copied.old o mine kind (served g a0 is can.copy.tidy id home.h home.head home.at home.header o copied.old mine)
 
   same_data : named.of.bytes ≡ copied.old
   same_data = same_Some named.of.bytes copied.old (sym named.of.is_live ∙ copied.was_live)
@@ -121,20 +126,20 @@ module _ (g : Geometry) (a0 b0 : List ℕ) (o p j w : ℕ) (tag : Tag) (can : Ca
       omega (arith, e, low)
 
   -- the index page that names it
-  names : index_page g (own (live_at g a0) id) (index_span g s) ≡ Some w
-  names = ap (λ (n : ℕ). index_page g (own (live_at g a0) id) (index_span g n)) (sym span_is) ∙ ap (λ (n : ℕ). index_page g (own (live_at g a0) n) (index_span g tag.span)) (sym id_is) ∙ named.first
+  names : index_page g pages0 (index_span g s) ≡ Some w
+  names = ap (λ (n : ℕ). index_page g pages0 (index_span g n)) (sym span_is) ∙ ap (λ (n : ℕ). index_page g (own (live_at g a0) n) (index_span g tag.span)) (sym id_is) ∙ named.first
 
-  index_was : (x : List ℕ) × (own (live_at g a0) id w ≡ Some x) × (names_index x ≡ true) × (span_of x ≡ index_span g s)
-  index_was = index_some (own (live_at g a0) id w) (index_span g s) (index_passes g (own (live_at g a0) id) (index_span g s) w names)
+  index_was : (x : List ℕ) × (pages0 w ≡ Some x) × (names_index x ≡ true) × (span_of x ≡ index_span g s)
+  index_was = index_some (pages0 w) (index_span g s) (index_passes g pages0 (index_span g s) w names)
 
   w_parts : (live_at g a0 w ≡ Some index_was.0) × (obj_id index_was.0 % 0x8000 ≡ id)
   w_parts = own-parts (live_at g a0) id w index_was.0 index_was.1
 
   w_not_p : w ≢ p
-  w_not_p e = none-some index_was.0 (sym copied.put.gains.before ∙ ap (live_at g a0) (sym e) ∙ w_parts.0)
+  w_not_p = not_put g a0 b0 p w copied.copy index_was.0 copied.put w_parts.0
 
   o_not_p : o ≢ p
-  o_not_p e = none-some copied.old (sym copied.put.gains.before ∙ ap (live_at g a0) (sym e) ∙ copied.was_live)
+  o_not_p = not_put g a0 b0 p o copied.copy copied.old copied.put copied.was_live
 
   o_not_w : o ≢ w
   o_not_w e =
@@ -142,23 +147,26 @@ module _ (g : Geometry) (a0 b0 : List ℕ) (o p j w : ℕ) (tag : Tag) (can : Ca
       let bad : false ≡ true = sym kind ∙ ap names_index same ∙ index_was.2 in absurd (cc)
 
   live_w : live_at g b0 w ≡ Some index_was.0
-  live_w = copied.put.gains.others w w_not_p ∙ w_parts.0
+  live_w = still_live g a0 b0 p w copied.copy index_was.0 copied.put w_parts.0
 
-  pub index_live : is_index_page (live_at g b0 w) ≡ true
+  index_live : is_index_page (live_at g b0 w) ≡ true
   index_live = rw live_w index_was.2
 
-  module _ (work : List ℕ) (renamed : IsRenamed g b0 w tag.span p work) where
+  module _ (span : ℕ) (t_span : span ≡ index_span g tag.span) (work : List ℕ) (built : is_index_page (live_at g b0 w) ≡ true → IsRenamed g b0 w tag.span p work) where
+    abbrev t : Tag
+    t = record { id = tag.id; span = span }
+
+    renamed : IsRenamed g b0 w tag.span p work
+    renamed = built index_live
+
     abbrev old : List ℕ
     old = renamed.built.old
 
     abbrev plain : List ℕ
     plain = set (take g.page renamed.plain) 4 0xF8
 
-    abbrev page : List ℕ
-    page = set (take g.page work) 4 0xFA
-
     abbrev new : List ℕ
-    new = set (set (take g.page work) 4 0xFA) 4 0xF8
+    new = finished_page g Index t work
 
     old_is : index_was.0 ≡ old
     old_is = same_Some index_was.0 old (sym live_w ∙ renamed.built.live)
@@ -172,56 +180,45 @@ module _ (g : Geometry) (a0 b0 : List ℕ) (o p j w : ℕ) (tag : Tag) (can : Ca
     of_id : obj_id old % 0x8000 ≡ id
     of_id = ap (λ (l : List ℕ). obj_id l % 0x8000) (sym old_is) ∙ w_parts.1
 
-    w0 : own (live_at g a0) id w ≡ Some old
+    w0 : pages0 w ≡ Some old
     w0 = index_was.1 ∙ ap (λ (l : List ℕ). Some l) old_is
 
-    first0 : index_page g (own (live_at g a0) id) (span_of old) ≡ Some w
-    first0 = ap (index_page g (own (live_at g a0) id)) (sym at_span) ∙ names
+    first0 : index_page g pages0 (span_of old) ≡ Some w
+    first0 = ap (index_page g pages0) (sym at_span) ∙ names
 
-    alone0 : (r : ℕ) → is_index (own (live_at g a0) id r) (span_of old) ≡ true → r ≡ w
-    alone0 r passes =
-        let x = index_some (own (live_at g a0) id r) (span_of old) passes in
-        let v : index_page g (own (live_at g a0) id) (span_of x.0) ≡ Some r = serves_first g (own (live_at g a0) id) home.head x.0 r x.1 x.2 (served g a0 is can.copy.tidy id home.h home.head home.at home.header r x.0 x.1) in
-        same_Some r w (sym v ∙ ap (λ (k : ℕ). index_page g (own (live_at g a0) id) k) x.3 ∙ first0)
+    alone0 : (r : ℕ) → is_index (pages0 r) (span_of old) ≡ true → r ≡ w
+    alone0 = index_alone g a0 is can.copy.tidy id home (span_of old) w first0
 
     -- ---- with the copy beside
 
     copy_of : obj_id copied.copy % 0x8000 ≡ id
     copy_of = ap (λ (n : ℕ). n % 0x8000) copied.copied.id
 
-    none0 : own (live_at g a0) id p ≡ None
-    unfolding own
-    none0 = rw copied.put.gains.before refl
+    gains : Gains p copied.copy pages0 pages4
+    gains = gains_own p id copied.copy (live_at g a0) (live_at g b0) copy_of copied.put.gains
 
-    gains : Gains p copied.copy (own (live_at g a0) id) (own (live_at g b0) id)
-    gains = record {
-      before = none0;
-      after = rw copy_of at (own-gains_page p copied.copy (live_at g a0) (live_at g b0) copied.put.gains);
-      others = λ q there. rw copy_of at (own-gains_rest p copied.copy (live_at g a0) (live_at g b0) copied.put.gains q there);
-    }
+    index_same : (k : ℕ) → index_page g pages4 k ≡ index_page g pages0 k
+    index_same = beside-index g p home.h id copied.copy home.head home.f pages0 pages4 gains copied.copied.data_kind home.at home.header home.file
 
-    index_same : (k : ℕ) → index_page g (own (live_at g b0) id) k ≡ index_page g (own (live_at g a0) id) k
-    index_same = beside-index g p home.h id copied.copy home.head home.f (own (live_at g a0) id) (own (live_at g b0) id) gains copied.copied.data_kind home.at home.header home.file
-
-    at4 : index_page g (own (live_at g b0) id) 0 ≡ Some home.h
+    at4 : index_page g pages4 0 ≡ Some home.h
     at4 = index_same 0 ∙ home.at
 
-    header4 : own (live_at g b0) id home.h ≡ Some home.head
-    header4 = beside-header g p home.h id copied.copy home.head home.f (own (live_at g a0) id) (own (live_at g b0) id) gains copied.copied.data_kind home.at home.header home.file
+    header4 : pages4 home.h ≡ Some home.head
+    header4 = beside-header g p home.h id copied.copy home.head home.f pages0 pages4 gains copied.copied.data_kind home.at home.header home.file
 
-    file4 : judged g (own (live_at g b0) id) id home.head ≡ Ok home.f
-    file4 = beside-judged g p home.h id copied.copy home.head home.f (own (live_at g a0) id) (own (live_at g b0) id) gains copied.copied.data_kind home.at home.header home.file ∙ home.file
+    file4 : judged g pages4 id home.head ≡ Ok home.f
+    file4 = beside-judged g p home.h id copied.copy home.head home.f pages0 pages4 gains copied.copied.data_kind home.at home.header home.file ∙ home.file
 
-    w4 : own (live_at g b0) id w ≡ Some old
+    w4 : pages4 w ≡ Some old
     w4 = gains.others w w_not_p ∙ w0
 
-    first4 : index_page g (own (live_at g b0) id) (span_of old) ≡ Some w
+    first4 : index_page g pages4 (span_of old) ≡ Some w
     first4 = index_same (span_of old) ∙ first0
 
-    alone4 : (r : ℕ) → is_index (own (live_at g b0) id r) (span_of old) ≡ true → r ≡ w
+    alone4 : (r : ℕ) → is_index (pages4 r) (span_of old) ≡ true → r ≡ w
     alone4 r passes =
         ⊎_elim
-        (λ (here : r ≡ p). let no : is_index (own (live_at g b0) id r) (span_of old) ≡ false = rw here (rw gains.after (rw copied.copied.data_kind refl)) in let bad : true ≡ false = sym passes ∙ no in absurd (cc))
+        (λ (here : r ≡ p). let no : is_index (pages4 r) (span_of old) ≡ false = rw here (rw gains.after (rw copied.copied.data_kind refl)) in let bad : true ≡ false = sym passes ∙ no in absurd (cc))
         (λ (there : r ≡ p → ⊥). alone0 r (ap (λ (x : Option (List ℕ)). is_index x (span_of old)) (sym (gains.others r there)) ∙ passes))
         (cases_eq r p)
 
@@ -229,15 +226,14 @@ module _ (g : Geometry) (a0 b0 : List ℕ) (o p j w : ℕ) (tag : Tag) (can : Ca
     unfolding count_of
     count = rw of_id (rw at4 (rw header4 refl))
 
-    data4 : data_page g (own (live_at g b0) id) home.head s ≡ Some copied.old
-    unfolding data_page
-    data4 =
-        let entry : entry_number g (own (live_at g b0) id) home.head s ≡ Some o =
-        beside-entry g p home.h id copied.copy home.head home.f (own (live_at g a0) id) (own (live_at g b0) id) gains copied.copied.data_kind home.at home.header home.file home.head s ∙ entry0.1 in
-        let there : own (live_at g b0) id o ≡ Some copied.old = gains.others o o_not_p ∙ mine in
-        rw entry (rw there (data_there copied.old s kind refl))
+    entry4 : entry_number g pages4 home.head s ≡ Some o
+    entry4 = beside-entry g p home.h id copied.copy home.head home.f pages0 pages4 gains copied.copied.data_kind home.at home.header home.file home.head s ∙ entry0.1
 
-    copy4 : data_of (own (live_at g b0) id p) s ≡ Some copied.copy
+    data4 : data_page g pages4 home.head s ≡ Some copied.old
+    unfolding data_page
+    data4 = let there : pages4 o ≡ Some copied.old = gains.others o o_not_p ∙ mine in rw entry4 (rw there (data_there copied.old s kind refl))
+
+    copy4 : data_of (pages4 p) s ≡ Some copied.copy
     copy4 = rw gains.after (data_there copied.copy s copied.copied.data_kind copied.copied.span)
 
     -- ---- the renewed page
@@ -251,18 +247,18 @@ module _ (g : Geometry) (a0 b0 : List ℕ) (o p j w : ℕ) (tag : Tag) (can : Ca
     plain_len : length (take g.page renamed.plain) ≡ g.page
     plain_len = renamed.built.copied.size ∙ old_len
 
-    pub page_len : length (take g.page work) ≡ g.page
+    page_len : length (take g.page work) ≡ g.page
     page_len = renamed.others.size ∙ plain_len
 
     -- it is what is placed
-    pub placed_is : (t : Tag) → t.id ≡ tag.id → t.span ≡ index_span g tag.span → placed_page g Index t work ≡ page
-    placed_is t t_id t_span =
+    placed_is : placed_page g Index t work ≡ set (take g.page work) 4 0xFA
+    placed_is =
         let from = slot_behind g tag.span in
-        placed_index g.page t work (take g.page work) old big page_len refl index (t_id ∙ id_is ∙ sym of_id) (t_span ∙ ap (index_span g) span_is ∙ at_span)
+        placed_index g.page t work (take g.page work) old big page_len refl index (id_is ∙ sym of_id) (t_span ∙ ap (index_span g) span_is ∙ at_span)
         (λ k below. renamed.others.before k (omega (arith, from)) ∙ renamed.built.copied.head k (omega arith)) (λ k below. renamed.small k (let size = big in omega arith))
 
     sets : new ≡ set (take g.page work) 4 0xF8
-    sets = set_twice (take g.page work) 4 0xFA 0xF8
+    sets = ap (λ (l : List ℕ). set l 4 0xF8) placed_is ∙ set_twice (take g.page work) 4 0xFA 0xF8
 
     others : SameOutside (slot_at g s) 2 plain new
     others =
@@ -275,38 +271,18 @@ module _ (g : Geometry) (a0 b0 : List ℕ) (o p j w : ℕ) (tag : Tag) (can : Ca
     entry : slot_word g new s ≡ p
     entry =
         let from = slot_behind g s in
-        let only : SameOutside 4 1 (take g.page work) new = record {
-          size = rw sets (length-set (take g.page work) 4 0xF8);
-          before = λ k below. rw sets (get_or-set_other (take g.page work) 4 k 0xF8 0 (λ e. omega (arith, e, below)));
-          after = λ k above. rw sets (get_or-set_other (take g.page work) 4 k 0xF8 0 (λ e. omega (arith, e, above)));
-        } in
+        let only : SameOutside 4 1 (take g.page work) new = rw sets (set_inside 4 0xF8 (take g.page work)) in
         let there : slot_word g (take g.page work) s ≡ p = subst (λ (n : ℕ). slot_word g (take g.page work) n ≡ p) span_is renamed.entry in
         slot_word_at g new s ∙ word_stays 4 1 (slot_at g s) (take g.page work) new only (inl (omega (arith, from))) ∙ sym (slot_word_at g (take g.page work) s) ∙ there
 
-    plain_leads : (head0 : List ℕ) × Reindexes g (own (live_at g b0) id) id w home.h old plain home.head head0 home.f home.f
-    plain_leads = renewed g old (take g.page renamed.plain) plain (count_of g b0 (obj_id old % 0x8000)) renamed.built.copied refl old_len (own (live_at g b0) id) id w home.h home.head home.f w4 first4 alone4 index of_id at4 header4 file4 count
+    plain_leads : (head0 : List ℕ) × Reindexes g pages4 id w home.h old plain home.head head0 home.f home.f
+    plain_leads = renewed g old (take g.page renamed.plain) plain (count_of g b0 (obj_id old % 0x8000)) renamed.built.copied refl old_len pages4 id w home.h home.head home.f w4 first4 alone4 index of_id at4 header4 file4 count
 
-    plain_same : (t : ℕ) → t < data_pages g (size_of home.head) → Rattle.image_laws.specs.Reindex.now_data g (own (live_at g b0) id) home.head plain t ≡ data_page g (own (live_at g b0) id) home.head t
-    plain_same = now_same g old (take g.page renamed.plain) plain (count_of g b0 (obj_id old % 0x8000)) renamed.built.copied refl old_len (own (live_at g b0) id) id w home.h home.head home.f w4 first4 alone4 index of_id at4 header4 file4 count
+    plain_same : (t : ℕ) → t < data_pages g (size_of home.head) → Rattle.image_laws.specs.Reindex.now_data g pages4 home.head plain t ≡ data_page g pages4 home.head t
+    plain_same = now_same g old (take g.page renamed.plain) plain (count_of g b0 (obj_id old % 0x8000)) renamed.built.copied refl old_len pages4 id w home.h home.head home.f w4 first4 alone4 index of_id at4 header4 file4 count
 
-    leads : (head' : List ℕ) × Reindexes g (own (live_at g b0) id) id w home.h old new home.head head' home.f home.f
-    leads = named_leads g (own (live_at g b0) id) id w home.h old plain new home.head plain_leads.0 home.f plain_leads.1 plain_same s p copied.old copied.copy at_span data4 copy4 copied.copied.body entry others
-
-    pub ready : IsReadyPage g page 0xF8
-    ready =
-        let size : 128 ≤ g.page = big in
-        let four : slice_index page 4 ≡ 0xFA = get_or-set_same (take g.page work) 4 0xFA 0 (omega (arith, size, page_len)) in
-        let from = slot_behind g s in
-        record {
-          len = length-set (take g.page work) 4 0xFA ∙ page_len;
-          bytes = λ i within. ⊎_elim
-              (λ (here : i ≡ 4). rw here (rw four (omega arith)))
-              (λ (there : i ≡ 4 → ⊥). rw (get_or-set_other (take g.page work) 4 i 0xFA 0 there) (rw (Rattle.std.proofs.lemmas.List.get_or-take g.page work i 0 within) (renamed.small i within)))
-              (cases_eq i 4);
-          clears = rw four clears_final;
-          finished = finished-same plain new (λ i below. others.before i (omega (arith, from)))
-              ∙ finished g old (take g.page renamed.plain) plain (count_of g b0 (obj_id old % 0x8000)) renamed.built.copied refl old_len index (live_parts g b0 w old renamed.built.live).finished;
-        }
+    leads : (head' : List ℕ) × Reindexes g pages4 id w home.h old new home.head head' home.f home.f
+    leads = named_leads g pages4 id w home.h old plain new home.head plain_leads.0 home.f plain_leads.1 plain_same s p copied.old copied.copy at_span data4 copy4 copied.copied.body entry others
 
     -- the live pages of its block are index pages
     new_kind : IsOfKind g (live_at g b0) j new
@@ -316,29 +292,17 @@ module _ (g : Geometry) (a0 b0 : List ℕ) (o p j w : ℕ) (tag : Tag) (can : Ca
           same = λ q x at e. before.same q x (sym (copied.put.gains.others q (λ z. can.apart (ap (λ (k : ℕ). block_of g k) (sym z) ∙ e))) ∙ at) e;
         }
 
-    pub clears : ClearsBit 7 (slice_index b0 (w * g.page + 4)) (flags_left g b0 w)
-    clears = clears_deleted (slice_index b0 (w * g.page + 4)) renamed.built.flags (set_in g b0 w old renamed.built.live)
-
-    start : Recopies g b0 j w id home.h old page home.head leads.0 0xF8 (flags_left g b0 w) home.f home.f
-    start = record {
-      image = copied.put.image;
-      undamaged = copied.tidy.undamaged;
-      free = copied.free j (λ e. can.apart (sym e)) can.index_free;
-      ready = ready;
-      kind = new_kind;
-      pages = leads.1;
-      clears = clears;
-    }
-
-    pub magics : HasMagics g b0
-    magics = tidy-has_magics g b0 (λ (r : ℕ). r == p) copied.tidy
+    start : RecopiesTo g b0 j w id home.h old new home.head leads.0 home.f home.f
+    start = record { undamaged = copied.tidy.undamaged; inside = can.index_free.entry_page; kind = new_kind; pages = leads.1 }
 
     has4 : has_of g (live_at g b0) id ≡ Some (home.h, Ok home.f)
     unfolding has_of
-    has4 = found_from g (own (live_at g b0) id) id home.h home.head at4 header4 ∙ ap (λ (r : Result File Damage). Some (home.h, r)) file4
+    has4 = found_from g pages4 id home.h home.head at4 header4 ∙ ap (λ (r : Result File Damage). Some (home.h, r)) file4
 
-    same_table : put_file home.f (table_of g b0) ≡ table_of g b0
-    same_table = put-same g b0 id home.h home.f copied.tidy.undamaged has4
+    keeps_by : (c : List ℕ) → ReplaceCut g j w new b0 c → Keeps g b0 c
+    keeps_by c cut =
+        let law = recopy-cuts g b0 c j w id home.h old new home.head leads.0 home.f home.f start (tidy-has_magics g b0 (λ (r : ℕ). r == p) copied.tidy) cut in
+        keeps_same g b0 c id home.h home.f copied.tidy.undamaged has4 law.0
 
     -- the free blocks, by those since the copy was put
     cut_by : (c : List ℕ) → Keeps g b0 c → free_blocks g b0 ≤ free_blocks g c + 1 → (is_free_block g b0 (block_of g j) ≡ false → free_blocks g b0 ≤ free_blocks g c) → DataMoveCut g p j a0 c
@@ -355,164 +319,156 @@ module _ (g : Geometry) (a0 b0 : List ℕ) (o p j w : ℕ) (tag : Tag) (can : Ca
           used = λ u v. let x = one.1 u in let y = used (stays v) in omega (arith, x, y);
         }
 
-    keeps_by : (c : List ℕ) → CutOf g b0 home.f c → Keeps g b0 c
-    keeps_by c cut = record {
-      sound = cut.sound;
-      table = ⊎_elim
-          (λ (x : table_of g c ≡ table_of g b0). x)
-          (λ (x : table_of g c ≡ put_file home.f (table_of g b0)). x ∙ same_table)
-          cut.table;
+    renew_left : (c : List ℕ) → ReplaceCut g j w new b0 c → DataMoveCut g p j a0 c
+    renew_left c cut = let free = replace_free g b0 c j w new old renamed.built.live cut in cut_by c (keeps_by c cut) free.0 free.1
+
+    j_not_p : j ≢ p
+    j_not_p e = can.apart (ap (λ (k : ℕ). block_of g k) (sym e))
+
+    -- ---- the copy is put, and the old index page is killed
+
+    pub renew_puts : (1 ≤ tag.id) × (tag.id ≤ 0x7FFE) → Begins g b0 (putting j Index t work) (naming_copy o p w j tag a0)
+    renew_puts range = record {
+      needs = record {
+        free = copied.put.free j j_not_p can.index_free;
+        ready = index_ready g t work (take g.page work) placed_is page_len (λ k below. rw (get_or-take g.page work k 0 below) (renamed.small k below)) range;
+      };
+      cut = λ c put. renew_left c (inl put);
     }
 
-    module _ (b1 b2 b3 b4 b5 b6 : List ℕ) (put : Finished g j page 0xF8 b0 b1 b2 b3 b4) (kills : Kills g w (flags_left g b0 w) b4 b5 b6) where
-      pub put_law : ((c : List ℕ) → PutCut g j page 0xF8 b0 b1 b2 b3 c → PutLeaves g j new b0 c) × PutDone g j new b0 b4
-      put_law = put-changes g b0 b1 b2 b3 b4 j page 0xF8 copied.put.image start.free ready put
+    pub renew_begins : (1 ≤ tag.id) × (tag.id ≤ 0x7FFE) → Begins g b0 (putting j Index t work) (replacing o p w j tag span a0 work)
+    renew_begins range = let puts = renew_puts range in record { needs = puts.needs; cut = puts.cut }
 
-      there : live_at g b4 w ≡ Some old
-      there = live4 g b0 j w id home.h old page home.head leads.0 0xF8 (flags_left g b0 w) home.f home.f start b4 put_law.1.gains
+    pub renew_kills : (c : List ℕ) → PutDone g j new b0 c → Finishes g b0 c (killing w) (replacing o p w j tag span a0 work)
+    renew_kills c put = record {
+      needs = record {
+        live = ap is_some (still_live g b0 c j w new old put renamed.built.live);
+        byte = flags_stay g b0 c j w old put.agree renamed.built.live (not_put g b0 c j w new old put renamed.built.live) renamed.built.flags;
+      };
+      cut = λ d kill. renew_left d (inr (c, put, kill));
+      done = λ d ok kill. record { middle = c; put = put; kill = kill };
+    }
 
-      kill_law : ((c : List ℕ) → KillCut g w (flags_left g b0 w) b4 b5 c → KillLeaves g w b4 c) × KillDone g w b4 b6
-      kill_law = kill-changes g b4 b5 b6 w (flags_left g b0 w) old put_law.1.image there (clears4 g b0 j w id home.h old page home.head leads.0 0xF8 (flags_left g b0 w) home.f home.f start b4 put_law.1) kills
+    -- ---- then the data page is spare
 
-      pub placing_left : (c : List ℕ) → PutCut g j page 0xF8 b0 b1 b2 b3 c → DataMoveCut g p j a0 c
-      placing_left c cut =
-          let law = recopy-is_sound g b0 b1 b2 b3 b4 b5 b6 c j w id home.h old page home.head leads.0 0xF8 (flags_left g b0 w) home.f home.f start magics put kills (inl cut) in
-          let fall = free_blocks-fall g b0 c j (put_law.0 c cut).agree in
-          cut_by c (keeps_by c law.0) fall.0 fall.1
+    names_copy : Renamed g pages4 home.head old new (λ r. r == p) (λ r. r == o)
+    names_copy = record {
+      named = λ r e.
+          let here : r ≡ p = eqb-true r p e in
+          (s, entry0.0, at_span, entry ∙ sym here, ap (λ (k : ℕ). is_some (data_of (pages4 k) s)) here ∙ ap is_some copy4);
+      left = λ t below at. ⊎_elim
+          (λ (here : t ≡ s).
+          let slot : entry_number g pages4 home.head s ≡ option_map (λ (l : List ℕ). slot_word g l s) (option_and_then pages4 (index_page g pages4 (index_span g s))) =
+          entry-slot g pages4 home.h home.head s at4 header4 in
+          let found : option_and_then pages4 (index_page g pages4 (index_span g s)) ≡ Some old = rw at_span (rw first4 w4) in
+          let word : slot_word g old s ≡ o = some_in _ (λ (l : List ℕ). slot_word g l s) o (sym slot ∙ entry4) old found in
+          inr (rw here (eq-eqb (slot_word g old s) o word)))
+          (λ (differ : t ≡ s → ⊥).
+          inl (other_word g pages4 id w home.h old plain new home.head plain_leads.0 home.f plain_leads.1 plain_same s p copied.old copied.copy at_span data4 copy4 copied.copied.body entry others t differ at
+          ∙ slot_same g old (take g.page renamed.plain) plain (count_of g b0 (obj_id old % 0x8000)) renamed.built.copied refl old_len t (omega (arith, below, count)) at))
+          (cases_eq t s);
+    }
 
-      -- the free blocks after any change of the old index page
-      free_after : (c : List ℕ) → Agree g b4 c w → (free_blocks g b0 ≤ free_blocks g c + 1) × (is_free_block g b0 (block_of g j) ≡ false → free_blocks g b0 ≤ free_blocks g c)
-      free_after c agree =
-          let one = free_blocks-fall g b0 b4 j put_law.1.agree in
-          let two : free_blocks g b4 ≤ free_blocks g c = (free_blocks-fall g b4 c w agree).1 (used-is_not_free g b4 w (live_parts g b4 w old there).entry_page (live-used g b4 w old there)) in
-          (let first = one.0 in omega arith, λ used. let same = one.1 used in omega arith)
+    live_o : live_at g b0 o ≡ Some copied.old
+    live_o = still_live g a0 b0 p o copied.copy copied.old copied.put copied.was_live
 
-      keeps_kill : (c : List ℕ) → KillCut g w (flags_left g b0 w) b4 b5 c → Keeps g b0 c
-      keeps_kill c cut = keeps_by c (recopy-is_sound g b0 b1 b2 b3 b4 b5 b6 c j w id home.h old page home.head leads.0 0xF8 (flags_left g b0 w) home.f home.f start magics put kills (inr cut)).0
+    module _ (b6 : List ℕ) (all : Replaced g j w new b0 b6) where
+      abbrev pages6 : Live
+      pages6 = own (live_at g b6) id
 
-      pub killing_left : (c : List ℕ) → KillCut g w (flags_left g b0 w) b4 b5 c → DataMoveCut g p j a0 c
-      killing_left c cut = let free = free_after c (kill_law.0 c cut).agree in cut_by c (keeps_kill c cut) free.0 free.1
-
-      -- ---- then the data page is spare
+      -- the one page that is left over
+      abbrev spares : ℕ → Bool
+      spares r = (r == o) && leftover g pages6 leads.0 r
 
       keeps6 : Keeps g b0 b6
-      keeps6 = keeps_kill b6 (inr (torn_from _ _ _ _ kills.clear))
-
-      names_copy : Renamed g (own (live_at g b0) id) home.head old new (λ r. r == p) (λ r. r == o)
-      names_copy = record {
-        named = λ r e.
-            let here : r ≡ p = eqb-true r p e in
-            (s, entry0.0, at_span, entry ∙ sym here, ap (λ (k : ℕ). is_some (data_of (own (live_at g b0) id k) s)) here ∙ ap is_some copy4);
-        left = λ t below at. ⊎_elim
-            (λ (here : t ≡ s).
-            let slot : entry_number g (own (live_at g b0) id) home.head s ≡ option_map (λ (l : List ℕ). slot_word g l s) (option_and_then (own (live_at g b0) id) (index_page g (own (live_at g b0) id) (index_span g s))) =
-            entry-slot g (own (live_at g b0) id) home.h home.head s at4 header4 in
-            let number : entry_number g (own (live_at g b0) id) home.head s ≡ Some o =
-            beside-entry g p home.h id copied.copy home.head home.f (own (live_at g a0) id) (own (live_at g b0) id) gains copied.copied.data_kind home.at home.header home.file home.head s ∙ entry0.1 in
-            let found : option_and_then (own (live_at g b0) id) (index_page g (own (live_at g b0) id) (index_span g s)) ≡ Some old = rw at_span (rw first4 w4) in
-            let word : slot_word g old s ≡ o = some_in _ (λ (l : List ℕ). slot_word g l s) o (sym slot ∙ number) old found in
-            inr (rw here (eq-eqb (slot_word g old s) o word)))
-            (λ (differ : t ≡ s → ⊥).
-            inl (other_word g (own (live_at g b0) id) id w home.h old plain new home.head plain_leads.0 home.f plain_leads.1 plain_same s p copied.old copied.copy at_span data4 copy4 copied.copied.body entry others t differ at
-            ∙ slot_same g old (take g.page renamed.plain) plain (count_of g b0 (obj_id old % 0x8000)) renamed.built.copied refl old_len t (omega (arith, below, count)) at))
-            (cases_eq t s);
-      }
-
-      tidied : Spares g (λ r. (r == o) && leftover g (own (live_at g b6) id) leads.0 r) b6 × (table_of g b6 ≡ put_file home.f (table_of g b0))
-      tidied = recopy-tidies g b0 b1 b2 b3 b4 b5 b6 j w id home.h old page home.head leads.0 0xF8 (flags_left g b0 w) home.f home.f (λ (r : ℕ). r == p) (λ (r : ℕ). r == o) start put kills copied.tidy names_copy
+      keeps6 = keeps_by b6 (replace_left all)
 
       o_not_j : o ≢ j
-      o_not_j e = none-some copied.old (sym put_law.1.gains.before ∙ ap (live_at g b0) (sym e) ∙ copied.put.gains.others o o_not_p ∙ copied.was_live)
+      o_not_j = not_put g b0 all.middle j o new copied.old all.put live_o
 
-      live_o : live_at g b6 o ≡ Some copied.old
-      live_o = kill_law.1.loses.others o o_not_w ∙ put_law.1.gains.others o o_not_j ∙ copied.put.gains.others o o_not_p ∙ copied.was_live
+      live6 : live_at g b6 o ≡ Some copied.old
+      live6 = all.kill.loses.others o o_not_w ∙ still_live g b0 all.middle j o new copied.old all.put live_o
 
-      own_o : own (live_at g b6) id o ≡ Some copied.old
-      own_o = own_of (live_at g b6) o copied.old live_o
+      own_o : pages6 o ≡ Some copied.old
+      own_o = own_of (live_at g b6) o copied.old live6
 
-      unserved : serves g (own (live_at g b6) id) leads.0 o ≡ false
+      unserved : serves g pages6 leads.0 o ≡ false
       unserved =
           ⊎_elim
-          (λ (yes : serves g (own (live_at g b6) id) leads.0 o ≡ true).
-          let x = serves_data g (own (live_at g b6) id) leads.0 copied.old o own_o kind yes in
-          let gains4 = mine4 g b0 j w id home.h old page home.head leads.0 0xF8 (flags_left g b0 w) home.f home.f start b4 put_law.1.gains in
-          let loses6 = mine5 g b0 j w id home.h old page home.head leads.0 0xF8 (flags_left g b0 w) home.f home.f start b4 put_law.1.gains b6 kill_law.1.loses in
-          let now : entry_number g (own (live_at g b6) id) leads.0 s ≡ Some (slot_word g new s) =
-          entry3_here g (own (live_at g b0) id) (own (live_at g b4) id) (own (live_at g b6) id) id w j home.h old new home.head leads.0 home.f home.f leads.1 (page_number g j can.index_free.entry_page) gains4 loses6 s at_span in
+          (λ (yes : serves g pages6 leads.0 o ≡ true).
+          let x = serves_data g pages6 leads.0 copied.old o own_o kind yes in
+          let gains4 = mine4 g b0 j w id home.h old new home.head leads.0 home.f home.f start all.middle all.put.gains in
+          let loses6 = mine5 g b0 j w id home.h old new home.head leads.0 home.f home.f start all.middle all.put.gains b6 all.kill.loses in
+          let now : entry_number g pages6 leads.0 s ≡ Some (slot_word g new s) =
+          entry3_here g pages4 (own (live_at g all.middle) id) pages6 id w j home.h old new home.head leads.0 home.f home.f leads.1 (page_number g j can.index_free.entry_page) gains4 loses6 s at_span in
           absurd (o_not_p (same_Some o p (sym x.1 ∙ now ∙ ap (λ (n : ℕ). Some n) entry))))
-          (λ (no : serves g (own (live_at g b6) id) leads.0 o ≡ false). no)
-          (cases_Bool (serves g (own (live_at g b6) id) leads.0 o))
+          (λ (no : serves g pages6 leads.0 o ≡ false). no)
+          (cases_Bool (serves g pages6 leads.0 o))
 
-      spare : ((o == o) && leftover g (own (live_at g b6) id) leads.0 o) ≡ true
+      spare : spares o ≡ true
       unfolding leftover
       spare = rw (eq-eqb o o refl) (rw own_o (rw unserved refl))
 
-      small6 : slice_index b6 (o * g.page + 4) < 256
-      small6 =
-          let size : 128 ≤ g.page = big in
-          let near : 4 < g.page = omega arith in
-          let last = live_parts g b6 o copied.old live_o in
-          let before = live_parts g b0 o copied.old (copied.put.gains.others o o_not_p ∙ copied.was_live) in
-          let byte : slice_index b6 (o * g.page + 4) ≡ slice_index b0 (o * g.page + 4) =
-          sym (page_byte g b6 o 4 near) ∙ ap (λ (l : List ℕ). slice_index l 4) (last.bytes ∙ sym before.bytes) ∙ page_byte g b0 o 4 near in
-          rw byte copied.flags
+      kill_law : ((c : List ℕ) → KillLeaves g o b6 c → Keeps g b6 c × (free_blocks g b6 ≤ free_blocks g c))
+          × ((d : List ℕ) → KillDone g o b6 d → Keeps g b6 d × (free_blocks g b6 ≤ free_blocks g d) × Idles g (λ q. spares q && not (q == o)) d)
+      kill_law =
+          let tidied = recopy-spares g b0 b6 j w id home.h old new home.head leads.0 home.f home.f (λ (r : ℕ). r == p) (λ (r : ℕ). r == o) start all copied.tidy names_copy in
+          idle-kills g b6 o copied.old spares tidied.0 spare live6
 
-      pub clears6 : ClearsBit 7 (slice_index b6 (o * g.page + 4)) (flags_left g b6 o)
-      clears6 = clears_deleted (slice_index b6 (o * g.page + 4)) small6 (set_in g b6 o copied.old live_o)
+      last_left : (c : List ℕ) → KillLeaves g o b6 c → DataMoveCut g p j a0 c
+      last_left c cut =
+          let law = kill_law.0 c cut in
+          let before = replace_free g b0 b6 j w new old renamed.built.live (replace_left all) in
+          let first = before.0 in
+          let fewer = law.1 in
+          cut_by c (keeps-on g b0 b6 c keeps6 law.0) (omega (arith, first, fewer)) (λ used. let same = before.1 used in omega (arith, same, fewer))
 
-      module _ (b7 b8 : List ℕ) (kills' : Kills g o (flags_left g b6 o) b6 b7 b8) where
-        spare_law : ((c : List ℕ) → KillCut g o (flags_left g b6 o) b6 b7 c → Keeps g b6 c × (free_blocks g b6 ≤ free_blocks g c)) × IsImage g b8 × Keeps g b6 b8 × Spares g (λ q. ((q == o) && leftover g (own (live_at g b6) id) leads.0 q) && not (q == o)) b8
-        spare_law = spare-kills g b6 b7 b8 o (flags_left g b6 o) copied.old (λ (r : ℕ). (r == o) && leftover g (own (live_at g b6) id) leads.0 r) kill_law.1.image keeps6.sound.magics tidied.0 spare live_o clears6 kills'
+      no_spare : (r : ℕ) → (spares r && not (r == o)) ≡ true → ⊥
+      no_spare r e =
+          let v : (spares r ≡ true) × (not (r == o) ≡ true) = and_parts (spares r) (not (r == o)) e in
+          let x : ((r == o) ≡ true) × (leftover g pages6 leads.0 r ≡ true) = and_parts (r == o) (leftover g pages6 leads.0 r) v.0 in
+          let bad : false ≡ true = rw x.0 at v.1 in absurd (cc)
 
-        last_law : KillDone g o b6 b8
-        last_law = (kill-changes g b6 b7 b8 o (flags_left g b6 o) copied.old kill_law.1.image live_o clears6 kills').1
+      j_not_w : j ≢ w
+      j_not_w e = not_put g b0 all.middle j w new old all.put renamed.built.live (sym e)
 
-        pub last_left : (c : List ℕ) → KillCut g o (flags_left g b6 o) b6 b7 c → DataMoveCut g p j a0 c
-        last_left c cut =
-            let law = spare_law.0 c cut in
-            let before = free_after b6 kill_law.1.agree in
-            let first = before.0 in
-            let fewer = law.1 in
-            cut_by c (keeps-on g b0 b6 c keeps6 law.0) (omega (arith, first, fewer)) (λ used. let same = before.1 used in omega (arith, same, fewer))
+      moved_done : (b8 : List ℕ) → KillDone g o b6 b8 → MovedData g o p j a0 b8
+      moved_done b8 last =
+          let put = all.put in
+          let killed = all.kill in
+          let law = kill_law.1 b8 last in
+          record {
+            index = w;
+            old = copied.old;
+            copy = copied.copy;
+            index_copy = new;
+            cut = last_left b8 (kill_left last);
+            tidy = idles-end g b8 (λ (q : ℕ). spares q && not (q == o)) no_spare law.2;
+            table = law.0.table ∙ keeps6.table ∙ copied.keeps.table;
+            gone = last.loses.after;
+            killed = last.zero;
+            index_was = rw w_parts.0 index_was.2;
+            index_gone = last.loses.others w (λ e. o_not_w (sym e)) ∙ killed.loses.after;
+            index_killed = last.agree.entry w (live_parts g b0 w old renamed.built.live).entry_page (λ e. o_not_w (sym e)) ∙ killed.zero;
+            was_live = copied.was_live;
+            copied = copied.copied;
+            moved = last.loses.others p (λ e. o_not_p (sym e)) ∙ killed.loses.others p (λ e. w_not_p (sym e)) ∙ put.gains.others p (λ e. j_not_p (sym e)) ∙ copied.put.gains.after;
+            renewed = last.loses.others j (λ e. o_not_j (sym e)) ∙ killed.loses.others j j_not_w ∙ put.gains.after;
+            index_kind = leads.1.new_index;
+            names = entry;
+            magic = λ c. last.agree.magic c ∙ killed.agree.magic c ∙ put.agree.magic c ∙ copied.put.agree.magic c;
+            entries = λ q inside not_o not_p not_w not_j. last.agree.entry q inside not_o ∙ killed.agree.entry q inside not_w ∙ put.agree.entry q inside not_j ∙ copied.put.agree.entry q inside not_p;
+            pages = λ q inside not_o not_p not_w not_j. last.agree.page q inside not_o ∙ killed.agree.page q inside not_w ∙ put.agree.page q inside not_j ∙ copied.put.agree.page q inside not_p;
+            live = λ q not_o not_p not_w not_j. last.loses.others q not_o ∙ killed.loses.others q not_w ∙ put.gains.others q not_j ∙ copied.put.gains.others q not_p;
+          }
 
-        no_spare : (r : ℕ) → (((r == o) && leftover g (own (live_at g b6) id) leads.0 r) && not (r == o)) ≡ true → ⊥
-        no_spare r e =
-            let v : (((r == o) && leftover g (own (live_at g b6) id) leads.0 r) ≡ true) × (not (r == o) ≡ true) = and_parts ((r == o) && leftover g (own (live_at g b6) id) leads.0 r) (not (r == o)) e in
-            let x : ((r == o) ≡ true) × (leftover g (own (live_at g b6) id) leads.0 r ≡ true) = and_parts (r == o) (leftover g (own (live_at g b6) id) leads.0 r) v.0 in
-            let bad : false ≡ true = rw x.0 at v.1 in absurd (cc)
-
-        j_not_p : j ≢ p
-        j_not_p e = can.apart (ap (λ (k : ℕ). block_of g k) (sym e))
-
-        j_not_w : j ≢ w
-        j_not_w e = none-some old (sym put_law.1.gains.before ∙ ap (live_at g b0) e ∙ renamed.built.live)
-
-        pub moved_done : MovedData g o p j a0 b8
-        moved_done =
-            let put' = put_law.1 in
-            let killed = kill_law.1 in
-            let last = last_law in
-            record {
-              index = w;
-              old = copied.old;
-              copy = copied.copy;
-              index_copy = new;
-              cut = last_left b8 (inr (torn_from _ _ _ _ kills'.clear));
-              tidy = spares-end g b8 (λ (q : ℕ). ((q == o) && leftover g (own (live_at g b6) id) leads.0 q) && not (q == o)) no_spare spare_law.3;
-              table = spare_law.2.table ∙ keeps6.table ∙ copied.keeps.table;
-              gone = last.loses.after;
-              killed = last.zero;
-              index_was = rw w_parts.0 index_was.2;
-              index_gone = last.loses.others w (λ e. o_not_w (sym e)) ∙ killed.loses.after;
-              index_killed = last.agree.entry w (live_parts g b4 w old there).entry_page (λ e. o_not_w (sym e)) ∙ killed.zero;
-              was_live = copied.was_live;
-              copied = copied.copied;
-              moved = last.loses.others p (λ e. o_not_p (sym e)) ∙ killed.loses.others p (λ e. w_not_p (sym e)) ∙ put'.gains.others p (λ e. j_not_p (sym e)) ∙ copied.put.gains.after;
-              renewed = last.loses.others j (λ e. o_not_j (sym e)) ∙ killed.loses.others j j_not_w ∙ put'.gains.after;
-              index_kind = leads.1.new_index;
-              names = entry;
-              magic = λ c. last.agree.magic c ∙ killed.agree.magic c ∙ put'.agree.magic c ∙ copied.put.agree.magic c;
-              entries = λ q inside not_o not_p not_w not_j. last.agree.entry q inside not_o ∙ killed.agree.entry q inside not_w ∙ put'.agree.entry q inside not_j ∙ copied.put.agree.entry q inside not_p;
-              pages = λ q inside not_o not_p not_w not_j. last.agree.page q inside not_o ∙ killed.agree.page q inside not_w ∙ put'.agree.page q inside not_j ∙ copied.put.agree.page q inside not_p;
-              live = λ q not_o not_p not_w not_j. last.loses.others q not_o ∙ killed.loses.others q not_w ∙ put'.gains.others q not_j ∙ copied.put.gains.others q not_p;
-            }
+      pub renew_ends : Finishes g b0 b6 (killing o) (naming_copy o p w j tag a0)
+      renew_ends = record {
+        needs = record {
+          live = ap is_some live6;
+          byte = flags_stay g all.middle b6 w o copied.old all.kill.agree (still_live g b0 all.middle j o new copied.old all.put live_o) o_not_w
+              (flags_stay g b0 all.middle j o copied.old all.put.agree live_o o_not_j copied.flags);
+        };
+        cut = λ d kill. last_left d kill;
+        done = λ d ok kill. moved_done d kill;
+      }

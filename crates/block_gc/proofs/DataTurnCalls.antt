@@ -11,9 +11,7 @@ use Rattle.image_model.specs.Live.{live_at}
 use Rattle.image_model.specs.Places.{block_of, is_entry_page, IsImage}
 use Rattle.image_laws.proofs.Frames.{live_parts}
 use Rattle.image_model.specs.Collect.{data_in}
-use Rattle.image_laws.proofs.Sounding.{keeps-itself, keeps-on}
-use Rattle.image_laws.proofs.SpareKill.{tidy-has_magics}
-use Rattle.image_laws.proofs.TidySteps.{tidy-is_tidy}
+use Rattle.image_laws.proofs.Sounding.{keeps-on}
 use Rattle.flash_view.specs.Places.{block_of as block_at}
 use Rattle.image_model.specs.Volume.{per_block, lookups, entries}
 use Rattle.room_laws.proofs.Emptied.{emptying_begins}
@@ -24,6 +22,7 @@ use Rattle.block_gc.specs.DataMoves.{CanMoveData, moving_with_index}
 use Rattle.block_gc.specs.DataEmptied.{HasDataPlaces, CanMoveDataOut, ArePlaces, DataTurnCut, DataTurn, DataEmptied, moving_data_out, turning_data}
 use Rattle.block_gc.proofs.DataTurns.{turn_done, no_index_at}
 use Rattle.block_gc.proofs.DataPlaces.{page_counts, cut_in}
+use Rattle.block_gc.proofs.Replacing.{tidy_keeps}
 
 -- the premise of the move
 pub can_move : (g : Geometry) (a : List ℕ) (o p j block : ℕ) → IsImage g a → CanMoveDataOut g a block o → IsFreeFor g a Data 0 (Some block) p → IsFreeFor g a Index 0 (Some (block_of g p)) j → CanMoveData g a o p j
@@ -47,7 +46,7 @@ beside_told g a to beside found is h = subst (λ (n : ℕ). FreePage g a Index 0
 -- where nothing is programmed
 pub turn_stays : (g : Geometry) (a : List ℕ) (block : ℕ) → HasDataPlaces g a block → DataTurnCut g block a a
 turn_stays g a block places = record {
-  keeps = keeps-itself g a (tidy-has_magics g a (λ (r : ℕ). false) ((tidy-is_tidy g a (λ (r : ℕ). false)).0 places.tidy));
+  keeps = tidy_keeps g a places.tidy;
   free = omega arith;
 }
 

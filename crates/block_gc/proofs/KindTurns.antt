@@ -1,8 +1,9 @@
 -- The turns of the pages of a block of either kind, and the whole cleaning.
-use Rattle.std.proofs.Common.{◌≡◌, ℕ, ◌+◌, ◌*◌, ◌<◌, ◌≤◌, List, Result, sym, subst, arith}
+use Rattle.std.proofs.Common.{◌≡◌, ℕ, ◌+◌, ◌*◌, ◌<◌, ◌≤◌, List, true, false, Result, sym, subst, arith}
 use Rattle.geometry.specs.declared.geometry.Geometry.{Geometry}
 use Rattle.image_model.specs.Volume.{per_block, lookups, entries, page_count}
-use Rattle.image_model.specs.Places.{next_count, IsImage}
+use Rattle.image_model.specs.Live.{live_at}
+use Rattle.image_model.specs.Places.{block_of, is_entry_page, next_count, IsImage}
 use Rattle.image_model.specs.Collect.{data_in}
 use Rattle.flash_view.specs.declared.kinds.Kind.{Kind}
 use Rattle.flash_view.specs.declared.kinds.Kind.TheVariants.{Index, Data}
@@ -12,13 +13,32 @@ use Rattle.flash_view.specs.declared.view.View.{View}
 use Rattle.flash_view.specs.Steps.{Step, Errors, Stepped, Begins, Finishes, acting}
 use Rattle.page_put.specs.Fresh.{Freshens, IsFresh}
 use Rattle.block_gc.specs.Cleanings.{CanCleanBlock, cleaning_block}
-use Rattle.block_gc.specs.Kinds.{KindIs, turning_of, emptying_of}
+use Rattle.block_gc.specs.Kinds.{KindIs, is_page_of, turning_of, emptying_of}
 use Rattle.block_gc.proofs.CleanedBlocks.{index_can, index_cut, index_done, data_can, data_cut, data_done}
 use Rattle.block_gc.proofs.DataCleaned.{data_places, moving_cut, freed_cut, freed_done}
 use Rattle.block_gc.proofs.Turns.{clean_stays, emptied_start, emptied_end, places_of, fresh_cut, fresh_done}
 use Rattle.block_gc.proofs.TurnCalls.{emptying_to, turn_then}
-use Rattle.block_gc.proofs.DataTurnCalls.{turn_stays}
+use Rattle.block_gc.proofs.OneTurn.{turn_passes, turn_stays as index_stays}
+use Rattle.block_gc.proofs.DataTurnCalls.{turn_stays, idle_turn}
 use Rattle.block_gc.proofs.DataTurnCalls.{emptying_to as data_emptying_to, turn_then as data_turn_then, emptied_start as data_start, emptied_end as data_end}
+
+-- ---- a turn
+
+-- where nothing is programmed
+pub turn_none : (kind : Kind) (g : Geometry) (a : List ℕ) (block page : ℕ) → (turning_of kind block page).needs g a → (turning_of kind block page).cut g a a
+turn_none Index g a block page places = index_stays g a block places
+turn_none Data g a block page places = turn_stays g a block places
+
+-- the turn of a page that is no live page of the kind
+pub turn_idle : (kind : Kind) (g : Geometry) (a : List ℕ) (block page : ℕ) → is_entry_page g page ≡ true → block_of g page ≡ block → is_page_of kind (live_at g a page) ≡ false → (turning_of kind block page).needs g a → (turning_of kind block page).done g a a tt
+turn_idle Index g a block page entry at none places = turn_passes g a block page places entry at none
+turn_idle Data g a block page entry at none places = idle_turn g a page block places none
+
+-- the turn of a page, by the kind
+pub turn_by : {N : Type 0} {nor : NorOf N} {errors : Errors StepErr} {old new : View N nor} {r : Result (Unit {0}) StepErr} (kind is : Kind) (block page : ℕ) → kind ≡ is → Stepped errors old new r (turning_of is block page) → Stepped errors old new r (turning_of kind block page)
+turn_by {nor = nor} {errors = errors} {old = old} {new = new} {r = r} kind is block page e call = subst (λ (k : Kind). Stepped {nor = nor} errors old new r (turning_of k block page)) (sym e) call
+
+-- ---- turn after turn
 
 -- the turns of the first n pages of the block
 abbrev pub emptying_first : Kind → (block n : ℕ) → Step (Unit {0})
@@ -64,7 +84,3 @@ freshens Data g first a block count is low next some can empty = record {
   cut = λ c cut. data_cut g first block can some c (freed_cut g block first a is low (data_can g first block can some) empty c cut);
   done = λ c ok fresh. data_done g first block can some low c (freed_done g block first a is low (data_can g first block can some) empty count c fresh next);
 }
-
--- the turn of a page, by the kind
-pub turn_by : {N : Type 0} {nor : NorOf N} {errors : Errors StepErr} {old new : View N nor} {r : Result (Unit {0}) StepErr} (kind is : Kind) (block page : ℕ) → kind ≡ is → Stepped errors old new r (turning_of is block page) → Stepped errors old new r (turning_of kind block page)
-turn_by {nor = nor} {errors = errors} {old = old} {new = new} {r = r} kind is block page e call = subst (λ (k : Kind). Stepped {nor = nor} errors old new r (turning_of k block page)) (sym e) call

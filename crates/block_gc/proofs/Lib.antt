@@ -2,6 +2,7 @@ pub mod Rooms
 pub mod Judged
 pub mod Firsts
 pub mod Chosen
+pub mod Replacing
 pub mod MovedIndexes
 pub mod MoveCalls
 pub mod Sums

@@ -19,9 +19,6 @@ use Rattle.image_laws.proofs.Frames.{live_parts}
 use Rattle.image_laws.proofs.FreeBlocks.{used-is_not_free}
 use Rattle.image_laws.proofs.Records.{list_any-at}
 use Rattle.image_laws.proofs.StillFree.{live-used}
-use Rattle.image_laws.proofs.Sounding.{keeps-itself}
-use Rattle.image_laws.proofs.SpareKill.{tidy-has_magics}
-use Rattle.image_laws.proofs.TidySteps.{tidy-is_tidy}
 use Rattle.flash_view.specs.declared.kinds.Kind.TheVariants.{Index}
 use Rattle.free_search.specs.Free.{IsFreeFor, HasNone}
 use Rattle.free_search.proofs.Counting.{free_is_dead}
@@ -34,6 +31,7 @@ use Rattle.page_renew.proofs.Homes.{some_index}
 use Rattle.page_renew.proofs.Renewed.{same_id}
 use Rattle.block_gc.proofs.Sums.{sum_at, count_at}
 use Rattle.block_gc.proofs.SameBlocks.{SameBlock, data_alike, kind_alike, deleted_alike, same_entries, same_takes}
+use Rattle.block_gc.proofs.Replacing.{tidy_keeps}
 
 -- the free entries for index pages of one block beside another
 abbrev pub share : Geometry → List ℕ → ℕ → ℕ → ℕ
@@ -57,7 +55,7 @@ free_takes g image c free = rw free (and_false (has_magic g image c) _)
 -- what is kept where nothing is changed
 pub turn_stays : (g : Geometry) (a : List ℕ) (block : ℕ) → HasPlaces g a block → TurnCut g block a a
 turn_stays g a block places = record {
-  keeps = keeps-itself g a (tidy-has_magics g a (λ (r : ℕ). false) ((tidy-is_tidy g a (λ (r : ℕ). false)).0 places.tidy));
+  keeps = tidy_keeps g a places.tidy;
   free = omega arith;
   enough = λ enough. omega arith;
 }

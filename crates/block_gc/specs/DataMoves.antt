@@ -65,7 +65,6 @@ pub record CopiedData (g : Geometry) (page to : ℕ) (was now : List ℕ) : Type
   pub put : PutDone g to copy was now
   pub keeps : Keeps g was now
   pub tidy : IsTidyBut g now (λ p. p == to)
-  pub free : (p : ℕ) → block_of g p ≢ block_of g to → IsFreePage g was p → IsFreePage g now p
   pub flags : slice_index now (page * g.page + 4) < 256
 
 -- A cut keeps the image, and takes at most the blocks of `to` and `index_to` from the free blocks, and each only if it was free.

@@ -1,5 +1,6 @@
 -- The emptying of a block by the kind of its live pages.
-use Rattle.std.specs.Prelude.{◌≡◌, ℕ, ◌<◌}
+use Rattle.std.specs.Prelude.{◌≡◌, ℕ, ◌<◌, List, Option, Bool}
+use Rattle.image_model.specs.Kinds.{is_index_page, is_data_page}
 use Rattle.flash_view.specs.declared.kinds.Kind.{Kind}
 use Rattle.flash_view.specs.declared.kinds.Kind.TheVariants.{Index, Data}
 use Rattle.flash_view.specs.Steps.{Step}
@@ -10,6 +11,11 @@ use Rattle.block_gc.specs.DataEmptied.{turning_data, emptying_of_data}
 abbrev pub KindIs : Kind → ℕ → Type 0
 KindIs Index pages = pages ≡ 0
 KindIs Data pages = 0 < pages
+
+-- it is a live page of that kind
+abbrev pub is_page_of : Kind → Option (List ℕ) → Bool
+is_page_of Index page = is_index_page page
+is_page_of Data page = is_data_page page
 
 -- ---- the steps: a page has its turn, and all have theirs
 

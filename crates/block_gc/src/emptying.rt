@@ -2,23 +2,21 @@
 ghost use Rattle.std.specs.Prelude.{◌≡◌, ◌≢◌, ◌<◌, OnErr, IfOk, ◌≤◌, IfSome, true, false};
 ghost use Rattle.nor_core.specs.Count.{Rose};
 ghost use Rattle.geometry.specs.Numbers.{page_count};
-ghost use Rattle.image_model.specs.Kinds.{is_index_page, is_data_page};
 ghost use Rattle.image_model.specs.Live.{live_at};
 ghost use Rattle.image_model.specs.Places.{block_of as the_block_of};
 ghost use Rattle.flash_view.specs.Places.{IsEntryPage};
 ghost use Rattle.flash_view.specs.Same.{OnlyLooks};
 ghost use Rattle.flash_view.specs.Steps.{Stepped, stopped};
-ghost use Rattle.block_gc.specs.Emptied.{moving_out, turning};
+ghost use Rattle.block_gc.specs.Emptied.{moving_out};
 ghost use Rattle.image_model.specs.Collect.{data_in};
-ghost use Rattle.block_gc.specs.DataEmptied.{HasDataPlaces, ArePlaces, moving_data_out, turning_data};
-ghost use Rattle.block_gc.specs.Kinds.{turning_of, emptying_of};
+ghost use Rattle.block_gc.specs.DataEmptied.{HasDataPlaces, ArePlaces, moving_data_out};
+ghost use Rattle.block_gc.specs.Kinds.{is_page_of, turning_of, emptying_of};
 
 use crate::moving::move_index;
 use crate::moving_data::move_data;
 use flash_view::{Kind, StepErr, View, block_of, entry_page};
 use free_search::free_page;
 use nor_core::{Failed, Nor, NorState};
-use page_layout::INDEX_BIT;
 use table_model::{Differ, Tag};
 
 // That no place was found for a page.
@@ -37,17 +35,20 @@ fn no_place(page: u16) -> Differ
     }
 }
 
-// Whether a page is a live index page.
+// Whether a page is a live page of that kind.
 #[tactic(auto, using(flash_view::proofs::Looking::looks_then))]
-fn is_index<N: Nor>(v: &mut View<'_, N>, page: u16) -> Result<bool, Failed>
+fn is_live<N: Nor>(v: &mut View<'_, N>, page: u16, kind: Kind) -> Result<bool, Failed>
     requires { page < page_count v.old.geometry }
     ensures cause { OnErr result (Rose (N.faults v.old.nor.now) (N.faults v.new.nor.now)) }
     ensures looks { OnlyLooks v.old v.new }
-    ensures told { N.tells v.old.nor.now → IfOk result (λ index. index ≡ is_index_page (live_at v.old.geometry (N.bytes v.old.nor.now) page)) }
+    ensures told { N.tells v.old.nor.now → IfOk result (λ yes. yes ≡ is_page_of kind (live_at v.old.geometry (N.bytes v.old.nor.now) page)) }
 {
-    Ok(match v.live_header(page)? {
-        Some(head) => head.id >= INDEX_BIT,
-        None => false,
+    let Some(head) = v.live_header(page)? else {
+        return Ok(false);
+    };
+    Ok(match kind {
+        Kind::Index => head.is_index(),
+        Kind::Data => !head.is_index(),
     })
 }
 
@@ -65,33 +66,6 @@ fn move_index_out<N: Nor>(v: &mut View<'_, N>, page: u16, block: u16) -> Result<
             Ok(()) => Ok(()),
         },
     }
-}
-
-// The turn of a page: it is moved out of its block where it is a live index page.
-fn index_turn<N: Nor>(v: &mut View<'_, N>, page: u16, block: u16) -> Result<(), StepErr>
-    requires page { IsEntryPage v.old.geometry page }
-    requires at { the_block_of v.old.geometry page ≡ block }
-    ensures { Stepped stopped v.old v.new result (turning block page) }
-{
-    match is_index(v, page) {
-        Err(Failed) => Err(StepErr::DeviceFault),
-        Ok(false) => Ok(()),
-        Ok(true) => move_index_out(v, page, block),
-    }
-}
-
-// Whether a page is a live data page.
-#[tactic(auto, using(flash_view::proofs::Looking::looks_then))]
-fn is_data<N: Nor>(v: &mut View<'_, N>, page: u16) -> Result<bool, Failed>
-    requires { page < page_count v.old.geometry }
-    ensures cause { OnErr result (Rose (N.faults v.old.nor.now) (N.faults v.new.nor.now)) }
-    ensures looks { OnlyLooks v.old v.new }
-    ensures told { N.tells v.old.nor.now → IfOk result (λ yes. yes ≡ is_data_page (live_at v.old.geometry (N.bytes v.old.nor.now) page)) }
-{
-    Ok(match v.live_header(page)? {
-        Some(head) => !head.is_index(),
-        None => false,
-    })
 }
 
 // The places of a data page of a block and of the index page that names it.
@@ -128,28 +102,19 @@ fn move_data_out<N: Nor>(v: &mut View<'_, N>, page: u16, block: u16) -> Result<(
     }
 }
 
-// The turn of a page: it is moved out of its block where it is a live data page.
-fn data_turn<N: Nor>(v: &mut View<'_, N>, page: u16, block: u16) -> Result<(), StepErr>
-    requires page { IsEntryPage v.old.geometry page }
-    requires at { the_block_of v.old.geometry page ≡ block }
-    ensures { Stepped stopped v.old v.new result (turning_data block page) }
-{
-    match is_data(v, page) {
-        Err(Failed) => Err(StepErr::DeviceFault),
-        Ok(false) => Ok(()),
-        Ok(true) => move_data_out(v, page, block),
-    }
-}
-
 // The turn of a page: it is moved out of its block where it is a live page of that kind.
 fn empty_page<N: Nor>(v: &mut View<'_, N>, page: u16, block: u16, kind: Kind) -> Result<(), StepErr>
     requires page { IsEntryPage v.old.geometry page }
     requires at { the_block_of v.old.geometry page ≡ block }
     ensures { Stepped stopped v.old v.new result (turning_of kind block page) }
 {
-    match kind {
-        Kind::Index => index_turn(v, page, block),
-        Kind::Data => data_turn(v, page, block),
+    match is_live(v, page, kind) {
+        Err(Failed) => Err(StepErr::DeviceFault),
+        Ok(false) => Ok(()),
+        Ok(true) => match kind {
+            Kind::Index => move_index_out(v, page, block),
+            Kind::Data => move_data_out(v, page, block),
+        },
     }
 }
 

@@ -14,7 +14,7 @@ ghost use Rattle.page_renew.specs.Built.{IsLoaded, IsRenamed};
 use flash_view::{Kind, View, is_entry_page};
 use nor_core::{Failed, Nor, NorState};
 use page_layout::PageHeader;
-use page_put::{finish, kill, place};
+use page_put::{kill, put_page};
 use page_renew::{build_data, build_renamed, index_span};
 use table_model::Tag;
 
@@ -60,8 +60,7 @@ fn put_data<N: Nor>(v: &mut View<'_, N>, page: u16, to: u16, tag: Tag) -> Result
     requires loaded { N.tells v.old.nor.now → IsLoaded v.old.geometry (N.bytes v.old.nor.now) page v.old.work.now }
     ensures { Stepped failed v.old v.new result (copying_data page to) }
 {
-    place(v, to, Kind::Data, tag)?;
-    finish(v, to)
+    put_page(v, to, Kind::Data, tag)
 }
 
 // Puts a copy of a data page at `to`, under its id and span.
@@ -97,8 +96,7 @@ fn put_renamed<N: Nor>(
         id: tag.id,
         span: index_span(&v.geometry, tag.span),
     };
-    place(v, index_to, Kind::Index, index_tag)?;
-    finish(v, index_to)?;
+    put_page(v, index_to, Kind::Index, index_tag)?;
     kill(v, index)?;
     kill(v, page)
 }

@@ -1,11 +1,11 @@
 -- What a header page with more bytes leads to.
-use Rattle.std.proofs.Common.{◌≡◌, ℕ, zero, suc, ◌+◌, ◌-◌, ◌*◌, ◌/◌, ◌%◌, ◌<◌, ◌≤◌, ◌⊎◌, List, ◌++◌, length, take, drop, slice_index, slice_range, true, false, ◌&&◌, Option, Some, None, Ok, ap, refl, sym, ◌∙◌, arith, ⊎_elim, inl, inr, append_assoc, append-nil}
+use Rattle.std.proofs.Common.{◌≡◌, ℕ, zero, suc, ◌+◌, ◌-◌, ◌*◌, ◌/◌, ◌%◌, ◌<◌, ◌≤◌, ◌⊎◌, List, ◌++◌, length, take, drop, slice_index, slice_range, true, false, Some, None, Ok, ap, refl, sym, ◌∙◌, arith, ⊎_elim, inl, inr, append_assoc, append-nil}
 use Rattle.std.specs.Prelude.{is_some, is_none}
-use Rattle.std.specs.List.{range_with_len, flat_map, list_any}
+use Rattle.std.specs.List.{range_with_len, flat_map}
 use Rattle.std.proofs.Math.Nat.{div-add-mod, mul-le-mul_left, mul_comm}
 use Rattle.std.proofs.Math.Seq.{take-append-add, take-add}
 use Rattle.std.proofs.lemmas.List.{take-take, take_all, drop_all, drop-take, drop-drop}
-use Rattle.std.proofs.lemmas.Bool.{cases_lt, cases_eq, and_parts, or_cases, or_left, or_right, and_from, lt-ltb, le-ltb, eq-eqb}
+use Rattle.std.proofs.lemmas.Bool.{cases_lt, cases_eq, lt-ltb, le-ltb}
 use Rattle.geometry.specs.declared.geometry.Geometry.{Geometry}
 use Rattle.geometry.specs.Numbers.{head_slots, span_slots, ceil, body}
 use Rattle.table_model.specs.Table.{File}
@@ -14,20 +14,20 @@ use Rattle.image_model.specs.Within.{sizes}
 use Rattle.image_model.specs.Headers.{size_of, name_of}
 use Rattle.image_model.specs.Live.{Live}
 use Rattle.image_model.specs.Files.{index_page, entry_number, data_of, data_page, judged, span_bytes, bytes_of, first_missing}
-use Rattle.image_model.specs.Tidy.{is_number, serves}
+use Rattle.image_model.specs.Tidy.{serves}
 use Rattle.image_laws.proofs.Serving.{ceil-mono}
 use Rattle.renew_laws.specs.Append.{Appends, AppendedLeads, AppendedIsWritten, AppendedServes}
-use Rattle.image_laws.proofs.Damaged.{any_at, any_from}
-use Rattle.image_laws.proofs.Wanted.{judged-whole, header-below}
-use Rattle.image_laws.proofs.Wants.{number-is}
-use Rattle.image_laws.proofs.Append.{find-all, some_page, data_page_is, body_length}
+use Rattle.image_laws.proofs.Wanted.{header-below}
+use Rattle.renew_laws.proofs.Spans.{entry_by_word, page_by_word, span_there}
+use Rattle.renew_laws.proofs.Serves.{serves_parts, serves_index, serves_data}
+use Rattle.image_laws.proofs.Append.{some_page, data_page_is, body_length}
 use Rattle.image_laws.proofs.Matching.{length-pieces}
 use Rattle.image_laws.proofs.Reindexed.{judged-parts, pieces-same, find_none-in}
 
 -- ---- numbers of pages
 
 -- s pages and r bytes of one more
-pages_of : (s r B : ℕ) → 0 < r → r ≤ B → ceil (B * s + r) B ≡ s + 1
+pub pages_of : (s r B : ℕ) → 0 < r → r ≤ B → ceil (B * s + r) B ≡ s + 1
 pages_of s r B some fits =
     let whole : B * ((B * s + r + B - 1) / B) + (B * s + r + B - 1) % B ≡ B * s + r + B - 1 = div-add-mod (B * s + r + B - 1) B in
     let low : (B * s + r + B - 1) % B < B = omega arith in
@@ -100,16 +100,10 @@ module _ (g : Geometry) (pages : Live) (head head' bytes z : List ℕ) (add : Ap
       (cases_eq (size_of head % body g) 0)
 
   entry_same : (t : ℕ) → t < data_pages g (size_of head) → entry_number g pages head' t ≡ entry_number g pages head t
-  unfolding entry_number
-  entry_same t below =
-      ⊎_elim
-      (λ (low : t < head_slots g). rw (lt-ltb t (head_slots g) low) (ap (λ (k : ℕ). Some k) (add.words t below low)))
-      (λ (high : head_slots g ≤ t). rw (le-ltb t (head_slots g) high) refl)
-      (cases_lt t (head_slots g))
+  entry_same t below = entry_by_word g pages head head' t (add.words t below)
 
   data_same : (t : ℕ) → t < data_pages g (size_of head) → data_page g pages head' t ≡ data_page g pages head t
-  unfolding data_page
-  data_same t below = rw (entry_same t below) refl
+  data_same t below = page_by_word g pages head head' t (add.words t below)
 
   last_named : (r : ℕ) → entry_number g pages head' (size_of head / body g) ≡ Some r → is_some (data_of (pages r) (size_of head / body g)) ≡ true
   unfolding data_page
@@ -132,35 +126,15 @@ module _ (g : Geometry) (pages : Live) (head head' bytes z : List ℕ) (add : Ap
       rw (le-ltb (head_slots g) (data_pages g (size_of head)) few) (omega (arith, some)))
       (cases_lt (head_slots g) (data_pages g (size_of head)))
 
-  serves_index : (r j : ℕ) → j < index_pages g (size_of head') → index_page g pages j ≡ Some r → serves g pages head' r ≡ true
-  unfolding serves
-  serves_index r j below e =
-      or_left _ _ (any_from (λ (i : ℕ). is_number (index_page g pages i) r) 0 (index_pages g (size_of head')) j (omega arith) (omega arith) (ap (λ (o : Option ℕ). is_number o r) e ∙ eq-eqb r r refl))
-
-  serves_data : (r t : ℕ) → t < data_pages g (size_of head') → entry_number g pages head' t ≡ Some r → is_some (data_of (pages r) t) ≡ true → serves g pages head' r ≡ true
-  unfolding serves
-  serves_data r t below e some =
-      or_right _ _ (any_from (λ (i : ℕ). is_number (entry_number g pages head' i) r && is_some (data_of (pages r) i)) 0 (data_pages g (size_of head')) t (omega arith) (omega arith)
-      (and_from _ _ (ap (λ (o : Option ℕ). is_number o r) e ∙ eq-eqb r r refl) some))
-
   serves_on : (r : ℕ) → serves g pages head r ≡ true → serves g pages head' r ≡ true
-  unfolding serves
   serves_on r e =
       ⊎_elim
-      (λ (x : list_any (λ (j : ℕ). is_number (index_page g pages j) r) (range_with_len 0 (index_pages g (size_of head))) ≡ true).
-      let w = any_at (λ (j : ℕ). is_number (index_page g pages j) r) 0 (index_pages g (size_of head)) x in
-      serves_index r w.0 (omega (arith, w.2, index_grows)) (number-is (index_page g pages w.0) r w.3))
-      (λ (x : list_any (λ (t : ℕ). is_number (entry_number g pages head t) r && is_some (data_of (pages r) t)) (range_with_len 0 (data_pages g (size_of head))) ≡ true).
-      let w = any_at (λ (t : ℕ). is_number (entry_number g pages head t) r && is_some (data_of (pages r) t)) 0 (data_pages g (size_of head)) x in
-      let v = and_parts (is_number (entry_number g pages head w.0) r) (is_some (data_of (pages r) w.0)) w.3 in
-      let below : w.0 < data_pages g (size_of head) = omega (arith, w.2) in
-      serves_data r w.0 (omega (arith, below, grows)) (entry_same w.0 below ∙ number-is (entry_number g pages head w.0) r v.0) v.1)
-      (or_cases _ _ e)
+      (λ (w : (j : ℕ) × (j < index_pages g (size_of head)) × (index_page g pages j ≡ Some r)). serves_index g pages head' r w.0 (omega (arith, w.1, index_grows)) w.2)
+      (λ (w : (t : ℕ) × (t < data_pages g (size_of head)) × (entry_number g pages head t ≡ Some r) × (is_some (data_of (pages r) t) ≡ true)).
+      serves_data g pages head' r w.0 (omega (arith, w.1, grows)) (entry_same w.0 w.1 ∙ w.2) w.3)
+      (serves_parts g pages head r e)
 
   module _ (id : ℕ) (name : List ℕ) (f0 : File) (lengths : (q : ℕ) (x : List ℕ) → pages q ≡ Some x → length x ≡ g.page) (file : judged g pages id head ≡ Ok f0) (named : name_of head' ≡ Some name) where
-    present : (t : ℕ) → t < data_pages g (size_of head) → is_none (data_page g pages head t) ≡ false
-    present t below = find-all (λ (span : ℕ). is_none (data_page g pages head span)) 0 (data_pages g (size_of head)) (judged-whole g pages id head f0 file) t (omega arith) (omega arith)
-
     below_last : (t : ℕ) → t < size_of head / body g → t < data_pages g (size_of head)
     below_last t low = ⊎_elim
         (λ (w : (size_of head % body g ≡ 0) × (data_pages g (size_of head) ≡ size_of head / body g)). omega (arith, w.1, low))
@@ -170,7 +144,7 @@ module _ (g : Geometry) (pages : Live) (head head' bytes z : List ℕ) (add : Ap
     present_now : (t : ℕ) → t < size_of head / body g + 1 → is_none (data_page g pages head' t) ≡ false
     present_now t low =
         ⊎_elim
-        (λ (x : t < size_of head / body g). let below = below_last t x in rw (data_same t below) (present t below))
+        (λ (x : t < size_of head / body g). let below = below_last t x in rw (data_same t below) (span_there g pages id head f0 file t below))
         (λ (x : size_of head / body g ≤ t). let e : t ≡ size_of head / body g = omega (arith, low, x) in rw e (rw add.page refl))
         (cases_lt t (size_of head / body g))
 
@@ -260,6 +234,6 @@ appended-is_written g pages id head head' bytes z f0 lengths file add named kind
 pub appended-serves : (g : Geometry) → AppendedServes g
 appended-serves g pages head head' bytes z add r = (
   serves_on g pages head head' bytes z add r,
-  λ e. serves_data g pages head head' bytes z add r (size_of head / body g) (let n = new_pages g pages head head' bytes z add in omega (arith, n)) e (last_named g pages head head' bytes z add r e),
-  λ j below e. serves_index g pages head head' bytes z add r j below e,
+  λ e. serves_data g pages head' r (size_of head / body g) (let n = new_pages g pages head head' bytes z add in omega (arith, n)) e (last_named g pages head head' bytes z add r e),
+  λ j below e. serves_index g pages head' r j below e,
 )

@@ -8,10 +8,9 @@ use Rattle.std.specs.List.{range_with_len, list_any}
 use Rattle.std.proofs.lemmas.Bool.{cases_eq, cases_lt, lt-ltb, le-ltb}
 use Rattle.std.proofs.lemmas.Option.{same_Some}
 use Rattle.geometry.specs.declared.geometry.Geometry.{Geometry}
-use Rattle.image_model.specs.Within.{sizes}
+use Rattle.image_model.specs.Within.{sizes, Sizes, page_length}
 use Rattle.image_model.specs.declared.damage.Damage.{Damage}
 use Rattle.nor_core.specs.Flash.{SameOutside}
-use Rattle.image_model.specs.Within.{Sizes, page_length}
 use Rattle.image_model.specs.Volume.{page_count}
 use Rattle.geometry.specs.Numbers.{head_slots, span_slots}
 use Rattle.table_model.specs.Room.{data_pages, index_pages}
@@ -138,14 +137,14 @@ slot-apart g s t pos less same =
     (cases_lt s (head_slots g)))
     (cases_lt t (head_slots g))
 
-slot_word-at : (g : Geometry) (page : List ℕ) (t : ℕ) → slot_word g page t ≡ word_at page (slot_at g t)
+pub slot_word-at : (g : Geometry) (page : List ℕ) (t : ℕ) → slot_word g page t ≡ word_at page (slot_at g t)
 slot_word-at g page t =
     ⊎_elim
     (λ (low : t < head_slots g). rw (lt-ltb t (head_slots g) low) refl)
     (λ (high : head_slots g ≤ t). rw (le-ltb t (head_slots g) high) refl)
     (cases_lt t (head_slots g))
 
-slot-fits : (g : Geometry) (t : ℕ) → 128 ≤ g.page → slot_at g t + 2 ≤ g.page
+pub slot-fits : (g : Geometry) (t : ℕ) → 128 ≤ g.page → slot_at g t + 2 ≤ g.page
 slot-fits g t big =
     ⊎_elim
     (λ (low : t < head_slots g). rw (lt-ltb t (head_slots g) low) (omega arith))
@@ -249,9 +248,9 @@ module _ (g : Geometry) (a b : List ℕ) (p h t id : ℕ) (x head : List ℕ) (i
   found_mine = found-in_place g p h id x (page_of g b p) head (own (live_at g a) id) (own (live_at g b) id) mine (own-some (live_at g b) id p (page_of g b p) now of)
       (λ r there. own-live (live_at g a) (live_at g b) id r (other r there)) index (index-same x (page_of g b p) front ∙ index) (span-same x (page_of g b p) front) at header words fields
 
-  has : has_of g (live_at g b) ≡ has_of g (live_at g a)
+  pub entry_has : has_of g (live_at g b) ≡ has_of g (live_at g a)
   unfolding has_of
-  has = fun_ext (λ (j : ℕ). ⊎_elim
+  entry_has = fun_ext (λ (j : ℕ). ⊎_elim
       (λ (e : id ≡ j). subst (λ (k : ℕ). found g (own (live_at g b) k) k ≡ found g (own (live_at g a) k) k) e found_mine)
       (λ (differ : id ≡ j → ⊥). ap (λ (pages : Live). found g pages j)
       (fun_ext (λ (q : ℕ). ⊎_elim
@@ -260,15 +259,28 @@ module _ (g : Geometry) (a b : List ℕ) (p h t id : ℕ) (x head : List ℕ) (i
       (cases_eq q p))))
       (cases_eq id j))
 
+  -- the page is there, and so are all others and each index page in its place
+  pub entry_now : own (live_at g b) id p ≡ Some (page_of g b p)
+  entry_now = own-some (live_at g b) id p (page_of g b p) now of
+
+  pub entry_others : (r : ℕ) → r ≢ p → own (live_at g b) id r ≡ own (live_at g a) id r
+  entry_others r there = own-live (live_at g a) (live_at g b) id r (other r there)
+
+  pub entry_index : (j : ℕ) → index_page g (own (live_at g b) id) j ≡ index_page g (own (live_at g a) id) j
+  entry_index =
+      index_same g p h id x (page_of g b p) head (own (live_at g a) id) (own (live_at g b) id) mine entry_now entry_others index (index-same x (page_of g b p) front ∙ index) (span-same x (page_of g b p) front) at header words fields
+
+  pub entry_span : span_of (page_of g b p) ≡ span_of x
+  entry_span = span-same x (page_of g b p) front
+
+  pub entry_wide : SameOutside (p * g.page) g.page a b
+  entry_wide = wide
+
   pub stays_tidy : (spare : ℕ → Bool) → IsTidyBut g a spare → IsTidyBut g b spare × (table_of g b ≡ table_of g a)
   stays_tidy spare t =
-      let others : (r : ℕ) → r ≢ p → own (live_at g b) id r ≡ own (live_at g a) id r = λ r there. own-live (live_at g a) (live_at g b) id r (other r there) in
-      let mine_now : own (live_at g b) id p ≡ Some (page_of g b p) = own-some (live_at g b) id p (page_of g b p) now of in
       let kind : names_index (page_of g b p) ≡ names_index x = index-same x (page_of g b p) front in
-      let w = header-in_place g p h id x (page_of g b p) head (own (live_at g a) id) (own (live_at g b) id) mine mine_now others index (kind ∙ index) (span-same x (page_of g b p) front) at header words fields in
-      let first : index_page g (own (live_at g b) id) 0 ≡ Some h =
-      index_same g p h id x (page_of g b p) head (own (live_at g a) id) (own (live_at g b) id) mine mine_now others index (kind ∙ index) (span-same x (page_of g b p) front) at header words fields 0 ∙ at in
-      stays-tidy g a b p id h x (page_of g b p) head w.0 wide mine mine_now kind at header first w.1 has w.2 spare t
+      let w = header-in_place g p h id x (page_of g b p) head (own (live_at g a) id) (own (live_at g b) id) mine entry_now entry_others index (kind ∙ index) (span-same x (page_of g b p) front) at header words fields in
+      stays-tidy g a b p id h x (page_of g b p) head w.0 wide mine entry_now kind at header (entry_index 0 ∙ at) w.1 entry_has w.2 spare t
 
   back : (q : ℕ) (z : List ℕ) → live_at g b q ≡ Some z → (w : List ℕ) × (live_at g a q ≡ Some w) × (names_index w ≡ names_index z)
   back q z e =
@@ -288,8 +300,8 @@ module _ (g : Geometry) (a b : List ℕ) (p h t id : ℕ) (x head : List ℕ) (i
   keeps : HasMagics g a → Keeps g a b
   unfolding table_of damaged_of
   keeps m = record {
-    sound = sound-by g a b m (magic-same_page g geo a b p parts.entry_page wide) mixed (ap (λ (l : Found). damages l 0x7FFF) has);
-    table = ap (λ (l : Found). records l 0x7FFF) has;
+    sound = sound-by g a b m (magic-same_page g geo a b p parts.entry_page wide) mixed (ap (λ (l : Found). damages l 0x7FFF) entry_has);
+    table = ap (λ (l : Found). records l 0x7FFF) entry_has;
   }
 
 pub entry-in_place : (g : Geometry) → EntryInPlaceKeeps g

@@ -1,27 +1,23 @@
 -- What a renewed page leads to.
-use Rattle.std.proofs.Common.{◌≡◌, ℕ, zero, suc, ◌+◌, ◌<◌, ◌≤◌, List, [], set, take, slice_index, slice_range, Bool, true, false, not, ◌==◌, ◌&&◌, ◌||◌, Some, None, Ok, ap, refl, ◌∙◌, arith, ⊎_elim}
+use Rattle.std.proofs.Common.{◌≡◌, ℕ, zero, suc, ◌+◌, ◌<◌, ◌≤◌, List, [], take, slice_index, slice_range, Bool, true, false, not, ◌&&◌, ◌||◌, Some, None, Ok, ap, refl, ◌∙◌, arith}
 use Rattle.std.specs.Prelude.{is_some, is_none, unwrap_or}
 use Rattle.std.specs.List.{range_with_len, list_any}
-use Rattle.std.proofs.lemmas.Bool.{cases_lt, and_parts, lt-ltb, le-ltb}
+use Rattle.std.proofs.lemmas.Bool.{and_parts}
 use Rattle.geometry.specs.declared.geometry.Geometry.{Geometry}
-use Rattle.geometry.specs.Numbers.{head_slots}
 use Rattle.table_model.specs.Room.{data_pages, index_pages}
-use Rattle.image_model.specs.Live.{live_at, Live, own}
+use Rattle.image_model.specs.Live.{Live}
 use Rattle.table_model.specs.Table.{File}
 use Rattle.image_model.specs.Files.{index_page, entry_number, data_of, data_page, judged, span_bytes, bytes_of, first_missing}
 use Rattle.image_model.specs.Headers.{size_of, name_of}
 use Rattle.image_model.specs.Tidy.{is_number, serves}
 use Rattle.image_laws.specs.Reindex.{now_data, now_bytes}
 use Rattle.image_laws.specs.Spares.{leftover}
-use Rattle.renew_laws.specs.Leads.{CopiesSame, SameSpans, RenamedLeads, RenameTidies}
+use Rattle.renew_laws.specs.Leads.{CopiesSame, SameSpans, RenamedLeads}
 use Rattle.image_laws.proofs.Judge.{find-range}
 use Rattle.image_laws.proofs.Wanted.{judged-whole}
 use Rattle.image_laws.proofs.Reindexed.{judged-parts, pieces-same}
-use Rattle.image_laws.proofs.Tally.{served}
-use Rattle.renew_laws.proofs.RenewStep.{renew-leaves}
 use Rattle.image_laws.proofs.Append.{page_there}
-use Rattle.image_laws.proofs.SpareKill.{spares-end}
-use Rattle.image_laws.proofs.TidySteps.{tidy-is_tidy}
+use Rattle.renew_laws.proofs.Spans.{entry_by_word, page_by_word}
 
 file-bytes : (g : Geometry) (pages : Live) (id : ℕ) (head : List ℕ) (f0 : File) → judged g pages id head ≡ Ok f0 → bytes_of g pages head ≡ f0.bytes
 file-bytes g pages id head f0 file = let w = judged-parts g pages id head f0 file in ap (λ (f : File). f.bytes) w.2
@@ -40,16 +36,10 @@ any-range f now a (suc n) same = rw (same a (omega arith) (omega arith)) (ap (λ
 
 module _ (g : Geometry) (pages : Live) (head head' : List ℕ) (spans : SameSpans g head head') where
   entry_same : (t : ℕ) → t < data_pages g (size_of head) → entry_number g pages head' t ≡ entry_number g pages head t
-  unfolding entry_number
-  entry_same t below =
-      ⊎_elim
-      (λ (low : t < head_slots g). rw (lt-ltb t (head_slots g) low) (ap (λ (k : ℕ). Some k) (spans.words t below low)))
-      (λ (high : head_slots g ≤ t). rw (le-ltb t (head_slots g) high) refl)
-      (cases_lt t (head_slots g))
+  entry_same t below = entry_by_word g pages head head' t (spans.words t below)
 
   data_same : (t : ℕ) → t < data_pages g (size_of head) → data_page g pages head' t ≡ data_page g pages head t
-  unfolding data_page
-  data_same t below = rw (entry_same t below) refl
+  data_same t below = page_by_word g pages head head' t (spans.words t below)
 
   pub serves-renamed : (r : ℕ) → serves g pages head' r ≡ serves g pages head r
   unfolding serves
@@ -87,15 +77,3 @@ no_leftover g pages head r all e =
     let x = page_there (pages r) v.0 in
     let s = all x.0 x.1 in
     let bad : false ≡ true = rw s at v.1 in absurd (cc)
-
-pub rename-tidies : (g : Geometry) → RenameTidies g
-rename-tidies g a0 a1 a2 a3 a4 a5 a6 p o id old head fin kill f0 f start at file spans all kills t =
-    let w = renew-leaves g a0 a1 a2 a3 a4 a5 a6 p o id old head fin kill f (λ (r : ℕ). false) start all kills ((tidy-is_tidy g a0 (λ (r : ℕ). false)).0 t) (λ r none. let bad : false ≡ true = none in absurd (cc)) in (
-      spares-end g a6 (λ (r : ℕ). not (r == o) && leftover g (own (live_at g a0) id) (set head 4 fin) r)
-          (λ r e. let v : (not (r == o) ≡ true) × (leftover g (own (live_at g a0) id) (set head 4 fin) r ≡ true) = and_parts (not (r == o)) _ e in
-          no_leftover g (own (live_at g a0) id) (set head 4 fin) r
-          (λ x k. serves-renamed g (own (live_at g a0) id) old (set head 4 fin) spans r ∙ served g a0 start.image t id o old at start.was r x k)
-          v.1)
-          w.0,
-      w.1,
-    )

@@ -5,12 +5,12 @@ use Rattle.std.proofs.lemmas.Bool.{cases_eq, cases_Bool}
 use Rattle.geometry.specs.declared.geometry.Geometry.{Geometry}
 use Rattle.image_model.specs.declared.damage.Damage.{Damage}
 use Rattle.image_model.specs.Live.{live_at, Live, own}
-use Rattle.image_model.specs.Places.{block_of, is_entry_page, IsImage}
+use Rattle.image_model.specs.Places.{block_of, is_entry_page}
 use Rattle.image_model.specs.Headers.{obj_id, names_index}
 use Rattle.table_model.specs.Table.{File, put_file}
 use Rattle.image_model.specs.Files.{index_page, found}
 use Rattle.image_model.specs.Tables.{has_of, counted, damages, table_of, damaged_of}
-use Rattle.image_model.specs.Tidy.{IsTidy, serves, is_wanted, is_wanted_as}
+use Rattle.image_model.specs.Tidy.{serves, is_wanted}
 use Rattle.image_laws.specs.TidySteps.{IsTidyBut}
 use Rattle.image_model.specs.Sound.{IsMixed}
 use Rattle.renew_laws.specs.OneId.{OneIdChanges, OneIdIsTidy}
@@ -48,7 +48,7 @@ unmixed-from g live none p q x y e f at =
     (cases_Bool (names_index y)))
     (cases_Bool (names_index x))
 
-module _ (g : Geometry) (a b : List ℕ) (id k : ℕ) (head : List ℕ) (f : File) (before touched spare : ℕ → Bool) (is : IsImage g a) (t : IsTidyBut g a before) (inside : (r : ℕ) → before r ≡ true → touched r ≡ true) (change : OneIdChanges g id k head f touched spare a b) where
+module _ (g : Geometry) (a b : List ℕ) (id k : ℕ) (head : List ℕ) (f : File) (before touched spare : ℕ → Bool) (t : IsTidyBut g a before) (inside : (r : ℕ) → before r ≡ true → touched r ≡ true) (change : OneIdChanges g id k head f touched spare a b) where
   has_now : has_of g (live_at g b) id ≡ Some (k, Ok f)
   unfolding has_of
   has_now = found_from g (own (live_at g b) id) id k head change.at change.header ∙ ap (λ (r : Result File Damage). Some (k, r)) change.file
@@ -155,10 +155,10 @@ module _ (g : Geometry) (a b : List ℕ) (id k : ℕ) (head : List ℕ) (f : Fil
   )
 
 -- what is spare is unwanted where it does not serve
-module _ (g : Geometry) (a b : List ℕ) (id k : ℕ) (head : List ℕ) (f : File) (before touched spare : ℕ → Bool) (is : IsImage g a) (t : IsTidyBut g a before) (inside : (r : ℕ) → before r ≡ true → touched r ≡ true) (change : OneIdChanges g id k head f touched spare a b)
+module _ (g : Geometry) (a b : List ℕ) (id k : ℕ) (head : List ℕ) (f : File) (before touched spare : ℕ → Bool) (t : IsTidyBut g a before) (inside : (r : ℕ) → before r ≡ true → touched r ≡ true) (change : OneIdChanges g id k head f touched spare a b)
     (idle : (r : ℕ) (x : List ℕ) → spare r ≡ true → live_at g b r ≡ Some x → (obj_id x % 0x8000 ≡ id) × (serves g (own (live_at g b) id) head r ≡ false)) where
   counts : is_in_table g b id ≡ true
-  counts = rw (count_new g a b id k head f before touched spare is t inside change) refl
+  counts = rw (count_new g a b id k head f before touched spare t inside change) refl
 
   unserved : (r : ℕ) (x : List ℕ) → spare r ≡ true → live_at g b r ≡ Some x → (is_wanted g b r ≡ false) × (is_in_table g b (obj_id x % 0x8000) ≡ true)
   unfolding is_wanted
@@ -172,8 +172,8 @@ module _ (g : Geometry) (a b : List ℕ) (id k : ℕ) (head : List ℕ) (f : Fil
 
   pub one_id-spares : Spares g spare b × (table_of g b ≡ put_file f (table_of g a))
   one_id-spares =
-      let w = one_id-tidy g a b id k head f before touched spare is t inside change in
+      let w = one_id-tidy g a b id k head f before touched spare t inside change in
       (record { tidy = w.0; unwanted = unserved }, w.1)
 
 pub one_id-is_tidy : (g : Geometry) → OneIdIsTidy g
-one_id-is_tidy g a b id k head f before touched spare is t inside change = one_id-tidy g a b id k head f before touched spare is t inside change
+one_id-is_tidy g a b id k head f before touched spare t inside change = one_id-tidy g a b id k head f before touched spare t inside change

@@ -1,9 +1,9 @@
 -- The pages of an id while an index page is renewed.
-use Rattle.std.proofs.Common.{◌≡◌, ◌≢◌, ℕ, ◌<◌, ◌≤◌, ◌⊎◌, List, Bool, true, false, ◌&&◌, Option, Some, None, Result, Ok, ap, refl, sym, ◌∙◌, arith, ⊎_elim, subst, inl, inr}
+use Rattle.std.proofs.Common.{◌≡◌, ◌≢◌, ℕ, ◌<◌, ◌≤◌, ◌⊎◌, List, Bool, true, false, Option, Some, None, Result, Ok, ap, refl, sym, ◌∙◌, arith, ⊎_elim, subst, inl, inr}
 use Rattle.std.proofs.Math.Path.{fun_ext}
 use Rattle.std.specs.Prelude.{is_some, option_and_then, find}
-use Rattle.std.specs.List.{range_with_len, list_any}
-use Rattle.std.proofs.lemmas.Bool.{cases_eq, cases_lt, and_parts, or_cases, or_right, eq-eqb, ne_eqb, false_from_ne_true}
+use Rattle.std.specs.List.{range_with_len}
+use Rattle.std.proofs.lemmas.Bool.{cases_eq, cases_lt, eq-eqb, ne_eqb, false_from_ne_true}
 use Rattle.std.proofs.lemmas.Option.{none-some, same_Some}
 use Rattle.geometry.specs.declared.geometry.Geometry.{Geometry}
 use Rattle.image_model.specs.declared.damage.Damage.{Damage}
@@ -14,13 +14,12 @@ use Rattle.image_laws.specs.Changes.{Gains, Loses}
 use Rattle.image_model.specs.Live.{Live}
 use Rattle.table_model.specs.Table.{File}
 use Rattle.image_model.specs.Files.{is_index, index_page, entry_number, data_of, data_page, judged, found}
-use Rattle.image_model.specs.Tidy.{is_number, serves}
+use Rattle.image_model.specs.Tidy.{serves}
 use Rattle.image_laws.specs.Reindex.{Reindexes, index_span, slot_word, now_data, now_bytes}
 use Rattle.image_laws.proofs.Tables.{find_only, find_gains}
 use Rattle.image_laws.proofs.Judge.{index_passes, found_from}
 use Rattle.image_laws.proofs.Doubled.{index-span_is}
-use Rattle.image_laws.proofs.Damaged.{any_at, any_from}
-use Rattle.image_laws.proofs.Wants.{number-is}
+use Rattle.renew_laws.proofs.Serves.{serves_parts, serves_index, serves_data}
 use Rattle.image_laws.proofs.Reindexed.{Alikes, judged-like, judged-reads, entry-slot}
 
 module _ (g : Geometry) (one two three : Live) (id w v h : ℕ) (old new head head' : List ℕ) (f0 f : File) (start : Reindexes g one id w h old new head head' f0 f)
@@ -101,10 +100,10 @@ module _ (g : Geometry) (one two three : Live) (id w v h : ℕ) (old new head he
       (λ (gone : r ≡ w). let a : is_index (Some old) j ≡ true = rw start.was at (subst (λ (k : ℕ). is_index (one k) j ≡ true) gone (index_passes g one j r e)) in differ (index-span_is old j a))
       (λ (copy : r ≡ v). first_not j (e ∙ ap (λ (x : ℕ). Some x) copy))
 
-  bytes3 : option_and_then three (index_page g three (span_of old)) ≡ Some new
+  pub bytes3 : option_and_then three (index_page g three (span_of old)) ≡ Some new
   bytes3 = rw span3 three_v
 
-  bytes3_other : (j : ℕ) → span_of old ≢ j → option_and_then three (index_page g three j) ≡ option_and_then one (index_page g one j)
+  pub bytes3_other : (j : ℕ) → span_of old ≢ j → option_and_then three (index_page g three j) ≡ option_and_then one (index_page g one j)
   bytes3_other j differ = rw (span3_other j differ) (three_bytes j differ (index_page g one j) refl)
 
   bytes2_other : (j : ℕ) → span_of old ≢ j → option_and_then two (index_page g two j) ≡ option_and_then one (index_page g one j)
@@ -169,9 +168,9 @@ module _ (g : Geometry) (one two three : Live) (id w v h : ℕ) (old new head he
   pub entry3_other : (t : ℕ) → index_span g t ≢ span_of old → entry_number g three head' t ≡ entry_number g one head t
   entry3_other t differ = entry-slot g three head3.0 head' t head3.1 head3.2 ∙ (rw (bytes3_other (index_span g t) (λ e. differ (sym e))) refl) ∙ sym (entry-slot g one h head t start.at start.header)
 
-  reads : (t : ℕ) → data_page g three head' t ≡ now_data g one head new t
+  pub reads3 : (t : ℕ) → data_page g three head' t ≡ now_data g one head new t
   unfolding data_page now_data
-  reads t =
+  reads3 t =
       ⊎_elim
       (λ (here : index_span g t ≡ span_of old). rw (eq-eqb (index_span g t) (span_of new) (here ∙ sym start.new_span)) (rw (entry3_here t here) (data3 t (slot_word g new t))))
       (λ (there : index_span g t ≡ span_of old → ⊥). rw (ne_eqb (index_span g t) (span_of new) (λ e. there (e ∙ start.new_span)))
@@ -180,7 +179,7 @@ module _ (g : Geometry) (one two three : Live) (id w v h : ℕ) (old new head he
 
   pub judged3 : judged g three id head' ≡ Ok f
   unfolding now_bytes
-  judged3 = judged-reads g one three id head head' f0 (now_data g one head new) start.file start.size start.name start.kind start.meta (λ t below. reads t) start.whole
+  judged3 = judged-reads g one three id head head' f0 (now_data g one head new) start.file start.size start.name start.kind start.meta (λ t below. reads3 t) start.whole
       ∙ ap (λ (x : File). Ok x) (sym start.result)
 
   pub found3 : found g three id ≡ Some (head3.0, Ok f)
@@ -218,36 +217,15 @@ module _ (g : Geometry) (one two three : Live) (id w v h : ℕ) (old new head he
 
   -- ---- what serves
 
-  serves_index : (j r : ℕ) → j < index_pages g (size_of head) → index_page g three j ≡ Some r → serves g three head' r ≡ true
-  unfolding serves
-  serves_index j r below e =
-      let any : list_any (λ (j : ℕ). is_number (index_page g three j) r) (range_with_len 0 (index_pages g (size_of head'))) ≡ true =
-      any_from (λ (j : ℕ). is_number (index_page g three j) r) 0 (index_pages g (size_of head')) j (omega arith) (rw start.size (omega arith)) (rw e (eq-eqb r r refl)) in
-      rw any refl
+  serves_as : (t r : ℕ) → t < data_pages g (size_of head) → entry_number g three head' t ≡ Some r → is_some (data_of (one r) t) ≡ true → serves g three head' r ≡ true
+  serves_as t r below e there = serves_data g three head' r t (rw start.size below) e (rw (data3 t r) there)
 
-  serves_data : (t r : ℕ) → t < data_pages g (size_of head) → entry_number g three head' t ≡ Some r → is_some (data_of (one r) t) ≡ true → serves g three head' r ≡ true
-  unfolding serves
-  serves_data t r below e there =
-      or_right _ _ (any_from (λ (t : ℕ). is_number (entry_number g three head' t) r && is_some (data_of (three r) t)) 0 (data_pages g (size_of head')) t (omega arith) (rw start.size (omega arith))
-      (rw e (rw (eq-eqb r r refl) (rw (data3 t r) there))))
+  serves_at : (j r : ℕ) → j < index_pages g (size_of head) → index_page g three j ≡ Some r → serves g three head' r ≡ true
+  serves_at j r below e = serves_index g three head' r j (rw start.size below) e
 
   -- a copy that the new index page names
   pub serves_named : (t r : ℕ) → t < data_pages g (size_of head) → index_span g t ≡ span_of old → slot_word g new t ≡ r → is_some (data_of (one r) t) ≡ true → serves g three head' r ≡ true
-  serves_named t r below here e there = serves_data t r below (entry3_here t here ∙ ap (λ (x : ℕ). Some x) e) there
-
-  parts : (r : ℕ) → serves g one head r ≡ true →
-      ((j : ℕ) × (j < index_pages g (size_of head)) × (index_page g one j ≡ Some r)) ⊎ ((t : ℕ) × (t < data_pages g (size_of head)) × (entry_number g one head t ≡ Some r) × (is_some (data_of (one r) t) ≡ true))
-  unfolding serves
-  parts r e =
-      ⊎_elim
-      (λ (yes : list_any (λ (j : ℕ). is_number (index_page g one j) r) (range_with_len 0 (index_pages g (size_of head))) ≡ true).
-      let w = any_at (λ (j : ℕ). is_number (index_page g one j) r) 0 (index_pages g (size_of head)) yes in
-      inl (w.0, omega (arith, w.2), number-is (index_page g one w.0) r w.3))
-      (λ (yes : list_any (λ (t : ℕ). is_number (entry_number g one head t) r && is_some (data_of (one r) t)) (range_with_len 0 (data_pages g (size_of head))) ≡ true).
-      let w = any_at (λ (t : ℕ). is_number (entry_number g one head t) r && is_some (data_of (one r) t)) 0 (data_pages g (size_of head)) yes in
-      let u : (is_number (entry_number g one head w.0) r ≡ true) × (is_some (data_of (one r) w.0) ≡ true) = and_parts _ _ w.3 in
-      inr (w.0, omega (arith, w.2), number-is (entry_number g one head w.0) r u.0, u.1))
-      (or_cases _ _ e)
+  serves_named t r below here e there = serves_as t r below (entry3_here t here ∙ ap (λ (x : ℕ). Some x) e) there
 
   -- the new index page serves as the old one did
   pub serves_copy : serves g one head w ≡ true → serves g three head' v ≡ true
@@ -256,10 +234,10 @@ module _ (g : Geometry) (one two three : Live) (id w v h : ℕ) (old new head he
       (λ (x : (j : ℕ) × (j < index_pages g (size_of head)) × (index_page g one j ≡ Some w)).
       let passes : is_index (Some old) x.0 ≡ true = rw start.was at (index_passes g one x.0 w x.2) in
       let at : span_of old ≡ x.0 = index-span_is old x.0 passes in
-      serves_index x.0 v x.1 (subst (λ (j : ℕ). index_page g three j ≡ Some v) at span3))
+      serves_at x.0 v x.1 (subst (λ (j : ℕ). index_page g three j ≡ Some v) at span3))
       (λ (x : (t : ℕ) × (t < data_pages g (size_of head)) × (entry_number g one head t ≡ Some w) × (is_some (data_of (one w) t) ≡ true)).
       let none : is_some (data_of (one w) x.0) ≡ false = rw start.was (rw (no_old x.0) refl) in let bad : true ≡ false = sym x.3 ∙ none in absurd (cc))
-      (parts w e)
+      (serves_parts g one head w e)
 
   -- another page serves still, or is one that the new index page names no longer
   pub serves_still : (olds : ℕ → Bool) → ((t : ℕ) → t < data_pages g (size_of head) → index_span g t ≡ span_of old → (slot_word g new t ≡ slot_word g old t) ⊎ (olds (slot_word g old t) ≡ true)) →
@@ -268,7 +246,7 @@ module _ (g : Geometry) (one two three : Live) (id w v h : ℕ) (old new head he
       ⊎_elim
       (λ (x : (j : ℕ) × (j < index_pages g (size_of head)) × (index_page g one j ≡ Some r)).
       let differ : span_of old ≢ x.0 = λ k. there (same_Some r w (sym x.2 ∙ ap (index_page g one) (sym k) ∙ start.first)) in
-      inl (serves_index x.0 r x.1 (span3_other x.0 differ ∙ x.2)))
+      inl (serves_at x.0 r x.1 (span3_other x.0 differ ∙ x.2)))
       (λ (x : (t : ℕ) × (t < data_pages g (size_of head)) × (entry_number g one head t ≡ Some r) × (is_some (data_of (one r) t) ≡ true)).
       ⊎_elim
       (λ (here : index_span g x.0 ≡ span_of old).
@@ -278,6 +256,6 @@ module _ (g : Geometry) (one two three : Live) (id w v h : ℕ) (old new head he
       (λ (same : slot_word g new x.0 ≡ slot_word g old x.0). inl (serves_named x.0 r x.1 here (same ∙ at) x.3))
       (λ (gone : olds (slot_word g old x.0) ≡ true). inr (ap olds (sym at) ∙ gone))
       (left x.0 x.1 here))
-      (λ (other : index_span g x.0 ≡ span_of old → ⊥). inl (serves_data x.0 r x.1 (entry3_other x.0 other ∙ x.2) x.3))
+      (λ (other : index_span g x.0 ≡ span_of old → ⊥). inl (serves_as x.0 r x.1 (entry3_other x.0 other ∙ x.2) x.3))
       (cases_eq (index_span g x.0) (span_of old)))
-      (parts r e)
+      (serves_parts g one head r e)

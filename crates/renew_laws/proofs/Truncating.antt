@@ -1,28 +1,20 @@
 -- What a truncated header page leads to.
-use Rattle.std.proofs.Common.{◌≡◌, ℕ, zero, suc, ◌+◌, ◌-◌, ◌*◌, ◌/◌, ◌<◌, ◌≤◌, List, [], ◌∷◌, length, take, slice_index, slice_range, false, Some, None, Ok, ap, refl, sym, ◌∙◌, arith, ⊎_elim}
+use Rattle.std.proofs.Common.{◌≡◌, ℕ, zero, suc, ◌+◌, ◌-◌, ◌*◌, ◌<◌, ◌≤◌, List, length, take, slice_index, slice_range, false, Some, None, Ok, ap, refl, sym, ◌∙◌, arith}
 use Rattle.std.specs.Prelude.{is_none}
 use Rattle.std.specs.List.{range_with_len, flat_map}
-use Rattle.std.proofs.Math.Nat.{div-mul-le_self}
-use Rattle.std.proofs.lemmas.Nat.{le-div}
-use Rattle.std.proofs.lemmas.Bool.{cases_lt, lt-ltb, le-ltb}
 use Rattle.geometry.specs.declared.geometry.Geometry.{Geometry}
 use Rattle.geometry.specs.Numbers.{head_slots, body}
 use Rattle.table_model.specs.Room.{data_pages}
 use Rattle.image_model.specs.Headers.{word_at, size_of, name_of}
 use Rattle.image_model.specs.Live.{Live}
 use Rattle.table_model.specs.Table.{File}
-use Rattle.image_model.specs.Files.{entry_number, data_page, judged, span_bytes, bytes_of, first_missing}
+use Rattle.image_model.specs.Files.{data_page, judged, span_bytes, bytes_of, first_missing}
 use Rattle.renew_laws.specs.Truncate.{TruncatedLeads}
-use Rattle.image_laws.proofs.Wanted.{judged-whole}
-use Rattle.image_laws.proofs.Append.{take-pieces, find-all, some_page, data_page_is, body_length}
+use Rattle.renew_laws.proofs.Spans.{page_by_word, span_there}
+use Rattle.std.proofs.lemmas.List.{take-take}
+use Rattle.image_laws.proofs.Append.{take-pieces, some_page, data_page_is, body_length}
 use Rattle.image_laws.proofs.Serving.{ceil-enough, ceil-mono}
 use Rattle.image_laws.proofs.Reindexed.{judged-parts, pieces-same, find_none-in}
-
-take-take : (m n : ℕ) (xs : List ℕ) → m ≤ n → take m (take n xs) ≡ take m xs
-take-take zero n xs h = refl
-take-take (suc m) zero xs h = absurd (omega arith)
-take-take (suc m) (suc n) [] h = refl
-take-take (suc m) (suc n) (x ∷ xs) h = ap (λ (ys : List ℕ). x ∷ ys) (take-take m n xs (omega arith))
 
 takes-prefix : (f : ℕ → List ℕ) (w m a k n : ℕ) → k ≤ n → m ≤ k * w → ((q : ℕ) → a ≤ q → q < a + k → length (f q) ≡ w) → take m (flat_map f (range_with_len a n)) ≡ take m (flat_map f (range_with_len a k))
 takes-prefix f w m a zero n h small each = let none : m ≡ 0 = omega arith in rw none refl
@@ -37,20 +29,11 @@ module _ (g : Geometry) (pages : Live) (id : ℕ) (head head' name : List ℕ) (
   fewer : data_pages g (size_of head') ≤ data_pages g (size_of head)
   fewer = ceil-mono (size_of head') (size_of head) (body g) (omega arith) less
 
-  entry_same : (t : ℕ) → t < data_pages g (size_of head') → entry_number g pages head' t ≡ entry_number g pages head t
-  unfolding entry_number
-  entry_same t below =
-      ⊎_elim
-      (λ (low : t < head_slots g). rw (lt-ltb t (head_slots g) low) (ap (λ (k : ℕ). Some k) (words t below low)))
-      (λ (high : head_slots g ≤ t). rw (le-ltb t (head_slots g) high) refl)
-      (cases_lt t (head_slots g))
-
   data_same : (t : ℕ) → t < data_pages g (size_of head') → data_page g pages head' t ≡ data_page g pages head t
-  unfolding data_page
-  data_same t below = rw (entry_same t below) refl
+  data_same t below = page_by_word g pages head head' t (words t below)
 
   present : (t : ℕ) → t < data_pages g (size_of head') → is_none (data_page g pages head t) ≡ false
-  present t below = find-all (λ (span : ℕ). is_none (data_page g pages head span)) 0 (data_pages g (size_of head)) (judged-whole g pages id head f0 file) t (omega arith) (omega (arith, fewer))
+  present t below = span_there g pages id head f0 file t (omega (arith, below, fewer))
 
   none_missing : first_missing g pages head' ≡ None
   none_missing = find_none-in (λ (t : ℕ). is_none (data_page g pages head' t)) 0 (data_pages g (size_of head')) (λ q low high. rw (data_same q (omega arith)) (present q (omega arith)))

@@ -1,5 +1,5 @@
 -- Data bytes are appended to a file.
-use Rattle.std.specs.Prelude.{◌≡◌, ℕ, ◌+◌, ◌-◌, ◌*◌, ◌/◌, ◌%◌, ◌<◌, ◌≤◌, List, ◌++◌, length, Bool, true, false, Some, Ok, is_some, slice_index, slice_range, slice_set}
+use Rattle.std.specs.Prelude.{◌≡◌, ℕ, ◌+◌, ◌-◌, ◌*◌, ◌/◌, ◌%◌, ◌<◌, ◌≤◌, ◌⊎◌, List, ◌++◌, length, Bool, true, false, Some, Ok, is_some, slice_index, slice_range}
 use Rattle.geometry.specs.declared.geometry.Geometry.{Geometry}
 use Rattle.nor_core.specs.Flash.{HalfProgrammed}
 use Rattle.geometry.specs.Numbers.{body, head_slots}
@@ -8,14 +8,15 @@ use Rattle.table_model.specs.Files.{written}
 use Rattle.table_model.specs.Room.{data_pages, index_pages}
 use Rattle.image_model.specs.Live.{Live, live_at, own}
 use Rattle.image_model.specs.Headers.{word_at, obj_id, names_index, span_of, size_of, name_of}
-use Rattle.image_model.specs.Files.{index_page, entry_number, data_page, judged}
+use Rattle.image_model.specs.Files.{further, index_page, entry_number, data_page, judged}
 use Rattle.image_model.specs.Places.{IsImage}
 use Rattle.image_model.specs.Tables.{table_of}
 use Rattle.image_model.specs.Tidy.{IsTidy, serves, free_blocks}
 use Rattle.image_model.specs.Sound.{HasMagics, Keeps}
+use Rattle.image_laws.specs.Reindex.{slot_word}
 use Rattle.image_laws.specs.TidySteps.{IsTidyBut}
-use Rattle.image_laws.specs.LiveSteps.{Finished, Kills}
-use Rattle.renew_laws.specs.Renew.{Renews}
+use Rattle.renew_laws.specs.Renew.{RenewsTo}
+use Rattle.renew_laws.specs.Replace.{Replaced}
 
 -- Programming bytes of a live data page past the end of its file, done or cut off, leaves the image tidy but for what was
 -- spare, with its table.
@@ -31,6 +32,18 @@ AppendingIsSound g = (a b : List ℕ) (p h at : ℕ) (asked page head : List ℕ
     index_page g (own (live_at g a) (obj_id page % 0x8000)) 0 ≡ Some h → own (live_at g a) (obj_id page % 0x8000) h ≡ Some head →
     p * g.page + 5 + (size_of head - span_of page * body g) ≤ at → at + length asked ≤ p * g.page + g.page → HalfProgrammed at asked a b →
     Keeps g a b × (free_blocks g a ≤ free_blocks g b)
+
+-- The entry of a data span is q: in the header page, or in a further index page that is there.
+abbrev pub IsEntryOf : Geometry → Live → List ℕ → ℕ → ℕ → Type 0
+IsEntryOf g pages head t q = ((t < head_slots g) × (slot_word g head t ≡ q)) ⊎ ((head_slots g ≤ t) × (w : ℕ) × (x : List ℕ) × (index_page g pages (further g t) ≡ Some w) × (pages w ≡ Some x) × (slot_word g x t ≡ q))
+
+-- A header page with the same entry for a span leads to the same data page,
+abbrev pub SpanIsKept : Geometry → Type 0
+SpanIsKept g = (pages : Live) (head head' : List ℕ) (t : ℕ) → (t < head_slots g → word_at head' (45 + g.meta + 2 * t) ≡ word_at head (45 + g.meta + 2 * t)) → data_page g pages head' t ≡ data_page g pages head t
+
+-- and one whose entry is the number of a live data page of the span leads to that one.
+abbrev pub SpanIsNamed : Geometry → Type 0
+SpanIsNamed g = (pages : Live) (head : List ℕ) (t q : ℕ) (y : List ℕ) → IsEntryOf g pages head t q → pages q ≡ Some y → names_index y ≡ false → span_of y ≡ t → (entry_number g pages head t ≡ Some q) × (data_page g pages head t ≡ Some y)
 
 -- A header page says that a file has these bytes more: they stand in data page z, behind the old size.
 pub record Appends (g : Geometry) (pages : Live) (head head' bytes z : List ℕ) : Type 0 where
@@ -62,8 +75,7 @@ AppendedServes g = (pages : Live) (head head' bytes z : List ℕ) → Appends g 
 
 -- A renewed header page that all pages of its file serve, those that were spare among them, leaves the image tidy.
 abbrev pub RenewedTidies : Geometry → Type 0
-RenewedTidies g = (a0 a1 a2 a3 a4 a5 a6 : List ℕ) (p o id : ℕ) (old head : List ℕ) (fin kill : ℕ) (f : File) (before : ℕ → Bool) → Renews g a0 p o id old head fin kill f →
-    index_page g (own (live_at g a0) id) 0 ≡ Some o → Finished g p head fin a0 a1 a2 a3 a4 → Kills g o kill a4 a5 a6 → IsTidyBut g a0 before →
-    ((r : ℕ) → before r ≡ true → (is_some (own (live_at g a0) id r) ≡ true) × (serves g (own (live_at g a0) id) (slice_set head 4 fin) r ≡ true)) →
-    ((r : ℕ) → serves g (own (live_at g a0) id) old r ≡ true → serves g (own (live_at g a0) id) (slice_set head 4 fin) r ≡ true) →
-    IsTidy g a6 × (table_of g a6 ≡ put_file f (table_of g a0))
+RenewedTidies g = (a b : List ℕ) (p o id : ℕ) (old head : List ℕ) (f : File) (before : ℕ → Bool) → RenewsTo g a p o id old head f → index_page g (own (live_at g a) id) 0 ≡ Some o → Replaced g p o head a b →
+    IsTidyBut g a before → ((r : ℕ) → before r ≡ true → (is_some (own (live_at g a) id r) ≡ true) × (serves g (own (live_at g a) id) head r ≡ true)) →
+    ((r : ℕ) → serves g (own (live_at g a) id) old r ≡ true → serves g (own (live_at g a) id) head r ≡ true) →
+    IsTidy g b × (table_of g b ≡ put_file f (table_of g a))

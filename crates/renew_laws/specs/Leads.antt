@@ -1,5 +1,5 @@
 -- What a renewed page leads to.
-use Rattle.std.specs.Prelude.{◌≡◌, ℕ, ◌+◌, ◌*◌, ◌<◌, List, [], Some, Ok, unwrap_or, slice_index, slice_range, slice_set}
+use Rattle.std.specs.Prelude.{◌≡◌, ℕ, ◌+◌, ◌*◌, ◌<◌, List, [], Some, Ok, unwrap_or, slice_index, slice_range}
 use Rattle.geometry.specs.declared.geometry.Geometry.{Geometry}
 use Rattle.geometry.specs.Numbers.{head_slots}
 use Rattle.table_model.specs.Room.{data_pages}
@@ -9,9 +9,9 @@ use Rattle.table_model.specs.Table.{File, put_file}
 use Rattle.image_model.specs.Files.{index_page, judged, span_bytes}
 use Rattle.image_model.specs.Tables.{table_of}
 use Rattle.image_model.specs.Tidy.{IsTidy, serves}
-use Rattle.image_laws.specs.LiveSteps.{Finished, Kills}
 use Rattle.image_laws.specs.Reindex.{now_data, now_bytes}
-use Rattle.renew_laws.specs.Renew.{Renews}
+use Rattle.renew_laws.specs.Renew.{RenewsTo}
+use Rattle.renew_laws.specs.Replace.{Replaced}
 
 -- Copies with the same bodies: the file is as it was.
 abbrev pub CopiesSame : Geometry → Type 0
@@ -31,6 +31,5 @@ RenamedLeads g = (pages : Live) (id : ℕ) (head head' name : List ℕ) (f0 : Fi
 
 -- Renewed so, the image is tidy.
 abbrev pub RenameTidies : Geometry → Type 0
-RenameTidies g = (a0 a1 a2 a3 a4 a5 a6 : List ℕ) (p o id : ℕ) (old head : List ℕ) (fin kill : ℕ) (f0 f : File) → Renews g a0 p o id old head fin kill f →
-    index_page g (own (live_at g a0) id) 0 ≡ Some o → judged g (own (live_at g a0) id) id old ≡ Ok f0 → SameSpans g old (slice_set head 4 fin) →
-    Finished g p head fin a0 a1 a2 a3 a4 → Kills g o kill a4 a5 a6 → IsTidy g a0 → IsTidy g a6 × (table_of g a6 ≡ put_file f (table_of g a0))
+RenameTidies g = (a b : List ℕ) (p o id : ℕ) (old head : List ℕ) (f0 f : File) → RenewsTo g a p o id old head f → index_page g (own (live_at g a) id) 0 ≡ Some o → judged g (own (live_at g a) id) id old ≡ Ok f0 →
+    SameSpans g old head → Replaced g p o head a b → IsTidy g a → IsTidy g b × (table_of g b ≡ put_file f (table_of g a))

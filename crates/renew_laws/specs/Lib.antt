@@ -1,7 +1,14 @@
 pub mod OneId
+pub mod Replace
+pub mod Reserve
+pub mod Idles
 pub mod Renew
+pub mod NewHead
 pub mod Leads
-pub mod Moving
 pub mod Recopy
 pub mod Truncate
 pub mod Append
+pub mod Primed
+pub mod Overwrite
+pub mod Relink
+pub mod Tails

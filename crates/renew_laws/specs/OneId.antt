@@ -3,7 +3,7 @@ use Rattle.std.specs.Prelude.{◌≡◌, ◌≢◌, ℕ, ◌≤◌, ◌⊎◌, L
 use Rattle.std.specs.List.{All}
 use Rattle.geometry.specs.declared.geometry.Geometry.{Geometry}
 use Rattle.image_model.specs.Live.{live_at, own}
-use Rattle.image_model.specs.Places.{has_magic, entry_of, page_of, is_entry_page, IsImage}
+use Rattle.image_model.specs.Places.{has_magic, entry_of, page_of, is_entry_page}
 use Rattle.table_model.specs.Table.{File, put_file}
 use Rattle.image_model.specs.Files.{index_page, judged}
 use Rattle.image_model.specs.Tables.{table_of}
@@ -30,5 +30,5 @@ pub record OneIdChanges (g : Geometry) (id k : ℕ) (head : List ℕ) (f : File)
 
 -- Then, where what was spare before is touched, the file is put into the table, and the image is tidy but for the spare pages.
 abbrev pub OneIdIsTidy : Geometry → Type 0
-OneIdIsTidy g = (a b : List ℕ) (id k : ℕ) (head : List ℕ) (f : File) (before touched spare : ℕ → Bool) → IsImage g a → IsTidyBut g a before → ((r : ℕ) → before r ≡ true → touched r ≡ true) → OneIdChanges g id k head f touched spare a b →
+OneIdIsTidy g = (a b : List ℕ) (id k : ℕ) (head : List ℕ) (f : File) (before touched spare : ℕ → Bool) → IsTidyBut g a before → ((r : ℕ) → before r ≡ true → touched r ≡ true) → OneIdChanges g id k head f touched spare a b →
     IsTidyBut g b spare × (table_of g b ≡ put_file f (table_of g a))

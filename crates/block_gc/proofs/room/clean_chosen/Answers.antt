@@ -1,6 +1,6 @@
 use Rattle.std.proofs.Common.{◌≡◌, refl, sym, ◌∙◌, rules, Err}
 use Rattle.flash_view.proofs.Stepped.{looked, after_look, passes, ends_as, view_image}
-use Rattle.block_gc.proofs.CleanedBlocks.{tidy_keeps}
+use Rattle.block_gc.proofs.Replacing.{tidy_keeps}
 use Rattle.block_gc.proofs.Cleanings.{cleans_chosen, one_cleaned}
 use Rattle.block_gc.proofs.room.clean_chosen.Goals as goal
 

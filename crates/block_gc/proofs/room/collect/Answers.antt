@@ -3,7 +3,7 @@ use Rattle.nor_core.proofs.Cuts.{reads_none}
 use Rattle.flash_view.specs.Steps.{Stepped, stopped}
 use Rattle.flash_view.proofs.Looking.{looks_none}
 use Rattle.flash_view.proofs.Stepped.{looked, passes, stepped_then, ends_as, view_image}
-use Rattle.block_gc.proofs.CleanedBlocks.{tidy_keeps}
+use Rattle.block_gc.proofs.Replacing.{tidy_keeps}
 use Rattle.block_gc.proofs.Cleanings.{stopping, collecting_to, cleanings_none, cleanings_few, turn_begins, turn_goes, turn_stops, idle_then}
 use Rattle.block_gc.proofs.room.collect.Goals as goal
 

@@ -1,7 +1,7 @@
 use Rattle.std.proofs.Common.{refl}
 use Rattle.flash_view.proofs.Stepped.{looked, after_look, fails_as, ends_as}
 use Rattle.block_gc.specs.RoomMade.{cleaning_chosen}
-use Rattle.block_gc.proofs.CleanedBlocks.{tidy_keeps}
+use Rattle.block_gc.proofs.Replacing.{tidy_keeps}
 use Rattle.block_gc.proofs.room.collect_turn.Goals as goal
 
 pub returns-in-Err-clause-step : goal.returns-in-Err-clause-step

@@ -2,7 +2,7 @@ use Rattle.std.proofs.Common.{◌≡◌, refl, rules, Ok, Err}
 use Rattle.flash_view.specs.declared.kinds.StepErr.TheVariants.{DeviceFault}
 use Rattle.flash_view.specs.Steps.{Stepped, stopped}
 use Rattle.flash_view.proofs.Stepped.{looked, passes, stepped_then, view_image}
-use Rattle.block_gc.proofs.CleanedBlocks.{tidy_keeps}
+use Rattle.block_gc.proofs.Replacing.{tidy_keeps}
 use Rattle.block_gc.proofs.Cleanings.{telling, packing_begins, packing_ends}
 use Rattle.block_gc.proofs.room.pack.Goals as goal
 

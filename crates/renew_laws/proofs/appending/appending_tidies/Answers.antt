@@ -1,4 +1,5 @@
-use Rattle.renew_laws.proofs.AppendTidy.{appending-tidies, appending-is_sound, renewed-tidies}
+use Rattle.renew_laws.proofs.AppendTidy.{appending-tidies, appending-is_sound}
+use Rattle.renew_laws.proofs.RenewTidy.{renewed-tidies}
 use Rattle.renew_laws.proofs.appending.appending_tidies.Goals as goal
 
 pub returns-clause-beside : goal.returns-clause-beside

@@ -1,11 +1,12 @@
-use Rattle.renew_laws.proofs.RenewStep.{renew-is_sound, renew-tidies, renew-leaves}
+use Rattle.renew_laws.proofs.RenewStep.{renew-cuts, renew-spares}
+use Rattle.renew_laws.proofs.RenewTidy.{none-left}
 use Rattle.renew_laws.proofs.renewing.renewing_puts.Goals as goal
 
 pub returns-clause-cuts : goal.returns-clause-cuts
-returns-clause-cuts c = renew-is_sound
-
-pub returns-clause-tidy : goal.returns-clause-tidy
-returns-clause-tidy c = renew-tidies
+returns-clause-cuts c = renew-cuts
 
 pub returns-clause-spares : goal.returns-clause-spares
-returns-clause-spares c = renew-leaves
+returns-clause-spares c = renew-spares
+
+pub returns-clause-none : goal.returns-clause-none
+returns-clause-none c = none-left

@@ -1,0 +1,137 @@
+-- What moves of index pages and of data pages share: a page is put, and then another one is killed.
+use Rattle.std.proofs.Common.{◌≡◌, ◌≢◌, ℕ, zero, suc, ◌+◌, ◌*◌, ◌<◌, ◌≤◌, List, [], ◌∷◌, length, set, slice_index, true, false, Some, Ok, ap, refl, sym, ◌∙◌, arith, ⊎_elim, inr, subst, length-set, get_or-set_same, get_or-set_other}
+use Rattle.std.proofs.lemmas.Bool.{cases_eq}
+use Rattle.std.proofs.lemmas.Option.{none-some, same_Some}
+use Rattle.geometry.specs.declared.geometry.Geometry.{Geometry}
+use Rattle.table_model.specs.declared.error.Tag.{Tag}
+use Rattle.table_model.specs.Table.{File, put_file}
+use Rattle.flash_view.specs.declared.kinds.Kind.TheVariants.{Index}
+use Rattle.page_layout.specs.Layout.{SameOutside}
+use Rattle.image_model.specs.Within.{sizes}
+use Rattle.image_model.specs.Headers.{names_index, span_of}
+use Rattle.image_model.specs.Live.{live_at, own}
+use Rattle.image_model.specs.Places.{block_of, IsImage}
+use Rattle.image_model.specs.Files.{is_index, index_page}
+use Rattle.image_model.specs.Sound.{Keeps}
+use Rattle.image_model.specs.Tables.{has_of, damaged_of, table_of}
+use Rattle.image_model.specs.Tidy.{IsTidy, is_free_block, free_blocks}
+use Rattle.image_laws.specs.Creating.{CutOf}
+use Rattle.image_laws.specs.LiveSteps.{PutLeaves, PutDone, KillLeaves, KillDone}
+use Rattle.image_laws.specs.Put.{IsReadyPage}
+use Rattle.image_laws.specs.TidySteps.{Agree}
+use Rattle.image_laws.proofs.Frames.{live_parts}
+use Rattle.image_laws.proofs.FreeBlocks.{free_blocks-fall}
+use Rattle.image_laws.proofs.Placing.{page_byte}
+use Rattle.image_laws.proofs.Sounding.{keeps-itself}
+use Rattle.image_laws.proofs.SpareKill.{tidy-has_magics}
+use Rattle.image_laws.proofs.Tally.{served}
+use Rattle.image_laws.proofs.TidySteps.{tidy-is_tidy}
+use Rattle.renew_laws.specs.Replace.{ReplaceCut, Replaced}
+use Rattle.renew_laws.proofs.RecopyLeaves.{put-same}
+use Rattle.renew_laws.proofs.ReserveKept.{kill-reserve}
+use Rattle.page_put.specs.Placing.{placed_page}
+use Rattle.page_put.proofs.Putting.{ready}
+use Rattle.page_renew.proofs.Homes.{Home, index_some, serves_first}
+
+-- a tidy image keeps itself
+pub tidy_keeps : (g : Geometry) (a : List ℕ) → IsTidy g a → Keeps g a a
+tidy_keeps g a t = keeps-itself g a (tidy-has_magics g a (λ p. false) ((tidy-is_tidy g a (λ p. false)).0 t))
+
+-- a cut that puts a file as it is keeps the image
+pub keeps_same : (g : Geometry) (a c : List ℕ) (id h : ℕ) (f : File) → damaged_of g a ≡ [] → has_of g (live_at g a) id ≡ Some (h, Ok f) → CutOf g a f c → Keeps g a c
+keeps_same g a c id h f none has cut = record {
+  sound = cut.sound;
+  table = ⊎_elim (λ (x : table_of g c ≡ table_of g a). x) (λ (x : table_of g c ≡ put_file f (table_of g a)). x ∙ put-same g a id h f none has) cut.table;
+}
+
+-- ---- pages and free blocks
+
+-- the flags of a live page are a byte still once another page is changed
+pub flags_stay : (g : Geometry) (a b : List ℕ) (p q : ℕ) (x : List ℕ) → Agree g a b p → live_at g a q ≡ Some x → q ≢ p → slice_index a (q * g.page + 4) < 256 → slice_index b (q * g.page + 4) < 256
+flags_stay g a b p q x agree live other small =
+    let big : 128 ≤ g.page = (sizes g).page in
+    let near : 4 < g.page = omega arith in
+    let byte : slice_index b (q * g.page + 4) ≡ slice_index a (q * g.page + 4) =
+    sym (page_byte g b q 4 near) ∙ ap (λ (l : List ℕ). slice_index l 4) (agree.page q (live_parts g a q x live).entry_page other) ∙ page_byte g a q 4 near in
+    rw byte small
+
+-- a page that is live isn't the one that is put, and is still live once that is put
+pub not_put : (g : Geometry) (a b : List ℕ) (p o : ℕ) (page old : List ℕ) → PutDone g p page a b → live_at g a o ≡ Some old → o ≢ p
+not_put g a b p o page old put live e = none-some old (sym put.gains.before ∙ ap (live_at g a) (sym e) ∙ live)
+
+pub still_live : (g : Geometry) (a b : List ℕ) (p o : ℕ) (page old : List ℕ) → PutDone g p page a b → live_at g a o ≡ Some old → live_at g b o ≡ Some old
+still_live g a b p o page old put live = put.gains.others o (not_put g a b p o page old put live) ∙ live
+
+-- what is done is one of the cuts
+pub kill_left : {g : Geometry} {o : ℕ} {a b : List ℕ} → KillDone g o a b → KillLeaves g o a b
+kill_left done = record { image = done.image; agree = done.agree; live = inr done.loses; used = rw done.zero refl }
+
+pub replace_left : {g : Geometry} {p o : ℕ} {page a b : List ℕ} → Replaced g p o page a b → ReplaceCut g p o page a b
+replace_left all = inr (all.middle, all.put, kill_left all.kill)
+
+-- the free blocks that a cut leaves
+pub replace_free : (g : Geometry) (a c : List ℕ) (p o : ℕ) (page old : List ℕ) → live_at g a o ≡ Some old → ReplaceCut g p o page a c →
+    (free_blocks g a ≤ free_blocks g c + 1) × (is_free_block g a (block_of g p) ≡ false → free_blocks g a ≤ free_blocks g c)
+replace_free g a c p o page old live cut =
+    ⊎_elim
+    (λ (x : PutLeaves g p page a c). free_blocks-fall g a c p x.agree)
+    (λ (x : (b : List ℕ) × PutDone g p page a b × KillLeaves g o b c).
+    let fall = free_blocks-fall g a x.0 p x.1.agree in
+    let most = fall.0 in
+    let kept = kill-reserve g x.0 c o old (still_live g a x.0 p o page old x.1 live) x.2.agree in
+    (omega (arith, most, kept), λ used. let same = fall.1 used in omega (arith, same, kept)))
+    cut
+
+-- ---- index pages
+
+-- in a tidy image each index page of a file is the first one of its span, and the only one
+module _ (g : Geometry) (a : List ℕ) (is : IsImage g a) (tidy : IsTidy g a) (id : ℕ) (home : Home g a id) where
+  pub index_first : (q : ℕ) (x : List ℕ) → own (live_at g a) id q ≡ Some x → names_index x ≡ true → index_page g (own (live_at g a) id) (span_of x) ≡ Some q
+  index_first q x mine index = serves_first g (own (live_at g a) id) home.head x q mine index (served g a is tidy id home.h home.head home.at home.header q x mine)
+
+  pub index_alone : (s q : ℕ) → index_page g (own (live_at g a) id) s ≡ Some q → (r : ℕ) → is_index (own (live_at g a) id r) s ≡ true → r ≡ q
+  index_alone s q first r passes =
+      let x = index_some (own (live_at g a) id r) s passes in
+      same_Some r q (sym (index_first r x.0 x.1 x.2) ∙ ap (index_page g (own (live_at g a) id)) x.3 ∙ first)
+
+pub set_twice : (l : List ℕ) (i a b : ℕ) → set (set l i a) i b ≡ set l i b
+set_twice [] i a b = refl
+set_twice (x ∷ l) zero a b = refl
+set_twice (x ∷ l) (suc i) a b = ap (λ (t : List ℕ). x ∷ t) (set_twice l i a b)
+
+-- a byte of a page that both have makes no difference
+pub set_outside : (at n v : ℕ) (y z : List ℕ) → 4 < length y → 4 < length z → SameOutside at n y z → SameOutside at n (set y 4 v) (set z 4 v)
+set_outside at n v y z long far same = record {
+  size = length-set z 4 v ∙ same.size ∙ sym (length-set y 4 v);
+  before = λ k below. at_byte k (same.before k below);
+  after = λ k above. at_byte k (same.after k above);
+}
+  where
+    at_byte : (k : ℕ) → slice_index z k ≡ slice_index y k → slice_index (set z 4 v) k ≡ slice_index (set y 4 v) k
+    at_byte k e =
+        ⊎_elim
+        (λ (here : k ≡ 4). rw here (get_or-set_same z 4 v 0 far ∙ sym (get_or-set_same y 4 v 0 long)))
+        (λ (there : k ≡ 4 → ⊥). get_or-set_other z 4 k v 0 there ∙ e ∙ sym (get_or-set_other y 4 k v 0 there))
+        (cases_eq k 4)
+
+-- and a byte that is set is all that differs
+pub set_inside : (at v : ℕ) (y : List ℕ) → SameOutside at 1 y (set y at v)
+set_inside at v y = record {
+  size = length-set y at v;
+  before = λ k below. get_or-set_other y at k v 0 (λ e. omega (arith, e, below));
+  after = λ k above. get_or-set_other y at k v 0 (λ e. omega (arith, e, above));
+}
+
+-- an index page that is built is ready to be put
+pub index_ready : (g : Geometry) (tag : Tag) (work y : List ℕ) → placed_page g Index tag work ≡ set y 4 0xFA → length y ≡ g.page → ((k : ℕ) → k < g.page → slice_index y k < 256) → (1 ≤ tag.id) × (tag.id ≤ 0x7FFE) →
+    IsReadyPage g (placed_page g Index tag work) 0xF8
+index_ready g tag work y is len small id =
+    let big : 128 ≤ g.page = (sizes g).page in
+    let four : slice_index (set y 4 0xFA) 4 ≡ 0xFA = get_or-set_same y 4 0xFA 0 (omega (arith, big, len)) in
+    ready g Index tag work (ap length is ∙ length-set y 4 0xFA ∙ len)
+    (λ i within. subst (λ (l : List ℕ). slice_index l i < 256) (sym is)
+    (⊎_elim
+    (λ (here : i ≡ 4). rw here (rw four (omega arith)))
+    (λ (there : i ≡ 4 → ⊥). rw (get_or-set_other y 4 i 0xFA 0 there) (small i within))
+    (cases_eq i 4)))
+    id.0 id.1
