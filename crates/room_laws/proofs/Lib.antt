@@ -21,3 +21,7 @@ pub mod IndexMoves
 pub mod IndexFreed
 pub mod Besides
 pub mod ImageMends
+pub mod Puts
+pub mod HavePlaces
+pub mod Leaves
+pub mod Loses

@@ -15,3 +15,6 @@ pub mod Stopping
 pub mod Emptying
 pub mod EmptyingIndex
 pub mod Mends
+pub mod Places
+pub mod Leaving
+pub mod Losing
