@@ -25,3 +25,4 @@ pub mod Puts
 pub mod HavePlaces
 pub mod Leaves
 pub mod Loses
+pub mod Sorted

@@ -18,3 +18,4 @@ pub mod Mends
 pub mod Places
 pub mod Leaving
 pub mod Losing
+pub mod Sorts

@@ -9,6 +9,7 @@ pub mod leaving;
 pub mod losing;
 pub mod mending;
 pub mod places;
+pub mod sorts;
 pub mod steps;
 pub mod stopping;
 pub mod volumes;
