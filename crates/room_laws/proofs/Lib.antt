@@ -26,3 +26,5 @@ pub mod HavePlaces
 pub mod Leaves
 pub mod Loses
 pub mod Sorted
+pub mod Staying
+pub mod OnTheWay

@@ -19,3 +19,7 @@ pub mod Places
 pub mod Leaving
 pub mod Losing
 pub mod Sorts
+pub mod Tags
+pub mod Staged
+pub mod Ways
+pub mod Recovery
