@@ -28,3 +28,6 @@ pub mod Loses
 pub mod Sorted
 pub mod Staying
 pub mod OnTheWay
+pub mod Homes
+pub mod Tagged
+pub mod Resolved

@@ -16,7 +16,7 @@ use Rattle.room_laws.specs.Ways.{Move, HasCome, IsNoPlace, OnWay, WayNone, WayPu
 
 -- ---- lists of moves
 
-all_nil : {X : Type 0} (P : X → Type 0) → All P []
+pub all_nil : {X : Type 0} (P : X → Type 0) → All P []
 all_nil P k d low = absurd (omega arith)
 
 pub all_cons : {X : Type 0} (P : X → Type 0) (x : X) (xs : List X) → P x → All P xs → All P (x ∷ xs)
@@ -37,6 +37,10 @@ in_tail x y xs has = (suc has.0, omega (arith, has.1), has.2)
 
 pub in_head : {X : Type 0} (x : X) (xs : List X) → Contains (x ∷ xs) x
 in_head x xs = (0, omega arith, refl)
+
+pub all_from : {X : Type 0} (P : X → Type 0) (xs : List X) → ((x : X) → Contains xs x → P x) → All P xs
+all_from P [] each = all_nil P
+all_from P (x ∷ xs) each = all_cons P x xs (each x (in_head x xs)) (all_from P xs (λ y one. each y (in_tail x y xs one)))
 
 -- ---- steps
 
