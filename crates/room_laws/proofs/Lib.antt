@@ -31,3 +31,4 @@ pub mod OnTheWay
 pub mod Homes
 pub mod Tagged
 pub mod Resolved
+pub mod SortSteps

@@ -1,10 +1,10 @@
 -- Where the pages on their way are once the stages of a check are over.
-use Rattle.std.proofs.Common.{◌≡◌, ◌≢◌, ℕ, zero, suc, ◌+◌, ◌<◌, ◌≤◌, ◌⊎◌, List, [], ◌∷◌, length, Bool, true, false, ◌==◌, Option, Some, None, refl, sym, ◌∙◌, ap, subst, arith, ⊎_elim, inl, inr}
+use Rattle.std.proofs.Common.{◌≡◌, ◌≢◌, ℕ, zero, suc, ◌+◌, ◌%◌, ◌<◌, ◌≤◌, ◌⊎◌, List, [], ◌∷◌, length, Bool, true, false, ◌==◌, Option, Some, None, refl, sym, ◌∙◌, ap, subst, arith, ⊎_elim, inl, inr}
 use Rattle.std.specs.Prelude.{All, Contains}
 use Rattle.std.proofs.lemmas.Bool.{cases_eq, cases_Bool, eqb-true, ne_eqb, and_parts}
 use Rattle.std.proofs.lemmas.Option.{same_Some, none-some}
 use Rattle.geometry.specs.declared.geometry.Geometry.{Geometry}
-use Rattle.image_model.specs.Headers.{names_index}
+use Rattle.image_model.specs.Headers.{obj_id, span_of, names_index}
 use Rattle.image_model.specs.Places.{IsImage, has_magic, entry_of, block_of, is_entry_page}
 use Rattle.image_model.specs.Live.{live_at}
 use Rattle.image_model.specs.Tables.{table_of}
@@ -21,7 +21,7 @@ use Rattle.room_laws.specs.Ways.{Move, HasCome, IsMove, AreApart, AreMoves, IsNo
 use Rattle.room_laws.proofs.Blocks.{unlive}
 use Rattle.room_laws.proofs.Sorted.{tidy_tells_free}
 use Rattle.room_laws.proofs.Tagged.{tags_are_once, tags_are_kept, tags_are_named}
-use Rattle.room_laws.proofs.OnTheWay.{all_nil, all_cons, all_at, all_from}
+use Rattle.room_laws.proofs.OnTheWay.{all_nil, all_cons, all_at, all_from, in_head, in_tail}
 
 -- ---- sorts of entries
 
@@ -225,8 +225,85 @@ module _ (g : Geometry) (moves : List Move) (was image now : List ℕ) (is : IsI
       (kept p live.0 live.1))
       (live_or (live_at g was p))
 
-  resolved : Resolves g moves (sort_at g was) (sort_at g now)
+  pub resolved : Resolves g moves (sort_at g was) (sort_at g now)
   resolved = record { each = all_from (Ends (sort_at g was) (sort_at g now)) moves ends; others = others_same }
+
+  -- ---- batches
+
+  -- the index page at a place names a move's data page where that is
+  reads : (w p : ℕ) (index x y : List ℕ) → live_at g now w ≡ Some index → names_index index ≡ true → obj_id index % 0x8000 ≡ obj_id x % 0x8000 → span_of index ≡ index_span g (span_of x) →
+      live_at g now p ≡ Some y → SameTag x y → names_index x ≡ false → slot_word g index (span_of x) ≡ p
+  reads w p index x y there kind id span here tag data_page =
+      let n = tags_are_named g now p w y index is_now s.tidy here (tag.kind ∙ data_page) there kind (id ∙ sym tag.id) (span ∙ ap (index_span g) (sym tag.span)) in
+      ap (slot_word g index) (sym tag.span) ∙ n
+
+  apart : (m : Move) (page : List ℕ) → Contains moves m → live_at g was m.from ≡ Some page → m.from ≡ m.to → ⊥
+  apart m page one live same = all_at (λ (n : Move). m.from ≢ n.to) moves m (no_place m.from page live) one same
+
+  -- while the old index page is live the data pages stay
+  stays_by : (w : ℕ) (index : List ℕ) → live_at g was w ≡ Some index → live_at g now w ≡ Some index → names_index index ≡ true → (m : Move) → Contains moves m → (n : IsNamedBy g was index m) →
+      Lands m n.page → Stayed (sort_at g was) (sort_at g now) m
+  stays_by w index was_index there kind m one n (stays here none) = stayed m n.page n.live here none
+  stays_by w index was_index there kind m one n (lands gone copy at tag) =
+      let to = reads w m.to index n.page copy there kind n.id n.span at tag n.kind in
+      let from = tags_are_named g was m.from w n.page index is t n.live n.kind was_index kind n.id n.span in
+      absurd (apart m n.page one n.live (sym from ∙ to))
+
+  -- and once its copy is they have come
+  came_by : (ix : Move) (index copy : List ℕ) → live_at g now ix.to ≡ Some copy → SameTag index copy → names_index index ≡ true → (m : Move) → Contains moves m → (n : IsNamedBy g was index m) →
+      IsRenamed g was image ix.to m → Lands m n.page → Came (sort_at g was) (sort_at g now) m
+  came_by ix index copy there same kind m one n renamed (lands gone page at tag) = came m n.page one n.live gone page at tag
+  came_by ix index copy there same kind m one n renamed (stays here none) =
+      let mine : SameTag n.page n.page = record { kind = refl; id = refl; span = refl } in
+      let from = reads ix.to m.from copy n.page n.page there (same.kind ∙ kind) (same.id ∙ n.id) (same.span ∙ n.span) here mine n.kind in
+      let held : live_at g image ix.to ≡ Some copy = ⊎_elim
+      (λ (old : live_at g now ix.to ≡ live_at g image ix.to). sym old ∙ there)
+      (λ (gone : live_at g now ix.to ≡ None). absurd (none-some copy (sym gone ∙ there)))
+      (s.live ix.to) in
+      absurd (apart m n.page one n.live (sym from ∙ renamed n.page copy n.live held))
+
+  -- the old index page stays where no move begins at it
+  index_stays : (at : ℕ) (index : List ℕ) → live_at g was at ≡ Some index → names_index index ≡ true → All (IsNamedBy g was index) moves → live_at g now at ≡ Some index
+  index_stays at index live kind names = ⊎_elim
+      (λ (here : live_at g now at ≡ Some index). here)
+      (λ (a : Arrives at index).
+      let n = all_at (IsNamedBy g was index) moves a.move names a.one in
+      let same : n.page ≡ index = same_Some n.page index (sym n.live ∙ ap (live_at g was) a.from ∙ live) in
+      let bad : true ≡ false = sym kind ∙ ap names_index (sym same) ∙ n.kind in absurd (cc))
+      (kept at index live)
+
+  all_stay : (at : ℕ) (index : List ℕ) → live_at g was at ≡ Some index → names_index index ≡ true → All (IsNamedBy g was index) moves → All (Stayed (sort_at g was) (sort_at g now)) moves
+  all_stay at index live kind names =
+      let here = index_stays at index live kind names in
+      all_from (Stayed (sort_at g was) (sort_at g now)) moves (λ m one. let n = all_at (IsNamedBy g was index) moves m names one in stays_by at index live here kind m one n (landing m n.page one n.live))
+
+  -- how all moves of a batch end, by its index page
+  batch_ends : (ix : Move) (ms : List Move) (index : List ℕ) → ((m : Move) → Contains ms m → Contains moves m) → Contains moves ix → live_at g was ix.from ≡ Some index → names_index index ≡ true →
+      All (IsNamedBy g was index) ms → All (IsRenamed g was image ix.to) ms → Lands ix index →
+      (Came (sort_at g was) (sort_at g now) ix × All (Came (sort_at g was) (sort_at g now)) ms) ⊎ (Stayed (sort_at g was) (sort_at g now) ix × All (Stayed (sort_at g was) (sort_at g now)) ms)
+  batch_ends ix ms index within one live kind names renamed (lands gone copy there tag) = inl (
+    came ix index one live gone copy there tag,
+    all_from (Came (sort_at g was) (sort_at g now)) ms (λ m has. let n = all_at (IsNamedBy g was index) ms m names has in
+    came_by ix index copy there tag kind m (within m has) n (all_at (IsRenamed g was image ix.to) ms m renamed has) (landing m n.page (within m has) n.live)),
+  )
+  batch_ends ix ms index within one live kind names renamed (stays here none) = inr (
+    stayed ix index live here none,
+    all_from (Stayed (sort_at g was) (sort_at g now)) ms (λ m has. let n = all_at (IsNamedBy g was index) ms m names has in
+    stays_by ix.from index live here kind m (within m has) n (landing m n.page (within m has) n.live)),
+  )
 
 pub way_resolves : (g : Geometry) → WayResolves g
 way_resolves g moves was image now is t are way table is_now s = resolved g moves was image now is t are way table is_now s
+
+pub batch_resolves : (g : Geometry) → BatchResolves g
+batch_resolves g index moves was image now is t are way table batch is_now s =
+    let one = in_head index moves in
+    let e = batch_ends g (index ∷ moves) was image now is t are way table is_now s index moves batch.page (λ m has. in_tail index m moves has) one batch.live batch.kind batch.named batch.renamed
+    (landing g (index ∷ moves) was image now is t are way table is_now s index batch.page one batch.live) in
+    ⊎_elim
+    (λ c. inl (all_cons (Came (sort_at g was) (sort_at g now)) index moves c.0 c.1))
+    (λ c. inr (all_cons (Stayed (sort_at g was) (sort_at g now)) index moves c.0 c.1))
+    e
+
+pub batch_stays : (g : Geometry) → BatchStays g
+batch_stays g at page moves was image now is t are way table live kind named is_now s = all_stay g moves was image now is t are way table is_now s at page live kind named

@@ -135,10 +135,10 @@ count-swap s t k a n low high same =
     let y = count_but (λ q. not (q == k) && s q) t k a n low high none (λ q from to there. rw (ne_eqb q k there, same q from to there) refl) in
     omega (arith, x, y)
 
-with-here : (sorts : ℕ → Sort) (p : ℕ) (x : Sort) → with_sort p x sorts p ≡ x
+pub with-here : (sorts : ℕ → Sort) (p : ℕ) (x : Sort) → with_sort p x sorts p ≡ x
 with-here sorts p x = rw (eq-eqb p p refl) refl
 
-with-there : (sorts : ℕ → Sort) (p q : ℕ) (x : Sort) → (q ≡ p → ⊥) → with_sort p x sorts q ≡ sorts q
+pub with-there : (sorts : ℕ → Sort) (p q : ℕ) (x : Sort) → (q ≡ p → ⊥) → with_sort p x sorts q ≡ sorts q
 with-there sorts p q x there = rw (ne_eqb q p there) refl
 
 -- of each sort
@@ -203,7 +203,7 @@ other_sorts_stay g sorts x p block page low out = same-block g sorts (with_sort 
 
 -- ---- all blocks but one
 
-map-set : (f h : ℕ → Counts) (a n k : ℕ) → k < n → ((q : ℕ) → a ≤ q → q < a + n → (q ≡ a + k → ⊥) → h q ≡ f q) → map h (range_with_len a n) ≡ slice_set (map f (range_with_len a n)) k (h (a + k))
+pub map-set : (f h : ℕ → Counts) (a n k : ℕ) → k < n → ((q : ℕ) → a ≤ q → q < a + n → (q ≡ a + k → ⊥) → h q ≡ f q) → map h (range_with_len a n) ≡ slice_set (map f (range_with_len a n)) k (h (a + k))
 map-set f h a zero k low same = absurd (omega arith)
 map-set f h a (suc n) zero low same =
     let here : h a ≡ h (a + 0) = ap h (omega arith) in
@@ -213,7 +213,7 @@ map-set f h a (suc n) (suc k) low same =
     let at : h (a + 1 + k) ≡ h (a + suc k) = ap h (omega arith) in
     rw (same a (omega arith) (omega arith) (λ e. omega (arith, e)), rest, at) refl
 
-set-out : (v : List Counts) (i : ℕ) (d : Counts) → without i (slice_set v i d) ≡ without i v
+pub set-out : (v : List Counts) (i : ℕ) (d : Counts) → without i (slice_set v i d) ≡ without i v
 set-out [] i d = refl
 set-out (x ∷ v) zero d = refl
 set-out (x ∷ v) (suc i) d = ap (λ (w : List Counts). x ∷ w) (set-out v i d)
