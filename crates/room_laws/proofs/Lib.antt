@@ -32,3 +32,5 @@ pub mod Homes
 pub mod Tagged
 pub mod Resolved
 pub mod SortSteps
+pub mod Recovering
+pub mod Batches

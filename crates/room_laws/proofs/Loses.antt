@@ -37,7 +37,7 @@ spoils_on e s t u m n a b = record {
 pub spoiled-block : (e : ℕ) (c : Counts) → IsBlock e c → 0 < c.free → IsBlock e (spoiled c)
 spoiled-block e c is some = record { whole = omega (arith, is.whole, some); apart = is.apart }
 
-same-live : (s : List Counts) (i : ℕ) (c d : Counts) → i < length s → slice_index_or s i c ≡ c → d.index ≡ c.index → d.pages ≡ c.pages →
+pub same-live : (s : List Counts) (i : ℕ) (c d : Counts) → i < length s → slice_index_or s i c ≡ c → d.index ≡ c.index → d.pages ≡ c.pages →
     (index_total (slice_set s i d) ≡ index_total s) × (pages_total (slice_set s i d) ≡ pages_total s)
 unfolding index_total pages_total
 same-live s i c d within at index pages =
@@ -104,7 +104,7 @@ index-spoiled s i c d within at rule kd index pages =
       pages_live = live.1;
     }
 
-still-data : (e : ℕ) (s t : List Counts) → All (IsBlock e) s → LosesIndex s t → StillData s t
+pub still-data : (e : ℕ) (s t : List Counts) → All (IsBlock e) s → LosesIndex s t → StillData s t
 still-data e s t all (i, x, can, eq) =
     let is = block-of e s i x all can.within can.at in
     let none = no-pages e s x (seen e x is) can.rule in

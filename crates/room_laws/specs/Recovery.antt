@@ -71,14 +71,10 @@ abbrev pub IndexWayMends : Geometry → Type 0
 IndexWayMends g = (first was image : List ℕ) (block : ℕ) (move : Move) → MayCut g first block → IsBetween g first block was → IsIndexWay g block (sort_at g was) move →
     IsOnWay g (move ∷ []) was image → Recovers g image
 
--- what pages count as once copies of data pages are at the places of some moves, and once these have left their old places
+-- what pages count as once copies of data pages are at the places of some moves
 abbrev pub with_data : List Move → (ℕ → Sort) → ℕ → Sort
 with_data [] sorts = sorts
 with_data (move ∷ moves) sorts = with_sort move.to Data (with_data moves sorts)
-
-abbrev pub without_old : List Move → (ℕ → Sort) → ℕ → Sort
-without_old [] sorts = sorts
-without_old (move ∷ moves) sorts = with_sort move.from Deleted (without_old moves sorts)
 
 -- Data pages go out of the block, each by the rule, the last one in front.
 unfoldable pub ArePagesWay : Geometry → (block : ℕ) (sorts : ℕ → Sort) → List Move → Type 0
