@@ -34,3 +34,5 @@ pub mod Resolved
 pub mod SortSteps
 pub mod Recovering
 pub mod Batches
+pub mod Spoiling
+pub mod BatchMends
