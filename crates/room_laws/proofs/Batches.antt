@@ -51,7 +51,7 @@ abbrev pub moved : List Move → (ℕ → Sort) → ℕ → Sort
 moved [] sorts = sorts
 moved (m ∷ ms) sorts = with_sort m.from Deleted (with_sort m.to Data (moved ms sorts))
 
-moved_aside : (sorts : ℕ → Sort) (ms : List Move) (p : ℕ) → IsAside ms p → moved ms sorts p ≡ sorts p
+pub moved_aside : (sorts : ℕ → Sort) (ms : List Move) (p : ℕ) → IsAside ms p → moved ms sorts p ≡ sorts p
 moved_aside sorts [] p aside = refl
 moved_aside sorts (m ∷ ms) p aside =
     let here = aside 0 m (omega arith) in

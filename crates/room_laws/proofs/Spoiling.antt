@@ -100,7 +100,7 @@ module _ (g : Geometry) (block : ℕ) (low : block < g.blocks) where
   tells_none : (base : ℕ → Sort) → All (IsBlock (entries g)) (others_by g base block) → StayTells base base
   tells_none base blocks = record { blocks = blocks; live = λ b there. (refl, refl); own = refl; still = record { blocks = refl; index_live = refl; pages_live = refl } }
 
-  others_equal : (a b : ℕ → Sort) → ((p : ℕ) → is_entry_page g p ≡ true → b p ≡ a p) → others_by g b block ≡ others_by g a block
+  pub others_equal : (a b : ℕ → Sort) → ((p : ℕ) → is_entry_page g p ≡ true → b p ≡ a p) → others_by g b block ≡ others_by g a block
   others_equal a b same = ap (without block) (same_sorts g a b same)
 
   tells_same : (base a b : ℕ → Sort) → ((p : ℕ) → is_entry_page g p ≡ true → b p ≡ a p) → StayTells base a → StayTells base b
@@ -142,7 +142,7 @@ module _ (g : Geometry) (block : ℕ) (low : block < g.blocks) where
       }
 
   -- with a free place as it was nothing changes
-  free_same : (a : ℕ → Sort) (to : ℕ) (x : Sort) → a to ≡ Free → x ≡ Free → (p : ℕ) → is_entry_page g p ≡ true → with_sort to x a p ≡ a p
+  pub free_same : (a : ℕ → Sort) (to : ℕ) (x : Sort) → a to ≡ Free → x ≡ Free → (p : ℕ) → is_entry_page g p ≡ true → with_sort to x a p ≡ a p
   free_same a to x free is p page = ⊎_elim
       (λ (here : p ≡ to). ap (with_sort to x a) here ∙ with-here a to x ∙ is ∙ sym free ∙ ap a (sym here))
       (λ (away : p ≡ to → ⊥). with-there a to p x away)
