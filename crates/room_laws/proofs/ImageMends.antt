@@ -147,7 +147,7 @@ module _ (g : Geometry) (was now : List ℕ) (block : ℕ) (can : CanClean g was
       let b = tidy-counts g now is t in
       (b.0 ∙ (rw table (sym a.0)), b.1 ∙ (rw table (sym a.1)))
 
-  front_bound : Bound (entries g) (block_counts g was block ∷ others_of g was block)
+  pub front_bound : Bound (entries g) (block_counts g was block ∷ others_of g was block)
   front_bound =
       let f = front g was block low in
       let bound = bound_to g was can.tidy can.image_is can.bound in

@@ -36,3 +36,4 @@ pub mod Recovering
 pub mod Batches
 pub mod Spoiling
 pub mod BatchMends
+pub mod FreshMends

@@ -54,7 +54,7 @@ free_dead : (g : Geometry) (a : List ℕ) (p : ℕ) → is_free_entry g a p ≡ 
 free_dead g a p free = unlive g a p 0xFFFF (eqb-true _ 0xFFFF (and_parts _ _ free).0) (λ x id. is_finished-ones x id)
 
 -- a live page or none
-live_or : (o : Option (List ℕ)) → (o ≡ None) ⊎ ((x : List ℕ) × (o ≡ Some x))
+pub live_or : (o : Option (List ℕ)) → (o ≡ None) ⊎ ((x : List ℕ) × (o ≡ Some x))
 live_or None = inl refl
 live_or (Some x) = inr (x, refl)
 
