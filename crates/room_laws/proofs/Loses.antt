@@ -9,7 +9,7 @@ use Rattle.room_laws.specs.Volume.{IsVolume, blocks_of, free_of, deleted_of, ind
 use Rattle.room_laws.specs.Cut.{Takes, CutIndex, Batches, CutData}
 use Rattle.room_laws.specs.Steps.{placed, killed, CanPut, Reached}
 use Rattle.room_laws.specs.Leaving.{Emptying, SameTotals}
-use Rattle.room_laws.specs.Losing.{spoiled, Spoils, SpoilsNone, SpoilsOne, SpoilsOn, LosesIndex, PutsInto, OpensOne, InDataBlocks, PutsOpen, OpensFew, EmptyingIsCut, IndexLostIsCut, PagesLostAreCut, LeavesOneDead, DeadIsCut}
+use Rattle.room_laws.specs.Losing.{spoiled, Spoils, SpoilsNone, SpoilsOne, SpoilsOn, LosesIndex, OpensFew, EmptyingIsCut, IndexLostIsCut, PagesLostAreCut, LeavesOneDead, DeadIsCut}
 use Rattle.room_laws.proofs.Totals.{Seen, is_unused, is_index, is_data, seen}
 use Rattle.room_laws.proofs.Moves.{length-set, total-set, blocks-set, free-set, deleted-set, kind-index, kind-data, block-of, no-pages, no-names, to-index}
 use Rattle.room_laws.proofs.Puts.{put-index, put-data, kill-index}
@@ -111,52 +111,6 @@ still-data e s t all (i, x, can, eq) =
     subst (λ (z : List Counts). StillData s z) (sym eq) (index-spoiled s i x (spoiled x) can.within can.at can.rule (kind-index (spoiled x) none (omega arith)) refl refl)
 
 -- ---- blocks that are opened
-
-free-head : (e : ℕ) (s t : List Counts) (places : List ℕ) (i : ℕ) (c d : Counts) → All (IsBlock e) s → CanPut s for_data i c → d ≡ placed for_data c →
-    InDataBlocks places (slice_set s i d) ⊎ (OpensOne places (slice_set s i d) × (free_of for_data (slice_set s i d) < length places)) →
-    InDataBlocks (i ∷ places) s ⊎ (OpensOne (i ∷ places) s × (free_of for_data s < suc (length places)))
-free-head e s t places i c d all can eq rest = ⊎_elim
-    (λ (kind : kind_of c ≡ for_data). ⊎_elim
-    (λ (far : InDataBlocks places (slice_set s i d)). inl (in_data kind far))
-    (λ (near : OpensOne places (slice_set s i d) × (free_of for_data (slice_set s i d) < length places)). inr (opens kind near.0, few kind near.1))
-    rest)
-    (λ (none : (kind_of c ≡ unused) × (free_of for_data s ≡ 0)). inr ((i, c, (0, omega arith, refl), can.at, none.0), omega (arith, none.1)))
-    can.rule
-  where
-    kd : kind_of d ≡ for_data
-    kd = subst (λ (z : Counts). kind_of z ≡ for_data) (sym eq) (kind-data (placed for_data c) (omega arith))
-
-    in_data : kind_of c ≡ for_data → InDataBlocks places (slice_set s i d) → InDataBlocks (i ∷ places) s
-    in_data kind far k (zero, low, at) = (c, subst (λ (z : ℕ). z < length s) at can.within, subst (λ (z : ℕ). slice_index_or s z c ≡ c) at can.at, kind)
-    in_data kind far k (suc j, low, at) =
-        let f = far k (j, omega arith, at) in
-        ⊎_elim
-        (λ (here : k ≡ i). (c, subst (λ (z : ℕ). z < length s) (sym here) can.within, subst (λ (z : ℕ). slice_index_or s z c ≡ c) (sym here) can.at, kind))
-        (λ (other : k ≡ i → ⊥). (f.0, omega (arith, f.1, length-set s i d), sym (get_or-set_other s i k d f.0 other) ∙ f.2, f.3))
-        (cases_eq k i)
-
-    opens : kind_of c ≡ for_data → OpensOne places (slice_set s i d) → OpensOne (i ∷ places) s
-    opens kind (k, x, (j, low, at), there, ku) = ⊎_elim
-        (λ (here : k ≡ i).
-        let same : x ≡ d = sym (subst (λ (z : ℕ). slice_index_or (slice_set s i d) z x ≡ x) here there) ∙ get_or-set_same s i d x can.within in
-        let bad : unused ≡ for_data = sym ku ∙ (ap kind_of same ∙ kd) in absurd (cc))
-        (λ (other : k ≡ i → ⊥). (k, x, (suc j, omega arith, at), sym (get_or-set_other s i k d x other) ∙ there, ku))
-        (cases_eq k i)
-
-    few : kind_of c ≡ for_data → free_of for_data (slice_set s i d) < length places → free_of for_data s < suc (length places)
-    few kind less =
-        let f = rw (kind, kd) at (free-set for_data s i c d can.within can.at) in
-        let df : d.free ≡ c.free - 1 = ap (λ (z : Counts). z.free) eq in
-        omega (arith, f, df, less, can.place)
-
-pub puts_open : PutsOpen
-unfolding PutsInto
-puts_open e s t [] all puts = inl (λ i has. absurd (omega (arith, has.1)))
-puts_open e s t (i ∷ places) all (c, can, puts) =
-    let is = block-of e s i c all can.within can.at in
-    let none = no-names e s c (seen e c is) can.rule in
-    let all' = All-set (IsBlock e) s i (placed for_data c) (record { whole = omega (arith, is.whole, can.place); apart = λ h. none }) all in
-    free-head e s t places i c (placed for_data c) all can refl (puts_open e (slice_set s i (placed for_data c)) t places all' puts)
 
 pub opens_few : OpensFew
 opens_few e c r d s carried is was few =

@@ -169,7 +169,9 @@ module _ (g : Geometry) (first was : List ℕ) (block : ℕ) (m : Move) (may : M
       let own : counts_by g (sort_at g now) block ≡ counts_by g (sort_at g was) block =
       same-block g (with_sort m.to Deleted (sort_at g was)) (sort_at g now) block l (λ p page at. same p page) ∙ own_stays g block l (sort_at g was) Deleted m.to out.place.entry out.place.apart in
       let loses : LosesIndex (others_by g (sort_at g was) block) (others_by g (sort_at g now) block) = (
-        beside block (block_of g m.to), counts_by g (sort_at g was) (block_of g m.to), place_can_put g (sort_at g was) block for_index m.to l out.place,
+        beside block (block_of g m.to),
+        counts_by g (sort_at g was) (block_of g m.to),
+        place_can_put g (sort_at g was) block for_index m.to l out.place,
         ap (without block) (same_sorts g (with_sort m.to Deleted (sort_at g was)) (sort_at g now) same) ∙ entry_spoiled g block l (sort_at g was) m.to out.place.entry out.place.apart out.place.free,
       ) in
       let some : 0 < (counts_by g (sort_at g was) block).index = subst (λ (b : ℕ). 0 < (counts_by g (sort_at g was) b).index) out.from ((sorts_are_counted g (sort_at g was) m.from from_page).index out.sort) in

@@ -284,12 +284,12 @@ module _ (g : Geometry) (moves : List Move) (was image now : List ℕ) (is : IsI
   batch_ends ix ms index within one live kind names renamed (lands gone copy there tag) = inl (
     came ix index one live gone copy there tag,
     all_from (Came (sort_at g was) (sort_at g now)) ms (λ m has. let n = all_at (IsNamedBy g was index) ms m names has in
-    came_by ix index copy there tag kind m (within m has) n (all_at (IsRenamed g was image ix.to) ms m renamed has) (landing m n.page (within m has) n.live)),
+        came_by ix index copy there tag kind m (within m has) n (all_at (IsRenamed g was image ix.to) ms m renamed has) (landing m n.page (within m has) n.live)),
   )
   batch_ends ix ms index within one live kind names renamed (stays here none) = inr (
     stayed ix index live here none,
     all_from (Stayed (sort_at g was) (sort_at g now)) ms (λ m has. let n = all_at (IsNamedBy g was index) ms m names has in
-    stays_by ix.from index live here kind m (within m has) n (landing m n.page (within m has) n.live)),
+        stays_by ix.from index live here kind m (within m has) n (landing m n.page (within m has) n.live)),
   )
 
 pub way_resolves : (g : Geometry) → WayResolves g

@@ -39,24 +39,6 @@ SpoilsOn = (e : ℕ) (s t u : List Counts) (m n : ℕ) → Spoils e s t m → Sp
 abbrev pub LosesIndex : (s t : List Counts) → Type 0
 LosesIndex s t = (i : ℕ) × (x : Counts) × CanPut s for_index i x × (t ≡ slice_set s i (spoiled x))
 
--- Data pages go into the blocks of a list, one after the other and each by the rule.
-unfoldable pub PutsInto : List ℕ → (s t : List Counts) → Type 0
-PutsInto [] s t = t ≡ s
-PutsInto (i ∷ places) s t = (c : Counts) × CanPut s for_data i c × PutsInto places (slice_set s i (placed for_data c)) t
-
--- one of the places is in a block that was unused
-abbrev pub OpensOne : List ℕ → List Counts → Type 0
-OpensOne places s = (i : ℕ) × (c : Counts) × Contains places i × (slice_index_or s i c ≡ c) × (kind_of c ≡ unused)
-
--- all of them are in blocks that were data blocks
-abbrev pub InDataBlocks : List ℕ → List Counts → Type 0
-InDataBlocks places s = (i : ℕ) → Contains places i → (c : Counts) × (i < length s) × (slice_index_or s i c ≡ c) × (kind_of c ≡ for_data)
-
--- Data pages all go into data blocks, or one opens an unused block, and then the free entries of data blocks were fewer than the pages.
-abbrev pub PutsOpen : Type 0
-PutsOpen = (e : ℕ) (s t : List Counts) (places : List ℕ) → All (IsBlock e) s → PutsInto places s t →
-    InDataBlocks places s ⊎ (OpensOne places s × (free_of for_data s < length places))
-
 -- While a block is emptied, there is no further data block as long as the places in data blocks are too few for its data pages.
 abbrev pub OpensFew : Type 0
 OpensFew = (e : ℕ) (c : Counts) (r : List Counts) (d : Counts) (s : List Counts) (carried : ℕ) → IsVolume e (c ∷ r) → Emptying e c r d s carried →

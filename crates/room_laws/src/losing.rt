@@ -1,4 +1,4 @@
-ghost use Rattle.room_laws.specs.Losing.{SpoilsNone, SpoilsOne, SpoilsOn, PutsOpen, OpensFew, EmptyingIsCut, IndexLostIsCut, PagesLostAreCut, DeadIsCut};
+ghost use Rattle.room_laws.specs.Losing.{SpoilsNone, SpoilsOne, SpoilsOn, OpensFew, EmptyingIsCut, IndexLostIsCut, PagesLostAreCut, DeadIsCut};
 
 /// Entries of data blocks that are spoiled take their places alone.
 pub fn entries_are_spoiled()
@@ -7,10 +7,9 @@ pub fn entries_are_spoiled()
     ensures on { SpoilsOn }
 {}
 
-/// A further data block is opened only where the others have too few places, and that happens once at most.
-pub fn blocks_are_opened()
-    ensures puts { PutsOpen }
-    ensures few { OpensFew }
+/// As long as data blocks have too few places for the data pages of a block, it was emptied into no further data block.
+pub fn few_are_opened()
+    ensures { OpensFew }
 {}
 
 /// What is left of a cleaning in which copies were lost is what a cut leaves.
