@@ -146,12 +146,9 @@ moves_tail : (g : Geometry) (was : List ℕ) (m : Move) (ms : List Move) → Are
 unfolding AreMoves
 moves_tail g was m ms are = (are.0, are.2)
 
-module _ (g : Geometry) (first was image : List ℕ) (block : ℕ) (ix : Move) (ms : List Move) (may : MayCut g first block) (between : IsBetween g first block was) (ways : ArePagesWay g block (sort_at g was) ms)
-    (some : 0 < length ms) (few : length ms ≤ batch_most g first block) (apart : block_of g ix.from ≢ block) (place : IsPlaceBy g (with_data ms (sort_at g was)) block for_index ix.to)
+module _ (g : Geometry) (first was image : List ℕ) (block : ℕ) (here : block < g.blocks) (ix : Move) (ms : List Move) (between : IsBetween g first block was) (ways : ArePagesWay g block (sort_at g was) ms)
+    (some : 0 < length ms) (apart : block_of g ix.from ≢ block) (place : IsPlaceBy g (with_data ms (sort_at g was)) block for_index ix.to)
     (batch : IsBatch g was image ix ms) (way : IsOnWay g (ix ∷ ms) was image) (now : List ℕ) (is : IsImage g now) (s : IsStaged g image now) where
-  here : block < g.blocks
-  here = low g first block may
-
   tail : IsMove g was ix × AreMoves g was ms
   tail = moves_tail g was ix ms way.moves_are
 
@@ -208,9 +205,6 @@ module _ (g : Geometry) (first was image : List ℕ) (block : ℕ) (ix : Move) (
 
     pub came_empties : EmptyingTo g first block (sort_at g now) 0
     came_empties = same_emptying g first block here after (sort_at g now) 0 came_same emptied_after
-
-    came_mends : CanMend g now
-    came_mends = whole_recovers g first block may now is s.tidy table_now came_empties
 
   -- all have stayed
   module _ (stays : All (Stayed (sort_at g was) (sort_at g now)) (ix ∷ ms)) where
@@ -290,15 +284,21 @@ module _ (g : Geometry) (first was image : List ℕ) (block : ℕ) (ix : Move) (
         other_sorts_stay g (sort_at g was) (sort_at g now ix.to) ix.to (block_of g m.to) back.0.entry (block_number g m.to (page_number g m.to o.entry))
         (λ e. all_at (λ (n : Move). block_of g n.to ≢ block_of g ix.to) ms m back.1 has (sym e))
 
-    stays_mends : CanMend g now
-    stays_mends =
+    stays_mends : (may : MayCut g first block) → length ms ≤ batch_most g first block → CanMend g now
+    stays_mends may few =
         stayed_mends g first was block ms may between ways tail.1 some few now is s.tidy table_now base base_own based.loses based.still based.blocks base_there spare
         (λ p page. stay_same (sort_at g now) base ms p (λ none. base_same p page none))
 
-  pub batch_mends : CanMend g now
-  batch_mends = ⊎_elim came_mends stays_mends (batch_resolves g ix ms was image now between.image_is between.tidy way.moves_are way.way way.table batch is s)
+  pub batch_or : All (Came (sort_at g was) (sort_at g now)) (ix ∷ ms) ⊎ All (Stayed (sort_at g was) (sort_at g now)) (ix ∷ ms)
+  batch_or = batch_resolves g ix ms was image now between.image_is between.tidy way.moves_are way.way way.table batch is s
+
+  pub batch_mends : (may : MayCut g first block) → length ms ≤ batch_most g first block → CanMend g now
+  batch_mends may few = ⊎_elim
+      (λ (came : All (Came (sort_at g was) (sort_at g now)) (ix ∷ ms)). whole_recovers g first block may now is s.tidy table_now (came_empties came))
+      (λ (stays : All (Stayed (sort_at g was) (sort_at g now)) (ix ∷ ms)). stays_mends stays may few)
+      batch_or
 
 pub batch_way_mends : (g : Geometry) → BatchWayMends g
 batch_way_mends g first was image block ix ms may between ways some few apart place batch way = record {
-  mends = λ now is s. batch_mends g first was image block ix ms may between ways some few apart place batch way now is s;
+  mends = λ now is s. batch_mends g first was image block (low g first block may) ix ms between ways some apart place batch way now is s may few;
 }
