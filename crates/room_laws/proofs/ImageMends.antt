@@ -124,7 +124,7 @@ without_has (x ∷ v) zero (suc k) c low out at = (k, omega (arith, low), at)
 without_has (x ∷ v) (suc i) zero c low out at = (0, omega arith, at)
 without_has (x ∷ v) (suc i) (suc k) c low out at = let w = without_has v i k c (omega (arith, low)) (λ e. out (ap suc e)) at in (suc w.0, omega (arith, w.1), w.2)
 
-other_has : (g : Geometry) (image : List ℕ) (block other : ℕ) → other < g.blocks → other ≢ block → Contains (others_of g image block) (block_counts g image other)
+pub other_has : (g : Geometry) (image : List ℕ) (block other : ℕ) → other < g.blocks → other ≢ block → Contains (others_of g image block) (block_counts g image other)
 unfolding counts_of
 other_has g image block other low out =
     let size = length-map-range_with_len (block_counts g image) 0 g.blocks in

@@ -37,3 +37,4 @@ pub mod Batches
 pub mod Spoiling
 pub mod BatchMends
 pub mod FreshMends
+pub mod CleanedImages

@@ -43,7 +43,7 @@ used_sort g a p t page used dead = ⊎_elim
     (λ (none : (entry_of g a p == 0xFFFF) ≡ false). rw (none, dead) refl)
     (cases_Bool (entry_of g a p == 0xFFFF))
 
-dead_sort : (g : Geometry) (a : List ℕ) (p : ℕ) → live_at g a p ≡ None → (sort_at g a p ≡ Deleted) ⊎ (sort_at g a p ≡ Free)
+pub dead_sort : (g : Geometry) (a : List ℕ) (p : ℕ) → live_at g a p ≡ None → (sort_at g a p ≡ Deleted) ⊎ (sort_at g a p ≡ Free)
 unfolding sort_at
 dead_sort g a p dead = ⊎_elim
     (λ (ones : (entry_of g a p == 0xFFFF) ≡ true). inr (rw ones refl))

@@ -23,3 +23,5 @@ pub mod Tags
 pub mod Staged
 pub mod Ways
 pub mod Recovery
+pub mod Carrying
+pub mod CleanedImages
