@@ -54,7 +54,7 @@ module _ (g : Geometry) (first was : List ℕ) (block : ℕ) (ms : List Move) (m
 
   -- enough data pages are in the block for them
   pages_in : length ms ≤ (counts_by g (sort_at g was) block).pages
-  pages_in = let o = all_out g block at was first ms are ways between.emptying in omega (arith, o.1)
+  pages_in = let o = all_out g block at was first ms are ways between.emptying in omega (arith, o.pages)
 
   kind : kind_of (counts_by g (sort_at g first) block) ≡ for_data
   kind = kind-data (counts_by g (sort_at g first) block) (omega (arith, pages_in, some, between.emptying.few))
@@ -200,7 +200,7 @@ module _ (g : Geometry) (first was image : List ℕ) (block : ℕ) (here : block
     emptied_after : EmptyingTo g first block after 0
     unfolding after
     emptied_after =
-        renewed_out g block here first (moved ms (sort_at g was)) (length ms) ix.from ix.to some (all_out g block here was first ms tail.1 ways between.emptying).0 from_page apart index_there
+        renewed_out g block here first (moved ms (sort_at g was)) (length ms) ix.from ix.to some (all_out g block here was first ms tail.1 ways between.emptying).emptying from_page apart index_there
         (place_alike g block here (with_data ms (sort_at g was)) (moved ms (sort_at g was)) for_index ix.to (moved_outside g block here was ms ways) place)
 
     pub came_empties : EmptyingTo g first block (sort_at g now) 0

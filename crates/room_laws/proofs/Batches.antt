@@ -10,14 +10,13 @@ use Rattle.image_model.specs.Within.{page_number, block_number}
 use Rattle.image_laws.proofs.Frames.{live_parts}
 use Rattle.room_laws.specs.Counts.{Counts, IsBlock, Kind, unused, for_index, for_data, kind_of}
 use Rattle.room_laws.specs.Volume.{free_of}
-use Rattle.room_laws.specs.Leaving.{page_killed}
 use Rattle.room_laws.specs.Sorts.{Sort, Index, Data, Deleted, Free, sort_at, counts_by, others_by, beside, with_sort, IsPlaceBy}
 use Rattle.room_laws.specs.Ways.{Move, IsMove, AreApart, AreMoves, IsAside, Came}
 use Rattle.room_laws.specs.Recovery.{EmptyingTo, with_data, ArePagesWay}
 use Rattle.room_laws.proofs.Moves.{kind-data}
 use Rattle.room_laws.proofs.Puts.{PutTells, put-data}
 use Rattle.room_laws.proofs.Sorted.{with-here, with-there, sorts_change, sorts_are_counted, other_sorts_stay, place_can_put}
-use Rattle.room_laws.proofs.SortSteps.{others_alike, other_alike, place_alike, own_stays, data_killed, data_put, data_out}
+use Rattle.room_laws.proofs.SortSteps.{others_alike, other_alike, place_alike, data_put, data_out_is, data_in_own, data_out}
 use Rattle.room_laws.proofs.OnTheWay.{all_nil, all_cons, all_at, all_from, in_head, in_tail}
 
 -- a data page that leaves the block
@@ -95,23 +94,29 @@ module _ (g : Geometry) (block : ℕ) (low : block < g.blocks) (was : List ℕ) 
   from_page : (m : Move) → IsMove g was m → is_entry_page g m.from ≡ true
   from_page m move = (live_parts g was m.from move.page move.live).entry_page
 
-  -- the data pages that left, and how many are left
-  pub all_out : (first : List ℕ) (ms : List Move) → AreMoves g was ms → ArePagesWay g block (sort_at g was) ms → EmptyingTo g first block (sort_at g was) 0 →
-      EmptyingTo g first block (moved ms (sort_at g was)) (length ms) × ((counts_by g (moved ms (sort_at g was)) block).pages + length ms ≡ (counts_by g (sort_at g was) block).pages)
+  -- the data pages that left, and how many pages are left
+  pub record AllOut (first : List ℕ) (ms : List Move) : Type 0 where
+    pub emptying : EmptyingTo g first block (moved ms (sort_at g was)) (length ms)
+    pub pages : (counts_by g (moved ms (sort_at g was)) block).pages + length ms ≡ (counts_by g (sort_at g was) block).pages
+    pub index : (counts_by g (moved ms (sort_at g was)) block).index ≡ (counts_by g (sort_at g was) block).index
+
+  pub all_out : (first : List ℕ) (ms : List Move) → AreMoves g was ms → ArePagesWay g block (sort_at g was) ms → EmptyingTo g first block (sort_at g was) 0 → AllOut first ms
   unfolding ArePagesWay AreMoves
-  all_out first [] are ways start = (start, omega arith)
+  all_out first [] are ways start = record { emptying = start; pages = omega arith; index = refl }
   all_out first (m ∷ ms) are ways start =
       let rest = all_out first ms are.2 ways.3 start in
       let page = from_page m are.0 in
       let still : moved ms (sort_at g was) m.from ≡ Data = moved_aside (sort_at g was) ms m.from (from_aside m ms ways.0 (outs g block (sort_at g was) ms ways.3) are.1) ∙ ways.1 in
       let place = place_alike g block low (with_data ms (sort_at g was)) (moved ms (sort_at g was)) for_data m.to (moved_outside ms ways.3) ways.2 in
-      let next = data_out g block low first (moved ms (sort_at g was)) (length ms) m.from m.to rest.0 page ways.0 still place in
-      let apart : m.from ≡ m.to → ⊥ = λ e. ways.2.apart (ap (λ (q : ℕ). block_of g q) (sym e) ∙ ways.0) in
-      let mid : with_sort m.to Data (moved ms (sort_at g was)) m.from ≡ Data = with-there (moved ms (sort_at g was)) m.to m.from Data apart ∙ still in
-      let own = data_killed g block low (with_sort m.to Data (moved ms (sort_at g was))) m.from page ways.0 mid ∙ ap page_killed (own_stays g block low (moved ms (sort_at g was)) Data m.to place.entry place.apart) in
-      let some : 0 < (counts_by g (moved ms (sort_at g was)) block).pages = subst (λ (b : ℕ). 0 < (counts_by g (moved ms (sort_at g was)) b).pages) ways.0 ((sorts_are_counted g (moved ms (sort_at g was)) m.from page).pages still) in
+      let next = data_out g block low first (moved ms (sort_at g was)) (length ms) m.from m.to rest.emptying page ways.0 still place in
+      let own = (data_out_is g block low (moved ms (sort_at g was)) m.from m.to page ways.0 still place).0 in
+      let some = data_in_own g block low (moved ms (sort_at g was)) m.from page ways.0 still in
       let pages : (counts_by g (moved (m ∷ ms) (sort_at g was)) block).pages ≡ (counts_by g (moved ms (sort_at g was)) block).pages - 1 = ap (λ (c : Counts). c.pages) own in
-      (subst (λ (n : ℕ). EmptyingTo g first block (moved (m ∷ ms) (sort_at g was)) n) (omega arith) next, omega (arith, pages, some, rest.1))
+      record {
+        emptying = subst (λ (n : ℕ). EmptyingTo g first block (moved (m ∷ ms) (sort_at g was)) n) (omega arith) next;
+        pages = omega (arith, pages, some, rest.pages);
+        index = ap (λ (c : Counts). c.index) own ∙ rest.index;
+      }
 
   -- ---- blocks that are opened
 
@@ -179,7 +184,7 @@ module _ (g : Geometry) (block : ℕ) (low : block < g.blocks) (was : List ℕ) 
     pub blocks_with : (ms : List Move) → AreMoves g was ms → ArePagesWay g block (sort_at g was) ms → All (IsBlock (entries g)) (others_by g (with_data ms (sort_at g was)) block)
     blocks_with ms are ways =
         subst (λ (s : List Counts). All (IsBlock (entries g)) s) (sym (others_alike g block low (moved ms (sort_at g was)) (with_data ms (sort_at g was)) (λ p page out. sym (moved_outside ms ways p page out))))
-        (all_out first ms are ways start).0.reached.blocks
+        (all_out first ms are ways start).emptying.reached.blocks
 
     put_tells : (m : Move) (ms : List Move) → AreMoves g was ms → ArePagesWay g block (sort_at g was) ms → IsPlaceBy g (with_data ms (sort_at g was)) block for_data m.to →
         PutTells (entries g) (others_by g (with_data ms (sort_at g was)) block) (others_by g (with_data (m ∷ ms) (sort_at g was)) block) for_data for_index
