@@ -142,7 +142,7 @@ pages_way_mend g first was image block at page (m ∷ ms) may between ways few l
 
 -- ---- with the index page
 
-moves_tail : (g : Geometry) (was : List ℕ) (m : Move) (ms : List Move) → AreMoves g was (m ∷ ms) → IsMove g was m × AreMoves g was ms
+pub moves_tail : (g : Geometry) (was : List ℕ) (m : Move) (ms : List Move) → AreMoves g was (m ∷ ms) → IsMove g was m × AreMoves g was ms
 unfolding AreMoves
 moves_tail g was m ms are = (are.0, are.2)
 
@@ -155,10 +155,10 @@ module _ (g : Geometry) (first was image : List ℕ) (block : ℕ) (here : block
   out : All (IsOut g block (sort_at g was)) ms
   out = outs g block (sort_at g was) ms ways
 
-  from_page : is_entry_page g ix.from ≡ true
+  pub from_page : is_entry_page g ix.from ≡ true
   from_page = (live_parts g was ix.from batch.page batch.live).entry_page
 
-  index_sort : sort_at g was ix.from ≡ Index
+  pub index_sort : sort_at g was ix.from ≡ Index
   index_sort = live_sort g was ix.from batch.page batch.live ∙ (rw batch.kind refl)
 
   resolves : Resolves g (ix ∷ ms) (sort_at g was) (sort_at g now)
@@ -169,11 +169,10 @@ module _ (g : Geometry) (first was image : List ℕ) (block : ℕ) (here : block
 
   -- all have come
   module _ (came : All (Came (sort_at g was) (sort_at g now)) (ix ∷ ms)) where
-    after : ℕ → Sort
+    abbrev pub after : ℕ → Sort
     after = with_sort ix.from Deleted (with_sort ix.to Index (moved ms (sort_at g was)))
 
-    came_same : (p : ℕ) → is_entry_page g p ≡ true → sort_at g now p ≡ after p
-    unfolding after
+    pub came_same : (p : ℕ) → is_entry_page g p ≡ true → sort_at g now p ≡ after p
     came_same p page =
         let c = all_head (Came (sort_at g was) (sort_at g now)) ix ms came in
         ⊎_elim
@@ -190,7 +189,7 @@ module _ (g : Geometry) (first was image : List ℕ) (block : ℕ) (here : block
         (cases_eq p ix.to))
         (cases_eq p ix.from)
 
-    index_there : moved ms (sort_at g was) ix.from ≡ Index
+    pub index_there : moved ms (sort_at g was) ix.from ≡ Index
     index_there =
         moved_aside (sort_at g was) ms ix.from (all_from (λ (m : Move). (ix.from ≢ m.from) × (ix.from ≢ m.to)) ms (λ m has.
         let o = all_at (IsOut g block (sort_at g was)) ms m out has in
@@ -198,7 +197,6 @@ module _ (g : Geometry) (first was image : List ℕ) (block : ℕ) (here : block
         ∙ index_sort
 
     emptied_after : EmptyingTo g first block after 0
-    unfolding after
     emptied_after =
         renewed_out g block here first (moved ms (sort_at g was)) (length ms) ix.from ix.to some (all_out g block here was first ms tail.1 ways between.emptying).emptying from_page apart index_there
         (place_alike g block here (with_data ms (sort_at g was)) (moved ms (sort_at g was)) for_index ix.to (moved_outside g block here was ms ways) place)

@@ -38,3 +38,4 @@ pub mod Spoiling
 pub mod BatchMends
 pub mod FreshMends
 pub mod CleanedImages
+pub mod Carried

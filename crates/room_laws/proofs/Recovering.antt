@@ -129,18 +129,23 @@ still_mends g first was image block may between way = record {
 
 -- ---- an index page on its way
 
--- once it has come it is gone from the block
-pub index_empties : (g : Geometry) (first was : List ℕ) (block : ℕ) (m : Move) → block < g.blocks → IsBetween g first block was → IsIndexWay g block (sort_at g was) m → is_entry_page g m.from ≡ true → (now : List ℕ) →
-    ((p : ℕ) → is_entry_page g p ≡ true → p ≢ m.from → p ≢ m.to → sort_at g now p ≡ sort_at g was p) → Came (sort_at g was) (sort_at g now) m → EmptyingTo g first block (sort_at g now) 0
-index_empties g first was block m l between out from_page now others came =
-    let same : (p : ℕ) → is_entry_page g p ≡ true → sort_at g now p ≡ with_sort m.from Deleted (with_sort m.to Index (sort_at g was)) p = λ p page. ⊎_elim
+-- what pages count as once it has come
+pub index_same : (g : Geometry) (was : List ℕ) (block : ℕ) (m : Move) → IsIndexWay g block (sort_at g was) m → (now : List ℕ) →
+    ((p : ℕ) → is_entry_page g p ≡ true → p ≢ m.from → p ≢ m.to → sort_at g now p ≡ sort_at g was p) → Came (sort_at g was) (sort_at g now) m →
+    (p : ℕ) → is_entry_page g p ≡ true → sort_at g now p ≡ with_sort m.from Deleted (with_sort m.to Index (sort_at g was)) p
+index_same g was block m out now others came p page = ⊎_elim
     (λ (here : p ≡ m.from). ap (sort_at g now) here ∙ came.0 ∙ sym (ap (with_sort m.from Deleted (with_sort m.to Index (sort_at g was))) here ∙ with-here (with_sort m.to Index (sort_at g was)) m.from Deleted))
     (λ (there : p ≡ m.from → ⊥). ⊎_elim
     (λ (to : p ≡ m.to). ap (sort_at g now) to ∙ came.1 ∙ out.sort ∙ sym (with-there (with_sort m.to Index (sort_at g was)) m.from p Deleted there ∙ ap (with_sort m.to Index (sort_at g was)) to ∙ with-here (sort_at g was) m.to Index))
     (λ (away : p ≡ m.to → ⊥). others p page there away ∙ sym (with-there (with_sort m.to Index (sort_at g was)) m.from p Deleted there ∙ with-there (sort_at g was) m.to p Index away))
     (cases_eq p m.to))
-    (cases_eq p m.from) in
-    same_emptying g first block l (with_sort m.from Deleted (with_sort m.to Index (sort_at g was))) (sort_at g now) 0 same
+    (cases_eq p m.from)
+
+-- then it is gone from the block
+pub index_empties : (g : Geometry) (first was : List ℕ) (block : ℕ) (m : Move) → block < g.blocks → IsBetween g first block was → IsIndexWay g block (sort_at g was) m → is_entry_page g m.from ≡ true → (now : List ℕ) →
+    ((p : ℕ) → is_entry_page g p ≡ true → p ≢ m.from → p ≢ m.to → sort_at g now p ≡ sort_at g was p) → Came (sort_at g was) (sort_at g now) m → EmptyingTo g first block (sort_at g now) 0
+index_empties g first was block m l between out from_page now others came =
+    same_emptying g first block l (with_sort m.from Deleted (with_sort m.to Index (sort_at g was))) (sort_at g now) 0 (index_same g was block m out now others came)
     (index_out g block l first (sort_at g was) 0 m.from m.to between.emptying from_page out.from out.sort out.place)
 
 module _ (g : Geometry) (first was : List ℕ) (block : ℕ) (m : Move) (may : MayCut g first block) (between : IsBetween g first block was) (out : IsIndexWay g block (sort_at g was) m)

@@ -1,0 +1,183 @@
+-- Turns of a cleaning that are done.
+use Rattle.std.proofs.Common.{◌≡◌, ◌≢◌, ℕ, suc, ◌+◌, ◌-◌, ◌<◌, ◌≤◌, ◌⊎◌, List, [], ◌∷◌, length, true, false, ◌==◌, Some, None, refl, sym, ◌∙◌, ap, subst, arith, ⊎_elim, inl, inr, slice_set}
+use Rattle.std.specs.Prelude.{All}
+use Rattle.std.proofs.lemmas.Bool.{cases_eq, ne_eqb}
+use Rattle.geometry.specs.declared.geometry.Geometry.{Geometry}
+use Rattle.image_model.specs.Volume.{entries}
+use Rattle.image_model.specs.Headers.{obj_id}
+use Rattle.image_model.specs.Places.{IsImage, entry_of, block_of, is_entry_page}
+use Rattle.image_model.specs.Live.{live_at}
+use Rattle.image_model.specs.Tidy.{IsTidy, is_free_entry}
+use Rattle.image_laws.specs.TidySteps.{Agree}
+use Rattle.image_laws.specs.LiveSteps.{PutDone, KillDone}
+use Rattle.image_laws.proofs.Frames.{live_parts}
+use Rattle.image_laws.proofs.Tally.{is_finished-ones}
+use Rattle.room_laws.specs.Counts.{Counts, IsBlock, unused, for_index, for_data, kind_of}
+use Rattle.room_laws.specs.Volume.{IsVolume, blocks_of, free_of, need, FitsAs, Fits}
+use Rattle.room_laws.specs.Steps.{placed, killed}
+use Rattle.room_laws.specs.Order.{without, Rearranged}
+use Rattle.room_laws.specs.Places.{HadWith}
+use Rattle.room_laws.specs.Counting.{block_counts, counts_of}
+use Rattle.room_laws.specs.Sorts.{Sort, Index, Data, Deleted, Free, sort_of_page, sort_at, TellsFree, counts_by, others_by, beside, with_sort, IsPlaceBy}
+use Rattle.room_laws.specs.Ways.{Move, IsMove, AreMoves, IsAside, Came, Stayed, Ends, IsBatch}
+use Rattle.room_laws.specs.Recovery.{HasPlaces, IsBetween, IsOnWay, IsIndexWay, with_data, ArePagesWay, EmptyingTo}
+use Rattle.room_laws.specs.Carrying.{PutSorts, KillSorts, BeginsBetween, FitsHasPlaces, BatchHasPlaces, IndexGoesOn, BatchGoesOn}
+use Rattle.room_laws.proofs.Totals.{Seen, is_unused, is_index, is_data, seen}
+use Rattle.room_laws.proofs.Tallies.{entries_pos}
+use Rattle.room_laws.proofs.Judged.{fits_is_tested}
+use Rattle.room_laws.proofs.Orders.{blocks-same, free-same}
+use Rattle.room_laws.proofs.Besides.{others_of, front, front_volume}
+use Rattle.room_laws.proofs.Leaves.{emptying_starts}
+use Rattle.room_laws.proofs.HavePlaces.{need-none, had_puts_index, had_puts_data, had_kills, had_less}
+use Rattle.room_laws.proofs.Sorted.{with-here, with-there, same-block, same_sorts, place_can_put}
+use Rattle.room_laws.proofs.SortSteps.{others_alike, place_alike, data_put, index_out_is, index_in_own, RenewedIs, renewed_is}
+use Rattle.room_laws.proofs.Staying.{tidy_is_staged}
+use Rattle.room_laws.proofs.Resolved.{live_sort, dead_sort, way_resolves, moves_each}
+use Rattle.room_laws.proofs.OnTheWay.{all_nil, all_cons, all_head}
+use Rattle.room_laws.proofs.Recovering.{own_by, others_are, volume_by, index_same, index_empties}
+use Rattle.room_laws.proofs.Batches.{moved, moved_outside, AllOut, all_out, blocks_with}
+use Rattle.room_laws.proofs.BatchMends.{batch_or, came_empties, after, came_same, index_there, from_page, index_sort, moves_tail}
+
+-- ---- single programs
+
+-- an entry that stays counts as it did
+agree_sort : (g : Geometry) (a b : List ℕ) (p q : ℕ) → Agree g a b p → is_entry_page g q ≡ true → q ≢ p → live_at g b q ≡ live_at g a q → sort_at g b q ≡ sort_at g a q
+unfolding sort_at
+agree_sort g a b p q agree page other live = rw (agree.entry q page other, live) refl
+
+-- and lookup pages tell it as before
+agree_tells : (g : Geometry) (a b : List ℕ) (p : ℕ) → TellsFree g a → Agree g a b p → (entry_of g b p ≡ 0xFFFF → ⊥) → TellsFree g b
+agree_tells g a b p t agree used = record {
+  magic = λ c low. agree.magic c ∙ t.magic c low;
+  free = λ q page ones. ⊎_elim
+      (λ (here : q ≡ p). absurd (used (ap (entry_of g b) (sym here) ∙ ones)))
+      (λ (other : q ≡ p → ⊥).
+      let old = t.free q page (sym (agree.entry q page other) ∙ ones) in
+      let same : is_free_entry g b q ≡ is_free_entry g a q = rw (agree.entry q page other, agree.page q page other) refl in
+      same ∙ old)
+      (cases_eq q p);
+}
+
+live_entry : (g : Geometry) (b : List ℕ) (p : ℕ) (page : List ℕ) → live_at g b p ≡ Some page → entry_of g b p ≡ 0xFFFF → ⊥
+live_entry g b p page live ones = let w = live_parts g b p page live in let bad : false ≡ true = sym (is_finished-ones page (sym w.entry ∙ ones)) ∙ w.finished in absurd (cc)
+
+pub put_sorts : (g : Geometry) → PutSorts g
+put_sorts g a b p page t done = (
+  agree_tells g a b p t done.agree (live_entry g b p page done.gains.after),
+  λ q entry. ⊎_elim
+      (λ (here : q ≡ p). ap (sort_at g b) here ∙ live_sort g b p page done.gains.after ∙ sym (ap (with_sort p (sort_of_page (Some page)) (sort_at g a)) here ∙ with-here (sort_at g a) p (sort_of_page (Some page))))
+      (λ (other : q ≡ p → ⊥). agree_sort g a b p q done.agree entry other (done.gains.others q other) ∙ sym (with-there (sort_at g a) p q (sort_of_page (Some page)) other))
+      (cases_eq q p),
+)
+
+-- an entry of 0 is deleted
+zero_sort : (g : Geometry) (b : List ℕ) (p : ℕ) → entry_of g b p ≡ 0 → live_at g b p ≡ None → sort_at g b p ≡ Deleted
+unfolding sort_at
+zero_sort g b p zero dead = rw (zero, dead) refl
+
+pub kill_sorts : (g : Geometry) → KillSorts g
+kill_sorts g a b p t done = (
+  agree_tells g a b p t done.agree (λ ones. let bad : 0 ≡ 0xFFFF = sym done.zero ∙ ones in absurd (omega (arith, bad))),
+  λ q entry. ⊎_elim
+      (λ (here : q ≡ p). ap (sort_at g b) here ∙ zero_sort g b p done.zero done.loses.after ∙ sym (ap (with_sort p Deleted (sort_at g a)) here ∙ with-here (sort_at g a) p Deleted))
+      (λ (other : q ≡ p → ⊥). agree_sort g a b p q done.agree entry other (done.loses.others q other) ∙ sym (with-there (sort_at g a) p q Deleted other))
+      (cases_eq q p),
+)
+
+-- ---- where a cleaning begins
+
+pub begins_between : (g : Geometry) → BeginsBetween g
+begins_between g first block is t low =
+    let v = volume_by g block low first t in
+    record {
+      image_is = is;
+      tidy = t;
+      table = refl;
+      emptying = emptying_starts (entries g) (counts_by g (sort_at g first) block) (others_by g (sort_at g first) block) (λ k d below. v.blocks (suc k) d (omega arith));
+    }
+
+-- the live pages of a block that fits find places in the others
+fits_had : (e : ℕ) (c : Counts) (r : List Counts) → IsVolume e (c ∷ r) → Fits e (c ∷ r) c → HadWith e r 0 (c.index + c.pages) c.pages
+unfolding blocks_of free_of
+fits_had e c r is fits = by (seen e c (is.blocks 0 c (omega arith)))
+  where
+    by : Seen e c → HadWith e r 0 (c.index + c.pages) c.pages
+    by (is_unused k i p x) = rw (i, p) (let a = need-none e (free_of for_index r) is.entries in let b = need-none e (free_of for_data r) is.entries in omega (arith, a, b))
+    by (is_index k p x w) =
+        let f : need e c.index (free_of for_index (c ∷ r) - c.free) ≤ blocks_of unused (c ∷ r) = rw k at fits in
+        let own : free_of for_index (c ∷ r) - c.free ≡ free_of for_index r = let s : free_of for_index (c ∷ r) ≡ c.free + free_of for_index r = rw k refl in omega (arith, s) in
+        let same : blocks_of unused (c ∷ r) ≡ blocks_of unused r = rw k (omega arith) in
+        let f' : need e c.index (free_of for_index r) ≤ blocks_of unused (c ∷ r) = rw own at f in
+        let b = need-none e (free_of for_data r) is.entries in
+        let all : c.index + c.pages ≡ c.index = omega (arith, p) in
+        rw (all, p) (omega (arith, f', same, b))
+    by (is_data k i x w) =
+        let f : need e c.pages (free_of for_data (c ∷ r) - c.free) + need e c.pages (free_of for_index (c ∷ r)) ≤ blocks_of unused (c ∷ r) = rw k at fits in
+        let own : free_of for_data (c ∷ r) - c.free ≡ free_of for_data r = let s : free_of for_data (c ∷ r) ≡ c.free + free_of for_data r = rw k refl in omega (arith, s) in
+        let other : free_of for_index (c ∷ r) ≡ free_of for_index r = rw k (omega arith) in
+        let same : blocks_of unused (c ∷ r) ≡ blocks_of unused r = rw k (omega arith) in
+        let f' : need e c.pages (free_of for_data r) + need e c.pages (free_of for_index r) ≤ blocks_of unused (c ∷ r) = rw (own, other) at f in
+        let all : c.index + c.pages ≡ c.pages = omega (arith, i) in
+        rw all (omega (arith, f', same))
+
+fits_back : (e : ℕ) (a b : List Counts) (c : Counts) → Rearranged a b → Fits e b c → Fits e a c
+fits_back e a b c r = by_kind (kind_of c)
+  where
+    by_kind : (k : _) → FitsAs k e b c → FitsAs k e a c
+    by_kind unused f = tt
+    by_kind for_index f = rw (free-same for_index a b r, blocks-same unused a b r) f
+    by_kind for_data f = rw (free-same for_index a b r, free-same for_data a b r, blocks-same unused a b r) f
+
+pub fits_has_places : (g : Geometry) → FitsHasPlaces g
+fits_has_places g image block t low fits =
+    let f = (fits_is_tested g image block t low).0 fits in
+    let f' = fits_back (entries g) (block_counts g image block ∷ others_of g image block) (counts_of g image) (block_counts g image block) (front g image block low) f in
+    let h = fits_had (entries g) (block_counts g image block) (others_of g image block) (front_volume g image block low t) f' in
+    rw (own_by g block low image t, others_are g block low image t) at h
+
+-- ---- pages that have places
+
+had_at : (e : ℕ) (v v' : List Counts) (i i' d d' : ℕ) → v ≡ v' → i ≡ i' → d ≡ d' → HadWith e v' 0 i' d' → HadWith e v 0 i d
+had_at e v v' i i' d d' x y z h = rw (x, y, z) h
+
+-- the counts of an image by sorts that are the same
+places_at : (g : Geometry) (block : ℕ) → block < g.blocks → (a b : ℕ → Sort) → ((p : ℕ) → is_entry_page g p ≡ true → b p ≡ a p) → HasPlaces g block a → HasPlaces g block b
+places_at g block low a b same h =
+    let own = same-block g a b block low (λ p page at. same p page) in
+    had_at (entries g) (others_by g b block) (others_by g a block) ((counts_by g b block).index + (counts_by g b block).pages) ((counts_by g a block).index + (counts_by g a block).pages)
+    (counts_by g b block).pages (counts_by g a block).pages (ap (without block) (same_sorts g a b same)) (ap (λ (c : Counts). c.index + c.pages) own) (ap (λ (c : Counts). c.pages) own) h
+
+index_places : (g : Geometry) (block : ℕ) (low : block < g.blocks) (sorts : ℕ → Sort) (from to : ℕ) → All (IsBlock (entries g)) (others_by g sorts block) → is_entry_page g from ≡ true → block_of g from ≡ block → sorts from ≡ Index →
+    IsPlaceBy g sorts block for_index to → HasPlaces g block sorts → HasPlaces g block (with_sort from Deleted (with_sort to Index sorts))
+index_places g block low sorts from to blocks page at sort place h =
+    let is = index_out_is g block low sorts from to page at sort place in
+    let some = index_in_own g block low sorts from page at sort in
+    let d = counts_by g sorts block in
+    let more : d.index - 1 + d.pages + 1 ≡ d.index + d.pages = omega arith in
+    let h' : HadWith (entries g) (others_by g sorts block) 0 (d.index - 1 + d.pages + 1) d.pages = had_at (entries g) (others_by g sorts block) (others_by g sorts block) (d.index - 1 + d.pages + 1) (d.index + d.pages) d.pages d.pages refl more refl h in
+    let put = had_puts_index (entries g) (others_by g sorts block) 0 (d.index - 1 + d.pages) d.pages (beside block (block_of g to)) (counts_by g sorts (block_of g to))
+    (record { entries = entries_pos g; blocks = blocks }) (place_can_put g sorts block for_index to low place) h' in
+    had_at (entries g) (others_by g (with_sort from Deleted (with_sort to Index sorts)) block) (slice_set (others_by g sorts block) (beside block (block_of g to)) (placed for_index (counts_by g sorts (block_of g to))))
+    ((counts_by g (with_sort from Deleted (with_sort to Index sorts)) block).index + (counts_by g (with_sort from Deleted (with_sort to Index sorts)) block).pages) (d.index - 1 + d.pages)
+    (counts_by g (with_sort from Deleted (with_sort to Index sorts)) block).pages d.pages
+    is.1 (ap (λ (c : Counts). c.index + c.pages) is.0) (ap (λ (c : Counts). c.pages) is.0) put
+
+pub index_goes_on : (g : Geometry) → IndexGoesOn g
+index_goes_on g first was now block m low between places out way t gone =
+    let table = way.table ∙ between.table in
+    let r = way_resolves g (m ∷ []) was now now between.image_is between.tidy way.moves_are way.way way.table way.way.image_is (tidy_is_staged g now t) in
+    let move = all_head (IsMove g was) m [] (moves_each g was (m ∷ []) way.moves_are) in
+    let page = (live_parts g was m.from move.page move.live).entry_page in
+    let others : (p : ℕ) → is_entry_page g p ≡ true → p ≢ m.from → p ≢ m.to → sort_at g now p ≡ sort_at g was p =
+    λ p entry from to. r.others p entry (all_cons (λ (n : Move). (p ≢ n.from) × (p ≢ n.to)) m [] (from, to) (all_nil (λ (n : Move). (p ≢ n.from) × (p ≢ n.to)))) in
+    let came : Came (sort_at g was) (sort_at g now) m = came_by m (all_head (Ends (sort_at g was) (sort_at g now)) m [] r.each) out.sort gone in
+    (record { image_is = way.way.image_is; tidy = t; table = table; emptying = index_empties g first was block m low between out page now others came },
+    places_at g block low (with_sort m.from Deleted (with_sort m.to Index (sort_at g was))) (sort_at g now) (index_same g was block m out now others came)
+    (index_places g block low (sort_at g was) m.from m.to between.emptying.reached.blocks page out.from out.sort out.place places))
+  where
+    came_by : (n : Move) → Ends (sort_at g was) (sort_at g now) n → sort_at g was n.from ≡ Index → live_at g now n.from ≡ None → Came (sort_at g was) (sort_at g now) n
+    came_by n (inl c) sort dead = c
+    came_by n (inr s) sort dead = absurd (⊎_elim
+        (λ (x : sort_at g now n.from ≡ Deleted). let bad : Index ≡ Deleted = sym (s.0 ∙ sort) ∙ x in cc)
+        (λ (x : sort_at g now n.from ≡ Free). let bad : Index ≡ Free = sym (s.0 ∙ sort) ∙ x in cc)
+        (dead_sort g now n.from dead))
