@@ -147,6 +147,17 @@ places_at g block low a b same h =
     had_at (entries g) (others_by g b block) (others_by g a block) ((counts_by g b block).index + (counts_by g b block).pages) ((counts_by g a block).index + (counts_by g a block).pages)
     (counts_by g b block).pages (counts_by g a block).pages (ap (without block) (same_sorts g a b same)) (ap (λ (c : Counts). c.index + c.pages) own) (ap (λ (c : Counts). c.pages) own) h
 
+-- an index page that is gone from its place has come
+stays_not : (g : Geometry) (was now : List ℕ) (m : Move) → Stayed (sort_at g was) (sort_at g now) m → sort_at g was m.from ≡ Index → live_at g now m.from ≡ None → ⊥
+stays_not g was now m s sort dead = ⊎_elim
+    (λ (x : sort_at g now m.from ≡ Deleted). let bad : Index ≡ Deleted = sym (s.0 ∙ sort) ∙ x in cc)
+    (λ (x : sort_at g now m.from ≡ Free). let bad : Index ≡ Free = sym (s.0 ∙ sort) ∙ x in cc)
+    (dead_sort g now m.from dead)
+
+came_by : (g : Geometry) (was now : List ℕ) (m : Move) → Ends (sort_at g was) (sort_at g now) m → sort_at g was m.from ≡ Index → live_at g now m.from ≡ None → Came (sort_at g was) (sort_at g now) m
+came_by g was now m (inl c) sort dead = c
+came_by g was now m (inr s) sort dead = absurd (stays_not g was now m s sort dead)
+
 index_places : (g : Geometry) (block : ℕ) (low : block < g.blocks) (sorts : ℕ → Sort) (from to : ℕ) → All (IsBlock (entries g)) (others_by g sorts block) → is_entry_page g from ≡ true → block_of g from ≡ block → sorts from ≡ Index →
     IsPlaceBy g sorts block for_index to → HasPlaces g block sorts → HasPlaces g block (with_sort from Deleted (with_sort to Index sorts))
 index_places g block low sorts from to blocks page at sort place h =
@@ -170,14 +181,81 @@ index_goes_on g first was now block m low between places out way t gone =
     let page = (live_parts g was m.from move.page move.live).entry_page in
     let others : (p : ℕ) → is_entry_page g p ≡ true → p ≢ m.from → p ≢ m.to → sort_at g now p ≡ sort_at g was p =
     λ p entry from to. r.others p entry (all_cons (λ (n : Move). (p ≢ n.from) × (p ≢ n.to)) m [] (from, to) (all_nil (λ (n : Move). (p ≢ n.from) × (p ≢ n.to)))) in
-    let came : Came (sort_at g was) (sort_at g now) m = came_by m (all_head (Ends (sort_at g was) (sort_at g now)) m [] r.each) out.sort gone in
+    let came : Came (sort_at g was) (sort_at g now) m = came_by g was now m (all_head (Ends (sort_at g was) (sort_at g now)) m [] r.each) out.sort gone in
     (record { image_is = way.way.image_is; tidy = t; table = table; emptying = index_empties g first was block m low between out page now others came },
     places_at g block low (with_sort m.from Deleted (with_sort m.to Index (sort_at g was))) (sort_at g now) (index_same g was block m out now others came)
     (index_places g block low (sort_at g was) m.from m.to between.emptying.reached.blocks page out.from out.sort out.place places))
-  where
-    came_by : (n : Move) → Ends (sort_at g was) (sort_at g now) n → sort_at g was n.from ≡ Index → live_at g now n.from ≡ None → Came (sort_at g was) (sort_at g now) n
-    came_by n (inl c) sort dead = c
-    came_by n (inr s) sort dead = absurd (⊎_elim
-        (λ (x : sort_at g now n.from ≡ Deleted). let bad : Index ≡ Deleted = sym (s.0 ∙ sort) ∙ x in cc)
-        (λ (x : sort_at g now n.from ≡ Free). let bad : Index ≡ Free = sym (s.0 ∙ sort) ∙ x in cc)
-        (dead_sort g now n.from dead))
+
+-- ---- batches
+
+module _ (g : Geometry) (first was : List ℕ) (block : ℕ) (low : block < g.blocks) (between : IsBetween g first block was) (places : HasPlaces g block (sort_at g was)) where
+  batch_places : (ms : List Move) → AreMoves g was ms → ArePagesWay g block (sort_at g was) ms →
+      HadWith (entries g) (others_by g (with_data ms (sort_at g was)) block) 0 ((counts_by g (sort_at g was) block).index + (counts_by g (sort_at g was) block).pages) ((counts_by g (sort_at g was) block).pages - length ms)
+  unfolding ArePagesWay AreMoves
+  batch_places [] are ways =
+      let d = counts_by g (sort_at g was) block in
+      had_at (entries g) (others_by g (sort_at g was) block) (others_by g (sort_at g was) block) (d.index + d.pages) (d.index + d.pages) (d.pages - 0) d.pages refl refl (omega arith) places
+  batch_places (m ∷ ms) are ways =
+      let d = counts_by g (sort_at g was) block in
+      let rest = batch_places ms are.2 ways.3 in
+      let o = all_out g block low was first (m ∷ ms) are ways between.emptying in
+      let more : d.pages - length (m ∷ ms) + 1 ≡ d.pages - length ms = omega (arith, o.pages) in
+      let v = others_by g (with_data ms (sort_at g was)) block in
+      let rest' : HadWith (entries g) v 0 (d.index + d.pages) (d.pages - length (m ∷ ms) + 1) = had_at (entries g) v v (d.index + d.pages) (d.index + d.pages) (d.pages - length (m ∷ ms) + 1) (d.pages - length ms) refl refl more rest in
+      let put = had_puts_data (entries g) v 0 (d.index + d.pages) (d.pages - length (m ∷ ms)) (beside block (block_of g m.to)) (counts_by g (with_data ms (sort_at g was)) (block_of g m.to))
+      (record { entries = entries_pos g; blocks = blocks_with g block low was first between.emptying ms are.2 ways.3 }) (place_can_put g (with_data ms (sort_at g was)) block for_data m.to low ways.2) rest' in
+      had_at (entries g) (others_by g (with_data (m ∷ ms) (sort_at g was)) block) (slice_set v (beside block (block_of g m.to)) (placed for_data (counts_by g (with_data ms (sort_at g was)) (block_of g m.to))))
+      (d.index + d.pages) (d.index + d.pages) (d.pages - length (m ∷ ms)) (d.pages - length (m ∷ ms)) (data_put g block low (with_data ms (sort_at g was)) m.to ways.2.entry ways.2.apart ways.2.free) refl refl put
+
+  -- once the index page is renewed
+  module _ (ix : Move) (ms : List Move) (are : AreMoves g was ms) (ways : ArePagesWay g block (sort_at g was) ms) (some : 0 < length ms) (page : is_entry_page g ix.from ≡ true) (apart : block_of g ix.from ≢ block)
+      (there : moved ms (sort_at g was) ix.from ≡ Index) (place : IsPlaceBy g (with_data ms (sort_at g was)) block for_index ix.to) where
+    place_moved : IsPlaceBy g (moved ms (sort_at g was)) block for_index ix.to
+    place_moved = place_alike g block low (with_data ms (sort_at g was)) (moved ms (sort_at g was)) for_index ix.to (moved_outside g block low was ms ways) place
+
+    out : AllOut g block low was first ms
+    out = all_out g block low was first ms are ways between.emptying
+
+    is : RenewedIs g block low (moved ms (sort_at g was)) ix.from ix.to
+    is = renewed_is g block low (moved ms (sort_at g was)) ix.from ix.to out.emptying.reached.blocks page apart there place_moved
+
+    renewed_places : HasPlaces g block (with_sort ix.from Deleted (with_sort ix.to Index (moved ms (sort_at g was))))
+    renewed_places =
+        let d = counts_by g (sort_at g was) block in
+        let left = d.pages - length ms in
+        let v = others_by g (moved ms (sort_at g was)) block in
+        let mid = others_by g (with_sort ix.to Index (moved ms (sort_at g was))) block in
+        let s = with_sort ix.from Deleted (with_sort ix.to Index (moved ms (sort_at g was))) in
+        let same : v ≡ others_by g (with_data ms (sort_at g was)) block = others_alike g block low (with_data ms (sort_at g was)) (moved ms (sort_at g was)) (moved_outside g block low was ms ways) in
+        let more : d.index + d.pages - 1 + 1 ≡ d.index + d.pages = omega (arith, out.pages, some) in
+        let start : HadWith (entries g) v 0 (d.index + d.pages - 1 + 1) left = had_at (entries g) v (others_by g (with_data ms (sort_at g was)) block) (d.index + d.pages - 1 + 1) (d.index + d.pages) left left same more refl (batch_places ms are ways) in
+        let put = had_puts_index (entries g) v 0 (d.index + d.pages - 1) left (beside block (block_of g ix.to)) (counts_by g (moved ms (sort_at g was)) (block_of g ix.to))
+        (record { entries = entries_pos g; blocks = out.emptying.reached.blocks }) (place_can_put g (moved ms (sort_at g was)) block for_index ix.to low place_moved) start in
+        let put' : HadWith (entries g) mid 0 (d.index + d.pages - 1) left =
+        had_at (entries g) mid (slice_set v (beside block (block_of g ix.to)) (placed for_index (counts_by g (moved ms (sort_at g was)) (block_of g ix.to)))) (d.index + d.pages - 1) (d.index + d.pages - 1) left left is.put refl refl put in
+        let kill = had_kills (entries g) mid 0 (d.index + d.pages - 1) left (beside block (block_of g ix.from)) (counts_by g (with_sort ix.to Index (moved ms (sort_at g was))) (block_of g ix.from))
+        (record { entries = entries_pos g; blocks = is.blocks }) is.stands.within is.stands.at is.kind is.live put' in
+        let kill' : HadWith (entries g) (others_by g s block) 0 (d.index + d.pages - 1) left =
+        had_at (entries g) (others_by g s block) (slice_set mid (beside block (block_of g ix.from)) (killed (counts_by g (with_sort ix.to Index (moved ms (sort_at g was))) (block_of g ix.from))))
+        (d.index + d.pages - 1) (d.index + d.pages - 1) left left is.others refl refl kill in
+        let own_index : (counts_by g s block).index ≡ d.index = ap (λ (c : Counts). c.index) is.own ∙ out.index in
+        let own_pages : (counts_by g s block).pages ≡ (counts_by g (moved ms (sort_at g was)) block).pages = ap (λ (c : Counts). c.pages) is.own in
+        had_less (entries g) (others_by g s block) 0 (d.index + d.pages - 1) left ((counts_by g s block).index + (counts_by g s block).pages) (counts_by g s block).pages (entries_pos g)
+        (omega (arith, own_index, own_pages, out.pages, some)) (omega (arith, own_pages, out.pages)) kill'
+
+pub batch_has_places : (g : Geometry) → BatchHasPlaces g
+batch_has_places g first was block ms low between places are ways = batch_places g first was block low between places ms are ways
+
+pub batch_goes_on : (g : Geometry) → BatchGoesOn g
+batch_goes_on g first was now block ix ms low between places ways some apart place batch way t gone =
+    let s = tidy_is_staged g now t in
+    let is = way.way.image_is in
+    let came : All (Came (sort_at g was) (sort_at g now)) (ix ∷ ms) = ⊎_elim
+    (λ (c : All (Came (sort_at g was) (sort_at g now)) (ix ∷ ms)). c)
+    (λ (c : All (Stayed (sort_at g was) (sort_at g now)) (ix ∷ ms)).
+    absurd (stays_not g was now ix (all_head (Stayed (sort_at g was) (sort_at g now)) ix ms c) (index_sort g first was now block low ix ms between ways some apart place batch way now is s) gone))
+    (batch_or g first was now block low ix ms between ways some apart place batch way now is s) in
+    (record { image_is = is; tidy = t; table = way.table ∙ between.table; emptying = came_empties g first was now block low ix ms between ways some apart place batch way now is s came },
+    places_at g block low (after g first was now block low ix ms between ways some apart place batch way now is s came) (sort_at g now) (came_same g first was now block low ix ms between ways some apart place batch way now is s came)
+    (renewed_places g first was block low between places ix ms (moves_tail g was ix ms way.moves_are).1 ways some (from_page g first was now block low ix ms between ways some apart place batch way now is s) apart
+    (index_there g first was now block low ix ms between ways some apart place batch way now is s came) place))
