@@ -39,3 +39,4 @@ pub mod BatchMends
 pub mod FreshMends
 pub mod CleanedImages
 pub mod Carried
+pub mod Taken

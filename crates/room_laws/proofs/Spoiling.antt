@@ -114,7 +114,7 @@ module _ (g : Geometry) (block : ℕ) (low : block < g.blocks) where
       }
 
   -- a block that stands among the others
-  stands_block : (a : ℕ → Sort) (b : ℕ) → b < g.blocks → b ≢ block → All (IsBlock (entries g)) (others_by g a block) → IsBlock (entries g) (counts_by g a b)
+  pub stands_block : (a : ℕ → Sort) (b : ℕ) → b < g.blocks → b ≢ block → All (IsBlock (entries g)) (others_by g a block) → IsBlock (entries g) (counts_by g a b)
   stands_block a b there out blocks = let w = blocks_beside g a block b low there out in block-of (entries g) (others_by g a block) (beside block b) (counts_by g a b) blocks w.within w.at
 
   tells_spoil : (base a : ℕ → Sort) (to : ℕ) → is_entry_page g to ≡ true → block_of g to ≢ block → a to ≡ Free → StayTells base a → StayTells base (with_sort to Deleted a)

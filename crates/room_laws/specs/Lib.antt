@@ -25,3 +25,4 @@ pub mod Ways
 pub mod Recovery
 pub mod Carrying
 pub mod CleanedImages
+pub mod Taking
