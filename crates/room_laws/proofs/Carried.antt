@@ -137,7 +137,7 @@ fits_has_places g image block t low fits =
 
 -- ---- pages that have places
 
-had_at : (e : ℕ) (v v' : List Counts) (i i' d d' : ℕ) → v ≡ v' → i ≡ i' → d ≡ d' → HadWith e v' 0 i' d' → HadWith e v 0 i d
+pub had_at : (e : ℕ) (v v' : List Counts) (i i' d d' : ℕ) → v ≡ v' → i ≡ i' → d ≡ d' → HadWith e v' 0 i' d' → HadWith e v 0 i d
 had_at e v v' i i' d d' x y z h = rw (x, y, z) h
 
 -- the counts of an image by sorts that are the same
@@ -181,10 +181,11 @@ index_goes_on g first was now block m low between places out way t gone =
     let page = (live_parts g was m.from move.page move.live).entry_page in
     let others : (p : ℕ) → is_entry_page g p ≡ true → p ≢ m.from → p ≢ m.to → sort_at g now p ≡ sort_at g was p =
     λ p entry from to. r.others p entry (all_cons (λ (n : Move). (p ≢ n.from) × (p ≢ n.to)) m [] (from, to) (all_nil (λ (n : Move). (p ≢ n.from) × (p ≢ n.to)))) in
-    let came : Came (sort_at g was) (sort_at g now) m = came_by g was now m (all_head (Ends (sort_at g was) (sort_at g now)) m [] r.each) out.sort gone in
-    (record { image_is = way.way.image_is; tidy = t; table = table; emptying = index_empties g first was block m low between out page now others came },
-    places_at g block low (with_sort m.from Deleted (with_sort m.to Index (sort_at g was))) (sort_at g now) (index_same g was block m out now others came)
-    (index_places g block low (sort_at g was) m.from m.to between.emptying.reached.blocks page out.from out.sort out.place places))
+    let came : Came (sort_at g was) (sort_at g now) m = came_by g was now m (all_head (Ends (sort_at g was) (sort_at g now)) m [] r.each) out.sort gone in (
+      record { image_is = way.way.image_is; tidy = t; table = table; emptying = index_empties g first was block m low between out page now others came },
+      places_at g block low (with_sort m.from Deleted (with_sort m.to Index (sort_at g was))) (sort_at g now) (index_same g was block m out now others came)
+          (index_places g block low (sort_at g was) m.from m.to between.emptying.reached.blocks page out.from out.sort out.place places),
+    )
 
 -- ---- batches
 
@@ -254,8 +255,9 @@ batch_goes_on g first was now block ix ms low between places ways some apart pla
     (λ (c : All (Came (sort_at g was) (sort_at g now)) (ix ∷ ms)). c)
     (λ (c : All (Stayed (sort_at g was) (sort_at g now)) (ix ∷ ms)).
     absurd (stays_not g was now ix (all_head (Stayed (sort_at g was) (sort_at g now)) ix ms c) (index_sort g first was now block low ix ms between ways some apart place batch way now is s) gone))
-    (batch_or g first was now block low ix ms between ways some apart place batch way now is s) in
-    (record { image_is = is; tidy = t; table = way.table ∙ between.table; emptying = came_empties g first was now block low ix ms between ways some apart place batch way now is s came },
-    places_at g block low (after g first was now block low ix ms between ways some apart place batch way now is s came) (sort_at g now) (came_same g first was now block low ix ms between ways some apart place batch way now is s came)
-    (renewed_places g first was block low between places ix ms (moves_tail g was ix ms way.moves_are).1 ways some (from_page g first was now block low ix ms between ways some apart place batch way now is s) apart
-    (index_there g first was now block low ix ms between ways some apart place batch way now is s came) place))
+    (batch_or g first was now block low ix ms between ways some apart place batch way now is s) in (
+      record { image_is = is; tidy = t; table = way.table ∙ between.table; emptying = came_empties g first was now block low ix ms between ways some apart place batch way now is s came },
+      places_at g block low (after g first was now block low ix ms between ways some apart place batch way now is s came) (sort_at g now) (came_same g first was now block low ix ms between ways some apart place batch way now is s came)
+          (renewed_places g first was block low between places ix ms (moves_tail g was ix ms way.moves_are).1 ways some (from_page g first was now block low ix ms between ways some apart place batch way now is s) apart
+          (index_there g first was now block low ix ms between ways some apart place batch way now is s came) place),
+    )

@@ -40,3 +40,4 @@ pub mod FreshMends
 pub mod CleanedImages
 pub mod Carried
 pub mod Taken
+pub mod BatchPuts

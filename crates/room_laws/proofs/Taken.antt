@@ -111,22 +111,31 @@ module _ (g : Geometry) (image : List ℕ) (t : TellsFree g image) (block : ℕ)
   look = seen (entries g) c is
 
   tested_unused : (takes_as g image unused block ≡ true → kind_of c ≡ unused) × (kind_of c ≡ unused → takes_as g image unused block ≡ true)
-  tested_unused = (λ takes. ⊎_elim (λ (k : kind_of c ≡ unused). k) (λ other. absurd (⊎_elim
-      (λ (k : kind_of c ≡ for_index). let w = tests_index look k in let bad : false ≡ true = sym w.is_free ∙ takes in cc)
-      (λ (k : kind_of c ≡ for_data). let w = tests_data look k in let bad : false ≡ true = sym w.is_free ∙ takes in cc)
-      other)) kind_or, λ k. (tests_free look k).is_free)
+  tested_unused = (
+    λ takes. ⊎_elim (λ (k : kind_of c ≡ unused). k) (λ other. absurd (⊎_elim
+        (λ (k : kind_of c ≡ for_index). let w = tests_index look k in let bad : false ≡ true = sym w.is_free ∙ takes in cc)
+        (λ (k : kind_of c ≡ for_data). let w = tests_data look k in let bad : false ≡ true = sym w.is_free ∙ takes in cc)
+        other)) kind_or,
+    λ k. (tests_free look k).is_free,
+  )
 
   tested_index : (takes_as g image for_index block ≡ true → kind_of c ≡ for_index) × (kind_of c ≡ for_index → takes_as g image for_index block ≡ true)
-  tested_index = (λ takes. ⊎_elim (λ (k : kind_of c ≡ unused). let w = tests_free look k in let bad : false ≡ true = sym w.takes_i ∙ takes in absurd (cc)) (λ other. ⊎_elim
-      (λ (k : kind_of c ≡ for_index). k)
-      (λ (k : kind_of c ≡ for_data). let w = tests_data look k in let bad : false ≡ true = sym w.takes_i ∙ takes in absurd (cc))
-      other) kind_or, λ k. (tests_index look k).takes_i)
+  tested_index = (
+    λ takes. ⊎_elim (λ (k : kind_of c ≡ unused). let w = tests_free look k in let bad : false ≡ true = sym w.takes_i ∙ takes in absurd (cc)) (λ other. ⊎_elim
+        (λ (k : kind_of c ≡ for_index). k)
+        (λ (k : kind_of c ≡ for_data). let w = tests_data look k in let bad : false ≡ true = sym w.takes_i ∙ takes in absurd (cc))
+        other) kind_or,
+    λ k. (tests_index look k).takes_i,
+  )
 
   tested_data : (takes_as g image for_data block ≡ true → kind_of c ≡ for_data) × (kind_of c ≡ for_data → takes_as g image for_data block ≡ true)
-  tested_data = (λ takes. ⊎_elim (λ (k : kind_of c ≡ unused). let w = tests_free look k in let bad : false ≡ true = sym w.takes_d ∙ takes in absurd (cc)) (λ other. ⊎_elim
-      (λ (k : kind_of c ≡ for_index). let w = tests_index look k in let bad : false ≡ true = sym w.takes_d ∙ takes in absurd (cc))
-      (λ (k : kind_of c ≡ for_data). k)
-      other) kind_or, λ k. (tests_data look k).takes_d)
+  tested_data = (
+    λ takes. ⊎_elim (λ (k : kind_of c ≡ unused). let w = tests_free look k in let bad : false ≡ true = sym w.takes_d ∙ takes in absurd (cc)) (λ other. ⊎_elim
+        (λ (k : kind_of c ≡ for_index). let w = tests_index look k in let bad : false ≡ true = sym w.takes_d ∙ takes in absurd (cc))
+        (λ (k : kind_of c ≡ for_data). k)
+        other) kind_or,
+    λ k. (tests_data look k).takes_d,
+  )
 
   pub kind_tested : (k : Kind) → (takes_as g image k block ≡ true → kind_of c ≡ k) × (kind_of c ≡ k → takes_as g image k block ≡ true)
   kind_tested unused = tested_unused

@@ -26,3 +26,4 @@ pub mod Recovery
 pub mod Carrying
 pub mod CleanedImages
 pub mod Taking
+pub mod Batching

@@ -1,6 +1,8 @@
 //! The arithmetic of garbage collection: which blocks are cleaned, what cleanings keep, and where they stop.
 #![tactic(auto)]
 
+pub mod batching;
+pub mod carrying;
 pub mod choosing;
 pub mod cleaning;
 pub mod emptying;
@@ -14,5 +16,6 @@ pub mod sorts;
 pub mod steps;
 pub mod stopping;
 pub mod tagging;
+pub mod taking;
 pub mod volumes;
 pub mod ways;
