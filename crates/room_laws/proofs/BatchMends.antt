@@ -1,5 +1,5 @@
 -- Images with a batch on its way recover.
-use Rattle.std.proofs.Common.{◌≡◌, ◌≢◌, ℕ, zero, suc, ◌+◌, ◌<◌, ◌≤◌, ◌⊎◌, List, [], ◌∷◌, length, max, true, false, Some, refl, sym, ◌∙◌, ap, subst, arith, ⊎_elim, inl, inr}
+use Rattle.std.proofs.Common.{◌≡◌, ◌≢◌, ℕ, ◌+◌, ◌<◌, ◌≤◌, ◌⊎◌, List, [], ◌∷◌, length, max, true, Some, refl, sym, ◌∙◌, ap, subst, arith, ⊎_elim, inl, inr}
 use Rattle.std.specs.Prelude.{All, Contains}
 use Rattle.std.proofs.lemmas.Bool.{cases_eq}
 use Rattle.geometry.specs.declared.geometry.Geometry.{Geometry}
@@ -12,26 +12,26 @@ use Rattle.image_model.specs.Tidy.{IsTidy}
 use Rattle.image_model.specs.Collect.{deleted_in, free_in}
 use Rattle.image_model.specs.Within.{page_number, block_number}
 use Rattle.image_laws.proofs.Frames.{live_parts}
-use Rattle.room_laws.specs.Counts.{Counts, IsBlock, Kind, unused, for_index, for_data, kind_of}
+use Rattle.room_laws.specs.Counts.{Counts, IsBlock, unused, for_index, for_data, kind_of}
 use Rattle.room_laws.specs.Volume.{free_of}
-use Rattle.room_laws.specs.Cut.{CutIndex, CutData}
+use Rattle.room_laws.specs.Cut.{CutData}
 use Rattle.room_laws.specs.Order.{without}
-use Rattle.room_laws.specs.Losing.{LosesIndex, Spoils}
+use Rattle.room_laws.specs.Losing.{LosesIndex}
 use Rattle.room_laws.specs.Mends.{CanMend}
 use Rattle.room_laws.specs.Sorts.{Sort, Index, Data, Deleted, Free, sort_at, counts_by, others_by, beside, with_sort, IsPlaceBy}
 use Rattle.room_laws.specs.Staged.{IsStaged}
-use Rattle.room_laws.specs.Ways.{Move, IsMove, AreApart, AreMoves, IsNoPlace, IsAside, Came, Stayed, Resolves, IsNamedBy, IsBatch}
+use Rattle.room_laws.specs.Ways.{Move, IsMove, AreMoves, IsNoPlace, IsAside, Came, Stayed, Resolves, IsNamedBy, IsBatch}
 use Rattle.room_laws.specs.Recovery.{Recovers, MayCut, EmptyingTo, IsBetween, IsOnWay, with_data, ArePagesWay, batch_most, PagesWayMend, BatchWayMends}
 use Rattle.room_laws.proofs.Moves.{kind-data}
 use Rattle.room_laws.proofs.Tallies.{deleted_counted, free_counted}
 use Rattle.room_laws.proofs.Loses.{StillData, still-data, reached-spoiled, pages_lost_are_cut, dead_is_cut}
 use Rattle.room_laws.proofs.Sorted.{with-here, with-there, same-block, same_sorts, other_sorts_stay, place_can_put}
 use Rattle.room_laws.proofs.SortSteps.{own_stays, place_alike, entry_spoiled, renewed_out}
-use Rattle.room_laws.proofs.OnTheWay.{all_nil, all_cons, all_head, all_tail, all_at, all_from, in_head, in_tail}
-use Rattle.room_laws.proofs.Resolved.{way_resolves, batch_resolves, batch_stays, moves_each, live_sort}
+use Rattle.room_laws.proofs.OnTheWay.{all_nil, all_cons, all_head, all_at, all_from, in_head, in_tail}
+use Rattle.room_laws.proofs.Resolved.{way_resolves, batch_resolves, batch_stays, live_sort}
 use Rattle.room_laws.proofs.Recovering.{own_by, volume_by, totals_by, low, cut_recovers, whole_recovers, same_emptying, still_mends}
 use Rattle.room_laws.proofs.Batches.{IsOut, outs, moved, moved_aside, moved_same, moved_outside, all_out, Opening, inside, opened, opening, index_place_back, kinds_of}
-use Rattle.room_laws.proofs.Spoiling.{staying, stay_same, free_same, others_equal, IsSpare, StayTells, stay_tells, Lost, lost, IsLostInData, HasDead, lost_or_dead, leaves_dead}
+use Rattle.room_laws.proofs.Spoiling.{staying, stay_same, free_same, others_equal, IsSpare, StayTells, stay_tells, lost, IsLostInData, HasDead, lost_or_dead, leaves_dead}
 
 -- a page is one from which a move begins, or none begins at it
 from_or : (ms : List Move) (p : ℕ) → ((m : Move) × Contains ms m × (p ≡ m.from)) ⊎ All (λ (m : Move). p ≢ m.from) ms

@@ -1,26 +1,26 @@
 -- A batch of data pages while it is put.
-use Rattle.std.proofs.Common.{◌≡◌, ◌≢◌, ℕ, ◌+◌, ◌-◌, ◌<◌, ◌≤◌, ◌⊎◌, List, [], ◌∷◌, length, true, false, ◌==◌, Option, Some, None, refl, sym, ◌∙◌, ap, subst, arith, ⊎_elim}
+use Rattle.std.proofs.Common.{◌≡◌, ◌≢◌, ℕ, ◌+◌, ◌-◌, ◌<◌, ◌⊎◌, List, ◌∷◌, length, true, false, ◌==◌, Option, Some, None, refl, sym, ◌∙◌, ap, subst, arith, ⊎_elim}
 use Rattle.std.specs.Prelude.{All}
-use Rattle.std.proofs.lemmas.Bool.{cases_eq, eqb-true, cases_Bool, and_parts}
+use Rattle.std.proofs.lemmas.Bool.{cases_eq, eqb-true, cases_Bool}
 use Rattle.geometry.specs.declared.geometry.Geometry.{Geometry}
 use Rattle.image_model.specs.Volume.{entries}
 use Rattle.image_model.specs.Headers.{names_index}
-use Rattle.image_model.specs.Places.{entry_of, block_of, is_entry_page}
+use Rattle.image_model.specs.Places.{entry_of, is_entry_page}
 use Rattle.image_model.specs.Live.{live_at}
-use Rattle.image_model.specs.Tidy.{IsTidy, is_free_entry}
+use Rattle.image_model.specs.Tidy.{is_free_entry}
 use Rattle.image_laws.specs.LiveSteps.{PutLeaves, PutDone}
 use Rattle.room_laws.specs.Counts.{Counts, IsBlock, Kind, for_index, for_data}
 use Rattle.room_laws.specs.Order.{without}
-use Rattle.room_laws.specs.Sorts.{Sort, Index, Data, Deleted, Free, sort_of_page, sort_at, TellsFree, counts_by, others_by, with_sort, IsPlaceBy}
+use Rattle.room_laws.specs.Sorts.{Index, Data, Deleted, Free, sort_of_page, sort_at, TellsFree, counts_by, others_by, with_sort, IsPlaceBy}
 use Rattle.room_laws.specs.Tags.{SameTag}
 use Rattle.room_laws.specs.Ways.{Move, IsMove, AreApart, AreMoves, OnWay}
-use Rattle.room_laws.specs.Recovery.{IsBetween, with_data, ArePagesWay}
+use Rattle.room_laws.specs.Recovery.{with_data, ArePagesWay}
 use Rattle.room_laws.specs.Batching.{IsCarrying, CarryingStarts, CarryingTells, CarryingIsCounted, CarryingPlaces, IsNextOut, CarryingPuts, CarryingLeaves, CarryingIsCut, RenewingLeaves}
 use Rattle.room_laws.proofs.Sorted.{tidy_tells_free, with-here, with-there, same_sorts}
 use Rattle.room_laws.proofs.SortSteps.{place_alike}
 use Rattle.room_laws.proofs.OnTheWay.{all_at, all_from, way_none, way_put, done_leaves}
 use Rattle.room_laws.proofs.Resolved.{live_sort}
-use Rattle.room_laws.proofs.Batches.{IsOut, outs, free_back, AllOut, all_out, blocks_with}
+use Rattle.room_laws.proofs.Batches.{IsOut, outs, free_back, all_out, blocks_with}
 use Rattle.room_laws.proofs.Carried.{put_sorts, had_at, batch_has_places}
 
 -- an entry that counts as free is free

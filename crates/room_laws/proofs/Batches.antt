@@ -1,23 +1,22 @@
 -- Batches of data pages that go out of a block, by what entries count as.
-use Rattle.std.proofs.Common.{◌≡◌, ◌≢◌, ℕ, zero, suc, ◌+◌, ◌-◌, ◌<◌, ◌≤◌, ◌⊎◌, List, [], ◌∷◌, length, true, false, refl, sym, ◌∙◌, ap, subst, arith, ⊎_elim, inl, inr}
+use Rattle.std.proofs.Common.{◌≡◌, ◌≢◌, ℕ, suc, ◌+◌, ◌-◌, ◌<◌, ◌⊎◌, List, [], ◌∷◌, length, true, refl, sym, ◌∙◌, ap, subst, arith, ⊎_elim, inl, inr}
 use Rattle.std.specs.Prelude.{All, Contains}
 use Rattle.std.proofs.lemmas.Bool.{cases_eq}
 use Rattle.geometry.specs.declared.geometry.Geometry.{Geometry}
 use Rattle.image_model.specs.Volume.{entries}
 use Rattle.image_model.specs.Places.{block_of, is_entry_page}
-use Rattle.image_model.specs.Live.{live_at}
 use Rattle.image_model.specs.Within.{page_number, block_number}
 use Rattle.image_laws.proofs.Frames.{live_parts}
 use Rattle.room_laws.specs.Counts.{Counts, IsBlock, Kind, unused, for_index, for_data, kind_of}
 use Rattle.room_laws.specs.Volume.{free_of}
-use Rattle.room_laws.specs.Sorts.{Sort, Index, Data, Deleted, Free, sort_at, counts_by, others_by, beside, with_sort, IsPlaceBy}
-use Rattle.room_laws.specs.Ways.{Move, IsMove, AreApart, AreMoves, IsAside, Came}
+use Rattle.room_laws.specs.Sorts.{Sort, Data, Deleted, Free, sort_at, counts_by, others_by, beside, with_sort, IsPlaceBy}
+use Rattle.room_laws.specs.Ways.{Move, IsMove, AreApart, AreMoves, IsAside}
 use Rattle.room_laws.specs.Recovery.{EmptyingTo, with_data, ArePagesWay}
 use Rattle.room_laws.proofs.Moves.{kind-data}
 use Rattle.room_laws.proofs.Puts.{PutTells, put-data}
-use Rattle.room_laws.proofs.Sorted.{with-here, with-there, sorts_change, sorts_are_counted, other_sorts_stay, place_can_put}
-use Rattle.room_laws.proofs.SortSteps.{others_alike, other_alike, place_alike, data_put, data_out_is, data_in_own, data_out}
-use Rattle.room_laws.proofs.OnTheWay.{all_nil, all_cons, all_at, all_from, in_head, in_tail}
+use Rattle.room_laws.proofs.Sorted.{with-here, with-there, sorts_are_counted, other_sorts_stay, place_can_put}
+use Rattle.room_laws.proofs.SortSteps.{others_alike, place_alike, data_put, data_out_is, data_in_own, data_out}
+use Rattle.room_laws.proofs.OnTheWay.{all_nil, all_cons, all_at, all_from}
 
 -- a data page that leaves the block
 pub record IsOut (g : Geometry) (block : ℕ) (sorts : ℕ → Sort) (m : Move) : Type 0 where

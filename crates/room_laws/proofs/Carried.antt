@@ -1,15 +1,13 @@
 -- Turns of a cleaning that are done.
-use Rattle.std.proofs.Common.{◌≡◌, ◌≢◌, ℕ, suc, ◌+◌, ◌-◌, ◌<◌, ◌≤◌, ◌⊎◌, List, [], ◌∷◌, length, true, false, ◌==◌, Some, None, refl, sym, ◌∙◌, ap, subst, arith, ⊎_elim, inl, inr, slice_set}
+use Rattle.std.proofs.Common.{◌≡◌, ◌≢◌, ℕ, suc, ◌+◌, ◌-◌, ◌<◌, ◌≤◌, ◌⊎◌, List, [], ◌∷◌, length, true, false, Some, None, refl, sym, ◌∙◌, ap, arith, ⊎_elim, inl, inr, slice_set}
 use Rattle.std.specs.Prelude.{All}
-use Rattle.std.proofs.lemmas.Bool.{cases_eq, ne_eqb}
+use Rattle.std.proofs.lemmas.Bool.{cases_eq}
 use Rattle.geometry.specs.declared.geometry.Geometry.{Geometry}
 use Rattle.image_model.specs.Volume.{entries}
-use Rattle.image_model.specs.Headers.{obj_id}
-use Rattle.image_model.specs.Places.{IsImage, entry_of, block_of, is_entry_page}
+use Rattle.image_model.specs.Places.{entry_of, block_of, is_entry_page}
 use Rattle.image_model.specs.Live.{live_at}
-use Rattle.image_model.specs.Tidy.{IsTidy, is_free_entry}
+use Rattle.image_model.specs.Tidy.{is_free_entry}
 use Rattle.image_laws.specs.TidySteps.{Agree}
-use Rattle.image_laws.specs.LiveSteps.{PutDone, KillDone}
 use Rattle.image_laws.proofs.Frames.{live_parts}
 use Rattle.image_laws.proofs.Tally.{is_finished-ones}
 use Rattle.room_laws.specs.Counts.{Counts, IsBlock, unused, for_index, for_data, kind_of}
@@ -18,9 +16,9 @@ use Rattle.room_laws.specs.Steps.{placed, killed}
 use Rattle.room_laws.specs.Order.{without, Rearranged}
 use Rattle.room_laws.specs.Places.{HadWith}
 use Rattle.room_laws.specs.Counting.{block_counts, counts_of}
-use Rattle.room_laws.specs.Sorts.{Sort, Index, Data, Deleted, Free, sort_of_page, sort_at, TellsFree, counts_by, others_by, beside, with_sort, IsPlaceBy}
-use Rattle.room_laws.specs.Ways.{Move, IsMove, AreMoves, IsAside, Came, Stayed, Ends, IsBatch}
-use Rattle.room_laws.specs.Recovery.{HasPlaces, IsBetween, IsOnWay, IsIndexWay, with_data, ArePagesWay, EmptyingTo}
+use Rattle.room_laws.specs.Sorts.{Sort, Index, Deleted, Free, sort_of_page, sort_at, TellsFree, counts_by, others_by, beside, with_sort, IsPlaceBy}
+use Rattle.room_laws.specs.Ways.{Move, IsMove, AreMoves, Came, Stayed, Ends}
+use Rattle.room_laws.specs.Recovery.{HasPlaces, IsBetween, with_data, ArePagesWay}
 use Rattle.room_laws.specs.Carrying.{PutSorts, KillSorts, BeginsBetween, FitsHasPlaces, BatchHasPlaces, IndexGoesOn, BatchGoesOn}
 use Rattle.room_laws.proofs.Totals.{Seen, is_unused, is_index, is_data, seen}
 use Rattle.room_laws.proofs.Tallies.{entries_pos}

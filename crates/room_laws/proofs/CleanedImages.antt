@@ -1,8 +1,8 @@
 -- Images in which a block was cleaned.
-use Rattle.std.proofs.Common.{◌≡◌, ◌≢◌, ℕ, zero, suc, ◌+◌, ◌*◌, ◌<◌, ◌≤◌, List, [], ◌∷◌, length, Bool, true, false, not, cond, ◌==◌, ◌&&◌, refl, sym, ◌∙◌, ap, subst, arith, ⊎_elim}
+use Rattle.std.proofs.Common.{◌≡◌, ℕ, zero, suc, ◌+◌, ◌*◌, ◌<◌, List, ◌∷◌, Bool, true, false, not, cond, ◌==◌, ◌&&◌, refl, sym, ◌∙◌, ap, subst, arith, ⊎_elim}
 use Rattle.std.specs.Prelude.{Contains, sum_by}
 use Rattle.std.specs.List.{range_with_len}
-use Rattle.std.proofs.lemmas.Bool.{cases_Bool, cases_eq}
+use Rattle.std.proofs.lemmas.Bool.{cases_eq}
 use Rattle.std.proofs.lemmas.List.Sums.{sum_by-cons}
 use Rattle.geometry.specs.declared.geometry.Geometry.{Geometry}
 use Rattle.nor_core.specs.Flash.{SameOutside}
@@ -11,17 +11,15 @@ use Rattle.image_model.specs.Places.{IsImage}
 use Rattle.image_model.specs.Tables.{table_of}
 use Rattle.image_model.specs.Tidy.{IsTidy, is_free_block}
 use Rattle.image_model.specs.Kinds.{is_data_block}
-use Rattle.image_model.specs.Collect.{data_in, deleted_in, deleted_outside}
-use Rattle.room_laws.specs.Counts.{Counts, for_index, for_data, kind_of}
+use Rattle.image_model.specs.Collect.{deleted_in, deleted_outside}
+use Rattle.room_laws.specs.Counts.{Counts, for_index, for_data}
 use Rattle.room_laws.specs.Volume.{deleted_of}
 use Rattle.room_laws.specs.Cleaning.{Cleaned}
 use Rattle.room_laws.specs.Mending.{DataStay}
-use Rattle.room_laws.specs.Order.{Rearranged}
 use Rattle.room_laws.specs.Leaving.{WholeCleaning, fresh}
 use Rattle.room_laws.specs.Counting.{block_counts, counts_of, deleted_where}
-use Rattle.room_laws.specs.Stopping.{CanClean, gc_measure}
-use Rattle.room_laws.specs.Mends.{CanMend}
-use Rattle.room_laws.specs.Sorts.{sort_at, counts_by, others_by}
+use Rattle.room_laws.specs.Stopping.{gc_measure}
+use Rattle.room_laws.specs.Sorts.{sort_at, others_by}
 use Rattle.room_laws.specs.Recovery.{IsBetween, IsEmptied}
 use Rattle.room_laws.specs.CleanedImages.{HasCleaned, EmptiedHasCleaned, HasCleanedCanClean, HasCleanedIsLower, HasCleanedMends, HasCleanedIsSwept}
 use Rattle.room_laws.proofs.Bounding.{bound_kept}

@@ -1,6 +1,5 @@
 -- Images whose emptied block is being made fresh recover, and are cleaned once it is.
-use Rattle.std.proofs.Common.{◌≡◌, ◌≢◌, ℕ, ◌+◌, ◌-◌, ◌*◌, ◌<◌, ◌≤◌, ◌⊎◌, List, ◌∷◌, length, true, false, ◌==◌, Some, None, refl, sym, ◌∙◌, ap, subst, arith, ⊎_elim, inl, inr}
-use Rattle.std.specs.Prelude.{All}
+use Rattle.std.proofs.Common.{◌≡◌, ◌≢◌, ℕ, ◌+◌, ◌-◌, ◌*◌, ◌<◌, ◌≤◌, ◌⊎◌, List, ◌∷◌, true, false, Some, None, refl, sym, ◌∙◌, ap, subst, arith, ⊎_elim}
 use Rattle.std.proofs.lemmas.Bool.{cases_Bool, and_parts}
 use Rattle.std.proofs.lemmas.Option.{same_Some, none-some}
 use Rattle.geometry.specs.declared.geometry.Geometry.{Geometry}
@@ -16,14 +15,11 @@ use Rattle.image_laws.proofs.Erase.{slot-other}
 use Rattle.image_laws.proofs.Frames.{live_parts}
 use Rattle.image_laws.proofs.StillFree.{live-used}
 use Rattle.room_laws.specs.Counts.{Counts}
-use Rattle.room_laws.specs.Order.{without}
 use Rattle.room_laws.specs.Leaving.{WholeCleaning, fresh}
 use Rattle.room_laws.specs.Counting.{block_counts, counts_of}
-use Rattle.room_laws.specs.Emptying.{PageStays}
-use Rattle.room_laws.specs.Mends.{CanMend}
 use Rattle.room_laws.specs.Sorts.{sort_at, counts_by, others_by}
 use Rattle.room_laws.specs.Staged.{IsStaged}
-use Rattle.room_laws.specs.Recovery.{Recovers, MayCut, IsBetween, IsEmptied, FreshWayMends}
+use Rattle.room_laws.specs.Recovery.{IsBetween, IsEmptied, FreshWayMends}
 use Rattle.room_laws.proofs.Blocks.{Told, told_free, told_index, told_data, told, free_all}
 use Rattle.room_laws.proofs.Tallies.{index_counted, pages_counted, deleted_counted, free_counted}
 use Rattle.room_laws.proofs.Besides.{others_of, front}

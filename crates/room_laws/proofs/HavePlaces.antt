@@ -1,11 +1,11 @@
 -- Pages find places.
-use Rattle.std.proofs.Common.{◌≡◌, ℕ, ◌+◌, ◌-◌, ◌*◌, ◌<◌, ◌≤◌, ◌⊎◌, List, refl, ap, arith, ⊎_elim, inl, inr, slice_set}
+use Rattle.std.proofs.Common.{◌≡◌, ℕ, ◌+◌, ◌-◌, ◌*◌, ◌<◌, ◌≤◌, ◌⊎◌, refl, ap, arith, ⊎_elim, slice_set}
 use Rattle.std.proofs.lemmas.Bool.{cases_lt}
 use Rattle.geometry.specs.Numbers.{ceil}
 use Rattle.image_laws.proofs.Serving.{ceil-enough, ceil-mono}
-use Rattle.room_laws.specs.Counts.{Counts, unused, for_index, for_data}
-use Rattle.room_laws.specs.Volume.{blocks_of, free_of, need}
-use Rattle.room_laws.specs.Steps.{placed, killed}
+use Rattle.room_laws.specs.Counts.{unused, for_index, for_data}
+use Rattle.room_laws.specs.Volume.{free_of, need}
+use Rattle.room_laws.specs.Steps.{placed}
 use Rattle.room_laws.specs.Places.{HadFindsIndex, HadFindsData, HadPutsIndex, HadPutsData, HadKills, HadLess}
 use Rattle.room_laws.proofs.Totals.{ceil-le}
 use Rattle.room_laws.proofs.Puts.{put-index, put-data, kill-index}

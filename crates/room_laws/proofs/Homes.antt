@@ -1,9 +1,9 @@
 -- The file of a live page of a tidy image, and where it leads to that page.
-use Rattle.std.proofs.Common.{◌≡◌, ℕ, zero, suc, ◌+◌, ◌-◌, ◌*◌, ◌/◌, ◌%◌, ◌<◌, ◌≤◌, List, [], ◌∷◌, length, Bool, true, false, not, ◌==◌, ◌&&◌, Option, Some, None, Ok, ap, refl, sym, ◌∙◌, subst, arith, ⊎_elim}
+use Rattle.std.proofs.Common.{◌≡◌, ℕ, zero, suc, ◌+◌, ◌-◌, ◌*◌, ◌/◌, ◌%◌, ◌<◌, ◌≤◌, List, length, Bool, true, false, not, ◌==◌, ◌&&◌, Option, Some, None, Ok, ap, refl, sym, ◌∙◌, subst, arith, ⊎_elim}
 use Rattle.std.specs.Prelude.{is_some, is_none, option_and_then, Contains}
 use Rattle.std.specs.List.{range_with_len, list_any, filter_map, cons_option}
 use Rattle.std.proofs.Math.Nat.{mul-le-mul_right, div-add-mod, mul-div_cancel}
-use Rattle.std.proofs.lemmas.Bool.{cases_eq, cases_lt, cases_Bool, and_parts, or_cases, eq-eqb, eqb-true, ne_eqb, lt-ltb, le-ltb}
+use Rattle.std.proofs.lemmas.Bool.{cases_eq, cases_lt, cases_Bool, and_parts, or_cases, eq-eqb, eqb-true, lt-ltb, le-ltb}
 use Rattle.std.proofs.lemmas.Option.{same_Some, none-some}
 use Rattle.geometry.specs.declared.geometry.Geometry.{Geometry}
 use Rattle.geometry.specs.Numbers.{head_slots, span_slots, ceil}
@@ -17,7 +17,6 @@ use Rattle.image_model.specs.Places.{IsImage}
 use Rattle.image_model.specs.Files.{is_index, index_page, further, entry_number, data_of, data_page, first_missing, bytes_of, judged}
 use Rattle.image_model.specs.Tables.{has_of, counted, records, table_of}
 use Rattle.image_model.specs.Tidy.{IsTidy, is_number, serves}
-use Rattle.image_laws.specs.Reindex.{index_span}
 use Rattle.image_laws.proofs.Append.{find-all}
 use Rattle.image_laws.proofs.Damaged.{any_at}
 use Rattle.image_laws.proofs.Doubled.{index-span_is}

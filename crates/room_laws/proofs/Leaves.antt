@@ -1,14 +1,13 @@
 -- Live pages that leave a block.
-use Rattle.std.proofs.Common.{◌≡◌, ℕ, suc, ◌+◌, ◌-◌, ◌<◌, ◌≤◌, ◌⊎◌, List, ◌∷◌, length, refl, sym, ◌∙◌, subst, arith, ⊎_elim, inl, inr, slice_index_or, slice_set}
-use Rattle.std.specs.Prelude.{All}
-use Rattle.room_laws.specs.Counts.{Counts, IsBlock, Kind, unused, for_index, for_data, kind_of, if_kind}
-use Rattle.room_laws.specs.Volume.{IsVolume, blocks_of, free_of, deleted_of, pages_total, need}
+use Rattle.std.proofs.Common.{◌≡◌, ℕ, ◌+◌, ◌-◌, ◌<◌, ◌⊎◌, List, ◌∷◌, length, refl, sym, ◌∙◌, subst, arith, ⊎_elim, slice_index_or, slice_set}
+use Rattle.room_laws.specs.Counts.{Counts, Kind, unused, for_index, for_data, kind_of, if_kind}
+use Rattle.room_laws.specs.Volume.{IsVolume, blocks_of, free_of, deleted_of, pages_total}
 use Rattle.room_laws.specs.Steps.{placed, killed, CanPut, Reached}
 use Rattle.room_laws.specs.Order.{Rearranged, Stays}
-use Rattle.room_laws.specs.Cleaning.{Cleaned, KindKept}
-use Rattle.room_laws.specs.Leaving.{Emptying, SameTotals, page_killed, fresh, EmptyingStarts, IndexLeaves, PageLeaves, IndexRenewed, EmptyingCleans, CleanedRearranged}
+use Rattle.room_laws.specs.Cleaning.{KindKept}
+use Rattle.room_laws.specs.Leaving.{Emptying, fresh, EmptyingStarts, IndexLeaves, PageLeaves, IndexRenewed, EmptyingCleans, CleanedRearranged}
 use Rattle.room_laws.proofs.Totals.{Seen, is_unused, is_index, is_data, seen}
-use Rattle.room_laws.proofs.Moves.{length-set, kind-data, reached_start, reached_index, reached_data, reached_kill, reached_end}
+use Rattle.room_laws.proofs.Moves.{kind-data, reached_start, reached_index, reached_data, reached_kill, reached_end}
 use Rattle.room_laws.proofs.Orders.{stays_start, stays_set, stays_end, blocks-same, free-same, index-same}
 use Rattle.room_laws.proofs.Puts.{put-index, put-data, kill-index}
 use Rattle.room_laws.proofs.HavePlaces.{need-put, need-opened}

@@ -1,18 +1,15 @@
 -- Copies that were lost on their way.
-use Rattle.std.proofs.Common.{◌≡◌, ℕ, zero, suc, ◌+◌, ◌-◌, ◌<◌, ◌≤◌, ◌⊎◌, List, [], ◌∷◌, length, max, refl, sym, ◌∙◌, ap, subst, arith, ⊎_elim, inl, inr, slice_index_or, slice_set}
-use Rattle.std.specs.Prelude.{All, Contains}
-use Rattle.std.proofs.lemmas.Bool.{cases_eq}
-use Rattle.std.proofs.lemmas.List.{get_or-set_same, get_or-set_other}
+use Rattle.std.proofs.Common.{◌≡◌, ℕ, ◌+◌, ◌-◌, ◌<◌, ◌≤◌, ◌⊎◌, List, ◌∷◌, length, max, refl, sym, ◌∙◌, subst, arith, ⊎_elim, inl, inr, slice_index_or, slice_set}
+use Rattle.std.specs.Prelude.{All}
 use Rattle.std.proofs.lemmas.List.Elements.{All-set}
-use Rattle.room_laws.specs.Counts.{Counts, IsBlock, Kind, unused, for_index, for_data, kind_of, if_kind}
-use Rattle.room_laws.specs.Volume.{IsVolume, blocks_of, free_of, deleted_of, index_total, pages_total, need}
-use Rattle.room_laws.specs.Cut.{Takes, CutIndex, Batches, CutData}
-use Rattle.room_laws.specs.Steps.{placed, killed, CanPut, Reached}
+use Rattle.room_laws.specs.Counts.{Counts, IsBlock, unused, for_index, for_data, kind_of}
+use Rattle.room_laws.specs.Volume.{IsVolume, blocks_of, free_of, index_total, pages_total}
+use Rattle.room_laws.specs.Cut.{CutIndex, CutData}
+use Rattle.room_laws.specs.Steps.{CanPut, Reached}
 use Rattle.room_laws.specs.Leaving.{Emptying, SameTotals}
 use Rattle.room_laws.specs.Losing.{spoiled, Spoils, SpoilsNone, SpoilsOne, SpoilsOn, LosesIndex, OpensFew, EmptyingIsCut, IndexLostIsCut, PagesLostAreCut, LeavesOneDead, DeadIsCut}
 use Rattle.room_laws.proofs.Totals.{Seen, is_unused, is_index, is_data, seen}
-use Rattle.room_laws.proofs.Moves.{length-set, total-set, blocks-set, free-set, deleted-set, kind-index, kind-data, block-of, no-pages, no-names, to-index}
-use Rattle.room_laws.proofs.Puts.{put-index, put-data, kill-index}
+use Rattle.room_laws.proofs.Moves.{length-set, total-set, blocks-set, free-set, deleted-set, kind-index, kind-data, block-of, no-pages, to-index}
 use Rattle.room_laws.proofs.HavePlaces.{need-some, need-few, need-none}
 
 -- ---- spoiled entries

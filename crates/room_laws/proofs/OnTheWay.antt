@@ -1,18 +1,17 @@
 -- Pages on their way.
-use Rattle.std.proofs.Common.{◌≡◌, ◌≢◌, ℕ, zero, suc, ◌+◌, ◌<◌, ◌≤◌, ◌⊎◌, List, [], ◌∷◌, length, true, false, Some, None, refl, sym, ◌∙◌, ap, subst, arith, ⊎_elim, inl, inr}
+use Rattle.std.proofs.Common.{◌≡◌, ◌≢◌, ℕ, zero, suc, ◌⊎◌, List, [], ◌∷◌, true, Some, refl, sym, ◌∙◌, ap, subst, arith, ⊎_elim, inl, inr}
 use Rattle.std.specs.Prelude.{All, Contains}
-use Rattle.std.proofs.lemmas.Bool.{cases_eq, cases_Bool, ne_eqb}
+use Rattle.std.proofs.lemmas.Bool.{cases_eq}
 use Rattle.std.proofs.lemmas.Option.{same_Some, none-some}
 use Rattle.geometry.specs.declared.geometry.Geometry.{Geometry}
-use Rattle.image_model.specs.Places.{IsImage, has_magic, entry_of, page_of, is_entry_page}
+use Rattle.image_model.specs.Places.{is_entry_page}
 use Rattle.image_model.specs.Live.{live_at}
 use Rattle.image_model.specs.Tidy.{is_free_entry}
 use Rattle.image_laws.specs.Changes.{Gains, Loses}
 use Rattle.image_laws.specs.TidySteps.{Agree}
-use Rattle.image_laws.specs.LiveSteps.{PutLeaves, PutDone, KillLeaves, KillDone}
 use Rattle.image_laws.proofs.StillFree.{live-used}
 use Rattle.room_laws.specs.Tags.{SameTag}
-use Rattle.room_laws.specs.Ways.{Move, HasCome, IsNoPlace, OnWay, WayNone, WayPut, WayKill, DoneLeaves}
+use Rattle.room_laws.specs.Ways.{Move, HasCome, WayNone, WayPut, WayKill, DoneLeaves}
 
 -- ---- lists of moves
 

@@ -1,11 +1,11 @@
 -- What a page that is put tells of the sums.
-use Rattle.std.proofs.Common.{◌≡◌, ℕ, ◌+◌, ◌<◌, ◌≤◌, ◌⊎◌, List, length, refl, arith, inl, inr, slice_index_or, slice_set}
+use Rattle.std.proofs.Common.{◌≡◌, ℕ, ◌+◌, ◌<◌, ◌⊎◌, List, length, refl, arith, inl, inr, slice_index_or, slice_set}
 use Rattle.std.specs.Prelude.{All}
 use Rattle.room_laws.specs.Counts.{Counts, IsBlock, Kind, unused, for_index, for_data, kind_of, if_kind}
-use Rattle.room_laws.specs.Volume.{blocks_of, free_of, index_total, pages_total}
+use Rattle.room_laws.specs.Volume.{blocks_of, free_of}
 use Rattle.room_laws.specs.Steps.{placed, killed, CanPut}
 use Rattle.room_laws.proofs.Totals.{Seen, is_unused, is_index, is_data, seen}
-use Rattle.room_laws.proofs.Moves.{total-set, blocks-set, free-set, kind-index, kind-data, block-of, no-pages, no-names}
+use Rattle.room_laws.proofs.Moves.{blocks-set, free-set, kind-index, kind-data, block-of, no-pages}
 
 -- A page of kind k was put, and j is the other kind: it took a free entry of its kind, or where there was none an unused block.
 pub record PutTells (e : ℕ) (s t : List Counts) (k j : Kind) : Type 0 where

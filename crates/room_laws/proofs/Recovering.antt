@@ -1,16 +1,15 @@
 -- Images that recover, by what their entries count as.
-use Rattle.std.proofs.Common.{◌≡◌, ◌≢◌, ℕ, zero, suc, ◌+◌, ◌<◌, ◌≤◌, ◌⊎◌, List, [], ◌∷◌, length, max, true, false, refl, sym, ◌∙◌, ap, subst, arith, ⊎_elim, inl, inr}
-use Rattle.std.specs.Prelude.{All, Contains}
+use Rattle.std.proofs.Common.{◌≡◌, ◌≢◌, ℕ, ◌+◌, ◌<◌, ◌⊎◌, List, [], ◌∷◌, true, false, sym, ◌∙◌, ap, subst, arith, ⊎_elim, inl, inr}
 use Rattle.std.proofs.lemmas.Bool.{cases_eq}
 use Rattle.geometry.specs.declared.geometry.Geometry.{Geometry}
 use Rattle.image_model.specs.Volume.{entries}
 use Rattle.image_model.specs.Places.{IsImage, block_of, is_entry_page}
 use Rattle.image_model.specs.Tables.{table_of}
-use Rattle.image_model.specs.Tidy.{IsTidy, is_free_block, free_blocks, HasReserve}
-use Rattle.image_model.specs.Kinds.{live_index, live_data, is_data_block}
+use Rattle.image_model.specs.Tidy.{IsTidy, is_free_block}
+use Rattle.image_model.specs.Kinds.{live_index, live_data}
 use Rattle.image_laws.proofs.Frames.{live_parts}
 use Rattle.image_laws.proofs.Tally.{tidy-counts}
-use Rattle.room_laws.specs.Counts.{Counts, Kind, unused, for_index, for_data, kind_of}
+use Rattle.room_laws.specs.Counts.{Counts, unused, for_index, for_data, kind_of}
 use Rattle.room_laws.specs.Volume.{IsVolume, index_total, pages_total, Worth}
 use Rattle.room_laws.specs.Cut.{CutIndex, CutData}
 use Rattle.room_laws.specs.Order.{without}
@@ -18,18 +17,17 @@ use Rattle.room_laws.specs.Leaving.{SameTotals}
 use Rattle.room_laws.specs.Losing.{LosesIndex}
 use Rattle.room_laws.specs.Counting.{block_counts, counts_of}
 use Rattle.room_laws.specs.Mends.{CanMend}
-use Rattle.room_laws.specs.Sorts.{Sort, Index, Data, Deleted, Free, sort_at, counts_by, all_by, others_by, beside, with_sort, IsPlaceBy}
-use Rattle.room_laws.specs.Staged.{IsStaged}
-use Rattle.room_laws.specs.Ways.{Move, IsMove, AreMoves, OnWay, Came, Stayed, Ends, IsAside, Resolves}
-use Rattle.room_laws.specs.Recovery.{Recovers, MayCut, EmptyingTo, IsBetween, IsOnWay, StillMends, IsIndexWay, IndexWayMends}
+use Rattle.room_laws.specs.Sorts.{Sort, Index, Deleted, Free, sort_at, counts_by, others_by, beside, with_sort}
+use Rattle.room_laws.specs.Ways.{Move, IsMove, Came, Ends}
+use Rattle.room_laws.specs.Recovery.{MayCut, EmptyingTo, IsBetween, StillMends, IsIndexWay, IndexWayMends}
 use Rattle.room_laws.proofs.Blocks.{Told, told_free, told_index, told_data, told}
-use Rattle.room_laws.proofs.Tallies.{index_counted, pages_counted, deleted_counted, free_counted}
+use Rattle.room_laws.proofs.Tallies.{index_counted, pages_counted}
 use Rattle.room_laws.proofs.Judged.{worth_is_tested}
 use Rattle.room_laws.proofs.Besides.{others_of, front_volume, others_tell}
 use Rattle.room_laws.proofs.ImageMends.{data_kind, mends}
 use Rattle.room_laws.proofs.Loses.{emptying_is_cut, index_lost_is_cut}
 use Rattle.room_laws.proofs.Sorted.{tidy_tells_free, counts_by_sorts, all_by_sorts, same-block, same_sorts, with-here, with-there, sorts_are_counted, place_can_put}
-use Rattle.room_laws.proofs.SortSteps.{emptying_at, others_alike, own_stays, entry_spoiled, index_out}
+use Rattle.room_laws.proofs.SortSteps.{emptying_at, own_stays, entry_spoiled, index_out}
 use Rattle.room_laws.proofs.Resolved.{way_resolves, moves_each}
 use Rattle.room_laws.proofs.OnTheWay.{all_nil, all_cons, all_head}
 

@@ -1,11 +1,11 @@
 -- Where the pages on their way are once the stages of a check are over.
-use Rattle.std.proofs.Common.{◌≡◌, ◌≢◌, ℕ, zero, suc, ◌+◌, ◌%◌, ◌<◌, ◌≤◌, ◌⊎◌, List, [], ◌∷◌, length, Bool, true, false, ◌==◌, Option, Some, None, refl, sym, ◌∙◌, ap, subst, arith, ⊎_elim, inl, inr}
+use Rattle.std.proofs.Common.{◌≡◌, ◌≢◌, ℕ, zero, suc, ◌%◌, ◌⊎◌, List, [], ◌∷◌, true, false, ◌==◌, Option, Some, None, refl, sym, ◌∙◌, ap, subst, arith, ⊎_elim, inl, inr}
 use Rattle.std.specs.Prelude.{All, Contains}
-use Rattle.std.proofs.lemmas.Bool.{cases_eq, cases_Bool, eqb-true, ne_eqb, and_parts}
+use Rattle.std.proofs.lemmas.Bool.{cases_Bool, eqb-true, ne_eqb, and_parts}
 use Rattle.std.proofs.lemmas.Option.{same_Some, none-some}
 use Rattle.geometry.specs.declared.geometry.Geometry.{Geometry}
 use Rattle.image_model.specs.Headers.{obj_id, span_of, names_index}
-use Rattle.image_model.specs.Places.{IsImage, has_magic, entry_of, block_of, is_entry_page}
+use Rattle.image_model.specs.Places.{IsImage, entry_of, block_of, is_entry_page}
 use Rattle.image_model.specs.Live.{live_at}
 use Rattle.image_model.specs.Tables.{table_of}
 use Rattle.image_model.specs.Tidy.{IsTidy, is_free_entry}
@@ -14,10 +14,10 @@ use Rattle.image_laws.proofs.Frames.{live_parts}
 use Rattle.image_laws.proofs.StillFree.{live-used}
 use Rattle.image_laws.proofs.Tally.{is_finished-ones}
 use Rattle.image_laws.specs.Reindex.{index_span, slot_word}
-use Rattle.room_laws.specs.Sorts.{Sort, Index, Data, Deleted, Free, sort_of_page, sort_at, TellsFree}
+use Rattle.room_laws.specs.Sorts.{Deleted, Free, sort_of_page, sort_at, TellsFree}
 use Rattle.room_laws.specs.Tags.{SameTag}
 use Rattle.room_laws.specs.Staged.{IsStaged}
-use Rattle.room_laws.specs.Ways.{Move, HasCome, IsMove, AreApart, AreMoves, IsNoPlace, OnWay, Came, Stayed, Ends, IsAside, Resolves, WayResolves, IsNamedBy, IsRenamed, IsBatch, BatchResolves, BatchStays}
+use Rattle.room_laws.specs.Ways.{Move, HasCome, IsMove, AreApart, AreMoves, IsNoPlace, OnWay, Came, Stayed, Ends, IsAside, Resolves, WayResolves, IsNamedBy, IsRenamed, BatchResolves, BatchStays}
 use Rattle.room_laws.proofs.Blocks.{unlive}
 use Rattle.room_laws.proofs.Sorted.{tidy_tells_free}
 use Rattle.room_laws.proofs.Tagged.{tags_are_once, tags_are_kept, tags_are_named}

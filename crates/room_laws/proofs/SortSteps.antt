@@ -1,13 +1,11 @@
 -- Steps out of a block, by what entries count as.
-use Rattle.std.proofs.Common.{◌≡◌, ◌≢◌, ℕ, zero, suc, ◌+◌, ◌<◌, ◌≤◌, ◌⊎◌, List, [], ◌∷◌, length, true, false, refl, sym, ◌∙◌, ap, subst, arith, ⊎_elim, inl, inr, slice_index_or, slice_set}
-use Rattle.std.specs.Prelude.{All, Contains}
-use Rattle.std.proofs.lemmas.Bool.{cases_eq}
+use Rattle.std.proofs.Common.{◌≡◌, ◌≢◌, ℕ, ◌+◌, ◌<◌, List, true, sym, ◌∙◌, ap, subst, arith, slice_set}
+use Rattle.std.specs.Prelude.{All}
 use Rattle.geometry.specs.declared.geometry.Geometry.{Geometry}
 use Rattle.image_model.specs.Volume.{entries}
 use Rattle.image_model.specs.Places.{block_of, is_entry_page}
 use Rattle.image_model.specs.Within.{page_number, block_number}
-use Rattle.room_laws.specs.Counts.{Counts, IsBlock, Kind, unused, for_index, for_data, kind_of}
-use Rattle.room_laws.specs.Volume.{free_of}
+use Rattle.room_laws.specs.Counts.{Counts, IsBlock, Kind, for_index, for_data, kind_of}
 use Rattle.room_laws.specs.Steps.{placed, killed}
 use Rattle.room_laws.specs.Order.{without}
 use Rattle.room_laws.specs.Leaving.{Emptying, page_killed}
@@ -18,7 +16,7 @@ use Rattle.room_laws.proofs.Totals.{Seen, is_unused, is_index, is_data, seen}
 use Rattle.room_laws.proofs.Moves.{block-of, reached_start, reached_index}
 use Rattle.room_laws.proofs.Tallies.{entries_pos}
 use Rattle.room_laws.proofs.Leaves.{index_leaves, page_leaves, index_renewed}
-use Rattle.room_laws.proofs.Sorted.{same-block, same_sorts, map-set, set-out, with-here, with-there, sorts_change, sorts_are_counted, other_sorts_stay, sorts_at_block, sorts_beside, blocks_beside, place_can_put}
+use Rattle.room_laws.proofs.Sorted.{same-block, map-set, set-out, with-there, sorts_change, sorts_are_counted, other_sorts_stay, sorts_at_block, sorts_beside, blocks_beside, place_can_put}
 
 pub emptying_at : (e : ℕ) (c : Counts) (r : List Counts) (d d' : Counts) (s s' : List Counts) (n : ℕ) → d ≡ d' → s ≡ s' → Emptying e c r d' s' n → Emptying e c r d s n
 emptying_at e c r d d' s s' n x y was = rw (x, y) was

@@ -1,29 +1,28 @@
 -- Counts by sorts.
-use Rattle.std.proofs.Common.{◌≡◌, ◌≢◌, ℕ, zero, suc, ◌+◌, ◌-◌, ◌*◌, ◌<◌, ◌≤◌, ◌⊎◌, List, [], ◌∷◌, length, Bool, true, false, not, cond, ◌==◌, ◌&&◌, Option, Some, None, refl, sym, ◌∙◌, ap, subst, arith, ⊎_elim, inl, inr, slice_index_or, slice_set}
-use Rattle.std.specs.Prelude.{filter, map, All}
+use Rattle.std.proofs.Common.{◌≡◌, ℕ, zero, suc, ◌+◌, ◌-◌, ◌*◌, ◌<◌, ◌≤◌, ◌⊎◌, List, [], ◌∷◌, length, Bool, true, false, not, cond, ◌==◌, ◌&&◌, Option, Some, None, refl, sym, ◌∙◌, ap, arith, ⊎_elim, slice_index_or, slice_set}
+use Rattle.std.specs.Prelude.{filter, map}
 use Rattle.std.specs.List.{range_with_len}
-use Rattle.std.proofs.lemmas.Bool.{cases_Bool, cases_eq, cases_lt, eqb-true, eq-eqb, ne_eqb, false_from_ne_true, and_parts}
-use Rattle.std.proofs.lemmas.List.Sums.{length-filter}
+use Rattle.std.proofs.lemmas.Bool.{cases_Bool, eqb-true, eq-eqb, ne_eqb}
 use Rattle.std.proofs.lemmas.List.FromFn.{length-map-range_with_len, get_or-map-range_with_len}
 use Rattle.geometry.specs.declared.geometry.Geometry.{Geometry}
 use Rattle.image_model.specs.Volume.{per_block, lookups, entries}
-use Rattle.image_model.specs.Headers.{obj_id, names_index, is_finished}
+use Rattle.image_model.specs.Headers.{names_index}
 use Rattle.image_model.specs.Places.{entry_of, block_of, is_entry_page}
 use Rattle.image_model.specs.Live.{live_at}
-use Rattle.image_model.specs.Tidy.{IsTidy, is_free_entry, is_wanted}
+use Rattle.image_model.specs.Tidy.{is_free_entry, is_wanted}
 use Rattle.image_model.specs.Kinds.{is_index_page, is_data_page}
 use Rattle.image_model.specs.Collect.{count_in, index_in, data_in, deleted_in, free_in, is_deleted_entry}
 use Rattle.image_model.specs.Within.{entry_in, entry_of_block, page_number, block_number}
 use Rattle.image_laws.proofs.FreeBlocks.{filter-same}
 use Rattle.image_laws.proofs.Tally.{is_finished-ones}
 use Rattle.image_laws.proofs.Wants.{wanted_parts}
-use Rattle.room_laws.specs.Counts.{Counts, IsBlock, Kind, unused, for_index, for_data, kind_of}
-use Rattle.room_laws.specs.Steps.{placed, killed, CanPut}
+use Rattle.room_laws.specs.Counts.{Counts, for_index, for_data}
+use Rattle.room_laws.specs.Steps.{placed, killed}
 use Rattle.room_laws.specs.Order.{without}
 use Rattle.room_laws.specs.Leaving.{page_killed}
 use Rattle.room_laws.specs.Losing.{spoiled}
 use Rattle.room_laws.specs.Counting.{block_counts, counts_of}
-use Rattle.room_laws.specs.Sorts.{Sort, Index, Data, Deleted, Free, sort_of_page, sort_at, TellsFree, TidyTellsFree, same_sort, counts_by, all_by, others_by, beside, with_sort, CountsBySorts, AllBySorts, SameSorts, SortsAreWhole, SortChanges, SortsChange, SortIsCounted, SortsAreCounted, OtherSortsStay, SortsAtBlock, SortsBeside, StandsBeside, BlocksBeside, IsPlaceBy, PlaceCanPut}
+use Rattle.room_laws.specs.Sorts.{Sort, Index, Data, Deleted, Free, sort_at, TellsFree, TidyTellsFree, same_sort, counts_by, all_by, beside, with_sort, CountsBySorts, AllBySorts, SameSorts, SortsAreWhole, SortChanges, SortsChange, SortIsCounted, SortsAreCounted, OtherSortsStay, SortsAtBlock, SortsBeside, BlocksBeside, PlaceCanPut}
 use Rattle.room_laws.proofs.Ranges.{four_kinds, count_but}
 use Rattle.room_laws.proofs.Blocks.{unlive}
 

@@ -1,24 +1,24 @@
 -- Entries that were spoiled, by what entries count as.
-use Rattle.std.proofs.Common.{◌≡◌, ◌≢◌, ℕ, zero, suc, ◌+◌, ◌-◌, ◌<◌, ◌≤◌, ◌⊎◌, List, [], ◌∷◌, length, true, false, refl, sym, ◌∙◌, ap, subst, arith, ⊎_elim, inl, inr, slice_index_or, slice_set}
+use Rattle.std.proofs.Common.{◌≡◌, ◌≢◌, ℕ, suc, ◌+◌, ◌-◌, ◌<◌, ◌≤◌, ◌⊎◌, List, [], ◌∷◌, length, true, refl, sym, ◌∙◌, ap, subst, arith, ⊎_elim, inl, inr, slice_index_or, slice_set}
 use Rattle.std.specs.Prelude.{All, Contains}
-use Rattle.std.proofs.lemmas.Bool.{cases_eq, cases_lt, cases_Bool, le-ltb, lt-ltb}
+use Rattle.std.proofs.lemmas.Bool.{cases_eq, cases_lt, le-ltb, lt-ltb}
 use Rattle.std.proofs.lemmas.List.Elements.{All-set}
 use Rattle.geometry.specs.declared.geometry.Geometry.{Geometry}
 use Rattle.image_model.specs.Volume.{entries}
 use Rattle.image_model.specs.Places.{block_of, is_entry_page}
 use Rattle.image_model.specs.Within.{page_number, block_number}
-use Rattle.room_laws.specs.Counts.{Counts, IsBlock, Kind, unused, for_index, for_data, kind_of, if_kind}
-use Rattle.room_laws.specs.Volume.{blocks_of, index_total, pages_total}
+use Rattle.room_laws.specs.Counts.{Counts, IsBlock, unused, for_index, for_data, kind_of}
+use Rattle.room_laws.specs.Volume.{index_total, pages_total}
 use Rattle.room_laws.specs.Order.{without}
 use Rattle.room_laws.specs.Losing.{spoiled, Spoils, LeavesOneDead}
-use Rattle.room_laws.specs.Sorts.{Sort, Index, Data, Deleted, Free, counts_by, others_by, beside, with_sort}
+use Rattle.room_laws.specs.Sorts.{Sort, Deleted, Free, counts_by, others_by, beside, with_sort}
 use Rattle.room_laws.specs.Ways.{Move, AreApart, AreMoves, IsNoPlace}
 use Rattle.room_laws.proofs.Totals.{Seen, is_unused, is_index, is_data, seen}
 use Rattle.room_laws.proofs.Moves.{blocks-set, kind-index, kind-data, block-of}
 use Rattle.room_laws.proofs.Loses.{StillData, same-live, spoiled-block, spoils_none, spoils_one, spoils_on}
 use Rattle.room_laws.proofs.Sorted.{same-block, same_sorts, with-here, with-there, sorts_change, sorts_are_counted, other_sorts_stay, blocks_beside}
 use Rattle.room_laws.proofs.SortSteps.{own_stays, entry_spoiled}
-use Rattle.room_laws.proofs.OnTheWay.{all_nil, all_cons, all_at}
+use Rattle.room_laws.proofs.OnTheWay.{all_nil, all_cons}
 
 -- ---- kinds
 

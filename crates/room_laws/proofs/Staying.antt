@@ -1,17 +1,17 @@
 -- What the stages of a check leave.
-use Rattle.std.proofs.Common.{◌≡◌, ℕ, ◌+◌, ◌*◌, ◌<◌, ◌≤◌, ◌⊎◌, List, length, Bool, true, false, cond, ◌&&◌, None, refl, sym, ◌∙◌, subst, arith, ⊎_elim, inl, inr}
+use Rattle.std.proofs.Common.{◌≡◌, ℕ, ◌+◌, ◌*◌, ◌<◌, ◌≤◌, ◌⊎◌, List, length, Bool, true, false, cond, None, refl, sym, ◌∙◌, subst, arith, ⊎_elim, inl, inr}
 use Rattle.std.specs.Prelude.{filter}
-use Rattle.std.specs.List.{range_with_len, list_all}
-use Rattle.std.proofs.lemmas.Bool.{cases_Bool, and_parts, and_from}
+use Rattle.std.specs.List.{range_with_len}
+use Rattle.std.proofs.lemmas.Bool.{and_parts, and_from}
 use Rattle.std.proofs.lemmas.List.Sums.{length-filter}
 use Rattle.geometry.specs.declared.geometry.Geometry.{Geometry}
 use Rattle.image_model.specs.Volume.{per_block, lookups, entries}
-use Rattle.image_model.specs.Places.{IsImage, has_magic, block_of, is_entry_page}
+use Rattle.image_model.specs.Places.{has_magic, block_of}
 use Rattle.image_model.specs.Live.{live_at}
-use Rattle.image_model.specs.Tidy.{IsTidy, is_free_entry, is_free_block, free_blocks, HasReserve}
+use Rattle.image_model.specs.Tidy.{is_free_entry, is_free_block, free_blocks}
 use Rattle.image_model.specs.Within.{entry_in}
-use Rattle.room_laws.specs.Staged.{OnlyKills, IsStaged, TidyIsStaged, KillsAreStaged}
-use Rattle.room_laws.specs.Recovery.{Recovers, ReserveMends}
+use Rattle.room_laws.specs.Staged.{IsStaged, TidyIsStaged, KillsAreStaged}
+use Rattle.room_laws.specs.Recovery.{ReserveMends}
 use Rattle.room_laws.proofs.Ranges.{sum_le, list_all_same}
 use Rattle.room_laws.proofs.Stops.{reserve_can_clean}
 use Rattle.room_laws.proofs.ImageMends.{clean_mends}

@@ -1,21 +1,17 @@
 -- Pages by their tags.
-use Rattle.std.proofs.Common.{◌≡◌, ℕ, ◌%◌, ◌<◌, List, true, false, Option, Some, None, Bool, ap, refl, sym, ◌∙◌, subst, arith, ⊎_elim, length}
-use Rattle.std.specs.Prelude.{option_and_then}
+use Rattle.std.proofs.Common.{◌≡◌, ℕ, ◌%◌, ◌<◌, List, true, false, Some, Bool, ap, refl, sym, ◌∙◌, subst, ⊎_elim, length}
 use Rattle.std.proofs.lemmas.Bool.{cases_Bool}
 use Rattle.std.proofs.lemmas.Option.{same_Some}
 use Rattle.geometry.specs.declared.geometry.Geometry.{Geometry}
 use Rattle.table_model.specs.Room.{data_pages, index_pages}
 use Rattle.image_model.specs.Headers.{obj_id, span_of, names_index, size_of}
 use Rattle.image_model.specs.Live.{live_at, own}
-use Rattle.image_model.specs.Places.{IsImage}
 use Rattle.image_model.specs.Files.{index_page, entry_number}
-use Rattle.image_model.specs.Tables.{table_of}
-use Rattle.image_model.specs.Tidy.{IsTidy}
 use Rattle.image_laws.specs.Reindex.{index_span, slot_word}
 use Rattle.image_laws.proofs.Finish.{own-parts}
 use Rattle.image_laws.proofs.Reindexed.{entry-slot}
 use Rattle.room_laws.specs.Tags.{SameTag, TagsAreOnce, TagsAreKept, TagsAreNamed}
-use Rattle.room_laws.proofs.Homes.{serves_first, serves_data, own_of, HasPage, has_data, has_index, Home, home_by, home_of, serves_own, home_whole, home_size, kept_file}
+use Rattle.room_laws.proofs.Homes.{serves_first, serves_data, own_of, HasPage, has_data, has_index, home_by, home_of, serves_own, home_whole, home_size, kept_file}
 
 -- a live page is one of the id of another with its tag
 own_as : (g : Geometry) (a : List ℕ) (q : ℕ) (x y : List ℕ) → live_at g a q ≡ Some y → obj_id y % 0x8000 ≡ obj_id x % 0x8000 → own (live_at g a) (obj_id x % 0x8000) q ≡ Some y

@@ -1,12 +1,12 @@
 -- Tests of blocks by what their entries count as.
-use Rattle.std.proofs.Common.{◌≡◌, ◌≢◌, ℕ, zero, suc, ◌+◌, ◌*◌, ◌<◌, ◌≤◌, ◌⊎◌, List, [], ◌∷◌, length, Bool, true, false, not, nat_lt, ◌&&◌, refl, sym, ◌∙◌, ap, subst, arith, ⊎_elim, inl, inr, slice_index_or}
+use Rattle.std.proofs.Common.{◌≡◌, ◌≢◌, ℕ, zero, suc, ◌+◌, ◌*◌, ◌<◌, ◌≤◌, ◌⊎◌, List, [], ◌∷◌, length, Bool, true, false, nat_lt, refl, sym, ◌∙◌, ap, arith, ⊎_elim, inl, inr, slice_index_or}
 use Rattle.std.specs.Prelude.{All, Contains, filter}
-use Rattle.std.specs.List.{range_with_len, list_all, list_any}
-use Rattle.std.proofs.lemmas.Bool.{cases_Bool, cases_eq, cases_lt, and_parts, and_from, lt-ltb, le-ltb, ltb-true}
+use Rattle.std.specs.List.{range_with_len}
+use Rattle.std.proofs.lemmas.Bool.{cases_Bool, cases_lt, and_parts, lt-ltb, le-ltb, ltb-true}
 use Rattle.std.proofs.lemmas.List.FromFn.{length-range_with_len, length-map-range_with_len, get_or-map-range_with_len}
 use Rattle.geometry.specs.declared.geometry.Geometry.{Geometry}
 use Rattle.image_model.specs.Volume.{per_block, lookups, entries}
-use Rattle.image_model.specs.Places.{has_magic, block_of, is_entry_page}
+use Rattle.image_model.specs.Places.{block_of, is_entry_page}
 use Rattle.image_model.specs.Live.{live_at}
 use Rattle.image_model.specs.Tidy.{is_free_entry, is_free_block, free_blocks}
 use Rattle.image_model.specs.Kinds.{is_index_page, is_data_page, is_index_block, is_data_block}
@@ -16,13 +16,13 @@ use Rattle.room_laws.specs.Counts.{Counts, IsBlock, Kind, unused, for_index, for
 use Rattle.room_laws.specs.Volume.{total, blocks_of, free_of}
 use Rattle.room_laws.specs.Order.{without}
 use Rattle.room_laws.specs.Places.{HadWith}
-use Rattle.room_laws.specs.Sorts.{Sort, Free, TellsFree, sort_at, counts_by, all_by, others_by, beside, IsPlaceBy}
+use Rattle.room_laws.specs.Sorts.{TellsFree, sort_at, counts_by, all_by, others_by, IsPlaceBy}
 use Rattle.room_laws.specs.Taking.{takes_as, of_kind, IsFullBeside, KindsAreTested, PlacesAreBy, HasFreeBeside, PlacesAreFound}
 use Rattle.room_laws.proofs.Totals.{Seen, is_unused, is_index, is_data, seen, term, if_same-some}
 use Rattle.room_laws.proofs.Ranges.{any_counted, all_counted, not_all_counted}
 use Rattle.room_laws.proofs.Tallies.{index_counted, pages_counted, free_counted, entries_pos}
 use Rattle.room_laws.proofs.HavePlaces.{had_finds_index, had_finds_data}
-use Rattle.room_laws.proofs.Sorted.{counts_by_sorts, blocks_beside}
+use Rattle.room_laws.proofs.Sorted.{counts_by_sorts}
 use Rattle.room_laws.proofs.Resolved.{free_sort}
 use Rattle.room_laws.proofs.Spoiling.{stands_block}
 use Rattle.image_laws.proofs.Damaged.{any_from}

@@ -9,7 +9,7 @@ use Rattle.image_model.specs.Collect.{is_fitting}
 use Rattle.image_laws.specs.LiveSteps.{PutDone, KillDone}
 use Rattle.room_laws.specs.Counts.{for_index}
 use Rattle.room_laws.specs.Places.{HadWith}
-use Rattle.room_laws.specs.Sorts.{Sort, Deleted, sort_of_page, sort_at, TellsFree, counts_by, others_by, with_sort, IsPlaceBy}
+use Rattle.room_laws.specs.Sorts.{Deleted, sort_of_page, sort_at, TellsFree, counts_by, others_by, with_sort, IsPlaceBy}
 use Rattle.room_laws.specs.Ways.{Move, AreMoves, IsBatch}
 use Rattle.room_laws.specs.Recovery.{HasPlaces, IsBetween, IsOnWay, IsIndexWay, with_data, ArePagesWay}
 

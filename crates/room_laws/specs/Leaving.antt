@@ -1,6 +1,6 @@
 -- Live pages leave a block, one after the other, until none is left.
 use Rattle.std.specs.Prelude.{◌≡◌, ℕ, ◌+◌, ◌-◌, ◌<◌, ◌≤◌, List, ◌∷◌, length, All, slice_index_or, slice_set}
-use Rattle.room_laws.specs.Counts.{Counts, IsBlock, Kind, for_index, for_data, kind_of}
+use Rattle.room_laws.specs.Counts.{Counts, IsBlock, for_index, for_data, kind_of}
 use Rattle.room_laws.specs.Volume.{IsVolume, blocks_of, free_of, deleted_of, index_total, pages_total, need}
 use Rattle.room_laws.specs.Cleaning.{Cleaned}
 use Rattle.room_laws.specs.Mending.{DataStay}

@@ -1,9 +1,9 @@
 -- Copies of pages that were lost on their way out of a block.
-use Rattle.std.specs.Prelude.{◌≡◌, ℕ, ◌+◌, ◌-◌, ◌<◌, ◌≤◌, ◌⊎◌, List, [], ◌∷◌, length, max, All, Contains, slice_index_or, slice_set}
+use Rattle.std.specs.Prelude.{◌≡◌, ℕ, ◌+◌, ◌-◌, ◌<◌, ◌≤◌, ◌⊎◌, List, ◌∷◌, length, max, All, Contains, slice_index_or, slice_set}
 use Rattle.room_laws.specs.Counts.{Counts, IsBlock, Kind, unused, for_index, for_data, kind_of}
 use Rattle.room_laws.specs.Volume.{IsVolume, blocks_of, free_of, deleted_of, index_total, pages_total}
 use Rattle.room_laws.specs.Cut.{CutIndex, CutData}
-use Rattle.room_laws.specs.Steps.{placed, CanPut}
+use Rattle.room_laws.specs.Steps.{CanPut}
 use Rattle.room_laws.specs.Leaving.{Emptying, SameTotals}
 
 -- a block once a free entry of it was spoiled

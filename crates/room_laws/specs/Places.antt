@@ -1,6 +1,6 @@
 -- Pages that find places while free blocks are left alone.
-use Rattle.std.specs.Prelude.{◌≡◌, ℕ, ◌+◌, ◌-◌, ◌<◌, ◌≤◌, List, length, All, slice_index_or, slice_set}
-use Rattle.room_laws.specs.Counts.{Counts, IsBlock, Kind, unused, for_index, for_data, kind_of}
+use Rattle.std.specs.Prelude.{◌≡◌, ℕ, ◌+◌, ◌-◌, ◌<◌, ◌≤◌, List, length, slice_index_or, slice_set}
+use Rattle.room_laws.specs.Counts.{Counts, unused, for_index, for_data, kind_of}
 use Rattle.room_laws.specs.Volume.{IsVolume, blocks_of, free_of, need}
 use Rattle.room_laws.specs.Steps.{placed, killed, CanPut}
 

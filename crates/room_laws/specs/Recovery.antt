@@ -10,13 +10,13 @@ use Rattle.image_model.specs.Headers.{names_index}
 use Rattle.image_model.specs.Tidy.{IsTidy, is_free_block, HasReserve}
 use Rattle.image_model.specs.Kinds.{is_data_block}
 use Rattle.image_model.specs.Collect.{deleted_in, free_in}
-use Rattle.room_laws.specs.Counts.{Counts, Kind, for_index, for_data}
+use Rattle.room_laws.specs.Counts.{for_index, for_data}
 use Rattle.room_laws.specs.Places.{HadWith}
 use Rattle.room_laws.specs.Choosing.{IsCandidate}
 use Rattle.room_laws.specs.Stopping.{CanClean}
 use Rattle.room_laws.specs.Mends.{CanMend}
 use Rattle.room_laws.specs.Leaving.{Emptying}
-use Rattle.room_laws.specs.Sorts.{Sort, Index, Data, Deleted, Free, sort_at, counts_by, others_by, with_sort, IsPlaceBy}
+use Rattle.room_laws.specs.Sorts.{Sort, Index, Data, sort_at, counts_by, others_by, with_sort, IsPlaceBy}
 use Rattle.room_laws.specs.Staged.{IsStaged}
 use Rattle.room_laws.specs.Ways.{Move, AreMoves, OnWay, IsNamedBy, IsBatch}
 

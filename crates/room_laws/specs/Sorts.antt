@@ -1,5 +1,5 @@
 -- Entries by what they count as, and the counts of blocks by them.
-use Rattle.std.specs.Prelude.{◌≡◌, ◌≢◌, ℕ, zero, suc, ◌+◌, ◌-◌, ◌<◌, ◌⊎◌, List, length, Bool, true, false, ◌==◌, Option, Some, None, if◌then◌else◌, map, All, slice_index_or, slice_set}
+use Rattle.std.specs.Prelude.{◌≡◌, ◌≢◌, ℕ, zero, suc, ◌+◌, ◌<◌, ◌⊎◌, List, length, Bool, true, false, ◌==◌, Option, Some, None, if◌then◌else◌, map, slice_index_or, slice_set}
 use Rattle.std.specs.List.{range_with_len}
 use Rattle.geometry.specs.declared.geometry.Geometry.{Geometry}
 use Rattle.image_model.specs.Volume.{entries}
@@ -8,7 +8,7 @@ use Rattle.image_model.specs.Places.{has_magic, entry_of, block_of, is_entry_pag
 use Rattle.image_model.specs.Live.{live_at}
 use Rattle.image_model.specs.Tidy.{IsTidy, is_free_entry}
 use Rattle.image_model.specs.Collect.{count_in}
-use Rattle.room_laws.specs.Counts.{Counts, IsBlock, Kind, unused, for_index, for_data, kind_of}
+use Rattle.room_laws.specs.Counts.{Counts, Kind, unused, for_index, for_data, kind_of}
 use Rattle.room_laws.specs.Volume.{free_of}
 use Rattle.room_laws.specs.Steps.{placed, killed, CanPut}
 use Rattle.room_laws.specs.Order.{without}

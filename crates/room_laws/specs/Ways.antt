@@ -1,5 +1,5 @@
 -- Pages on their way from one place to another.
-use Rattle.std.specs.Prelude.{◌≡◌, ◌≢◌, ℕ, ◌%◌, ◌<◌, ◌⊎◌, List, [], ◌∷◌, length, true, false, Some, All, Contains}
+use Rattle.std.specs.Prelude.{◌≡◌, ◌≢◌, ℕ, ◌%◌, ◌⊎◌, List, [], ◌∷◌, true, false, Some, All, Contains}
 use Rattle.geometry.specs.declared.geometry.Geometry.{Geometry}
 use Rattle.image_model.specs.Places.{IsImage, has_magic, is_entry_page}
 use Rattle.image_model.specs.Live.{live_at}
@@ -8,7 +8,7 @@ use Rattle.image_model.specs.Headers.{obj_id, span_of, names_index}
 use Rattle.image_model.specs.Tidy.{IsTidy, is_free_entry}
 use Rattle.image_laws.specs.LiveSteps.{PutLeaves, PutDone, KillLeaves, KillDone}
 use Rattle.image_laws.specs.Reindex.{index_span, slot_word}
-use Rattle.room_laws.specs.Sorts.{Sort, Index, Data, Deleted, Free, sort_at}
+use Rattle.room_laws.specs.Sorts.{Sort, Deleted, Free, sort_at}
 use Rattle.room_laws.specs.Tags.{SameTag}
 use Rattle.room_laws.specs.Staged.{IsStaged}
 
