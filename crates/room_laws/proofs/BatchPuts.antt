@@ -2,24 +2,27 @@
 use Rattle.std.proofs.Common.{◌≡◌, ◌≢◌, ℕ, ◌+◌, ◌-◌, ◌<◌, ◌⊎◌, List, ◌∷◌, length, true, false, ◌==◌, Option, Some, None, refl, sym, ◌∙◌, ap, subst, arith, ⊎_elim}
 use Rattle.std.specs.Prelude.{All}
 use Rattle.std.proofs.lemmas.Bool.{cases_eq, eqb-true, cases_Bool}
+use Rattle.std.proofs.lemmas.Option.{same_Some, none-some}
 use Rattle.geometry.specs.declared.geometry.Geometry.{Geometry}
 use Rattle.image_model.specs.Volume.{entries}
-use Rattle.image_model.specs.Headers.{names_index}
+use Rattle.image_model.specs.Headers.{span_of, names_index}
 use Rattle.image_model.specs.Places.{entry_of, is_entry_page}
 use Rattle.image_model.specs.Live.{live_at}
 use Rattle.image_model.specs.Tidy.{is_free_entry}
-use Rattle.image_laws.specs.LiveSteps.{PutLeaves, PutDone}
+use Rattle.image_laws.specs.LiveSteps.{PutLeaves, PutDone, KillLeaves}
+use Rattle.image_laws.specs.Changes.{Gains, Loses}
+use Rattle.image_laws.specs.Reindex.{slot_word}
 use Rattle.room_laws.specs.Counts.{Counts, IsBlock, Kind, for_index, for_data}
 use Rattle.room_laws.specs.Order.{without}
 use Rattle.room_laws.specs.Sorts.{Index, Data, Deleted, Free, sort_of_page, sort_at, TellsFree, counts_by, others_by, with_sort, IsPlaceBy}
 use Rattle.room_laws.specs.Tags.{SameTag}
-use Rattle.room_laws.specs.Ways.{Move, IsMove, AreApart, AreMoves, OnWay}
+use Rattle.room_laws.specs.Ways.{Move, IsMove, AreApart, AreMoves, OnWay, IsRenamed}
 use Rattle.room_laws.specs.Recovery.{with_data, ArePagesWay}
-use Rattle.room_laws.specs.Batching.{IsCarrying, CarryingStarts, CarryingTells, CarryingIsCounted, CarryingPlaces, IsNextOut, CarryingPuts, CarryingLeaves, CarryingIsCut, RenewingLeaves}
+use Rattle.room_laws.specs.Batching.{IsCarrying, CarryingStarts, CarryingTells, CarryingIsCounted, CarryingPlaces, IsNextOut, CarryingPuts, CarryingLeaves, CarryingIsCut, RenewingLeaves, IsNamedThere, RenewedIsBatch, KilledIsBatch}
 use Rattle.room_laws.proofs.Sorted.{tidy_tells_free, with-here, with-there, same_sorts}
 use Rattle.room_laws.proofs.SortSteps.{place_alike}
 use Rattle.room_laws.proofs.OnTheWay.{all_at, all_from, way_none, way_put, done_leaves}
-use Rattle.room_laws.proofs.Resolved.{live_sort}
+use Rattle.room_laws.proofs.Resolved.{live_sort, free_dead}
 use Rattle.room_laws.proofs.Batches.{IsOut, outs, free_back, all_out, blocks_with}
 use Rattle.room_laws.proofs.Carried.{put_sorts, had_at, batch_has_places}
 
@@ -144,3 +147,40 @@ carrying_is_cut g first was image cut block moves m copy low c next put = leaves
 
 pub renewing_leaves : (g : Geometry) → RenewingLeaves g
 renewing_leaves g first was image cut block moves ix page copy low c live kind place tag put = renewing g first was image block moves low c ix page copy live kind place tag cut put
+
+-- what is live at the place of the index page is its copy
+copy_there : (g : Geometry) (a cut : List ℕ) (p : ℕ) (copy y : List ℕ) → live_at g a p ≡ None → PutLeaves g p copy a cut → live_at g cut p ≡ Some y → y ≡ copy
+copy_there g a cut p copy y none put live = ⊎_elim
+    (λ (same : live_at g cut ≡ live_at g a). absurd (none-some y (sym none ∙ sym (ap (λ (l : ℕ → Option (List ℕ)). l p) same) ∙ live)))
+    (λ (gains : Gains p copy (live_at g a) (live_at g cut)). same_Some y copy (sym live ∙ gains.after))
+    put.live
+
+pub renewed_is_batch : (g : Geometry) → RenewedIsBatch g
+renewed_is_batch g first was image cut block moves ix page copy low c live kind place put named there = record {
+  page = page;
+  live = live;
+  kind = kind;
+  named = named;
+  renamed = all_from (IsRenamed g was cut ix.to) moves (λ m has x y at here.
+      let none = free_dead g image ix.to (sort_free g image ix.to c.tells place.entry place.free) in
+      ap (λ (z : List ℕ). slot_word g z (span_of x)) (copy_there g image cut ix.to copy y none put here) ∙ all_at (IsNamedThere g was copy) moves m there has x at);
+}
+
+-- what is live after a kill was so
+live_before : (g : Geometry) (a cut : List ℕ) (p q : ℕ) (y : List ℕ) → KillLeaves g p a cut → live_at g cut q ≡ Some y → live_at g a q ≡ Some y
+live_before g a cut p q y kill live = ⊎_elim
+    (λ (same : live_at g cut ≡ live_at g a). sym (ap (λ (l : ℕ → Option (List ℕ)). l q) same) ∙ live)
+    (λ (loses : Loses p (live_at g a) (live_at g cut)). ⊎_elim
+    (λ (here : q ≡ p). absurd (none-some y (sym loses.after ∙ ap (live_at g cut) (sym here) ∙ live)))
+    (λ (other : q ≡ p → ⊥). sym (loses.others q other) ∙ live)
+    (cases_eq q p))
+    kill.live
+
+pub killed_is_batch : (g : Geometry) → KilledIsBatch g
+killed_is_batch g was image cut moves ix p batch kill = record {
+  page = batch.page;
+  live = batch.live;
+  kind = batch.kind;
+  named = batch.named;
+  renamed = all_from (IsRenamed g was cut ix.to) moves (λ m has x y at here. all_at (IsRenamed g was image ix.to) moves m batch.renamed has x y at (live_before g image cut p ix.to y kill here));
+}

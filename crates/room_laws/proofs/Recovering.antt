@@ -1,11 +1,11 @@
 -- Images that recover, by what their entries count as.
-use Rattle.std.proofs.Common.{◌≡◌, ◌≢◌, ℕ, ◌+◌, ◌<◌, ◌⊎◌, List, [], ◌∷◌, true, false, sym, ◌∙◌, ap, subst, arith, ⊎_elim, inl, inr}
-use Rattle.std.proofs.lemmas.Bool.{cases_eq}
+use Rattle.std.proofs.Common.{◌≡◌, ◌≢◌, ℕ, ◌+◌, ◌<◌, ◌≤◌, ◌⊎◌, List, [], ◌∷◌, true, false, sym, ◌∙◌, ap, subst, arith, ⊎_elim, inl, inr}
+use Rattle.std.proofs.lemmas.Bool.{cases_eq, cases_lt}
 use Rattle.geometry.specs.declared.geometry.Geometry.{Geometry}
 use Rattle.image_model.specs.Volume.{entries}
 use Rattle.image_model.specs.Places.{IsImage, block_of, is_entry_page}
 use Rattle.image_model.specs.Tables.{table_of}
-use Rattle.image_model.specs.Tidy.{IsTidy, is_free_block}
+use Rattle.image_model.specs.Tidy.{IsTidy, is_free_block, free_blocks}
 use Rattle.image_model.specs.Kinds.{live_index, live_data}
 use Rattle.image_laws.proofs.Frames.{live_parts}
 use Rattle.image_laws.proofs.Tally.{tidy-counts}
@@ -19,10 +19,12 @@ use Rattle.room_laws.specs.Counting.{block_counts, counts_of}
 use Rattle.room_laws.specs.Mends.{CanMend}
 use Rattle.room_laws.specs.Sorts.{Sort, Index, Deleted, Free, sort_at, counts_by, others_by, beside, with_sort}
 use Rattle.room_laws.specs.Ways.{Move, IsMove, Came, Ends}
-use Rattle.room_laws.specs.Recovery.{MayCut, EmptyingTo, IsBetween, StillMends, IsIndexWay, IndexWayMends}
+use Rattle.room_laws.specs.Recovery.{ChosenMayCut, MayCut, EmptyingTo, IsBetween, StillMends, IsIndexWay, IndexWayMends}
 use Rattle.room_laws.proofs.Blocks.{Told, told_free, told_index, told_data, told}
 use Rattle.room_laws.proofs.Tallies.{index_counted, pages_counted}
+use Rattle.room_laws.proofs.Chosen.{chosen_is_candidate}
 use Rattle.room_laws.proofs.Judged.{worth_is_tested}
+use Rattle.room_laws.proofs.Stops.{last_free_is_plain}
 use Rattle.room_laws.proofs.Besides.{others_of, front_volume, others_tell}
 use Rattle.room_laws.proofs.ImageMends.{data_kind, mends}
 use Rattle.room_laws.proofs.Loses.{emptying_is_cut, index_lost_is_cut}
@@ -30,6 +32,18 @@ use Rattle.room_laws.proofs.Sorted.{tidy_tells_free, counts_by_sorts, all_by_sor
 use Rattle.room_laws.proofs.SortSteps.{emptying_at, own_stays, entry_spoiled, index_out}
 use Rattle.room_laws.proofs.Resolved.{way_resolves, moves_each}
 use Rattle.room_laws.proofs.OnTheWay.{all_nil, all_cons, all_head}
+
+-- ---- the chosen block
+
+pub chosen_may_cut : (g : Geometry) → ChosenMayCut g
+chosen_may_cut g first block can chosen = record {
+  can = can;
+  candidate = chosen_is_candidate g first block chosen;
+  reserve = λ held. ⊎_elim
+      (λ (few : free_blocks g first < 2). let none = last_free_is_plain g first block can few chosen in let bad : true ≡ false = sym held ∙ none in absurd (cc))
+      (λ (enough : 2 ≤ free_blocks g first). enough)
+      (cases_lt (free_blocks g first) 2);
+}
 
 -- ---- images and sorts
 

@@ -50,7 +50,7 @@ dead_sort g a p dead = ⊎_elim
     (λ (none : (entry_of g a p == 0xFFFF) ≡ false). inl (rw (none, dead) refl))
     (cases_Bool (entry_of g a p == 0xFFFF))
 
-free_dead : (g : Geometry) (a : List ℕ) (p : ℕ) → is_free_entry g a p ≡ true → live_at g a p ≡ None
+pub free_dead : (g : Geometry) (a : List ℕ) (p : ℕ) → is_free_entry g a p ≡ true → live_at g a p ≡ None
 free_dead g a p free = unlive g a p 0xFFFF (eqb-true _ 0xFFFF (and_parts _ _ free).0) (λ x id. is_finished-ones x id)
 
 -- a live page or none

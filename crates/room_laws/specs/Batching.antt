@@ -2,15 +2,16 @@
 use Rattle.std.specs.Prelude.{◌≡◌, ◌≢◌, ℕ, ◌+◌, ◌-◌, ◌<◌, ◌≤◌, List, [], ◌∷◌, length, true, false, Some, All}
 use Rattle.geometry.specs.declared.geometry.Geometry.{Geometry}
 use Rattle.image_model.specs.Volume.{entries}
-use Rattle.image_model.specs.Headers.{names_index}
+use Rattle.image_model.specs.Headers.{span_of, names_index}
 use Rattle.image_model.specs.Places.{block_of, is_entry_page}
 use Rattle.image_model.specs.Live.{live_at}
-use Rattle.image_laws.specs.LiveSteps.{PutLeaves, PutDone}
+use Rattle.image_laws.specs.LiveSteps.{PutLeaves, PutDone, KillLeaves}
+use Rattle.image_laws.specs.Reindex.{slot_word}
 use Rattle.room_laws.specs.Counts.{IsBlock, Kind, for_index, for_data}
 use Rattle.room_laws.specs.Places.{HadWith}
 use Rattle.room_laws.specs.Sorts.{sort_at, TellsFree, counts_by, others_by, IsPlaceBy}
 use Rattle.room_laws.specs.Tags.{SameTag}
-use Rattle.room_laws.specs.Ways.{Move, AreMoves, OnWay}
+use Rattle.room_laws.specs.Ways.{Move, AreMoves, OnWay, IsNamedBy, IsBatch}
 use Rattle.room_laws.specs.Recovery.{HasPlaces, IsBetween, with_data, ArePagesWay}
 
 -- Copies of some data pages of a block are at their places, and nothing else changed.
@@ -71,3 +72,17 @@ abbrev pub RenewingLeaves : Geometry → Type 0
 RenewingLeaves g = (first was image cut : List ℕ) (block : ℕ) (moves : List Move) (index : Move) (page copy : List ℕ) → block < g.blocks → IsCarrying g first block was moves image →
     live_at g was index.from ≡ Some page → names_index page ≡ true → IsPlaceBy g (sort_at g image) block for_index index.to → SameTag page copy → PutLeaves g index.to copy image cut →
     AreMoves g was (index ∷ moves) × OnWay g (index ∷ moves) was cut
+
+-- The copy of the index page names the place of a move.
+abbrev pub IsNamedThere : Geometry → (was copy : List ℕ) → Move → Type 0
+IsNamedThere g was copy move = (page : List ℕ) → live_at g was move.from ≡ Some page → slot_word g copy (span_of page) ≡ move.to
+
+-- Where it names them all, what the put leaves is a batch.
+abbrev pub RenewedIsBatch : Geometry → Type 0
+RenewedIsBatch g = (first was image cut : List ℕ) (block : ℕ) (moves : List Move) (index : Move) (page copy : List ℕ) → block < g.blocks → IsCarrying g first block was moves image →
+    live_at g was index.from ≡ Some page → names_index page ≡ true → IsPlaceBy g (sort_at g image) block for_index index.to → PutLeaves g index.to copy image cut → All (IsNamedBy g was page) moves →
+    All (IsNamedThere g was copy) moves → IsBatch g was cut index moves
+
+-- It stays one while pages are killed.
+abbrev pub KilledIsBatch : Geometry → Type 0
+KilledIsBatch g = (was image cut : List ℕ) (moves : List Move) (index : Move) (p : ℕ) → IsBatch g was image index moves → KillLeaves g p image cut → IsBatch g was cut index moves

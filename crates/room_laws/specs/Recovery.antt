@@ -9,7 +9,7 @@ use Rattle.image_model.specs.Tables.{table_of}
 use Rattle.image_model.specs.Headers.{names_index}
 use Rattle.image_model.specs.Tidy.{IsTidy, is_free_block, HasReserve}
 use Rattle.image_model.specs.Kinds.{is_data_block}
-use Rattle.image_model.specs.Collect.{deleted_in, free_in}
+use Rattle.image_model.specs.Collect.{deleted_in, free_in, chosen_block}
 use Rattle.room_laws.specs.Counts.{for_index, for_data}
 use Rattle.room_laws.specs.Places.{HadWith}
 use Rattle.room_laws.specs.Choosing.{IsCandidate}
@@ -33,6 +33,10 @@ pub record MayCut (g : Geometry) (first : List ℕ) (block : ℕ) : Type 0 where
   pub can : CanClean g first
   pub candidate : IsCandidate g first block
   pub reserve : is_data_block g first block ≡ true → HasReserve g first
+
+-- The chosen block is such a one.
+abbrev pub ChosenMayCut : Geometry → Type 0
+ChosenMayCut g = (first : List ℕ) (block : ℕ) → CanClean g first → chosen_block g first ≡ Some block → MayCut g first block
 
 -- Live pages went out of a block of a first image, by what its entries counted as at first and count as now.
 abbrev pub EmptyingTo : Geometry → (first : List ℕ) (block : ℕ) (sorts : ℕ → Sort) (carried : ℕ) → Type 0

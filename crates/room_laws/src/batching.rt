@@ -1,5 +1,5 @@
 ghost use Rattle.geometry.specs.declared.geometry.Geometry.{Geometry};
-ghost use Rattle.room_laws.specs.Batching.{CarryingStarts, CarryingIsCounted, CarryingPlaces, CarryingPuts, CarryingIsCut, RenewingLeaves};
+ghost use Rattle.room_laws.specs.Batching.{CarryingStarts, CarryingIsCounted, CarryingPlaces, CarryingPuts, CarryingIsCut, RenewingLeaves, RenewedIsBatch, KilledIsBatch};
 
 /// Copies of a batch's data pages are put one after the other, and what remains has places.
 pub fn batches_are_carried()
@@ -13,4 +13,10 @@ pub fn batches_are_carried()
 pub fn batches_are_cut()
     ensures pages { (g : Geometry) → CarryingIsCut g }
     ensures index { (g : Geometry) → RenewingLeaves g }
+{}
+
+/// Once the index page is put the moves are a batch, and stay one while old pages are killed.
+pub fn batches_are_named()
+    ensures renewed { (g : Geometry) → RenewedIsBatch g }
+    ensures killed { (g : Geometry) → KilledIsBatch g }
 {}
