@@ -42,7 +42,7 @@ kind_data g image block (told_free f d j k i p x) held = let bad : true ≡ fals
 kind_data g image block (told_index f d k p) held = let bad : true ≡ false = sym held ∙ d in absurd (cc)
 kind_data g image block (told_data f d j k i) held = k
 
-data_kind : (g : Geometry) (image : List ℕ) (block : ℕ) → Told g image block → kind_of (block_counts g image block) ≡ for_data → is_data_block g image block ≡ true
+pub data_kind : (g : Geometry) (image : List ℕ) (block : ℕ) → Told g image block → kind_of (block_counts g image block) ≡ for_data → is_data_block g image block ≡ true
 data_kind g image block (told_free f d j k i p x) kind = absurd (let bad : unused ≡ for_data = sym k ∙ kind in cc)
 data_kind g image block (told_index f d k p) kind = absurd (let bad : for_index ≡ for_data = sym k ∙ kind in cc)
 data_kind g image block (told_data f d j k i) kind = d
@@ -124,7 +124,7 @@ without_has (x ∷ v) zero (suc k) c low out at = (k, omega (arith, low), at)
 without_has (x ∷ v) (suc i) zero c low out at = (0, omega arith, at)
 without_has (x ∷ v) (suc i) (suc k) c low out at = let w = without_has v i k c (omega (arith, low)) (λ e. out (ap suc e)) at in (suc w.0, omega (arith, w.1), w.2)
 
-other_has : (g : Geometry) (image : List ℕ) (block other : ℕ) → other < g.blocks → other ≢ block → Contains (others_of g image block) (block_counts g image other)
+pub other_has : (g : Geometry) (image : List ℕ) (block other : ℕ) → other < g.blocks → other ≢ block → Contains (others_of g image block) (block_counts g image other)
 unfolding counts_of
 other_has g image block other low out =
     let size = length-map-range_with_len (block_counts g image) 0 g.blocks in
@@ -147,7 +147,7 @@ module _ (g : Geometry) (was now : List ℕ) (block : ℕ) (can : CanClean g was
       let b = tidy-counts g now is t in
       (b.0 ∙ (rw table (sym a.0)), b.1 ∙ (rw table (sym a.1)))
 
-  front_bound : Bound (entries g) (block_counts g was block ∷ others_of g was block)
+  pub front_bound : Bound (entries g) (block_counts g was block ∷ others_of g was block)
   front_bound =
       let f = front g was block low in
       let bound = bound_to g was can.tidy can.image_is can.bound in
@@ -157,7 +157,7 @@ module _ (g : Geometry) (was now : List ℕ) (block : ℕ) (can : CanClean g was
   front_worth = worth_back (block_counts g was block ∷ others_of g was block) (counts_of g was) (block_counts g was block) (front g was block low) ((worth_is_tested g was block can.tidy low).0 candidate.worth)
 
   -- what is cut to mends, whatever was cleaned
-  mends : is_free_block g was block ≡ false → (kind_of (block_counts g was block) ≡ for_data → 2 ≤ free_blocks g was) →
+  pub mends : is_free_block g was block ≡ false → (kind_of (block_counts g was block) ≡ for_data → 2 ≤ free_blocks g was) →
       CutIndex (entries g) (block_counts g was block) (others_of g was block) (block_counts g now block) (others_of g now block)
       ⊎ CutData (entries g) (block_counts g was block) (others_of g was block) (block_counts g now block) (others_of g now block) → CanMend g now
   mends used two cut =

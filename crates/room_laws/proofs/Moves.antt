@@ -10,7 +10,7 @@ use Rattle.room_laws.specs.Cut.{Takes}
 use Rattle.room_laws.specs.Steps.{placed, killed, Reached, ReachedStart, ReachedIndex, ReachedData, ReachedKill, ReachedEnd}
 use Rattle.room_laws.proofs.Totals.{Seen, is_unused, is_index, is_data, seen}
 
-total-set : (f : Counts → ℕ) (r : List Counts) (i : ℕ) (c d : Counts) → i < length r → slice_index_or r i c ≡ c → total f (slice_set r i d) + f c ≡ total f r + f d
+pub total-set : (f : Counts → ℕ) (r : List Counts) (i : ℕ) (c d : Counts) → i < length r → slice_index_or r i c ≡ c → total f (slice_set r i d) + f c ≡ total f r + f d
 total-set f [] i c d within at = absurd (omega arith)
 total-set f (x ∷ r) zero c d within at = rw at (omega arith)
 total-set f (x ∷ r) (suc i) c d within at = omega (arith, total-set f r i c d (omega arith) at)
@@ -23,15 +23,15 @@ length-set (x ∷ r) (suc i) d = ap suc (length-set r i d)
 pub reached_start : ReachedStart
 reached_start e r all = record { blocks = all; long = refl; on_index = record { taken = λ h. absurd (omega arith) }; on_data = record { taken = λ h. absurd (omega arith) }; index_deleted = omega arith; data_deleted = refl }
 
-blocks-set : (k : Kind) (s : List Counts) (i : ℕ) (c d : Counts) → i < length s → slice_index_or s i c ≡ c → blocks_of k (slice_set s i d) + if_kind k c 1 ≡ blocks_of k s + if_kind k d 1
+pub blocks-set : (k : Kind) (s : List Counts) (i : ℕ) (c d : Counts) → i < length s → slice_index_or s i c ≡ c → blocks_of k (slice_set s i d) + if_kind k c 1 ≡ blocks_of k s + if_kind k d 1
 unfolding blocks_of
 blocks-set k s i c d within at = total-set (λ c. if_kind k c 1) s i c d within at
 
-free-set : (k : Kind) (s : List Counts) (i : ℕ) (c d : Counts) → i < length s → slice_index_or s i c ≡ c → free_of k (slice_set s i d) + if_kind k c c.free ≡ free_of k s + if_kind k d d.free
+pub free-set : (k : Kind) (s : List Counts) (i : ℕ) (c d : Counts) → i < length s → slice_index_or s i c ≡ c → free_of k (slice_set s i d) + if_kind k c c.free ≡ free_of k s + if_kind k d d.free
 unfolding free_of
 free-set k s i c d within at = total-set (λ c. if_kind k c c.free) s i c d within at
 
-deleted-set : (k : Kind) (s : List Counts) (i : ℕ) (c d : Counts) → i < length s → slice_index_or s i c ≡ c → deleted_of k (slice_set s i d) + if_kind k c c.deleted ≡ deleted_of k s + if_kind k d d.deleted
+pub deleted-set : (k : Kind) (s : List Counts) (i : ℕ) (c d : Counts) → i < length s → slice_index_or s i c ≡ c → deleted_of k (slice_set s i d) + if_kind k c c.deleted ≡ deleted_of k s + if_kind k d d.deleted
 unfolding deleted_of
 deleted-set k s i c d within at = total-set (λ c. if_kind k c c.deleted) s i c d within at
 
@@ -59,18 +59,18 @@ turn e r s n m i c d was within at is on off x y = record {
   data_deleted = omega (arith, deleted-set for_data s i c d within at, y, was.data_deleted);
 }
 
-kind-index : (d : Counts) → d.pages ≡ 0 → 0 < d.index + d.deleted → kind_of d ≡ for_index
+pub kind-index : (d : Counts) → d.pages ≡ 0 → 0 < d.index + d.deleted → kind_of d ≡ for_index
 unfolding kind_of
 kind-index d x y = rw (le-ltb 0 d.pages (omega arith), lt-ltb 0 (d.index + d.deleted) y) refl
 
-kind-data : (d : Counts) → 0 < d.pages → kind_of d ≡ for_data
+pub kind-data : (d : Counts) → 0 < d.pages → kind_of d ≡ for_data
 unfolding kind_of
 kind-data d x = rw (lt-ltb 0 d.pages x) refl
 
-block-of : (e : ℕ) (s : List Counts) (i : ℕ) (c : Counts) → All (IsBlock e) s → i < length s → slice_index_or s i c ≡ c → IsBlock e c
+pub block-of : (e : ℕ) (s : List Counts) (i : ℕ) (c : Counts) → All (IsBlock e) s → i < length s → slice_index_or s i c ≡ c → IsBlock e c
 block-of e s i c all within at = subst (IsBlock e) at (all i c within)
 
-to-index : (e : ℕ) (r s : List Counts) (n m i : ℕ) (c d : Counts) → Reached e r s n → i < length s → slice_index_or s i c ≡ c → IsBlock e d →
+pub to-index : (e : ℕ) (r s : List Counts) (n m i : ℕ) (c d : Counts) → Reached e r s n → i < length s → slice_index_or s i c ≡ c → IsBlock e d →
     (kind_of c ≡ for_index) ⊎ ((kind_of c ≡ unused) × (free_of for_index s ≡ 0)) → kind_of d ≡ for_index → Seen e c →
     d.free ≤ c.free → d.free < e → m + c.deleted ≡ n + d.deleted → Reached e r (slice_set s i d) m
 to-index e r s n m i c d was within at is (inl kc) kd look less low x =
@@ -90,13 +90,13 @@ to-data e r s n i c d was within at is (inr (kc, none)) kd (is_unused k j p y) l
 to-data e r s n i c d was within at is (inr (kc, none)) kd (is_index k j p y) less low x = absurd (cc)
 to-data e r s n i c d was within at is (inr (kc, none)) kd (is_data k j p y) less low x = absurd (cc)
 
-no-pages : (e : ℕ) (r : List Counts) (c : Counts) → Seen e c → (kind_of c ≡ for_index) ⊎ ((kind_of c ≡ unused) × (free_of for_index r ≡ 0)) → c.pages ≡ 0
+pub no-pages : (e : ℕ) (r : List Counts) (c : Counts) → Seen e c → (kind_of c ≡ for_index) ⊎ ((kind_of c ≡ unused) × (free_of for_index r ≡ 0)) → c.pages ≡ 0
 no-pages e r c (is_unused k j p y) rule = p
 no-pages e r c (is_index k p x w) rule = p
 no-pages e r c (is_data k j p y) (inl q) = absurd (cc)
 no-pages e r c (is_data k j p y) (inr (q, none)) = absurd (cc)
 
-no-names : (e : ℕ) (r : List Counts) (c : Counts) → Seen e c → (kind_of c ≡ for_data) ⊎ ((kind_of c ≡ unused) × (free_of for_data r ≡ 0)) → c.index ≡ 0
+pub no-names : (e : ℕ) (r : List Counts) (c : Counts) → Seen e c → (kind_of c ≡ for_data) ⊎ ((kind_of c ≡ unused) × (free_of for_data r ≡ 0)) → c.index ≡ 0
 no-names e r c (is_unused k j p y) rule = j
 no-names e r c (is_data k j x w) rule = j
 no-names e r c (is_index k j p y) (inl q) = absurd (cc)
@@ -123,11 +123,11 @@ reached_kill e r s n i c was within at kind some =
     to-index e r s n (n + 1) i c (killed c) was within at (record { whole = omega (arith, is.whole, some); apart = λ h. absurd (omega arith) })
     (inl kind) (kind-index (killed c) none (omega arith)) (seen e c is) (omega arith) (omega (arith, is.whole, some)) (omega arith)
 
-kind-unused : (d : Counts) → d.index ≡ 0 → d.pages ≡ 0 → d.deleted ≡ 0 → kind_of d ≡ unused
+pub kind-unused : (d : Counts) → d.index ≡ 0 → d.pages ≡ 0 → d.deleted ≡ 0 → kind_of d ≡ unused
 unfolding kind_of
 kind-unused d i p x = rw (le-ltb 0 d.pages (omega arith), le-ltb 0 (d.index + d.deleted) (omega arith)) refl
 
-cons-all : (P : Counts → Type 0) (c : Counts) (v : List Counts) → P c → All P v → All P (c ∷ v)
+pub cons-all : (P : Counts → Type 0) (c : Counts) (v : List Counts) → P c → All P v → All P (c ∷ v)
 cons-all P c v here rest zero d low = here
 cons-all P c v here rest (suc k) d low = rest k d (omega arith)
 

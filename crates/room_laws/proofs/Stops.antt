@@ -68,7 +68,7 @@ module _ (g : Geometry) (image : List ℕ) (t : IsTidy g image) where
     pub bound_to : HasBound g image → Bound (entries g) (counts_of g image)
     bound_to bound = rw index_are (omega (arith, bound, (tidy_counts_tell g image t).data_blocks_are, (tidy_counts_tell g image t).blocks))
 
-    bound_from : Bound (entries g) (counts_of g image) → HasBound g image
+    pub bound_from : Bound (entries g) (counts_of g image) → HasBound g image
     bound_from bound = let b = rw index_are at bound in omega (arith, b, (tidy_counts_tell g image t).data_blocks_are, (tidy_counts_tell g image t).blocks)
 
     room_to : (i d : ℕ) → HasRoomFor g image i d → RoomFor (entries g) (counts_of g image) i d

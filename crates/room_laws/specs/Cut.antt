@@ -19,7 +19,7 @@ pub record CutIndex (e : ℕ) (c : Counts) (r : List Counts) (d : Counts) (s : L
   pub copies : index_total s + deleted_of for_index s ≤ index_total r + deleted_of for_index r + c.index
   pub spoiled : deleted_of for_index s ≤ deleted_of for_index r + 1
   pub takes : Takes e r s for_index
-  pub pages : blocks_of for_data s ≡ blocks_of for_data r
+  pub pages : blocks_of for_data s ≤ blocks_of for_data r
 
 -- Data copies that were lost lie in data blocks, at most a batch of them, and each whole batch and the one begun renewed
 -- an index page.

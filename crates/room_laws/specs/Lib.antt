@@ -15,3 +15,15 @@ pub mod Stopping
 pub mod Emptying
 pub mod EmptyingIndex
 pub mod Mends
+pub mod Places
+pub mod Leaving
+pub mod Losing
+pub mod Sorts
+pub mod Tags
+pub mod Staged
+pub mod Ways
+pub mod Recovery
+pub mod Carrying
+pub mod CleanedImages
+pub mod Taking
+pub mod Batching

@@ -1,0 +1,68 @@
+-- What the stages of a check leave.
+use Rattle.std.proofs.Common.{◌≡◌, ℕ, ◌+◌, ◌*◌, ◌<◌, ◌≤◌, ◌⊎◌, List, length, Bool, true, false, cond, None, refl, sym, ◌∙◌, subst, arith, ⊎_elim, inl, inr}
+use Rattle.std.specs.Prelude.{filter}
+use Rattle.std.specs.List.{range_with_len}
+use Rattle.std.proofs.lemmas.Bool.{and_parts, and_from}
+use Rattle.std.proofs.lemmas.List.Sums.{length-filter}
+use Rattle.geometry.specs.declared.geometry.Geometry.{Geometry}
+use Rattle.image_model.specs.Volume.{per_block, lookups, entries}
+use Rattle.image_model.specs.Places.{has_magic, block_of}
+use Rattle.image_model.specs.Live.{live_at}
+use Rattle.image_model.specs.Tidy.{is_free_entry, is_free_block, free_blocks}
+use Rattle.image_model.specs.Within.{entry_in}
+use Rattle.room_laws.specs.Staged.{IsStaged, TidyIsStaged, KillsAreStaged}
+use Rattle.room_laws.specs.Recovery.{ReserveMends}
+use Rattle.room_laws.proofs.Ranges.{sum_le, list_all_same}
+use Rattle.room_laws.proofs.Stops.{reserve_can_clean}
+use Rattle.room_laws.proofs.ImageMends.{clean_mends}
+
+pub tidy_is_staged : (g : Geometry) → TidyIsStaged g
+tidy_is_staged g image t = record {
+  tidy = t;
+  table = refl;
+  live = λ p. inl refl;
+  free = λ p page magic. refl;
+  fresh = λ block low none. let yes = t.magic block low in let bad : true ≡ false = sym yes ∙ none in absurd (cc);
+}
+
+pub kills_are_staged : (g : Geometry) → KillsAreStaged g
+kills_are_staged g image was now k s table = record {
+  tidy = s.tidy;
+  table = table;
+  live = λ p. ⊎_elim
+      (λ (same : live_at g now p ≡ live_at g was p). ⊎_elim
+      (λ (old : live_at g was p ≡ live_at g image p). inl (same ∙ old))
+      (λ (gone : live_at g was p ≡ None). inr (same ∙ gone))
+      (k.live p))
+      (λ (gone : live_at g now p ≡ None). inr gone)
+      (s.live p);
+  free = λ p page magic. s.free p page (k.magic (block_of g p) ∙ magic) ∙ k.free p page;
+  fresh = λ block low none. s.fresh block low (k.magic block ∙ none);
+}
+
+-- a block that was free is so still
+pub free_stays : (g : Geometry) (image now : List ℕ) → IsStaged g image now → (block : ℕ) → block < g.blocks → is_free_block g image block ≡ true → is_free_block g now block ≡ true
+unfolding is_free_block
+free_stays g image now s block low free =
+    let w = and_parts _ _ free in
+    let same = list_all_same (λ p. is_free_entry g image p) (λ p. is_free_entry g now p) (block * per_block g + lookups g) (entries g) (λ q from to.
+    let e = entry_in g block q low from to in s.free q e.1 (subst (λ (b : ℕ). has_magic g image b ≡ true) (sym e.0) w.0)) in
+    and_from _ _ (s.tidy.magic block low) (same ∙ w.1)
+
+one_le : (a b : Bool) → (a ≡ true → b ≡ true) → cond a 1 0 ≤ cond b 1 0
+one_le true b more = let yes = more refl in rw yes (omega arith)
+one_le false b more = omega arith
+
+filter_le : (s t : ℕ → Bool) (a n : ℕ) → ((q : ℕ) → a ≤ q → q < a + n → s q ≡ true → t q ≡ true) → length (filter s (range_with_len a n)) ≤ length (filter t (range_with_len a n))
+filter_le s t a n more =
+    let le = sum_le (λ q. cond (s q) 1 0) (λ q. cond (t q) 1 0) a n (λ q low high. one_le (s q) (t q) (more q low high)) in
+    omega (arith, le, length-filter s (range_with_len a n), length-filter t (range_with_len a n))
+
+free_rises : (g : Geometry) (image now : List ℕ) → IsStaged g image now → free_blocks g image ≤ free_blocks g now
+unfolding free_blocks
+free_rises g image now s = filter_le (λ b. is_free_block g image b) (λ b. is_free_block g now b) 0 g.blocks (λ b low high free. free_stays g image now s b (omega arith) free)
+
+pub reserve_mends : (g : Geometry) → ReserveMends g
+reserve_mends g image reserve = record {
+  mends = λ now is s. let more = free_rises g image now s in clean_mends g now (reserve_can_clean g now is s.tidy (omega (arith, reserve, more)));
+}
