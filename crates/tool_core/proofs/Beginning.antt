@@ -1,11 +1,13 @@
 -- From the first image over the check to the end of a run.
-use Rattle.std.proofs.Common.{◌≡◌, ℕ, ◌<◌, ◌≤◌, ◌⊎◌, List, [], ◌++◌, refl, sym, ◌∙◌, ap, subst, arith, inl, inr, ⊎_elim, append-nil, replicate, Option, Some, None}
-use Rattle.std.proofs.lemmas.List.Elements.{All-replicate}
+use Rattle.std.proofs.Common.{◌≡◌, ℕ, zero, suc, ◌-◌, ◌==◌, false, ◌<◌, ◌≤◌, ◌⊎◌, List, [], slice_index_or, ◌++◌, refl, sym, ◌∙◌, ap, subst, arith, inl, inr, ⊎_elim, append-nil, replicate, Option, Some, None}
 use Rattle.geometry.specs.declared.geometry.Geometry.{Geometry}
 use Rattle.nor_core.specs.declared.state.NorState.{Ghosts as NorOf}
 use Rattle.nor_core.specs.Device.{Leaves, Changes}
 use Rattle.nor_core.proofs.Cuts.{andthen, widened}
-use Rattle.table_model.specs.Table.{Open}
+use Rattle.std.proofs.lemmas.Bool.{ne_eqb}
+use Rattle.table_model.specs.Table.{Open, State}
+use Rattle.table_model.specs.Descriptors.{open_at}
+use Rattle.call_model.specs.Memory.{OpensFiles}
 use Rattle.table_model.specs.Ask.{Ask}
 use Rattle.table_model.specs.Window.{Moment, settled_at}
 use Rattle.call_script.specs.Lines.{calls}
@@ -60,6 +62,20 @@ here_table g image w m idle here =
     let still : m ≡ settled_at m.state = subst (λ (o : Option Run). RunWaits g image m o) idle here.run in
     here.table ∙ ap (λ (j : Moment). j.settled) still
 
+-- closed descriptors are on no file
+closed_at : (n i : ℕ) → slice_index_or {A = Option Open} (replicate n None) i None ≡ None
+closed_at zero i = refl
+closed_at (suc n) zero = refl
+closed_at (suc n) (suc i) = closed_at n i
+
+none_open : (slots n fd : ℕ) → fd ≡ n → open_at (replicate slots None) fd ≡ None
+unfolding open_at
+none_open slots zero fd e = rw e refl
+none_open slots (suc n) fd e = let some : (suc n == 0) ≡ false = ne_eqb (suc n) 0 (λ (k : suc n ≡ 0). omega (arith, k)) in rw (e, some) (closed_at slots (suc n - 1))
+
+opens_none : (s : State) (slots : ℕ) → s.slots ≡ replicate slots None → OpensFiles s
+opens_none s slots same fd d at = absurd (let no : None ≡ Some d = sym (ap (λ (l : List (Option Open)). open_at l fd) same ∙ none_open slots fd fd refl) ∙ at in cc)
+
 -- an image that the check left is that of the first moment
 first_at : (g : Geometry) (slots : ℕ) (was image : List ℕ) (w : Memory) → w ≡ closed_memory slots → Begun g was image → table_of g image ≡ table_of g was → IsAt g image w (first_moment g slots was)
 unfolding settled_at
@@ -68,7 +84,7 @@ first_at g slots was image w memory begun same = subst (λ (v : Memory). IsAt g 
   table = same ∙ sym (first_table g slots was);
   slots = sym (first_slots g slots was);
   run = first_still g slots was;
-  closed = All-replicate (λ (d : Option Open). d ≡ None) slots None refl;
+  opened = opens_none (first_moment g slots was).state slots (first_slots g slots was);
 })
 
 -- images that don't end a run before its first call

@@ -3,8 +3,6 @@ use Rattle.std.specs.Prelude.{ℕ, ◌≡◌, ◌+◌, ◌≤◌, ◌⊎◌, Lis
 use Rattle.geometry.specs.declared.geometry.Geometry.{Geometry}
 use Rattle.nor_core.specs.declared.state.NorState.{Ghosts as NorOf}
 use Rattle.nor_core.specs.Device.{OnlyReads, Changes}
-use Rattle.table_model.specs.declared.reply.Reply.{Reply}
-use Rattle.table_model.specs.Reply.{answered}
 use Rattle.table_model.specs.Table.{State}
 use Rattle.table_model.specs.Ask.{Ask}
 use Rattle.table_model.specs.Window.{Moment}
@@ -12,7 +10,9 @@ use Rattle.call_script.specs.Lines.{Bad, Asks, lines, of_line, calls_of, NoBreak
 use Rattle.call_model.specs.Memory.{Memory}
 use Rattle.run_model.specs.Runs.{after_all, replies}
 use Rattle.run_model.specs.Ran.{RunStands, RunPublishes, RunAnswers, MayCut, Reached, SaidPart}
+use Rattle.volume.specs.declared.told.Told.{Told}
 use Rattle.volume.specs.Built.{is_built}
+use Rattle.volume.specs.Replies.{shown_by}
 use Rattle.volume.specs.Goes.{LacksPage}
 use Rattle.tool_core.specs.declared.ending.Ending.{Ending}
 use Rattle.tool_core.specs.declared.ending.Ending.TheVariants.{Done, BadLine, BoardFault, SourceFault, TooLong, Unbuilt}
@@ -33,10 +33,10 @@ StopsCall nor g old new was now m ask BoardFault = Unit {0}
 StopsCall nor g old new was now m ask Unbuilt = StaysUnbuilt nor g old new was now m ask
 StopsCall nor g old new was now m ask _ = ⊥
 
--- what doing a call leaves: what a run may at each cut, and its answer, or why it isn't answered
-pub record DoesCall {D : Type 0} (nor : NorOf D) (g : Geometry) (old new : D) (was now : Memory) (ask : Ask) (result : Result Reply Ending) : Type 0 where
+-- What doing a call leaves: what a run may at each cut, and its answer, or why it isn't answered. `lent` are the bytes for what is read.
+pub record DoesCall {D : Type 0} (nor : NorOf D) (g : Geometry) (old new : D) (was now : Memory) (ask : Ask) (result : Result Told Ending) (lent : List ℕ) : Type 0 where
   pub changes : (m : Moment) → Changes nor old new (RunPublishes g was m ask)
-  pub answers : (m : Moment) → RunStands nor g old was m → IfOk result (λ reply. RunAnswers nor g old new now m ask (answered reply))
+  pub answers : (m : Moment) → RunStands nor g old was m → IfOk result (λ told. RunAnswers nor g old new now m ask (shown_by told lent))
   pub stops : (m : Moment) → RunStands nor g old was m → IfErr result (StopsCall nor g old new was now m ask)
 
 -- a line spells a call that this build can't do, and nothing was changed

@@ -1,7 +1,6 @@
-ghost use Rattle.std.specs.Prelude.{◌≡◌, IfOk, IfErr, Err, true};
+ghost use Rattle.std.specs.Prelude.{◌≡◌, ◌≤◌, length, IfErr, Err, true};
 ghost use Rattle.table_model.specs.Ask.{asked};
 ghost use Rattle.call_script.specs.Lines.{IsCounted, Asks};
-ghost use Rattle.call_script.specs.Pieces.{IsShort};
 ghost use Rattle.volume.specs.Holds.{memory};
 ghost use Rattle.volume.specs.Stages.{takes_calls};
 ghost use Rattle.volume.specs.Same.{IsSameVolume};
@@ -11,28 +10,32 @@ ghost use Rattle.tool_core.specs.Turns.{DoesCall};
 
 use crate::ending::Ending;
 use nor_core::{Board, NorState};
-use table_model::{Call, FsErr, Reply};
-use volume::Volume;
+use table_model::{Call, FsErr};
+use volume::{Told, Volume};
 
-/// Does a call, or says how the run ends there: the device failed, a page reads otherwise than it was written, or this build
-/// can't do the call.
+/// The most bytes that a line of a script may read.
+pub(crate) const READ: usize = 1024;
+
+/// Does a call, with bytes for what is read, or says how the run ends there: the device failed, a page reads otherwise than it was
+/// written, or this build can't do the call.
 pub(crate) fn apply<B: Board>(
     volume: &mut Volume<'_, B>,
     call: &Call<'_>,
-) -> Result<Reply<'static>, Ending>
+    lent: &mut [u8],
+) -> Result<Told, Ending>
     requires takes { takes_calls volume.old ≡ true }
     requires counted { IsCounted (Asks (asked call.now)) }
-    ensures short { IfOk result IsShort }
+    requires room { 1024 ≤ length lent.old }
     ensures later { IfErr result IsLater }
     ensures ran { Ran B.NorState volume.old.nor.now volume.new.nor.now (result_err result) (takes_calls volume.new) }
     ensures no_script { ¬ (result ≡ Err Ending.SourceFault) }
     ensures same { IsSameVolume volume.old volume.new }
-    ensures does { DoesCall B.NorState volume.old.geometry volume.old.nor.now volume.new.nor.now (memory volume.old) (memory volume.new) (asked call.now) result }
+    ensures does { DoesCall B.NorState volume.old.geometry volume.old.nor.now volume.new.nor.now (memory volume.old) (memory volume.new) (asked call.now) result lent.new }
 {
-    match volume.answer(call) {
-        Reply::Refusal(FsErr::DeviceFault) => Err(Ending::BoardFault),
-        Reply::Refusal(FsErr::Damaged(differ)) => Err(Ending::Differ(differ)),
-        Reply::Refusal(FsErr::Unbuilt) => Err(Ending::Unbuilt),
-        reply => Ok(reply),
+    match volume.answer(call, lent) {
+        Told::Refusal(FsErr::DeviceFault) => Err(Ending::BoardFault),
+        Told::Refusal(FsErr::Damaged(differ)) => Err(Ending::Differ(differ)),
+        Told::Refusal(FsErr::Unbuilt) => Err(Ending::Unbuilt),
+        told => Ok(told),
     }
 }

@@ -16,7 +16,7 @@ ghost use Rattle.tool_core.specs.Runs.{Ran, Works};
 ghost use Rattle.tool_core.specs.Turns.{DidLine, OneMore, Turned, at_run};
 ghost use Rattle.tool_core.specs.Outcomes.{RunEnds};
 
-use crate::call::apply;
+use crate::call::{READ, apply};
 use crate::ending::Ending;
 use crate::lines::{LIMIT, LINE, Lines};
 use call_script::{parse_line, reply_text};
@@ -51,8 +51,9 @@ fn answer<B: Board>(
     let Some(call) = parsed else {
         return None;
     };
-    match apply(volume, &call) {
-        Ok(reply) => say_reply(volume, &reply, scratch),
+    let mut lent = [0u8; READ];
+    match apply(volume, &call, &mut lent) {
+        Ok(told) => say_reply(volume, &told.reply(&lent), scratch),
         Err(ending) => Some(ending),
     }
 }

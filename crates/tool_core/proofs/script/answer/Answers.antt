@@ -24,14 +24,14 @@ pub returns-in-Ok-apply-clause-leaves : goal.returns-in-Ok-apply-clause-leaves
 returns-in-Ok-apply-clause-leaves g c = λ m.
     let ask = asked c.in-Some.call in
     let p : Asks ask ≡ of_line c.args.line.now = search rules in
-    same_cut (one_call c.args.line.now ask (sym p)) (reply_cut (c.apply.ensures.does.changes m) (λ stands. c.in-Ok-apply.ensures.does.answers m stands) c.say_reply.ensures.cuts)
+    same_cut (one_call c.args.line.now ask (sym p)) (reply_cut (c.apply.ensures.does.changes m) (λ stands. c.in-Ok-apply.ensures.does.answers m stands) (rw c.reply.ensures.shows at c.say_reply.ensures.cuts))
 
 pub returns-in-Ok-apply-clause-did : goal.returns-in-Ok-apply-clause-did
 returns-in-Ok-apply-clause-did g c = λ m stands.
     let ask = asked c.in-Some.call in
     let p : Asks ask ≡ of_line c.args.line.now = search rules in
     let ok = c.in-Ok-apply.ensures.does.answers m stands in
-    rw c.say_reply.ensures.slots (reply_did c.say_reply.result c.args.line.now c.args.number ask (sym p) (c.apply.ensures.does.changes m) ok c.say_reply.ensures.says c.say_reply.ensures.cuts c.say_reply.ensures.fault (c.say_reply.ensures.done ok.stands.stands.tells))
+    rw c.say_reply.ensures.slots (reply_did c.say_reply.result c.args.line.now c.args.number ask (sym p) (c.apply.ensures.does.changes m) ok (rw c.reply.ensures.shows at c.say_reply.ensures.says) (rw c.reply.ensures.shows at c.say_reply.ensures.cuts) c.say_reply.ensures.fault ((rw c.reply.ensures.shows at c.say_reply.ensures.done) ok.stands.stands.tells))
 
 pub returns-in-Err-clause-leaves : goal.returns-in-Err-clause-leaves
 returns-in-Err-clause-leaves g c = λ m.
