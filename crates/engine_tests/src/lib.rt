@@ -9,6 +9,8 @@ mod collects;
 #[cfg(test)]
 mod cuts;
 #[cfg(test)]
+mod descriptors;
+#[cfg(test)]
 mod drawn;
 #[cfg(test)]
 mod fields;

@@ -13,6 +13,9 @@ pub(crate) const LEN: MagicKind = MagicKind::Length;
 /// The magic tells the page size alone.
 pub(crate) const PLAIN: MagicKind = MagicKind::Plain;
 
+/// How many descriptors a command has.
+pub(crate) const SLOTS: u16 = 3;
+
 /// A volume of pages of so many bytes, in so many blocks of so many bytes, with so many meta bytes for each file.
 pub(crate) fn sized(
     page: u32,
@@ -78,7 +81,7 @@ pub(crate) fn command(
 ) -> Result<u8, Fail> {
     let words = words_of(alloc, command, g)?;
     let mut work = vec![in alloc; 0u8; g.work_need() as usize]?;
-    let mut slots = vec![in alloc; FdSlot::empty(); 2]?;
+    let mut slots = vec![in alloc; FdSlot::empty(); SLOTS as usize]?;
     let mut cache = vec![in alloc; 0u8; (g.cache_need() as usize).saturating_mul(64)]?;
     let mut check = vec![in alloc; 0u8; g.check_need() as usize]?;
     let mut line = vec![in alloc; 0u8; 12288]?;

@@ -142,3 +142,130 @@ pub(crate) fn put_hello(image: &mut Vec<u8>, g: &Geometry) {
     put_page(image, g, Place { block: 1, entry: 0 }, 1, 0, 0xFC);
     put(image, 4357, b"hello");
 }
+
+/// Bytes by which a file is told from others: small letters that run on otherwise in each page.
+pub(crate) fn letters(alloc: Global, seed: usize, size: usize) -> Result<Vec<u8>, AllocError> {
+    let mut bytes = Vec::new(alloc);
+    for i in 0..size {
+        let letter = (i % 26 + i / 26 % 26 * 5 + seed % 26) % 26;
+        bytes.push(b'a' + letter as u8)?;
+    }
+    Ok(bytes)
+}
+
+/// Where the next index page and the next data page go.
+#[derive(Clone, Copy)]
+pub(crate) struct Ends {
+    pub index: Place,
+    pub data: Place,
+    /// The data page that was put last.
+    pub last: Place,
+}
+
+impl Ends {
+    /// The first index page in the first block, and the first data page in that block.
+    pub(crate) fn new(block: usize) -> Ends {
+        let data = Place { block, entry: 0 };
+        Ends {
+            index: Place { block: 0, entry: 0 },
+            data,
+            last: data,
+        }
+    }
+}
+
+// Names the data page of a span in the index page that has its entry, of those that follow a header page.
+fn name_page(image: &mut Vec<u8>, g: &Geometry, header: Place, span: usize, page: usize) {
+    let heads = g.head_slots() as usize;
+    let bytes = ((page % 65536) as u16).to_le_bytes();
+    if span < heads {
+        let at = header.at(g).saturating_add(45 + g.meta as usize);
+        put(image, at.saturating_add(span.saturating_mul(2)), &bytes);
+        return;
+    }
+    let rest = span.saturating_sub(heads);
+    let slots = g.span_slots().max(1) as usize;
+    let mut index = header.next(g);
+    for _ in 0..rest / slots {
+        index = index.next(g);
+    }
+    let at = index.at(g).saturating_add(8);
+    put(
+        image,
+        at.saturating_add((rest % slots).saturating_mul(2)),
+        &bytes,
+    );
+}
+
+// Puts a data page, and the index page that is the first to need it.
+fn put_span(
+    image: &mut Vec<u8>,
+    g: &Geometry,
+    ends: &mut Ends,
+    id: u16,
+    header: Place,
+    span: usize,
+) {
+    let heads = g.head_slots() as usize;
+    let slots = g.span_slots().max(1) as usize;
+    let rest = span.saturating_sub(heads);
+    if span >= heads && rest % slots == 0 {
+        let index_span = (rest / slots % 65535) as u16 + 1;
+        put_page(image, g, ends.index, id | 0x8000, index_span, 0xF8);
+        ends.index = ends.index.next(g);
+    }
+    put_page(image, g, ends.data, id, (span % 65536) as u16, 0xFC);
+    name_page(image, g, header, span, ends.data.page(g));
+    ends.last = ends.data;
+    ends.data = ends.data.next(g);
+}
+
+/// Puts a file of these bytes behind the pages that are there. Its index pages follow each other.
+pub(crate) fn put_whole(
+    image: &mut Vec<u8>,
+    g: &Geometry,
+    ends: &mut Ends,
+    id: u16,
+    name: &[u8],
+    bytes: &[u8],
+) {
+    let header = ends.index;
+    let size = match bytes.len() {
+        0 => 0xFFFF_FFFF,
+        size => (size % 65536) as u32,
+    };
+    put_header(image, g, header, id, size, name);
+    ends.index = header.next(g);
+    let body = g.body().max(1) as usize;
+    for (i, byte) in bytes.iter().enumerate() {
+        if i % body == 0 {
+            put_span(image, g, ends, id, header, i / body);
+        }
+        put(
+            image,
+            ends.last.at(g).saturating_add(5 + i % body),
+            &[*byte],
+        );
+    }
+}
+
+/// A file of an image: its name, and how many bytes it has.
+pub(crate) type Sized = (&'static [u8], usize);
+
+/// An image with these files, of the ids from 1 on: their bytes are the letters of the id. The data pages begin in that block.
+pub(crate) fn filled(
+    alloc: Global,
+    g: &Geometry,
+    block: usize,
+    files: &[Sized],
+) -> Result<Vec<u8>, AllocError> {
+    let mut image = empty(alloc, g)?;
+    let mut ends = Ends::new(block);
+    let mut id = 1u16;
+    for (name, size) in files {
+        let bytes = letters(alloc, usize::from(id), *size)?;
+        put_whole(&mut image, g, &mut ends, id, name, &bytes);
+        id = id.saturating_add(1);
+    }
+    Ok(image)
+}

@@ -12,7 +12,13 @@ mod geometries;
 #[cfg(test)]
 mod images;
 #[cfg(test)]
+mod mixed;
+#[cfg(test)]
+mod opens;
+#[cfg(test)]
 mod random;
+#[cfg(test)]
+mod reads;
 #[cfg(test)]
 mod remains;
 #[cfg(test)]

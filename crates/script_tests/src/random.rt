@@ -23,7 +23,7 @@ const NAMES: [(&[u8], &[u8]); 4] = [
 ];
 
 // A name of the pool, as a script spells it, and its bytes.
-fn name_of(alloc: Global, number: u64) -> Result<(Vec<u8>, Vec<u8>), Fail> {
+pub(crate) fn name_of(alloc: Global, number: u64) -> Result<(Vec<u8>, Vec<u8>), Fail> {
     if let Some((text, name)) = NAMES.get(number as usize) {
         return Ok((text.to_vec(alloc)?, name.to_vec(alloc)?));
     }
@@ -55,19 +55,40 @@ fn text_of(said: &Said, into: &mut [u8; 4096]) -> Result<usize, Fail> {
         Said::Room(info) => reply_text(&Reply::Room(*info), into),
         Said::Refusal(why) => reply_text(&Reply::Refusal(*why), into),
         Said::File(file) => file_text(file, into)?,
-        Said::Number(_) | Said::Bytes(_) => Err(Failed)?,
+        Said::Number(number) => reply_text(&Reply::Number(*number), into),
+        Said::Bytes(bytes) => {
+            if bytes.len() > 1024 {
+                Err::<(), Failed>(Failed)?;
+            }
+            reply_text(&Reply::Bytes(bytes), into)
+        }
     })
 }
 
 // A script, and the reply lines of the flat table.
 #[derive(Drop)]
-struct Both {
+pub(crate) struct Both {
     script: Vec<u8>,
     replies: Vec<u8>,
 }
 
+impl Both {
+    /// No call, and no reply.
+    pub(crate) fn new(alloc: Global) -> Both {
+        Both {
+            script: Vec::new(alloc),
+            replies: Vec::new(alloc),
+        }
+    }
+}
+
 // Adds a line of a call, and what the flat table answers. Answers whether the call made a file.
-fn add(both: &mut Both, flat: &mut Flat, line: &[u8], call: &Call<'_>) -> Result<bool, Fail> {
+pub(crate) fn add(
+    both: &mut Both,
+    flat: &mut Flat,
+    line: &[u8],
+    call: &Call<'_>,
+) -> Result<bool, Fail> {
     both.script.extend_from_slice(line)?;
     both.script.push(b'\n')?;
     let said = flat.answer(true, call)?;
@@ -80,7 +101,7 @@ fn add(both: &mut Both, flat: &mut Flat, line: &[u8], call: &Call<'_>) -> Result
 }
 
 // Adds a call by a name of the pool.
-fn add_named(
+pub(crate) fn add_named(
     alloc: Global,
     both: &mut Both,
     flat: &mut Flat,
@@ -100,7 +121,12 @@ fn add_named(
 }
 
 // Adds a call of the record behind an id.
-fn add_next(alloc: Global, both: &mut Both, flat: &mut Flat, after: u16) -> Result<bool, Fail> {
+pub(crate) fn add_next(
+    alloc: Global,
+    both: &mut Both,
+    flat: &mut Flat,
+    after: u16,
+) -> Result<bool, Fail> {
     let line = format!(in alloc; "next {after}")?;
     add(both, flat, line.as_bytes(), &Call::Next { after })
 }
@@ -129,10 +155,7 @@ fn add_drawn(
 fn drawn(alloc: Global, g: &Geometry, seed: u64, calls: usize, most: u32) -> Result<Both, Fail> {
     let mut x = seed;
     let mut flat = Flat::new(alloc, *g, 2)?;
-    let mut both = Both {
-        script: Vec::new(alloc),
-        replies: Vec::new(alloc),
-    };
+    let mut both = Both::new(alloc);
     let mut made = 0u32;
     for _ in 0..calls {
         if add_drawn(alloc, &mut both, &mut flat, &mut x, 3 + seed % 3)? {
@@ -163,18 +186,15 @@ fn differs(one: &[u8], other: &[u8]) -> Option<usize> {
     }
 }
 
-// Whether a random script is answered as the flat table says, and leaves a volume on which a check finds nothing to do.
+// Whether a script is answered as the flat table says, and leaves a volume on which a check finds nothing to do.
 // Of the first line that is answered otherwise the number is told.
-fn agrees(
+pub(crate) fn agrees(
     alloc: Global,
     g: &Geometry,
-    seed: u64,
-    calls: usize,
-    most: u32,
+    image: &[u8],
+    both: &Both,
 ) -> Result<Result<bool, usize>, Fail> {
-    let both = drawn(alloc, g, seed, calls, most)?;
-    let image = formatted(alloc, g, 0)?;
-    let ran = on(alloc, "run", g, &image, str::from_utf8(&both.script)?)?;
+    let ran = on(alloc, "run", g, image, str::from_utf8(&both.script)?)?;
     if let Some(line) = differs(&ran.said, &both.replies) {
         return Ok(Err(line));
     }
@@ -190,9 +210,13 @@ fn agrees(
 
 #[test]
 fn random_scripts_are_answered_as_the_flat_table_says(rt: HostRuntime) -> Result<(), Fail> {
+    let alloc = rt.alloc();
+    let g = small()?;
+    let image = formatted(alloc, &g, 0)?;
     // all entries but those of two blocks are for new files, as long as nothing is collected
     for seed in 0..15 {
-        let is = agrees(rt.alloc(), &small()?, seed, 120, 28)?;
+        let both = drawn(alloc, &g, seed, 120, 28)?;
+        let is = agrees(alloc, &g, &image, &both)?;
         assert_eq!(rt; is, Ok(true), "of script {seed}");
     }
     Ok(())
@@ -200,7 +224,10 @@ fn random_scripts_are_answered_as_the_flat_table_says(rt: HostRuntime) -> Result
 
 #[test]
 fn a_random_script_on_more_blocks_is_answered_so_too(rt: HostRuntime) -> Result<(), Fail> {
-    let is = agrees(rt.alloc(), &large()?, 1, 200, 210)?;
+    let alloc = rt.alloc();
+    let g = large()?;
+    let both = drawn(alloc, &g, 1, 200, 210)?;
+    let is = agrees(alloc, &g, &formatted(alloc, &g, 0)?, &both)?;
     assert_eq!(rt; is, Ok(true));
     Ok(())
 }

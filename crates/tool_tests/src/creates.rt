@@ -117,7 +117,7 @@ next 0
 next 1
 next 2
 info
-read 1 1
+write 1 x
 info
 ";
     assert_eq!(rt; run(rt.alloc(), RUN, &mut board, script)?, 16);

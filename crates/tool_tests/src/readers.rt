@@ -1,5 +1,5 @@
 //! A reader of a volume, and the view that it works with, below the top call.
-use crate::bench::Memory;
+use crate::bench::{Memory, RUN, run};
 use crate::images::{board_of, empty, put, put_data, put_header, put_hello, volume};
 use flash_view::View;
 use image_model::Damage;
@@ -123,5 +123,57 @@ fn what_is_held_is_not_read_again(rt: HostRuntime) -> Result<(), Fail> {
     let once = reads_of(rt.alloc(), &image, 100)?;
     assert!(rt; once <= 256);
     assert_eq!(rt; reads_of(rt.alloc(), &image, 200)?, once);
+    Ok(())
+}
+
+// What the run of a script tells.
+fn told(alloc: Global, image: &[u8], script: &str) -> Result<Vec<u8>, Fail> {
+    let mut board = board_of(alloc, image)?;
+    run(alloc, RUN, &mut board, script.as_bytes())?;
+    Ok(board.said().to_vec(alloc)?)
+}
+
+#[test]
+fn a_run_reads_what_a_reader_reads(rt: HostRuntime) -> Result<(), Fail> {
+    let alloc = rt.alloc();
+    let image = sample(alloc)?;
+    let g = volume()?;
+    let mut board = board_of(alloc, &image)?;
+    let mut memory = Memory::new(alloc)?;
+    let lent = memory.lend();
+    accept(&g, &board, &lent)?;
+    let mut reader = Reader::new(g, &mut board, lent);
+    reader.mount()?;
+    let mut into = [0u8; 8];
+    for (id, name, at) in [
+        (1, "a", 0u32),
+        (1, "a", 3),
+        (2, "b", 0),
+        (2, "b", 248),
+        (2, "b", 251),
+        (2, "b", 297),
+    ] {
+        let count = reader.read_at(id, at, &mut into)?;
+        let bytes = into.get(..count as usize).unwrap_or(b"");
+        let text = str::from_utf8(bytes)?;
+        let script = format!(in alloc; "open {name} 8\nseek 1 {at} set\nread 1 8\n")?;
+        let said = format!(in alloc; "ok 1\nok {at}\nok {count} {text}\n")?;
+        let found = told(alloc, &image, &script)?;
+        assert_eq!(rt; str::from_utf8(&found)?, said.as_str());
+    }
+    Ok(())
+}
+
+#[test]
+fn a_descriptor_shows_what_a_listing_tells(rt: HostRuntime) -> Result<(), Fail> {
+    let alloc = rt.alloc();
+    let image = sample(alloc)?;
+    let mut board = board_of(alloc, &image)?;
+    run(alloc, "list 256 4096 16 0 len chip", &mut board, b"")?;
+    let listing = b"1 1 5 a\n2 1 300 b\ndamaged 3 span 0\n! damaged 1\n".as_slice();
+    assert!(rt; board.said() == listing);
+    let script = "open c 8\nopen a 8\nopen b 8\nfstat 1\nfstat 2\n";
+    let said = b"-10002\nok 1\nok 2\nok 1 1 5 a\nok 2 1 300 b\n".as_slice();
+    assert!(rt; told(alloc, &image, script)?.as_slice() == said);
     Ok(())
 }

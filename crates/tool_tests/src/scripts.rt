@@ -118,16 +118,18 @@ fn a_volume_without_its_reserve_is_told(rt: HostRuntime) -> Result<(), Fail> {
 }
 
 #[test]
-fn a_create_without_a_free_page_is_unbuilt(rt: HostRuntime) -> Result<(), Fail> {
-    let mut board = formatted(rt.alloc(), MagicKind::Length)?;
-    for block in 0..14u32 {
-        program(&mut board, block * 4096, &[0; 30])?;
+fn a_file_without_a_free_page_is_unbuilt(rt: HostRuntime) -> Result<(), Fail> {
+    for line in ["create a", "open a 12"] {
+        let mut board = formatted(rt.alloc(), MagicKind::Length)?;
+        for block in 0..14u32 {
+            program(&mut board, block * 4096, &[0; 30])?;
+        }
+        let script = format!(in rt.alloc(); "next 0\nopen a 8\n{line}\nnext 0\n")?;
+        let status = run(rt.alloc(), RUN, &mut board, script.as_bytes())?;
+        assert_eq!(rt; status, 16, "at {line}");
+        let said = b"ok none\n-10002\n! unbuilt\n".as_slice();
+        assert!(rt; board.said() == said, "at {line}");
     }
-    assert_eq!(rt;
-        run(rt.alloc(), RUN, &mut board, b"next 0\ncreate a\nnext 0\n")?,
-        16
-    );
-    assert_eq!(rt; board.said(), b"ok none\n! unbuilt\n".as_slice());
     Ok(())
 }
 

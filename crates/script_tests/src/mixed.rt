@@ -1,0 +1,165 @@
+//! Random scripts of all built calls on volumes with files, answered by the top call and by the flat table.
+use crate::bench::{LEN, PLAIN, SLOTS, large, sized};
+use crate::images::{Sized, filled, letters};
+use crate::random::{Both, add, add_named, add_next, agrees, name_of};
+use flat_plain::Flat;
+use geometry::Geometry;
+use nor_core::draw;
+use std::alloc::Global;
+use std::test::Fail;
+use table_model::{Call, Whence};
+
+// Flags of openings: of reading, with others, to make the file, to make it anew, without reading, and some that are none.
+const FLAGS: [u32; 10] = [8, 8, 9, 24, 40, 12, 76, 20, 0, 136];
+
+// The files of the flat table, each with the letters of its id.
+fn flat_of(alloc: Global, g: &Geometry, files: &[Sized]) -> Result<Flat, Fail> {
+    let mut flat = Flat::new(alloc, *g, SLOTS)?;
+    let mut id = 1usize;
+    for (name, size) in files {
+        let bytes = letters(alloc, id, *size)?;
+        flat.answer(true, &Call::OpenFile { name, flags: 20 })?;
+        flat.answer(
+            true,
+            &Call::Write {
+                fd: 1,
+                bytes: &bytes,
+            },
+        )?;
+        flat.answer(true, &Call::Close { fd: 1 })?;
+        id = id.saturating_add(1);
+    }
+    Ok(flat)
+}
+
+// Adds an opening of a name of the pool.
+fn add_open(
+    alloc: Global,
+    both: &mut Both,
+    flat: &mut Flat,
+    number: u64,
+    flags: u32,
+) -> Result<bool, Fail> {
+    let (text, name) = name_of(alloc, number)?;
+    let mut line = b"open ".to_vec(alloc)?;
+    line.extend_from_slice(&text)?;
+    line.extend_from_slice(format!(in alloc; " {flags}")?.as_bytes())?;
+    add(both, flat, &line, &Call::OpenFile { name: &name, flags })?;
+    Ok(flags & 4 != 0)
+}
+
+// Adds a read. Of four, one is of many bytes.
+fn add_read(alloc: Global, both: &mut Both, flat: &mut Flat, x: &mut u64) -> Result<(), Fail> {
+    let fd = (draw(x) % 5) as u16;
+    let count = match draw(x) % 4 {
+        0 => 1024,
+        _ => (draw(x) % 300) as u32,
+    };
+    let line = format!(in alloc; "read {fd} {count}")?;
+    add(both, flat, line.as_bytes(), &Call::Read { fd, count })?;
+    Ok(())
+}
+
+// Adds a seek, near the place from which it counts or far from it.
+fn add_seek(alloc: Global, both: &mut Both, flat: &mut Flat, x: &mut u64) -> Result<(), Fail> {
+    let fd = (draw(x) % 5) as u16;
+    let so_far = match draw(x) % 3 {
+        0 => (draw(x) % 30000) as i64,
+        _ => (draw(x) % 700) as i64,
+    };
+    let (offset, from, word) = match draw(x) % 4 {
+        0 => (so_far, Whence::Set, "set"),
+        1 => (so_far - 300, Whence::Cur, "cur"),
+        _ => (20 - so_far, Whence::End, "end"),
+    };
+    let line = format!(in alloc; "seek {fd} {offset} {word}")?;
+    add(
+        both,
+        flat,
+        line.as_bytes(),
+        &Call::Seek { fd, offset, from },
+    )?;
+    Ok(())
+}
+
+// Adds a call of a descriptor alone.
+fn add_open_call(
+    alloc: Global,
+    both: &mut Both,
+    flat: &mut Flat,
+    fd: u16,
+    word: &str,
+) -> Result<(), Fail> {
+    let line = format!(in alloc; "{word} {fd}")?;
+    let call = match word {
+        "tell" => Call::Tell { fd },
+        "flush" => Call::Flush { fd },
+        "fstat" => Call::FStat { fd },
+        _ => Call::Close { fd },
+    };
+    add(both, flat, line.as_bytes(), &call)?;
+    Ok(())
+}
+
+// Adds a random call. Answers whether it may have made a file.
+fn add_drawn(alloc: Global, both: &mut Both, flat: &mut Flat, x: &mut u64) -> Result<bool, Fail> {
+    let kind = draw(x) % 20;
+    let number = draw(x) % 12;
+    let fd = (draw(x) % 5) as u16;
+    match kind {
+        0 => return add_named(alloc, both, flat, number, "create"),
+        1 => return add_named(alloc, both, flat, number, "remove"),
+        2 => return add_named(alloc, both, flat, number, "stat"),
+        3 => return add_next(alloc, both, flat, fd),
+        4 => return add(both, flat, b"info", &Call::GetInfo),
+        5 => add_open_call(alloc, both, flat, fd, "tell")?,
+        6 => add_open_call(alloc, both, flat, fd, "flush")?,
+        7 => add_open_call(alloc, both, flat, fd, "fstat")?,
+        8 => add_open_call(alloc, both, flat, fd, "close")?,
+        9..=11 => {
+            let flags = FLAGS[(draw(x) % 10) as usize];
+            return add_open(alloc, both, flat, number, flags);
+        }
+        12..=15 => add_read(alloc, both, flat, x)?,
+        _ => add_seek(alloc, both, flat, x)?,
+    }
+    Ok(false)
+}
+
+// A random script of so many calls on these files, which makes no more files than that.
+fn drawn(alloc: Global, g: &Geometry, files: &[Sized], seed: u64, most: u32) -> Result<Both, Fail> {
+    let mut x = seed;
+    let mut flat = flat_of(alloc, g, files)?;
+    let mut both = Both::new(alloc);
+    let mut made = 0u32;
+    for _ in 0..150 {
+        if add_drawn(alloc, &mut both, &mut flat, &mut x)? {
+            made = made.saturating_add(1);
+        }
+        if made >= most {
+            break;
+        }
+    }
+    Ok(both)
+}
+
+#[test]
+fn random_scripts_on_files_are_answered_as_the_flat_table_says(
+    rt: HostRuntime,
+) -> Result<(), Fail> {
+    let alloc = rt.alloc();
+    for (g, size, scripts) in [
+        (sized(128, 1024, 24, 0, PLAIN)?, 5400, 12u64),
+        (large()?, 27000, 4),
+        (sized(256, 4096, 16, 3, LEN)?, 26500, 4),
+    ] {
+        let files: [Sized; 4] = [(b"f4", 0), (b"f5", 100), (b"f6", 700), (b"f7", size)];
+        let image = filled(alloc, &g, 1, &files)?;
+        for seed in 0..scripts {
+            let both = drawn(alloc, &g, &files, seed, 60)?;
+            let is = agrees(alloc, &g, &image, &both)?;
+            assert_eq!(rt; is, Ok(true), "of script {seed} on pages of {}", g.page());
+        }
+    }
+    Ok(())
+}
