@@ -39,7 +39,11 @@ fn a_file_is_opened_read_and_closed(rt: HostRuntime) -> Result<(), Fail> {
     assert_eq!(rt; into, [1, 1, 7, 7]);
     assert_eq!(rt; volume.read(1, &mut into), Ok(0));
     assert_eq!(rt; volume.read(1, &mut []), Ok(0));
-    assert!(rt; volume.fstat(1).is_ok_and(|stat| stat.id == 1 && stat.size == 502));
+    assert!(rt;
+        volume
+            .fstat(1)
+            .is_ok_and(|stat| stat.id == 1 && stat.size == 502)
+    );
     assert_eq!(rt; volume.flush(1), Ok(()));
     assert_eq!(rt; volume.close(1), Ok(()));
     assert_eq!(rt; volume.tell(1), Err(FsErr::BadDescriptor));
@@ -58,7 +62,11 @@ fn an_opening_makes_a_file_and_a_remove_closes_it(rt: HostRuntime) -> Result<(),
     volume.mount()?;
     volume.check()?;
     assert_eq!(rt; volume.open_file(b"new", 12), Ok(1));
-    assert!(rt; volume.fstat(1).is_ok_and(|stat| stat.id == 2 && stat.size == 0));
+    assert!(rt;
+        volume
+            .fstat(1)
+            .is_ok_and(|stat| stat.id == 2 && stat.size == 0)
+    );
     assert_eq!(rt; volume.remove(b"new"), Ok(()));
     assert_eq!(rt; volume.tell(1), Err(FsErr::BadDescriptor));
     assert_eq!(rt; volume.open_file(b"ba", 26), Err(FsErr::Unbuilt));
@@ -88,7 +96,12 @@ fn a_call_tells_the_bytes_that_it_lent(rt: HostRuntime) -> Result<(), Fail> {
     assert_eq!(rt; into.get(298..302), Some([1u8, 1, 7, 7].as_slice()));
     let read = Call::Read { fd: 1, count: 600 };
     assert!(rt; matches!(volume.answer(&read, &mut into), Told::Bytes(202)));
-    assert!(rt; matches!(volume.answer(&Call::Gc, &mut []), Told::Refusal(FsErr::Unbuilt)));
+    assert!(rt;
+        matches!(
+            volume.answer(&Call::Gc, &mut []),
+            Told::Refusal(FsErr::Unbuilt)
+        )
+    );
     Ok(())
 }
 
