@@ -13,20 +13,22 @@ use Rattle.page_layout.specs.Layout.{header_at}
 use Rattle.image_model.specs.Volume.{page_count}
 use Rattle.image_model.specs.Headers.{obj_id, span_of, names_index, size_of}
 use Rattle.image_model.specs.Live.{live_at, is_live, Live, own}
-use Rattle.image_model.specs.Places.{IsImage, is_entry_page}
+use Rattle.image_model.specs.Places.{is_entry_page}
 use Rattle.image_model.specs.Files.{index_page, is_index, entry_number, data_of}
 use Rattle.image_model.specs.Tables.{Found, damaged_of, damages}
 use Rattle.image_model.specs.Tidy.{is_number, is_wanted, is_wanted_as, serves}
-use Rattle.image_model.specs.Sound.{HasMagics}
 use Rattle.image_laws.specs.Changes.{Loses}
 use Rattle.image_laws.proofs.Damaged.{any_at}
-use Rattle.image_laws.proofs.Doubled.{doubled-keeps, doubled-has, index-span_is}
+use Rattle.image_laws.proofs.Doubled.{doubled-has, doubled-wanted, index-span_is}
 use Rattle.image_laws.proofs.Judge.{index_passes}
 use Rattle.image_laws.proofs.Kill.{own-loses, own-loses_other, index-loses}
 use Rattle.image_laws.proofs.Wanted.{number-other}
 use Rattle.image_laws.proofs.Wants.{number-is, wanted_parts}
-use Rattle.vol_check.specs.Culls.{MayCull, Culls, Passes, is_doubled, is_doubled_as, CullsDoubled, PassesDoubled}
-use Rattle.vol_check.proofs.Passing.{passes_none, passes_next}
+use Rattle.vol_check.specs.Culls.{MayCull, Culls, Passes, is_doubled, is_doubled_as, HasNoDoubles, CullsDoubled, PassesDoubled}
+use Rattle.vol_check.specs.Works.{Work, culling, culling_doubled}
+use Rattle.vol_check.proofs.CullStep.{spares_by}
+use Rattle.vol_check.proofs.Working.{Goes}
+use Rattle.vol_check.proofs.Passing.{culls_nothing, passes_none, passes_next}
 
 -- ---- what the header of a page tells
 
@@ -139,16 +141,19 @@ module _ (g : Geometry) (live : Live) (p : ℕ) (d : IsDouble g live p) where
       (λ (no : is_wanted_as g live (live p) p ≡ false). no)
       (cases_Bool (is_wanted_as g live (live p) p))
 
-pub may_cull_double : (g : Geometry) (a : List ℕ) (p : ℕ) → IsImage g a → HasMagics g a → is_doubled g a p ≡ true → MayCull g a p
+may_cull : (g : Geometry) (a : List ℕ) (p : ℕ) → is_doubled g a p ≡ true → MayCull g a p
 unfolding is_wanted
-may_cull_double g a p is h doubled =
+may_cull g a p doubled =
     let d = doubled_parts g a p doubled in
     record {
       page = d.page;
       live = d.live_is;
       unwanted = unwanted_as g (live_at g a) p d;
-      keeps = λ flags b clears torn. doubled-keeps g a b p flags d.page is h d.live_is d.index d.later clears torn;
+      spares = λ b change. spares_by g a b p (doubled-has g p d.page (live_at g a) (live_at g b) d.live_is change d.index d.later) (doubled-wanted g p d.page (live_at g a) (live_at g b) d.live_is change d.index d.later);
     }
+
+pub may_be_culled : (g : Geometry) (a : List ℕ) (p : ℕ) → is_doubled g a p ≡ true → Goes g a a (culling p) (culling_doubled p)
+may_be_culled g a p doubled = record { needs = may_cull g a p doubled; idle = λ quiet. let bad : true ≡ false = sym doubled ∙ quiet in absurd (cc) }
 
 -- ---- after its kill
 
@@ -185,6 +190,10 @@ culls_double g a b p doubled c =
       damaged = same_damaged g a b p d change;
     }
 
+-- a page that isn't doubled stays
+pub doubles_nothing : (g : Geometry) (a : List ℕ) (p : ℕ) → is_doubled g a p ≡ false → CullsDoubled g p false a a
+doubles_nothing g a p single = record { culls = culls_nothing g a p; single = single; others = λ q there. refl; damaged = refl }
+
 -- ---- p pages on, with n of them killed
 
 pub record Doubling (g : Geometry) (first now : List ℕ) (p n : ℕ) : Type 0 where
@@ -192,8 +201,11 @@ pub record Doubling (g : Geometry) (first now : List ℕ) (p n : ℕ) : Type 0 w
   pub single : (q : ℕ) → q < p → is_doubled g now q ≡ false
   pub damaged : damaged_of g now ≡ damaged_of g first
 
-pub doubling_start : (g : Geometry) (a : List ℕ) → HasMagics g a → Doubling g a a 0 0
-doubling_start g a h = record { passes = passes_none g a h; single = λ q low. absurd (omega arith); damaged = refl }
+abbrev pub doubling_to : ℕ → Work ℕ
+doubling_to p = record { needs = λ g was. Unit {0}; done = λ g was now n. Doubling g was now p n; idle = λ g was. HasNoDoubles g was }
+
+pub doubling_start : (g : Geometry) (a : List ℕ) → Doubling g a a 0 0
+doubling_start g a = record { passes = passes_none g a; single = λ q low. absurd (omega arith); damaged = refl }
 
 pub doubling_next : (g : Geometry) (first a b : List ℕ) (p n m : ℕ) (killed : Bool) → Doubling g first a p n → CullsDoubled g p killed a b → m ≡ n + cond killed 1 0 → Doubling g first b (p + 1) m
 doubling_next g first a b p n m killed s t e = record {
@@ -204,10 +216,6 @@ doubling_next g first a b p n m killed s t e = record {
       (cases_eq q p);
   damaged = t.damaged ∙ s.damaged;
 }
-
--- one turn more, as the later view's geometry tells of it
-pub doubling_on : (g h : Geometry) (first a b : List ℕ) (p n m : ℕ) (killed : Bool) → h ≡ g → Doubling g first a p n → CullsDoubled h p killed a b → m ≡ n + cond killed 1 0 → Doubling g first b (p + 1) m
-doubling_on g h first a b p n m killed same s t e = doubling_next g first a b p n m killed s (subst (λ (k : Geometry). CullsDoubled k p killed a b) same t) e
 
 outside_single : (g : Geometry) (a : List ℕ) (q : ℕ) → page_count g ≤ q → is_doubled g a q ≡ false
 unfolding is_entry_page

@@ -12,26 +12,28 @@ use Rattle.table_model.specs.Table.{File}
 use Rattle.image_model.specs.declared.damage.Damage.{Damage}
 use Rattle.image_model.specs.declared.damage.Damage.TheVariants.{SameName}
 use Rattle.image_model.specs.Volume.{page_count}
-use Rattle.image_model.specs.Places.{IsImage, page_of, is_entry_page}
+use Rattle.image_model.specs.Places.{page_of, is_entry_page}
 use Rattle.image_model.specs.Headers.{obj_id, span_of, names_index}
 use Rattle.image_model.specs.Live.{Live, live_at, own}
 use Rattle.image_model.specs.Files.{is_index, index_page, found, judged}
-use Rattle.image_model.specs.Tables.{Found, has_of, counts, counted, is_named, holder, damage, damages, damaged_of, ids}
+use Rattle.image_model.specs.Tables.{Found, has_of, counts, counted, is_named, holder, damage, damages, table_of, damaged_of, ids}
 use Rattle.image_model.specs.Tidy.{is_wanted, is_number}
-use Rattle.image_model.specs.Sound.{HasMagics}
 use Rattle.image_laws.specs.Changes.{Loses}
 use Rattle.image_laws.proofs.Frames.{live_parts}
-use Rattle.image_laws.proofs.Sounding.{keeps-itself}
 use Rattle.image_laws.proofs.Tables.{find_none}
 use Rattle.image_laws.proofs.Judge.{found_none}
 use Rattle.image_laws.proofs.Finish.{own-parts, has_of-within}
-use Rattle.image_laws.proofs.Kill.{own-loses, own-loses_other, index-loses}
-use Rattle.image_laws.proofs.DamagedHead.{counts-gone, counted-gone, damaged_head-keeps}
+use Rattle.image_laws.proofs.Kill.{own-loses, own-loses_other}
+use Rattle.image_laws.proofs.DamagedHead.{counts-gone, counted-gone, table-now, damaged-now, wanted-now}
 use Rattle.flash_view.specs.Found.{headed}
 use Rattle.flash_view.specs.Marks.{mark_as, mark_of, IsMarked, cause_at}
 use Rattle.flash_view.proofs.Marking.{has_at, other_mark}
 use Rattle.flash_view.proofs.Spans.{index_known}
-use Rattle.vol_check.specs.Culls.{MayCull, is_doubled_as, is_doubled, HasNoDoubles, Culls, CullsHead}
+use Rattle.vol_check.specs.Culls.{MayCull, is_doubled_as, is_doubled, HasNoDoubles, Culls}
+use Rattle.vol_check.specs.Works.{IsHead, TurnsHead, culling, culling_head}
+use Rattle.vol_check.proofs.Working.{Goes}
+use Rattle.vol_check.proofs.Passing.{culls_nothing}
+use Rattle.vol_check.proofs.Resting.{single_loses}
 
 -- ---- a list that goes by numbers
 
@@ -166,28 +168,6 @@ one_header g image id p q single first is =
 -- ---- the image without that page
 
 module _ (g : Geometry) (a b : List ℕ) (p : ℕ) (head : List ℕ) (live : live_at g a p ≡ Some head) (change : Loses p (live_at g a) (live_at g b)) where
-  single_as : (q : ℕ) (o : Option (List ℕ)) → q ≢ p → is_doubled_as g a q o ≡ false → is_doubled_as g b q o ≡ false
-  single_as q None other single = refl
-  single_as q (Some page) other single =
-      ⊎_elim
-      (λ (index : names_index page ≡ true).
-      let at = first_by g a q page single index in
-      let still : index_page g (own (live_at g b) (obj_id page % 0x8000)) (span_of page) ≡ index_page g (own (live_at g a) (obj_id page % 0x8000)) (span_of page) =
-      index-loses g p (own (live_at g a) (obj_id page % 0x8000)) (own (live_at g b) (obj_id page % 0x8000)) (own-loses p head (live_at g a) (live_at g b) live change (obj_id page % 0x8000)) (span_of page)
-      (λ e. other (same_Some q p (sym at ∙ e))) in
-      rw (index, still, at) (rw (eq-eqb q q refl) refl))
-      (λ (other_kind : names_index page ≡ false). rw other_kind refl)
-      (cases_Bool (names_index page))
-
-  -- no page is doubled by it
-  pub single_less : HasNoDoubles g a → HasNoDoubles g b
-  unfolding is_doubled
-  single_less single q =
-      ⊎_elim
-      (λ (here : q ≡ p). rw here (rw change.after refl))
-      (λ (there : q ≡ p → ⊥). rw (change.others q there) (single_as q (live_at g a q) there (single q)))
-      (cases_eq q p)
-
   module _ (id : ℕ) (of : obj_id head % 0x8000 ≡ id) (first : index_page g (own (live_at g a) id) 0 ≡ Some p) (only : (q : ℕ) → is_index (own (live_at g a) id q) 0 ≡ true → q ≡ p) where
     gone_now : has_of g (live_at g b) id ≡ None
     unfolding has_of index_page
@@ -263,48 +243,42 @@ module _ (g : Geometry) (a : List ℕ) (id p : ℕ) (single : HasNoDoubles g a) 
   head_entry = (live_parts g a p (page_of g a p) head_live.0).entry_page
 
   -- its header page may be killed
-  pub may_cull : (cause : Damage) → IsImage g a → HasMagics g a → Some cause ≡ cause_at g a id → MayCull g a p
-  unfolding is_wanted cause_at
-  may_cull cause is magics some =
+  may_cull : (cause : Damage) → Some cause ≡ cause_at g a id → MayCull g a p
+  unfolding is_wanted cause_at table_of damaged_of
+  may_cull cause some =
       let none : counted (has_of g (live_at g a)) 0x7FFF (has_of g (live_at g a) id) ≡ None = (damaged_or (has_of g (live_at g a)) 0x7FFF id (has_of g (live_at g a) id) cause (sym some)).0 in
+      let at = has_at g a id p first in
+      let only : (q : ℕ) → is_index (own (live_at g a) id q) 0 ≡ true → q ≡ p = λ q yes. one_header g a id p q single first yes in
       record {
         page = page_of g a p;
         live = head_live.0;
         unwanted = rw head_live.0 (rw head_live.1 (rw none refl));
-        keeps = λ flags b clears torn. damaged_head-keeps g a b p flags id (judged g (own (live_at g a) id) id (page_of g a p)) is magics (has_at g a id p first) none (λ q yes. one_header g a id p q single first yes) clears torn;
+        spares = λ b change. record {
+          table = table-now g p id (page_of g a p) (live_at g a) (live_at g b) (judged g (own (live_at g a) id) id (page_of g a p)) head_live.0 head_live.1 change at none only;
+          damaged = damaged-now g p id (page_of g a p) (live_at g a) (live_at g b) (judged g (own (live_at g a) id) id (page_of g a p)) head_live.0 head_live.1 change at none only;
+          wanted = wanted-now g p id (page_of g a p) (live_at g a) (live_at g b) (judged g (own (live_at g a) id) id (page_of g a p)) head_live.0 head_live.1 change at none only;
+        };
       }
 
-  module _ (b : List ℕ) (culls : Culls g p true a b) where
-    loses : Loses p (live_at g a) (live_at g b)
-    loses = record { after = culls.gone refl; others = culls.others }
-
-    pub culls_head : (cause : Damage) → Some cause ≡ cause_at g a id → CullsHead g id p true a b
-    culls_head cause some =
-        let only : (q : ℕ) → is_index (own (live_at g a) id q) 0 ≡ true → q ≡ p = λ q yes. one_header g a id p q single first yes in
-        record {
+  -- and that is its turn
+  pub turns_head : (b marks : List ℕ) (cause : Damage) → Culls g p true a b → Some cause ≡ cause_at g a id → p < length marks → IsMarked g a marks → TurnsHead g id p (slice_set marks p 0) true a b
+  turns_head b marks cause culls some room marked =
+      let only : (q : ℕ) → is_index (own (live_at g a) id q) 0 ≡ true → q ≡ p = λ q yes. one_header g a id p q single first yes in
+      let loses : Loses p (live_at g a) (live_at g b) = record { after = culls.gone refl; others = culls.others } in
+      record {
+        culls = record {
           culls = culls;
-          single = single_less g a b p (page_of g a p) head_live.0 loses single;
+          single = single_loses g a b p (page_of g a p) head_live.0 loses single;
           none = cause_none_now g a b p (page_of g a p) head_live.0 loses id head_live.1 first only cause some;
           others = cause_other_now g a b p (page_of g a p) head_live.0 loses id head_live.1 first only cause some;
           count = count_less g a b p (page_of g a p) head_live.0 loses id head_live.1 first only cause some;
-        }
+        };
+        marked = marked_less g a b p (page_of g a p) head_live.0 loses id head_live.1 first only marks room marked;
+      }
 
-    pub marked_head : (marks : List ℕ) → p < length marks → IsMarked g a marks → IsMarked g b (slice_set marks p 0)
-    marked_head marks room was = marked_less g a b p (page_of g a p) head_live.0 loses id head_live.1 first (λ q yes. one_header g a id p q single first yes) marks room was
+pub may_be_culled : (g : Geometry) (a : List ℕ) (id p : ℕ) (marks later : List ℕ) → IsHead g a id p marks → (cause : Damage) → Some cause ≡ cause_at g a id → Goes g a a (culling p) (culling_head id p marks later)
+may_be_culled g a id p marks later head cause some = record { needs = may_cull g a id p head.single head.first cause some; idle = λ none. absurd (none-some cause (sym (some ∙ none))) }
 
--- ---- the turn of an id that isn't damaged
-
-pub culls_nothing : (g : Geometry) (a : List ℕ) (p : ℕ) → HasMagics g a → Culls g p false a a
-culls_nothing g a p magics = record {
-  keeps = keeps-itself g a magics;
-  count = omega arith;
-  gone = λ e. absurd (cc);
-  others = λ q other. refl;
-  stays = λ e. refl;
-  clean = λ clean. clean;
-  magic = λ block. refl;
-  free = omega arith;
-}
-
-pub head_stays : (g : Geometry) (a : List ℕ) (id p : ℕ) → HasMagics g a → HasNoDoubles g a → cause_at g a id ≡ None → CullsHead g id p false a a
-head_stays g a id p magics single none = record { culls = culls_nothing g a p magics; single = single; none = none; others = λ j other. refl; count = omega arith }
+-- the turn of an id that isn't damaged
+pub head_stays : (g : Geometry) (a : List ℕ) (id p : ℕ) (marks : List ℕ) → IsHead g a id p marks → cause_at g a id ≡ None → TurnsHead g id p marks false a a
+head_stays g a id p marks head none = record { culls = record { culls = culls_nothing g a p; single = head.single; none = none; others = λ j other. refl; count = omega arith }; marked = head.marked }
