@@ -10,15 +10,16 @@ use Rattle.image_model.specs.Tidy.{IsTidy, free_blocks}
 use Rattle.image_model.specs.Kinds.{mixed_blocks, spoiled_blocks}
 use Rattle.image_model.specs.Killed.{is_used, is_killable, killed_of}
 use Rattle.image_laws.proofs.Frames.{damaged_of-same}
+use Rattle.image_laws.proofs.Matching.{filter-none_in}
 use Rattle.vol_check.specs.declared.checking.Culled.{Culled}
 use Rattle.vol_check.specs.declared.report.Report.{Report}
 use Rattle.vol_check.specs.Stage.{IsClean, CleansEntries}
-use Rattle.vol_check.specs.Culls.{KeepsAll, IsServed, Passes, PassesDoubled, PassesDamaged, PassesRest, CullsPages}
+use Rattle.vol_check.specs.Culls.{KeepsAll, IsSettled, IsServed, Passes, PassesDoubled, PassesDamaged, PassesRest, CullsPages}
 use Rattle.vol_check.specs.Mends.{HasAllMagics, Mends}
 use Rattle.vol_check.specs.Checks.{Checked}
-use Rattle.vol_check.specs.Works.{Work, IsSettled}
+use Rattle.vol_check.specs.Works.{Work}
 use Rattle.vol_check.proofs.Passing.{passes_then}
-use Rattle.vol_check.proofs.Mixing.{none_passing, unmixed_after}
+use Rattle.vol_check.proofs.Mixing.{unmixed_after}
 use Rattle.vol_check.proofs.Tidied.{wanted_by, tidy_after}
 
 -- ---- the passes over live pages
@@ -33,7 +34,7 @@ abbrev pub settling : Work (ℕ × ℕ)
 settling = record { needs = λ g was. Unit {0}; done = λ g was now n. Settles g n.0 n.1 was now; idle = λ g was. IsTidy g was }
 
 pub settles : (g : Geometry) (a b c : List ℕ) (n m : ℕ) → PassesDoubled g n a b → PassesDamaged g m b c → Settles g n m a c
-settles g a b c n m x y = record { passes = passes_then g a b c n m x.passes y.passes; settled = record { single = y.single; undamaged = y.none }; count = y.count ∙ ap length x.damaged }
+settles g a b c n m x y = record { passes = passes_then g a b c n m x.passes y.passes; settled = y.settled; count = y.count ∙ ap length x.damaged }
 
 pub culls_all : (g : Geometry) (a c d : List ℕ) (n m l : ℕ) → Settles g n m a c → PassesRest g l c d → CullsPages g (n + m + l) m a d
 culls_all g a c d n m l x y = record { passes = passes_then g a c d (n + m) l x.passes y.passes; served = y.served; none = y.none; count = x.count }
@@ -49,7 +50,7 @@ not_killable g a clean served p =
 
 none_killed : (g : Geometry) (a : List ℕ) → IsClean g a → IsServed g a → killed_of g a ≡ 0
 unfolding killed_of
-none_killed g a clean served = none_passing (λ p. is_killable g a p) 0 (page_count g) (λ p low high. not_killable g a clean served p)
+none_killed g a clean served = filter-none_in (λ p. is_killable g a p) 0 (page_count g) (λ p low high. not_killable g a clean served p)
 
 -- ---- the whole check
 

@@ -48,7 +48,8 @@ finished_id : (page : List ℕ) → is_finished page ≡ true → obj_id page �
 unfolding is_finished
 finished_id page h e = let no : is_finished page ≡ false = rw e refl in absurd (cc)
 
-used_by : (g : Geometry) (a : List ℕ) (p : ℕ) → is_entry_page g p ≡ true → has_magic g a (block_of g p) ≡ true → (entry_of g a p == 0) ≡ false → is_free_entry g a p ≡ false → is_used g a p ≡ true
+-- an entry that is neither deleted nor free is in use
+pub used_by : (g : Geometry) (a : List ℕ) (p : ℕ) → is_entry_page g p ≡ true → has_magic g a (block_of g p) ≡ true → (entry_of g a p == 0) ≡ false → is_free_entry g a p ≡ false → is_used g a p ≡ true
 unfolding is_used
 used_by g a p page magic entry free = rw (page, magic, entry, free) refl
 

@@ -59,7 +59,7 @@ heading_end g first a marks at n was last =
     (λ (below : j ≤ at). was.none j low below)
     (cases_lt at j)) in
     let zero : length (damaged_of g a) ≡ 0 = ap length none in
-    record { passes = was.passes; single = was.single; none = none; count = omega (arith, was.count, zero) }
+    record { passes = was.passes; settled = record { single = was.single; undamaged = none }; count = omega (arith, was.count, zero) }
 
 -- where nothing is damaged no id is
 heading_idle : (g : Geometry) (image : List ℕ) (id : ℕ) → damaged_of g image ≡ [] → cause_at g image id ≡ None

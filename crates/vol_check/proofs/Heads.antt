@@ -33,7 +33,7 @@ use Rattle.vol_check.specs.Culls.{MayCull, is_doubled_as, is_doubled, HasNoDoubl
 use Rattle.vol_check.specs.Works.{IsHead, TurnsHead, culling, culling_head}
 use Rattle.vol_check.proofs.Working.{Goes}
 use Rattle.vol_check.proofs.Passing.{culls_nothing}
-use Rattle.vol_check.proofs.Resting.{single_loses}
+use Rattle.vol_check.proofs.Resting.{quiet_at, single_index, single_loses}
 
 -- ---- a list that goes by numbers
 
@@ -41,23 +41,10 @@ length_more : {X : Type 0} (o : Option X) (xs ys : List X) → 1 + length xs ≡
 length_more None xs ys e = e
 length_more (Some x) xs ys e = omega (arith, e)
 
-none_here : {X : Type 0} (o : Option X) (xs : List X) → cons_option o xs ≡ [] → (o ≡ None) × (xs ≡ [])
-none_here None xs e = (refl, e)
-none_here (Some x) xs e = absurd (cc)
-
 module _ {X : Type 0} (h : ℕ → Option X) where
   pub none_listed : (a n : ℕ) → ((j : ℕ) → a ≤ j → h j ≡ None) → filter_map h (range_with_len a n) ≡ []
   none_listed a zero none = refl
   none_listed a (suc n) none = rw (none a (omega arith), none_listed (a + 1) n (λ j low. none j (omega arith))) refl
-
-  pub listed_none : (a n j : ℕ) → filter_map h (range_with_len a n) ≡ [] → a ≤ j → j < a + n → h j ≡ None
-  listed_none a zero j e low high = absurd (omega arith)
-  listed_none a (suc n) j e low high =
-      let w = none_here (h a) (filter_map h (range_with_len (a + 1) n)) e in
-      ⊎_elim
-      (λ (here : a ≡ j). sym (ap h here) ∙ w.0)
-      (λ (there : a ≡ j → ⊥). listed_none (a + 1) n j w.1 (omega (arith, there)) (omega arith))
-      (cases_eq a j)
 
   module _ (k : ℕ → Option X) where
     same_listed : (a n : ℕ) → ((j : ℕ) → a ≤ j → k j ≡ h j) → filter_map k (range_with_len a n) ≡ filter_map h (range_with_len a n)
@@ -96,8 +83,7 @@ unfolding damages
 none_damaged has n none = none_listed (λ (j : ℕ). damage has n j (has j)) 1 n (λ j low. no_damage (damage has n j (has j)) (none j low))
 
 pub damaged_none : (has : Found) (n j : ℕ) → damages has n ≡ [] → 1 ≤ j → j ≤ n → cause_in has n j ≡ None
-unfolding damages
-damaged_none has n j none low high = rw (listed_none (λ (j : ℕ). damage has n j (has j)) 1 n j none low (omega arith)) refl
+damaged_none has n j none low high = rw (quiet_at has n j none low high) refl
 
 -- an id with a cause isn't in the table
 damaged_or : (has : Found) (n id : ℕ) (o : Option (ℕ × Result File Damage)) (cause : Damage) → option_map (λ d. d.1) (damage has n id o) ≡ Some cause → (counted has n o ≡ None) × (d : ℕ × Damage) × (damage has n id o ≡ Some d)
@@ -142,27 +128,12 @@ index_parts : (o : Option (List ℕ)) (span : ℕ) → is_index o span ≡ true 
 index_parts None span h = absurd (cc)
 index_parts (Some page) span h = let w = and_parts _ _ h in (page, refl, w.0, eqb-true (span_of page) span w.1)
 
-number_here : (o : Option ℕ) (p : ℕ) → not (is_number o p) ≡ false → o ≡ Some p
-number_here None p e = absurd (cc)
-number_here (Some q) p e =
-    ⊎_elim
-    (λ (same : q ≡ p). ap (λ (x : ℕ). Some x) same)
-    (λ (other : q ≡ p → ⊥). absurd (let bad : true ≡ false = rw (ne_eqb q p other) at e in cc))
-    (cases_eq q p)
-
-first_by : (g : Geometry) (image : List ℕ) (q : ℕ) (page : List ℕ) → is_doubled_as g image q (Some page) ≡ false → names_index page ≡ true → index_page g (own (live_at g image) (obj_id page % 0x8000)) (span_of page) ≡ Some q
-first_by g image q page single index = number_here (index_page g (own (live_at g image) (obj_id page % 0x8000)) (span_of page)) q (rw index at single)
-
-first_here : (g : Geometry) (image : List ℕ) (q : ℕ) (page : List ℕ) → live_at g image q ≡ Some page → names_index page ≡ true → HasNoDoubles g image → index_page g (own (live_at g image) (obj_id page % 0x8000)) (span_of page) ≡ Some q
-unfolding is_doubled
-first_here g image q page live index single = first_by g image q page (subst (λ (o : Option (List ℕ)). is_doubled_as g image q o ≡ false) live (single q)) index
-
 -- an id has one header page
 pub one_header : (g : Geometry) (image : List ℕ) (id p q : ℕ) → HasNoDoubles g image → index_page g (own (live_at g image) id) 0 ≡ Some p → is_index (own (live_at g image) id q) 0 ≡ true → q ≡ p
 one_header g image id p q single first is =
     let w = index_parts (own (live_at g image) id q) 0 is in
     let v = own-parts (live_at g image) id q w.0 w.1 in
-    let at : index_page g (own (live_at g image) id) 0 ≡ Some q = rw (v.1, w.3) at (first_here g image q w.0 v.0 w.2 single) in
+    let at : index_page g (own (live_at g image) id) 0 ≡ Some q = rw (v.1, w.3) at (single_index g image q w.0 (single q) v.0 w.2) in
     same_Some q p (sym at ∙ first)
 
 -- ---- the image without that page

@@ -2,7 +2,8 @@
 use Rattle.std.proofs.Common.{◌≡◌, ◌≢◌, ℕ, zero, suc, ◌+◌, ◌*◌, ◌<◌, ◌≤◌, ⊎_elim, List, length, Bool, true, false, not, ◌&&◌, Some, None, Result, OnErr, OnOk, refl, sym, ◌∙◌, subst, arith}
 use Rattle.std.specs.Prelude.{filter, find}
 use Rattle.std.specs.List.{range_with_len}
-use Rattle.std.proofs.lemmas.Bool.{cases_eq, cases_Bool, lt-ltb}
+use Rattle.std.proofs.Math.Bool.{and-false}
+use Rattle.std.proofs.lemmas.Bool.{cases_eq, cases_Bool, lt-ltb, not-true, not-false}
 use Rattle.geometry.specs.declared.geometry.Geometry.{Geometry}
 use Rattle.nor_core.specs.Flash.{SameOutside}
 use Rattle.image_model.specs.Volume.{page_count}
@@ -18,7 +19,9 @@ use Rattle.image_laws.proofs.Append.{find-all}
 use Rattle.image_laws.proofs.Erase.{spoiled-is_dead, live-other}
 use Rattle.image_laws.proofs.Erasing.{erasing-sound}
 use Rattle.image_laws.proofs.FreeBlocks.{filter-same, filter-but}
+use Rattle.image_laws.proofs.Matching.{filter-none_in}
 use Rattle.image_laws.proofs.TidySteps.{wanted-same}
+use Rattle.free_search.proofs.Had.{filter_some}
 use Rattle.free_search.proofs.Beside.{page_other, magic_other, entry_other, free_block_other, free_magic, free_entry_at, free_dead}
 use Rattle.page_put.specs.Fresh.{Freshens, IsFresh}
 use Rattle.nor_core.specs.declared.device.Failed.{Failed}
@@ -33,25 +36,16 @@ use Rattle.vol_check.specs.Culls.{KeepsAll}
 use Rattle.vol_check.specs.Mends.{HasAllMagics, Mends}
 use Rattle.vol_check.specs.Works.{Work, step_of, Worked, mending}
 use Rattle.vol_check.proofs.Working.{Goes}
-use Rattle.vol_check.proofs.Mixing.{none_passing}
 
 -- ---- the first block that lacks its magic
-
-not_true : (x : Bool) → not x ≡ true → x ≡ false
-not_true true h = cc
-not_true false h = refl
-
-not_false : (x : Bool) → not x ≡ false → x ≡ true
-not_false true h = refl
-not_false false h = cc
 
 pub found_spoiled : (g : Geometry) (a : List ℕ) (block : ℕ) → find (λ b. not (has_magic g a b)) (range_with_len 0 g.blocks) ≡ Some block → (block < g.blocks) × (has_magic g a block ≡ false)
 found_spoiled g a block found =
     let w = find_passes (λ (b : ℕ). not (has_magic g a b)) 0 g.blocks block found in
-    (omega (arith, w.2), not_true (has_magic g a block) w.0)
+    (omega (arith, w.2), not-true (has_magic g a block) w.0)
 
 pub none_spoiled : (g : Geometry) (a : List ℕ) → find (λ b. not (has_magic g a b)) (range_with_len 0 g.blocks) ≡ None → HasAllMagics g a
-none_spoiled g a none block low = not_false (has_magic g a block) (find-all (λ (b : ℕ). not (has_magic g a b)) 0 g.blocks none block (omega arith) (omega arith))
+none_spoiled g a none block low = not-false (has_magic g a block) (find-all (λ (b : ℕ). not (has_magic g a b)) 0 g.blocks none block (omega arith) (omega arith))
 
 -- ---- the pages that a kill could be of
 
@@ -65,25 +59,11 @@ module _ (g : Geometry) (b : List ℕ) (c : ℕ) (free : is_free_block g b c ≡
   unfolding is_used
   free_unused p here =
       ⊎_elim
-      (λ (page : is_entry_page g p ≡ true). rw (free_entry_at g b c free p page here) (and_false _))
+      (λ (page : is_entry_page g p ≡ true). rw (free_entry_at g b c free p page here) (and-false _))
       (λ (lookup : is_entry_page g p ≡ false). rw lookup refl)
       (cases_Bool (is_entry_page g p))
-    where
-      and_false : (x : Bool) → (x && false) ≡ false
-      and_false true = refl
-      and_false false = refl
 
 -- ---- what making it fresh leaves
-
-some_pass : (test : ℕ → Bool) (a n q : ℕ) → a ≤ q → q < a + n → test q ≡ true → 0 < length (filter test (range_with_len a n))
-some_pass test a zero q low high h = absurd (omega arith)
-some_pass test a (suc n) q low high h =
-    ⊎_elim
-    (λ (yes : test a ≡ true). rw yes (omega arith))
-    (λ (no : test a ≡ false).
-    let later : a ≢ q = λ e. let bad : true ≡ false = sym h ∙ (rw e at no) in absurd (cc) in
-    rw no (some_pass test (a + 1) n q (omega (arith, later)) (omega arith) h))
-    (cases_Bool (test a))
 
 -- making block c fresh, which lacks its magic
 abbrev pub freshening : ℕ → Work (Unit {0})
@@ -102,11 +82,7 @@ module _ (g : Geometry) (a : List ℕ) (c : ℕ) (is : IsImage g a) (h : HasMagi
 
   unused_before : (p : ℕ) → block_of g p ≡ c → is_used g a p ≡ false
   unfolding is_used
-  unused_before p here = let no : has_magic g a (block_of g p) ≡ false = rw here lacks in rw (no, and_false (is_entry_page g p)) refl
-    where
-      and_false : (x : Bool) → (x && false) ≡ false
-      and_false true = refl
-      and_false false = refl
+  unused_before p here = let no : has_magic g a (block_of g p) ≡ false = rw here lacks in rw (no, and-false (is_entry_page g p)) refl
 
   more_free : (x : List ℕ) → SameOutside (c * g.block) g.block a x → free_blocks g a ≤ free_blocks g x
   unfolding free_blocks
@@ -145,7 +121,7 @@ module _ (g : Geometry) (a : List ℕ) (c : ℕ) (is : IsImage g a) (h : HasMagi
     mends : Mends g true a b
     unfolding spoiled_blocks
     mends = record {
-      erased_is = sym (lt-ltb 0 _ (some_pass (λ (d : ℕ). not (has_magic g a d)) 0 g.blocks c (omega arith) (omega arith) (rw lacks refl)));
+      erased_is = sym (lt-ltb 0 _ (filter_some (λ (d : ℕ). not (has_magic g a d)) 0 g.blocks c (omega arith) (omega arith) (rw lacks refl)));
       magics = λ d below. ⊎_elim
           (λ (here : d ≡ c). rw here (free_magic g b c fresh.free))
           (λ (there : d ≡ c → ⊥). magic_other g a b c fresh.outside d there ∙ others d below there)
@@ -162,7 +138,7 @@ module _ (g : Geometry) (a : List ℕ) (c : ℕ) (is : IsImage g a) (h : HasMagi
 pub mends_none : (g : Geometry) (a : List ℕ) → HasAllMagics g a → Mends g false a a
 unfolding spoiled_blocks
 mends_none g a all =
-    let count = none_passing (λ (d : ℕ). not (has_magic g a d)) 0 g.blocks (λ d from to. rw (all d (omega arith)) refl) in
+    let count = filter-none_in (λ (d : ℕ). not (has_magic g a d)) 0 g.blocks (λ d from to. rw (all d (omega arith)) refl) in
     record { erased_is = rw count refl; magics = all; live = λ p. refl; killed = refl }
 
 -- ---- as works of the check

@@ -1,6 +1,6 @@
 -- The entries of pages that aren't live, killed one after the other.
 use Rattle.std.proofs.Common.{◌≡◌, ℕ, ◌+◌, ◌*◌, ◌<◌, ◌≤◌, List, slice_index, Bool, true, false, not, cond, Result, refl, sym, ◌∙◌, arith}
-use Rattle.std.proofs.lemmas.Bool.{and_parts}
+use Rattle.std.proofs.lemmas.Bool.{and_parts, not-true}
 use Rattle.geometry.specs.declared.geometry.Geometry.{Geometry}
 use Rattle.image_model.specs.Volume.{page_count}
 use Rattle.image_model.specs.Places.{IsImage, has_magic}
@@ -25,13 +25,9 @@ use Rattle.vol_check.proofs.Working.{Goes, On}
 
 -- ---- a turn
 
-not_true : (x : Bool) → not x ≡ true → x ≡ false
-not_true true h = cc
-not_true false h = refl
-
 used_not_free : (g : Geometry) (a : List ℕ) (p : ℕ) → is_dead_entry g a p ≡ true → is_free_entry g a p ≡ false
 unfolding is_used
-used_not_free g a p dead = let w = and_parts _ _ dead in let v = and_parts _ _ w.0 in not_true (is_free_entry g a p) v.1
+used_not_free g a p dead = let w = and_parts _ _ dead in let v = and_parts _ _ w.0 in not-true (is_free_entry g a p) v.1
 
 -- the kill of the entry of page p, whose page isn't live
 abbrev pub killing_entry : ℕ → Work (Unit {0})

@@ -63,6 +63,11 @@ is_doubled g image p = is_doubled_as g image p (live_at g image p)
 abbrev pub HasNoDoubles : Geometry → List ℕ → Type 0
 HasNoDoubles g image = (p : ℕ) → is_doubled g image p ≡ false
 
+-- no page is doubled and nothing is damaged
+pub record IsSettled (g : Geometry) (image : List ℕ) : Type 0 where
+  pub single : HasNoDoubles g image
+  pub undamaged : damaged_of g image ≡ []
+
 -- page p is live and not wanted
 unfoldable pub is_unwanted : Geometry → List ℕ → ℕ → Bool
 is_unwanted g image p = is_some (live_at g image p) && not (is_wanted g image p)
@@ -90,8 +95,7 @@ pub record CullsRest (g : Geometry) (p : ℕ) (killed : Bool) (was now : List �
   pub culls : Culls g p killed was now
   pub served : is_unwanted g now p ≡ false
   pub others : (q : ℕ) → q ≢ p → is_unwanted g now q ≡ is_unwanted g was q
-  pub single : HasNoDoubles g now
-  pub undamaged : damaged_of g now ≡ []
+  pub settled : IsSettled g now
 
 -- after the first pass no page is doubled, and the same files are damaged
 pub record PassesDoubled (g : Geometry) (n : ℕ) (was now : List ℕ) : Type 0 where
@@ -111,8 +115,7 @@ pub record CullsHead (g : Geometry) (id p : ℕ) (killed : Bool) (was now : List
 -- after the second pass nothing is damaged, and one header page of each damaged file was killed
 pub record PassesDamaged (g : Geometry) (n : ℕ) (was now : List ℕ) : Type 0 where
   pub passes : Passes g n was now
-  pub single : HasNoDoubles g now
-  pub none : damaged_of g now ≡ []
+  pub settled : IsSettled g now
   pub count : n ≡ length (damaged_of g was)
 
 -- after the third pass every live page is wanted, and still nothing is damaged

@@ -17,7 +17,7 @@ use Rattle.flash_view.specs.Steps.{Step, Stepped, failed}
 use Rattle.vol_check.specs.declared.checking.Culled.{Culled}
 use Rattle.vol_check.specs.declared.report.Report.{Report}
 use Rattle.vol_check.specs.Stage.{IsClean, CleansEntry, CleansEntries}
-use Rattle.vol_check.specs.Culls.{KeepsAll, MayCull, Culls, is_doubled, HasNoDoubles, is_unwanted, IsServed, CullsDoubled, CullsHead, CullsRest, PassesDoubled, PassesDamaged, PassesRest, CullsPages}
+use Rattle.vol_check.specs.Culls.{KeepsAll, MayCull, Culls, is_doubled, HasNoDoubles, IsSettled, is_unwanted, IsServed, CullsDoubled, CullsHead, CullsRest, PassesDoubled, PassesDamaged, PassesRest, CullsPages}
 use Rattle.vol_check.specs.Mends.{HasAllMagics, Mends}
 use Rattle.vol_check.specs.Checks.{Checked}
 
@@ -35,11 +35,6 @@ step_of work = record { needs = λ g was. HasMagics g was × work.needs g was; c
 pub record Worked {N T : Type 0} {nor : NorOf N} (old new : View N nor) (result : Result T Failed) (work : Work T) : Type 0 where
   pub step : Stepped failed old new result (step_of work)
   pub idle : nor.tells old.nor.now → HasMagics old.geometry (nor.bytes old.nor.now) → work.needs old.geometry (nor.bytes old.nor.now) → work.idle old.geometry (nor.bytes old.nor.now) → OnlyReads nor old.nor.now new.nor.now
-
--- no page is doubled and nothing is damaged
-pub record IsSettled (g : Geometry) (image : List ℕ) : Type 0 where
-  pub single : HasNoDoubles g image
-  pub undamaged : damaged_of g image ≡ []
 
 -- page p is the header page of the id, no page is doubled, and the marks are right
 pub record IsHead (g : Geometry) (image : List ℕ) (id p : ℕ) (marks : List ℕ) : Type 0 where

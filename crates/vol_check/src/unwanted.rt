@@ -7,8 +7,8 @@ ghost use Rattle.image_model.specs.Places.{page_of};
 ghost use Rattle.image_model.specs.Headers.{size_of};
 ghost use Rattle.flash_view.specs.Places.{IsEntryPage};
 ghost use Rattle.flash_view.specs.Same.{OnlyLooks};
-ghost use Rattle.vol_check.specs.Culls.{is_unwanted as the_unwanted, is_served_by};
-ghost use Rattle.vol_check.specs.Works.{Worked, IsSettled, culling_unwanted, culling_rest};
+ghost use Rattle.vol_check.specs.Culls.{IsSettled, is_unwanted as the_unwanted, is_served_by};
+ghost use Rattle.vol_check.specs.Works.{Worked, culling_unwanted, culling_rest};
 
 use crate::culling::cull;
 use flash_view::{View, is_entry_page};

@@ -14,7 +14,7 @@ cull_unwanted-requires g c = let was = c.loop-page.invariant in rw was.work.step
 
 pub returns-in_err-cull_unwanted-clause-work : goal.returns-in_err-cull_unwanted-clause-work
 returns-in_err-cull_unwanted-clause-work g c =
-    works_stop c.loop-page.invariant.work c.in_err-cull_unwanted.ensures c.from_residual.ensures.0 (λ tells magics settled. record { needs = settled; idle = λ quiet. quiet }) (λ tells magics settled was. record { needs = record { single = was.single; undamaged = was.undamaged }; idle = λ quiet. quiet c.loop-page.page })
+    works_stop c.loop-page.invariant.work c.in_err-cull_unwanted.ensures c.from_residual.ensures.0 (λ tells magics settled. record { needs = settled; idle = λ quiet. quiet }) (λ tells magics settled was. record { needs = was.settled; idle = λ quiet. quiet c.loop-page.page })
 
 pub loop-page-preserved : goal.loop-page-preserved
 loop-page-preserved g c =
@@ -27,7 +27,7 @@ loop-page-preserved g c =
     record {
       end = was.end;
       few = omega (arith, e.1, was.few);
-      work = works_end was.work c.in_ok-cull_unwanted.ensures (λ tells magics settled. record { needs = settled; idle = λ quiet. quiet }) (λ tells magics settled before. record { needs = record { single = before.single; undamaged = before.undamaged }; idle = λ quiet. quiet c.loop-page.page })
+      work = works_end was.work c.in_ok-cull_unwanted.ensures (λ tells magics settled. record { needs = settled; idle = λ quiet. quiet }) (λ tells magics settled before. record { needs = before.settled; idle = λ quiet. quiet c.loop-page.page })
           (λ tells magics need before kept turn. resting_next _ _ _ _ _ _ _ _ before turn e.0);
     }
 
