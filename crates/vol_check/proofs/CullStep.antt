@@ -7,7 +7,7 @@ use Rattle.geometry.specs.declared.geometry.Geometry.{Geometry}
 use Rattle.image_model.specs.Headers.{is_finished, obj_id}
 use Rattle.image_model.specs.Live.{Live, live_at, is_live}
 use Rattle.image_model.specs.Places.{page_of, block_of, has_magic, entry_of, is_entry_page, IsImage}
-use Rattle.image_model.specs.Tables.{Found, has_of, table_of, damaged_of, records, damages}
+use Rattle.image_model.specs.Tables.{Found, has_of, table_of, damaged_of, records}
 use Rattle.image_model.specs.Tidy.{is_free_entry, is_wanted, free_blocks}
 use Rattle.image_model.specs.Killed.{is_used, is_killable}
 use Rattle.image_model.specs.Sound.{HasMagics, Keeps}

@@ -1,10 +1,10 @@
 -- Killing the header page of a damaged file.
-use Rattle.std.proofs.Common.{◌≡◌, ◌≢◌, ℕ, zero, suc, ◌+◌, ◌%◌, ◌<◌, ◌≤◌, not, List, [], length, slice_set, true, false, Option, Some, None, Result, Ok, Err, ap, refl, sym, ◌∙◌, arith, ⊎_elim, subst}
+use Rattle.std.proofs.Common.{◌≡◌, ◌≢◌, ℕ, zero, suc, ◌+◌, ◌%◌, ◌<◌, ◌≤◌, List, [], length, slice_set, true, false, Option, Some, None, Result, Ok, Err, ap, refl, sym, ◌∙◌, arith, ⊎_elim}
 use Rattle.std.proofs.Math.Path.{fun_ext}
 use Rattle.std.specs.Prelude.{find, unwrap_or}
 use Rattle.std.specs.Option.{option_map}
 use Rattle.std.specs.List.{range_with_len, filter_map, cons_option}
-use Rattle.std.proofs.lemmas.Bool.{cases_eq, cases_Bool, and_parts, eq-eqb, eqb-true, ne_eqb}
+use Rattle.std.proofs.lemmas.Bool.{cases_eq, cases_Bool, and_parts, eqb-true, ne_eqb}
 use Rattle.std.proofs.lemmas.List.{get_or-set_same, get_or-set_other}
 use Rattle.std.proofs.lemmas.Option.{none-some, same_Some}
 use Rattle.geometry.specs.declared.geometry.Geometry.{Geometry}
@@ -17,7 +17,7 @@ use Rattle.image_model.specs.Headers.{obj_id, span_of, names_index}
 use Rattle.image_model.specs.Live.{Live, live_at, own}
 use Rattle.image_model.specs.Files.{is_index, index_page, found, judged}
 use Rattle.image_model.specs.Tables.{Found, has_of, counts, counted, is_named, holder, damage, damages, table_of, damaged_of, ids}
-use Rattle.image_model.specs.Tidy.{is_wanted, is_number}
+use Rattle.image_model.specs.Tidy.{is_wanted}
 use Rattle.image_laws.specs.Changes.{Loses}
 use Rattle.image_laws.proofs.Frames.{live_parts}
 use Rattle.image_laws.proofs.Tables.{find_none}
@@ -29,7 +29,7 @@ use Rattle.flash_view.specs.Found.{headed}
 use Rattle.flash_view.specs.Marks.{mark_as, mark_of, IsMarked, cause_at}
 use Rattle.flash_view.proofs.Marking.{has_at, other_mark}
 use Rattle.flash_view.proofs.Spans.{index_known}
-use Rattle.vol_check.specs.Culls.{MayCull, is_doubled_as, is_doubled, HasNoDoubles, Culls}
+use Rattle.vol_check.specs.Culls.{MayCull, HasNoDoubles, Culls}
 use Rattle.vol_check.specs.Works.{IsHead, TurnsHead, culling, culling_head}
 use Rattle.vol_check.proofs.Working.{Goes}
 use Rattle.vol_check.proofs.Passing.{culls_nothing}

@@ -1,6 +1,6 @@
 -- The block without its magic, made fresh, over plain images.
-use Rattle.std.proofs.Common.{◌≡◌, ◌≢◌, ℕ, zero, suc, ◌+◌, ◌*◌, ◌<◌, ◌≤◌, ⊎_elim, List, length, Bool, true, false, not, ◌&&◌, Some, None, Result, OnErr, OnOk, refl, sym, ◌∙◌, subst, arith}
-use Rattle.std.specs.Prelude.{filter, find}
+use Rattle.std.proofs.Common.{◌≡◌, ◌≢◌, ℕ, ◌*◌, ◌<◌, ◌≤◌, ⊎_elim, List, true, false, not, Some, None, Result, OnErr, OnOk, refl, sym, ◌∙◌, subst, arith}
+use Rattle.std.specs.Prelude.{find}
 use Rattle.std.specs.List.{range_with_len}
 use Rattle.std.proofs.Math.Bool.{and-false}
 use Rattle.std.proofs.lemmas.Bool.{cases_eq, cases_Bool, lt-ltb, not-true, not-false}

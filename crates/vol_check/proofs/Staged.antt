@@ -1,13 +1,12 @@
 -- The entries of pages that aren't live, killed one after the other.
-use Rattle.std.proofs.Common.{◌≡◌, ℕ, ◌+◌, ◌*◌, ◌<◌, ◌≤◌, List, slice_index, Bool, true, false, not, cond, Result, refl, sym, ◌∙◌, arith}
+use Rattle.std.proofs.Common.{◌≡◌, ℕ, ◌+◌, ◌*◌, ◌<◌, ◌≤◌, List, slice_index, Bool, true, false, cond, Result, refl, sym, ◌∙◌, arith}
 use Rattle.std.proofs.lemmas.Bool.{and_parts, not-true}
 use Rattle.geometry.specs.declared.geometry.Geometry.{Geometry}
 use Rattle.image_model.specs.Volume.{page_count}
 use Rattle.image_model.specs.Places.{IsImage, has_magic}
-use Rattle.image_model.specs.Tidy.{is_free_entry, free_blocks}
+use Rattle.image_model.specs.Tidy.{is_free_entry}
 use Rattle.image_model.specs.Killed.{is_used, is_dead_entry}
 use Rattle.image_model.specs.Sound.{HasMagics}
-use Rattle.image_laws.specs.TidySteps.{Agree}
 use Rattle.image_laws.proofs.DeadEntries.{Stage, stage_start, stage_next, stage_clean, stage_count, turned, unturned, unused_page, unused_dead}
 use Rattle.image_laws.proofs.FreeBlocks.{free_blocks-fall, used-is_not_free}
 use Rattle.image_laws.proofs.Sounding.{keeps-by_live}
@@ -17,7 +16,7 @@ use Rattle.flash_view.specs.declared.view.View.{View}
 use Rattle.flash_view.specs.Same.{OnlyLooks}
 use Rattle.flash_view.specs.Steps.{Stepped, Finishes, failed}
 use Rattle.flash_view.proofs.Stepped.{after_look}
-use Rattle.page_put.specs.LivePages.{clearing, Stays, Cleared}
+use Rattle.page_put.specs.LivePages.{clearing, Stays}
 use Rattle.vol_check.specs.Stage.{CleansEntry, CleansEntries, IsClean}
 use Rattle.vol_check.specs.Culls.{KeepsAll}
 use Rattle.vol_check.specs.Works.{Work, step_of, Worked, cleaning_entry}

@@ -1,10 +1,10 @@
 -- What a tidy image has nothing of, and what makes an image tidy.
-use Rattle.std.proofs.Common.{◌≡◌, ℕ, ◌%◌, ◌⊎◌, List, [], true, false, not, ◌==◌, ◌&&◌, refl, sym, ◌∙◌, arith, ⊎_elim, inl, inr, subst}
+use Rattle.std.proofs.Common.{◌≡◌, ℕ, ◌%◌, ◌⊎◌, List, [], true, false, not, ◌&&◌, refl, sym, ◌∙◌, arith, ⊎_elim, inl, inr, subst}
 use Rattle.std.specs.Prelude.{Option, Some, None, is_some, is_none}
 use Rattle.std.proofs.lemmas.Bool.{cases_Bool, cases_eq, false≢true, true≢false, not-false, eq-eqb, ne_eqb}
 use Rattle.std.proofs.lemmas.Option.{same_Some}
 use Rattle.geometry.specs.declared.geometry.Geometry.{Geometry}
-use Rattle.image_model.specs.Places.{entry_of, is_entry_page, has_magic, block_of}
+use Rattle.image_model.specs.Places.{entry_of, is_entry_page, block_of}
 use Rattle.image_model.specs.Headers.{obj_id, span_of, names_index}
 use Rattle.image_model.specs.Live.{live_at, own}
 use Rattle.image_model.specs.Files.{index_page}

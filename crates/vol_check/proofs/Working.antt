@@ -12,7 +12,7 @@ use Rattle.flash_view.specs.Same.{OnlyLooks}
 use Rattle.flash_view.specs.Steps.{Step, Stepped, failed}
 use Rattle.flash_view.proofs.Stepped.{looked, look_fails, after_look, stepped_then, ends_as, fails, framed_then, framed_looks}
 use Rattle.vol_check.specs.Culls.{KeepsAll}
-use Rattle.vol_check.specs.Works.{Work, step_of, Worked}
+use Rattle.vol_check.specs.Works.{Work, Worked}
 use Rattle.vol_check.proofs.Passing.{keeps_all_none, keeps_all_on}
 
 -- A work that stands in another which began on image a can begin on image b, and has nothing to do where the other hasn't.

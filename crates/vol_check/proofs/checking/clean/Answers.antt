@@ -1,4 +1,4 @@
-use Rattle.std.proofs.Common.{ℕ, Bool, Ok, refl}
+use Rattle.std.proofs.Common.{Ok, refl}
 use Rattle.vol_check.specs.Works.{Worked}
 use Rattle.vol_check.proofs.Tidied.{tidy_clean}
 use Rattle.vol_check.proofs.Composing.{readying, readies, culling_all, checked}

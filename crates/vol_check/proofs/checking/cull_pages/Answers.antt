@@ -1,4 +1,4 @@
-use Rattle.std.proofs.Common.{ℕ, Ok}
+use Rattle.std.proofs.Common.{Ok}
 use Rattle.vol_check.specs.Works.{Worked}
 use Rattle.vol_check.proofs.Tidied.{tidy_single, tidy_served}
 use Rattle.vol_check.proofs.Composing.{settling, settles, culls_all}

@@ -1,5 +1,4 @@
 use Rattle.std.proofs.Common.{◌∙◌}
-use Rattle.flash_view.proofs.Looking.{looks_then}
 use Rattle.vol_check.proofs.Dead.{byte_told, alive_told}
 use Rattle.vol_check.proofs.culling.is_alive.Goals as goal
 

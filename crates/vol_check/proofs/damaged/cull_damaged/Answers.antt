@@ -1,4 +1,4 @@
-use Rattle.std.proofs.Common.{rules, ◌≡◌, ◌+◌, ℕ, Option, Some, None, Ok, cond, arith, subst}
+use Rattle.std.proofs.Common.{rules, ◌≡◌, ◌+◌, ℕ, Option, Some, Ok, cond, arith, subst}
 use Rattle.flash_view.specs.Marks.{NextHead}
 use Rattle.vol_check.specs.Works.{Worked}
 use Rattle.vol_check.proofs.Heading.{heading_to, heading_start, heading_next, heading_end, heading_goes}

@@ -1,4 +1,4 @@
-use Rattle.std.proofs.Common.{◌≡◌, true, false, sym, ◌∙◌}
+use Rattle.std.proofs.Common.{sym, ◌∙◌}
 use Rattle.flash_view.proofs.Stepped.{view_image}
 use Rattle.vol_check.proofs.Staged.{kills_entry, must_be_killed, cleans_nothing}
 use Rattle.vol_check.proofs.Working.{look_works, look_stops, works_as, stops}
