@@ -1,5 +1,6 @@
 -- What the check's kills of live pages keep, one after the other.
-use Rattle.std.proofs.Common.{◌≡◌, ℕ, ◌+◌, List, Bool, false, cond, refl, sym, ◌∙◌, arith, subst}
+use Rattle.std.proofs.Common.{◌≡◌, ℕ, ◌+◌, ◌≤◌, List, Bool, true, false, cond, refl, sym, ◌∙◌, arith, subst}
+use Rattle.std.specs.Int.{from_bool}
 use Rattle.geometry.specs.declared.geometry.Geometry.{Geometry}
 use Rattle.image_model.specs.Sound.{HasMagics}
 use Rattle.image_laws.proofs.Sounding.{keeps-itself, keeps-on}
@@ -32,3 +33,8 @@ passes_turn g a b p killed t = record { count = t.count; clean = t.clean; magic 
 -- one turn more
 pub passes_next : (g : Geometry) (first a b : List ℕ) (p n m : ℕ) (killed : Bool) → Passes g n first a → Culls g p killed a b → m ≡ n + cond killed 1 0 → Passes g m first b
 passes_next g first a b p n m killed s t e = subst (λ (k : ℕ). Passes g k first b) (sym e) (passes_then g first a b n (cond killed 1 0) s (passes_turn g a b p killed t))
+
+-- one more, or none
+pub from_bool_is : (killed : Bool) → (from_bool killed ≡ cond killed 1 0) × (from_bool killed ≤ 1)
+from_bool_is true = (refl, omega arith)
+from_bool_is false = (refl, omega arith)

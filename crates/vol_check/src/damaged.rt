@@ -49,9 +49,7 @@ pub(crate) fn cull_damaged<N: Nor>(v: &mut View<'_, N>, marks: &mut [u8]) -> Res
     let mut killed = 0;
     let mut at = 0;
     'ids: while let Some((id, header)) = v.next_marked(marks, at)? {
-        if cull_head(v, marks, id, header)? {
-            killed += 1;
-        }
+        killed += u32::from(cull_head(v, marks, id, header)?);
         at = id;
     }
     Ok(killed)

@@ -52,9 +52,7 @@ pub(crate) fn cull_doubles<N: Nor>(v: &mut View<'_, N>) -> Result<u32, Failed>
 {
     let mut killed = 0;
     for page in 0..v.geometry.pages() as u16 {
-        if cull_doubled(v, page)? {
-            killed += 1;
-        }
+        killed += u32::from(cull_doubled(v, page)?);
     }
     Ok(killed)
 }

@@ -68,9 +68,7 @@ pub(crate) fn clean_entries<N: Nor>(v: &mut View<'_, N>) -> Result<u32, Failed>
 {
     let mut killed = 0;
     for page in 0..v.geometry.pages() as u16 {
-        if clean_entry(v, page)? {
-            killed += 1;
-        }
+        killed += u32::from(clean_entry(v, page)?);
     }
     Ok(killed)
 }

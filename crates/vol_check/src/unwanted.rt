@@ -114,9 +114,7 @@ pub(crate) fn cull_rest<N: Nor>(v: &mut View<'_, N>) -> Result<u32, Failed>
 {
     let mut killed = 0;
     for page in 0..v.geometry.pages() as u16 {
-        if cull_unwanted(v, page)? {
-            killed += 1;
-        }
+        killed += u32::from(cull_unwanted(v, page)?);
     }
     Ok(killed)
 }

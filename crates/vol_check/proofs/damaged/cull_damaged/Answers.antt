@@ -1,11 +1,11 @@
-use Rattle.std.proofs.Common.{rules, ◌≡◌, ◌+◌, ℕ, Option, Some, Ok, cond, arith, subst}
+use Rattle.std.proofs.Common.{rules, ℕ, Option, Some, arith, subst}
 use Rattle.flash_view.specs.Marks.{NextHead}
-use Rattle.vol_check.specs.Works.{Worked}
-use Rattle.vol_check.proofs.Heading.{heading_to, heading_start, heading_next, heading_end, heading_goes}
+use Rattle.vol_check.proofs.Heading.{heading_start, heading_next, heading_end, heading_goes}
+use Rattle.vol_check.proofs.Passing.{from_bool_is}
 use Rattle.vol_check.proofs.Working.{look_works, look_stops, works_as, works_end, works_stop, works_read, read_stops}
 use Rattle.vol_check.proofs.damaged.cull_damaged.Given.{Over}
 use Rattle.vol_check.proofs.damaged.cull_damaged.Goals as goal
-use Rattle.vol_check.proofs.damaged.cull_damaged.Goals.{After-cull_head, In_ok-cull_head}
+use Rattle.vol_check.proofs.damaged.cull_damaged.Goals.{After-cull_head}
 
 pub returns-in_err-survey-clause-work : goal.returns-in_err-survey-clause-work
 returns-in_err-survey-clause-work g c = look_stops c.in_err-survey.ensures.looks c.in_err-survey.ensures.cause c.from_residual.ensures.0
@@ -22,27 +22,19 @@ next_head g c = λ tells.
     let from = rw was.framed.same.geometry at (c.in_ok-id.ensures.told (was.cuts.cuts.told tells)) in
     rw c.in_ok-id.ensures.looks.reads.bytes (subst (λ (o : Option (ℕ × ℕ)). NextHead c.args.v.now.geometry (g.N.NorState.bytes c.ids.v.nor.now) c.ids.at o) c.in-Some.is from)
 
--- after its turn
-work_on : (g : Over) (c : In_ok-cull_head g) (killed : ℕ) → (g.N.NorState.tells c.args.v.now.nor.now → NextHead c.args.v.now.geometry (g.N.NorState.bytes c.next_marked.new.self.nor.now) c.ids.at (Some (c.in-Some.id, c.in-Some.header))) →
-    killed ≡ c.ids.killed + cond c.in_ok-cull_head.field-0 1 0 → Worked {nor = g.N.NorState} c.args.v.now c.cull_head.new.v (Ok killed) (heading_to c.in-Some.id c.cull_head.new.marks)
-work_on g c killed next e =
-    works_end (works_read c.ids.invariant.work c.in_ok-id.ensures.looks) c.in_ok-cull_head.ensures (λ tells magics single. record { needs = single; idle = λ none. none })
-    (λ tells magics single heading. let goes = heading_goes _ _ _ _ c.cull_head.new.marks _ _ _ _ heading (next tells) in record { needs = goes.needs; idle = goes.idle })
-    (λ tells magics single heading kept turn. heading_next _ _ _ _ _ _ _ _ _ _ _ _ heading (next tells) turn e)
-
-pub ids-preserved-then-branch : goal.ids-preserved-then-branch
-ids-preserved-then-branch g c =
-    let was = c.ids.invariant in
-    let above = rw c.in-Some.is at c.in_ok-id.ensures.above in
-    let at = goal.at.ids-preserved-then-branch g c in
-    record { few = omega (arith, above, was.few); most = search rules; work = work_on g at.In_ok-cull_head (c.ids.killed + 1) (next_head g at.After-cull_head) (rw c.if-branch.true (omega arith)) }
-
 pub ids-preserved : goal.ids-preserved
 ids-preserved g c =
     let was = c.ids.invariant in
     let above = rw c.in-Some.is at c.in_ok-id.ensures.above in
-    let at = goal.at.ids-preserved g c in
-    record { few = omega (arith, above, was.few); most = search rules; work = work_on g at.In_ok-cull_head c.ids.killed (next_head g at.After-cull_head) (rw c.if-branch.false (omega arith)) }
+    let more = from_bool_is c.in_ok-cull_head.field-0 in
+    let next = next_head g (goal.at.ids-preserved g c).After-cull_head in
+    record {
+      few = omega (arith, above, was.few, more.1, c.from.ensures);
+      most = search rules;
+      work = works_end (works_read was.work c.in_ok-id.ensures.looks) c.in_ok-cull_head.ensures (λ tells magics single. record { needs = single; idle = λ none. none })
+          (λ tells magics single heading. let goes = heading_goes _ _ _ _ c.cull_head.new.marks _ _ _ _ heading (next tells) in record { needs = goes.needs; idle = goes.idle })
+          (λ tells magics single heading kept turn. heading_next _ _ _ _ _ _ _ _ _ _ _ _ heading (next tells) turn (omega (arith, more.0, c.from.ensures)));
+    }
 
 pub returns-in_err-id-clause-work : goal.returns-in_err-id-clause-work
 returns-in_err-id-clause-work g c =

@@ -1,11 +1,11 @@
-use Rattle.std.proofs.Common.{◌≡◌, ◌+◌, ◌≤◌, refl, arith, cond}
+use Rattle.std.proofs.Common.{arith}
 use Rattle.image_model.specs.Volume.{page_count, per_block}
 use Rattle.flash_view.proofs.Looking.{looks_none}
 use Rattle.flash_view.proofs.Stepped.{view_image}
 use Rattle.vol_check.proofs.Working.{look_works, works_as, works_end, works_stop}
+use Rattle.vol_check.proofs.Passing.{from_bool_is}
 use Rattle.vol_check.proofs.Staged.{cleaning_start, cleaning_next, cleaning_end}
 use Rattle.vol_check.proofs.entries.clean_entries.Goals as goal
-use Rattle.vol_check.proofs.entries.clean_entries.Goals.{then-branch, else-branch}
 
 pub loop-page-init : goal.loop-page-init
 loop-page-init g c = record { end = c.pages-page-end.ensures; few = omega arith; work = look_works (looks_none c.args.v.now) (λ tells magics need. cleaning_start _ _ (view_image c.args.v.now (g.met.N.Nor.sized _) tells) magics) }
@@ -20,16 +20,12 @@ returns-in_err-clean_entry-clause-work g c =
 pub loop-page-preserved : goal.loop-page-preserved
 loop-page-preserved g c =
     let was = c.loop-page.invariant in
-    let e : (c.if-branch.killed ≡ c.loop-page.killed + cond c.in_ok-clean_entry.field-0 1 0) × (c.if-branch.killed ≤ c.loop-page.killed + 1) =
-    elim c.if-branch.branch [
-      | then-branch w ↦ (rw (w.if-branch.true, w.killed-is) refl, omega (arith, w.killed-is))
-      | else-branch w ↦ (rw (w.if-branch.false, w.killed-is) (omega arith), omega (arith, w.killed-is))
-    ] in
+    let more = from_bool_is c.in_ok-clean_entry.field-0 in
     record {
       end = was.end;
-      few = omega (arith, e.1, was.few);
+      few = omega (arith, more.1, was.few, c.from.ensures);
       work = works_end was.work c.in_ok-clean_entry.ensures (λ tells magics need. record { needs = tt; idle = λ quiet. quiet }) (λ tells magics need before. record { needs = tt; idle = λ quiet. quiet c.loop-page.page })
-          (λ tells magics need before kept turn. cleaning_next _ _ _ _ _ _ _ _ before turn e.0);
+          (λ tells magics need before kept turn. cleaning_next _ _ _ _ _ _ _ _ before turn (omega (arith, more.0, c.from.ensures)));
     }
 
 pub returns-clause-work : goal.returns-clause-work
