@@ -116,8 +116,8 @@ module _ {N : Type 0} {nor : NorOf N} where
         let fault : Stepped {nor = nor} failed mid new r (faulty last) = fails next.step is (λ tells need. record { needs = need; cut = λ c k. k }) in
         record {
           step = stepped_then call.step fault (λ tells need. record { needs = (need.0, (start tells need.0 need.1).needs); cut = λ c k. k }) (λ tells need done.
-          let kept = call.step.cuts.now tells (need.0, (start tells need.0 need.1).needs) in
-          record { needs = (kept.keeps.sound.magics, (go tells need.0 need.1 done).needs); cut = λ c k. keeps_all_on _ _ _ _ kept k; done = λ c z d. absurd (d) });
+              let kept = call.step.cuts.now tells (need.0, (start tells need.0 need.1).needs) in
+              record { needs = (kept.keeps.sound.magics, (go tells need.0 need.1 done).needs); cut = λ c k. keeps_all_on _ _ _ _ kept k; done = λ c z d. absurd (d) });
           idle = idle_then call next start go;
         }
 
@@ -131,13 +131,13 @@ module _ {N : Type 0} {nor : NorOf N} where
         let told : Stepped {nor = nor} failed mid new (Ok y) (ended last k y now) = ends_as next.step (λ tells need. record { needs = need; cut = λ c k. k }) (λ tells need done. (refl, refl, next.step.cuts.now tells need, done)) in
         record {
           step = stepped_then call.step told (λ tells need. record { needs = (need.0, (start tells need.0 need.1).needs); cut = λ c k. k }) (λ tells need done.
-          let kept = call.step.cuts.now tells (need.0, (start tells need.0 need.1).needs) in
-          record {
-            needs = (kept.keeps.sound.magics, (go tells need.0 need.1 done).needs);
-            cut = λ c k. keeps_all_on _ _ _ _ kept k;
-            done = λ c z d. rw (d.0, d.1) (law tells need.0 need.1 done (keeps_all_on _ _ _ _ kept (subst (λ (l : List ℕ). KeepsAll old.geometry (nor.bytes mid.nor.now) l) d.0 d.2))
-                (subst (λ (l : List ℕ). last.done old.geometry (nor.bytes mid.nor.now) l k) d.0 d.3));
-          });
+              let kept = call.step.cuts.now tells (need.0, (start tells need.0 need.1).needs) in
+              record {
+                needs = (kept.keeps.sound.magics, (go tells need.0 need.1 done).needs);
+                cut = λ c k. keeps_all_on _ _ _ _ kept k;
+                done = λ c z d. rw (d.0, d.1) (law tells need.0 need.1 done (keeps_all_on _ _ _ _ kept (subst (λ (l : List ℕ). KeepsAll old.geometry (nor.bytes mid.nor.now) l) d.0 d.2))
+                    (subst (λ (l : List ℕ). last.done old.geometry (nor.bytes mid.nor.now) l k) d.0 d.3));
+              });
           idle = idle_then call next start go;
         }
 
