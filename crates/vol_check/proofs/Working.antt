@@ -15,11 +15,12 @@ use Rattle.vol_check.specs.Culls.{KeepsAll}
 use Rattle.vol_check.specs.Works.{Work, Worked}
 use Rattle.vol_check.proofs.Passing.{keeps_all_none, keeps_all_on}
 
--- A work that stands in another which began on image a can begin on image b, and has nothing to do where the other hasn't.
+-- A part of a work that began on image a can begin on image b, and has nothing to do where the whole has nothing to do.
 pub record Goes {S T : Type 0} (g : Geometry) (a b : List ℕ) (part : Work S) (whole : Work T) : Type 0 where
   pub needs : part.needs g b
   pub idle : whole.idle g a → part.idle g a
 
+-- what holds of a view before it was only read holds of it after
 moved : (P : Geometry → List ℕ → Type 0) {g h : Geometry} {a b : List ℕ} → h ≡ g → b ≡ a → P g a → P h b
 moved P {g} {h} {a} {b} e f p = subst (λ (k : Geometry). P k b) (sym e) (subst (λ (l : List ℕ). P g l) (sym f) p)
 

@@ -20,7 +20,7 @@ fn is_named(entry: u16, head: PageHeader) -> bool
     entry == head.id && head.is_finished()
 }
 
-/// Whether a page is live, where its block has its magic.
+/// Whether a page is live, where its block has its magic: its entry and its header alone are read.
 #[tactic(auto, using(flash_view::proofs::Looking::looks_then))]
 pub(crate) fn is_alive<N: Nor>(v: &mut View<'_, N>, page: u16) -> Result<bool, Failed>
     requires { IsEntryPage v.old.geometry page }
@@ -34,7 +34,8 @@ pub(crate) fn is_alive<N: Nor>(v: &mut View<'_, N>, page: u16) -> Result<bool, F
     Ok(is_named(entry, head))
 }
 
-/// Kills a live page that isn't wanted, where nothing is lost without it.
+/// Kills a live page that isn't wanted, where nothing is lost without it. It is read once more, which tells that its
+/// flags are one byte.
 pub(crate) fn cull<N: Nor>(v: &mut View<'_, N>, page: u16) -> Result<(), Failed>
     requires { IsEntryPage v.old.geometry page }
     ensures { Worked v.old v.new result (culling page) }
