@@ -65,6 +65,3 @@ unmixed g image none p q x y e f same =
 -- nothing becomes mixed
 pub unmixed_after : (g : Geometry) (was now : List ℕ) → mixed_blocks g was ≡ 0 → Keeps g was now → mixed_blocks g now ≡ 0
 unmixed_after g was now none keeps = unmixed_by g now (λ block m. no_mixed g was none block (keeps.sound.mixed block m))
-
-pub tidy_unmixed : (g : Geometry) (image : List ℕ) → IsTidy g image → mixed_blocks g image ≡ 0
-tidy_unmixed g image tidy = unmixed_by g image (λ block m. let same = tidy.unmixed m.p m.q m.x m.y m.p_is m.q_is (m.p_at ∙ sym m.q_at) in let index = m.names in let other = m.holds in absurd (cc))

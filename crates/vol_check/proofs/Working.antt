@@ -4,8 +4,8 @@ use Rattle.geometry.specs.declared.geometry.Geometry.{Geometry}
 use Rattle.nor_core.specs.declared.device.Failed.{Failed}
 use Rattle.nor_core.specs.declared.state.NorState.{Ghosts as NorOf}
 use Rattle.nor_core.specs.Count.{Rose}
-use Rattle.nor_core.specs.Device.{OnlyReads}
-use Rattle.nor_core.proofs.Cuts.{read_after, reads_then}
+use Rattle.nor_core.specs.Device.{OnlyReads, Changes}
+use Rattle.nor_core.proofs.Cuts.{wider, read_after, reads_then}
 use Rattle.image_model.specs.Sound.{HasMagics}
 use Rattle.flash_view.specs.declared.view.View.{View}
 use Rattle.flash_view.specs.Same.{OnlyLooks}
@@ -157,3 +157,8 @@ module _ {N : Type 0} {nor : NorOf N} where
   work_magics {new = new} call magics need tells =
       let before = call.step.cuts.cuts.told_before tells in
       subst (λ (k : Geometry). HasMagics k (nor.bytes new.nor.now)) (sym call.step.framed.same.geometry) (call.step.cuts.now before (magics before, need before)).keeps.sound.magics
+
+  -- each image that a cut in it may leave keeps the first one
+  pub work_changes : {T : Type 0} {old new : View N nor} {r : Result T Failed} {work : Work T} → Worked old new r work → (nor.tells old.nor.now → HasMagics old.geometry (nor.bytes old.nor.now)) →
+      (nor.tells old.nor.now → work.needs old.geometry (nor.bytes old.nor.now)) → Changes nor old.nor.now new.nor.now (KeepsAll old.geometry)
+  work_changes call magics need = wider call.step.cuts (λ tells image cut. cut (magics tells, need tells))
