@@ -1,21 +1,22 @@
 -- Chips end to end: what a call on one of them leaves of all.
-use Rattle.std.proofs.Common.{◌≡◌, ◌≢◌, ℕ, zero, suc, ◌+◌, ◌-◌, ◌*◌, ◌<◌, ◌≤◌, ◌⊎◌, inl, inr, ⊎_elim, List, [], ◌∷◌, ◌++◌, length, get_or, set, take, drop, refl, sym, ◌∙◌, ap, subst, arith, length-append, append_assoc, Some, OnOk, OnErr, Ok, Err, Result}
+use Rattle.std.proofs.Common.{◌≡◌, ◌≢◌, ℕ, zero, suc, ◌+◌, ◌-◌, ◌*◌, ◌<◌, ◌≤◌, ◌⊎◌, max, inl, inr, ⊎_elim, List, [], ◌∷◌, ◌++◌, length, get_or, set, take, drop, refl, sym, ◌∙◌, ap, subst, arith, length-append, append_assoc, Some, OnOk, OnErr, Ok, Err, Result}
 use Rattle.std.proofs.lemmas.Grind.{common_steps, flat_map-append}
 use Rattle.std.proofs.lemmas.List.Elements.{All-head, All-tail, All-cons, All-nil, All-weaker, All-append}
-use Rattle.std.specs.List.{All, flat_map, slice_get}
+use Rattle.std.specs.List.{All, flat_map, slice_get, slice_range}
 use Rattle.std.specs.Option.{ForSome}
 use Rattle.std.specs.declared.option.Option.{Option}
 use Rattle.nor_core.specs.declared.device.Failed.{Failed}
 use Rattle.nor_core.specs.declared.device.Mark.{Mark}
 use Rattle.nor_core.specs.Count.{Rose}
 use Rattle.nor_core.specs.Flash.{programmed, HalfProgrammed, erased, HalfErased}
-use Rattle.nor_core.specs.Device.{NorOf, Changes}
+use Rattle.nor_core.specs.declared.state.NorState.{Ghosts as NorOf}
+use Rattle.nor_core.specs.Device.{Changes}
 use Rattle.nor_core.proofs.Cuts.{andthen, widened}
 use Rattle.chip_row.specs.declared.numbers.Numbers.{Numbers}
 use Rattle.chip_row.specs.Chips.{ChipOf, ChipReads, ChipChanges, ChipHonest, InChipErase}
-use Rattle.chip_row.specs.Rows.{AllSized, AllFit, RowTells, LeftAt, RowLeft, OneOther, OneChanged, OneRead, ChipRose}
+use Rattle.chip_row.specs.Rows.{AllSized, AllFit, RowTells, latest, LeftAt, RowLeft, OneOther, OneChanged, OneRead, ChipRose}
 use Rattle.chip_row.specs.RowLaws.{all_sized, all_stand, all_past}
-use Rattle.chip_row.proofs.Parts.{lt_or_le, half_parts, programmed_parts, erased_parts, below_append, half_erased_parts}
+use Rattle.chip_row.proofs.Parts.{lt_or_le, half_parts, programmed_parts, erased_parts, slice_parts, below_append, half_erased_parts}
 
 -- what an Ok gives, by what it gives
 pub on_ok : {P Q : Type 0} (result : Result (Unit {0}) Failed) → (P → Q) → OnOk result P → OnOk result Q
@@ -26,6 +27,29 @@ on_ok (Err failed) goes p = tt
 pub on_err : {P Q : Type 0} (result : Result (Unit {0}) Failed) → (P → Q) → OnErr result P → OnErr result Q
 on_err (Ok done) goes p = tt
 on_err (Err failed) goes p = goes p
+
+module _ {D : Type 0} (chip : ChipOf D) where
+  -- of no chips the latest moment is 0
+  pub latest_none : 0 ≡ latest chip []
+  unfolding latest
+  latest_none = refl
+
+  -- and one more chip may be later
+  pub latest_more : (chips : List D) (c : D) → latest chip (chips ++ c ∷ []) ≡ max (chip.last c) (latest chip chips)
+  unfolding latest
+  latest_more [] c = refl
+  latest_more (b ∷ chips) c = let rest = latest_more chips c in omega (arith, rest)
+
+  -- no chip was called past the latest
+  pub latest_past : (chips : List D) → All (λ c. chip.last c ≤ latest chip chips) chips
+  unfolding latest
+  latest_past [] = All-nil (λ c. chip.last c ≤ 0)
+  latest_past (c ∷ chips) = All-cons (λ d. chip.last d ≤ max (chip.last c) (latest chip chips)) c chips (omega arith) (All-weaker (λ d. chip.last d ≤ latest chip chips) (λ d. chip.last d ≤ max (chip.last c) (latest chip chips)) (λ d h. omega (arith, h)) chips (latest_past chips))
+
+-- two failures together
+pub on_err_both : {P Q W : Type 0} (result : Result (Unit {0}) Failed) → (P → Q → W) → OnErr result P → OnErr result Q → OnErr result W
+on_err_both (Ok done) goes p q = tt
+on_err_both (Err failed) goes p q = goes p q
 
 -- what holds of all in a list holds of all in its front
 pub All-front : {X : Type 0} (P : X → Type 0) (xs ys : List X) → All P (xs ++ ys) → All P xs
@@ -138,9 +162,9 @@ module _ {D : Type 0} (chip : ChipOf D) where
   -- bytes of honest chips that tell them are below 256
   all_below : (chips : List D) → All (λ c. ChipHonest chip c) chips → All (λ c. chip.tells c) chips → (k : ℕ) → get_or (flat_map (λ c. chip.bytes c) chips) k 0 < 256
   all_below [] honest tells k = omega arith
-  all_below (c ∷ chips) honest tells = below_append (chip.bytes c) (flat_map (λ c. chip.bytes c) chips)
+  all_below (c ∷ chips) honest tells k = below_append (chip.bytes c) (flat_map (λ c. chip.bytes c) chips)
       ((All-head (λ c. ChipHonest chip c) c chips honest).below (All-head (λ c. chip.tells c) c chips tells))
-      (all_below chips (All-tail (λ c. ChipHonest chip c) c chips honest) (All-tail (λ c. chip.tells c) c chips tells))
+      (all_below chips (All-tail (λ c. ChipHonest chip c) c chips honest) (All-tail (λ c. chip.tells c) c chips tells)) k
 
   -- a call on one chip that tells its bytes: what a cut may leave, and what stands, of all
   module _ (row : Numbers) (n place : ℕ) (old new : List D) (R : List ℕ → List ℕ → List ℕ → Type 0) (S : List ℕ → List ℕ → Type 0) (result : Result (Unit {0}) Failed)
@@ -272,3 +296,50 @@ module _ {D : Type 0} (chip : ChipOf D) (row : Numbers) (n place : ℕ) (old new
     pub erase_half : RowTells chip row n old → OnErr result (HalfErased (place * row.chip_size + start) unit mark (flat_map (λ c. chip.bytes c) old) (flat_map (λ c. chip.bytes c) new))
     erase_half tells = on_err result (λ half. subst (HalfErased (place * row.chip_size + start) unit mark (flat_map (λ c. chip.bytes c) old)) (sym (new_parts one.other (λ c. chip.bytes c))) (half_lifted tells.each (chip.bytes one.is) half))
         (one.done (all_was one.other (λ c. chip.tells c) tells.each)).1
+
+-- bytes of one chip are read
+module _ {D : Type 0} (chip : ChipOf D) (row : Numbers) (n place at count : ℕ) (old new : List D) (into : List ℕ) (result : Result (Unit {0}) Failed)
+    (one : OneRead chip place at count old new into result) (good : AllFit chip row n old) (honest : All (λ c. ChipHonest chip c) new) where
+  -- the chips fit the row after it
+  pub fit_read : AllFit chip row n new
+  fit_read = record {
+    many = same_many one.other ∙ good.many;
+    sized = record {
+      sizes = all_new one.other (λ c. chip.size c ≡ row.chip_size) good.sized.sizes (one.reads.size ∙ all_was one.other (λ c. chip.size c ≡ row.chip_size) good.sized.sizes);
+      units = all_new one.other (λ c. chip.unit c ≡ row.unit) good.sized.units (one.reads.unit ∙ all_was one.other (λ c. chip.unit c ≡ row.unit) good.sized.units);
+    };
+    past = all_new one.other (λ c. chip.last c ≤ n) good.past (subst (λ (k : ℕ). k ≤ n) (sym one.reads.last) (all_was one.other (λ c. chip.last c ≤ n) good.past));
+    honest = honest;
+  }
+
+  pub tells_read : RowTells chip row n old → RowTells chip row n new
+  tells_read tells = record { each = all_new one.other (λ c. chip.tells c) tells.each (one.reads.told (all_was one.other (λ c. chip.tells c) tells.each)); good = fit_read }
+
+  pub read_tells : RowTells chip row n new → RowTells chip row n old
+  read_tells tells = record { each = all_old one.other (λ c. chip.tells c) tells.each (one.reads.told_before (all_is one.other (λ c. chip.tells c) tells.each)); good = good }
+
+  -- all bytes stay
+  pub same_bytes : flat_map (λ c. chip.bytes c) new ≡ flat_map (λ c. chip.bytes c) old
+  same_bytes = new_parts one.other (λ c. chip.bytes c) ∙ ap (λ (l : List ℕ). flat_map (λ c. chip.bytes c) one.other.before ++ (l ++ flat_map (λ c. chip.bytes c) one.other.after)) one.reads.bytes ∙ sym (old_parts one.other (λ c. chip.bytes c))
+
+  -- and what a cut may leave
+  pub read_cuts : (t : ℕ) (image : List ℕ) (said : ℕ) → RowLeft chip n new t image said → RowLeft chip n old t image said
+  read_cuts t image said left = (left.0, left.1, left.2, part_for chip one.other left.0 image (λ part. one.reads.cuts left.0 part) left.3, left.4)
+
+  pub read_kept : (t : ℕ) (image : List ℕ) (said : ℕ) → RowLeft chip n old t image said → RowLeft chip n new t image said
+  read_kept t image said left = (left.0, left.1, left.2, part_for chip (turned chip one.other) left.0 image (λ part. one.reads.kept left.0 part) left.3, left.4)
+
+  -- what was read is what stands there
+  pub row_read : at + count ≤ row.chip_size → RowTells chip row n old → OnOk result (into ≡ slice_range (flat_map (λ c. chip.bytes c) old) (place * row.chip_size + at) (place * row.chip_size + at + count))
+  row_read fits tells = on_ok result (λ read.
+      (let long = (all_was one.other (λ c. ChipHonest chip c) good.honest).sized (all_was one.other (λ c. chip.tells c) tells.each) ∙ all_was one.other (λ c. chip.size c ≡ row.chip_size) good.sized.sizes in
+      let here : length (flat_map (λ c. chip.bytes c) one.other.before) ≡ place * row.chip_size = all_sized chip row.chip_size one.other.before (all_front one.other (λ c. ChipHonest chip c) good.honest) (all_front one.other (λ c. chip.tells c) tells.each) (all_front one.other (λ c. chip.size c ≡ row.chip_size) good.sized.sizes) ∙ ap (λ (k : ℕ). k * row.chip_size) one.other.at_place in
+      read
+      ∙ sym (slice_parts (flat_map (λ c. chip.bytes c) one.other.before) (flat_map (λ c. chip.bytes c) one.other.after) (chip.bytes one.was) at count (omega (arith, long, fits)))
+      ∙ ap (λ (k : ℕ). slice_range (flat_map (λ c. chip.bytes c) one.other.before ++ (chip.bytes one.was ++ flat_map (λ c. chip.bytes c) one.other.after)) (k + at) (k + at + count)) here
+      ∙ ap (λ (l : List ℕ). slice_range l (place * row.chip_size + at) (place * row.chip_size + at + count)) (sym (old_parts one.other (λ c. chip.bytes c)))))
+      (one.read (all_was one.other (λ c. chip.tells c) tells.each))
+
+  -- a count of faults that rose in a read
+  pub read_rose : Rose (chip.faults one.was) (chip.faults one.is) → ChipRose chip place old new
+  read_rose rose = record { was = one.was; is = one.is; old_is = was_at one.other; new_is = is_at one.other; rose = rose }

@@ -1,15 +1,18 @@
 -- A part of a list of bytes, changed within the whole.
-use Rattle.std.proofs.Common.{◌≡◌, ◌≢◌, ℕ, zero, suc, ◌+◌, ◌-◌, ◌*◌, ◌<◌, ◌≤◌, ◌⊎◌, inl, inr, ⊎_elim, List, [], ◌∷◌, ◌++◌, length, get_or, set, take, drop, replicate, refl, sym, ◌∙◌, ap, subst, arith, length-append, append_assoc, length-drop, Some, None, OnOk, OnErr, Ok, Err, Result}
-use Rattle.std.proofs.lemmas.List.{take_all, length-take, length-replicate, get_or-take, get_or-drop, get_or_append_left, get_or-append-add, ext_get_or, take-append-le, drop-append-le, get_or_past}
+use Rattle.std.proofs.Common.{◌≡◌, ◌≢◌, ℕ, zero, suc, ◌+◌, ◌-◌, ◌*◌, ◌/◌, ◌%◌, ◌<◌, ◌≤◌, ◌⊎◌, inl, inr, ⊎_elim, List, [], ◌∷◌, ◌++◌, length, get_or, set, take, drop, replicate, refl, sym, ◌∙◌, ap, subst, arith, length-append, append_assoc, length-drop, Some, None, OnOk, OnErr, Ok, Err, Result}
+use Rattle.std.proofs.lemmas.List.{take_all, length-take, length-replicate, get_or-take, get_or-drop, get_or_append_left, get_or-append-add, ext_get_or, take-append-le, drop-append-le, drop-drop}
 use Rattle.std.proofs.lemmas.Grind.{common_steps}
 use Rattle.std.specs.Int.Bits.{bit_and}
+use Rattle.std.proofs.lemmas.Nat.{and_le_r, div-add-mod'}
+use Rattle.std.proofs.Math.Nat.{mul-le-mul_left}
 use Rattle.std.specs.declared.option.Option.{Option}
 use Rattle.nor_core.specs.declared.device.Mark.{Mark}
 use Rattle.nor_core.specs.declared.device.Failed.{Failed}
 use Rattle.std.specs.Option.{ForSome}
+use Rattle.std.specs.List.{slice_range}
 use Rattle.nor_core.specs.Flash.{programmed, HalfProgrammed, SameOutside, IsBetween, erased, HalfErased, Scrambled, Unmarked, word_at}
 use Rattle.nor_core.specs.Picks.{put}
-use Rattle.nor_core.proofs.Programs.{half_none, length-programmed}
+use Rattle.nor_core.proofs.Programs.{half_none, programmed-none}
 use Rattle.nor_core.proofs.Ranges.{put_size, get_or-put_before, get_or-put_after, get_or-put_inside}
 
 -- of two numbers one is below, or not
@@ -41,7 +44,7 @@ restored old new before at n end outside ends within before_is =
 -- a finished erase leaves all other bytes
 pub erased_outside : (old : List ℕ) (at n : ℕ) → at + n ≤ length old → SameOutside at n old (erased old at n)
 erased_outside old at n within = record {
-  size = omega (arith, within, length-append (take at old ++ replicate n 255) (drop (at + n) old), length-append (take at old) (replicate n 255), length-take at old, length-drop (at + n) old, length-replicate n 255);
+  size = omega (arith, within, length-append (take at old ++ replicate n 255) (drop (at + n) old), length-append (take at old) (replicate n 255), length-take at old, length-drop (at + n) old, length-replicate {A = ℕ} n 255);
   before = λ k below. grind (arith, common_steps);
   after = λ k above. grind (arith, common_steps);
 }
@@ -103,12 +106,7 @@ half_parts pre post at asked old new within half = record {
 -- a program in a part and what follows
 programmed_front : (old post : List ℕ) (at : ℕ) (asked : List ℕ) → at + length asked ≤ length old → programmed (old ++ post) at asked ≡ programmed old at asked ++ post
 unfolding programmed
-programmed_front [] post zero [] within = programmed_nothing post
-  where
-    programmed_nothing : (l : List ℕ) → programmed l zero [] ≡ l
-    unfolding programmed
-    programmed_nothing [] = refl
-    programmed_nothing (b ∷ l) = refl
+programmed_front [] post zero [] within = programmed-none post
 programmed_front [] post zero (a ∷ asked) within = absurd (omega (arith, within))
 programmed_front [] post (suc at) asked within = absurd (omega (arith, within))
 programmed_front (b ∷ old) post (suc at) asked within = ap (λ (l : List ℕ). b ∷ l) (programmed_front old post at asked (omega (arith, within)))
@@ -123,15 +121,77 @@ programmed_parts (b ∷ pre) post at asked old within =
     let e : suc (length pre) + at ≡ suc (length pre + at) = omega arith in
     ap (λ (k : ℕ). programmed (b ∷ (pre ++ (old ++ post))) k asked) e ∙ ap (λ (l : List ℕ). b ∷ l) (programmed_parts pre post at asked old within)
 
+-- a program of no bytes
+pub programmed_nothing : (image : List ℕ) (at : ℕ) → programmed image at [] ≡ image
+unfolding programmed
+programmed_nothing [] at = refl
+programmed_nothing (b ∷ image) zero = refl
+programmed_nothing (b ∷ image) (suc at) = ap (λ (l : List ℕ). b ∷ l) (programmed_nothing image at)
+
+-- the next elements after the first
+pub take_join : (xs : List ℕ) (n m : ℕ) → take n xs ++ take m (drop n xs) ≡ take (n + m) xs
+take_join [] n m = ap (λ (l : List ℕ). l ++ take m (drop n [])) (take_none n) ∙ ap (λ (l : List ℕ). take m l) (drop_none n) ∙ take_none m ∙ sym (take_none (n + m))
+  where
+    take_none : (k : ℕ) → take {A = ℕ} k [] ≡ []
+    take_none zero = refl
+    take_none (suc k) = refl
+
+    drop_none : (k : ℕ) → drop {A = ℕ} k [] ≡ []
+    drop_none zero = refl
+    drop_none (suc k) = refl
+
+take_join (x ∷ xs) zero m = ap (λ (k : ℕ). take k (x ∷ xs)) (omega arith)
+take_join (x ∷ xs) (suc n) m =
+    let e : suc n + m ≡ suc (n + m) = omega arith in
+    ap (λ (l : List ℕ). x ∷ l) (take_join xs n m) ∙ ap (λ (k : ℕ). take k (x ∷ xs)) (sym e)
+
+-- a range goes on
+pub slice_join : (l : List ℕ) (at n m : ℕ) → slice_range l at (at + n) ++ slice_range l (at + n) (at + n + m) ≡ slice_range l at (at + (n + m))
+slice_join l at n m =
+    let a : at + n - at ≡ n = omega arith in
+    let d : at + n + m - (at + n) ≡ m = omega arith in
+    let e : at + (n + m) - at ≡ n + m = omega arith in
+    ap (λ (k : ℕ). take k (drop at l) ++ take (at + n + m - (at + n)) (drop (at + n) l)) a
+    ∙ ap (λ (k : ℕ). take n (drop at l) ++ take k (drop (at + n) l)) d
+    ∙ ap (λ (r : List ℕ). take n (drop at l) ++ take m r) (sym (drop-drop n at l))
+    ∙ take_join (drop at l) n m
+    ∙ ap (λ (k : ℕ). take k (drop at l)) (sym e)
+
 -- a program that goes on after its first bytes
 pub programmed_on : (image first rest : List ℕ) (at : ℕ) → programmed (programmed image at first) (at + length first) rest ≡ programmed image at (first ++ rest)
 unfolding programmed
 programmed_on [] first rest at = refl
-programmed_on (b ∷ image) first rest (suc at) = 
+programmed_on (b ∷ image) first rest (suc at) =
     let e : suc at + length first ≡ suc (at + length first) = omega arith in
     ap (λ (k : ℕ). programmed (b ∷ programmed image at first) k rest) e ∙ ap (λ (l : List ℕ). b ∷ l) (programmed_on image first rest at)
 programmed_on (b ∷ image) [] rest zero = refl
-programmed_on (b ∷ image) (a ∷ first) rest zero = ap (λ (l : List ℕ). bit_and b a ∷ l) (programmed_on image first rest zero)
+programmed_on (b ∷ image) (a ∷ first) rest zero =
+    let e : zero + suc (length first) ≡ suc (zero + length first) = omega arith in
+    ap (λ (k : ℕ). programmed (bit_and b a ∷ programmed image zero first) k rest) e ∙ ap (λ (l : List ℕ). bit_and b a ∷ l) (programmed_on image first rest zero)
+
+-- the bytes up to a place in a part
+take_parts : (pre l : List ℕ) (k : ℕ) → take (length pre + k) (pre ++ l) ≡ pre ++ take k l
+take_parts [] l k = ap (λ (i : ℕ). take i l) (omega arith)
+take_parts (b ∷ pre) l k =
+    let e : suc (length pre) + k ≡ suc (length pre + k) = omega arith in
+    ap (λ (i : ℕ). take i (b ∷ (pre ++ l))) e ∙ ap (λ (m : List ℕ). b ∷ m) (take_parts pre l k)
+
+-- the bytes from a place in a part on
+drop_parts : (pre l : List ℕ) (k : ℕ) → drop (length pre + k) (pre ++ l) ≡ drop k l
+drop_parts [] l k = ap (λ (i : ℕ). drop i l) (omega arith)
+drop_parts (b ∷ pre) l k =
+    let e : suc (length pre) + k ≡ suc (length pre + k) = omega arith in
+    ap (λ (i : ℕ). drop i (b ∷ (pre ++ l))) e ∙ drop_parts pre l k
+
+-- a range in a part
+pub slice_parts : (pre post part : List ℕ) (at n : ℕ) → at + n ≤ length part → slice_range (pre ++ (part ++ post)) (length pre + at) (length pre + at + n) ≡ slice_range part at (at + n)
+slice_parts pre post part at n within =
+    let first : length pre + at + n - (length pre + at) ≡ n = omega arith in
+    let second : at + n - at ≡ n = omega arith in
+    ap (λ (k : ℕ). take k (drop (length pre + at) (pre ++ (part ++ post)))) first
+    ∙ ap (λ (l : List ℕ). take n l) (drop_parts pre (part ++ post) at ∙ drop-append-le at part post (omega (arith, within)))
+    ∙ take-append-le n (drop at part) post (omega (arith, within, length-drop at part))
+    ∙ sym (ap (λ (k : ℕ). take k (drop at part)) second)
 
 -- an erase in a part, in the whole
 pub erased_parts : (pre post old : List ℕ) (at n : ℕ) → at + n ≤ length old → erased (pre ++ (old ++ post)) (length pre + at) n ≡ pre ++ (erased old at n ++ post)
@@ -144,19 +204,6 @@ erased_parts pre post old at n within =
     ∙ append_assoc (pre ++ take at old) (replicate n 255) (drop (at + n) old ++ post)
     ∙ append_assoc pre (take at old) (replicate n 255 ++ (drop (at + n) old ++ post))
     ∙ ap (λ (l : List ℕ). pre ++ l) (sym (append_assoc (take at old) (replicate n 255) (drop (at + n) old ++ post)) ∙ sym (append_assoc (take at old ++ replicate n 255) (drop (at + n) old) post))
-  where
-    take_parts : (pre l : List ℕ) (k : ℕ) → take (length pre + k) (pre ++ l) ≡ pre ++ take k l
-    take_parts [] l k = ap (λ (i : ℕ). take i l) (omega arith)
-    take_parts (b ∷ pre) l k =
-      let e : suc (length pre) + k ≡ suc (length pre + k) = omega arith in
-      ap (λ (i : ℕ). take i (b ∷ (pre ++ l))) e ∙ ap (λ (m : List ℕ). b ∷ m) (take_parts pre l k)
-
-    drop_parts : (pre l : List ℕ) (k : ℕ) → drop (length pre + k) (pre ++ l) ≡ drop k l
-    drop_parts [] l k = ap (λ (i : ℕ). drop i l) (omega arith)
-    drop_parts (b ∷ pre) l k =
-      let e : suc (length pre) + k ≡ suc (length pre + k) = omega arith in
-      ap (λ (i : ℕ). drop i (b ∷ (pre ++ l))) e ∙ drop_parts pre l k
-
 abbrev AllBelow : List ℕ → Type 0
 AllBelow l = (k : ℕ) → get_or l k 0 < 256
 
@@ -230,3 +277,40 @@ half_all at n from old image fits half =
     let e : n + (length from - n) ≡ length from = omega (arith, fits) in
     let whole : take (n + (length from - n)) from ≡ from = ap (λ (k : ℕ). take k from) e ∙ take_all (length from) from (omega arith) in
     subst (λ (l : List ℕ). HalfProgrammed at l old image) whole (half_wider at n (length from - n) from old image (omega (arith, fits)) half)
+
+-- what a program leaves is no more than what stood
+pub below_program : (at : ℕ) (asked old new : List ℕ) → HalfProgrammed at asked old new → AllBelow old → AllBelow new
+below_program at asked old new half below = λ k. ⊎_elim
+    (λ low. subst (λ (b : ℕ). b < 256) (sym (half.outside.before k low)) (below k))
+    (λ high. ⊎_elim
+      (λ inside. let j : ℕ = k - at in
+        let e : k ≡ at + j = omega (arith, high) in
+        let cleared = (half.inside j (omega (arith, e, inside))).cleared in
+        let less = and_le_r (get_or new (at + j) 0) (get_or old (at + j) 0) in
+        subst (λ (i : ℕ). get_or new i 0 < 256) (sym e) (omega (arith, cleared, less, below (at + j))))
+      (λ past. subst (λ (b : ℕ). b < 256) (sym (half.outside.after k past)) (below k))
+      (lt_or_le k (at + length asked)))
+    (lt_or_le k at)
+
+-- what a finished erase leaves is below 256
+below_erased : (old : List ℕ) (at n : ℕ) → at + n ≤ length old → AllBelow old → AllBelow (erased old at n)
+below_erased old at n within below = λ k. ⊎_elim
+    (λ low. subst (λ (b : ℕ). b < 256) (sym ((erased_outside old at n within).before k low)) (below k))
+    (λ high. ⊎_elim
+      (λ inside. let is : get_or (erased old at n) k 0 ≡ 255 = grind (arith, common_steps) in omega (arith, is))
+      (λ past. subst (λ (b : ℕ). b < 256) (sym ((erased_outside old at n within).after k past)) (below k))
+      (lt_or_le k (at + n)))
+    (lt_or_le k at)
+
+-- what an erase leaves is below 256, finished or not
+pub below_erase : (result : Result (Unit {0}) Failed) (old new : List ℕ) (at n : ℕ) (mark : Option Mark) → at + n ≤ length old → OnOk result (new ≡ erased old at n) → OnErr result (HalfErased at n mark old new) → AllBelow old → AllBelow new
+below_erase (Ok done) old new at n mark within whole half below = subst AllBelow (sym whole) (below_erased old at n within below)
+below_erase (Err failed) old new at n mark within whole half below = ⊎_elim (λ same. subst AllBelow (sym same) below) (λ scrambled. scrambled.bytes) half
+
+-- a unit of a chip lies inside it
+pub unit_within : (size unit unit_ix : ℕ) → 0 < unit → size % unit ≡ 0 → unit_ix < size / unit → unit_ix * unit + unit ≤ size
+unit_within size unit unit_ix some whole inside =
+    let parts = div-add-mod' size unit in
+    let next : unit_ix + 1 ≤ size / unit = omega (arith, inside) in
+    let units = mul-le-mul_left unit next in
+    omega (arith, parts, units, whole)

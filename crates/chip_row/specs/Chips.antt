@@ -1,8 +1,8 @@
 -- What the calls of a chip leave, and what each chip keeps. `ChipOf D` is the record of the ghost members, which a clause writes `C.ChipState`.
-use Rattle.std.specs.Prelude.{ℕ, ◌≡◌, ◌<◌, ◌≤◌, ◌^◌, ◌⊎◌, List, length, slice_index}
+use Rattle.std.specs.Prelude.{ℕ, ◌≡◌, ◌*◌, ◌<◌, ◌≤◌, ◌^◌, ◌⊎◌, List, length, slice_index}
 use Rattle.std.specs.declared.option.Option.{Option}
 use Rattle.nor_core.specs.declared.device.Mark.{Mark}
-use Rattle.nor_core.specs.Flash.{HalfErased}
+use Rattle.nor_core.specs.Flash.{erased, HalfErased}
 pub use Rattle.chip_row.specs.declared.state.ChipState.{Ghosts as ChipOf}
 
 -- only reads: the bytes, the last moment and what a cut may leave are as before
@@ -35,6 +35,18 @@ pub record ChipChanges {D : Type 0} (chip : ChipOf D) (now : ℕ) (old new : D) 
 -- what stands in or after an erase of `count` bytes from `start` on, which leaves `after`
 abbrev pub InChipErase : ℕ → ℕ → Option Mark → List ℕ → List ℕ → List ℕ → Type 0
 InChipErase start count mark before after image = HalfErased start count mark before image ⊎ (image ≡ after)
+
+-- a finished erase of the unit `unit_ix`
+unfoldable pub ErasesUnit : ℕ → ℕ → List ℕ → List ℕ → Type 0
+ErasesUnit unit_ix unit was is = is ≡ erased was (unit_ix * unit) unit
+
+-- an erase of it that failed
+unfoldable pub HalfErasesUnit : ℕ → ℕ → Option Mark → List ℕ → List ℕ → Type 0
+HalfErasesUnit unit_ix unit mark was is = HalfErased (unit_ix * unit) unit mark was is
+
+-- what stands in or after an erase of it, which leaves `is`
+unfoldable pub InUnitErase : ℕ → ℕ → Option Mark → List ℕ → List ℕ → List ℕ → Type 0
+InUnitErase unit_ix unit mark was is image = InChipErase (unit_ix * unit) unit mark was is image
 
 -- what each chip keeps: its size is the number of its bytes, and a cut past its last moment leaves what stands
 pub record ChipHonest {D : Type 0} (chip : ChipOf D) (c : D) : Type 0 where

@@ -28,11 +28,6 @@ unfoldable pub CutAt : List Note → List ℕ → ℕ → List ℕ → Type 0
 CutAt [] is t image = image ≡ is
 CutAt (note ∷ older) is t image = ((note.now < t) × (image ≡ is)) ⊎ ((t ≡ note.now) × (InCall note is image ⊎ (image ≡ is))) ⊎ ((t < note.now) × CutAt older (before_call note is) t image)
 
--- no call was later than the moment `last`
-unfoldable pub NewestBy : List Note → ℕ → Type 0
-NewestBy [] last = Unit {0}
-NewestBy (note ∷ older) last = note.now ≤ last
-
 -- a call was noted, with what stood before in its `count` bytes from `at` on
 pub record Notes (now at count : ℕ) (IsAsked : Asked → Type 0) (old : List ℕ) (notes_old notes_new : List Note) : Type 0 where
   pub note : Note

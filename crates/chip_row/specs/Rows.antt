@@ -62,13 +62,13 @@ pub record OneChanged {D : Type 0} (chip : ChipOf D) (now place : ℕ) (old new 
   pub done : chip.tells was → S (chip.bytes was) (chip.bytes is)
   pub cause : OnErr result (Rose (chip.faults was) (chip.faults is))
 
--- one of them was read
-pub record OneRead {D : Type 0} (chip : ChipOf D) (place at : ℕ) (old new : List D) (into : List ℕ) (result : Result (Unit {0}) Failed) : Type 0 where
+-- `count` bytes of one of them were read
+pub record OneRead {D : Type 0} (chip : ChipOf D) (place at count : ℕ) (old new : List D) (into : List ℕ) (result : Result (Unit {0}) Failed) : Type 0 where
   pub was : D
   pub is : D
   pub other : OneOther place old new was is
   pub reads : ChipReads chip was is
-  pub read : chip.tells was → OnOk result (into ≡ slice_range (chip.bytes was) at (at + length into))
+  pub read : chip.tells was → OnOk result (into ≡ slice_range (chip.bytes was) at (at + count))
   pub cause : OnErr result (Rose (chip.faults was) (chip.faults is))
 
 -- all chips but the one at `place` stay
@@ -86,6 +86,10 @@ pub record ChipRose {D : Type 0} (chip : ChipOf D) (place : ℕ) (old new : List
   pub old_is : slice_get old place ≡ Some was
   pub new_is : slice_get new place ≡ Some is
   pub rose : Rose (chip.faults was) (chip.faults is)
+
+-- why a call of the chip at `place` failed: that chip's count rose, and it is the one that the row names from now on; or no chip failed, and the row was stuck
+abbrev pub BlamedAt : {D : Type 0} → ChipOf D → ℕ → List D → List D → Option ℕ → Option ℕ → Type 0 → Type 0
+BlamedAt chip place old new fuse_old fuse_new Stuck = (ChipRose chip place old new × (fuse_new ≡ Some place)) ⊎ ((fuse_new ≡ fuse_old) × Stuck)
 
 -- why a call of a row failed: the count of a chip rose, which is the one that it names from now on; or no chip failed, and it was stuck
 abbrev pub Blamed : {D : Type 0} → ChipOf D → List D → List D → Option ℕ → Option ℕ → Type 0 → Type 0

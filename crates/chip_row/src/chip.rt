@@ -1,8 +1,8 @@
-ghost use Rattle.std.specs.Prelude.{◌≡◌, ℕ, ◌+◌, ◌*◌, ◌/◌, ◌<◌, ◌≤◌, ◌⊎◌, List, length, slice_range, OnOk, OnErr};
+ghost use Rattle.std.specs.Prelude.{◌≡◌, ℕ, ◌+◌, ◌/◌, ◌<◌, ◌≤◌, List, length, slice_range, OnOk, OnErr};
 ghost use Rattle.std.specs.Option.{ForSome};
 ghost use Rattle.nor_core.specs.Count.{Rose};
-ghost use Rattle.nor_core.specs.Flash.{programmed, HalfProgrammed, erased, HalfErased};
-ghost use Rattle.chip_row.specs.Chips.{ChipReads, ChipChanges, ChipHonest, InChipErase};
+ghost use Rattle.nor_core.specs.Flash.{programmed, HalfProgrammed};
+ghost use Rattle.chip_row.specs.Chips.{ChipReads, ChipChanges, ChipHonest, ErasesUnit, HalfErasesUnit, InUnitErase};
 
 use crate::ChipState;
 use nor_core::{Failed, Mark};
@@ -54,9 +54,9 @@ pub trait Chip: ChipState + Drop {
         requires later { Self.last self.old < now }
         requires inside { unit_ix < Self.size self.old / Self.unit self.old }
         requires marked { ForSome mark (λ m. m.at + 2 ≤ Self.unit self.old) }
-        ensures done { Self.tells self.old → OnOk result (Self.bytes self.new ≡ erased (Self.bytes self.old) (unit_ix * Self.unit self.old) (Self.unit self.old)) }
-        ensures half { Self.tells self.old → OnErr result (HalfErased (unit_ix * Self.unit self.old) (Self.unit self.old) mark (Self.bytes self.old) (Self.bytes self.new)) }
+        ensures done { Self.tells self.old → OnOk result (ErasesUnit unit_ix (Self.unit self.old) (Self.bytes self.old) (Self.bytes self.new)) }
+        ensures half { Self.tells self.old → OnErr result (HalfErasesUnit unit_ix (Self.unit self.old) mark (Self.bytes self.old) (Self.bytes self.new)) }
+        ensures changes { ChipChanges Self.ChipState now self.old self.new (InUnitErase unit_ix (Self.unit self.old) mark (Self.bytes self.old) (Self.bytes self.new)) }
         ensures cause { OnErr result (Rose (Self.faults self.old) (Self.faults self.new)) }
-        ensures changes { ChipChanges Self.ChipState now self.old self.new (InChipErase (unit_ix * Self.unit self.old) (Self.unit self.old) mark (Self.bytes self.old) (Self.bytes self.new)) }
         ensures honest { ChipHonest Self.ChipState self.new };
 }

@@ -1,6 +1,6 @@
 //! A chip in memory.
-ghost use Rattle.std.specs.Prelude.{◌≡◌, ℕ, ◌≤◌, List, reverse};
-ghost use Rattle.chip_row.specs.Moments.{CutAt, NewestBy};
+ghost use Rattle.std.specs.Prelude.{◌≡◌, ℕ, ◌<◌, ◌≤◌, List, reverse, slice_index, All};
+ghost use Rattle.chip_row.specs.Moments.{CutAt};
 ghost use Rattle.nor_core.specs.contracts.memory.MemBoardNorState.TheImpl.{ghosts as mem};
 
 use crate::answer::faults_after;
@@ -20,7 +20,8 @@ pub struct MemChip {
     notes: Vec<Note>,
     last: u64,
     faults: u64,
-    ghost newest: { NewestBy (reverse notes.items) last },
+    ghost below: { (k : ℕ) → slice_index (mem.bytes board) k < 256 },
+    ghost newest: { All (λ note. note.now ≤ last) (reverse notes.items) },
 }
 
 impl MemChip {
@@ -31,7 +32,6 @@ impl MemChip {
 
     /// A chip that holds this image, in erase units of `unit` bytes, at least 1. The image is a whole number of units,
     /// below 2^32 bytes. Nothing is to fail, and nothing was called.
-    #[tactic(auto, unfolding(crate::specs::Moments::NewestBy))]
     pub fn new(alloc: Global, image: Vec<u8>, unit: u32) -> Result<MemChip, MemErr>
         requires unit { 0 < unit }
         requires whole { length image.items % unit ≡ 0 }
@@ -107,10 +107,11 @@ impl Chip for MemChip {
     ghost use Rattle.std.specs.Prelude.{◌≡◌, ◌+◌, ◌*◌, ◌/◌, ◌<◌, ◌≤◌, ◌↔◌, ◌⊎◌, IsOk, OnOk, OnErr, List, length, slice_range};
     ghost use Rattle.std.specs.Option.{ForSome};
     ghost use Rattle.nor_core.specs.Ways.{way_of, plan_after, Answered};
+    ghost use Rattle.nor_core.specs.declared.plan.Way.TheVariants.{Whole};
     ghost use Rattle.nor_core.specs.Picks.{ProgramLeaves, EraseLeaves};
     ghost use Rattle.nor_core.specs.Count.{counted, Rose};
-    ghost use Rattle.nor_core.specs.Flash.{programmed, HalfProgrammed, erased, HalfErased};
-    ghost use Rattle.chip_row.specs.Chips.{ChipReads, ChipChanges, ChipHonest, InChipErase};
+    ghost use Rattle.nor_core.specs.Flash.{programmed, HalfProgrammed, HalfErased};
+    ghost use Rattle.chip_row.specs.Chips.{ChipReads, ChipChanges, ChipHonest, ErasesUnit, HalfErasesUnit, InUnitErase};
 
     fn size(&self) -> u32 {
         self.board.size()
@@ -133,7 +134,7 @@ impl Chip for MemChip {
         ensures cause { OnErr result (Rose (chip.faults self.old) (chip.faults self.new)) }
         ensures reads { ChipReads chip self.old self.new }
         ensures honest { ChipHonest chip self.new }
-        ensures whole { IsOk result ↔ (way_of CallKind.Read self.old.board.plan ≡ Way.Whole) }
+        ensures whole { IsOk result ↔ (way_of CallKind.Read self.old.board.plan ≡ Whole) }
         ensures planned { self.new.board.plan ≡ plan_after CallKind.Read self.old.board.plan }
         ensures no_fault { OnOk result (self.new.faults ≡ self.old.faults) }
         ensures one_fault { OnErr result (self.new.faults ≡ counted self.old.faults) }
@@ -179,16 +180,14 @@ impl Chip for MemChip {
         requires later { chip.last self.old < now }
         requires inside { unit_ix < chip.size self.old / chip.unit self.old }
         requires marked { ForSome mark (λ m. m.at + 2 ≤ chip.unit self.old) }
-        ensures done { chip.tells self.old →
-            OnOk result (chip.bytes self.new ≡ erased (chip.bytes self.old)
-            (unit_ix * chip.unit self.old) (chip.unit self.old)) }
-        ensures half { chip.tells self.old →
-            OnErr result (HalfErased (unit_ix * chip.unit self.old) (chip.unit self.old) mark
-            (chip.bytes self.old) (chip.bytes self.new)) }
-        ensures cause { OnErr result (Rose (chip.faults self.old) (chip.faults self.new)) }
+        ensures done { chip.tells self.old → OnOk result (ErasesUnit unit_ix
+            (chip.unit self.old) (chip.bytes self.old) (chip.bytes self.new)) }
+        ensures half { chip.tells self.old → OnErr result (HalfErasesUnit unit_ix
+            (chip.unit self.old) mark (chip.bytes self.old) (chip.bytes self.new)) }
         ensures changes { ChipChanges chip now self.old self.new
-            (InChipErase (unit_ix * chip.unit self.old) (chip.unit self.old) mark
-            (chip.bytes self.old) (chip.bytes self.new)) }
+            (InUnitErase unit_ix (chip.unit self.old) mark (chip.bytes self.old)
+            (chip.bytes self.new)) }
+        ensures cause { OnErr result (Rose (chip.faults self.old) (chip.faults self.new)) }
         ensures honest { ChipHonest chip self.new }
         ensures possible { length self.old.notes.items < length self.new.notes.items →
             (image : List ℕ) → HalfErased (unit_ix * chip.unit self.old) (chip.unit self.old)

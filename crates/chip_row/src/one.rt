@@ -1,5 +1,5 @@
 //! Calls of one chip of several.
-ghost use Rattle.std.specs.Prelude.{◌≡◌, ◌≢◌, ℕ, ◌+◌, ◌*◌, ◌/◌, ◌%◌, ◌<◌, ◌≤◌, ◌×◌, ◌↔◌, ◌⊎◌, List, length, slice_get, OnOk, OnErr, IsTrue, IsFalse, All};
+ghost use Rattle.std.specs.Prelude.{◌≡◌, ◌≢◌, ℕ, ◌+◌, ◌*◌, ◌/◌, ◌%◌, ◌<◌, ◌≤◌, ◌↔◌, ◌⊎◌, List, length, slice_get, OnOk, OnErr, IsTrue, IsFalse, All};
 ghost use Rattle.std.specs.Option.{ForSome};
 ghost use Rattle.nor_core.specs.Flash.{programmed, HalfProgrammed, erased, HalfErased};
 ghost use Rattle.chip_row.specs.Chips.{ChipHonest, InChipErase};
@@ -63,7 +63,8 @@ pub(crate) fn read_one<C: Chip>(
     requires honest { All (λ c. ChipHonest C.ChipState c) chips.old.items }
     ensures honest { All (λ c. ChipHonest C.ChipState c) chips.new.items }
     ensures others { OthersAt i chips.old.items chips.new.items }
-    ensures one { OneRead C.ChipState i at chips.old.items chips.new.items into.new result }
+    ensures one { OneRead C.ChipState i at (length into.old) chips.old.items chips.new.items
+        into.new result }
 {
     chips[i].read(at, into)
 }

@@ -41,7 +41,7 @@ pub struct RowRefusal<C: Chip = Box<dyn Chip>> {
 pub struct ChipRow<C: Chip = Box<dyn Chip>> {
     pub(crate) chips: Vec<C>,
     pub(crate) numbers: Numbers,
-    pub(crate) now: u64,
+    pub(crate) moment: u64,
     pub(crate) faults: u64,
     pub(crate) reads: u64,
     pub(crate) writes: u64,
@@ -49,7 +49,7 @@ pub struct ChipRow<C: Chip = Box<dyn Chip>> {
 }
 
 impl<C: Chip> NorState for ChipRow<C> {
-    ghost tells = { λ r. RowTells C.ChipState r.numbers r.now r.chips.items };
+    ghost tells = { λ r. RowTells C.ChipState r.numbers r.moment r.chips.items };
 
     ghost bytes = { λ r. flat_map (λ c. C.bytes c) r.chips.items };
 
@@ -61,17 +61,17 @@ impl<C: Chip> NorState for ChipRow<C> {
 
     ghost faults = { λ r. r.faults };
 
-    ghost moment = { λ r. r.now };
+    ghost moment = { λ r. r.moment };
 
     ghost device_reads = { λ r. r.reads };
 
     ghost device_writes = { λ r. r.writes };
 
-    ghost left_since = { λ r t image count. RowLeft C.ChipState r.now r.chips.items t image count };
+    ghost left_since = { λ r t image count. RowLeft C.ChipState r.moment r.chips.items t image count };
 }
 
 impl<C: Chip> ChipRow<C> {
-    ghost use Rattle.std.specs.Prelude.{◌≡◌, ◌≢◌, ℕ, ◌<◌, ◌≤◌, ◌×◌, ◌⊎◌, ◌↔◌, max, List, [], length, slice_set, Some, None, Err, OnOk, IsOk, IfOk, IfErr, All};
+    ghost use Rattle.std.specs.Prelude.{◌≡◌, ◌≢◌, ℕ, ◌<◌, ◌≤◌, ◌⊎◌, ◌↔◌, max, List, [], length, slice_set, Some, None, Err, OnOk, IsOk, IfOk, IfErr, All};
     ghost use Rattle.chip_row.specs.Rows.{NumbersFit, AllSized, AllFit, latest};
     ghost use Rattle.nor_core.specs.Device.{OnlyReads};
 
@@ -85,13 +85,13 @@ impl<C: Chip> ChipRow<C> {
         ensures chips { IfOk result (λ row. row.chips ≡ chips) }
         ensures size { IfOk result (λ row. row.numbers.chip_size ≡ chip_size) }
         ensures unit { IfOk result (λ row. row.numbers.unit ≡ unit) }
-        ensures moment { IfOk result (λ row. row.now ≡ latest C.ChipState chips.items) }
+        ensures moment { IfOk result (λ row. row.moment ≡ latest C.ChipState chips.items) }
         ensures faults { IfOk result (λ row. row.faults ≡ 0) }
         ensures reads { IfOk result (λ row. row.reads ≡ 0) }
         ensures writes { IfOk result (λ row. row.writes ≡ 0) }
         ensures fuse { IfOk result (λ row. row.fuse ≡ None) }
         ensures sound { IfOk result (λ row.
-            AllFit C.ChipState row.numbers row.now row.chips.items) }
+            AllFit C.ChipState row.numbers row.moment row.chips.items) }
         ensures tells { All (λ c. C.tells c) chips.items →
             IfOk result (λ row. ⟦<ChipRow<C> as NorState>⟧.tells row) }
     {
@@ -101,14 +101,14 @@ impl<C: Chip> ChipRow<C> {
         let Some(numbers) = Numbers::new(chips.len(), chip_size, unit) else {
             return Err(RowErr::WrongSize);
         };
-        let now = latest_of(&chips);
-        if !is_sound(&chips, numbers, now) {
+        let moment = latest_of(&chips);
+        if !is_sound(&chips, numbers, moment) {
             return Err(RowErr::WrongSize);
         }
         Ok(ChipRow {
             chips,
             numbers,
-            now,
+            moment,
             faults: 0,
             reads: 0,
             writes: 0,
@@ -131,14 +131,14 @@ impl<C: Chip> ChipRow<C> {
         ensures refused { IfErr result (λ _. self.new ≡ self.old) }
         ensures chips { OnOk result
             (self.new.chips.items ≡ slice_set self.old.chips.items i chip) }
-        ensures moment { OnOk result (self.new.now ≡ max self.old.now (C.last chip)) }
+        ensures moment { OnOk result (self.new.moment ≡ max self.old.moment (C.last chip)) }
         ensures numbers { self.new.numbers ≡ self.old.numbers }
         ensures faults { self.new.faults ≡ self.old.faults }
         ensures reads { self.new.reads ≡ self.old.reads }
         ensures writes { self.new.writes ≡ self.old.writes }
         ensures fuse { self.new.fuse ≡ self.old.fuse }
-        ensures sound { AllFit C.ChipState self.old.numbers self.old.now self.old.chips.items →
-            AllFit C.ChipState self.new.numbers self.new.now self.new.chips.items }
+        ensures sound { AllFit C.ChipState self.old.numbers self.old.moment self.old.chips.items →
+            AllFit C.ChipState self.new.numbers self.new.moment self.new.chips.items }
         ensures tells { ⟦<ChipRow<C> as NorState>⟧.tells self.old → C.tells chip →
             ⟦<ChipRow<C> as NorState>⟧.tells self.new }
     {
@@ -154,7 +154,7 @@ impl<C: Chip> ChipRow<C> {
                 chip,
             });
         }
-        self.now = self.now.max(chip.last());
+        self.moment = self.moment.max(chip.last());
         self.chips[i] = chip;
         Ok(())
     }

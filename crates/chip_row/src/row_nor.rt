@@ -1,12 +1,12 @@
 //! The calls of a row, piece by piece.
-ghost use Rattle.std.specs.Prelude.{◌≡◌, ◌≢◌, ℕ, ◌+◌, ◌*◌, ◌/◌, ◌%◌, ◌^◌, ◌<◌, ◌≤◌, ◌×◌, ◌⊎◌, List, length, slice_get, slice_range, OnOk, OnErr};
+ghost use Rattle.std.specs.Prelude.{◌≡◌, ◌≢◌, ℕ, ◌+◌, ◌*◌, ◌/◌, ◌%◌, ◌^◌, ◌<◌, ◌≤◌, ◌⊎◌, List, length, slice_get, slice_range, OnOk, OnErr};
 ghost use Rattle.std.specs.Option.{ForSome};
 ghost use Rattle.nor_core.specs.Count.{counted, Rose, last_count};
 ghost use Rattle.nor_core.specs.Flash.{programmed, HalfProgrammed, erased, HalfErased};
 ghost use Rattle.nor_core.specs.Device.{OnlyReads, Changes, InErase, Writes};
 ghost use Rattle.chip_row.specs.Chips.{InChipErase};
 ghost use Rattle.chip_row.specs.RowLaws.{row_sized, now_stands, now_counts};
-ghost use Rattle.chip_row.specs.Rows.{AllFit, OthersAt, OthersStay, Blamed};
+ghost use Rattle.chip_row.specs.Rows.{AllFit, OthersAt, OthersStay, Blamed, BlamedAt};
 
 use crate::answer::{faults_after, fuse_after};
 use crate::one::{erase_one, is_sound, program_one, read_one};
@@ -27,17 +27,17 @@ impl<C: Chip> ChipRow<C> {
         ensures length { length into.new ≡ length into.old }
         ensures numbers { self.new.numbers ≡ self.old.numbers }
         ensures others { OthersAt i self.old.chips.items self.new.chips.items }
-        ensures sound { AllFit C.ChipState self.old.numbers self.old.now self.old.chips.items →
-            AllFit C.ChipState self.new.numbers self.new.now self.new.chips.items }
+        ensures sound { AllFit C.ChipState self.old.numbers self.old.moment self.old.chips.items →
+            AllFit C.ChipState self.new.numbers self.new.moment self.new.chips.items }
         ensures reads { self.new.reads ≡ self.old.reads }
         ensures no_fault { OnOk result (self.new.faults ≡ self.old.faults) }
         ensures one_fault { OnErr result (self.new.faults ≡ counted self.old.faults) }
         ensures no_fuse { OnOk result (self.new.fuse ≡ self.old.fuse) }
-        ensures blamed { OnErr result (Blamed C.ChipState self.old.chips.items
+        ensures blamed { OnErr result (BlamedAt C.ChipState i self.old.chips.items
             self.new.chips.items self.old.fuse self.new.fuse
-            (AllFit C.ChipState self.old.numbers self.old.now self.old.chips.items → ⊥)) }
+            (AllFit C.ChipState self.old.numbers self.old.moment self.old.chips.items → ⊥)) }
     {
-        if !is_sound(&self.chips, self.numbers, self.now) {
+        if !is_sound(&self.chips, self.numbers, self.moment) {
             self.faults = self.faults.saturating_add(1);
             return Err(Failed);
         }
@@ -60,24 +60,24 @@ impl<C: Chip> ChipRow<C> {
             (HalfProgrammed (i * self.old.numbers.chip_size + at) from.now) }
         ensures numbers { self.new.numbers ≡ self.old.numbers }
         ensures others { OthersAt i self.old.chips.items self.new.chips.items }
-        ensures sound { AllFit C.ChipState self.old.numbers self.old.now self.old.chips.items →
-            AllFit C.ChipState self.new.numbers self.new.now self.new.chips.items }
+        ensures sound { AllFit C.ChipState self.old.numbers self.old.moment self.old.chips.items →
+            AllFit C.ChipState self.new.numbers self.new.moment self.new.chips.items }
         ensures reads { self.new.reads ≡ self.old.reads }
         ensures writes { self.new.writes ≡ self.old.writes }
         ensures no_fault { OnOk result (self.new.faults ≡ self.old.faults) }
         ensures one_fault { OnErr result (self.new.faults ≡ counted self.old.faults) }
         ensures no_fuse { OnOk result (self.new.fuse ≡ self.old.fuse) }
-        ensures blamed { OnErr result (Blamed C.ChipState self.old.chips.items
+        ensures blamed { OnErr result (BlamedAt C.ChipState i self.old.chips.items
             self.new.chips.items self.old.fuse self.new.fuse
-            ((self.new.now ≡ last_count) ⊎
-            (AllFit C.ChipState self.old.numbers self.old.now self.old.chips.items → ⊥))) }
+            ((self.new.moment ≡ last_count) ⊎
+            (AllFit C.ChipState self.old.numbers self.old.moment self.old.chips.items → ⊥))) }
     {
-        if self.now == u64::MAX || !is_sound(&self.chips, self.numbers, self.now) {
+        if self.moment == u64::MAX || !is_sound(&self.chips, self.numbers, self.moment) {
             self.faults = self.faults.saturating_add(1);
             return Err(Failed);
         }
-        self.now += 1;
-        let answer = program_one(&mut self.chips, i, self.now, at, from);
+        self.moment += 1;
+        let answer = program_one(&mut self.chips, i, self.moment, at, from);
         self.faults = faults_after(self.faults, answer);
         self.fuse = fuse_after(self.fuse, i, answer);
         answer
@@ -103,25 +103,25 @@ impl<C: Chip> ChipRow<C> {
             self.old.numbers.unit mark was (⟦<ChipRow<C> as NorState>⟧.bytes self.new) image) }
         ensures numbers { self.new.numbers ≡ self.old.numbers }
         ensures others { OthersAt i self.old.chips.items self.new.chips.items }
-        ensures sound { AllFit C.ChipState self.old.numbers self.old.now self.old.chips.items →
-            AllFit C.ChipState self.new.numbers self.new.now self.new.chips.items }
+        ensures sound { AllFit C.ChipState self.old.numbers self.old.moment self.old.chips.items →
+            AllFit C.ChipState self.new.numbers self.new.moment self.new.chips.items }
         ensures reads { self.new.reads ≡ self.old.reads }
         ensures writes { self.new.writes ≡ self.old.writes }
         ensures no_fault { OnOk result (self.new.faults ≡ self.old.faults) }
         ensures one_fault { OnErr result (self.new.faults ≡ counted self.old.faults) }
         ensures no_fuse { OnOk result (self.new.fuse ≡ self.old.fuse) }
-        ensures blamed { OnErr result (Blamed C.ChipState self.old.chips.items
+        ensures blamed { OnErr result (BlamedAt C.ChipState i self.old.chips.items
             self.new.chips.items self.old.fuse self.new.fuse
-            ((self.new.now ≡ last_count) ⊎
-            (AllFit C.ChipState self.old.numbers self.old.now self.old.chips.items → ⊥))) }
+            ((self.new.moment ≡ last_count) ⊎
+            (AllFit C.ChipState self.old.numbers self.old.moment self.old.chips.items → ⊥))) }
     {
-        if self.now == u64::MAX || !is_sound(&self.chips, self.numbers, self.now) {
+        if self.moment == u64::MAX || !is_sound(&self.chips, self.numbers, self.moment) {
             self.faults = self.faults.saturating_add(1);
             return Err(Failed);
         }
-        self.now += 1;
+        self.moment += 1;
         let unit = self.numbers.unit;
-        let answer = erase_one(&mut self.chips, i, self.now, unit, unit_ix, mark);
+        let answer = erase_one(&mut self.chips, i, self.moment, unit, unit_ix, mark);
         self.faults = faults_after(self.faults, answer);
         self.fuse = fuse_after(self.fuse, i, answer);
         answer
@@ -140,15 +140,15 @@ impl<C: Chip> ChipRow<C> {
         ensures numbers { self.new.numbers ≡ self.old.numbers }
         ensures others { OthersStay self.old.numbers.chip_size at (length into.old)
             self.old.chips.items self.new.chips.items }
-        ensures sound { AllFit C.ChipState self.old.numbers self.old.now self.old.chips.items →
-            AllFit C.ChipState self.new.numbers self.new.now self.new.chips.items }
+        ensures sound { AllFit C.ChipState self.old.numbers self.old.moment self.old.chips.items →
+            AllFit C.ChipState self.new.numbers self.new.moment self.new.chips.items }
         ensures reads { self.new.reads ≡ self.old.reads }
         ensures no_fault { OnOk result (self.new.faults ≡ self.old.faults) }
         ensures one_fault { OnErr result (self.new.faults ≡ counted self.old.faults) }
         ensures no_fuse { OnOk result (self.new.fuse ≡ self.old.fuse) }
         ensures blamed { OnErr result (Blamed C.ChipState self.old.chips.items
             self.new.chips.items self.old.fuse self.new.fuse
-            (AllFit C.ChipState self.old.numbers self.old.now self.old.chips.items → ⊥)) }
+            (AllFit C.ChipState self.old.numbers self.old.moment self.old.chips.items → ⊥)) }
     {
         let size = self.numbers.chip_size as usize;
         let mut done = 0;
@@ -174,8 +174,8 @@ impl<C: Chip> ChipRow<C> {
         ensures numbers { self.new.numbers ≡ self.old.numbers }
         ensures others { OthersStay self.old.numbers.chip_size at (length from.now)
             self.old.chips.items self.new.chips.items }
-        ensures sound { AllFit C.ChipState self.old.numbers self.old.now self.old.chips.items →
-            AllFit C.ChipState self.new.numbers self.new.now self.new.chips.items }
+        ensures sound { AllFit C.ChipState self.old.numbers self.old.moment self.old.chips.items →
+            AllFit C.ChipState self.new.numbers self.new.moment self.new.chips.items }
         ensures reads { self.new.reads ≡ self.old.reads }
         ensures writes { self.new.writes ≡ self.old.writes }
         ensures no_fault { OnOk result (self.new.faults ≡ self.old.faults) }
@@ -183,8 +183,8 @@ impl<C: Chip> ChipRow<C> {
         ensures no_fuse { OnOk result (self.new.fuse ≡ self.old.fuse) }
         ensures blamed { OnErr result (Blamed C.ChipState self.old.chips.items
             self.new.chips.items self.old.fuse self.new.fuse
-            ((self.new.now ≡ last_count) ⊎
-            (AllFit C.ChipState self.old.numbers self.old.now self.old.chips.items → ⊥))) }
+            ((self.new.moment ≡ last_count) ⊎
+            (AllFit C.ChipState self.old.numbers self.old.moment self.old.chips.items → ⊥))) }
     {
         let size = self.numbers.chip_size as usize;
         let mut done = 0;
@@ -222,14 +222,14 @@ impl<C: Chip> Nor for ChipRow<C> {
         ensures numbers { self.new.numbers ≡ self.old.numbers }
         ensures others { OthersStay self.old.numbers.chip_size at (length into.old)
             self.old.chips.items self.new.chips.items }
-        ensures sound { AllFit C.ChipState self.old.numbers self.old.now self.old.chips.items →
-            AllFit C.ChipState self.new.numbers self.new.now self.new.chips.items }
+        ensures sound { AllFit C.ChipState self.old.numbers self.old.moment self.old.chips.items →
+            AllFit C.ChipState self.new.numbers self.new.moment self.new.chips.items }
         ensures no_fault { OnOk result (self.new.faults ≡ self.old.faults) }
         ensures one_fault { OnErr result (self.new.faults ≡ counted self.old.faults) }
         ensures no_fuse { OnOk result (self.new.fuse ≡ self.old.fuse) }
         ensures blamed { OnErr result (Blamed C.ChipState self.old.chips.items
             self.new.chips.items self.old.fuse self.new.fuse
-            (AllFit C.ChipState self.old.numbers self.old.now self.old.chips.items → ⊥)) }
+            (AllFit C.ChipState self.old.numbers self.old.moment self.old.chips.items → ⊥)) }
     {
         self.reads = self.reads.saturating_add(1);
         self.read_all(at, into)
@@ -249,15 +249,15 @@ impl<C: Chip> Nor for ChipRow<C> {
         ensures numbers { self.new.numbers ≡ self.old.numbers }
         ensures others { OthersStay self.old.numbers.chip_size at (length from.now)
             self.old.chips.items self.new.chips.items }
-        ensures sound { AllFit C.ChipState self.old.numbers self.old.now self.old.chips.items →
-            AllFit C.ChipState self.new.numbers self.new.now self.new.chips.items }
+        ensures sound { AllFit C.ChipState self.old.numbers self.old.moment self.old.chips.items →
+            AllFit C.ChipState self.new.numbers self.new.moment self.new.chips.items }
         ensures no_fault { OnOk result (self.new.faults ≡ self.old.faults) }
         ensures one_fault { OnErr result (self.new.faults ≡ counted self.old.faults) }
         ensures no_fuse { OnOk result (self.new.fuse ≡ self.old.fuse) }
         ensures blamed { OnErr result (Blamed C.ChipState self.old.chips.items
             self.new.chips.items self.old.fuse self.new.fuse
-            ((self.new.now ≡ last_count) ⊎
-            (AllFit C.ChipState self.old.numbers self.old.now self.old.chips.items → ⊥))) }
+            ((self.new.moment ≡ last_count) ⊎
+            (AllFit C.ChipState self.old.numbers self.old.moment self.old.chips.items → ⊥))) }
     {
         self.writes = self.writes.saturating_add(1);
         self.program_all(at, from)
@@ -287,29 +287,29 @@ impl<C: Chip> Nor for ChipRow<C> {
         ensures others { OthersStay self.old.numbers.chip_size
             (unit_ix * self.old.numbers.unit) self.old.numbers.unit self.old.chips.items
             self.new.chips.items }
-        ensures sound { AllFit C.ChipState self.old.numbers self.old.now self.old.chips.items →
-            AllFit C.ChipState self.new.numbers self.new.now self.new.chips.items }
+        ensures sound { AllFit C.ChipState self.old.numbers self.old.moment self.old.chips.items →
+            AllFit C.ChipState self.new.numbers self.new.moment self.new.chips.items }
         ensures no_fault { OnOk result (self.new.faults ≡ self.old.faults) }
         ensures one_fault { OnErr result (self.new.faults ≡ counted self.old.faults) }
         ensures no_fuse { OnOk result (self.new.fuse ≡ self.old.fuse) }
         ensures blamed { OnErr result (Blamed C.ChipState self.old.chips.items
             self.new.chips.items self.old.fuse self.new.fuse
-            ((self.new.now ≡ last_count) ⊎
-            (AllFit C.ChipState self.old.numbers self.old.now self.old.chips.items → ⊥))) }
+            ((self.new.moment ≡ last_count) ⊎
+            (AllFit C.ChipState self.old.numbers self.old.moment self.old.chips.items → ⊥))) }
     {
         self.writes = self.writes.saturating_add(1);
         let units = self.numbers.chip_size / self.numbers.unit;
         self.erase_in((unit_ix / units) as usize, unit_ix % units, mark)
     }
 
-    ghost sized = { λ d tells. row_sized C.ChipState d.numbers d.now d.chips.items tells };
+    ghost sized = { λ d tells. row_sized C.ChipState d.numbers d.moment d.chips.items tells };
 
     ghost small = { λ d. d.numbers.fits };
 
     ghost only_now = { λ d image count left. record {
-      all_bytes = λ tells. now_stands C.ChipState d.numbers d.now d.chips.items image tells left;
+      all_bytes = λ tells. now_stands C.ChipState d.numbers d.moment d.chips.items image tells left;
       all_said = left.4;
     } };
 
-    ghost counts_now = { λ d t le tells. now_counts C.ChipState d.numbers d.now d.chips.items t le tells };
+    ghost counts_now = { λ d t le tells. now_counts C.ChipState d.numbers d.moment d.chips.items t le tells };
 }
