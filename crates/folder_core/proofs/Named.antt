@@ -1,8 +1,8 @@
 -- After a put its file is there.
-use Rattle.std.proofs.Common.{◌≡◌, ◌≢◌, ℕ, ◌+◌, ◌<◌, ⊎_elim, Bool, List, [], ◌∷◌, ◌++◌, length, get_or, set, refl, sym, ◌∙◌, ap, subst, arith, length-append}
+use Rattle.std.proofs.Common.{◌≡◌, ◌≢◌, ℕ, ◌+◌, ◌<◌, ◌⊎◌, ⊎_elim, Bool, List, [], ◌∷◌, ◌++◌, length, get_or, set, refl, sym, ◌∙◌, ap, subst, arith, length-append}
 use Rattle.std.proofs.lemmas.List.{length-set, get_or-set_same, get_or-set_other, get_or_append_left, get_or_push}
 use Rattle.folder_core.specs.Files.{Entry, IsFirst, Named, NoneNamed, name_at}
-use Rattle.folder_core.specs.Puts.{FolderOf, Puts, EntryAt, EntryLast}
+use Rattle.folder_core.specs.Puts.{EntryAt, EntryLast}
 
 -- an entry of that name, set in the place of the first of it, is the first of it
 set_first : (name : List ℕ) (i : ℕ) (old new : List Entry) (entry : Entry) → IsFirst name i old → entry.name ≡ name → new ≡ set old i entry → Named name new
@@ -21,8 +21,8 @@ push_first name old new entry none named new_is = subst (Named name) (sym new_is
 })
 
 -- after a put there is an entry of its name
-pub named_after : {D : Type 0} (folder : FolderOf D) (first : Bool) (name piece : List ℕ) (old new : D) → Puts folder first name piece old new → Named name (folder.entries new)
-named_after folder first name piece old new puts = ⊎_elim
-  (λ here. set_first name here.0 (folder.entries old) (folder.entries new) _ here.1.is_first refl here.1.new_is)
-  (λ last. push_first name (folder.entries old) (folder.entries new) _ last.none refl last.new_is)
-  puts.entries
+pub named_in : (first : Bool) (name : List ℕ) (count : ℕ) (old new : List Entry) → ((i : ℕ) × EntryAt first name count i old new) ⊎ EntryLast name count old new → Named name new
+named_in first name count old new puts = ⊎_elim
+  (λ here. set_first name here.0 old new _ here.1.is_first refl here.1.new_is)
+  (λ last. push_first name old new _ last.none refl last.new_is)
+  puts

@@ -1,10 +1,13 @@
 -- Putting a piece into the files of a folder in memory.
-use Rattle.std.proofs.Common.{◌≡◌, ℕ, ◌+◌, ◌<◌, inl, inr, Bool, true, false, List, [], ◌∷◌, ◌++◌, length, get_or, set, refl, sym, ◌∙◌, ap, subst, arith, length-append, OnOk, OnErr, Ok, Err, Result}
+use Rattle.std.proofs.Common.{◌≡◌, ℕ, ◌+◌, ◌<◌, ◌≤◌, inl, inr, Bool, true, false, List, [], ◌∷◌, ◌++◌, length, get_or, set, refl, sym, ◌∙◌, ap, subst, arith, length-append, OnOk, OnErr, Ok, Err, Result}
 use Rattle.std.proofs.lemmas.List.{get_or-map, map-set, map_push, length-map, append-nil}
 use Rattle.nor_core.specs.declared.device.Failed.{Failed}
 use Rattle.folder_core.specs.declared.file.MemFile.{MemFile}
 use Rattle.folder_core.specs.Files.{Entry, File, entry_of, entries_of, name_at, size_at, bytes_at, IsFirst, NoneNamed, size_before, bytes_before}
 use Rattle.folder_core.specs.Mem.{files_of, MemPuts}
+use Rattle.folder_core.specs.Puts.{Kept, Puts}
+use Rattle.folder_core.specs.declared.mem_folder.MemFolder.{MemFolder}
+use Rattle.folder_core.specs.contracts.mem_folder.MemFolderFolderState.TheImpl.{ghosts}
 
 -- how long the bytes are that stay before a piece
 length-before : (first : Bool) (bytes : List ℕ) → length (bytes_before first bytes) ≡ size_before first (length bytes)
@@ -34,6 +37,27 @@ puts_last first name piece old new none done = record {
   entries = inr (record { none = none; new_is = ap (λ (l : List File). entries_of l) done ∙ map_push entry_of (files_of old) (record { name = name; bytes = piece }) });
   files = inr (record { none = none; new_is = done });
 }
+
+module _ (old new : MemFolder) (faults : old.faults ≤ new.faults) where
+  -- a folder whose files stay is as it was
+  pub kept_of : new.files.items ≡ old.files.items → Kept ghosts old new
+  kept_of same = record {
+    told = λ tells. tells;
+    told_before = λ tells. tells;
+    entries = ap (λ (l : List MemFile). entries_of (files_of l)) same;
+    files = ap (λ (l : List MemFile). files_of l) same;
+    faults = faults;
+  }
+
+  -- and one into whose files a piece was put has had it put
+  pub puts_of : (first : Bool) (name piece : List ℕ) → MemPuts first name piece old.files.items new.files.items → Puts ghosts first name piece old new
+  puts_of first name piece puts = record {
+    told = λ tells. tells;
+    told_before = λ tells. tells;
+    entries = puts.entries;
+    files = λ tells. puts.files;
+    faults = faults;
+  }
 
 -- what an answer gives, by what it gives
 pub on_ok : {P Q : Type 0} (result : Result (Unit {0}) Failed) → (P → Q) → OnOk result P → OnOk result Q

@@ -1,6 +1,6 @@
 //! The files of a folder in memory.
 ghost use Rattle.std.specs.Prelude.{◌≡◌, ◌≢◌, ℕ, ◌+◌, ◌^◌, ◌<◌, ◌≤◌, [], ◌∷◌, ◌++◌, ◌⊎◌, ◌↔◌, List, length, map, take, slice_set, true, IfSome, IfNone, OnOk, OnErr};
-ghost use Rattle.folder_core.specs.Files.{entries_of, bytes_at, name_at, IsFirst, NoneNamed, bytes_before};
+ghost use Rattle.folder_core.specs.Files.{entries_of, bytes_at, name_at, size_at, IsFirst, NoneNamed, bytes_before};
 ghost use Rattle.folder_core.specs.Mem.{files_of, MemPuts};
 
 use nor_core::Failed;
@@ -20,6 +20,23 @@ fn is_same(a: &[u8], b: &[u8]) -> bool
     a == b
 }
 
+// The name of file `i`.
+pub(crate) fn name_of(files: &Vec<MemFile>, i: usize) -> &[u8]
+    requires { i < length files.now.items }
+    ensures { result.now ≡ name_at (entries_of (files_of files.now.items)) i }
+{
+    &files[i].name
+}
+
+// The bytes of file `i`.
+pub(crate) fn bytes_of(files: &Vec<MemFile>, i: usize) -> &[u8]
+    requires { i < length files.now.items }
+    ensures bytes { result.now ≡ bytes_at (files_of files.now.items) i }
+    ensures size { length result.now ≡ size_at (entries_of (files_of files.now.items)) i }
+{
+    &files[i].bytes
+}
+
 // The first file of that name.
 fn find(files: &Vec<MemFile>, name: &[u8]) -> Option<usize>
     ensures found { IfSome result (λ i. IsFirst name.now i
@@ -28,7 +45,7 @@ fn find(files: &Vec<MemFile>, name: &[u8]) -> Option<usize>
         (entries_of (files_of files.now.items))) }
 {
     for i in 0..files.len() {
-        if is_same(&files[i].name, name) {
+        if is_same(name_of(files, i), name) {
             return Some(i);
         }
     }
@@ -52,6 +69,27 @@ pub(crate) fn push_file(
     Ok(())
 }
 
+// Drops all bytes before the first piece.
+fn clear_before(bytes: &mut Vec<u8>, first: bool)
+    ensures { bytes.new.items ≡ bytes_before first bytes.old.items }
+{
+    if first {
+        bytes.clear();
+    }
+}
+
+// Appends a piece, before the first of which all bytes are dropped. Without memory for it nothing is appended.
+fn append(bytes: &mut Vec<u8>, first: bool, piece: &[u8]) -> Result<(), Failed>
+    ensures done { OnOk result (bytes.new.items ≡ bytes_before first bytes.old.items ++ piece.now) }
+    ensures half { OnErr result (bytes.new.items ≡ bytes_before first bytes.old.items) }
+{
+    clear_before(bytes, first);
+    match bytes.extend_from_slice(piece) {
+        Ok(()) => Ok(()),
+        Err(_) => Err(Failed),
+    }
+}
+
 // Appends a piece to file `i`, which is emptied before where this is the first piece. Without memory for it nothing of
 // the piece is appended.
 fn append_to(
@@ -69,14 +107,7 @@ fn append_to(
         bytes = bytes_before first (bytes_at was i) })) }
     ensures length { length files.new.items ≡ length files.old.items }
 {
-    let file = &mut files[i];
-    if first {
-        file.bytes.clear();
-    }
-    match file.bytes.extend_from_slice(piece) {
-        Ok(()) => Ok(()),
-        Err(_) => Err(Failed),
-    }
+    append(&mut files[i].bytes, first, piece)
 }
 
 // Makes the last file, unless it were file number 2^32.

@@ -3,7 +3,7 @@ ghost use Rattle.std.specs.Prelude.{◌≡◌, ℕ, ◌^◌, ◌<◌, List, leng
 ghost use Rattle.folder_core.specs.Files.{entries_of};
 ghost use Rattle.folder_core.specs.Mem.{files_of, few_entries};
 
-use crate::file::{MemFile, push_file, put_in};
+use crate::file::{MemFile, bytes_of, name_of, push_file, put_in};
 use crate::{Folder, FolderState};
 use nor_core::{Failed, MemErr};
 use std::alloc::Global;
@@ -21,7 +21,7 @@ pub struct MemFolder {
 
 impl MemFolder {
     ghost use Rattle.folder_core.specs.contracts.mem_folder.MemFolderFolderState.TheImpl.{ghosts as mem};
-    ghost use Rattle.std.specs.Prelude.{◌≡◌, ℕ, ◌+◌, ◌-◌, ◌^◌, ◌<◌, ◌++◌, ◌↔◌, [], ◌∷◌, length, true, IsTrue, IsFalse, OnOk, OnErr};
+    ghost use Rattle.std.specs.Prelude.{◌≡◌, ℕ, ◌+◌, ◌-◌, ◌^◌, ◌<◌, ◌≤◌, ◌++◌, ◌↔◌, [], ◌∷◌, length, true, IsTrue, IsFalse, OnOk, OnErr};
     ghost use Rattle.nor_core.specs.Count.{counted};
     ghost use Rattle.folder_core.specs.Puts.{Kept};
 
@@ -72,6 +72,7 @@ impl MemFolder {
         ensures alloc { self.new.alloc ≡ self.old.alloc }
         ensures fault { IsTrue result → self.new.faults ≡ counted self.old.faults }
         ensures no_fault { IsFalse result → self.new.faults ≡ self.old.faults }
+        ensures rises { self.old.faults ≤ self.new.faults }
         ensures failing { self.new.failing ≡ self.old.failing - 1 }
     {
         let fails = self.failing == 1;
@@ -131,7 +132,7 @@ impl Folder for MemFolder {
         if self.fails() {
             return Err(Failed);
         }
-        let name = &self.files[i as usize].name;
+        let name = name_of(&self.files, i as usize);
         let n = name.len().min(into.len());
         into[..n].copy_from_slice(&name[..n]);
         Ok(name.len())
@@ -150,7 +151,7 @@ impl Folder for MemFolder {
         if self.fails() {
             return Err(Failed);
         }
-        Ok(self.files[i as usize].bytes.len() as u64)
+        Ok(bytes_of(&self.files, i as usize).len() as u64)
     }
 
     fn read(&mut self, i: u32, at: u64, into: &mut [u8]) -> Result<(), Failed>
@@ -169,7 +170,7 @@ impl Folder for MemFolder {
             return Err(Failed);
         }
         let start = at as usize;
-        let bytes = &self.files[i as usize].bytes;
+        let bytes = bytes_of(&self.files, i as usize);
         into.copy_from_slice(&bytes[start..start + into.len()]);
         Ok(())
     }

@@ -17,7 +17,7 @@ fn holds(folder: &mut MemFolder, i: u32, name: &[u8], bytes: &[u8]) -> bool {
     let Ok(n) = folder.name(i, &mut told) else {
         return false;
     };
-    if n != name.len() || n > 8 || told[..n] != *name {
+    if n != name.len() || n > 8 || &told[..n] != name {
         return false;
     }
     let Ok(size) = folder.size(i) else {
@@ -34,7 +34,9 @@ fn holds(folder: &mut MemFolder, i: u32, name: &[u8], bytes: &[u8]) -> bool {
     let mut rest = [0u8; 8];
     let half = bytes.len() / 2;
     let into = &mut rest[half..bytes.len()];
-    folder.read(i, half as u64, into).is_ok() && *into == bytes[half..]
+    let answer = folder.read(i, half as u64, into);
+    let wanted = &bytes[half..];
+    answer.is_ok() && *into == *wanted
 }
 
 // A folder of two files, one without bytes.
@@ -82,6 +84,12 @@ fn a_first_piece_empties_or_makes_its_file(rt: HostRuntime) -> Result<(), Fail> 
     add(&mut folder, b"a", b"again")?;
     assert_eq!(rt; folder.put(b"a", true, b"ho"), Ok(()));
     assert!(rt; holds(&mut folder, 0, b"a", b"ho"));
+    assert!(rt; holds(&mut folder, 2, b"a", b"again"));
+    let Ok(()) = folder.put(b"a", true, b"ho") else {
+        return Err("put".into());
+    };
+    assert_eq!(rt; folder.put(b"a", false, b"me"), Ok(()));
+    assert!(rt; holds(&mut folder, 0, b"a", b"home"));
     assert!(rt; holds(&mut folder, 2, b"a", b"again"));
     assert_eq!(rt; folder.put(b"b", true, b"new"), Ok(()));
     assert_eq!(rt; folder.count(), Ok(4));
