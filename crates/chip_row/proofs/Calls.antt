@@ -89,8 +89,8 @@ module _ (now at n : ℕ) (IsAsked : Asked → Type 0) (old new : List ℕ) (not
     where
       moved : InCall noted.note new image → InAsked noted.note.asked at n old image
       moved inside = subst (λ (l : List ℕ). InAsked noted.note.asked at n l image) was_there
-        (subst (λ (k : ℕ). InAsked noted.note.asked at k (before_call noted.note new) image) long
-        (subst (λ (k : ℕ). InAsked noted.note.asked k (length noted.note.before.items) (before_call noted.note new) image) noted.at_is inside))
+          (subst (λ (k : ℕ). InAsked noted.note.asked at k (before_call noted.note new) image) long
+          (subst (λ (k : ℕ). InAsked noted.note.asked k (length noted.note.before.items) (before_call noted.note new) image) noted.at_is inside))
 
   pub now_noted : (image : List ℕ) → InAsked noted.note.asked at n old image → CutAt (reverse later) new now image
   unfolding CutAt
@@ -98,8 +98,8 @@ module _ (now at n : ℕ) (IsAsked : Asked → Type 0) (old new : List ℕ) (not
     where
       back : InCall noted.note new image
       back = subst (λ (k : ℕ). InAsked noted.note.asked k (length noted.note.before.items) (before_call noted.note new) image) (sym noted.at_is)
-        (subst (λ (k : ℕ). InAsked noted.note.asked at k (before_call noted.note new) image) (sym long)
-        (subst (λ (l : List ℕ). InAsked noted.note.asked at n l image) (sym was_there) inside))
+          (subst (λ (k : ℕ). InAsked noted.note.asked at k (before_call noted.note new) image) (sym long)
+          (subst (λ (l : List ℕ). InAsked noted.note.asked at n l image) (sym was_there) inside))
 
 -- what stood before is inside each call
 pub asked_none : (asked : Asked) (at n : ℕ) (old : List ℕ) → InAsked asked at n old old
@@ -160,21 +160,21 @@ module _ (now at n : ℕ) (IsAsked : Asked → Type 0) (R : List ℕ → Type 0)
     reads = reads;
     last = last_is;
     before = λ t image before cut. ⊎_elim
-      (λ noted. noted_before now at n IsAsked _ _ _ _ noted outside within t image before cut)
-      (λ same. subst (λ (l : List Note). CutAt (reverse l) old.board.bytes.items t image) same.notes (subst (λ (b : MemBoard). CutAt (reverse new.notes.items) b.bytes.items t image) same.board cut))
-      called;
+        (λ noted. noted_before now at n IsAsked _ _ _ _ noted outside within t image before cut)
+        (λ same. subst (λ (l : List Note). CutAt (reverse l) old.board.bytes.items t image) same.notes (subst (λ (b : MemBoard). CutAt (reverse new.notes.items) b.bytes.items t image) same.board cut))
+        called;
     kept = λ t image le cut. ⊎_elim
-      (λ noted. ⊎_elim
+        (λ noted. ⊎_elim
         (λ before. noted_kept now at n IsAsked _ _ _ _ noted outside within t image before cut)
         (λ here. noted_at now at n IsAsked _ _ _ _ noted outside within t image (omega (arith, le, here)) (cut_past (reverse old.notes.items) old.last t _ image old.newest (omega (arith, earlier, here)) cut))
         (lt_or_le t now))
-      (λ same. subst (λ (b : MemBoard). CutAt (reverse new.notes.items) b.bytes.items t image) (sym same.board) (subst (λ (l : List Note). CutAt (reverse l) old.board.bytes.items t image) (sym same.notes) cut))
-      called;
+        (λ same. subst (λ (b : MemBoard). CutAt (reverse new.notes.items) b.bytes.items t image) (sym same.board) (subst (λ (l : List Note). CutAt (reverse l) old.board.bytes.items t image) (sym same.notes) cut))
+        called;
     at_now = λ image tells cut. ⊎_elim
-      (λ noted. ⊎_elim (λ within_it. inside noted.note.asked image noted.asked_is within_it) (λ here. subst R (sym here) stands) (noted_now now at n IsAsked _ _ _ _ noted outside within image cut))
-      (λ same. (let back = subst (λ (l : List Note). CutAt (reverse l) old.board.bytes.items now image) same.notes (subst (λ (b : MemBoard). CutAt (reverse new.notes.items) b.bytes.items now image) same.board cut) in
+        (λ noted. ⊎_elim (λ within_it. inside noted.note.asked image noted.asked_is within_it) (λ here. subst R (sym here) stands) (noted_now now at n IsAsked _ _ _ _ noted outside within image cut))
+        (λ same. (let back = subst (λ (l : List Note). CutAt (reverse l) old.board.bytes.items now image) same.notes (subst (λ (b : MemBoard). CutAt (reverse new.notes.items) b.bytes.items now image) same.board cut) in
         subst R (sym (cut_past (reverse old.notes.items) old.last now _ image old.newest earlier back)) none))
-      called;
+        called;
     stands = λ tells. stands;
   }
 

@@ -142,16 +142,25 @@ module _ {D : Type 0} (chip : ChipOf D) where
   unfolding LeftAt
   parts_left m [] c after image p = (p.part, p.last, subst (λ (l : List ℕ). image ≡ l ++ (p.part ++ p.last)) p.left_first p.is, p.left_part, p.left_last)
   parts_left m (b ∷ before) c after image p =
-      let h = p.left_first in
-      (h.0, h.1 ++ (p.part ++ p.last), p.is ∙ ap (λ (l : List ℕ). l ++ (p.part ++ p.last)) h.2 ∙ append_assoc h.0 h.1 (p.part ++ p.last), h.3,
-        parts_left m before c after (h.1 ++ (p.part ++ p.last)) (record { first = h.1; part = p.part; last = p.last; is = refl; left_first = h.4; left_part = p.left_part; left_last = p.left_last }))
+      let h = p.left_first in (
+        h.0,
+        h.1 ++ (p.part ++ p.last),
+        p.is ∙ ap (λ (l : List ℕ). l ++ (p.part ++ p.last)) h.2 ∙ append_assoc h.0 h.1 (p.part ++ p.last),
+        h.3,
+        parts_left m before c after (h.1 ++ (p.part ++ p.last)) (record { first = h.1; part = p.part; last = p.last; is = refl; left_first = h.4; left_part = p.left_part; left_last = p.left_last }),
+      )
 
   -- one part is put for another
   pub part_for : {place : ℕ} {old new : List D} {was is : D} (other : OneOther place old new was is) (m : ℕ) (image : List ℕ) → ((part : List ℕ) → chip.left_at is m part → chip.left_at was m part) → LeftAt chip m new image → LeftAt chip m old image
   part_for {place} {old} {new} {was} {is} other m image goes left =
       let p = left_parts m other.before is other.after image (subst (λ (l : List D). LeftAt chip m l image) other.new_is left) in
       subst (λ (l : List D). LeftAt chip m l image) (sym other.old_is) (parts_left m other.before was other.after image (record {
-        first = p.first; part = p.part; last = p.last; is = p.is; left_first = p.left_first; left_last = p.left_last;
+        first = p.first;
+        part = p.part;
+        last = p.last;
+        is = p.is;
+        left_first = p.left_first;
+        left_last = p.left_last;
         left_part = goes p.part p.left_part;
       }))
 
@@ -213,10 +222,10 @@ module _ {D : Type 0} (chip : ChipOf D) where
         let last = all_stand chip m one.other.after p.last (all_back one.other (λ c. ChipHonest chip c) good.honest) (all_past chip n m one.other.after low (all_back one.other (λ c. chip.last c ≤ n) good.past)) (all_back one.other (λ c. chip.tells c) tells) p.left_last in
         let told = all_was one.other (λ c. chip.tells c) tells in
         let part : R (chip.bytes one.was) (chip.bytes one.is) p.part = ⊎_elim
-          (λ here. one.changes.at_now p.part told (subst (λ (k : ℕ). chip.left_at one.is k p.part) (omega (arith, here, low)) p.left_part))
-          (λ past_it. subst (R (chip.bytes one.was) (chip.bytes one.is))
-            (sym ((all_is one.other (λ c. ChipHonest chip c) honest).only_after m p.part (omega (arith, one.changes.last, past_it)) (one.changes.told told) p.left_part)) (one.changes.stands told))
-          (lt_or_le m (n + 2)) in
+        (λ here. one.changes.at_now p.part told (subst (λ (k : ℕ). chip.left_at one.is k p.part) (omega (arith, here, low)) p.left_part))
+        (λ past_it. subst (R (chip.bytes one.was) (chip.bytes one.is))
+        (sym ((all_is one.other (λ c. ChipHonest chip c) honest).only_after m p.part (omega (arith, one.changes.last, past_it)) (one.changes.told told) p.left_part)) (one.changes.stands told))
+        (lt_or_le m (n + 2)) in
         (p.part, part, p.is ∙ ap (λ (l : List ℕ). l ++ (p.part ++ p.last)) first ∙ ap (λ (l : List ℕ). flat_map (λ c. chip.bytes c) one.other.before ++ (p.part ++ l)) last)
 
     -- where R of the part gives W of the whole
@@ -224,9 +233,9 @@ module _ {D : Type 0} (chip : ChipOf D) where
       -- what a cut may leave of the row after the call
       pub row_cuts : (t : ℕ) (image : List ℕ) (count : ℕ) → t ≤ n → RowLeft chip (n + 1) new t image count → RowLeft chip n old t image count ⊎ ((count ≡ 0) × (RowTells chip row n old → W image))
       row_cuts t image count le left = ⊎_elim
-        (λ low. inr (left.4, λ tells. (let l = later left.0 image low (omega (arith, left.2)) tells.each left.3 in subst W (sym l.2) (lift tells.each l.0 l.1))))
-        (λ high. inl (left.0, left.1, omega (arith, high), part_for one.other left.0 image (λ part. one.changes.before left.0 part (omega (arith, high))) left.3, left.4))
-        (lt_or_le n left.0)
+          (λ low. inr (left.4, λ tells. (let l = later left.0 image low (omega (arith, left.2)) tells.each left.3 in subst W (sym l.2) (lift tells.each l.0 l.1))))
+          (λ high. inl (left.0, left.1, omega (arith, high), part_for one.other left.0 image (λ part. one.changes.before left.0 part (omega (arith, high))) left.3, left.4))
+          (lt_or_le n left.0)
 
       pub row_stands : RowTells chip row n old → W (flat_map (λ c. chip.bytes c) new)
       row_stands tells = subst W (sym (new_parts one.other (λ c. chip.bytes c))) (lift tells.each (chip.bytes one.is) (one.changes.stands (all_was one.other (λ c. chip.tells c) tells.each)))
@@ -277,9 +286,9 @@ module _ {D : Type 0} (chip : ChipOf D) (row : Numbers) (n place : ℕ) (old new
     pub lift_erase : All (λ c. chip.tells c) old → (part : List ℕ) → InChipErase start unit mark (chip.bytes one.was) (chip.bytes one.is) part
         → InChipErase (place * row.chip_size + start) unit mark (flat_map (λ c. chip.bytes c) old) (flat_map (λ c. chip.bytes c) new) (flat_map (λ c. chip.bytes c) one.other.before ++ (part ++ flat_map (λ c. chip.bytes c) one.other.after))
     lift_erase tells part inside = ⊎_elim
-      (λ half. inl (half_lifted tells part half))
-      (λ stands. inr (ap (λ (l : List ℕ). flat_map (λ c. chip.bytes c) one.other.before ++ (l ++ flat_map (λ c. chip.bytes c) one.other.after)) stands ∙ sym (new_parts one.other (λ c. chip.bytes c))))
-      inside
+        (λ half. inl (half_lifted tells part half))
+        (λ stands. inr (ap (λ (l : List ℕ). flat_map (λ c. chip.bytes c) one.other.before ++ (l ++ flat_map (λ c. chip.bytes c) one.other.after)) stands ∙ sym (new_parts one.other (λ c. chip.bytes c))))
+        inside
 
     -- is an erase in all
     pub erase_done : RowTells chip row n old → OnOk result (flat_map (λ c. chip.bytes c) new ≡ erased (flat_map (λ c. chip.bytes c) old) (place * row.chip_size + start) unit)

@@ -29,17 +29,17 @@ restored old new before at n end outside ends within before_is =
     let room : at + length before ≤ length new = omega (arith, long, ends, within, outside.size) in
     let same : length (put new at before) ≡ length old = put_size new at before room ∙ outside.size in
     ext_get_or 0 (put new at before) old same (λ k inside. ⊎_elim
-      (λ low. get_or-put_before new at before k room low ∙ outside.before k low)
-      (λ high. ⊎_elim
-        (λ in_range. let j : ℕ = k - at in
-          let e : k ≡ at + j = omega (arith, high) in
-          let small : j < length before = omega (arith, e, in_range, long) in
-          ap (λ (i : ℕ). get_or (put new at before) i 0) e ∙ get_or-put_inside new at before j room small
-          ∙ ap (λ (l : List ℕ). get_or l j 0) before_is ∙ get_or-take (end - at) (drop at old) j 0 (omega (arith, small, long, ends)) ∙ get_or-drop at old j 0
-          ∙ sym (ap (λ (i : ℕ). get_or old i 0) e))
-        (λ past. get_or-put_after new at before k room (omega (arith, past, long)) ∙ outside.after k past)
-        (lt_or_le k (at + n)))
-      (lt_or_le k at))
+    (λ low. get_or-put_before new at before k room low ∙ outside.before k low)
+    (λ high. ⊎_elim
+    (λ in_range. let j : ℕ = k - at in
+    let e : k ≡ at + j = omega (arith, high) in
+    let small : j < length before = omega (arith, e, in_range, long) in
+    ap (λ (i : ℕ). get_or (put new at before) i 0) e ∙ get_or-put_inside new at before j room small
+    ∙ ap (λ (l : List ℕ). get_or l j 0) before_is ∙ get_or-take (end - at) (drop at old) j 0 (omega (arith, small, long, ends)) ∙ get_or-drop at old j 0
+    ∙ sym (ap (λ (i : ℕ). get_or old i 0) e))
+    (λ past. get_or-put_after new at before k room (omega (arith, past, long)) ∙ outside.after k past)
+    (lt_or_le k (at + n)))
+    (lt_or_le k at))
 
 -- a finished erase leaves all other bytes
 pub erased_outside : (old : List ℕ) (at n : ℕ) → at + n ≤ length old → SameOutside at n old (erased old at n)
@@ -53,9 +53,9 @@ erased_outside old at n within = record {
 pub erase_outside : (result : Result (Unit {0}) Failed) (old new : List ℕ) (at n : ℕ) (mark : Option Mark) → at + n ≤ length old → OnOk result (new ≡ erased old at n) → OnErr result (HalfErased at n mark old new) → SameOutside at n old new
 erase_outside (Ok done) old new at n mark within whole half = subst (SameOutside at n old) (sym whole) (erased_outside old at n within)
 erase_outside (Err failed) old new at n mark within whole half = ⊎_elim
-  (λ same. subst (SameOutside at n old) (sym same) (record { size = refl; before = λ k below. refl; after = λ k above. refl }))
-  (λ scrambled. scrambled.outside)
-  half
+    (λ same. subst (SameOutside at n old) (sym same) (record { size = refl; before = λ k below. refl; after = λ k above. refl }))
+    (λ scrambled. scrambled.outside)
+    half
 
 -- a byte of a part
 part_at : (pre part post : List ℕ) (k : ℕ) → k < length part → get_or (pre ++ (part ++ post)) (length pre + k) 0 ≡ get_or part k 0
@@ -66,22 +66,22 @@ follows : (old new post : List ℕ) (k : ℕ) → length new ≡ length old → 
 follows old new post k size same = ⊎_elim
     (λ low. get_or_append_left new post 0 k (omega (arith, low, size)) ∙ same ∙ sym (get_or_append_left old post 0 k low))
     (λ high. let m : ℕ = k - length old in
-      let e : k ≡ length old + m = omega (arith, high) in
-      let f : k ≡ length new + m = omega (arith, high, size) in
-      ap (λ (n : ℕ). get_or (new ++ post) n 0) f ∙ get_or-append-add new post m 0 ∙ sym (get_or-append-add old post m 0) ∙ sym (ap (λ (n : ℕ). get_or (old ++ post) n 0) e))
+    let e : k ≡ length old + m = omega (arith, high) in
+    let f : k ≡ length new + m = omega (arith, high, size) in
+    ap (λ (n : ℕ). get_or (new ++ post) n 0) f ∙ get_or-append-add new post m 0 ∙ sym (get_or-append-add old post m 0) ∙ sym (ap (λ (n : ℕ). get_or (old ++ post) n 0) e))
     (lt_or_le k (length old))
 
 module _ (pre post old new : List ℕ) (at n : ℕ) (within : at + n ≤ length old) (outside : SameOutside at n old new) where
   -- a byte of the whole whose place in the part stays
   elsewhere : (k : ℕ) → ((j : ℕ) → k ≡ length pre + j → get_or new j 0 ≡ get_or old j 0) → get_or (pre ++ (new ++ post)) k 0 ≡ get_or (pre ++ (old ++ post)) k 0
   elsewhere k same = ⊎_elim
-    (λ low. get_or_append_left pre (new ++ post) 0 k low ∙ sym (get_or_append_left pre (old ++ post) 0 k low))
-    (λ high. let j : ℕ = k - length pre in
+      (λ low. get_or_append_left pre (new ++ post) 0 k low ∙ sym (get_or_append_left pre (old ++ post) 0 k low))
+      (λ high. let j : ℕ = k - length pre in
       let e : k ≡ length pre + j = omega (arith, high) in
       ap (λ (i : ℕ). get_or (pre ++ (new ++ post)) i 0) e ∙ get_or-append-add pre (new ++ post) j 0
       ∙ follows old new post j outside.size (same j e)
       ∙ sym (get_or-append-add pre (old ++ post) j 0) ∙ sym (ap (λ (i : ℕ). get_or (pre ++ (old ++ post)) i 0) e))
-    (lt_or_le k (length pre))
+      (lt_or_le k (length pre))
 
   -- outside the range in the part all stays in the whole
   pub outside_parts : SameOutside (length pre + at) n (pre ++ (old ++ post)) (pre ++ (new ++ post))
@@ -96,11 +96,11 @@ pub half_parts : (pre post : List ℕ) (at : ℕ) (asked old new : List ℕ) →
 half_parts pre post at asked old new within half = record {
   outside = outside_parts pre post old new at (length asked) within half.outside;
   inside = λ k below.
-    let e : length pre + at + k ≡ length pre + (at + k) = omega arith in
-    let was = ap (λ (i : ℕ). get_or (pre ++ (old ++ post)) i 0) e ∙ part_at pre old post (at + k) (omega (arith, below, within)) in
-    let is = ap (λ (i : ℕ). get_or (pre ++ (new ++ post)) i 0) e ∙ part_at pre new post (at + k) (omega (arith, below, within, half.outside.size)) in
-    subst (λ (b : ℕ). IsBetween b (get_or asked k 0) (get_or (pre ++ (new ++ post)) (length pre + at + k) 0)) (sym was)
-    (subst (λ (b : ℕ). IsBetween (get_or old (at + k) 0) (get_or asked k 0) b) (sym is) (half.inside k below));
+      let e : length pre + at + k ≡ length pre + (at + k) = omega arith in
+      let was = ap (λ (i : ℕ). get_or (pre ++ (old ++ post)) i 0) e ∙ part_at pre old post (at + k) (omega (arith, below, within)) in
+      let is = ap (λ (i : ℕ). get_or (pre ++ (new ++ post)) i 0) e ∙ part_at pre new post (at + k) (omega (arith, below, within, half.outside.size)) in
+      subst (λ (b : ℕ). IsBetween b (get_or asked k 0) (get_or (pre ++ (new ++ post)) (length pre + at + k) 0)) (sym was)
+      (subst (λ (b : ℕ). IsBetween (get_or old (at + k) 0) (get_or asked k 0) b) (sym is) (half.inside k below));
 }
 
 -- a program in a part and what follows
@@ -139,7 +139,6 @@ take_join [] n m = ap (λ (l : List ℕ). l ++ take m (drop n [])) (take_none n)
     drop_none : (k : ℕ) → drop {A = ℕ} k [] ≡ []
     drop_none zero = refl
     drop_none (suc k) = refl
-
 take_join (x ∷ xs) zero m = ap (λ (k : ℕ). take k (x ∷ xs)) (omega arith)
 take_join (x ∷ xs) (suc n) m =
     let e : suc n + m ≡ suc (n + m) = omega arith in
@@ -204,17 +203,18 @@ erased_parts pre post old at n within =
     ∙ append_assoc (pre ++ take at old) (replicate n 255) (drop (at + n) old ++ post)
     ∙ append_assoc pre (take at old) (replicate n 255 ++ (drop (at + n) old ++ post))
     ∙ ap (λ (l : List ℕ). pre ++ l) (sym (append_assoc (take at old) (replicate n 255) (drop (at + n) old ++ post)) ∙ sym (append_assoc (take at old ++ replicate n 255) (drop (at + n) old) post))
+
 abbrev AllBelow : List ℕ → Type 0
 AllBelow l = (k : ℕ) → get_or l k 0 < 256
 
 -- bytes below 256 end to end
 pub below_append : (xs ys : List ℕ) → AllBelow xs → AllBelow ys → AllBelow (xs ++ ys)
 below_append xs ys first second = λ k. ⊎_elim
-  (λ low. subst (λ (b : ℕ). b < 256) (sym (get_or_append_left xs ys 0 k low)) (first k))
-  (λ high. let m : ℕ = k - length xs in
+    (λ low. subst (λ (b : ℕ). b < 256) (sym (get_or_append_left xs ys 0 k low)) (first k))
+    (λ high. let m : ℕ = k - length xs in
     let e : k ≡ length xs + m = omega (arith, high) in
     subst (λ (b : ℕ). b < 256) (sym (ap (λ (i : ℕ). get_or (xs ++ ys) i 0) e ∙ get_or-append-add xs ys m 0)) (second m))
-  (lt_or_le k (length xs))
+    (lt_or_le k (length xs))
 
 -- a part without its mark, in the whole
 unmarked_parts : (mark : Option Mark) (pre part post : List ℕ) (at n : ℕ) → ForSome mark (λ m. m.at + 2 ≤ n) → at + n ≤ length part → Unmarked at mark part → Unmarked (length pre + at) mark (pre ++ (part ++ post))
@@ -230,13 +230,13 @@ unmarked_parts (Some mark) pre part post at n marked within none = λ again.
 -- a part that is half erased, in the whole
 pub half_erased_parts : (mark : Option Mark) (pre post old new : List ℕ) (at n : ℕ) → ForSome mark (λ m. m.at + 2 ≤ n) → at + n ≤ length old → AllBelow pre → AllBelow post → HalfErased at n mark old new → HalfErased (length pre + at) n mark (pre ++ (old ++ post)) (pre ++ (new ++ post))
 half_erased_parts mark pre post old new at n marked within below_pre below_post half = ⊎_elim
-  (λ same. inl (ap (λ (l : List ℕ). pre ++ (l ++ post)) same))
-  (λ scrambled. inr (record {
-    outside = outside_parts pre post old new at n within scrambled.outside;
-    bytes = below_append pre (new ++ post) below_pre (below_append new post scrambled.bytes below_post);
-    unmarked = unmarked_parts mark pre new post at n marked (omega (arith, within, scrambled.outside.size)) scrambled.unmarked;
-  }))
-  half
+    (λ same. inl (ap (λ (l : List ℕ). pre ++ (l ++ post)) same))
+    (λ scrambled. inr (record {
+      outside = outside_parts pre post old new at n within scrambled.outside;
+      bytes = below_append pre (new ++ post) below_pre (below_append new post scrambled.bytes below_post);
+      unmarked = unmarked_parts mark pre new post at n marked (omega (arith, within, scrambled.outside.size)) scrambled.unmarked;
+    }))
+    half
 
 -- a program goes on after its first bytes, and is half done
 pub half_on : (at n m : ℕ) (from old mid image : List ℕ) → n + m ≤ length from → HalfProgrammed at (take n from) old mid → HalfProgrammed (at + n) (take m (drop n from)) mid image → HalfProgrammed at (take (n + m) from) old image
@@ -247,10 +247,10 @@ half_on at n m from old mid image fits first second = record {
     after = λ k above. second.outside.after k (omega (arith, above, len_b, len_ab)) ∙ first.outside.after k (omega (arith, above, len_a, len_ab));
   };
   inside = λ k within. ⊎_elim
-    (λ low. let a : get_or (take (n + m) from) k 0 ≡ get_or (take n from) k 0 = get_or-take (n + m) from k 0 (omega (arith, low)) ∙ sym (get_or-take n from k 0 low) in
+      (λ low. let a : get_or (take (n + m) from) k 0 ≡ get_or (take n from) k 0 = get_or-take (n + m) from k 0 (omega (arith, low)) ∙ sym (get_or-take n from k 0 low) in
       let b = second.outside.before (at + k) (omega (arith, low)) in
       rw a (rw b (first.inside k (omega (arith, low, len_a)))))
-    (λ high. let j : ℕ = k - n in
+      (λ high. let j : ℕ = k - n in
       let e : k ≡ n + j = omega (arith, high) in
       let small : j < m = omega (arith, within, len_ab, e) in
       let a : get_or (take (n + m) from) k 0 ≡ get_or (take m (drop n from)) j 0 = get_or-take (n + m) from k 0 (omega (arith, within, len_ab)) ∙ ap (λ (i : ℕ). get_or from i 0) e ∙ sym (get_or-drop n from j 0) ∙ sym (get_or-take m (drop n from) j 0 small) in
@@ -258,12 +258,14 @@ half_on at n m from old mid image fits first second = record {
       let b : get_or old (at + k) 0 ≡ get_or mid (at + n + j) 0 = ap (λ (i : ℕ). get_or old i 0) f ∙ sym (first.outside.after (at + n + j) (omega (arith, len_a))) in
       let d : get_or image (at + k) 0 ≡ get_or image (at + n + j) 0 = ap (λ (i : ℕ). get_or image i 0) f in
       rw a (rw b (rw d (second.inside j (omega (arith, small, len_b))))))
-    (lt_or_le k n);
+      (lt_or_le k n);
 } where
   len_a : length (take n from) ≡ n
   len_a = omega (arith, length-take n from, fits)
+
   len_b : length (take m (drop n from)) ≡ m
   len_b = omega (arith, length-take m (drop n from), length-drop n from, fits)
+
   len_ab : length (take (n + m) from) ≡ n + m
   len_ab = omega (arith, length-take (n + m) from, fits)
 
@@ -283,13 +285,13 @@ pub below_program : (at : ℕ) (asked old new : List ℕ) → HalfProgrammed at 
 below_program at asked old new half below = λ k. ⊎_elim
     (λ low. subst (λ (b : ℕ). b < 256) (sym (half.outside.before k low)) (below k))
     (λ high. ⊎_elim
-      (λ inside. let j : ℕ = k - at in
-        let e : k ≡ at + j = omega (arith, high) in
-        let cleared = (half.inside j (omega (arith, e, inside))).cleared in
-        let less = and_le_r (get_or new (at + j) 0) (get_or old (at + j) 0) in
-        subst (λ (i : ℕ). get_or new i 0 < 256) (sym e) (omega (arith, cleared, less, below (at + j))))
-      (λ past. subst (λ (b : ℕ). b < 256) (sym (half.outside.after k past)) (below k))
-      (lt_or_le k (at + length asked)))
+    (λ inside. let j : ℕ = k - at in
+    let e : k ≡ at + j = omega (arith, high) in
+    let cleared = (half.inside j (omega (arith, e, inside))).cleared in
+    let less = and_le_r (get_or new (at + j) 0) (get_or old (at + j) 0) in
+    subst (λ (i : ℕ). get_or new i 0 < 256) (sym e) (omega (arith, cleared, less, below (at + j))))
+    (λ past. subst (λ (b : ℕ). b < 256) (sym (half.outside.after k past)) (below k))
+    (lt_or_le k (at + length asked)))
     (lt_or_le k at)
 
 -- what a finished erase leaves is below 256
@@ -297,9 +299,9 @@ below_erased : (old : List ℕ) (at n : ℕ) → at + n ≤ length old → AllBe
 below_erased old at n within below = λ k. ⊎_elim
     (λ low. subst (λ (b : ℕ). b < 256) (sym ((erased_outside old at n within).before k low)) (below k))
     (λ high. ⊎_elim
-      (λ inside. let is : get_or (erased old at n) k 0 ≡ 255 = grind (arith, common_steps) in omega (arith, is))
-      (λ past. subst (λ (b : ℕ). b < 256) (sym ((erased_outside old at n within).after k past)) (below k))
-      (lt_or_le k (at + n)))
+    (λ inside. let is : get_or (erased old at n) k 0 ≡ 255 = grind (arith, common_steps) in omega (arith, is))
+    (λ past. subst (λ (b : ℕ). b < 256) (sym ((erased_outside old at n within).after k past)) (below k))
+    (lt_or_le k (at + n)))
     (lt_or_le k at)
 
 -- what an erase leaves is below 256, finished or not

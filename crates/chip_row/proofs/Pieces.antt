@@ -29,9 +29,9 @@ piece_of at done len size m some below more m_is =
       within = omega (arith, m_is, more);
       place = place;
       goes_on = ⊎_elim
-        (λ short. inr (omega (arith, m_is, short, below, place)))
-        (λ rest. inl (omega (arith, m_is, rest, below, more)))
-        (lt_or_le (size - (at + done) % size) (len - done));
+          (λ short. inr (omega (arith, m_is, short, below, place)))
+          (λ rest. inl (omega (arith, m_is, rest, below, more)))
+          (lt_or_le (size - (at + done) % size) (len - done));
     }
 
 -- how far a range has come: at its start, at its end, or at the beginning of a chip
@@ -54,9 +54,9 @@ module _ (size at done len m i : ℕ) (i_is : i ≡ (at + done) / size) (p : Pie
   others_next old mid new before others = λ k where_it_is.
       (let start : i * size ≡ (at + done) / size * size = ap (λ (j : ℕ). j * size) i_is in
       let else_where : k ≢ i = λ is. (let same : k * size ≡ i * size = ap (λ (j : ℕ). j * size) is in
-        ⊎_elim (λ none. absurd (omega (arith, none, p.some)))
-        (⊎_elim (λ low. absurd (omega (arith, low, same, start, p.place, p.fits, p.some))) (λ high. absurd (omega (arith, high, same, start, p.place, p.some)))) where_it_is) in
-      others k else_where ∙ before k (⊎_elim (λ none. absurd (omega (arith, none, p.some))) (⊎_elim (λ low. inr (inl low)) (λ high. inr (inr (omega (arith, high)))) ) where_it_is))
+      ⊎_elim (λ none. absurd (omega (arith, none, p.some)))
+      (⊎_elim (λ low. absurd (omega (arith, low, same, start, p.place, p.fits, p.some))) (λ high. absurd (omega (arith, high, same, start, p.place, p.some)))) where_it_is) in
+      others k else_where ∙ before k (⊎_elim (λ none. absurd (omega (arith, none, p.some))) (⊎_elim (λ low. inr (inl low)) (λ high. inr (inr (omega (arith, high))))) where_it_is))
 
   -- the chip where the range goes on is as it was at first
   pub not_yet : {D : Type 0} (old mid : List D) → done < len → 0 < size → AtChip at done len size → OthersSoFar size at done old mid → slice_get mid i ≡ slice_get old i
@@ -69,12 +69,12 @@ module _ (size at done len m i : ℕ) (i_is : i ≡ (at + done) / size) (p : Pie
     where
       starts : (k : ℕ) → at + done ≡ k * size → at + done ≤ i * size
       starts k is = ⊎_elim
-        (λ less. (let up : i + 1 ≤ k = omega (arith, less) in
+          (λ less. (let up : i + 1 ≤ k = omega (arith, less) in
           let over = mul-le-mul_left size up in
           let start : i * size ≡ (at + done) / size * size = ap (λ (j : ℕ). j * size) i_is in
           absurd (omega (arith, over, is, start, p.place, p.fits, p.some))))
-        (λ more_it. (let over = mul-le-mul_left size more_it in omega (arith, over, is)))
-        (lt_or_le i k)
+          (λ more_it. (let over = mul-le-mul_left size more_it in omega (arith, over, is)))
+          (lt_or_le i k)
 
 -- at first the range stands at its start
 pub at_start : (at len size : ℕ) → AtChip at 0 len size
@@ -99,9 +99,9 @@ module _ {D : Type 0} (chip : ChipOf D) where
   -- what a call of one chip is blamed for, seen from the start
   pub blamed_from : (i : ℕ) (old mid new : List D) (fuse_old fuse_mid fuse_new : Option ℕ) (Stuck Since : Type 0) → slice_get mid i ≡ slice_get old i → fuse_mid ≡ fuse_old → (Stuck → Since) → BlamedAt chip i mid new fuse_mid fuse_new Stuck → Blamed chip old new fuse_old fuse_new Since
   blamed_from i old mid new fuse_old fuse_mid fuse_new Stuck Since same fuse goes blamed = ⊎_elim
-    (λ rose. inl (i, record { was = rose.0.was; is = rose.0.is; old_is = sym same ∙ rose.0.old_is; new_is = rose.0.new_is; rose = rose.0.rose }, rose.1))
-    (λ stuck. inr (stuck.0 ∙ fuse, goes stuck.1))
-    blamed
+      (λ rose. inl (i, record { was = rose.0.was; is = rose.0.is; old_is = sym same ∙ rose.0.old_is; new_is = rose.0.new_is; rose = rose.0.rose }, rose.1))
+      (λ stuck. inr (stuck.0 ∙ fuse, goes stuck.1))
+      blamed
 
 module _ {D : Type 0} (chip : ChipOf D) where
   -- a call of one chip that is blamed

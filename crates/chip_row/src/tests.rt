@@ -86,8 +86,24 @@ fn a_row_is_read_and_programmed_across_its_boundaries(rt: HostRuntime) -> Result
     assert_eq!(rt; (row.size(), row.unit()), (48, 8));
     assert!(rt; programs(&mut row, 14, &[1, 2, 3]));
     assert!(rt; holds(&mut row, 13, &[0xff, 1, 2, 3, 0xff]));
-    assert!(rt; programs(&mut row, 15, &[0, 4, 5, 6, 7, 8, 9, 10, 11, 12, 13, 14, 15, 16, 17, 18, 19, 20]));
-    assert!(rt; holds(&mut row, 14, &[1, 0, 0, 5, 6, 7, 8, 9, 10, 11, 12, 13, 14, 15, 16, 17, 18, 19, 20, 0xff]));
+    assert!(rt;
+        programs(
+            &mut row,
+            15,
+            &[
+                0, 4, 5, 6, 7, 8, 9, 10, 11, 12, 13, 14, 15, 16, 17, 18, 19, 20
+            ]
+        )
+    );
+    assert!(rt;
+        holds(
+            &mut row,
+            14,
+            &[
+                1, 0, 0, 5, 6, 7, 8, 9, 10, 11, 12, 13, 14, 15, 16, 17, 18, 19, 20, 0xff
+            ]
+        )
+    );
     assert!(rt; row.fuse_chip().is_none());
     Ok(())
 }
@@ -103,8 +119,20 @@ fn an_erase_lies_in_one_chip(rt: HostRuntime) -> Result<(), Fail> {
     };
     assert!(rt; erases(&mut row, 2, Some(mark)));
     assert!(rt; erases(&mut row, 5, None));
-    assert!(rt; holds(&mut row, 15, &[0, 0xff, 0xff, 0xff, 0xff, 0xff, 0xff, 0xff, 0xff, 0]));
-    assert!(rt; holds(&mut row, 39, &[0, 0xff, 0xff, 0xff, 0xff, 0xff, 0xff, 0xff, 0xff]));
+    assert!(rt;
+        holds(
+            &mut row,
+            15,
+            &[0, 0xff, 0xff, 0xff, 0xff, 0xff, 0xff, 0xff, 0xff, 0]
+        )
+    );
+    assert!(rt;
+        holds(
+            &mut row,
+            39,
+            &[0, 0xff, 0xff, 0xff, 0xff, 0xff, 0xff, 0xff, 0xff]
+        )
+    );
     Ok(())
 }
 
@@ -174,11 +202,23 @@ fn what_a_chip_was_cut_in_is_between(rt: HostRuntime) -> Result<(), Fail> {
 fn chips_that_make_no_row_are_refused(rt: HostRuntime) -> Result<(), Fail> {
     let none: Vec<MemChip> = Vec::new(rt.alloc());
     assert_eq!(rt; ChipRow::new(none, 16, 8).err(), Some(RowErr::NoSuchChip));
-    for (size, unit) in [(16, 0), (0, 8), (16, 5), (16, 4), (8, 8), (0x8000_0000, 8), (12, 8)] {
+    for (size, unit) in [
+        (16, 0),
+        (0, 8),
+        (16, 5),
+        (16, 4),
+        (8, 8),
+        (0x8000_0000, 8),
+        (12, 8),
+    ] {
         let mut chips = Vec::new(rt.alloc());
         chips.push(chip_of(rt.alloc(), 0xff)?)?;
         chips.push(chip_of(rt.alloc(), 0xff)?)?;
-        assert_eq!(rt; ChipRow::new(chips, size, unit).err(), Some(RowErr::WrongSize), "{size} {unit}");
+        assert_eq!(rt;
+            ChipRow::new(chips, size, unit).err(),
+            Some(RowErr::WrongSize),
+            "{size} {unit}"
+        );
     }
     Ok(())
 }

@@ -24,10 +24,13 @@ module _ (first : Bool) (name piece : List ℕ) (i : ℕ) (old new : List MemFil
       let named : files_of new ≡ set (files_of old) i (record { name = name; bytes = bytes_before first (bytes_at (files_of old) i) ++ piece }) = done ∙ ap (λ (n : List ℕ). set (files_of old) i (record { name = n; bytes = bytes_before first (bytes_at (files_of old) i) ++ piece })) found.here in
       let long : length (bytes_before first (bytes_at (files_of old) i) ++ piece) ≡ size_before first (size_at (entries_of (files_of old)) i) + length piece = length-append (bytes_before first (bytes_at (files_of old) i)) piece ∙ ap (λ (n : ℕ). n + length piece) (length-before first (bytes_at (files_of old) i) ∙ ap (λ (n : ℕ). size_before first n) size_of) in
       record {
-        entries = inl (i, record {
-          is_first = found;
-          new_is = ap (λ (l : List File). entries_of l) named ∙ map-set entry_of (files_of old) i (record { name = name; bytes = bytes_before first (bytes_at (files_of old) i) ++ piece }) ∙ ap (λ (n : ℕ). set (entries_of (files_of old)) i (record { name = name; size = n })) long;
-        });
+        entries = inl (
+          i,
+          record {
+            is_first = found;
+            new_is = ap (λ (l : List File). entries_of l) named ∙ map-set entry_of (files_of old) i (record { name = name; bytes = bytes_before first (bytes_at (files_of old) i) ++ piece }) ∙ ap (λ (n : ℕ). set (entries_of (files_of old)) i (record { name = name; size = n })) long;
+          },
+        );
         files = inl (i, record { is_first = found; new_is = named });
       }
 

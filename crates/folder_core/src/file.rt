@@ -92,31 +92,25 @@ fn append(bytes: &mut Vec<u8>, first: bool, piece: &[u8]) -> Result<(), Failed>
 
 // Appends a piece to file `i`, which is emptied before where this is the first piece. Without memory for it nothing of
 // the piece is appended.
-fn append_to(
-    files: &mut Vec<MemFile>,
-    i: usize,
-    first: bool,
-    piece: &[u8],
-) -> Result<(), Failed>
+fn append_to(files: &mut Vec<MemFile>, i: usize, first: bool, piece: &[u8]) -> Result<(), Failed>
     requires { i < length files.old.items }
     ensures done { let was = files_of files.old.items in OnOk result (files_of files.new.items ≡
-        slice_set was i (record { name = name_at (entries_of was) i;
-        bytes = bytes_before first (bytes_at was i) ++ piece.now })) }
+        slice_set was i (record {
+          name = name_at (entries_of was) i;
+          bytes = bytes_before first (bytes_at was i) ++ piece.now;
+        })) }
     ensures half { let was = files_of files.old.items in OnErr result (files_of files.new.items ≡
-        slice_set was i (record { name = name_at (entries_of was) i;
-        bytes = bytes_before first (bytes_at was i) })) }
+        slice_set was i (record {
+          name = name_at (entries_of was) i;
+          bytes = bytes_before first (bytes_at was i);
+        })) }
     ensures length { length files.new.items ≡ length files.old.items }
 {
     append(&mut files[i].bytes, first, piece)
 }
 
 // Makes the last file, unless it were file number 2^32.
-fn make(
-    alloc: Global,
-    files: &mut Vec<MemFile>,
-    name: &[u8],
-    piece: &[u8],
-) -> Result<(), Failed>
+fn make(alloc: Global, files: &mut Vec<MemFile>, name: &[u8], piece: &[u8]) -> Result<(), Failed>
     requires { length files.old.items < 2 ^ 32 }
     ensures done { OnOk result (files_of files.new.items ≡ files_of files.old.items ++
         record { name = name.now; bytes = piece.now } ∷ []) }

@@ -16,11 +16,12 @@ returns-clause-one g c =
       is = c.erase.new.self;
       other = s.other;
       changes = subst (λ u. ChipChanges g.C.ChipState c.args.now s.was c.erase.new.self (InChipErase (c.args.unit_ix * u) u c.args.mark (g.C.ChipState.bytes s.was) (g.C.ChipState.bytes c.erase.new.self))) unit
-        (subst (λ d. ChipChanges g.C.ChipState c.args.now d c.erase.new.self (InChipErase (c.args.unit_ix * g.C.ChipState.unit d) (g.C.ChipState.unit d) c.args.mark (g.C.ChipState.bytes d) (g.C.ChipState.bytes c.erase.new.self))) same c.erase.ensures.changes);
-      done = λ tells.
-        (subst (λ u. OnOk c.erase.result (g.C.ChipState.bytes c.erase.new.self ≡ erased (g.C.ChipState.bytes s.was) (c.args.unit_ix * u) u)) unit
-          (subst (λ d. g.C.ChipState.tells d → OnOk c.erase.result (g.C.ChipState.bytes c.erase.new.self ≡ erased (g.C.ChipState.bytes d) (c.args.unit_ix * g.C.ChipState.unit d) (g.C.ChipState.unit d))) same c.erase.ensures.done tells),
+          (subst (λ d. ChipChanges g.C.ChipState c.args.now d c.erase.new.self (InChipErase (c.args.unit_ix * g.C.ChipState.unit d) (g.C.ChipState.unit d) c.args.mark (g.C.ChipState.bytes d) (g.C.ChipState.bytes c.erase.new.self))) same c.erase.ensures.changes);
+      done = λ tells. (
+        subst (λ u. OnOk c.erase.result (g.C.ChipState.bytes c.erase.new.self ≡ erased (g.C.ChipState.bytes s.was) (c.args.unit_ix * u) u)) unit
+            (subst (λ d. g.C.ChipState.tells d → OnOk c.erase.result (g.C.ChipState.bytes c.erase.new.self ≡ erased (g.C.ChipState.bytes d) (c.args.unit_ix * g.C.ChipState.unit d) (g.C.ChipState.unit d))) same c.erase.ensures.done tells),
         subst (λ u. OnErr c.erase.result (HalfErased (c.args.unit_ix * u) u c.args.mark (g.C.ChipState.bytes s.was) (g.C.ChipState.bytes c.erase.new.self))) unit
-          (subst (λ d. g.C.ChipState.tells d → OnErr c.erase.result (HalfErased (c.args.unit_ix * g.C.ChipState.unit d) (g.C.ChipState.unit d) c.args.mark (g.C.ChipState.bytes d) (g.C.ChipState.bytes c.erase.new.self))) same c.erase.ensures.half tells));
+            (subst (λ d. g.C.ChipState.tells d → OnErr c.erase.result (HalfErased (c.args.unit_ix * g.C.ChipState.unit d) (g.C.ChipState.unit d) c.args.mark (g.C.ChipState.bytes d) (g.C.ChipState.bytes c.erase.new.self))) same c.erase.ensures.half tells),
+      );
       cause = subst (λ d. OnErr c.erase.result (Rose (g.C.ChipState.faults d) (g.C.ChipState.faults c.erase.new.self))) same c.erase.ensures.cause;
     }

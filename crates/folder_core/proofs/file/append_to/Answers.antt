@@ -15,9 +15,9 @@ returns-clause-done c =
     let name = ap (λ (f : MemFile). f.name.items) c.index_mut.ensures.value ∙ sym (name_is items i was c.requires) in
     let bytes = ap (λ (f : MemFile). f.bytes.items) c.index_mut.ensures.value ∙ sym (bytes_is items i was c.requires) in
     on_ok c.append.result (λ done.
-      map-set file_of items i (record { name = was.name; bytes = c.append.new.bytes })
-      ∙ ap (λ (l : List ℕ). set (files_of items) i (record { name = l; bytes = c.append.new.bytes.items })) name
-      ∙ ap (λ (l : List ℕ). set (files_of items) i (record { name = name_at (entries_of (files_of items)) i; bytes = l })) (done ∙ ap (λ (l : List ℕ). bytes_before c.args.first l ++ c.args.piece.now) bytes)) c.append.ensures.done
+    map-set file_of items i (record { name = was.name; bytes = c.append.new.bytes })
+    ∙ ap (λ (l : List ℕ). set (files_of items) i (record { name = l; bytes = c.append.new.bytes.items })) name
+    ∙ ap (λ (l : List ℕ). set (files_of items) i (record { name = name_at (entries_of (files_of items)) i; bytes = l })) (done ∙ ap (λ (l : List ℕ). bytes_before c.args.first l ++ c.args.piece.now) bytes)) c.append.ensures.done
 
 pub returns-clause-half : goal.returns-clause-half
 returns-clause-half c =
@@ -27,6 +27,6 @@ returns-clause-half c =
     let name = ap (λ (f : MemFile). f.name.items) c.index_mut.ensures.value ∙ sym (name_is items i was c.requires) in
     let bytes = ap (λ (f : MemFile). f.bytes.items) c.index_mut.ensures.value ∙ sym (bytes_is items i was c.requires) in
     on_err c.append.result (λ half.
-      map-set file_of items i (record { name = was.name; bytes = c.append.new.bytes })
-      ∙ ap (λ (l : List ℕ). set (files_of items) i (record { name = l; bytes = c.append.new.bytes.items })) name
-      ∙ ap (λ (l : List ℕ). set (files_of items) i (record { name = name_at (entries_of (files_of items)) i; bytes = l })) (half ∙ ap (λ (l : List ℕ). bytes_before c.args.first l) bytes)) c.append.ensures.half
+    map-set file_of items i (record { name = was.name; bytes = c.append.new.bytes })
+    ∙ ap (λ (l : List ℕ). set (files_of items) i (record { name = l; bytes = c.append.new.bytes.items })) name
+    ∙ ap (λ (l : List ℕ). set (files_of items) i (record { name = name_at (entries_of (files_of items)) i; bytes = l })) (half ∙ ap (λ (l : List ℕ). bytes_before c.args.first l) bytes)) c.append.ensures.half

@@ -12,5 +12,8 @@ pub returns-in-Some-clause-half : goal.returns-in-Some-clause-half
 returns-in-Some-clause-half c = on_err c.append_to.result (λ half.
     (let was = files_of c.args.files.now.items in
     let kept = bytes_before c.args.first (bytes_at was c.in-Some.i) in
-    inr (0, puts_at c.args.first c.args.name.now [] c.in-Some.i c.args.files.now.items _ c.in-Some.ensures.found
-      (half ∙ ap (λ (l : List ℕ). set was c.in-Some.i (record { name = name_at (entries_of was) c.in-Some.i; bytes = l })) (sym (append-nil kept)))))) c.append_to.ensures.half
+    inr (
+      0,
+      puts_at c.args.first c.args.name.now [] c.in-Some.i c.args.files.now.items _ c.in-Some.ensures.found
+          (half ∙ ap (λ (l : List ℕ). set was c.in-Some.i (record { name = name_at (entries_of was) c.in-Some.i; bytes = l })) (sym (append-nil kept))),
+    ))) c.append_to.ensures.half

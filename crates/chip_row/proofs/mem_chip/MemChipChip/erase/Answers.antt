@@ -30,7 +30,7 @@ returns-clause-changes c =
     let within = unit_within _ _ _ c.args.self.now.board.unit_is c.args.self.now.board.whole c.requires.inside in
     let outside = erase_outside _ _ _ _ _ _ within done.done done.half in
     chip_called _ _ _ _ _ c.args.self.now _ c.requires.later outside within done.noted done.unit faults done.reads refl
-      (λ asked image is inside. inl (in_erase asked _ _ _ _ image is inside)) (inl (inl refl)) (inr refl)
+    (λ asked image is inside. inl (in_erase asked _ _ _ _ image is inside)) (inl (inl refl)) (inr refl)
 
 pub returns-clause-honest : goal.returns-clause-honest
 returns-clause-honest c = honest_chip _

@@ -16,7 +16,7 @@ returns-clause-changes c =
     let done = c.program_noted-answer.ensures in
     let faults : c.args.self.now.faults ≤ c.faults_after-self.result = c.faults_after-self.ensures.never_falls in
     chip_called _ _ _ _ _ c.args.self.now _ c.requires.later done.half.outside c.requires.inside done.noted done.unit faults done.reads refl
-      (λ asked image is inside. in_program asked _ _ _ _ image is inside) (half_none _ _ _) done.half
+    (λ asked image is inside. in_program asked _ _ _ _ image is inside) (half_none _ _ _) done.half
 
 pub returns-clause-honest : goal.returns-clause-honest
 returns-clause-honest c = honest_chip _

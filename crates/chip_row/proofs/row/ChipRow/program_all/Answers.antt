@@ -52,15 +52,15 @@ loop-done-preserved g c =
     let long : length (take done from) ≡ done = omega (arith, length-take done from, piece.within) in
     record {
       changes = go_to inv.changes call.changes
-        (λ tells image half. half_wider at done m from _ image piece.within half)
-        (λ tells image first second. (half_on at done m from _ (nor.bytes mid) image piece.within first (subst (λ (k : ℕ). HalfProgrammed k (take m (drop done from)) (nor.bytes mid) image) e (subst (λ (k : ℕ). HalfProgrammed (i * mid.numbers.chip_size + r) (take k (drop done from)) (nor.bytes mid) image) f second))));
+          (λ tells image half. half_wider at done m from _ image piece.within half)
+          (λ tells image first second. (half_on at done m from _ (nor.bytes mid) image piece.within first (subst (λ (k : ℕ). HalfProgrammed k (take m (drop done from)) (nor.bytes mid) image) e (subst (λ (k : ℕ). HalfProgrammed (i * mid.numbers.chip_size + r) (take k (drop done from)) (nor.bytes mid) image) f second))));
       bytes = λ tells.
-        call.done (inv.changes.cuts.told tells)
-        ∙ ap (λ (l : List ℕ). programmed l (i * mid.numbers.chip_size + r) (take (done + m - done) (drop done from))) (inv.bytes tells)
-        ∙ ap (λ (k : ℕ). programmed (programmed (nor.bytes was) at (take done from)) k (take (done + m - done) (drop done from))) (e ∙ ap (λ (k : ℕ). at + k) (sym long))
-        ∙ ap (λ (k : ℕ). programmed (programmed (nor.bytes was) at (take done from)) (at + length (take done from)) (take k (drop done from))) f
-        ∙ programmed_on (nor.bytes was) (take done from) (take m (drop done from)) at
-        ∙ ap (λ (l : List ℕ). programmed (nor.bytes was) at l) (take_join from done m);
+          call.done (inv.changes.cuts.told tells)
+          ∙ ap (λ (l : List ℕ). programmed l (i * mid.numbers.chip_size + r) (take (done + m - done) (drop done from))) (inv.bytes tells)
+          ∙ ap (λ (k : ℕ). programmed (programmed (nor.bytes was) at (take done from)) k (take (done + m - done) (drop done from))) (e ∙ ap (λ (k : ℕ). at + k) (sym long))
+          ∙ ap (λ (k : ℕ). programmed (programmed (nor.bytes was) at (take done from)) (at + length (take done from)) (take k (drop done from))) f
+          ∙ programmed_on (nor.bytes was) (take done from) (take m (drop done from)) at
+          ∙ ap (λ (l : List ℕ). programmed (nor.bytes was) at l) (take_join from done m);
       within = piece.within;
       at_chip = at_chip_next size at done (length from) m i refl piece;
       numbers = call.numbers ∙ inv.numbers;
@@ -92,8 +92,8 @@ returns-in_err-program_in-clause-changes g c =
     let e : i * mid.numbers.chip_size + r ≡ at + done = ap (λ (k : ℕ). i * k + r) mid_size ∙ piece.place in
     let f : done + m - done ≡ m = omega arith in
     go_to inv.changes c.program_in.ensures.changes
-      (λ tells image half. half_all at done from _ image (omega (arith, more)) half)
-      (λ tells image first second. half_all at (done + m) from _ image piece.within (half_on at done m from _ (nor.bytes mid) image piece.within first (subst (λ (k : ℕ). HalfProgrammed k (take m (drop done from)) (nor.bytes mid) image) e (subst (λ (k : ℕ). HalfProgrammed (i * mid.numbers.chip_size + r) (take k (drop done from)) (nor.bytes mid) image) f second))))
+    (λ tells image half. half_all at done from _ image (omega (arith, more)) half)
+    (λ tells image first second. half_all at (done + m) from _ image piece.within (half_on at done m from _ (nor.bytes mid) image piece.within first (subst (λ (k : ℕ). HalfProgrammed k (take m (drop done from)) (nor.bytes mid) image) e (subst (λ (k : ℕ). HalfProgrammed (i * mid.numbers.chip_size + r) (take k (drop done from)) (nor.bytes mid) image) f second))))
 
 pub returns-in_err-program_in-clause-others : goal.returns-in_err-program_in-clause-others
 returns-in_err-program_in-clause-others g c =
@@ -136,9 +136,9 @@ returns-in_err-program_in-clause-blamed g c =
     let e : i * mid.numbers.chip_size + r ≡ at + done = ap (λ (k : ℕ). i * k + r) mid_size ∙ piece.place in
     let f : done + m - done ≡ m = omega arith in
     on_any _ (blamed_from g.C.ChipState i was.chips.items mid.chips.items c.program_in.new.self.chips.items was.fuse mid.fuse c.program_in.new.self.fuse
-      ((c.program_in.new.self.moment ≡ last_count) ⊎ (AllFit g.C.ChipState mid.numbers mid.moment mid.chips.items → ⊥)) ((c.program_in.new.self.moment ≡ last_count) ⊎ (AllFit g.C.ChipState was.numbers was.moment was.chips.items → ⊥))
-      (not_yet size at done (length from) m i refl piece was.chips.items mid.chips.items more was.numbers.some_bytes inv.at_chip inv.others) inv.fuse
-      (λ stuck. ⊎_elim (λ last. inl last) (λ none. inr (λ fit. none (inv.sound fit))) stuck) c.in_err-program_in.ensures.blamed)
+    ((c.program_in.new.self.moment ≡ last_count) ⊎ (AllFit g.C.ChipState mid.numbers mid.moment mid.chips.items → ⊥)) ((c.program_in.new.self.moment ≡ last_count) ⊎ (AllFit g.C.ChipState was.numbers was.moment was.chips.items → ⊥))
+    (not_yet size at done (length from) m i refl piece was.chips.items mid.chips.items more was.numbers.some_bytes inv.at_chip inv.others) inv.fuse
+    (λ stuck. ⊎_elim (λ last. inl last) (λ none. inr (λ fit. none (inv.sound fit))) stuck) c.in_err-program_in.ensures.blamed)
 
 pub returns-clause-others : goal.returns-clause-others
 returns-clause-others g c = others_end _ _ _ _ _ _ c.loop-done.invariant.within c.loop-done.invariant.others

@@ -24,5 +24,5 @@ invariant-loop-done g l =
       reads : l.self.reads ≡ was.reads;
       writes : l.self.writes ≡ was.writes;
       faults : l.self.faults ≡ was.faults;
-      fuse : l.self.fuse ≡ was.fuse
+      fuse : l.self.fuse ≡ was.fuse;
     }

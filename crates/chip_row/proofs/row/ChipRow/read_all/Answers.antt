@@ -55,14 +55,14 @@ loop-done-preserved g c =
       only_reads = reads_then inv.only_reads call.only_reads;
       size = omega (arith, length-append (take done old) (ys ++ drop (done + m - done) (drop done old)), length-append ys (drop (done + m - done) (drop done old)), length-drop (done + m - done) (drop done old), length-drop done old, length-take done old, long, f, inv.size, piece.within);
       read = λ tells. (
-        let read : ys ≡ slice_range (nor.bytes mid) (i * mid.numbers.chip_size + r) (i * mid.numbers.chip_size + r + length (take (done + m - done) (drop done old))) = call.read (inv.only_reads.told tells) in
-        take-put_mid done (done + m - done) old ys (done + m) (omega (arith, long)) (omega (arith, inv.size, piece.within))
-        ∙ ap (λ (l : List ℕ). l ++ ys) (inv.read tells)
-        ∙ ap (λ (l : List ℕ). slice_range (nor.bytes was) at (at + done) ++ l) (read
+          let read : ys ≡ slice_range (nor.bytes mid) (i * mid.numbers.chip_size + r) (i * mid.numbers.chip_size + r + length (take (done + m - done) (drop done old))) = call.read (inv.only_reads.told tells) in
+          take-put_mid done (done + m - done) old ys (done + m) (omega (arith, long)) (omega (arith, inv.size, piece.within))
+          ∙ ap (λ (l : List ℕ). l ++ ys) (inv.read tells)
+          ∙ ap (λ (l : List ℕ). slice_range (nor.bytes was) at (at + done) ++ l) (read
           ∙ ap (λ (l : List ℕ). slice_range l (i * mid.numbers.chip_size + r) (i * mid.numbers.chip_size + r + length (take (done + m - done) (drop done old)))) inv.only_reads.bytes
           ∙ ap (λ (k : ℕ). slice_range (nor.bytes was) (i * mid.numbers.chip_size + r) (i * mid.numbers.chip_size + r + k)) (sym call.length ∙ long)
           ∙ ap (λ (k : ℕ). slice_range (nor.bytes was) k (k + m)) e)
-        ∙ slice_join (nor.bytes was) at done m);
+          ∙ slice_join (nor.bytes was) at done m);
       within = piece.within;
       at_chip = at_chip_next size at done (length into) m i refl piece;
       numbers = call.numbers ∙ inv.numbers;
@@ -117,9 +117,9 @@ returns-in_err-read_in-clause-blamed g c =
     let e : i * mid.numbers.chip_size + r ≡ at + done = ap (λ (k : ℕ). i * k + r) mid_size ∙ piece.place in
     let f : done + m - done ≡ m = omega arith in
     on_any _ (blamed_from g.C.ChipState i was.chips.items mid.chips.items c.read_in.new.self.chips.items was.fuse mid.fuse c.read_in.new.self.fuse
-      (AllFit g.C.ChipState mid.numbers mid.moment mid.chips.items → ⊥) (AllFit g.C.ChipState was.numbers was.moment was.chips.items → ⊥)
-      (not_yet size at done (length into) m i refl piece was.chips.items mid.chips.items more was.numbers.some_bytes inv.at_chip inv.others) inv.fuse
-      (λ none fit. none (inv.sound fit)) c.in_err-read_in.ensures.blamed)
+    (AllFit g.C.ChipState mid.numbers mid.moment mid.chips.items → ⊥) (AllFit g.C.ChipState was.numbers was.moment was.chips.items → ⊥)
+    (not_yet size at done (length into) m i refl piece was.chips.items mid.chips.items more was.numbers.some_bytes inv.at_chip inv.others) inv.fuse
+    (λ none fit. none (inv.sound fit)) c.in_err-read_in.ensures.blamed)
 
 pub returns-clause-others : goal.returns-clause-others
 returns-clause-others g c = others_end _ _ _ _ _ _ c.loop-done.invariant.within c.loop-done.invariant.others

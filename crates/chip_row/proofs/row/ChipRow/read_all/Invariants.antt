@@ -24,5 +24,5 @@ invariant-loop-done g l =
       sound : AllFit g.C.ChipState was.numbers was.moment was.chips.items → AllFit g.C.ChipState l.self.numbers l.self.moment l.self.chips.items;
       reads : l.self.reads ≡ was.reads;
       faults : l.self.faults ≡ was.faults;
-      fuse : l.self.fuse ≡ was.fuse
+      fuse : l.self.fuse ≡ was.fuse;
     }
