@@ -1,13 +1,12 @@
 -- What a chip in memory notes, and what a cut may leave of it.
-use Rattle.std.proofs.Common.{◌≡◌, ℕ, ◌+◌, ◌-◌, ◌*◌, ◌<◌, ◌≤◌, ◌⊎◌, inl, inr, ⊎_elim, List, [], ◌∷◌, ◌++◌, length, get_or, take, drop, reverse, refl, sym, ◌∙◌, ap, subst, arith, OnOk, OnErr, Result}
+use Rattle.std.proofs.Common.{◌≡◌, ℕ, ◌+◌, ◌-◌, ◌<◌, ◌≤◌, ◌⊎◌, inl, inr, ⊎_elim, List, [], ◌∷◌, ◌++◌, length, take, drop, reverse, refl, sym, ◌∙◌, ap, subst, arith}
 use Rattle.std.proofs.lemmas.List.{reverse-append}
 use Rattle.std.proofs.lemmas.List.Elements.{All-head, All-cons, All-weaker}
 use Rattle.std.specs.List.{All}
 use Rattle.std.specs.declared.option.Option.{Option}
-use Rattle.nor_core.specs.declared.device.Failed.{Failed}
 use Rattle.nor_core.specs.declared.device.Mark.{Mark}
 use Rattle.nor_core.specs.declared.memory.MemBoard.{MemBoard}
-use Rattle.nor_core.specs.Flash.{SameOutside, HalfProgrammed, HalfErased, erased}
+use Rattle.nor_core.specs.Flash.{SameOutside, HalfProgrammed, HalfErased}
 use Rattle.nor_core.specs.Picks.{put}
 use Rattle.nor_core.proofs.Ranges.{range_size}
 use Rattle.nor_core.proofs.Programs.{half_none}
@@ -17,7 +16,7 @@ use Rattle.chip_row.specs.declared.note.Asked.TheVariants.{Program, Erase}
 use Rattle.chip_row.specs.Moments.{before_call, InAsked, InCall, CutAt, Notes, NotCalled, IsProgram, IsErase}
 use Rattle.chip_row.specs.declared.mem_chip.MemChip.{MemChip}
 use Rattle.chip_row.specs.contracts.mem_chip.MemChipChipState.TheImpl.{ghosts}
-use Rattle.chip_row.specs.Chips.{ChipReads, ChipChanges, ChipHonest, InChipErase}
+use Rattle.chip_row.specs.Chips.{ChipChanges, ChipHonest}
 use Rattle.chip_row.proofs.Parts.{lt_or_le, restored}
 
 -- past the newest call a cut leaves what stands
@@ -48,6 +47,7 @@ module _ (now at n : ℕ) (IsAsked : Asked → Type 0) (old new : List ℕ) (not
   pub noted_newest : (last : ℕ) → last < now → All (λ note. note.now ≤ last) (reverse notes) → All (λ note. note.now ≤ now) (reverse later)
   noted_newest last earlier newest = subst (All (λ note. note.now ≤ now)) (sym (newest_first notes later noted.note noted.noted)) (All-cons (λ note. note.now ≤ now) noted.note (reverse notes) (omega (arith, noted.now_is)) (newest_by (reverse notes) last now (omega (arith, earlier)) newest))
 
+  -- and stands first
   first_is : reverse later ≡ noted.note ∷ reverse notes
   first_is = newest_first notes later noted.note noted.noted
 
@@ -58,6 +58,7 @@ module _ (now at n : ℕ) (IsAsked : Asked → Type 0) (old new : List ℕ) (not
       subst (λ (k : ℕ). put new k noted.note.before.items ≡ old) (sym start)
       (restored old new noted.note.before.items at n (at + n) outside refl within noted.before_is)
 
+  -- it holds all bytes that the call was to change
   long : length noted.note.before.items ≡ n
   long = ap length noted.before_is ∙ slice_long
     where
@@ -73,6 +74,7 @@ module _ (now at n : ℕ) (IsAsked : Asked → Type 0) (old new : List ℕ) (not
       (⊎_elim (λ inside. absurd (omega (arith, inside.0, earlier, noted.now_is)))
       (λ before. subst (λ (l : List ℕ). CutAt (reverse notes) l t image) was_there before.1)) c
 
+  -- and what it might leave before it still may
   pub noted_kept : (t : ℕ) (image : List ℕ) → t < now → CutAt (reverse notes) old t image → CutAt (reverse later) new t image
   unfolding CutAt
   noted_kept t image earlier cut = subst (λ (l : List Note). CutAt l new t image) (sym first_is)
@@ -92,6 +94,7 @@ module _ (now at n : ℕ) (IsAsked : Asked → Type 0) (old new : List ℕ) (not
           (subst (λ (k : ℕ). InAsked noted.note.asked at k (before_call noted.note new) image) long
           (subst (λ (k : ℕ). InAsked noted.note.asked k (length noted.note.before.items) (before_call noted.note new) image) noted.at_is inside))
 
+  -- and each image inside it is one that a cut may leave
   pub now_noted : (image : List ℕ) → InAsked noted.note.asked at n old image → CutAt (reverse later) new now image
   unfolding CutAt
   now_noted image inside = subst (λ (l : List Note). CutAt l new now image) (sym first_is) (inr (inl (sym noted.now_is, inl back)))
@@ -116,6 +119,7 @@ pub in_program : (asked : Asked) (from : List ℕ) (at n : ℕ) (old image : Lis
 in_program asked from at n old image is inside =
     subst (λ (l : List ℕ). HalfProgrammed at l old image) is.2 (subst (λ (a : Asked). InAsked a at n old image) is.1 inside)
 
+-- and back
 pub program_in : (asked : Asked) (from : List ℕ) (at n : ℕ) (old image : List ℕ) → IsProgram from asked → HalfProgrammed at from old image → InAsked asked at n old image
 program_in asked from at n old image is half =
     subst (λ (a : Asked). InAsked a at n old image) (sym is.1) (subst (λ (l : List ℕ). HalfProgrammed at l old image) (sym is.2) half)
@@ -124,6 +128,7 @@ program_in asked from at n old image is half =
 pub in_erase : (asked : Asked) (mark : Option Mark) (at n : ℕ) (old image : List ℕ) → IsErase mark asked → InAsked asked at n old image → HalfErased at n mark old image
 in_erase asked mark at n old image is inside = subst (λ (a : Asked). InAsked a at n old image) is inside
 
+-- and back
 pub erase_in : (asked : Asked) (mark : Option Mark) (at n : ℕ) (old image : List ℕ) → IsErase mark asked → HalfErased at n mark old image → InAsked asked at n old image
 erase_in asked mark at n old image is half = subst (λ (a : Asked). InAsked a at n old image) (sym is) half
 

@@ -1,6 +1,6 @@
 -- Chips end to end: what a call on one of them leaves of all.
-use Rattle.std.proofs.Common.{◌≡◌, ◌≢◌, ℕ, zero, suc, ◌+◌, ◌-◌, ◌*◌, ◌<◌, ◌≤◌, ◌⊎◌, max, inl, inr, ⊎_elim, List, [], ◌∷◌, ◌++◌, length, get_or, set, take, drop, refl, sym, ◌∙◌, ap, subst, arith, length-append, append_assoc, Some, OnOk, OnErr, Ok, Err, Result}
-use Rattle.std.proofs.lemmas.Grind.{common_steps, flat_map-append}
+use Rattle.std.proofs.Common.{◌≡◌, ℕ, zero, suc, ◌+◌, ◌-◌, ◌*◌, ◌<◌, ◌≤◌, ◌⊎◌, max, inl, inr, ⊎_elim, List, [], ◌∷◌, ◌++◌, length, get_or, set, refl, sym, ◌∙◌, ap, subst, arith, length-append, append_assoc, Some, OnOk, OnErr, Ok, Err, Result}
+use Rattle.std.proofs.lemmas.Grind.{flat_map-append}
 use Rattle.std.proofs.lemmas.List.Elements.{All-head, All-tail, All-cons, All-nil, All-weaker, All-append}
 use Rattle.std.specs.List.{All, flat_map, slice_get, slice_range}
 use Rattle.std.specs.Option.{ForSome}
@@ -9,12 +9,9 @@ use Rattle.nor_core.specs.declared.device.Failed.{Failed}
 use Rattle.nor_core.specs.declared.device.Mark.{Mark}
 use Rattle.nor_core.specs.Count.{Rose}
 use Rattle.nor_core.specs.Flash.{programmed, HalfProgrammed, erased, HalfErased}
-use Rattle.nor_core.specs.declared.state.NorState.{Ghosts as NorOf}
-use Rattle.nor_core.specs.Device.{Changes}
-use Rattle.nor_core.proofs.Cuts.{andthen, widened}
 use Rattle.chip_row.specs.declared.numbers.Numbers.{Numbers}
-use Rattle.chip_row.specs.Chips.{ChipOf, ChipReads, ChipChanges, ChipHonest, InChipErase}
-use Rattle.chip_row.specs.Rows.{AllSized, AllFit, RowTells, latest, LeftAt, RowLeft, OneOther, OneChanged, OneRead, ChipRose}
+use Rattle.chip_row.specs.Chips.{ChipOf, ChipHonest, InChipErase}
+use Rattle.chip_row.specs.Rows.{AllFit, RowTells, latest, LeftAt, RowLeft, OneOther, OneChanged, OneRead, ChipRose}
 use Rattle.chip_row.specs.RowLaws.{all_sized, all_stand, all_past}
 use Rattle.chip_row.proofs.Parts.{lt_or_le, half_parts, programmed_parts, erased_parts, slice_parts, below_append, half_erased_parts}
 
@@ -67,6 +64,7 @@ pub record Split {X : Type 0} (xs ys : List X) (i : ℕ) (v : X) : Type 0 where
   pub other : OneOther i xs ys was v
   pub item : (d : X) → get_or xs i d ≡ was
 
+-- each list in which one was set is of this kind
 pub split_set : {X : Type 0} (xs : List X) (i : ℕ) (v : X) → i < length xs → Split xs (set xs i v) i v
 split_set [] i v within = absurd (omega (arith, within))
 split_set (x ∷ xs) zero v within = record { was = x; other = record { before = []; after = xs; old_is = refl; new_is = refl; at_place = refl }; item = λ d. refl }
@@ -84,39 +82,50 @@ slice_get-behind [] x ys = refl
 slice_get-behind (z ∷ xs) x ys = slice_get-behind xs x ys
 
 module _ {D : Type 0} {place : ℕ} {old new : List D} {was is : D} (other : OneOther place old new was is) where
+  -- what holds of all holds of the one that stood there
   pub all_was : (P : D → Type 0) → All P old → P was
   all_was P all = All-head P was other.after (All-behind P other.before (was ∷ other.after) (subst (All P) other.old_is all))
 
+  -- and of the one that stands there now
   pub all_is : (P : D → Type 0) → All P new → P is
   all_is P all = All-head P is other.after (All-behind P other.before (is ∷ other.after) (subst (All P) other.new_is all))
 
+  -- of all before it
   pub all_front : (P : D → Type 0) → All P old → All P other.before
   all_front P all = All-front P other.before (was ∷ other.after) (subst (All P) other.old_is all)
 
+  -- and of all after it
   pub all_back : (P : D → Type 0) → All P old → All P other.after
   all_back P all = All-tail P was other.after (All-behind P other.before (was ∷ other.after) (subst (All P) other.old_is all))
 
+  -- what holds of all and of the new one holds of all then
   pub all_new : (P : D → Type 0) → All P old → P is → All P new
   all_new P all here = subst (All P) (sym other.new_is) (All-append P other.before (is ∷ other.after) (all_front P all) (All-cons P is other.after here (all_back P all)))
 
+  -- and the other way round
   pub all_old : (P : D → Type 0) → All P new → P was → All P old
   all_old P all here =
       let behind = All-behind P other.before (is ∷ other.after) (subst (All P) other.new_is all) in
       subst (All P) (sym other.old_is) (All-append P other.before (was ∷ other.after) (All-front P other.before (is ∷ other.after) (subst (All P) other.new_is all)) (All-cons P was other.after here (All-tail P is other.after behind)))
 
+  -- there are as many
   pub same_many : length new ≡ length old
   same_many = ap length other.new_is ∙ length-append other.before (is ∷ other.after) ∙ sym (length-append other.before (was ∷ other.after)) ∙ sym (ap length other.old_is)
 
+  -- the one that stood there
   pub was_at : slice_get old place ≡ Some was
   was_at = ap (λ (k : ℕ). slice_get old k) (sym other.at_place) ∙ ap (λ (l : List D). slice_get l (length other.before)) other.old_is ∙ slice_get-behind other.before was other.after
 
+  -- the one that stands there
   pub is_at : slice_get new place ≡ Some is
   is_at = ap (λ (k : ℕ). slice_get new k) (sym other.at_place) ∙ ap (λ (l : List D). slice_get l (length other.before)) other.new_is ∙ slice_get-behind other.before is other.after
 
   module _ (f : D → List ℕ) where
+    -- all bytes before, in three parts
     pub old_parts : flat_map f old ≡ flat_map f other.before ++ (f was ++ flat_map f other.after)
     old_parts = ap (λ (l : List D). flat_map f l) other.old_is ∙ flat_map-append f other.before (was ∷ other.after)
 
+    -- and after
     pub new_parts : flat_map f new ≡ flat_map f other.before ++ (f is ++ flat_map f other.after)
     new_parts = ap (λ (l : List D). flat_map f l) other.new_is ∙ flat_map-append f other.before (is ∷ other.after)
 
@@ -131,6 +140,7 @@ module _ {D : Type 0} (chip : ChipOf D) where
     pub left_part : chip.left_at c m part
     pub left_last : LeftAt chip m after last
 
+  -- what a cut may leave of all is of this kind
   left_parts : (m : ℕ) (before : List D) (c : D) (after : List D) (image : List ℕ) → LeftAt chip m (before ++ c ∷ after) image → Parts m before c after image
   unfolding LeftAt
   left_parts m [] c after image left = record { first = []; part = left.0; last = left.1; is = left.2; left_first = refl; left_part = left.3; left_last = left.4 }
@@ -138,6 +148,7 @@ module _ {D : Type 0} (chip : ChipOf D) where
       let p = left_parts m before c after left.1 left.4 in
       record { first = left.0 ++ p.first; part = p.part; last = p.last; is = left.2 ∙ ap (λ l. left.0 ++ l) p.is ∙ sym (append_assoc left.0 p.first (p.part ++ p.last)); left_first = (left.0, p.first, refl, left.3, p.left_first); left_part = p.left_part; left_last = p.left_last }
 
+  -- and back
   parts_left : (m : ℕ) (before : List D) (c : D) (after : List D) (image : List ℕ) → Parts m before c after image → LeftAt chip m (before ++ c ∷ after) image
   unfolding LeftAt
   parts_left m [] c after image p = (p.part, p.last, subst (λ (l : List ℕ). image ≡ l ++ (p.part ++ p.last)) p.left_first p.is, p.left_part, p.left_last)
@@ -190,9 +201,11 @@ module _ {D : Type 0} (chip : ChipOf D) where
       honest = honest;
     }
 
+    -- and tell their bytes as before
     pub tells_after : RowTells chip row n old → RowTells chip row (n + 1) new
     tells_after tells = record { each = all_new one.other (λ c. chip.tells c) tells.each (one.changes.told (all_was one.other (λ c. chip.tells c) tells.each)); good = fit_after }
 
+    -- only then
     pub tells_before : RowTells chip row (n + 1) new → RowTells chip row n old
     tells_before tells = record { each = all_old one.other (λ c. chip.tells c) tells.each (one.changes.told_before (all_is one.other (λ c. chip.tells c) tells.each)); good = good }
 
@@ -200,12 +213,15 @@ module _ {D : Type 0} (chip : ChipOf D) where
     pub at_chip : All (λ c. chip.tells c) old → length (flat_map (λ c. chip.bytes c) one.other.before) ≡ place * row.chip_size
     at_chip tells = all_sized chip row.chip_size one.other.before (all_front one.other (λ c. ChipHonest chip c) good.honest) (all_front one.other (λ c. chip.tells c) tells) (all_front one.other (λ c. chip.size c ≡ row.chip_size) good.sized.sizes) ∙ ap (λ (k : ℕ). k * row.chip_size) one.other.at_place
 
+    -- how many bytes it had
     pub was_sized : All (λ c. chip.tells c) old → length (chip.bytes one.was) ≡ row.chip_size
     was_sized tells = (all_was one.other (λ c. ChipHonest chip c) good.honest).sized (all_was one.other (λ c. chip.tells c) tells) ∙ all_was one.other (λ c. chip.size c ≡ row.chip_size) good.sized.sizes
 
+    -- all bytes before it are below 256
     pub below_front : All (λ c. chip.tells c) old → (k : ℕ) → get_or (flat_map (λ c. chip.bytes c) one.other.before) k 0 < 256
     below_front tells = all_below one.other.before (all_front one.other (λ c. ChipHonest chip c) good.honest) (all_front one.other (λ c. chip.tells c) tells)
 
+    -- and all after it
     pub below_back : All (λ c. chip.tells c) old → (k : ℕ) → get_or (flat_map (λ c. chip.bytes c) one.other.after) k 0 < 256
     below_back tells = all_below one.other.after (all_back one.other (λ c. ChipHonest chip c) good.honest) (all_back one.other (λ c. chip.tells c) tells)
 
@@ -237,6 +253,7 @@ module _ {D : Type 0} (chip : ChipOf D) where
           (λ high. inl (left.0, left.1, omega (arith, high), part_for one.other left.0 image (λ part. one.changes.before left.0 part (omega (arith, high))) left.3, left.4))
           (lt_or_le n left.0)
 
+      -- and what stands
       pub row_stands : RowTells chip row n old → W (flat_map (λ c. chip.bytes c) new)
       row_stands tells = subst W (sym (new_parts one.other (λ c. chip.bytes c))) (lift tells.each (chip.bytes one.is) (one.changes.stands (all_was one.other (λ c. chip.tells c) tells.each)))
 
@@ -283,6 +300,7 @@ module _ {D : Type 0} (chip : ChipOf D) (row : Numbers) (n place : ℕ) (old new
         (subst (λ (k : ℕ). HalfErased (k + start) unit mark (flat_map (λ c. chip.bytes c) one.other.before ++ (chip.bytes one.was ++ flat_map (λ c. chip.bytes c) one.other.after)) (flat_map (λ c. chip.bytes c) one.other.before ++ (part ++ flat_map (λ c. chip.bytes c) one.other.after))) here
         (half_erased_parts mark (flat_map (λ c. chip.bytes c) one.other.before) (flat_map (λ c. chip.bytes c) one.other.after) (chip.bytes one.was) part start unit marked (omega (arith, long, fits)) (below_front chip row n place old new _ _ result one good honest tells) (below_back chip row n place old new _ _ result one good honest tells) half))
 
+    -- what a cut may leave of it, seen in all
     pub lift_erase : All (λ c. chip.tells c) old → (part : List ℕ) → InChipErase start unit mark (chip.bytes one.was) (chip.bytes one.is) part
         → InChipErase (place * row.chip_size + start) unit mark (flat_map (λ c. chip.bytes c) old) (flat_map (λ c. chip.bytes c) new) (flat_map (λ c. chip.bytes c) one.other.before ++ (part ++ flat_map (λ c. chip.bytes c) one.other.after))
     lift_erase tells part inside = ⊎_elim
@@ -302,6 +320,7 @@ module _ {D : Type 0} (chip : ChipOf D) (row : Numbers) (n place : ℕ) (old new
         ∙ ap (λ (l : List ℕ). erased l (place * row.chip_size + start) unit) (sym (old_parts one.other (λ c. chip.bytes c)))))
         (one.done (all_was one.other (λ c. chip.tells c) tells.each)).0
 
+    -- or half an erase in all, where it failed
     pub erase_half : RowTells chip row n old → OnErr result (HalfErased (place * row.chip_size + start) unit mark (flat_map (λ c. chip.bytes c) old) (flat_map (λ c. chip.bytes c) new))
     erase_half tells = on_err result (λ half. subst (HalfErased (place * row.chip_size + start) unit mark (flat_map (λ c. chip.bytes c) old)) (sym (new_parts one.other (λ c. chip.bytes c))) (half_lifted tells.each (chip.bytes one.is) half))
         (one.done (all_was one.other (λ c. chip.tells c) tells.each)).1
@@ -321,9 +340,11 @@ module _ {D : Type 0} (chip : ChipOf D) (row : Numbers) (n place at count : ℕ)
     honest = honest;
   }
 
+  -- they tell their bytes as before
   pub tells_read : RowTells chip row n old → RowTells chip row n new
   tells_read tells = record { each = all_new one.other (λ c. chip.tells c) tells.each (one.reads.told (all_was one.other (λ c. chip.tells c) tells.each)); good = fit_read }
 
+  -- and only then
   pub read_tells : RowTells chip row n new → RowTells chip row n old
   read_tells tells = record { each = all_old one.other (λ c. chip.tells c) tells.each (one.reads.told_before (all_is one.other (λ c. chip.tells c) tells.each)); good = good }
 
@@ -335,6 +356,7 @@ module _ {D : Type 0} (chip : ChipOf D) (row : Numbers) (n place at count : ℕ)
   pub read_cuts : (t : ℕ) (image : List ℕ) (said : ℕ) → RowLeft chip n new t image said → RowLeft chip n old t image said
   read_cuts t image said left = (left.0, left.1, left.2, part_for chip one.other left.0 image (λ part. one.reads.cuts left.0 part) left.3, left.4)
 
+  -- and all that
   pub read_kept : (t : ℕ) (image : List ℕ) (said : ℕ) → RowLeft chip n old t image said → RowLeft chip n new t image said
   read_kept t image said left = (left.0, left.1, left.2, part_for chip (turned chip one.other) left.0 image (λ part. one.reads.kept left.0 part) left.3, left.4)
 

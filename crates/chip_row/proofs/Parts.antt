@@ -1,5 +1,5 @@
 -- A part of a list of bytes, changed within the whole.
-use Rattle.std.proofs.Common.{◌≡◌, ◌≢◌, ℕ, zero, suc, ◌+◌, ◌-◌, ◌*◌, ◌/◌, ◌%◌, ◌<◌, ◌≤◌, ◌⊎◌, inl, inr, ⊎_elim, List, [], ◌∷◌, ◌++◌, length, get_or, set, take, drop, replicate, refl, sym, ◌∙◌, ap, subst, arith, length-append, append_assoc, length-drop, Some, None, OnOk, OnErr, Ok, Err, Result}
+use Rattle.std.proofs.Common.{◌≡◌, ℕ, zero, suc, ◌+◌, ◌-◌, ◌*◌, ◌/◌, ◌%◌, ◌<◌, ◌≤◌, ◌⊎◌, inl, inr, ⊎_elim, List, [], ◌∷◌, ◌++◌, length, get_or, take, drop, replicate, refl, sym, ◌∙◌, ap, subst, arith, length-append, append_assoc, length-drop, Some, None, OnOk, OnErr, Ok, Err, Result}
 use Rattle.std.proofs.lemmas.List.{take_all, length-take, length-replicate, get_or-take, get_or-drop, get_or_append_left, get_or-append-add, ext_get_or, take-append-le, drop-append-le, drop-drop}
 use Rattle.std.proofs.lemmas.Grind.{common_steps}
 use Rattle.std.specs.Int.Bits.{bit_and}
@@ -10,7 +10,7 @@ use Rattle.nor_core.specs.declared.device.Mark.{Mark}
 use Rattle.nor_core.specs.declared.device.Failed.{Failed}
 use Rattle.std.specs.Option.{ForSome}
 use Rattle.std.specs.List.{slice_range}
-use Rattle.nor_core.specs.Flash.{programmed, HalfProgrammed, SameOutside, IsBetween, erased, HalfErased, Scrambled, Unmarked, word_at}
+use Rattle.nor_core.specs.Flash.{programmed, HalfProgrammed, SameOutside, IsBetween, erased, HalfErased, Unmarked}
 use Rattle.nor_core.specs.Picks.{put}
 use Rattle.nor_core.proofs.Programs.{half_none, programmed-none}
 use Rattle.nor_core.proofs.Ranges.{put_size, get_or-put_before, get_or-put_after, get_or-put_inside}
@@ -204,6 +204,7 @@ erased_parts pre post old at n within =
     ∙ append_assoc pre (take at old) (replicate n 255 ++ (drop (at + n) old ++ post))
     ∙ ap (λ (l : List ℕ). pre ++ l) (sym (append_assoc (take at old) (replicate n 255) (drop (at + n) old ++ post)) ∙ sym (append_assoc (take at old ++ replicate n 255) (drop (at + n) old) post))
 
+-- each byte is below 256
 abbrev AllBelow : List ℕ → Type 0
 AllBelow l = (k : ℕ) → get_or l k 0 < 256
 

@@ -1,5 +1,5 @@
 -- A range of bytes in pieces, each in one chip, and why a piece failed.
-use Rattle.std.proofs.Common.{◌≡◌, ◌≢◌, ℕ, zero, suc, ◌+◌, ◌-◌, ◌*◌, ◌/◌, ◌%◌, ◌<◌, ◌≤◌, ◌⊎◌, min, inl, inr, ⊎_elim, List, length, take, drop, refl, sym, ◌∙◌, ap, subst, arith, OnErr, Ok, Err, Result}
+use Rattle.std.proofs.Common.{◌≡◌, ◌≢◌, ℕ, ◌+◌, ◌-◌, ◌*◌, ◌/◌, ◌%◌, ◌<◌, ◌≤◌, ◌⊎◌, min, inl, inr, ⊎_elim, List, length, refl, sym, ◌∙◌, ap, arith, OnErr, Ok, Err, Result}
 use Rattle.std.proofs.lemmas.Nat.{div-add-mod'}
 use Rattle.std.proofs.Math.Nat.{mul-le-mul_left, mod-lt}
 use Rattle.std.specs.List.{slice_get}
@@ -9,7 +9,7 @@ use Rattle.nor_core.specs.declared.state.NorState.{Ghosts as NorOf}
 use Rattle.nor_core.specs.Device.{Changes}
 use Rattle.nor_core.proofs.Cuts.{andthen, widened}
 use Rattle.chip_row.specs.Chips.{ChipOf}
-use Rattle.chip_row.specs.Rows.{OthersAt, OthersStay, ChipRose, BlamedAt, Blamed}
+use Rattle.chip_row.specs.Rows.{OthersAt, OthersStay, BlamedAt, Blamed}
 use Rattle.chip_row.proofs.Parts.{lt_or_le, unit_within}
 
 -- the piece of a range that lies in the chip where it goes on
@@ -20,6 +20,7 @@ pub record Piece (at done len size m : ℕ) : Type 0 where
   pub place : (at + done) / size * size + (at + done) % size ≡ at + done
   pub goes_on : (done + m ≡ len) ⊎ ((at + (done + m)) ≡ (at + done) / size * size + size)
 
+-- the piece that a turn of the loop takes
 pub piece_of : (at done len size m : ℕ) → 0 < size → (at + done) % size < size → done < len → m ≡ min (size - (at + done) % size) (len - done) → Piece at done len size m
 piece_of at done len size m some below more m_is =
     let place = div-add-mod' (at + done) size in
@@ -86,10 +87,6 @@ pub others_none : {D : Type 0} (size at : ℕ) (chips : List D) → OthersSoFar 
 unfolding OthersSoFar
 others_none size at chips k here = refl
 
-pub others_all : {D : Type 0} (size at done : ℕ) (old new : List D) → OthersSoFar size at done old new → OthersStay size at done old new
-unfolding OthersSoFar
-others_all size at done old new before = λ k here. before k (inr here)
-
 -- where a range goes on to its end all chips that hold none of it stay
 pub others_end : {D : Type 0} (size at done len : ℕ) (old new : List D) → done ≤ len → OthersSoFar size at done old new → OthersStay size at len old new
 unfolding OthersSoFar
@@ -133,6 +130,7 @@ pub record UnitPlace (count chip_size unit unit_ix : ℕ) : Type 0 where
   pub start : unit_ix / (chip_size / unit) * chip_size + unit_ix % (chip_size / unit) * unit ≡ unit_ix * unit
   pub ends : unit_ix % (chip_size / unit) * unit + unit ≤ chip_size
 
+-- each erase unit has one
 pub unit_place : (count chip_size unit unit_ix : ℕ) → 0 < unit → chip_size % unit ≡ 0 → unit_ix < count * chip_size / unit → 0 < chip_size → UnitPlace count chip_size unit unit_ix
 unit_place count chip_size unit unit_ix some whole below some_bytes =
     let q : ℕ = chip_size / unit in

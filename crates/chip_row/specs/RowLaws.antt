@@ -1,11 +1,11 @@
 -- What a row keeps at every moment: its size, and what a cut now may leave.
 use Rattle.std.specs.Prelude.{ℕ, ◌≡◌, ◌+◌, ◌*◌, ◌<◌, ◌≤◌, List, [], ◌∷◌, ◌++◌, length, refl, All}
 use Rattle.std.specs.List.{flat_map}
-use Rattle.std.proofs.Common.{◌∙◌, ap, sym, subst, arith, length-append}
+use Rattle.std.proofs.Common.{◌∙◌, ap, arith, length-append}
 use Rattle.std.proofs.lemmas.List.Elements.{All-head, All-tail, All-weaker}
 use Rattle.chip_row.specs.declared.numbers.Numbers.{Numbers}
 use Rattle.chip_row.specs.Chips.{ChipOf, ChipHonest}
-use Rattle.chip_row.specs.Rows.{AllSized, AllFit, RowTells, LeftAt, RowLeft}
+use Rattle.chip_row.specs.Rows.{RowTells, LeftAt, RowLeft}
 
 module _ {D : Type 0} (chip : ChipOf D) where
   -- honest chips of one size that tell their bytes have as many as the sum of their sizes

@@ -104,7 +104,7 @@ impl ChipState for MemChip {
 
 impl Chip for MemChip {
     ghost use Rattle.chip_row.specs.contracts.mem_chip.MemChipChipState.TheImpl.{ghosts as chip};
-    ghost use Rattle.std.specs.Prelude.{◌≡◌, ◌+◌, ◌*◌, ◌/◌, ◌<◌, ◌≤◌, ◌↔◌, ◌⊎◌, IsOk, OnOk, OnErr, List, length, slice_range};
+    ghost use Rattle.std.specs.Prelude.{◌≡◌, ◌+◌, ◌*◌, ◌/◌, ◌<◌, ◌≤◌, ◌↔◌, IsOk, OnOk, OnErr, List, length, slice_range};
     ghost use Rattle.std.specs.Option.{ForSome};
     ghost use Rattle.nor_core.specs.Ways.{way_of, plan_after, Answered};
     ghost use Rattle.nor_core.specs.declared.plan.Way.TheVariants.{Whole};

@@ -1,5 +1,5 @@
 //! Calls of one chip of several.
-ghost use Rattle.std.specs.Prelude.{◌≡◌, ◌≢◌, ℕ, ◌+◌, ◌*◌, ◌/◌, ◌%◌, ◌<◌, ◌≤◌, ◌↔◌, ◌⊎◌, List, length, slice_get, OnOk, OnErr, IsTrue, IsFalse, All};
+ghost use Rattle.std.specs.Prelude.{◌≡◌, ◌≢◌, ◌+◌, ◌*◌, ◌/◌, ◌<◌, ◌≤◌, ◌⊎◌, length, OnOk, OnErr, IsTrue, IsFalse, All};
 ghost use Rattle.std.specs.Option.{ForSome};
 ghost use Rattle.nor_core.specs.Flash.{programmed, HalfProgrammed, erased, HalfErased};
 ghost use Rattle.chip_row.specs.Chips.{ChipHonest, InChipErase};

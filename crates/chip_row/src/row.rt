@@ -1,5 +1,5 @@
 //! A row of chips.
-ghost use Rattle.std.specs.Prelude.{◌≡◌, ℕ, ◌+◌, ◌*◌, ◌<◌, ◌≤◌, List, [], length, Some};
+ghost use Rattle.std.specs.Prelude.{◌≡◌, ◌*◌, ◌<◌, ◌≤◌, [], length, Some};
 ghost use Rattle.std.specs.List.{flat_map};
 ghost use Rattle.chip_row.specs.Rows.{RowTells, RowLeft};
 
@@ -71,9 +71,8 @@ impl<C: Chip> NorState for ChipRow<C> {
 }
 
 impl<C: Chip> ChipRow<C> {
-    ghost use Rattle.std.specs.Prelude.{◌≡◌, ◌≢◌, ℕ, ◌<◌, ◌≤◌, ◌⊎◌, ◌↔◌, max, List, [], length, slice_set, Some, None, Err, OnOk, IsOk, IfOk, IfErr, All};
+    ghost use Rattle.std.specs.Prelude.{◌≡◌, ◌≢◌, ◌<◌, ◌≤◌, ◌⊎◌, ◌↔◌, max, [], length, slice_set, Some, None, Err, OnOk, IsOk, IfOk, IfErr, All};
     ghost use Rattle.chip_row.specs.Rows.{NumbersFit, AllSized, AllFit, latest};
-    ghost use Rattle.nor_core.specs.Device.{OnlyReads};
 
     /// A row of these chips, the first of them first, each of `chip_size` bytes in erase units of `unit` bytes.
     /// `NoSuchChip` comes where there are none; else `WrongSize` where the unit is 0, the size is 0 or no whole number of

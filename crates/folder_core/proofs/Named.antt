@@ -1,7 +1,7 @@
 -- After a put its file is there.
-use Rattle.std.proofs.Common.{◌≡◌, ◌≢◌, ℕ, ◌+◌, ◌<◌, ◌⊎◌, ⊎_elim, Bool, List, [], ◌∷◌, ◌++◌, length, get_or, set, refl, sym, ◌∙◌, ap, subst, arith, length-append}
+use Rattle.std.proofs.Common.{◌≡◌, ◌≢◌, ℕ, ◌+◌, ◌<◌, ◌⊎◌, ⊎_elim, Bool, List, [], ◌∷◌, ◌++◌, length, set, refl, sym, ◌∙◌, ap, subst, arith, length-append}
 use Rattle.std.proofs.lemmas.List.{length-set, get_or-set_same, get_or-set_other, get_or_append_left, get_or_push}
-use Rattle.folder_core.specs.Files.{Entry, IsFirst, Named, NoneNamed, name_at}
+use Rattle.folder_core.specs.Files.{Entry, IsFirst, Named, NoneNamed}
 use Rattle.folder_core.specs.Puts.{EntryAt, EntryLast}
 
 -- an entry of that name, set in the place of the first of it, is the first of it

@@ -1,6 +1,6 @@
 -- Putting a piece into the files of a folder in memory.
-use Rattle.std.proofs.Common.{◌≡◌, ℕ, ◌+◌, ◌<◌, ◌≤◌, inl, inr, Bool, true, false, List, [], ◌∷◌, ◌++◌, length, get_or, set, refl, sym, ◌∙◌, ap, subst, arith, length-append, OnOk, OnErr, Ok, Err, Result}
-use Rattle.std.proofs.lemmas.List.{get_or-map, map-set, map_push, length-map, append-nil}
+use Rattle.std.proofs.Common.{◌≡◌, ℕ, ◌+◌, ◌≤◌, inl, inr, Bool, true, false, List, [], ◌∷◌, ◌++◌, length, set, refl, sym, ◌∙◌, ap, arith, length-append, OnOk, OnErr, Ok, Err, Result}
+use Rattle.std.proofs.lemmas.List.{get_or-map, map-set, map_push, length-map}
 use Rattle.nor_core.specs.declared.device.Failed.{Failed}
 use Rattle.folder_core.specs.declared.file.MemFile.{MemFile}
 use Rattle.folder_core.specs.Files.{Entry, File, entry_of, entries_of, name_at, size_at, bytes_at, IsFirst, NoneNamed, size_before, bytes_before}
@@ -15,6 +15,7 @@ length-before true bytes = refl
 length-before false bytes = refl
 
 module _ (first : Bool) (name piece : List ℕ) (i : ℕ) (old new : List MemFile) (found : IsFirst name i (entries_of (files_of old))) where
+  -- the size of the file
   size_of : length (bytes_at (files_of old) i) ≡ size_at (entries_of (files_of old)) i
   size_of = sym (ap (λ (e : Entry). e.size) (get_or-map entry_of (files_of old) i (record { name = []; bytes = [] }) (record { name = []; size = 0 }) (omega (arith, found.inside, length-map (files_of old) entry_of))))
 
@@ -67,6 +68,7 @@ pub on_ok : {P Q : Type 0} (result : Result (Unit {0}) Failed) → (P → Q) →
 on_ok (Ok done) goes p = goes p
 on_ok (Err failed) goes p = tt
 
+-- and what a failure gives
 pub on_err : {P Q : Type 0} (result : Result (Unit {0}) Failed) → (P → Q) → OnErr result P → OnErr result Q
 on_err (Ok done) goes p = tt
 on_err (Err failed) goes p = goes p

@@ -1,5 +1,5 @@
 -- The files of a folder.
-use Rattle.std.specs.Prelude.{ℕ, ◌≡◌, ◌≢◌, ◌+◌, ◌<◌, List, [], ◌∷◌, ◌++◌, length, map, slice_index_or, slice_set, All, Bool, true, false}
+use Rattle.std.specs.Prelude.{ℕ, ◌≡◌, ◌≢◌, ◌<◌, List, [], length, map, slice_index_or, Bool, true, false}
 
 -- the name and the size of a file
 pub record Entry : Type 0 where

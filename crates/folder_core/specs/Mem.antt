@@ -3,7 +3,7 @@ use Rattle.std.specs.Prelude.{ℕ, ◌≡◌, ◌^◌, ◌<◌, ◌⊎◌, List,
 use Rattle.std.proofs.Common.{◌∙◌, sym, subst}
 use Rattle.std.proofs.lemmas.List.{length-map}
 use Rattle.folder_core.specs.declared.file.MemFile.{MemFile}
-use Rattle.folder_core.specs.Files.{Entry, File, entry_of, entries_of}
+use Rattle.folder_core.specs.Files.{File, entry_of, entries_of}
 use Rattle.folder_core.specs.Puts.{EntryAt, EntryLast, FileAt, FileLast}
 
 -- what a file in memory is

@@ -1,6 +1,6 @@
 -- What the calls of a folder leave. `FolderOf D` is the record of the ghost members, which a clause writes `F.FolderState`.
 use Rattle.std.specs.Prelude.{ℕ, ◌≡◌, ◌+◌, ◌≤◌, ◌⊎◌, List, [], ◌∷◌, ◌++◌, length, take, slice_set, Bool}
-use Rattle.folder_core.specs.Files.{Entry, File, entries_of, name_at, size_at, bytes_at, IsFirst, NoneNamed, size_before, bytes_before}
+use Rattle.folder_core.specs.Files.{Entry, File, entries_of, size_at, bytes_at, IsFirst, NoneNamed, size_before, bytes_before}
 pub use Rattle.folder_core.specs.declared.state.FolderState.{Ghosts as FolderOf}
 
 -- the folder is as it was

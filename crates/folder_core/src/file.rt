@@ -1,5 +1,5 @@
 //! The files of a folder in memory.
-ghost use Rattle.std.specs.Prelude.{◌≡◌, ◌≢◌, ℕ, ◌+◌, ◌^◌, ◌<◌, ◌≤◌, [], ◌∷◌, ◌++◌, ◌⊎◌, ◌↔◌, List, length, map, take, slice_set, true, IfSome, IfNone, OnOk, OnErr};
+ghost use Rattle.std.specs.Prelude.{◌≡◌, ℕ, ◌+◌, ◌^◌, ◌<◌, [], ◌∷◌, ◌++◌, ◌⊎◌, ◌↔◌, length, take, slice_set, true, IfSome, IfNone, OnOk, OnErr};
 ghost use Rattle.folder_core.specs.Files.{entries_of, bytes_at, name_at, size_at, IsFirst, NoneNamed, bytes_before};
 ghost use Rattle.folder_core.specs.Mem.{files_of, MemPuts};
 

@@ -1,4 +1,4 @@
-ghost use Rattle.std.specs.Prelude.{◌≡◌, ℕ, ◌+◌, ◌^◌, ◌<◌, ◌≤◌, min, List, length, take, slice_range, IsFalse, OnOk, OnErr, IfOk};
+ghost use Rattle.std.specs.Prelude.{◌≡◌, ◌+◌, ◌^◌, ◌<◌, ◌≤◌, min, length, take, slice_range, IsFalse, OnOk, OnErr, IfOk};
 ghost use Rattle.nor_core.specs.Count.{Rose};
 ghost use Rattle.folder_core.specs.Files.{entries_of, name_at, size_at, bytes_at, Named};
 ghost use Rattle.folder_core.specs.Puts.{Kept, Puts, HalfPuts};

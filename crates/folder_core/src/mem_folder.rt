@@ -1,5 +1,5 @@
 //! A folder in memory.
-ghost use Rattle.std.specs.Prelude.{◌≡◌, ℕ, ◌^◌, ◌<◌, List, length};
+ghost use Rattle.std.specs.Prelude.{◌≡◌, ◌^◌, ◌<◌, length};
 ghost use Rattle.folder_core.specs.Files.{entries_of};
 ghost use Rattle.folder_core.specs.Mem.{files_of, few_entries};
 
@@ -21,7 +21,7 @@ pub struct MemFolder {
 
 impl MemFolder {
     ghost use Rattle.folder_core.specs.contracts.mem_folder.MemFolderFolderState.TheImpl.{ghosts as mem};
-    ghost use Rattle.std.specs.Prelude.{◌≡◌, ℕ, ◌+◌, ◌-◌, ◌^◌, ◌<◌, ◌≤◌, ◌++◌, ◌↔◌, [], ◌∷◌, length, true, IsTrue, IsFalse, OnOk, OnErr};
+    ghost use Rattle.std.specs.Prelude.{◌≡◌, ◌+◌, ◌-◌, ◌^◌, ◌<◌, ◌≤◌, ◌++◌, ◌↔◌, [], ◌∷◌, length, true, IsTrue, IsFalse, OnOk, OnErr};
     ghost use Rattle.nor_core.specs.Count.{counted};
     ghost use Rattle.folder_core.specs.Puts.{Kept};
 
@@ -96,7 +96,7 @@ impl FolderState for MemFolder {
 
 impl Folder for MemFolder {
     ghost use Rattle.folder_core.specs.contracts.mem_folder.MemFolderFolderState.TheImpl.{ghosts as mem};
-    ghost use Rattle.std.specs.Prelude.{◌≡◌, ℕ, ◌+◌, ◌-◌, ◌<◌, ◌≤◌, ◌++◌, ◌↔◌, ◌⊎◌, min, drop, length, take, slice_range, refl, IsFalse, IsErr, OnOk, OnErr, IfOk};
+    ghost use Rattle.std.specs.Prelude.{◌≡◌, ◌+◌, ◌-◌, ◌<◌, ◌≤◌, ◌↔◌, min, drop, length, take, slice_range, refl, IsFalse, IsErr, OnOk, OnErr, IfOk};
     ghost use Rattle.nor_core.specs.Count.{counted, Rose};
     ghost use Rattle.folder_core.specs.Files.{name_at, size_at, bytes_at, Named};
     ghost use Rattle.folder_core.specs.Puts.{Kept, Puts, HalfPuts};

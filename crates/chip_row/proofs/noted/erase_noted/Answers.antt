@@ -1,4 +1,4 @@
-use Rattle.std.proofs.Common.{◌≡◌, ◌+◌, ◌*◌, ◌∙◌, ap, List, ℕ, inl}
+use Rattle.std.proofs.Common.{◌+◌, ◌*◌, ◌∙◌, ap, List, ℕ, inl}
 use Rattle.std.specs.List.{slice_range}
 use Rattle.chip_row.proofs.noted.erase_noted.Goals as goal
 

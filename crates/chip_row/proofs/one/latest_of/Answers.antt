@@ -1,4 +1,4 @@
-use Rattle.std.proofs.Common.{◌≡◌, ◌∙◌, sym, ap, get_or, length, take, max, ◌<◌, ◌+◌, List, ℕ, [], ◌∷◌, ◌++◌, arith}
+use Rattle.std.proofs.Common.{◌≡◌, ◌∙◌, sym, ap, get_or, length, take, max, ◌<◌, ◌+◌, ℕ, [], ◌∷◌, ◌++◌, arith}
 use Rattle.std.proofs.lemmas.List.{take_more}
 use Rattle.chip_row.specs.Rows.{latest}
 use Rattle.chip_row.proofs.Ends.{latest_none, latest_more}

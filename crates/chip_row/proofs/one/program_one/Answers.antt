@@ -1,4 +1,4 @@
-use Rattle.std.proofs.Common.{sym, ◌∙◌, ◌≡◌, subst, OnOk, OnErr}
+use Rattle.std.proofs.Common.{◌∙◌, ◌≡◌, subst, OnOk, OnErr}
 use Rattle.nor_core.specs.Count.{Rose}
 use Rattle.nor_core.specs.Flash.{programmed, HalfProgrammed}
 use Rattle.chip_row.specs.Chips.{ChipChanges}

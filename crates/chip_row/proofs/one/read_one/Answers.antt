@@ -1,4 +1,4 @@
-use Rattle.std.proofs.Common.{sym, ◌∙◌, ◌≡◌, ◌+◌, subst, length, OnOk, OnErr}
+use Rattle.std.proofs.Common.{◌∙◌, ◌≡◌, ◌+◌, subst, length, OnOk, OnErr}
 use Rattle.std.specs.List.{slice_range}
 use Rattle.nor_core.specs.Count.{Rose}
 use Rattle.chip_row.specs.Chips.{ChipReads}

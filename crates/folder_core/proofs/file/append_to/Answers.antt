@@ -1,4 +1,4 @@
-use Rattle.std.proofs.Common.{◌≡◌, ℕ, ◌++◌, List, length, get_or, set, ◌∙◌, sym, ap}
+use Rattle.std.proofs.Common.{ℕ, ◌++◌, List, set, ◌∙◌, sym, ap}
 use Rattle.std.proofs.lemmas.List.{map-set}
 use Rattle.folder_core.specs.declared.file.MemFile.{MemFile}
 use Rattle.folder_core.specs.Files.{entries_of, name_at, bytes_before}

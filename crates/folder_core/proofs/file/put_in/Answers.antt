@@ -1,6 +1,6 @@
-use Rattle.std.proofs.Common.{◌≡◌, ℕ, ◌++◌, List, [], ◌∷◌, length, set, inr, sym, ap, ◌∙◌}
+use Rattle.std.proofs.Common.{ℕ, List, [], set, inr, sym, ap, ◌∙◌}
 use Rattle.std.proofs.lemmas.List.{append-nil}
-use Rattle.folder_core.specs.Files.{File, entries_of, name_at, bytes_at, bytes_before}
+use Rattle.folder_core.specs.Files.{entries_of, name_at, bytes_at, bytes_before}
 use Rattle.folder_core.specs.Mem.{files_of}
 use Rattle.folder_core.proofs.Putting.{puts_at, on_ok, on_err}
 use Rattle.folder_core.proofs.file.put_in.Goals as goal

@@ -1,4 +1,4 @@
-use Rattle.std.proofs.Common.{refl, inl, inr, ◌≤◌, ◌+◌, ◌*◌, length, arith}
+use Rattle.std.proofs.Common.{refl, inl, inr, ◌≤◌}
 use Rattle.chip_row.specs.Chips.{ErasesUnit, HalfErasesUnit, InUnitErase}
 use Rattle.chip_row.specs.Moments.{IsErase}
 use Rattle.chip_row.proofs.Parts.{below_erase, erase_outside, unit_within}

@@ -1,4 +1,4 @@
-use Rattle.std.proofs.Common.{refl, ◌≤◌, arith}
+use Rattle.std.proofs.Common.{refl, ◌≤◌}
 use Rattle.nor_core.proofs.Programs.{half_none}
 use Rattle.chip_row.specs.Moments.{IsProgram}
 use Rattle.chip_row.proofs.Parts.{below_program}

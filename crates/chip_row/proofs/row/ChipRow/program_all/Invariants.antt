@@ -1,4 +1,4 @@
-use Rattle.std.proofs.Common.{◌≡◌, ℕ, ◌+◌, ◌*◌, ◌≤◌, ◌-◌, length, take}
+use Rattle.std.proofs.Common.{◌≡◌, ◌≤◌, ◌-◌, length, take}
 use Rattle.nor_core.specs.Device.{Changes}
 use Rattle.nor_core.specs.Flash.{programmed, HalfProgrammed}
 use Rattle.chip_row.specs.contracts.row.ChipRowNorState.TheImpl.{ghosts}

@@ -1,4 +1,4 @@
-use Rattle.std.proofs.Common.{◌≡◌, ℕ, ◌+◌, ◌*◌, ◌≤◌, List, length, refl, inl, inr, ⊎_elim, true, arith, rules}
+use Rattle.std.proofs.Common.{◌≡◌, ℕ, ◌+◌, ◌*◌, List, refl, inl, true, arith, rules}
 use Rattle.std.specs.List.{flat_map}
 use Rattle.nor_core.specs.Flash.{HalfProgrammed}
 use Rattle.nor_core.proofs.Programs.{half_none}

@@ -1,4 +1,4 @@
-use Rattle.std.proofs.Common.{◌≡◌, ℕ, ◌+◌, ◌*◌, ◌≤◌, ◌-◌, length, take}
+use Rattle.std.proofs.Common.{◌≡◌, ◌+◌, ◌≤◌, ◌-◌, length, take}
 use Rattle.std.specs.List.{slice_range}
 use Rattle.nor_core.specs.Device.{OnlyReads}
 use Rattle.chip_row.specs.contracts.row.ChipRowNorState.TheImpl.{ghosts}

@@ -1,4 +1,4 @@
-use Rattle.std.proofs.Common.{◌≡◌, ℕ, length, refl, inl, true, arith, rules}
+use Rattle.std.proofs.Common.{◌≡◌, length, refl, inl, true, arith, rules}
 use Rattle.chip_row.specs.Rows.{AllFit}
 use Rattle.chip_row.proofs.Ends.{fit_read, tells_read, read_tells, same_bytes, read_cuts, read_kept, row_read, read_rose, on_err_both}
 use Rattle.chip_row.proofs.row.ChipRow.read_in.Goals as goal

@@ -1,10 +1,8 @@
-use Rattle.std.proofs.Common.{◌≡◌, ℕ, ◌+◌, ◌*◌, ◌/◌, ◌%◌, ◌<◌, ◌≤◌, ◌⊎◌, inl, inr, List, OnOk, OnErr, subst, arith, rules}
-use Rattle.nor_core.specs.Count.{last_count}
+use Rattle.std.proofs.Common.{◌≡◌, ℕ, ◌*◌, ◌/◌, ◌≤◌, OnOk, OnErr, subst, arith, rules}
 use Rattle.nor_core.specs.Flash.{erased, HalfErased}
 use Rattle.nor_core.specs.Device.{Changes}
 use Rattle.chip_row.specs.contracts.row.ChipRowNorState.TheImpl.{ghosts}
 use Rattle.chip_row.specs.Chips.{InChipErase}
-use Rattle.chip_row.specs.Rows.{AllFit}
 use Rattle.chip_row.proofs.Ends.{on_err}
 use Rattle.chip_row.proofs.Pieces.{unit_place, others_of, blamed_at}
 use Rattle.chip_row.proofs.row_nor.ChipRowNor.erase.Goals as goal

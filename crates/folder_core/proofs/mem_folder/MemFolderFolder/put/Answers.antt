@@ -1,4 +1,4 @@
-use Rattle.std.proofs.Common.{◌≡◌, ◌≤◌, ℕ, List, take, inl, inr, ⊎_elim, ◌∙◌, ap, subst, arith, rules}
+use Rattle.std.proofs.Common.{◌≡◌, ◌≤◌, take, inl, inr, ⊎_elim, ◌∙◌, ap, subst, rules}
 use Rattle.folder_core.specs.Mem.{MemPuts}
 use Rattle.folder_core.proofs.Named.{named_in}
 use Rattle.folder_core.proofs.Putting.{kept_of, puts_of, on_ok, on_err}
