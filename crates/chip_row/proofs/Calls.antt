@@ -104,6 +104,11 @@ module _ (now at n : ℕ) (IsAsked : Asked → Type 0) (old new : List ℕ) (not
           (subst (λ (k : ℕ). InAsked noted.note.asked at k (before_call noted.note new) image) (sym long)
           (subst (λ (l : List ℕ). InAsked noted.note.asked at n l image) (sym was_there) inside))
 
+-- a cut at the call's own moment may leave what stands after it
+pub now_stands : (now at n : ℕ) (IsAsked : Asked → Type 0) (old new : List ℕ) (notes later : List Note) → Notes now at n IsAsked old notes later → (image : List ℕ) → image ≡ new → CutAt (reverse later) new now image
+unfolding CutAt
+now_stands now at n IsAsked old new notes later noted image stands = subst (λ (l : List Note). CutAt l new now image) (sym (newest_first notes later noted.note noted.noted)) (inr (inl (sym noted.now_is, inr stands)))
+
 -- what stood before is inside each call
 pub asked_none : (asked : Asked) (at n : ℕ) (old : List ℕ) → InAsked asked at n old old
 asked_none (Program from) at n old = half_none old at from.items
@@ -183,11 +188,14 @@ module _ (now at n : ℕ) (IsAsked : Asked → Type 0) (R : List ℕ → Type 0)
     stands = λ tells. stands;
   }
 
--- each image inside a noted call is one that a cut may leave
+-- each image inside a noted call is one that a cut may leave, and so is what stands after it
 pub chip_possible : (now at n : ℕ) (IsAsked : Asked → Type 0) (old new : MemBoard) (notes later : List Note) → SameOutside at n old.bytes.items new.bytes.items → at + n ≤ length old.bytes.items
     → Notes now at n IsAsked old.bytes.items notes later ⊎ NotCalled old new notes later → length notes < length later
-    → (image : List ℕ) → ((asked : Asked) → IsAsked asked → InAsked asked at n old.bytes.items image) → CutAt (reverse later) new.bytes.items now image
+    → (image : List ℕ) → ((asked : Asked) → IsAsked asked → InAsked asked at n old.bytes.items image) ⊎ (image ≡ new.bytes.items) → CutAt (reverse later) new.bytes.items now image
 chip_possible now at n IsAsked old new notes later outside within called more image inside = ⊎_elim
-    (λ noted. now_noted now at n IsAsked _ _ _ _ noted outside within image (inside noted.note.asked noted.asked_is))
+    (λ noted. ⊎_elim
+    (λ half. now_noted now at n IsAsked _ _ _ _ noted outside within image (half noted.note.asked noted.asked_is))
+    (λ stands. now_stands now at n IsAsked _ _ _ _ noted image stands)
+    inside)
     (λ same. absurd (omega (arith, more, ap length same.notes)))
     called

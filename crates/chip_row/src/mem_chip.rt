@@ -110,8 +110,8 @@ impl Chip for MemChip {
     ghost use Rattle.nor_core.specs.declared.plan.Way.TheVariants.{Whole};
     ghost use Rattle.nor_core.specs.Picks.{ProgramLeaves, EraseLeaves};
     ghost use Rattle.nor_core.specs.Count.{counted, Rose};
-    ghost use Rattle.nor_core.specs.Flash.{programmed, HalfProgrammed, HalfErased};
-    ghost use Rattle.chip_row.specs.Chips.{ChipReads, ChipChanges, ChipHonest, ErasesUnit, HalfErasesUnit, InUnitErase};
+    ghost use Rattle.nor_core.specs.Flash.{programmed, HalfProgrammed};
+    ghost use Rattle.chip_row.specs.Chips.{ChipReads, ChipChanges, ChipHonest, InChipErase, ErasesUnit, HalfErasesUnit, InUnitErase};
 
     fn size(&self) -> u32 {
         self.board.size()
@@ -190,8 +190,9 @@ impl Chip for MemChip {
         ensures cause { OnErr result (Rose (chip.faults self.old) (chip.faults self.new)) }
         ensures honest { ChipHonest chip self.new }
         ensures possible { length self.old.notes.items < length self.new.notes.items →
-            (image : List ℕ) → HalfErased (unit_ix * chip.unit self.old) (chip.unit self.old)
-            mark (chip.bytes self.old) image → chip.left_at self.new now image }
+            (image : List ℕ) → InChipErase (unit_ix * chip.unit self.old) (chip.unit self.old)
+            mark (chip.bytes self.old) (chip.bytes self.new) image →
+            chip.left_at self.new now image }
         ensures left { mem.moment self.old.board < mem.moment self.new.board →
             EraseLeaves (way_of CallKind.Erase self.old.board.plan)
             (unit_ix * chip.unit self.old) (chip.unit self.old) mark (chip.bytes self.old)

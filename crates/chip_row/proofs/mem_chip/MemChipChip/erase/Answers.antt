@@ -1,4 +1,4 @@
-use Rattle.std.proofs.Common.{refl, inl, inr, ◌≤◌}
+use Rattle.std.proofs.Common.{refl, inl, inr, ⊎_elim, ◌≤◌}
 use Rattle.chip_row.specs.Chips.{ErasesUnit, HalfErasesUnit, InUnitErase}
 use Rattle.chip_row.specs.Moments.{IsErase}
 use Rattle.chip_row.proofs.Parts.{below_erase, erase_outside, unit_within}
@@ -40,4 +40,4 @@ returns-clause-possible c = λ more image half.
     (let done = c.erase_noted-answer.ensures in
     let within = unit_within _ _ _ c.args.self.now.board.unit_is c.args.self.now.board.whole c.requires.inside in
     let outside = erase_outside _ _ _ _ _ _ within done.done done.half in
-    chip_possible _ _ _ (IsErase c.args.mark) c.args.self.now.board _ _ _ outside within done.noted more image (λ asked is. erase_in asked _ _ _ _ image is half))
+    chip_possible _ _ _ (IsErase c.args.mark) c.args.self.now.board _ _ _ outside within done.noted more image (⊎_elim (λ within_it. inl (λ asked is. erase_in asked _ _ _ _ image is within_it)) (λ stands. inr stands) half))

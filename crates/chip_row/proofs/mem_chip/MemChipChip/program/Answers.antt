@@ -1,4 +1,4 @@
-use Rattle.std.proofs.Common.{refl, ◌≤◌}
+use Rattle.std.proofs.Common.{refl, inl, ◌≤◌}
 use Rattle.nor_core.proofs.Programs.{half_none}
 use Rattle.chip_row.specs.Moments.{IsProgram}
 use Rattle.chip_row.proofs.Parts.{below_program}
@@ -24,4 +24,4 @@ returns-clause-honest c = honest_chip _
 pub returns-clause-possible : goal.returns-clause-possible
 returns-clause-possible c = λ more image half.
     (let done = c.program_noted-answer.ensures in
-    chip_possible _ _ _ (IsProgram c.args.from.now) c.args.self.now.board _ _ _ done.half.outside c.requires.inside done.noted more image (λ asked is. program_in asked _ _ _ _ image is half))
+    chip_possible _ _ _ (IsProgram c.args.from.now) c.args.self.now.board _ _ _ done.half.outside c.requires.inside done.noted more image (inl (λ asked is. program_in asked _ _ _ _ image is half)))
