@@ -44,10 +44,7 @@ impl MemChip {
         ensures reads { IfOk result (λ it. chip.device_reads it ≡ 0) }
         ensures planned { IfOk result (λ it. it.board.plan ≡ no_plan) }
     {
-        let board = match MemBoard::new(alloc, image, unit) {
-            Ok(board) => board,
-            Err(why) => return Err(why),
-        };
+        let board = MemBoard::new(alloc, image, unit)?;
         Ok(MemChip {
             alloc,
             board,
