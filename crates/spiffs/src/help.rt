@@ -35,7 +35,7 @@ line; an empty line, or one that begins with `#`, is no call.
                 moves the offset, from `set`, `cur` or
                 `end`                                    ok OFFSET
   tell FD       tells the offset                         ok OFFSET
-  flush FD      does nothing more in this build          ok
+  flush FD      writes what waits: nothing, today        ok
   close FD      closes a descriptor                      ok
   remove NAME   removes a file, closes its descriptors   ok
   stat NAME     tells a file's record                    ok ID TYPE SIZE NAME
