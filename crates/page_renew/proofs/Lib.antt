@@ -4,3 +4,5 @@ pub mod Homes
 pub mod IndexCopies
 pub mod SlotNames
 pub mod DataBuilding
+pub mod Says
+pub mod Edited

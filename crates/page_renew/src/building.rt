@@ -20,7 +20,7 @@ use page_layout::file_size;
 use table_model::Tag;
 
 // Data pages of a file of that size.
-fn data_pages(g: &Geometry, size: u32) -> u32
+pub(crate) fn data_pages(g: &Geometry, size: u32) -> u32
     ensures { result ≡ the_data_pages g.now size }
 {
     let body = u64::from(g.body());

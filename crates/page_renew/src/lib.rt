@@ -3,7 +3,9 @@
 
 mod building;
 mod copying;
+mod edits;
 mod naming;
 
 pub use building::{build_copy, build_data, build_renamed};
+pub use edits::{Edit, build_edited};
 pub use naming::index_span;
