@@ -6,3 +6,4 @@ pub mod SlotNames
 pub mod DataBuilding
 pub mod Says
 pub mod Edited
+pub mod HeaderRenewed
