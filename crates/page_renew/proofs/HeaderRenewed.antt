@@ -171,9 +171,9 @@ module _ (g : Geometry) (a : List ℕ) (id o to : ℕ) (edit : Edit) (f : File) 
         to = to;
         head = head;
         y = new;
-        was_head = can.says.one.is;
         edited = edited;
-        is_head = all.kill.loses.others to (λ e. none-some head (sym all.put.gains.before ∙ ap (live_at g a) e ∙ live)) ∙ all.put.gains.after;
+        renews = start;
+        replaced = all;
         idles = law.0;
         sound = left.sound;
         reserve = left.reserve;

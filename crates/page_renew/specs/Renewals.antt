@@ -17,6 +17,7 @@ use Rattle.image_laws.specs.Programs.{LeadsTo, HasOneHead}
 use Rattle.image_laws.specs.Spares.{leftover}
 use Rattle.image_laws.specs.TidySteps.{IsTidyBut}
 use Rattle.renew_laws.specs.Idles.{Idles}
+use Rattle.renew_laws.specs.Renew.{RenewsTo}
 use Rattle.renew_laws.specs.Replace.{ReplaceCut, Replaced}
 use Rattle.renew_laws.specs.Reserve.{CanTake}
 use Rattle.flash_view.specs.declared.kinds.Kind.TheVariants.{Index}
@@ -71,16 +72,16 @@ pub record CanRenew (g : Geometry) (image : List ℕ) (id o to : ℕ) (edit : Ed
   pub kind : is_data_block g image (block_of g to) ≡ false
   pub room : CanTake g image to
 
--- Done, the file is in the table. Page y stands in the place of header page o, which it is with the edit done, and the image is tidy but for the pages of the id that y doesn't need.
+-- Done, the file is in the table. Page y, put at `to`, has taken the place of header page o, which it is with the edit done, and the image is tidy but for the pages of the id that y doesn't need.
 pub record EditDone (g : Geometry) (id : ℕ) (edit : Edit) (f : File) (was now : List ℕ) : Type 0 where
   pub table : table_of g now ≡ put_file f (table_of g was)
   pub o : ℕ
   pub to : ℕ
   pub head : List ℕ
   pub y : List ℕ
-  pub was_head : own (live_at g was) id o ≡ Some head
   pub edited : IsEdited g head edit y
-  pub is_head : live_at g now to ≡ Some y
+  pub renews : RenewsTo g was to o id head y f
+  pub replaced : Replaced g to o y was now
   pub idles : Idles g (λ r. not (r == o) && leftover g (own (live_at g was) id) y r) now
   pub sound : IsSound g now was
   pub reserve : HasReserve g was → HasReserve g now

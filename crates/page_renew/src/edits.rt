@@ -25,10 +25,7 @@ pub enum Edit<'a> {
     /// More bytes, which stand in data pages already.
     Grow(u32),
     /// The same, and the data page of the span behind the last.
-    GrowBy {
-        size: u32,
-        page: u16,
-    },
+    GrowBy { size: u32, page: u16 },
 }
 
 // The size in bytes after an edit.
@@ -98,11 +95,7 @@ fn edit_page(g: &Geometry, page: &mut [u8], edit: Edit<'_>)
 
 /// Builds the copy of a header page with an edit done.
 #[tactic(auto, using(flash_view::proofs::Looking::looks_then))]
-pub fn build_edited<N: Nor>(
-    v: &mut View<'_, N>,
-    header: u16,
-    edit: Edit<'_>,
-) -> Result<(), Failed>
+pub fn build_edited<N: Nor>(v: &mut View<'_, N>, header: u16, edit: Edit<'_>) -> Result<(), Failed>
     requires header { header < page_count v.old.geometry }
     requires edit { IsEditable v.old.geometry edit }
     ensures cause { OnErr result (Rose (N.faults v.old.nor.now) (N.faults v.new.nor.now)) }

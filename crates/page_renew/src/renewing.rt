@@ -15,12 +15,7 @@ use page_put::{kill, put_page};
 use table_model::{Differ, Tag};
 
 /// Puts the index page that was built at `to`, and kills the one that it takes the place of: six programs.
-pub fn put_over<N: Nor>(
-    v: &mut View<'_, N>,
-    to: u16,
-    tag: Tag,
-    old: u16,
-) -> Result<(), Failed>
+pub fn put_over<N: Nor>(v: &mut View<'_, N>, to: u16, tag: Tag, old: u16) -> Result<(), Failed>
     requires to { IsEntryPage v.old.geometry to }
     requires old { IsEntryPage v.old.geometry old }
     requires id { (1 ≤ tag.id) × (tag.id ≤ 0x7FFE) }
@@ -91,11 +86,7 @@ fn renew_from<N: Nor>(
 /// after, and a reserve that was there is there. Done, the image is tidy but for the pages that the new header page
 /// doesn't need. The image is to have an index page to be had and a file of that id; where that holds, a fault of the
 /// device is the one error.
-pub fn renew_header<N: Nor>(
-    v: &mut View<'_, N>,
-    id: u16,
-    edit: Edit<'_>,
-) -> Result<(), StepErr>
+pub fn renew_header<N: Nor>(v: &mut View<'_, N>, id: u16, edit: Edit<'_>) -> Result<(), StepErr>
     requires edit { IsEditable v.old.geometry edit }
     ensures { (f : File) → Stepped stopped v.old v.new result (renewing id edit.entry f) }
 {
