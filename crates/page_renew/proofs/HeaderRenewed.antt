@@ -1,5 +1,5 @@
 -- A header page is renewed, from what the calls leave.
-use Rattle.std.proofs.Common.{◌≡◌, ◌≢◌, ℕ, ◌+◌, ◌*◌, ◌%◌, ◌<◌, ◌≤◌, ◌⊎◌, List, length, take, set, slice_index, Bool, true, false, not, ◌==◌, ◌&&◌, Option, Some, None, ap, refl, sym, ◌∙◌, arith, ⊎_elim, inl, inr, subst, length-set, get_or-set_same, get_or-set_other}
+use Rattle.std.proofs.Common.{◌≡◌, ◌≢◌, ℕ, ◌+◌, ◌*◌, ◌%◌, ◌<◌, ◌≤◌, List, length, take, set, slice_index, Bool, true, false, Some, None, ap, refl, sym, ◌∙◌, arith, ⊎_elim, inl, inr, subst, length-set, get_or-set_same, get_or-set_other}
 use Rattle.std.specs.Prelude.{is_some}
 use Rattle.std.proofs.lemmas.Bool.{cases_eq}
 use Rattle.std.proofs.lemmas.List.{get_or-take, set-set}
@@ -10,15 +10,14 @@ use Rattle.table_model.specs.Table.{File, put_file}
 use Rattle.page_layout.specs.Layout.{SameOutside, header_at}
 use Rattle.page_layout.specs.declared.header.PageHeader.{PageHeader}
 use Rattle.image_model.specs.Within.{sizes}
-use Rattle.image_model.specs.Headers.{obj_id, span_of, names_index}
+use Rattle.image_model.specs.Headers.{obj_id, names_index}
 use Rattle.image_model.specs.Live.{live_at, own}
 use Rattle.image_model.specs.Files.{index_page}
 use Rattle.image_model.specs.Places.{page_of, is_entry_page, IsImage}
 use Rattle.image_model.specs.Sound.{HasMagics}
 use Rattle.image_model.specs.Tables.{table_of}
-use Rattle.image_laws.specs.LiveSteps.{PutDone, KillLeaves, KillDone}
+use Rattle.image_laws.specs.LiveSteps.{PutDone}
 use Rattle.image_laws.specs.Put.{IsReadyPage}
-use Rattle.image_laws.specs.TidySteps.{Agree}
 use Rattle.image_laws.proofs.Append.{page_there}
 use Rattle.image_laws.proofs.Finish.{own-parts, is_finished-zero}
 use Rattle.image_laws.proofs.Frames.{LivePage, live_parts}

@@ -1,5 +1,5 @@
 -- What a header page says once one of its fields is written.
-use Rattle.std.proofs.Common.{◌≡◌, ◌≢◌, ℕ, ◌+◌, ◌-◌, ◌*◌, ◌/◌, ◌<◌, ◌≤◌, ◌⊎◌, List, length, min, set, slice_index, slice_range, ◌==◌, Option, Some, ap, refl, sym, ◌∙◌, arith, ⊎_elim, inl, inr, length-set, get_or-set_same, get_or-set_other}
+use Rattle.std.proofs.Common.{◌≡◌, ◌≢◌, ℕ, ◌+◌, ◌*◌, ◌<◌, ◌≤◌, ◌⊎◌, List, length, min, slice_index, slice_range, ◌==◌, Some, refl, ◌∙◌, arith, ⊎_elim, inl, inr}
 use Rattle.std.specs.Prelude.{nat_lt, if◌then◌else◌}
 use Rattle.std.proofs.lemmas.Bool.{cases_eq, cases_lt, lt-ltb, le-ltb, ne_eqb, eq-eqb}
 use Rattle.geometry.specs.declared.geometry.Geometry.{Geometry}
@@ -7,7 +7,7 @@ use Rattle.geometry.specs.Numbers.{head_slots}
 use Rattle.page_layout.specs.Layout.{SameOutside}
 use Rattle.page_layout.proofs.Stays.{word_stays, range_stays, name_stays}
 use Rattle.image_laws.proofs.Frames.{word_at-same, range-same}
-use Rattle.image_model.specs.Headers.{word_at, obj_id, span_of, size_of, name_of}
+use Rattle.image_model.specs.Headers.{word_at, size_of, name_of}
 use Rattle.page_renew.specs.Copies.{kept_of, IsCopy}
 use Rattle.page_renew.specs.declared.edits.Edit.{Edit}
 use Rattle.page_renew.specs.declared.edits.Edit.TheVariants.{Cut, Grow}

@@ -1,4 +1,4 @@
-use Rattle.std.proofs.Common.{◌≡◌, sym, ◌∙◌, Some}
+use Rattle.std.proofs.Common.{sym, ◌∙◌}
 use Rattle.flash_view.proofs.Looking.{looks_then}
 use Rattle.page_renew.proofs.HeaderRenewed.{is_home}
 use Rattle.page_renew.proofs.finding.find_home.Goals as goal
