@@ -1,2 +1,5 @@
 pub mod Copies
 pub mod Built
+pub mod Edits
+pub mod Renewals
+pub mod EditLaws
