@@ -4,3 +4,6 @@ pub mod Homes
 pub mod IndexCopies
 pub mod SlotNames
 pub mod DataBuilding
+pub mod Says
+pub mod Edited
+pub mod HeaderRenewed

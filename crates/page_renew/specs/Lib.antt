@@ -1,2 +1,4 @@
 pub mod Copies
 pub mod Built
+pub mod Edits
+pub mod Renewals
