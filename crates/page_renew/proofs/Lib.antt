@@ -7,3 +7,4 @@ pub mod DataBuilding
 pub mod Says
 pub mod Edited
 pub mod HeaderRenewed
+pub mod Restates

@@ -2,3 +2,4 @@ pub mod Copies
 pub mod Built
 pub mod Edits
 pub mod Renewals
+pub mod Restated

@@ -7,9 +7,11 @@ mod edits;
 mod finding;
 mod naming;
 mod renewing;
+mod restating;
 
 pub use building::{build_copy, build_data, build_renamed};
 pub use edits::{Edit, build_edited};
 pub use finding::{Home, find_home};
 pub use naming::index_span;
 pub use renewing::{put_over, renew_at, renew_header};
+pub use restating::restate;
