@@ -3,3 +3,4 @@ pub mod Built
 pub mod Edits
 pub mod Renewals
 pub mod EditLaws
+pub mod Restated

@@ -8,6 +8,7 @@ mod finding;
 mod laws;
 mod naming;
 mod renewing;
+mod restating;
 
 pub use building::{build_copy, build_data, build_renamed};
 pub use edits::{Edit, build_edited};
@@ -15,3 +16,4 @@ pub use finding::{Home, find_home};
 pub use laws::edits_lead;
 pub use naming::index_span;
 pub use renewing::{put_over, renew_at, renew_header};
+pub use restating::restate;
