@@ -53,8 +53,8 @@ holds a zero byte, -10036 it is longer than 31 bytes, -11001 bad flags, -10010
 no such descriptor, -10007 every descriptor is open, -10002 there is no such
 file, -10030 and -10023 the file is there, -10022 the descriptor does not read,
 -11002 the place is not in the file, -10001 the volume is full. A call that this
-build does not have (write, fill, truncate, fremove, rename, gc, meta, fmeta,
-and open with flag 2, which empties the file) ends the run with status 16.
+build does not have (write, fill, truncate, rename, gc, meta, fmeta, and open
+with flag 2, which empties the file) ends the run with status 16.
 
 A list is a line `ID TYPE SIZE NAME` for each file, then for each damaged id
 `damaged ID span S`, `damaged ID name` or `damaged ID same ID2`.

@@ -204,9 +204,9 @@ impl<'b, N: Nor> Volume<'b, N> {
 
     /// Checks a mounted volume, so that it takes calls, in whatever state a cut or another program left it: a block
     /// without its magic is made fresh, and every entry is killed that no file needs, those of damaged files too. Then every
-    /// descriptor is closed. Refused,
-    /// with nothing written, are a volume that may not be written (`Wrong`) and one of which a block holds live pages of
-    /// both kinds (`Mixed`). Where the device fails, what was done stays, and the check can be called again.
+    /// descriptor is closed. Refused, with nothing written, are a volume that may not be written (`Wrong`) and one of which a
+    /// block holds live pages of both kinds (`Mixed`). Where the device fails, what was done stays, and the check can be
+    /// called again.
     pub fn check(&mut self) -> Result<Report, CheckErr>
         requires mounted { is_mounted self.old.stage ≡ true }
         ensures wrong { IfSome (write_refusal self.old.geometry) (λ why. result ≡ Err (CheckErr.Wrong why)) }
