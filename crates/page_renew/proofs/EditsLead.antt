@@ -33,13 +33,13 @@ use Rattle.page_renew.specs.declared.edits.Edit.{Edit}
 use Rattle.page_renew.specs.declared.edits.Edit.TheVariants.{Name, Meta, Cut, Grow, GrowBy}
 use Rattle.page_renew.specs.Edits.{edited_size, edited_name, edited_meta, IsEdited}
 use Rattle.page_renew.specs.EditLaws.{edited_file, AddsNone, Adds, EditSays, EditTidies, GrowSays, EditKeepsEntries, EditNamesNext}
-use Rattle.page_renew.specs.Renewals.{CanSay}
+use Rattle.page_renew.specs.Renewals.{CanSay, EditDone}
 use Rattle.page_renew.proofs.Homes.{index_some}
 
 -- ---- page numbers
 
 -- one below both page counts is kept
-word_kept : (g : Geometry) (x y : List ℕ) (edit : Edit) → IsEdited g x edit y → (t : ℕ) → t < data_pages g (size_of x) → t < data_pages g (edited_size edit (size_of x)) → t < head_slots g → word_at y (45 + g.meta + 2 * t) ≡ word_at x (45 + g.meta + 2 * t)
+pub word_kept : (g : Geometry) (x y : List ℕ) (edit : Edit) → IsEdited g x edit y → (t : ℕ) → t < data_pages g (size_of x) → t < data_pages g (edited_size edit (size_of x)) → t < head_slots g → word_at y (45 + g.meta + 2 * t) ≡ word_at x (45 + g.meta + 2 * t)
 word_kept g x y (Name name) edited t low later below = edited.entries t below ∙ rw (lt-ltb t (min (data_pages g (size_of x)) (data_pages g (size_of x))) (omega arith)) refl
 word_kept g x y (Meta meta) edited t low later below = edited.entries t below ∙ rw (lt-ltb t (min (data_pages g (size_of x)) (data_pages g (size_of x))) (omega arith)) refl
 word_kept g x y (Cut size) edited t low later below = edited.entries t below ∙ rw (lt-ltb t (min (data_pages g (size_of x)) (data_pages g size)) (omega arith)) refl
@@ -142,19 +142,24 @@ module _ (g : Geometry) (a b : List ℕ) (id h : ℕ) (head : List ℕ) (f : Fil
 pub edit-says : (g : Geometry) → EditSays g
 edit-says g a b id h head f beside edit prime none = says g a b id h head f beside prime edit none
 
+-- the header page that was renewed is the one of the file
+is_header : (o : Option (List ℕ)) (x : List ℕ) {id : ℕ} → o ≡ Some x → IsHead id x → is_index o 0 ≡ true
+is_header o x was head =
+    let span : (span_of x == 0) ≡ true = eq-eqb (span_of x) 0 head.first in
+    rw was (rw (head.index, span) refl)
+
+pub renewed_at : (g : Geometry) (a c : List ℕ) (id h : ℕ) (head : List ℕ) (f f' : File) (beside : ℕ → Bool) (edit : Edit) {b : List ℕ} → Primed g id h head f beside b a → (done : EditDone g id edit f' a c) → (done.o ≡ h) × (done.head ≡ head)
+renewed_at g a c id h head f f' beside edit prime done =
+    let at : done.o ≡ h = prime.only done.o (is_header (own (live_at g a) id done.o) done.head done.renews.was done.renews.old_head) in
+    (at, same_Some done.head head (sym done.renews.was ∙ ap (own (live_at g a) id) at ∙ prime.header))
+
 pub edit-tidies : (g : Geometry) → EditTidies g
 edit-tidies g a c id h head f f' edit prime same done =
-    let at : done.o ≡ h = prime.only done.o (is_header (own (live_at g a) id done.o) done.head done.renews.was done.renews.old_head) in
-    let head_is : done.head ≡ head = same_Some done.head head (sym done.renews.was ∙ ap (own (live_at g a) id) at ∙ prime.header) in
-    let edited : IsEdited g head edit done.y = rw head_is at done.edited in
-    let spans : SameSpans g done.head done.y = rw head_is (same_spans g head done.y edit edited same) in
+    let w = renewed_at g a c id h head f f' (λ (r : ℕ). false) edit prime done in
+    let edited : IsEdited g head edit done.y = rw w.1 at done.edited in
+    let spans : SameSpans g done.head done.y = rw w.1 (same_spans g head done.y edit edited same) in
     let tidy : IsTidy g a = (tidy-is_tidy g a (λ (r : ℕ). false)).1 (λ r e. let bad : false ≡ true = e in absurd (cc)) prime.tidy in
-    (rename-tidies g a c done.to done.o id done.head done.y f f' done.renews (rw at prime.at) (rw head_is prime.file) spans done.replaced tidy).0
-  where
-    is_header : (o : Option (List ℕ)) (x : List ℕ) {id : ℕ} → o ≡ Some x → IsHead id x → is_index o 0 ≡ true
-    is_header o x was head =
-        let span : (span_of x == 0) ≡ true = eq-eqb (span_of x) 0 head.first in
-        rw was (rw (head.index, span) refl)
+    (rename-tidies g a c done.to done.o id done.head done.y f f' done.renews (rw w.0 prime.at) (rw w.1 prime.file) spans done.replaced tidy).0
 
 pub grow-says : (g : Geometry) → GrowSays g
 grow-says g a b id h head z bytes f beside edit prime adds size some fits holds page =

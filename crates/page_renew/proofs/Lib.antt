@@ -8,3 +8,4 @@ pub mod Says
 pub mod Edited
 pub mod HeaderRenewed
 pub mod EditsLead
+pub mod CutLeft

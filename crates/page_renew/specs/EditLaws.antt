@@ -1,17 +1,19 @@
 -- Which edits lead to which file.
-use Rattle.std.specs.Prelude.{◌≡◌, ◌≢◌, ℕ, ◌+◌, ◌/◌, ◌%◌, ◌<◌, ◌≤◌, List, length, take, All, Bool, false, Some, slice_range}
+use Rattle.std.specs.Prelude.{◌≡◌, ◌≢◌, ℕ, ◌+◌, ◌/◌, ◌%◌, ◌<◌, ◌≤◌, List, length, take, All, Bool, false, Option, Some, None, slice_range}
 use Rattle.geometry.specs.declared.geometry.Geometry.{Geometry}
 use Rattle.geometry.specs.Numbers.{body, head_slots}
 use Rattle.table_model.specs.Table.{File}
 use Rattle.table_model.specs.Files.{written}
-use Rattle.table_model.specs.Room.{data_pages}
+use Rattle.table_model.specs.Room.{data_pages, index_pages}
 use Rattle.image_model.specs.Headers.{size_of}
 use Rattle.image_model.specs.Live.{live_at, own}
 use Rattle.image_model.specs.Files.{data_page}
 use Rattle.image_model.specs.Tables.{table_of}
 use Rattle.image_model.specs.Tidy.{IsTidy}
 use Rattle.image_laws.specs.Reindex.{slot_word}
+use Rattle.renew_laws.specs.Idles.{Idles}
 use Rattle.renew_laws.specs.Primed.{Primed}
+use Rattle.renew_laws.specs.Truncate.{is_past}
 use Rattle.page_renew.specs.declared.edits.Edit.{Edit}
 use Rattle.page_renew.specs.declared.edits.Edit.TheVariants.{Name, Meta, Cut, Grow, GrowBy}
 use Rattle.page_renew.specs.Edits.{edited_size, IsEdited}
@@ -48,6 +50,16 @@ EditSays g = (a b : List ℕ) (id h : ℕ) (head : List ℕ) (f : File) (beside 
 -- and one that keeps the size leaves a tidy image tidy.
 abbrev pub EditTidies : Geometry → Type 0
 EditTidies g = (a c : List ℕ) (id h : ℕ) (head : List ℕ) (f f' : File) (edit : Edit) → Primed g id h head f (λ r. false) a a → edited_size edit (size_of head) ≡ size_of head → EditDone g id edit f' a c → IsTidy g c
+
+-- a live page past these counts of index and data pages
+abbrev pub past_of : (index pages : ℕ) → Option (List ℕ) → Bool
+past_of index pages None = false
+past_of index pages (Some page) = is_past index pages page
+
+-- One that cuts a file leaves a tidy image tidy but for the pages of its id past the new counts.
+abbrev pub CutLeaves : Geometry → Type 0
+CutLeaves g = (a c : List ℕ) (id h : ℕ) (head : List ℕ) (f f' : File) (size : ℕ) → Primed g id h head f (λ r. false) a a → size ≤ size_of head → EditDone g id (Cut size) f' a c →
+    Idles g (λ r. past_of (index_pages g size) (data_pages g size) (own (live_at g c) id r)) c
 
 -- One that adds bytes, which stand behind the old size in the data page that it leads to, leads to the file with these bytes at its end.
 abbrev pub GrowSays : Geometry → Type 0
