@@ -22,24 +22,26 @@ use Rattle.image_laws.proofs.Judge.{found_from, index_passes}
 use Rattle.image_laws.proofs.Reindexed.{judged-parts}
 use Rattle.image_laws.proofs.Serving.{ceil-mono}
 use Rattle.image_laws.proofs.TidySteps.{tidy-is_tidy}
+use Rattle.renew_laws.specs.Append.{Appends}
 use Rattle.renew_laws.specs.Leads.{SameSpans}
 use Rattle.renew_laws.specs.Primed.{Primed}
 use Rattle.renew_laws.proofs.Appended.{appended-is_written}
 use Rattle.renew_laws.proofs.Leading.{renamed-leads}
+use Rattle.renew_laws.proofs.PrimeRenew.{primed-renews}
 use Rattle.renew_laws.proofs.RecopyCuts.{unused-name}
 use Rattle.renew_laws.proofs.RenewTidy.{rename-tidies}
 use Rattle.renew_laws.proofs.Truncating.{truncated-leads}
 use Rattle.page_renew.specs.declared.edits.Edit.{Edit}
 use Rattle.page_renew.specs.declared.edits.Edit.TheVariants.{Name, Meta, Cut, Grow, GrowBy}
 use Rattle.page_renew.specs.Edits.{edited_size, edited_name, edited_meta, IsEdited}
-use Rattle.page_renew.specs.EditLaws.{edited_file, AddsNone, Adds, EditSays, EditTidies, GrowSays, EditKeepsEntries, EditNamesNext}
-use Rattle.page_renew.specs.Renewals.{CanSay}
+use Rattle.page_renew.specs.EditLaws.{edited_file, AddsNone, Adds, EditSays, EditTidies, Grows, GrowSays, GrowTidies, EditKeepsEntries, EditNamesNext}
+use Rattle.page_renew.specs.Renewals.{CanSay, EditDone}
 use Rattle.page_renew.proofs.Homes.{index_some}
 
 -- ---- page numbers
 
 -- one below both page counts is kept
-word_kept : (g : Geometry) (x y : List ℕ) (edit : Edit) → IsEdited g x edit y → (t : ℕ) → t < data_pages g (size_of x) → t < data_pages g (edited_size edit (size_of x)) → t < head_slots g → word_at y (45 + g.meta + 2 * t) ≡ word_at x (45 + g.meta + 2 * t)
+pub word_kept : (g : Geometry) (x y : List ℕ) (edit : Edit) → IsEdited g x edit y → (t : ℕ) → t < data_pages g (size_of x) → t < data_pages g (edited_size edit (size_of x)) → t < head_slots g → word_at y (45 + g.meta + 2 * t) ≡ word_at x (45 + g.meta + 2 * t)
 word_kept g x y (Name name) edited t low later below = edited.entries t below ∙ rw (lt-ltb t (min (data_pages g (size_of x)) (data_pages g (size_of x))) (omega arith)) refl
 word_kept g x y (Meta meta) edited t low later below = edited.entries t below ∙ rw (lt-ltb t (min (data_pages g (size_of x)) (data_pages g (size_of x))) (omega arith)) refl
 word_kept g x y (Cut size) edited t low later below = edited.entries t below ∙ rw (lt-ltb t (min (data_pages g (size_of x)) (data_pages g size)) (omega arith)) refl
@@ -142,48 +144,72 @@ module _ (g : Geometry) (a b : List ℕ) (id h : ℕ) (head : List ℕ) (f : Fil
 pub edit-says : (g : Geometry) → EditSays g
 edit-says g a b id h head f beside edit prime none = says g a b id h head f beside prime edit none
 
+-- the header page that was renewed is the one of the file
+is_header : (o : Option (List ℕ)) (x : List ℕ) {id : ℕ} → o ≡ Some x → IsHead id x → is_index o 0 ≡ true
+is_header o x was head =
+    let span : (span_of x == 0) ≡ true = eq-eqb (span_of x) 0 head.first in
+    rw was (rw (head.index, span) refl)
+
+pub renewed_at : (g : Geometry) (a c : List ℕ) (id h : ℕ) (head : List ℕ) (f f' : File) (beside : ℕ → Bool) (edit : Edit) {b : List ℕ} → Primed g id h head f beside b a → (done : EditDone g id edit f' a c) → (done.o ≡ h) × (done.head ≡ head)
+renewed_at g a c id h head f f' beside edit prime done =
+    let at : done.o ≡ h = prime.only done.o (is_header (own (live_at g a) id done.o) done.head done.renews.was done.renews.old_head) in
+    (at, same_Some done.head head (sym done.renews.was ∙ ap (own (live_at g a) id) at ∙ prime.header))
+
 pub edit-tidies : (g : Geometry) → EditTidies g
 edit-tidies g a c id h head f f' edit prime same done =
-    let at : done.o ≡ h = prime.only done.o (is_header (own (live_at g a) id done.o) done.head done.renews.was done.renews.old_head) in
-    let head_is : done.head ≡ head = same_Some done.head head (sym done.renews.was ∙ ap (own (live_at g a) id) at ∙ prime.header) in
-    let edited : IsEdited g head edit done.y = rw head_is at done.edited in
-    let spans : SameSpans g done.head done.y = rw head_is (same_spans g head done.y edit edited same) in
+    let w = renewed_at g a c id h head f f' (λ (r : ℕ). false) edit prime done in
+    let edited : IsEdited g head edit done.y = rw w.1 at done.edited in
+    let spans : SameSpans g done.head done.y = rw w.1 (same_spans g head done.y edit edited same) in
     let tidy : IsTidy g a = (tidy-is_tidy g a (λ (r : ℕ). false)).1 (λ r e. let bad : false ≡ true = e in absurd (cc)) prime.tidy in
-    (rename-tidies g a c done.to done.o id done.head done.y f f' done.renews (rw at prime.at) (rw head_is prime.file) spans done.replaced tidy).0
-  where
-    is_header : (o : Option (List ℕ)) (x : List ℕ) {id : ℕ} → o ≡ Some x → IsHead id x → is_index o 0 ≡ true
-    is_header o x was head =
-        let span : (span_of x == 0) ≡ true = eq-eqb (span_of x) 0 head.first in
-        rw was (rw (head.index, span) refl)
+    (rename-tidies g a c done.to done.o id done.head done.y f f' done.renews (rw w.0 prime.at) (rw w.1 prime.file) spans done.replaced tidy).0
+
+-- ---- bytes that are added
+
+same_name : (edit : Edit) (name : Option (List ℕ)) → Adds edit → edited_name edit name ≡ name
+same_name (Name now) name none = absurd none
+same_name (Meta meta) name none = absurd none
+same_name (Cut size) name none = absurd none
+same_name (Grow size) name any = refl
+same_name (GrowBy size page) name any = refl
+
+same_meta : (edit : Edit) (meta : List ℕ) → Adds edit → edited_meta edit meta ≡ meta
+same_meta (Name name) meta none = absurd none
+same_meta (Meta now) meta none = absurd none
+same_meta (Cut size) meta none = absurd none
+same_meta (Grow size) meta any = refl
+same_meta (GrowBy size page) meta any = refl
+
+module _ (g : Geometry) (b : List ℕ) (id : ℕ) (head z bytes : List ℕ) (edit : Edit) (grows : Grows g b id head z bytes edit) (y : List ℕ) (edited : IsEdited g head edit y) where
+  more : (t : ℕ) → t < data_pages g (size_of head) → t < data_pages g (edited_size edit (size_of head))
+  more t low = let longer = grows.size in let most = ceil-mono (size_of head) (edited_size edit (size_of head)) (g.page - 5) (omega (arith, (sizes g).page)) (omega (arith, longer)) in omega (arith, most, low)
+
+  appends : Appends g (own (live_at g b) id) head y bytes z
+  appends = record {
+    some = grows.some;
+    fits = grows.fits;
+    size = edited.size ∙ grows.size;
+    words = λ t low below. word_kept g head y edit edited t low (more t low) below;
+    page = grows.page y edited;
+    holds = grows.holds;
+  }
+
+  name_stays : name_of y ≡ name_of head
+  name_stays = edited.name ∙ same_name edit (name_of head) grows.adds
+
+  meta_stays : slice_range y 45 (45 + g.meta) ≡ slice_range head 45 (45 + g.meta)
+  meta_stays = edited.meta ∙ same_meta edit (slice_range head 45 (45 + g.meta)) grows.adds
 
 pub grow-says : (g : Geometry) → GrowSays g
-grow-says g a b id h head z bytes f beside edit prime adds size some fits holds page =
+grow-says g a b id h head z bytes f beside edit prime grows =
     leads_to g a b id h head f beside prime edit (written (length f.bytes) bytes f)
     (λ y edited. appended-is_written g (own (live_at g b) id) id head y bytes z f (lengths g a b id h head f beside prime) prime.file
-    (record {
-      some = some;
-      fits = fits;
-      size = edited.size ∙ size;
-      words = λ t low below. word_kept g head y edit edited t low (more t low) below;
-      page = page y edited;
-      holds = holds;
-    })
-    (edited.name ∙ same_name edit adds) edited.kind (edited.meta ∙ same_meta edit adds))
+    (appends g b id head z bytes edit grows y edited) (name_stays g b id head z bytes edit grows y edited) edited.kind (meta_stays g b id head z bytes edit grows y edited))
     (unused g a b id h head f beside prime)
-  where
-    more : (t : ℕ) → t < data_pages g (size_of head) → t < data_pages g (edited_size edit (size_of head))
-    more t low = let most = ceil-mono (size_of head) (edited_size edit (size_of head)) (g.page - 5) (omega (arith, (sizes g).page)) (omega (arith, size)) in omega (arith, most, low)
 
-    same_name : (edit : Edit) → Adds edit → edited_name edit (name_of head) ≡ name_of head
-    same_name (Name name) none = absurd none
-    same_name (Meta meta) none = absurd none
-    same_name (Cut size) none = absurd none
-    same_name (Grow size) any = refl
-    same_name (GrowBy size page) any = refl
-
-    same_meta : (edit : Edit) → Adds edit → edited_meta edit (slice_range head 45 (45 + g.meta)) ≡ slice_range head 45 (45 + g.meta)
-    same_meta (Name name) none = absurd none
-    same_meta (Meta meta) none = absurd none
-    same_meta (Cut size) none = absurd none
-    same_meta (Grow size) any = refl
-    same_meta (GrowBy size page) any = refl
+pub grow-tidies : (g : Geometry) → GrowTidies g
+grow-tidies g a b c id h head z bytes f f' beside edit prime grows serving done =
+    let w = renewed_at g b c id h head f f' beside edit prime done in
+    let edited : IsEdited g head edit done.y = rw w.1 at done.edited in
+    let law = primed-renews g a b id h done.to head done.y bytes z f beside prime done.renews.inside done.renews.kind done.renews.leads.is_head
+    (appends g b id head z bytes edit grows done.y edited) (name_stays g b id head z bytes edit grows done.y edited) edited.kind (meta_stays g b id head z bytes edit grows done.y edited) (serving done.y edited) in
+    law.2 c (rw w.0 at done.replaced)

@@ -9,3 +9,4 @@ pub mod Edited
 pub mod HeaderRenewed
 pub mod EditsLead
 pub mod Restates
+pub mod CutLeft

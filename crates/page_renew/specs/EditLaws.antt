@@ -1,17 +1,19 @@
 -- Which edits lead to which file.
-use Rattle.std.specs.Prelude.{◌≡◌, ◌≢◌, ℕ, ◌+◌, ◌/◌, ◌%◌, ◌<◌, ◌≤◌, List, length, take, All, Bool, false, Some, slice_range}
+use Rattle.std.specs.Prelude.{◌≡◌, ◌≢◌, ℕ, ◌+◌, ◌/◌, ◌%◌, ◌<◌, ◌≤◌, List, length, take, All, Bool, true, false, Option, Some, None, slice_range}
 use Rattle.geometry.specs.declared.geometry.Geometry.{Geometry}
 use Rattle.geometry.specs.Numbers.{body, head_slots}
-use Rattle.table_model.specs.Table.{File}
+use Rattle.table_model.specs.Table.{File, put_file}
 use Rattle.table_model.specs.Files.{written}
-use Rattle.table_model.specs.Room.{data_pages}
+use Rattle.table_model.specs.Room.{data_pages, index_pages}
 use Rattle.image_model.specs.Headers.{size_of}
 use Rattle.image_model.specs.Live.{live_at, own}
 use Rattle.image_model.specs.Files.{data_page}
 use Rattle.image_model.specs.Tables.{table_of}
-use Rattle.image_model.specs.Tidy.{IsTidy}
+use Rattle.image_model.specs.Tidy.{IsTidy, serves}
 use Rattle.image_laws.specs.Reindex.{slot_word}
+use Rattle.renew_laws.specs.Idles.{Idles}
 use Rattle.renew_laws.specs.Primed.{Primed}
+use Rattle.renew_laws.specs.Truncate.{is_past}
 use Rattle.page_renew.specs.declared.edits.Edit.{Edit}
 use Rattle.page_renew.specs.declared.edits.Edit.TheVariants.{Name, Meta, Cut, Grow, GrowBy}
 use Rattle.page_renew.specs.Edits.{edited_size, IsEdited}
@@ -49,11 +51,34 @@ EditSays g = (a b : List ℕ) (id h : ℕ) (head : List ℕ) (f : File) (beside 
 abbrev pub EditTidies : Geometry → Type 0
 EditTidies g = (a c : List ℕ) (id h : ℕ) (head : List ℕ) (f f' : File) (edit : Edit) → Primed g id h head f (λ r. false) a a → edited_size edit (size_of head) ≡ size_of head → EditDone g id edit f' a c → IsTidy g c
 
--- One that adds bytes, which stand behind the old size in the data page that it leads to, leads to the file with these bytes at its end.
+-- a live page past these counts of index and data pages
+abbrev pub past_of : (index pages : ℕ) → Option (List ℕ) → Bool
+past_of index pages None = false
+past_of index pages (Some page) = is_past index pages page
+
+-- One that cuts a file leaves a tidy image tidy but for the pages of its id past the new counts.
+abbrev pub CutLeaves : Geometry → Type 0
+CutLeaves g = (a c : List ℕ) (id h : ℕ) (head : List ℕ) (f f' : File) (size : ℕ) → Primed g id h head f (λ r. false) a a → size ≤ size_of head → EditDone g id (Cut size) f' a c →
+    Idles g (λ r. past_of (index_pages g size) (data_pages g size) (own (live_at g c) id r)) c
+
+-- An edit adds these bytes: they stand behind the old size in data page z, to which the edited header page leads.
+pub record Grows (g : Geometry) (b : List ℕ) (id : ℕ) (head z bytes : List ℕ) (edit : Edit) : Type 0 where
+  pub adds : Adds edit
+  pub size : edited_size edit (size_of head) ≡ size_of head + length bytes
+  pub some : 0 < length bytes
+  pub fits : size_of head % body g + length bytes ≤ body g
+  pub holds : slice_range z (5 + size_of head % body g) (5 + size_of head % body g + length bytes) ≡ bytes
+  pub page : (y : List ℕ) → IsEdited g head edit y → data_page g (own (live_at g b) id) y (size_of head / body g) ≡ Some z
+
+-- It leads to the file with these bytes at its end,
 abbrev pub GrowSays : Geometry → Type 0
-GrowSays g = (a b : List ℕ) (id h : ℕ) (head z bytes : List ℕ) (f : File) (beside : ℕ → Bool) (edit : Edit) → Primed g id h head f beside a b → Adds edit → edited_size edit (size_of head) ≡ size_of head + length bytes →
-    0 < length bytes → size_of head % body g + length bytes ≤ body g → slice_range z (5 + size_of head % body g) (5 + size_of head % body g + length bytes) ≡ bytes →
-    ((y : List ℕ) → IsEdited g head edit y → data_page g (own (live_at g b) id) y (size_of head / body g) ≡ Some z) → CanSay g b id h edit head (written (length f.bytes) bytes f)
+GrowSays g = (a b : List ℕ) (id h : ℕ) (head z bytes : List ℕ) (f : File) (beside : ℕ → Bool) (edit : Edit) → Primed g id h head f beside a b → Grows g b id head z bytes edit → CanSay g b id h edit head (written (length f.bytes) bytes f)
+
+-- and leaves the image tidy where the pages that were put beside serve the edited header page.
+abbrev pub GrowTidies : Geometry → Type 0
+GrowTidies g = (a b c : List ℕ) (id h : ℕ) (head z bytes : List ℕ) (f f' : File) (beside : ℕ → Bool) (edit : Edit) → Primed g id h head f beside a b → Grows g b id head z bytes edit →
+    ((y : List ℕ) → IsEdited g head edit y → (r : ℕ) → beside r ≡ true → serves g (own (live_at g b) id) y r ≡ true) → EditDone g id edit f' b c →
+    IsTidy g c × (table_of g c ≡ put_file (written (length f.bytes) bytes f) (table_of g a))
 
 -- The header page keeps the entries of the spans below both page counts,
 abbrev pub EditKeepsEntries : Geometry → Type 0

@@ -24,15 +24,15 @@ use Rattle.flash_view.specs.declared.kinds.Kind.TheVariants.{Index}
 use Rattle.flash_view.specs.Steps.{Step}
 use Rattle.page_put.specs.LivePages.{IsPuttable, IsKillable, finished_page}
 use Rattle.page_renew.specs.declared.edits.Edit.{Edit}
-use Rattle.page_renew.specs.declared.finding.Home.{Home}
+use Rattle.page_renew.specs.declared.finding.Found.{Found}
 use Rattle.page_renew.specs.Edits.{IsEdited}
 
 -- ---- where a file is found
 
 -- the header page of an id and the size that it tells, or none
-abbrev pub IsHome : Geometry → List ℕ → ℕ → Option Home → Type 0
+abbrev pub IsHome : Geometry → List ℕ → ℕ → Option Found → Type 0
 IsHome g image id None = index_page g (own (live_at g image) id) 0 ≡ None
-IsHome g image id (Some home) = (index_page g (own (live_at g image) id) 0 ≡ Some home.header) × (home.size ≡ size_of (page_of g image home.header))
+IsHome g image id (Some found) = (index_page g (own (live_at g image) id) 0 ≡ Some found.header) × (found.size ≡ size_of (page_of g image found.header))
 
 -- ---- an index page in the place of another
 

@@ -16,7 +16,7 @@ use page_layout::PageHeader;
 
 /// The header page of a file.
 #[derive(Clone, Copy, Debug, PartialEq, Eq)]
-pub struct Home {
+pub struct Found {
     /// The page.
     pub header: u16,
     /// The size in bytes that it tells.
@@ -36,11 +36,11 @@ fn is_header_of(g: &Geometry, page: u16, head: PageHeader, id: u16) -> bool
 
 /// The header page of the file of an id from 1 to 0x7FFE, and its size; none where there is none.
 #[tactic(auto, using(flash_view::proofs::Looking::looks_then))]
-pub fn find_home<N: Nor>(v: &mut View<'_, N>, id: u16) -> Result<Option<Home>, Failed>
+pub fn find_home<N: Nor>(v: &mut View<'_, N>, id: u16) -> Result<Option<Found>, Failed>
     ensures cause { OnErr result (Rose (N.faults v.old.nor.now) (N.faults v.new.nor.now)) }
     ensures looks { OnlyLooks v.old v.new }
-    ensures entry { IfOk result (λ found. IfSome found (λ home. IsEntryPage v.old.geometry home.header)) }
-    ensures id { IfOk result (λ found. IfSome found (λ home. (1 ≤ id) × (id ≤ 0x7FFE))) }
+    ensures entry { IfOk result (λ found. IfSome found (λ f. IsEntryPage v.old.geometry f.header)) }
+    ensures id { IfOk result (λ found. IfSome found (λ f. (1 ≤ id) × (id ≤ 0x7FFE))) }
     ensures told { N.tells v.old.nor.now → IfOk result (λ found. IsHome v.old.geometry (N.bytes v.old.nor.now) id found) }
 {
     let Some(header) = v.find_index(id, 0)? else {
@@ -51,5 +51,5 @@ pub fn find_home<N: Nor>(v: &mut View<'_, N>, id: u16) -> Result<Option<Home>, F
         return Ok(None);
     }
     let size = size_at(v, header)?;
-    Ok(Some(Home { header, size }))
+    Ok(Some(Found { header, size }))
 }

@@ -12,7 +12,7 @@ mod restating;
 
 pub use building::{build_copy, build_data, build_renamed};
 pub use edits::{Edit, build_edited};
-pub use finding::{Home, find_home};
+pub use finding::{Found, find_home};
 pub use laws::edits_lead;
 pub use naming::index_span;
 pub use renewing::{put_over, renew_at, renew_header};

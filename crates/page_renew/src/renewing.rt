@@ -7,7 +7,7 @@ ghost use Rattle.page_renew.specs.Edits.{IsEditable};
 ghost use Rattle.page_renew.specs.Renewals.{replacing, renewing_at, renewing_from, renewing};
 
 use crate::edits::{Edit, build_edited};
-use crate::finding::{Home, find_home};
+use crate::finding::{Found, find_home};
 use flash_view::{Kind, StepErr, View};
 use free_search::free_page;
 use nor_core::{Failed, Nor, NorState};
@@ -93,6 +93,6 @@ pub fn renew_header<N: Nor>(v: &mut View<'_, N>, id: u16, edit: Edit<'_>) -> Res
     match find_home(v, id) {
         Err(Failed) => Err(StepErr::DeviceFault),
         Ok(None) => Err(StepErr::Damaged(missing(id))),
-        Ok(Some(Home { header, .. })) => renew_from(v, id, header, edit),
+        Ok(Some(Found { header, .. })) => renew_from(v, id, header, edit),
     }
 }

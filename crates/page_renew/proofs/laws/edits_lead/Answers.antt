@@ -1,4 +1,5 @@
-use Rattle.page_renew.proofs.EditsLead.{edit-says, edit-tidies, grow-says, keeps-entries, names-next}
+use Rattle.page_renew.proofs.EditsLead.{edit-says, edit-tidies, grow-says, grow-tidies, keeps-entries, names-next}
+use Rattle.page_renew.proofs.CutLeft.{cut-leaves}
 use Rattle.page_renew.proofs.laws.edits_lead.Goals as goal
 
 pub returns-clause-says : goal.returns-clause-says
@@ -15,3 +16,9 @@ returns-clause-keeps c = keeps-entries
 
 pub returns-clause-names : goal.returns-clause-names
 returns-clause-names c = names-next
+
+pub returns-clause-cuts : goal.returns-clause-cuts
+returns-clause-cuts c = cut-leaves
+
+pub returns-clause-grown : goal.returns-clause-grown
+returns-clause-grown c = grow-tidies
