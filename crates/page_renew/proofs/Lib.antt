@@ -4,3 +4,9 @@ pub mod Homes
 pub mod IndexCopies
 pub mod SlotNames
 pub mod DataBuilding
+pub mod Says
+pub mod Edited
+pub mod HeaderRenewed
+pub mod EditsLead
+pub mod Restates
+pub mod CutLeft

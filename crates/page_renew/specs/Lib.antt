@@ -1,2 +1,6 @@
 pub mod Copies
 pub mod Built
+pub mod Edits
+pub mod Renewals
+pub mod EditLaws
+pub mod Restated

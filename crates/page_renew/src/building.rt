@@ -20,7 +20,7 @@ use page_layout::file_size;
 use table_model::Tag;
 
 // Data pages of a file of that size.
-fn data_pages(g: &Geometry, size: u32) -> u32
+pub(crate) fn data_pages(g: &Geometry, size: u32) -> u32
     ensures { result ≡ the_data_pages g.now size }
 {
     let body = u64::from(g.body());
@@ -28,7 +28,7 @@ fn data_pages(g: &Geometry, size: u32) -> u32
 }
 
 // The size in bytes that a header page tells.
-fn size_at<N: Nor>(v: &mut View<'_, N>, header: u16) -> Result<u32, Failed>
+pub(crate) fn size_at<N: Nor>(v: &mut View<'_, N>, header: u16) -> Result<u32, Failed>
     requires { header < page_count v.old.geometry }
     ensures cause { OnErr result (Rose (N.faults v.old.nor.now) (N.faults v.new.nor.now)) }
     ensures looks { OnlyLooks v.old v.new }

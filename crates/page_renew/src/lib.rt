@@ -3,7 +3,17 @@
 
 mod building;
 mod copying;
+mod edits;
+mod finding;
+mod laws;
 mod naming;
+mod renewing;
+mod restating;
 
 pub use building::{build_copy, build_data, build_renamed};
+pub use edits::{Edit, build_edited};
+pub use finding::{Found, find_home};
+pub use laws::edits_lead;
 pub use naming::index_span;
+pub use renewing::{put_over, renew_at, renew_header};
+pub use restating::restate;

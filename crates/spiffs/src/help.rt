@@ -27,16 +27,34 @@ A script is lines of at most 4096 bytes. Each is a call, and is answered by one
 line; an empty line, or one that begins with `#`, is no call.
 
   create NAME   makes an empty file                      ok
-  remove NAME   removes a file                           ok
+  open NAME FLAGS
+                opens a file, at offset 0                ok FD
+  read FD COUNT reads at most COUNT bytes, 0 to 1024,    ok N TEXT
+                from the offset, which moves; or none    ok 0
+  seek FD OFFSET FROM
+                moves the offset, from `set`, `cur` or
+                `end`                                    ok OFFSET
+  tell FD       tells the offset                         ok OFFSET
+  flush FD      writes what waits: nothing, today        ok
+  close FD      closes a descriptor                      ok
+  remove NAME   removes a file, closes its descriptors   ok
   stat NAME     tells a file's record                    ok ID TYPE SIZE NAME
+  fstat FD      tells that of a descriptor's file        ok ID TYPE SIZE NAME
   next ID       tells the file with the least id above   ok ID TYPE SIZE NAME
                 ID, if there is one                      ok none
   info          tells how full the volume is             ok files F index I data D usable U
 
+FLAGS is a sum: 4 makes a missing file, 8 reads, 16 writes, 64 with 4 refuses a
+file that is there; 1 and 32 tell how it writes. In names, and in bytes that
+were read, `%` and two hexadecimal digits stand for a byte.
+
 A call that is refused is answered by a number: -11000 the name is empty or
-holds a zero byte, -10036 it is longer than 31 bytes, -10002 there is no such
-file, -10023 the name is there, -10001 the volume is full. A call that this
-build does not have (open, read, write and others) ends the run with status 16.
+holds a zero byte, -10036 it is longer than 31 bytes, -11001 bad flags, -10010
+no such descriptor, -10007 every descriptor is open, -10002 there is no such
+file, -10030 and -10023 the file is there, -10022 the descriptor does not read,
+-11002 the place is not in the file, -10001 the volume is full. A call that this
+build does not have (write, fill, truncate, rename, gc, meta, fmeta, and open
+with flag 2, which empties the file) ends the run with status 16.
 
 A list is a line `ID TYPE SIZE NAME` for each file, then for each damaged id
 `damaged ID span S`, `damaged ID name` or `damaged ID same ID2`.

@@ -14,7 +14,10 @@ use Rattle.call_script.specs.Lines.{calls}
 use Rattle.image_model.specs.Tables.{table_of}
 use Rattle.image_model.specs.Tidy.{HasReserve}
 use Rattle.vol_check.specs.declared.report.Report.{Report}
-use Rattle.fd_table.specs.Slots.{descriptors}
+use Rattle.std.specs.Prelude.{min, map, take, length}
+use Rattle.std.proofs.lemmas.List.{length-map, length-take, length-replicate}
+use Rattle.fd_table.specs.declared.slot.FdSlot.{FdSlot}
+use Rattle.fd_table.specs.Slots.{descriptors, held}
 use Rattle.volume.specs.declared.volume.Volume.{Volume}
 use Rattle.volume.specs.Holds.{memory}
 use Rattle.call_model.specs.Memory.{Memory, IsAt, RunWaits}
@@ -219,5 +222,11 @@ pub reported_begun : {g : Geometry} {was now : List ℕ} (report : Report) → R
 reported_begun report reported enough = record { takes = reported.takes; tidy = reported.done.tidy; reserve = omega (arith, reported.done.free, enough) }
 
 -- what a volume remembers that was checked, before the first call
-pub memory_begun : {N : Type 0} {nor : NorOf N} (old new : Volume N nor) (slots : ℕ) → new.slots.now ≡ old.slots.now → descriptors old.slots.now ≡ replicate slots None → memory new ≡ closed_memory slots
-memory_begun old new slots same closed = rw (same, closed) refl
+slots_count : (lent : List FdSlot) (n : ℕ) → descriptors lent ≡ replicate n None → min 65535 (length lent) ≡ n
+unfolding descriptors
+slots_count lent n closed =
+    let same : length (map held (take 65535 lent)) ≡ length (replicate {A = Option Open} n None) = ap length closed in
+    sym (length-map (take 65535 lent) held ∙ length-take 65535 lent) ∙ same ∙ length-replicate n None
+
+pub memory_begun : {N : Type 0} {nor : NorOf N} (old new : Volume N nor) (slots : ℕ) → descriptors new.slots.now ≡ replicate (min 65535 (length old.slots.now)) None → descriptors old.slots.now ≡ replicate slots None → memory new ≡ closed_memory slots
+memory_begun old new slots now was = rw (now, slots_count old.slots.now slots was) refl

@@ -47,7 +47,7 @@ fn begin<B: Board>(volume: &mut Volume<'_, B>) -> Result<(), Ending>
     ensures no_script { ¬ (result ≡ Err Ending.SourceFault) }
     ensures cause { result ≡ Err Ending.BoardFault → Rose (B.faults volume.old.nor.now) (B.faults volume.new.nor.now) }
     ensures taken { OnOk result (takes_calls volume.new ≡ true) }
-    ensures slots { volume.new.slots.now ≡ volume.old.slots.now }
+    ensures closed { OnOk result (descriptors volume.new.slots.now ≡ replicate (min 65535 (length volume.old.slots.now)) None) }
     ensures same { IsSameVolume volume.old volume.new }
     ensures changes { Changes B.NorState volume.old.nor.now volume.new.nor.now (Checks volume.old.geometry) }
     ensures begun { B.tells volume.old.nor.now → OnOk result (Begun volume.old.geometry (B.bytes volume.old.nor.now) (B.bytes volume.new.nor.now)) }

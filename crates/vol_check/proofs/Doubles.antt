@@ -3,7 +3,7 @@ use Rattle.std.proofs.Common.{◌≡◌, ◌≢◌, ℕ, ◌+◌, ◌%◌, ◌<�
 use Rattle.std.specs.Prelude.{is_some}
 use Rattle.std.specs.List.{range_with_len, list_any}
 use Rattle.std.specs.Option.{option_map, option_eq}
-use Rattle.std.proofs.lemmas.Bool.{cases_eq, cases_lt, cases_Bool, and_parts, eq-eqb, le-ltb, or_cases}
+use Rattle.std.proofs.lemmas.Bool.{cases_eq, cases_lt, cases_Bool, and_parts, le-ltb, not-true, or_cases}
 use Rattle.std.proofs.lemmas.Option.{same_Some}
 use Rattle.geometry.specs.declared.geometry.Geometry.{Geometry}
 use Rattle.table_model.specs.Room.{index_pages, data_pages}
@@ -13,20 +13,23 @@ use Rattle.page_layout.specs.Layout.{header_at}
 use Rattle.image_model.specs.Volume.{page_count}
 use Rattle.image_model.specs.Headers.{obj_id, span_of, names_index, size_of}
 use Rattle.image_model.specs.Live.{live_at, is_live, Live, own}
-use Rattle.image_model.specs.Places.{IsImage, is_entry_page}
+use Rattle.image_model.specs.Places.{is_entry_page}
 use Rattle.image_model.specs.Files.{index_page, is_index, entry_number, data_of}
 use Rattle.image_model.specs.Tables.{Found, damaged_of, damages}
 use Rattle.image_model.specs.Tidy.{is_number, is_wanted, is_wanted_as, serves}
-use Rattle.image_model.specs.Sound.{HasMagics}
 use Rattle.image_laws.specs.Changes.{Loses}
 use Rattle.image_laws.proofs.Damaged.{any_at}
-use Rattle.image_laws.proofs.Doubled.{doubled-keeps, doubled-has, index-span_is}
+use Rattle.image_laws.proofs.Doubled.{doubled-has, doubled-wanted, index-span_is}
 use Rattle.image_laws.proofs.Judge.{index_passes}
 use Rattle.image_laws.proofs.Kill.{own-loses, own-loses_other, index-loses}
 use Rattle.image_laws.proofs.Wanted.{number-other}
 use Rattle.image_laws.proofs.Wants.{number-is, wanted_parts}
-use Rattle.vol_check.specs.Culls.{MayCull, Culls, Passes, is_doubled, is_doubled_as, CullsDoubled, PassesDoubled}
-use Rattle.vol_check.proofs.Passing.{passes_none, passes_next}
+use Rattle.vol_check.specs.Culls.{MayCull, Culls, Passes, is_doubled, is_doubled_as, HasNoDoubles, CullsDoubled, PassesDoubled}
+use Rattle.vol_check.specs.Works.{Work, culling, culling_doubled}
+use Rattle.vol_check.proofs.CullStep.{spares_by}
+use Rattle.vol_check.proofs.Resting.{own_self, headed_page, headless_page}
+use Rattle.vol_check.proofs.Working.{Goes}
+use Rattle.vol_check.proofs.Passing.{culls_nothing, passes_none, passes_next}
 
 -- ---- what the header of a page tells
 
@@ -42,42 +45,28 @@ dead_single g a p e = rw e refl
 pub lookup_single : (g : Geometry) (a : List ℕ) (p : ℕ) → is_entry_page g p ≡ false → is_doubled g a p ≡ false
 lookup_single g a p e = dead_single g a p (lookup_dead g a p e)
 
-none_seen : (g : Geometry) (a : List ℕ) (p : ℕ) (o : Option (List ℕ)) → None ≡ option_map header_at o → is_doubled_as g a p o ≡ false
-none_seen g a p None e = refl
-none_seen g a p (Some page) e = absurd (cc)
-
 pub no_header_single : (g : Geometry) (a : List ℕ) (p : ℕ) → None ≡ option_map header_at (live_at g a p) → is_doubled g a p ≡ false
-unfolding is_doubled
-no_header_single g a p e = none_seen g a p (live_at g a p) e
-
-data_seen : (g : Geometry) (a : List ℕ) (p : ℕ) (head : PageHeader) (o : Option (List ℕ)) → Some head ≡ option_map header_at o → layout.names_index head ≡ false → is_doubled_as g a p o ≡ false
-data_seen g a p head None e kind_no = refl
-data_seen g a p head (Some page) e kind_no =
-    let is : head ≡ header_at page = cc in
-    let kind : names_index page ≡ false = rw is at kind_no in
-    rw kind refl
+no_header_single g a p e = dead_single g a p (headless_page (live_at g a p) e)
 
 pub data_single : (g : Geometry) (a : List ℕ) (p : ℕ) (head : PageHeader) → Some head ≡ option_map header_at (live_at g a p) → layout.names_index head ≡ false → is_doubled g a p ≡ false
 unfolding is_doubled
-data_single g a p head e kind_no = data_seen g a p head (live_at g a p) e kind_no
+data_single g a p head e kind =
+    let w = headed_page (live_at g a p) head e in
+    let holds : names_index w.0 ≡ false = rw w.2 at kind in
+    rw (w.1, holds) refl
 
 other_number : (o : Option ℕ) (p : ℕ) → option_eq (λ (x y : ℕ). x == y) o (Some p) ≡ is_number o p
 other_number None p = refl
 other_number (Some q) p = refl
 
-index_seen : (g : Geometry) (a : List ℕ) (p : ℕ) (head : PageHeader) (first : Option ℕ) (o : Option (List ℕ)) → Some head ≡ option_map header_at o → layout.names_index head ≡ true →
-    first ≡ index_page g (own (live_at g a) (head.id % 0x8000)) head.span → not (option_eq (λ (x y : ℕ). x == y) first (Some p)) ≡ is_doubled_as g a p o
-index_seen g a p head first None e index is = absurd (cc)
-index_seen g a p head first (Some page) e index is =
-    let same : head ≡ header_at page = cc in
-    let kind : names_index page ≡ true = rw same at index in
-    let at : first ≡ index_page g (own (live_at g a) (obj_id page % 0x8000)) (span_of page) = rw same at is in
-    rw kind (ap (λ (x : Bool). not x) (other_number first p ∙ ap (λ (x : Option ℕ). is_number x p) at))
-
 pub index_told : (g : Geometry) (a : List ℕ) (p : ℕ) (head : PageHeader) (first : Option ℕ) → Some head ≡ option_map header_at (live_at g a p) → layout.names_index head ≡ true →
     first ≡ index_page g (own (live_at g a) (head.id % 0x8000)) head.span → not (option_eq (λ (x y : ℕ). x == y) first (Some p)) ≡ is_doubled g a p
 unfolding is_doubled
-index_told g a p head first e index is = index_seen g a p head first (live_at g a p) e index is
+index_told g a p head first e index is =
+    let w = headed_page (live_at g a p) head e in
+    let kind : names_index w.0 ≡ true = rw w.2 at index in
+    let at : first ≡ index_page g (own (live_at g a) (obj_id w.0 % 0x8000)) (span_of w.0) = rw w.2 at is in
+    rw (w.1, kind) (ap (λ (x : Bool). not x) (other_number first p ∙ ap (λ (x : Option ℕ). is_number x p) at))
 
 -- ---- a doubled page by its parts
 
@@ -87,15 +76,11 @@ pub record IsDouble (g : Geometry) (live : Live) (p : ℕ) : Type 0 where
   pub index : names_index page ≡ true
   pub later : index_page g (own live (obj_id page % 0x8000)) (span_of page) ≢ Some p
 
-not_true : (x : Bool) → not x ≡ true → x ≡ false
-not_true true h = cc
-not_true false h = refl
-
 parts_of : (g : Geometry) (a : List ℕ) (p : ℕ) (o : Option (List ℕ)) → live_at g a p ≡ o → is_doubled_as g a p o ≡ true → IsDouble g (live_at g a) p
 parts_of g a p None at h = absurd (cc)
 parts_of g a p (Some page) at h =
     let w = and_parts _ _ h in
-    record { page = page; live_is = at; index = w.0; later = number-other (index_page g (own (live_at g a) (obj_id page % 0x8000)) (span_of page)) p (not_true _ w.1) }
+    record { page = page; live_is = at; index = w.0; later = number-other (index_page g (own (live_at g a) (obj_id page % 0x8000)) (span_of page)) p (not-true _ w.1) }
 
 pub doubled_parts : (g : Geometry) (a : List ℕ) (p : ℕ) → is_doubled g a p ≡ true → IsDouble g (live_at g a) p
 unfolding is_doubled
@@ -103,8 +88,7 @@ doubled_parts g a p h = parts_of g a p (live_at g a p) refl h
 
 module _ (g : Geometry) (live : Live) (p : ℕ) (d : IsDouble g live p) where
   own_is : own live (obj_id d.page % 0x8000) p ≡ Some d.page
-  unfolding own
-  own_is = rw d.live_is (rw (eq-eqb (obj_id d.page % 0x8000) (obj_id d.page % 0x8000) refl) refl)
+  own_is = own_self live p d.page d.live_is
 
   -- it is the index page of no span
   pub index_never : (j : ℕ) → index_page g (own live (obj_id d.page % 0x8000)) j ≢ Some p
@@ -139,16 +123,19 @@ module _ (g : Geometry) (live : Live) (p : ℕ) (d : IsDouble g live p) where
       (λ (no : is_wanted_as g live (live p) p ≡ false). no)
       (cases_Bool (is_wanted_as g live (live p) p))
 
-pub may_cull_double : (g : Geometry) (a : List ℕ) (p : ℕ) → IsImage g a → HasMagics g a → is_doubled g a p ≡ true → MayCull g a p
+may_cull : (g : Geometry) (a : List ℕ) (p : ℕ) → is_doubled g a p ≡ true → MayCull g a p
 unfolding is_wanted
-may_cull_double g a p is h doubled =
+may_cull g a p doubled =
     let d = doubled_parts g a p doubled in
     record {
       page = d.page;
       live = d.live_is;
       unwanted = unwanted_as g (live_at g a) p d;
-      keeps = λ flags b clears torn. doubled-keeps g a b p flags d.page is h d.live_is d.index d.later clears torn;
+      spares = λ b change. spares_by g a b p (doubled-has g p d.page (live_at g a) (live_at g b) d.live_is change d.index d.later) (doubled-wanted g p d.page (live_at g a) (live_at g b) d.live_is change d.index d.later);
     }
+
+pub may_be_culled : (g : Geometry) (a : List ℕ) (p : ℕ) → is_doubled g a p ≡ true → Goes g a a (culling p) (culling_doubled p)
+may_be_culled g a p doubled = record { needs = may_cull g a p doubled; idle = λ quiet. let bad : true ≡ false = sym doubled ∙ quiet in absurd (cc) }
 
 -- ---- after its kill
 
@@ -185,6 +172,10 @@ culls_double g a b p doubled c =
       damaged = same_damaged g a b p d change;
     }
 
+-- a page that isn't doubled stays
+pub doubles_nothing : (g : Geometry) (a : List ℕ) (p : ℕ) → is_doubled g a p ≡ false → CullsDoubled g p false a a
+doubles_nothing g a p single = record { culls = culls_nothing g a p; single = single; others = λ q there. refl; damaged = refl }
+
 -- ---- p pages on, with n of them killed
 
 pub record Doubling (g : Geometry) (first now : List ℕ) (p n : ℕ) : Type 0 where
@@ -192,8 +183,11 @@ pub record Doubling (g : Geometry) (first now : List ℕ) (p n : ℕ) : Type 0 w
   pub single : (q : ℕ) → q < p → is_doubled g now q ≡ false
   pub damaged : damaged_of g now ≡ damaged_of g first
 
-pub doubling_start : (g : Geometry) (a : List ℕ) → HasMagics g a → Doubling g a a 0 0
-doubling_start g a h = record { passes = passes_none g a h; single = λ q low. absurd (omega arith); damaged = refl }
+abbrev pub doubling_to : ℕ → Work ℕ
+doubling_to p = record { needs = λ g was. Unit {0}; done = λ g was now n. Doubling g was now p n; idle = λ g was. HasNoDoubles g was }
+
+pub doubling_start : (g : Geometry) (a : List ℕ) → Doubling g a a 0 0
+doubling_start g a = record { passes = passes_none g a; single = λ q low. absurd (omega arith); damaged = refl }
 
 pub doubling_next : (g : Geometry) (first a b : List ℕ) (p n m : ℕ) (killed : Bool) → Doubling g first a p n → CullsDoubled g p killed a b → m ≡ n + cond killed 1 0 → Doubling g first b (p + 1) m
 doubling_next g first a b p n m killed s t e = record {
@@ -204,10 +198,6 @@ doubling_next g first a b p n m killed s t e = record {
       (cases_eq q p);
   damaged = t.damaged ∙ s.damaged;
 }
-
--- one turn more, as the later view's geometry tells of it
-pub doubling_on : (g h : Geometry) (first a b : List ℕ) (p n m : ℕ) (killed : Bool) → h ≡ g → Doubling g first a p n → CullsDoubled h p killed a b → m ≡ n + cond killed 1 0 → Doubling g first b (p + 1) m
-doubling_on g h first a b p n m killed same s t e = doubling_next g first a b p n m killed s (subst (λ (k : Geometry). CullsDoubled k p killed a b) same t) e
 
 outside_single : (g : Geometry) (a : List ℕ) (q : ℕ) → page_count g ≤ q → is_doubled g a q ≡ false
 unfolding is_entry_page

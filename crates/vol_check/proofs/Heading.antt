@@ -1,17 +1,17 @@
 -- Killing the header pages of damaged files, one after the other.
-use Rattle.std.proofs.Common.{◌≡◌, ℕ, ◌+◌, ◌<◌, ◌≤◌, List, [], length, Bool, cond, Some, None, ap, refl, ◌∙◌, arith, ⊎_elim}
+use Rattle.std.proofs.Common.{◌≡◌, ℕ, ◌+◌, ◌<◌, ◌≤◌, List, [], length, Bool, cond, Option, Some, None, Result, ap, refl, ◌∙◌, arith, ⊎_elim}
 use Rattle.std.proofs.lemmas.Bool.{cases_lt, cases_eq}
 use Rattle.geometry.specs.declared.geometry.Geometry.{Geometry}
-use Rattle.image_model.specs.Places.{page_of}
-use Rattle.image_model.specs.Live.{live_at, own}
-use Rattle.image_model.specs.Files.{judged}
+use Rattle.image_model.specs.Live.{live_at}
+use Rattle.table_model.specs.Table.{File}
+use Rattle.image_model.specs.declared.damage.Damage.{Damage}
 use Rattle.image_model.specs.Tables.{has_of, damaged_of}
-use Rattle.image_model.specs.Sound.{HasMagics}
 use Rattle.image_laws.proofs.Finish.{has_of-within}
 use Rattle.flash_view.specs.Marks.{IsMarked, NextHead, cause_at}
-use Rattle.flash_view.proofs.Marking.{has_at}
 use Rattle.flash_view.proofs.Stepping.{gap, past}
-use Rattle.vol_check.specs.Culls.{HasNoDoubles, Passes, CullsHead, PassesDamaged}
+use Rattle.vol_check.specs.Culls.{HasNoDoubles, Passes, PassesDamaged}
+use Rattle.vol_check.specs.Works.{Work, TurnsHead, culling_head, culling_damaged}
+use Rattle.vol_check.proofs.Working.{Goes}
 use Rattle.vol_check.proofs.Passing.{passes_none, passes_next}
 use Rattle.vol_check.proofs.Heads.{none_damaged, damaged_none}
 
@@ -23,28 +23,31 @@ pub record Heading (g : Geometry) (first now marks : List ℕ) (at n : ℕ) : Ty
   pub none : (j : ℕ) → 1 ≤ j → j ≤ at → cause_at g now j ≡ None
   pub count : n + length (damaged_of g now) ≡ length (damaged_of g first)
 
-pub heading_start : (g : Geometry) (a marks : List ℕ) → HasMagics g a → HasNoDoubles g a → IsMarked g a marks → Heading g a a marks 0 0
-heading_start g a marks magics single marked = record { marked = marked; passes = passes_none g a magics; single = single; none = λ j low high. absurd (omega arith); count = omega arith }
+abbrev pub heading_to : ℕ → List ℕ → Work ℕ
+heading_to at marks = record { needs = λ g was. HasNoDoubles g was; done = λ g was now n. Heading g was now marks at n; idle = λ g was. damaged_of g was ≡ [] }
+
+pub heading_start : (g : Geometry) (a marks : List ℕ) → HasNoDoubles g a → IsMarked g a marks → Heading g a a marks 0 0
+heading_start g a marks single marked = record { marked = marked; passes = passes_none g a; single = single; none = λ j low high. absurd (omega arith); count = omega arith }
 
 headless_none : (g : Geometry) (image : List ℕ) (j : ℕ) → has_of g (live_at g image) j ≡ None → cause_at g image j ≡ None
 unfolding cause_at
 headless_none g image j none = rw none refl
 
 -- the next id with a header page
-pub heading_next : (g : Geometry) (first a b marks marks' : List ℕ) (at n m id p : ℕ) (killed : Bool) → Heading g first a marks at n → NextHead g a at (Some (id, p)) → CullsHead g id p killed a b → IsMarked g b marks' →
-    m ≡ n + cond killed 1 0 → Heading g first b marks' id m
-heading_next g first a b marks marks' at n m id p killed was next turn marked e = record {
-  marked = marked;
-  passes = passes_next g first a b p n m killed was.passes turn.culls e;
-  single = turn.single;
+pub heading_next : (g : Geometry) (first a b marks later : List ℕ) (at n m id p : ℕ) (killed : Bool) → Heading g first a marks at n → NextHead g a at (Some (id, p)) → TurnsHead g id p later killed a b →
+    m ≡ n + cond killed 1 0 → Heading g first b later id m
+heading_next g first a b marks later at n m id p killed was next turn e = record {
+  marked = turn.marked;
+  passes = passes_next g first a b p n m killed was.passes turn.culls.culls e;
+  single = turn.culls.single;
   none = λ j low high. ⊎_elim
-      (λ (here : j ≡ id). rw here turn.none)
-      (λ (there : j ≡ id → ⊥). turn.others j there ∙ ⊎_elim
+      (λ (here : j ≡ id). rw here turn.culls.none)
+      (λ (there : j ≡ id → ⊥). turn.culls.others j there ∙ ⊎_elim
       (λ (above : at < j). headless_none g a j (gap g a at id p j next above (omega (arith, high, there))))
       (λ (below : j ≤ at). was.none j low below)
       (cases_lt at j))
       (cases_eq j id);
-  count = omega (arith, was.count, turn.count, e);
+  count = let less = turn.culls.count in omega (arith, was.count, less, e);
 }
 
 -- none is left
@@ -56,11 +59,17 @@ heading_end g first a marks at n was last =
     (λ (below : j ≤ at). was.none j low below)
     (cases_lt at j)) in
     let zero : length (damaged_of g a) ≡ 0 = ap length none in
-    record { passes = was.passes; single = was.single; none = none; count = omega (arith, was.count, zero) }
+    record { passes = was.passes; settled = record { single = was.single; undamaged = none }; count = omega (arith, was.count, zero) }
 
--- where nothing is damaged no header page is killed
-pub heading_idle : (g : Geometry) (image : List ℕ) (at id p : ℕ) → damaged_of g image ≡ [] → NextHead g image at (Some (id, p)) → cause_at g image id ≡ None
+-- where nothing is damaged no id is
+heading_idle : (g : Geometry) (image : List ℕ) (id : ℕ) → damaged_of g image ≡ [] → cause_at g image id ≡ None
 unfolding damaged_of cause_at
-heading_idle g image at id p none next =
-    let within = has_of-within g image id p (judged g (own (live_at g image) id) id (page_of g image p)) (has_at g image id p next.1) in
-    damaged_none (has_of g (live_at g image)) 0x7FFF id none within.0 within.1
+heading_idle g image id none = by (has_of g (live_at g image) id) refl
+  where
+    by : (o : Option (ℕ × Result File Damage)) → has_of g (live_at g image) id ≡ o → cause_at g image id ≡ None
+    by None e = headless_none g image id e
+    by (Some (p, r)) e = let within = has_of-within g image id p r e in damaged_none (has_of g (live_at g image)) 0x7FFF id none within.0 within.1
+
+-- the turn of the next id that has a header page
+pub heading_goes : (g : Geometry) (first a marks later : List ℕ) (at n id p : ℕ) → Heading g first a marks at n → NextHead g a at (Some (id, p)) → Goes g first a (culling_head id p marks later) culling_damaged
+heading_goes g first a marks later at n id p was next = record { needs = record { first = next.1; single = was.single; marked = was.marked }; idle = λ none. heading_idle g first id none }

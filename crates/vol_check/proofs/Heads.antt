@@ -1,10 +1,10 @@
 -- Killing the header page of a damaged file.
-use Rattle.std.proofs.Common.{◌≡◌, ◌≢◌, ℕ, zero, suc, ◌+◌, ◌%◌, ◌<◌, ◌≤◌, not, List, [], length, slice_set, true, false, Option, Some, None, Result, Ok, Err, ap, refl, sym, ◌∙◌, arith, ⊎_elim, subst}
+use Rattle.std.proofs.Common.{◌≡◌, ◌≢◌, ℕ, zero, suc, ◌+◌, ◌%◌, ◌<◌, ◌≤◌, List, [], length, slice_set, true, false, Option, Some, None, Result, Ok, Err, ap, refl, sym, ◌∙◌, arith, ⊎_elim}
 use Rattle.std.proofs.Math.Path.{fun_ext}
 use Rattle.std.specs.Prelude.{find, unwrap_or}
 use Rattle.std.specs.Option.{option_map}
 use Rattle.std.specs.List.{range_with_len, filter_map, cons_option}
-use Rattle.std.proofs.lemmas.Bool.{cases_eq, cases_Bool, and_parts, eq-eqb, eqb-true, ne_eqb}
+use Rattle.std.proofs.lemmas.Bool.{cases_eq, cases_Bool, and_parts, eqb-true, ne_eqb}
 use Rattle.std.proofs.lemmas.List.{get_or-set_same, get_or-set_other}
 use Rattle.std.proofs.lemmas.Option.{none-some, same_Some}
 use Rattle.geometry.specs.declared.geometry.Geometry.{Geometry}
@@ -12,26 +12,28 @@ use Rattle.table_model.specs.Table.{File}
 use Rattle.image_model.specs.declared.damage.Damage.{Damage}
 use Rattle.image_model.specs.declared.damage.Damage.TheVariants.{SameName}
 use Rattle.image_model.specs.Volume.{page_count}
-use Rattle.image_model.specs.Places.{IsImage, page_of, is_entry_page}
+use Rattle.image_model.specs.Places.{page_of, is_entry_page}
 use Rattle.image_model.specs.Headers.{obj_id, span_of, names_index}
 use Rattle.image_model.specs.Live.{Live, live_at, own}
 use Rattle.image_model.specs.Files.{is_index, index_page, found, judged}
-use Rattle.image_model.specs.Tables.{Found, has_of, counts, counted, is_named, holder, damage, damages, damaged_of, ids}
-use Rattle.image_model.specs.Tidy.{is_wanted, is_number}
-use Rattle.image_model.specs.Sound.{HasMagics}
+use Rattle.image_model.specs.Tables.{Found, has_of, counts, counted, is_named, holder, damage, damages, table_of, damaged_of, ids}
+use Rattle.image_model.specs.Tidy.{is_wanted}
 use Rattle.image_laws.specs.Changes.{Loses}
 use Rattle.image_laws.proofs.Frames.{live_parts}
-use Rattle.image_laws.proofs.Sounding.{keeps-itself}
 use Rattle.image_laws.proofs.Tables.{find_none}
 use Rattle.image_laws.proofs.Judge.{found_none}
 use Rattle.image_laws.proofs.Finish.{own-parts, has_of-within}
-use Rattle.image_laws.proofs.Kill.{own-loses, own-loses_other, index-loses}
-use Rattle.image_laws.proofs.DamagedHead.{counts-gone, counted-gone, damaged_head-keeps}
+use Rattle.image_laws.proofs.Kill.{own-loses, own-loses_other}
+use Rattle.image_laws.proofs.DamagedHead.{counts-gone, counted-gone, table-now, damaged-now, wanted-now}
 use Rattle.flash_view.specs.Found.{headed}
 use Rattle.flash_view.specs.Marks.{mark_as, mark_of, IsMarked, cause_at}
 use Rattle.flash_view.proofs.Marking.{has_at, other_mark}
 use Rattle.flash_view.proofs.Spans.{index_known}
-use Rattle.vol_check.specs.Culls.{MayCull, is_doubled_as, is_doubled, HasNoDoubles, Culls, CullsHead}
+use Rattle.vol_check.specs.Culls.{MayCull, HasNoDoubles, Culls}
+use Rattle.vol_check.specs.Works.{IsHead, TurnsHead, culling, culling_head}
+use Rattle.vol_check.proofs.Working.{Goes}
+use Rattle.vol_check.proofs.Passing.{culls_nothing}
+use Rattle.vol_check.proofs.Resting.{quiet_at, single_index, single_loses}
 
 -- ---- a list that goes by numbers
 
@@ -39,23 +41,10 @@ length_more : {X : Type 0} (o : Option X) (xs ys : List X) → 1 + length xs ≡
 length_more None xs ys e = e
 length_more (Some x) xs ys e = omega (arith, e)
 
-none_here : {X : Type 0} (o : Option X) (xs : List X) → cons_option o xs ≡ [] → (o ≡ None) × (xs ≡ [])
-none_here None xs e = (refl, e)
-none_here (Some x) xs e = absurd (cc)
-
 module _ {X : Type 0} (h : ℕ → Option X) where
   pub none_listed : (a n : ℕ) → ((j : ℕ) → a ≤ j → h j ≡ None) → filter_map h (range_with_len a n) ≡ []
   none_listed a zero none = refl
   none_listed a (suc n) none = rw (none a (omega arith), none_listed (a + 1) n (λ j low. none j (omega arith))) refl
-
-  pub listed_none : (a n j : ℕ) → filter_map h (range_with_len a n) ≡ [] → a ≤ j → j < a + n → h j ≡ None
-  listed_none a zero j e low high = absurd (omega arith)
-  listed_none a (suc n) j e low high =
-      let w = none_here (h a) (filter_map h (range_with_len (a + 1) n)) e in
-      ⊎_elim
-      (λ (here : a ≡ j). sym (ap h here) ∙ w.0)
-      (λ (there : a ≡ j → ⊥). listed_none (a + 1) n j w.1 (omega (arith, there)) (omega arith))
-      (cases_eq a j)
 
   module _ (k : ℕ → Option X) where
     same_listed : (a n : ℕ) → ((j : ℕ) → a ≤ j → k j ≡ h j) → filter_map k (range_with_len a n) ≡ filter_map h (range_with_len a n)
@@ -94,8 +83,7 @@ unfolding damages
 none_damaged has n none = none_listed (λ (j : ℕ). damage has n j (has j)) 1 n (λ j low. no_damage (damage has n j (has j)) (none j low))
 
 pub damaged_none : (has : Found) (n j : ℕ) → damages has n ≡ [] → 1 ≤ j → j ≤ n → cause_in has n j ≡ None
-unfolding damages
-damaged_none has n j none low high = rw (listed_none (λ (j : ℕ). damage has n j (has j)) 1 n j none low (omega arith)) refl
+damaged_none has n j none low high = rw (quiet_at has n j none low high) refl
 
 -- an id with a cause isn't in the table
 damaged_or : (has : Found) (n id : ℕ) (o : Option (ℕ × Result File Damage)) (cause : Damage) → option_map (λ d. d.1) (damage has n id o) ≡ Some cause → (counted has n o ≡ None) × (d : ℕ × Damage) × (damage has n id o ≡ Some d)
@@ -140,54 +128,17 @@ index_parts : (o : Option (List ℕ)) (span : ℕ) → is_index o span ≡ true 
 index_parts None span h = absurd (cc)
 index_parts (Some page) span h = let w = and_parts _ _ h in (page, refl, w.0, eqb-true (span_of page) span w.1)
 
-number_here : (o : Option ℕ) (p : ℕ) → not (is_number o p) ≡ false → o ≡ Some p
-number_here None p e = absurd (cc)
-number_here (Some q) p e =
-    ⊎_elim
-    (λ (same : q ≡ p). ap (λ (x : ℕ). Some x) same)
-    (λ (other : q ≡ p → ⊥). absurd (let bad : true ≡ false = rw (ne_eqb q p other) at e in cc))
-    (cases_eq q p)
-
-first_by : (g : Geometry) (image : List ℕ) (q : ℕ) (page : List ℕ) → is_doubled_as g image q (Some page) ≡ false → names_index page ≡ true → index_page g (own (live_at g image) (obj_id page % 0x8000)) (span_of page) ≡ Some q
-first_by g image q page single index = number_here (index_page g (own (live_at g image) (obj_id page % 0x8000)) (span_of page)) q (rw index at single)
-
-first_here : (g : Geometry) (image : List ℕ) (q : ℕ) (page : List ℕ) → live_at g image q ≡ Some page → names_index page ≡ true → HasNoDoubles g image → index_page g (own (live_at g image) (obj_id page % 0x8000)) (span_of page) ≡ Some q
-unfolding is_doubled
-first_here g image q page live index single = first_by g image q page (subst (λ (o : Option (List ℕ)). is_doubled_as g image q o ≡ false) live (single q)) index
-
 -- an id has one header page
 pub one_header : (g : Geometry) (image : List ℕ) (id p q : ℕ) → HasNoDoubles g image → index_page g (own (live_at g image) id) 0 ≡ Some p → is_index (own (live_at g image) id q) 0 ≡ true → q ≡ p
 one_header g image id p q single first is =
     let w = index_parts (own (live_at g image) id q) 0 is in
     let v = own-parts (live_at g image) id q w.0 w.1 in
-    let at : index_page g (own (live_at g image) id) 0 ≡ Some q = rw (v.1, w.3) at (first_here g image q w.0 v.0 w.2 single) in
+    let at : index_page g (own (live_at g image) id) 0 ≡ Some q = rw (v.1, w.3) at (single_index g image q w.0 (single q) v.0 w.2) in
     same_Some q p (sym at ∙ first)
 
 -- ---- the image without that page
 
 module _ (g : Geometry) (a b : List ℕ) (p : ℕ) (head : List ℕ) (live : live_at g a p ≡ Some head) (change : Loses p (live_at g a) (live_at g b)) where
-  single_as : (q : ℕ) (o : Option (List ℕ)) → q ≢ p → is_doubled_as g a q o ≡ false → is_doubled_as g b q o ≡ false
-  single_as q None other single = refl
-  single_as q (Some page) other single =
-      ⊎_elim
-      (λ (index : names_index page ≡ true).
-      let at = first_by g a q page single index in
-      let still : index_page g (own (live_at g b) (obj_id page % 0x8000)) (span_of page) ≡ index_page g (own (live_at g a) (obj_id page % 0x8000)) (span_of page) =
-      index-loses g p (own (live_at g a) (obj_id page % 0x8000)) (own (live_at g b) (obj_id page % 0x8000)) (own-loses p head (live_at g a) (live_at g b) live change (obj_id page % 0x8000)) (span_of page)
-      (λ e. other (same_Some q p (sym at ∙ e))) in
-      rw (index, still, at) (rw (eq-eqb q q refl) refl))
-      (λ (other_kind : names_index page ≡ false). rw other_kind refl)
-      (cases_Bool (names_index page))
-
-  -- no page is doubled by it
-  pub single_less : HasNoDoubles g a → HasNoDoubles g b
-  unfolding is_doubled
-  single_less single q =
-      ⊎_elim
-      (λ (here : q ≡ p). rw here (rw change.after refl))
-      (λ (there : q ≡ p → ⊥). rw (change.others q there) (single_as q (live_at g a q) there (single q)))
-      (cases_eq q p)
-
   module _ (id : ℕ) (of : obj_id head % 0x8000 ≡ id) (first : index_page g (own (live_at g a) id) 0 ≡ Some p) (only : (q : ℕ) → is_index (own (live_at g a) id q) 0 ≡ true → q ≡ p) where
     gone_now : has_of g (live_at g b) id ≡ None
     unfolding has_of index_page
@@ -263,48 +214,42 @@ module _ (g : Geometry) (a : List ℕ) (id p : ℕ) (single : HasNoDoubles g a) 
   head_entry = (live_parts g a p (page_of g a p) head_live.0).entry_page
 
   -- its header page may be killed
-  pub may_cull : (cause : Damage) → IsImage g a → HasMagics g a → Some cause ≡ cause_at g a id → MayCull g a p
-  unfolding is_wanted cause_at
-  may_cull cause is magics some =
+  may_cull : (cause : Damage) → Some cause ≡ cause_at g a id → MayCull g a p
+  unfolding is_wanted cause_at table_of damaged_of
+  may_cull cause some =
       let none : counted (has_of g (live_at g a)) 0x7FFF (has_of g (live_at g a) id) ≡ None = (damaged_or (has_of g (live_at g a)) 0x7FFF id (has_of g (live_at g a) id) cause (sym some)).0 in
+      let at = has_at g a id p first in
+      let only : (q : ℕ) → is_index (own (live_at g a) id q) 0 ≡ true → q ≡ p = λ q yes. one_header g a id p q single first yes in
       record {
         page = page_of g a p;
         live = head_live.0;
         unwanted = rw head_live.0 (rw head_live.1 (rw none refl));
-        keeps = λ flags b clears torn. damaged_head-keeps g a b p flags id (judged g (own (live_at g a) id) id (page_of g a p)) is magics (has_at g a id p first) none (λ q yes. one_header g a id p q single first yes) clears torn;
+        spares = λ b change. record {
+          table = table-now g p id (page_of g a p) (live_at g a) (live_at g b) (judged g (own (live_at g a) id) id (page_of g a p)) head_live.0 head_live.1 change at none only;
+          damaged = damaged-now g p id (page_of g a p) (live_at g a) (live_at g b) (judged g (own (live_at g a) id) id (page_of g a p)) head_live.0 head_live.1 change at none only;
+          wanted = wanted-now g p id (page_of g a p) (live_at g a) (live_at g b) (judged g (own (live_at g a) id) id (page_of g a p)) head_live.0 head_live.1 change at none only;
+        };
       }
 
-  module _ (b : List ℕ) (culls : Culls g p true a b) where
-    loses : Loses p (live_at g a) (live_at g b)
-    loses = record { after = culls.gone refl; others = culls.others }
-
-    pub culls_head : (cause : Damage) → Some cause ≡ cause_at g a id → CullsHead g id p true a b
-    culls_head cause some =
-        let only : (q : ℕ) → is_index (own (live_at g a) id q) 0 ≡ true → q ≡ p = λ q yes. one_header g a id p q single first yes in
-        record {
+  -- and that is its turn
+  pub turns_head : (b marks : List ℕ) (cause : Damage) → Culls g p true a b → Some cause ≡ cause_at g a id → p < length marks → IsMarked g a marks → TurnsHead g id p (slice_set marks p 0) true a b
+  turns_head b marks cause culls some room marked =
+      let only : (q : ℕ) → is_index (own (live_at g a) id q) 0 ≡ true → q ≡ p = λ q yes. one_header g a id p q single first yes in
+      let loses : Loses p (live_at g a) (live_at g b) = record { after = culls.gone refl; others = culls.others } in
+      record {
+        culls = record {
           culls = culls;
-          single = single_less g a b p (page_of g a p) head_live.0 loses single;
+          single = single_loses g a b p (page_of g a p) head_live.0 loses single;
           none = cause_none_now g a b p (page_of g a p) head_live.0 loses id head_live.1 first only cause some;
           others = cause_other_now g a b p (page_of g a p) head_live.0 loses id head_live.1 first only cause some;
           count = count_less g a b p (page_of g a p) head_live.0 loses id head_live.1 first only cause some;
-        }
+        };
+        marked = marked_less g a b p (page_of g a p) head_live.0 loses id head_live.1 first only marks room marked;
+      }
 
-    pub marked_head : (marks : List ℕ) → p < length marks → IsMarked g a marks → IsMarked g b (slice_set marks p 0)
-    marked_head marks room was = marked_less g a b p (page_of g a p) head_live.0 loses id head_live.1 first (λ q yes. one_header g a id p q single first yes) marks room was
+pub may_be_culled : (g : Geometry) (a : List ℕ) (id p : ℕ) (marks later : List ℕ) → IsHead g a id p marks → (cause : Damage) → Some cause ≡ cause_at g a id → Goes g a a (culling p) (culling_head id p marks later)
+may_be_culled g a id p marks later head cause some = record { needs = may_cull g a id p head.single head.first cause some; idle = λ none. absurd (none-some cause (sym (some ∙ none))) }
 
--- ---- the turn of an id that isn't damaged
-
-pub culls_nothing : (g : Geometry) (a : List ℕ) (p : ℕ) → HasMagics g a → Culls g p false a a
-culls_nothing g a p magics = record {
-  keeps = keeps-itself g a magics;
-  count = omega arith;
-  gone = λ e. absurd (cc);
-  others = λ q other. refl;
-  stays = λ e. refl;
-  clean = λ clean. clean;
-  magic = λ block. refl;
-  free = omega arith;
-}
-
-pub head_stays : (g : Geometry) (a : List ℕ) (id p : ℕ) → HasMagics g a → HasNoDoubles g a → cause_at g a id ≡ None → CullsHead g id p false a a
-head_stays g a id p magics single none = record { culls = culls_nothing g a p magics; single = single; none = none; others = λ j other. refl; count = omega arith }
+-- the turn of an id that isn't damaged
+pub head_stays : (g : Geometry) (a : List ℕ) (id p : ℕ) (marks : List ℕ) → IsHead g a id p marks → cause_at g a id ≡ None → TurnsHead g id p marks false a a
+head_stays g a id p marks head none = record { culls = record { culls = culls_nothing g a p; single = head.single; none = none; others = λ j other. refl; count = omega arith }; marked = head.marked }

@@ -1,16 +1,13 @@
-pub mod Turning
+pub mod Working
 pub mod Staged
 pub mod Tidied
 pub mod Dead
-pub mod Calls
 pub mod Heads
 pub mod Heading
 pub mod Passing
-pub mod Twins
 pub mod CullStep
 pub mod Mixing
 pub mod Resting
 pub mod Doubles
 pub mod Composing
 pub mod Mending
-pub mod Mended

@@ -1,8 +1,9 @@
 -- The block without its magic, made fresh, over plain images.
-use Rattle.std.proofs.Common.{◌≡◌, ◌≢◌, ℕ, zero, suc, ◌+◌, ◌*◌, ◌<◌, ◌≤◌, ⊎_elim, List, length, Bool, true, false, not, ◌&&◌, Some, None, refl, sym, ◌∙◌, subst, arith}
-use Rattle.std.specs.Prelude.{filter, find}
+use Rattle.std.proofs.Common.{◌≡◌, ◌≢◌, ℕ, ◌*◌, ◌<◌, ◌≤◌, ⊎_elim, List, true, false, not, Some, None, Result, OnErr, OnOk, refl, sym, ◌∙◌, subst, arith}
+use Rattle.std.specs.Prelude.{find}
 use Rattle.std.specs.List.{range_with_len}
-use Rattle.std.proofs.lemmas.Bool.{cases_eq, cases_Bool, lt-ltb}
+use Rattle.std.proofs.Math.Bool.{and-false}
+use Rattle.std.proofs.lemmas.Bool.{cases_eq, cases_Bool, lt-ltb, not-true, not-false}
 use Rattle.geometry.specs.declared.geometry.Geometry.{Geometry}
 use Rattle.nor_core.specs.Flash.{SameOutside}
 use Rattle.image_model.specs.Volume.{page_count}
@@ -18,30 +19,33 @@ use Rattle.image_laws.proofs.Append.{find-all}
 use Rattle.image_laws.proofs.Erase.{spoiled-is_dead, live-other}
 use Rattle.image_laws.proofs.Erasing.{erasing-sound}
 use Rattle.image_laws.proofs.FreeBlocks.{filter-same, filter-but}
-use Rattle.image_laws.proofs.Sounding.{keeps-itself}
+use Rattle.image_laws.proofs.Matching.{filter-none_in}
 use Rattle.image_laws.proofs.TidySteps.{wanted-same}
+use Rattle.free_search.proofs.Had.{filter_some}
 use Rattle.free_search.proofs.Beside.{page_other, magic_other, entry_other, free_block_other, free_magic, free_entry_at, free_dead}
 use Rattle.page_put.specs.Fresh.{Freshens, IsFresh}
+use Rattle.nor_core.specs.declared.device.Failed.{Failed}
+use Rattle.nor_core.specs.declared.state.NorState.{Ghosts as NorOf}
+use Rattle.nor_core.specs.Count.{Rose}
+use Rattle.nor_core.specs.Device.{Changes}
+use Rattle.flash_view.specs.declared.view.View.{View}
+use Rattle.flash_view.specs.Same.{IsSameView, OnlyLooks}
+use Rattle.flash_view.specs.Steps.{Finishes, acting}
+use Rattle.flash_view.proofs.Stepped.{acted, after_look}
 use Rattle.vol_check.specs.Culls.{KeepsAll}
 use Rattle.vol_check.specs.Mends.{HasAllMagics, Mends}
+use Rattle.vol_check.specs.Works.{Work, step_of, Worked, mending}
+use Rattle.vol_check.proofs.Working.{Goes}
 
 -- ---- the first block that lacks its magic
-
-not_true : (x : Bool) → not x ≡ true → x ≡ false
-not_true true h = cc
-not_true false h = refl
-
-not_false : (x : Bool) → not x ≡ false → x ≡ true
-not_false true h = refl
-not_false false h = cc
 
 pub found_spoiled : (g : Geometry) (a : List ℕ) (block : ℕ) → find (λ b. not (has_magic g a b)) (range_with_len 0 g.blocks) ≡ Some block → (block < g.blocks) × (has_magic g a block ≡ false)
 found_spoiled g a block found =
     let w = find_passes (λ (b : ℕ). not (has_magic g a b)) 0 g.blocks block found in
-    (omega (arith, w.2), not_true (has_magic g a block) w.0)
+    (omega (arith, w.2), not-true (has_magic g a block) w.0)
 
 pub none_spoiled : (g : Geometry) (a : List ℕ) → find (λ b. not (has_magic g a b)) (range_with_len 0 g.blocks) ≡ None → HasAllMagics g a
-none_spoiled g a none block low = not_false (has_magic g a block) (find-all (λ (b : ℕ). not (has_magic g a b)) 0 g.blocks none block (omega arith) (omega arith))
+none_spoiled g a none block low = not-false (has_magic g a block) (find-all (λ (b : ℕ). not (has_magic g a b)) 0 g.blocks none block (omega arith) (omega arith))
 
 -- ---- the pages that a kill could be of
 
@@ -55,25 +59,15 @@ module _ (g : Geometry) (b : List ℕ) (c : ℕ) (free : is_free_block g b c ≡
   unfolding is_used
   free_unused p here =
       ⊎_elim
-      (λ (page : is_entry_page g p ≡ true). rw (free_entry_at g b c free p page here) (and_false _))
+      (λ (page : is_entry_page g p ≡ true). rw (free_entry_at g b c free p page here) (and-false _))
       (λ (lookup : is_entry_page g p ≡ false). rw lookup refl)
       (cases_Bool (is_entry_page g p))
-    where
-      and_false : (x : Bool) → (x && false) ≡ false
-      and_false true = refl
-      and_false false = refl
 
 -- ---- what making it fresh leaves
 
-some_pass : (test : ℕ → Bool) (a n q : ℕ) → a ≤ q → q < a + n → test q ≡ true → 0 < length (filter test (range_with_len a n))
-some_pass test a zero q low high h = absurd (omega arith)
-some_pass test a (suc n) q low high h =
-    ⊎_elim
-    (λ (yes : test a ≡ true). rw yes (omega arith))
-    (λ (no : test a ≡ false).
-    let later : a ≢ q = λ e. let bad : true ≡ false = sym h ∙ (rw e at no) in absurd (cc) in
-    rw no (some_pass test (a + 1) n q (omega (arith, later)) (omega arith) h))
-    (cases_Bool (test a))
+-- making block c fresh, which lacks its magic
+abbrev pub freshening : ℕ → Work (Unit {0})
+freshening c = record { needs = λ g was. (c < g.blocks) × (has_magic g was c ≡ false); done = λ g was now ok. Mends g true was now; idle = λ g was. ⊥ }
 
 module _ (g : Geometry) (a : List ℕ) (c : ℕ) (is : IsImage g a) (h : HasMagics g a) (low : c < g.blocks) (lacks : has_magic g a c ≡ false) where
   others : (d : ℕ) → d < g.blocks → d ≢ c → has_magic g a d ≡ true
@@ -88,11 +82,7 @@ module _ (g : Geometry) (a : List ℕ) (c : ℕ) (is : IsImage g a) (h : HasMagi
 
   unused_before : (p : ℕ) → block_of g p ≡ c → is_used g a p ≡ false
   unfolding is_used
-  unused_before p here = let no : has_magic g a (block_of g p) ≡ false = rw here lacks in rw (no, and_false (is_entry_page g p)) refl
-    where
-      and_false : (x : Bool) → (x && false) ≡ false
-      and_false true = refl
-      and_false false = refl
+  unused_before p here = let no : has_magic g a (block_of g p) ≡ false = rw here lacks in rw (no, and-false (is_entry_page g p)) refl
 
   more_free : (x : List ℕ) → SameOutside (c * g.block) g.block a x → free_blocks g a ≤ free_blocks g x
   unfolding free_blocks
@@ -101,7 +91,7 @@ module _ (g : Geometry) (a : List ℕ) (c : ℕ) (is : IsImage g a) (h : HasMagi
       let tight = rw not_free at fall in
       omega (arith, tight)
 
-  pub mends_cut : (x : List ℕ) → Freshens g c a x → KeepsAll g a x
+  mends_cut : (x : List ℕ) → Freshens g c a x → KeepsAll g a x
   mends_cut x cut = record {
     keeps = erasing-sound g a x c is others cut.outside dead_before
         (⊎_elim
@@ -128,27 +118,39 @@ module _ (g : Geometry) (a : List ℕ) (c : ℕ) (is : IsImage g a) (h : HasMagi
         (cases_eq (block_of g p) c) in
         filter-same (λ (p : ℕ). is_killable g a p) (λ (p : ℕ). is_killable g b p) 0 (page_count g) (λ p from to. rw (used p, wanted-same g a b mends_live p) refl)
 
-    pub mends : Mends g true a b
+    mends : Mends g true a b
     unfolding spoiled_blocks
     mends = record {
-      erased_is = sym (lt-ltb 0 _ (some_pass (λ (d : ℕ). not (has_magic g a d)) 0 g.blocks c (omega arith) (omega arith) (rw lacks refl)));
-      keeps = erasing-sound g a b c is others fresh.outside dead_before (free_dead g b c fresh.free);
+      erased_is = sym (lt-ltb 0 _ (filter_some (λ (d : ℕ). not (has_magic g a d)) 0 g.blocks c (omega arith) (omega arith) (rw lacks refl)));
       magics = λ d below. ⊎_elim
           (λ (here : d ≡ c). rw here (free_magic g b c fresh.free))
           (λ (there : d ≡ c → ⊥). magic_other g a b c fresh.outside d there ∙ others d below there)
           (cases_eq d c);
       live = mends_live;
       killed = mends_killed;
-      free = more_free b fresh.outside;
     }
 
--- where all blocks have their magic nothing is done
-none_pass : (test : ℕ → Bool) (a n : ℕ) → ((q : ℕ) → a ≤ q → q < a + n → test q ≡ false) → length (filter test (range_with_len a n)) ≡ 0
-none_pass test a zero none = refl
-none_pass test a (suc n) none = rw (none a (omega arith) (omega arith)) (none_pass test (a + 1) n (λ q low high. none q (omega arith) (omega arith)))
+  -- making it fresh mends the image
+  freshens : (erases : ℕ) → Finishes g a a (acting (λ h. Freshens h c) (λ h. IsFresh h c erases)) (step_of (freshening c))
+  freshens erases = record { needs = tt; cut = mends_cut; done = λ b ok fresh. mends b erases fresh }
 
-pub mends_none : (g : Geometry) (a b : List ℕ) → HasMagics g a → HasAllMagics g a → b ≡ a → Mends g false a b
+-- where all blocks have their magic nothing is done
+pub mends_none : (g : Geometry) (a : List ℕ) → HasAllMagics g a → Mends g false a a
 unfolding spoiled_blocks
-mends_none g a b h all same =
-    let count = none_pass (λ (d : ℕ). not (has_magic g a d)) 0 g.blocks (λ d from to. rw (all d (omega arith)) refl) in
-    rw same (record { erased_is = rw count refl; keeps = keeps-itself g a h; magics = all; live = λ p. refl; killed = refl; free = omega arith })
+mends_none g a all =
+    let count = filter-none_in (λ (d : ℕ). not (has_magic g a d)) 0 g.blocks (λ d from to. rw (all d (omega arith)) refl) in
+    record { erased_is = rw count refl; magics = all; live = λ p. refl; killed = refl }
+
+-- ---- as works of the check
+
+pub must_be_made : (g : Geometry) (a : List ℕ) (c : ℕ) → (c < g.blocks) × (has_magic g a c ≡ false) → Goes g a a (freshening c) mending
+must_be_made g a c found = record { needs = found; idle = λ all. let bad : true ≡ false = sym (all c found.0) ∙ found.1 in absurd (cc) }
+
+-- making a block fresh after looks
+pub freshens_block : {N : Type 0} {nor : NorOf N} {old mid new : View N nor} {r : Result (Unit {0}) Failed} {c : ℕ} (erases : ℕ) → OnlyLooks old mid → IsSameView mid new → new.wrote ≡ true → OnErr r (Rose (nor.faults mid.nor.now) (nor.faults new.nor.now)) →
+    Changes nor mid.nor.now new.nor.now (Freshens mid.geometry c) → (nor.tells mid.nor.now → OnOk r (IsFresh mid.geometry c erases (nor.bytes mid.nor.now) (nor.bytes new.nor.now))) →
+    (nor.tells old.nor.now → IsImage old.geometry (nor.bytes old.nor.now)) → Worked old new r (freshening c)
+freshens_block {c = c} erases looks same wrote cause changes done image = record {
+  step = after_look looks (acted (λ h. Freshens h c) (λ h. IsFresh h c erases) same wrote cause changes done) (λ tells need. freshens _ _ c (image tells) need.0 need.1.0 need.1.1 erases);
+  idle = λ tells magics need none. absurd (none);
+}

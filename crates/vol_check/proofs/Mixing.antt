@@ -1,8 +1,8 @@
 -- Mixed blocks, and images that have none.
-use Rattle.std.proofs.Common.{◌≡◌, ℕ, zero, suc, ◌+◌, ◌<◌, ◌≤◌, List, [], ◌∷◌, length, Bool, true, false, ◌&&◌, refl, sym, ◌∙◌, arith, ⊎_elim, subst}
+use Rattle.std.proofs.Common.{◌≡◌, ℕ, ◌+◌, ◌<◌, ◌≤◌, List, [], ◌∷◌, length, Bool, true, false, ◌&&◌, refl, sym, ◌∙◌, arith, ⊎_elim, subst}
 use Rattle.std.specs.Prelude.{nat_lt, filter, Some}
 use Rattle.std.specs.List.{range_with_len, list_any}
-use Rattle.std.proofs.lemmas.Bool.{cases_Bool, cases_eq, lt-ltb, le-ltb, false_from_ne_true, true_from_ne_false}
+use Rattle.std.proofs.lemmas.Bool.{cases_Bool, lt-ltb, le-ltb, false_from_ne_true, true_from_ne_false}
 use Rattle.geometry.specs.declared.geometry.Geometry.{Geometry}
 use Rattle.image_model.specs.Places.{block_of}
 use Rattle.image_model.specs.Headers.{names_index}
@@ -14,7 +14,9 @@ use Rattle.image_model.specs.Sound.{IsMixed, Keeps}
 use Rattle.image_model.specs.Within.{block_number, page_number}
 use Rattle.image_laws.proofs.Damaged.{same_truth}
 use Rattle.image_laws.proofs.Frames.{live_parts}
+use Rattle.image_laws.proofs.Matching.{filter-none_in}
 use Rattle.image_laws.proofs.MixedBlocks.{mixed-tested}
+use Rattle.free_search.proofs.Had.{filter_some}
 use Rattle.free_search.specs.declared.blocks.BlockCounts.{BlockCounts}
 use Rattle.free_search.specs.Counts.{AreCounts}
 
@@ -38,19 +40,7 @@ unmixed_rest g image block c w none = let told = mixed_told g image block c w in
 -- ---- images without a mixed block
 
 none_passes : (test : ℕ → Bool) (a n q : ℕ) → length (filter test (range_with_len a n)) ≡ 0 → a ≤ q → q < a + n → test q ≡ false
-none_passes test a zero q none low high = absurd (omega arith)
-none_passes test a (suc n) q none low high =
-    ⊎_elim
-    (λ (yes : test a ≡ true). let some = rw yes at none in absurd (omega (arith, some)))
-    (λ (no : test a ≡ false). ⊎_elim
-    (λ (here : q ≡ a). rw here no)
-    (λ (there : q ≡ a → ⊥). let rest = rw no at none in none_passes test (a + 1) n q rest (omega (arith, there)) (omega arith))
-    (cases_eq q a))
-    (cases_Bool (test a))
-
-pub none_passing : (test : ℕ → Bool) (a n : ℕ) → ((q : ℕ) → a ≤ q → q < a + n → test q ≡ false) → length (filter test (range_with_len a n)) ≡ 0
-none_passing test a zero fails = refl
-none_passing test a (suc n) fails = rw (fails a (omega arith) (omega arith)) (none_passing test (a + 1) n (λ q low high. fails q (omega arith) (omega arith)))
+none_passes test a n q none low high = false_from_ne_true _ (λ passes. let some = filter_some test a n q low high passes in absurd (omega (arith, some, none)))
 
 no_mixed : (g : Geometry) (image : List ℕ) → mixed_blocks g image ≡ 0 → (block : ℕ) → IsMixed g (live_at g image) block → ⊥
 unfolding mixed_blocks
@@ -63,7 +53,7 @@ no_mixed g image none block m =
 pub unmixed_by : (g : Geometry) (image : List ℕ) → ((block : ℕ) → IsMixed g (live_at g image) block → ⊥) → mixed_blocks g image ≡ 0
 unfolding mixed_blocks
 unmixed_by g image none =
-    none_passing (λ (b : ℕ). is_mixed g image b) 0 g.blocks (λ block low high. false_from_ne_true _ (λ yes. none block ((mixed-tested g image block (omega arith)).0 yes)))
+    filter-none_in (λ (b : ℕ). is_mixed g image b) 0 g.blocks (λ block low high. false_from_ne_true _ (λ yes. none block ((mixed-tested g image block (omega arith)).0 yes)))
 
 -- the pages of a block are then of one kind
 pub unmixed : (g : Geometry) (image : List ℕ) → mixed_blocks g image ≡ 0 → (p q : ℕ) (x y : List ℕ) → live_at g image p ≡ Some x → live_at g image q ≡ Some y → block_of g p ≡ block_of g q → names_index x ≡ names_index y
@@ -75,6 +65,3 @@ unmixed g image none p q x y e f same =
 -- nothing becomes mixed
 pub unmixed_after : (g : Geometry) (was now : List ℕ) → mixed_blocks g was ≡ 0 → Keeps g was now → mixed_blocks g now ≡ 0
 unmixed_after g was now none keeps = unmixed_by g now (λ block m. no_mixed g was none block (keeps.sound.mixed block m))
-
-pub tidy_unmixed : (g : Geometry) (image : List ℕ) → IsTidy g image → mixed_blocks g image ≡ 0
-tidy_unmixed g image tidy = unmixed_by g image (λ block m. let same = tidy.unmixed m.p m.q m.x m.y m.p_is m.q_is (m.p_at ∙ sym m.q_at) in let index = m.names in let other = m.holds in absurd (cc))

@@ -4,6 +4,7 @@ use Rattle.std.specs.Prelude.{nat_lt, is_some, option_and_then}
 use Rattle.std.specs.Option.{option_map}
 use Rattle.std.specs.List.{range_with_len, list_any}
 use Rattle.std.proofs.lemmas.Bool.{true≢false, cases_Bool, cases_eq, cases_lt, lt-ltb, le-ltb, ltb-true, not-true, not-false, eq-eqb, eqb-true, and_parts, and_from, or_left, or_right, or_cases, false_from_ne_true, true_from_ne_false}
+use Rattle.std.proofs.Math.Bool.{and-false}
 use Rattle.std.proofs.lemmas.Option.{none-some, same_Some, cond_some}
 use Rattle.geometry.specs.declared.geometry.Geometry.{Geometry}
 use Rattle.table_model.specs.Table.{File}
@@ -12,13 +13,12 @@ use Rattle.page_layout.specs.declared.header.PageHeader.{PageHeader}
 use Rattle.page_layout.specs.Layout.{header_at}
 use Rattle.image_model.specs.declared.damage.Damage.{Damage}
 use Rattle.image_model.specs.Volume.{page_count}
-use Rattle.image_model.specs.Places.{IsImage, is_entry_page, page_of}
+use Rattle.image_model.specs.Places.{is_entry_page, page_of}
 use Rattle.image_model.specs.Headers.{obj_id, span_of, names_index, size_of}
 use Rattle.image_model.specs.Live.{Live, live_at, own, is_live}
 use Rattle.image_model.specs.Files.{is_index, index_page, entry_number, data_of, judged, found}
 use Rattle.image_model.specs.Tables.{Found, has_of, counted, damage, damages, damaged_of}
 use Rattle.image_model.specs.Tidy.{is_number, serves, is_wanted, is_wanted_as}
-use Rattle.image_model.specs.Sound.{HasMagics}
 use Rattle.image_laws.specs.Changes.{Loses}
 use Rattle.image_laws.proofs.Records.{filter_map-nil, counts_from_quiet}
 use Rattle.image_laws.proofs.Judge.{found_from, found_none, index_passes}
@@ -26,14 +26,16 @@ use Rattle.image_laws.proofs.Finish.{has_of-within, own-parts}
 use Rattle.image_laws.proofs.Damaged.{any_at, any_from, same_truth}
 use Rattle.image_laws.proofs.Frames.{live_parts}
 use Rattle.image_laws.proofs.Kill.{index-loses, own-loses, has_of-loses}
-use Rattle.image_laws.proofs.Sounding.{killing-sound}
 use Rattle.image_laws.proofs.Wanted.{unwanted-idle}
 use Rattle.image_laws.proofs.Wants.{number-is, wanted_from}
-use Rattle.image_laws.proofs.Unwanted.{unwanted-leaves, wanted-as_before}
-use Rattle.image_laws.proofs.Headless.{headless-is_idle, uncounted-leaves, uncounted-wanted}
+use Rattle.image_laws.proofs.Unwanted.{wanted-as_before}
+use Rattle.image_laws.proofs.Headless.{headless-is_idle, uncounted-wanted}
 use Rattle.flash_view.specs.Judging.{numbered, data_number, data_number_of}
-use Rattle.vol_check.specs.Culls.{MayCull, is_doubled, is_doubled_as, HasNoDoubles, is_unwanted, is_served_by, Culls, CullsRest, Passes, PassesRest}
-use Rattle.vol_check.proofs.Passing.{passes_none, passes_next}
+use Rattle.vol_check.specs.Culls.{Spares, is_doubled, is_doubled_as, HasNoDoubles, IsSettled, is_unwanted, IsServed, is_served_by, Culls, CullsRest, Passes, PassesRest}
+use Rattle.vol_check.specs.Works.{Work, culling, culling_unwanted}
+use Rattle.vol_check.proofs.CullStep.{spares_by}
+use Rattle.vol_check.proofs.Working.{Goes}
+use Rattle.vol_check.proofs.Passing.{culls_nothing, passes_none, passes_next}
 
 -- ---- nothing is damaged: an id with a header page is in the table
 
@@ -42,7 +44,8 @@ counted_by has m id None quiet some = some
 counted_by has m id (Some (q, Err e)) quiet some = absurd (none-some _ (sym quiet))
 counted_by has m id (Some (q, Ok f)) quiet some = rw (counts_from_quiet has m id q f quiet) refl
 
-quiet_at : (has : Found) (m id : ℕ) → damages has m ≡ [] → 1 ≤ id → id ≤ m → damage has m id (has id) ≡ None
+-- no id has a damage
+pub quiet_at : (has : Found) (m id : ℕ) → damages has m ≡ [] → 1 ≤ id → id ≤ m → damage has m id (has id) ≡ None
 unfolding damages
 quiet_at has m id none low high = filter_map-nil (λ (j : ℕ). damage has m j (has j)) 1 m none id low (omega arith)
 
@@ -56,7 +59,7 @@ headed_counted g image id h head none at is =
 
 -- ---- no page is doubled: a live index page is the one of its id and span
 
-single_index : (g : Geometry) (image : List ℕ) (p : ℕ) (page : List ℕ) → is_doubled g image p ≡ false → live_at g image p ≡ Some page → names_index page ≡ true →
+pub single_index : (g : Geometry) (image : List ℕ) (p : ℕ) (page : List ℕ) → is_doubled g image p ≡ false → live_at g image p ≡ Some page → names_index page ≡ true →
     index_page g (own (live_at g image) (obj_id page % 0x8000)) (span_of page) ≡ Some p
 unfolding is_doubled
 single_index g image p page single live index =
@@ -150,7 +153,7 @@ pub headed_page : (o : Option (List ℕ)) (head : PageHeader) → Some head ≡ 
 headed_page None head e = absurd (cc)
 headed_page (Some page) head e = (page, refl, cc)
 
-headless_page : (o : Option (List ℕ)) → None ≡ option_map header_at o → o ≡ None
+pub headless_page : (o : Option (List ℕ)) → None ≡ option_map header_at o → o ≡ None
 headless_page None e = refl
 headless_page (Some page) e = absurd (cc)
 
@@ -162,13 +165,9 @@ pub lookup_is_wanted : (g : Geometry) (image : List ℕ) (p : ℕ) → is_entry_
 unfolding is_unwanted live_at is_live
 lookup_is_wanted g image p e = rw e refl
 
-and_none : (x : Bool) → (x && false) ≡ false
-and_none true = refl
-and_none false = refl
-
 pub headless_unwanted : (g : Geometry) (image page : List ℕ) (p : ℕ) → live_at g image p ≡ Some page → index_page g (own (live_at g image) (obj_id page % 0x8000)) 0 ≡ None → true ≡ is_unwanted g image p
 unfolding is_unwanted is_wanted
-headless_unwanted g image page p live none = rw live (rw (none, and_none) refl)
+headless_unwanted g image page p live none = rw live (rw (none, and-false) refl)
 
 -- the header page of an id
 pub head_of : (g : Geometry) (pages : Live) (h : ℕ) → index_page g pages 0 ≡ Some h → (head : List ℕ) × (pages h ≡ Some head)
@@ -248,22 +247,6 @@ uncounted : (g : Geometry) (live : Live) (id : ℕ) → index_page g (own live i
 unfolding has_of
 uncounted g live id none = let has : has_of g live id ≡ None = found_none g (own live id) id none in rw has refl
 
-pub may_cull : (g : Geometry) (image : List ℕ) (p : ℕ) → IsImage g image → HasMagics g image → damaged_of g image ≡ [] → is_unwanted g image p ≡ true → MayCull g image p
-may_cull g image p is magics undamaged e =
-    let w = unwanted_parts g image p e in
-    record {
-      page = w.page;
-      live = w.live;
-      unwanted = w.unwanted;
-      keeps = λ flags b clears torn. ⊎_elim
-          (λ (in_table : is_some (counted (has_of g (live_at g image)) 0x7FFF (has_of g (live_at g image) (obj_id w.page % 0x8000))) ≡ true).
-          (killing-sound g image b p flags w.page is magics w.live clears (unwanted-idle g image p w.page w.live w.unwanted in_table) torn, unwanted-leaves g image b p flags w.page is w.live w.unwanted in_table clears torn))
-          (λ (none : index_page g (own (live_at g image) (obj_id w.page % 0x8000)) 0 ≡ None).
-          let idle = headless-is_idle g (own (live_at g image) (obj_id w.page % 0x8000)) p none in
-          (killing-sound g image b p flags w.page is magics w.live clears idle torn, uncounted-leaves g image b p flags w.page is w.live idle (uncounted g (live_at g image) (obj_id w.page % 0x8000) none) clears torn))
-          (headed_or g image (obj_id w.page % 0x8000) undamaged);
-    }
-
 -- ---- what its kill leaves
 
 -- a page less doubles none
@@ -309,6 +292,9 @@ module _ (g : Geometry) (a b : List ℕ) (p : ℕ) (page : List ℕ) (live : liv
       (uncounted-wanted g p page (live_at g a) (live_at g b) live change idle (uncounted g (live_at g a) (obj_id page % 0x8000) none), has_of-loses p page (live_at g a) (live_at g b) live change g idle))
       (headed_or g a (obj_id page % 0x8000) undamaged)
 
+  spares : Spares g p a b
+  spares = spares_by g a b p rests.1 rests.0
+
   rest_others : (q : ℕ) → q ≢ p → is_unwanted g b q ≡ is_unwanted g a q
   unfolding is_unwanted
   rest_others q there = rw (change.others q there, rests.0 q there) refl
@@ -317,21 +303,32 @@ module _ (g : Geometry) (a b : List ℕ) (p : ℕ) (page : List ℕ) (live : liv
   unfolding damaged_of
   rest_undamaged = ap (λ (x : Found). damages x 0x7FFF) rests.1 ∙ undamaged
 
+pub may_be_culled : (g : Geometry) (a : List ℕ) (p : ℕ) → IsSettled g a → is_unwanted g a p ≡ true → Goes g a a (culling p) (culling_unwanted p)
+may_be_culled g a p settled e =
+    let w = unwanted_parts g a p e in
+    record {
+      needs = record { page = w.page; live = w.live; unwanted = w.unwanted; spares = λ b change. spares g a b p w.page w.live w.unwanted settled.undamaged change };
+      idle = λ quiet. let bad : true ≡ false = sym e ∙ quiet in absurd (cc);
+    }
+
 dead_served : (g : Geometry) (b : List ℕ) (p : ℕ) → live_at g b p ≡ None → is_unwanted g b p ≡ false
 unfolding is_unwanted
 dead_served g b p e = rw e refl
 
-pub culls_rest : (g : Geometry) (a b : List ℕ) (p : ℕ) → HasNoDoubles g a → damaged_of g a ≡ [] → is_unwanted g a p ≡ true → Culls g p true a b → CullsRest g p true a b
-culls_rest g a b p single undamaged e culls =
+pub culls_rest : (g : Geometry) (a b : List ℕ) (p : ℕ) → IsSettled g a → is_unwanted g a p ≡ true → Culls g p true a b → CullsRest g p true a b
+culls_rest g a b p settled e culls =
     let w = unwanted_parts g a p e in
     let change : Loses p (live_at g a) (live_at g b) = record { after = culls.gone refl; others = culls.others } in
     record {
       culls = culls;
       served = dead_served g b p change.after;
-      others = rest_others g a b p w.page w.live w.unwanted undamaged change;
-      single = single_loses g a b p w.page w.live change single;
-      undamaged = rest_undamaged g a b p w.page w.live w.unwanted undamaged change;
+      others = rest_others g a b p w.page w.live w.unwanted settled.undamaged change;
+      settled = record { single = single_loses g a b p w.page w.live change settled.single; undamaged = rest_undamaged g a b p w.page w.live w.unwanted settled.undamaged change };
     }
+
+-- a page that isn't unwanted stays
+pub rests_nothing : (g : Geometry) (a : List ℕ) (p : ℕ) → IsSettled g a → is_unwanted g a p ≡ false → CullsRest g p false a a
+rests_nothing g a p settled served = record { culls = culls_nothing g a p; served = served; others = λ q there. refl; settled = settled }
 
 -- ---- page by page
 
@@ -339,11 +336,13 @@ culls_rest g a b p single undamaged e culls =
 pub record Resting (g : Geometry) (first now : List ℕ) (p n : ℕ) : Type 0 where
   pub passes : Passes g n first now
   pub served : (q : ℕ) → q < p → is_unwanted g now q ≡ false
-  pub single : HasNoDoubles g now
-  pub undamaged : damaged_of g now ≡ []
+  pub settled : IsSettled g now
 
-pub resting_start : (g : Geometry) (a : List ℕ) → HasMagics g a → HasNoDoubles g a → damaged_of g a ≡ [] → Resting g a a 0 0
-resting_start g a magics single undamaged = record { passes = passes_none g a magics; served = λ q low. absurd (omega arith); single = single; undamaged = undamaged }
+abbrev pub resting_to : ℕ → Work ℕ
+resting_to p = record { needs = λ g was. IsSettled g was; done = λ g was now n. Resting g was now p n; idle = λ g was. IsServed g was }
+
+pub resting_start : (g : Geometry) (a : List ℕ) → IsSettled g a → Resting g a a 0 0
+resting_start g a settled = record { passes = passes_none g a; served = λ q low. absurd (omega arith); settled = settled }
 
 pub resting_next : (g : Geometry) (first a b : List ℕ) (p n m : ℕ) (killed : Bool) → Resting g first a p n → CullsRest g p killed a b → m ≡ n + cond killed 1 0 → Resting g first b (p + 1) m
 resting_next g first a b p n m killed s t e = record {
@@ -352,8 +351,7 @@ resting_next g first a b p n m killed s t e = record {
       (λ (here : q ≡ p). rw here t.served)
       (λ (there : q ≡ p → ⊥). t.others q there ∙ s.served q (omega (arith, there)))
       (cases_eq q p);
-  single = t.single;
-  undamaged = t.undamaged;
+  settled = t.settled;
 }
 
 beyond_served : (g : Geometry) (a : List ℕ) (p : ℕ) → page_count g ≤ p → is_unwanted g a p ≡ false
@@ -364,9 +362,5 @@ pub resting_end : (g : Geometry) (first a : List ℕ) (p n : ℕ) → page_count
 resting_end g first a p n all s = record {
   passes = s.passes;
   served = λ q. ⊎_elim (λ (low : q < p). s.served q low) (λ (past : p ≤ q). beyond_served g a q (omega arith)) (cases_lt q p);
-  none = s.undamaged;
+  none = s.settled.undamaged;
 }
-
--- as a later view's geometry tells of it
-pub resting_on : (g h : Geometry) (first a b : List ℕ) (p n m : ℕ) (killed : Bool) → h ≡ g → Resting g first a p n → CullsRest h p killed a b → m ≡ n + cond killed 1 0 → Resting g first b (p + 1) m
-resting_on g h first a b p n m killed e s t is = resting_next g first a b p n m killed s (subst (λ (k : Geometry). CullsRest k p killed a b) e t) is

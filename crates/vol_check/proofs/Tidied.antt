@@ -1,10 +1,10 @@
 -- What a tidy image has nothing of, and what makes an image tidy.
-use Rattle.std.proofs.Common.{◌≡◌, ℕ, ◌%◌, ◌⊎◌, List, [], true, false, not, ◌==◌, ◌&&◌, refl, sym, ◌∙◌, arith, ⊎_elim, inl, inr, subst}
+use Rattle.std.proofs.Common.{◌≡◌, ℕ, ◌%◌, ◌⊎◌, List, [], true, false, not, ◌&&◌, refl, sym, ◌∙◌, arith, ⊎_elim, inl, inr, subst}
 use Rattle.std.specs.Prelude.{Option, Some, None, is_some, is_none}
 use Rattle.std.proofs.lemmas.Bool.{cases_Bool, cases_eq, false≢true, true≢false, not-false, eq-eqb, ne_eqb}
 use Rattle.std.proofs.lemmas.Option.{same_Some}
 use Rattle.geometry.specs.declared.geometry.Geometry.{Geometry}
-use Rattle.image_model.specs.Places.{entry_of, is_entry_page, has_magic, block_of}
+use Rattle.image_model.specs.Places.{entry_of, is_entry_page, block_of}
 use Rattle.image_model.specs.Headers.{obj_id, span_of, names_index}
 use Rattle.image_model.specs.Live.{live_at, own}
 use Rattle.image_model.specs.Files.{index_page}
@@ -20,6 +20,7 @@ use Rattle.vol_check.specs.Stage.{IsClean}
 use Rattle.vol_check.specs.Culls.{is_doubled, is_doubled_as, HasNoDoubles, is_unwanted, IsServed}
 use Rattle.vol_check.specs.Mends.{HasAllMagics}
 use Rattle.vol_check.proofs.Mixing.{unmixed}
+use Rattle.vol_check.proofs.CullStep.{used_by}
 use Rattle.vol_check.proofs.Resting.{own_self, served_index}
 
 -- ---- a tidy image has nothing to kill
@@ -89,10 +90,6 @@ tidy_single g a t p = by (live_at g a p) refl
         (cases_Bool (names_index page))
 
 -- ---- what makes an image tidy
-
-used_by : (g : Geometry) (a : List ℕ) (p : ℕ) → is_entry_page g p ≡ true → has_magic g a (block_of g p) ≡ true → (entry_of g a p == 0) ≡ false → is_free_entry g a p ≡ false → is_used g a p ≡ true
-unfolding is_used
-used_by g a p page magic used taken = rw (page, magic, used, taken) refl
 
 not_none : (o : Option (List ℕ)) → is_none o ≡ false → is_some o ≡ true
 not_none None e = absurd (true≢false e)

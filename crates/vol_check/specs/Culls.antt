@@ -1,19 +1,19 @@
 -- What the check's kills of live pages leave.
-use Rattle.std.specs.Prelude.{◌≡◌, ◌≢◌, ℕ, ◌+◌, ◌*◌, ◌%◌, ◌≤◌, ◌&&◌, List, [], ◌∷◌, length, Bool, true, false, not, nat_lt, Option, Some, None, is_some, slice_index, if◌then◌else◌}
+use Rattle.std.specs.Prelude.{◌≡◌, ◌≢◌, ℕ, ◌+◌, ◌%◌, ◌≤◌, ◌&&◌, List, [], length, Bool, true, false, not, nat_lt, Option, Some, None, is_some, if◌then◌else◌}
+use Rattle.std.specs.List.{Contains}
 use Rattle.geometry.specs.declared.geometry.Geometry.{Geometry}
 use Rattle.table_model.specs.Room.{data_pages, index_pages}
 use Rattle.page_layout.specs.declared.header.PageHeader.{PageHeader}
 use Rattle.page_layout.specs.Layout.{names_index as header_names_index}
-use Rattle.nor_core.specs.Flash.{HalfProgrammed}
 use Rattle.image_model.specs.Places.{has_magic}
 use Rattle.image_model.specs.Headers.{obj_id, span_of, names_index}
 use Rattle.image_model.specs.Live.{live_at, own}
 use Rattle.image_model.specs.Files.{index_page}
-use Rattle.image_model.specs.Tables.{damaged_of}
+use Rattle.image_model.specs.Tables.{table_of, damaged_of}
 use Rattle.image_model.specs.Tidy.{is_wanted, is_number, free_blocks}
 use Rattle.image_model.specs.Killed.{killed_of}
-use Rattle.image_model.specs.Sound.{Keeps}
-use Rattle.image_laws.specs.Programs.{ClearsBit}
+use Rattle.image_model.specs.Sound.{Keeps, damaged_ids}
+use Rattle.image_laws.specs.Changes.{Loses}
 use Rattle.flash_view.specs.Judging.{data_number_of}
 use Rattle.flash_view.specs.Marks.{cause_at}
 use Rattle.vol_check.specs.Stage.{IsClean}
@@ -23,33 +23,32 @@ pub record KeepsAll (g : Geometry) (was image : List ℕ) : Type 0 where
   pub keeps : Keeps g was image
   pub free : free_blocks g was ≤ free_blocks g image
 
--- Page p may be killed: it is live and not wanted, and clearing DELET in it, done or cut off, keeps the image and leaves every
--- other page as wanted as it was.
+-- without page p the table is the same, what is damaged was so, and every other page is as wanted as it was
+pub record Spares (g : Geometry) (p : ℕ) (was now : List ℕ) : Type 0 where
+  pub table : table_of g now ≡ table_of g was
+  pub damaged : (id : ℕ) → Contains (damaged_ids g now) id → Contains (damaged_ids g was) id
+  pub wanted : (q : ℕ) → q ≢ p → is_wanted g now q ≡ is_wanted g was q
+
+-- Page p may be killed: it is live and not wanted, and nothing is lost without it.
 pub record MayCull (g : Geometry) (image : List ℕ) (p : ℕ) : Type 0 where
   pub page : List ℕ
   pub live : live_at g image p ≡ Some page
   pub unwanted : is_wanted g image p ≡ false
-  pub keeps : (flags : ℕ) (b : List ℕ) → ClearsBit 7 (slice_index image (p * g.page + 4)) flags → HalfProgrammed (p * g.page + 4) (flags ∷ []) image b →
-      Keeps g image b × ((q : ℕ) → q ≢ p → is_wanted g b q ≡ is_wanted g image q)
+  pub spares : (b : List ℕ) → Loses p (live_at g image) (live_at g b) → Spares g p image b
 
 -- after a turn at page p, in which it was killed or not
 pub record Culls (g : Geometry) (p : ℕ) (killed : Bool) (was now : List ℕ) : Type 0 where
-  pub keeps : Keeps g was now
   pub count : (if killed then 1 else 0) + killed_of g now ≡ killed_of g was
   pub gone : killed ≡ true → live_at g now p ≡ None
   pub others : (q : ℕ) → q ≢ p → live_at g now q ≡ live_at g was q
-  pub stays : killed ≡ false → now ≡ was
   pub clean : IsClean g was → IsClean g now
   pub magic : (block : ℕ) → has_magic g now block ≡ has_magic g was block
-  pub free : free_blocks g was ≤ free_blocks g now
 
 -- after a pass over the image that killed n live pages
 pub record Passes (g : Geometry) (n : ℕ) (was now : List ℕ) : Type 0 where
-  pub keeps : Keeps g was now
   pub count : n + killed_of g now ≡ killed_of g was
   pub clean : IsClean g was → IsClean g now
   pub magic : (block : ℕ) → has_magic g now block ≡ has_magic g was block
-  pub free : free_blocks g was ≤ free_blocks g now
 
 -- a live page is an index page, and not the index page of its id and span
 abbrev pub is_doubled_as : Geometry → List ℕ → ℕ → Option (List ℕ) → Bool
@@ -63,6 +62,11 @@ is_doubled g image p = is_doubled_as g image p (live_at g image p)
 -- no page is doubled
 abbrev pub HasNoDoubles : Geometry → List ℕ → Type 0
 HasNoDoubles g image = (p : ℕ) → is_doubled g image p ≡ false
+
+-- no page is doubled and nothing is damaged
+pub record IsSettled (g : Geometry) (image : List ℕ) : Type 0 where
+  pub single : HasNoDoubles g image
+  pub undamaged : damaged_of g image ≡ []
 
 -- page p is live and not wanted
 unfoldable pub is_unwanted : Geometry → List ℕ → ℕ → Bool
@@ -91,8 +95,7 @@ pub record CullsRest (g : Geometry) (p : ℕ) (killed : Bool) (was now : List �
   pub culls : Culls g p killed was now
   pub served : is_unwanted g now p ≡ false
   pub others : (q : ℕ) → q ≢ p → is_unwanted g now q ≡ is_unwanted g was q
-  pub single : HasNoDoubles g now
-  pub undamaged : damaged_of g now ≡ []
+  pub settled : IsSettled g now
 
 -- after the first pass no page is doubled, and the same files are damaged
 pub record PassesDoubled (g : Geometry) (n : ℕ) (was now : List ℕ) : Type 0 where
@@ -112,8 +115,7 @@ pub record CullsHead (g : Geometry) (id p : ℕ) (killed : Bool) (was now : List
 -- after the second pass nothing is damaged, and one header page of each damaged file was killed
 pub record PassesDamaged (g : Geometry) (n : ℕ) (was now : List ℕ) : Type 0 where
   pub passes : Passes g n was now
-  pub single : HasNoDoubles g now
-  pub none : damaged_of g now ≡ []
+  pub settled : IsSettled g now
   pub count : n ≡ length (damaged_of g was)
 
 -- after the third pass every live page is wanted, and still nothing is damaged

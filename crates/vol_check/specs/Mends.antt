@@ -1,12 +1,10 @@
 -- What the check leaves of a block that lacks its magic.
-use Rattle.std.specs.Prelude.{◌≡◌, ℕ, ◌<◌, ◌≤◌, List, Bool, true, nat_lt}
+use Rattle.std.specs.Prelude.{◌≡◌, ℕ, ◌<◌, List, Bool, true, nat_lt}
 use Rattle.geometry.specs.declared.geometry.Geometry.{Geometry}
 use Rattle.image_model.specs.Places.{has_magic}
 use Rattle.image_model.specs.Live.{live_at}
-use Rattle.image_model.specs.Tidy.{free_blocks}
 use Rattle.image_model.specs.Kinds.{spoiled_blocks}
 use Rattle.image_model.specs.Killed.{killed_of}
-use Rattle.image_model.specs.Sound.{Keeps}
 
 -- every block has its magic
 abbrev pub HasAllMagics : Geometry → List ℕ → Type 0
@@ -15,8 +13,6 @@ HasAllMagics g image = (block : ℕ) → block < g.blocks → has_magic g image 
 -- The block without its magic was made fresh, where there was one: now all have theirs, with the same live pages.
 pub record Mends (g : Geometry) (erased : Bool) (was now : List ℕ) : Type 0 where
   pub erased_is : erased ≡ nat_lt 0 (spoiled_blocks g was)
-  pub keeps : Keeps g was now
   pub magics : HasAllMagics g now
   pub live : (p : ℕ) → live_at g now p ≡ live_at g was p
   pub killed : killed_of g now ≡ killed_of g was
-  pub free : free_blocks g was ≤ free_blocks g now

@@ -6,8 +6,9 @@ ghost use Rattle.image_model.specs.Kinds.{mixed_blocks as the_mixed_blocks};
 ghost use Rattle.image_model.specs.Sound.{HasMagics};
 ghost use Rattle.image_model.specs.Tidy.{IsTidy};
 ghost use Rattle.flash_view.specs.Same.{IsSameView};
-ghost use Rattle.vol_check.specs.Culls.{KeepsAll, CullsPages};
+ghost use Rattle.vol_check.specs.Culls.{KeepsAll};
 ghost use Rattle.vol_check.specs.Checks.{IsWritable, IsRefusal, CountsMixed, Checked};
+ghost use Rattle.vol_check.specs.Works.{Worked, culling_pages, checking};
 
 use crate::damaged::cull_damaged;
 use crate::doubled::cull_doubles;
@@ -28,17 +29,11 @@ struct Culled {
 }
 
 // Kills the live pages that the table doesn't need: doubled ones, then the header pages of damaged files, then the rest.
-#[tactic(auto, using(flash_view::proofs::Looking::same_then))]
 fn cull_pages<N: Nor>(v: &mut View<'_, N>, marks: &mut [u8]) -> Result<Culled, Failed>
     requires room { page_count v.old.geometry ≤ length marks.old }
     requires magics { N.tells v.old.nor.now → HasMagics v.old.geometry (N.bytes v.old.nor.now) }
-    ensures cause { OnErr result (Rose (N.faults v.old.nor.now) (N.faults v.new.nor.now)) }
-    ensures faults { N.faults v.old.nor.now ≤ N.faults v.new.nor.now }
-    ensures same { IsSameView v.old v.new }
     ensures most { IfOk result (λ culled. culled.pages ≤ 196605) }
-    ensures changes { Changes N.NorState v.old.nor.now v.new.nor.now (KeepsAll v.old.geometry) }
-    ensures done { N.tells v.old.nor.now → IfOk result (λ culled. CullsPages v.old.geometry culled.pages culled.damaged (N.bytes v.old.nor.now) (N.bytes v.new.nor.now)) }
-    ensures idle { N.tells v.old.nor.now → IsTidy v.old.geometry (N.bytes v.old.nor.now) → OnlyReads N.NorState v.old.nor.now v.new.nor.now }
+    ensures work { Worked v.old v.new result culling_pages }
 {
     let doubled = cull_doubles(v)?;
     let damaged = cull_damaged(v, marks)?;
@@ -50,16 +45,10 @@ fn cull_pages<N: Nor>(v: &mut View<'_, N>, marks: &mut [u8]) -> Result<Culled, F
 }
 
 // Mends the block without its magic, and kills what is to be killed.
-#[tactic(auto, using(flash_view::proofs::Looking::same_then))]
 fn clean<N: Nor>(v: &mut View<'_, N>, marks: &mut [u8]) -> Result<Report, Failed>
     requires room { page_count v.old.geometry ≤ length marks.old }
     requires magics { N.tells v.old.nor.now → HasMagics v.old.geometry (N.bytes v.old.nor.now) }
-    ensures cause { OnErr result (Rose (N.faults v.old.nor.now) (N.faults v.new.nor.now)) }
-    ensures faults { N.faults v.old.nor.now ≤ N.faults v.new.nor.now }
-    ensures same { IsSameView v.old v.new }
-    ensures changes { Changes N.NorState v.old.nor.now v.new.nor.now (KeepsAll v.old.geometry) }
-    ensures done { N.tells v.old.nor.now → the_mixed_blocks v.old.geometry (N.bytes v.old.nor.now) ≡ 0 → IfOk result (λ report. Checked v.old.geometry (N.bytes v.old.nor.now) (N.bytes v.new.nor.now) report) }
-    ensures idle { N.tells v.old.nor.now → IsTidy v.old.geometry (N.bytes v.old.nor.now) → OnlyReads N.NorState v.old.nor.now v.new.nor.now }
+    ensures { Worked v.old v.new result checking }
 {
     let erased = mend(v)?;
     let dead = clean_entries(v)?;

@@ -1,21 +1,17 @@
-ghost use Rattle.std.specs.Prelude.{◌≡◌, ◌<◌, ◌≤◌, length, [], None, Some, OnErr, OnOk, IfOk};
+ghost use Rattle.std.specs.Prelude.{◌≡◌, ◌<◌, ◌≤◌, length, Some, IfOk};
 ghost use Rattle.geometry.specs.Numbers.{page_count};
-ghost use Rattle.nor_core.specs.Count.{Rose};
-ghost use Rattle.nor_core.specs.Device.{Changes, OnlyReads};
 ghost use Rattle.image_model.specs.Live.{live_at, own};
 ghost use Rattle.image_model.specs.Files.{index_page};
 ghost use Rattle.image_model.specs.Sound.{HasMagics};
-ghost use Rattle.image_model.specs.Tables.{damaged_of};
-ghost use Rattle.flash_view.specs.Same.{IsSameView};
-ghost use Rattle.flash_view.specs.Marks.{IsMarked, cause_at};
-ghost use Rattle.vol_check.specs.Culls.{KeepsAll, HasNoDoubles, CullsHead, PassesDamaged};
+ghost use Rattle.flash_view.specs.Marks.{IsMarked};
+ghost use Rattle.vol_check.specs.Culls.{HasNoDoubles};
+ghost use Rattle.vol_check.specs.Works.{Worked, culling_head, culling_damaged};
 
 use crate::culling::cull;
 use flash_view::{View, is_entry_page};
 use nor_core::{Failed, Nor, NorState};
 
 // Kills the header page of an id, if the id is damaged: whether it was killed. The marks are right before and after.
-#[tactic(auto, using(flash_view::proofs::Looking::same_then))]
 fn cull_head<N: Nor>(
     v: &mut View<'_, N>,
     marks: &mut [u8],
@@ -24,17 +20,9 @@ fn cull_head<N: Nor>(
 ) -> Result<bool, Failed>
     requires room { page_count v.old.geometry ≤ length marks.old }
     requires header { header < page_count v.old.geometry }
-    requires magics { N.tells v.old.nor.now → HasMagics v.old.geometry (N.bytes v.old.nor.now) }
-    requires single { N.tells v.old.nor.now → HasNoDoubles v.old.geometry (N.bytes v.old.nor.now) }
     requires marked { N.tells v.old.nor.now → IsMarked v.old.geometry (N.bytes v.old.nor.now) marks.old }
     requires first { N.tells v.old.nor.now → index_page v.old.geometry (own (live_at v.old.geometry (N.bytes v.old.nor.now)) id) 0 ≡ Some header }
-    ensures cause { OnErr result (Rose (N.faults v.old.nor.now) (N.faults v.new.nor.now)) }
-    ensures faults { N.faults v.old.nor.now ≤ N.faults v.new.nor.now }
-    ensures same { IsSameView v.old v.new }
-    ensures changes { Changes N.NorState v.old.nor.now v.new.nor.now (KeepsAll v.old.geometry) }
-    ensures done { N.tells v.old.nor.now → IfOk result (λ killed. CullsHead v.old.geometry id header killed (N.bytes v.old.nor.now) (N.bytes v.new.nor.now)) }
-    ensures marked { N.tells v.old.nor.now → OnOk result (IsMarked v.old.geometry (N.bytes v.new.nor.now) marks.new) }
-    ensures idle { N.tells v.old.nor.now → cause_at v.old.geometry (N.bytes v.old.nor.now) id ≡ None → OnlyReads N.NorState v.old.nor.now v.new.nor.now }
+    ensures { Worked v.old v.new result (culling_head id header marks.old marks.new) }
 {
     let g = v.geometry;
     if !is_entry_page(&g, header) {
@@ -54,21 +42,14 @@ pub(crate) fn cull_damaged<N: Nor>(v: &mut View<'_, N>, marks: &mut [u8]) -> Res
     requires room { page_count v.old.geometry ≤ length marks.old }
     requires magics { N.tells v.old.nor.now → HasMagics v.old.geometry (N.bytes v.old.nor.now) }
     requires single { N.tells v.old.nor.now → HasNoDoubles v.old.geometry (N.bytes v.old.nor.now) }
-    ensures cause { OnErr result (Rose (N.faults v.old.nor.now) (N.faults v.new.nor.now)) }
-    ensures faults { N.faults v.old.nor.now ≤ N.faults v.new.nor.now }
-    ensures same { IsSameView v.old v.new }
     ensures most { IfOk result (λ killed. killed ≤ 65535) }
-    ensures changes { Changes N.NorState v.old.nor.now v.new.nor.now (KeepsAll v.old.geometry) }
-    ensures done { N.tells v.old.nor.now → IfOk result (λ killed. PassesDamaged v.old.geometry killed (N.bytes v.old.nor.now) (N.bytes v.new.nor.now)) }
-    ensures idle { N.tells v.old.nor.now → damaged_of v.old.geometry (N.bytes v.old.nor.now) ≡ [] → OnlyReads N.NorState v.old.nor.now v.new.nor.now }
+    ensures work { Worked v.old v.new result culling_damaged }
 {
     v.survey(marks)?;
     let mut killed = 0;
     let mut at = 0;
     'ids: while let Some((id, header)) = v.next_marked(marks, at)? {
-        if cull_head(v, marks, id, header)? {
-            killed += 1;
-        }
+        killed += u32::from(cull_head(v, marks, id, header)?);
         at = id;
     }
     Ok(killed)

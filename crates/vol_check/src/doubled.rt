@@ -1,12 +1,11 @@
-ghost use Rattle.std.specs.Prelude.{◌≡◌, ◌<◌, ◌≤◌, OnErr, IfOk, false};
+ghost use Rattle.std.specs.Prelude.{◌≡◌, ◌<◌, ◌≤◌, OnErr, IfOk};
 ghost use Rattle.std.specs.Bool.{OnTrue};
 ghost use Rattle.geometry.specs.Numbers.{page_count};
 ghost use Rattle.nor_core.specs.Count.{Rose};
-ghost use Rattle.nor_core.specs.Device.{Changes, OnlyReads};
-ghost use Rattle.image_model.specs.Sound.{HasMagics};
 ghost use Rattle.flash_view.specs.Places.{IsEntryPage};
-ghost use Rattle.flash_view.specs.Same.{IsSameView, OnlyLooks};
-ghost use Rattle.vol_check.specs.Culls.{KeepsAll, is_doubled as the_doubled, HasNoDoubles, CullsDoubled, PassesDoubled};
+ghost use Rattle.flash_view.specs.Same.{OnlyLooks};
+ghost use Rattle.vol_check.specs.Culls.{is_doubled as the_doubled};
+ghost use Rattle.vol_check.specs.Works.{Worked, culling_doubled, culling_doubles};
 
 use crate::culling::cull;
 use flash_view::{View, is_entry_page};
@@ -35,16 +34,9 @@ fn is_doubled<N: Nor>(v: &mut View<'_, N>, page: u16) -> Result<bool, Failed>
 }
 
 // Kills a page, if it is doubled: whether it was killed.
-#[tactic(auto, using(flash_view::proofs::Looking::same_then))]
 fn cull_doubled<N: Nor>(v: &mut View<'_, N>, page: u16) -> Result<bool, Failed>
-    requires page { page < page_count v.old.geometry }
-    requires magics { N.tells v.old.nor.now → HasMagics v.old.geometry (N.bytes v.old.nor.now) }
-    ensures cause { OnErr result (Rose (N.faults v.old.nor.now) (N.faults v.new.nor.now)) }
-    ensures faults { N.faults v.old.nor.now ≤ N.faults v.new.nor.now }
-    ensures same { IsSameView v.old v.new }
-    ensures changes { Changes N.NorState v.old.nor.now v.new.nor.now (KeepsAll v.old.geometry) }
-    ensures done { N.tells v.old.nor.now → IfOk result (λ killed. CullsDoubled v.old.geometry page killed (N.bytes v.old.nor.now) (N.bytes v.new.nor.now)) }
-    ensures idle { N.tells v.old.nor.now → the_doubled v.old.geometry (N.bytes v.old.nor.now) page ≡ false → OnlyReads N.NorState v.old.nor.now v.new.nor.now }
+    requires { page < page_count v.old.geometry }
+    ensures { Worked v.old v.new result (culling_doubled page) }
 {
     if !is_doubled(v, page)? {
         return Ok(false);
@@ -55,20 +47,12 @@ fn cull_doubled<N: Nor>(v: &mut View<'_, N>, page: u16) -> Result<bool, Failed>
 
 /// Kills each live index page that isn't the first of its id and span, in page order: how many were killed.
 pub(crate) fn cull_doubles<N: Nor>(v: &mut View<'_, N>) -> Result<u32, Failed>
-    requires magics { N.tells v.old.nor.now → HasMagics v.old.geometry (N.bytes v.old.nor.now) }
-    ensures cause { OnErr result (Rose (N.faults v.old.nor.now) (N.faults v.new.nor.now)) }
-    ensures faults { N.faults v.old.nor.now ≤ N.faults v.new.nor.now }
-    ensures same { IsSameView v.old v.new }
     ensures most { IfOk result (λ killed. killed ≤ 65535) }
-    ensures changes { Changes N.NorState v.old.nor.now v.new.nor.now (KeepsAll v.old.geometry) }
-    ensures done { N.tells v.old.nor.now → IfOk result (λ killed. PassesDoubled v.old.geometry killed (N.bytes v.old.nor.now) (N.bytes v.new.nor.now)) }
-    ensures idle { N.tells v.old.nor.now → HasNoDoubles v.old.geometry (N.bytes v.old.nor.now) → OnlyReads N.NorState v.old.nor.now v.new.nor.now }
+    ensures work { Worked v.old v.new result culling_doubles }
 {
     let mut killed = 0;
     for page in 0..v.geometry.pages() as u16 {
-        if cull_doubled(v, page)? {
-            killed += 1;
-        }
+        killed += u32::from(cull_doubled(v, page)?);
     }
     Ok(killed)
 }

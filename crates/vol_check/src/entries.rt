@@ -1,14 +1,14 @@
-ghost use Rattle.std.specs.Prelude.{◌≡◌, ◌<◌, ◌≤◌, OnErr, IfOk, false};
+ghost use Rattle.std.specs.Prelude.{◌≡◌, ◌+◌, ◌*◌, ◌<◌, ◌≤◌, OnErr, IfOk, slice_index};
 ghost use Rattle.std.specs.Bool.{OnTrue};
 ghost use Rattle.geometry.specs.Numbers.{page_count};
 ghost use Rattle.nor_core.specs.Count.{Rose};
-ghost use Rattle.nor_core.specs.Device.{Changes, OnlyReads};
 ghost use Rattle.image_model.specs.Killed.{is_dead_entry as the_dead_entry};
-ghost use Rattle.image_model.specs.Sound.{HasMagics};
 ghost use Rattle.flash_view.specs.Places.{IsEntryPage};
-ghost use Rattle.flash_view.specs.Same.{IsSameView, OnlyLooks};
-ghost use Rattle.vol_check.specs.Stage.{is_taken_entry, LeavesLive, CleansEntry, CleansEntries, IsClean};
+ghost use Rattle.flash_view.specs.Same.{OnlyLooks};
+ghost use Rattle.vol_check.specs.Stage.{is_taken_entry};
+ghost use Rattle.vol_check.specs.Works.{Worked, cleaning_entry, cleaning_entries};
 
+use crate::culling::is_alive;
 use flash_view::{View, block_of, is_entry_page};
 use nor_core::{Failed, Nor, NorState};
 use page_layout::{DELETED, FREE};
@@ -36,6 +36,7 @@ fn is_dead_entry<N: Nor>(v: &mut View<'_, N>, page: u16) -> Result<bool, Failed>
     ensures cause { OnErr result (Rose (N.faults v.old.nor.now) (N.faults v.new.nor.now)) }
     ensures looks { OnlyLooks v.old v.new }
     ensures entry { IfOk result (λ dead. OnTrue dead (IsEntryPage v.old.geometry page)) }
+    ensures byte { N.tells v.old.nor.now → IfOk result (λ dead. OnTrue dead (slice_index (N.bytes v.old.nor.now) (page * v.old.geometry.page + 4) < 256)) }
     ensures told { N.tells v.old.nor.now → IfOk result (λ dead. dead ≡ the_dead_entry v.old.geometry (N.bytes v.old.nor.now) page) }
 {
     let g = v.geometry;
@@ -45,19 +46,13 @@ fn is_dead_entry<N: Nor>(v: &mut View<'_, N>, page: u16) -> Result<bool, Failed>
     if !v.has_magic(block_of(&g, page))? {
         return Ok(false);
     }
-    Ok(is_taken(v, page)? && !v.is_live(page)?)
+    Ok(is_taken(v, page)? && !is_alive(v, page)?)
 }
 
 // Kills the entry of a page, if it is in use and its page isn't live: whether it was killed.
-#[tactic(auto, using(flash_view::proofs::Looking::same_then))]
 fn clean_entry<N: Nor>(v: &mut View<'_, N>, page: u16) -> Result<bool, Failed>
     requires { page < page_count v.old.geometry }
-    ensures cause { OnErr result (Rose (N.faults v.old.nor.now) (N.faults v.new.nor.now)) }
-    ensures faults { N.faults v.old.nor.now ≤ N.faults v.new.nor.now }
-    ensures same { IsSameView v.old v.new }
-    ensures changes { Changes N.NorState v.old.nor.now v.new.nor.now (LeavesLive v.old.geometry) }
-    ensures done { N.tells v.old.nor.now → HasMagics v.old.geometry (N.bytes v.old.nor.now) → IfOk result (λ killed. CleansEntry v.old.geometry page killed (N.bytes v.old.nor.now) (N.bytes v.new.nor.now)) }
-    ensures idle { N.tells v.old.nor.now → the_dead_entry v.old.geometry (N.bytes v.old.nor.now) page ≡ false → OnlyReads N.NorState v.old.nor.now v.new.nor.now }
+    ensures { Worked v.old v.new result (cleaning_entry page) }
 {
     if !is_dead_entry(v, page)? {
         return Ok(false);
@@ -68,19 +63,12 @@ fn clean_entry<N: Nor>(v: &mut View<'_, N>, page: u16) -> Result<bool, Failed>
 
 /// Kills each entry that is in use and whose page isn't live, in page order: how many were killed.
 pub(crate) fn clean_entries<N: Nor>(v: &mut View<'_, N>) -> Result<u32, Failed>
-    ensures cause { OnErr result (Rose (N.faults v.old.nor.now) (N.faults v.new.nor.now)) }
-    ensures faults { N.faults v.old.nor.now ≤ N.faults v.new.nor.now }
-    ensures same { IsSameView v.old v.new }
     ensures most { IfOk result (λ killed. killed ≤ 65535) }
-    ensures changes { Changes N.NorState v.old.nor.now v.new.nor.now (LeavesLive v.old.geometry) }
-    ensures done { N.tells v.old.nor.now → HasMagics v.old.geometry (N.bytes v.old.nor.now) → IfOk result (λ killed. CleansEntries v.old.geometry killed (N.bytes v.old.nor.now) (N.bytes v.new.nor.now)) }
-    ensures idle { N.tells v.old.nor.now → IsClean v.old.geometry (N.bytes v.old.nor.now) → OnlyReads N.NorState v.old.nor.now v.new.nor.now }
+    ensures work { Worked v.old v.new result cleaning_entries }
 {
     let mut killed = 0;
     for page in 0..v.geometry.pages() as u16 {
-        if clean_entry(v, page)? {
-            killed += 1;
-        }
+        killed += u32::from(clean_entry(v, page)?);
     }
     Ok(killed)
 }

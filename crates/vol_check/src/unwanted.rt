@@ -1,16 +1,14 @@
-ghost use Rattle.std.specs.Prelude.{◌≡◌, ◌+◌, ◌-◌, ◌^◌, ◌<◌, ◌≤◌, [], OnErr, IfOk, false};
+ghost use Rattle.std.specs.Prelude.{◌≡◌, ◌+◌, ◌-◌, ◌^◌, ◌<◌, ◌≤◌, OnErr, IfOk};
 ghost use Rattle.std.specs.Bool.{OnTrue};
 ghost use Rattle.geometry.specs.Numbers.{page_count};
 ghost use Rattle.nor_core.specs.Count.{Rose};
-ghost use Rattle.nor_core.specs.Device.{Changes, OnlyReads};
 ghost use Rattle.table_model.specs.Room.{data_pages as the_data_pages, index_pages as the_index_pages};
 ghost use Rattle.image_model.specs.Places.{page_of};
 ghost use Rattle.image_model.specs.Headers.{size_of};
-ghost use Rattle.image_model.specs.Sound.{HasMagics};
-ghost use Rattle.image_model.specs.Tables.{damaged_of};
 ghost use Rattle.flash_view.specs.Places.{IsEntryPage};
-ghost use Rattle.flash_view.specs.Same.{IsSameView, OnlyLooks};
-ghost use Rattle.vol_check.specs.Culls.{KeepsAll, HasNoDoubles, is_unwanted as the_unwanted, IsServed, is_served_by, CullsRest, PassesRest};
+ghost use Rattle.flash_view.specs.Same.{OnlyLooks};
+ghost use Rattle.vol_check.specs.Culls.{IsSettled, is_unwanted as the_unwanted, is_served_by};
+ghost use Rattle.vol_check.specs.Works.{Worked, culling_unwanted, culling_rest};
 
 use crate::culling::cull;
 use flash_view::{View, is_entry_page};
@@ -74,16 +72,14 @@ fn serves<N: Nor>(
     Ok(v.find_data(head.object(), head.span)? == Some(page))
 }
 
-// Whether a page is live and no file of the table needs it.
+// Whether a page is live and no file of the table needs it, where no page is doubled and nothing is damaged.
 #[tactic(auto, using(flash_view::proofs::Looking::looks_then))]
 fn is_unwanted<N: Nor>(v: &mut View<'_, N>, page: u16) -> Result<bool, Failed>
-    requires page { page < page_count v.old.geometry }
-    requires single { N.tells v.old.nor.now → HasNoDoubles v.old.geometry (N.bytes v.old.nor.now) }
-    requires undamaged { N.tells v.old.nor.now → damaged_of v.old.geometry (N.bytes v.old.nor.now) ≡ [] }
+    requires { page < page_count v.old.geometry }
     ensures cause { OnErr result (Rose (N.faults v.old.nor.now) (N.faults v.new.nor.now)) }
     ensures looks { OnlyLooks v.old v.new }
     ensures entry { IfOk result (λ unwanted. OnTrue unwanted (IsEntryPage v.old.geometry page)) }
-    ensures told { N.tells v.old.nor.now → IfOk result (λ unwanted. unwanted ≡ the_unwanted v.old.geometry (N.bytes v.old.nor.now) page) }
+    ensures told { N.tells v.old.nor.now → IsSettled v.old.geometry (N.bytes v.old.nor.now) → IfOk result (λ unwanted. unwanted ≡ the_unwanted v.old.geometry (N.bytes v.old.nor.now) page) }
 {
     if !is_entry_page(&v.geometry, page) {
         return Ok(false);
@@ -99,18 +95,9 @@ fn is_unwanted<N: Nor>(v: &mut View<'_, N>, page: u16) -> Result<bool, Failed>
 }
 
 // Kills a page, if it is live and no file of the table needs it: whether it was killed.
-#[tactic(auto, using(flash_view::proofs::Looking::same_then))]
 fn cull_unwanted<N: Nor>(v: &mut View<'_, N>, page: u16) -> Result<bool, Failed>
-    requires page { page < page_count v.old.geometry }
-    requires magics { N.tells v.old.nor.now → HasMagics v.old.geometry (N.bytes v.old.nor.now) }
-    requires single { N.tells v.old.nor.now → HasNoDoubles v.old.geometry (N.bytes v.old.nor.now) }
-    requires undamaged { N.tells v.old.nor.now → damaged_of v.old.geometry (N.bytes v.old.nor.now) ≡ [] }
-    ensures cause { OnErr result (Rose (N.faults v.old.nor.now) (N.faults v.new.nor.now)) }
-    ensures faults { N.faults v.old.nor.now ≤ N.faults v.new.nor.now }
-    ensures same { IsSameView v.old v.new }
-    ensures changes { Changes N.NorState v.old.nor.now v.new.nor.now (KeepsAll v.old.geometry) }
-    ensures done { N.tells v.old.nor.now → IfOk result (λ killed. CullsRest v.old.geometry page killed (N.bytes v.old.nor.now) (N.bytes v.new.nor.now)) }
-    ensures idle { N.tells v.old.nor.now → the_unwanted v.old.geometry (N.bytes v.old.nor.now) page ≡ false → OnlyReads N.NorState v.old.nor.now v.new.nor.now }
+    requires { page < page_count v.old.geometry }
+    ensures { Worked v.old v.new result (culling_unwanted page) }
 {
     if !is_unwanted(v, page)? {
         return Ok(false);
@@ -122,22 +109,12 @@ fn cull_unwanted<N: Nor>(v: &mut View<'_, N>, page: u16) -> Result<bool, Failed>
 /// Kills each live page that no file of the table needs, in page order: how many were killed. No page may be doubled and
 /// nothing damaged.
 pub(crate) fn cull_rest<N: Nor>(v: &mut View<'_, N>) -> Result<u32, Failed>
-    requires magics { N.tells v.old.nor.now → HasMagics v.old.geometry (N.bytes v.old.nor.now) }
-    requires single { N.tells v.old.nor.now → HasNoDoubles v.old.geometry (N.bytes v.old.nor.now) }
-    requires undamaged { N.tells v.old.nor.now → damaged_of v.old.geometry (N.bytes v.old.nor.now) ≡ [] }
-    ensures cause { OnErr result (Rose (N.faults v.old.nor.now) (N.faults v.new.nor.now)) }
-    ensures faults { N.faults v.old.nor.now ≤ N.faults v.new.nor.now }
-    ensures same { IsSameView v.old v.new }
     ensures most { IfOk result (λ killed. killed ≤ 65535) }
-    ensures changes { Changes N.NorState v.old.nor.now v.new.nor.now (KeepsAll v.old.geometry) }
-    ensures done { N.tells v.old.nor.now → IfOk result (λ killed. PassesRest v.old.geometry killed (N.bytes v.old.nor.now) (N.bytes v.new.nor.now)) }
-    ensures idle { N.tells v.old.nor.now → IsServed v.old.geometry (N.bytes v.old.nor.now) → OnlyReads N.NorState v.old.nor.now v.new.nor.now }
+    ensures work { Worked v.old v.new result culling_rest }
 {
     let mut killed = 0;
     for page in 0..v.geometry.pages() as u16 {
-        if cull_unwanted(v, page)? {
-            killed += 1;
-        }
+        killed += u32::from(cull_unwanted(v, page)?);
     }
     Ok(killed)
 }

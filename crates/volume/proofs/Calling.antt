@@ -13,9 +13,9 @@ use Rattle.table_model.specs.Outcome.{gives, on_descriptor}
 use Rattle.table_model.specs.Calls.{answer_tell}
 use Rattle.table_model.specs.Reply.{Answer, Tells as Number, Refuses}
 use Rattle.table_model.specs.declared.call.Call.{Call}
-use Rattle.table_model.specs.declared.call.Call.TheVariants.{Create, OpenFile, Read, Seek, Tell, Flush, Close, Remove, StatName, FStat, Next, GetInfo}
+use Rattle.table_model.specs.declared.call.Call.TheVariants.{Create, OpenFile, Read, Seek, Tell, Flush, Close, Remove, FRemove, StatName, FStat, Next, GetInfo}
 use Rattle.table_model.specs.declared.call.Whence.{Whence}
-use Rattle.table_model.specs.Ask.{Ask, Creates, Opens, Reads, Seeks, Tells, Flushes, Closes, Removes, Stats, StatsOpen, NextAbove, Informs, asked}
+use Rattle.table_model.specs.Ask.{Ask, Creates, Opens, Reads, Seeks, Tells, Flushes, Closes, Removes, RemovesOpen, Stats, StatsOpen, NextAbove, Informs, asked}
 use Rattle.table_model.specs.Flat.{answer}
 use Rattle.table_model.specs.Steps.{is_refusal, steps}
 use Rattle.table_model.specs.Window.{Moment, Waiting, settled_at, incoming_of, continues, from_settled, IsAmong}
@@ -66,6 +66,7 @@ after_built g spare m (Tells fd) still built = rw (tells_stay (open_at m.state.s
 after_built g spare m (Flushes fd) still built = either (is_refusal (answer g spare m.state (Flushes fd)).answer) _ _ (rw (goes_on_none g m.window) refl)
 after_built g spare m (Closes fd) still built = either (is_refusal (answer g spare m.state (Closes fd)).answer) _ _ (rw (goes_on_none g m.window) refl)
 after_built g spare m (Removes name) still built = either (is_refusal (answer g spare m.state (Removes name)).answer) _ _ (rw (goes_on_none g m.window) refl)
+after_built g spare m (RemovesOpen fd) still built = either (is_refusal (answer g spare m.state (RemovesOpen fd)).answer) _ _ (rw (goes_on_none g m.window) refl)
 after_built g spare m (Stats name) still built = either (is_refusal (answer g spare m.state (Stats name)).answer) _ _ (rw (goes_on_none g m.window) refl)
 after_built g spare m (StatsOpen fd) still built = either (is_refusal (answer g spare m.state (StatsOpen fd)).answer) _ _ (rw (goes_on_none g m.window) refl)
 after_built g spare m (NextAbove id) still built = either (is_refusal (answer g spare m.state (NextAbove id)).answer) _ _ (rw (goes_on_none g m.window) refl)
@@ -227,6 +228,7 @@ pub record IsOther (call : Call) : Type 0 where
   pub flush : (fd : ℕ) → call ≡ Flush fd → ⊥
   pub close : (fd : ℕ) → call ≡ Close fd → ⊥
   pub remove : (name : _) → call ≡ Remove name → ⊥
+  pub fremove : (fd : ℕ) → call ≡ FRemove fd → ⊥
   pub stat : (name : _) → call ≡ StatName name → ⊥
   pub fstat : (fd : ℕ) → call ≡ FStat fd → ⊥
   pub next : (after : ℕ) → call ≡ Next after → ⊥
@@ -241,6 +243,7 @@ not_built (Tell fd) other = absurd (other.tell fd refl)
 not_built (Flush fd) other = absurd (other.flush fd refl)
 not_built (Close fd) other = absurd (other.close fd refl)
 not_built (Remove name) other = absurd (other.remove name refl)
+not_built (FRemove fd) other = absurd (other.fremove fd refl)
 not_built (StatName name) other = absurd (other.stat name refl)
 not_built (FStat fd) other = absurd (other.fstat fd refl)
 not_built (Next after) other = absurd (other.next after refl)

@@ -1,5 +1,5 @@
 -- What the flat table answers to calls through a descriptor.
-use Rattle.std.proofs.Common.{◌≡◌, ℕ, ◌+◌, List, [], length, Bool, true, false, not, refl, sym, ◌∙◌, ap, subst, inl}
+use Rattle.std.proofs.Common.{◌≡◌, ℕ, ◌+◌, List, [], length, Bool, true, false, not, refl, sym, ◌∙◌, ap, subst, inl, arith}
 use Rattle.std.specs.Option.{option_map}
 use Rattle.std.specs.Prelude.{ℤ, pos, ◌+ℤ◌, Option, Some, None, Result, Ok, Err}
 use Rattle.nor_core.specs.declared.state.NorState.{Ghosts as NorOf}
@@ -17,7 +17,7 @@ use Rattle.image_model.specs.Tidy.{IsTidy, has_spare}
 use Rattle.image_laws.proofs.Judge.{index_passes, found_from}
 use Rattle.image_laws.proofs.Finish.{own-parts}
 use Rattle.header_laws.proofs.Telling.{files-have_heads}
-use Rattle.std.specs.Prelude.{IsErrOf}
+use Rattle.std.specs.Prelude.{IsErrOf, map}
 use Rattle.flash_view.specs.declared.kinds.StepErr.{StepErr}
 use Rattle.flash_view.specs.declared.kinds.StepErr.TheVariants.{DeviceFault as StepFault, Damaged as StepDamaged}
 use Rattle.file_read.specs.Missing.{IsMissing, HoldsOrFault}
@@ -31,18 +31,22 @@ use Rattle.volume.specs.Holds.{IsImageOf}
 use Rattle.volume.specs.Goes.{Goes}
 use Rattle.volume.specs.Moves.{with_slots, Moves}
 use Rattle.volume.specs.Recorded.{MayMiss}
-use Rattle.volume.proofs.Going.{same_slots, goes_refused, goes_missed}
+use Rattle.table_model.specs.Steps.{is_refusal, done_steps}
+use Rattle.call_model.proofs.Tables.{file_of-id}
+use Rattle.file_drop.specs.Removals.{removing}
+use Rattle.volume.proofs.Removing.{has_by}
+use Rattle.volume.proofs.Going.{same_slots, goes_refused, goes_missed, IsOneStep, one_step, before_or_after, reserve_mends, IsStep}
 use Rattle.geometry.specs.declared.geometry.Geometry.{Geometry}
 use Rattle.table_model.specs.declared.call.Whence.{Whence}
 use Rattle.table_model.specs.declared.call.Whence.TheVariants.{Set, Cur, End}
 use Rattle.table_model.specs.declared.reply.Stat.{Stat}
-use Rattle.table_model.specs.Table.{File, Open, State, file_of}
-use Rattle.table_model.specs.Descriptors.{open_at, put_at, may_read, at_offset}
-use Rattle.table_model.specs.Files.{stat_of, bytes_at, with_open, closed, seek_base, place_within, seek_place}
-use Rattle.table_model.specs.Calls.{answer_read, answer_seek, answer_tell, answer_flush, answer_close, answer_fstat, move_to}
+use Rattle.table_model.specs.Table.{File, Open, State, file_of, drop_file}
+use Rattle.table_model.specs.Descriptors.{open_at, put_at, may_read, at_offset, without_file}
+use Rattle.table_model.specs.Files.{stat_of, bytes_at, with_open, closed, without, seek_base, place_within, seek_place}
+use Rattle.table_model.specs.Calls.{answer_read, answer_seek, answer_tell, answer_flush, answer_close, answer_fremove, answer_fstat, move_to}
 use Rattle.table_model.specs.Outcome.{Outcome, refused, gives}
-use Rattle.table_model.specs.Reply.{Fine, Tells as Number, Gives, Shows, Refuses}
-use Rattle.table_model.specs.Ask.{Ask, Reads, Seeks, Tells, Flushes, Closes, StatsOpen}
+use Rattle.table_model.specs.Reply.{Answer, Fine, Tells as Number, Gives, Shows, Refuses}
+use Rattle.table_model.specs.Ask.{Ask, Reads, Seeks, Tells, Flushes, Closes, RemovesOpen, StatsOpen}
 use Rattle.table_model.specs.Flat.{answer}
 
 module _ (g : Geometry) (spare : Bool) (s : State) (fd : ℕ) where
@@ -246,3 +250,42 @@ pub unread_by : {D : Type 0} {nor : NorOf D} {g : Geometry} {old new : D} {slots
     (IsErrOf {T = T} (Err why) StepFault → Rose (nor.faults old) (nor.faults new)) → ((s : State) → IsImageOf nor g old slots s → HoldsOrFault {T = T} (Err why) (λ x. Unit {0})) → Goes nor g ask old new slots slots wrote (Refuses (as_fs_err why))
 unread_by id ask StepFault wrote none reads built fine met reader missing cause told = goes_unread ask DeviceFault wrote none reads built fine met reader tt (λ e. cause refl) (λ s here no_fault. no_fault refl)
 unread_by id ask (StepDamaged d) wrote none reads built fine met reader missing cause told = goes_unread ask (Damaged d) wrote none reads built fine met reader missing.apart (λ e. absurd (cc)) (λ s here no_fault. told s here)
+
+-- ---- a removal by descriptor
+
+module _ (g : Geometry) (spare : Bool) (s : State) (fd : ℕ) where
+  pub fremove_closed : open_at s.slots fd ≡ None → answer g spare s (RemovesOpen fd) ≡ refused BadDescriptor s
+  unfolding answer answer_fremove
+  fremove_closed none = rw none refl
+
+  flat_fremove : (d : Open) (f : File) → open_at s.slots fd ≡ Some d → file_of d.id s.table ≡ Some f → answer g spare s (RemovesOpen fd) ≡ gives Fine (without f s)
+  unfolding answer answer_fremove
+  flat_fremove d f at there = rw (at, there) refl
+
+  -- the file is taken out, and the descriptors on it are closed
+  fremove_one : (d : Open) (f : File) → open_at s.slots fd ≡ Some d → file_of d.id s.table ≡ Some f → IsOneStep g spare s (RemovesOpen fd) Fine (drop_file d.id s.table) × ((answer g spare s (RemovesOpen fd)).next.slots ≡ map (without_file d.id) s.slots)
+  unfolding without done_steps
+  fremove_one d f at there =
+      let same : f.id ≡ d.id = file_of-id d.id s.table f there in
+      let is = flat_fremove d f at there in (
+        subst (λ (n : ℕ). IsOneStep g spare s (RemovesOpen fd) Fine (drop_file n s.table)) same (one_step g spare s (without f s) (RemovesOpen fd) Fine refl is refl),
+        ap (λ (o : Outcome). o.next.slots) is ∙ rw same refl,
+      )
+
+module _ {D : Type 0} {nor : NorOf D} {g : Geometry} {old : D} {slots : List FdSlot} (fd : ℕ) (slot : FdSlot) (at : open_at (descriptors slots) fd ≡ Some (opened slot)) where
+  removed_by : (s : State) → IsImageOf nor g old slots s → IsOneStep g (has_spare g (nor.bytes old)) s (RemovesOpen fd) Fine (drop_file slot.id (table_of g (nor.bytes old))) × ((answer g (has_spare g (nor.bytes old)) s (RemovesOpen fd)).next.slots ≡ map (without_file slot.id) (descriptors slots))
+  removed_by s here =
+      let w = file_at fd slot at s here in
+      let o = fremove_one g (has_spare g (nor.bytes old)) s fd (opened slot) w.file (open_in slots s fd (Some (opened slot)) here.slots at) w.there in (
+        subst (λ (files : List File). IsOneStep g (has_spare g (nor.bytes old)) s (RemovesOpen fd) Fine (drop_file slot.id files)) here.table o.0,
+        o.1 ∙ ap (map (without_file slot.id)) (sym here.slots),
+      )
+
+  pub fremove_step : IsStep nor g slots (RemovesOpen fd) Fine (map (without_file slot.id) (descriptors slots)) old (removing slot.id)
+  fremove_step = record {
+    can = λ s here. let w = file_at fd slot at s here in record { tidy = here.tidy; there = has_by slot.id (table_of g (nor.bytes old)) w.file w.listed };
+    cut = λ s here image cut. let o = removed_by s here in
+        before_or_after g (nor.bytes old) image s (RemovesOpen fd) Fine (drop_file slot.id (table_of g (nor.bytes old))) o.0 here.table cut.sound (λ reserve. reserve_mends g image (let free = cut.free in omega (arith, reserve, free))) cut.table;
+    done = λ s here now done. let o = removed_by s here in record { answer_is = o.0.answer_is; tidy = done.tidy; table = o.0.table_is ∙ sym done.table; slots = sym o.1; reserve = λ reserve. let free = done.free in omega (arith, reserve, free) };
+    doable = λ s here. let o = removed_by s here in record { done = ap (λ (a : Answer). is_refusal a) o.0.answer_is; had = λ takes. absurd (let no : false ≡ true = takes in cc) };
+  }

@@ -46,7 +46,7 @@ pub named_none : (g : Geometry) (image name : List ℕ) → IsImage g image → 
 named_none g image name whole tidy first = missing_by name (table_of g image) (file_named name (table_of g image)) refl (sym (named g image whole tidy name) ∙ first)
 
 -- it is in the table under its id
-has_by : (id : ℕ) (files : List File) (f : File) → file_of id files ≡ Some f → has_id id files ≡ true
+pub has_by : (id : ℕ) (files : List File) (f : File) → file_of id files ≡ Some f → has_id id files ≡ true
 unfolding has_id file_of
 has_by id files f at = any-found (λ (x : File). x.id == id) files ∙ ap is_some at
 

@@ -1,7 +1,7 @@
 -- The calls that this build has.
 use Rattle.std.specs.Prelude.{Bool, true, false, not}
 use Rattle.table_model.specs.Descriptors.{empties}
-use Rattle.table_model.specs.Ask.{Ask, Creates, Opens, Reads, Seeks, Tells, Flushes, Closes, Removes, Stats, StatsOpen, NextAbove, Informs}
+use Rattle.table_model.specs.Ask.{Ask, Creates, Opens, Reads, Seeks, Tells, Flushes, Closes, Removes, RemovesOpen, Stats, StatsOpen, NextAbove, Informs}
 
 -- a call that this build has: of the openings those that empty no file
 abbrev pub is_built : Ask → Bool
@@ -13,6 +13,7 @@ is_built (Tells fd) = true
 is_built (Flushes fd) = true
 is_built (Closes fd) = true
 is_built (Removes name) = true
+is_built (RemovesOpen fd) = true
 is_built (Stats name) = true
 is_built (StatsOpen fd) = true
 is_built (NextAbove after) = true

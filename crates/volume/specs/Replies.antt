@@ -13,7 +13,7 @@ use Rattle.flash_view.specs.declared.kinds.StepErr.{StepErr}
 use Rattle.flash_view.specs.declared.kinds.StepErr.TheVariants.{DeviceFault as StepFault, Damaged as StepDamaged}
 use Rattle.table_model.specs.Names.{name_refusal, names_refusal}
 use Rattle.table_model.specs.Reply.{Answer, Fine, Tells as Number, Gives, Shows, Ends, Counts, Refuses}
-use Rattle.table_model.specs.Ask.{Ask, Creates, Opens, Reads, Seeks, Tells, Flushes, Closes, Removes, Renames, Stats, StatsOpen, NextAbove, Informs, SetsMeta}
+use Rattle.table_model.specs.Ask.{Ask, Creates, Opens, Reads, Seeks, Tells, Flushes, Closes, Removes, RemovesOpen, Renames, Stats, StatsOpen, NextAbove, Informs, SetsMeta}
 
 -- what a call told; bytes that were read stand at the front of those that were lent
 abbrev pub shown_by : Told → List ℕ → Answer
@@ -117,6 +117,7 @@ meets (Tells fd) why = is_of_descriptor why
 meets (Flushes fd) why = is_of_descriptor why
 meets (Closes fd) why = is_of_descriptor why
 meets (Removes name) why = is_missing why || is_fault why
+meets (RemovesOpen fd) why = is_of_descriptor why || is_fault why
 meets (Stats name) why = is_missing why || is_fault why
 meets (StatsOpen fd) why = is_of_descriptor why || is_fault why
 meets (NextAbove after) why = is_fault why
@@ -135,6 +136,7 @@ abbrev pub is_change : Ask → Bool
 is_change (Creates name) = true
 is_change (Opens name flags) = makes flags || empties flags
 is_change (Removes name) = true
+is_change (RemovesOpen fd) = true
 is_change _ = false
 
 -- calls that read the pages of a descriptor's file
@@ -151,6 +153,7 @@ keeps_slots (Reads fd count) = false
 keeps_slots (Seeks fd offset from) = false
 keeps_slots (Closes fd) = false
 keeps_slots (Removes name) = false
+keeps_slots (RemovesOpen fd) = false
 keeps_slots _ = true
 
 -- calls that take a name
@@ -176,6 +179,7 @@ may_answer (Tells fd) (Number at) = true
 may_answer (Flushes fd) Fine = true
 may_answer (Closes fd) Fine = true
 may_answer (Removes name) Fine = true
+may_answer (RemovesOpen fd) Fine = true
 may_answer (Stats name) (Shows stat) = true
 may_answer (StatsOpen fd) (Shows stat) = true
 may_answer (NextAbove after) (Shows stat) = true

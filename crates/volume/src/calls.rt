@@ -12,7 +12,7 @@ use crate::create::create_in;
 use crate::looking::{tell_info, tell_next, tell_stat};
 use crate::opening::open_in;
 use crate::reading::{read_in, seek_in, tell_open};
-use crate::remove::remove_in;
+use crate::remove::{remove_in, remove_open};
 use crate::slots::{close_in, flush_in, tell_in};
 use crate::stage::Stage;
 use crate::{Told, Volume};
@@ -51,6 +51,7 @@ fn call_in<N: Nor>(
         Call::Flush { fd } => flush_in(slots, fd),
         Call::Close { fd } => close_in(slots, fd),
         Call::Remove { name } => remove_in(v, slots, name),
+        Call::FRemove { fd } => remove_open(v, slots, fd),
         Call::StatName { name } => tell_stat(v, name),
         Call::FStat { fd } => tell_open(v, slots, fd),
         Call::Next { after } => tell_next(v, after),

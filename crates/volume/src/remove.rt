@@ -1,7 +1,7 @@
 ghost use Rattle.std.specs.Prelude.{◌≡◌, ℕ, List, IsErrOf, IfErr, true, false};
 ghost use Rattle.nor_core.specs.Count.{Rose};
 ghost use Rattle.flash_view.specs.Same.{IsSameView, OnlyLooks};
-ghost use Rattle.table_model.specs.Ask.{Removes};
+ghost use Rattle.table_model.specs.Ask.{Removes, RemovesOpen};
 ghost use Rattle.image_model.specs.Tables.{table_of};
 ghost use Rattle.image_model.specs.Tidy.{IsTidy};
 ghost use Rattle.volume.specs.Removes.{FindsNamed};
@@ -10,6 +10,7 @@ ghost use Rattle.volume.specs.Goes.{Goes};
 
 use crate::Told;
 use crate::names::accept;
+use crate::slots::opened;
 use crate::steps::failed_as;
 use fd_table::{FdSlot, close_file};
 use file_drop::remove_step;
@@ -47,6 +48,27 @@ pub(crate) fn remove_in<N: Nor>(
     match remove_step(v, id) {
         Ok(()) => {
             close_file(slots, id);
+            Ok(Told::Done)
+        }
+        Err(why) => Err(failed_as(why)),
+    }
+}
+
+/// Removes the file of a descriptor, and closes each descriptor on it.
+#[tactic(auto, using(flash_view::proofs::Looking::same_none))]
+pub(crate) fn remove_open<N: Nor>(
+    v: &mut View<'_, N>,
+    slots: &mut [FdSlot],
+    fd: u16,
+) -> Result<Told, FsErr>
+    requires fresh { v.old.wrote ≡ false }
+    ensures same { IsSameView v.old v.new }
+    ensures goes { (into : List ℕ) → Goes N.NorState v.old.geometry (RemovesOpen fd) v.old.nor.now v.new.nor.now slots.old slots.new v.new.wrote (reply_of result into) }
+{
+    let slot = opened(slots, fd)?;
+    match remove_step(v, slot.id) {
+        Ok(()) => {
+            close_file(slots, slot.id);
             Ok(Told::Done)
         }
         Err(why) => Err(failed_as(why)),

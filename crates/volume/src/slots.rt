@@ -1,10 +1,10 @@
-ghost use Rattle.std.specs.Prelude.{◌≡◌, ℕ, ◌<◌, ◌≤◌, length, Some, None, true, IfOk, IfErr, OnOk, OnErr};
+ghost use Rattle.std.specs.Prelude.{◌≡◌, ℕ, ◌<◌, ◌≤◌, length, min, replicate, Some, None, true, IfOk, IfErr, OnOk, OnErr};
 ghost use Rattle.table_model.specs.Ask.{Tells, Flushes, Closes};
 ghost use Rattle.fd_table.specs.Slots.{descriptors, open_at, opened as the_open};
 ghost use Rattle.volume.specs.Moves.{Moves};
 
 use crate::Told;
-use fd_table::{FdErr, FdSlot, open_slot, put};
+use fd_table::{FdErr, FdSlot, FdTable, open_slot, put};
 use table_model::FsErr;
 
 /// The slot of an open descriptor.
@@ -51,4 +51,11 @@ pub(crate) fn close_in(slots: &mut [FdSlot], fd: u16) -> Result<Told, FsErr>
         },
     );
     Ok(Told::Done)
+}
+
+/// Closes every descriptor.
+pub(crate) fn close_all(slots: &mut [FdSlot])
+    ensures { descriptors slots.new ≡ replicate (min 65535 (length slots.old)) None }
+{
+    FdTable::new(slots);
 }

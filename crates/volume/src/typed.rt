@@ -1,6 +1,6 @@
 ghost use Rattle.std.specs.Prelude.{◌≡◌, length, min};
 ghost use Rattle.table_model.specs.Reply.{Fine, Tells as Number, Shows, Counts};
-ghost use Rattle.table_model.specs.Ask.{Creates, Opens, Reads, Seeks, Flushes, Closes, Removes, Stats, StatsOpen, NextAbove, Informs};
+ghost use Rattle.table_model.specs.Ask.{Creates, Opens, Reads, Seeks, Flushes, Closes, Removes, RemovesOpen, Stats, StatsOpen, NextAbove, Informs};
 ghost use Rattle.fd_table.specs.Slots.{descriptors, open_at};
 ghost use Rattle.volume.specs.Replies.{told, shown_or_end, as_read, offset_of};
 ghost use Rattle.volume.specs.Calls.{Calls};
@@ -107,6 +107,18 @@ impl<'b, N: Nor> Volume<'b, N> {
         ensures { Calls (Removes name.now) self.old self.new (told (λ done. Fine) result) }
     {
         match self.answer(&Call::Remove { name }, &mut []) {
+            Told::Done => Ok(()),
+            Told::Refusal(why) => Err(why),
+            _ => unreachable!(),
+        }
+    }
+
+    /// Removes the file of a descriptor, as `remove` does by its name. Refused, in this order: `Failed` (also where the volume wasn't
+    /// checked), `BadDescriptor`.
+    pub fn fremove(&mut self, fd: u16) -> Result<(), FsErr>
+        ensures { Calls (RemovesOpen fd) self.old self.new (told (λ done. Fine) result) }
+    {
+        match self.answer(&Call::FRemove { fd }, &mut []) {
             Told::Done => Ok(()),
             Told::Refusal(why) => Err(why),
             _ => unreachable!(),

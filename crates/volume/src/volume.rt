@@ -11,6 +11,7 @@ ghost use Rattle.vol_check.specs.Culls.{KeepsAll};
 ghost use Rattle.vol_check.specs.Checks.{IsWritable, IsRefusal, CountsMixed, Checked as WasChecked};
 ghost use Rattle.volume.specs.Opening.{is_open, is_mounted};
 
+use crate::slots::close_all;
 use crate::stage::Stage;
 use crate::{CheckErr, Report};
 use fd_table::{FdSlot, FdTable};
@@ -130,7 +131,7 @@ fn check_on<N: Nor>(
 }
 
 impl<'b, N: Nor> Volume<'b, N> {
-    ghost use Rattle.std.specs.Prelude.{◌≡◌, ◌*◌, ◌≤◌, length, min, replicate, OnOk, IsErrOf, IfOk, IfErr, IfSome, IsOk, Err, None, true, false};
+    ghost use Rattle.std.specs.Prelude.{◌≡◌, ◌*◌, ◌≤◌, length, min, replicate, OnOk, OnErr, IsErrOf, IfOk, IfErr, IfSome, IsOk, Err, None, true, false};
     ghost use Rattle.geometry.specs.Numbers.{write_refusal, work_need, cache_need, check_need};
     ghost use Rattle.nor_core.specs.Count.{Rose};
     ghost use Rattle.nor_core.specs.Device.{Changes, OnlyReads};
@@ -202,9 +203,10 @@ impl<'b, N: Nor> Volume<'b, N> {
     }
 
     /// Checks a mounted volume, so that it takes calls, in whatever state a cut or another program left it: a block
-    /// without its magic is made fresh, and every entry is killed that no file needs, those of damaged files too. Refused,
-    /// with nothing written, are a volume that may not be written (`Wrong`) and one of which a block holds live pages of
-    /// both kinds (`Mixed`). Where the device fails, what was done stays, and the check can be called again.
+    /// without its magic is made fresh, and every entry is killed that no file needs, those of damaged files too. Then every
+    /// descriptor is closed. Refused, with nothing written, are a volume that may not be written (`Wrong`) and one of which a
+    /// block holds live pages of both kinds (`Mixed`). Where the device fails, what was done stays, and the check can be
+    /// called again.
     pub fn check(&mut self) -> Result<Report, CheckErr>
         requires mounted { is_mounted self.old.stage ≡ true }
         ensures wrong { IfSome (write_refusal self.old.geometry) (λ why. result ≡ Err (CheckErr.Wrong why)) }
@@ -217,10 +219,12 @@ impl<'b, N: Nor> Volume<'b, N> {
         ensures done { N.tells self.old.nor.now → IfOk result (λ report. WasChecked self.old.geometry (N.bytes self.old.nor.now) (N.bytes self.new.nor.now) report) }
         ensures idle { N.tells self.old.nor.now → IsTidy self.old.geometry (N.bytes self.old.nor.now) → OnlyReads N.NorState self.old.nor.now self.new.nor.now }
         ensures taken { OnOk result (takes_calls self.new ≡ true) }
-        ensures slots { self.new.slots.now ≡ self.old.slots.now }
+        ensures closed { OnOk result (descriptors self.new.slots.now ≡ replicate (min 65535 (length self.old.slots.now)) None) }
+        ensures slots { OnErr result (self.new.slots.now ≡ self.old.slots.now) }
         ensures same { IsSameVolume self.old self.new }
     {
         let report = check_on(self.geometry, self.nor, self.work, self.cache, self.check)?;
+        close_all(self.slots);
         self.stage = Stage::Checked;
         Ok(report)
     }

@@ -1,114 +1,48 @@
-use Rattle.std.proofs.Common.{◌≡◌, ◌∙◌, refl}
-use Rattle.nor_core.proofs.Cuts.{read_after, reads_then}
-use Rattle.image_model.specs.Tidy.{free_blocks}
-use Rattle.vol_check.proofs.Passing.{cut_then, cut_magics}
+use Rattle.std.proofs.Common.{Ok, refl}
+use Rattle.vol_check.specs.Works.{Worked}
 use Rattle.vol_check.proofs.Tidied.{tidy_clean}
-use Rattle.vol_check.proofs.Composing.{live_cut, tidy_there, checked}
+use Rattle.vol_check.proofs.Composing.{readying, readies, culling_all, checked}
+use Rattle.vol_check.proofs.Working.{works_as, works_end, works_stop, works_read, read_stops, stops, work_magics}
+use Rattle.vol_check.proofs.checking.clean.Given.{Over}
 use Rattle.vol_check.proofs.checking.clean.Goals as goal
+use Rattle.vol_check.proofs.checking.clean.Goals.{In_ok-dead, In_ok-culled}
 
-pub returns-in_err-erased-clause-idle : goal.returns-in_err-erased-clause-idle
-returns-in_err-erased-clause-idle g c = λ tells tidy. c.mend.ensures.idle tells tidy.magic
+pub returns-in_err-erased : goal.returns-in_err-erased
+returns-in_err-erased g c = stops c.in_err-erased.ensures c.from_residual.ensures.0 (λ tells magics need. record { needs = tt; idle = λ tidy. tidy.magic })
 
-pub returns-in_err-dead-clause-changes : goal.returns-in_err-dead-clause-changes
-returns-in_err-dead-clause-changes g c =
-    let first = c.mend.ensures.changes in
-    let e = c.mend.ensures.same.geometry in
-    live_cut c.args.v.now.geometry c.mend.new.v.geometry e first c.clean_entries.ensures.changes
+pub returns-in_err-dead : goal.returns-in_err-dead
+returns-in_err-dead g c =
+    works_stop c.in_ok-erased.ensures c.in_err-dead.ensures.work c.from_residual-in_err-dead.ensures.0 (λ tells magics need. record { needs = tt; idle = λ tidy. tidy.magic }) (λ tells magics need mended. record { needs = tt; idle = λ tidy. tidy_clean _ _ tidy })
 
-pub returns-in_err-dead-clause-idle : goal.returns-in_err-dead-clause-idle
-returns-in_err-dead-clause-idle g c = λ tells tidy.
-    let view = c.args.v.now in
-    let image = g.N.NorState.bytes view.nor.now in
-    let e = c.mend.ensures.same.geometry in
-    let first = c.mend.ensures.idle tells tidy.magic in
-    let here = tidy_there view.geometry c.mend.new.v.geometry image (g.N.NorState.bytes c.mend.new.v.nor.now) e first.bytes tidy in
-    reads_then first (c.clean_entries.ensures.idle (first.told tells) (tidy_clean c.mend.new.v.geometry (g.N.NorState.bytes c.mend.new.v.nor.now) here))
+-- after the block without its magic and the dead entries
+ready : (g : Over) (c : In_ok-dead g) → Worked {nor = g.N.NorState} c.args.v.now c.clean_entries.new.v (Ok (c.in_ok-erased.erased, c.in_ok-dead.dead)) readying
+ready g c =
+    works_end c.in_ok-erased.ensures c.in_ok-dead.ensures.work (λ tells magics need. record { needs = tt; idle = λ tidy. tidy.magic }) (λ tells magics need mended. record { needs = tt; idle = λ tidy. tidy_clean _ _ tidy })
+    (λ tells magics need mended kept cleaned. readies _ _ _ _ _ _ mended cleaned)
 
 pub cull_pages-requires-clause-magics : goal.cull_pages-requires-clause-magics
-cull_pages-requires-clause-magics g c = λ tells.
-    let first = c.mend.ensures.changes in
-    let e = c.mend.ensures.same.geometry in
-    let second = live_cut c.args.v.now.geometry c.mend.new.v.geometry e first c.clean_entries.ensures.changes in
-    let f = c.clean_entries.ensures.same.geometry ∙ e in
-    cut_magics c.args.v.now.geometry c.clean_entries.new.v.geometry f second tells
+cull_pages-requires-clause-magics g c = work_magics (ready g (goal.at.cull_pages-requires-clause-magics g c).In_ok-dead) c.requires.magics (λ tells. tt)
 
-pub returns-in_err-culled-clause-changes : goal.returns-in_err-culled-clause-changes
-returns-in_err-culled-clause-changes g c =
-    let first = c.mend.ensures.changes in
-    let e = c.mend.ensures.same.geometry in
-    let second = live_cut c.args.v.now.geometry c.mend.new.v.geometry e first c.clean_entries.ensures.changes in
-    let f = c.clean_entries.ensures.same.geometry ∙ e in
-    cut_then c.args.v.now.geometry c.clean_entries.new.v.geometry f second c.cull_pages.ensures.changes
+pub returns-in_err-culled : goal.returns-in_err-culled
+returns-in_err-culled g c =
+    works_stop (ready g (goal.at.returns-in_err-culled g c).In_ok-dead) c.in_err-culled.ensures.work c.from_residual-in_err-culled.ensures.0 (λ tells magics need. record { needs = tt; idle = λ tidy. tidy }) (λ tells magics need done. record { needs = tt; idle = λ tidy. tidy })
 
-pub returns-in_err-culled-clause-idle : goal.returns-in_err-culled-clause-idle
-returns-in_err-culled-clause-idle g c = λ tells tidy.
-    let view = c.args.v.now in
-    let image = g.N.NorState.bytes view.nor.now in
-    let e = c.mend.ensures.same.geometry in
-    let first = c.mend.ensures.idle tells tidy.magic in
-    let here = tidy_there view.geometry c.mend.new.v.geometry image (g.N.NorState.bytes c.mend.new.v.nor.now) e first.bytes tidy in
-    let second = reads_then first (c.clean_entries.ensures.idle (first.told tells) (tidy_clean c.mend.new.v.geometry (g.N.NorState.bytes c.mend.new.v.nor.now) here)) in
-    let f = c.clean_entries.ensures.same.geometry ∙ e in
-    let there = tidy_there view.geometry c.clean_entries.new.v.geometry image (g.N.NorState.bytes c.clean_entries.new.v.nor.now) f second.bytes tidy in
-    reads_then second (c.cull_pages.ensures.idle (second.told tells) there)
+-- after the passes
+culled : (g : Over) (c : In_ok-culled g) → Worked {nor = g.N.NorState} c.args.v.now c.clean_entries.new.v (Ok (c.in_ok-erased.erased, c.in_ok-dead.dead)) readying →
+    Worked {nor = g.N.NorState} c.args.v.now c.cull_pages.new.v (Ok (c.in_ok-erased.erased, c.in_ok-dead.dead, c.in_ok-culled.culled)) culling_all
+culled g c was =
+    works_end was c.in_ok-culled.ensures.work (λ tells magics need. record { needs = tt; idle = λ tidy. tidy }) (λ tells magics need done. record { needs = tt; idle = λ tidy. tidy })
+    (λ tells magics need done kept culled. record { image = _; ready = done; passes = culled })
 
-pub returns-in_err-free_blocks-clause-changes : goal.returns-in_err-free_blocks-clause-changes
-returns-in_err-free_blocks-clause-changes g c =
-    let first = c.mend.ensures.changes in
-    let e = c.mend.ensures.same.geometry in
-    let second = live_cut c.args.v.now.geometry c.mend.new.v.geometry e first c.clean_entries.ensures.changes in
-    let f = c.clean_entries.ensures.same.geometry ∙ e in
-    let third = cut_then c.args.v.now.geometry c.clean_entries.new.v.geometry f second c.cull_pages.ensures.changes in
-    read_after third c.free_blocks.ensures.looks.reads
+pub returns-in_err-free_blocks : goal.returns-in_err-free_blocks
+returns-in_err-free_blocks g c =
+    let at = goal.at.returns-in_err-free_blocks g c in
+    read_stops (culled g at.In_ok-culled (ready g at.In_ok-dead)) c.in_err-free_blocks.ensures.looks c.in_err-free_blocks.ensures.cause c.from_residual-in_err-free_blocks.ensures.0 (λ tells magics need. record { needs = tt; idle = λ tidy. tidy })
 
-pub returns-in_err-free_blocks-clause-idle : goal.returns-in_err-free_blocks-clause-idle
-returns-in_err-free_blocks-clause-idle g c = λ tells tidy.
-    let view = c.args.v.now in
-    let image = g.N.NorState.bytes view.nor.now in
-    let e = c.mend.ensures.same.geometry in
-    let first = c.mend.ensures.idle tells tidy.magic in
-    let here = tidy_there view.geometry c.mend.new.v.geometry image (g.N.NorState.bytes c.mend.new.v.nor.now) e first.bytes tidy in
-    let second = reads_then first (c.clean_entries.ensures.idle (first.told tells) (tidy_clean c.mend.new.v.geometry (g.N.NorState.bytes c.mend.new.v.nor.now) here)) in
-    let f = c.clean_entries.ensures.same.geometry ∙ e in
-    let there = tidy_there view.geometry c.clean_entries.new.v.geometry image (g.N.NorState.bytes c.clean_entries.new.v.nor.now) f second.bytes tidy in
-    let third = reads_then second (c.cull_pages.ensures.idle (second.told tells) there) in
-    reads_then third c.free_blocks.ensures.looks.reads
-
-pub returns-clause-changes : goal.returns-clause-changes
-returns-clause-changes g c =
-    let first = c.mend.ensures.changes in
-    let e = c.mend.ensures.same.geometry in
-    let second = live_cut c.args.v.now.geometry c.mend.new.v.geometry e first c.clean_entries.ensures.changes in
-    let f = c.clean_entries.ensures.same.geometry ∙ e in
-    let third = cut_then c.args.v.now.geometry c.clean_entries.new.v.geometry f second c.cull_pages.ensures.changes in
-    read_after third c.free_blocks.ensures.looks.reads
-
-pub returns-clause-idle : goal.returns-clause-idle
-returns-clause-idle g c = λ tells tidy.
-    let view = c.args.v.now in
-    let image = g.N.NorState.bytes view.nor.now in
-    let e = c.mend.ensures.same.geometry in
-    let first = c.mend.ensures.idle tells tidy.magic in
-    let here = tidy_there view.geometry c.mend.new.v.geometry image (g.N.NorState.bytes c.mend.new.v.nor.now) e first.bytes tidy in
-    let second = reads_then first (c.clean_entries.ensures.idle (first.told tells) (tidy_clean c.mend.new.v.geometry (g.N.NorState.bytes c.mend.new.v.nor.now) here)) in
-    let f = c.clean_entries.ensures.same.geometry ∙ e in
-    let there = tidy_there view.geometry c.clean_entries.new.v.geometry image (g.N.NorState.bytes c.clean_entries.new.v.nor.now) f second.bytes tidy in
-    let third = reads_then second (c.cull_pages.ensures.idle (second.told tells) there) in
-    reads_then third c.free_blocks.ensures.looks.reads
-
-pub returns-clause-done : goal.returns-clause-done
-returns-clause-done g c = λ tells unmixed.
-    let view = c.args.v.now in
-    let e = c.mend.ensures.same.geometry in
-    let f = c.clean_entries.ensures.same.geometry ∙ e in
-    let mended = c.in_ok-erased.ensures.done tells in
-    let told = c.mend.ensures.changes.cuts.told tells in
-    let left = c.clean_entries.ensures.changes.now told in
-    let cleaned = c.in_ok-dead.ensures.done told (cut_magics view.geometry c.mend.new.v.geometry e c.mend.ensures.changes told) in
-    let later = c.clean_entries.ensures.changes.cuts.told told in
-    let culled = c.in_ok-culled.ensures.done later in
-    let last = c.cull_pages.ensures.changes.cuts.told later in
+pub returns : goal.returns
+returns g c =
+    let at = goal.at.returns g c in
+    let was = culled g at.In_ok-culled (ready g at.In_ok-dead) in
     let looks = c.free_blocks.ensures.looks in
-    let free : c.in_ok-free_blocks.field-0 ≡ free_blocks c.cull_pages.new.v.geometry (g.N.NorState.bytes c.cull_pages.new.v.nor.now) = c.in_ok-free_blocks.ensures.told last in
-    let here : c.in_ok-free_blocks.field-0 ≡ free_blocks view.geometry (g.N.NorState.bytes c.cull_pages.new.v.nor.now) = cc (free, c.cull_pages.ensures.same.geometry, f) in
-    rw looks.reads.bytes (checked view.geometry c.mend.new.v.geometry c.clean_entries.new.v.geometry (g.N.NorState.bytes view.nor.now) (g.N.NorState.bytes c.mend.new.v.nor.now) (g.N.NorState.bytes c.clean_entries.new.v.nor.now) (g.N.NorState.bytes c.cull_pages.new.v.nor.now) _ _ _ e f unmixed mended left cleaned culled refl here)
+    works_as (works_read was looks) (λ tells magics need. record { needs = tt; idle = λ tidy. tidy })
+    (λ tells magics unmixed kept done. checked _ _ _ _ _ _ _ unmixed done.ready done.passes kept refl (rw (looks.reads.bytes) (rw was.step.framed.same.geometry at (c.in_ok-free_blocks.ensures.told (was.step.cuts.cuts.told tells)))))

@@ -1,25 +1,23 @@
-use Rattle.std.proofs.Common.{Result, Ok, Err}
-use Rattle.std.specs.Prelude.{OnOk}
-use Rattle.vol_check.proofs.Calls.{image_of}
-use Rattle.vol_check.proofs.CullStep.{cull_keeps, whole_culled}
+use Rattle.std.proofs.Common.{◌≡◌, true, false, sym, ◌∙◌}
+use Rattle.flash_view.proofs.Stepped.{after_look, view_image}
+use Rattle.vol_check.proofs.CullStep.{culls, alive}
+use Rattle.vol_check.proofs.Working.{look_works, look_stops}
 use Rattle.vol_check.proofs.culling.cull.Goals as goal
 
-pub returns-clause-changes : goal.returns-clause-changes
-returns-clause-changes g c =
-    let view = c.args.v.now in
-    cull_keeps view.geometry c.args.page c.kill.ensures.changes
-    (λ tells. image_of view.geometry (g.N.NorState.bytes view.nor.now) (g.N.NorState.size view.nor.now) (g.met.N.Nor.sized view.nor.now tells) view.volume)
-    c.requires.magics c.requires.may
+pub returns-in_err-is_alive : goal.returns-in_err-is_alive
+returns-in_err-is_alive g c = look_stops c.in_err-is_alive.ensures.looks c.in_err-is_alive.ensures.cause c.from_residual.ensures.0
 
-on_ok : {X Y : Type 0} (r : Result X Y) {P Q : Type 0} → (P → Q) → OnOk r P → OnOk r Q
-on_ok (Ok x) f h = f h
-on_ok (Err e) f h = tt
+pub returns-then-not-branch : goal.returns-then-not-branch
+returns-then-not-branch g c =
+    let seen = c.in_ok-is_alive.ensures in
+    look_works seen.looks (λ tells magics may.
+    let a = alive _ _ _ may in
+    let bad : true ≡ false = sym a.1 ∙ sym (seen.told tells a.0) ∙ c.if-not-branch.true in absurd (cc))
 
-pub returns-clause-done : goal.returns-clause-done
-returns-clause-done g c = λ tells.
-    let view = c.args.v.now in
-    on_ok c.kill.result
-    (whole_culled view.geometry (g.N.NorState.bytes view.nor.now) (g.N.NorState.bytes c.kill.new.v.nor.now) c.args.page
-    (image_of view.geometry (g.N.NorState.bytes view.nor.now) (g.N.NorState.size view.nor.now) (g.met.N.Nor.sized view.nor.now tells) view.volume)
-    (c.requires.magics tells) (c.requires.may tells))
-    (c.kill.ensures.done tells)
+pub returns : goal.returns
+returns g c =
+    let seen = c.in_ok-is_alive.ensures in
+    record {
+      step = after_look seen.looks c.kill.ensures.live (λ tells need. culls _ _ _ (view_image c.args.v.now (g.met.N.Nor.sized _) tells) need.0 need.1 (seen.byte tells));
+      idle = λ tells magics need none. absurd (none);
+    }

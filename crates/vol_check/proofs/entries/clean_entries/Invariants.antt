@@ -1,22 +1,13 @@
--- The entries below `page` are clean, and each image that a cut may have left has the same live pages.
-use Rattle.std.proofs.Common.{◌≡◌, ◌≤◌}
+-- The entries below `page` are clean.
+use Rattle.std.proofs.Common.{◌≡◌, ◌≤◌, Ok}
 use Rattle.geometry.specs.Numbers.{page_count}
-use Rattle.nor_core.specs.Device.{Changes, OnlyReads}
-use Rattle.image_model.specs.Sound.{HasMagics}
-use Rattle.flash_view.specs.Same.{IsSameView}
-use Rattle.vol_check.specs.Stage.{LeavesLive, IsClean}
-use Rattle.vol_check.proofs.Staged.{Cleaning}
+use Rattle.vol_check.specs.Works.{Worked}
+use Rattle.vol_check.proofs.Staged.{cleaning_to}
 use Rattle.vol_check.proofs.entries.clean_entries.Given as goal
 
 abbrev pub invariant-loop-page : goal.invariant-loop-page
 invariant-loop-page g l = record {
   end : l.page-end ≡ page_count l.fn.v.geometry;
   few : l.killed ≤ l.page;
-  same : IsSameView l.fn.v l.v;
-  faults : g.N.NorState.faults l.fn.v.nor.now ≤ g.N.NorState.faults l.v.nor.now;
-  changes : Changes g.N.NorState l.fn.v.nor.now l.v.nor.now (LeavesLive l.fn.v.geometry);
-  done :
-      (g.N.NorState.tells l.fn.v.nor.now → HasMagics l.fn.v.geometry (g.N.NorState.bytes l.fn.v.nor.now) →
-      Cleaning l.fn.v.geometry (g.N.NorState.bytes l.fn.v.nor.now) (g.N.NorState.bytes l.v.nor.now) l.page l.killed);
-  idle : (g.N.NorState.tells l.fn.v.nor.now → IsClean l.fn.v.geometry (g.N.NorState.bytes l.fn.v.nor.now) → OnlyReads g.N.NorState l.fn.v.nor.now l.v.nor.now);
+  work : Worked l.fn.v l.v (Ok l.killed) (cleaning_to l.page);
 }

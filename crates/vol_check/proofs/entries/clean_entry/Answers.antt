@@ -1,35 +1,23 @@
-use Rattle.std.proofs.Common.{◌≡◌, true, subst}
-use Rattle.geometry.specs.declared.geometry.Geometry.{Geometry}
-use Rattle.nor_core.specs.Device.{Changes}
-use Rattle.image_model.specs.Killed.{is_dead_entry}
-use Rattle.page_put.specs.Kills.{HalfKilled, killed}
-use Rattle.vol_check.proofs.Calls.{image_of, kill_leaves, kill_cleans}
+use Rattle.std.proofs.Common.{sym, ◌∙◌}
+use Rattle.flash_view.proofs.Stepped.{view_image}
+use Rattle.vol_check.proofs.Staged.{kills_entry, must_be_killed, cleans_nothing}
+use Rattle.vol_check.proofs.Working.{look_works, look_stops, works_as, stops}
 use Rattle.vol_check.proofs.entries.clean_entry.Goals as goal
 
-pub returns-in_err-kill-clause-changes : goal.returns-in_err-kill-clause-changes
-returns-in_err-kill-clause-changes g c =
-    let view = c.args.v.now in
-    let looks = c.in_ok-is_dead_entry.ensures.looks in
-    kill_leaves view.geometry c.args.page looks.reads
-    (subst (λ (k : Geometry). Changes g.N.NorState c.is_dead_entry.new.v.nor.now c.kill.new.v.nor.now (HalfKilled k c.args.page)) looks.same.geometry c.kill.ensures.changes)
-    (λ tells. image_of view.geometry (g.N.NorState.bytes view.nor.now) (g.N.NorState.size view.nor.now) (g.met.N.Nor.sized view.nor.now tells) view.volume)
-    (λ tells. cc (c.in_ok-is_dead_entry.ensures.told tells, c.if-not-branch.false))
+pub returns-in_err-is_dead_entry : goal.returns-in_err-is_dead_entry
+returns-in_err-is_dead_entry g c = look_stops c.in_err-is_dead_entry.ensures.looks c.in_err-is_dead_entry.ensures.cause c.from_residual.ensures.0
 
-pub returns-clause-changes : goal.returns-clause-changes
-returns-clause-changes g c =
-    let view = c.args.v.now in
-    let looks = c.in_ok-is_dead_entry.ensures.looks in
-    kill_leaves view.geometry c.args.page looks.reads
-    (subst (λ (k : Geometry). Changes g.N.NorState c.is_dead_entry.new.v.nor.now c.kill.new.v.nor.now (HalfKilled k c.args.page)) looks.same.geometry c.kill.ensures.changes)
-    (λ tells. image_of view.geometry (g.N.NorState.bytes view.nor.now) (g.N.NorState.size view.nor.now) (g.met.N.Nor.sized view.nor.now tells) view.volume)
-    (λ tells. cc (c.in_ok-is_dead_entry.ensures.told tells, c.if-not-branch.false))
+pub returns-then-not-branch : goal.returns-then-not-branch
+returns-then-not-branch g c =
+    let seen = c.in_ok-is_dead_entry.ensures in
+    look_works seen.looks (λ tells magics need. cleans_nothing _ _ _ (view_image c.args.v.now (g.met.N.Nor.sized _) tells) magics (sym (seen.told tells) ∙ c.if-not-branch.true))
 
-pub returns-clause-done : goal.returns-clause-done
-returns-clause-done g c = λ tells magics.
-    let view = c.args.v.now in
-    let looks = c.in_ok-is_dead_entry.ensures.looks in
-    let image = g.N.NorState.bytes view.nor.now in
-    let dead : is_dead_entry view.geometry image c.args.page ≡ true = cc (c.in_ok-is_dead_entry.ensures.told tells, c.if-not-branch.false) in
-    let done : g.N.NorState.bytes c.kill.new.v.nor.now ≡ killed view.geometry c.args.page (g.N.NorState.bytes c.is_dead_entry.new.v.nor.now) =
-    subst (λ (k : Geometry). g.N.NorState.bytes c.kill.new.v.nor.now ≡ killed k c.args.page (g.N.NorState.bytes c.is_dead_entry.new.v.nor.now)) looks.same.geometry (c.in_ok-kill.ensures.done (looks.reads.told tells)) in
-    kill_cleans view.geometry c.args.page _ looks.reads done (image_of view.geometry image (g.N.NorState.size view.nor.now) (g.met.N.Nor.sized view.nor.now tells) view.volume) magics dead
+pub returns-in_err-kill : goal.returns-in_err-kill
+returns-in_err-kill g c =
+    let seen = c.in_ok-is_dead_entry.ensures in
+    stops (kills_entry seen.looks c.in_err-kill.ensures.dead (λ tells magics dead. rw c.if-not-branch.false at (seen.byte tells))) c.from_residual-in_err-kill.ensures.0 (λ tells magics need. must_be_killed _ _ _ (sym (seen.told tells) ∙ c.if-not-branch.false))
+
+pub returns : goal.returns
+returns g c =
+    let seen = c.in_ok-is_dead_entry.ensures in
+    works_as (kills_entry seen.looks c.in_ok-kill.ensures.dead (λ tells magics dead. rw c.if-not-branch.false at (seen.byte tells))) (λ tells magics need. must_be_killed _ _ _ (sym (seen.told tells) ∙ c.if-not-branch.false)) (λ tells magics need kept done. done)

@@ -1,8 +1,23 @@
+use Rattle.std.proofs.Common.{Bool, true, false}
+use Rattle.std.specs.Bool.{OnTrue}
 use Rattle.flash_view.proofs.Looking.{looks_then}
+use Rattle.vol_check.proofs.Dead.{dead_by}
 use Rattle.vol_check.proofs.entries.is_dead_entry.Goals as goal
 
-pub returns-in_ok-is_live-clause-looks : goal.returns-in_ok-is_live-clause-looks
-returns-in_ok-is_live-clause-looks g c = looks_then (looks_then c.in_ok-has_magic.ensures.looks c.in_ok-is_taken.ensures.looks) c.in_ok-is_live.ensures.looks
+on_true : (b : Bool) {P : Type 0} → P → OnTrue b P
+on_true true h = h
+on_true false h = tt
+
+pub returns-in_ok-is_alive-clause-looks : goal.returns-in_ok-is_alive-clause-looks
+returns-in_ok-is_alive-clause-looks g c = looks_then (looks_then c.in_ok-has_magic.ensures.looks c.in_ok-is_taken.ensures.looks) c.in_ok-is_alive.ensures.looks
 
 pub returns-else-branch-clause-looks : goal.returns-else-branch-clause-looks
 returns-else-branch-clause-looks g c = looks_then c.in_ok-has_magic.ensures.looks c.in_ok-is_taken.ensures.looks
+
+pub returns-in_ok-is_alive-clause-told : goal.returns-in_ok-is_alive-clause-told
+returns-in_ok-is_alive-clause-told g c = λ tells.
+    let magic = c.in_ok-has_magic.ensures in
+    let taken = c.in_ok-is_taken.ensures in
+    let looks = looks_then magic.looks taken.looks in
+    dead_by _ _ _ _ _ (rw c.if-not-is_entry_page.false at c.is_entry_page.ensures.entry) (cc (magic.told tells, c.block_of.ensures.block, c.if-not-branch.false)) (rw (magic.looks.same.geometry, magic.looks.reads.bytes) at (taken.told (magic.looks.reads.told tells))) c.if-branch.true
+    (rw (looks.same.geometry, looks.reads.bytes) at (c.in_ok-is_alive.ensures.told (looks.reads.told tells)))

@@ -1,73 +1,34 @@
-use Rattle.std.proofs.Common.{◌≡◌, ◌+◌, ◌≤◌, refl, arith, false, cond}
+use Rattle.std.proofs.Common.{arith}
 use Rattle.image_model.specs.Volume.{page_count, per_block}
-use Rattle.nor_core.proofs.Cuts.{reads_none, reads_then}
-use Rattle.flash_view.proofs.Looking.{same_none, same_then}
-use Rattle.vol_check.specs.Culls.{is_unwanted}
-use Rattle.vol_check.proofs.Passing.{cut_none, cut_then, cut_magics}
-use Rattle.vol_check.proofs.Resting.{resting_start, resting_on, resting_end}
+use Rattle.flash_view.proofs.Looking.{looks_none}
+use Rattle.vol_check.proofs.Working.{look_works, works_as, works_end, works_stop}
+use Rattle.vol_check.proofs.Passing.{from_bool_is}
+use Rattle.vol_check.proofs.Resting.{resting_start, resting_next, resting_end}
 use Rattle.vol_check.proofs.unwanted.cull_rest.Goals as goal
-use Rattle.vol_check.proofs.unwanted.cull_rest.Goals.{then-branch, else-branch}
 
 pub loop-page-init : goal.loop-page-init
-loop-page-init g c =
-    let view = c.args.v.now in
-    let image = g.N.NorState.bytes view.nor.now in
-    record {
-      end = c.pages-page-end.ensures;
-      few = omega arith;
-      same = same_none view;
-      faults = omega arith;
-      changes = cut_none view.geometry view.nor.now c.requires.magics;
-      done = λ tells. resting_start view.geometry image (c.requires.magics tells) (c.requires.single tells) (c.requires.undamaged tells);
-      idle = λ tells served. reads_none view.nor.now;
-    }
+loop-page-init g c = record { end = c.pages-page-end.ensures; few = omega arith; work = look_works (looks_none c.args.v.now) (λ tells magics settled. resting_start _ _ settled) }
 
-pub cull_unwanted-requires-clause-page : goal.cull_unwanted-requires-clause-page
-cull_unwanted-requires-clause-page g c = let was = c.loop-page.invariant in rw was.same.geometry (omega (arith, was.end, c.loop-page-test.true))
+pub cull_unwanted-requires : goal.cull_unwanted-requires
+cull_unwanted-requires g c = let was = c.loop-page.invariant in rw was.work.step.framed.same.geometry (omega (arith, was.end, c.loop-page-test.true))
 
-pub cull_unwanted-requires-clause-magics : goal.cull_unwanted-requires-clause-magics
-cull_unwanted-requires-clause-magics g c = λ tells. let was = c.loop-page.invariant in cut_magics c.args.v.now.geometry c.loop-page.v.geometry was.same.geometry was.changes tells
-
-pub cull_unwanted-requires-clause-single : goal.cull_unwanted-requires-clause-single
-cull_unwanted-requires-clause-single g c = λ tells. let was = c.loop-page.invariant in rw was.same.geometry (was.done (was.changes.cuts.told_before tells)).single
-
-pub cull_unwanted-requires-clause-undamaged : goal.cull_unwanted-requires-clause-undamaged
-cull_unwanted-requires-clause-undamaged g c = λ tells. let was = c.loop-page.invariant in rw was.same.geometry (was.done (was.changes.cuts.told_before tells)).undamaged
-
-pub returns-in_err-cull_unwanted-clause-changes : goal.returns-in_err-cull_unwanted-clause-changes
-returns-in_err-cull_unwanted-clause-changes g c =
-    let was = c.loop-page.invariant in
-    cut_then c.args.v.now.geometry c.loop-page.v.geometry was.same.geometry was.changes c.cull_unwanted.ensures.changes
+pub returns-in_err-cull_unwanted-clause-work : goal.returns-in_err-cull_unwanted-clause-work
+returns-in_err-cull_unwanted-clause-work g c =
+    works_stop c.loop-page.invariant.work c.in_err-cull_unwanted.ensures c.from_residual.ensures.0 (λ tells magics settled. record { needs = settled; idle = λ quiet. quiet }) (λ tells magics settled was. record { needs = was.settled; idle = λ quiet. quiet c.loop-page.page })
 
 pub loop-page-preserved : goal.loop-page-preserved
 loop-page-preserved g c =
     let was = c.loop-page.invariant in
-    let step = c.in_ok-cull_unwanted.ensures in
-    let view = c.args.v.now in
-    let image = g.N.NorState.bytes view.nor.now in
-    let geometry = view.geometry in
-    let e : (c.if-branch.killed ≡ c.loop-page.killed + cond c.in_ok-cull_unwanted.field-0 1 0) × (c.if-branch.killed ≤ c.loop-page.killed + 1) =
-    elim c.if-branch.branch [
-      | then-branch w ↦ (rw (w.if-branch.true, w.killed-is) refl, omega (arith, w.killed-is))
-      | else-branch w ↦ (rw (w.if-branch.false, w.killed-is) (omega arith), omega (arith, w.killed-is))
-    ] in
+    let more = from_bool_is c.in_ok-cull_unwanted.field-0 in
     record {
       end = was.end;
-      few = omega (arith, e.1, was.few);
-      same = same_then was.same step.same;
-      faults = omega (arith, was.faults, step.faults);
-      changes = cut_then geometry c.loop-page.v.geometry was.same.geometry was.changes step.changes;
-      done = λ tells. resting_on geometry c.loop-page.v.geometry image (g.N.NorState.bytes c.loop-page.v.nor.now) (g.N.NorState.bytes c.cull_unwanted.new.v.nor.now) c.loop-page.page c.loop-page.killed _
-          c.in_ok-cull_unwanted.field-0 was.same.geometry (was.done tells) (step.done (was.changes.cuts.told tells)) e.0;
-      idle = λ tells served.
-          let reads = was.idle tells served in
-          let quiet : is_unwanted c.loop-page.v.geometry (g.N.NorState.bytes c.loop-page.v.nor.now) c.loop-page.page ≡ false = cc (served c.loop-page.page, reads.bytes, was.same.geometry) in
-          reads_then reads (step.idle (reads.told tells) quiet);
+      few = omega (arith, more.1, was.few, c.from.ensures);
+      work = works_end was.work c.in_ok-cull_unwanted.ensures (λ tells magics settled. record { needs = settled; idle = λ quiet. quiet }) (λ tells magics settled before. record { needs = before.settled; idle = λ quiet. quiet c.loop-page.page })
+          (λ tells magics need before kept turn. resting_next _ _ _ _ _ _ _ _ before turn (omega (arith, more.0, c.from.ensures)));
     }
 
-pub returns-clause-done : goal.returns-clause-done
+pub returns-clause-work : goal.returns-clause-work
 unfolding page_count per_block
-returns-clause-done g c = λ tells.
+returns-clause-work g c =
     let was = c.loop-page.invariant in
-    let view = c.args.v.now in
-    resting_end view.geometry (g.N.NorState.bytes view.nor.now) (g.N.NorState.bytes c.loop-page.v.nor.now) c.loop-page.page c.loop-page.killed (omega (arith, was.end, c.loop-page-test.false)) (was.done tells)
+    works_as was.work (λ tells magics settled. record { needs = settled; idle = λ quiet. quiet }) (λ tells magics need kept all. resting_end _ _ _ _ _ (omega (arith, was.end, c.loop-page-test.false)) all)

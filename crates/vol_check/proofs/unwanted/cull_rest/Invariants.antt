@@ -1,20 +1,13 @@
--- No live page below `page` is unwanted, no page is doubled and nothing is damaged, and each image that a cut may have left
--- keeps the first one.
-use Rattle.std.proofs.Common.{◌≡◌, ◌≤◌}
+-- No live page below `page` is unwanted, no page is doubled and nothing is damaged.
+use Rattle.std.proofs.Common.{◌≡◌, ◌≤◌, Ok}
 use Rattle.geometry.specs.Numbers.{page_count}
-use Rattle.nor_core.specs.Device.{Changes, OnlyReads}
-use Rattle.flash_view.specs.Same.{IsSameView}
-use Rattle.vol_check.specs.Culls.{KeepsAll, IsServed}
-use Rattle.vol_check.proofs.Resting.{Resting}
+use Rattle.vol_check.specs.Works.{Worked}
+use Rattle.vol_check.proofs.Resting.{resting_to}
 use Rattle.vol_check.proofs.unwanted.cull_rest.Given as goal
 
 abbrev pub invariant-loop-page : goal.invariant-loop-page
 invariant-loop-page g l = record {
   end : l.page-end ≡ page_count l.fn.v.geometry;
   few : l.killed ≤ l.page;
-  same : IsSameView l.fn.v l.v;
-  faults : g.N.NorState.faults l.fn.v.nor.now ≤ g.N.NorState.faults l.v.nor.now;
-  changes : Changes g.N.NorState l.fn.v.nor.now l.v.nor.now (KeepsAll l.fn.v.geometry);
-  done : (g.N.NorState.tells l.fn.v.nor.now → Resting l.fn.v.geometry (g.N.NorState.bytes l.fn.v.nor.now) (g.N.NorState.bytes l.v.nor.now) l.page l.killed);
-  idle : (g.N.NorState.tells l.fn.v.nor.now → IsServed l.fn.v.geometry (g.N.NorState.bytes l.fn.v.nor.now) → OnlyReads g.N.NorState l.fn.v.nor.now l.v.nor.now);
+  work : Worked l.fn.v l.v (Ok l.killed) (resting_to l.page);
 }

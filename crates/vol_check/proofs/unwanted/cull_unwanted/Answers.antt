@@ -1,25 +1,23 @@
-use Rattle.std.proofs.Common.{◌≡◌, true}
-use Rattle.vol_check.specs.Culls.{is_unwanted, Culls}
-use Rattle.vol_check.proofs.Calls.{image_of}
-use Rattle.vol_check.proofs.Resting.{may_cull, culls_rest}
+use Rattle.std.proofs.Common.{sym, ◌∙◌}
+use Rattle.vol_check.proofs.Resting.{may_be_culled, culls_rest, rests_nothing}
+use Rattle.vol_check.proofs.Working.{look_works, look_stops, works_on, works_as, stops}
 use Rattle.vol_check.proofs.unwanted.cull_unwanted.Goals as goal
 
-pub cull-requires-clause-may : goal.cull-requires-clause-may
-cull-requires-clause-may g c = λ tells.
-    let looks = c.in_ok-is_unwanted.ensures.looks in
-    let before = looks.reads.told_before tells in
-    let view = c.args.v.now in
-    let image = g.N.NorState.bytes view.nor.now in
-    let unwanted : is_unwanted view.geometry image c.args.page ≡ true = cc (c.in_ok-is_unwanted.ensures.told before, c.if-not-branch.false) in
-    let may = may_cull view.geometry image c.args.page (image_of view.geometry image (g.N.NorState.size view.nor.now) (g.met.N.Nor.sized view.nor.now before) view.volume)
-    (c.requires.magics before) (c.requires.undamaged before) unwanted in
-    rw (looks.same.geometry, looks.reads.bytes) may
+pub returns-in_err-is_unwanted : goal.returns-in_err-is_unwanted
+returns-in_err-is_unwanted g c = look_stops c.in_err-is_unwanted.ensures.looks c.in_err-is_unwanted.ensures.cause c.from_residual.ensures.0
 
-pub returns-clause-done : goal.returns-clause-done
-returns-clause-done g c = λ tells.
-    let looks = c.in_ok-is_unwanted.ensures.looks in
-    let view = c.args.v.now in
-    let image = g.N.NorState.bytes view.nor.now in
-    let unwanted : is_unwanted view.geometry image c.args.page ≡ true = cc (c.in_ok-is_unwanted.ensures.told tells, c.if-not-branch.false) in
-    let culls : Culls view.geometry c.args.page true image (g.N.NorState.bytes c.cull.new.v.nor.now) = rw (looks.same.geometry, looks.reads.bytes) at (c.in_ok-cull.ensures.done (looks.reads.told tells)) in
-    culls_rest view.geometry image (g.N.NorState.bytes c.cull.new.v.nor.now) c.args.page (c.requires.single tells) (c.requires.undamaged tells) unwanted culls
+pub returns-then-not-branch : goal.returns-then-not-branch
+returns-then-not-branch g c =
+    let seen = c.in_ok-is_unwanted.ensures in
+    look_works seen.looks (λ tells magics settled. rests_nothing _ _ _ settled (sym (seen.told tells settled) ∙ c.if-not-branch.true))
+
+pub returns-in_err-cull : goal.returns-in_err-cull
+returns-in_err-cull g c =
+    let seen = c.in_ok-is_unwanted.ensures in
+    stops (works_on seen.looks c.in_err-cull.ensures) c.from_residual-in_err-cull.ensures.0 (λ tells magics settled. may_be_culled _ _ _ settled (sym (seen.told tells settled) ∙ c.if-not-branch.false))
+
+pub returns : goal.returns
+returns g c =
+    let seen = c.in_ok-is_unwanted.ensures in
+    works_as (works_on seen.looks c.in_ok-cull.ensures) (λ tells magics settled. may_be_culled _ _ _ settled (sym (seen.told tells settled) ∙ c.if-not-branch.false))
+    (λ tells magics settled kept culls. culls_rest _ _ _ _ settled (sym (seen.told tells settled) ∙ c.if-not-branch.false) culls)

@@ -45,6 +45,7 @@ returns-in_default g c =
       flush = other.not-Flush;
       close = other.not-Close;
       remove = other.not-Remove;
+      fremove = other.not-FRemove;
       stat = other.not-StatName;
       fstat = other.not-FStat;
       next = other.not-Next;

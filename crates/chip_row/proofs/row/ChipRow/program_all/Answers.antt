@@ -1,0 +1,144 @@
+use Rattle.std.proofs.Common.{◌≡◌, ℕ, ◌+◌, ◌-◌, ◌*◌, ◌/◌, ◌%◌, ◌<◌, List, length, take, drop, inl, inr, ◌⊎◌, ⊎_elim, ◌∙◌, refl, sym, ap, subst, arith, rules}
+use Rattle.std.proofs.lemmas.List.{length-take}
+use Rattle.nor_core.specs.Count.{last_count}
+use Rattle.nor_core.specs.Flash.{programmed, HalfProgrammed}
+use Rattle.nor_core.proofs.Cuts.{unchanged}
+use Rattle.nor_core.proofs.Programs.{half_none}
+use Rattle.chip_row.specs.declared.numbers.Numbers.{Numbers}
+use Rattle.chip_row.specs.contracts.row.ChipRowNorState.TheImpl.{ghosts}
+use Rattle.chip_row.proofs.Parts.{half_on, half_wider, half_all, programmed_on, programmed_nothing, take_join}
+use Rattle.chip_row.specs.Rows.{AllFit}
+use Rattle.chip_row.proofs.Pieces.{piece_of, at_start, at_chip_next, others_none, others_next, others_end, not_yet, blamed_from, on_any, go_to}
+use Rattle.chip_row.proofs.row.ChipRow.program_all.Goals as goal
+
+pub loop-done-init : goal.loop-done-init
+loop-done-init g c =
+    let nor = (ghosts g.row.C g.C.Chip g.C.Chip-dict g.C.ChipState g.C.ChipState-dict g.C.Destruct-dict) in
+    let was = c.args.self.now in
+    record {
+      changes = unchanged was _ (λ tells. half_none _ _ _);
+      bytes = λ tells. sym (programmed_nothing (nor.bytes was) c.args.at);
+      within = omega arith;
+      at_chip = at_start c.args.at (length c.args.from.now) was.numbers.chip_size;
+      numbers = refl;
+      others = others_none was.numbers.chip_size c.args.at was.chips.items;
+      sound = λ fit. fit;
+      reads = refl;
+      writes = refl;
+      faults = refl;
+      fuse = refl;
+    }
+
+pub loop-done-preserved : goal.loop-done-preserved
+loop-done-preserved g c =
+    let nor = (ghosts g.row.C g.C.Chip g.C.Chip-dict g.C.ChipState g.C.ChipState-dict g.C.Destruct-dict) in
+    let was = c.args.self.now in
+    let mid = c.loop-done.self in
+    let inv = c.loop-done.invariant in
+    let at = c.args.at in
+    let done = c.loop-done.done in
+    let m = c.min-here.result in
+    let from = c.args.from.now in
+    let size = was.numbers.chip_size in
+    let i : ℕ = (at + done) / size in
+    let r : ℕ = (at + done) % size in
+    let more : done < length from = c.loop-done-test.true in
+    let below : r < size = search rules in
+    let piece = piece_of at done (length from) size m was.numbers.some_bytes below more c.min-here.ensures in
+    let mid_size : mid.numbers.chip_size ≡ size = ap (λ (k : Numbers). k.chip_size) inv.numbers in
+    let e : i * mid.numbers.chip_size + r ≡ at + done = ap (λ (k : ℕ). i * k + r) mid_size ∙ piece.place in
+    let f : done + m - done ≡ m = omega arith in
+    let call = c.in_ok-program_in.ensures in
+    let long : length (take done from) ≡ done = omega (arith, length-take done from, piece.within) in
+    record {
+      changes = go_to inv.changes call.changes
+          (λ tells image half. half_wider at done m from _ image piece.within half)
+          (λ tells image first second. (half_on at done m from _ (nor.bytes mid) image piece.within first (subst (λ (k : ℕ). HalfProgrammed k (take m (drop done from)) (nor.bytes mid) image) e (subst (λ (k : ℕ). HalfProgrammed (i * mid.numbers.chip_size + r) (take k (drop done from)) (nor.bytes mid) image) f second))));
+      bytes = λ tells.
+          call.done (inv.changes.cuts.told tells)
+          ∙ ap (λ (l : List ℕ). programmed l (i * mid.numbers.chip_size + r) (take (done + m - done) (drop done from))) (inv.bytes tells)
+          ∙ ap (λ (k : ℕ). programmed (programmed (nor.bytes was) at (take done from)) k (take (done + m - done) (drop done from))) (e ∙ ap (λ (k : ℕ). at + k) (sym long))
+          ∙ ap (λ (k : ℕ). programmed (programmed (nor.bytes was) at (take done from)) (at + length (take done from)) (take k (drop done from))) f
+          ∙ programmed_on (nor.bytes was) (take done from) (take m (drop done from)) at
+          ∙ ap (λ (l : List ℕ). programmed (nor.bytes was) at l) (take_join from done m);
+      within = piece.within;
+      at_chip = at_chip_next size at done (length from) m i refl piece;
+      numbers = call.numbers ∙ inv.numbers;
+      others = others_next size at done (length from) m i refl piece was.chips.items mid.chips.items _ inv.others call.others;
+      sound = λ fit. call.sound (inv.sound fit);
+      reads = call.reads ∙ inv.reads;
+      writes = call.writes ∙ inv.writes;
+      faults = call.no_fault ∙ inv.faults;
+      fuse = call.no_fuse ∙ inv.fuse;
+    }
+
+pub returns-in_err-program_in-clause-changes : goal.returns-in_err-program_in-clause-changes
+returns-in_err-program_in-clause-changes g c =
+    let nor = (ghosts g.row.C g.C.Chip g.C.Chip-dict g.C.ChipState g.C.ChipState-dict g.C.Destruct-dict) in
+    let was = c.args.self.now in
+    let mid = c.loop-done.self in
+    let inv = c.loop-done.invariant in
+    let at = c.args.at in
+    let done = c.loop-done.done in
+    let m = c.min-here.result in
+    let from = c.args.from.now in
+    let size = was.numbers.chip_size in
+    let i : ℕ = (at + done) / size in
+    let r : ℕ = (at + done) % size in
+    let more : done < length from = c.loop-done-test.true in
+    let below : r < size = search rules in
+    let piece = piece_of at done (length from) size m was.numbers.some_bytes below more c.min-here.ensures in
+    let mid_size : mid.numbers.chip_size ≡ size = ap (λ (k : Numbers). k.chip_size) inv.numbers in
+    let e : i * mid.numbers.chip_size + r ≡ at + done = ap (λ (k : ℕ). i * k + r) mid_size ∙ piece.place in
+    let f : done + m - done ≡ m = omega arith in
+    go_to inv.changes c.program_in.ensures.changes
+    (λ tells image half. half_all at done from _ image (omega (arith, more)) half)
+    (λ tells image first second. half_all at (done + m) from _ image piece.within (half_on at done m from _ (nor.bytes mid) image piece.within first (subst (λ (k : ℕ). HalfProgrammed k (take m (drop done from)) (nor.bytes mid) image) e (subst (λ (k : ℕ). HalfProgrammed (i * mid.numbers.chip_size + r) (take k (drop done from)) (nor.bytes mid) image) f second))))
+
+pub returns-in_err-program_in-clause-others : goal.returns-in_err-program_in-clause-others
+returns-in_err-program_in-clause-others g c =
+    let nor = (ghosts g.row.C g.C.Chip g.C.Chip-dict g.C.ChipState g.C.ChipState-dict g.C.Destruct-dict) in
+    let was = c.args.self.now in
+    let mid = c.loop-done.self in
+    let inv = c.loop-done.invariant in
+    let at = c.args.at in
+    let done = c.loop-done.done in
+    let m = c.min-here.result in
+    let from = c.args.from.now in
+    let size = was.numbers.chip_size in
+    let i : ℕ = (at + done) / size in
+    let r : ℕ = (at + done) % size in
+    let more : done < length from = c.loop-done-test.true in
+    let below : r < size = search rules in
+    let piece = piece_of at done (length from) size m was.numbers.some_bytes below more c.min-here.ensures in
+    let mid_size : mid.numbers.chip_size ≡ size = ap (λ (k : Numbers). k.chip_size) inv.numbers in
+    let e : i * mid.numbers.chip_size + r ≡ at + done = ap (λ (k : ℕ). i * k + r) mid_size ∙ piece.place in
+    let f : done + m - done ≡ m = omega arith in
+    others_end size at (done + m) (length from) was.chips.items _ piece.within (others_next size at done (length from) m i refl piece was.chips.items mid.chips.items _ inv.others c.program_in.ensures.others)
+
+pub returns-in_err-program_in-clause-blamed : goal.returns-in_err-program_in-clause-blamed
+returns-in_err-program_in-clause-blamed g c =
+    let nor = (ghosts g.row.C g.C.Chip g.C.Chip-dict g.C.ChipState g.C.ChipState-dict g.C.Destruct-dict) in
+    let was = c.args.self.now in
+    let mid = c.loop-done.self in
+    let inv = c.loop-done.invariant in
+    let at = c.args.at in
+    let done = c.loop-done.done in
+    let m = c.min-here.result in
+    let from = c.args.from.now in
+    let size = was.numbers.chip_size in
+    let i : ℕ = (at + done) / size in
+    let r : ℕ = (at + done) % size in
+    let more : done < length from = c.loop-done-test.true in
+    let below : r < size = search rules in
+    let piece = piece_of at done (length from) size m was.numbers.some_bytes below more c.min-here.ensures in
+    let mid_size : mid.numbers.chip_size ≡ size = ap (λ (k : Numbers). k.chip_size) inv.numbers in
+    let e : i * mid.numbers.chip_size + r ≡ at + done = ap (λ (k : ℕ). i * k + r) mid_size ∙ piece.place in
+    let f : done + m - done ≡ m = omega arith in
+    on_any _ (blamed_from g.C.ChipState i was.chips.items mid.chips.items c.program_in.new.self.chips.items was.fuse mid.fuse c.program_in.new.self.fuse
+    ((c.program_in.new.self.moment ≡ last_count) ⊎ (AllFit g.C.ChipState mid.numbers mid.moment mid.chips.items → ⊥)) ((c.program_in.new.self.moment ≡ last_count) ⊎ (AllFit g.C.ChipState was.numbers was.moment was.chips.items → ⊥))
+    (not_yet size at done (length from) m i refl piece was.chips.items mid.chips.items more was.numbers.some_bytes inv.at_chip inv.others) inv.fuse
+    (λ stuck. ⊎_elim (λ last. inl last) (λ none. inr (λ fit. none (inv.sound fit))) stuck) c.in_err-program_in.ensures.blamed)
+
+pub returns-clause-others : goal.returns-clause-others
+returns-clause-others g c = others_end _ _ _ _ _ _ c.loop-done.invariant.within c.loop-done.invariant.others

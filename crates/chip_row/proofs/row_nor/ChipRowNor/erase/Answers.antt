@@ -1,0 +1,74 @@
+use Rattle.std.proofs.Common.{◌≡◌, ℕ, ◌*◌, ◌/◌, ◌≤◌, OnOk, OnErr, subst, arith, rules}
+use Rattle.nor_core.specs.Flash.{erased, HalfErased}
+use Rattle.nor_core.specs.Device.{Changes}
+use Rattle.chip_row.specs.contracts.row.ChipRowNorState.TheImpl.{ghosts}
+use Rattle.chip_row.specs.Chips.{InChipErase}
+use Rattle.chip_row.proofs.Ends.{on_err}
+use Rattle.chip_row.proofs.Pieces.{unit_place, others_of, blamed_at}
+use Rattle.chip_row.proofs.row_nor.ChipRowNor.erase.Goals as goal
+
+pub erase_in-requires-clause-inside : goal.erase_in-requires-clause-inside
+erase_in-requires-clause-inside g c =
+    let nor = (ghosts g.row.C g.C.Chip g.C.Chip-dict g.C.ChipState g.C.ChipState-dict g.C.Destruct-dict) in
+    let was = c.args.self.now in
+    let row = was.numbers in
+    let p = unit_place row.count row.chip_size row.unit c.args.unit_ix row.some_unit row.whole c.requires.inside row.some_bytes in
+    p.inside
+
+pub returns-clause-done : goal.returns-clause-done
+returns-clause-done g c = λ tells. (
+    let nor = (ghosts g.row.C g.C.Chip g.C.Chip-dict g.C.ChipState g.C.ChipState-dict g.C.Destruct-dict) in
+    let was = c.args.self.now in
+    let row = was.numbers in
+    let p = unit_place row.count row.chip_size row.unit c.args.unit_ix row.some_unit row.whole c.requires.inside row.some_bytes in
+    let new = c.erase_in.new.self in
+    subst (λ (k : ℕ). OnOk c.erase_in.result (nor.bytes new ≡ erased (nor.bytes was) k row.unit)) p.start (c.erase_in.ensures.done tells))
+
+pub returns-clause-half : goal.returns-clause-half
+returns-clause-half g c = λ tells. (
+    let nor = (ghosts g.row.C g.C.Chip g.C.Chip-dict g.C.ChipState g.C.ChipState-dict g.C.Destruct-dict) in
+    let was = c.args.self.now in
+    let row = was.numbers in
+    let p = unit_place row.count row.chip_size row.unit c.args.unit_ix row.some_unit row.whole c.requires.inside row.some_bytes in
+    let new = c.erase_in.new.self in
+    subst (λ (k : ℕ). OnErr c.erase_in.result (HalfErased k row.unit c.args.mark (nor.bytes was) (nor.bytes new))) p.start (c.erase_in.ensures.half tells))
+
+pub returns-clause-changes : goal.returns-clause-changes
+returns-clause-changes g c =
+    let nor = (ghosts g.row.C g.C.Chip g.C.Chip-dict g.C.ChipState g.C.ChipState-dict g.C.Destruct-dict) in
+    let was = c.args.self.now in
+    let row = was.numbers in
+    let p = unit_place row.count row.chip_size row.unit c.args.unit_ix row.some_unit row.whole c.requires.inside row.some_bytes in
+    let new = c.erase_in.new.self in
+    let mid = record was { writes = c.saturating_add-self.result } in
+    let done = subst (λ (k : ℕ). Changes nor mid new (λ old image. InChipErase k row.unit c.args.mark old (nor.bytes new) image)) p.start c.erase_in.ensures.changes in
+    let more : was.writes ≤ c.saturating_add-self.result = search rules in
+    record {
+      cuts = record {
+        size = done.cuts.size;
+        unit = done.cuts.unit;
+        lent = done.cuts.lent;
+        told = done.cuts.told;
+        told_before = done.cuts.told_before;
+        moment = done.cuts.moment;
+        faults = done.cuts.faults;
+        reads = done.cuts.reads;
+        writes = omega (arith, more, done.cuts.writes);
+        cuts = done.cuts.cuts;
+        kept = done.cuts.kept;
+      };
+      said = done.said;
+      now = done.now;
+    }
+
+pub returns-clause-others : goal.returns-clause-others
+returns-clause-others g c =
+    let nor = (ghosts g.row.C g.C.Chip g.C.Chip-dict g.C.ChipState g.C.ChipState-dict g.C.Destruct-dict) in
+    let was = c.args.self.now in
+    let row = was.numbers in
+    let p = unit_place row.count row.chip_size row.unit c.args.unit_ix row.some_unit row.whole c.requires.inside row.some_bytes in
+    let new = c.erase_in.new.self in
+    others_of row.chip_size (c.args.unit_ix * row.unit) row.unit (c.args.unit_ix / (row.chip_size / row.unit)) was.chips.items new.chips.items (omega (arith, p.start)) row.some_unit (omega (arith, p.start, p.ends)) c.erase_in.ensures.others
+
+pub returns-clause-blamed : goal.returns-clause-blamed
+returns-clause-blamed g c = on_err c.erase_in.result (λ blamed. blamed_at g.C.ChipState _ _ _ _ _ _ blamed) c.erase_in.ensures.blamed

@@ -1,0 +1,4 @@
+pub mod Chips
+pub mod Moments
+pub mod Rows
+pub mod RowLaws

@@ -1,0 +1,23 @@
+//! Chips of one size end to end, as one device. Contracts speak of a chip by the meanings of `ChipState`; all chips of a
+//! row have one clock, so that what a cut may leave of the row is told by what it may leave of each at one moment.
+#![tactic(auto)]
+
+mod answer;
+mod boxed;
+mod chip;
+mod mem_chip;
+mod note;
+mod noted;
+mod numbers;
+mod one;
+mod row;
+mod row_nor;
+mod state;
+
+pub use chip::Chip;
+pub use mem_chip::MemChip;
+pub use row::{ChipRow, RowErr, RowRefusal};
+pub use state::ChipState;
+
+#[cfg(test)]
+mod tests;

@@ -1,0 +1,155 @@
+-- What a header page says once one of its fields is written.
+use Rattle.std.proofs.Common.{◌≡◌, ◌≢◌, ℕ, ◌+◌, ◌*◌, ◌<◌, ◌≤◌, ◌⊎◌, List, length, min, slice_index, slice_range, ◌==◌, Some, refl, ◌∙◌, arith, ⊎_elim, inl, inr}
+use Rattle.std.specs.Prelude.{nat_lt, if◌then◌else◌}
+use Rattle.std.proofs.lemmas.Bool.{cases_eq, cases_lt, lt-ltb, le-ltb, ne_eqb, eq-eqb}
+use Rattle.geometry.specs.declared.geometry.Geometry.{Geometry}
+use Rattle.geometry.specs.Numbers.{head_slots}
+use Rattle.page_layout.specs.Layout.{SameOutside}
+use Rattle.page_layout.proofs.Stays.{word_stays, range_stays, name_stays}
+use Rattle.image_laws.proofs.Frames.{word_at-same, range-same}
+use Rattle.image_model.specs.Headers.{word_at, size_of, name_of}
+use Rattle.page_renew.specs.Copies.{kept_of, IsCopy}
+use Rattle.page_renew.specs.declared.edits.Edit.{Edit}
+use Rattle.page_renew.specs.declared.edits.Edit.TheVariants.{Cut, Grow}
+use Rattle.page_renew.specs.Edits.{Header, header_in, Says, cut_at, edited, IsNamed}
+
+module _ (g : Geometry) (h : Header) (old new : List ℕ) (says : Says g h old) where
+  size_same : (at count : ℕ) → SameOutside at count old new → (at + count ≤ 8) ⊎ (12 ≤ at) → size_of new ≡ size_of old
+  size_same at count same apart =
+      let one : word_at new 8 ≡ word_at old 8 = word_stays at count 8 old new same (⊎_elim (λ (x : at + count ≤ 8). inl x) (λ (x : 12 ≤ at). inr (omega (arith, x))) apart) in
+      let two : word_at new 10 ≡ word_at old 10 = word_stays at count 10 old new same (⊎_elim (λ (x : at + count ≤ 8). inl (omega (arith, x))) (λ (x : 12 ≤ at). inr (omega (arith, x))) apart) in
+      rw (one, two) refl
+
+  -- another name
+  pub says_name : (name : List ℕ) → SameOutside 13 32 old new → name_of new ≡ Some name →
+      Says g (record { id = h.id; span = h.span; kind = h.kind; size = h.size; name = Some name; meta = h.meta; entry = h.entry }) new
+  says_name name same is = record {
+    len = same.size ∙ says.len;
+    id = word_stays 13 32 0 old new same (inr (omega arith)) ∙ says.id;
+    span = word_stays 13 32 2 old new same (inr (omega arith)) ∙ says.span;
+    kind = same.before 12 (omega arith) ∙ says.kind;
+    size = size_same 13 32 same (inr (omega arith)) ∙ says.size;
+    name = is;
+    meta = range_stays 13 32 45 g.meta old new same (inl (omega arith)) ∙ says.meta;
+    entries = λ t below. word_stays 13 32 (45 + g.meta + 2 * t) old new same (inl (omega arith)) ∙ says.entries t below;
+  }
+
+  -- other meta bytes
+  pub says_meta : (meta : List ℕ) → SameOutside 45 g.meta old new → slice_range new 45 (45 + g.meta) ≡ meta →
+      Says g (record { id = h.id; span = h.span; kind = h.kind; size = h.size; name = h.name; meta = meta; entry = h.entry }) new
+  says_meta meta same is = record {
+    len = same.size ∙ says.len;
+    id = word_stays 45 g.meta 0 old new same (inr (omega arith)) ∙ says.id;
+    span = word_stays 45 g.meta 2 old new same (inr (omega arith)) ∙ says.span;
+    kind = same.before 12 (omega arith) ∙ says.kind;
+    size = size_same 45 g.meta same (inr (omega arith)) ∙ says.size;
+    name = name_stays 45 g.meta old new same (inr (omega arith)) ∙ says.name;
+    meta = is;
+    entries = λ t below. word_stays 45 g.meta (45 + g.meta + 2 * t) old new same (inl (omega arith)) ∙ says.entries t below;
+  }
+
+  -- another size
+  pub says_size : (size : ℕ) → SameOutside 8 4 old new → size_of new ≡ size →
+      Says g (record { id = h.id; span = h.span; kind = h.kind; size = size; name = h.name; meta = h.meta; entry = h.entry }) new
+  says_size size same is = record {
+    len = same.size ∙ says.len;
+    id = word_stays 8 4 0 old new same (inr (omega arith)) ∙ says.id;
+    span = word_stays 8 4 2 old new same (inr (omega arith)) ∙ says.span;
+    kind = same.after 12 (omega arith) ∙ says.kind;
+    size = is;
+    name = name_stays 8 4 old new same (inl (omega arith)) ∙ says.name;
+    meta = range_stays 8 4 45 g.meta old new same (inl (omega arith)) ∙ says.meta;
+    entries = λ t below. word_stays 8 4 (45 + g.meta + 2 * t) old new same (inl (omega arith)) ∙ says.entries t below;
+  }
+
+  -- one page number more
+  pub says_entry : (span page : ℕ) → IsNamed g span page old new →
+      Says g (record { id = h.id; span = h.span; kind = h.kind; size = h.size; name = h.name; meta = h.meta; entry = λ t. if t == span then page else h.entry t }) new
+  says_entry span page named =
+      ⊎_elim
+      (λ (low : span < head_slots g).
+      let w = named.1 low in
+      let at : ℕ = 45 + g.meta + 2 * span in
+      record {
+        len = w.1.size ∙ says.len;
+        id = word_stays (45 + g.meta + 2 * span) 2 0 old new w.1 (inr (omega arith)) ∙ says.id;
+        span = word_stays (45 + g.meta + 2 * span) 2 2 old new w.1 (inr (omega arith)) ∙ says.span;
+        kind = w.1.before 12 (omega arith) ∙ says.kind;
+        size = size_same (45 + g.meta + 2 * span) 2 w.1 (inr (omega arith)) ∙ says.size;
+        name = name_stays (45 + g.meta + 2 * span) 2 old new w.1 (inr (omega arith)) ∙ says.name;
+        meta = range_stays (45 + g.meta + 2 * span) 2 45 g.meta old new w.1 (inr (omega arith)) ∙ says.meta;
+        entries = λ t below. ⊎_elim
+            (λ (here : t ≡ span). rw (eq-eqb t span here) (rw here w.0))
+            (λ (there : t ≡ span → ⊥). rw (ne_eqb t span there) (word_stays (45 + g.meta + 2 * span) 2 (45 + g.meta + 2 * t) old new w.1 (apart t there) ∙ says.entries t below))
+            (cases_eq t span);
+      })
+      (λ (high : head_slots g ≤ span). rw (named.0 high) (record {
+        len = says.len;
+        id = says.id;
+        span = says.span;
+        kind = says.kind;
+        size = says.size;
+        name = says.name;
+        meta = says.meta;
+        entries = λ t below. rw (ne_eqb t span (λ e. omega (arith, e, below, high))) (says.entries t below);
+      }))
+      (cases_lt span (head_slots g))
+    where
+      apart : (t : ℕ) → t ≢ span → (45 + g.meta + 2 * span + 2 ≤ 45 + g.meta + 2 * t) ⊎ (45 + g.meta + 2 * t + 2 ≤ 45 + g.meta + 2 * span)
+      apart t there =
+          ⊎_elim
+          (λ (less : span < t). inl (omega (arith, less)))
+          (λ (more : t ≤ span). inr (omega (arith, more, there)))
+          (cases_lt span t)
+
+  -- other flags
+  pub says_flags : SameOutside 4 1 old new → Says g h new
+  says_flags same = record {
+    len = same.size ∙ says.len;
+    id = word_stays 4 1 0 old new same (inr (omega arith)) ∙ says.id;
+    span = word_stays 4 1 2 old new same (inr (omega arith)) ∙ says.span;
+    kind = same.after 12 (omega arith) ∙ says.kind;
+    size = size_same 4 1 same (inl (omega arith)) ∙ says.size;
+    name = name_stays 4 1 old new same (inl (omega arith)) ∙ says.name;
+    meta = range_stays 4 1 45 g.meta old new same (inl (omega arith)) ∙ says.meta;
+    entries = λ t below. word_stays 4 1 (45 + g.meta + 2 * t) old new same (inl (omega arith)) ∙ says.entries t below;
+  }
+
+-- another size, by the edits that give one
+pub by_size : (g : Geometry) (h : Header) (old new : List ℕ) → Says g h old → (edit : Edit) (count asked size : ℕ) → (edit ≡ Cut asked) ⊎ (edit ≡ Grow asked) → size ≡ asked → SameOutside 8 4 old new → size_of new ≡ size → Says g (edited edit count h) new
+by_size g h old new says edit count asked size by same others is =
+    ⊎_elim
+    (λ (e : edit ≡ Cut asked). rw e (says_size g h old new says asked others (is ∙ same)))
+    (λ (e : edit ≡ Grow asked). rw e (says_size g h old new says asked others (is ∙ same)))
+    by
+
+-- a copy says the same, with the page numbers below the count
+module _ (g : Geometry) (count : ℕ) (old new : List ℕ) (len : length old ≡ g.page) (copy : IsCopy g 0 (kept_of g 0 count) old new) where
+  byte : (k : ℕ) → 8 ≤ k → k < 45 + g.meta + 2 * min count (head_slots g) → (k < 13) ⊎ (45 ≤ k) → slice_index new k ≡ slice_index old k
+  byte k low high field = copy.fields k low high (λ z. field)
+
+  entry_is : (t : ℕ) → t < head_slots g → word_at new (45 + g.meta + 2 * t) ≡ (if nat_lt t count then word_at old (45 + g.meta + 2 * t) else 0xFFFF)
+  entry_is t below =
+      ⊎_elim
+      (λ (kept : t < count). rw (lt-ltb t count kept) (word_at-same old new (45 + g.meta + 2 * t)
+      (byte (45 + g.meta + 2 * t) (omega arith) (omega arith) (inr (omega arith))) (byte (45 + g.meta + 2 * t + 1) (omega arith) (omega arith) (inr (omega arith)))))
+      (λ (past : count ≤ t).
+      let one : slice_index new (45 + g.meta + 2 * t) ≡ 0xFF = copy.erased (45 + g.meta + 2 * t) (omega arith) (omega arith) in
+      let two : slice_index new (45 + g.meta + 2 * t + 1) ≡ 0xFF = copy.erased (45 + g.meta + 2 * t + 1) (omega arith) (omega arith) in
+      rw (le-ltb t count past) (omega (arith, one, two)))
+      (cases_lt t count)
+
+  pub says_copy : Says g (cut_at count (header_in g old)) new
+  says_copy = record {
+    len = copy.size ∙ len;
+    id = word_at-same old new 0 (copy.head 0 (omega arith)) (copy.head 1 (omega arith));
+    span = word_at-same old new 2 (copy.head 2 (omega arith)) (copy.head 3 (omega arith));
+    kind = byte 12 (omega arith) (omega arith) (inl (omega arith));
+    size =
+        let low : word_at new 8 ≡ word_at old 8 = word_at-same old new 8 (byte 8 (omega arith) (omega arith) (inl (omega arith))) (byte 9 (omega arith) (omega arith) (inl (omega arith))) in
+        let high : word_at new 10 ≡ word_at old 10 = word_at-same old new 10 (byte 10 (omega arith) (omega arith) (inl (omega arith))) (byte 11 (omega arith) (omega arith) (inl (omega arith))) in
+        rw (low, high) refl;
+    name = copy.name refl;
+    meta = range-same old new 45 g.meta copy.size (λ i low high. byte i (omega arith) (omega arith) (inr low));
+    entries = entry_is;
+  }

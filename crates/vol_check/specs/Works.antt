@@ -1,0 +1,90 @@
+-- The works of the check, and what each needs and leaves.
+use Rattle.std.specs.Prelude.{◌≡◌, ℕ, List, [], Bool, true, false, Some, None, Result}
+use Rattle.geometry.specs.declared.geometry.Geometry.{Geometry}
+use Rattle.nor_core.specs.declared.device.Failed.{Failed}
+use Rattle.nor_core.specs.declared.state.NorState.{Ghosts as NorOf}
+use Rattle.nor_core.specs.Device.{OnlyReads}
+use Rattle.image_model.specs.Live.{live_at, own}
+use Rattle.image_model.specs.Files.{index_page}
+use Rattle.image_model.specs.Kinds.{mixed_blocks}
+use Rattle.image_model.specs.Killed.{is_dead_entry}
+use Rattle.image_model.specs.Sound.{HasMagics}
+use Rattle.image_model.specs.Tables.{damaged_of}
+use Rattle.image_model.specs.Tidy.{IsTidy}
+use Rattle.flash_view.specs.declared.view.View.{View}
+use Rattle.flash_view.specs.Marks.{IsMarked, cause_at}
+use Rattle.flash_view.specs.Steps.{Step, Stepped, failed}
+use Rattle.vol_check.specs.declared.checking.Culled.{Culled}
+use Rattle.vol_check.specs.declared.report.Report.{Report}
+use Rattle.vol_check.specs.Stage.{IsClean, CleansEntry, CleansEntries}
+use Rattle.vol_check.specs.Culls.{KeepsAll, MayCull, Culls, is_doubled, HasNoDoubles, IsSettled, is_unwanted, IsServed, CullsDoubled, CullsHead, CullsRest, PassesDoubled, PassesDamaged, PassesRest, CullsPages}
+use Rattle.vol_check.specs.Mends.{HasAllMagics, Mends}
+use Rattle.vol_check.specs.Checks.{Checked}
+
+-- A work of the check, on an image of which at most one block lacks its magic: what else it needs of that image, what it leaves done, and where there is nothing to do.
+pub record Work (T : Type 0) : Type 1 where
+  pub needs : Geometry → List ℕ → Type 0
+  pub done : Geometry → List ℕ → List ℕ → T → Type 0
+  pub idle : Geometry → List ℕ → Type 0
+
+-- as a step: a cut in it keeps the image
+abbrev pub step_of : {T : Type 0} → Work T → Step T
+step_of work = record { needs = λ g was. HasMagics g was × work.needs g was; cut = λ g was image. KeepsAll g was image; done = work.done }
+
+-- A call did that work, and only read where there was nothing to do.
+pub record Worked {N T : Type 0} {nor : NorOf N} (old new : View N nor) (result : Result T Failed) (work : Work T) : Type 0 where
+  pub step : Stepped failed old new result (step_of work)
+  pub idle : nor.tells old.nor.now → HasMagics old.geometry (nor.bytes old.nor.now) → work.needs old.geometry (nor.bytes old.nor.now) → work.idle old.geometry (nor.bytes old.nor.now) → OnlyReads nor old.nor.now new.nor.now
+
+-- page p is the header page of the id, no page is doubled, and the marks are right
+pub record IsHead (g : Geometry) (image : List ℕ) (id p : ℕ) (marks : List ℕ) : Type 0 where
+  pub first : index_page g (own (live_at g image) id) 0 ≡ Some p
+  pub single : HasNoDoubles g image
+  pub marked : IsMarked g image marks
+
+-- after its turn, with the marks right again
+pub record TurnsHead (g : Geometry) (id p : ℕ) (marks : List ℕ) (killed : Bool) (was now : List ℕ) : Type 0 where
+  pub culls : CullsHead g id p killed was now
+  pub marked : IsMarked g now marks
+
+-- ---- a block without its magic, and entries that are dead
+
+abbrev pub mending : Work Bool
+mending = record { needs = λ g was. Unit {0}; done = λ g was now erased. Mends g erased was now; idle = λ g was. HasAllMagics g was }
+
+abbrev pub cleaning_entry : ℕ → Work Bool
+cleaning_entry p = record { needs = λ g was. Unit {0}; done = λ g was now killed. CleansEntry g p killed was now; idle = λ g was. is_dead_entry g was p ≡ false }
+
+abbrev pub cleaning_entries : Work ℕ
+cleaning_entries = record { needs = λ g was. Unit {0}; done = λ g was now killed. CleansEntries g killed was now; idle = λ g was. IsClean g was }
+
+-- ---- live pages that aren't wanted
+
+abbrev pub culling : ℕ → Work (Unit {0})
+culling p = record { needs = λ g was. MayCull g was p; done = λ g was now ok. Culls g p true was now; idle = λ g was. ⊥ }
+
+abbrev pub culling_doubled : ℕ → Work Bool
+culling_doubled p = record { needs = λ g was. Unit {0}; done = λ g was now killed. CullsDoubled g p killed was now; idle = λ g was. is_doubled g was p ≡ false }
+
+abbrev pub culling_doubles : Work ℕ
+culling_doubles = record { needs = λ g was. Unit {0}; done = λ g was now killed. PassesDoubled g killed was now; idle = λ g was. HasNoDoubles g was }
+
+abbrev pub culling_head : ℕ → ℕ → List ℕ → List ℕ → Work Bool
+culling_head id p marks later = record { needs = λ g was. IsHead g was id p marks; done = λ g was now killed. TurnsHead g id p later killed was now; idle = λ g was. cause_at g was id ≡ None }
+
+abbrev pub culling_damaged : Work ℕ
+culling_damaged = record { needs = λ g was. HasNoDoubles g was; done = λ g was now killed. PassesDamaged g killed was now; idle = λ g was. damaged_of g was ≡ [] }
+
+abbrev pub culling_unwanted : ℕ → Work Bool
+culling_unwanted p = record { needs = λ g was. IsSettled g was; done = λ g was now killed. CullsRest g p killed was now; idle = λ g was. is_unwanted g was p ≡ false }
+
+abbrev pub culling_rest : Work ℕ
+culling_rest = record { needs = λ g was. IsSettled g was; done = λ g was now killed. PassesRest g killed was now; idle = λ g was. IsServed g was }
+
+abbrev pub culling_pages : Work Culled
+culling_pages = record { needs = λ g was. Unit {0}; done = λ g was now culled. CullsPages g culled.pages culled.damaged was now; idle = λ g was. IsTidy g was }
+
+-- ---- the whole check
+
+abbrev pub checking : Work Report
+checking = record { needs = λ g was. mixed_blocks g was ≡ 0; done = λ g was now report. Checked g was now report; idle = λ g was. IsTidy g was }
