@@ -70,6 +70,10 @@ fn an_opening_makes_a_file_and_a_remove_closes_it(rt: HostRuntime) -> Result<(),
     assert_eq!(rt; volume.remove(b"new"), Ok(()));
     assert_eq!(rt; volume.tell(1), Err(FsErr::BadDescriptor));
     assert_eq!(rt; volume.open_file(b"ba", 26), Err(FsErr::Unbuilt));
+    assert_eq!(rt; volume.open_file(b"ba", 8), Ok(1));
+    assert_eq!(rt; volume.fremove(1), Ok(()));
+    assert_eq!(rt; volume.tell(1), Err(FsErr::BadDescriptor));
+    assert!(rt; matches!(volume.next(0), Ok(None)));
     Ok(())
 }
 
@@ -185,6 +189,7 @@ fn a_failed_volume_tells_the_offsets_and_takes_no_call(rt: HostRuntime) -> Resul
     assert_eq!(rt; volume.seek(1, 0, Whence::Set), Err(FsErr::Failed));
     assert_eq!(rt; volume.flush(1), Err(FsErr::Failed));
     assert!(rt; matches!(volume.fstat(1), Err(FsErr::Failed)));
+    assert_eq!(rt; volume.fremove(1), Err(FsErr::Failed));
     assert_eq!(rt; volume.close(1), Err(FsErr::Failed));
     assert_eq!(rt; volume.open_file(b"ba", 8), Err(FsErr::Failed));
     assert_eq!(rt; volume.tell(1), Ok(500));

@@ -95,6 +95,7 @@ fn add_open_call(
         "tell" => Call::Tell { fd },
         "flush" => Call::Flush { fd },
         "fstat" => Call::FStat { fd },
+        "fremove" => Call::FRemove { fd },
         _ => Call::Close { fd },
     };
     add(both, flat, line.as_bytes(), &call)?;
@@ -103,7 +104,7 @@ fn add_open_call(
 
 // Adds a random call. Answers whether it may have made a file.
 fn add_drawn(alloc: Global, both: &mut Both, flat: &mut Flat, x: &mut u64) -> Result<bool, Fail> {
-    let kind = draw(x) % 20;
+    let kind = draw(x) % 21;
     let number = draw(x) % 12;
     let fd = (draw(x) % 5) as u16;
     match kind {
@@ -116,6 +117,7 @@ fn add_drawn(alloc: Global, both: &mut Both, flat: &mut Flat, x: &mut u64) -> Re
         6 => add_open_call(alloc, both, flat, fd, "flush")?,
         7 => add_open_call(alloc, both, flat, fd, "fstat")?,
         8 => add_open_call(alloc, both, flat, fd, "close")?,
+        20 => add_open_call(alloc, both, flat, fd, "fremove")?,
         9..=11 => {
             let flags = FLAGS[(draw(x) % 10) as usize];
             return add_open(alloc, both, flat, number, flags);

@@ -118,11 +118,11 @@ fn a_number_that_is_not_open_is_refused_in_each_call(rt: HostRuntime) -> Result<
     let image = filled(alloc, &g, 1, &FILES)?;
     for fd in [0, 1, 3, 4, 65535] {
         let lines = format!(in alloc;
-            "read {fd} 0\nread {fd} 1\nseek {fd} 0 set\ntell {fd}\nflush {fd}\nfstat {fd}\nclose {fd}\n"
+            "read {fd} 0\nread {fd} 1\nseek {fd} 0 set\ntell {fd}\nflush {fd}\nfstat {fd}\nfremove {fd}\nclose {fd}\n"
         )?;
         let script = format!(in alloc; "open m 8\nopen s 8\nclose 1\n{lines}tell 2\n")?;
         let ran = on(alloc, "run", &g, &image, &script)?;
-        let refused = "-10010\n-10010\n-10010\n-10010\n-10010\n-10010\n-10010\n";
+        let refused = "-10010\n-10010\n-10010\n-10010\n-10010\n-10010\n-10010\n-10010\n";
         let said = format!(in alloc; "ok 1\nok 2\nok\n{refused}ok 0\n")?;
         assert!(rt; ran.is(0, &said), "of {fd}");
     }
@@ -151,6 +151,29 @@ fn a_remove_closes_the_descriptors_of_its_file(rt: HostRuntime) -> Result<(), Fa
             ("read 1 4", "ok 0"),
             ("open e 8", "ok 3"),
             ("fstat 3", "ok 1 1 0 e"),
+        ],
+    )
+}
+
+#[test]
+fn the_file_of_a_descriptor_is_removed_and_its_descriptors_are_closed(
+    rt: HostRuntime,
+) -> Result<(), Fail> {
+    answers(
+        &rt,
+        rt.alloc(),
+        &[
+            ("open m 8", "ok 1"),
+            ("open s 8", "ok 2"),
+            ("open m 0", "ok 3"),
+            ("fremove 3", "ok"),
+            ("fremove 3", "-10010"),
+            ("read 1 1", "-10010"),
+            ("stat m", "-10002"),
+            ("read 2 3", "ok 3 cde"),
+            ("info", "ok files 2 index 2 data 1 usable 210"),
+            ("open m 12", "ok 1"),
+            ("fstat 1", "ok 3 1 0 m"),
         ],
     )
 }
