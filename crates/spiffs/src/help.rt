@@ -38,6 +38,12 @@ line; an empty line, or one that begins with `#`, is no call.
   flush FD      writes what waits: nothing, today        ok
   close FD      closes a descriptor                      ok
   remove NAME   removes a file, closes its descriptors   ok
+  fremove FD    removes that of a descriptor             ok
+  rename NAME NAME
+                gives a file another name                ok
+  meta NAME TEXT
+                sets a file's meta bytes                 ok
+  fmeta FD TEXT sets those of a descriptor's file        ok
   stat NAME     tells a file's record                    ok ID TYPE SIZE NAME
   fstat FD      tells that of a descriptor's file        ok ID TYPE SIZE NAME
   next ID       tells the file with the least id above   ok ID TYPE SIZE NAME
@@ -52,9 +58,10 @@ A call that is refused is answered by a number: -11000 the name is empty or
 holds a zero byte, -10036 it is longer than 31 bytes, -11001 bad flags, -10010
 no such descriptor, -10007 every descriptor is open, -10002 there is no such
 file, -10030 and -10023 the file is there, -10022 the descriptor does not read,
--11002 the place is not in the file, -10001 the volume is full. A call that this
-build does not have (write, fill, truncate, rename, gc, meta, fmeta, and open
-with flag 2, which empties the file) ends the run with status 16.
+-10021 it does not write, -11002 the place is not in the file, -11003 fewer than
+two blocks are free, -10001 the volume is full. A call that this build does not
+have (write, fill, truncate, gc, and open with flag 2, which empties the file)
+ends the run with status 16.
 
 A list is a line `ID TYPE SIZE NAME` for each file, then for each damaged id
 `damaged ID span S`, `damaged ID name` or `damaged ID same ID2`.

@@ -1,5 +1,5 @@
 -- A call on a volume, by what it does to the device.
-use Rattle.std.proofs.Common.{◌≡◌, ℕ, ◌⊎◌, ⊎_elim, inl, inr, List, [], ◌∷◌, Bool, true, false, cond, ◌&&◌, if◌then◌else◌, refl, sym, ◌∙◌, ap, subst}
+use Rattle.std.proofs.Common.{◌≡◌, ℕ, ◌⊎◌, ⊎_elim, inl, inr, List, Bool, true, false, cond, ◌&&◌, if◌then◌else◌, refl, sym, ◌∙◌, ap, subst}
 use Rattle.std.specs.Prelude.{ℤ, Option, Some, None}
 use Rattle.std.proofs.lemmas.Bool.{cases_Bool}
 use Rattle.geometry.specs.declared.geometry.Geometry.{Geometry}
@@ -13,9 +13,9 @@ use Rattle.table_model.specs.Outcome.{gives, on_descriptor}
 use Rattle.table_model.specs.Calls.{answer_tell}
 use Rattle.table_model.specs.Reply.{Answer, Tells as Number, Refuses}
 use Rattle.table_model.specs.declared.call.Call.{Call}
-use Rattle.table_model.specs.declared.call.Call.TheVariants.{Create, OpenFile, Read, Seek, Tell, Flush, Close, Remove, FRemove, StatName, FStat, Next, GetInfo}
+use Rattle.table_model.specs.declared.call.Call.TheVariants.{Create, OpenFile, Read, Seek, Tell, Flush, Close, Remove, FRemove, Rename, StatName, FStat, Next, GetInfo, SetMeta, FSetMeta}
 use Rattle.table_model.specs.declared.call.Whence.{Whence}
-use Rattle.table_model.specs.Ask.{Ask, Creates, Opens, Reads, Seeks, Tells, Flushes, Closes, Removes, RemovesOpen, Stats, StatsOpen, NextAbove, Informs, asked}
+use Rattle.table_model.specs.Ask.{Ask, Creates, Opens, Reads, Seeks, Tells, Flushes, Closes, Removes, RemovesOpen, Renames, Stats, StatsOpen, NextAbove, Informs, SetsMeta, SetsMetaOpen, asked}
 use Rattle.table_model.specs.Flat.{answer}
 use Rattle.table_model.specs.Steps.{is_refusal, steps}
 use Rattle.table_model.specs.Window.{Moment, Waiting, settled_at, incoming_of, continues, from_settled, IsAmong}
@@ -67,10 +67,13 @@ after_built g spare m (Flushes fd) still built = either (is_refusal (answer g sp
 after_built g spare m (Closes fd) still built = either (is_refusal (answer g spare m.state (Closes fd)).answer) _ _ (rw (goes_on_none g m.window) refl)
 after_built g spare m (Removes name) still built = either (is_refusal (answer g spare m.state (Removes name)).answer) _ _ (rw (goes_on_none g m.window) refl)
 after_built g spare m (RemovesOpen fd) still built = either (is_refusal (answer g spare m.state (RemovesOpen fd)).answer) _ _ (rw (goes_on_none g m.window) refl)
+after_built g spare m (Renames old_name new_name) still built = either (is_refusal (answer g spare m.state (Renames old_name new_name)).answer) _ _ (rw (goes_on_none g m.window) refl)
 after_built g spare m (Stats name) still built = either (is_refusal (answer g spare m.state (Stats name)).answer) _ _ (rw (goes_on_none g m.window) refl)
 after_built g spare m (StatsOpen fd) still built = either (is_refusal (answer g spare m.state (StatsOpen fd)).answer) _ _ (rw (goes_on_none g m.window) refl)
 after_built g spare m (NextAbove id) still built = either (is_refusal (answer g spare m.state (NextAbove id)).answer) _ _ (rw (goes_on_none g m.window) refl)
 after_built g spare m Informs still built = either (is_refusal (answer g spare m.state Informs).answer) _ _ (rw (goes_on_none g m.window) refl)
+after_built g spare m (SetsMeta name meta) still built = either (is_refusal (answer g spare m.state (SetsMeta name meta)).answer) _ _ (rw (goes_on_none g m.window) refl)
+after_built g spare m (SetsMetaOpen fd meta) still built = either (is_refusal (answer g spare m.state (SetsMetaOpen fd meta)).answer) _ _ (rw (goes_on_none g m.window) refl)
 after_built g spare m _ still built = absurd (let no : false ≡ true = built in cc)
 
 -- where nothing waits, what a cut leaves of a state is what one may leave of its moment
@@ -229,10 +232,13 @@ pub record IsOther (call : Call) : Type 0 where
   pub close : (fd : ℕ) → call ≡ Close fd → ⊥
   pub remove : (name : _) → call ≡ Remove name → ⊥
   pub fremove : (fd : ℕ) → call ≡ FRemove fd → ⊥
+  pub rename : (old_name new_name : _) → call ≡ Rename old_name new_name → ⊥
   pub stat : (name : _) → call ≡ StatName name → ⊥
   pub fstat : (fd : ℕ) → call ≡ FStat fd → ⊥
   pub next : (after : ℕ) → call ≡ Next after → ⊥
   pub info : call ≡ GetInfo → ⊥
+  pub meta : (name meta : _) → call ≡ SetMeta name meta → ⊥
+  pub fmeta : (fd : ℕ) (meta : _) → call ≡ FSetMeta fd meta → ⊥
 
 pub not_built : (call : Call) → IsOther call → (is_built (asked call) ≡ false) × (may_answer (asked call) (Refuses Unbuilt) ≡ true)
 not_built (Create name) other = absurd (other.create name refl)
@@ -244,8 +250,11 @@ not_built (Flush fd) other = absurd (other.flush fd refl)
 not_built (Close fd) other = absurd (other.close fd refl)
 not_built (Remove name) other = absurd (other.remove name refl)
 not_built (FRemove fd) other = absurd (other.fremove fd refl)
+not_built (Rename old_name new_name) other = absurd (other.rename old_name new_name refl)
 not_built (StatName name) other = absurd (other.stat name refl)
 not_built (FStat fd) other = absurd (other.fstat fd refl)
 not_built (Next after) other = absurd (other.next after refl)
 not_built GetInfo other = absurd (other.info refl)
+not_built (SetMeta name meta) other = absurd (other.meta name meta refl)
+not_built (FSetMeta fd meta) other = absurd (other.fmeta fd meta refl)
 not_built _ other = (refl, refl)

@@ -3,8 +3,10 @@ pub mod Magics
 pub mod Counting
 pub mod Recording
 pub mod Going
+pub mod Paged
 pub mod NewFiles
 pub mod Removing
+pub mod Restates
 pub mod Showing
 pub mod Openings
 pub mod Descriptors

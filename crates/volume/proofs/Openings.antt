@@ -1,5 +1,5 @@
 -- What the flat table answers to openings.
-use Rattle.std.proofs.Common.{◌≡◌, ℕ, ◌⊎◌, ⊎_elim, inl, List, [], ◌∷◌, Bool, true, false, not, ◌==◌, ◌&&◌, ◌||◌, refl, sym, ◌∙◌, ap, if◌then◌else◌}
+use Rattle.std.proofs.Common.{◌≡◌, ℕ, ◌⊎◌, ⊎_elim, inl, List, Bool, true, false, not, ◌==◌, ◌&&◌, refl, sym, ◌∙◌, ap, if◌then◌else◌}
 use Rattle.std.specs.Prelude.{Option, Some, None, is_some, Ok, Err}
 use Rattle.std.specs.Option.{option_map}
 use Rattle.std.proofs.lemmas.Bool.{ne_eqb}
@@ -11,8 +11,8 @@ use Rattle.table_model.specs.Table.{File, Open, State, same_text, has_name, file
 use Rattle.table_model.specs.Names.{name_refusal}
 use Rattle.table_model.specs.Descriptors.{is_bad_flags, empties, makes, is_exclusive, lowest_closed, put_at, new_open}
 use Rattle.table_model.specs.Files.{created}
-use Rattle.table_model.specs.Opening.{answer_open, open_lowest, open_as, open_missing, open_there, opens, open_changes}
-use Rattle.table_model.specs.Outcome.{Outcome, refused, gives, unless, with_page}
+use Rattle.table_model.specs.Opening.{answer_open, open_lowest, open_as, opens}
+use Rattle.table_model.specs.Outcome.{Outcome, refused, gives, unless}
 use Rattle.table_model.specs.Reply.{Tells as Number}
 use Rattle.table_model.specs.Ask.{Opens}
 use Rattle.table_model.specs.Flat.{answer}
@@ -26,12 +26,13 @@ use Rattle.fd_table.specs.Slots.{descriptors}
 use Rattle.volume.specs.Built.{is_built}
 use Rattle.volume.specs.Removes.{id_named}
 use Rattle.volume.specs.Opens.{TakesSlot, FindsOpened}
-use Rattle.volume.specs.Refusals.{new_refusal}
+use Rattle.volume.specs.Refusals.{page_lack}
 use Rattle.volume.specs.Holds.{IsImageOf}
 use Rattle.volume.specs.Moves.{with_slots}
 use Rattle.volume.specs.Goes.{LacksPage}
 use Rattle.volume.proofs.Going.{IsStep}
-use Rattle.volume.proofs.NewFiles.{MakesFile, new_refuses, new_step}
+use Rattle.volume.proofs.Paged.{page_refuses}
+use Rattle.volume.proofs.NewFiles.{MakesFile, created_room, new_page, new_step}
 
 choose_true : (b : Bool) (x y : Outcome) → b ≡ true → (if b then x else y) ≡ x
 choose_true true x y e = refl
@@ -80,6 +81,7 @@ module _ (g : Geometry) (spare : Bool) (s : State) (name : List ℕ) (flags : �
       is = after_slot ∙ ap (open_as g spare s name flags fd) none ∙ rw makes_one refl;
       reply_is = refl;
       table_is = refl;
+      room_is = created_room g name s.table;
       step = rw none refl;
     }
 
@@ -155,13 +157,14 @@ module _ {D : Type 0} {nor : NorOf D} {g : Geometry} {old : D} {slots : List FdS
     opens_new s here told = opens_file g (has_spare g (nor.bytes old)) s name flags fine fd taken.0 (lowest s here) (ap (file_named name) here.table ∙ told.0) told.1
 
     pub opened_step : (id : ℕ) → makes flags ≡ true → (nor.tells old → IsTidy g (nor.bytes old) → FindsOpened name flags (table_of g (nor.bytes old)) (Ok None)) →
-        (nor.tells old → IsTidy g (nor.bytes old) → (new_refusal g (nor.bytes old) name ≡ None) × (id ≡ least_id (table_of g (nor.bytes old)))) →
+        (nor.tells old → IsTidy g (nor.bytes old) → (page_lack g (nor.bytes old) 1 ≡ None) × (id ≡ least_id (table_of g (nor.bytes old)))) →
         IsStep nor g slots (Opens name flags) (Number fd) (put_at (descriptors slots) fd (Some (new_open id flags))) old (creating id name)
     unfolding has_name file_named
     opened_step id making found prepared = new_step name (Opens name flags) (Number fd) making refl (opened_as g name flags fd) (λ s here. opens_new s here (found here.tells here.tidy)) (put_at (descriptors slots) fd (Some (new_open id flags))) id prepared
         (λ tells tidy. any-found (λ (f : File). same_text f.name name) (table_of g (nor.bytes old)) ∙ ap is_some (found tells tidy).0)
         (λ s here. let least : id ≡ least_id s.table = (prepared here.tells here.tidy).1 ∙ ap least_id (sym here.table) in rw (least, here.slots) refl)
 
-    pub opened_refuses : {why : FsErr} (s : State) → makes flags ≡ true → (nor.tells old → IsTidy g (nor.bytes old) → FindsOpened name flags (table_of g (nor.bytes old)) (Ok None)) → IsImageOf nor g old slots s → new_refusal g (nor.bytes old) name ≡ Some why →
+    pub opened_refuses : {why : FsErr} (s : State) → makes flags ≡ true → (nor.tells old → IsTidy g (nor.bytes old) → FindsOpened name flags (table_of g (nor.bytes old)) (Ok None)) → IsImageOf nor g old slots s → page_lack g (nor.bytes old) 1 ≡ Some why →
         ((why ≡ Unbuilt → ⊥) × (answer g (has_spare g (nor.bytes old)) s (Opens name flags) ≡ refused why s)) ⊎ ((why ≡ Unbuilt) × LacksPage g (nor.bytes old) s (Opens name flags))
-    opened_refuses s making found here refused_so = new_refuses name (Opens name flags) (Number fd) making refl (opened_as g name flags fd) (λ t at. opens_new t at (found at.tells at.tidy)) s here refused_so
+    opened_refuses s making found here lack = page_refuses 1 (Opens name flags) (Number fd) making refl (opened_as g name flags fd) (created g name (table_of g (nor.bytes old)))
+        (new_page name (Opens name flags) (Number fd) making refl (opened_as g name flags fd) (λ t at. opens_new t at (found at.tells at.tidy))) s here lack

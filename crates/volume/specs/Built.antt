@@ -1,7 +1,7 @@
 -- The calls that this build has.
 use Rattle.std.specs.Prelude.{Bool, true, false, not}
 use Rattle.table_model.specs.Descriptors.{empties}
-use Rattle.table_model.specs.Ask.{Ask, Creates, Opens, Reads, Seeks, Tells, Flushes, Closes, Removes, RemovesOpen, Stats, StatsOpen, NextAbove, Informs}
+use Rattle.table_model.specs.Ask.{Ask, Creates, Opens, Reads, Seeks, Tells, Flushes, Closes, Removes, RemovesOpen, Renames, Stats, StatsOpen, NextAbove, Informs, SetsMeta, SetsMetaOpen}
 
 -- a call that this build has: of the openings those that empty no file
 abbrev pub is_built : Ask → Bool
@@ -14,8 +14,11 @@ is_built (Flushes fd) = true
 is_built (Closes fd) = true
 is_built (Removes name) = true
 is_built (RemovesOpen fd) = true
+is_built (Renames old_name new_name) = true
 is_built (Stats name) = true
 is_built (StatsOpen fd) = true
 is_built (NextAbove after) = true
 is_built Informs = true
+is_built (SetsMeta name meta) = true
+is_built (SetsMetaOpen fd meta) = true
 is_built _ = false

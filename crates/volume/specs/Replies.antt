@@ -1,7 +1,7 @@
 -- How a call may be answered at all, whatever the device tells.
 use Rattle.std.specs.Prelude.{◌≡◌, ◌≤◌, ℕ, List, take, Bool, true, false, not, nat_lt, ◌&&◌, ◌||◌, Option, Some, None, Result, Ok, Err}
 use Rattle.table_model.specs.declared.error.FsErr.{FsErr}
-use Rattle.table_model.specs.declared.error.FsErr.TheVariants.{BadName, NameTooLong, BadFlags, BadDescriptor, OutOfDescriptors, NotFound, FileExists, ConflictingName, NotReadable, SeekBounds, Tight, Full, DeviceFault, Damaged, Unbuilt}
+use Rattle.table_model.specs.declared.error.FsErr.TheVariants.{BadName, NameTooLong, BadFlags, BadDescriptor, OutOfDescriptors, NotFound, FileExists, ConflictingName, NotReadable, NotWritable, SeekBounds, Tight, Full, DeviceFault, Damaged, Unbuilt}
 use Rattle.table_model.specs.declared.reply.Stat.{Stat}
 use Rattle.volume.specs.declared.told.Told.{Told}
 use Rattle.volume.specs.declared.told.Told.TheVariants.{Done, Number as AsNumber, Bytes, File as AsFile, NoMore, Room, Refusal}
@@ -13,7 +13,7 @@ use Rattle.flash_view.specs.declared.kinds.StepErr.{StepErr}
 use Rattle.flash_view.specs.declared.kinds.StepErr.TheVariants.{DeviceFault as StepFault, Damaged as StepDamaged}
 use Rattle.table_model.specs.Names.{name_refusal, names_refusal}
 use Rattle.table_model.specs.Reply.{Answer, Fine, Tells as Number, Gives, Shows, Ends, Counts, Refuses}
-use Rattle.table_model.specs.Ask.{Ask, Creates, Opens, Reads, Seeks, Tells, Flushes, Closes, Removes, RemovesOpen, Renames, Stats, StatsOpen, NextAbove, Informs, SetsMeta}
+use Rattle.table_model.specs.Ask.{Ask, Creates, Opens, Reads, Seeks, Tells, Flushes, Closes, Removes, RemovesOpen, Renames, Stats, StatsOpen, NextAbove, Informs, SetsMeta, SetsMetaOpen}
 
 -- what a call told; bytes that were read stand at the front of those that were lent
 abbrev pub shown_by : Told → List ℕ → Answer
@@ -61,7 +61,7 @@ abbrev pub is_missing : FsErr → Bool
 is_missing NotFound = true
 is_missing _ = false
 
--- there is no page for a new file
+-- there is no page for a new file, or for a header page that is renewed
 abbrev pub is_of_new_page : FsErr → Bool
 is_of_new_page Tight = true
 is_of_new_page Full = true
@@ -80,6 +80,24 @@ is_of_opening OutOfDescriptors = true
 is_of_opening NotFound = true
 is_of_opening FileExists = true
 is_of_opening why = is_of_new_page why
+
+-- no file has the first name of a rename, one has the second, or there is no page
+abbrev pub is_of_renaming : FsErr → Bool
+is_of_renaming NotFound = true
+is_of_renaming why = is_of_new_file why
+
+-- meta bytes are not as many as the volume has, there is no such file, or no page
+abbrev pub is_of_meta : FsErr → Bool
+is_of_meta BadFlags = true
+is_of_meta NotFound = true
+is_of_meta why = is_of_new_page why
+
+-- .. or no such descriptor, or it may not write
+abbrev pub is_of_meta_open : FsErr → Bool
+is_of_meta_open BadFlags = true
+is_of_meta_open BadDescriptor = true
+is_of_meta_open NotWritable = true
+is_of_meta_open why = is_of_new_page why
 
 -- no descriptor of that number is open
 abbrev pub is_of_descriptor : FsErr → Bool
@@ -118,18 +136,30 @@ meets (Flushes fd) why = is_of_descriptor why
 meets (Closes fd) why = is_of_descriptor why
 meets (Removes name) why = is_missing why || is_fault why
 meets (RemovesOpen fd) why = is_of_descriptor why || is_fault why
+meets (Renames old_name new_name) why = is_of_renaming why || is_fault why
 meets (Stats name) why = is_missing why || is_fault why
 meets (StatsOpen fd) why = is_of_descriptor why || is_fault why
 meets (NextAbove after) why = is_fault why
 meets Informs why = is_fault why
+meets (SetsMeta name meta) why = is_of_meta why || is_fault why
+meets (SetsMetaOpen fd meta) why = is_of_meta_open why || is_fault why
 meets _ why = is_unbuilt why
 
 abbrev pub may_meet : Ask → FsErr → Bool
 may_meet ask why = is_early why && meets ask why
 
--- a create and an opening may meet this
-abbrev pub MeetsNew : FsErr → Type 0
-MeetsNew why = (name : List ℕ) (flags : ℕ) → (may_meet (Creates name) why ≡ true) × (may_meet (Opens name flags) why ≡ true)
+-- calls that take a page may meet this
+abbrev pub MeetsPage : FsErr → Type 0
+MeetsPage why = (name other : List ℕ) (flags fd : ℕ) →
+    (may_meet (Creates name) why ≡ true) × (may_meet (Opens name flags) why ≡ true) × (may_meet (Renames name other) why ≡ true) × (may_meet (SetsMeta name other) why ≡ true) × (may_meet (SetsMetaOpen fd other) why ≡ true)
+
+-- calls by the name of a file that is there may
+abbrev pub MeetsNamed : List ℕ → FsErr → Type 0
+MeetsNamed name why = (other : List ℕ) → (may_meet (Removes name) why ≡ true) × (may_meet (Renames name other) why ≡ true) × (may_meet (SetsMeta name other) why ≡ true)
+
+-- and those that give a name
+abbrev pub MeetsKnown : List ℕ → FsErr → Type 0
+MeetsKnown name why = (other : List ℕ) → (may_meet (Creates name) why ≡ true) × (may_meet (Renames other name) why ≡ true)
 
 -- calls that may change the table
 abbrev pub is_change : Ask → Bool
@@ -137,6 +167,9 @@ is_change (Creates name) = true
 is_change (Opens name flags) = makes flags || empties flags
 is_change (Removes name) = true
 is_change (RemovesOpen fd) = true
+is_change (Renames old_name new_name) = true
+is_change (SetsMeta name meta) = true
+is_change (SetsMetaOpen fd meta) = true
 is_change _ = false
 
 -- calls that read the pages of a descriptor's file
@@ -161,7 +194,9 @@ abbrev pub has_name : Ask → Bool
 has_name (Creates name) = true
 has_name (Opens name flags) = true
 has_name (Removes name) = true
+has_name (Renames old_name new_name) = true
 has_name (Stats name) = true
+has_name (SetsMeta name meta) = true
 has_name _ = false
 
 -- how a call may be refused
@@ -180,11 +215,14 @@ may_answer (Flushes fd) Fine = true
 may_answer (Closes fd) Fine = true
 may_answer (Removes name) Fine = true
 may_answer (RemovesOpen fd) Fine = true
+may_answer (Renames old_name new_name) Fine = true
 may_answer (Stats name) (Shows stat) = true
 may_answer (StatsOpen fd) (Shows stat) = true
 may_answer (NextAbove after) (Shows stat) = true
 may_answer (NextAbove after) Ends = true
 may_answer Informs (Counts info) = true
+may_answer (SetsMeta name meta) Fine = true
+may_answer (SetsMetaOpen fd meta) Fine = true
 may_answer _ _ = false
 
 -- why the names of a call are refused, if they are
@@ -206,6 +244,9 @@ breaks _ = false
 abbrev pub takes_page : Ask → Bool
 takes_page (Creates name) = true
 takes_page (Opens name flags) = makes flags
+takes_page (Renames old_name new_name) = true
+takes_page (SetsMeta name meta) = true
+takes_page (SetsMetaOpen fd meta) = true
 takes_page _ = false
 
 -- a record, or the end of the table

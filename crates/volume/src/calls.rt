@@ -13,6 +13,7 @@ use crate::looking::{tell_info, tell_next, tell_stat};
 use crate::opening::open_in;
 use crate::reading::{read_in, seek_in, tell_open};
 use crate::remove::{remove_in, remove_open};
+use crate::restating::{rename_in, set_meta, set_meta_open};
 use crate::slots::{close_in, flush_in, tell_in};
 use crate::stage::Stage;
 use crate::{Told, Volume};
@@ -52,10 +53,13 @@ fn call_in<N: Nor>(
         Call::Close { fd } => close_in(slots, fd),
         Call::Remove { name } => remove_in(v, slots, name),
         Call::FRemove { fd } => remove_open(v, slots, fd),
+        Call::Rename { old_name, new_name } => rename_in(v, old_name, new_name),
         Call::StatName { name } => tell_stat(v, name),
         Call::FStat { fd } => tell_open(v, slots, fd),
         Call::Next { after } => tell_next(v, after),
         Call::GetInfo => tell_info(v),
+        Call::SetMeta { name, meta } => set_meta(v, name, meta),
+        Call::FSetMeta { fd, meta } => set_meta_open(v, slots, fd, meta),
         _ => Err(FsErr::Unbuilt),
     }
 }

@@ -7,8 +7,8 @@ ghost use Rattle.table_model.specs.Ask.{Creates};
 ghost use Rattle.image_model.specs.Tables.{table_of};
 ghost use Rattle.image_model.specs.Tidy.{IsTidy};
 ghost use Rattle.fd_table.specs.declared.slot.FdSlot.{FdSlot};
-ghost use Rattle.volume.specs.Refusals.{new_refusal, Prepares, IsNewName};
-ghost use Rattle.volume.specs.Replies.{reply_of, may_meet, MeetsNew};
+ghost use Rattle.volume.specs.Refusals.{page_lack, HasPage, Prepares, IsNewName};
+ghost use Rattle.volume.specs.Replies.{reply_of, MeetsPage, MeetsKnown};
 ghost use Rattle.volume.specs.Goes.{Goes};
 
 use crate::Told;
@@ -23,11 +23,11 @@ use header_laws::room::ids_are_least;
 use nor_core::{Failed, Nor, NorState};
 use table_model::FsErr;
 
-// Refuses the name of a file that is there.
-fn refuse_known<N: Nor>(v: &mut View<'_, N>, name: &[u8]) -> Result<(), FsErr>
+/// Refuses the name of a file that is there.
+pub(crate) fn refuse_known<N: Nor>(v: &mut View<'_, N>, name: &[u8]) -> Result<(), FsErr>
     ensures cause { IsErrOf result FsErr.DeviceFault → Rose (N.faults v.old.nor.now) (N.faults v.new.nor.now) }
     ensures looks { OnlyLooks v.old v.new }
-    ensures among { IfErr result (λ why. may_meet (Creates name.now) why ≡ true) }
+    ensures among { IfErr result (MeetsKnown name.now) }
     ensures told { N.tells v.old.nor.now → IsTidy v.old.geometry (N.bytes v.old.nor.now) → IsNewName name.now (table_of v.old.geometry (N.bytes v.old.nor.now)) result }
 {
     names_are_told();
@@ -38,19 +38,20 @@ fn refuse_known<N: Nor>(v: &mut View<'_, N>, name: &[u8]) -> Result<(), FsErr>
     }
 }
 
-// Why no page is had for a new file, or nothing.
-#[tactic(auto, using(flash_view::proofs::Looking::looks_then), unfolding(crate::specs::Refusals::new_refusal))]
-fn obstacle<N: Nor>(v: &mut View<'_, N>) -> Result<Option<FsErr>, Failed>
+// Why no index page is had for a call that leaves so many more of them, or nothing.
+#[tactic(auto, using(flash_view::proofs::Looking::looks_then), unfolding(crate::specs::Refusals::page_lack))]
+fn obstacle<N: Nor>(v: &mut View<'_, N>, more: u32) -> Result<Option<FsErr>, Failed>
+    requires more { more ≤ 1 }
     ensures cause { OnErr result (Rose (N.faults v.old.nor.now) (N.faults v.new.nor.now)) }
     ensures looks { OnlyLooks v.old v.new }
     ensures no_fault { ¬ (result ≡ Ok (Some FsErr.DeviceFault)) }
-    ensures among { IfOk result (λ found. IfSome found MeetsNew) }
-    ensures told { N.tells v.old.nor.now → IsTidy v.old.geometry (N.bytes v.old.nor.now) → IfOk result (λ why. (name : List ℕ) → why ≡ new_refusal v.old.geometry (N.bytes v.old.nor.now) name) }
+    ensures among { IfOk result (λ found. IfSome found MeetsPage) }
+    ensures told { N.tells v.old.nor.now → IsTidy v.old.geometry (N.bytes v.old.nor.now) → IfOk result (λ why. why ≡ page_lack v.old.geometry (N.bytes v.old.nor.now) more) }
 {
     if free_blocks(v)? < 2 {
         return Ok(Some(FsErr::Tight));
     }
-    if !has_room(v)? {
+    if !has_room(v, more)? {
         return Ok(Some(FsErr::Full));
     }
     if !is_had(v)? {
@@ -59,20 +60,31 @@ fn obstacle<N: Nor>(v: &mut View<'_, N>) -> Result<Option<FsErr>, Failed>
     Ok(None)
 }
 
+/// Refuses a call that leaves so many more index pages, none or one, where no index page is had for it.
+pub(crate) fn have_page<N: Nor>(v: &mut View<'_, N>, more: u32) -> Result<(), FsErr>
+    requires more { more ≤ 1 }
+    ensures cause { IsErrOf result FsErr.DeviceFault → Rose (N.faults v.old.nor.now) (N.faults v.new.nor.now) }
+    ensures looks { OnlyLooks v.old v.new }
+    ensures among { IfErr result MeetsPage }
+    ensures told { N.tells v.old.nor.now → IsTidy v.old.geometry (N.bytes v.old.nor.now) → HasPage v.old.geometry (N.bytes v.old.nor.now) more result }
+{
+    match obstacle(v, more) {
+        Err(Failed) => Err(FsErr::DeviceFault),
+        Ok(Some(why)) => Err(why),
+        Ok(None) => Ok(()),
+    }
+}
+
 /// The id of a new file, or why there is no page for it.
 #[tactic(auto, using(flash_view::proofs::Looking::looks_then))]
 pub(crate) fn prepare<N: Nor>(v: &mut View<'_, N>) -> Result<u16, FsErr>
     ensures cause { IsErrOf result FsErr.DeviceFault → Rose (N.faults v.old.nor.now) (N.faults v.new.nor.now) }
     ensures looks { OnlyLooks v.old v.new }
     ensures id { IfOk result (λ id. (1 ≤ id) × (id ≤ usable v.old.geometry)) }
-    ensures among { IfErr result MeetsNew }
-    ensures told { N.tells v.old.nor.now → IsTidy v.old.geometry (N.bytes v.old.nor.now) → (name : List ℕ) → Prepares v.old.geometry (N.bytes v.old.nor.now) name result }
+    ensures among { IfErr result MeetsPage }
+    ensures told { N.tells v.old.nor.now → IsTidy v.old.geometry (N.bytes v.old.nor.now) → Prepares v.old.geometry (N.bytes v.old.nor.now) result }
 {
-    match obstacle(v) {
-        Err(Failed) => return Err(FsErr::DeviceFault),
-        Ok(Some(why)) => return Err(why),
-        Ok(None) => {}
-    }
+    have_page(v, 1)?;
     ids_are_least();
     match free_id(v) {
         Err(Failed) => Err(FsErr::DeviceFault),

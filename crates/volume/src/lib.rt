@@ -9,6 +9,7 @@ mod opening;
 mod reading;
 mod records;
 mod remove;
+mod restating;
 mod room;
 mod saying;
 mod slots;

@@ -1,11 +1,11 @@
-ghost use Rattle.std.specs.Prelude.{◌≡◌, ℕ, List, IsErrOf, IfErr, true, false};
+ghost use Rattle.std.specs.Prelude.{◌≡◌, ℕ, List, IsErrOf, IfErr, false};
 ghost use Rattle.nor_core.specs.Count.{Rose};
 ghost use Rattle.flash_view.specs.Same.{IsSameView, OnlyLooks};
 ghost use Rattle.table_model.specs.Ask.{Removes, RemovesOpen};
 ghost use Rattle.image_model.specs.Tables.{table_of};
 ghost use Rattle.image_model.specs.Tidy.{IsTidy};
 ghost use Rattle.volume.specs.Removes.{FindsNamed};
-ghost use Rattle.volume.specs.Replies.{reply_of, may_meet};
+ghost use Rattle.volume.specs.Replies.{reply_of, MeetsNamed};
 ghost use Rattle.volume.specs.Goes.{Goes};
 
 use crate::Told;
@@ -18,11 +18,11 @@ use flash_view::View;
 use nor_core::{Failed, Nor, NorState};
 use table_model::FsErr;
 
-// The id of the file of a name, by its header page.
-fn find_named<N: Nor>(v: &mut View<'_, N>, name: &[u8]) -> Result<u16, FsErr>
+/// The id of the file of a name, by its header page.
+pub(crate) fn find_named<N: Nor>(v: &mut View<'_, N>, name: &[u8]) -> Result<u16, FsErr>
     ensures cause { IsErrOf result FsErr.DeviceFault → Rose (N.faults v.old.nor.now) (N.faults v.new.nor.now) }
     ensures looks { OnlyLooks v.old v.new }
-    ensures among { IfErr result (λ why. may_meet (Removes name.now) why ≡ true) }
+    ensures among { IfErr result (MeetsNamed name.now) }
     ensures told { N.tells v.old.nor.now → IsTidy v.old.geometry (N.bytes v.old.nor.now) → FindsNamed name.now (table_of v.old.geometry (N.bytes v.old.nor.now)) result }
 {
     match v.find_header_name(name) {

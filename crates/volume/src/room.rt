@@ -3,17 +3,15 @@ ghost use Rattle.std.specs.Option.{option_map};
 ghost use Rattle.geometry.specs.Numbers.{ceil, entries, page_count};
 ghost use Rattle.nor_core.specs.Count.{Rose};
 ghost use Rattle.flash_view.specs.Same.{OnlyLooks};
-ghost use Rattle.table_model.specs.Room.{has_room as the_room};
-ghost use Rattle.table_model.specs.Files.{created};
 ghost use Rattle.image_model.specs.Tables.{table_of};
 ghost use Rattle.image_model.specs.Tidy.{IsTidy};
 ghost use Rattle.image_model.specs.Collect.{are_had};
+ghost use Rattle.volume.specs.Refusals.{has_room_beside};
 ghost use Rattle.volume.specs.Pages.{with_page as the_page, AreLive};
 
 use flash_view::{Kind, View};
 use free_search::{free_page, index_pages_had};
 use geometry::Geometry;
-use header_laws::room::files_add_up;
 use image_laws::counting::tidy_counts;
 use nor_core::{Failed, Nor, NorState};
 use page_layout::PageHeader;
@@ -85,17 +83,17 @@ fn leaves_two(g: &Geometry, index_pages: u32, data_pages: u32) -> bool
     (index_pages + entries) / entries + (data_pages + entries) / entries + 2 <= g.blocks()
 }
 
-// Whether the table with a new file has room: the room doesn't depend on its name.
-pub(crate) fn has_room<N: Nor>(v: &mut View<'_, N>) -> Result<bool, Failed>
+// Whether the table has room with so many index pages more.
+#[tactic(auto, unfolding(crate::specs::Refusals::has_room_beside))]
+pub(crate) fn has_room<N: Nor>(v: &mut View<'_, N>, more: u32) -> Result<bool, Failed>
+    requires more { more ≤ 1 }
     ensures cause { OnErr result (Rose (N.faults v.old.nor.now) (N.faults v.new.nor.now)) }
     ensures looks { OnlyLooks v.old v.new }
-    ensures told { N.tells v.old.nor.now → IsTidy v.old.geometry (N.bytes v.old.nor.now) →
-        IfOk result (λ room. (name : List ℕ) → room ≡ the_room v.old.geometry (created v.old.geometry name (table_of v.old.geometry (N.bytes v.old.nor.now)))) }
+    ensures told { N.tells v.old.nor.now → IsTidy v.old.geometry (N.bytes v.old.nor.now) → IfOk result (λ room. room ≡ has_room_beside v.old.geometry (table_of v.old.geometry (N.bytes v.old.nor.now)) more) }
 {
     let counts = page_counts(v)?;
     tidy_counts();
-    files_add_up();
-    Ok(leaves_two(&v.geometry, counts.index_pages + 1, counts.data_pages))
+    Ok(leaves_two(&v.geometry, counts.index_pages + more, counts.data_pages))
 }
 
 // Whether an index page is had that leaves two blocks free.

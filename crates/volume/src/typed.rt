@@ -1,6 +1,6 @@
 ghost use Rattle.std.specs.Prelude.{◌≡◌, length, min};
 ghost use Rattle.table_model.specs.Reply.{Fine, Tells as Number, Shows, Counts};
-ghost use Rattle.table_model.specs.Ask.{Creates, Opens, Reads, Seeks, Flushes, Closes, Removes, RemovesOpen, Stats, StatsOpen, NextAbove, Informs};
+ghost use Rattle.table_model.specs.Ask.{Creates, Opens, Reads, Seeks, Flushes, Closes, Removes, RemovesOpen, Renames, Stats, StatsOpen, NextAbove, Informs, SetsMeta, SetsMetaOpen};
 ghost use Rattle.fd_table.specs.Slots.{descriptors, open_at};
 ghost use Rattle.volume.specs.Replies.{told, shown_or_end, as_read, offset_of};
 ghost use Rattle.volume.specs.Calls.{Calls};
@@ -119,6 +119,45 @@ impl<'b, N: Nor> Volume<'b, N> {
         ensures { Calls (RemovesOpen fd) self.old self.new (told (λ done. Fine) result) }
     {
         match self.answer(&Call::FRemove { fd }, &mut []) {
+            Told::Done => Ok(()),
+            Told::Refusal(why) => Err(why),
+            _ => unreachable!(),
+        }
+    }
+
+    /// Gives the file of a name another one; its id, bytes and descriptors stay. The name that it has conflicts too. Refused, in this
+    /// order: `Failed` (also where the volume wasn't checked), `BadName` (either of them), `NameTooLong` (either), `NotFound`,
+    /// `ConflictingName`, `Tight`, `Full`, and `Unbuilt` where there is room but no free page without collecting garbage.
+    pub fn rename(&mut self, old_name: &[u8], new_name: &[u8]) -> Result<(), FsErr>
+        ensures { Calls (Renames old_name.now new_name.now) self.old self.new (told (λ done. Fine) result) }
+    {
+        match self.answer(&Call::Rename { old_name, new_name }, &mut []) {
+            Told::Done => Ok(()),
+            Told::Refusal(why) => Err(why),
+            _ => unreachable!(),
+        }
+    }
+
+    /// Gives the file of a name other meta bytes, as many as the geometry has. Refused, in this order: `Failed` (also where the
+    /// volume wasn't checked), `BadName`, `NameTooLong`, `BadFlags` (another number of bytes), `NotFound`, `Tight`, `Full`, and
+    /// `Unbuilt` where there is room but no free page without collecting garbage.
+    pub fn update_meta(&mut self, name: &[u8], meta: &[u8]) -> Result<(), FsErr>
+        ensures { Calls (SetsMeta name.now meta.now) self.old self.new (told (λ done. Fine) result) }
+    {
+        match self.answer(&Call::SetMeta { name, meta }, &mut []) {
+            Told::Done => Ok(()),
+            Told::Refusal(why) => Err(why),
+            _ => unreachable!(),
+        }
+    }
+
+    /// Gives the file of a descriptor other meta bytes. Refused, in this order: `Failed` (also where the volume wasn't checked),
+    /// `BadFlags` (another number of bytes), `BadDescriptor`, `NotWritable`, `Tight`, `Full`, and `Unbuilt` where there is room but
+    /// no free page without collecting garbage.
+    pub fn fupdate_meta(&mut self, fd: u16, meta: &[u8]) -> Result<(), FsErr>
+        ensures { Calls (SetsMetaOpen fd meta.now) self.old self.new (told (λ done. Fine) result) }
+    {
+        match self.answer(&Call::FSetMeta { fd, meta }, &mut []) {
             Told::Done => Ok(()),
             Told::Refusal(why) => Err(why),
             _ => unreachable!(),

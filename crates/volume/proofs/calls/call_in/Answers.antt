@@ -21,6 +21,12 @@ returns-in-Close-clause-goes g c = rw c.in-Close.is (goes_by_slots (Closes c.in-
 pub returns-in-Create-clause-goes : goal.returns-in-Create-clause-goes
 returns-in-Create-clause-goes g c = rw c.in-Create.is (c.create_in.ensures.goes c.args.slots.now c.args.into.now)
 
+pub returns-in-Rename-clause-goes : goal.returns-in-Rename-clause-goes
+returns-in-Rename-clause-goes g c = rw c.in-Rename.is (c.rename_in.ensures.goes c.args.slots.now c.args.into.now)
+
+pub returns-in-SetMeta-clause-goes : goal.returns-in-SetMeta-clause-goes
+returns-in-SetMeta-clause-goes g c = rw c.in-SetMeta.is (c.set_meta.ensures.goes c.args.slots.now c.args.into.now)
+
 pub returns-in-StatName-clause-goes : goal.returns-in-StatName-clause-goes
 returns-in-StatName-clause-goes g c = rw c.in-StatName.is (c.tell_stat.ensures.goes c.args.slots.now c.args.into.now)
 
@@ -46,9 +52,12 @@ returns-in_default g c =
       close = other.not-Close;
       remove = other.not-Remove;
       fremove = other.not-FRemove;
+      rename = other.not-Rename;
       stat = other.not-StatName;
       fstat = other.not-FStat;
       next = other.not-Next;
       info = other.not-GetInfo;
+      meta = other.not-SetMeta;
+      fmeta = other.not-FSetMeta;
     }) in
     record { same = same_none c.args.v.now; goes = goes_unbuilt (asked c.args.call.now) c.args.v.now.wrote c.requires.fresh (reads_none c.args.v.now.nor.now) not.0 not.1 }

@@ -1,15 +1,13 @@
-use Rattle.std.proofs.Common.{◌≡◌, true, false, ◌||◌, refl, sym, ◌∙◌, ap, Some, None, Ok, Err, bit_and}
+use Rattle.std.proofs.Common.{[], ◌≡◌, true, false, refl, ◌∙◌, None, Ok, Err, bit_and}
 use Rattle.std.proofs.lemmas.Result.{err_from_is_err_and}
 use Rattle.std.proofs.lemmas.Bool.{lt-ltb}
 use Rattle.nor_core.proofs.Cuts.{reads_none}
-use Rattle.image_model.specs.Tables.{table_of}
 use Rattle.flash_view.proofs.Looking.{looks_then}
 use Rattle.table_model.specs.Descriptors.{empties}
 use Rattle.table_model.specs.Reply.{Tells as Number}
 use Rattle.table_model.specs.Ask.{Opens}
-use Rattle.volume.specs.Opens.{FindsOpened}
 use Rattle.volume.specs.Refusals.{Prepares}
-use Rattle.volume.specs.Replies.{may_answer, is_change}
+use Rattle.volume.specs.Replies.{is_change}
 use Rattle.volume.proofs.Going.{goes_named, goes_refused, goes_moved, goes_unbuilt, goes_done, goes_broken, rose_later, looked_back, or_first, err_same}
 use Rattle.volume.proofs.Openings.{is_set, is_clear, none_by, opens_built, slot_refuses, file_refuses, opens_there, opened_step, opened_refuses}
 use Rattle.volume.proofs.opening.open_in.Goals as goal
@@ -65,9 +63,9 @@ returns-in_err-id-2-clause-goes g c =
     let none : c.in_ok-id.field-0 ≡ None = none_by c.in_ok-id.field-0 c.in_default.not-Some in
     let failed = c.in_err-id-2.ensures in
     let looks = looks_then found.looks failed.looks in
-    rw (p.1, p.2) (λ into. goes_refused (Opens name c.args.flags) c.in_err-id-2.field-0.0 c.prepare.new.v.wrote (looks.wrote ∙ c.requires.fresh) looks.reads (opens_built name c.args.flags keeps) fine (failed.among name c.args.flags).1 (λ e. rose_later _ _ _ found.looks.same.faults (failed.cause e))
+    rw (p.1, p.2) (λ into. goes_refused (Opens name c.args.flags) c.in_err-id-2.field-0.0 c.prepare.new.v.wrote (looks.wrote ∙ c.requires.fresh) looks.reads (opens_built name c.args.flags keeps) fine (failed.among name [] c.args.flags 0).1 (λ e. rose_later _ _ _ found.looks.same.faults (failed.cause e))
     (λ s here no_fault. opened_refuses name c.args.flags fine keeps c.in_ok-fd.fd c.in_ok-fd.ensures.told s (found.making none) (λ tells tidy. rw none at (found.told tells tidy)) here
-    (looked_back (λ h image. Prepares h image name (Err c.in_err-id-2.field-0.0)) found.looks (λ tells tidy. failed.told tells tidy name) here.tells here.tidy no_fault)))
+    (looked_back (λ h image. Prepares h image (Err c.in_err-id-2.field-0.0)) found.looks failed.told here.tells here.tidy no_fault)))
 
 pub returns-in-Ok-clause-goes : goal.returns-in-Ok-clause-goes
 returns-in-Ok-clause-goes g c =
@@ -79,7 +77,7 @@ returns-in-Ok-clause-goes g c =
     let making = found.making none in
     let change : is_change (Opens name c.args.flags) ≡ true = or_first _ (empties c.args.flags) making in
     let looked = c.in_ok-id-2.ensures in
-    let told = looked_back (λ h image. Prepares h image name (Ok c.in_ok-id-2.id)) found.looks (λ tells tidy. looked.told tells tidy name) in
+    let told = looked_back (λ h image. Prepares h image (Ok c.in_ok-id-2.id)) found.looks looked.told in
     rw c.from-in-Ok.ensures (λ into. goes_done (Opens name c.args.flags) (Number c.in_ok-fd.fd) (opens_built name c.args.flags keeps) change fine (opened_step name c.args.flags fine keeps c.in_ok-fd.fd c.in_ok-fd.ensures.told c.in_ok-id-2.id making (λ tells tidy. rw none at (found.told tells tidy)) told) (looks_then found.looks looked.looks) c.requires.fresh
     c.open_at-in-Ok.new.slots c.open_at-in-Ok.ensures refl (lt-ltb c.in_ok-fd.fd 65536 c.in_ok-fd.ensures.small) (λ bytes e. absurd (cc)) (λ k. absurd (let no : false ≡ true = k in cc)) c.in-Ok.ensures)
 
@@ -93,5 +91,5 @@ returns-in-Err-clause-goes g c =
     let making = found.making none in
     let change : is_change (Opens name c.args.flags) ≡ true = or_first _ (empties c.args.flags) making in
     let looked = c.in_ok-id-2.ensures in
-    let told = looked_back (λ h image. Prepares h image name (Ok c.in_ok-id-2.id)) found.looks (λ tells tidy. looked.told tells tidy name) in
+    let told = looked_back (λ h image. Prepares h image (Ok c.in_ok-id-2.id)) found.looks looked.told in
     rw c.failed_as.ensures (λ into. goes_broken (Opens name c.args.flags) (Number c.in_ok-fd.fd) (opens_built name c.args.flags keeps) change fine (opened_step name c.args.flags fine keeps c.in_ok-fd.fd c.in_ok-fd.ensures.told c.in_ok-id-2.id making (λ tells tidy. rw none at (found.told tells tidy)) told) (looks_then found.looks looked.looks) c.requires.fresh c.in-Err.why refl c.in-Err.ensures)

@@ -1,7 +1,6 @@
-use Rattle.std.proofs.Common.{◌≡◌, ◌≤◌, ◌++◌, ◌+◌, ℕ, List, length, true, false, not, ◌==◌, refl, sym, ◌∙◌, ap, Some, None, Err, inl, arith, subst, take, drop, bit_and}
+use Rattle.std.proofs.Common.{◌≡◌, ◌≤◌, ◌+◌, ℕ, List, length, true, false, refl, ◌∙◌, ap, inl, arith, subst, take, drop, bit_and}
 use Rattle.std.proofs.lemmas.Result.{err_from_is_err_and}
 use Rattle.std.proofs.lemmas.List.{length-take, length-take-le, take-append-le}
-use Rattle.table_model.specs.declared.error.FsErr.{FsErr}
 use Rattle.table_model.specs.declared.error.FsErr.TheVariants.{NotReadable}
 use Rattle.nor_core.proofs.Cuts.{reads_none}
 use Rattle.image_model.specs.Places.{IsImage}
@@ -15,7 +14,7 @@ use Rattle.fd_table.specs.Slots.{descriptors}
 use Rattle.volume.proofs.Going.{goes_refused, goes_moved}
 use Rattle.file_read.proofs.Going.{fault}
 use Rattle.volume.proofs.Openings.{is_set, is_clear}
-use Rattle.volume.proofs.Descriptors.{read_closed, goes_closed, goes_unread, file_at, whole_file, read_refused, read_gives, held_at, unread_by}
+use Rattle.volume.proofs.Descriptors.{read_closed, goes_closed, file_at, whole_file, read_refused, read_gives, held_at, unread_by}
 use Rattle.volume.proofs.reading.read_in.Goals as goal
 
 pub returns-in_err-slot-clause-goes : goal.returns-in_err-slot-clause-goes

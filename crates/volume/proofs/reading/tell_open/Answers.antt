@@ -1,10 +1,6 @@
-use Rattle.std.proofs.Common.{◌≡◌, refl, sym, ◌∙◌, ap, Some, Err}
-use Rattle.std.specs.Option.{option_map}
+use Rattle.std.proofs.Common.{refl, ◌∙◌, ap, Err}
 use Rattle.std.proofs.lemmas.Result.{err_from_is_err_and}
-use Rattle.std.proofs.lemmas.Option.{same_Some}
 use Rattle.table_model.specs.declared.error.FsErr.{FsErr}
-use Rattle.table_model.specs.Files.{stat_of}
-use Rattle.table_model.specs.Outcome.{gives}
 use Rattle.table_model.specs.Reply.{Shows}
 use Rattle.table_model.specs.Ask.{StatsOpen}
 use Rattle.volume.proofs.Going.{goes_shown}

@@ -1,4 +1,4 @@
-use Rattle.std.proofs.Common.{◌≡◌, true, false, refl, ◌∙◌}
+use Rattle.std.proofs.Common.{[], ◌≡◌, true, false, refl, ◌∙◌}
 use Rattle.std.proofs.lemmas.Result.{err_from_is_err_and}
 use Rattle.nor_core.proofs.Cuts.{reads_none}
 use Rattle.table_model.specs.Reply.{Fine}
@@ -19,7 +19,7 @@ returns-in_err-id-clause-goes g c =
     let failed = c.in_err-id.ensures in
     let name = c.args.name.now in
     let fine = c.in_ok-accept.ensures.fine in
-    rw (p.1, p.2) (λ into. goes_refused (Removes name) c.in_err-id.field-0.0 c.find_named.new.v.wrote (failed.looks.wrote ∙ c.requires.fresh) failed.looks.reads refl fine failed.among failed.cause
+    rw (p.1, p.2) (λ into. goes_refused (Removes name) c.in_err-id.field-0.0 c.find_named.new.v.wrote (failed.looks.wrote ∙ c.requires.fresh) failed.looks.reads refl fine (failed.among []).0 failed.cause
     (λ s here no_fault. remove_refuses name fine s here (failed.told here.tells here.tidy no_fault)))
 
 pub returns-in-Ok-clause-goes : goal.returns-in-Ok-clause-goes

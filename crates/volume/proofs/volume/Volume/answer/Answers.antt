@@ -1,4 +1,4 @@
-use Rattle.std.proofs.Common.{◌≡◌, false, refl, rules}
+use Rattle.std.proofs.Common.{◌≡◌, false, rules}
 use Rattle.table_model.specs.Ask.{asked}
 use Rattle.volume.specs.Replies.{shown_by}
 use Rattle.volume.specs.declared.stage.Stage.TheVariants.{Checked}
