@@ -22,6 +22,8 @@ mod reads;
 #[cfg(test)]
 mod remains;
 #[cfg(test)]
+mod renames;
+#[cfg(test)]
 mod unbuilt;
 
 /// The status of a command of which everything was done.

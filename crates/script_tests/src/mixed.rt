@@ -102,9 +102,58 @@ fn add_open_call(
     Ok(())
 }
 
-// Adds a random call. Answers whether it may have made a file.
+// Adds a rename of one name of the pool to another.
+fn add_rename(
+    alloc: Global,
+    both: &mut Both,
+    flat: &mut Flat,
+    number: u64,
+    other: u64,
+) -> Result<(), Fail> {
+    let (old_text, old_name) = name_of(alloc, number)?;
+    let (new_text, new_name) = name_of(alloc, other)?;
+    let mut line = b"rename ".to_vec(alloc)?;
+    line.extend_from_slice(&old_text)?;
+    line.push(b' ')?;
+    line.extend_from_slice(&new_text)?;
+    let call = Call::Rename {
+        old_name: &old_name,
+        new_name: &new_name,
+    };
+    add(both, flat, &line, &call)?;
+    Ok(())
+}
+
+// Adds a setting of three meta bytes, by a name of the pool.
+fn add_meta(alloc: Global, both: &mut Both, flat: &mut Flat, number: u64) -> Result<(), Fail> {
+    let (text, name) = name_of(alloc, number)?;
+    let meta = format!(in alloc; "m{}", number % 90 + 10)?;
+    let mut line = b"meta ".to_vec(alloc)?;
+    line.extend_from_slice(&text)?;
+    line.push(b' ')?;
+    line.extend_from_slice(meta.as_bytes())?;
+    let call = Call::SetMeta {
+        name: &name,
+        meta: meta.as_bytes(),
+    };
+    add(both, flat, &line, &call)?;
+    Ok(())
+}
+
+// Adds one by a descriptor.
+fn add_meta_open(alloc: Global, both: &mut Both, flat: &mut Flat, fd: u16) -> Result<(), Fail> {
+    let line = format!(in alloc; "fmeta {fd} %00x%FF")?;
+    let call = Call::FSetMeta {
+        fd,
+        meta: b"\0x\xFF",
+    };
+    add(both, flat, line.as_bytes(), &call)?;
+    Ok(())
+}
+
+// Adds a random call. Answers whether it may have taken a page.
 fn add_drawn(alloc: Global, both: &mut Both, flat: &mut Flat, x: &mut u64) -> Result<bool, Fail> {
-    let kind = draw(x) % 21;
+    let kind = draw(x) % 24;
     let number = draw(x) % 12;
     let fd = (draw(x) % 5) as u16;
     match kind {
@@ -118,6 +167,18 @@ fn add_drawn(alloc: Global, both: &mut Both, flat: &mut Flat, x: &mut u64) -> Re
         7 => add_open_call(alloc, both, flat, fd, "fstat")?,
         8 => add_open_call(alloc, both, flat, fd, "close")?,
         20 => add_open_call(alloc, both, flat, fd, "fremove")?,
+        21 => {
+            add_rename(alloc, both, flat, number, draw(x) % 12)?;
+            return Ok(true);
+        }
+        22 => {
+            add_meta(alloc, both, flat, number)?;
+            return Ok(true);
+        }
+        23 => {
+            add_meta_open(alloc, both, flat, fd)?;
+            return Ok(true);
+        }
         9..=11 => {
             let flags = FLAGS[(draw(x) % 10) as usize];
             return add_open(alloc, both, flat, number, flags);
@@ -128,17 +189,17 @@ fn add_drawn(alloc: Global, both: &mut Both, flat: &mut Flat, x: &mut u64) -> Re
     Ok(false)
 }
 
-// A random script of so many calls on these files, which makes no more files than that.
+// A random script on these files, which takes no more pages than that.
 fn drawn(alloc: Global, g: &Geometry, files: &[Sized], seed: u64, most: u32) -> Result<Both, Fail> {
     let mut x = seed;
     let mut flat = flat_of(alloc, g, files)?;
     let mut both = Both::new(alloc);
-    let mut made = 0u32;
+    let mut taken = 0u32;
     for _ in 0..150 {
         if add_drawn(alloc, &mut both, &mut flat, &mut x)? {
-            made = made.saturating_add(1);
+            taken = taken.saturating_add(1);
         }
-        if made >= most {
+        if taken >= most {
             break;
         }
     }

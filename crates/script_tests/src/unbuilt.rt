@@ -14,10 +14,7 @@ fn a_run_ends_at_a_call_that_is_not_built(rt: HostRuntime) -> Result<(), Fail> {
         "write 1 x",
         "fill 1 1 00",
         "truncate 1 0",
-        "rename a b",
         "gc",
-        "meta a x",
-        "fmeta 1 x",
     ] {
         let script = format!(in alloc; "create a\n{line}\ncreate c\n")?;
         let ran = on(alloc, "run", &g, &image, &script)?;
