@@ -1,13 +1,9 @@
 -- What may follow an image.
 use Rattle.std.proofs.Common.{ℕ, List}
 use Rattle.geometry.specs.declared.geometry.Geometry.{Geometry}
-use Rattle.image_model.specs.Tidy.{HasReserve, Mends}
 use Rattle.image_model.specs.Sound.{IsSound}
+use Rattle.room_laws.proofs.Staying.{reserve_mends}
 use Rattle.call_model.specs.Safe.{IsSafe, Holds}
-
-pub reserve_mends : (g : Geometry) (image : List ℕ) → HasReserve g image → Mends g image
-unfolding Mends
-reserve_mends g image here = here
 
 -- what is sound with respect to an image that is sound with respect to another is so with respect to that
 sound_then : (g : Geometry) (a b c : List ℕ) → IsSound g b a → IsSound g c b → IsSound g c a

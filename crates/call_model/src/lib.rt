@@ -9,7 +9,6 @@ pub mod writes;
 
 ghost use Rattle.std.specs.Prelude.{◌≡◌, ℕ, List};
 ghost use Rattle.geometry.specs.declared.geometry.Geometry.{Geometry};
-ghost use Rattle.image_model.specs.Tidy.{HasReserve, Mends};
 ghost use Rattle.call_model.specs.Safe.{IsSafe, Holds};
 
 /// What may follow an image that stands after another may follow that, and what stands after it stands.
@@ -17,10 +16,4 @@ ghost use Rattle.call_model.specs.Safe.{IsSafe, Holds};
 pub fn safety_passes_on()
     ensures cut { (g : Geometry) (a b c : List ℕ) → Holds g a b → IsSafe g b c → IsSafe g a c }
     ensures stands { (g : Geometry) (a b c : List ℕ) → Holds g a b → Holds g b c → Holds g a c }
-{}
-
-/// An image that has its reserve mends.
-#[tactic(auto, using(crate::proofs::Safety::reserve_mends))]
-pub fn reserves_mend()
-    ensures { (g : Geometry) (image : List ℕ) → HasReserve g image → Mends g image }
 {}

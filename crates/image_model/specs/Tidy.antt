@@ -71,7 +71,3 @@ HasReserve g image = 2 ≤ free_blocks g image
 -- whether at least two blocks are free, as the flat table is told it
 abbrev pub has_spare : Geometry → List ℕ → Bool
 has_spare g image = nat_le 2 (free_blocks g image)
-
--- An image mends where mounting and checking it gives two free blocks back. Without a collection in the check it is one that has them.
-unfoldable pub Mends : Geometry → List ℕ → Type 0
-Mends g image = HasReserve g image
