@@ -1,5 +1,5 @@
--- Free pages of a tidy image, by the counts of blocks.
-use Rattle.std.proofs.Common.{◌≡◌, ◌≢◌, ℕ, ◌+◌, ◌*◌, ◌<◌, ◌≤◌, ◌⊎◌, ⊎_elim, inl, inr, List, [], ◌∷◌, Bool, true, false, not, ◌==◌, ◌&&◌, length, refl, sym, ◌∙◌, arith, nat_lt}
+-- Free pages of a tells image, by the counts of blocks.
+use Rattle.std.proofs.Common.{◌≡◌, ◌≢◌, ℕ, ◌+◌, ◌*◌, ◌<◌, ◌≤◌, ⊎_elim, inl, inr, List, [], ◌∷◌, Bool, true, false, not, ◌==◌, ◌&&◌, length, refl, sym, ◌∙◌, arith, nat_lt}
 use Rattle.std.specs.Prelude.{filter, Option, Some, None}
 use Rattle.std.specs.List.{range_with_len, list_any, list_all}
 use Rattle.std.proofs.lemmas.Bool.{eqb-true, eq-eqb, ltb-true, ltb-false, and_parts, cases_Bool, false_from_ne_true}
@@ -8,16 +8,17 @@ use Rattle.geometry.specs.declared.geometry.Geometry.{Geometry}
 use Rattle.image_model.specs.Volume.{per_block, lookups, entries}
 use Rattle.image_model.specs.Places.{entry_of, has_magic, block_of, is_entry_page}
 use Rattle.image_model.specs.Live.{live_at}
-use Rattle.image_model.specs.Tidy.{IsTidy, is_free_entry, is_free_block, free_blocks, is_wanted}
+use Rattle.image_model.specs.Tidy.{is_free_entry, is_free_block, free_blocks}
 use Rattle.image_model.specs.Kinds.{is_index_page, is_data_page, is_index_block, is_data_block}
 use Rattle.image_model.specs.Collect.{count_in, index_in, data_in, free_in, takes_index, takes_data}
 use Rattle.image_model.specs.Within.{entry_in, sizes}
 use Rattle.image_laws.proofs.FreeBlocks.{all-at, filter-same}
+use Rattle.room_laws.specs.Sorts.{TellsFree}
 use Rattle.flash_view.specs.declared.kinds.Kind.{Kind}
 use Rattle.flash_view.specs.declared.kinds.Kind.TheVariants.{Index, Data}
 use Rattle.free_search.specs.declared.blocks.BlockCounts.{BlockCounts}
 use Rattle.free_search.specs.Counts.{AreCounts, the_takes}
-use Rattle.free_search.specs.Free.{IsOpen, OpenIf, OpenBlock, FreeEntry, FreePage, holds_other, takes_kind}
+use Rattle.free_search.specs.Free.{IsOpen, OpenIf, OpenBlock, FreeEntry, FreePage, holds_other}
 use Rattle.free_search.proofs.Counting.{free_is_dead}
 
 -- ---- tests over lists, and how many pass them
@@ -71,38 +72,22 @@ module _ (t : ℕ → Bool) where
   one_fails [] h = absurd (cc)
   one_fails (x ∷ xs) h = let step = fails_step x xs (t x) refl (one_fails xs) h in omega (arith, step)
 
--- ---- entries of a tidy image
+-- ---- entries of a tells image
 
 -- the entry pages of a block
 first_of : Geometry → ℕ → ℕ
 first_of g block = block * per_block g + lookups g
 
--- a wanted page is live
-wanted_live : (g : Geometry) (image : List ℕ) (p : ℕ) → live_at g image p ≡ None → is_wanted g image p ≡ false
-unfolding is_wanted
-wanted_live g image p dead = rw dead refl
-
--- in a tidy image an entry of 0xFFFF is free
-pub ones_free : (g : Geometry) (image : List ℕ) (p : ℕ) → IsTidy g image → is_entry_page g p ≡ true → entry_of g image p ≡ 0xFFFF → is_free_entry g image p ≡ true
-ones_free g image p tidy page ones =
-    ⊎_elim
-    (λ (deleted : entry_of g image p ≡ 0). let no : 0 ≡ 0xFFFF = sym deleted ∙ ones in absurd (omega (arith, no)))
-    (λ (other : (is_free_entry g image p ≡ true) ⊎ (is_wanted g image p ≡ true)). ⊎_elim
-    (λ (free : is_free_entry g image p ≡ true). free)
-    (λ (wanted : is_wanted g image p ≡ true). let no : is_wanted g image p ≡ false = wanted_live g image p (free_is_dead g image p ones) in absurd (cc))
-    other)
-    (tidy.entries p page)
-
-free_or : (g : Geometry) (image : List ℕ) (p : ℕ) → IsTidy g image → is_entry_page g p ≡ true → (ones : Bool) → (entry_of g image p == 0xFFFF) ≡ ones → ones ≡ is_free_entry g image p
-free_or g image p tidy page true e = sym (ones_free g image p tidy page (eqb-true _ 0xFFFF e))
-free_or g image p tidy page false e = rw e refl
+free_or : (g : Geometry) (image : List ℕ) (p : ℕ) → TellsFree g image → is_entry_page g p ≡ true → (ones : Bool) → (entry_of g image p == 0xFFFF) ≡ ones → ones ≡ is_free_entry g image p
+free_or g image p tells page true e = sym (tells.free p page (eqb-true _ 0xFFFF e))
+free_or g image p tells page false e = rw e refl
 
 -- so these are counted alike
-pub free_counted : (g : Geometry) (image : List ℕ) (block : ℕ) → IsTidy g image → block < g.blocks → count_in g block (λ p. entry_of g image p == 0xFFFF) ≡ free_in g image block
+pub free_counted : (g : Geometry) (image : List ℕ) (block : ℕ) → TellsFree g image → block < g.blocks → count_in g block (λ p. entry_of g image p == 0xFFFF) ≡ free_in g image block
 unfolding free_in
-free_counted g image block tidy below =
+free_counted g image block tells below =
     filter-same (λ p. is_free_entry g image p) (λ p. entry_of g image p == 0xFFFF) (block * per_block g + lookups g) (entries g)
-    (λ q low high. free_or g image q tidy (entry_in g block q below low high).1 (entry_of g image q == 0xFFFF) refl)
+    (λ q low high. free_or g image q tells (entry_in g block q below low high).1 (entry_of g image q == 0xFFFF) refl)
 
 -- ---- blocks by their counts
 
@@ -224,13 +209,13 @@ module _ (g : Geometry) (image : List ℕ) (block : ℕ) (c : BlockCounts) (magi
   data_opens true false z ex ey ez = λ takes. absurd (let none = index_none g image block (data_parts g image block takes).1 in let no : (c.index_live == 0) ≡ true = eq-eqb _ 0 (counts.index ∙ none) in cc)
   data_opens false y z ex ey ez = λ takes. absurd (let some = data_some g image block (data_parts g image block takes).0 in let few = ltb-false 0 c.data_live ex in omega (arith, some, few, counts.pages))
 
-pub opens : (g : Geometry) (image : List ℕ) (block : ℕ) (kind : Kind) (c : BlockCounts) → IsTidy g image → block < g.blocks → has_magic g image block ≡ true → AreCounts g image block c → OpenIf g image kind block (the_takes c kind (entries g))
-opens g image block Index c tidy below magic counts = index_opens g image block c magic counts (counts.free ∙ free_counted g image block tidy below) (c.data_live == 0) (nat_lt 0 c.free) (nat_lt c.free (entries g)) refl refl refl
-opens g image block Data c tidy below magic counts = data_opens g image block c magic counts (counts.free ∙ free_counted g image block tidy below) (nat_lt 0 c.data_live) (c.index_live == 0) (nat_lt 0 c.free) refl refl refl
+pub opens : (g : Geometry) (image : List ℕ) (block : ℕ) (kind : Kind) (c : BlockCounts) → TellsFree g image → block < g.blocks → has_magic g image block ≡ true → AreCounts g image block c → OpenIf g image kind block (the_takes c kind (entries g))
+opens g image block Index c tells below magic counts = index_opens g image block c magic counts (counts.free ∙ free_counted g image block tells below) (c.data_live == 0) (nat_lt 0 c.free) (nat_lt c.free (entries g)) refl refl refl
+opens g image block Data c tells below magic counts = data_opens g image block c magic counts (counts.free ∙ free_counted g image block tells below) (nat_lt 0 c.data_live) (c.index_live == 0) (nat_lt 0 c.free) refl refl refl
 
--- without its magic it takes none: a tidy image has no such block
-pub shut : (g : Geometry) (image : List ℕ) (block : ℕ) (kind : Kind) → IsTidy g image → block < g.blocks → has_magic g image block ≡ false → OpenIf g image kind block false
-shut g image block kind tidy below none = λ takes. absurd (let all : has_magic g image block ≡ true = tidy.magic block below in cc)
+-- without its magic it takes none: a tells image has no such block
+pub shut : (g : Geometry) (image : List ℕ) (block : ℕ) (kind : Kind) → TellsFree g image → block < g.blocks → has_magic g image block ≡ false → OpenIf g image kind block false
+shut g image block kind tells below none = λ takes. absurd (let all : has_magic g image block ≡ true = tells.magic block below in cc)
 
 -- ---- the page
 

@@ -3,6 +3,7 @@ pub mod Counting
 pub mod FreePages
 pub mod Worn
 pub mod Had
+pub mod HadBy
 pub mod Bits
 pub mod Greatest
 pub mod FoundPage

@@ -1,4 +1,4 @@
--- Free pages of a tidy image: which page takes the next one of a kind, and when there is none.
+-- Free pages of an image: which page takes the next one of a kind, and when there is none.
 use Rattle.std.specs.Prelude.{◌≡◌, ◌≢◌, ◌⊎◌, ℕ, ◌<◌, ◌≤◌, List, Bool, true, false, Option, Some, None, is_some}
 use Rattle.geometry.specs.declared.geometry.Geometry.{Geometry}
 use Rattle.flash_view.specs.declared.kinds.Kind.{Kind}
@@ -84,3 +84,7 @@ IsWorn g image (Some worn) block (Some found) = (found.block ≡ worn.block) ⊎
 -- A page is found for an index page that leaves two blocks free exactly where one index page is had.
 abbrev pub IndexPageHad : Geometry → Type 0
 IndexPageHad g = (image : List ℕ) (found : Option ℕ) → FreePage g image Index 2 None found → is_some found ≡ are_had g image 1 0
+
+-- A page is found for a data page that leaves two blocks free exactly where one data page is had.
+abbrev pub DataPageHad : Geometry → Type 0
+DataPageHad g = (image : List ℕ) (found : Option ℕ) → FreePage g image Data 2 None found → is_some found ≡ are_had g image 0 1

@@ -9,4 +9,4 @@ mod pages;
 pub use blocks::{BlockCounts, Sort, counts, free_blocks, is_free_block};
 pub use erases::next_count;
 pub use ids::free_id;
-pub use pages::{free_page, index_pages_had};
+pub use pages::{data_pages_had, free_page, index_pages_had, pages_stay_had};

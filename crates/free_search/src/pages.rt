@@ -2,10 +2,12 @@ ghost use Rattle.std.specs.Prelude.{◌≡◌, ◌<◌, OnErr, IfOk, IfSome};
 ghost use Rattle.nor_core.specs.Count.{Rose};
 ghost use Rattle.flash_view.specs.Places.{IsEntryPage};
 ghost use Rattle.flash_view.specs.Same.{OnlyLooks};
-ghost use Rattle.image_model.specs.Tidy.{IsTidy, is_free_block as the_free_block};
+ghost use Rattle.image_model.specs.Tidy.{is_free_block as the_free_block};
+ghost use Rattle.room_laws.specs.Sorts.{TellsFree};
 ghost use Rattle.free_search.specs.Counts.{the_takes};
 ghost use Rattle.geometry.specs.declared.geometry.Geometry.{Geometry};
-ghost use Rattle.free_search.specs.Free.{FreePage, OpenIf, OpenBlock, FreeEntry, FreeBlock, IsWorn, IndexPageHad};
+ghost use Rattle.free_search.specs.Had.{TidyButIsClear, LessHad, PutHad, SameHad, InPlaceHad};
+ghost use Rattle.free_search.specs.Free.{FreePage, OpenIf, OpenBlock, FreeEntry, FreeBlock, IsWorn, IndexPageHad, DataPageHad};
 
 use crate::{BlockCounts, counts, free_blocks, is_free_block};
 use flash_view::{Kind, View, entry_page};
@@ -32,7 +34,7 @@ fn first_free<N: Nor>(v: &mut View<'_, N>, block: u16) -> Result<Option<u16>, Fa
     ensures cause { OnErr result (Rose (N.faults v.old.nor.now) (N.faults v.new.nor.now)) }
     ensures looks { OnlyLooks v.old v.new }
     ensures entry { IfOk result (λ page. IfSome page (λ p. IsEntryPage v.old.geometry p)) }
-    ensures told { N.tells v.old.nor.now → IsTidy v.old.geometry (N.bytes v.old.nor.now) → IfOk result (λ found. FreeEntry v.old.geometry (N.bytes v.old.nor.now) block found) }
+    ensures told { N.tells v.old.nor.now → TellsFree v.old.geometry (N.bytes v.old.nor.now) → IfOk result (λ found. FreeEntry v.old.geometry (N.bytes v.old.nor.now) block found) }
 {
     let g = v.geometry;
     for i in 0..g.entries() {
@@ -50,7 +52,7 @@ fn is_open<N: Nor>(v: &mut View<'_, N>, block: u16, kind: Kind) -> Result<bool, 
     requires { block < v.old.geometry.blocks }
     ensures cause { OnErr result (Rose (N.faults v.old.nor.now) (N.faults v.new.nor.now)) }
     ensures looks { OnlyLooks v.old v.new }
-    ensures told { N.tells v.old.nor.now → IsTidy v.old.geometry (N.bytes v.old.nor.now) → IfOk result (λ takes_one. OpenIf v.old.geometry (N.bytes v.old.nor.now) kind block takes_one) }
+    ensures told { N.tells v.old.nor.now → TellsFree v.old.geometry (N.bytes v.old.nor.now) → IfOk result (λ takes_one. OpenIf v.old.geometry (N.bytes v.old.nor.now) kind block takes_one) }
 {
     if !v.has_magic(block)? {
         return Ok(false);
@@ -69,7 +71,7 @@ fn open_block<N: Nor>(
     ensures cause { OnErr result (Rose (N.faults v.old.nor.now) (N.faults v.new.nor.now)) }
     ensures looks { OnlyLooks v.old v.new }
     ensures below { IfOk result (λ found. IfSome found (λ block. block < v.old.geometry.blocks)) }
-    ensures told { N.tells v.old.nor.now → IsTidy v.old.geometry (N.bytes v.old.nor.now) → IfOk result (λ found. OpenBlock v.old.geometry (N.bytes v.old.nor.now) kind not_in found) }
+    ensures told { N.tells v.old.nor.now → TellsFree v.old.geometry (N.bytes v.old.nor.now) → IfOk result (λ found. OpenBlock v.old.geometry (N.bytes v.old.nor.now) kind not_in found) }
 {
     for block in 0..v.geometry.blocks() as u16 {
         if Some(block) != not_in && is_open(v, block, kind)? {
@@ -116,7 +118,7 @@ fn least_worn<N: Nor>(v: &mut View<'_, N>, not_in: Option<u16>) -> Result<Option
     ensures cause { OnErr result (Rose (N.faults v.old.nor.now) (N.faults v.new.nor.now)) }
     ensures looks { OnlyLooks v.old v.new }
     ensures below { IfOk result (λ found. IfSome found (λ block. block < v.old.geometry.blocks)) }
-    ensures told { N.tells v.old.nor.now → IsTidy v.old.geometry (N.bytes v.old.nor.now) → IfOk result (λ found. FreeBlock v.old.geometry (N.bytes v.old.nor.now) not_in found) }
+    ensures told { N.tells v.old.nor.now → TellsFree v.old.geometry (N.bytes v.old.nor.now) → IfOk result (λ found. FreeBlock v.old.geometry (N.bytes v.old.nor.now) not_in found) }
 {
     let mut least = None;
     for block in 0..v.geometry.blocks() as u16 {
@@ -140,7 +142,7 @@ pub fn free_page<N: Nor>(
     ensures cause { OnErr result (Rose (N.faults v.old.nor.now) (N.faults v.new.nor.now)) }
     ensures looks { OnlyLooks v.old v.new }
     ensures entry { IfOk result (λ page. IfSome page (λ p. IsEntryPage v.old.geometry p)) }
-    ensures told { N.tells v.old.nor.now → IsTidy v.old.geometry (N.bytes v.old.nor.now) → IfOk result (λ found. FreePage v.old.geometry (N.bytes v.old.nor.now) kind keep not_in found) }
+    ensures told { N.tells v.old.nor.now → TellsFree v.old.geometry (N.bytes v.old.nor.now) → IfOk result (λ found. FreePage v.old.geometry (N.bytes v.old.nor.now) kind keep not_in found) }
 {
     if let Some(block) = open_block(v, kind, not_in)? {
         return first_free(v, block);
@@ -158,4 +160,20 @@ pub fn free_page<N: Nor>(
 #[tactic(auto, using(crate::proofs::Had::page_had))]
 pub fn index_pages_had()
     ensures { (g : Geometry) → IndexPageHad g }
+{}
+
+/// So is one for a data page.
+#[tactic(auto, using(crate::proofs::Had::data_page_had))]
+pub fn data_pages_had()
+    ensures { (g : Geometry) → DataPageHad g }
+{}
+
+/// What is had once a page was put where one was found, and once a page was changed in place.
+#[tactic(auto, using(crate::proofs::HadBy::tidy_but_is_clear, crate::proofs::HadBy::less_had, crate::proofs::HadBy::put_had, crate::proofs::HadBy::same_had, crate::proofs::HadBy::in_place_had))]
+pub fn pages_stay_had()
+    ensures clear { (g : Geometry) → TidyButIsClear g }
+    ensures less { (g : Geometry) → LessHad g }
+    ensures put { (g : Geometry) → PutHad g }
+    ensures same { (g : Geometry) → SameHad g }
+    ensures in_place { (g : Geometry) → InPlaceHad g }
 {}

@@ -70,11 +70,12 @@ freshens_then {nor = nor} g h block i {old} {mid} {new} same small before so_far
     go_on before (subst (λ (k : Geometry). Changes nor mid new (UnitGoes k block i)) same goes) (λ tells image was step. freshens_more g block i (nor.bytes old) (nor.bytes mid) small (so_far tells) image was step)
 
 -- the programs of the last two slots after the erase
-module _ {D : Type 0} {nor : NorOf D} (g h : Geometry) (block : ℕ) {old mid new : D} (same : h ≡ g) (blank : nor.tells old → ErasedTo g block g.block (nor.bytes old) (nor.bytes mid)) where
+module _ {D : Type 0} {nor : NorOf D} (g h : Geometry) (block : ℕ) {old mid new : D} (same : h ≡ g) (low : block < g.blocks) (image_is : nor.tells old → IsImage g (nor.bytes old))
+    (blank : nor.tells old → ErasedTo g block g.block (nor.bytes old) (nor.bytes mid)) where
   pub slots_then : Changes nor old mid (Freshens g block) → Changes nor mid new (SameOutside (magic_start h block) 4) → Changes nor old new (Freshens g block)
   unfolding lookups per_block
   slots_then before programs =
-      go_on before (subst (λ (k : Geometry). Changes nor mid new (SameOutside (magic_start k block) 4)) same programs) (λ tells image was step. freshens_slots g block (nor.bytes old) (nor.bytes mid) image (blank tells) step)
+      go_on before (subst (λ (k : Geometry). Changes nor mid new (SameOutside (magic_start k block) 4)) same programs) (λ tells image was step. freshens_slots g block (nor.bytes old) (nor.bytes mid) image low (image_is tells) (blank tells) step)
 
 pub fresh_done : (g h : Geometry) (block erases : ℕ) (result : Result (Unit {0}) Failed) (was mid now : List ℕ) → h ≡ g → block < g.blocks → erases ≤ 0x7FFF → IsImage g was → ErasedTo g block g.block was mid →
     OnOk result (now ≡ with_magic h block erases mid) → OnOk result (IsFresh g block erases was now)

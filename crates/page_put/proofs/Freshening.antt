@@ -5,7 +5,7 @@ use Rattle.std.specs.Int.{to_le_bytes, w16}
 use Rattle.std.specs.List.{range_with_len, list_all}
 use Rattle.std.proofs.Math.Nat.{mul-le-mul_right, div-add-mod}
 use Rattle.std.proofs.lemmas.Nat.{xor_lt}
-use Rattle.std.proofs.lemmas.Bool.{cases_lt, cases_eq, ne_eqb, eq-eqb, lt-ltb}
+use Rattle.std.proofs.lemmas.Bool.{cases_lt, cases_eq, cases_Bool, ne_eqb, eq-eqb, lt-ltb}
 use Rattle.std.proofs.lemmas.List.{length-take, length-drop, length-replicate}
 use Rattle.geometry.specs.declared.geometry.Geometry.{Geometry}
 use Rattle.geometry.specs.declared.magic.MagicKind.{MagicKind}
@@ -150,7 +150,7 @@ unit_all g block i was now done = record {
 -- ---- unit after unit
 
 pub freshens_none : (g : Geometry) (block : ℕ) (was : List ℕ) → Freshens g block was was
-freshens_none g block was = record { outside = record { size = refl; before = λ k low. refl; after = λ k high. refl }; dead = inl refl }
+freshens_none g block was = record { outside = record { size = refl; before = λ k low. refl; after = λ k high. refl }; dead = inl refl; state = inl refl }
 
 pub erased_none : (g : Geometry) (block : ℕ) (was : List ℕ) → ErasedTo g block (0 * g.phys) was was
 erased_none g block was = record { outside = (freshens_none g block was).outside; ones = λ k low. absurd (omega arith) }
@@ -191,6 +191,10 @@ module _ (g : Geometry) (block i : ℕ) (was now : List ℕ) (low : i < g.block 
             (λ (same : image ≡ now). subst (λ (l : List ℕ). (l ≡ was) ⊎ ((p : ℕ) → block_of g p ≡ block → live_at g l p ≡ None)) (sym same) before.dead)
             (λ (first : i ≡ 0 → has_magic g image block ≡ false). inr (spoiled-is_dead g image block (lacks first)))
             goes.spoils;
+        state = ⊎_elim
+            (λ (same : image ≡ now). subst (λ (l : List ℕ). (l ≡ was) ⊎ ((has_magic g l block ≡ false) ⊎ (is_free_block g l block ≡ true))) (sym same) before.state)
+            (λ (first : i ≡ 0 → has_magic g image block ≡ false). inr (inl (lacks first)))
+            goes.spoils;
       }
 
 pub erased_all : (g : Geometry) (block i : ℕ) (was now : List ℕ) → g.block / g.phys ≤ i → ErasedTo g block (i * g.phys) was now → ErasedTo g block g.block was now
@@ -202,14 +206,6 @@ erased_all g block i was now all so_far =
 
 pub slots_wide : (g : Geometry) (block : ℕ) (a b : List ℕ) → SameOutside (block * g.block + 2 * (slots g - 2)) 4 a b → SameOutside (block * g.block) g.block a b
 slots_wide g block a b same = let in_block = lies g in wider (block * g.block + 2 * (slots g - 2)) 4 (block * g.block) g.block a b (omega arith) (omega (arith, in_block.pages, in_block.some, in_block.inside)) same
-
-pub freshens_slots : (g : Geometry) (block : ℕ) (was mid image : List ℕ) → ErasedTo g block g.block was mid → SameOutside (block * g.block + 2 * (slots g - 2)) 4 mid image → Freshens g block was image
-freshens_slots g block was mid image blank same =
-    let in_block = lies g in
-    record {
-      outside = outside_on (block * g.block) g.block was mid image blank.outside (slots_wide g block mid image same);
-      dead = inr (front_dead g image block (λ k low. same.before (block * g.block + k) (omega arith) ∙ blank.ones k (omega (arith, in_block.pages, in_block.inside))));
-    }
 
 -- ---- the block at the end
 
@@ -308,7 +304,9 @@ place_at g geo p =
     let block : (p / per_block g) * g.block ≡ (p / per_block g) * (per_block g * g.page) = ap (λ (x : ℕ). (p / per_block g) * x) geo.block in
     omega arith
 
-module _ (g : Geometry) (block erases : ℕ) (now : List ℕ) (low : block < g.blocks) (is : IsImage g now) (s : Stands g block erases now) where
+-- all of the block but its last two slots is erased
+module _ (g : Geometry) (block : ℕ) (now : List ℕ) (low : block < g.blocks) (is : IsImage g now) (front : (k : ℕ) → k < 2 * (slots g - 2) → slice_index now (block * g.block + k) ≡ 255)
+    (rest : (k : ℕ) → 2 * slots g ≤ k → k < g.block → slice_index now (block * g.block + k) ≡ 255) where
   blank_page : (p : ℕ) → block_of g p ≡ block → is_entry_page g p ≡ true → is_erased (page_of g now p) ≡ true
   blank_page p here page =
       let geo : Sizes g = sizes g in
@@ -321,21 +319,45 @@ module _ (g : Geometry) (block erases : ℕ) (now : List ℕ) (low : block < g.b
       let row : (p % per_block g + 1) * g.page ≤ per_block g * g.page = mul-le-mul_right g.page (omega (arith, geo.lookups_fit)) in
       let there : (p / per_block g) * g.block ≡ block * g.block = ap (λ (x : ℕ). x * g.block) here in
       let place : p * g.page + k ≡ block * g.block + (place_of g p * g.page + k) = omega (arith, place_at g geo p, there) in
-      page_byte g now p k fits ∙ rw place (s.rest (place_of g p * g.page + k) (omega (arith, in_block.pages, start)) (omega (arith, row, geo.block, fits))))
+      page_byte g now p k fits ∙ rw place (rest (place_of g p * g.page + k) (omega (arith, in_block.pages, start)) (omega (arith, row, geo.block, fits))))
 
-  pub is_free : is_free_block g now block ≡ true
-  unfolding is_free_block has_magic
-  is_free =
-      let magic : has_magic g now block ≡ true = eq-eqb _ _ s.magic in
+  -- with its magic it is free
+  pub blank_free : has_magic g now block ≡ true → is_free_block g now block ≡ true
+  unfolding is_free_block
+  blank_free magic =
       let entries_free = all_in (λ (q : ℕ). is_free_entry g now q) (block * per_block g + lookups g) (entries g) (λ q from to.
       let w = entry_in g block q low from to in
-      let ones = front_entry g now block s.front q w.0 in
+      let ones = front_entry g now block front q w.0 in
       rw (ones, blank_page q w.0 w.1) refl) in
       rw (magic, entries_free) refl
+
+module _ (g : Geometry) (block erases : ℕ) (now : List ℕ) (low : block < g.blocks) (is : IsImage g now) (s : Stands g block erases now) where
+  pub is_free : is_free_block g now block ≡ true
+  unfolding has_magic
+  is_free = blank_free g block now low is s.front s.rest (eq-eqb _ _ s.magic)
 
   pub count_is : erases < 0x8000 → erase_count g now block ≡ erases
   unfolding erase_count
   count_is small = rw (s.count, lt-ltb erases 0x8000 small) refl
+
+pub freshens_slots : (g : Geometry) (block : ℕ) (was mid image : List ℕ) → block < g.blocks → IsImage g was → ErasedTo g block g.block was mid → SameOutside (block * g.block + 2 * (slots g - 2)) 4 mid image →
+    Freshens g block was image
+freshens_slots g block was mid image low is blank same =
+    let in_block = lies g in
+    let outside = outside_on (block * g.block) g.block was mid image blank.outside (slots_wide g block mid image same) in
+    let now : IsImage g image = record { len = omega (arith, outside.size, is.len) } in
+    let front : (k : ℕ) → k < 2 * (slots g - 2) → slice_index image (block * g.block + k) ≡ 255 =
+    λ k below. same.before (block * g.block + k) (omega arith) ∙ blank.ones k (omega (arith, in_block.pages, in_block.inside)) in
+    let rest : (k : ℕ) → 2 * slots g ≤ k → k < g.block → slice_index image (block * g.block + k) ≡ 255 =
+    λ k high below. same.after (block * g.block + k) (omega (arith, high, in_block.some)) ∙ blank.ones k below in
+    record {
+      outside = outside;
+      dead = inr (front_dead g image block front);
+      state = inr (⊎_elim
+          (λ (magic : has_magic g image block ≡ true). inr (blank_free g block image low now front rest magic))
+          (λ (none : has_magic g image block ≡ false). inl none)
+          (cases_Bool (has_magic g image block)));
+    }
 
 pub is_fresh : (g : Geometry) (block erases : ℕ) (was mid now : List ℕ) → block < g.blocks → IsImage g was → erases ≤ 0x7FFF → ErasedTo g block g.block was mid → now ≡ with_magic g block erases mid → IsFresh g block erases was now
 is_fresh g block erases was mid now low is small blank done =

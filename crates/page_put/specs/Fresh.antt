@@ -9,10 +9,11 @@ use Rattle.image_model.specs.Live.{live_at}
 use Rattle.image_model.specs.Places.{has_magic, erase_count, block_of}
 use Rattle.image_model.specs.Tidy.{is_free_block}
 
--- At each cut all other blocks are as they were, and nothing happened or no page of the block is live.
+-- At each cut all other blocks are as they were, and nothing happened, or no page of the block is live: it lacks its magic, or it is free.
 pub record Freshens (g : Geometry) (block : ℕ) (was image : List ℕ) : Type 0 where
   pub outside : SameOutside (block * g.block) g.block was image
   pub dead : (image ≡ was) ⊎ ((p : ℕ) → block_of g p ≡ block → live_at g image p ≡ None)
+  pub state : (image ≡ was) ⊎ ((has_magic g image block ≡ false) ⊎ (is_free_block g image block ≡ true))
 
 -- Afterwards all other blocks are as they were, and the block is free with that erase count.
 pub record IsFresh (g : Geometry) (block erases : ℕ) (was now : List ℕ) : Type 0 where

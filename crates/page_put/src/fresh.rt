@@ -78,7 +78,8 @@ fn mark_block<N: Nor>(v: &mut View<'_, N>, block: u16, count: u16) -> Result<(),
 }
 
 /// Makes a block fresh: erases its units from the first upwards, the first with the block's magic as its mark, then
-/// programs the erase count, then the magic. A cut leaves the block as it was, or without any live page.
+/// programs the erase count, then the magic. A cut leaves the block as it was, or without any live page: it lacks its magic
+/// or is free.
 #[tactic(auto, using(flash_view::proofs::Looking::same_then))]
 pub fn fresh_block<N: Nor>(v: &mut View<'_, N>, block: u16, count: u16) -> Result<(), Failed>
     requires block { block < v.old.geometry.blocks }

@@ -7,21 +7,15 @@ use Rattle.geometry.specs.declared.geometry.Geometry.{Geometry}
 use Rattle.image_model.specs.Volume.{entries}
 use Rattle.image_model.specs.Tidy.{IsTidy, is_free_block, free_blocks}
 use Rattle.image_model.specs.Kinds.{live_index, live_data, is_data_block}
-use Rattle.image_model.specs.Collect.{index_in, data_in, deleted_in, free_outside, takes_index, takes_data}
+use Rattle.image_model.specs.Collect.{index_in, data_in, deleted_in}
 use Rattle.room_laws.specs.Counts.{Counts, IsBlock, unused, for_index, for_data, if_kind}
-use Rattle.room_laws.specs.Volume.{total, IsVolume, blocks_of, free_of, deleted_of, index_total, pages_total}
+use Rattle.room_laws.specs.Volume.{total, IsVolume, blocks_of, deleted_of, index_total, pages_total}
 use Rattle.room_laws.specs.Counting.{block_counts, counts_of, deleted_where}
 use Rattle.room_laws.specs.Order.{without, Rearranged}
-use Rattle.room_laws.specs.Emptying.{data_beside}
-use Rattle.room_laws.specs.EmptyingIndex.{index_beside}
-use Rattle.room_laws.specs.Mends.{data_deleted_beside, index_deleted_beside}
 use Rattle.room_laws.proofs.Ranges.{sum_but}
 use Rattle.room_laws.proofs.Orders.{to_front, same-at}
 use Rattle.room_laws.proofs.Blocks.{Told, told}
-use Rattle.room_laws.proofs.Tallies.{tidy_counts_tell, tidy_is_volume, is_unused, is_index, is_data, index_room, data_room, index_lost, data_lost, index_counted, pages_counted}
-use Rattle.room_laws.proofs.Judged.{outside}
-use Rattle.room_laws.proofs.Freed.{with_beside}
-use Rattle.room_laws.proofs.IndexFreed.{with_beside as with_index_beside}
+use Rattle.room_laws.proofs.Tallies.{tidy_counts_tell, tidy_is_volume, is_unused, index_lost, data_lost, index_counted, pages_counted}
 
 -- the counts of all blocks but one
 abbrev pub others_of : Geometry → List ℕ → ℕ → List Counts
@@ -52,16 +46,19 @@ deleted_outside_of g image block test low =
     (rw (eq-eqb block block refl) refl)
     (λ q from to other. rw (ne_eqb q block other) refl)
 
+-- the deleted entries of the data blocks beside a block, and those of all others beside it
+abbrev data_deleted_beside : Geometry → List ℕ → ℕ → ℕ
+data_deleted_beside g image block = deleted_where g image (λ other. not (other == block) && is_data_block g image other)
+
+abbrev index_deleted_beside : Geometry → List ℕ → ℕ → ℕ
+index_deleted_beside g image block = deleted_where g image (λ other. not (other == block) && not (is_data_block g image other))
+
 -- they add up to what the image holds beside the block
 pub record OthersTell (g : Geometry) (image : List ℕ) (block : ℕ) : Type 0 where
   pub long : suc (length (others_of g image block)) ≡ g.blocks
   pub index : index_in g image block + index_total (others_of g image block) ≡ live_index g image
   pub pages : data_in g image block + pages_total (others_of g image block) ≡ live_data g image
   pub unused_blocks : cond (is_free_block g image block) 1 0 + blocks_of unused (others_of g image block) ≡ free_blocks g image
-  pub index_blocks : blocks_of for_index (others_of g image block) ≡ index_beside g image block
-  pub data_blocks_are : blocks_of for_data (others_of g image block) ≡ data_beside g image block
-  pub index_free : free_of for_index (others_of g image block) ≡ free_outside g image block (takes_index g image)
-  pub data_free : free_of for_data (others_of g image block) ≡ free_outside g image block (takes_data g image)
   pub index_deleted : deleted_of for_index (others_of g image block) ≡ index_deleted_beside g image block
   pub data_deleted : deleted_of for_data (others_of g image block) ≡ data_deleted_beside g image block
 
@@ -84,34 +81,6 @@ module _ (g : Geometry) (image : List ℕ) (block : ℕ) (t : IsTidy g image) (l
   unfolding blocks_of
   unused_part = let all = sum_parts (λ c. if_kind unused c 1) in let whole = (tidy_counts_tell g image t).unused_blocks in omega (arith, all, whole, is_unused g image block sort)
 
-  index_blocks_part : blocks_of for_index (others_of g image block) ≡ index_beside g image block
-  unfolding blocks_of
-  index_blocks_part =
-      let all = sum_parts (λ c. if_kind for_index c 1) in
-      let whole = (tidy_counts_tell g image t).index_blocks in
-      omega (arith, all, whole, is_index g image block sort, with_index_beside g image block low)
-
-  data_blocks_part : blocks_of for_data (others_of g image block) ≡ data_beside g image block
-  unfolding blocks_of
-  data_blocks_part =
-      let all = sum_parts (λ c. if_kind for_data c 1) in
-      let whole = (tidy_counts_tell g image t).data_blocks_are in
-      omega (arith, all, whole, is_data g image block sort, with_beside g image block low)
-
-  index_free_part : free_of for_index (others_of g image block) ≡ free_outside g image block (takes_index g image)
-  unfolding free_of
-  index_free_part =
-      let all = sum_parts (λ c. if_kind for_index c c.free) in
-      let whole = (tidy_counts_tell g image t).index_free in
-      omega (arith, all, whole, index_room g image block (t.magic block low) sort, outside g image block (takes_index g image) low)
-
-  data_free_part : free_of for_data (others_of g image block) ≡ free_outside g image block (takes_data g image)
-  unfolding free_of
-  data_free_part =
-      let all = sum_parts (λ c. if_kind for_data c c.free) in
-      let whole = (tidy_counts_tell g image t).data_free in
-      omega (arith, all, whole, data_room g image block sort, outside g image block (takes_data g image) low)
-
   index_deleted_part : deleted_of for_index (others_of g image block) ≡ index_deleted_beside g image block
   unfolding deleted_of
   index_deleted_part =
@@ -132,10 +101,6 @@ module _ (g : Geometry) (image : List ℕ) (block : ℕ) (t : IsTidy g image) (l
     index = index_part;
     pages = pages_part;
     unused_blocks = unused_part;
-    index_blocks = index_blocks_part;
-    data_blocks_are = data_blocks_part;
-    index_free = index_free_part;
-    data_free = data_free_part;
     index_deleted = index_deleted_part;
     data_deleted = data_deleted_part;
   }

@@ -1,8 +1,9 @@
 -- What a block of a tidy image is, by its counts.
 use Rattle.std.proofs.Common.{◌≡◌, ℕ, ◌+◌, ◌*◌, ◌<◌, ◌≤◌, ◌⊎◌, List, Bool, true, false, cond, nat_lt, ◌==◌, Option, Some, None, refl, sym, ◌∙◌, arith, ⊎_elim}
+use Rattle.std.specs.Prelude.{Contains}
 use Rattle.std.specs.List.{range_with_len}
 use Rattle.std.proofs.lemmas.Bool.{cases_Bool, cases_lt, and_parts, eqb-true, lt-ltb, false_from_ne_true}
-use Rattle.std.proofs.lemmas.List.FromFn.{length-range_with_len}
+use Rattle.std.proofs.lemmas.List.FromFn.{length-range_with_len, length-map-range_with_len, get_or-map-range_with_len}
 use Rattle.geometry.specs.declared.geometry.Geometry.{Geometry}
 use Rattle.image_model.specs.Volume.{per_block, lookups, entries}
 use Rattle.image_model.specs.Headers.{obj_id, names_index, is_finished}
@@ -18,7 +19,7 @@ use Rattle.image_laws.proofs.Tally.{is_finished-ones}
 use Rattle.image_laws.proofs.Wants.{wanted_parts}
 use Rattle.image_laws.proofs.MixedBlocks.{mixed-tested}
 use Rattle.room_laws.specs.Counts.{IsBlock, kind_of, unused, for_index, for_data}
-use Rattle.room_laws.specs.Counting.{block_counts}
+use Rattle.room_laws.specs.Counting.{block_counts, counts_of}
 use Rattle.room_laws.proofs.Ranges.{four_kinds, any_counted, all_counted, not_all_counted}
 
 -- the three sorts of a block of a tidy image
@@ -146,3 +147,16 @@ module _ (g : Geometry) (image : List ℕ) (t : IsTidy g image) where
         told_index used none (rw (data_is, none, lt-ltb 0 (index_in g image block + deleted_in g image block) (omega (arith, whole, few, d))) refl) d)
         (cases_Bool (is_data_block g image block)))
         (cases_Bool (is_free_block g image block))
+
+-- a free block holds no data page and no deleted entry
+pub free_told : (g : Geometry) (image : List ℕ) (block : ℕ) → Told g image block → is_free_block g image block ≡ true → (is_data_block g image block ≡ false) × (deleted_in g image block ≡ 0)
+free_told g image block (told_free f d j k i p x) free = (d, x)
+free_told g image block (told_index f d k p) free = let bad : true ≡ false = sym free ∙ f in absurd (cc)
+free_told g image block (told_data f d j k i) free = let bad : true ≡ false = sym free ∙ f in absurd (cc)
+
+-- a block's counts are among those of the image
+pub block_in : (g : Geometry) (image : List ℕ) (block : ℕ) → block < g.blocks → Contains (counts_of g image) (block_counts g image block)
+unfolding counts_of
+block_in g image block low =
+    let size = length-map-range_with_len (block_counts g image) 0 g.blocks in
+    (block, omega (arith, size, low), get_or-map-range_with_len (block_counts g image) 0 g.blocks block block (block_counts g image block) low (omega arith))

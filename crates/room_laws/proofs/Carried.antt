@@ -1,5 +1,5 @@
 -- Turns of a cleaning that are done.
-use Rattle.std.proofs.Common.{◌≡◌, ◌≢◌, ℕ, suc, ◌+◌, ◌-◌, ◌<◌, ◌≤◌, ◌⊎◌, List, [], ◌∷◌, length, true, false, Some, None, refl, sym, ◌∙◌, ap, arith, ⊎_elim, inl, inr, slice_set}
+use Rattle.std.proofs.Common.{◌≡◌, ◌≢◌, ℕ, suc, ◌+◌, ◌-◌, ◌<◌, ◌≤◌, List, [], ◌∷◌, length, true, false, Some, None, refl, sym, ◌∙◌, ap, arith, ⊎_elim, inl, inr, slice_set}
 use Rattle.std.specs.Prelude.{All}
 use Rattle.std.proofs.lemmas.Bool.{cases_eq}
 use Rattle.geometry.specs.declared.geometry.Geometry.{Geometry}
@@ -39,7 +39,7 @@ use Rattle.room_laws.proofs.BatchMends.{batch_or, came_empties, after, came_same
 -- ---- single programs
 
 -- an entry that stays counts as it did
-agree_sort : (g : Geometry) (a b : List ℕ) (p q : ℕ) → Agree g a b p → is_entry_page g q ≡ true → q ≢ p → live_at g b q ≡ live_at g a q → sort_at g b q ≡ sort_at g a q
+pub agree_sort : (g : Geometry) (a b : List ℕ) (p q : ℕ) → Agree g a b p → is_entry_page g q ≡ true → q ≢ p → live_at g b q ≡ live_at g a q → sort_at g b q ≡ sort_at g a q
 unfolding sort_at
 agree_sort g a b p q agree page other live = rw (agree.entry q page other, live) refl
 

@@ -1,5 +1,5 @@
 -- Images whose emptied block is being made fresh recover, and are cleaned once it is.
-use Rattle.std.proofs.Common.{◌≡◌, ◌≢◌, ℕ, ◌+◌, ◌-◌, ◌*◌, ◌<◌, ◌≤◌, ◌⊎◌, List, ◌∷◌, true, false, Some, None, refl, sym, ◌∙◌, ap, subst, arith, ⊎_elim}
+use Rattle.std.proofs.Common.{◌≡◌, ◌≢◌, ℕ, ◌+◌, ◌-◌, ◌*◌, ◌<◌, ◌≤◌, List, ◌∷◌, true, false, Some, None, refl, sym, ◌∙◌, ap, subst, arith, ⊎_elim}
 use Rattle.std.proofs.lemmas.Bool.{cases_Bool, and_parts}
 use Rattle.std.proofs.lemmas.Option.{same_Some, none-some}
 use Rattle.geometry.specs.declared.geometry.Geometry.{Geometry}
@@ -23,7 +23,7 @@ use Rattle.room_laws.specs.Recovery.{IsBetween, IsEmptied, FreshWayMends}
 use Rattle.room_laws.proofs.Blocks.{Told, told_free, told_index, told_data, told, free_all}
 use Rattle.room_laws.proofs.Tallies.{index_counted, pages_counted, deleted_counted, free_counted}
 use Rattle.room_laws.proofs.Besides.{others_of, front}
-use Rattle.room_laws.proofs.Freed.{others_stay}
+use Rattle.room_laws.proofs.Outside.{others_stay}
 use Rattle.room_laws.proofs.ImageMends.{front_bound}
 use Rattle.room_laws.proofs.Leaves.{emptying_cleans}
 use Rattle.room_laws.proofs.Orders.{mending_rearranged, cleaned_mends}

@@ -1,5 +1,5 @@
 -- Pages find places.
-use Rattle.std.proofs.Common.{◌≡◌, ℕ, ◌+◌, ◌-◌, ◌*◌, ◌<◌, ◌≤◌, ◌⊎◌, refl, ap, arith, ⊎_elim, slice_set}
+use Rattle.std.proofs.Common.{◌≡◌, ℕ, ◌+◌, ◌-◌, ◌*◌, ◌<◌, ◌≤◌, refl, ap, arith, ⊎_elim, slice_set}
 use Rattle.std.proofs.lemmas.Bool.{cases_lt}
 use Rattle.geometry.specs.Numbers.{ceil}
 use Rattle.image_laws.proofs.Serving.{ceil-enough, ceil-mono}

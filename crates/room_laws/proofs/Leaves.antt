@@ -1,5 +1,5 @@
 -- Live pages that leave a block.
-use Rattle.std.proofs.Common.{◌≡◌, ℕ, ◌+◌, ◌-◌, ◌<◌, ◌⊎◌, List, ◌∷◌, length, refl, sym, ◌∙◌, subst, arith, ⊎_elim, slice_index_or, slice_set}
+use Rattle.std.proofs.Common.{◌≡◌, ℕ, ◌+◌, ◌-◌, ◌<◌, List, ◌∷◌, length, refl, sym, ◌∙◌, subst, arith, ⊎_elim, slice_index_or, slice_set}
 use Rattle.room_laws.specs.Counts.{Counts, Kind, unused, for_index, for_data, kind_of, if_kind}
 use Rattle.room_laws.specs.Volume.{IsVolume, blocks_of, free_of, deleted_of, pages_total}
 use Rattle.room_laws.specs.Steps.{placed, killed, CanPut, Reached}

@@ -12,13 +12,8 @@ pub mod Blocks
 pub mod Tallies
 pub mod Judged
 pub mod Chosen
-pub mod Cleans
 pub mod Stops
-pub mod Moved
-pub mod Emptied
-pub mod Freed
-pub mod IndexMoves
-pub mod IndexFreed
+pub mod Outside
 pub mod Besides
 pub mod ImageMends
 pub mod Puts

@@ -3,7 +3,7 @@ use Rattle.std.proofs.Common.{◌≡◌, ℕ, zero, suc, ◌+◌, ◌-◌, ◌<�
 use Rattle.std.specs.Prelude.{filter, sum_by}
 use Rattle.std.specs.List.{range_with_len, list_any, list_all}
 use Rattle.std.proofs.lemmas.List.Sums.{sum_by-cons, length-filter}
-use Rattle.std.proofs.lemmas.Bool.{cases_Bool, cases_eq, eq-eqb, ne_eqb, lt-ltb, and_parts, and_from}
+use Rattle.std.proofs.lemmas.Bool.{cases_Bool, cases_eq, eq-eqb, ne_eqb, lt-ltb}
 use Rattle.image_laws.proofs.FreeBlocks.{filter-same}
 use Rattle.image_laws.proofs.Matching.{filter-none_in, count_one, count_by_key, sum-range}
 
@@ -32,16 +32,6 @@ sum_le f h a (suc n) le =
     let right = sum_by-cons h a (range_with_len (a + 1) n) in
     let rest = sum_le f h (a + 1) n (λ q low high. le q (omega arith) (omega arith)) in
     omega (arith, left, right, le a (omega arith) (omega arith), rest)
-
--- a sum with no number above the other's, and with 0 at one place
-pub sum_less : (f h : ℕ → ℕ) (k a n : ℕ) → a ≤ k → k < a + n → f k ≡ 0 → ((q : ℕ) → a ≤ q → q < a + n → (q ≡ k → ⊥) → f q ≤ h q) → sum_by f (range_with_len a n) + h k ≤ sum_by h (range_with_len a n)
-sum_less f h k a n low high none less =
-    let but = sum_but (λ q. cond (q == k) 0 (h q)) h k a n low high (rw (eq-eqb k k refl) refl) (λ q from to there. rw (ne_eqb q k there) refl) in
-    let under = sum_le f (λ q. cond (q == k) 0 (h q)) a n (λ q from to. ⊎_elim
-    (λ (here : q ≡ k). rw here (omega (arith, none)))
-    (λ (there : q ≡ k → ⊥). rw (ne_eqb q k there) (less q from to there))
-    (cases_eq q k)) in
-    omega (arith, but, under)
 
 count_append : (t : ℕ → Bool) (a n m : ℕ) → length (filter t (range_with_len a (n + m))) ≡ length (filter t (range_with_len a n)) + length (filter t (range_with_len (a + n) m))
 count_append t a zero m = let at : a + 0 ≡ a = omega arith in let all : 0 + m ≡ m = omega arith in rw (at, all) (omega arith)
@@ -130,27 +120,6 @@ count_but s t k a n low high none same =
     let left = length-filter s (range_with_len a n) in
     let right = length-filter t (range_with_len a n) in
     omega (arith, but, left, right)
-
-sum_zero : (a n : ℕ) → sum_by (λ (q : ℕ). 0) (range_with_len a n) ≡ 0
-sum_zero a zero = refl
-sum_zero a (suc n) = let whole = sum_by-cons (λ (q : ℕ). 0) a (range_with_len (a + 1) n) in let rest = sum_zero (a + 1) n in omega (arith, whole, rest)
-
--- a sum of which one number alone isn't 0
-pub sum_one : (h : ℕ → ℕ) (k a n : ℕ) → a ≤ k → k < a + n → ((q : ℕ) → a ≤ q → q < a + n → (q ≡ k → ⊥) → h q ≡ 0) → sum_by h (range_with_len a n) ≡ h k
-sum_one h k a n low high none =
-    let but = sum_but (λ q. 0) h k a n low high refl (λ q from to there. sym (none q from to there)) in
-    let zero = sum_zero a n in
-    omega (arith, but, zero)
-
-pub list_any_same : (s t : ℕ → Bool) (a n : ℕ) → ((q : ℕ) → a ≤ q → q < a + n → s q ≡ t q) → list_any s (range_with_len a n) ≡ list_any t (range_with_len a n)
-list_any_same s t a zero same = refl
-list_any_same s t a (suc n) same = rw (same a (omega arith) (omega arith), list_any_same s t (a + 1) n (λ q low high. same q (omega arith) (omega arith))) refl
-
-pub all_wider : (s t : ℕ → Bool) (a n : ℕ) → ((q : ℕ) → a ≤ q → q < a + n → s q ≡ true → t q ≡ true) → list_all s (range_with_len a n) ≡ true → list_all t (range_with_len a n) ≡ true
-all_wider s t a zero wider all = refl
-all_wider s t a (suc n) wider all =
-    let w = and_parts (s a) _ all in
-    and_from (t a) _ (wider a (omega arith) (omega arith) w.0) (all_wider s t (a + 1) n (λ q low high passes. wider q (omega arith) (omega arith) passes) w.1)
 
 pub list_all_same : (s t : ℕ → Bool) (a n : ℕ) → ((q : ℕ) → a ≤ q → q < a + n → t q ≡ s q) → list_all t (range_with_len a n) ≡ list_all s (range_with_len a n)
 list_all_same s t a zero same = refl

@@ -1,5 +1,5 @@
 -- Images that recover, by what their entries count as.
-use Rattle.std.proofs.Common.{◌≡◌, ◌≢◌, ℕ, ◌+◌, ◌<◌, ◌≤◌, ◌⊎◌, List, [], ◌∷◌, true, false, sym, ◌∙◌, ap, subst, arith, ⊎_elim, inl, inr}
+use Rattle.std.proofs.Common.{◌≡◌, ◌≢◌, ℕ, ◌+◌, ◌<◌, ◌≤◌, ◌⊎◌, List, [], ◌∷◌, true, false, refl, sym, ◌∙◌, ap, subst, arith, ⊎_elim, inl, inr}
 use Rattle.std.proofs.lemmas.Bool.{cases_eq, cases_lt}
 use Rattle.geometry.specs.declared.geometry.Geometry.{Geometry}
 use Rattle.image_model.specs.Volume.{entries}
@@ -16,10 +16,11 @@ use Rattle.room_laws.specs.Order.{without}
 use Rattle.room_laws.specs.Leaving.{SameTotals}
 use Rattle.room_laws.specs.Losing.{LosesIndex}
 use Rattle.room_laws.specs.Counting.{block_counts, counts_of}
+use Rattle.room_laws.specs.Mending.{Mending}
 use Rattle.room_laws.specs.Mends.{CanMend}
 use Rattle.room_laws.specs.Sorts.{Sort, Index, Deleted, Free, sort_at, counts_by, others_by, beside, with_sort}
-use Rattle.room_laws.specs.Ways.{Move, IsMove, Came, Ends}
-use Rattle.room_laws.specs.Recovery.{ChosenMayCut, MayCut, EmptyingTo, IsBetween, StillMends, IsIndexWay, IndexWayMends}
+use Rattle.room_laws.specs.Ways.{Move, IsMove, AreMoves, Came, Ends}
+use Rattle.room_laws.specs.Recovery.{MendedRecovers, ChosenMayCut, MayCut, EmptyingTo, IsBetween, StillMends, IsIndexWay, IndexWayMends}
 use Rattle.room_laws.proofs.Blocks.{Told, told_free, told_index, told_data, told}
 use Rattle.room_laws.proofs.Tallies.{index_counted, pages_counted}
 use Rattle.room_laws.proofs.Chosen.{chosen_is_candidate}
@@ -31,7 +32,7 @@ use Rattle.room_laws.proofs.Loses.{emptying_is_cut, index_lost_is_cut}
 use Rattle.room_laws.proofs.Sorted.{tidy_tells_free, counts_by_sorts, all_by_sorts, same-block, same_sorts, with-here, with-there, sorts_are_counted, place_can_put}
 use Rattle.room_laws.proofs.SortSteps.{emptying_at, own_stays, entry_spoiled, index_out}
 use Rattle.room_laws.proofs.Resolved.{way_resolves, moves_each}
-use Rattle.room_laws.proofs.OnTheWay.{all_nil, all_cons, all_head}
+use Rattle.room_laws.proofs.OnTheWay.{all_nil, all_cons, all_head, way_none}
 
 -- ---- the chosen block
 
@@ -137,6 +138,18 @@ still_mends g first was image block may between way = record {
       let r = way_resolves g [] was image now between.image_is between.tidy way.moves_are way.way way.table is s in
       whole_recovers g first block may now is s.tidy (s.table ∙ way.table ∙ between.table)
       (same_emptying g first block (low g first block may) (sort_at g was) (sort_at g now) 0 (λ p page. r.others p page (all_nil (λ (m : Move). (p ≢ m.from) × (p ≢ m.to)))) between.emptying);
+}
+
+-- as it stands
+pub mended_recovers : (g : Geometry) → MendedRecovers g
+unfolding AreMoves
+mended_recovers g image can = record {
+  mends = λ now is s.
+      let r = way_resolves g [] image image now can.image_is can.tidy tt (way_none g image can.image_is) refl is s in
+      let same : counts_of g now ≡ counts_of g image =
+      all_by_sorts g now (tidy_tells_free g now s.tidy) ∙ same_sorts g (sort_at g image) (sort_at g now) (λ p page. r.others p page (all_nil (λ (m : Move). (p ≢ m.from) × (p ≢ m.to))))
+      ∙ sym (all_by_sorts g image (tidy_tells_free g image can.tidy)) in
+      record { image_is = is; tidy = s.tidy; mending = subst (λ (v : List Counts). Mending (entries g) v) (sym same) can.mending };
 }
 
 -- ---- an index page on its way

@@ -1,5 +1,5 @@
 -- Counts by sorts.
-use Rattle.std.proofs.Common.{◌≡◌, ℕ, zero, suc, ◌+◌, ◌-◌, ◌*◌, ◌<◌, ◌≤◌, ◌⊎◌, List, [], ◌∷◌, length, Bool, true, false, not, cond, ◌==◌, ◌&&◌, Option, Some, None, refl, sym, ◌∙◌, ap, arith, ⊎_elim, slice_index_or, slice_set}
+use Rattle.std.proofs.Common.{◌≡◌, ℕ, zero, suc, ◌+◌, ◌*◌, ◌<◌, ◌≤◌, ◌⊎◌, List, [], ◌∷◌, length, Bool, true, false, not, cond, ◌==◌, ◌&&◌, Option, Some, None, refl, sym, ◌∙◌, ap, arith, ⊎_elim, slice_index_or, slice_set}
 use Rattle.std.specs.Prelude.{filter, map}
 use Rattle.std.specs.List.{range_with_len}
 use Rattle.std.proofs.lemmas.Bool.{cases_Bool, eqb-true, eq-eqb, ne_eqb}
@@ -231,7 +231,7 @@ at-beside (x ∷ v) zero (suc j) c low in_v out = (omega arith, refl)
 at-beside (x ∷ v) (suc i) zero c low in_v out = (omega arith, refl)
 at-beside (x ∷ v) (suc i) (suc j) c low in_v out = let r = at-beside v i j c (omega arith) (omega arith) (λ e. out (ap suc e)) in (omega (arith, r.0), r.1)
 
-all-set : (g : Geometry) (sorts : ℕ → Sort) (x : Sort) (p : ℕ) → is_entry_page g p ≡ true → all_by g (with_sort p x sorts) ≡ slice_set (all_by g sorts) (block_of g p) (counts_by g (with_sort p x sorts) (block_of g p))
+pub all-set : (g : Geometry) (sorts : ℕ → Sort) (x : Sort) (p : ℕ) → is_entry_page g p ≡ true → all_by g (with_sort p x sorts) ≡ slice_set (all_by g sorts) (block_of g p) (counts_by g (with_sort p x sorts) (block_of g p))
 unfolding all_by
 all-set g sorts x p page =
     map-set (counts_by g sorts) (counts_by g (with_sort p x sorts)) 0 g.blocks (block_of g p) (block_number g p (page_number g p page))

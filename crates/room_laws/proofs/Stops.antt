@@ -24,16 +24,15 @@ use Rattle.room_laws.specs.Packing.{NoneWorth, Packed, RoomFor}
 use Rattle.room_laws.specs.Measure.{digits, measure}
 use Rattle.room_laws.specs.Counting.{block_counts, counts_of}
 use Rattle.room_laws.specs.Choosing.{IsCandidate}
-use Rattle.room_laws.specs.Stopping.{HasBound, HasRoomFor, gc_measure, CanClean, ReserveCanClean, CleanedCanClean, CleanedIsLower, MeasureIsSmall, ReserveFitsEach, LastFreeIsPlain, StoppedHasReserve, StoppedHasNoWorth, NeverStuck, StoppedHasPages, HadNeedsRoom, NoWorthIsPacked, UnstuckHasNoWorth, UnstuckHasPages}
+use Rattle.room_laws.specs.Stopping.{HasBound, HasRoomFor, gc_measure, CanClean, ReserveCanClean, MeasureIsSmall, ReserveFitsEach, LastFreeIsPlain, StoppedHasReserve, StoppedHasNoWorth, NeverStuck, StoppedHasPages, HadNeedsRoom, NoWorthIsPacked, UnstuckHasNoWorth, UnstuckHasPages}
 use Rattle.room_laws.proofs.Totals.{sums}
-use Rattle.room_laws.proofs.Bounding.{reserve_fits, bound_kept, last_free_fits}
+use Rattle.room_laws.proofs.Bounding.{reserve_fits, last_free_fits}
 use Rattle.room_laws.proofs.Packings.{none_worth_packed, had_room, stopped_had}
-use Rattle.room_laws.proofs.Measures.{cleaning_lowers}
 use Rattle.room_laws.proofs.Blocks.{Told, told_free, told_index, told_data, told}
 use Rattle.room_laws.proofs.Tallies.{entries_pos, tidy_counts_tell, tidy_is_volume}
 use Rattle.room_laws.proofs.Judged.{worth_is_tested, fits_is_tested, had_is_tested}
 use Rattle.room_laws.proofs.Chosen.{none_is_candidate, chosen_is_plain}
-use Rattle.room_laws.proofs.Cleans.{cleaned_is_counted, block_in}
+use Rattle.room_laws.proofs.Blocks.{block_in}
 
 -- a block for index pages by its counts holds no data page
 plain_kind : (g : Geometry) (image : List ℕ) (block : ℕ) → Told g image block → kind_of (block_counts g image block) ≡ for_index → is_data_block g image block ≡ false
@@ -79,21 +78,6 @@ module _ (g : Geometry) (image : List ℕ) (t : IsTidy g image) where
 
 pub reserve_can_clean : (g : Geometry) → ReserveCanClean g
 reserve_can_clean g image is t two = record { image_is = is; tidy = t; some = omega (arith, two); bound = reserve-room g image is t two }
-
-pub cleaned_can_clean : (g : Geometry) → CleanedCanClean g
-cleaned_can_clean g was now block can is c =
-    let k = cleaned_is_counted g was now block can.image_is is c in
-    record {
-      image_is = is;
-      tidy = c.after;
-      some = omega (arith, k.free, (tidy_counts_tell g now c.after).unused_blocks);
-      bound = bound_from g now c.after is (bound_kept (entries g) (counts_of g was) (counts_of g now) (block_counts g was block) k (bound_to g was can.tidy can.image_is can.bound));
-    }
-
-pub cleaned_is_lower : (g : Geometry) → CleanedIsLower g
-unfolding gc_measure
-cleaned_is_lower g was now block is is' c worth =
-    cleaning_lowers (entries g) (counts_of g was) (counts_of g now) (block_counts g was block) (cleaned_is_counted g was now block is is' c) ((worth_is_tested g was block c.before c.within).0 worth)
 
 pub reserve_fits_each : (g : Geometry) → ReserveFitsEach g
 reserve_fits_each g image block t two low =

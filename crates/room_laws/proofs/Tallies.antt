@@ -23,7 +23,7 @@ use Rattle.room_laws.specs.Counting.{block_counts, counts_of, deleted_where, Tid
 use Rattle.room_laws.proofs.Ranges.{count_within, count_by_block}
 use Rattle.room_laws.proofs.Blocks.{Told, told_free, told_index, told_data, told, counts_are, index_is}
 
-total_map : (f : Counts → ℕ) (h : ℕ → Counts) (xs : List ℕ) → total f (map h xs) ≡ sum_by (λ b. f (h b)) xs
+pub total_map : (f : Counts → ℕ) (h : ℕ → Counts) (xs : List ℕ) → total f (map h xs) ≡ sum_by (λ b. f (h b)) xs
 total_map f h [] = refl
 total_map f h (x ∷ xs) = let a = sum_by-cons (λ b. f (h b)) x xs in let rest = total_map f h xs in omega (arith, a, rest)
 

@@ -10,10 +10,7 @@ pub mod Steps
 pub mod Order
 pub mod Counting
 pub mod Choosing
-pub mod Cleans
 pub mod Stopping
-pub mod Emptying
-pub mod EmptyingIndex
 pub mod Mends
 pub mod Places
 pub mod Leaving

@@ -28,6 +28,10 @@ pub record Recovers (g : Geometry) (image : List ℕ) : Type 0 where
 abbrev pub ReserveMends : Geometry → Type 0
 ReserveMends g = (image : List ℕ) → HasReserve g image → Recovers g image
 
+-- So does an image that cleanings give two free blocks as it stands.
+abbrev pub MendedRecovers : Geometry → Type 0
+MendedRecovers g = (image : List ℕ) → CanMend g image → Recovers g image
+
 -- The block of an image that can be cleaned is worth cleaning and fits, and holds a live data page only where two blocks are free.
 pub record MayCut (g : Geometry) (first : List ℕ) (block : ℕ) : Type 0 where
   pub can : CanClean g first

@@ -11,7 +11,6 @@ use Rattle.image_model.specs.Kinds.{is_data_block, data_blocks, other_blocks}
 use Rattle.image_model.specs.Collect.{deleted_in, is_worth, is_fitting, chosen_block, are_had, is_stuck}
 use Rattle.room_laws.specs.Measure.{measure}
 use Rattle.room_laws.specs.Counting.{counts_of}
-use Rattle.room_laws.specs.Cleans.{IsCleaned}
 
 -- There are two more blocks than the index pages of the table need at least and the data blocks are.
 abbrev pub HasBound : Geometry → List ℕ → Type 0
@@ -35,14 +34,6 @@ pub record CanClean (g : Geometry) (image : List ℕ) : Type 0 where
 -- A tidy image with its reserve can be cleaned.
 abbrev pub ReserveCanClean : Geometry → Type 0
 ReserveCanClean g = (image : List ℕ) → IsImage g image → IsTidy g image → HasReserve g image → CanClean g image
-
--- What was cleaned can be cleaned again.
-abbrev pub CleanedCanClean : Geometry → Type 0
-CleanedCanClean g = (was now : List ℕ) (block : ℕ) → CanClean g was → IsImage g now → IsCleaned g was block now → CanClean g now
-
--- Cleaning a block that was worth it lowers that number.
-abbrev pub CleanedIsLower : Geometry → Type 0
-CleanedIsLower g = (was now : List ℕ) (block : ℕ) → IsImage g was → IsImage g now → IsCleaned g was block now → is_worth g was block ≡ true → gc_measure g now < gc_measure g was
 
 -- Of a tidy image the number is below the greatest of 64 bits.
 abbrev pub MeasureIsSmall : Geometry → Type 0

@@ -5,7 +5,6 @@ pub mod batching;
 pub mod carrying;
 pub mod choosing;
 pub mod cleaning;
-pub mod emptying;
 pub mod images;
 pub mod leaving;
 pub mod losing;

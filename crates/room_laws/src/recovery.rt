@@ -1,9 +1,14 @@
 ghost use Rattle.geometry.specs.declared.geometry.Geometry.{Geometry};
-ghost use Rattle.room_laws.specs.Recovery.{ReserveMends, ChosenMayCut, StillMends, IndexWayMends, PagesWayMend, BatchWayMends, FreshWayMends};
+ghost use Rattle.room_laws.specs.Recovery.{ReserveMends, MendedRecovers, ChosenMayCut, StillMends, IndexWayMends, PagesWayMend, BatchWayMends, FreshWayMends};
 
 /// An image with its reserve recovers.
 pub fn reserves_mend()
     ensures { (g : Geometry) → ReserveMends g }
+{}
+
+/// So does an image that cleanings give two free blocks as it stands.
+pub fn mended_images_recover()
+    ensures { (g : Geometry) → MendedRecovers g }
 {}
 
 /// A cut in the cleaning of the chosen block of an image that can be cleaned is one that is mended.

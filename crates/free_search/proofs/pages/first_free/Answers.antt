@@ -8,7 +8,7 @@ use Rattle.image_model.specs.Within.{entry_in}
 use Rattle.flash_view.proofs.Heads.{entry_page_told}
 use Rattle.flash_view.proofs.Looking.{looks_none, looks_then}
 use Rattle.free_search.proofs.Scans.{count_start, count_no, count_end}
-use Rattle.free_search.proofs.FreePages.{ones_free, free_counted}
+use Rattle.free_search.proofs.FreePages.{free_counted}
 use Rattle.free_search.proofs.pages.first_free.Goals as goal
 
 pub loop-i-init : goal.loop-i-init
@@ -39,7 +39,7 @@ loop-i-preserved g c =
 
 pub returns-then-branch-clause-told : goal.returns-then-branch-clause-told
 unfolding per_block lookups entries
-returns-then-branch-clause-told g c = λ tells tidy.
+returns-then-branch-clause-told g c = λ tells frees.
     let was = c.loop-i.invariant in
     let geometry = c.args.v.now.geometry in
     let image = g.N.NorState.bytes c.args.v.now.nor.now in
@@ -49,11 +49,11 @@ returns-then-branch-clause-told g c = λ tells tidy.
     let less : c.loop-i.i < entries_of geometry = omega (arith, was.end, c.loop-i-test.true) in
     let block = entry_in geometry c.args.block c.entry_page-page.result c.requires (omega (arith, c.entry_page-page.ensures.place)) (omega (arith, c.entry_page-page.ensures.place, less)) in
     let word : IsWordAt image (entry_at geometry c.entry_page-page.result) = rw (was.looks.same.geometry, was.looks.reads.bytes) at (c.in_ok-entry.ensures.bytes (was.looks.reads.told tells)) in
-    (page, block.0, ones_free geometry image c.entry_page-page.result tidy page ones, word)
+    (page, block.0, frees.free c.entry_page-page.result page ones, word)
 
 pub returns-clause-told : goal.returns-clause-told
-returns-clause-told g c = λ tells tidy.
+returns-clause-told g c = λ tells frees.
     let was = c.loop-i.invariant in
     let geometry = c.args.v.now.geometry in
     let image = g.N.NorState.bytes c.args.v.now.nor.now in
-    sym (count_end (λ p. entry_of geometry image p == 0xFFFF) _ _ c.loop-i.i _ _ c.loop-i-test.false (was.told tells) ∙ free_counted geometry image c.args.block tidy c.requires)
+    sym (count_end (λ p. entry_of geometry image p == 0xFFFF) _ _ c.loop-i.i _ _ c.loop-i-test.false (was.told tells) ∙ free_counted geometry image c.args.block frees c.requires)

@@ -1,11 +1,8 @@
-use Rattle.room_laws.proofs.ImageMends.{clean_mends, cleaned_keeps_mend, mended_has_reserve}
+use Rattle.room_laws.proofs.ImageMends.{clean_mends, mended_has_reserve}
 use Rattle.room_laws.proofs.mending.images_mend.Goals as goal
 
 pub returns-clause-clean : goal.returns-clause-clean
 returns-clause-clean c = clean_mends
-
-pub returns-clause-kept : goal.returns-clause-kept
-returns-clause-kept c = cleaned_keeps_mend
 
 pub returns-clause-stopped : goal.returns-clause-stopped
 returns-clause-stopped c = mended_has_reserve
