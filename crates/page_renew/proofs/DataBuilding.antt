@@ -10,7 +10,7 @@ use Rattle.image_laws.specs.InPlace.{slot_at}
 use Rattle.image_laws.specs.Reindex.{slot_word}
 use Rattle.image_laws.proofs.Frames.{LivePage, live_parts}
 use Rattle.image_laws.proofs.Placing.{page_byte}
-use Rattle.page_renew.specs.Built.{IsBuilt, IsLoaded, IsRenamed}
+use Rattle.page_renew.specs.Built.{IsBuilt, IsLoaded, IsNamed, IsRenamed}
 
 pub loaded_by : (g : Geometry) (image : List ℕ) (page : ℕ) (work built : List ℕ) → take g.page work ≡ page_of g image page → built ≡ take g.page work → ((k : ℕ) → slice_index built k < 256) → IsLoaded g image page work
 loaded_by g image page work built same is small = record {
@@ -36,3 +36,10 @@ renamed_by g image index span to tag n plain page rest is built whole entry othe
       others = rw cut around;
       small = λ k below. rw (get_or_append_left page rest 0 k (omega (arith, below, len))) (small k);
     }
+
+pub named_by : (g : Geometry) (span to n : ℕ) (work page rest : List ℕ) → n ≡ g.page → length (take g.page work) ≡ g.page → slot_word g page span ≡ to → SameOutside (slot_at g span) 2 (take n work) page →
+    ((k : ℕ) → slice_index page k < 256) → IsNamed g span to (take g.page work) (take g.page (page ++ rest))
+named_by g span to n work page rest whole len entry others small =
+    let around : SameOutside (slot_at g span) 2 (take g.page work) page = rw whole at others in
+    let cut : take g.page (page ++ rest) ≡ page = take_at page rest g.page (around.size ∙ len) in
+    record { entry = rw cut entry; others = rw cut around; small = λ k. rw cut (small k) }

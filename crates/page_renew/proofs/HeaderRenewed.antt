@@ -36,12 +36,15 @@ use Rattle.flash_view.specs.Steps.{Begins, Finishes}
 use Rattle.free_search.specs.Free.{IsFreeFor, FreePage}
 use Rattle.free_search.proofs.FoundPage.{free_of}
 use Rattle.free_search.proofs.Had.{page_had}
+use Rattle.free_search.proofs.HadBy.{tidy_but_is_clear}
+use Rattle.room_laws.specs.Sorts.{TellsFree}
 use Rattle.page_put.specs.Placing.{placed_page}
 use Rattle.page_put.specs.LivePages.{finished_page, killing, putting}
 use Rattle.page_put.proofs.Putting.{ready}
 use Rattle.page_renew.specs.declared.edits.Edit.{Edit}
 use Rattle.page_renew.specs.Edits.{IsEdited, HasEdited}
-use Rattle.page_renew.specs.Renewals.{CanReplace, replacing, StepCut, CanRenew, EditDone, renewing_at, CanEdit, CanEditAt, renewing_from, renewing}
+use Rattle.page_renew.specs.PageSteps.{StepCut}
+use Rattle.page_renew.specs.Renewals.{CanReplace, replacing, CanRenew, EditDone, renewing_at, CanEdit, CanEditAt, renewing_from, renewing}
 use Rattle.page_renew.proofs.Homes.{index_some, of_kind}
 use Rattle.page_renew.proofs.IndexCopies.{high_id, placed_index}
 use Rattle.page_renew.proofs.Says.{says_flags}
@@ -197,36 +200,52 @@ renew_stays g a id o to edit f can = stays g a (put_file f (table_of g a)) (tidy
 pub edit_stays : (g : Geometry) (a : List ℕ) (id : ℕ) (edit : Edit) (f : File) → CanEdit g a id edit f → StepCut g (put_file f (table_of g a)) a a
 edit_stays g a id edit f can = stays g a (put_file f (table_of g a)) (tidy-has_magics g a (λ (r : ℕ). false) ((tidy-is_tidy g a (λ (r : ℕ). false)).0 can.tidy))
 
+-- ---- pages of the id may stand beside
+
+pub at_stays : (g : Geometry) (a : List ℕ) (id o : ℕ) (edit : Edit) (f : File) → CanEditAt g a id o edit f → StepCut g (put_file f (table_of g a)) a a
+at_stays g a id o edit f can = stays g a (put_file f (table_of g a)) (tidy-has_magics g a can.beside can.tidy)
+
+-- lookup pages tell the free entries
+pub at_tells : (g : Geometry) (a : List ℕ) (id o : ℕ) (edit : Edit) (f : File) → CanEditAt g a id o edit f → TellsFree g a
+at_tells g a id o edit f can = (tidy_but_is_clear g a can.beside can.tidy (λ r e. let x = page_there (own (live_at g a) id r) (can.mine r e) in rw (own-parts (live_at g a) id r x.0 x.1).0 refl)).tells
+
 -- where an index page is had, one is found
-pub found_one : (g : Geometry) (a : List ℕ) (id : ℕ) (edit : Edit) (f : File) → CanEdit g a id edit f → FreePage g a Index 2 None None → ⊥
-found_one g a id edit f can none = let bad : false ≡ true = page_had g a None none ∙ can.had in absurd (cc)
+pub found_one : (g : Geometry) (a : List ℕ) (id o : ℕ) (edit : Edit) (f : File) → CanEditAt g a id o edit f → FreePage g a Index 2 None None → ⊥
+found_one g a id o edit f can none = let bad : false ≡ true = page_had g a None none ∙ can.had in absurd (cc)
 
 -- the header page is renewed where one was found
 pub by_place : (g : Geometry) (a : List ℕ) (id o to : ℕ) (edit : Edit) (f : File) → IsImage g a → CanEditAt g a id o edit f → IsFreeFor g a Index 2 None to → Finishes g a a (renewing_at id o to edit f) (renewing_from id o edit f)
-by_place g a id o to edit f is at found =
-    let same : at.can.o ≡ o = same_Some at.can.o o (sym at.can.at ∙ at.found) in
-    record {
-      needs = record {
-        beside = λ r. false;
-        tidy = (tidy-is_tidy g a (λ (r : ℕ). false)).0 at.can.tidy;
-        mine = λ r e. absurd (cc);
-        head = at.can.head;
-        says = rw same at at.can.says;
-        free = free_of g a Index 2 to None is found;
-        kind = found.kind_is;
-        room = found.keeps;
-      };
-      cut = λ c cut. cut;
-      done = λ c ok done. done;
-    }
+by_place g a id o to edit f is can found = record {
+  needs = record {
+    beside = can.beside;
+    tidy = can.tidy;
+    mine = can.mine;
+    head = can.head;
+    says = can.says;
+    free = free_of g a Index 2 to None is found;
+    kind = found.kind_is;
+    room = found.keeps;
+  };
+  cut = λ c cut. cut;
+  done = λ c ok done. done;
+}
 
 -- the file has a header page
 pub no_home : (g : Geometry) (a : List ℕ) (id : ℕ) (edit : Edit) (f : File) → CanEdit g a id edit f → index_page g (own (live_at g a) id) 0 ≡ None → ⊥
 no_home g a id edit f can none = none-some can.o (sym none ∙ can.at)
 
 pub from_home : (g : Geometry) (a : List ℕ) (id h : ℕ) (edit : Edit) (f : File) → CanEdit g a id edit f → {home : ℕ} → h ≡ home → index_page g (own (live_at g a) id) 0 ≡ Some home → Finishes g a a (renewing_from id h edit f) (renewing id edit f)
-from_home g a id h edit f can {home} same found = record {
-  needs = record { can = can; found = found ∙ ap (λ (n : ℕ). Some n) (sym same) };
-  cut = λ c cut. cut;
-  done = λ c ok done. done;
-}
+from_home g a id h edit f can {home} same found =
+    let at : can.o ≡ h = same_Some can.o h (sym can.at ∙ found ∙ ap (λ (n : ℕ). Some n) (sym same)) in
+    record {
+      needs = record {
+        beside = λ r. false;
+        tidy = (tidy-is_tidy g a (λ (r : ℕ). false)).0 can.tidy;
+        mine = λ r e. absurd (cc);
+        had = can.had;
+        head = can.head;
+        says = rw at at can.says;
+      };
+      cut = λ c cut. cut;
+      done = λ c ok done. done;
+    }

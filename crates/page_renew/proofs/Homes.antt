@@ -15,7 +15,7 @@ use Rattle.image_model.specs.Places.{block_of, IsImage}
 use Rattle.image_model.specs.Files.{is_index, index_page, entry_number, data_of, judged}
 use Rattle.image_model.specs.Tables.{has_of, counted}
 use Rattle.image_model.specs.Tidy.{IsTidy, is_number, serves}
-use Rattle.image_model.specs.Kinds.{is_index_page, is_data_page, is_data_block}
+use Rattle.image_model.specs.Kinds.{is_index_page, is_data_page, is_data_block, is_index_block}
 use Rattle.image_laws.specs.SoundSteps.{IsOfKind}
 use Rattle.image_laws.proofs.Damaged.{any_at}
 use Rattle.image_laws.proofs.Doubled.{index-span_is}
@@ -73,6 +73,19 @@ of_kind g image p page none index = record {
 }
 
 -- ---- a data page
+
+-- the live pages of a block without index pages are data pages
+pub of_data : (g : Geometry) (image : List ℕ) (p : ℕ) (page : List ℕ) → is_index_block g image (block_of g p) ≡ false → names_index page ≡ false → IsOfKind g (live_at g image) p page
+unfolding is_index_block
+of_data g image p page none kind = record {
+  same = λ q x is at.
+      let w = entry_of_block g q (live_parts g image q x is).entry_page in
+      let low : block_of g p * per_block g + lookups g ≤ q = rw at at w.0 in
+      let high : q < block_of g p * per_block g + lookups g + entries g = rw at at w.1 in
+      let no : is_index_page (live_at g image q) ≡ false = list_any-at (λ (r : ℕ). is_index_page (live_at g image r)) _ _ none q low high in
+      let names : names_index x ≡ false = rw is at no in
+      names ∙ sym kind;
+}
 
 data_span : (page : List ℕ) (t : ℕ) → names_index page ≡ false → is_some (data_of (Some page) t) ≡ true → span_of page ≡ t
 data_span page t kind some =

@@ -3,6 +3,7 @@ pub mod Renewed
 pub mod Homes
 pub mod IndexCopies
 pub mod SlotNames
+pub mod FreeEntries
 pub mod DataBuilding
 pub mod Says
 pub mod Edited

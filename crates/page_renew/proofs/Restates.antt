@@ -1,18 +1,15 @@
 -- What another name or other meta bytes leave of a file.
-use Rattle.std.proofs.Common.{◌≡◌, ◌≢◌, ℕ, ◌+◌, ◌*◌, ◌%◌, ◌<◌, ◌≤◌, List, Bool, true, false, min, Option, Some, Ok, refl, sym, ◌∙◌, ap, subst, arith}
+use Rattle.std.proofs.Common.{◌≡◌, ℕ, ◌+◌, ◌%◌, ◌<◌, List, true, false, min, Some, Ok, refl, sym, ◌∙◌, ap, subst, arith}
 use Rattle.std.specs.Prelude.{slice_index, slice_range, nat_lt}
 use Rattle.std.proofs.lemmas.Bool.{lt-ltb}
 use Rattle.geometry.specs.declared.geometry.Geometry.{Geometry}
-use Rattle.geometry.specs.Numbers.{head_slots}
 use Rattle.table_model.specs.Room.{data_pages}
 use Rattle.table_model.specs.Table.{File, put_file}
-use Rattle.image_model.specs.Headers.{word_at, obj_id, size_of, name_of}
+use Rattle.image_model.specs.Headers.{size_of, name_of}
 use Rattle.image_model.specs.Live.{live_at, own}
-use Rattle.image_model.specs.Files.{index_page, judged}
 use Rattle.image_model.specs.Places.{IsImage}
 use Rattle.image_model.specs.Tables.{table_of}
-use Rattle.image_model.specs.Tidy.{IsTidy}
-use Rattle.image_laws.specs.Programs.{LeadsTo, IsHead, HasOneHead}
+use Rattle.image_laws.specs.Programs.{LeadsTo, HasOneHead}
 use Rattle.image_laws.proofs.Judge.{index_passes}
 use Rattle.renew_laws.specs.Leads.{SameSpans}
 use Rattle.renew_laws.proofs.Leading.{renamed-leads}
@@ -23,8 +20,9 @@ use Rattle.flash_view.specs.Steps.{Finishes}
 use Rattle.page_renew.specs.declared.edits.Edit.{Edit}
 use Rattle.page_renew.specs.declared.edits.Edit.TheVariants.{Name, Meta}
 use Rattle.page_renew.specs.Edits.{IsEdited}
-use Rattle.page_renew.specs.Renewals.{StepCut, EditDone, CanEdit, renewing}
-use Rattle.page_renew.specs.Restated.{restates, restated, CanRestate, StepDone, restating}
+use Rattle.page_renew.specs.PageSteps.{StepDone}
+use Rattle.page_renew.specs.Renewals.{EditDone, CanEdit, renewing}
+use Rattle.page_renew.specs.Restated.{restates, restated, CanRestate, restating}
 
 below : (t n : ℕ) → t < n → nat_lt t (min n n) ≡ true
 below t n less = lt-ltb t (min n n) (omega (arith, less))

@@ -33,7 +33,7 @@ slot_behind g t =
     (cases_lt t (head_slots g))
 
 -- in a header page behind the meta bytes
-slot_far : (g : Geometry) (t : ℕ) → index_span g t ≡ 0 → 45 + g.meta ≤ slot_at g t
+pub slot_far : (g : Geometry) (t : ℕ) → index_span g t ≡ 0 → 45 + g.meta ≤ slot_at g t
 slot_far g t zero =
     ⊎_elim
     (λ (low : t < head_slots g). rw (lt-ltb t (head_slots g) low) (omega arith))
@@ -76,7 +76,7 @@ slots_apart g t u differ same =
 -- ---- the copy is named
 
 module _ (g : Geometry) (pages : Live) (id w h : ℕ) (old plain new head head0 : List ℕ) (f0 : File) (start : Reindexes g pages id w h old plain head head0 f0 f0)
-    (same : (t : ℕ) → t < data_pages g (size_of head) → now_data g pages head plain t ≡ data_page g pages head t)
+    (same : (t : ℕ) → t < data_pages g (size_of head) → slice_range (unwrap_or (now_data g pages head plain t) []) 5 g.page ≡ span_bytes g pages head t)
     (s to : ℕ) (x y : List ℕ) (at : index_span g s ≡ span_of old) (was : data_page g pages head s ≡ Some x) (is : data_of (pages to) s ≡ Some y) (body : slice_range y 5 g.page ≡ slice_range x 5 g.page)
     (entry : slot_word g new s ≡ to) (others : SameOutside (slot_at g s) 2 plain new) where
   low : 8 ≤ slot_at g s
@@ -110,15 +110,15 @@ module _ (g : Geometry) (pages : Live) (id w h : ℕ) (old plain new head head0 
   unfolding now_data
   now_here = rw (eq-eqb (index_span g s) (span_of new) (at ∙ sym start.new_span ∙ sym named_span)) (rw (entry, is) refl)
 
-  spans : (t : ℕ) → t < data_pages g (size_of head) → slice_range (unwrap_or (now_data g pages head new t) []) 5 g.page ≡ span_bytes g pages head t
-  spans t below =
+  pub named_spans : (t : ℕ) → t < data_pages g (size_of head) → slice_range (unwrap_or (now_data g pages head new t) []) 5 g.page ≡ span_bytes g pages head t
+  named_spans t below =
       ⊎_elim
       (λ (here : t ≡ s). rw here (rw (now_here, was) body))
-      (λ (there : t ≡ s → ⊥). ap (λ (o : Option (List ℕ)). slice_range (unwrap_or o []) 5 g.page) (now_other t there ∙ same t below))
+      (λ (there : t ≡ s → ⊥). ap (λ (o : Option (List ℕ)). slice_range (unwrap_or o []) 5 g.page) (now_other t there) ∙ same t below)
       (cases_eq t s)
 
   bytes_same : now_bytes g pages head new ≡ f0.bytes
-  bytes_same = copies-same g pages id head new f0 start.file spans
+  bytes_same = copies-same g pages id head new f0 start.file named_spans
 
   whole_now : (t : ℕ) → t < data_pages g (size_of head) → is_some (now_data g pages head new t) ≡ true
   whole_now t below =

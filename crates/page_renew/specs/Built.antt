@@ -35,3 +35,9 @@ pub record IsRenamed (g : Geometry) (image : List ℕ) (index span to : ℕ) (wo
   pub entry : slot_word g (take g.page work) span ≡ to
   pub others : SameOutside (slot_at g span) 2 (take g.page plain) (take g.page work)
   pub small : (k : ℕ) → k < g.page → slice_index work k < 256
+
+-- Of an index page the entry of a data span names `to` in the second, and all else is the same; that one holds bytes.
+pub record IsNamed (g : Geometry) (span to : ℕ) (was now : List ℕ) : Type 0 where
+  pub entry : slot_word g now span ≡ to
+  pub others : SameOutside (slot_at g span) 2 was now
+  pub small : (k : ℕ) → slice_index now k < 256

@@ -1,5 +1,5 @@
 -- What the renewal of a header page asks of an image, and what it leaves.
-use Rattle.std.specs.Prelude.{◌≡◌, ℕ, ◌⊎◌, List, Bool, true, false, not, ◌==◌, ◌&&◌, Option, Some, None, is_some}
+use Rattle.std.specs.Prelude.{◌≡◌, ℕ, List, Bool, true, false, not, ◌==◌, ◌&&◌, Option, Some, None, is_some}
 use Rattle.geometry.specs.declared.geometry.Geometry.{Geometry}
 use Rattle.table_model.specs.declared.error.Tag.{Tag}
 use Rattle.table_model.specs.Table.{File, put_file}
@@ -26,6 +26,7 @@ use Rattle.page_put.specs.LivePages.{IsPuttable, IsKillable, finished_page}
 use Rattle.page_renew.specs.declared.edits.Edit.{Edit}
 use Rattle.page_renew.specs.declared.finding.Found.{Found}
 use Rattle.page_renew.specs.Edits.{IsEdited}
+use Rattle.page_renew.specs.PageSteps.{StepCut}
 
 -- ---- where a file is found
 
@@ -49,12 +50,6 @@ replacing to o tag built = record {
 }
 
 -- ---- a header page that is renewed
-
--- What a page step may leave at a cut: it is sound, with the table before it or the one after it, and a reserve that was there is there.
-pub record StepCut (g : Geometry) (after : List File) (was image : List ℕ) : Type 0 where
-  pub sound : IsSound g image was
-  pub table : (table_of g image ≡ table_of g was) ⊎ (table_of g image ≡ after)
-  pub reserve : HasReserve g was → HasReserve g image
 
 -- Page o is the one header page of an id, and each page that is it with the edit done leads to file f.
 pub record CanSay (g : Geometry) (image : List ℕ) (id o : ℕ) (edit : Edit) (head : List ℕ) (f : File) : Type 0 where
@@ -103,10 +98,14 @@ pub record CanEdit (g : Geometry) (image : List ℕ) (id : ℕ) (edit : Edit) (f
   pub head : List ℕ
   pub says : CanSay g image id o edit head f
 
--- page o is found to be its header page
+-- The image is tidy but for pages of the id that were put beside, an index page is to be had, and page o is its header page.
 pub record CanEditAt (g : Geometry) (image : List ℕ) (id o : ℕ) (edit : Edit) (f : File) : Type 0 where
-  pub can : CanEdit g image id edit f
-  pub found : index_page g (own (live_at g image) id) 0 ≡ Some o
+  pub beside : ℕ → Bool
+  pub tidy : IsTidyBut g image beside
+  pub mine : (r : ℕ) → beside r ≡ true → is_some (own (live_at g image) id r) ≡ true
+  pub had : are_had g image 1 0 ≡ true
+  pub head : List ℕ
+  pub says : CanSay g image id o edit head f
 
 abbrev pub renewing_from : (id o : ℕ) → Edit → File → Step (Unit {0})
 renewing_from id o edit f = record {

@@ -4,11 +4,11 @@ use Rattle.geometry.specs.declared.geometry.Geometry.{Geometry}
 use Rattle.table_model.specs.Table.{File, file_of, put_file}
 use Rattle.image_model.specs.Collect.{are_had}
 use Rattle.image_model.specs.Tables.{table_of}
-use Rattle.image_model.specs.Tidy.{IsTidy, HasReserve}
+use Rattle.image_model.specs.Tidy.{IsTidy}
 use Rattle.flash_view.specs.Steps.{Step}
 use Rattle.page_renew.specs.declared.edits.Edit.{Edit}
 use Rattle.page_renew.specs.declared.edits.Edit.TheVariants.{Name, Meta}
-use Rattle.page_renew.specs.Renewals.{StepCut}
+use Rattle.page_renew.specs.PageSteps.{StepCut, StepDone}
 
 -- an edit of the name or of the meta bytes
 abbrev pub restates : Edit → Bool
@@ -29,12 +29,6 @@ pub record CanRestate (g : Geometry) (image : List ℕ) (id : ℕ) (edit : Edit)
   pub there : file_of id (table_of g image) ≡ Some f
   pub kind : restates edit ≡ true
   pub unused : All (λ x. x.id ≢ id → x.name ≢ (restated edit f).name) (table_of g image)
-
--- What a page step leaves, done: a tidy image with the table after it, and two free blocks where there were two.
-pub record StepDone (g : Geometry) (after : List File) (was now : List ℕ) : Type 0 where
-  pub tidy : IsTidy g now
-  pub table : table_of g now ≡ after
-  pub reserve : HasReserve g was → HasReserve g now
 
 abbrev pub restating : (id : ℕ) → Edit → File → Step (Unit {0})
 restating id edit f = record {

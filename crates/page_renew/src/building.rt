@@ -1,31 +1,24 @@
 // Building the copies of pages in the bytes for work.
-ghost use Rattle.std.specs.Prelude.{◌≡◌, ◌+◌, ◌-◌, ◌<◌, OnErr, OnOk, IfOk, true, ◌*◌};
+ghost use Rattle.std.specs.Prelude.{◌≡◌, ◌+◌, ◌-◌, ◌<◌, OnErr, OnOk, IfOk, true, ◌*◌, take};
 ghost use Rattle.geometry.specs.Numbers.{page_count};
-ghost use Rattle.table_model.specs.Room.{data_pages as the_data_pages};
 ghost use Rattle.nor_core.specs.Count.{Rose};
 ghost use Rattle.image_model.specs.Kinds.{is_index_page};
 ghost use Rattle.image_model.specs.Live.{live_at};
 ghost use Rattle.image_model.specs.Headers.{size_of};
 ghost use Rattle.image_model.specs.Places.{page_of};
 ghost use Rattle.flash_view.specs.Same.{OnlyLooks};
+ghost use Rattle.flash_view.specs.Steps.{IsRebuilt};
 ghost use Rattle.page_renew.specs.Copies.{count_of};
-ghost use Rattle.page_renew.specs.Built.{IsBuilt, IsLoaded, IsRenamed};
+ghost use Rattle.page_renew.specs.Built.{IsBuilt, IsLoaded, IsNamed, IsRenamed};
 
 use crate::copying::{copy_index, kept_slots, see_bytes};
+use crate::counts::data_pages;
 use crate::naming::name_data;
 use flash_view::View;
 use geometry::Geometry;
 use nor_core::{Failed, Nor, NorState};
 use page_layout::file_size;
 use table_model::Tag;
-
-// Data pages of a file of that size.
-pub(crate) fn data_pages(g: &Geometry, size: u32) -> u32
-    ensures { result ≡ the_data_pages g.now size }
-{
-    let body = u64::from(g.body());
-    ((u64::from(size) + body - 1) / body) as u32
-}
 
 // The size in bytes that a header page tells.
 pub(crate) fn size_at<N: Nor>(v: &mut View<'_, N>, header: u16) -> Result<u32, Failed>
@@ -105,4 +98,15 @@ pub fn build_renamed<N: Nor>(
     let work = &mut *v.work;
     name_data(&g, &mut work[..len], span, to);
     Ok(())
+}
+
+/// Names the data page of a span in the index page that is built: its entry names `to`.
+pub fn name_page<N: Nor>(v: &mut View<'_, N>, span: u16, to: u16)
+    ensures rebuilt { IsRebuilt v.old v.new }
+    ensures named { IsNamed v.old.geometry span to (take v.old.geometry.page v.old.work.now) (take v.old.geometry.page v.new.work.now) }
+{
+    let g = v.geometry;
+    let len = g.page() as usize;
+    let work = &mut *v.work;
+    name_data(&g, &mut work[..len], span, to);
 }

@@ -6,8 +6,8 @@ ghost use Rattle.page_renew.specs.Copies.{kept_of, IsCopy};
 use geometry::Geometry;
 use page_layout::{name_of, put_name};
 
-// Makes the bytes of a part 0xFF.
-fn erase_part(bytes: &mut [u8], from: usize, to: usize)
+/// Makes the bytes of a part 0xFF.
+pub fn erase_part(bytes: &mut [u8], from: usize, to: usize)
     requires order { from ≤ to }
     requires inside { to ≤ length bytes.old }
     ensures others { SameOutside from (to - from) bytes.old bytes.new }
@@ -56,8 +56,8 @@ fn slots_end(g: &Geometry, span: u16, kept: u32) -> usize
     end as usize
 }
 
-// Tells that a slice holds bytes.
-pub(crate) fn see_bytes(bytes: &[u8])
+/// Tells that a slice holds bytes.
+pub fn see_bytes(bytes: &[u8])
     ensures { (k : ℕ) → slice_index bytes.now k < 256 }
 {}
 

@@ -6,8 +6,8 @@ ghost use Rattle.page_layout.specs.Layout.{SameOutside, size_of as size_in};
 ghost use Rattle.flash_view.specs.Same.{OnlyLooks};
 ghost use Rattle.page_renew.specs.Edits.{Header, Says, edited, edited_size, IsEdited, IsEditable, HasEdited, IsNamed};
 
-use crate::building::data_pages;
 use crate::copying::{copy_index, kept_slots, see_bytes};
+use crate::counts::data_pages;
 use flash_view::View;
 use geometry::Geometry;
 use nor_core::{Failed, Nor, NorState};

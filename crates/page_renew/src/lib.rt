@@ -3,6 +3,7 @@
 
 mod building;
 mod copying;
+mod counts;
 mod edits;
 mod finding;
 mod laws;
@@ -10,10 +11,12 @@ mod naming;
 mod renewing;
 mod restating;
 
-pub use building::{build_copy, build_data, build_renamed};
+pub use building::{build_copy, build_data, build_renamed, name_page};
+pub use copying::{erase_part, see_bytes};
+pub use counts::{data_pages, index_pages};
 pub use edits::{Edit, build_edited};
-pub use finding::{Found, find_home};
+pub use finding::{Found, find_home, no_page};
 pub use laws::edits_lead;
-pub use naming::index_span;
-pub use renewing::{put_over, renew_at, renew_header};
+pub use naming::{index_span, name_data};
+pub use renewing::{put_over, renew_at, renew_from, renew_header};
 pub use restating::restate;

@@ -21,8 +21,8 @@ pub fn index_span(g: &Geometry, span: u16) -> u16
     }
 }
 
-// Names the data page of a span in the index page that has its entry.
-pub(crate) fn name_data(g: &Geometry, page: &mut [u8], span: u16, target: u16)
+/// Names the data page of a span in the index page that has its entry.
+pub fn name_data(g: &Geometry, page: &mut [u8], span: u16, target: u16)
     requires { length page.old ≡ g.now.page }
     ensures entry { slot_word g.now page.new span ≡ target }
     ensures others { SameOutside (slot_at g.now span) 2 page.old page.new }

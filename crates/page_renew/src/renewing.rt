@@ -1,5 +1,5 @@
 // Renewing a header page: the edited one is put, and the old one is killed.
-ghost use Rattle.std.specs.Prelude.{◌≢◌, ◌≤◌};
+ghost use Rattle.std.specs.Prelude.{◌≤◌};
 ghost use Rattle.flash_view.specs.Places.{IsEntryPage};
 ghost use Rattle.flash_view.specs.Steps.{Stepped, failed, stopped};
 ghost use Rattle.table_model.specs.Table.{File};
@@ -7,12 +7,12 @@ ghost use Rattle.page_renew.specs.Edits.{IsEditable};
 ghost use Rattle.page_renew.specs.Renewals.{replacing, renewing_at, renewing_from, renewing};
 
 use crate::edits::{Edit, build_edited};
-use crate::finding::{Found, find_home};
+use crate::finding::{Found, find_home, no_page};
 use flash_view::{Kind, StepErr, View};
 use free_search::free_page;
 use nor_core::{Failed, Nor, NorState};
 use page_put::{kill, put_page};
-use table_model::{Differ, Tag};
+use table_model::Tag;
 
 /// Puts the index page that was built at `to`, and kills the one that it takes the place of: six programs.
 pub fn put_over<N: Nor>(v: &mut View<'_, N>, to: u16, tag: Tag, old: u16) -> Result<(), Failed>
@@ -44,24 +44,9 @@ pub fn renew_at<N: Nor>(
     put_over(v, to, Tag { id, span: 0 }, header)
 }
 
-// That no page was found where one was wanted.
-fn missing(id: u16) -> Differ
-    ensures { result.wanted ≢ result.found }
-{
-    let wanted = Tag { id, span: 0 };
-    let found = Tag {
-        id: 0xFFFF,
-        span: 0xFFFF,
-    };
-    Differ {
-        page: 0xFFFF,
-        wanted,
-        found,
-    }
-}
-
-// Renews the header page that was found.
-fn renew_from<N: Nor>(
+/// Renews a header page where pages of its id may stand beside, in one page step: as `renew_header`, for the page that
+/// was found. The image is to be tidy but for those pages, with an index page to be had.
+pub fn renew_from<N: Nor>(
     v: &mut View<'_, N>,
     id: u16,
     header: u16,
@@ -74,7 +59,7 @@ fn renew_from<N: Nor>(
 {
     match free_page(v, Kind::Index, 2, None) {
         Err(Failed) => Err(StepErr::DeviceFault),
-        Ok(None) => Err(StepErr::Damaged(missing(id))),
+        Ok(None) => Err(StepErr::Damaged(no_page(Tag { id, span: 0 }))),
         Ok(Some(to)) => match renew_at(v, id, header, to, edit) {
             Err(Failed) => Err(StepErr::DeviceFault),
             Ok(()) => Ok(()),
@@ -92,7 +77,7 @@ pub fn renew_header<N: Nor>(v: &mut View<'_, N>, id: u16, edit: Edit<'_>) -> Res
 {
     match find_home(v, id) {
         Err(Failed) => Err(StepErr::DeviceFault),
-        Ok(None) => Err(StepErr::Damaged(missing(id))),
+        Ok(None) => Err(StepErr::Damaged(no_page(Tag { id, span: 0 }))),
         Ok(Some(Found { header, .. })) => renew_from(v, id, header, edit),
     }
 }

@@ -13,6 +13,6 @@ pub returns-clause-told : goal.returns-clause-told
 returns-clause-told g c = λ tells.
     let first = c.in_ok-header.ensures in
     let both = looks_then first.looks c.in_ok-size.ensures.looks in
-    c.data_pages.ensures ∙ ap (λ (x : Geometry). data_pages x c.in_ok-size.size) both.same.geometry
+    c.data_pages.ensures.pages ∙ ap (λ (x : Geometry). data_pages x c.in_ok-size.size) both.same.geometry
     ∙ count_some c.args.v.now.geometry (g.N.NorState.bytes c.args.v.now.nor.now) c.args.id c.in-Some.header c.in_ok-size.size (sym c.in-Some.is ∙ first.told tells)
     (rw (first.looks.same.geometry, first.looks.reads.bytes) at (c.in_ok-size.ensures.told (first.looks.reads.told tells)))
