@@ -1,17 +1,38 @@
--- What cleaning a block of either kind leaves, over plain images.
-use Rattle.std.proofs.Common.{◌≡◌, ℕ, ◌<◌, List, Bool, true, false, refl, sym, ◌∙◌, arith}
-use Rattle.std.proofs.lemmas.Bool.{false_from_ne_true}
+-- Cleaning a block, over plain images.
+use Rattle.std.proofs.Common.{◌≡◌, ℕ, ◌+◌, ◌*◌, ◌<◌, ◌≤◌, ◌⊎◌, ⊎_elim, List, true, false, Some, None, refl, sym, ◌∙◌, ap, subst, arith}
+use Rattle.std.specs.Prelude.{Option, max, length}
+use Rattle.std.proofs.Math.Path.{fun_ext}
+use Rattle.std.proofs.lemmas.Bool.{cases_lt, false_from_ne_true}
 use Rattle.geometry.specs.declared.geometry.Geometry.{Geometry}
+use Rattle.image_model.specs.Volume.{per_block, lookups, entries, page_count}
+use Rattle.image_model.specs.Within.{page_number, entry_in}
+use Rattle.image_model.specs.Live.{Live, live_at, own}
+use Rattle.image_model.specs.Places.{IsImage, block_of, next_count, has_magic}
 use Rattle.image_model.specs.Tidy.{IsTidy, is_free_block}
-use Rattle.image_model.specs.Kinds.{is_data_block}
-use Rattle.image_model.specs.Collect.{data_in, is_worth}
+use Rattle.image_model.specs.Collect.{deleted_in, free_in, is_worth}
+use Rattle.image_laws.proofs.Frames.{live_parts, table_of-same}
+use Rattle.image_laws.proofs.Matching.{filter-none_in}
+use Rattle.image_laws.proofs.Sounding.{keeps-on}
+use Rattle.renew_laws.proofs.TailSteps.{tail-stays}
+use Rattle.flash_view.specs.Steps.{Begins, Finishes, acting}
+use Rattle.free_search.specs.declared.blocks.BlockCounts.{BlockCounts}
+use Rattle.free_search.specs.Counts.{AreCounts}
+use Rattle.free_search.proofs.FreePages.{free_counted}
+use Rattle.room_laws.specs.Sorts.{Sort, Index, Data, Deleted, Free, same_sort, sort_at, counts_by}
+use Rattle.room_laws.specs.Recovery.{IsBetween, IsEmptied, MayCut, Recovers, batch_most}
 use Rattle.room_laws.proofs.Blocks.{told}
-use Rattle.room_laws.proofs.Cleans.{free_told, index_is_cleaned, data_is_cleaned}
-use Rattle.free_search.proofs.FreePages.{data_none, data_some}
-use Rattle.block_gc.proofs.Freshened.{deleted_stays}
-use Rattle.block_gc.proofs.Replacing.{tidy_keeps}
-use Rattle.block_gc.specs.Emptied.{CanCleanIndex, CleanCut, CleanedIndex}
-use Rattle.block_gc.specs.Cleanings.{CanCleanData, CleanDataCut, CleanedData, CanCleanBlock, CleanBlockCut, CleanedBlock}
+use Rattle.room_laws.proofs.Carried.{begins_between, fits_has_places}
+use Rattle.room_laws.proofs.CleanedImages.{emptied_has_cleaned}
+use Rattle.room_laws.proofs.Blocks.{free_told}
+use Rattle.room_laws.proofs.FreshMends.{fresh_way_mends}
+use Rattle.room_laws.proofs.Recovering.{still_mends}
+use Rattle.room_laws.proofs.Resolved.{dead_sort}
+use Rattle.room_laws.proofs.Sorted.{tidy_tells_free}
+use Rattle.page_put.specs.Fresh.{Freshens, IsFresh}
+use Rattle.block_gc.specs.Turns.{CanEmpty, Emptied, emptying}
+use Rattle.block_gc.specs.Cleanings.{CanCleanBlock, CleanCut, CleanedBlock, cleaning_block}
+use Rattle.block_gc.proofs.Freshened.{fresh_keeps, fresh_live, fresh_tidy}
+use Rattle.block_gc.proofs.IndexOut.{still, turn_stays}
 
 -- a free block isn't worth cleaning
 pub worth_used : (g : Geometry) (a : List ℕ) (block : ℕ) → IsTidy g a → block < g.blocks → is_worth g a block ≡ true → is_free_block g a block ≡ false
@@ -20,51 +41,78 @@ worth_used g a block t low worth = false_from_ne_true _ (λ free.
     let none = free_told g a block (told g a t block low) free in
     let bad : false ≡ true = rw (none.1, free) at worth in absurd (cc))
 
-pub block_stays : (g : Geometry) (a : List ℕ) (block : ℕ) → CanCleanBlock g a block → CleanBlockCut g block a a
-block_stays g a block can = record { keeps = tidy_keeps g a can.tidy; free = omega arith; plain = λ e. omega arith }
+-- ---- before a page is moved
 
-module _ (g : Geometry) (a : List ℕ) (block : ℕ) (can : CanCleanBlock g a block) where
-  -- ---- a block without live data pages
+can_empty : (g : Geometry) (a : List ℕ) (block : ℕ) → block < g.blocks → CanCleanBlock g a block → CanEmpty g a block
+can_empty g a block low can = record { tidy = can.tidy; places = fits_has_places g a block can.tidy low can.fits }
 
-  pub index_can : data_in g a block ≡ 0 → CanCleanIndex g a block
-  index_can none = record {
-    tidy = can.tidy;
-    plain = false_from_ne_true _ (λ holds. let some = data_some g a block holds in absurd (omega (arith, some, none)));
-    fits = can.fits;
-  }
+-- the longest batch is as long as it may be at most
+pub longest : (g : Geometry) (a : List ℕ) (block most : ℕ) (c : BlockCounts) → IsTidy g a → block < g.blocks → AreCounts g a block c → most ≡ max 1 (c.deleted + c.free) → most ≤ batch_most g a block
+longest g a block most c t low counts is =
+    let deleted : c.deleted ≡ deleted_in g a block = counts.deleted in
+    let free : c.free ≡ free_in g a block = counts.free ∙ free_counted g a block (tidy_tells_free g a t) low in
+    omega (arith, is, deleted, free)
 
-  pub index_cut : data_in g a block ≡ 0 → (x : List ℕ) → CleanCut g a x → CleanBlockCut g block a x
-  index_cut none x cut = let one = cut.free in record { keeps = cut.keeps; free = omega (arith, one); plain = λ e. one }
+pub clean_stays : (g : Geometry) (a : List ℕ) (block : ℕ) → IsImage g a → block < g.blocks → CanCleanBlock g a block → CleanCut g block a a
+clean_stays g a block is low can =
+    let stays = turn_stays g a block 0 is (can_empty g a block low can) in
+    record { keeps = stays.keeps; mends = λ may. stays.mends a may (omega arith) (begins_between g a block is can.tidy low) }
 
-  pub index_done : data_in g a block ≡ 0 → block < g.blocks → (b : List ℕ) → CleanedIndex g block a b → CleanedBlock g block a b
-  index_done none low b done = record {
-    image = done.image;
-    deleted = let same = deleted_stays g block a b done.beside.deleted in omega (arith, same);
-    cleaned = index_is_cleaned g a b block can.tidy low (index_can none).plain (record {
-      tidy = done.tidy;
-      table = done.table;
-      free = done.free;
-      deleted = done.beside.deleted;
-      pages = done.beside.pages;
-      taken = done.taken can.used;
-    });
-    count = done.count;
-  }
+pub empties : (g : Geometry) (a : List ℕ) (block most : ℕ) → IsImage g a → block < g.blocks → most ≤ batch_most g a block → CanCleanBlock g a block → Begins g a (emptying block most) (cleaning_block block)
+empties g a block most is low few can = record {
+  needs = can_empty g a block low can;
+  cut = λ c cut. record { keeps = cut.keeps; mends = λ may. cut.mends a may few (begins_between g a block is can.tidy low) };
+}
 
-  -- ---- a block with one
+-- ---- the emptied block is made fresh
 
-  pub holds : 0 < data_in g a block → is_data_block g a block ≡ true
-  holds some = go (is_data_block g a block) refl
+not_same : (sort other : Sort) → same_sort Deleted other ≡ false → same_sort Free other ≡ false → (sort ≡ Deleted) ⊎ (sort ≡ Free) → same_sort sort other ≡ false
+not_same sort other x y is = ⊎_elim (λ (d : sort ≡ Deleted). ap (λ (s : Sort). same_sort s other) d ∙ x) (λ (f : sort ≡ Free). ap (λ (s : Sort). same_sort s other) f ∙ y) is
+
+-- where no page of a block is live it counts none
+is_emptied : (g : Geometry) (b : List ℕ) (block : ℕ) → block < g.blocks → ((q : ℕ) → block_of g q ≡ block → live_at g b q ≡ None) → IsEmptied g (sort_at g b) block
+unfolding counts_by
+is_emptied g b block low dead = record {
+  index = filter-none_in (λ p. same_sort (sort_at g b p) Index) (block * per_block g + lookups g) (entries g) (λ q from to. not_same (sort_at g b q) Index refl refl (dead_sort g b q (dead q (entry_in g block q low from to).0)));
+  pages = filter-none_in (λ p. same_sort (sort_at g b p) Data) (block * per_block g + lookups g) (entries g) (λ q from to. not_same (sort_at g b q) Data refl refl (dead_sort g b q (dead q (entry_in g block q low from to).0)));
+}
+
+module _ (g : Geometry) (a b : List ℕ) (block count : ℕ) (is_a : IsImage g a) (is_b : IsImage g b) (low : block < g.blocks) (next : count ≡ next_count g a) (can : CanCleanBlock g a block) (empty : Emptied g block (page_count g) a b) where
+  dead : (q : ℕ) → block_of g q ≡ block → live_at g b q ≡ None
+  dead q here = ⊎_elim (λ (below : q < page_count g). empty.gone q here below) (λ (high : page_count g ≤ q). none (live_at g b q) refl high) (cases_lt q (page_count g))
     where
-      go : (b : Bool) → is_data_block g a block ≡ b → is_data_block g a block ≡ true
-      go true e = e
-      go false e = let none = data_none g a block e in absurd (omega (arith, some, none))
+      none : (o : Option (List ℕ)) → live_at g b q ≡ o → page_count g ≤ q → live_at g b q ≡ None
+      none None e high = e
+      none (Some x) e high = let below = page_number g q (live_parts g b q x e).entry_page in absurd (omega (arith, below, high))
 
-  pub data_can : 0 < data_in g a block → CanCleanData g a block
-  data_can some = record { tidy = can.tidy; holds = holds some; fits = can.fits }
+  between : IsBetween g a block b
+  between = empty.between a (begins_between g a block is_a can.tidy low)
 
-  pub data_cut : 0 < data_in g a block → (x : List ℕ) → CleanDataCut g a x → CleanBlockCut g block a x
-  data_cut some x cut = record { keeps = cut.keeps; free = cut.free; plain = λ e. let bad : true ≡ false = sym (holds some) ∙ e in absurd (cc) }
+  emptied : IsEmptied g (sort_at g b) block
+  emptied = is_emptied g b block low dead
 
-  pub data_done : 0 < data_in g a block → block < g.blocks → (b : List ℕ) → CleanedData g block a b → CleanedBlock g block a b
-  data_done some low b done = record { image = done.image; deleted = done.deleted; cleaned = data_is_cleaned g a b block can.tidy low (holds some) done.cleans; count = done.count }
+  -- a change inside the block leaves an image
+  image_of : (x : List ℕ) → length x ≡ length b → IsImage g x
+  image_of x size = record { len = let whole = is_b.len in omega (arith, size, whole) }
+
+  fresh_mends : (x : List ℕ) → Freshens g block b x → MayCut g a block → Recovers g x
+  fresh_mends x cut may = ⊎_elim
+      (λ (same : x ≡ b). subst (λ (l : List ℕ). Recovers g l) (sym same) (still_mends g a b b block may between (still g b is_b)))
+      (λ (state : (has_magic g x block ≡ false) ⊎ (is_free_block g x block ≡ true)).
+      fresh_way_mends g a b x block may between emptied (image_of x cut.outside.size) (fresh_keeps g block b empty.can.tidy dead is_b x cut).table cut.outside state)
+      cut.state
+
+  cleaned : (c : List ℕ) → IsFresh g block count b c → CleanedBlock g block a c
+  cleaned c fresh = record {
+    cleaned = emptied_has_cleaned g a b c block low is_a can.tidy between emptied (image_of c fresh.outside.size) (fresh_tidy g block b empty.can.tidy dead count c fresh)
+        (table_of-same g c b (fresh_live g block b empty.can.tidy dead count c fresh)) fresh.outside fresh.free;
+    count = fresh.count ∙ next;
+    tails = λ id ready. tail-stays g b c id (ap (λ (live : Live). own live id) (fun_ext (fresh_live g block b empty.can.tidy dead count c fresh))) (empty.tails id ready);
+  }
+
+  pub freshens : Finishes g a b (acting (λ h. Freshens h block) (λ h. IsFresh h block count)) (cleaning_block block)
+  freshens = record {
+    needs = tt;
+    cut = λ c cut. record { keeps = keeps-on g a b c empty.keeps (fresh_keeps g block b empty.can.tidy dead is_b c cut); mends = fresh_mends c cut };
+    done = λ c ok fresh. cleaned c fresh;
+  }

@@ -1,6 +1,7 @@
 -- Cleaning block after block, over plain images.
 use Rattle.std.proofs.Common.{◌≡◌, ℕ, ◌+◌, ◌-◌, ◌<◌, ◌^◌, List, [], ◌∷◌, ◌++◌, map, Bool, true, false, Some, None, Result, refl, sym, ◌∙◌, subst, arith}
 use Rattle.std.specs.List.{Contains}
+use Rattle.std.proofs.lemmas.Bool.{le-leb}
 use Rattle.geometry.specs.declared.geometry.Geometry.{Geometry}
 use Rattle.nor_core.specs.declared.state.NorState.{Ghosts as NorOf}
 use Rattle.nor_core.specs.Device.{OnlyReads}
@@ -11,7 +12,8 @@ use Rattle.image_model.specs.Live.{live_at}
 use Rattle.image_model.specs.Places.{IsImage}
 use Rattle.image_model.specs.Tables.{table_of}
 use Rattle.image_model.specs.Tidy.{IsTidy, HasReserve}
-use Rattle.image_model.specs.Collect.{chosen_block, is_stuck, Swept}
+use Rattle.image_model.specs.Volume.{entries}
+use Rattle.image_model.specs.Collect.{chosen_block, is_stuck, Swept, are_had, free_where, takes_index, takes_data}
 use Rattle.image_model.specs.Sound.{Keeps}
 use Rattle.image_laws.proofs.BlockCounts.{blocks-split}
 use Rattle.renew_laws.proofs.OneIdTidy.{mixed-none}
@@ -20,13 +22,20 @@ use Rattle.image_laws.proofs.SpareKill.{tidy-has_magics}
 use Rattle.image_laws.proofs.TidySteps.{tidy-is_tidy}
 use Rattle.flash_view.specs.Steps.{Step, Errors, Stepped, Begins, Finishes}
 use Rattle.room_laws.specs.Stopping.{CanClean, HasRoomFor}
+use Rattle.room_laws.specs.Mends.{CanMend}
 use Rattle.room_laws.proofs.Chosen.{chosen_is_candidate}
-use Rattle.room_laws.proofs.Stops.{reserve_can_clean, cleaned_can_clean, cleaned_is_lower, measure_is_small, stopped_has_reserve, stopped_has_pages, never_stuck, no_worth_is_packed, unstuck_has_no_worth}
+use Rattle.room_laws.proofs.CleanedImages.{has_cleaned_can_clean, has_cleaned_is_lower, has_cleaned_mends, has_cleaned_is_swept}
+use Rattle.room_laws.proofs.ImageMends.{clean_mends, mended_has_reserve}
+use Rattle.room_laws.proofs.Recovering.{mended_recovers, chosen_may_cut}
+use Rattle.room_laws.proofs.Totals.{ceil-le}
+use Rattle.free_search.proofs.FreePages.{some_entries}
+use Rattle.room_laws.proofs.Stops.{reserve_can_clean, measure_is_small, stopped_has_reserve, stopped_has_pages, never_stuck, no_worth_is_packed, unstuck_has_no_worth}
 use Rattle.block_gc.specs.declared.room.Goal.{Goal}
 use Rattle.block_gc.specs.declared.room.Goal.TheVariants.{Pages, Packed}
 use Rattle.block_gc.specs.Cleanings.{CanCleanBlock, CleanedBlock, cleaning_block}
 use Rattle.block_gc.proofs.CleanedBlocks.{worth_used}
-use Rattle.block_gc.specs.RoomMade.{SweptAlong, SweptTo, Cleanings, MadeRoom, IsTight, IsCompact, IsStuck, IsMet, StopsAt, Collected, PackedOrStuck, cleaning_chosen, collecting, packing}
+use Rattle.block_gc.proofs.Replacing.{tidy_keeps}
+use Rattle.block_gc.specs.RoomMade.{CollectCut, SweptAlong, SweptTo, Cleanings, MadeRoom, IsTight, IsCompact, IsStuck, IsMet, StopsAt, Collected, PackedOrStuck, cleaning_chosen, collecting, packing}
 
 -- ---- swept steps
 
@@ -51,17 +60,25 @@ swept_on g a b c first second = record { through = second.through ++ first.throu
 pub chosen_can : (g : Geometry) (a : List ℕ) (block : ℕ) → IsTidy g a → chosen_block g a ≡ Some block → CanCleanBlock g a block
 chosen_can g a block t chosen = let is = chosen_is_candidate g a block chosen in record { tidy = t; used = worth_used g a block t is.within is.worth; fits = is.fits }
 
-pub one_cleaned : (g : Geometry) (a b : List ℕ) (block : ℕ) → IsImage g a → IsTidy g a → chosen_block g a ≡ Some block → CleanedBlock g block a b → Cleanings g 1 a b
-one_cleaned g a b block is t chosen done = record {
-  image = done.image;
-  tidy = done.cleaned.after;
-  table = done.cleaned.table;
-  swept = swept_once g a b (record { block = block; chosen = chosen; tidy_before = t; tidy_after = done.cleaned.after; table = done.cleaned.table; free = done.cleaned.free; deleted = done.deleted });
-  lower = let less = cleaned_is_lower g a b block is done.image done.cleaned (chosen_is_candidate g a block chosen).worth in omega (arith, less);
-  again = λ before. cleaned_can_clean g a b block before done.image done.cleaned;
-}
+pub one_cleaned : (g : Geometry) (a b : List ℕ) (block : ℕ) → chosen_block g a ≡ Some block → CleanedBlock g block a b → Cleanings g 1 a b
+one_cleaned g a b block chosen done =
+    let cleaned = done.cleaned in
+    record {
+      image = cleaned.image_is;
+      tidy = cleaned.after;
+      table = cleaned.table;
+      swept = swept_once g a b (has_cleaned_is_swept g a b block chosen cleaned);
+      lower = let less = has_cleaned_is_lower g a b block cleaned (chosen_is_candidate g a block chosen).worth in omega (arith, less);
+      again = λ can. has_cleaned_can_clean g a b block can cleaned;
+      mend = λ can. has_cleaned_mends g a b block can cleaned;
+      tails = done.tails;
+    }
 
--- ---- one after others
+-- ---- cuts
+
+-- where nothing was programmed
+pub none_cut : (g : Geometry) (a : List ℕ) → IsTidy g a → CollectCut g a a
+none_cut g a t = record { keeps = tidy_keeps g a t; mends = λ can. mended_recovers g a (clean_mends g a can) }
 
 -- a tidy image keeps a tidy one with its table
 both_keep : (g : Geometry) (a b : List ℕ) → IsTidy g a → IsTidy g b → table_of g b ≡ table_of g a → Keeps g a b
@@ -74,8 +91,14 @@ both_keep g a b t now table = record {
   table = table;
 }
 
+-- in a cleaning after others
+later_cut : (g : Geometry) (n : ℕ) (a b c : List ℕ) → IsTidy g a → Cleanings g n a b → CollectCut g b c → CollectCut g a c
+later_cut g n a b c t before cut = record { keeps = keeps-on g a b c (both_keep g a b t before.tidy before.table) cut.keeps; mends = λ can. cut.mends (before.again can) }
+
+-- ---- one after others
+
 pub cleanings_none : (g : Geometry) (a : List ℕ) → IsImage g a → IsTidy g a → Cleanings g 0 a a
-cleanings_none g a is t = record { image = is; tidy = t; table = refl; swept = swept_none g a; lower = omega arith; again = λ can. can }
+cleanings_none g a is t = record { image = is; tidy = t; table = refl; swept = swept_none g a; lower = omega arith; again = λ can. can; mend = λ can. can; tails = λ id ready. ready }
 
 pub cleanings_on : (g : Geometry) (n : ℕ) (a b c : List ℕ) → Cleanings g n a b → Cleanings g 1 b c → Cleanings g (n + 1) a c
 cleanings_on g n a b c first second = record {
@@ -85,6 +108,8 @@ cleanings_on g n a b c first second = record {
   swept = swept_on g a b c first.swept second.swept;
   lower = let p = first.lower in let q = second.lower in omega (arith, p, q);
   again = λ can. second.again (first.again can);
+  mend = λ can. second.mend (first.mend can);
+  tails = λ id ready. second.tails id (first.tails id ready);
 }
 
 -- they come to an end
@@ -98,7 +123,7 @@ pub keeps_reserve : (g : Geometry) (n : ℕ) (a b : List ℕ) → IsImage g a �
 keeps_reserve g n a b is t all none reserve = stopped_has_reserve g b (all.again (reserve_can_clean g a is t reserve)) none
 
 pub made_room : (g : Geometry) (i d : ℕ) (a b : List ℕ) → Collected g (Pages i d) true a b → MadeRoom g i d a b
-made_room g i d a b all = record { tidy = all.cleanings.tidy; table = all.cleanings.table; swept = all.cleanings.swept; ready = all.stops }
+made_room g i d a b all = record { tidy = all.cleanings.tidy; table = all.cleanings.table; swept = all.cleanings.swept; ready = all.stops; tails = all.cleanings.tails }
 
 pub is_tight : (g : Geometry) (i d : ℕ) (a b : List ℕ) → IsImage g a → IsTidy g a → Collected g (Pages i d) false a b → IsTight g i d a b
 is_tight g i d a b is t all = record {
@@ -109,6 +134,7 @@ is_tight g i d a b is t all = record {
   short = all.stops.1;
   again = all.cleanings.again;
   reserve = keeps_reserve g all.n a b is t all.cleanings all.stops.0;
+  tails = all.cleanings.tails;
 }
 
 pub never_tight : (g : Geometry) (i d : ℕ) (a b : List ℕ) → CanClean g a → HasRoomFor g a i d → Collected g (Pages i d) false a b → ⊥
@@ -116,6 +142,19 @@ never_tight g i d a b can room all =
     let here = all.cleanings.again can in
     let there : HasRoomFor g b i d = rw all.cleanings.table room in
     all.stops.1 (record { had = stopped_has_pages g b i d here there all.stops.0; reserve = stopped_has_reserve g b here all.stops.0 })
+
+-- no page is wanted, and none is too few
+none_had : (g : Geometry) (a : List ℕ) → are_had g a 0 0 ≡ true
+unfolding are_had
+none_had g a =
+    let index = ceil-le (0 - free_where g a (takes_index g a)) (entries g) 0 (some_entries g) (omega arith) in
+    let pages = ceil-le (0 - free_where g a (takes_data g a)) (entries g) 0 (some_entries g) (omega arith) in
+    le-leb _ _ (omega (arith, index, pages))
+
+-- an image that mends is cleaned until two blocks are free
+pub mended : (g : Geometry) (i d : ℕ) (a b : List ℕ) → CanMend g a → i ≡ 0 → d ≡ 0 → Collected g (Pages i d) false a b → ⊥
+mended g i d a b can no_index no_pages all =
+    all.stops.1 (record { had = rw (no_index, no_pages) (none_had g b); reserve = mended_has_reserve g b (all.cleanings.mend can) all.stops.0 })
 
 -- packing stops where no block is chosen
 pub packing_stops : (g : Geometry) (met : Bool) (a : List ℕ) → StopsAt g Packed met a → chosen_block g a ≡ None
@@ -140,6 +179,7 @@ module _ (g : Geometry) (met : Bool) (a b : List ℕ) (is : IsImage g a) (t : Is
         free = let all' = (blocks-split g b now).0 in let index = packed.index in let pages = packed.pages in omega (arith, all', index, pages);
         unstuck = free;
         reserve = keeps_reserve g all.n a b is t all.cleanings stopped;
+        tails = all.cleanings.tails;
       }
 
   pub is_stuck_there : is_stuck g b ≡ true → IsStuck g a b
@@ -151,6 +191,7 @@ module _ (g : Geometry) (met : Bool) (a b : List ℕ) (is : IsImage g a) (t : Is
     stuck = stuck;
     again = all.cleanings.again;
     reserve = keeps_reserve g all.n a b is t all.cleanings stopped;
+    tails = all.cleanings.tails;
   }
 
 pub never_stuck_there : (g : Geometry) (a b : List ℕ) → CanClean g a → IsStuck g a b → ⊥
@@ -160,31 +201,31 @@ never_stuck_there g a b can stuck = let bad : true ≡ false = sym stuck.stuck �
 
 -- the first n cleanings, and the turn at which collection stops
 abbrev pub collecting_to : ℕ → Step (Unit {0})
-collecting_to n = record { needs = IsTidy; cut = Keeps; done = λ g was now ok. Cleanings g n was now }
+collecting_to n = record { needs = IsTidy; cut = CollectCut; done = λ g was now ok. Cleanings g n was now }
 
 abbrev pub stopping : Goal → Step Bool
-stopping goal = record { needs = IsTidy; cut = Keeps; done = λ g was now met. (now ≡ was) × StopsAt g goal met was }
+stopping goal = record { needs = IsTidy; cut = CollectCut; done = λ g was now met. (now ≡ was) × StopsAt g goal met was }
 
 pub cleans_chosen : (g : Geometry) (a : List ℕ) (block : ℕ) → chosen_block g a ≡ Some block → IsTidy g a → Begins g a (cleaning_block block) cleaning_chosen
-cleans_chosen g a block chosen t = record { needs = chosen_can g a block t chosen; cut = λ c cut. cut.keeps }
+cleans_chosen g a block chosen t = record { needs = chosen_can g a block t chosen; cut = λ c cut. record { keeps = cut.keeps; mends = λ can. cut.mends (chosen_may_cut g a block can chosen) } }
 
 -- a turn after n cleanings
-pub turn_begins : (g : Geometry) (n : ℕ) (a : List ℕ) {T : Type 0} (whole : Step T) → ((c : List ℕ) → Keeps g a c → whole.cut g a c) → IsTidy g a → Begins g a (collecting_to n) whole
+pub turn_begins : (g : Geometry) (n : ℕ) (a : List ℕ) {T : Type 0} (whole : Step T) → ((c : List ℕ) → CollectCut g a c → whole.cut g a c) → IsTidy g a → Begins g a (collecting_to n) whole
 turn_begins g n a whole wide t = record { needs = t; cut = wide }
 
 pub turn_goes : (g : Geometry) (n : ℕ) (a b : List ℕ) → IsTidy g a → Cleanings g n a b → Finishes g a b (collecting_to 1) (collecting_to (n + 1))
-turn_goes g n a b t before = record { needs = before.tidy; cut = λ c cut. keeps-on g a b c (both_keep g a b t before.tidy before.table) cut; done = λ c ok one. cleanings_on g n a b c before one }
+turn_goes g n a b t before = record { needs = before.tidy; cut = λ c cut. later_cut g n a b c t before cut; done = λ c ok one. cleanings_on g n a b c before one }
 
 pub turn_stops : (g : Geometry) (goal : Goal) (n : ℕ) (a b : List ℕ) → IsTidy g a → Cleanings g n a b → Finishes g a b (stopping goal) (collecting goal)
 turn_stops g goal n a b t before = record {
   needs = before.tidy;
-  cut = λ c cut. keeps-on g a b c (both_keep g a b t before.tidy before.table) cut;
+  cut = λ c cut. later_cut g n a b c t before cut;
   done = λ c met stops. record { n = n; cleanings = rw stops.0 before; stops = rw stops.0 stops.1 };
 }
 
 -- whether collection is stuck, after it
 abbrev pub telling : Step Bool
-telling = record { needs = IsTidy; cut = Keeps; done = λ g was now stuck. (now ≡ was) × (stuck ≡ is_stuck g was) }
+telling = record { needs = IsTidy; cut = CollectCut; done = λ g was now stuck. (now ≡ was) × (stuck ≡ is_stuck g was) }
 
 pub packing_begins : (g : Geometry) (a : List ℕ) → IsTidy g a → Begins g a (collecting Packed) packing
 packing_begins g a t = record { needs = t; cut = λ c cut. cut }
@@ -192,7 +233,7 @@ packing_begins g a t = record { needs = t; cut = λ c cut. cut }
 pub packing_ends : (g : Geometry) (met : Bool) (a b : List ℕ) → IsImage g a → IsTidy g a → Collected g Packed met a b → Finishes g a b telling packing
 packing_ends g met a b is t all = record {
   needs = all.cleanings.tidy;
-  cut = λ c cut. keeps-on g a b c (both_keep g a b t all.cleanings.tidy all.cleanings.table) cut;
+  cut = λ c cut. later_cut g all.n a b c t all.cleanings cut;
   done = λ c stuck told. rw told.0 (by_stuck stuck told.1);
 }
   where

@@ -19,9 +19,9 @@ use Rattle.image_laws.proofs.Frames.{LivePage, live_parts}
 use Rattle.image_laws.proofs.Judge.{index_passes}
 use Rattle.image_laws.proofs.Reindexed.{entry-slot}
 use Rattle.image_laws.proofs.Tally.{is_finished-ones, served}
-use Rattle.block_gc.specs.DataMoves.{IsNamedBy}
+use Rattle.block_gc.specs.Batches.{IsNamedBy}
 use Rattle.page_renew.proofs.IndexCopies.{high_id}
-use Rattle.block_gc.proofs.DataCopies.{some_data}
+use Rattle.block_gc.proofs.BatchCopies.{some_data}
 use Rattle.page_renew.proofs.Homes.{serves_data, own_of, index_some, Home, home_of}
 
 live_data : (o : Option (List ℕ)) → is_data_page o ≡ true → (x : List ℕ) × (o ≡ Some x)

@@ -16,13 +16,9 @@ use Rattle.flash_view.specs.Steps.{Begins, Finishes}
 use Rattle.page_put.specs.LivePages.{finished_page, killing, putting}
 use Rattle.page_renew.specs.Built.{IsBuilt}
 use Rattle.page_renew.proofs.IndexCopies.{high_id}
-use Rattle.block_gc.specs.Moves.{CanMove, MoveCut, moving}
+use Rattle.block_gc.specs.Moves.{CanMove, moving}
 use Rattle.block_gc.proofs.MovedIndexes.{moved_ready, move_left, moved_done}
-use Rattle.block_gc.proofs.Replacing.{tidy_keeps, flags_stay, not_put, still_live}
-
--- where nothing was programmed
-pub none_cut : (g : Geometry) (a : List ℕ) (o p : ℕ) → CanMove g a o p → MoveCut g p a a
-none_cut g a o p can = record { keeps = tidy_keeps g a can.tidy; free = omega arith; used = λ used. omega arith }
+use Rattle.block_gc.proofs.Replacing.{flags_stay, not_put, still_live}
 
 -- the id of a copy is that of a file
 pub id_range : (g : Geometry) (a : List ℕ) (o : ℕ) (tag : Tag) (work : List ℕ) → IsBuilt g a o tag work → (1 ≤ tag.id) × (tag.id ≤ 0x7FFE)

@@ -1,7 +1,9 @@
 -- Moving an index page, from what the put of its copy and its kill leave.
-use Rattle.std.proofs.Common.{◌≡◌, ℕ, ◌%◌, ◌≤◌, List, length, take, set, false, ◌&&◌, Some, ap, refl, sym, ◌∙◌, arith, inl}
+use Rattle.std.proofs.Common.{◌≡◌, ℕ, ◌%◌, ◌<◌, ◌≤◌, Option, List, [], ◌∷◌, length, take, set, slice_range, false, ◌&&◌, Some, ap, refl, sym, ◌∙◌, arith, ⊎_elim, inl, subst}
+use Rattle.std.specs.Prelude.{unwrap_or}
 use Rattle.std.proofs.lemmas.List.{get_or-take}
 use Rattle.geometry.specs.declared.geometry.Geometry.{Geometry}
+use Rattle.geometry.specs.Numbers.{head_slots}
 use Rattle.table_model.specs.declared.error.Tag.{Tag}
 use Rattle.table_model.specs.Room.{data_pages}
 use Rattle.flash_view.specs.declared.kinds.Kind.TheVariants.{Index}
@@ -9,27 +11,51 @@ use Rattle.image_model.specs.Within.{page_length}
 use Rattle.image_model.specs.Headers.{obj_id, span_of, size_of}
 use Rattle.image_model.specs.Live.{live_at, own}
 use Rattle.image_model.specs.Places.{IsImage}
-use Rattle.image_model.specs.Files.{index_page}
+use Rattle.image_model.specs.Files.{index_page, span_bytes}
+use Rattle.image_laws.specs.LiveSteps.{PutLeaves, PutDone, KillLeaves}
 use Rattle.image_laws.specs.Put.{IsReadyPage}
-use Rattle.image_laws.specs.Reindex.{Reindexes}
+use Rattle.image_laws.specs.Reindex.{Reindexes, index_span, slot_word, now_data}
 use Rattle.image_laws.specs.Spares.{leftover}
 use Rattle.image_laws.proofs.Frames.{live_parts}
 use Rattle.image_laws.proofs.SpareKill.{tidy-has_magics}
 use Rattle.image_laws.proofs.TidySteps.{tidy-is_tidy}
 use Rattle.renew_laws.specs.Recopy.{RecopiesTo}
 use Rattle.renew_laws.specs.Replace.{ReplaceCut, Replaced}
+use Rattle.renew_laws.specs.Tails.{KeepsTails}
 use Rattle.renew_laws.proofs.IdleKill.{idles-end}
 use Rattle.renew_laws.proofs.RecopyCuts.{recopy-cuts}
 use Rattle.renew_laws.proofs.RecopyLeaves.{recopy-spares}
+use Rattle.renew_laws.proofs.TailSteps.{tail-copied}
 use Rattle.page_put.specs.Placing.{placed_page}
 use Rattle.page_put.specs.LivePages.{finished_page}
 use Rattle.page_renew.specs.Built.{IsBuilt}
 use Rattle.page_renew.specs.Copies.{count_of}
-use Rattle.page_renew.proofs.Homes.{own_of, of_kind, Home, home_of}
+use Rattle.page_renew.proofs.FreeEntries.{free_behind}
+use Rattle.page_renew.proofs.Homes.{some_index, own_of, of_kind, Home, home_of}
 use Rattle.page_renew.proofs.IndexCopies.{built_page}
-use Rattle.page_renew.proofs.Renewed.{slot_same, renewed}
-use Rattle.block_gc.specs.Moves.{CanMove, MoveCut, MovedIndex}
-use Rattle.block_gc.proofs.Replacing.{keeps_same, not_put, replace_left, replace_free, index_first, index_alone, set_twice, index_ready}
+use Rattle.page_renew.proofs.Renewed.{same_id, same_span, slot_same, renewed, now_same}
+use Rattle.room_laws.specs.Tags.{SameTag}
+use Rattle.room_laws.specs.Ways.{Move, AreApart, AreMoves, OnWay}
+use Rattle.room_laws.proofs.OnTheWay.{all_nil, way_none, way_put, way_kill, done_leaves}
+use Rattle.block_gc.specs.Moves.{CanMove, IndexCut, IndexMoved}
+use Rattle.block_gc.proofs.Replacing.{tidy_keeps, keeps_same, replace_left, index_first, index_alone, set_twice, index_ready}
+
+one_move : (g : Geometry) (a : List ℕ) (o p : ℕ) → CanMove g a o p → AreMoves g a (record { from = o; to = p } ∷ [])
+unfolding AreMoves
+one_move g a o p can =
+    let x = some_index (live_at g a o) can.index in
+    (record { page = x.0; live = x.1; entry = can.free.entry_page; free = can.entry }, all_nil (AreApart (record { from = o; to = p })), tt)
+
+-- where nothing was programmed
+pub none_cut : (g : Geometry) (a : List ℕ) (o p : ℕ) → IsImage g a → CanMove g a o p → IndexCut g o p a a
+none_cut g a o p is can = record {
+  keeps = tidy_keeps g a can.tidy;
+  way = record {
+    moves_are = one_move g a o p can;
+    way = record { image_is = is; magic = λ b. refl; live = λ q y live. inl live; free = λ q page aside. refl };
+    table = refl;
+  };
+}
 
 module _ (g : Geometry) (a0 : List ℕ) (o p : ℕ) (tag : Tag) (work : List ℕ) (is : IsImage g a0) (can : CanMove g a0 o p) (built : IsBuilt g a0 o tag work) where
   abbrev old : List ℕ
@@ -71,37 +97,53 @@ module _ (g : Geometry) (a0 : List ℕ) (o p : ℕ) (tag : Tag) (work : List ℕ
   start : RecopiesTo g a0 p o id home.h old new home.head pages.0 home.f home.f
   start = record { undamaged = can.tidy.undamaged; inside = can.free.entry_page; kind = of_kind g a0 p new can.kind pages.1.new_index; pages = pages.1 }
 
-  pub move_left : (c : List ℕ) → ReplaceCut g p o new a0 c → MoveCut g p a0 c
+  -- the copy leads to the same bytes, and its entry behind the last one is free
+  spans : (t : ℕ) → t < data_pages g (size_of home.head) → slice_range (unwrap_or (now_data g (own (live_at g a0) id) home.head new t) []) 5 g.page ≡ span_bytes g (own (live_at g a0) id) home.head t
+  spans t below = ap (λ (x : Option (List ℕ)). slice_range (unwrap_or x []) 5 g.page)
+      (now_same g old (take g.page work) new (count_of g a0 id) built.copied sets len (own (live_at g a0) id) id o home.h home.head home.f mine first (index_alone g a0 is can.tidy id home (span_of old) o first) built.index refl
+      home.at home.header home.file count t below)
+
+  next : head_slots g ≤ data_pages g (size_of home.head) → index_span g (data_pages g (size_of home.head)) ≡ span_of old → slot_word g new (data_pages g (size_of home.head)) ≡ 0xFFFF
+  next high at =
+      subst (λ (n : ℕ). slot_word g new n ≡ 0xFFFF) count (free_behind g old (take g.page work) new (count_of g a0 id) built.copied sets (omega (arith, high, count)) (ap (index_span g) count ∙ at))
+
+  tails : (b : List ℕ) → Replaced g p o new a0 b → KeepsTails g a0 b
+  tails b all = tail-copied g a0 b p o id home.h old new home.head pages.0 home.f home.f start all spans next
+
+  abbrev step : Move
+  step = record { from = o; to = p }
+
+  -- the copy has the tag of the page
+  tag_same : SameTag old new
+  tag_same = record {
+    kind = pages.1.new_index ∙ sym built.index;
+    id = ap (λ (n : ℕ). n % 0x8000) (same_id g old (take g.page work) new (count_of g a0 id) built.copied sets len);
+    span = same_span g old (take g.page work) new (count_of g a0 id) built.copied sets len;
+  }
+
+  way_left : (c : List ℕ) → ReplaceCut g p o new a0 c → OnWay g (step ∷ []) a0 c
+  way_left c cut = ⊎_elim
+      (λ (put : PutLeaves g p new a0 c). way_put g [] a0 a0 c step old new (way_none g a0 is) put built.live tag_same)
+      (λ (x : (b : List ℕ) × PutDone g p new a0 b × KillLeaves g o b c).
+      way_kill g (step ∷ []) a0 x.0 c o old (way_put g [] a0 a0 x.0 step old new (way_none g a0 is) ((done_leaves g a0 x.0 p new).0 x.1) built.live tag_same) x.2 built.live)
+      cut
+
+  pub move_left : (c : List ℕ) → ReplaceCut g p o new a0 c → IndexCut g o p a0 c
   move_left c cut =
       let law = recopy-cuts g a0 c p o id home.h old new home.head pages.0 home.f home.f start (tidy-has_magics g a0 (λ (r : ℕ). false) ((tidy-is_tidy g a0 (λ (r : ℕ). false)).0 can.tidy)) cut in
-      let free = replace_free g a0 c p o new old built.live cut in
-      record { keeps = keeps_same g a0 c id home.h home.f can.tidy.undamaged home.has law.0; free = free.0; used = free.1 }
+      let keeps = keeps_same g a0 c id home.h home.f can.tidy.undamaged home.has law.0 in
+      record { keeps = keeps; way = record { moves_are = one_move g a0 o p can; way = way_left c cut; table = keeps.table } }
 
-  pub moved_done : (b : List ℕ) → Replaced g p o new a0 b → MovedIndex g o p a0 b
+  pub moved_done : (b : List ℕ) → Replaced g p o new a0 b → IndexMoved g o p a0 b
   moved_done b all =
-      let put = all.put in
-      let last = all.kill in
       let tidied = recopy-spares g a0 b p o id home.h old new home.head pages.0 home.f home.f (λ (r : ℕ). false) (λ (r : ℕ). false) start all ((tidy-is_tidy g a0 (λ (r : ℕ). false)).0 can.tidy)
       (record {
         named = λ r e. absurd (cc);
         left = λ t below at. inl (slot_same g old (take g.page work) new (count_of g a0 id) built.copied sets len t (omega (arith, below, count)) at);
       }) in
-      let cut = move_left b (replace_left all) in
       record {
-        cut = cut;
+        cut = move_left b (replace_left all);
         tidy = idles-end g b (λ (r : ℕ). false && leftover g (own (live_at g b) id) pages.0 r) (λ r e. absurd (cc)) tidied.0;
-        table = cut.keeps.table;
-        gone = last.loses.after;
-        killed = last.zero;
-        moved = record {
-          old = old;
-          copy = take g.page work;
-          was_live = built.live;
-          copied = built.copied;
-          is_live = last.loses.others p (λ e. not_put g a0 all.middle p o new old put built.live (sym e)) ∙ put.gains.after ∙ ap (λ (l : List ℕ). Some l) sets;
-        };
-        magic = λ c. last.agree.magic c ∙ put.agree.magic c;
-        entries = λ q inside gone new'. last.agree.entry q inside gone ∙ put.agree.entry q inside new';
-        pages = λ q inside gone new'. last.agree.page q inside gone ∙ put.agree.page q inside new';
-        live = λ q gone new'. last.loses.others q gone ∙ put.gains.others q new';
+        gone = all.kill.loses.after;
+        tails = tails b all;
       }

@@ -10,17 +10,16 @@ use Rattle.page_layout.specs.Layout.{SameOutside}
 use Rattle.image_model.specs.Within.{sizes}
 use Rattle.image_model.specs.Headers.{names_index, span_of}
 use Rattle.image_model.specs.Live.{live_at, own}
-use Rattle.image_model.specs.Places.{block_of, IsImage}
+use Rattle.image_model.specs.Places.{IsImage}
 use Rattle.image_model.specs.Files.{is_index, index_page}
 use Rattle.image_model.specs.Sound.{Keeps}
 use Rattle.image_model.specs.Tables.{has_of, damaged_of, table_of}
-use Rattle.image_model.specs.Tidy.{IsTidy, is_free_block, free_blocks}
+use Rattle.image_model.specs.Tidy.{IsTidy}
 use Rattle.image_laws.specs.Creating.{CutOf}
-use Rattle.image_laws.specs.LiveSteps.{PutLeaves, PutDone, KillLeaves, KillDone}
+use Rattle.image_laws.specs.LiveSteps.{PutDone, KillLeaves, KillDone}
 use Rattle.image_laws.specs.Put.{IsReadyPage}
 use Rattle.image_laws.specs.TidySteps.{Agree}
 use Rattle.image_laws.proofs.Frames.{live_parts}
-use Rattle.image_laws.proofs.FreeBlocks.{free_blocks-fall}
 use Rattle.image_laws.proofs.Placing.{page_byte}
 use Rattle.image_laws.proofs.Sounding.{keeps-itself}
 use Rattle.image_laws.proofs.SpareKill.{tidy-has_magics}
@@ -28,7 +27,6 @@ use Rattle.image_laws.proofs.Tally.{served}
 use Rattle.image_laws.proofs.TidySteps.{tidy-is_tidy}
 use Rattle.renew_laws.specs.Replace.{ReplaceCut, Replaced}
 use Rattle.renew_laws.proofs.RecopyLeaves.{put-same}
-use Rattle.renew_laws.proofs.ReserveKept.{kill-reserve}
 use Rattle.page_put.specs.Placing.{placed_page}
 use Rattle.page_put.proofs.Putting.{ready}
 use Rattle.page_renew.proofs.Homes.{Home, index_some, serves_first}
@@ -68,19 +66,6 @@ kill_left done = record { image = done.image; agree = done.agree; live = inr don
 
 pub replace_left : {g : Geometry} {p o : ℕ} {page a b : List ℕ} → Replaced g p o page a b → ReplaceCut g p o page a b
 replace_left all = inr (all.middle, all.put, kill_left all.kill)
-
--- the free blocks that a cut leaves
-pub replace_free : (g : Geometry) (a c : List ℕ) (p o : ℕ) (page old : List ℕ) → live_at g a o ≡ Some old → ReplaceCut g p o page a c →
-    (free_blocks g a ≤ free_blocks g c + 1) × (is_free_block g a (block_of g p) ≡ false → free_blocks g a ≤ free_blocks g c)
-replace_free g a c p o page old live cut =
-    ⊎_elim
-    (λ (x : PutLeaves g p page a c). free_blocks-fall g a c p x.agree)
-    (λ (x : (b : List ℕ) × PutDone g p page a b × KillLeaves g o b c).
-    let fall = free_blocks-fall g a x.0 p x.1.agree in
-    let most = fall.0 in
-    let kept = kill-reserve g x.0 c o old (still_live g a x.0 p o page old x.1 live) x.2.agree in
-    (omega (arith, most, kept), λ used. let same = fall.1 used in omega (arith, same, kept)))
-    cut
 
 -- ---- index pages
 

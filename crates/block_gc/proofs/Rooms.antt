@@ -14,6 +14,7 @@ use Rattle.image_model.specs.Collect.{index_in, free_in, free_where, takes_index
 use Rattle.free_search.specs.declared.blocks.BlockCounts.{BlockCounts}
 use Rattle.free_search.specs.Counts.{AreCounts}
 use Rattle.free_search.proofs.FreePages.{some_pass, data_none, index_none, data_some, free_counted, free_whole, used_less}
+use Rattle.room_laws.proofs.Sorted.{tidy_tells_free}
 use Rattle.block_gc.specs.declared.totals.Room.{Room}
 use Rattle.block_gc.specs.Totals.{room_by, both, AtMost, IsRoom, AreTotals}
 
@@ -42,7 +43,7 @@ module _ (g : Geometry) (image : List ℕ) (block : ℕ) (c : BlockCounts) (coun
 
   module _ (tidy : IsTidy g image) (below : block < g.blocks) where
     free_is : c.free ≡ free_in g image block
-    free_is = counts.free ∙ free_counted g image block tidy below
+    free_is = counts.free ∙ free_counted g image block (tidy_tells_free g image tidy) below
 
     block_is : (c.free == entries g) ≡ is_free_block g image block
     block_is = equal_if c.free (entries g) (is_free_block g image block) (λ e. free_is ∙ free_whole g image block e) (λ e. let h = used_less g image block (tidy.magic block below) e in omega (arith, h, free_is))

@@ -9,8 +9,11 @@ use Rattle.image_model.specs.Tables.{table_of}
 use Rattle.image_model.specs.Tidy.{IsTidy, free_blocks, HasReserve}
 use Rattle.image_model.specs.Collect.{is_worth, chosen_block, Swept, are_had, is_stuck}
 use Rattle.image_model.specs.Sound.{Keeps}
+use Rattle.renew_laws.specs.Tails.{KeepsTails}
 use Rattle.flash_view.specs.Steps.{is_apart, Step as Stage}
 use Rattle.room_laws.specs.Stopping.{gc_measure, CanClean, IsPacked}
+use Rattle.room_laws.specs.Mends.{CanMend}
+use Rattle.room_laws.specs.Recovery.{Recovers}
 use Rattle.flash_view.specs.declared.kinds.StepErr.TheVariants.{DeviceFault}
 use Rattle.block_gc.specs.declared.room.Goal.{Goal}
 use Rattle.block_gc.specs.declared.room.Goal.TheVariants.{Pages, Packed}
@@ -46,6 +49,11 @@ abbrev pub IfMet : Geometry → List ℕ → Goal → Bool → Type 0
 IfMet g image goal true = IsMet g image goal
 IfMet g image goal false = IsMet g image goal → ⊥
 
+-- A cut in a collection keeps the image, and where that could be cleaned it recovers.
+pub record CollectCut (g : Geometry) (was image : List ℕ) : Type 0 where
+  pub keeps : Keeps g was image
+  pub mends : CanClean g was → Recovers g image
+
 -- An image was reached from a first one by swept steps: these are the images from which each of them began, the last one first.
 unfoldable pub SweptAlong : Geometry → (first : List ℕ) → List (List ℕ) → (image : List ℕ) → Type 0
 SweptAlong g first [] image = image ≡ first
@@ -55,7 +63,7 @@ pub record SweptTo (g : Geometry) (first image : List ℕ) : Type 0 where
   pub through : List (List ℕ)
   pub steps : SweptAlong g first through image
 
--- After n cleanings the image is tidy with the table of the first, and can be cleaned where the first could. Each was a swept step, and has lowered the number that cleanings lower.
+-- After n cleanings the image is tidy with the table of the first, and can be cleaned where the first could. Each was a swept step, has lowered the number that cleanings lower, and leaves an image that mends where it did. Tails that were ready are so still.
 pub record Cleanings (g : Geometry) (n : ℕ) (was now : List ℕ) : Type 0 where
   pub image : IsImage g now
   pub tidy : IsTidy g now
@@ -63,20 +71,23 @@ pub record Cleanings (g : Geometry) (n : ℕ) (was now : List ℕ) : Type 0 wher
   pub swept : SweptTo g was now
   pub lower : gc_measure g now + n ≤ gc_measure g was
   pub again : CanClean g was → CanClean g now
+  pub mend : CanMend g was → CanMend g now
+  pub tails : KeepsTails g was now
 
 -- one cleaning, or no block is chosen and nothing is changed
 abbrev pub CleanedOrNone : Geometry → Bool → (was now : List ℕ) → Type 0
 CleanedOrNone g true was now = Cleanings g 1 was now
 CleanedOrNone g false was now = (chosen_block g was ≡ None) × (now ≡ was)
 
--- The image is tidy with its table, so many pages of each kind are had, and two blocks are free.
+-- The image is tidy with its table, so many pages of each kind are had, and two blocks are free. Tails that were ready are so still.
 pub record MadeRoom (g : Geometry) (index pages : ℕ) (was now : List ℕ) : Type 0 where
   pub tidy : IsTidy g now
   pub table : table_of g now ≡ table_of g was
   pub swept : SweptTo g was now
   pub ready : IsReady g now index pages
+  pub tails : KeepsTails g was now
 
--- The image is tidy with its table, no block is chosen, and the pages aren't had or fewer than two blocks are free. It can be cleaned where the first could, and has its reserve where the first had.
+-- The image is tidy with its table, no block is chosen, and the pages aren't had or fewer than two blocks are free. It can be cleaned where the first could, and has its reserve where the first had. Tails that were ready are so still.
 pub record IsTight (g : Geometry) (index pages : ℕ) (was now : List ℕ) : Type 0 where
   pub tidy : IsTidy g now
   pub table : table_of g now ≡ table_of g was
@@ -85,8 +96,9 @@ pub record IsTight (g : Geometry) (index pages : ℕ) (was now : List ℕ) : Typ
   pub short : IsReady g now index pages → ⊥
   pub again : CanClean g was → CanClean g now
   pub reserve : HasReserve g was → HasReserve g now
+  pub tails : KeepsTails g was now
 
--- The image is tidy with its table, and packed: no block is worth cleaning, and all blocks are free but those that the pages of each kind need. It has its reserve where the first had.
+-- The image is tidy with its table, and packed: no block is worth cleaning, and all blocks are free but those that the pages of each kind need. It has its reserve where the first had. Tails that were ready are so still.
 pub record IsCompact (g : Geometry) (was now : List ℕ) : Type 0 where
   pub tidy : IsTidy g now
   pub table : table_of g now ≡ table_of g was
@@ -96,8 +108,9 @@ pub record IsCompact (g : Geometry) (was now : List ℕ) : Type 0 where
   pub free : free_blocks g now + ceil (index_count g (table_of g now)) (entries g) + ceil (data_count g (table_of g now)) (entries g) ≡ g.blocks
   pub unstuck : is_stuck g now ≡ false
   pub reserve : HasReserve g was → HasReserve g now
+  pub tails : KeepsTails g was now
 
--- The image is tidy with its table, and collection is stuck. It can be cleaned where the first could, and has its reserve where the first had.
+-- The image is tidy with its table, and collection is stuck. It can be cleaned where the first could, and has its reserve where the first had. Tails that were ready are so still.
 pub record IsStuck (g : Geometry) (was now : List ℕ) : Type 0 where
   pub tidy : IsTidy g now
   pub table : table_of g now ≡ table_of g was
@@ -106,6 +119,7 @@ pub record IsStuck (g : Geometry) (was now : List ℕ) : Type 0 where
   pub stuck : is_stuck g now ≡ true
   pub again : CanClean g was → CanClean g now
   pub reserve : HasReserve g was → HasReserve g now
+  pub tails : KeepsTails g was now
 
 -- where collection stops: the goal is met, or it isn't and no block is chosen
 abbrev pub StopsAt : Geometry → Goal → Bool → List ℕ → Type 0
@@ -126,13 +140,13 @@ TurnOf g goal (Some met) was now = (now ≡ was) × StopsAt g goal met was
 -- ---- the steps: the chosen block is cleaned, a turn of collection, and all turns
 
 abbrev pub cleaning_chosen : Stage Bool
-cleaning_chosen = record { needs = IsTidy; cut = Keeps; done = λ g was now cleaned. CleanedOrNone g cleaned was now }
+cleaning_chosen = record { needs = IsTidy; cut = CollectCut; done = λ g was now cleaned. CleanedOrNone g cleaned was now }
 
 abbrev pub turning_to : Goal → Stage (Option Bool)
-turning_to goal = record { needs = IsTidy; cut = Keeps; done = λ g was now met. TurnOf g goal met was now }
+turning_to goal = record { needs = IsTidy; cut = CollectCut; done = λ g was now met. TurnOf g goal met was now }
 
 abbrev pub collecting : Goal → Stage Bool
-collecting goal = record { needs = IsTidy; cut = Keeps; done = λ g was now met. Collected g goal met was now }
+collecting goal = record { needs = IsTidy; cut = CollectCut; done = λ g was now met. Collected g goal met was now }
 
 -- all is packed, or collection is stuck
 abbrev pub PackedOrStuck : Geometry → Bool → (was now : List ℕ) → Type 0
@@ -140,4 +154,4 @@ PackedOrStuck g true was now = IsStuck g was now
 PackedOrStuck g false was now = IsCompact g was now
 
 abbrev pub packing : Stage Bool
-packing = record { needs = IsTidy; cut = Keeps; done = λ g was now stuck. PackedOrStuck g stuck was now }
+packing = record { needs = IsTidy; cut = CollectCut; done = λ g was now stuck. PackedOrStuck g stuck was now }

@@ -1,29 +1,26 @@
-// Cleaning a block, of either kind.
-ghost use Rattle.std.specs.Prelude.{◌<◌};
+// Cleaning a block.
+ghost use Rattle.std.specs.Prelude.{◌≡◌, ◌+◌, ◌<◌, max};
 ghost use Rattle.flash_view.specs.Steps.{Stepped, stopped};
 ghost use Rattle.block_gc.specs.Cleanings.{cleaning_block};
-ghost use Rattle.block_gc.specs.Kinds.{KindIs};
 
 use crate::emptying::empty_block;
-use flash_view::{Kind, StepErr, View};
-use free_search::{counts, next_count};
+use flash_view::{StepErr, View};
+use free_search::{BlockCounts, counts, next_count};
 use nor_core::{Failed, Nor, NorState};
 use page_put::fresh_block;
 
-// The kind of the live pages of a block that has so many live data pages.
-fn kind_of(data_live: u16) -> Kind
-    ensures { KindIs result data_live }
+// The longest batch of data pages that is moved out of a block with these counts: as many as its deleted and free entries, or
+// one.
+fn longest_batch(c: &BlockCounts) -> u32
+    ensures { result ≡ max 1 (c.now.deleted + c.now.free) }
 {
-    if data_live > 0 {
-        Kind::Data
-    } else {
-        Kind::Index
-    }
+    (u32::from(c.deleted) + u32::from(c.free)).max(1)
 }
 
-/// Cleans a block in use that fits: moves its live pages to other blocks in page order, each data page with the index page
-/// that names it, and makes the block fresh with the next erase count, which is taken first. A cut leaves the table as it
-/// is. Where the image is tidy, a fault of the device is the one error.
+/// Cleans a block in use that fits: moves its live pages to other blocks in page order, data pages in batches with the index page
+/// that names them, and makes the block fresh with the next erase count, which is taken first. A cut leaves the table as it
+/// is, and where the block may be cleaned an uncut check gives two free blocks back. Where the image is tidy, a fault of the device is
+/// the one error.
 pub fn clean<N: Nor>(v: &mut View<'_, N>, block: u16) -> Result<(), StepErr>
     requires { block < v.old.geometry.blocks }
     ensures { Stepped stopped v.old v.new result (cleaning_block block) }
@@ -34,7 +31,7 @@ pub fn clean<N: Nor>(v: &mut View<'_, N>, block: u16) -> Result<(), StepErr>
     let Ok(count) = next_count(v) else {
         return Err(StepErr::DeviceFault);
     };
-    empty_block(v, block, kind_of(c.data_live))?;
+    empty_block(v, block, longest_batch(&c))?;
     match fresh_block(v, block, count) {
         Err(Failed) => Err(StepErr::DeviceFault),
         Ok(()) => Ok(()),

@@ -1,12 +1,12 @@
 //! Garbage collection: which block is cleaned next, how it is cleaned, and when collection stops.
 #![tactic(auto)]
 
+mod batch;
 mod choice;
 mod cleaning;
 mod emptying;
 mod laws;
 mod moving;
-mod moving_data;
 mod next;
 mod room;
 mod scores;

@@ -3,11 +3,11 @@ ghost use Rattle.std.specs.Prelude.{◌≡◌, ◌≢◌, ◌<◌, ◌≤◌, On
 ghost use Rattle.nor_core.specs.Count.{Rose};
 ghost use Rattle.nor_core.specs.Device.{Changes, OnlyReads};
 ghost use Rattle.image_model.specs.Tidy.{IsTidy};
-ghost use Rattle.image_model.specs.Sound.{Keeps};
 ghost use Rattle.flash_view.specs.Same.{IsSameView, OnlyLooks};
 ghost use Rattle.room_laws.specs.Stopping.{CanClean, HasRoomFor};
+ghost use Rattle.room_laws.specs.Mends.{CanMend};
 ghost use Rattle.flash_view.specs.Steps.{Stepped, stopped};
-ghost use Rattle.block_gc.specs.RoomMade.{IsFaultOrTight, is_apart_in, IsReady, IfReady, IsMet, IfMet, MadeRoom, IsTight, IsCompact, IsStuck, cleaning_chosen, turning_to, collecting, packing};
+ghost use Rattle.block_gc.specs.RoomMade.{IsFaultOrTight, is_apart_in, IsReady, IfReady, IsMet, IfMet, CollectCut, MadeRoom, IsTight, IsCompact, IsStuck, cleaning_chosen, turning_to, collecting, packing};
 
 use crate::cleaning::clean;
 use crate::next::{are_had, choose, is_stuck};
@@ -99,7 +99,8 @@ fn collect<N: Nor>(v: &mut View<'_, N>, goal: Goal) -> Result<bool, StepErr>
 }
 
 /// Cleans blocks until so many index pages and data pages are had and two blocks are free, and cleans none where that is so
-/// already. Tight where no block can be cleaned any more before that. A cut leaves the table as it is.
+/// already. Tight where no block can be cleaned any more before that. A cut leaves the table as it is, and where the image
+/// could be cleaned an uncut check gives two free blocks back.
 #[tactic(auto, using(flash_view::proofs::Looking::same_then))]
 pub fn make_room<N: Nor>(v: &mut View<'_, N>, index: u32, data_pages: u32) -> Result<(), RoomErr>
     ensures cause { IsErrOf result (RoomErr.Step StepErr.DeviceFault) → Rose (N.faults v.old.nor.now) (N.faults v.new.nor.now) }
@@ -107,11 +108,12 @@ pub fn make_room<N: Nor>(v: &mut View<'_, N>, index: u32, data_pages: u32) -> Re
     ensures same { IsSameView v.old v.new }
     ensures wrote { v.old.wrote ≡ true → v.new.wrote ≡ true }
     ensures untouched { v.old.wrote ≡ false → v.new.wrote ≡ false → OnlyReads N.NorState v.old.nor.now v.new.nor.now }
-    ensures changes { Changes N.NorState v.old.nor.now v.new.nor.now (λ was image. IsTidy v.old.geometry was → Keeps v.old.geometry was image) }
+    ensures changes { Changes N.NorState v.old.nor.now v.new.nor.now (λ was image. IsTidy v.old.geometry was → CollectCut v.old.geometry was image) }
     ensures idle { N.tells v.old.nor.now → IsTidy v.old.geometry (N.bytes v.old.nor.now) → IsReady v.old.geometry (N.bytes v.old.nor.now) index data_pages → OnlyReads N.NorState v.old.nor.now v.new.nor.now }
     ensures done { N.tells v.old.nor.now → IsTidy v.old.geometry (N.bytes v.old.nor.now) → OnOk result (MadeRoom v.old.geometry index data_pages (N.bytes v.old.nor.now) (N.bytes v.new.nor.now)) }
     ensures tight { N.tells v.old.nor.now → IsTidy v.old.geometry (N.bytes v.old.nor.now) → IsErrOf result RoomErr.Tight → IsTight v.old.geometry index data_pages (N.bytes v.old.nor.now) (N.bytes v.new.nor.now) }
     ensures never_tight { N.tells v.old.nor.now → CanClean v.old.geometry (N.bytes v.old.nor.now) → HasRoomFor v.old.geometry (N.bytes v.old.nor.now) index data_pages → IfErr result (λ why. why ≢ RoomErr.Tight) }
+    ensures mended { N.tells v.old.nor.now → CanMend v.old.geometry (N.bytes v.old.nor.now) → index ≡ 0 → data_pages ≡ 0 → IfErr result (λ why. why ≢ RoomErr.Tight) }
     ensures undamaged { N.tells v.old.nor.now → IsTidy v.old.geometry (N.bytes v.old.nor.now) → IfErr result (λ why. IsFaultOrTight why) }
     ensures differs { IfErr result is_apart_in }
 {
@@ -134,7 +136,7 @@ fn pack<N: Nor>(v: &mut View<'_, N>) -> Result<bool, StepErr>
 }
 
 /// Cleans blocks until none is worth cleaning. Tight exactly where collection is stuck before that. A cut leaves the table
-/// as it is.
+/// as it is, and where the image could be cleaned an uncut check gives two free blocks back.
 #[tactic(auto, using(flash_view::proofs::Looking::same_then))]
 pub fn compact<N: Nor>(v: &mut View<'_, N>) -> Result<(), RoomErr>
     ensures cause { IsErrOf result (RoomErr.Step StepErr.DeviceFault) → Rose (N.faults v.old.nor.now) (N.faults v.new.nor.now) }
@@ -142,7 +144,7 @@ pub fn compact<N: Nor>(v: &mut View<'_, N>) -> Result<(), RoomErr>
     ensures same { IsSameView v.old v.new }
     ensures wrote { v.old.wrote ≡ true → v.new.wrote ≡ true }
     ensures untouched { v.old.wrote ≡ false → v.new.wrote ≡ false → OnlyReads N.NorState v.old.nor.now v.new.nor.now }
-    ensures changes { Changes N.NorState v.old.nor.now v.new.nor.now (λ was image. IsTidy v.old.geometry was → Keeps v.old.geometry was image) }
+    ensures changes { Changes N.NorState v.old.nor.now v.new.nor.now (λ was image. IsTidy v.old.geometry was → CollectCut v.old.geometry was image) }
     ensures done { N.tells v.old.nor.now → IsTidy v.old.geometry (N.bytes v.old.nor.now) → OnOk result (IsCompact v.old.geometry (N.bytes v.old.nor.now) (N.bytes v.new.nor.now)) }
     ensures tight { N.tells v.old.nor.now → IsTidy v.old.geometry (N.bytes v.old.nor.now) → IsErrOf result RoomErr.Tight → IsStuck v.old.geometry (N.bytes v.old.nor.now) (N.bytes v.new.nor.now) }
     ensures never_tight { N.tells v.old.nor.now → CanClean v.old.geometry (N.bytes v.old.nor.now) → IfErr result (λ why. why ≢ RoomErr.Tight) }

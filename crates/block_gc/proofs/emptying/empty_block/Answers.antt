@@ -3,8 +3,8 @@ use Rattle.geometry.specs.Numbers.{entries as entries_of}
 use Rattle.image_model.specs.Volume.{per_block, lookups, entries}
 use Rattle.image_model.specs.Within.{entry_in}
 use Rattle.flash_view.proofs.Looking.{looks_none}
-use Rattle.flash_view.proofs.Stepped.{looked, weaker, passes, stepped_then}
-use Rattle.block_gc.proofs.KindTurns.{none_turned, turns_begin, turns_pass, next_turn, turns_end}
+use Rattle.flash_view.proofs.Stepped.{looked, weaker, passes, stepped_then, view_image}
+use Rattle.block_gc.proofs.EntryTurns.{emptying_to, none_turned, turns_begin, turns_pass, next_turn, turns_end}
 use Rattle.block_gc.proofs.emptying.empty_block.Goals as goal
 
 pub loop-i-init : goal.loop-i-init
@@ -13,28 +13,28 @@ loop-i-init g c =
     record {
       geometry = refl;
       end = c.entries-i-end.ensures;
-      step = looked (looks_none view) (λ e. absurd (cc)) tt (λ tells places. none_turned c.args.kind _ _ c.args.block places);
+      step = looked {step = emptying_to c.args.block c.args.most 0} (looks_none view) (λ e. absurd (cc)) tt (λ tells can. none_turned _ _ c.args.block c.args.most (view_image view (g.met.N.Nor.sized _) tells) can);
     }
 
-pub empty_page-requires-clause-at : goal.empty_page-requires-clause-at
+pub empty_entry-requires-clause-at : goal.empty_entry-requires-clause-at
 unfolding per_block lookups entries
-empty_page-requires-clause-at g c =
+empty_entry-requires-clause-at g c =
     let was = c.loop-i.invariant in
     let geometry = c.args.v.now.geometry in
     let place = rw was.geometry at c.entry_page.ensures.place in
     let less : c.loop-i.i < entries_of geometry = omega (arith, was.end, c.loop-i-test.true) in
-    let here = entry_in geometry c.args.block c.entry_page.result c.requires (omega (arith, place)) (omega (arith, place, less)) in
+    let here = entry_in geometry c.args.block c.entry_page.result c.requires.block (omega (arith, place)) (omega (arith, place, less)) in
     rw was.step.framed.same.geometry here.0
 
-pub returns-in_err-empty_page : goal.returns-in_err-empty_page
+pub returns-in_err-empty_entry : goal.returns-in_err-empty_entry
 unfolding per_block lookups
-returns-in_err-empty_page g c =
+returns-in_err-empty_entry g c =
     let was = c.loop-i.invariant in
     let place = rw was.geometry at c.entry_page.ensures.place in
-    let is : c.from_residual.result ≡ Err c.in_err-empty_page.field-0.0 = search rules in
+    let is : c.from_residual.result ≡ Err c.in_err-empty_entry.field-0.0 = search rules in
     passes
-    (stepped_then was.step c.in_err-empty_page.ensures (λ tells places. turns_begin c.args.kind _ _ c.args.block c.loop-i.i (c.loop-i.i + 1) places) (λ tells places s. next_turn c.args.kind _ _ _ _ _ _ place (omega arith) s))
-    is (λ tells places. turns_pass c.args.kind _ _ c.args.block (c.loop-i.i + 1) places)
+    (stepped_then was.step c.in_err-empty_entry.ensures (λ tells can. turns_begin _ _ c.args.block c.args.most c.loop-i.i (c.loop-i.i + 1) can) (λ tells can so_far. next_turn _ _ _ _ _ _ _ place (omega arith) so_far))
+    is (λ tells can. turns_pass _ _ c.args.block c.args.most (c.loop-i.i + 1) can)
 
 pub loop-i-preserved : goal.loop-i-preserved
 unfolding per_block lookups
@@ -44,11 +44,11 @@ loop-i-preserved g c =
     record {
       geometry = was.geometry;
       end = was.end;
-      step = stepped_then was.step c.in_ok-empty_page.ensures (λ tells places. turns_begin c.args.kind _ _ c.args.block c.loop-i.i (c.loop-i.i + 1) places) (λ tells places s. next_turn c.args.kind _ _ _ _ _ _ place (omega arith) s);
+      step = stepped_then was.step c.in_ok-empty_entry.ensures (λ tells can. turns_begin _ _ c.args.block c.args.most c.loop-i.i (c.loop-i.i + 1) can) (λ tells can so_far. next_turn _ _ _ _ _ _ _ place (omega arith) so_far);
     }
 
 pub returns : goal.returns
 unfolding per_block lookups entries
 returns g c =
     let was = c.loop-i.invariant in
-    weaker was.step (λ tells places. turns_end c.args.kind _ _ c.args.block c.loop-i.i (omega (arith, was.end, c.loop-i-test.false)) places)
+    weaker was.step (λ tells can. turns_end _ _ c.args.block c.args.most c.loop-i.i (omega (arith, was.end, c.loop-i-test.false)) can)

@@ -1,13 +1,13 @@
--- No page of the block before the next one is live, and each image that a cut may have left keeps the first one.
+-- No page of the block before the next one is live, and each image that a cut may have left is one that a turn may leave of the first one.
 use Rattle.std.proofs.Common.{◌≡◌, Ok}
 use Rattle.geometry.specs.Numbers.{entries}
 use Rattle.flash_view.specs.Steps.{Stepped, stopped}
-use Rattle.block_gc.proofs.KindTurns.{emptying_first}
+use Rattle.block_gc.proofs.EntryTurns.{emptying_to}
 use Rattle.block_gc.proofs.emptying.empty_block.Given as goal
 
 abbrev pub invariant-loop-i : goal.invariant-loop-i
 invariant-loop-i g l = record {
   geometry : l.g ≡ l.fn.v.geometry;
   end : l.i-end ≡ entries l.fn.v.geometry;
-  step : Stepped stopped l.fn.v l.v (Ok tt) (emptying_first l.kind l.block l.i);
+  step : Stepped stopped l.fn.v l.v (Ok tt) (emptying_to l.block l.most l.i);
 }

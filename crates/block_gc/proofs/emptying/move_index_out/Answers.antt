@@ -1,29 +1,34 @@
 use Rattle.std.proofs.Common.{refl}
 use Rattle.flash_view.proofs.Heads.{entry_page_told}
 use Rattle.flash_view.proofs.Stepped.{looked, after_look, fault_as, done_as, view_image}
-use Rattle.block_gc.proofs.OneTurn.{one_found, turn_stays}
-use Rattle.block_gc.proofs.TurnCalls.{moves_out}
+use Rattle.room_laws.proofs.Sorted.{tidy_tells_free}
+use Rattle.block_gc.proofs.IndexOut.{turn_stays, index_found, index_moves, block_low}
 use Rattle.block_gc.proofs.emptying.move_index_out.Goals as goal
 
 pub returns-in-Err : goal.returns-in-Err
-returns-in-Err g c = let seen = c.in-Err.ensures in looked seen.looks (λ e. seen.cause) tt (λ tells can. (turn_stays _ _ _ can.places, refl))
+returns-in-Err g c = let seen = c.in-Err.ensures in looked seen.looks (λ e. seen.cause) tt (λ tells need. (turn_stays _ _ _ _ (view_image c.args.v.now (g.met.N.Nor.sized _) tells) need.can, refl))
 
 pub returns-in-Ok-None : goal.returns-in-Ok-None
 returns-in-Ok-None g c =
     let seen = c.in-Ok-None.ensures in
-    looked seen.looks (λ e. absurd (cc)) c.no_place.ensures (λ tells can. (
-      turn_stays _ _ _ can.places,
-      absurd (one_found c.args.v.now.geometry _ c.args.block c.args.page can.places (entry_page_told c.args.v.now.geometry c.args.page c.requires.page) c.requires.at can.index (rw c.in-Ok-None.field-0-is at (seen.told tells can.places.tidy))),
+    let geometry = c.args.v.now.geometry in
+    let page = entry_page_told geometry c.args.page c.requires.page in
+    looked seen.looks (λ e. absurd (cc)) c.no_place.ensures (λ tells need.
+    let image = view_image c.args.v.now (g.met.N.Nor.sized _) tells in (
+      turn_stays _ _ _ _ image need.can,
+      absurd (index_found geometry _ c.args.block image need.can (block_low geometry c.args.block c.args.page page c.requires.at) c.args.page page c.requires.at need.index (rw c.in-Ok-None.field-0-is at (seen.told tells (tidy_tells_free _ _ need.can.tidy)))),
     ))
 
 pub returns-in-Err-move_index : goal.returns-in-Err-move_index
 returns-in-Err-move_index g c =
     let seen = c.in-Ok-Some.ensures in
+    let page = entry_page_told c.args.v.now.geometry c.args.page c.requires.page in
     fault_as (after_look seen.looks c.in-Err-move_index.ensures
-    (λ tells can. moves_out _ _ _ _ _ (entry_page_told _ _ c.requires.page) c.requires.at (view_image c.args.v.now (g.met.N.Nor.sized _) tells) (rw c.in-Ok-Some.field-0-is at (seen.told tells can.places.tidy)) can))
+    (λ tells need. index_moves _ _ _ (view_image c.args.v.now (g.met.N.Nor.sized _) tells) need.can (block_low _ c.args.block c.args.page page c.requires.at) _ page c.requires.at need.index _ (rw c.in-Ok-Some.field-0-is at (seen.told tells (tidy_tells_free _ _ need.can.tidy)))))
 
 pub returns-in-Ok : goal.returns-in-Ok
 returns-in-Ok g c =
     let seen = c.in-Ok-Some.ensures in
+    let page = entry_page_told c.args.v.now.geometry c.args.page c.requires.page in
     done_as (after_look seen.looks c.in-Ok.ensures
-    (λ tells can. moves_out _ _ _ _ _ (entry_page_told _ _ c.requires.page) c.requires.at (view_image c.args.v.now (g.met.N.Nor.sized _) tells) (rw c.in-Ok-Some.field-0-is at (seen.told tells can.places.tidy)) can))
+    (λ tells need. index_moves _ _ _ (view_image c.args.v.now (g.met.N.Nor.sized _) tells) need.can (block_low _ c.args.block c.args.page page c.requires.at) _ page c.requires.at need.index _ (rw c.in-Ok-Some.field-0-is at (seen.told tells (tidy_tells_free _ _ need.can.tidy)))))

@@ -1,16 +1,17 @@
 use Rattle.std.proofs.Common.{◌≡◌, ◌<◌, ⊎_elim, arith}
-use Rattle.flash_view.proofs.Stepped.{looked, look_fails, after_look}
-use Rattle.block_gc.proofs.MoveCalls.{none_cut, id_range}
+use Rattle.flash_view.proofs.Stepped.{looked, look_fails, after_look, view_image}
+use Rattle.block_gc.proofs.MovedIndexes.{none_cut}
+use Rattle.block_gc.proofs.MoveCalls.{id_range}
 use Rattle.block_gc.proofs.moving.move_index.Goals as goal
 
 pub returns-in_err-tag : goal.returns-in_err-tag
-returns-in_err-tag g c = let seen = c.in_err-tag.ensures in look_fails seen.looks seen.cause c.from_residual.ensures.0 (λ tells can. none_cut _ _ _ _ can)
+returns-in_err-tag g c = let seen = c.in_err-tag.ensures in look_fails seen.looks seen.cause c.from_residual.ensures.0 (λ tells can. none_cut _ _ _ _ (view_image c.args.v.now (g.met.N.Nor.sized _) tells) can)
 
 pub returns-then-tag-eq0 : goal.returns-then-tag-eq0
 returns-then-tag-eq0 g c =
     let seen = c.in_ok-tag.ensures in
     looked seen.looks (λ e. absurd (cc)) tt (λ tells can. (
-      none_cut _ _ _ _ can,
+      none_cut _ _ _ _ (view_image c.args.v.now (g.met.N.Nor.sized _) tells) can,
       let range = id_range c.args.v.now.geometry _ c.args.page c.in_ok-tag.tag _ (seen.told tells can.index) in
           absurd (⊎_elim
           (λ (zero : c.in_ok-tag.tag.id ≡ 0). omega (arith, zero, range.0))

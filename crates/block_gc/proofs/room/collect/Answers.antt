@@ -3,15 +3,14 @@ use Rattle.nor_core.proofs.Cuts.{reads_none}
 use Rattle.flash_view.specs.Steps.{Stepped, stopped}
 use Rattle.flash_view.proofs.Looking.{looks_none}
 use Rattle.flash_view.proofs.Stepped.{looked, passes, stepped_then, ends_as, view_image}
-use Rattle.block_gc.proofs.Replacing.{tidy_keeps}
-use Rattle.block_gc.proofs.Cleanings.{stopping, collecting_to, cleanings_none, cleanings_few, turn_begins, turn_goes, turn_stops, idle_then}
+use Rattle.block_gc.proofs.Cleanings.{none_cut, stopping, collecting_to, cleanings_none, cleanings_few, turn_begins, turn_goes, turn_stops, idle_then}
 use Rattle.block_gc.proofs.room.collect.Goals as goal
 
 pub loop-turn-init : goal.loop-turn-init
 loop-turn-init g c =
     let view = c.args.v.now in
     record {
-      step = looked (looks_none view) (λ e. absurd (cc)) tt (λ tells t. (tidy_keeps _ _ t, cleanings_none _ _ (view_image view (g.met.N.Nor.sized _) tells) t));
+      step = looked (looks_none view) (λ e. absurd (cc)) tt (λ tells t. (none_cut _ _ t, cleanings_none _ _ (view_image view (g.met.N.Nor.sized _) tells) t));
       idle = λ tells t met. reads_none view.nor.now;
     }
 

@@ -1,16 +1,16 @@
 use Rattle.std.proofs.Common.{refl}
 use Rattle.flash_view.proofs.Stepped.{looked, after_look, fails_as, ends_as}
 use Rattle.block_gc.specs.RoomMade.{cleaning_chosen}
-use Rattle.block_gc.proofs.Replacing.{tidy_keeps}
+use Rattle.block_gc.proofs.Cleanings.{none_cut}
 use Rattle.block_gc.proofs.room.collect_turn.Goals as goal
 
 pub returns-in-Err-clause-step : goal.returns-in-Err-clause-step
-returns-in-Err-clause-step g c = let seen = c.in-Err.ensures in looked seen.looks (λ e. seen.cause) tt (λ tells t. (tidy_keeps _ _ t, refl))
+returns-in-Err-clause-step g c = let seen = c.in-Err.ensures in looked seen.looks (λ e. seen.cause) tt (λ tells t. (none_cut _ _ t, refl))
 
 pub returns-in-Ok-true-clause-step : goal.returns-in-Ok-true-clause-step
 returns-in-Ok-true-clause-step g c =
     let seen = c.in-Ok-true.ensures in
-    looked seen.looks (λ e. absurd (cc)) tt (λ tells t. (tidy_keeps _ _ t, (refl, rw c.in-Ok-true.field-0-test at (seen.told tells t))))
+    looked seen.looks (λ e. absurd (cc)) tt (λ tells t. (none_cut _ _ t, (refl, rw c.in-Ok-true.field-0-test at (seen.told tells t))))
 
 pub returns-in-Err-clean_chosen-clause-step : goal.returns-in-Err-clean_chosen-clause-step
 returns-in-Err-clean_chosen-clause-step g c =

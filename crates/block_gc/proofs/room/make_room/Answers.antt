@@ -1,7 +1,7 @@
 use Rattle.std.proofs.Common.{ap, inl}
 use Rattle.flash_view.proofs.Stepped.{view_image}
 use Rattle.block_gc.specs.declared.room.RoomErr.TheVariants.{Step}
-use Rattle.block_gc.proofs.Cleanings.{made_room, is_tight, never_tight}
+use Rattle.block_gc.proofs.Cleanings.{made_room, is_tight, never_tight, mended}
 use Rattle.block_gc.proofs.room.make_room.Goals as goal
 
 pub returns-in-Err-clause-undamaged : goal.returns-in-Err-clause-undamaged
@@ -15,3 +15,6 @@ returns-in-Ok-false-clause-tight g c = λ tells t says. is_tight _ _ _ _ _ (view
 
 pub returns-in-Ok-false-clause-never_tight : goal.returns-in-Ok-false-clause-never_tight
 returns-in-Ok-false-clause-never_tight g c = λ tells can room says. never_tight _ _ _ _ _ can room (rw c.in-Ok-false.field-0-test at (c.in-Ok-false.ensures.step.ends tells can.tidy))
+
+pub returns-in-Ok-false-clause-mended : goal.returns-in-Ok-false-clause-mended
+returns-in-Ok-false-clause-mended g c = λ tells can no_index no_pages says. mended _ _ _ _ _ can no_index no_pages (rw c.in-Ok-false.field-0-test at (c.in-Ok-false.ensures.step.ends tells can.tidy))

@@ -2,8 +2,7 @@ use Rattle.std.proofs.Common.{◌≡◌, refl, rules, Ok, Err}
 use Rattle.flash_view.specs.declared.kinds.StepErr.TheVariants.{DeviceFault}
 use Rattle.flash_view.specs.Steps.{Stepped, stopped}
 use Rattle.flash_view.proofs.Stepped.{looked, passes, stepped_then, view_image}
-use Rattle.block_gc.proofs.Replacing.{tidy_keeps}
-use Rattle.block_gc.proofs.Cleanings.{telling, packing_begins, packing_ends}
+use Rattle.block_gc.proofs.Cleanings.{none_cut, telling, packing_begins, packing_ends}
 use Rattle.block_gc.proofs.room.pack.Goals as goal
 
 pub returns-in_err-collect : goal.returns-in_err-collect
@@ -14,11 +13,11 @@ returns-in_err-collect g c =
 pub returns-in-Err : goal.returns-in-Err
 returns-in-Err g c =
     let seen = c.in-Err.ensures in
-    let look : Stepped stopped c.collect.new.v c.is_stuck.new.v (Err DeviceFault) telling = looked seen.looks (λ e. seen.cause) tt (λ tells t. (tidy_keeps _ _ t, refl)) in
+    let look : Stepped stopped c.collect.new.v c.is_stuck.new.v (Err DeviceFault) telling = looked seen.looks (λ e. seen.cause) tt (λ tells t. (none_cut _ _ t, refl)) in
     stepped_then c.in_ok-collect.ensures.step look (λ tells t. packing_begins _ _ t) (λ tells t all. packing_ends _ _ _ _ (view_image c.args.v.now (g.met.N.Nor.sized _) tells) t all)
 
 pub returns-in-Ok : goal.returns-in-Ok
 returns-in-Ok g c =
     let seen = c.in-Ok.ensures in
-    let look : Stepped stopped c.collect.new.v c.is_stuck.new.v (Ok c.in-Ok.stuck) telling = looked seen.looks (λ e. absurd (cc)) tt (λ tells t. (tidy_keeps _ _ t, (refl, seen.told tells t))) in
+    let look : Stepped stopped c.collect.new.v c.is_stuck.new.v (Ok c.in-Ok.stuck) telling = looked seen.looks (λ e. absurd (cc)) tt (λ tells t. (none_cut _ _ t, (refl, seen.told tells t))) in
     stepped_then c.in_ok-collect.ensures.step look (λ tells t. packing_begins _ _ t) (λ tells t all. packing_ends _ _ _ _ (view_image c.args.v.now (g.met.N.Nor.sized _) tells) t all)

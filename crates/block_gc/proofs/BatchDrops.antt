@@ -1,0 +1,160 @@
+-- The old pages of a batch are killed, from what each kill leaves.
+use Rattle.std.proofs.Common.{◌≡◌, ◌≢◌, ℕ, List, [], ◌∷◌, true, false, not, ◌==◌, ◌&&◌, Option, Some, None, ap, refl, sym, ◌∙◌, arith, ⊎_elim, inl, inr}
+use Rattle.std.specs.Prelude.{All, Contains, is_some}
+use Rattle.std.proofs.lemmas.Bool.{cases_eq, and_parts, or_cases, eqb-true, ne_eqb}
+use Rattle.std.proofs.lemmas.Option.{none-some}
+use Rattle.geometry.specs.declared.geometry.Geometry.{Geometry}
+use Rattle.flash_view.specs.Steps.{Finishes}
+use Rattle.image_model.specs.Live.{live_at}
+use Rattle.image_model.specs.Places.{block_of}
+use Rattle.image_model.specs.Sound.{Keeps}
+use Rattle.image_model.specs.Tidy.{IsTidy}
+use Rattle.image_laws.specs.LiveSteps.{KillLeaves, KillDone}
+use Rattle.image_laws.proofs.Sounding.{keeps-on}
+use Rattle.renew_laws.proofs.IdleKill.{idle-kills, idles-end}
+use Rattle.renew_laws.proofs.TailSteps.{tail-dropped}
+use Rattle.room_laws.specs.Sorts.{sort_at}
+use Rattle.room_laws.specs.Ways.{Move, AreApart, AreMoves, OnWay, IsBatch, HasCome}
+use Rattle.room_laws.specs.Recovery.{IsOnWay}
+use Rattle.room_laws.proofs.Batches.{IsOut, outs}
+use Rattle.room_laws.proofs.BatchPuts.{killed_is_batch}
+use Rattle.room_laws.proofs.BatchMends.{batch_way_mends}
+use Rattle.room_laws.proofs.Carried.{begins_between, batch_goes_on}
+use Rattle.room_laws.proofs.OnTheWay.{all_at, all_cons, all_from, all_head, all_tail, way_kill}
+use Rattle.page_put.specs.LivePages.{killing}
+use Rattle.block_gc.specs.Turns.{TurnCut, TurnDone}
+use Rattle.block_gc.specs.declared.batch.Carried.{Carried}
+use Rattle.block_gc.specs.Batches.{move_of, moves_of, are_from, IsLeft, Drops, dropping}
+use Rattle.block_gc.proofs.BatchRenews.{mapped}
+use Rattle.block_gc.proofs.Replacing.{flags_stay, kill_left}
+
+-- what a cut leaves while they are killed
+dropped_cut : (g : Geometry) (was image : List ℕ) (block most page : ℕ) (left : List Carried) (d : Drops g was block most page left image) (c : List ℕ) → Keeps g was c → OnWay g (d.index ∷ d.moves) was c → IsBatch g was c d.index d.moves →
+    TurnCut g block most was c
+dropped_cut g was image block most page left d c keeps way batch = record {
+  keeps = keeps;
+  mends = λ first may most_is between.
+      let few = d.few in
+      batch_way_mends g first was c block d.index d.moves may between d.ways d.some (omega (arith, few, most_is)) d.out d.place batch (record { moves_are = d.are; way = way; table = keeps.table });
+}
+
+pub drops_stay : (g : Geometry) (was image : List ℕ) (block most page : ℕ) (left : List Carried) → Drops g was block most page left image → TurnCut g block most was image
+drops_stay g was image block most page left d = dropped_cut g was image block most page left d image d.keeps d.way d.batch
+
+module _ (g : Geometry) (was image : List ℕ) (block most page : ℕ) (x : Carried) (left : List Carried) (d : Drops g was block most page (x ∷ left) image) where
+  one : IsLeft g was image d.spare x
+  one = all_head (IsLeft g was image d.spare) x left d.each
+
+  apart_of : (y : Carried) → Contains left y → y.from ≢ x.from
+  unfolding AreMoves
+  apart_of y has e = (all_at (AreApart (move_of x)) (moves_of left) (move_of y) d.apart.1 (mapped left y has)).from (sym e)
+
+  apart_tail : AreMoves g was (moves_of left)
+  unfolding AreMoves
+  apart_tail = d.apart.2
+
+  way_by : (c : List ℕ) → KillLeaves g x.from image c → OnWay g (d.index ∷ d.moves) was c
+  way_by c kill = way_kill g (d.index ∷ d.moves) was image c x.from one.old d.way kill one.was_live
+
+  batch_by : (c : List ℕ) → KillLeaves g x.from image c → IsBatch g was c d.index d.moves
+  batch_by c kill = killed_is_batch g was image c d.moves d.index x.from d.batch kill
+
+  kill_left_cut : (c : List ℕ) → KillLeaves g x.from image c → TurnCut g block most was c
+  kill_left_cut c kill =
+      let law = (idle-kills g image x.from one.old d.spare d.idles one.idle one.live).0 c kill in
+      dropped_cut g was image block most page (x ∷ left) d c (keeps-on g was image c d.keeps law.0) (way_by c kill) (batch_by c kill)
+
+  kill_done : (b : List ℕ) → KillDone g x.from image b → Drops g was block most page left b
+  kill_done b kill =
+      let law = (idle-kills g image x.from one.old d.spare d.idles one.idle one.live).1 b kill in
+      let cut = kill_left kill in
+      let still : (q : ℕ) → live_at g image q ≡ None → live_at g b q ≡ None = λ q dead. ⊎_elim
+      (λ (here : q ≡ x.from). ap (live_at g b) here ∙ kill.loses.after)
+      (λ (there : q ≡ x.from → ⊥). kill.loses.others q there ∙ dead)
+      (cases_eq q x.from) in
+      record {
+        is = d.is;
+        can = d.can;
+        low = d.low;
+        moves = d.moves;
+        index = d.index;
+        ways = d.ways;
+        some = d.some;
+        few = d.few;
+        out = d.out;
+        place = d.place;
+        are = d.are;
+        way = way_by b cut;
+        batch = batch_by b cut;
+        keeps = keeps-on g was image b d.keeps law.0;
+        index_gone = still d.index.from d.index_gone;
+        spare = λ q. d.spare q && not (q == x.from);
+        idles = law.2;
+        only = λ r e.
+            let v : (d.spare r ≡ true) × (not (r == x.from) ≡ true) = and_parts (d.spare r) (not (r == x.from)) e in
+            ⊎_elim
+            (λ (rest : are_from left r ≡ true). rest)
+            (λ (here : (r == x.from) ≡ true). let bad : false ≡ true = rw here at v.1 in absurd (cc))
+            (or_cases (are_from left r) (r == x.from) (d.only r v.0));
+        each = all_from (IsLeft g was b (λ q. d.spare q && not (q == x.from))) left (λ y has.
+            let l = all_at (IsLeft g was image d.spare) left y (all_tail (IsLeft g was image d.spare) x left d.each) has in
+            let other = apart_of y has in
+            record {
+              old = l.old;
+              was_live = l.was_live;
+              kind = l.kind;
+              live = kill.loses.others y.from other ∙ l.live;
+              idle = rw (l.idle, ne_eqb y.from x.from other) refl;
+              flags = flags_stay g image b x.from y.from l.old kill.agree l.live other l.flags;
+            });
+        apart = apart_tail;
+        gone = ⊎_elim
+            (λ (from : are_from (x ∷ left) page ≡ true). ⊎_elim
+            (λ (rest : are_from left page ≡ true). inl rest)
+            (λ (here : (page == x.from) ≡ true). inr (ap (live_at g b) (eqb-true page x.from here) ∙ kill.loses.after))
+            (or_cases (are_from left page) (page == x.from) from))
+            (λ (dead : live_at g image page ≡ None). inr (still page dead))
+            d.gone;
+        tails = λ j ready. tail-dropped g image b x.from one.old one.live one.kind kill j (d.tails j ready);
+      }
+
+  pub drop_kills : Finishes g image image (killing x.from) (dropping was block most page x left)
+  drop_kills = record {
+    needs = record { live = ap is_some one.live; byte = one.flags };
+    cut = λ c kill. kill_left_cut c kill;
+    done = λ c ok kill. kill_done c kill;
+  }
+
+-- ---- with none left the turn is done
+
+module _ (g : Geometry) (was image : List ℕ) (block most page : ℕ) (d : Drops g was block most page [] image) where
+  tidy : IsTidy g image
+  tidy = idles-end g image d.spare (λ r e. let bad : false ≡ true = d.only r e in absurd (cc)) d.idles
+
+  on_way : IsOnWay g (d.index ∷ d.moves) was image
+  on_way = record { moves_are = d.are; way = d.way; table = d.keeps.table }
+
+  -- no page of the block is live that wasn't
+  others_dead : (q : ℕ) → block_of g q ≡ block → live_at g was q ≡ None → live_at g image q ≡ None
+  others_dead q here dead = by (live_at g image q) refl
+    where
+      outside : All (λ (m : Move). block_of g m.to ≢ block) (d.index ∷ d.moves)
+      outside = all_cons (λ (m : Move). block_of g m.to ≢ block) d.index d.moves d.place.apart
+          (all_from (λ (m : Move). block_of g m.to ≢ block) d.moves (λ m has. (all_at (IsOut g block (sort_at g was)) d.moves m (outs g block (sort_at g was) d.moves d.ways) has).apart))
+
+      by : (x : Option (List ℕ)) → live_at g image q ≡ x → live_at g image q ≡ None
+      by None e = e
+      by (Some x) e = absurd (⊎_elim
+          (λ (before : live_at g was q ≡ Some x). none-some x (sym dead ∙ before))
+          (λ (come : HasCome g was (d.index ∷ d.moves) q x). all_at (λ (m : Move). block_of g m.to ≢ block) (d.index ∷ d.moves) come.move outside come.one (ap (λ (p : ℕ). block_of g p) come.at ∙ here))
+          (d.way.live q x e))
+
+  pub drops_end : TurnDone g block page was image
+  drops_end = record {
+    keeps = d.keeps;
+    can = record { tidy = tidy; places = (batch_goes_on g was was image block d.index d.moves d.low (begins_between g was block d.is d.can.tidy d.low) d.can.places d.ways d.some d.out d.place d.batch on_way tidy d.index_gone).1 };
+    gone = ⊎_elim (λ (left : are_from [] page ≡ true). let bad : false ≡ true = left in absurd (cc)) (λ (dead : live_at g image page ≡ None). dead) d.gone;
+    others = others_dead;
+    between = λ first so_far. (batch_goes_on g first was image block d.index d.moves d.low so_far d.can.places d.ways d.some d.out d.place d.batch on_way tidy d.index_gone).0;
+    tails = d.tails;
+  }

@@ -1,0 +1,328 @@
+-- A batch of data pages that goes out of a block: what holds once some of them were carried, and while the old pages are killed.
+use Rattle.std.specs.Prelude.{◌≡◌, ◌≢◌, ℕ, ◌+◌, ◌*◌, ◌%◌, ◌<◌, ◌≤◌, ◌⊎◌, List, [], ◌∷◌, ◌++◌, length, map, reverse, Bool, true, false, ◌==◌, ◌||◌, Option, Some, None, Ok, All, slice_index, slice_range, take}
+use Rattle.geometry.specs.declared.geometry.Geometry.{Geometry}
+use Rattle.table_model.specs.Table.{File}
+use Rattle.table_model.specs.declared.error.Tag.{Tag}
+use Rattle.image_model.specs.Places.{IsImage, block_of}
+use Rattle.image_model.specs.Headers.{obj_id, span_of, names_index}
+use Rattle.image_model.specs.Live.{live_at, own}
+use Rattle.image_model.specs.Files.{is_index, index_page, entry_number, judged}
+use Rattle.image_model.specs.Kinds.{is_index_block, is_data_block}
+use Rattle.image_model.specs.Sound.{Keeps}
+use Rattle.image_laws.specs.NewFile.{IsFreePage}
+use Rattle.image_laws.specs.Reindex.{index_span}
+use Rattle.image_laws.specs.TidySteps.{IsTidyBut}
+use Rattle.renew_laws.specs.Idles.{Idles}
+use Rattle.renew_laws.specs.Tails.{KeepsTails}
+use Rattle.room_laws.specs.Counts.{for_index, for_data}
+use Rattle.room_laws.specs.Sorts.{sort_at, IsPlaceBy}
+use Rattle.room_laws.specs.Ways.{Move, AreMoves, OnWay, IsBatch}
+use Rattle.room_laws.specs.Recovery.{with_data, ArePagesWay}
+use Rattle.room_laws.specs.Batching.{IsCarrying}
+use Rattle.flash_view.specs.Places.{IsEntryPage}
+use Rattle.flash_view.specs.Steps.{Step}
+use Rattle.page_renew.specs.Built.{IsBuilt, IsNamed}
+use Rattle.block_gc.specs.Turns.{CanEmpty, TurnCut, TurnDone, CanMoveBatch}
+use Rattle.block_gc.specs.declared.batch.Batch.{Batch}
+use Rattle.block_gc.specs.declared.batch.Carried.{Carried}
+
+-- ---- lists of pages that were carried, the last one in front
+
+-- one as a move, and all of them
+abbrev pub move_of : Carried → Move
+move_of c = record { from = c.from; to = c.to }
+
+abbrev pub moves_of : List Carried → List Move
+moves_of cs = map move_of cs
+
+-- one of them was carried from a page, or to it
+abbrev pub are_from : List Carried → ℕ → Bool
+are_from [] r = false
+are_from (c ∷ cs) r = are_from cs r || (r == c.from)
+
+abbrev pub are_to : List Carried → ℕ → Bool
+are_to [] r = false
+are_to (c ∷ cs) r = are_to cs r || (r == c.to)
+
+-- the list has one more, from that page
+pub record HasMore (page : ℕ) (was now : List Carried) : Type 0 where
+  pub more : Carried
+  pub from : more.from ≡ page
+  pub list : now ≡ was ++ more ∷ []
+
+-- all of them were carried from entry pages
+abbrev pub AreEntries : Geometry → List Carried → Type 0
+AreEntries g cs = All (λ (c : Carried). IsEntryPage g c.from) cs
+
+-- ---- the batch
+
+-- the tag tells the id and the span of the live page
+pub record IsTagOf (g : Geometry) (image : List ℕ) (page : ℕ) (tag : Tag) : Type 0 where
+  pub bytes : List ℕ
+  pub is_live : live_at g image page ≡ Some bytes
+  pub id : tag.id ≡ obj_id bytes
+  pub span : tag.span ≡ span_of bytes
+
+-- Page `index` is the index page with the entry of the data page that has this tag.
+pub record IsNamedBy (g : Geometry) (image : List ℕ) (page index : ℕ) (tag : Tag) : Type 0 where
+  pub of : IsTagOf g image page tag
+  pub first : index_page g (own (live_at g image) tag.id) (index_span g tag.span) ≡ Some index
+
+-- that index page and that tag are found
+abbrev pub IsFoundFor : Geometry → (image : List ℕ) (page : ℕ) → Option (ℕ × Tag) → Type 0
+IsFoundFor g image page None = ⊥
+IsFoundFor g image page (Some (index, tag)) = IsNamedBy g image page index tag
+
+-- a data page with the id, the span and the file bytes of another
+pub record IsDataCopy (g : Geometry) (old new : List ℕ) : Type 0 where
+  pub data_kind : names_index new ≡ false
+  pub id : obj_id new ≡ obj_id old
+  pub span : span_of new ≡ span_of old
+  pub body : slice_range new 5 g.page ≡ slice_range old 5 g.page
+
+-- Its index page is the live index page of its id and span.
+pub record IsIndexOf (g : Geometry) (image : List ℕ) (batch : Batch) : Type 0 where
+  pub page : List ℕ
+  pub live : live_at g image batch.index ≡ Some page
+  pub kind : names_index page ≡ true
+  pub id : obj_id page % 0x8000 ≡ batch.id
+  pub span : span_of page ≡ batch.span
+  pub first : index_page g (own (live_at g image) batch.id) batch.span ≡ Some batch.index
+
+-- Page q is a live data page that this index page names, of that span.
+pub record IsOfBatch (g : Geometry) (image : List ℕ) (batch : Batch) (q span : ℕ) : Type 0 where
+  pub page : List ℕ
+  pub live : live_at g image q ≡ Some page
+  pub kind : names_index page ≡ false
+  pub id : obj_id page % 0x8000 ≡ batch.id
+  pub is_span : span_of page ≡ span
+  pub at : index_span g span ≡ batch.span
+
+-- A page of the batch was carried: its copy stands at its place.
+pub record IsCarried (g : Geometry) (was image : List ℕ) (batch : Batch) (c : Carried) : Type 0 where
+  pub of : IsOfBatch g was batch c.from c.span
+  pub copy : List ℕ
+  pub copied : IsDataCopy g of.page copy
+  pub there : live_at g image c.to ≡ Some copy
+  pub flags : slice_index image (c.from * g.page + 4) < 256
+
+-- The file of an id is as it was, with live pages beside that no index page names.
+pub record StandsBeside (g : Geometry) (was image : List ℕ) (id : ℕ) : Type 0 where
+  pub h : ℕ
+  pub head : List ℕ
+  pub f : File
+  pub was_at : index_page g (own (live_at g was) id) 0 ≡ Some h
+  pub was_header : own (live_at g was) id h ≡ Some head
+  pub at : index_page g (own (live_at g image) id) 0 ≡ Some h
+  pub header : own (live_at g image) id h ≡ Some head
+  pub file : judged g (own (live_at g image) id) id head ≡ Ok f
+  pub index : (k : ℕ) → index_page g (own (live_at g image) id) k ≡ index_page g (own (live_at g was) id) k
+  pub entry : (t : ℕ) → entry_number g (own (live_at g image) id) head t ≡ entry_number g (own (live_at g was) id) head t
+  pub alone : (r j : ℕ) → is_index (own (live_at g image) id r) j ≡ true → is_index (own (live_at g was) id r) j ≡ true
+  pub stays : (r : ℕ) (x : List ℕ) → live_at g was r ≡ Some x → live_at g image r ≡ Some x
+
+-- ---- what is carried
+
+-- Copies of some data pages of a batch were put since an image, at most so many, and nothing else changed. Tails that were ready are so still.
+pub record Carries (g : Geometry) (was : List ℕ) (block most : ℕ) (batch : Batch) (cs : List Carried) (image : List ℕ) : Type 0 where
+  pub is : IsImage g was
+  pub can : CanEmpty g was block
+  pub low : block < g.blocks
+  pub index : IsIndexOf g was batch
+  pub carrying : IsCarrying g was block was (moves_of cs) image
+  pub tidy : IsTidyBut g image (λ r. are_to cs r)
+  pub keeps : Keeps g was image
+  pub pages : All (IsCarried g was image batch) cs
+  pub beside : StandsBeside g was image batch.id
+  pub few : length cs ≤ most
+  pub tails : KeepsTails g was image
+
+-- One more page of the block may be carried.
+pub record CanCarry (g : Geometry) (was : List ℕ) (block most : ℕ) (batch : Batch) (cs : List Carried) (q span : ℕ) (image : List ℕ) : Type 0 where
+  pub so_far : Carries g was block most batch cs image
+  pub of : IsOfBatch g was batch q span
+  pub from : block_of g q ≡ block
+  pub apart : All (λ (c : Carried). q ≢ c.from) cs
+  pub room : length cs < most
+
+-- It may be carried to page `to`.
+pub record CanCarryTo (g : Geometry) (was : List ℕ) (block most : ℕ) (batch : Batch) (cs : List Carried) (q to span : ℕ) (image : List ℕ) : Type 0 where
+  pub can : CanCarry g was block most batch cs q span image
+  pub free : IsFreePage g image to
+  pub place : IsPlaceBy g (sort_at g image) block for_data to
+  pub kind : is_index_block g image (block_of g to) ≡ false
+
+-- The page that begins the batch was carried, and of those behind it none from page `next` on.
+pub record CarriesTo (g : Geometry) (was : List ℕ) (block most : ℕ) (batch : Batch) (page next : ℕ) (cs : List Carried) (image : List ℕ) : Type 0 where
+  pub so_far : Carries g was block most batch cs image
+  pub begun : are_from cs page ≡ true
+  pub behind : (r : ℕ) → page < r → next ≤ r → All (λ (c : Carried). r ≢ c.from) cs
+
+-- one more page is carried to a place that was found
+abbrev pub carrying_to : (was : List ℕ) (block most : ℕ) → Batch → (cs : List Carried) (q to span : ℕ) → Step (Unit {0})
+carrying_to was block most batch cs q to span = record {
+  needs = λ g image. CanCarryTo g was block most batch cs q to span image;
+  cut = λ g image cut. TurnCut g block most was cut;
+  done = λ g image now ok. Carries g was block most batch (record { from = q; to = to; span = span } ∷ cs) now;
+}
+
+-- ---- and with the lists of the program, the last one at the end
+
+-- one more page is carried
+abbrev pub carrying : (was : List ℕ) (block most : ℕ) → Batch → (old new : List Carried) (q span : ℕ) → Step (Unit {0})
+carrying was block most batch old new q span = record {
+  needs = λ g image. CanCarry g was block most batch (reverse old) q span image;
+  cut = λ g image cut. TurnCut g block most was cut;
+  done = λ g image now ok. Carries g was block most batch (reverse new) now × HasMore q old new;
+}
+
+-- a page behind the first one has its turn
+abbrev pub carrying_turn : (was : List ℕ) (block most : ℕ) → Batch → (old new : List Carried) (page q : ℕ) → Step (Unit {0})
+carrying_turn was block most batch old new page q = record {
+  needs = λ g image. CarriesTo g was block most batch page q (reverse old) image × (block_of g q ≡ block);
+  cut = λ g image cut. TurnCut g block most was cut;
+  done = λ g image now ok. CarriesTo g was block most batch page (q + 1) (reverse new) now;
+}
+
+-- All that go with the batch were carried.
+pub record CarriesAll (g : Geometry) (was : List ℕ) (block most : ℕ) (batch : Batch) (page : ℕ) (cs : List Carried) (image : List ℕ) : Type 0 where
+  pub so_far : Carries g was block most batch cs image
+  pub begun : are_from cs page ≡ true
+
+-- those behind the first one have their turns, up to a page
+abbrev pub carrying_rest : (was : List ℕ) (block most : ℕ) → Batch → (old new : List Carried) (page next : ℕ) → Step (Unit {0})
+carrying_rest was block most batch old new page next = record {
+  needs = λ g image. CarriesTo g was block most batch page 0 (reverse old) image;
+  cut = λ g image cut. TurnCut g block most was cut;
+  done = λ g image now ok. CarriesTo g was block most batch page next (reverse new) now;
+}
+
+-- all behind the first one have their turns
+abbrev pub carrying_all : (was : List ℕ) (block most : ℕ) → Batch → (old new : List Carried) (page : ℕ) → Step (Unit {0})
+carrying_all was block most batch old new page = record {
+  needs = λ g image. CarriesTo g was block most batch page 0 (reverse old) image;
+  cut = λ g image cut. TurnCut g block most was cut;
+  done = λ g image now ok. CarriesAll g was block most batch page (reverse new) now;
+}
+
+-- ---- the index page is renewed
+
+-- the second page is the first with the names of the pages that were carried
+unfoldable pub AreNamed : Geometry → (plain : List ℕ) → List Carried → (page : List ℕ) → Type 0
+AreNamed g plain [] page = page ≡ plain
+AreNamed g plain (c ∷ cs) page = (mid : List ℕ) × AreNamed g plain cs mid × IsNamed g c.span c.to mid page
+
+-- The first bytes are the copy of this live index page with those names.
+pub record IsNamedCopy (g : Geometry) (image : List ℕ) (index : ℕ) (cs : List Carried) (work : List ℕ) : Type 0 where
+  pub tag : Tag
+  pub plain : List ℕ
+  pub built : IsBuilt g image index tag plain
+  pub named : AreNamed g (take g.page plain) cs (take g.page work)
+
+-- All were carried, and page `to` is free for the index page.
+pub record CanRenameTo (g : Geometry) (was : List ℕ) (block most : ℕ) (batch : Batch) (page to : ℕ) (cs : List Carried) (image : List ℕ) : Type 0 where
+  pub all : CarriesAll g was block most batch page cs image
+  pub free : IsFreePage g image to
+  pub place : IsPlaceBy g (sort_at g image) block for_index to
+  pub kind : is_data_block g image (block_of g to) ≡ false
+
+-- ---- the old pages are killed
+
+-- a data page that was carried is still to be killed
+pub record IsLeft (g : Geometry) (was image : List ℕ) (spare : ℕ → Bool) (c : Carried) : Type 0 where
+  pub old : List ℕ
+  pub was_live : live_at g was c.from ≡ Some old
+  pub kind : names_index old ≡ false
+  pub live : live_at g image c.from ≡ Some old
+  pub idle : spare c.from ≡ true
+  pub flags : slice_index image (c.from * g.page + 4) < 256
+
+-- Copies of a batch's pages are at their places, its index page is renewed, and of the old pages those of a list are left. Tails that were ready are so still.
+pub record Drops (g : Geometry) (was : List ℕ) (block most page : ℕ) (left : List Carried) (image : List ℕ) : Type 0 where
+  pub is : IsImage g was
+  pub can : CanEmpty g was block
+  pub low : block < g.blocks
+  pub moves : List Move
+  pub index : Move
+  pub ways : ArePagesWay g block (sort_at g was) moves
+  pub some : 0 < length moves
+  pub few : length moves ≤ most
+  pub out : block_of g index.from ≢ block
+  pub place : IsPlaceBy g (with_data moves (sort_at g was)) block for_index index.to
+  pub are : AreMoves g was (index ∷ moves)
+  pub way : OnWay g (index ∷ moves) was image
+  pub batch : IsBatch g was image index moves
+  pub keeps : Keeps g was image
+  pub index_gone : live_at g image index.from ≡ None
+  pub spare : ℕ → Bool
+  pub idles : Idles g spare image
+  pub only : (r : ℕ) → spare r ≡ true → are_from left r ≡ true
+  pub each : All (IsLeft g was image spare) left
+  pub apart : AreMoves g was (moves_of left)
+  pub gone : (are_from left page ≡ true) ⊎ (live_at g image page ≡ None)
+  pub tails : KeepsTails g was image
+
+-- the index page is renewed at a place that was found
+abbrev pub renaming_to : (was : List ℕ) (block most : ℕ) → Batch → (page to : ℕ) (cs : List Carried) → Step (Unit {0})
+renaming_to was block most batch page to cs = record {
+  needs = λ g image. CanRenameTo g was block most batch page to cs image;
+  cut = λ g image cut. TurnCut g block most was cut;
+  done = λ g image now ok. Drops g was block most page cs now;
+}
+
+-- the index page is renewed
+abbrev pub renaming : (was : List ℕ) (block most : ℕ) → Batch → (page : ℕ) (cs : List Carried) → Step (Unit {0})
+renaming was block most batch page cs = record {
+  needs = λ g image. CarriesAll g was block most batch page cs image;
+  cut = λ g image cut. TurnCut g block most was cut;
+  done = λ g image now ok. Drops g was block most page cs now;
+}
+
+-- the first one that is left is killed
+abbrev pub dropping : (was : List ℕ) (block most page : ℕ) → Carried → (left : List Carried) → Step (Unit {0})
+dropping was block most page c left = record {
+  needs = λ g image. Drops g was block most page (c ∷ left) image;
+  cut = λ g image cut. TurnCut g block most was cut;
+  done = λ g image now ok. Drops g was block most page left now;
+}
+
+-- those that are left are killed, until others are left
+abbrev pub dropping_all : (was : List ℕ) (block most page : ℕ) → (from left : List Carried) → Step (Unit {0})
+dropping_all was block most page from left = record {
+  needs = λ g image. Drops g was block most page from image;
+  cut = λ g image cut. TurnCut g block most was cut;
+  done = λ g image now ok. Drops g was block most page left now;
+}
+
+-- where all were carried the index page is renewed, and the old pages are killed
+abbrev pub ending_batch : (was : List ℕ) (block most : ℕ) → Batch → (page : ℕ) (cs : List Carried) → Step (Unit {0})
+ending_batch was block most batch page cs = record {
+  needs = λ g image. CarriesAll g was block most batch page cs image;
+  cut = λ g image cut. TurnCut g block most was cut;
+  done = λ g image now ok. TurnDone g block page was now;
+}
+
+-- A page of a tidy image is one of a batch.
+pub record CanMoveFrom (g : Geometry) (was : List ℕ) (block most : ℕ) (batch : Batch) (page span : ℕ) : Type 0 where
+  pub can : CanMoveBatch g was block page
+  pub is : IsImage g was
+  pub at : block_of g page ≡ block
+  pub most_is : 1 ≤ most
+  pub index : IsIndexOf g was batch
+  pub of : IsOfBatch g was batch page span
+
+-- all pages of the batch that a page begins are carried
+abbrev pub carrying_batch : (block most : ℕ) → Batch → (new : List Carried) (page span : ℕ) → Step (Unit {0})
+carrying_batch block most batch new page span = record {
+  needs = λ g was. CanMoveFrom g was block most batch page span;
+  cut = λ g was image. TurnCut g block most was image;
+  done = λ g was now ok. CarriesAll g was block most batch page (reverse new) now;
+}
+
+-- and moved
+abbrev pub moving_from : (block most : ℕ) → Batch → (page span : ℕ) → Step (Unit {0})
+moving_from block most batch page span = record {
+  needs = λ g was. CanMoveFrom g was block most batch page span;
+  cut = λ g was image. TurnCut g block most was image;
+  done = λ g was now ok. TurnDone g block page was now;
+}
