@@ -33,8 +33,9 @@ use Rattle.header_laws.proofs.Telling.{one-head}
 use Rattle.flash_view.specs.Steps.{Begins, Finishes, making}
 use Rattle.page_put.specs.LivePages.{clearing, Stays, Cleared}
 use Rattle.page_put.proofs.Clearing.{left_half, left_done, clears_mark, below_byte}
-use Rattle.file_drop.specs.Removals.{is_of, CanDrop, RemoveCut, HeaderDropped, KeepsAll, dropping_header}
-use Rattle.file_drop.proofs.Killing.{some_page, dead_keeps, dead_orphans}
+use Rattle.file_drop.specs.Drops.{none_kept, is_left, KeepsAll}
+use Rattle.file_drop.specs.Removals.{CanDrop, RemoveCut, HeaderDropped, dropping_header}
+use Rattle.file_drop.proofs.Killing.{some_page, all_left, dead_keeps, dead_orphans}
 
 some_index : (o : Option (List ℕ)) → is_index o 0 ≡ true → (x : List ℕ) × (o ≡ Some x)
 some_index None e = absurd (cc)
@@ -135,12 +136,12 @@ module _ (g : Geometry) (a : List ℕ) (id p : ℕ) (is : IsImage g a) (can : Ca
       let after = kept c h in
       record { sound = sound-on g a marked c before.0 after.keeps.sound; table = inr (after.keeps.table ∙ left.table); free = omega (arith, before.2, after.free) }
 
-  leaves : (q : ℕ) → q ≢ p → is_some (own (live_at g a) id q) ≡ true → is_of g marked id q ≡ true
-  leaves q there mine = ap is_some (own-live (live_at g a) (live_at g marked) id q (loses.others q there)) ∙ mine
+  leaves : (q : ℕ) → q ≢ p → is_some (own (live_at g a) id q) ≡ true → is_left g marked id none_kept q ≡ true
+  leaves q there mine = all_left g marked id q ∙ ap is_some (own-live (live_at g a) (live_at g marked) id q (loses.others q there)) ∙ mine
 
-  back : (q : ℕ) → is_of g marked id q ≡ true → is_some (own (live_at g a) id q) ≡ true
+  back : (q : ℕ) → is_left g marked id none_kept q ≡ true → is_some (own (live_at g a) id q) ≡ true
   back q mine =
-      let w = some_page (own (live_at g marked) id q) mine in
+      let w = some_page (own (live_at g marked) id q) (sym (all_left g marked id q) ∙ mine) in
       let z = own-parts (live_at g marked) id q w.0 w.1 in
       ap is_some (own-some (live_at g a) id q w.0 (left.others q w.0 z.0) z.1)
 
@@ -152,7 +153,7 @@ module _ (g : Geometry) (a : List ℕ) (id p : ℕ) (is : IsImage g a) (can : Ca
         sound = sound-on g a marked c before.0 after.keeps.sound;
         table = after.keeps.table ∙ left.table;
         free = omega (arith, before.2, after.free);
-        orphans = dead_orphans g marked c id p (λ r. is_some (own (live_at g a) id r)) left.orphans leaves back h;
+        left = dead_orphans g marked c id p (λ r. is_some (own (live_at g a) id r)) left.orphans leaves back h;
       }
 
   pub clears_header : (b : List ℕ) → b ≡ marked → Finishes g a b (clearing p) (dropping_header id p)

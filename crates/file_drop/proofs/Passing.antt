@@ -1,6 +1,5 @@
--- The turns of a remove one after the other.
-use Rattle.std.proofs.Common.{length, ◌*◌, Result, Ok, Err, OnOk, ◌≡◌, ℕ, ◌+◌, ◌<◌, ◌≤◌, List, false, Option, Some, None, refl, sym, ◌∙◌, arith, ⊎_elim, inl, inr}
-use Rattle.std.specs.Prelude.{is_some}
+-- The turns of a remove and of a truncation one after the other.
+use Rattle.std.proofs.Common.{length, ◌*◌, Result, Ok, Err, OnOk, ◌≡◌, ℕ, ◌+◌, ◌<◌, ◌≤◌, List, Bool, true, false, Some, refl, sym, ◌∙◌, arith, ⊎_elim, inl, inr}
 use Rattle.std.proofs.lemmas.Bool.{cases_eq}
 use Rattle.geometry.specs.declared.geometry.Geometry.{Geometry}
 use Rattle.image_model.specs.Volume.{page_count}
@@ -10,13 +9,22 @@ use Rattle.image_model.specs.Live.{live_at, own}
 use Rattle.image_model.specs.Sound.{HasMagics}
 use Rattle.image_laws.proofs.Finish.{own-parts}
 use Rattle.image_laws.proofs.Frames.{live_parts}
-use Rattle.image_laws.proofs.RemoveTidy.{orphans-end}
 use Rattle.image_laws.proofs.Sounding.{keeps-itself, keeps-on, sound-on}
 use Rattle.image_laws.proofs.SpareKill.{tidy-has_magics}
 use Rattle.image_laws.proofs.TidySteps.{tidy-is_tidy}
+use Rattle.renew_laws.specs.Idles.{Idles}
+use Rattle.renew_laws.proofs.IdleKill.{idles-end}
+use Rattle.image_laws.specs.Remove.{Orphans}
+use Rattle.image_laws.specs.Spares.{Spares}
 use Rattle.flash_view.specs.Steps.{Step, Begins, Finishes}
-use Rattle.file_drop.specs.Removals.{is_of, HasOrphans, KeepsAll, DropsPage, CanRemove, CanDrop, RemoveCut, HeaderDropped, dropping, dropping_all, dropping_header, removing_by, removing}
-use Rattle.file_drop.proofs.Killing.{some_page}
+use Rattle.file_drop.specs.declared.pages.Kept.{Kept}
+use Rattle.file_drop.specs.Drops.{none_kept, is_left, HasLeft, KeepsAll, DropsPage, dropping, dropping_all}
+use Rattle.file_drop.specs.Removals.{CanRemove, CanDrop, RemoveCut, HeaderDropped, dropping_header, removing_by, removing}
+use Rattle.file_drop.proofs.Killing.{past_page}
+
+-- an image that is tidy but for pages that are not needed has its magics
+idles-magics : (g : Geometry) (a : List ℕ) (spare : ℕ → Bool) → Idles g spare a → HasMagics g a
+idles-magics g a spare idles = ⊎_elim (λ (o : Orphans g spare a). tidy-has_magics g a spare o.tidy) (λ (s : Spares g spare a). tidy-has_magics g a spare s.tidy) idles
 
 -- a device that holds the volume holds an image of it
 pub image_of : (g : Geometry) (bytes : List ℕ) (size : ℕ) → length bytes ≡ size → g.blocks * g.block ≤ size → IsImage g bytes
@@ -26,34 +34,34 @@ pub on_ok : {X Y : Type 0} (r : Result X Y) {P Q : Type 0} → (P → Q) → OnO
 on_ok (Ok x) f h = f h
 on_ok (Err e) f h = tt
 
-pub keeps_none : (g : Geometry) (id : ℕ) (a : List ℕ) → HasOrphans g id a → KeepsAll g a a
-keeps_none g id a o = record { keeps = keeps-itself g a (tidy-has_magics g a (λ q. is_of g a id q) o.tidy); free = omega arith }
+pub keeps_none : (g : Geometry) (id : ℕ) (kept : Kept) (a : List ℕ) → HasLeft g id kept a → KeepsAll g a a
+keeps_none g id kept a o = record { keeps = keeps-itself g a (idles-magics g a (λ (q : ℕ). is_left g a id kept q) o); free = omega arith }
 
 keeps_then : (g : Geometry) (a b c : List ℕ) → KeepsAll g a b → KeepsAll g b c → KeepsAll g a c
 keeps_then g a b c x y = record { keeps = keeps-on g a b c x.keeps y.keeps; free = omega (arith, x.free, y.free) }
 
 -- ---- page by page
 
--- no page below n is a live page of the id
-pub record Dropping (g : Geometry) (was now : List ℕ) (id n : ℕ) : Type 0 where
-  pub kept : KeepsAll g was now
-  pub orphans : HasOrphans g id now
-  pub passed : (q : ℕ) → q < n → own (live_at g now) id q ≡ None
+-- no page below n is to go
+pub record Dropping (g : Geometry) (was now : List ℕ) (id : ℕ) (kept : Kept) (n : ℕ) : Type 0 where
+  pub keeps : KeepsAll g was now
+  pub left : HasLeft g id kept now
+  pub passed : (q : ℕ) → q < n → is_left g now id kept q ≡ false
 
 -- the turns of the pages below n
-abbrev pub dropping_to : ℕ → ℕ → Step (Unit {0})
-dropping_to id n = record { needs = λ g was. HasOrphans g id was; cut = λ g was image. KeepsAll g was image; done = λ g was now ok. Dropping g was now id n }
+abbrev pub dropping_to : ℕ → Kept → ℕ → Step (Unit {0})
+dropping_to id kept n = record { needs = λ g was. HasLeft g id kept was; cut = λ g was image. KeepsAll g was image; done = λ g was now ok. Dropping g was now id kept n }
 
-pub none_yet : (g : Geometry) (a : List ℕ) (id : ℕ) → HasOrphans g id a → KeepsAll g a a × Dropping g a a id 0
-none_yet g a id o = (keeps_none g id a o, record { kept = keeps_none g id a o; orphans = o; passed = λ q low. absurd (omega arith) })
+pub none_yet : (g : Geometry) (a : List ℕ) (id : ℕ) (kept : Kept) → HasLeft g id kept a → KeepsAll g a a × Dropping g a a id kept 0
+none_yet g a id kept o = (keeps_none g id kept a o, record { keeps = keeps_none g id kept a o; left = o; passed = λ q low. absurd (omega arith) })
 
-pub turns : (g : Geometry) (a b : List ℕ) (id n : ℕ) → Dropping g a b id n → Finishes g a b (dropping id n) (dropping_to id (n + 1))
-turns g a b id n s = record {
-  needs = s.orphans;
-  cut = λ c kept. keeps_then g a b c s.kept kept;
+pub turns : (g : Geometry) (a b : List ℕ) (id : ℕ) (kept : Kept) (n : ℕ) → Dropping g a b id kept n → Finishes g a b (dropping id kept n) (dropping_to id kept (n + 1))
+turns g a b id kept n s = record {
+  needs = s.left;
+  cut = λ c keeps. keeps_then g a b c s.keeps keeps;
   done = λ c ok turn. record {
-    kept = keeps_then g a b c s.kept turn.kept;
-    orphans = turn.orphans;
+    keeps = keeps_then g a b c s.keeps turn.keeps;
+    left = turn.left;
     passed = λ q low. ⊎_elim
         (λ (last : q ≡ n). rw last turn.gone)
         (λ (other : q ≡ n → ⊥). turn.others q (s.passed q (omega (arith, low, other))))
@@ -61,31 +69,27 @@ turns g a b id n s = record {
   };
 }
 
-pub all_passed : (g : Geometry) (a : List ℕ) (id n : ℕ) → page_count g ≤ n → HasOrphans g id a → Finishes g a a (dropping_to id n) (dropping_all id)
-all_passed g a id n all o = record {
+pub all_passed : (g : Geometry) (a : List ℕ) (id : ℕ) (kept : Kept) (n : ℕ) → page_count g ≤ n → HasLeft g id kept a → Finishes g a a (dropping_to id kept n) (dropping_all id kept)
+all_passed g a id kept n all o = record {
   needs = o;
-  cut = λ c kept. kept;
+  cut = λ c keeps. keeps;
   done = λ c ok s. record {
-    kept = s.kept;
-    tidy = orphans-end g c (λ q. is_of g c id q)
+    keeps = s.keeps;
+    tidy = idles-end g c (λ (q : ℕ). is_left g c id kept q)
         (λ r mine.
-        let x = some_page (own (live_at g c) id r) mine in
+        let x = past_page kept.index_pages kept.data_pages (own (live_at g c) id r) mine in
         let live : live_at g c r ≡ Some x.0 = (own-parts (live_at g c) id r x.0 x.1).0 in
         let low : r < page_count g = page_number g r (live_parts g c r x.0 live).entry_page in
-        let none : own (live_at g c) id r ≡ None = s.passed r (omega (arith, low, all)) in
-        let bad : Some x.0 ≡ None = sym x.1 ∙ none in
+        let passed : is_left g c id kept r ≡ false = s.passed r (omega (arith, low, all)) in
+        let bad : true ≡ false = sym mine ∙ passed in
         absurd (cc))
-        s.orphans;
+        s.left;
   };
 }
 
--- a page that isn't one of the id is passed
-pub drops_none : (g : Geometry) (a : List ℕ) (id p : ℕ) → is_of g a id p ≡ false → HasOrphans g id a → DropsPage g id p a a
-drops_none g a id p other o = record { kept = keeps_none g id a o; orphans = o; gone = none_of (own (live_at g a) id p) other; others = λ q e. e }
-  where
-    none_of : (o : Option (List ℕ)) → is_some o ≡ false → o ≡ None
-    none_of None e = refl
-    none_of (Some x) e = absurd (cc)
+-- a page that isn't to go is passed
+pub drops_none : (g : Geometry) (a : List ℕ) (id : ℕ) (kept : Kept) (p : ℕ) → is_left g a id kept p ≡ false → HasLeft g id kept a → DropsPage g id kept p a a
+drops_none g a id kept p other o = record { keeps = keeps_none g id kept a o; left = o; gone = other; others = λ q e. e }
 
 -- ---- the whole remove
 
@@ -98,11 +102,11 @@ stays g a id can =
 pub header_first : (g : Geometry) (a : List ℕ) (id p : ℕ) → CanDrop g a id p → Begins g a (dropping_header id p) (removing_by id p)
 header_first g a id p can = record { needs = can; cut = λ c cut. cut }
 
-pub pages_then : (g : Geometry) (a b : List ℕ) (id p : ℕ) → HeaderDropped g a id b → Finishes g a b (dropping_all id) (removing_by id p)
+pub pages_then : (g : Geometry) (a b : List ℕ) (id p : ℕ) → HeaderDropped g a id b → Finishes g a b (dropping_all id none_kept) (removing_by id p)
 pages_then g a b id p s = record {
-  needs = s.orphans;
+  needs = s.left;
   cut = λ c k. record { sound = sound-on g a b c s.sound k.keeps.sound; table = inr (k.keeps.table ∙ s.table); free = omega (arith, s.free, k.free) };
-  done = λ c ok k. record { tidy = k.tidy; table = k.kept.keeps.table ∙ s.table; free = omega (arith, s.free, k.kept.free) };
+  done = λ c ok k. record { tidy = k.tidy; table = k.keeps.keeps.table ∙ s.table; free = omega (arith, s.free, k.keeps.free) };
 }
 
 pub by_header : (g : Geometry) (a : List ℕ) (id p : ℕ) → CanDrop g a id p → Finishes g a a (removing_by id p) (removing id)

@@ -1,5 +1,5 @@
--- What the reads of a remove tell.
-use Rattle.std.proofs.Common.{◌≡◌, ℕ, ◌+◌, ◌*◌, ◌%◌, ◌<◌, ◌≤◌, List, slice_index, true, false, ◌==◌, Option, Some, None, ap, refl, sym, ◌∙◌, arith, ⊎_elim}
+-- What the reads of a remove and of a truncation tell.
+use Rattle.std.proofs.Common.{◌≡◌, ℕ, ◌+◌, ◌*◌, ◌%◌, ◌<◌, ◌≤◌, List, slice_index, true, false, ◌==◌, ◌&&◌, Option, Some, None, ap, refl, sym, ◌∙◌, arith, ⊎_elim}
 use Rattle.std.specs.Prelude.{is_some}
 use Rattle.std.specs.Option.{option_map}
 use Rattle.std.proofs.lemmas.Bool.{cases_eq, ne_eqb, eq-eqb}
@@ -18,8 +18,11 @@ use Rattle.image_laws.proofs.Judge.{index_passes}
 use Rattle.image_laws.proofs.Placing.{page_byte}
 use Rattle.flash_view.specs.Found.{has_header}
 use Rattle.header_laws.proofs.HeadPages.{has-ids}
-use Rattle.file_drop.specs.Removals.{is_of, CanRemove}
-use Rattle.file_drop.proofs.Killing.{own_none}
+use Rattle.page_renew.specs.EditLaws.{past_of}
+use Rattle.file_drop.specs.declared.pages.Kept.{Kept}
+use Rattle.file_drop.specs.Drops.{none_kept, is_left, is_past_header}
+use Rattle.file_drop.specs.Removals.{CanRemove}
+use Rattle.file_drop.proofs.Killing.{own_none, all_left}
 
 -- a lookup page is no live page
 none_live : (g : Geometry) (image : List ℕ) (p : ℕ) → is_entry_page g p ≡ false → live_at g image p ≡ None
@@ -29,28 +32,29 @@ none_live g image p lookup = go (live_at g image p) refl
     go None e = e
     go (Some x) e = let yes : is_entry_page g p ≡ true = (live_parts g image p x e).entry_page in let bad : true ≡ false = sym yes ∙ lookup in absurd (cc)
 
-pub lookup_not_of : (g : Geometry) (image : List ℕ) (id p : ℕ) → is_entry_page g p ≡ false → false ≡ is_of g image id p
-lookup_not_of g image id p lookup = rw (own_none (live_at g image) id p (none_live g image p lookup)) refl
+pub lookup_not_left : (g : Geometry) (image : List ℕ) (id : ℕ) (kept : Kept) (p : ℕ) → is_entry_page g p ≡ false → false ≡ is_left g image id kept p
+lookup_not_left g image id kept p lookup = rw (own_none (live_at g image) id p (none_live g image p lookup)) refl
 
 no_page : (o : Option (List ℕ)) → None ≡ option_map header_at o → o ≡ None
 no_page None e = refl
 no_page (Some x) e = absurd (cc)
 
-pub dead_not_of : (g : Geometry) (image : List ℕ) (id p : ℕ) → None ≡ option_map header_at (live_at g image p) → false ≡ is_of g image id p
-dead_not_of g image id p e = rw (own_none (live_at g image) id p (no_page (live_at g image p) e)) refl
+pub dead_not_left : (g : Geometry) (image : List ℕ) (id : ℕ) (kept : Kept) (p : ℕ) → None ≡ option_map header_at (live_at g image p) → false ≡ is_left g image id kept p
+dead_not_left g image id kept p e = rw (own_none (live_at g image) id p (no_page (live_at g image p) e)) refl
 
 the_page : (o : Option (List ℕ)) (head : PageHeader) → Some head ≡ option_map header_at o → (x : List ℕ) × ((o ≡ Some x) × (head ≡ header_at x))
 the_page None head e = absurd (cc)
 the_page (Some x) head e = (x, (refl, same_Some head (header_at x) e))
 
--- the id of a page by its header
-pub of_by_header : (g : Geometry) (image : List ℕ) (id p : ℕ) (head : PageHeader) → Some head ≡ option_map header_at (live_at g image p) → (head.id % 0x8000 == id) ≡ is_of g image id p
-of_by_header g image id p head e =
+-- whether it is to go, by its header
+pub left_by_header : (g : Geometry) (image : List ℕ) (id : ℕ) (kept : Kept) (p : ℕ) (head : PageHeader) → Some head ≡ option_map header_at (live_at g image p) → ((head.id % 0x8000 == id) && is_past_header kept head) ≡ is_left g image id kept p
+left_by_header g image id kept p head e =
     let w = the_page (live_at g image p) head e in
+    let past : is_past_header kept head ≡ past_of kept.index_pages kept.data_pages (Some w.0) = ap (is_past_header kept) w.1.1 in
     let same : obj_id w.0 ≡ head.id = sym (ap (λ (h : PageHeader). h.id) w.1.1) in
     let number : obj_id w.0 % 0x8000 ≡ head.id % 0x8000 = ap (λ (m : ℕ). m % 0x8000) same in
     ⊎_elim
-    (λ (here : head.id % 0x8000 ≡ id). rw (eq-eqb (head.id % 0x8000) id here, own-some (live_at g image) id p w.0 w.1.0 (number ∙ here)) refl)
+    (λ (here : head.id % 0x8000 ≡ id). rw (eq-eqb (head.id % 0x8000) id here) (past ∙ sym (ap (past_of kept.index_pages kept.data_pages) (own-some (live_at g image) id p w.0 w.1.0 (number ∙ here)))))
     (λ (there : head.id % 0x8000 ≡ id → ⊥). rw (ne_eqb (head.id % 0x8000) id there, own-other (live_at g image) id p w.0 w.1.0 (λ s. there (sym number ∙ s))) refl)
     (cases_eq (head.id % 0x8000) id)
 
@@ -66,8 +70,8 @@ byte_by_header g image p head e small =
     omega (arith, there, flag, mine, small)
 
 -- the header page of an id is a page of the id
-pub first_is_of : (g : Geometry) (image : List ℕ) (id p : ℕ) → index_page g (own (live_at g image) id) 0 ≡ Some p → is_of g image id p ≡ true
-first_is_of g image id p at = passes (own (live_at g image) id p) (index_passes g (own (live_at g image) id) 0 p at)
+pub first_is_left : (g : Geometry) (image : List ℕ) (id p : ℕ) → index_page g (own (live_at g image) id) 0 ≡ Some p → is_left g image id none_kept p ≡ true
+first_is_left g image id p at = all_left g image id p ∙ passes (own (live_at g image) id p) (index_passes g (own (live_at g image) id) 0 p at)
   where
     passes : (o : Option (List ℕ)) → is_index o 0 ≡ true → is_some o ≡ true
     passes None e = absurd (cc)

@@ -1,1 +1,3 @@
+pub mod Drops
 pub mod Removals
+pub mod Truncates

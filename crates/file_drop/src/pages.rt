@@ -1,4 +1,4 @@
-ghost use Rattle.std.specs.Prelude.{◌≡◌, ◌+◌, ◌*◌, ◌%◌, ◌==◌, ◌<◌, OnErr, IfOk, slice_index};
+ghost use Rattle.std.specs.Prelude.{◌≡◌, ◌+◌, ◌*◌, ◌%◌, ◌==◌, ◌&&◌, ◌<◌, OnErr, IfOk, slice_index};
 ghost use Rattle.std.specs.Bool.{OnTrue};
 ghost use Rattle.geometry.specs.Numbers.{page_count};
 ghost use Rattle.nor_core.specs.Count.{Rose};
@@ -6,30 +6,49 @@ ghost use Rattle.page_layout.specs.Layout.{bits_of};
 ghost use Rattle.flash_view.specs.Places.{IsEntryPage};
 ghost use Rattle.flash_view.specs.Same.{OnlyLooks};
 ghost use Rattle.flash_view.specs.Steps.{Stepped, failed};
-ghost use Rattle.file_drop.specs.Removals.{is_of, dropping, dropping_all};
+ghost use Rattle.file_drop.specs.Drops.{is_left as the_left, is_past_header, dropping, dropping_all};
 
 use flash_view::{View, is_entry_page};
 use nor_core::{Failed, Nor, NorState};
 use page_layout::PageHeader;
 use page_put::kill;
 
-// Whether a header is that of a page of an id. Its flags are one byte.
-fn is_header_of(head: PageHeader, id: u16) -> bool
-    ensures byte { bits_of head.flags < 256 }
-    ensures is { result ≡ (head.id % 0x8000 == id) }
-{
-    head.object() == id
+/// How many index pages and data pages of a file are kept.
+#[derive(Clone, Copy)]
+pub(crate) struct Kept {
+    /// Index pages: those of the spans below.
+    pub(crate) index_pages: u32,
+    /// Data pages: those of the spans below.
+    pub(crate) data_pages: u32,
 }
 
-/// Whether a page is a live page of an id.
+// Whether a header is that of a page of an id that isn't kept. Its flags are one byte.
+fn is_past(head: PageHeader, id: u16, kept: Kept) -> bool
+    ensures byte { bits_of head.flags < 256 }
+    ensures is { result ≡ ((head.id % 0x8000 == id) && is_past_header kept head) }
+{
+    let count = if head.is_index() {
+        kept.index_pages
+    } else {
+        kept.data_pages
+    };
+    head.object() == id && count <= u32::from(head.span)
+}
+
+/// Whether a page is a live page of an id that isn't kept.
 #[tactic(auto, using(flash_view::proofs::Looking::looks_then))]
-pub(crate) fn is_page_of<N: Nor>(v: &mut View<'_, N>, page: u16, id: u16) -> Result<bool, Failed>
+pub(crate) fn is_left<N: Nor>(
+    v: &mut View<'_, N>,
+    page: u16,
+    id: u16,
+    kept: Kept,
+) -> Result<bool, Failed>
     requires { page < page_count v.old.geometry }
     ensures cause { OnErr result (Rose (N.faults v.old.nor.now) (N.faults v.new.nor.now)) }
     ensures looks { OnlyLooks v.old v.new }
-    ensures entry { IfOk result (λ mine. OnTrue mine (IsEntryPage v.old.geometry page)) }
-    ensures byte { N.tells v.old.nor.now → IfOk result (λ mine. OnTrue mine (slice_index (N.bytes v.old.nor.now) (page * v.old.geometry.page + 4) < 256)) }
-    ensures told { N.tells v.old.nor.now → IfOk result (λ mine. mine ≡ is_of v.old.geometry (N.bytes v.old.nor.now) id page) }
+    ensures entry { IfOk result (λ left. OnTrue left (IsEntryPage v.old.geometry page)) }
+    ensures byte { N.tells v.old.nor.now → IfOk result (λ left. OnTrue left (slice_index (N.bytes v.old.nor.now) (page * v.old.geometry.page + 4) < 256)) }
+    ensures told { N.tells v.old.nor.now → IfOk result (λ left. left ≡ the_left v.old.geometry (N.bytes v.old.nor.now) id kept page) }
 {
     let g = v.geometry;
     if !is_entry_page(&g, page) {
@@ -38,26 +57,26 @@ pub(crate) fn is_page_of<N: Nor>(v: &mut View<'_, N>, page: u16, id: u16) -> Res
     let Some(head) = v.live_header(page)? else {
         return Ok(false);
     };
-    Ok(is_header_of(head, id))
+    Ok(is_past(head, id, kept))
 }
 
-// Kills a page, if it is a live page of an id that has no header page.
-fn drop_page<N: Nor>(v: &mut View<'_, N>, page: u16, id: u16) -> Result<(), Failed>
+// Kills a page, if it is a live page of an id that isn't kept.
+fn drop_page<N: Nor>(v: &mut View<'_, N>, page: u16, id: u16, kept: Kept) -> Result<(), Failed>
     requires { page < page_count v.old.geometry }
-    ensures { Stepped failed v.old v.new result (dropping id page) }
+    ensures { Stepped failed v.old v.new result (dropping id kept page) }
 {
-    if !is_page_of(v, page, id)? {
+    if !is_left(v, page, id, kept)? {
         return Ok(());
     }
     kill(v, page)
 }
 
-/// Kills each live page of an id that has no header page, in page order.
-pub(crate) fn drop_pages<N: Nor>(v: &mut View<'_, N>, id: u16) -> Result<(), Failed>
-    ensures { Stepped failed v.old v.new result (dropping_all id) }
+/// Kills each live page of an id that isn't kept, in page order. None of them is to be needed.
+pub(crate) fn drop_pages<N: Nor>(v: &mut View<'_, N>, id: u16, kept: Kept) -> Result<(), Failed>
+    ensures { Stepped failed v.old v.new result (dropping_all id kept) }
 {
     for page in 0..v.geometry.pages() as u16 {
-        drop_page(v, page, id)?;
+        drop_page(v, page, id, kept)?;
     }
     Ok(())
 }

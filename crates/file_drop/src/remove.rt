@@ -1,4 +1,4 @@
-ghost use Rattle.std.specs.Prelude.{◌≡◌, ◌≢◌, ◌+◌, ◌*◌, ◌<◌, OnErr, IfOk, IfSome, slice_index};
+ghost use Rattle.std.specs.Prelude.{◌≡◌, ◌+◌, ◌*◌, ◌<◌, OnErr, IfOk, IfSome, slice_index};
 ghost use Rattle.nor_core.specs.Count.{Rose};
 ghost use Rattle.image_model.specs.Live.{live_at, own};
 ghost use Rattle.image_model.specs.Files.{index_page};
@@ -7,27 +7,18 @@ ghost use Rattle.flash_view.specs.Same.{OnlyLooks};
 ghost use Rattle.flash_view.specs.Steps.{Stepped, failed, stopped};
 ghost use Rattle.file_drop.specs.Removals.{dropping_header, removing_by, removing};
 
-use crate::pages::{drop_pages, is_page_of};
+use crate::pages::{Kept, drop_pages, is_left};
 use flash_view::{StepErr, View};
 use nor_core::{Failed, Nor, NorState};
 use page_put::{kill, mark_removed};
-use table_model::{Differ, Tag};
+use page_renew::no_page;
+use table_model::Tag;
 
-// That no header page was found where one was wanted.
-fn missing(id: u16) -> Differ
-    ensures { result.wanted ≢ result.found }
-{
-    let wanted = Tag { id, span: 0 };
-    let found = Tag {
-        id: 0xFFFF,
-        span: 0xFFFF,
-    };
-    Differ {
-        page: 0xFFFF,
-        wanted,
-        found,
-    }
-}
+/// No page of a file that is removed is kept.
+const NONE: Kept = Kept {
+    index_pages: 0,
+    data_pages: 0,
+};
 
 // The header page of an id.
 #[tactic(auto, using(flash_view::proofs::Looking::looks_then))]
@@ -41,7 +32,7 @@ fn find_header<N: Nor>(v: &mut View<'_, N>, id: u16) -> Result<Option<u16>, Fail
     let Some(page) = v.find_index(id, 0)? else {
         return Ok(None);
     };
-    if is_page_of(v, page, id)? {
+    if is_left(v, page, id, NONE)? {
         Ok(Some(page))
     } else {
         Ok(None)
@@ -63,7 +54,7 @@ fn drop_by<N: Nor>(v: &mut View<'_, N>, header: u16, id: u16) -> Result<(), Fail
     ensures { Stepped failed v.old v.new result (removing_by id header) }
 {
     drop_header(v, header, id)?;
-    drop_pages(v, id)
+    drop_pages(v, id, NONE)
 }
 
 /// Removes the file of an id: its header page is marked, which is the step, then the header page, then every other page
@@ -74,7 +65,7 @@ pub fn remove_step<N: Nor>(v: &mut View<'_, N>, id: u16) -> Result<(), StepErr>
 {
     match find_header(v, id) {
         Err(Failed) => Err(StepErr::DeviceFault),
-        Ok(None) => Err(StepErr::Damaged(missing(id))),
+        Ok(None) => Err(StepErr::Damaged(no_page(Tag { id, span: 0 }))),
         Ok(Some(header)) => match drop_by(v, header, id) {
             Err(Failed) => Err(StepErr::DeviceFault),
             Ok(()) => Ok(()),

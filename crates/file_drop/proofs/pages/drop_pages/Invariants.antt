@@ -1,4 +1,4 @@
--- No page below `page` is a live page of the id, and each image that a cut may have left keeps the first one.
+-- No page below `page` is one that is to go, and each image that a cut may have left keeps the first one.
 use Rattle.std.proofs.Common.{◌≡◌, Ok}
 use Rattle.geometry.specs.Numbers.{page_count}
 use Rattle.flash_view.specs.Steps.{Stepped, failed}
@@ -8,5 +8,5 @@ use Rattle.file_drop.proofs.pages.drop_pages.Given as goal
 abbrev pub invariant-loop-page : goal.invariant-loop-page
 invariant-loop-page g l = record {
   end : l.page-end ≡ page_count l.fn.v.geometry;
-  step : Stepped failed l.fn.v l.v (Ok tt) (dropping_to l.fn.id l.page);
+  step : Stepped failed l.fn.v l.v (Ok tt) (dropping_to l.fn.id l.fn.kept l.page);
 }
