@@ -1,1 +1,7 @@
 pub mod Creates
+pub mod Beside
+pub mod Appends
+pub mod Overwrites
+pub mod Patches
+pub mod Relinkings
+pub mod Readyings

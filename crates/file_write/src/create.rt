@@ -11,7 +11,7 @@ use page_put::put_page;
 use table_model::{Differ, Tag};
 
 // That no page was found where one was wanted.
-fn missing(id: u16) -> Differ
+pub(crate) fn missing(id: u16) -> Differ
     ensures { result.wanted ≢ result.found }
 {
     let wanted = Tag { id, span: 0 };

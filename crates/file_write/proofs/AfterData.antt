@@ -1,0 +1,122 @@
+-- The data page of an append is put beside those of its file.
+use Rattle.std.proofs.Common.{◌≡◌, ℕ, ◌+◌, ◌/◌, ◌%◌, ◌<◌, ◌≤◌, ◌⊎◌, List, length, Bool, true, false, ◌==◌, ◌||◌, Some, ap, refl, sym, ◌∙◌, arith, subst, ⊎_elim, inl}
+use Rattle.std.specs.Prelude.{is_some, slice_range}
+use Rattle.std.proofs.lemmas.Bool.{eqb-true, eq-eqb}
+use Rattle.geometry.specs.declared.geometry.Geometry.{Geometry}
+use Rattle.geometry.specs.Numbers.{body, head_slots}
+use Rattle.table_model.specs.Table.{File, put_file}
+use Rattle.table_model.specs.Files.{written}
+use Rattle.table_model.specs.Room.{data_pages}
+use Rattle.image_model.specs.Headers.{span_of, size_of}
+use Rattle.image_model.specs.Live.{live_at, own}
+use Rattle.image_model.specs.Files.{data_of, data_page, entry_number}
+use Rattle.image_model.specs.Collect.{are_had}
+use Rattle.image_model.specs.Tables.{table_of}
+use Rattle.image_model.specs.Tidy.{serves, HasReserve}
+use Rattle.image_laws.specs.Reindex.{slot_word}
+use Rattle.image_laws.proofs.Append.{own-some}
+use Rattle.flash_view.specs.declared.kinds.Kind.TheVariants.{Data}
+use Rattle.flash_view.specs.Steps.{Begins, Finishes}
+use Rattle.free_search.specs.Had.{IsClear}
+use Rattle.free_search.proofs.HadBy.{less_had, put_had}
+use Rattle.renew_laws.specs.Primed.{Primed}
+use Rattle.renew_laws.proofs.PrimeBeside.{prime-data}
+use Rattle.renew_laws.proofs.ReserveKept.{put-reserve}
+use Rattle.renew_laws.proofs.Serves.{serves_data}
+use Rattle.renew_laws.proofs.Spans.{span-is_named}
+use Rattle.page_renew.specs.declared.edits.Edit.TheVariants.{GrowBy}
+use Rattle.page_renew.specs.Edits.{IsEdited}
+use Rattle.page_renew.specs.Renewals.{renewing_from}
+use Rattle.page_renew.specs.PageSteps.{StepCut}
+use Rattle.page_renew.proofs.EditsLead.{names-next}
+use Rattle.page_renew.proofs.Homes.{of_data}
+use Rattle.file_write.specs.Appends.{CanAppendAt, appending_at}
+use Rattle.file_write.specs.Beside.{HasPage, AddsPage, AddedPage, adding, is_data}
+use Rattle.file_write.proofs.AppendEnds.{primed_clear, IsReady, kept, stays, ends}
+use Rattle.file_write.proofs.LastPage.{one_each, clear, page_fits}
+use Rattle.file_write.proofs.Sizes.{whole_pages, next_page}
+
+module _ (g : Geometry) (a : List ℕ) (id h size span : ℕ) (bytes : List ℕ) (f : File) (can : CanAppendAt g a id h size bytes f) where
+  has_data : HasPage g Data a
+  has_data = record { clear = clear g a id h size bytes f can; had = less_had g a 1 1 0 1 (omega arith) (omega arith) (one_each g a id h size bytes f can) }
+
+  data_cut : (c : List ℕ) → (c ≡ a) ⊎ AddsPage g Data (is_data id span bytes g) a c → StepCut g (put_file (written (length f.bytes) bytes f) (table_of g a)) a c
+  data_cut c left = ⊎_elim
+      (λ (same : c ≡ a). subst (λ (x : List ℕ). StepCut g (put_file (written (length f.bytes) bytes f) (table_of g a)) a x) (sym same) (stays g a id h size bytes f can))
+      (λ (w : AddsPage g Data (is_data id span bytes g) a c). kept g a id h size bytes f can c
+      ((prime-data g a a id h w.p can.head w.page f (λ r. false) can.prime (of_data g a w.p w.page w.found.kind_is w.is.kind) w.is.kind w.is.of).0 c w.leaves)
+      (put-reserve g a c w.p w.found.keeps w.leaves.agree))
+      left
+
+  pub data_begins : Begins g a (adding Data (is_data id span bytes)) (appending_at id h size bytes f)
+  data_begins = record { needs = has_data; cut = data_cut }
+
+  module _ (b : List ℕ) (p : ℕ) (w : AddedPage g Data (is_data id span bytes g) a b p) where
+    abbrev pub one : ℕ → Bool
+    one r = false || (r == p)
+
+    pub primed : Primed g id h can.head f one a b
+    primed = (prime-data g a a id h p can.head w.page f (λ r. false) can.prime (of_data g a p w.page w.found.kind_is w.is.kind) w.is.kind w.is.of).1 b w.put
+
+    pub its_page : own (live_at g b) id p ≡ Some w.page
+    its_page = own-some (live_at g b) id p w.page w.put.gains.after w.is.of
+
+    pub still_clear : IsClear g b
+    still_clear = primed_clear g a b id h can.head f one primed
+
+    pub still_had : (n : ℕ) → are_had g a n 1 ≡ true → are_had g b n 0 ≡ true
+    still_had n had = (put_had g a b p w.page n 0 (clear g a id h size bytes f can) still_clear w.put).1 w.found w.is.kind had
+
+    pub reserve : HasReserve g a → HasReserve g b
+    reserve = put-reserve g a b p w.found.keeps w.put.agree
+
+    module _ (span_is : span ≡ size / body g) (whole : size % body g ≡ 0) (near : size / body g < head_slots g) (end : ℕ) (end_is : end ≡ size + length bytes) where
+      abbrev t : ℕ
+      t = size_of can.head / body g
+
+      at_t : span ≡ size_of can.head / body g
+      at_t = span_is ∙ ap (λ (n : ℕ). n / body g) can.told
+
+      count : data_pages g (size_of can.head) ≡ size_of can.head / body g
+      count = whole_pages g (size_of can.head) (subst (λ (n : ℕ). n % body g ≡ 0) can.told whole)
+
+      low : size_of can.head / body g < head_slots g
+      low = subst (λ (n : ℕ). n / body g < head_slots g) can.told near
+
+      fits : length bytes ≤ body g
+      fits = let all = page_fits g a id h size bytes f can in omega (arith, all, whole)
+
+      later : data_pages g end ≡ size_of can.head / body g + 1
+      later = ap (λ (n : ℕ). data_pages g n) (end_is ∙ ap (λ (n : ℕ). n + length bytes) can.told) ∙ next_page g (size_of can.head) (length bytes) (subst (λ (n : ℕ). n % body g ≡ 0) can.told whole) can.can.some fits
+
+      -- the edited header page names it
+      named : (y : List ℕ) → IsEdited g can.head (GrowBy end p) y → (entry_number g (own (live_at g b) id) y (size_of can.head / body g) ≡ Some p) × (data_page g (own (live_at g b) id) y (size_of can.head / body g) ≡ Some w.page)
+      named y edited =
+          let slot : slot_word g y (size_of can.head / body g) ≡ p = subst (λ (n : ℕ). slot_word g y n ≡ p) count (names-next g can.head y end p edited (omega (arith, count, low))) in
+          span-is_named g (own (live_at g b) id) y (size_of can.head / body g) p w.page (inl (low, slot)) its_page w.is.kind (w.is.at ∙ at_t)
+
+      ready : IsReady g a id h size bytes f can b (GrowBy end p)
+      ready = record {
+        beside = one;
+        z = w.page;
+        prime = primed;
+        grows = record {
+          adds = tt;
+          size = omega (arith, end_is, can.told);
+          some = can.can.some;
+          fits = subst (λ (n : ℕ). n % body g + length bytes ≤ body g) can.told (page_fits g a id h size bytes f can);
+          holds = (let zero : size_of can.head % body g ≡ 0 = subst (λ (n : ℕ). n % body g ≡ 0) can.told whole in let start : 5 ≡ 5 + size_of can.head % body g = omega (arith, zero) in subst (λ (n : ℕ). slice_range w.page n (n + length bytes) ≡ bytes) start w.is.holds);
+          page = λ y edited. (named y edited).1;
+        };
+        serve = λ y edited r e.
+            let here : r ≡ p = eqb-true r p e in
+            let size_y : size_of y ≡ end = edited.size in
+            let below : size_of can.head / body g < data_pages g (size_of y) = rw size_y (omega (arith, later)) in
+            let some : is_some (data_of (own (live_at g b) id p) (size_of can.head / body g)) ≡ true = rw its_page (rw (w.is.kind, eq-eqb (span_of w.page) (size_of can.head / body g) (w.is.at ∙ at_t)) refl) in
+            subst (λ (k : ℕ). serves g (own (live_at g b) id) y k ≡ true) (sym here) (serves_data g (own (live_at g b) id) y p (size_of can.head / body g) below (named y edited).0 some);
+        had = still_had 1 (one_each g a id h size bytes f can);
+        reserve = reserve;
+      }
+
+      pub near_ends : Finishes g a b (renewing_from id h (GrowBy end p) (written (length f.bytes) bytes f)) (appending_at id h size bytes f)
+      near_ends = ends g a id h size bytes f can b (GrowBy end p) ready

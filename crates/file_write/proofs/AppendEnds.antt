@@ -1,0 +1,76 @@
+-- The end of an append: its header page is renewed.
+use Rattle.std.proofs.Common.{◌≡◌, ℕ, List, length, Bool, true, false, ap, refl, ◌∙◌, ⊎_elim, inl, inr}
+use Rattle.geometry.specs.declared.geometry.Geometry.{Geometry}
+use Rattle.table_model.specs.Table.{File, put_file}
+use Rattle.table_model.specs.Files.{written}
+use Rattle.image_model.specs.Live.{live_at, own}
+use Rattle.image_model.specs.Collect.{are_had}
+use Rattle.image_model.specs.Tables.{table_of}
+use Rattle.image_model.specs.Tidy.{serves, HasReserve}
+use Rattle.image_model.specs.Sound.{HasMagics, Keeps}
+use Rattle.image_laws.proofs.Sounding.{sound-on, keeps-itself}
+use Rattle.image_laws.proofs.SpareKill.{tidy-has_magics}
+use Rattle.image_laws.proofs.Finish.{own-parts}
+use Rattle.image_laws.proofs.Append.{page_there}
+use Rattle.renew_laws.specs.Primed.{Primed}
+use Rattle.flash_view.specs.Steps.{Finishes}
+use Rattle.free_search.specs.Had.{IsClear}
+use Rattle.free_search.proofs.HadBy.{tidy_but_is_clear}
+use Rattle.page_renew.specs.declared.edits.Edit.{Edit}
+use Rattle.page_renew.specs.Edits.{IsEdited}
+use Rattle.page_renew.specs.EditLaws.{Grows}
+use Rattle.page_renew.specs.PageSteps.{StepCut}
+use Rattle.page_renew.specs.Renewals.{renewing_from}
+use Rattle.page_renew.proofs.EditsLead.{grow-says, grow-tidies}
+use Rattle.file_write.specs.Appends.{CanAppendAt, appending_at}
+
+-- an image in which a file stands with its old header page is clear
+pub primed_clear : (g : Geometry) (a b : List ℕ) (id h : ℕ) (head : List ℕ) (f : File) (beside : ℕ → Bool) → Primed g id h head f beside a b → IsClear g b
+primed_clear g a b id h head f beside prime = tidy_but_is_clear g b beside prime.tidy (λ r e. let x = page_there (own (live_at g b) id r) (prime.mine r e) in rw (own-parts (live_at g b) id r x.0 x.1).0 refl)
+
+module _ (g : Geometry) (a : List ℕ) (id h size : ℕ) (bytes : List ℕ) (f : File) (can : CanAppendAt g a id h size bytes f) where
+  abbrev files : List File
+  files = put_file (written (length f.bytes) bytes f) (table_of g a)
+
+  -- what stands is what a cut may leave, and so is what keeps it
+  pub kept : (c : List ℕ) → Keeps g a c → (HasReserve g a → HasReserve g c) → StepCut g files a c
+  kept c keeps reserve = record { sound = keeps.sound; table = inl keeps.table; reserve = reserve }
+
+  pub magics : HasMagics g a
+  magics = tidy-has_magics g a (λ (r : ℕ). false) can.prime.tidy
+
+  pub stays : StepCut g files a a
+  stays = kept a (keeps-itself g a magics) (λ two. two)
+
+  -- The bytes stand behind the old end, and an edit of the header page takes them into the file.
+  pub record IsReady (b : List ℕ) (edit : Edit) : Type 0 where
+    pub beside : ℕ → Bool
+    pub z : List ℕ
+    pub prime : Primed g id h can.head f beside a b
+    pub grows : Grows g b id can.head z bytes edit
+    pub serve : (y : List ℕ) → IsEdited g can.head edit y → (r : ℕ) → beside r ≡ true → serves g (own (live_at g b) id) y r ≡ true
+    pub had : are_had g b 1 0 ≡ true
+    pub reserve : HasReserve g a → HasReserve g b
+
+  pub ends : (b : List ℕ) (edit : Edit) → IsReady b edit → Finishes g a b (renewing_from id h edit (written (length f.bytes) bytes f)) (appending_at id h size bytes f)
+  ends b edit r = record {
+    needs = record {
+      beside = r.beside;
+      tidy = r.prime.tidy;
+      mine = r.prime.mine;
+      had = r.had;
+      head = can.head;
+      says = grow-says g a b id h can.head r.z bytes f r.beside edit r.prime r.grows;
+    };
+    cut = λ c cut. record {
+      sound = sound-on g a b c r.prime.keeps.sound cut.sound;
+      table = ⊎_elim
+          (λ (same : table_of g c ≡ table_of g b). inl (same ∙ r.prime.keeps.table))
+          (λ (new : table_of g c ≡ put_file (written (length f.bytes) bytes f) (table_of g b)). inr (new ∙ ap (λ (t : List File). put_file (written (length f.bytes) bytes f) t) r.prime.keeps.table))
+          cut.table;
+      reserve = λ two. cut.reserve (r.reserve two);
+    };
+    done = λ c ok done.
+        let tidies = grow-tidies g a b c id h can.head r.z bytes f (written (length f.bytes) bytes f) r.beside edit r.prime r.grows r.serve done in
+        record { tidy = tidies.0; table = tidies.1; reserve = λ two. done.reserve (r.reserve two) };
+  }

@@ -1,0 +1,116 @@
+-- Sizes and page counts of a file that bytes are added to.
+use Rattle.std.proofs.Common.{◌≡◌, ℕ, ◌+◌, ◌-◌, ◌*◌, ◌/◌, ◌%◌, ◌<◌, ◌≤◌, true, refl, sym, ◌∙◌, ap, arith, ⊎_elim, subst}
+use Rattle.std.proofs.Math.Nat.{div-add-mod, mul-le-mul_left, mul-le-mul_right}
+use Rattle.std.proofs.lemmas.Bool.{cases_lt, lt-ltb, le-ltb}
+use Rattle.geometry.specs.declared.geometry.Geometry.{Geometry}
+use Rattle.geometry.specs.Numbers.{body, head_slots, span_slots, usable, per_block as pages_in_block, entries, ceil}
+use Rattle.table_model.specs.Room.{data_pages, index_pages}
+use Rattle.image_model.specs.Places.{is_entry_page}
+use Rattle.image_model.specs.Files.{further}
+use Rattle.image_model.specs.Volume.{page_count, per_block}
+use Rattle.image_model.specs.Within.{sizes, page_number}
+use Rattle.renew_laws.proofs.Appended.{pages_of}
+use Rattle.room_laws.proofs.Totals.{ceil-is}
+
+-- a volume has fewer pages than a word can count
+pub pages_few : (g : Geometry) → g.blocks * pages_in_block g ≤ 65535
+unfolding per_block
+pages_few g =
+    let whole : g.blocks * g.block ≤ 65535 * g.page = g.valid.few_bytes in
+    let product : g.blocks * g.block ≡ g.blocks * (pages_in_block g * g.page) = ap (λ (k : ℕ). g.blocks * k) (let geo = sizes g in geo.block) in
+    let big : 128 ≤ g.page = (sizes g).page in
+    ⊎_elim
+    (λ (more : 65535 < g.blocks * pages_in_block g). let long : 65536 * g.page ≤ g.blocks * pages_in_block g * g.page = mul-le-mul_right g.page (omega (arith, more)) in absurd (omega (arith, long, whole, product, big)))
+    (λ (few : g.blocks * pages_in_block g ≤ 65535). few)
+    (cases_lt 65535 (g.blocks * pages_in_block g))
+
+pub page_few : (g : Geometry) (p : ℕ) → is_entry_page g p ≡ true → p < 65536
+unfolding page_count per_block
+page_few g p page = let low = page_number g p page in omega (arith, low, pages_few g)
+
+pub usable_few : (g : Geometry) → usable g ≤ 65535
+usable_few g = let step : g.blocks * entries g ≤ g.blocks * pages_in_block g = mul-le-mul_left g.blocks (omega arith) in omega (arith, step, pages_few g)
+
+-- so many data pages hold the bytes
+bytes_fit : (m b : ℕ) → 0 < b → m ≤ ceil m b * b
+bytes_fit m b pos =
+    let whole : b * ((m + b - 1) / b) + (m + b - 1) % b ≡ m + b - 1 = div-add-mod (m + b - 1) b in
+    let low : (m + b - 1) % b < b = omega (arith, pos) in
+    omega (arith, whole, low)
+
+-- a size with no more data pages than the volume has
+pub size_few : (g : Geometry) (m : ℕ) → data_pages g m ≤ usable g → m < 0xFFFFFFFF
+size_few g m few =
+    let fit = bytes_fit m (body g) (omega (arith, (sizes g).page)) in
+    let all : data_pages g m * body g ≤ 65535 * body g = mul-le-mul_right (body g) (omega (arith, few, usable_few g)) in
+    omega (arith, fit, all, g.valid.page_most)
+
+-- the span in which a file ends is one of its data pages
+pub last_below : (g : Geometry) (m : ℕ) → 0 < m % body g → data_pages g m ≡ m / body g + 1
+last_below g m used =
+    let whole : body g * (m / body g) + m % body g ≡ m = div-add-mod m (body g) in
+    let low : m % body g < body g = omega (arith, (sizes g).page) in
+    ap (λ (n : ℕ). ceil n (body g)) (sym whole) ∙ pages_of (m / body g) (m % body g) (body g) used (omega (arith, low))
+
+-- a file that ends with a data page has as many as fit
+pub whole_pages : (g : Geometry) (m : ℕ) → m % body g ≡ 0 → data_pages g m ≡ m / body g
+whole_pages g m none =
+    let whole : body g * (m / body g) + m % body g ≡ m = div-add-mod m (body g) in
+    let product : m / body g * body g ≡ body g * (m / body g) = omega arith in
+    ceil-is m (body g) (m / body g) 0 (omega (arith, whole, product, none)) (omega (arith, (sizes g).page))
+
+-- with some bytes more, that end in its next data page, it has one more
+pub next_page : (g : Geometry) (m n : ℕ) → m % body g ≡ 0 → 0 < n → n ≤ body g → data_pages g (m + n) ≡ m / body g + 1
+next_page g m n none some fits =
+    let whole : body g * (m / body g) + m % body g ≡ m = div-add-mod m (body g) in
+    let long : m + n ≡ body g * (m / body g) + n = omega (arith, whole, none) in
+    ap (λ (k : ℕ). ceil k (body g)) long ∙ pages_of (m / body g) n (body g) some fits
+
+-- ---- further index pages
+
+-- as many groups of s as m pages fill
+groups : (m s : ℕ) → 0 < s → m % s ≡ 0 → ceil m s ≡ m / s
+groups m s pos none =
+    let whole : s * (m / s) + m % s ≡ m = div-add-mod m s in
+    let product : m / s * s ≡ s * (m / s) = omega arith in
+    ceil-is m s (m / s) 0 (omega (arith, whole, product, none)) pos
+
+-- and one page more begins another
+more_groups : (m s : ℕ) → 0 < s → m % s ≡ 0 → ceil (m + 1) s ≡ m / s + 1
+more_groups m s pos none =
+    let whole : s * (m / s) + m % s ≡ m = div-add-mod m s in
+    let long : m + 1 ≡ s * (m / s) + 1 = omega (arith, whole, none) in
+    ap (λ (k : ℕ). ceil k s) long ∙ pages_of (m / s) 1 s (omega arith) (omega (arith, pos))
+
+-- The span of a further index page whose first data page is the next one is behind those of the file,
+pub span_behind : (g : Geometry) (m : ℕ) → head_slots g ≤ data_pages g m → (data_pages g m - head_slots g) % span_slots g ≡ 0 → index_pages g m ≤ further g (data_pages g m)
+span_behind g m far none =
+    let big : 128 ≤ g.page = (sizes g).page in
+    let all = groups (data_pages g m - head_slots g) (span_slots g) (omega (arith, big)) none in
+    ⊎_elim
+    (λ (more : head_slots g < data_pages g m). let count : index_pages g m ≡ 1 + ceil (data_pages g m - head_slots g) (span_slots g) = rw (lt-ltb (head_slots g) (data_pages g m) more) refl in omega (arith, count, all))
+    (λ (few : data_pages g m ≤ head_slots g). let count : index_pages g m ≡ 1 = rw (le-ltb (head_slots g) (data_pages g m) few) refl in omega (arith, count))
+    (cases_lt (head_slots g) (data_pages g m))
+
+-- and is one of theirs once it has that.
+pub span_within : (g : Geometry) (m n : ℕ) → data_pages g n ≡ data_pages g m + 1 → head_slots g ≤ data_pages g m → (data_pages g m - head_slots g) % span_slots g ≡ 0 → further g (data_pages g m) < index_pages g n
+span_within g m n later far none =
+    let big : 128 ≤ g.page = (sizes g).page in
+    let all = more_groups (data_pages g m - head_slots g) (span_slots g) (omega (arith, big)) none in
+    let long : data_pages g n - head_slots g ≡ data_pages g m - head_slots g + 1 = omega (arith, later, far) in
+    let count : index_pages g n ≡ 1 + ceil (data_pages g n - head_slots g) (span_slots g) = rw (lt-ltb (head_slots g) (data_pages g n) (omega (arith, later, far))) refl in
+    let same : ceil (data_pages g n - head_slots g) (span_slots g) ≡ ceil (data_pages g m - head_slots g + 1) (span_slots g) = ap (λ (k : ℕ). ceil k (span_slots g)) long in
+    omega (arith, count, same, all)
+
+-- The further index page of the next data page is there where it has others already.
+pub span_has : (g : Geometry) (m : ℕ) → head_slots g ≤ data_pages g m → 0 < (data_pages g m - head_slots g) % span_slots g → further g (data_pages g m) < index_pages g m
+span_has g m far some =
+    let big : 128 ≤ g.page = (sizes g).page in
+    let whole : span_slots g * ((data_pages g m - head_slots g) / span_slots g) + (data_pages g m - head_slots g) % span_slots g ≡ data_pages g m - head_slots g = div-add-mod (data_pages g m - head_slots g) (span_slots g) in
+    let low : (data_pages g m - head_slots g) % span_slots g < span_slots g = omega (arith, big) in
+    let all : ceil (data_pages g m - head_slots g) (span_slots g) ≡ (data_pages g m - head_slots g) / span_slots g + 1 =
+    ap (λ (k : ℕ). ceil k (span_slots g)) (sym whole) ∙ pages_of ((data_pages g m - head_slots g) / span_slots g) ((data_pages g m - head_slots g) % span_slots g) (span_slots g) some (omega (arith, low)) in
+    ⊎_elim
+    (λ (more : head_slots g < data_pages g m). let count : index_pages g m ≡ 1 + ceil (data_pages g m - head_slots g) (span_slots g) = rw (lt-ltb (head_slots g) (data_pages g m) more) refl in omega (arith, count, all))
+    (λ (few : data_pages g m ≤ head_slots g). let zero_left : data_pages g m - head_slots g ≡ 0 = omega (arith, few) in let some' : 0 < 0 % span_slots g = subst (λ (k : ℕ). 0 < k % span_slots g) zero_left some in let rest : 0 % span_slots g ≡ 0 = omega (arith, big) in absurd (omega (arith, some', rest)))
+    (cases_lt (head_slots g) (data_pages g m))

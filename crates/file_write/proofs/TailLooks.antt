@@ -1,0 +1,116 @@
+-- What the looks at the tail of a file tell.
+use Rattle.std.proofs.Common.{◌≡◌, ℕ, ◌+◌, ◌-◌, ◌*◌, ◌/◌, ◌%◌, ◌<◌, ◌≤◌, List, length, drop, get_or, slice_index, Bool, true, false, ◌==◌, Option, Some, None, ap, sym, ◌∙◌, arith, subst, ⊎_elim, length-drop}
+use Rattle.std.specs.Prelude.{option_and_then, Result, Ok, Err, IfOk, is_some, not}
+use Rattle.std.specs.Bool.{OnTrue}
+use Rattle.nor_core.specs.declared.device.Failed.{Failed}
+use Rattle.std.proofs.lemmas.Bool.{cases_eq, ne_eqb, le-ltb}
+use Rattle.std.proofs.lemmas.List.{get_or-drop}
+use Rattle.std.proofs.lemmas.List.Folds.{list_all_at}
+use Rattle.std.proofs.lemmas.Option.{same_Some, option_and_then_some}
+use Rattle.geometry.specs.declared.geometry.Geometry.{Geometry}
+use Rattle.geometry.specs.Numbers.{body, head_slots, span_slots}
+use Rattle.table_model.specs.Room.{data_pages}
+use Rattle.image_model.specs.Within.{page_length}
+use Rattle.image_model.specs.Headers.{size_of, word_at}
+use Rattle.image_model.specs.Live.{live_at, own}
+use Rattle.image_model.specs.Files.{index_page, further}
+use Rattle.image_model.specs.Places.{page_of, is_entry_page, IsImage}
+use Rattle.image_model.specs.Tidy.{is_erased}
+use Rattle.image_laws.specs.Reindex.{slot_word}
+use Rattle.image_laws.proofs.Finish.{own-parts}
+use Rattle.image_laws.proofs.Frames.{live_parts}
+use Rattle.renew_laws.specs.Tails.{HasCleanBytes, IsTailReady}
+use Rattle.renew_laws.proofs.Spans.{page_named}
+use Rattle.flash_view.specs.Judging.{data_number, data_number_of}
+use Rattle.page_renew.specs.declared.finding.Found.{Found}
+use Rattle.page_renew.specs.Renewals.{IsHome}
+use Rattle.file_write.specs.Readyings.{HasOnes, IsStale}
+use Rattle.file_write.proofs.LastPage.{named_by, number_there}
+
+-- a byte of an erased list
+ones_at : (l : List ℕ) (k : ℕ) → is_erased l ≡ true → k < length l → get_or l k 0 ≡ 0xFF
+ones_at l k all low =
+    ⊎_elim
+    (λ (yes : get_or l k 0 ≡ 0xFF). yes)
+    (λ (no : get_or l k 0 ≡ 0xFF → ⊥). let bad : true ≡ false = sym all ∙ list_all_at (λ (b : ℕ). b == 0xFF) l k 0 low (ne_eqb (get_or l k 0) 0xFF no) in absurd (cc))
+    (cases_eq (get_or l k 0) 0xFF)
+
+-- the data page of a span is live
+number_live : (g : Geometry) (image : List ℕ) (id t q : ℕ) → data_number_of g image id t ≡ Some q → (x : List ℕ) × (own (live_at g image) id q ≡ Some x)
+unfolding data_number_of
+number_live g image id t q e =
+    option_and_then_some (λ head. data_number g (own (live_at g image) id) head t) (option_and_then (own (live_at g image) id) (index_page g (own (live_at g image) id) 0)) q e
+    (λ head at number. let n = named_by g (own (live_at g image) id) head t q number in (n.z, n.is))
+
+-- ---- the bytes past the size
+
+-- where they were read
+pub rest_read : (g : Geometry) (image : List ℕ) (id size p from : ℕ) → IsImage g image → Some p ≡ data_number_of g image id (size / body g) → from ≡ 5 + size % body g → is_erased (drop from (page_of g image p)) ≡ true → HasOnes g image id size
+rest_read g image id size p from is there from_is ones q more number k low high =
+    let same : p ≡ q = same_Some p q (there ∙ number) in
+    let x = number_live g image id (size / body g) p (sym there) in
+    let live = (own-parts (live_at g image) id p x.0 x.1).0 in
+    let len : length (page_of g image p) ≡ g.page = page_length g image p is (live_parts g image p x.0 live).entry_page in
+    let rest = length-drop from (page_of g image p) in
+    let place : from + (k - from) ≡ k = omega (arith, low, from_is) in
+    let byte : slice_index (page_of g image p) (from + (k - from)) ≡ 0xFF = sym (get_or-drop from (page_of g image p) (k - from) 0) ∙ ones_at (drop from (page_of g image p)) (k - from) ones (omega (arith, rest, len, low, high, from_is)) in
+    subst (λ (n : ℕ). slice_index (page_of g image n) k ≡ 0xFF) same (subst (λ (n : ℕ). slice_index (page_of g image p) n ≡ 0xFF) place byte)
+
+-- as a call tells it
+pub ones_told : (g : Geometry) (image : List ℕ) (id size p span from : ℕ) (r : Result Bool Failed) → IsImage g image → Some p ≡ data_number_of g image id span → span ≡ size / body g → from ≡ 5 + size % body g →
+    IfOk r (λ ones. ones ≡ is_erased (drop from (page_of g image p))) → IfOk r (λ clean. OnTrue clean (HasOnes g image id size))
+ones_told g image id size p span from (Err e) is there span_is from_is told = tt
+ones_told g image id size p span from (Ok false) is there span_is from_is told = tt
+ones_told g image id size p span from (Ok true) is there span_is from_is told = rest_read g image id size p from is (there ∙ ap (data_number_of g image id) span_is) from_is (sym told)
+
+-- they are those of the last data page
+pub ones_clean : (g : Geometry) (image : List ℕ) (id size h : ℕ) (head : List ℕ) → index_page g (own (live_at g image) id) 0 ≡ Some h → own (live_at g image) id h ≡ Some head → size ≡ size_of head → HasOnes g image id size → HasCleanBytes g (own (live_at g image) id) head
+unfolding data_number_of
+ones_clean g image id size h head at header told ones z more there k low high =
+    let n = number_there g (own (live_at g image) id) head (size_of head / body g) z there in
+    let named = named_by g (own (live_at g image) id) head (size_of head / body g) n.0 n.1 in
+    let number : data_number_of g image id (size_of head / body g) ≡ Some n.0 = rw at (rw header n.1) in
+    let live = (own-parts (live_at g image) id n.0 named.z named.is).0 in
+    let same : named.z ≡ z = same_Some named.z z (sym (page_named g (own (live_at g image) id) head (size_of head / body g) n.0 named.z named.entry named.is named.kind named.span) ∙ there) in
+    let byte : slice_index (page_of g image n.0) k ≡ 0xFF = subst (λ (m : ℕ). HasOnes g image id m) told ones n.0 more number k low high in
+    ap (λ (l : List ℕ). slice_index l k) (sym ((live_parts g image n.0 named.z live).bytes ∙ same)) ∙ byte
+
+-- ---- the entry behind the last
+
+module _ (g : Geometry) (image : List ℕ) (id size span w : ℕ) (at : span ≡ further g (data_pages g size)) (found : Some w ≡ index_page g (own (live_at g image) id) span) where
+  first : index_page g (own (live_at g image) id) (further g (data_pages g size)) ≡ Some w
+  first = ap (index_page g (own (live_at g image) id)) (sym at) ∙ sym found
+
+  page_at : (page : List ℕ) → option_and_then (own (live_at g image) id) (index_page g (own (live_at g image) id) (further g (data_pages g size))) ≡ Some page → live_at g image w ≡ Some page
+  page_at page there = (own-parts (live_at g image) id w page (ap (option_and_then (own (live_at g image) id)) (sym first) ∙ there)).0
+
+  -- it is free
+  pub free_behind : (word : ℕ) → word ≡ word_at (page_of g image w) (8 + 2 * ((data_pages g size - head_slots g) % span_slots g)) → word ≡ 0xFFFF → IsStale g image id size None
+  free_behind word is ones page high there =
+      let bytes : page_of g image w ≡ page = (live_parts g image w page (page_at page there)).bytes in
+      rw (le-ltb (data_pages g size) (head_slots g) high) (ap (λ (l : List ℕ). word_at l (8 + 2 * ((data_pages g size - head_slots g) % span_slots g))) (sym bytes) ∙ sym is ∙ ones)
+
+  -- an index page is an entry page
+  pub not_inside : is_entry_page g w ≡ false → IsStale g image id size None
+  not_inside out page high there = let yes = (live_parts g image w page (page_at page there)).entry_page in let bad : true ≡ false = sym yes ∙ out in absurd (cc)
+
+-- ---- the tail
+
+pub tail_ready : (g : Geometry) (image : List ℕ) (id : ℕ) (found : Found) → IsHome g image id (Some found) → HasOnes g image id found.size → IsStale g image id found.size None → IsTailReady g image id
+tail_ready g image id found home ones free h head at header =
+    let place : h ≡ found.header = same_Some h found.header (sym at ∙ home.0) in
+    let live : live_at g image h ≡ Some head = (own-parts (live_at g image) id h head header).0 in
+    let bytes : page_of g image found.header ≡ head = ap (page_of g image) (sym place) ∙ (live_parts g image h head live).bytes in
+    let told : found.size ≡ size_of head = home.1 ∙ ap size_of bytes in
+    record {
+      bytes = ones_clean g image id found.size h head at header told ones;
+      entry = subst (λ (n : ℕ). (page : List ℕ) → head_slots g ≤ data_pages g n → option_and_then (own (live_at g image) id) (index_page g (own (live_at g image) id) (further g (data_pages g n))) ≡ Some page → slot_word g page (data_pages g n) ≡ 0xFFFF) told free;
+    }
+
+-- as the calls tell it
+pub tail_told : (g : Geometry) (image : List ℕ) (id : ℕ) (found : Found) (clean : Bool) (stale : Option ℕ) (b : Bool) → IsHome g image id (Some found) → clean ≡ true → OnTrue clean (HasOnes g image id found.size) → IsStale g image id found.size stale →
+    is_some stale ≡ not b → OnTrue b (IsTailReady g image id)
+tail_told g image id found clean None true home is_clean ones free is = tail_ready g image id found home (rw is_clean at ones) free
+tail_told g image id found clean None false home is_clean ones free is = tt
+tail_told g image id found clean (Some w) true home is_clean ones free is = absurd (cc)
+tail_told g image id found clean (Some w) false home is_clean ones free is = tt

@@ -1,0 +1,33 @@
+use Rattle.std.specs.Prelude.{length}
+use Rattle.table_model.specs.Files.{written}
+use Rattle.flash_view.proofs.Stepped.{fails_as, stepped_then}
+use Rattle.file_write.specs.Appends.{indexing_data}
+use Rattle.file_write.proofs.AfterIndex.{index_starts, index_goes, index_begins, indexed_ends}
+use Rattle.file_write.proofs.further.append_first.Goals as goal
+
+pub returns-in-Err : goal.returns-in-Err
+returns-in-Err g c = λ f.
+    let call = c.in-Err.ensures in
+    fails_as call (λ k. k) (λ k. k) call.means (λ tells can. let b = index_starts c.args.v.now.geometry _ c.args.id c.args.found.header c.args.found.size c.args.span c.index_span-further.result 0 c.args.end c.args.from.now f can c.requires.span c.requires.whole c.requires.far c.requires.first c.index_span-further.ensures c.requires.end.0 in record { needs = b.needs; cut = b.cut })
+
+pub returns-in-Err-add_index : goal.returns-in-Err-add_index
+returns-in-Err-add_index g c = λ f.
+    let p = c.in-Ok.page in
+    let call = c.in-Err-add_index.ensures in
+    fails_as
+    (stepped_then {whole = indexing_data c.args.id c.args.found.header c.args.found.size c.args.span c.index_span-further.result p c.args.from.now f} c.in-Ok.ensures call
+    (λ tells can. index_starts c.args.v.now.geometry _ c.args.id c.args.found.header c.args.found.size c.args.span c.index_span-further.result p c.args.end c.args.from.now f can c.requires.span c.requires.whole c.requires.far c.requires.first c.index_span-further.ensures c.requires.end.0)
+    (λ tells can added. index_goes c.args.v.now.geometry _ c.args.id c.args.found.header c.args.found.size c.args.span c.index_span-further.result p c.args.end c.args.from.now f can c.requires.span c.requires.whole c.requires.far c.requires.first c.index_span-further.ensures c.requires.end.0 _ added))
+    (λ k. k) (λ k. k) call.means
+    (λ tells can. index_begins c.args.v.now.geometry _ c.args.id c.args.found.header c.args.found.size c.args.span c.index_span-further.result p c.args.end c.args.from.now f can c.requires.span c.requires.whole c.requires.far c.requires.first c.index_span-further.ensures c.requires.end.0)
+
+pub returns-in-Ok-add_index : goal.returns-in-Ok-add_index
+returns-in-Ok-add_index g c = λ f.
+    let p = c.in-Ok.page in
+    stepped_then
+    (stepped_then {whole = indexing_data c.args.id c.args.found.header c.args.found.size c.args.span c.index_span-further.result p c.args.from.now f} c.in-Ok.ensures c.in-Ok-add_index.ensures
+    (λ tells can. index_starts c.args.v.now.geometry _ c.args.id c.args.found.header c.args.found.size c.args.span c.index_span-further.result p c.args.end c.args.from.now f can c.requires.span c.requires.whole c.requires.far c.requires.first c.index_span-further.ensures c.requires.end.0)
+    (λ tells can added. index_goes c.args.v.now.geometry _ c.args.id c.args.found.header c.args.found.size c.args.span c.index_span-further.result p c.args.end c.args.from.now f can c.requires.span c.requires.whole c.requires.far c.requires.first c.index_span-further.ensures c.requires.end.0 _ added))
+    (c.renew_from.ensures (written (length f.bytes) c.args.from.now f))
+    (λ tells can. index_begins c.args.v.now.geometry _ c.args.id c.args.found.header c.args.found.size c.args.span c.index_span-further.result p c.args.end c.args.from.now f can c.requires.span c.requires.whole c.requires.far c.requires.first c.index_span-further.ensures c.requires.end.0)
+    (λ tells can done. indexed_ends c.args.v.now.geometry _ c.args.id c.args.found.header c.args.found.size c.args.span c.index_span-further.result p c.args.end c.args.from.now f can c.requires.span c.requires.whole c.requires.far c.requires.first c.index_span-further.ensures c.requires.end.0 _ _ done)

@@ -1,0 +1,147 @@
+// Bytes added at the end of a file.
+ghost use Rattle.std.specs.Prelude.{◌≡◌, ◌≢◌, ◌+◌, ◌-◌, ◌/◌, ◌%◌, ◌<◌, ◌≤◌, IfSome, None, length};
+ghost use Rattle.geometry.specs.Numbers.{body, head_slots, span_slots};
+ghost use Rattle.flash_view.specs.Places.{IsEntryPage};
+ghost use Rattle.flash_view.specs.Steps.{Stepped, stopped};
+ghost use Rattle.table_model.specs.Table.{File};
+ghost use Rattle.file_write.specs.Appends.{appending_at, appending};
+
+use crate::beside::add_data;
+use crate::create::missing;
+use crate::filling::append_inside;
+use crate::further::{append_first, append_there, find_slot};
+use flash_view::{StepErr, View};
+use geometry::Geometry;
+use nor_core::{Failed, Nor};
+use page_renew::{Edit, Found, find_home, renew_from};
+
+// Adds bytes to a file whose header page has the entry of the new data page.
+pub(crate) fn append_near<N: Nor>(
+    v: &mut View<'_, N>,
+    id: u16,
+    found: Found,
+    span: u16,
+    end: u32,
+    from: &[u8],
+) -> Result<(), StepErr>
+    requires header { IsEntryPage v.old.geometry found.header }
+    requires id { (1 ≤ id) × (id ≤ 0x7FFE) }
+    requires fits { length from.now ≤ body v.old.geometry }
+    requires end { (end ≡ found.size + length from.now) × (end < 0xFFFFFFFF) }
+    requires whole { found.size % body v.old.geometry ≡ 0 }
+    requires span { span ≡ found.size / body v.old.geometry }
+    requires near { span < head_slots v.old.geometry }
+    ensures { (f : File) → Stepped stopped v.old v.new result (appending_at id found.header found.size from.now f) }
+{
+    match add_data(v, id, span, from) {
+        Err(why) => Err(why),
+        Ok(page) => renew_from(v, id, found.header, Edit::GrowBy { size: end, page }),
+    }
+}
+
+// Adds bytes to a file whose new data page is in a further index page, but not the first of one.
+fn append_far<N: Nor>(
+    v: &mut View<'_, N>,
+    id: u16,
+    found: Found,
+    span: u16,
+    end: u32,
+    from: &[u8],
+) -> Result<(), StepErr>
+    requires header { IsEntryPage v.old.geometry found.header }
+    requires id { (1 ≤ id) × (id ≤ 0x7FFE) }
+    requires fits { length from.now ≤ body v.old.geometry }
+    requires end { (end ≡ found.size + length from.now) × (end < 0xFFFFFFFF) }
+    requires whole { found.size % body v.old.geometry ≡ 0 }
+    requires span { span ≡ found.size / body v.old.geometry }
+    requires far { head_slots v.old.geometry ≤ span }
+    requires other { (span - head_slots v.old.geometry) % span_slots v.old.geometry ≢ 0 }
+    ensures { (f : File) → Stepped stopped v.old v.new result (appending_at id found.header found.size from.now f) }
+{
+    match find_slot(v, id, span) {
+        Err(Failed) => Err(StepErr::DeviceFault),
+        Ok(None) => Err(StepErr::Damaged(missing(id))),
+        Ok(Some(index)) => append_there(v, id, found, index, span, end, from),
+    }
+}
+
+// Adds bytes to a file that ends with a data page.
+fn append_new<N: Nor>(
+    v: &mut View<'_, N>,
+    id: u16,
+    found: Found,
+    end: u32,
+    from: &[u8],
+) -> Result<(), StepErr>
+    requires header { IsEntryPage v.old.geometry found.header }
+    requires id { (1 ≤ id) × (id ≤ 0x7FFE) }
+    requires fits { length from.now ≤ body v.old.geometry }
+    requires end { (end ≡ found.size + length from.now) × (end < 0xFFFFFFFF) }
+    requires whole { found.size % body v.old.geometry ≡ 0 }
+    ensures { (f : File) → Stepped stopped v.old v.new result (appending_at id found.header found.size from.now f) }
+{
+    let g = v.geometry;
+    let span = found.size / g.body();
+    if span > 0xFFFF {
+        return Err(StepErr::Damaged(missing(id)));
+    }
+    if span < g.head_slots() {
+        return append_near(v, id, found, span as u16, end, from);
+    }
+    if (span - g.head_slots()) % g.span_slots() == 0 {
+        return append_first(v, id, found, span as u16, end, from);
+    }
+    append_far(v, id, found, span as u16, end, from)
+}
+
+// The size of a file with so many bytes more, where these are some, end in the data page in which they begin, and leave a
+// size that a header page can tell.
+fn end_of(g: &Geometry, size: u32, more: usize) -> Option<u32>
+    ensures some { IfSome result (λ end. (end ≡ size + more) × (end < 0xFFFFFFFF) × (0 < more) × (size % body g.now + more ≤ body g.now)) }
+    ensures all { 0 < more → size % body g.now + more ≤ body g.now → size + more < 0xFFFFFFFF → result ≢ None }
+{
+    let room = g.body() - size % g.body();
+    if more == 0 || more > room as usize {
+        return None;
+    }
+    let end = u64::from(size) + more as u64;
+    if end >= 0xFFFF_FFFF {
+        return None;
+    }
+    Some(end as u32)
+}
+
+// Adds bytes to the file whose header page was found.
+fn append_found<N: Nor>(
+    v: &mut View<'_, N>,
+    id: u16,
+    found: Found,
+    from: &[u8],
+) -> Result<(), StepErr>
+    requires header { IsEntryPage v.old.geometry found.header }
+    requires id { (1 ≤ id) × (id ≤ 0x7FFE) }
+    ensures { (f : File) → Stepped stopped v.old v.new result (appending_at id found.header found.size from.now f) }
+{
+    let Some(end) = end_of(&v.geometry, found.size, from.len()) else {
+        return Err(StepErr::Damaged(missing(id)));
+    };
+    if found.size % v.geometry.body() == 0 {
+        append_new(v, id, found, end, from)
+    } else {
+        append_inside(v, id, found, end, from)
+    }
+}
+
+/// Adds bytes at the end of a file, inside one data page, in one page step: at a cut they are there or not, and a reserve
+/// that was there is there. The image is to be tidy and the file's tail ready, with a data page to be had, and an index page
+/// or, where the new data page is the first of a further index page, two; the bytes are to be some, and to end in the data
+/// page in which they begin. Where that holds, a fault of the device is the one error.
+pub fn append_step<N: Nor>(v: &mut View<'_, N>, id: u16, from: &[u8]) -> Result<(), StepErr>
+    ensures { (f : File) → Stepped stopped v.old v.new result (appending id from.now f) }
+{
+    match find_home(v, id) {
+        Err(Failed) => Err(StepErr::DeviceFault),
+        Ok(None) => Err(StepErr::Damaged(missing(id))),
+        Ok(Some(found)) => append_found(v, id, found, from),
+    }
+}

@@ -1,0 +1,110 @@
+// The tail of a file: bytes of its last data page past the size, and the entry behind its last.
+ghost use Rattle.std.specs.Prelude.{◌≡◌, ◌%◌, ◌<◌, ◌≤◌, ℕ, OnErr, IfOk, IfSome, drop, true};
+ghost use Rattle.std.specs.Bool.{OnTrue, OnFalse};
+ghost use Rattle.geometry.specs.Numbers.{body, page_count};
+ghost use Rattle.nor_core.specs.Count.{Rose};
+ghost use Rattle.table_model.specs.Table.{has_id};
+ghost use Rattle.image_model.specs.Places.{page_of};
+ghost use Rattle.image_model.specs.Tables.{table_of};
+ghost use Rattle.image_model.specs.Tidy.{IsTidy, is_erased as the_erased};
+ghost use Rattle.renew_laws.specs.Tails.{IsTailReady};
+ghost use Rattle.flash_view.specs.Places.{IsEntryPage};
+ghost use Rattle.flash_view.specs.Same.{OnlyLooks};
+ghost use Rattle.file_write.specs.Readyings.{HasOnes, IsStale};
+
+use flash_view::{View, is_entry_page};
+use nor_core::{Failed, Nor, NorState};
+use page_renew::{Found, data_pages, find_home};
+
+// Whether all these bytes are 0xFF.
+fn are_ones(bytes: &[u8]) -> bool
+    ensures { result ≡ the_erased bytes.now }
+{
+    bytes.iter().all(|byte| *byte == 0xFF)
+}
+
+// Whether the bytes of a page from a place on are 0xFF.
+#[tactic(auto, using(flash_view::proofs::Looking::looks_then))]
+fn ends_in_ones<N: Nor>(v: &mut View<'_, N>, page: u16, from: u32) -> Result<bool, Failed>
+    requires page { page < page_count v.old.geometry }
+    requires from { from ≤ v.old.geometry.page }
+    ensures cause { OnErr result (Rose (N.faults v.old.nor.now) (N.faults v.new.nor.now)) }
+    ensures looks { OnlyLooks v.old v.new }
+    ensures told { N.tells v.old.nor.now → IfOk result (λ ones. ones ≡ the_erased (drop from (page_of v.old.geometry (N.bytes v.old.nor.now) page))) }
+{
+    v.fetch(page)?;
+    Ok(are_ones(&v.fetched()[from as usize..]))
+}
+
+// Whether the bytes of the last data page of a file of that size past the size are known to be 0xFF.
+#[tactic(auto, using(flash_view::proofs::Looking::looks_then))]
+pub(crate) fn has_clean_bytes<N: Nor>(
+    v: &mut View<'_, N>,
+    id: u16,
+    size: u32,
+) -> Result<bool, Failed>
+    ensures cause { OnErr result (Rose (N.faults v.old.nor.now) (N.faults v.new.nor.now)) }
+    ensures looks { OnlyLooks v.old v.new }
+    ensures part { IfOk result (λ clean. OnFalse clean (0 < size % body v.old.geometry)) }
+    ensures told { N.tells v.old.nor.now → IfOk result (λ clean. OnTrue clean (HasOnes v.old.geometry (N.bytes v.old.nor.now) id size)) }
+{
+    let g = v.geometry;
+    let used = size % g.body();
+    if used == 0 {
+        return Ok(true);
+    }
+    let span = size / g.body();
+    if span > 0xFFFF {
+        return Ok(false);
+    }
+    match v.find_data(id, span as u16)? {
+        Some(page) if u32::from(page) < g.pages() => ends_in_ones(v, page, 5 + used),
+        _ => Ok(false),
+    }
+}
+
+// The further index page with the entry of the span behind the last of a file of that size, where that entry isn't 0xFFFF.
+#[tactic(auto, using(flash_view::proofs::Looking::looks_then))]
+pub(crate) fn stale_index<N: Nor>(
+    v: &mut View<'_, N>,
+    id: u16,
+    size: u32,
+) -> Result<Option<u16>, Failed>
+    ensures cause { OnErr result (Rose (N.faults v.old.nor.now) (N.faults v.new.nor.now)) }
+    ensures looks { OnlyLooks v.old v.new }
+    ensures entry { IfOk result (λ found. IfSome found (λ p. IsEntryPage v.old.geometry p)) }
+    ensures told { N.tells v.old.nor.now → IfOk result (λ found. IsStale v.old.geometry (N.bytes v.old.nor.now) id size found) }
+{
+    let g = v.geometry;
+    let count = data_pages(&g, size);
+    if count < g.head_slots() {
+        return Ok(None);
+    }
+    let behind = count - g.head_slots();
+    let Some(index) = v.find_span(id, behind / g.span_slots() + 1)? else {
+        return Ok(None);
+    };
+    let word = v.word_in(index, 8 + 2 * (behind % g.span_slots()))?;
+    if word == 0xFFFF || !is_entry_page(&g, index) {
+        return Ok(None);
+    }
+    Ok(Some(index))
+}
+
+/// Whether the tail of a file is known to be ready for an append: the bytes of its last data page past its size are 0xFF, and so is the
+/// entry of the span behind its last one, where a further index page has it.
+#[tactic(auto, using(flash_view::proofs::Looking::looks_then))]
+pub fn is_tail_ready<N: Nor>(v: &mut View<'_, N>, id: u16) -> Result<bool, Failed>
+    ensures cause { OnErr result (Rose (N.faults v.old.nor.now) (N.faults v.new.nor.now)) }
+    ensures looks { OnlyLooks v.old v.new }
+    ensures told { N.tells v.old.nor.now → IsTidy v.old.geometry (N.bytes v.old.nor.now) → has_id id (table_of v.old.geometry (N.bytes v.old.nor.now)) ≡ true → IfOk result (λ ready. OnTrue ready (IsTailReady v.old.geometry (N.bytes v.old.nor.now) id)) }
+{
+    let Some(Found { size, .. }) = find_home(v, id)? else {
+        return Ok(false);
+    };
+    if !has_clean_bytes(v, id, size)? {
+        return Ok(false);
+    }
+    let stale = stale_index(v, id, size)?;
+    Ok(stale.is_none())
+}
