@@ -1,24 +1,24 @@
 -- The stages of the check one after another.
-use Rattle.std.proofs.Common.{◌≡◌, ℕ, ◌+◌, List, length, Bool, true, false, refl, ◌∙◌, ap, arith, ⊎_elim}
-use Rattle.std.specs.Prelude.{nat_lt}
+use Rattle.std.proofs.Common.{◌≡◌, ℕ, ◌+◌, List, length, Bool, true, false, refl, sym, ◌∙◌, ap, arith, ⊎_elim}
 use Rattle.std.proofs.lemmas.Bool.{cases_Bool}
 use Rattle.geometry.specs.declared.geometry.Geometry.{Geometry}
 use Rattle.image_model.specs.Volume.{page_count}
-use Rattle.image_model.specs.Live.{live_at}
-use Rattle.image_model.specs.Tables.{damaged_of}
+use Rattle.image_model.specs.Tables.{table_of, damaged_of}
 use Rattle.image_model.specs.Tidy.{IsTidy, free_blocks}
-use Rattle.image_model.specs.Kinds.{mixed_blocks, spoiled_blocks}
+use Rattle.image_model.specs.Kinds.{mixed_blocks}
 use Rattle.image_model.specs.Killed.{is_used, is_killable, killed_of}
-use Rattle.image_laws.proofs.Frames.{damaged_of-same}
+use Rattle.image_laws.proofs.Frames.{table_of-same, damaged_of-same}
 use Rattle.image_laws.proofs.Matching.{filter-none_in}
+use Rattle.room_laws.specs.Staged.{OnlyKills, IsStaged}
+use Rattle.room_laws.proofs.Staying.{free_stays}
 use Rattle.vol_check.specs.declared.checking.Culled.{Culled}
 use Rattle.vol_check.specs.declared.report.Report.{Report}
 use Rattle.vol_check.specs.Stage.{IsClean, CleansEntries}
 use Rattle.vol_check.specs.Culls.{KeepsAll, IsSettled, IsServed, Passes, PassesDoubled, PassesDamaged, PassesRest, CullsPages}
-use Rattle.vol_check.specs.Mends.{HasAllMagics, Mends}
+use Rattle.vol_check.specs.MadeFresh.{MadeFresh}
 use Rattle.vol_check.specs.Checks.{Checked}
 use Rattle.vol_check.specs.Works.{Work}
-use Rattle.vol_check.proofs.Passing.{passes_then}
+use Rattle.vol_check.proofs.Passing.{passes_then, kills_then}
 use Rattle.vol_check.proofs.Mixing.{unmixed_after}
 use Rattle.vol_check.proofs.Tidied.{wanted_by, tidy_after}
 
@@ -54,25 +54,14 @@ none_killed g a clean served = filter-none_in (λ p. is_killable g a p) 0 (page_
 
 -- ---- the whole check
 
--- after the block without its magic and the entries that are dead
+-- after the block without its magic was made fresh, and the entries that are dead were killed
 pub record Readies (g : Geometry) (erased : Bool) (dead : ℕ) (was now : List ℕ) : Type 0 where
-  pub erased_is : erased ≡ nat_lt 0 (spoiled_blocks g was)
-  pub magics : HasAllMagics g now
-  pub live : (p : ℕ) → live_at g now p ≡ live_at g was p
-  pub clean : IsClean g now
-  pub count : dead + killed_of g now ≡ killed_of g was
+  pub image : List ℕ
+  pub made : MadeFresh g erased was image
+  pub cleans : CleansEntries g dead image now
 
 abbrev pub readying : Work (Bool × ℕ)
 readying = record { needs = λ g was. Unit {0}; done = λ g was now x. Readies g x.0 x.1 was now; idle = λ g was. IsTidy g was }
-
-pub readies : (g : Geometry) (a b c : List ℕ) (erased : Bool) (dead : ℕ) → Mends g erased a b → CleansEntries g dead b c → Readies g erased dead a c
-readies g a b c erased dead x y = record {
-  erased_is = x.erased_is;
-  magics = λ block low. y.magic block ∙ x.magics block low;
-  live = λ p. y.live p ∙ x.live p;
-  clean = y.clean;
-  count = omega (arith, x.killed, y.killed_more);
-}
 
 -- and the passes over live pages
 pub record CullsAll (g : Geometry) (erased : Bool) (dead : ℕ) (culled : Culled) (was now : List ℕ) : Type 0 where
@@ -83,18 +72,41 @@ pub record CullsAll (g : Geometry) (erased : Bool) (dead : ℕ) (culled : Culled
 abbrev pub culling_all : Work (Bool × ℕ × Culled)
 culling_all = record { needs = λ g was. Unit {0}; done = λ g was now x. CullsAll g x.0 x.1 x.2 was now; idle = λ g was. IsTidy g was }
 
+-- kills after a block was made fresh
+staged_after : (g : Geometry) (a b d : List ℕ) (erased : Bool) → MadeFresh g erased a b → OnlyKills g b d → IsTidy g d → table_of g d ≡ table_of g a → IsStaged g a d
+staged_after g a b d erased made kills tidy table =
+    let later : IsStaged g b d = record {
+      tidy = tidy;
+      table = table ∙ sym (table_of-same g b a made.live);
+      live = kills.live;
+      free = λ p page magic. kills.free p page;
+      fresh = λ block low none. let bad : true ≡ false = sym (made.magics block low) ∙ none in absurd (cc);
+    } in
+    record {
+      tidy = tidy;
+      table = table;
+      live = λ p. rw (made.live p) at (kills.live p);
+      free = λ p page magic. kills.free p page ∙ made.free p page magic;
+      fresh = λ block low none. free_stays g b d later block low (made.fresh block low none);
+    }
+
 pub checked : (g : Geometry) (a c d : List ℕ) (report : Report) (dead pages : ℕ) → mixed_blocks g a ≡ 0 → Readies g report.erased dead a c → CullsPages g pages report.damaged c d → KeepsAll g a d →
     report.killed ≡ dead + pages → report.free_blocks ≡ free_blocks g d → Checked g a d report
 checked g a c d report dead pages unmixed ready culled kept killed free =
-    let clean : IsClean g d = culled.passes.clean ready.clean in
+    let made = ready.made in
+    let cleans = ready.cleans in
+    let kills : OnlyKills g ready.image d = kills_then g ready.image c d cleans.kills culled.passes.kills in
+    let clean : IsClean g d = culled.passes.clean cleans.clean in
     let none : killed_of g d ≡ 0 = none_killed g d clean culled.served in
-    let same_damage : damaged_of g c ≡ damaged_of g a = damaged_of-same g c a ready.live in
+    let same_damage : damaged_of g c ≡ damaged_of g a = damaged_of-same g c a (λ p. cleans.live p ∙ made.live p) in
+    let tidy : IsTidy g d = tidy_after g d (λ block low. kills.magic block ∙ made.magics block low) clean culled.served culled.none (unmixed_after g a d unmixed kept.keeps) in
     record {
-      tidy = tidy_after g d (λ block low. culled.passes.magic block ∙ ready.magics block low) clean culled.served culled.none (unmixed_after g a d unmixed kept.keeps);
+      tidy = tidy;
       table = kept.keeps.table;
-      erased = ready.erased_is;
-      killed = omega (arith, killed, ready.count, culled.passes.count, none);
+      erased = made.erased_is;
+      killed = omega (arith, killed, made.killed, cleans.killed_more, culled.passes.count, none);
       damaged = culled.count ∙ ap length same_damage;
       free = free;
       free_least = kept.free;
+      staged = staged_after g a ready.image d report.erased made kills tidy kept.keeps.table;
     }

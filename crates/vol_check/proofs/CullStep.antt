@@ -1,5 +1,5 @@
 -- A kill of a live page that isn't wanted, as a turn of the check.
-use Rattle.std.proofs.Common.{◌≡◌, ◌≢◌, ℕ, ◌+◌, ◌*◌, ◌<◌, ◌≤◌, List, slice_index, true, false, ◌==◌, ap, refl, sym, ◌∙◌, ⊎_elim}
+use Rattle.std.proofs.Common.{◌≡◌, ◌≢◌, ℕ, ◌+◌, ◌*◌, ◌<◌, ◌≤◌, List, slice_index, true, false, ◌==◌, ap, refl, sym, ◌∙◌, ⊎_elim, inl, inr}
 use Rattle.std.specs.Prelude.{is_some}
 use Rattle.std.proofs.lemmas.Bool.{cases_eq, cases_Bool, ne_eqb}
 use Rattle.std.proofs.lemmas.Option.{cond_some}
@@ -24,6 +24,7 @@ use Rattle.flash_view.specs.Steps.{Finishes}
 use Rattle.page_put.specs.LivePages.{killing}
 use Rattle.vol_check.specs.Culls.{KeepsAll, Spares, MayCull, Culls}
 use Rattle.vol_check.specs.Works.{step_of, culling}
+use Rattle.vol_check.proofs.Passing.{kills_one}
 
 -- each id has what it had
 pub spares_by : (g : Geometry) (a b : List ℕ) (p : ℕ) → has_of g (live_at g b) ≡ has_of g (live_at g a) → ((q : ℕ) → q ≢ p → is_wanted g b q ≡ is_wanted g a q) → Spares g p a b
@@ -90,7 +91,11 @@ module _ (g : Geometry) (a : List ℕ) (p : ℕ) (is : IsImage g a) (h : HasMagi
         (λ (here : q ≡ p). rw here (rw (zero_unused g c p k.zero) refl))
         (λ (there : q ≡ p → ⊥). rw (used-same g a c p k.agree q there, k.loses.others q there) (was q))
         (cases_eq q p);
-    magic = k.agree.magic;
+    kills = kills_one g a c p k.agree (live-used g a p may.page may.live) k.zero
+        (λ q. ⊎_elim
+        (λ (here : q ≡ p). rw here (inr k.loses.after))
+        (λ (there : q ≡ p → ⊥). inl (k.loses.others q there))
+        (cases_eq q p));
   }
 
 -- the kill of a page is its turn

@@ -10,4 +10,4 @@ pub mod Mixing
 pub mod Resting
 pub mod Doubles
 pub mod Composing
-pub mod Mending
+pub mod Freshening

@@ -1,5 +1,5 @@
 -- Mixed blocks, and images that have none.
-use Rattle.std.proofs.Common.{◌≡◌, ℕ, ◌+◌, ◌<◌, ◌≤◌, List, [], ◌∷◌, length, Bool, true, false, ◌&&◌, refl, sym, ◌∙◌, arith, ⊎_elim, subst}
+use Rattle.std.proofs.Common.{◌≡◌, ℕ, ◌+◌, ◌<◌, ◌≤◌, List, [], ◌∷◌, length, Bool, true, false, ◌&&◌, refl, ◌∙◌, arith, ⊎_elim, subst}
 use Rattle.std.specs.Prelude.{nat_lt, filter, Some}
 use Rattle.std.specs.List.{range_with_len, list_any}
 use Rattle.std.proofs.lemmas.Bool.{cases_Bool, lt-ltb, le-ltb, false_from_ne_true, true_from_ne_false}
@@ -9,7 +9,6 @@ use Rattle.image_model.specs.Headers.{names_index}
 use Rattle.image_model.specs.Live.{live_at}
 use Rattle.image_model.specs.Kinds.{is_index_page, is_data_page, is_index_block, is_data_block, is_mixed, mixed_blocks}
 use Rattle.image_model.specs.Collect.{index_in, data_in}
-use Rattle.image_model.specs.Tidy.{IsTidy}
 use Rattle.image_model.specs.Sound.{IsMixed, Keeps}
 use Rattle.image_model.specs.Within.{block_number, page_number}
 use Rattle.image_laws.proofs.Damaged.{same_truth}

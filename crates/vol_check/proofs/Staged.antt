@@ -1,9 +1,9 @@
 -- The entries of pages that aren't live, killed one after the other.
-use Rattle.std.proofs.Common.{◌≡◌, ℕ, ◌+◌, ◌*◌, ◌<◌, ◌≤◌, List, slice_index, Bool, true, false, cond, Result, refl, sym, ◌∙◌, arith}
+use Rattle.std.proofs.Common.{◌≡◌, ℕ, ◌+◌, ◌*◌, ◌<◌, ◌≤◌, List, slice_index, Bool, true, false, cond, Result, sym, ◌∙◌, arith, inl}
 use Rattle.std.proofs.lemmas.Bool.{and_parts, not-true}
 use Rattle.geometry.specs.declared.geometry.Geometry.{Geometry}
 use Rattle.image_model.specs.Volume.{page_count}
-use Rattle.image_model.specs.Places.{IsImage, has_magic}
+use Rattle.image_model.specs.Places.{IsImage}
 use Rattle.image_model.specs.Tidy.{is_free_entry}
 use Rattle.image_model.specs.Killed.{is_used, is_dead_entry}
 use Rattle.image_model.specs.Sound.{HasMagics}
@@ -17,10 +17,12 @@ use Rattle.flash_view.specs.Same.{OnlyLooks}
 use Rattle.flash_view.specs.Steps.{Stepped, Finishes, failed}
 use Rattle.flash_view.proofs.Stepped.{after_look}
 use Rattle.page_put.specs.LivePages.{clearing, Stays}
+use Rattle.room_laws.specs.Staged.{OnlyKills}
 use Rattle.vol_check.specs.Stage.{CleansEntry, CleansEntries, IsClean}
 use Rattle.vol_check.specs.Culls.{KeepsAll}
 use Rattle.vol_check.specs.Works.{Work, step_of, Worked, cleaning_entry}
 use Rattle.vol_check.proofs.Working.{Goes, On}
+use Rattle.vol_check.proofs.Passing.{kills_none, kills_then, kills_one}
 
 -- ---- a turn
 
@@ -43,7 +45,7 @@ module _ (g : Geometry) (a : List ℕ) (p : ℕ) (h : HasMagics g a) (dead : is_
   clears_entry byte = record {
     needs = record { inside = unused_page g a p dead; dead = unused_dead g a p dead; byte = byte };
     cut = stays;
-    done = λ c ok k. record { turned = turned g a c p (unused_page g a p dead) k.stays.agree k.stays.live k.stays.image (stays c k.stays).keeps k.zero dead; magic = k.stays.agree.magic };
+    done = λ c ok k. record { turned = turned g a c p (unused_page g a p dead) k.stays.agree k.stays.live k.stays.image (stays c k.stays).keeps k.zero dead; kills = kills_one g a c p k.stays.agree (used_not_free g a p dead) k.zero (λ q. inl (k.stays.live q)) };
   }
 
 pub must_be_killed : (g : Geometry) (a : List ℕ) (p : ℕ) → is_dead_entry g a p ≡ true → Goes g a a (killing_entry p) (cleaning_entry p)
@@ -59,25 +61,25 @@ kills_entry looks call byte = record {
 
 -- an entry that isn't dead stays
 pub cleans_nothing : (g : Geometry) (a : List ℕ) (p : ℕ) → IsImage g a → HasMagics g a → is_dead_entry g a p ≡ false → CleansEntry g p false a a
-cleans_nothing g a p is h quiet = record { turned = unturned g a p is h quiet; magic = λ block. refl }
+cleans_nothing g a p is h quiet = record { turned = unturned g a p is h quiet; kills = kills_none g a }
 
 -- ---- entry by entry
 
 -- p entries on, with n of them killed
 pub record Cleaning (g : Geometry) (first now : List ℕ) (p n : ℕ) : Type 0 where
   pub stage : Stage g first now p n
-  pub magic : (block : ℕ) → has_magic g now block ≡ has_magic g first block
+  pub kills : OnlyKills g first now
 
 abbrev pub cleaning_to : ℕ → Work ℕ
 cleaning_to p = record { needs = λ g was. Unit {0}; done = λ g was now n. Cleaning g was now p n; idle = λ g was. IsClean g was }
 
 pub cleaning_start : (g : Geometry) (a : List ℕ) → IsImage g a → HasMagics g a → Cleaning g a a 0 0
-cleaning_start g a is h = record { stage = stage_start g a is h; magic = λ block. refl }
+cleaning_start g a is h = record { stage = stage_start g a is h; kills = kills_none g a }
 
 pub cleaning_next : (g : Geometry) (first a b : List ℕ) (p n m : ℕ) (killed : Bool) → Cleaning g first a p n → CleansEntry g p killed a b → m ≡ n + cond killed 1 0 → Cleaning g first b (p + 1) m
 cleaning_next g first a b p n m killed s t e =
     let few : cond killed 1 0 ≤ 1 = elim killed as (λ (k : Bool). cond k 1 0 ≤ 1) [ true ↦ omega arith | false ↦ omega arith ] in
-    record { stage = stage_next g first a b p n m killed s.stage t.turned e (omega (arith, e, few)); magic = λ block. t.magic block ∙ s.magic block }
+    record { stage = stage_next g first a b p n m killed s.stage t.turned e (omega (arith, e, few)); kills = kills_then g first a b s.kills t.kills }
 
 pub cleaning_end : (g : Geometry) (first a : List ℕ) (p n : ℕ) → page_count g ≤ p → Cleaning g first a p n → CleansEntries g n first a
-cleaning_end g first a p n all s = record { clean = stage_clean g first a p n all s.stage; count = stage_count g first a p n all s.stage; killed_more = s.stage.count; live = s.stage.live; magic = s.magic }
+cleaning_end g first a p n all s = record { clean = stage_clean g first a p n all s.stage; count = stage_count g first a p n all s.stage; killed_more = s.stage.count; live = s.stage.live; kills = s.kills }

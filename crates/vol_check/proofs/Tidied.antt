@@ -18,7 +18,7 @@ use Rattle.image_laws.proofs.TidySteps.{tidy-is_tidy}
 use Rattle.image_laws.proofs.Wants.{wanted_parts}
 use Rattle.vol_check.specs.Stage.{IsClean}
 use Rattle.vol_check.specs.Culls.{is_doubled, is_doubled_as, HasNoDoubles, is_unwanted, IsServed}
-use Rattle.vol_check.specs.Mends.{HasAllMagics}
+use Rattle.vol_check.specs.MadeFresh.{HasAllMagics}
 use Rattle.vol_check.proofs.Mixing.{unmixed}
 use Rattle.vol_check.proofs.CullStep.{used_by}
 use Rattle.vol_check.proofs.Resting.{own_self, served_index}

@@ -5,8 +5,9 @@ use Rattle.image_model.specs.Tables.{table_of, damaged_of}
 use Rattle.image_model.specs.Tidy.{IsTidy, free_blocks}
 use Rattle.image_model.specs.Kinds.{mixed_blocks, spoiled_blocks}
 use Rattle.image_model.specs.Killed.{killed_of}
+use Rattle.room_laws.specs.Staged.{IsStaged}
 use Rattle.vol_check.specs.declared.report.CheckErr.{CheckErr}
-use Rattle.vol_check.specs.declared.report.CheckErr.TheVariants.{Wrong, Mixed, DeviceFault}
+use Rattle.vol_check.specs.declared.report.CheckErr.TheVariants.{Wrong, Mixed, DeviceFault, Damaged}
 use Rattle.vol_check.specs.declared.report.Report.{Report}
 
 -- a refusal of a volume whose numbers allow writing
@@ -14,20 +15,29 @@ abbrev pub IsWritable : CheckErr → Type 0
 IsWritable (Wrong why) = ⊥
 IsWritable (Mixed blocks) = Unit {0}
 IsWritable DeviceFault = Unit {0}
+IsWritable (Damaged differ) = Unit {0}
 
 -- a refusal for what was given, and not for what the device did
 abbrev pub IsRefusal : CheckErr → Type 0
 IsRefusal (Wrong why) = Unit {0}
 IsRefusal (Mixed blocks) = Unit {0}
 IsRefusal DeviceFault = ⊥
+IsRefusal (Damaged differ) = ⊥
+
+-- the stages of a check, which move no page, find none damaged
+abbrev pub IsOfStages : CheckErr → Type 0
+IsOfStages (Damaged differ) = ⊥
+IsOfStages why = Unit {0}
 
 -- a refusal for mixed blocks tells how many there are
 abbrev pub CountsMixed : Geometry → List ℕ → CheckErr → Type 0
 CountsMixed g image (Mixed blocks) = (blocks ≡ mixed_blocks g image) × (0 < blocks)
 CountsMixed g image (Wrong why) = Unit {0}
 CountsMixed g image DeviceFault = Unit {0}
+CountsMixed g image (Damaged differ) = Unit {0}
 
--- What a check leaves: the image is tidy with its table and no fewer free blocks, and the report tells what was found and done.
+-- What the stages of a check leave: the image is tidy with its table and no fewer free blocks, of the pages that were live some were
+-- killed, and the block without its magic is free; and the report tells what was found and done.
 pub record Checked (g : Geometry) (was now : List ℕ) (report : Report) : Type 0 where
   pub tidy : IsTidy g now
   pub table : table_of g now ≡ table_of g was
@@ -36,3 +46,4 @@ pub record Checked (g : Geometry) (was now : List ℕ) (report : Report) : Type 
   pub damaged : report.damaged ≡ length (damaged_of g was)
   pub free : report.free_blocks ≡ free_blocks g now
   pub free_least : free_blocks g was ≤ free_blocks g now
+  pub staged : IsStaged g was now

@@ -5,7 +5,6 @@ use Rattle.geometry.specs.declared.geometry.Geometry.{Geometry}
 use Rattle.table_model.specs.Room.{data_pages, index_pages}
 use Rattle.page_layout.specs.declared.header.PageHeader.{PageHeader}
 use Rattle.page_layout.specs.Layout.{names_index as header_names_index}
-use Rattle.image_model.specs.Places.{has_magic}
 use Rattle.image_model.specs.Headers.{obj_id, span_of, names_index}
 use Rattle.image_model.specs.Live.{live_at, own}
 use Rattle.image_model.specs.Files.{index_page}
@@ -14,6 +13,7 @@ use Rattle.image_model.specs.Tidy.{is_wanted, is_number, free_blocks}
 use Rattle.image_model.specs.Killed.{killed_of}
 use Rattle.image_model.specs.Sound.{Keeps, damaged_ids}
 use Rattle.image_laws.specs.Changes.{Loses}
+use Rattle.room_laws.specs.Staged.{OnlyKills}
 use Rattle.flash_view.specs.Judging.{data_number_of}
 use Rattle.flash_view.specs.Marks.{cause_at}
 use Rattle.vol_check.specs.Stage.{IsClean}
@@ -42,13 +42,13 @@ pub record Culls (g : Geometry) (p : ℕ) (killed : Bool) (was now : List ℕ) :
   pub gone : killed ≡ true → live_at g now p ≡ None
   pub others : (q : ℕ) → q ≢ p → live_at g now q ≡ live_at g was q
   pub clean : IsClean g was → IsClean g now
-  pub magic : (block : ℕ) → has_magic g now block ≡ has_magic g was block
+  pub kills : OnlyKills g was now
 
 -- after a pass over the image that killed n live pages
 pub record Passes (g : Geometry) (n : ℕ) (was now : List ℕ) : Type 0 where
   pub count : n + killed_of g now ≡ killed_of g was
   pub clean : IsClean g was → IsClean g now
-  pub magic : (block : ℕ) → has_magic g now block ≡ has_magic g was block
+  pub kills : OnlyKills g was now
 
 -- a live page is an index page, and not the index page of its id and span
 abbrev pub is_doubled_as : Geometry → List ℕ → ℕ → Option (List ℕ) → Bool

@@ -1,5 +1,5 @@
 pub mod Stage
 pub mod Culls
-pub mod Mends
+pub mod MadeFresh
 pub mod Checks
 pub mod Works

@@ -18,7 +18,7 @@ use Rattle.vol_check.specs.declared.checking.Culled.{Culled}
 use Rattle.vol_check.specs.declared.report.Report.{Report}
 use Rattle.vol_check.specs.Stage.{IsClean, CleansEntry, CleansEntries}
 use Rattle.vol_check.specs.Culls.{KeepsAll, MayCull, Culls, is_doubled, HasNoDoubles, IsSettled, is_unwanted, IsServed, CullsDoubled, CullsHead, CullsRest, PassesDoubled, PassesDamaged, PassesRest, CullsPages}
-use Rattle.vol_check.specs.Mends.{HasAllMagics, Mends}
+use Rattle.vol_check.specs.MadeFresh.{HasAllMagics, MadeFresh}
 use Rattle.vol_check.specs.Checks.{Checked}
 
 -- A work of the check, on an image of which at most one block lacks its magic: what else it needs of that image, what it leaves done, and where there is nothing to do.
@@ -49,8 +49,8 @@ pub record TurnsHead (g : Geometry) (id p : ℕ) (marks : List ℕ) (killed : Bo
 
 -- ---- a block without its magic, and entries that are dead
 
-abbrev pub mending : Work Bool
-mending = record { needs = λ g was. Unit {0}; done = λ g was now erased. Mends g erased was now; idle = λ g was. HasAllMagics g was }
+abbrev pub making_fresh : Work Bool
+making_fresh = record { needs = λ g was. Unit {0}; done = λ g was now erased. MadeFresh g erased was now; idle = λ g was. HasAllMagics g was }
 
 abbrev pub cleaning_entry : ℕ → Work Bool
 cleaning_entry p = record { needs = λ g was. Unit {0}; done = λ g was now killed. CleansEntry g p killed was now; idle = λ g was. is_dead_entry g was p ≡ false }

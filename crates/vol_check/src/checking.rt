@@ -7,14 +7,14 @@ ghost use Rattle.image_model.specs.Sound.{HasMagics};
 ghost use Rattle.image_model.specs.Tidy.{IsTidy};
 ghost use Rattle.flash_view.specs.Same.{IsSameView};
 ghost use Rattle.vol_check.specs.Culls.{KeepsAll};
-ghost use Rattle.vol_check.specs.Checks.{IsWritable, IsRefusal, CountsMixed, Checked};
+ghost use Rattle.vol_check.specs.Checks.{IsWritable, IsRefusal, IsOfStages, CountsMixed, Checked};
 ghost use Rattle.vol_check.specs.Works.{Worked, culling_pages, checking};
 
 use crate::damaged::cull_damaged;
 use crate::doubled::cull_doubles;
 use crate::entries::clean_entries;
 use crate::mixed::mixed_blocks;
-use crate::spoiled::mend;
+use crate::spoiled::make_fresh;
 use crate::unwanted::cull_rest;
 use crate::{CheckErr, Report};
 use flash_view::View;
@@ -44,13 +44,13 @@ fn cull_pages<N: Nor>(v: &mut View<'_, N>, marks: &mut [u8]) -> Result<Culled, F
     })
 }
 
-// Mends the block without its magic, and kills what is to be killed.
+// Makes the block without its magic fresh, and kills what is to be killed.
 fn clean<N: Nor>(v: &mut View<'_, N>, marks: &mut [u8]) -> Result<Report, Failed>
     requires room { page_count v.old.geometry ≤ length marks.old }
     requires magics { N.tells v.old.nor.now → HasMagics v.old.geometry (N.bytes v.old.nor.now) }
     ensures { Worked v.old v.new result checking }
 {
-    let erased = mend(v)?;
+    let erased = make_fresh(v)?;
     let dead = clean_entries(v)?;
     let culled = cull_pages(v, marks)?;
     Ok(Report {
@@ -61,7 +61,7 @@ fn clean<N: Nor>(v: &mut View<'_, N>, marks: &mut [u8]) -> Result<Report, Failed
     })
 }
 
-/// Checks a mounted volume, so that it may be written, in whatever state a cut or another program left it. The block
+/// The stages of the check of a mounted volume before its cleaning, in whatever state a cut or another program left it. The block
 /// without its magic is made fresh, if there is one; then every entry is killed that is neither deleted, free nor that
 /// of a page that a file of the table needs: first those over pages that aren't live, then doubled index pages, then the
 /// header pages of damaged files, then the rest. So damaged files go, and the table stays, also at a cut. Refused, with
@@ -74,6 +74,7 @@ pub fn check_stages<N: Nor>(v: &mut View<'_, N>, marks: &mut [u8]) -> Result<Rep
     requires magics { N.tells v.old.nor.now → HasMagics v.old.geometry (N.bytes v.old.nor.now) }
     ensures wrong { IfSome (write_refusal v.old.geometry) (λ why. result ≡ Err (CheckErr.Wrong why)) }
     ensures writable { write_refusal v.old.geometry ≡ None → IfErr result IsWritable }
+    ensures among { IfErr result IsOfStages }
     ensures few { OnOk result (usable v.old.geometry ≤ 32766) }
     ensures cause { IsErrOf result CheckErr.DeviceFault → Rose (N.faults v.old.nor.now) (N.faults v.new.nor.now) }
     ensures faults { N.faults v.old.nor.now ≤ N.faults v.new.nor.now }

@@ -1,4 +1,5 @@
 use geometry::GeoErr;
+use table_model::Differ;
 
 /// What a check found and did.
 #[derive(Clone, Copy, Debug, PartialEq, Eq)]
@@ -25,4 +26,6 @@ pub enum CheckErr {
     },
     /// The device failed.
     DeviceFault,
+    /// A page that cleaning moves reads otherwise than it was written.
+    Damaged(Differ),
 }

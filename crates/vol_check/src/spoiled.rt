@@ -3,7 +3,7 @@ ghost use Rattle.std.specs.List.{range_with_len};
 ghost use Rattle.nor_core.specs.Count.{Rose};
 ghost use Rattle.image_model.specs.Places.{has_magic};
 ghost use Rattle.flash_view.specs.Same.{OnlyLooks};
-ghost use Rattle.vol_check.specs.Works.{Worked, mending};
+ghost use Rattle.vol_check.specs.Works.{Worked, making_fresh};
 
 use flash_view::View;
 use free_search::next_count;
@@ -27,8 +27,8 @@ fn spoiled_block<N: Nor>(v: &mut View<'_, N>) -> Result<Option<u16>, Failed>
 }
 
 /// Makes the block fresh that lacks its magic, if there is one: whether there was. Its erase count is the next one.
-pub(crate) fn mend<N: Nor>(v: &mut View<'_, N>) -> Result<bool, Failed>
-    ensures { Worked v.old v.new result mending }
+pub(crate) fn make_fresh<N: Nor>(v: &mut View<'_, N>) -> Result<bool, Failed>
+    ensures { Worked v.old v.new result making_fresh }
 {
     let Some(block) = spoiled_block(v)? else {
         return Ok(false);

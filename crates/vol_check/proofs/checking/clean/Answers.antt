@@ -1,7 +1,7 @@
 use Rattle.std.proofs.Common.{Ok, refl}
 use Rattle.vol_check.specs.Works.{Worked}
 use Rattle.vol_check.proofs.Tidied.{tidy_clean}
-use Rattle.vol_check.proofs.Composing.{readying, readies, culling_all, checked}
+use Rattle.vol_check.proofs.Composing.{readying, culling_all, checked}
 use Rattle.vol_check.proofs.Working.{works_as, works_end, works_stop, works_read, read_stops, stops, work_magics}
 use Rattle.vol_check.proofs.checking.clean.Given.{Over}
 use Rattle.vol_check.proofs.checking.clean.Goals as goal
@@ -12,13 +12,13 @@ returns-in_err-erased g c = stops c.in_err-erased.ensures c.from_residual.ensure
 
 pub returns-in_err-dead : goal.returns-in_err-dead
 returns-in_err-dead g c =
-    works_stop c.in_ok-erased.ensures c.in_err-dead.ensures.work c.from_residual-in_err-dead.ensures.0 (λ tells magics need. record { needs = tt; idle = λ tidy. tidy.magic }) (λ tells magics need mended. record { needs = tt; idle = λ tidy. tidy_clean _ _ tidy })
+    works_stop c.in_ok-erased.ensures c.in_err-dead.ensures.work c.from_residual-in_err-dead.ensures.0 (λ tells magics need. record { needs = tt; idle = λ tidy. tidy.magic }) (λ tells magics need made. record { needs = tt; idle = λ tidy. tidy_clean _ _ tidy })
 
 -- after the block without its magic and the dead entries
 ready : (g : Over) (c : In_ok-dead g) → Worked {nor = g.N.NorState} c.args.v.now c.clean_entries.new.v (Ok (c.in_ok-erased.erased, c.in_ok-dead.dead)) readying
 ready g c =
-    works_end c.in_ok-erased.ensures c.in_ok-dead.ensures.work (λ tells magics need. record { needs = tt; idle = λ tidy. tidy.magic }) (λ tells magics need mended. record { needs = tt; idle = λ tidy. tidy_clean _ _ tidy })
-    (λ tells magics need mended kept cleaned. readies _ _ _ _ _ _ mended cleaned)
+    works_end c.in_ok-erased.ensures c.in_ok-dead.ensures.work (λ tells magics need. record { needs = tt; idle = λ tidy. tidy.magic }) (λ tells magics need made. record { needs = tt; idle = λ tidy. tidy_clean _ _ tidy })
+    (λ tells magics need made kept cleans. record { image = _; made = made; cleans = cleans })
 
 pub cull_pages-requires-clause-magics : goal.cull_pages-requires-clause-magics
 cull_pages-requires-clause-magics g c = work_magics (ready g (goal.at.cull_pages-requires-clause-magics g c).In_ok-dead) c.requires.magics (λ tells. tt)

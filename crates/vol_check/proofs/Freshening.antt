@@ -22,7 +22,7 @@ use Rattle.image_laws.proofs.FreeBlocks.{filter-same, filter-but}
 use Rattle.image_laws.proofs.Matching.{filter-none_in}
 use Rattle.image_laws.proofs.TidySteps.{wanted-same}
 use Rattle.free_search.proofs.Had.{filter_some}
-use Rattle.free_search.proofs.Beside.{page_other, magic_other, entry_other, free_block_other, free_magic, free_entry_at, free_dead}
+use Rattle.free_search.proofs.Beside.{page_other, magic_other, entry_other, free_entry_other, free_block_other, free_magic, free_entry_at, free_dead}
 use Rattle.page_put.specs.Fresh.{Freshens, IsFresh}
 use Rattle.nor_core.specs.declared.device.Failed.{Failed}
 use Rattle.nor_core.specs.declared.state.NorState.{Ghosts as NorOf}
@@ -33,8 +33,8 @@ use Rattle.flash_view.specs.Same.{IsSameView, OnlyLooks}
 use Rattle.flash_view.specs.Steps.{Finishes, acting}
 use Rattle.flash_view.proofs.Stepped.{acted, after_look}
 use Rattle.vol_check.specs.Culls.{KeepsAll}
-use Rattle.vol_check.specs.Mends.{HasAllMagics, Mends}
-use Rattle.vol_check.specs.Works.{Work, step_of, Worked, mending}
+use Rattle.vol_check.specs.MadeFresh.{HasAllMagics, MadeFresh}
+use Rattle.vol_check.specs.Works.{Work, step_of, Worked, making_fresh}
 use Rattle.vol_check.proofs.Working.{Goes}
 
 -- ---- the first block that lacks its magic
@@ -67,7 +67,7 @@ module _ (g : Geometry) (b : List ℕ) (c : ℕ) (free : is_free_block g b c ≡
 
 -- making block c fresh, which lacks its magic
 abbrev pub freshening : ℕ → Work (Unit {0})
-freshening c = record { needs = λ g was. (c < g.blocks) × (has_magic g was c ≡ false); done = λ g was now ok. Mends g true was now; idle = λ g was. ⊥ }
+freshening c = record { needs = λ g was. (c < g.blocks) × (has_magic g was c ≡ false); done = λ g was now ok. MadeFresh g true was now; idle = λ g was. ⊥ }
 
 module _ (g : Geometry) (a : List ℕ) (c : ℕ) (is : IsImage g a) (h : HasMagics g a) (low : c < g.blocks) (lacks : has_magic g a c ≡ false) where
   others : (d : ℕ) → d < g.blocks → d ≢ c → has_magic g a d ≡ true
@@ -91,8 +91,8 @@ module _ (g : Geometry) (a : List ℕ) (c : ℕ) (is : IsImage g a) (h : HasMagi
       let tight = rw not_free at fall in
       omega (arith, tight)
 
-  mends_cut : (x : List ℕ) → Freshens g c a x → KeepsAll g a x
-  mends_cut x cut = record {
+  fresh_cut : (x : List ℕ) → Freshens g c a x → KeepsAll g a x
+  fresh_cut x cut = record {
     keeps = erasing-sound g a x c is others cut.outside dead_before
         (⊎_elim
         (λ (same : x ≡ a). subst (λ (l : List ℕ). (p : ℕ) → block_of g p ≡ c → live_at g l p ≡ None) (sym same) dead_before)
@@ -102,48 +102,53 @@ module _ (g : Geometry) (a : List ℕ) (c : ℕ) (is : IsImage g a) (h : HasMagi
   }
 
   module _ (b : List ℕ) (erases : ℕ) (fresh : IsFresh g c erases a b) where
-    mends_live : (p : ℕ) → live_at g b p ≡ live_at g a p
-    mends_live p =
+    fresh_live : (p : ℕ) → live_at g b p ≡ live_at g a p
+    fresh_live p =
         ⊎_elim
         (λ (here : block_of g p ≡ c). free_dead g b c fresh.free p here ∙ sym (dead_before p here))
         (λ (there : block_of g p ≡ c → ⊥). live-other g (sizes g) a b c fresh.outside p there)
         (cases_eq (block_of g p) c)
 
-    mends_killed : killed_of g b ≡ killed_of g a
+    fresh_killed : killed_of g b ≡ killed_of g a
     unfolding killed_of
-    mends_killed =
+    fresh_killed =
         let used : (p : ℕ) → is_used g b p ≡ is_used g a p = λ p. ⊎_elim
         (λ (here : block_of g p ≡ c). free_unused g b c fresh.free p here ∙ sym (unused_before p here))
         (λ (there : block_of g p ≡ c → ⊥). used_other g a b c fresh.outside p there)
         (cases_eq (block_of g p) c) in
-        filter-same (λ (p : ℕ). is_killable g a p) (λ (p : ℕ). is_killable g b p) 0 (page_count g) (λ p from to. rw (used p, wanted-same g a b mends_live p) refl)
+        filter-same (λ (p : ℕ). is_killable g a p) (λ (p : ℕ). is_killable g b p) 0 (page_count g) (λ p from to. rw (used p, wanted-same g a b fresh_live p) refl)
 
-    mends : Mends g true a b
+    made : MadeFresh g true a b
     unfolding spoiled_blocks
-    mends = record {
+    made = record {
       erased_is = sym (lt-ltb 0 _ (filter_some (λ (d : ℕ). not (has_magic g a d)) 0 g.blocks c (omega arith) (omega arith) (rw lacks refl)));
       magics = λ d below. ⊎_elim
           (λ (here : d ≡ c). rw here (free_magic g b c fresh.free))
           (λ (there : d ≡ c → ⊥). magic_other g a b c fresh.outside d there ∙ others d below there)
           (cases_eq d c);
-      live = mends_live;
-      killed = mends_killed;
+      live = fresh_live;
+      killed = fresh_killed;
+      free = λ p page magic. free_entry_other g a b c fresh.outside p (λ here. let no : has_magic g a (block_of g p) ≡ false = rw here lacks in let bad : true ≡ false = sym magic ∙ no in absurd (cc));
+      fresh = λ d below none. ⊎_elim
+          (λ (here : d ≡ c). rw here fresh.free)
+          (λ (there : d ≡ c → ⊥). let bad : true ≡ false = sym (others d below there) ∙ none in absurd (cc))
+          (cases_eq d c);
     }
 
-  -- making it fresh mends the image
+  -- making it fresh
   freshens : (erases : ℕ) → Finishes g a a (acting (λ h. Freshens h c) (λ h. IsFresh h c erases)) (step_of (freshening c))
-  freshens erases = record { needs = tt; cut = mends_cut; done = λ b ok fresh. mends b erases fresh }
+  freshens erases = record { needs = tt; cut = fresh_cut; done = λ b ok fresh. made b erases fresh }
 
 -- where all blocks have their magic nothing is done
-pub mends_none : (g : Geometry) (a : List ℕ) → HasAllMagics g a → Mends g false a a
+pub made_none : (g : Geometry) (a : List ℕ) → HasAllMagics g a → MadeFresh g false a a
 unfolding spoiled_blocks
-mends_none g a all =
+made_none g a all =
     let count = filter-none_in (λ (d : ℕ). not (has_magic g a d)) 0 g.blocks (λ d from to. rw (all d (omega arith)) refl) in
-    record { erased_is = rw count refl; magics = all; live = λ p. refl; killed = refl }
+    record { erased_is = rw count refl; magics = all; live = λ p. refl; killed = refl; free = λ p page magic. refl; fresh = λ d below none. let bad : true ≡ false = sym (all d below) ∙ none in absurd (cc) }
 
 -- ---- as works of the check
 
-pub must_be_made : (g : Geometry) (a : List ℕ) (c : ℕ) → (c < g.blocks) × (has_magic g a c ≡ false) → Goes g a a (freshening c) mending
+pub must_be_made : (g : Geometry) (a : List ℕ) (c : ℕ) → (c < g.blocks) × (has_magic g a c ≡ false) → Goes g a a (freshening c) making_fresh
 must_be_made g a c found = record { needs = found; idle = λ all. let bad : true ≡ false = sym (all c found.0) ∙ found.1 in absurd (cc) }
 
 -- making a block fresh after looks

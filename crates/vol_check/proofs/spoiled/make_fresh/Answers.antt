@@ -1,9 +1,9 @@
 use Rattle.std.proofs.Common.{sym, ◌∙◌}
 use Rattle.flash_view.proofs.Looking.{looks_then}
 use Rattle.flash_view.proofs.Stepped.{view_image}
-use Rattle.vol_check.proofs.Mending.{found_spoiled, none_spoiled, mends_none, freshens_block, must_be_made}
+use Rattle.vol_check.proofs.Freshening.{found_spoiled, none_spoiled, made_none, freshens_block, must_be_made}
 use Rattle.vol_check.proofs.Working.{look_works, look_stops, works_on, works_as, stops}
-use Rattle.vol_check.proofs.spoiled.mend.Goals as goal
+use Rattle.vol_check.proofs.spoiled.make_fresh.Goals as goal
 
 pub returns-in_err-block : goal.returns-in_err-block
 returns-in_err-block g c = look_stops c.in_err-block.ensures.looks c.in_err-block.ensures.cause c.from_residual.ensures.0
@@ -11,7 +11,7 @@ returns-in_err-block g c = look_stops c.in_err-block.ensures.looks c.in_err-bloc
 pub returns-in_default : goal.returns-in_default
 returns-in_default g c =
     let looked = c.in_ok-block.ensures in
-    look_works looked.looks (λ tells magics need. mends_none _ _ (none_spoiled _ _ (sym (looked.told tells) ∙ c.in_default.is)))
+    look_works looked.looks (λ tells magics need. made_none _ _ (none_spoiled _ _ (sym (looked.told tells) ∙ c.in_default.is)))
 
 pub returns-in_err-count : goal.returns-in_err-count
 returns-in_err-count g c = works_on c.in_ok-block.ensures.looks (look_stops c.in_err-count.ensures.looks c.in_err-count.ensures.cause c.from_residual-in_err-count.ensures.0)
