@@ -13,9 +13,9 @@ use Rattle.table_model.specs.Outcome.{gives, on_descriptor}
 use Rattle.table_model.specs.Calls.{answer_tell}
 use Rattle.table_model.specs.Reply.{Answer, Tells as Number, Refuses}
 use Rattle.table_model.specs.declared.call.Call.{Call}
-use Rattle.table_model.specs.declared.call.Call.TheVariants.{Create, OpenFile, Read, Seek, Tell, Flush, Close, Remove, FRemove, Rename, StatName, FStat, Next, GetInfo, SetMeta, FSetMeta}
+use Rattle.table_model.specs.declared.call.Call.TheVariants.{Create, OpenFile, Read, Seek, Tell, Flush, Close, Remove, FRemove, Rename, StatName, FStat, Next, GetInfo, Gc, SetMeta, FSetMeta}
 use Rattle.table_model.specs.declared.call.Whence.{Whence}
-use Rattle.table_model.specs.Ask.{Ask, Creates, Opens, Reads, Seeks, Tells, Flushes, Closes, Removes, RemovesOpen, Renames, Stats, StatsOpen, NextAbove, Informs, SetsMeta, SetsMetaOpen, asked}
+use Rattle.table_model.specs.Ask.{Ask, Creates, Opens, Reads, Seeks, Tells, Flushes, Closes, Removes, RemovesOpen, Renames, Stats, StatsOpen, NextAbove, Informs, Collects, SetsMeta, SetsMetaOpen, asked}
 use Rattle.table_model.specs.Flat.{answer}
 use Rattle.table_model.specs.Steps.{is_refusal, steps}
 use Rattle.table_model.specs.Window.{Moment, Waiting, settled_at, incoming_of, continues, from_settled, IsAmong}
@@ -34,7 +34,7 @@ use Rattle.volume.specs.Holds.{memory, IsImageOf, Holds}
 use Rattle.call_model.specs.Safe.{IsSafe}
 use Rattle.call_model.specs.Memory.{IsAt}
 use Rattle.call_model.specs.Calls.{Stands, Publishes, Answers}
-use Rattle.volume.specs.Goes.{CallCut, Goes}
+use Rattle.volume.specs.Goes.{CallCut, StopsShort, Goes}
 use Rattle.volume.specs.Calls.{Unchanged, Calls}
 use Rattle.volume.proofs.Going.{stays}
 use Rattle.volume.proofs.Staying.{same_none}
@@ -72,6 +72,7 @@ after_built g spare m (Stats name) still built = either (is_refusal (answer g sp
 after_built g spare m (StatsOpen fd) still built = either (is_refusal (answer g spare m.state (StatsOpen fd)).answer) _ _ (rw (goes_on_none g m.window) refl)
 after_built g spare m (NextAbove id) still built = either (is_refusal (answer g spare m.state (NextAbove id)).answer) _ _ (rw (goes_on_none g m.window) refl)
 after_built g spare m Informs still built = either (is_refusal (answer g spare m.state Informs).answer) _ _ (rw (goes_on_none g m.window) refl)
+after_built g spare m Collects still built = either (is_refusal (answer g spare m.state Collects).answer) _ _ (rw (goes_on_none g m.window) refl)
 after_built g spare m (SetsMeta name meta) still built = either (is_refusal (answer g spare m.state (SetsMeta name meta)).answer) _ _ (rw (goes_on_none g m.window) refl)
 after_built g spare m (SetsMetaOpen fd meta) still built = either (is_refusal (answer g spare m.state (SetsMetaOpen fd meta)).answer) _ _ (rw (goes_on_none g m.window) refl)
 after_built g spare m _ still built = absurd (let no : false ≡ true = built in cc)
@@ -120,10 +121,11 @@ module _ {N : Type 0} {nor : NorOf N} where
     same = same_none v;
     cuts = unchanged v.nor.now (λ was image. (m : Moment) → Publishes v.geometry (memory v) m ask was image) (λ tells m at.
         let i = image_at v m tells at in publishes v.geometry (nor.bytes v.nor.now) (nor.bytes v.nor.now) m ask at.run (stays v.geometry (nor.bytes v.nor.now) m.state ask i.tidy i.table));
-    answers = λ m takes here no_fault no_lack. absurd (let no : true ≡ false = sym takes ∙ shut in cc);
-    refused = λ m takes here no_fault refusal. absurd (let no : true ≡ false = sym takes ∙ shut in cc);
-    lacks = λ m takes built here e. absurd (let no : true ≡ false = sym takes ∙ shut in cc);
+    answers = λ m takes here no_fault no_lack whole. absurd (let no : true ≡ false = sym takes ∙ shut in cc);
+    refused = λ m takes here no_fault whole refusal. absurd (let no : true ≡ false = sym takes ∙ shut in cc);
+    collects = λ m takes here is. absurd (let no : true ≡ false = sym takes ∙ shut in cc);
     unbuilt = λ takes built. absurd (let no : true ≡ false = sym takes ∙ shut in cc);
+    unbuilt_only = λ takes e. absurd (let no : true ≡ false = sym takes ∙ shut in cc);
     closed = λ e. (refl, refl, record { reads = reads_none v.nor.now; slots = refl; stage = refl });
     cause = λ e. absurd (cc);
     differs = λ d e. absurd (cc);
@@ -164,10 +166,10 @@ module _ {N : Type 0} {nor : NorOf N} where
     done_by : (m : Moment) → Holds old m → wrote ≡ true → reply ≡ (answer old.geometry (has_spare old.geometry (nor.bytes old.nor.now)) m.state ask).answer → is_refusal reply ≡ true → ⊥
     done_by m here w is refusal = let no : true ≡ false = sym refusal ∙ ap is_refusal is ∙ (goes.begun m.state (image_of old m here) w).done in cc
 
-    answered_by : (m : Moment) → Holds old m → (reply ≡ Refuses DeviceFault → ⊥) → (reply ≡ Refuses Unbuilt → ⊥) → is_built ask ≡ true → Answers nor old.geometry old.nor.now new.nor.now (memory new) m ask reply
-    answered_by m here no_fault no_lack built =
+    answered_by : (m : Moment) → Holds old m → (reply ≡ Refuses DeviceFault → ⊥) → (reply ≡ Refuses Unbuilt → ⊥) → (StopsShort ask reply → ⊥) → is_built ask ≡ true → Answers nor old.geometry old.nor.now new.nor.now (memory new) m ask reply
+    answered_by m here no_fault no_lack whole built =
         let spare = has_spare old.geometry (nor.bytes old.nor.now) in
-        let r = goes.answers m.state (image_of old m here) no_fault no_lack in
+        let r = goes.answers m.state (image_of old m here) no_fault no_lack whole in
         record {
           reply_is = r.reply_is;
           stands = subst (λ (j : Moment). Stands nor old.geometry new.nor.now (memory new) j) (sym (after_built old.geometry spare m ask here.image.run built))
@@ -175,9 +177,9 @@ module _ {N : Type 0} {nor : NorOf N} where
           holds = record { sound = λ magics. (goes.cuts.now here.tells m.state (image_of old m here)).sound; reserve = r.reserve };
         }
 
-    refused_by : (m : Moment) → Holds old m → (reply ≡ Refuses DeviceFault → ⊥) → is_refusal reply ≡ true → is_built ask ≡ true → Unchanged old new
-    refused_by m here no_fault refusal built = ⊎_elim
-        (λ (w : wrote ≡ true). absurd (done_by m here w (goes.answers m.state (image_of old m here) no_fault (λ lacking. let no : true ≡ false = sym w ∙ (goes.lacks m.state built (image_of old m here) lacking).1 in cc)).reply_is refusal))
+    refused_by : (m : Moment) → Holds old m → (reply ≡ Refuses DeviceFault → ⊥) → (StopsShort ask reply → ⊥) → is_refusal reply ≡ true → is_built ask ≡ true → Unchanged old new
+    refused_by m here no_fault whole refusal built = ⊎_elim
+        (λ (w : wrote ≡ true). absurd (done_by m here w (goes.answers m.state (image_of old m here) no_fault (λ lacking. let no : true ≡ false = sym built ∙ goes.unbuilt_only lacking in cc) whole).reply_is refusal))
         (λ (none : wrote ≡ false). untouched none refusal)
         (cases_Bool wrote)
 
@@ -185,16 +187,17 @@ module _ {N : Type 0} {nor : NorOf N} where
     calls_by = record {
       same = same;
       cuts = wider goes.cuts (λ tells image cut m at. publishes old.geometry (nor.bytes old.nor.now) image m ask at.run (cut m.state (image_at old m tells at)));
-      answers = λ m takes here no_fault no_lack. ⊎_elim
-          (λ (built : is_built ask ≡ true). answered_by m here no_fault no_lack built)
+      answers = λ m takes here no_fault no_lack whole. ⊎_elim
+          (λ (built : is_built ask ≡ true). answered_by m here no_fault no_lack whole built)
           (λ (not_built : is_built ask ≡ false). absurd (no_lack (goes.unbuilt not_built).0))
           (cases_Bool (is_built ask));
-      refused = λ m takes here no_fault refusal. ⊎_elim
-          (λ (built : is_built ask ≡ true). refused_by m here no_fault refusal built)
+      refused = λ m takes here no_fault whole refusal. ⊎_elim
+          (λ (built : is_built ask ≡ true). refused_by m here no_fault whole refusal built)
           (λ (not_built : is_built ask ≡ false). untouched (goes.unbuilt not_built).1 refusal)
           (cases_Bool (is_built ask));
-      lacks = λ m takes built here e. let w = goes.lacks m.state built (image_of old m here) e in (w.0, refused_so Unbuilt e w.1);
+      collects = λ m takes here is. goes.collects m.state (image_of old m here) is;
       unbuilt = λ takes not_built. let w = goes.unbuilt not_built in (w.0, refused_so Unbuilt w.0 w.1);
+      unbuilt_only = λ takes e. goes.unbuilt_only e;
       closed = λ shut. absurd (let no : true ≡ false = sym open_is ∙ shut in cc);
       cause = goes.cause;
       differs = goes.differs;
@@ -237,6 +240,7 @@ pub record IsOther (call : Call) : Type 0 where
   pub fstat : (fd : ℕ) → call ≡ FStat fd → ⊥
   pub next : (after : ℕ) → call ≡ Next after → ⊥
   pub info : call ≡ GetInfo → ⊥
+  pub gc : call ≡ Gc → ⊥
   pub meta : (name meta : _) → call ≡ SetMeta name meta → ⊥
   pub fmeta : (fd : ℕ) (meta : _) → call ≡ FSetMeta fd meta → ⊥
 
@@ -255,6 +259,7 @@ not_built (StatName name) other = absurd (other.stat name refl)
 not_built (FStat fd) other = absurd (other.fstat fd refl)
 not_built (Next after) other = absurd (other.next after refl)
 not_built GetInfo other = absurd (other.info refl)
+not_built Gc other = absurd (other.gc refl)
 not_built (SetMeta name meta) other = absurd (other.meta name meta refl)
 not_built (FSetMeta fd meta) other = absurd (other.fmeta fd meta refl)
 not_built _ other = (refl, refl)

@@ -1,5 +1,5 @@
 -- What the flat table answers to calls through a descriptor.
-use Rattle.std.proofs.Common.{◌≡◌, ℕ, ◌+◌, List, length, Bool, true, false, refl, sym, ◌∙◌, ap, subst, inl, arith}
+use Rattle.std.proofs.Common.{◌≡◌, ℕ, ◌+◌, List, length, Bool, true, false, refl, sym, ◌∙◌, ap, subst, arith}
 use Rattle.std.specs.Option.{option_map}
 use Rattle.std.specs.Prelude.{ℤ, pos, ◌+ℤ◌, Option, Some, None, Result, Ok, Err}
 use Rattle.nor_core.specs.declared.state.NorState.{Ghosts as NorOf}
@@ -25,7 +25,6 @@ use Rattle.file_read.specs.Whole.{IsFileOf}
 use Rattle.fd_table.specs.declared.slot.FdSlot.{FdSlot}
 use Rattle.fd_table.specs.Slots.{descriptors, held, opened}
 use Rattle.volume.specs.declared.told.Told.TheVariants.{Done, Number as AsNumber}
-use Rattle.volume.specs.Built.{is_built}
 use Rattle.volume.specs.Replies.{may_answer, may_meet, names_fault, reads_file, base_at, as_fs_err}
 use Rattle.volume.specs.Holds.{IsImageOf}
 use Rattle.volume.specs.Goes.{Goes}
@@ -35,7 +34,8 @@ use Rattle.table_model.specs.Steps.{is_refusal, done_steps}
 use Rattle.call_model.proofs.Tables.{file_of-id}
 use Rattle.file_drop.specs.Removals.{removing}
 use Rattle.volume.proofs.Removing.{has_by}
-use Rattle.volume.proofs.Going.{same_slots, goes_refused, goes_missed, IsOneStep, one_step, before_or_after, reserve_mends, IsStep}
+use Rattle.volume.proofs.Going.{same_slots, goes_refused, goes_missed, IsOneStep, one_step, before_or_after, IsStep, is_flat}
+use Rattle.room_laws.proofs.Staying.{reserve_mends}
 use Rattle.geometry.specs.declared.geometry.Geometry.{Geometry}
 use Rattle.table_model.specs.declared.call.Whence.{Whence}
 use Rattle.table_model.specs.declared.call.Whence.TheVariants.{Set, Cur, End}
@@ -182,17 +182,17 @@ module _ {D : Type 0} {nor : NorOf D} {g : Geometry} {old : D} {slots : List FdS
   never_missing at s here none = let w = file_at at s here in let no : Some w.file ≡ None = sym w.listed ∙ none in cc
 
 -- A closed number.
-pub goes_closed : {D : Type 0} {nor : NorOf D} {g : Geometry} {d : D} {slots : List FdSlot} (ask : Ask) (fd : ℕ) (wrote : Bool) → wrote ≡ false → is_built ask ≡ true → names_fault ask ≡ None → may_meet ask BadDescriptor ≡ true → open_at (descriptors slots) fd ≡ None →
+pub goes_closed : {D : Type 0} {nor : NorOf D} {g : Geometry} {d : D} {slots : List FdSlot} (ask : Ask) (fd : ℕ) (wrote : Bool) → wrote ≡ false → is_flat ask ≡ true → names_fault ask ≡ None → may_meet ask BadDescriptor ≡ true → open_at (descriptors slots) fd ≡ None →
     ((s : State) → open_at s.slots fd ≡ None → answer g (has_spare g (nor.bytes d)) s ask ≡ refused BadDescriptor s) → Goes nor g ask d d slots slots wrote (Refuses BadDescriptor)
-goes_closed {D} {nor} {g} {d} {slots} ask fd wrote none built fine met closed is =
-    goes_refused {T = Unit {0}} ask BadDescriptor wrote none (reads_none d) built fine met (λ e. absurd (cc)) (λ s here no_fault. inl (λ e. cc, is s (open_in slots s fd None here.slots closed)))
+goes_closed {D} {nor} {g} {d} {slots} ask fd wrote none flat fine met closed is =
+    goes_refused {T = Unit {0}} ask BadDescriptor wrote none (reads_none d) flat fine met (λ e. absurd (cc)) (λ s here no_fault. is s (open_in slots s fd None here.slots closed))
 
 -- A look for a page of the file that failed.
-pub goes_unread : {D : Type 0} {nor : NorOf D} {g : Geometry} {old new : D} {slots : List FdSlot} (ask : Ask) (why : FsErr) (wrote : Bool) → wrote ≡ false → OnlyReads nor old new → is_built ask ≡ true → names_fault ask ≡ None → may_meet ask DeviceFault ≡ true → reads_file ask ≡ true → MayMiss why →
+pub goes_unread : {D : Type 0} {nor : NorOf D} {g : Geometry} {old new : D} {slots : List FdSlot} (ask : Ask) (why : FsErr) (wrote : Bool) → wrote ≡ false → OnlyReads nor old new → is_flat ask ≡ true → names_fault ask ≡ None → may_meet ask DeviceFault ≡ true → reads_file ask ≡ true → MayMiss why →
     (why ≡ DeviceFault → Rose (nor.faults old) (nor.faults new)) → ((s : State) → IsImageOf nor g old slots s → (why ≡ DeviceFault → ⊥) → ⊥) → Goes nor g ask old new slots slots wrote (Refuses why)
-goes_unread ask DeviceFault wrote none reads built fine met reader missed cause never = goes_refused {T = Unit {0}} ask DeviceFault wrote none reads built fine met (λ e. cause refl) (λ s here no_fault. absurd (no_fault refl))
-goes_unread ask (Damaged d) wrote none reads built fine met reader missed cause never = goes_missed ask d wrote none reads built fine reader missed (λ s here. never s here (λ e. cc))
-goes_unread ask _ wrote none reads built fine met reader missed cause never = absurd missed
+goes_unread ask DeviceFault wrote none reads flat fine met reader missed cause never = goes_refused {T = Unit {0}} ask DeviceFault wrote none reads flat fine met (λ e. cause refl) (λ s here no_fault. absurd (no_fault refl))
+goes_unread ask (Damaged d) wrote none reads flat fine met reader missed cause never = goes_missed ask d wrote none reads flat fine reader missed (λ s here. never s here (λ e. cc))
+goes_unread ask _ wrote none reads flat fine met reader missed cause never = absurd missed
 
 -- the record that was found is that of the file
 pub stat_is : (stat : Stat) (f : File) (found : Option File) → Some stat ≡ option_map stat_of found → found ≡ Some f → stat ≡ stat_of f
@@ -246,10 +246,10 @@ module _ {D : Type 0} {nor : NorOf D} {g : Geometry} {old : D} {slots : List FdS
       ∙ rw (t.0, t.1, here.slots) refl
 
 -- A read that failed: the device, or a page isn't there.
-pub unread_by : {D : Type 0} {nor : NorOf D} {g : Geometry} {old new : D} {slots : List FdSlot} {T : Type 0} (id : ℕ) (ask : Ask) (why : StepErr) (wrote : Bool) → wrote ≡ false → OnlyReads nor old new → is_built ask ≡ true → names_fault ask ≡ None → may_meet ask DeviceFault ≡ true → reads_file ask ≡ true → IsMissing id why →
+pub unread_by : {D : Type 0} {nor : NorOf D} {g : Geometry} {old new : D} {slots : List FdSlot} {T : Type 0} (id : ℕ) (ask : Ask) (why : StepErr) (wrote : Bool) → wrote ≡ false → OnlyReads nor old new → is_flat ask ≡ true → names_fault ask ≡ None → may_meet ask DeviceFault ≡ true → reads_file ask ≡ true → IsMissing id why →
     (IsErrOf {T = T} (Err why) StepFault → Rose (nor.faults old) (nor.faults new)) → ((s : State) → IsImageOf nor g old slots s → HoldsOrFault {T = T} (Err why) (λ x. Unit {0})) → Goes nor g ask old new slots slots wrote (Refuses (as_fs_err why))
-unread_by id ask StepFault wrote none reads built fine met reader missing cause told = goes_unread ask DeviceFault wrote none reads built fine met reader tt (λ e. cause refl) (λ s here no_fault. no_fault refl)
-unread_by id ask (StepDamaged d) wrote none reads built fine met reader missing cause told = goes_unread ask (Damaged d) wrote none reads built fine met reader missing.apart (λ e. absurd (cc)) (λ s here no_fault. told s here)
+unread_by id ask StepFault wrote none reads flat fine met reader missing cause told = goes_unread ask DeviceFault wrote none reads flat fine met reader tt (λ e. cause refl) (λ s here no_fault. no_fault refl)
+unread_by id ask (StepDamaged d) wrote none reads flat fine met reader missing cause told = goes_unread ask (Damaged d) wrote none reads flat fine met reader missing.apart (λ e. absurd (cc)) (λ s here no_fault. told s here)
 
 -- ---- a removal by descriptor
 
@@ -287,5 +287,5 @@ module _ {D : Type 0} {nor : NorOf D} {g : Geometry} {old : D} {slots : List FdS
     cut = λ s here image cut. let o = removed_by s here in
         before_or_after g (nor.bytes old) image s (RemovesOpen fd) Fine (drop_file slot.id (table_of g (nor.bytes old))) o.0 here.table cut.sound (λ reserve. reserve_mends g image (let free = cut.free in omega (arith, reserve, free))) cut.table;
     done = λ s here now done. let o = removed_by s here in record { answer_is = o.0.answer_is; tidy = done.tidy; table = o.0.table_is ∙ sym done.table; slots = sym o.1; reserve = λ reserve. let free = done.free in omega (arith, reserve, free) };
-    doable = λ s here. let o = removed_by s here in record { done = ap (λ (a : Answer). is_refusal a) o.0.answer_is; had = λ takes. absurd (let no : false ≡ true = takes in cc) };
+    doable = λ s here. let o = removed_by s here in record { done = ap (λ (a : Answer). is_refusal a) o.0.answer_is };
   }

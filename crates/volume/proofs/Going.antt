@@ -1,6 +1,6 @@
 -- What the exits of calls share.
 use Rattle.std.proofs.lemmas.Bool.{and_parts}
-use Rattle.std.proofs.Common.{◌&&◌, ◌||◌, ◌<◌, zero, suc, length, get_or, ◌≡◌, ◌≢◌, ◌≤◌, ℕ, ◌⊎◌, ⊎_elim, inl, inr, List, [], ◌∷◌, Bool, true, false, refl, sym, ◌∙◌, ap, subst, arith}
+use Rattle.std.proofs.Common.{not, ◌&&◌, ◌||◌, ◌<◌, zero, suc, length, get_or, ◌≡◌, ◌≢◌, ◌≤◌, ℕ, ◌⊎◌, ⊎_elim, inl, inr, List, [], ◌∷◌, Bool, true, false, refl, sym, ◌∙◌, ap, subst, arith}
 use Rattle.std.specs.Prelude.{Option, Some, None, Result, Ok, Err, IsErrOf}
 use Rattle.geometry.specs.declared.geometry.Geometry.{Geometry}
 use Rattle.nor_core.specs.declared.state.NorState.{Ghosts as NorOf}
@@ -8,11 +8,11 @@ use Rattle.nor_core.specs.Count.{Rose}
 use Rattle.nor_core.specs.Device.{OnlyReads, Changes}
 use Rattle.nor_core.proofs.Cuts.{wider, read_after, unchanged}
 use Rattle.table_model.specs.declared.error.FsErr.{FsErr}
-use Rattle.table_model.specs.declared.error.FsErr.TheVariants.{BadName, NameTooLong, DeviceFault, Damaged, Unbuilt}
+use Rattle.table_model.specs.declared.error.FsErr.TheVariants.{BadName, NameTooLong, Tight, DeviceFault, Damaged, Unbuilt}
 use Rattle.table_model.specs.declared.error.Differ.{Differ}
 use Rattle.table_model.specs.Table.{File, Open, State, file_of, file_named}
 use Rattle.table_model.specs.Reply.{Answer, Gives, Refuses}
-use Rattle.table_model.specs.Ask.{Ask, Creates, Opens, Removes, Renames, Stats, SetsMeta}
+use Rattle.table_model.specs.Ask.{Ask, Creates, Opens, Writes, Fills, Truncates, Removes, Renames, Stats, Collects, SetsMeta}
 use Rattle.table_model.specs.Outcome.{Outcome, refused, gives}
 use Rattle.table_model.specs.Calls.{answer_create, answer_remove, answer_rename, answer_stat, answer_meta}
 use Rattle.table_model.specs.Opening.{answer_open}
@@ -21,13 +21,14 @@ use Rattle.table_model.specs.Steps.{is_refusal, done_steps}
 use Rattle.table_model.specs.Window.{settled_at}
 use Rattle.image_model.specs.Tables.{table_of}
 use Rattle.image_model.specs.Tidy.{IsTidy, HasReserve}
+use Rattle.std.specs.List.{Contains}
 use Rattle.image_model.specs.Sound.{IsSound}
 use Rattle.flash_view.specs.declared.kinds.StepErr.{StepErr}
 use Rattle.flash_view.specs.declared.kinds.StepErr.TheVariants.{DeviceFault as StepFault, Damaged as StepDamaged}
 use Rattle.flash_view.specs.declared.view.View.{View}
 use Rattle.flash_view.specs.Same.{OnlyLooks}
-use Rattle.flash_view.specs.Steps.{Step, Stepped, stopped}
-use Rattle.flash_view.proofs.Stepped.{after_look}
+use Rattle.flash_view.specs.Steps.{Step, Errors, Stepped, stopped}
+use Rattle.flash_view.proofs.Stepped.{after_look, fails_as}
 use Rattle.table_model.specs.Steps.{steps}
 use Rattle.table_model.specs.Window.{IsAmong}
 use Rattle.volume.specs.Built.{is_built}
@@ -41,9 +42,13 @@ use Rattle.call_model.specs.Tables.{NamesById}
 use Rattle.call_model.proofs.Opens.{opens_kept}
 use Rattle.volume.specs.declared.told.Told.{Told}
 use Rattle.volume.specs.declared.told.Told.TheVariants.{Done, Number as AsNumber, Bytes, File as AsFile, NoMore, Room, Refusal}
-use Rattle.image_model.specs.Tidy.{has_spare, Mends}
+use Rattle.image_model.specs.Tidy.{has_spare}
+use Rattle.table_model.specs.Descriptors.{empties}
+use Rattle.room_laws.specs.Recovery.{Recovers}
+use Rattle.room_laws.proofs.Staying.{reserve_mends}
 use Rattle.volume.specs.Holds.{IsImageOf}
-use Rattle.volume.specs.Goes.{CallCut, IsDoable, LacksPage, IsNamed, IsGiven, Goes}
+use Rattle.volume.specs.Collecting.{MayStop, refusing}
+use Rattle.volume.specs.Goes.{CallCut, Reaches, IsDoable, StopsShort, IsCollected, IsNamed, IsGiven, Goes}
 
 -- ---- the flat table
 
@@ -57,6 +62,32 @@ names_first g spare s (Renames old_name new_name) why e = rw e refl
 names_first g spare s (Stats name) why e = rw e refl
 names_first g spare s (SetsMeta name meta) why e = rw e refl
 names_first g spare s _ why e = absurd (let no : None ≡ Some why = e in cc)
+
+-- a built call that the flat table answers wholly: each but garbage collection
+abbrev pub is_flat : Ask → Bool
+is_flat Collects = false
+is_flat ask = is_built ask
+
+flat_built : (ask : Ask) → is_flat ask ≡ true → is_built ask ≡ true
+flat_built Collects e = absurd (let no : false ≡ true = e in cc)
+flat_built _ e = e
+
+not_collects : (ask : Ask) → is_flat ask ≡ true → ask ≡ Collects → ⊥
+not_collects ask flat is = let no : true ≡ false = sym flat ∙ ap is_flat is in cc
+
+-- an opening that may be Unbuilt empties its file
+opens_unbuilt : (b c : Bool) → ((b && true) || (false || (c && false))) ≡ true → not b ≡ false
+opens_unbuilt true c e = refl
+opens_unbuilt false true e = absurd (let no : false ≡ true = e in cc)
+opens_unbuilt false false e = absurd (let no : false ≡ true = e in cc)
+
+-- a call that may be Unbuilt isn't built
+unbuilt_by : (ask : Ask) → may_answer ask (Refuses Unbuilt) ≡ true → is_built ask ≡ false
+unbuilt_by (Opens name flags) e = opens_unbuilt (empties flags) (is_change (Opens name flags) || false) e
+unbuilt_by (Writes fd bytes) e = refl
+unbuilt_by (Fills fd count byte) e = refl
+unbuilt_by (Truncates fd size) e = refl
+unbuilt_by _ e = absurd (let no : false ≡ true = e in cc)
 
 -- the flat table does a call, and this is the one step of it
 pub record IsOneStep (g : Geometry) (spare : Bool) (s : State) (ask : Ask) (reply : Answer) (files : List File) : Type 0 where
@@ -78,11 +109,7 @@ same_slots s slots e = rw e refl
 
 -- ---- images
 
-pub reserve_mends : (g : Geometry) (image : List ℕ) → HasReserve g image → Mends g image
-unfolding Mends
-reserve_mends g image here = here
-
-is_first : (t u : List File) (us : List (List File)) → t ≡ u → IsAmong t (u ∷ us)
+pub is_first : (t u : List File) (us : List (List File)) → t ≡ u → IsAmong t (u ∷ us)
 unfolding IsAmong
 is_first t u us e = inl e
 
@@ -97,25 +124,25 @@ is_at t [] k less e = absurd (omega arith)
 is_at t (u ∷ us) zero less e = inl e
 is_at t (u ∷ us) (suc k) less e = inr (is_at t us k (omega arith) e)
 
--- a tidy image is sound with respect to itself
-sound_itself : (g : Geometry) (image : List ℕ) → IsTidy g image → IsSound g image image
-sound_itself g image tidy = record {
+-- a tidy image is sound with respect to each
+pub tidy_sound : (g : Geometry) (image first : List ℕ) → IsTidy g image → IsSound g image first
+tidy_sound g image first tidy = record {
   magics = record { one = λ b c under over none also. absurd (let has : true ≡ false = sym (tidy.magic b under) ∙ none in cc) };
-  mixed = λ block h. h;
-  damaged = λ id h. h;
+  mixed = λ block h. absurd (let no : true ≡ false = sym h.names ∙ tidy.unmixed h.p h.q h.x h.y h.p_is h.q_is (h.p_at ∙ sym h.q_at) ∙ h.holds in cc);
+  damaged = λ id h. let none : Contains {X = ℕ} [] id = rw tidy.undamaged at h in absurd (omega (arith, none.1));
 }
 
 -- an image that stays
 pub stays : (g : Geometry) (image : List ℕ) (s : State) (ask : Ask) → IsTidy g image → s.table ≡ table_of g image → CallCut g s ask image image
 unfolding settled_at
 stays g image s ask tidy same = record {
-  sound = sound_itself g image tidy;
+  sound = tidy_sound g image image tidy;
   mends = λ reserve. reserve_mends g image reserve;
   table = is_first (table_of g image) s.table (steps g (has_spare g image) s ask) (sym same);
 }
 
 -- an image in or after the one step of a call: the table before it, or the one after it
-pub before_or_after : (g : Geometry) (was image : List ℕ) (s : State) (ask : Ask) (reply : Answer) (files : List File) → IsOneStep g (has_spare g was) s ask reply files → s.table ≡ table_of g was → IsSound g image was → (HasReserve g was → Mends g image) →
+pub before_or_after : (g : Geometry) (was image : List ℕ) (s : State) (ask : Ask) (reply : Answer) (files : List File) → IsOneStep g (has_spare g was) s ask reply files → s.table ≡ table_of g was → IsSound g image was → (HasReserve g was → Recovers g image) →
     (table_of g image ≡ table_of g was) ⊎ (table_of g image ≡ files) → CallCut g s ask was image
 unfolding settled_at
 before_or_after g was image s ask reply files one same sound mends table = record {
@@ -133,9 +160,9 @@ pub refuses_same : (v w : FsErr) → Refuses v ≡ Refuses w → v ≡ w
 refuses_same v w e = cc
 
 -- no refusal of a name is met after the names are accepted, nor a page that reads otherwise before anything is written
-no_name : (why : FsErr) → is_of_name why ≡ true → (why ≡ DeviceFault → ⊥) × (why ≡ Unbuilt → ⊥) × ((d : Differ) → why ≡ Damaged d → ⊥)
-no_name BadName e = (λ x. cc, λ x. cc, λ d x. cc)
-no_name NameTooLong e = (λ x. cc, λ x. cc, λ d x. cc)
+no_name : (why : FsErr) → is_of_name why ≡ true → (why ≡ DeviceFault → ⊥) × (why ≡ Unbuilt → ⊥) × ((d : Differ) → why ≡ Damaged d → ⊥) × (why ≡ Tight → ⊥)
+no_name BadName e = (λ x. cc, λ x. cc, λ d x. cc, λ x. cc)
+no_name NameTooLong e = (λ x. cc, λ x. cc, λ d x. cc, λ x. cc)
 no_name _ e = absurd (let no : false ≡ true = e in cc)
 
 record IsEarly (why : FsErr) : Type 0 where
@@ -148,7 +175,7 @@ early NameTooLong e = absurd (let no : false ≡ true = e in cc)
 early (Damaged d) e = absurd (let no : false ≡ true = e in cc)
 early _ e = record { no_name = λ x. let no : false ≡ true = x in cc; undamaged = λ d x. cc }
 
-no_refusal : (reply : Answer) (why : FsErr) → is_refusal reply ≡ false → reply ≡ Refuses why → ⊥
+pub no_refusal : (reply : Answer) (why : FsErr) → is_refusal reply ≡ false → reply ≡ Refuses why → ⊥
 no_refusal reply why other e = let no : true ≡ false = sym (ap is_refusal e) ∙ other in cc
 
 pub or_first : (a b : Bool) → a ≡ true → (a || b) ≡ true
@@ -183,14 +210,14 @@ names_by : (g : Geometry) (image : List ℕ) (s : State) → s.table ≡ table_o
 names_by g image s same name f at = ap (file_of f.id) same ∙ (found-by_id g image f).0 name (sym (ap (file_named name) same) ∙ at)
 
 -- what any answer is, whatever the device tells
-record IsFit (ask : Ask) (slots after : List FdSlot) (wrote : Bool) (reply : Answer) : Type 0 where
-  among : may_answer ask reply ≡ true
-  brief : (bytes : List ℕ) → reply ≡ Gives bytes → IsGiven ask bytes
-  named : IsNamed ask reply wrote
-  still : is_refusal reply ≡ true → after ≡ slots
-  keeps : keeps_slots ask ≡ true → after ≡ slots
+pub record IsFit (ask : Ask) (slots after : List FdSlot) (wrote : Bool) (reply : Answer) : Type 0 where
+  pub among : may_answer ask reply ≡ true
+  pub brief : (bytes : List ℕ) → reply ≡ Gives bytes → IsGiven ask bytes
+  pub named : IsNamed ask reply wrote
+  pub still : is_refusal reply ≡ true → after ≡ slots
+  pub keeps : keeps_slots ask ≡ true → after ≡ slots
 
-no_gift : (reply : Answer) (bytes : List ℕ) → is_refusal reply ≡ true → reply ≡ Gives bytes → ⊥
+pub no_gift : (reply : Answer) (bytes : List ℕ) → is_refusal reply ≡ true → reply ≡ Gives bytes → ⊥
 no_gift reply bytes refusal e = let no : false ≡ true = sym (ap is_refusal e) ∙ refusal in cc
 
 module _ {D : Type 0} {nor : NorOf D} {g : Geometry} {slots : List FdSlot} where
@@ -208,25 +235,19 @@ module _ {D : Type 0} {nor : NorOf D} {g : Geometry} {slots : List FdSlot} where
     opened = opened;
   }
 
-  -- A call that only read, and was answered as the flat table is, which leaves the table.
-  goes_read : {old new : D} {after : List FdSlot} (ask : Ask) (reply : Answer) (wrote : Bool) → wrote ≡ false → OnlyReads nor old new → is_built ask ≡ true → IsFit ask slots after wrote reply →
-      ((s : State) → IsImageOf nor g old slots s → (reply ≡ Refuses DeviceFault → ⊥) → (reply ≡ Refuses Unbuilt → ⊥) → answer g (has_spare g (nor.bytes old)) s ask ≡ gives reply (with_slots (descriptors after) s)) →
-      ((s : State) → IsImageOf nor g old slots s → reply ≡ Refuses Unbuilt → LacksPage g (nor.bytes old) s ask) →
-      (reply ≡ Refuses DeviceFault → Rose (nor.faults old) (nor.faults new)) →
-      ((d : Differ) → reply ≡ Refuses (Damaged d) → (d.wanted ≢ d.found) × ((s : State) → IsImageOf nor g old slots s → ⊥)) → Goes nor g ask old new slots after wrote reply
-  goes_read {old} {new} {after} ask reply wrote none reads built fit is lacks cause differs = record {
-    cuts = reads_cuts ask reads;
-    answers = λ s here no_fault no_lack. let e = is s here no_fault no_lack in record {
-      reply_is = sym (ap (λ (o : Outcome). o.answer) e);
-      holds = subst (λ (n : State). IsImageOf nor g new after n) (sym (ap (λ (o : Outcome). o.next) e))
-          (reads_image after s reads here (subst (λ (o : Outcome). OpensFiles o.next) e (opens_kept g (has_spare g (nor.bytes old)) s ask (names_by g (nor.bytes old) s here.table) here.opened)));
-      reserve = λ reserve. subst (λ (l : List ℕ). HasReserve g l) (sym reads.bytes) reserve;
-      reads = λ refusal. reads;
-    };
-    lacks = λ s b here e. (lacks s here e, none);
+  -- what a built call does, by its parts
+  pub goes_by : {old new : D} {after : List FdSlot} (ask : Ask) (reply : Answer) (wrote : Bool) → is_built ask ≡ true → IsFit ask slots after wrote reply → Changes nor old new (λ was image. (s : State) → IsImageOf nor g old slots s → CallCut g s ask was image) →
+      ((s : State) → IsImageOf nor g old slots s → (reply ≡ Refuses DeviceFault → ⊥) → (StopsShort ask reply → ⊥) → Reaches nor g old new after s ask reply) → ((s : State) → IsImageOf nor g old slots s → ask ≡ Collects → IsCollected g reply (nor.bytes old) (nor.bytes new)) →
+      ((s : State) → IsImageOf nor g old slots s → wrote ≡ true → IsDoable g (nor.bytes old) s ask) → (wrote ≡ false → OnlyReads nor old new) → (reply ≡ Refuses DeviceFault → Rose (nor.faults old) (nor.faults new)) →
+      ((d : Differ) → reply ≡ Refuses (Damaged d) → (d.wanted ≢ d.found) × ((s : State) → IsImageOf nor g old slots s → ⊥)) → (is_change ask ≡ false → wrote ≡ false) → Goes nor g ask old new slots after wrote reply
+  goes_by ask reply wrote built fit cuts answers collects begun untouched cause differs looks = record {
+    cuts = cuts;
+    answers = λ s here no_fault no_lack whole. answers s here no_fault whole;
+    collects = collects;
     unbuilt = λ b. absurd (let no : true ≡ false = sym built ∙ b in cc);
-    begun = λ s here w. absurd (let no : true ≡ false = sym w ∙ none in cc);
-    untouched = λ w. reads;
+    unbuilt_only = λ e. unbuilt_by ask (subst (λ (r : Answer). may_answer ask r ≡ true) e fit.among);
+    begun = begun;
+    untouched = untouched;
     still = fit.still;
     keeps = fit.keeps;
     cause = cause;
@@ -235,33 +256,49 @@ module _ {D : Type 0} {nor : NorOf D} {g : Geometry} {slots : List FdSlot} where
     among = fit.among;
     brief = fit.brief;
     named = fit.named;
-    looks = λ look. none;
+    looks = looks;
   }
 
+  -- A call that only read, and was answered as the flat table is, which leaves the table.
+  goes_read : {old new : D} {after : List FdSlot} (ask : Ask) (reply : Answer) (wrote : Bool) → wrote ≡ false → OnlyReads nor old new → is_flat ask ≡ true → IsFit ask slots after wrote reply →
+      ((s : State) → IsImageOf nor g old slots s → (reply ≡ Refuses DeviceFault → ⊥) → answer g (has_spare g (nor.bytes old)) s ask ≡ gives reply (with_slots (descriptors after) s)) →
+      (reply ≡ Refuses DeviceFault → Rose (nor.faults old) (nor.faults new)) →
+      ((d : Differ) → reply ≡ Refuses (Damaged d) → (d.wanted ≢ d.found) × ((s : State) → IsImageOf nor g old slots s → ⊥)) → Goes nor g ask old new slots after wrote reply
+  goes_read {old} {new} {after} ask reply wrote none reads flat fit is cause differs = goes_by ask reply wrote (flat_built ask flat) fit (reads_cuts ask reads)
+      (λ s here no_fault whole. let e = is s here no_fault in record {
+        reply_is = sym (ap (λ (o : Outcome). o.answer) e);
+        holds = subst (λ (n : State). IsImageOf nor g new after n) (sym (ap (λ (o : Outcome). o.next) e))
+            (reads_image after s reads here (subst (λ (o : Outcome). OpensFiles o.next) e (opens_kept g (has_spare g (nor.bytes old)) s ask (names_by g (nor.bytes old) s here.table) here.opened)));
+        reserve = λ reserve. subst (λ (l : List ℕ). HasReserve g l) (sym reads.bytes) reserve;
+        reads = λ refusal. reads;
+      })
+      (λ s here collects. absurd (not_collects ask flat collects))
+      (λ s here w. absurd (let no : true ≡ false = sym w ∙ none in cc))
+      (λ w. reads) cause differs (λ look. none)
+
   -- a call that was answered with a look, and moved descriptors
-  pub goes_moved : {old new : D} {after : List FdSlot} (ask : Ask) (reply : Answer) (wrote : Bool) → wrote ≡ false → OnlyReads nor old new → is_built ask ≡ true → names_fault ask ≡ None → is_refusal reply ≡ false → may_answer ask reply ≡ true →
+  pub goes_moved : {old new : D} {after : List FdSlot} (ask : Ask) (reply : Answer) (wrote : Bool) → wrote ≡ false → OnlyReads nor old new → is_flat ask ≡ true → names_fault ask ≡ None → is_refusal reply ≡ false → may_answer ask reply ≡ true →
       ((bytes : List ℕ) → reply ≡ Gives bytes → IsGiven ask bytes) → (keeps_slots ask ≡ true → after ≡ slots) →
       ((s : State) → IsImageOf nor g old slots s → answer g (has_spare g (nor.bytes old)) s ask ≡ gives reply (with_slots (descriptors after) s)) → Goes nor g ask old new slots after wrote reply
-  goes_moved ask reply wrote none reads built fine other may brief keeps is = goes_read ask reply wrote none reads built
+  goes_moved ask reply wrote none reads flat fine other may brief keeps is = goes_read ask reply wrote none reads flat
       (record { among = may; brief = brief; named = named_fine ask reply wrote fine (λ why name e. no_refusal reply why other e); still = λ refusal. absurd (let no : true ≡ false = sym refusal ∙ other in cc); keeps = keeps })
-      (λ s here no_fault no_lack. is s here)
-      (λ s here e. absurd (no_refusal reply Unbuilt other e))
+      (λ s here no_fault. is s here)
       (λ e. absurd (no_refusal reply DeviceFault other e))
       (λ d e. absurd (no_refusal reply (Damaged d) other e))
 
   -- and left them
-  pub goes_shown : {old new : D} (ask : Ask) (reply : Answer) (wrote : Bool) → wrote ≡ false → OnlyReads nor old new → is_built ask ≡ true → names_fault ask ≡ None → is_refusal reply ≡ false → may_answer ask reply ≡ true →
+  pub goes_shown : {old new : D} (ask : Ask) (reply : Answer) (wrote : Bool) → wrote ≡ false → OnlyReads nor old new → is_flat ask ≡ true → names_fault ask ≡ None → is_refusal reply ≡ false → may_answer ask reply ≡ true →
       ((bytes : List ℕ) → reply ≡ Gives bytes → IsGiven ask bytes) → ((s : State) → IsImageOf nor g old slots s → answer g (has_spare g (nor.bytes old)) s ask ≡ gives reply s) → Goes nor g ask old new slots slots wrote reply
-  goes_shown ask reply wrote none reads built fine other may brief is = goes_moved ask reply wrote none reads built fine other may brief (λ k. refl)
+  goes_shown ask reply wrote none reads flat fine other may brief is = goes_moved ask reply wrote none reads flat fine other may brief (λ k. refl)
       (λ s here. is s here ∙ ap (λ (n : State). gives reply n) (sym (same_slots s (descriptors slots) here.slots)))
 
   -- A call with accepted names that was refused, or that met a fault, before it asked for a program or an erase.
-  pub goes_refused : {T : Type 0} {old new : D} (ask : Ask) (why : FsErr) (wrote : Bool) → wrote ≡ false → OnlyReads nor old new → is_built ask ≡ true → names_fault ask ≡ None → may_meet ask why ≡ true →
+  pub goes_refused : {T : Type 0} {old new : D} (ask : Ask) (why : FsErr) (wrote : Bool) → wrote ≡ false → OnlyReads nor old new → is_flat ask ≡ true → names_fault ask ≡ None → may_meet ask why ≡ true →
       (IsErrOf {T = T} (Err why) DeviceFault → Rose (nor.faults old) (nor.faults new)) →
-      ((s : State) → IsImageOf nor g old slots s → (why ≡ DeviceFault → ⊥) → ((why ≡ Unbuilt → ⊥) × (answer g (has_spare g (nor.bytes old)) s ask ≡ refused why s)) ⊎ ((why ≡ Unbuilt) × LacksPage g (nor.bytes old) s ask)) → Goes nor g ask old new slots slots wrote (Refuses why)
-  goes_refused {T} {old} {new} ask why wrote none reads built fine met cause is =
+      ((s : State) → IsImageOf nor g old slots s → (why ≡ DeviceFault → ⊥) → answer g (has_spare g (nor.bytes old)) s ask ≡ refused why s) → Goes nor g ask old new slots slots wrote (Refuses why)
+  goes_refused {T} {old} {new} ask why wrote none reads flat fine met cause is =
       let w = early why (and_parts (is_early why) (meets ask why) met).0 in
-      goes_read ask (Refuses why) wrote none reads built
+      goes_read ask (Refuses why) wrote none reads flat
       (record {
         among = or_first (may_meet ask why) _ met;
         brief = λ bytes e. absurd (no_gift (Refuses why) bytes refl e);
@@ -269,21 +306,14 @@ module _ {D : Type 0} {nor : NorOf D} {g : Geometry} {slots : List FdSlot} where
         still = λ refusal. refl;
         keeps = λ k. refl;
       })
-      (λ s here no_fault no_lack. ⊎_elim
-      (λ (refused_so : (why ≡ Unbuilt → ⊥) × (answer g (has_spare g (nor.bytes old)) s ask ≡ refused why s)). refused_so.1 ∙ ap (λ (n : State). gives (Refuses why) n) (sym (same_slots s (descriptors slots) here.slots)))
-      (λ (lack : (why ≡ Unbuilt) × LacksPage g (nor.bytes old) s ask). absurd (no_lack (ap (λ (v : FsErr). Refuses v) lack.0)))
-      (is s here (λ fault. no_fault (ap (λ (v : FsErr). Refuses v) fault))))
-      (λ s here e. let lacking : why ≡ Unbuilt = refuses_same why Unbuilt e in ⊎_elim
-      (λ (other : (why ≡ Unbuilt → ⊥) × (answer g (has_spare g (nor.bytes old)) s ask ≡ refused why s)). absurd (other.0 lacking))
-      (λ (lack : (why ≡ Unbuilt) × LacksPage g (nor.bytes old) s ask). lack.1)
-      (is s here (λ fault. let no : Unbuilt ≡ DeviceFault = sym lacking ∙ fault in cc)))
+      (λ s here no_fault. is s here (λ fault. no_fault (ap (λ (v : FsErr). Refuses v) fault)) ∙ ap (λ (n : State). gives (Refuses why) n) (sym (same_slots s (descriptors slots) here.slots)))
       (λ e. cause (ap (λ (v : FsErr). Err v) (refuses_same why DeviceFault e)))
       (λ d e. absurd (w.undamaged d (refuses_same why (Damaged d) e)))
 
   -- A read of a descriptor's file that found a page not to be there: the device isn't one that stands at a state.
-  pub goes_missed : {old new : D} (ask : Ask) (d : Differ) (wrote : Bool) → wrote ≡ false → OnlyReads nor old new → is_built ask ≡ true → names_fault ask ≡ None → reads_file ask ≡ true → d.wanted ≢ d.found →
+  pub goes_missed : {old new : D} (ask : Ask) (d : Differ) (wrote : Bool) → wrote ≡ false → OnlyReads nor old new → is_flat ask ≡ true → names_fault ask ≡ None → reads_file ask ≡ true → d.wanted ≢ d.found →
       ((s : State) → IsImageOf nor g old slots s → ⊥) → Goes nor g ask old new slots slots wrote (Refuses (Damaged d))
-  goes_missed {old} {new} ask d wrote none reads built fine reader apart never = goes_read ask (Refuses (Damaged d)) wrote none reads built
+  goes_missed {old} {new} ask d wrote none reads flat fine reader apart never = goes_read ask (Refuses (Damaged d)) wrote none reads flat
       (record {
         among = or_last (may_meet ask (Damaged d)) _ (or_last (has_name ask && is_of_name (Damaged d)) _ (both_true (is_change ask || reads_file ask) true (or_last (is_change ask) (reads_file ask) reader) refl));
         brief = λ bytes e. absurd (no_gift (Refuses (Damaged d)) bytes refl e);
@@ -291,8 +321,7 @@ module _ {D : Type 0} {nor : NorOf D} {g : Geometry} {slots : List FdSlot} where
         still = λ refusal. refl;
         keeps = λ k. refl;
       })
-      (λ s here no_fault no_lack. absurd (never s here))
-      (λ s here e. absurd (never s here))
+      (λ s here no_fault. absurd (never s here))
       (λ e. absurd (let no : Damaged d ≡ DeviceFault = refuses_same (Damaged d) DeviceFault e in cc))
       (λ x e. let same : d ≡ x = (let f : Damaged d ≡ Damaged x = refuses_same (Damaged d) (Damaged x) e in cc) in (subst (λ (y : Differ). y.wanted ≢ y.found) same apart, never))
 
@@ -300,9 +329,10 @@ module _ {D : Type 0} {nor : NorOf D} {g : Geometry} {slots : List FdSlot} where
   pub goes_unbuilt : {old new : D} (ask : Ask) (wrote : Bool) → wrote ≡ false → OnlyReads nor old new → is_built ask ≡ false → may_answer ask (Refuses Unbuilt) ≡ true → Goes nor g ask old new slots slots wrote (Refuses Unbuilt)
   goes_unbuilt {old} {new} ask wrote none reads built among = record {
     cuts = reads_cuts ask reads;
-    answers = λ s here no_fault no_lack. absurd (no_lack refl);
-    lacks = λ s b here e. absurd (let no : true ≡ false = sym b ∙ built in cc);
+    answers = λ s here no_fault no_lack whole. absurd (no_lack refl);
+    collects = λ s here is. absurd (let no : true ≡ false = sym (ap is_built is) ∙ built in cc);
     unbuilt = λ b. (refl, none);
+    unbuilt_only = λ e. built;
     begun = λ s here w. absurd (let no : true ≡ false = sym w ∙ none in cc);
     untouched = λ w. reads;
     still = λ refusal. refl;
@@ -320,10 +350,10 @@ module _ {D : Type 0} {nor : NorOf D} {g : Geometry} {slots : List FdSlot} where
   }
 
   -- a call whose names are refused
-  pub goes_named : {d : D} (ask : Ask) (why : FsErr) (wrote : Bool) → wrote ≡ false → OnlyReads nor d d → is_built ask ≡ true → has_name ask ≡ true → is_of_name why ≡ true → names_fault ask ≡ Some why → Goes nor g ask d d slots slots wrote (Refuses why)
-  goes_named {d} ask why wrote none reads built takes name fault =
+  pub goes_named : {d : D} (ask : Ask) (why : FsErr) (wrote : Bool) → wrote ≡ false → OnlyReads nor d d → is_flat ask ≡ true → has_name ask ≡ true → is_of_name why ≡ true → names_fault ask ≡ Some why → Goes nor g ask d d slots slots wrote (Refuses why)
+  goes_named {d} ask why wrote none reads flat takes name fault =
       let no = no_name why name in
-      goes_read ask (Refuses why) wrote none reads built
+      goes_read ask (Refuses why) wrote none reads flat
       (record {
         among = or_last (may_meet ask why) _ (or_first (has_name ask && is_of_name why) _ (both_true (has_name ask) (is_of_name why) takes name));
         brief = λ bytes e. absurd (no_gift (Refuses why) bytes refl e);
@@ -331,8 +361,7 @@ module _ {D : Type 0} {nor : NorOf D} {g : Geometry} {slots : List FdSlot} where
         still = λ refusal. refl;
         keeps = λ k. refl;
       })
-      (λ s here no_fault no_lack. names_first g (has_spare g (nor.bytes d)) s ask why fault ∙ ap (λ (n : State). gives (Refuses why) n) (sym (same_slots s (descriptors slots) here.slots)))
-      (λ s here e. absurd (no.1 (refuses_same why Unbuilt e)))
+      (λ s here no_fault. names_first g (has_spare g (nor.bytes d)) s ask why fault ∙ ap (λ (n : State). gives (Refuses why) n) (sym (same_slots s (descriptors slots) here.slots)))
       (λ e. absurd (no.0 (refuses_same why DeviceFault e)))
       (λ x e. absurd (no.2 x (refuses_same why (Damaged x) e)))
 
@@ -348,10 +377,9 @@ calm_reply (Ok (Room info)) into e = refl
 calm_reply (Ok (Refusal why)) into e = refl
 calm_reply (Err why) into e = refl
 
--- such an answer is no fault, no damage, no bytes, no refusal of a name, and of a call that is built
+-- such an answer is no fault, no damage, no bytes, and no refusal of a name
 record IsCalm (reply : Answer) : Type 0 where
   fault : reply ≡ Refuses DeviceFault → ⊥
-  unbuilt : reply ≡ Refuses Unbuilt → ⊥
   damage : (d : Differ) → reply ≡ Refuses (Damaged d) → ⊥
   name : (why : FsErr) → is_of_name why ≡ true → reply ≡ Refuses why → ⊥
   bytes : (bytes : List ℕ) → reply ≡ Gives bytes → ⊥
@@ -367,17 +395,16 @@ name_no_slot _ e = absurd (let no : false ≡ true = e in cc)
 is_calm_so : (reply : Answer) → is_calm reply ≡ true → IsCalm reply
 is_calm_so reply calm = record {
   fault = calm_no reply DeviceFault refl calm;
-  unbuilt = calm_no reply Unbuilt refl calm;
   damage = λ d. calm_no reply (Damaged d) refl calm;
   name = λ why name. calm_no reply why (name_no_slot why name) calm;
   bytes = λ bytes e. let no : true ≡ false = sym calm ∙ ap is_calm e in cc;
 }
 
-pub goes_by_slots : {D : Type 0} {nor : NorOf D} {g : Geometry} {d : D} {slots after : List FdSlot} {result : Result Told FsErr} (ask : Ask) (into : List ℕ) (wrote : Bool) → Moves ask slots after result → wrote ≡ false → OnlyReads nor d d → is_built ask ≡ true → names_fault ask ≡ None →
+pub goes_by_slots : {D : Type 0} {nor : NorOf D} {g : Geometry} {d : D} {slots after : List FdSlot} {result : Result Told FsErr} (ask : Ask) (into : List ℕ) (wrote : Bool) → Moves ask slots after result → wrote ≡ false → OnlyReads nor d d → is_flat ask ≡ true → names_fault ask ≡ None →
     (keeps_slots ask ≡ true → after ≡ slots) → Goes nor g ask d d slots after wrote (reply_of result into)
-goes_by_slots {D} {nor} {g} {d} {slots} {after} {result} ask into wrote moves none reads built fine keeps =
+goes_by_slots {D} {nor} {g} {d} {slots} {after} {result} ask into wrote moves none reads flat fine keeps =
     let w = is_calm_so (reply_of result []) moves.calm in
-    rw (calm_reply result into moves.calm) (goes_read ask (reply_of result []) wrote none reads built
+    rw (calm_reply result into moves.calm) (goes_read ask (reply_of result []) wrote none reads flat
     (record {
       among = moves.among;
       brief = λ bytes e. absurd (w.bytes bytes e);
@@ -385,8 +412,7 @@ goes_by_slots {D} {nor} {g} {d} {slots} {after} {result} ask into wrote moves no
       still = moves.still;
       keeps = keeps;
     })
-    (λ s here no_fault no_lack. moves.answers g (has_spare g (nor.bytes d)) s here.slots)
-    (λ s here e. absurd (w.unbuilt e))
+    (λ s here no_fault. moves.answers g (has_spare g (nor.bytes d)) s here.slots)
     (λ e. absurd (w.fault e))
     (λ x e. absurd (w.damage x e)))
 
@@ -423,70 +449,97 @@ pub record IsStep {D : Type 0} (nor : NorOf D) (g : Geometry) (slots : List FdSl
   pub done : (s : State) → IsImageOf nor g old slots s → (now : List ℕ) → step.done g (nor.bytes old) now tt → Makes g (nor.bytes old) s ask reply after now
   pub doable : (s : State) → IsImageOf nor g old slots s → IsDoable g (nor.bytes old) s ask
 
-broken_name : (why : StepErr) (w : FsErr) → is_of_name w ≡ true → Refuses (as_fs_err why) ≡ Refuses w → ⊥
-broken_name StepFault w name e = (no_name w name).0 (sym (refuses_same DeviceFault w e))
-broken_name (StepDamaged d) w name e = (no_name w name).2 d (sym (refuses_same (Damaged d) w e))
+-- what a step of a call is refused with is no refusal of a name
+pub stop_name : (why : FsErr) → MayStop why → (w : FsErr) → is_of_name w ≡ true → Refuses why ≡ Refuses w → ⊥
+stop_name DeviceFault may w name e = (no_name w name).0 (sym (refuses_same DeviceFault w e))
+stop_name (Damaged d) may w name e = (no_name w name).2 d (sym (refuses_same (Damaged d) w e))
+stop_name Tight may w name e = (no_name w name).3 (sym (refuses_same Tight w e))
+stop_name _ may w name e = absurd may
+
+-- a page that reads otherwise tells two tags that differ
+pub stop_apart : (why : FsErr) (d : Differ) → MayStop why → why ≡ Damaged d → d.wanted ≢ d.found
+stop_apart why d may e = subst MayStop e may
+
+-- and any call that may ask for a program or an erase may be answered so
+stop_among : (ask : Ask) (why : FsErr) → MayStop why → is_change ask ≡ true → may_answer ask (Refuses DeviceFault) ≡ true → may_answer ask (Refuses Tight) ≡ true → may_answer ask (Refuses why) ≡ true
+stop_among ask DeviceFault may change fault tight = fault
+stop_among ask (Damaged d) may change fault tight =
+    or_last (may_meet ask (Damaged d)) _ (or_last (has_name ask && is_of_name (Damaged d)) _ (both_true (is_change ask || reads_file ask) true (or_first (is_change ask) (reads_file ask) change) refl))
+stop_among ask Tight may change fault tight = tight
+stop_among ask _ may change fault tight = absurd may
+
+-- how a step failed, as a call tells it
+pub step_stops : (why : StepErr) → stopped.means why → MayStop (as_fs_err why)
+step_stops StepFault means = tt
+step_stops (StepDamaged d) means = means
+
+pub fault_is : (why : StepErr) → as_fs_err why ≡ DeviceFault → why ≡ StepFault
+fault_is StepFault e = refl
+fault_is (StepDamaged d) e = absurd (cc)
+
+pub step_among : (ask : Ask) (why : StepErr) → is_change ask ≡ true → may_answer ask (Refuses DeviceFault) ≡ true → may_answer ask (Refuses (as_fs_err why)) ≡ true
+step_among ask StepFault change fault = fault
+step_among ask (StepDamaged d) change fault =
+    or_last (may_meet ask (Damaged d)) _ (or_last (has_name ask && is_of_name (Damaged d)) _ (both_true (is_change ask || reads_file ask) true (or_first (is_change ask) (reads_file ask) change) refl))
+
+pub step_fails : {N : Type 0} {nor : NorOf N} {old new : View N nor} {step : Step (Unit {0})} {why : StepErr} → Stepped stopped old new (Err why) step → Stepped refusing old new (Err (as_fs_err why)) step
+step_fails {why = why} call = fails_as call (fault_is why) (λ e. ap as_fs_err e) (step_stops why call.means) (λ tells need. record { needs = need; cut = λ c cut. cut })
 
 -- a call that took its step after a look
-module _ {N : Type 0} {nor : NorOf N} {old mid new : View N nor} {slots : List FdSlot} {step : Step (Unit {0})} {moved : List (Option Open)} (ask : Ask) (reply : Answer) (built : is_built ask ≡ true) (change : is_change ask ≡ true) (fine : names_fault ask ≡ None)
+module _ {N : Type 0} {nor : NorOf N} {old mid new : View N nor} {slots : List FdSlot} {step : Step (Unit {0})} {moved : List (Option Open)} (ask : Ask) (reply : Answer) (flat : is_flat ask ≡ true) (change : is_change ask ≡ true) (fine : names_fault ask ≡ None)
     (does : IsStep nor old.geometry slots ask reply moved old.nor.now step) (looks : OnlyLooks old mid) (fresh : old.wrote ≡ false) where
-  after : {r : Result (Unit {0}) StepErr} → Stepped stopped mid new r step → Stepped stopped old new r step
+  after : {E : Type 0} {errors : Errors E} {r : Result (Unit {0}) E} → Stepped errors mid new r step → Stepped errors old new r step
   after call = after_look looks call (λ tells need. record { needs = need; cut = λ c cut. cut; done = λ c ok done. done })
 
   -- the step was done
   pub goes_done : (last : List FdSlot) → descriptors last ≡ moved → is_refusal reply ≡ false → may_answer ask reply ≡ true → ((bytes : List ℕ) → reply ≡ Gives bytes → ⊥) → (keeps_slots ask ≡ true → last ≡ slots) → Stepped stopped mid new (Ok tt) step → Goes nor old.geometry ask old.nor.now new.nor.now slots last new.wrote reply
   goes_done last moves other may no_bytes keeps taken =
       let call = after taken in
-      record {
-        cuts = wider call.cuts (λ tells image cut s here. does.cut s here image (cut (does.can s here)));
-        answers = λ s here no_fault no_lack.
-            let made = does.done s here (nor.bytes new.nor.now) (call.ends here.tells (does.can s here)) in
-            record {
-              reply_is = sym made.answer_is;
-              holds = record { tells = call.cuts.cuts.told here.tells; tidy = made.tidy; table = made.table; slots = moves ∙ made.slots; opened = opens_kept old.geometry (has_spare old.geometry (nor.bytes old.nor.now)) s ask (names_by old.geometry (nor.bytes old.nor.now) s here.table) here.opened };
-              reserve = made.reserve;
-              reads = λ refusal. absurd (let no : true ≡ false = sym refusal ∙ other in cc);
-            };
-        lacks = λ s b here e. absurd (no_refusal reply Unbuilt other e);
-        unbuilt = λ b. absurd (let no : true ≡ false = sym built ∙ b in cc);
-        begun = λ s here w. does.doable s here;
-        untouched = λ none. call.framed.untouched fresh none;
-        still = λ refusal. absurd (let no : true ≡ false = sym refusal ∙ other in cc);
-        keeps = keeps;
-        cause = λ e. absurd (no_refusal reply DeviceFault other e);
-        differs = λ d e. absurd (no_refusal reply (Damaged d) other e);
-        undamaged = λ s here d e. no_refusal reply (Damaged d) other e;
+      goes_by ask reply new.wrote (flat_built ask flat)
+      (record {
         among = may;
         brief = λ bytes e. absurd (no_bytes bytes e);
         named = named_fine ask reply new.wrote fine (λ why name e. no_refusal reply why other e);
-        looks = λ look. absurd (let no : true ≡ false = sym change ∙ look in cc);
-      }
+        still = λ refusal. absurd (let no : true ≡ false = sym refusal ∙ other in cc);
+        keeps = keeps;
+      })
+      (wider call.cuts (λ tells image cut s here. does.cut s here image (cut (does.can s here))))
+      (λ s here no_fault whole.
+      let made = does.done s here (nor.bytes new.nor.now) (call.ends here.tells (does.can s here)) in
+      record {
+        reply_is = sym made.answer_is;
+        holds = record { tells = call.cuts.cuts.told here.tells; tidy = made.tidy; table = made.table; slots = moves ∙ made.slots; opened = opens_kept old.geometry (has_spare old.geometry (nor.bytes old.nor.now)) s ask (names_by old.geometry (nor.bytes old.nor.now) s here.table) here.opened };
+        reserve = made.reserve;
+        reads = λ refusal. absurd (let no : true ≡ false = sym refusal ∙ other in cc);
+      })
+      (λ s here collects. absurd (not_collects ask flat collects))
+      (λ s here w. does.doable s here)
+      (λ none. call.framed.untouched fresh none)
+      (λ e. absurd (no_refusal reply DeviceFault other e))
+      (λ d e. absurd (no_refusal reply (Damaged d) other e)) (λ look. absurd (let no : true ≡ false = sym change ∙ look in cc))
+
+  -- it was not
+  broken_by : (why : FsErr) → may_answer ask (Refuses why) ≡ true → Stepped refusing old new (Err why) step → Goes nor old.geometry ask old.nor.now new.nor.now slots slots new.wrote (Refuses why)
+  broken_by why may call = goes_by ask (Refuses why) new.wrote (flat_built ask flat)
+      (record {
+        among = may;
+        brief = λ bytes e. absurd (no_gift (Refuses why) bytes refl e);
+        named = named_fine ask (Refuses why) new.wrote fine (stop_name why call.means);
+        still = λ refusal. refl;
+        keeps = λ k. refl;
+      })
+      (wider call.cuts (λ tells image cut s here. does.cut s here image (cut (does.can s here))))
+      (λ s here no_fault whole. absurd (no_fault (ap (λ (w : FsErr). Refuses w) (call.ends here.tells (does.can s here)))))
+      (λ s here collects. absurd (not_collects ask flat collects))
+      (λ s here w. does.doable s here)
+      (λ none. call.framed.untouched fresh none)
+      (λ e. call.cause (ap (λ (w : FsErr). Err w) (refuses_same why DeviceFault e)))
+      (λ d e. let is = refuses_same why (Damaged d) e in (stop_apart why d call.means is, λ s here. let no : Damaged d ≡ DeviceFault = sym is ∙ call.ends here.tells (does.can s here) in cc)) (λ look. absurd (let no : true ≡ false = sym change ∙ look in cc))
 
   -- the device failed in the step, or a page read otherwise
-  broken_by : (why : StepErr) → may_answer ask (Refuses (as_fs_err why)) ≡ true → (as_fs_err why ≡ Unbuilt → ⊥) → ((d : Differ) → as_fs_err why ≡ Damaged d → (why ≡ StepFault → ⊥) × (d.wanted ≢ d.found)) → (as_fs_err why ≡ DeviceFault → why ≡ StepFault) →
-      Stepped stopped old new (Err why) step → Goes nor old.geometry ask old.nor.now new.nor.now slots slots new.wrote (Refuses (as_fs_err why))
-  broken_by why may no_lack apart fault call = record {
-    cuts = wider call.cuts (λ tells image cut s here. does.cut s here image (cut (does.can s here)));
-    answers = λ s here no_fault no_lacks. absurd (no_fault (ap (λ (w : StepErr). Refuses (as_fs_err w)) (call.ends here.tells (does.can s here))));
-    lacks = λ s b here e. absurd (no_lack (refuses_same (as_fs_err why) Unbuilt e));
-    unbuilt = λ b. absurd (let no : true ≡ false = sym built ∙ b in cc);
-    begun = λ s here w. does.doable s here;
-    untouched = λ none. call.framed.untouched fresh none;
-    still = λ refusal. refl;
-    keeps = λ k. refl;
-    cause = λ e. call.cause (ap (λ (w : StepErr). Err w) (fault (refuses_same (as_fs_err why) DeviceFault e)));
-    differs = λ d e. (apart d (refuses_same (as_fs_err why) (Damaged d) e)).1;
-    undamaged = λ s here d e. (apart d (refuses_same (as_fs_err why) (Damaged d) e)).0 (call.ends here.tells (does.can s here));
-    among = may;
-    brief = λ bytes e. absurd (no_gift (Refuses (as_fs_err why)) bytes refl e);
-    named = named_fine ask (Refuses (as_fs_err why)) new.wrote fine (broken_name why);
-    looks = λ look. absurd (let no : true ≡ false = sym change ∙ look in cc);
-  }
-
   pub goes_broken : (why : StepErr) → may_answer ask (Refuses DeviceFault) ≡ true → Stepped stopped mid new (Err why) step → Goes nor old.geometry ask old.nor.now new.nor.now slots slots new.wrote (Refuses (as_fs_err why))
-  goes_broken StepFault may taken = broken_by StepFault may (λ x. cc) (λ d e. absurd (cc)) (λ e. refl) (after taken)
-  goes_broken (StepDamaged x) may taken = broken_by (StepDamaged x)
-      (or_last (may_meet ask (Damaged x)) _ (or_last (has_name ask && is_of_name (Damaged x)) _ (both_true (is_change ask || reads_file ask) true (or_first (is_change ask) (reads_file ask) change) refl)))
-      (λ e. cc)
-      (λ d e. let same : x ≡ d = cc in (λ f. cc, subst (λ (y : Differ). y.wanted ≢ y.found) same taken.means))
-      (λ e. absurd (cc)) (after taken)
+  goes_broken why may taken = broken_by (as_fs_err why) (step_among ask why change may) (after (step_fails taken))
+
+  -- .. or there was too little room
+  pub goes_stopped : (why : FsErr) → may_answer ask (Refuses DeviceFault) ≡ true → may_answer ask (Refuses Tight) ≡ true → Stepped refusing mid new (Err why) step → Goes nor old.geometry ask old.nor.now new.nor.now slots slots new.wrote (Refuses why)
+  goes_stopped why may tight taken = broken_by why (stop_among ask why taken.means change may tight) (after taken)

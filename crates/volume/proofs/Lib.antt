@@ -4,6 +4,8 @@ pub mod Counting
 pub mod Recording
 pub mod Going
 pub mod Paged
+pub mod GcCalls
+pub mod Clearing
 pub mod NewFiles
 pub mod Removing
 pub mod Restates

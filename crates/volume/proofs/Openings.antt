@@ -1,12 +1,12 @@
 -- What the flat table answers to openings.
-use Rattle.std.proofs.Common.{◌≡◌, ℕ, ◌⊎◌, ⊎_elim, inl, List, Bool, true, false, not, ◌==◌, ◌&&◌, refl, sym, ◌∙◌, ap, if◌then◌else◌}
+use Rattle.std.proofs.Common.{◌≡◌, ℕ, ⊎_elim, List, Bool, true, false, not, ◌==◌, ◌&&◌, refl, sym, ◌∙◌, ap, if◌then◌else◌}
 use Rattle.std.specs.Prelude.{Option, Some, None, is_some, Ok, Err}
 use Rattle.std.specs.Option.{option_map}
 use Rattle.std.proofs.lemmas.Bool.{ne_eqb}
 use Rattle.geometry.specs.declared.geometry.Geometry.{Geometry}
 use Rattle.nor_core.specs.declared.state.NorState.{Ghosts as NorOf}
 use Rattle.table_model.specs.declared.error.FsErr.{FsErr}
-use Rattle.table_model.specs.declared.error.FsErr.TheVariants.{BadFlags, OutOfDescriptors, NotFound, FileExists, DeviceFault, Unbuilt}
+use Rattle.table_model.specs.declared.error.FsErr.TheVariants.{BadFlags, OutOfDescriptors, NotFound, FileExists, DeviceFault}
 use Rattle.table_model.specs.Table.{File, Open, State, same_text, has_name, file_named, least_id}
 use Rattle.table_model.specs.Names.{name_refusal}
 use Rattle.table_model.specs.Descriptors.{is_bad_flags, empties, makes, is_exclusive, lowest_closed, put_at, new_open}
@@ -23,15 +23,13 @@ use Rattle.header_laws.proofs.Listed.{any-found}
 use Rattle.file_write.specs.Creates.{creating}
 use Rattle.fd_table.specs.declared.slot.FdSlot.{FdSlot}
 use Rattle.fd_table.specs.Slots.{descriptors}
-use Rattle.volume.specs.Built.{is_built}
 use Rattle.volume.specs.Removes.{id_named}
 use Rattle.volume.specs.Opens.{TakesSlot, FindsOpened}
 use Rattle.volume.specs.Refusals.{page_lack}
 use Rattle.volume.specs.Holds.{IsImageOf}
 use Rattle.volume.specs.Moves.{with_slots}
-use Rattle.volume.specs.Goes.{LacksPage}
-use Rattle.volume.proofs.Going.{IsStep}
-use Rattle.volume.proofs.Paged.{page_refuses}
+use Rattle.volume.proofs.Going.{IsStep, is_flat}
+use Rattle.volume.proofs.Paged.{with_room, page_refuses}
 use Rattle.volume.proofs.NewFiles.{MakesFile, created_room, new_page, new_step}
 
 choose_true : (b : Bool) (x y : Outcome) → b ≡ true → (if b then x else y) ≡ x
@@ -108,7 +106,7 @@ pub file_there : (name : List ℕ) (files : List File) (id : ℕ) → id_named n
 file_there name files id at = file_by name files id (file_named name files) refl at
 
 -- an opening that empties no file is built
-pub opens_built : (name : List ℕ) (flags : ℕ) → empties flags ≡ false → is_built (Opens name flags) ≡ true
+pub opens_built : (name : List ℕ) (flags : ℕ) → empties flags ≡ false → is_flat (Opens name flags) ≡ true
 opens_built name flags keeps = rw keeps refl
 
 -- what an opening makes
@@ -117,33 +115,24 @@ opened_as g name flags fd s = opens fd flags (least_id s.table) (record s { tabl
 
 module _ {D : Type 0} {nor : NorOf D} {g : Geometry} {old : D} {slots : List FdSlot} (name : List ℕ) (flags : ℕ) (fine : name_refusal name ≡ None) (keeps : empties flags ≡ false) where
   -- no descriptor
-  pub slot_refuses : {why : FsErr} (s : State) → IsImageOf nor g old slots s → TakesSlot flags (descriptors slots) (Err why) →
-      ((why ≡ Unbuilt → ⊥) × (answer g (has_spare g (nor.bytes old)) s (Opens name flags) ≡ refused why s)) ⊎ ((why ≡ Unbuilt) × LacksPage g (nor.bytes old) s (Opens name flags))
-  slot_refuses {why} s here told = inl (⊎_elim
-      (λ (bad : (why ≡ BadFlags) × (is_bad_flags flags ≡ true)). (λ e. let no : BadFlags ≡ Unbuilt = sym bad.0 ∙ e in cc, rw bad.0 (flat_bad_flags g (has_spare g (nor.bytes old)) s name flags fine bad.1)))
-      (λ (all : (why ≡ OutOfDescriptors) × (is_bad_flags flags ≡ false) × (lowest_closed (descriptors slots) ≡ None)). (
-        λ e. let no : OutOfDescriptors ≡ Unbuilt = sym all.0 ∙ e in cc,
-        rw all.0 (flat_all_open g (has_spare g (nor.bytes old)) s name flags fine all.1 (ap lowest_closed (sym here.slots) ∙ all.2)),
-      ))
-      told)
+  pub slot_refuses : {why : FsErr} (s : State) → IsImageOf nor g old slots s → TakesSlot flags (descriptors slots) (Err why) → answer g (has_spare g (nor.bytes old)) s (Opens name flags) ≡ refused why s
+  slot_refuses {why} s here told = ⊎_elim
+      (λ (bad : (why ≡ BadFlags) × (is_bad_flags flags ≡ true)). rw bad.0 (flat_bad_flags g (has_spare g (nor.bytes old)) s name flags fine bad.1))
+      (λ (all : (why ≡ OutOfDescriptors) × (is_bad_flags flags ≡ false) × (lowest_closed (descriptors slots) ≡ None)). rw all.0 (flat_all_open g (has_spare g (nor.bytes old)) s name flags fine all.1 (ap lowest_closed (sym here.slots) ∙ all.2)))
+      told
 
   module _ (fd : ℕ) (taken : TakesSlot flags (descriptors slots) (Ok fd)) where
     lowest : (s : State) → IsImageOf nor g old slots s → lowest_closed s.slots ≡ Some fd
     lowest s here = ap lowest_closed (sym here.slots) ∙ taken.1
 
     -- no file
-    pub file_refuses : {why : FsErr} (s : State) → IsImageOf nor g old slots s → (why ≡ DeviceFault → ⊥) → FindsOpened name flags (table_of g (nor.bytes old)) (Err why) →
-        ((why ≡ Unbuilt → ⊥) × (answer g (has_spare g (nor.bytes old)) s (Opens name flags) ≡ refused why s)) ⊎ ((why ≡ Unbuilt) × LacksPage g (nor.bytes old) s (Opens name flags))
-    file_refuses {why} s here no_fault told = inl (⊎_elim
-        (λ (there : (why ≡ FileExists) × ((f : File) × (file_named name (table_of g (nor.bytes old)) ≡ Some f)) × ((makes flags && is_exclusive flags) ≡ true)). (
-          λ e. let no : FileExists ≡ Unbuilt = sym there.0 ∙ e in cc,
-          rw there.0 (flat_exists g (has_spare g (nor.bytes old)) s name flags fine fd taken.0 (lowest s here) there.1.0 (ap (file_named name) here.table ∙ there.1.1) there.2),
-        ))
-        (λ (none : (why ≡ NotFound) × (file_named name (table_of g (nor.bytes old)) ≡ None) × (makes flags ≡ false)). (
-          λ e. let no : NotFound ≡ Unbuilt = sym none.0 ∙ e in cc,
-          rw none.0 (flat_no_file g (has_spare g (nor.bytes old)) s name flags fine fd taken.0 (lowest s here) (ap (file_named name) here.table ∙ none.1) none.2),
-        ))
-        (told no_fault))
+    pub file_refuses : {why : FsErr} (s : State) → IsImageOf nor g old slots s → (why ≡ DeviceFault → ⊥) → FindsOpened name flags (table_of g (nor.bytes old)) (Err why) → answer g (has_spare g (nor.bytes old)) s (Opens name flags) ≡ refused why s
+    file_refuses {why} s here no_fault told = ⊎_elim
+        (λ (there : (why ≡ FileExists) × ((f : File) × (file_named name (table_of g (nor.bytes old)) ≡ Some f)) × ((makes flags && is_exclusive flags) ≡ true)).
+        rw there.0 (flat_exists g (has_spare g (nor.bytes old)) s name flags fine fd taken.0 (lowest s here) there.1.0 (ap (file_named name) here.table ∙ there.1.1) there.2))
+        (λ (none : (why ≡ NotFound) × (file_named name (table_of g (nor.bytes old)) ≡ None) × (makes flags ≡ false)).
+        rw none.0 (flat_no_file g (has_spare g (nor.bytes old)) s name flags fine fd taken.0 (lowest s here) (ap (file_named name) here.table ∙ none.1) none.2))
+        (told no_fault)
 
     -- a file that is there
     pub opens_there : (id : ℕ) (s : State) → IsImageOf nor g old slots s → FindsOpened name flags (table_of g (nor.bytes old)) (Ok (Some id)) →
@@ -156,15 +145,15 @@ module _ {D : Type 0} {nor : NorOf D} {g : Geometry} {old : D} {slots : List FdS
     pub opens_new : (s : State) → IsImageOf nor g old slots s → FindsOpened name flags (table_of g (nor.bytes old)) (Ok None) → MakesFile g (has_spare g (nor.bytes old)) s name (Opens name flags) (Number fd) (opened_as g name flags fd s)
     opens_new s here told = opens_file g (has_spare g (nor.bytes old)) s name flags fine fd taken.0 (lowest s here) (ap (file_named name) here.table ∙ told.0) told.1
 
-    pub opened_step : (id : ℕ) → makes flags ≡ true → (nor.tells old → IsTidy g (nor.bytes old) → FindsOpened name flags (table_of g (nor.bytes old)) (Ok None)) →
+    pub opened_step : (id : ℕ) → (nor.tells old → IsTidy g (nor.bytes old) → FindsOpened name flags (table_of g (nor.bytes old)) (Ok None)) →
         (nor.tells old → IsTidy g (nor.bytes old) → (page_lack g (nor.bytes old) 1 ≡ None) × (id ≡ least_id (table_of g (nor.bytes old)))) →
-        IsStep nor g slots (Opens name flags) (Number fd) (put_at (descriptors slots) fd (Some (new_open id flags))) old (creating id name)
+        IsStep nor g slots (Opens name flags) (Number fd) (put_at (descriptors slots) fd (Some (new_open id flags))) old (with_room (creating id name))
     unfolding has_name file_named
-    opened_step id making found prepared = new_step name (Opens name flags) (Number fd) making refl (opened_as g name flags fd) (λ s here. opens_new s here (found here.tells here.tidy)) (put_at (descriptors slots) fd (Some (new_open id flags))) id prepared
+    opened_step id found prepared = new_step name (Opens name flags) (Number fd) refl (opened_as g name flags fd) (λ s here. opens_new s here (found here.tells here.tidy)) (put_at (descriptors slots) fd (Some (new_open id flags))) id prepared
         (λ tells tidy. any-found (λ (f : File). same_text f.name name) (table_of g (nor.bytes old)) ∙ ap is_some (found tells tidy).0)
         (λ s here. let least : id ≡ least_id s.table = (prepared here.tells here.tidy).1 ∙ ap least_id (sym here.table) in rw (least, here.slots) refl)
 
-    pub opened_refuses : {why : FsErr} (s : State) → makes flags ≡ true → (nor.tells old → IsTidy g (nor.bytes old) → FindsOpened name flags (table_of g (nor.bytes old)) (Ok None)) → IsImageOf nor g old slots s → page_lack g (nor.bytes old) 1 ≡ Some why →
-        ((why ≡ Unbuilt → ⊥) × (answer g (has_spare g (nor.bytes old)) s (Opens name flags) ≡ refused why s)) ⊎ ((why ≡ Unbuilt) × LacksPage g (nor.bytes old) s (Opens name flags))
-    opened_refuses s making found here lack = page_refuses 1 (Opens name flags) (Number fd) making refl (opened_as g name flags fd) (created g name (table_of g (nor.bytes old)))
-        (new_page name (Opens name flags) (Number fd) making refl (opened_as g name flags fd) (λ t at. opens_new t at (found at.tells at.tidy))) s here lack
+    pub opened_refuses : {why : FsErr} (s : State) → (nor.tells old → IsTidy g (nor.bytes old) → FindsOpened name flags (table_of g (nor.bytes old)) (Ok None)) → IsImageOf nor g old slots s → page_lack g (nor.bytes old) 1 ≡ Some why →
+        answer g (has_spare g (nor.bytes old)) s (Opens name flags) ≡ refused why s
+    opened_refuses s found here lack = page_refuses 1 (Opens name flags) (Number fd) refl (opened_as g name flags fd) (created g name (table_of g (nor.bytes old)))
+        (new_page name (Opens name flags) (Number fd) refl (opened_as g name flags fd) (λ t at. opens_new t at (found at.tells at.tidy))) s here lack

@@ -1,11 +1,11 @@
 -- The file that a remove takes out, and what it leaves.
-use Rattle.std.proofs.Common.{inl, ◌≡◌, ℕ, ◌==◌, List, [], ◌∷◌, Bool, true, false, ◌⊎◌, refl, sym, ◌∙◌, ap, subst, arith}
+use Rattle.std.proofs.Common.{◌≡◌, ℕ, ◌==◌, List, [], ◌∷◌, Bool, true, refl, sym, ◌∙◌, ap, subst, arith}
 use Rattle.std.specs.Prelude.{Option, Some, None, is_some, map}
 use Rattle.std.specs.Option.{option_map}
 use Rattle.geometry.specs.declared.geometry.Geometry.{Geometry}
 use Rattle.nor_core.specs.declared.state.NorState.{Ghosts as NorOf}
 use Rattle.table_model.specs.declared.error.FsErr.{FsErr}
-use Rattle.table_model.specs.declared.error.FsErr.TheVariants.{NotFound, Unbuilt}
+use Rattle.table_model.specs.declared.error.FsErr.TheVariants.{NotFound}
 use Rattle.table_model.specs.Table.{File, Open, State, file_named, file_of, has_id, drop_file}
 use Rattle.table_model.specs.Names.{name_refusal}
 use Rattle.table_model.specs.Files.{without}
@@ -28,9 +28,9 @@ use Rattle.header_laws.proofs.Telling.{found-by_id}
 use Rattle.file_drop.specs.Removals.{CanRemove, removing}
 use Rattle.image_model.specs.Tidy.{has_spare}
 use Rattle.volume.specs.Holds.{IsImageOf}
-use Rattle.volume.specs.Goes.{LacksPage}
 use Rattle.volume.specs.Removes.{id_named, IsMissing}
-use Rattle.volume.proofs.Going.{IsOneStep, one_step, reserve_mends, before_or_after, IsStep}
+use Rattle.room_laws.proofs.Staying.{reserve_mends}
+use Rattle.volume.proofs.Going.{IsOneStep, one_step, before_or_after, IsStep}
 
 -- ---- the file of a name
 
@@ -99,11 +99,8 @@ one g image s name id fine same is = subst (λ (table : List File). IsOneStep g 
 
 module _ {D : Type 0} {nor : NorOf D} {g : Geometry} {old : D} {slots : List FdSlot} (name : List ℕ) (fine : name_refusal name ≡ None) where
   -- not removed
-  pub remove_refuses : {why : FsErr} (s : State) → IsImageOf nor g old slots s → IsMissing name (table_of g (nor.bytes old)) why → ((why ≡ Unbuilt → ⊥) × (answer g (has_spare g (nor.bytes old)) s (Removes name) ≡ refused why s)) ⊎ ((why ≡ Unbuilt) × LacksPage g (nor.bytes old) s (Removes name))
-  remove_refuses {why} s here missing = inl (
-    λ lack. let no : NotFound ≡ Unbuilt = sym missing.0 ∙ lack in cc,
-    rw missing.0 (flat_missing g (has_spare g (nor.bytes old)) s name fine (ap (file_named name) here.table ∙ missing.1)),
-  )
+  pub remove_refuses : {why : FsErr} (s : State) → IsImageOf nor g old slots s → IsMissing name (table_of g (nor.bytes old)) why → answer g (has_spare g (nor.bytes old)) s (Removes name) ≡ refused why s
+  remove_refuses {why} s here missing = rw missing.0 (flat_missing g (has_spare g (nor.bytes old)) s name fine (ap (file_named name) here.table ∙ missing.1))
 
   -- the step
   pub remove_step : (id : ℕ) → (nor.tells old → IsTidy g (nor.bytes old) → id_named name (table_of g (nor.bytes old)) ≡ Some id) → IsStep nor g slots (Removes name) Fine (map (without_file id) (descriptors slots)) old (removing id)
@@ -117,5 +114,5 @@ module _ {D : Type 0} {nor : NorOf D} {g : Geometry} {old : D} {slots : List FdS
         record { answer_is = o.answer_is; tidy = done.tidy; table = o.table_is ∙ sym done.table; slots = slots_by g (has_spare g (nor.bytes old)) s name id (descriptors slots) (file_named name s.table) fine refl (ap (id_named name) here.table ∙ found here.tells here.tidy) here.slots; reserve = λ reserve. let free = done.free in omega (arith, reserve, free) };
     doable = λ s here.
         let o = one g (nor.bytes old) s name id fine here.table (found here.tells here.tidy) in
-        record { done = ap is_refusal o.answer_is; had = λ takes. absurd (let no : false ≡ true = takes in cc) };
+        record { done = ap is_refusal o.answer_is };
   }

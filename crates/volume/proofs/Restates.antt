@@ -1,5 +1,5 @@
 -- A file that gets another name or other meta bytes.
-use Rattle.std.proofs.Common.{◌≡◌, ◌≢◌, ℕ, ◌==◌, List, [], ◌∷◌, length, Bool, true, false, ◌⊎◌, ⊎_elim, inl, refl, sym, ◌∙◌, ap, subst, arith, Ok}
+use Rattle.std.proofs.Common.{◌≡◌, ◌≢◌, ℕ, ◌==◌, List, [], ◌∷◌, length, Bool, true, false, ⊎_elim, inl, inr, refl, sym, ◌∙◌, ap, subst, arith, Ok}
 use Rattle.std.specs.Prelude.{Option, Some, None, nat_lt, All, unwrap_or}
 use Rattle.std.specs.List.{sum_by, list_any}
 use Rattle.std.specs.Option.{option_map}
@@ -9,7 +9,7 @@ use Rattle.std.proofs.lemmas.List.Elements.{All-nil, All-cons}
 use Rattle.geometry.specs.declared.geometry.Geometry.{Geometry}
 use Rattle.nor_core.specs.declared.state.NorState.{Ghosts as NorOf}
 use Rattle.table_model.specs.declared.error.FsErr.{FsErr}
-use Rattle.table_model.specs.declared.error.FsErr.TheVariants.{BadFlags, BadDescriptor, NotFound, NotWritable, ConflictingName, Unbuilt}
+use Rattle.table_model.specs.declared.error.FsErr.TheVariants.{BadFlags, BadDescriptor, NotFound, NotWritable, ConflictingName}
 use Rattle.table_model.specs.Table.{File, Open, State, same_text, has_name, file_named, file_of, put_file}
 use Rattle.table_model.specs.Names.{name_refusal, names_refusal}
 use Rattle.table_model.specs.Room.{index_pages, data_pages, index_count, data_count, has_room}
@@ -36,13 +36,11 @@ use Rattle.page_renew.specs.declared.edits.Edit.{Edit}
 use Rattle.page_renew.specs.declared.edits.Edit.TheVariants.{Name, Meta}
 use Rattle.page_renew.specs.Restated.{restates, restated, restating}
 use Rattle.volume.specs.Holds.{IsImageOf}
-use Rattle.volume.specs.Goes.{LacksPage}
 use Rattle.volume.specs.Removes.{id_named}
 use Rattle.volume.specs.Refusals.{has_room_beside, page_lack}
-use Rattle.volume.specs.Replies.{takes_page}
-use Rattle.volume.proofs.Going.{reserve_mends, IsStep}
+use Rattle.volume.proofs.Going.{IsStep}
 use Rattle.volume.proofs.Descriptors.{open_in, file_at}
-use Rattle.volume.proofs.Paged.{TakesPage, page_refuses, page_step}
+use Rattle.volume.proofs.Paged.{TakesPage, page_refuses, with_room, page_step}
 
 -- ---- the room of a table in which a file is restated
 
@@ -165,7 +163,6 @@ same_bytes _ f = refl
 
 -- A call restates the file of an id, where a page is had for it.
 pub record IsRestating {D : Type 0} (nor : NorOf D) (g : Geometry) (slots : List FdSlot) (ask : Ask) (edit : Edit) (id : ℕ) (old : D) : Type 0 where
-  pub takes : takes_page ask ≡ true
   pub kind : restates edit ≡ true
   pub there : (s : State) → IsImageOf nor g old slots s → (f : File) × (file_of id (table_of g (nor.bytes old)) ≡ Some f)
   pub unused : (s : State) → IsImageOf nor g old slots s → (f : File) → file_of id (table_of g (nor.bytes old)) ≡ Some f → All (λ (x : File). x.id ≢ id → x.name ≢ (restated edit f).name) (table_of g (nor.bytes old))
@@ -173,8 +170,8 @@ pub record IsRestating {D : Type 0} (nor : NorOf D) (g : Geometry) (slots : List
   pub step : (s : State) (files : List File) → done_steps g s ask files ≡ files ∷ []
 
 -- a call that is refused as the flat table refuses it
-pub refuses_so : {g : Geometry} {image : List ℕ} {ask : Ask} {s : State} {why : FsErr} (is : FsErr) → (is ≡ Unbuilt → ⊥) → why ≡ is → answer g (has_spare g image) s ask ≡ refused is s → ((why ≡ Unbuilt → ⊥) × (answer g (has_spare g image) s ask ≡ refused why s)) ⊎ ((why ≡ Unbuilt) × LacksPage g image s ask)
-refuses_so is other same refused_by = inl (λ lack. other (sym same ∙ lack), rw same refused_by)
+pub refuses_so : {out : Outcome} {s : State} {why : FsErr} (is : FsErr) → why ≡ is → out ≡ refused is s → out ≡ refused why s
+refuses_so is same refused_by = rw same refused_by
 
 module _ {D : Type 0} {nor : NorOf D} {g : Geometry} {old : D} {slots : List FdSlot} (ask : Ask) (edit : Edit) (id : ℕ) (call : IsRestating nor g slots ask edit id old) where
   abbrev pub f : File
@@ -193,15 +190,25 @@ module _ {D : Type 0} {nor : NorOf D} {g : Geometry} {old : D} {slots : List FdS
   }
 
   -- no page is had
-  pub restate_refuses : {why : FsErr} (s : State) → IsImageOf nor g old slots s → page_lack g (nor.bytes old) 0 ≡ Some why → ((why ≡ Unbuilt → ⊥) × (answer g (has_spare g (nor.bytes old)) s ask ≡ refused why s)) ⊎ ((why ≡ Unbuilt) × LacksPage g (nor.bytes old) s ask)
-  restate_refuses s here lack = page_refuses 0 ask Fine call.takes refl (restated_as edit f) (put_file (restated edit f) (table_of g (nor.bytes old))) page s here lack
+  pub restate_refuses : {why : FsErr} (s : State) → IsImageOf nor g old slots s → page_lack g (nor.bytes old) 0 ≡ Some why → answer g (has_spare g (nor.bytes old)) s ask ≡ refused why s
+  restate_refuses s here lack = page_refuses 0 ask Fine refl (restated_as edit f) (put_file (restated edit f) (table_of g (nor.bytes old))) page s here lack
 
   -- the step
-  pub restated_step : (nor.tells old → IsTidy g (nor.bytes old) → page_lack g (nor.bytes old) 0 ≡ None) → IsStep nor g slots ask Fine (descriptors slots) old (restating id edit f)
-  restated_step ready = page_step 0 ask Fine call.takes refl (restated_as edit f) (put_file (restated edit f) (table_of g (nor.bytes old))) page (descriptors slots) (restating id edit f) ready
-      (λ s here a. record { tidy = here.tidy; had = a.had; there = at s here; kind = call.kind; unused = call.unused s here f (at s here) })
-      (λ s here image cut. record { sound = cut.sound; mends = λ reserve. reserve_mends g image (cut.reserve reserve); table = cut.table })
-      (λ s here now done. record { tidy = done.tidy; table = done.table; reserve = done.reserve })
+  pub restated_step : (nor.tells old → IsTidy g (nor.bytes old) → page_lack g (nor.bytes old) 0 ≡ None) → IsStep nor g slots ask Fine (descriptors slots) old (with_room (restating id edit f))
+  restated_step ready = page_step 0 ask Fine refl (restated_as edit f) (put_file (restated edit f) (table_of g (nor.bytes old))) page (descriptors slots) (restating id edit f) ready
+      (λ s here mid made. record {
+        tidy = made.tidy;
+        had = made.ready.had;
+        there = ap (file_of id) made.table ∙ at s here;
+        kind = call.kind;
+        unused = subst (λ (files : List File). All (λ (x : File). x.id ≢ id → x.name ≢ (restated edit f).name) files) (sym made.table) (call.unused s here f (at s here));
+      })
+      (λ s here mid same image cut. record {
+        sound = cut.sound;
+        reserve = cut.reserve;
+        table = ⊎_elim (λ before. inl before) (λ after. inr (after ∙ ap (put_file (restated edit f)) same)) cut.table;
+      })
+      (λ s here mid same now done. record { tidy = done.tidy; table = done.table ∙ ap (put_file (restated edit f)) same; reserve = done.reserve })
       (λ s here. here.slots)
 
 -- ---- the three calls
@@ -237,7 +244,6 @@ module _ {D : Type 0} {nor : NorOf D} {g : Geometry} {old : D} {slots : List FdS
       (nor.tells old → IsTidy g (nor.bytes old) → has_name new_name (table_of g (nor.bytes old)) ≡ false) → IsRestating nor g slots (Renames old_name new_name) edit id old
   unfolding done_steps
   rename_is old_name new_name id so fine found free = record {
-    takes = refl;
     kind = kind;
     there = λ s here. let w = named_there g (nor.bytes old) old_name id (found here.tells here.tidy) in (w.0, w.2);
     unused = λ s here f there. subst (λ (l : List ℕ). All (λ (x : File). x.id ≢ id → x.name ≢ l) (table_of g (nor.bytes old))) (sym (ap (λ (x : File). x.name) (so f))) (free_name new_name id (table_of g (nor.bytes old)) (free here.tells here.tidy));
@@ -255,7 +261,6 @@ module _ {D : Type 0} {nor : NorOf D} {g : Geometry} {old : D} {slots : List FdS
     pub meta_is : (name : List ℕ) (id : ℕ) → name_refusal name ≡ None → (nor.tells old → IsTidy g (nor.bytes old) → id_named name (table_of g (nor.bytes old)) ≡ Some id) → IsRestating nor g slots (SetsMeta name meta) edit id old
     unfolding done_steps
     meta_is name id fine found = record {
-      takes = refl;
       kind = kind;
       there = λ s here. let w = named_there g (nor.bytes old) name id (found here.tells here.tidy) in (w.0, w.2);
       unused = λ s here f there. stays_named g (nor.bytes old) edit meta so id f here.tidy.undamaged there;
@@ -272,7 +277,6 @@ module _ {D : Type 0} {nor : NorOf D} {g : Geometry} {old : D} {slots : List FdS
     pub fmeta_is : (fd : ℕ) (slot : FdSlot) → open_at (descriptors slots) fd ≡ Some (opened slot) → may_write slot.flags ≡ true → IsRestating nor g slots (SetsMetaOpen fd meta) edit slot.id old
     unfolding done_steps
     fmeta_is fd slot held may = record {
-      takes = refl;
       kind = kind;
       there = λ s here. let w = file_at fd slot held s here in (w.file, w.listed);
       unused = λ s here f there. stays_named g (nor.bytes old) edit meta so slot.id f here.tidy.undamaged there;

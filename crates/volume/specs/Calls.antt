@@ -7,7 +7,7 @@ use Rattle.table_model.specs.declared.error.FsErr.{FsErr}
 use Rattle.table_model.specs.declared.error.FsErr.TheVariants.{Failed, DeviceFault, Damaged, Unbuilt}
 use Rattle.table_model.specs.declared.error.Differ.{Differ}
 use Rattle.table_model.specs.Reply.{Answer, Gives, Refuses}
-use Rattle.table_model.specs.Ask.{Ask}
+use Rattle.table_model.specs.Ask.{Ask, Collects}
 use Rattle.table_model.specs.Steps.{is_refusal}
 use Rattle.table_model.specs.Window.{Moment}
 use Rattle.call_model.specs.Calls.{Publishes, Answers}
@@ -17,7 +17,7 @@ use Rattle.volume.specs.Same.{IsSameVolume}
 use Rattle.volume.specs.Built.{is_built}
 use Rattle.volume.specs.Replies.{is_of_name, names_fault, may_answer, breaks, is_change, keeps_slots}
 use Rattle.volume.specs.Holds.{memory, Holds}
-use Rattle.volume.specs.Goes.{IsDoable, LacksPage, IsGiven}
+use Rattle.volume.specs.Goes.{IsDoable, StopsShort, IsCollected, IsGiven}
 
 module _ {N : Type 0} {nor : NorOf N} where
   -- the device was only read, and the descriptors and the stage are as before
@@ -31,13 +31,14 @@ module _ {N : Type 0} {nor : NorOf N} where
     pub same : IsSameVolume old new
     -- what a cut leaves, of a volume that stands at a moment
     pub cuts : Changes nor old.nor.now new.nor.now (λ was image. (m : Moment) → Publishes old.geometry (memory old) m ask was image)
-    -- the answer, where the device doesn't fail; refused, the call changes nothing
-    pub answers : (m : Moment) → takes_calls old ≡ true → Holds old m → ¬ (reply ≡ Refuses DeviceFault) → ¬ (reply ≡ Refuses Unbuilt) → Answers nor old.geometry old.nor.now new.nor.now (memory new) m ask reply
-    pub refused : (m : Moment) → takes_calls old ≡ true → Holds old m → ¬ (reply ≡ Refuses DeviceFault) → is_refusal reply ≡ true → Unchanged old new
-    -- a built call is Unbuilt where there is no page without collecting garbage
-    pub lacks : (m : Moment) → takes_calls old ≡ true → is_built ask ≡ true → Holds old m → reply ≡ Refuses Unbuilt → LacksPage old.geometry (nor.bytes old.nor.now) m.state ask × Unchanged old new
-    -- a call that isn't built says so
+    -- the answer, where the device doesn't fail and garbage collection isn't stuck; refused, the call changes nothing
+    pub answers : (m : Moment) → takes_calls old ≡ true → Holds old m → ¬ (reply ≡ Refuses DeviceFault) → ¬ (reply ≡ Refuses Unbuilt) → ¬ StopsShort ask reply → Answers nor old.geometry old.nor.now new.nor.now (memory new) m ask reply
+    pub refused : (m : Moment) → takes_calls old ≡ true → Holds old m → ¬ (reply ≡ Refuses DeviceFault) → ¬ StopsShort ask reply → is_refusal reply ≡ true → Unchanged old new
+    -- where garbage collection stops
+    pub collects : (m : Moment) → takes_calls old ≡ true → Holds old m → ask ≡ Collects → IsCollected old.geometry reply (nor.bytes old.nor.now) (nor.bytes new.nor.now)
+    -- a call that isn't built says so, and no other one does
     pub unbuilt : takes_calls old ≡ true → is_built ask ≡ false → (reply ≡ Refuses Unbuilt) × Unchanged old new
+    pub unbuilt_only : takes_calls old ≡ true → reply ≡ Refuses Unbuilt → is_built ask ≡ false
     -- a volume that takes no calls says so
     pub closed : takes_calls old ≡ false → (reply ≡ Refuses Failed) × (new.nor.now ≡ old.nor.now) × Unchanged old new
     -- a fault is told only where one was counted; of a page that reads otherwise two tags that differ, and never on a volume that

@@ -5,28 +5,30 @@ use Rattle.nor_core.specs.declared.state.NorState.{Ghosts as NorOf}
 use Rattle.nor_core.specs.Count.{Rose}
 use Rattle.nor_core.specs.Device.{Changes, OnlyReads}
 use Rattle.table_model.specs.declared.error.FsErr.{FsErr}
-use Rattle.table_model.specs.declared.error.FsErr.TheVariants.{DeviceFault, Damaged, Unbuilt}
+use Rattle.table_model.specs.declared.error.FsErr.TheVariants.{DeviceFault, Damaged, Tight, Unbuilt}
 use Rattle.table_model.specs.declared.error.Differ.{Differ}
 use Rattle.table_model.specs.Table.{State}
-use Rattle.table_model.specs.Reply.{Answer, Gives, Refuses}
-use Rattle.table_model.specs.Ask.{Ask, Reads}
+use Rattle.table_model.specs.Reply.{Answer, Fine, Gives, Refuses}
+use Rattle.table_model.specs.Ask.{Ask, Reads, Collects}
 use Rattle.table_model.specs.Flat.{answer}
 use Rattle.table_model.specs.Steps.{is_refusal, steps}
 use Rattle.table_model.specs.Window.{IsAmong}
 use Rattle.image_model.specs.Tables.{table_of}
-use Rattle.image_model.specs.Tidy.{HasReserve, Mends, has_spare}
+use Rattle.image_model.specs.Tidy.{HasReserve, has_spare}
 use Rattle.image_model.specs.Sound.{IsSound}
-use Rattle.image_model.specs.Collect.{are_had}
+use Rattle.room_laws.specs.Recovery.{Recovers}
+use Rattle.block_gc.specs.RoomMade.{IsCompact}
 use Rattle.fd_table.specs.declared.slot.FdSlot.{FdSlot}
 use Rattle.volume.specs.Built.{is_built}
-use Rattle.volume.specs.Replies.{is_of_name, names_fault, may_answer, is_change, keeps_slots, takes_page}
+use Rattle.volume.specs.Replies.{is_of_name, names_fault, may_answer, is_change, keeps_slots}
 use Rattle.volume.specs.Holds.{IsImageOf}
+use Rattle.volume.specs.Collecting.{IsStuckAt}
 
 -- What a cut in a call may leave of a volume at a state, on which nothing waits: an image that is sound with respect to the one before,
--- with the table of the state or of a step of the call. Where two blocks were free, a check gives two.
+-- with the table of the state or of a step of the call. Where two blocks were free it recovers: an uncut check gives two.
 pub record CallCut (g : Geometry) (s : State) (ask : Ask) (was image : List ℕ) : Type 0 where
   pub sound : IsSound g image was
-  pub mends : HasReserve g was → Mends g image
+  pub mends : HasReserve g was → Recovers g image
   pub table : IsAmong (table_of g image) (s.table ∷ steps g (has_spare g was) s ask)
 
 -- A call is answered as the flat table is, and device and descriptors are those of the state after it; where two blocks were free two
@@ -37,16 +39,19 @@ pub record Reaches {D : Type 0} (nor : NorOf D) (g : Geometry) (old new : D) (af
   pub reserve : HasReserve g (nor.bytes old) → HasReserve g (nor.bytes new)
   pub reads : is_refusal reply ≡ true → OnlyReads nor old new
 
--- the flat table doesn't refuse a call, and where it takes a page there is one without collecting garbage
+-- the flat table doesn't refuse a call
 pub record IsDoable (g : Geometry) (image : List ℕ) (s : State) (ask : Ask) : Type 0 where
   pub done : is_refusal (answer g (has_spare g image) s ask).answer ≡ false
-  pub had : takes_page ask ≡ true → are_had g image 1 0 ≡ true
 
--- the flat table does a call that takes a page, but there is none without collecting garbage
-pub record LacksPage (g : Geometry) (image : List ℕ) (s : State) (ask : Ask) : Type 0 where
-  pub takes : takes_page ask ≡ true
-  pub done : is_refusal (answer g (has_spare g image) s ask).answer ≡ false
-  pub lacks : are_had g image 1 0 ≡ false
+-- garbage collection was stopped for want of room: the one answer that the flat table doesn't tell
+pub record StopsShort (ask : Ask) (reply : Answer) : Type 0 where
+  pub collects : ask ≡ Collects
+  pub tight : reply ≡ Refuses Tight
+
+-- Where garbage collection stops: done, the image is packed; Tight, it is stuck.
+pub record IsCollected (g : Geometry) (reply : Answer) (was now : List ℕ) : Type 0 where
+  pub packed : reply ≡ Fine → IsCompact g was now
+  pub stuck : reply ≡ Refuses Tight → IsStuckAt g was now
 
 -- a built call is refused for its names exactly where these are none, and then before all else
 pub record IsNamed (ask : Ask) (reply : Answer) (wrote : Bool) : Type 0 where
@@ -63,9 +68,11 @@ pub record IsGiven (ask : Ask) (bytes : List ℕ) : Type 0 where
 -- What a call does to a device and to the descriptors. `wrote` says whether a program or an erase was asked for.
 pub record Goes {D : Type 0} (nor : NorOf D) (g : Geometry) (ask : Ask) (old new : D) (slots after : List FdSlot) (wrote : Bool) (reply : Answer) : Type 0 where
   pub cuts : Changes nor old new (λ was image. (s : State) → IsImageOf nor g old slots s → CallCut g s ask was image)
-  pub answers : (s : State) → IsImageOf nor g old slots s → ¬ (reply ≡ Refuses DeviceFault) → ¬ (reply ≡ Refuses Unbuilt) → Reaches nor g old new after s ask reply
-  pub lacks : (s : State) → is_built ask ≡ true → IsImageOf nor g old slots s → reply ≡ Refuses Unbuilt → LacksPage g (nor.bytes old) s ask × (wrote ≡ false)
+  pub answers : (s : State) → IsImageOf nor g old slots s → ¬ (reply ≡ Refuses DeviceFault) → ¬ (reply ≡ Refuses Unbuilt) → ¬ StopsShort ask reply → Reaches nor g old new after s ask reply
+  pub collects : (s : State) → IsImageOf nor g old slots s → ask ≡ Collects → IsCollected g reply (nor.bytes old) (nor.bytes new)
+  -- a call is Unbuilt exactly where it isn't built
   pub unbuilt : is_built ask ≡ false → (reply ≡ Refuses Unbuilt) × (wrote ≡ false)
+  pub unbuilt_only : reply ≡ Refuses Unbuilt → is_built ask ≡ false
   pub begun : (s : State) → IsImageOf nor g old slots s → wrote ≡ true → IsDoable g (nor.bytes old) s ask
   pub untouched : wrote ≡ false → OnlyReads nor old new
   -- refused, or where the device failed, and in a call that only looks at them, the descriptors stay

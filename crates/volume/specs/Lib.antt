@@ -7,9 +7,11 @@ pub mod Stages
 pub mod Same
 pub mod Holds
 pub mod Moves
+pub mod Collecting
 pub mod Goes
 pub mod Calls
 pub mod Records
 pub mod Removes
 pub mod Opens
 pub mod Recorded
+pub mod Checking

@@ -3,24 +3,22 @@ use Rattle.std.specs.Prelude.{◌≡◌, ℕ, ◌+◌, List, nat_le, Bool, true,
 use Rattle.geometry.specs.declared.geometry.Geometry.{Geometry}
 use Rattle.geometry.specs.Numbers.{ceil, entries}
 use Rattle.table_model.specs.declared.error.FsErr.{FsErr}
-use Rattle.table_model.specs.declared.error.FsErr.TheVariants.{ConflictingName, Tight, Full, Unbuilt, DeviceFault}
+use Rattle.table_model.specs.declared.error.FsErr.TheVariants.{ConflictingName, Tight, Full, DeviceFault}
 use Rattle.table_model.specs.Table.{File, has_name, least_id}
 use Rattle.table_model.specs.Room.{index_count, data_count}
 use Rattle.image_model.specs.Tables.{table_of}
 use Rattle.image_model.specs.Tidy.{free_blocks}
-use Rattle.image_model.specs.Collect.{are_had}
 
 -- a table has room with so many index pages more than it has
 unfoldable pub has_room_beside : Geometry → List File → ℕ → Bool
 has_room_beside g files more = nat_le (ceil (index_count g files + (more + 1)) (entries g) + ceil (data_count g files + 1) (entries g) + 2) g.blocks
 
--- Why no index page is had for a call that leaves so many more of them, if none is: fewer than two blocks are free, the table after the
--- call has no room, or no index page is had without collecting garbage.
+-- Why no index page is had for a call that leaves so many more of them, if none is: fewer than two blocks are free, or the table after
+-- the call has no room. Else garbage collection gives one.
 unfoldable pub page_lack : Geometry → List ℕ → (more : ℕ) → Option FsErr
 page_lack g image more =
     if nat_lt (free_blocks g image) 2 then Some Tight
     else if not (has_room_beside g (table_of g image) more) then Some Full
-    else if not (are_had g image 1 0) then Some Unbuilt
     else None
 
 -- a page is had, or what stands against it

@@ -13,7 +13,7 @@ use Rattle.flash_view.specs.declared.kinds.StepErr.{StepErr}
 use Rattle.flash_view.specs.declared.kinds.StepErr.TheVariants.{DeviceFault as StepFault, Damaged as StepDamaged}
 use Rattle.table_model.specs.Names.{name_refusal, names_refusal}
 use Rattle.table_model.specs.Reply.{Answer, Fine, Tells as Number, Gives, Shows, Ends, Counts, Refuses}
-use Rattle.table_model.specs.Ask.{Ask, Creates, Opens, Reads, Seeks, Tells, Flushes, Closes, Removes, RemovesOpen, Renames, Stats, StatsOpen, NextAbove, Informs, SetsMeta, SetsMetaOpen}
+use Rattle.table_model.specs.Ask.{Ask, Creates, Opens, Reads, Seeks, Tells, Flushes, Closes, Removes, RemovesOpen, Renames, Stats, StatsOpen, NextAbove, Informs, Collects, SetsMeta, SetsMetaOpen}
 
 -- what a call told; bytes that were read stand at the front of those that were lent
 abbrev pub shown_by : Told → List ℕ → Answer
@@ -65,7 +65,6 @@ is_missing _ = false
 abbrev pub is_of_new_page : FsErr → Bool
 is_of_new_page Tight = true
 is_of_new_page Full = true
-is_of_new_page Unbuilt = true
 is_of_new_page _ = false
 
 -- the name of a new file is there, or there is no page for it
@@ -116,6 +115,11 @@ is_of_seeking BadDescriptor = true
 is_of_seeking SeekBounds = true
 is_of_seeking _ = false
 
+-- there is too little room
+abbrev pub is_tight : FsErr → Bool
+is_tight Tight = true
+is_tight _ = false
+
 -- the call isn't built
 abbrev pub is_unbuilt : FsErr → Bool
 is_unbuilt Unbuilt = true
@@ -128,7 +132,7 @@ is_early why = not (is_of_name why) && not (is_damage why)
 -- of these, the ones of each call
 abbrev pub meets : Ask → FsErr → Bool
 meets (Creates name) why = is_of_new_file why || is_fault why
-meets (Opens name flags) why = is_of_opening why || is_fault why
+meets (Opens name flags) why = (is_of_opening why || is_fault why) || (empties flags && is_unbuilt why)
 meets (Reads fd count) why = is_of_reading why || is_fault why
 meets (Seeks fd offset from) why = is_of_seeking why || is_fault why
 meets (Tells fd) why = is_of_descriptor why
@@ -141,6 +145,7 @@ meets (Stats name) why = is_missing why || is_fault why
 meets (StatsOpen fd) why = is_of_descriptor why || is_fault why
 meets (NextAbove after) why = is_fault why
 meets Informs why = is_fault why
+meets Collects why = is_tight why || is_fault why
 meets (SetsMeta name meta) why = is_of_meta why || is_fault why
 meets (SetsMetaOpen fd meta) why = is_of_meta_open why || is_fault why
 meets _ why = is_unbuilt why
@@ -161,13 +166,14 @@ MeetsNamed name why = (other : List ℕ) → (may_meet (Removes name) why ≡ tr
 abbrev pub MeetsKnown : List ℕ → FsErr → Type 0
 MeetsKnown name why = (other : List ℕ) → (may_meet (Creates name) why ≡ true) × (may_meet (Renames other name) why ≡ true)
 
--- calls that may change the table
+-- calls that may ask for a program or an erase
 abbrev pub is_change : Ask → Bool
 is_change (Creates name) = true
 is_change (Opens name flags) = makes flags || empties flags
 is_change (Removes name) = true
 is_change (RemovesOpen fd) = true
 is_change (Renames old_name new_name) = true
+is_change Collects = true
 is_change (SetsMeta name meta) = true
 is_change (SetsMetaOpen fd meta) = true
 is_change _ = false
@@ -221,6 +227,7 @@ may_answer (StatsOpen fd) (Shows stat) = true
 may_answer (NextAbove after) (Shows stat) = true
 may_answer (NextAbove after) Ends = true
 may_answer Informs (Counts info) = true
+may_answer Collects Fine = true
 may_answer (SetsMeta name meta) Fine = true
 may_answer (SetsMetaOpen fd meta) Fine = true
 may_answer _ _ = false
@@ -239,15 +246,6 @@ names_fault _ = None
 abbrev pub breaks : Answer → Bool
 breaks (Refuses why) = is_fault why || is_damage why
 breaks _ = false
-
--- calls that take a page
-abbrev pub takes_page : Ask → Bool
-takes_page (Creates name) = true
-takes_page (Opens name flags) = makes flags
-takes_page (Renames old_name new_name) = true
-takes_page (SetsMeta name meta) = true
-takes_page (SetsMetaOpen fd meta) = true
-takes_page _ = false
 
 -- a record, or the end of the table
 abbrev pub shown_or_end : Option Stat → Answer

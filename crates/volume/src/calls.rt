@@ -8,6 +8,7 @@ ghost use Rattle.volume.specs.Opening.{stage_after as the_stage_after};
 ghost use Rattle.volume.specs.Goes.{Goes};
 ghost use Rattle.volume.specs.Calls.{Calls};
 
+use crate::collecting::collect_in;
 use crate::create::create_in;
 use crate::looking::{tell_info, tell_next, tell_stat};
 use crate::opening::open_in;
@@ -58,6 +59,7 @@ fn call_in<N: Nor>(
         Call::FStat { fd } => tell_open(v, slots, fd),
         Call::Next { after } => tell_next(v, after),
         Call::GetInfo => tell_info(v),
+        Call::Gc => collect_in(v),
         Call::SetMeta { name, meta } => set_meta(v, name, meta),
         Call::FSetMeta { fd, meta } => set_meta_open(v, slots, fd, meta),
         _ => Err(FsErr::Unbuilt),

@@ -12,8 +12,9 @@ ghost use Rattle.volume.specs.Replies.{reply_of, MeetsPage, MeetsKnown};
 ghost use Rattle.volume.specs.Goes.{Goes};
 
 use crate::Told;
+use crate::collecting::take_page;
 use crate::names::accept;
-use crate::room::{has_room, is_had};
+use crate::room::has_room;
 use crate::steps::failed_as;
 use file_write::create_step;
 use flash_view::View;
@@ -54,13 +55,10 @@ fn obstacle<N: Nor>(v: &mut View<'_, N>, more: u32) -> Result<Option<FsErr>, Fai
     if !has_room(v, more)? {
         return Ok(Some(FsErr::Full));
     }
-    if !is_had(v)? {
-        return Ok(Some(FsErr::Unbuilt));
-    }
     Ok(None)
 }
 
-/// Refuses a call that leaves so many more index pages, none or one, where no index page is had for it.
+/// Refuses a call that leaves so many more index pages, none or one, where garbage collection gives none for it.
 pub(crate) fn have_page<N: Nor>(v: &mut View<'_, N>, more: u32) -> Result<(), FsErr>
     requires more { more ≤ 1 }
     ensures cause { IsErrOf result FsErr.DeviceFault → Rose (N.faults v.old.nor.now) (N.faults v.new.nor.now) }
@@ -104,6 +102,7 @@ pub(crate) fn create_in<N: Nor>(v: &mut View<'_, N>, name: &[u8]) -> Result<Told
     accept(name)?;
     refuse_known(v, name)?;
     let id = prepare(v)?;
+    take_page(v)?;
     match create_step(v, id, name) {
         Ok(()) => Ok(Told::Done),
         Err(why) => Err(failed_as(why)),

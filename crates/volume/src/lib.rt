@@ -2,6 +2,8 @@
 #![tactic(auto)]
 
 mod calls;
+mod checking;
+mod collecting;
 mod create;
 mod looking;
 mod names;

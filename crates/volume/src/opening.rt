@@ -12,6 +12,7 @@ ghost use Rattle.volume.specs.Replies.{reply_of, may_meet};
 ghost use Rattle.volume.specs.Goes.{Goes};
 
 use crate::Told;
+use crate::collecting::take_page;
 use crate::create::prepare;
 use crate::names::accept;
 use crate::steps::failed_as;
@@ -123,6 +124,7 @@ pub(crate) fn open_in<N: Nor>(
         return Ok(Told::Number(u32::from(fd)));
     }
     let id = prepare(v)?;
+    take_page(v)?;
     match create_step(v, id, name) {
         Ok(()) => {
             open_at(slots, fd, id, flags);

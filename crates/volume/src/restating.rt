@@ -7,6 +7,7 @@ ghost use Rattle.volume.specs.Replies.{reply_of};
 ghost use Rattle.volume.specs.Goes.{Goes};
 
 use crate::Told;
+use crate::collecting::take_page;
 use crate::create::{have_page, refuse_known};
 use crate::names::{accept, accept_both};
 use crate::remove::find_named;
@@ -55,6 +56,7 @@ pub(crate) fn rename_in<N: Nor>(
     let id = find_named(v, old_name)?;
     refuse_known(v, new_name)?;
     have_page(v, 0)?;
+    take_page(v)?;
     match restate(v, id, Edit::Name(new_name)) {
         Ok(()) => Ok(Told::Done),
         Err(why) => Err(failed_as(why)),
@@ -72,6 +74,7 @@ pub(crate) fn set_meta<N: Nor>(v: &mut View<'_, N>, name: &[u8], meta: &[u8]) ->
     accept_meta(&v.geometry, meta)?;
     let id = find_named(v, name)?;
     have_page(v, 0)?;
+    take_page(v)?;
     match restate(v, id, Edit::Meta(meta)) {
         Ok(()) => Ok(Told::Done),
         Err(why) => Err(failed_as(why)),
@@ -96,6 +99,7 @@ pub(crate) fn set_meta_open<N: Nor>(
         return Err(FsErr::NotWritable);
     }
     have_page(v, 0)?;
+    take_page(v)?;
     match restate(v, slot.id, Edit::Meta(meta)) {
         Ok(()) => Ok(Told::Done),
         Err(why) => Err(failed_as(why)),

@@ -5,12 +5,10 @@ ghost use Rattle.nor_core.specs.Count.{Rose};
 ghost use Rattle.flash_view.specs.Same.{OnlyLooks};
 ghost use Rattle.image_model.specs.Tables.{table_of};
 ghost use Rattle.image_model.specs.Tidy.{IsTidy};
-ghost use Rattle.image_model.specs.Collect.{are_had};
 ghost use Rattle.volume.specs.Refusals.{has_room_beside};
 ghost use Rattle.volume.specs.Pages.{with_page as the_page, AreLive};
 
-use flash_view::{Kind, View};
-use free_search::{free_page, index_pages_had};
+use flash_view::View;
 use geometry::Geometry;
 use image_laws::counting::tidy_counts;
 use nor_core::{Failed, Nor, NorState};
@@ -94,14 +92,4 @@ pub(crate) fn has_room<N: Nor>(v: &mut View<'_, N>, more: u32) -> Result<bool, F
     let counts = page_counts(v)?;
     tidy_counts();
     Ok(leaves_two(&v.geometry, counts.index_pages + more, counts.data_pages))
-}
-
-// Whether an index page is had that leaves two blocks free.
-pub(crate) fn is_had<N: Nor>(v: &mut View<'_, N>) -> Result<bool, Failed>
-    ensures cause { OnErr result (Rose (N.faults v.old.nor.now) (N.faults v.new.nor.now)) }
-    ensures looks { OnlyLooks v.old v.new }
-    ensures told { N.tells v.old.nor.now → IsTidy v.old.geometry (N.bytes v.old.nor.now) → IfOk result (λ had. had ≡ are_had v.old.geometry (N.bytes v.old.nor.now) 1 0) }
-{
-    index_pages_had();
-    Ok(free_page(v, Kind::Index, 2, None)?.is_some())
 }

@@ -1,6 +1,6 @@
 ghost use Rattle.std.specs.Prelude.{◌≡◌, length, min};
 ghost use Rattle.table_model.specs.Reply.{Fine, Tells as Number, Shows, Counts};
-ghost use Rattle.table_model.specs.Ask.{Creates, Opens, Reads, Seeks, Flushes, Closes, Removes, RemovesOpen, Renames, Stats, StatsOpen, NextAbove, Informs, SetsMeta, SetsMetaOpen};
+ghost use Rattle.table_model.specs.Ask.{Creates, Opens, Reads, Seeks, Flushes, Closes, Removes, RemovesOpen, Renames, Stats, StatsOpen, NextAbove, Informs, Collects, SetsMeta, SetsMetaOpen};
 ghost use Rattle.fd_table.specs.Slots.{descriptors, open_at};
 ghost use Rattle.volume.specs.Replies.{told, shown_or_end, as_read, offset_of};
 ghost use Rattle.volume.specs.Calls.{Calls};
@@ -13,7 +13,7 @@ use table_model::{Call, FsErr, Info, Stat, Whence};
 impl<'b, N: Nor> Volume<'b, N> {
     /// Makes an empty file of type 1 under the least unused id from 1, with meta bytes of 0xFF. Refused, in
     /// this order: `Failed` (also where the volume wasn't checked), `BadName`, `NameTooLong`, `ConflictingName`,
-    /// `Tight`, `Full`, and `Unbuilt` where there is room but no free page without collecting garbage.
+    /// `Tight`, `Full`. Garbage is collected where no page is free for it.
     pub fn create(&mut self, name: &[u8]) -> Result<(), FsErr>
         ensures { Calls (Creates name.now) self.old self.new (told (λ done. Fine) result) }
     {
@@ -28,8 +28,7 @@ impl<'b, N: Nor> Volume<'b, N> {
     /// APPEND 1, TRUNC 2, CREAT 4, RDONLY 8, WRONLY 16, DIRECT 32, EXCL 64. A missing file is made where CREAT is set, as `create`
     /// makes one. Refused, in this order: `Failed` (also where the volume wasn't checked), `Unbuilt` where TRUNC is set, `BadName`,
     /// `NameTooLong`, `BadFlags` (a bit above 64), `OutOfDescriptors`, `FileExists` (it is there, and CREAT and EXCL are set),
-    /// `NotFound` (it isn't, and CREAT isn't set), and where it is to be made `Tight`, `Full`, and `Unbuilt` where there is room but
-    /// no free page without collecting garbage.
+    /// `NotFound` (it isn't, and CREAT isn't set), and where it is to be made `Tight`, `Full`.
     pub fn open_file(&mut self, name: &[u8], flags: u32) -> Result<u16, FsErr>
         ensures { Calls (Opens name.now flags) self.old self.new (told (λ fd. Number fd) result) }
     {
@@ -127,7 +126,7 @@ impl<'b, N: Nor> Volume<'b, N> {
 
     /// Gives the file of a name another one; its id, bytes and descriptors stay. The name that it has conflicts too. Refused, in this
     /// order: `Failed` (also where the volume wasn't checked), `BadName` (either of them), `NameTooLong` (either), `NotFound`,
-    /// `ConflictingName`, `Tight`, `Full`, and `Unbuilt` where there is room but no free page without collecting garbage.
+    /// `ConflictingName`, `Tight`, `Full`. Garbage is collected where no page is free for it.
     pub fn rename(&mut self, old_name: &[u8], new_name: &[u8]) -> Result<(), FsErr>
         ensures { Calls (Renames old_name.now new_name.now) self.old self.new (told (λ done. Fine) result) }
     {
@@ -139,8 +138,8 @@ impl<'b, N: Nor> Volume<'b, N> {
     }
 
     /// Gives the file of a name other meta bytes, as many as the geometry has. Refused, in this order: `Failed` (also where the
-    /// volume wasn't checked), `BadName`, `NameTooLong`, `BadFlags` (another number of bytes), `NotFound`, `Tight`, `Full`, and
-    /// `Unbuilt` where there is room but no free page without collecting garbage.
+    /// volume wasn't checked), `BadName`, `NameTooLong`, `BadFlags` (another number of bytes), `NotFound`, `Tight`, `Full`.
+    /// Garbage is collected where no page is free for it.
     pub fn update_meta(&mut self, name: &[u8], meta: &[u8]) -> Result<(), FsErr>
         ensures { Calls (SetsMeta name.now meta.now) self.old self.new (told (λ done. Fine) result) }
     {
@@ -152,8 +151,8 @@ impl<'b, N: Nor> Volume<'b, N> {
     }
 
     /// Gives the file of a descriptor other meta bytes. Refused, in this order: `Failed` (also where the volume wasn't checked),
-    /// `BadFlags` (another number of bytes), `BadDescriptor`, `NotWritable`, `Tight`, `Full`, and `Unbuilt` where there is room but
-    /// no free page without collecting garbage.
+    /// `BadFlags` (another number of bytes), `BadDescriptor`, `NotWritable`, `Tight`, `Full`. Garbage is collected where
+    /// no page is free for it.
     pub fn fupdate_meta(&mut self, fd: u16, meta: &[u8]) -> Result<(), FsErr>
         ensures { Calls (SetsMetaOpen fd meta.now) self.old self.new (told (λ done. Fine) result) }
     {
@@ -207,6 +206,18 @@ impl<'b, N: Nor> Volume<'b, N> {
     {
         match self.answer(&Call::GetInfo, &mut []) {
             Told::Room(info) => Ok(info),
+            Told::Refusal(why) => Err(why),
+            _ => unreachable!(),
+        }
+    }
+
+    /// Collects garbage: cleans blocks until none is worth cleaning. Refused, in this order: `Failed` (also where the volume wasn't
+    /// checked), and `Tight` where fewer than two blocks were free and collection is stuck before that; then blocks may have been cleaned.
+    pub fn gc(&mut self) -> Result<(), FsErr>
+        ensures { Calls Collects self.old self.new (told (λ done. Fine) result) }
+    {
+        match self.answer(&Call::Gc, &mut []) {
+            Told::Done => Ok(()),
             Told::Refusal(why) => Err(why),
             _ => unreachable!(),
         }

@@ -4,13 +4,15 @@ ghost use Rattle.nor_core.specs.Count.{Rose};
 ghost use Rattle.nor_core.specs.Device.{Changes, OnlyReads};
 ghost use Rattle.image_model.specs.Kinds.{spoiled_blocks, mixed_blocks};
 ghost use Rattle.image_model.specs.Sound.{HasMagics};
-ghost use Rattle.image_model.specs.Tidy.{IsTidy};
+ghost use Rattle.image_model.specs.Tidy.{IsTidy, HasReserve};
 ghost use Rattle.page_cache.specs.Kept.{IsKept, FewReads};
 ghost use Rattle.vol_mount.specs.Mounts.{IsLate, CountsSpoiled};
-ghost use Rattle.vol_check.specs.Culls.{KeepsAll};
-ghost use Rattle.vol_check.specs.Checks.{IsWritable, IsRefusal, CountsMixed, Checked as WasChecked};
+ghost use Rattle.room_laws.specs.Recovery.{Recovers};
+ghost use Rattle.vol_check.specs.Checks.{IsWritable, IsRefusal, CountsMixed};
+ghost use Rattle.volume.specs.Checking.{CheckCut, CheckDone, IsApart, IsUndamaged};
 ghost use Rattle.volume.specs.Opening.{is_open, is_mounted};
 
+use crate::checking::check_view;
 use crate::slots::close_all;
 use crate::stage::Stage;
 use crate::{CheckErr, Report};
@@ -20,7 +22,6 @@ use geometry::Geometry;
 use nor_core::{Nor, NorState};
 use page_cache::Cached;
 use table_model::FsErr;
-use vol_check::check_stages;
 use vol_mount::{Lent, MountErr, Returned};
 
 /// A volume on a device, in lent memory. Mount it, then check it: then it takes file calls. One caller at a time
@@ -113,12 +114,15 @@ fn check_on<N: Nor>(
     ensures writable { write_refusal g ≡ None → IfErr result IsWritable }
     ensures usable { OnOk result (usable g ≤ 32766) }
     ensures cause { IsErrOf result CheckErr.DeviceFault → Rose (N.faults nor.old) (N.faults nor.new) }
-    ensures changes { Changes N.NorState nor.old nor.new (KeepsAll g) }
+    ensures changes { Changes N.NorState nor.old nor.new (CheckCut g) }
     ensures unmixed { N.tells nor.old → OnOk result (mixed_blocks g (N.bytes nor.old) ≡ 0) }
     ensures mixed { N.tells nor.old → IfErr result (CountsMixed g (N.bytes nor.old)) }
     ensures refused { IfErr result (λ why. IsRefusal why → OnlyReads N.NorState nor.old nor.new) }
-    ensures done { N.tells nor.old → IfOk result (λ report. WasChecked g (N.bytes nor.old) (N.bytes nor.new) report) }
-    ensures idle { N.tells nor.old → IsTidy g (N.bytes nor.old) → OnlyReads N.NorState nor.old nor.new }
+    ensures done { N.tells nor.old → IfOk result (λ report. CheckDone g (N.bytes nor.old) (N.bytes nor.new) report) }
+    ensures mends { N.tells nor.old → Recovers g (N.bytes nor.old) → IfOk result (λ report. 2 ≤ report.free_blocks) }
+    ensures idle { N.tells nor.old → IsTidy g (N.bytes nor.old) → HasReserve g (N.bytes nor.old) → OnlyReads N.NorState nor.old nor.new }
+    ensures apart { IfErr result IsApart }
+    ensures undamaged { N.tells nor.old → IfErr result IsUndamaged }
 {
     let mut v = View {
         geometry: g,
@@ -127,7 +131,7 @@ fn check_on<N: Nor>(
         cache,
         wrote: false,
     };
-    check_stages(&mut v, marks)
+    check_view(&mut v, marks)
 }
 
 impl<'b, N: Nor> Volume<'b, N> {
@@ -136,12 +140,13 @@ impl<'b, N: Nor> Volume<'b, N> {
     ghost use Rattle.nor_core.specs.Count.{Rose};
     ghost use Rattle.nor_core.specs.Device.{Changes, OnlyReads};
     ghost use Rattle.image_model.specs.Kinds.{spoiled_blocks, mixed_blocks};
-    ghost use Rattle.image_model.specs.Tidy.{IsTidy};
+    ghost use Rattle.image_model.specs.Tidy.{IsTidy, HasReserve};
     ghost use Rattle.page_cache.specs.Frames.{held};
     ghost use Rattle.fd_table.specs.Slots.{descriptors};
     ghost use Rattle.vol_mount.specs.Mounts.{IsLate, CountsSpoiled};
-    ghost use Rattle.vol_check.specs.Culls.{KeepsAll};
-    ghost use Rattle.vol_check.specs.Checks.{IsWritable, IsRefusal, CountsMixed, Checked as WasChecked};
+    ghost use Rattle.room_laws.specs.Recovery.{Recovers};
+    ghost use Rattle.vol_check.specs.Checks.{IsWritable, IsRefusal, CountsMixed};
+    ghost use Rattle.volume.specs.Checking.{CheckCut, CheckDone, IsApart, IsUndamaged};
     ghost use Rattle.volume.specs.Opening.{is_mounted};
     ghost use Rattle.volume.specs.Stages.{takes_calls, has_failed};
     ghost use Rattle.volume.specs.Same.{IsSameVolume};
@@ -203,21 +208,25 @@ impl<'b, N: Nor> Volume<'b, N> {
     }
 
     /// Checks a mounted volume, so that it takes calls, in whatever state a cut or another program left it: a block
-    /// without its magic is made fresh, and every entry is killed that no file needs, those of damaged files too. Then every
-    /// descriptor is closed. Refused, with nothing written, are a volume that may not be written (`Wrong`) and one of which a
-    /// block holds live pages of both kinds (`Mixed`). Where the device fails, what was done stays, and the check can be
-    /// called again.
+    /// without its magic is made fresh, and every entry is killed that no file needs, those of damaged files too. Where fewer than two
+    /// blocks are free then, blocks are cleaned until two are, or none that is worth cleaning can be cleaned: after a cut on a volume
+    /// with two free blocks there are two. Then every descriptor is closed. Refused, with nothing written, are a volume that may not be
+    /// written (`Wrong`) and one of which a block holds live pages of both kinds (`Mixed`). Where the device fails, or a page that is
+    /// moved reads otherwise than it was written (`Damaged`), what was done stays, and the check can be called again.
     pub fn check(&mut self) -> Result<Report, CheckErr>
         requires mounted { is_mounted self.old.stage ≡ true }
         ensures wrong { IfSome (write_refusal self.old.geometry) (λ why. result ≡ Err (CheckErr.Wrong why)) }
         ensures writable { write_refusal self.old.geometry ≡ None → IfErr result IsWritable }
         ensures cause { IsErrOf result CheckErr.DeviceFault → Rose (N.faults self.old.nor.now) (N.faults self.new.nor.now) }
-        ensures changes { Changes N.NorState self.old.nor.now self.new.nor.now (KeepsAll self.old.geometry) }
+        ensures changes { Changes N.NorState self.old.nor.now self.new.nor.now (CheckCut self.old.geometry) }
         ensures unmixed { N.tells self.old.nor.now → OnOk result (mixed_blocks self.old.geometry (N.bytes self.old.nor.now) ≡ 0) }
         ensures mixed { N.tells self.old.nor.now → IfErr result (CountsMixed self.old.geometry (N.bytes self.old.nor.now)) }
         ensures refused { IfErr result (λ why. IsRefusal why → OnlyReads N.NorState self.old.nor.now self.new.nor.now) }
-        ensures done { N.tells self.old.nor.now → IfOk result (λ report. WasChecked self.old.geometry (N.bytes self.old.nor.now) (N.bytes self.new.nor.now) report) }
-        ensures idle { N.tells self.old.nor.now → IsTidy self.old.geometry (N.bytes self.old.nor.now) → OnlyReads N.NorState self.old.nor.now self.new.nor.now }
+        ensures done { N.tells self.old.nor.now → IfOk result (λ report. CheckDone self.old.geometry (N.bytes self.old.nor.now) (N.bytes self.new.nor.now) report) }
+        ensures mends { N.tells self.old.nor.now → Recovers self.old.geometry (N.bytes self.old.nor.now) → IfOk result (λ report. 2 ≤ report.free_blocks) }
+        ensures apart { IfErr result IsApart }
+        ensures undamaged { N.tells self.old.nor.now → IfErr result IsUndamaged }
+        ensures idle { N.tells self.old.nor.now → IsTidy self.old.geometry (N.bytes self.old.nor.now) → HasReserve self.old.geometry (N.bytes self.old.nor.now) → OnlyReads N.NorState self.old.nor.now self.new.nor.now }
         ensures taken { OnOk result (takes_calls self.new ≡ true) }
         ensures closed { OnOk result (descriptors self.new.slots.now ≡ replicate (min 65535 (length self.old.slots.now)) None) }
         ensures slots { OnErr result (self.new.slots.now ≡ self.old.slots.now) }

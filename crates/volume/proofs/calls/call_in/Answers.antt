@@ -36,6 +36,9 @@ returns-in-Next-clause-goes g c = rw c.in-Next.is (c.tell_next.ensures.goes c.ar
 pub returns-in-GetInfo-clause-goes : goal.returns-in-GetInfo-clause-goes
 returns-in-GetInfo-clause-goes g c = rw c.in-GetInfo.is (c.tell_info.ensures.goes c.args.slots.now c.args.into.now)
 
+pub returns-in-Gc-clause-goes : goal.returns-in-Gc-clause-goes
+returns-in-Gc-clause-goes g c = rw c.in-Gc.is (c.collect_in.ensures.goes c.args.slots.now c.args.into.now)
+
 pub returns-in-Seek-clause-goes : goal.returns-in-Seek-clause-goes
 returns-in-Seek-clause-goes g c = let fits : SFits w64 c.in-Seek.offset = search rules in rw c.in-Seek.is (rw (to_z-of_z w64 c.in-Seek.offset fits) at (c.seek_in.ensures.goes c.args.into.now))
 
@@ -57,6 +60,7 @@ returns-in_default g c =
       fstat = other.not-FStat;
       next = other.not-Next;
       info = other.not-GetInfo;
+      gc = other.not-Gc;
       meta = other.not-SetMeta;
       fmeta = other.not-FSetMeta;
     }) in

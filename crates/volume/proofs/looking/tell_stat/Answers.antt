@@ -1,4 +1,4 @@
-use Rattle.std.proofs.Common.{refl, sym, ◌∙◌, inl}
+use Rattle.std.proofs.Common.{refl, sym, ◌∙◌}
 use Rattle.std.proofs.lemmas.Result.{err_from_is_err_and}
 use Rattle.nor_core.proofs.Cuts.{reads_none}
 use Rattle.table_model.specs.Ask.{Stats}
@@ -29,4 +29,4 @@ returns-in-Ok-None-clause-goes g c =
     let looked = c.in-Ok-None.ensures in
     let fine = c.in_ok-accept.ensures.fine in
     λ slots into. goes_refused {T = Unit {0}} (Stats c.args.name.now) _ c.stat_named.new.v.wrote (looked.looks.wrote ∙ c.requires.fresh) looked.looks.reads refl fine refl (λ e. absurd (cc))
-    (λ s here no_fault. inl (λ e. cc, flat_no_stat c.args.v.now.geometry _ s c.args.name.now _ fine here.table (sym c.in-Ok-None.field-0-is ∙ looked.told here.tells here.tidy)))
+    (λ s here no_fault. flat_no_stat c.args.v.now.geometry _ s c.args.name.now _ fine here.table (sym c.in-Ok-None.field-0-is ∙ looked.told here.tells here.tidy))

@@ -8,14 +8,15 @@ use Rattle.table_model.specs.Reply.{Tells as Number}
 use Rattle.table_model.specs.Ask.{Opens}
 use Rattle.volume.specs.Refusals.{Prepares}
 use Rattle.volume.specs.Replies.{is_change}
-use Rattle.volume.proofs.Going.{goes_named, goes_refused, goes_moved, goes_unbuilt, goes_done, goes_broken, rose_later, looked_back, or_first, err_same}
+use Rattle.volume.proofs.Going.{goes_named, goes_refused, goes_moved, goes_unbuilt, goes_done, goes_broken, goes_stopped, rose_later, looked_back, or_first, err_same}
+use Rattle.volume.proofs.Paged.{with_page_had, with_page_not_had}
 use Rattle.volume.proofs.Openings.{is_set, is_clear, none_by, opens_built, slot_refuses, file_refuses, opens_there, opened_step, opened_refuses}
 use Rattle.volume.proofs.opening.open_in.Goals as goal
 
 pub returns-then-flags-ne0-clause-goes : goal.returns-then-flags-ne0-clause-goes
 returns-then-flags-ne0-clause-goes g c =
     let emptied : empties c.args.flags ≡ true = is_set (bit_and c.args.flags 2) c.if-flags-ne0.true in
-    λ into. goes_unbuilt (Opens c.args.name.now c.args.flags) c.args.v.now.wrote c.requires.fresh (reads_none c.args.v.now.nor.now) (rw emptied refl) refl
+    λ into. goes_unbuilt (Opens c.args.name.now c.args.flags) c.args.v.now.wrote c.requires.fresh (reads_none c.args.v.now.nor.now) (rw emptied refl) (rw emptied refl)
 
 pub returns-in_err-accept-clause-goes : goal.returns-in_err-accept-clause-goes
 returns-in_err-accept-clause-goes g c =
@@ -64,8 +65,22 @@ returns-in_err-id-2-clause-goes g c =
     let failed = c.in_err-id-2.ensures in
     let looks = looks_then found.looks failed.looks in
     rw (p.1, p.2) (λ into. goes_refused (Opens name c.args.flags) c.in_err-id-2.field-0.0 c.prepare.new.v.wrote (looks.wrote ∙ c.requires.fresh) looks.reads (opens_built name c.args.flags keeps) fine (failed.among name [] c.args.flags 0).1 (λ e. rose_later _ _ _ found.looks.same.faults (failed.cause e))
-    (λ s here no_fault. opened_refuses name c.args.flags fine keeps c.in_ok-fd.fd c.in_ok-fd.ensures.told s (found.making none) (λ tells tidy. rw none at (found.told tells tidy)) here
+    (λ s here no_fault. opened_refuses name c.args.flags fine keeps c.in_ok-fd.fd c.in_ok-fd.ensures.told s (λ tells tidy. rw none at (found.told tells tidy)) here
     (looked_back (λ h image. Prepares h image (Err c.in_err-id-2.field-0.0)) found.looks failed.told here.tells here.tidy no_fault)))
+
+pub returns-in_err-take_page-clause-goes : goal.returns-in_err-take_page-clause-goes
+returns-in_err-take_page-clause-goes g c =
+    let p = err_from_is_err_and c.from_residual-in_err-take_page.result c.from_residual-in_err-take_page.ensures.1 in
+    let name = c.args.name.now in
+    let keeps : empties c.args.flags ≡ false = is_clear (bit_and c.args.flags 2) c.if-flags-ne0.false in
+    let fine = c.in_ok-accept.ensures.fine in
+    let found = c.in_ok-id.ensures in
+    let none : c.in_ok-id.field-0 ≡ None = none_by c.in_ok-id.field-0 c.in_default.not-Some in
+    let making = found.making none in
+    let change : is_change (Opens name c.args.flags) ≡ true = or_first _ (empties c.args.flags) making in
+    let looked = c.in_ok-id-2.ensures in
+    let told = looked_back (λ h image. Prepares h image (Ok c.in_ok-id-2.id)) found.looks looked.told in
+    rw (p.1, p.2) (λ into. goes_stopped (Opens name c.args.flags) (Number c.in_ok-fd.fd) (opens_built name c.args.flags keeps) change fine (opened_step name c.args.flags fine keeps c.in_ok-fd.fd c.in_ok-fd.ensures.told c.in_ok-id-2.id (λ tells tidy. rw none at (found.told tells tidy)) told) (looks_then found.looks looked.looks) c.requires.fresh c.in_err-take_page.field-0.0 refl refl (with_page_not_had c.in_err-take_page.ensures))
 
 pub returns-in-Ok-clause-goes : goal.returns-in-Ok-clause-goes
 returns-in-Ok-clause-goes g c =
@@ -78,8 +93,8 @@ returns-in-Ok-clause-goes g c =
     let change : is_change (Opens name c.args.flags) ≡ true = or_first _ (empties c.args.flags) making in
     let looked = c.in_ok-id-2.ensures in
     let told = looked_back (λ h image. Prepares h image (Ok c.in_ok-id-2.id)) found.looks looked.told in
-    rw c.from-in-Ok.ensures (λ into. goes_done (Opens name c.args.flags) (Number c.in_ok-fd.fd) (opens_built name c.args.flags keeps) change fine (opened_step name c.args.flags fine keeps c.in_ok-fd.fd c.in_ok-fd.ensures.told c.in_ok-id-2.id making (λ tells tidy. rw none at (found.told tells tidy)) told) (looks_then found.looks looked.looks) c.requires.fresh
-    c.open_at-in-Ok.new.slots c.open_at-in-Ok.ensures refl (lt-ltb c.in_ok-fd.fd 65536 c.in_ok-fd.ensures.small) (λ bytes e. absurd (cc)) (λ k. absurd (let no : false ≡ true = k in cc)) c.in-Ok.ensures)
+    rw c.from-in-Ok.ensures (λ into. goes_done (Opens name c.args.flags) (Number c.in_ok-fd.fd) (opens_built name c.args.flags keeps) change fine (opened_step name c.args.flags fine keeps c.in_ok-fd.fd c.in_ok-fd.ensures.told c.in_ok-id-2.id (λ tells tidy. rw none at (found.told tells tidy)) told) (looks_then found.looks looked.looks) c.requires.fresh
+    c.open_at-in-Ok.new.slots c.open_at-in-Ok.ensures refl (lt-ltb c.in_ok-fd.fd 65536 c.in_ok-fd.ensures.small) (λ bytes e. absurd (cc)) (λ k. absurd (let no : false ≡ true = k in cc)) (with_page_had c.in_ok-take_page.ensures c.in-Ok.ensures))
 
 pub returns-in-Err-clause-goes : goal.returns-in-Err-clause-goes
 returns-in-Err-clause-goes g c =
@@ -92,4 +107,4 @@ returns-in-Err-clause-goes g c =
     let change : is_change (Opens name c.args.flags) ≡ true = or_first _ (empties c.args.flags) making in
     let looked = c.in_ok-id-2.ensures in
     let told = looked_back (λ h image. Prepares h image (Ok c.in_ok-id-2.id)) found.looks looked.told in
-    rw c.failed_as.ensures (λ into. goes_broken (Opens name c.args.flags) (Number c.in_ok-fd.fd) (opens_built name c.args.flags keeps) change fine (opened_step name c.args.flags fine keeps c.in_ok-fd.fd c.in_ok-fd.ensures.told c.in_ok-id-2.id making (λ tells tidy. rw none at (found.told tells tidy)) told) (looks_then found.looks looked.looks) c.requires.fresh c.in-Err.why refl c.in-Err.ensures)
+    rw c.failed_as.ensures (λ into. goes_broken (Opens name c.args.flags) (Number c.in_ok-fd.fd) (opens_built name c.args.flags keeps) change fine (opened_step name c.args.flags fine keeps c.in_ok-fd.fd c.in_ok-fd.ensures.told c.in_ok-id-2.id (λ tells tidy. rw none at (found.told tells tidy)) told) (looks_then found.looks looked.looks) c.requires.fresh c.in-Err.why refl (with_page_had c.in_ok-take_page.ensures c.in-Err.ensures))

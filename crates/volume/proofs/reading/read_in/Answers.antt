@@ -1,4 +1,4 @@
-use Rattle.std.proofs.Common.{◌≡◌, ◌≤◌, ◌+◌, ℕ, List, length, true, false, refl, ◌∙◌, ap, inl, arith, subst, take, drop, bit_and}
+use Rattle.std.proofs.Common.{◌≡◌, ◌≤◌, ◌+◌, ℕ, List, length, true, false, refl, ◌∙◌, ap, arith, subst, take, drop, bit_and}
 use Rattle.std.proofs.lemmas.Result.{err_from_is_err_and}
 use Rattle.std.proofs.lemmas.List.{length-take, length-take-le, take-append-le}
 use Rattle.table_model.specs.declared.error.FsErr.TheVariants.{NotReadable}
@@ -27,7 +27,7 @@ pub returns-then-slot-eq0-clause-goes : goal.returns-then-slot-eq0-clause-goes
 returns-then-slot-eq0-clause-goes g c =
     let never : may_read c.in_ok-slot.slot.flags ≡ false = is_clear (bit_and c.in_ok-slot.slot.flags 8) c.if-slot-eq0.true in
     goes_refused {T = Unit {0}} (Reads c.args.fd c.args.count) NotReadable c.args.v.now.wrote c.requires.fresh (reads_none c.args.v.now.nor.now) refl refl refl (λ e. absurd (cc))
-    (λ s here no_fault. inl (λ e. cc, read_refused c.args.fd c.in_ok-slot.slot c.in_ok-slot.ensures.found c.args.count never s here))
+    (λ s here no_fault. read_refused c.args.fd c.in_ok-slot.slot c.in_ok-slot.ensures.found c.args.count never s here)
 
 pub returns-in-Ok-clause-goes : goal.returns-in-Ok-clause-goes
 returns-in-Ok-clause-goes g c =

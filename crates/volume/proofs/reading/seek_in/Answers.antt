@@ -1,4 +1,4 @@
-use Rattle.std.proofs.Common.{◌≡◌, true, false, refl, ◌∙◌, ap, Some, None, Err, inl, w64}
+use Rattle.std.proofs.Common.{◌≡◌, true, false, refl, ◌∙◌, ap, Some, None, Err, w64}
 use Rattle.std.specs.Prelude.{pos, ◌+ℤ◌}
 use Rattle.std.proofs.lemmas.Result.{err_from_is_err_and}
 use Rattle.std.proofs.lemmas.Int.{to_z-of_z}
@@ -33,7 +33,7 @@ returns-in_default-clause-goes g c =
     let looked = c.in_ok-size.ensures in
     let place : None ≡ place_within c.in_ok-size.field-0.size (pos c.base_of.result +ℤ c.args.offset) = rw (to_z-of_z w64 c.args.offset c.ranges.offset) at c.in_default.ensures in
     λ into. goes_refused {T = Unit {0}} (Seeks c.args.fd c.args.offset c.args.from) SeekBounds c.record_of.new.v.wrote (looked.looks.wrote ∙ c.requires.fresh) looked.looks.reads refl refl refl (λ e. absurd (cc))
-    (λ s here no_fault. inl (λ e. cc, seek_stays c.args.fd c.in_ok-slot.slot c.in_ok-slot.ensures.found c.args.offset c.args.from c.in_ok-size.field-0 c.base_of.result looked.told c.base_of.ensures place s here))
+    (λ s here no_fault. seek_stays c.args.fd c.in_ok-slot.slot c.in_ok-slot.ensures.found c.args.offset c.args.from c.in_ok-size.field-0 c.base_of.result looked.told c.base_of.ensures place s here)
 
 pub returns-clause-goes : goal.returns-clause-goes
 returns-clause-goes g c =

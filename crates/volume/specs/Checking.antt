@@ -1,0 +1,74 @@
+-- What the whole check of a mounted volume does.
+use Rattle.std.specs.Prelude.{◌≡◌, ◌≢◌, ℕ, ◌⊎◌, List, length, nat_lt, None}
+use Rattle.geometry.specs.declared.geometry.Geometry.{Geometry}
+use Rattle.image_model.specs.Tables.{table_of, damaged_of}
+use Rattle.image_model.specs.Tidy.{IsTidy, HasReserve, free_blocks}
+use Rattle.image_model.specs.Kinds.{spoiled_blocks}
+use Rattle.image_model.specs.Killed.{killed_of}
+use Rattle.image_model.specs.Collect.{chosen_block}
+use Rattle.image_model.specs.Sound.{Keeps}
+use Rattle.room_laws.specs.Mends.{CanMend}
+use Rattle.flash_view.specs.declared.kinds.StepErr.{StepErr}
+use Rattle.flash_view.specs.declared.kinds.StepErr.TheVariants.{DeviceFault as StepFault, Damaged as StepDamaged}
+use Rattle.flash_view.specs.Steps.{Step, Errors}
+use Rattle.vol_check.specs.declared.report.CheckErr.{CheckErr}
+use Rattle.vol_check.specs.declared.report.CheckErr.TheVariants.{DeviceFault, Damaged}
+use Rattle.vol_check.specs.declared.report.Report.{Report}
+
+-- A cut in a check keeps the image, and two free blocks that were there are there.
+pub record CheckCut (g : Geometry) (was image : List ℕ) : Type 0 where
+  pub keeps : Keeps g was image
+  pub reserve : HasReserve g was → HasReserve g image
+
+-- What a check leaves: the image is tidy with its table, and the report tells what was found and done, and how many blocks are free now.
+-- Two free blocks that were there are there; and two are free, or no block that is worth cleaning can be cleaned.
+pub record CheckDone (g : Geometry) (was now : List ℕ) (report : Report) : Type 0 where
+  pub tidy : IsTidy g now
+  pub table : table_of g now ≡ table_of g was
+  pub erased : report.erased ≡ nat_lt 0 (spoiled_blocks g was)
+  pub killed : report.killed ≡ killed_of g was
+  pub damaged : report.damaged ≡ length (damaged_of g was)
+  pub free : report.free_blocks ≡ free_blocks g now
+  pub kept : HasReserve g was → HasReserve g now
+  pub stopped : HasReserve g now ⊎ (chosen_block g now ≡ None)
+
+-- where a check tells of a page that reads otherwise, what was wanted there and what was found differ
+abbrev pub IsApart : CheckErr → Type 0
+IsApart (Damaged d) = d.wanted ≢ d.found
+IsApart why = Unit {0}
+
+-- it tells of no such page
+abbrev pub IsUndamaged : CheckErr → Type 0
+IsUndamaged (Damaged d) = ⊥
+IsUndamaged why = Unit {0}
+
+-- ---- the cleaning
+
+-- how the cleaning failed, as a check tells it
+abbrev pub as_check_err : StepErr → CheckErr
+as_check_err StepFault = DeviceFault
+as_check_err (StepDamaged d) = Damaged d
+
+-- why the cleaning is not done: the device failed, or a page reads otherwise
+abbrev pub MayStop : CheckErr → Type 0
+MayStop DeviceFault = Unit {0}
+MayStop (Damaged d) = d.wanted ≢ d.found
+MayStop why = ⊥
+
+abbrev pub check_stopped : Errors CheckErr
+check_stopped = record { fault = DeviceFault; means = MayStop; told = tt }
+
+-- What the cleaning leaves: a tidy image with the table, and two free blocks, or no block that is chosen; where the image mends, two.
+pub record Cleared (g : Geometry) (was now : List ℕ) : Type 0 where
+  pub tidy : IsTidy g now
+  pub table : table_of g now ≡ table_of g was
+  pub stopped : HasReserve g now ⊎ (chosen_block g now ≡ None)
+  pub mended : CanMend g was → HasReserve g now
+
+-- ---- the steps: the cleaning, and the free blocks are counted after it
+
+abbrev pub sweeping : Step (Unit {0})
+sweeping = record { needs = IsTidy; cut = Keeps; done = λ g was now ok. Cleared g was now }
+
+abbrev pub clearing : Step ℕ
+clearing = record { needs = IsTidy; cut = Keeps; done = λ g was now free. Cleared g was now × (free ≡ free_blocks g now) }

@@ -1,0 +1,51 @@
+-- Steps that collect garbage in a call.
+use Rattle.std.specs.Prelude.{◌≢◌, ℕ, List, Bool, true, false}
+use Rattle.geometry.specs.declared.geometry.Geometry.{Geometry}
+use Rattle.table_model.specs.declared.error.FsErr.{FsErr}
+use Rattle.table_model.specs.declared.error.FsErr.TheVariants.{Tight, DeviceFault, Damaged}
+use Rattle.image_model.specs.Tidy.{IsTidy, HasReserve}
+use Rattle.image_model.specs.Sound.{Keeps}
+use Rattle.room_laws.specs.Stopping.{HasRoomFor}
+use Rattle.room_laws.specs.Recovery.{Recovers}
+use Rattle.block_gc.specs.RoomMade.{MadeRoom, IsCompact, IsStuck}
+use Rattle.flash_view.specs.Steps.{Step, Errors}
+
+-- Why a step of a call is not done: the device failed, there is too little room, or a page reads otherwise than it was written, which two
+-- tags that differ tell.
+abbrev pub MayStop : FsErr → Type 0
+MayStop DeviceFault = Unit {0}
+MayStop Tight = Unit {0}
+MayStop (Damaged d) = d.wanted ≢ d.found
+MayStop why = ⊥
+
+abbrev pub refusing : Errors FsErr
+refusing = record { fault = DeviceFault; means = MayStop; told = tt }
+
+-- A cut in a collection keeps the image, and where two blocks were free it recovers.
+pub record RoomCut (g : Geometry) (was image : List ℕ) : Type 0 where
+  pub keeps : Keeps g was image
+  pub mends : HasReserve g was → Recovers g image
+
+-- An index page can be had for a call: the image is tidy with its reserve, and has room for the page.
+pub record CanTakePage (g : Geometry) (image : List ℕ) : Type 0 where
+  pub tidy : IsTidy g image
+  pub reserve : HasReserve g image
+  pub room : HasRoomFor g image 1 0
+
+-- Collection is stuck, which needs that fewer than two blocks were free.
+pub record IsStuckAt (g : Geometry) (was now : List ℕ) : Type 0 where
+  pub stuck : IsStuck g was now
+  pub short : HasReserve g was → ⊥
+
+-- all is packed, or collection is stuck
+abbrev pub PackedOrStuck : Geometry → Bool → (was now : List ℕ) → Type 0
+PackedOrStuck g true was now = IsStuckAt g was now
+PackedOrStuck g false was now = IsCompact g was now
+
+-- ---- the steps: an index page is had and two blocks are free, and all is packed or collection is stuck
+
+abbrev pub taking_page : Step (Unit {0})
+taking_page = record { needs = CanTakePage; cut = RoomCut; done = λ g was now ok. MadeRoom g 1 0 was now }
+
+abbrev pub packing : Step Bool
+packing = record { needs = IsTidy; cut = RoomCut; done = λ g was now stuck. PackedOrStuck g stuck was now }

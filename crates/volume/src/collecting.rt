@@ -1,0 +1,51 @@
+// Collecting garbage in calls.
+ghost use Rattle.std.specs.Prelude.{◌≡◌, ℕ, List, false};
+ghost use Rattle.table_model.specs.Ask.{Collects};
+ghost use Rattle.flash_view.specs.Same.{IsSameView};
+ghost use Rattle.flash_view.specs.Steps.{Stepped, stopped};
+ghost use Rattle.fd_table.specs.declared.slot.FdSlot.{FdSlot};
+ghost use Rattle.volume.specs.Collecting.{refusing, taking_page, packing};
+ghost use Rattle.volume.specs.Replies.{reply_of};
+ghost use Rattle.volume.specs.Goes.{Goes};
+
+use crate::Told;
+use crate::steps::failed_as;
+use block_gc::{RoomErr, compact, make_room};
+use flash_view::{StepErr, View};
+use nor_core::{Nor, NorState};
+use table_model::FsErr;
+
+/// Collects garbage until an index page is had and two blocks are free, and none where that is so already.
+pub(crate) fn take_page<N: Nor>(v: &mut View<'_, N>) -> Result<(), FsErr>
+    ensures { Stepped refusing v.old v.new result taking_page }
+{
+    match make_room(v, 1, 0) {
+        Ok(()) => Ok(()),
+        Err(RoomErr::Tight) => Err(FsErr::Tight),
+        Err(RoomErr::Step(why)) => Err(failed_as(why)),
+    }
+}
+
+// Cleans blocks until none is worth cleaning, and tells whether collection is stuck before that.
+fn pack<N: Nor>(v: &mut View<'_, N>) -> Result<bool, StepErr>
+    ensures { Stepped stopped v.old v.new result packing }
+{
+    match compact(v) {
+        Ok(()) => Ok(false),
+        Err(RoomErr::Tight) => Ok(true),
+        Err(RoomErr::Step(why)) => Err(why),
+    }
+}
+
+/// Collects garbage until no block is worth cleaning.
+pub(crate) fn collect_in<N: Nor>(v: &mut View<'_, N>) -> Result<Told, FsErr>
+    requires fresh { v.old.wrote ≡ false }
+    ensures same { IsSameView v.old v.new }
+    ensures goes { (slots : List FdSlot) (into : List ℕ) → Goes N.NorState v.old.geometry Collects v.old.nor.now v.new.nor.now slots slots v.new.wrote (reply_of result into) }
+{
+    match pack(v) {
+        Ok(false) => Ok(Told::Done),
+        Ok(true) => Err(FsErr::Tight),
+        Err(why) => Err(failed_as(why)),
+    }
+}
