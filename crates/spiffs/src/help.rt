@@ -49,6 +49,7 @@ line; an empty line, or one that begins with `#`, is no call.
   next ID       tells the file with the least id above   ok ID TYPE SIZE NAME
                 ID, if there is one                      ok none
   info          tells how full the volume is             ok files F index I data D usable U
+  gc            cleans each block that is worth it       ok
 
 FLAGS is a sum: 4 makes a missing file, 8 reads, 16 writes, 64 with 4 refuses a
 file that is there; 1 and 32 tell how it writes. In names, and in bytes that
@@ -60,15 +61,15 @@ no such descriptor, -10007 every descriptor is open, -10002 there is no such
 file, -10030 and -10023 the file is there, -10022 the descriptor does not read,
 -10021 it does not write, -11002 the place is not in the file, -11003 fewer than
 two blocks are free, -10001 the volume is full. A call that this build does not
-have (write, fill, truncate, gc, and open with flag 2, which empties the file)
-ends the run with status 16.
+have (write, fill, truncate, and open with flag 2, which empties the file) ends
+the run with status 16.
 
 A list is a line `ID TYPE SIZE NAME` for each file, then for each damaged id
 `damaged ID span S`, `damaged ID name` or `damaged ID same ID2`.
 
 A check is a line `erased E killed K damaged D free F`: blocks that were erased
 for want of their magic, entries that were set to zero, ids that were damaged
-and are gone, and free blocks in the end.
+and are gone, and free blocks in the end, once blocks were cleaned to have two.
 
 Statuses: 0 all was done; 1 usage; 2 numbers or device refused; 3 no volume;
 4 blocks with pages of both kinds; 5 a line outside the grammar; 7 the chip or

@@ -5,7 +5,6 @@ use Rattle.nor_core.specs.declared.state.NorState.{Ghosts as NorOf}
 use Rattle.table_model.specs.Ask.{Ask}
 use Rattle.table_model.specs.Window.{Moment}
 use Rattle.call_script.specs.Lines.{Parsed, Bad, Asks, lines, of_line, calls_of, calls, with_line}
-use Rattle.run_model.specs.Runs.{after_all}
 use Rattle.run_model.specs.Ran.{MayCut}
 use Rattle.run_model.proofs.Chain.{said_wider, wider_cut}
 use Rattle.tool_core.specs.declared.ending.Ending.{Ending}
@@ -62,17 +61,17 @@ module _ {D : Type 0} {nor : NorOf D} {g : Geometry} where
       }
 
   -- why the run ends there
-  why_of : (ending : Ending) (m n : Moment) (a b : At D) (script : List ℕ) → script ≡ a.pending ++ a.left → a.pending ≡ [] → a.taken ≡ 0 → a.handed ≡ 0 → (t : Turned nor g (Some ending) m a b) → WhyHere g n nor b t.tail (Some ending) → WhyEnds g n (nor.bytes b.device) script b.left (calls_of t.done) (calls_of (lines t.tail)) ending
-  why_of Done m n a b script e fresh none first t why = (ap (λ (l : List ℕ). calls_of (lines l)) why.0 ∙ none_left, subst AllGood (sym (lines_split script e t ∙ ap (λ (l : List ℕ). t.done ++ lines l) why.0 ∙ ap (λ (l : List (List ℕ)). t.done ++ l) no_lines ∙ append-nil t.done)) t.good, why.1, omega (arith, t.bytes.0, t.bytes.1, none, ap length fresh, ap length (e ∙ t.rest_is), length-append t.seg t.tail, ap length why.0))
-  why_of (BadLine n) m k a b script e fresh none first t why = (ap calls_of why.lines_are ∙ bad_first why.bad why.others why.is_bad, record { done = t.done; bad = why.bad; others = why.others; lines_are = lines_split script e t ∙ ap (λ (l : List (List ℕ)). t.done ++ l) why.lines_are; good = t.good; is_bad = why.is_bad; number_is = omega (arith, t.number, first) })
-  why_of TooLong m n a b script e fresh none first t why = record { whole = t.seg; rest = b.pending; byte = why.0; left = why.1; taken = taken_of script b.pending (why.0 ∷ why.1) e t (λ more. tt {0}) why.2; count = omega (arith, t.bytes, none, why.3, ap length fresh); calls_are = ap calls_of (done_lines t (λ more. tt {0})) }
-  why_of SourceFault m n a b script e fresh none first t why = record { whole = t.seg; rest = b.pending; taken = taken_of script b.pending b.left e t (λ more. tt {0}) why; calls_are = ap calls_of (done_lines t (λ more. tt {0})) }
-  why_of Unbuilt m n a b script e fresh none first t why = record { ask = why.ask; more = calls_of why.others; later_is = ap calls_of why.lines_are ∙ call_first why.line why.others why.ask why.spells; unbuilt = why.unbuilt }
-  why_of _ m n a b script e fresh none first t why = absurd why
+  why_of : (ending : Ending) (m : Moment) (a b : At D) (script : List ℕ) → script ≡ a.pending ++ a.left → a.pending ≡ [] → a.taken ≡ 0 → a.handed ≡ 0 → (t : Turned nor g (Some ending) m a b) → WhyHere b t.tail (Some ending) → WhyEnds script b.left (calls_of t.done) (calls_of (lines t.tail)) ending
+  why_of Done m a b script e fresh none first t why = (ap (λ (l : List ℕ). calls_of (lines l)) why.0 ∙ none_left, subst AllGood (sym (lines_split script e t ∙ ap (λ (l : List ℕ). t.done ++ lines l) why.0 ∙ ap (λ (l : List (List ℕ)). t.done ++ l) no_lines ∙ append-nil t.done)) t.good, why.1, omega (arith, t.bytes.0, t.bytes.1, none, ap length fresh, ap length (e ∙ t.rest_is), length-append t.seg t.tail, ap length why.0))
+  why_of (BadLine n) m a b script e fresh none first t why = (ap calls_of why.lines_are ∙ bad_first why.bad why.others why.is_bad, record { done = t.done; bad = why.bad; others = why.others; lines_are = lines_split script e t ∙ ap (λ (l : List (List ℕ)). t.done ++ l) why.lines_are; good = t.good; is_bad = why.is_bad; number_is = omega (arith, t.number, first) })
+  why_of TooLong m a b script e fresh none first t why = record { whole = t.seg; rest = b.pending; byte = why.0; left = why.1; taken = taken_of script b.pending (why.0 ∷ why.1) e t (λ more. tt {0}) why.2; count = omega (arith, t.bytes, none, why.3, ap length fresh); calls_are = ap calls_of (done_lines t (λ more. tt {0})) }
+  why_of SourceFault m a b script e fresh none first t why = record { whole = t.seg; rest = b.pending; taken = taken_of script b.pending b.left e t (λ more. tt {0}) why; calls_are = ap calls_of (done_lines t (λ more. tt {0})) }
+  why_of Unbuilt m a b script e fresh none first t why = record { ask = why.ask; more = calls_of why.others; later_is = ap calls_of why.lines_are ∙ call_first why.line why.others why.ask why.spells; unbuilt = why.unbuilt }
+  why_of _ m a b script e fresh none first t why = absurd why
 
   -- how a run of turns ends that began with its script's first byte
   pub run_ends : (ending : Ending) (m : Moment) (a b : At D) (script : List ℕ) → script ≡ a.pending ++ a.left → a.pending ≡ [] → a.taken ≡ 0 → a.handed ≡ 0 → Turned nor g (Some ending) m a b → RunEnds nor g a.device b.device a.memory b.memory m script b.left ending
   run_ends ending m a b script e fresh none first t = ⊎_elim
       (λ broken. inl (let same : Some ending ≡ Some BoardFault = broken.0 in cc, same_said g m (calls_of t.done ++ calls_of (lines t.tail)) (calls script) (calls_split script e t) (said_wider g m (calls_of t.done) (calls_of (lines t.tail)) broken.1), run_cut script e t))
-      (λ here. inr (record { front = calls_of t.done; later = calls_of (lines t.tail); asks_are = calls_split script e t; reached = here.0; leaves = t.leaves; why = why_of ending m (after_all g m (calls_of t.done)) a b script e fresh none first t here.1 }))
+      (λ here. inr (record { front = calls_of t.done; later = calls_of (lines t.tail); asks_are = calls_split script e t; reached = here.0; leaves = t.leaves; why = why_of ending m a b script e fresh none first t here.1 }))
       t.stops

@@ -156,7 +156,7 @@ module _ {D : Type 0} {nor : NorOf D} {g : Geometry} where
       }))
       (next m (begun_stands m r))
 
-  early_came : {old mid : D} (slots : ℕ) (script left : List ℕ) (ending : Ending) → Changes nor old mid (Checks g) → nor.tells old → table_of g (nor.bytes mid) ≡ table_of g (nor.bytes old) → WhyRan g (after_all g (first_moment g slots (nor.bytes old)) []) (nor.bytes old) (nor.bytes mid) script left [] (calls script) ending → RunsTo nor g old mid (first_moment g slots (nor.bytes old)) script left ending
+  early_came : {old mid : D} (slots : ℕ) (script left : List ℕ) (ending : Ending) → Changes nor old mid (Checks g) → nor.tells old → table_of g (nor.bytes mid) ≡ table_of g (nor.bytes old) → WhyRan g (nor.bytes old) (nor.bytes mid) script left [] (calls script) ending → RunsTo nor g old mid (first_moment g slots (nor.bytes old)) script left ending
   early_came {old} {mid} slots script left ending changes tells same why = inr (record {
     front = [];
     later = calls script;
@@ -208,6 +208,7 @@ module _ {D : Type 0} (nor : NorOf D) (g : Geometry) where
   tight_stops {old} {new} report reported less = inr (inr (record {
     takes = reported.takes;
     tight = tight_some g (nor.bytes new) report.free_blocks reported.done.free less;
+    recovers_not = λ recovers. let enough = reported.mends recovers in omega (arith, enough, reported.done.free, less);
   }))
 
   -- the same device by another name

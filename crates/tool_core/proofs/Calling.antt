@@ -1,6 +1,5 @@
 -- One call of a volume as a step of a run.
-use Rattle.std.proofs.Common.{◌≡◌, ◌≤◌, ℕ, List, length, refl, ◌∙◌, ap, subst, arith, inl, inr, ⊎_elim, true, false, None, Some, Err, Ok}
-use Rattle.std.proofs.lemmas.Bool.{cases_Bool}
+use Rattle.std.proofs.Common.{◌≡◌, ◌≤◌, ℕ, List, length, refl, ◌∙◌, ap, arith, ⊎_elim, true, false, None, Some, Err, Ok}
 use Rattle.nor_core.specs.declared.state.NorState.{Ghosts as NorOf}
 use Rattle.nor_core.specs.Device.{Changes}
 use Rattle.nor_core.proofs.Cuts.{wider}
@@ -16,7 +15,6 @@ use Rattle.call_script.specs.Pieces.{IsShort}
 use Rattle.run_model.specs.Ran.{RunPublishes}
 use Rattle.run_model.proofs.OneCall.{run_publishes, run_answers}
 use Rattle.volume.specs.declared.volume.Volume.{Volume}
-use Rattle.volume.specs.Built.{is_built}
 use Rattle.volume.specs.Holds.{memory}
 use Rattle.volume.specs.Opening.{is_open}
 use Rattle.volume.specs.Stages.{takes_calls}
@@ -57,7 +55,7 @@ module _ {N : Type 0} {nor : NorOf N} where
   pub does_answer : {old new : Volume N nor} {ask : Ask} {lent : List ℕ} (told : Told) → takes_calls old ≡ true → Calls ask old new (shown_by told lent) → ¬ (shown_by told lent ≡ Refuses DeviceFault) → ¬ (shown_by told lent ≡ Refuses FsUnbuilt) → DoesCall nor old.geometry old.nor.now new.nor.now (memory old) (memory new) ask (Ok told) lent
   does_answer told takes calls fault unbuilt = record {
     changes = changes_of calls;
-    answers = λ m stands. run_answers stands (calls.answers m takes stands.stands fault unbuilt);
+    answers = λ m stands. run_answers stands (calls.answers m takes stands.stands fault unbuilt (λ short. ((calls.collects m takes stands.stands short.collects).stuck short.tight).short stands.reserve));
     stops = λ m stands. tt {0};
   }
 
@@ -69,15 +67,12 @@ module _ {N : Type 0} {nor : NorOf N} where
   pub does_damage : {old new : Volume N nor} {ask : Ask} {lent : List ℕ} (d : Differ) → Calls ask old new (Refuses (Damaged d)) → DoesCall nor old.geometry old.nor.now new.nor.now (memory old) (memory new) ask (Err (EndsDiffer d)) lent
   does_damage d calls = record { changes = changes_of calls; answers = λ m stands. tt {0}; stops = λ m stands. absurd (calls.undamaged m stands.stands d refl) }
 
-  -- this build can't do it
+  -- this build doesn't have it
   pub does_unbuilt : {old new : Volume N nor} {ask : Ask} {lent : List ℕ} → takes_calls old ≡ true → Calls ask old new (Refuses FsUnbuilt) → DoesCall nor old.geometry old.nor.now new.nor.now (memory old) (memory new) ask (Err Unbuilt) lent
   does_unbuilt {old} {new} {ask} takes calls = record {
     changes = changes_of calls;
     answers = λ m stands. tt {0};
-    stops = λ m stands. ⊎_elim
-        (λ built. let lacks = calls.lacks m takes built stands.stands refl in record { unbuilt = inr lacks.0; reads = lacks.1.reads; memory = memory_of lacks.1 })
-        (λ none. let stays = (calls.unbuilt takes none).1 in record { unbuilt = inl none; reads = stays.reads; memory = memory_of stays })
-        (cases_Bool (is_built ask));
+    stops = λ m stands. let none = calls.unbuilt_only takes refl in let stays = (calls.unbuilt takes none).1 in record { unbuilt = none; reads = stays.reads; memory = memory_of stays };
   }
 
   -- whether it takes calls after one that told no fault

@@ -9,7 +9,7 @@ use Rattle.nor_core.proofs.Cuts.{andthen, widened}
 use Rattle.image_model.specs.Tables.{damaged_of}
 use Rattle.image_model.specs.Tidy.{free_blocks}
 use Rattle.vol_check.specs.declared.report.Report.{Report}
-use Rattle.vol_check.specs.Checks.{Checked}
+use Rattle.volume.specs.Checking.{CheckDone}
 use Rattle.tool_core.specs.declared.ending.Ending.{Ending}
 use Rattle.tool_core.specs.declared.ending.Ending.TheVariants.{BoardFault}
 use Rattle.tool_core.specs.Mounting.{Checks, Reported, StopsCheck}
@@ -40,7 +40,7 @@ nothing_else said first tail some e =
     omega (arith, l, m, some)
 
 -- the line of a report is that of the images
-line_of : (g : Geometry) (was now : List ℕ) (report : Report) → Checked g was now report → report_text report.erased report.killed report.damaged report.free_blocks ≡ check_text g was now
+line_of : (g : Geometry) (was now : List ℕ) (report : Report) → CheckDone g was now report → report_text report.erased report.killed report.damaged report.free_blocks ≡ check_text g was now
 line_of g was now report done = same_line _ _ _ _ _ _ _ _ done.erased done.killed done.damaged done.free
 
 -- the line of a report
@@ -74,6 +74,7 @@ module _ {D : Type 0} {nor : NorOf D} {g : Geometry} where
     kept = λ tells is. ⊎_elim (λ fault. absurd (no_fault g (nor.bytes old) ending is fault)) (λ refused. writes_none refused.reads) (stops tells);
     leaves = changes.now;
     tidy = λ tells. untidy changes;
+    mends = λ tells may. ⊎_elim (λ fault. inl fault) (λ refused. absurd (not_both may.takes refused.refusal)) (stops tells);
   }
 
   -- a cut in a check that said the line of its report, or a front of it
@@ -109,6 +110,7 @@ module _ {D : Type 0} {nor : NorOf D} {g : Geometry} where
     kept = λ tells is. absurd (not_both (done tells).takes is);
     leaves = λ tells. subst (λ (l : List ℕ). Checks g (nor.bytes old) l) (sym says.bytes) (changes.now tells);
     tidy = λ tells tail e. (reported_said report says (done tells)).done.tidy;
+    mends = λ tells may. inr ((reported_said report says (done tells)).mends may.recovers);
   }
 
   -- a check that said its report

@@ -1,5 +1,5 @@
 -- What a check leaves and says with its closing line.
-use Rattle.std.proofs.Common.{◌≡◌, ℕ, List, [], ◌∷◌, ◌++◌, length, take, refl, sym, ◌∙◌, ap, subst, arith, ⊎_elim, append-nil, length-append, Option, Some}
+use Rattle.std.proofs.Common.{◌≡◌, ℕ, List, [], ◌∷◌, ◌++◌, length, take, refl, sym, ◌∙◌, ap, subst, arith, inl, inr, ⊎_elim, append-nil, length-append, Option, Some}
 use Rattle.std.specs.Prelude.{unwrap_or}
 use Rattle.geometry.specs.declared.geometry.Geometry.{Geometry}
 use Rattle.nor_core.specs.declared.state.NorState.{Ghosts as NorOf}
@@ -10,7 +10,7 @@ use Rattle.image_model.specs.Tables.{damaged_of}
 use Rattle.image_model.specs.Tidy.{IsTidy, free_blocks}
 use Rattle.tool_core.specs.declared.ending.Ending.{Ending}
 use Rattle.tool_core.specs.declared.ending.Ending.TheVariants.{BoardFault}
-use Rattle.tool_core.specs.Closing.{closing_line_of}
+use Rattle.tool_core.specs.Closing.{status_of, closing_line_of}
 use Rattle.tool_core.specs.Mounting.{Checks}
 use Rattle.tool_core.specs.Endings.{OnlyCloses, Concludes}
 use Rattle.tool_core.specs.Reads.{ReadsOnce}
@@ -19,8 +19,8 @@ use Rattle.tool_core.specs.Checking.{check_text, reported_text, IsTidyOnceSaid, 
 use Rattle.tool_core.proofs.Mounted.{safe_check, holds_check}
 use Rattle.tool_core.proofs.CheckEnds.{other_first, same_after}
 use Rattle.tool_core.proofs.Reading.{reads_said}
-use Rattle.tool_core.proofs.Refusals.{option_cases, refusal_line}
-use Rattle.tool_core.proofs.Speaking.{concludes, within, by_result, none_closed}
+use Rattle.tool_core.proofs.Refusals.{option_cases, refusal_line, check_not_tight}
+use Rattle.tool_core.proofs.Speaking.{concludes, within, by_result, none_closed, mended_closed}
 
 -- a closing line is no line of a report
 not_closing : (n : ℕ) (said closing first tail : List ℕ) (x y : ℕ) (xs ys : List ℕ) → closing ≡ x ∷ xs → first ++ tail ≡ y ∷ ys → (x ≡ y → ⊥) → said ++ take n closing ≡ said ++ (first ++ tail) → ⊥
@@ -91,6 +91,16 @@ module _ {D : Type 0} {nor : NorOf D} {g : Geometry} where
         table = λ tells. (left tells).table;
         holds = λ tells. holds_check (left tells);
         tidy = tidy_said result status checks closes;
+        mends = λ tells may. mended_closed g result (⊎_elim
+            (λ broken. inl broken)
+            (λ reserve. inr (
+              reserve,
+              λ tight. ⊎_elim
+                  (λ broken. omega (arith, tight, ap status_of broken.0))
+                  (λ said. check_not_tight g (nor.bytes old) (nor.bytes mid) may.takes reserve (sym (ap status_of said.0) ∙ tight))
+                  (checks.speaks tells),
+            ))
+            (checks.mends tells may)) closes;
         kept = λ tells ending refused fine.
             let is : result ≡ ending = by_result (checks.speaks tells) closes fine ∙ ap (λ (o : Option Ending). unwrap_or o (report_ending (length (damaged_of g (nor.bytes old))) (free_blocks g (nor.bytes mid)))) refused in
             none_closed (checks.kept tells (refused ∙ ap (λ (e : Ending). Some e) (sym is))) closes;

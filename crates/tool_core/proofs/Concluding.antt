@@ -59,7 +59,7 @@ module _ {D : Type 0} {nor : NorOf D} {g : Geometry} where
         front = came.front;
         later = came.later;
         asks_are = came.asks_are;
-        why = subst (λ (l : List ℕ). WhyRan g (after_all g m came.front) (nor.bytes old) l script left came.front came.later ending) (sym closes.says.bytes) came.why;
+        why = subst (λ (l : List ℕ). WhyRan g (nor.bytes old) l script left came.front came.later ending) (sym closes.says.bytes) came.why;
         whole = λ fine. closes.whole came.tells fine ∙ ap (λ (l : List ℕ). l ++ closing_line_of ending) came.said ∙ append_assoc (nor.said old) (replies g m came.front) (closing_line_of ending);
         part = take closes.says.said.0 (closing_line_of ending);
         rest = drop closes.says.said.0 (closing_line_of ending);

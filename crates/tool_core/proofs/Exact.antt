@@ -29,12 +29,12 @@ bad_not_good script n bad good = good_has_no_bad bad.done bad.bad bad.others (su
 not_too_long : (script : List ℕ) (front : List Ask) → length script ≤ 16777216 → IsTooLong script front → ⊥
 not_too_long script front few long = omega (arith, few, long.count, ap length long.taken.script_is, length-append long.whole (long.rest ++ (long.byte ∷ long.left)), length-append long.rest (long.byte ∷ long.left))
 
-module _ (g : Geometry) (m : Moment) (image script left : List ℕ) (front later : List Ask) where
+module _ (script left : List ℕ) (front later : List Ask) where
   -- why it ended that did not end for its images
-  why_ends : (first : List ℕ) (ending : Ending) → begin_refusal g first image ≡ None → WhyRan g m first image script left front later ending → WhyEnds g m image script left front later ending
-  why_ends first ending takes why = ⊎_elim (λ early. absurd (not_both takes early.1)) (λ ran. ran.1) why
+  why_ends : (g : Geometry) (first image : List ℕ) (ending : Ending) → begin_refusal g first image ≡ None → WhyRan g first image script left front later ending → WhyEnds script left front later ending
+  why_ends g first image ending takes why = ⊎_elim (λ early. absurd (not_both takes early.1)) (λ ran. ran.1) why
 
-  whole_status : (ending : Ending) (status : ℕ) → WhyEnds g m image script left front later ending → status ≡ status_of ending → length script ≤ 16777216 → status ≢ 16 → status ≢ 8 → AllGood (lines script) → status ≡ 0
+  whole_status : (ending : Ending) (status : ℕ) → WhyEnds script left front later ending → status ≡ status_of ending → length script ≤ 16777216 → status ≢ 16 → status ≢ 8 → AllGood (lines script) → status ≡ 0
   whole_status Done status why is few lacks read good = is
   whole_status Unbuilt status why is few lacks read good = absurd (lacks is)
   whole_status (BadLine n) status why is few lacks read good = absurd (bad_not_good script n why.1 good)
@@ -42,7 +42,7 @@ module _ (g : Geometry) (m : Moment) (image script left : List ℕ) (front later
   whole_status SourceFault status why is few lacks read good = absurd (read is)
   whole_status _ status why is few lacks read good = absurd why
 
-  long_status : (ending : Ending) (status : ℕ) → WhyEnds g m image script left front later ending → status ≡ status_of ending → 16777216 < length script → status ≢ 16 → status ≢ 8 → AllGood (lines script) → status ≡ 11
+  long_status : (ending : Ending) (status : ℕ) → WhyEnds script left front later ending → status ≡ status_of ending → 16777216 < length script → status ≢ 16 → status ≢ 8 → AllGood (lines script) → status ≡ 11
   long_status Done status why is long lacks read good = absurd (omega (arith, why.3, long))
   long_status Unbuilt status why is long lacks read good = absurd (lacks is)
   long_status (BadLine n) status why is long lacks read good = absurd (bad_not_good script n why.1 good)
@@ -50,7 +50,7 @@ module _ (g : Geometry) (m : Moment) (image script left : List ℕ) (front later
   long_status SourceFault status why is long lacks read good = absurd (read is)
   long_status _ status why is long lacks read good = absurd why
 
-  bad_status : (ending : Ending) (status : ℕ) → WhyEnds g m image script left front later ending → status ≡ status_of ending → length script ≤ 16777216 → status ≢ 16 → status ≢ 8 → (n : ℕ) → HasBad script n → status ≡ 5
+  bad_status : (ending : Ending) (status : ℕ) → WhyEnds script left front later ending → status ≡ status_of ending → length script ≤ 16777216 → status ≢ 16 → status ≢ 8 → (n : ℕ) → HasBad script n → status ≡ 5
   bad_status Done status why is few lacks read n bad = absurd (bad_not_good script n bad why.1)
   bad_status Unbuilt status why is few lacks read n bad = absurd (lacks is)
   bad_status (BadLine k) status why is few lacks read n bad = is
@@ -64,31 +64,31 @@ begins_as {D} {nor} g first {mid} {new} result status fine ends closes =
     let is : status ≡ status_of result = ⊎_elim (λ told. told) (λ fault. absurd (fine fault.0)) closes.ends in
     subst (λ (l : List ℕ). BeginsAs (begin_refusal g first l) status) (sym closes.says.bytes) (⊎_elim
     (λ fault. absurd (fine (is ∙ ap status_of fault)))
-    (λ images. ⊎_elim (λ early. rw early is) (λ script. rw script.0 (subst IsOfScript (sym is) script.1)) images)
+    (λ images. ⊎_elim (λ early. rw early.refusal is) (λ script. rw script.0 (subst IsOfScript (sym is) script.1)) images)
     ends)
+
+unbuilt_of : (ending : Ending) (script left : List ℕ) (front later : List Ask) → calls script ≡ front ++ later → WhyEnds script left front later ending → status_of ending ≡ 16 → HasUnbuilt script
+unbuilt_of Unbuilt script left front later asks_are why is = record { front = front; later = later; asks_are = asks_are; unbuilt = why }
+unbuilt_of Done script left front later asks_are why is = absurd (omega (arith, is))
+unbuilt_of (BadLine n) script left front later asks_are why is = absurd (omega (arith, is))
+unbuilt_of TooLong script left front later asks_are why is = absurd (omega (arith, is))
+unbuilt_of SourceFault script left front later asks_are why is = absurd (omega (arith, is))
+unbuilt_of _ script left front later asks_are why is = absurd why
 
 module _ {D : Type 0} {nor : NorOf D} {g : Geometry} where
   -- a run that didn't end in a fault has the status of its ending
   by_ending : {old new : D} {m : Moment} {script left : List ℕ} {status : ℕ} (Q : Type 0) → (status ≢ 7) → Outcome nor g old new m script left status → ((c : Closes nor g old new m script left status) → status ≡ status_of c.ending → Q) → Q
   by_ending Q fine outcome then = ⊎_elim (λ broken. absurd (fine broken.status_is)) (λ c. ⊎_elim (λ told. then c told) (λ fault. absurd (fine fault.0)) c.ends) outcome
 
-  unbuilt_of : {new : D} (ending : Ending) (m : Moment) (script left : List ℕ) (front later : List Ask) → calls script ≡ front ++ later → WhyEnds g (after_all g m front) (nor.bytes new) script left front later ending → status_of ending ≡ 16 → HasUnbuilt nor g new m script
-  unbuilt_of Unbuilt m script left front later asks_are why is = record { front = front; later = later; asks_are = asks_are; unbuilt = why }
-  unbuilt_of Done m script left front later asks_are why is = absurd (omega (arith, is))
-  unbuilt_of (BadLine n) m script left front later asks_are why is = absurd (omega (arith, is))
-  unbuilt_of TooLong m script left front later asks_are why is = absurd (omega (arith, is))
-  unbuilt_of SourceFault m script left front later asks_are why is = absurd (omega (arith, is))
-  unbuilt_of _ m script left front later asks_are why is = absurd why
-
-  pub complete_of : {old new : D} {m : Moment} {script left : List ℕ} {status : ℕ} → (status ≢ 7) → (status ≢ 8) → begin_refusal g (nor.bytes old) (nor.bytes new) ≡ None → Outcome nor g old new m script left status → IsComplete nor g new m script status
+  pub complete_of : {old new : D} {m : Moment} {script left : List ℕ} {status : ℕ} → (status ≢ 7) → (status ≢ 8) → begin_refusal g (nor.bytes old) (nor.bytes new) ≡ None → Outcome nor g old new m script left status → IsComplete script status
   complete_of {old} {new} {m} {script} {left} {status} fine read takes outcome = record {
-    done = λ few lacks good. by_ending (status ≡ 0) fine outcome (λ c is. whole_status g (after_all g m c.front) (nor.bytes new) script left c.front c.later c.ending status (why_ends g (after_all g m c.front) (nor.bytes new) script left c.front c.later (nor.bytes old) c.ending takes c.why) is few lacks read good);
-    long = λ long lacks good. by_ending (status ≡ 11) fine outcome (λ c is. long_status g (after_all g m c.front) (nor.bytes new) script left c.front c.later c.ending status (why_ends g (after_all g m c.front) (nor.bytes new) script left c.front c.later (nor.bytes old) c.ending takes c.why) is long lacks read good);
-    bad_line = λ few lacks n bad. by_ending (status ≡ 5) fine outcome (λ c is. bad_status g (after_all g m c.front) (nor.bytes new) script left c.front c.later c.ending status (why_ends g (after_all g m c.front) (nor.bytes new) script left c.front c.later (nor.bytes old) c.ending takes c.why) is few lacks read n bad);
-    unbuilt = λ sixteen. by_ending (HasUnbuilt nor g new m script) fine outcome (λ c is. unbuilt_of c.ending m script left c.front c.later c.asks_are (why_ends g (after_all g m c.front) (nor.bytes new) script left c.front c.later (nor.bytes old) c.ending takes c.why) (sym is ∙ sixteen));
+    done = λ few lacks good. by_ending (status ≡ 0) fine outcome (λ c is. whole_status script left c.front c.later c.ending status (why_ends script left c.front c.later g (nor.bytes old) (nor.bytes new) c.ending takes c.why) is few lacks read good);
+    long = λ long lacks good. by_ending (status ≡ 11) fine outcome (λ c is. long_status script left c.front c.later c.ending status (why_ends script left c.front c.later g (nor.bytes old) (nor.bytes new) c.ending takes c.why) is long lacks read good);
+    bad_line = λ few lacks n bad. by_ending (status ≡ 5) fine outcome (λ c is. bad_status script left c.front c.later c.ending status (why_ends script left c.front c.later g (nor.bytes old) (nor.bytes new) c.ending takes c.why) is few lacks read n bad);
+    unbuilt = λ sixteen. by_ending (HasUnbuilt script) fine outcome (λ c is. unbuilt_of c.ending script left c.front c.later c.asks_are (why_ends script left c.front c.later g (nor.bytes old) (nor.bytes new) c.ending takes c.why) (sym is ∙ sixteen));
   }
 
-  whole_of : {old new : D} (ending : Ending) (m : Moment) (script left : List ℕ) (front later : List Ask) → status_of ending ≡ 0 → calls script ≡ front ++ later → WhyEnds g (after_all g m front) (nor.bytes new) script left front later ending → nor.said new ≡ nor.said old ++ (replies g m front ++ closing_line_of ending) → table_of g (nor.bytes new) ≡ (after_all g m front).state.table → RanWhole nor g old new m script left
+  whole_of : {old new : D} (ending : Ending) (m : Moment) (script left : List ℕ) (front later : List Ask) → status_of ending ≡ 0 → calls script ≡ front ++ later → WhyEnds script left front later ending → nor.said new ≡ nor.said old ++ (replies g m front ++ closing_line_of ending) → table_of g (nor.bytes new) ≡ (after_all g m front).state.table → RanWhole nor g old new m script left
   whole_of {old} {new} Done m script left front later is asks_are why said table =
       let all : calls script ≡ front = asks_are ∙ ap (λ (l : List Ask). front ++ l) why.0 ∙ append-nil front in
       record {

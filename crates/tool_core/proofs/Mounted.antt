@@ -5,23 +5,24 @@ use Rattle.nor_core.specs.declared.state.NorState.{Ghosts as NorOf}
 use Rattle.nor_core.specs.Device.{OnlyReads, Changes}
 use Rattle.nor_core.proofs.Cuts.{wider, unchanged, read_after, after_reads, reads_then}
 use Rattle.image_model.specs.Kinds.{spoiled_blocks, mixed_blocks}
+use Rattle.room_laws.specs.Recovery.{Recovers}
 use Rattle.call_model.specs.Safe.{IsSafe, Holds}
 use Rattle.call_model.proofs.Safety.{safe_as}
 use Rattle.vol_mount.specs.declared.lent.MountErr.{MountErr}
 use Rattle.vol_mount.specs.declared.lent.MountErr.TheVariants.{NotAFs as MountNotAFs, DeviceFault as MountFault}
 use Rattle.vol_mount.specs.Mounts.{IsLate, CountsSpoiled}
 use Rattle.vol_check.specs.declared.report.CheckErr.{CheckErr}
-use Rattle.vol_check.specs.declared.report.CheckErr.TheVariants.{Wrong as CheckWrong, Mixed as CheckMixed, DeviceFault as CheckFault}
+use Rattle.vol_check.specs.declared.report.CheckErr.TheVariants.{Wrong as CheckWrong, Mixed as CheckMixed, DeviceFault as CheckFault, Damaged as CheckDamaged}
 use Rattle.vol_check.specs.declared.report.Report.{Report}
-use Rattle.vol_check.specs.Culls.{KeepsAll}
-use Rattle.vol_check.specs.Checks.{IsWritable, IsRefusal, CountsMixed, Checked}
+use Rattle.vol_check.specs.Checks.{IsWritable, IsRefusal, CountsMixed}
+use Rattle.volume.specs.Checking.{CheckCut, CheckDone, IsUndamaged}
 use Rattle.tool_core.specs.Mounting.{Checks, Reported, StopsCheck, mount_ends, check_ends}
 use Rattle.tool_core.specs.Refusals.{check_refusal}
 use Rattle.tool_core.proofs.Refusals.{check_two, check_mixed, check_takes}
 
 -- what the check leaves holds
 pub holds_check : {g : Geometry} {was image : List ℕ} → Checks g was image → Holds g was image
-holds_check here = record { sound = here.sound; reserve = λ reserve. omega (arith, reserve, here.free) }
+holds_check here = record { sound = here.sound; reserve = here.reserve }
 
 -- and a cut in it leaves what is safe
 pub safe_check : {g : Geometry} {was image : List ℕ} → Checks g was image → IsSafe g was image
@@ -29,7 +30,7 @@ safe_check {g} {was} {image} here = safe_as g was image (holds_check here)
 
 -- any image may stay
 checks_itself : {g : Geometry} (image : List ℕ) → Checks g image image
-checks_itself image = record { sound = λ magics. record { magics = magics; mixed = λ block h. h; damaged = λ id h. h }; table = refl; free = omega arith }
+checks_itself image = record { sound = λ magics. record { magics = magics; mixed = λ block h. h; damaged = λ id h. h }; table = refl; reserve = λ reserve. reserve }
 
 -- a volume that wasn't mounted
 pub mount_stops : {D : Type 0} {nor : NorOf D} (g : Geometry) (why : MountErr) {old new : D} → IsLate why → OnlyReads nor old new → CountsSpoiled g (nor.bytes old) why → StopsCheck nor g old new (mount_ends why)
@@ -45,24 +46,32 @@ module _ {D : Type 0} {nor : NorOf D} {g : Geometry} where
       check_takes g (nor.bytes old) few (sym number ∙ none)
 
   -- a volume that was mounted and checked
-  pub was_reported : {old mid new : D} (report : Report) (h : Geometry) → h ≡ g → OnlyReads nor old mid → spoiled_blocks g (nor.bytes old) ≤ 1 → mixed_blocks h (nor.bytes mid) ≡ 0 → Checked h (nor.bytes mid) (nor.bytes new) report → Reported g (nor.bytes old) (nor.bytes new) report
-  was_reported {old} {mid} {new} report h same reads few none done = record {
-    takes = check_taken h same reads few none;
-    done = subst (λ (k : Geometry). Checked k (nor.bytes old) (nor.bytes new) report) same (subst (λ (l : List ℕ). Checked h l (nor.bytes new) report) reads.bytes done);
-  }
+  pub was_reported : {old mid new : D} (report : Report) (h : Geometry) → h ≡ g → OnlyReads nor old mid → spoiled_blocks g (nor.bytes old) ≤ 1 → mixed_blocks h (nor.bytes mid) ≡ 0 → CheckDone h (nor.bytes mid) (nor.bytes new) report →
+      (Recovers h (nor.bytes mid) → 2 ≤ report.free_blocks) → Reported g (nor.bytes old) (nor.bytes new) report
+  was_reported {old} {mid} {new} report h same reads few none done mends =
+      let here : CheckDone g (nor.bytes old) (nor.bytes new) report = subst (λ (k : Geometry). CheckDone k (nor.bytes old) (nor.bytes new) report) same (subst (λ (l : List ℕ). CheckDone h l (nor.bytes new) report) reads.bytes done) in
+      record {
+        takes = check_taken h same reads few none;
+        done = here;
+        mends = λ recovers.
+            let enough = mends (subst (λ (l : List ℕ). Recovers h l) (sym reads.bytes) (subst (λ (k : Geometry). Recovers k (nor.bytes old)) (sym same) recovers)) in
+            omega (arith, enough, here.free);
+      }
 
   -- a volume that was mounted, and not checked
-  pub check_stops : (why : CheckErr) {old mid new : D} (h : Geometry) → h ≡ g → IsWritable why → OnlyReads nor old mid → spoiled_blocks g (nor.bytes old) ≤ 1 → (IsRefusal why → OnlyReads nor mid new) → CountsMixed h (nor.bytes mid) why → StopsCheck nor g old new (check_ends why)
-  check_stops (CheckMixed blocks) {old} {mid} {new} h same writable reads few refused counts =
+  pub check_stops : (why : CheckErr) {old mid new : D} (h : Geometry) → h ≡ g → IsWritable why → OnlyReads nor old mid → spoiled_blocks g (nor.bytes old) ≤ 1 → (IsRefusal why → OnlyReads nor mid new) → CountsMixed h (nor.bytes mid) why →
+      IsUndamaged why → StopsCheck nor g old new (check_ends why)
+  check_stops (CheckMixed blocks) {old} {mid} {new} h same writable reads few refused counts whole =
       let here : blocks ≡ mixed_blocks g (nor.bytes old) = counts.0 ∙ ap (λ (k : Geometry). mixed_blocks k (nor.bytes mid)) same ∙ ap (mixed_blocks g) reads.bytes in
       inr (record { refusal = check_mixed g (nor.bytes old) blocks few here counts.1; reads = reads_then reads (refused (tt {0})) })
-  check_stops CheckFault h same writable reads few refused counts = inl refl
-  check_stops (CheckWrong why) h same writable reads few refused counts = absurd writable
+  check_stops CheckFault h same writable reads few refused counts whole = inl refl
+  check_stops (CheckWrong why) h same writable reads few refused counts whole = absurd writable
+  check_stops (CheckDamaged differ) h same writable reads few refused counts whole = absurd whole
 
   -- mounting changes nothing
   pub mount_changes : {old mid : D} → OnlyReads nor old mid → Changes nor old mid (Checks g)
   mount_changes {old} {mid} reads = read_after (unchanged old (Checks g) (λ tells. checks_itself (nor.bytes old))) reads
 
   -- what the check leaves after that
-  pub check_changes : {old mid new : D} (h : Geometry) → h ≡ g → OnlyReads nor old mid → Changes nor mid new (KeepsAll h) → Changes nor old new (Checks g)
-  check_changes {old} {mid} {new} h same reads changes = after_reads reads (wider (subst (λ (k : Geometry). Changes nor mid new (KeepsAll k)) same changes) (λ tells image here. record { sound = λ magics. here.keeps.sound; table = here.keeps.table; free = here.free }))
+  pub check_changes : {old mid new : D} (h : Geometry) → h ≡ g → OnlyReads nor old mid → Changes nor mid new (CheckCut h) → Changes nor old new (Checks g)
+  check_changes {old} {mid} {new} h same reads changes = after_reads reads (wider (subst (λ (k : Geometry). Changes nor mid new (CheckCut k)) same changes) (λ tells image here. record { sound = λ magics. here.keeps.sound; table = here.keeps.table; reserve = here.reserve }))

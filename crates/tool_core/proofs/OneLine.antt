@@ -16,7 +16,7 @@ use Rattle.run_model.proofs.Chain.{cut_reads, reached_reads}
 use Rattle.run_model.proofs.OneCall.{call_said, reply_said, reply_reached}
 use Rattle.tool_core.specs.declared.ending.Ending.{Ending}
 use Rattle.tool_core.specs.declared.ending.Ending.TheVariants.{BoardFault, Unbuilt}
-use Rattle.tool_core.specs.Turns.{IsUnbuilt, DidLine, StopsCall}
+use Rattle.tool_core.specs.Turns.{DidLine, StopsCall}
 use Rattle.tool_core.proofs.LineWork.{call_good, one_call, same_reached, same_said}
 
 if_none : {P Q : Type 0} (o : Option Ending) → IfNone o P → (P → Q) → IfNone o Q
@@ -35,12 +35,12 @@ module _ {D : Type 0} {nor : NorOf D} {g : Geometry} where
       (same_said g m (ask ∷ []) (calls_of (line ∷ [])) (one_call line ask e) (reply_said ask changes ok says))
 
   -- a call was not answered
-  pub stop_did : (ending : Ending) {old new : D} {was : Memory} (now : Memory) {m : Moment} (line : List ℕ) (n : ℕ) (ask : Ask) → of_line line ≡ Asks ask → Changes nor old new (RunPublishes g was m ask) → StopsCall nor g old new was now m ask ending → RunStands nor g old was m → DidLine nor g old new was now m line n (Some ending)
+  pub stop_did : (ending : Ending) {old new : D} {was : Memory} (now : Memory) {m : Moment} (line : List ℕ) (n : ℕ) (ask : Ask) → of_line line ≡ Asks ask → Changes nor old new (RunPublishes g was m ask) → StopsCall nor old new was now ask ending → RunStands nor g old was m → DidLine nor g old new was now m line n (Some ending)
   stop_did BoardFault {old} {new} {was} now {m} line n ask e changes stops stands = (call_good line ask e, same_said g m (ask ∷ []) (calls_of (line ∷ [])) (one_call line ask e) (call_said ask changes))
   stop_did Unbuilt {old} {new} {was} now {m} line n ask e changes stops stands = record {
     ask = ask;
     spells = e;
-    unbuilt = subst (λ (l : List ℕ). IsUnbuilt g l m.state ask) (sym stops.reads.bytes) stops.unbuilt;
+    unbuilt = stops.unbuilt;
     leaves = cut_reads was m [] stops.reads;
     reached = subst (λ (w : Memory). Reached nor g old new w m []) (sym stops.memory) (reached_reads stops.reads stands);
   }

@@ -1,14 +1,16 @@
 -- Which images are refused, and how.
-use Rattle.std.proofs.Common.{◌≡◌, ℕ, ◌<◌, ◌≤◌, ◌⊎◌, List, ◌∷◌, refl, sym, ap, arith, inl, inr, ⊎_elim, Bool, true, false, cond, Option, Some, None}
+use Rattle.std.proofs.Common.{◌≡◌, ℕ, ◌<◌, ◌≤◌, ◌⊎◌, List, ◌∷◌, length, refl, sym, ◌∙◌, ap, arith, inl, inr, ⊎_elim, Bool, true, false, cond, Option, Some, None}
 use Rattle.std.proofs.lemmas.Bool.Decides.{nat_tests}
-use Rattle.std.specs.Prelude.{nat_lt}
+use Rattle.std.specs.Prelude.{nat_lt, unwrap_or}
 use Rattle.geometry.specs.declared.geometry.Geometry.{Geometry}
-use Rattle.image_model.specs.Tidy.{free_blocks}
+use Rattle.image_model.specs.Tables.{damaged_of}
+use Rattle.image_model.specs.Tidy.{HasReserve, free_blocks}
 use Rattle.image_model.specs.Kinds.{spoiled_blocks, mixed_blocks}
 use Rattle.tool_core.specs.declared.ending.Ending.{Ending}
-use Rattle.tool_core.specs.declared.ending.Ending.TheVariants.{NotAFs, Mixed, Tight, BoardFault}
+use Rattle.tool_core.specs.declared.ending.Ending.TheVariants.{Done, NotAFs, Mixed, Damaged, Tight, BoardFault}
 use Rattle.tool_core.specs.Closing.{status_of, closing_line_of}
-use Rattle.tool_core.specs.Refusals.{mount_refusal, check_refusal, tight_refusal, or_ending, begin_refusal}
+use Rattle.tool_core.specs.Refusals.{mount_refusal, check_refusal, tight_refusal, or_ending, begin_refusal, report_ending, check_ending}
+use Rattle.tool_core.specs.Outcomes.{IsOfScript}
 
 below : (m n : ℕ) → m < n → nat_lt m n ≡ true
 below m n h = grind (arith, nat_tests)
@@ -93,3 +95,35 @@ begin_undone g was now ending is done = ⊎_elim
     (refusal_is g was ending refused))
     (λ tight. omega (arith, done, ap status_of (tight_is g now ending tight)))
     (or_cases (check_refusal g was) (tight_refusal g now) ending is)
+
+-- ---- two free blocks
+
+some_or_none : (b : Bool) (free : ℕ) → cond b (Some (Tight free)) None ≡ None → b ≡ false
+some_or_none true free is = let bad : Some (Tight free) ≡ None = is in cc
+some_or_none false free is = refl
+
+later_none : (o p : Option Ending) → or_ending o p ≡ None → p ≡ None
+later_none None p is = is
+later_none (Some ending) p is = let bad : Some ending ≡ None = is in cc
+
+-- where the images don't end a run, two blocks are free in the last one
+pub begun_reserve : (g : Geometry) (was now : List ℕ) → begin_refusal g was now ≡ None → HasReserve g now
+unfolding tight_refusal
+begun_reserve g was now is =
+    let enough : nat_lt (free_blocks g now) 2 ≡ false = some_or_none (nat_lt (free_blocks g now) 2) (free_blocks g now) (later_none (check_refusal g was) (tight_refusal g now) is) in
+    grind (arith, nat_tests)
+
+pick_report : (b c : Bool) (damaged free : ℕ) → c ≡ false → status_of (cond b (Damaged damaged) (cond c (Tight free) Done)) ≡ 14 → ⊥
+pick_report true c damaged free enough is = omega (arith, is)
+pick_report false true damaged free enough is = let bad : true ≡ false = enough in cc
+pick_report false false damaged free enough is = omega (arith, is)
+
+-- a check that left them isn't told as one that left fewer
+pub check_not_tight : (g : Geometry) (was now : List ℕ) → check_refusal g was ≡ None → HasReserve g now → status_of (check_ending g was now) ≡ 14 → ⊥
+check_not_tight g was now takes reserve is =
+    let text : check_ending g was now ≡ report_ending (length (damaged_of g was)) (free_blocks g now) = ap (λ (o : Option Ending). unwrap_or o (report_ending (length (damaged_of g was)) (free_blocks g now))) takes in
+    pick_report (nat_lt 0 (length (damaged_of g was))) (nat_lt (free_blocks g now) 2) (length (damaged_of g was)) (free_blocks g now) (not_below (free_blocks g now) 2 reserve) (sym (ap status_of text) ∙ is)
+
+-- nor is a script's end
+pub script_not_tight : (status : ℕ) → IsOfScript status → status ≡ 14 → ⊥
+script_not_tight status of is = ⊎_elim (λ a. omega (arith, a, is)) (λ b. ⊎_elim (λ a. omega (arith, a, is)) (λ c. ⊎_elim (λ a. omega (arith, a, is)) (λ d. ⊎_elim (λ a. omega (arith, a, is)) (λ e. omega (arith, e, is)) d) c) b) of

@@ -1,14 +1,17 @@
 -- A whole run.
-use Rattle.std.proofs.Common.{◌≡◌, ℕ, ◌≤◌, [], Some}
+use Rattle.std.proofs.Common.{◌≡◌, ℕ, ◌≤◌, ◌⊎◌, List, [], Some, inl, inr, ⊎_elim}
 use Rattle.geometry.specs.declared.geometry.Geometry.{Geometry}
 use Rattle.nor_core.specs.declared.state.NorState.{Ghosts as NorOf}
 use Rattle.nor_core.specs.declared.source.Source.{Ghosts as SourceOf}
 use Rattle.nor_core.specs.Count.{Rose}
 use Rattle.nor_core.specs.Device.{Leaves}
+use Rattle.image_model.specs.Tidy.{HasReserve}
 use Rattle.tool_core.specs.declared.plan.Lengths.{Lengths}
 use Rattle.tool_core.specs.declared.ending.Ending.{Ending}
 use Rattle.tool_core.specs.declared.ending.Ending.TheVariants.{BoardFault}
+use Rattle.tool_core.specs.Closing.{status_of}
 use Rattle.tool_core.specs.Endings.{OnlyCloses}
+use Rattle.tool_core.specs.Mounting.{IsMendable}
 use Rattle.tool_core.specs.Reads.{ReadsOnce}
 use Rattle.tool_core.specs.Refusals.{check_refusal}
 use Rattle.tool_core.specs.Outcomes.{RunsTo, Refused, EndsByImages}
@@ -18,7 +21,18 @@ use Rattle.tool_core.proofs.Exact.{begins_as, complete_of, ran_whole}
 use Rattle.tool_core.proofs.Reading.{reads_said}
 use Rattle.tool_core.proofs.Working.{goes_of}
 use Rattle.nor_core.proofs.Cuts.{andthen}
-use Rattle.tool_core.proofs.Speaking.{concludes, by_result, none_closed}
+use Rattle.tool_core.proofs.Refusals.{begun_reserve, script_not_tight}
+use Rattle.tool_core.proofs.Speaking.{concludes, by_result, none_closed, mended_closed}
+
+-- an image that the check takes and that recovers isn't what ends a run
+mended_of : (g : Geometry) (was now : List ℕ) (result : Ending) → IsMendable g was → EndsByImages g was now result → (result ≡ BoardFault) ⊎ (HasReserve g now × (status_of result ≡ 14 → ⊥))
+mended_of g was now result may ends = ⊎_elim
+    (λ fault. inl fault)
+    (λ images. ⊎_elim
+    (λ early. absurd (early.mends_not may))
+    (λ script. inr (begun_reserve g was now script.0, script_not_tight (status_of result) script.1))
+    images)
+    ends
 
 module _ {D X : Type 0} {nor : NorOf D} {source : SourceOf X} {g : Geometry} where
   pub run_does : {old mid new : D} {script after : X} (lent : Lengths) (result : Ending) (status : ℕ) →
@@ -34,6 +48,7 @@ module _ {D X : Type 0} {nor : NorOf D} {source : SourceOf X} {g : Geometry} whe
         outcome = outcome;
         whole = λ read tells zero_is. ran_whole zero_is (outcome read tells);
         begins = λ tells fine. begins_as g (nor.bytes old) result status fine (begins tells) closes;
+        mends = λ tells may. mended_closed g result (mended_of g (nor.bytes old) (nor.bytes mid) result may (begins tells)) closes;
         goes = andthen goes (goes_of closes.cuts);
         complete = λ read tells fine read_fine takes. complete_of fine read_fine takes (outcome read tells);
         refused = λ tells ending is.

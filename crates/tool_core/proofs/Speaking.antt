@@ -1,15 +1,17 @@
 -- How a command concludes that said a text before its closing line.
-use Rattle.std.proofs.Common.{◌≡◌, ◌≢◌, ℕ, ◌+◌, ◌≤◌, List, ◌++◌, length, take, drop, sym, ◌∙◌, ap, subst, arith, inl, inr, ⊎_elim, append_assoc, length-append}
+use Rattle.std.proofs.Common.{◌≡◌, ◌≢◌, ℕ, ◌+◌, ◌≤◌, ◌⊎◌, List, ◌++◌, length, take, drop, sym, ◌∙◌, ap, subst, arith, inl, inr, ⊎_elim, append_assoc, length-append}
 use Rattle.std.proofs.lemmas.List.{take-append-drop}
+use Rattle.geometry.specs.declared.geometry.Geometry.{Geometry}
 use Rattle.nor_core.specs.declared.state.NorState.{Ghosts as NorOf}
 use Rattle.nor_core.specs.Count.{Rose}
 use Rattle.nor_core.specs.Device.{OnlyReads}
 use Rattle.nor_core.proofs.Cuts.{andthen, widened, read_on}
+use Rattle.image_model.specs.Tidy.{HasReserve}
 use Rattle.image_tool.specs.Saying.{OnlySays}
 use Rattle.tool_core.specs.declared.ending.Ending.{Ending}
 use Rattle.tool_core.specs.declared.ending.Ending.TheVariants.{BoardFault}
 use Rattle.tool_core.specs.Closing.{status_of, closing_line_of}
-use Rattle.tool_core.specs.Endings.{OnlyCloses, Speaks, Concludes, WritesNone}
+use Rattle.tool_core.specs.Endings.{OnlyCloses, Speaks, Concludes, WritesNone, HasMended}
 
 module _ {D : Type 0} {nor : NorOf D} where
   concludes_said : {old mid new : D} (text : List ℕ) (ending : Ending) (status : ℕ) → nor.tells mid → nor.faults old ≤ nor.faults mid → nor.said mid ≡ nor.said old ++ text → OnlyCloses nor mid new ending status → Concludes nor old new text ending status
@@ -93,4 +95,17 @@ module _ {D : Type 0} {nor : NorOf D} where
     bytes = closes.says.bytes ∙ none.bytes;
     writes = closes.says.writes ∙ none.writes;
     cuts = andthen none.cuts (widened closes.cuts (λ image count here tells. here.all_bytes (none.cuts.told tells) ∙ none.bytes));
+  }
+
+  -- two free blocks stay as a closing line is said
+  pub mended_closed : (g : Geometry) {mid new : D} (result : Ending) {status : ℕ} → (result ≡ BoardFault) ⊎ (HasReserve g (nor.bytes mid) × (status_of result ≡ 14 → ⊥)) → OnlyCloses nor mid new result status → HasMended nor g new status
+  mended_closed g {mid} {new} result {status} ends closes = record {
+    reserve = λ fine. ⊎_elim
+        (λ broken. absurd (fine (⊎_elim (λ told. told ∙ ap status_of broken) (λ fault. fault.0) closes.ends)))
+        (λ mended. subst (λ (l : List ℕ). HasReserve g l) (sym closes.says.bytes) mended.0)
+        ends;
+    not_tight = λ is. ⊎_elim
+        (λ told. ⊎_elim (λ broken. omega (arith, is, told, ap status_of broken)) (λ mended. mended.1 (sym told ∙ is)) ends)
+        (λ fault. omega (arith, is, fault.0))
+        closes.ends;
   }

@@ -1,19 +1,20 @@
 -- What a check leaves and says.
-use Rattle.std.specs.Prelude.{ℕ, ◌≡◌, ◌≢◌, ◌+◌, ◌<◌, ◌≤◌, List, ◌∷◌, [], ◌++◌, length, Bool, codes, decimal, nat_lt, Some, if◌then◌else◌}
+use Rattle.std.specs.Prelude.{ℕ, ◌≡◌, ◌≢◌, ◌+◌, ◌<◌, ◌≤◌, ◌⊎◌, List, ◌∷◌, [], ◌++◌, length, Bool, codes, decimal, nat_lt, Some, if◌then◌else◌}
 use Rattle.geometry.specs.declared.geometry.Geometry.{Geometry}
 use Rattle.nor_core.specs.declared.state.NorState.{Ghosts as NorOf}
 use Rattle.nor_core.specs.Device.{Leaves}
 use Rattle.image_model.specs.Tables.{table_of, damaged_of}
-use Rattle.image_model.specs.Tidy.{IsTidy, free_blocks}
+use Rattle.image_model.specs.Tidy.{IsTidy, HasReserve, free_blocks}
 use Rattle.image_model.specs.Kinds.{spoiled_blocks}
 use Rattle.image_model.specs.Killed.{killed_of}
 use Rattle.call_model.specs.Safe.{IsSafe, Holds}
 use Rattle.tool_core.specs.declared.ending.Ending.{Ending}
+use Rattle.tool_core.specs.declared.ending.Ending.TheVariants.{BoardFault}
 use Rattle.tool_core.specs.Closing.{closing_line_of}
-use Rattle.tool_core.specs.Endings.{Speaks, Concludes, WritesNone}
+use Rattle.tool_core.specs.Endings.{Speaks, Concludes, WritesNone, HasMended}
 use Rattle.tool_core.specs.Reads.{ReadsOnce}
 use Rattle.tool_core.specs.Refusals.{check_refusal, check_ending, unless_refused}
-use Rattle.tool_core.specs.Mounting.{Checks}
+use Rattle.tool_core.specs.Mounting.{Checks, IsMendable}
 
 -- the line of a report: whether a block was erased, how many entries were killed, how many files were damaged, and how many blocks
 -- are free
@@ -49,6 +50,7 @@ pub record ChecksTo {D : Type 0} (nor : NorOf D) (g : Geometry) (old new : D) (r
   pub kept : nor.tells old → check_refusal g (nor.bytes old) ≡ Some result → WritesNone nor old new
   pub leaves : nor.tells old → Checks g (nor.bytes old) (nor.bytes new)
   pub tidy : nor.tells old → IsTidyOnceSaid nor g old new
+  pub mends : nor.tells old → IsMendable g (nor.bytes old) → (result ≡ BoardFault) ⊎ HasReserve g (nor.bytes new)
 
 -- What a cut in a check leaves: an image with the table of the first one, which it may follow, and a front of what the check says;
 -- once a byte of it was said, the last image.
@@ -68,6 +70,8 @@ pub record DoesCheck {D : Type 0} (nor : NorOf D) (g : Geometry) (cache : ℕ) (
   pub holds : nor.tells old → Holds g (nor.bytes old) (nor.bytes new)
   -- it is tidy, once the report was said
   pub tidy : nor.tells old → IsTidyOnceSaid nor g old new
+  -- it has two free blocks where the check takes the first one and that recovers, if the board didn't fail
+  pub mends : nor.tells old → IsMendable g (nor.bytes old) → HasMended nor g new status
   -- an image that isn't taken stays
   pub kept : nor.tells old → (ending : Ending) → check_refusal g (nor.bytes old) ≡ Some ending → status ≢ 7 → WritesNone nor old new
   -- what a cut at any moment leaves

@@ -1,8 +1,10 @@
 -- How a command ends.
 use Rattle.std.specs.Prelude.{ℕ, ◌≡◌, ◌≢◌, ◌⊎◌, ◌++◌, List, [], Option, Some, None}
+use Rattle.geometry.specs.declared.geometry.Geometry.{Geometry}
 use Rattle.nor_core.specs.declared.state.NorState.{Ghosts as NorOf}
 use Rattle.nor_core.specs.Count.{Rose}
 use Rattle.nor_core.specs.Device.{Leaves, InSay, Says}
+use Rattle.image_model.specs.Tidy.{HasReserve}
 use Rattle.image_tool.specs.Saying.{SaysFront}
 use Rattle.tool_core.specs.declared.ending.Ending.{Ending}
 use Rattle.tool_core.specs.declared.ending.Ending.TheVariants.{BoardFault}
@@ -41,3 +43,8 @@ pub record WritesNone {D : Type 0} (nor : NorOf D) (old new : D) : Type 0 where
   pub bytes : nor.bytes new ≡ nor.bytes old
   pub writes : nor.device_writes new ≡ nor.device_writes old
   pub cuts : Leaves nor old new (λ image count. nor.tells old → image ≡ nor.bytes old)
+
+-- The last image has two free blocks, if the board didn't fail, and the status isn't that of fewer.
+pub record HasMended {D : Type 0} (nor : NorOf D) (g : Geometry) (new : D) (status : ℕ) : Type 0 where
+  pub reserve : status ≢ 7 → HasReserve g (nor.bytes new)
+  pub not_tight : status ≢ 14

@@ -1,31 +1,39 @@
 -- What mounting and checking a volume leave.
-use Rattle.std.specs.Prelude.{◌≡◌, ℕ, ◌≤◌, ◌⊎◌, List, Some, None}
+use Rattle.std.specs.Prelude.{◌≡◌, ℕ, ◌⊎◌, List, Some, None}
 use Rattle.geometry.specs.declared.geometry.Geometry.{Geometry}
 use Rattle.nor_core.specs.declared.state.NorState.{Ghosts as NorOf}
 use Rattle.nor_core.specs.Device.{OnlyReads}
 use Rattle.image_model.specs.Tables.{table_of}
-use Rattle.image_model.specs.Tidy.{free_blocks}
+use Rattle.image_model.specs.Tidy.{HasReserve}
 use Rattle.image_model.specs.Sound.{HasMagics, IsSound}
+use Rattle.room_laws.specs.Recovery.{Recovers}
 use Rattle.vol_mount.specs.declared.lent.MountErr.{MountErr}
 use Rattle.vol_mount.specs.declared.lent.MountErr.TheVariants.{Wrong as MountWrong, ShortBuffer as MountShort, NotAFs as MountNotAFs, DeviceFault as MountFault}
 use Rattle.vol_check.specs.declared.report.CheckErr.{CheckErr}
-use Rattle.vol_check.specs.declared.report.CheckErr.TheVariants.{Wrong as CheckWrong, Mixed as CheckMixed, DeviceFault as CheckFault}
+use Rattle.vol_check.specs.declared.report.CheckErr.TheVariants.{Wrong as CheckWrong, Mixed as CheckMixed, DeviceFault as CheckFault, Damaged as CheckDamaged}
 use Rattle.vol_check.specs.declared.report.Report.{Report}
-use Rattle.vol_check.specs.Checks.{Checked}
+use Rattle.volume.specs.Checking.{CheckDone}
 use Rattle.tool_core.specs.declared.ending.Ending.{Ending}
-use Rattle.tool_core.specs.declared.ending.Ending.TheVariants.{Geometry as WrongGeometry, ShortBuffer, NotAFs, Mixed, BoardFault}
+use Rattle.tool_core.specs.declared.ending.Ending.TheVariants.{Geometry as WrongGeometry, ShortBuffer, NotAFs, Mixed, BoardFault, Differ}
 use Rattle.tool_core.specs.Refusals.{check_refusal}
 
--- what mounting and the check may leave of any image: its table, sound, and no fewer free blocks
+-- what mounting and the check may leave of any image: its table, sound, and two free blocks where they were there
 pub record Checks (g : Geometry) (was image : List ℕ) : Type 0 where
   pub sound : HasMagics g was → IsSound g image was
   pub table : table_of g image ≡ table_of g was
-  pub free : free_blocks g was ≤ free_blocks g image
+  pub reserve : HasReserve g was → HasReserve g image
 
--- a volume that was checked: its image was one that the check takes, and the report tells what was found and done
+-- mounting and the check take the image, and it recovers: an uncut check leaves two free blocks
+pub record IsMendable (g : Geometry) (image : List ℕ) : Type 0 where
+  pub takes : check_refusal g image ≡ None
+  pub recovers : Recovers g image
+
+-- a volume that was checked: its image was one that the check takes, the report tells what was found and done, and two blocks are free
+-- where that image recovers
 pub record Reported (g : Geometry) (was now : List ℕ) (report : Report) : Type 0 where
   pub takes : check_refusal g was ≡ None
-  pub done : Checked g was now report
+  pub done : CheckDone g was now report
+  pub mends : Recovers g was → HasReserve g now
 
 -- the first image isn't taken, and was only read
 pub record IsRefused {D : Type 0} (nor : NorOf D) (g : Geometry) (old new : D) (ending : Ending) : Type 0 where
@@ -48,3 +56,4 @@ abbrev pub check_ends : CheckErr → Ending
 check_ends (CheckWrong why) = WrongGeometry why
 check_ends (CheckMixed blocks) = Mixed blocks
 check_ends CheckFault = BoardFault
+check_ends (CheckDamaged differ) = Differ differ

@@ -15,6 +15,7 @@ use Rattle.tool_core.specs.declared.ending.Ending.{Ending}
 use Rattle.tool_core.specs.declared.ending.Ending.TheVariants.{Done, BadLine, BoardFault, SourceFault, TooLong, Unbuilt}
 use Rattle.tool_core.specs.Refusals.{begin_refusal}
 use Rattle.tool_core.specs.Closing.{status_of}
+use Rattle.tool_core.specs.Mounting.{IsMendable}
 use Rattle.tool_core.specs.Endings.{Speaks, WritesNone}
 use Rattle.tool_core.specs.Turns.{AllGood, IsUnbuilt}
 
@@ -53,21 +54,21 @@ pub record IsTooLong (script : List ℕ) (front : List Ask) : Type 0 where
   pub count : length whole + length rest ≡ 16777216
   pub calls_are : calls whole ≡ front
 
--- the first of some calls is one that this build can't do
-pub record UnbuiltNext (g : Geometry) (m : Moment) (image : List ℕ) (later : List Ask) : Type 0 where
+-- the first of some calls is one that this build doesn't have
+pub record UnbuiltNext (later : List Ask) : Type 0 where
   pub ask : Ask
   pub more : List Ask
   pub later_is : later ≡ ask ∷ more
-  pub unbuilt : IsUnbuilt g image m.state ask
+  pub unbuilt : IsUnbuilt ask
 
--- why a run ends after some calls and before others, where it stands at that moment over this image
-abbrev pub WhyEnds : (g : Geometry) (m : Moment) (image script left : List ℕ) (front later : List Ask) → Ending → Type 0
-WhyEnds g m image script left front later Done = (later ≡ []) × AllGood (lines script) × (left ≡ []) × (length script ≤ 16777216)
-WhyEnds g m image script left front later (BadLine number) = (later ≡ []) × HasBad script number
-WhyEnds g m image script left front later TooLong = IsTooLong script front
-WhyEnds g m image script left front later SourceFault = IsTakenTo script left front
-WhyEnds g m image script left front later Unbuilt = UnbuiltNext g m image later
-WhyEnds g m image script left front later _ = ⊥
+-- why a run ends after some calls and before others
+abbrev pub WhyEnds : (script left : List ℕ) (front later : List Ask) → Ending → Type 0
+WhyEnds script left front later Done = (later ≡ []) × AllGood (lines script) × (left ≡ []) × (length script ≤ 16777216)
+WhyEnds script left front later (BadLine number) = (later ≡ []) × HasBad script number
+WhyEnds script left front later TooLong = IsTooLong script front
+WhyEnds script left front later SourceFault = IsTakenTo script left front
+WhyEnds script left front later Unbuilt = UnbuiltNext later
+WhyEnds script left front later _ = ⊥
 
 -- a run came to the moment after the first of its script's calls, and ends there
 pub record Went {D : Type 0} (nor : NorOf D) (g : Geometry) (old new : D) (was now : Memory) (m : Moment) (script left : List ℕ) (ending : Ending) : Type 0 where
@@ -76,7 +77,7 @@ pub record Went {D : Type 0} (nor : NorOf D) (g : Geometry) (old new : D) (was n
   pub asks_are : calls script ≡ front ++ later
   pub reached : Reached nor g old new now m front
   pub leaves : MayCut nor g old new was m front
-  pub why : WhyEnds g (after_all g m front) (nor.bytes new) script left front later ending
+  pub why : WhyEnds script left front later ending
 
 -- the board failed in the calls, or it came there
 abbrev pub RunEnds : {D : Type 0} (nor : NorOf D) (g : Geometry) (old new : D) (was now : Memory) (m : Moment) (script left : List ℕ) → Ending → Type 0
@@ -92,10 +93,10 @@ abbrev pub closed_memory : (slots : ℕ) → Memory
 closed_memory slots = record { slots = replicate slots None; run = None }
 
 -- Why a run ends after some calls and before others: for its images before the first call, or for what it met.
-abbrev pub WhyRan : (g : Geometry) (m : Moment) (first image script left : List ℕ) (front later : List Ask) → Ending → Type 0
-WhyRan g m first image script left front later ending =
+abbrev pub WhyRan : (g : Geometry) (first image script left : List ℕ) (front later : List Ask) → Ending → Type 0
+WhyRan g first image script left front later ending =
     ((front ≡ []) × (begin_refusal g first image ≡ Some ending))
-    ⊎ ((begin_refusal g first image ≡ None) × WhyEnds g m image script left front later ending)
+    ⊎ ((begin_refusal g first image ≡ None) × WhyEnds script left front later ending)
 
 -- before its closing line: the replies to the first calls were said, and the table is theirs
 pub record Came {D : Type 0} (nor : NorOf D) (g : Geometry) (old new : D) (m : Moment) (script left : List ℕ) (ending : Ending) : Type 0 where
@@ -106,7 +107,7 @@ pub record Came {D : Type 0} (nor : NorOf D) (g : Geometry) (old new : D) (m : M
   pub tells : nor.tells new
   pub settled : table_of g (nor.bytes new) ≡ (after_all g m front).settled
   pub table : table_of g (nor.bytes new) ≡ (after_all g m front).state.table
-  pub why : WhyRan g (after_all g m front) (nor.bytes old) (nor.bytes new) script left front later ending
+  pub why : WhyRan g (nor.bytes old) (nor.bytes new) script left front later ending
   pub holds : Holds g (nor.bytes old) (nor.bytes new)
   pub cuts : Leaves nor old new (CutIn nor g old m front)
 
@@ -119,9 +120,14 @@ RunsTo nor g old new m script left ending =
 abbrev pub IsOfScript : ℕ → Type 0
 IsOfScript status = (status ≡ 0) ⊎ ((status ≡ 5) ⊎ ((status ≡ 8) ⊎ ((status ≡ 11) ⊎ (status ≡ 16))))
 
+-- the images ended the run, of which the first isn't one that the check gives two free blocks
+pub record ImagesEnd (g : Geometry) (was now : List ℕ) (ending : Ending) : Type 0 where
+  pub refusal : begin_refusal g was now ≡ Some ending
+  pub mends_not : IsMendable g was → ⊥
+
 -- before its closing line: the board failed, or the images ended the run, or else the script
 abbrev pub EndsByImages : Geometry → (was now : List ℕ) → Ending → Type 0
-EndsByImages g was now ending = (ending ≡ BoardFault) ⊎ ((begin_refusal g was now ≡ Some ending) ⊎ ((begin_refusal g was now ≡ None) × IsOfScript (status_of ending)))
+EndsByImages g was now ending = (ending ≡ BoardFault) ⊎ (ImagesEnd g was now ending ⊎ ((begin_refusal g was now ≡ None) × IsOfScript (status_of ending)))
 
 -- before the first call: what an image that isn't taken leaves of a run
 pub record Refused {D : Type 0} (nor : NorOf D) (old new : D) (ending result : Ending) : Type 0 where

@@ -14,7 +14,8 @@ use Rattle.run_model.specs.Ran.{SaidPart}
 use Rattle.tool_core.specs.declared.plan.Lengths.{Lengths}
 use Rattle.tool_core.specs.declared.ending.Ending.{Ending}
 use Rattle.tool_core.specs.Closing.{status_of, closing_line_of}
-use Rattle.tool_core.specs.Endings.{EndsAs, Concludes, WritesNone}
+use Rattle.tool_core.specs.Endings.{EndsAs, Concludes, WritesNone, HasMended}
+use Rattle.tool_core.specs.Mounting.{IsMendable}
 use Rattle.tool_core.specs.Reads.{ReadsOnce}
 use Rattle.tool_core.specs.Refusals.{check_refusal, begin_refusal}
 use Rattle.tool_core.specs.Turns.{AllGood}
@@ -50,7 +51,7 @@ pub record Closes {D : Type 0} (nor : NorOf D) (g : Geometry) (old new : D) (m :
   pub front : List Ask
   pub later : List Ask
   pub asks_are : calls script ≡ front ++ later
-  pub why : WhyRan g (after_all g m front) (nor.bytes old) (nor.bytes new) script left front later ending
+  pub why : WhyRan g (nor.bytes old) (nor.bytes new) script left front later ending
   pub whole : status ≢ 7 → nor.said new ≡ nor.said old ++ (replies g m front ++ closing_line_of ending)
   pub part : List ℕ
   pub rest : List ℕ
@@ -82,20 +83,20 @@ abbrev pub BeginsAs : (refusal : Option Ending) (status : ℕ) → Type 0
 BeginsAs (Some ending) status = status ≡ status_of ending
 BeginsAs None status = IsOfScript status
 
--- a call of a script is one that this build can't do
-pub record HasUnbuilt {D : Type 0} (nor : NorOf D) (g : Geometry) (new : D) (m : Moment) (script : List ℕ) : Type 0 where
+-- a call of a script is one that this build doesn't have
+pub record HasUnbuilt (script : List ℕ) : Type 0 where
   pub front : List Ask
   pub later : List Ask
   pub asks_are : calls script ≡ front ++ later
-  pub unbuilt : UnbuiltNext g (after_all g m front) (nor.bytes new) later
+  pub unbuilt : UnbuiltNext later
 
--- A run whose images are worked on, and neither the board nor the script failed. Where this build can do every call the status is 0 for a script of at most
+-- A run whose images are worked on, and neither the board nor the script failed. Where this build has every call the status is 0 for a script of at most
 -- 16,777,216 bytes of which every line is in the grammar, 11 for a longer one, and 5 for one that isn't longer with a line outside.
-pub record IsComplete {D : Type 0} (nor : NorOf D) (g : Geometry) (new : D) (m : Moment) (script : List ℕ) (status : ℕ) : Type 0 where
+pub record IsComplete (script : List ℕ) (status : ℕ) : Type 0 where
   pub done : length script ≤ 16777216 → status ≢ 16 → AllGood (lines script) → status ≡ 0
   pub long : 16777216 < length script → status ≢ 16 → AllGood (lines script) → status ≡ 11
   pub bad_line : length script ≤ 16777216 → status ≢ 16 → (number : ℕ) → HasBad script number → status ≡ 5
-  pub unbuilt : status ≡ 16 → HasUnbuilt nor g new m script
+  pub unbuilt : status ≡ 16 → HasUnbuilt script
 
 -- A run mounts and checks the volume, and does the calls of the script.
 pub record DoesRun {D X : Type 0} (nor : NorOf D) (source : SourceOf X) (g : Geometry) (lent : Lengths) (old new : D) (script after : X) (status : ℕ) : Type 0 where
@@ -108,9 +109,11 @@ pub record DoesRun {D X : Type 0} (nor : NorOf D) (source : SourceOf X) (g : Geo
   pub begins : nor.tells old → status ≢ 7 → BeginsAs (begin_refusal g (nor.bytes old) (nor.bytes new)) status
   -- .. and, if it isn't 8, that of this script
   pub complete : source.tells script → nor.tells old → status ≢ 7 → status ≢ 8 →
-      begin_refusal g (nor.bytes old) (nor.bytes new) ≡ None → IsComplete nor g new (first_of g lent (nor.bytes old)) (source.left script) status
+      begin_refusal g (nor.bytes old) (nor.bytes new) ≡ None → IsComplete (source.left script) status
   -- an image that isn't taken stays, and its closing line is said alone
   pub refused : nor.tells old → (ending : Ending) → check_refusal g (nor.bytes old) ≡ Some ending → Concludes nor old new [] ending status × (status ≢ 7 → WritesNone nor old new)
+  -- an image that the check takes and that recovers has two free blocks after the check, and so has the last one, if the board didn't fail
+  pub mends : nor.tells old → IsMendable g (nor.bytes old) → HasMended nor g new status
   -- whatever is told, time goes on
   pub goes : Leaves nor old new (λ image count. Unit {0})
   -- each page is read once at most

@@ -3,47 +3,45 @@ use Rattle.std.specs.Prelude.{ℕ, ◌≡◌, ◌+◌, ◌≤◌, ◌⊎◌, Lis
 use Rattle.geometry.specs.declared.geometry.Geometry.{Geometry}
 use Rattle.nor_core.specs.declared.state.NorState.{Ghosts as NorOf}
 use Rattle.nor_core.specs.Device.{OnlyReads, Changes}
-use Rattle.table_model.specs.Table.{State}
 use Rattle.table_model.specs.Ask.{Ask}
 use Rattle.table_model.specs.Window.{Moment}
 use Rattle.call_script.specs.Lines.{Bad, Asks, lines, of_line, calls_of, NoBreak}
 use Rattle.call_model.specs.Memory.{Memory}
-use Rattle.run_model.specs.Runs.{after_all, replies}
+use Rattle.run_model.specs.Runs.{replies}
 use Rattle.run_model.specs.Ran.{RunStands, RunPublishes, RunAnswers, MayCut, Reached, SaidPart}
 use Rattle.volume.specs.declared.told.Told.{Told}
 use Rattle.volume.specs.Built.{is_built}
 use Rattle.volume.specs.Replies.{shown_by}
-use Rattle.volume.specs.Goes.{LacksPage}
 use Rattle.tool_core.specs.declared.ending.Ending.{Ending}
 use Rattle.tool_core.specs.declared.ending.Ending.TheVariants.{Done, BadLine, BoardFault, SourceFault, TooLong, Unbuilt}
 
--- a call that this build can't do: it doesn't have it, or the call takes a page and there is none without collecting garbage
-abbrev pub IsUnbuilt : Geometry → List ℕ → State → Ask → Type 0
-IsUnbuilt g image s ask = (is_built ask ≡ false) ⊎ LacksPage g image s ask
+-- a call that this build doesn't have
+abbrev pub IsUnbuilt : Ask → Type 0
+IsUnbuilt ask = is_built ask ≡ false
 
--- a call that this build can't do was only looked at
-pub record StaysUnbuilt {D : Type 0} (nor : NorOf D) (g : Geometry) (old new : D) (was now : Memory) (m : Moment) (ask : Ask) : Type 0 where
-  pub unbuilt : IsUnbuilt g (nor.bytes old) m.state ask
+-- a call that this build doesn't have was only looked at
+pub record StaysUnbuilt {D : Type 0} (nor : NorOf D) (old new : D) (was now : Memory) (ask : Ask) : Type 0 where
+  pub unbuilt : IsUnbuilt ask
   pub reads : OnlyReads nor old new
   pub memory : now ≡ was
 
--- how a call ends that isn't answered: the board failed, or this build can't do it
-abbrev pub StopsCall : {D : Type 0} (nor : NorOf D) (g : Geometry) (old new : D) (was now : Memory) (m : Moment) (ask : Ask) → Ending → Type 0
-StopsCall nor g old new was now m ask BoardFault = Unit {0}
-StopsCall nor g old new was now m ask Unbuilt = StaysUnbuilt nor g old new was now m ask
-StopsCall nor g old new was now m ask _ = ⊥
+-- how a call ends that isn't answered: the board failed, or this build doesn't have it
+abbrev pub StopsCall : {D : Type 0} (nor : NorOf D) (old new : D) (was now : Memory) (ask : Ask) → Ending → Type 0
+StopsCall nor old new was now ask BoardFault = Unit {0}
+StopsCall nor old new was now ask Unbuilt = StaysUnbuilt nor old new was now ask
+StopsCall nor old new was now ask _ = ⊥
 
 -- What doing a call leaves: what a run may at each cut, and its answer, or why it isn't answered. `lent` are the bytes for what is read.
 pub record DoesCall {D : Type 0} (nor : NorOf D) (g : Geometry) (old new : D) (was now : Memory) (ask : Ask) (result : Result Told Ending) (lent : List ℕ) : Type 0 where
   pub changes : (m : Moment) → Changes nor old new (RunPublishes g was m ask)
   pub answers : (m : Moment) → RunStands nor g old was m → IfOk result (λ told. RunAnswers nor g old new now m ask (shown_by told lent))
-  pub stops : (m : Moment) → RunStands nor g old was m → IfErr result (StopsCall nor g old new was now m ask)
+  pub stops : (m : Moment) → RunStands nor g old was m → IfErr result (StopsCall nor old new was now ask)
 
--- a line spells a call that this build can't do, and nothing was changed
-pub record LineLacks {D : Type 0} (nor : NorOf D) (g : Geometry) (old new : D) (was now : Memory) (m : Moment) (line : List ℕ) : Type 0 where
+-- a line spells a call that this build doesn't have, and nothing was changed
+pub record LineUnbuilt {D : Type 0} (nor : NorOf D) (g : Geometry) (old new : D) (was now : Memory) (m : Moment) (line : List ℕ) : Type 0 where
   pub ask : Ask
   pub spells : of_line line ≡ Asks ask
-  pub unbuilt : IsUnbuilt g (nor.bytes new) m.state ask
+  pub unbuilt : IsUnbuilt ask
   pub leaves : MayCut nor g old new was m []
   pub reached : Reached nor g old new now m []
 
@@ -52,7 +50,7 @@ abbrev pub DidLine : {D : Type 0} (nor : NorOf D) (g : Geometry) (old new : D) (
 DidLine nor g old new was now m line number None = (of_line line ≡ Bad → ⊥) × Reached nor g old new now m (calls_of (line ∷ []))
 DidLine nor g old new was now m line number (Some (BadLine n)) = (of_line line ≡ Bad) × (n ≡ number) × Reached nor g old new now m []
 DidLine nor g old new was now m line number (Some BoardFault) = (of_line line ≡ Bad → ⊥) × SaidPart nor old new (replies g m (calls_of (line ∷ [])))
-DidLine nor g old new was now m line number (Some Unbuilt) = LineLacks nor g old new was now m line
+DidLine nor g old new was now m line number (Some Unbuilt) = LineUnbuilt nor g old new was now m line
 DidLine nor g old new was now m line number _ = ⊥
 
 -- each line is in the grammar
@@ -67,14 +65,14 @@ pub record BeginsBad (tail : List ℕ) : Type 0 where
   pub lines_are : lines tail ≡ bad ∷ others
   pub is_bad : of_line bad ≡ Bad
 
--- the first line of these bytes is a call that this build can't do
-pub record BeginsUnbuilt (g : Geometry) (m : Moment) (image tail : List ℕ) : Type 0 where
+-- the first line of these bytes is a call that this build doesn't have
+pub record BeginsUnbuilt (tail : List ℕ) : Type 0 where
   pub line : List ℕ
   pub others : List (List ℕ)
   pub lines_are : lines tail ≡ line ∷ others
   pub ask : Ask
   pub spells : of_line line ≡ Asks ask
-  pub unbuilt : IsUnbuilt g image m.state ask
+  pub unbuilt : IsUnbuilt ask
 
 -- these bytes are some that end no line and are 4,096 at most, and others
 pub record Short (tail a b : List ℕ) : Type 0 where
@@ -117,20 +115,20 @@ CountsBytes (Some TooLong) a b seg = b.taken + length a.pending ≡ a.taken + le
 CountsBytes _ a b seg = Unit {0}
 
 -- why a run stands where it does before these bytes
-abbrev pub WhyHere : (g : Geometry) (m : Moment) {D : Type 0} (nor : NorOf D) (b : At D) (tail : List ℕ) → Option Ending → Type 0
-WhyHere g m nor b tail None = tail ≡ b.pending ++ b.left
-WhyHere g m nor b tail (Some Done) = (tail ≡ []) × (b.left ≡ [])
-WhyHere g m nor b tail (Some (BadLine n)) = BeginsBad tail
-WhyHere g m nor b tail (Some TooLong) = (x : ℕ) × (xs : List ℕ) × Short tail b.pending (x ∷ xs) × (b.taken ≡ 16777216)
-WhyHere g m nor b tail (Some SourceFault) = Short tail b.pending b.left
-WhyHere g m nor b tail (Some Unbuilt) = BeginsUnbuilt g m (nor.bytes b.device) tail
-WhyHere g m nor b tail _ = ⊥
+abbrev pub WhyHere : {D : Type 0} (b : At D) (tail : List ℕ) → Option Ending → Type 0
+WhyHere b tail None = tail ≡ b.pending ++ b.left
+WhyHere b tail (Some Done) = (tail ≡ []) × (b.left ≡ [])
+WhyHere b tail (Some (BadLine n)) = BeginsBad tail
+WhyHere b tail (Some TooLong) = (x : ℕ) × (xs : List ℕ) × Short tail b.pending (x ∷ xs) × (b.taken ≡ 16777216)
+WhyHere b tail (Some SourceFault) = Short tail b.pending b.left
+WhyHere b tail (Some Unbuilt) = BeginsUnbuilt tail
+WhyHere b tail _ = ⊥
 
 -- a run came to the moment after these calls, or the board failed in them
 abbrev pub Stops : {D : Type 0} (nor : NorOf D) (g : Geometry) (m : Moment) (a b : At D) (asks : List Ask) (tail : List ℕ) → Option Ending → Type 0
 Stops nor g m a b asks tail ending =
     ((ending ≡ Some BoardFault) × SaidPart nor a.device b.device (replies g m asks))
-    ⊎ (Reached nor g a.device b.device b.memory m asks × WhyHere g (after_all g m asks) nor b tail ending)
+    ⊎ (Reached nor g a.device b.device b.memory m asks × WhyHere b tail ending)
 
 -- From one place of a run to another these lines were done.
 pub record Turned {D : Type 0} (nor : NorOf D) (g : Geometry) (ending : Option Ending) (m : Moment) (a b : At D) : Type 0 where

@@ -17,7 +17,7 @@ use volume::{Told, Volume};
 pub(crate) const READ: usize = 1024;
 
 /// Does a call, with bytes for what is read, or says how the run ends there: the device failed, a page reads otherwise than it was
-/// written, or this build can't do the call.
+/// written, or this build doesn't have the call.
 pub(crate) fn apply<B: Board>(
     volume: &mut Volume<'_, B>,
     call: &Call<'_>,

@@ -43,6 +43,7 @@ pub(crate) fn check_ending(why: CheckErr) -> Ending
         CheckErr::Wrong(why) => Ending::Geometry(why),
         CheckErr::Mixed { blocks } => Ending::Mixed(blocks),
         CheckErr::DeviceFault => Ending::BoardFault,
+        CheckErr::Damaged(differ) => Ending::Differ(differ),
     }
 }
 
