@@ -100,12 +100,9 @@ fn a_call_tells_the_bytes_that_it_lent(rt: HostRuntime) -> Result<(), Fail> {
     assert_eq!(rt; into.get(298..302), Some([1u8, 1, 7, 7].as_slice()));
     let read = Call::Read { fd: 1, count: 600 };
     assert!(rt; matches!(volume.answer(&read, &mut into), Told::Bytes(202)));
-    assert!(rt;
-        matches!(
-            volume.answer(&Call::Gc, &mut []),
-            Told::Refusal(FsErr::Unbuilt)
-        )
-    );
+    assert!(rt; matches!(volume.answer(&Call::Gc, &mut []), Told::Done));
+    let cut = Call::Truncate { fd: 1, size: 0 };
+    assert!(rt; matches!(volume.answer(&cut, &mut []), Told::Refusal(FsErr::Unbuilt)));
     Ok(())
 }
 

@@ -1,8 +1,12 @@
 //! What stands on the chip when a run ends early, and what a full or a crowded volume answers.
 use crate::bench::{LEN, board_of, formatted, large, on, on_board, sized, small};
 use crate::images::{empty, put_file};
+use crate::tables::spare_blocks;
 use fd_table::FdSlot;
-use nor_core::CallKind;
+use geometry::Geometry;
+use nor_core::{CallKind, MemBoard};
+use std::alloc::Global;
+use std::process::Abort;
 use std::test::Fail;
 use table_model::FsErr;
 use vol_mount::{Lent, accept};
@@ -72,12 +76,39 @@ fn a_full_volume_takes_a_file_again_where_one_was_removed(rt: HostRuntime) -> Re
     Ok(())
 }
 
+// A volume of four blocks: a file of 30 data pages fills two, its header page stands in the first, and the last is free.
+fn tight(alloc: Global, g: &Geometry) -> Result<Vec<u8>, Fail> {
+    let mut image = empty(alloc, g)?;
+    put_file(&mut image, g, 1, 7530, 30, b"big");
+    Ok(image)
+}
+
+// Calls on that volume once it is checked: no page is had, and nothing can be cleaned. A removed file's pages are collected.
+fn collect_in(rt: &impl Abort, volume: &mut Volume<'_, MemBoard>, image: &[u8]) {
+    assert_eq!(rt; volume.create(b"a"), Err(FsErr::Tight));
+    assert_eq!(rt; volume.create(b"big"), Err(FsErr::ConflictingName));
+    assert_eq!(rt; volume.rename(b"big", b"a"), Err(FsErr::Tight));
+    assert_eq!(rt; volume.gc(), Ok(()));
+    assert!(rt; volume.nor.image() == image);
+    assert!(rt;
+        volume
+            .stat(b"big")
+            .is_ok_and(|stat| stat.id == 1 && stat.size == 7530)
+    );
+    assert_eq!(rt; volume.remove(b"big"), Ok(()));
+    assert!(rt; matches!(volume.next(0), Ok(None)));
+    assert_eq!(rt; volume.create(b"a"), Err(FsErr::Tight));
+    assert_eq!(rt; volume.gc(), Ok(()));
+    assert_eq!(rt; spare_blocks(&volume.geometry, volume.nor.image()), Some(4));
+    assert_eq!(rt; volume.create(b"a"), Ok(()));
+    assert!(rt; !volume.has_failed());
+}
+
 #[test]
-fn a_volume_of_one_free_block_removes_and_does_not_create(rt: HostRuntime) -> Result<(), Fail> {
+fn a_volume_of_one_free_block_removes_and_then_collects(rt: HostRuntime) -> Result<(), Fail> {
     let alloc = rt.alloc();
     let g = sized(256, 4096, 4, 0, LEN)?;
-    let mut image = empty(alloc, &g)?;
-    put_file(&mut image, &g, 1, 7530, 30, b"big");
+    let image = tight(alloc, &g)?;
     assert!(rt; on(alloc, "list", &g, &image, "")?.is(0, "1 1 7530 big\n"));
     let ran = on(alloc, "run", &g, &image, "remove big\n")?;
     assert!(rt; ran.is(14, "! free blocks 1\n"));
@@ -98,16 +129,6 @@ fn a_volume_of_one_free_block_removes_and_does_not_create(rt: HostRuntime) -> Re
     let mut volume = Volume::new(g, &mut board, lent);
     volume.mount()?;
     assert_eq!(rt; volume.check().map(|report| report.free_blocks), Ok(1));
-    assert_eq!(rt; volume.create(b"a"), Err(FsErr::Tight));
-    assert_eq!(rt; volume.create(b"big"), Err(FsErr::ConflictingName));
-    assert!(rt;
-        volume
-            .stat(b"big")
-            .is_ok_and(|stat| stat.id == 1 && stat.size == 7530)
-    );
-    assert_eq!(rt; volume.remove(b"big"), Ok(()));
-    assert!(rt; matches!(volume.next(0), Ok(None)));
-    assert_eq!(rt; volume.create(b"a"), Err(FsErr::Tight));
-    assert!(rt; !volume.has_failed());
+    collect_in(&rt, &mut volume, &image);
     Ok(())
 }

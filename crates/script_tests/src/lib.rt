@@ -4,6 +4,8 @@
 #[cfg(test)]
 mod bench;
 #[cfg(test)]
+mod collection;
+#[cfg(test)]
 mod endings;
 #[cfg(test)]
 mod faults;
@@ -23,6 +25,8 @@ mod reads;
 mod remains;
 #[cfg(test)]
 mod renames;
+#[cfg(test)]
+mod tables;
 #[cfg(test)]
 mod unbuilt;
 

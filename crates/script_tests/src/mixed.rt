@@ -12,8 +12,8 @@ use table_model::{Call, Whence};
 // Flags of openings: of reading, with others, to make the file, to make it anew, without reading, and some that are none.
 const FLAGS: [u32; 10] = [8, 8, 9, 24, 40, 12, 76, 20, 0, 136];
 
-// The files of the flat table, each with the letters of its id.
-fn flat_of(alloc: Global, g: &Geometry, files: &[Sized]) -> Result<Flat, Fail> {
+/// The files of the flat table, each with the letters of its id.
+pub(crate) fn flat_of(alloc: Global, g: &Geometry, files: &[Sized]) -> Result<Flat, Fail> {
     let mut flat = Flat::new(alloc, *g, SLOTS)?;
     let mut id = 1usize;
     for (name, size) in files {
@@ -39,13 +39,12 @@ fn add_open(
     flat: &mut Flat,
     number: u64,
     flags: u32,
-) -> Result<bool, Fail> {
+) -> Result<(), Fail> {
     let (text, name) = name_of(alloc, number)?;
     let mut line = b"open ".to_vec(alloc)?;
     line.extend_from_slice(&text)?;
     line.extend_from_slice(format!(in alloc; " {flags}")?.as_bytes())?;
-    add(both, flat, &line, &Call::OpenFile { name: &name, flags })?;
-    Ok(flags & 4 != 0)
+    add(both, flat, &line, &Call::OpenFile { name: &name, flags })
 }
 
 // Adds a read. Of four, one is of many bytes.
@@ -56,8 +55,7 @@ fn add_read(alloc: Global, both: &mut Both, flat: &mut Flat, x: &mut u64) -> Res
         _ => (draw(x) % 300) as u32,
     };
     let line = format!(in alloc; "read {fd} {count}")?;
-    add(both, flat, line.as_bytes(), &Call::Read { fd, count })?;
-    Ok(())
+    add(both, flat, line.as_bytes(), &Call::Read { fd, count })
 }
 
 // Adds a seek, near the place from which it counts or far from it.
@@ -78,8 +76,7 @@ fn add_seek(alloc: Global, both: &mut Both, flat: &mut Flat, x: &mut u64) -> Res
         flat,
         line.as_bytes(),
         &Call::Seek { fd, offset, from },
-    )?;
-    Ok(())
+    )
 }
 
 // Adds a call of a descriptor alone.
@@ -98,8 +95,7 @@ fn add_open_call(
         "fremove" => Call::FRemove { fd },
         _ => Call::Close { fd },
     };
-    add(both, flat, line.as_bytes(), &call)?;
-    Ok(())
+    add(both, flat, line.as_bytes(), &call)
 }
 
 // Adds a rename of one name of the pool to another.
@@ -120,8 +116,7 @@ fn add_rename(
         old_name: &old_name,
         new_name: &new_name,
     };
-    add(both, flat, &line, &call)?;
-    Ok(())
+    add(both, flat, &line, &call)
 }
 
 // Adds a setting of three meta bytes, by a name of the pool.
@@ -136,8 +131,7 @@ fn add_meta(alloc: Global, both: &mut Both, flat: &mut Flat, number: u64) -> Res
         name: &name,
         meta: meta.as_bytes(),
     };
-    add(both, flat, &line, &call)?;
-    Ok(())
+    add(both, flat, &line, &call)
 }
 
 // Adds one by a descriptor.
@@ -147,61 +141,45 @@ fn add_meta_open(alloc: Global, both: &mut Both, flat: &mut Flat, fd: u16) -> Re
         fd,
         meta: b"\0x\xFF",
     };
-    add(both, flat, line.as_bytes(), &call)?;
-    Ok(())
+    add(both, flat, line.as_bytes(), &call)
 }
 
-// Adds a random call. Answers whether it may have taken a page.
-fn add_drawn(alloc: Global, both: &mut Both, flat: &mut Flat, x: &mut u64) -> Result<bool, Fail> {
-    let kind = draw(x) % 24;
+// Adds a random call.
+fn add_drawn(alloc: Global, both: &mut Both, flat: &mut Flat, x: &mut u64) -> Result<(), Fail> {
+    let kind = draw(x) % 25;
     let number = draw(x) % 12;
     let fd = (draw(x) % 5) as u16;
     match kind {
-        0 => return add_named(alloc, both, flat, number, "create"),
-        1 => return add_named(alloc, both, flat, number, "remove"),
-        2 => return add_named(alloc, both, flat, number, "stat"),
-        3 => return add_next(alloc, both, flat, fd),
-        4 => return add(both, flat, b"info", &Call::GetInfo),
-        5 => add_open_call(alloc, both, flat, fd, "tell")?,
-        6 => add_open_call(alloc, both, flat, fd, "flush")?,
-        7 => add_open_call(alloc, both, flat, fd, "fstat")?,
-        8 => add_open_call(alloc, both, flat, fd, "close")?,
-        20 => add_open_call(alloc, both, flat, fd, "fremove")?,
-        21 => {
-            add_rename(alloc, both, flat, number, draw(x) % 12)?;
-            return Ok(true);
-        }
-        22 => {
-            add_meta(alloc, both, flat, number)?;
-            return Ok(true);
-        }
-        23 => {
-            add_meta_open(alloc, both, flat, fd)?;
-            return Ok(true);
-        }
+        0 => add_named(alloc, both, flat, number, "create"),
+        1 => add_named(alloc, both, flat, number, "remove"),
+        2 => add_named(alloc, both, flat, number, "stat"),
+        3 => add_next(alloc, both, flat, fd),
+        4 => add(both, flat, b"info", &Call::GetInfo),
+        5 => add_open_call(alloc, both, flat, fd, "tell"),
+        6 => add_open_call(alloc, both, flat, fd, "flush"),
+        7 => add_open_call(alloc, both, flat, fd, "fstat"),
+        8 => add_open_call(alloc, both, flat, fd, "close"),
         9..=11 => {
             let flags = FLAGS[(draw(x) % 10) as usize];
-            return add_open(alloc, both, flat, number, flags);
+            add_open(alloc, both, flat, number, flags)
         }
-        12..=15 => add_read(alloc, both, flat, x)?,
-        _ => add_seek(alloc, both, flat, x)?,
+        12..=15 => add_read(alloc, both, flat, x),
+        20 => add_open_call(alloc, both, flat, fd, "fremove"),
+        21 => add_rename(alloc, both, flat, number, draw(x) % 12),
+        22 => add_meta(alloc, both, flat, number),
+        23 => add_meta_open(alloc, both, flat, fd),
+        24 => add(both, flat, b"gc", &Call::Gc),
+        _ => add_seek(alloc, both, flat, x),
     }
-    Ok(false)
 }
 
-// A random script on these files, which takes no more pages than that.
-fn drawn(alloc: Global, g: &Geometry, files: &[Sized], seed: u64, most: u32) -> Result<Both, Fail> {
+// A random script of 150 calls on these files.
+fn drawn(alloc: Global, g: &Geometry, files: &[Sized], seed: u64) -> Result<Both, Fail> {
     let mut x = seed;
     let mut flat = flat_of(alloc, g, files)?;
     let mut both = Both::new(alloc);
-    let mut taken = 0u32;
     for _ in 0..150 {
-        if add_drawn(alloc, &mut both, &mut flat, &mut x)? {
-            taken = taken.saturating_add(1);
-        }
-        if taken >= most {
-            break;
-        }
+        add_drawn(alloc, &mut both, &mut flat, &mut x)?;
     }
     Ok(both)
 }
@@ -219,7 +197,7 @@ fn random_scripts_on_files_are_answered_as_the_flat_table_says(
         let files: [Sized; 4] = [(b"f4", 0), (b"f5", 100), (b"f6", 700), (b"f7", size)];
         let image = filled(alloc, &g, 1, &files)?;
         for seed in 0..scripts {
-            let both = drawn(alloc, &g, &files, seed, 60)?;
+            let both = drawn(alloc, &g, &files, seed)?;
             let is = agrees(alloc, &g, &image, &both)?;
             assert_eq!(rt; is, Ok(true), "of script {seed} on pages of {}", g.page());
         }

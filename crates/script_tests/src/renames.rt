@@ -37,28 +37,6 @@ fn meta_bytes_are_set_by_name_and_by_descriptor(rt: HostRuntime) -> Result<(), F
 }
 
 #[test]
-fn a_rename_for_which_no_page_is_free_ends_the_run(rt: HostRuntime) -> Result<(), Fail> {
-    let alloc = rt.alloc();
-    let g = small()?;
-    let image = formatted(alloc, &g, 0)?;
-    // all entries but those of two blocks: the file's first header page takes one, each rename another
-    let mut script = b"create a\n".to_vec(alloc)?;
-    let mut replies = b"ok\n".to_vec(alloc)?;
-    for _ in 0..13 {
-        script.extend_from_slice(b"rename a b\nrename b a\n")?;
-        replies.extend_from_slice(b"ok\nok\n")?;
-    }
-    script.extend_from_slice(b"rename a b\nrename b a\nstat a\n")?;
-    replies.extend_from_slice(b"ok\n! unbuilt\n")?;
-    let ran = on(alloc, "run", &g, &image, str::from_utf8(&script)?)?;
-    assert_eq!(rt; ran.status, 16);
-    assert_eq!(rt; str::from_utf8(&ran.said)?, str::from_utf8(&replies)?);
-    let listed = on(alloc, "list", &g, &ran.image, "")?;
-    assert!(rt; listed.is(0, "1 1 0 b\n"));
-    Ok(())
-}
-
-#[test]
 fn a_rename_that_is_cut_leaves_one_of_both_names(rt: HostRuntime) -> Result<(), Fail> {
     let alloc = rt.alloc();
     let g = small()?;

@@ -14,7 +14,6 @@ fn a_run_ends_at_a_call_that_is_not_built(rt: HostRuntime) -> Result<(), Fail> {
         "write 1 x",
         "fill 1 1 00",
         "truncate 1 0",
-        "gc",
     ] {
         let script = format!(in alloc; "create a\n{line}\ncreate c\n")?;
         let ran = on(alloc, "run", &g, &image, &script)?;

@@ -62,6 +62,27 @@ pub(crate) fn put_hello(image: &mut Vec<u8>) {
     put_data(image, 0, 1, 0, b"hello");
 }
 
+/// The image of four blocks that a file of 30 data pages fills but for one, with erased bytes behind them: its header page stands
+/// in the first block, its data pages fill the second and the third.
+pub(crate) fn crowded(alloc: Global) -> Result<Vec<u8>, Fail> {
+    let g = Geometry::new(256, 4096, 4, 4096, 0, MagicKind::Length)?;
+    let mut image = empty(alloc, &g)?;
+    image.extend_from_slice(&vec![in alloc; 0xFFu8; 49152]?)?;
+    put_header(&mut image, 0, 1, 7530, b"big");
+    for span in 0..30u8 {
+        let block = if span < 15 { 1 } else { 2 };
+        let page = block * 16 + 1 + span % 15;
+        put(&mut image, 301 + 2 * usize::from(span), &[page, 0]);
+        put(
+            &mut image,
+            usize::from(block) * 4096 + 2 * usize::from(span % 15),
+            &[1, 0],
+        );
+        put(&mut image, usize::from(page) * 256, &[1, 0, span, 0, 0xFC]);
+    }
+    Ok(image)
+}
+
 /// A device in memory that holds an image of 65,536 bytes, in erase units of 4,096.
 pub(crate) fn board_of(alloc: Global, image: &[u8]) -> Result<MemBoard, Fail> {
     if image.len() != 65536 {

@@ -1,7 +1,7 @@
 //! Listings of images made by hand, whole and damaged ones.
 use crate::bench::{AMPLE, Lends, blank, run, run_with};
 use crate::images::{
-    board_of, damaged_image, empty, put, put_data, put_header, put_hello, same, volume,
+    board_of, crowded, damaged_image, empty, put, put_data, put_header, put_hello, same, volume,
 };
 use geometry::{Geometry, MagicKind};
 use image_model::Damage;
@@ -78,26 +78,11 @@ fn files_of_both_kinds_of_pages_in_one_block_are_listed(rt: HostRuntime) -> Resu
 
 #[test]
 fn a_file_of_two_full_blocks_is_listed(rt: HostRuntime) -> Result<(), Fail> {
-    let g = Geometry::new(256, 4096, 4, 4096, 0, MagicKind::Length)?;
-    let mut image = empty(rt.alloc(), &g)?;
-    image.extend_from_slice(&vec![in rt.alloc(); 0xFFu8; 49152]?)?;
-    put_header(&mut image, 0, 1, 7530, b"big");
-    for span in 0..30u8 {
-        let block = if span < 15 { 1 } else { 2 };
-        let page = block * 16 + 1 + span % 15;
-        put(&mut image, 301 + 2 * usize::from(span), &[page, 0]);
-        put(
-            &mut image,
-            usize::from(block) * 4096 + 2 * usize::from(span % 15),
-            &[1, 0],
-        );
-        put(&mut image, usize::from(page) * 256, &[1, 0, span, 0, 0xFC]);
-    }
     assert!(rt;
         lists_as(
             rt.alloc(),
             "list 256 4096 4 0 len chip",
-            &image,
+            &crowded(rt.alloc())?,
             0,
             "1 1 7530 big\n".as_bytes()
         )?

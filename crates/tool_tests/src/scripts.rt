@@ -1,4 +1,5 @@
 use crate::bench::{AMPLE, RUN, blank, formatted, program, run, run_with};
+use crate::images::{board_of, crowded};
 use geometry::MagicKind;
 use nor_core::{CallKind, MemSource};
 use std::test::Fail;
@@ -108,27 +109,39 @@ fn two_blocks_without_magic_are_told_and_left(rt: HostRuntime) -> Result<(), Fai
 
 #[test]
 fn a_volume_without_its_reserve_is_told(rt: HostRuntime) -> Result<(), Fail> {
-    let mut board = formatted(rt.alloc(), MagicKind::Length)?;
-    for block in 0..15u32 {
-        program(&mut board, block * 4096, &[0, 0])?;
-    }
-    assert_eq!(rt; run(rt.alloc(), RUN, &mut board, b"create a\n")?, 14);
+    let image = crowded(rt.alloc())?;
+    let mut board = board_of(rt.alloc(), &image)?;
+    let words = "run 256 4096 4 0 len chip";
+    assert_eq!(rt; run(rt.alloc(), words, &mut board, b"create a\n")?, 14);
     assert_eq!(rt; board.said(), b"! free blocks 1\n".as_slice());
+    assert!(rt; board.image() == image.as_slice());
     Ok(())
 }
 
 #[test]
-fn a_file_without_a_free_page_is_unbuilt(rt: HostRuntime) -> Result<(), Fail> {
-    for line in ["create a", "open a 12"] {
+fn blocks_are_cleaned_before_the_first_line(rt: HostRuntime) -> Result<(), Fail> {
+    let mut board = formatted(rt.alloc(), MagicKind::Length)?;
+    for block in 0..15u32 {
+        program(&mut board, block * 4096, &[0, 0])?;
+    }
+    let script = b"create a\nnext 0\n";
+    assert_eq!(rt; run(rt.alloc(), RUN, &mut board, script)?, 0);
+    assert_eq!(rt; board.said(), b"ok\nok 1 1 0 a\n".as_slice());
+    Ok(())
+}
+
+#[test]
+fn blocks_are_cleaned_for_a_new_file(rt: HostRuntime) -> Result<(), Fail> {
+    for (line, reply) in [("create a", "ok"), ("open a 12", "ok 1")] {
         let mut board = formatted(rt.alloc(), MagicKind::Length)?;
         for block in 0..14u32 {
             program(&mut board, block * 4096, &[0; 30])?;
         }
         let script = format!(in rt.alloc(); "next 0\nopen a 8\n{line}\nnext 0\n")?;
         let status = run(rt.alloc(), RUN, &mut board, script.as_bytes())?;
-        assert_eq!(rt; status, 16, "at {line}");
-        let said = b"ok none\n-10002\n! unbuilt\n".as_slice();
-        assert!(rt; board.said() == said, "at {line}");
+        assert_eq!(rt; status, 0, "at {line}");
+        let said = format!(in rt.alloc(); "ok none\n-10002\n{reply}\nok 1 1 0 a\n")?;
+        assert!(rt; board.said() == said.as_bytes(), "at {line}");
     }
     Ok(())
 }
