@@ -11,6 +11,7 @@ use Rattle.run_model.specs.Runs.{after_all, replies}
 use Rattle.image_model.specs.Tidy.{HasReserve}
 use Rattle.call_model.specs.Safe.{Holds}
 use Rattle.call_model.specs.Memory.{Memory, IsAt}
+use Rattle.call_model.specs.Calls.{Stands}
 use Rattle.call_model.proofs.Safety.{holds_safe, holds_then, holds_itself}
 use Rattle.run_model.specs.Ran.{RunStands, CutIn, MayCut, Reached, SaidPart}
 use Rattle.run_model.proofs.Runs.{after_all-append, replies-append, cut_wider, cut_later}
@@ -69,18 +70,19 @@ module _ {D : Type 0} {nor : NorOf D} {g : Geometry} where
     whole_is = replies-append g m xs ys ∙ ap (λ (l : List ℕ). replies g m xs ++ l) s.whole_is ∙ sym (append_assoc (replies g m xs) s.part s.rest);
   }
 
-  -- a volume stands still where only reads were made
-  pub stands_read : {old new : D} {memory : Memory} {m : Moment} → OnlyReads nor old new → RunStands nor g old memory m → RunStands nor g new memory m
-  stands_read {old} {new} {memory} {m} reads stands = record {
-    stands = record { tells = reads.told stands.stands.tells; image = subst (λ (l : List ℕ). IsAt g l memory m) (sym reads.bytes) stands.stands.image };
-    reserve = subst (λ (l : List ℕ). HasReserve g l) (sym reads.bytes) stands.reserve;
-  }
+  -- a volume stands still on a device that tells the same bytes
+  pub stands_on : {old new : D} {memory : Memory} {m : Moment} → nor.bytes new ≡ nor.bytes old → (nor.tells old → nor.tells new) → Stands nor g old memory m → Stands nor g new memory m
+  stands_on {old} {new} {memory} {m} same told stands = record { tells = told stands.tells; image = subst (λ (l : List ℕ). IsAt g l memory m) (sym same) stands.image }
+
+  -- so it does at a moment of a run
+  pub run_stands_on : {old new : D} {memory : Memory} {m : Moment} → nor.bytes new ≡ nor.bytes old → (nor.tells old → nor.tells new) → RunStands nor g old memory m → RunStands nor g new memory m
+  run_stands_on {old} {new} same told stands = record { stands = stands_on same told stands.stands; reserve = subst (λ (l : List ℕ). HasReserve g l) (sym same) stands.reserve; room = stands.room }
 
   -- where only reads were made, no call was
   pub reached_reads : {old new : D} {memory : Memory} {m : Moment} → OnlyReads nor old new → RunStands nor g old memory m → Reached nor g old new memory m []
   reached_reads {old} {new} {memory} {m} reads stands = record {
     said = reads.said ∙ sym (ap (λ (l : List ℕ). nor.said old ++ l) (no_replies g m) ∙ append-nil (nor.said old));
-    stands = subst (λ (j : Moment). RunStands nor g new memory j) (sym (no_calls g m)) (stands_read reads stands);
+    stands = subst (λ (j : Moment). RunStands nor g new memory j) (sym (no_calls g m)) (run_stands_on reads.bytes reads.told stands);
     holds = subst (λ (l : List ℕ). Holds g l (nor.bytes new)) reads.bytes (holds_itself g (nor.bytes new));
   }
 

@@ -2,26 +2,29 @@
 use Rattle.std.proofs.Common.{◌≡◌, ℕ, ◌-◌, ◌≤◌, List, [], ◌∷◌, ◌++◌, length, take, drop, refl, sym, ◌∙◌, ap, subst, arith, inl, inr, ⊎_elim, append-nil, Bool, true}
 use Rattle.std.proofs.lemmas.Bool.Decides.{nat_tests}
 use Rattle.std.proofs.lemmas.List.{take-append-drop, length-take-le, take_all, length-drop}
-use Rattle.std.proofs.lemmas.Bool.{cases_lt}
+use Rattle.std.proofs.lemmas.Bool.{cases_Bool, cases_lt}
 use Rattle.geometry.specs.declared.geometry.Geometry.{Geometry}
 use Rattle.nor_core.specs.declared.state.NorState.{Ghosts as NorOf}
 use Rattle.nor_core.specs.Device.{Leaves, Changes, InSay, Says}
 use Rattle.nor_core.proofs.Cuts.{andthen, widened, wider}
-use Rattle.table_model.specs.Table.{File}
+use Rattle.table_model.specs.Table.{File, State}
+use Rattle.table_model.specs.Room.{has_room}
 use Rattle.table_model.specs.Ask.{Ask}
 use Rattle.table_model.specs.Reply.{Answer}
 use Rattle.table_model.specs.Flat.{answer}
-use Rattle.table_model.specs.Steps.{steps}
-use Rattle.table_model.specs.Window.{Moment, after, from_settled, IsAmong}
+use Rattle.table_model.specs.Steps.{steps, is_refusal}
+use Rattle.table_model.specs.Window.{Moment, after, settled_at, leaves_window, continues, may_wait, incoming_of, from_settled, IsAmong}
 use Rattle.call_script.specs.Replies.{text}
 use Rattle.image_model.specs.Tables.{table_of}
 use Rattle.image_model.specs.Tidy.{HasReserve, has_spare}
 use Rattle.call_model.specs.Safe.{IsSafe, Holds}
-use Rattle.call_model.specs.Memory.{Memory, IsAt}
+use Rattle.call_model.specs.Memory.{Memory}
 use Rattle.call_model.specs.Calls.{Stands, Publishes, Answers}
+use Rattle.call_model.proofs.Room.{room_kept}
 use Rattle.run_model.specs.Runs.{said_of, after_all, replies, IsCut}
 use Rattle.run_model.specs.Ran.{RunStands, RunPublishes, RunAnswers, MayCut, Reached, SaidPart}
 use Rattle.run_model.proofs.Runs.{said_some, is_settled}
+use Rattle.run_model.proofs.Chain.{run_stands_on}
 
 -- the one reply of one call
 one_reply : (g : Geometry) (m : Moment) (ask : Ask) → replies g m (ask ∷ []) ≡ said_of g m ask
@@ -49,6 +52,24 @@ cut_say g m ask n t le is among = ⊎_elim
 spared : (g : Geometry) (image : List ℕ) → HasReserve g image → has_spare g image ≡ true
 spared g image reserve = grind (arith, nat_tests)
 
+-- the state after a call is that of its answer
+after_state : (g : Geometry) (spare : Bool) (m : Moment) (ask : Ask) → (after g spare m ask).state ≡ (answer g spare m.state ask).next
+unfolding after settled_at
+after_state g spare m ask = ⊎_elim
+    (λ leaves. rw leaves refl)
+    (λ moves. rw moves (⊎_elim
+    (λ refused. rw refused refl)
+    (λ done. rw done (⊎_elim
+    (λ goes. rw goes refl)
+    (λ stops. rw stops (⊎_elim (λ waits. rw waits refl) (λ settles. rw settles refl) (cases_Bool (may_wait g (incoming_of m.state ask)))))
+    (cases_Bool (continues g m.window (incoming_of m.state ask)))))
+    (cases_Bool (is_refusal (answer g spare m.state ask).answer))))
+    (cases_Bool (leaves_window ask))
+
+-- a table that has room has it after a call
+room_after : (g : Geometry) (m : Moment) (ask : Ask) → has_room g m.state.table ≡ true → has_room g (after g true m ask).state.table ≡ true
+room_after g m ask room = subst (λ (s : State). has_room g s.table ≡ true) (sym (after_state g true m ask)) (room_kept g true m.state ask room)
+
 module _ {D : Type 0} {nor : NorOf D} {g : Geometry} where
   -- what a call publishes is what one of a run may
   pub run_publishes : {old new : D} (memory : Memory) (m : Moment) (ask : Ask) → Changes nor old new (Publishes g memory m ask) → Changes nor old new (RunPublishes g memory m ask)
@@ -59,7 +80,11 @@ module _ {D : Type 0} {nor : NorOf D} {g : Geometry} where
   pub run_answers : {old new : D} {before after_it : Memory} {m : Moment} {ask : Ask} {reply : Answer} → RunStands nor g old before m → Answers nor g old new after_it m ask reply → RunAnswers nor g old new after_it m ask reply
   run_answers {old} {new} {before} {after_it} {m} {ask} {reply} stands a = record {
     reply_is = subst (λ (b : Bool). reply ≡ (answer g b m.state ask).answer) (spared g (nor.bytes old) stands.reserve) a.reply_is;
-    stands = record { stands = subst (λ (b : Bool). Stands nor g new after_it (after g b m ask)) (spared g (nor.bytes old) stands.reserve) a.stands; reserve = a.holds.reserve stands.reserve };
+    stands = record {
+      stands = subst (λ (b : Bool). Stands nor g new after_it (after g b m ask)) (spared g (nor.bytes old) stands.reserve) a.stands;
+      reserve = a.holds.reserve stands.reserve;
+      room = room_after g m ask stands.room;
+    };
     holds = a.holds;
   }
 
@@ -107,9 +132,6 @@ module _ {D : Type 0} {nor : NorOf D} {g : Geometry} where
   unfolding said_of
   reply_reached {old} {mid} {new} {before} {after_it} {m} {ask} {reply} changes ok says leaves done = record {
     said = done ∙ ap (λ (l : List ℕ). l ++ text reply) changes.said ∙ ap (λ (l : List ℕ). nor.said old ++ l) (ap text ok.reply_is ∙ sym (one_reply g m ask));
-    stands = subst (λ (j : Moment). RunStands nor g new after_it j) (sym (one_call g m ask)) (record {
-      stands = record { tells = leaves.told ok.stands.stands.tells; image = subst (λ (l : List ℕ). IsAt g l after_it (after g true m ask)) (sym says.bytes) ok.stands.stands.image };
-      reserve = subst (λ (l : List ℕ). HasReserve g l) (sym says.bytes) ok.stands.reserve;
-    });
+    stands = subst (λ (j : Moment). RunStands nor g new after_it j) (sym (one_call g m ask)) (run_stands_on says.bytes leaves.told ok.stands);
     holds = subst (λ (l : List ℕ). Holds g (nor.bytes old) l) (sym says.bytes) ok.holds;
   }
