@@ -1,265 +1,512 @@
--- A call on a volume, by what it does to the device.
-use Rattle.std.proofs.Common.{◌≡◌, ℕ, ◌⊎◌, ⊎_elim, inl, inr, List, Bool, true, false, cond, ◌&&◌, if◌then◌else◌, refl, sym, ◌∙◌, ap, subst}
-use Rattle.std.specs.Prelude.{ℤ, Option, Some, None}
-use Rattle.std.proofs.lemmas.Bool.{cases_Bool}
+-- A call on a volume: what waits is put onto the chip, and then it is done where nothing waits.
+use Rattle.std.proofs.Common.{◌≡◌, ℕ, ◌≤◌, ◌⊎◌, ⊎_elim, inl, inr, List, [], ◌∷◌, ◌++◌, append-nil, replicate, Bool, true, false, ◌&&◌, ◌||◌, ◌==◌, if◌then◌else◌, refl, sym, ◌∙◌, ap, subst, arith}
+use Rattle.std.specs.Prelude.{nat_le, Option, Some, None, Result, Ok, Err}
+use Rattle.std.specs.Option.{is_some}
+use Rattle.std.proofs.lemmas.Bool.{cases_Bool, leb-true, le-leb}
+use Rattle.std.proofs.lemmas.List.{length-replicate}
 use Rattle.geometry.specs.declared.geometry.Geometry.{Geometry}
 use Rattle.nor_core.specs.declared.state.NorState.{Ghosts as NorOf}
-use Rattle.nor_core.proofs.Cuts.{wider, unchanged, reads_none}
+use Rattle.nor_core.specs.Device.{Changes, OnlyReads}
+use Rattle.nor_core.proofs.Cuts.{wider, go_on, unchanged, reads_none}
 use Rattle.table_model.specs.declared.error.FsErr.{FsErr}
-use Rattle.table_model.specs.declared.error.FsErr.TheVariants.{Failed as FsFailed, DeviceFault, Unbuilt}
-use Rattle.table_model.specs.Table.{Open, State}
-use Rattle.table_model.specs.Descriptors.{open_at}
-use Rattle.table_model.specs.Outcome.{gives, on_descriptor}
-use Rattle.table_model.specs.Calls.{answer_tell}
-use Rattle.table_model.specs.Reply.{Answer, Tells as Number, Refuses}
+use Rattle.table_model.specs.declared.error.FsErr.TheVariants.{Failed as FsFailed, BadName, NameTooLong, Tight, DeviceFault, Damaged}
+use Rattle.table_model.specs.Table.{File, State}
+use Rattle.table_model.specs.Reply.{Answer, Tells as Number, Gives, Refuses}
 use Rattle.table_model.specs.declared.call.Call.{Call}
-use Rattle.table_model.specs.declared.call.Call.TheVariants.{Create, OpenFile, Read, Seek, Tell, Flush, Close, Remove, FRemove, Rename, StatName, FStat, Next, GetInfo, Gc, SetMeta, FSetMeta}
-use Rattle.table_model.specs.declared.call.Whence.{Whence}
-use Rattle.table_model.specs.Ask.{Ask, Creates, Opens, Reads, Seeks, Tells, Flushes, Closes, Removes, RemovesOpen, Renames, Stats, StatsOpen, NextAbove, Informs, Collects, SetsMeta, SetsMetaOpen, asked}
+use Rattle.table_model.specs.declared.call.Call.TheVariants.{Tell, Write, Fill}
+use Rattle.table_model.specs.Ask.{Ask, Reads, Writes, Fills, Tells, Collects, asked}
+use Rattle.table_model.specs.Outcome.{Outcome}
 use Rattle.table_model.specs.Flat.{answer}
 use Rattle.table_model.specs.Steps.{is_refusal, steps}
-use Rattle.table_model.specs.Window.{Moment, Waiting, settled_at, incoming_of, continues, from_settled, IsAmong}
+use Rattle.table_model.specs.Window.{Moment, after, settled_at, leaves_window, incoming_of, incoming_at, continues, from_settled, IsAmong, Waiting, Incoming}
 use Rattle.image_model.specs.Tables.{table_of}
+use Rattle.image_model.specs.Tidy.{HasReserve, has_spare}
+use Rattle.write_window.specs.Runs.{Run}
+use Rattle.call_model.specs.Safe.{IsSafe, Holds as HoldsImage}
+use Rattle.call_model.specs.Memory.{RunWaits}
+use Rattle.call_model.specs.Calls.{Stands, Publishes, Answers}
+use Rattle.call_model.proofs.Safety.{holds_safe, holds_then, holds_itself, safe_as}
+use Rattle.call_model.proofs.Parts.{among-left, among-right}
+use Rattle.call_model.proofs.After.{tell-stays, after-settled, settled-among, fills-as_writes}
 use Rattle.volume.specs.declared.stage.Stage.{Stage}
 use Rattle.volume.specs.declared.stage.Stage.TheVariants.{Checked, Failed}
+use Rattle.volume.specs.declared.told.Told.{Told}
+use Rattle.volume.specs.declared.told.Told.TheVariants.{Bytes}
 use Rattle.volume.specs.declared.volume.Volume.{Volume}
-use Rattle.volume.specs.Opening.{is_open, is_failed, stage_after}
-use Rattle.volume.specs.Stages.{takes_calls}
+use Rattle.volume.specs.Opening.{is_open, is_mounted, is_failed, stage_after}
+use Rattle.volume.specs.Stages.{takes_calls, has_failed}
 use Rattle.volume.specs.Same.{IsSameVolume}
-use Rattle.table_model.specs.Window.{after}
-use Rattle.volume.specs.Built.{is_built}
-use Rattle.volume.specs.Replies.{breaks, may_answer}
-use Rattle.image_model.specs.Tidy.{has_spare}
+use Rattle.volume.specs.Replies.{shown_by, reply_of, breaks, may_answer, may_settle, is_of_name, is_of_descriptor, is_calm}
+use Rattle.volume.specs.Moves.{Moves}
 use Rattle.volume.specs.Holds.{memory, IsImageOf, Holds}
-use Rattle.call_model.specs.Safe.{IsSafe}
-use Rattle.call_model.specs.Memory.{IsAt}
-use Rattle.call_model.specs.Calls.{Stands, Publishes, Answers}
-use Rattle.volume.specs.Goes.{CallCut, StopsShort, Goes}
-use Rattle.volume.specs.Calls.{Unchanged, Calls}
-use Rattle.volume.proofs.Going.{stays}
-use Rattle.volume.proofs.Staying.{same_none}
+use Rattle.volume.specs.Goes.{CallCut, IsDoable, IsCorner, StopsShort, IsCollected}
+use Rattle.volume.specs.Acts.{Acts}
+use Rattle.volume.specs.Unchanged.{Unchanged}
+use Rattle.volume.specs.Settles.{Settles}
+use Rattle.volume.specs.Settled.{is_fill, GoesOnNot, ActsOn}
+use Rattle.volume.specs.Calls.{HasRun, HasNone, Calls}
+use Rattle.volume.proofs.Staying.{same_then, same_none}
 
--- ---- the flat table
+-- ---- tables and answers
 
--- a call that is no write continues nothing
-goes_on_none : (g : Geometry) (w : Option Waiting) → continues g w None ≡ false
-goes_on_none g None = refl
-goes_on_none g (Some w) = refl
+-- the settled table is the first of those that wait
+pub settled_first : (t : List File) (m : Moment) (more : List (List File)) → t ≡ m.settled → IsAmong t (from_settled m more)
+unfolding IsAmong
+settled_first t m more e = inl e
 
-either : {A : Type 0} (b : Bool) (x y : A) → y ≡ x → cond b x y ≡ x
-either true x y e = refl
-either false x y e = e
+-- what waits goes before the steps of a call
+among_more : (t : List File) (m : Moment) (more : List (List File)) → IsAmong t (from_settled m []) → IsAmong t (from_settled m more)
+unfolding IsAmong
+among_more t m more h = ⊎_elim
+    (λ (here : t ≡ m.settled). inl here)
+    (λ (waits : IsAmong t (m.waiting ++ [])). inr (among-left t m.waiting more (subst (λ (l : List (List File)). IsAmong t l) (append-nil m.waiting) waits)))
+    h
 
--- telling an offset leaves the state
-tells_stay : (found : Option Open) (s : State) → (on_descriptor found s (λ d. gives (Number d.offset) s)).next ≡ s
-tells_stay None s = refl
-tells_stay (Some d) s = refl
+-- a step of a call, or the table of the state, which is among what waits
+among_step : (t : List File) (m : Moment) (more : List (List File)) → IsAmong m.state.table (from_settled m []) → IsAmong t (m.state.table ∷ more) → IsAmong t (from_settled m more)
+unfolding IsAmong
+among_step t m more was h = ⊎_elim
+    (λ (here : t ≡ m.state.table). subst (λ (u : List File). IsAmong u (from_settled m more)) (sym here) (among_more m.state.table m more was))
+    (λ (step : IsAmong t more). inr (among-right t m.waiting more step))
+    h
 
--- after a call of this build nothing waits, where nothing waited before
-after_built : (g : Geometry) (spare : Bool) (m : Moment) (ask : Ask) → m ≡ settled_at m.state → is_built ask ≡ true → after g spare m ask ≡ settled_at (answer g spare m.state ask).next
-unfolding after incoming_of answer answer_tell
-after_built g spare m (Creates name) still built = either (is_refusal (answer g spare m.state (Creates name)).answer) _ _ (rw (goes_on_none g m.window) refl)
-after_built g spare m (Opens name flags) still built = either (is_refusal (answer g spare m.state (Opens name flags)).answer) _ _ (rw (goes_on_none g m.window) refl)
-after_built g spare m (Reads fd count) still built = either (is_refusal (answer g spare m.state (Reads fd count)).answer) _ _ (rw (goes_on_none g m.window) refl)
-after_built g spare m (Seeks fd offset from) still built = either (is_refusal (answer g spare m.state (Seeks fd offset from)).answer) _ _ (rw (goes_on_none g m.window) refl)
-after_built g spare m (Tells fd) still built = rw (tells_stay (open_at m.state.slots fd) m.state) still
-after_built g spare m (Flushes fd) still built = either (is_refusal (answer g spare m.state (Flushes fd)).answer) _ _ (rw (goes_on_none g m.window) refl)
-after_built g spare m (Closes fd) still built = either (is_refusal (answer g spare m.state (Closes fd)).answer) _ _ (rw (goes_on_none g m.window) refl)
-after_built g spare m (Removes name) still built = either (is_refusal (answer g spare m.state (Removes name)).answer) _ _ (rw (goes_on_none g m.window) refl)
-after_built g spare m (RemovesOpen fd) still built = either (is_refusal (answer g spare m.state (RemovesOpen fd)).answer) _ _ (rw (goes_on_none g m.window) refl)
-after_built g spare m (Renames old_name new_name) still built = either (is_refusal (answer g spare m.state (Renames old_name new_name)).answer) _ _ (rw (goes_on_none g m.window) refl)
-after_built g spare m (Stats name) still built = either (is_refusal (answer g spare m.state (Stats name)).answer) _ _ (rw (goes_on_none g m.window) refl)
-after_built g spare m (StatsOpen fd) still built = either (is_refusal (answer g spare m.state (StatsOpen fd)).answer) _ _ (rw (goes_on_none g m.window) refl)
-after_built g spare m (NextAbove id) still built = either (is_refusal (answer g spare m.state (NextAbove id)).answer) _ _ (rw (goes_on_none g m.window) refl)
-after_built g spare m Informs still built = either (is_refusal (answer g spare m.state Informs).answer) _ _ (rw (goes_on_none g m.window) refl)
-after_built g spare m Collects still built = either (is_refusal (answer g spare m.state Collects).answer) _ _ (rw (goes_on_none g m.window) refl)
-after_built g spare m (SetsMeta name meta) still built = either (is_refusal (answer g spare m.state (SetsMeta name meta)).answer) _ _ (rw (goes_on_none g m.window) refl)
-after_built g spare m (SetsMetaOpen fd meta) still built = either (is_refusal (answer g spare m.state (SetsMetaOpen fd meta)).answer) _ _ (rw (goes_on_none g m.window) refl)
-after_built g spare m _ still built = absurd (let no : false ≡ true = built in cc)
+-- two numbers that a third is no more than alike
+same_le : (n a b : ℕ) → (n ≤ a → n ≤ b) → (n ≤ b → n ≤ a) → nat_le n a ≡ nat_le n b
+same_le n a b to from = ⊎_elim
+    (λ (yes : nat_le n a ≡ true). yes ∙ sym (le-leb n b (to (leb-true n a yes))))
+    (λ (no : nat_le n a ≡ false). ⊎_elim
+    (λ (more : nat_le n b ≡ true). absurd (let bad : true ≡ false = sym (le-leb n a (from (leb-true n b more))) ∙ no in cc))
+    (λ (none : nat_le n b ≡ false). no ∙ sym none)
+    (cases_Bool (nat_le n b)))
+    (cases_Bool (nat_le n a))
 
--- where nothing waits, what a cut leaves of a state is what one may leave of its moment
-publishes : (g : Geometry) (was image : List ℕ) (m : Moment) (ask : Ask) → m ≡ settled_at m.state → CallCut g m.state ask was image → IsSafe g was image × IsAmong (table_of g image) (from_settled m (steps g (has_spare g was) m.state ask))
-unfolding settled_at
-publishes g was image m ask still cut = (
-  record { sound = λ magics. cut.sound; mends = cut.mends },
-  subst (λ (j : Moment). IsAmong (table_of g image) (from_settled j (steps g (has_spare g was) m.state ask))) (sym still) cut.table,
-)
+-- nothing is there
+none_is : {X : Type 0} (o : Option X) → is_some o ≡ false → o ≡ None
+none_is None e = refl
+none_is (Some x) e = absurd (let no : true ≡ false = e in cc)
+
+some_is : {X : Type 0} (o : Option X) → (o ≡ None → ⊥) → is_some o ≡ true
+some_is None never = absurd (never refl)
+some_is (Some x) never = refl
 
 -- what breaks is a refusal
 broken_refusal : (reply : Answer) → breaks reply ≡ true → is_refusal reply ≡ true
 broken_refusal (Refuses why) e = refl
 broken_refusal _ e = absurd (let no : false ≡ true = e in cc)
 
--- ---- the volume
+refuses_same : (a b : FsErr) → Refuses a ≡ Refuses b → a ≡ b
+refuses_same a b e = cc
 
--- how the stage goes: to Failed, where a call broke that had asked for a program or an erase
+-- bytes that wait aren't kept off the chip by a name
+name_settles : (why : FsErr) → is_of_name why ≡ true → may_settle (Refuses why) ≡ true → ⊥
+name_settles BadName name e = let no : false ≡ true = e in cc
+name_settles NameTooLong name e = let no : false ≡ true = e in cc
+name_settles _ name e = let no : false ≡ true = name in cc
+
+name_calm : (why : FsErr) → is_of_name why ≡ true → is_of_descriptor why ≡ true → ⊥
+name_calm BadName name e = let no : false ≡ true = e in cc
+name_calm NameTooLong name e = let no : false ≡ true = e in cc
+name_calm _ name e = let no : false ≡ true = name in cc
+
+-- what is told of no bytes is told whatever bytes were lent
+shown_apart : (told : Told) (into : List ℕ) → ((bytes : List ℕ) → shown_by told [] ≡ Gives bytes → ⊥) → shown_by told [] ≡ shown_by told into
+shown_apart (Bytes n) into never = absurd (never _ refl)
+shown_apart _ into never = refl
+
+-- ---- fills
+
+-- a write doesn't stop short
+whole_write : (g : Geometry) (image : List ℕ) (s : State) (fd : ℕ) (bytes : List ℕ) (reply : Answer) → StopsShort g image s (Writes fd bytes) reply → ⊥
+whole_write g image s fd bytes reply short = ⊎_elim (λ (is : Writes fd bytes ≡ Collects). cc) (λ (corner : IsCorner g image s (Writes fd bytes)). let no : false ≡ true = corner.cuts in cc) short.why
+
+fill_answers : (fd count byte : ℕ) (reply : Answer) → may_answer (Writes fd (replicate count byte)) reply ≡ true → may_answer (Fills fd count byte) reply ≡ true
+fill_answers fd count byte (Refuses why) e = e
+fill_answers fd count byte (Number n) e = ap (λ (k : ℕ). n == k) (sym (length-replicate count byte)) ∙ e
+fill_answers fd count byte _ e = absurd (let no : false ≡ true = e in cc)
+
+fill_incoming : (s : State) (fd count byte : ℕ) → incoming_of s (Fills fd count byte) ≡ incoming_of s (Writes fd (replicate count byte))
+unfolding incoming_of
+fill_incoming s fd count byte = ap (λ (n : ℕ). incoming_at s fd n) (sym (length-replicate count byte))
+
+-- ---- calls that neither tell an offset nor write
+
+pub record IsOther (call : Call) : Type 0 where
+  pub tell : (fd : ℕ) → call ≡ Tell fd → ⊥
+  pub write : (fd : ℕ) (bytes : _) → call ≡ Write fd bytes → ⊥
+  pub fill : (fd count byte : ℕ) → call ≡ Fill fd count byte → ⊥
+
+-- they don't go on with what waits
+pub record IsApart (ask : Ask) : Type 0 where
+  pub leaves : leaves_window ask ≡ false
+  pub apart : (g : Geometry) (m : Moment) → continues g m.window (incoming_of m.state ask) ≡ false
+  pub no_fill : is_fill ask ≡ false
+
+goes_on_none : (g : Geometry) (w : Option Waiting) → continues g w None ≡ false
+goes_on_none g None = refl
+goes_on_none g (Some w) = refl
+
+pub other_apart : (call : Call) → IsOther call → IsApart (asked call)
+unfolding incoming_of
+other_apart (Tell fd) other = absurd (other.tell fd refl)
+other_apart (Write fd bytes) other = absurd (other.write fd bytes refl)
+other_apart (Fill fd count byte) other = absurd (other.fill fd count byte refl)
+other_apart _ other = record { leaves = refl; apart = λ g m. goes_on_none g m.window; no_fill = refl }
+
+-- ---- the stage
+
+pub open_is : (stage : Stage) → is_open stage ≡ true → stage ≡ Checked
+open_is Checked e = refl
+open_is _ e = absurd (let no : false ≡ true = e in cc)
+
+-- a volume that takes a call is never mounted anew by it
+pub not_mounted : (wrote : Bool) (reply : Answer) → is_mounted (stage_after wrote reply) ≡ false
+not_mounted wrote reply = by_test (wrote && breaks reply)
+  where
+    by_test : (b : Bool) → is_mounted (if b then Failed else Checked) ≡ false
+    by_test true = refl
+    by_test false = refl
+
+-- how it goes: to Failed, where a call broke that had asked for a program or an erase, or had settled what waited
 abbrev pub IsStaged : Stage → Stage → Bool → Answer → Type 0
 IsStaged old new wrote reply = ((new ≡ old) × (wrote ≡ true → breaks reply ≡ true → ⊥)) ⊎ ((new ≡ Failed) × (wrote ≡ true) × (breaks reply ≡ true))
 
-staged_by : (old new : Stage) (wrote : Bool) (reply : Answer) (broke : Bool) → old ≡ Checked → breaks reply ≡ broke → new ≡ (if wrote && broke then Failed else Checked) → IsStaged old new wrote reply
+pub staged_by : (old new : Stage) (wrote : Bool) (reply : Answer) (broke : Bool) → old ≡ Checked → breaks reply ≡ broke → new ≡ (if wrote && broke then Failed else Checked) → IsStaged old new wrote reply
 staged_by old new true reply true was is e = inr (e, refl, is)
 staged_by old new true reply false was is e = inl (e ∙ sym was, λ w broke. let no : true ≡ false = sym broke ∙ is in cc)
 staged_by old new false reply broke was is e = inl (e ∙ sym was, λ w b. let no : false ≡ true = w in cc)
 
 module _ {N : Type 0} {nor : NorOf N} where
-  -- the image of a volume at a moment is that of its state
-  image_at : (v : Volume N nor) (m : Moment) → nor.tells v.nor.now → IsAt v.geometry (nor.bytes v.nor.now) (memory v) m → IsImageOf nor v.geometry v.nor.now v.slots.now m.state
+  -- a volume where all is settled is one on which nothing waits
+  image_settled : (v : Volume N nor) (s : State) → Holds v (settled_at s) → IsImageOf nor v.geometry v.nor.now v.slots.now s
   unfolding settled_at
-  image_at v m tells at = record { tells = tells; tidy = at.tidy; table = sym (at.table ∙ ap (λ (j : Moment). j.settled) at.run); slots = at.slots; opened = at.opened }
+  image_settled v s here = record { tells = here.tells; tidy = here.image.tidy; table = sym here.image.table; slots = here.image.slots; opened = here.image.opened }
 
-  image_of : (v : Volume N nor) (m : Moment) → Holds v m → IsImageOf nor v.geometry v.nor.now v.slots.now m.state
-  image_of v m here = image_at v m here.tells here.image
-
-  -- the volume stands at the moment of a state
-  stands_by : (old new : Volume N nor) (s : State) → IsImageOf nor old.geometry new.nor.now new.slots.now s → Stands nor old.geometry new.nor.now (memory new) (settled_at s)
+  -- so a device and descriptors on which nothing waits are those of a volume where all is settled
+  stands_by : (g : Geometry) (v : Volume N nor) (s : State) → (memory v).run ≡ None → IsImageOf nor g v.nor.now v.slots.now s → Stands nor g v.nor.now (memory v) (settled_at s)
   unfolding settled_at
-  stands_by old new s here = record { tells = here.tells; image = record { tidy = here.tidy; table = sym here.table; slots = here.slots; run = refl; opened = here.opened } }
-
-  -- a volume that takes no calls
-  pub calls_closed : (ask : Ask) (v : Volume N nor) → takes_calls v ≡ false → Calls ask v v (Refuses FsFailed)
-  calls_closed ask v shut = record {
-    same = same_none v;
-    cuts = unchanged v.nor.now (λ was image. (m : Moment) → Publishes v.geometry (memory v) m ask was image) (λ tells m at.
-        let i = image_at v m tells at in publishes v.geometry (nor.bytes v.nor.now) (nor.bytes v.nor.now) m ask at.run (stays v.geometry (nor.bytes v.nor.now) m.state ask i.tidy i.table));
-    answers = λ m takes here no_fault no_lack whole. absurd (let no : true ≡ false = sym takes ∙ shut in cc);
-    refused = λ m takes here no_fault whole refusal. absurd (let no : true ≡ false = sym takes ∙ shut in cc);
-    collects = λ m takes here is. absurd (let no : true ≡ false = sym takes ∙ shut in cc);
-    unbuilt = λ takes built. absurd (let no : true ≡ false = sym takes ∙ shut in cc);
-    unbuilt_only = λ takes e. absurd (let no : true ≡ false = sym takes ∙ shut in cc);
-    closed = λ e. (refl, refl, record { reads = reads_none v.nor.now; slots = refl; stage = refl });
-    cause = λ e. absurd (cc);
-    differs = λ d e. absurd (cc);
-    undamaged = λ m here d e. cc;
-    among = λ takes. absurd (let no : true ≡ false = sym takes ∙ shut in cc);
-    brief = λ bytes e. absurd (cc);
-    named = λ takes built why e. absurd (let no : true ≡ false = sym takes ∙ shut in cc);
-    names = λ takes why name e. absurd (let no : true ≡ false = sym takes ∙ shut in cc);
-    failed = λ e. absurd (let no : false ≡ true = e in cc);
-    stays = inl refl;
-    stops = λ m takes stopped here. absurd (let no : true ≡ false = sym takes ∙ shut in cc);
-    looks = λ look. (reads_none v.nor.now, refl);
-    keeps = λ keeps. refl;
+  stands_by g v s none here = record {
+    tells = here.tells;
+    image = record {
+      tidy = here.tidy;
+      table = sym here.table;
+      slots = here.slots;
+      run = subst (λ (o : Option Run). RunWaits g (nor.bytes v.nor.now) (settled_at s) o) (sym none) refl;
+      opened = here.opened;
+    };
   }
 
-  module _ {old new : Volume N nor} (ask : Ask) (wrote : Bool) (reply : Answer) (checked : old.stage ≡ Checked) (same : IsSameVolume old new) (stage : new.stage ≡ stage_after wrote reply)
-      (goes : Goes nor old.geometry ask old.nor.now new.nor.now old.slots.now new.slots.now wrote reply) where
-    open_is : takes_calls old ≡ true
-    open_is = ap is_open checked
+  -- nothing is done to a volume
+  pub unchanged_same : (v : Volume N nor) → Unchanged v v
+  unchanged_same v = record { reads = reads_none v.nor.now; slots = refl; run = refl; stage = refl }
 
-    staged : IsStaged old.stage new.stage wrote reply
-    staged = staged_by old.stage new.stage wrote reply (breaks reply) checked refl stage
+  -- what stands may be left by a cut in any call
+  pub cuts_none : (ask : Ask) (v : Volume N nor) → Changes nor v.nor.now v.nor.now (λ was image. (m : Moment) → Publishes v.geometry (memory v) m ask was image)
+  cuts_none ask v =
+      let a = nor.bytes v.nor.now in
+      unchanged v.nor.now (λ was image. (m : Moment) → Publishes v.geometry (memory v) m ask was image)
+      (λ tells m at. (safe_as v.geometry a a (holds_itself v.geometry a), settled_first (table_of v.geometry a) m (steps v.geometry (has_spare v.geometry a) m.state ask) at.table))
 
-    stage_stays : wrote ≡ false → new.stage ≡ old.stage
-    stage_stays none = ⊎_elim (λ (stood : (new.stage ≡ old.stage) × (wrote ≡ true → breaks reply ≡ true → ⊥)). stood.0) (λ (broke : (new.stage ≡ Failed) × (wrote ≡ true) × (breaks reply ≡ true)). absurd (let no : true ≡ false = sym broke.1 ∙ none in cc)) staged
+  -- ---- a volume that takes no calls
 
-    -- refused where nothing was written, nothing is changed
-    untouched : wrote ≡ false → is_refusal reply ≡ true → Unchanged old new
-    untouched none refusal = record { reads = goes.untouched none; slots = goes.still refusal; stage = stage_stays none }
+  pub calls_closed : (ask : Ask) (v : Volume N nor) → takes_calls v ≡ false → Calls ask v v (Refuses FsFailed)
+  calls_closed ask v shut =
+      let never : takes_calls v ≡ true → ⊥ = λ takes. let no : true ≡ false = sym takes ∙ shut in cc in
+      record {
+        same = same_none v;
+        cuts = cuts_none ask v;
+        answers = λ m takes. absurd (never takes);
+        refused = λ m takes. absurd (never takes);
+        collects = λ m takes. absurd (never takes);
+        unstuck = λ m takes here reserve is tight. never takes;
+        cornered = λ m takes. absurd (never takes);
+        leaves = λ takes. absurd (never takes);
+        extends = λ m takes. absurd (never takes);
+        closed = λ e. (refl, refl, unchanged_same v);
+        cause = λ e. absurd (cc);
+        differs = λ d e. absurd (cc);
+        undamaged = λ m here d e. cc;
+        among = λ takes. absurd (never takes);
+        brief = λ bytes e. absurd (cc);
+        named = λ takes. absurd (never takes);
+        names = λ takes. absurd (never takes);
+        failed = λ e. absurd (let no : false ≡ true = e in cc);
+        stays = inl refl;
+        stops = λ m takes. absurd (never takes);
+        looks = λ look none. (reads_none v.nor.now, refl);
+        keeps = λ keeps. refl;
+      }
 
-    refused_so : (why : FsErr) → reply ≡ Refuses why → wrote ≡ false → Unchanged old new
-    refused_so why e none = untouched none (ap is_refusal e)
+  -- ---- what waits could not be put onto the chip
 
-    broken_so : breaks reply ≡ true → is_refusal reply ≡ true
-    broken_so broke = broken_refusal reply broke
+  pub calls_stopped : (ask : Ask) {old new : Volume N nor} (why : FsErr) → takes_calls old ≡ true → leaves_window ask ≡ false → GoesOnNot old ask → Settles old new (Err why) → Calls ask old new (Refuses why)
+  calls_stopped ask {old} {new} why takes leaves apart settles =
+      let run : HasRun old = some_is (memory old).run (λ none. let no = (settles.idle none).0 in cc) in
+      let some : HasNone old → ⊥ = λ none. let no = (settles.idle none).0 in cc in
+      let shut : takes_calls old ≡ false → ⊥ = λ e. let no : true ≡ false = sym takes ∙ e in cc in
+      let fault : (m : Moment) → Holds old m → Refuses why ≡ Refuses DeviceFault = λ m here. ap (λ (w : FsErr). Refuses w) (settles.stands m here) in
+      record {
+        same = settles.same;
+        cuts = wider settles.cuts (λ tells image cut m at. let c = cut m at in (c.0, among_more (table_of old.geometry image) m (steps old.geometry (has_spare old.geometry (nor.bytes old.nor.now)) m.state ask) c.1));
+        answers = λ m takes here no_fault whole. absurd (no_fault (fault m here));
+        refused = λ m takes none. absurd (some none);
+        collects = λ m takes none. absurd (some none);
+        unstuck = λ m takes here reserve is tight. let no : Refuses Tight ≡ Refuses DeviceFault = sym tight ∙ fault m here in cc;
+        cornered = λ m takes here corner tight. absurd (let no : Refuses Tight ≡ Refuses DeviceFault = sym tight ∙ fault m here in cc);
+        leaves = λ takes e. absurd (let no : true ≡ false = sym e ∙ leaves in cc);
+        extends = λ m takes here e. absurd (let no : true ≡ false = sym e ∙ apart m here in cc);
+        closed = λ e. absurd (shut e);
+        cause = λ e. settles.stops.cause (refuses_same why DeviceFault e);
+        differs = λ d e. settles.stops.differs d (refuses_same why (Damaged d) e);
+        undamaged = λ m here d e. let no : Refuses (Damaged d) ≡ Refuses DeviceFault = sym e ∙ fault m here in cc;
+        among = λ takes. inr (run, settles.stops.among);
+        brief = λ bytes e. absurd (cc);
+        named = λ takes w e. inr (run, settles.stops.among);
+        names = λ takes w name e. absurd (name_settles w name (subst (λ (x : FsErr). may_settle (Refuses x) ≡ true) (refuses_same why w e) settles.stops.among));
+        failed = settles.stops.failed;
+        stays = ⊎_elim (λ (stood : new.stage ≡ old.stage). inl stood) (λ (broke : (has_failed new ≡ true) × (breaks (Refuses why) ≡ true)). inr (takes, broke.0, broke.1)) settles.stops.stays;
+        stops = λ m takes stopped here. inl run;
+        looks = λ look none. absurd (some none);
+        keeps = λ keeps. settles.slots;
+      }
 
-    -- a call that wrote is one that the flat table does
-    done_by : (m : Moment) → Holds old m → wrote ≡ true → reply ≡ (answer old.geometry (has_spare old.geometry (nor.bytes old.nor.now)) m.state ask).answer → is_refusal reply ≡ true → ⊥
-    done_by m here w is refusal = let no : true ≡ false = sym refusal ∙ ap is_refusal is ∙ (goes.begun m.state (image_of old m here) w).done in cc
+  -- ---- a call that is done where nothing waits
 
-    answered_by : (m : Moment) → Holds old m → (reply ≡ Refuses DeviceFault → ⊥) → (reply ≡ Refuses Unbuilt → ⊥) → (StopsShort ask reply → ⊥) → is_built ask ≡ true → Answers nor old.geometry old.nor.now new.nor.now (memory new) m ask reply
-    answered_by m here no_fault no_lack whole built =
-        let spare = has_spare old.geometry (nor.bytes old.nor.now) in
-        let r = goes.answers m.state (image_of old m here) no_fault no_lack whole in
+  module _ {old mid new : Volume N nor} (ask : Ask) (had : Bool) (reply : Answer) (takes : takes_calls old ≡ true) (leaves : leaves_window ask ≡ false) (apart : GoesOnNot old ask)
+      (settles : Settles old mid (Ok had)) (same : IsSameVolume mid new) (did : ActsOn had ask mid new reply) where
+    acts : Acts nor old.geometry ask mid.nor.now new.nor.now mid.slots.now new.slots.now (memory new).run did.wrote reply
+    acts = subst (λ (g : Geometry). Acts nor g ask mid.nor.now new.nor.now mid.slots.now new.slots.now (memory new).run did.wrote reply) settles.same.geometry did.acts
+
+    -- all is settled when it is done
+    stood : (m : Moment) → Holds old m → Holds mid (settled_at m.state) × HoldsImage old.geometry (nor.bytes old.nor.now) (nor.bytes mid.nor.now)
+    stood m here = settles.stands m here
+
+    image_mid : (m : Moment) → Holds old m → IsImageOf nor old.geometry mid.nor.now mid.slots.now m.state
+    image_mid m here = subst (λ (g : Geometry). IsImageOf nor g mid.nor.now mid.slots.now m.state) settles.same.geometry (image_settled mid m.state (stood m here).0)
+
+    -- a run waits only where two blocks are free, so two are free before where two are when all is settled
+    reserve_by : (m : Moment) (o : Option Run) → (memory old).run ≡ o → Holds old m → HasReserve old.geometry (nor.bytes mid.nor.now) → HasReserve old.geometry (nor.bytes old.nor.now)
+    reserve_by m None e here reserve = subst (λ (v : Volume N nor). HasReserve old.geometry (nor.bytes v.nor.now)) (settles.idle e).1 reserve
+    reserve_by m (Some r) e here reserve = (subst (λ (o : Option Run). RunWaits old.geometry (nor.bytes old.nor.now) m o) e here.image.run).1
+
+    reserve_before : (m : Moment) → Holds old m → HasReserve old.geometry (nor.bytes mid.nor.now) → HasReserve old.geometry (nor.bytes old.nor.now)
+    reserve_before m here reserve = reserve_by m (memory old).run refl here reserve
+
+    spare : (m : Moment) → Holds old m → has_spare old.geometry (nor.bytes mid.nor.now) ≡ has_spare old.geometry (nor.bytes old.nor.now)
+    spare m here = same_le 2 _ _ (reserve_before m here) (stood m here).1.reserve
+
+    cut_by : (m : Moment) → Holds old m → (image : List ℕ) → CallCut old.geometry m.state ask (nor.bytes mid.nor.now) image →
+        IsSafe old.geometry (nor.bytes old.nor.now) image × IsAmong (table_of old.geometry image) (from_settled m (steps old.geometry (has_spare old.geometry (nor.bytes old.nor.now)) m.state ask))
+    cut_by m here image cut =
+        let g = old.geometry in
+        let was = nor.bytes old.nor.now in (
+          holds_safe g was (nor.bytes mid.nor.now) image (stood m here).1 (record { sound = λ magics. cut.sound; mends = cut.mends }),
+          among_step (table_of g image) m (steps g (has_spare g was) m.state ask) (settled-among g was (memory old) m here.image) (subst (λ (b : Bool). IsAmong (table_of g image) (m.state.table ∷ steps g b m.state ask)) (spare m here) cut.table),
+        )
+
+    cuts_by : Changes nor old.nor.now new.nor.now (λ was image. (m : Moment) → Publishes old.geometry (memory old) m ask was image)
+    cuts_by = go_on
+        (wider settles.cuts (λ tells image cut m at. let c = cut m at in (c.0, among_more (table_of old.geometry image) m (steps old.geometry (has_spare old.geometry (nor.bytes old.nor.now)) m.state ask) c.1)))
+        acts.cuts
+        (λ tells image before after m at. let here : Holds old m = record { tells = tells; image = at } in cut_by m here image (after m.state (image_mid m here)))
+
+    -- what stops short once all is settled does so before
+    short_before : (m : Moment) → Holds old m → StopsShort old.geometry (nor.bytes mid.nor.now) m.state ask reply → StopsShort old.geometry (nor.bytes old.nor.now) m.state ask reply
+    short_before m here short = record {
+      why = ⊎_elim
+          (λ (is : ask ≡ Collects). inl is)
+          (λ (corner : IsCorner old.geometry (nor.bytes mid.nor.now) m.state ask). inr (record { cuts = corner.cuts; reserve = reserve_before m here corner.reserve; full = corner.full }))
+          short.why;
+      tight = short.tight;
+    }
+
+    answered_by : (m : Moment) → Holds old m → (reply ≡ Refuses DeviceFault → ⊥) → (StopsShort old.geometry (nor.bytes old.nor.now) m.state ask reply → ⊥) → Answers nor old.geometry old.nor.now new.nor.now (memory new) m ask reply
+    answered_by m here no_fault whole =
+        let g = old.geometry in
+        let image = image_mid m here in
+        let r = acts.answers m.state image no_fault (λ short. whole (short_before m here short)) in
         record {
-          reply_is = r.reply_is;
-          stands = subst (λ (j : Moment). Stands nor old.geometry new.nor.now (memory new) j) (sym (after_built old.geometry spare m ask here.image.run built))
-              (stands_by old new (answer old.geometry spare m.state ask).next r.holds);
-          holds = record { sound = λ magics. (goes.cuts.now here.tells m.state (image_of old m here)).sound; reserve = r.reserve };
+          reply_is = r.reply_is ∙ ap (λ (b : Bool). (answer g b m.state ask).answer) (spare m here);
+          stands = subst (λ (j : Moment). Stands nor g new.nor.now (memory new) j)
+              (ap (λ (b : Bool). after g b (settled_at m.state) ask) (spare m here) ∙ after-settled g (has_spare g (nor.bytes old.nor.now)) m ask leaves (apart m here))
+              r.stands;
+          holds = holds_then g (nor.bytes old.nor.now) (nor.bytes mid.nor.now) (nor.bytes new.nor.now) (stood m here).1 (record { sound = λ magics. (acts.cuts.now image.tells m.state image).sound; reserve = r.reserve });
         }
 
-    refused_by : (m : Moment) → Holds old m → (reply ≡ Refuses DeviceFault → ⊥) → (StopsShort ask reply → ⊥) → is_refusal reply ≡ true → is_built ask ≡ true → Unchanged old new
-    refused_by m here no_fault whole refusal built = ⊎_elim
-        (λ (w : wrote ≡ true). absurd (done_by m here w (goes.answers m.state (image_of old m here) no_fault (λ lacking. let no : true ≡ false = sym built ∙ goes.unbuilt_only lacking in cc) whole).reply_is refusal))
-        (λ (none : wrote ≡ false). untouched none refusal)
-        (cases_Bool wrote)
+    -- ---- the stage
+
+    checked : old.stage ≡ Checked
+    checked = open_is old.stage takes
+
+    staged : IsStaged old.stage new.stage (had || did.wrote) reply
+    staged = staged_by old.stage new.stage (had || did.wrote) reply (breaks reply) checked refl did.stage
+
+    stage_stays : had ≡ false → did.wrote ≡ false → new.stage ≡ old.stage
+    stage_stays idle unwritten =
+        let neither : (had || did.wrote) ≡ false = rw idle unwritten in
+        did.stage ∙ ap (λ (b : Bool). stage_after b reply) neither ∙ sym checked
+
+    no_run : HasNone old → had ≡ false
+    no_run none = let is = (settles.idle none).0 in cc
+
+    had_none : had ≡ false → HasNone old
+    had_none e = none_is (memory old).run (sym settles.done.2 ∙ e)
+
+    -- where nothing waited it has only read, where it has asked for no program and no erase
+    only_reads : HasNone old → did.wrote ≡ false → OnlyReads nor old.nor.now new.nor.now
+    only_reads none unwritten = subst (λ (v : Volume N nor). OnlyReads nor v.nor.now new.nor.now) (settles.idle none).1 (acts.untouched unwritten)
+
+    untouched : HasNone old → did.wrote ≡ false → is_refusal reply ≡ true → Unchanged old new
+    untouched none unwritten refusal = record { reads = only_reads none unwritten; slots = (acts.still refusal).0 ∙ settles.slots; run = (acts.still refusal).1 ∙ sym none; stage = stage_stays (no_run none) unwritten }
+
+    -- a call that asked for a program or an erase is one that the flat table does
+    doable : (m : Moment) → Holds old m → did.wrote ≡ true → IsDoable old.geometry (nor.bytes old.nor.now) m.state ask
+    doable m here w = record { done = subst (λ (b : Bool). is_refusal (answer old.geometry b m.state ask).answer ≡ false) (spare m here) (acts.begun m.state (image_mid m here) w).done }
+
+    refused_by : (m : Moment) → HasNone old → Holds old m → (reply ≡ Refuses DeviceFault → ⊥) → (StopsShort old.geometry (nor.bytes old.nor.now) m.state ask reply → ⊥) → is_refusal reply ≡ true → Unchanged old new
+    refused_by m none here no_fault whole refusal = ⊎_elim
+        (λ (w : did.wrote ≡ true). absurd (let no : true ≡ false = sym refusal ∙ ap is_refusal (answered_by m here no_fault whole).reply_is ∙ (doable m here w).done in cc))
+        (λ (unwritten : did.wrote ≡ false). untouched none unwritten refusal)
+        (cases_Bool did.wrote)
+
+    failed_by : breaks reply ≡ true → (has_failed new ≡ true) ⊎ Unchanged old new
+    failed_by broke = ⊎_elim
+        (λ (stood : (new.stage ≡ old.stage) × ((had || did.wrote) ≡ true → breaks reply ≡ true → ⊥)). ⊎_elim
+        (λ (h : had ≡ true). absurd (stood.1 (rw h refl) broke))
+        (λ (h : had ≡ false). ⊎_elim
+        (λ (w : did.wrote ≡ true). absurd (stood.1 (rw h w) broke))
+        (λ (w : did.wrote ≡ false). inr (untouched (had_none h) w (broken_refusal reply broke)))
+        (cases_Bool did.wrote))
+        (cases_Bool had))
+        (λ (failed : (new.stage ≡ Failed) × ((had || did.wrote) ≡ true) × (breaks reply ≡ true)). inl (ap is_failed failed.0))
+        staged
+
+    stopped_by : (m : Moment) → takes_calls new ≡ false → Holds old m → HasRun old ⊎ IsDoable old.geometry (nor.bytes old.nor.now) m.state ask
+    stopped_by m stopped here = ⊎_elim
+        (λ (stood : (new.stage ≡ old.stage) × ((had || did.wrote) ≡ true → breaks reply ≡ true → ⊥)). absurd (let no : true ≡ false = sym takes ∙ sym (ap is_open stood.0) ∙ stopped in cc))
+        (λ (failed : (new.stage ≡ Failed) × ((had || did.wrote) ≡ true) × (breaks reply ≡ true)). ⊎_elim
+        (λ (h : had ≡ true). inl (sym settles.done.2 ∙ h))
+        (λ (h : had ≡ false). inr (doable m here (rw h at failed.1)))
+        (cases_Bool had))
+        staged
 
     pub calls_by : Calls ask old new reply
     calls_by = record {
-      same = same;
-      cuts = wider goes.cuts (λ tells image cut m at. publishes old.geometry (nor.bytes old.nor.now) image m ask at.run (cut m.state (image_at old m tells at)));
-      answers = λ m takes here no_fault no_lack whole. ⊎_elim
-          (λ (built : is_built ask ≡ true). answered_by m here no_fault no_lack whole built)
-          (λ (not_built : is_built ask ≡ false). absurd (no_lack (goes.unbuilt not_built).0))
-          (cases_Bool (is_built ask));
-      refused = λ m takes here no_fault whole refusal. ⊎_elim
-          (λ (built : is_built ask ≡ true). refused_by m here no_fault whole refusal built)
-          (λ (not_built : is_built ask ≡ false). untouched (goes.unbuilt not_built).1 refusal)
-          (cases_Bool (is_built ask));
-      collects = λ m takes here is. goes.collects m.state (image_of old m here) is;
-      unbuilt = λ takes not_built. let w = goes.unbuilt not_built in (w.0, refused_so Unbuilt w.0 w.1);
-      unbuilt_only = λ takes e. goes.unbuilt_only e;
-      closed = λ shut. absurd (let no : true ≡ false = sym open_is ∙ shut in cc);
-      cause = goes.cause;
-      differs = goes.differs;
-      undamaged = λ m here. goes.undamaged m.state (image_of old m here);
-      among = λ takes. goes.among;
-      brief = goes.brief;
-      named = λ takes built why e. let w = goes.named.refused built why e in (w.0, refused_so why w.0 w.1);
-      names = λ takes why name e. goes.named.only why name e;
-      failed = λ broke. ⊎_elim
-          (λ (stood : (new.stage ≡ old.stage) × (wrote ≡ true → breaks reply ≡ true → ⊥)). ⊎_elim (λ (w : wrote ≡ true). absurd (stood.1 w broke)) (λ (none : wrote ≡ false). inr (untouched none (broken_so broke))) (cases_Bool wrote))
-          (λ (failed : (new.stage ≡ Failed) × (wrote ≡ true) × (breaks reply ≡ true)). inl (ap is_failed failed.0))
-          staged;
+      same = same_then settles.same same;
+      cuts = cuts_by;
+      answers = λ m takes here no_fault whole. answered_by m here no_fault whole;
+      refused = λ m takes none here no_fault whole refusal. refused_by m none here no_fault whole refusal;
+      collects = λ m takes none here is. subst (λ (v : Volume N nor). IsCollected old.geometry reply (nor.bytes v.nor.now) (nor.bytes new.nor.now)) (settles.idle none).1 (acts.collects m.state (image_mid m here) is);
+      unstuck = λ m takes here reserve is tight. ((acts.collects m.state (image_mid m here) is).stuck tight).short ((stood m here).1.reserve reserve);
+      cornered = λ m takes here corner tight.
+          let there : IsCorner old.geometry (nor.bytes mid.nor.now) m.state ask = record { cuts = corner.cuts; reserve = (stood m here).1.reserve corner.reserve; full = corner.full } in
+          let stays = acts.cornered m.state (image_mid m here) there tight in
+          let geometry = same.geometry ∙ settles.same.geometry in
+          let now = stands_by old.geometry new m.state (acts.still (ap is_refusal tight)).1 stays.holds in
+          (subst (λ (g : Geometry). Stands nor g new.nor.now (memory new) (settled_at m.state)) (sym geometry) now, stays.reserve);
+      leaves = λ takes e. absurd (let no : true ≡ false = sym e ∙ leaves in cc);
+      extends = λ m takes here e. absurd (let no : true ≡ false = sym e ∙ apart m here in cc);
+      closed = λ shut. absurd (let no : true ≡ false = sym takes ∙ shut in cc);
+      cause = λ e. let rose = acts.cause e in let more = settles.same.faults in omega arith;
+      differs = acts.differs;
+      undamaged = λ m here. acts.undamaged m.state (image_mid m here);
+      among = λ takes. inl acts.among;
+      brief = acts.brief;
+      named = λ takes why e. let w = acts.named.refused why e in inl (w.0, λ none. untouched none w.1 (ap is_refusal w.0));
+      names = λ takes why name e. acts.named.only why name e;
+      failed = failed_by;
       stays = ⊎_elim
-          (λ (stood : (new.stage ≡ old.stage) × (wrote ≡ true → breaks reply ≡ true → ⊥)). inl stood.0)
-          (λ (failed : (new.stage ≡ Failed) × (wrote ≡ true) × (breaks reply ≡ true)). inr (open_is, ap is_failed failed.0, failed.2))
+          (λ (stood : (new.stage ≡ old.stage) × ((had || did.wrote) ≡ true → breaks reply ≡ true → ⊥)). inl stood.0)
+          (λ (failed : (new.stage ≡ Failed) × ((had || did.wrote) ≡ true) × (breaks reply ≡ true)). inr (takes, ap is_failed failed.0, failed.2))
           staged;
-      stops = λ m takes stopped here. ⊎_elim
-          (λ (stood : (new.stage ≡ old.stage) × (wrote ≡ true → breaks reply ≡ true → ⊥)). absurd (let no : true ≡ false = sym open_is ∙ sym (ap is_open stood.0) ∙ stopped in cc))
-          (λ (failed : (new.stage ≡ Failed) × (wrote ≡ true) × (breaks reply ≡ true)). goes.begun m.state (image_of old m here) failed.1)
-          staged;
-      looks = λ look. let none = goes.looks look in (goes.untouched none, stage_stays none);
-      keeps = goes.keeps;
+      stops = λ m takes stopped here. stopped_by m stopped here;
+      looks = λ look none. let unwritten = acts.looks look in (only_reads none unwritten, stage_stays (no_run none) unwritten);
+      keeps = λ keeps. acts.keeps keeps ∙ settles.slots;
     }
 
--- ---- calls that aren't built
+  -- ---- a call that only looks at descriptors: what waits goes on waiting
 
--- a call that is none of those that are built
-pub record IsOther (call : Call) : Type 0 where
-  pub create : (name : _) → call ≡ Create name → ⊥
-  pub opening : (name : _) (flags : ℕ) → call ≡ OpenFile name flags → ⊥
-  pub read : (fd count : ℕ) → call ≡ Read fd count → ⊥
-  pub seek : (fd : ℕ) (offset : ℤ) (from : Whence) → call ≡ Seek fd offset from → ⊥
-  pub tell : (fd : ℕ) → call ≡ Tell fd → ⊥
-  pub flush : (fd : ℕ) → call ≡ Flush fd → ⊥
-  pub close : (fd : ℕ) → call ≡ Close fd → ⊥
-  pub remove : (name : _) → call ≡ Remove name → ⊥
-  pub fremove : (fd : ℕ) → call ≡ FRemove fd → ⊥
-  pub rename : (old_name new_name : _) → call ≡ Rename old_name new_name → ⊥
-  pub stat : (name : _) → call ≡ StatName name → ⊥
-  pub fstat : (fd : ℕ) → call ≡ FStat fd → ⊥
-  pub next : (after : ℕ) → call ≡ Next after → ⊥
-  pub info : call ≡ GetInfo → ⊥
-  pub gc : call ≡ Gc → ⊥
-  pub meta : (name meta : _) → call ≡ SetMeta name meta → ⊥
-  pub fmeta : (fd : ℕ) (meta : _) → call ≡ FSetMeta fd meta → ⊥
+  pub calls_told : (fd : ℕ) (v : Volume N nor) (result : Result Told FsErr) → takes_calls v ≡ true → Moves (Tells fd) v.slots.now v.slots.now result → Calls (Tells fd) v v (reply_of result [])
+  calls_told fd v result takes moves =
+      let a = nor.bytes v.nor.now in
+      let calm : (e : Answer) → reply_of result [] ≡ e → is_calm e ≡ true = λ e is. sym (ap is_calm is) ∙ moves.calm in
+      record {
+        same = same_none v;
+        cuts = cuts_none (Tells fd) v;
+        answers = λ m takes here no_fault whole. record {
+          reply_is = sym (ap (λ (o : Outcome). o.answer) (moves.answers v.geometry (has_spare v.geometry a) m.state here.image.slots));
+          stands = subst (λ (j : Moment). Stands nor v.geometry v.nor.now (memory v) j) (sym (tell-stays v.geometry (has_spare v.geometry a) m fd)) here;
+          holds = holds_itself v.geometry a;
+        };
+        refused = λ m takes none here no_fault whole refusal. unchanged_same v;
+        collects = λ m takes none here is. absurd (cc);
+        unstuck = λ m takes here reserve is tight. cc;
+        cornered = λ m takes here corner. absurd (let no : false ≡ true = corner.cuts in cc);
+        leaves = λ takes e. refl;
+        extends = λ m takes here e. refl;
+        closed = λ shut. absurd (let no : true ≡ false = sym takes ∙ shut in cc);
+        cause = λ e. absurd (let no : false ≡ true = calm (Refuses DeviceFault) e in cc);
+        differs = λ d e. absurd (let no : false ≡ true = calm (Refuses (Damaged d)) e in cc);
+        undamaged = λ m here d e. let no : false ≡ true = calm (Refuses (Damaged d)) e in cc;
+        among = λ takes. inl moves.among;
+        brief = λ bytes e. absurd (let no : false ≡ true = calm (Gives bytes) e in cc);
+        named = λ takes why e. absurd (cc);
+        names = λ takes why name e. absurd (name_calm why name (calm (Refuses why) e));
+        failed = λ broke. inr (unchanged_same v);
+        stays = inl refl;
+        stops = λ m takes stopped. absurd (let no : true ≡ false = sym takes ∙ stopped in cc);
+        looks = λ look none. (reads_none v.nor.now, refl);
+        keeps = λ keeps. refl;
+      }
 
-pub not_built : (call : Call) → IsOther call → (is_built (asked call) ≡ false) × (may_answer (asked call) (Refuses Unbuilt) ≡ true)
-not_built (Create name) other = absurd (other.create name refl)
-not_built (OpenFile name flags) other = absurd (other.opening name flags refl)
-not_built (Read fd count) other = absurd (other.read fd count refl)
-not_built (Seek fd offset from) other = absurd (other.seek fd offset from refl)
-not_built (Tell fd) other = absurd (other.tell fd refl)
-not_built (Flush fd) other = absurd (other.flush fd refl)
-not_built (Close fd) other = absurd (other.close fd refl)
-not_built (Remove name) other = absurd (other.remove name refl)
-not_built (FRemove fd) other = absurd (other.fremove fd refl)
-not_built (Rename old_name new_name) other = absurd (other.rename old_name new_name refl)
-not_built (StatName name) other = absurd (other.stat name refl)
-not_built (FStat fd) other = absurd (other.fstat fd refl)
-not_built (Next after) other = absurd (other.next after refl)
-not_built GetInfo other = absurd (other.info refl)
-not_built Gc other = absurd (other.gc refl)
-not_built (SetMeta name meta) other = absurd (other.meta name meta refl)
-not_built (FSetMeta fd meta) other = absurd (other.fmeta fd meta refl)
-not_built _ other = (refl, refl)
+  -- ---- bytes that are lent for nothing, and fills
+
+  -- a call that reads no bytes tells the same whatever bytes were lent
+  pub calls_into : {ask : Ask} {old new : Volume N nor} (told : Told) (into : List ℕ) → ((fd count : ℕ) → ask ≡ Reads fd count → ⊥) → Calls ask old new (shown_by told []) → Calls ask old new (shown_by told into)
+  calls_into {ask} {old} {new} told into never calls =
+      subst (λ (reply : Answer). Calls ask old new reply) (shown_apart told into (λ bytes e. let given = calls.brief bytes e in never given.fd given.count given.reads)) calls
+
+  -- a fill does what the write of its bytes does
+  pub calls_filled : (fd count byte : ℕ) {old new : Volume N nor} (reply : Answer) → Calls (Writes fd (replicate count byte)) old new reply → Calls (Fills fd count byte) old new reply
+  calls_filled fd count byte {old} {new} reply calls =
+      let g = old.geometry in
+      let was = nor.bytes old.nor.now in
+      let spare = has_spare g was in
+      let whole : (s : State) → StopsShort g was s (Writes fd (replicate count byte)) reply → ⊥ = λ s short. whole_write g was s fd (replicate count byte) reply short in
+      record {
+        same = calls.same;
+        cuts = wider calls.cuts (λ tells image cut m at. let c = cut m at in
+            (c.0, subst (λ (more : List (List File)). IsAmong (table_of g image) (from_settled m more)) (sym (fills-as_writes g spare m fd count byte).steps_are) c.1));
+        answers = λ m takes here no_fault short.
+            let f = fills-as_writes g spare m fd count byte in
+            let a = calls.answers m takes here no_fault (whole m.state) in
+            record {
+              reply_is = a.reply_is ∙ ap (λ (o : Outcome). o.answer) (sym f.answer_is);
+              stands = subst (λ (j : Moment). Stands nor g new.nor.now (memory new) j) (sym f.after_is) a.stands;
+              holds = a.holds;
+            };
+        refused = λ m takes none here no_fault short refusal. calls.refused m takes none here no_fault (whole m.state) refusal;
+        collects = λ m takes none here is. absurd (cc);
+        unstuck = λ m takes here reserve is tight. cc;
+        cornered = λ m takes here corner. absurd (let no : false ≡ true = corner.cuts in cc);
+        leaves = λ takes e. absurd (let no : false ≡ true = e in cc);
+        extends = λ m takes here e. calls.extends m takes here (subst (λ (i : Option Incoming). continues g m.window i ≡ true) (fill_incoming m.state fd count byte) e);
+        closed = calls.closed;
+        cause = calls.cause;
+        differs = calls.differs;
+        undamaged = calls.undamaged;
+        among = λ takes. ⊎_elim
+            (λ (done : may_answer (Writes fd (replicate count byte)) reply ≡ true). inl (fill_answers fd count byte reply done))
+            (λ (stopped : HasRun old × (may_settle reply ≡ true)). inr stopped)
+            (calls.among takes);
+        brief = λ bytes e. let given = calls.brief bytes e in absurd (let no = given.reads in cc);
+        named = calls.named;
+        names = calls.names;
+        failed = calls.failed;
+        stays = calls.stays;
+        stops = λ m takes stopped here. ⊎_elim
+            (λ (run : HasRun old). inl run)
+            (λ (does : IsDoable g was m.state (Writes fd (replicate count byte))). inr (record { done = ap (λ (o : Outcome). is_refusal o.answer) (fills-as_writes g spare m fd count byte).answer_is ∙ does.done }))
+            (calls.stops m takes stopped here);
+        looks = calls.looks;
+        keeps = calls.keeps;
+      }

@@ -1,5 +1,5 @@
 -- What the flat table answers to calls through a descriptor.
-use Rattle.std.proofs.Common.{◌≡◌, ℕ, ◌+◌, List, length, Bool, true, false, refl, sym, ◌∙◌, ap, subst, arith}
+use Rattle.std.proofs.Common.{◌≡◌, ℕ, ◌+◌, List, length, Bool, true, false, ◌||◌, refl, sym, ◌∙◌, ap, subst, arith}
 use Rattle.std.specs.Option.{option_map}
 use Rattle.std.specs.Prelude.{ℤ, pos, ◌+ℤ◌, Option, Some, None, Result, Ok, Err}
 use Rattle.nor_core.specs.declared.state.NorState.{Ghosts as NorOf}
@@ -25,7 +25,7 @@ use Rattle.file_read.specs.Whole.{IsFileOf}
 use Rattle.fd_table.specs.declared.slot.FdSlot.{FdSlot}
 use Rattle.fd_table.specs.Slots.{descriptors, held, opened}
 use Rattle.volume.specs.declared.told.Told.TheVariants.{Done, Number as AsNumber}
-use Rattle.volume.specs.Replies.{may_answer, may_meet, names_fault, reads_file, base_at, as_fs_err}
+use Rattle.volume.specs.Replies.{may_answer, may_meet, names_fault, is_change, reads_file, base_at, as_fs_err}
 use Rattle.volume.specs.Holds.{IsImageOf}
 use Rattle.volume.specs.Goes.{Goes}
 use Rattle.volume.specs.Moves.{with_slots, Moves}
@@ -188,7 +188,7 @@ goes_closed {D} {nor} {g} {d} {slots} ask fd wrote none flat fine met closed is 
     goes_refused {T = Unit {0}} ask BadDescriptor wrote none (reads_none d) flat fine met (λ e. absurd (cc)) (λ s here no_fault. is s (open_in slots s fd None here.slots closed))
 
 -- A look for a page of the file that failed.
-pub goes_unread : {D : Type 0} {nor : NorOf D} {g : Geometry} {old new : D} {slots : List FdSlot} (ask : Ask) (why : FsErr) (wrote : Bool) → wrote ≡ false → OnlyReads nor old new → is_flat ask ≡ true → names_fault ask ≡ None → may_meet ask DeviceFault ≡ true → reads_file ask ≡ true → MayMiss why →
+pub goes_unread : {D : Type 0} {nor : NorOf D} {g : Geometry} {old new : D} {slots : List FdSlot} (ask : Ask) (why : FsErr) (wrote : Bool) → wrote ≡ false → OnlyReads nor old new → is_flat ask ≡ true → names_fault ask ≡ None → may_meet ask DeviceFault ≡ true → (is_change ask || reads_file ask) ≡ true → MayMiss why →
     (why ≡ DeviceFault → Rose (nor.faults old) (nor.faults new)) → ((s : State) → IsImageOf nor g old slots s → (why ≡ DeviceFault → ⊥) → ⊥) → Goes nor g ask old new slots slots wrote (Refuses why)
 goes_unread ask DeviceFault wrote none reads flat fine met reader missed cause never = goes_refused {T = Unit {0}} ask DeviceFault wrote none reads flat fine met (λ e. cause refl) (λ s here no_fault. absurd (no_fault refl))
 goes_unread ask (Damaged d) wrote none reads flat fine met reader missed cause never = goes_missed ask d wrote none reads flat fine reader missed (λ s here. never s here (λ e. cc))
@@ -246,7 +246,7 @@ module _ {D : Type 0} {nor : NorOf D} {g : Geometry} {old : D} {slots : List FdS
       ∙ rw (t.0, t.1, here.slots) refl
 
 -- A read that failed: the device, or a page isn't there.
-pub unread_by : {D : Type 0} {nor : NorOf D} {g : Geometry} {old new : D} {slots : List FdSlot} {T : Type 0} (id : ℕ) (ask : Ask) (why : StepErr) (wrote : Bool) → wrote ≡ false → OnlyReads nor old new → is_flat ask ≡ true → names_fault ask ≡ None → may_meet ask DeviceFault ≡ true → reads_file ask ≡ true → IsMissing id why →
+pub unread_by : {D : Type 0} {nor : NorOf D} {g : Geometry} {old new : D} {slots : List FdSlot} {T : Type 0} (id : ℕ) (ask : Ask) (why : StepErr) (wrote : Bool) → wrote ≡ false → OnlyReads nor old new → is_flat ask ≡ true → names_fault ask ≡ None → may_meet ask DeviceFault ≡ true → (is_change ask || reads_file ask) ≡ true → IsMissing id why →
     (IsErrOf {T = T} (Err why) StepFault → Rose (nor.faults old) (nor.faults new)) → ((s : State) → IsImageOf nor g old slots s → HoldsOrFault {T = T} (Err why) (λ x. Unit {0})) → Goes nor g ask old new slots slots wrote (Refuses (as_fs_err why))
 unread_by id ask StepFault wrote none reads flat fine met reader missing cause told = goes_unread ask DeviceFault wrote none reads flat fine met reader tt (λ e. cause refl) (λ s here no_fault. no_fault refl)
 unread_by id ask (StepDamaged d) wrote none reads flat fine met reader missing cause told = goes_unread ask (Damaged d) wrote none reads flat fine met reader missing.apart (λ e. absurd (cc)) (λ s here no_fault. told s here)

@@ -1,5 +1,5 @@
 -- Collections in calls, by what cleaning block after block tells.
-use Rattle.std.proofs.Common.{◌≡◌, ℕ, ◌⊎◌, ⊎_elim, List, length, Bool, true, false, refl, sym, ◌∙◌, ap, subst}
+use Rattle.std.proofs.Common.{◌≡◌, ℕ, ◌⊎◌, ⊎_elim, inl, List, length, Bool, true, false, refl, sym, ◌∙◌, ap, subst}
 use Rattle.std.specs.Prelude.{Result, Ok, Err, IsErrOf}
 use Rattle.geometry.specs.declared.geometry.Geometry.{Geometry}
 use Rattle.nor_core.specs.declared.state.NorState.{Ghosts as NorOf}
@@ -28,7 +28,7 @@ use Rattle.fd_table.specs.declared.slot.FdSlot.{FdSlot}
 use Rattle.volume.specs.Collecting.{RoomCut, packing}
 use Rattle.volume.specs.Holds.{IsImageOf}
 use Rattle.volume.specs.Replies.{as_fs_err, is_of_name, may_answer}
-use Rattle.volume.specs.Goes.{CallCut, IsDoable, Goes}
+use Rattle.volume.specs.Goes.{CallCut, IsDoable, IsCorner, Goes}
 use Rattle.volume.proofs.Going.{IsFit, goes_by, named_fine, is_first, no_gift, refuses_same, stop_name, stop_apart, step_stops, step_among, fault_is}
 
 -- ---- what is told of a collection
@@ -63,6 +63,10 @@ flat_collects g spare s = refl
 flat_does : (g : Geometry) (image : List ℕ) (s : State) → IsDoable g image s Collects
 flat_does g image s = record { done = ap (λ (o : Outcome). is_refusal o.answer) (flat_collects g (has_spare g image) s) }
 
+-- it takes no bytes of a file
+no_corner : (g : Geometry) (image : List ℕ) (s : State) → IsCorner g image s Collects → ⊥
+no_corner g image s corner = let no : false ≡ true = corner.cuts in cc
+
 gc_refused : (why : FsErr) (slots : List FdSlot) (wrote : Bool) → may_answer Collects (Refuses why) ≡ true → ((w : FsErr) → is_of_name w ≡ true → Refuses why ≡ Refuses w → ⊥) → IsFit Collects slots slots wrote (Refuses why)
 gc_refused why slots wrote may no_name = record {
   among = may;
@@ -82,7 +86,7 @@ module _ {N : Type 0} {nor : NorOf N} {old new : View N nor} (slots : List FdSlo
 
   -- all is packed
   pub gc_done : Stepped stopped old new (Ok false) packing → Goes nor old.geometry Collects old.nor.now new.nor.now slots slots new.wrote Fine
-  gc_done call = goes_by Collects Fine new.wrote refl
+  gc_done call = goes_by Collects Fine new.wrote
       (record { among = refl; brief = λ bytes e. absurd (cc); named = named_fine Collects Fine new.wrote refl (λ why name e. cc); still = λ refusal. refl; keeps = λ k. refl })
       (gc_cuts call)
       (λ s here no_fault whole.
@@ -96,17 +100,19 @@ module _ {N : Type 0} {nor : NorOf N} {old new : View N nor} (slots : List FdSlo
         reads = λ refusal. absurd (let no : false ≡ true = refusal in cc);
       })
       (λ s here is. record { packed = λ e. call.ends here.tells here.tidy; stuck = λ e. absurd (cc) })
+      (λ s here corner tight. absurd (no_corner old.geometry (nor.bytes old.nor.now) s corner))
       (λ s here w. flat_does old.geometry (nor.bytes old.nor.now) s)
       (λ none. call.framed.untouched fresh none)
       (λ e. absurd (cc)) (λ d e. absurd (cc)) (λ look. absurd (let no : true ≡ false = look in cc))
 
   -- collection is stuck
   pub gc_stuck : Stepped stopped old new (Ok true) packing → Goes nor old.geometry Collects old.nor.now new.nor.now slots slots new.wrote (Refuses FsTight)
-  gc_stuck call = goes_by Collects (Refuses FsTight) new.wrote refl
+  gc_stuck call = goes_by Collects (Refuses FsTight) new.wrote
       (gc_refused FsTight slots new.wrote refl (stop_name FsTight tt))
       (gc_cuts call)
-      (λ s here no_fault whole. absurd (whole (record { collects = refl; tight = refl })))
+      (λ s here no_fault whole. absurd (whole (record { why = inl refl; tight = refl })))
       (λ s here is. record { packed = λ e. absurd (cc); stuck = λ e. call.ends here.tells here.tidy })
+      (λ s here corner tight. absurd (no_corner old.geometry (nor.bytes old.nor.now) s corner))
       (λ s here w. flat_does old.geometry (nor.bytes old.nor.now) s)
       (λ none. call.framed.untouched fresh none)
       (λ e. absurd (let no : FsTight ≡ DeviceFault = refuses_same FsTight DeviceFault e in cc)) (λ d e. absurd (let no : FsTight ≡ Damaged d = refuses_same FsTight (Damaged d) e in cc))
@@ -116,11 +122,12 @@ module _ {N : Type 0} {nor : NorOf N} {old new : View N nor} (slots : List FdSlo
   pub gc_broken : (why : StepErr) → Stepped stopped old new (Err why) packing → Goes nor old.geometry Collects old.nor.now new.nor.now slots slots new.wrote (Refuses (as_fs_err why))
   gc_broken why call =
       let means = step_stops why call.means in
-      goes_by Collects (Refuses (as_fs_err why)) new.wrote refl
+      goes_by Collects (Refuses (as_fs_err why)) new.wrote
       (gc_refused (as_fs_err why) slots new.wrote (step_among Collects why refl refl) (stop_name (as_fs_err why) means))
       (gc_cuts call)
       (λ s here no_fault whole. absurd (no_fault (ap (λ (w : StepErr). Refuses (as_fs_err w)) (call.ends here.tells here.tidy))))
       (λ s here is. record { packed = λ e. absurd (cc); stuck = λ e. absurd (never_tight why (refuses_same (as_fs_err why) FsTight e)) })
+      (λ s here corner tight. absurd (no_corner old.geometry (nor.bytes old.nor.now) s corner))
       (λ s here w. flat_does old.geometry (nor.bytes old.nor.now) s)
       (λ none. call.framed.untouched fresh none)
       (λ e. call.cause (ap (λ (w : StepErr). Err w) (fault_is why (refuses_same (as_fs_err why) DeviceFault e))))

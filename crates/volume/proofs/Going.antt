@@ -1,6 +1,6 @@
 -- What the exits of calls share.
 use Rattle.std.proofs.lemmas.Bool.{and_parts}
-use Rattle.std.proofs.Common.{not, ◌&&◌, ◌||◌, ◌<◌, zero, suc, length, get_or, ◌≡◌, ◌≢◌, ◌≤◌, ℕ, ◌⊎◌, ⊎_elim, inl, inr, List, [], ◌∷◌, Bool, true, false, refl, sym, ◌∙◌, ap, subst, arith}
+use Rattle.std.proofs.Common.{◌&&◌, ◌||◌, ◌<◌, zero, suc, length, get_or, ◌≡◌, ◌≢◌, ◌≤◌, ℕ, ◌⊎◌, ⊎_elim, inl, inr, List, [], ◌∷◌, Bool, true, false, refl, sym, ◌∙◌, ap, subst, arith}
 use Rattle.std.specs.Prelude.{Option, Some, None, Result, Ok, Err, IsErrOf}
 use Rattle.geometry.specs.declared.geometry.Geometry.{Geometry}
 use Rattle.nor_core.specs.declared.state.NorState.{Ghosts as NorOf}
@@ -8,11 +8,11 @@ use Rattle.nor_core.specs.Count.{Rose}
 use Rattle.nor_core.specs.Device.{OnlyReads, Changes}
 use Rattle.nor_core.proofs.Cuts.{wider, read_after, unchanged}
 use Rattle.table_model.specs.declared.error.FsErr.{FsErr}
-use Rattle.table_model.specs.declared.error.FsErr.TheVariants.{BadName, NameTooLong, Tight, DeviceFault, Damaged, Unbuilt}
+use Rattle.table_model.specs.declared.error.FsErr.TheVariants.{BadName, NameTooLong, Tight, DeviceFault, Damaged}
 use Rattle.table_model.specs.declared.error.Differ.{Differ}
-use Rattle.table_model.specs.Table.{File, Open, State, file_of, file_named}
+use Rattle.table_model.specs.Table.{File, Open, State}
 use Rattle.table_model.specs.Reply.{Answer, Gives, Refuses}
-use Rattle.table_model.specs.Ask.{Ask, Creates, Opens, Writes, Fills, Truncates, Removes, Renames, Stats, Collects, SetsMeta}
+use Rattle.table_model.specs.Ask.{Ask, Creates, Opens, Removes, Renames, Stats, Collects, SetsMeta}
 use Rattle.table_model.specs.Outcome.{Outcome, refused, gives}
 use Rattle.table_model.specs.Calls.{answer_create, answer_remove, answer_rename, answer_stat, answer_meta}
 use Rattle.table_model.specs.Opening.{answer_open}
@@ -31,7 +31,6 @@ use Rattle.flash_view.specs.Steps.{Step, Errors, Stepped, stopped}
 use Rattle.flash_view.proofs.Stepped.{after_look, fails_as}
 use Rattle.table_model.specs.Steps.{steps}
 use Rattle.table_model.specs.Window.{IsAmong}
-use Rattle.volume.specs.Built.{is_built}
 use Rattle.volume.specs.Replies.{as_fs_err, is_of_name, is_of_descriptor, is_early, meets, may_meet, has_name, is_change, reads_file, keeps_slots, may_answer, names_fault, reply_of, is_calm}
 use Rattle.volume.specs.Moves.{with_slots, Moves}
 use Rattle.fd_table.specs.declared.slot.FdSlot.{FdSlot}
@@ -43,12 +42,11 @@ use Rattle.call_model.proofs.Opens.{opens_kept}
 use Rattle.volume.specs.declared.told.Told.{Told}
 use Rattle.volume.specs.declared.told.Told.TheVariants.{Done, Number as AsNumber, Bytes, File as AsFile, NoMore, Room, Refusal}
 use Rattle.image_model.specs.Tidy.{has_spare}
-use Rattle.table_model.specs.Descriptors.{empties}
 use Rattle.room_laws.specs.Recovery.{Recovers}
 use Rattle.room_laws.proofs.Staying.{reserve_mends}
 use Rattle.volume.specs.Holds.{IsImageOf}
 use Rattle.volume.specs.Collecting.{MayStop, refusing}
-use Rattle.volume.specs.Goes.{CallCut, Reaches, IsDoable, StopsShort, IsCollected, IsNamed, IsGiven, Goes}
+use Rattle.volume.specs.Goes.{CallCut, Reaches, IsDoable, IsCorner, StopsShort, StaysAt, IsCollected, IsNamed, IsGiven, Goes}
 
 -- ---- the flat table
 
@@ -63,31 +61,13 @@ names_first g spare s (Stats name) why e = rw e refl
 names_first g spare s (SetsMeta name meta) why e = rw e refl
 names_first g spare s _ why e = absurd (let no : None ≡ Some why = e in cc)
 
--- a built call that the flat table answers wholly: each but garbage collection
+-- a call that the flat table answers: each but garbage collection
 abbrev pub is_flat : Ask → Bool
 is_flat Collects = false
-is_flat ask = is_built ask
+is_flat ask = true
 
-flat_built : (ask : Ask) → is_flat ask ≡ true → is_built ask ≡ true
-flat_built Collects e = absurd (let no : false ≡ true = e in cc)
-flat_built _ e = e
-
-not_collects : (ask : Ask) → is_flat ask ≡ true → ask ≡ Collects → ⊥
+pub not_collects : (ask : Ask) → is_flat ask ≡ true → ask ≡ Collects → ⊥
 not_collects ask flat is = let no : true ≡ false = sym flat ∙ ap is_flat is in cc
-
--- an opening that may be Unbuilt empties its file
-opens_unbuilt : (b c : Bool) → ((b && true) || (false || (c && false))) ≡ true → not b ≡ false
-opens_unbuilt true c e = refl
-opens_unbuilt false true e = absurd (let no : false ≡ true = e in cc)
-opens_unbuilt false false e = absurd (let no : false ≡ true = e in cc)
-
--- a call that may be Unbuilt isn't built
-unbuilt_by : (ask : Ask) → may_answer ask (Refuses Unbuilt) ≡ true → is_built ask ≡ false
-unbuilt_by (Opens name flags) e = opens_unbuilt (empties flags) (is_change (Opens name flags) || false) e
-unbuilt_by (Writes fd bytes) e = refl
-unbuilt_by (Fills fd count byte) e = refl
-unbuilt_by (Truncates fd size) e = refl
-unbuilt_by _ e = absurd (let no : false ≡ true = e in cc)
 
 -- the flat table does a call, and this is the one step of it
 pub record IsOneStep (g : Geometry) (spare : Bool) (s : State) (ask : Ask) (reply : Answer) (files : List File) : Type 0 where
@@ -160,9 +140,9 @@ pub refuses_same : (v w : FsErr) → Refuses v ≡ Refuses w → v ≡ w
 refuses_same v w e = cc
 
 -- no refusal of a name is met after the names are accepted, nor a page that reads otherwise before anything is written
-no_name : (why : FsErr) → is_of_name why ≡ true → (why ≡ DeviceFault → ⊥) × (why ≡ Unbuilt → ⊥) × ((d : Differ) → why ≡ Damaged d → ⊥) × (why ≡ Tight → ⊥)
-no_name BadName e = (λ x. cc, λ x. cc, λ d x. cc, λ x. cc)
-no_name NameTooLong e = (λ x. cc, λ x. cc, λ d x. cc, λ x. cc)
+no_name : (why : FsErr) → is_of_name why ≡ true → (why ≡ DeviceFault → ⊥) × ((d : Differ) → why ≡ Damaged d → ⊥) × (why ≡ Tight → ⊥)
+no_name BadName e = (λ x. cc, λ d x. cc, λ x. cc)
+no_name NameTooLong e = (λ x. cc, λ d x. cc, λ x. cc)
 no_name _ e = absurd (let no : false ≡ true = e in cc)
 
 record IsEarly (why : FsErr) : Type 0 where
@@ -186,28 +166,31 @@ both_true : (a b : Bool) → a ≡ true → b ≡ true → (a && b) ≡ true
 both_true true b e f = f
 both_true false b e f = absurd (let no : false ≡ true = e in cc)
 
-or_last : (a b : Bool) → b ≡ true → (a || b) ≡ true
+pub or_last : (a b : Bool) → b ≡ true → (a || b) ≡ true
 or_last true b e = refl
 or_last false b e = e
 
 -- a name that is accepted is not what a call is refused for
 pub named_fine : (ask : Ask) (reply : Answer) (wrote : Bool) → names_fault ask ≡ None → ((why : FsErr) → is_of_name why ≡ true → reply ≡ Refuses why → ⊥) → IsNamed ask reply wrote
 named_fine ask reply wrote fine other = record {
-  refused = λ built why is. absurd (let no : None ≡ Some why = sym fine ∙ is in cc);
+  refused = λ why is. absurd (let no : None ≡ Some why = sym fine ∙ is in cc);
   only = λ why name is. absurd (other why name is);
 }
 
 pub named_refused : (ask : Ask) (why : FsErr) (wrote : Bool) → names_fault ask ≡ Some why → wrote ≡ false → IsNamed ask (Refuses why) wrote
 named_refused ask why wrote fault none = record {
-  refused = λ built w is. (let same : why ≡ w = (let e : Some why ≡ Some w = sym fault ∙ is in cc) in ap (λ (x : FsErr). Refuses x) same, none);
+  refused = λ w is. (let same : why ≡ w = (let e : Some why ≡ Some w = sym fault ∙ is in cc) in ap (λ (x : FsErr). Refuses x) same, none);
   only = λ w name is. (let same : why ≡ w = refuses_same why w is in fault ∙ ap (λ (x : FsErr). Some x) same);
 }
 
 -- ---- over a device
 
 -- the table of an image goes by its ids
-names_by : (g : Geometry) (image : List ℕ) (s : State) → s.table ≡ table_of g image → NamesById s.table
-names_by g image s same name f at = ap (file_of f.id) same ∙ (found-by_id g image f).0 name (sym (ap (file_named name) same) ∙ at)
+pub table_names : (g : Geometry) (image : List ℕ) → NamesById (table_of g image)
+table_names g image name f at = (found-by_id g image f).0 name at
+
+pub names_by : (g : Geometry) (image : List ℕ) (s : State) → s.table ≡ table_of g image → NamesById s.table
+names_by g image s same = subst NamesById (sym same) (table_names g image)
 
 -- what any answer is, whatever the device tells
 pub record IsFit (ask : Ask) (slots after : List FdSlot) (wrote : Bool) (reply : Answer) : Type 0 where
@@ -222,7 +205,7 @@ no_gift reply bytes refusal e = let no : false ≡ true = sym (ap is_refusal e) 
 
 module _ {D : Type 0} {nor : NorOf D} {g : Geometry} {slots : List FdSlot} where
   -- reads leave the image
-  reads_cuts : {old new : D} (ask : Ask) → OnlyReads nor old new → Changes nor old new (λ was image. (s : State) → IsImageOf nor g old slots s → CallCut g s ask was image)
+  pub reads_cuts : {old new : D} (ask : Ask) → OnlyReads nor old new → Changes nor old new (λ was image. (s : State) → IsImageOf nor g old slots s → CallCut g s ask was image)
   reads_cuts {old} {new} ask reads = read_after (unchanged old (λ was image. (s : State) → IsImageOf nor g old slots s → CallCut g s ask was image) (λ tells s here. stays g (nor.bytes old) s ask here.tidy here.table)) reads
 
   -- so the device is that of the state with other descriptors
@@ -235,17 +218,26 @@ module _ {D : Type 0} {nor : NorOf D} {g : Geometry} {slots : List FdSlot} where
     opened = opened;
   }
 
-  -- what a built call does, by its parts
-  pub goes_by : {old new : D} {after : List FdSlot} (ask : Ask) (reply : Answer) (wrote : Bool) → is_built ask ≡ true → IsFit ask slots after wrote reply → Changes nor old new (λ was image. (s : State) → IsImageOf nor g old slots s → CallCut g s ask was image) →
-      ((s : State) → IsImageOf nor g old slots s → (reply ≡ Refuses DeviceFault → ⊥) → (StopsShort ask reply → ⊥) → Reaches nor g old new after s ask reply) → ((s : State) → IsImageOf nor g old slots s → ask ≡ Collects → IsCollected g reply (nor.bytes old) (nor.bytes new)) →
-      ((s : State) → IsImageOf nor g old slots s → wrote ≡ true → IsDoable g (nor.bytes old) s ask) → (wrote ≡ false → OnlyReads nor old new) → (reply ≡ Refuses DeviceFault → Rose (nor.faults old) (nor.faults new)) →
+  -- and with these it is that of the state
+  pub reads_stay : {old new : D} (s : State) → OnlyReads nor old new → IsImageOf nor g old slots s → IsImageOf nor g new slots s
+  reads_stay s reads here = record {
+    tells = reads.told here.tells;
+    tidy = subst (λ (l : List ℕ). IsTidy g l) (sym reads.bytes) here.tidy;
+    table = here.table ∙ ap (table_of g) (sym reads.bytes);
+    slots = here.slots;
+    opened = here.opened;
+  }
+
+  -- what a call does, by its parts
+  pub goes_by : {old new : D} {after : List FdSlot} (ask : Ask) (reply : Answer) (wrote : Bool) → IsFit ask slots after wrote reply → Changes nor old new (λ was image. (s : State) → IsImageOf nor g old slots s → CallCut g s ask was image) →
+      ((s : State) → IsImageOf nor g old slots s → (reply ≡ Refuses DeviceFault → ⊥) → (StopsShort g (nor.bytes old) s ask reply → ⊥) → Reaches nor g old new after s ask reply) → ((s : State) → IsImageOf nor g old slots s → ask ≡ Collects → IsCollected g reply (nor.bytes old) (nor.bytes new)) →
+      ((s : State) → IsImageOf nor g old slots s → IsCorner g (nor.bytes old) s ask → reply ≡ Refuses Tight → StaysAt nor g new after s) → ((s : State) → IsImageOf nor g old slots s → wrote ≡ true → IsDoable g (nor.bytes old) s ask) → (wrote ≡ false → OnlyReads nor old new) → (reply ≡ Refuses DeviceFault → Rose (nor.faults old) (nor.faults new)) →
       ((d : Differ) → reply ≡ Refuses (Damaged d) → (d.wanted ≢ d.found) × ((s : State) → IsImageOf nor g old slots s → ⊥)) → (is_change ask ≡ false → wrote ≡ false) → Goes nor g ask old new slots after wrote reply
-  goes_by ask reply wrote built fit cuts answers collects begun untouched cause differs looks = record {
+  goes_by ask reply wrote fit cuts answers collects cornered begun untouched cause differs looks = record {
     cuts = cuts;
-    answers = λ s here no_fault no_lack whole. answers s here no_fault whole;
+    answers = answers;
     collects = collects;
-    unbuilt = λ b. absurd (let no : true ≡ false = sym built ∙ b in cc);
-    unbuilt_only = λ e. unbuilt_by ask (subst (λ (r : Answer). may_answer ask r ≡ true) e fit.among);
+    cornered = cornered;
     begun = begun;
     untouched = untouched;
     still = fit.still;
@@ -264,7 +256,7 @@ module _ {D : Type 0} {nor : NorOf D} {g : Geometry} {slots : List FdSlot} where
       ((s : State) → IsImageOf nor g old slots s → (reply ≡ Refuses DeviceFault → ⊥) → answer g (has_spare g (nor.bytes old)) s ask ≡ gives reply (with_slots (descriptors after) s)) →
       (reply ≡ Refuses DeviceFault → Rose (nor.faults old) (nor.faults new)) →
       ((d : Differ) → reply ≡ Refuses (Damaged d) → (d.wanted ≢ d.found) × ((s : State) → IsImageOf nor g old slots s → ⊥)) → Goes nor g ask old new slots after wrote reply
-  goes_read {old} {new} {after} ask reply wrote none reads flat fit is cause differs = goes_by ask reply wrote (flat_built ask flat) fit (reads_cuts ask reads)
+  goes_read {old} {new} {after} ask reply wrote none reads flat fit is cause differs = goes_by ask reply wrote fit (reads_cuts ask reads)
       (λ s here no_fault whole. let e = is s here no_fault in record {
         reply_is = sym (ap (λ (o : Outcome). o.answer) e);
         holds = subst (λ (n : State). IsImageOf nor g new after n) (sym (ap (λ (o : Outcome). o.next) e))
@@ -273,6 +265,10 @@ module _ {D : Type 0} {nor : NorOf D} {g : Geometry} {slots : List FdSlot} where
         reads = λ refusal. reads;
       })
       (λ s here collects. absurd (not_collects ask flat collects))
+      (λ s here corner tight. record {
+        holds = subst (λ (l : List FdSlot). IsImageOf nor g new l s) (sym (fit.still (ap is_refusal tight))) (reads_stay s reads here);
+        reserve = subst (λ (l : List ℕ). HasReserve g l) (sym reads.bytes) corner.reserve;
+      })
       (λ s here w. absurd (let no : true ≡ false = sym w ∙ none in cc))
       (λ w. reads) cause differs (λ look. none)
 
@@ -310,44 +306,20 @@ module _ {D : Type 0} {nor : NorOf D} {g : Geometry} {slots : List FdSlot} where
       (λ e. cause (ap (λ (v : FsErr). Err v) (refuses_same why DeviceFault e)))
       (λ d e. absurd (w.undamaged d (refuses_same why (Damaged d) e)))
 
-  -- A read of a descriptor's file that found a page not to be there: the device isn't one that stands at a state.
-  pub goes_missed : {old new : D} (ask : Ask) (d : Differ) (wrote : Bool) → wrote ≡ false → OnlyReads nor old new → is_flat ask ≡ true → names_fault ask ≡ None → reads_file ask ≡ true → d.wanted ≢ d.found →
+  -- A look for a page of a file that found it not to be there: the device isn't one that stands at a state.
+  pub goes_missed : {old new : D} (ask : Ask) (d : Differ) (wrote : Bool) → wrote ≡ false → OnlyReads nor old new → is_flat ask ≡ true → names_fault ask ≡ None → (is_change ask || reads_file ask) ≡ true → d.wanted ≢ d.found →
       ((s : State) → IsImageOf nor g old slots s → ⊥) → Goes nor g ask old new slots slots wrote (Refuses (Damaged d))
   goes_missed {old} {new} ask d wrote none reads flat fine reader apart never = goes_read ask (Refuses (Damaged d)) wrote none reads flat
       (record {
-        among = or_last (may_meet ask (Damaged d)) _ (or_last (has_name ask && is_of_name (Damaged d)) _ (both_true (is_change ask || reads_file ask) true (or_last (is_change ask) (reads_file ask) reader) refl));
+        among = or_last (may_meet ask (Damaged d)) _ (or_last (has_name ask && is_of_name (Damaged d)) _ (both_true (is_change ask || reads_file ask) true reader refl));
         brief = λ bytes e. absurd (no_gift (Refuses (Damaged d)) bytes refl e);
-        named = named_fine ask (Refuses (Damaged d)) wrote fine (λ v name e. (no_name v name).2 d (sym (refuses_same (Damaged d) v e)));
+        named = named_fine ask (Refuses (Damaged d)) wrote fine (λ v name e. (no_name v name).1 d (sym (refuses_same (Damaged d) v e)));
         still = λ refusal. refl;
         keeps = λ k. refl;
       })
       (λ s here no_fault. absurd (never s here))
       (λ e. absurd (let no : Damaged d ≡ DeviceFault = refuses_same (Damaged d) DeviceFault e in cc))
       (λ x e. let same : d ≡ x = (let f : Damaged d ≡ Damaged x = refuses_same (Damaged d) (Damaged x) e in cc) in (subst (λ (y : Differ). y.wanted ≢ y.found) same apart, never))
-
-  -- a call that isn't built
-  pub goes_unbuilt : {old new : D} (ask : Ask) (wrote : Bool) → wrote ≡ false → OnlyReads nor old new → is_built ask ≡ false → may_answer ask (Refuses Unbuilt) ≡ true → Goes nor g ask old new slots slots wrote (Refuses Unbuilt)
-  goes_unbuilt {old} {new} ask wrote none reads built among = record {
-    cuts = reads_cuts ask reads;
-    answers = λ s here no_fault no_lack whole. absurd (no_lack refl);
-    collects = λ s here is. absurd (let no : true ≡ false = sym (ap is_built is) ∙ built in cc);
-    unbuilt = λ b. (refl, none);
-    unbuilt_only = λ e. built;
-    begun = λ s here w. absurd (let no : true ≡ false = sym w ∙ none in cc);
-    untouched = λ w. reads;
-    still = λ refusal. refl;
-    keeps = λ k. refl;
-    cause = λ e. absurd (let no : Unbuilt ≡ DeviceFault = refuses_same Unbuilt DeviceFault e in cc);
-    differs = λ d e. absurd (let no : Unbuilt ≡ Damaged d = refuses_same Unbuilt (Damaged d) e in cc);
-    undamaged = λ s here d e. let no : Unbuilt ≡ Damaged d = refuses_same Unbuilt (Damaged d) e in cc;
-    among = among;
-    brief = λ bytes e. absurd (no_gift (Refuses Unbuilt) bytes refl e);
-    named = record {
-      refused = λ b. absurd (let no : true ≡ false = sym b ∙ built in cc);
-      only = λ why name e. absurd ((no_name why name).1 (sym (refuses_same Unbuilt why e)));
-    };
-    looks = λ look. none;
-  }
 
   -- a call whose names are refused
   pub goes_named : {d : D} (ask : Ask) (why : FsErr) (wrote : Bool) → wrote ≡ false → OnlyReads nor d d → is_flat ask ≡ true → has_name ask ≡ true → is_of_name why ≡ true → names_fault ask ≡ Some why → Goes nor g ask d d slots slots wrote (Refuses why)
@@ -363,7 +335,7 @@ module _ {D : Type 0} {nor : NorOf D} {g : Geometry} {slots : List FdSlot} where
       })
       (λ s here no_fault. names_first g (has_spare g (nor.bytes d)) s ask why fault ∙ ap (λ (n : State). gives (Refuses why) n) (sym (same_slots s (descriptors slots) here.slots)))
       (λ e. absurd (no.0 (refuses_same why DeviceFault e)))
-      (λ x e. absurd (no.2 x (refuses_same why (Damaged x) e)))
+      (λ x e. absurd (no.1 x (refuses_same why (Damaged x) e)))
 
 -- ---- calls that ask nothing of the device
 
@@ -452,8 +424,8 @@ pub record IsStep {D : Type 0} (nor : NorOf D) (g : Geometry) (slots : List FdSl
 -- what a step of a call is refused with is no refusal of a name
 pub stop_name : (why : FsErr) → MayStop why → (w : FsErr) → is_of_name w ≡ true → Refuses why ≡ Refuses w → ⊥
 stop_name DeviceFault may w name e = (no_name w name).0 (sym (refuses_same DeviceFault w e))
-stop_name (Damaged d) may w name e = (no_name w name).2 d (sym (refuses_same (Damaged d) w e))
-stop_name Tight may w name e = (no_name w name).3 (sym (refuses_same Tight w e))
+stop_name (Damaged d) may w name e = (no_name w name).1 d (sym (refuses_same (Damaged d) w e))
+stop_name Tight may w name e = (no_name w name).2 (sym (refuses_same Tight w e))
 stop_name _ may w name e = absurd may
 
 -- a page that reads otherwise tells two tags that differ
@@ -495,7 +467,7 @@ module _ {N : Type 0} {nor : NorOf N} {old mid new : View N nor} {slots : List F
   pub goes_done : (last : List FdSlot) → descriptors last ≡ moved → is_refusal reply ≡ false → may_answer ask reply ≡ true → ((bytes : List ℕ) → reply ≡ Gives bytes → ⊥) → (keeps_slots ask ≡ true → last ≡ slots) → Stepped stopped mid new (Ok tt) step → Goes nor old.geometry ask old.nor.now new.nor.now slots last new.wrote reply
   goes_done last moves other may no_bytes keeps taken =
       let call = after taken in
-      goes_by ask reply new.wrote (flat_built ask flat)
+      goes_by ask reply new.wrote
       (record {
         among = may;
         brief = λ bytes e. absurd (no_bytes bytes e);
@@ -513,6 +485,7 @@ module _ {N : Type 0} {nor : NorOf N} {old mid new : View N nor} {slots : List F
         reads = λ refusal. absurd (let no : true ≡ false = sym refusal ∙ other in cc);
       })
       (λ s here collects. absurd (not_collects ask flat collects))
+      (λ s here corner tight. absurd (no_refusal reply Tight other tight))
       (λ s here w. does.doable s here)
       (λ none. call.framed.untouched fresh none)
       (λ e. absurd (no_refusal reply DeviceFault other e))
@@ -520,7 +493,7 @@ module _ {N : Type 0} {nor : NorOf N} {old mid new : View N nor} {slots : List F
 
   -- it was not
   broken_by : (why : FsErr) → may_answer ask (Refuses why) ≡ true → Stepped refusing old new (Err why) step → Goes nor old.geometry ask old.nor.now new.nor.now slots slots new.wrote (Refuses why)
-  broken_by why may call = goes_by ask (Refuses why) new.wrote (flat_built ask flat)
+  broken_by why may call = goes_by ask (Refuses why) new.wrote
       (record {
         among = may;
         brief = λ bytes e. absurd (no_gift (Refuses why) bytes refl e);
@@ -531,6 +504,7 @@ module _ {N : Type 0} {nor : NorOf N} {old mid new : View N nor} {slots : List F
       (wider call.cuts (λ tells image cut s here. does.cut s here image (cut (does.can s here))))
       (λ s here no_fault whole. absurd (no_fault (ap (λ (w : FsErr). Refuses w) (call.ends here.tells (does.can s here)))))
       (λ s here collects. absurd (not_collects ask flat collects))
+      (λ s here corner tight. absurd (let no : Tight ≡ DeviceFault = sym (refuses_same why Tight tight) ∙ call.ends here.tells (does.can s here) in cc))
       (λ s here w. does.doable s here)
       (λ none. call.framed.untouched fresh none)
       (λ e. call.cause (ap (λ (w : FsErr). Err w) (refuses_same why DeviceFault e)))

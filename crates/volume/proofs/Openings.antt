@@ -7,12 +7,12 @@ use Rattle.geometry.specs.declared.geometry.Geometry.{Geometry}
 use Rattle.nor_core.specs.declared.state.NorState.{Ghosts as NorOf}
 use Rattle.table_model.specs.declared.error.FsErr.{FsErr}
 use Rattle.table_model.specs.declared.error.FsErr.TheVariants.{BadFlags, OutOfDescriptors, NotFound, FileExists, DeviceFault}
-use Rattle.table_model.specs.Table.{File, Open, State, same_text, has_name, file_named, least_id}
+use Rattle.table_model.specs.Table.{File, Open, State, same_text, has_name, file_named, file_of, least_id}
 use Rattle.table_model.specs.Names.{name_refusal}
-use Rattle.table_model.specs.Descriptors.{is_bad_flags, empties, makes, is_exclusive, lowest_closed, put_at, new_open}
-use Rattle.table_model.specs.Files.{created}
-use Rattle.table_model.specs.Opening.{answer_open, open_lowest, open_as, opens}
-use Rattle.table_model.specs.Outcome.{Outcome, refused, gives, unless}
+use Rattle.table_model.specs.Descriptors.{is_bad_flags, makes, is_exclusive, lowest_closed, put_at, new_open}
+use Rattle.table_model.specs.Files.{created, cut_to}
+use Rattle.table_model.specs.Opening.{answer_open, open_lowest, open_as, opens, takes_bytes}
+use Rattle.table_model.specs.Outcome.{Outcome, refused, gives, unless, with_page}
 use Rattle.table_model.specs.Reply.{Tells as Number}
 use Rattle.table_model.specs.Ask.{Opens}
 use Rattle.table_model.specs.Flat.{answer}
@@ -28,8 +28,10 @@ use Rattle.volume.specs.Opens.{TakesSlot, FindsOpened}
 use Rattle.volume.specs.Refusals.{page_lack}
 use Rattle.volume.specs.Holds.{IsImageOf}
 use Rattle.volume.specs.Moves.{with_slots}
-use Rattle.volume.proofs.Going.{IsStep, is_flat}
+use Rattle.volume.proofs.Going.{IsStep}
 use Rattle.volume.proofs.Paged.{with_room, page_refuses}
+use Rattle.call_model.proofs.Tables.{file_of-id}
+use Rattle.volume.proofs.Restates.{named_there}
 use Rattle.volume.proofs.NewFiles.{MakesFile, created_room, new_page, new_step}
 
 choose_true : (b : Bool) (x y : Outcome) → b ≡ true → (if b then x else y) ≡ x
@@ -64,14 +66,15 @@ module _ (g : Geometry) (spare : Bool) (s : State) (name : List ℕ) (flags : �
     pub flat_no_file : file_named name s.table ≡ None → makes flags ≡ false → answer g spare s (Opens name flags) ≡ refused NotFound s
     flat_no_file none makes_none = after_slot ∙ ap (open_as g spare s name flags fd) none ∙ rw makes_none refl
 
-    opens_by : (o : Option File) (id : ℕ) → file_named name s.table ≡ o → option_map (λ f. f.id) o ≡ Some id → (makes flags && is_exclusive flags) ≡ false → empties flags ≡ false → answer g spare s (Opens name flags) ≡ opens fd flags id s
-    opens_by None id at e old keeps = absurd (cc)
-    opens_by (Some f) id at e old keeps =
-        let is : f.id ≡ id = cc in
-        after_slot ∙ ap (open_as g spare s name flags fd) at ∙ choose_false (makes flags && is_exclusive flags) (refused FileExists s) _ old ∙ rw (keeps, is) refl
+    -- a file that is there, which needn't be new
+    after_file : (f : File) → file_named name s.table ≡ Some f → (makes flags && is_exclusive flags) ≡ false → answer g spare s (Opens name flags) ≡ (if takes_bytes flags f then with_page g spare s (opens fd flags f.id (cut_to 0 f s)) else opens fd flags f.id s)
+    after_file f there old = after_slot ∙ ap (open_as g spare s name flags fd) there ∙ choose_false (makes flags && is_exclusive flags) (refused FileExists s) _ old
 
-    pub flat_opens : (id : ℕ) → id_named name s.table ≡ Some id → (makes flags && is_exclusive flags) ≡ false → empties flags ≡ false → answer g spare s (Opens name flags) ≡ opens fd flags id s
-    flat_opens id at old keeps = opens_by (file_named name s.table) id refl at old keeps
+    pub flat_opens : (f : File) → file_named name s.table ≡ Some f → (makes flags && is_exclusive flags) ≡ false → takes_bytes flags f ≡ false → answer g spare s (Opens name flags) ≡ opens fd flags f.id s
+    flat_opens f there old stays = after_file f there old ∙ choose_false (takes_bytes flags f) (with_page g spare s (opens fd flags f.id (cut_to 0 f s))) (opens fd flags f.id s) stays
+
+    pub flat_empties : (f : File) → file_named name s.table ≡ Some f → (makes flags && is_exclusive flags) ≡ false → takes_bytes flags f ≡ true → answer g spare s (Opens name flags) ≡ with_page g spare s (opens fd flags f.id (cut_to 0 f s))
+    flat_empties f there old takes = after_file f there old ∙ choose_true (takes_bytes flags f) (with_page g spare s (opens fd flags f.id (cut_to 0 f s))) (opens fd flags f.id s) takes
 
     pub opens_file : file_named name s.table ≡ None → makes flags ≡ true → MakesFile g spare s name (Opens name flags) (Number fd) (opens fd flags (least_id s.table) (record s { table = created g name s.table }))
     unfolding done_steps
@@ -105,15 +108,11 @@ file_by name files id (Some f) at e = (f, at)
 pub file_there : (name : List ℕ) (files : List File) (id : ℕ) → id_named name files ≡ Some id → (f : File) × (file_named name files ≡ Some f)
 file_there name files id at = file_by name files id (file_named name files) refl at
 
--- an opening that empties no file is built
-pub opens_built : (name : List ℕ) (flags : ℕ) → empties flags ≡ false → is_flat (Opens name flags) ≡ true
-opens_built name flags keeps = rw keeps refl
-
 -- what an opening makes
 abbrev pub opened_as : Geometry → (name : List ℕ) (flags fd : ℕ) → State → Outcome
 opened_as g name flags fd s = opens fd flags (least_id s.table) (record s { table = created g name s.table })
 
-module _ {D : Type 0} {nor : NorOf D} {g : Geometry} {old : D} {slots : List FdSlot} (name : List ℕ) (flags : ℕ) (fine : name_refusal name ≡ None) (keeps : empties flags ≡ false) where
+module _ {D : Type 0} {nor : NorOf D} {g : Geometry} {old : D} {slots : List FdSlot} (name : List ℕ) (flags : ℕ) (fine : name_refusal name ≡ None) where
   -- no descriptor
   pub slot_refuses : {why : FsErr} (s : State) → IsImageOf nor g old slots s → TakesSlot flags (descriptors slots) (Err why) → answer g (has_spare g (nor.bytes old)) s (Opens name flags) ≡ refused why s
   slot_refuses {why} s here told = ⊎_elim
@@ -122,7 +121,7 @@ module _ {D : Type 0} {nor : NorOf D} {g : Geometry} {old : D} {slots : List FdS
       told
 
   module _ (fd : ℕ) (taken : TakesSlot flags (descriptors slots) (Ok fd)) where
-    lowest : (s : State) → IsImageOf nor g old slots s → lowest_closed s.slots ≡ Some fd
+    pub lowest : (s : State) → IsImageOf nor g old slots s → lowest_closed s.slots ≡ Some fd
     lowest s here = ap lowest_closed (sym here.slots) ∙ taken.1
 
     -- no file
@@ -134,12 +133,14 @@ module _ {D : Type 0} {nor : NorOf D} {g : Geometry} {old : D} {slots : List FdS
         rw none.0 (flat_no_file g (has_spare g (nor.bytes old)) s name flags fine fd taken.0 (lowest s here) (ap (file_named name) here.table ∙ none.1) none.2))
         (told no_fault)
 
-    -- a file that is there
-    pub opens_there : (id : ℕ) (s : State) → IsImageOf nor g old slots s → FindsOpened name flags (table_of g (nor.bytes old)) (Ok (Some id)) →
+    -- a file that is there, of which no bytes are taken
+    pub opens_there : (id : ℕ) (s : State) → IsImageOf nor g old slots s → FindsOpened name flags (table_of g (nor.bytes old)) (Ok (Some id)) → ((f : File) → file_of id (table_of g (nor.bytes old)) ≡ Some f → takes_bytes flags f ≡ false) →
         answer g (has_spare g (nor.bytes old)) s (Opens name flags) ≡ gives (Number fd) (with_slots (put_at (descriptors slots) fd (Some (new_open id flags))) s)
-    opens_there id s here told =
-        flat_opens g (has_spare g (nor.bytes old)) s name flags fine fd taken.0 (lowest s here) id (ap (id_named name) here.table ∙ told.0) told.1 keeps
-        ∙ ap (λ (l : List (Option Open)). gives (Number fd) (with_slots (put_at l fd (Some (new_open id flags))) s)) (sym here.slots)
+    opens_there id s here told stays =
+        let w = named_there g (nor.bytes old) name id told.0 in
+        let is : w.0.id ≡ id = file_of-id id (table_of g (nor.bytes old)) w.0 w.2 in
+        flat_opens g (has_spare g (nor.bytes old)) s name flags fine fd taken.0 (lowest s here) w.0 (ap (file_named name) here.table ∙ w.1) told.1 (stays w.0 w.2)
+        ∙ rw is (ap (λ (l : List (Option Open)). gives (Number fd) (with_slots (put_at l fd (Some (new_open id flags))) s)) (sym here.slots))
 
     -- one that is made
     pub opens_new : (s : State) → IsImageOf nor g old slots s → FindsOpened name flags (table_of g (nor.bytes old)) (Ok None) → MakesFile g (has_spare g (nor.bytes old)) s name (Opens name flags) (Number fd) (opened_as g name flags fd s)

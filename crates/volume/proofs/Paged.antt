@@ -17,14 +17,13 @@ use Rattle.table_model.specs.Steps.{is_refusal, done_steps}
 use Rattle.image_model.specs.Volume.{entries, per_block, lookups}
 use Rattle.image_model.specs.Tables.{table_of}
 use Rattle.image_model.specs.Tidy.{IsTidy, free_blocks, HasReserve, has_spare}
-use Rattle.image_model.specs.Sound.{IsSound}
 use Rattle.image_laws.proofs.Serving.{ceil-mono}
 use Rattle.image_laws.proofs.Sounding.{sound-on}
 use Rattle.room_laws.specs.Stopping.{HasRoomFor}
-use Rattle.room_laws.specs.Recovery.{Recovers}
 use Rattle.room_laws.proofs.Tallies.{entries_pos}
 use Rattle.room_laws.proofs.Staying.{reserve_mends}
 use Rattle.block_gc.specs.RoomMade.{MadeRoom}
+use Rattle.page_renew.specs.PageSteps.{StepCut, StepDone}
 use Rattle.flash_view.specs.Steps.{Step, Errors, Stepped}
 use Rattle.flash_view.specs.declared.view.View.{View}
 use Rattle.flash_view.proofs.Stepped.{stepped_then, fails_as}
@@ -32,6 +31,7 @@ use Rattle.fd_table.specs.declared.slot.FdSlot.{FdSlot}
 use Rattle.volume.specs.Holds.{IsImageOf}
 use Rattle.volume.specs.Collecting.{RoomCut, CanTakePage, refusing, taking_page}
 use Rattle.volume.specs.Goes.{IsDoable}
+use Rattle.volume.specs.Cuts.{JobCut}
 use Rattle.volume.specs.Refusals.{has_room_beside, page_lack}
 use Rattle.volume.proofs.Going.{IsOneStep, one_step, before_or_after, IsStep, tidy_sound}
 
@@ -54,7 +54,7 @@ beside_room : (g : Geometry) (files : List File) (more : ℕ) → has_room_besid
 unfolding has_room_beside entries per_block lookups
 beside_room g files more e = leb-true _ g.blocks e
 
-room_for_one : (g : Geometry) (image : List ℕ) (more : ℕ) → has_room_beside g (table_of g image) more ≡ true → HasRoomFor g image 1 0
+pub room_for_one : (g : Geometry) (image : List ℕ) (more : ℕ) → has_room_beside g (table_of g image) more ≡ true → HasRoomFor g image 1 0
 room_for_one g image more e =
     let w = beside_room g (table_of g image) more e in
     let index = ceil-mono (index_count g (table_of g image) + 1) (index_count g (table_of g image) + (more + 1)) (entries g) (entries_pos g) (omega arith) in
@@ -143,25 +143,13 @@ module _ {N : Type 0} {nor : NorOf N} {old mid new : View N nor} {step : Step (U
 
 -- ---- over a device
 
--- what a page step that leaves the table `files` may leave at a cut
-pub record LeavesOne (g : Geometry) (files : List File) (was image : List ℕ) : Type 0 where
-  pub sound : IsSound g image was
-  pub reserve : HasReserve g was → HasReserve g image
-  pub table : (table_of g image ≡ table_of g was) ⊎ (table_of g image ≡ files)
-
--- and done
-pub record Leaves (g : Geometry) (files : List File) (was now : List ℕ) : Type 0 where
-  pub tidy : IsTidy g now
-  pub table : table_of g now ≡ files
-  pub reserve : HasReserve g was → HasReserve g now
-
 -- what a cut in the step leaves of the image on which an index page was had, it leaves of the one before
-left_since : (g : Geometry) (files : List File) (was mid image : List ℕ) → MadeRoom g 1 0 was mid → LeavesOne g files mid image → IsSound g image was × Recovers g image × ((table_of g image ≡ table_of g was) ⊎ (table_of g image ≡ files))
-left_since g files was mid image made cut = (
-  sound-on g was mid image (tidy_sound g mid was made.tidy) cut.sound,
-  reserve_mends g image (cut.reserve made.ready.reserve),
-  ⊎_elim (λ (before : table_of g image ≡ table_of g mid). inl (before ∙ made.table)) (λ (after : table_of g image ≡ files). inr after) cut.table,
-)
+pub left_since : (g : Geometry) (files : List File) (was mid image : List ℕ) → MadeRoom g 1 0 was mid → StepCut g files mid image → JobCut g files was image
+left_since g files was mid image made cut = record {
+  sound = sound-on g was mid image (tidy_sound g mid was made.tidy) cut.sound;
+  table = ⊎_elim (λ (before : table_of g image ≡ table_of g mid). inl (before ∙ made.table)) (λ (after : table_of g image ≡ files). inr after) cut.table;
+  mends = λ reserve. reserve_mends g image (cut.reserve made.ready.reserve);
+}
 
 module _ {D : Type 0} {nor : NorOf D} {g : Geometry} {old : D} {slots : List FdSlot} (more : ℕ) (ask : Ask) (reply : Answer) (other : is_refusal reply ≡ false) (out : State → Outcome) (files : List File)
     (page : (s : State) → IsImageOf nor g old slots s → TakesPage g (has_spare g (nor.bytes old)) s more ask reply (out s) files) where
@@ -172,8 +160,8 @@ module _ {D : Type 0} {nor : NorOf D} {g : Geometry} {old : D} {slots : List FdS
   -- the step
   pub page_step : (after : List (Option Open)) (step : Step (Unit {0})) → (nor.tells old → IsTidy g (nor.bytes old) → page_lack g (nor.bytes old) more ≡ None) →
       ((s : State) → IsImageOf nor g old slots s → (mid : List ℕ) → MadeRoom g 1 0 (nor.bytes old) mid → step.needs g mid) →
-      ((s : State) → IsImageOf nor g old slots s → (mid : List ℕ) → table_of g mid ≡ table_of g (nor.bytes old) → (image : List ℕ) → step.cut g mid image → LeavesOne g files mid image) →
-      ((s : State) → IsImageOf nor g old slots s → (mid : List ℕ) → table_of g mid ≡ table_of g (nor.bytes old) → (now : List ℕ) → step.done g mid now tt → Leaves g files mid now) →
+      ((s : State) → IsImageOf nor g old slots s → (mid : List ℕ) → table_of g mid ≡ table_of g (nor.bytes old) → (image : List ℕ) → step.cut g mid image → StepCut g files mid image) →
+      ((s : State) → IsImageOf nor g old slots s → (mid : List ℕ) → table_of g mid ≡ table_of g (nor.bytes old) → (now : List ℕ) → step.done g mid now tt → StepDone g files mid now) →
       ((s : State) → IsImageOf nor g old slots s → after ≡ (out s).next.slots) → IsStep nor g slots ask reply after old (with_room step)
   page_step after step ready needs cuts ends moved = record {
     can = λ s here. (may_take g (nor.bytes old) more here.tidy (allowed g (nor.bytes old) more (ready here.tells here.tidy)), λ mid made. needs s here mid made);
@@ -181,7 +169,7 @@ module _ {D : Type 0} {nor : NorOf D} {g : Geometry} {old : D} {slots : List FdS
         (λ (taking : RoomCut g (nor.bytes old) image). before_or_after g (nor.bytes old) image s ask reply files (only s here) here.table taking.keeps.sound taking.mends (inl taking.keeps.table))
         (λ (going : (mid : List ℕ) × MadeRoom g 1 0 (nor.bytes old) mid × step.cut g mid image).
         let w = left_since g files (nor.bytes old) going.0 image going.1 (cuts s here going.0 going.1.table image going.2) in
-        before_or_after g (nor.bytes old) image s ask reply files (only s here) here.table w.0 (λ reserve. w.1) w.2)
+        before_or_after g (nor.bytes old) image s ask reply files (only s here) here.table w.sound w.mends w.table)
         cut;
     done = λ s here now done.
         let w = ends s here done.0 done.1.table now done.2 in

@@ -1,10 +1,9 @@
 -- A file that gets another name or other meta bytes.
-use Rattle.std.proofs.Common.{◌≡◌, ◌≢◌, ℕ, ◌==◌, List, [], ◌∷◌, length, Bool, true, false, ⊎_elim, inl, inr, refl, sym, ◌∙◌, ap, subst, arith, Ok}
-use Rattle.std.specs.Prelude.{Option, Some, None, nat_lt, All, unwrap_or}
-use Rattle.std.specs.List.{sum_by, list_any}
+use Rattle.std.proofs.Common.{◌≡◌, ◌≢◌, ℕ, ◌==◌, List, [], ◌∷◌, length, Bool, true, false, ⊎_elim, inl, inr, refl, sym, ◌∙◌, ap, subst, arith}
+use Rattle.std.specs.Prelude.{Option, Some, None, All, unwrap_or}
+use Rattle.std.specs.List.{list_any}
 use Rattle.std.specs.Option.{option_map}
-use Rattle.std.proofs.lemmas.Bool.{cases_Bool, ne_eqb, eq-eqb, or_parts}
-use Rattle.std.proofs.lemmas.List.Sums.{sum_by-cons}
+use Rattle.std.proofs.lemmas.Bool.{ne_eqb, eq-eqb, or_parts}
 use Rattle.std.proofs.lemmas.List.Elements.{All-nil, All-cons}
 use Rattle.geometry.specs.declared.geometry.Geometry.{Geometry}
 use Rattle.nor_core.specs.declared.state.NorState.{Ghosts as NorOf}
@@ -21,14 +20,10 @@ use Rattle.table_model.specs.Reply.{Fine}
 use Rattle.table_model.specs.Ask.{Ask, Renames, SetsMeta, SetsMetaOpen}
 use Rattle.table_model.specs.Flat.{answer}
 use Rattle.table_model.specs.Steps.{done_steps}
-use Rattle.image_model.specs.Live.{live_at}
-use Rattle.image_model.specs.Tables.{table_of, damaged_of, has_of}
+use Rattle.image_model.specs.Tables.{table_of, damaged_of}
 use Rattle.image_model.specs.Tidy.{IsTidy, has_spare}
-use Rattle.image_laws.proofs.Records.{counted-some}
 use Rattle.image_laws.proofs.Records.{bytes_equal}
 use Rattle.renew_laws.proofs.RecopyCuts.{unused-name}
-use Rattle.renew_laws.proofs.RecopyLeaves.{put-same}
-use Rattle.header_laws.proofs.HeadPages.{file_of-at}
 use Rattle.header_laws.proofs.Telling.{found-by_id}
 use Rattle.fd_table.specs.declared.slot.FdSlot.{FdSlot}
 use Rattle.fd_table.specs.Slots.{descriptors, opened}
@@ -38,43 +33,21 @@ use Rattle.page_renew.specs.Restated.{restates, restated, restating}
 use Rattle.volume.specs.Holds.{IsImageOf}
 use Rattle.volume.specs.Removes.{id_named}
 use Rattle.volume.specs.Refusals.{has_room_beside, page_lack}
+use Rattle.volume.proofs.Resizing.{has_at, resized_index, resized_data}
 use Rattle.volume.proofs.Going.{IsStep}
 use Rattle.volume.proofs.Descriptors.{open_in, file_at}
 use Rattle.volume.proofs.Paged.{TakesPage, page_refuses, with_room, page_step}
 
 -- ---- the room of a table in which a file is restated
 
--- a file put in the place of another of the same weight
-sum-put_both : (h : File → ℕ) (f e : File) (xs : List File) → f.id ≡ e.id → h f ≡ h e → sum_by h (put_file f xs) ≡ sum_by h (put_file e xs)
-sum-put_both h f e [] same weight = let a = sum_by-cons h f [] in let b = sum_by-cons h e [] in omega (arith, a, b, weight)
-sum-put_both h f e (x ∷ xs) same weight = ⊎_elim
-    (λ (less : nat_lt e.id x.id ≡ true).
-    let too : nat_lt f.id x.id ≡ true = ap (λ (n : ℕ). nat_lt n x.id) same ∙ less in
-    rw (less, too) (let a = sum_by-cons h f (x ∷ xs) in let b = sum_by-cons h e (x ∷ xs) in omega (arith, a, b, weight)))
-    (λ (more : nat_lt e.id x.id ≡ false).
-    let too : nat_lt f.id x.id ≡ false = ap (λ (n : ℕ). nat_lt n x.id) same ∙ more in
-    rw (more, too) (⊎_elim
-    (λ (here : (e.id == x.id) ≡ true).
-    let there : (f.id == x.id) ≡ true = ap (λ (n : ℕ). n == x.id) same ∙ here in
-    rw (here, there) (let a = sum_by-cons h f xs in let b = sum_by-cons h e xs in omega (arith, a, b, weight)))
-    (λ (other : (e.id == x.id) ≡ false).
-    let there : (f.id == x.id) ≡ false = ap (λ (n : ℕ). n == x.id) same ∙ other in
-    rw (other, there) (let a = sum_by-cons h x (put_file f xs) in let b = sum_by-cons h x (put_file e xs) in let rest = sum-put_both h f e xs same weight in omega (arith, a, b, rest)))
-    (cases_Bool (e.id == x.id))))
-    (cases_Bool (nat_lt e.id x.id))
-
--- a file of the table is what the image has under its id
-has_at : (g : Geometry) (a : List ℕ) (id : ℕ) (f : File) → file_of id (table_of g a) ≡ Some f → (p : ℕ) × (has_of g (live_at g a) id ≡ Some (p, Ok f))
-has_at g a id f at = counted-some (has_of g (live_at g a)) 0x7FFF (has_of g (live_at g a) id) f (sym (file_of-at g a id) ∙ at)
-
 -- the table has as many pages after it
 restated_room : (g : Geometry) (a : List ℕ) (id : ℕ) (f e : File) → damaged_of g a ≡ [] → file_of id (table_of g a) ≡ Some f → e.id ≡ f.id → length e.bytes ≡ length f.bytes → has_room g (put_file e (table_of g a)) ≡ has_room_beside g (table_of g a) 0
-unfolding has_room has_room_beside index_count data_count
+unfolding has_room has_room_beside
 restated_room g a id f e undamaged at same long =
-    let h = has_at g a id f at in
-    let again : put_file f (table_of g a) ≡ table_of g a = put-same g a id h.0 f undamaged h.1 in
-    let index = sum-put_both (λ (x : File). index_pages g (length x.bytes)) e f (table_of g a) same (ap (index_pages g) long) ∙ ap (sum_by (λ (x : File). index_pages g (length x.bytes))) again in
-    let pages = sum-put_both (λ (x : File). data_pages g (length x.bytes)) e f (table_of g a) same (ap (data_pages g) long) ∙ ap (sum_by (λ (x : File). data_pages g (length x.bytes))) again in
+    let i = resized_index g a id f e undamaged at same in
+    let d = resized_data g a id f e undamaged at same in
+    let index : index_count g (put_file e (table_of g a)) ≡ index_count g (table_of g a) = omega (arith, i, ap (index_pages g) long) in
+    let pages : data_count g (put_file e (table_of g a)) ≡ data_count g (table_of g a) = omega (arith, d, ap (data_pages g) long) in
     rw (index, pages) refl
 
 -- ---- the file that is restated

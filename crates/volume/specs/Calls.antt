@@ -1,44 +1,53 @@
 -- What a call does to a volume, by the flat table: the contract of every file call.
-use Rattle.std.specs.Prelude.{◌≡◌, ◌≢◌, ◌⊎◌, ℕ, List, true, false, Some}
+use Rattle.std.specs.Prelude.{◌≡◌, ◌≢◌, ◌⊎◌, ℕ, List, true, false, Some, None}
+use Rattle.std.specs.Option.{is_some}
 use Rattle.nor_core.specs.declared.state.NorState.{Ghosts as NorOf}
 use Rattle.nor_core.specs.Count.{Rose}
 use Rattle.nor_core.specs.Device.{Changes, OnlyReads}
 use Rattle.table_model.specs.declared.error.FsErr.{FsErr}
-use Rattle.table_model.specs.declared.error.FsErr.TheVariants.{Failed, DeviceFault, Damaged, Unbuilt}
+use Rattle.table_model.specs.declared.error.FsErr.TheVariants.{Failed, DeviceFault, Damaged, Tight}
 use Rattle.table_model.specs.declared.error.Differ.{Differ}
 use Rattle.table_model.specs.Reply.{Answer, Gives, Refuses}
 use Rattle.table_model.specs.Ask.{Ask, Collects}
 use Rattle.table_model.specs.Steps.{is_refusal}
-use Rattle.table_model.specs.Window.{Moment}
+use Rattle.table_model.specs.Window.{Moment, settled_at, leaves_window, incoming_of, continues}
+use Rattle.image_model.specs.Tidy.{HasReserve}
 use Rattle.call_model.specs.Calls.{Publishes, Answers}
 use Rattle.volume.specs.declared.volume.Volume.{Volume}
 use Rattle.volume.specs.Stages.{takes_calls, has_failed}
 use Rattle.volume.specs.Same.{IsSameVolume}
-use Rattle.volume.specs.Built.{is_built}
-use Rattle.volume.specs.Replies.{is_of_name, names_fault, may_answer, breaks, is_change, keeps_slots}
+use Rattle.volume.specs.Replies.{is_of_name, names_fault, may_answer, may_settle, breaks, is_change, keeps_slots}
 use Rattle.volume.specs.Holds.{memory, Holds}
-use Rattle.volume.specs.Goes.{IsDoable, StopsShort, IsCollected, IsGiven}
+use Rattle.volume.specs.Unchanged.{Unchanged}
+use Rattle.volume.specs.Goes.{IsDoable, IsCorner, StopsShort, IsCollected, IsGiven}
 
 module _ {N : Type 0} {nor : NorOf N} where
-  -- the device was only read, and the descriptors and the stage are as before
-  pub record Unchanged (old new : Volume N nor) : Type 0 where
-    pub reads : OnlyReads nor old.nor.now new.nor.now
-    pub slots : new.slots.now ≡ old.slots.now
-    pub stage : new.stage ≡ old.stage
+  -- bytes wait
+  abbrev pub HasRun : Volume N nor → Type 0
+  HasRun v = is_some (memory v).run ≡ true
 
-  -- What a call does. `old` and `new` are the volume before and after it.
+  -- nothing waits
+  abbrev pub HasNone : Volume N nor → Type 0
+  HasNone v = (memory v).run ≡ None
+
+  -- What a call does. `old` and `new` are the volume before and after it. Every call but telling an offset and a write that goes on with
+  -- what waits puts that onto the chip first.
   pub record Calls (ask : Ask) (old new : Volume N nor) (reply : Answer) : Type 0 where
     pub same : IsSameVolume old new
     -- what a cut leaves, of a volume that stands at a moment
     pub cuts : Changes nor old.nor.now new.nor.now (λ was image. (m : Moment) → Publishes old.geometry (memory old) m ask was image)
-    -- the answer, where the device doesn't fail and garbage collection isn't stuck; refused, the call changes nothing
-    pub answers : (m : Moment) → takes_calls old ≡ true → Holds old m → ¬ (reply ≡ Refuses DeviceFault) → ¬ (reply ≡ Refuses Unbuilt) → ¬ StopsShort ask reply → Answers nor old.geometry old.nor.now new.nor.now (memory new) m ask reply
-    pub refused : (m : Moment) → takes_calls old ≡ true → Holds old m → ¬ (reply ≡ Refuses DeviceFault) → ¬ StopsShort ask reply → is_refusal reply ≡ true → Unchanged old new
+    -- the answer, where the device doesn't fail and garbage collection isn't stuck; refused where nothing waits, the call changes nothing
+    pub answers : (m : Moment) → takes_calls old ≡ true → Holds old m → ¬ (reply ≡ Refuses DeviceFault) → ¬ StopsShort old.geometry (nor.bytes old.nor.now) m.state ask reply → Answers nor old.geometry old.nor.now new.nor.now (memory new) m ask reply
+    pub refused : (m : Moment) → takes_calls old ≡ true → HasNone old → Holds old m → ¬ (reply ≡ Refuses DeviceFault) → ¬ StopsShort old.geometry (nor.bytes old.nor.now) m.state ask reply → is_refusal reply ≡ true → Unchanged old new
     -- where garbage collection stops
-    pub collects : (m : Moment) → takes_calls old ≡ true → Holds old m → ask ≡ Collects → IsCollected old.geometry reply (nor.bytes old.nor.now) (nor.bytes new.nor.now)
-    -- a call that isn't built says so, and no other one does
-    pub unbuilt : takes_calls old ≡ true → is_built ask ≡ false → (reply ≡ Refuses Unbuilt) × Unchanged old new
-    pub unbuilt_only : takes_calls old ≡ true → reply ≡ Refuses Unbuilt → is_built ask ≡ false
+    pub collects : (m : Moment) → takes_calls old ≡ true → HasNone old → Holds old m → ask ≡ Collects → IsCollected old.geometry reply (nor.bytes old.nor.now) (nor.bytes new.nor.now)
+    -- with two free blocks collection isn't stuck
+    pub unstuck : (m : Moment) → takes_calls old ≡ true → Holds old m → HasReserve old.geometry (nor.bytes old.nor.now) → ask ≡ Collects → reply ≡ Refuses Tight → ⊥
+    -- Tight for want of a page for a cut, nothing is changed but where pages stand, and that what waited is on the chip
+    pub cornered : (m : Moment) → takes_calls old ≡ true → Holds old m → IsCorner old.geometry (nor.bytes old.nor.now) m.state ask → reply ≡ Refuses Tight → Holds new (settled_at m.state) × HasReserve old.geometry (nor.bytes new.nor.now)
+    -- telling an offset changes nothing, and a write that goes on with what waits asks nothing of the device
+    pub leaves : takes_calls old ≡ true → leaves_window ask ≡ true → new ≡ old
+    pub extends : (m : Moment) → takes_calls old ≡ true → Holds old m → continues old.geometry m.window (incoming_of m.state ask) ≡ true → new.nor.now ≡ old.nor.now
     -- a volume that takes no calls says so
     pub closed : takes_calls old ≡ false → (reply ≡ Refuses Failed) × (new.nor.now ≡ old.nor.now) × Unchanged old new
     -- a fault is told only where one was counted; of a page that reads otherwise two tags that differ, and never on a volume that
@@ -46,15 +55,16 @@ module _ {N : Type 0} {nor : NorOf N} where
     pub cause : reply ≡ Refuses DeviceFault → Rose (nor.faults old.nor.now) (nor.faults new.nor.now)
     pub differs : (d : Differ) → reply ≡ Refuses (Damaged d) → d.wanted ≢ d.found
     pub undamaged : (m : Moment) → Holds old m → (d : Differ) → reply ≡ Refuses (Damaged d) → ⊥
-    -- the sort of the answer, and a name that is refused, whatever the device tells
-    pub among : takes_calls old ≡ true → may_answer ask reply ≡ true
+    -- the sort of the answer, and a name that is refused, whatever the device tells; or what waits could not be put onto the chip
+    pub among : takes_calls old ≡ true → (may_answer ask reply ≡ true) ⊎ (HasRun old × (may_settle reply ≡ true))
     pub brief : (bytes : List ℕ) → reply ≡ Gives bytes → IsGiven ask bytes
-    pub named : takes_calls old ≡ true → is_built ask ≡ true → (why : FsErr) → names_fault ask ≡ Some why → (reply ≡ Refuses why) × Unchanged old new
+    pub named : takes_calls old ≡ true → (why : FsErr) → names_fault ask ≡ Some why → ((reply ≡ Refuses why) × (HasNone old → Unchanged old new)) ⊎ (HasRun old × (may_settle reply ≡ true))
     pub names : takes_calls old ≡ true → (why : FsErr) → is_of_name why ≡ true → reply ≡ Refuses why → names_fault ask ≡ Some why
-    -- after a fault the volume has failed, or nothing is changed; it fails in no other call, and in none that the flat table refuses
+    -- after a fault the volume has failed, or nothing is changed; it fails in no other call, and where nothing waits in none that the flat
+    -- table refuses
     pub failed : breaks reply ≡ true → (has_failed new ≡ true) ⊎ Unchanged old new
     pub stays : (new.stage ≡ old.stage) ⊎ ((takes_calls old ≡ true) × (has_failed new ≡ true) × (breaks reply ≡ true))
-    pub stops : (m : Moment) → takes_calls old ≡ true → takes_calls new ≡ false → Holds old m → IsDoable old.geometry (nor.bytes old.nor.now) m.state ask
-    -- a call that only looks asks for no program and no erase, and one that only looks at descriptors leaves them
-    pub looks : is_change ask ≡ false → OnlyReads nor old.nor.now new.nor.now × (new.stage ≡ old.stage)
+    pub stops : (m : Moment) → takes_calls old ≡ true → takes_calls new ≡ false → Holds old m → HasRun old ⊎ IsDoable old.geometry (nor.bytes old.nor.now) m.state ask
+    -- where nothing waits a call that only looks asks for no program and no erase, and one that only looks at descriptors leaves them
+    pub looks : is_change ask ≡ false → HasNone old → OnlyReads nor old.nor.now new.nor.now × (new.stage ≡ old.stage)
     pub keeps : keeps_slots ask ≡ true → new.slots.now ≡ old.slots.now

@@ -1,6 +1,5 @@
 pub mod Pages
 pub mod Refusals
-pub mod Built
 pub mod Replies
 pub mod Opening
 pub mod Stages
@@ -9,9 +8,17 @@ pub mod Holds
 pub mod Moves
 pub mod Collecting
 pub mod Goes
+pub mod Acts
+pub mod Unchanged
+pub mod Settles
+pub mod Settled
+pub mod Extends
+pub mod Unmounts
 pub mod Calls
 pub mod Records
 pub mod Removes
 pub mod Opens
 pub mod Recorded
 pub mod Checking
+pub mod Cuts
+pub mod Writings

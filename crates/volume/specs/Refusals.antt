@@ -1,13 +1,14 @@
 -- What stands against a new page, and against a new file.
-use Rattle.std.specs.Prelude.{◌≡◌, ℕ, ◌+◌, List, nat_le, Bool, true, false, not, nat_lt, Option, Some, None, Result, Ok, Err, if◌then◌else◌}
+use Rattle.std.specs.Prelude.{◌≡◌, ℕ, ◌+◌, List, length, nat_le, Bool, true, false, not, nat_lt, Option, Some, None, Result, Ok, Err, if◌then◌else◌}
 use Rattle.geometry.specs.declared.geometry.Geometry.{Geometry}
 use Rattle.geometry.specs.Numbers.{ceil, entries}
 use Rattle.table_model.specs.declared.error.FsErr.{FsErr}
 use Rattle.table_model.specs.declared.error.FsErr.TheVariants.{ConflictingName, Tight, Full, DeviceFault}
-use Rattle.table_model.specs.Table.{File, has_name, least_id}
+use Rattle.table_model.specs.Table.{File, has_name, file_of, least_id}
+use Rattle.table_model.specs.Outcome.{page_refusal}
 use Rattle.table_model.specs.Room.{index_count, data_count}
 use Rattle.image_model.specs.Tables.{table_of}
-use Rattle.image_model.specs.Tidy.{free_blocks}
+use Rattle.image_model.specs.Tidy.{free_blocks, has_spare}
 
 -- a table has room with so many index pages more than it has
 unfoldable pub has_room_beside : Geometry → List File → ℕ → Bool
@@ -25,6 +26,18 @@ page_lack g image more =
 abbrev pub HasPage : Geometry → List ℕ → (more : ℕ) → Result (Unit {0}) FsErr → Type 0
 HasPage g image more (Ok done) = page_lack g image more ≡ None
 HasPage g image more (Err why) = ¬ (why ≡ DeviceFault) → page_lack g image more ≡ Some why
+
+-- the pages for a call that leaves a table are had, or what stands against them
+abbrev pub HasRoomAfter : Geometry → List ℕ → List File → Result (Unit {0}) FsErr → Type 0
+HasRoomAfter g image files (Ok done) = page_refusal g (has_spare g image) files ≡ None
+HasRoomAfter g image files (Err why) = ¬ (why ≡ DeviceFault) → page_refusal g (has_spare g image) files ≡ Some why
+
+-- a file gets so many bytes in the place of others
+pub record IsResized (files : List File) (from to : ℕ) (f new : File) : Type 0 where
+  pub there : file_of f.id files ≡ Some f
+  pub same : new.id ≡ f.id
+  pub was : length f.bytes ≡ from
+  pub now : length new.bytes ≡ to
 
 -- the id of a new file, where nothing stands against it, or what does
 abbrev pub Prepares : Geometry → List ℕ → Result ℕ FsErr → Type 0

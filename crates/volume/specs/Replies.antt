@@ -1,7 +1,7 @@
 -- How a call may be answered at all, whatever the device tells.
-use Rattle.std.specs.Prelude.{◌≡◌, ◌≤◌, ℕ, List, take, Bool, true, false, not, nat_lt, ◌&&◌, ◌||◌, Option, Some, None, Result, Ok, Err}
+use Rattle.std.specs.Prelude.{◌≡◌, ◌≤◌, ℕ, List, length, take, Bool, true, false, not, nat_lt, ◌==◌, ◌&&◌, ◌||◌, Option, Some, None, Result, Ok, Err}
 use Rattle.table_model.specs.declared.error.FsErr.{FsErr}
-use Rattle.table_model.specs.declared.error.FsErr.TheVariants.{BadName, NameTooLong, BadFlags, BadDescriptor, OutOfDescriptors, NotFound, FileExists, ConflictingName, NotReadable, NotWritable, SeekBounds, Tight, Full, DeviceFault, Damaged, Unbuilt}
+use Rattle.table_model.specs.declared.error.FsErr.TheVariants.{BadName, NameTooLong, BadFlags, BadDescriptor, OutOfDescriptors, NotFound, FileExists, ConflictingName, NotReadable, NotWritable, SeekBounds, Tight, Full, DeviceFault, Damaged}
 use Rattle.table_model.specs.declared.reply.Stat.{Stat}
 use Rattle.volume.specs.declared.told.Told.{Told}
 use Rattle.volume.specs.declared.told.Told.TheVariants.{Done, Number as AsNumber, Bytes, File as AsFile, NoMore, Room, Refusal}
@@ -13,7 +13,7 @@ use Rattle.flash_view.specs.declared.kinds.StepErr.{StepErr}
 use Rattle.flash_view.specs.declared.kinds.StepErr.TheVariants.{DeviceFault as StepFault, Damaged as StepDamaged}
 use Rattle.table_model.specs.Names.{name_refusal, names_refusal}
 use Rattle.table_model.specs.Reply.{Answer, Fine, Tells as Number, Gives, Shows, Ends, Counts, Refuses}
-use Rattle.table_model.specs.Ask.{Ask, Creates, Opens, Reads, Seeks, Tells, Flushes, Closes, Removes, RemovesOpen, Renames, Stats, StatsOpen, NextAbove, Informs, Collects, SetsMeta, SetsMetaOpen}
+use Rattle.table_model.specs.Ask.{Ask, Creates, Opens, Reads, Writes, Fills, Seeks, Tells, Truncates, Flushes, Closes, Removes, RemovesOpen, Renames, Stats, StatsOpen, NextAbove, Informs, Collects, SetsMeta, SetsMetaOpen}
 
 -- what a call told; bytes that were read stand at the front of those that were lent
 abbrev pub shown_by : Told → List ℕ → Answer
@@ -115,15 +115,23 @@ is_of_seeking BadDescriptor = true
 is_of_seeking SeekBounds = true
 is_of_seeking _ = false
 
+-- .. or it may not write, or the size is beyond the file's end, or there is no page
+abbrev pub is_of_truncating : FsErr → Bool
+is_of_truncating BadDescriptor = true
+is_of_truncating NotWritable = true
+is_of_truncating SeekBounds = true
+is_of_truncating why = is_of_new_page why
+
+-- .. or it may not write, or there is no page
+abbrev pub is_of_writing : FsErr → Bool
+is_of_writing BadDescriptor = true
+is_of_writing NotWritable = true
+is_of_writing why = is_of_new_page why
+
 -- there is too little room
 abbrev pub is_tight : FsErr → Bool
 is_tight Tight = true
 is_tight _ = false
-
--- the call isn't built
-abbrev pub is_unbuilt : FsErr → Bool
-is_unbuilt Unbuilt = true
-is_unbuilt _ = false
 
 -- a refusal that is met once the names are accepted, before a program or an erase is asked for
 abbrev pub is_early : FsErr → Bool
@@ -132,10 +140,13 @@ is_early why = not (is_of_name why) && not (is_damage why)
 -- of these, the ones of each call
 abbrev pub meets : Ask → FsErr → Bool
 meets (Creates name) why = is_of_new_file why || is_fault why
-meets (Opens name flags) why = (is_of_opening why || is_fault why) || (empties flags && is_unbuilt why)
+meets (Opens name flags) why = is_of_opening why || is_fault why
 meets (Reads fd count) why = is_of_reading why || is_fault why
+meets (Writes fd bytes) why = is_of_writing why || is_fault why
+meets (Fills fd count byte) why = is_of_writing why || is_fault why
 meets (Seeks fd offset from) why = is_of_seeking why || is_fault why
 meets (Tells fd) why = is_of_descriptor why
+meets (Truncates fd size) why = is_of_truncating why || is_fault why
 meets (Flushes fd) why = is_of_descriptor why
 meets (Closes fd) why = is_of_descriptor why
 meets (Removes name) why = is_missing why || is_fault why
@@ -148,15 +159,14 @@ meets Informs why = is_fault why
 meets Collects why = is_tight why || is_fault why
 meets (SetsMeta name meta) why = is_of_meta why || is_fault why
 meets (SetsMetaOpen fd meta) why = is_of_meta_open why || is_fault why
-meets _ why = is_unbuilt why
 
 abbrev pub may_meet : Ask → FsErr → Bool
 may_meet ask why = is_early why && meets ask why
 
 -- calls that take a page may meet this
 abbrev pub MeetsPage : FsErr → Type 0
-MeetsPage why = (name other : List ℕ) (flags fd : ℕ) →
-    (may_meet (Creates name) why ≡ true) × (may_meet (Opens name flags) why ≡ true) × (may_meet (Renames name other) why ≡ true) × (may_meet (SetsMeta name other) why ≡ true) × (may_meet (SetsMetaOpen fd other) why ≡ true)
+MeetsPage why = (name other : List ℕ) (flags fd size : ℕ) →
+    (may_meet (Creates name) why ≡ true) × (may_meet (Opens name flags) why ≡ true) × (may_meet (Truncates fd size) why ≡ true) × (may_meet (Renames name other) why ≡ true) × (may_meet (SetsMeta name other) why ≡ true) × (may_meet (SetsMetaOpen fd other) why ≡ true)
 
 -- calls by the name of a file that is there may
 abbrev pub MeetsNamed : List ℕ → FsErr → Type 0
@@ -170,6 +180,9 @@ MeetsKnown name why = (other : List ℕ) → (may_meet (Creates name) why ≡ tr
 abbrev pub is_change : Ask → Bool
 is_change (Creates name) = true
 is_change (Opens name flags) = makes flags || empties flags
+is_change (Writes fd bytes) = true
+is_change (Fills fd count byte) = true
+is_change (Truncates fd size) = true
 is_change (Removes name) = true
 is_change (RemovesOpen fd) = true
 is_change (Renames old_name new_name) = true
@@ -189,7 +202,10 @@ reads_file _ = false
 abbrev pub keeps_slots : Ask → Bool
 keeps_slots (Opens name flags) = false
 keeps_slots (Reads fd count) = false
+keeps_slots (Writes fd bytes) = false
+keeps_slots (Fills fd count byte) = false
 keeps_slots (Seeks fd offset from) = false
+keeps_slots (Truncates fd size) = false
 keeps_slots (Closes fd) = false
 keeps_slots (Removes name) = false
 keeps_slots (RemovesOpen fd) = false
@@ -215,8 +231,11 @@ may_answer ask (Refuses why) = may_refuse ask why
 may_answer (Creates name) Fine = true
 may_answer (Opens name flags) (Number fd) = nat_lt fd 65536
 may_answer (Reads fd count) (Gives bytes) = true
+may_answer (Writes fd bytes) (Number n) = n == length bytes
+may_answer (Fills fd count byte) (Number n) = n == count
 may_answer (Seeks fd offset from) (Number at) = true
 may_answer (Tells fd) (Number at) = true
+may_answer (Truncates fd size) Fine = true
 may_answer (Flushes fd) Fine = true
 may_answer (Closes fd) Fine = true
 may_answer (Removes name) Fine = true
@@ -247,6 +266,11 @@ abbrev pub breaks : Answer → Bool
 breaks (Refuses why) = is_fault why || is_damage why
 breaks _ = false
 
+-- how a call may be answered where bytes wait that can't be put onto the chip first
+abbrev pub may_settle : Answer → Bool
+may_settle (Refuses why) = is_fault why || (is_damage why || is_tight why)
+may_settle _ = false
+
 -- a record, or the end of the table
 abbrev pub shown_or_end : Option Stat → Answer
 shown_or_end None = Ends
@@ -275,7 +299,8 @@ base_at Set offset size = 0
 base_at Cur offset size = offset
 base_at End offset size = size
 
--- the bytes that are lent for what is read are enough
+-- the bytes that are lent are enough for what is read, or for those of a fill
 abbrev pub HasRoomFor : Ask → ℕ → Type 0
 HasRoomFor (Reads fd count) n = count ≤ n
+HasRoomFor (Fills fd count byte) n = count ≤ n
 HasRoomFor ask n = Unit {0}

@@ -1,12 +1,13 @@
-ghost use Rattle.std.specs.Prelude.{◌≡◌, ◌*◌, ◌≤◌, ℕ, List, length, false};
-ghost use Rattle.geometry.specs.Numbers.{usable, work_need, cache_need};
+ghost use Rattle.std.specs.Prelude.{◌≡◌, ◌*◌, ◌≤◌, ℕ, List, length, None, false};
+ghost use Rattle.geometry.specs.Numbers.{usable, body, work_need, cache_need};
 ghost use Rattle.flash_view.specs.Same.{IsSameView};
 ghost use Rattle.page_cache.specs.Kept.{IsKept, FewReads};
 ghost use Rattle.table_model.specs.Ask.{asked};
-ghost use Rattle.volume.specs.Replies.{reply_of, shown_by, breaks, HasRoomFor};
+ghost use Rattle.volume.specs.Replies.{reply_of, shown_by, HasRoomFor};
 ghost use Rattle.volume.specs.Opening.{stage_after as the_stage_after};
-ghost use Rattle.volume.specs.Goes.{Goes};
-ghost use Rattle.volume.specs.Calls.{Calls};
+ghost use Rattle.volume.specs.Acts.{Acts};
+ghost use Rattle.volume.specs.Settled.{is_fill};
+ghost use Rattle.write_window.specs.Shown.{run_in};
 
 use crate::collecting::collect_in;
 use crate::create::create_in;
@@ -16,13 +17,16 @@ use crate::reading::{read_in, seek_in, tell_open};
 use crate::remove::{remove_in, remove_open};
 use crate::restating::{rename_in, set_meta, set_meta_open};
 use crate::slots::{close_in, flush_in, tell_in};
-use crate::stage::Stage;
+use crate::stage::{Stage, stage_at};
+use crate::truncating::truncate_in;
+use crate::write::write_in;
 use crate::{Told, Volume};
 use fd_table::FdSlot;
 use flash_view::View;
 use geometry::Geometry;
 use nor_core::{Nor, NorState};
 use table_model::{Call, FsErr};
+use write_window::Held;
 
 /// How a call went, and whether the device was asked for a program or an erase.
 #[derive(Drop)]
@@ -31,25 +35,36 @@ struct Attempt {
     wrote: bool,
 }
 
-// Does a call over a view.
+// Does a call over a view, where nothing waits.
 fn call_in<N: Nor>(
     v: &mut View<'_, N>,
     slots: &mut [FdSlot],
+    held: &mut Held,
+    kept: &mut [u8],
     call: &Call<'_>,
     into: &mut [u8],
 ) -> Result<Told, FsErr>
     requires usable { usable v.old.geometry ≤ 32766 }
     requires fresh { v.old.wrote ≡ false }
     requires room { HasRoomFor (asked call.now) (length into.old) }
+    requires no_fill { is_fill (asked call.now) ≡ false }
+    requires none { run_in held.old kept.old ≡ None }
+    requires held { held.old.taken ≤ length kept.old }
+    requires page { body v.old.geometry ≤ length kept.old }
     ensures same { IsSameView v.old v.new }
-    ensures goes { Goes N.NorState v.old.geometry (asked call.now) v.old.nor.now v.new.nor.now slots.old slots.new v.new.wrote (reply_of result into.new) }
+    ensures size { length kept.new ≡ length kept.old }
+    ensures held { held.new.taken ≤ length kept.new }
+    ensures acts { Acts N.NorState v.old.geometry (asked call.now) v.old.nor.now v.new.nor.now slots.old slots.new (run_in held.new kept.new) v.new.wrote (reply_of result into.new) }
 {
     match *call {
         Call::Create { name } => create_in(v, name),
         Call::OpenFile { name, flags } => open_in(v, slots, name, flags),
         Call::Read { fd, count } => read_in(v, slots, fd, count, into),
+        Call::Write { fd, bytes } => write_in(v, slots, held, kept, fd, bytes),
+        Call::Fill { .. } => unreachable!(),
         Call::Seek { fd, offset, from } => seek_in(v, slots, fd, offset, from),
         Call::Tell { fd } => tell_in(slots, fd),
+        Call::Truncate { fd, size } => truncate_in(v, slots, fd, size),
         Call::Flush { fd } => flush_in(slots, fd),
         Call::Close { fd } => close_in(slots, fd),
         Call::Remove { name } => remove_in(v, slots, name),
@@ -62,17 +77,18 @@ fn call_in<N: Nor>(
         Call::Gc => collect_in(v),
         Call::SetMeta { name, meta } => set_meta(v, name, meta),
         Call::FSetMeta { fd, meta } => set_meta_open(v, slots, fd, meta),
-        _ => Err(FsErr::Unbuilt),
     }
 }
 
-// Does a call on a device.
+// Does a call on a device, where nothing waits.
 fn call_on<N: Nor>(
     g: Geometry,
     nor: &mut N,
     work: &mut [u8],
     cache: &mut [u8],
     slots: &mut [FdSlot],
+    held: &mut Held,
+    keep: &mut [u8],
     call: &Call<'_>,
     into: &mut [u8],
 ) -> Attempt
@@ -83,11 +99,17 @@ fn call_on<N: Nor>(
     requires kept { IsKept N.NorState g nor.old cache.old }
     requires usable { usable g ≤ 32766 }
     requires room { HasRoomFor (asked call.now) (length into.old) }
+    requires no_fill { is_fill (asked call.now) ≡ false }
+    requires none { run_in held.old keep.old ≡ None }
+    requires held { held.old.taken ≤ length keep.old }
+    requires page { body g ≤ length keep.old }
     ensures kept { IsKept N.NorState g nor.new cache.new }
     ensures cache_size { length cache.new ≡ length cache.old }
     ensures few { FewReads N.NorState g nor.old cache.old nor.new cache.new }
     ensures faults { N.faults nor.old ≤ N.faults nor.new }
-    ensures goes { Goes N.NorState g (asked call.now) nor.old nor.new slots.old slots.new result.wrote (shown_by result.told into.new) }
+    ensures size { length keep.new ≡ length keep.old }
+    ensures held { held.new.taken ≤ length keep.new }
+    ensures acts { Acts N.NorState g (asked call.now) nor.old nor.new slots.old slots.new (run_in held.new keep.new) result.wrote (shown_by result.told into.new) }
 {
     let mut v = View {
         geometry: g,
@@ -96,7 +118,7 @@ fn call_on<N: Nor>(
         cache,
         wrote: false,
     };
-    let told = match call_in(&mut v, slots, call, into) {
+    let told = match call_in(&mut v, slots, held, keep, call, into) {
         Ok(told) => told,
         Err(why) => Told::Refusal(why),
     };
@@ -106,29 +128,94 @@ fn call_on<N: Nor>(
     }
 }
 
-// Whether a call tells that the device failed, or that a page reads otherwise.
-fn is_broken(told: &Told) -> bool
-    ensures { (into : List ℕ) → result ≡ breaks (shown_by told.now into) }
-{
-    matches!(told, Told::Refusal(FsErr::DeviceFault | FsErr::Damaged(_)))
-}
-
 // Where a call leads that a checked volume took.
 fn stage_after(told: &Told, wrote: bool) -> Stage
     ensures { (into : List ℕ) → result ≡ the_stage_after wrote (shown_by told.now into) }
 {
-    if wrote && is_broken(told) {
-        Stage::Failed
-    } else {
-        Stage::Checked
+    match told {
+        Told::Refusal(why) => stage_at(why, wrote),
+        _ => Stage::Checked,
     }
 }
 
 impl<'b, N: Nor> Volume<'b, N> {
+    ghost use Rattle.std.specs.Prelude.{◌≡◌, true, false, [], None, length};
+    ghost use Rattle.table_model.specs.Ask.{Tells, Writes, asked};
+    ghost use Rattle.table_model.specs.Window.{leaves_window};
+    ghost use Rattle.volume.specs.Replies.{shown_by, HasRoomFor};
+    ghost use Rattle.volume.specs.Holds.{memory};
+    ghost use Rattle.volume.specs.Stages.{takes_calls};
+    ghost use Rattle.volume.specs.Same.{IsSameVolume};
+    ghost use Rattle.volume.specs.Settled.{is_fill, GoesOnNot, ActsOn};
+    ghost use Rattle.volume.specs.Calls.{Calls};
+
+    // Does a call where nothing waits. `had` says whether anything waited when it began.
+    fn do_settled(&mut self, had: bool, call: &Call<'_>, into: &mut [u8]) -> Told
+        requires takes { takes_calls self.old ≡ true }
+        requires none { (memory self.old).run ≡ None }
+        requires room { HasRoomFor (asked call.now) (length into.old) }
+        requires no_fill { is_fill (asked call.now) ≡ false }
+        ensures same { IsSameVolume self.old self.new }
+        ensures acts { ActsOn had (asked call.now) self.old self.new (shown_by result into.new) }
+    {
+        let Attempt { told, wrote } = call_on(
+            self.geometry,
+            self.nor,
+            self.work,
+            self.cache,
+            self.slots,
+            &mut self.held,
+            self.check,
+            call,
+            into,
+        );
+        self.stage = stage_after(&told, had || wrote);
+        told
+    }
+
+    // Does a call that doesn't go on with what waits: that is put onto the chip first.
+    fn do_call(&mut self, call: &Call<'_>, into: &mut [u8]) -> Told
+        requires takes { takes_calls self.old ≡ true }
+        requires leaves { leaves_window (asked call.now) ≡ false }
+        requires apart { GoesOnNot self.old (asked call.now) }
+        requires room { HasRoomFor (asked call.now) (length into.old) }
+        requires no_fill { is_fill (asked call.now) ≡ false }
+        ensures { Calls (asked call.now) self.old self.new (shown_by result into.new) }
+    {
+        match self.begin() {
+            Err(why) => Told::Refusal(why),
+            Ok(had) => self.do_settled(had, call, into),
+        }
+    }
+
+    // Writes bytes through a descriptor.
+    fn do_write(&mut self, fd: u16, bytes: &[u8]) -> Told
+        requires takes { takes_calls self.old ≡ true }
+        ensures { Calls (Writes fd bytes.now) self.old self.new (shown_by result []) }
+    {
+        match self.open_run(fd, bytes.len()) {
+            Some(slot) => self.extend(fd, slot, bytes),
+            None => self.do_call(&Call::Write { fd, bytes }, &mut []),
+        }
+    }
+
+    // Tells a descriptor's offset: what waits goes on waiting.
+    fn do_tell(&self, fd: u16) -> Told
+        requires takes { takes_calls self.now ≡ true }
+        ensures { Calls (Tells fd) self.now self.now (shown_by result []) }
+    {
+        match tell_in(self.slots, fd) {
+            Ok(told) => told,
+            Err(why) => Told::Refusal(why),
+        }
+    }
+
     /// Does a call. What it tells is what the flat table answers; or the device failed, or a page reads otherwise than it was
     /// written, or the volume takes no calls. Bytes that are read stand at the front of those that are lent for them, which are at
-    /// least as many as a read asks for. After a fault the volume has failed if a program or an erase was asked for; mounting and
-    /// checking again gives a table that the call may leave at a cut.
+    /// least as many as a read or a fill asks for. Small writes wait in the write window: each further write through the same descriptor that
+    /// ends in the same data page goes on with what waits, and every other call but telling an offset puts that onto the chip first. After a
+    /// fault the volume has failed if a program or an erase was asked for; mounting and checking again gives a table that the call may leave
+    /// at a cut.
     pub fn answer(&mut self, call: &Call<'_>, into: &mut [u8]) -> Told
         requires room { HasRoomFor (asked call.now) (length into.old) }
         ensures { Calls (asked call.now) self.old self.new (shown_by result into.new) }
@@ -136,16 +223,15 @@ impl<'b, N: Nor> Volume<'b, N> {
         if self.stage != Stage::Checked {
             return Told::Refusal(FsErr::Failed);
         }
-        let Attempt { told, wrote } = call_on(
-            self.geometry,
-            self.nor,
-            self.work,
-            self.cache,
-            self.slots,
-            call,
-            into,
-        );
-        self.stage = stage_after(&told, wrote);
-        told
+        match *call {
+            Call::Tell { fd } => self.do_tell(fd),
+            Call::Write { fd, bytes } => self.do_write(fd, bytes),
+            Call::Fill { fd, count, byte } => {
+                let bytes = &mut into[..count as usize];
+                bytes.fill(byte);
+                self.do_write(fd, bytes)
+            }
+            _ => self.do_call(call, into),
+        }
     }
 }

@@ -4,7 +4,7 @@ ghost use Rattle.table_model.specs.Ask.{Collects};
 ghost use Rattle.flash_view.specs.Same.{IsSameView};
 ghost use Rattle.flash_view.specs.Steps.{Stepped, stopped};
 ghost use Rattle.fd_table.specs.declared.slot.FdSlot.{FdSlot};
-ghost use Rattle.volume.specs.Collecting.{refusing, taking_page, packing};
+ghost use Rattle.volume.specs.Collecting.{refusing, taking_page, taking_pages, seeking_page, packing};
 ghost use Rattle.volume.specs.Replies.{reply_of};
 ghost use Rattle.volume.specs.Goes.{Goes};
 
@@ -19,10 +19,28 @@ use table_model::FsErr;
 pub(crate) fn take_page<N: Nor>(v: &mut View<'_, N>) -> Result<(), FsErr>
     ensures { Stepped refusing v.old v.new result taking_page }
 {
-    match make_room(v, 1, 0) {
+    take_pages(v, 1, 0)
+}
+
+/// The same for so many index pages and data pages.
+pub(crate) fn take_pages<N: Nor>(v: &mut View<'_, N>, index: u32, pages: u32) -> Result<(), FsErr>
+    ensures { Stepped refusing v.old v.new result (taking_pages index pages) }
+{
+    match make_room(v, index, pages) {
         Ok(()) => Ok(()),
         Err(RoomErr::Tight) => Err(FsErr::Tight),
         Err(RoomErr::Step(why)) => Err(failed_as(why)),
+    }
+}
+
+/// Collects garbage for an index page where the table may have no room for one, and tells whether it is had.
+pub(crate) fn seek_page<N: Nor>(v: &mut View<'_, N>) -> Result<bool, StepErr>
+    ensures { Stepped stopped v.old v.new result seeking_page }
+{
+    match make_room(v, 1, 0) {
+        Ok(()) => Ok(true),
+        Err(RoomErr::Tight) => Ok(false),
+        Err(RoomErr::Step(why)) => Err(why),
     }
 }
 

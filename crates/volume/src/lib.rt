@@ -14,12 +14,16 @@ mod remove;
 mod restating;
 mod room;
 mod saying;
+mod settling;
 mod slots;
 mod stage;
 mod steps;
 mod told;
+mod truncating;
 mod typed;
 mod volume;
+mod write;
+mod writing;
 
 pub use stage::Stage;
 pub use told::Told;

@@ -1,8 +1,9 @@
-ghost use Rattle.std.specs.Prelude.{◌≡◌, ◌<◌, ◌≤◌, ℕ, List, length, Some, None, IsErrOf, IfOk, IfErr, true, false};
+ghost use Rattle.std.specs.Prelude.{◌≡◌, ◌<◌, ◌≤◌, ℕ, List, length, Some, None, Ok, IsErrOf, IfOk, IfErr, true, false};
 ghost use Rattle.geometry.specs.Numbers.{usable};
 ghost use Rattle.nor_core.specs.Count.{Rose};
 ghost use Rattle.flash_view.specs.Same.{IsSameView, OnlyLooks};
 ghost use Rattle.table_model.specs.Ask.{Opens};
+ghost use Rattle.table_model.specs.Names.{name_refusal};
 ghost use Rattle.table_model.specs.Descriptors.{is_bad_flags as the_bad_flags, makes, new_open};
 ghost use Rattle.image_model.specs.Tables.{table_of};
 ghost use Rattle.image_model.specs.Tidy.{IsTidy};
@@ -15,8 +16,11 @@ use crate::Told;
 use crate::collecting::take_page;
 use crate::create::prepare;
 use crate::names::accept;
+use crate::reading::record_of;
+use crate::room::have_room;
 use crate::steps::failed_as;
-use fd_table::{FdErr, FdSlot, first_closed, put};
+use crate::truncating::cut_file;
+use fd_table::{FdErr, FdSlot, first_closed, pull_file_back, put};
 use file_write::create_step;
 use flash_view::View;
 use nor_core::{Failed, Nor, NorState};
@@ -101,7 +105,46 @@ fn open_at(slots: &mut [FdSlot], fd: u16, id: u16, flags: u32)
     );
 }
 
-/// Opens the file of a name, or makes it where the flags say so.
+// Opens a descriptor on a file that was found, which becomes empty where the flags say so.
+#[tactic(auto, using(flash_view::proofs::Looking::same_then, flash_view::proofs::Looking::same_none))]
+fn open_found<N: Nor>(
+    v: &mut View<'_, N>,
+    slots: &mut [FdSlot],
+    name: &[u8],
+    fd: u16,
+    id: u16,
+    flags: u32,
+) -> Result<Told, FsErr>
+    requires fresh { v.old.wrote ≡ false }
+    requires within { (0 < fd) × (fd ≤ length slots.old) }
+    requires named { name_refusal name.now ≡ None }
+    requires slot { TakesSlot flags (descriptors slots.old) (Ok fd) }
+    requires found { N.tells v.old.nor.now → IsTidy v.old.geometry (N.bytes v.old.nor.now) → FindsOpened name.now flags (table_of v.old.geometry (N.bytes v.old.nor.now)) (Ok (Some id)) }
+    ensures same { IsSameView v.old v.new }
+    ensures goes { (into : List ℕ) → Goes N.NorState v.old.geometry (Opens name.now flags) v.old.nor.now v.new.nor.now slots.old slots.new v.new.wrote (reply_of result into) }
+{
+    if flags & TRUNC == 0 {
+        open_at(slots, fd, id, flags);
+        return Ok(Told::Number(u32::from(fd)));
+    }
+    let size = record_of(v, id)?.size;
+    if size == 0 {
+        open_at(slots, fd, id, flags);
+        return Ok(Told::Number(u32::from(fd)));
+    }
+    have_room(v, size, 0)?;
+    match cut_file(v, id, 0) {
+        Ok(true) => {
+            pull_file_back(slots, id, 0);
+            open_at(slots, fd, id, flags);
+            Ok(Told::Number(u32::from(fd)))
+        }
+        Ok(false) => Err(FsErr::Tight),
+        Err(why) => Err(failed_as(why)),
+    }
+}
+
+/// Opens the file of a name, or makes it where the flags say so; where they say so it becomes empty.
 #[tactic(auto, using(flash_view::proofs::Looking::same_then, flash_view::proofs::Looking::same_none))]
 pub(crate) fn open_in<N: Nor>(
     v: &mut View<'_, N>,
@@ -114,14 +157,10 @@ pub(crate) fn open_in<N: Nor>(
     ensures same { IsSameView v.old v.new }
     ensures goes { (into : List ℕ) → Goes N.NorState v.old.geometry (Opens name.now flags) v.old.nor.now v.new.nor.now slots.old slots.new v.new.wrote (reply_of result into) }
 {
-    if flags & TRUNC != 0 {
-        return Err(FsErr::Unbuilt);
-    }
     accept(name)?;
     let fd = take_slot(slots, flags)?;
     if let Some(id) = find_opened(v, name, flags)? {
-        open_at(slots, fd, id, flags);
-        return Ok(Told::Number(u32::from(fd)));
+        return open_found(v, slots, name, fd, id, flags);
     }
     let id = prepare(v)?;
     take_page(v)?;

@@ -22,8 +22,8 @@ use table_model::{FsErr, Stat, Whence};
 /// The descriptor may read.
 const RDONLY: u8 = 8;
 
-// The record of the file of an open descriptor, which is there.
-fn record_of<N: Nor>(v: &mut View<'_, N>, id: u16) -> Result<Stat, FsErr>
+/// The record of the file of an open descriptor, which is there.
+pub(crate) fn record_of<N: Nor>(v: &mut View<'_, N>, id: u16) -> Result<Stat, FsErr>
     ensures cause { IsErrOf result FsErr.DeviceFault → Rose (N.faults v.old.nor.now) (N.faults v.new.nor.now) }
     ensures looks { OnlyLooks v.old v.new }
     ensures missed { IfErr result MayMiss }

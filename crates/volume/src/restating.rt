@@ -34,8 +34,8 @@ fn accept_meta(g: &Geometry, meta: &[u8]) -> Result<(), FsErr>
     Ok(())
 }
 
-// Whether flags let a descriptor write.
-fn may_write(flags: u8) -> bool
+/// Whether flags let a descriptor write.
+pub(crate) fn may_write(flags: u8) -> bool
     ensures { result ≡ may_write_by flags }
 {
     flags & WRONLY != 0

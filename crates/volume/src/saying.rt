@@ -4,6 +4,7 @@ ghost use Rattle.nor_core.specs.Count.{Rose};
 ghost use Rattle.nor_core.specs.Device.{Leaves, Says, InSay};
 ghost use Rattle.page_cache.specs.Kept.{IsKept, FewReads};
 ghost use Rattle.volume.specs.Stages.{takes_calls};
+ghost use Rattle.volume.specs.Holds.{memory};
 ghost use Rattle.volume.specs.Same.{IsSameVolume};
 
 use crate::Volume;
@@ -52,6 +53,7 @@ impl<'b, B: Board> Volume<'b, B> {
         ensures cuts { Leaves B.NorState self.old.nor.now self.new.nor.now (InSay B.NorState self.old.nor.now piece.now) }
         ensures stays { takes_calls self.new ≡ takes_calls self.old }
         ensures slots { self.new.slots.now ≡ self.old.slots.now }
+        ensures memory { memory self.new ≡ memory self.old }
         ensures same { IsSameVolume self.old self.new }
     {
         say_on(self.geometry, self.nor, self.work, self.cache, piece)

@@ -1,6 +1,6 @@
 ghost use Rattle.std.specs.Prelude.{◌≡◌, length, min};
 ghost use Rattle.table_model.specs.Reply.{Fine, Tells as Number, Shows, Counts};
-ghost use Rattle.table_model.specs.Ask.{Creates, Opens, Reads, Seeks, Flushes, Closes, Removes, RemovesOpen, Renames, Stats, StatsOpen, NextAbove, Informs, Collects, SetsMeta, SetsMetaOpen};
+ghost use Rattle.table_model.specs.Ask.{Creates, Opens, Reads, Writes, Seeks, Truncates, Flushes, Closes, Removes, RemovesOpen, Renames, Stats, StatsOpen, NextAbove, Informs, Collects, SetsMeta, SetsMetaOpen};
 ghost use Rattle.fd_table.specs.Slots.{descriptors, open_at};
 ghost use Rattle.volume.specs.Replies.{told, shown_or_end, as_read, offset_of};
 ghost use Rattle.volume.specs.Calls.{Calls};
@@ -26,9 +26,10 @@ impl<'b, N: Nor> Volume<'b, N> {
 
     /// Opens a file under the lowest closed descriptor, whose number from 1 it answers, at offset 0. The flags are SPIFFS's own:
     /// APPEND 1, TRUNC 2, CREAT 4, RDONLY 8, WRONLY 16, DIRECT 32, EXCL 64. A missing file is made where CREAT is set, as `create`
-    /// makes one. Refused, in this order: `Failed` (also where the volume wasn't checked), `Unbuilt` where TRUNC is set, `BadName`,
-    /// `NameTooLong`, `BadFlags` (a bit above 64), `OutOfDescriptors`, `FileExists` (it is there, and CREAT and EXCL are set),
-    /// `NotFound` (it isn't, and CREAT isn't set), and where it is to be made `Tight`, `Full`.
+    /// makes one, and one that is there becomes empty where TRUNC is set, as `truncate` cuts one. Refused, in this order: `Failed` (also
+    /// where the volume wasn't checked), `BadName`, `NameTooLong`, `BadFlags` (a bit above 64, or TRUNC without WRONLY),
+    /// `OutOfDescriptors`, `FileExists` (it is there, and CREAT and EXCL are set), `NotFound` (it isn't, and CREAT isn't set), and where
+    /// it is to be made or to become empty `Tight`, `Full`.
     pub fn open_file(&mut self, name: &[u8], flags: u32) -> Result<u16, FsErr>
         ensures { Calls (Opens name.now flags) self.old self.new (told (λ fd. Number fd) result) }
     {
@@ -48,6 +49,20 @@ impl<'b, N: Nor> Volume<'b, N> {
         let count = into.len().min(0xFFFF_FFFF) as u32;
         match self.answer(&Call::Read { fd, count }, into) {
             Told::Bytes(count) => Ok(count),
+            Told::Refusal(why) => Err(why),
+            _ => unreachable!(),
+        }
+    }
+
+    /// Writes bytes at a descriptor's offset, or with APPEND at the file's end, and answers their number; the offset moves behind them. All
+    /// are written, or none: `Full` is told before anything is. Through a descriptor that isn't DIRECT bytes that lie in one data page wait
+    /// in the write window until another call. Refused, in this order: `Failed` (also where the volume wasn't checked), `BadDescriptor`,
+    /// `NotWritable`, `Tight`, `Full`. After `DeviceFault` or `Damaged` the offset stands.
+    pub fn write(&mut self, fd: u16, from: &[u8]) -> Result<u32, FsErr>
+        ensures { Calls (Writes fd from.now) self.old self.new (told (λ n. Number n) result) }
+    {
+        match self.answer(&Call::Write { fd, bytes: from }, &mut []) {
+            Told::Number(count) => Ok(count),
             Told::Refusal(why) => Err(why),
             _ => unreachable!(),
         }
@@ -76,7 +91,21 @@ impl<'b, N: Nor> Volume<'b, N> {
         }
     }
 
-    /// Puts what was written through a descriptor onto the chip: this build keeps nothing back. Refused, in this order: `Failed`
+    /// Cuts the file of a descriptor to a size in bytes, which is no larger than the one it has; descriptors beyond its end stand at it.
+    /// To its own size nothing is done. Refused, in this order: `Failed` (also where the volume wasn't checked), `BadDescriptor`,
+    /// `NotWritable`, `SeekBounds` (it is shorter), `Tight`, `Full`. Garbage is collected where no page is free for the new header page;
+    /// where the table has no room already that may be `Tight` though two blocks are free, and nothing is lost.
+    pub fn truncate(&mut self, fd: u16, size: u32) -> Result<(), FsErr>
+        ensures { Calls (Truncates fd size) self.old self.new (told (λ done. Fine) result) }
+    {
+        match self.answer(&Call::Truncate { fd, size }, &mut []) {
+            Told::Done => Ok(()),
+            Told::Refusal(why) => Err(why),
+            _ => unreachable!(),
+        }
+    }
+
+    /// Puts what was written through a descriptor onto the chip. Refused, in this order: `Failed`
     /// (also where the volume wasn't checked), `BadDescriptor`.
     pub fn flush(&mut self, fd: u16) -> Result<(), FsErr>
         ensures { Calls (Flushes fd) self.old self.new (told (λ done. Fine) result) }

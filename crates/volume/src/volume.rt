@@ -1,5 +1,5 @@
 ghost use Rattle.std.specs.Prelude.{◌≡◌, ◌*◌, ◌≤◌, length, OnOk, IsErrOf, IfOk, IfErr, IfSome, Err, None, true};
-ghost use Rattle.geometry.specs.Numbers.{usable, write_refusal, work_need, cache_need, page_count};
+ghost use Rattle.geometry.specs.Numbers.{usable, write_refusal, work_need, cache_need, check_need, page_count};
 ghost use Rattle.nor_core.specs.Count.{Rose};
 ghost use Rattle.nor_core.specs.Device.{Changes, OnlyReads};
 ghost use Rattle.image_model.specs.Kinds.{spoiled_blocks, mixed_blocks};
@@ -23,6 +23,7 @@ use nor_core::{Nor, NorState};
 use page_cache::Cached;
 use table_model::FsErr;
 use vol_mount::{Lent, MountErr, Returned};
+use write_window::Held;
 
 /// A volume on a device, in lent memory. Mount it, then check it: then it takes file calls. One caller at a time
 /// uses it; no call takes memory.
@@ -38,15 +39,18 @@ pub struct Volume<'b, N: Nor> {
     pub cache: &'b mut [u8],
     /// The descriptors.
     pub slots: &'b mut [FdSlot],
-    /// Bytes that the check leaves to the volume.
+    /// Bytes for the check. After it written bytes that wait stand at their front.
     pub check: &'b mut [u8],
+    /// The numbers of the written bytes that wait.
+    pub held: Held,
     /// How far the volume has come.
     pub stage: Stage,
     pub ghost unit: { N.unit nor.now ≡ geometry.phys },
     pub ghost fits: { geometry.blocks * geometry.block ≤ N.size nor.now },
     pub ghost work_fits: { work_need geometry ≤ length work.now },
     pub ghost cache_fits: { cache_need geometry ≤ length cache.now },
-    pub ghost check_fits: { page_count geometry ≤ length check.now },
+    pub ghost check_fits: { check_need geometry ≤ length check.now },
+    pub ghost held_fits: { held.taken ≤ length check.now },
     pub ghost kept: { IsKept N.NorState geometry nor.now cache.now },
     pub ghost magics: { is_mounted stage ≡ true → N.tells nor.now → HasMagics geometry (N.bytes nor.now) },
     pub ghost writable: { is_open stage ≡ true → usable geometry ≤ 32766 },
@@ -142,7 +146,8 @@ impl<'b, N: Nor> Volume<'b, N> {
     ghost use Rattle.image_model.specs.Kinds.{spoiled_blocks, mixed_blocks};
     ghost use Rattle.image_model.specs.Tidy.{IsTidy, HasReserve};
     ghost use Rattle.page_cache.specs.Frames.{held};
-    ghost use Rattle.fd_table.specs.Slots.{descriptors};
+    ghost use Rattle.volume.specs.Holds.{memory};
+    ghost use Rattle.volume.specs.Unmounts.{UnmountsTo};
     ghost use Rattle.vol_mount.specs.Mounts.{IsLate, CountsSpoiled};
     ghost use Rattle.room_laws.specs.Recovery.{Recovers};
     ghost use Rattle.vol_check.specs.Checks.{IsWritable, IsRefusal, CountsMixed};
@@ -168,7 +173,7 @@ impl<'b, N: Nor> Volume<'b, N> {
         ensures cache_size { length result.cache.now ≡ length lent.entry.cache.now }
         ensures empty { held g result.cache.now ≡ 0 }
         ensures unmounted { takes_calls result ≡ false }
-        ensures closed { descriptors result.slots.now ≡ replicate (min 65535 (length lent.entry.slots.now)) None }
+        ensures closed { memory result ≡ record { slots = replicate (min 65535 (length lent.entry.slots.now)) None; run = None } }
     {
         let Lent {
             work,
@@ -185,6 +190,7 @@ impl<'b, N: Nor> Volume<'b, N> {
             cache,
             slots,
             check,
+            held: Held::none(),
             stage: Stage::Unmounted,
         }
     }
@@ -200,9 +206,12 @@ impl<'b, N: Nor> Volume<'b, N> {
         ensures spoiled { N.tells self.old.nor.now → IfErr result (CountsSpoiled self.old.geometry (N.bytes self.old.nor.now)) }
         ensures mounted { OnOk result (is_mounted self.new.stage ≡ true) }
         ensures slots { self.new.slots.now ≡ self.old.slots.now }
+        ensures empty { OnOk result ((memory self.new).run ≡ None) }
+        ensures memory { OnErr result (memory self.new ≡ memory self.old) }
         ensures same { IsSameVolume self.old self.new }
     {
         mount_on(self.geometry, self.nor, self.work, self.cache)?;
+        self.held = Held::none();
         self.stage = Stage::Mounted;
         Ok(())
     }
@@ -228,12 +237,13 @@ impl<'b, N: Nor> Volume<'b, N> {
         ensures undamaged { N.tells self.old.nor.now → IfErr result IsUndamaged }
         ensures idle { N.tells self.old.nor.now → IsTidy self.old.geometry (N.bytes self.old.nor.now) → HasReserve self.old.geometry (N.bytes self.old.nor.now) → OnlyReads N.NorState self.old.nor.now self.new.nor.now }
         ensures taken { OnOk result (takes_calls self.new ≡ true) }
-        ensures closed { OnOk result (descriptors self.new.slots.now ≡ replicate (min 65535 (length self.old.slots.now)) None) }
+        ensures closed { OnOk result (memory self.new ≡ record { slots = replicate (min 65535 (length self.old.slots.now)) None; run = None }) }
         ensures slots { OnErr result (self.new.slots.now ≡ self.old.slots.now) }
         ensures same { IsSameVolume self.old self.new }
     {
         let report = check_on(self.geometry, self.nor, self.work, self.cache, self.check)?;
         close_all(self.slots);
+        self.held = Held::none();
         self.stage = Stage::Checked;
         Ok(report)
     }
@@ -246,31 +256,21 @@ impl<'b, N: Nor> Volume<'b, N> {
         self.stage == Stage::Failed
     }
 
-    /// Puts onto the chip what was written and isn't there: every call that is `Ok` has done so already.
-    /// `Failed` where the volume takes no calls.
-    pub fn settle(&mut self) -> Result<(), FsErr>
-        ensures same { self.new ≡ self.old }
-        ensures whole { takes_calls self.old ≡ true → IsOk result }
-        ensures closed { takes_calls self.old ≡ false → result ≡ Err FsErr.Failed }
-    {
-        if self.stage == Stage::Checked {
-            Ok(())
-        } else {
-            Err(FsErr::Failed)
-        }
-    }
-
-    /// Gives back what was lent. Nothing is left to be written.
-    pub fn unmount(self) -> Unmounted<'b, N>
-        ensures nor { result.back.nor.now ≡ self.entry.nor.now }
+    /// Puts the written bytes that wait onto the chip, and gives back what was lent. `last` tells whether all is on the chip: where a call
+    /// has failed before it is `Failed`, and where this fails why.
+    pub fn unmount(mut self) -> Unmounted<'b, N>
+        ensures unmounts { UnmountsTo self.entry result.back.nor.now result.last }
         ensures nor_name { result.back.nor.ghost_name ≡ self.entry.nor.ghost_name }
         ensures work_name { result.back.lent.work.ghost_name ≡ self.entry.work.ghost_name }
         ensures cache_name { result.back.lent.cache.ghost_name ≡ self.entry.cache.ghost_name }
         ensures slots_name { result.back.lent.slots.ghost_name ≡ self.entry.slots.ghost_name }
         ensures check_name { result.back.lent.check.ghost_name ≡ self.entry.check.ghost_name }
-        ensures whole { has_failed self.entry ≡ false → IsOk result.last }
-        ensures failed { has_failed self.entry ≡ true → result.last ≡ Err FsErr.Failed }
     {
+        let last = match self.stage {
+            Stage::Failed => Err(FsErr::Failed),
+            Stage::Checked => self.settle(),
+            Stage::Unmounted | Stage::Mounted => Ok(()),
+        };
         let Volume {
             geometry: _,
             nor,
@@ -278,7 +278,8 @@ impl<'b, N: Nor> Volume<'b, N> {
             cache,
             slots,
             check,
-            stage,
+            held: _,
+            stage: _,
         } = self;
         let lent = Lent {
             work,
@@ -288,11 +289,7 @@ impl<'b, N: Nor> Volume<'b, N> {
         };
         Unmounted {
             back: Returned { nor, lent },
-            last: if stage == Stage::Failed {
-                Err(FsErr::Failed)
-            } else {
-                Ok(())
-            },
+            last,
         }
     }
 }

@@ -36,7 +36,7 @@ returns-in_err-id-clause-goes g c =
     let name = c.args.name.now in
     let fine = c.in_ok-accept.ensures.fine in
     let looks = looks_then known.looks failed.looks in
-    rw (p.1, p.2) (λ slots into. goes_refused (Creates name) c.in_err-id.field-0.0 c.prepare.new.v.wrote (looks.wrote ∙ c.requires.fresh) looks.reads refl fine (failed.among name [] 0 0).0 (λ e. rose_later _ _ _ known.looks.same.faults (failed.cause e))
+    rw (p.1, p.2) (λ slots into. goes_refused (Creates name) c.in_err-id.field-0.0 c.prepare.new.v.wrote (looks.wrote ∙ c.requires.fresh) looks.reads refl fine (failed.among name [] 0 0 0).0 (λ e. rose_later _ _ _ known.looks.same.faults (failed.cause e))
     (λ s here no_fault. page_refuses 1 (Creates name) Fine refl (created_as c.args.v.now.geometry name) (created c.args.v.now.geometry name (table_of c.args.v.now.geometry (g.N.NorState.bytes c.args.v.now.nor.now)))
     (new_page name (Creates name) Fine refl (created_as c.args.v.now.geometry name) (λ t at. creates_file c.args.v.now.geometry _ t name fine (ap (has_name name) at.table ∙ known.told at.tells at.tidy))) s here
     (looked_back (λ h image. Prepares h image (Err c.in_err-id.field-0.0)) known.looks failed.told here.tells here.tidy no_fault)))

@@ -57,7 +57,7 @@ returns-in_err-have_page-clause-goes g c =
     let before = looks_then found.looks known.looks in
     let looks = looks_then before failed.looks in
     let free = looked_back (λ h image. IsNewName new_name (table_of h image) (Ok tt)) found.looks known.told in
-    rw (p.1, p.2) (λ slots into. goes_refused (Renames old_name new_name) c.in_err-have_page.field-0.0 c.have_page.new.v.wrote (looks.wrote ∙ c.requires.fresh) looks.reads refl fine (failed.among old_name new_name 0 0).2 (λ e. rose_later _ _ _ before.same.faults (failed.cause e))
+    rw (p.1, p.2) (λ slots into. goes_refused (Renames old_name new_name) c.in_err-have_page.field-0.0 c.have_page.new.v.wrote (looks.wrote ∙ c.requires.fresh) looks.reads refl fine (failed.among old_name new_name 0 0 0).3 (λ e. rose_later _ _ _ before.same.faults (failed.cause e))
     (λ s here no_fault. restate_refuses (Renames old_name new_name) (Name c.args.new_name) c.in_ok-id.id (rename_is (Name c.args.new_name) refl old_name new_name c.in_ok-id.id (λ f. refl) fine found.told free) s here
     (looked_back (λ h image. HasPage h image 0 (Err c.in_err-have_page.field-0.0)) before failed.told here.tells here.tidy no_fault)))
 

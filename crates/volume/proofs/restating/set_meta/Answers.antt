@@ -50,7 +50,7 @@ returns-in_err-have_page-clause-goes g c =
     let meta = c.args.meta.now in
     let fine = c.in_ok-accept.ensures.fine in
     let looks = looks_then found.looks failed.looks in
-    rw (p.1, p.2) (λ slots into. goes_refused (SetsMeta name meta) c.in_err-have_page.field-0.0 c.have_page.new.v.wrote (looks.wrote ∙ c.requires.fresh) looks.reads refl fine (failed.among name meta 0 0).3 (λ e. rose_later _ _ _ found.looks.same.faults (failed.cause e))
+    rw (p.1, p.2) (λ slots into. goes_refused (SetsMeta name meta) c.in_err-have_page.field-0.0 c.have_page.new.v.wrote (looks.wrote ∙ c.requires.fresh) looks.reads refl fine (failed.among name meta 0 0 0).4 (λ e. rose_later _ _ _ found.looks.same.faults (failed.cause e))
     (λ s here no_fault. restate_refuses (SetsMeta name meta) (Meta c.args.meta) c.in_ok-id.id (meta_is (Meta c.args.meta) refl meta (λ f. refl) c.in_ok-accept_meta.ensures.fine name c.in_ok-id.id fine found.told) s here
     (looked_back (λ h image. HasPage h image 0 (Err c.in_err-have_page.field-0.0)) found.looks failed.told here.tells here.tidy no_fault)))
 

@@ -46,7 +46,7 @@ returns-in_err-have_page-clause-goes g c =
     let p = err_from_is_err_and c.from_residual-in_err-have_page.result c.from_residual-in_err-have_page.ensures.1 in
     let failed = c.in_err-have_page.ensures in
     let meta = c.args.meta.now in
-    rw (p.1, p.2) (λ into. goes_refused (SetsMetaOpen c.args.fd meta) c.in_err-have_page.field-0.0 c.have_page.new.v.wrote (failed.looks.wrote ∙ c.requires.fresh) failed.looks.reads refl refl (failed.among [] meta 0 c.args.fd).4 failed.cause
+    rw (p.1, p.2) (λ into. goes_refused (SetsMetaOpen c.args.fd meta) c.in_err-have_page.field-0.0 c.have_page.new.v.wrote (failed.looks.wrote ∙ c.requires.fresh) failed.looks.reads refl refl (failed.among [] meta 0 c.args.fd 0).5 failed.cause
     (λ s here no_fault. restate_refuses (SetsMetaOpen c.args.fd meta) (Meta c.args.meta) c.in_ok-slot.slot.id (fmeta_is (Meta c.args.meta) refl meta (λ f. refl) c.in_ok-accept_meta.ensures.fine c.args.fd c.in_ok-slot.slot c.in_ok-slot.ensures.found (sym c.may_write.ensures ∙ c.if-not-may_write.false)) s here
     (failed.told here.tells here.tidy no_fault)))
 

@@ -1,0 +1,289 @@
+-- The bytes that wait are put onto the chip.
+use Rattle.std.proofs.Common.{◌≡◌, ℕ, ◌≤◌, length, take, ◌⊎◌, ⊎_elim, inl, inr, List, [], ◌∷◌, Bool, true, false, refl, sym, ◌∙◌, ap, subst}
+use Rattle.std.specs.Prelude.{unwrap_or, Option, Some, None, Result, Ok, Err, IsOk, IfErr}
+use Rattle.std.specs.Option.{is_some}
+use Rattle.std.proofs.lemmas.Bool.{cases_Bool}
+use Rattle.geometry.specs.declared.geometry.Geometry.{Geometry}
+use Rattle.nor_core.specs.declared.state.NorState.{Ghosts as NorOf}
+use Rattle.nor_core.specs.Count.{Rose}
+use Rattle.nor_core.specs.Device.{Changes}
+use Rattle.nor_core.proofs.Cuts.{wider, unchanged}
+use Rattle.table_model.specs.declared.error.FsErr.{FsErr}
+use Rattle.table_model.specs.declared.error.FsErr.TheVariants.{Failed as FsFailed, Tight, DeviceFault, Damaged}
+use Rattle.table_model.specs.Table.{File, Open, State, file_of, put_file}
+use Rattle.table_model.specs.Files.{written}
+use Rattle.table_model.specs.Room.{has_room}
+use Rattle.table_model.specs.Reply.{Refuses}
+use Rattle.table_model.specs.Steps.{file_steps}
+use Rattle.table_model.specs.Window.{Moment, settled_at, from_settled, IsAmong}
+use Rattle.image_model.specs.Tables.{table_of}
+use Rattle.image_model.specs.Tidy.{IsTidy, HasReserve}
+use Rattle.fd_table.specs.declared.slot.FdSlot.{FdSlot}
+use Rattle.fd_table.specs.Slots.{descriptors}
+use Rattle.write_window.specs.declared.window.Held.{Held}
+use Rattle.write_window.specs.Shown.{run_in}
+use Rattle.write_window.specs.Runs.{Run}
+use Rattle.flash_view.specs.declared.view.View.{View}
+use Rattle.flash_view.specs.Steps.{Stepped}
+use Rattle.call_model.specs.Safe.{IsSafe}
+use Rattle.call_model.specs.Memory.{Memory, Waits, RunWaits, IsAt}
+use Rattle.call_model.proofs.Safety.{holds_itself, safe_as}
+use Rattle.call_model.proofs.Settling.{wait_settles, wait_ends}
+use Rattle.volume.specs.declared.stage.Stage.{Stage}
+use Rattle.volume.specs.declared.stage.Stage.TheVariants.{Checked, Failed}
+use Rattle.volume.specs.declared.volume.Volume.{Volume}
+use Rattle.volume.specs.Opening.{is_open, is_failed}
+use Rattle.volume.specs.Stages.{takes_calls, has_failed}
+use Rattle.volume.specs.Same.{IsSameVolume}
+use Rattle.volume.specs.Replies.{breaks, may_settle}
+use Rattle.volume.specs.Collecting.{MayStop, refusing}
+use Rattle.volume.specs.Holds.{memory, Holds}
+use Rattle.volume.specs.Writings.{CanWrite, WriteCut, JobDone, WritesOn, writing}
+use Rattle.volume.specs.Settles.{Settles, SettledOr, without_had}
+use Rattle.volume.specs.Unmounts.{IsWhole, UnmountsTo}
+use Rattle.volume.proofs.Staying.{same_none}
+use Rattle.volume.proofs.Calling.{IsStaged, settled_first}
+
+-- ---- images
+
+-- an empty file
+abbrev empty_file : ℕ → File
+empty_file id = record { id = id; name = []; kind = 0; meta = []; bytes = [] }
+
+-- the file of an id on an image, or an empty one
+abbrev pub file_in : Geometry → List ℕ → ℕ → File
+file_in g image id = unwrap_or (file_of id (table_of g image)) (empty_file id)
+
+-- a run that waits, of what is remembered at a moment of an image
+module _ (g : Geometry) (was : List ℕ) (memory : Memory) (m : Moment) (r : Run) (run : memory.run ≡ Some r) (at : IsAt g was memory m) where
+  waits : Waits g m r × HasReserve g was
+  waits = subst (λ (o : Option Run). RunWaits g was m o) run at.run
+
+  there : file_of r.id (table_of g was) ≡ Some waits.0.file
+  there = ap (λ (t : List File). file_of r.id t) at.table ∙ waits.0.there
+
+  found : file_in g was r.id ≡ waits.0.file
+  found = ap (λ (o : Option File). unwrap_or o (empty_file r.id)) there
+
+  there_in : file_of r.id (table_of g was) ≡ Some (file_in g was r.id)
+  there_in = there ∙ ap (λ (f : File). Some f) (sym found)
+
+  settled_there : file_of r.id m.settled ≡ Some (file_in g was r.id)
+  settled_there = ap (λ (t : List File). file_of r.id t) (sym at.table) ∙ there_in
+
+  -- the state's table is that of the image with the run's bytes
+  written_is : m.state.table ≡ put_file (written r.start r.bytes (file_in g was r.id)) (table_of g was)
+  written_is = wait_ends g m r (file_in g was r.id) waits.0 settled_there ∙ ap (λ (t : List File). put_file (written r.start r.bytes (file_in g was r.id)) t) (sym at.table)
+
+  -- its bytes can be written into its file
+  pub can_write : CanWrite g was r.id r.start r.bytes (file_in g was r.id)
+  can_write = record {
+    tidy = at.tidy;
+    reserve = waits.1;
+    there = there_in;
+    some = waits.0.some;
+    from = subst (λ (f : File). r.start ≤ length f.bytes) (sym found) waits.0.from;
+    room = subst (λ (t : List File). has_room g t ≡ true) written_is waits.0.room;
+  }
+
+  -- what a cut leaves then was waiting
+  pub cut_waits : (image : List ℕ) → WriteCut g r.start r.bytes (file_in g was r.id) was image → IsSafe g was image × IsAmong (table_of g image) (from_settled m [])
+  cut_waits image cut = (
+    record { sound = λ magics. cut.sound; mends = cut.mends },
+    wait_settles g m r (file_in g was r.id) (table_of g image) [] waits.0 settled_there
+        (subst (λ (t : List File). IsAmong (table_of g image) (t ∷ file_steps g r.start r.bytes (file_in g was r.id) t)) at.table cut.table),
+  )
+
+  -- where it is done all is settled
+  pub done_settles : (now : List ℕ) → JobDone g (put_file (written r.start r.bytes (file_in g was r.id)) (table_of g was)) now → IsAt g now (record { slots = memory.slots; run = None }) (settled_at m.state)
+  unfolding settled_at
+  done_settles now done = record { tidy = done.tidy; table = done.table ∙ sym written_is; slots = at.slots; run = refl; opened = at.opened }
+
+-- why a write may stop, settling may
+stops_settling : (why : FsErr) → MayStop why → may_settle (Refuses why) ≡ true
+stops_settling DeviceFault may = refl
+stops_settling Tight may = refl
+stops_settling (Damaged d) may = refl
+stops_settling _ may = absurd may
+
+-- a volume that takes calls hasn't failed
+open_whole : (stage : Stage) → is_open stage ≡ true → is_failed stage ≡ false
+open_whole Checked e = refl
+open_whole _ e = absurd (let no : false ≡ true = e in cc)
+
+-- ---- the numbers of a run
+
+-- the run that they tell
+abbrev pub run_of : Held → List ℕ → Run
+run_of h bytes = record { fd = h.fd; id = h.id; start = h.start; bytes = take h.taken bytes }
+
+pub run_used : (h : Held) (bytes : List ℕ) → h.used ≡ true → run_in h bytes ≡ Some (run_of h bytes)
+run_used h bytes used = rw used refl
+
+pub used_is : (h : Held) (bytes : List ℕ) (b : Bool) → b ≡ is_some (run_in h bytes) → h.used ≡ b
+used_is h bytes b e = ⊎_elim
+    (λ (used : h.used ≡ true). let is : b ≡ true = rw used at e in used ∙ sym is)
+    (λ (free : h.used ≡ false). let is : b ≡ false = rw free at e in free ∙ sym is)
+    (cases_Bool h.used)
+
+-- some file
+pub any_file : File
+any_file = empty_file 0
+
+-- ---- volumes
+
+module _ {N : Type 0} {nor : NorOf N} where
+  -- a write over a view, as one on its device
+  pub writes_on : {id at : ℕ} {bytes : List ℕ} {f : File} {old new : View N nor} {result : Result (Unit {0}) FsErr} → Stepped refusing old new result (writing id at bytes f) → old.wrote ≡ false →
+      WritesOn nor old.geometry id at bytes f old.nor.now new.nor.now new.wrote result
+  writes_on step fresh = record { untouched = step.framed.untouched fresh; cause = step.cause; means = step.means; cuts = step.cuts; ends = step.ends }
+
+  -- nothing waits
+  pub settles_none : (v : Volume N nor) → (memory v).run ≡ None → Settles v v (Ok false)
+  settles_none v none =
+      let g = v.geometry in
+      let a = nor.bytes v.nor.now in
+      record {
+        same = same_none v;
+        slots = refl;
+        cuts = unchanged v.nor.now (λ was image. (m : Moment) → IsAt g was (memory v) m → IsSafe g was image × IsAmong (table_of g image) (from_settled m []))
+            (λ tells m at. (safe_as g a a (holds_itself g a), settled_first (table_of g a) m [] at.table));
+        done = (refl, none, sym (ap is_some none));
+        stops = tt;
+        idle = λ e. (refl, refl);
+        stands = λ m here.
+            let still : m ≡ settled_at m.state = subst (λ (o : Option Run). RunWaits g a m o) none here.image.run in
+            (subst (λ (j : Moment). Holds v j) still here, holds_itself g a);
+      }
+
+  waits_not : (old : Volume N nor) (r : Run) → (memory old).run ≡ Some r → (memory old).run ≡ None → ⊥
+  waits_not old r run none = let no : None ≡ Some r = sym none ∙ run in cc
+
+  -- what a cut leaves while a run is written
+  settling_cuts : (old new : Volume N nor) (r : Run) (run : (memory old).run ≡ Some r) (wrote : Bool) (result : Result (Unit {0}) FsErr) → ((f : File) → WritesOn nor old.geometry r.id r.start r.bytes f old.nor.now new.nor.now wrote result) →
+      Changes nor old.nor.now new.nor.now (λ was image. (m : Moment) → IsAt old.geometry was (memory old) m → IsSafe old.geometry was image × IsAmong (table_of old.geometry image) (from_settled m []))
+  settling_cuts old new r run wrote result writes =
+      let g = old.geometry in
+      let was = nor.bytes old.nor.now in
+      wider (writes (file_in g was r.id)).cuts (λ tells image cut m at. cut_waits g was (memory old) m r run at image (cut (can_write g was (memory old) m r run at)))
+
+  -- a volume stands where all is settled, by its image
+  settled_now : (old new : Volume N nor) (s : State) → IsSameVolume old new → new.slots.now ≡ old.slots.now → (memory new).run ≡ None → nor.tells new.nor.now →
+      IsAt old.geometry (nor.bytes new.nor.now) (record { slots = (memory old).slots; run = None }) (settled_at s) → Holds new (settled_at s)
+  settled_now old new s same slots none tells image =
+      let lists : (memory old).slots ≡ (memory new).slots = ap (λ (l : List FdSlot). descriptors l) (sym slots) in
+      let here : IsAt old.geometry (nor.bytes new.nor.now) (memory new) (settled_at s) = subst (λ (o : Option Run). IsAt old.geometry (nor.bytes new.nor.now) (record { slots = (memory new).slots; run = o }) (settled_at s)) (sym none)
+      (subst (λ (l : List (Option Open)). IsAt old.geometry (nor.bytes new.nor.now) (record { slots = l; run = None }) (settled_at s)) lists image) in
+      record { tells = tells; image = subst (λ (g : Geometry). IsAt g (nor.bytes new.nor.now) (memory new) (settled_at s)) (sym same.geometry) here }
+
+  module _ {old new : Volume N nor} (r : Run) (run : (memory old).run ≡ Some r) (wrote : Bool) (same : IsSameVolume old new) (slots : new.slots.now ≡ old.slots.now) where
+    -- all that waited is on the chip
+    pub settles_done : ((f : File) → WritesOn nor old.geometry r.id r.start r.bytes f old.nor.now new.nor.now wrote (Ok tt)) → (memory new).run ≡ None → new.stage ≡ old.stage → Settles old new (Ok true)
+    settles_done writes none stage =
+        let g = old.geometry in
+        let was = nor.bytes old.nor.now in
+        let f = file_in g was r.id in
+        let cuts = settling_cuts old new r run wrote (Ok tt) writes in
+        record {
+          same = same;
+          slots = slots;
+          cuts = cuts;
+          done = (stage, none, sym (ap is_some run));
+          stops = tt;
+          idle = λ e. absurd (waits_not old r run e);
+          stands = λ m here.
+              let can = can_write g was (memory old) m r run here.image in
+              let done = (writes f).ends here.tells can in
+              let image = done_settles g was (memory old) m r run here.image (nor.bytes new.nor.now) done in (
+                settled_now old new m.state same slots none ((writes f).cuts.cuts.told here.tells) image,
+                record { sound = λ magics. ((writes f).cuts.now here.tells can).sound; reserve = λ reserve. done.reserve },
+              );
+        }
+
+    -- it isn't
+    pub settles_failed : (why : FsErr) → ((f : File) → WritesOn nor old.geometry r.id r.start r.bytes f old.nor.now new.nor.now wrote (Err why)) → (memory new).run ≡ (memory old).run → IsStaged old.stage new.stage wrote (Refuses why) → Settles old new (Err why)
+    settles_failed why writes kept staged =
+        let g = old.geometry in
+        let was = nor.bytes old.nor.now in
+        let f = file_in g was r.id in
+        record {
+          same = same;
+          slots = slots;
+          cuts = settling_cuts old new r run wrote (Err why) writes;
+          done = tt;
+          stops = record {
+            among = stops_settling why (writes f).means;
+            cause = λ e. (writes f).cause (ap (λ (w : FsErr). Err w) e);
+            differs = λ d e. subst (λ (w : FsErr). MayStop w) e (writes f).means;
+            failed = λ broke. ⊎_elim
+                (λ (stood : (new.stage ≡ old.stage) × (wrote ≡ true → breaks (Refuses why) ≡ true → ⊥)). ⊎_elim
+                (λ (w : wrote ≡ true). absurd (stood.1 w broke))
+                (λ (w : wrote ≡ false). inr (record { reads = (writes f).untouched w; slots = slots; run = kept; stage = stood.0 }))
+                (cases_Bool wrote))
+                (λ (failed : (new.stage ≡ Failed) × (wrote ≡ true) × (breaks (Refuses why) ≡ true)). inl (ap is_failed failed.0))
+                staged;
+            stays = ⊎_elim
+                (λ (stood : (new.stage ≡ old.stage) × (wrote ≡ true → breaks (Refuses why) ≡ true → ⊥)). inl stood.0)
+                (λ (failed : (new.stage ≡ Failed) × (wrote ≡ true) × (breaks (Refuses why) ≡ true)). inr (ap is_failed failed.0, failed.2))
+                staged;
+          };
+          idle = λ e. absurd (waits_not old r run e);
+          stands = λ m here. (writes f).ends here.tells (can_write g was (memory old) m r run here.image);
+        }
+
+  -- ---- unmounting
+
+  -- where no call is taken nothing is done
+  pub unmounts_closed : (v : Volume N nor) (last : Result (Unit {0}) FsErr) → takes_calls v ≡ false → (last ≡ Err DeviceFault → ⊥) → (has_failed v ≡ true → last ≡ Err FsFailed) → (has_failed v ≡ false → IsOk last) → UnmountsTo v v.nor.now last
+  unmounts_closed v last shut fault failed whole =
+      let g = v.geometry in
+      let a = nor.bytes v.nor.now in
+      let never : takes_calls v ≡ true → ⊥ = λ takes. let no : true ≡ false = sym takes ∙ shut in cc in
+      record {
+        cuts = unchanged v.nor.now (λ was image. (m : Moment) → IsAt g was (memory v) m → IsSafe g was image × IsAmong (table_of g image) (from_settled m []))
+            (λ tells m at. (safe_as g a a (holds_itself g a), settled_first (table_of g a) m [] at.table));
+        stands = λ m takes. absurd (never takes);
+        cause = λ e. absurd (fault e);
+        among = λ takes. absurd (never takes);
+        still = λ e. refl;
+        failed = failed;
+        whole = λ e. whole;
+      }
+
+  -- where calls are taken what waits is settled
+  whole_by : {old new : Volume N nor} (had : Result Bool FsErr) → Settles old new had → (m : Moment) → Holds old m → (IsOk (without_had had) × IsWhole nor old new.nor.now m) ⊎ (without_had had ≡ Err DeviceFault)
+  unfolding settled_at
+  whole_by {old} {new} (Ok had) settles m here =
+      let s = settles.stands m here in
+      inl (
+        refl,
+        record {
+          tells = s.0.tells;
+          tidy = subst (λ (g : Geometry). IsTidy g (nor.bytes new.nor.now)) settles.same.geometry s.0.image.tidy;
+          table = subst (λ (g : Geometry). table_of g (nor.bytes new.nor.now) ≡ m.state.table) settles.same.geometry s.0.image.table;
+          holds = s.1;
+        },
+      )
+  whole_by (Err why) settles m here = inr (ap (λ (w : FsErr). Err w) (settles.stands m here))
+
+  cause_by : {old new : Volume N nor} (had : Result Bool FsErr) → Settles old new had → without_had had ≡ Err DeviceFault → Rose (nor.faults old.nor.now) (nor.faults new.nor.now)
+  cause_by (Ok had) settles e = absurd (cc)
+  cause_by (Err why) settles e = settles.stops.cause (cc)
+
+  among_by : {old new : Volume N nor} (had : Result Bool FsErr) → Settles old new had → IfErr (without_had had) (λ why. may_settle (Refuses why) ≡ true)
+  among_by (Ok had) settles = tt
+  among_by (Err why) settles = settles.stops.among
+
+  pub unmounts_open : {old new : Volume N nor} (last : Result (Unit {0}) FsErr) → takes_calls old ≡ true → SettledOr old new last → UnmountsTo old new.nor.now last
+  unmounts_open {old} {new} last takes settled =
+      let shut : takes_calls old ≡ false → ⊥ = λ e. let no : true ≡ false = sym takes ∙ e in cc in
+      let whole : has_failed old ≡ false = open_whole old.stage takes in
+      subst (λ (r : Result (Unit {0}) FsErr). UnmountsTo old new.nor.now r) (sym settled.is) (record {
+        cuts = settled.settles.cuts;
+        stands = λ m takes here. whole_by settled.had settled.settles m here;
+        cause = cause_by settled.had settled.settles;
+        among = λ takes. among_by settled.had settled.settles;
+        still = λ e. absurd (shut e);
+        failed = λ e. absurd (let no : true ≡ false = sym e ∙ whole in cc);
+        whole = λ e. absurd (shut e);
+      })

@@ -1,0 +1,17 @@
+use Rattle.std.proofs.Common.{◌≡◌, rules, refl, take}
+use Rattle.volume.proofs.RunSettling.{any_file, writes_on}
+use Rattle.volume.proofs.settling.settle_on.Goals as goal
+
+pub returns-clause-kept : goal.returns-clause-kept
+returns-clause-kept g c = let same = (c.write_all-result.ensures any_file).framed.same in search (rules, same)
+
+pub returns-clause-few : goal.returns-clause-few
+returns-clause-few g c = let same = (c.write_all-result.ensures any_file).framed.same in search (rules, same.few)
+
+pub returns-clause-faults : goal.returns-clause-faults
+returns-clause-faults g c = let same = (c.write_all-result.ensures any_file).framed.same in search (rules, same.faults)
+
+pub returns-clause-writes : goal.returns-clause-writes
+returns-clause-writes g c =
+    let kept : c.kept.result.now ≡ take c.args.held.now.taken c.args.bytes.now = rw c.requires.used at c.kept.ensures in
+    λ f. let step = rw kept at (c.write_all-result.ensures f) in search (rules, writes_on step refl)

@@ -1,0 +1,52 @@
+use Rattle.std.proofs.Common.{◌≡◌, true, false, refl, sym, ◌∙◌, ap, rules, None}
+use Rattle.table_model.specs.Reply.{Refuses}
+use Rattle.volume.specs.Replies.{breaks}
+use Rattle.volume.specs.Opening.{is_mounted}
+use Rattle.volume.specs.Holds.{memory}
+use Rattle.volume.proofs.Calling.{open_is, staged_by, not_mounted}
+use Rattle.volume.proofs.RunSettling.{run_of, run_used, used_is, any_file, settles_none, settles_done, settles_failed}
+use Rattle.volume.proofs.volume.Volume.begin.Goals as goal
+
+pub returns-then-not-is_used : goal.returns-then-not-is_used
+returns-then-not-is_used g c =
+    let v = c.args.self.now in
+    let free : v.held.used ≡ false = used_is v.held v.check.now c.is_used.result (c.is_used.ensures v.check.now) ∙ c.if-not-is_used.true in
+    let none : (memory v).run ≡ None = rw free refl in
+    settles_none v none
+
+pub settle_on-result-requires-clause-used : goal.settle_on-result-requires-clause-used
+settle_on-result-requires-clause-used g c =
+    let v = c.args.self.now in
+    used_is v.held v.check.now c.is_used.result (c.is_used.ensures v.check.now) ∙ c.if-not-is_used.false
+
+pub invariant_of-self : goal.invariant_of-self
+invariant_of-self g c =
+    let w = (c.settle_on-result.ensures.writes any_file).cuts.cuts in
+    search (rules, w.unit, w.size, c.none-self.ensures.short)
+
+pub invariant_of-self-in-Err-clause-unit : goal.invariant_of-self-in-Err-clause-unit
+invariant_of-self-in-Err-clause-unit g c =
+    let w = (c.settle_on-result.ensures.writes any_file).cuts.cuts in
+    search (rules, w.unit)
+
+pub invariant_of-self-in-Err-clause-fits : goal.invariant_of-self-in-Err-clause-fits
+invariant_of-self-in-Err-clause-fits g c =
+    let w = (c.settle_on-result.ensures.writes any_file).cuts.cuts in
+    search (rules, w.size)
+
+pub invariant_of-self-in-Err-clause-magics : goal.invariant_of-self-in-Err-clause-magics
+invariant_of-self-in-Err-clause-magics g c = λ mounted. absurd (let no : true ≡ false = sym mounted ∙ ap is_mounted c.stage_at-self.ensures ∙ not_mounted c.settle_on-result.result.wrote (Refuses c.in-Err.why) in cc)
+
+pub returns-in-Ok : goal.returns-in-Ok
+returns-in-Ok g c =
+    let v = c.args.self.now in
+    let used : v.held.used ≡ true = used_is v.held v.check.now c.is_used.result (c.is_used.ensures v.check.now) ∙ c.if-not-is_used.false in
+    settles_done (run_of v.held v.check.now) (run_used v.held v.check.now used) c.settle_on-result.result.wrote (search rules) refl (rw c.in-Ok.is at c.settle_on-result.ensures.writes) (c.none-self.ensures.empty v.check.now) refl
+
+pub returns-in-Err : goal.returns-in-Err
+returns-in-Err g c =
+    let v = c.args.self.now in
+    let used : v.held.used ≡ true = used_is v.held v.check.now c.is_used.result (c.is_used.ensures v.check.now) ∙ c.if-not-is_used.false in
+    let why = c.in-Err.why in
+    let staged = staged_by v.stage _ c.settle_on-result.result.wrote (Refuses why) (breaks (Refuses why)) (open_is v.stage c.requires) refl c.stage_at-self.ensures in
+    settles_failed (run_of v.held v.check.now) (run_used v.held v.check.now used) c.settle_on-result.result.wrote (search rules) refl why (rw c.in-Err.is at c.settle_on-result.ensures.writes) refl staged

@@ -1,0 +1,114 @@
+// Written bytes that wait are put onto the chip.
+ghost use Rattle.std.specs.Prelude.{◌≡◌, ◌*◌, ◌≤◌, length, take, true};
+ghost use Rattle.geometry.specs.Numbers.{work_need, cache_need};
+ghost use Rattle.table_model.specs.Table.{File};
+ghost use Rattle.page_cache.specs.Kept.{IsKept, FewReads};
+ghost use Rattle.volume.specs.Writings.{WritesOn};
+
+use crate::Volume;
+use crate::stage::{Stage, stage_at};
+use crate::writing::write_all;
+use flash_view::View;
+use geometry::Geometry;
+use nor_core::{Nor, NorState};
+use table_model::FsErr;
+use write_window::Held;
+
+/// How settling went, and whether the device was asked for a program or an erase.
+#[derive(Drop)]
+struct Settling {
+    result: Result<(), FsErr>,
+    wrote: bool,
+}
+
+// Writes the bytes that wait into their file.
+fn settle_on<N: Nor>(
+    g: Geometry,
+    nor: &mut N,
+    work: &mut [u8],
+    cache: &mut [u8],
+    held: &Held,
+    bytes: &[u8],
+) -> Settling
+    requires unit { N.unit nor.old ≡ g.phys }
+    requires fits { g.blocks * g.block ≤ N.size nor.old }
+    requires work { work_need g ≤ length work.old }
+    requires cache { cache_need g ≤ length cache.old }
+    requires used { held.now.used ≡ true }
+    requires held { held.now.taken ≤ length bytes.now }
+    requires kept { IsKept N.NorState g nor.old cache.old }
+    ensures kept { IsKept N.NorState g nor.new cache.new }
+    ensures cache_size { length cache.new ≡ length cache.old }
+    ensures few { FewReads N.NorState g nor.old cache.old nor.new cache.new }
+    ensures faults { N.faults nor.old ≤ N.faults nor.new }
+    ensures writes { (f : File) → WritesOn N.NorState g held.now.id held.now.start (take held.now.taken bytes.now) f nor.old nor.new result.wrote result.result }
+{
+    let mut v = View {
+        geometry: g,
+        nor,
+        work,
+        cache,
+        wrote: false,
+    };
+    let result = write_all(&mut v, held.id, held.start, held.kept(bytes));
+    Settling {
+        result,
+        wrote: v.wrote,
+    }
+}
+
+impl<'b, N: Nor> Volume<'b, N> {
+    ghost use Rattle.std.specs.Prelude.{◌≡◌, true, false, Err, OnOk, IfErr};
+    ghost use Rattle.nor_core.specs.Count.{Rose};
+    ghost use Rattle.table_model.specs.Reply.{Refuses};
+    ghost use Rattle.table_model.specs.Window.{Moment, settled_at};
+    ghost use Rattle.volume.specs.Holds.{memory, Holds};
+    ghost use Rattle.volume.specs.Stages.{takes_calls};
+    ghost use Rattle.volume.specs.Settles.{Settles, SettledOr};
+
+    /// Begins a call: what waits is put onto the chip. It tells whether anything waited.
+    pub(crate) fn begin(&mut self) -> Result<bool, FsErr>
+        requires { takes_calls self.old ≡ true }
+        ensures { Settles self.old self.new result }
+    {
+        let held = self.held;
+        if !held.is_used() {
+            return Ok(false);
+        }
+        let bytes = &mut *self.check;
+        let Settling { result, wrote } = settle_on(
+            self.geometry,
+            self.nor,
+            self.work,
+            self.cache,
+            &held,
+            bytes,
+        );
+        match result {
+            Ok(()) => {
+                self.held = Held::none();
+                Ok(true)
+            }
+            Err(why) => {
+                self.stage = stage_at(&why, wrote);
+                Err(why)
+            }
+        }
+    }
+
+    /// Puts the written bytes that wait onto the chip. Refused are a volume that takes no calls (`Failed`), and a device that fails:
+    /// `DeviceFault`, or `Damaged` where a page reads otherwise than it was written; then the volume takes no calls any more, if a
+    /// program or an erase was asked for.
+    pub fn settle(&mut self) -> Result<(), FsErr>
+        ensures settled { takes_calls self.old ≡ true → SettledOr self.old self.new result }
+        ensures closed { takes_calls self.old ≡ false → (result ≡ Err FsErr.Failed) × (self.new ≡ self.old) }
+    {
+        if self.stage != Stage::Checked {
+            return Err(FsErr::Failed);
+        }
+        match self.begin() {
+            Ok(_) => Ok(()),
+            Err(why) => Err(why),
+        }
+    }
+}
