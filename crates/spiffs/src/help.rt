@@ -31,11 +31,16 @@ line; an empty line, or one that begins with `#`, is no call.
                 opens a file, at offset 0                ok FD
   read FD COUNT reads at most COUNT bytes, 0 to 1024,    ok N TEXT
                 from the offset, which moves; or none    ok 0
+  write FD TEXT writes the bytes of TEXT                 ok N
+  fill FD COUNT HH
+                writes COUNT bytes, 0 to 4096, of HH     ok N
   seek FD OFFSET FROM
                 moves the offset, from `set`, `cur` or
                 `end`                                    ok OFFSET
   tell FD       tells the offset                         ok OFFSET
-  flush FD      writes what waits: nothing, today        ok
+  truncate FD SIZE
+                cuts a file to its first SIZE bytes      ok
+  flush FD      puts what was written onto the chip      ok
   close FD      closes a descriptor                      ok
   remove NAME   removes a file, closes its descriptors   ok
   fremove FD    removes that of a descriptor             ok
@@ -51,18 +56,18 @@ line; an empty line, or one that begins with `#`, is no call.
   info          tells how full the volume is             ok files F index I data D usable U
   gc            cleans each block that is worth it       ok
 
-FLAGS is a sum: 4 makes a missing file, 8 reads, 16 writes, 64 with 4 refuses a
-file that is there; 1 and 32 tell how it writes. In names, and in bytes that
-were read, `%` and two hexadecimal digits stand for a byte.
+FLAGS is a sum: 1 writes at the file's end, 2 with 16 empties the file, 4 makes
+a missing one, 8 reads, 16 writes, 32 puts what is written onto the chip at
+once, 64 with 4 refuses a file that is there. In names and texts `%` and two
+hexadecimal digits stand for a byte. Small writes wait in memory until another
+call.
 
 A call that is refused is answered by a number: -11000 the name is empty or
 holds a zero byte, -10036 it is longer than 31 bytes, -11001 bad flags, -10010
 no such descriptor, -10007 every descriptor is open, -10002 there is no such
 file, -10030 and -10023 the file is there, -10022 the descriptor does not read,
 -10021 it does not write, -11002 the place is not in the file, -11003 fewer than
-two blocks are free, -10001 the volume is full. A call that this build does not
-have (write, fill, truncate, and open with flag 2, which empties the file) ends
-the run with status 16.
+two blocks are free, -10001 the volume is full.
 
 A list is a line `ID TYPE SIZE NAME` for each file, then for each damaged id
 `damaged ID span S`, `damaged ID name` or `damaged ID same ID2`.
@@ -75,6 +80,6 @@ Statuses: 0 all was done; 1 usage; 2 numbers or device refused; 3 no volume;
 4 blocks with pages of both kinds; 5 a line outside the grammar; 7 the chip or
 the output failed, and 8 the script could not be read: then standard error tells
 why; 10 lent memory too short; 11 the script is too long; 12 an id is damaged;
-14 fewer than two free blocks; 15 no memory; 16 a call needs what this build
-does not have; 21 a page does not read as it was written.
+14 fewer than two free blocks; 15 no memory; 21 a page does not read as it was
+written.
 ";

@@ -2,13 +2,12 @@
 use Rattle.std.proofs.Common.{◌≡◌, ℕ, List, [], ◌∷◌, ◌++◌, length, refl, sym, ◌∙◌, ap, subst, arith, inl, inr, ⊎_elim, append-nil, length-append, Some}
 use Rattle.geometry.specs.declared.geometry.Geometry.{Geometry}
 use Rattle.nor_core.specs.declared.state.NorState.{Ghosts as NorOf}
-use Rattle.table_model.specs.Ask.{Ask}
 use Rattle.table_model.specs.Window.{Moment}
-use Rattle.call_script.specs.Lines.{Parsed, Bad, Asks, lines, of_line, calls_of, calls, with_line}
+use Rattle.call_script.specs.Lines.{Parsed, Bad, lines, of_line, calls_of, calls, with_line}
 use Rattle.run_model.specs.Ran.{MayCut}
 use Rattle.run_model.proofs.Chain.{said_wider, wider_cut}
 use Rattle.tool_core.specs.declared.ending.Ending.{Ending}
-use Rattle.tool_core.specs.declared.ending.Ending.TheVariants.{Done, BadLine, BoardFault, SourceFault, TooLong, Unbuilt}
+use Rattle.tool_core.specs.declared.ending.Ending.TheVariants.{Done, BadLine, BoardFault, SourceFault, TooLong}
 use Rattle.tool_core.specs.Turns.{AllGood, Short, At, Follows, WhyHere, Turned}
 use Rattle.tool_core.specs.Outcomes.{IsTaken, WhyEnds, RunEnds}
 use Rattle.tool_core.proofs.LineWork.{calls-append, same_cut, same_said}
@@ -29,10 +28,6 @@ none_left = refl
 bad_first : (l : List ℕ) (ls : List (List ℕ)) → of_line l ≡ Bad → calls_of (l ∷ ls) ≡ []
 unfolding calls_of
 bad_first l ls e = ap (λ (p : Parsed). with_line p (calls_of ls)) e
-
-call_first : (l : List ℕ) (ls : List (List ℕ)) (ask : Ask) → of_line l ≡ Asks ask → calls_of (l ∷ ls) ≡ ask ∷ calls_of ls
-unfolding calls_of
-call_first l ls ask e = ap (λ (p : Parsed). with_line p (calls_of ls)) e
 
 module _ {D : Type 0} {nor : NorOf D} {g : Geometry} where
   lines_split : {ending : Ending} {m : Moment} {a b : At D} (script : List ℕ) → script ≡ a.pending ++ a.left → (t : Turned nor g (Some ending) m a b) → lines script ≡ t.done ++ lines t.tail
@@ -66,7 +61,6 @@ module _ {D : Type 0} {nor : NorOf D} {g : Geometry} where
   why_of (BadLine n) m a b script e fresh none first t why = (ap calls_of why.lines_are ∙ bad_first why.bad why.others why.is_bad, record { done = t.done; bad = why.bad; others = why.others; lines_are = lines_split script e t ∙ ap (λ (l : List (List ℕ)). t.done ++ l) why.lines_are; good = t.good; is_bad = why.is_bad; number_is = omega (arith, t.number, first) })
   why_of TooLong m a b script e fresh none first t why = record { whole = t.seg; rest = b.pending; byte = why.0; left = why.1; taken = taken_of script b.pending (why.0 ∷ why.1) e t (λ more. tt {0}) why.2; count = omega (arith, t.bytes, none, why.3, ap length fresh); calls_are = ap calls_of (done_lines t (λ more. tt {0})) }
   why_of SourceFault m a b script e fresh none first t why = record { whole = t.seg; rest = b.pending; taken = taken_of script b.pending b.left e t (λ more. tt {0}) why; calls_are = ap calls_of (done_lines t (λ more. tt {0})) }
-  why_of Unbuilt m a b script e fresh none first t why = record { ask = why.ask; more = calls_of why.others; later_is = ap calls_of why.lines_are ∙ call_first why.line why.others why.ask why.spells; unbuilt = why.unbuilt }
   why_of _ m a b script e fresh none first t why = absurd why
 
   -- how a run of turns ends that began with its script's first byte

@@ -1,11 +1,12 @@
 -- From the first image over the check to the end of a run.
-use Rattle.std.proofs.Common.{◌≡◌, ℕ, zero, suc, ◌-◌, ◌==◌, false, ◌<◌, ◌≤◌, ◌⊎◌, List, [], slice_index_or, ◌++◌, refl, sym, ◌∙◌, ap, subst, arith, inl, inr, ⊎_elim, append-nil, replicate, Option, Some, None}
+use Rattle.std.proofs.Common.{◌≡◌, ℕ, zero, suc, ◌-◌, ◌==◌, true, false, ◌<◌, ◌≤◌, ◌⊎◌, List, [], slice_index_or, ◌++◌, refl, sym, ◌∙◌, ap, subst, arith, inl, inr, ⊎_elim, append-nil, replicate, Option, Some, None}
 use Rattle.geometry.specs.declared.geometry.Geometry.{Geometry}
 use Rattle.nor_core.specs.declared.state.NorState.{Ghosts as NorOf}
 use Rattle.nor_core.specs.Device.{Leaves, Changes}
 use Rattle.nor_core.proofs.Cuts.{andthen, widened}
 use Rattle.std.proofs.lemmas.Bool.{ne_eqb}
 use Rattle.table_model.specs.Table.{Open, State}
+use Rattle.table_model.specs.Room.{has_room}
 use Rattle.table_model.specs.Descriptors.{open_at}
 use Rattle.call_model.specs.Memory.{OpensFiles}
 use Rattle.table_model.specs.Ask.{Ask}
@@ -20,21 +21,24 @@ use Rattle.fd_table.specs.declared.slot.FdSlot.{FdSlot}
 use Rattle.fd_table.specs.Slots.{descriptors, held}
 use Rattle.volume.specs.declared.volume.Volume.{Volume}
 use Rattle.volume.specs.Holds.{memory}
-use Rattle.call_model.specs.Memory.{Memory, IsAt, RunWaits}
-use Rattle.write_window.specs.Runs.{Run}
+use Rattle.call_model.specs.Memory.{Memory, IsAt}
+use Rattle.call_model.specs.Calls.{Stands}
+use Rattle.call_model.proofs.Safety.{holds_then}
 use Rattle.run_model.specs.Runs.{after_all, replies}
 use Rattle.run_model.specs.Ran.{RunStands, CutIn, MayCut, Reached, SaidPart}
-use Rattle.run_model.proofs.Runs.{is_settled, cut_none}
-use Rattle.run_model.proofs.Chain.{no_replies, no_calls, later_reached, later_said, cut_behind}
+use Rattle.run_model.proofs.Runs.{replies-append, is_settled, cut_none}
+use Rattle.run_model.proofs.Chain.{no_replies, no_calls, wider_cut, later_reached, later_said, cut_behind}
 use Rattle.tool_core.specs.declared.ending.Ending.{Ending}
-use Rattle.tool_core.specs.declared.ending.Ending.TheVariants.{Tight}
+use Rattle.tool_core.specs.declared.ending.Ending.TheVariants.{BoardFault, Tight}
 use Rattle.tool_core.specs.Reads.{ReadsOnce}
 use Rattle.tool_core.specs.Mounting.{Checks, Reported, IsRefused, StopsCheck}
 use Rattle.tool_core.specs.Begins.{Begun, IsTight, StopsRun}
 use Rattle.tool_core.specs.Refusals.{check_refusal, begin_refusal}
-use Rattle.tool_core.specs.Outcomes.{WhyRan, RunEnds, RunsTo, Refused, EndsByImages, first_moment, closed_memory}
+use Rattle.tool_core.specs.Settling.{SettlesTo, Settling}
+use Rattle.tool_core.specs.Outcomes.{Went, WhyRan, RunEnds, RunsTo, Refused, EndsByImages, first_moment, closed_memory}
 use Rattle.tool_core.proofs.Mounted.{safe_check, holds_check}
 use Rattle.tool_core.proofs.Refusals.{not_both, no_fault, tight_some, tight_none}
+use Rattle.tool_core.proofs.Settling.{settles_of}
 use Rattle.tool_core.proofs.Speaking.{writes_none}
 
 -- at first nothing waits, and the settled table is that of the image
@@ -54,16 +58,18 @@ first_state : (g : Geometry) (slots : ℕ) (image : List ℕ) → (after_all g (
 unfolding settled_at after_all
 first_state g slots image = refl
 
+first_room : (g : Geometry) (slots : ℕ) (image : List ℕ) → has_room g (table_of g image) ≡ true → has_room g (first_moment g slots image).state.table ≡ true
+unfolding settled_at
+first_room g slots image room = room
+
 first_slots : (g : Geometry) (slots : ℕ) (image : List ℕ) → (first_moment g slots image).state.slots ≡ replicate slots None
 unfolding settled_at
 first_slots g slots image = refl
 
--- the table of a moment at which a volume stands and nothing waits
-here_table : (g : Geometry) (image : List ℕ) (w : Memory) (m : Moment) → w.run ≡ None → IsAt g image w m → table_of g image ≡ m.state.table
+-- where all is settled, the settled table is that of the state
+settled_table : (s : State) → (settled_at s).settled ≡ s.table
 unfolding settled_at
-here_table g image w m idle here =
-    let still : m ≡ settled_at m.state = subst (λ (o : Option Run). RunWaits g image m o) idle here.run in
-    here.table ∙ ap (λ (j : Moment). j.settled) still
+settled_table s = refl
 
 -- closed descriptors are on no file
 closed_at : (n i : ℕ) → slice_index_or {A = Option Open} (replicate n None) i None ≡ None
@@ -107,54 +113,92 @@ module _ {D : Type 0} {nor : NorOf D} {g : Geometry} where
       })
 
   -- the volume stands at its first moment once it is checked
-  pub begun_reached : {old mid : D} {w : Memory} (slots : ℕ) → w ≡ closed_memory slots → Changes nor old mid (Checks g) → nor.tells old → Begun g (nor.bytes old) (nor.bytes mid) → Reached nor g old mid w (first_moment g slots (nor.bytes old)) []
-  begun_reached {old} {mid} {w} slots memory changes tells begun =
+  pub begun_stands : {old mid : D} {w : Memory} (slots : ℕ) → w ≡ closed_memory slots → Changes nor old mid (Checks g) → nor.tells old → Begun g (nor.bytes old) (nor.bytes mid) → Stands nor g mid w (first_moment g slots (nor.bytes old))
+  begun_stands {old} {mid} {w} slots memory changes tells begun = record {
+    tells = changes.cuts.told tells;
+    image = first_at g slots (nor.bytes old) (nor.bytes mid) w memory begun (changes.now tells).table;
+  }
+
+  -- it does at that of a run where its table has room
+  begun_reached : {old mid : D} {w : Memory} (slots : ℕ) → w ≡ closed_memory slots → Changes nor old mid (Checks g) → nor.tells old → has_room g (table_of g (nor.bytes old)) ≡ true → Begun g (nor.bytes old) (nor.bytes mid) → Reached nor g old mid w (first_moment g slots (nor.bytes old)) []
+  begun_reached {old} {mid} {w} slots memory changes tells room begun =
       let m = first_moment g slots (nor.bytes old) in
-      let now = changes.now tells in
       record {
         said = changes.said ∙ sym (ap (λ (l : List ℕ). nor.said old ++ l) (no_replies g m) ∙ append-nil (nor.said old));
         stands = subst (λ (j : Moment). RunStands nor g mid w j) (sym (no_calls g m)) (record {
-          stands = record { tells = changes.cuts.told tells; image = first_at g slots (nor.bytes old) (nor.bytes mid) w memory begun now.table };
+          stands = begun_stands slots memory changes tells begun;
           reserve = begun.reserve;
+          room = first_room g slots (nor.bytes old) room;
         });
-        holds = holds_check now;
+        holds = holds_check (changes.now tells);
       }
 
   -- it stands there
-  pub begun_stands : {old mid : D} {w : Memory} (m : Moment) → Reached nor g old mid w m [] → RunStands nor g mid w m
-  begun_stands {old} {mid} {w} m r = subst (λ (j : Moment). RunStands nor g mid w j) (no_calls g m) r.stands
+  stands_there : {old mid : D} {w : Memory} (m : Moment) → Reached nor g old mid w m [] → RunStands nor g mid w m
+  stands_there {old} {mid} {w} m r = subst (λ (j : Moment). RunStands nor g mid w j) (no_calls g m) r.stands
 
   -- a cut in the check or in the calls after it
-  whole_cut : {old mid new : D} {w : Memory} (slots : ℕ) (asks : List Ask) → w ≡ closed_memory slots → Changes nor old mid (Checks g) → nor.tells old → Begun g (nor.bytes old) (nor.bytes mid) → MayCut nor g mid new w (first_moment g slots (nor.bytes old)) asks → Leaves nor old new (CutIn nor g old (first_moment g slots (nor.bytes old)) asks)
-  whole_cut {old} {mid} {new} slots asks memory changes tells begun leaves =
+  whole_cut : {old mid new : D} {w : Memory} (slots : ℕ) (asks : List Ask) → w ≡ closed_memory slots → Changes nor old mid (Checks g) → nor.tells old → has_room g (table_of g (nor.bytes old)) ≡ true → Begun g (nor.bytes old) (nor.bytes mid) → MayCut nor g mid new w (first_moment g slots (nor.bytes old)) asks → Leaves nor old new (CutIn nor g old (first_moment g slots (nor.bytes old)) asks)
+  whole_cut {old} {mid} {new} slots asks memory changes tells room begun leaves =
       let m = first_moment g slots (nor.bytes old) in
-      let r = begun_reached slots memory changes tells begun in
-      andthen (check_cut slots asks changes tells) (widened leaves (λ image count here. cut_behind r (subst (λ (j : Moment). CutIn nor g mid j asks image count) (sym (no_calls g m)) (here (begun_stands m r)))))
+      let r = begun_reached slots memory changes tells room begun in
+      andthen (check_cut slots asks changes tells) (widened leaves (λ image count here. cut_behind r (subst (λ (j : Moment). CutIn nor g mid j asks image count) (sym (no_calls g m)) (here (stands_there m r)))))
 
-  -- a run that was begun
-  pub begun_ends : {old mid new : D} {between now : Memory} (slots : ℕ) (script left : List ℕ) (ending : Ending) → between ≡ closed_memory slots → now.run ≡ None → Changes nor old mid (Checks g) → nor.tells old → Begun g (nor.bytes old) (nor.bytes mid) →
-      (h : Geometry) → h ≡ g → ((m : Moment) → RunStands nor h mid between m → RunEnds nor h mid new between now m script left ending) → RunsTo nor g old new (first_moment g slots (nor.bytes old)) script left ending
-  begun_ends {old} {mid} {new} {between} {now} slots script left ending memory idle changes tells begun h same ends =
+  -- a cut while the bytes that wait are put onto the chip, after some calls and before others
+  settle_cut : {old mid new : D} {w now : Memory} {m : Moment} {ending result : Ending} (front later : List Ask) → Reached nor g old mid w m front → SettlesTo nor g mid new w now ending result → Leaves nor mid new (CutIn nor g old m (front ++ later))
+  settle_cut {old} {mid} {new} {w} {now} {m} front later whole settles = widened (settles.changes (after_all g m front)).cuts (λ image count here.
+      let safe = here.1 whole.stands.stands.tells whole.stands.stands.image in
+      cut_behind whole (record { part = []; count_is = here.0 ∙ omega arith; safe = safe.0; cut = cut_none g (after_all g m front) later (table_of g image) safe.1 }))
+
+  -- the board failed in a call
+  begun_breaks : {old mid ran new : D} {between : Memory} (slots : ℕ) (script left : List ℕ) (result : Ending) → between ≡ closed_memory slots → Changes nor old mid (Checks g) → nor.tells old → has_room g (table_of g (nor.bytes old)) ≡ true → Begun g (nor.bytes old) (nor.bytes mid) →
+      SaidPart nor mid ran (replies g (first_moment g slots (nor.bytes old)) (calls script)) → MayCut nor g mid ran between (first_moment g slots (nor.bytes old)) (calls script) → (result ≡ BoardFault) × (new ≡ ran) → RunsTo nor g old new (first_moment g slots (nor.bytes old)) script left result
+  begun_breaks {old} {mid} {ran} {new} slots script left result memory changes tells room begun said leaves stays =
       let m = first_moment g slots (nor.bytes old) in
-      let r = begun_reached slots memory changes tells begun in
-      let next : (j : Moment) → RunStands nor g mid between j → RunEnds nor g mid new between now j script left ending = subst (λ (k : Geometry). (j : Moment) → RunStands nor k mid between j → RunEnds nor k mid new between now j script left ending) same ends in
+      let r = begun_reached slots memory changes tells room begun in
+      let front = later_said (calls script) r (subst (λ (j : Moment). SaidPart nor mid ran (replies g j (calls script))) (sym (no_calls g m)) said) in
+      inl (stays.0, subst (λ (d : D). SaidPart nor old d (replies g m (calls script))) (sym stays.1) front, subst (λ (d : D). Leaves nor old d (CutIn nor g old m (calls script))) (sym stays.1) (whole_cut slots (calls script) memory changes tells room begun leaves))
+
+  -- it came to its end, and the bytes that wait are put onto the chip
+  begun_settles : {old mid ran new : D} {between after now : Memory} (slots : ℕ) (script left : List ℕ) (ending result : Ending) → between ≡ closed_memory slots → Changes nor old mid (Checks g) → nor.tells old → has_room g (table_of g (nor.bytes old)) ≡ true → Begun g (nor.bytes old) (nor.bytes mid) →
+      Went nor g mid ran between after (first_moment g slots (nor.bytes old)) script left ending → SettlesTo nor g ran new after now ending result → RunsTo nor g old new (first_moment g slots (nor.bytes old)) script left result
+  begun_settles {old} {mid} {ran} {new} {between} {after} {now} slots script left ending result memory changes tells room begun went settles =
+      let m = first_moment g slots (nor.bytes old) in
+      let r = begun_reached slots memory changes tells room begun in
+      let whole : Reached nor g old ran after m went.front = later_reached r (subst (λ (j : Moment). Reached nor g mid ran after j went.front) (sym (no_calls g m)) went.reached) in
+      let stands = whole.stands.stands in
+      let last = settles.changes (after_all g m went.front) in
       ⊎_elim
-      (λ broken. inl (broken.0, later_said (calls script) r (subst (λ (j : Moment). SaidPart nor mid new (replies g j (calls script))) (sym (no_calls g m)) broken.1), whole_cut slots (calls script) memory changes tells begun broken.2))
-      (λ went.
-      let whole : Reached nor g old new now m went.front = later_reached r (subst (λ (j : Moment). Reached nor g mid new now j went.front) (sym (no_calls g m)) went.reached) in
-      inr (record {
+      (λ fine. subst (λ (e : Ending). RunsTo nor g old new m script left e) (sym fine.0) (inr (record {
         front = went.front;
         later = went.later;
         asks_are = went.asks_are;
-        said = whole.said;
-        tells = whole.stands.stands.tells;
-        settled = whole.stands.stands.image.table;
-        table = here_table g (nor.bytes new) now (after_all g m went.front) idle whole.stands.stands.image;
-        why = inr (begins_on g (nor.bytes old) (nor.bytes new) begun.takes whole.stands.reserve, went.why);
-        holds = whole.holds;
-        cuts = whole_cut slots went.front memory changes tells begun went.leaves;
-      }))
-      (next m (begun_stands m r))
+        said = last.said ∙ whole.said;
+        tells = fine.1.stands.tells;
+        among = (last.now stands.tells stands.image).1;
+        table = fine.1.stands.image.table ∙ settled_table (after_all g m went.front).state;
+        why = inr (begins_on g (nor.bytes old) (nor.bytes new) begun.takes (fine.1.holds.reserve whole.stands.reserve), went.why);
+        holds = holds_then g (nor.bytes old) (nor.bytes ran) (nor.bytes new) whole.holds fine.1.holds;
+        cuts = andthen (whole_cut slots went.front memory changes tells room begun went.leaves) (subst (λ (l : List Ask). Leaves nor ran new (CutIn nor g old m l)) (append-nil went.front) (settle_cut went.front [] whole settles));
+      })))
+      (λ fault. inl (
+        fault,
+        record { part = replies g m went.front; rest = replies g (after_all g m went.front) went.later; said = last.said ∙ whole.said; whole_is = ap (replies g m) went.asks_are ∙ replies-append g m went.front went.later },
+        subst (λ (l : List Ask). Leaves nor old new (CutIn nor g old m l)) (sym went.asks_are) (andthen (whole_cut slots (went.front ++ went.later) memory changes tells room begun (wider_cut went.later went.leaves)) (settle_cut went.front went.later whole settles)),
+      ))
+      (settles.stands (after_all g m went.front) stands)
+
+  -- a run that was begun
+  pub begun_ends : {old mid ran new : D} {between after : Memory} (now : Memory) (slots : ℕ) (script left : List ℕ) (ending result : Ending) → between ≡ closed_memory slots → Changes nor old mid (Checks g) → nor.tells old → has_room g (table_of g (nor.bytes old)) ≡ true → Begun g (nor.bytes old) (nor.bytes mid) →
+      (h k : Geometry) → h ≡ g → k ≡ g → ((m : Moment) → RunStands nor h mid between m → RunEnds nor h mid ran between after m script left ending) → Settling nor k ran new after now ending result → RunsTo nor g old new (first_moment g slots (nor.bytes old)) script left result
+  begun_ends {old} {mid} {ran} {new} {between} {after} now slots script left ending result memory changes tells room begun h k same alike ends settles =
+      let m = first_moment g slots (nor.bytes old) in
+      let next : (j : Moment) → RunStands nor g mid between j → RunEnds nor g mid ran between after j script left ending = subst (λ (i : Geometry). (j : Moment) → RunStands nor i mid between j → RunEnds nor i mid ran between after j script left ending) same ends in
+      let here : Settling nor g ran new after now ending result = subst (λ (i : Geometry). Settling nor i ran new after now ending result) alike settles in
+      ⊎_elim
+      (λ broken. begun_breaks slots script left result memory changes tells room begun broken.1 broken.2 (subst (λ (e : Ending). Settling nor g ran new after now e result) broken.0 here))
+      (λ went. begun_settles slots script left ending result memory changes tells room begun went (settles_of nor g ending result ran new after now script left went.front went.later went.why here))
+      (next m (stands_there m (begun_reached slots memory changes tells room begun)))
 
   early_came : {old mid : D} (slots : ℕ) (script left : List ℕ) (ending : Ending) → Changes nor old mid (Checks g) → nor.tells old → table_of g (nor.bytes mid) ≡ table_of g (nor.bytes old) → WhyRan g (nor.bytes old) (nor.bytes mid) script left [] (calls script) ending → RunsTo nor g old mid (first_moment g slots (nor.bytes old)) script left ending
   early_came {old} {mid} slots script left ending changes tells same why = inr (record {
@@ -163,7 +207,7 @@ module _ {D : Type 0} {nor : NorOf D} {g : Geometry} where
     asks_are = refl;
     said = changes.said ∙ sym (ap (λ (l : List ℕ). nor.said old ++ l) (no_replies g (first_moment g slots (nor.bytes old))) ∙ append-nil (nor.said old));
     tells = changes.cuts.told tells;
-    settled = same ∙ sym (first_settled g slots (nor.bytes old));
+    among = is_settled (after_all g (first_moment g slots (nor.bytes old)) []) (table_of g (nor.bytes mid)) [] (same ∙ sym (first_settled g slots (nor.bytes old)));
     table = same ∙ sym (first_state g slots (nor.bytes old));
     why = why;
     holds = holds_check (changes.now tells);
@@ -229,5 +273,5 @@ slots_count lent n closed =
     let same : length (map held (take 65535 lent)) ≡ length (replicate {A = Option Open} n None) = ap length closed in
     sym (length-map (take 65535 lent) held ∙ length-take 65535 lent) ∙ same ∙ length-replicate n None
 
-pub memory_begun : {N : Type 0} {nor : NorOf N} (old new : Volume N nor) (slots : ℕ) → descriptors new.slots.now ≡ replicate (min 65535 (length old.slots.now)) None → descriptors old.slots.now ≡ replicate slots None → memory new ≡ closed_memory slots
-memory_begun old new slots now was = rw (now, slots_count old.slots.now slots was) refl
+pub memory_begun : {N : Type 0} {nor : NorOf N} (old new : Volume N nor) (slots : ℕ) → memory new ≡ closed_memory (min 65535 (length old.slots.now)) → memory old ≡ closed_memory slots → memory new ≡ closed_memory slots
+memory_begun old new slots now was = now ∙ ap closed_memory (slots_count old.slots.now slots (ap (λ (w : Memory). w.slots) was))

@@ -1,38 +1,51 @@
 -- One call of a volume as a step of a run.
-use Rattle.std.proofs.Common.{◌≡◌, ◌≤◌, ℕ, List, length, refl, ◌∙◌, ap, arith, ⊎_elim, true, false, None, Some, Err, Ok}
+use Rattle.std.proofs.Common.{◌≡◌, ◌≤◌, ℕ, ◌⊎◌, List, length, refl, sym, ◌∙◌, ap, subst, arith, inl, inr, ⊎_elim, true, false, None, Some, Err, Ok}
+use Rattle.std.proofs.lemmas.Bool.{cases_Bool}
+use Rattle.geometry.specs.declared.geometry.Geometry.{Geometry}
 use Rattle.nor_core.specs.declared.state.NorState.{Ghosts as NorOf}
 use Rattle.nor_core.specs.Device.{Changes}
 use Rattle.nor_core.proofs.Cuts.{wider}
-use Rattle.table_model.specs.declared.error.FsErr.TheVariants.{DeviceFault, Damaged, Unbuilt as FsUnbuilt}
+use Rattle.table_model.specs.declared.error.FsErr.TheVariants.{DeviceFault, Damaged, Tight}
 use Rattle.table_model.specs.declared.error.Differ.{Differ}
 use Rattle.table_model.specs.declared.reply.Reply.{Reply}
 use Rattle.table_model.specs.declared.reply.Reply.TheVariants.{Bytes}
-use Rattle.table_model.specs.Ask.{Ask, Reads}
+use Rattle.table_model.specs.Table.{State}
+use Rattle.table_model.specs.Room.{has_room}
+use Rattle.table_model.specs.Ask.{Ask, Reads, Fills}
 use Rattle.table_model.specs.Reply.{Answer, Gives, Refuses, answered}
-use Rattle.table_model.specs.Window.{Moment}
+use Rattle.table_model.specs.Window.{Moment, settled_at}
 use Rattle.call_script.specs.Lines.{Asks, IsCounted}
 use Rattle.call_script.specs.Pieces.{IsShort}
+use Rattle.image_model.specs.Tidy.{HasReserve}
+use Rattle.call_model.specs.Memory.{Memory}
+use Rattle.call_model.specs.Calls.{Stands, Answers}
 use Rattle.run_model.specs.Ran.{RunPublishes}
 use Rattle.run_model.proofs.OneCall.{run_publishes, run_answers}
 use Rattle.volume.specs.declared.volume.Volume.{Volume}
-use Rattle.volume.specs.Holds.{memory}
+use Rattle.volume.specs.Holds.{memory, Holds}
 use Rattle.volume.specs.Opening.{is_open}
 use Rattle.volume.specs.Stages.{takes_calls}
 use Rattle.volume.specs.declared.told.Told.{Told}
 use Rattle.volume.specs.Replies.{breaks, shown_by, HasRoomFor}
-use Rattle.volume.specs.Calls.{Unchanged, Calls}
-use Rattle.tool_core.specs.declared.ending.Ending.TheVariants.{BoardFault, Unbuilt, Differ as EndsDiffer}
-use Rattle.tool_core.specs.Runs.{Ran}
+use Rattle.volume.specs.Goes.{cuts_file, IsCorner, StopsShort}
+use Rattle.volume.specs.Calls.{Calls}
+use Rattle.tool_core.specs.declared.ending.Ending.TheVariants.{BoardFault, Differ as EndsDiffer}
+use Rattle.tool_core.specs.Runs.{Ran, StandsNow}
 use Rattle.tool_core.specs.Turns.{DoesCall}
 
 -- a reply whose bytes are few is short
-pub is_short : (reply : Reply) (n : ℕ) → n ≤ 1024 → ((bytes : List ℕ) → answered reply ≡ Gives bytes → length bytes ≤ n) → IsShort reply
-is_short (Bytes bytes) n few brief = let fits = brief bytes.now refl in omega (arith, fits, few)
-is_short _ n few brief = tt {0}
+pub is_short : (reply : Reply) → ((bytes : List ℕ) → answered reply ≡ Gives bytes → length bytes ≤ 1024) → IsShort reply
+is_short (Bytes bytes) brief = brief bytes.now refl
+is_short _ brief = tt {0}
 
--- the bytes that are lent are enough for what a line reads
-pub room_for : (ask : Ask) (n : ℕ) → IsCounted (Asks ask) → 1024 ≤ n → HasRoomFor ask n
+-- a line reads no more than that
+read_count : (ask : Ask) (fd count : ℕ) → IsCounted (Asks ask) → ask ≡ Reads fd count → count ≤ 1024
+read_count ask fd count counted is = subst (λ (a : Ask). IsCounted (Asks a)) is counted
+
+-- the bytes that are lent are enough for what a line reads, and for those of its fill
+pub room_for : (ask : Ask) (n : ℕ) → IsCounted (Asks ask) → 4096 ≤ n → HasRoomFor ask n
 room_for (Reads fd count) n counted many = omega (arith, counted, many)
+room_for (Fills fd count byte) n counted many = omega (arith, counted, many)
 room_for _ n counted many = tt {0}
 
 -- an answer that tells no fault breaks nothing
@@ -42,38 +55,75 @@ unbroken (Refuses (Damaged d)) fault damage broken = damage d refl
 unbroken (Refuses _) fault damage broken = let no : false ≡ true = broken in cc
 unbroken _ fault damage broken = let no : false ≡ true = broken in cc
 
+-- an answer is that there is too little room, or it isn't
+tight_cases : (a : Answer) → (a ≡ Refuses Tight) ⊎ (a ≡ Refuses Tight → ⊥)
+tight_cases (Refuses Tight) = inl refl
+tight_cases (Refuses _) = inr (λ tight. cc)
+tight_cases _ = inr (λ tight. cc)
+
+-- a file is to be cut on a volume whose table has no room, or not so
+corner_cases : (g : Geometry) (image : List ℕ) (s : State) (ask : Ask) → HasReserve g image → IsCorner g image s ask ⊎ (IsCorner g image s ask → ⊥)
+corner_cases g image s ask reserve = ⊎_elim
+    (λ (cuts : cuts_file ask ≡ true). ⊎_elim
+    (λ (room : has_room g s.table ≡ true). inr (λ corner. let no : false ≡ true = sym corner.full ∙ room in cc))
+    (λ (full : has_room g s.table ≡ false). inl (record { cuts = cuts; reserve = reserve; full = full }))
+    (cases_Bool (has_room g s.table)))
+    (λ (whole : cuts_file ask ≡ false). inr (λ corner. let no : false ≡ true = sym whole ∙ corner.cuts in cc))
+    (cases_Bool (cuts_file ask))
+
 module _ {N : Type 0} {nor : NorOf N} where
-  -- what a call leaves that changes nothing is remembered
-  memory_of : {old new : Volume N nor} → Unchanged old new → memory new ≡ memory old
-  memory_of {old} {new} same = rw same.slots refl
+  -- the same geometry by another name
+  stands_by : {g h : Geometry} {d : N} {now : Memory} {m : Moment} → h ≡ g → Stands nor h d now m → Stands nor g d now m
+  stands_by {g} {h} {d} {now} {m} same stands = subst (λ (k : Geometry). Stands nor k d now m) same stands
 
   -- what a cut in it leaves
   changes_of : {old new : Volume N nor} {ask : Ask} {reply : Answer} → Calls ask old new reply → (m : Moment) → Changes nor old.nor.now new.nor.now (RunPublishes old.geometry (memory old) m ask)
   changes_of {old} {new} {ask} calls m = run_publishes (memory old) m ask (wider calls.cuts (λ tells image here. here m))
 
+  -- bytes that a line reads are few
+  pub brief_of : {old new : Volume N nor} (ask : Ask) (reply : Answer) → IsCounted (Asks ask) → Calls ask old new reply → (bytes : List ℕ) → reply ≡ Gives bytes → length bytes ≤ 1024
+  brief_of ask reply counted calls bytes is = let given = calls.brief bytes is in omega (arith, given.few, read_count ask given.fd given.count counted given.reads)
+
+  -- garbage collection isn't stopped where two blocks are free, but in a corner
+  not_short : {old new : Volume N nor} {ask : Ask} {reply : Answer} (m : Moment) → takes_calls old ≡ true → Calls ask old new reply → Holds old m → HasReserve old.geometry (nor.bytes old.nor.now) → (IsCorner old.geometry (nor.bytes old.nor.now) m.state ask → ⊥) → StopsShort old.geometry (nor.bytes old.nor.now) m.state ask reply → ⊥
+  not_short m takes calls holds reserve none short = ⊎_elim
+      (λ collects. calls.unstuck m takes holds reserve collects short.tight)
+      (λ corner. none corner)
+      short.why
+
+  -- answered as the flat table is, a volume stands at the next moment
+  stands_next : {g : Geometry} {old new : N} {now : Memory} {m : Moment} {ask : Ask} {reply : Answer} → Answers nor g old new now m ask reply → HasReserve g (nor.bytes old) → StandsNow nor g new now
+  stands_next done reserve = record { moment = _; stands = done.stands; reserve = done.holds.reserve reserve }
+
+  -- where two blocks are free it goes on standing, in a corner too
+  answer_works : {old new : Volume N nor} {ask : Ask} {reply : Answer} → takes_calls old ≡ true → Calls ask old new reply → ¬ (reply ≡ Refuses DeviceFault) → StandsNow nor old.geometry old.nor.now (memory old) → StandsNow nor old.geometry new.nor.now (memory new)
+  answer_works {old} {new} {ask} {reply} takes calls fault here =
+      let m = here.moment in
+      let answers : (StopsShort old.geometry (nor.bytes old.nor.now) m.state ask reply → ⊥) → StandsNow nor old.geometry new.nor.now (memory new) = λ whole. stands_next (calls.answers m takes here.stands fault whole) here.reserve in
+      ⊎_elim
+      (λ tight. ⊎_elim
+      (λ corner. let stays = calls.cornered m takes here.stands corner tight in record { moment = settled_at m.state; stands = stands_by calls.same.geometry stays.0; reserve = stays.1 })
+      (λ none. answers (not_short m takes calls here.stands here.reserve none))
+      (corner_cases old.geometry (nor.bytes old.nor.now) m.state ask here.reserve))
+      (λ loose. answers (λ short. loose short.tight))
+      (tight_cases reply)
+
   -- it was answered
-  pub does_answer : {old new : Volume N nor} {ask : Ask} {lent : List ℕ} (told : Told) → takes_calls old ≡ true → Calls ask old new (shown_by told lent) → ¬ (shown_by told lent ≡ Refuses DeviceFault) → ¬ (shown_by told lent ≡ Refuses FsUnbuilt) → DoesCall nor old.geometry old.nor.now new.nor.now (memory old) (memory new) ask (Ok told) lent
-  does_answer told takes calls fault unbuilt = record {
+  pub does_answer : {old new : Volume N nor} {ask : Ask} {lent : List ℕ} (told : Told) → takes_calls old ≡ true → Calls ask old new (shown_by told lent) → ¬ (shown_by told lent ≡ Refuses DeviceFault) → DoesCall nor old.geometry old.nor.now new.nor.now (memory old) (memory new) ask (Ok told) lent
+  does_answer told takes calls fault = record {
     changes = changes_of calls;
-    answers = λ m stands. run_answers stands (calls.answers m takes stands.stands fault unbuilt (λ short. ((calls.collects m takes stands.stands short.collects).stuck short.tight).short stands.reserve));
+    answers = λ m stands. run_answers stands (calls.answers m takes stands.stands fault (not_short m takes calls stands.stands stands.reserve (λ corner. let no : false ≡ true = sym corner.full ∙ stands.room in cc)));
     stops = λ m stands. tt {0};
+    works = answer_works takes calls fault;
   }
 
   -- the device failed
   pub does_fault : {old new : Volume N nor} {ask : Ask} {lent : List ℕ} → Calls ask old new (Refuses DeviceFault) → DoesCall nor old.geometry old.nor.now new.nor.now (memory old) (memory new) ask (Err BoardFault) lent
-  does_fault calls = record { changes = changes_of calls; answers = λ m stands. tt {0}; stops = λ m stands. tt {0} }
+  does_fault calls = record { changes = changes_of calls; answers = λ m stands. tt {0}; stops = λ m stands. refl; works = λ here. tt {0} }
 
   -- a page reads otherwise, which none does on a volume that stands
   pub does_damage : {old new : Volume N nor} {ask : Ask} {lent : List ℕ} (d : Differ) → Calls ask old new (Refuses (Damaged d)) → DoesCall nor old.geometry old.nor.now new.nor.now (memory old) (memory new) ask (Err (EndsDiffer d)) lent
-  does_damage d calls = record { changes = changes_of calls; answers = λ m stands. tt {0}; stops = λ m stands. absurd (calls.undamaged m stands.stands d refl) }
-
-  -- this build doesn't have it
-  pub does_unbuilt : {old new : Volume N nor} {ask : Ask} {lent : List ℕ} → takes_calls old ≡ true → Calls ask old new (Refuses FsUnbuilt) → DoesCall nor old.geometry old.nor.now new.nor.now (memory old) (memory new) ask (Err Unbuilt) lent
-  does_unbuilt {old} {new} {ask} takes calls = record {
-    changes = changes_of calls;
-    answers = λ m stands. tt {0};
-    stops = λ m stands. let none = calls.unbuilt_only takes refl in let stays = (calls.unbuilt takes none).1 in record { unbuilt = none; reads = stays.reads; memory = memory_of stays };
-  }
+  does_damage d calls = record { changes = changes_of calls; answers = λ m stands. tt {0}; stops = λ m stands. absurd (calls.undamaged m stands.stands d refl); works = λ here. absurd (calls.undamaged here.moment here.stands d refl) }
 
   -- whether it takes calls after one that told no fault
   takes_on : {old new : Volume N nor} {ask : Ask} {reply : Answer} → takes_calls old ≡ true → Calls ask old new reply → (breaks reply ≡ true → ⊥) → takes_calls new ≡ true

@@ -6,14 +6,14 @@ use Rattle.nor_core.specs.declared.state.NorState.{Ghosts as NorOf}
 use Rattle.nor_core.specs.Device.{Leaves}
 use Rattle.nor_core.proofs.Cuts.{andthen, widened}
 use Rattle.table_model.specs.Ask.{Ask}
-use Rattle.table_model.specs.Window.{Moment}
+use Rattle.table_model.specs.Window.{Moment, from_settled, IsAmong}
 use Rattle.call_script.specs.Lines.{calls}
 use Rattle.image_model.specs.Tables.{table_of}
 use Rattle.run_model.specs.Runs.{after_all, replies, IsCut}
 use Rattle.call_model.specs.Safe.{IsSafe, Holds}
 use Rattle.call_model.proofs.Safety.{safe_as}
 use Rattle.run_model.specs.Ran.{CutIn, SaidPart}
-use Rattle.run_model.proofs.Runs.{is_settled, cut_none, cut_later, cut_after}
+use Rattle.run_model.proofs.Runs.{cut_none, cut_later, cut_after}
 use Rattle.tool_core.specs.declared.ending.Ending.{Ending}
 use Rattle.tool_core.specs.Closing.{status_of, closing_line_of}
 use Rattle.tool_core.specs.Endings.{OnlyCloses}
@@ -34,7 +34,7 @@ module _ {D : Type 0} {nor : NorOf D} {g : Geometry} where
         part = replies g m came.front ++ [];
         count_is = omega (arith, count_is, ap length came.said, length-append (nor.said old) (replies g m came.front), ap length all);
         safe = subst (λ (l : List ℕ). IsSafe g (nor.bytes old) l) (sym same) (safe_as g (nor.bytes old) (nor.bytes mid) came.holds);
-        cut = subst (λ (zs : List Ask). IsCut g m zs (replies g m came.front ++ []) (table_of g image)) (append-nil came.front) (cut_later g m came.front [] [] (table_of g image) (cut_none g (after_all g m came.front) [] (table_of g image) (is_settled (after_all g m came.front) (table_of g image) [] (ap (table_of g) same ∙ came.settled))));
+        cut = subst (λ (zs : List Ask). IsCut g m zs (replies g m came.front ++ []) (table_of g image)) (append-nil came.front) (cut_later g m came.front [] [] (table_of g image) (cut_none g (after_all g m came.front) [] (table_of g image) (subst (λ (l : List ℕ). IsAmong (table_of g l) (from_settled (after_all g m came.front) [])) (sym same) came.among)));
       }))
   closing_case {old} {mid} {new} {m} ending image count (x ∷ part) rest came stays same closing_is count_is = inr (record {
     image_is = same ∙ sym stays;

@@ -8,13 +8,13 @@ use Rattle.call_script.specs.Lines.{Bad, lines, of_line, calls}
 use Rattle.image_model.specs.Tables.{table_of}
 use Rattle.run_model.specs.Runs.{after_all, replies}
 use Rattle.tool_core.specs.declared.ending.Ending.{Ending}
-use Rattle.tool_core.specs.declared.ending.Ending.TheVariants.{Done, BadLine, SourceFault, TooLong, Unbuilt}
+use Rattle.tool_core.specs.declared.ending.Ending.TheVariants.{Done, BadLine, SourceFault, TooLong}
 use Rattle.tool_core.specs.Closing.{status_of, closing_line_of}
 use Rattle.tool_core.specs.Refusals.{begin_refusal}
 use Rattle.tool_core.specs.Endings.{OnlyCloses}
 use Rattle.tool_core.specs.Turns.{AllGood}
 use Rattle.tool_core.specs.Outcomes.{HasBad, IsTooLong, WhyEnds, WhyRan, IsOfScript, EndsByImages}
-use Rattle.tool_core.specs.Running.{Closes, Outcome, RanWhole, BeginsAs, HasUnbuilt, IsComplete}
+use Rattle.tool_core.specs.Running.{Closes, Outcome, RanWhole, BeginsAs, IsComplete}
 use Rattle.tool_core.proofs.Refusals.{not_both, begin_undone}
 
 good_has_no_bad : (done : List (List ℕ)) (bad : List ℕ) (others : List (List ℕ)) → AllGood (done ++ (bad ∷ others)) → of_line bad ≡ Bad → ⊥
@@ -34,29 +34,26 @@ module _ (script left : List ℕ) (front later : List Ask) where
   why_ends : (g : Geometry) (first image : List ℕ) (ending : Ending) → begin_refusal g first image ≡ None → WhyRan g first image script left front later ending → WhyEnds script left front later ending
   why_ends g first image ending takes why = ⊎_elim (λ early. absurd (not_both takes early.1)) (λ ran. ran.1) why
 
-  whole_status : (ending : Ending) (status : ℕ) → WhyEnds script left front later ending → status ≡ status_of ending → length script ≤ 16777216 → status ≢ 16 → status ≢ 8 → AllGood (lines script) → status ≡ 0
-  whole_status Done status why is few lacks read good = is
-  whole_status Unbuilt status why is few lacks read good = absurd (lacks is)
-  whole_status (BadLine n) status why is few lacks read good = absurd (bad_not_good script n why.1 good)
-  whole_status TooLong status why is few lacks read good = absurd (not_too_long script front few why)
-  whole_status SourceFault status why is few lacks read good = absurd (read is)
-  whole_status _ status why is few lacks read good = absurd why
+  whole_status : (ending : Ending) (status : ℕ) → WhyEnds script left front later ending → status ≡ status_of ending → length script ≤ 16777216 → status ≢ 8 → AllGood (lines script) → status ≡ 0
+  whole_status Done status why is few read good = is
+  whole_status (BadLine n) status why is few read good = absurd (bad_not_good script n why.1 good)
+  whole_status TooLong status why is few read good = absurd (not_too_long script front few why)
+  whole_status SourceFault status why is few read good = absurd (read is)
+  whole_status _ status why is few read good = absurd why
 
-  long_status : (ending : Ending) (status : ℕ) → WhyEnds script left front later ending → status ≡ status_of ending → 16777216 < length script → status ≢ 16 → status ≢ 8 → AllGood (lines script) → status ≡ 11
-  long_status Done status why is long lacks read good = absurd (omega (arith, why.3, long))
-  long_status Unbuilt status why is long lacks read good = absurd (lacks is)
-  long_status (BadLine n) status why is long lacks read good = absurd (bad_not_good script n why.1 good)
-  long_status TooLong status why is long lacks read good = is
-  long_status SourceFault status why is long lacks read good = absurd (read is)
-  long_status _ status why is long lacks read good = absurd why
+  long_status : (ending : Ending) (status : ℕ) → WhyEnds script left front later ending → status ≡ status_of ending → 16777216 < length script → status ≢ 8 → AllGood (lines script) → status ≡ 11
+  long_status Done status why is long read good = absurd (omega (arith, why.3, long))
+  long_status (BadLine n) status why is long read good = absurd (bad_not_good script n why.1 good)
+  long_status TooLong status why is long read good = is
+  long_status SourceFault status why is long read good = absurd (read is)
+  long_status _ status why is long read good = absurd why
 
-  bad_status : (ending : Ending) (status : ℕ) → WhyEnds script left front later ending → status ≡ status_of ending → length script ≤ 16777216 → status ≢ 16 → status ≢ 8 → (n : ℕ) → HasBad script n → status ≡ 5
-  bad_status Done status why is few lacks read n bad = absurd (bad_not_good script n bad why.1)
-  bad_status Unbuilt status why is few lacks read n bad = absurd (lacks is)
-  bad_status (BadLine k) status why is few lacks read n bad = is
-  bad_status TooLong status why is few lacks read n bad = absurd (not_too_long script front few why)
-  bad_status SourceFault status why is few lacks read n bad = absurd (read is)
-  bad_status _ status why is few lacks read n bad = absurd why
+  bad_status : (ending : Ending) (status : ℕ) → WhyEnds script left front later ending → status ≡ status_of ending → length script ≤ 16777216 → status ≢ 8 → (n : ℕ) → HasBad script n → status ≡ 5
+  bad_status Done status why is few read n bad = absurd (bad_not_good script n bad why.1)
+  bad_status (BadLine k) status why is few read n bad = is
+  bad_status TooLong status why is few read n bad = absurd (not_too_long script front few why)
+  bad_status SourceFault status why is few read n bad = absurd (read is)
+  bad_status _ status why is few read n bad = absurd why
 
 -- the status by the images
 pub begins_as : {D : Type 0} {nor : NorOf D} (g : Geometry) (first : List ℕ) {mid new : D} (result : Ending) (status : ℕ) → (status ≢ 7) → EndsByImages g first (nor.bytes mid) result → OnlyCloses nor mid new result status → BeginsAs (begin_refusal g first (nor.bytes new)) status
@@ -67,14 +64,6 @@ begins_as {D} {nor} g first {mid} {new} result status fine ends closes =
     (λ images. ⊎_elim (λ early. rw early.refusal is) (λ script. rw script.0 (subst IsOfScript (sym is) script.1)) images)
     ends)
 
-unbuilt_of : (ending : Ending) (script left : List ℕ) (front later : List Ask) → calls script ≡ front ++ later → WhyEnds script left front later ending → status_of ending ≡ 16 → HasUnbuilt script
-unbuilt_of Unbuilt script left front later asks_are why is = record { front = front; later = later; asks_are = asks_are; unbuilt = why }
-unbuilt_of Done script left front later asks_are why is = absurd (omega (arith, is))
-unbuilt_of (BadLine n) script left front later asks_are why is = absurd (omega (arith, is))
-unbuilt_of TooLong script left front later asks_are why is = absurd (omega (arith, is))
-unbuilt_of SourceFault script left front later asks_are why is = absurd (omega (arith, is))
-unbuilt_of _ script left front later asks_are why is = absurd why
-
 module _ {D : Type 0} {nor : NorOf D} {g : Geometry} where
   -- a run that didn't end in a fault has the status of its ending
   by_ending : {old new : D} {m : Moment} {script left : List ℕ} {status : ℕ} (Q : Type 0) → (status ≢ 7) → Outcome nor g old new m script left status → ((c : Closes nor g old new m script left status) → status ≡ status_of c.ending → Q) → Q
@@ -82,10 +71,9 @@ module _ {D : Type 0} {nor : NorOf D} {g : Geometry} where
 
   pub complete_of : {old new : D} {m : Moment} {script left : List ℕ} {status : ℕ} → (status ≢ 7) → (status ≢ 8) → begin_refusal g (nor.bytes old) (nor.bytes new) ≡ None → Outcome nor g old new m script left status → IsComplete script status
   complete_of {old} {new} {m} {script} {left} {status} fine read takes outcome = record {
-    done = λ few lacks good. by_ending (status ≡ 0) fine outcome (λ c is. whole_status script left c.front c.later c.ending status (why_ends script left c.front c.later g (nor.bytes old) (nor.bytes new) c.ending takes c.why) is few lacks read good);
-    long = λ long lacks good. by_ending (status ≡ 11) fine outcome (λ c is. long_status script left c.front c.later c.ending status (why_ends script left c.front c.later g (nor.bytes old) (nor.bytes new) c.ending takes c.why) is long lacks read good);
-    bad_line = λ few lacks n bad. by_ending (status ≡ 5) fine outcome (λ c is. bad_status script left c.front c.later c.ending status (why_ends script left c.front c.later g (nor.bytes old) (nor.bytes new) c.ending takes c.why) is few lacks read n bad);
-    unbuilt = λ sixteen. by_ending (HasUnbuilt script) fine outcome (λ c is. unbuilt_of c.ending script left c.front c.later c.asks_are (why_ends script left c.front c.later g (nor.bytes old) (nor.bytes new) c.ending takes c.why) (sym is ∙ sixteen));
+    done = λ few good. by_ending (status ≡ 0) fine outcome (λ c is. whole_status script left c.front c.later c.ending status (why_ends script left c.front c.later g (nor.bytes old) (nor.bytes new) c.ending takes c.why) is few read good);
+    long = λ long good. by_ending (status ≡ 11) fine outcome (λ c is. long_status script left c.front c.later c.ending status (why_ends script left c.front c.later g (nor.bytes old) (nor.bytes new) c.ending takes c.why) is long read good);
+    bad_line = λ few n bad. by_ending (status ≡ 5) fine outcome (λ c is. bad_status script left c.front c.later c.ending status (why_ends script left c.front c.later g (nor.bytes old) (nor.bytes new) c.ending takes c.why) is few read n bad);
   }
 
   whole_of : {old new : D} (ending : Ending) (m : Moment) (script left : List ℕ) (front later : List Ask) → status_of ending ≡ 0 → calls script ≡ front ++ later → WhyEnds script left front later ending → nor.said new ≡ nor.said old ++ (replies g m front ++ closing_line_of ending) → table_of g (nor.bytes new) ≡ (after_all g m front).state.table → RanWhole nor g old new m script left
@@ -101,7 +89,6 @@ module _ {D : Type 0} {nor : NorOf D} {g : Geometry} where
   whole_of (BadLine n) m script left front later is asks_are why said table = absurd (omega (arith, is))
   whole_of SourceFault m script left front later is asks_are why said table = absurd (omega (arith, is))
   whole_of TooLong m script left front later is asks_are why said table = absurd (omega (arith, is))
-  whole_of Unbuilt m script left front later is asks_are why said table = absurd (omega (arith, is))
   whole_of _ m script left front later is asks_are why said table = absurd why
 
   -- with status 0 the whole script was run

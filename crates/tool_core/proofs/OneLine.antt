@@ -11,12 +11,11 @@ use Rattle.call_script.specs.Lines.{Bad, Asks, of_line, calls_of}
 use Rattle.call_script.specs.Replies.{text}
 use Rattle.call_model.specs.Memory.{Memory}
 use Rattle.run_model.specs.Runs.{replies}
-use Rattle.run_model.specs.Ran.{RunStands, RunPublishes, RunAnswers, Reached, SaidPart}
-use Rattle.run_model.proofs.Chain.{cut_reads, reached_reads}
+use Rattle.run_model.specs.Ran.{RunPublishes, RunAnswers, Reached, SaidPart}
 use Rattle.run_model.proofs.OneCall.{call_said, reply_said, reply_reached}
 use Rattle.tool_core.specs.declared.ending.Ending.{Ending}
-use Rattle.tool_core.specs.declared.ending.Ending.TheVariants.{BoardFault, Unbuilt}
-use Rattle.tool_core.specs.Turns.{DidLine, StopsCall}
+use Rattle.tool_core.specs.declared.ending.Ending.TheVariants.{BoardFault}
+use Rattle.tool_core.specs.Turns.{DidLine}
 use Rattle.tool_core.proofs.LineWork.{call_good, one_call, same_reached, same_said}
 
 if_none : {P Q : Type 0} (o : Option Ending) → IfNone o P → (P → Q) → IfNone o Q
@@ -34,14 +33,6 @@ module _ {D : Type 0} {nor : NorOf D} {g : Geometry} where
       (if_none o done (λ whole. same_reached (one_call line ask e) (reply_reached changes ok says leaves whole)))
       (same_said g m (ask ∷ []) (calls_of (line ∷ [])) (one_call line ask e) (reply_said ask changes ok says))
 
-  -- a call was not answered
-  pub stop_did : (ending : Ending) {old new : D} {was : Memory} (now : Memory) {m : Moment} (line : List ℕ) (n : ℕ) (ask : Ask) → of_line line ≡ Asks ask → Changes nor old new (RunPublishes g was m ask) → StopsCall nor old new was now ask ending → RunStands nor g old was m → DidLine nor g old new was now m line n (Some ending)
-  stop_did BoardFault {old} {new} {was} now {m} line n ask e changes stops stands = (call_good line ask e, same_said g m (ask ∷ []) (calls_of (line ∷ [])) (one_call line ask e) (call_said ask changes))
-  stop_did Unbuilt {old} {new} {was} now {m} line n ask e changes stops stands = record {
-    ask = ask;
-    spells = e;
-    unbuilt = stops.unbuilt;
-    leaves = cut_reads was m [] stops.reads;
-    reached = subst (λ (w : Memory). Reached nor g old new w m []) (sym stops.memory) (reached_reads stops.reads stands);
-  }
-  stop_did _ now line n ask e changes stops stands = absurd stops
+  -- the board failed in a call
+  pub stop_did : (ending : Ending) {old new : D} {was : Memory} (now : Memory) {m : Moment} (line : List ℕ) (n : ℕ) (ask : Ask) → of_line line ≡ Asks ask → Changes nor old new (RunPublishes g was m ask) → ending ≡ BoardFault → DidLine nor g old new was now m line n (Some ending)
+  stop_did ending {old} {new} {was} now {m} line n ask e changes fault = subst (λ (e : Ending). DidLine nor g old new was now m line n (Some e)) (sym fault) (call_good line ask e, same_said g m (ask ∷ []) (calls_of (line ∷ [])) (one_call line ask e) (call_said ask changes))

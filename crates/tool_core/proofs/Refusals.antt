@@ -126,4 +126,4 @@ check_not_tight g was now takes reserve is =
 
 -- nor is a script's end
 pub script_not_tight : (status : ℕ) → IsOfScript status → status ≡ 14 → ⊥
-script_not_tight status of is = ⊎_elim (λ a. omega (arith, a, is)) (λ b. ⊎_elim (λ a. omega (arith, a, is)) (λ c. ⊎_elim (λ a. omega (arith, a, is)) (λ d. ⊎_elim (λ a. omega (arith, a, is)) (λ e. omega (arith, e, is)) d) c) b) of
+script_not_tight status of is = ⊎_elim (λ a. omega (arith, a, is)) (λ b. ⊎_elim (λ a. omega (arith, a, is)) (λ c. ⊎_elim (λ a. omega (arith, a, is)) (λ d. omega (arith, d, is)) c) b) of

@@ -13,7 +13,7 @@ use Rattle.run_model.specs.Runs.{after_all}
 use Rattle.run_model.specs.Ran.{RunStands, MayCut, Reached}
 use Rattle.run_model.proofs.Chain.{later_cut, later_reached, later_said, reached_none}
 use Rattle.tool_core.specs.declared.ending.Ending.{Ending}
-use Rattle.tool_core.specs.declared.ending.Ending.TheVariants.{Done, BadLine, BoardFault, SourceFault, TooLong, Unbuilt}
+use Rattle.tool_core.specs.declared.ending.Ending.TheVariants.{Done, BadLine, BoardFault, SourceFault, TooLong}
 use Rattle.tool_core.specs.Turns.{DidLine, AllGood, BeginsBad, At, CountsLines, CountsBytes, Stops, Turned, OneMore, ended_turn}
 use Rattle.tool_core.proofs.LineWork.{bad_long, bad_calls, calls-append, good-append, same_cut}
 
@@ -115,7 +115,6 @@ module _ {D : Type 0} {nor : NorOf D} {g : Geometry} where
   line_done None d e w v m p line q l k h n plain is number leaves did = record { seg = line ++ (10 ∷ []); done = line ∷ []; tail = q ++ l; rest_is = ap (λ (x : List ℕ). x ++ l) is ∙ cut_here line q l; lines_are = λ more follows. ap lines (append_assoc line (10 ∷ []) more) ∙ line_first line more plain; good = (did.0, tt {0}); number = number; bytes = omega (arith, ap length is, length-append line (10 ∷ q), length-append line (10 ∷ [])); leaves = leaves; stops = inr (did.1, refl) }
   line_done (Some (BadLine x)) d e w v m p line q l k h n plain is number leaves did = record { seg = []; done = []; tail = p ++ l; rest_is = refl; lines_are = λ more follows. refl; good = tt {0}; number = omega (arith, did.1, number); bytes = tt {0}; leaves = same_cut (sym (bad_calls line did.0)) leaves; stops = inr (did.2, record { bad = line; others = lines (q ++ l); lines_are = ap (λ (x : List ℕ). lines (x ++ l)) is ∙ ap lines (append_assoc line (10 ∷ q) l) ∙ line_first line (q ++ l) plain; is_bad = did.0 }) }
   line_done (Some BoardFault) d e w v m p line q l k h n plain is number leaves did = record { seg = line ++ (10 ∷ []); done = line ∷ []; tail = q ++ l; rest_is = ap (λ (x : List ℕ). x ++ l) is ∙ cut_here line q l; lines_are = λ more follows. ap lines (append_assoc line (10 ∷ []) more) ∙ line_first line more plain; good = (did.0, tt {0}); number = tt {0}; bytes = tt {0}; leaves = leaves; stops = inl (refl, did.1) }
-  line_done (Some Unbuilt) d e w v m p line q l k h n plain is number leaves did = record { seg = []; done = []; tail = p ++ l; rest_is = refl; lines_are = λ more follows. refl; good = tt {0}; number = tt {0}; bytes = tt {0}; leaves = did.leaves; stops = inr (did.reached, record { line = line; others = lines (q ++ l); lines_are = ap (λ (x : List ℕ). lines (x ++ l)) is ∙ ap lines (append_assoc line (10 ∷ q) l) ∙ line_first line (q ++ l) plain; ask = did.ask; spells = did.spells; unbuilt = did.unbuilt }) }
   line_done _ d e w v m p line q l k h n plain is number leaves did = absurd did
 
   -- no byte is left
@@ -130,7 +129,6 @@ module _ {D : Type 0} {nor : NorOf D} {g : Geometry} where
   last_done None d e w v m line k h n plain some few number leaves did = record { seg = line; done = line ∷ []; tail = []; rest_is = refl; lines_are = λ more follows. ap (λ (x : List ℕ). lines (line ++ x)) follows ∙ ap lines (append-nil line) ∙ line_last line some plain ∙ ap (λ (x : List ℕ). line ∷ lines x) (sym follows); good = (did.0, tt {0}); number = tt {0}; bytes = (refl, few); leaves = leaves; stops = inr (did.1, (refl, refl)) }
   last_done (Some (BadLine x)) d e w v m line k h n plain some few number leaves did = record { seg = []; done = []; tail = line ++ []; rest_is = refl; lines_are = λ more follows. refl; good = tt {0}; number = omega (arith, did.1, number); bytes = tt {0}; leaves = same_cut (sym (bad_calls line did.0)) leaves; stops = inr (did.2, record { bad = line; others = []; lines_are = ap lines (append-nil line) ∙ line_last line some plain; is_bad = did.0 }) }
   last_done (Some BoardFault) d e w v m line k h n plain some few number leaves did = record { seg = line; done = line ∷ []; tail = []; rest_is = refl; lines_are = λ more follows. ap (λ (x : List ℕ). lines (line ++ x)) follows ∙ ap lines (append-nil line) ∙ line_last line some plain ∙ ap (λ (x : List ℕ). line ∷ lines x) (sym follows); good = (did.0, tt {0}); number = tt {0}; bytes = tt {0}; leaves = leaves; stops = inl (refl, did.1) }
-  last_done (Some Unbuilt) d e w v m line k h n plain some few number leaves did = record { seg = []; done = []; tail = line ++ []; rest_is = refl; lines_are = λ more follows. refl; good = tt {0}; number = tt {0}; bytes = tt {0}; leaves = did.leaves; stops = inr (did.reached, record { line = line; others = []; lines_are = ap lines (append-nil line) ∙ line_last line some plain; ask = did.ask; spells = did.spells; unbuilt = did.unbuilt }) }
   last_done _ d e w v m line k h n plain some few number leaves did = absurd did
 
   -- a turn after others, by the geometry that the run began with

@@ -5,7 +5,7 @@ use Rattle.table_model.specs.declared.error.Differ.{Differ as Differs}
 use Rattle.vol_mount.specs.declared.lent.Part.{Part}
 use Rattle.vol_mount.specs.declared.lent.Part.TheVariants.{Work, Slots, Cache, Check, Line}
 use Rattle.tool_core.specs.declared.ending.Ending.{Ending}
-use Rattle.tool_core.specs.declared.ending.Ending.TheVariants.{Done, Usage, Geometry, ShortBuffer, NotAFs, BadLine, BoardFault, SourceFault, TooLong, Damaged, Tight, Unbuilt, Mixed, Differ}
+use Rattle.tool_core.specs.declared.ending.Ending.TheVariants.{Done, Usage, Geometry, ShortBuffer, NotAFs, BadLine, BoardFault, SourceFault, TooLong, Damaged, Tight, Mixed, Differ}
 
 -- the status that a command answers
 abbrev pub status_of : Ending → ℕ
@@ -21,7 +21,6 @@ status_of (ShortBuffer part need given) = 10
 status_of TooLong = 11
 status_of (Damaged count) = 12
 status_of (Tight free) = 14
-status_of Unbuilt = 16
 status_of (Differ differ) = 21
 
 -- the word for a part of the lent memory
@@ -58,7 +57,6 @@ closing_of SourceFault = codes "! script fault"
 closing_of TooLong = codes "! script longer than 16777216 bytes"
 closing_of (Damaged count) = codes "! damaged " ++ decimal count
 closing_of (Tight free) = codes "! free blocks " ++ decimal free
-closing_of Unbuilt = codes "! unbuilt"
 closing_of (Differ differ) = differ_text differ
 
 -- a line with the byte that ends it, if there is one

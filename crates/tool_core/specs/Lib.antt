@@ -12,6 +12,7 @@ pub mod Later
 pub mod Telling
 pub mod Mounting
 pub mod Runs
+pub mod Settling
 pub mod Turns
 pub mod Outcomes
 pub mod Begins

@@ -4,7 +4,7 @@ use Rattle.geometry.specs.declared.geometry.Geometry.{Geometry}
 use Rattle.nor_core.specs.declared.state.NorState.{Ghosts as NorOf}
 use Rattle.nor_core.specs.Device.{Leaves}
 use Rattle.table_model.specs.Ask.{Ask}
-use Rattle.table_model.specs.Window.{Moment, settled_at}
+use Rattle.table_model.specs.Window.{Moment, settled_at, from_settled, IsAmong}
 use Rattle.call_script.specs.Lines.{Bad, lines, of_line, calls, NoBreak}
 use Rattle.image_model.specs.Tables.{table_of}
 use Rattle.run_model.specs.Runs.{after_all, replies}
@@ -12,12 +12,12 @@ use Rattle.call_model.specs.Memory.{Memory}
 use Rattle.call_model.specs.Safe.{Holds}
 use Rattle.run_model.specs.Ran.{CutIn, MayCut, Reached, SaidPart}
 use Rattle.tool_core.specs.declared.ending.Ending.{Ending}
-use Rattle.tool_core.specs.declared.ending.Ending.TheVariants.{Done, BadLine, BoardFault, SourceFault, TooLong, Unbuilt}
+use Rattle.tool_core.specs.declared.ending.Ending.TheVariants.{Done, BadLine, BoardFault, SourceFault, TooLong}
 use Rattle.tool_core.specs.Refusals.{begin_refusal}
 use Rattle.tool_core.specs.Closing.{status_of}
 use Rattle.tool_core.specs.Mounting.{IsMendable}
 use Rattle.tool_core.specs.Endings.{Speaks, WritesNone}
-use Rattle.tool_core.specs.Turns.{AllGood, IsUnbuilt}
+use Rattle.tool_core.specs.Turns.{AllGood}
 
 -- a line of a script is outside the grammar, the first such, by its number from 1
 pub record HasBad (script : List ℕ) (number : ℕ) : Type 0 where
@@ -54,20 +54,12 @@ pub record IsTooLong (script : List ℕ) (front : List Ask) : Type 0 where
   pub count : length whole + length rest ≡ 16777216
   pub calls_are : calls whole ≡ front
 
--- the first of some calls is one that this build doesn't have
-pub record UnbuiltNext (later : List Ask) : Type 0 where
-  pub ask : Ask
-  pub more : List Ask
-  pub later_is : later ≡ ask ∷ more
-  pub unbuilt : IsUnbuilt ask
-
 -- why a run ends after some calls and before others
 abbrev pub WhyEnds : (script left : List ℕ) (front later : List Ask) → Ending → Type 0
 WhyEnds script left front later Done = (later ≡ []) × AllGood (lines script) × (left ≡ []) × (length script ≤ 16777216)
 WhyEnds script left front later (BadLine number) = (later ≡ []) × HasBad script number
 WhyEnds script left front later TooLong = IsTooLong script front
 WhyEnds script left front later SourceFault = IsTakenTo script left front
-WhyEnds script left front later Unbuilt = UnbuiltNext later
 WhyEnds script left front later _ = ⊥
 
 -- a run came to the moment after the first of its script's calls, and ends there
@@ -98,14 +90,14 @@ WhyRan g first image script left front later ending =
     ((front ≡ []) × (begin_refusal g first image ≡ Some ending))
     ⊎ ((begin_refusal g first image ≡ None) × WhyEnds script left front later ending)
 
--- before its closing line: the replies to the first calls were said, and the table is theirs
+-- before its closing line: the replies to the first calls were said, and the table is theirs, which was settled or waited
 pub record Came {D : Type 0} (nor : NorOf D) (g : Geometry) (old new : D) (m : Moment) (script left : List ℕ) (ending : Ending) : Type 0 where
   pub front : List Ask
   pub later : List Ask
   pub asks_are : calls script ≡ front ++ later
   pub said : nor.said new ≡ nor.said old ++ replies g m front
   pub tells : nor.tells new
-  pub settled : table_of g (nor.bytes new) ≡ (after_all g m front).settled
+  pub among : IsAmong (table_of g (nor.bytes new)) (from_settled (after_all g m front) [])
   pub table : table_of g (nor.bytes new) ≡ (after_all g m front).state.table
   pub why : WhyRan g (nor.bytes old) (nor.bytes new) script left front later ending
   pub holds : Holds g (nor.bytes old) (nor.bytes new)
@@ -116,9 +108,9 @@ abbrev pub RunsTo : {D : Type 0} (nor : NorOf D) (g : Geometry) (old new : D) (m
 RunsTo nor g old new m script left ending =
     ((ending ≡ BoardFault) × SaidPart nor old new (replies g m (calls script)) × Leaves nor old new (CutIn nor g old m (calls script))) ⊎ Came nor g old new m script left ending
 
--- the status of a script that was run on an image that the check left fit to be worked on: 0, 5, 8, 11 or 16
+-- the status of a script that was run on an image that the check left fit to be worked on: 0, 5, 8 or 11
 abbrev pub IsOfScript : ℕ → Type 0
-IsOfScript status = (status ≡ 0) ⊎ ((status ≡ 5) ⊎ ((status ≡ 8) ⊎ ((status ≡ 11) ⊎ (status ≡ 16))))
+IsOfScript status = (status ≡ 0) ⊎ ((status ≡ 5) ⊎ ((status ≡ 8) ⊎ (status ≡ 11)))
 
 -- the images ended the run, of which the first isn't one that the check gives two free blocks
 pub record ImagesEnd (g : Geometry) (was now : List ℕ) (ending : Ending) : Type 0 where

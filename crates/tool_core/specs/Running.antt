@@ -1,9 +1,10 @@
 -- What a run leaves and answers.
-use Rattle.std.specs.Prelude.{ℕ, ◌≡◌, ◌≢◌, ◌+◌, ◌<◌, ◌≤◌, ◌⊎◌, List, [], ◌++◌, length, min, Option, None, Some}
+use Rattle.std.specs.Prelude.{ℕ, ◌≡◌, ◌≢◌, ◌+◌, ◌<◌, ◌≤◌, ◌⊎◌, List, [], ◌++◌, length, min, true, Option, None, Some}
 use Rattle.geometry.specs.declared.geometry.Geometry.{Geometry}
 use Rattle.nor_core.specs.declared.state.NorState.{Ghosts as NorOf}
 use Rattle.nor_core.specs.declared.source.Source.{Ghosts as SourceOf}
 use Rattle.nor_core.specs.Device.{Leaves}
+use Rattle.table_model.specs.Room.{has_room}
 use Rattle.table_model.specs.Ask.{Ask}
 use Rattle.table_model.specs.Window.{Moment}
 use Rattle.call_script.specs.Lines.{lines, calls}
@@ -19,7 +20,7 @@ use Rattle.tool_core.specs.Mounting.{IsMendable}
 use Rattle.tool_core.specs.Reads.{ReadsOnce}
 use Rattle.tool_core.specs.Refusals.{check_refusal, begin_refusal}
 use Rattle.tool_core.specs.Turns.{AllGood}
-use Rattle.tool_core.specs.Outcomes.{HasBad, UnbuiltNext, WhyRan, IsOfScript, first_moment}
+use Rattle.tool_core.specs.Outcomes.{HasBad, WhyRan, IsOfScript, first_moment}
 
 -- A cut in the calls: the image may follow the first one, and the replies said and its table are those of a cut in the calls.
 pub record CallCut {D : Type 0} (nor : NorOf D) (g : Geometry) (old : D) (m : Moment) (asks : List Ask) (image : List ℕ) (count : ℕ) : Type 0 where
@@ -83,32 +84,24 @@ abbrev pub BeginsAs : (refusal : Option Ending) (status : ℕ) → Type 0
 BeginsAs (Some ending) status = status ≡ status_of ending
 BeginsAs None status = IsOfScript status
 
--- a call of a script is one that this build doesn't have
-pub record HasUnbuilt (script : List ℕ) : Type 0 where
-  pub front : List Ask
-  pub later : List Ask
-  pub asks_are : calls script ≡ front ++ later
-  pub unbuilt : UnbuiltNext later
-
--- A run whose images are worked on, and neither the board nor the script failed. Where this build has every call the status is 0 for a script of at most
--- 16,777,216 bytes of which every line is in the grammar, 11 for a longer one, and 5 for one that isn't longer with a line outside.
+-- A run whose images are worked on, and neither the board nor the script failed. The status is 0 for a script of at most 16,777,216 bytes of which
+-- every line is in the grammar, 11 for a longer one, and 5 for one that isn't longer with a line outside.
 pub record IsComplete (script : List ℕ) (status : ℕ) : Type 0 where
-  pub done : length script ≤ 16777216 → status ≢ 16 → AllGood (lines script) → status ≡ 0
-  pub long : 16777216 < length script → status ≢ 16 → AllGood (lines script) → status ≡ 11
-  pub bad_line : length script ≤ 16777216 → status ≢ 16 → (number : ℕ) → HasBad script number → status ≡ 5
-  pub unbuilt : status ≡ 16 → HasUnbuilt script
+  pub done : length script ≤ 16777216 → AllGood (lines script) → status ≡ 0
+  pub long : 16777216 < length script → AllGood (lines script) → status ≡ 11
+  pub bad_line : length script ≤ 16777216 → (number : ℕ) → HasBad script number → status ≡ 5
 
 -- A run mounts and checks the volume, and does the calls of the script.
 pub record DoesRun {D X : Type 0} (nor : NorOf D) (source : SourceOf X) (g : Geometry) (lent : Lengths) (old new : D) (script after : X) (status : ℕ) : Type 0 where
-  -- the replies to some first calls are said, then a closing line, whose cause stands beside it; the table is that after these calls,
-  -- and a cut at any moment leaves what they may
-  pub outcome : source.tells script → nor.tells old → Outcome nor g old new (first_of g lent (nor.bytes old)) (source.left script) (source.left after) status
+  -- Where the table of the first image has room, the replies to some first calls are said, then a closing line, whose cause stands beside
+  -- it; the table is that after these calls, and a cut at any moment leaves what they may. (Without room a cut of a file may be Tight.)
+  pub outcome : source.tells script → nor.tells old → has_room g (table_of g (nor.bytes old)) ≡ true → Outcome nor g old new (first_of g lent (nor.bytes old)) (source.left script) (source.left after) status
   -- with status 0 it was the whole script
-  pub whole : source.tells script → nor.tells old → status ≡ 0 → RanWhole nor g old new (first_of g lent (nor.bytes old)) (source.left script) (source.left after)
+  pub whole : source.tells script → nor.tells old → has_room g (table_of g (nor.bytes old)) ≡ true → status ≡ 0 → RanWhole nor g old new (first_of g lent (nor.bytes old)) (source.left script) (source.left after)
   -- the status, if it isn't 7, is that of the images, where they end the run, or else one of a script ..
   pub begins : nor.tells old → status ≢ 7 → BeginsAs (begin_refusal g (nor.bytes old) (nor.bytes new)) status
   -- .. and, if it isn't 8, that of this script
-  pub complete : source.tells script → nor.tells old → status ≢ 7 → status ≢ 8 →
+  pub complete : source.tells script → nor.tells old → has_room g (table_of g (nor.bytes old)) ≡ true → status ≢ 7 → status ≢ 8 →
       begin_refusal g (nor.bytes old) (nor.bytes new) ≡ None → IsComplete (source.left script) status
   -- an image that isn't taken stays, and its closing line is said alone
   pub refused : nor.tells old → (ending : Ending) → check_refusal g (nor.bytes old) ≡ Some ending → Concludes nor old new [] ending status × (status ≢ 7 → WritesNone nor old new)

@@ -1,56 +1,33 @@
 -- What a turn of a run leaves, and many turns.
-use Rattle.std.specs.Prelude.{ℕ, ◌≡◌, ◌+◌, ◌≤◌, ◌⊎◌, List, [], ◌∷◌, ◌++◌, length, slice_range, false, Option, Some, None, Result, IfOk, IfErr}
+use Rattle.std.specs.Prelude.{ℕ, ◌≡◌, ◌+◌, ◌≤◌, ◌⊎◌, List, [], ◌∷◌, ◌++◌, length, slice_range, Option, Some, None, Result, IfOk, IfErr}
 use Rattle.geometry.specs.declared.geometry.Geometry.{Geometry}
 use Rattle.nor_core.specs.declared.state.NorState.{Ghosts as NorOf}
-use Rattle.nor_core.specs.Device.{OnlyReads, Changes}
+use Rattle.nor_core.specs.Device.{Changes}
 use Rattle.table_model.specs.Ask.{Ask}
 use Rattle.table_model.specs.Window.{Moment}
-use Rattle.call_script.specs.Lines.{Bad, Asks, lines, of_line, calls_of, NoBreak}
+use Rattle.call_script.specs.Lines.{Bad, lines, of_line, calls_of, NoBreak}
 use Rattle.call_model.specs.Memory.{Memory}
 use Rattle.run_model.specs.Runs.{replies}
 use Rattle.run_model.specs.Ran.{RunStands, RunPublishes, RunAnswers, MayCut, Reached, SaidPart}
 use Rattle.volume.specs.declared.told.Told.{Told}
-use Rattle.volume.specs.Built.{is_built}
 use Rattle.volume.specs.Replies.{shown_by}
+use Rattle.tool_core.specs.Runs.{result_err, StandsNow, WorksTo}
 use Rattle.tool_core.specs.declared.ending.Ending.{Ending}
-use Rattle.tool_core.specs.declared.ending.Ending.TheVariants.{Done, BadLine, BoardFault, SourceFault, TooLong, Unbuilt}
+use Rattle.tool_core.specs.declared.ending.Ending.TheVariants.{Done, BadLine, BoardFault, SourceFault, TooLong}
 
--- a call that this build doesn't have
-abbrev pub IsUnbuilt : Ask → Type 0
-IsUnbuilt ask = is_built ask ≡ false
-
--- a call that this build doesn't have was only looked at
-pub record StaysUnbuilt {D : Type 0} (nor : NorOf D) (old new : D) (was now : Memory) (ask : Ask) : Type 0 where
-  pub unbuilt : IsUnbuilt ask
-  pub reads : OnlyReads nor old new
-  pub memory : now ≡ was
-
--- how a call ends that isn't answered: the board failed, or this build doesn't have it
-abbrev pub StopsCall : {D : Type 0} (nor : NorOf D) (old new : D) (was now : Memory) (ask : Ask) → Ending → Type 0
-StopsCall nor old new was now ask BoardFault = Unit {0}
-StopsCall nor old new was now ask Unbuilt = StaysUnbuilt nor old new was now ask
-StopsCall nor old new was now ask _ = ⊥
-
--- What doing a call leaves: what a run may at each cut, and its answer, or why it isn't answered. `lent` are the bytes for what is read.
+-- What doing a call leaves: what a run may at each cut, and its answer, or that the board failed. `lent` are the bytes for what is read.
 pub record DoesCall {D : Type 0} (nor : NorOf D) (g : Geometry) (old new : D) (was now : Memory) (ask : Ask) (result : Result Told Ending) (lent : List ℕ) : Type 0 where
   pub changes : (m : Moment) → Changes nor old new (RunPublishes g was m ask)
   pub answers : (m : Moment) → RunStands nor g old was m → IfOk result (λ told. RunAnswers nor g old new now m ask (shown_by told lent))
-  pub stops : (m : Moment) → RunStands nor g old was m → IfErr result (StopsCall nor old new was now ask)
-
--- a line spells a call that this build doesn't have, and nothing was changed
-pub record LineUnbuilt {D : Type 0} (nor : NorOf D) (g : Geometry) (old new : D) (was now : Memory) (m : Moment) (line : List ℕ) : Type 0 where
-  pub ask : Ask
-  pub spells : of_line line ≡ Asks ask
-  pub unbuilt : IsUnbuilt ask
-  pub leaves : MayCut nor g old new was m []
-  pub reached : Reached nor g old new now m []
+  pub stops : (m : Moment) → RunStands nor g old was m → IfErr result (λ ending. ending ≡ BoardFault)
+  -- whether or not the table has room, it goes on standing
+  pub works : StandsNow nor g old was → WorksTo nor g new now (result_err result)
 
 -- what doing the line of that number leaves, by how the run ends there
 abbrev pub DidLine : {D : Type 0} (nor : NorOf D) (g : Geometry) (old new : D) (was now : Memory) (m : Moment) (line : List ℕ) (number : ℕ) → Option Ending → Type 0
 DidLine nor g old new was now m line number None = (of_line line ≡ Bad → ⊥) × Reached nor g old new now m (calls_of (line ∷ []))
 DidLine nor g old new was now m line number (Some (BadLine n)) = (of_line line ≡ Bad) × (n ≡ number) × Reached nor g old new now m []
 DidLine nor g old new was now m line number (Some BoardFault) = (of_line line ≡ Bad → ⊥) × SaidPart nor old new (replies g m (calls_of (line ∷ [])))
-DidLine nor g old new was now m line number (Some Unbuilt) = LineUnbuilt nor g old new was now m line
 DidLine nor g old new was now m line number _ = ⊥
 
 -- each line is in the grammar
@@ -64,15 +41,6 @@ pub record BeginsBad (tail : List ℕ) : Type 0 where
   pub others : List (List ℕ)
   pub lines_are : lines tail ≡ bad ∷ others
   pub is_bad : of_line bad ≡ Bad
-
--- the first line of these bytes is a call that this build doesn't have
-pub record BeginsUnbuilt (tail : List ℕ) : Type 0 where
-  pub line : List ℕ
-  pub others : List (List ℕ)
-  pub lines_are : lines tail ≡ line ∷ others
-  pub ask : Ask
-  pub spells : of_line line ≡ Asks ask
-  pub unbuilt : IsUnbuilt ask
 
 -- these bytes are some that end no line and are 4,096 at most, and others
 pub record Short (tail a b : List ℕ) : Type 0 where
@@ -121,7 +89,6 @@ WhyHere b tail (Some Done) = (tail ≡ []) × (b.left ≡ [])
 WhyHere b tail (Some (BadLine n)) = BeginsBad tail
 WhyHere b tail (Some TooLong) = (x : ℕ) × (xs : List ℕ) × Short tail b.pending (x ∷ xs) × (b.taken ≡ 16777216)
 WhyHere b tail (Some SourceFault) = Short tail b.pending b.left
-WhyHere b tail (Some Unbuilt) = BeginsUnbuilt tail
 WhyHere b tail _ = ⊥
 
 -- a run came to the moment after these calls, or the board failed in them

@@ -37,8 +37,6 @@ pub(crate) enum Ending {
     Damaged(u32),
     /// The check left fewer than two free blocks.
     Tight(u32),
-    /// A call needs what this build doesn't have.
-    Unbuilt,
     /// A page doesn't read as what was written there.
     Differ(Differ),
 }
@@ -64,7 +62,6 @@ impl Ending {
             Ending::TooLong => 11,
             Ending::Damaged(_) => 12,
             Ending::Tight(_) => 14,
-            Ending::Unbuilt => 16,
             Ending::Differ(_) => 21,
         }
     }
@@ -156,7 +153,6 @@ fn put_closing(line: &mut Closing, ending: Ending)
         Ending::TooLong => put(line, b"! script longer than 16777216 bytes"),
         Ending::Damaged(count) => put_count(line, b"! damaged ", u64::from(count)),
         Ending::Tight(free) => put_count(line, b"! free blocks ", u64::from(free)),
-        Ending::Unbuilt => put(line, b"! unbuilt"),
         Ending::Differ(differ) => put_differ(line, differ),
     }
 }

@@ -1,14 +1,15 @@
-ghost use Rattle.std.specs.Prelude.{◌≡◌, ◌≢◌, length, min, replicate, IfOk, IfErr, OnOk, Err, None, true};
+ghost use Rattle.std.specs.Prelude.{◌≡◌, ◌≢◌, length, min, IfOk, IfErr, OnOk, Err, None, true};
 ghost use Rattle.geometry.specs.Numbers.{write_refusal};
 ghost use Rattle.nor_core.specs.Count.{Rose};
 ghost use Rattle.nor_core.specs.Device.{Changes};
-ghost use Rattle.fd_table.specs.Slots.{descriptors};
 ghost use Rattle.vol_mount.specs.Mounts.{IsLate};
 ghost use Rattle.vol_check.specs.Checks.{IsWritable};
+ghost use Rattle.volume.specs.Holds.{memory};
 ghost use Rattle.volume.specs.Stages.{takes_calls};
 ghost use Rattle.volume.specs.Same.{IsSameVolume};
 ghost use Rattle.tool_core.specs.Later.{IsLater};
 ghost use Rattle.tool_core.specs.Mounting.{Checks, Reported, StopsCheck, mount_ends, check_ends};
+ghost use Rattle.tool_core.specs.Outcomes.{closed_memory};
 
 use crate::ending::Ending;
 use nor_core::{Board, Nor, NorState};
@@ -55,7 +56,7 @@ pub(crate) fn mount_and_check<B: Board>(volume: &mut Volume<'_, B>) -> Result<Re
     ensures no_script { ¬ (result ≡ Err Ending.SourceFault) }
     ensures cause { result ≡ Err Ending.BoardFault → Rose (B.faults volume.old.nor.now) (B.faults volume.new.nor.now) }
     ensures taken { OnOk result (takes_calls volume.new ≡ true) }
-    ensures closed { OnOk result (descriptors volume.new.slots.now ≡ replicate (min 65535 (length volume.old.slots.now)) None) }
+    ensures closed { OnOk result (memory volume.new ≡ closed_memory (min 65535 (length volume.old.slots.now))) }
     ensures same { IsSameVolume volume.old volume.new }
     ensures changes { Changes B.NorState volume.old.nor.now volume.new.nor.now (Checks volume.old.geometry) }
     ensures reported { B.tells volume.old.nor.now → IfOk result (Reported volume.old.geometry (B.bytes volume.old.nor.now) (B.bytes volume.new.nor.now)) }

@@ -1,8 +1,10 @@
-ghost use Rattle.std.specs.Prelude.{ℕ, ◌≡◌, ◌*◌, ◌≤◌, length, min, replicate, IfErr, OnOk, Err, Some, None, true};
+ghost use Rattle.std.specs.Prelude.{ℕ, ◌≡◌, ◌*◌, ◌≤◌, ◌⊎◌, length, min, IfErr, OnOk, Err, Some, None, true};
 ghost use Rattle.geometry.specs.Numbers.{write_refusal, work_need, cache_need, check_need};
 ghost use Rattle.nor_core.specs.Count.{Rose};
 ghost use Rattle.nor_core.specs.Device.{Changes, Leaves};
-ghost use Rattle.fd_table.specs.Slots.{descriptors};
+ghost use Rattle.table_model.specs.Room.{has_room};
+ghost use Rattle.image_model.specs.Tables.{table_of};
+ghost use Rattle.volume.specs.Holds.{memory};
 ghost use Rattle.volume.specs.Stages.{takes_calls};
 ghost use Rattle.volume.specs.Same.{IsSameVolume};
 ghost use Rattle.tool_core.specs.Begins.{Begun, StopsRun};
@@ -10,11 +12,12 @@ ghost use Rattle.tool_core.specs.Fits.{IsFitting, HasLengths};
 ghost use Rattle.tool_core.specs.Later.{IsLater, IsLaterStatus};
 ghost use Rattle.tool_core.specs.Lent.{lengths_of};
 ghost use Rattle.tool_core.specs.Mounting.{Checks};
-ghost use Rattle.tool_core.specs.Outcomes.{RunsTo, Refused, EndsByImages, first_moment};
+ghost use Rattle.tool_core.specs.Outcomes.{RunsTo, Refused, EndsByImages, first_moment, closed_memory};
 ghost use Rattle.tool_core.specs.Reads.{ReadsOnce};
 ghost use Rattle.tool_core.specs.Refusals.{check_refusal};
 ghost use Rattle.tool_core.specs.Running.{DoesRun};
 ghost use Rattle.tool_core.specs.Runs.{StandsBy};
+ghost use Rattle.tool_core.specs.Settling.{Settling, settled_as};
 
 use crate::buffers::Buffers;
 use crate::ending::{Ending, conclude};
@@ -22,21 +25,36 @@ use crate::mounting::mount_and_check;
 use crate::script::run_script;
 use geometry::Geometry;
 use nor_core::{Board, Nor, NorState, Source};
+use table_model::FsErr;
 use vol_mount::Lent;
 use volume::Volume;
 
-// Settles a volume at the end of a run.
+// How a run ends whose volume was settled so.
+fn settled_ending(ending: Ending, last: Result<(), FsErr>) -> Ending
+    ensures ends { result ≡ settled_as ending last }
+    ensures later { IsLater ending → IsLater result }
+    ensures no_script { result ≡ Ending.SourceFault → ending ≡ Ending.SourceFault }
+{
+    match last {
+        Ok(()) => ending,
+        Err(FsErr::Damaged(differ)) => Ending::Differ(differ),
+        Err(FsErr::Tight) => Ending::Tight(0),
+        Err(_) => Ending::BoardFault,
+    }
+}
+
+// Puts the written bytes that wait onto the chip at the end of a run, and says how it ends then.
 fn settle<B: Board>(volume: &mut Volume<'_, B>, ending: Ending) -> Ending
     requires { StandsBy (Some ending) (takes_calls volume.old) }
-    ensures ending { result ≡ ending }
-    ensures same { volume.new ≡ volume.old }
+    ensures later { IsLater ending → IsLater result }
+    ensures no_script { result ≡ Ending.SourceFault → ending ≡ Ending.SourceFault }
+    ensures cause { result ≡ Ending.BoardFault → (ending ≡ Ending.BoardFault) ⊎ Rose (B.faults volume.old.nor.now) (B.faults volume.new.nor.now) }
+    ensures same { IsSameVolume volume.old volume.new }
+    ensures settles { Settling B.NorState volume.old.geometry volume.old.nor.now volume.new.nor.now (memory volume.old) (memory volume.new) ending result }
 {
-    if matches!(ending, Ending::BoardFault | Ending::Differ(_)) {
-        return ending;
-    }
-    match volume.settle() {
-        Ok(()) => ending,
-        Err(_) => Ending::BoardFault,
+    match ending {
+        Ending::BoardFault | Ending::Differ(_) => ending,
+        _ => settled_ending(ending, volume.settle()),
     }
 }
 
@@ -47,7 +65,7 @@ fn begin<B: Board>(volume: &mut Volume<'_, B>) -> Result<(), Ending>
     ensures no_script { ¬ (result ≡ Err Ending.SourceFault) }
     ensures cause { result ≡ Err Ending.BoardFault → Rose (B.faults volume.old.nor.now) (B.faults volume.new.nor.now) }
     ensures taken { OnOk result (takes_calls volume.new ≡ true) }
-    ensures closed { OnOk result (descriptors volume.new.slots.now ≡ replicate (min 65535 (length volume.old.slots.now)) None) }
+    ensures closed { OnOk result (memory volume.new ≡ closed_memory (min 65535 (length volume.old.slots.now))) }
     ensures same { IsSameVolume volume.old volume.new }
     ensures changes { Changes B.NorState volume.old.nor.now volume.new.nor.now (Checks volume.old.geometry) }
     ensures begun { B.tells volume.old.nor.now → OnOk result (Begun volume.old.geometry (B.bytes volume.old.nor.now) (B.bytes volume.new.nor.now)) }
@@ -79,9 +97,9 @@ fn run_volume<B: Board, S: Source>(
     ensures same { IsSameVolume volume.old volume.new }
     ensures script_faults { S.faults script.old ≤ S.faults script.new }
     ensures script_cause { result ≡ Ending.SourceFault → Rose (S.faults script.old) (S.faults script.new) }
-    ensures ends { (slots : ℕ) → descriptors volume.old.slots.now ≡ replicate slots None → S.tells script.old → B.tells volume.old.nor.now → RunsTo B.NorState volume.old.geometry volume.old.nor.now volume.new.nor.now (first_moment volume.old.geometry slots (B.bytes volume.old.nor.now)) (S.left script.old) (S.left script.new) result }
+    ensures ends { (slots : ℕ) → memory volume.old ≡ closed_memory slots → S.tells script.old → B.tells volume.old.nor.now → has_room volume.old.geometry (table_of volume.old.geometry (B.bytes volume.old.nor.now)) ≡ true → RunsTo B.NorState volume.old.geometry volume.old.nor.now volume.new.nor.now (first_moment volume.old.geometry slots (B.bytes volume.old.nor.now)) (S.left script.old) (S.left script.new) result }
     ensures refused { B.tells volume.old.nor.now → (ending : Ending) → check_refusal volume.old.geometry (B.bytes volume.old.nor.now) ≡ Some ending → Refused B.NorState volume.old.nor.now volume.new.nor.now ending result }
-    ensures begins { (slots : ℕ) → descriptors volume.old.slots.now ≡ replicate slots None → B.tells volume.old.nor.now → EndsByImages volume.old.geometry (B.bytes volume.old.nor.now) (B.bytes volume.new.nor.now) result }
+    ensures begins { (slots : ℕ) → memory volume.old ≡ closed_memory slots → B.tells volume.old.nor.now → EndsByImages volume.old.geometry (B.bytes volume.old.nor.now) (B.bytes volume.new.nor.now) result }
     ensures goes { Leaves B.NorState volume.old.nor.now volume.new.nor.now (λ image count. Unit {0}) }
 {
     match begin(volume) {
@@ -113,7 +131,7 @@ fn run<'b, B: Board, S: Source>(
     ensures board_faults { B.faults board.old ≤ B.faults board.new }
     ensures board_cause { result ≡ Ending.BoardFault → Rose (B.faults board.old) (B.faults board.new) }
     ensures few { ReadsOnce B.NorState g (length lent.entry.cache.now) board.old board.new }
-    ensures ends { S.tells script.old → B.tells board.old → RunsTo B.NorState g board.old board.new (first_moment g (min 65535 (length lent.entry.slots.now)) (B.bytes board.old)) (S.left script.old) (S.left script.new) result }
+    ensures ends { S.tells script.old → B.tells board.old → has_room g (table_of g (B.bytes board.old)) ≡ true → RunsTo B.NorState g board.old board.new (first_moment g (min 65535 (length lent.entry.slots.now)) (B.bytes board.old)) (S.left script.old) (S.left script.new) result }
     ensures refused { B.tells board.old → (ending : Ending) → check_refusal g (B.bytes board.old) ≡ Some ending → Refused B.NorState board.old board.new ending result }
     ensures begins { B.tells board.old → EndsByImages g (B.bytes board.old) (B.bytes board.new) result }
     ensures goes { Leaves B.NorState board.old board.new (λ image count. Unit {0}) }

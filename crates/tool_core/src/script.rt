@@ -16,7 +16,7 @@ ghost use Rattle.tool_core.specs.Runs.{Ran, Works};
 ghost use Rattle.tool_core.specs.Turns.{DidLine, OneMore, Turned, at_run};
 ghost use Rattle.tool_core.specs.Outcomes.{RunEnds};
 
-use crate::call::{READ, apply};
+use crate::call::{BYTES, apply};
 use crate::ending::Ending;
 use crate::lines::{LIMIT, LINE, Lines};
 use call_script::{parse_line, reply_text};
@@ -51,7 +51,7 @@ fn answer<B: Board>(
     let Some(call) = parsed else {
         return None;
     };
-    let mut lent = [0u8; READ];
+    let mut lent = [0u8; BYTES];
     match apply(volume, &call, &mut lent) {
         Ok(told) => say_reply(volume, &told.reply(&lent), scratch),
         Err(ending) => Some(ending),
@@ -74,7 +74,7 @@ fn say_reply<B: Board>(
     ensures fault { IfSome result (λ ending. ending ≡ Ending.BoardFault) }
     ensures says { Says B.NorState volume.old.nor.now volume.new.nor.now (text (answered reply.now)) }
     ensures cuts { Leaves B.NorState volume.old.nor.now volume.new.nor.now (InSay B.NorState volume.old.nor.now (text (answered reply.now))) }
-    ensures slots { volume.new.slots.now ≡ volume.old.slots.now }
+    ensures memory { memory volume.new ≡ memory volume.old }
     ensures done { B.tells volume.old.nor.now → IfNone result (B.said volume.new.nor.now ≡ B.said volume.old.nor.now ++ text (answered reply.now)) }
 {
     let length = reply_text(reply, into);

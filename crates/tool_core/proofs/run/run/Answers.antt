@@ -11,11 +11,11 @@ returns-clause-few g c =
     reads_as _ (reads_once _ _ _ here made.empty made.cache_size) (search rules)
 
 pub returns-clause-ends : goal.returns-clause-ends
-returns-clause-ends g c = λ script tells.
+returns-clause-ends g c = λ script tells room.
     let made = c.new-volume.ensures in
     let ends = c.run_volume.ensures.ends _ made.closed in
     let here = rw (made.geometry, made.nor) at ends in
-    runs_as _ _ (search rules) (here script tells)
+    runs_as _ _ (search rules) (here script tells room)
 
 pub returns-clause-begins : goal.returns-clause-begins
 returns-clause-begins g c = λ tells.

@@ -1,15 +1,17 @@
-use Rattle.std.proofs.Common.{refl}
+use Rattle.std.proofs.Common.{◌∙◌, ap, arith, ⊎_elim, Some}
+use Rattle.volume.specs.Holds.{memory}
 use Rattle.tool_core.proofs.Beginning.{memory_begun, begun_ends, early_ends, early_refused}
 use Rattle.tool_core.proofs.Refusals.{not_both}
+use Rattle.tool_core.proofs.Settling.{works_settled}
 use Rattle.tool_core.proofs.Working.{goes_of, early_images, begun_images}
 use Rattle.nor_core.proofs.Cuts.{andthen}
 use Rattle.tool_core.proofs.run.run_volume.Goals as goal
 
 pub returns-in-Err-clause-ends : goal.returns-in-Err-clause-ends
-returns-in-Err-clause-ends g c = λ slots closed script tells. early_ends slots (g.S.Source.left c.args.script.now) (g.S.Source.left c.args.script.now) c.in-Err.ending c.begin.ensures.changes tells (c.in-Err.ensures.stops tells)
+returns-in-Err-clause-ends g c = λ slots closed script tells room. early_ends slots (g.S.Source.left c.args.script.now) (g.S.Source.left c.args.script.now) c.in-Err.ending c.begin.ensures.changes tells (c.in-Err.ensures.stops tells)
 
 pub returns-in-Ok-clause-ends : goal.returns-in-Ok-clause-ends
-returns-in-Ok-clause-ends g c = λ slots closed script tells. rw c.settle.ensures.same (rw c.settle.ensures.ending (begun_ends slots (g.S.Source.left c.args.script.now) (g.S.Source.left c.run_script-ending.new.script) c.run_script-ending.result (memory_begun c.args.volume.now c.begin.new.volume slots c.in-Ok.ensures.closed closed) refl c.begin.ensures.changes tells (c.in-Ok.ensures.begun tells) c.begin.new.volume.geometry c.begin.ensures.same.geometry (λ m stands. c.run_script-ending.ensures.ends m script stands)))
+returns-in-Ok-clause-ends g c = λ slots closed script tells room. begun_ends (memory c.settle.new.volume) slots (g.S.Source.left c.args.script.now) (g.S.Source.left c.run_script-ending.new.script) c.run_script-ending.result c.settle.result (memory_begun c.args.volume.now c.begin.new.volume slots c.in-Ok.ensures.closed closed) c.begin.ensures.changes tells room (c.in-Ok.ensures.begun tells) c.begin.new.volume.geometry c.run_script-ending.new.volume.geometry c.begin.ensures.same.geometry (c.run_script-ending.ensures.same.geometry ∙ c.begin.ensures.same.geometry) (λ m stands. c.run_script-ending.ensures.ends m script stands) c.settle.ensures.settles
 
 pub returns-in-Err-clause-refused : goal.returns-in-Err-clause-refused
 returns-in-Err-clause-refused g c = λ tells ending is. early_refused ending c.in-Err.ending c.begin.ensures.changes tells is (c.in-Err.ensures.stops tells)
@@ -24,7 +26,13 @@ pub returns-in-Err-clause-goes : goal.returns-in-Err-clause-goes
 returns-in-Err-clause-goes g c = goes_of c.begin.ensures.changes.cuts
 
 pub returns-in-Ok-clause-begins : goal.returns-in-Ok-clause-begins
-returns-in-Ok-clause-begins g c = λ slots closed tells. rw c.settle.ensures.same (rw c.settle.ensures.ending (begun_images slots c.run_script-ending.result c.begin.new.volume.geometry c.begin.ensures.same.geometry (memory_begun c.args.volume.now c.begin.new.volume slots c.in-Ok.ensures.closed closed) c.begin.ensures.changes tells (c.in-Ok.ensures.begun tells) c.run_script-ending.ensures.works))
+returns-in-Ok-clause-begins g c = λ slots closed tells. begun_images slots c.settle.result c.begin.new.volume.geometry c.begin.ensures.same.geometry (memory_begun c.args.volume.now c.begin.new.volume slots c.in-Ok.ensures.closed closed) c.begin.ensures.changes tells (c.in-Ok.ensures.begun tells) (works_settled c.run_script-ending.result c.run_script-ending.new.volume.geometry c.run_script-ending.ensures.same.geometry c.run_script-ending.ensures.works c.settle.ensures.settles)
 
 pub returns-in-Ok-clause-goes : goal.returns-in-Ok-clause-goes
-returns-in-Ok-clause-goes g c = rw c.settle.ensures.same (andthen (goes_of c.begin.ensures.changes.cuts) c.run_script-ending.ensures.works.goes)
+returns-in-Ok-clause-goes g c = andthen (goes_of c.begin.ensures.changes.cuts) (works_settled c.run_script-ending.result c.run_script-ending.new.volume.geometry c.run_script-ending.ensures.same.geometry c.run_script-ending.ensures.works c.settle.ensures.settles).goes
+
+pub returns-in-Ok-clause-cause : goal.returns-in-Ok-clause-cause
+returns-in-Ok-clause-cause g c = λ is. ⊎_elim
+    (λ before. let rose = c.run_script-ending.ensures.ran.cause (ap Some before) in omega (arith, rose, c.begin.ensures.same.faults, c.settle.ensures.same.faults))
+    (λ rose. omega (arith, rose, c.begin.ensures.same.faults, c.run_script-ending.ensures.same.faults))
+    (c.settle.ensures.cause is)

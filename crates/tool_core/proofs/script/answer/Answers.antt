@@ -1,4 +1,4 @@
-use Rattle.std.proofs.Common.{◌≡◌, sym, refl, rules, Some}
+use Rattle.std.proofs.Common.{◌≡◌, sym, refl, rules}
 use Rattle.volume.specs.Holds.{memory}
 use Rattle.table_model.specs.Ask.{asked}
 use Rattle.call_script.specs.Lines.{of_line, NoCall, Asks, Bad}
@@ -6,7 +6,7 @@ use Rattle.run_model.proofs.Chain.{reached_none}
 use Rattle.run_model.proofs.OneCall.{call_cut, reply_cut}
 use Rattle.tool_core.proofs.LineWork.{no_call, one_call, none_good, same_cut, same_reached}
 use Rattle.tool_core.proofs.OneLine.{reply_did, stop_did}
-use Rattle.tool_core.proofs.Working.{works_line, works_none, works_end}
+use Rattle.tool_core.proofs.Working.{works_stop, works_reply, works_none, works_end}
 use Rattle.tool_core.specs.declared.ending.Ending.TheVariants.{BadLine}
 use Rattle.tool_core.proofs.script.answer.Goals as goal
 
@@ -31,7 +31,7 @@ returns-in-Ok-apply-clause-did g c = λ m stands.
     let ask = asked c.in-Some.call in
     let p : Asks ask ≡ of_line c.args.line.now = search rules in
     let ok = c.in-Ok-apply.ensures.does.answers m stands in
-    rw c.say_reply.ensures.slots (reply_did c.say_reply.result c.args.line.now c.args.number ask (sym p) (c.apply.ensures.does.changes m) ok (rw c.reply.ensures.shows at c.say_reply.ensures.says) (rw c.reply.ensures.shows at c.say_reply.ensures.cuts) c.say_reply.ensures.fault ((rw c.reply.ensures.shows at c.say_reply.ensures.done) ok.stands.stands.tells))
+    rw c.say_reply.ensures.memory (reply_did c.say_reply.result c.args.line.now c.args.number ask (sym p) (c.apply.ensures.does.changes m) ok (rw c.reply.ensures.shows at c.say_reply.ensures.says) (rw c.reply.ensures.shows at c.say_reply.ensures.cuts) c.say_reply.ensures.fault ((rw c.reply.ensures.shows at c.say_reply.ensures.done) ok.stands.stands.tells))
 
 pub returns-in-Err-clause-leaves : goal.returns-in-Err-clause-leaves
 returns-in-Err-clause-leaves g c = λ m.
@@ -43,7 +43,7 @@ pub returns-in-Err-clause-did : goal.returns-in-Err-clause-did
 returns-in-Err-clause-did g c = λ m stands.
     let ask = asked c.in-Some.call in
     let p : Asks ask ≡ of_line c.args.line.now = search rules in
-    stop_did c.in-Err.ending (memory c.apply.new.volume) c.args.line.now c.args.number ask (sym p) (c.apply.ensures.does.changes m) (c.in-Err.ensures.does.stops m stands) stands
+    stop_did c.in-Err.ending (memory c.apply.new.volume) c.args.line.now c.args.number ask (sym p) (c.apply.ensures.does.changes m) (c.in-Err.ensures.does.stops m stands)
 
 pub returns-in_default-clause-works : goal.returns-in_default-clause-works
 returns-in_default-clause-works g c = works_end (BadLine c.args.number) c.args.volume.now.nor.now (memory c.args.volume.now) (λ here. here)
@@ -52,7 +52,7 @@ pub returns-in_default-parsed-clause-works : goal.returns-in_default-parsed-clau
 returns-in_default-parsed-clause-works g c = works_none c.args.volume.now.nor.now (memory c.args.volume.now)
 
 pub returns-in-Ok-apply-clause-works : goal.returns-in-Ok-apply-clause-works
-returns-in-Ok-apply-clause-works g c = works_line c.say_reply.result c.args.line.now c.args.number (returns-in-Ok-apply-clause-leaves g c) (returns-in-Ok-apply-clause-did g c)
+returns-in-Ok-apply-clause-works g c = rw c.say_reply.ensures.memory (works_reply c.say_reply.result c.in-Ok-apply.ensures.does c.say_reply.ensures.says c.say_reply.ensures.cuts c.say_reply.ensures.fault)
 
 pub returns-in-Err-clause-works : goal.returns-in-Err-clause-works
-returns-in-Err-clause-works g c = works_line (Some c.in-Err.ending) c.args.line.now c.args.number (returns-in-Err-clause-leaves g c) (returns-in-Err-clause-did g c)
+returns-in-Err-clause-works g c = works_stop c.in-Err.ending c.in-Err.ensures.does
