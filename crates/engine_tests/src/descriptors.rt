@@ -69,8 +69,13 @@ fn an_opening_makes_a_file_and_a_remove_closes_it(rt: HostRuntime) -> Result<(),
     );
     assert_eq!(rt; volume.remove(b"new"), Ok(()));
     assert_eq!(rt; volume.tell(1), Err(FsErr::BadDescriptor));
-    assert_eq!(rt; volume.open_file(b"ba", 26), Err(FsErr::Unbuilt));
-    assert_eq!(rt; volume.open_file(b"ba", 8), Ok(1));
+    assert_eq!(rt; volume.open_file(b"ba", 10), Err(FsErr::BadFlags));
+    assert_eq!(rt; volume.open_file(b"ba", 26), Ok(1));
+    assert!(rt;
+        volume
+            .fstat(1)
+            .is_ok_and(|stat| stat.id == 1 && stat.size == 0)
+    );
     assert_eq!(rt; volume.fremove(1), Ok(()));
     assert_eq!(rt; volume.tell(1), Err(FsErr::BadDescriptor));
     assert!(rt; matches!(volume.next(0), Ok(None)));
@@ -102,7 +107,12 @@ fn a_call_tells_the_bytes_that_it_lent(rt: HostRuntime) -> Result<(), Fail> {
     assert!(rt; matches!(volume.answer(&read, &mut into), Told::Bytes(202)));
     assert!(rt; matches!(volume.answer(&Call::Gc, &mut []), Told::Done));
     let cut = Call::Truncate { fd: 1, size: 0 };
-    assert!(rt; matches!(volume.answer(&cut, &mut []), Told::Refusal(FsErr::Unbuilt)));
+    assert!(rt;
+        matches!(
+            volume.answer(&cut, &mut []),
+            Told::Refusal(FsErr::NotWritable)
+        )
+    );
     Ok(())
 }
 

@@ -24,6 +24,8 @@ mod pages;
 mod shapes;
 #[cfg(test)]
 mod tables;
+#[cfg(test)]
+mod writing;
 
 /// How many images of each geometry are drawn.
 pub const IMAGES: u64 = 6;

@@ -1,5 +1,6 @@
 //! Garbage that is collected in calls, in `gc` and by the check.
-use crate::bench::{LEN, Told, board_of, formatted, large, on, on_board, sized, small};
+use crate::bench::{LEN, board_of, formatted, large, on, on_board, sized, small};
+use crate::cutting::{Cutting, Kept};
 use crate::images::{Ends, Place, Sized, empty, filled, letters, put_page, put_whole};
 use crate::mixed::flat_of;
 use crate::random::{Both, add, add_named, agrees};
@@ -8,7 +9,6 @@ use geometry::Geometry;
 use image_plain::Record;
 use nor_core::{CallKind, draw};
 use std::alloc::Global;
-use std::process::Abort;
 use std::test::Fail;
 use table_model::Call;
 
@@ -250,7 +250,7 @@ fn a_check_in_order_asks_for_no_program_and_no_erase(rt: HostRuntime) -> Result<
 // Six blocks of seven entry pages, of which two are free. The first has the header pages of two files with bytes and of so many empty
 // ones, and else deleted entries; the second has three deleted entries and the data pages of the first file, the third and a part of the fourth
 // those of the second one.
-fn crowded(alloc: Global, empties: usize) -> Result<Vec<u8>, Fail> {
+pub(crate) fn crowded(alloc: Global, empties: usize) -> Result<Vec<u8>, Fail> {
     let g = small()?;
     let mut image = empty(alloc, &g)?;
     let mut ends = Ends::new(1);
@@ -279,67 +279,33 @@ fn crowded(alloc: Global, empties: usize) -> Result<Vec<u8>, Fail> {
     Ok(image)
 }
 
-// How a program is cut: nothing is done, some of its bits are, and all.
-const PICKS: [u64; 5] = [0, 2, 3, 4, 1];
-
-// What a line leaves of an image where the power is cut.
-fn cut(alloc: Global, image: &[u8], line: &str, passed: u64, pick: u64) -> Result<Told, Fail> {
+// A line on that volume, which is to be cut.
+fn cutting(alloc: Global, files: &[Sized], line: &str, call: &Call<'_>) -> Result<Cutting, Fail> {
     let g = small()?;
-    let mut board = board_of(alloc, image, g.phys)?;
-    board.cut_after(passed, pick);
-    on_board(alloc, "run", &g, board, line)
+    let image = crowded(alloc, files.len().saturating_sub(2))?;
+    let mut cutting = Cutting::on(alloc, &g, image, flat_of(alloc, &g, files)?)?;
+    cutting.add(line, call, Kept::All)?;
+    Ok(cutting)
 }
 
-// A script that tells all files and their bytes.
-const READS: &str =
-    "next 0\nnext 1\nnext 2\nnext 3\nnext 4\nnext 5\nnext 6\nopen a 8\nread 1 1024\nopen b 8\nread 2 1024\nread 2 1024\n";
+// The files of that volume without empty ones, and with three.
+const PAIR: [Sized; 2] = [(b"a", 400), (b"b", 1200)];
 
-// What a run on an image says of its files, after the check that begins it.
-fn shown(alloc: Global, image: &[u8]) -> Result<Told, Fail> {
-    on(alloc, "run", &small()?, image, READS)
-}
-
-// Whether the check of a run brings what a cut line left into order: then the files are those before the line, or those after it, and
-// these where its reply was said, and two blocks are free.
-fn recovers(alloc: Global, ran: &Told, before: &[u8], after: &[u8]) -> Result<bool, Fail> {
-    let left = shown(alloc, &ran.image)?;
-    let said = left.said.as_slice();
-    let is_told = ran.said.as_slice() == b"ok\n".as_slice();
-    let is_before = said == before && !is_told;
-    let free = spare_blocks(&small()?, &left.image).unwrap_or(0);
-    Ok(ran.status == 7 && left.status == 0 && free >= 2 && (is_before || said == after))
-}
-
-// Cuts a line at each program, each erase and its reply, and answers how many these are.
-fn cut_each(rt: &impl Abort, alloc: Global, image: &[u8], line: &str) -> Result<u64, Fail> {
-    let g = small()?;
-    let before = shown(alloc, image)?.said;
-    let whole = on(alloc, "run", &g, image, line)?;
-    assert!(rt; whole.is(0, "ok\n"), "{line}");
-    let after = shown(alloc, &whole.image)?.said;
-    let mut last = Vec::new(alloc);
-    for step in 0..1000u64 {
-        let (passed, pick) = (step / 5, PICKS[(step % 5) as usize]);
-        let ran = cut(alloc, image, line, passed, pick)?;
-        if ran.status == 0 {
-            return Ok(passed);
-        }
-        if last.as_slice() != ran.image.as_slice() || !ran.said.is_empty() {
-            let is = recovers(alloc, &ran, &before, &after)?;
-            assert!(rt; is, "{line} at {passed} by {pick}");
-        }
-        last = ran.image;
-    }
-    Ok(0)
-}
+const CROWD: [Sized; 5] = [
+    (b"a", 400),
+    (b"b", 1200),
+    (b"e3", 0),
+    (b"e4", 0),
+    (b"e5", 0),
+];
 
 #[test]
 fn a_cut_gc_leaves_the_files_and_two_free_blocks(rt: HostRuntime) -> Result<(), Fail> {
-    let alloc = rt.alloc();
+    let cutting = cutting(rt.alloc(), &PAIR, "gc", &Call::Gc)?;
     // two index pages are moved, then four data pages in two batches, then the index pages of the block in which these renewed one; each block
     // is made fresh
     let calls = (12 + 3) + (24 + 12 + 3) + (12 + 3) + 1;
-    assert_eq!(rt; cut_each(&rt, alloc, &crowded(alloc, 0)?, "gc\n")?, calls);
+    assert_eq!(rt; cutting.cut_each(&rt, 30, 1)?, calls);
     Ok(())
 }
 
@@ -347,77 +313,49 @@ fn a_cut_gc_leaves_the_files_and_two_free_blocks(rt: HostRuntime) -> Result<(), 
 fn a_cut_create_that_collects_leaves_the_files_and_two_free_blocks(
     rt: HostRuntime,
 ) -> Result<(), Fail> {
-    let alloc = rt.alloc();
+    let create = Call::Create { name: b"new" };
     // two index pages are moved, or four data pages in two batches; the block is made fresh, and the file is made
-    for (empties, calls) in [(0, 12 + 3 + 5), (3, 24 + 12 + 3 + 5)] {
-        let image = crowded(alloc, empties)?;
-        let found = cut_each(&rt, alloc, &image, "create new\n")?;
-        assert_eq!(rt; found, calls, "beside {empties} files");
+    for (files, all, calls) in [
+        (PAIR.as_slice(), 512, 12 + 3 + 5),
+        (CROWD.as_slice(), 0, 24 + 12 + 3 + 5),
+    ] {
+        let cutting = cutting(rt.alloc(), files, "create new", &create)?;
+        let found = cutting.cut_each(&rt, all, 1)?;
+        assert_eq!(rt; found, calls, "beside {} files", files.len());
     }
     Ok(())
-}
-
-// Whether files are as they were in an image, after a check that may leave fewer than two free blocks.
-fn are_left(alloc: Global, image: &[u8], before: &[u8]) -> Result<bool, Fail> {
-    let g = small()?;
-    let left = shown(alloc, image)?;
-    if left.status == 14 {
-        let files = table(alloc, &g, before)?;
-        return Ok(are_same(&files, &table(alloc, &g, &left.image)?));
-    }
-    Ok(left.status == 0 && left.said.as_slice() == shown(alloc, before)?.said.as_slice())
-}
-
-// Cuts a check of what a cut line left, at each program and erase, and answers how many these are. The files stay.
-fn cut_recovery(rt: &impl Abort, alloc: Global, image: &[u8]) -> Result<u64, Fail> {
-    let g = small()?;
-    for passed in 0..200u64 {
-        let mut board = board_of(alloc, image, g.phys)?;
-        board.cut_after(passed, passed % 5);
-        let half = on_board(alloc, "check", &g, board, "")?;
-        if half.status == 0 {
-            return Ok(passed);
-        }
-        let are = are_left(alloc, &half.image, image)?;
-        assert!(rt; half.status == 7 && are, "at {passed}");
-    }
-    Ok(0)
 }
 
 #[test]
 fn a_recovery_of_a_cut_cleaning_that_is_cut_too_leaves_the_files(
     rt: HostRuntime,
 ) -> Result<(), Fail> {
-    let alloc = rt.alloc();
-    let image = crowded(alloc, 3)?;
-    let files = shown(alloc, &image)?.said;
+    let create = Call::Create { name: b"new" };
+    let cutting = cutting(rt.alloc(), &CROWD, "create new", &create)?;
     // in the third copy, in the new index page, in the second batch, in the erase, and in the magic
-    let mut most = 0;
-    for passed in [9, 15, 28, 36, 38] {
-        let ran = cut(alloc, &image, "create new\n", passed, 3)?;
-        assert!(rt;
-            shown(alloc, &ran.image)?.said.as_slice() == files.as_slice(),
-            "at {passed}"
-        );
-        most = most.max(cut_recovery(&rt, alloc, &ran.image)?);
-    }
+    let most = cutting.recoveries(&rt, &[9, 15, 28, 36, 38])?;
     assert!(rt; most > 20, "{most}");
     Ok(())
 }
 
-// A random script of creates, removes and some others on a few names, beside files that are there.
-fn drawn(alloc: Global, g: &Geometry, files: &[Sized], seed: u64) -> Result<Both, Fail> {
+// A random script of so many creates, removes and some others on a few names, beside files that are there.
+fn drawn(
+    alloc: Global,
+    g: &Geometry,
+    files: &[Sized],
+    seed: u64,
+    calls: usize,
+) -> Result<Both, Fail> {
     let mut x = seed;
-    let mut flat = flat_of(alloc, g, files)?;
-    let mut both = Both::new(alloc);
-    for _ in 0..150 {
+    let mut both = Both::new(alloc, flat_of(alloc, g, files)?);
+    for _ in 0..calls {
         let number = 4 + draw(&mut x) % 8;
         match draw(&mut x) % 16 {
-            0..=6 => add_named(alloc, &mut both, &mut flat, number, "create")?,
-            7..=12 => add_named(alloc, &mut both, &mut flat, number, "remove")?,
-            13 => add_named(alloc, &mut both, &mut flat, number, "stat")?,
-            14 => add(&mut both, &mut flat, b"info", &Call::GetInfo)?,
-            _ => add(&mut both, &mut flat, b"gc", &Call::Gc)?,
+            0..=6 => add_named(alloc, &mut both, number, "create")?,
+            7..=12 => add_named(alloc, &mut both, number, "remove")?,
+            13 => add_named(alloc, &mut both, number, "stat")?,
+            14 => add(&mut both, b"info", &Call::GetInfo)?,
+            _ => add(&mut both, b"gc", &Call::Gc)?,
         };
     }
     Ok(both)
@@ -429,11 +367,11 @@ fn random_scripts_beside_much_data_are_answered_as_the_flat_table_says(
 ) -> Result<(), Fail> {
     let alloc = rt.alloc();
     // the data leaves two or three blocks for index pages
-    for (g, size) in [(small()?, 1700), (large()?, 44000)] {
+    for (g, size, scripts, calls) in [(small()?, 1700, 3u64, 150), (large()?, 44000, 1, 60)] {
         let files: [Sized; 2] = [(b"big", size), (b"f4", 300)];
         let image = filled(alloc, &g, 1, &files)?;
-        for seed in 0..3 {
-            let both = drawn(alloc, &g, &files, seed)?;
+        for seed in 0..scripts {
+            let both = drawn(alloc, &g, &files, seed, calls)?;
             let is = agrees(alloc, &g, &image, &both)?;
             assert_eq!(rt; is, Ok(true), "of script {seed} beside {size}");
         }

@@ -6,6 +6,10 @@ mod bench;
 #[cfg(test)]
 mod collection;
 #[cfg(test)]
+mod cuts;
+#[cfg(test)]
+mod cutting;
+#[cfg(test)]
 mod endings;
 #[cfg(test)]
 mod faults;
@@ -26,9 +30,15 @@ mod remains;
 #[cfg(test)]
 mod renames;
 #[cfg(test)]
+mod rows;
+#[cfg(test)]
 mod tables;
 #[cfg(test)]
-mod unbuilt;
+mod truncates;
+#[cfg(test)]
+mod windows;
+#[cfg(test)]
+mod writes;
 
 /// The status of a command of which everything was done.
 pub const ALL_DONE: u8 = 0;

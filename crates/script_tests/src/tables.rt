@@ -1,9 +1,14 @@
-//! What the plain programs tell of an image.
+//! What the plain programs and a reader tell of an image.
+use crate::bench::board_of;
+use fd_table::FdSlot;
+use flat_plain::{Flat, PlainFile, Said};
 use geometry::Geometry;
 use image_plain::{Record, free_blocks, holds_volume, table_of};
-use nor_core::Failed;
+use nor_core::{Failed, MemBoard};
 use std::alloc::Global;
 use std::test::Fail;
+use table_model::Stat;
+use vol_mount::{Lent, Reader, accept};
 
 /// The files of an image.
 pub(crate) fn table(alloc: Global, g: &Geometry, image: &[u8]) -> Result<Vec<Record>, Fail> {
@@ -11,6 +16,55 @@ pub(crate) fn table(alloc: Global, g: &Geometry, image: &[u8]) -> Result<Vec<Rec
         Err::<(), Failed>(Failed)?;
     }
     Ok(table_of(alloc, g, image)?)
+}
+
+// The file of a record, with its bytes.
+fn file_of(alloc: Global, reader: &mut Reader<'_, MemBoard>, stat: &Stat) -> Result<Record, Fail> {
+    let mut bytes = vec![in alloc; 0u8; stat.size as usize]?;
+    let count = reader.read_at(stat.id, 0, &mut bytes)?;
+    if count != stat.size || bytes.len() > 0x10_0000 {
+        Err::<(), Failed>(Failed)?;
+    }
+    Ok(Record {
+        id: stat.id,
+        name: Vec::from_slice(alloc, stat.name.as_slice())?,
+        kind: stat.kind,
+        meta: Vec::from_slice(alloc, stat.meta.as_slice())?,
+        bytes,
+    })
+}
+
+// The files that a reader tells.
+fn told(alloc: Global, reader: &mut Reader<'_, MemBoard>) -> Result<Vec<Record>, Fail> {
+    let mut files = Vec::new(alloc);
+    let mut after = 0;
+    for _ in 0..100 {
+        let Some(stat) = reader.next(after)? else {
+            break;
+        };
+        after = stat.id;
+        files.push(file_of(alloc, reader, &stat)?)?;
+    }
+    Ok(files)
+}
+
+/// The files of an image, of which there are at most a hundred, by a reader: sooner than by the plain program.
+pub(crate) fn listed(alloc: Global, g: &Geometry, image: &[u8]) -> Result<Vec<Record>, Fail> {
+    let mut board = board_of(alloc, image, g.phys)?;
+    let mut work = vec![in alloc; 0u8; g.work_need() as usize]?;
+    let mut slots = vec![in alloc; FdSlot::empty(); 1]?;
+    let mut cache = vec![in alloc; 0u8; g.cache_need() as usize]?;
+    let mut check = vec![in alloc; 0u8; g.check_need() as usize]?;
+    let lent = Lent {
+        work: &mut work,
+        slots: &mut slots,
+        cache: &mut cache,
+        check: &mut check,
+    };
+    accept(g, &board, &lent)?;
+    let mut reader = Reader::new(*g, &mut board, lent);
+    reader.mount()?;
+    told(alloc, &mut reader)
 }
 
 fn is_same(a: &Record, b: &Record) -> bool {
@@ -32,6 +86,26 @@ pub(crate) fn are_same(a: &[Record], b: &[Record]) -> bool {
         }
     }
     true
+}
+
+fn is_file(record: &Record, file: &PlainFile) -> bool {
+    record.id == file.id
+        && record.kind == file.kind
+        && record.name.as_slice() == file.name.as_slice()
+        && record.meta.as_slice() == file.meta.as_slice()
+        && record.bytes.as_slice() == file.bytes.as_slice()
+}
+
+/// Whether files are those of a flat table.
+pub(crate) fn are_of(files: &[Record], flat: &Flat) -> Result<bool, Fail> {
+    let mut after = 0u16;
+    for record in files {
+        match flat.next(after)? {
+            Said::File(file) if is_file(record, &file) => after = file.id,
+            _ => return Ok(false),
+        }
+    }
+    Ok(matches!(flat.next(after)?, Said::NoMore))
 }
 
 /// How many blocks are free.

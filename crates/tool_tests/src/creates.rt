@@ -117,10 +117,8 @@ next 0
 next 1
 next 2
 info
-write 1 x
-info
 ";
-    assert_eq!(rt; run(rt.alloc(), RUN, &mut board, script)?, 16);
+    assert_eq!(rt; run(rt.alloc(), RUN, &mut board, script)?, 0);
     let said = b"ok
 ok 1 1 0 a
 -10002
@@ -129,7 +127,6 @@ ok 1 1 0 a
 ok 2 1 0 b
 ok none
 ok files 2 index 2 data 0 usable 210
-! unbuilt
 ";
     assert_eq!(rt; board.said(), said.as_slice());
     Ok(())
