@@ -96,16 +96,31 @@ fn is_file(record: &Record, file: &PlainFile) -> bool {
         && record.bytes.as_slice() == file.bytes.as_slice()
 }
 
+// Whether what a flat table said is the file of a record.
+fn tells(said: &Said, record: &Record) -> bool {
+    match said {
+        Said::File(file) => is_file(record, file),
+        _ => false,
+    }
+}
+
+// Whether a flat table said that there is no further file.
+fn is_end(said: &Said) -> bool {
+    matches!(said, Said::NoMore)
+}
+
 /// Whether files are those of a flat table.
 pub(crate) fn are_of(files: &[Record], flat: &Flat) -> Result<bool, Fail> {
     let mut after = 0u16;
     for record in files {
-        match flat.next(after)? {
-            Said::File(file) if is_file(record, &file) => after = file.id,
-            _ => return Ok(false),
+        let said = flat.next(after)?;
+        if !tells(&said, record) {
+            return Ok(false);
         }
+        after = record.id;
     }
-    Ok(matches!(flat.next(after)?, Said::NoMore))
+    let said = flat.next(after)?;
+    Ok(is_end(&said))
 }
 
 /// How many blocks are free.
