@@ -1,7 +1,7 @@
 -- The numbers of refusals.
 use Rattle.std.specs.Prelude.{ℤ, negsuc}
 use Rattle.table_model.specs.declared.error.FsErr.{FsErr}
-use Rattle.table_model.specs.declared.error.FsErr.TheVariants.{Failed, BadName, NameTooLong, BadFlags, BadDescriptor, OutOfDescriptors, NotFound, FileExists, ConflictingName, NotReadable, NotWritable, SeekBounds, Tight, Full, DeviceFault, Damaged, Unbuilt}
+use Rattle.table_model.specs.declared.error.FsErr.TheVariants.{Failed, BadName, NameTooLong, BadFlags, BadDescriptor, OutOfDescriptors, NotFound, FileExists, ConflictingName, NotReadable, NotWritable, SeekBounds, Tight, Full, DeviceFault, Damaged}
 
 -- the number of a refusal: `negsuc n` is -(n + 1)
 abbrev pub number_of : FsErr → ℤ
@@ -21,4 +21,3 @@ number_of Tight = negsuc 11002
 number_of Full = negsuc 10000
 number_of DeviceFault = negsuc 11005
 number_of (Damaged differ) = negsuc 11006
-number_of Unbuilt = negsuc 11007

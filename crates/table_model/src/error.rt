@@ -57,8 +57,6 @@ pub enum FsErr {
     DeviceFault,
     /// A page doesn't read as what was written there.
     Damaged(Differ),
-    /// The call isn't part of this build.
-    Unbuilt,
 }
 
 impl FsErr {
@@ -83,7 +81,6 @@ impl FsErr {
             FsErr::Full => -10001,
             FsErr::DeviceFault => -11006,
             FsErr::Damaged(_) => -11007,
-            FsErr::Unbuilt => -11008,
         }
     }
 }
