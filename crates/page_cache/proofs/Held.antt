@@ -1,12 +1,12 @@
 -- Pages that are held, and how few reads they leave.
-use Rattle.std.proofs.Common.{◌≡◌, ◌≢◌, ℕ, ◌+◌, ◌<◌, ◌≤◌, ◌==◌, Bool, true, false, List, length, refl, sym, ◌∙◌, ap, arith}
+use Rattle.std.proofs.Common.{◌≡◌, ◌≢◌, ℕ, ◌+◌, ◌*◌, ◌<◌, ◌≤◌, ◌==◌, ⊎_elim, Bool, true, false, List, length, refl, sym, ◌∙◌, ap, arith}
 use Rattle.std.proofs.lemmas.Bool.{eq-eqb, eqb-true}
 use Rattle.std.specs.Prelude.{Option, Some, None, is_some, IfSome}
 use Rattle.geometry.specs.declared.geometry.Geometry.{Geometry}
 use Rattle.geometry.specs.Numbers.{page_count}
 use Rattle.nor_core.specs.Count.{Rose}
 use Rattle.nor_core.specs.declared.state.NorState.{Ghosts as NorOf}
-use Rattle.page_cache.specs.Frames.{frame_count, page_in, holds, held, KeepsHeld}
+use Rattle.page_cache.specs.Frames.{frame_count, number_of, page_in, holds, held, KeepsHeld, KeepsAllBut, KeepsOutside, LiesOutside, GivenUp, EachFrame}
 use Rattle.page_cache.specs.Kept.{FewReads}
 use Rattle.page_cache.proofs.Counts.{some_here, some_of, many_most, many_more, many_one_more, many_none}
 use Rattle.page_cache.proofs.Places.{count_same}
@@ -14,6 +14,12 @@ use Rattle.page_cache.proofs.Places.{count_same}
 bool_false : (b : Bool) → (b ≡ true → ⊥) → b ≡ false
 bool_false true none = absurd (none refl)
 bool_false false none = refl
+
+-- a range that meets a page doesn't lie outside it
+meets_not : (at count page number size : ℕ) → number ≡ page → at < number * size + size → number * size < at + count → LiesOutside size at count page → ⊥
+meets_not at count page number size same before_end behind_start outside =
+    let e : number * size ≡ page * size = ap (λ (n : ℕ). n * size) same in
+    ⊎_elim (λ before. absurd (omega (arith, e, before_end, before))) (λ behind. absurd (omega (arith, e, behind_start, behind))) outside
 
 module _ (g : Geometry) where
   -- the frame that holds a page
@@ -50,6 +56,21 @@ module _ (g : Geometry) where
   keeps_but old new f same free others page inside e =
       let w = holder old page e in
       holds_by new w.frame page (omega (arith, w.below, same)) (others w.frame (λ at. omega (arith, inside, free, w.is, ap (page_in g old) at)) ∙ w.is)
+
+  -- one frame may change, and the pages in the others stay
+  pub keeps_others : (old new : List ℕ) (f : ℕ) → frame_count g new ≡ frame_count g old → ((h : ℕ) → h ≢ f → page_in g new h ≡ page_in g old h) → KeepsAllBut g (page_in g old f) old new
+  keeps_others old new f same others page inside another e =
+      let w = holder old page e in
+      holds_by new w.frame page (omega (arith, w.below, same)) (others w.frame (λ at. another (sym w.is ∙ ap (page_in g old) at)) ∙ w.is)
+
+  -- a failed program or erase gives up no page outside its range
+  pub keeps_outside : (at count : ℕ) (old new : List ℕ) → frame_count g new ≡ frame_count g old → EachFrame g (GivenUp g.page at count) old new → KeepsOutside g at count old new
+  keeps_outside at count old new same each page inside outside e =
+      let w = holder old page e in
+      holds_by new w.frame page (omega (arith, w.below, same)) (⊎_elim
+      (λ given. absurd (meets_not at count page (page_in g old w.frame) g.page w.is given.1 given.2 outside))
+      (λ stays. ap number_of stays.0 ∙ w.is)
+      (each w.frame w.below))
 
   -- no page is held where all frames are free
   pub held_none : (frames : List ℕ) → ((f : ℕ) → f < frame_count g frames → page_in g frames f ≡ 65535) → held g frames ≡ 0

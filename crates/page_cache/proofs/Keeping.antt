@@ -45,9 +45,9 @@ module _ {D : Type 0} {nor : NorOf D} (g : Geometry) (old new : D) (a b : List �
 
   pub kept_failed : (at count : ℕ) → IsKept nor g old a → (nor.tells new → nor.tells old) → (nor.tells old → SameOutside at count (nor.bytes old) (nor.bytes new)) → EachFrame g (GivenUp g.page at count) a b → IsKept nor g new b
   kept_failed at count kept told outside each = record {
-    placed = placed_still g a b same kept.placed (λ f below. ⊎_elim (λ free. inr free) (λ stays. inl (ap number_of stays.0)) (each f below));
+    placed = placed_still g a b same kept.placed (λ f below. ⊎_elim (λ given. inr given.0) (λ stays. inl (ap number_of stays.0)) (each f below));
     right = λ tells f below used. ⊎_elim
-        (λ free. absurd (omega (arith, free, used, g.valid.few_pages)))
+        (λ given. absurd (omega (arith, given.0, used, g.valid.few_pages)))
         (λ stays. subst (IsCopy g.page (nor.bytes new)) (sym stays.0)
         (outside_copy g.page at count (nor.bytes old) (nor.bytes new) (frame_at g a f) (outside (told tells)) stays.1
         (kept.right (told tells) f (omega (arith, below, same)) (subst (λ (l : List ℕ). number_of l < page_count g) stays.0 used))))

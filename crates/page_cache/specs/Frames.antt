@@ -1,5 +1,5 @@
 -- Frames of lent bytes that hold copies of pages: two bytes tell the page's number, six are spare, and the page's bytes follow.
-use Rattle.std.specs.Prelude.{ℕ, ◌≡◌, ◌+◌, ◌*◌, ◌/◌, ◌%◌, ◌<◌, ◌≤◌, ◌==◌, ◌⊎◌, min, true, Bool, List, length, slice_index, slice_range}
+use Rattle.std.specs.Prelude.{ℕ, ◌≡◌, ◌≢◌, ◌+◌, ◌*◌, ◌/◌, ◌%◌, ◌<◌, ◌≤◌, ◌==◌, ◌⊎◌, min, true, Bool, List, length, slice_index, slice_range}
 use Rattle.geometry.specs.declared.geometry.Geometry.{Geometry}
 use Rattle.geometry.specs.Numbers.{page_count}
 use Rattle.nor_core.specs.Flash.{programmed, erased}
@@ -37,6 +37,18 @@ held g frames = many_below (holds g frames) (page_count g)
 abbrev pub KeepsHeld : Geometry → List ℕ → List ℕ → Type 0
 KeepsHeld g old new = (page : ℕ) → page < page_count g → holds g old page ≡ true → holds g new page ≡ true
 
+-- the bytes of a page lie outside a range of the device
+abbrev pub LiesOutside : ℕ → ℕ → ℕ → ℕ → Type 0
+LiesOutside page at count number = (number * page + page ≤ at) ⊎ (at + count ≤ number * page)
+
+-- each page of the volume that was held and lies outside a range of the device is held
+abbrev pub KeepsOutside : Geometry → ℕ → ℕ → List ℕ → List ℕ → Type 0
+KeepsOutside g at count old new = (page : ℕ) → page < page_count g → LiesOutside g.page at count page → holds g old page ≡ true → holds g new page ≡ true
+
+-- each page of the volume that was held, but one, is held
+abbrev pub KeepsAllBut : Geometry → ℕ → List ℕ → List ℕ → Type 0
+KeepsAllBut g gone old new = (page : ℕ) → page < page_count g → page ≢ gone → holds g old page ≡ true → holds g new page ≡ true
+
 -- no frame is free
 abbrev pub AllInUse : Geometry → List ℕ → Type 0
 AllInUse g frames = (f : ℕ) → f < frame_count g frames → page_in g frames f < page_count g
@@ -63,9 +75,9 @@ pub record GoesWithErase (page at count : ℕ) (old new : List ℕ) : Type 0 whe
   pub number : number_of new ≡ number_of old
   pub goes : (bytes : List ℕ) → at + count ≤ length bytes → IsCopy page bytes old → IsCopy page (erased bytes at count) new
 
--- a frame was given up, or the range doesn't meet its page
+-- a frame was given up where a range of the device meets its page, and else stays
 abbrev pub GivenUp : ℕ → ℕ → ℕ → List ℕ → List ℕ → Type 0
-GivenUp page at count old new = (number_of new ≡ 65535) ⊎ ((new ≡ old) × ((number_of old * page + page ≤ at) ⊎ (at + count ≤ number_of old * page)))
+GivenUp page at count old new = ((number_of new ≡ 65535) × (at < number_of old * page + page) × (number_of old * page < at + count)) ⊎ ((new ≡ old) × LiesOutside page at count (number_of old))
 
 -- a frame that is free
 abbrev pub IsFree : List ℕ → List ℕ → Type 0

@@ -35,7 +35,7 @@ impl<'b, N: Nor> Cached<'b, N> {
     ghost use Rattle.nor_core.specs.Count.{Rose};
     ghost use Rattle.nor_core.specs.Flash.{programmed, HalfProgrammed, erased, HalfErased};
     ghost use Rattle.nor_core.specs.Device.{OnlyReads, Changes, InErase, Writes};
-    ghost use Rattle.page_cache.specs.Frames.{holds as the_holds, held, KeepsHeld, InOnePage};
+    ghost use Rattle.page_cache.specs.Frames.{holds as the_holds, held, KeepsHeld, KeepsOutside, InOnePage};
     ghost use Rattle.page_cache.specs.Kept.{IsKept, FewReads, Stays};
     ghost use Rattle.page_cache.specs.Same.{IsSameCached};
 
@@ -133,7 +133,7 @@ impl<'b, N: Nor> Cached<'b, N> {
     }
 
     /// Reads as `Nor::read` does, with what that leaves of device and copies. Bytes that lie in one page of the volume
-    /// come from its copy.
+    /// come from its copy, and the page is held afterwards.
     pub fn read_through(&mut self, at: u32, into: &mut [u8]) -> Result<(), Failed>
         requires some { 0 < length into.old }
         requires inside { at + length into.old ≤ N.size self.old.nor.now }
@@ -142,6 +142,7 @@ impl<'b, N: Nor> Cached<'b, N> {
         ensures cause { OnErr result (Rose (N.faults self.old.nor.now) (N.faults self.new.nor.now)) }
         ensures only_reads { OnlyReads N.NorState self.old.nor.now self.new.nor.now }
         ensures hit { InOnePage self.old.geometry at (length into.old) → the_holds self.old.geometry self.old.frames.now (at / self.old.geometry.page) ≡ true → IsOk result × (self.new.nor.now ≡ self.old.nor.now) × (self.new.frames.now ≡ self.old.frames.now) }
+        ensures held { InOnePage self.old.geometry at (length into.old) → OnOk result (the_holds self.new.geometry self.new.frames.now (at / self.old.geometry.page) ≡ true) }
         ensures stays { Stays self.old.geometry self.old.frames.now self.new.frames.now }
         ensures few { InOnePage self.old.geometry at (length into.old) → FewReads N.NorState self.old.geometry self.old.nor.now self.old.frames.now self.new.nor.now self.new.frames.now }
         ensures kept { IsKept N.NorState self.new.geometry self.new.nor.now self.new.frames.now }
@@ -151,7 +152,8 @@ impl<'b, N: Nor> Cached<'b, N> {
         read_through(self.nor, self.frames, &g, at, into)
     }
 
-    /// Programs as `Nor::program` does, with what that leaves of device and copies. No page is read.
+    /// Programs as `Nor::program` does, with what that leaves of device and copies. No page is read. Where it failed, the
+    /// pages that hold bytes of its range are given up, and no others.
     pub fn program_through(&mut self, at: u32, from: &[u8]) -> Result<(), Failed>
         requires some { 0 < length from.now }
         requires inside { at + length from.now ≤ N.size self.old.nor.now }
@@ -160,6 +162,7 @@ impl<'b, N: Nor> Cached<'b, N> {
         ensures cause { OnErr result (Rose (N.faults self.old.nor.now) (N.faults self.new.nor.now)) }
         ensures writes { Writes N.NorState self.old.nor.now self.new.nor.now }
         ensures stays { OnOk result (KeepsHeld self.old.geometry self.old.frames.now self.new.frames.now) }
+        ensures outside { OnErr result (KeepsOutside self.old.geometry at (length from.now) self.old.frames.now self.new.frames.now) }
         ensures few { FewReads N.NorState self.old.geometry self.old.nor.now self.old.frames.now self.new.nor.now self.new.frames.now }
         ensures kept { IsKept N.NorState self.new.geometry self.new.nor.now self.new.frames.now }
         ensures same { IsSameCached self.old self.new }
@@ -168,7 +171,8 @@ impl<'b, N: Nor> Cached<'b, N> {
         program_through(self.nor, self.frames, &g, at, from)
     }
 
-    /// Erases as `Nor::erase` does, with what that leaves of device and copies. No page is read.
+    /// Erases as `Nor::erase` does, with what that leaves of device and copies. No page is read. Where it failed, the
+    /// pages that hold bytes of its unit are given up, and no others.
     pub fn erase_through(&mut self, unit_ix: u32, mark: Option<Mark>) -> Result<(), Failed>
         requires inside { unit_ix < N.size self.old.nor.now / N.unit self.old.nor.now }
         requires marked { ForSome mark (λ m. m.at + 2 ≤ N.unit self.old.nor.now) }
@@ -178,6 +182,7 @@ impl<'b, N: Nor> Cached<'b, N> {
         ensures writes { Writes N.NorState self.old.nor.now self.new.nor.now }
         ensures changes { Changes N.NorState self.old.nor.now self.new.nor.now (InErase N.NorState self.old.nor.now self.new.nor.now unit_ix mark) }
         ensures stays { OnOk result (KeepsHeld self.old.geometry self.old.frames.now self.new.frames.now) }
+        ensures outside { OnErr result (KeepsOutside self.old.geometry (unit_ix * N.unit self.old.nor.now) (N.unit self.old.nor.now) self.old.frames.now self.new.frames.now) }
         ensures few { FewReads N.NorState self.old.geometry self.old.nor.now self.old.frames.now self.new.nor.now self.new.frames.now }
         ensures kept { IsKept N.NorState self.new.geometry self.new.nor.now self.new.frames.now }
         ensures same { IsSameCached self.old self.new }

@@ -5,7 +5,7 @@ ghost use Rattle.geometry.specs.Numbers.{page_count, cache_need};
 ghost use Rattle.nor_core.specs.Count.{Rose};
 ghost use Rattle.nor_core.specs.Flash.{programmed, HalfProgrammed, erased, HalfErased};
 ghost use Rattle.nor_core.specs.Device.{OnlyReads, Changes, InErase, Writes};
-ghost use Rattle.page_cache.specs.Frames.{frame_size, frame_count as the_frame_count, frame_at, page_in, holds, KeepsHeld, IsCopy, InOnePage};
+ghost use Rattle.page_cache.specs.Frames.{frame_size, frame_count as the_frame_count, frame_at, page_in, holds, KeepsHeld, KeepsOutside, IsCopy, InOnePage};
 ghost use Rattle.page_cache.specs.Kept.{IsKept, FewReads, Stays};
 
 use crate::frame::{HEAD, fill};
@@ -110,6 +110,7 @@ fn read_within<N: Nor>(
     ensures kept { IsKept N.NorState g.now nor.new frames.new }
     ensures hit { holds g.now frames.old page ≡ true → IsOk result × (nor.new ≡ nor.old) × (frames.new ≡ frames.old) }
     ensures once { N.device_reads nor.new ≤ N.device_reads nor.old + 1 }
+    ensures held { OnOk result (holds g.now frames.new page ≡ true) }
     ensures stays { Stays g.now frames.old frames.new }
     ensures few { FewReads N.NorState g.now nor.old frames.old nor.new frames.new }
 {
@@ -139,6 +140,7 @@ pub(crate) fn read_through<N: Nor>(
     ensures only_reads { OnlyReads N.NorState nor.old nor.new }
     ensures kept { IsKept N.NorState g.now nor.new frames.new }
     ensures hit { InOnePage g.now at (length into.old) → holds g.now frames.old (at / g.now.page) ≡ true → IsOk result × (nor.new ≡ nor.old) × (frames.new ≡ frames.old) }
+    ensures held { InOnePage g.now at (length into.old) → OnOk result (holds g.now frames.new (at / g.now.page) ≡ true) }
     ensures stays { Stays g.now frames.old frames.new }
     ensures few { InOnePage g.now at (length into.old) → FewReads N.NorState g.now nor.old frames.old nor.new frames.new }
 {
@@ -167,6 +169,7 @@ pub(crate) fn program_through<N: Nor>(
     ensures writes { Writes N.NorState nor.old nor.new }
     ensures kept { IsKept N.NorState g.now nor.new frames.new }
     ensures stays { OnOk result (KeepsHeld g.now frames.old frames.new) }
+    ensures outside { OnErr result (KeepsOutside g.now at (length from.now) frames.old frames.new) }
     ensures few { FewReads N.NorState g.now nor.old frames.old nor.new frames.new }
 {
     match nor.program(at, from) {
@@ -199,6 +202,7 @@ pub(crate) fn erase_through<N: Nor>(
     ensures changes { Changes N.NorState nor.old nor.new (InErase N.NorState nor.old nor.new unit_ix mark) }
     ensures kept { IsKept N.NorState g.now nor.new frames.new }
     ensures stays { OnOk result (KeepsHeld g.now frames.old frames.new) }
+    ensures outside { OnErr result (KeepsOutside g.now (unit_ix * N.unit nor.old) (N.unit nor.old) frames.old frames.new) }
     ensures few { FewReads N.NorState g.now nor.old frames.old nor.new frames.new }
 {
     let unit = nor.unit() as usize;

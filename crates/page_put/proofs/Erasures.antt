@@ -1,21 +1,20 @@
 -- The calls of making a block fresh, one after the other, as contracts tell of them.
-use Rattle.std.proofs.Common.{◌≡◌, ℕ, ◌+◌, ◌*◌, ◌/◌, ◌<◌, ◌≤◌, ◌⊎◌, inl, inr, ⊎_elim, List, length, Ok, Err, Some, sym, ap, subst, arith}
+use Rattle.std.proofs.Common.{◌≡◌, ◌≢◌, ℕ, ◌+◌, ◌*◌, ◌/◌, ◌<◌, ◌≤◌, ◌⊎◌, inl, inr, ⊎_elim, List, length, Ok, Err, Some, None, Bool, if◌then◌else◌, sym, ◌∙◌, ap, subst, arith}
 use Rattle.std.specs.Prelude.{Option, Result, OnOk, OnErr}
 use Rattle.std.proofs.lemmas.Result.{on_ok_weaker}
+use Rattle.std.proofs.lemmas.Bool.{cases_eq, ne_eqb}
 use Rattle.std.proofs.Math.Nat.{mul-le-mul_right}
 use Rattle.geometry.specs.declared.geometry.Geometry.{Geometry}
 use Rattle.nor_core.specs.declared.device.Mark.{Mark}
 use Rattle.nor_core.specs.declared.device.Failed.{Failed}
 use Rattle.nor_core.specs.declared.state.NorState.{Ghosts as NorOf}
-use Rattle.nor_core.specs.Flash.{SameOutside, HalfErased, erased}
+use Rattle.nor_core.specs.Flash.{HalfErased, erased}
 use Rattle.nor_core.specs.Device.{Changes, InErase}
 use Rattle.nor_core.proofs.Cuts.{wider, go_on}
 use Rattle.image_model.specs.Places.{IsImage}
 use Rattle.image_laws.specs.Blocks.{magic_mark}
-use Rattle.image_model.specs.Volume.{lookups, per_block}
-use Rattle.flash_view.specs.Places.{magic_start}
-use Rattle.page_put.specs.Fresh.{Freshens, IsFresh, UnitGoes, UnitErased, ErasedTo, with_magic}
-use Rattle.page_put.proofs.Freshening.{lies, unit_inside, unit_done, unit_half, unit_all, freshens_more, freshens_slots, is_fresh}
+use Rattle.page_put.specs.Fresh.{IsFresh, UnitCut, InErasing, MarkCut, FreshCut, mark_of, with_front_erased, blank, with_magic}
+use Rattle.page_put.proofs.Freshening.{lies, unit_inside, front_more, front_erased, is_fresh}
 
 -- a device that holds the volume holds an image of it
 pub image_of : (g : Geometry) (bytes : List ℕ) (size : ℕ) → length bytes ≡ size → g.blocks * g.block ≤ size → IsImage g bytes
@@ -39,45 +38,66 @@ unit_fits g block i n low small is =
     let next : (block + 1) * g.block ≤ g.blocks * g.block = mul-le-mul_right g.block (omega arith) in
     omega arith
 
-module _ (g : Geometry) (block i n : ℕ) (low : block < g.blocks) (small : i < g.block / g.phys) (is : n ≡ block * (g.block / g.phys) + i) where
-  unit_erased : (was now : List ℕ) → IsImage g was → now ≡ erased was (n * g.phys) g.phys → UnitErased g block i was now
-  unit_erased was now image all =
-      let fits = unit_fits g block i n low small is in
-      unit_done g block i (n * g.phys) was (unit_start g block i n is) now all (omega (arith, image.len, fits))
+-- the mark of a unit's erase by what is said of the first unit and of the others
+pub marked : (g : Geometry) (block i : ℕ) (mark : Option Mark) → (i ≡ 0 → mark ≡ Some (magic_mark g block)) → (i ≢ 0 → mark ≡ None) → mark ≡ mark_of g block i
+marked g block i mark first later = ⊎_elim
+    (λ (zero_is : i ≡ 0). first zero_is ∙ sym (ap (λ (n : ℕ). mark_of g block n) zero_is))
+    (λ (other : i ≡ 0 → ⊥). later other ∙ sym (ap (λ (b : Bool). if b then Some (magic_mark g block) else None) (ne_eqb i 0 other)))
+    (cases_eq i 0)
 
-  pub erase_done : (result : Result (Unit {0}) Failed) (was now : List ℕ) → IsImage g was → OnOk result (now ≡ erased was (n * g.phys) g.phys) → OnOk result (UnitErased g block i was now)
-  erase_done result was now image done = on_ok_weaker result (unit_erased was now image) done
+module _ (g : Geometry) (block i n : ℕ) (is : n ≡ block * (g.block / g.phys) + i) where
+  pub erase_done : (result : Result (Unit {0}) Failed) (was now : List ℕ) → OnOk result (now ≡ erased was (n * g.phys) g.phys) → OnOk result (now ≡ erased was (block * g.block + i * g.phys) g.phys)
+  erase_done result was now done = subst (λ (at : ℕ). OnOk result (now ≡ erased was at g.phys)) (unit_start g block i n is) done
 
   module _ {D : Type 0} {nor : NorOf D} {old new : D} (mark : Option Mark) (result : Result (Unit {0}) Failed) where
-    pub erase_goes : (nor.tells old → IsImage g (nor.bytes old)) → (nor.tells old → OnOk result (nor.bytes new ≡ erased (nor.bytes old) (n * g.phys) g.phys)) → (i ≡ 0 → mark ≡ Some (magic_mark g block)) → nor.unit old ≡ g.phys → (nor.tells old → OnErr result (HalfErased (n * g.phys) g.phys mark (nor.bytes old) (nor.bytes new))) →
-        Changes nor old new (InErase nor old new n mark) → Changes nor old new (UnitGoes g block i)
-    erase_goes image_is done first unit half changes = wider changes (λ tells image cut.
+    pub erase_goes : mark ≡ mark_of g block i → nor.unit old ≡ g.phys → (nor.tells old → OnOk result (nor.bytes new ≡ erased (nor.bytes old) (n * g.phys) g.phys)) → (nor.tells old → OnErr result (HalfErased (n * g.phys) g.phys mark (nor.bytes old) (nor.bytes new))) →
+        Changes nor old new (InErase nor old new n mark) → Changes nor old new (UnitCut g block i)
+    erase_goes marked unit done half changes = wider changes (λ tells image cut.
         let start = unit_start g block i n is in
-        let now : UnitGoes g block i (nor.bytes old) (nor.bytes new) = ⊎_elim
-        (λ (all : nor.bytes new ≡ erased (nor.bytes old) (n * g.phys) g.phys). unit_all g block i (nor.bytes old) (nor.bytes new) (unit_erased (nor.bytes old) (nor.bytes new) (image_is tells) all))
-        (λ (some : HalfErased (n * g.phys) g.phys mark (nor.bytes old) (nor.bytes new)). unit_half g block i (n * g.phys) (nor.bytes old) start mark (nor.bytes new) first some)
-        (either result (done tells) (half tells)) in
+        let as_cut : (l : List ℕ) → HalfErased (n * g.phys) g.phys mark (nor.bytes old) l → UnitCut g block i (nor.bytes old) l = λ l some.
+        inl (subst (λ (at : ℕ). HalfErased at g.phys (mark_of g block i) (nor.bytes old) l) start (subst (λ (m : Option Mark). HalfErased (n * g.phys) g.phys m (nor.bytes old) l) marked some)) in
+        let now : UnitCut g block i (nor.bytes old) (nor.bytes new) = ⊎_elim
+        (λ (all : nor.bytes new ≡ erased (nor.bytes old) (block * g.block + i * g.phys) g.phys). inr all)
+        (λ (some : HalfErased (n * g.phys) g.phys mark (nor.bytes old) (nor.bytes new)). as_cut (nor.bytes new) some)
+        (either result (erase_done result (nor.bytes old) (nor.bytes new) (done tells)) (half tells)) in
         ⊎_elim
-        (λ (some : HalfErased (n * nor.unit old) (nor.unit old) mark (nor.bytes old) image).
-        unit_half g block i (n * g.phys) (nor.bytes old) start mark image first (subst (λ (u : ℕ). HalfErased (n * u) u mark (nor.bytes old) image) unit some))
-        (λ (same : image ≡ nor.bytes new). subst (λ (l : List ℕ). UnitGoes g block i (nor.bytes old) l) (sym same) now)
+        (λ (some : HalfErased (n * nor.unit old) (nor.unit old) mark (nor.bytes old) image). as_cut image (subst (λ (u : ℕ). HalfErased (n * u) u mark (nor.bytes old) image) unit some))
+        (λ (same : image ≡ nor.bytes new). subst (λ (l : List ℕ). UnitCut g block i (nor.bytes old) l) (sym same) now)
         cut)
 
 -- one unit after others
-pub freshens_then : {D : Type 0} {nor : NorOf D} (g h : Geometry) (block i : ℕ) {old mid new : D} → h ≡ g → i < g.block / g.phys → Changes nor old mid (Freshens g block) → (nor.tells old → ErasedTo g block (i * g.phys) (nor.bytes old) (nor.bytes mid)) →
-    Changes nor mid new (UnitGoes h block i) → Changes nor old new (Freshens g block)
-freshens_then {nor = nor} g h block i {old} {mid} {new} same small before so_far goes =
-    go_on before (subst (λ (k : Geometry). Changes nor mid new (UnitGoes k block i)) same goes) (λ tells image was step. freshens_more g block i (nor.bytes old) (nor.bytes mid) small (so_far tells) image was step)
+module _ (g h : Geometry) (block i : ℕ) (same : h ≡ g) (small : i < g.block / g.phys) where
+  pub erasing_then : {D : Type 0} {nor : NorOf D} {old mid new : D} → (nor.tells old → nor.bytes mid ≡ with_front_erased g block (i * g.phys) (nor.bytes old)) → Changes nor old mid (InErasing g block) → Changes nor mid new (UnitCut h block i) →
+      Changes nor old new (InErasing g block)
+  erasing_then {nor = nor} {old} {mid} {new} so_far before goes =
+      go_on before (subst (λ (k : Geometry). Changes nor mid new (UnitCut k block i)) same goes)
+      (λ tells image was step. record { unit = i; below = small; cut = subst (λ (l : List ℕ). UnitCut g block i l image) (so_far tells) step })
+
+  pub front_then : (was mid now : List ℕ) → block < g.blocks → IsImage g was → mid ≡ with_front_erased g block (i * g.phys) was → now ≡ erased mid (block * h.block + i * h.phys) h.phys → now ≡ with_front_erased g block ((i + 1) * g.phys) was
+  front_then was mid now low image so_far done =
+      subst (λ (k : Geometry). now ≡ erased mid (block * k.block + i * k.phys) k.phys) same done
+      ∙ ap (λ (l : List ℕ). erased l (block * g.block + i * g.phys) g.phys) so_far ∙ front_more g block was low image i small
+
+-- all units
+pub front_all : (g : Geometry) (block i : ℕ) (was now : List ℕ) → i ≡ g.block / g.phys → now ≡ with_front_erased g block (i * g.phys) was → now ≡ blank g block was
+front_all g block i was now all so_far =
+    let whole : i * g.phys ≡ (g.block / g.phys) * g.phys = ap (λ (n : ℕ). n * g.phys) all in
+    let size : i * g.phys ≡ g.block = omega (arith, whole, (lies g).units) in
+    so_far ∙ ap (λ (n : ℕ). with_front_erased g block n was) size
 
 -- the programs of the last two slots after the erase
-module _ {D : Type 0} {nor : NorOf D} (g h : Geometry) (block : ℕ) {old mid new : D} (same : h ≡ g) (low : block < g.blocks) (image_is : nor.tells old → IsImage g (nor.bytes old))
-    (blank : nor.tells old → ErasedTo g block g.block (nor.bytes old) (nor.bytes mid)) where
-  pub slots_then : Changes nor old mid (Freshens g block) → Changes nor mid new (SameOutside (magic_start h block) 4) → Changes nor old new (Freshens g block)
-  unfolding lookups per_block
-  slots_then before programs =
-      go_on before (subst (λ (k : Geometry). Changes nor mid new (SameOutside (magic_start k block) 4)) same programs) (λ tells image was step. freshens_slots g block (nor.bytes old) (nor.bytes mid) image low (image_is tells) (blank tells) step)
+module _ (g h : Geometry) (block count : ℕ) (same : h ≡ g) where
+  pub marks_then : {D : Type 0} {nor : NorOf D} {old mid new : D} → (nor.tells old → nor.bytes mid ≡ blank g block (nor.bytes old)) → Changes nor old mid (InErasing g block) → Changes nor mid new (MarkCut h block count) → Changes nor old new (FreshCut g block count)
+  marks_then {nor = nor} {old} {mid} {new} erased_is before programs =
+      go_on (wider before (λ tells image erasing. inl erasing)) (subst (λ (k : Geometry). Changes nor mid new (MarkCut k block count)) same programs)
+      (λ tells image was step. inr (subst (λ (l : List ℕ). MarkCut g block count l image) (erased_is tells) step))
 
-pub fresh_done : (g h : Geometry) (block erases : ℕ) (result : Result (Unit {0}) Failed) (was mid now : List ℕ) → h ≡ g → block < g.blocks → erases ≤ 0x7FFF → IsImage g was → ErasedTo g block g.block was mid →
-    OnOk result (now ≡ with_magic h block erases mid) → OnOk result (IsFresh g block erases was now)
-fresh_done g h block erases result was mid now same low small image blank done =
-    on_ok_weaker result (is_fresh g block erases was mid now low image small blank) (subst (λ (k : Geometry). OnOk result (now ≡ with_magic k block erases mid)) same done)
+  pub marked_then : (result : Result (Unit {0}) Failed) (was mid now : List ℕ) → mid ≡ blank g block was → OnOk result (now ≡ with_magic h block count mid) → OnOk result (now ≡ with_magic g block count (blank g block was))
+  marked_then result was mid now erased_is done =
+      subst (λ (l : List ℕ). OnOk result (now ≡ with_magic g block count l)) erased_is (subst (λ (k : Geometry). OnOk result (now ≡ with_magic k block count mid)) same done)
+
+-- a block whose last programs are done is fresh
+pub fresh_done : (g : Geometry) (block erases : ℕ) (result : Result (Unit {0}) Failed) (was now : List ℕ) → block < g.blocks → erases ≤ 0x7FFF → IsImage g was →
+    OnOk result (now ≡ with_magic g block erases (blank g block was)) → OnOk result (IsFresh g block erases was now)
+fresh_done g block erases result was now low small image done =
+    on_ok_weaker result (is_fresh g block erases was (blank g block was) now low image small (front_erased g block was low image g.block (omega arith))) done

@@ -7,13 +7,14 @@ use Rattle.std.proofs.Math.Nat.{mul-le-mul_right, div-add-mod}
 use Rattle.std.proofs.lemmas.Nat.{xor_lt}
 use Rattle.std.proofs.lemmas.Bool.{cases_lt, cases_eq, cases_Bool, ne_eqb, eq-eqb, lt-ltb}
 use Rattle.std.proofs.lemmas.List.{length-take, length-drop, length-replicate}
+use Rattle.std.proofs.lemmas.Grind.{same_number_lists}
 use Rattle.geometry.specs.declared.geometry.Geometry.{Geometry}
 use Rattle.geometry.specs.declared.magic.MagicKind.{MagicKind}
 use Rattle.geometry.specs.declared.magic.MagicKind.TheVariants.{Plain, Length}
 use Rattle.geometry.specs.Numbers.{length_mark, right_magic}
-use Rattle.nor_core.specs.declared.device.Mark.{Mark}
-use Rattle.nor_core.specs.Flash.{SameOutside, Scrambled, HalfErased, erased, programmed}
+use Rattle.nor_core.specs.Flash.{SameOutside, Scrambled, HalfErased, HalfProgrammed, erased, programmed}
 use Rattle.page_cache.proofs.Copies.{erased_before, erased_after, erased_inside}
+use Rattle.page_cache.proofs.Keeping.{half_outside}
 use Rattle.image_model.specs.Volume.{per_block, lookups, slots, entries}
 use Rattle.image_model.specs.Headers.{is_finished}
 use Rattle.image_model.specs.Live.{live_at}
@@ -29,7 +30,7 @@ use Rattle.image_laws.proofs.Erase.{spoiled-is_dead}
 use Rattle.image_laws.proofs.MixedBlocks.{scrambled-lacks}
 use Rattle.image_laws.proofs.Bits.{and_comm_255}
 use Rattle.image_laws.proofs.Placing.{page_byte, wider}
-use Rattle.page_put.specs.Fresh.{Freshens, IsFresh, UnitGoes, UnitErased, ErasedTo, with_magic}
+use Rattle.page_put.specs.Fresh.{Freshens, IsFresh, UnitCut, InErasing, UnitErased, ErasedTo, MarkCut, FreshCut, mark_of, with_front_erased, blank, with_magic}
 
 -- ---- the right magic is never 0xFFFF
 
@@ -69,6 +70,15 @@ pub unit_inside : (g : Geometry) (i : ℕ) → i < g.block / g.phys → i * g.ph
 unit_inside g i low =
     let step : (i + 1) * g.phys ≤ (g.block / g.phys) * g.phys = mul-le-mul_right g.phys (omega arith) in
     omega (arith, (lies g).units)
+
+-- a block has a unit
+pub some_units : (g : Geometry) → 0 < g.block / g.phys
+some_units g = ⊎_elim
+    (λ (none : g.block / g.phys < 1).
+    let zero_is : g.phys * (g.block / g.phys) ≡ g.phys * 0 = ap (λ (n : ℕ). g.phys * n) (omega (arith, none)) in
+    absurd (omega (arith, zero_is, (lies g).units, (lies g).some, (lies g).pages, (lies g).inside)))
+    (λ (some : 1 ≤ g.block / g.phys). some)
+    (cases_lt (g.block / g.phys) 1)
 
 -- ---- no page is live
 
@@ -120,32 +130,39 @@ module _ (g : Geometry) (block i start : ℕ) (was : List ℕ) (at : start ≡ b
     ones = λ k low. erased_inside was start g.phys (block * g.block + i * g.phys + k) fits (omega arith) (omega arith);
   })
 
-  pub unit_half : (mark : Option Mark) (image : List ℕ) → (i ≡ 0 → mark ≡ Some (magic_mark g block)) → HalfErased start g.phys mark was image → UnitGoes g block i was image
-  unit_half mark image first half =
-      ⊎_elim
-      (λ (same : image ≡ was). record { outside = record { size = ap length same; before = λ k low. ap (λ (l : List ℕ). slice_index l k) same; after = λ k high. ap (λ (l : List ℕ). slice_index l k) same }; spoils = inl same })
-      (λ (s : Scrambled start g.phys mark was image). record {
-        outside = subst (λ (x : ℕ). SameOutside x g.phys was image) at s.outside;
-        spoils = inr (λ zero_is.
-            let start_is : start ≡ block * g.block = omega (arith, at, (ap (λ (x : ℕ). x * g.phys) zero_is)) in
-            let there : Scrambled (block * g.block) g.phys mark was image = subst (λ (x : ℕ). Scrambled x g.phys mark was image) start_is s in
-            scrambled-lacks g was image block g.phys (subst (λ (m : Option Mark). Scrambled (block * g.block) g.phys m was image) (first zero_is) there));
-      })
-      half
+-- ---- bytes erased one range after the other
 
--- a unit that is erased is one that an erase may leave
-pub unit_all : (g : Geometry) (block i : ℕ) (was now : List ℕ) → UnitErased g block i was now → UnitGoes g block i was now
-unit_all g block i was now done = record {
-  outside = done.outside;
-  spoils = inr (λ zero_is.
-      let same : i * g.phys ≡ 0 * g.phys = ap (λ (x : ℕ). x * g.phys) zero_is in
-      let none : i * g.phys ≡ 0 = omega (arith, same) in
-      let low_at : block * g.block + i * g.phys + 2 * (slots g - 2) ≡ block * g.block + 2 * (slots g - 2) = omega arith in
-      let high_at : block * g.block + i * g.phys + (2 * (slots g - 2) + 1) ≡ block * g.block + 2 * (slots g - 2) + 1 = omega arith in
-      let low = done.ones (2 * (slots g - 2)) (omega (arith, (lies g).first, (lies g).some)) in
-      let high = done.ones (2 * (slots g - 2) + 1) (omega (arith, (lies g).first, (lies g).some)) in
-      erased_lacks g now block (rw low_at at low) (rw high_at at high));
-}
+-- where no byte is erased nothing changes
+pub erased_nothing : (was : List ℕ) (at : ℕ) → at ≤ length was → erased was at 0 ≡ was
+erased_nothing was at fits = same_number_lists (erased was at 0) was (erased_size was at 0 (omega arith)) (λ k below. ⊎_elim
+    (λ (before : k < at). erased_before was at 0 k (omega arith) before)
+    (λ (behind : at ≤ k). erased_after was at 0 k (omega arith) (omega arith))
+    (cases_lt k at))
+
+-- an erase behind another is one of both ranges
+module _ (was : List ℕ) (at n m : ℕ) (fits : at + (n + m) ≤ length was) where
+  first_fits : at + n ≤ length was
+  first_fits = omega arith
+
+  next_fits : at + n + m ≤ length (erased was at n)
+  next_fits = omega (arith, fits, erased_size was at n first_fits)
+
+  pub erased_on : erased (erased was at n) (at + n) m ≡ erased was at (n + m)
+  erased_on = same_number_lists (erased (erased was at n) (at + n) m) (erased was at (n + m))
+      (erased_size (erased was at n) (at + n) m next_fits ∙ erased_size was at n first_fits ∙ sym (erased_size was at (n + m) fits))
+      (λ k below. ⊎_elim
+      (λ (before : k < at + n). erased_before (erased was at n) (at + n) m k next_fits before ∙ ⊎_elim
+      (λ (outside : k < at). erased_before was at n k first_fits outside ∙ sym (erased_before was at (n + m) k fits outside))
+      (λ (inside : at ≤ k). erased_inside was at n k first_fits inside before ∙ sym (erased_inside was at (n + m) k fits inside (omega (arith, before))))
+      (cases_lt k at))
+      (λ (behind : at + n ≤ k). ⊎_elim
+      (λ (inside : k < at + n + m). erased_inside (erased was at n) (at + n) m k next_fits behind inside ∙ sym (erased_inside was at (n + m) k fits (omega (arith, behind)) (omega (arith, inside))))
+      (λ (outside : at + n + m ≤ k). erased_after (erased was at n) (at + n) m k next_fits outside ∙ erased_after was at n k first_fits behind ∙ sym (erased_after was at (n + m) k fits (omega (arith, outside))))
+      (cases_lt k (at + n + m)))
+      (cases_lt k (at + n)))
+
+pub erased_outside : (was : List ℕ) (start n : ℕ) → start + n ≤ length was → SameOutside start n was (erased was start n)
+erased_outside was start n fits = record { size = erased_size was start n fits; before = λ k low. erased_before was start n k fits low; after = λ k high. erased_after was start n k fits high }
 
 -- ---- unit after unit
 
@@ -173,34 +190,108 @@ module _ (g : Geometry) (block i : ℕ) (was now : List ℕ) (low : i < g.block 
             (cases_lt k (i * g.phys));
       }
 
-  pub freshens_more : (image : List ℕ) → Freshens g block was now → UnitGoes g block i now image → Freshens g block was image
-  freshens_more image before goes =
-      let inside = unit_inside g i low in
-      let lacks : (i ≡ 0 → has_magic g image block ≡ false) → has_magic g image block ≡ false = λ first. ⊎_elim
-      (λ (zero_is : i ≡ 0). first zero_is)
-      (λ (later : i ≡ 0 → ⊥).
-      let one : 1 * g.phys ≤ i * g.phys = mul-le-mul_right g.phys (omega (arith, later)) in
-      let m_low : 2 * (slots g - 2) + 1 < i * g.phys = omega (arith, (lies g).first, (lies g).some) in
-      let l : slice_index image (block * g.block + 2 * (slots g - 2)) ≡ 255 = goes.outside.before (block * g.block + 2 * (slots g - 2)) (omega arith) ∙ so_far.ones (2 * (slots g - 2)) (omega arith) in
-      let h : slice_index image (block * g.block + (2 * (slots g - 2) + 1)) ≡ 255 = goes.outside.before (block * g.block + (2 * (slots g - 2) + 1)) (omega arith) ∙ so_far.ones (2 * (slots g - 2) + 1) m_low in
-      erased_lacks g image block l (rw add_assoc h))
-      (cases_eq i 0) in
-      record {
-        outside = outside_on (block * g.block) g.block was now image before.outside (wider (block * g.block + i * g.phys) g.phys (block * g.block) g.block now image (omega arith) (omega arith) goes.outside);
-        dead = ⊎_elim
-            (λ (same : image ≡ now). subst (λ (l : List ℕ). (l ≡ was) ⊎ ((p : ℕ) → block_of g p ≡ block → live_at g l p ≡ None)) (sym same) before.dead)
-            (λ (first : i ≡ 0 → has_magic g image block ≡ false). inr (spoiled-is_dead g image block (lacks first)))
-            goes.spoils;
-        state = ⊎_elim
-            (λ (same : image ≡ now). subst (λ (l : List ℕ). (l ≡ was) ⊎ ((has_magic g l block ≡ false) ⊎ (is_free_block g l block ≡ true))) (sym same) before.state)
-            (λ (first : i ≡ 0 → has_magic g image block ≡ false). inr (inl (lacks first)))
-            goes.spoils;
-      }
-
 pub erased_all : (g : Geometry) (block i : ℕ) (was now : List ℕ) → g.block / g.phys ≤ i → ErasedTo g block (i * g.phys) was now → ErasedTo g block g.block was now
 erased_all g block i was now all so_far =
     let most : (g.block / g.phys) * g.phys ≤ i * g.phys = mul-le-mul_right g.phys all in
     record { outside = so_far.outside; ones = λ k low. so_far.ones k (omega (arith, (lies g).units)) }
+
+-- ---- a block in its erases
+
+module _ (g : Geometry) (block : ℕ) (was : List ℕ) (low : block < g.blocks) (is : IsImage g was) where
+  pub block_fits : block * g.block + g.block ≤ length was
+  block_fits =
+      let next : (block + 1) * g.block ≤ g.blocks * g.block = mul-le-mul_right g.block (omega arith) in
+      omega (arith, next, is.len)
+
+  -- the front of a block is erased
+  pub front_erased : (n : ℕ) → n ≤ g.block → ErasedTo g block n was (with_front_erased g block n was)
+  front_erased n small =
+      let fits : block * g.block + n ≤ length was = omega (arith, block_fits, small) in
+      record {
+        outside = wider (block * g.block) n (block * g.block) g.block was (with_front_erased g block n was) (omega arith) (omega (arith, small)) (erased_outside was (block * g.block) n fits);
+        ones = λ k below. erased_inside was (block * g.block) n (block * g.block + k) fits (omega arith) (omega (arith, below));
+      }
+
+  pub none_erased : with_front_erased g block (0 * g.phys) was ≡ was
+  none_erased =
+      let none : 0 * g.phys ≡ 0 = omega arith in
+      ap (λ (n : ℕ). erased was (block * g.block) n) none ∙ erased_nothing was (block * g.block) (omega (arith, block_fits))
+
+  -- before any erase
+  pub erasing_none : InErasing g block was was
+  erasing_none = record {
+    unit = 0;
+    below = some_units g;
+    cut = inl (inl (sym none_erased));
+  }
+
+  -- a unit more
+  pub front_more : (i : ℕ) → i < g.block / g.phys → erased (with_front_erased g block (i * g.phys) was) (block * g.block + i * g.phys) g.phys ≡ with_front_erased g block ((i + 1) * g.phys) was
+  front_more i small =
+      let inside = unit_inside g i small in
+      let next : i * g.phys + g.phys ≡ (i + 1) * g.phys = omega arith in
+      erased_on was (block * g.block) (i * g.phys) g.phys (omega (arith, inside, block_fits)) ∙ ap (λ (n : ℕ). erased was (block * g.block) n) next
+
+  module _ (i : ℕ) (small : i < g.block / g.phys) (image : List ℕ) where
+    so_far : ErasedTo g block (i * g.phys) was (with_front_erased g block (i * g.phys) was)
+    so_far = front_erased (i * g.phys) (let inside = unit_inside g i small in omega (arith, inside))
+
+    unit_fits : block * g.block + i * g.phys + g.phys ≤ length (with_front_erased g block (i * g.phys) was)
+    unit_fits = let inside = unit_inside g i small in omega (arith, inside, block_fits, so_far.outside.size)
+
+    -- all outside the unit stays
+    cut_outside : UnitCut g block i (with_front_erased g block (i * g.phys) was) image → SameOutside (block * g.block + i * g.phys) g.phys (with_front_erased g block (i * g.phys) was) image
+    cut_outside cut = ⊎_elim
+        (λ (half : HalfErased (block * g.block + i * g.phys) g.phys (mark_of g block i) (with_front_erased g block (i * g.phys) was) image). half_outside _ _ _ _ _ half)
+        (λ (done : image ≡ erased (with_front_erased g block (i * g.phys) was) (block * g.block + i * g.phys) g.phys).
+        subst (λ (l : List ℕ). SameOutside (block * g.block + i * g.phys) g.phys (with_front_erased g block (i * g.phys) was) l) (sym done) (erased_outside _ _ _ unit_fits))
+        cut
+
+    -- behind the first unit the slot of the magic is erased
+    later_lacks : (i ≡ 0 → ⊥) → UnitCut g block i (with_front_erased g block (i * g.phys) was) image → has_magic g image block ≡ false
+    later_lacks later cut =
+        let one : 1 * g.phys ≤ i * g.phys = mul-le-mul_right g.phys (omega (arith, later)) in
+        let high_low : 2 * (slots g - 2) + 1 < i * g.phys = omega (arith, (lies g).first, (lies g).some) in
+        let same = cut_outside cut in
+        let l : slice_index image (block * g.block + 2 * (slots g - 2)) ≡ 255 = same.before (block * g.block + 2 * (slots g - 2)) (omega arith) ∙ so_far.ones (2 * (slots g - 2)) (omega arith) in
+        let h : slice_index image (block * g.block + (2 * (slots g - 2) + 1)) ≡ 255 = same.before (block * g.block + (2 * (slots g - 2) + 1)) (omega arith) ∙ so_far.ones (2 * (slots g - 2) + 1) high_low in
+        erased_lacks g image block l (rw add_assoc h)
+
+  -- in the first unit an erase that did anything leaves no magic
+  first_spoils : (image : List ℕ) → UnitCut g block 0 (with_front_erased g block (0 * g.phys) was) image → (image ≡ was) ⊎ (has_magic g image block ≡ false)
+  first_spoils image cut =
+      let start : block * g.block + 0 * g.phys ≡ block * g.block = omega arith in
+      ⊎_elim
+      (λ (half : HalfErased (block * g.block + 0 * g.phys) g.phys (Some (magic_mark g block)) (with_front_erased g block (0 * g.phys) was) image). ⊎_elim
+      (λ (same : image ≡ with_front_erased g block (0 * g.phys) was). inl (same ∙ none_erased))
+      (λ (s : Scrambled (block * g.block + 0 * g.phys) g.phys (Some (magic_mark g block)) (with_front_erased g block (0 * g.phys) was) image).
+      inr (scrambled-lacks g (with_front_erased g block (0 * g.phys) was) image block g.phys (subst (λ (x : ℕ). Scrambled x g.phys (Some (magic_mark g block)) (with_front_erased g block (0 * g.phys) was) image) start s)))
+      half)
+      (λ (done : image ≡ erased (with_front_erased g block (0 * g.phys) was) (block * g.block + 0 * g.phys) g.phys).
+      let fits = unit_fits 0 (some_units g) image in
+      let byte : (k : ℕ) → k < g.phys → slice_index image (block * g.block + k) ≡ 255 = λ k below.
+      ap (λ (l : List ℕ). slice_index l (block * g.block + k)) done ∙ erased_inside (with_front_erased g block (0 * g.phys) was) (block * g.block + 0 * g.phys) g.phys (block * g.block + k) fits (omega arith) (omega (arith, below)) in
+      let h = byte (2 * (slots g - 2) + 1) (omega (arith, (lies g).first, (lies g).some)) in
+      inr (erased_lacks g image block (byte (2 * (slots g - 2)) (omega (arith, (lies g).first, (lies g).some))) (rw add_assoc h)))
+      cut
+
+  spoils : (i : ℕ) → i < g.block / g.phys → (image : List ℕ) → UnitCut g block i (with_front_erased g block (i * g.phys) was) image → (image ≡ was) ⊎ (has_magic g image block ≡ false)
+  spoils i small image cut = ⊎_elim
+      (λ (zero_is : i ≡ 0). first_spoils image (subst (λ (n : ℕ). UnitCut g block n (with_front_erased g block (n * g.phys) was) image) zero_is cut))
+      (λ (later : i ≡ 0 → ⊥). inr (later_lacks i small image later cut))
+      (cases_eq i 0)
+
+  -- the block is as it was, or no page of it is live
+  erasing_freshens : (image : List ℕ) → InErasing g block was image → Freshens g block was image
+  erasing_freshens image e =
+      let inside = unit_inside g e.unit e.below in
+      let there = with_front_erased g block (e.unit * g.phys) was in
+      let changed = spoils e.unit e.below image e.cut in
+      record {
+        outside = outside_on (block * g.block) g.block was there image (so_far e.unit e.below image).outside (wider (block * g.block + e.unit * g.phys) g.phys (block * g.block) g.block there image (omega arith) (omega (arith, inside)) (cut_outside e.unit e.below image e.cut));
+        dead = ⊎_elim (λ (same : image ≡ was). inl same) (λ (lacks : has_magic g image block ≡ false). inr (spoiled-is_dead g image block lacks)) changed;
+        state = ⊎_elim (λ (same : image ≡ was). inl same) (λ (lacks : has_magic g image block ≡ false). inr (inl lacks)) changed;
+      }
 
 -- ---- the programs of the erase count and the magic
 
@@ -358,6 +449,27 @@ freshens_slots g block was mid image low is blank same =
           (λ (none : has_magic g image block ≡ false). inl none)
           (cases_Bool (has_magic g image block)));
     }
+
+-- the last two programs change no byte but those of the count and the magic
+mark_outside : (g : Geometry) (block count : ℕ) (mid image : List ℕ) → MarkCut g block count mid image → SameOutside (block * g.block + 2 * (slots g - 2)) 4 mid image
+unfolding lookups per_block
+mark_outside g block count mid image cut =
+    let in_block = lies g in
+    ⊎_elim
+    (λ (half : HalfProgrammed (block * g.block + 2 * (slots g - 1)) (to_le_bytes w16 count) mid image).
+    wider (block * g.block + 2 * (slots g - 1)) 2 (block * g.block + 2 * (slots g - 2)) 4 mid image (omega (arith, in_block.some)) (omega (arith, in_block.some)) half.outside)
+    (λ (half : HalfProgrammed (block * g.block + 2 * (slots g - 2)) (to_le_bytes w16 (right_magic g block)) (programmed mid (block * g.block + 2 * (slots g - 1)) (to_le_bytes w16 count)) image).
+    outside_on (block * g.block + 2 * (slots g - 2)) 4 mid (programmed mid (block * g.block + 2 * (slots g - 1)) (to_le_bytes w16 count)) image
+    (wider (block * g.block + 2 * (slots g - 1)) 2 (block * g.block + 2 * (slots g - 2)) 4 mid _ (omega (arith, in_block.some)) (omega (arith, in_block.some)) (finished-programmed (block * g.block + 2 * (slots g - 1)) (to_le_bytes w16 count) mid).outside)
+    (wider (block * g.block + 2 * (slots g - 2)) 2 (block * g.block + 2 * (slots g - 2)) 4 _ image (omega arith) (omega arith) half.outside))
+    cut
+
+-- a cut of the calls in their order leaves the block as it was, or without any live page
+pub cut_freshens : (g : Geometry) (block count : ℕ) (was image : List ℕ) → block < g.blocks → IsImage g was → FreshCut g block count was image → Freshens g block was image
+cut_freshens g block count was image low is cut = ⊎_elim
+    (λ (erasing : InErasing g block was image). erasing_freshens g block was low is image erasing)
+    (λ (marking : MarkCut g block count (blank g block was) image). freshens_slots g block was (blank g block was) image low is (front_erased g block was low is g.block (omega arith)) (mark_outside g block count (blank g block was) image marking))
+    cut
 
 pub is_fresh : (g : Geometry) (block erases : ℕ) (was mid now : List ℕ) → block < g.blocks → IsImage g was → erases ≤ 0x7FFF → ErasedTo g block g.block was mid → now ≡ with_magic g block erases mid → IsFresh g block erases was now
 is_fresh g block erases was mid now low is small blank done =

@@ -1,12 +1,11 @@
-ghost use Rattle.std.specs.Prelude.{◌≡◌, ◌+◌, ◌*◌, ◌/◌, ◌<◌, ◌≤◌, ◌⊎◌, length, OnErr, OnOk, Some, true};
+ghost use Rattle.std.specs.Prelude.{◌≡◌, ◌≢◌, ◌+◌, ◌*◌, ◌/◌, ◌<◌, ◌≤◌, ◌⊎◌, length, OnErr, OnOk, Some, None, true};
 ghost use Rattle.std.specs.Option.{ForSome};
 ghost use Rattle.nor_core.specs.Count.{Rose};
-ghost use Rattle.nor_core.specs.Flash.{SameOutside};
+ghost use Rattle.nor_core.specs.Flash.{erased};
 ghost use Rattle.nor_core.specs.Device.{Changes};
 ghost use Rattle.image_laws.specs.Blocks.{magic_mark};
-ghost use Rattle.flash_view.specs.Places.{magic_start};
 ghost use Rattle.flash_view.specs.Same.{IsSameView};
-ghost use Rattle.page_put.specs.Fresh.{Freshens, IsFresh, UnitGoes, UnitErased, ErasedTo, with_magic};
+ghost use Rattle.page_put.specs.Fresh.{Freshens, IsFresh, UnitCut, InErasing, MarkCut, FreshCut, blank, with_magic};
 
 use flash_view::View;
 use geometry::Geometry;
@@ -17,6 +16,7 @@ use page_layout::{count_offset, magic_offset};
 fn unit_mark(g: &Geometry, block: u16, i: u32) -> Option<Mark>
     requires { block < g.now.blocks }
     ensures first { i ≡ 0 → result ≡ Some (magic_mark g.now block) }
+    ensures later { i ≢ 0 → result ≡ None }
     ensures inside { ForSome result (λ m. m.at + 2 ≤ g.now.phys) }
 {
     if i > 0 {
@@ -33,8 +33,8 @@ fn erase_unit<N: Nor>(v: &mut View<'_, N>, block: u16, i: u32) -> Result<(), Fai
     requires block { block < v.old.geometry.blocks }
     requires unit { i < v.old.geometry.block / v.old.geometry.phys }
     ensures cause { OnErr result (Rose (N.faults v.old.nor.now) (N.faults v.new.nor.now)) }
-    ensures changes { Changes N.NorState v.old.nor.now v.new.nor.now (UnitGoes v.old.geometry block i) }
-    ensures done { N.tells v.old.nor.now → OnOk result (UnitErased v.old.geometry block i (N.bytes v.old.nor.now) (N.bytes v.new.nor.now)) }
+    ensures changes { Changes N.NorState v.old.nor.now v.new.nor.now (UnitCut v.old.geometry block i) }
+    ensures done { N.tells v.old.nor.now → OnOk result (N.bytes v.new.nor.now ≡ erased (N.bytes v.old.nor.now) (block * v.old.geometry.block + i * v.old.geometry.phys) v.old.geometry.phys) }
     ensures same { IsSameView v.old v.new }
     ensures wrote { v.new.wrote ≡ true }
 {
@@ -47,8 +47,8 @@ fn erase_unit<N: Nor>(v: &mut View<'_, N>, block: u16, i: u32) -> Result<(), Fai
 fn erase_block<N: Nor>(v: &mut View<'_, N>, block: u16) -> Result<(), Failed>
     requires block { block < v.old.geometry.blocks }
     ensures cause { OnErr result (Rose (N.faults v.old.nor.now) (N.faults v.new.nor.now)) }
-    ensures changes { Changes N.NorState v.old.nor.now v.new.nor.now (Freshens v.old.geometry block) }
-    ensures done { N.tells v.old.nor.now → OnOk result (ErasedTo v.old.geometry block v.old.geometry.block (N.bytes v.old.nor.now) (N.bytes v.new.nor.now)) }
+    ensures changes { Changes N.NorState v.old.nor.now v.new.nor.now (InErasing v.old.geometry block) }
+    ensures done { N.tells v.old.nor.now → OnOk result (N.bytes v.new.nor.now ≡ blank v.old.geometry block (N.bytes v.old.nor.now)) }
     ensures same { IsSameView v.old v.new }
     ensures wrote { v.new.wrote ≡ true }
 {
@@ -65,7 +65,7 @@ fn erase_block<N: Nor>(v: &mut View<'_, N>, block: u16) -> Result<(), Failed>
 fn mark_block<N: Nor>(v: &mut View<'_, N>, block: u16, count: u16) -> Result<(), Failed>
     requires { block < v.old.geometry.blocks }
     ensures cause { OnErr result (Rose (N.faults v.old.nor.now) (N.faults v.new.nor.now)) }
-    ensures changes { Changes N.NorState v.old.nor.now v.new.nor.now (SameOutside (magic_start v.old.geometry block) 4) }
+    ensures changes { Changes N.NorState v.old.nor.now v.new.nor.now (MarkCut v.old.geometry block count) }
     ensures done { N.tells v.old.nor.now → OnOk result (N.bytes v.new.nor.now ≡ with_magic v.old.geometry block count (N.bytes v.old.nor.now)) }
     ensures same { IsSameView v.old v.new }
     ensures wrote { v.new.wrote ≡ true }
@@ -79,7 +79,7 @@ fn mark_block<N: Nor>(v: &mut View<'_, N>, block: u16, count: u16) -> Result<(),
 
 /// Makes a block fresh: erases its units from the first upwards, the first with the block's magic as its mark, then
 /// programs the erase count, then the magic. A cut leaves the block as it was, or without any live page: it lacks its magic
-/// or is free.
+/// or is free, and where a bit of the magic may be cleared the whole erase count stands.
 #[tactic(auto, using(flash_view::proofs::Looking::same_then))]
 pub fn fresh_block<N: Nor>(v: &mut View<'_, N>, block: u16, count: u16) -> Result<(), Failed>
     requires block { block < v.old.geometry.blocks }
@@ -89,6 +89,8 @@ pub fn fresh_block<N: Nor>(v: &mut View<'_, N>, block: u16, count: u16) -> Resul
     ensures same { IsSameView v.old v.new }
     ensures wrote { v.new.wrote ≡ true }
     ensures changes { Changes N.NorState v.old.nor.now v.new.nor.now (Freshens v.old.geometry block) }
+    ensures order { Changes N.NorState v.old.nor.now v.new.nor.now (FreshCut v.old.geometry block count) }
+    ensures bytes { N.tells v.old.nor.now → OnOk result (N.bytes v.new.nor.now ≡ with_magic v.old.geometry block count (blank v.old.geometry block (N.bytes v.old.nor.now))) }
     ensures done { N.tells v.old.nor.now → OnOk result (IsFresh v.old.geometry block count (N.bytes v.old.nor.now) (N.bytes v.new.nor.now)) }
 {
     erase_block(v, block)?;

@@ -1,4 +1,4 @@
-pub mod Going
+pub mod Inside
 pub mod Units
 pub mod Blanks
 pub mod Empty

@@ -1,5 +1,4 @@
 pub mod Formatted
-pub mod Goes
 pub mod Mounts
 pub mod Needs
 pub mod Reads

@@ -2,9 +2,10 @@ ghost use Rattle.std.specs.Prelude.{◌≡◌, ◌+◌, ◌*◌, ◌/◌, ◌<�
 ghost use Rattle.std.specs.Option.{IfSome};
 ghost use Rattle.geometry.specs.Numbers.{write_refusal};
 ghost use Rattle.nor_core.specs.Count.{Rose};
+ghost use Rattle.nor_core.specs.Flash.{SameOutside};
+ghost use Rattle.nor_core.specs.Device.{Changes};
 ghost use Rattle.page_put.specs.Fresh.{ErasedTo};
 ghost use Rattle.vol_mount.specs.Formatted.{MakesBlank, BlankTo, IsFormatted};
-ghost use Rattle.vol_mount.specs.Goes.{GoesOn};
 ghost use Rattle.vol_mount.specs.Needs.{is_wrong_chip};
 
 use crate::MountErr;
@@ -19,7 +20,7 @@ fn erase_block<N: Nor>(g: &Geometry, nor: &mut N, block: u32) -> Result<(), Fail
     requires unit { N.unit nor.old ≡ g.now.phys }
     requires volume { g.now.blocks * g.now.block ≤ N.size nor.old }
     ensures cause { OnErr result (Rose (N.faults nor.old) (N.faults nor.new)) }
-    ensures goes { GoesOn N.NorState nor.old nor.new }
+    ensures changes { Changes N.NorState nor.old nor.new (SameOutside 0 (g.now.blocks * g.now.block)) }
     ensures done { N.tells nor.old → OnOk result (ErasedTo g.now block g.now.block (N.bytes nor.old) (N.bytes nor.new)) }
 {
     let units = g.block() / g.phys();
@@ -39,7 +40,7 @@ fn format_block<N: Nor>(g: &Geometry, nor: &mut N, block: u32) -> Result<(), Fai
     requires unit { N.unit nor.old ≡ g.now.phys }
     requires volume { g.now.blocks * g.now.block ≤ N.size nor.old }
     ensures cause { OnErr result (Rose (N.faults nor.old) (N.faults nor.new)) }
-    ensures goes { GoesOn N.NorState nor.old nor.new }
+    ensures changes { Changes N.NorState nor.old nor.new (SameOutside 0 (g.now.blocks * g.now.block)) }
     ensures done { N.tells nor.old → OnOk result (MakesBlank g.now block (N.bytes nor.old) (N.bytes nor.new)) }
 {
     erase_block(g, nor, block)?;
@@ -53,6 +54,7 @@ fn format_blocks<N: Nor>(g: &Geometry, nor: &mut N) -> Result<(), Failed>
     requires unit { N.unit nor.old ≡ g.now.phys }
     requires volume { g.now.blocks * g.now.block ≤ N.size nor.old }
     ensures cause { OnErr result (Rose (N.faults nor.old) (N.faults nor.new)) }
+    ensures changes { Changes N.NorState nor.old nor.new (SameOutside 0 (g.now.blocks * g.now.block)) }
     ensures done { N.tells nor.old → OnOk result (BlankTo g.now g.now.blocks (N.bytes nor.old) (N.bytes nor.new)) }
 {
     for block in 0..g.blocks() {
@@ -63,13 +65,15 @@ fn format_blocks<N: Nor>(g: &Geometry, nor: &mut N) -> Result<(), Failed>
 
 /// Makes an empty volume: every block is erased, its erase count is 0, and its magic is right. A volume
 /// that may not be written and a device that doesn't fit are refused first (`Wrong`); where the device
-/// fails, it can be called again. A cut inside leaves what the next call makes good.
+/// fails, it can be called again. A cut inside leaves what the next call makes good. Done, failed or cut off, it changes
+/// no byte behind the volume.
 pub fn format<N: Nor>(g: &Geometry, nor: &mut N) -> Result<(), MountErr>
     ensures writable { IfSome (write_refusal g.now) (λ why. result ≡ Err (MountErr.Wrong why)) }
     ensures chip { write_refusal g.now ≡ None → is_wrong_chip g.now (N.unit nor.old) (N.size nor.old) ≡ true → result ≡ Err (MountErr.Wrong GeoErr.WrongChip) }
     ensures refused { (why : GeoErr) → result ≡ Err (MountErr.Wrong why) → nor.new ≡ nor.old }
     ensures only { write_refusal g.now ≡ None → is_wrong_chip g.now (N.unit nor.old) (N.size nor.old) ≡ false → IfErr result (λ why. why ≡ MountErr.DeviceFault) }
     ensures cause { result ≡ Err MountErr.DeviceFault → Rose (N.faults nor.old) (N.faults nor.new) }
+    ensures changes { Changes N.NorState nor.old nor.new (SameOutside 0 (g.now.blocks * g.now.block)) }
     ensures done { N.tells nor.old → OnOk result (IsFormatted g.now (N.bytes nor.old) (N.bytes nor.new)) }
 {
     if let Err(why) = g.writable() {

@@ -8,8 +8,12 @@ mod mounting;
 mod reader;
 mod reading;
 
+pub use fd_table::FdSlot;
 pub use formatting::format;
+pub use geometry::{GeoErr, Geometry, MagicKind};
+pub use image_model::Damage;
 pub use lent::{Lent, MountErr, Part, Returned};
 pub use mounting::{accept, mount};
 pub use reader::Reader;
 pub use reading::next_record;
+pub use table_model::{Differ, FsErr, Meta, Name, Stat, Tag};

@@ -25,7 +25,11 @@ mod volume;
 mod write;
 mod writing;
 
+pub use fd_table::FdSlot;
+pub use geometry::{GeoErr, Geometry, MagicKind};
 pub use stage::Stage;
+pub use table_model::{Call, Differ, FsErr, Info, Meta, Name, Reply, Stat, Tag, Whence};
 pub use told::Told;
 pub use vol_check::{CheckErr, Report};
+pub use vol_mount::{Lent, MountErr, Part, Returned, accept, format};
 pub use volume::{Unmounted, Volume};

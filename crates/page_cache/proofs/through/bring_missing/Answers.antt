@@ -1,7 +1,7 @@
 use Rattle.std.proofs.Common.{inl, inr, ⊎_elim, sym, ◌∙◌, ap, arith}
-use Rattle.page_cache.specs.Frames.{number_of}
+use Rattle.page_cache.specs.Frames.{number_of, page_in}
 use Rattle.page_cache.proofs.Places.{count_same}
-use Rattle.page_cache.proofs.Held.{keeps_but, holds_by, not_held, few_got}
+use Rattle.page_cache.proofs.Held.{keeps_but, keeps_others, holds_by, not_held, few_got}
 use Rattle.page_cache.proofs.Keeping.{kept_loaded}
 use Rattle.page_cache.proofs.through.bring_missing.Goals as goal
 
@@ -15,7 +15,7 @@ returns-in_err-load_frame-clause-kept g c =
 pub returns-in_err-load_frame-clause-stays : goal.returns-in_err-load_frame-clause-stays
 returns-in_err-load_frame-clause-stays g c =
     let same = count_same c.args.g.now c.args.frames.now c.load_frame.new.frames c.load_frame.auto.frames in
-    ⊎_elim (λ all. inl all)
+    ⊎_elim (λ all. inl (record { full = all; gone = page_in c.args.g.now c.args.frames.now c.pick-f.result; others = keeps_others c.args.g.now c.args.frames.now c.load_frame.new.frames c.pick-f.result same (λ h ne. ap number_of (c.load_frame.ensures.others h ne)) }))
     (λ free. inr (keeps_but c.args.g.now c.args.frames.now c.load_frame.new.frames c.pick-f.result same free (λ h ne. ap number_of (c.load_frame.ensures.others h ne))))
     c.pick-f.ensures.free
 
@@ -34,7 +34,7 @@ returns-clause-below g c =
 pub returns-clause-stays : goal.returns-clause-stays
 returns-clause-stays g c =
     let same = count_same c.args.g.now c.args.frames.now c.load_frame.new.frames c.load_frame.auto.frames in
-    ⊎_elim (λ all. inl all)
+    ⊎_elim (λ all. inl (record { full = all; gone = page_in c.args.g.now c.args.frames.now c.pick-f.result; others = keeps_others c.args.g.now c.args.frames.now c.load_frame.new.frames c.pick-f.result same (λ h ne. ap number_of (c.load_frame.ensures.others h ne)) }))
     (λ free. inr (keeps_but c.args.g.now c.args.frames.now c.load_frame.new.frames c.pick-f.result same free (λ h ne. ap number_of (c.load_frame.ensures.others h ne))))
     c.pick-f.ensures.free
 

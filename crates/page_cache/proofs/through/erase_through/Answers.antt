@@ -1,8 +1,9 @@
 use Rattle.std.proofs.Common.{◌≡◌, ℕ, ◌+◌, ◌*◌, ◌/◌, ◌≤◌, sym, ap, subst, arith}
 use Rattle.std.proofs.Math.Nat.{mul-le-mul_right, div-mul-le_self}
 use Rattle.nor_core.specs.Flash.{erased, SameOutside}
+use Rattle.page_cache.specs.Frames.{KeepsOutside}
 use Rattle.page_cache.proofs.Places.{count_same}
-use Rattle.page_cache.proofs.Held.{keeps_numbers, few_kept}
+use Rattle.page_cache.proofs.Held.{keeps_numbers, keeps_outside, few_kept}
 use Rattle.page_cache.proofs.Keeping.{kept_erased, kept_failed, half_outside}
 use Rattle.page_cache.proofs.through.erase_through.Goals as goal
 
@@ -34,3 +35,9 @@ returns-in-Err-clause-kept g c =
     kept_failed c.args.g.now c.args.nor.now c.erase.new.self c.args.frames.now c.give_up_all.new.frames same (c.args.unit_ix * c.unit-unit.result) c.unit-unit.result c.requires.kept c.erase.ensures.changes.cuts.told_before
     (λ tells. subst (λ (n : ℕ). SameOutside (c.args.unit_ix * n) n (g.N.NorState.bytes c.args.nor.now) (g.N.NorState.bytes c.erase.new.self)) (sym c.unit-unit.ensures) (half_outside _ _ _ _ _ (c.in-Err.ensures.half tells)))
     c.give_up_all.ensures
+
+pub returns-in-Err-clause-outside : goal.returns-in-Err-clause-outside
+returns-in-Err-clause-outside g c =
+    let same = count_same c.args.g.now c.args.frames.now c.give_up_all.new.frames c.give_up_all.auto.frames in
+    subst (λ (n : ℕ). KeepsOutside c.args.g.now (c.args.unit_ix * n) n c.args.frames.now c.give_up_all.new.frames) c.unit-unit.ensures
+    (keeps_outside c.args.g.now (c.args.unit_ix * c.unit-unit.result) c.unit-unit.result c.args.frames.now c.give_up_all.new.frames same c.give_up_all.ensures)

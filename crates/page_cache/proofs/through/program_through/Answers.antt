@@ -1,6 +1,6 @@
 use Rattle.std.proofs.Common.{length, arith}
 use Rattle.page_cache.proofs.Places.{count_same}
-use Rattle.page_cache.proofs.Held.{keeps_numbers, few_kept}
+use Rattle.page_cache.proofs.Held.{keeps_numbers, keeps_outside, few_kept}
 use Rattle.page_cache.proofs.Keeping.{kept_programmed, kept_failed}
 use Rattle.page_cache.proofs.through.program_through.Goals as goal
 
@@ -24,3 +24,8 @@ pub returns-in-Err-clause-kept : goal.returns-in-Err-clause-kept
 returns-in-Err-clause-kept g c =
     let same = count_same c.args.g.now c.args.frames.now c.give_up_all.new.frames c.give_up_all.auto.frames in
     kept_failed c.args.g.now c.args.nor.now c.program.new.self c.args.frames.now c.give_up_all.new.frames same c.args.at (length c.args.from.now) c.requires.kept c.program.ensures.changes.cuts.told_before (λ tells. (c.program.ensures.changes.now tells).outside) c.give_up_all.ensures
+
+pub returns-in-Err-clause-outside : goal.returns-in-Err-clause-outside
+returns-in-Err-clause-outside g c =
+    let same = count_same c.args.g.now c.args.frames.now c.give_up_all.new.frames c.give_up_all.auto.frames in
+    keeps_outside c.args.g.now c.args.at (length c.args.from.now) c.args.frames.now c.give_up_all.new.frames same c.give_up_all.ensures

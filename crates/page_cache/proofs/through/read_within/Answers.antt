@@ -3,6 +3,7 @@ use Rattle.geometry.specs.Numbers.{page_count}
 use Rattle.page_cache.specs.Frames.{IsCopy, number_of, page_in, frame_at}
 use Rattle.page_cache.proofs.Places.{page_inside}
 use Rattle.page_cache.proofs.Copies.{copy_range}
+use Rattle.page_cache.proofs.Held.{holds_by}
 use Rattle.page_cache.proofs.through.read_within.Goals as goal
 
 pub returns-clause-read : goal.returns-clause-read
@@ -17,3 +18,6 @@ returns-clause-read g c tells =
     let copy = subst (IsCopy me.page bytes) (sym c.frame.ensures.frame) (subst (λ (l : List ℕ). IsCopy me.page l (frame_at me c.bring.new.frames c.in_ok-f.f)) c.bring.ensures.reads.bytes right) in
     c.copy_from_slice.ensures.after ∙
     copy_range me.page c.args.page c.args.start (length c.args.into.now) (8 + c.args.start) (8 + c.args.start + length c.args.into.now) bytes c.frame.result.now copy number c.requires.inside (omega (arith, inside, long, c.requires.volume)) c.frame.ensures.size (omega arith) (omega arith)
+
+pub returns-clause-held : goal.returns-clause-held
+returns-clause-held g c = holds_by c.args.g.now c.bring.new.frames c.in_ok-f.f c.args.page c.in_ok-f.ensures.below c.in_ok-f.ensures.number

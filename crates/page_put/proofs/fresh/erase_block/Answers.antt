@@ -1,36 +1,44 @@
-use Rattle.std.proofs.Common.{◌/◌, ◌<◌, arith, subst}
-use Rattle.geometry.specs.declared.geometry.Geometry.{Geometry}
+use Rattle.std.proofs.Common.{◌/◌, ◌<◌, refl, sym, arith, rules}
+use Rattle.nor_core.proofs.Cuts.{unchanged}
 use Rattle.flash_view.proofs.Looking.{same_then}
-use Rattle.page_put.specs.Fresh.{UnitErased}
-use Rattle.page_put.proofs.Freshening.{erased_more, erased_all}
-use Rattle.page_put.proofs.Erasures.{freshens_then}
+use Rattle.flash_view.proofs.Stepped.{view_image}
+use Rattle.page_put.proofs.Freshening.{erasing_none, none_erased}
+use Rattle.page_put.proofs.Erasures.{erasing_then, front_then, front_all}
 use Rattle.page_put.proofs.fresh.erase_block.Goals as goal
+
+pub loop-i-init : goal.loop-i-init
+loop-i-init g c =
+    let view = c.args.v.now in
+    record {
+      units = rw (c.block.ensures, c.phys.ensures) refl;
+      below = omega arith;
+      same = search rules;
+      wrote = refl;
+      changes = unchanged _ _ (λ tells. erasing_none view.geometry c.args.block _ c.requires.block (view_image view (g.met.N.Nor.sized _) tells));
+      done = λ tells. sym (none_erased view.geometry c.args.block _ c.requires.block (view_image view (g.met.N.Nor.sized _) tells));
+    }
 
 pub returns-in_err-erase_unit-clause-changes : goal.returns-in_err-erase_unit-clause-changes
 returns-in_err-erase_unit-clause-changes g c =
     let was = c.loop-i.invariant in
-    freshens_then c.args.v.now.geometry c.loop-i.v.geometry c.args.block c.loop-i.i was.same.geometry (omega (arith, was.units, c.loop-i-test.true)) was.changes was.done c.erase_unit.ensures.changes
+    erasing_then c.args.v.now.geometry c.loop-i.v.geometry c.args.block c.loop-i.i was.same.geometry (omega (arith, was.units, c.loop-i-test.true)) was.done was.changes c.erase_unit.ensures.changes
 
 pub loop-i-preserved : goal.loop-i-preserved
 loop-i-preserved g c =
     let was = c.loop-i.invariant in
     let view = c.args.v.now in
-    let image = g.N.NorState.bytes view.nor.now in
-    let geometry = view.geometry in
-    let low : c.loop-i.i < geometry.block / geometry.phys = omega (arith, was.units, c.loop-i-test.true) in
+    let low : c.loop-i.i < view.geometry.block / view.geometry.phys = omega (arith, was.units, c.loop-i-test.true) in
     record {
       units = was.units;
+      below = omega (arith, c.loop-i-test.true);
       same = same_then was.same c.in_ok-erase_unit.ensures.same;
       wrote = c.in_ok-erase_unit.ensures.wrote;
-      changes = freshens_then geometry c.loop-i.v.geometry c.args.block c.loop-i.i was.same.geometry low was.changes was.done c.in_ok-erase_unit.ensures.changes;
-      done = λ tells.
-          let step = c.in_ok-erase_unit.ensures.done (was.changes.cuts.told tells) in
-          erased_more geometry c.args.block c.loop-i.i image (g.N.NorState.bytes c.loop-i.v.nor.now) low (was.done tells) (g.N.NorState.bytes c.erase_unit.new.v.nor.now)
-          (subst (λ (k : Geometry). UnitErased k c.args.block c.loop-i.i (g.N.NorState.bytes c.loop-i.v.nor.now) (g.N.NorState.bytes c.erase_unit.new.v.nor.now)) was.same.geometry step);
+      changes = erasing_then view.geometry c.loop-i.v.geometry c.args.block c.loop-i.i was.same.geometry low was.done was.changes c.in_ok-erase_unit.ensures.changes;
+      done = λ tells. front_then view.geometry c.loop-i.v.geometry c.args.block c.loop-i.i was.same.geometry low _ _ _ c.requires.block (view_image view (g.met.N.Nor.sized _) tells) (was.done tells)
+          (c.in_ok-erase_unit.ensures.done (was.changes.cuts.told tells));
     }
 
 pub returns-clause-done : goal.returns-clause-done
 returns-clause-done g c = λ tells.
     let was = c.loop-i.invariant in
-    let view = c.args.v.now in
-    erased_all view.geometry c.args.block c.loop-i.i (g.N.NorState.bytes view.nor.now) (g.N.NorState.bytes c.loop-i.v.nor.now) (omega (arith, was.units, c.loop-i-test.false)) (was.done tells)
+    front_all c.args.v.now.geometry c.args.block c.loop-i.i _ _ (omega (arith, was.units, was.below, c.loop-i-test.false)) (was.done tells)

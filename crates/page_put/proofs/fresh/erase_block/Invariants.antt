@@ -1,15 +1,16 @@
--- The units below `i` are erased, and each image that a cut may have left has the block as it was, or no page of it live.
-use Rattle.std.proofs.Common.{◌≡◌, ◌*◌, ◌/◌, true}
+-- The units below `i` are erased, and each image that a cut may have left has one of them in its erase.
+use Rattle.std.proofs.Common.{◌≡◌, ◌*◌, ◌/◌, ◌≤◌, true}
 use Rattle.nor_core.specs.Device.{Changes}
 use Rattle.flash_view.specs.Same.{IsSameView}
-use Rattle.page_put.specs.Fresh.{Freshens, ErasedTo}
+use Rattle.page_put.specs.Fresh.{InErasing, with_front_erased}
 use Rattle.page_put.proofs.fresh.erase_block.Given as goal
 
 abbrev pub invariant-loop-i : goal.invariant-loop-i
 invariant-loop-i g l = record {
   units : l.units ≡ l.fn.v.geometry.block / l.fn.v.geometry.phys;
+  below : l.i ≤ l.units;
   same : IsSameView l.fn.v l.v;
   wrote : l.v.wrote ≡ true;
-  changes : Changes g.N.NorState l.fn.v.nor.now l.v.nor.now (Freshens l.fn.v.geometry l.block);
-  done : (g.N.NorState.tells l.fn.v.nor.now → ErasedTo l.fn.v.geometry l.block (l.i * l.fn.v.geometry.phys) (g.N.NorState.bytes l.fn.v.nor.now) (g.N.NorState.bytes l.v.nor.now));
+  changes : Changes g.N.NorState l.fn.v.nor.now l.v.nor.now (InErasing l.fn.v.geometry l.block);
+  done : (g.N.NorState.tells l.fn.v.nor.now → g.N.NorState.bytes l.v.nor.now ≡ with_front_erased l.fn.v.geometry l.block (l.i * l.fn.v.geometry.phys) (g.N.NorState.bytes l.fn.v.nor.now));
 }

@@ -2,12 +2,13 @@ use Rattle.std.proofs.Common.{◌≡◌, ◌*◌, ◌/◌, ◌<◌, ◌≤◌, �
 use Rattle.page_put.proofs.Freshening.{erased_all}
 use Rattle.vol_mount.proofs.Blanks.{unit_more}
 use Rattle.vol_mount.proofs.Units.{unit_inside}
+use Rattle.vol_mount.proofs.Inside.{inside_then, inside_unit}
 use Rattle.vol_mount.proofs.formatting.erase_block.Goals as goal
 
 pub erase-requires-clause-inside : goal.erase-requires-clause-inside
 erase-requires-clause-inside g c =
-    let unit : g.N.NorState.unit c.loop-i.nor ≡ c.args.g.now.phys = c.loop-i.invariant.goes.unit ∙ c.requires.unit in
-    let fits : c.args.g.now.blocks * c.args.g.now.block ≤ g.N.NorState.size c.loop-i.nor = rw c.loop-i.invariant.goes.size c.requires.volume in
+    let unit : g.N.NorState.unit c.loop-i.nor ≡ c.args.g.now.phys = c.loop-i.invariant.changes.cuts.unit ∙ c.requires.unit in
+    let fits : c.args.g.now.blocks * c.args.g.now.block ≤ g.N.NorState.size c.loop-i.nor = rw c.loop-i.invariant.changes.cuts.size c.requires.volume in
     let i : c.loop-i.i < c.args.g.now.block / c.args.g.now.phys = rw (← c.block.ensures, ← c.phys.ensures) c.loop-i-test.true in
     rw (unit, c.block.ensures, c.phys.ensures) (unit_inside c.args.g.now c.args.block c.loop-i.i (g.N.NorState.size c.loop-i.nor) c.requires.block i fits)
 
@@ -17,22 +18,26 @@ loop-i-preserved g c =
     let volume = c.args.g.now in
     let step = c.in_ok-erase.ensures in
     record {
-      goes = record {
-        unit = step.changes.cuts.unit ∙ was.goes.unit;
-        size = step.changes.cuts.size ∙ was.goes.size;
-        told = λ tells. step.changes.cuts.told (was.goes.told tells);
-        faults = omega (arith, was.goes.faults, step.changes.cuts.faults);
-      };
+      changes = inside_then _ was.changes
+          (inside_unit volume c.args.block c.loop-i.i _ _ c.erase.result c.requires.block (omega (arith, was.units, c.loop-i-test.true)) (cc) (was.changes.cuts.unit ∙ c.requires.unit)
+          (λ tells. omega (arith, g.met.N.Nor.sized c.loop-i.nor tells, was.changes.cuts.size, c.requires.volume)) c.erase.ensures.done c.erase.ensures.half step.changes);
       units = was.units;
       mark = was.mark;
       done = λ tells.
-          let unit : g.N.NorState.unit c.loop-i.nor ≡ volume.phys = was.goes.unit ∙ c.requires.unit in
+          let unit : g.N.NorState.unit c.loop-i.nor ≡ volume.phys = was.changes.cuts.unit ∙ c.requires.unit in
           let fits : volume.blocks * volume.block ≤ length (g.N.NorState.bytes c.args.nor.now) = omega (arith, g.met.N.Nor.sized c.args.nor.now tells, c.requires.volume) in
           unit_more volume c.args.block c.loop-i.i _ (g.N.NorState.unit c.loop-i.nor) (g.N.NorState.bytes c.args.nor.now) (g.N.NorState.bytes c.loop-i.nor) (g.N.NorState.bytes c.erase.new.self)
-          c.requires.block (omega (arith, was.units, c.loop-i-test.true)) (cc) unit fits (was.done tells) (step.done (was.goes.told tells));
+          c.requires.block (omega (arith, was.units, c.loop-i-test.true)) (cc) unit fits (was.done tells) (step.done (was.changes.cuts.told tells));
     }
 
 pub returns-clause-done : goal.returns-clause-done
 returns-clause-done g c = λ tells.
     let was = c.loop-i.invariant in
     erased_all c.args.g.now c.args.block c.loop-i.i (g.N.NorState.bytes c.args.nor.now) (g.N.NorState.bytes c.loop-i.nor) (omega (arith, was.units, c.loop-i-test.false)) (was.done tells)
+
+pub returns-in_err-erase-clause-changes : goal.returns-in_err-erase-clause-changes
+returns-in_err-erase-clause-changes g c =
+    let was = c.loop-i.invariant in
+    inside_then _ was.changes
+    (inside_unit c.args.g.now c.args.block c.loop-i.i _ _ c.erase.result c.requires.block (omega (arith, was.units, c.loop-i-test.true)) (cc) (was.changes.cuts.unit ∙ c.requires.unit)
+    (λ tells. omega (arith, g.met.N.Nor.sized c.loop-i.nor tells, was.changes.cuts.size, c.requires.volume)) c.erase.ensures.done c.erase.ensures.half c.erase.ensures.changes)

@@ -1,12 +1,13 @@
 -- The blocks below `block` are blank, and all behind them is as it was.
-use Rattle.std.proofs.Common.{◌≡◌}
+use Rattle.std.proofs.Common.{◌≡◌, ◌*◌}
+use Rattle.nor_core.specs.Flash.{SameOutside}
+use Rattle.nor_core.specs.Device.{Changes}
 use Rattle.vol_mount.specs.Formatted.{BlankTo}
-use Rattle.vol_mount.specs.Goes.{GoesOn}
 use Rattle.vol_mount.proofs.formatting.format_blocks.Given as goal
 
 abbrev pub invariant-loop-block : goal.invariant-loop-block
 invariant-loop-block g l = record {
-  goes : GoesOn g.N.NorState l.fn.nor l.nor;
+  changes : Changes g.N.NorState l.fn.nor l.nor (SameOutside 0 (l.g.blocks * l.g.block));
   end : l.block-end ≡ l.g.blocks;
   done : (g.N.NorState.tells l.fn.nor → BlankTo l.g l.block (g.N.NorState.bytes l.fn.nor) (g.N.NorState.bytes l.nor));
 }
