@@ -1,5 +1,5 @@
 -- Looking at a volume time after time.
-use Rattle.std.proofs.Common.{◌∙◌, refl, subst, arith}
+use Rattle.std.proofs.Common.{◌≡◌, List, ℕ, ◌∙◌, refl, subst, take, arith}
 use Rattle.nor_core.proofs.Cuts.{reads_then, reads_none}
 use Rattle.nor_core.specs.declared.state.NorState.{Ghosts as NorOf}
 use Rattle.geometry.specs.declared.geometry.Geometry.{Geometry}
@@ -28,3 +28,8 @@ module _ {N : Type 0} {nor : NorOf N} where
 
   pub looks_none : (v : View N nor) → OnlyLooks v v
   looks_none v = record { reads = reads_none v.nor.now; wrote = refl; same = same_none v }
+
+  -- the page that is being built stays from call to call
+  pub built_then : {old mid : View N nor} → OnlyLooks old mid → take old.geometry.page mid.work.now ≡ take old.geometry.page old.work.now → (now : List ℕ) → take mid.geometry.page now ≡ take mid.geometry.page mid.work.now →
+      take old.geometry.page now ≡ take old.geometry.page old.work.now
+  built_then {old} {mid} looks first now second = subst (λ (g : Geometry). take g.page now ≡ take g.page mid.work.now) looks.same.geometry second ∙ first

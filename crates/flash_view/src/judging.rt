@@ -1,4 +1,4 @@
-ghost use Rattle.std.specs.Prelude.{◌≡◌, ◌+◌, ◌-◌, ◌*◌, ◌/◌, ◌<◌, ◌≤◌, ◌%◌, ◌^◌, ◌==◌, ◌&&◌, not, min, List, ℕ, OnErr, IfOk, IsTrue, is_some};
+ghost use Rattle.std.specs.Prelude.{◌≡◌, ◌+◌, ◌-◌, ◌*◌, ◌/◌, ◌<◌, ◌≤◌, ◌%◌, ◌^◌, ◌==◌, ◌&&◌, not, min, List, ℕ, OnErr, IfOk, IsTrue, is_some, take};
 ghost use Rattle.geometry.specs.Numbers.{page_count, head_slots, span_slots};
 ghost use Rattle.nor_core.specs.Count.{Rose};
 ghost use Rattle.page_layout.specs.Layout.{names_index};
@@ -227,6 +227,7 @@ impl<'b, N: Nor> View<'b, N> {
         ensures cause { OnErr result (Rose (N.faults self.old.nor.now) (N.faults self.new.nor.now)) }
         ensures looks { OnlyLooks self.old self.new }
         ensures told { N.tells self.old.nor.now → IfOk result (λ cause. cause ≡ cause_of (judged self.old.geometry (own (live_at self.old.geometry (N.bytes self.old.nor.now)) id) id (page_of self.old.geometry (N.bytes self.old.nor.now) header))) }
+        ensures built { take self.old.geometry.page self.new.work.now ≡ take self.old.geometry.page self.old.work.now }
     {
         let (name, size) = self.head_of(header)?;
         if name.is_none() {
@@ -246,6 +247,7 @@ impl<'b, N: Nor> View<'b, N> {
         ensures looks { OnlyLooks self.old self.new }
         ensures named { N.tells self.old.nor.now → IfOk result (λ head. head.0 ≡ the_name_of (page_of self.old.geometry (N.bytes self.old.nor.now) header)) }
         ensures sized { N.tells self.old.nor.now → IfOk result (λ head. head.1 ≡ size_of (page_of self.old.geometry (N.bytes self.old.nor.now) header)) }
+        ensures built { take self.old.geometry.page self.new.work.now ≡ take self.old.geometry.page self.old.work.now }
     {
         self.fetch(header)?;
         let head = self.fetched();

@@ -1,4 +1,4 @@
-ghost use Rattle.std.specs.Prelude.{◌≡◌, ◌<◌, ◌≤◌, length, OnErr, IfOk, IfSome};
+ghost use Rattle.std.specs.Prelude.{◌≡◌, ◌<◌, ◌≤◌, length, OnErr, IfOk, IfSome, take};
 ghost use Rattle.geometry.specs.Numbers.{page_count};
 ghost use Rattle.nor_core.specs.Count.{Rose};
 ghost use Rattle.flash_view.specs.Same.{OnlyLooks};
@@ -20,6 +20,7 @@ impl<'b, N: Nor> View<'b, N> {
         ensures inside { IfOk result (λ next. IfSome next (λ n. n.1 < page_count self.old.geometry)) }
         ensures above { IfOk result (λ next. IfSome next (λ n. after < n.0)) }
         ensures told { N.tells self.old.nor.now → IfOk result (λ next. NextFile self.old.geometry (N.bytes self.old.nor.now) after next) }
+        ensures built { take self.old.geometry.page self.new.work.now ≡ take self.old.geometry.page self.old.work.now }
     {
         let mut at = after;
         'ids: while let Some((id, header)) = self.next_marked(marks, at)? {
@@ -40,6 +41,7 @@ impl<'b, N: Nor> View<'b, N> {
         ensures looks { OnlyLooks self.old self.new }
         ensures inside { IfOk result (λ page. IfSome page (λ p. p < page_count self.old.geometry)) }
         ensures told { N.tells self.old.nor.now → IfOk result (λ page. TheFile self.old.geometry (N.bytes self.old.nor.now) id page) }
+        ensures built { take self.old.geometry.page self.new.work.now ≡ take self.old.geometry.page self.old.work.now }
     {
         let Some(header) = self.find_index(id, 0)? else {
             return Ok(None);
@@ -63,6 +65,7 @@ impl<'b, N: Nor> View<'b, N> {
         ensures looks { OnlyLooks self.old self.new }
         ensures above { IfOk result (λ next. IfSome next (λ n. after < n.0)) }
         ensures told { N.tells self.old.nor.now → IfOk result (λ next. next ≡ damaged_above self.old.geometry (N.bytes self.old.nor.now) after) }
+        ensures built { take self.old.geometry.page self.new.work.now ≡ take self.old.geometry.page self.old.work.now }
     {
         let mut at = after;
         'ids: while let Some((id, header)) = self.next_marked(marks, at)? {

@@ -1,4 +1,4 @@
-ghost use Rattle.std.specs.Prelude.{◌≡◌, ◌<◌, ◌%◌, ◌==◌, ◌&&◌, not, nat_lt, OnErr, IfOk, IfSome, Some, None, if◌then◌else◌};
+ghost use Rattle.std.specs.Prelude.{◌≡◌, ◌<◌, ◌%◌, ◌==◌, ◌&&◌, not, nat_lt, OnErr, IfOk, IfSome, Some, None, if◌then◌else◌, take};
 ghost use Rattle.std.specs.Option.{option_map};
 ghost use Rattle.geometry.specs.Numbers.{page_count};
 ghost use Rattle.nor_core.specs.Count.{Rose};
@@ -173,6 +173,7 @@ impl<'b, N: Nor> View<'b, N> {
         ensures cause { OnErr result (Rose (N.faults self.old.nor.now) (N.faults self.new.nor.now)) }
         ensures looks { OnlyLooks self.old self.new }
         ensures told { N.tells self.old.nor.now → IfOk result (λ id. NextId self.old.geometry (N.bytes self.old.nor.now) after id) }
+        ensures work { self.new.work.now ≡ self.old.work.now }
     {
         let mut least = None;
         for page in 0..self.geometry.pages() as u16 {
@@ -188,6 +189,7 @@ impl<'b, N: Nor> View<'b, N> {
         ensures cause { OnErr result (Rose (N.faults self.old.nor.now) (N.faults self.new.nor.now)) }
         ensures looks { OnlyLooks self.old self.new }
         ensures told { N.tells self.old.nor.now → IfOk result (λ id. id ≡ first_named self.old.geometry (N.bytes self.old.nor.now) name.now) }
+        ensures built { take self.old.geometry.page self.new.work.now ≡ take self.old.geometry.page self.old.work.now }
     {
         for page in 0..self.geometry.pages() as u16 {
             if let Some(id) = self.named_id(page, name)? {
@@ -204,6 +206,7 @@ impl<'b, N: Nor> View<'b, N> {
         ensures cause { OnErr result (Rose (N.faults self.old.nor.now) (N.faults self.new.nor.now)) }
         ensures looks { OnlyLooks self.old self.new }
         ensures told { N.tells self.old.nor.now → IfOk result (λ id. id ≡ named_at (live_at self.old.geometry (N.bytes self.old.nor.now) page) name.now) }
+        ensures built { take self.old.geometry.page self.new.work.now ≡ take self.old.geometry.page self.old.work.now }
     {
         let Some(id) = self.header_id(page)? else {
             return Ok(None);
@@ -239,6 +242,7 @@ impl<'b, N: Nor> View<'b, N> {
         ensures cause { OnErr result (Rose (N.faults self.old.nor.now) (N.faults self.new.nor.now)) }
         ensures looks { OnlyLooks self.old self.new }
         ensures told { N.tells self.old.nor.now → IfOk result (λ name. name ≡ the_name_of (page_of self.old.geometry (N.bytes self.old.nor.now) page)) }
+        ensures built { take self.old.geometry.page self.new.work.now ≡ take self.old.geometry.page self.old.work.now }
     {
         self.fetch(page)?;
         Ok(name_of(self.fetched()))
@@ -250,6 +254,7 @@ impl<'b, N: Nor> View<'b, N> {
         ensures cause { OnErr result (Rose (N.faults self.old.nor.now) (N.faults self.new.nor.now)) }
         ensures looks { OnlyLooks self.old self.new }
         ensures told { N.tells self.old.nor.now → IfOk result (λ has. has ≡ is_name (the_name_of (page_of self.old.geometry (N.bytes self.old.nor.now) page)) name.now) }
+        ensures built { take self.old.geometry.page self.new.work.now ≡ take self.old.geometry.page self.old.work.now }
     {
         Ok(match self.name_at(page)? {
             Some(found) => found.as_slice() == name,

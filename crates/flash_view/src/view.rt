@@ -266,6 +266,7 @@ impl<'b, N: Nor> View<'b, N> {
         ensures cause { OnErr result (Rose (N.faults self.old.nor.now) (N.faults self.new.nor.now)) }
         ensures looks { OnlyLooks self.old self.new }
         ensures told { N.tells self.old.nor.now → IfOk result (λ blank. blank ≡ the_erased (page_of self.old.geometry (N.bytes self.old.nor.now) page)) }
+        ensures built { take self.old.geometry.page self.new.work.now ≡ take self.old.geometry.page self.old.work.now }
     {
         self.fetch(page)?;
         Ok(is_erased(self.fetched()))

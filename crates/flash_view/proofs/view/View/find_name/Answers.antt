@@ -1,10 +1,10 @@
-use Rattle.std.proofs.Common.{◌≡◌, ◌∙◌, sym, Some, None}
+use Rattle.std.proofs.Common.{◌≡◌, ◌∙◌, sym, Some, None, refl}
 use Rattle.std.proofs.Math.Nat.{sub-zero}
 use Rattle.image_model.specs.Volume.{page_count, per_block}
 use Rattle.flash_view.specs.Marks.{whole_at}
 use Rattle.flash_view.proofs.Finds.{first_here, first_later}
 use Rattle.flash_view.proofs.Holders.{first_whole}
-use Rattle.flash_view.proofs.Looking.{looks_none, looks_then}
+use Rattle.flash_view.proofs.Looking.{looks_none, looks_then, built_then}
 use Rattle.flash_view.proofs.view.View.find_name.Goals as goal
 
 pub loop-page-init : goal.loop-page-init
@@ -12,6 +12,7 @@ unfolding page_count per_block
 loop-page-init g c = record {
   pages = c.pages-page-end.ensures;
   looks = looks_none c.args.self.now;
+  built = refl;
   told = λ tells. rw (sub-zero c.pages-page-end.result, c.pages-page-end.ensures) (first_whole c.args.self.now.geometry (g.N.NorState.bytes c.args.self.now.nor.now) c.args.name.now);
 }
 
@@ -31,6 +32,7 @@ loop-page-preserved g c =
     record {
       pages = was.pages;
       looks = looks_then was.looks looked.looks;
+      built = built_then was.looks was.built _ looked.built;
       told = λ tells.
           let view = c.args.self.now in
           let image = g.N.NorState.bytes view.nor.now in

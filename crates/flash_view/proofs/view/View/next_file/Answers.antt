@@ -1,7 +1,7 @@
-use Rattle.std.proofs.Common.{◌≡◌, ◌∙◌, subst, Some, None, Option, ℕ, arith}
+use Rattle.std.proofs.Common.{◌≡◌, ◌∙◌, subst, Some, None, Option, ℕ, arith, ap, take}
 use Rattle.flash_view.specs.Marks.{NextHead, cause_at}
 use Rattle.flash_view.proofs.Stepping.{file_more, file_next, file_last, is_gone, is_there}
-use Rattle.flash_view.proofs.Looking.{looks_then}
+use Rattle.flash_view.proofs.Looking.{looks_then, built_then}
 use Rattle.flash_view.proofs.view.View.next_file.Goals as goal
 
 pub returns-then-is_none-clause-told : goal.returns-then-is_none-clause-told
@@ -22,6 +22,7 @@ ids-preserved g c =
     let head = c.in_ok-id.ensures in
     record {
       looks = looks_then (looks_then was.looks head.looks) c.in_ok-damage.ensures.looks;
+      built = built_then (looks_then was.looks head.looks) (built_then was.looks was.built _ (ap (take _) head.work)) _ c.in_ok-damage.ensures.built;
       low = (let above = rw c.in-Some.is at head.above in omega (arith, above, was.low));
       told = λ tells.
           let geo = c.args.self.now.geometry in

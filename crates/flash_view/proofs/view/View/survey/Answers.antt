@@ -2,7 +2,7 @@ use Rattle.std.proofs.Common.{◌≡◌, ℕ, ◌+◌, ◌<◌, ◌≤◌, List,
 use Rattle.std.proofs.lemmas.List.{get_or-set_same, get_or-set_other}
 use Rattle.std.proofs.lemmas.Bool.{cases_lt}
 use Rattle.flash_view.specs.Marks.{mark_of}
-use Rattle.flash_view.proofs.Looking.{looks_then}
+use Rattle.flash_view.proofs.Looking.{looks_then, built_then}
 use Rattle.flash_view.proofs.view.View.survey.Goals as goal
 
 -- one mark more is right
@@ -23,6 +23,7 @@ loop-page-preserved g c =
     record {
       pages = was.pages;
       looks = looks_then was.looks turn.looks;
+      built = built_then was.looks was.built _ turn.built;
       told = λ tells.
           let mark : c.in_ok-marks.field-0 ≡ mark_of view.geometry image c.loop-page.page =
           rw (was.looks.same.geometry, was.looks.reads.bytes) at (turn.told (was.looks.reads.told tells)) in
