@@ -7,15 +7,16 @@ use Rattle.geometry.specs.declared.geometry.Geometry.{Geometry}
 use Rattle.nor_core.specs.declared.device.Mark.{Mark}
 use Rattle.nor_core.specs.declared.device.Failed.{Failed}
 use Rattle.nor_core.specs.declared.state.NorState.{Ghosts as NorOf}
-use Rattle.nor_core.specs.Flash.{SameOutside, HalfErased, erased}
+use Rattle.nor_core.specs.Flash.{SameOutside, HalfProgrammed, HalfErased, erased}
 use Rattle.nor_core.specs.Device.{Changes, InErase}
 use Rattle.nor_core.proofs.Cuts.{wider, go_on}
 use Rattle.image_model.specs.Places.{IsImage}
 use Rattle.image_laws.specs.Blocks.{magic_mark}
+use Rattle.image_laws.proofs.Placing.{wider as outside_in}
 use Rattle.image_model.specs.Volume.{lookups, per_block}
 use Rattle.flash_view.specs.Places.{magic_start}
 use Rattle.page_put.specs.Fresh.{Freshens, IsFresh, UnitGoes, UnitErased, ErasedTo, with_magic}
-use Rattle.page_put.proofs.Freshening.{lies, unit_inside, unit_done, unit_half, unit_all, freshens_more, freshens_slots, is_fresh}
+use Rattle.page_put.proofs.Freshening.{lies, unit_inside, unit_done, unit_half, unit_all, freshens_more, freshens_slots, is_fresh, outside_on}
 
 -- a device that holds the volume holds an image of it
 pub image_of : (g : Geometry) (bytes : List ℕ) (size : ℕ) → length bytes ≡ size → g.blocks * g.block ≤ size → IsImage g bytes
@@ -68,6 +69,13 @@ pub freshens_then : {D : Type 0} {nor : NorOf D} (g h : Geometry) (block i : ℕ
     Changes nor mid new (UnitGoes h block i) → Changes nor old new (Freshens g block)
 freshens_then {nor = nor} g h block i {old} {mid} {new} same small before so_far goes =
     go_on before (subst (λ (k : Geometry). Changes nor mid new (UnitGoes k block i)) same goes) (λ tells image was step. freshens_more g block i (nor.bytes old) (nor.bytes mid) small (so_far tells) image was step)
+
+-- the programs of two slots one after the other, the second of them first
+pub slots_go : {D : Type 0} {nor : NorOf D} (start p q : ℕ) (a b : List ℕ) {old mid new : D} → length a ≡ 2 → length b ≡ 2 → p ≡ start + 2 → q ≡ start →
+    Changes nor old mid (HalfProgrammed p a) → Changes nor mid new (HalfProgrammed q b) → Changes nor old new (SameOutside start 4)
+slots_go {nor = nor} start p q a b {old} {mid} {new} two pair high low first second =
+    go_on (wider first (λ tells image cut. outside_in p (length a) start 4 (nor.bytes old) image (omega (arith, high)) (omega (arith, high, two)) cut.outside)) second
+    (λ tells image was step. outside_on start 4 (nor.bytes old) (nor.bytes mid) image was (outside_in q (length b) start 4 (nor.bytes mid) image (omega (arith, low)) (omega (arith, low, pair)) step.outside))
 
 -- the programs of the last two slots after the erase
 module _ {D : Type 0} {nor : NorOf D} (g h : Geometry) (block : ℕ) {old mid new : D} (same : h ≡ g) (low : block < g.blocks) (image_is : nor.tells old → IsImage g (nor.bytes old))

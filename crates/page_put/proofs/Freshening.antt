@@ -10,7 +10,7 @@ use Rattle.std.proofs.lemmas.List.{length-take, length-drop, length-replicate}
 use Rattle.geometry.specs.declared.geometry.Geometry.{Geometry}
 use Rattle.geometry.specs.declared.magic.MagicKind.{MagicKind}
 use Rattle.geometry.specs.declared.magic.MagicKind.TheVariants.{Plain, Length}
-use Rattle.geometry.specs.Numbers.{length_mark, right_magic}
+use Rattle.geometry.specs.Numbers.{length_mark, right_magic, slots as slots_in}
 use Rattle.nor_core.specs.declared.device.Mark.{Mark}
 use Rattle.nor_core.specs.Flash.{SameOutside, Scrambled, HalfErased, erased, programmed}
 use Rattle.page_cache.proofs.Copies.{erased_before, erased_after, erased_inside}
@@ -196,6 +196,21 @@ module _ (g : Geometry) (block i : ℕ) (was now : List ℕ) (low : i < g.block 
             (λ (first : i ≡ 0 → has_magic g image block ≡ false). inr (inl (lacks first)))
             goes.spoils;
       }
+
+-- a block's lookup pages have slots for its magic and its erase count
+pub slots_many : (g : Geometry) → 2 ≤ slots_in g
+unfolding lookups
+slots_many g = omega (arith, (lies g).some)
+
+-- a block has units
+pub units_some : (g : Geometry) → 0 < g.block / g.phys
+units_some g = ⊎_elim
+    (λ (some : 0 < g.block / g.phys). some)
+    (λ (none : g.block / g.phys ≤ 0).
+    let zero_is : g.block / g.phys ≡ 0 = omega (arith, none) in
+    let bytes : g.phys * 0 ≡ g.block = rw zero_is at (lies g).units in
+    absurd (omega (arith, bytes, (lies g).some, (lies g).pages, (lies g).inside)))
+    (cases_lt 0 (g.block / g.phys))
 
 pub erased_all : (g : Geometry) (block i : ℕ) (was now : List ℕ) → g.block / g.phys ≤ i → ErasedTo g block (i * g.phys) was now → ErasedTo g block g.block was now
 erased_all g block i was now all so_far =

@@ -2,7 +2,7 @@ use Rattle.std.proofs.Common.{◌/◌, ◌<◌, arith, subst}
 use Rattle.geometry.specs.declared.geometry.Geometry.{Geometry}
 use Rattle.flash_view.proofs.Looking.{same_then}
 use Rattle.page_put.specs.Fresh.{UnitErased}
-use Rattle.page_put.proofs.Freshening.{erased_more, erased_all}
+use Rattle.page_put.proofs.Freshening.{erased_more, erased_all, units_some}
 use Rattle.page_put.proofs.Erasures.{freshens_then}
 use Rattle.page_put.proofs.fresh.erase_block.Goals as goal
 
@@ -21,7 +21,7 @@ loop-i-preserved g c =
     record {
       units = was.units;
       same = same_then was.same c.in_ok-erase_unit.ensures.same;
-      wrote = c.in_ok-erase_unit.ensures.wrote;
+      wrote = λ some. c.in_ok-erase_unit.ensures.wrote;
       changes = freshens_then geometry c.loop-i.v.geometry c.args.block c.loop-i.i was.same.geometry low was.changes was.done c.in_ok-erase_unit.ensures.changes;
       done = λ tells.
           let step = c.in_ok-erase_unit.ensures.done (was.changes.cuts.told tells) in
@@ -34,3 +34,8 @@ returns-clause-done g c = λ tells.
     let was = c.loop-i.invariant in
     let view = c.args.v.now in
     erased_all view.geometry c.args.block c.loop-i.i (g.N.NorState.bytes view.nor.now) (g.N.NorState.bytes c.loop-i.v.nor.now) (omega (arith, was.units, c.loop-i-test.false)) (was.done tells)
+
+pub returns-clause-wrote : goal.returns-clause-wrote
+returns-clause-wrote g c =
+    let was = c.loop-i.invariant in
+    was.wrote (omega (arith, was.units, c.loop-i-test.false, units_some c.args.v.now.geometry))
