@@ -9,7 +9,7 @@ ghost use Rattle.image_model.specs.Live.{live_at, own, is_live as the_live};
 ghost use Rattle.image_model.specs.Files.{is_index, index_page};
 ghost use Rattle.flash_view.specs.Places.{IsEntryPage};
 ghost use Rattle.flash_view.specs.Same.{OnlyLooks};
-ghost use Rattle.flash_view.specs.Judging.{lookup_entry as the_lookup_entry};
+ghost use Rattle.flash_view.specs.DataPages.{lookup_entry as the_lookup_entry};
 ghost use Rattle.flash_view.specs.Found.{NextId, headed, lower as the_lower, is_name, named_at, first_named};
 
 use crate::View;
@@ -103,9 +103,9 @@ impl<'b, N: Nor> View<'b, N> {
         Ok(self.live_header(page)?.is_some())
     }
 
-    // The lookup entry of a page, and 0 where the page is a lookup page itself.
-    #[tactic(auto, unfolding(crate::specs::Judging::lookup_entry))]
-    pub(crate) fn lookup_entry(&mut self, page: u16) -> Result<u16, Failed>
+    /// The lookup entry of a page, and 0 where the page is a lookup page itself.
+    #[tactic(auto, unfolding(crate::specs::DataPages::lookup_entry))]
+    pub fn lookup_entry(&mut self, page: u16) -> Result<u16, Failed>
         requires { page < page_count self.old.geometry }
         ensures cause { OnErr result (Rose (N.faults self.old.nor.now) (N.faults self.new.nor.now)) }
         ensures looks { OnlyLooks self.old self.new }
@@ -236,8 +236,8 @@ impl<'b, N: Nor> View<'b, N> {
         })
     }
 
-    // The name that a page tells in the field of header pages, where it tells one.
-    pub(crate) fn name_at(&mut self, page: u16) -> Result<Option<Name>, Failed>
+    /// The name that a page tells in the field of header pages, where it tells one.
+    pub fn name_at(&mut self, page: u16) -> Result<Option<Name>, Failed>
         requires { page < page_count self.old.geometry }
         ensures cause { OnErr result (Rose (N.faults self.old.nor.now) (N.faults self.new.nor.now)) }
         ensures looks { OnlyLooks self.old self.new }
@@ -248,8 +248,8 @@ impl<'b, N: Nor> View<'b, N> {
         Ok(name_of(self.fetched()))
     }
 
-    // Whether a page holds that name, in the field of header pages.
-    pub(crate) fn has_name(&mut self, page: u16, name: &[u8]) -> Result<bool, Failed>
+    /// Whether a page holds that name, in the field of header pages.
+    pub fn has_name(&mut self, page: u16, name: &[u8]) -> Result<bool, Failed>
         requires { page < page_count self.old.geometry }
         ensures cause { OnErr result (Rose (N.faults self.old.nor.now) (N.faults self.new.nor.now)) }
         ensures looks { OnlyLooks self.old self.new }
