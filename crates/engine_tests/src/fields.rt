@@ -3,6 +3,7 @@
 use crate::bench::{Answer, Ask, Memory, asked, board_of};
 use crate::hand::{filed, small};
 use crate::pages::{fresh_image, put_file, put_index};
+use file_find::{find_file, survey};
 use file_read::read_at;
 use flash_view::View;
 use geometry::{Geometry, MagicKind};
@@ -94,8 +95,8 @@ fn read_whole(
     if marks.len() < v.geometry.pages() as usize {
         return Ok(None);
     }
-    v.survey(marks)?;
-    if v.find_file(marks, id)?.is_none() {
+    survey(v, marks)?;
+    if find_file(v, marks, id)?.is_none() {
         return Ok(None);
     }
     Ok(Some(read_at(v, id, at, into)?))

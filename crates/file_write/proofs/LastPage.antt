@@ -24,7 +24,7 @@ use Rattle.image_laws.proofs.Frames.{live_parts}
 use Rattle.image_laws.proofs.Serving.{ceil-mono}
 use Rattle.image_laws.proofs.Finished.{finished-programmed}
 use Rattle.image_laws.proofs.Placing.{wider}
-use Rattle.flash_view.specs.Judging.{numbered, data_number, data_number_of}
+use Rattle.flash_view.specs.DataPages.{numbered, data_number, data_number_of}
 use Rattle.flash_view.specs.Steps.{Begins, Finishes, making}
 use Rattle.free_search.specs.Had.{IsClear}
 use Rattle.free_search.proofs.HadBy.{less_had, in_place_had}

@@ -7,7 +7,7 @@ use Rattle.std.proofs.lemmas.Option.{none-some}
 use Rattle.geometry.specs.declared.geometry.Geometry.{Geometry}
 use Rattle.geometry.specs.Numbers.{page_count as all_pages}
 use Rattle.table_model.specs.Table.{File}
-use Rattle.flash_view.specs.Judging.{data_number_of}
+use Rattle.flash_view.specs.DataPages.{data_number_of}
 use Rattle.flash_view.specs.Steps.{Finishes}
 use Rattle.image_model.specs.Live.{live_at, own}
 use Rattle.image_model.specs.Files.{index_page, entry_number}

@@ -21,7 +21,7 @@ use Rattle.image_laws.proofs.Finish.{own-parts}
 use Rattle.image_laws.proofs.Frames.{live_parts}
 use Rattle.renew_laws.specs.Tails.{HasCleanBytes, IsTailReady}
 use Rattle.renew_laws.proofs.Spans.{page_named}
-use Rattle.flash_view.specs.Judging.{data_number, data_number_of}
+use Rattle.flash_view.specs.DataPages.{data_number, data_number_of}
 use Rattle.page_renew.specs.declared.finding.Found.{Found}
 use Rattle.page_renew.specs.Renewals.{IsHome}
 use Rattle.file_write.specs.Readyings.{HasOnes, IsStale}

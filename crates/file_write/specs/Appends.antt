@@ -19,7 +19,7 @@ use Rattle.image_laws.specs.Reindex.{index_span}
 use Rattle.file_write.specs.Beside.{AddedPage, is_data, is_further}
 use Rattle.renew_laws.specs.Primed.{Primed}
 use Rattle.renew_laws.specs.Tails.{IsTailReady}
-use Rattle.flash_view.specs.Judging.{data_number_of}
+use Rattle.flash_view.specs.DataPages.{data_number_of}
 use Rattle.flash_view.specs.declared.kinds.Kind.TheVariants.{Index, Data}
 use Rattle.flash_view.specs.Steps.{Step}
 use Rattle.page_renew.specs.PageSteps.{StepCut, StepDone}

@@ -6,7 +6,7 @@ use Rattle.image_model.specs.Live.{live_at, own}
 use Rattle.image_model.specs.Files.{index_page}
 use Rattle.image_model.specs.Places.{page_of, is_entry_page}
 use Rattle.image_laws.specs.Reindex.{index_span}
-use Rattle.flash_view.specs.Judging.{data_number_of}
+use Rattle.flash_view.specs.DataPages.{data_number_of}
 use Rattle.file_write.specs.declared.relinking.Patch.{Patch}
 use Rattle.file_write.specs.declared.relinking.Spot.{Spot}
 

@@ -15,7 +15,7 @@ use Rattle.image_laws.specs.NewFile.{IsFreePage}
 use Rattle.image_laws.specs.Reindex.{slot_word}
 use Rattle.renew_laws.specs.Reserve.{CanTake}
 use Rattle.renew_laws.specs.Tails.{IsTailReady}
-use Rattle.flash_view.specs.Judging.{data_number_of}
+use Rattle.flash_view.specs.DataPages.{data_number_of}
 use Rattle.flash_view.specs.Steps.{Step}
 use Rattle.page_renew.specs.PageSteps.{StepCut, StepDone}
 use Rattle.file_write.specs.Relinkings.{IsFileAt}

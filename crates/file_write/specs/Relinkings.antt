@@ -22,7 +22,7 @@ use Rattle.renew_laws.specs.Overwrite.{IsPatched}
 use Rattle.renew_laws.specs.Primed.{Primed}
 use Rattle.renew_laws.specs.Reserve.{CanTake}
 use Rattle.renew_laws.specs.Tails.{IsTailReady}
-use Rattle.flash_view.specs.Judging.{data_number_of}
+use Rattle.flash_view.specs.DataPages.{data_number_of}
 use Rattle.flash_view.specs.Steps.{Step}
 use Rattle.page_renew.specs.PageSteps.{StepCut, StepDone}
 use Rattle.free_search.specs.Free.{IsFreeFor}

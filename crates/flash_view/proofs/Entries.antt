@@ -8,7 +8,7 @@ use Rattle.image_model.specs.Places.{page_of, entry_of, has_magic, block_of, is_
 use Rattle.image_model.specs.Live.{live_at, is_live, own}
 use Rattle.image_model.specs.Files.{is_index}
 use Rattle.flash_view.specs.Found.{headed}
-use Rattle.flash_view.specs.Judging.{lookup_entry}
+use Rattle.flash_view.specs.DataPages.{lookup_entry}
 
 some_live : (page x : List ℕ) (live : Bool) → (if live then Some page else None) ≡ Some x → (live ≡ true) × (page ≡ x)
 some_live page x true e = (refl, cc)

@@ -9,8 +9,4 @@ pub mod Least
 pub mod Within
 pub mod Entries
 pub mod Spans
-pub mod Marking
-pub mod Nearest
-pub mod Holders
-pub mod Stepping
 pub mod Stepped

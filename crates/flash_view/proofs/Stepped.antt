@@ -79,6 +79,8 @@ module _ {N : Type 0} {nor : NorOf N} where
       cache_name = same.cache_name;
       cache_size = ap length same.cache;
       faults = let e = ap nor.faults same.device in omega arith;
+      writes = let e = ap nor.device_writes same.device in omega arith;
+      asked = λ before after. let bad : true ≡ false = sym after ∙ (same.wrote ∙ before) in absurd (cc);
       few = rw (same.device, same.cache) (few_none old.geometry old.nor.now old.cache.now);
     };
   }

@@ -1,4 +1,4 @@
-ghost use Rattle.std.specs.Prelude.{◌≡◌, ◌<◌, ◌%◌, ◌==◌, ◌&&◌, not, nat_lt, OnErr, IfOk, IfSome, Some, None, if◌then◌else◌};
+ghost use Rattle.std.specs.Prelude.{◌≡◌, ◌<◌, ◌%◌, ◌==◌, ◌&&◌, not, nat_lt, OnErr, IfOk, IfSome, Some, None, if◌then◌else◌, take};
 ghost use Rattle.std.specs.Option.{option_map};
 ghost use Rattle.geometry.specs.Numbers.{page_count};
 ghost use Rattle.nor_core.specs.Count.{Rose};
@@ -9,7 +9,7 @@ ghost use Rattle.image_model.specs.Live.{live_at, own, is_live as the_live};
 ghost use Rattle.image_model.specs.Files.{is_index, index_page};
 ghost use Rattle.flash_view.specs.Places.{IsEntryPage};
 ghost use Rattle.flash_view.specs.Same.{OnlyLooks};
-ghost use Rattle.flash_view.specs.Judging.{lookup_entry as the_lookup_entry};
+ghost use Rattle.flash_view.specs.DataPages.{lookup_entry as the_lookup_entry};
 ghost use Rattle.flash_view.specs.Found.{NextId, headed, lower as the_lower, is_name, named_at, first_named};
 
 use crate::View;
@@ -103,9 +103,9 @@ impl<'b, N: Nor> View<'b, N> {
         Ok(self.live_header(page)?.is_some())
     }
 
-    // The lookup entry of a page, and 0 where the page is a lookup page itself.
-    #[tactic(auto, unfolding(crate::specs::Judging::lookup_entry))]
-    pub(crate) fn lookup_entry(&mut self, page: u16) -> Result<u16, Failed>
+    /// The lookup entry of a page, and 0 where the page is a lookup page itself.
+    #[tactic(auto, unfolding(crate::specs::DataPages::lookup_entry))]
+    pub fn lookup_entry(&mut self, page: u16) -> Result<u16, Failed>
         requires { page < page_count self.old.geometry }
         ensures cause { OnErr result (Rose (N.faults self.old.nor.now) (N.faults self.new.nor.now)) }
         ensures looks { OnlyLooks self.old self.new }
@@ -173,6 +173,7 @@ impl<'b, N: Nor> View<'b, N> {
         ensures cause { OnErr result (Rose (N.faults self.old.nor.now) (N.faults self.new.nor.now)) }
         ensures looks { OnlyLooks self.old self.new }
         ensures told { N.tells self.old.nor.now → IfOk result (λ id. NextId self.old.geometry (N.bytes self.old.nor.now) after id) }
+        ensures work { self.new.work.now ≡ self.old.work.now }
     {
         let mut least = None;
         for page in 0..self.geometry.pages() as u16 {
@@ -188,6 +189,7 @@ impl<'b, N: Nor> View<'b, N> {
         ensures cause { OnErr result (Rose (N.faults self.old.nor.now) (N.faults self.new.nor.now)) }
         ensures looks { OnlyLooks self.old self.new }
         ensures told { N.tells self.old.nor.now → IfOk result (λ id. id ≡ first_named self.old.geometry (N.bytes self.old.nor.now) name.now) }
+        ensures built { take self.old.geometry.page self.new.work.now ≡ take self.old.geometry.page self.old.work.now }
     {
         for page in 0..self.geometry.pages() as u16 {
             if let Some(id) = self.named_id(page, name)? {
@@ -204,6 +206,7 @@ impl<'b, N: Nor> View<'b, N> {
         ensures cause { OnErr result (Rose (N.faults self.old.nor.now) (N.faults self.new.nor.now)) }
         ensures looks { OnlyLooks self.old self.new }
         ensures told { N.tells self.old.nor.now → IfOk result (λ id. id ≡ named_at (live_at self.old.geometry (N.bytes self.old.nor.now) page) name.now) }
+        ensures built { take self.old.geometry.page self.new.work.now ≡ take self.old.geometry.page self.old.work.now }
     {
         let Some(id) = self.header_id(page)? else {
             return Ok(None);
@@ -233,23 +236,25 @@ impl<'b, N: Nor> View<'b, N> {
         })
     }
 
-    // The name that a page tells in the field of header pages, where it tells one.
-    pub(crate) fn name_at(&mut self, page: u16) -> Result<Option<Name>, Failed>
+    /// The name that a page tells in the field of header pages, where it tells one.
+    pub fn name_at(&mut self, page: u16) -> Result<Option<Name>, Failed>
         requires { page < page_count self.old.geometry }
         ensures cause { OnErr result (Rose (N.faults self.old.nor.now) (N.faults self.new.nor.now)) }
         ensures looks { OnlyLooks self.old self.new }
         ensures told { N.tells self.old.nor.now → IfOk result (λ name. name ≡ the_name_of (page_of self.old.geometry (N.bytes self.old.nor.now) page)) }
+        ensures built { take self.old.geometry.page self.new.work.now ≡ take self.old.geometry.page self.old.work.now }
     {
         self.fetch(page)?;
         Ok(name_of(self.fetched()))
     }
 
-    // Whether a page holds that name, in the field of header pages.
-    pub(crate) fn has_name(&mut self, page: u16, name: &[u8]) -> Result<bool, Failed>
+    /// Whether a page holds that name, in the field of header pages.
+    pub fn has_name(&mut self, page: u16, name: &[u8]) -> Result<bool, Failed>
         requires { page < page_count self.old.geometry }
         ensures cause { OnErr result (Rose (N.faults self.old.nor.now) (N.faults self.new.nor.now)) }
         ensures looks { OnlyLooks self.old self.new }
         ensures told { N.tells self.old.nor.now → IfOk result (λ has. has ≡ is_name (the_name_of (page_of self.old.geometry (N.bytes self.old.nor.now) page)) name.now) }
+        ensures built { take self.old.geometry.page self.new.work.now ≡ take self.old.geometry.page self.old.work.now }
     {
         Ok(match self.name_at(page)? {
             Some(found) => found.as_slice() == name,

@@ -4,7 +4,7 @@ ghost use Rattle.std.specs.Option.{ForSome};
 ghost use Rattle.geometry.specs.Numbers.{cache_need};
 ghost use Rattle.nor_core.specs.Count.{Rose};
 ghost use Rattle.nor_core.specs.Flash.{HalfProgrammed, programmed, erased, HalfErased};
-ghost use Rattle.nor_core.specs.Device.{OnlyReads, Changes, InErase, Leaves, Says, InSay};
+ghost use Rattle.nor_core.specs.Device.{OnlyReads, Changes, InErase, Writes, Leaves, Says, InSay};
 ghost use Rattle.page_cache.specs.Frames.{InOnePage};
 ghost use Rattle.page_cache.specs.Kept.{IsKept, FewReads};
 
@@ -50,6 +50,7 @@ pub(crate) fn program_cached<N: Nor>(
     requires some { 0 < length from.now }
     requires inside { at + length from.now ≤ N.size nor.old }
     ensures cause { OnErr result (Rose (N.faults nor.old) (N.faults nor.new)) }
+    ensures writes { Writes N.NorState nor.old nor.new }
     ensures changes { Changes N.NorState nor.old nor.new (HalfProgrammed at from.now) }
     ensures done { N.tells nor.old → OnOk result (N.bytes nor.new ≡ programmed (N.bytes nor.old) at from.now) }
     ensures few { FewReads N.NorState g nor.old cache.old nor.new cache.new }
@@ -76,6 +77,7 @@ pub(crate) fn program_part<N: Nor>(
     requires inside { end ≤ length bytes.old }
     requires fits { at + (end - start) ≤ N.size nor.old }
     ensures cause { OnErr result (Rose (N.faults nor.old) (N.faults nor.new)) }
+    ensures writes { Writes N.NorState nor.old nor.new }
     ensures changes { Changes N.NorState nor.old nor.new (HalfProgrammed at (slice_range bytes.old start end)) }
     ensures done { N.tells nor.old → OnOk result (N.bytes nor.new ≡ programmed (N.bytes nor.old) at (slice_range bytes.old start end)) }
     ensures few { FewReads N.NorState g nor.old cache.old nor.new cache.new }
@@ -101,6 +103,7 @@ pub(crate) fn erase_cached<N: Nor>(
     ensures done { N.tells nor.old → OnOk result (N.bytes nor.new ≡ erased (N.bytes nor.old) (unit_ix * N.unit nor.old) (N.unit nor.old)) }
     ensures half { N.tells nor.old → OnErr result (HalfErased (unit_ix * N.unit nor.old) (N.unit nor.old) mark (N.bytes nor.old) (N.bytes nor.new)) }
     ensures cause { OnErr result (Rose (N.faults nor.old) (N.faults nor.new)) }
+    ensures writes { Writes N.NorState nor.old nor.new }
     ensures changes { Changes N.NorState nor.old nor.new (InErase N.NorState nor.old nor.new unit_ix mark) }
     ensures few { FewReads N.NorState g nor.old cache.old nor.new cache.new }
     ensures kept { IsKept N.NorState g nor.new cache.new }

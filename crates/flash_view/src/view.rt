@@ -40,7 +40,7 @@ impl<'b, N: Nor> View<'b, N> {
     ghost use Rattle.geometry.specs.Numbers.{work_need, cache_need, page_count};
     ghost use Rattle.nor_core.specs.Count.{Rose};
     ghost use Rattle.nor_core.specs.Flash.{HalfProgrammed, programmed, HalfErased, erased};
-    ghost use Rattle.nor_core.specs.Device.{Changes, InErase};
+    ghost use Rattle.nor_core.specs.Device.{Changes, InErase, Writes};
     ghost use Rattle.flash_view.specs.Places.{IsEntryPage, IsWordAt, page_start as the_page_start, entry_start as the_entry_start};
     ghost use Rattle.image_model.specs.Headers.{word_at};
     ghost use Rattle.image_model.specs.Places.{page_of, entry_at, entry_of as the_entry_of, has_magic as the_magic, erase_count as the_erase_count};
@@ -266,6 +266,7 @@ impl<'b, N: Nor> View<'b, N> {
         ensures cause { OnErr result (Rose (N.faults self.old.nor.now) (N.faults self.new.nor.now)) }
         ensures looks { OnlyLooks self.old self.new }
         ensures told { N.tells self.old.nor.now → IfOk result (λ blank. blank ≡ the_erased (page_of self.old.geometry (N.bytes self.old.nor.now) page)) }
+        ensures built { take self.old.geometry.page self.new.work.now ≡ take self.old.geometry.page self.old.work.now }
     {
         self.fetch(page)?;
         Ok(is_erased(self.fetched()))
@@ -276,6 +277,7 @@ impl<'b, N: Nor> View<'b, N> {
         requires some { 0 < length from.now }
         requires inside { at + length from.now ≤ self.old.geometry.blocks * self.old.geometry.block }
         ensures cause { OnErr result (Rose (N.faults self.old.nor.now) (N.faults self.new.nor.now)) }
+        ensures writes { Writes N.NorState self.old.nor.now self.new.nor.now }
         ensures changes { Changes N.NorState self.old.nor.now self.new.nor.now (HalfProgrammed at from.now) }
         ensures done { N.tells self.old.nor.now → OnOk result (N.bytes self.new.nor.now ≡ programmed (N.bytes self.old.nor.now) at from.now) }
         ensures work { self.new.work.now ≡ self.old.work.now }
@@ -291,6 +293,7 @@ impl<'b, N: Nor> View<'b, N> {
         requires inside { (unit_ix + 1) * self.old.geometry.phys ≤ self.old.geometry.blocks * self.old.geometry.block }
         requires marked { ForSome mark (λ m. m.at + 2 ≤ self.old.geometry.phys) }
         ensures cause { OnErr result (Rose (N.faults self.old.nor.now) (N.faults self.new.nor.now)) }
+        ensures writes { Writes N.NorState self.old.nor.now self.new.nor.now }
         ensures done { N.tells self.old.nor.now → OnOk result (N.bytes self.new.nor.now ≡ erased (N.bytes self.old.nor.now) (unit_ix * self.old.geometry.phys) self.old.geometry.phys) }
         ensures half { N.tells self.old.nor.now → OnErr result (HalfErased (unit_ix * self.old.geometry.phys) self.old.geometry.phys mark (N.bytes self.old.nor.now) (N.bytes self.new.nor.now)) }
         ensures changes { Changes N.NorState self.old.nor.now self.new.nor.now (InErase N.NorState self.old.nor.now self.new.nor.now unit_ix mark) }
@@ -306,6 +309,7 @@ impl<'b, N: Nor> View<'b, N> {
         requires page { page < page_count self.old.geometry }
         requires start { start < self.old.geometry.page }
         ensures cause { OnErr result (Rose (N.faults self.old.nor.now) (N.faults self.new.nor.now)) }
+        ensures writes { Writes N.NorState self.old.nor.now self.new.nor.now }
         ensures changes { Changes N.NorState self.old.nor.now self.new.nor.now (HalfProgrammed (the_page_start self.old.geometry page + start) (slice_range self.old.work.now start self.old.geometry.page)) }
         ensures done { N.tells self.old.nor.now → OnOk result (N.bytes self.new.nor.now ≡ programmed (N.bytes self.old.nor.now) (the_page_start self.old.geometry page + start) (slice_range self.old.work.now start self.old.geometry.page)) }
         ensures work { self.new.work.now ≡ self.old.work.now }
@@ -332,6 +336,7 @@ impl<'b, N: Nor> View<'b, N> {
         requires some { 0 < length from.now }
         requires inside { start + length from.now ≤ self.old.geometry.page }
         ensures cause { OnErr result (Rose (N.faults self.old.nor.now) (N.faults self.new.nor.now)) }
+        ensures writes { Writes N.NorState self.old.nor.now self.new.nor.now }
         ensures changes { Changes N.NorState self.old.nor.now self.new.nor.now (HalfProgrammed (the_page_start self.old.geometry page + start) from.now) }
         ensures done { N.tells self.old.nor.now → OnOk result (N.bytes self.new.nor.now ≡ programmed (N.bytes self.old.nor.now) (the_page_start self.old.geometry page + start) from.now) }
         ensures work { self.new.work.now ≡ self.old.work.now }
@@ -346,6 +351,7 @@ impl<'b, N: Nor> View<'b, N> {
     pub fn program_entry(&mut self, page: u16, entry: u16) -> Result<(), Failed>
         requires { IsEntryPage self.old.geometry page }
         ensures cause { OnErr result (Rose (N.faults self.old.nor.now) (N.faults self.new.nor.now)) }
+        ensures writes { Writes N.NorState self.old.nor.now self.new.nor.now }
         ensures changes { Changes N.NorState self.old.nor.now self.new.nor.now (HalfProgrammed (the_entry_start self.old.geometry page) (to_le_bytes w16 entry)) }
         ensures done { N.tells self.old.nor.now → OnOk result (N.bytes self.new.nor.now ≡ programmed (N.bytes self.old.nor.now) (the_entry_start self.old.geometry page) (to_le_bytes w16 entry)) }
         ensures work { self.new.work.now ≡ self.old.work.now }

@@ -3,7 +3,7 @@ use Rattle.std.specs.Prelude.{ℕ, List}
 use Rattle.geometry.specs.declared.geometry.Geometry.{Geometry}
 use Rattle.table_model.specs.Table.{file_above}
 use Rattle.image_model.specs.Tables.{table_of, damaged_of}
-use Rattle.flash_view.specs.Listing.{damaged_above}
+use Rattle.file_find.specs.Listing.{damaged_above}
 use Rattle.image_tool.specs.Texts.{record_line, damage_line, list_text, line_if}
 
 -- the line of the file of the least id above one, or nothing

@@ -5,14 +5,15 @@ ghost use Rattle.geometry.specs.Numbers.{page_count};
 ghost use Rattle.nor_core.specs.Count.{Rose};
 ghost use Rattle.image_model.specs.Tables.{damaged_of};
 ghost use Rattle.flash_view.specs.Same.{IsSameView};
-ghost use Rattle.flash_view.specs.Marks.{IsMarked};
+ghost use Rattle.file_find.specs.Marks.{IsMarked};
 ghost use Rattle.image_tool.specs.Texts.{damage_line, damage_lines};
-ghost use Rattle.flash_view.specs.Listing.{damaged_above};
+ghost use Rattle.file_find.specs.Listing.{damaged_above};
 ghost use Rattle.image_tool.specs.Lists.{next_damage};
 ghost use Rattle.image_tool.specs.Saying.{OnlySays, SaysFront};
 
 use crate::error::ToolErr;
 use crate::lines::put_damaged;
+use file_find::next_damaged;
 use flash_view::View;
 use image_model::Damage;
 use nor_core::{Board, Failed, NorState};
@@ -56,7 +57,7 @@ fn say_next<B: Board>(
     ensures whole { B.tells v.old.nor.now → OnOk result (B.said v.new.nor.now ≡ B.said v.old.nor.now ++ next_damage v.old.geometry (B.bytes v.old.nor.now) after) }
     ensures front { B.tells v.old.nor.now → OnErr result (SaysFront B.NorState v.old.nor.now v.new.nor.now (next_damage v.old.geometry (B.bytes v.old.nor.now) after)) }
 {
-    let Ok(found) = v.next_damaged(marks, after) else {
+    let Ok(found) = next_damaged(v, marks, after) else {
         return Err(ToolErr::BoardFault);
     };
     let Some((id, cause)) = found else {

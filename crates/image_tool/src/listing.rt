@@ -3,13 +3,14 @@ ghost use Rattle.geometry.specs.Numbers.{page_count};
 ghost use Rattle.nor_core.specs.Count.{Rose};
 ghost use Rattle.image_model.specs.Tables.{damaged_of};
 ghost use Rattle.flash_view.specs.Same.{IsSameView};
-ghost use Rattle.flash_view.specs.Marks.{IsMarked};
+ghost use Rattle.file_find.specs.Marks.{IsMarked};
 ghost use Rattle.image_tool.specs.Lists.{list_of};
 ghost use Rattle.image_tool.specs.Saying.{OnlySays, SaysFront};
 
 use crate::damaged::list_damaged;
 use crate::error::ToolErr;
 use crate::records::list_records;
+use file_find::survey;
 use flash_view::View;
 use nor_core::{Board, Failed, NorState};
 
@@ -48,7 +49,7 @@ pub fn list<B: Board>(
     ensures whole { B.tells v.old.nor.now → OnOk result (B.said v.new.nor.now ≡ B.said v.old.nor.now ++ list_of v.old.geometry (B.bytes v.old.nor.now)) }
     ensures front { B.tells v.old.nor.now → OnErr result (SaysFront B.NorState v.old.nor.now v.new.nor.now (list_of v.old.geometry (B.bytes v.old.nor.now))) }
 {
-    match v.survey(marks) {
+    match survey(v, marks) {
         Err(Failed) => Err(ToolErr::BoardFault),
         Ok(()) => list_marked(v, marks, line),
     }

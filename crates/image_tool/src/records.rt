@@ -6,7 +6,7 @@ ghost use Rattle.nor_core.specs.Count.{Rose};
 ghost use Rattle.table_model.specs.Table.{file_above};
 ghost use Rattle.image_model.specs.Tables.{table_of};
 ghost use Rattle.flash_view.specs.Same.{IsSameView};
-ghost use Rattle.flash_view.specs.Marks.{IsMarked};
+ghost use Rattle.file_find.specs.Marks.{IsMarked};
 ghost use Rattle.image_tool.specs.Texts.{stat_line, record_lines};
 ghost use Rattle.image_tool.specs.Lists.{next_record as the_next_record};
 ghost use Rattle.image_tool.specs.Saying.{OnlySays, SaysFront};

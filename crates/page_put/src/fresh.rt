@@ -44,6 +44,7 @@ fn erase_unit<N: Nor>(v: &mut View<'_, N>, block: u16, i: u32) -> Result<(), Fai
 }
 
 // Erases the units of a block from the first upwards.
+#[tactic(auto, using(flash_view::proofs::Looking::same_none))]
 fn erase_block<N: Nor>(v: &mut View<'_, N>, block: u16) -> Result<(), Failed>
     requires block { block < v.old.geometry.blocks }
     ensures cause { OnErr result (Rose (N.faults v.old.nor.now) (N.faults v.new.nor.now)) }
@@ -52,7 +53,6 @@ fn erase_block<N: Nor>(v: &mut View<'_, N>, block: u16) -> Result<(), Failed>
     ensures same { IsSameView v.old v.new }
     ensures wrote { v.new.wrote ≡ true }
 {
-    v.wrote = true;
     let units = v.geometry.block() / v.geometry.phys();
     for i in 0..units {
         erase_unit(v, block, i)?;

@@ -7,8 +7,8 @@ use Rattle.table_model.specs.Table.{File}
 use Rattle.image_model.specs.declared.damage.Damage.{Damage}
 use Rattle.image_model.specs.Tables.{has_of, damaged_of}
 use Rattle.image_laws.proofs.Finish.{has_of-within}
-use Rattle.flash_view.specs.Marks.{IsMarked, NextHead, cause_at}
-use Rattle.flash_view.proofs.Stepping.{gap, past}
+use Rattle.file_find.specs.Marks.{IsMarked, NextHead, cause_at}
+use Rattle.file_find.proofs.Stepping.{gap, past}
 use Rattle.vol_check.specs.Culls.{HasNoDoubles, Passes, PassesDamaged}
 use Rattle.vol_check.specs.Works.{Work, TurnsHead, culling_head, culling_damaged}
 use Rattle.vol_check.proofs.Working.{Goes}

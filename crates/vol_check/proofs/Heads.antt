@@ -26,8 +26,8 @@ use Rattle.image_laws.proofs.Finish.{own-parts, has_of-within}
 use Rattle.image_laws.proofs.Kill.{own-loses, own-loses_other}
 use Rattle.image_laws.proofs.DamagedHead.{counts-gone, counted-gone, table-now, damaged-now, wanted-now}
 use Rattle.flash_view.specs.Found.{headed}
-use Rattle.flash_view.specs.Marks.{mark_as, mark_of, IsMarked, cause_at}
-use Rattle.flash_view.proofs.Marking.{has_at, other_mark}
+use Rattle.file_find.specs.Marks.{mark_as, mark_of, IsMarked, cause_at}
+use Rattle.file_find.proofs.Marking.{has_at, other_mark}
 use Rattle.flash_view.proofs.Spans.{index_known}
 use Rattle.vol_check.specs.Culls.{MayCull, HasNoDoubles, Culls}
 use Rattle.vol_check.specs.Works.{IsHead, TurnsHead, culling, culling_head}

@@ -30,7 +30,7 @@ use Rattle.image_laws.proofs.Wanted.{unwanted-idle}
 use Rattle.image_laws.proofs.Wants.{number-is, wanted_from}
 use Rattle.image_laws.proofs.Unwanted.{wanted-as_before}
 use Rattle.image_laws.proofs.Headless.{headless-is_idle, uncounted-wanted}
-use Rattle.flash_view.specs.Judging.{numbered, data_number, data_number_of}
+use Rattle.flash_view.specs.DataPages.{numbered, data_number, data_number_of}
 use Rattle.vol_check.specs.Culls.{Spares, is_doubled, is_doubled_as, HasNoDoubles, IsSettled, is_unwanted, IsServed, is_served_by, Culls, CullsRest, Passes, PassesRest}
 use Rattle.vol_check.specs.Works.{Work, culling, culling_unwanted}
 use Rattle.vol_check.proofs.CullStep.{spares_by}

@@ -14,8 +14,8 @@ use Rattle.image_model.specs.Killed.{killed_of}
 use Rattle.image_model.specs.Sound.{Keeps, damaged_ids}
 use Rattle.image_laws.specs.Changes.{Loses}
 use Rattle.room_laws.specs.Staged.{OnlyKills}
-use Rattle.flash_view.specs.Judging.{data_number_of}
-use Rattle.flash_view.specs.Marks.{cause_at}
+use Rattle.flash_view.specs.DataPages.{data_number_of}
+use Rattle.file_find.specs.Marks.{cause_at}
 use Rattle.vol_check.specs.Stage.{IsClean}
 
 -- at each cut: the image is sound with its table, and no fewer blocks are free

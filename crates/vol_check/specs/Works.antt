@@ -12,7 +12,7 @@ use Rattle.image_model.specs.Sound.{HasMagics}
 use Rattle.image_model.specs.Tables.{damaged_of}
 use Rattle.image_model.specs.Tidy.{IsTidy}
 use Rattle.flash_view.specs.declared.view.View.{View}
-use Rattle.flash_view.specs.Marks.{IsMarked, cause_at}
+use Rattle.file_find.specs.Marks.{IsMarked, cause_at}
 use Rattle.flash_view.specs.Steps.{Step, Stepped, failed}
 use Rattle.vol_check.specs.declared.checking.Culled.{Culled}
 use Rattle.vol_check.specs.declared.report.Report.{Report}

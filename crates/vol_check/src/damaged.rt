@@ -3,11 +3,12 @@ ghost use Rattle.geometry.specs.Numbers.{page_count};
 ghost use Rattle.image_model.specs.Live.{live_at, own};
 ghost use Rattle.image_model.specs.Files.{index_page};
 ghost use Rattle.image_model.specs.Sound.{HasMagics};
-ghost use Rattle.flash_view.specs.Marks.{IsMarked};
+ghost use Rattle.file_find.specs.Marks.{IsMarked};
 ghost use Rattle.vol_check.specs.Culls.{HasNoDoubles};
 ghost use Rattle.vol_check.specs.Works.{Worked, culling_head, culling_damaged};
 
 use crate::culling::cull;
+use file_find::{damage, next_marked, survey};
 use flash_view::{View, is_entry_page};
 use nor_core::{Failed, Nor, NorState};
 
@@ -28,7 +29,7 @@ fn cull_head<N: Nor>(
     if !is_entry_page(&g, header) {
         return Ok(false);
     }
-    if v.damage(marks, id, header)?.is_none() {
+    if damage(v, marks, id, header)?.is_none() {
         return Ok(false);
     }
     cull(v, header)?;
@@ -45,10 +46,10 @@ pub(crate) fn cull_damaged<N: Nor>(v: &mut View<'_, N>, marks: &mut [u8]) -> Res
     ensures most { IfOk result (λ killed. killed ≤ 65535) }
     ensures work { Worked v.old v.new result culling_damaged }
 {
-    v.survey(marks)?;
+    survey(v, marks)?;
     let mut killed = 0;
     let mut at = 0;
-    'ids: while let Some((id, header)) = v.next_marked(marks, at)? {
+    'ids: while let Some((id, header)) = next_marked(v, marks, at)? {
         killed += u32::from(cull_head(v, marks, id, header)?);
         at = id;
     }

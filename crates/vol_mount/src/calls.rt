@@ -9,13 +9,14 @@ ghost use Rattle.table_model.specs.Files.{stat_of};
 ghost use Rattle.image_model.specs.Kinds.{spoiled_blocks};
 ghost use Rattle.image_model.specs.Tables.{table_of};
 ghost use Rattle.page_cache.specs.Kept.{IsKept, FewReads};
-ghost use Rattle.flash_view.specs.Marks.{IsMarked};
-ghost use Rattle.flash_view.specs.Listing.{damaged_above};
+ghost use Rattle.file_find.specs.Marks.{IsMarked};
+ghost use Rattle.file_find.specs.Listing.{damaged_above};
 ghost use Rattle.vol_mount.specs.Mounts.{IsLate, CountsSpoiled};
 ghost use Rattle.vol_mount.specs.Reads.{ReadAnswers, IsReadErr};
 
 use crate::reading::{next_record, read_file};
 use crate::{MountErr, mount};
+use file_find::{next_damaged, survey};
 use flash_view::View;
 use geometry::Geometry;
 use image_model::Damage;
@@ -79,7 +80,7 @@ pub(crate) fn survey_on<N: Nor>(
         cache,
         wrote: false,
     };
-    v.survey(marks)
+    survey(&mut v, marks)
 }
 
 /// The record of the table's file of the least id above `after`, by right marks.
@@ -145,7 +146,7 @@ pub(crate) fn damaged_on<N: Nor>(
         cache,
         wrote: false,
     };
-    v.next_damaged(marks, after)
+    next_damaged(&mut v, marks, after)
 }
 
 /// The bytes of the table's file of an id, by right marks.

@@ -1,7 +1,7 @@
 ghost use Rattle.std.specs.Prelude.{◌≡◌, ◌*◌, ◌≤◌, length, true};
 ghost use Rattle.geometry.specs.Numbers.{page_count, work_need, cache_need};
 ghost use Rattle.page_cache.specs.Kept.{IsKept};
-ghost use Rattle.flash_view.specs.Marks.{IsMarked};
+ghost use Rattle.file_find.specs.Marks.{IsMarked};
 
 use crate::calls::{damaged_on, mount_on, next_on, read_on, survey_on};
 use crate::{Lent, MountErr, Returned};
@@ -50,7 +50,7 @@ impl<'b, N: Nor> Reader<'b, N> {
     ghost use Rattle.image_model.specs.Kinds.{spoiled_blocks};
     ghost use Rattle.image_model.specs.Tables.{table_of};
     ghost use Rattle.page_cache.specs.Frames.{held};
-    ghost use Rattle.flash_view.specs.Listing.{damaged_above};
+    ghost use Rattle.file_find.specs.Listing.{damaged_above};
     ghost use Rattle.vol_mount.specs.Mounts.{IsLate, CountsSpoiled};
     ghost use Rattle.vol_mount.specs.Reads.{ReadAnswers, IsReadErr};
     ghost use Rattle.vol_mount.specs.Readers.{IsSameReader};

@@ -6,9 +6,10 @@ ghost use Rattle.table_model.specs.Table.{file_above};
 ghost use Rattle.table_model.specs.Files.{stat_of};
 ghost use Rattle.image_model.specs.Tables.{table_of};
 ghost use Rattle.flash_view.specs.Same.{OnlyLooks};
-ghost use Rattle.flash_view.specs.Marks.{IsMarked};
+ghost use Rattle.file_find.specs.Marks.{IsMarked};
 ghost use Rattle.vol_mount.specs.Reads.{ReadAnswers, IsReadErr};
 
+use file_find::{find_file, next_file};
 use file_read::{read_from, stat_at};
 use flash_view::{StepErr, View};
 use nor_core::{Failed, Nor, NorState};
@@ -28,7 +29,7 @@ pub fn next_record<N: Nor>(
     ensures above { IfOk result (λ found. IfSome found (λ stat. after < stat.id)) }
     ensures told { N.tells v.old.nor.now → IfOk result (λ found. found ≡ option_map stat_of (file_above after (table_of v.old.geometry (N.bytes v.old.nor.now)))) }
 {
-    match v.next_file(marks, after)? {
+    match next_file(v, marks, after)? {
         Some((id, header)) => stat_at(v, id, header),
         None => Ok(None),
     }
@@ -50,7 +51,7 @@ pub(crate) fn read_file<N: Nor>(
     ensures looks { OnlyLooks v.old v.new }
     ensures told { N.tells v.old.nor.now → ReadAnswers v.old.geometry (N.bytes v.old.nor.now) id at into.old into.new result }
 {
-    match v.find_file(marks, id) {
+    match find_file(v, marks, id) {
         Err(Failed) => Err(FsErr::DeviceFault),
         Ok(None) => Err(FsErr::NotFound),
         Ok(Some(header)) => match read_from(v, id, header, at, into) {

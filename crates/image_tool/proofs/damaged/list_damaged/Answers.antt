@@ -3,7 +3,7 @@ use Rattle.nor_core.proofs.Cuts.{reads_none}
 use Rattle.image_model.specs.declared.damage.Damage.{Damage}
 use Rattle.image_model.specs.Tables.{damaged_of}
 use Rattle.image_tool.specs.Texts.{damage_line, damage_lines}
-use Rattle.flash_view.specs.Listing.{damaged_above}
+use Rattle.file_find.specs.Listing.{damaged_above}
 use Rattle.image_tool.proofs.Ascending.{damaged-ascends}
 use Rattle.image_tool.proofs.Speaking.{says_none, on_err}
 use Rattle.image_tool.proofs.Walking.{place_first, walk_says, walk_front, walk_next, walk_last}

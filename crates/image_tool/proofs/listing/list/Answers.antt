@@ -7,7 +7,7 @@ use Rattle.image_tool.proofs.listing.list.Goals as goal
 pub returns-in-Ok-clause-says : goal.returns-in-Ok-clause-says
 returns-in-Ok-clause-says g c =
     let v = c.args.v.now in
-    let mid = c.survey.new.self in
+    let mid = c.survey.new.v in
     let looks = c.survey.ensures.looks in
     let e : list_of mid.geometry (g.B.NorState.bytes mid.nor.now) ≡ list_of v.geometry (g.B.NorState.bytes v.nor.now) = rw (looks.same.geometry, looks.reads.bytes) refl in
     says_same (list_of mid.geometry (g.B.NorState.bytes mid.nor.now)) _ (λ tells. e) (says_after looks.reads c.list_marked.ensures.says)

@@ -2,7 +2,7 @@ use Rattle.std.proofs.Common.{◌/◌, ◌<◌, refl, sym, arith, rules}
 use Rattle.nor_core.proofs.Cuts.{unchanged}
 use Rattle.flash_view.proofs.Looking.{same_then}
 use Rattle.flash_view.proofs.Stepped.{view_image}
-use Rattle.page_put.proofs.Freshening.{erasing_none, none_erased}
+use Rattle.page_put.proofs.Freshening.{erasing_none, none_erased, some_units}
 use Rattle.page_put.proofs.Erasures.{erasing_then, front_then, front_all}
 use Rattle.page_put.proofs.fresh.erase_block.Goals as goal
 
@@ -13,7 +13,7 @@ loop-i-init g c =
       units = rw (c.block.ensures, c.phys.ensures) refl;
       below = omega arith;
       same = search rules;
-      wrote = refl;
+      wrote = λ some. absurd (omega (arith, some));
       changes = unchanged _ _ (λ tells. erasing_none view.geometry c.args.block _ c.requires.block (view_image view (g.met.N.Nor.sized _) tells));
       done = λ tells. sym (none_erased view.geometry c.args.block _ c.requires.block (view_image view (g.met.N.Nor.sized _) tells));
     }
@@ -32,7 +32,7 @@ loop-i-preserved g c =
       units = was.units;
       below = omega (arith, c.loop-i-test.true);
       same = same_then was.same c.in_ok-erase_unit.ensures.same;
-      wrote = c.in_ok-erase_unit.ensures.wrote;
+      wrote = λ some. c.in_ok-erase_unit.ensures.wrote;
       changes = erasing_then view.geometry c.loop-i.v.geometry c.args.block c.loop-i.i was.same.geometry low was.done was.changes c.in_ok-erase_unit.ensures.changes;
       done = λ tells. front_then view.geometry c.loop-i.v.geometry c.args.block c.loop-i.i was.same.geometry low _ _ _ c.requires.block (view_image view (g.met.N.Nor.sized _) tells) (was.done tells)
           (c.in_ok-erase_unit.ensures.done (was.changes.cuts.told tells));
@@ -42,3 +42,8 @@ pub returns-clause-done : goal.returns-clause-done
 returns-clause-done g c = λ tells.
     let was = c.loop-i.invariant in
     front_all c.args.v.now.geometry c.args.block c.loop-i.i _ _ (omega (arith, was.units, was.below, c.loop-i-test.false)) (was.done tells)
+
+pub returns-clause-wrote : goal.returns-clause-wrote
+returns-clause-wrote g c =
+    let was = c.loop-i.invariant in
+    was.wrote (omega (arith, was.units, was.below, c.loop-i-test.false, some_units c.args.v.now.geometry))

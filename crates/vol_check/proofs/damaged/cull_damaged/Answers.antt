@@ -1,5 +1,5 @@
 use Rattle.std.proofs.Common.{rules, ℕ, Option, Some, arith, subst}
-use Rattle.flash_view.specs.Marks.{NextHead}
+use Rattle.file_find.specs.Marks.{NextHead}
 use Rattle.vol_check.proofs.Heading.{heading_start, heading_next, heading_end, heading_goes}
 use Rattle.vol_check.proofs.Passing.{from_bool_is}
 use Rattle.vol_check.proofs.Working.{look_works, look_stops, works_as, works_end, works_stop, works_read, read_stops}
@@ -16,7 +16,7 @@ ids-init g c =
     record { few = omega arith; most = omega arith; work = look_works seen.looks (λ tells magics single. heading_start _ _ _ single (seen.told tells)) }
 
 -- the next id with a header page
-next_head : (g : Over) (c : After-cull_head g) → g.N.NorState.tells c.args.v.now.nor.now → NextHead c.args.v.now.geometry (g.N.NorState.bytes c.next_marked.new.self.nor.now) c.ids.at (Some (c.in-Some.id, c.in-Some.header))
+next_head : (g : Over) (c : After-cull_head g) → g.N.NorState.tells c.args.v.now.nor.now → NextHead c.args.v.now.geometry (g.N.NorState.bytes c.next_marked.new.v.nor.now) c.ids.at (Some (c.in-Some.id, c.in-Some.header))
 next_head g c = λ tells.
     let was = c.ids.invariant.work.step in
     let from = rw was.framed.same.geometry at (c.in_ok-id.ensures.told (was.cuts.cuts.told tells)) in

@@ -1,6 +1,6 @@
 use Rattle.std.proofs.Common.{sym, ◌∙◌, arith}
 use Rattle.flash_view.proofs.Looking.{looks_none}
-use Rattle.flash_view.proofs.Stepping.{is_gone, is_there}
+use Rattle.file_find.proofs.Stepping.{is_gone, is_there}
 use Rattle.vol_check.proofs.Heads.{head_entry, may_be_culled, turns_head, head_stays}
 use Rattle.vol_check.proofs.Working.{look_works, look_stops, works_on, works_as, stops}
 use Rattle.vol_check.proofs.damaged.cull_head.Goals as goal

@@ -2,7 +2,7 @@ use Rattle.std.proofs.Common.{Some, sym, ◌∙◌, ap}
 use Rattle.std.specs.Option.{option_map}
 use Rattle.std.proofs.lemmas.Result.{IfOk-weaker}
 use Rattle.table_model.specs.Files.{stat_of}
-use Rattle.flash_view.specs.Listing.{NextFile}
+use Rattle.file_find.specs.Listing.{NextFile}
 use Rattle.vol_mount.proofs.Listed.{file_of_head}
 use Rattle.vol_mount.proofs.reading.next_record.Goals as goal
 

@@ -1,5 +1,5 @@
 use Rattle.std.proofs.Common.{Some}
-use Rattle.flash_view.specs.Listing.{TheFile}
+use Rattle.file_find.specs.Listing.{TheFile}
 use Rattle.vol_mount.proofs.Listed.{file_of_head}
 use Rattle.vol_mount.proofs.reading.read_file.Goals as goal
 

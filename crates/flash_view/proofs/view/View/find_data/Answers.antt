@@ -2,7 +2,7 @@ use Rattle.std.proofs.Common.{◌≡◌, sym, ◌∙◌, refl, Some, None}
 use Rattle.image_model.specs.Places.{page_of}
 use Rattle.image_model.specs.Live.{live_at, own}
 use Rattle.image_model.specs.Files.{index_page}
-use Rattle.flash_view.specs.Judging.{data_number_of}
+use Rattle.flash_view.specs.DataPages.{data_number_of}
 use Rattle.flash_view.proofs.Spans.{index_known, told_along}
 use Rattle.flash_view.proofs.view.View.find_data.Goals as goal
 

@@ -5,7 +5,7 @@ use Rattle.image_model.specs.Volume.{page_count, per_block}
 use Rattle.image_model.specs.Live.{live_at}
 use Rattle.flash_view.specs.Found.{named_at, first_named}
 use Rattle.flash_view.proofs.Finds.{first_here, first_later}
-use Rattle.flash_view.proofs.Looking.{looks_none, looks_then}
+use Rattle.flash_view.proofs.Looking.{looks_none, looks_then, built_then}
 use Rattle.flash_view.proofs.view.View.find_header_name.Goals as goal
 
 pub loop-page-init : goal.loop-page-init
@@ -13,6 +13,7 @@ unfolding first_named page_count per_block
 loop-page-init g c = record {
   pages = c.pages-page-end.ensures;
   looks = looks_none c.args.self.now;
+  built = refl;
   told = λ tells. rw (sub-zero c.pages-page-end.result, c.pages-page-end.ensures) refl;
 }
 
@@ -33,6 +34,7 @@ loop-page-preserved g c =
     record {
       pages = was.pages ∙ ap pages_of (sym looked.looks.same.geometry);
       looks = looks;
+      built = built_then was.looks was.built _ looked.built;
       told = λ tells.
           let turn = looked.told (was.looks.reads.told tells) in
           let view = c.args.self.now in

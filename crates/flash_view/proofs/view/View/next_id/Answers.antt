@@ -1,4 +1,4 @@
-use Rattle.std.proofs.Common.{◌≡◌, ◌∙◌, ap, sym, arith}
+use Rattle.std.proofs.Common.{◌≡◌, ◌∙◌, ap, sym, refl, arith}
 use Rattle.geometry.specs.Numbers.{page_count as pages_of}
 use Rattle.image_model.specs.Volume.{page_count, per_block}
 use Rattle.image_model.specs.Live.{live_at}
@@ -11,6 +11,7 @@ pub loop-page-init : goal.loop-page-init
 loop-page-init g c = record {
   pages = c.pages-page-end.ensures;
   looks = looks_none c.args.self.now;
+  work = refl;
   told = λ tells. record { none = λ q id low is. absurd (omega arith) };
 }
 
@@ -22,6 +23,7 @@ loop-page-preserved g c =
     record {
       pages = was.pages ∙ ap pages_of (sym looked.looks.same.geometry);
       looks = looks;
+      work = looked.work ∙ was.work;
       told = λ tells.
           let turn = looked.told (was.looks.reads.told tells) in
           let view = c.args.self.now in

@@ -11,6 +11,7 @@ abbrev pub invariant-loop-page : goal.invariant-loop-page
 invariant-loop-page g l = record {
   pages : l.page-end ≡ page_count l.self.geometry;
   looks : OnlyLooks l.fn.self l.self;
+  work : l.self.work.now ≡ l.fn.self.work.now;
   told :
       (let image = g.N.NorState.bytes l.fn.self.nor.now in
       g.N.NorState.tells l.fn.self.nor.now →

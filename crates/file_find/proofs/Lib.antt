@@ -1,0 +1,5 @@
+pub mod Spans
+pub mod Marking
+pub mod Nearest
+pub mod Holders
+pub mod Stepping

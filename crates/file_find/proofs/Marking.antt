@@ -1,0 +1,80 @@
+-- The mark of a page, by its id's header page and the judging of its file.
+use Rattle.std.proofs.Common.{◌≡◌, ℕ, zero, suc, ◌+◌, ◌<◌, ◌≤◌, ◌==◌, Bool, true, false, List, refl, sym, ◌∙◌, ap, ⊎_elim, arith}
+use Rattle.std.specs.Prelude.{Option, Some, None, Result, Ok, Err, find}
+use Rattle.std.specs.List.{range_with_len}
+use Rattle.std.proofs.lemmas.Bool.{cases_Bool, cases_eq, eqb-true, eq-eqb}
+use Rattle.geometry.specs.declared.geometry.Geometry.{Geometry}
+use Rattle.table_model.specs.Table.{File}
+use Rattle.image_model.specs.declared.damage.Damage.{Damage}
+use Rattle.image_model.specs.Places.{page_of}
+use Rattle.image_model.specs.Live.{Live, live_at, own}
+use Rattle.image_model.specs.Files.{index_page, judged, found}
+use Rattle.image_model.specs.Tables.{has_of}
+use Rattle.image_model.specs.Tidy.{is_number}
+use Rattle.flash_view.specs.Found.{headed}
+use Rattle.file_find.specs.Judging.{cause_of}
+use Rattle.file_find.specs.Marks.{mark_by, mark_of, mark_for}
+use Rattle.flash_view.proofs.Spans.{index_known}
+
+-- ---- what an id has, by its header page
+
+pub has_at : (g : Geometry) (image : List ℕ) (id p : ℕ) → index_page g (own (live_at g image) id) 0 ≡ Some p → has_of g (live_at g image) id ≡ Some (p, judged g (own (live_at g image) id) id (page_of g image p))
+unfolding has_of found
+has_at g image id p is = rw is (rw (index_known g image id 0 p is) refl)
+
+pub has_none : (g : Geometry) (live : Live) (id : ℕ) → index_page g (own live id) 0 ≡ None → has_of g live id ≡ None
+unfolding has_of found
+has_none g live id none = rw none refl
+
+number_is : (o : Option ℕ) (p : ℕ) → is_number o p ≡ true → o ≡ Some p
+number_is None p e = absurd (cc)
+number_is (Some q) p e = ap (λ (x : ℕ). Some x) (eqb-true q p e)
+
+pub other_mark : (r : Result File Damage) (q p : ℕ) → (q == p) ≡ false → mark_by (Some (q, r)) p ≡ 0
+other_mark (Ok f) q p other = rw other refl
+other_mark (Err e) q p other = rw other refl
+
+-- an id that has no header page, or another one, gives a page no mark
+not_mark : (g : Geometry) (image : List ℕ) (id p : ℕ) (o : Option ℕ) → index_page g (own (live_at g image) id) 0 ≡ o → is_number o p ≡ false → mark_by (has_of g (live_at g image) id) p ≡ 0
+not_mark g image id p None is other = rw (has_none g (live_at g image) id is) refl
+not_mark g image id p (Some q) is other = rw (has_at g image id q is) (other_mark (judged g (own (live_at g image) id) id (page_of g image q)) q p other)
+
+pub first_mark : (r : Result File Damage) (p : ℕ) → mark_by (Some (p, r)) p ≡ mark_for (cause_of r)
+first_mark (Ok f) p = rw (eq-eqb p p refl) refl
+first_mark (Err e) p = rw (eq-eqb p p refl) refl
+
+-- ---- the mark of a page
+
+pub mark_none : (g : Geometry) (image : List ℕ) (p : ℕ) → None ≡ headed (live_at g image p) → 0 ≡ mark_of g image p
+unfolding mark_of
+mark_none g image p none = rw (sym none) refl
+
+pub mark_later : (g : Geometry) (image : List ℕ) (p id : ℕ) (first : Option ℕ) → Some id ≡ headed (live_at g image p) → first ≡ index_page g (own (live_at g image) id) 0 → is_number first p ≡ false → 0 ≡ mark_of g image p
+unfolding mark_of
+mark_later g image p id first is told other = rw (sym is) (sym (not_mark g image id p first (sym told) other))
+
+pub mark_first : (g : Geometry) (image : List ℕ) (p id : ℕ) (first : Option ℕ) (cause : Option Damage) → Some id ≡ headed (live_at g image p) → first ≡ index_page g (own (live_at g image) id) 0 → is_number first p ≡ true →
+    cause ≡ cause_of (judged g (own (live_at g image) id) id (page_of g image p)) → mark_for cause ≡ mark_of g image p
+unfolding mark_of
+mark_first g image p id first cause is told same judging =
+    let at : index_page g (own (live_at g image) id) 0 ≡ Some p = sym told ∙ number_is first p same in
+    rw (sym is) (rw (has_at g image id p at) (ap mark_for judging ∙ sym (first_mark (judged g (own (live_at g image) id) id (page_of g image p)) p)))
+
+-- ---- the first number that passes: it passes, it lies in the range, and none before it passes
+
+pub find_parts : (t : ℕ → Bool) (a n k : ℕ) → find t (range_with_len a n) ≡ Some k → (t k ≡ true) × (a ≤ k) × (k < a + n) × ((i : ℕ) → a ≤ i → i < k → t i ≡ false)
+find_parts t a zero k e = absurd (cc)
+find_parts t a (suc n) k e =
+    ⊎_elim
+    (λ (here : t a ≡ true). let same : Some a ≡ Some k = rw here at e in let at : a ≡ k = cc in (rw at at here, omega arith, omega arith, λ i low less. absurd (omega arith)))
+    (λ (later : t a ≡ false).
+    let w = find_parts t (a + 1) n k (rw later at e) in (
+      w.0,
+      omega (arith, w.1),
+      omega (arith, w.2),
+      λ i low less. ⊎_elim
+          (λ (x : a ≡ i). rw x at later)
+          (λ (x : a ≡ i → ⊥). w.3 i (omega (arith, x)) less)
+          (cases_eq a i),
+    ))
+    (cases_Bool (t a))

@@ -1,0 +1,164 @@
+ghost use Rattle.std.specs.Prelude.{◌≡◌, ◌+◌, ◌-◌, ◌*◌, ◌/◌, ◌<◌, ◌≤◌, ◌^◌, min, List, ℕ, OnErr, IfOk, take};
+ghost use Rattle.geometry.specs.Numbers.{page_count, head_slots, span_slots};
+ghost use Rattle.nor_core.specs.Count.{Rose};
+ghost use Rattle.table_model.specs.Room.{data_pages as the_data_pages};
+ghost use Rattle.image_model.specs.Places.{page_of};
+ghost use Rattle.image_model.specs.Headers.{name_of as the_name_of, size_of};
+ghost use Rattle.image_model.specs.Live.{live_at, own};
+ghost use Rattle.image_model.specs.Files.{judged};
+ghost use Rattle.flash_view.specs.Same.{OnlyLooks};
+ghost use Rattle.file_find.specs.Judging.{missing_entry, missing_between, cause_of};
+
+use flash_view::{FURTHER_SLOTS_AT, View, head_slots_at};
+use geometry::Geometry;
+use image_model::Damage;
+use nor_core::{Failed, Nor, NorState};
+use page_layout::{file_size, name_of};
+use table_model::Name;
+
+// Data pages of a file of that size.
+fn data_pages(g: &Geometry, size: u32) -> u32
+    ensures pages { result ≡ the_data_pages g.now size }
+    ensures few { result < 2 ^ 26 }
+{
+    let body = u64::from(g.body());
+    ((u64::from(size) + body - 1) / body) as u32
+}
+
+// Index pages behind the header page that name the spans below `spans`.
+#[tactic(auto)]
+fn further_pages(g: &Geometry, spans: u32) -> u32
+    requires { spans < 2 ^ 26 }
+    ensures { result ≡ (spans - head_slots g.now + span_slots g.now - 1) / span_slots g.now }
+{
+    let slots = g.span_slots();
+    (spans.saturating_sub(g.head_slots()) + slots - 1) / slots
+}
+
+// The first of the spans from `first` on and below `end` that has no data page, where their page numbers stand in
+// an index page from byte `at` on.
+#[tactic(auto, using(flash_view::proofs::Looking::looks_then))]
+fn missing_in<N: Nor>(
+    v: &mut View<'_, N>,
+    id: u16,
+    index: u16,
+    at: u32,
+    first: u32,
+    end: u32,
+) -> Result<Option<u32>, Failed>
+    requires index { index < page_count v.old.geometry }
+    requires inside { at + 2 * (end - first) ≤ v.old.geometry.page }
+    ensures cause { OnErr result (Rose (N.faults v.old.nor.now) (N.faults v.new.nor.now)) }
+    ensures looks { OnlyLooks v.old v.new }
+    ensures told { N.tells v.old.nor.now → IfOk result (λ span. span ≡ missing_entry (own (live_at v.old.geometry (N.bytes v.old.nor.now)) id) (page_of v.old.geometry (N.bytes v.old.nor.now) index) at first end) }
+    ensures work { v.new.work.now ≡ v.old.work.now }
+{
+    for span in first..end {
+        if v.data_in(index, at + 2 * (span - first), id, span)?
+            .is_none()
+        {
+            return Ok(Some(span));
+        }
+    }
+    Ok(None)
+}
+
+// The same for the spans that further index page `k` names, counted from 0, and that are below `spans`.
+#[tactic(auto, using(flash_view::proofs::Looking::looks_then))]
+fn missing_of<N: Nor>(
+    v: &mut View<'_, N>,
+    id: u16,
+    k: u32,
+    spans: u32,
+) -> Result<Option<u32>, Failed>
+    requires some { head_slots v.old.geometry + k * span_slots v.old.geometry < spans }
+    requires few { spans < 2 ^ 26 }
+    ensures cause { OnErr result (Rose (N.faults v.old.nor.now) (N.faults v.new.nor.now)) }
+    ensures looks { OnlyLooks v.old v.new }
+    ensures told { N.tells v.old.nor.now → IfOk result (λ span. (head : List ℕ) → span ≡ missing_between v.old.geometry (own (live_at v.old.geometry (N.bytes v.old.nor.now)) id) head (head_slots v.old.geometry + k * span_slots v.old.geometry) (min (head_slots v.old.geometry + k * span_slots v.old.geometry + span_slots v.old.geometry) spans)) }
+    ensures work { v.new.work.now ≡ v.old.work.now }
+{
+    let g = v.geometry;
+    let first = g.head_slots() + k * g.span_slots();
+    let end = (first + g.span_slots()).min(spans);
+    match v.find_span(id, k + 1)? {
+        Some(index) => missing_in(v, id, index, FURTHER_SLOTS_AT, first, end),
+        None => Ok(Some(first)),
+    }
+}
+
+// The same for all spans that further index pages name, and that are below `spans`.
+#[tactic(auto, using(flash_view::proofs::Looking::looks_then))]
+fn missing_behind<N: Nor>(v: &mut View<'_, N>, id: u16, spans: u32) -> Result<Option<u32>, Failed>
+    requires { spans < 2 ^ 26 }
+    ensures cause { OnErr result (Rose (N.faults v.old.nor.now) (N.faults v.new.nor.now)) }
+    ensures looks { OnlyLooks v.old v.new }
+    ensures told { N.tells v.old.nor.now → IfOk result (λ span. (head : List ℕ) → span ≡ missing_between v.old.geometry (own (live_at v.old.geometry (N.bytes v.old.nor.now)) id) head (head_slots v.old.geometry) spans) }
+    ensures work { v.new.work.now ≡ v.old.work.now }
+{
+    for k in 0..further_pages(&v.geometry, spans) {
+        let missing = missing_of(v, id, k, spans)?;
+        if missing.is_some() {
+            return Ok(missing);
+        }
+    }
+    Ok(None)
+}
+
+// The first of the spans below `spans` that has no data page, by this header page.
+#[tactic(auto, using(flash_view::proofs::Looking::looks_then))]
+fn first_missing<N: Nor>(
+    v: &mut View<'_, N>,
+    id: u16,
+    header: u16,
+    spans: u32,
+) -> Result<Option<u32>, Failed>
+    requires header { header < page_count v.old.geometry }
+    requires few { spans < 2 ^ 26 }
+    ensures cause { OnErr result (Rose (N.faults v.old.nor.now) (N.faults v.new.nor.now)) }
+    ensures looks { OnlyLooks v.old v.new }
+    ensures told { N.tells v.old.nor.now → IfOk result (λ span. span ≡ missing_between v.old.geometry (own (live_at v.old.geometry (N.bytes v.old.nor.now)) id) (page_of v.old.geometry (N.bytes v.old.nor.now) header) 0 spans) }
+    ensures work { v.new.work.now ≡ v.old.work.now }
+{
+    let g = v.geometry;
+    let near = g.head_slots().min(spans);
+    match missing_in(v, id, header, head_slots_at(&g), 0, near)? {
+        Some(span) => Ok(Some(span)),
+        None => missing_behind(v, id, spans),
+    }
+}
+
+/// Why the file of an id with this header page isn't whole, where it isn't: its name is none, or the first data
+/// span below its size has no data page. The size may be any; each further index page is looked for once.
+#[tactic(auto, using(flash_view::proofs::Looking::looks_then))]
+pub fn judge<N: Nor>(v: &mut View<'_, N>, id: u16, header: u16) -> Result<Option<Damage>, Failed>
+    requires { header < page_count v.old.geometry }
+    ensures cause { OnErr result (Rose (N.faults v.old.nor.now) (N.faults v.new.nor.now)) }
+    ensures looks { OnlyLooks v.old v.new }
+    ensures told { N.tells v.old.nor.now → IfOk result (λ cause. cause ≡ cause_of (judged v.old.geometry (own (live_at v.old.geometry (N.bytes v.old.nor.now)) id) id (page_of v.old.geometry (N.bytes v.old.nor.now) header))) }
+    ensures built { take v.old.geometry.page v.new.work.now ≡ take v.old.geometry.page v.old.work.now }
+{
+    let (name, size) = head_of(v, header)?;
+    if name.is_none() {
+        return Ok(Some(Damage::BadName));
+    }
+    let spans = data_pages(&v.geometry, size);
+    Ok(match first_missing(v, id, header, spans)? {
+        Some(span) => Some(Damage::Missing(span)),
+        None => None,
+    })
+}
+
+// The name and the size in bytes that a header page tells.
+fn head_of<N: Nor>(v: &mut View<'_, N>, header: u16) -> Result<(Option<Name>, u32), Failed>
+    requires { header < page_count v.old.geometry }
+    ensures cause { OnErr result (Rose (N.faults v.old.nor.now) (N.faults v.new.nor.now)) }
+    ensures looks { OnlyLooks v.old v.new }
+    ensures named { N.tells v.old.nor.now → IfOk result (λ head. head.0 ≡ the_name_of (page_of v.old.geometry (N.bytes v.old.nor.now) header)) }
+    ensures sized { N.tells v.old.nor.now → IfOk result (λ head. head.1 ≡ size_of (page_of v.old.geometry (N.bytes v.old.nor.now) header)) }
+    ensures built { take v.old.geometry.page v.new.work.now ≡ take v.old.geometry.page v.old.work.now }
+{
+    v.fetch(header)?;
+    let head = v.fetched();
+    Ok((name_of(head), file_size(head)))
+}
