@@ -6,6 +6,7 @@ use Rattle.std.specs.List.{range_with_len, list_all, list_any}
 use Rattle.std.proofs.lemmas.Int.{ints}
 use Rattle.std.proofs.lemmas.Bool.{cases_Bool, cases_eq, cases_lt}
 use Rattle.block_gc.specs.declared.choice.Scored.{Scored}
+use Rattle.free_search.proofs.FirstBest.{none_pass, find_best}
 use Rattle.block_gc.specs.Best.{better_of, IsFirst, IsBelow}
 
 le_self : (a : ℤ) → int_le a a ≡ true
@@ -88,45 +89,6 @@ below_more n true (Some s) other low was = either (int_le other.score s.score)
 -- ---- all of them
 
 module _ (test : ℕ → Bool) where
-  none_pass : (a n : ℕ) → ((b : ℕ) → a ≤ b → b < a + n → test b ≡ false) → filter test (range_with_len a n) ≡ []
-  none_pass a zero none = refl
-  none_pass a (suc n) none = rw (none a (omega arith) (omega arith)) (none_pass (a + 1) n (λ b low high. none b (omega arith) (omega arith)))
-
-  find_at : (p : ℕ → Bool) (k a n : ℕ) → a ≤ k → k < a + n → test k ≡ true → p k ≡ true → ((b : ℕ) → b < k → test b ≡ true → p b ≡ false) → find p (filter test (range_with_len a n)) ≡ Some k
-  find_at p k a zero low high passes best before = absurd (omega arith)
-  find_at p k a (suc n) low high passes best before =
-      ⊎_elim
-      (λ (here : a ≡ k). let t : test a ≡ true = ap test here ∙ passes in let q : p a ≡ true = ap p here ∙ best in rw (t, q) (ap (λ (m : ℕ). Some m) here))
-      (λ (there : a ≡ k → ⊥).
-      let rest = find_at p k (a + 1) n (omega (arith, there)) (omega arith) passes best before in
-      ⊎_elim
-      (λ (yes : test a ≡ true). let q : p a ≡ false = before a (omega (arith, there)) yes in rw (yes, q) rest)
-      (λ (no : test a ≡ false). rw no rest)
-      (cases_Bool (test a)))
-      (cases_eq a k)
-
-  all_hold : (q : ℕ → Bool) (a n : ℕ) → ((b : ℕ) → b < a + n → test b ≡ true → q b ≡ true) → list_all q (filter test (range_with_len a n)) ≡ true
-  all_hold q a zero all = refl
-  all_hold q a (suc n) all =
-      let rest = all_hold q (a + 1) n (λ b high ok. all b (omega arith) ok) in
-      ⊎_elim
-      (λ (yes : test a ≡ true). let h : q a ≡ true = all a (omega arith) yes in rw (yes, h) rest)
-      (λ (no : test a ≡ false). rw no rest)
-      (cases_Bool (test a))
-
-  one_breaks : (q : ℕ → Bool) (k a n : ℕ) → a ≤ k → k < a + n → test k ≡ true → q k ≡ false → list_all q (filter test (range_with_len a n)) ≡ false
-  one_breaks q k a zero low high passes breaks = absurd (omega arith)
-  one_breaks q k a (suc n) low high passes breaks =
-      ⊎_elim
-      (λ (here : a ≡ k). let t : test a ≡ true = ap test here ∙ passes in let no : q a ≡ false = ap q here ∙ breaks in rw (t, no) refl)
-      (λ (there : a ≡ k → ⊥).
-      let rest = one_breaks q k (a + 1) n (omega (arith, there)) (omega arith) passes breaks in
-      ⊎_elim
-      (λ (yes : test a ≡ true). ⊎_elim (λ (holds : q a ≡ true). rw (yes, holds) rest) (λ (no : q a ≡ false). rw (yes, no) refl) (cases_Bool (q a)))
-      (λ (no : test a ≡ false). rw no rest)
-      (cases_Bool (test a)))
-      (cases_eq a k)
-
   any_at : (k a n : ℕ) → a ≤ k → k < a + n → test k ≡ true → list_any test (range_with_len a n) ≡ true
   any_at k a zero low high passes = absurd (omega arith)
   any_at k a (suc n) low high passes =
@@ -146,17 +108,7 @@ pub first_found : (test : ℕ → Bool) (value : ℕ → ℤ) (n : ℕ) (best : 
     find (λ k. list_all (λ other. int_le (value other) (value k)) (filter test (range_with_len 0 n))) (filter test (range_with_len 0 n)) ≡ option_map (λ s. s.block) best
 first_found test value n None none = rw (none_pass test 0 n (λ b low high. none b (omega arith))) refl
 first_found test value n (Some s) is =
-    find_at
-    test
-    (λ k. list_all (λ other. int_le (value other) (value k)) (filter test (range_with_len 0 n)))
-    s.block
-    0
-    n
-    (omega arith)
-    (omega (arith, is.below))
-    is.passes
-    (all_hold test (λ other. int_le (value other) (value s.block)) 0 n (λ b high ok. is.most b (omega arith) ok))
-    (λ b low ok. one_breaks test (λ other. int_le (value other) (value b)) s.block 0 n (omega arith) (omega (arith, is.below)) is.passes (is.first b low ok))
+    find_best test (λ k other. int_le (value other) (value k)) n s.block is.below is.passes (λ b below ok. is.most b below ok) (λ b low ok. is.first b low ok)
 
 -- there is one exactly where one passes
 pub first_some : (test : ℕ → Bool) (value : ℕ → ℤ) (n : ℕ) (best : Option Scored) → IsFirst test value n best → list_any test (range_with_len 0 n) ≡ is_some best

@@ -1,8 +1,8 @@
 -- Free pages of a tells image, by the counts of blocks.
-use Rattle.std.proofs.Common.{◌≡◌, ◌≢◌, ℕ, ◌+◌, ◌*◌, ◌<◌, ◌≤◌, ⊎_elim, inl, inr, List, [], ◌∷◌, Bool, true, false, not, ◌==◌, ◌&&◌, length, refl, sym, ◌∙◌, arith, nat_lt}
-use Rattle.std.specs.Prelude.{filter, Option, Some, None}
+use Rattle.std.proofs.Common.{◌≡◌, ◌≢◌, ℕ, ◌+◌, ◌*◌, ◌<◌, ◌≤◌, ⊎_elim, List, [], ◌∷◌, Bool, true, false, not, ◌==◌, ◌&&◌, length, refl, sym, ◌∙◌, arith, nat_lt}
+use Rattle.std.specs.Prelude.{filter, find, Option, Some, None}
 use Rattle.std.specs.List.{range_with_len, list_any, list_all}
-use Rattle.std.proofs.lemmas.Bool.{eqb-true, eq-eqb, ltb-true, ltb-false, and_parts, cases_Bool, false_from_ne_true}
+use Rattle.std.proofs.lemmas.Bool.{eqb-true, ne_eqb, lt-ltb, ltb-true, ltb-false, and_parts, cases_Bool, cases_eq, false_from_ne_true}
 use Rattle.std.proofs.lemmas.List.FromFn.{length-range_with_len}
 use Rattle.geometry.specs.declared.geometry.Geometry.{Geometry}
 use Rattle.image_model.specs.Volume.{per_block, lookups, entries}
@@ -13,40 +13,30 @@ use Rattle.image_model.specs.Kinds.{is_index_page, is_data_page, is_index_block,
 use Rattle.image_model.specs.Collect.{count_in, index_in, data_in, free_in, takes_index, takes_data}
 use Rattle.image_model.specs.Within.{entry_in, sizes}
 use Rattle.image_laws.proofs.FreeBlocks.{all-at, filter-same}
+use Rattle.image_laws.proofs.Judge.{find-range}
 use Rattle.room_laws.specs.Sorts.{TellsFree}
 use Rattle.flash_view.specs.declared.kinds.Kind.{Kind}
 use Rattle.flash_view.specs.declared.kinds.Kind.TheVariants.{Index, Data}
 use Rattle.free_search.specs.declared.blocks.BlockCounts.{BlockCounts}
 use Rattle.free_search.specs.Counts.{AreCounts, the_takes}
-use Rattle.free_search.specs.Free.{IsOpen, OpenIf, OpenBlock, FreeEntry, FreePage, holds_other}
+use Rattle.free_search.specs.Free.{is_open_for, takes_kind, holds_other, the_first_free}
 use Rattle.free_search.proofs.Counting.{free_is_dead}
 
 -- ---- tests over lists, and how many pass them
 
 module _ (t : ℕ → Bool) where
-  none_step : (x : ℕ) (xs : List ℕ) (b : Bool) → t x ≡ b → length (filter t (x ∷ xs)) ≡ 0 → (b ≡ false) × (length (filter t xs) ≡ 0)
-  none_step x xs true e h = absurd (let no = rw e at h in omega (arith, no))
-  none_step x xs false e h = (refl, rw e at h)
+  pub some_tells : (xs : List ℕ) → nat_lt 0 (length (filter t xs)) ≡ list_any t xs
+  some_tells [] = refl
+  some_tells (x ∷ xs) = ⊎_elim (λ (yes : t x ≡ true). rw yes (lt-ltb 0 _ (omega arith))) (λ (no : t x ≡ false). rw no (some_tells xs)) (cases_Bool (t x))
 
   pub none_passes : (xs : List ℕ) → length (filter t xs) ≡ 0 → list_any t xs ≡ false
-  none_passes [] h = refl
-  none_passes (x ∷ xs) h = let w = none_step x xs (t x) refl h in rw (w.0) (none_passes xs w.1)
-
-  any_step : (x : ℕ) (xs : List ℕ) (b : Bool) → t x ≡ b → list_any t (x ∷ xs) ≡ false → (b ≡ false) × (list_any t xs ≡ false)
-  any_step x xs true e h = absurd (let no : true ≡ false = rw e at h in cc)
-  any_step x xs false e h = (refl, rw e at h)
+  none_passes xs none = sym (some_tells xs) ∙ rw none refl
 
   pub not_any : (xs : List ℕ) → list_any t xs ≡ false → length (filter t xs) ≡ 0
-  not_any [] h = refl
-  not_any (x ∷ xs) h = let w = any_step x xs (t x) refl h in rw (w.0) (not_any xs w.1)
-
-  some_step : (x : ℕ) (xs : List ℕ) (b : Bool) → t x ≡ b → (list_any t xs ≡ true → 0 < length (filter t xs)) → list_any t (x ∷ xs) ≡ true → 0 < length (filter t (x ∷ xs))
-  some_step x xs true e rest h = rw e (omega arith)
-  some_step x xs false e rest h = rw e (rest (rw e at h))
+  not_any xs none = let few = ltb-false 0 _ (some_tells xs ∙ none) in omega (arith, few)
 
   pub some_pass : (xs : List ℕ) → list_any t xs ≡ true → 0 < length (filter t xs)
-  some_pass [] h = absurd (cc)
-  some_pass (x ∷ xs) h = some_step x xs (t x) refl (some_pass xs) h
+  some_pass xs some = ltb-true 0 _ (some_tells xs ∙ some)
 
   all_step : (x : ℕ) (xs : List ℕ) (b : Bool) → t x ≡ b → (list_all t xs ≡ true → length (filter t xs) ≡ length xs) → list_all t (x ∷ xs) ≡ true → length (filter t (x ∷ xs)) ≡ length xs + 1
   all_step x xs true e rest h = let more = rest (rw e at h) in rw e (omega (arith, more))
@@ -82,7 +72,14 @@ free_or : (g : Geometry) (image : List ℕ) (p : ℕ) → TellsFree g image → 
 free_or g image p tells page true e = sym (tells.free p page (eqb-true _ 0xFFFF e))
 free_or g image p tells page false e = rw e refl
 
--- so these are counted alike
+-- so the first of these is the first free one
+pub first_told : (g : Geometry) (image : List ℕ) (block : ℕ) → TellsFree g image → block < g.blocks → find (λ p. entry_of g image p == 0xFFFF) (range_with_len (block * per_block g + lookups g) (entries g)) ≡ the_first_free g image block
+unfolding the_first_free
+first_told g image block tells below =
+    find-range (λ p. is_free_entry g image p) (λ p. entry_of g image p == 0xFFFF) (block * per_block g + lookups g) (entries g)
+    (λ q low high. free_or g image q tells (entry_in g block q below low high).1 (entry_of g image q == 0xFFFF) refl)
+
+-- and these are counted alike
 pub free_counted : (g : Geometry) (image : List ℕ) (block : ℕ) → TellsFree g image → block < g.blocks → count_in g block (λ p. entry_of g image p == 0xFFFF) ≡ free_in g image block
 unfolding free_in
 free_counted g image block tells below =
@@ -169,94 +166,60 @@ pub data_parts : (g : Geometry) (image : List ℕ) (block : ℕ) → takes_data 
 unfolding takes_data
 data_parts g image block h = let w = and_parts (is_data_block g image block) _ h in (w.0, not_of _ w.1)
 
--- ---- whether a block takes a kind, by its counts
+-- ---- whether a block is open for a kind, by its counts
 
-module _ (g : Geometry) (image : List ℕ) (block : ℕ) (c : BlockCounts) (magic : has_magic g image block ≡ true) (counts : AreCounts g image block c) (free : c.free ≡ free_in g image block) where
-  none_free : nat_lt 0 c.free ≡ false → free_in g image block ≡ 0
-  none_free h = let few = ltb-false 0 c.free h in omega (arith, few, free)
+zero_tells : (n : ℕ) → (n == 0) ≡ not (nat_lt 0 n)
+zero_tells n = ⊎_elim (λ (none : n ≡ 0). rw none refl) (λ (some : n ≡ 0 → ⊥). rw (ne_eqb n 0 some, lt-ltb 0 n (omega (arith, some))) refl) (cases_eq n 0)
 
-  takes_by_index : is_free_block g image block ≡ false → is_data_block g image block ≡ false → takes_index g image block ≡ true
-  unfolding takes_index
-  takes_by_index used none = rw (magic, used, none) refl
+data_tells : (g : Geometry) (image : List ℕ) (block : ℕ) → nat_lt 0 (data_in g image block) ≡ is_data_block g image block
+unfolding data_in is_data_block
+data_tells g image block = some_tells (λ p. is_data_page (live_at g image p)) (range_with_len (block * per_block g + lookups g) (entries g))
 
-  takes_by_data : 0 < data_in g image block → is_index_block g image block ≡ false → takes_data g image block ≡ true
-  unfolding takes_data
-  takes_by_data some none =
-      let is : is_data_block g image block ≡ true = ⊎_elim (λ (yes : is_data_block g image block ≡ true). yes) (λ (no : is_data_block g image block ≡ false). let zero_data = data_none g image block no in absurd (omega (arith, some, zero_data))) (cases_Bool (is_data_block g image block)) in
-      rw (is, none) refl
+index_tells : (g : Geometry) (image : List ℕ) (block : ℕ) → nat_lt 0 (index_in g image block) ≡ is_index_block g image block
+unfolding index_in is_index_block
+index_tells g image block = some_tells (λ p. is_index_page (live_at g image p)) (range_with_len (block * per_block g + lookups g) (entries g))
 
-  index_opens : (x y z : Bool) → (c.data_live == 0) ≡ x → nat_lt 0 c.free ≡ y → nat_lt c.free (entries g) ≡ z → OpenIf g image Index block (x && y && z)
-  index_opens true true true ex ey ez = record {
-    magic = magic;
-    used = (let less = ltb-true _ _ ez in not_free g image block (omega (arith, free, less)));
-    kind_is = no_data g image block (sym counts.pages ∙ eqb-true _ 0 ex);
-    takes = takes_by_index (let less = ltb-true _ _ ez in not_free g image block (omega (arith, free, less))) (no_data g image block (sym counts.pages ∙ eqb-true _ 0 ex));
-    some = (let some = ltb-true 0 c.free ey in omega (arith, some, free));
-  }
-  index_opens true true false ex ey ez = λ takes. absurd (let less = used_less g image block magic (index_parts g image block takes).0 in let most = ltb-false _ _ ez in omega (arith, less, most, free))
-  index_opens true false z ex ey ez = λ takes. none_free ey
-  index_opens false y z ex ey ez = λ takes. absurd (let none = data_none g image block (index_parts g image block takes).1 in let no : (c.data_live == 0) ≡ true = eq-eqb _ 0 (counts.pages ∙ none) in cc)
+used_tells : (g : Geometry) (image : List ℕ) (block : ℕ) → has_magic g image block ≡ true → nat_lt (free_in g image block) (entries g) ≡ not (is_free_block g image block)
+used_tells g image block magic =
+    ⊎_elim
+    (λ (free : is_free_block g image block ≡ true). rw (free, free_whole g image block free) (false_from_ne_true (nat_lt (entries g) (entries g)) (λ less. let no = ltb-true _ _ less in absurd (omega (arith, no)))))
+    (λ (used : is_free_block g image block ≡ false). rw used (lt-ltb _ _ (used_less g image block magic used)))
+    (cases_Bool (is_free_block g image block))
 
-  data_opens : (x y z : Bool) → nat_lt 0 c.data_live ≡ x → (c.index_live == 0) ≡ y → nat_lt 0 c.free ≡ z → OpenIf g image Data block (x && y && z)
-  data_opens true true true ex ey ez = record {
-    magic = magic;
-    used = false_from_ne_true (is_free_block g image block) (λ yes. let none = dead_data g image block yes in let some = ltb-true 0 c.data_live ex in absurd (omega (arith, none, some, counts.pages)));
-    kind_is = no_index g image block (sym counts.index ∙ eqb-true _ 0 ey);
-    takes = takes_by_data (let some = ltb-true 0 c.data_live ex in omega (arith, some, counts.pages)) (no_index g image block (sym counts.index ∙ eqb-true _ 0 ey));
-    some = (let some = ltb-true 0 c.free ez in omega (arith, some, free));
-  }
-  data_opens true true false ex ey ez = λ takes. none_free ez
-  data_opens true false z ex ey ez = λ takes. absurd (let none = index_none g image block (data_parts g image block takes).1 in let no : (c.index_live == 0) ≡ true = eq-eqb _ 0 (counts.index ∙ none) in cc)
-  data_opens false y z ex ey ez = λ takes. absurd (let some = data_some g image block (data_parts g image block takes).0 in let few = ltb-false 0 c.data_live ex in omega (arith, some, few, counts.pages))
+pub opens : (g : Geometry) (image : List ℕ) (block : ℕ) (kind : Kind) (c : BlockCounts) → TellsFree g image → block < g.blocks → has_magic g image block ≡ true → AreCounts g image block c → the_takes c kind (entries g) ≡ is_open_for g image kind block
+unfolding takes_index takes_data
+opens g image block Index c tells below magic counts =
+    rw (counts.pages, counts.free, free_counted g image block tells below, zero_tells (data_in g image block), data_tells g image block, used_tells g image block magic, magic)
+    (reordered (is_data_block g image block) (nat_lt 0 (free_in g image block)) (is_free_block g image block))
+  where
+    reordered : (x y z : Bool) → (not x && y && not z) ≡ (not z && not x && y)
+    reordered true y true = refl
+    reordered true y false = refl
+    reordered false true true = refl
+    reordered false true false = refl
+    reordered false false true = refl
+    reordered false false false = refl
+opens g image block Data c tells below magic counts =
+    rw (counts.pages, counts.index, counts.free, free_counted g image block tells below, zero_tells (index_in g image block), data_tells g image block, index_tells g image block) refl
 
-pub opens : (g : Geometry) (image : List ℕ) (block : ℕ) (kind : Kind) (c : BlockCounts) → TellsFree g image → block < g.blocks → has_magic g image block ≡ true → AreCounts g image block c → OpenIf g image kind block (the_takes c kind (entries g))
-opens g image block Index c tells below magic counts = index_opens g image block c magic counts (counts.free ∙ free_counted g image block tells below) (c.data_live == 0) (nat_lt 0 c.free) (nat_lt c.free (entries g)) refl refl refl
-opens g image block Data c tells below magic counts = data_opens g image block c magic counts (counts.free ∙ free_counted g image block tells below) (nat_lt 0 c.data_live) (c.index_live == 0) (nat_lt 0 c.free) refl refl refl
+-- without its magic it takes none: such an image has no such block
+pub shut : (g : Geometry) (image : List ℕ) (block : ℕ) (kind : Kind) → TellsFree g image → block < g.blocks → has_magic g image block ≡ false → false ≡ is_open_for g image kind block
+shut g image block kind tells below none = absurd (let all : has_magic g image block ≡ true = tells.magic block below in cc)
 
--- without its magic it takes none: a tells image has no such block
-pub shut : (g : Geometry) (image : List ℕ) (block : ℕ) (kind : Kind) → TellsFree g image → block < g.blocks → has_magic g image block ≡ false → OpenIf g image kind block false
-shut g image block kind tells below none = λ takes. absurd (let all : has_magic g image block ≡ true = tells.magic block below in cc)
+-- ---- a block that takes a kind, and a free block
 
--- ---- the page
+pub used_of : (g : Geometry) (image : List ℕ) (kind : Kind) (block : ℕ) → takes_kind g image kind block ≡ true → is_free_block g image block ≡ false
+used_of g image Index block takes = (index_parts g image block takes).0
+used_of g image Data block takes = false_from_ne_true (is_free_block g image block) (λ free. let none = dead_data g image block free in let some = data_some g image block (data_parts g image block takes).0 in absurd (omega (arith, none, some)))
 
--- the entry of a block in use
-pub page_open : (g : Geometry) (image : List ℕ) (kind : Kind) (keep block : ℕ) (not_in found : Option ℕ) → (Some block ≢ not_in) × IsOpen g image kind block → FreeEntry g image block found → FreePage g image kind keep not_in found
-page_open g image kind keep block not_in None (apart, is) none = absurd (let some = is.some in omega (arith, some, none))
-page_open g image kind keep block not_in (Some p) (apart, is) (page, at, free, word) = record {
-  page = page;
-  magic = rw at is.magic;
-  free = free;
-  word = word;
-  kind_is = rw at is.kind_is;
-  keeps = inl (rw at is.used);
-  apart = rw at apart;
-  opened = λ used. rw at is.takes;
-  last = λ free. absurd (let used : is_free_block g image (block_of g p) ≡ false = rw at is.used in cc);
-}
+pub not_other : (g : Geometry) (image : List ℕ) (kind : Kind) (block : ℕ) → takes_kind g image kind block ≡ true → holds_other g image kind block ≡ false
+not_other g image Index block takes = (index_parts g image block takes).1
+not_other g image Data block takes = (data_parts g image block takes).1
 
-no_other : (g : Geometry) (image : List ℕ) (kind : Kind) (block : ℕ) → is_free_block g image block ≡ true → holds_other g image kind block ≡ false
+pub no_other : (g : Geometry) (image : List ℕ) (kind : Kind) (block : ℕ) → is_free_block g image block ≡ true → holds_other g image kind block ≡ false
 no_other g image Index block free = no_data g image block (dead_data g image block free)
 no_other g image Data block free = no_index g image block (dead_index g image block free)
-
-magic_of : (g : Geometry) (image : List ℕ) (block : ℕ) → is_free_block g image block ≡ true → has_magic g image block ≡ true
-unfolding is_free_block
-magic_of g image block free = (and_parts (has_magic g image block) _ free).0
 
 pub some_entries : (g : Geometry) → 0 < entries g
 unfolding entries
 some_entries g = let fits = (sizes g).lookups_fit in omega (arith, fits)
-
--- the entry of a free block
-pub page_new : (g : Geometry) (image : List ℕ) (kind : Kind) (keep block : ℕ) (not_in found : Option ℕ) → keep < free_blocks g image → OpenBlock g image kind not_in None → (Some block ≢ not_in) × (is_free_block g image block ≡ true) → FreeEntry g image block found → FreePage g image kind keep not_in found
-page_new g image kind keep block not_in None more none_open (apart, free) none = absurd (let whole = free_whole g image block free in let some = some_entries g in omega (arith, whole, some, none))
-page_new g image kind keep block not_in (Some p) more none_open (apart, free) (page, at, entry, word) = record {
-  page = page;
-  magic = rw at (magic_of g image block free);
-  free = entry;
-  word = word;
-  kind_is = rw at (no_other g image kind block free);
-  keeps = inr more;
-  apart = rw at apart;
-  opened = λ used. absurd (let whole : is_free_block g image (block_of g p) ≡ true = rw at free in cc);
-  last = λ whole. none_open;
-}

@@ -1,7 +1,9 @@
 pub mod Scans
 pub mod Counting
 pub mod FreePages
+pub mod FirstBest
 pub mod Worn
+pub mod Choosing
 pub mod Had
 pub mod HadBy
 pub mod Bits

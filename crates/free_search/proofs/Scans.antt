@@ -1,6 +1,6 @@
 -- Scans over numbers in a row: what those from a loop's counter on still bring.
 use Rattle.std.proofs.Common.{◌≡◌, ℕ, suc, ◌+◌, ◌-◌, ◌<◌, ◌≤◌, List, [], ◌∷◌, Bool, true, false, length, refl, sym, ◌∙◌, ap, arith, add-zero}
-use Rattle.std.specs.Prelude.{filter}
+use Rattle.std.specs.Prelude.{filter, find, Option, Some, None}
 use Rattle.std.specs.List.{range_with_len, list_all}
 use Rattle.std.proofs.Math.Nat.{sub-zero}
 
@@ -41,3 +41,17 @@ count_no test first n i count total p h all at_p fails = rw (scan_step first n i
 
 pub count_end : (test : ℕ → Bool) (first n i count total : ℕ) → n ≤ i → count + length (filter test (range_with_len (first + i) (n - i))) ≡ total → count ≡ total
 count_end test first n i count total h all = let last = rw (scan_end first n i h) at all in omega (arith, last)
+
+-- the first that passes is the first of those from the counter on, as long as none before it passes
+pub first_start : (test : ℕ → Bool) (first n : ℕ) → find test (range_with_len (first + 0) (n - 0)) ≡ find test (range_with_len first n)
+first_start test first n = ap (find test) (scan_start first n)
+
+pub first_here : (test : ℕ → Bool) (first n i p : ℕ) (total : Option ℕ) → i < n → find test (range_with_len (first + i) (n - i)) ≡ total → first + i ≡ p → test p ≡ true → Some p ≡ total
+first_here test first n i p total h all at_p passes = sym (ap (find test) (scan_step first n i h) ∙ rw (at_p, passes) refl) ∙ all
+
+pub first_later : (test : ℕ → Bool) (first n i p : ℕ) (total : Option ℕ) → i < n → find test (range_with_len (first + i) (n - i)) ≡ total → first + i ≡ p → test p ≡ false →
+    find test (range_with_len (first + (i + 1)) (n - (i + 1))) ≡ total
+first_later test first n i p total h all at_p fails = sym (ap (find test) (scan_step first n i h) ∙ rw (at_p, fails) refl) ∙ all
+
+pub first_end : (test : ℕ → Bool) (first n i : ℕ) (total : Option ℕ) → n ≤ i → find test (range_with_len (first + i) (n - i)) ≡ total → None ≡ total
+first_end test first n i total h all = sym (ap (find test) (scan_end first n i h)) ∙ all

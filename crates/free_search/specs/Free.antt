@@ -1,10 +1,13 @@
 -- Free pages of an image: which page takes the next one of a kind, and when there is none.
-use Rattle.std.specs.Prelude.{◌≡◌, ◌≢◌, ◌⊎◌, ℕ, ◌<◌, ◌≤◌, List, Bool, true, false, Option, Some, None, is_some}
+use Rattle.std.specs.Prelude.{◌≡◌, ◌≢◌, ◌⊎◌, ℕ, ◌+◌, ◌*◌, ◌<◌, ◌≤◌, ◌==◌, ◌&&◌, nat_lt, nat_le, not, List, Bool, true, false, Option, Some, None, is_some, option_and_then, filter, find, if◌then◌else◌}
+use Rattle.std.specs.Option.{option_or}
+use Rattle.std.specs.List.{range_with_len, list_all}
 use Rattle.geometry.specs.declared.geometry.Geometry.{Geometry}
 use Rattle.flash_view.specs.declared.kinds.Kind.{Kind}
 use Rattle.flash_view.specs.declared.kinds.Kind.TheVariants.{Index, Data}
 use Rattle.free_search.specs.declared.pages.Worn.{Worn}
-use Rattle.image_model.specs.Places.{has_magic, block_of, is_entry_page, entry_at}
+use Rattle.image_model.specs.Volume.{per_block, lookups, entries}
+use Rattle.image_model.specs.Places.{has_magic, erase_count, block_of, is_entry_page, entry_at}
 use Rattle.flash_view.specs.Places.{IsWordAt}
 use Rattle.image_model.specs.Tidy.{is_free_entry, is_free_block, free_blocks}
 use Rattle.image_model.specs.Kinds.{is_index_block, is_data_block}
@@ -46,40 +49,50 @@ abbrev pub FreePage : Geometry → List ℕ → Kind → ℕ → Option ℕ → 
 FreePage g image kind keep not_in None = HasNone g image kind keep not_in
 FreePage g image kind keep not_in (Some p) = IsFreeFor g image kind keep not_in p
 
--- a block in use has a free entry for the kind
-pub record IsOpen (g : Geometry) (image : List ℕ) (kind : Kind) (block : ℕ) : Type 0 where
-  pub magic : has_magic g image block ≡ true
-  pub used : is_free_block g image block ≡ false
-  pub kind_is : holds_other g image kind block ≡ false
-  pub takes : takes_kind g image kind block ≡ true
-  pub some : 0 < free_in g image block
+-- a block other than the one that is never chosen
+abbrev pub may_choose : Option ℕ → ℕ → Bool
+may_choose None block = true
+may_choose (Some other) block = not (other == block)
 
--- whether it has
-abbrev pub OpenIf : Geometry → List ℕ → Kind → ℕ → Bool → Type 0
-OpenIf g image kind block true = IsOpen g image kind block
-OpenIf g image kind block false = takes_kind g image kind block ≡ true → free_in g image block ≡ 0
+-- a block in use with a free entry for a kind
+abbrev pub is_open_for : Geometry → List ℕ → Kind → ℕ → Bool
+is_open_for g image kind block = takes_kind g image kind block && nat_lt 0 (free_in g image block)
 
--- the first such block, or none but the one that is never chosen
-abbrev pub OpenBlock : Geometry → List ℕ → Kind → Option ℕ → Option ℕ → Type 0
-OpenBlock g image kind not_in None = (block : ℕ) → block < g.blocks → Some block ≢ not_in → takes_kind g image kind block ≡ true → free_in g image block ≡ 0
-OpenBlock g image kind not_in (Some block) = (Some block ≢ not_in) × IsOpen g image kind block
+-- the lowest-numbered such block
+unfoldable pub the_open_block : Geometry → List ℕ → Kind → Option ℕ → Option ℕ
+the_open_block g image kind not_in = find (λ block. may_choose not_in block && is_open_for g image kind block) (range_with_len 0 g.blocks)
 
--- a free entry of a block, or none
-abbrev pub FreeEntry : Geometry → List ℕ → ℕ → Option ℕ → Type 0
-FreeEntry g image block None = free_in g image block ≡ 0
-FreeEntry g image block (Some p) = (is_entry_page g p ≡ true) × (block_of g p ≡ block) × (is_free_entry g image p ≡ true) × IsWordAt image (entry_at g p)
+-- the free blocks that may be chosen
+abbrev pub choices : Geometry → List ℕ → Option ℕ → List ℕ
+choices g image not_in = filter (λ block. may_choose not_in block && is_free_block g image block) (range_with_len 0 g.blocks)
 
--- a free block, or none but the one that is never chosen
-abbrev pub FreeBlock : Geometry → List ℕ → Option ℕ → Option ℕ → Type 0
-FreeBlock g image not_in None = (block : ℕ) → block < g.blocks → Some block ≢ not_in → is_free_block g image block ≡ false
-FreeBlock g image not_in (Some block) = (Some block ≢ not_in) × (is_free_block g image block ≡ true)
+-- the one of them with the smallest erase count, the lowest-numbered among equals
+unfoldable pub the_least_worn : Geometry → List ℕ → Option ℕ → Option ℕ
+the_least_worn g image not_in =
+    find (λ block. list_all (λ other. nat_le (erase_count g image block) (erase_count g image other)) (choices g image not_in)) (choices g image not_in)
 
--- the less worn of the block so far and this one, where that is free: it is free if the one before was
-abbrev pub IsWorn : Geometry → List ℕ → Option Worn → ℕ → Option Worn → Type 0
-IsWorn g image None block None = is_free_block g image block ≡ false
-IsWorn g image (Some worn) block None = ⊥
-IsWorn g image None block (Some found) = (found.block ≡ block) × (is_free_block g image block ≡ true)
-IsWorn g image (Some worn) block (Some found) = (found.block ≡ worn.block) ⊎ ((found.block ≡ block) × (is_free_block g image block ≡ true))
+-- The next page of a kind goes into the lowest-numbered open block of the kind; where there is none, into the least worn
+-- free block, if more than `keep` blocks are free.
+unfoldable pub the_block : Geometry → List ℕ → Kind → ℕ → Option ℕ → Option ℕ
+the_block g image kind keep not_in =
+    option_or (the_open_block g image kind not_in) (if nat_lt keep (free_blocks g image) then the_least_worn g image not_in else None)
+
+-- the first free entry of a block
+unfoldable pub the_first_free : Geometry → List ℕ → ℕ → Option ℕ
+the_first_free g image block = find (λ p. is_free_entry g image p) (range_with_len (block * per_block g + lookups g) (entries g))
+
+-- the page that the next one of a kind takes
+unfoldable pub the_free_page : Geometry → List ℕ → Kind → ℕ → Option ℕ → Option ℕ
+the_free_page g image kind keep not_in = option_and_then (the_first_free g image) (the_block g image kind keep not_in)
+
+-- of two blocks the less worn one, the earlier among equals
+abbrev pub less_worn_of : Option Worn → Worn → Option Worn
+less_worn_of None other = Some other
+less_worn_of (Some worn) other = if nat_le worn.erases other.erases then Some worn else Some other
+
+-- the less worn of the block so far and this one, where that is free
+abbrev pub worn_with : Geometry → List ℕ → Option Worn → ℕ → Option Worn
+worn_with g image least block = if is_free_block g image block then less_worn_of least (record { block = block; erases = erase_count g image block }) else least
 
 -- A page is found for an index page that leaves two blocks free exactly where one index page is had.
 abbrev pub IndexPageHad : Geometry → Type 0

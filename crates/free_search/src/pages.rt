@@ -7,7 +7,9 @@ ghost use Rattle.room_laws.specs.Sorts.{TellsFree};
 ghost use Rattle.free_search.specs.Counts.{the_takes};
 ghost use Rattle.geometry.specs.declared.geometry.Geometry.{Geometry};
 ghost use Rattle.free_search.specs.Had.{TidyButIsClear, LessHad, PutHad, SameHad, InPlaceHad};
-ghost use Rattle.free_search.specs.Free.{FreePage, OpenIf, OpenBlock, FreeEntry, FreeBlock, IsWorn, IndexPageHad, DataPageHad};
+ghost use Rattle.image_model.specs.Places.{entry_at};
+ghost use Rattle.flash_view.specs.Places.{IsWordAt};
+ghost use Rattle.free_search.specs.Free.{FreePage, is_open_for, the_open_block, the_least_worn, the_block, the_first_free, the_free_page, worn_with, IndexPageHad, DataPageHad};
 
 use crate::{BlockCounts, counts, free_blocks, is_free_block};
 use flash_view::{Kind, View, entry_page};
@@ -34,7 +36,8 @@ fn first_free<N: Nor>(v: &mut View<'_, N>, block: u16) -> Result<Option<u16>, Fa
     ensures cause { OnErr result (Rose (N.faults v.old.nor.now) (N.faults v.new.nor.now)) }
     ensures looks { OnlyLooks v.old v.new }
     ensures entry { IfOk result (λ page. IfSome page (λ p. IsEntryPage v.old.geometry p)) }
-    ensures told { N.tells v.old.nor.now → TellsFree v.old.geometry (N.bytes v.old.nor.now) → IfOk result (λ found. FreeEntry v.old.geometry (N.bytes v.old.nor.now) block found) }
+    ensures word { N.tells v.old.nor.now → IfOk result (λ found. IfSome found (λ p. IsWordAt (N.bytes v.old.nor.now) (entry_at v.old.geometry p))) }
+    ensures told { N.tells v.old.nor.now → TellsFree v.old.geometry (N.bytes v.old.nor.now) → IfOk result (λ found. found ≡ the_first_free v.old.geometry (N.bytes v.old.nor.now) block) }
 {
     let g = v.geometry;
     for i in 0..g.entries() {
@@ -52,7 +55,7 @@ fn is_open<N: Nor>(v: &mut View<'_, N>, block: u16, kind: Kind) -> Result<bool, 
     requires { block < v.old.geometry.blocks }
     ensures cause { OnErr result (Rose (N.faults v.old.nor.now) (N.faults v.new.nor.now)) }
     ensures looks { OnlyLooks v.old v.new }
-    ensures told { N.tells v.old.nor.now → TellsFree v.old.geometry (N.bytes v.old.nor.now) → IfOk result (λ takes_one. OpenIf v.old.geometry (N.bytes v.old.nor.now) kind block takes_one) }
+    ensures told { N.tells v.old.nor.now → TellsFree v.old.geometry (N.bytes v.old.nor.now) → IfOk result (λ takes_one. takes_one ≡ is_open_for v.old.geometry (N.bytes v.old.nor.now) kind block) }
 {
     if !v.has_magic(block)? {
         return Ok(false);
@@ -71,7 +74,7 @@ fn open_block<N: Nor>(
     ensures cause { OnErr result (Rose (N.faults v.old.nor.now) (N.faults v.new.nor.now)) }
     ensures looks { OnlyLooks v.old v.new }
     ensures below { IfOk result (λ found. IfSome found (λ block. block < v.old.geometry.blocks)) }
-    ensures told { N.tells v.old.nor.now → TellsFree v.old.geometry (N.bytes v.old.nor.now) → IfOk result (λ found. OpenBlock v.old.geometry (N.bytes v.old.nor.now) kind not_in found) }
+    ensures told { N.tells v.old.nor.now → TellsFree v.old.geometry (N.bytes v.old.nor.now) → IfOk result (λ found. found ≡ the_open_block v.old.geometry (N.bytes v.old.nor.now) kind not_in) }
 {
     for block in 0..v.geometry.blocks() as u16 {
         if Some(block) != not_in && is_open(v, block, kind)? {
@@ -100,7 +103,7 @@ fn less_worn<N: Nor>(
     ensures cause { OnErr result (Rose (N.faults v.old.nor.now) (N.faults v.new.nor.now)) }
     ensures looks { OnlyLooks v.old v.new }
     ensures below { IfOk result (λ found. IfSome found (λ worn. worn.block < v.old.geometry.blocks)) }
-    ensures told { N.tells v.old.nor.now → IfOk result (λ found. IsWorn v.old.geometry (N.bytes v.old.nor.now) least block found) }
+    ensures told { N.tells v.old.nor.now → IfOk result (λ found. found ≡ worn_with v.old.geometry (N.bytes v.old.nor.now) least block) }
 {
     if !is_free_block(v, block)? {
         return Ok(least);
@@ -118,7 +121,7 @@ fn least_worn<N: Nor>(v: &mut View<'_, N>, not_in: Option<u16>) -> Result<Option
     ensures cause { OnErr result (Rose (N.faults v.old.nor.now) (N.faults v.new.nor.now)) }
     ensures looks { OnlyLooks v.old v.new }
     ensures below { IfOk result (λ found. IfSome found (λ block. block < v.old.geometry.blocks)) }
-    ensures told { N.tells v.old.nor.now → TellsFree v.old.geometry (N.bytes v.old.nor.now) → IfOk result (λ found. FreeBlock v.old.geometry (N.bytes v.old.nor.now) not_in found) }
+    ensures told { N.tells v.old.nor.now → IfOk result (λ found. found ≡ the_least_worn v.old.geometry (N.bytes v.old.nor.now) not_in) }
 {
     let mut least = None;
     for block in 0..v.geometry.blocks() as u16 {
@@ -129,9 +132,32 @@ fn least_worn<N: Nor>(v: &mut View<'_, N>, not_in: Option<u16>) -> Result<Option
     Ok(least.map(|worn| worn.block))
 }
 
+// The block into which the next page of a kind goes.
+#[tactic(auto, using(flash_view::proofs::Looking::looks_then))]
+fn block_for<N: Nor>(
+    v: &mut View<'_, N>,
+    kind: Kind,
+    keep: u32,
+    not_in: Option<u16>,
+) -> Result<Option<u16>, Failed>
+    ensures cause { OnErr result (Rose (N.faults v.old.nor.now) (N.faults v.new.nor.now)) }
+    ensures looks { OnlyLooks v.old v.new }
+    ensures below { IfOk result (λ found. IfSome found (λ block. block < v.old.geometry.blocks)) }
+    ensures told { N.tells v.old.nor.now → TellsFree v.old.geometry (N.bytes v.old.nor.now) → IfOk result (λ found. found ≡ the_block v.old.geometry (N.bytes v.old.nor.now) kind keep not_in) }
+{
+    if let Some(block) = open_block(v, kind, not_in)? {
+        return Ok(Some(block));
+    }
+    if free_blocks(v)? <= keep {
+        return Ok(None);
+    }
+    least_worn(v, not_in)
+}
+
 /// The page into which the next one of a kind goes: the first free entry of the lowest-numbered block in use
-/// that takes the kind, else the first entry of the least worn free block. A free block is taken only where
-/// more than `keep` are free; `not_in` is a block that is never chosen. None where there is no such page.
+/// that takes the kind, else the first entry of the least worn free block, the lowest-numbered among equals. A free
+/// block is taken only where more than `keep` are free; `not_in` is a block that is never chosen. None where there is
+/// no such page.
 #[tactic(auto, using(flash_view::proofs::Looking::looks_then))]
 pub fn free_page<N: Nor>(
     v: &mut View<'_, N>,
@@ -142,15 +168,10 @@ pub fn free_page<N: Nor>(
     ensures cause { OnErr result (Rose (N.faults v.old.nor.now) (N.faults v.new.nor.now)) }
     ensures looks { OnlyLooks v.old v.new }
     ensures entry { IfOk result (λ page. IfSome page (λ p. IsEntryPage v.old.geometry p)) }
+    ensures chosen { N.tells v.old.nor.now → TellsFree v.old.geometry (N.bytes v.old.nor.now) → IfOk result (λ found. found ≡ the_free_page v.old.geometry (N.bytes v.old.nor.now) kind keep not_in) }
     ensures told { N.tells v.old.nor.now → TellsFree v.old.geometry (N.bytes v.old.nor.now) → IfOk result (λ found. FreePage v.old.geometry (N.bytes v.old.nor.now) kind keep not_in found) }
 {
-    if let Some(block) = open_block(v, kind, not_in)? {
-        return first_free(v, block);
-    }
-    if free_blocks(v)? <= keep {
-        return Ok(None);
-    }
-    match least_worn(v, not_in)? {
+    match block_for(v, kind, keep, not_in)? {
         Some(block) => first_free(v, block),
         None => Ok(None),
     }

@@ -1,9 +1,8 @@
-use Rattle.std.proofs.Common.{◌≡◌, ◌+◌, ◌-◌, ◌*◌, ◌==◌, ℕ, length}
-use Rattle.std.specs.Prelude.{filter}
+use Rattle.std.proofs.Common.{◌≡◌, ◌+◌, ◌-◌, ◌*◌, ◌==◌, ℕ}
+use Rattle.std.specs.Prelude.{find}
 use Rattle.std.specs.List.{range_with_len}
 use Rattle.geometry.specs.Numbers.{entries, per_block, lookups}
 use Rattle.image_model.specs.Places.{entry_of}
-use Rattle.image_model.specs.Collect.{count_in}
 use Rattle.flash_view.specs.Same.{OnlyLooks}
 use Rattle.free_search.proofs.pages.first_free.Given as goal
 
@@ -15,5 +14,5 @@ invariant-loop-i g l = record {
   told :
       (let image = g.N.NorState.bytes l.fn.v.nor.now in
       g.N.NorState.tells l.fn.v.nor.now →
-      0 + length (filter (λ (p : ℕ). entry_of l.g image p == 0xFFFF) (range_with_len (l.block * per_block l.g + lookups l.g + l.i) (l.i-end - l.i))) ≡ count_in l.g l.block (λ (p : ℕ). entry_of l.g image p == 0xFFFF));
+      find (λ (p : ℕ). entry_of l.g image p == 0xFFFF) (range_with_len (l.block * per_block l.g + lookups l.g + l.i) (l.i-end - l.i)) ≡ find (λ (p : ℕ). entry_of l.g image p == 0xFFFF) (range_with_len (l.block * per_block l.g + lookups l.g) (entries l.g)));
 }

@@ -1,23 +1,35 @@
-use Rattle.std.proofs.Common.{◌≡◌, ◌≢◌, ◌<◌, true, arith, IfOk}
-use Rattle.std.specs.Prelude.{Some, None}
-use Rattle.std.proofs.lemmas.Result.{IfOk-weaker}
-use Rattle.image_model.specs.Tidy.{is_free_block, free_blocks}
-use Rattle.flash_view.proofs.Looking.{looks_then}
-use Rattle.free_search.specs.Free.{OpenBlock, FreeBlock, FreeEntry}
-use Rattle.free_search.proofs.FreePages.{page_new}
+use Rattle.std.proofs.Common.{◌≡◌, refl, sym, ◌∙◌, IfOk}
+use Rattle.std.specs.Prelude.{Some, None, IfSome}
+use Rattle.image_model.specs.Places.{entry_at}
+use Rattle.flash_view.specs.Places.{IsWordAt}
+use Rattle.free_search.specs.Free.{the_block, the_first_free, the_free_page}
+use Rattle.free_search.proofs.Choosing.{page_fits, page_told}
 use Rattle.free_search.proofs.pages.free_page.Goals as goal
 
-pub returns-in-Some-2-clause-told : goal.returns-in-Some-2-clause-told
-returns-in-Some-2-clause-told g c = λ tells frees.
+pub returns-in-Some-clause-chosen : goal.returns-in-Some-clause-chosen
+unfolding the_free_page
+returns-in-Some-clause-chosen g c = λ tells frees.
     let geometry = c.args.v.now.geometry in
     let image = g.N.NorState.bytes c.args.v.now.nor.now in
     let first = c.in_ok-block.ensures.looks in
-    let second = looks_then first c.in_ok-free_blocks.ensures.looks in
-    let third = looks_then second c.in_ok-block-2.ensures.looks in
-    let count : c.in_ok-free_blocks.field-0 ≡ free_blocks geometry image = rw (first.same.geometry, first.reads.bytes) at (c.in_ok-free_blocks.ensures.told (first.reads.told tells)) in
-    let more : c.args.keep < free_blocks geometry image = omega (arith, count, c.if-branch-keep.false) in
-    let none_open : OpenBlock geometry image c.args.kind c.args.not_in None = rw c.in_default.is at (c.in_ok-block.ensures.told tells frees) in
-    let found : FreeBlock geometry image c.args.not_in c.in_ok-block-2.field-0 = rw (second.same.geometry, second.reads.bytes) at (c.in_ok-block-2.ensures.told (second.reads.told tells) (rw (second.same.geometry, second.reads.bytes) frees)) in
-    let free : (Some c.in-Some-2.block ≢ c.args.not_in) × (is_free_block geometry image c.in-Some-2.block ≡ true) = rw c.in-Some-2.is at found in
-    let entry : IfOk c.first_free-in-Some-2.result (λ page. FreeEntry geometry image c.in-Some-2.block page) = rw (third.same.geometry, third.reads.bytes) at (c.first_free-in-Some-2.ensures.told (third.reads.told tells) (rw (third.same.geometry, third.reads.bytes) frees)) in
-    IfOk-weaker c.first_free-in-Some-2.result _ _ (λ page is. page_new geometry image c.args.kind c.args.keep c.in-Some-2.block c.args.not_in page more none_open free is) entry
+    let block : the_block geometry image c.args.kind c.args.keep c.args.not_in ≡ Some c.in-Some.block = sym (c.in_ok-block.ensures.told tells frees) ∙ c.in-Some.is in
+    let found : IfOk c.first_free.result (λ found. found ≡ the_first_free geometry image c.in-Some.block) = rw (first.same.geometry, first.reads.bytes) at (c.first_free.ensures.told (first.reads.told tells) (rw (first.same.geometry, first.reads.bytes) frees)) in
+    rw block found
+
+pub returns-in-Some-clause-told : goal.returns-in-Some-clause-told
+returns-in-Some-clause-told g c = λ tells frees.
+    let geometry = c.args.v.now.geometry in
+    let image = g.N.NorState.bytes c.args.v.now.nor.now in
+    let first = c.in_ok-block.ensures.looks in
+    let word : IfOk c.first_free.result (λ found. IfSome found (λ p. IsWordAt image (entry_at geometry p))) = rw (first.same.geometry, first.reads.bytes) at (c.first_free.ensures.word (first.reads.told tells)) in
+    page_told geometry image frees c.args.kind c.args.keep c.args.not_in c.first_free.result (returns-in-Some-clause-chosen g c tells frees) word
+
+pub returns-in-None-clause-chosen : goal.returns-in-None-clause-chosen
+unfolding the_free_page
+returns-in-None-clause-chosen g c = λ tells frees.
+    let block : the_block c.args.v.now.geometry (g.N.NorState.bytes c.args.v.now.nor.now) c.args.kind c.args.keep c.args.not_in ≡ None = sym (c.in_ok-block.ensures.told tells frees) ∙ c.in-None.is in
+    rw block refl
+
+pub returns-in-None-clause-told : goal.returns-in-None-clause-told
+returns-in-None-clause-told g c = λ tells frees.
+    page_fits c.args.v.now.geometry (g.N.NorState.bytes c.args.v.now.nor.now) frees c.args.kind c.args.keep c.args.not_in None (returns-in-None-clause-chosen g c tells frees) tt

@@ -1,6 +1,6 @@
-use Rattle.std.proofs.Common.{rules}
+use Rattle.std.proofs.Common.{◌≡◌, rules, arith}
 use Rattle.flash_view.proofs.Looking.{looks_then}
-use Rattle.free_search.proofs.Worn.{worn_more, worn_over}
+use Rattle.free_search.proofs.Worn.{worn_more, worn_over, worn_all}
 use Rattle.free_search.proofs.pages.least_worn.Goals.{then-ne+in_ok-least, else-ne}
 use Rattle.free_search.proofs.pages.least_worn.Goals as goal
 
@@ -14,8 +14,7 @@ loop-block-preserved g c =
         looks = rw w.v-is (looks_then was.looks w.in_ok-least.ensures.looks);
         end = was.end;
         below = rw (w.least-is, ← was.looks.same.geometry) w.in_ok-least.ensures.below;
-        told = λ tells. rw w.least-is (worn_more geometry image c.args.not_in c.loop-block.block c.loop-block.least w.in_ok-least.least (let h = w.if-ne.ensures in search rules) (was.told tells)
-            (rw (was.looks.same.geometry, was.looks.reads.bytes) at (w.in_ok-least.ensures.told (was.looks.reads.told tells))));
+        told = λ tells. rw w.least-is (rw (rw (was.looks.same.geometry, was.looks.reads.bytes) at (w.in_ok-least.ensures.told (was.looks.reads.told tells))) (worn_more geometry image c.args.not_in c.loop-block.block c.loop-block.least (let h = w.if-ne.ensures in search rules) (was.told tells)));
       }
       | else-ne w ↦ record {
         looks = rw w.v-is was.looks;
@@ -24,3 +23,13 @@ loop-block-preserved g c =
         told = λ tells. rw w.least-is (worn_over geometry image c.args.not_in c.loop-block.block c.loop-block.least (let h = w.if-ne.ensures in search rules) (was.told tells));
       }
     ]
+
+pub returns-clause-told : goal.returns-clause-told
+returns-clause-told g c = λ tells.
+    let was = c.loop-block.invariant in
+    let geometry = c.args.v.now.geometry in
+    let image = g.N.NorState.bytes c.args.v.now.nor.now in
+    let end : c.loop-block.block ≡ geometry.blocks = omega (arith, was.end, c.loop-block-test.false, c.loop-block.auto.block-end) in
+    let all = worn_all geometry image c.args.not_in c.loop-block.block c.loop-block.least end (was.told tells) in
+    let found = c.map.ensures in
+    search rules

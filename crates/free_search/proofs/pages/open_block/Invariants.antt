@@ -1,9 +1,9 @@
-use Rattle.std.proofs.Common.{◌≡◌, ◌≢◌, ◌<◌, ℕ, true}
-use Rattle.std.specs.Prelude.{Some}
-use Rattle.image_model.specs.Collect.{free_in}
+use Rattle.std.proofs.Common.{◌≡◌, ◌+◌, ◌-◌, ◌&&◌, ℕ}
+use Rattle.std.specs.Prelude.{find}
+use Rattle.std.specs.List.{range_with_len}
 use Rattle.room_laws.specs.Sorts.{TellsFree}
 use Rattle.flash_view.specs.Same.{OnlyLooks}
-use Rattle.free_search.specs.Free.{takes_kind}
+use Rattle.free_search.specs.Free.{may_choose, is_open_for, the_open_block}
 use Rattle.free_search.proofs.pages.open_block.Given as goal
 
 abbrev pub invariant-loop-block : goal.invariant-loop-block
@@ -13,5 +13,5 @@ invariant-loop-block g l = record {
   told :
       (let image = g.N.NorState.bytes l.fn.v.nor.now in
       g.N.NorState.tells l.fn.v.nor.now → TellsFree l.fn.v.geometry image →
-      (block : ℕ) → block < l.block → Some block ≢ l.not_in → takes_kind l.fn.v.geometry image l.kind block ≡ true → free_in l.fn.v.geometry image block ≡ 0);
+      find (λ (block : ℕ). may_choose l.not_in block && is_open_for l.fn.v.geometry image l.kind block) (range_with_len (0 + l.block) (l.block-end - l.block)) ≡ the_open_block l.fn.v.geometry image l.kind l.not_in);
 }
