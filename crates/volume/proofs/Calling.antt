@@ -30,16 +30,18 @@ use Rattle.call_model.proofs.Parts.{among-left, among-right}
 use Rattle.call_model.proofs.After.{tell-stays, after-settled, settled-among, fills-as_writes}
 use Rattle.volume.specs.declared.stage.Stage.{Stage}
 use Rattle.volume.specs.declared.stage.Stage.TheVariants.{Checked, Failed}
-use Rattle.volume.specs.declared.told.Told.{Told}
-use Rattle.volume.specs.declared.told.Told.TheVariants.{Bytes}
+use Rattle.file_calls.specs.declared.told.Told.{Told}
+use Rattle.file_calls.specs.declared.told.Told.TheVariants.{Bytes}
 use Rattle.volume.specs.declared.volume.Volume.{Volume}
 use Rattle.volume.specs.Opening.{is_open, is_mounted, is_failed, stage_after}
 use Rattle.volume.specs.Stages.{takes_calls, has_failed}
 use Rattle.volume.specs.Same.{IsSameVolume}
-use Rattle.volume.specs.Replies.{shown_by, reply_of, breaks, may_answer, may_settle, is_of_name, is_of_descriptor, is_calm}
-use Rattle.volume.specs.Moves.{Moves}
-use Rattle.volume.specs.Holds.{memory, IsImageOf, Holds}
-use Rattle.volume.specs.Goes.{CallCut, IsDoable, IsCorner, StopsShort, IsCollected}
+use Rattle.file_calls.specs.Replies.{shown_by, reply_of, may_answer, is_of_name, is_of_descriptor, is_calm}
+use Rattle.volume.specs.Replies.{breaks, may_settle}
+use Rattle.file_calls.specs.Moves.{Moves}
+use Rattle.file_calls.specs.States.{IsImageOf}
+use Rattle.volume.specs.Holds.{memory, Holds}
+use Rattle.file_calls.specs.Goes.{CallCut, IsDoable, IsCorner, StopsShort, IsCollected}
 use Rattle.volume.specs.Acts.{Acts}
 use Rattle.volume.specs.Unchanged.{Unchanged}
 use Rattle.volume.specs.Settles.{Settles}

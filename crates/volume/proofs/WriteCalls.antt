@@ -38,18 +38,18 @@ use Rattle.flash_view.specs.Steps.{Step, Stepped, stopped}
 use Rattle.flash_view.proofs.Stepped.{ends_as}
 use Rattle.fd_table.specs.declared.slot.FdSlot.{FdSlot}
 use Rattle.fd_table.specs.Slots.{descriptors, opened}
-use Rattle.volume.specs.Replies.{MeetsPage, may_meet}
-use Rattle.volume.specs.Holds.{IsImageOf}
-use Rattle.volume.specs.Refusals.{IsResized}
-use Rattle.volume.specs.Collecting.{refusing}
+use Rattle.file_calls.specs.Replies.{MeetsPage, may_meet}
+use Rattle.file_calls.specs.States.{IsImageOf}
+use Rattle.file_calls.specs.Refusals.{IsResized}
+use Rattle.file_calls.specs.Collecting.{refusing}
 use Rattle.volume.specs.Acts.{Acts}
-use Rattle.volume.specs.Writings.{writing}
-use Rattle.volume.proofs.Going.{IsStep, is_flat, reads_cuts, names_by, named_fine}
+use Rattle.file_calls.specs.Writings.{writing}
+use Rattle.file_calls.proofs.Going.{IsStep, is_flat, reads_cuts, names_by, named_fine}
 use Rattle.volume.proofs.Acting.{EndsSettled}
-use Rattle.volume.proofs.Descriptors.{open_in, file_at}
-use Rattle.volume.proofs.Cutting.{TellsRoom}
+use Rattle.file_calls.proofs.Descriptors.{open_in, file_at}
+use Rattle.file_calls.proofs.Cutting.{TellsRoom}
 use Rattle.volume.proofs.Continuing.{no_bytes}
-use Rattle.volume.proofs.Resizing.{written_size}
+use Rattle.file_calls.proofs.Resizing.{written_size}
 
 -- ---- the flat table
 

@@ -17,9 +17,9 @@ use Rattle.write_window.specs.Runs.{Run}
 use Rattle.call_model.specs.Calls.{Stands}
 use Rattle.fd_table.specs.declared.slot.FdSlot.{FdSlot}
 use Rattle.fd_table.specs.Slots.{descriptors}
-use Rattle.volume.specs.Replies.{may_answer, is_change, keeps_slots}
-use Rattle.volume.specs.Holds.{IsImageOf}
-use Rattle.volume.specs.Goes.{CallCut, IsDoable, IsCorner, StopsShort, StaysAt, IsCollected, IsNamed, IsGiven}
+use Rattle.file_calls.specs.Replies.{may_answer, is_change, keeps_slots}
+use Rattle.file_calls.specs.States.{IsImageOf}
+use Rattle.file_calls.specs.Goes.{CallCut, IsDoable, IsCorner, StopsShort, StaysAt, IsCollected, IsNamed, IsGiven}
 
 -- A call is answered as the flat table is, and device, descriptors and window are those of the moment after it; where two blocks were
 -- free two are, and refused it has only read.

@@ -1,4 +1,4 @@
--- Volumes and devices at a moment of the flat table.
+-- Volumes at a moment of the flat table.
 use Rattle.std.specs.Prelude.{◌≡◌, List}
 use Rattle.geometry.specs.declared.geometry.Geometry.{Geometry}
 use Rattle.nor_core.specs.declared.state.NorState.{Ghosts as NorOf}
@@ -20,12 +20,3 @@ memory v = record { slots = descriptors v.slots.now; run = run_in v.held v.check
 -- a volume stands at a moment
 abbrev pub Holds : {N : Type 0} {nor : NorOf N} → Volume N nor → Moment → Type 0
 Holds {N} {nor} v m = Stands nor v.geometry v.nor.now (memory v) m
-
--- A device and descriptors are those of a state on which nothing waits: the device tells a tidy image with its table, and each open
--- descriptor is on a file of that.
-pub record IsImageOf {D : Type 0} (nor : NorOf D) (g : Geometry) (d : D) (lent : List FdSlot) (s : State) : Type 0 where
-  pub tells : nor.tells d
-  pub tidy : IsTidy g (nor.bytes d)
-  pub table : s.table ≡ table_of g (nor.bytes d)
-  pub slots : descriptors lent ≡ s.slots
-  pub opened : OpensFiles s

@@ -3,29 +3,14 @@
 
 mod calls;
 mod checking;
-mod collecting;
-mod create;
-mod looking;
-mod names;
-mod opening;
-mod reading;
-mod records;
-mod remove;
-mod restating;
-mod room;
 mod saying;
 mod settling;
-mod slots;
 mod stage;
-mod steps;
-mod told;
-mod truncating;
 mod typed;
 mod volume;
 mod write;
-mod writing;
 
+pub use file_calls::Told;
 pub use stage::Stage;
-pub use told::Told;
 pub use vol_check::{CheckErr, Report};
 pub use volume::{Unmounted, Volume};
