@@ -118,6 +118,7 @@ module _ {D : Type 0} {nor : NorOf D} {g : Geometry} {old new : D} {slots last :
     brief = goes.brief;
     named = goes.named;
     looks = goes.looks;
+    waits = λ some. absurd (let no : false ≡ true = some in cc);
   })
 
   -- one that is no write

@@ -236,6 +236,7 @@ module _ {N : Type 0} {nor : NorOf N} where
         stops = λ m takes. absurd (never takes);
         looks = λ look none. (reads_none v.nor.now, refl);
         keeps = λ keeps. refl;
+        begins = λ none run. (reads_none v.nor.now, refl);
       }
 
   -- ---- what waits could not be put onto the chip
@@ -269,6 +270,7 @@ module _ {N : Type 0} {nor : NorOf N} where
         stops = λ m takes stopped here. inl run;
         looks = λ look none. absurd (some none);
         keeps = λ keeps. settles.slots;
+        begins = λ none run. absurd (some none);
       }
 
   -- ---- a call that is done where nothing waits
@@ -423,6 +425,7 @@ module _ {N : Type 0} {nor : NorOf N} where
       stops = λ m takes stopped here. stopped_by m stopped here;
       looks = λ look none. let unwritten = acts.looks look in (only_reads none unwritten, stage_stays (no_run none) unwritten);
       keeps = λ keeps. acts.keeps keeps ∙ settles.slots;
+      begins = λ none run. let unwritten = acts.waits run in (only_reads none unwritten, stage_stays (no_run none) unwritten);
     }
 
   -- ---- a call that only looks at descriptors: what waits goes on waiting
@@ -458,6 +461,7 @@ module _ {N : Type 0} {nor : NorOf N} where
         stops = λ m takes stopped. absurd (let no : true ≡ false = sym takes ∙ stopped in cc);
         looks = λ look none. (reads_none v.nor.now, refl);
         keeps = λ keeps. refl;
+        begins = λ none run. (reads_none v.nor.now, refl);
       }
 
   -- ---- bytes that are lent for nothing, and fills
@@ -511,4 +515,5 @@ module _ {N : Type 0} {nor : NorOf N} where
             (calls.stops m takes stopped here);
         looks = calls.looks;
         keeps = calls.keeps;
+        begins = calls.begins;
       }

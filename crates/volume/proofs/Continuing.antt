@@ -310,6 +310,7 @@ module _ {N : Type 0} {nor : NorOf N} where
         stops = λ m takes shut here. absurd (let no : true ≡ false = sym takes ∙ sym (ap is_open stage) ∙ shut in cc);
         looks = λ look. absurd (let no : true ≡ false = look in cc);
         keeps = λ keeps. absurd (let no : false ≡ true = keeps in cc);
+        begins = λ none. absurd (busy none);
       }
 
   -- a write of no byte that goes on

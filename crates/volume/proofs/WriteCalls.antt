@@ -270,6 +270,7 @@ module _ {D : Type 0} {nor : NorOf D} {g : Geometry} {old : D} {slots : List FdS
             brief = λ given e. absurd (cc);
             named = named_fine (Writes fd bytes) (Number (length bytes)) wrote refl (λ why name e. cc);
             looks = λ look. none;
+            waits = λ some. none;
           })
 
 -- ---- how the parts end

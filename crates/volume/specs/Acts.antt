@@ -1,5 +1,6 @@
 -- What a call does to a device, descriptors and window on which nothing waits.
 use Rattle.std.specs.Prelude.{◌≡◌, ◌≢◌, ℕ, List, Bool, true, false, Option, None}
+use Rattle.std.specs.Option.{is_some}
 use Rattle.geometry.specs.declared.geometry.Geometry.{Geometry}
 use Rattle.nor_core.specs.declared.state.NorState.{Ghosts as NorOf}
 use Rattle.nor_core.specs.Count.{Rose}
@@ -48,3 +49,5 @@ pub record Acts {D : Type 0} (nor : NorOf D) (g : Geometry) (ask : Ask) (old new
   pub brief : (bytes : List ℕ) → reply ≡ Gives bytes → IsGiven ask bytes
   pub named : IsNamed ask reply wrote
   pub looks : is_change ask ≡ false → wrote ≡ false
+  -- written bytes that wait asked for no program and no erase
+  pub waits : is_some run ≡ true → wrote ≡ false

@@ -69,3 +69,5 @@ module _ {N : Type 0} {nor : NorOf N} where
     -- where nothing waits a call that only looks asks for no program and no erase, and one that only looks at descriptors leaves them
     pub looks : is_change ask ≡ false → HasNone old → OnlyReads nor old.nor.now new.nor.now × (new.stage ≡ old.stage)
     pub keeps : keeps_slots ask ≡ true → new.slots.now ≡ old.slots.now
+    -- a write whose bytes begin to wait asks for no program and no erase
+    pub begins : HasNone old → HasRun new → OnlyReads nor old.nor.now new.nor.now × (new.stage ≡ old.stage)
