@@ -17,3 +17,4 @@ pub mod PartRoom
 pub mod WriteParts
 pub mod PartEnds
 pub mod WriteLoop
+pub mod Spaces

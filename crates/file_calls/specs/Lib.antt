@@ -11,3 +11,4 @@ pub mod Opens
 pub mod Recorded
 pub mod Cuts
 pub mod Writings
+pub mod Spaces
