@@ -234,21 +234,23 @@ module _ {D : Type 0} {nor : NorOf D} {g : Geometry} {slots : List FdSlot} where
       ((s : State) → IsImageOf nor g old slots s → IsCorner g (nor.bytes old) s ask → reply ≡ Refuses Tight → StaysAt nor g new after s) → ((s : State) → IsImageOf nor g old slots s → wrote ≡ true → IsDoable g (nor.bytes old) s ask) → (wrote ≡ false → OnlyReads nor old new) → (reply ≡ Refuses DeviceFault → Rose (nor.faults old) (nor.faults new)) →
       ((d : Differ) → reply ≡ Refuses (Damaged d) → (d.wanted ≢ d.found) × ((s : State) → IsImageOf nor g old slots s → ⊥)) → (is_change ask ≡ false → wrote ≡ false) → Goes nor g ask old new slots after wrote reply
   goes_by ask reply wrote fit cuts answers collects cornered begun untouched cause differs looks = record {
-    cuts = cuts;
+    does = record {
+      cuts = cuts;
+      collects = collects;
+      cornered = cornered;
+      begun = begun;
+      untouched = untouched;
+      still = fit.still;
+      keeps = fit.keeps;
+      cause = cause;
+      differs = λ d e. (differs d e).0;
+      undamaged = λ s here d e. (differs d e).1 s here;
+      among = fit.among;
+      brief = fit.brief;
+      named = fit.named;
+      looks = looks;
+    };
     answers = answers;
-    collects = collects;
-    cornered = cornered;
-    begun = begun;
-    untouched = untouched;
-    still = fit.still;
-    keeps = fit.keeps;
-    cause = cause;
-    differs = λ d e. (differs d e).0;
-    undamaged = λ s here d e. (differs d e).1 s here;
-    among = fit.among;
-    brief = fit.brief;
-    named = fit.named;
-    looks = looks;
   }
 
   -- A call that only read, and was answered as the flat table is, which leaves the table.

@@ -10,7 +10,7 @@ use Rattle.table_model.specs.Ask.{Ask}
 use Rattle.flash_view.specs.declared.view.View.{View}
 use Rattle.flash_view.specs.Same.{OnlyLooks}
 use Rattle.fd_table.specs.declared.slot.FdSlot.{FdSlot}
-use Rattle.file_calls.specs.Goes.{Reaches, Goes}
+use Rattle.file_calls.specs.Goes.{Reaches, Does, Goes}
 use Rattle.file_calls.proofs.Going.{reads_stay, rose_later}
 
 module _ {D : Type 0} {nor : NorOf D} {g : Geometry} {old mid : D} (reads : OnlyReads nor old mid) where
@@ -22,10 +22,9 @@ module _ {D : Type 0} {nor : NorOf D} {g : Geometry} {old mid : D} (reads : Only
     reads = λ refusal. reads_then reads (r.reads refusal);
   }
 
-  goes_from : {new : D} {slots after : List FdSlot} {ask : Ask} {reply : Answer} {wrote : Bool} → Goes nor g ask mid new slots after wrote reply → Goes nor g ask old new slots after wrote reply
-  goes_from call = record {
+  does_from : {new : D} {slots after : List FdSlot} {ask : Ask} {reply : Answer} {wrote : Bool} → Does nor g ask mid new slots after wrote reply → Does nor g ask old new slots after wrote reply
+  does_from call = record {
     cuts = wider (after_reads reads call.cuts) (λ tells image cut s here. cut s (reads_stay s reads here));
-    answers = λ s here no_fault whole. reached (call.answers s (reads_stay s reads here) no_fault (rw (sym reads.bytes) at whole));
     collects = λ s here is. rw reads.bytes at (call.collects s (reads_stay s reads here) is);
     cornered = λ s here corner tight. call.cornered s (reads_stay s reads here) (rw (sym reads.bytes) at corner) tight;
     begun = λ s here w. rw reads.bytes at (call.begun s (reads_stay s reads here) w);
@@ -39,6 +38,12 @@ module _ {D : Type 0} {nor : NorOf D} {g : Geometry} {old mid : D} (reads : Only
     brief = call.brief;
     named = call.named;
     looks = call.looks;
+  }
+
+  goes_from : {new : D} {slots after : List FdSlot} {ask : Ask} {reply : Answer} {wrote : Bool} → Goes nor g ask mid new slots after wrote reply → Goes nor g ask old new slots after wrote reply
+  goes_from call = record {
+    does = does_from call.does;
+    answers = λ s here no_fault whole. reached (call.answers s (reads_stay s reads here) no_fault (rw (sym reads.bytes) at whole));
   }
 
 -- what it does since the look it does since before it

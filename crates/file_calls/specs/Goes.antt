@@ -84,10 +84,10 @@ pub record IsGiven (ask : Ask) (bytes : List ℕ) : Type 0 where
   pub reads : ask ≡ Reads fd count
   pub few : length bytes ≤ count
 
--- What a call does to a device and to the descriptors. `wrote` says whether a program or an erase was asked for.
-pub record Goes {D : Type 0} (nor : NorOf D) (g : Geometry) (ask : Ask) (old new : D) (slots after : List FdSlot) (wrote : Bool) (reply : Answer) : Type 0 where
+-- What a call does to a device and to the descriptors, apart from what it answers where it is whole. `wrote` says whether a program or an
+-- erase was asked for.
+pub record Does {D : Type 0} (nor : NorOf D) (g : Geometry) (ask : Ask) (old new : D) (slots after : List FdSlot) (wrote : Bool) (reply : Answer) : Type 0 where
   pub cuts : Changes nor old new (λ was image. (s : State) → IsImageOf nor g old slots s → CallCut g s ask was image)
-  pub answers : (s : State) → IsImageOf nor g old slots s → ¬ (reply ≡ Refuses DeviceFault) → ¬ StopsShort g (nor.bytes old) s ask reply → Reaches nor g old new after s ask reply
   pub collects : (s : State) → IsImageOf nor g old slots s → ask ≡ Collects → IsCollected g reply (nor.bytes old) (nor.bytes new)
   -- Tight for want of a page for a cut, the call has changed nothing but where pages stand
   pub cornered : (s : State) → IsImageOf nor g old slots s → IsCorner g (nor.bytes old) s ask → reply ≡ Refuses Tight → StaysAt nor g new after s
@@ -103,3 +103,8 @@ pub record Goes {D : Type 0} (nor : NorOf D) (g : Geometry) (ask : Ask) (old new
   pub brief : (bytes : List ℕ) → reply ≡ Gives bytes → IsGiven ask bytes
   pub named : IsNamed ask reply wrote
   pub looks : is_change ask ≡ false → wrote ≡ false
+
+-- What a call does that leaves no written bytes waiting: it is answered as the flat table is, where garbage collection isn't stuck.
+pub record Goes {D : Type 0} (nor : NorOf D) (g : Geometry) (ask : Ask) (old new : D) (slots after : List FdSlot) (wrote : Bool) (reply : Answer) : Type 0 where
+  pub does : Does nor g ask old new slots after wrote reply
+  pub answers : (s : State) → IsImageOf nor g old slots s → ¬ (reply ≡ Refuses DeviceFault) → ¬ StopsShort g (nor.bytes old) s ask reply → Reaches nor g old new after s ask reply

@@ -97,7 +97,7 @@ module _ {D : Type 0} {nor : NorOf D} {g : Geometry} {old new : D} {slots last :
       ((s : State) → IsImageOf nor g old slots s → reply ≡ (answer g (has_spare g (nor.bytes old)) s ask).answer → EndsSettled g (has_spare g (nor.bytes old)) s ask) →
       Goes nor g ask old new slots last wrote reply → Acts nor g ask old new slots last run wrote reply
   acts_settled none ask reply wrote ends goes = subst (λ (r : Option Run). Acts nor g ask old new slots last r wrote reply) (sym none) (record {
-    cuts = goes.cuts;
+    does = goes.does;
     answers = λ s here no_fault whole. let r = goes.answers s here no_fault whole in record {
       reply_is = r.reply_is;
       stands = subst (λ (m : Moment). Stands nor g new (record { slots = descriptors last; run = None }) m) (sym (ends s here r.reply_is))
@@ -105,19 +105,7 @@ module _ {D : Type 0} {nor : NorOf D} {g : Geometry} {old new : D} {slots last :
       reserve = r.reserve;
       reads = r.reads;
     };
-    collects = goes.collects;
-    cornered = goes.cornered;
-    begun = goes.begun;
-    untouched = goes.untouched;
-    still = λ refusal. (goes.still refusal, refl);
-    keeps = goes.keeps;
-    cause = goes.cause;
-    differs = goes.differs;
-    undamaged = goes.undamaged;
-    among = goes.among;
-    brief = goes.brief;
-    named = goes.named;
-    looks = goes.looks;
+    empty = λ refusal. refl;
     waits = λ some. absurd (let no : false ≡ true = some in cc);
   })
 
