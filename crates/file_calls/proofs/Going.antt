@@ -404,6 +404,13 @@ pub looked_back : {N : Type 0} {nor : NorOf N} {old mid : View N nor} (P : Geome
     nor.tells old.nor.now → IsTidy old.geometry (nor.bytes old.nor.now) → P old.geometry (nor.bytes old.nor.now)
 looked_back P looks told tells tidy = (rw (looks.same.geometry, looks.reads.bytes) at told) (looks.reads.told tells) tidy
 
+-- and what is told before it is told after it
+pub looked_on : {N : Type 0} {nor : NorOf N} {old mid : View N nor} (P : Geometry → List ℕ → Type 0) → OnlyLooks old mid → (nor.tells old.nor.now → IsTidy old.geometry (nor.bytes old.nor.now) → P old.geometry (nor.bytes old.nor.now)) →
+    nor.tells mid.nor.now → IsTidy mid.geometry (nor.bytes mid.nor.now) → P mid.geometry (nor.bytes mid.nor.now)
+looked_on {old = old} {mid = mid} P looks told tells tidy =
+    let before = told (looks.reads.told_before tells) (rw (looks.same.geometry, looks.reads.bytes) at tidy) in
+    rw (looks.same.geometry, looks.reads.bytes) before
+
 -- ---- steps
 
 -- What a step leaves that is done: the flat table's answer and its table, and two free blocks where there were two. `after` are the

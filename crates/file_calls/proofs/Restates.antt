@@ -8,7 +8,7 @@ use Rattle.std.proofs.lemmas.List.Elements.{All-nil, All-cons}
 use Rattle.geometry.specs.declared.geometry.Geometry.{Geometry}
 use Rattle.nor_core.specs.declared.state.NorState.{Ghosts as NorOf}
 use Rattle.table_model.specs.declared.error.FsErr.{FsErr}
-use Rattle.table_model.specs.declared.error.FsErr.TheVariants.{BadFlags, BadDescriptor, NotFound, NotWritable, ConflictingName}
+use Rattle.table_model.specs.declared.error.FsErr.TheVariants.{BadFlags, BadDescriptor, NotFound, NotWritable, ConflictingName, Tight, DeviceFault}
 use Rattle.table_model.specs.Table.{File, Open, State, same_text, has_name, file_named, file_of, put_file}
 use Rattle.table_model.specs.Names.{name_refusal, names_refusal}
 use Rattle.table_model.specs.Room.{index_pages, data_pages, index_count, data_count, has_room}
@@ -16,7 +16,7 @@ use Rattle.table_model.specs.Descriptors.{open_at, may_write}
 use Rattle.table_model.specs.Files.{with_file}
 use Rattle.table_model.specs.Outcome.{Outcome, refused, gives, with_page}
 use Rattle.table_model.specs.Calls.{answer_rename, answer_meta, answer_fmeta}
-use Rattle.table_model.specs.Reply.{Fine}
+use Rattle.table_model.specs.Reply.{Fine, Refuses}
 use Rattle.table_model.specs.Ask.{Ask, Renames, SetsMeta, SetsMetaOpen}
 use Rattle.table_model.specs.Flat.{answer}
 use Rattle.table_model.specs.Steps.{done_steps}
@@ -30,11 +30,13 @@ use Rattle.fd_table.specs.Slots.{descriptors, opened}
 use Rattle.page_renew.specs.declared.edits.Edit.{Edit}
 use Rattle.page_renew.specs.declared.edits.Edit.TheVariants.{Name, Meta}
 use Rattle.page_renew.specs.Restated.{restates, restated, restating}
+use Rattle.file_calls.specs.Replies.{is_change, may_answer, may_meet, MeetsPage}
 use Rattle.file_calls.specs.States.{IsImageOf}
+use Rattle.file_calls.specs.Restatings.{is_restating, restated_as, IsRestating}
 use Rattle.file_calls.specs.Removes.{id_named}
 use Rattle.file_calls.specs.Refusals.{has_room_beside, page_lack}
 use Rattle.file_calls.proofs.Resizing.{has_at, resized_index, resized_data}
-use Rattle.file_calls.proofs.Going.{IsStep}
+use Rattle.file_calls.proofs.Going.{IsStep, is_flat}
 use Rattle.file_calls.proofs.Descriptors.{open_in, file_at}
 use Rattle.file_calls.proofs.Paged.{TakesPage, page_refuses, with_room, page_step}
 
@@ -120,10 +122,6 @@ module _ (g : Geometry) (spare : Bool) (s : State) where
 
 -- ---- over a device
 
--- what such a call makes of a state
-abbrev pub restated_as : Edit → File → State → Outcome
-restated_as edit f s = gives Fine (with_file (restated edit f) s)
-
 same_id : (edit : Edit) (f : File) → (restated edit f).id ≡ f.id
 same_id (Name name) f = refl
 same_id (Meta meta) f = refl
@@ -134,13 +132,27 @@ same_bytes (Name name) f = refl
 same_bytes (Meta meta) f = refl
 same_bytes _ f = refl
 
--- A call restates the file of an id, where a page is had for it.
-pub record IsRestating {D : Type 0} (nor : NorOf D) (g : Geometry) (slots : List FdSlot) (ask : Ask) (edit : Edit) (id : ℕ) (old : D) : Type 0 where
-  pub kind : restates edit ≡ true
-  pub there : (s : State) → IsImageOf nor g old slots s → (f : File) × (file_of id (table_of g (nor.bytes old)) ≡ Some f)
-  pub unused : (s : State) → IsImageOf nor g old slots s → (f : File) → file_of id (table_of g (nor.bytes old)) ≡ Some f → All (λ (x : File). x.id ≢ id → x.name ≢ (restated edit f).name) (table_of g (nor.bytes old))
-  pub is : (s : State) → IsImageOf nor g old slots s → (f : File) → file_of id (table_of g (nor.bytes old)) ≡ Some f → answer g (has_spare g (nor.bytes old)) s ask ≡ with_page g (has_spare g (nor.bytes old)) s (restated_as edit f s)
-  pub step : (s : State) (files : List File) → done_steps g s ask files ≡ files ∷ []
+-- what is so of each of the three calls
+pub record IsSort (ask : Ask) : Type 0 where
+  pub flat : is_flat ask ≡ true
+  pub change : is_change ask ≡ true
+  pub done : may_answer ask Fine ≡ true
+  pub fault : may_answer ask (Refuses DeviceFault) ≡ true
+  pub tight : may_answer ask (Refuses Tight) ≡ true
+  pub meets : (why : FsErr) → MeetsPage why → may_meet ask why ≡ true
+
+pub sort_is : (ask : Ask) → is_restating ask ≡ true → IsSort ask
+sort_is (Renames old_name new_name) e = record { flat = refl; change = refl; done = refl; fault = refl; tight = refl; meets = λ why may. (may old_name new_name 0 0 0).3 }
+sort_is (SetsMeta name meta) e = record { flat = refl; change = refl; done = refl; fault = refl; tight = refl; meets = λ why may. (may name meta 0 0 0).4 }
+sort_is (SetsMetaOpen fd meta) e = record { flat = refl; change = refl; done = refl; fault = refl; tight = refl; meets = λ why may. (may [] meta 0 fd 0).5 }
+sort_is _ e = absurd (let no : false ≡ true = e in cc)
+
+one_step_of : (g : Geometry) (s : State) (ask : Ask) (files : List File) → is_restating ask ≡ true → done_steps g s ask files ≡ files ∷ []
+unfolding done_steps
+one_step_of g s (Renames old_name new_name) files e = refl
+one_step_of g s (SetsMeta name meta) files e = refl
+one_step_of g s (SetsMetaOpen fd meta) files e = refl
+one_step_of g s _ files e = absurd (let no : false ≡ true = e in cc)
 
 -- a call that is refused as the flat table refuses it
 pub refuses_so : {out : Outcome} {s : State} {why : FsErr} (is : FsErr) → why ≡ is → out ≡ refused is s → out ≡ refused why s
@@ -159,7 +171,7 @@ module _ {D : Type 0} {nor : NorOf D} {g : Geometry} {old : D} {slots : List FdS
     reply_is = refl;
     table_is = ap (put_file (restated edit f)) here.table;
     room_is = restated_room g (nor.bytes old) id f (restated edit f) here.tidy.undamaged (at s here) (same_id edit f) (ap length (same_bytes edit f)) ∙ ap (λ (t : List File). has_room_beside g t 0) (sym here.table);
-    step = call.step s (with_file (restated edit f) s).table;
+    step = one_step_of g s ask (with_file (restated edit f) s).table call.sort;
   }
 
   -- no page is had
@@ -215,8 +227,9 @@ module _ {D : Type 0} {nor : NorOf D} {g : Geometry} {old : D} {slots : List FdS
   -- a rename
   pub rename_is : (old_name new_name : List ℕ) (id : ℕ) → ((f : File) → restated edit f ≡ record f { name = new_name }) → names_refusal old_name new_name ≡ None → (nor.tells old → IsTidy g (nor.bytes old) → id_named old_name (table_of g (nor.bytes old)) ≡ Some id) →
       (nor.tells old → IsTidy g (nor.bytes old) → has_name new_name (table_of g (nor.bytes old)) ≡ false) → IsRestating nor g slots (Renames old_name new_name) edit id old
-  unfolding done_steps
   rename_is old_name new_name id so fine found free = record {
+    sort = refl;
+    fine = fine;
     kind = kind;
     there = λ s here. let w = named_there g (nor.bytes old) old_name id (found here.tells here.tidy) in (w.0, w.2);
     unused = λ s here f there. subst (λ (l : List ℕ). All (λ (x : File). x.id ≢ id → x.name ≢ l) (table_of g (nor.bytes old))) (sym (ap (λ (x : File). x.name) (so f))) (free_name new_name id (table_of g (nor.bytes old)) (free here.tells here.tidy));
@@ -226,14 +239,14 @@ module _ {D : Type 0} {nor : NorOf D} {g : Geometry} {old : D} {slots : List FdS
         subst (λ (x : File). answer g (has_spare g (nor.bytes old)) s (Renames old_name new_name) ≡ with_page g (has_spare g (nor.bytes old)) s (restated_as edit x s)) same
         (renames g (has_spare g (nor.bytes old)) s old_name new_name w.0 fine (ap (file_named old_name) here.table ∙ w.1) (ap (has_name new_name) here.table ∙ free here.tells here.tidy)
         ∙ as_restated g (has_spare g (nor.bytes old)) s edit w.0 (record w.0 { name = new_name }) (so w.0));
-    step = λ s files. refl;
   }
 
   module _ (meta : List ℕ) (so : (f : File) → restated edit f ≡ record f { meta = meta }) (like : length meta ≡ g.meta) where
     -- meta bytes by name
     pub meta_is : (name : List ℕ) (id : ℕ) → name_refusal name ≡ None → (nor.tells old → IsTidy g (nor.bytes old) → id_named name (table_of g (nor.bytes old)) ≡ Some id) → IsRestating nor g slots (SetsMeta name meta) edit id old
-    unfolding done_steps
     meta_is name id fine found = record {
+      sort = refl;
+      fine = fine;
       kind = kind;
       there = λ s here. let w = named_there g (nor.bytes old) name id (found here.tells here.tidy) in (w.0, w.2);
       unused = λ s here f there. stays_named g (nor.bytes old) edit meta so id f here.tidy.undamaged there;
@@ -243,18 +256,17 @@ module _ {D : Type 0} {nor : NorOf D} {g : Geometry} {old : D} {slots : List FdS
           subst (λ (x : File). answer g (has_spare g (nor.bytes old)) s (SetsMeta name meta) ≡ with_page g (has_spare g (nor.bytes old)) s (restated_as edit x s)) same
           (sets_meta g (has_spare g (nor.bytes old)) s name meta w.0 fine (alike (length meta) g.meta like) (ap (file_named name) here.table ∙ w.1)
           ∙ as_restated g (has_spare g (nor.bytes old)) s edit w.0 (record w.0 { meta = meta }) (so w.0));
-      step = λ s files. refl;
     }
 
     -- and by descriptor
     pub fmeta_is : (fd : ℕ) (slot : FdSlot) → open_at (descriptors slots) fd ≡ Some (opened slot) → may_write slot.flags ≡ true → IsRestating nor g slots (SetsMetaOpen fd meta) edit slot.id old
-    unfolding done_steps
     fmeta_is fd slot held may = record {
+      sort = refl;
+      fine = refl;
       kind = kind;
       there = λ s here. let w = file_at fd slot held s here in (w.file, w.listed);
       unused = λ s here f there. stays_named g (nor.bytes old) edit meta so slot.id f here.tidy.undamaged there;
       is = λ s here f there.
           sets_meta_open g (has_spare g (nor.bytes old)) s fd meta (opened slot) f (alike (length meta) g.meta like) (open_in slots s fd (Some (opened slot)) here.slots held) (ap (file_of slot.id) here.table ∙ there) may
           ∙ as_restated g (has_spare g (nor.bytes old)) s edit f (record f { meta = meta }) (so f);
-      step = λ s files. refl;
     }

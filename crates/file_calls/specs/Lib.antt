@@ -12,3 +12,4 @@ pub mod Recorded
 pub mod Cuts
 pub mod Writings
 pub mod Spaces
+pub mod Restatings

@@ -1,9 +1,11 @@
 ghost use Rattle.std.specs.Prelude.{◌≡◌, ℕ, List, length, IfErr, OnOk, false};
-ghost use Rattle.table_model.specs.Ask.{Renames, SetsMeta, SetsMetaOpen};
+ghost use Rattle.table_model.specs.Ask.{Ask, Renames, SetsMeta, SetsMetaOpen};
 ghost use Rattle.table_model.specs.Descriptors.{may_write as may_write_by};
 ghost use Rattle.flash_view.specs.Same.{IsSameView};
 ghost use Rattle.fd_table.specs.declared.slot.FdSlot.{FdSlot};
+ghost use Rattle.page_renew.specs.Edits.{IsEditable};
 ghost use Rattle.file_calls.specs.Replies.{reply_of};
+ghost use Rattle.file_calls.specs.Restatings.{IsRestating};
 ghost use Rattle.file_calls.specs.Goes.{Goes};
 
 use crate::Told;
@@ -41,6 +43,22 @@ pub fn may_write(flags: u8) -> bool
     flags & WRONLY != 0
 }
 
+// Gives the file of an id, which is there, another name or other meta bytes, where a page is had for it.
+#[tactic(auto, using(flash_view::proofs::Looking::same_then, flash_view::proofs::Looking::same_none))]
+fn restate_file<N: Nor>(v: &mut View<'_, N>, id: u16, edit: Edit<'_>) -> Result<Told, FsErr>
+    requires edit { IsEditable v.old.geometry edit }
+    requires fresh { v.old.wrote ≡ false }
+    ensures same { IsSameView v.old v.new }
+    ensures goes { (ask : Ask) (slots : List FdSlot) (into : List ℕ) → IsRestating N.NorState v.old.geometry slots ask edit.entry id v.old.nor.now → Goes N.NorState v.old.geometry ask v.old.nor.now v.new.nor.now slots slots v.new.wrote (reply_of result into) }
+{
+    have_page(v, 0)?;
+    take_page(v)?;
+    match restate(v, id, edit) {
+        Ok(()) => Ok(Told::Done),
+        Err(why) => Err(failed_as(why)),
+    }
+}
+
 /// Gives the file of a name another one.
 #[tactic(auto, using(flash_view::proofs::Looking::same_then, flash_view::proofs::Looking::same_none))]
 pub(crate) fn rename_in<N: Nor>(
@@ -55,12 +73,7 @@ pub(crate) fn rename_in<N: Nor>(
     accept_both(old_name, new_name)?;
     let id = find_named(v, old_name)?;
     refuse_known(v, new_name)?;
-    have_page(v, 0)?;
-    take_page(v)?;
-    match restate(v, id, Edit::Name(new_name)) {
-        Ok(()) => Ok(Told::Done),
-        Err(why) => Err(failed_as(why)),
-    }
+    restate_file(v, id, Edit::Name(new_name))
 }
 
 /// Gives the file of a name other meta bytes.
@@ -73,12 +86,7 @@ pub(crate) fn set_meta<N: Nor>(v: &mut View<'_, N>, name: &[u8], meta: &[u8]) ->
     accept(name)?;
     accept_meta(&v.geometry, meta)?;
     let id = find_named(v, name)?;
-    have_page(v, 0)?;
-    take_page(v)?;
-    match restate(v, id, Edit::Meta(meta)) {
-        Ok(()) => Ok(Told::Done),
-        Err(why) => Err(failed_as(why)),
-    }
+    restate_file(v, id, Edit::Meta(meta))
 }
 
 /// Gives the file of a descriptor that may write other meta bytes.
@@ -98,10 +106,5 @@ pub(crate) fn set_meta_open<N: Nor>(
     if !may_write(slot.flags) {
         return Err(FsErr::NotWritable);
     }
-    have_page(v, 0)?;
-    take_page(v)?;
-    match restate(v, slot.id, Edit::Meta(meta)) {
-        Ok(()) => Ok(Told::Done),
-        Err(why) => Err(failed_as(why)),
-    }
+    restate_file(v, slot.id, Edit::Meta(meta))
 }

@@ -1,18 +1,18 @@
-use Rattle.std.proofs.Common.{[], refl, ◌∙◌, ap, Ok, Err}
+use Rattle.std.proofs.Common.{◌≡◌, refl, true, false, ◌∙◌, ap, Err, Some}
 use Rattle.std.proofs.lemmas.Result.{err_from_is_err_and}
 use Rattle.nor_core.proofs.Cuts.{reads_none}
+use Rattle.table_model.specs.declared.error.FsErr.TheVariants.{NotFound, ConflictingName}
 use Rattle.table_model.specs.Table.{file_named, has_name}
-use Rattle.table_model.specs.Reply.{Fine}
 use Rattle.table_model.specs.Ask.{Renames}
 use Rattle.image_model.specs.Tables.{table_of}
-use Rattle.flash_view.proofs.Looking.{looks_then, same_then}
+use Rattle.flash_view.proofs.Looking.{looks_then}
 use Rattle.page_renew.specs.declared.edits.Edit.TheVariants.{Name}
-use Rattle.file_calls.specs.Refusals.{HasPage, IsNewName}
-use Rattle.file_calls.proofs.Going.{goes_named, goes_refused, goes_done, goes_broken, goes_stopped, rose_later, looked_back}
-use Rattle.file_calls.proofs.Paged.{with_page_had, with_page_not_had}
-use Rattle.file_calls.proofs.Restates.{refuses_so, named_there, rename_missing, rename_conflicts, rename_is, restate_refuses, restated_step, the_file}
+use Rattle.file_calls.specs.Removes.{id_named}
+use Rattle.file_calls.specs.Refusals.{IsNewName}
+use Rattle.file_calls.proofs.Going.{goes_named, goes_refused, rose_later, looked_back, looked_on}
+use Rattle.file_calls.proofs.Looked.{goes_since}
+use Rattle.file_calls.proofs.Restates.{refuses_so, named_there, rename_missing, rename_conflicts, rename_is}
 use Rattle.file_calls.proofs.restating.rename_in.Goals as goal
-use Rattle.table_model.specs.declared.error.FsErr.TheVariants.{NotFound, ConflictingName}
 
 pub returns-in_err-accept_both-clause-goes : goal.returns-in_err-accept_both-clause-goes
 returns-in_err-accept_both-clause-goes g c =
@@ -45,67 +45,13 @@ returns-in_err-refuse_known-clause-goes g c =
     let known = looked_back (λ h image. IsNewName new_name (table_of h image) (Err c.in_err-refuse_known.field-0.0)) found.looks failed.told here.tells here.tidy no_fault in
     refuses_so ConflictingName known.0 (rename_conflicts c.args.v.now.geometry _ s old_name new_name w.0 fine (ap (file_named old_name) here.table ∙ w.1) (ap (has_name new_name) here.table ∙ known.1))))
 
-pub returns-in_err-have_page-clause-goes : goal.returns-in_err-have_page-clause-goes
-returns-in_err-have_page-clause-goes g c =
-    let p = err_from_is_err_and c.from_residual-in_err-have_page.result c.from_residual-in_err-have_page.ensures.1 in
+pub returns-clause-goes : goal.returns-clause-goes
+returns-clause-goes g c =
     let found = c.in_ok-id.ensures in
     let known = c.in_ok-refuse_known.ensures in
-    let failed = c.in_err-have_page.ensures in
     let old_name = c.args.old_name.now in
     let new_name = c.args.new_name.now in
-    let fine = c.in_ok-accept_both.ensures.fine in
-    let before = looks_then found.looks known.looks in
-    let looks = looks_then before failed.looks in
-    let free = looked_back (λ h image. IsNewName new_name (table_of h image) (Ok tt)) found.looks known.told in
-    rw (p.1, p.2) (λ slots into. goes_refused (Renames old_name new_name) c.in_err-have_page.field-0.0 c.have_page.new.v.wrote (looks.wrote ∙ c.requires.fresh) looks.reads refl fine (failed.among old_name new_name 0 0 0).3 (λ e. rose_later _ _ _ before.same.faults (failed.cause e))
-    (λ s here no_fault. restate_refuses (Renames old_name new_name) (Name c.args.new_name) c.in_ok-id.id (rename_is (Name c.args.new_name) refl old_name new_name c.in_ok-id.id (λ f. refl) fine found.told free) s here
-    (looked_back (λ h image. HasPage h image 0 (Err c.in_err-have_page.field-0.0)) before failed.told here.tells here.tidy no_fault)))
-
-pub returns-in_err-take_page-clause-goes : goal.returns-in_err-take_page-clause-goes
-returns-in_err-take_page-clause-goes g c =
-    let p = err_from_is_err_and c.from_residual-in_err-take_page.result c.from_residual-in_err-take_page.ensures.1 in
-    let found = c.in_ok-id.ensures in
-    let known = c.in_ok-refuse_known.ensures in
-    let looked = c.in_ok-have_page.ensures in
-    let old_name = c.args.old_name.now in
-    let new_name = c.args.new_name.now in
-    let fine = c.in_ok-accept_both.ensures.fine in
-    let before = looks_then found.looks known.looks in
-    let free = looked_back (λ h image. IsNewName new_name (table_of h image) (Ok tt)) found.looks known.told in
-    let ready = looked_back (λ h image. HasPage h image 0 (Ok tt)) before looked.told in
-    rw (p.1, p.2) (λ slots into. goes_stopped {slots = slots} (Renames old_name new_name) Fine refl refl fine (restated_step (Renames old_name new_name) (Name c.args.new_name) c.in_ok-id.id (rename_is (Name c.args.new_name) refl old_name new_name c.in_ok-id.id (λ f. refl) fine found.told free) ready) (looks_then before looked.looks) c.requires.fresh c.in_err-take_page.field-0.0 refl refl
-    (with_page_not_had c.in_err-take_page.ensures))
-
-pub returns-in-Ok-clause-same : goal.returns-in-Ok-clause-same
-returns-in-Ok-clause-same g c = same_then (same_then (looks_then (looks_then c.in_ok-id.ensures.looks c.in_ok-refuse_known.ensures.looks) c.in_ok-have_page.ensures.looks).same c.in_ok-take_page.ensures.framed.same) (c.in-Ok.ensures (the_file 0 [])).framed.same
-
-pub returns-in-Err-clause-same : goal.returns-in-Err-clause-same
-returns-in-Err-clause-same g c = same_then (same_then (looks_then (looks_then c.in_ok-id.ensures.looks c.in_ok-refuse_known.ensures.looks) c.in_ok-have_page.ensures.looks).same c.in_ok-take_page.ensures.framed.same) (c.in-Err.ensures (the_file 0 [])).framed.same
-
-pub returns-in-Ok-clause-goes : goal.returns-in-Ok-clause-goes
-returns-in-Ok-clause-goes g c =
-    let found = c.in_ok-id.ensures in
-    let known = c.in_ok-refuse_known.ensures in
-    let looked = c.in_ok-have_page.ensures in
-    let old_name = c.args.old_name.now in
-    let new_name = c.args.new_name.now in
-    let fine = c.in_ok-accept_both.ensures.fine in
-    let before = looks_then found.looks known.looks in
-    let free = looked_back (λ h image. IsNewName new_name (table_of h image) (Ok tt)) found.looks known.told in
-    let ready = looked_back (λ h image. HasPage h image 0 (Ok tt)) before looked.told in
-    λ slots into. goes_done (Renames old_name new_name) Fine refl refl fine (restated_step (Renames old_name new_name) (Name c.args.new_name) c.in_ok-id.id (rename_is (Name c.args.new_name) refl old_name new_name c.in_ok-id.id (λ f. refl) fine found.told free) ready) (looks_then before looked.looks) c.requires.fresh slots refl refl refl (λ bytes e. absurd (cc)) (λ k. refl)
-    (with_page_had c.in_ok-take_page.ensures (c.in-Ok.ensures (the_file c.in_ok-id.id (table_of c.args.v.now.geometry (g.N.NorState.bytes c.args.v.now.nor.now)))))
-
-pub returns-in-Err-clause-goes : goal.returns-in-Err-clause-goes
-returns-in-Err-clause-goes g c =
-    let found = c.in_ok-id.ensures in
-    let known = c.in_ok-refuse_known.ensures in
-    let looked = c.in_ok-have_page.ensures in
-    let old_name = c.args.old_name.now in
-    let new_name = c.args.new_name.now in
-    let fine = c.in_ok-accept_both.ensures.fine in
-    let before = looks_then found.looks known.looks in
-    let free = looked_back (λ h image. IsNewName new_name (table_of h image) (Ok tt)) found.looks known.told in
-    let ready = looked_back (λ h image. HasPage h image 0 (Ok tt)) before looked.told in
-    rw c.failed_as.ensures (λ slots into. goes_broken {slots = slots} (Renames old_name new_name) Fine refl refl fine (restated_step (Renames old_name new_name) (Name c.args.new_name) c.in_ok-id.id (rename_is (Name c.args.new_name) refl old_name new_name c.in_ok-id.id (λ f. refl) fine found.told free) ready) (looks_then before looked.looks) c.requires.fresh c.in-Err.why refl
-    (with_page_had c.in_ok-take_page.ensures (c.in-Err.ensures (the_file c.in_ok-id.id (table_of c.args.v.now.geometry (g.N.NorState.bytes c.args.v.now.nor.now))))))
+    let looks = looks_then found.looks known.looks in
+    let there = looked_on (λ h image. id_named old_name (table_of h image) ≡ Some c.in_ok-id.id) looks found.told in
+    let free = looked_on (λ h image. has_name new_name (table_of h image) ≡ false) known.looks known.told in
+    λ slots into. goes_since looks (c.restate_file.ensures.goes (Renames old_name new_name) slots into (rename_is (Name c.args.new_name) refl old_name new_name c.in_ok-id.id (λ f. refl) c.in_ok-accept_both.ensures.fine there free))

@@ -1,17 +1,13 @@
-use Rattle.std.proofs.Common.{[], refl, sym, ◌∙◌, length}
+use Rattle.std.proofs.Common.{refl, sym, ◌∙◌, length}
 use Rattle.std.proofs.lemmas.Result.{err_from_is_err_and}
 use Rattle.nor_core.proofs.Cuts.{reads_none}
 use Rattle.table_model.specs.declared.error.FsErr.TheVariants.{BadFlags, NotWritable}
-use Rattle.table_model.specs.Reply.{Fine}
 use Rattle.table_model.specs.Ask.{SetsMetaOpen}
-use Rattle.image_model.specs.Tables.{table_of}
 use Rattle.fd_table.specs.Slots.{opened}
-use Rattle.flash_view.proofs.Looking.{same_then}
 use Rattle.page_renew.specs.declared.edits.Edit.TheVariants.{Meta}
-use Rattle.file_calls.proofs.Going.{goes_refused, goes_done, goes_broken, goes_stopped}
+use Rattle.file_calls.proofs.Going.{goes_refused}
 use Rattle.file_calls.proofs.Descriptors.{goes_closed, file_at, open_in}
-use Rattle.file_calls.proofs.Paged.{with_page_had, with_page_not_had}
-use Rattle.file_calls.proofs.Restates.{refuses_so, unlike, alike, fmeta_unlike, fmeta_closed, fmeta_unwritable, fmeta_is, restate_refuses, restated_step, the_file}
+use Rattle.file_calls.proofs.Restates.{refuses_so, unlike, alike, fmeta_unlike, fmeta_closed, fmeta_unwritable, fmeta_is}
 use Rattle.file_calls.proofs.restating.set_meta_open.Goals as goal
 
 pub returns-in_err-accept_meta-clause-goes : goal.returns-in_err-accept_meta-clause-goes
@@ -41,39 +37,8 @@ returns-then-not-may_write-clause-goes g c =
     let w = file_at c.args.fd slot found s here in
     refuses_so NotWritable refl (fmeta_unwritable c.args.v.now.geometry _ s c.args.fd meta (opened slot) w.file like (open_in c.args.slots.now s c.args.fd _ here.slots found) w.there (sym c.may_write.ensures ∙ c.if-not-may_write.true)))
 
-pub returns-in_err-have_page-clause-goes : goal.returns-in_err-have_page-clause-goes
-returns-in_err-have_page-clause-goes g c =
-    let p = err_from_is_err_and c.from_residual-in_err-have_page.result c.from_residual-in_err-have_page.ensures.1 in
-    let failed = c.in_err-have_page.ensures in
+pub returns-clause-goes : goal.returns-clause-goes
+returns-clause-goes g c =
     let meta = c.args.meta.now in
-    rw (p.1, p.2) (λ into. goes_refused (SetsMetaOpen c.args.fd meta) c.in_err-have_page.field-0.0 c.have_page.new.v.wrote (failed.looks.wrote ∙ c.requires.fresh) failed.looks.reads refl refl (failed.among [] meta 0 c.args.fd 0).5 failed.cause
-    (λ s here no_fault. restate_refuses (SetsMetaOpen c.args.fd meta) (Meta c.args.meta) c.in_ok-slot.slot.id (fmeta_is (Meta c.args.meta) refl meta (λ f. refl) c.in_ok-accept_meta.ensures.fine c.args.fd c.in_ok-slot.slot c.in_ok-slot.ensures.found (sym c.may_write.ensures ∙ c.if-not-may_write.false)) s here
-    (failed.told here.tells here.tidy no_fault)))
-
-pub returns-in_err-take_page-clause-goes : goal.returns-in_err-take_page-clause-goes
-returns-in_err-take_page-clause-goes g c =
-    let p = err_from_is_err_and c.from_residual-in_err-take_page.result c.from_residual-in_err-take_page.ensures.1 in
-    let looked = c.in_ok-have_page.ensures in
-    let meta = c.args.meta.now in
-    rw (p.1, p.2) (λ into. goes_stopped (SetsMetaOpen c.args.fd meta) Fine refl refl refl (restated_step (SetsMetaOpen c.args.fd meta) (Meta c.args.meta) c.in_ok-slot.slot.id (fmeta_is (Meta c.args.meta) refl meta (λ f. refl) c.in_ok-accept_meta.ensures.fine c.args.fd c.in_ok-slot.slot c.in_ok-slot.ensures.found (sym c.may_write.ensures ∙ c.if-not-may_write.false)) looked.told) looked.looks c.requires.fresh c.in_err-take_page.field-0.0 refl refl
-    (with_page_not_had c.in_err-take_page.ensures))
-
-pub returns-in-Ok-clause-same : goal.returns-in-Ok-clause-same
-returns-in-Ok-clause-same g c = same_then (same_then c.in_ok-have_page.ensures.looks.same c.in_ok-take_page.ensures.framed.same) (c.in-Ok.ensures (the_file 0 [])).framed.same
-
-pub returns-in-Err-clause-same : goal.returns-in-Err-clause-same
-returns-in-Err-clause-same g c = same_then (same_then c.in_ok-have_page.ensures.looks.same c.in_ok-take_page.ensures.framed.same) (c.in-Err.ensures (the_file 0 [])).framed.same
-
-pub returns-in-Ok-clause-goes : goal.returns-in-Ok-clause-goes
-returns-in-Ok-clause-goes g c =
-    let looked = c.in_ok-have_page.ensures in
-    let meta = c.args.meta.now in
-    λ into. goes_done (SetsMetaOpen c.args.fd meta) Fine refl refl refl (restated_step (SetsMetaOpen c.args.fd meta) (Meta c.args.meta) c.in_ok-slot.slot.id (fmeta_is (Meta c.args.meta) refl meta (λ f. refl) c.in_ok-accept_meta.ensures.fine c.args.fd c.in_ok-slot.slot c.in_ok-slot.ensures.found (sym c.may_write.ensures ∙ c.if-not-may_write.false)) looked.told) looked.looks c.requires.fresh c.args.slots.now refl refl refl (λ bytes e. absurd (cc)) (λ k. refl)
-    (with_page_had c.in_ok-take_page.ensures (c.in-Ok.ensures (the_file c.in_ok-slot.slot.id (table_of c.args.v.now.geometry (g.N.NorState.bytes c.args.v.now.nor.now)))))
-
-pub returns-in-Err-clause-goes : goal.returns-in-Err-clause-goes
-returns-in-Err-clause-goes g c =
-    let looked = c.in_ok-have_page.ensures in
-    let meta = c.args.meta.now in
-    rw c.failed_as.ensures (λ into. goes_broken (SetsMetaOpen c.args.fd meta) Fine refl refl refl (restated_step (SetsMetaOpen c.args.fd meta) (Meta c.args.meta) c.in_ok-slot.slot.id (fmeta_is (Meta c.args.meta) refl meta (λ f. refl) c.in_ok-accept_meta.ensures.fine c.args.fd c.in_ok-slot.slot c.in_ok-slot.ensures.found (sym c.may_write.ensures ∙ c.if-not-may_write.false)) looked.told) looked.looks c.requires.fresh c.in-Err.why refl
-    (with_page_had c.in_ok-take_page.ensures (c.in-Err.ensures (the_file c.in_ok-slot.slot.id (table_of c.args.v.now.geometry (g.N.NorState.bytes c.args.v.now.nor.now))))))
+    let slot = c.in_ok-slot.slot in
+    λ into. c.restate_file.ensures.goes (SetsMetaOpen c.args.fd meta) c.args.slots.now into (fmeta_is (Meta c.args.meta) refl meta (λ f. refl) c.in_ok-accept_meta.ensures.fine c.args.fd slot c.in_ok-slot.ensures.found (sym c.may_write.ensures ∙ c.if-not-may_write.false))
