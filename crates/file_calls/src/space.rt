@@ -46,8 +46,8 @@ pub fn space_of<N: Nor>(v: &mut View<'_, N>) -> Result<Space, Failed>
         deleted_pages: 0,
     };
     for block in 0..v.geometry.blocks() as u16 {
-        let c = counts(v, block)?;
-        space = with_block(space, &c, entries);
+        let own = counts(v, block)?;
+        space = with_block(space, &own, entries);
     }
     Ok(space)
 }

@@ -18,15 +18,15 @@ loop-block-init g c = record {
 pub loop-block-preserved : goal.loop-block-preserved
 loop-block-preserved g c =
     let was = c.loop-block.invariant in
-    let looked = c.in_ok-c.ensures in
-    let counted = c.in_ok-c.field-0 in
+    let looked = c.in_ok-own.ensures in
+    let counted = c.in_ok-own.own in
     let geometry = c.args.v.now.geometry in
     let image = g.N.NorState.bytes c.args.v.now.nor.now in
     record {
       looks = looks_then was.looks looked.looks;
       entries_is = was.entries_is;
       end = was.end;
-      few = rw c.with_block-space.ensures (within_more c.loop-block.block c.loop-block.entries c.loop-block.space counted (omega arith) (omega arith) was.few);
+      few = rw c.with_block-space.ensures (within_more c.loop-block.block _ c.loop-block.space counted (omega arith) (omega arith) was.few);
       told = λ tells tidy.
           let counts : AreCounts geometry image c.loop-block.block counted = rw (was.looks.same.geometry, was.looks.reads.bytes) at (looked.told (was.looks.reads.told tells)) in
           rw (c.with_block-space.ensures, was.entries_is) (adding_more geometry image c.loop-block.block _ c.loop-block.space counted c.loop-block-test.true was.end tidy counts (was.told tells tidy));
