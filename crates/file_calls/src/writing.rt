@@ -118,12 +118,7 @@ fn end_of(at: u32, len: usize) -> Option<u32>
 
 /// Writes bytes into a file from a place inside it or at its end, in one page step for each part: where the data pages end, at the old end
 /// of the file, and at the end of the write. Where they can be written, a fault of the device is the one error.
-pub fn write_all<N: Nor>(
-    v: &mut View<'_, N>,
-    id: u16,
-    at: u32,
-    bytes: &[u8],
-) -> Result<(), FsErr>
+pub fn write_all<N: Nor>(v: &mut View<'_, N>, id: u16, at: u32, bytes: &[u8]) -> Result<(), FsErr>
     ensures { (f : File) → Stepped refusing v.old v.new result (writing id at bytes.now f) }
 {
     let size = record_of(v, id)?.size;

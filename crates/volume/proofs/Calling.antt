@@ -18,7 +18,7 @@ use Rattle.table_model.specs.Ask.{Ask, Reads, Writes, Fills, Tells, Collects, as
 use Rattle.table_model.specs.Outcome.{Outcome}
 use Rattle.table_model.specs.Flat.{answer}
 use Rattle.table_model.specs.Steps.{is_refusal, steps}
-use Rattle.table_model.specs.Window.{Moment, after, settled_at, leaves_window, incoming_of, incoming_at, continues, from_settled, IsAmong, Waiting, Incoming}
+use Rattle.table_model.specs.Window.{Moment, after, settled_at, leaves_window, incoming_of, incoming_at, continues, from_settled, IsAmong, Incoming}
 use Rattle.image_model.specs.Tables.{table_of}
 use Rattle.image_model.specs.Tidy.{HasReserve, has_spare}
 use Rattle.write_window.specs.Runs.{Run}

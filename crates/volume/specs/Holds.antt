@@ -1,15 +1,9 @@
 -- Volumes at a moment of the flat table.
-use Rattle.std.specs.Prelude.{◌≡◌, List}
-use Rattle.geometry.specs.declared.geometry.Geometry.{Geometry}
 use Rattle.nor_core.specs.declared.state.NorState.{Ghosts as NorOf}
-use Rattle.table_model.specs.Table.{State}
 use Rattle.table_model.specs.Window.{Moment}
-use Rattle.image_model.specs.Tables.{table_of}
-use Rattle.image_model.specs.Tidy.{IsTidy}
-use Rattle.fd_table.specs.declared.slot.FdSlot.{FdSlot}
 use Rattle.fd_table.specs.Slots.{descriptors}
 use Rattle.write_window.specs.Shown.{run_in}
-use Rattle.call_model.specs.Memory.{Memory, OpensFiles}
+use Rattle.call_model.specs.Memory.{Memory}
 use Rattle.call_model.specs.Calls.{Stands}
 use Rattle.volume.specs.declared.volume.Volume.{Volume}
 
