@@ -7,7 +7,6 @@ use Rattle.file_calls.specs.declared.told.Told.{Told}
 use Rattle.file_calls.specs.declared.told.Told.TheVariants.{Done, Number as AsNumber, Bytes, File as AsFile, NoMore, Room, Refusal}
 use Rattle.table_model.specs.declared.call.Whence.{Whence}
 use Rattle.table_model.specs.declared.call.Whence.TheVariants.{Set, Cur, End}
-use Rattle.table_model.specs.Table.{Open}
 use Rattle.table_model.specs.Descriptors.{empties, makes}
 use Rattle.flash_view.specs.declared.kinds.StepErr.{StepErr}
 use Rattle.flash_view.specs.declared.kinds.StepErr.TheVariants.{DeviceFault as StepFault, Damaged as StepDamaged}

@@ -1,4 +1,4 @@
-use Rattle.std.proofs.Common.{◌≡◌, refl, true, false, ◌∙◌, ap, Err, Some}
+use Rattle.std.proofs.Common.{◌≡◌, refl, false, ◌∙◌, ap, Err, Some}
 use Rattle.std.proofs.lemmas.Result.{err_from_is_err_and}
 use Rattle.nor_core.proofs.Cuts.{reads_none}
 use Rattle.table_model.specs.declared.error.FsErr.TheVariants.{NotFound, ConflictingName}
