@@ -25,6 +25,8 @@ mod pages;
 #[cfg(test)]
 mod shapes;
 #[cfg(test)]
+mod space;
+#[cfg(test)]
 mod tables;
 #[cfg(test)]
 mod writing;

@@ -25,9 +25,10 @@ use Rattle.volume.specs.declared.volume.Volume.{Volume}
 use Rattle.volume.specs.Holds.{memory, Holds}
 use Rattle.volume.specs.Opening.{is_open}
 use Rattle.volume.specs.Stages.{takes_calls}
-use Rattle.volume.specs.declared.told.Told.{Told}
-use Rattle.volume.specs.Replies.{breaks, shown_by, HasRoomFor}
-use Rattle.volume.specs.Goes.{cuts_file, IsCorner, StopsShort}
+use Rattle.file_calls.specs.declared.told.Told.{Told}
+use Rattle.file_calls.specs.Replies.{shown_by, HasRoomFor}
+use Rattle.volume.specs.Replies.{breaks}
+use Rattle.file_calls.specs.Goes.{cuts_file, IsCorner, StopsShort}
 use Rattle.volume.specs.Calls.{Calls}
 use Rattle.tool_core.specs.declared.ending.Ending.TheVariants.{BoardFault, Differ as EndsDiffer}
 use Rattle.tool_core.specs.Runs.{Ran, StandsNow}

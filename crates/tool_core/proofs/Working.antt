@@ -7,7 +7,7 @@ use Rattle.nor_core.specs.Device.{Leaves, Changes, InSay, Says}
 use Rattle.nor_core.proofs.Cuts.{andthen, widened, started}
 use Rattle.table_model.specs.Ask.{Ask}
 use Rattle.call_model.specs.Memory.{Memory}
-use Rattle.volume.specs.declared.told.Told.{Told}
+use Rattle.file_calls.specs.declared.told.Told.{Told}
 use Rattle.tool_core.specs.declared.ending.Ending.{Ending}
 use Rattle.tool_core.specs.declared.ending.Ending.TheVariants.{Done, BadLine, BoardFault, SourceFault, TooLong}
 use Rattle.tool_core.specs.Mounting.{Checks}

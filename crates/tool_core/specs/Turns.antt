@@ -9,8 +9,8 @@ use Rattle.call_script.specs.Lines.{Bad, lines, of_line, calls_of, NoBreak}
 use Rattle.call_model.specs.Memory.{Memory}
 use Rattle.run_model.specs.Runs.{replies}
 use Rattle.run_model.specs.Ran.{RunStands, RunPublishes, RunAnswers, MayCut, Reached, SaidPart}
-use Rattle.volume.specs.declared.told.Told.{Told}
-use Rattle.volume.specs.Replies.{shown_by}
+use Rattle.file_calls.specs.declared.told.Told.{Told}
+use Rattle.file_calls.specs.Replies.{shown_by}
 use Rattle.tool_core.specs.Runs.{result_err, StandsNow, WorksTo}
 use Rattle.tool_core.specs.declared.ending.Ending.{Ending}
 use Rattle.tool_core.specs.declared.ending.Ending.TheVariants.{Done, BadLine, BoardFault, SourceFault, TooLong}

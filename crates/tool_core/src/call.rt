@@ -3,7 +3,7 @@ ghost use Rattle.table_model.specs.Ask.{asked};
 ghost use Rattle.table_model.specs.Reply.{Gives};
 ghost use Rattle.call_script.specs.Lines.{IsCounted, Asks};
 ghost use Rattle.volume.specs.Holds.{memory};
-ghost use Rattle.volume.specs.Replies.{shown_by};
+ghost use Rattle.file_calls.specs.Replies.{shown_by};
 ghost use Rattle.volume.specs.Stages.{takes_calls};
 ghost use Rattle.volume.specs.Same.{IsSameVolume};
 ghost use Rattle.tool_core.specs.Later.{IsLater};

@@ -1,5 +1,5 @@
 -- What calls that leave nothing waiting do, by what they do to the device.
-use Rattle.std.proofs.Common.{◌≡◌, List, Bool, true, false, cond, refl, sym, ◌∙◌, ap, subst}
+use Rattle.std.proofs.Common.{◌≡◌, ℕ, List, Bool, true, false, cond, refl, sym, ◌∙◌, ap, subst}
 use Rattle.std.specs.Prelude.{Option, Some, None}
 use Rattle.geometry.specs.declared.geometry.Geometry.{Geometry}
 use Rattle.nor_core.specs.declared.state.NorState.{Ghosts as NorOf}
@@ -8,7 +8,9 @@ use Rattle.table_model.specs.Descriptors.{open_at}
 use Rattle.table_model.specs.Outcome.{gives, on_descriptor}
 use Rattle.table_model.specs.Calls.{answer_tell}
 use Rattle.table_model.specs.Reply.{Answer, Tells as Number}
-use Rattle.table_model.specs.Ask.{Ask, Creates, Opens, Reads, Writes, Fills, Seeks, Tells, Truncates, Flushes, Closes, Removes, RemovesOpen, Renames, Stats, StatsOpen, NextAbove, Informs, Collects, SetsMeta, SetsMetaOpen}
+use Rattle.table_model.specs.declared.call.Call.{Call}
+use Rattle.table_model.specs.declared.call.Call.TheVariants.{Write, Fill}
+use Rattle.table_model.specs.Ask.{Ask, asked, Creates, Opens, Reads, Writes, Fills, Seeks, Tells, Truncates, Flushes, Closes, Removes, RemovesOpen, Renames, Stats, StatsOpen, NextAbove, Informs, Collects, SetsMeta, SetsMetaOpen}
 use Rattle.table_model.specs.Flat.{answer}
 use Rattle.table_model.specs.Steps.{is_refusal}
 use Rattle.table_model.specs.Window.{Moment, Waiting, settled_at, incoming_of, continues, leaves_window, after}
@@ -18,8 +20,9 @@ use Rattle.call_model.specs.Calls.{Stands}
 use Rattle.call_model.proofs.After.{refused-settles}
 use Rattle.fd_table.specs.declared.slot.FdSlot.{FdSlot}
 use Rattle.fd_table.specs.Slots.{descriptors}
-use Rattle.volume.specs.Holds.{IsImageOf}
-use Rattle.volume.specs.Goes.{Goes}
+use Rattle.file_calls.specs.States.{IsImageOf}
+use Rattle.file_calls.specs.Replies.{is_write}
+use Rattle.file_calls.specs.Goes.{Goes}
 use Rattle.volume.specs.Acts.{Acts}
 
 -- ---- the flat table
@@ -38,11 +41,10 @@ tells_stay : (found : Option Open) (s : State) → (on_descriptor found s (λ d.
 tells_stay None s = refl
 tells_stay (Some d) s = refl
 
--- calls that write bytes
-abbrev pub is_write : Ask → Bool
-is_write (Writes fd bytes) = true
-is_write (Fills fd count byte) = true
-is_write _ = false
+pub no_write : (call : Call) → ((fd : ℕ) (bytes : _) → call ≡ Write fd bytes → ⊥) → ((fd count byte : ℕ) → call ≡ Fill fd count byte → ⊥) → is_write (asked call) ≡ false
+no_write (Write fd bytes) write fill = absurd (write fd bytes refl)
+no_write (Fill fd count byte) write fill = absurd (fill fd count byte refl)
+no_write _ write fill = refl
 
 -- after any other call nothing waits, where nothing waited before
 after_other : (g : Geometry) (spare : Bool) (m : Moment) (ask : Ask) → m ≡ settled_at m.state → is_write ask ≡ false → after g spare m ask ≡ settled_at (answer g spare m.state ask).next
@@ -95,7 +97,7 @@ module _ {D : Type 0} {nor : NorOf D} {g : Geometry} {old new : D} {slots last :
       ((s : State) → IsImageOf nor g old slots s → reply ≡ (answer g (has_spare g (nor.bytes old)) s ask).answer → EndsSettled g (has_spare g (nor.bytes old)) s ask) →
       Goes nor g ask old new slots last wrote reply → Acts nor g ask old new slots last run wrote reply
   acts_settled none ask reply wrote ends goes = subst (λ (r : Option Run). Acts nor g ask old new slots last r wrote reply) (sym none) (record {
-    cuts = goes.cuts;
+    does = goes.does;
     answers = λ s here no_fault whole. let r = goes.answers s here no_fault whole in record {
       reply_is = r.reply_is;
       stands = subst (λ (m : Moment). Stands nor g new (record { slots = descriptors last; run = None }) m) (sym (ends s here r.reply_is))
@@ -103,19 +105,8 @@ module _ {D : Type 0} {nor : NorOf D} {g : Geometry} {old new : D} {slots last :
       reserve = r.reserve;
       reads = r.reads;
     };
-    collects = goes.collects;
-    cornered = goes.cornered;
-    begun = goes.begun;
-    untouched = goes.untouched;
-    still = λ refusal. (goes.still refusal, refl);
-    keeps = goes.keeps;
-    cause = goes.cause;
-    differs = goes.differs;
-    undamaged = goes.undamaged;
-    among = goes.among;
-    brief = goes.brief;
-    named = goes.named;
-    looks = goes.looks;
+    empty = λ refusal. refl;
+    waits = λ some. absurd (let no : false ≡ true = some in cc);
   })
 
   -- one that is no write

@@ -18,7 +18,7 @@ use Rattle.table_model.specs.Ask.{Ask, Reads, Writes, Fills, Tells, Collects, as
 use Rattle.table_model.specs.Outcome.{Outcome}
 use Rattle.table_model.specs.Flat.{answer}
 use Rattle.table_model.specs.Steps.{is_refusal, steps}
-use Rattle.table_model.specs.Window.{Moment, after, settled_at, leaves_window, incoming_of, incoming_at, continues, from_settled, IsAmong, Waiting, Incoming}
+use Rattle.table_model.specs.Window.{Moment, after, settled_at, leaves_window, incoming_of, incoming_at, continues, from_settled, IsAmong, Incoming}
 use Rattle.image_model.specs.Tables.{table_of}
 use Rattle.image_model.specs.Tidy.{HasReserve, has_spare}
 use Rattle.write_window.specs.Runs.{Run}
@@ -30,22 +30,26 @@ use Rattle.call_model.proofs.Parts.{among-left, among-right}
 use Rattle.call_model.proofs.After.{tell-stays, after-settled, settled-among, fills-as_writes}
 use Rattle.volume.specs.declared.stage.Stage.{Stage}
 use Rattle.volume.specs.declared.stage.Stage.TheVariants.{Checked, Failed}
-use Rattle.volume.specs.declared.told.Told.{Told}
-use Rattle.volume.specs.declared.told.Told.TheVariants.{Bytes}
+use Rattle.file_calls.specs.declared.told.Told.{Told}
+use Rattle.file_calls.specs.declared.told.Told.TheVariants.{Bytes}
 use Rattle.volume.specs.declared.volume.Volume.{Volume}
 use Rattle.volume.specs.Opening.{is_open, is_mounted, is_failed, stage_after}
 use Rattle.volume.specs.Stages.{takes_calls, has_failed}
 use Rattle.volume.specs.Same.{IsSameVolume}
-use Rattle.volume.specs.Replies.{shown_by, reply_of, breaks, may_answer, may_settle, is_of_name, is_of_descriptor, is_calm}
-use Rattle.volume.specs.Moves.{Moves}
-use Rattle.volume.specs.Holds.{memory, IsImageOf, Holds}
-use Rattle.volume.specs.Goes.{CallCut, IsDoable, IsCorner, StopsShort, IsCollected}
+use Rattle.file_calls.specs.Replies.{shown_by, reply_of, may_answer, is_of_name, is_of_descriptor, is_calm}
+use Rattle.volume.specs.Replies.{breaks, may_settle}
+use Rattle.file_calls.specs.Moves.{Moves}
+use Rattle.file_calls.specs.States.{IsImageOf}
+use Rattle.volume.specs.Holds.{memory, Holds}
+use Rattle.file_calls.specs.Goes.{CallCut, IsDoable, IsCorner, StopsShort, IsCollected}
 use Rattle.volume.specs.Acts.{Acts}
 use Rattle.volume.specs.Unchanged.{Unchanged}
 use Rattle.volume.specs.Settles.{Settles}
 use Rattle.volume.specs.Settled.{is_fill, GoesOnNot, ActsOn}
 use Rattle.volume.specs.Calls.{HasRun, HasNone, Calls}
+use Rattle.file_calls.proofs.Going.{refuses_same}
 use Rattle.volume.proofs.Staying.{same_then, same_none}
+use Rattle.volume.proofs.Acting.{goes_on_none}
 
 -- ---- tables and answers
 
@@ -94,9 +98,6 @@ broken_refusal : (reply : Answer) → breaks reply ≡ true → is_refusal reply
 broken_refusal (Refuses why) e = refl
 broken_refusal _ e = absurd (let no : false ≡ true = e in cc)
 
-refuses_same : (a b : FsErr) → Refuses a ≡ Refuses b → a ≡ b
-refuses_same a b e = cc
-
 -- bytes that wait aren't kept off the chip by a name
 name_settles : (why : FsErr) → is_of_name why ≡ true → may_settle (Refuses why) ≡ true → ⊥
 name_settles BadName name e = let no : false ≡ true = e in cc
@@ -140,10 +141,6 @@ pub record IsApart (ask : Ask) : Type 0 where
   pub leaves : leaves_window ask ≡ false
   pub apart : (g : Geometry) (m : Moment) → continues g m.window (incoming_of m.state ask) ≡ false
   pub no_fill : is_fill ask ≡ false
-
-goes_on_none : (g : Geometry) (w : Option Waiting) → continues g w None ≡ false
-goes_on_none g None = refl
-goes_on_none g (Some w) = refl
 
 pub other_apart : (call : Call) → IsOther call → IsApart (asked call)
 unfolding incoming_of
@@ -234,6 +231,7 @@ module _ {N : Type 0} {nor : NorOf N} where
         stops = λ m takes. absurd (never takes);
         looks = λ look none. (reads_none v.nor.now, refl);
         keeps = λ keeps. refl;
+        begins = λ none run. (reads_none v.nor.now, refl);
       }
 
   -- ---- what waits could not be put onto the chip
@@ -267,6 +265,7 @@ module _ {N : Type 0} {nor : NorOf N} where
         stops = λ m takes stopped here. inl run;
         looks = λ look none. absurd (some none);
         keeps = λ keeps. settles.slots;
+        begins = λ none run. absurd (some none);
       }
 
   -- ---- a call that is done where nothing waits
@@ -306,7 +305,7 @@ module _ {N : Type 0} {nor : NorOf N} where
     cuts_by : Changes nor old.nor.now new.nor.now (λ was image. (m : Moment) → Publishes old.geometry (memory old) m ask was image)
     cuts_by = go_on
         (wider settles.cuts (λ tells image cut m at. let c = cut m at in (c.0, among_more (table_of old.geometry image) m (steps old.geometry (has_spare old.geometry (nor.bytes old.nor.now)) m.state ask) c.1)))
-        acts.cuts
+        acts.does.cuts
         (λ tells image before after m at. let here : Holds old m = record { tells = tells; image = at } in cut_by m here image (after m.state (image_mid m here)))
 
     -- what stops short once all is settled does so before
@@ -329,7 +328,7 @@ module _ {N : Type 0} {nor : NorOf N} where
           stands = subst (λ (j : Moment). Stands nor g new.nor.now (memory new) j)
               (ap (λ (b : Bool). after g b (settled_at m.state) ask) (spare m here) ∙ after-settled g (has_spare g (nor.bytes old.nor.now)) m ask leaves (apart m here))
               r.stands;
-          holds = holds_then g (nor.bytes old.nor.now) (nor.bytes mid.nor.now) (nor.bytes new.nor.now) (stood m here).1 (record { sound = λ magics. (acts.cuts.now image.tells m.state image).sound; reserve = r.reserve });
+          holds = holds_then g (nor.bytes old.nor.now) (nor.bytes mid.nor.now) (nor.bytes new.nor.now) (stood m here).1 (record { sound = λ magics. (acts.does.cuts.now image.tells m.state image).sound; reserve = r.reserve });
         }
 
     -- ---- the stage
@@ -353,14 +352,14 @@ module _ {N : Type 0} {nor : NorOf N} where
 
     -- where nothing waited it has only read, where it has asked for no program and no erase
     only_reads : HasNone old → did.wrote ≡ false → OnlyReads nor old.nor.now new.nor.now
-    only_reads none unwritten = subst (λ (v : Volume N nor). OnlyReads nor v.nor.now new.nor.now) (settles.idle none).1 (acts.untouched unwritten)
+    only_reads none unwritten = subst (λ (v : Volume N nor). OnlyReads nor v.nor.now new.nor.now) (settles.idle none).1 (acts.does.untouched unwritten)
 
     untouched : HasNone old → did.wrote ≡ false → is_refusal reply ≡ true → Unchanged old new
-    untouched none unwritten refusal = record { reads = only_reads none unwritten; slots = (acts.still refusal).0 ∙ settles.slots; run = (acts.still refusal).1 ∙ sym none; stage = stage_stays (no_run none) unwritten }
+    untouched none unwritten refusal = record { reads = only_reads none unwritten; slots = acts.does.still refusal ∙ settles.slots; run = acts.empty refusal ∙ sym none; stage = stage_stays (no_run none) unwritten }
 
     -- a call that asked for a program or an erase is one that the flat table does
     doable : (m : Moment) → Holds old m → did.wrote ≡ true → IsDoable old.geometry (nor.bytes old.nor.now) m.state ask
-    doable m here w = record { done = subst (λ (b : Bool). is_refusal (answer old.geometry b m.state ask).answer ≡ false) (spare m here) (acts.begun m.state (image_mid m here) w).done }
+    doable m here w = record { done = subst (λ (b : Bool). is_refusal (answer old.geometry b m.state ask).answer ≡ false) (spare m here) (acts.does.begun m.state (image_mid m here) w).done }
 
     refused_by : (m : Moment) → HasNone old → Holds old m → (reply ≡ Refuses DeviceFault → ⊥) → (StopsShort old.geometry (nor.bytes old.nor.now) m.state ask reply → ⊥) → is_refusal reply ≡ true → Unchanged old new
     refused_by m none here no_fault whole refusal = ⊎_elim
@@ -395,32 +394,33 @@ module _ {N : Type 0} {nor : NorOf N} where
       cuts = cuts_by;
       answers = λ m takes here no_fault whole. answered_by m here no_fault whole;
       refused = λ m takes none here no_fault whole refusal. refused_by m none here no_fault whole refusal;
-      collects = λ m takes none here is. subst (λ (v : Volume N nor). IsCollected old.geometry reply (nor.bytes v.nor.now) (nor.bytes new.nor.now)) (settles.idle none).1 (acts.collects m.state (image_mid m here) is);
-      unstuck = λ m takes here reserve is tight. ((acts.collects m.state (image_mid m here) is).stuck tight).short ((stood m here).1.reserve reserve);
+      collects = λ m takes none here is. subst (λ (v : Volume N nor). IsCollected old.geometry reply (nor.bytes v.nor.now) (nor.bytes new.nor.now)) (settles.idle none).1 (acts.does.collects m.state (image_mid m here) is);
+      unstuck = λ m takes here reserve is tight. ((acts.does.collects m.state (image_mid m here) is).stuck tight).short ((stood m here).1.reserve reserve);
       cornered = λ m takes here corner tight.
           let there : IsCorner old.geometry (nor.bytes mid.nor.now) m.state ask = record { cuts = corner.cuts; reserve = (stood m here).1.reserve corner.reserve; full = corner.full } in
-          let stays = acts.cornered m.state (image_mid m here) there tight in
+          let stays = acts.does.cornered m.state (image_mid m here) there tight in
           let geometry = same.geometry ∙ settles.same.geometry in
-          let now = stands_by old.geometry new m.state (acts.still (ap is_refusal tight)).1 stays.holds in
+          let now = stands_by old.geometry new m.state (acts.empty (ap is_refusal tight)) stays.holds in
           (subst (λ (g : Geometry). Stands nor g new.nor.now (memory new) (settled_at m.state)) (sym geometry) now, stays.reserve);
       leaves = λ takes e. absurd (let no : true ≡ false = sym e ∙ leaves in cc);
       extends = λ m takes here e. absurd (let no : true ≡ false = sym e ∙ apart m here in cc);
       closed = λ shut. absurd (let no : true ≡ false = sym takes ∙ shut in cc);
-      cause = λ e. let rose = acts.cause e in let more = settles.same.faults in omega arith;
-      differs = acts.differs;
-      undamaged = λ m here. acts.undamaged m.state (image_mid m here);
-      among = λ takes. inl acts.among;
-      brief = acts.brief;
-      named = λ takes why e. let w = acts.named.refused why e in inl (w.0, λ none. untouched none w.1 (ap is_refusal w.0));
-      names = λ takes why name e. acts.named.only why name e;
+      cause = λ e. let rose = acts.does.cause e in let more = settles.same.faults in omega arith;
+      differs = acts.does.differs;
+      undamaged = λ m here. acts.does.undamaged m.state (image_mid m here);
+      among = λ takes. inl acts.does.among;
+      brief = acts.does.brief;
+      named = λ takes why e. let w = acts.does.named.refused why e in inl (w.0, λ none. untouched none w.1 (ap is_refusal w.0));
+      names = λ takes why name e. acts.does.named.only why name e;
       failed = failed_by;
       stays = ⊎_elim
           (λ (stood : (new.stage ≡ old.stage) × ((had || did.wrote) ≡ true → breaks reply ≡ true → ⊥)). inl stood.0)
           (λ (failed : (new.stage ≡ Failed) × ((had || did.wrote) ≡ true) × (breaks reply ≡ true)). inr (takes, ap is_failed failed.0, failed.2))
           staged;
       stops = λ m takes stopped here. stopped_by m stopped here;
-      looks = λ look none. let unwritten = acts.looks look in (only_reads none unwritten, stage_stays (no_run none) unwritten);
-      keeps = λ keeps. acts.keeps keeps ∙ settles.slots;
+      looks = λ look none. let unwritten = acts.does.looks look in (only_reads none unwritten, stage_stays (no_run none) unwritten);
+      keeps = λ keeps. acts.does.keeps keeps ∙ settles.slots;
+      begins = λ none run. let unwritten = acts.waits run in (only_reads none unwritten, stage_stays (no_run none) unwritten);
     }
 
   -- ---- a call that only looks at descriptors: what waits goes on waiting
@@ -456,6 +456,7 @@ module _ {N : Type 0} {nor : NorOf N} where
         stops = λ m takes stopped. absurd (let no : true ≡ false = sym takes ∙ stopped in cc);
         looks = λ look none. (reads_none v.nor.now, refl);
         keeps = λ keeps. refl;
+        begins = λ none run. (reads_none v.nor.now, refl);
       }
 
   -- ---- bytes that are lent for nothing, and fills
@@ -509,4 +510,5 @@ module _ {N : Type 0} {nor : NorOf N} where
             (calls.stops m takes stopped here);
         looks = calls.looks;
         keeps = calls.keeps;
+        begins = calls.begins;
       }

@@ -21,7 +21,7 @@ use Rattle.vol_check.specs.declared.report.Report.{Report}
 use Rattle.vol_check.specs.Culls.{KeepsAll}
 use Rattle.vol_check.specs.Checks.{IsWritable, IsRefusal, IsOfStages, CountsMixed, Checked}
 use Rattle.volume.specs.Checking.{CheckCut, CheckDone, IsApart, IsUndamaged, as_check_err, MayStop, Cleared}
-use Rattle.volume.proofs.Going.{tidy_sound}
+use Rattle.file_calls.proofs.Going.{tidy_sound}
 
 -- ---- errors
 

@@ -47,11 +47,11 @@ use Rattle.volume.specs.Holds.{memory as memory_of, Holds}
 use Rattle.volume.specs.Settled.{GoesOnNot}
 use Rattle.volume.specs.Extends.{GoesOnAt}
 use Rattle.volume.specs.Calls.{HasRun, HasNone, Calls}
-use Rattle.volume.proofs.Going.{table_names, is_first}
+use Rattle.file_calls.proofs.Going.{table_names, is_first}
 use Rattle.volume.proofs.Acting.{goes_on_none}
 use Rattle.volume.proofs.Staying.{same_none}
-use Rattle.volume.proofs.Descriptors.{held_at}
-use Rattle.volume.proofs.Resizing.{sum_put, no_room, written_size}
+use Rattle.file_calls.proofs.Descriptors.{held_at}
+use Rattle.file_calls.proofs.Resizing.{sum_put, no_room, written_size}
 
 -- ---- the room of a table in which a run is longer
 
@@ -310,6 +310,7 @@ module _ {N : Type 0} {nor : NorOf N} where
         stops = λ m takes shut here. absurd (let no : true ≡ false = sym takes ∙ sym (ap is_open stage) ∙ shut in cc);
         looks = λ look. absurd (let no : true ≡ false = look in cc);
         keeps = λ keeps. absurd (let no : false ≡ true = keeps in cc);
+        begins = λ none. absurd (busy none);
       }
 
   -- a write of no byte that goes on

@@ -36,9 +36,9 @@ use Rattle.volume.specs.Opening.{is_open, is_failed}
 use Rattle.volume.specs.Stages.{takes_calls, has_failed}
 use Rattle.volume.specs.Same.{IsSameVolume}
 use Rattle.volume.specs.Replies.{breaks, may_settle}
-use Rattle.volume.specs.Collecting.{MayStop, refusing}
+use Rattle.file_calls.specs.Collecting.{MayStop, refusing}
 use Rattle.volume.specs.Holds.{memory, Holds}
-use Rattle.volume.specs.Writings.{CanWrite, WriteCut, JobDone, WritesOn, writing}
+use Rattle.file_calls.specs.Writings.{CanWrite, WriteCut, JobDone, WritesOn, writing}
 use Rattle.volume.specs.Settles.{Settles, SettledOr, without_had}
 use Rattle.volume.specs.Unmounts.{IsWhole, UnmountsTo}
 use Rattle.volume.proofs.Staying.{same_none}

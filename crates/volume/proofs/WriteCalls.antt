@@ -38,18 +38,18 @@ use Rattle.flash_view.specs.Steps.{Step, Stepped, stopped}
 use Rattle.flash_view.proofs.Stepped.{ends_as}
 use Rattle.fd_table.specs.declared.slot.FdSlot.{FdSlot}
 use Rattle.fd_table.specs.Slots.{descriptors, opened}
-use Rattle.volume.specs.Replies.{MeetsPage, may_meet}
-use Rattle.volume.specs.Holds.{IsImageOf}
-use Rattle.volume.specs.Refusals.{IsResized}
-use Rattle.volume.specs.Collecting.{refusing}
+use Rattle.file_calls.specs.Replies.{MeetsPage, may_meet}
+use Rattle.file_calls.specs.States.{IsImageOf}
+use Rattle.file_calls.specs.Refusals.{IsResized}
+use Rattle.file_calls.specs.Collecting.{refusing}
 use Rattle.volume.specs.Acts.{Acts}
-use Rattle.volume.specs.Writings.{writing}
-use Rattle.volume.proofs.Going.{IsStep, is_flat, reads_cuts, names_by, named_fine}
+use Rattle.file_calls.specs.Writings.{writing}
+use Rattle.file_calls.proofs.Going.{IsStep, is_flat, reads_cuts, names_by, named_fine}
 use Rattle.volume.proofs.Acting.{EndsSettled}
-use Rattle.volume.proofs.Descriptors.{open_in, file_at}
-use Rattle.volume.proofs.Cutting.{TellsRoom}
+use Rattle.file_calls.proofs.Descriptors.{open_in, file_at}
+use Rattle.file_calls.proofs.Cutting.{TellsRoom}
 use Rattle.volume.proofs.Continuing.{no_bytes}
-use Rattle.volume.proofs.Resizing.{written_size}
+use Rattle.file_calls.proofs.Resizing.{written_size}
 
 -- ---- the flat table
 
@@ -250,26 +250,30 @@ module _ {D : Type 0} {nor : NorOf D} {g : Geometry} {old : D} {slots : List FdS
 
           pub acts_waiting : {kept : Option Run} → kept ≡ Some (run_by fd slot place bytes) → Acts nor g (Writes fd bytes) old new slots last kept wrote (Number (length bytes))
           acts_waiting kept = subst (λ (r : Option Run). Acts nor g (Writes fd bytes) old new slots last r wrote (Number (length bytes))) (sym kept) (record {
-            cuts = reads_cuts (Writes fd bytes) reads;
+            does = record {
+              cuts = reads_cuts (Writes fd bytes) reads;
+              collects = λ s here is. absurd (let no : true ≡ false = ap is_flat is in cc);
+              cornered = λ s here corner tight. absurd (let no : false ≡ true = corner.cuts in cc);
+              begun = λ s here w. absurd (let no : true ≡ false = sym w ∙ none in cc);
+              untouched = λ w. reads;
+              still = λ refusal. absurd (let no : false ≡ true = refusal in cc);
+              keeps = λ keeps. absurd (let no : false ≡ true = keeps in cc);
+              cause = λ e. absurd (cc);
+              differs = λ d e. absurd (cc);
+              undamaged = λ s here d e. cc;
+              among = eq-eqb (length bytes) (length bytes) refl;
+              brief = λ given e. absurd (cc);
+              named = named_fine (Writes fd bytes) (Number (length bytes)) wrote refl (λ why name e. cc);
+              looks = λ look. none;
+            };
             answers = λ s here no_fault whole. record {
               reply_is = sym (ap (λ (o : Outcome). o.answer) (done s here).answer_is);
               stands = waits_stand s here;
               reserve = λ reserve. subst (λ (l : List ℕ). HasReserve g l) (sym reads.bytes) reserve;
               reads = λ refusal. reads;
             };
-            collects = λ s here is. absurd (let no : true ≡ false = ap is_flat is in cc);
-            cornered = λ s here corner tight. absurd (let no : false ≡ true = corner.cuts in cc);
-            begun = λ s here w. absurd (let no : true ≡ false = sym w ∙ none in cc);
-            untouched = λ w. reads;
-            still = λ refusal. absurd (let no : false ≡ true = refusal in cc);
-            keeps = λ keeps. absurd (let no : false ≡ true = keeps in cc);
-            cause = λ e. absurd (cc);
-            differs = λ d e. absurd (cc);
-            undamaged = λ s here d e. cc;
-            among = eq-eqb (length bytes) (length bytes) refl;
-            brief = λ given e. absurd (cc);
-            named = named_fine (Writes fd bytes) (Number (length bytes)) wrote refl (λ why name e. cc);
-            looks = λ look. none;
+            empty = λ refusal. absurd (let no : false ≡ true = refusal in cc);
+            waits = λ some. none;
           })
 
 -- ---- how the parts end

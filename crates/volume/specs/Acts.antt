@@ -1,14 +1,13 @@
 -- What a call does to a device, descriptors and window on which nothing waits.
-use Rattle.std.specs.Prelude.{◌≡◌, ◌≢◌, ℕ, List, Bool, true, false, Option, None}
+use Rattle.std.specs.Prelude.{◌≡◌, List, Bool, true, false, Option, None}
+use Rattle.std.specs.Option.{is_some}
 use Rattle.geometry.specs.declared.geometry.Geometry.{Geometry}
 use Rattle.nor_core.specs.declared.state.NorState.{Ghosts as NorOf}
-use Rattle.nor_core.specs.Count.{Rose}
-use Rattle.nor_core.specs.Device.{Changes, OnlyReads}
-use Rattle.table_model.specs.declared.error.FsErr.TheVariants.{DeviceFault, Damaged, Tight}
-use Rattle.table_model.specs.declared.error.Differ.{Differ}
+use Rattle.nor_core.specs.Device.{OnlyReads}
+use Rattle.table_model.specs.declared.error.FsErr.TheVariants.{DeviceFault}
 use Rattle.table_model.specs.Table.{State}
-use Rattle.table_model.specs.Reply.{Answer, Gives, Refuses}
-use Rattle.table_model.specs.Ask.{Ask, Collects}
+use Rattle.table_model.specs.Reply.{Answer, Refuses}
+use Rattle.table_model.specs.Ask.{Ask}
 use Rattle.table_model.specs.Flat.{answer}
 use Rattle.table_model.specs.Steps.{is_refusal}
 use Rattle.table_model.specs.Window.{after, settled_at}
@@ -17,9 +16,8 @@ use Rattle.write_window.specs.Runs.{Run}
 use Rattle.call_model.specs.Calls.{Stands}
 use Rattle.fd_table.specs.declared.slot.FdSlot.{FdSlot}
 use Rattle.fd_table.specs.Slots.{descriptors}
-use Rattle.volume.specs.Replies.{may_answer, is_change, keeps_slots}
-use Rattle.volume.specs.Holds.{IsImageOf}
-use Rattle.volume.specs.Goes.{CallCut, IsDoable, IsCorner, StopsShort, StaysAt, IsCollected, IsNamed, IsGiven}
+use Rattle.file_calls.specs.States.{IsImageOf}
+use Rattle.file_calls.specs.Goes.{Does, StopsShort}
 
 -- A call is answered as the flat table is, and device, descriptors and window are those of the moment after it; where two blocks were
 -- free two are, and refused it has only read.
@@ -31,20 +29,9 @@ pub record Arrives {D : Type 0} (nor : NorOf D) (g : Geometry) (old new : D) (sl
 
 -- What a call does where nothing waits. `run` is what waits after it; `wrote` says whether a program or an erase was asked for.
 pub record Acts {D : Type 0} (nor : NorOf D) (g : Geometry) (ask : Ask) (old new : D) (slots last : List FdSlot) (run : Option Run) (wrote : Bool) (reply : Answer) : Type 0 where
-  pub cuts : Changes nor old new (λ was image. (s : State) → IsImageOf nor g old slots s → CallCut g s ask was image)
+  pub does : Does nor g ask old new slots last wrote reply
   pub answers : (s : State) → IsImageOf nor g old slots s → ¬ (reply ≡ Refuses DeviceFault) → ¬ StopsShort g (nor.bytes old) s ask reply → Arrives nor g old new last run s ask reply
-  pub collects : (s : State) → IsImageOf nor g old slots s → ask ≡ Collects → IsCollected g reply (nor.bytes old) (nor.bytes new)
-  -- Tight for want of a page for a cut, the call has changed nothing but where pages stand
-  pub cornered : (s : State) → IsImageOf nor g old slots s → IsCorner g (nor.bytes old) s ask → reply ≡ Refuses Tight → StaysAt nor g new last s
-  pub begun : (s : State) → IsImageOf nor g old slots s → wrote ≡ true → IsDoable g (nor.bytes old) s ask
-  pub untouched : wrote ≡ false → OnlyReads nor old new
-  -- refused, or where the device failed, nothing waits and the descriptors stay; so they do in a call that only looks at them
-  pub still : is_refusal reply ≡ true → (last ≡ slots) × (run ≡ None)
-  pub keeps : keeps_slots ask ≡ true → last ≡ slots
-  pub cause : reply ≡ Refuses DeviceFault → Rose (nor.faults old) (nor.faults new)
-  pub differs : (d : Differ) → reply ≡ Refuses (Damaged d) → d.wanted ≢ d.found
-  pub undamaged : (s : State) → IsImageOf nor g old slots s → (d : Differ) → reply ≡ Refuses (Damaged d) → ⊥
-  pub among : may_answer ask reply ≡ true
-  pub brief : (bytes : List ℕ) → reply ≡ Gives bytes → IsGiven ask bytes
-  pub named : IsNamed ask reply wrote
-  pub looks : is_change ask ≡ false → wrote ≡ false
+  -- refused, or where the device failed, nothing waits
+  pub empty : is_refusal reply ≡ true → run ≡ None
+  -- written bytes that wait asked for no program and no erase
+  pub waits : is_some run ≡ true → wrote ≡ false

@@ -16,10 +16,11 @@ use Rattle.call_model.specs.Calls.{Publishes, Answers}
 use Rattle.volume.specs.declared.volume.Volume.{Volume}
 use Rattle.volume.specs.Stages.{takes_calls, has_failed}
 use Rattle.volume.specs.Same.{IsSameVolume}
-use Rattle.volume.specs.Replies.{is_of_name, names_fault, may_answer, may_settle, breaks, is_change, keeps_slots}
+use Rattle.file_calls.specs.Replies.{is_of_name, names_fault, may_answer, is_change, keeps_slots}
+use Rattle.volume.specs.Replies.{may_settle, breaks}
 use Rattle.volume.specs.Holds.{memory, Holds}
 use Rattle.volume.specs.Unchanged.{Unchanged}
-use Rattle.volume.specs.Goes.{IsDoable, IsCorner, StopsShort, IsCollected, IsGiven}
+use Rattle.file_calls.specs.Goes.{IsDoable, IsCorner, StopsShort, IsCollected, IsGiven}
 
 module _ {N : Type 0} {nor : NorOf N} where
   -- bytes wait
@@ -68,3 +69,5 @@ module _ {N : Type 0} {nor : NorOf N} where
     -- where nothing waits a call that only looks asks for no program and no erase, and one that only looks at descriptors leaves them
     pub looks : is_change ask ≡ false → HasNone old → OnlyReads nor old.nor.now new.nor.now × (new.stage ≡ old.stage)
     pub keeps : keeps_slots ask ≡ true → new.slots.now ≡ old.slots.now
+    -- a write whose bytes begin to wait asks for no program and no erase
+    pub begins : HasNone old → HasRun new → OnlyReads nor old.nor.now new.nor.now × (new.stage ≡ old.stage)

@@ -1,15 +1,9 @@
--- Volumes and devices at a moment of the flat table.
-use Rattle.std.specs.Prelude.{◌≡◌, List}
-use Rattle.geometry.specs.declared.geometry.Geometry.{Geometry}
+-- Volumes at a moment of the flat table.
 use Rattle.nor_core.specs.declared.state.NorState.{Ghosts as NorOf}
-use Rattle.table_model.specs.Table.{State}
 use Rattle.table_model.specs.Window.{Moment}
-use Rattle.image_model.specs.Tables.{table_of}
-use Rattle.image_model.specs.Tidy.{IsTidy}
-use Rattle.fd_table.specs.declared.slot.FdSlot.{FdSlot}
 use Rattle.fd_table.specs.Slots.{descriptors}
 use Rattle.write_window.specs.Shown.{run_in}
-use Rattle.call_model.specs.Memory.{Memory, OpensFiles}
+use Rattle.call_model.specs.Memory.{Memory}
 use Rattle.call_model.specs.Calls.{Stands}
 use Rattle.volume.specs.declared.volume.Volume.{Volume}
 
@@ -20,12 +14,3 @@ memory v = record { slots = descriptors v.slots.now; run = run_in v.held v.check
 -- a volume stands at a moment
 abbrev pub Holds : {N : Type 0} {nor : NorOf N} → Volume N nor → Moment → Type 0
 Holds {N} {nor} v m = Stands nor v.geometry v.nor.now (memory v) m
-
--- A device and descriptors are those of a state on which nothing waits: the device tells a tidy image with its table, and each open
--- descriptor is on a file of that.
-pub record IsImageOf {D : Type 0} (nor : NorOf D) (g : Geometry) (d : D) (lent : List FdSlot) (s : State) : Type 0 where
-  pub tells : nor.tells d
-  pub tidy : IsTidy g (nor.bytes d)
-  pub table : s.table ≡ table_of g (nor.bytes d)
-  pub slots : descriptors lent ≡ s.slots
-  pub opened : OpensFiles s

@@ -1,13 +1,8 @@
-pub mod Pages
-pub mod Refusals
 pub mod Replies
 pub mod Opening
 pub mod Stages
 pub mod Same
 pub mod Holds
-pub mod Moves
-pub mod Collecting
-pub mod Goes
 pub mod Acts
 pub mod Unchanged
 pub mod Settles
@@ -15,10 +10,4 @@ pub mod Settled
 pub mod Extends
 pub mod Unmounts
 pub mod Calls
-pub mod Records
-pub mod Removes
-pub mod Opens
-pub mod Recorded
 pub mod Checking
-pub mod Cuts
-pub mod Writings

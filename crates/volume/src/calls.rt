@@ -3,25 +3,17 @@ ghost use Rattle.geometry.specs.Numbers.{usable, body, work_need, cache_need};
 ghost use Rattle.flash_view.specs.Same.{IsSameView};
 ghost use Rattle.page_cache.specs.Kept.{IsKept, FewReads};
 ghost use Rattle.table_model.specs.Ask.{asked};
-ghost use Rattle.volume.specs.Replies.{reply_of, shown_by, HasRoomFor};
+ghost use Rattle.file_calls.specs.Replies.{reply_of, shown_by, HasRoomFor};
 ghost use Rattle.volume.specs.Opening.{stage_after as the_stage_after};
 ghost use Rattle.volume.specs.Acts.{Acts};
 ghost use Rattle.volume.specs.Settled.{is_fill};
 ghost use Rattle.write_window.specs.Shown.{run_in};
 
-use crate::collecting::collect_in;
-use crate::create::create_in;
-use crate::looking::{tell_info, tell_next, tell_stat};
-use crate::opening::open_in;
-use crate::reading::{read_in, seek_in, tell_open};
-use crate::remove::{remove_in, remove_open};
-use crate::restating::{rename_in, set_meta, set_meta_open};
-use crate::slots::{close_in, flush_in, tell_in};
 use crate::stage::{Stage, stage_at};
-use crate::truncating::truncate_in;
 use crate::write::write_in;
 use crate::{Told, Volume};
 use fd_table::FdSlot;
+use file_calls::{call_in, tell_in};
 use flash_view::View;
 use geometry::Geometry;
 use nor_core::{Nor, NorState};
@@ -36,7 +28,7 @@ struct Attempt {
 }
 
 // Does a call over a view, where nothing waits.
-fn call_in<N: Nor>(
+fn answer_in<N: Nor>(
     v: &mut View<'_, N>,
     slots: &mut [FdSlot],
     held: &mut Held,
@@ -57,26 +49,9 @@ fn call_in<N: Nor>(
     ensures acts { Acts N.NorState v.old.geometry (asked call.now) v.old.nor.now v.new.nor.now slots.old slots.new (run_in held.new kept.new) v.new.wrote (reply_of result into.new) }
 {
     match *call {
-        Call::Create { name } => create_in(v, name),
-        Call::OpenFile { name, flags } => open_in(v, slots, name, flags),
-        Call::Read { fd, count } => read_in(v, slots, fd, count, into),
         Call::Write { fd, bytes } => write_in(v, slots, held, kept, fd, bytes),
         Call::Fill { .. } => unreachable!(),
-        Call::Seek { fd, offset, from } => seek_in(v, slots, fd, offset, from),
-        Call::Tell { fd } => tell_in(slots, fd),
-        Call::Truncate { fd, size } => truncate_in(v, slots, fd, size),
-        Call::Flush { fd } => flush_in(slots, fd),
-        Call::Close { fd } => close_in(slots, fd),
-        Call::Remove { name } => remove_in(v, slots, name),
-        Call::FRemove { fd } => remove_open(v, slots, fd),
-        Call::Rename { old_name, new_name } => rename_in(v, old_name, new_name),
-        Call::StatName { name } => tell_stat(v, name),
-        Call::FStat { fd } => tell_open(v, slots, fd),
-        Call::Next { after } => tell_next(v, after),
-        Call::GetInfo => tell_info(v),
-        Call::Gc => collect_in(v),
-        Call::SetMeta { name, meta } => set_meta(v, name, meta),
-        Call::FSetMeta { fd, meta } => set_meta_open(v, slots, fd, meta),
+        _ => call_in(v, slots, call, into),
     }
 }
 
@@ -118,7 +93,7 @@ fn call_on<N: Nor>(
         cache,
         wrote: false,
     };
-    let told = match call_in(&mut v, slots, held, keep, call, into) {
+    let told = match answer_in(&mut v, slots, held, keep, call, into) {
         Ok(told) => told,
         Err(why) => Told::Refusal(why),
     };
@@ -142,7 +117,7 @@ impl<'b, N: Nor> Volume<'b, N> {
     ghost use Rattle.std.specs.Prelude.{◌≡◌, true, false, [], None, length};
     ghost use Rattle.table_model.specs.Ask.{Tells, Writes, asked};
     ghost use Rattle.table_model.specs.Window.{leaves_window};
-    ghost use Rattle.volume.specs.Replies.{shown_by, HasRoomFor};
+    ghost use Rattle.file_calls.specs.Replies.{shown_by, HasRoomFor};
     ghost use Rattle.volume.specs.Holds.{memory};
     ghost use Rattle.volume.specs.Stages.{takes_calls};
     ghost use Rattle.volume.specs.Same.{IsSameVolume};

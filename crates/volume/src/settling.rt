@@ -3,11 +3,11 @@ ghost use Rattle.std.specs.Prelude.{◌≡◌, ◌*◌, ◌≤◌, length, take,
 ghost use Rattle.geometry.specs.Numbers.{work_need, cache_need};
 ghost use Rattle.table_model.specs.Table.{File};
 ghost use Rattle.page_cache.specs.Kept.{IsKept, FewReads};
-ghost use Rattle.volume.specs.Writings.{WritesOn};
+ghost use Rattle.file_calls.specs.Writings.{WritesOn};
 
 use crate::Volume;
 use crate::stage::{Stage, stage_at};
-use crate::writing::write_all;
+use file_calls::write_all;
 use flash_view::View;
 use geometry::Geometry;
 use nor_core::{Nor, NorState};

@@ -2,11 +2,12 @@ ghost use Rattle.std.specs.Prelude.{◌≡◌, length, min};
 ghost use Rattle.table_model.specs.Reply.{Fine, Tells as Number, Shows, Counts};
 ghost use Rattle.table_model.specs.Ask.{Creates, Opens, Reads, Writes, Seeks, Truncates, Flushes, Closes, Removes, RemovesOpen, Renames, Stats, StatsOpen, NextAbove, Informs, Collects, SetsMeta, SetsMetaOpen};
 ghost use Rattle.fd_table.specs.Slots.{descriptors, open_at};
-ghost use Rattle.volume.specs.Replies.{told, shown_or_end, as_read, offset_of};
+ghost use Rattle.file_calls.specs.Replies.{shown_or_end};
+ghost use Rattle.volume.specs.Replies.{told, as_read, offset_of};
 ghost use Rattle.volume.specs.Calls.{Calls};
 
-use crate::slots::opened;
 use crate::{Told, Volume};
+use file_calls::opened;
 use nor_core::Nor;
 use table_model::{Call, FsErr, Info, Stat, Whence};
 

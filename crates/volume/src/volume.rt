@@ -1,4 +1,4 @@
-ghost use Rattle.std.specs.Prelude.{◌≡◌, ◌*◌, ◌≤◌, length, OnOk, IsErrOf, IfOk, IfErr, IfSome, Err, None, true};
+ghost use Rattle.std.specs.Prelude.{◌≡◌, ◌*◌, ◌≤◌, length, min, replicate, OnOk, IsErrOf, IfOk, IfErr, IfSome, Err, None, true};
 ghost use Rattle.geometry.specs.Numbers.{usable, write_refusal, work_need, cache_need, check_need, page_count};
 ghost use Rattle.nor_core.specs.Count.{Rose};
 ghost use Rattle.nor_core.specs.Device.{Changes, OnlyReads};
@@ -6,6 +6,7 @@ ghost use Rattle.image_model.specs.Kinds.{spoiled_blocks, mixed_blocks};
 ghost use Rattle.image_model.specs.Sound.{HasMagics};
 ghost use Rattle.image_model.specs.Tidy.{IsTidy, HasReserve};
 ghost use Rattle.page_cache.specs.Kept.{IsKept, FewReads};
+ghost use Rattle.fd_table.specs.Slots.{descriptors};
 ghost use Rattle.vol_mount.specs.Mounts.{IsLate, CountsSpoiled};
 ghost use Rattle.room_laws.specs.Recovery.{Recovers};
 ghost use Rattle.vol_check.specs.Checks.{IsWritable, IsRefusal, CountsMixed};
@@ -13,7 +14,6 @@ ghost use Rattle.volume.specs.Checking.{CheckCut, CheckDone, IsApart, IsUndamage
 ghost use Rattle.volume.specs.Opening.{is_open, is_mounted};
 
 use crate::checking::check_view;
-use crate::slots::close_all;
 use crate::stage::Stage;
 use crate::{CheckErr, Report};
 use fd_table::{FdSlot, FdTable};
@@ -94,6 +94,13 @@ fn mount_on<N: Nor>(
         wrote: false,
     };
     vol_mount::mount(&mut v)
+}
+
+// Closes every descriptor.
+fn close_all(slots: &mut [FdSlot])
+    ensures { descriptors slots.new ≡ replicate (min 65535 (length slots.old)) None }
+{
+    FdTable::new(slots);
 }
 
 // Checks the volume.

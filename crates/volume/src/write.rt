@@ -8,15 +8,11 @@ ghost use Rattle.table_model.specs.Window.{page_end};
 ghost use Rattle.write_window.specs.Runs.{start_of, bytes_of};
 ghost use Rattle.write_window.specs.Shown.{run_in};
 ghost use Rattle.volume.specs.Acts.{Acts};
-ghost use Rattle.volume.specs.Replies.{reply_of};
+ghost use Rattle.file_calls.specs.Replies.{reply_of};
 
-use crate::reading::record_of;
-use crate::restating::may_write;
-use crate::room::have_room;
-use crate::slots::opened;
-use crate::writing::write_all;
 use crate::{Told, Volume};
 use fd_table::{FdSlot, open_slot, put};
+use file_calls::{have_room, may_write, opened, record_of, write_all};
 use flash_view::View;
 use geometry::Geometry;
 use nor_core::{Nor, NorState};
@@ -125,7 +121,7 @@ fn next_place(held: &Held, slot: &FdSlot) -> u64
 impl<'b, N: Nor> Volume<'b, N> {
     ghost use Rattle.std.specs.Prelude.{◌≡◌, ◌+◌, ◌≤◌, ℕ, List, [], length, true, None, IfSome};
     ghost use Rattle.table_model.specs.Ask.{Writes};
-    ghost use Rattle.volume.specs.Replies.{shown_by};
+    ghost use Rattle.file_calls.specs.Replies.{shown_by};
     ghost use Rattle.volume.specs.Stages.{takes_calls};
     ghost use Rattle.volume.specs.Settled.{GoesOnNot};
     ghost use Rattle.volume.specs.Extends.{GoesOnAt};

@@ -2,7 +2,7 @@ use Rattle.std.proofs.Common.{rules, subst}
 use Rattle.table_model.specs.declared.error.FsErr.{FsErr}
 use Rattle.table_model.specs.Ask.{asked}
 use Rattle.table_model.specs.Reply.{Refuses}
-use Rattle.volume.specs.Replies.{shown_by}
+use Rattle.file_calls.specs.Replies.{shown_by}
 use Rattle.volume.specs.Calls.{Calls}
 use Rattle.tool_core.proofs.Calling.{does_answer, does_fault, does_damage, brief_of}
 use Rattle.tool_core.proofs.call.apply.Goals as goal

@@ -3,7 +3,7 @@ use Rattle.nor_core.proofs.Cuts.{wider}
 use Rattle.block_gc.specs.declared.room.RoomErr.{RoomErr}
 use Rattle.block_gc.specs.declared.room.RoomErr.TheVariants.{Step}
 use Rattle.volume.specs.Checking.{as_check_err}
-use Rattle.volume.proofs.GcCalls.{step_fault}
+use Rattle.file_calls.proofs.GcCalls.{step_fault}
 use Rattle.volume.proofs.Clearing.{stop_means, stop_fault, same_err}
 use Rattle.volume.proofs.checking.sweep.Goals as goal
 

@@ -12,11 +12,11 @@ use Rattle.table_model.specs.Ask.{Writes}
 use Rattle.fd_table.specs.Slots.{descriptors}
 use Rattle.flash_view.proofs.Looking.{looks_then, same_then}
 use Rattle.image_model.specs.Tables.{table_of}
-use Rattle.volume.proofs.Going.{goes_refused, goes_shown, goes_done, goes_stopped, rose_later, looked_back}
+use Rattle.file_calls.proofs.Going.{goes_refused, goes_shown, goes_done, goes_stopped, rose_later, looked_back}
 use Rattle.volume.proofs.Acting.{acts_settled, acts_refused}
-use Rattle.volume.proofs.Descriptors.{goes_closed, goes_unread, never_missing, held_at}
-use Rattle.volume.proofs.Restates.{the_file}
-use Rattle.volume.proofs.Cutting.{TellsRoom, is_old}
+use Rattle.file_calls.proofs.Descriptors.{goes_closed, goes_unread, never_missing, held_at}
+use Rattle.file_calls.proofs.Restates.{the_file}
+use Rattle.file_calls.proofs.Cutting.{TellsRoom, is_old}
 use Rattle.volume.proofs.WriteCalls.{write_closed, write_unwritable, write_empty, empty_ends, write_refuses, meets_write, write_step, direct_ends, acts_waiting, ends_whole, moved_by, waits_at}
 use Rattle.volume.proofs.write.write_in.Goals as goal
 

@@ -2,7 +2,7 @@ use Rattle.std.proofs.Common.{◌≡◌, ◌≤◌, ℕ, List, [], length, take,
 use Rattle.std.proofs.lemmas.List.{length-take-le}
 use Rattle.table_model.specs.Ask.{Writes, asked}
 use Rattle.volume.specs.Opening.{is_open}
-use Rattle.volume.specs.Replies.{shown_by}
+use Rattle.file_calls.specs.Replies.{shown_by}
 use Rattle.volume.specs.Calls.{Calls}
 use Rattle.volume.proofs.Calling.{other_apart, calls_closed, calls_into, calls_filled}
 use Rattle.volume.proofs.volume.Volume.answer.Goals as goal

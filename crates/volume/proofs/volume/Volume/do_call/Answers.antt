@@ -1,5 +1,5 @@
 use Rattle.table_model.specs.Ask.{asked}
-use Rattle.volume.specs.Replies.{shown_by}
+use Rattle.file_calls.specs.Replies.{shown_by}
 use Rattle.volume.proofs.Calling.{calls_by, calls_stopped}
 use Rattle.volume.proofs.volume.Volume.do_call.Goals as goal
 

@@ -1,4 +1,4 @@
-use Rattle.std.proofs.Common.{rules, ◌≡◌, ◌<◌, length, refl, arith, ap, ◌∙◌}
+use Rattle.std.proofs.Common.{rules, ◌≡◌, ◌<◌, length, refl, arith}
 use Rattle.page_cache.proofs.Held.{few_none}
 use Rattle.volume.proofs.Continuing.{room_held, few_held, extends_none, extends_some}
 use Rattle.volume.proofs.volume.Volume.extend.Goals as goal

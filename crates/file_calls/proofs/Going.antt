@@ -1,0 +1,528 @@
+-- What the exits of calls share.
+use Rattle.std.proofs.lemmas.Bool.{and_parts}
+use Rattle.std.proofs.Common.{◌&&◌, ◌||◌, ◌<◌, zero, suc, length, get_or, ◌≡◌, ◌≢◌, ◌≤◌, ℕ, ◌⊎◌, ⊎_elim, inl, inr, List, [], ◌∷◌, Bool, true, false, refl, sym, ◌∙◌, ap, subst, arith}
+use Rattle.std.specs.Prelude.{Option, Some, None, Result, Ok, Err, IsErrOf}
+use Rattle.geometry.specs.declared.geometry.Geometry.{Geometry}
+use Rattle.nor_core.specs.declared.state.NorState.{Ghosts as NorOf}
+use Rattle.nor_core.specs.Count.{Rose}
+use Rattle.nor_core.specs.Device.{OnlyReads, Changes}
+use Rattle.nor_core.proofs.Cuts.{wider, read_after, unchanged}
+use Rattle.table_model.specs.declared.error.FsErr.{FsErr}
+use Rattle.table_model.specs.declared.error.FsErr.TheVariants.{BadName, NameTooLong, Tight, DeviceFault, Damaged}
+use Rattle.table_model.specs.declared.error.Differ.{Differ}
+use Rattle.table_model.specs.Table.{File, Open, State}
+use Rattle.table_model.specs.Reply.{Answer, Gives, Refuses}
+use Rattle.table_model.specs.Ask.{Ask, Creates, Opens, Removes, Renames, Stats, Collects, SetsMeta}
+use Rattle.table_model.specs.Outcome.{Outcome, refused, gives}
+use Rattle.table_model.specs.Calls.{answer_create, answer_remove, answer_rename, answer_stat, answer_meta}
+use Rattle.table_model.specs.Opening.{answer_open}
+use Rattle.table_model.specs.Flat.{answer}
+use Rattle.table_model.specs.Steps.{is_refusal, done_steps}
+use Rattle.table_model.specs.Window.{settled_at}
+use Rattle.image_model.specs.Tables.{table_of}
+use Rattle.image_model.specs.Tidy.{IsTidy, HasReserve}
+use Rattle.std.specs.List.{Contains}
+use Rattle.image_model.specs.Sound.{IsSound}
+use Rattle.flash_view.specs.declared.kinds.StepErr.{StepErr}
+use Rattle.flash_view.specs.declared.kinds.StepErr.TheVariants.{DeviceFault as StepFault, Damaged as StepDamaged}
+use Rattle.flash_view.specs.declared.view.View.{View}
+use Rattle.flash_view.specs.Same.{OnlyLooks}
+use Rattle.flash_view.specs.Steps.{Step, Errors, Stepped, stopped}
+use Rattle.flash_view.proofs.Stepped.{after_look, fails_as}
+use Rattle.table_model.specs.Steps.{steps}
+use Rattle.table_model.specs.Window.{IsAmong}
+use Rattle.file_calls.specs.Replies.{as_fs_err, is_of_name, is_of_descriptor, is_early, meets, may_meet, has_name, is_change, reads_file, keeps_slots, may_answer, names_fault, reply_of, is_calm}
+use Rattle.file_calls.specs.Moves.{with_slots, Moves}
+use Rattle.fd_table.specs.declared.slot.FdSlot.{FdSlot}
+use Rattle.fd_table.specs.Slots.{descriptors}
+use Rattle.header_laws.proofs.Telling.{found-by_id}
+use Rattle.call_model.specs.Memory.{OpensFiles}
+use Rattle.call_model.specs.Tables.{NamesById}
+use Rattle.call_model.proofs.Opens.{opens_kept}
+use Rattle.file_calls.specs.declared.told.Told.{Told}
+use Rattle.file_calls.specs.declared.told.Told.TheVariants.{Done, Number as AsNumber, Bytes, File as AsFile, NoMore, Room, Refusal}
+use Rattle.image_model.specs.Tidy.{has_spare}
+use Rattle.room_laws.specs.Recovery.{Recovers}
+use Rattle.room_laws.proofs.Staying.{reserve_mends}
+use Rattle.file_calls.specs.States.{IsImageOf}
+use Rattle.file_calls.specs.Collecting.{MayStop, refusing}
+use Rattle.file_calls.specs.Goes.{CallCut, Reaches, IsDoable, IsCorner, StopsShort, StaysAt, IsCollected, IsNamed, IsGiven, Goes}
+
+-- ---- the flat table
+
+-- a call whose names are refused
+pub names_first : (g : Geometry) (spare : Bool) (s : State) (ask : Ask) (why : FsErr) → names_fault ask ≡ Some why → answer g spare s ask ≡ refused why s
+unfolding answer answer_create answer_open answer_remove answer_rename answer_stat answer_meta
+names_first g spare s (Creates name) why e = rw e refl
+names_first g spare s (Opens name flags) why e = rw e refl
+names_first g spare s (Removes name) why e = rw e refl
+names_first g spare s (Renames old_name new_name) why e = rw e refl
+names_first g spare s (Stats name) why e = rw e refl
+names_first g spare s (SetsMeta name meta) why e = rw e refl
+names_first g spare s _ why e = absurd (let no : None ≡ Some why = e in cc)
+
+-- a call that the flat table answers: each but garbage collection
+abbrev pub is_flat : Ask → Bool
+is_flat Collects = false
+is_flat ask = true
+
+pub not_collects : (ask : Ask) → is_flat ask ≡ true → ask ≡ Collects → ⊥
+not_collects ask flat is = let no : true ≡ false = sym flat ∙ ap is_flat is in cc
+
+-- the flat table does a call, and this is the one step of it
+pub record IsOneStep (g : Geometry) (spare : Bool) (s : State) (ask : Ask) (reply : Answer) (files : List File) : Type 0 where
+  pub answer_is : (answer g spare s ask).answer ≡ reply
+  pub table_is : (answer g spare s ask).next.table ≡ files
+  pub steps_are : steps g spare s ask ≡ files ∷ []
+
+pub one_step : (g : Geometry) (spare : Bool) (s next : State) (ask : Ask) (reply : Answer) → is_refusal reply ≡ false → answer g spare s ask ≡ gives reply next → done_steps g s ask next.table ≡ next.table ∷ [] → IsOneStep g spare s ask reply next.table
+unfolding steps
+one_step g spare s next ask reply other e one = record {
+  answer_is = ap (λ (o : Outcome). o.answer) e;
+  table_is = ap (λ (o : Outcome). o.next.table) e;
+  steps_are = rw (e, other) one;
+}
+
+-- a state with its own descriptors
+pub same_slots : (s : State) (slots : List (Option Open)) → slots ≡ s.slots → with_slots slots s ≡ s
+same_slots s slots e = rw e refl
+
+-- ---- images
+
+pub is_first : (t u : List File) (us : List (List File)) → t ≡ u → IsAmong t (u ∷ us)
+unfolding IsAmong
+is_first t u us e = inl e
+
+is_second : (t u v : List File) (us : List (List File)) → t ≡ v → IsAmong t (u ∷ v ∷ us)
+unfolding IsAmong
+is_second t u v us e = inr (inl e)
+
+-- in or after any of several steps
+pub is_at : (t : List File) (us : List (List File)) (k : ℕ) → k < length us → t ≡ get_or us k [] → IsAmong t us
+unfolding IsAmong
+is_at t [] k less e = absurd (omega arith)
+is_at t (u ∷ us) zero less e = inl e
+is_at t (u ∷ us) (suc k) less e = inr (is_at t us k (omega arith) e)
+
+-- a tidy image is sound with respect to each
+pub tidy_sound : (g : Geometry) (image first : List ℕ) → IsTidy g image → IsSound g image first
+tidy_sound g image first tidy = record {
+  magics = record { one = λ b c under over none also. absurd (let has : true ≡ false = sym (tidy.magic b under) ∙ none in cc) };
+  mixed = λ block h. absurd (let no : true ≡ false = sym h.names ∙ tidy.unmixed h.p h.q h.x h.y h.p_is h.q_is (h.p_at ∙ sym h.q_at) ∙ h.holds in cc);
+  damaged = λ id h. let none : Contains {X = ℕ} [] id = rw tidy.undamaged at h in absurd (omega (arith, none.1));
+}
+
+-- an image that stays
+pub stays : (g : Geometry) (image : List ℕ) (s : State) (ask : Ask) → IsTidy g image → s.table ≡ table_of g image → CallCut g s ask image image
+unfolding settled_at
+stays g image s ask tidy same = record {
+  sound = tidy_sound g image image tidy;
+  mends = λ reserve. reserve_mends g image reserve;
+  table = is_first (table_of g image) s.table (steps g (has_spare g image) s ask) (sym same);
+}
+
+-- an image in or after the one step of a call: the table before it, or the one after it
+pub before_or_after : (g : Geometry) (was image : List ℕ) (s : State) (ask : Ask) (reply : Answer) (files : List File) → IsOneStep g (has_spare g was) s ask reply files → s.table ≡ table_of g was → IsSound g image was → (HasReserve g was → Recovers g image) →
+    (table_of g image ≡ table_of g was) ⊎ (table_of g image ≡ files) → CallCut g s ask was image
+unfolding settled_at
+before_or_after g was image s ask reply files one same sound mends table = record {
+  sound = sound;
+  mends = mends;
+  table = ⊎_elim
+      (λ (before : table_of g image ≡ table_of g was). is_first (table_of g image) s.table (steps g (has_spare g was) s ask) (before ∙ sym same))
+      (λ (after : table_of g image ≡ files). rw one.steps_are (is_second (table_of g image) s.table files [] after))
+      table;
+}
+
+-- ---- replies
+
+pub refuses_same : (v w : FsErr) → Refuses v ≡ Refuses w → v ≡ w
+refuses_same v w e = cc
+
+-- no refusal of a name is met after the names are accepted, nor a page that reads otherwise before anything is written
+no_name : (why : FsErr) → is_of_name why ≡ true → (why ≡ DeviceFault → ⊥) × ((d : Differ) → why ≡ Damaged d → ⊥) × (why ≡ Tight → ⊥)
+no_name BadName e = (λ x. cc, λ d x. cc, λ x. cc)
+no_name NameTooLong e = (λ x. cc, λ d x. cc, λ x. cc)
+no_name _ e = absurd (let no : false ≡ true = e in cc)
+
+record IsEarly (why : FsErr) : Type 0 where
+  no_name : is_of_name why ≡ true → ⊥
+  undamaged : (d : Differ) → why ≡ Damaged d → ⊥
+
+early : (why : FsErr) → is_early why ≡ true → IsEarly why
+early BadName e = absurd (let no : false ≡ true = e in cc)
+early NameTooLong e = absurd (let no : false ≡ true = e in cc)
+early (Damaged d) e = absurd (let no : false ≡ true = e in cc)
+early _ e = record { no_name = λ x. let no : false ≡ true = x in cc; undamaged = λ d x. cc }
+
+pub no_refusal : (reply : Answer) (why : FsErr) → is_refusal reply ≡ false → reply ≡ Refuses why → ⊥
+no_refusal reply why other e = let no : true ≡ false = sym (ap is_refusal e) ∙ other in cc
+
+pub or_first : (a b : Bool) → a ≡ true → (a || b) ≡ true
+or_first true b e = refl
+or_first false b e = absurd (let no : false ≡ true = e in cc)
+
+both_true : (a b : Bool) → a ≡ true → b ≡ true → (a && b) ≡ true
+both_true true b e f = f
+both_true false b e f = absurd (let no : false ≡ true = e in cc)
+
+pub or_last : (a b : Bool) → b ≡ true → (a || b) ≡ true
+or_last true b e = refl
+or_last false b e = e
+
+-- a name that is accepted is not what a call is refused for
+pub named_fine : (ask : Ask) (reply : Answer) (wrote : Bool) → names_fault ask ≡ None → ((why : FsErr) → is_of_name why ≡ true → reply ≡ Refuses why → ⊥) → IsNamed ask reply wrote
+named_fine ask reply wrote fine other = record {
+  refused = λ why is. absurd (let no : None ≡ Some why = sym fine ∙ is in cc);
+  only = λ why name is. absurd (other why name is);
+}
+
+pub named_refused : (ask : Ask) (why : FsErr) (wrote : Bool) → names_fault ask ≡ Some why → wrote ≡ false → IsNamed ask (Refuses why) wrote
+named_refused ask why wrote fault none = record {
+  refused = λ w is. (let same : why ≡ w = (let e : Some why ≡ Some w = sym fault ∙ is in cc) in ap (λ (x : FsErr). Refuses x) same, none);
+  only = λ w name is. (let same : why ≡ w = refuses_same why w is in fault ∙ ap (λ (x : FsErr). Some x) same);
+}
+
+-- ---- over a device
+
+-- the table of an image goes by its ids
+pub table_names : (g : Geometry) (image : List ℕ) → NamesById (table_of g image)
+table_names g image name f at = (found-by_id g image f).0 name at
+
+pub names_by : (g : Geometry) (image : List ℕ) (s : State) → s.table ≡ table_of g image → NamesById s.table
+names_by g image s same = subst NamesById (sym same) (table_names g image)
+
+-- what any answer is, whatever the device tells
+pub record IsFit (ask : Ask) (slots after : List FdSlot) (wrote : Bool) (reply : Answer) : Type 0 where
+  pub among : may_answer ask reply ≡ true
+  pub brief : (bytes : List ℕ) → reply ≡ Gives bytes → IsGiven ask bytes
+  pub named : IsNamed ask reply wrote
+  pub still : is_refusal reply ≡ true → after ≡ slots
+  pub keeps : keeps_slots ask ≡ true → after ≡ slots
+
+pub no_gift : (reply : Answer) (bytes : List ℕ) → is_refusal reply ≡ true → reply ≡ Gives bytes → ⊥
+no_gift reply bytes refusal e = let no : false ≡ true = sym (ap is_refusal e) ∙ refusal in cc
+
+module _ {D : Type 0} {nor : NorOf D} {g : Geometry} {slots : List FdSlot} where
+  -- reads leave the image
+  pub reads_cuts : {old new : D} (ask : Ask) → OnlyReads nor old new → Changes nor old new (λ was image. (s : State) → IsImageOf nor g old slots s → CallCut g s ask was image)
+  reads_cuts {old} {new} ask reads = read_after (unchanged old (λ was image. (s : State) → IsImageOf nor g old slots s → CallCut g s ask was image) (λ tells s here. stays g (nor.bytes old) s ask here.tidy here.table)) reads
+
+  -- so the device is that of the state with other descriptors
+  reads_image : {old new : D} (after : List FdSlot) (s : State) → OnlyReads nor old new → IsImageOf nor g old slots s → OpensFiles (with_slots (descriptors after) s) → IsImageOf nor g new after (with_slots (descriptors after) s)
+  reads_image {old} {new} after s reads here opened = record {
+    tells = reads.told here.tells;
+    tidy = subst (λ (l : List ℕ). IsTidy g l) (sym reads.bytes) here.tidy;
+    table = here.table ∙ ap (table_of g) (sym reads.bytes);
+    slots = refl;
+    opened = opened;
+  }
+
+  -- and with these it is that of the state
+  pub reads_stay : {old new : D} (s : State) → OnlyReads nor old new → IsImageOf nor g old slots s → IsImageOf nor g new slots s
+  reads_stay s reads here = record {
+    tells = reads.told here.tells;
+    tidy = subst (λ (l : List ℕ). IsTidy g l) (sym reads.bytes) here.tidy;
+    table = here.table ∙ ap (table_of g) (sym reads.bytes);
+    slots = here.slots;
+    opened = here.opened;
+  }
+
+  -- what a call does, by its parts
+  pub goes_by : {old new : D} {after : List FdSlot} (ask : Ask) (reply : Answer) (wrote : Bool) → IsFit ask slots after wrote reply → Changes nor old new (λ was image. (s : State) → IsImageOf nor g old slots s → CallCut g s ask was image) →
+      ((s : State) → IsImageOf nor g old slots s → (reply ≡ Refuses DeviceFault → ⊥) → (StopsShort g (nor.bytes old) s ask reply → ⊥) → Reaches nor g old new after s ask reply) → ((s : State) → IsImageOf nor g old slots s → ask ≡ Collects → IsCollected g reply (nor.bytes old) (nor.bytes new)) →
+      ((s : State) → IsImageOf nor g old slots s → IsCorner g (nor.bytes old) s ask → reply ≡ Refuses Tight → StaysAt nor g new after s) → ((s : State) → IsImageOf nor g old slots s → wrote ≡ true → IsDoable g (nor.bytes old) s ask) → (wrote ≡ false → OnlyReads nor old new) → (reply ≡ Refuses DeviceFault → Rose (nor.faults old) (nor.faults new)) →
+      ((d : Differ) → reply ≡ Refuses (Damaged d) → (d.wanted ≢ d.found) × ((s : State) → IsImageOf nor g old slots s → ⊥)) → (is_change ask ≡ false → wrote ≡ false) → Goes nor g ask old new slots after wrote reply
+  goes_by ask reply wrote fit cuts answers collects cornered begun untouched cause differs looks = record {
+    does = record {
+      cuts = cuts;
+      collects = collects;
+      cornered = cornered;
+      begun = begun;
+      untouched = untouched;
+      still = fit.still;
+      keeps = fit.keeps;
+      cause = cause;
+      differs = λ d e. (differs d e).0;
+      undamaged = λ s here d e. (differs d e).1 s here;
+      among = fit.among;
+      brief = fit.brief;
+      named = fit.named;
+      looks = looks;
+    };
+    answers = answers;
+  }
+
+  -- A call that only read, and was answered as the flat table is, which leaves the table.
+  goes_read : {old new : D} {after : List FdSlot} (ask : Ask) (reply : Answer) (wrote : Bool) → wrote ≡ false → OnlyReads nor old new → is_flat ask ≡ true → IsFit ask slots after wrote reply →
+      ((s : State) → IsImageOf nor g old slots s → (reply ≡ Refuses DeviceFault → ⊥) → answer g (has_spare g (nor.bytes old)) s ask ≡ gives reply (with_slots (descriptors after) s)) →
+      (reply ≡ Refuses DeviceFault → Rose (nor.faults old) (nor.faults new)) →
+      ((d : Differ) → reply ≡ Refuses (Damaged d) → (d.wanted ≢ d.found) × ((s : State) → IsImageOf nor g old slots s → ⊥)) → Goes nor g ask old new slots after wrote reply
+  goes_read {old} {new} {after} ask reply wrote none reads flat fit is cause differs = goes_by ask reply wrote fit (reads_cuts ask reads)
+      (λ s here no_fault whole. let e = is s here no_fault in record {
+        reply_is = sym (ap (λ (o : Outcome). o.answer) e);
+        holds = subst (λ (n : State). IsImageOf nor g new after n) (sym (ap (λ (o : Outcome). o.next) e))
+            (reads_image after s reads here (subst (λ (o : Outcome). OpensFiles o.next) e (opens_kept g (has_spare g (nor.bytes old)) s ask (names_by g (nor.bytes old) s here.table) here.opened)));
+        reserve = λ reserve. subst (λ (l : List ℕ). HasReserve g l) (sym reads.bytes) reserve;
+        reads = λ refusal. reads;
+      })
+      (λ s here collects. absurd (not_collects ask flat collects))
+      (λ s here corner tight. record {
+        holds = subst (λ (l : List FdSlot). IsImageOf nor g new l s) (sym (fit.still (ap is_refusal tight))) (reads_stay s reads here);
+        reserve = subst (λ (l : List ℕ). HasReserve g l) (sym reads.bytes) corner.reserve;
+      })
+      (λ s here w. absurd (let no : true ≡ false = sym w ∙ none in cc))
+      (λ w. reads) cause differs (λ look. none)
+
+  -- a call that was answered with a look, and moved descriptors
+  pub goes_moved : {old new : D} {after : List FdSlot} (ask : Ask) (reply : Answer) (wrote : Bool) → wrote ≡ false → OnlyReads nor old new → is_flat ask ≡ true → names_fault ask ≡ None → is_refusal reply ≡ false → may_answer ask reply ≡ true →
+      ((bytes : List ℕ) → reply ≡ Gives bytes → IsGiven ask bytes) → (keeps_slots ask ≡ true → after ≡ slots) →
+      ((s : State) → IsImageOf nor g old slots s → answer g (has_spare g (nor.bytes old)) s ask ≡ gives reply (with_slots (descriptors after) s)) → Goes nor g ask old new slots after wrote reply
+  goes_moved ask reply wrote none reads flat fine other may brief keeps is = goes_read ask reply wrote none reads flat
+      (record { among = may; brief = brief; named = named_fine ask reply wrote fine (λ why name e. no_refusal reply why other e); still = λ refusal. absurd (let no : true ≡ false = sym refusal ∙ other in cc); keeps = keeps })
+      (λ s here no_fault. is s here)
+      (λ e. absurd (no_refusal reply DeviceFault other e))
+      (λ d e. absurd (no_refusal reply (Damaged d) other e))
+
+  -- and left them
+  pub goes_shown : {old new : D} (ask : Ask) (reply : Answer) (wrote : Bool) → wrote ≡ false → OnlyReads nor old new → is_flat ask ≡ true → names_fault ask ≡ None → is_refusal reply ≡ false → may_answer ask reply ≡ true →
+      ((bytes : List ℕ) → reply ≡ Gives bytes → IsGiven ask bytes) → ((s : State) → IsImageOf nor g old slots s → answer g (has_spare g (nor.bytes old)) s ask ≡ gives reply s) → Goes nor g ask old new slots slots wrote reply
+  goes_shown ask reply wrote none reads flat fine other may brief is = goes_moved ask reply wrote none reads flat fine other may brief (λ k. refl)
+      (λ s here. is s here ∙ ap (λ (n : State). gives reply n) (sym (same_slots s (descriptors slots) here.slots)))
+
+  -- A call with accepted names that was refused, or that met a fault, before it asked for a program or an erase.
+  pub goes_refused : {T : Type 0} {old new : D} (ask : Ask) (why : FsErr) (wrote : Bool) → wrote ≡ false → OnlyReads nor old new → is_flat ask ≡ true → names_fault ask ≡ None → may_meet ask why ≡ true →
+      (IsErrOf {T = T} (Err why) DeviceFault → Rose (nor.faults old) (nor.faults new)) →
+      ((s : State) → IsImageOf nor g old slots s → (why ≡ DeviceFault → ⊥) → answer g (has_spare g (nor.bytes old)) s ask ≡ refused why s) → Goes nor g ask old new slots slots wrote (Refuses why)
+  goes_refused {T} {old} {new} ask why wrote none reads flat fine met cause is =
+      let w = early why (and_parts (is_early why) (meets ask why) met).0 in
+      goes_read ask (Refuses why) wrote none reads flat
+      (record {
+        among = or_first (may_meet ask why) _ met;
+        brief = λ bytes e. absurd (no_gift (Refuses why) bytes refl e);
+        named = named_fine ask (Refuses why) wrote fine (λ v name e. w.no_name (subst (λ (x : FsErr). is_of_name x ≡ true) (sym (refuses_same why v e)) name));
+        still = λ refusal. refl;
+        keeps = λ k. refl;
+      })
+      (λ s here no_fault. is s here (λ fault. no_fault (ap (λ (v : FsErr). Refuses v) fault)) ∙ ap (λ (n : State). gives (Refuses why) n) (sym (same_slots s (descriptors slots) here.slots)))
+      (λ e. cause (ap (λ (v : FsErr). Err v) (refuses_same why DeviceFault e)))
+      (λ d e. absurd (w.undamaged d (refuses_same why (Damaged d) e)))
+
+  -- A look for a page of a file that found it not to be there: the device isn't one that stands at a state.
+  pub goes_missed : {old new : D} (ask : Ask) (d : Differ) (wrote : Bool) → wrote ≡ false → OnlyReads nor old new → is_flat ask ≡ true → names_fault ask ≡ None → (is_change ask || reads_file ask) ≡ true → d.wanted ≢ d.found →
+      ((s : State) → IsImageOf nor g old slots s → ⊥) → Goes nor g ask old new slots slots wrote (Refuses (Damaged d))
+  goes_missed {old} {new} ask d wrote none reads flat fine reader apart never = goes_read ask (Refuses (Damaged d)) wrote none reads flat
+      (record {
+        among = or_last (may_meet ask (Damaged d)) _ (or_last (has_name ask && is_of_name (Damaged d)) _ (both_true (is_change ask || reads_file ask) true reader refl));
+        brief = λ bytes e. absurd (no_gift (Refuses (Damaged d)) bytes refl e);
+        named = named_fine ask (Refuses (Damaged d)) wrote fine (λ v name e. (no_name v name).1 d (sym (refuses_same (Damaged d) v e)));
+        still = λ refusal. refl;
+        keeps = λ k. refl;
+      })
+      (λ s here no_fault. absurd (never s here))
+      (λ e. absurd (let no : Damaged d ≡ DeviceFault = refuses_same (Damaged d) DeviceFault e in cc))
+      (λ x e. let same : d ≡ x = (let f : Damaged d ≡ Damaged x = refuses_same (Damaged d) (Damaged x) e in cc) in (subst (λ (y : Differ). y.wanted ≢ y.found) same apart, never))
+
+  -- a call whose names are refused
+  pub goes_named : {d : D} (ask : Ask) (why : FsErr) (wrote : Bool) → wrote ≡ false → OnlyReads nor d d → is_flat ask ≡ true → has_name ask ≡ true → is_of_name why ≡ true → names_fault ask ≡ Some why → Goes nor g ask d d slots slots wrote (Refuses why)
+  goes_named {d} ask why wrote none reads flat takes name fault =
+      let no = no_name why name in
+      goes_read ask (Refuses why) wrote none reads flat
+      (record {
+        among = or_last (may_meet ask why) _ (or_first (has_name ask && is_of_name why) _ (both_true (has_name ask) (is_of_name why) takes name));
+        brief = λ bytes e. absurd (no_gift (Refuses why) bytes refl e);
+        named = named_refused ask why wrote fault none;
+        still = λ refusal. refl;
+        keeps = λ k. refl;
+      })
+      (λ s here no_fault. names_first g (has_spare g (nor.bytes d)) s ask why fault ∙ ap (λ (n : State). gives (Refuses why) n) (sym (same_slots s (descriptors slots) here.slots)))
+      (λ e. absurd (no.0 (refuses_same why DeviceFault e)))
+      (λ x e. absurd (no.1 x (refuses_same why (Damaged x) e)))
+
+-- ---- calls that ask nothing of the device
+
+calm_reply : (result : Result Told FsErr) (into : List ℕ) → is_calm (reply_of result []) ≡ true → reply_of result into ≡ reply_of result []
+calm_reply (Ok Done) into e = refl
+calm_reply (Ok (AsNumber n)) into e = refl
+calm_reply (Ok (Bytes n)) into e = absurd (let no : false ≡ true = e in cc)
+calm_reply (Ok (AsFile stat)) into e = refl
+calm_reply (Ok NoMore) into e = refl
+calm_reply (Ok (Room info)) into e = refl
+calm_reply (Ok (Refusal why)) into e = refl
+calm_reply (Err why) into e = refl
+
+-- such an answer is no fault, no damage, no bytes, and no refusal of a name
+record IsCalm (reply : Answer) : Type 0 where
+  fault : reply ≡ Refuses DeviceFault → ⊥
+  damage : (d : Differ) → reply ≡ Refuses (Damaged d) → ⊥
+  name : (why : FsErr) → is_of_name why ≡ true → reply ≡ Refuses why → ⊥
+  bytes : (bytes : List ℕ) → reply ≡ Gives bytes → ⊥
+
+calm_no : (reply : Answer) (why : FsErr) → is_of_descriptor why ≡ false → is_calm reply ≡ true → reply ≡ Refuses why → ⊥
+calm_no reply why other calm e = let no : true ≡ false = sym calm ∙ ap is_calm e ∙ other in cc
+
+name_no_slot : (why : FsErr) → is_of_name why ≡ true → is_of_descriptor why ≡ false
+name_no_slot BadName e = refl
+name_no_slot NameTooLong e = refl
+name_no_slot _ e = absurd (let no : false ≡ true = e in cc)
+
+is_calm_so : (reply : Answer) → is_calm reply ≡ true → IsCalm reply
+is_calm_so reply calm = record {
+  fault = calm_no reply DeviceFault refl calm;
+  damage = λ d. calm_no reply (Damaged d) refl calm;
+  name = λ why name. calm_no reply why (name_no_slot why name) calm;
+  bytes = λ bytes e. let no : true ≡ false = sym calm ∙ ap is_calm e in cc;
+}
+
+pub goes_by_slots : {D : Type 0} {nor : NorOf D} {g : Geometry} {d : D} {slots after : List FdSlot} {result : Result Told FsErr} (ask : Ask) (into : List ℕ) (wrote : Bool) → Moves ask slots after result → wrote ≡ false → OnlyReads nor d d → is_flat ask ≡ true → names_fault ask ≡ None →
+    (keeps_slots ask ≡ true → after ≡ slots) → Goes nor g ask d d slots after wrote (reply_of result into)
+goes_by_slots {D} {nor} {g} {d} {slots} {after} {result} ask into wrote moves none reads flat fine keeps =
+    let w = is_calm_so (reply_of result []) moves.calm in
+    rw (calm_reply result into moves.calm) (goes_read ask (reply_of result []) wrote none reads flat
+    (record {
+      among = moves.among;
+      brief = λ bytes e. absurd (w.bytes bytes e);
+      named = named_fine ask (reply_of result []) wrote fine w.name;
+      still = moves.still;
+      keeps = keeps;
+    })
+    (λ s here no_fault. moves.answers g (has_spare g (nor.bytes d)) s here.slots)
+    (λ e. absurd (w.fault e))
+    (λ x e. absurd (w.damage x e)))
+
+-- ---- after a look
+
+pub err_same : {T : Type 0} (v w : FsErr) → IsErrOf {T = T} (Err v) w → v ≡ w
+err_same v w e = cc
+
+-- a count that rose later has risen
+pub rose_later : (a b c : ℕ) → a ≤ b → Rose b c → Rose a c
+rose_later a b c le rose = grind arith
+
+-- what is told after a look is told before it
+pub looked_back : {N : Type 0} {nor : NorOf N} {old mid : View N nor} (P : Geometry → List ℕ → Type 0) → OnlyLooks old mid → (nor.tells mid.nor.now → IsTidy mid.geometry (nor.bytes mid.nor.now) → P mid.geometry (nor.bytes mid.nor.now)) →
+    nor.tells old.nor.now → IsTidy old.geometry (nor.bytes old.nor.now) → P old.geometry (nor.bytes old.nor.now)
+looked_back P looks told tells tidy = (rw (looks.same.geometry, looks.reads.bytes) at told) (looks.reads.told tells) tidy
+
+-- and what is told before it is told after it
+pub looked_on : {N : Type 0} {nor : NorOf N} {old mid : View N nor} (P : Geometry → List ℕ → Type 0) → OnlyLooks old mid → (nor.tells old.nor.now → IsTidy old.geometry (nor.bytes old.nor.now) → P old.geometry (nor.bytes old.nor.now)) →
+    nor.tells mid.nor.now → IsTidy mid.geometry (nor.bytes mid.nor.now) → P mid.geometry (nor.bytes mid.nor.now)
+looked_on {old = old} {mid = mid} P looks told tells tidy =
+    let before = told (looks.reads.told_before tells) (rw (looks.same.geometry, looks.reads.bytes) at tidy) in
+    rw (looks.same.geometry, looks.reads.bytes) before
+
+-- ---- steps
+
+-- What a step leaves that is done: the flat table's answer and its table, and two free blocks where there were two. `after` are the
+-- descriptors then.
+pub record Makes (g : Geometry) (was : List ℕ) (s : State) (ask : Ask) (reply : Answer) (after : List (Option Open)) (now : List ℕ) : Type 0 where
+  pub answer_is : (answer g (has_spare g was) s ask).answer ≡ reply
+  pub tidy : IsTidy g now
+  pub table : (answer g (has_spare g was) s ask).next.table ≡ table_of g now
+  pub slots : after ≡ (answer g (has_spare g was) s ask).next.slots
+  pub reserve : HasReserve g was → HasReserve g now
+
+-- A step does a call: where the image is that of a state it may be done, and what it leaves and the reply are what the flat table
+-- says.
+pub record IsStep {D : Type 0} (nor : NorOf D) (g : Geometry) (slots : List FdSlot) (ask : Ask) (reply : Answer) (after : List (Option Open)) (old : D) (step : Step (Unit {0})) : Type 0 where
+  pub can : (s : State) → IsImageOf nor g old slots s → step.needs g (nor.bytes old)
+  pub cut : (s : State) → IsImageOf nor g old slots s → (image : List ℕ) → step.cut g (nor.bytes old) image → CallCut g s ask (nor.bytes old) image
+  pub done : (s : State) → IsImageOf nor g old slots s → (now : List ℕ) → step.done g (nor.bytes old) now tt → Makes g (nor.bytes old) s ask reply after now
+  pub doable : (s : State) → IsImageOf nor g old slots s → IsDoable g (nor.bytes old) s ask
+
+-- what a step of a call is refused with is no refusal of a name
+pub stop_name : (why : FsErr) → MayStop why → (w : FsErr) → is_of_name w ≡ true → Refuses why ≡ Refuses w → ⊥
+stop_name DeviceFault may w name e = (no_name w name).0 (sym (refuses_same DeviceFault w e))
+stop_name (Damaged d) may w name e = (no_name w name).1 d (sym (refuses_same (Damaged d) w e))
+stop_name Tight may w name e = (no_name w name).2 (sym (refuses_same Tight w e))
+stop_name _ may w name e = absurd may
+
+-- a page that reads otherwise tells two tags that differ
+pub stop_apart : (why : FsErr) (d : Differ) → MayStop why → why ≡ Damaged d → d.wanted ≢ d.found
+stop_apart why d may e = subst MayStop e may
+
+-- and any call that may ask for a program or an erase may be answered so
+stop_among : (ask : Ask) (why : FsErr) → MayStop why → is_change ask ≡ true → may_answer ask (Refuses DeviceFault) ≡ true → may_answer ask (Refuses Tight) ≡ true → may_answer ask (Refuses why) ≡ true
+stop_among ask DeviceFault may change fault tight = fault
+stop_among ask (Damaged d) may change fault tight =
+    or_last (may_meet ask (Damaged d)) _ (or_last (has_name ask && is_of_name (Damaged d)) _ (both_true (is_change ask || reads_file ask) true (or_first (is_change ask) (reads_file ask) change) refl))
+stop_among ask Tight may change fault tight = tight
+stop_among ask _ may change fault tight = absurd may
+
+-- how a step failed, as a call tells it
+pub step_stops : (why : StepErr) → stopped.means why → MayStop (as_fs_err why)
+step_stops StepFault means = tt
+step_stops (StepDamaged d) means = means
+
+pub fault_is : (why : StepErr) → as_fs_err why ≡ DeviceFault → why ≡ StepFault
+fault_is StepFault e = refl
+fault_is (StepDamaged d) e = absurd (cc)
+
+pub step_among : (ask : Ask) (why : StepErr) → is_change ask ≡ true → may_answer ask (Refuses DeviceFault) ≡ true → may_answer ask (Refuses (as_fs_err why)) ≡ true
+step_among ask StepFault change fault = fault
+step_among ask (StepDamaged d) change fault =
+    or_last (may_meet ask (Damaged d)) _ (or_last (has_name ask && is_of_name (Damaged d)) _ (both_true (is_change ask || reads_file ask) true (or_first (is_change ask) (reads_file ask) change) refl))
+
+pub step_fails : {N : Type 0} {nor : NorOf N} {old new : View N nor} {step : Step (Unit {0})} {why : StepErr} → Stepped stopped old new (Err why) step → Stepped refusing old new (Err (as_fs_err why)) step
+step_fails {why = why} call = fails_as call (fault_is why) (λ e. ap as_fs_err e) (step_stops why call.means) (λ tells need. record { needs = need; cut = λ c cut. cut })
+
+-- a call that took its step after a look
+module _ {N : Type 0} {nor : NorOf N} {old mid new : View N nor} {slots : List FdSlot} {step : Step (Unit {0})} {moved : List (Option Open)} (ask : Ask) (reply : Answer) (flat : is_flat ask ≡ true) (change : is_change ask ≡ true) (fine : names_fault ask ≡ None)
+    (does : IsStep nor old.geometry slots ask reply moved old.nor.now step) (looks : OnlyLooks old mid) (fresh : old.wrote ≡ false) where
+  after : {E : Type 0} {errors : Errors E} {r : Result (Unit {0}) E} → Stepped errors mid new r step → Stepped errors old new r step
+  after call = after_look looks call (λ tells need. record { needs = need; cut = λ c cut. cut; done = λ c ok done. done })
+
+  -- the step was done
+  pub goes_done : (last : List FdSlot) → descriptors last ≡ moved → is_refusal reply ≡ false → may_answer ask reply ≡ true → ((bytes : List ℕ) → reply ≡ Gives bytes → ⊥) → (keeps_slots ask ≡ true → last ≡ slots) → Stepped stopped mid new (Ok tt) step → Goes nor old.geometry ask old.nor.now new.nor.now slots last new.wrote reply
+  goes_done last moves other may no_bytes keeps taken =
+      let call = after taken in
+      goes_by ask reply new.wrote
+      (record {
+        among = may;
+        brief = λ bytes e. absurd (no_bytes bytes e);
+        named = named_fine ask reply new.wrote fine (λ why name e. no_refusal reply why other e);
+        still = λ refusal. absurd (let no : true ≡ false = sym refusal ∙ other in cc);
+        keeps = keeps;
+      })
+      (wider call.cuts (λ tells image cut s here. does.cut s here image (cut (does.can s here))))
+      (λ s here no_fault whole.
+      let made = does.done s here (nor.bytes new.nor.now) (call.ends here.tells (does.can s here)) in
+      record {
+        reply_is = sym made.answer_is;
+        holds = record { tells = call.cuts.cuts.told here.tells; tidy = made.tidy; table = made.table; slots = moves ∙ made.slots; opened = opens_kept old.geometry (has_spare old.geometry (nor.bytes old.nor.now)) s ask (names_by old.geometry (nor.bytes old.nor.now) s here.table) here.opened };
+        reserve = made.reserve;
+        reads = λ refusal. absurd (let no : true ≡ false = sym refusal ∙ other in cc);
+      })
+      (λ s here collects. absurd (not_collects ask flat collects))
+      (λ s here corner tight. absurd (no_refusal reply Tight other tight))
+      (λ s here w. does.doable s here)
+      (λ none. call.framed.untouched fresh none)
+      (λ e. absurd (no_refusal reply DeviceFault other e))
+      (λ d e. absurd (no_refusal reply (Damaged d) other e)) (λ look. absurd (let no : true ≡ false = sym change ∙ look in cc))
+
+  -- it was not
+  broken_by : (why : FsErr) → may_answer ask (Refuses why) ≡ true → Stepped refusing old new (Err why) step → Goes nor old.geometry ask old.nor.now new.nor.now slots slots new.wrote (Refuses why)
+  broken_by why may call = goes_by ask (Refuses why) new.wrote
+      (record {
+        among = may;
+        brief = λ bytes e. absurd (no_gift (Refuses why) bytes refl e);
+        named = named_fine ask (Refuses why) new.wrote fine (stop_name why call.means);
+        still = λ refusal. refl;
+        keeps = λ k. refl;
+      })
+      (wider call.cuts (λ tells image cut s here. does.cut s here image (cut (does.can s here))))
+      (λ s here no_fault whole. absurd (no_fault (ap (λ (w : FsErr). Refuses w) (call.ends here.tells (does.can s here)))))
+      (λ s here collects. absurd (not_collects ask flat collects))
+      (λ s here corner tight. absurd (let no : Tight ≡ DeviceFault = sym (refuses_same why Tight tight) ∙ call.ends here.tells (does.can s here) in cc))
+      (λ s here w. does.doable s here)
+      (λ none. call.framed.untouched fresh none)
+      (λ e. call.cause (ap (λ (w : FsErr). Err w) (refuses_same why DeviceFault e)))
+      (λ d e. let is = refuses_same why (Damaged d) e in (stop_apart why d call.means is, λ s here. let no : Damaged d ≡ DeviceFault = sym is ∙ call.ends here.tells (does.can s here) in cc)) (λ look. absurd (let no : true ≡ false = sym change ∙ look in cc))
+
+  -- the device failed in the step, or a page read otherwise
+  pub goes_broken : (why : StepErr) → may_answer ask (Refuses DeviceFault) ≡ true → Stepped stopped mid new (Err why) step → Goes nor old.geometry ask old.nor.now new.nor.now slots slots new.wrote (Refuses (as_fs_err why))
+  goes_broken why may taken = broken_by (as_fs_err why) (step_among ask why change may) (after (step_fails taken))
+
+  -- .. or there was too little room
+  pub goes_stopped : (why : FsErr) → may_answer ask (Refuses DeviceFault) ≡ true → may_answer ask (Refuses Tight) ≡ true → Stepped refusing mid new (Err why) step → Goes nor old.geometry ask old.nor.now new.nor.now slots slots new.wrote (Refuses why)
+  goes_stopped why may tight taken = broken_by why (stop_among ask why taken.means change may tight) (after taken)

@@ -1,0 +1,221 @@
+-- A write, one part after another.
+use Rattle.std.proofs.Common.{◌≡◌, ℕ, ◌+◌, ◌-◌, ◌%◌, ◌<◌, ◌≤◌, ◌^◌, ⊎_elim, inl, inr, List, ◌∷◌, ◌++◌, length, take, drop, replicate, true, refl, sym, ◌∙◌, ap, subst, arith}
+use Rattle.std.specs.Prelude.{Some, None, Result, Ok, Err, slice_range}
+use Rattle.std.specs.Option.{option_map}
+use Rattle.std.proofs.lemmas.Bool.{cases_lt, cases_eq}
+use Rattle.std.proofs.lemmas.List.{length-replicate, length-take-le, take-append-drop, append-nil, length-drop}
+use Rattle.nor_core.specs.declared.state.NorState.{Ghosts as NorOf}
+use Rattle.geometry.specs.declared.geometry.Geometry.{Geometry}
+use Rattle.geometry.specs.Numbers.{body}
+use Rattle.table_model.specs.declared.error.FsErr.{FsErr}
+use Rattle.table_model.specs.declared.error.FsErr.TheVariants.{DeviceFault, Damaged}
+use Rattle.table_model.specs.declared.reply.Stat.{Stat}
+use Rattle.table_model.specs.Table.{File, file_of, put_file}
+use Rattle.table_model.specs.Files.{written, stat_of}
+use Rattle.table_model.specs.Room.{has_room}
+use Rattle.table_model.specs.Steps.{file_steps, written_up_to}
+use Rattle.table_model.specs.Window.{IsAmong}
+use Rattle.image_model.specs.Tables.{table_of}
+use Rattle.image_model.specs.Tidy.{IsTidy, HasReserve}
+use Rattle.image_laws.proofs.Sounding.{sound-on}
+use Rattle.room_laws.proofs.Staying.{reserve_mends}
+use Rattle.call_model.specs.Parts.{IsPartEnd}
+use Rattle.call_model.proofs.Parts.{steps-among, whole-table, written_next, put_twice}
+use Rattle.call_model.proofs.Tables.{file_of-put, file_of-id}
+use Rattle.flash_view.specs.declared.view.View.{View}
+use Rattle.flash_view.specs.Steps.{Step, Stepped, Finishes}
+use Rattle.flash_view.proofs.Stepped.{stepped_then}
+use Rattle.file_calls.specs.Collecting.{MayStop, refusing}
+use Rattle.file_calls.specs.Recorded.{MayMiss, TellsRecord}
+use Rattle.file_calls.specs.Cuts.{JobCut}
+use Rattle.file_calls.specs.Writings.{CanWrite, CanWritePart, JobDone, WriteCut, writing_part}
+use Rattle.file_calls.proofs.Going.{is_first, tidy_sound}
+use Rattle.file_calls.proofs.Resizing.{put_again, written_size}
+use Rattle.file_calls.proofs.PartRoom.{less_room, few_bytes}
+
+-- ---- what is written so far
+
+-- Of a write the bytes before a place are written.
+pub record WrittenTo (g : Geometry) (at e : ℕ) (bytes : List ℕ) (f : File) (was now : List ℕ) : Type 0 where
+  pub tidy : IsTidy g now
+  pub reserve : HasReserve g now
+  pub table : table_of g now ≡ written_up_to at bytes f (table_of g was) e
+  pub among : IsAmong (table_of g now) (table_of g was ∷ file_steps g at bytes f (table_of g was))
+
+abbrev pub writing_to : (id at e : ℕ) → List ℕ → File → Step (Unit {0})
+writing_to id at e bytes f = record {
+  needs = λ g was. CanWrite g was id at bytes f;
+  cut = λ g was image. WriteCut g at bytes f was image;
+  done = λ g was now ok. WrittenTo g at e bytes f was now;
+}
+
+-- a step behind the first table
+step_among : (t u : List File) (us : List (List File)) → IsAmong t us → IsAmong t (u ∷ us)
+unfolding IsAmong
+step_among t u us among = inr among
+
+-- nothing is written at first
+written_none : (at : ℕ) (bytes : List ℕ) (f : File) → written at (take (at - at) bytes) f ≡ f
+written_none at bytes f =
+    let none : at - at ≡ 0 = omega arith in
+    let here : at + 0 ≡ at = omega arith in
+    rw (none, here) (ap (λ (l : List ℕ). record f { bytes = l }) (ap (λ (l : List ℕ). l ++ drop at f.bytes) (append-nil (take at f.bytes)) ∙ take-append-drop at f.bytes))
+
+module _ (g : Geometry) (a : List ℕ) (id at : ℕ) (bytes : List ℕ) (f : File) (can : CanWrite g a id at bytes f) where
+  pub write_stays : WriteCut g at bytes f a a
+  write_stays = record { sound = tidy_sound g a a can.tidy; table = is_first (table_of g a) (table_of g a) (file_steps g at bytes f (table_of g a)) refl; mends = λ reserve. reserve_mends g a reserve }
+
+  pub write_starts : WrittenTo g at at bytes f a a
+  write_starts = record {
+    tidy = can.tidy;
+    reserve = can.reserve;
+    table = sym (ap (λ (x : File). put_file x (table_of g a)) (written_none at bytes f) ∙ put_again g a id f can.tidy.undamaged can.there);
+    among = is_first (table_of g a) (table_of g a) (file_steps g at bytes f (table_of g a)) refl;
+  }
+
+  pub write_ends : (e : ℕ) → e ≡ at + length bytes → (now : List ℕ) → WrittenTo g at e bytes f a now → JobDone g (put_file (written at bytes f) (table_of g a)) now
+  write_ends e is now done = record { tidy = done.tidy; table = done.table ∙ ap (written_up_to at bytes f (table_of g a)) is ∙ whole-table at bytes f (table_of g a); reserve = done.reserve }
+
+  -- so few bytes that a number of 32 bits tells where they end
+  pub write_few : at + length bytes < 2 ^ 32
+  write_few = let few = few_bytes g (table_of g a) (written at bytes f) can.room in let long = written_size at bytes f can.from in omega (arith, few, long)
+
+-- the file with the bytes before a place
+abbrev so_far : (at e : ℕ) → List ℕ → File → File
+so_far at e bytes f = written at (take (e - at) bytes) f
+
+long_so_far : (at e : ℕ) (bytes : List ℕ) (f : File) → at ≤ length f.bytes → at ≤ e → e ≤ at + length bytes → length (so_far at e bytes f).bytes ≡ e + (length f.bytes - e)
+long_so_far at e bytes f from low high =
+    let long = written_size at (take (e - at) bytes) f from in
+    let part = length-take-le (e - at) bytes (omega (arith, low, high)) in
+    omega (arith, long, part, low)
+
+-- A part of a write: from one place to another, with these bytes.
+pub record IsPart (page size at len from to : ℕ) : Type 0 where
+  pub low : at ≤ from
+  pub some : from < to
+  pub within : to ≤ at + len
+  pub one_page : from % page + (to - from) ≤ page
+  pub old : from < size → to ≤ size
+  pub is_end : IsPartEnd page size at len to
+
+pub is_part : (page size at len from to end : ℕ) → at ≤ from → end ≡ at + len → from < to → to ≤ end → from % page + (to - from) ≤ page → (from < size → to ≤ size) → ((start count : ℕ) → start ≤ from → end ≡ start + count → IsPartEnd page size start count to) → IsPart page size at len from to
+is_part page size at len from to end low end_is some within one_page old is_end = record { low = low; some = some; within = omega (arith, end_is, within); one_page = one_page; old = old; is_end = is_end at len low end_is }
+
+module _ (g : Geometry) (a mid : List ℕ) (id at from to : ℕ) (bytes : List ℕ) (f : File) (can : CanWrite g a id at bytes f) (part : IsPart (body g) (length f.bytes) at (length bytes) from to) (done : WrittenTo g at from bytes f a mid) where
+  abbrev bytes_of : List ℕ
+  bytes_of = slice_range bytes (from - at) (to - at)
+
+  count : length bytes_of ≡ to - from
+  count = let low = part.low in let some = part.some in let within = part.within in
+      let rest = length-drop (from - at) bytes in
+      let all = length-take-le ((to - at) - (from - at)) (drop (from - at) bytes) (omega (arith, rest, low, some, within)) in omega (arith, all, low, some)
+
+  long_before : length (so_far at from bytes f).bytes ≡ from + (length f.bytes - from)
+  long_before = let some = part.some in let within = part.within in long_so_far at from bytes f can.from part.low (omega (arith, some, within))
+
+  -- the bytes after it
+  joined : written from bytes_of (so_far at from bytes f) ≡ so_far at to bytes f
+  joined =
+      let low = part.low in let some = part.some in
+      let same : (to - at) - (from - at) ≡ to - from = omega (arith, low, some) in
+      rw same (written_next at from to bytes f can.from part.low (omega (arith, some)) part.within)
+
+  after_is : put_file (written from bytes_of (so_far at from bytes f)) (table_of g mid) ≡ written_up_to at bytes f (table_of g a) to
+  after_is = ap (λ (t : List File). put_file (written from bytes_of (so_far at from bytes f)) t) done.table
+      ∙ put_twice (written from bytes_of (so_far at from bytes f)) (so_far at from bytes f) (table_of g a) refl
+      ∙ ap (λ (x : File). put_file x (table_of g a)) joined
+
+  room_after : has_room g (written_up_to at bytes f (table_of g a) to) ≡ true
+  room_after = less_room g a id f (written at bytes f) can.tidy.undamaged can.there refl can.room (so_far at to bytes f) refl
+      (let low = part.low in let some = part.some in let within = part.within in
+      let here = long_so_far at to bytes f can.from (omega (arith, low, some)) part.within in
+      let whole = written_size at bytes f can.from in
+      omega (arith, here, whole, within))
+
+  there_now : file_of id (table_of g mid) ≡ Some (so_far at from bytes f)
+  there_now =
+      let is : f.id ≡ id = file_of-id id (table_of g a) f can.there in
+      ap (λ (t : List File). file_of id t) done.table ∙ subst (λ (n : ℕ). file_of n (written_up_to at bytes f (table_of g a) from) ≡ Some (so_far at from bytes f)) is (file_of-put (so_far at from bytes f) (table_of g a))
+
+  can_part : CanWritePart g mid id from bytes_of (so_far at from bytes f)
+  can_part =
+      let n = count in
+      let long = long_before in
+      let old = part.old in
+      let page = part.one_page in
+      record {
+        can = record { tidy = done.tidy; reserve = done.reserve; there = there_now; some = let some = part.some in omega (arith, n, some); from = omega (arith, long); room = ap (has_room g) after_is ∙ room_after };
+        one_page = omega (arith, n, page);
+        inside = ⊎_elim
+            (λ (inner : from < length f.bytes). let within = old inner in let some = part.some in inl (omega (arith, n, long, within, some)))
+            (λ (end : length f.bytes ≤ from). inr (omega (arith, long, end)))
+            (cases_lt from (length f.bytes));
+      }
+
+  after_among : IsAmong (written_up_to at bytes f (table_of g a) to) (table_of g a ∷ file_steps g at bytes f (table_of g a))
+  after_among = step_among (written_up_to at bytes f (table_of g a) to) (table_of g a) (file_steps g at bytes f (table_of g a)) (steps-among g at bytes f (table_of g a) to part.is_end)
+
+  part_cut : (c : List ℕ) → JobCut g (put_file (written from bytes_of (so_far at from bytes f)) (table_of g mid)) mid c → WriteCut g at bytes f a c
+  part_cut c cut = record {
+    sound = sound-on g a mid c (tidy_sound g mid a done.tidy) cut.sound;
+    table = ⊎_elim
+        (λ (before : table_of g c ≡ table_of g mid). subst (λ (t : List File). IsAmong t (table_of g a ∷ file_steps g at bytes f (table_of g a))) (sym before) done.among)
+        (λ (new : table_of g c ≡ put_file (written from bytes_of (so_far at from bytes f)) (table_of g mid)). subst (λ (t : List File). IsAmong t (table_of g a ∷ file_steps g at bytes f (table_of g a))) (sym (new ∙ after_is)) after_among)
+        cut.table;
+    mends = λ reserve. cut.mends done.reserve;
+  }
+
+  pub part_goes : Finishes g a mid (writing_part id from bytes_of (so_far at from bytes f)) (writing_to id at to bytes f)
+  part_goes = record {
+    needs = can_part;
+    cut = part_cut;
+    done = λ c ok now. record {
+      tidy = now.tidy;
+      reserve = now.reserve;
+      table = now.table ∙ after_is;
+      among = subst (λ (t : List File). IsAmong t (table_of g a ∷ file_steps g at bytes f (table_of g a))) (sym (now.table ∙ after_is)) after_among;
+    };
+  }
+
+-- ---- over a device
+
+module _ {N : Type 0} {nor : NorOf N} {old mid new : View N nor} {r : Result (Unit {0}) FsErr} (id at from to size most : ℕ) (bytes : List ℕ) (f : File) where
+  -- a part that nothing allows, since no such write is allowed
+  no_turn : (nor.tells old.nor.now → CanWrite old.geometry (nor.bytes old.nor.now) id at bytes f → ⊥) → Stepped refusing old mid (Ok tt) (writing_to id at from bytes f) →
+      ((e : File) → most ≡ length e.bytes → Stepped refusing mid new r (writing_part id from (slice_range bytes (from - at) (to - at)) e)) → Stepped refusing old new r (writing_to id at to bytes f)
+  no_turn never first next =
+      let some : File = record f { bytes = replicate most 0 } in
+      stepped_then first (next some (sym (length-replicate {A = ℕ} most 0))) (λ tells can. record { needs = can; cut = λ c cut. cut }) (λ tells can done. absurd (never tells can))
+
+  -- a part more of a write
+  pub write_turn : IsPart (body mid.geometry) size at (length bytes) from to → most ≡ from + (size - from) → (nor.tells old.nor.now → CanWrite old.geometry (nor.bytes old.nor.now) id at bytes f → size ≡ length f.bytes) →
+      Stepped refusing old mid (Ok tt) (writing_to id at from bytes f) → ((e : File) → most ≡ length e.bytes → Stepped refusing mid new r (writing_part id from (slice_range bytes (from - at) (to - at)) e)) →
+      Stepped refusing old new r (writing_to id at to bytes f)
+  write_turn part most_is told first next = ⊎_elim
+      (λ (same : size ≡ length f.bytes). ⊎_elim
+      (λ (past : length f.bytes < at). no_turn (λ tells can. let inside = can.from in omega (arith, inside, past)) first next)
+      (λ (inside : at ≤ length f.bytes).
+      let here : IsPart (body old.geometry) (length f.bytes) at (length bytes) from to = rw (first.framed.same.geometry, same) at part in
+      let long = long_so_far at from bytes f inside part.low (let some = part.some in let within = part.within in omega (arith, some, within)) in
+      stepped_then first (next (so_far at from bytes f) (omega (arith, most_is, long, same))) (λ tells can. record { needs = can; cut = λ c cut. cut }) (λ tells can done. part_goes old.geometry (nor.bytes old.nor.now) (nor.bytes mid.nor.now) id at from to bytes f can here done))
+      (cases_lt (length f.bytes) at))
+      (λ (other : size ≡ length f.bytes → ⊥). no_turn (λ tells can. other (told tells can)) first next)
+      (cases_eq size (length f.bytes))
+
+-- ---- the file's record
+
+-- the size that is told is that of the file
+pub told_size : (id : ℕ) (files : List File) (stat : Stat) (f : File) → TellsRecord id files (Ok stat) → file_of id files ≡ Some f → stat.size ≡ length f.bytes
+told_size id files stat f told there = let is : Some stat ≡ Some (stat_of f) = told ∙ ap (option_map stat_of) there in let same : stat ≡ stat_of f = cc in ap (λ (s : Stat). s.size) same
+
+-- where it can't be told the device failed
+pub missed_stops : (why : FsErr) → MayMiss why → MayStop why
+missed_stops DeviceFault missed = tt
+missed_stops (Damaged d) missed = missed
+missed_stops _ missed = absurd missed
+
+pub missed_fault : (id : ℕ) (files : List File) (why : FsErr) (f : File) → MayMiss why → TellsRecord id files (Err why) → file_of id files ≡ Some f → why ≡ DeviceFault
+missed_fault id files DeviceFault f missed told there = refl
+missed_fault id files (Damaged d) f missed told there = absurd (let none : None ≡ Some f = sym (told (λ e. let no : Damaged d ≡ DeviceFault = e in cc)) ∙ there in cc)
+missed_fault id files _ f missed told there = absurd missed

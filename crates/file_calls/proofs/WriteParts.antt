@@ -1,0 +1,189 @@
+-- One part of a write: pages are had for it, the tail is made ready where bytes are added behind it, and the page step is taken.
+use Rattle.std.proofs.Common.{◌≡◌, ℕ, ◌+◌, ◌==◌, ◌<◌, ◌≤◌, ⊎_elim, inl, inr, List, length, true, refl, sym, ◌∙◌, ap, subst, arith, replicate}
+use Rattle.std.specs.Prelude.{Some, is_some, Result, Ok}
+use Rattle.std.proofs.lemmas.Bool.{cases_lt}
+use Rattle.std.proofs.lemmas.List.{length-replicate}
+use Rattle.nor_core.specs.declared.state.NorState.{Ghosts as NorOf}
+use Rattle.table_model.specs.declared.error.FsErr.{FsErr}
+use Rattle.geometry.specs.declared.geometry.Geometry.{Geometry}
+use Rattle.geometry.specs.Numbers.{usable}
+use Rattle.table_model.specs.Table.{File, file_of, has_id, put_file}
+use Rattle.table_model.specs.Files.{written}
+use Rattle.table_model.specs.Room.{data_pages}
+use Rattle.image_model.specs.Collect.{are_had}
+use Rattle.image_model.specs.Tables.{table_of}
+use Rattle.image_model.specs.Tidy.{IsTidy, HasReserve}
+use Rattle.image_laws.proofs.Sounding.{sound-on}
+use Rattle.renew_laws.specs.Tails.{IsTailReady}
+use Rattle.room_laws.specs.Stopping.{HasRoomFor}
+use Rattle.room_laws.proofs.Staying.{reserve_mends}
+use Rattle.header_laws.proofs.Listed.{any-found}
+use Rattle.page_renew.specs.PageSteps.{StepCut}
+use Rattle.block_gc.specs.RoomMade.{MadeRoom}
+use Rattle.file_write.specs.Appends.{index_needed, appending}
+use Rattle.file_write.specs.Overwrites.{overwriting}
+use Rattle.file_write.specs.Readyings.{readying}
+use Rattle.flash_view.specs.declared.view.View.{View}
+use Rattle.flash_view.specs.Steps.{Step, Errors, Stepped, stopped, Begins, Finishes}
+use Rattle.flash_view.proofs.Stepped.{ends_as, weaker}
+use Rattle.file_calls.specs.Collecting.{RoomCut, CanTakePages, refusing, taking_pages}
+use Rattle.file_calls.specs.Cuts.{JobCut}
+use Rattle.file_calls.specs.Writings.{CanWritePart, JobDone, CanHaveTail, HasTail, writing_part, having_tail}
+use Rattle.file_calls.proofs.Going.{tidy_sound}
+use Rattle.file_calls.proofs.Resizing.{written_size}
+use Rattle.file_calls.proofs.PartRoom.{room_beside, room_behind, few_pages}
+
+-- a page step that was done, as a call tells it
+pub step_does : {N T : Type 0} {nor : NorOf N} {old new : View N nor} {step : Step T} {x : T} → Stepped stopped old new (Ok x) step → Stepped refusing old new (Ok x) step
+step_does call = ends_as call (λ tells need. record { needs = need; cut = λ c cut. cut }) (λ tells need done. done)
+
+-- ---- cuts in the steps of a job
+
+-- in a collection before the others
+pub room_cut : (g : Geometry) (after : List File) (was image : List ℕ) → RoomCut g was image → JobCut g after was image
+room_cut g after was image cut = record { sound = cut.keeps.sound; table = inl cut.keeps.table; mends = cut.mends }
+
+-- in a page step, after others that left the table as it was
+pub step_cut : (g : Geometry) (after : List File) (was mid image : List ℕ) → IsTidy g mid → table_of g mid ≡ table_of g was → HasReserve g mid → StepCut g after mid image → JobCut g after was image
+step_cut g after was mid image tidy table reserve cut = record {
+  sound = sound-on g was mid image (tidy_sound g mid was tidy) cut.sound;
+  table = ⊎_elim (λ (before : table_of g image ≡ table_of g mid). inl (before ∙ table)) (λ (new : table_of g image ≡ after). inr new) cut.table;
+  mends = λ spare. reserve_mends g image (cut.reserve reserve);
+}
+
+-- in a step that leaves the table as it was
+pub still_cut : (g : Geometry) (after : List File) (was image : List ℕ) → JobCut g (table_of g was) was image → JobCut g after was image
+still_cut g after was image cut = record { sound = cut.sound; table = ⊎_elim (λ (before : table_of g image ≡ table_of g was). inl before) (λ (same : table_of g image ≡ table_of g was). inl same) cut.table; mends = cut.mends }
+
+-- and where it went on from another image
+pub later_cut : (g : Geometry) (after : List File) (was mid image : List ℕ) → IsTidy g mid → table_of g mid ≡ table_of g was → HasReserve g mid → JobCut g after mid image → JobCut g after was image
+later_cut g after was mid image tidy table reserve cut = record {
+  sound = sound-on g was mid image (tidy_sound g mid was tidy) cut.sound;
+  table = ⊎_elim (λ (before : table_of g image ≡ table_of g mid). inl (before ∙ table)) (λ (new : table_of g image ≡ after). inr new) cut.table;
+  mends = λ spare. cut.mends reserve;
+}
+
+-- ---- bytes inside a file
+
+module _ (g : Geometry) (a : List ℕ) (id at : ℕ) (bytes : List ℕ) (f : File) (can : CanWritePart g a id at bytes f) where
+  room_inside : HasRoomFor g a 1 1
+  room_inside = room_beside g a id f (written at bytes f) can.can.tidy.undamaged can.can.there refl can.can.room
+      (let long = written_size at bytes f can.can.from in let from = can.can.from in omega (arith, long, from))
+
+  two_pages : CanTakePages g 1 1 a
+  two_pages = record { tidy = can.can.tidy; reserve = can.can.reserve; room = room_inside }
+
+  pub overwrite_begins : Begins g a (taking_pages 1 1) (writing_part id at bytes f)
+  overwrite_begins = record { needs = two_pages; cut = λ c cut. room_cut g (put_file (written at bytes f) (table_of g a)) a c cut }
+
+  pub overwrite_ends : at + length bytes ≤ length f.bytes → (mid : List ℕ) → MadeRoom g 1 1 a mid → Finishes g a mid (overwriting id at bytes f) (writing_part id at bytes f)
+  overwrite_ends inside mid made = record {
+    needs = record { tidy = made.tidy; there = rw made.table can.can.there; some = can.can.some; one_page = can.one_page; inside = inside; had = made.ready.had };
+    cut = λ c cut. step_cut g (put_file (written at bytes f) (table_of g a)) a mid c made.tidy made.table made.ready.reserve (rw made.table at cut);
+    done = λ c ok done. record { tidy = done.tidy; table = rw made.table at done.table; reserve = done.reserve made.ready.reserve };
+  }
+
+-- ---- the tail is made ready
+
+module _ (g : Geometry) (a : List ℕ) (id : ℕ) (can : CanHaveTail g a id) where
+  pub tail_stays : JobCut g (table_of g a) a a
+  tail_stays = record { sound = tidy_sound g a a can.can.tidy; table = inl refl; mends = λ reserve. reserve_mends g a reserve }
+
+  pub tail_is_ready : IsTailReady g a id → HasTail g id a a
+  tail_is_ready ready = record { done = record { tidy = can.can.tidy; table = refl; reserve = can.can.reserve }; ready = ready }
+
+  pub tail_begins : Begins g a (taking_pages 1 1) (having_tail id)
+  tail_begins = record { needs = can.can; cut = λ c cut. room_cut g (table_of g a) a c cut }
+
+  pub tail_ends : (mid : List ℕ) → MadeRoom g 1 1 a mid → Finishes g a mid (readying id) (having_tail id)
+  tail_ends mid made = record {
+    needs = record { tidy = made.tidy; there = rw made.table can.there; had = made.ready.had };
+    cut = λ c cut. step_cut g (table_of g a) a mid c made.tidy made.table made.ready.reserve (rw made.table at cut);
+    done = λ c ok done. record { done = record { tidy = done.step.tidy; table = rw made.table at done.step.table; reserve = done.step.reserve made.ready.reserve }; ready = done.ready };
+  }
+
+-- ---- bytes behind the end of a file
+
+-- its tail is ready, and the pages of an append are had
+pub record Prepared (g : Geometry) (id size : ℕ) (was now : List ℕ) : Type 0 where
+  pub done : JobDone g (table_of g was) now
+  pub ready : IsTailReady g now id
+  pub had : are_had g now (index_needed g size) 1 ≡ true
+
+abbrev pub preparing : (id at : ℕ) → List ℕ → File → Step (Unit {0})
+preparing id at bytes f = record {
+  needs = λ g was. CanWritePart g was id at bytes f;
+  cut = λ g was image. JobCut g (put_file (written at bytes f) (table_of g was)) was image;
+  done = λ g was now ok. Prepared g id at was now;
+}
+
+has_by : (id : ℕ) (files : List File) (f : File) → file_of id files ≡ Some f → has_id id files ≡ true
+unfolding has_id file_of
+has_by id files f there = any-found (λ (x : File). x.id == id) files ∙ ap is_some there
+
+module _ (g : Geometry) (a : List ℕ) (id at : ℕ) (bytes : List ℕ) (f : File) (can : CanWritePart g a id at bytes f) where
+  pub append_begins : Begins g a (having_tail id) (preparing id at bytes f)
+  append_begins = record {
+    needs = record { can = two_pages g a id at bytes f can; there = has_by id (table_of g a) f can.can.there };
+    cut = λ c cut. still_cut g (put_file (written at bytes f) (table_of g a)) a c cut;
+  }
+
+  behind : at ≡ length f.bytes → length (written at bytes f).bytes ≡ length f.bytes + length bytes
+  behind end = let long = written_size at bytes f can.can.from in omega (arith, long, end)
+
+  room_for : at ≡ length f.bytes → HasRoomFor g a (index_needed g at) 1
+  room_for end = rw end (room_behind g a id f (written at bytes f) can.can.tidy.undamaged can.can.there refl can.can.room (let long = behind end in let some = can.can.some in omega (arith, long, some)))
+
+  pub append_goes : at ≡ length f.bytes → (mid : List ℕ) → HasTail g id a mid → Finishes g a mid (taking_pages (index_needed g at) 1) (preparing id at bytes f)
+  append_goes end mid tail = record {
+    needs = record { tidy = tail.done.tidy; reserve = tail.done.reserve; room = rw tail.done.table (room_for end) };
+    cut = λ c cut. later_cut g (put_file (written at bytes f) (table_of g a)) a mid c tail.done.tidy tail.done.table tail.done.reserve (room_cut g (put_file (written at bytes f) (table_of g a)) mid c cut);
+    done = λ c ok made. record {
+      done = record { tidy = made.tidy; table = made.table ∙ tail.done.table; reserve = made.ready.reserve };
+      ready = made.tails id tail.ready;
+      had = made.ready.had;
+    };
+  }
+
+  few_after : at ≡ length f.bytes → data_pages g (length f.bytes + length bytes) ≤ usable g
+  few_after end = subst (λ (n : ℕ). data_pages g n ≤ usable g) (behind end) (few_pages g (table_of g a) (written at bytes f) can.can.room)
+
+  pub append_ends : at ≡ length f.bytes → (mid : List ℕ) → Prepared g id at a mid → Finishes g a mid (appending id bytes f) (writing_part id at bytes f)
+  append_ends end mid made = record {
+    needs = record {
+      tidy = made.done.tidy;
+      there = rw made.done.table can.can.there;
+      ready = made.ready;
+      some = can.can.some;
+      one_page = rw end at can.one_page;
+      few = few_after end;
+      had = rw end at made.had;
+    };
+    cut = λ c cut. step_cut g (put_file (written at bytes f) (table_of g a)) a mid c made.done.tidy made.done.table made.done.reserve (rw (made.done.table, sym end) at cut);
+    done = λ c ok done. record { tidy = done.tidy; table = done.table ∙ rw (made.done.table, sym end) refl; reserve = done.reserve made.done.reserve };
+  }
+
+-- ---- a part of a write
+
+-- a step that nothing allows begins no other
+pub no_step : {N : Type 0} {nor : NorOf N} {E : Type 0} {errors : Errors E} {old new : View N nor} {r : Result (Unit {0}) E} {last whole : Step (Unit {0})} → Stepped errors old new r last →
+    (nor.tells old.nor.now → whole.needs old.geometry (nor.bytes old.nor.now) → ⊥) → Stepped errors old new r whole
+no_step call never = weaker call (λ tells need. absurd (never tells need))
+
+-- bytes that begin inside a file end there where they are one part of a write
+pub part_inside : {N : Type 0} {nor : NorOf N} {old new : View N nor} {r : Result (Unit {0}) FsErr} (id at : ℕ) (bytes : List ℕ) (f : File) → at < length f.bytes →
+    ((e : File) → at + length bytes ≤ length e.bytes → Stepped refusing old new r (writing_part id at bytes e)) → Stepped refusing old new r (writing_part id at bytes f)
+part_inside id at bytes f low call = ⊎_elim
+    (λ (past : length f.bytes < at + length bytes).
+    let some : File = record f { bytes = replicate (at + length bytes) 0 } in
+    no_step (call some (let e = length-replicate {A = ℕ} (at + length bytes) 0 in omega (arith, e))) (λ tells can. ⊎_elim (λ (inside : at + length bytes ≤ length f.bytes). omega (arith, inside, past)) (λ (end : at ≡ length f.bytes). omega (arith, end, low)) can.inside))
+    (λ (inside : at + length bytes ≤ length f.bytes). call f inside)
+    (cases_lt (length f.bytes) (at + length bytes))
+
+-- and others begin at its end
+pub part_behind : {N : Type 0} {nor : NorOf N} {old new : View N nor} {r : Result (Unit {0}) FsErr} (id at size : ℕ) (bytes : List ℕ) (f : File) → size ≤ at → size ≡ length f.bytes →
+    Stepped refusing old new r (writing_part id size bytes f) → Stepped refusing old new r (writing_part id at bytes f)
+part_behind {nor = nor} {old = old} {new = new} {r = r} id at size bytes f high is call = ⊎_elim
+    (λ (past : size < at). no_step call (λ tells can. let from = can.can.from in omega (arith, from, past, is)))
+    (λ (within : at ≤ size). let same : size ≡ at = omega (arith, high, within) in subst (λ (n : ℕ). Stepped {nor = nor} refusing old new r (writing_part id n bytes f)) same call)
+    (cases_lt size at)

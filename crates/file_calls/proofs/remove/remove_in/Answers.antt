@@ -1,0 +1,35 @@
+use Rattle.std.proofs.Common.{[], ◌≡◌, true, false, refl, ◌∙◌}
+use Rattle.std.proofs.lemmas.Result.{err_from_is_err_and}
+use Rattle.nor_core.proofs.Cuts.{reads_none}
+use Rattle.table_model.specs.Reply.{Fine}
+use Rattle.table_model.specs.Ask.{Removes}
+use Rattle.file_calls.proofs.Going.{goes_named, goes_refused, goes_done, goes_broken}
+use Rattle.file_calls.proofs.Removing.{remove_refuses, remove_step}
+use Rattle.file_calls.proofs.remove.remove_in.Goals as goal
+
+pub returns-in_err-accept-clause-goes : goal.returns-in_err-accept-clause-goes
+returns-in_err-accept-clause-goes g c =
+    let p = err_from_is_err_and c.from_residual.result c.from_residual.ensures.1 in
+    let bad = c.in_err-accept.ensures in
+    rw (p.1, p.2) (λ into. goes_named (Removes c.args.name.now) _ c.args.v.now.wrote c.requires.fresh (reads_none c.args.v.now.nor.now) refl refl bad.among bad.refused)
+
+pub returns-in_err-id-clause-goes : goal.returns-in_err-id-clause-goes
+returns-in_err-id-clause-goes g c =
+    let p = err_from_is_err_and c.from_residual-in_err-id.result c.from_residual-in_err-id.ensures.1 in
+    let failed = c.in_err-id.ensures in
+    let name = c.args.name.now in
+    let fine = c.in_ok-accept.ensures.fine in
+    rw (p.1, p.2) (λ into. goes_refused (Removes name) c.in_err-id.field-0.0 c.find_named.new.v.wrote (failed.looks.wrote ∙ c.requires.fresh) failed.looks.reads refl fine (failed.among []).0 failed.cause
+    (λ s here no_fault. remove_refuses name fine s here (failed.told here.tells here.tidy no_fault)))
+
+pub returns-in-Ok-clause-goes : goal.returns-in-Ok-clause-goes
+returns-in-Ok-clause-goes g c =
+    let looked = c.in_ok-id.ensures in
+    let fine = c.in_ok-accept.ensures.fine in
+    λ into. goes_done (Removes c.args.name.now) Fine refl refl fine (remove_step c.args.name.now fine c.in_ok-id.id looked.told) looked.looks c.requires.fresh c.close_file.new.slots c.close_file.ensures refl refl (λ bytes e. absurd (cc)) (λ k. absurd (let no : false ≡ true = k in cc)) c.in-Ok.ensures
+
+pub returns-in-Err-clause-goes : goal.returns-in-Err-clause-goes
+returns-in-Err-clause-goes g c =
+    let looked = c.in_ok-id.ensures in
+    let fine = c.in_ok-accept.ensures.fine in
+    rw c.failed_as.ensures (λ into. goes_broken (Removes c.args.name.now) Fine refl refl fine (remove_step c.args.name.now fine c.in_ok-id.id looked.told) looked.looks c.requires.fresh c.in-Err.why refl c.in-Err.ensures)

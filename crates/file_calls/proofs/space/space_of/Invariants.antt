@@ -1,0 +1,19 @@
+-- The blocks so far, and those to come.
+use Rattle.std.proofs.Common.{◌≡◌, ◌*◌}
+use Rattle.image_model.specs.Volume.{entries}
+use Rattle.image_model.specs.Tidy.{IsTidy}
+use Rattle.flash_view.specs.Same.{OnlyLooks}
+use Rattle.file_calls.specs.Spaces.{IsWithin}
+use Rattle.file_calls.proofs.Spaces.{Adding}
+use Rattle.file_calls.proofs.space.space_of.Given as goal
+
+abbrev pub invariant-loop-block : goal.invariant-loop-block
+invariant-loop-block g l = record {
+  looks : OnlyLooks l.fn.v l.v;
+  entries_is : l.entries ≡ entries l.fn.v.geometry;
+  end : l.block-end ≡ l.fn.v.geometry.blocks;
+  few : IsWithin (65535 * l.block) l.space;
+  told :
+      (let image = g.N.NorState.bytes l.fn.v.nor.now in
+      g.N.NorState.tells l.fn.v.nor.now → IsTidy l.fn.v.geometry image → Adding l.fn.v.geometry image l.block l.block-end l.space);
+}

@@ -1,0 +1,110 @@
+-- What a call does to a device that holds a checked volume.
+use Rattle.std.specs.Prelude.{◌≡◌, ◌≢◌, ◌≤◌, ◌⊎◌, ℕ, List, ◌∷◌, length, Bool, true, false, Some}
+use Rattle.geometry.specs.declared.geometry.Geometry.{Geometry}
+use Rattle.nor_core.specs.declared.state.NorState.{Ghosts as NorOf}
+use Rattle.nor_core.specs.Count.{Rose}
+use Rattle.nor_core.specs.Device.{Changes, OnlyReads}
+use Rattle.table_model.specs.declared.error.FsErr.{FsErr}
+use Rattle.table_model.specs.declared.error.FsErr.TheVariants.{DeviceFault, Damaged, Tight}
+use Rattle.table_model.specs.declared.error.Differ.{Differ}
+use Rattle.table_model.specs.Table.{State}
+use Rattle.table_model.specs.Reply.{Answer, Fine, Gives, Refuses}
+use Rattle.table_model.specs.Ask.{Ask, Opens, Reads, Truncates, Collects}
+use Rattle.table_model.specs.Descriptors.{empties}
+use Rattle.table_model.specs.Room.{has_room}
+use Rattle.table_model.specs.Flat.{answer}
+use Rattle.table_model.specs.Steps.{is_refusal, steps}
+use Rattle.table_model.specs.Window.{IsAmong}
+use Rattle.image_model.specs.Tables.{table_of}
+use Rattle.image_model.specs.Tidy.{HasReserve, has_spare}
+use Rattle.image_model.specs.Sound.{IsSound}
+use Rattle.room_laws.specs.Recovery.{Recovers}
+use Rattle.block_gc.specs.RoomMade.{IsCompact}
+use Rattle.fd_table.specs.declared.slot.FdSlot.{FdSlot}
+use Rattle.file_calls.specs.Replies.{is_of_name, names_fault, may_answer, is_change, keeps_slots}
+use Rattle.file_calls.specs.States.{IsImageOf}
+use Rattle.file_calls.specs.Collecting.{IsStuckAt}
+
+-- What a cut in a call may leave of a volume at a state, on which nothing waits: an image that is sound with respect to the one before,
+-- with the table of the state or of a step of the call. Where two blocks were free it recovers: an uncut check gives two.
+pub record CallCut (g : Geometry) (s : State) (ask : Ask) (was image : List ℕ) : Type 0 where
+  pub sound : IsSound g image was
+  pub mends : HasReserve g was → Recovers g image
+  pub table : IsAmong (table_of g image) (s.table ∷ steps g (has_spare g was) s ask)
+
+-- A call is answered as the flat table is, and device and descriptors are those of the state after it; where two blocks were free two
+-- are, and refused it has only read.
+pub record Reaches {D : Type 0} (nor : NorOf D) (g : Geometry) (old new : D) (after : List FdSlot) (s : State) (ask : Ask) (reply : Answer) : Type 0 where
+  pub reply_is : reply ≡ (answer g (has_spare g (nor.bytes old)) s ask).answer
+  pub holds : IsImageOf nor g new after (answer g (has_spare g (nor.bytes old)) s ask).next
+  pub reserve : HasReserve g (nor.bytes old) → HasReserve g (nor.bytes new)
+  pub reads : is_refusal reply ≡ true → OnlyReads nor old new
+
+-- the flat table doesn't refuse a call
+pub record IsDoable (g : Geometry) (image : List ℕ) (s : State) (ask : Ask) : Type 0 where
+  pub done : is_refusal (answer g (has_spare g image) s ask).answer ≡ false
+
+-- calls that take bytes of a file away
+abbrev pub cuts_file : Ask → Bool
+cuts_file (Opens name flags) = empties flags
+cuts_file (Truncates fd size) = true
+cuts_file _ = false
+
+-- A file is to be cut on a volume with two free blocks, but the table has no room as it is: then there may be no index page for the new
+-- header page.
+pub record IsCorner (g : Geometry) (image : List ℕ) (s : State) (ask : Ask) : Type 0 where
+  pub cuts : cuts_file ask ≡ true
+  pub reserve : HasReserve g image
+  pub full : has_room g s.table ≡ false
+
+-- Garbage collection was stopped for want of room, in a call for it or in such a cut: the one answer that the flat table doesn't tell.
+pub record StopsShort (g : Geometry) (image : List ℕ) (s : State) (ask : Ask) (reply : Answer) : Type 0 where
+  pub why : (ask ≡ Collects) ⊎ IsCorner g image s ask
+  pub tight : reply ≡ Refuses Tight
+
+-- Device and descriptors are those of a state, and two blocks are free.
+pub record StaysAt {D : Type 0} (nor : NorOf D) (g : Geometry) (new : D) (after : List FdSlot) (s : State) : Type 0 where
+  pub holds : IsImageOf nor g new after s
+  pub reserve : HasReserve g (nor.bytes new)
+
+-- Where garbage collection stops: done, the image is packed; Tight, it is stuck.
+pub record IsCollected (g : Geometry) (reply : Answer) (was now : List ℕ) : Type 0 where
+  pub packed : reply ≡ Fine → IsCompact g was now
+  pub stuck : reply ≡ Refuses Tight → IsStuckAt g was now
+
+-- a call is refused for its names exactly where these are none, and then before all else
+pub record IsNamed (ask : Ask) (reply : Answer) (wrote : Bool) : Type 0 where
+  pub refused : (why : FsErr) → names_fault ask ≡ Some why → (reply ≡ Refuses why) × (wrote ≡ false)
+  pub only : (why : FsErr) → is_of_name why ≡ true → reply ≡ Refuses why → names_fault ask ≡ Some why
+
+-- bytes that are given to a read, no more than it asks for
+pub record IsGiven (ask : Ask) (bytes : List ℕ) : Type 0 where
+  pub fd : ℕ
+  pub count : ℕ
+  pub reads : ask ≡ Reads fd count
+  pub few : length bytes ≤ count
+
+-- What a call does to a device and to the descriptors, apart from what it answers where it is whole. `wrote` says whether a program or an
+-- erase was asked for.
+pub record Does {D : Type 0} (nor : NorOf D) (g : Geometry) (ask : Ask) (old new : D) (slots after : List FdSlot) (wrote : Bool) (reply : Answer) : Type 0 where
+  pub cuts : Changes nor old new (λ was image. (s : State) → IsImageOf nor g old slots s → CallCut g s ask was image)
+  pub collects : (s : State) → IsImageOf nor g old slots s → ask ≡ Collects → IsCollected g reply (nor.bytes old) (nor.bytes new)
+  -- Tight for want of a page for a cut, the call has changed nothing but where pages stand
+  pub cornered : (s : State) → IsImageOf nor g old slots s → IsCorner g (nor.bytes old) s ask → reply ≡ Refuses Tight → StaysAt nor g new after s
+  pub begun : (s : State) → IsImageOf nor g old slots s → wrote ≡ true → IsDoable g (nor.bytes old) s ask
+  pub untouched : wrote ≡ false → OnlyReads nor old new
+  -- refused, or where the device failed, and in a call that only looks at them, the descriptors stay
+  pub still : is_refusal reply ≡ true → after ≡ slots
+  pub keeps : keeps_slots ask ≡ true → after ≡ slots
+  pub cause : reply ≡ Refuses DeviceFault → Rose (nor.faults old) (nor.faults new)
+  pub differs : (d : Differ) → reply ≡ Refuses (Damaged d) → d.wanted ≢ d.found
+  pub undamaged : (s : State) → IsImageOf nor g old slots s → (d : Differ) → reply ≡ Refuses (Damaged d) → ⊥
+  pub among : may_answer ask reply ≡ true
+  pub brief : (bytes : List ℕ) → reply ≡ Gives bytes → IsGiven ask bytes
+  pub named : IsNamed ask reply wrote
+  pub looks : is_change ask ≡ false → wrote ≡ false
+
+-- What a call does that leaves no written bytes waiting: it is answered as the flat table is, where garbage collection isn't stuck.
+pub record Goes {D : Type 0} (nor : NorOf D) (g : Geometry) (ask : Ask) (old new : D) (slots after : List FdSlot) (wrote : Bool) (reply : Answer) : Type 0 where
+  pub does : Does nor g ask old new slots after wrote reply
+  pub answers : (s : State) → IsImageOf nor g old slots s → ¬ (reply ≡ Refuses DeviceFault) → ¬ StopsShort g (nor.bytes old) s ask reply → Reaches nor g old new after s ask reply

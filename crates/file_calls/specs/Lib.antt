@@ -1,0 +1,15 @@
+pub mod Pages
+pub mod Refusals
+pub mod Replies
+pub mod Moves
+pub mod States
+pub mod Collecting
+pub mod Goes
+pub mod Records
+pub mod Removes
+pub mod Opens
+pub mod Recorded
+pub mod Cuts
+pub mod Writings
+pub mod Spaces
+pub mod Restatings

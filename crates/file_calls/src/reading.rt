@@ -1,0 +1,132 @@
+ghost use Rattle.std.specs.Prelude.{ℤ, pos, ◌+ℤ◌, ◌≡◌, ◌≢◌, ◌≤◌, ℕ, List, length, OnOk, IsErrOf, IfOk, IfErr, true, false};
+ghost use Rattle.nor_core.specs.Count.{Rose};
+ghost use Rattle.flash_view.specs.Same.{IsSameView, OnlyLooks};
+ghost use Rattle.table_model.specs.Ask.{Reads, Seeks, StatsOpen};
+ghost use Rattle.table_model.specs.Files.{place_within};
+ghost use Rattle.image_model.specs.Tables.{table_of};
+ghost use Rattle.image_model.specs.Tidy.{IsTidy};
+ghost use Rattle.file_calls.specs.Replies.{reply_of, base_at};
+ghost use Rattle.file_calls.specs.Recorded.{TellsRecord, MayMiss};
+ghost use Rattle.file_calls.specs.Goes.{Goes};
+
+use crate::Told;
+use crate::records::stat_of_id;
+use crate::slots::opened;
+use crate::steps::failed_as;
+use fd_table::{FdSlot, put};
+use file_read::{no_header, read_at};
+use flash_view::View;
+use nor_core::{Failed, Nor, NorState};
+use table_model::{FsErr, Stat, Whence};
+
+/// The descriptor may read.
+const RDONLY: u8 = 8;
+
+/// The record of the file of an open descriptor, which is there.
+pub fn record_of<N: Nor>(v: &mut View<'_, N>, id: u16) -> Result<Stat, FsErr>
+    ensures cause { IsErrOf result FsErr.DeviceFault → Rose (N.faults v.old.nor.now) (N.faults v.new.nor.now) }
+    ensures looks { OnlyLooks v.old v.new }
+    ensures missed { IfErr result MayMiss }
+    ensures told { N.tells v.old.nor.now → IsTidy v.old.geometry (N.bytes v.old.nor.now) → TellsRecord id (table_of v.old.geometry (N.bytes v.old.nor.now)) result }
+{
+    match stat_of_id(v, id) {
+        Err(Failed) => Err(FsErr::DeviceFault),
+        Ok(Some(stat)) => Ok(stat),
+        Ok(None) => Err(FsErr::Damaged(no_header(id))),
+    }
+}
+
+/// Tells the record of the file of a descriptor.
+#[tactic(auto, using(flash_view::proofs::Looking::same_none))]
+pub(crate) fn tell_open<N: Nor>(
+    v: &mut View<'_, N>,
+    slots: &[FdSlot],
+    fd: u16,
+) -> Result<Told, FsErr>
+    requires fresh { v.old.wrote ≡ false }
+    ensures same { IsSameView v.old v.new }
+    ensures goes { (into : List ℕ) → Goes N.NorState v.old.geometry (StatsOpen fd) v.old.nor.now v.new.nor.now slots.now slots.now v.new.wrote (reply_of result into) }
+{
+    let slot = opened(slots, fd)?;
+    let stat = record_of(v, slot.id)?;
+    Ok(Told::File(stat))
+}
+
+// The place so far from another, where it is from 0 to a size.
+fn within(size: u32, base: u32, offset: i64) -> Option<u32>
+    ensures { result ≡ place_within size (pos base +ℤ offset) }
+{
+    let to = i128::from(base) + i128::from(offset);
+    if to < 0 || to > i128::from(size) {
+        None
+    } else {
+        Some(to as u32)
+    }
+}
+
+// From where a seek counts.
+fn base_of(from: Whence, offset: u32, size: u32) -> u32
+    ensures { result ≡ base_at from offset size }
+{
+    match from {
+        Whence::Set => 0,
+        Whence::Cur => offset,
+        Whence::End => size,
+    }
+}
+
+/// Moves the offset of a descriptor.
+#[tactic(auto, using(flash_view::proofs::Looking::same_none))]
+pub(crate) fn seek_in<N: Nor>(
+    v: &mut View<'_, N>,
+    slots: &mut [FdSlot],
+    fd: u16,
+    offset: i64,
+    from: Whence,
+) -> Result<Told, FsErr>
+    requires fresh { v.old.wrote ≡ false }
+    ensures same { IsSameView v.old v.new }
+    ensures goes { (into : List ℕ) → Goes N.NorState v.old.geometry (Seeks fd offset from) v.old.nor.now v.new.nor.now slots.old slots.new v.new.wrote (reply_of result into) }
+{
+    let slot = opened(slots, fd)?;
+    let size = record_of(v, slot.id)?.size;
+    let Some(at) = within(size, base_of(from, slot.offset, size), offset) else {
+        return Err(FsErr::SeekBounds);
+    };
+    put(slots, fd, FdSlot { offset: at, ..slot });
+    Ok(Told::Number(at))
+}
+
+/// Reads from the offset of a descriptor, as many bytes as there are and as are asked for.
+#[tactic(auto, using(flash_view::proofs::Looking::same_none))]
+pub(crate) fn read_in<N: Nor>(
+    v: &mut View<'_, N>,
+    slots: &mut [FdSlot],
+    fd: u16,
+    count: u32,
+    into: &mut [u8],
+) -> Result<Told, FsErr>
+    requires fresh { v.old.wrote ≡ false }
+    requires room { count ≤ length into.old }
+    ensures same { IsSameView v.old v.new }
+    ensures goes { Goes N.NorState v.old.geometry (Reads fd count) v.old.nor.now v.new.nor.now slots.old slots.new v.new.wrote (reply_of result into.new) }
+{
+    let slot = opened(slots, fd)?;
+    if slot.flags & RDONLY == 0 {
+        return Err(FsErr::NotReadable);
+    }
+    match read_at(v, slot.id, slot.offset, &mut into[..count as usize]) {
+        Ok(read) => {
+            put(
+                slots,
+                fd,
+                FdSlot {
+                    offset: slot.offset + read,
+                    ..slot
+                },
+            );
+            Ok(Told::Bytes(read))
+        }
+        Err(why) => Err(failed_as(why)),
+    }
+}

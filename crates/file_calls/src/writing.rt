@@ -1,0 +1,136 @@
+// Bytes written into a file: one page step for each part, and room made before each.
+ghost use Rattle.std.specs.Prelude.{◌≡◌, ◌≢◌, ◌+◌, ◌-◌, ◌%◌, ◌<◌, ◌≤◌, ◌^◌, ℕ, List, length, None, IfSome};
+ghost use Rattle.table_model.specs.Table.{File};
+ghost use Rattle.geometry.specs.Numbers.{body};
+ghost use Rattle.call_model.specs.Parts.{IsPartEnd};
+ghost use Rattle.flash_view.specs.Steps.{Stepped};
+ghost use Rattle.file_calls.specs.Collecting.{refusing};
+ghost use Rattle.file_write.specs.Appends.{index_needed as the_index_needed};
+ghost use Rattle.file_calls.specs.Writings.{writing_part, writing, having_tail};
+
+use crate::collecting::take_pages;
+use crate::reading::record_of;
+use crate::steps::failed_as;
+use file_read::no_header;
+use file_write::{append_step, is_tail_ready, overwrite_step, ready_tail};
+use flash_view::View;
+use geometry::Geometry;
+use nor_core::{Failed, Nor, NorState};
+use table_model::FsErr;
+
+// Overwrites bytes of a file inside one data page, once pages are had.
+fn overwrite_part<N: Nor>(v: &mut View<'_, N>, id: u16, at: u32, bytes: &[u8]) -> Result<(), FsErr>
+    ensures { (f : File) → at + length bytes.now ≤ length f.bytes → Stepped refusing v.old v.new result (writing_part id at bytes.now f) }
+{
+    take_pages(v, 1, 1)?;
+    match overwrite_step(v, id, at, bytes) {
+        Ok(()) => Ok(()),
+        Err(why) => Err(failed_as(why)),
+    }
+}
+
+// How many index pages an append to a file of that size in bytes needs: two where it makes the first data page of a further index page.
+fn index_needed(g: &Geometry, size: u32) -> u32
+    ensures { result ≡ the_index_needed g.now size }
+{
+    let span = size / g.body();
+    if size % g.body() == 0
+        && span >= g.head_slots()
+        && (span - g.head_slots()) % g.span_slots() == 0
+    {
+        2
+    } else {
+        1
+    }
+}
+
+// Makes the tail of a file ready for an append, where it isn't known to be.
+fn have_tail<N: Nor>(v: &mut View<'_, N>, id: u16) -> Result<(), FsErr>
+    ensures { Stepped refusing v.old v.new result (having_tail id) }
+{
+    match is_tail_ready(v, id) {
+        Err(Failed) => return Err(FsErr::DeviceFault),
+        Ok(true) => return Ok(()),
+        Ok(false) => {}
+    }
+    take_pages(v, 1, 1)?;
+    match ready_tail(v, id) {
+        Ok(()) => Ok(()),
+        Err(why) => Err(failed_as(why)),
+    }
+}
+
+// Adds bytes at the end of a file of that size in bytes, inside one data page, once its tail is ready and pages are had.
+fn append_part<N: Nor>(v: &mut View<'_, N>, id: u16, size: u32, bytes: &[u8]) -> Result<(), FsErr>
+    ensures { (f : File) → size ≡ length f.bytes → Stepped refusing v.old v.new result (writing_part id size bytes.now f) }
+{
+    let g = v.geometry;
+    have_tail(v, id)?;
+    take_pages(v, index_needed(&g, size), 1)?;
+    match append_step(v, id, bytes) {
+        Ok(()) => Ok(()),
+        Err(why) => Err(failed_as(why)),
+    }
+}
+
+// Writes one part of a write: inside a file of that size in bytes, or at its end.
+fn write_part<N: Nor>(
+    v: &mut View<'_, N>,
+    id: u16,
+    size: u32,
+    at: u32,
+    bytes: &[u8],
+) -> Result<(), FsErr>
+    ensures { (f : File) → size ≡ length f.bytes → Stepped refusing v.old v.new result (writing_part id at bytes.now f) }
+{
+    if at < size {
+        overwrite_part(v, id, at, bytes)
+    } else {
+        append_part(v, id, size, bytes)
+    }
+}
+
+// Where a part of a write ends that begins at the place `from`: at the end of a data page, at the file's old end, or at the write's own.
+fn part_end(g: &Geometry, size: u32, from: u32, end: u32) -> u32
+    requires from { from < end }
+    ensures behind { from < result }
+    ensures within { result ≤ end }
+    ensures page { from % body g.now + (result - from) ≤ body g.now }
+    ensures old { from < size → result ≤ size }
+    ensures is { (at len : ℕ) → at ≤ from → end ≡ at + len → IsPartEnd (body g.now) size at len result }
+{
+    let body = g.body();
+    let left = body - from % body;
+    let mut to = if end - from > left { from + left } else { end };
+    if from < size && size < to {
+        to = size;
+    }
+    to
+}
+
+// Where so many bytes end that begin at a place, in bytes of a file, where a size can tell it.
+fn end_of(at: u32, len: usize) -> Option<u32>
+    ensures some { IfSome result (λ end. end ≡ at + len) }
+    ensures all { at + len < 2 ^ 32 → result ≢ None }
+{
+    at.checked_add(u32::try_from(len).ok()?)
+}
+
+/// Writes bytes into a file from a place inside it or at its end, in one page step for each part: where the data pages end, at the old end
+/// of the file, and at the end of the write. Where they can be written, a fault of the device is the one error.
+pub fn write_all<N: Nor>(v: &mut View<'_, N>, id: u16, at: u32, bytes: &[u8]) -> Result<(), FsErr>
+    ensures { (f : File) → Stepped refusing v.old v.new result (writing id at bytes.now f) }
+{
+    let size = record_of(v, id)?.size;
+    let Some(end) = end_of(at, bytes.len()) else {
+        return Err(FsErr::Damaged(no_header(id)));
+    };
+    let mut from = at;
+    while from < end {
+        let to = part_end(&v.geometry, size, from, end);
+        let part = &bytes[(from - at) as usize..(to - at) as usize];
+        write_part(v, id, size.max(from), from, part)?;
+        from = to;
+    }
+    Ok(())
+}
