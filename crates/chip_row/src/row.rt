@@ -158,6 +158,13 @@ impl<C: Chip> ChipRow<C> {
         Ok(())
     }
 
+    /// The chips, the first of them first.
+    pub fn chips(&self) -> &[C]
+        ensures { result.now ≡ self.now.chips.items }
+    {
+        &self.chips
+    }
+
     /// The number of the chip whose call last failed, counted from 0; none where no chip's call has failed since the row
     /// was made.
     pub fn fuse_chip(&self) -> Option<usize>

@@ -2,24 +2,26 @@ ghost use Rattle.std.specs.Prelude.{[], ◌+◌};
 
 use crate::trouble::note;
 use crate::{FileChip, Trouble};
+use chip_row::{Chip, ChipRow};
 use nor_core::{Board, Failed, Mark, Nor, NorState};
 use std::io::Write;
 
-/// A chip of the host and a writer to which is said what is said. It tells nothing.
+/// A row of chips, and a writer to which is said what is said. It tells nothing. The program's row is of `FileChip`s and
+/// not of boxes, so that the board can still tell why a file failed.
 #[derive(Drop)]
-pub struct StdBoard<W: Write + Drop> {
-    chip: FileChip,
+pub struct StdBoard<W: Write + Drop, C: Chip = Box<dyn Chip>> {
+    row: ChipRow<C>,
     out: W,
     says: u64,
     faults: u64,
     trouble: Option<Trouble>,
 }
 
-impl<W: Write + Drop> StdBoard<W> {
-    /// The board over a chip. What is said goes to `out`, which is flushed at each call.
-    pub fn new(chip: FileChip, out: W) -> StdBoard<W> {
+impl<W: Write + Drop, C: Chip> StdBoard<W, C> {
+    /// The board over a row. What is said goes to `out`, which is flushed at each call.
+    pub fn new(row: ChipRow<C>, out: W) -> StdBoard<W, C> {
         StdBoard {
-            chip,
+            row,
             out,
             says: 0,
             faults: 0,
@@ -27,59 +29,72 @@ impl<W: Write + Drop> StdBoard<W> {
         }
     }
 
-    /// What failed first, of the chip or else of what was said, if anything did.
-    pub fn trouble(&self) -> Option<&Trouble> {
-        self.chip.trouble().or(self.trouble.as_ref())
+    /// The number of the chip that failed, counted from 0; none where none did, or only after something could not be said.
+    pub fn failed_chip(&self) -> Option<usize> {
+        match self.trouble {
+            Some(_) => None,
+            None => self.row.fuse_chip(),
+        }
     }
 
-    /// The chip and the writer.
-    pub fn give_back(self) -> (FileChip, W) {
+    /// The row and the writer.
+    pub fn give_back(self) -> (ChipRow<C>, W) {
         let StdBoard {
-            chip,
+            row,
             out,
             says: _,
             faults: _,
             trouble: _,
         } = self;
-        (chip, out)
+        (row, out)
     }
 }
 
-impl<W: Write + Drop> NorState for StdBoard<W> {
+impl<W: Write + Drop> StdBoard<W, FileChip> {
+    /// What failed first, of the chip that failed or else of what was said, if anything did.
+    pub fn trouble(&self) -> Option<&Trouble> {
+        match self.failed_chip() {
+            Some(i) => self.row.chips().get(i)?.trouble(),
+            None => self.trouble.as_ref(),
+        }
+    }
+}
+
+impl<W: Write + Drop, C: Chip> NorState for StdBoard<W, C> {
     ghost use Rattle.std.specs.Prelude.{[], ◌+◌};
 
     ghost tells = { λ _. ⊥ };
 
     ghost bytes = { λ _. [] };
 
-    ghost size = { λ d. ⟦<FileChip as NorState>⟧.size d.chip };
+    ghost size = { λ d. ⟦<ChipRow<C> as NorState>⟧.size d.row };
 
-    ghost unit = { λ d. ⟦<FileChip as NorState>⟧.unit d.chip };
+    ghost unit = { λ d. ⟦<ChipRow<C> as NorState>⟧.unit d.row };
 
     ghost said = { λ _. [] };
 
     ghost faults = { λ d. d.faults };
 
-    ghost moment = { λ d. ⟦<FileChip as NorState>⟧.moment d.chip + d.says };
+    ghost moment = { λ d. ⟦<ChipRow<C> as NorState>⟧.moment d.row + d.says };
 
-    ghost device_reads = { λ d. ⟦<FileChip as NorState>⟧.device_reads d.chip };
+    ghost device_reads = { λ d. ⟦<ChipRow<C> as NorState>⟧.device_reads d.row };
 
-    ghost device_writes = { λ d. ⟦<FileChip as NorState>⟧.device_writes d.chip };
+    ghost device_writes = { λ d. ⟦<ChipRow<C> as NorState>⟧.device_writes d.row };
 
     ghost left_since = { λ _ _ _ _. ⊥ };
 }
 
-impl<W: Write + Drop> Nor for StdBoard<W> {
+impl<W: Write + Drop, C: Chip> Nor for StdBoard<W, C> {
     fn size(&self) -> u32 {
-        self.chip.size()
+        self.row.size()
     }
 
     fn unit(&self) -> u32 {
-        self.chip.unit()
+        self.row.unit()
     }
 
     fn read(&mut self, at: u32, into: &mut [u8]) -> Result<(), Failed> {
-        if self.chip.read(at, into).is_ok() {
+        if self.row.read(at, into).is_ok() {
             return Ok(());
         }
         self.faults = self.faults.saturating_add(1);
@@ -87,7 +102,7 @@ impl<W: Write + Drop> Nor for StdBoard<W> {
     }
 
     fn program(&mut self, at: u32, from: &[u8]) -> Result<(), Failed> {
-        if self.chip.program(at, from).is_ok() {
+        if self.row.program(at, from).is_ok() {
             return Ok(());
         }
         self.faults = self.faults.saturating_add(1);
@@ -95,7 +110,7 @@ impl<W: Write + Drop> Nor for StdBoard<W> {
     }
 
     fn erase(&mut self, unit_ix: u32, mark: Option<Mark>) -> Result<(), Failed> {
-        if self.chip.erase(unit_ix, mark).is_ok() {
+        if self.row.erase(unit_ix, mark).is_ok() {
             return Ok(());
         }
         self.faults = self.faults.saturating_add(1);
@@ -104,30 +119,32 @@ impl<W: Write + Drop> Nor for StdBoard<W> {
 
     ghost sized = { λ d tells. absurd tells };
 
-    ghost small = { λ d. d.chip.fits };
+    ghost small = { λ d. d.row.numbers.fits };
 
     ghost only_now = { λ d image count left. absurd left };
 
     ghost counts_now = { λ d t le tells. absurd tells };
 }
 
-// Writes a piece whole and flushes it, and answers whether that could be done.
-fn write_out<W: Write>(out: &mut W, first: &mut Option<Trouble>, piece: &[u8]) -> bool {
+// Writes a piece whole and flushes it.
+fn write_out<W: Write>(out: &mut W, piece: &[u8]) -> Result<(), Trouble> {
     match out.write_all(piece).and_then(|()| out.flush()) {
-        Ok(()) => true,
-        Err(why) => {
-            note(first, Trouble::of_output(why));
-            false
-        }
+        Ok(()) => Ok(()),
+        Err(why) => Err(Trouble::of_output(why)),
     }
 }
 
-impl<W: Write + Drop> Board for StdBoard<W> {
+impl<W: Write + Drop, C: Chip> Board for StdBoard<W, C> {
     fn say(&mut self, piece: &[u8]) -> Result<(), Failed> {
-        let is_counted = self.says < u64::MAX;
-        self.says = self.says.saturating_add(1);
-        if is_counted && write_out(&mut self.out, &mut self.trouble, piece) {
-            return Ok(());
+        if self.says < u64::MAX {
+            self.says += 1;
+            let Err(trouble) = write_out(&mut self.out, piece) else {
+                return Ok(());
+            };
+            // (where a chip failed before, that is what is told)
+            if self.row.fuse_chip().is_none() {
+                note(&mut self.trouble, trouble);
+            }
         }
         self.faults = self.faults.saturating_add(1);
         Err(Failed)

@@ -3,7 +3,8 @@ ghost use Rattle.std.specs.Prelude.{[], ◌+◌, ◌<◌, ◌^◌};
 use crate::Trouble;
 use crate::file::{erase_at, program_at, read_at};
 use crate::trouble::note;
-use nor_core::{Failed, Mark, Nor, NorState};
+use chip_row::{Chip, ChipState};
+use nor_core::{Failed, Mark};
 use std::fs::{File, OpenOptions};
 use std::rt::Files;
 
@@ -24,9 +25,8 @@ pub struct FileChip {
     file: Option<File>,
     size: u32,
     unit: u32,
-    moment: u64,
+    last: u64,
     reads: u64,
-    writes: u64,
     faults: u64,
     trouble: Option<Trouble>,
     ghost fits: { size < 2 ^ 32 },
@@ -56,9 +56,8 @@ impl FileChip {
             file,
             size,
             unit,
-            moment: 0,
+            last: 0,
             reads: 0,
-            writes: 0,
             faults: 0,
             trouble,
         }
@@ -124,35 +123,35 @@ fn erase_file(file: &mut Option<File>, first: &mut Option<Trouble>, at: u64, cou
     }
 }
 
-impl NorState for FileChip {
+impl ChipState for FileChip {
     ghost tells = { λ _. ⊥ };
 
     ghost bytes = { λ _. [] };
 
-    ghost size = { λ d. d.size };
+    ghost size = { λ c. c.size };
 
-    ghost unit = { λ d. d.unit };
+    ghost unit = { λ c. c.unit };
 
-    ghost said = { λ _. [] };
+    ghost faults = { λ c. c.faults };
 
-    ghost faults = { λ d. d.faults };
+    ghost device_reads = { λ c. c.reads };
 
-    ghost moment = { λ d. d.moment };
+    ghost last = { λ c. c.last };
 
-    ghost device_reads = { λ d. d.reads };
-
-    ghost device_writes = { λ d. d.writes };
-
-    ghost left_since = { λ _ _ _ _. ⊥ };
+    ghost left_at = { λ _ _ _. ⊥ };
 }
 
-impl Nor for FileChip {
+impl Chip for FileChip {
     fn size(&self) -> u32 {
         self.size
     }
 
     fn unit(&self) -> u32 {
         self.unit
+    }
+
+    fn last(&self) -> u64 {
+        self.last
     }
 
     fn read(&mut self, at: u32, into: &mut [u8]) -> Result<(), Failed> {
@@ -164,34 +163,22 @@ impl Nor for FileChip {
         Err(Failed)
     }
 
-    fn program(&mut self, at: u32, from: &[u8]) -> Result<(), Failed> {
-        self.writes = self.writes.saturating_add(1);
-        let is_counted = self.moment < u64::MAX;
-        self.moment = self.moment.saturating_add(1);
-        if is_counted && program_file(&mut self.file, &mut self.trouble, at, from) {
+    fn program(&mut self, now: u64, at: u32, from: &[u8]) -> Result<(), Failed> {
+        self.last = now;
+        if program_file(&mut self.file, &mut self.trouble, at, from) {
             return Ok(());
         }
         self.faults = self.faults.saturating_add(1);
         Err(Failed)
     }
 
-    fn erase(&mut self, unit_ix: u32, _mark: Option<Mark>) -> Result<(), Failed> {
-        self.writes = self.writes.saturating_add(1);
-        let is_counted = self.moment < u64::MAX;
-        self.moment = self.moment.saturating_add(1);
+    fn erase(&mut self, now: u64, unit_ix: u32, _mark: Option<Mark>) -> Result<(), Failed> {
+        self.last = now;
         let at = u64::from(unit_ix) * u64::from(self.unit);
-        if is_counted && erase_file(&mut self.file, &mut self.trouble, at, self.unit) {
+        if erase_file(&mut self.file, &mut self.trouble, at, self.unit) {
             return Ok(());
         }
         self.faults = self.faults.saturating_add(1);
         Err(Failed)
     }
-
-    ghost sized = { λ d tells. absurd tells };
-
-    ghost small = { λ d. d.fits };
-
-    ghost only_now = { λ d image count left. absurd left };
-
-    ghost counts_now = { λ d t le tells. absurd tells };
 }

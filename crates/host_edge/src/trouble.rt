@@ -25,6 +25,15 @@ pub enum Trouble {
     /// The script can't be read.
     #[error("the script can't be read: {0}")]
     Script(io::Error),
+    /// The folder can't be listed.
+    #[error("the folder can't be listed: {0}")]
+    List(io::Error),
+    /// A file of the folder can't be read.
+    #[error("a file of the folder can't be read: {0}")]
+    Get(io::Error),
+    /// A file of the folder can't be written.
+    #[error("a file of the folder can't be written: {0}")]
+    Put(io::Error),
 }
 
 impl Trouble {

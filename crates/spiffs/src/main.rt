@@ -1,24 +1,37 @@
-//! The program `spiffs`: makes a board of a chip file and the standard streams, lends the memory, and ends
-//! with the status of the top call. Where the chip file, standard output or the script failed it says why on standard error.
+//! The program `spiffs`: makes a board of chip files and the standard streams, lists the folder, lends the memory, and
+//! ends with the status of the top call. Where a chip file, standard output, the script or the folder failed it says why on
+//! standard error.
 #![tactic(auto)]
 
 mod help;
 
+use chip_row::ChipRow;
 use fd_table::FdSlot;
 use help::{HELP, VERSION};
-use host_edge::{Access, FileChip, StdBoard, StdSource, Trouble};
+use host_edge::{Access, FileChip, StdBoard, StdFolder, StdSource, Trouble};
+use nor_core::MemErr;
 use std::alloc::{AllocError, Global};
 use std::fs::File;
+use std::io::Write;
 use std::process::ExitCode;
 use std::rt::Env;
 use std::{env, fs};
 use tool_core::{Buffers, chip_size_of, spiffs_tool, unit_of};
 
-/// The status where the chip or standard output failed.
+/// The status where a chip or standard output failed.
 const BOARD_FAULT: u8 = 7;
 
 /// The status where the script could not be read.
 const SCRIPT_FAULT: u8 = 8;
+
+/// The status where the folder failed.
+const FOLDER_FAULT: u8 = 9;
+
+/// The place among the words of the chip files' names.
+const CHIP_WORD: usize = 6;
+
+/// The place among the words of the folder's name.
+const FOLDER_WORD: usize = 7;
 
 /// Bytes of work that are lent.
 const WORK: usize = 1_048_576;
@@ -81,11 +94,66 @@ fn word(words: &[String], number: usize) -> &str {
     }
 }
 
-// What the chip file is opened for: a listing writes nothing, and so takes a file that is for reading alone.
+/// Why no command was begun.
+enum Refusal {
+    /// There is no memory.
+    Memory,
+    /// The chips make no row.
+    Chips,
+}
+
+impl From<AllocError> for Refusal {
+    fn from(_: AllocError) -> Refusal {
+        Refusal::Memory
+    }
+}
+
+impl From<MemErr> for Refusal {
+    fn from(_: MemErr) -> Refusal {
+        Refusal::Memory
+    }
+}
+
+// What the chip files are opened for: what writes nothing takes files that are for reading alone, and what formats them
+// makes them.
 fn access_of(words: &[String]) -> Access {
     match word(words, 0) {
-        "list" => Access::Read,
+        "list" | "extract" => Access::Read,
+        "make" | "soak" => Access::Create,
         _ => Access::Write,
+    }
+}
+
+// The names of the chip files, which stand in one word, parted by commas.
+fn chip_paths(alloc: Global, words: &[String]) -> Result<Vec<&str>, AllocError> {
+    word(words, CHIP_WORD).split(',').collect(alloc)
+}
+
+// The row of the chip files.
+fn row_of(rt: &HostRuntime, words: &[String]) -> Result<ChipRow<FileChip>, Refusal> {
+    let paths = chip_paths(rt.alloc(), words)?;
+    let number = u32::try_from(paths.len()).unwrap_or(u32::MAX).max(1);
+    let size = chip_size_of(words, number);
+    let unit = unit_of(words);
+    let mut chips = Vec::new(rt.alloc());
+    for path in paths {
+        let chip = FileChip::new(rt, path, access_of(words), size, unit);
+        chips.push(chip).map_err(AllocError::from)?;
+    }
+    match ChipRow::new(chips, size, unit) {
+        Ok(row) => Ok(row),
+        Err(_) => Err(Refusal::Chips),
+    }
+}
+
+// The folder that is read or written; another command asks for none, and none is listed then.
+fn folder_of<'r>(
+    rt: &'r HostRuntime,
+    words: &[String],
+) -> Result<StdFolder<&'r HostRuntime>, Refusal> {
+    match word(words, 0) {
+        "make" | "extract" => Ok(StdFolder::new(rt, rt.alloc(), word(words, FOLDER_WORD))?),
+        _ => Ok(StdFolder::unlisted(rt, rt.alloc())),
     }
 }
 
@@ -97,12 +165,28 @@ fn explain(rt: &impl Eprint, trouble: Option<&Trouble>) {
     }
 }
 
-// Runs the command that the words spell, over the chip file that they name.
-fn run(rt: &HostRuntime, words: &[String], memory: &mut Memory) -> u8 {
-    let size = chip_size_of(words, 1);
-    let chip = FileChip::new(rt, word(words, 6), access_of(words), size, unit_of(words));
-    let mut board = StdBoard::new(chip, rt.stdout());
+// Says on standard error which chip file failed and why, or why nothing more could be said.
+fn explain_board<W: Write + Drop>(
+    rt: &HostRuntime,
+    words: &[String],
+    board: &StdBoard<W, FileChip>,
+) {
+    let mut paths = word(words, CHIP_WORD).split(',');
+    let path = board.failed_chip().and_then(|i| paths.nth(i));
+    match (path, board.trouble()) {
+        (Some(path), Some(trouble)) => {
+            // (if standard error fails too there is nobody to tell)
+            let _said = eprintln!(rt; "spiffs: {path}: {trouble}");
+        }
+        (_, trouble) => explain(rt, trouble),
+    }
+}
+
+// Runs the command that the words spell, over the chip files and the folder that they name.
+fn run(rt: &HostRuntime, words: &[String], memory: &mut Memory) -> Result<u8, Refusal> {
+    let mut board = StdBoard::new(row_of(rt, words)?, rt.stdout());
     let mut script = StdSource::new(rt.stdin());
+    let folder = folder_of(rt, words)?;
     let mut bufs = Buffers {
         work: &mut memory.work,
         slots: &mut memory.slots,
@@ -110,13 +194,15 @@ fn run(rt: &HostRuntime, words: &[String], memory: &mut Memory) -> u8 {
         check: &mut memory.check,
         line: &mut memory.line,
     };
+    // (`&mut folder` goes in before `&mut bufs` once the top call takes a folder)
     let status = spiffs_tool(words, &mut board, &mut script, &mut bufs);
     match status {
-        BOARD_FAULT => explain(rt, board.trouble()),
+        BOARD_FAULT => explain_board(rt, words, &board),
         SCRIPT_FAULT => explain(rt, script.trouble()),
+        FOLDER_FAULT => explain(rt, folder.trouble()),
         _ => {}
     }
-    status
+    Ok(status)
 }
 
 // Three descriptors that read nothing. Held from the start on, they stand in the place of standard streams
@@ -148,6 +234,12 @@ fn tell(rt: &(impl Print + Eprint), text: &str, status: u8) -> u8 {
     }
 }
 
+// Takes the memory, and runs the command.
+fn begin(rt: &HostRuntime, words: &[String]) -> Result<u8, Refusal> {
+    let mut memory = Memory::new(rt.alloc(), cache_for(chip_size_of(words, 1)))?;
+    run(rt, words, &mut memory)
+}
+
 fn start(rt: &HostRuntime) -> u8 {
     let words = match words_of(rt) {
         Some(Ok(words)) => words,
@@ -160,9 +252,10 @@ fn start(rt: &HostRuntime) -> u8 {
     if words.len() == 1 && words[0].as_str() == "--version" {
         return tell(rt, VERSION, 0);
     }
-    match Memory::new(rt.alloc(), cache_for(chip_size_of(&words, 1))) {
-        Ok(mut memory) => run(rt, &words, &mut memory),
-        Err(_) => tell(rt, "! memory\n", 15),
+    match begin(rt, &words) {
+        Ok(status) => status,
+        Err(Refusal::Memory) => tell(rt, "! memory\n", 15),
+        Err(Refusal::Chips) => tell(rt, "! chips\n", 22),
     }
 }
 
