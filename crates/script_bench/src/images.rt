@@ -1,0 +1,202 @@
+//! Images made by hand.
+use geometry::Geometry;
+use std::alloc::{AllocError, Global};
+
+/// Puts bytes at a place of an image, as far as it has them.
+pub fn put(image: &mut Vec<u8>, at: usize, bytes: &[u8]) {
+    for (i, byte) in bytes.iter().enumerate() {
+        if let Some(place) = image.get_mut(at.saturating_add(i)) {
+            *place = *byte;
+        }
+    }
+}
+
+/// Bytes of 0xFF, and in each block its magic and an erase count of 0.
+pub fn empty(alloc: Global, g: &Geometry) -> Result<Vec<u8>, AllocError> {
+    let mut image = vec![in alloc; 0xFFu8; g.blocks as usize * g.block as usize]?;
+    for block in 0..g.blocks {
+        let end = block as usize * g.block as usize + g.lookups() as usize * g.page as usize;
+        put(
+            &mut image,
+            end.saturating_sub(4),
+            &g.magic_of(block).to_le_bytes(),
+        );
+        put(&mut image, end.saturating_sub(2), &[0, 0]);
+    }
+    Ok(image)
+}
+
+/// The place of a page: its block, and which of the block's entry pages it is, from 0.
+#[derive(Clone, Copy)]
+pub struct Place {
+    pub block: usize,
+    pub entry: usize,
+}
+
+impl Place {
+    /// The number of the page in the volume.
+    pub fn page(self, g: &Geometry) -> usize {
+        let first = self.block.saturating_mul(g.per_block() as usize);
+        first
+            .saturating_add(g.lookups() as usize)
+            .saturating_add(self.entry)
+    }
+
+    /// The place of the entry page behind this one.
+    pub fn next(self, g: &Geometry) -> Place {
+        let entry = self.entry.saturating_add(1);
+        if entry < g.entries() as usize {
+            return Place { entry, ..self };
+        }
+        Place {
+            block: self.block.saturating_add(1),
+            entry: 0,
+        }
+    }
+
+    // Where the page's bytes begin.
+    fn at(self, g: &Geometry) -> usize {
+        self.page(g).saturating_mul(g.page as usize)
+    }
+}
+
+/// Puts the entry and the first five bytes of a page: its id, its span and its flags.
+pub fn put_page(
+    image: &mut Vec<u8>,
+    g: &Geometry,
+    place: Place,
+    id: u16,
+    span: u16,
+    flags: u8,
+) {
+    let entries = place.block.saturating_mul(g.block as usize);
+    let entry = entries.saturating_add(place.entry.saturating_mul(2));
+    let at = place.at(g);
+    put(image, entry, &id.to_le_bytes());
+    put(image, at, &id.to_le_bytes());
+    put(image, at.saturating_add(2), &span.to_le_bytes());
+    put(image, at.saturating_add(4), &[flags]);
+}
+
+/// Puts the header page of a file.
+pub fn put_header(
+    image: &mut Vec<u8>,
+    g: &Geometry,
+    place: Place,
+    id: u16,
+    size: u32,
+    name: &[u8],
+) {
+    put_page(image, g, place, id | 0x8000, 0, 0xF8);
+    let at = place.at(g);
+    put(image, at.saturating_add(8), &size.to_le_bytes());
+    put(image, at.saturating_add(12), &[1]);
+    put(image, at.saturating_add(13), &[0; 32]);
+    put(image, at.saturating_add(13), name);
+}
+
+/// Bytes by which a file is told from others: small letters that run on otherwise in each page.
+pub fn letters(alloc: Global, seed: usize, size: usize) -> Result<Vec<u8>, AllocError> {
+    let mut bytes = Vec::new(alloc);
+    for i in 0..size {
+        let letter = (i % 26 + i / 26 % 26 * 5 + seed % 26) % 26;
+        bytes.push(b'a' + letter as u8)?;
+    }
+    Ok(bytes)
+}
+
+/// Where the next index page and the next data page go.
+#[derive(Clone, Copy)]
+pub struct Ends {
+    pub index: Place,
+    pub data: Place,
+    /// The data page that was put last.
+    pub last: Place,
+}
+
+impl Ends {
+    /// The first index page in the first block, and the first data page in that block.
+    pub fn new(block: usize) -> Ends {
+        let data = Place { block, entry: 0 };
+        Ends {
+            index: Place { block: 0, entry: 0 },
+            data,
+            last: data,
+        }
+    }
+}
+
+// Names the data page of a span in the index page that has its entry, of those that follow a header page.
+fn name_page(image: &mut Vec<u8>, g: &Geometry, header: Place, span: usize, page: usize) {
+    let heads = g.head_slots() as usize;
+    let bytes = ((page % 65536) as u16).to_le_bytes();
+    if span < heads {
+        let at = header.at(g).saturating_add(45 + g.meta as usize);
+        put(image, at.saturating_add(span.saturating_mul(2)), &bytes);
+        return;
+    }
+    let rest = span.saturating_sub(heads);
+    let slots = g.span_slots().max(1) as usize;
+    let mut index = header.next(g);
+    for _ in 0..rest / slots {
+        index = index.next(g);
+    }
+    let at = index.at(g).saturating_add(8);
+    put(
+        image,
+        at.saturating_add((rest % slots).saturating_mul(2)),
+        &bytes,
+    );
+}
+
+// Puts a data page, and the index page that is the first to need it.
+fn put_span(
+    image: &mut Vec<u8>,
+    g: &Geometry,
+    ends: &mut Ends,
+    id: u16,
+    header: Place,
+    span: usize,
+) {
+    let heads = g.head_slots() as usize;
+    let slots = g.span_slots().max(1) as usize;
+    let rest = span.saturating_sub(heads);
+    if span >= heads && rest % slots == 0 {
+        let index_span = (rest / slots % 65535) as u16 + 1;
+        put_page(image, g, ends.index, id | 0x8000, index_span, 0xF8);
+        ends.index = ends.index.next(g);
+    }
+    put_page(image, g, ends.data, id, (span % 65536) as u16, 0xFC);
+    name_page(image, g, header, span, ends.data.page(g));
+    ends.last = ends.data;
+    ends.data = ends.data.next(g);
+}
+
+/// Puts a file of these bytes behind the pages that are there. Its index pages follow each other.
+pub fn put_whole(
+    image: &mut Vec<u8>,
+    g: &Geometry,
+    ends: &mut Ends,
+    id: u16,
+    name: &[u8],
+    bytes: &[u8],
+) {
+    let header = ends.index;
+    let size = match bytes.len() {
+        0 => 0xFFFF_FFFF,
+        size => (size % 65536) as u32,
+    };
+    put_header(image, g, header, id, size, name);
+    ends.index = header.next(g);
+    let body = g.body().max(1) as usize;
+    for (i, byte) in bytes.iter().enumerate() {
+        if i % body == 0 {
+            put_span(image, g, ends, id, header, i / body);
+        }
+        put(
+            image,
+            ends.last.at(g).saturating_add(5 + i % body),
+            &[*byte],
+        );
+    }
+}
