@@ -4,7 +4,7 @@ use crate::tables::are_of;
 use crate::{Bench, Fault, Trouble, listed, table};
 
 /// How a run on a volume compares with the flat table of its files.
-#[derive(Clone, Copy, Debug, PartialEq, Eq)]
+#[derive(Clone, Copy)]
 pub enum Agreement {
     /// Each line is answered as by the flat table, whose files are there afterwards, on a volume in order.
     Whole,

@@ -8,7 +8,7 @@ use tool_core::{Buffers, spiffs_tool};
 use vol_mount::format;
 
 /// How much memory a command is lent, in bytes and slots.
-#[derive(Clone, Copy, Debug)]
+#[derive(Clone, Copy)]
 pub struct Lends {
     pub work: usize,
     pub slots: usize,
@@ -18,7 +18,7 @@ pub struct Lends {
 }
 
 /// What is to fail in a command.
-#[derive(Clone, Copy, Debug, PartialEq, Eq)]
+#[derive(Clone, Copy)]
 pub enum Fault {
     /// Nothing.
     Nothing,

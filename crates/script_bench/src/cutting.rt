@@ -12,7 +12,7 @@ const FEW_BLOCKS: u8 = 14;
 const MOST: u64 = 10_000;
 
 /// What came of cuts or faults at one place after the other.
-#[derive(Clone, Copy, Debug, PartialEq, Eq)]
+#[derive(Clone, Copy)]
 pub enum Swept {
     /// All was as it is to be, at so many places.
     Whole(u64),
@@ -22,20 +22,26 @@ pub enum Swept {
     Failed { nth: u64 },
 }
 
-// Whether a check brings what a run left into order: two blocks are free, and the files are some that may be left.
+// Whether a check brings what a run left into order: two blocks are free, and the files are as before it, and some that may be left.
 fn recovers(steps: &Steps, ran: &Told, is_done: bool) -> Result<bool, Trouble> {
     let bench = &steps.bench;
     let checked = bench.check(&ran.image, Fault::Nothing)?;
     let free = spare_blocks(&bench.g, &checked.image).unwrap_or(0);
     let files = listed(bench, &checked.image)?;
-    Ok(checked.status == 0
-        && free >= 2
-        && steps.may_leave(ran.lines(), is_done, &files)?)
+    let are_as_before = are_same(&listed(bench, &ran.image)?, &files);
+    Ok(
+        checked.status == 0
+            && free >= 2
+            && are_as_before
+            && steps.may_leave(ran.lines(), is_done, &files)?,
+    )
 }
 
 // What a script leaves where the power is cut.
 fn cut(steps: &Steps, passed: u64, pick: u64) -> Result<Told, Trouble> {
-    steps.bench.run(&steps.image, &steps.script, Fault::Power { passed, pick })
+    steps
+        .bench
+        .run(&steps.image, &steps.script, Fault::Power { passed, pick })
 }
 
 // Cuts a script inside one call, where all of it is done, and where some bits are: where nothing is it is cut behind the call before. The pick
@@ -93,7 +99,10 @@ fn cut_recovery(steps: &Steps, ran: &Told) -> Result<Swept, Trouble> {
             return Ok(Swept::Whole(passed));
         }
         if !are {
-            return Ok(Swept::Cut { passed, pick: passed % 5 });
+            return Ok(Swept::Cut {
+                passed,
+                pick: passed % 5,
+            });
         }
     }
     Ok(Swept::Whole(MOST))
@@ -113,7 +122,9 @@ pub fn cut_recoveries(steps: &Steps, passed: u64) -> Result<Swept, Trouble> {
 pub fn fail_each(steps: &Steps, kind: CallKind) -> Result<Swept, Trouble> {
     for passed in 0..MOST {
         let nth = passed.saturating_add(1);
-        let ran = steps.bench.run(&steps.image, &steps.script, Fault::Call { kind, nth })?;
+        let ran = steps
+            .bench
+            .run(&steps.image, &steps.script, Fault::Call { kind, nth })?;
         if ran.status == 0 {
             return Ok(Swept::Whole(passed));
         }
@@ -136,7 +147,11 @@ pub fn count_calls(
     let mut calls = 0u64;
     for shift in 0..16u64 {
         let nth = calls | (0x8000 >> shift);
-        if bench.give(words, image, script, Fault::Call { kind, nth })?.status == DEVICE_FAULT {
+        if bench
+            .give(words, image, script, Fault::Call { kind, nth })?
+            .status
+            == DEVICE_FAULT
+        {
             calls = nth;
         }
     }

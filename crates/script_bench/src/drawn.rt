@@ -38,12 +38,7 @@ pub(crate) fn add_named(
 }
 
 // Adds a call by name or of the volume. Of eight draws, so many are creates.
-fn add_drawn(
-    alloc: Global,
-    script: &mut String,
-    x: &mut u64,
-    creates: u64,
-) -> Result<(), Trouble> {
+fn add_drawn(alloc: Global, script: &mut String, x: &mut u64, creates: u64) -> Result<(), Trouble> {
     let number = draw(x) % 30;
     let kind = draw(x) % 8;
     let after = draw(x) % 32;

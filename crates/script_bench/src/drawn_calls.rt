@@ -47,7 +47,10 @@ fn add_seek(alloc: Global, script: &mut String, x: &mut u64) -> Result<(), Troub
         1 => (so_far - 300, "cur"),
         _ => (3 - so_far, "end"),
     };
-    add(script, format!(in alloc; "seek {fd} {offset} {from}")?.as_str())
+    add(
+        script,
+        format!(in alloc; "seek {fd} {offset} {from}")?.as_str(),
+    )
 }
 
 // Adds a rename of one name of the pool to another.

@@ -41,14 +41,24 @@ pub(crate) fn flat_of(bench: &Bench, files: &[Record]) -> Result<Flat, Trouble> 
     let mut next = 1u16;
     for file in files {
         for id in next..file.id {
-            done(&mut flat, &Call::Create { name: &gap_name(id) })?;
+            done(
+                &mut flat,
+                &Call::Create {
+                    name: &gap_name(id),
+                },
+            )?;
             gaps.push(id)?;
         }
         put_record(&mut flat, file)?;
         next = file.id.saturating_add(1);
     }
     for id in gaps.iter() {
-        done(&mut flat, &Call::Remove { name: &gap_name(*id) })?;
+        done(
+            &mut flat,
+            &Call::Remove {
+                name: &gap_name(*id),
+            },
+        )?;
     }
     Ok(flat)
 }

@@ -61,14 +61,7 @@ impl Place {
 }
 
 /// Puts the entry and the first five bytes of a page: its id, its span and its flags.
-pub fn put_page(
-    image: &mut Vec<u8>,
-    g: &Geometry,
-    place: Place,
-    id: u16,
-    span: u16,
-    flags: u8,
-) {
+pub fn put_page(image: &mut Vec<u8>, g: &Geometry, place: Place, id: u16, span: u16, flags: u8) {
     let entries = place.block.saturating_mul(g.block as usize);
     let entry = entries.saturating_add(place.entry.saturating_mul(2));
     let at = place.at(g);

@@ -4,10 +4,11 @@ use crate::{Bench, Trouble, listed};
 use call_script::parse_line;
 use flat_plain::{Flat, PlainFile, Said};
 use image_plain::Record;
+use std::alloc::Global;
 use table_model::Call;
 
 /// How much is surely on the chip once a line was answered.
-#[derive(Clone, Copy, Debug, PartialEq, Eq)]
+#[derive(Clone, Copy)]
 pub enum Kept {
     /// All.
     All,
@@ -56,19 +57,29 @@ struct Partly<'b> {
     bytes: &'b [u8],
 }
 
-// The text of a flat table, where one file has other bytes.
+// Adds a file of a flat table, where one file may have other bytes.
+fn put_plain(
+    text: &mut Vec<u8>,
+    file: &PlainFile,
+    partly: Option<Partly<'_>>,
+) -> Result<(), Trouble> {
+    match partly {
+        Some(part) if part.id == file.id => {
+            put_file(text, file.id, &file.name, &file.meta, part.bytes)
+        }
+        _ => put_file(text, file.id, &file.name, &file.meta, &file.bytes),
+    }
+}
+
+// The text of a flat table, where one file may have other bytes.
 fn flat_text(bench: &Bench, flat: &Flat, partly: Option<Partly<'_>>) -> Result<Vec<u8>, Trouble> {
     let mut text = Vec::new(bench.alloc);
     let mut after = 0u16;
     for _ in 0..0x7FFF {
         let Said::File(file) = flat.next(after)? else {
-            break;
+            return Ok(text);
         };
-        let bytes = match partly {
-            Some(part) if part.id == file.id => part.bytes,
-            _ => file.bytes.as_slice(),
-        };
-        put_file(&mut text, file.id, &file.name, &file.meta, bytes)?;
+        put_plain(&mut text, &file, partly)?;
         after = file.id;
     }
     Ok(text)
@@ -99,6 +110,18 @@ fn offset_of(flat: &Flat, fd: u16) -> usize {
     }
 }
 
+// The first bytes of one list, so many, and those of another behind them.
+fn mixed(alloc: Global, front: &[u8], back: &[u8], count: usize) -> Result<Vec<u8>, Trouble> {
+    let mut bytes = Vec::new(alloc);
+    for byte in front.iter().take(count) {
+        bytes.push(*byte)?;
+    }
+    for byte in back.iter().skip(count) {
+        bytes.push(*byte)?;
+    }
+    Ok(bytes)
+}
+
 impl Steps {
     /// No line, on a volume.
     pub fn new(bench: Bench, image: Vec<u8>) -> Result<Steps, Trouble> {
@@ -124,15 +147,24 @@ impl Steps {
     }
 
     // Adds the steps of a write that was done: at the end of each data page, at the old end of the file, and at its own end.
-    fn parts(&mut self, old: &PlainFile, new: &PlainFile, from: usize, to: usize) -> Result<(), Trouble> {
+    fn parts(
+        &mut self,
+        old: &PlainFile,
+        new: &PlainFile,
+        from: usize,
+        to: usize,
+    ) -> Result<(), Trouble> {
         let page = self.bench.g.body().max(1) as usize;
         let size = old.bytes.len();
         for end in from..to {
             let place = end.saturating_add(1);
             if place % page == 0 || place == size || place == to {
-                let mut bytes = new.bytes.get(..place).unwrap_or(b"").to_vec(self.bench.alloc)?;
-                bytes.extend_from_slice(old.bytes.get(place..).unwrap_or(b""))?;
-                self.step(Some(Partly { id: new.id, bytes: &bytes }))?;
+                let bytes = mixed(self.bench.alloc, &new.bytes, &old.bytes, place)?;
+                let part = Partly {
+                    id: new.id,
+                    bytes: &bytes,
+                };
+                self.step(Some(part))?;
             }
         }
         Ok(())

@@ -23,8 +23,8 @@ pub enum Trouble {
     /// A call is refused that wasn't to be.
     #[error("a call is refused: {0:?}")]
     Refused(FsErr),
-    /// A line of a script is no call.
-    #[error("a line of the script is no call")]
+    /// A line is none that there is, or a line of a script is no call.
+    #[error("it is not understood")]
     Line,
     /// Bytes are no text, or more than a line may have.
     #[error("bytes that are no text")]

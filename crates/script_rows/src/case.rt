@@ -5,7 +5,7 @@ use crate::commands::{Manner, give};
 use crate::input::Line;
 use crate::script::Script;
 use crate::sweeps;
-use crate::words::{number, word, words_of};
+use crate::words::{byte_of, number, word, words_of};
 use script_bench::{Steps, Trouble, spare_blocks};
 use std::alloc::Global;
 
@@ -41,6 +41,14 @@ fn tell_bytes(chip: &Chip, words: &[&str], out: &mut String) -> Result<(), Troub
     Ok(())
 }
 
+// Tells how many bytes of the chip have a value.
+fn tell_count(chip: &Chip, words: &[&str], out: &mut String) -> Result<(), Trouble> {
+    let value = byte_of(word(words, 1)?)?;
+    let count = chip.image.iter().filter(|byte| **byte == value).count();
+    write!(out, "  {count}\n")?;
+    Ok(())
+}
+
 // Tells how many blocks are free.
 fn tell_free(chip: &Chip, out: &mut String) -> Result<(), Trouble> {
     let free = spare_blocks(&chip.bench()?.g, &chip.image).ok_or(Trouble::Device)?;
@@ -55,9 +63,6 @@ fn do_part(
     part: &Part<'_, '_>,
     out: &mut String,
 ) -> Result<(), Trouble> {
-    if chip.make(part.words)? {
-        return Ok(());
-    }
     let text = part.script.text(alloc, part.chosen)?;
     match word(part.words, 0)? {
         command @ ("run" | "list" | "check") => {
@@ -76,6 +81,7 @@ fn do_part(
         "recoveries" => sweeps::cut_twice(&steps_of(alloc, chip, part)?, part.words, out),
         "fails" => sweeps::fail(&steps_of(alloc, chip, part)?, part.words, out),
         "bytes" => tell_bytes(chip, part.words, out),
+        "count" => tell_count(chip, part.words, out),
         "free" => tell_free(chip, out),
         _ => Err(Trouble::Line),
     }
@@ -86,6 +92,14 @@ fn do_part(
 struct Wrong {
     number: usize,
     why: Trouble,
+}
+
+// Whether a part has a script.
+fn has_script(verb: &str) -> bool {
+    matches!(
+        verb,
+        "run" | "tool" | "flat" | "cuts" | "recoveries" | "fails"
+    )
 }
 
 // Does the part that a line begins, and answers how many lines its script has.
@@ -99,17 +113,23 @@ fn do_line<'t>(
     let [line, rest @ ..] = lines else {
         return Ok(0);
     };
-    let (script, count) = Script::of_lines(alloc, rest)?;
-    write!(out, "{}\n", line.text)?;
+    let (script, count) = Script::of_lines(alloc, rest, chosen)?;
     let text = spelled_out(alloc, line.text, chosen, 0)?;
     let words = words_of(alloc, &text)?;
+    if count > 0 && !has_script(word(&words, 0)?) {
+        return Err(Trouble::Line);
+    }
     let part = Part {
         line: &text,
         words: &words,
         script: &script,
         chosen,
     };
-    do_part(alloc, chip, &part, out)?;
+    if !chip.make(part.words)? {
+        chip.begin()?;
+        write!(out, "{}\n", line.text)?;
+        do_part(alloc, chip, &part, out)?;
+    }
     Ok(count)
 }
 

@@ -14,6 +14,8 @@ pub struct Chip {
     bench: Option<Bench>,
     /// The bytes that stand on it.
     pub image: Vec<u8>,
+    // The bytes that stood on it before the first command.
+    first: Option<Vec<u8>>,
     // Where the next file made by hand goes, and its id.
     ends: Ends,
     id: u16,
@@ -67,6 +69,7 @@ impl Chip {
             alloc,
             bench: None,
             image: Vec::new(alloc),
+            first: None,
             ends: Ends::new(1),
             id: 1,
         }
@@ -86,6 +89,9 @@ impl Chip {
         let bench = Bench::new(self.alloc, g);
         self.image = bench.formatted()?;
         self.bench = Some(bench);
+        self.first = None;
+        self.ends = Ends::new(1);
+        self.id = 1;
         Ok(())
     }
 
@@ -96,7 +102,8 @@ impl Chip {
         self.bench = Some(bench);
         let size = count(words, 2)?;
         let more = size.saturating_sub(self.image.len());
-        self.image.extend_from_slice(&vec![in self.alloc; 0xFFu8; more]?)?;
+        self.image
+            .extend_from_slice(&vec![in self.alloc; 0xFFu8; more]?)?;
         Ok(())
     }
 
@@ -174,6 +181,22 @@ impl Chip {
         Ok(())
     }
 
+    // Puts back what stood on the chip before the first command.
+    fn back(&mut self) -> Result<(), Trouble> {
+        if let Some(first) = &self.first {
+            self.image = first.to_vec(self.alloc)?;
+        }
+        Ok(())
+    }
+
+    /// Notes what stands on the chip, where no command was given yet.
+    pub fn begin(&mut self) -> Result<(), Trouble> {
+        if self.first.is_none() {
+            self.first = Some(self.image.to_vec(self.alloc)?);
+        }
+        Ok(())
+    }
+
     /// Does what a line of these words says of the image, and answers whether it says something of that.
     pub fn make(&mut self, words: &[&str]) -> Result<bool, Trouble> {
         match word(words, 0)? {
@@ -189,6 +212,7 @@ impl Chip {
             "deleted" => self.deleted(words)?,
             "put" => self.put(words)?,
             "fill" => self.fill(words)?,
+            "back" => self.back()?,
             _ => return Ok(false),
         }
         Ok(true)

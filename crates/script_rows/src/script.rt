@@ -29,7 +29,11 @@ pub struct Script<'t> {
 
 // A line of a script, if it is indented as one: by two spaces, or by a mark and a space.
 fn spoken_of(text: &str) -> Option<Spoken<'_>> {
-    for (front, kept) in [("  ", Kept::All), ("~ ", Kept::Before), ("& ", Kept::NoMore)] {
+    for (front, kept) in [
+        ("  ", Kept::All),
+        ("~ ", Kept::Before),
+        ("& ", Kept::NoMore),
+    ] {
         if let Some(text) = text.strip_prefix(front) {
             return Some(Spoken { kept, text });
         }
@@ -44,7 +48,11 @@ fn is_call(text: &str) -> bool {
 
 impl<'t> Script<'t> {
     /// The script that begins a list of lines, and how many of them it has.
-    pub fn of_lines(alloc: Global, lines: &[Line<'t>]) -> Result<(Script<'t>, usize), Trouble> {
+    pub fn of_lines(
+        alloc: Global,
+        lines: &[Line<'t>],
+        chosen: &[Chosen<'_>],
+    ) -> Result<(Script<'t>, usize), Trouble> {
         let mut blocks: Vec<Block<'t>> = Vec::new(alloc);
         let mut count = 0usize;
         for line in lines {
@@ -53,8 +61,9 @@ impl<'t> Script<'t> {
             };
             count = count.saturating_add(1);
             if let Some(times) = spoken.text.strip_prefix("times ") {
+                let times = spelled_out(alloc, times, chosen, 0)?;
                 blocks.push(Block {
-                    times: number_of(times, 10_000)?,
+                    times: number_of(&times, 10_000)?,
                     is_told: true,
                     lines: Vec::new(alloc),
                 })?;
@@ -165,22 +174,28 @@ fn tell_replies(
     out: &mut String,
 ) -> Result<(), AllocError> {
     let mut begin = 0u64;
-    let mut before = " -> ";
+    let mut before = "";
     for turn in 0..times {
-        let here = reply(said, first.saturating_add((turn as usize).saturating_mul(calls)));
+        let here = reply(
+            said,
+            first.saturating_add((turn as usize).saturating_mul(calls)),
+        );
         let behind = turn.saturating_add(1);
-        let next = reply(said, first.saturating_add((behind as usize).saturating_mul(calls)));
+        let next = reply(
+            said,
+            first.saturating_add((behind as usize).saturating_mul(calls)),
+        );
         if behind < times && here == next {
             continue;
         }
-        write!(out, "{before}{here}")?;
+        write!(out, "{before} -> {here}")?;
         if begin > 0 || behind < times {
             write!(out, " in {begin}")?;
             if begin < turn {
                 write!(out, " to {turn}")?;
             }
         }
-        before = ", ";
+        before = "\n     ";
         begin = behind;
     }
     Ok(())

@@ -50,6 +50,8 @@ pub fn draw(chip: &Chip, words: &[&str], out: &mut String) -> Result<(), Trouble
 // Tells what came of a sweep over so many calls.
 fn tell_swept(found: Swept, calls: &str, good: &str, out: &mut String) -> Result<(), AllocError> {
     match found {
+        // (how often pages are read is not told: that is for the cache to choose)
+        Swept::Whole(_) if calls == "reads" => write!(out, "  {calls}: {good}\n"),
         Swept::Whole(count) => write!(out, "  {count} {calls}: {good}\n"),
         Swept::Cut { passed, pick } => {
             write!(out, "  cut behind {passed} calls, as {pick} says: not so\n")
@@ -79,7 +81,8 @@ pub fn cut_twice(steps: &Steps, words: &[&str], out: &mut String) -> Result<(), 
 
 /// Lets each call of a kind fail in turn.
 pub fn fail(steps: &Steps, words: &[&str], out: &mut String) -> Result<(), Trouble> {
-    let good = "where one fails the run ends, and a check leaves a front of the steps and two free blocks";
+    let good =
+        "where one fails the run ends, and a check leaves a front of the steps and two free blocks";
     for at in 1..words.len() {
         let kind = kind_of(word(words, at)?)?;
         tell_swept(fail_each(steps, kind)?, kind_text(kind), good, out)?;
