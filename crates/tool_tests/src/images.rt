@@ -1,36 +1,13 @@
 //! Images made by hand, on the volume of these tests: pages of 256 bytes, 16 blocks of 4,096.
 use geometry::{Geometry, MagicKind};
 use nor_core::{Failed, MemBoard, draw};
-use std::alloc::{AllocError, Global};
+use script_bench::{empty, put};
+use std::alloc::Global;
 use std::test::Fail;
 
 /// The geometry of the volume of these tests.
 pub(crate) fn volume() -> Result<Geometry, Fail> {
     Ok(Geometry::new(256, 4096, 16, 4096, 0, MagicKind::Length)?)
-}
-
-/// Puts bytes at a place of an image, as far as it has them.
-pub(crate) fn put(image: &mut Vec<u8>, at: usize, bytes: &[u8]) {
-    for (i, byte) in bytes.iter().enumerate() {
-        if let Some(place) = image.get_mut(at.saturating_add(i)) {
-            *place = *byte;
-        }
-    }
-}
-
-/// Bytes of 0xFF, and in each block its magic and an erase count of 0.
-pub(crate) fn empty(alloc: Global, g: &Geometry) -> Result<Vec<u8>, AllocError> {
-    let mut image = vec![in alloc; 0xFFu8; g.blocks as usize * g.block as usize]?;
-    for block in 0..g.blocks {
-        let end = block as usize * g.block as usize + g.lookups() as usize * g.page as usize;
-        put(
-            &mut image,
-            end.saturating_sub(4),
-            &g.magic_of(block).to_le_bytes(),
-        );
-        put(&mut image, end.saturating_sub(2), &[0, 0]);
-    }
-    Ok(image)
 }
 
 /// The header page of a file, and its entry in the first block: `slot` counts the entries from 0.

@@ -6,19 +6,11 @@ mod bench;
 #[cfg(test)]
 mod checks;
 #[cfg(test)]
-mod creates;
-#[cfg(test)]
-mod cuts;
-#[cfg(test)]
 mod images;
 #[cfg(test)]
 mod lists;
 #[cfg(test)]
 mod readers;
-#[cfg(test)]
-mod refusals;
-#[cfg(test)]
-mod removes;
 #[cfg(test)]
 mod scripts;
 #[cfg(test)]

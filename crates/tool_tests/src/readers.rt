@@ -1,9 +1,10 @@
 //! A reader of a volume, and the view that it works with, below the top call.
 use crate::bench::{Memory, RUN, run};
-use crate::images::{board_of, empty, put, put_data, put_header, put_hello, volume};
+use crate::images::{board_of, put_data, put_header, put_hello, volume};
 use flash_view::View;
 use image_model::Damage;
 use nor_core::{CallKind, MemBoard};
+use script_bench::{empty, put};
 use std::alloc::Global;
 use std::test::Fail;
 use table_model::FsErr;

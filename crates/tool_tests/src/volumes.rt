@@ -1,8 +1,11 @@
 //! The volume itself, below the top call.
 use crate::bench::{Memory, blank, formatted, program};
+use crate::images::{board_of, crowded};
 use geometry::{Geometry, MagicKind};
-use nor_core::CallKind;
+use nor_core::{CallKind, MemBoard};
+use script_bench::spare_blocks;
 use std::alloc::Global;
+use std::process::Abort;
 use std::test::Fail;
 use table_model::FsErr;
 use vol_mount::{MountErr, accept};
@@ -121,5 +124,42 @@ fn an_erased_chip_is_not_mounted(rt: HostRuntime) -> Result<(), Fail> {
     accept(&g, &board, &lent)?;
     let mut volume = Volume::new(g, &mut board, lent);
     assert_eq!(rt; volume.mount(), Err(MountErr::NotAFs { spoiled: 16 }));
+    Ok(())
+}
+
+// Calls on a checked volume of one free block: no page is had, and nothing can be cleaned. A removed file's pages are collected.
+fn collect_in(rt: &impl Abort, volume: &mut Volume<'_, MemBoard>, image: &[u8]) {
+    assert_eq!(rt; volume.create(b"a"), Err(FsErr::Tight));
+    assert_eq!(rt; volume.create(b"big"), Err(FsErr::ConflictingName));
+    assert_eq!(rt; volume.rename(b"big", b"a"), Err(FsErr::Tight));
+    assert_eq!(rt; volume.gc(), Ok(()));
+    assert!(rt; volume.nor.image() == image);
+    assert!(rt;
+        volume
+            .stat(b"big")
+            .is_ok_and(|stat| stat.id == 1 && stat.size == 7530)
+    );
+    assert_eq!(rt; volume.remove(b"big"), Ok(()));
+    assert!(rt; matches!(volume.next(0), Ok(None)));
+    assert_eq!(rt; volume.create(b"a"), Err(FsErr::Tight));
+    assert_eq!(rt; volume.gc(), Ok(()));
+    assert_eq!(rt; spare_blocks(&volume.geometry, volume.nor.image()), Some(4));
+    assert_eq!(rt; volume.create(b"a"), Ok(()));
+    assert!(rt; !volume.has_failed());
+}
+
+#[test]
+fn a_volume_of_one_free_block_removes_and_then_collects(rt: HostRuntime) -> Result<(), Fail> {
+    let alloc = rt.alloc();
+    let g = Geometry::new(256, 4096, 4, 4096, 0, MagicKind::Length)?;
+    let image = crowded(alloc)?;
+    let mut board = board_of(alloc, &image)?;
+    let mut memory = Memory::new(alloc)?;
+    let lent = memory.lend();
+    accept(&g, &board, &lent)?;
+    let mut volume = Volume::new(g, &mut board, lent);
+    volume.mount()?;
+    assert_eq!(rt; volume.check().map(|report| report.free_blocks), Ok(1));
+    collect_in(&rt, &mut volume, &image);
     Ok(())
 }

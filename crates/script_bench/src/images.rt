@@ -3,7 +3,7 @@ use geometry::Geometry;
 use std::alloc::{AllocError, Global};
 
 /// Puts bytes at a place of an image, as far as it has them.
-pub(crate) fn put(image: &mut Vec<u8>, at: usize, bytes: &[u8]) {
+pub fn put(image: &mut Vec<u8>, at: usize, bytes: &[u8]) {
     for (i, byte) in bytes.iter().enumerate() {
         if let Some(place) = image.get_mut(at.saturating_add(i)) {
             *place = *byte;
@@ -12,7 +12,7 @@ pub(crate) fn put(image: &mut Vec<u8>, at: usize, bytes: &[u8]) {
 }
 
 /// Bytes of 0xFF, and in each block its magic and an erase count of 0.
-pub(crate) fn empty(alloc: Global, g: &Geometry) -> Result<Vec<u8>, AllocError> {
+pub fn empty(alloc: Global, g: &Geometry) -> Result<Vec<u8>, AllocError> {
     let mut image = vec![in alloc; 0xFFu8; g.blocks as usize * g.block as usize]?;
     for block in 0..g.blocks {
         let end = block as usize * g.block as usize + g.lookups() as usize * g.page as usize;
@@ -28,14 +28,14 @@ pub(crate) fn empty(alloc: Global, g: &Geometry) -> Result<Vec<u8>, AllocError> 
 
 /// The place of a page: its block, and which of the block's entry pages it is, from 0.
 #[derive(Clone, Copy)]
-pub(crate) struct Place {
+pub struct Place {
     pub block: usize,
     pub entry: usize,
 }
 
 impl Place {
     /// The number of the page in the volume.
-    pub(crate) fn page(self, g: &Geometry) -> usize {
+    pub fn page(self, g: &Geometry) -> usize {
         let first = self.block.saturating_mul(g.per_block() as usize);
         first
             .saturating_add(g.lookups() as usize)
@@ -43,7 +43,7 @@ impl Place {
     }
 
     /// The place of the entry page behind this one.
-    pub(crate) fn next(self, g: &Geometry) -> Place {
+    pub fn next(self, g: &Geometry) -> Place {
         let entry = self.entry.saturating_add(1);
         if entry < g.entries() as usize {
             return Place { entry, ..self };
@@ -61,14 +61,7 @@ impl Place {
 }
 
 /// Puts the entry and the first five bytes of a page: its id, its span and its flags.
-pub(crate) fn put_page(
-    image: &mut Vec<u8>,
-    g: &Geometry,
-    place: Place,
-    id: u16,
-    span: u16,
-    flags: u8,
-) {
+pub fn put_page(image: &mut Vec<u8>, g: &Geometry, place: Place, id: u16, span: u16, flags: u8) {
     let entries = place.block.saturating_mul(g.block as usize);
     let entry = entries.saturating_add(place.entry.saturating_mul(2));
     let at = place.at(g);
@@ -79,7 +72,7 @@ pub(crate) fn put_page(
 }
 
 /// Puts the header page of a file.
-pub(crate) fn put_header(
+pub fn put_header(
     image: &mut Vec<u8>,
     g: &Geometry,
     place: Place,
@@ -95,56 +88,8 @@ pub(crate) fn put_header(
     put(image, at.saturating_add(13), name);
 }
 
-// Where the index entry of a data span stands: the header page has so many, and the page behind it the others.
-fn named_at(g: &Geometry, span: usize) -> usize {
-    let header = Place { block: 0, entry: 0 };
-    let slots = g.head_slots() as usize;
-    if span < slots {
-        let names = header.at(g).saturating_add(45 + g.meta as usize);
-        return names.saturating_add(span.saturating_mul(2));
-    }
-    let names = header.next(g).at(g).saturating_add(8);
-    names.saturating_add((span - slots).saturating_mul(2))
-}
-
-/// Puts a file of so many data pages. Its index pages are the first two pages of the first block; its data pages fill
-/// the blocks behind that.
-pub(crate) fn put_file(
-    image: &mut Vec<u8>,
-    g: &Geometry,
-    id: u16,
-    size: u32,
-    pages: u16,
-    name: &[u8],
-) {
-    let header = Place { block: 0, entry: 0 };
-    put_header(image, g, header, id, size, name);
-    if u32::from(pages) > g.head_slots() {
-        put_page(image, g, header.next(g), id | 0x8000, 1, 0xF8);
-    }
-    let mut data = Place { block: 1, entry: 0 };
-    for span in 0..pages {
-        put_page(image, g, data, id, span, 0xFC);
-        let page = (data.page(g) % 65536) as u16;
-        put(image, named_at(g, usize::from(span)), &page.to_le_bytes());
-        data = data.next(g);
-    }
-}
-
-/// The file `a` with the bytes `hello`, on pages of 256 bytes in blocks of 4,096: its header is page 2, its data page
-/// 17. Page 1 was its first header.
-pub(crate) fn put_hello(image: &mut Vec<u8>, g: &Geometry) {
-    put_header(image, g, Place { block: 0, entry: 0 }, 1, 0xFFFF_FFFF, b"a");
-    put(image, 0, &[0, 0]);
-    put(image, 260, &[0x78]);
-    put_header(image, g, Place { block: 0, entry: 1 }, 1, 5, b"a");
-    put(image, 557, &[17, 0]);
-    put_page(image, g, Place { block: 1, entry: 0 }, 1, 0, 0xFC);
-    put(image, 4357, b"hello");
-}
-
 /// Bytes by which a file is told from others: small letters that run on otherwise in each page.
-pub(crate) fn letters(alloc: Global, seed: usize, size: usize) -> Result<Vec<u8>, AllocError> {
+pub fn letters(alloc: Global, seed: usize, size: usize) -> Result<Vec<u8>, AllocError> {
     let mut bytes = Vec::new(alloc);
     for i in 0..size {
         let letter = (i % 26 + i / 26 % 26 * 5 + seed % 26) % 26;
@@ -155,7 +100,7 @@ pub(crate) fn letters(alloc: Global, seed: usize, size: usize) -> Result<Vec<u8>
 
 /// Where the next index page and the next data page go.
 #[derive(Clone, Copy)]
-pub(crate) struct Ends {
+pub struct Ends {
     pub index: Place,
     pub data: Place,
     /// The data page that was put last.
@@ -164,7 +109,7 @@ pub(crate) struct Ends {
 
 impl Ends {
     /// The first index page in the first block, and the first data page in that block.
-    pub(crate) fn new(block: usize) -> Ends {
+    pub fn new(block: usize) -> Ends {
         let data = Place { block, entry: 0 };
         Ends {
             index: Place { block: 0, entry: 0 },
@@ -221,7 +166,7 @@ fn put_span(
 }
 
 /// Puts a file of these bytes behind the pages that are there. Its index pages follow each other.
-pub(crate) fn put_whole(
+pub fn put_whole(
     image: &mut Vec<u8>,
     g: &Geometry,
     ends: &mut Ends,
@@ -247,25 +192,4 @@ pub(crate) fn put_whole(
             &[*byte],
         );
     }
-}
-
-/// A file of an image: its name, and how many bytes it has.
-pub(crate) type Sized = (&'static [u8], usize);
-
-/// An image with these files, of the ids from 1 on: their bytes are the letters of the id. The data pages begin in that block.
-pub(crate) fn filled(
-    alloc: Global,
-    g: &Geometry,
-    block: usize,
-    files: &[Sized],
-) -> Result<Vec<u8>, AllocError> {
-    let mut image = empty(alloc, g)?;
-    let mut ends = Ends::new(block);
-    let mut id = 1u16;
-    for (name, size) in files {
-        let bytes = letters(alloc, usize::from(id), *size)?;
-        put_whole(&mut image, g, &mut ends, id, name, &bytes);
-        id = id.saturating_add(1);
-    }
-    Ok(image)
 }

@@ -1,29 +1,32 @@
 //! What the plain programs and a reader tell of an image.
-use crate::bench::board_of;
+use crate::{Bench, Trouble};
 use fd_table::FdSlot;
 use flat_plain::{Flat, PlainFile, Said};
 use geometry::Geometry;
 use image_plain::{Record, free_blocks, holds_volume, table_of};
-use nor_core::{Failed, MemBoard};
+use nor_core::MemBoard;
 use std::alloc::Global;
-use std::test::Fail;
 use table_model::Stat;
 use vol_mount::{Lent, Reader, accept};
 
-/// The files of an image.
-pub(crate) fn table(alloc: Global, g: &Geometry, image: &[u8]) -> Result<Vec<Record>, Fail> {
+/// The files of an image, by the plain program.
+pub fn table(alloc: Global, g: &Geometry, image: &[u8]) -> Result<Vec<Record>, Trouble> {
     if !holds_volume(g, image) {
-        Err::<(), Failed>(Failed)?;
+        return Err(Trouble::Device);
     }
     Ok(table_of(alloc, g, image)?)
 }
 
 // The file of a record, with its bytes.
-fn file_of(alloc: Global, reader: &mut Reader<'_, MemBoard>, stat: &Stat) -> Result<Record, Fail> {
+fn file_of(
+    alloc: Global,
+    reader: &mut Reader<'_, MemBoard>,
+    stat: &Stat,
+) -> Result<Record, Trouble> {
     let mut bytes = vec![in alloc; 0u8; stat.size as usize]?;
     let count = reader.read_at(stat.id, 0, &mut bytes)?;
     if count != stat.size || bytes.len() > 0x10_0000 {
-        Err::<(), Failed>(Failed)?;
+        return Err(Trouble::Device);
     }
     Ok(Record {
         id: stat.id,
@@ -35,10 +38,10 @@ fn file_of(alloc: Global, reader: &mut Reader<'_, MemBoard>, stat: &Stat) -> Res
 }
 
 // The files that a reader tells.
-fn told(alloc: Global, reader: &mut Reader<'_, MemBoard>) -> Result<Vec<Record>, Fail> {
+fn told(alloc: Global, reader: &mut Reader<'_, MemBoard>) -> Result<Vec<Record>, Trouble> {
     let mut files = Vec::new(alloc);
     let mut after = 0;
-    for _ in 0..100 {
+    for _ in 0..0x7FFF {
         let Some(stat) = reader.next(after)? else {
             break;
         };
@@ -48,9 +51,10 @@ fn told(alloc: Global, reader: &mut Reader<'_, MemBoard>) -> Result<Vec<Record>,
     Ok(files)
 }
 
-/// The files of an image, of which there are at most a hundred, by a reader: sooner than by the plain program.
-pub(crate) fn listed(alloc: Global, g: &Geometry, image: &[u8]) -> Result<Vec<Record>, Fail> {
-    let mut board = board_of(alloc, image, g.phys)?;
+/// The files of an image, by a reader: sooner than by the plain program.
+pub fn listed(bench: &Bench, image: &[u8]) -> Result<Vec<Record>, Trouble> {
+    let Bench { alloc, g, .. } = *bench;
+    let mut board = bench.board(image)?;
     let mut work = vec![in alloc; 0u8; g.work_need() as usize]?;
     let mut slots = vec![in alloc; FdSlot::empty(); 1]?;
     let mut cache = vec![in alloc; 0u8; g.cache_need() as usize]?;
@@ -61,8 +65,8 @@ pub(crate) fn listed(alloc: Global, g: &Geometry, image: &[u8]) -> Result<Vec<Re
         cache: &mut cache,
         check: &mut check,
     };
-    accept(g, &board, &lent)?;
-    let mut reader = Reader::new(*g, &mut board, lent);
+    accept(&g, &board, &lent)?;
+    let mut reader = Reader::new(g, &mut board, lent);
     reader.mount()?;
     told(alloc, &mut reader)
 }
@@ -76,16 +80,8 @@ fn is_same(a: &Record, b: &Record) -> bool {
 }
 
 /// Whether two lists of files are the same.
-pub(crate) fn are_same(a: &[Record], b: &[Record]) -> bool {
-    if a.len() != b.len() {
-        return false;
-    }
-    for i in 0..a.len() {
-        if !is_same(&a[i], &b[i]) {
-            return false;
-        }
-    }
-    true
+pub fn are_same(a: &[Record], b: &[Record]) -> bool {
+    a.len() == b.len() && a.iter().zip(b.iter()).all(|(a, b)| is_same(a, b))
 }
 
 fn is_file(record: &Record, file: &PlainFile) -> bool {
@@ -110,7 +106,7 @@ fn is_end(said: &Said) -> bool {
 }
 
 /// Whether files are those of a flat table.
-pub(crate) fn are_of(files: &[Record], flat: &Flat) -> Result<bool, Fail> {
+pub(crate) fn are_of(files: &[Record], flat: &Flat) -> Result<bool, Trouble> {
     let mut after = 0u16;
     for record in files {
         let said = flat.next(after)?;
@@ -124,7 +120,7 @@ pub(crate) fn are_of(files: &[Record], flat: &Flat) -> Result<bool, Fail> {
 }
 
 /// How many blocks are free.
-pub(crate) fn spare_blocks(g: &Geometry, image: &[u8]) -> Option<u32> {
+pub fn spare_blocks(g: &Geometry, image: &[u8]) -> Option<u32> {
     if holds_volume(g, image) {
         Some(free_blocks(g, image))
     } else {

@@ -1,0 +1,159 @@
+//! Scripts whose power is cut at each of their programs, erases and replies, and scripts in which a call of the device fails.
+use crate::{Bench, Fault, Steps, Told, Trouble, are_same, listed, spare_blocks};
+use nor_core::CallKind;
+
+/// The status where the device failed.
+const DEVICE_FAULT: u8 = 7;
+
+/// Fewer than two blocks are free.
+const FEW_BLOCKS: u8 = 14;
+
+/// More calls than are tried.
+const MOST: u64 = 10_000;
+
+/// What came of cuts or faults at one place after the other.
+#[derive(Clone, Copy)]
+pub enum Swept {
+    /// All was as it is to be, at so many places.
+    Whole(u64),
+    /// Something else is left of a cut inside the call behind so many, which was done as the pick says.
+    Cut { passed: u64, pick: u64 },
+    /// Something else is left where the call of that number failed.
+    Failed { nth: u64 },
+}
+
+// Whether a check brings what a run left into order: two blocks are free, and the files are as before it, and some that may be left.
+fn recovers(steps: &Steps, ran: &Told, is_done: bool) -> Result<bool, Trouble> {
+    let bench = &steps.bench;
+    let checked = bench.check(&ran.image, Fault::Nothing)?;
+    let free = spare_blocks(&bench.g, &checked.image).unwrap_or(0);
+    let files = listed(bench, &checked.image)?;
+    let are_as_before = are_same(&listed(bench, &ran.image)?, &files);
+    Ok(
+        checked.status == 0
+            && free >= 2
+            && are_as_before
+            && steps.may_leave(ran.lines(), is_done, &files)?,
+    )
+}
+
+// What a script leaves where the power is cut.
+fn cut(steps: &Steps, passed: u64, pick: u64) -> Result<Told, Trouble> {
+    steps
+        .bench
+        .run(&steps.image, &steps.script, Fault::Power { passed, pick })
+}
+
+// Cuts a script inside one call, where all of it is done, and where some bits are: where nothing is it is cut behind the call before. The pick
+// at which something else is left, if there is one.
+fn cut_at(steps: &Steps, passed: u64, mut last: Told) -> Result<Option<u64>, Trouble> {
+    if !recovers(steps, &last, false)? {
+        return Ok(Some(1));
+    }
+    for pick in 2..5 {
+        let ran = cut(steps, passed, pick)?;
+        let is_new = ran.image.as_slice() != last.image.as_slice() || ran.lines() != last.lines();
+        if ran.status != DEVICE_FAULT || (is_new && !recovers(steps, &ran, false)?) {
+            return Ok(Some(pick));
+        }
+        last = ran;
+    }
+    Ok(None)
+}
+
+/// Cuts a script before its first program, erase or reply, and inside each of them, done in four ways. A check is to leave two free blocks and
+/// a table that may be left.
+pub fn cut_each(steps: &Steps) -> Result<Swept, Trouble> {
+    if !recovers(steps, &cut(steps, 0, 0)?, false)? {
+        return Ok(Swept::Cut { passed: 0, pick: 0 });
+    }
+    for passed in 0..MOST {
+        let ran = cut(steps, passed, 1)?;
+        if ran.status != DEVICE_FAULT {
+            return Ok(Swept::Whole(passed));
+        }
+        if let Some(pick) = cut_at(steps, passed, ran)? {
+            return Ok(Swept::Cut { passed, pick });
+        }
+    }
+    Ok(Swept::Whole(MOST))
+}
+
+// The status of a check that is cut too, and whether it leaves the files of an image, and the check after it.
+fn recover(bench: &Bench, image: &[u8], passed: u64) -> Result<(u8, bool), Trouble> {
+    let pick = passed % 5;
+    let half = bench.check(image, Fault::Power { passed, pick })?;
+    let again = bench.check(&half.image, Fault::Nothing)?;
+    let files = listed(bench, image)?;
+    let are = are_same(&files, &listed(bench, &half.image)?)
+        && are_same(&files, &listed(bench, &again.image)?)
+        && (again.status == 0 || again.status == FEW_BLOCKS);
+    Ok((half.status, are))
+}
+
+// Cuts the check of what a cut left at each of its programs and erases: the files are to stay.
+fn cut_recovery(steps: &Steps, ran: &Told) -> Result<Swept, Trouble> {
+    for passed in 0..MOST {
+        let (status, are) = recover(&steps.bench, &ran.image, passed)?;
+        if status != DEVICE_FAULT && are {
+            return Ok(Swept::Whole(passed));
+        }
+        if !are {
+            return Ok(Swept::Cut {
+                passed,
+                pick: passed % 5,
+            });
+        }
+    }
+    Ok(Swept::Whole(MOST))
+}
+
+/// Cuts a script inside the call behind so many, done in part, and then its recovery at each of its programs and erases: the files are to stay.
+pub fn cut_recoveries(steps: &Steps, passed: u64) -> Result<Swept, Trouble> {
+    let ran = cut(steps, passed, 3)?;
+    if ran.status != DEVICE_FAULT {
+        return Ok(Swept::Cut { passed, pick: 3 });
+    }
+    cut_recovery(steps, &ran)
+}
+
+/// Lets each call of a kind fail in turn. The run is to end there, and a check to leave two free blocks and a table that may be left: where a
+/// reply isn't said, its line was done.
+pub fn fail_each(steps: &Steps, kind: CallKind) -> Result<Swept, Trouble> {
+    for passed in 0..MOST {
+        let nth = passed.saturating_add(1);
+        let ran = steps
+            .bench
+            .run(&steps.image, &steps.script, Fault::Call { kind, nth })?;
+        if ran.status == 0 {
+            return Ok(Swept::Whole(passed));
+        }
+        if ran.status != DEVICE_FAULT || !recovers(steps, &ran, kind == CallKind::Say)? {
+            return Ok(Swept::Failed { nth });
+        }
+    }
+    Ok(Swept::Whole(MOST))
+}
+
+/// How many calls of a kind, fewer than 65,536, a command asks for that ends with no fault: told from the top bit down by those whose failing
+/// ends it.
+pub fn count_calls(
+    bench: &Bench,
+    words: &str,
+    image: &[u8],
+    script: &[u8],
+    kind: CallKind,
+) -> Result<u64, Trouble> {
+    let mut calls = 0u64;
+    for shift in 0..16u64 {
+        let nth = calls | (0x8000 >> shift);
+        if bench
+            .give(words, image, script, Fault::Call { kind, nth })?
+            .status
+            == DEVICE_FAULT
+        {
+            calls = nth;
+        }
+    }
+    Ok(calls)
+}

@@ -1,0 +1,91 @@
+//! Parts of a case that try many runs, and tell one verdict.
+use crate::chip::Chip;
+use crate::commands::{kind_of, kind_text};
+use crate::words::{number, word};
+use script_bench::{
+    Agreement, Steps, Swept, Trouble, agreement_of, cut_each, cut_recoveries, draw_beside,
+    draw_calls, draw_files, fail_each,
+};
+use std::alloc::AllocError;
+
+// Tells how a run compares with the flat table.
+fn tell_agreement(found: Agreement, out: &mut String) -> Result<(), AllocError> {
+    match found {
+        Agreement::Whole => write!(out, "replies and files as of the flat table, in order\n"),
+        Agreement::Reply(line) => write!(out, "reply {line} is not that of the flat table\n"),
+        Agreement::Status(status) => write!(out, "status {status}\n"),
+        Agreement::Files => write!(out, "files that are not those of the flat table\n"),
+        Agreement::Order => write!(out, "not in order\n"),
+    }
+}
+
+/// Runs a script on a chip beside the flat table of its files.
+pub fn compare(chip: &mut Chip, text: &str, out: &mut String) -> Result<(), Trouble> {
+    let (found, image) = agreement_of(&chip.bench()?, &chip.image, text.as_bytes())?;
+    chip.image = image;
+    out.push_str("  ")?;
+    tell_agreement(found, out)?;
+    Ok(())
+}
+
+/// Runs scripts that are drawn from seeds beside the flat table: `drawn KIND CALLS SEED..`.
+pub fn draw(chip: &Chip, words: &[&str], out: &mut String) -> Result<(), Trouble> {
+    let bench = chip.bench()?;
+    let calls = number(words, 2, 10_000)?;
+    for at in 3..words.len() {
+        let seed = number(words, at, u64::MAX)?;
+        let script = match word(words, 1)? {
+            "files" => draw_files(bench.alloc, seed, calls)?,
+            "beside" => draw_beside(bench.alloc, seed, calls)?,
+            "calls" => draw_calls(bench.alloc, seed, calls)?,
+            _ => return Err(Trouble::Line),
+        };
+        let (found, _) = agreement_of(&bench, &chip.image, script.as_bytes())?;
+        write!(out, "  {seed}: ")?;
+        tell_agreement(found, out)?;
+    }
+    Ok(())
+}
+
+// Tells what came of a sweep over so many calls.
+fn tell_swept(found: Swept, calls: &str, good: &str, out: &mut String) -> Result<(), AllocError> {
+    match found {
+        // (how often pages are read is not told: that is for the cache to choose)
+        Swept::Whole(_) if calls == "reads" => write!(out, "  {calls}: {good}\n"),
+        Swept::Whole(count) => write!(out, "  {count} {calls}: {good}\n"),
+        Swept::Cut { passed, pick } => {
+            write!(out, "  cut behind {passed} calls, as {pick} says: not so\n")
+        }
+        Swept::Failed { nth } => write!(out, "  where the call {nth} fails: not so\n"),
+    }
+}
+
+/// Cuts the power at each program, erase and reply of a script.
+pub fn cut(steps: &Steps, out: &mut String) -> Result<(), Trouble> {
+    let good = "after a cut at each a check leaves a front of the steps and two free blocks";
+    tell_swept(cut_each(steps)?, "programs, erases and replies", good, out)?;
+    Ok(())
+}
+
+/// Cuts the power of a script behind so many calls, and of the check behind it at each of its own.
+pub fn cut_twice(steps: &Steps, words: &[&str], out: &mut String) -> Result<(), Trouble> {
+    let good = "cut at each of them the check leaves the files too";
+    for at in 1..words.len() {
+        let passed = number(words, at, u64::MAX)?;
+        let found = cut_recoveries(steps, passed)?;
+        write!(out, "  behind {passed}:")?;
+        tell_swept(found, "programs and erases of a check", good, out)?;
+    }
+    Ok(())
+}
+
+/// Lets each call of a kind fail in turn.
+pub fn fail(steps: &Steps, words: &[&str], out: &mut String) -> Result<(), Trouble> {
+    let good =
+        "where one fails the run ends, and a check leaves a front of the steps and two free blocks";
+    for at in 1..words.len() {
+        let kind = kind_of(word(words, at)?)?;
+        tell_swept(fail_each(steps, kind)?, kind_text(kind), good, out)?;
+    }
+    Ok(())
+}
