@@ -16,6 +16,8 @@ returns-clause-looks g c =
         cache_name = all.same.cache_name;
         cache_size = all.same.cache_size;
         faults = all.same.faults;
+        writes = all.same.writes;
+        asked = all.same.asked;
         few = all.same.few;
       };
     }
