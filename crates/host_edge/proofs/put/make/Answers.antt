@@ -13,5 +13,5 @@ returns-clause-half g c =
     let items : c.push.new.self.items ≡ was ++ file ∷ [] = c.in_ok-push.ensures.items ∙ ap (λ (l : List HostFile). l ++ file ∷ []) c.reserve.ensures.items in
     let name : c.in_ok-name.name.items ≡ c.args.name.now = search rules in
     let made : host_entries c.push.new.self.items ≡ host_entries was ++ record { name = c.args.name.now; size = count } ∷ [] =
-        ap (λ (l : List HostFile). host_entries l) items ∙ map_push host_entry was file ∙ ap (λ (l : List ℕ). host_entries was ++ record { name = l; size = count } ∷ []) name in
+    ap (λ (l : List HostFile). host_entries l) items ∙ map_push host_entry was file ∙ ap (λ (l : List ℕ). host_entries was ++ record { name = l; size = count } ∷ []) name in
     on_any c.write_some-written.result.answer (inr (count, c.write_some-written.ensures.within, made))
