@@ -5,7 +5,7 @@ use Rattle.table_model.specs.declared.error.Differ.{Differ as Differs}
 use Rattle.vol_mount.specs.declared.lent.Part.{Part}
 use Rattle.vol_mount.specs.declared.lent.Part.TheVariants.{Work, Slots, Cache, Check, Line}
 use Rattle.tool_core.specs.declared.ending.Ending.{Ending}
-use Rattle.tool_core.specs.declared.ending.Ending.TheVariants.{Done, Usage, Geometry, ShortBuffer, NotAFs, BadLine, BoardFault, SourceFault, TooLong, Damaged, Tight, Mixed, Differ}
+use Rattle.tool_core.specs.declared.ending.Ending.TheVariants.{Done, Usage, Geometry, ShortBuffer, NotAFs, BadLine, BoardFault, SourceFault, FolderFault, TooLong, Damaged, Tight, Mixed, Differ}
 
 -- the status that a command answers
 abbrev pub status_of : Ending → ℕ
@@ -17,6 +17,7 @@ status_of (Mixed blocks) = 4
 status_of (BadLine number) = 5
 status_of BoardFault = 7
 status_of SourceFault = 8
+status_of FolderFault = 9
 status_of (ShortBuffer part need given) = 10
 status_of TooLong = 11
 status_of (Damaged count) = 12
@@ -54,6 +55,7 @@ closing_of (Mixed blocks) = codes "! mixed blocks " ++ decimal blocks
 closing_of (BadLine number) = codes "! bad line " ++ decimal number
 closing_of BoardFault = []
 closing_of SourceFault = codes "! script fault"
+closing_of FolderFault = codes "! folder fault"
 closing_of TooLong = codes "! script longer than 16777216 bytes"
 closing_of (Damaged count) = codes "! damaged " ++ decimal count
 closing_of (Tight free) = codes "! free blocks " ++ decimal free

@@ -21,3 +21,4 @@ pub mod Early
 pub mod Listing
 pub mod Checking
 pub mod Does
+pub mod Extracting

@@ -31,6 +31,8 @@ pub(crate) enum Ending {
     BoardFault,
     /// The script could not be read.
     SourceFault,
+    /// The folder failed.
+    FolderFault,
     /// The script is too long.
     TooLong,
     /// Some ids are damaged: their number.
@@ -58,6 +60,7 @@ impl Ending {
             Ending::BadLine(_) => 5,
             Ending::BoardFault => 7,
             Ending::SourceFault => 8,
+            Ending::FolderFault => 9,
             Ending::ShortBuffer { .. } => 10,
             Ending::TooLong => 11,
             Ending::Damaged(_) => 12,
@@ -150,6 +153,7 @@ fn put_closing(line: &mut Closing, ending: Ending)
         Ending::Mixed(blocks) => put_count(line, b"! mixed blocks ", u64::from(blocks)),
         Ending::BadLine(number) => put_count(line, b"! bad line ", u64::from(number)),
         Ending::SourceFault => put(line, b"! script fault"),
+        Ending::FolderFault => put(line, b"! folder fault"),
         Ending::TooLong => put(line, b"! script longer than 16777216 bytes"),
         Ending::Damaged(count) => put_count(line, b"! damaged ", u64::from(count)),
         Ending::Tight(free) => put_count(line, b"! free blocks ", u64::from(free)),

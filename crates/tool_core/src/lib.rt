@@ -6,6 +6,7 @@ mod buffers;
 mod call;
 mod checking;
 mod ending;
+mod extracting;
 mod lines;
 mod listing;
 mod mounting;
