@@ -12,7 +12,7 @@ use Rattle.table_model.specs.Files.{stat_of}
 use Rattle.table_model.specs.declared.reply.Stat.{Stat}
 use Rattle.image_model.specs.declared.damage.Damage.{Damage}
 use Rattle.image_model.specs.Tables.{table_of, damaged_of}
-use Rattle.flash_view.specs.Listing.{IsNextFile, damaged_above}
+use Rattle.file_find.specs.Listing.{IsNextFile, damaged_above}
 use Rattle.file_read.specs.Whole.{IsFileAt}
 use Rattle.vol_mount.proofs.Listed.{file_of_head}
 use Rattle.image_tool.specs.declared.listing.Part.{Part}

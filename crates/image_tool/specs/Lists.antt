@@ -5,7 +5,7 @@ use Rattle.table_model.specs.Table.{File, file_above}
 use Rattle.table_model.specs.Files.{stat_of}
 use Rattle.table_model.specs.declared.reply.Stat.{Stat}
 use Rattle.image_model.specs.Tables.{table_of, damaged_of}
-use Rattle.flash_view.specs.Listing.{damaged_above}
+use Rattle.file_find.specs.Listing.{damaged_above}
 use Rattle.file_read.specs.Whole.{IsFileAt}
 use Rattle.image_tool.specs.Texts.{record_line, damage_line, list_text, line_if}
 

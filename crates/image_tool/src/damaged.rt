@@ -4,13 +4,14 @@ ghost use Rattle.std.specs.Option.{option_map, IfSome};
 ghost use Rattle.geometry.specs.Numbers.{page_count};
 ghost use Rattle.nor_core.specs.Count.{Rose};
 ghost use Rattle.flash_view.specs.Same.{IsSameView};
-ghost use Rattle.flash_view.specs.Marks.{IsMarked};
+ghost use Rattle.file_find.specs.Marks.{IsMarked};
 ghost use Rattle.image_tool.specs.Texts.{damage_line};
-ghost use Rattle.flash_view.specs.Listing.{damaged_above};
+ghost use Rattle.file_find.specs.Listing.{damaged_above};
 ghost use Rattle.image_tool.specs.Lists.{next_damage};
 ghost use Rattle.image_tool.specs.Saying.{OnlySays, SaysFront};
 
 use crate::lines::put_damaged;
+use file_find::next_damaged;
 use flash_view::View;
 use image_model::Damage;
 use nor_core::{Board, Failed, NorState};
@@ -51,7 +52,7 @@ pub(crate) fn say_next_damaged<B: Board>(
     ensures whole { B.tells v.old.nor.now → OnOk result (B.said v.new.nor.now ≡ B.said v.old.nor.now ++ next_damage v.old.geometry (B.bytes v.old.nor.now) after) }
     ensures front { B.tells v.old.nor.now → OnErr result (SaysFront B.NorState v.old.nor.now v.new.nor.now (next_damage v.old.geometry (B.bytes v.old.nor.now) after)) }
 {
-    let Some((id, cause)) = v.next_damaged(marks, after)? else {
+    let Some((id, cause)) = next_damaged(v, marks, after)? else {
         return Ok(None);
     };
     say_damaged(v, id, cause, line)?;

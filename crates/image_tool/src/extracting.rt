@@ -5,7 +5,7 @@ ghost use Rattle.nor_core.specs.Count.{Rose};
 ghost use Rattle.table_model.specs.Table.{file_above};
 ghost use Rattle.image_model.specs.Tables.{table_of, damaged_of};
 ghost use Rattle.flash_view.specs.Same.{IsSameView};
-ghost use Rattle.flash_view.specs.Marks.{IsMarked};
+ghost use Rattle.file_find.specs.Marks.{IsMarked};
 ghost use Rattle.image_tool.specs.Extracting.{ExtractsTo};
 ghost use Rattle.image_tool.specs.Lists.{list_of, next_record as the_next_record};
 ghost use Rattle.image_tool.specs.Putting.{FolderGoes};
@@ -16,6 +16,7 @@ use crate::error::ExtractErr;
 use crate::listing::{Part, list_part};
 use crate::putting::put_bytes;
 use crate::records::say_next_record;
+use file_find::survey;
 use flash_view::View;
 use folder_core::{Folder, FolderState};
 use nor_core::{Board, Failed, NorState};
@@ -129,7 +130,7 @@ pub fn extract<B: Board, F: Folder>(
         (table_of v.old.geometry (B.bytes v.old.nor.now)) v.old.nor.now v.new.nor.now folder.old folder.new
         (λ count. count ≡ length (damaged_of v.old.geometry (B.bytes v.old.nor.now))) result }
 {
-    let Ok(()) = v.survey(marks) else {
+    let Ok(()) = survey(v, marks) else {
         return Err(ExtractErr::BoardFault);
     };
     extract_marked(v, marks, folder, line)

@@ -4,7 +4,7 @@ ghost use Rattle.geometry.specs.Numbers.{page_count};
 ghost use Rattle.nor_core.specs.Count.{Rose};
 ghost use Rattle.image_model.specs.Tables.{damaged_of};
 ghost use Rattle.flash_view.specs.Same.{IsSameView};
-ghost use Rattle.flash_view.specs.Marks.{IsMarked};
+ghost use Rattle.file_find.specs.Marks.{IsMarked};
 ghost use Rattle.image_tool.specs.Lists.{list_of};
 ghost use Rattle.image_tool.specs.Parts.{lines_of, text_of, line_above, next_line};
 ghost use Rattle.image_tool.specs.Saying.{OnlySays, SaysFront};
@@ -12,6 +12,7 @@ ghost use Rattle.image_tool.specs.Saying.{OnlySays, SaysFront};
 use crate::damaged::say_next_damaged;
 use crate::error::ToolErr;
 use crate::records::say_next_record;
+use file_find::survey;
 use flash_view::View;
 use nor_core::{Board, Failed, NorState};
 
@@ -113,7 +114,7 @@ pub fn list<B: Board>(
     ensures whole { B.tells v.old.nor.now → OnOk result (B.said v.new.nor.now ≡ B.said v.old.nor.now ++ list_of v.old.geometry (B.bytes v.old.nor.now)) }
     ensures front { B.tells v.old.nor.now → OnErr result (SaysFront B.NorState v.old.nor.now v.new.nor.now (list_of v.old.geometry (B.bytes v.old.nor.now))) }
 {
-    let Ok(()) = v.survey(marks) else {
+    let Ok(()) = survey(v, marks) else {
         return Err(ToolErr::BoardFault);
     };
     match list_marked(v, marks, line) {

@@ -4,12 +4,13 @@ ghost use Rattle.std.specs.Option.{IfSome};
 ghost use Rattle.geometry.specs.Numbers.{page_count};
 ghost use Rattle.nor_core.specs.Count.{Rose};
 ghost use Rattle.flash_view.specs.Same.{IsSameView, OnlyLooks};
-ghost use Rattle.flash_view.specs.Marks.{IsMarked};
+ghost use Rattle.file_find.specs.Marks.{IsMarked};
 ghost use Rattle.image_tool.specs.Texts.{stat_line};
 ghost use Rattle.image_tool.specs.Lists.{NextRecord, next_record as the_next_record};
 ghost use Rattle.image_tool.specs.Saying.{OnlySays, SaysFront};
 
 use crate::lines::put_record;
+use file_find::next_file;
 use file_read::stat_at;
 use flash_view::View;
 use nor_core::{Board, Failed, Nor, NorState};
@@ -30,7 +31,7 @@ fn next_record<N: Nor>(
     ensures above { IfOk result (λ found. IfSome found (λ next. after < next.1.id)) }
     ensures told { N.tells v.old.nor.now → IfOk result (λ found. NextRecord v.old.geometry (N.bytes v.old.nor.now) after found) }
 {
-    let Some((id, header)) = v.next_file(marks, after)? else {
+    let Some((id, header)) = next_file(v, marks, after)? else {
         return Ok(None);
     };
     match stat_at(v, id, header)? {

@@ -1,6 +1,6 @@
 use Rattle.std.proofs.Common.{Option, ℕ, subst}
 use Rattle.table_model.specs.Files.{stat_of}
-use Rattle.flash_view.specs.Listing.{IsNextFile, NextFile}
+use Rattle.file_find.specs.Listing.{IsNextFile, NextFile}
 use Rattle.vol_mount.proofs.Listed.{file_of_head}
 use Rattle.image_tool.proofs.Found.{record_headed, some_headed}
 use Rattle.image_tool.proofs.records.next_record.Goals as goal
