@@ -21,6 +21,10 @@ use Rattle.volume.specs.Goes.{StopsShort}
 use Rattle.volume.specs.Calls.{Calls}
 use Rattle.volume_run.specs.Ready.{IsReady, IsAnswered}
 
+-- a fault is one that breaks
+no_fault : {reply : Answer} → breaks reply ≡ false → reply ≡ Refuses DeviceFault → ⊥
+no_fault {reply} whole fault = let no : true ≡ false = sym (ap breaks fault) ∙ whole in cc
+
 module _ {N : Type 0} {nor : NorOf N} where
   -- the moment at which it stands
   holds_at : {g : Geometry} {v : Volume N nor} {s : State} (ready : IsReady g v s) → Holds v ready.moment
@@ -40,10 +44,6 @@ module _ {N : Type 0} {nor : NorOf N} where
   -- it still takes calls
   takes_on : {old new : Volume N nor} {ask : Ask} {reply : Answer} → takes_calls old ≡ true → Calls ask old new reply → breaks reply ≡ false → takes_calls new ≡ true
   takes_on takes calls whole = ⊎_elim (λ same. ap is_open same ∙ takes) (λ broken. absurd (let no : false ≡ true = sym whole ∙ broken.2 in cc)) calls.stays
-
-  -- a fault is one that breaks
-  no_fault : {reply : Answer} → breaks reply ≡ false → reply ≡ Refuses DeviceFault → ⊥
-  no_fault {reply} whole fault = let no : true ≡ false = sym (ap breaks fault) ∙ whole in cc
 
   -- the call was answered
   pub answered : {g : Geometry} {old new : Volume N nor} {s : State} {ask : Ask} {reply : Answer} → IsReady g old s → Calls ask old new reply → breaks reply ≡ false → IsAnswered g s ask new reply
