@@ -25,6 +25,13 @@ use Rattle.volume_run.specs.Ready.{IsReady, IsAnswered}
 no_fault : {reply : Answer} → breaks reply ≡ false → reply ≡ Refuses DeviceFault → ⊥
 no_fault {reply} whole fault = let no : true ≡ false = sym (ap breaks fault) ∙ whole in cc
 
+-- an answer that tells no fault breaks nothing
+pub unbroken : (a : Answer) → ¬ (a ≡ Refuses DeviceFault) → ((d : Differ) → ¬ (a ≡ Refuses (Damaged d))) → breaks a ≡ false
+unbroken (Refuses DeviceFault) fault damage = absurd (fault refl)
+unbroken (Refuses (Damaged d)) fault damage = absurd (damage d refl)
+unbroken (Refuses _) fault damage = refl
+unbroken _ fault damage = refl
+
 module _ {N : Type 0} {nor : NorOf N} where
   -- the moment at which it stands
   holds_at : {g : Geometry} {v : Volume N nor} {s : State} (ready : IsReady g v s) → Holds v ready.moment

@@ -2,6 +2,7 @@
 use Rattle.std.specs.Prelude.{◌≡◌, true}
 use Rattle.geometry.specs.declared.geometry.Geometry.{Geometry}
 use Rattle.nor_core.specs.declared.state.NorState.{Ghosts as NorOf}
+use Rattle.nor_core.specs.Device.{Changes}
 use Rattle.table_model.specs.Table.{State}
 use Rattle.table_model.specs.Ask.{Ask}
 use Rattle.table_model.specs.Reply.{Answer}
@@ -10,17 +11,24 @@ use Rattle.table_model.specs.Window.{Moment}
 use Rattle.run_model.specs.Ran.{RunStands}
 use Rattle.volume.specs.declared.volume.Volume.{Volume}
 use Rattle.volume.specs.Holds.{memory}
+use Rattle.volume.specs.Same.{IsSameVolume}
 use Rattle.volume.specs.Stages.{takes_calls}
 
--- A volume of that geometry takes calls and stands at a state of the flat table: two blocks are free, and the table has room.
-pub record IsReady {N : Type 0} {nor : NorOf N} (g : Geometry) (v : Volume N nor) (s : State) : Type 0 where
-  pub geometry : v.geometry ≡ g
-  pub takes : takes_calls v ≡ true
-  pub moment : Moment
-  pub stands : RunStands nor g v.nor.now (memory v) moment
-  pub state_is : moment.state ≡ s
+module _ {N : Type 0} {nor : NorOf N} where
+  -- A volume of that geometry takes calls and stands at a state of the flat table: two blocks are free, and the table has room.
+  pub record IsReady (g : Geometry) (v : Volume N nor) (s : State) : Type 0 where
+    pub geometry : v.geometry ≡ g
+    pub takes : takes_calls v ≡ true
+    pub moment : Moment
+    pub stands : RunStands nor g v.nor.now (memory v) moment
+    pub state_is : moment.state ≡ s
 
--- A call was answered as the flat table is, and the volume stands at the state after it.
-pub record IsAnswered {N : Type 0} {nor : NorOf N} (g : Geometry) (s : State) (ask : Ask) (new : Volume N nor) (reply : Answer) : Type 0 where
-  pub reply_is : reply ≡ (answer g true s ask).answer
-  pub ready : IsReady g new (answer g true s ask).next
+  -- A call was answered as the flat table is, and the volume stands at the state after it.
+  pub record IsAnswered (g : Geometry) (s : State) (ask : Ask) (new : Volume N nor) (reply : Answer) : Type 0 where
+    pub reply_is : reply ≡ (answer g true s ask).answer
+    pub ready : IsReady g new (answer g true s ask).next
+
+  -- The same volume some calls later, which said nothing.
+  pub record IsMoved (old new : Volume N nor) : Type 0 where
+    pub same : IsSameVolume old new
+    pub goes : Changes nor old.nor.now new.nor.now (λ was image. Unit {0})

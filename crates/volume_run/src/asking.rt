@@ -1,0 +1,40 @@
+ghost use Rattle.std.specs.Prelude.{◌≡◌, ◌≢◌, length, IfOk, IfErr, Err};
+ghost use Rattle.geometry.specs.declared.geometry.Geometry.{Geometry};
+ghost use Rattle.nor_core.specs.Count.{Rose};
+ghost use Rattle.table_model.specs.Table.{State};
+ghost use Rattle.table_model.specs.Ask.{asked};
+ghost use Rattle.volume.specs.Replies.{HasRoomFor, shown_by};
+ghost use Rattle.volume_run.specs.Ready.{IsReady, IsAnswered, IsMoved};
+
+use nor_core::{Nor, NorState};
+use table_model::{Call, Differ, FsErr};
+use volume::{Told, Volume};
+
+/// Why a tool makes no further call.
+#[derive(Clone, Copy, Debug, PartialEq, Eq)]
+pub enum Stop {
+    /// The device failed.
+    Fault,
+    /// A page doesn't read as what was written there.
+    Differ(Differ),
+}
+
+/// Does a call, with bytes for what is read or filled in, and answers what it told, a refusal too; or the device failed, or a page
+/// reads otherwise than it was written.
+pub fn ask<N: Nor>(
+    volume: &mut Volume<'_, N>,
+    call: &Call<'_>,
+    lent: &mut [u8],
+) -> Result<Told, Stop>
+    requires room { HasRoomFor (asked call.now) (length lent.old) }
+    ensures moved { IsMoved volume.old volume.new }
+    ensures cause { result ≡ Err Stop.Fault → Rose (N.faults volume.old.nor.now) (N.faults volume.new.nor.now) }
+    ensures answered { (g : Geometry) (s : State) → IsReady g volume.old s → IfOk result (λ told. IsAnswered g s (asked call.now) volume.new (shown_by told lent.new)) }
+    ensures stops { (g : Geometry) (s : State) → IsReady g volume.old s → IfErr result (λ why. why ≡ Stop.Fault) }
+{
+    match volume.answer(call, lent) {
+        Told::Refusal(FsErr::DeviceFault) => Err(Stop::Fault),
+        Told::Refusal(FsErr::Damaged(differ)) => Err(Stop::Differ(differ)),
+        told => Ok(told),
+    }
+}
