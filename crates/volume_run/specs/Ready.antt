@@ -1,11 +1,11 @@
 -- Volumes between two calls of a tool.
-use Rattle.std.specs.Prelude.{◌≡◌, true}
+use Rattle.std.specs.Prelude.{◌≡◌, ℕ, List, true, Option, Some, None}
 use Rattle.geometry.specs.declared.geometry.Geometry.{Geometry}
 use Rattle.nor_core.specs.declared.state.NorState.{Ghosts as NorOf}
 use Rattle.nor_core.specs.Device.{Changes}
 use Rattle.table_model.specs.Table.{State}
-use Rattle.table_model.specs.Ask.{Ask}
-use Rattle.table_model.specs.Reply.{Answer}
+use Rattle.table_model.specs.Ask.{Ask, Opens}
+use Rattle.table_model.specs.Reply.{Answer, Tells}
 use Rattle.table_model.specs.Flat.{answer}
 use Rattle.table_model.specs.Window.{Moment}
 use Rattle.run_model.specs.Ran.{RunStands}
@@ -13,6 +13,11 @@ use Rattle.volume.specs.declared.volume.Volume.{Volume}
 use Rattle.volume.specs.Holds.{memory}
 use Rattle.volume.specs.Same.{IsSameVolume}
 use Rattle.volume.specs.Stages.{takes_calls}
+
+-- the descriptor that an opening told, or None where it was refused
+abbrev pub opened : Answer → Option ℕ
+opened (Tells fd) = Some fd
+opened _ = None
 
 module _ {N : Type 0} {nor : NorOf N} where
   -- A volume of that geometry takes calls and stands at a state of the flat table: two blocks are free, and the table has room.
@@ -27,6 +32,11 @@ module _ {N : Type 0} {nor : NorOf N} where
   pub record IsAnswered (g : Geometry) (s : State) (ask : Ask) (new : Volume N nor) (reply : Answer) : Type 0 where
     pub reply_is : reply ≡ (answer g true s ask).answer
     pub ready : IsReady g new (answer g true s ask).next
+
+  -- An opening was answered as the flat table is.
+  pub record IsOpened (g : Geometry) (s : State) (name : List ℕ) (flags : ℕ) (new : Volume N nor) (fd : Option ℕ) : Type 0 where
+    pub fd_is : fd ≡ opened (answer g true s (Opens name flags)).answer
+    pub ready : IsReady g new (answer g true s (Opens name flags)).next
 
   -- The same volume some calls later, which said nothing.
   pub record IsMoved (old new : Volume N nor) : Type 0 where

@@ -4,7 +4,7 @@ ghost use Rattle.nor_core.specs.Count.{Rose};
 ghost use Rattle.table_model.specs.Table.{State};
 ghost use Rattle.table_model.specs.Ask.{asked};
 ghost use Rattle.volume.specs.Replies.{HasRoomFor, shown_by};
-ghost use Rattle.volume_run.specs.Ready.{IsReady, IsAnswered, IsMoved};
+ghost use Rattle.volume_run.specs.Ready.{IsReady, IsAnswered, IsOpened, IsMoved};
 
 use nor_core::{Nor, NorState};
 use table_model::{Call, Differ, FsErr};
@@ -36,5 +36,24 @@ pub fn ask<N: Nor>(
         Told::Refusal(FsErr::DeviceFault) => Err(Stop::Fault),
         Told::Refusal(FsErr::Damaged(differ)) => Err(Stop::Differ(differ)),
         told => Ok(told),
+    }
+}
+
+/// Opens a file, and answers its descriptor, or None where the opening is refused.
+pub fn open<N: Nor>(
+    volume: &mut Volume<'_, N>,
+    name: &[u8],
+    flags: u32,
+) -> Result<Option<u16>, Stop>
+    ensures moved { IsMoved volume.old volume.new }
+    ensures cause { result ≡ Err Stop.Fault → Rose (N.faults volume.old.nor.now) (N.faults volume.new.nor.now) }
+    ensures answered { (g : Geometry) (s : State) → IsReady g volume.old s → IfOk result (IsOpened g s name.now flags volume.new) }
+    ensures stops { (g : Geometry) (s : State) → IsReady g volume.old s → IfErr result (λ why. why ≡ Stop.Fault) }
+{
+    match volume.open_file(name, flags) {
+        Ok(fd) => Ok(Some(fd)),
+        Err(FsErr::DeviceFault) => Err(Stop::Fault),
+        Err(FsErr::Damaged(differ)) => Err(Stop::Differ(differ)),
+        Err(_) => Ok(None),
     }
 }

@@ -4,4 +4,4 @@
 
 mod asking;
 
-pub use asking::{Stop, ask};
+pub use asking::{Stop, ask, open};

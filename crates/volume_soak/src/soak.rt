@@ -1,0 +1,50 @@
+use crate::draws::{draw_of, next_number};
+use crate::summary::count_files;
+use crate::turns::turn;
+use nor_core::{Nor, NorState};
+use volume::Volume;
+use volume_run::Stop;
+
+/// What a soak did and left.
+#[derive(Clone, Copy, Debug, PartialEq, Eq)]
+pub struct Summary {
+    /// Turns that were done.
+    pub ok: u32,
+    /// Files in the end.
+    pub files: u32,
+    /// Their bytes.
+    pub bytes: u64,
+}
+
+// Makes so many turns, the draws from a seed, and answers how many were done.
+fn turns_from<N: Nor>(
+    volume: &mut Volume<'_, N>,
+    seed: u64,
+    turns: u32,
+    lent: &mut [u8],
+) -> Result<u32, Stop> {
+    let mut number = seed;
+    let mut ok = 0;
+    let mut made = 0;
+    while made < turns {
+        number = next_number(number);
+        if turn(volume, draw_of(number), lent)? {
+            ok += 1;
+        }
+        made += 1;
+    }
+    Ok(ok)
+}
+
+/// Makes so many turns of calls on a checked volume, drawn from a seed, and answers what they did and left. The lent bytes are for what is
+/// read and written, at least 600.
+pub fn soak<N: Nor>(
+    volume: &mut Volume<'_, N>,
+    seed: u64,
+    turns: u32,
+    lent: &mut [u8],
+) -> Result<Summary, Stop> {
+    let ok = turns_from(volume, seed, turns, lent)?;
+    let (files, bytes) = count_files(volume)?;
+    Ok(Summary { ok, files, bytes })
+}
