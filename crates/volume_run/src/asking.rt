@@ -5,6 +5,7 @@ ghost use Rattle.table_model.specs.Table.{State};
 ghost use Rattle.table_model.specs.Ask.{asked};
 ghost use Rattle.volume.specs.Replies.{HasRoomFor, shown_by};
 ghost use Rattle.volume_run.specs.Ready.{IsReady, IsAnswered, IsOpened, IsMoved};
+ghost use Rattle.volume_run.specs.Stops.{stop_by};
 
 use nor_core::{Nor, NorState};
 use table_model::{Call, Differ, FsErr};
@@ -39,6 +40,17 @@ pub fn ask<N: Nor>(
     }
 }
 
+/// Why no further call is made after a refusal, if that tells a fault.
+pub fn stop_of(why: FsErr) -> Option<Stop>
+    ensures { result ≡ stop_by why }
+{
+    match why {
+        FsErr::DeviceFault => Some(Stop::Fault),
+        FsErr::Damaged(differ) => Some(Stop::Differ(differ)),
+        _ => None,
+    }
+}
+
 /// Opens a file, and answers its descriptor, or None where the opening is refused.
 pub fn open<N: Nor>(
     volume: &mut Volume<'_, N>,
@@ -52,8 +64,9 @@ pub fn open<N: Nor>(
 {
     match volume.open_file(name, flags) {
         Ok(fd) => Ok(Some(fd)),
-        Err(FsErr::DeviceFault) => Err(Stop::Fault),
-        Err(FsErr::Damaged(differ)) => Err(Stop::Differ(differ)),
-        Err(_) => Ok(None),
+        Err(why) => match stop_of(why) {
+            Some(stop) => Err(stop),
+            None => Ok(None),
+        },
     }
 }

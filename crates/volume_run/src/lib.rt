@@ -4,4 +4,4 @@
 
 mod asking;
 
-pub use asking::{Stop, ask, open};
+pub use asking::{Stop, ask, open, stop_of};

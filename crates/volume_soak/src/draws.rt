@@ -1,14 +1,5 @@
-ghost use Rattle.std.specs.Prelude.{◌≡◌, ◌+◌, ◌*◌, ◌/◌, ◌<◌, ◌≤◌, ◌^◌};
-ghost use Rattle.nor_core.specs.Picks.{next_number};
-ghost use Rattle.volume_soak.specs.Draws.{name_of, count_of, byte_of, kind_of};
-
-/// The generator's next number.
-pub(crate) fn next_number(x: u64) -> u64
-    ensures { result ≡ next_number x }
-{
-    x.wrapping_mul(6364136223846793005)
-        .wrapping_add(1442695040888963407)
-}
+ghost use Rattle.std.specs.Prelude.{◌≡◌, ◌/◌, ◌≤◌, ◌^◌};
+ghost use Rattle.volume_soak.specs.Asks.{IsDraw};
 
 /// What a turn does.
 #[derive(Clone, Copy, Debug, PartialEq, Eq)]
@@ -36,11 +27,11 @@ pub(crate) struct Draw {
     pub byte: u8,
 }
 
-/// What the draw of a generator's number asks for: its upper 31 bits tell.
-pub(crate) fn draw_of(x: u64) -> Draw
-    ensures { IsDraw (x / 2 ^ 33) result }
+/// What a draw of the generator, of 31 bits, asks for.
+pub(crate) fn draw_of(r: u32) -> Draw
+    ensures is { IsDraw r result }
+    ensures few { result.count ≤ 600 }
 {
-    let r = (x >> 33) as u32;
     Draw {
         kind: match r / 8 % 4 {
             0 => Kind::Adds,

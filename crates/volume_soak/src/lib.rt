@@ -2,8 +2,8 @@
 #![tactic(auto)]
 
 mod draws;
-mod soak;
+mod soaking;
 mod summary;
 mod turns;
 
-pub use soak::{Summary, soak};
+pub use soaking::{Summary, soak};

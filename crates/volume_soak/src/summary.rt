@@ -1,14 +1,13 @@
 use nor_core::{Nor, NorState};
-use table_model::{FsErr, Stat};
+use table_model::Stat;
 use volume::Volume;
-use volume_run::Stop;
+use volume_run::{Stop, stop_of};
 
 // The record of the file of the least id above one, or none.
 fn next<N: Nor>(volume: &mut Volume<'_, N>, after: u16) -> Result<Option<Stat>, Stop> {
     match volume.next(after) {
         Ok(found) => Ok(found),
-        Err(FsErr::Damaged(differ)) => Err(Stop::Differ(differ)),
-        Err(_) => Err(Stop::Fault),
+        Err(why) => Err(stop_of(why).unwrap_or(Stop::Fault)),
     }
 }
 

@@ -1,12 +1,14 @@
-ghost use Rattle.std.specs.Prelude.{◌≡◌, ◌≤◌, ℕ, length, IfOk, IfErr, Err, Some};
+ghost use Rattle.std.specs.Prelude.{◌≡◌, ◌≤◌, ℕ, List, length, not, IfOk, IfErr, Err, Some};
 ghost use Rattle.geometry.specs.declared.geometry.Geometry.{Geometry};
 ghost use Rattle.nor_core.specs.Count.{Rose};
 ghost use Rattle.table_model.specs.Table.{State};
 ghost use Rattle.table_model.specs.Ask.{asked};
+ghost use Rattle.table_model.specs.Steps.{is_refusal};
+ghost use Rattle.volume.specs.Replies.{shown_by};
 ghost use Rattle.volume_run.specs.Ready.{IsReady, IsMoved};
-ghost use Rattle.volume_soak.specs.Draws.{IsDraw};
+ghost use Rattle.volume_soak.specs.Asks.{IsDraw, asks_of, bytes_of};
 ghost use Rattle.volume_soak.specs.Turns.{through, on_opened, removal, turn};
-ghost use Rattle.volume_soak.specs.Doing.{asks_of, Did};
+ghost use Rattle.volume_soak.specs.Doing.{Did};
 
 use crate::draws::{Draw, Kind};
 use nor_core::{Nor, NorState};
@@ -39,30 +41,48 @@ impl Task {
 }
 
 // Whether a call that told this was done.
-fn is_done(told: &Told) -> bool {
+fn is_done(told: &Told) -> bool
+    ensures { (lent : List ℕ) → result ≡ not (is_refusal (shown_by told.now lent)) }
+{
     !matches!(told, Told::Refusal(_))
 }
 
 // Does a task through a descriptor, and closes that.
+#[tactic(auto, using(volume_run::proofs::Moving::moved_then))]
 fn finish<N: Nor>(
     volume: &mut Volume<'_, N>,
     fd: u16,
     task: Task,
     lent: &mut [u8],
-) -> Result<bool, Stop> {
+) -> Result<bool, Stop>
+    requires room { bytes_of task ≤ length lent.old }
+    ensures size { length lent.new ≡ length lent.old }
+    ensures moved { IsMoved volume.old volume.new }
+    ensures cause { result ≡ Err Stop.Fault → Rose (N.faults volume.old.nor.now) (N.faults volume.new.nor.now) }
+    ensures did { (g : Geometry) (s : State) → IsReady g volume.old s → IfOk result (Did g volume.new (on_opened g s (asks_of task) (Some fd))) }
+    ensures stops { (g : Geometry) (s : State) → IsReady g volume.old s → IfErr result (λ why. why ≡ Stop.Fault) }
+{
     let told = ask(volume, &task.call(fd), lent)?;
     ask(volume, &Call::Close { fd }, lent)?;
     Ok(is_done(&told))
 }
 
 // Opens a file, and does a task with it.
+#[tactic(auto, using(volume_run::proofs::Moving::moved_then))]
 fn through<N: Nor>(
     volume: &mut Volume<'_, N>,
     name: &[u8],
     flags: u32,
     task: Task,
     lent: &mut [u8],
-) -> Result<bool, Stop> {
+) -> Result<bool, Stop>
+    requires room { bytes_of task ≤ length lent.old }
+    ensures size { length lent.new ≡ length lent.old }
+    ensures moved { IsMoved volume.old volume.new }
+    ensures cause { result ≡ Err Stop.Fault → Rose (N.faults volume.old.nor.now) (N.faults volume.new.nor.now) }
+    ensures did { (g : Geometry) (s : State) → IsReady g volume.old s → IfOk result (Did g volume.new (through g s name.now flags (asks_of task))) }
+    ensures stops { (g : Geometry) (s : State) → IsReady g volume.old s → IfErr result (λ why. why ≡ Stop.Fault) }
+{
     match open(volume, name, flags)? {
         Some(fd) => finish(volume, fd, task, lent),
         None => Ok(false),
@@ -70,17 +90,32 @@ fn through<N: Nor>(
 }
 
 // Removes a file.
-fn remove<N: Nor>(volume: &mut Volume<'_, N>, name: &[u8], lent: &mut [u8]) -> Result<bool, Stop> {
+fn remove<N: Nor>(volume: &mut Volume<'_, N>, name: &[u8], lent: &mut [u8]) -> Result<bool, Stop>
+    ensures size { length lent.new ≡ length lent.old }
+    ensures moved { IsMoved volume.old volume.new }
+    ensures cause { result ≡ Err Stop.Fault → Rose (N.faults volume.old.nor.now) (N.faults volume.new.nor.now) }
+    ensures did { (g : Geometry) (s : State) → IsReady g volume.old s → IfOk result (Did g volume.new (removal g s name.now)) }
+    ensures stops { (g : Geometry) (s : State) → IsReady g volume.old s → IfErr result (λ why. why ≡ Stop.Fault) }
+{
     let told = ask(volume, &Call::Remove { name }, lent)?;
     Ok(is_done(&told))
 }
 
-/// Makes the turn of a draw, and answers whether all of it was done.
+/// Makes the turn of a draw, and answers whether all of it was done. The lent bytes are for what is written and read, at least 600.
+#[tactic(auto, unfolding(crate::specs::Turns::turn))]
 pub(crate) fn turn<N: Nor>(
     volume: &mut Volume<'_, N>,
     draw: Draw,
     lent: &mut [u8],
-) -> Result<bool, Stop> {
+) -> Result<bool, Stop>
+    requires few { draw.count ≤ 600 }
+    requires room { 600 ≤ length lent.old }
+    ensures size { length lent.new ≡ length lent.old }
+    ensures moved { IsMoved volume.old volume.new }
+    ensures cause { result ≡ Err Stop.Fault → Rose (N.faults volume.old.nor.now) (N.faults volume.new.nor.now) }
+    ensures did { (r : ℕ) → IsDraw r draw → (g : Geometry) (s : State) → IsReady g volume.old s → IfOk result (Did g volume.new (turn g s r)) }
+    ensures stops { (g : Geometry) (s : State) → IsReady g volume.old s → IfErr result (λ why. why ≡ Stop.Fault) }
+{
     let Draw {
         kind,
         name,

@@ -1,7 +1,7 @@
-use crate::draws::{draw_of, next_number};
+use crate::draws::draw_of;
 use crate::summary::count_files;
 use crate::turns::turn;
-use nor_core::{Nor, NorState};
+use nor_core::{Nor, NorState, draw};
 use volume::Volume;
 use volume_run::Stop;
 
@@ -27,8 +27,8 @@ fn turns_from<N: Nor>(
     let mut ok = 0;
     let mut made = 0;
     while made < turns {
-        number = next_number(number);
-        if turn(volume, draw_of(number), lent)? {
+        let r = draw(&mut number);
+        if turn(volume, draw_of(r as u32), lent)? {
             ok += 1;
         }
         made += 1;
