@@ -1,5 +1,5 @@
 -- Calls after which no further one is made.
-use Rattle.std.proofs.Common.{◌≡◌, refl, sym, ◌∙◌, false, Option, Some, None}
+use Rattle.std.proofs.Common.{◌≡◌, ℕ, List, refl, sym, ◌∙◌, false, Option, Some, None}
 use Rattle.std.proofs.lemmas.Option.{same_Some, none-some}
 use Rattle.geometry.specs.declared.geometry.Geometry.{Geometry}
 use Rattle.nor_core.specs.declared.state.NorState.{Ghosts as NorOf}
@@ -9,14 +9,14 @@ use Rattle.table_model.specs.declared.error.FsErr.TheVariants.{DeviceFault, Dama
 use Rattle.table_model.specs.declared.error.Differ.{Differ as Tags}
 use Rattle.table_model.specs.Table.{State}
 use Rattle.table_model.specs.Ask.{Ask}
-use Rattle.table_model.specs.Reply.{Refuses}
+use Rattle.table_model.specs.Reply.{Answer, Refuses}
 use Rattle.volume.specs.declared.volume.Volume.{Volume}
 use Rattle.volume.specs.Replies.{breaks}
 use Rattle.volume.specs.Calls.{Calls}
 use Rattle.volume_run.specs.declared.asking.Stop.{Stop}
 use Rattle.volume_run.specs.declared.asking.Stop.TheVariants.{Fault, Differ}
-use Rattle.volume_run.specs.Ready.{IsReady}
-use Rattle.volume_run.specs.Stops.{stop_by}
+use Rattle.volume_run.specs.Ready.{IsReady, IsAnsweredFrom, IsOpenedFrom}
+use Rattle.volume_run.specs.Stops.{stop_by, StopsFrom}
 use Rattle.volume_run.proofs.Answering.{undamaged}
 
 -- after another refusal calls go on
@@ -37,3 +37,11 @@ module _ {N : Type 0} {nor : NorOf N} {old new : Volume N nor} {ask : Ask} where
   stops_by_fault DeviceFault stop is ready calls = sym (same_Some Fault stop is)
   stops_by_fault (Damaged d) stop is ready calls = absurd (undamaged ready calls d refl)
   stops_by_fault _ stop is ready calls = absurd (none-some stop is)
+
+module _ {N : Type 0} {nor : NorOf N} {old mid : Volume N nor} where
+  -- so it does after calls that were answered
+  pub stops_then : {ask : Ask} {reply : Answer} (why : Stop) → IsAnsweredFrom old ask mid reply → StopsFrom mid why → StopsFrom old why
+  stops_then why answered stops = λ g s ready. stops g _ (answered g s ready).ready
+
+  pub stops_opened : {name : List ℕ} {flags : ℕ} {fd : Option ℕ} (why : Stop) → IsOpenedFrom old name flags mid fd → StopsFrom mid why → StopsFrom old why
+  stops_opened why opens stops = λ g s ready. stops g _ (opens g s ready).ready

@@ -33,10 +33,18 @@ module _ {N : Type 0} {nor : NorOf N} where
     pub reply_is : reply ≡ (answer g true s ask).answer
     pub ready : IsReady g new (answer g true s ask).next
 
+  -- the same of a volume that stood at any state
+  abbrev pub IsAnsweredFrom : Volume N nor → Ask → Volume N nor → Answer → Type 0
+  IsAnsweredFrom old ask new reply = (g : Geometry) (s : State) → IsReady g old s → IsAnswered g s ask new reply
+
   -- An opening was answered as the flat table is.
   pub record IsOpened (g : Geometry) (s : State) (name : List ℕ) (flags : ℕ) (new : Volume N nor) (fd : Option ℕ) : Type 0 where
     pub fd_is : fd ≡ opened (answer g true s (Opens name flags)).answer
     pub ready : IsReady g new (answer g true s (Opens name flags)).next
+
+  -- the same of a volume that stood at any state
+  abbrev pub IsOpenedFrom : Volume N nor → (name : List ℕ) (flags : ℕ) → Volume N nor → Option ℕ → Type 0
+  IsOpenedFrom old name flags new fd = (g : Geometry) (s : State) → IsReady g old s → IsOpened g s name flags new fd
 
   -- The same volume some calls later, which said nothing.
   pub record IsMoved (old new : Volume N nor) : Type 0 where

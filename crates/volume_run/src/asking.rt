@@ -1,11 +1,9 @@
 ghost use Rattle.std.specs.Prelude.{◌≡◌, ◌≢◌, length, IfOk, IfErr, Err};
-ghost use Rattle.geometry.specs.declared.geometry.Geometry.{Geometry};
 ghost use Rattle.nor_core.specs.Count.{Rose};
-ghost use Rattle.table_model.specs.Table.{State};
 ghost use Rattle.table_model.specs.Ask.{asked};
 ghost use Rattle.volume.specs.Replies.{HasRoomFor, shown_by};
-ghost use Rattle.volume_run.specs.Ready.{IsReady, IsAnswered, IsOpened, IsMoved};
-ghost use Rattle.volume_run.specs.Stops.{stop_by};
+ghost use Rattle.volume_run.specs.Ready.{IsAnsweredFrom, IsOpenedFrom, IsMoved};
+ghost use Rattle.volume_run.specs.Stops.{stop_by, StopsFrom};
 
 use nor_core::{Nor, NorState};
 use table_model::{Call, Differ, FsErr};
@@ -30,8 +28,8 @@ pub fn ask<N: Nor>(
     requires room { HasRoomFor (asked call.now) (length lent.old) }
     ensures moved { IsMoved volume.old volume.new }
     ensures cause { result ≡ Err Stop.Fault → Rose (N.faults volume.old.nor.now) (N.faults volume.new.nor.now) }
-    ensures answered { (g : Geometry) (s : State) → IsReady g volume.old s → IfOk result (λ told. IsAnswered g s (asked call.now) volume.new (shown_by told lent.new)) }
-    ensures stops { (g : Geometry) (s : State) → IsReady g volume.old s → IfErr result (λ why. why ≡ Stop.Fault) }
+    ensures answered { IfOk result (λ told. IsAnsweredFrom volume.old (asked call.now) volume.new (shown_by told lent.new)) }
+    ensures stops { IfErr result (StopsFrom volume.old) }
 {
     match volume.answer(call, lent) {
         Told::Refusal(FsErr::DeviceFault) => Err(Stop::Fault),
@@ -59,8 +57,8 @@ pub fn open<N: Nor>(
 ) -> Result<Option<u16>, Stop>
     ensures moved { IsMoved volume.old volume.new }
     ensures cause { result ≡ Err Stop.Fault → Rose (N.faults volume.old.nor.now) (N.faults volume.new.nor.now) }
-    ensures answered { (g : Geometry) (s : State) → IsReady g volume.old s → IfOk result (IsOpened g s name.now flags volume.new) }
-    ensures stops { (g : Geometry) (s : State) → IsReady g volume.old s → IfErr result (λ why. why ≡ Stop.Fault) }
+    ensures answered { IfOk result (IsOpenedFrom volume.old name.now flags volume.new) }
+    ensures stops { IfErr result (StopsFrom volume.old) }
 {
     match volume.open_file(name, flags) {
         Ok(fd) => Ok(Some(fd)),
