@@ -1,5 +1,7 @@
 -- Calls after which no further one is made.
-use Rattle.std.proofs.Common.{◌≡◌, ℕ, List, refl, sym, ◌∙◌, false, Option, Some, None}
+use Rattle.std.proofs.Common.{◌≡◌, ℕ, List, refl, sym, ◌∙◌, false, Option, Some, None, Result, Ok, Err}
+use Rattle.std.specs.Prelude.{IfErr}
+use Rattle.std.specs.Result.{IsErrAnd}
 use Rattle.std.proofs.lemmas.Option.{same_Some, none-some}
 use Rattle.geometry.specs.declared.geometry.Geometry.{Geometry}
 use Rattle.nor_core.specs.declared.state.NorState.{Ghosts as NorOf}
@@ -45,3 +47,9 @@ module _ {N : Type 0} {nor : NorOf N} {old mid : Volume N nor} where
 
   pub stops_opened : {name : List ℕ} {flags : ℕ} {fd : Option ℕ} (why : Stop) → IsOpenedFrom old name flags mid fd → StopsFrom mid why → StopsFrom old why
   stops_opened why opens stops = λ g s ready. stops g _ (opens g s ready).ready
+
+module _ {N : Type 0} {nor : NorOf N} {old : Volume N nor} where
+  -- a stop that `?` passes on
+  pub stops_passed : {T : Type 0} (result : Result T Stop) (why : Stop) → IsErrAnd result (λ e. e ≡ why) → StopsFrom old why → IfErr result (StopsFrom old)
+  stops_passed (Ok x) why same stops = absurd same
+  stops_passed (Err e) why same stops = rw same stops

@@ -1,20 +1,14 @@
 -- A draw and a task of the program, and what they ask.
-use Rattle.std.specs.Prelude.{◌≡◌, ℕ, ◌==◌, if◌then◌else◌}
+use Rattle.std.specs.Prelude.{◌≡◌, ℕ}
 use Rattle.table_model.specs.Ask.{Ask, Reads, Fills}
 use Rattle.volume_soak.specs.declared.draws.Draw.{Draw}
-use Rattle.volume_soak.specs.declared.draws.Kind.{Kind}
-use Rattle.volume_soak.specs.declared.draws.Kind.TheVariants.{Adds, Makes, Removes, Reads as ReadsIt}
 use Rattle.volume_soak.specs.declared.turns.Task.{Task}
 use Rattle.volume_soak.specs.declared.turns.Task.TheVariants.{Fill, Read}
 use Rattle.volume_soak.specs.Draws.{name_of, count_of, byte_of, kind_of}
 
--- what a turn of that number does
-abbrev pub kind_at : ℕ → Kind
-kind_at k = if k == 0 then Adds else if k == 1 then Makes else if k == 2 then Removes else ReadsIt
-
 -- this is what a draw asks for
 pub record IsDraw (r : ℕ) (d : Draw) : Type 0 where
-  pub kind : d.kind ≡ kind_at (kind_of r)
+  pub kind : d.kind ≡ kind_of r
   pub name : d.name ≡ name_of r
   pub count : d.count ≡ count_of r
   pub byte : d.byte ≡ byte_of r

@@ -1,5 +1,5 @@
 -- The turns of a soak on the flat table, and its summary.
-use Rattle.std.specs.Prelude.{ℕ, zero, suc, ◌+◌, ◌-◌, List, [], ◌∷◌, ◌++◌, length, replicate, min, codes, decimal, Bool, true, false, not, ◌==◌, Option, Some, None, if◌then◌else◌, sum_by}
+use Rattle.std.specs.Prelude.{ℕ, zero, suc, ◌+◌, ◌-◌, List, [], ◌∷◌, ◌++◌, length, replicate, min, codes, decimal, Bool, true, false, not, Option, Some, None, if◌then◌else◌, sum_by}
 use Rattle.geometry.specs.declared.geometry.Geometry.{Geometry}
 use Rattle.nor_core.specs.Picks.{drawn}
 use Rattle.table_model.specs.Table.{File, State}
@@ -7,6 +7,8 @@ use Rattle.table_model.specs.Ask.{Ask, Opens, Reads, Fills, Closes, Removes}
 use Rattle.table_model.specs.Flat.{answer}
 use Rattle.table_model.specs.Steps.{is_refusal}
 use Rattle.volume_run.specs.Ready.{opened}
+use Rattle.volume_soak.specs.declared.draws.Kind.{Kind}
+use Rattle.volume_soak.specs.declared.draws.Kind.TheVariants.{Adds, Makes, Drops, Looks}
 use Rattle.volume_soak.specs.Draws.{name_of, count_of, byte_of, kind_of}
 
 -- the state after a turn, and whether all of it was done
@@ -35,13 +37,17 @@ through g s name flags call = on_opened g (next g s (Opens name flags)) call (op
 abbrev pub removal : Geometry → State → List ℕ → Turn
 removal g s name = record { state = next g s (Removes name); ok = is_done g s (Removes name) }
 
--- The turn of a draw. 21 opens for adding to a file and 22 for making it anew, and both make it where it is missing; 8 opens for reading.
+-- A turn of some kind with a file, a number of bytes and their value. 21 opens for adding to a file and 22 for making it anew, and both
+-- make it where it is missing; 8 opens for reading.
+abbrev pub turn_of : Geometry → State → Kind → (name : List ℕ) (count byte : ℕ) → Turn
+turn_of g s Adds name count byte = through g s name 21 (λ fd. Fills fd count byte)
+turn_of g s Makes name count byte = through g s name 22 (λ fd. Fills fd count byte)
+turn_of g s Drops name count byte = removal g s name
+turn_of g s Looks name count byte = through g s name 8 (λ fd. Reads fd 256)
+
+-- the turn of a draw
 unfoldable pub turn : Geometry → State → ℕ → Turn
-turn g s r =
-    if kind_of r == 0 then through g s (name_of r) 21 (λ fd. Fills fd (count_of r) (byte_of r))
-    else if kind_of r == 1 then through g s (name_of r) 22 (λ fd. Fills fd (count_of r) (byte_of r))
-    else if kind_of r == 2 then removal g s (name_of r)
-    else through g s (name_of r) 8 (λ fd. Reads fd 256)
+turn g s r = turn_of g s (kind_of r) (name_of r) (count_of r) (byte_of r)
 
 -- the state after some turns, and how many of them were done
 pub record Soaked : Type 0 where
@@ -50,7 +56,7 @@ pub record Soaked : Type 0 where
 
 -- one turn more
 abbrev pub counted : Soaked → Turn → Soaked
-counted was t = record { state = t.state; ok = if t.ok then was.ok + 1 else was.ok }
+counted was t = record { state = t.state; ok = was.ok + (if t.ok then 1 else 0) }
 
 -- so many turns from a state, the draws from a seed
 unfoldable pub soaked : Geometry → State → (seed turns : ℕ) → Soaked

@@ -9,9 +9,9 @@ pub(crate) enum Kind {
     /// Makes a file anew.
     Makes,
     /// Removes a file.
-    Removes,
+    Drops,
     /// Reads a file.
-    Reads,
+    Looks,
 }
 
 /// What a draw asks for.
@@ -36,8 +36,8 @@ pub(crate) fn draw_of(r: u32) -> Draw
         kind: match r / 8 % 4 {
             0 => Kind::Adds,
             1 => Kind::Makes,
-            2 => Kind::Removes,
-            _ => Kind::Reads,
+            2 => Kind::Drops,
+            _ => Kind::Looks,
         },
         name: [b'f', b'0' + (r % 8) as u8],
         count: r / 32 % 600 + 1,

@@ -1,3 +1,9 @@
+ghost use Rattle.std.specs.Prelude.{◌≡◌, ◌≤◌, ℕ, length, IfOk, IfErr, Err};
+ghost use Rattle.nor_core.specs.Count.{Rose};
+ghost use Rattle.volume_run.specs.Ready.{IsMoved};
+ghost use Rattle.volume_run.specs.Stops.{StopsFrom};
+ghost use Rattle.volume_soak.specs.Doing.{HasSoakedFrom, IsSummaryFrom};
+
 use crate::draws::draw_of;
 use crate::summary::count_files;
 use crate::turns::turn;
@@ -22,15 +28,21 @@ fn turns_from<N: Nor>(
     seed: u64,
     turns: u32,
     lent: &mut [u8],
-) -> Result<u32, Stop> {
+) -> Result<u32, Stop>
+    requires room { 600 ≤ length lent.old }
+    ensures moved { IsMoved volume.old volume.new }
+    ensures cause { result ≡ Err Stop.Fault → Rose (N.faults volume.old.nor.now) (N.faults volume.new.nor.now) }
+    ensures soaked { IfOk result (HasSoakedFrom volume.old seed turns volume.new) }
+    ensures few { IfOk result (λ ok. ok ≤ turns) }
+    ensures stops { IfErr result (StopsFrom volume.old) }
+{
     let mut number = seed;
     let mut ok = 0;
     let mut made = 0;
     while made < turns {
         let r = draw(&mut number);
-        if turn(volume, draw_of(r as u32), lent)? {
-            ok += 1;
-        }
+        let is_done = turn(volume, draw_of(r as u32), lent)?;
+        ok += u32::from(is_done);
         made += 1;
     }
     Ok(ok)
@@ -43,7 +55,14 @@ pub fn soak<N: Nor>(
     seed: u64,
     turns: u32,
     lent: &mut [u8],
-) -> Result<Summary, Stop> {
+) -> Result<Summary, Stop>
+    requires room { 600 ≤ length lent.old }
+    ensures moved { IsMoved volume.old volume.new }
+    ensures cause { result ≡ Err Stop.Fault → Rose (N.faults volume.old.nor.now) (N.faults volume.new.nor.now) }
+    ensures soaked { IfOk result (IsSummaryFrom volume.old seed turns volume.new) }
+    ensures few { IfOk result (λ summary. summary.ok ≤ turns) }
+    ensures stops { IfErr result (StopsFrom volume.old) }
+{
     let ok = turns_from(volume, seed, turns, lent)?;
     let (files, bytes) = count_files(volume)?;
     Ok(Summary { ok, files, bytes })

@@ -1,14 +1,13 @@
 ghost use Rattle.std.specs.Prelude.{◌≡◌, ◌≤◌, ℕ, List, length, not, IfOk, IfErr, Err, Some};
-ghost use Rattle.geometry.specs.declared.geometry.Geometry.{Geometry};
 ghost use Rattle.nor_core.specs.Count.{Rose};
-ghost use Rattle.table_model.specs.Table.{State};
 ghost use Rattle.table_model.specs.Ask.{asked};
 ghost use Rattle.table_model.specs.Steps.{is_refusal};
 ghost use Rattle.volume.specs.Replies.{shown_by};
-ghost use Rattle.volume_run.specs.Ready.{IsReady, IsMoved};
+ghost use Rattle.volume_run.specs.Ready.{IsMoved};
+ghost use Rattle.volume_run.specs.Stops.{StopsFrom};
 ghost use Rattle.volume_soak.specs.Asks.{IsDraw, asks_of, bytes_of};
 ghost use Rattle.volume_soak.specs.Turns.{through, on_opened, removal, turn};
-ghost use Rattle.volume_soak.specs.Doing.{Did};
+ghost use Rattle.volume_soak.specs.Doing.{DidFrom};
 
 use crate::draws::{Draw, Kind};
 use nor_core::{Nor, NorState};
@@ -48,7 +47,7 @@ fn is_done(told: &Told) -> bool
 }
 
 // Does a task through a descriptor, and closes that.
-#[tactic(auto, using(volume_run::proofs::Moving::moved_then))]
+#[tactic(auto, using(volume_run::proofs::Moving::moved_then, volume_run::proofs::Stopping::stops_then))]
 fn finish<N: Nor>(
     volume: &mut Volume<'_, N>,
     fd: u16,
@@ -59,16 +58,18 @@ fn finish<N: Nor>(
     ensures size { length lent.new ≡ length lent.old }
     ensures moved { IsMoved volume.old volume.new }
     ensures cause { result ≡ Err Stop.Fault → Rose (N.faults volume.old.nor.now) (N.faults volume.new.nor.now) }
-    ensures did { (g : Geometry) (s : State) → IsReady g volume.old s → IfOk result (Did g volume.new (on_opened g s (asks_of task) (Some fd))) }
-    ensures stops { (g : Geometry) (s : State) → IsReady g volume.old s → IfErr result (λ why. why ≡ Stop.Fault) }
+    ensures did { IfOk result (DidFrom volume.old (λ g s. on_opened g s (asks_of task) (Some fd)) volume.new) }
+    ensures stops { IfErr result (StopsFrom volume.old) }
 {
     let told = ask(volume, &task.call(fd), lent)?;
-    ask(volume, &Call::Close { fd }, lent)?;
-    Ok(is_done(&told))
+    match ask(volume, &Call::Close { fd }, lent) {
+        Ok(_) => Ok(is_done(&told)),
+        Err(why) => Err(why),
+    }
 }
 
 // Opens a file, and does a task with it.
-#[tactic(auto, using(volume_run::proofs::Moving::moved_then))]
+#[tactic(auto, using(volume_run::proofs::Moving::moved_then, volume_run::proofs::Stopping::stops_opened))]
 fn through<N: Nor>(
     volume: &mut Volume<'_, N>,
     name: &[u8],
@@ -80,8 +81,8 @@ fn through<N: Nor>(
     ensures size { length lent.new ≡ length lent.old }
     ensures moved { IsMoved volume.old volume.new }
     ensures cause { result ≡ Err Stop.Fault → Rose (N.faults volume.old.nor.now) (N.faults volume.new.nor.now) }
-    ensures did { (g : Geometry) (s : State) → IsReady g volume.old s → IfOk result (Did g volume.new (through g s name.now flags (asks_of task))) }
-    ensures stops { (g : Geometry) (s : State) → IsReady g volume.old s → IfErr result (λ why. why ≡ Stop.Fault) }
+    ensures did { IfOk result (DidFrom volume.old (λ g s. through g s name.now flags (asks_of task)) volume.new) }
+    ensures stops { IfErr result (StopsFrom volume.old) }
 {
     match open(volume, name, flags)? {
         Some(fd) => finish(volume, fd, task, lent),
@@ -94,15 +95,14 @@ fn remove<N: Nor>(volume: &mut Volume<'_, N>, name: &[u8], lent: &mut [u8]) -> R
     ensures size { length lent.new ≡ length lent.old }
     ensures moved { IsMoved volume.old volume.new }
     ensures cause { result ≡ Err Stop.Fault → Rose (N.faults volume.old.nor.now) (N.faults volume.new.nor.now) }
-    ensures did { (g : Geometry) (s : State) → IsReady g volume.old s → IfOk result (Did g volume.new (removal g s name.now)) }
-    ensures stops { (g : Geometry) (s : State) → IsReady g volume.old s → IfErr result (λ why. why ≡ Stop.Fault) }
+    ensures did { IfOk result (DidFrom volume.old (λ g s. removal g s name.now) volume.new) }
+    ensures stops { IfErr result (StopsFrom volume.old) }
 {
     let told = ask(volume, &Call::Remove { name }, lent)?;
     Ok(is_done(&told))
 }
 
 /// Makes the turn of a draw, and answers whether all of it was done. The lent bytes are for what is written and read, at least 600.
-#[tactic(auto, unfolding(crate::specs::Turns::turn))]
 pub(crate) fn turn<N: Nor>(
     volume: &mut Volume<'_, N>,
     draw: Draw,
@@ -113,8 +113,8 @@ pub(crate) fn turn<N: Nor>(
     ensures size { length lent.new ≡ length lent.old }
     ensures moved { IsMoved volume.old volume.new }
     ensures cause { result ≡ Err Stop.Fault → Rose (N.faults volume.old.nor.now) (N.faults volume.new.nor.now) }
-    ensures did { (r : ℕ) → IsDraw r draw → (g : Geometry) (s : State) → IsReady g volume.old s → IfOk result (Did g volume.new (turn g s r)) }
-    ensures stops { (g : Geometry) (s : State) → IsReady g volume.old s → IfErr result (λ why. why ≡ Stop.Fault) }
+    ensures did { IfOk result (λ ok. (r : ℕ) → IsDraw r draw → DidFrom volume.old (λ g s. turn g s r) volume.new ok) }
+    ensures stops { IfErr result (StopsFrom volume.old) }
 {
     let Draw {
         kind,
@@ -126,7 +126,7 @@ pub(crate) fn turn<N: Nor>(
     match kind {
         Kind::Adds => through(volume, &name, 21, fill, lent),
         Kind::Makes => through(volume, &name, 22, fill, lent),
-        Kind::Removes => remove(volume, &name, lent),
-        Kind::Reads => through(volume, &name, 8, Task::Read { count: READ }, lent),
+        Kind::Drops => remove(volume, &name, lent),
+        Kind::Looks => through(volume, &name, 8, Task::Read { count: READ }, lent),
     }
 }
