@@ -1,5 +1,5 @@
 -- One call of a volume that stands at a state of the flat table.
-use Rattle.std.proofs.Common.{◌≡◌, ◌⊎◌, refl, sym, ◌∙◌, ap, subst, ⊎_elim, true, false}
+use Rattle.std.proofs.Common.{◌≡◌, ◌⊎◌, refl, sym, ◌∙◌, ap, subst, ⊎_elim, true, false, Option, Some, None}
 use Rattle.geometry.specs.declared.geometry.Geometry.{Geometry}
 use Rattle.nor_core.specs.declared.state.NorState.{Ghosts as NorOf}
 use Rattle.table_model.specs.declared.error.FsErr.TheVariants.{DeviceFault, Damaged, Tight}
@@ -8,8 +8,9 @@ use Rattle.table_model.specs.Table.{State}
 use Rattle.table_model.specs.Ask.{Ask, Collects}
 use Rattle.table_model.specs.Reply.{Answer, Refuses}
 use Rattle.table_model.specs.Flat.{answer}
-use Rattle.table_model.specs.Window.{Moment, after}
+use Rattle.table_model.specs.Window.{Moment, Waiting, after, settled_at, leaves_window, incoming_of, continues}
 use Rattle.call_model.specs.Calls.{Stands}
+use Rattle.call_model.proofs.After.{other-settles}
 use Rattle.run_model.specs.Ran.{RunStands, RunAnswers}
 use Rattle.run_model.proofs.OneCall.{run_answers, after_state}
 use Rattle.volume.specs.declared.volume.Volume.{Volume}
@@ -19,7 +20,7 @@ use Rattle.volume.specs.Stages.{takes_calls}
 use Rattle.volume.specs.Replies.{breaks}
 use Rattle.volume.specs.Goes.{StopsShort}
 use Rattle.volume.specs.Calls.{Calls}
-use Rattle.volume_run.specs.Ready.{IsReady, IsAnswered}
+use Rattle.volume_run.specs.Ready.{IsReady, IsAnswered, HasTable}
 
 -- a fault is one that breaks
 no_fault : {reply : Answer} → breaks reply ≡ false → reply ≡ Refuses DeviceFault → ⊥
@@ -31,6 +32,11 @@ unbroken (Refuses DeviceFault) fault damage = absurd (fault refl)
 unbroken (Refuses (Damaged d)) fault damage = absurd (damage d refl)
 unbroken (Refuses _) fault damage = refl
 unbroken _ fault damage = refl
+
+-- nothing goes on with what waits where nothing is written
+no_window : (g : Geometry) (w : Option Waiting) → continues g w None ≡ false
+no_window g None = refl
+no_window g (Some w) = refl
 
 module _ {N : Type 0} {nor : NorOf N} where
   -- the moment at which it stands
@@ -68,3 +74,13 @@ module _ {N : Type 0} {nor : NorOf N} where
           state_is = after_state g true m ask ∙ ap (λ (t : State). (answer g true t ask).next) ready.state_is;
         };
       }
+
+  -- after one that neither writes nor tells an offset no bytes wait
+  pub settled : {g : Geometry} {old new : Volume N nor} {s : State} {ask : Ask} {reply : Answer} → IsReady g old s → Calls ask old new reply → breaks reply ≡ false → leaves_window ask ≡ false → ((t : State) → incoming_of t ask ≡ None) → HasTable g new (answer g true s ask).next
+  unfolding settled_at
+  settled {g} {old} {new} {s} {ask} {reply} ready calls whole moves none =
+      let m : Moment = ready.moment in
+      let done = calls.answers m ready.takes (holds_at ready) (no_fault whole) (not_short ready calls) in
+      let ran : RunAnswers nor g old.nor.now new.nor.now (memory new) m ask reply = run_answers ready.stands (rw ready.geometry at done) in
+      let rests : after g true m ask ≡ settled_at (answer g true m.state ask).next = other-settles g true m ask moves (rw (none m.state) (no_window g m.window)) (rw (none m.state) refl) in
+      ran.stands.stands.image.table ∙ ap (λ (n : Moment). n.settled) rests ∙ ap (λ (t : State). (answer g true t ask).next.table) ready.state_is

@@ -8,6 +8,7 @@ use Rattle.table_model.specs.Ask.{Ask, Opens}
 use Rattle.table_model.specs.Reply.{Answer, Tells}
 use Rattle.table_model.specs.Flat.{answer}
 use Rattle.table_model.specs.Window.{Moment}
+use Rattle.image_model.specs.Tables.{table_of}
 use Rattle.run_model.specs.Ran.{RunStands}
 use Rattle.volume.specs.declared.volume.Volume.{Volume}
 use Rattle.volume.specs.Holds.{memory}
@@ -32,6 +33,10 @@ module _ {N : Type 0} {nor : NorOf N} where
   pub record IsAnswered (g : Geometry) (s : State) (ask : Ask) (new : Volume N nor) (reply : Answer) : Type 0 where
     pub reply_is : reply ≡ (answer g true s ask).answer
     pub ready : IsReady g new (answer g true s ask).next
+
+  -- no written bytes wait: the image has the table of a state
+  abbrev pub HasTable : Geometry → Volume N nor → State → Type 0
+  HasTable g v s = table_of g (nor.bytes v.nor.now) ≡ s.table
 
   -- the same of a volume that stood at any state
   abbrev pub IsAnsweredFrom : Volume N nor → Ask → Volume N nor → Answer → Type 0
