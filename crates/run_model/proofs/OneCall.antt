@@ -53,7 +53,7 @@ spared : (g : Geometry) (image : List ℕ) → HasReserve g image → has_spare 
 spared g image reserve = grind (arith, nat_tests)
 
 -- the state after a call is that of its answer
-after_state : (g : Geometry) (spare : Bool) (m : Moment) (ask : Ask) → (after g spare m ask).state ≡ (answer g spare m.state ask).next
+pub after_state : (g : Geometry) (spare : Bool) (m : Moment) (ask : Ask) → (after g spare m ask).state ≡ (answer g spare m.state ask).next
 unfolding after settled_at
 after_state g spare m ask = ⊎_elim
     (λ leaves. rw leaves refl)

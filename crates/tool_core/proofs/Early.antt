@@ -59,3 +59,10 @@ early_board Usage early = λ (is : 1 ≡ 7). absurd (omega arith)
 early_board (Geometry why) early = λ (is : 2 ≡ 7). absurd (omega arith)
 early_board (ShortBuffer part need given) early = λ (is : 10 ≡ 7). absurd (omega arith)
 early_board _ early = absurd early
+
+-- nor one of a folder
+pub early_folder : (ending : Ending) → IsEarly ending → status_of ending ≢ 9
+early_folder Usage early = λ (is : 1 ≡ 9). absurd (omega arith)
+early_folder (Geometry why) early = λ (is : 2 ≡ 9). absurd (omega arith)
+early_folder (ShortBuffer part need given) early = λ (is : 10 ≡ 9). absurd (omega arith)
+early_folder _ early = absurd early

@@ -1,10 +1,17 @@
--- Endings of a run that was not refused before the device was read.
+-- Endings of a command that was not refused before the device was read.
 use Rattle.std.specs.Prelude.{ℕ, ◌≢◌, Option, Some, None}
 use Rattle.tool_core.specs.declared.ending.Ending.{Ending}
 use Rattle.tool_core.specs.Closing.{status_of}
 
--- the status is none of those of a refusal
+-- the status is none of those of a refusal, and no folder failed
 pub record IsLater (ending : Ending) : Type 0 where
+  pub no_usage : status_of ending ≢ 1
+  pub no_geometry : status_of ending ≢ 2
+  pub no_short : status_of ending ≢ 10
+  pub no_folder : status_of ending ≢ 9
+
+-- the status is none of those of a refusal
+pub record IsUnrefused (ending : Ending) : Type 0 where
   pub no_usage : status_of ending ≢ 1
   pub no_geometry : status_of ending ≢ 2
   pub no_short : status_of ending ≢ 10

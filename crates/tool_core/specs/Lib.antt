@@ -20,5 +20,8 @@ pub mod Running
 pub mod Early
 pub mod Listing
 pub mod Checking
+pub mod Extracting
+pub mod Making
+pub mod Soaking
 pub mod Does
 pub mod Extracting

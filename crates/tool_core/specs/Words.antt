@@ -6,7 +6,7 @@ use Rattle.geometry.specs.declared.magic.MagicKind.{MagicKind}
 use Rattle.geometry.specs.declared.magic.MagicKind.TheVariants.{Plain, Length}
 use Rattle.call_script.specs.Numerals.{number_up_to}
 use Rattle.tool_core.specs.declared.words.Verb.{Verb}
-use Rattle.tool_core.specs.declared.words.Verb.TheVariants.{Run, List as Lists, Check}
+use Rattle.tool_core.specs.declared.words.Verb.TheVariants.{Run, List as Lists, Check, Extract, Make, Soak}
 use Rattle.tool_core.specs.declared.words.Form.{Form}
 
 -- a word is this text
@@ -28,12 +28,27 @@ magic_word word =
     else if is_text word (codes "len") then Some Length
     else None
 
--- what a command does, by its first word
-abbrev pub verb_word : List ℕ → Option Verb
-verb_word word =
-    if is_text word (codes "run") then Some Run
-    else if is_text word (codes "list") then Some Lists
-    else if is_text word (codes "check") then Some Check
+-- a number below 2 ^ 64
+abbrev pub seed_word : List ℕ → Option ℕ
+seed_word word = number_up_to 18446744073709551615 word
+
+-- a number of turns, at most 1,000,000
+abbrev pub turns_word : List ℕ → Option ℕ
+turns_word word = number_up_to 1000000 word
+
+-- the soak of the seed and the number of turns behind the chip's name
+abbrev pub soak_in : List (List ℕ) → Option Verb
+soak_in words = option_and_then (λ seed. option_and_then (λ turns. Some (Soak seed turns)) (turns_word (word_at words 8))) (seed_word (word_at words 7))
+
+-- what a command does, by its first word, and for a soak by the last two
+abbrev pub verb_in : List (List ℕ) → Option Verb
+verb_in words =
+    if is_text (word_at words 0) (codes "run") then Some Run
+    else if is_text (word_at words 0) (codes "list") then Some Lists
+    else if is_text (word_at words 0) (codes "check") then Some Check
+    else if is_text (word_at words 0) (codes "extract") then Some Extract
+    else if is_text (word_at words 0) (codes "make") then Some Make
+    else if is_text (word_at words 0) (codes "soak") then soak_in words
     else None
 
 -- a command writes its volume
@@ -41,25 +56,43 @@ abbrev pub writes : Verb → Bool
 writes Run = true
 writes Lists = false
 writes Check = true
+writes Extract = false
+writes Make = true
+writes (Soak seed turns) = true
 
 -- a command takes a script
 abbrev pub has_script : Verb → Bool
 has_script Run = true
-has_script Lists = false
-has_script Check = false
+has_script _ = false
 
--- seven words, of which the last isn't empty
-abbrev pub has_form : List (List ℕ) → Bool
-has_form words = (length words == 7) && not (length (word_at words 6) == 0)
+-- a command has a folder
+abbrev pub has_folder : Verb → Bool
+has_folder Extract = true
+has_folder Make = true
+has_folder _ = false
 
--- what the words `VERB PAGE BLOCK BLOCKS META MAGIC CHIP` give, where CHIP is any word that isn't empty
-unfoldable pub form_of : List (List ℕ) → Option Form
-form_of words =
-    if has_form words then
-    option_and_then (λ verb. option_and_then (λ page. option_and_then (λ block. option_and_then (λ blocks. option_and_then (λ meta. option_and_then (λ magic.
+-- how many words spell a command: VERB PAGE BLOCK BLOCKS META MAGIC CHIP, then FOLDER, or SEED and COUNT
+abbrev pub word_count : Verb → ℕ
+word_count Extract = 8
+word_count Make = 8
+word_count (Soak seed turns) = 9
+word_count _ = 7
+
+-- There are as many words as the command has, and those that name a chip and a folder aren't empty.
+abbrev pub has_form : Verb → List (List ℕ) → Bool
+has_form verb words =
+    (length words == word_count verb) && not (length (word_at words 6) == 0) && not (has_folder verb && (length (word_at words 7) == 0))
+
+-- the numbers of a command's volumes
+abbrev pub numbers_in : Verb → List (List ℕ) → Option Form
+numbers_in verb words =
+    option_and_then (λ page. option_and_then (λ block. option_and_then (λ blocks. option_and_then (λ meta. option_and_then (λ magic.
     Some (record { verb = verb; page = page; block = block; blocks = blocks; meta = meta; magic = magic }))
-    (magic_word (word_at words 5))) (number_word (word_at words 4))) (number_word (word_at words 3))) (number_word (word_at words 2))) (number_word (word_at words 1))) (verb_word (word_at words 0))
-    else None
+    (magic_word (word_at words 5))) (number_word (word_at words 4))) (number_word (word_at words 3))) (number_word (word_at words 2))) (number_word (word_at words 1))
+
+-- what the words of a command give, in which CHIP and FOLDER are any words that aren't empty
+unfoldable pub form_of : List (List ℕ) → Option Form
+form_of words = option_and_then (λ verb. if has_form verb words then numbers_in verb words else None) (verb_in words)
 
 -- the bytes of a block and the number of blocks, by their places, where they give a volume of some bytes, below 2 ^ 32
 abbrev pub blocks_in : List (List ℕ) → Option (ℕ × ℕ)

@@ -89,6 +89,7 @@ pub(crate) fn check_on<B: Board>(g: Geometry, board: &mut B, bufs: &mut Buffers<
     ensures later { IsLaterStatus result }
     ensures board_fault { result ≡ 7 → Rose (B.faults board.old) (B.faults board.new) }
     ensures no_script { result ≢ 8 }
+    ensures no_folder { result ≢ 9 }
     ensures does { DoesCheck B.NorState g (length bufs.old.cache.now) board.old board.new result }
 {
     let lent = Lent {

@@ -1,5 +1,5 @@
-//! The top call: a command in words, a board, a script and lent memory in; a status out, and what the board
-//! said.
+//! The top call: a command in words, a board, a script, a folder and lent memory in; a status out, and what the
+//! board said.
 #![tactic(auto)]
 
 mod buffers;
@@ -9,10 +9,12 @@ mod ending;
 mod extracting;
 mod lines;
 mod listing;
+mod making;
 mod mounting;
 mod plan;
 mod run;
 mod script;
+mod soaking;
 mod tool;
 mod words;
 

@@ -82,6 +82,7 @@ pub(crate) fn list_on<B: Board>(g: Geometry, board: &mut B, bufs: &mut Buffers<'
     ensures later { IsLaterStatus result }
     ensures board_fault { result ≡ 7 → Rose (B.faults board.old) (B.faults board.new) }
     ensures no_script { result ≢ 8 }
+    ensures no_folder { result ≢ 9 }
     ensures does { DoesList B.NorState g (length bufs.old.cache.now) board.old board.new result }
 {
     let ending = list_board(g, board, bufs.work, bufs.cache, bufs.check, bufs.line);

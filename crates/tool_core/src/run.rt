@@ -1,4 +1,4 @@
-ghost use Rattle.std.specs.Prelude.{ℕ, ◌≡◌, ◌*◌, ◌≤◌, ◌⊎◌, length, min, IfErr, OnOk, Err, Some, None, true};
+ghost use Rattle.std.specs.Prelude.{ℕ, ◌≡◌, ◌≢◌, ◌*◌, ◌≤◌, ◌⊎◌, length, min, IfErr, OnOk, Err, Some, None, true};
 ghost use Rattle.geometry.specs.Numbers.{write_refusal, work_need, cache_need, check_need};
 ghost use Rattle.nor_core.specs.Count.{Rose};
 ghost use Rattle.nor_core.specs.Device.{Changes, Leaves};
@@ -152,6 +152,7 @@ pub(crate) fn run_on<B: Board, S: Source>(
     ensures later { IsLaterStatus result }
     ensures board_fault { result ≡ 7 → Rose (B.faults board.old) (B.faults board.new) }
     ensures script_fault { result ≡ 8 → Rose (S.faults script.old) (S.faults script.new) }
+    ensures no_folder { result ≢ 9 }
     ensures does { DoesRun B.NorState S.Source g (lengths_of bufs.old) board.old board.new script.old script.new result }
 {
     let lent = Lent {

@@ -2,7 +2,7 @@ ghost use Rattle.std.specs.Prelude.{◌≡◌, map, string_bytes, false, None};
 ghost use Rattle.nor_core.specs.Count.{Rose};
 ghost use Rattle.tool_core.specs.Plan.{refusal_of};
 ghost use Rattle.tool_core.specs.Planned.{IsPlanned};
-ghost use Rattle.tool_core.specs.Words.{writes, has_script};
+ghost use Rattle.tool_core.specs.Words.{writes, has_script, has_folder};
 ghost use Rattle.tool_core.specs.Endings.{RefusesIf};
 ghost use Rattle.tool_core.specs.Does.{Does};
 ghost use Rattle.tool_core.specs.Fits.{FitsFor, HasLengths};
@@ -13,17 +13,22 @@ ghost use Rattle.tool_core.specs.declared.plan.Command.{Command};
 use crate::buffers::{Buffers, lengths};
 use crate::checking::check_on;
 use crate::ending::conclude;
+use crate::extracting::extract_on;
 use crate::listing::list_on;
+use crate::making::make_on;
 use crate::plan::{Command, plan};
 use crate::run::run_on;
+use crate::soaking::soak_on;
 use crate::words::Verb;
+use folder_core::{Folder, FolderState};
 use nor_core::{Board, Nor, NorState, Source};
 
 // Does a command that isn't refused.
-fn perform<B: Board, S: Source>(
+fn perform<B: Board, S: Source, F: Folder>(
     command: Command,
     board: &mut B,
     script: &mut S,
+    folder: &mut F,
     bufs: &mut Buffers<'_>,
 ) -> u8
     requires fits { FitsFor (writes command.verb) command.geometry (B.unit board.old) (B.size board.old) }
@@ -31,27 +36,36 @@ fn perform<B: Board, S: Source>(
     ensures later { IsLaterStatus result }
     ensures board_fault { result ≡ 7 → Rose (B.faults board.old) (B.faults board.new) }
     ensures script_fault { result ≡ 8 → Rose (S.faults script.old) (S.faults script.new) }
-    ensures does { Does B.NorState S.Source (lengths_of bufs.old) command.verb command.geometry board.old board.new script.old script.new result }
+    ensures folder_fault { result ≡ 9 → Rose (F.faults folder.old) (F.faults folder.new) }
+    ensures does { Does B.NorState S.Source F.FolderState (lengths_of bufs.old) command.verb command.geometry board.old board.new script.old script.new folder.old folder.new result }
     ensures untaken { has_script command.verb ≡ false → script.new ≡ script.old }
+    ensures untouched { has_folder command.verb ≡ false → folder.new ≡ folder.old }
 {
     let g = command.geometry;
     match command.verb {
         Verb::Run => run_on(g, board, script, bufs),
         Verb::List => list_on(g, board, bufs),
         Verb::Check => check_on(g, board, bufs),
+        Verb::Extract => extract_on(g, board, folder, bufs),
+        Verb::Make => make_on(g, board, folder, bufs),
+        Verb::Soak { seed, turns } => soak_on(g, seed, turns, board, bufs),
     }
 }
 
 /// Does the command that the words spell, on a board, and answers its status. The forms are
-/// `run PAGE BLOCK BLOCKS META MAGIC CHIP`, and the same with `list` or `check` in the place of `run`: the numbers in
-/// decimal digits below 2 ^ 32 without a leading zero, MAGIC `plain` or `len`, CHIP any word that isn't empty, which
-/// isn't read here. `run` mounts and checks the volume, and runs each line of the script as a call; `list` mounts it
-/// and says its files and its damaged ids, and writes nothing; `check` mounts and checks it, and says what the check
-/// found and did. It takes no memory but what is lent.
-pub fn spiffs_tool<B: Board, S: Source>(
+/// `run PAGE BLOCK BLOCKS META MAGIC CHIP`, the same with `list` or `check` in the place of `run`,
+/// `extract PAGE BLOCK BLOCKS META MAGIC CHIP FOLDER`, the same with `make`, and
+/// `soak PAGE BLOCK BLOCKS META MAGIC CHIP SEED COUNT`: the numbers in decimal digits without a leading zero, SEED below
+/// 2 ^ 64, COUNT at most 1,000,000 and the others below 2 ^ 32, MAGIC `plain` or `len`, CHIP and FOLDER any words that aren't
+/// empty, which aren't read here. `run` mounts and checks the volume, and runs each line of the script as a call; `list` mounts
+/// it and says its files and its damaged ids, and writes nothing; `extract` says the same and puts each file into the
+/// folder; `check` mounts and checks it, and says what the check found and did; `make` formats it and puts each file of the
+/// folder into it; `soak` formats it and does COUNT turns of calls that are drawn from SEED. It takes no memory but what is lent.
+pub fn spiffs_tool<B: Board, S: Source, F: Folder>(
     words: &[String],
     board: &mut B,
     script: &mut S,
+    folder: &mut F,
     bufs: &mut Buffers<'_>,
 ) -> u8
     // What is refused before the device is read: its closing line is said, and nothing else happens.
@@ -61,16 +75,19 @@ pub fn spiffs_tool<B: Board, S: Source>(
         (command : Command) × IsPlanned (asked_of B.NorState (map string_bytes words.now) board.old bufs.old) command }
     // .. and it is done as that command says.
     ensures does { (command : Command) → IsPlanned (asked_of B.NorState (map string_bytes words.now) board.old bufs.old) command →
-        Does B.NorState S.Source (lengths_of bufs.old) command.verb command.geometry board.old board.new script.old script.new result }
-    // Nothing is taken of a script but by a command that has one.
+        Does B.NorState S.Source F.FolderState (lengths_of bufs.old) command.verb command.geometry board.old board.new script.old script.new folder.old folder.new result }
+    // Nothing is taken of a script, and no folder is touched, but by a command that has one.
     ensures untaken { ((command : Command) → IsPlanned (asked_of B.NorState (map string_bytes words.now) board.old bufs.old) command → has_script command.verb ≡ false) →
         script.new ≡ script.old }
+    ensures untouched { ((command : Command) → IsPlanned (asked_of B.NorState (map string_bytes words.now) board.old bufs.old) command → has_folder command.verb ≡ false) →
+        folder.new ≡ folder.old }
     // A fault is told only where one was counted.
     ensures board_fault { result ≡ 7 → Rose (B.faults board.old) (B.faults board.new) }
     ensures script_fault { result ≡ 8 → Rose (S.faults script.old) (S.faults script.new) }
+    ensures folder_fault { result ≡ 9 → Rose (F.faults folder.old) (F.faults folder.new) }
 {
     match plan(words, board.unit(), board.size(), &lengths(bufs)) {
         Err(ending) => conclude(board, ending),
-        Ok(command) => perform(command, board, script, bufs),
+        Ok(command) => perform(command, board, script, folder, bufs),
     }
 }

@@ -1,5 +1,5 @@
-ghost use Rattle.std.specs.Prelude.{◌≡◌, ◌+◌, ◌*◌, ◌<◌, ◌≤◌, ◌^◌, length, map, string_bytes, option_copied, IfSome, Some, None};
-ghost use Rattle.tool_core.specs.Words.{form_of, verb_word, number_word, magic_word, word_at, writes, blocks_in, unit_for, chip_size_for};
+ghost use Rattle.std.specs.Prelude.{◌≡◌, ◌+◌, ◌*◌, ◌<◌, ◌≤◌, ◌^◌, length, map, string_bytes, option_copied, IfSome, Some, None, true};
+ghost use Rattle.tool_core.specs.Words.{form_of, verb_in, soak_in, number_word, seed_word, turns_word, magic_word, word_at, word_count, has_folder, has_form, writes, blocks_in, unit_for, chip_size_for};
 
 use call_script::parse_number;
 use geometry::MagicKind;
@@ -13,6 +13,12 @@ pub(crate) enum Verb {
     List,
     /// Mounts and checks a volume, and says what the check found and did.
     Check,
+    /// Mounts a volume, says its list, and puts its files into a folder.
+    Extract,
+    /// Formats a volume, and puts the files of a folder into it.
+    Make,
+    /// Formats a volume, and does so many turns of calls on it that are drawn from the seed.
+    Soak { seed: u64, turns: u32 },
 }
 
 impl Verb {
@@ -21,8 +27,29 @@ impl Verb {
         ensures { result ≡ writes self }
     {
         match self {
-            Verb::Run | Verb::Check => true,
-            Verb::List => false,
+            Verb::Run | Verb::Check | Verb::Make | Verb::Soak { .. } => true,
+            Verb::List | Verb::Extract => false,
+        }
+    }
+
+    // How many words it is spelled with.
+    fn word_count(self) -> usize
+        ensures { result ≡ word_count self }
+    {
+        match self {
+            Verb::Run | Verb::List | Verb::Check => 7,
+            Verb::Extract | Verb::Make => 8,
+            Verb::Soak { .. } => 9,
+        }
+    }
+
+    // Whether one of them names a folder.
+    fn has_folder(self) -> bool
+        ensures { result ≡ has_folder self }
+    {
+        match self {
+            Verb::Extract | Verb::Make => true,
+            Verb::Run | Verb::List | Verb::Check | Verb::Soak { .. } => false,
         }
     }
 }
@@ -44,51 +71,75 @@ pub(crate) struct Form {
     pub magic: MagicKind,
 }
 
-// A number below 2 ^ 32 of decimal digits, without a leading zero save `0` itself.
-fn number(word: &String) -> Option<u32>
-    ensures { result ≡ number_word (string_bytes word.now) }
+fn read_magic(word: &[u8]) -> Option<MagicKind>
+    ensures { result ≡ magic_word word.now }
 {
-    match parse_number(word.as_bytes(), 4_294_967_295) {
-        Some(number) => Some(number as u32),
-        None => None,
-    }
-}
-
-fn magic(word: &String) -> Option<MagicKind>
-    ensures { result ≡ magic_word (string_bytes word.now) }
-{
-    match word.as_bytes() {
+    match word {
         b"plain" => Some(MagicKind::Plain),
         b"len" => Some(MagicKind::Length),
         _ => None,
     }
 }
 
-fn read_verb(word: &String) -> Option<Verb>
-    ensures { result ≡ verb_word (string_bytes word.now) }
+// The word at a place, empty where there is none.
+fn word(words: &[String], i: usize) -> &[u8]
+    ensures { result.now ≡ word_at (map string_bytes words.now) i }
 {
-    match word.as_bytes() {
+    match words.get(i) {
+        Some(word) => word.as_bytes(),
+        None => b"",
+    }
+}
+
+// The soak that the seed and the number of turns behind the chip's name spell.
+fn read_soak(words: &[String]) -> Option<Verb>
+    ensures { result ≡ soak_in (map string_bytes words.now) }
+{
+    let seed = parse_number(word(words, 7), u64::MAX)?;
+    let turns = parse_number(word(words, 8), 1_000_000)?;
+    Some(Verb::Soak {
+        seed,
+        turns: turns as u32,
+    })
+}
+
+fn read_verb(words: &[String]) -> Option<Verb>
+    ensures { result ≡ verb_in (map string_bytes words.now) }
+{
+    match word(words, 0) {
         b"run" => Some(Verb::Run),
         b"list" => Some(Verb::List),
         b"check" => Some(Verb::Check),
+        b"extract" => Some(Verb::Extract),
+        b"make" => Some(Verb::Make),
+        b"soak" => read_soak(words),
         _ => None,
     }
 }
 
-/// What the words `VERB PAGE BLOCK BLOCKS META MAGIC CHIP` give, or None for other words.
+// Whether there are as many words as the command has, and those that name a chip and a folder aren't empty.
+fn has_form(verb: Verb, words: &[String]) -> bool
+    ensures { result ≡ has_form verb (map string_bytes words.now) }
+{
+    words.len() == verb.word_count()
+        && !word(words, 6).is_empty()
+        && !(verb.has_folder() && word(words, 7).is_empty())
+}
+
+/// What the words `VERB PAGE BLOCK BLOCKS META MAGIC CHIP` and those behind give, or None for other words.
 #[tactic(auto, unfolding(crate::specs::Words::form_of))]
 pub(crate) fn read_form(words: &[String]) -> Option<Form>
     ensures { result ≡ form_of (map string_bytes words.now) }
 {
-    if words.len() != 7 || words[6].is_empty() {
+    let verb = read_verb(words)?;
+    if !has_form(verb, words) {
         return None;
     }
-    let verb = read_verb(&words[0])?;
-    let page = number(&words[1])?;
-    let block = number(&words[2])?;
-    let blocks = number(&words[3])?;
-    let meta = number(&words[4])?;
-    let magic = magic(&words[5])?;
+    let page = number_at(words, 1)?;
+    let block = number_at(words, 2)?;
+    let blocks = number_at(words, 3)?;
+    let meta = number_at(words, 4)?;
+    let magic = read_magic(word(words, 5))?;
     Some(Form {
         verb,
         page,
@@ -99,12 +150,12 @@ pub(crate) fn read_form(words: &[String]) -> Option<Form>
     })
 }
 
-// The word at a place as a number, where it is one.
+// The word at a place as a number below 2 ^ 32 of decimal digits, without a leading zero save `0` itself.
 fn number_at(words: &[String], i: usize) -> Option<u32>
     ensures { result ≡ number_word (word_at (map string_bytes words.now) i) }
 {
-    match words.get(i) {
-        Some(word) => number(word),
+    match parse_number(word(words, i), 4_294_967_295) {
+        Some(number) => Some(number as u32),
         None => None,
     }
 }

@@ -1,11 +1,17 @@
 use Rattle.std.proofs.Common.{◌≡◌, ◌∙◌, sym, ⊎_elim, arith}
-use Rattle.tool_core.proofs.Early.{ending_early, early_status, early_board}
+use Rattle.tool_core.proofs.Early.{ending_early, early_status, early_board, early_folder}
 use Rattle.tool_core.proofs.Geometries.{one_plan}
 use Rattle.tool_core.proofs.tool.spiffs_tool.Goals as goal
 
 pub returns-in-Err-clause-script_fault : goal.returns-in-Err-clause-script_fault
 returns-in-Err-clause-script_fault g c = λ (is : c.conclude.result ≡ 8). absurd (⊎_elim
     (λ told. early_status c.in-Err.ending (ending_early _ _ c.in-Err.ensures.refused) (sym told ∙ is))
+    (λ fault. omega (arith, is, fault.0))
+    c.conclude.ensures.ends)
+
+pub returns-in-Err-clause-folder_fault : goal.returns-in-Err-clause-folder_fault
+returns-in-Err-clause-folder_fault g c = λ (is : c.conclude.result ≡ 9). absurd (⊎_elim
+    (λ told. early_folder c.in-Err.ending (ending_early _ _ c.in-Err.ensures.refused) (sym told ∙ is))
     (λ fault. omega (arith, is, fault.0))
     c.conclude.ensures.ends)
 
@@ -27,3 +33,8 @@ pub returns-in-Ok-clause-untaken : goal.returns-in-Ok-clause-untaken
 returns-in-Ok-clause-untaken g c =
     let here = rw (c.unit.ensures, c.size.ensures, c.lengths.ensures) at c.in-Ok.ensures.planned in
     λ none. c.perform.ensures.untaken (none c.in-Ok.command here)
+
+pub returns-in-Ok-clause-untouched : goal.returns-in-Ok-clause-untouched
+returns-in-Ok-clause-untouched g c =
+    let here = rw (c.unit.ensures, c.size.ensures, c.lengths.ensures) at c.in-Ok.ensures.planned in
+    λ none. c.perform.ensures.untouched (none c.in-Ok.command here)

@@ -1,0 +1,7 @@
+//! Calls of a volume one after the other, as tools make them that write volumes: where a volume stands at a state of the flat
+//! table with room, each call is answered as the table is, and the volume stands at the state after it.
+#![tactic(auto)]
+
+mod asking;
+
+pub use asking::{Stop, ask, open, stop_of};

@@ -1,0 +1,4 @@
+pub mod Turning
+pub mod ManyTurns
+pub mod Counting
+pub mod Walking

@@ -1,0 +1,4 @@
+pub mod Draws
+pub mod Turns
+pub mod Asks
+pub mod Doing
