@@ -24,4 +24,3 @@ pub mod Extracting
 pub mod Making
 pub mod Soaking
 pub mod Does
-pub mod Extracting
