@@ -119,7 +119,7 @@ impl From<MemErr> for Refusal {
 fn access_of(words: &[String]) -> Access {
     match word(words, 0) {
         "list" | "extract" => Access::Read,
-        "make" | "soak" => Access::Create,
+        "soak" => Access::Create,
         _ => Access::Write,
     }
 }
@@ -146,13 +146,13 @@ fn row_of(rt: &HostRuntime, words: &[String]) -> Result<ChipRow<FileChip>, Refus
     }
 }
 
-// The folder that is read or written; another command asks for none, and none is listed then.
+// The folder that is written; another command asks for none, and none is listed then.
 fn folder_of<'r>(
     rt: &'r HostRuntime,
     words: &[String],
 ) -> Result<StdFolder<&'r HostRuntime>, Refusal> {
     match word(words, 0) {
-        "make" | "extract" => Ok(StdFolder::new(rt, rt.alloc(), word(words, FOLDER_WORD))?),
+        "extract" => Ok(StdFolder::new(rt, rt.alloc(), word(words, FOLDER_WORD))?),
         _ => Ok(StdFolder::unlisted(rt, rt.alloc())),
     }
 }
@@ -186,7 +186,7 @@ fn explain_board<W: Write + Drop>(
 fn run(rt: &HostRuntime, words: &[String], memory: &mut Memory) -> Result<u8, Refusal> {
     let mut board = StdBoard::new(row_of(rt, words)?, rt.stdout());
     let mut script = StdSource::new(rt.stdin());
-    let folder = folder_of(rt, words)?;
+    let mut folder = folder_of(rt, words)?;
     let mut bufs = Buffers {
         work: &mut memory.work,
         slots: &mut memory.slots,
@@ -194,8 +194,7 @@ fn run(rt: &HostRuntime, words: &[String], memory: &mut Memory) -> Result<u8, Re
         check: &mut memory.check,
         line: &mut memory.line,
     };
-    // (`&mut folder` goes in before `&mut bufs` once the top call takes a folder)
-    let status = spiffs_tool(words, &mut board, &mut script, &mut bufs);
+    let status = spiffs_tool(words, &mut board, &mut script, &mut folder, &mut bufs);
     match status {
         BOARD_FAULT => explain_board(rt, words, &board),
         SCRIPT_FAULT => explain(rt, script.trouble()),
