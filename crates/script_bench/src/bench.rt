@@ -1,6 +1,7 @@
 //! Devices in memory, and the commands on them.
 use crate::Trouble;
 use fd_table::FdSlot;
+use folder_core::MemFolder;
 use geometry::{Geometry, MagicKind};
 use nor_core::{CallKind, MemBoard, MemSource};
 use std::alloc::{AllocError, Global};
@@ -135,7 +136,8 @@ impl Bench {
             check: &mut check,
             line: &mut line,
         };
-        Ok(spiffs_tool(&words, board, script, &mut bufs))
+        let mut folder = MemFolder::new(self.alloc);
+        Ok(spiffs_tool(&words, board, script, &mut folder, &mut bufs))
     }
 
     /// What the command of these words does on a device that holds an image, by the calls of a script, where that is to fail.

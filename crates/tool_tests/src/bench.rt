@@ -1,5 +1,6 @@
 //! Devices in memory, and a run of the top call on them.
 use fd_table::FdSlot;
+use folder_core::MemFolder;
 use geometry::{Geometry, MagicKind};
 use nor_core::{Failed, MemBoard, MemSource, Nor};
 use std::alloc::Global;
@@ -117,7 +118,8 @@ pub(crate) fn run_with(
         check: &mut check,
         line: &mut line,
     };
-    Ok(spiffs_tool(&words, board, source, &mut bufs))
+    let mut folder = MemFolder::new(alloc);
+    Ok(spiffs_tool(&words, board, source, &mut folder, &mut bufs))
 }
 
 /// Runs the top call on a script with ample memory, and gives its status.
