@@ -6,6 +6,8 @@ mod bench;
 #[cfg(test)]
 mod checks;
 #[cfg(test)]
+mod extracts;
+#[cfg(test)]
 mod images;
 #[cfg(test)]
 mod lists;
