@@ -135,8 +135,7 @@ pub fn fail_each(steps: &Steps, kind: CallKind) -> Result<Swept, Trouble> {
     Ok(Swept::Whole(MOST))
 }
 
-/// How many calls of a kind, fewer than 65,536, a command asks for that ends with no fault: told from the top bit down by those whose failing
-/// ends it.
+/// How many calls of a kind, fewer than 65,536, a command asks for that ends with no fault: those are asked for whose failing ends it.
 pub fn count_calls(
     bench: &Bench,
     words: &str,
@@ -144,14 +143,20 @@ pub fn count_calls(
     script: &[u8],
     kind: CallKind,
 ) -> Result<u64, Trouble> {
+    let mut step = 1u64;
+    for _ in 0..16 {
+        let fault = Fault::Call { kind, nth: step };
+        if bench.give(words, image, script, fault)?.status != DEVICE_FAULT {
+            break;
+        }
+        step = step.saturating_mul(2);
+    }
     let mut calls = 0u64;
-    for shift in 0..16u64 {
-        let nth = calls | (0x8000 >> shift);
-        if bench
-            .give(words, image, script, Fault::Call { kind, nth })?
-            .status
-            == DEVICE_FAULT
-        {
+    for _ in 0..16 {
+        step /= 2;
+        let nth = calls.saturating_add(step);
+        let fault = Fault::Call { kind, nth };
+        if step > 0 && bench.give(words, image, script, fault)?.status == DEVICE_FAULT {
             calls = nth;
         }
     }

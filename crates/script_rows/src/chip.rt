@@ -36,12 +36,12 @@ fn place(words: &[&str], at: usize) -> Result<Place, Trouble> {
 
 // A number of 16 bits.
 fn short(words: &[&str], at: usize) -> Result<u16, Trouble> {
-    Ok(number(words, at, 0xFFFF)? as u16)
+    u16::try_from(number(words, at, 0xFFFF)?).map_err(|_| Trouble::Line)
 }
 
 // A number of 32 bits.
 fn long(words: &[&str], at: usize) -> Result<u32, Trouble> {
-    Ok(number(words, at, 0xFFFF_FFFF)? as u32)
+    u32::try_from(number(words, at, 0xFFFF_FFFF)?).map_err(|_| Trouble::Line)
 }
 
 // The geometry that the words of a command line spell.
