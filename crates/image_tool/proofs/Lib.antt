@@ -2,3 +2,6 @@ pub mod Ascending
 pub mod Speaking
 pub mod Walking
 pub mod Found
+pub mod Placing
+pub mod Pieces
+pub mod Files

@@ -1,5 +1,5 @@
 -- How saying goes on from line to line.
-use Rattle.std.proofs.Common.{◌≡◌, ℕ, ◌+◌, ◌≤◌, List, [], ◌++◌, length, take, drop, ap, refl, sym, ◌∙◌, arith, subst, append_assoc, append-nil, length-append, Result, Ok, Err}
+use Rattle.std.proofs.Common.{◌≡◌, ℕ, List, [], ◌++◌, length, take, drop, ap, refl, sym, ◌∙◌, arith, subst, append_assoc, append-nil, length-append, Result, Ok, Err}
 use Rattle.std.specs.Prelude.{OnErr}
 use Rattle.std.proofs.lemmas.List.{take-append-drop}
 use Rattle.nor_core.specs.declared.state.NorState.{Ghosts as NorOf}
@@ -49,6 +49,10 @@ module _ {D : Type 0} {nor : NorOf D} where
         record { all_bytes = λ told. i.all_bytes (reads.told told) ∙ reads.bytes; least = omega (arith, e, i.least); most = omega (arith, e, i.most) }));
   }
 
+  -- reads after saying
+  pub says_read : {old mid new : D} {text : List ℕ} → OnlySays nor old mid text → OnlyReads nor mid new → OnlySays nor old new text
+  says_read h reads = record { bytes = reads.bytes ∙ h.bytes; writes = reads.writes ∙ h.writes; cuts = andthen h.cuts (read_on _ reads) }
+
   pub front_after : {old mid new : D} {text : List ℕ} → OnlyReads nor old mid → SaysFront nor mid new text → SaysFront nor old new text
   front_after {old} {mid} {new} {text} reads f = record { part = f.part; rest = f.rest; said = f.said ∙ ap (λ (l : List ℕ). l ++ f.part) reads.said; whole_is = f.whole_is }
 
@@ -86,3 +90,7 @@ module _ {D : Type 0} {nor : NorOf D} where
     said = f.said ∙ ap (λ (l : List ℕ). l ++ f.part) a.said ∙ append_assoc (nor.said old) a.part f.part;
     whole_is = a.text_is ∙ ap (λ (l : List ℕ). a.part ++ (l ++ a.tail)) f.whole_is ∙ ap (λ (l : List ℕ). a.part ++ l) (append_assoc f.part f.rest a.tail) ∙ sym (append_assoc a.part f.part (f.rest ++ a.tail));
   }
+
+  -- a further text behind one that was said whole
+  pub says_behind : {old mid new : D} (text more : List ℕ) → OnlySays nor old mid text → (nor.tells old → nor.said mid ≡ nor.said old ++ text) → OnlySays nor mid new more → OnlySays nor old new (text ++ more)
+  says_behind text more first said second = says_more (says_wider more first) second (λ tells. record { part = text; tail = []; said = said tells; text_is = ap (λ (l : List ℕ). text ++ l) (sym (append-nil more)) })

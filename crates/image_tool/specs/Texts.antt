@@ -42,3 +42,8 @@ list_text files damaged = record_lines files ++ damage_lines damaged
 abbrev pub line_if : {X : Type 0} → (X → List ℕ) → Option X → List ℕ
 line_if line None = []
 line_if line (Some x) = line x
+
+-- what there may be, as a list
+abbrev pub list_if : {X : Type 0} → Option X → List X
+list_if None = []
+list_if (Some x) = x ∷ []

@@ -1,17 +1,15 @@
-// The part of a list that tells the damaged ids.
+// Telling the damaged ids.
 ghost use Rattle.std.specs.Prelude.{◌≡◌, ◌<◌, ◌≤◌, ◌++◌, length, IfOk, OnOk, OnErr};
 ghost use Rattle.std.specs.Option.{option_map, IfSome};
 ghost use Rattle.geometry.specs.Numbers.{page_count};
 ghost use Rattle.nor_core.specs.Count.{Rose};
-ghost use Rattle.image_model.specs.Tables.{damaged_of};
 ghost use Rattle.flash_view.specs.Same.{IsSameView};
 ghost use Rattle.flash_view.specs.Marks.{IsMarked};
-ghost use Rattle.image_tool.specs.Texts.{damage_line, damage_lines};
+ghost use Rattle.image_tool.specs.Texts.{damage_line};
 ghost use Rattle.flash_view.specs.Listing.{damaged_above};
 ghost use Rattle.image_tool.specs.Lists.{next_damage};
 ghost use Rattle.image_tool.specs.Saying.{OnlySays, SaysFront};
 
-use crate::error::ToolErr;
 use crate::lines::put_damaged;
 use flash_view::View;
 use image_model::Damage;
@@ -23,7 +21,7 @@ fn say_damaged<B: Board>(
     id: u16,
     cause: Damage,
     line: &mut [u8],
-) -> Result<(), ToolErr>
+) -> Result<(), Failed>
     requires { 12288 ≤ length line.old }
     ensures cause { OnErr result (Rose (B.faults v.old.nor.now) (B.faults v.new.nor.now)) }
     ensures same { IsSameView v.old v.new }
@@ -32,19 +30,16 @@ fn say_damaged<B: Board>(
     ensures front { OnErr result (SaysFront B.NorState v.old.nor.now v.new.nor.now (damage_line id cause)) }
 {
     let end = put_damaged(line, id, cause);
-    match v.say(&line[..end]) {
-        Ok(()) => Ok(()),
-        Err(Failed) => Err(ToolErr::BoardFault),
-    }
+    v.say(&line[..end])
 }
 
-// Says the line of the damaged id next above one, and answers that id.
-fn say_next<B: Board>(
+/// Says the line of the damaged id next above one, and answers that id.
+pub(crate) fn say_next_damaged<B: Board>(
     v: &mut View<'_, B>,
     marks: &[u8],
     after: u16,
     line: &mut [u8],
-) -> Result<Option<u16>, ToolErr>
+) -> Result<Option<u16>, Failed>
     requires room { page_count v.old.geometry ≤ length marks.now }
     requires marked { B.tells v.old.nor.now → IsMarked v.old.geometry (B.bytes v.old.nor.now) marks.now }
     requires line { 12288 ≤ length line.old }
@@ -56,37 +51,9 @@ fn say_next<B: Board>(
     ensures whole { B.tells v.old.nor.now → OnOk result (B.said v.new.nor.now ≡ B.said v.old.nor.now ++ next_damage v.old.geometry (B.bytes v.old.nor.now) after) }
     ensures front { B.tells v.old.nor.now → OnErr result (SaysFront B.NorState v.old.nor.now v.new.nor.now (next_damage v.old.geometry (B.bytes v.old.nor.now) after)) }
 {
-    let Ok(found) = v.next_damaged(marks, after) else {
-        return Err(ToolErr::BoardFault);
-    };
-    let Some((id, cause)) = found else {
+    let Some((id, cause)) = v.next_damaged(marks, after)? else {
         return Ok(None);
     };
     say_damaged(v, id, cause, line)?;
     Ok(Some(id))
-}
-
-/// Says the lines of the damaged ids, in order, and answers their number.
-pub(crate) fn list_damaged<B: Board>(
-    v: &mut View<'_, B>,
-    marks: &[u8],
-    line: &mut [u8],
-) -> Result<u32, ToolErr>
-    requires room { page_count v.old.geometry ≤ length marks.now }
-    requires marked { B.tells v.old.nor.now → IsMarked v.old.geometry (B.bytes v.old.nor.now) marks.now }
-    requires line { 12288 ≤ length line.old }
-    ensures cause { OnErr result (Rose (B.faults v.old.nor.now) (B.faults v.new.nor.now)) }
-    ensures same { IsSameView v.old v.new }
-    ensures says { OnlySays B.NorState v.old.nor.now v.new.nor.now (damage_lines (damaged_of v.old.geometry (B.bytes v.old.nor.now))) }
-    ensures count { B.tells v.old.nor.now → IfOk result (λ count. count ≡ length (damaged_of v.old.geometry (B.bytes v.old.nor.now))) }
-    ensures whole { B.tells v.old.nor.now → OnOk result (B.said v.new.nor.now ≡ B.said v.old.nor.now ++ damage_lines (damaged_of v.old.geometry (B.bytes v.old.nor.now))) }
-    ensures front { B.tells v.old.nor.now → OnErr result (SaysFront B.NorState v.old.nor.now v.new.nor.now (damage_lines (damaged_of v.old.geometry (B.bytes v.old.nor.now)))) }
-{
-    let mut after = 0;
-    let mut count = 0;
-    while let Some(id) = say_next(v, marks, after, line)? {
-        after = id;
-        count += 1;
-    }
-    Ok(count)
 }

@@ -1,20 +1,85 @@
 ghost use Rattle.std.specs.Prelude.{◌≡◌, ◌<◌, ◌≤◌, ◌++◌, length, IfOk, OnOk, OnErr};
+ghost use Rattle.std.specs.Option.{option_map, IfSome};
 ghost use Rattle.geometry.specs.Numbers.{page_count};
 ghost use Rattle.nor_core.specs.Count.{Rose};
 ghost use Rattle.image_model.specs.Tables.{damaged_of};
 ghost use Rattle.flash_view.specs.Same.{IsSameView};
 ghost use Rattle.flash_view.specs.Marks.{IsMarked};
 ghost use Rattle.image_tool.specs.Lists.{list_of};
+ghost use Rattle.image_tool.specs.Parts.{lines_of, text_of, line_above, next_line};
 ghost use Rattle.image_tool.specs.Saying.{OnlySays, SaysFront};
 
-use crate::damaged::list_damaged;
+use crate::damaged::say_next_damaged;
 use crate::error::ToolErr;
-use crate::records::list_records;
+use crate::records::say_next_record;
 use flash_view::View;
 use nor_core::{Board, Failed, NorState};
 
+/// A part of a list.
+#[derive(Clone, Copy, Debug, PartialEq, Eq)]
+pub(crate) enum Part {
+    /// The files of the table.
+    Files,
+    /// The damaged ids.
+    Damaged,
+}
+
+// Says the line of the least id above one in a part of a list, and answers that id.
+fn say_next<B: Board>(
+    v: &mut View<'_, B>,
+    marks: &[u8],
+    part: Part,
+    after: u16,
+    line: &mut [u8],
+) -> Result<Option<u16>, Failed>
+    requires room { page_count v.old.geometry ≤ length marks.now }
+    requires marked { B.tells v.old.nor.now → IsMarked v.old.geometry (B.bytes v.old.nor.now) marks.now }
+    requires line { 12288 ≤ length line.old }
+    ensures cause { OnErr result (Rose (B.faults v.old.nor.now) (B.faults v.new.nor.now)) }
+    ensures same { IsSameView v.old v.new }
+    ensures above { IfOk result (λ found. IfSome found (λ id. after < id)) }
+    ensures says { OnlySays B.NorState v.old.nor.now v.new.nor.now (next_line part v.old.geometry (B.bytes v.old.nor.now) after) }
+    ensures found { B.tells v.old.nor.now → IfOk result (λ found. found ≡ option_map (λ l. l.0) (line_above part v.old.geometry (B.bytes v.old.nor.now) after)) }
+    ensures whole { B.tells v.old.nor.now → OnOk result (B.said v.new.nor.now ≡ B.said v.old.nor.now ++ next_line part v.old.geometry (B.bytes v.old.nor.now) after) }
+    ensures front { B.tells v.old.nor.now → OnErr result (SaysFront B.NorState v.old.nor.now v.new.nor.now (next_line part v.old.geometry (B.bytes v.old.nor.now) after)) }
+{
+    match part {
+        Part::Files => match say_next_record(v, marks, after, line)? {
+            Some((_, stat)) => Ok(Some(stat.id)),
+            None => Ok(None),
+        },
+        Part::Damaged => say_next_damaged(v, marks, after, line),
+    }
+}
+
+/// Says the lines of a part of a list in order of ids, by right marks, and answers their number.
+pub(crate) fn list_part<B: Board>(
+    v: &mut View<'_, B>,
+    marks: &[u8],
+    part: Part,
+    line: &mut [u8],
+) -> Result<u32, Failed>
+    requires room { page_count v.old.geometry ≤ length marks.now }
+    requires marked { B.tells v.old.nor.now → IsMarked v.old.geometry (B.bytes v.old.nor.now) marks.now }
+    requires line { 12288 ≤ length line.old }
+    ensures cause { OnErr result (Rose (B.faults v.old.nor.now) (B.faults v.new.nor.now)) }
+    ensures same { IsSameView v.old v.new }
+    ensures says { OnlySays B.NorState v.old.nor.now v.new.nor.now (text_of part v.old.geometry (B.bytes v.old.nor.now)) }
+    ensures count { B.tells v.old.nor.now → IfOk result (λ count. count ≡ length (lines_of part v.old.geometry (B.bytes v.old.nor.now))) }
+    ensures whole { B.tells v.old.nor.now → OnOk result (B.said v.new.nor.now ≡ B.said v.old.nor.now ++ text_of part v.old.geometry (B.bytes v.old.nor.now)) }
+    ensures front { B.tells v.old.nor.now → OnErr result (SaysFront B.NorState v.old.nor.now v.new.nor.now (text_of part v.old.geometry (B.bytes v.old.nor.now))) }
+{
+    let mut after = 0;
+    let mut count = 0;
+    while let Some(id) = say_next(v, marks, part, after, line)? {
+        after = id;
+        count += 1;
+    }
+    Ok(count)
+}
+
 // Says the list of a volume, by right marks, and answers the number of damaged ids.
-fn list_marked<B: Board>(v: &mut View<'_, B>, marks: &[u8], line: &mut [u8]) -> Result<u32, ToolErr>
+fn list_marked<B: Board>(v: &mut View<'_, B>, marks: &[u8], line: &mut [u8]) -> Result<u32, Failed>
     requires room { page_count v.old.geometry ≤ length marks.now }
     requires marked { B.tells v.old.nor.now → IsMarked v.old.geometry (B.bytes v.old.nor.now) marks.now }
     requires line { 12288 ≤ length line.old }
@@ -25,8 +90,8 @@ fn list_marked<B: Board>(v: &mut View<'_, B>, marks: &[u8], line: &mut [u8]) -> 
     ensures whole { B.tells v.old.nor.now → OnOk result (B.said v.new.nor.now ≡ B.said v.old.nor.now ++ list_of v.old.geometry (B.bytes v.old.nor.now)) }
     ensures front { B.tells v.old.nor.now → OnErr result (SaysFront B.NorState v.old.nor.now v.new.nor.now (list_of v.old.geometry (B.bytes v.old.nor.now))) }
 {
-    list_records(v, marks, line)?;
-    list_damaged(v, marks, line)
+    list_part(v, marks, Part::Files, line)?;
+    list_part(v, marks, Part::Damaged, line)
 }
 
 /// Says the list of a volume: a line `ID TYPE SIZE NAME` for each file of the table in order of ids, the name
@@ -48,8 +113,11 @@ pub fn list<B: Board>(
     ensures whole { B.tells v.old.nor.now → OnOk result (B.said v.new.nor.now ≡ B.said v.old.nor.now ++ list_of v.old.geometry (B.bytes v.old.nor.now)) }
     ensures front { B.tells v.old.nor.now → OnErr result (SaysFront B.NorState v.old.nor.now v.new.nor.now (list_of v.old.geometry (B.bytes v.old.nor.now))) }
 {
-    match v.survey(marks) {
+    let Ok(()) = v.survey(marks) else {
+        return Err(ToolErr::BoardFault);
+    };
+    match list_marked(v, marks, line) {
         Err(Failed) => Err(ToolErr::BoardFault),
-        Ok(()) => list_marked(v, marks, line),
+        Ok(count) => Ok(count),
     }
 }

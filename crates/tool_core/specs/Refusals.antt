@@ -50,7 +50,7 @@ list_ending g image = unwrap_or (mount_refusal g image) (said_ending (length (da
 abbrev pub check_ending : Geometry → (was now : List ℕ) → Ending
 check_ending g was now = unwrap_or (check_refusal g was) (report_ending (length (damaged_of g was)) (free_blocks g now))
 
--- a text that is said, but where there is such a refusal
-abbrev pub unless_refused : Option Ending → List ℕ → List ℕ
-unless_refused (Some ending) text = []
-unless_refused None text = text
+-- a list, as a text that is said, but where there is such a refusal
+abbrev pub unless_refused : {X : Type 0} → Option Ending → List X → List X
+unless_refused (Some ending) xs = []
+unless_refused None xs = xs

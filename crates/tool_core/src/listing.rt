@@ -18,8 +18,8 @@ use image_tool::{ToolErr, list};
 use nor_core::{Board, Nor, NorState};
 use vol_mount::mount;
 
-// How a list ends that said so many damaged ids.
-fn end_of_list(damaged: u32) -> Ending
+/// How a command ends that said so many damaged ids.
+pub(crate) fn end_of_list(damaged: u32) -> Ending
     ensures ending { result ≡ said_ending damaged }
     ensures later { IsLater result }
     ensures no_script { result ≢ Ending.SourceFault }

@@ -1,16 +1,16 @@
-use Rattle.std.proofs.Common.{◌≡◌, refl}
 use Rattle.flash_view.proofs.Looking.{same_then}
-use Rattle.image_tool.specs.Lists.{list_of}
-use Rattle.image_tool.proofs.Speaking.{says_after, says_same}
+use Rattle.image_tool.proofs.Speaking.{says_after}
 use Rattle.image_tool.proofs.listing.list.Goals as goal
 
-pub returns-in-Ok-clause-says : goal.returns-in-Ok-clause-says
-returns-in-Ok-clause-says g c =
-    let v = c.args.v.now in
-    let mid = c.survey.new.self in
+pub returns-in-Err-clause-says : goal.returns-in-Err-clause-says
+returns-in-Err-clause-says g c =
     let looks = c.survey.ensures.looks in
-    let e : list_of mid.geometry (g.B.NorState.bytes mid.nor.now) ≡ list_of v.geometry (g.B.NorState.bytes v.nor.now) = rw (looks.same.geometry, looks.reads.bytes) refl in
-    says_same (list_of mid.geometry (g.B.NorState.bytes mid.nor.now)) _ (λ tells. e) (says_after looks.reads c.list_marked.ensures.says)
+    says_after looks.reads (rw (looks.same.geometry, looks.reads.bytes) at c.list_marked.ensures.says)
 
-pub returns-in-Ok-clause-same : goal.returns-in-Ok-clause-same
-returns-in-Ok-clause-same g c = same_then c.survey.ensures.looks.same c.list_marked.ensures.same
+pub returns-in-Ok-list_marked-clause-says : goal.returns-in-Ok-list_marked-clause-says
+returns-in-Ok-list_marked-clause-says g c =
+    let looks = c.survey.ensures.looks in
+    says_after looks.reads (rw (looks.same.geometry, looks.reads.bytes) at c.list_marked.ensures.says)
+
+pub returns-in-Ok-list_marked-clause-same : goal.returns-in-Ok-list_marked-clause-same
+returns-in-Ok-list_marked-clause-same g c = same_then c.survey.ensures.looks.same c.list_marked.ensures.same

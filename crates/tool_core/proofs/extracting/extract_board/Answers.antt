@@ -1,0 +1,10 @@
+use Rattle.std.proofs.Common.{rules}
+use Rattle.tool_core.proofs.Reading.{reads_once, reads_as}
+use Rattle.tool_core.proofs.extracting.extract_board.Goals as goal
+
+pub returns-clause-few : goal.returns-clause-few
+returns-clause-few g c =
+    let made = c.new-v.ensures in
+    let few = c.extract_view.ensures.same.few in
+    let here = rw (made.geometry, made.nor) at few in
+    reads_as _ (reads_once _ _ _ here made.empty made.cache_size) (search rules)
