@@ -5,13 +5,12 @@ use Rattle.nor_core.specs.declared.state.NorState.{Ghosts as NorOf}
 use Rattle.nor_core.specs.declared.source.Source.{Ghosts as SourceOf}
 use Rattle.folder_core.specs.Puts.{FolderOf}
 use Rattle.tool_core.specs.declared.words.Verb.{Verb}
-use Rattle.tool_core.specs.declared.words.Verb.TheVariants.{Run, List, Check, Extract, Make, Soak}
+use Rattle.tool_core.specs.declared.words.Verb.TheVariants.{Run, List, Check, Extract, Soak}
 use Rattle.tool_core.specs.declared.plan.Lengths.{Lengths}
 use Rattle.tool_core.specs.Running.{DoesRun}
 use Rattle.tool_core.specs.Listing.{DoesList}
 use Rattle.tool_core.specs.Checking.{DoesCheck}
 use Rattle.tool_core.specs.Extracting.{DoesExtract}
-use Rattle.tool_core.specs.Making.{DoesMake}
 use Rattle.tool_core.specs.Soaking.{DoesSoak}
 
 -- what a command leaves of a device, a script and a folder, and answers
@@ -20,5 +19,4 @@ Does nor source folder lent Run g old new script after before left status = Does
 Does nor source folder lent List g old new script after before left status = DoesList nor g lent.cache old new status
 Does nor source folder lent Check g old new script after before left status = DoesCheck nor g lent.cache old new status
 Does nor source folder lent Extract g old new script after before left status = DoesExtract nor folder g lent.cache old new before left status
-Does nor source folder lent Make g old new script after before left status = DoesMake nor folder g old new before left status
 Does nor source folder lent (Soak seed turns) g old new script after before left status = DoesSoak nor g lent.slots seed turns old new status

@@ -21,6 +21,5 @@ pub mod Early
 pub mod Listing
 pub mod Checking
 pub mod Extracting
-pub mod Making
 pub mod Soaking
 pub mod Does

@@ -1,7 +1,7 @@
 ghost use Rattle.std.specs.Prelude.{◌≡◌, ◌+◌, ◌<◌, ◌≤◌, ◌++◌, [], length, decimal};
 ghost use Rattle.arrayvec.specs.ArrayVec.{array_vec_len};
 ghost use Rattle.tool_core.specs.Endings.{OnlyCloses};
-ghost use Rattle.tool_core.specs.Closing.{status_of, closing_of, closing_line_of, part_word, short_text, differ_text, full_text, spoiled_text};
+ghost use Rattle.tool_core.specs.Closing.{status_of, closing_of, closing_line_of, part_word, short_text, differ_text, spoiled_text};
 
 use arrayvec::ArrayVec;
 use geometry::GeoErr;
@@ -27,8 +27,6 @@ pub(crate) enum Ending {
     Mixed(u32),
     /// A line of the script isn't in the grammar: its number, from 1.
     BadLine(u32),
-    /// The folder's files don't fit: their index pages and their data pages.
-    Full { index: u128, data: u128 },
     /// The board failed.
     BoardFault,
     /// The script could not be read.
@@ -39,8 +37,6 @@ pub(crate) enum Ending {
     TooLong,
     /// Some ids are damaged: their number.
     Damaged(u32),
-    /// A name of the folder can't be that of a file, or stands twice: its number, from 0.
-    BadName(u32),
     /// The check left fewer than two free blocks.
     Tight(u32),
     /// A page doesn't read as what was written there.
@@ -62,14 +58,12 @@ impl Ending {
             Ending::NotAFs(_) => 3,
             Ending::Mixed(_) => 4,
             Ending::BadLine(_) => 5,
-            Ending::Full { .. } => 6,
             Ending::BoardFault => 7,
             Ending::SourceFault => 8,
             Ending::FolderFault => 9,
             Ending::ShortBuffer { .. } => 10,
             Ending::TooLong => 11,
             Ending::Damaged(_) => 12,
-            Ending::BadName(_) => 13,
             Ending::Tight(_) => 14,
             Ending::Differ(_) => 21,
         }
@@ -97,16 +91,6 @@ pub(crate) fn put(line: &mut Closing, piece: &[u8])
     ensures len { array_vec_len line.new ≡ array_vec_len line.old + length piece.now }
 {
     let _ = line.try_extend_from_slice(piece);
-}
-
-// Appends a label and the number of pages that are wanted to a line.
-fn put_pages(line: &mut Closing, label: &[u8], pages: u128)
-    requires { array_vec_len line.old + length label.now + 40 ≤ 128 }
-    ensures items { line.new.items ≡ line.old.items ++ (label.now ++ decimal pages) }
-    ensures len { array_vec_len line.new ≤ array_vec_len line.old + length label.now + 40 }
-{
-    put(line, label);
-    put(line, Buffer::new().format(pages).as_bytes());
 }
 
 // Appends a label and a number to a line.
@@ -144,16 +128,6 @@ fn put_differ(line: &mut Closing, differ: Differ)
     put_count(line, b" ", u64::from(differ.found.span));
 }
 
-// Appends how many pages a folder's files take.
-fn put_full(line: &mut Closing, index: u128, data: u128)
-    requires { line.old.items ≡ [] }
-    ensures text { line.new.items ≡ full_text index data }
-    ensures short { array_vec_len line.new ≤ 127 }
-{
-    put_pages(line, b"! full, index ", index);
-    put_pages(line, b" data ", data);
-}
-
 // Appends how many blocks lack their magic.
 fn put_spoiled(line: &mut Closing, spoiled: u32)
     requires { line.old.items ≡ [] }
@@ -178,12 +152,10 @@ fn put_closing(line: &mut Closing, ending: Ending)
         Ending::NotAFs(spoiled) => put_spoiled(line, spoiled),
         Ending::Mixed(blocks) => put_count(line, b"! mixed blocks ", u64::from(blocks)),
         Ending::BadLine(number) => put_count(line, b"! bad line ", u64::from(number)),
-        Ending::Full { index, data } => put_full(line, index, data),
         Ending::SourceFault => put(line, b"! script fault"),
         Ending::FolderFault => put(line, b"! folder fault"),
         Ending::TooLong => put(line, b"! script longer than 16777216 bytes"),
         Ending::Damaged(count) => put_count(line, b"! damaged ", u64::from(count)),
-        Ending::BadName(at) => put_count(line, b"! bad name ", u64::from(at)),
         Ending::Tight(free) => put_count(line, b"! free blocks ", u64::from(free)),
         Ending::Differ(differ) => put_differ(line, differ),
     }

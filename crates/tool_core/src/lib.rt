@@ -9,7 +9,6 @@ mod ending;
 mod extracting;
 mod lines;
 mod listing;
-mod making;
 mod mounting;
 mod plan;
 mod run;

@@ -15,8 +15,6 @@ pub(crate) enum Verb {
     Check,
     /// Mounts a volume, says its list, and puts its files into a folder.
     Extract,
-    /// Formats a volume, and puts the files of a folder into it.
-    Make,
     /// Formats a volume, and does so many turns of calls on it that are drawn from the seed.
     Soak { seed: u64, turns: u32 },
 }
@@ -27,7 +25,7 @@ impl Verb {
         ensures { result ≡ writes self }
     {
         match self {
-            Verb::Run | Verb::Check | Verb::Make | Verb::Soak { .. } => true,
+            Verb::Run | Verb::Check | Verb::Soak { .. } => true,
             Verb::List | Verb::Extract => false,
         }
     }
@@ -38,7 +36,7 @@ impl Verb {
     {
         match self {
             Verb::Run | Verb::List | Verb::Check => 7,
-            Verb::Extract | Verb::Make => 8,
+            Verb::Extract => 8,
             Verb::Soak { .. } => 9,
         }
     }
@@ -48,7 +46,7 @@ impl Verb {
         ensures { result ≡ has_folder self }
     {
         match self {
-            Verb::Extract | Verb::Make => true,
+            Verb::Extract => true,
             Verb::Run | Verb::List | Verb::Check | Verb::Soak { .. } => false,
         }
     }
@@ -111,7 +109,6 @@ fn read_verb(words: &[String]) -> Option<Verb>
         b"list" => Some(Verb::List),
         b"check" => Some(Verb::Check),
         b"extract" => Some(Verb::Extract),
-        b"make" => Some(Verb::Make),
         b"soak" => read_soak(words),
         _ => None,
     }
