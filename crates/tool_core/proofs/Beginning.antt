@@ -58,7 +58,7 @@ first_state : (g : Geometry) (slots : ℕ) (image : List ℕ) → (after_all g (
 unfolding settled_at after_all
 first_state g slots image = refl
 
-first_room : (g : Geometry) (slots : ℕ) (image : List ℕ) → has_room g (table_of g image) ≡ true → has_room g (first_moment g slots image).state.table ≡ true
+pub first_room : (g : Geometry) (slots : ℕ) (image : List ℕ) → has_room g (table_of g image) ≡ true → has_room g (first_moment g slots image).state.table ≡ true
 unfolding settled_at
 first_room g slots image room = room
 

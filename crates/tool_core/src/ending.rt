@@ -44,7 +44,7 @@ pub(crate) enum Ending {
 }
 
 /// A closing line.
-pub(crate) type Closing = ArrayVec<u8, 128>;
+pub(crate) type Closing = ArrayVec<u8, 144>;
 
 impl Ending {
     /// The status that the command answers.
@@ -86,7 +86,7 @@ fn word_of(part: Part) -> &'static [u8]
 
 // Appends a piece to a line.
 pub(crate) fn put(line: &mut Closing, piece: &[u8])
-    requires { array_vec_len line.old + length piece.now ≤ 128 }
+    requires { array_vec_len line.old + length piece.now ≤ 144 }
     ensures items { line.new.items ≡ line.old.items ++ piece.now }
     ensures len { array_vec_len line.new ≡ array_vec_len line.old + length piece.now }
 {
@@ -95,7 +95,7 @@ pub(crate) fn put(line: &mut Closing, piece: &[u8])
 
 // Appends a label and a number to a line.
 pub(crate) fn put_count(line: &mut Closing, label: &[u8], number: u64)
-    requires { array_vec_len line.old + length label.now + 20 ≤ 128 }
+    requires { array_vec_len line.old + length label.now + 20 ≤ 144 }
     ensures items { line.new.items ≡ line.old.items ++ (label.now ++ decimal number) }
     ensures len { array_vec_len line.new ≤ array_vec_len line.old + length label.now + 20 }
 {

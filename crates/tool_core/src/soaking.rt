@@ -1,0 +1,185 @@
+ghost use Rattle.std.specs.Prelude.{ℕ, ◌≡◌, ◌≢◌, ◌≤◌, [], length, min, OnOk, OnErr, IfErr, Err, None};
+ghost use Rattle.geometry.specs.Numbers.{write_refusal, work_need, cache_need, check_need};
+ghost use Rattle.nor_core.specs.Count.{Rose};
+ghost use Rattle.nor_core.specs.Device.{Changes, Leaves};
+ghost use Rattle.table_model.specs.Table.{State};
+ghost use Rattle.volume.specs.Holds.{memory};
+ghost use Rattle.volume.specs.Same.{IsSameVolume};
+ghost use Rattle.volume_run.specs.Ready.{IsReady};
+ghost use Rattle.volume_soak.specs.Turns.{summary_text};
+ghost use Rattle.tool_core.specs.Fits.{IsFitting, HasLengths};
+ghost use Rattle.tool_core.specs.Later.{IsLater, IsLaterStatus};
+ghost use Rattle.tool_core.specs.Lent.{lengths_of};
+ghost use Rattle.tool_core.specs.Outcomes.{closed_memory};
+ghost use Rattle.tool_core.specs.Soaking.{HoldsFiles, SpeaksOf, SoaksTo, DoesSoak, unsettled_as};
+
+use crate::buffers::Buffers;
+use crate::ending::{Closing, Ending, conclude, put, put_count};
+use crate::mounting::mount_and_check;
+use geometry::Geometry;
+use nor_core::{Board, Failed, Nor, NorState};
+use table_model::FsErr;
+use vol_mount::{Lent, format};
+use volume::Volume;
+use volume_run::Stop;
+use volume_soak::{Summary, soak};
+
+// The line of a summary of so many turns.
+fn summary_line(turns: u32, summary: Summary) -> Closing
+    requires { summary.ok ≤ turns }
+    ensures { result.items ≡ summary_text turns summary.ok summary.files summary.bytes }
+{
+    let mut line = Closing::new();
+    put_count(&mut line, b"turns ", u64::from(turns));
+    put_count(&mut line, b" ok ", u64::from(summary.ok));
+    put_count(&mut line, b" refused ", u64::from(turns - summary.ok));
+    put_count(&mut line, b" files ", u64::from(summary.files));
+    put_count(&mut line, b" bytes ", summary.bytes);
+    put(&mut line, b"\n");
+    line
+}
+
+// How a soak ends whose written bytes can't be put onto the chip.
+fn unsettled(why: FsErr) -> Ending
+    ensures ends { result ≡ unsettled_as why }
+    ensures later { IsLater result }
+    ensures no_script { result ≢ Ending.SourceFault }
+    ensures fault { result ≡ Ending.BoardFault → why ≡ FsErr.DeviceFault }
+{
+    match why {
+        FsErr::DeviceFault => Ending::BoardFault,
+        FsErr::Damaged(differ) => Ending::Differ(differ),
+        _ => Ending::Tight(0),
+    }
+}
+
+// Puts the written bytes that wait onto the chip, or says how a soak ends there.
+fn settle<B: Board>(volume: &mut Volume<'_, B>) -> Result<(), Ending>
+    ensures later { IfErr result IsLater }
+    ensures no_script { ¬ (result ≡ Err Ending.SourceFault) }
+    ensures cause { result ≡ Err Ending.BoardFault → Rose (B.faults volume.old.nor.now) (B.faults volume.new.nor.now) }
+    ensures same { IsSameVolume volume.old volume.new }
+    ensures changes { Changes B.NorState volume.old.nor.now volume.new.nor.now (λ was image. Unit {0}) }
+    ensures files { OnOk result ((g : Geometry) (s : State) → IsReady g volume.old s → HoldsFiles g (B.bytes volume.new.nor.now) s.table) }
+    ensures stops { IfErr result (λ ending. (g : Geometry) (s : State) → IsReady g volume.old s → ending ≡ Ending.BoardFault) }
+{
+    match volume.settle() {
+        Ok(()) => Ok(()),
+        Err(why) => Err(unsettled(why)),
+    }
+}
+
+// Puts the written bytes that wait onto the chip, and then says the summary of the turns.
+#[tactic(auto, using(volume::proofs::Staying::same_then))]
+fn finish<B: Board>(volume: &mut Volume<'_, B>, turns: u32, summary: Summary) -> Ending
+    requires { summary.ok ≤ turns }
+    ensures later { IsLater result }
+    ensures no_script { result ≢ Ending.SourceFault }
+    ensures cause { result ≡ Ending.BoardFault → Rose (B.faults volume.old.nor.now) (B.faults volume.new.nor.now) }
+    ensures same { IsSameVolume volume.old volume.new }
+    ensures goes { Leaves B.NorState volume.old.nor.now volume.new.nor.now (λ image count. Unit {0}) }
+    ensures speaks { (g : Geometry) (s : State) → IsReady g volume.old s → SpeaksOf B.NorState g volume.old.nor.now volume.new.nor.now (summary_text turns summary.ok summary.files summary.bytes) s.table result }
+{
+    if let Err(ending) = settle(volume) {
+        return ending;
+    }
+    match volume.say(summary_line(turns, summary).as_slice()) {
+        Ok(()) => Ending::Done,
+        Err(Failed) => Ending::BoardFault,
+    }
+}
+
+// Mounts and checks a formatted volume, makes turns of calls on it, and says their summary.
+#[tactic(auto, using(volume::proofs::Staying::same_then))]
+fn soak_volume<B: Board>(
+    volume: &mut Volume<'_, B>,
+    seed: u64,
+    turns: u32,
+    line: &mut [u8],
+) -> Ending
+    requires writable { write_refusal volume.old.geometry ≡ None }
+    requires room { 12288 ≤ length line.old }
+    ensures later { IsLater result }
+    ensures no_script { result ≢ Ending.SourceFault }
+    ensures cause { result ≡ Ending.BoardFault → Rose (B.faults volume.old.nor.now) (B.faults volume.new.nor.now) }
+    ensures same { IsSameVolume volume.old volume.new }
+    ensures goes { Leaves B.NorState volume.old.nor.now volume.new.nor.now (λ image count. Unit {0}) }
+    ensures soaks { (slots : ℕ) → memory volume.old ≡ closed_memory (min 65535 slots) → B.tells volume.old.nor.now → HoldsFiles volume.old.geometry (B.bytes volume.old.nor.now) [] → SoaksTo B.NorState volume.old.geometry slots seed turns volume.old.nor.now volume.new.nor.now result }
+{
+    if let Err(ending) = mount_and_check(volume) {
+        return ending;
+    }
+    match soak(volume, seed, turns, line) {
+        Ok(summary) => finish(volume, turns, summary),
+        Err(Stop::Fault) => Ending::BoardFault,
+        Err(Stop::Differ(differ)) => Ending::Differ(differ),
+    }
+}
+
+// Mounts and checks the formatted volume of a board, makes turns of calls on it, and says their summary.
+fn soak_board<'b, B: Board>(
+    g: Geometry,
+    seed: u64,
+    turns: u32,
+    board: &'b mut B,
+    lent: Lent<'b>,
+    line: &mut [u8],
+) -> Ending
+    requires fits { IsFitting g (B.unit board.old) (B.size board.old) }
+    requires work { work_need g ≤ length lent.work.now }
+    requires cache { cache_need g ≤ length lent.cache.now }
+    requires check { check_need g ≤ length lent.check.now }
+    requires line { 12288 ≤ length line.old }
+    ensures later { IsLater result }
+    ensures no_script { result ≢ Ending.SourceFault }
+    ensures cause { result ≡ Ending.BoardFault → Rose (B.faults board.old) (B.faults board.new) }
+    ensures goes { Leaves B.NorState board.old board.new (λ image count. Unit {0}) }
+    ensures soaks { B.tells board.old → HoldsFiles g (B.bytes board.old) [] → SoaksTo B.NorState g (length lent.entry.slots.now) seed turns board.old board.new result }
+{
+    let mut volume = Volume::new(g, board, lent);
+    soak_volume(&mut volume, seed, turns, line)
+}
+
+// Formats the volume of a board, or says how a command ends there.
+fn format_board<B: Board>(g: &Geometry, board: &mut B) -> Result<(), Ending>
+    requires fits { IsFitting g.now (B.unit board.old) (B.size board.old) }
+    ensures cause { OnErr result (Rose (B.faults board.old) (B.faults board.new)) }
+    ensures stops { IfErr result (λ ending. ending ≡ Ending.BoardFault) }
+    ensures changes { Changes B.NorState board.old board.new (λ was image. Unit {0}) }
+    ensures files { B.tells board.old → OnOk result (HoldsFiles g.now (B.bytes board.new) []) }
+{
+    match format(g, board) {
+        Ok(()) => Ok(()),
+        Err(_) => Err(Ending::BoardFault),
+    }
+}
+
+/// Formats the volume of a board, mounts and checks it in the lent memory, makes so many turns of calls on it that are drawn from a seed, and
+/// says their summary.
+pub(crate) fn soak_on<B: Board>(
+    g: Geometry,
+    seed: u64,
+    turns: u32,
+    board: &mut B,
+    bufs: &mut Buffers<'_>,
+) -> u8
+    requires fits { IsFitting g (B.unit board.old) (B.size board.old) }
+    requires room { HasLengths g (lengths_of bufs.old) }
+    ensures later { IsLaterStatus result }
+    ensures board_fault { result ≡ 7 → Rose (B.faults board.old) (B.faults board.new) }
+    ensures no_script { result ≢ 8 }
+    ensures no_folder { result ≢ 9 }
+    ensures does { DoesSoak B.NorState g (length bufs.old.slots.now) seed turns board.old board.new result }
+{
+    if let Err(ending) = format_board(&g, board) {
+        return conclude(board, ending);
+    }
+    let lent = Lent {
+        work: &mut *bufs.work,
+        slots: &mut *bufs.slots,
+        cache: &mut *bufs.cache,
+        check: &mut *bufs.check,
+    };
+    let ending = soak_board(g, seed, turns, board, lent, bufs.line);
+    conclude(board, ending)
+}
