@@ -1,12 +1,11 @@
 -- How an extraction ends, before its closing line and with it.
-use Rattle.std.proofs.Common.{◌≡◌, ℕ, ◌+◌, ◌≤◌, List, [], ◌++◌, length, refl, sym, ◌∙◌, ap, subst, inl, inr, ⊎_elim, arith, append-nil, length-append, Option}
+use Rattle.std.proofs.Common.{◌≡◌, ℕ, ◌≤◌, List, ◌++◌, length, refl, sym, ◌∙◌, ap, subst, inl, inr, ⊎_elim, arith, append-nil, length-append, Option}
 use Rattle.std.specs.Prelude.{unwrap_or}
 use Rattle.geometry.specs.declared.geometry.Geometry.{Geometry}
 use Rattle.nor_core.specs.declared.state.NorState.{Ghosts as NorOf}
 use Rattle.nor_core.specs.Count.{Rose}
 use Rattle.nor_core.specs.Device.{OnlyReads}
 use Rattle.nor_core.proofs.Cuts.{andthen, widened}
-use Rattle.table_model.specs.Table.{File}
 use Rattle.image_model.specs.Tables.{table_of, damaged_of}
 use Rattle.image_model.specs.Kinds.{spoiled_blocks}
 use Rattle.folder_core.specs.declared.state.FolderState.{Ghosts as FolderOf}
@@ -140,9 +139,9 @@ module _ {D X : Type 0} {nor : NorOf D} {folder : FolderOf X} {g : Geometry} whe
     told = λ tells. ⊎_elim
         (λ done. inl (ends_done result status x.says (x.says.cuts.told tells) done.0 done.1 cause closes))
         (λ fails. ⊎_elim
-          (λ stopped. inl (ends_stopped result status x.says (x.says.cuts.told tells) stopped.0 stopped.1 cause closes))
-          (λ broken. inr (ends_broken result status x.says (x.says.cuts.told tells) broken.0 broken.1 cause folder_cause closes))
-          fails)
+        (λ stopped. inl (ends_stopped result status x.says (x.says.cuts.told tells) stopped.0 stopped.1 cause closes))
+        (λ broken. inr (ends_broken result status x.says (x.says.cuts.told tells) broken.0 broken.1 cause folder_cause closes))
+        fails)
         (x.ends tells);
     reads = reads_said cache reads closes.says closes.cuts.faults;
   }

@@ -90,6 +90,8 @@ pub(crate) fn extract_on<B: Board, F: Folder>(
     ensures no_script { result ≢ 8 }
     ensures does { DoesExtract B.NorState F.FolderState g (length bufs.old.cache.now) board.old board.new folder.old folder.new result }
 {
-    let ending = extract_board(g, board, folder, bufs.work, bufs.cache, bufs.check, bufs.line);
+    let ending = extract_board(
+        g, board, folder, bufs.work, bufs.cache, bufs.check, bufs.line,
+    );
     conclude(board, ending)
 }

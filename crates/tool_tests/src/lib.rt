@@ -10,6 +10,8 @@ mod creates;
 #[cfg(test)]
 mod cuts;
 #[cfg(test)]
+mod extracts;
+#[cfg(test)]
 mod images;
 #[cfg(test)]
 mod lists;
