@@ -1,17 +1,17 @@
 -- One call of a volume that stands at a state of the flat table.
-use Rattle.std.proofs.Common.{◌≡◌, ◌⊎◌, refl, sym, ◌∙◌, ap, subst, ⊎_elim, true, false, Option, Some, None}
+use Rattle.std.proofs.Common.{◌≡◌, refl, sym, ◌∙◌, ap, subst, ⊎_elim, true, false, Option, Some, None}
 use Rattle.geometry.specs.declared.geometry.Geometry.{Geometry}
 use Rattle.nor_core.specs.declared.state.NorState.{Ghosts as NorOf}
-use Rattle.table_model.specs.declared.error.FsErr.TheVariants.{DeviceFault, Damaged, Tight}
+use Rattle.table_model.specs.declared.error.FsErr.TheVariants.{DeviceFault, Damaged}
 use Rattle.table_model.specs.declared.error.Differ.{Differ}
 use Rattle.table_model.specs.Table.{State}
-use Rattle.table_model.specs.Ask.{Ask, Collects}
+use Rattle.table_model.specs.Ask.{Ask}
 use Rattle.table_model.specs.Reply.{Answer, Refuses}
 use Rattle.table_model.specs.Flat.{answer}
 use Rattle.table_model.specs.Window.{Moment, Waiting, after, settled_at, leaves_window, incoming_of, continues}
 use Rattle.call_model.specs.Calls.{Stands}
 use Rattle.call_model.proofs.After.{other-settles}
-use Rattle.run_model.specs.Ran.{RunStands, RunAnswers}
+use Rattle.run_model.specs.Ran.{RunAnswers}
 use Rattle.run_model.proofs.OneCall.{run_answers, after_state}
 use Rattle.volume.specs.declared.volume.Volume.{Volume}
 use Rattle.volume.specs.Holds.{memory, Holds}

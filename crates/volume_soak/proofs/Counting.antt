@@ -1,7 +1,5 @@
 -- How the files of a volume are counted in order of ids.
-use Rattle.std.proofs.Common.{◌≡◌, ℕ, ◌+◌, ◌<◌, ◌≤◌, List, [], ◌∷◌, length, Option, Some, None, ap, refl, sym, ◌∙◌, arith, subst, true, false}
-use Rattle.std.specs.Prelude.{sum_by}
-use Rattle.std.proofs.lemmas.Option.{none-some, same_Some}
+use Rattle.std.proofs.Common.{◌≡◌, ℕ, Option, Some, None, ap, refl, sym, ◌∙◌, subst, true, false}
 use Rattle.geometry.specs.declared.geometry.Geometry.{Geometry}
 use Rattle.nor_core.specs.declared.state.NorState.{Ghosts as NorOf}
 use Rattle.table_model.specs.declared.error.FsErr.{FsErr}
@@ -13,17 +11,12 @@ use Rattle.table_model.specs.Ask.{NextAbove}
 use Rattle.table_model.specs.Reply.{Answer, Ends, Shows, Refuses}
 use Rattle.table_model.specs.Flat.{answer}
 use Rattle.table_model.specs.Window.{incoming_of}
-use Rattle.image_model.specs.Tables.{table_of}
-use Rattle.image_tool.proofs.Ascending.{Ascends, head_found, found_behind, table-ascends}
 use Rattle.volume.specs.declared.volume.Volume.{Volume}
 use Rattle.volume.specs.Replies.{shown_or_end, breaks}
 use Rattle.volume.specs.Calls.{Calls}
-use Rattle.volume_run.specs.declared.asking.Stop.{Stop}
 use Rattle.volume_run.specs.Ready.{IsReady, IsAnswered}
-use Rattle.volume_run.specs.Stops.{StopsFrom}
 use Rattle.volume_run.proofs.Answering.{answered, settled}
-use Rattle.volume_soak.specs.Turns.{bytes_in}
-use Rattle.volume_soak.specs.Doing.{Finds, FindsFrom, HasCounted}
+use Rattle.volume_soak.specs.Doing.{FindsFrom}
 
 -- the answer for the record of the next file
 next_answer : (g : Geometry) (s : State) (after : ℕ) → (answer g true s (NextAbove after)).answer ≡ shown (file_above after s.table)
@@ -41,6 +34,11 @@ writes_none s after = refl
 no_refusal : (why : FsErr) (o : Option File) → Refuses why ≡ shown o → ⊥
 no_refusal why None is = let no : Refuses why ≡ Ends = is in cc
 no_refusal why (Some f) is = let no : Refuses why ≡ Shows (stat_of f) = is in cc
+
+-- a record, or the end of the table, tells no fault
+pub shown_whole : (found : Option Stat) → breaks (shown_or_end found) ≡ false
+shown_whole None = refl
+shown_whole (Some stat) = refl
 
 module _ {N : Type 0} {nor : NorOf N} where
   pub finds : {old new : Volume N nor} {reply : Answer} (after : ℕ) (found : Option Stat) → Calls (NextAbove after) old new reply → breaks reply ≡ false → reply ≡ shown_or_end found → FindsFrom old after new found

@@ -1,5 +1,5 @@
 -- Turns after turns.
-use Rattle.std.proofs.Common.{◌≡◌, ◌≢◌, ℕ, zero, suc, ◌+◌, ◌<◌, ◌≤◌, refl, sym, ◌∙◌, ap, subst, add-one, arith, Bool, true, false, ⊎_elim}
+use Rattle.std.proofs.Common.{◌≡◌, ℕ, ◌+◌, ◌≤◌, refl, sym, ◌∙◌, subst, add-one, arith, Bool, true, false}
 use Rattle.std.specs.Prelude.{if◌then◌else◌}
 use Rattle.std.specs.Int.{from_bool}
 use Rattle.geometry.specs.declared.geometry.Geometry.{Geometry}
@@ -8,10 +8,10 @@ use Rattle.nor_core.specs.Picks.{drawn}
 use Rattle.table_model.specs.Table.{State}
 use Rattle.volume.specs.declared.volume.Volume.{Volume}
 use Rattle.volume_run.specs.declared.asking.Stop.{Stop}
-use Rattle.volume_run.specs.Ready.{IsReady}
 use Rattle.volume_run.specs.Stops.{StopsFrom}
-use Rattle.volume_soak.specs.Turns.{Turn, Soaked, counted, turn, soaked}
-use Rattle.volume_soak.specs.Doing.{Did, DidFrom, HasSoaked, HasSoakedFrom}
+use Rattle.volume_soak.specs.Turns.{counted, turn, soaked}
+use Rattle.volume_soak.specs.Doing.{DidFrom, HasSoakedFrom, HasCountedFrom, IsSummaryFrom}
+use Rattle.volume_soak.specs.declared.soaking.Summary.{Summary}
 
 -- a truth counted as a number
 pub byte_is : (b : Bool) → from_bool b ≡ (if b then 1 else 0)
@@ -46,3 +46,10 @@ module _ {N : Type 0} {nor : NorOf N} where
   -- stopped in a turn after others
   pub stops_soaked : {old mid : Volume N nor} (seed k ok : ℕ) (why : Stop) → HasSoakedFrom old seed k mid ok → StopsFrom mid why → StopsFrom old why
   stops_soaked seed k ok why soaks stops = λ g s ready. stops g _ (soaks g s ready).ready
+
+  -- the summary of turns
+  pub sums_up : {old mid new : Volume N nor} (seed turns ok files bytes : ℕ) (summary : Summary) → summary.ok ≡ ok → summary.files ≡ files → summary.bytes ≡ bytes → HasSoakedFrom old seed turns mid ok → HasCountedFrom mid new files bytes → IsSummaryFrom old seed turns new summary
+  sums_up seed turns ok files bytes summary ok_is files_is bytes_is soaks counts = λ g s ready.
+      let was = soaks g s ready in
+      let now = counts g _ was.ready in
+      record { ready = now.ready; ok_is = ok_is ∙ was.ok_is; files_are = files_is ∙ now.files_are; bytes_are = bytes_is ∙ now.bytes_are }

@@ -8,15 +8,15 @@ use Rattle.table_model.specs.Ask.{Ask, Closes, Removes}
 use Rattle.table_model.specs.Reply.{Answer}
 use Rattle.table_model.specs.Steps.{is_refusal}
 use Rattle.volume.specs.declared.volume.Volume.{Volume}
-use Rattle.volume_run.specs.Ready.{IsReady, IsAnsweredFrom, IsOpenedFrom}
+use Rattle.volume_run.specs.Ready.{IsAnsweredFrom, IsOpenedFrom}
 use Rattle.volume_run.specs.Stops.{StopsFrom}
 use Rattle.volume_run.specs.declared.asking.Stop.{Stop}
 use Rattle.volume_run.proofs.Stopping.{stops_opened}
 use Rattle.volume_soak.specs.declared.draws.Draw.{Draw}
 use Rattle.volume_soak.specs.declared.draws.Kind.{Kind}
 use Rattle.volume_soak.specs.Asks.{IsDraw}
-use Rattle.volume_soak.specs.Turns.{Turn, on_opened, through, removal, turn_of, turn}
-use Rattle.volume_soak.specs.Doing.{Did, DidFrom}
+use Rattle.volume_soak.specs.Turns.{on_opened, through, removal, turn_of, turn}
+use Rattle.volume_soak.specs.Doing.{DidFrom}
 
 -- the turn of a draw is that of what it asks for
 turn_is : (g : Geometry) (s : State) (r : ℕ) (d : Draw) → IsDraw r d → turn g s r ≡ turn_of g s d.kind d.name d.count d.byte

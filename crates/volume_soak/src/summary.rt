@@ -1,4 +1,5 @@
 ghost use Rattle.std.specs.Prelude.{◌≡◌, ◌*◌, ◌^◌, ◌<◌, ◌≤◌, IfOk, IfErr, Err};
+ghost use Rattle.std.specs.Option.{IfSome};
 ghost use Rattle.nor_core.specs.Count.{Rose};
 ghost use Rattle.volume_run.specs.Ready.{IsMoved};
 ghost use Rattle.volume_run.specs.Stops.{StopsFrom};
@@ -17,6 +18,7 @@ fn next<N: Nor>(volume: &mut Volume<'_, N>, after: u16) -> Result<Option<Stat>, 
     ensures moved { IsMoved volume.old volume.new }
     ensures cause { result ≡ Err Stop.Fault → Rose (N.faults volume.old.nor.now) (N.faults volume.new.nor.now) }
     ensures found { IfOk result (FindsFrom volume.old after volume.new) }
+    ensures bounds { IfOk result (λ found. IfSome found (λ stat. (stat.id < 2 ^ 16) × (stat.size < 2 ^ 32))) }
     ensures stops { IfErr result (StopsFrom volume.old) }
 {
     match volume.next(after) {

@@ -1,4 +1,4 @@
-use Rattle.std.proofs.Common.{◌≡◌, refl, subst, rules}
+use Rattle.std.proofs.Common.{refl, subst, rules}
 use Rattle.table_model.specs.declared.error.FsErr.{FsErr}
 use Rattle.table_model.specs.Ask.{asked}
 use Rattle.table_model.specs.Reply.{Refuses}

@@ -1,11 +1,9 @@
-use Rattle.std.proofs.Common.{◌≡◌, refl, sym, ap, subst, rules}
-use Rattle.table_model.specs.declared.error.FsErr.{FsErr}
+use Rattle.std.proofs.Common.{refl, ap, rules}
 use Rattle.table_model.specs.Ask.{Opens}
 use Rattle.table_model.specs.Reply.{Tells, Refuses}
-use Rattle.volume.specs.Calls.{Calls}
 use Rattle.volume_run.specs.Ready.{opened}
 use Rattle.volume_run.proofs.Answering.{answered}
-use Rattle.volume_run.proofs.Stopping.{goes_unbroken, fault_rose, stops_by_fault}
+use Rattle.volume_run.proofs.Stopping.{goes_unbroken, stops_by_fault}
 use Rattle.volume_run.proofs.asking.open.Goals as goal
 
 pub returns-in-Ok-clause-answered : goal.returns-in-Ok-clause-answered

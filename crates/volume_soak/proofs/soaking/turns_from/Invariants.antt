@@ -1,4 +1,4 @@
-use Rattle.std.proofs.Common.{◌-◌, ◌≡◌, ℕ, ◌≤◌, length}
+use Rattle.std.proofs.Common.{◌-◌, ◌≡◌, ◌≤◌, length}
 use Rattle.nor_core.specs.Picks.{number_after}
 use Rattle.volume_run.specs.Ready.{IsMoved}
 use Rattle.volume_soak.specs.Doing.{HasSoakedFrom}

@@ -1,9 +1,8 @@
 use Rattle.std.proofs.Common.{refl, rules, None}
 use Rattle.table_model.specs.Ask.{NextAbove}
-use Rattle.table_model.specs.Reply.{Refuses}
 use Rattle.volume.specs.Replies.{shown_or_end}
-use Rattle.volume_run.proofs.Stopping.{goes_unbroken, fault_rose, stops_by_fault}
-use Rattle.volume_soak.proofs.Counting.{finds, never_refused}
+use Rattle.volume_run.proofs.Stopping.{goes_unbroken, stops_by_fault}
+use Rattle.volume_soak.proofs.Counting.{shown_whole, finds, never_refused}
 use Rattle.volume_soak.proofs.summary.next.Goals as goal
 
 pub returns-in-Some-clause-stops : goal.returns-in-Some-clause-stops
@@ -12,3 +11,7 @@ returns-in-Some-clause-stops g c = λ h s ready.
 
 pub returns-in-None-clause-found : goal.returns-in-None-clause-found
 returns-in-None-clause-found g c = never_refused {old = c.args.volume.now} {new = c.next.new.self} c.args.after c.in-Err.why None (search rules) (goes_unbroken c.in-Err.why (search rules))
+
+pub returns-in-Ok-clause-found : goal.returns-in-Ok-clause-found
+returns-in-Ok-clause-found g c =
+    finds {old = c.args.volume.now} {new = c.next.new.self} {reply = shown_or_end c.in-Ok.found} c.args.after c.in-Ok.found (search rules) (shown_whole c.in-Ok.found) refl

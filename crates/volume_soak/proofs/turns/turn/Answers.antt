@@ -1,4 +1,3 @@
-use Rattle.std.proofs.Common.{rules}
 use Rattle.volume_soak.specs.declared.draws.Kind.TheVariants.{Adds, Makes, Drops, Looks}
 use Rattle.volume_soak.proofs.Turning.{ends_turn}
 use Rattle.volume_soak.proofs.turns.turn.Goals as goal
