@@ -3,7 +3,7 @@ use Rattle.std.specs.Prelude.{ℕ}
 use Rattle.geometry.specs.declared.geometry.Geometry.{Geometry}
 use Rattle.nor_core.specs.declared.state.NorState.{Ghosts as NorOf}
 use Rattle.nor_core.specs.declared.source.Source.{Ghosts as SourceOf}
-use Rattle.folder_core.specs.Puts.{FolderOf}
+use Rattle.folder_core.specs.declared.state.FolderState.{Ghosts as FolderOf}
 use Rattle.tool_core.specs.declared.words.Verb.{Verb}
 use Rattle.tool_core.specs.declared.words.Verb.TheVariants.{Run, List, Check, Extract, Soak}
 use Rattle.tool_core.specs.declared.plan.Lengths.{Lengths}

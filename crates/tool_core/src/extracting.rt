@@ -5,7 +5,7 @@ ghost use Rattle.flash_view.specs.Same.{IsSameView};
 ghost use Rattle.image_tool.specs.Putting.{FolderGoes};
 ghost use Rattle.tool_core.specs.Extracting.{Extracts, DoesExtract};
 ghost use Rattle.tool_core.specs.Fits.{HoldsVolume, HasLengths};
-ghost use Rattle.tool_core.specs.Later.{IsLater, IsLaterStatus};
+ghost use Rattle.tool_core.specs.Later.{IsUnrefused, IsLaterStatus};
 ghost use Rattle.tool_core.specs.Lent.{lengths_of};
 ghost use Rattle.tool_core.specs.Reads.{ReadsOnce};
 
@@ -29,7 +29,7 @@ fn extract_view<B: Board, F: Folder>(
 ) -> Ending
     requires room { page_count v.old.geometry ≤ length marks.old }
     requires line { 12288 ≤ length line.old }
-    ensures later { IsLater result }
+    ensures later { IsUnrefused result }
     ensures no_script { result ≢ Ending.SourceFault }
     ensures cause { result ≡ Ending.BoardFault → Rose (B.faults v.old.nor.now) (B.faults v.new.nor.now) }
     ensures folder_cause { result ≡ Ending.FolderFault → Rose (F.faults folder.old) (F.faults folder.new) }
@@ -63,7 +63,7 @@ fn extract_board<B: Board, F: Folder>(
     requires cache { cache_need g ≤ length cache.old }
     requires check { check_need g ≤ length marks.old }
     requires line { 12288 ≤ length line.old }
-    ensures later { IsLater result }
+    ensures later { IsUnrefused result }
     ensures no_script { result ≢ Ending.SourceFault }
     ensures cause { result ≡ Ending.BoardFault → Rose (B.faults board.old) (B.faults board.new) }
     ensures folder_cause { result ≡ Ending.FolderFault → Rose (F.faults folder.old) (F.faults folder.new) }
