@@ -104,11 +104,14 @@ fn read_soak(words: &[String]) -> Option<Verb>
 fn read_verb(words: &[String]) -> Option<Verb>
     ensures { result ≡ verb_in (map string_bytes words.now) }
 {
-    match word(words, 0) {
+    let verb = word(words, 0);
+    if verb == b"extract".as_slice() {
+        return Some(Verb::Extract);
+    }
+    match verb {
         b"run" => Some(Verb::Run),
         b"list" => Some(Verb::List),
         b"check" => Some(Verb::Check),
-        b"extract" => Some(Verb::Extract),
         b"soak" => read_soak(words),
         _ => None,
     }
