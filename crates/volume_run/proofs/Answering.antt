@@ -18,7 +18,7 @@ use Rattle.volume.specs.Holds.{memory, Holds}
 use Rattle.volume.specs.Opening.{is_open}
 use Rattle.volume.specs.Stages.{takes_calls}
 use Rattle.volume.specs.Replies.{breaks}
-use Rattle.volume.specs.Goes.{StopsShort}
+use Rattle.file_calls.specs.Goes.{StopsShort}
 use Rattle.volume.specs.Calls.{Calls}
 use Rattle.volume_run.specs.Ready.{IsReady, IsAnswered, HasTable}
 

@@ -1,7 +1,7 @@
 ghost use Rattle.std.specs.Prelude.{◌≡◌, ◌≢◌, length, IfOk, IfErr, Err};
 ghost use Rattle.nor_core.specs.Count.{Rose};
 ghost use Rattle.table_model.specs.Ask.{asked};
-ghost use Rattle.volume.specs.Replies.{HasRoomFor, shown_by};
+ghost use Rattle.file_calls.specs.Replies.{HasRoomFor, shown_by};
 ghost use Rattle.volume_run.specs.Ready.{IsAnsweredFrom, IsOpenedFrom, IsMoved};
 ghost use Rattle.volume_run.specs.Stops.{stop_by, StopsFrom};
 

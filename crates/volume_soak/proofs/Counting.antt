@@ -12,7 +12,8 @@ use Rattle.table_model.specs.Reply.{Answer, Ends, Shows, Refuses}
 use Rattle.table_model.specs.Flat.{answer}
 use Rattle.table_model.specs.Window.{incoming_of}
 use Rattle.volume.specs.declared.volume.Volume.{Volume}
-use Rattle.volume.specs.Replies.{shown_or_end, breaks}
+use Rattle.file_calls.specs.Replies.{shown_or_end}
+use Rattle.volume.specs.Replies.{breaks}
 use Rattle.volume.specs.Calls.{Calls}
 use Rattle.volume_run.specs.Ready.{IsReady, IsAnswered}
 use Rattle.volume_run.proofs.Answering.{answered, settled}

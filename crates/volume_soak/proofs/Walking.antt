@@ -11,7 +11,7 @@ use Rattle.table_model.specs.Calls.{shown}
 use Rattle.table_model.specs.Reply.{Ends, Shows}
 use Rattle.image_tool.proofs.Ascending.{Ascends, head_found, found_behind, table-ascends}
 use Rattle.volume.specs.declared.volume.Volume.{Volume}
-use Rattle.volume.specs.Replies.{shown_or_end}
+use Rattle.file_calls.specs.Replies.{shown_or_end}
 use Rattle.volume_run.specs.declared.asking.Stop.{Stop}
 use Rattle.volume_run.specs.Ready.{IsReady}
 use Rattle.volume_run.specs.Stops.{StopsFrom}

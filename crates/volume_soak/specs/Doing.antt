@@ -7,7 +7,7 @@ use Rattle.volume.specs.declared.volume.Volume.{Volume}
 use Rattle.table_model.specs.declared.reply.Stat.{Stat}
 use Rattle.table_model.specs.Table.{file_above}
 use Rattle.table_model.specs.Calls.{shown}
-use Rattle.volume.specs.Replies.{shown_or_end}
+use Rattle.file_calls.specs.Replies.{shown_or_end}
 use Rattle.volume_run.specs.Ready.{IsReady, HasTable}
 use Rattle.volume_soak.specs.Turns.{Turn, Soaked, soaked, bytes_in}
 use Rattle.volume_soak.specs.declared.soaking.Summary.{Summary}

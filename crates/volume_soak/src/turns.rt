@@ -2,7 +2,7 @@ ghost use Rattle.std.specs.Prelude.{◌≡◌, ◌≤◌, ℕ, List, length, not
 ghost use Rattle.nor_core.specs.Count.{Rose};
 ghost use Rattle.table_model.specs.Ask.{asked};
 ghost use Rattle.table_model.specs.Steps.{is_refusal};
-ghost use Rattle.volume.specs.Replies.{shown_by};
+ghost use Rattle.file_calls.specs.Replies.{shown_by};
 ghost use Rattle.volume_run.specs.Ready.{IsMoved};
 ghost use Rattle.volume_run.specs.Stops.{StopsFrom};
 ghost use Rattle.volume_soak.specs.Asks.{IsDraw, asks_of, bytes_of};

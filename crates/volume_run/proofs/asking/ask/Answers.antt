@@ -2,7 +2,7 @@ use Rattle.std.proofs.Common.{refl, subst, rules}
 use Rattle.table_model.specs.declared.error.FsErr.{FsErr}
 use Rattle.table_model.specs.Ask.{asked}
 use Rattle.table_model.specs.Reply.{Refuses}
-use Rattle.volume.specs.Replies.{shown_by}
+use Rattle.file_calls.specs.Replies.{shown_by}
 use Rattle.volume.specs.Calls.{Calls}
 use Rattle.volume_run.proofs.Answering.{answered, undamaged, unbroken}
 use Rattle.volume_run.proofs.asking.ask.Goals as goal

@@ -1,6 +1,6 @@
 use Rattle.std.proofs.Common.{refl, rules, None}
 use Rattle.table_model.specs.Ask.{NextAbove}
-use Rattle.volume.specs.Replies.{shown_or_end}
+use Rattle.file_calls.specs.Replies.{shown_or_end}
 use Rattle.volume_run.proofs.Stopping.{goes_unbroken, stops_by_fault}
 use Rattle.volume_soak.proofs.Counting.{shown_whole, finds, never_refused}
 use Rattle.volume_soak.proofs.summary.next.Goals as goal
