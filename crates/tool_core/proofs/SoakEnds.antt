@@ -89,12 +89,15 @@ module _ {D : Type 0} {nor : NorOf D} {g : Geometry} where
   -- a front of it was said
   pub speaks_part : {old mid new : D} {piece text : List ℕ} {files : List File} → piece ≡ text → nor.said mid ≡ nor.said old → Says nor mid new piece → SpeaksOf nor g old new text files BoardFault
   speaks_part {old} {mid} {new} {piece} {text} is before says = record {
-    speaks = inl (refl, record {
-      part = take says.said.0 text;
-      rest = drop says.said.0 text;
-      said = says.said.1 ∙ ap (λ (l : List ℕ). l ++ take says.said.0 piece) before ∙ ap (λ (l : List ℕ). nor.said old ++ take says.said.0 l) is;
-      whole_is = sym (take-append-drop says.said.0 text);
-    });
+    speaks = inl (
+      refl,
+      record {
+        part = take says.said.0 text;
+        rest = drop says.said.0 text;
+        said = says.said.1 ∙ ap (λ (l : List ℕ). l ++ take says.said.0 piece) before ∙ ap (λ (l : List ℕ). nor.said old ++ take says.said.0 l) is;
+        whole_is = sym (take-append-drop says.said.0 text);
+      },
+    );
     left = λ done. absurd (let bad : BoardFault ≡ Done = done in cc);
   }
 
