@@ -1,20 +1,18 @@
 -- An empty volume is mounted and checked, and takes calls.
-use Rattle.std.proofs.Common.{◌≡◌, ℕ, ◌+◌, ◌-◌, ◌*◌, ◌/◌, ◌<◌, ◌≤◌, List, [], refl, sym, ◌∙◌, ap, subst, arith, inl, inr, ⊎_elim, Bool, true, false, not, cond, Option, Some, None}
-use Rattle.std.specs.Prelude.{min, replicate, nat_lt, nat_le}
-use Rattle.std.proofs.lemmas.Bool.{eq-eqb, le-ltb, le-leb, lt-ltb, false_from_ne_true, cases_lt}
+use Rattle.std.proofs.Common.{◌≡◌, ℕ, ◌+◌, ◌-◌, ◌<◌, ◌≤◌, List, [], refl, sym, ◌∙◌, ap, subst, arith, ⊎_elim, Bool, true, false, not, cond, Some, None}
+use Rattle.std.specs.Prelude.{min, replicate, nat_lt}
+use Rattle.std.proofs.lemmas.Bool.{le-leb, lt-ltb, cases_lt}
 use Rattle.geometry.specs.declared.geometry.Geometry.{Geometry}
-use Rattle.geometry.specs.declared.error.GeoErr.{GeoErr}
 use Rattle.geometry.specs.declared.error.GeoErr.TheVariants.{TooManyUsable, TooFewToWrite}
 use Rattle.geometry.specs.Numbers.{usable, entries, ceil, write_refusal}
 use Rattle.nor_core.specs.declared.state.NorState.{Ghosts as NorOf}
 use Rattle.nor_core.specs.Device.{Changes}
-use Rattle.table_model.specs.Table.{File, State}
+use Rattle.table_model.specs.Table.{File}
 use Rattle.table_model.specs.Room.{has_room, index_count, data_count}
 use Rattle.table_model.specs.Window.{settled_at}
 use Rattle.image_model.specs.Tables.{table_of}
 use Rattle.image_model.specs.Tidy.{IsTidy}
 use Rattle.image_model.specs.Kinds.{spoiled_blocks, mixed_blocks}
-use Rattle.image_model.specs.Sound.{IsMixed}
 use Rattle.image_model.specs.Places.{has_magic}
 use Rattle.image_laws.proofs.Matching.{filter-none_in}
 use Rattle.room_laws.proofs.Totals.{ceil-le}

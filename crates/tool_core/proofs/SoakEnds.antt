@@ -1,5 +1,5 @@
 -- How a soak ends, before its closing line and with it.
-use Rattle.std.proofs.Common.{◌≡◌, ℕ, ◌+◌, ◌-◌, ◌≤◌, ◌⊎◌, List, [], ◌++◌, length, take, drop, refl, sym, ◌∙◌, ap, subst, arith, inl, inr, ⊎_elim, append-nil, append_assoc, Bool, true, false, Result, Ok, Err}
+use Rattle.std.proofs.Common.{◌≡◌, ℕ, ◌+◌, ◌-◌, ◌⊎◌, List, [], ◌++◌, length, take, drop, refl, sym, ◌∙◌, ap, subst, arith, inl, inr, ⊎_elim, append-nil, Bool, true, false, Result, Ok, Err}
 use Rattle.std.specs.Prelude.{IsOk}
 use Rattle.std.proofs.lemmas.List.{take-append-drop}
 use Rattle.std.proofs.lemmas.Bool.{cases_Bool}
@@ -11,7 +11,6 @@ use Rattle.nor_core.proofs.Cuts.{andthen, wider, unchanged}
 use Rattle.table_model.specs.Table.{File, State}
 use Rattle.table_model.specs.declared.error.FsErr.{FsErr}
 use Rattle.table_model.specs.declared.error.FsErr.TheVariants.{DeviceFault, Failed}
-use Rattle.image_tool.specs.Saying.{SaysFront}
 use Rattle.run_model.specs.Ran.{RunStands}
 use Rattle.volume.specs.declared.volume.Volume.{Volume}
 use Rattle.volume.specs.Holds.{memory}
@@ -23,10 +22,9 @@ use Rattle.volume.proofs.RunSettling.{unmounts_open}
 use Rattle.volume_run.specs.Ready.{IsReady}
 use Rattle.volume_soak.specs.declared.soaking.Summary.{Summary}
 use Rattle.volume_soak.specs.Doing.{IsSummary}
-use Rattle.volume_soak.specs.Turns.{empty, soaked, bytes_in, summary_text, soak_text}
+use Rattle.volume_soak.specs.Turns.{empty, soaked, summary_text, soak_text}
 use Rattle.tool_core.specs.declared.ending.Ending.{Ending}
 use Rattle.tool_core.specs.declared.ending.Ending.TheVariants.{Done, BoardFault}
-use Rattle.tool_core.specs.Closing.{status_of, closing_line_of}
 use Rattle.tool_core.specs.Endings.{OnlyCloses, Speaks}
 use Rattle.tool_core.specs.Soaking.{HoldsFiles, SpeaksOf, SoaksTo, DoesSoak, soaked_files}
 use Rattle.tool_core.proofs.Speaking.{concludes, by_result}
@@ -89,12 +87,15 @@ module _ {D : Type 0} {nor : NorOf D} {g : Geometry} where
   -- a front of it was said
   pub speaks_part : {old mid new : D} {piece text : List ℕ} {files : List File} → piece ≡ text → nor.said mid ≡ nor.said old → Says nor mid new piece → SpeaksOf nor g old new text files BoardFault
   speaks_part {old} {mid} {new} {piece} {text} is before says = record {
-    speaks = inl (refl, record {
-      part = take says.said.0 text;
-      rest = drop says.said.0 text;
-      said = says.said.1 ∙ ap (λ (l : List ℕ). l ++ take says.said.0 piece) before ∙ ap (λ (l : List ℕ). nor.said old ++ take says.said.0 l) is;
-      whole_is = sym (take-append-drop says.said.0 text);
-    });
+    speaks = inl (
+      refl,
+      record {
+        part = take says.said.0 text;
+        rest = drop says.said.0 text;
+        said = says.said.1 ∙ ap (λ (l : List ℕ). l ++ take says.said.0 piece) before ∙ ap (λ (l : List ℕ). nor.said old ++ take says.said.0 l) is;
+        whole_is = sym (take-append-drop says.said.0 text);
+      },
+    );
     left = λ done. absurd (let bad : BoardFault ≡ Done = done in cc);
   }
 

@@ -1,6 +1,5 @@
-use Rattle.std.proofs.Common.{◌≡◌, ◌∙◌, refl}
+use Rattle.std.proofs.Common.{◌∙◌, refl}
 use Rattle.std.specs.Prelude.{min}
-use Rattle.volume_run.specs.Ready.{IsReady}
 use Rattle.volume_soak.specs.Turns.{empty}
 use Rattle.tool_core.proofs.Beginning.{memory_begun}
 use Rattle.tool_core.proofs.Formatting.{tidy_stops, empty_ready}
