@@ -1,0 +1,4 @@
+pub mod Keeping
+pub mod Naming
+pub mod Summing
+pub mod Deciding

@@ -21,10 +21,14 @@ fn is_bad(name: &[u8]) -> bool
 }
 
 // These bytes as a name, if a file can have it.
+#[tactic(auto, unfolding(table_model::specs::Names::name_refusal))]
 fn accept(name: &[u8]) -> Option<Name>
     ensures { result ≡ accepted name.now }
 {
-    if is_bad(name) || name.len() > 31 {
+    if is_bad(name) {
+        return None;
+    }
+    if name.len() > 31 {
         return None;
     }
     Some(Name::from_slice(name))
