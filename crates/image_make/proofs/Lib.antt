@@ -2,3 +2,4 @@ pub mod Keeping
 pub mod Naming
 pub mod Summing
 pub mod Deciding
+pub mod Tabling
