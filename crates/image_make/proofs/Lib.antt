@@ -1,0 +1,5 @@
+pub mod Keeping
+pub mod Naming
+pub mod Summing
+pub mod Deciding
+pub mod Tabling
