@@ -1,4 +1,4 @@
-//! An image made of a folder: the chip is formatted, and each file of the folder put into it, under the ids 1, 2, 3 and so on.
+//! Whether an image can be made of a folder: which name can't be that of a file, and whether the files fit. No command makes one yet.
 #![tactic(auto)]
 
 mod names;
