@@ -167,7 +167,7 @@ fn a_folder_that_fails_has_the_first_files_whole(rt: HostRuntime) -> Result<(), 
             "call {nth}"
         );
         folder.fail_nth(0);
-        let mut count = 0;
+        let mut count = 0u32;
         for i in 0..5usize {
             if let Some(size) = put_before(i, nth) {
                 let bytes = bytes_of(alloc, i)?;
@@ -177,7 +177,7 @@ fn a_folder_that_fails_has_the_first_files_whole(rt: HostRuntime) -> Result<(), 
                     holds(alloc, &mut folder, i as u32, name, front)?,
                     "file {i} of call {nth}"
                 );
-                count += 1;
+                count = count.saturating_add(1);
             }
         }
         assert_eq!(rt; folder.count(), Ok(count), "call {nth}");
