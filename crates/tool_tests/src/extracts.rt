@@ -1,11 +1,12 @@
 //! Files of a volume that are put into a folder.
 use crate::bench::{Memory, RUN, formatted, run};
-use crate::images::{board_of, empty, put_header, put_hello, same, volume};
+use crate::images::{board_of, put_header, put_hello, same, volume};
 use flash_view::View;
 use folder_core::{Folder, MemFolder};
 use geometry::MagicKind;
 use image_tool::{ExtractErr, extract};
 use nor_core::{CallKind, MemBoard};
+use script_bench::empty;
 use std::alloc::Global;
 use std::test::Fail;
 use vol_mount::{Lent, accept};
