@@ -7,8 +7,6 @@ mod batches;
 #[cfg(test)]
 mod bench;
 #[cfg(test)]
-mod choosing;
-#[cfg(test)]
 mod collects;
 #[cfg(test)]
 mod cuts;
