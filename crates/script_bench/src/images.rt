@@ -55,17 +55,21 @@ impl Place {
     }
 
     // Where the page's bytes begin.
-    fn at(self, g: &Geometry) -> usize {
+    pub(crate) fn at(self, g: &Geometry) -> usize {
         self.page(g).saturating_mul(g.page as usize)
+    }
+
+    // Where the page's entry begins.
+    pub(crate) fn entry_at(self, g: &Geometry) -> usize {
+        let block = self.block.saturating_mul(g.block as usize);
+        block.saturating_add(self.entry.saturating_mul(2))
     }
 }
 
 /// Puts the entry and the first five bytes of a page: its id, its span and its flags.
 pub fn put_page(image: &mut Vec<u8>, g: &Geometry, place: Place, id: u16, span: u16, flags: u8) {
-    let entries = place.block.saturating_mul(g.block as usize);
-    let entry = entries.saturating_add(place.entry.saturating_mul(2));
     let at = place.at(g);
-    put(image, entry, &id.to_le_bytes());
+    put(image, place.entry_at(g), &id.to_le_bytes());
     put(image, at, &id.to_le_bytes());
     put(image, at.saturating_add(2), &span.to_le_bytes());
     put(image, at.saturating_add(4), &[flags]);

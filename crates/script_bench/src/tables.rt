@@ -3,7 +3,7 @@ use crate::{Bench, Trouble};
 use fd_table::FdSlot;
 use flat_plain::{Flat, PlainFile, Said};
 use geometry::Geometry;
-use image_plain::{Record, free_blocks, holds_volume, table_of};
+use image_plain::{Record, free_blocks, holds_volume, is_tidy, table_of};
 use nor_core::MemBoard;
 use std::alloc::Global;
 use table_model::Stat;
@@ -117,6 +117,11 @@ pub(crate) fn are_of(files: &[Record], flat: &Flat) -> Result<bool, Trouble> {
     }
     let said = flat.next(after)?;
     Ok(is_end(&said))
+}
+
+/// Whether an image is tidy, by the plain program.
+pub(crate) fn is_orderly(alloc: Global, g: &Geometry, image: &[u8]) -> Result<bool, Trouble> {
+    Ok(holds_volume(g, image) && is_tidy(alloc, g, image)?)
 }
 
 /// How many blocks are free.

@@ -77,6 +77,7 @@ fn do_part(
         }
         "flat" => sweeps::compare(chip, &text, out),
         "drawn" => sweeps::draw(chip, part.words, out),
+        "damaged" => sweeps::damage(chip, part.words, out),
         "cuts" => sweeps::cut(&steps_of(alloc, chip, part)?, out),
         "recoveries" => sweeps::cut_twice(&steps_of(alloc, chip, part)?, part.words, out),
         "fails" => sweeps::fail(&steps_of(alloc, chip, part)?, part.words, out),

@@ -3,8 +3,8 @@ use crate::chip::Chip;
 use crate::commands::{kind_of, kind_text};
 use crate::words::{number, word};
 use script_bench::{
-    Agreement, Steps, Swept, Trouble, agreement_of, cut_each, cut_recoveries, draw_beside,
-    draw_calls, draw_files, fail_each,
+    Agreement, Odd, Steps, Swept, Tried, Trouble, agreement_of, cut_each, cut_recoveries,
+    draw_beside, draw_calls, draw_files, fail_each, try_damaged,
 };
 use std::alloc::AllocError;
 
@@ -44,6 +44,32 @@ pub fn draw(chip: &Chip, words: &[&str], out: &mut String) -> Result<(), Trouble
         write!(out, "  {seed}: ")?;
         tell_agreement(found, out)?;
     }
+    Ok(())
+}
+
+// Tells what came of commands on damaged images.
+fn tell_tried(tried: Tried, out: &mut String) -> Result<(), AllocError> {
+    match tried {
+        Tried::Whole(met) => write!(out,
+            "  {} in order or soon so, {} with damaged ids, {} with mixed blocks, {} no volume; {} scripts as of the flat table\n",
+            met.whole, met.damaged, met.mixed, met.foreign, met.scripts
+        ),
+        Tried::Odd { seed, command } => {
+            let command = match command {
+                Odd::List => "list",
+                Odd::Check => "check",
+                Odd::Run => "run",
+            };
+            write!(out, "  damaged as {seed} says: {command} is not as the plain program tells\n")
+        }
+    }
+}
+
+/// Damages the chip as seeds draw, and lists, checks and runs each: `damaged FROM COUNT`.
+pub fn damage(chip: &Chip, words: &[&str], out: &mut String) -> Result<(), Trouble> {
+    let from = number(words, 1, u64::MAX)?;
+    let count = number(words, 2, 10_000)?;
+    tell_tried(try_damaged(&chip.bench()?, &chip.image, from, count)?, out)?;
     Ok(())
 }
 
