@@ -6,7 +6,7 @@ use Rattle.std.proofs.lemmas.Option.{same_Some}
 use Rattle.geometry.specs.declared.geometry.Geometry.{Geometry}
 use Rattle.table_model.specs.Table.{File}
 use Rattle.table_model.specs.Room.{data_pages}
-use Rattle.page_layout.specs.Layout.{SameOutside}
+use Rattle.nor_core.specs.Flash.{SameOutside}
 use Rattle.page_layout.proofs.Stays.{word_stays}
 use Rattle.image_model.specs.Headers.{size_of, span_of}
 use Rattle.image_model.specs.Live.{Live}

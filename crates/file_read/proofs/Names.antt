@@ -6,7 +6,8 @@ use Rattle.std.proofs.lemmas.Bool.{cases_Bool, cases_lt, lt-ltb, le-ltb}
 use Rattle.std.proofs.lemmas.Option.{none-some, same_Some}
 use Rattle.geometry.specs.declared.geometry.Geometry.{Geometry}
 use Rattle.geometry.specs.Numbers.{head_slots, span_slots}
-use Rattle.image_model.specs.Headers.{obj_id, word_at, names_index, span_of}
+use Rattle.image_model.specs.Headers.{obj_id, names_index, span_of}
+use Rattle.nor_core.specs.Flash.{word_at}
 use Rattle.image_model.specs.Places.{page_of, is_entry_page, has_magic, block_of, entry_of}
 use Rattle.image_model.specs.Live.{Live, live_at, is_live, own}
 use Rattle.image_model.specs.Files.{index_page, is_index, further, entry_number, data_of, data_page}

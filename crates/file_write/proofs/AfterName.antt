@@ -7,12 +7,12 @@ use Rattle.std.proofs.lemmas.List.{get_or-take, get_or-drop}
 use Rattle.std.proofs.lemmas.Option.{none-some, same_Some}
 use Rattle.geometry.specs.declared.geometry.Geometry.{Geometry}
 use Rattle.geometry.specs.Numbers.{body, head_slots}
-use Rattle.nor_core.specs.Flash.{HalfProgrammed, SameOutside, programmed}
+use Rattle.nor_core.specs.Flash.{HalfProgrammed, SameOutside, programmed, word_at}
 use Rattle.nor_core.proofs.Programs.{half_programmed}
 use Rattle.table_model.specs.Table.{File, put_file}
 use Rattle.table_model.specs.Files.{written}
 use Rattle.table_model.specs.Room.{data_pages}
-use Rattle.image_model.specs.Headers.{names_index, span_of, size_of, word_at}
+use Rattle.image_model.specs.Headers.{names_index, span_of, size_of}
 use Rattle.image_model.specs.Live.{live_at, own}
 use Rattle.image_model.specs.Files.{is_index, index_page, further, data_of, data_page, entry_number}
 use Rattle.image_model.specs.Places.{page_of, IsImage}

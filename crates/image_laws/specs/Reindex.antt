@@ -4,7 +4,8 @@ use Rattle.std.specs.List.{range_with_len, flat_map}
 use Rattle.geometry.specs.declared.geometry.Geometry.{Geometry}
 use Rattle.geometry.specs.Numbers.{head_slots, span_slots}
 use Rattle.table_model.specs.Room.{data_pages}
-use Rattle.image_model.specs.Headers.{word_at, obj_id, span_of, names_index, size_of, name_of}
+use Rattle.image_model.specs.Headers.{obj_id, span_of, names_index, size_of, name_of}
+use Rattle.nor_core.specs.Flash.{word_at}
 use Rattle.image_model.specs.Live.{Live}
 use Rattle.table_model.specs.Table.{File}
 use Rattle.image_model.specs.Files.{is_index, index_page, further, data_of, data_page, judged}

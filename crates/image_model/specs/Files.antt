@@ -9,7 +9,8 @@ use Rattle.table_model.specs.Room.{data_pages}
 use Rattle.image_model.specs.declared.damage.Damage.{Damage}
 use Rattle.image_model.specs.declared.damage.Damage.TheVariants.{BadName, Missing}
 use Rattle.image_model.specs.Volume.{page_count}
-use Rattle.image_model.specs.Headers.{word_at, span_of, names_index, size_of, name_of}
+use Rattle.image_model.specs.Headers.{span_of, names_index, size_of, name_of}
+use Rattle.nor_core.specs.Flash.{word_at}
 use Rattle.image_model.specs.Live.{Live}
 
 -- a live index page of that span
