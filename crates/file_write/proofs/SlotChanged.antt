@@ -8,8 +8,8 @@ use Rattle.nor_core.specs.Flash.{SameOutside, word_at}
 use Rattle.page_layout.proofs.Stays.{word_stays, range_stays, name_stays}
 use Rattle.image_model.specs.Within.{sizes}
 use Rattle.image_model.specs.Headers.{obj_id, names_index, span_of, size_of, name_of}
-use Rattle.image_laws.specs.InPlace.{slot_at}
-use Rattle.image_laws.specs.Reindex.{index_span, slot_word}
+use Rattle.image_model.specs.Files.{slot_at, index_span}
+use Rattle.image_laws.specs.Reindex.{slot_word}
 use Rattle.renew_laws.specs.Relink.{IsRelinked}
 use Rattle.page_renew.specs.Copies.{kept_of, IsCopy}
 use Rattle.page_renew.proofs.FreeEntries.{free_behind}

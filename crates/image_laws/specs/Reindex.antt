@@ -8,11 +8,7 @@ use Rattle.image_model.specs.Headers.{obj_id, span_of, names_index, size_of, nam
 use Rattle.nor_core.specs.Flash.{word_at}
 use Rattle.image_model.specs.Live.{Live}
 use Rattle.table_model.specs.Table.{File}
-use Rattle.image_model.specs.Files.{is_index, index_page, further, data_of, data_page, judged}
-
--- the index page that has the entry of a data span, and that entry
-abbrev pub index_span : Geometry → ℕ → ℕ
-index_span g t = if nat_lt t (head_slots g) then 0 else further g t
+use Rattle.image_model.specs.Files.{is_index, index_page, data_of, data_page, judged, index_span}
 
 abbrev pub slot_word : Geometry → List ℕ → ℕ → ℕ
 slot_word g page t = if nat_lt t (head_slots g) then word_at page (45 + g.meta + 2 * t) else word_at page (8 + 2 * ((t - head_slots g) % span_slots g))

@@ -14,8 +14,8 @@ use Rattle.page_layout.proofs.Stays.{name_stays}
 use Rattle.image_model.specs.Within.{sizes}
 use Rattle.image_model.specs.Headers.{obj_id, span_of, names_index, is_finished, size_of, name_of}
 use Rattle.image_model.specs.Live.{Live}
-use Rattle.image_model.specs.Files.{is_index, index_page, further, entry_number, data_page, judged}
-use Rattle.image_laws.specs.Reindex.{Reindexes, index_span, slot_word, now_data, now_bytes}
+use Rattle.image_model.specs.Files.{is_index, index_page, further, entry_number, data_page, judged, index_span}
+use Rattle.image_laws.specs.Reindex.{Reindexes, slot_word, now_data, now_bytes}
 use Rattle.image_laws.proofs.Append.{find-all}
 use Rattle.image_laws.proofs.Finish.{is_finished-zero}
 use Rattle.image_laws.proofs.Tally.{is_finished-ones}

@@ -6,7 +6,7 @@ use Rattle.image_model.specs.Headers.{obj_id, span_of, names_index}
 use Rattle.image_model.specs.Live.{live_at}
 use Rattle.page_renew.specs.Copies.{IsCopyIn}
 use Rattle.image_model.specs.Places.{page_of}
-use Rattle.image_laws.specs.InPlace.{slot_at}
+use Rattle.image_model.specs.Files.{slot_at}
 use Rattle.image_laws.specs.Reindex.{slot_word}
 use Rattle.nor_core.specs.Flash.{SameOutside}
 
