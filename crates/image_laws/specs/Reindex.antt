@@ -8,10 +8,11 @@ use Rattle.image_model.specs.Headers.{obj_id, span_of, names_index, size_of, nam
 use Rattle.nor_core.specs.Flash.{word_at}
 use Rattle.image_model.specs.Live.{Live}
 use Rattle.table_model.specs.Table.{File}
-use Rattle.image_model.specs.Files.{is_index, index_page, data_of, data_page, judged, index_span}
+use Rattle.image_model.specs.Files.{is_index, index_page, data_of, data_page, judged, index_span, slot_at}
 
+-- the entry of a data span, in the index page that has it
 abbrev pub slot_word : Geometry → List ℕ → ℕ → ℕ
-slot_word g page t = if nat_lt t (head_slots g) then word_at page (45 + g.meta + 2 * t) else word_at page (8 + 2 * ((t - head_slots g) % span_slots g))
+slot_word g page t = word_at page (slot_at g t)
 
 -- the data page of a span, with this index page in the place of the one of its span
 unfoldable pub now_data : Geometry → Live → List ℕ → List ℕ → ℕ → Option (List ℕ)
