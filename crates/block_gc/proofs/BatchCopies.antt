@@ -13,7 +13,7 @@ use Rattle.image_model.specs.Volume.{per_block, lookups, entries}
 use Rattle.image_model.specs.Headers.{obj_id, span_of, names_index}
 use Rattle.image_model.specs.Live.{live_at, own}
 use Rattle.image_model.specs.Places.{block_of, IsImage}
-use Rattle.image_model.specs.Files.{is_index, index_page, data_of}
+use Rattle.image_model.specs.Files.{is_index, index_page, data_of, index_span}
 use Rattle.image_model.specs.Kinds.{is_index_page, is_data_page, is_index_block}
 use Rattle.image_model.specs.Sound.{Keeps}
 use Rattle.image_laws.specs.Changes.{Gains}
@@ -21,7 +21,6 @@ use Rattle.image_laws.specs.Put.{IsReadyPage}
 use Rattle.image_laws.specs.SoundSteps.{IsOfKind}
 use Rattle.image_laws.proofs.Records.{list_any-at}
 use Rattle.image_laws.specs.LiveSteps.{PutLeaves, PutDone}
-use Rattle.image_laws.specs.Reindex.{index_span}
 use Rattle.image_laws.proofs.Frames.{live_parts}
 use Rattle.image_laws.proofs.Sounding.{keeps-on}
 use Rattle.image_laws.proofs.SpareKill.{tidy-has_magics}

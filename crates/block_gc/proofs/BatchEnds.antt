@@ -7,8 +7,7 @@ use Rattle.table_model.specs.declared.error.Tag.{Tag}
 use Rattle.image_model.specs.Headers.{obj_id, names_index}
 use Rattle.image_model.specs.Live.{live_at, own}
 use Rattle.image_model.specs.Places.{block_of, IsImage}
-use Rattle.image_model.specs.Files.{index_page}
-use Rattle.image_laws.specs.Reindex.{index_span}
+use Rattle.image_model.specs.Files.{index_page, index_span}
 use Rattle.image_laws.proofs.Finish.{own-parts}
 use Rattle.image_laws.proofs.Frames.{live_parts}
 use Rattle.image_laws.proofs.Judge.{index_passes}

@@ -6,13 +6,12 @@ use Rattle.std.proofs.lemmas.Option.{same_Some}
 use Rattle.geometry.specs.declared.geometry.Geometry.{Geometry}
 use Rattle.table_model.specs.Table.{File}
 use Rattle.table_model.specs.Room.{data_pages}
-use Rattle.page_layout.specs.Layout.{SameOutside}
+use Rattle.nor_core.specs.Flash.{SameOutside}
 use Rattle.page_layout.proofs.Stays.{word_stays}
 use Rattle.image_model.specs.Headers.{size_of, span_of}
 use Rattle.image_model.specs.Live.{Live}
-use Rattle.image_model.specs.Files.{entry_number, data_of, data_page, span_bytes}
-use Rattle.image_laws.specs.InPlace.{slot_at}
-use Rattle.image_laws.specs.Reindex.{Reindexes, index_span, slot_word, now_data}
+use Rattle.image_model.specs.Files.{entry_number, data_of, data_page, span_bytes, slot_at, index_span}
+use Rattle.image_laws.specs.Reindex.{Reindexes, slot_word, now_data}
 use Rattle.room_laws.proofs.OnTheWay.{all_head, all_tail, all_at, all_cons, all_nil, in_head, in_tail}
 use Rattle.page_renew.specs.Built.{IsNamed}
 use Rattle.page_renew.proofs.SlotNames.{slot_word_at, slot_behind, other_word, named_leads, named_spans}

@@ -18,14 +18,14 @@ use Rattle.image_model.specs.Within.{sizes, page_length, page_number}
 use Rattle.image_model.specs.Headers.{obj_id, span_of, names_index, size_of}
 use Rattle.image_model.specs.Live.{Live, live_at, own}
 use Rattle.image_model.specs.Places.{block_of, IsImage}
-use Rattle.image_model.specs.Files.{is_index, index_page, entry_number, data_of, data_page, span_bytes}
+use Rattle.image_model.specs.Files.{is_index, index_page, entry_number, data_of, data_page, span_bytes, index_span}
 use Rattle.image_model.specs.Tables.{has_of}
 use Rattle.image_model.specs.Tidy.{serves}
 use Rattle.image_model.specs.Kinds.{is_index_page}
 use Rattle.image_model.specs.Sound.{Keeps}
 use Rattle.image_laws.specs.SoundSteps.{IsOfKind}
 use Rattle.image_laws.specs.LiveSteps.{PutLeaves, PutDone, KillLeaves}
-use Rattle.image_laws.specs.Reindex.{Reindexes, index_span, slot_word, now_data}
+use Rattle.image_laws.specs.Reindex.{Reindexes, slot_word, now_data}
 use Rattle.image_laws.specs.Spares.{leftover}
 use Rattle.image_laws.proofs.Frames.{live_parts}
 use Rattle.image_laws.proofs.Judge.{found_from}

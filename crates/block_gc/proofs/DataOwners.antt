@@ -10,10 +10,10 @@ use Rattle.page_layout.specs.declared.header.PageHeader.{PageHeader}
 use Rattle.image_model.specs.Headers.{obj_id, span_of, names_index, size_of}
 use Rattle.image_model.specs.Live.{Live, live_at, own}
 use Rattle.image_model.specs.Places.{page_of, is_entry_page, IsImage}
-use Rattle.image_model.specs.Files.{index_page, entry_number}
+use Rattle.image_model.specs.Files.{index_page, entry_number, index_span}
 use Rattle.image_model.specs.Tidy.{IsTidy}
 use Rattle.image_model.specs.Kinds.{is_data_page}
-use Rattle.image_laws.specs.Reindex.{index_span, slot_word}
+use Rattle.image_laws.specs.Reindex.{slot_word}
 use Rattle.image_laws.proofs.Finish.{own-parts, is_finished-zero}
 use Rattle.image_laws.proofs.Frames.{LivePage, live_parts}
 use Rattle.image_laws.proofs.Judge.{index_passes}

@@ -11,10 +11,10 @@ use Rattle.image_model.specs.Within.{page_length}
 use Rattle.image_model.specs.Headers.{obj_id, span_of, size_of}
 use Rattle.image_model.specs.Live.{live_at, own}
 use Rattle.image_model.specs.Places.{IsImage}
-use Rattle.image_model.specs.Files.{index_page, span_bytes}
+use Rattle.image_model.specs.Files.{index_page, span_bytes, index_span}
 use Rattle.image_laws.specs.LiveSteps.{PutLeaves, PutDone, KillLeaves}
 use Rattle.image_laws.specs.Put.{IsReadyPage}
-use Rattle.image_laws.specs.Reindex.{Reindexes, index_span, slot_word, now_data}
+use Rattle.image_laws.specs.Reindex.{Reindexes, slot_word, now_data}
 use Rattle.image_laws.specs.Spares.{leftover}
 use Rattle.image_laws.proofs.Frames.{live_parts}
 use Rattle.image_laws.proofs.SpareKill.{tidy-has_magics}

@@ -6,11 +6,10 @@ use Rattle.table_model.specs.declared.error.Tag.{Tag}
 use Rattle.image_model.specs.Places.{IsImage, block_of}
 use Rattle.image_model.specs.Headers.{obj_id, span_of, names_index}
 use Rattle.image_model.specs.Live.{live_at, own}
-use Rattle.image_model.specs.Files.{is_index, index_page, entry_number, judged}
+use Rattle.image_model.specs.Files.{is_index, index_page, entry_number, judged, index_span}
 use Rattle.image_model.specs.Kinds.{is_index_block, is_data_block}
 use Rattle.image_model.specs.Sound.{Keeps}
 use Rattle.image_laws.specs.NewFile.{IsFreePage}
-use Rattle.image_laws.specs.Reindex.{index_span}
 use Rattle.image_laws.specs.TidySteps.{IsTidyBut}
 use Rattle.renew_laws.specs.Idles.{Idles}
 use Rattle.renew_laws.specs.Tails.{KeepsTails}

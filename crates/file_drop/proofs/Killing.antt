@@ -9,7 +9,7 @@ use Rattle.image_model.specs.Headers.{names_index, span_of}
 use Rattle.image_model.specs.Places.{is_entry_page}
 use Rattle.image_model.specs.Live.{Live, live_at, own}
 use Rattle.image_model.specs.Tidy.{is_free_entry}
-use Rattle.image_model.specs.Sound.{HasMagics}
+use Rattle.image_model.specs.Sound.{HasMagics, KeepsAll}
 use Rattle.image_laws.specs.LiveSteps.{KillLeaves, KillDone}
 use Rattle.image_laws.specs.Remove.{Orphans}
 use Rattle.image_laws.proofs.Append.{own-live}
@@ -24,7 +24,7 @@ use Rattle.flash_view.specs.Steps.{Finishes}
 use Rattle.page_put.specs.LivePages.{killing, Stays, Cleared}
 use Rattle.page_renew.specs.EditLaws.{past_of}
 use Rattle.file_drop.specs.declared.pages.Kept.{Kept}
-use Rattle.file_drop.specs.Drops.{none_kept, is_left, HasLeft, KeepsAll, DropsPage, dropping}
+use Rattle.file_drop.specs.Drops.{none_kept, is_left, HasLeft, DropsPage, dropping}
 
 -- ---- the pages of an id
 

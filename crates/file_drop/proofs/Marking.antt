@@ -11,7 +11,7 @@ use Rattle.image_model.specs.Live.{live_at, own}
 use Rattle.image_model.specs.Files.{is_index}
 use Rattle.image_model.specs.Tables.{damaged_of}
 use Rattle.image_model.specs.Tidy.{free_blocks}
-use Rattle.image_model.specs.Sound.{HasMagics, IsSound}
+use Rattle.image_model.specs.Sound.{HasMagics, IsSound, KeepsAll}
 use Rattle.image_laws.specs.Changes.{Loses}
 use Rattle.image_laws.specs.Flash.{Programmed}
 use Rattle.image_laws.specs.Programs.{ClearsBit, HasOneHead}
@@ -33,7 +33,7 @@ use Rattle.header_laws.proofs.Telling.{one-head}
 use Rattle.flash_view.specs.Steps.{Begins, Finishes, making}
 use Rattle.page_put.specs.LivePages.{clearing, Stays, Cleared}
 use Rattle.page_put.proofs.Clearing.{left_half, left_done, clears_mark, below_byte}
-use Rattle.file_drop.specs.Drops.{none_kept, is_left, KeepsAll}
+use Rattle.file_drop.specs.Drops.{none_kept, is_left}
 use Rattle.file_drop.specs.Removals.{CanDrop, RemoveCut, HeaderDropped, dropping_header}
 use Rattle.file_drop.proofs.Killing.{some_page, all_left, dead_keeps, dead_orphans}
 

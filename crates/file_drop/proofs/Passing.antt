@@ -6,7 +6,7 @@ use Rattle.image_model.specs.Volume.{page_count}
 use Rattle.image_model.specs.Within.{page_number}
 use Rattle.image_model.specs.Places.{IsImage}
 use Rattle.image_model.specs.Live.{live_at, own}
-use Rattle.image_model.specs.Sound.{HasMagics}
+use Rattle.image_model.specs.Sound.{HasMagics, KeepsAll}
 use Rattle.image_laws.proofs.Finish.{own-parts}
 use Rattle.image_laws.proofs.Frames.{live_parts}
 use Rattle.image_laws.proofs.Sounding.{keeps-itself, keeps-on, sound-on}
@@ -18,7 +18,7 @@ use Rattle.image_laws.specs.Remove.{Orphans}
 use Rattle.image_laws.specs.Spares.{Spares}
 use Rattle.flash_view.specs.Steps.{Step, Begins, Finishes}
 use Rattle.file_drop.specs.declared.pages.Kept.{Kept}
-use Rattle.file_drop.specs.Drops.{none_kept, is_left, HasLeft, KeepsAll, DropsPage, dropping, dropping_all}
+use Rattle.file_drop.specs.Drops.{none_kept, is_left, HasLeft, DropsPage, dropping, dropping_all}
 use Rattle.file_drop.specs.Removals.{CanRemove, CanDrop, RemoveCut, HeaderDropped, dropping_header, removing_by, removing}
 use Rattle.file_drop.proofs.Killing.{past_page}
 

@@ -1,11 +1,11 @@
 -- Pages of a file that are to go, and their kills.
-use Rattle.std.specs.Prelude.{◌≡◌, ℕ, ◌≤◌, List, Bool, false, nat_le, if◌then◌else◌}
+use Rattle.std.specs.Prelude.{◌≡◌, ℕ, List, Bool, false, nat_le, if◌then◌else◌}
 use Rattle.geometry.specs.declared.geometry.Geometry.{Geometry}
 use Rattle.page_layout.specs.declared.header.PageHeader.{PageHeader}
 use Rattle.page_layout.specs.Layout.{names_index}
 use Rattle.image_model.specs.Live.{live_at, own}
-use Rattle.image_model.specs.Sound.{Keeps}
-use Rattle.image_model.specs.Tidy.{IsTidy, free_blocks}
+use Rattle.image_model.specs.Sound.{KeepsAll}
+use Rattle.image_model.specs.Tidy.{IsTidy}
 use Rattle.renew_laws.specs.Idles.{Idles}
 use Rattle.flash_view.specs.Steps.{Step}
 use Rattle.page_renew.specs.EditLaws.{past_of}
@@ -26,11 +26,6 @@ is_past_header kept head = if names_index head then nat_le kept.index_pages head
 -- The image is tidy but for such pages, which are not needed.
 abbrev pub HasLeft : Geometry → ℕ → Kept → List ℕ → Type 0
 HasLeft g id kept image = Idles g (λ p. is_left g image id kept p) image
-
--- The image is sound with its table, and no fewer blocks are free.
-pub record KeepsAll (g : Geometry) (was image : List ℕ) : Type 0 where
-  pub keeps : Keeps g was image
-  pub free : free_blocks g was ≤ free_blocks g image
 
 -- After a turn at page p that is no such page, and no other page is one that wasn't.
 pub record DropsPage (g : Geometry) (id : ℕ) (kept : Kept) (p : ℕ) (was now : List ℕ) : Type 0 where

@@ -6,12 +6,13 @@ use Rattle.std.proofs.lemmas.Bool.{cases_Bool, cases_lt, lt-ltb, le-ltb}
 use Rattle.std.proofs.lemmas.Option.{none-some, same_Some}
 use Rattle.geometry.specs.declared.geometry.Geometry.{Geometry}
 use Rattle.geometry.specs.Numbers.{head_slots, span_slots}
-use Rattle.image_model.specs.Headers.{obj_id, word_at, names_index, span_of}
+use Rattle.image_model.specs.Headers.{obj_id, names_index, span_of}
+use Rattle.nor_core.specs.Flash.{word_at}
 use Rattle.image_model.specs.Places.{page_of, is_entry_page, has_magic, block_of, entry_of}
 use Rattle.image_model.specs.Live.{Live, live_at, is_live, own}
-use Rattle.image_model.specs.Files.{index_page, is_index, further, entry_number, data_of, data_page}
+use Rattle.image_model.specs.Files.{index_page, is_index, further, entry_number, data_of, data_page, index_span, slot_at}
 use Rattle.image_laws.proofs.Judge.{index_passes}
-use Rattle.file_read.specs.Spans.{index_span, entry_place, named_page}
+use Rattle.file_read.specs.Spans.{named_page}
 
 mine_some : (page x : List ℕ) (mine : Bool) → (if mine then Some page else None) ≡ Some x → (mine ≡ true) × (page ≡ x)
 mine_some page x true e = (refl, same_Some page x e)
@@ -61,7 +62,7 @@ data_none None e = refl
 data_none (Some x) e = absurd (cc)
 
 -- the page that an index page names is the data page, where it is a live one of the span
-pub named_there : (g : Geometry) (image : List ℕ) (id index span q : ℕ) → q ≡ word_at (page_of g image index) (entry_place g span) → true ≡ is_some (data_of (own (live_at g image) id q) span) →
+pub named_there : (g : Geometry) (image : List ℕ) (id index span q : ℕ) → q ≡ word_at (page_of g image index) (slot_at g span) → true ≡ is_some (data_of (own (live_at g image) id q) span) →
     Some (page_of g image q) ≡ named_page g image id index span
 unfolding named_page
 named_there g image id index span q at e =
@@ -69,7 +70,7 @@ named_there g image id index span q at e =
     ap (λ (y : List ℕ). Some y) (own_page g image id q w.0 w.1) ∙ sym w.2 ∙ ap (λ (r : ℕ). data_of (own (live_at g image) id r) span) at
 
 -- else there is none
-pub named_nowhere : (g : Geometry) (image : List ℕ) (id index span q : ℕ) → q ≡ word_at (page_of g image index) (entry_place g span) → false ≡ is_some (data_of (own (live_at g image) id q) span) →
+pub named_nowhere : (g : Geometry) (image : List ℕ) (id index span q : ℕ) → q ≡ word_at (page_of g image index) (slot_at g span) → false ≡ is_some (data_of (own (live_at g image) id q) span) →
     None ≡ named_page g image id index span
 unfolding named_page
 named_nowhere g image id index span q at e = data_none (data_of (own (live_at g image) id q) span) e ∙ ap (λ (r : ℕ). data_of (own (live_at g image) id r) span) at

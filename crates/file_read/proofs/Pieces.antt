@@ -15,7 +15,7 @@ use Rattle.image_model.specs.Places.{page_of, IsImage, is_entry_page}
 use Rattle.image_model.specs.Within.{page_length, sizes}
 use Rattle.image_model.specs.Headers.{size_of}
 use Rattle.image_model.specs.Live.{live_at, own, is_live}
-use Rattle.image_model.specs.Files.{index_page, data_page, span_bytes, bytes_of, judged, found}
+use Rattle.image_model.specs.Files.{index_page, data_page, span_bytes, bytes_of, judged, found, index_span}
 use Rattle.image_laws.proofs.Judge.{found_parts}
 use Rattle.image_laws.proofs.Append.{find-all, some_page, data_page_is, body_length}
 use Rattle.image_laws.proofs.Matching.{length-pieces}
@@ -23,7 +23,7 @@ use Rattle.image_laws.proofs.Reindexed.{judged-parts}
 use Rattle.image_laws.proofs.Serving.{ceil-enough}
 use Rattle.image_laws.proofs.Wanted.{judged-whole}
 use Rattle.file_read.specs.Whole.{IsFileOf, IsFileAt, IsRead, Reading}
-use Rattle.file_read.specs.Spans.{index_span, named_page}
+use Rattle.file_read.specs.Spans.{named_page}
 use Rattle.file_read.proofs.Names.{own_page, named_is, index_there}
 use Rattle.file_read.proofs.Bytes.{in_piece, before_cut, in_body, read_more}
 

@@ -1,5 +1,5 @@
 ghost use Rattle.std.specs.Prelude.{◌≡◌, ◌+◌, ◌≤◌};
-ghost use Rattle.file_read.specs.Spans.{index_span as the_index_span, entry_place as the_entry_place};
+ghost use Rattle.image_model.specs.Files.{index_span as the_index_span, slot_at};
 
 use geometry::Geometry;
 
@@ -17,7 +17,7 @@ pub(crate) fn index_span(g: &Geometry, span: u32) -> u32
 
 /// The byte of that index page at which the data page's number stands.
 pub(crate) fn entry_place(g: &Geometry, span: u32) -> u32
-    ensures place { result ≡ the_entry_place g.now span }
+    ensures place { result ≡ slot_at g.now span }
     ensures within { result + 2 ≤ g.now.page }
 {
     let named = g.head_slots();

@@ -7,10 +7,10 @@ ghost use Rattle.table_model.specs.Files.{bytes_at};
 ghost use Rattle.image_model.specs.Places.{page_of};
 ghost use Rattle.image_model.specs.Headers.{size_of};
 ghost use Rattle.image_model.specs.Live.{live_at, own};
-ghost use Rattle.image_model.specs.Files.{index_page};
+ghost use Rattle.image_model.specs.Files.{index_page, index_span as the_index_span};
 ghost use Rattle.flash_view.specs.Same.{OnlyLooks};
 ghost use Rattle.file_read.specs.Whole.{IsFileOf, IsFileAt, IsRead, Reading};
-ghost use Rattle.file_read.specs.Spans.{index_span as the_index_span, named_page};
+ghost use Rattle.file_read.specs.Spans.{named_page};
 ghost use Rattle.file_read.specs.Missing.{IsNoPage, IsMissing, HoldsOrFault};
 
 use crate::pages::{entry_place, index_span};

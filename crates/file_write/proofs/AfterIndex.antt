@@ -10,12 +10,11 @@ use Rattle.table_model.specs.Files.{written}
 use Rattle.table_model.specs.Room.{data_pages, index_pages}
 use Rattle.image_model.specs.Headers.{names_index, span_of, size_of}
 use Rattle.image_model.specs.Live.{live_at, own}
-use Rattle.image_model.specs.Files.{index_page, further, data_of, data_page, entry_number}
+use Rattle.image_model.specs.Files.{index_page, further, data_of, data_page, entry_number, index_span}
 use Rattle.image_model.specs.Places.{is_entry_page}
 use Rattle.image_model.specs.Collect.{are_had}
 use Rattle.image_model.specs.Tables.{table_of}
 use Rattle.image_model.specs.Tidy.{serves, HasReserve}
-use Rattle.image_laws.specs.Reindex.{index_span}
 use Rattle.image_laws.proofs.Append.{own-live, own-some}
 use Rattle.image_laws.proofs.Finish.{own-parts}
 use Rattle.image_laws.proofs.Judge.{index_passes}

@@ -7,14 +7,14 @@ use Rattle.std.proofs.lemmas.List.{get_or-take, get_or-drop}
 use Rattle.std.proofs.lemmas.Option.{none-some, same_Some}
 use Rattle.geometry.specs.declared.geometry.Geometry.{Geometry}
 use Rattle.geometry.specs.Numbers.{body, head_slots}
-use Rattle.nor_core.specs.Flash.{HalfProgrammed, SameOutside, programmed}
+use Rattle.nor_core.specs.Flash.{HalfProgrammed, SameOutside, programmed, word_at}
 use Rattle.nor_core.proofs.Programs.{half_programmed}
 use Rattle.table_model.specs.Table.{File, put_file}
 use Rattle.table_model.specs.Files.{written}
 use Rattle.table_model.specs.Room.{data_pages}
-use Rattle.image_model.specs.Headers.{names_index, span_of, size_of, word_at}
+use Rattle.image_model.specs.Headers.{names_index, span_of, size_of}
 use Rattle.image_model.specs.Live.{live_at, own}
-use Rattle.image_model.specs.Files.{is_index, index_page, further, data_of, data_page, entry_number}
+use Rattle.image_model.specs.Files.{is_index, index_page, further, data_of, data_page, entry_number, slot_at, index_span}
 use Rattle.image_model.specs.Places.{page_of, IsImage}
 use Rattle.image_model.specs.Collect.{are_had}
 use Rattle.image_model.specs.Tables.{table_of}
@@ -22,8 +22,7 @@ use Rattle.image_model.specs.Sound.{Keeps}
 use Rattle.image_model.specs.Tidy.{serves, free_blocks}
 use Rattle.image_model.specs.Within.{sizes}
 use Rattle.image_laws.specs.Flash.{Programmed}
-use Rattle.image_laws.specs.InPlace.{slot_at}
-use Rattle.image_laws.specs.Reindex.{index_span, slot_word}
+use Rattle.image_laws.specs.Reindex.{slot_word}
 use Rattle.image_laws.proofs.Append.{own-live}
 use Rattle.image_laws.proofs.Finish.{own-parts}
 use Rattle.image_laws.proofs.Finished.{finished-programmed}

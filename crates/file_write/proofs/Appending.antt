@@ -9,10 +9,9 @@ use Rattle.table_model.specs.Files.{written}
 use Rattle.table_model.specs.Room.{data_pages, index_pages}
 use Rattle.image_model.specs.Headers.{size_of}
 use Rattle.image_model.specs.Live.{live_at, own}
-use Rattle.image_model.specs.Files.{index_page, further}
+use Rattle.image_model.specs.Files.{index_page, further, index_span}
 use Rattle.image_model.specs.Places.{page_of, IsImage}
 use Rattle.image_model.specs.Tables.{table_of}
-use Rattle.image_laws.specs.Reindex.{index_span}
 use Rattle.image_laws.proofs.Finish.{own-parts}
 use Rattle.image_laws.proofs.Frames.{live_parts}
 use Rattle.image_laws.proofs.SpareKill.{tidy-has_magics}

@@ -21,7 +21,7 @@ use Rattle.image_model.specs.Tidy.{HasReserve}
 use Rattle.image_laws.specs.Changes.{Gains}
 use Rattle.image_laws.specs.LiveSteps.{PutLeaves, PutDone}
 use Rattle.image_laws.specs.Put.{IsReadyPage}
-use Rattle.image_laws.specs.Reindex.{index_span}
+use Rattle.image_model.specs.Files.{index_span}
 use Rattle.image_laws.specs.SoundSteps.{IsOfKind}
 use Rattle.image_laws.specs.TidySteps.{Agree}
 use Rattle.image_laws.proofs.Finish.{own-parts}

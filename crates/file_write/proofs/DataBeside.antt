@@ -8,7 +8,7 @@ use Rattle.table_model.specs.declared.error.Tag.{Tag}
 use Rattle.image_model.specs.Places.{IsImage}
 use Rattle.image_laws.specs.LiveSteps.{PutDone}
 use Rattle.image_laws.specs.NewFile.{IsFreePage}
-use Rattle.image_laws.specs.InPlace.{slot_at}
+use Rattle.image_model.specs.Files.{slot_at}
 use Rattle.image_laws.specs.Reindex.{slot_word}
 use Rattle.flash_view.specs.declared.kinds.Kind.{Kind}
 use Rattle.flash_view.specs.declared.kinds.Kind.TheVariants.{Index, Data}

@@ -19,11 +19,11 @@ use Rattle.free_search.proofs.Had.{page_had}
 use Rattle.image_model.specs.Within.{sizes, page_length}
 use Rattle.image_model.specs.Headers.{obj_id, names_index, span_of, size_of}
 use Rattle.image_model.specs.Live.{Live, live_at, own}
-use Rattle.image_model.specs.Files.{index_page, further}
+use Rattle.image_model.specs.Files.{index_page, further, index_span}
 use Rattle.image_model.specs.Kinds.{is_index_page}
 use Rattle.image_model.specs.Sound.{HasMagics}
 use Rattle.image_model.specs.Tables.{table_of}
-use Rattle.image_laws.specs.Reindex.{index_span, slot_word, now_data}
+use Rattle.image_laws.specs.Reindex.{slot_word, now_data}
 use Rattle.image_laws.proofs.Finish.{own-parts}
 use Rattle.image_laws.proofs.Frames.{live_parts}
 use Rattle.image_laws.proofs.Judge.{index_passes}

@@ -10,14 +10,14 @@ use Rattle.table_model.specs.Table.{File}
 use Rattle.flash_view.specs.DataPages.{data_number_of}
 use Rattle.flash_view.specs.Steps.{Finishes}
 use Rattle.image_model.specs.Live.{live_at, own}
-use Rattle.image_model.specs.Files.{index_page, entry_number}
+use Rattle.image_model.specs.Files.{index_page, entry_number, index_span}
 use Rattle.image_model.specs.Places.{is_entry_page}
 use Rattle.image_model.specs.Sound.{Keeps}
 use Rattle.image_model.specs.Tidy.{free_blocks}
 use Rattle.image_model.specs.Volume.{page_count, per_block}
 use Rattle.image_model.specs.Within.{page_number}
 use Rattle.image_laws.specs.LiveSteps.{KillLeaves, KillDone}
-use Rattle.image_laws.specs.Reindex.{index_span, slot_word}
+use Rattle.image_laws.specs.Reindex.{slot_word}
 use Rattle.image_laws.proofs.Finish.{own-parts}
 use Rattle.image_laws.proofs.Frames.{live_parts}
 use Rattle.image_laws.proofs.Judge.{index_passes}

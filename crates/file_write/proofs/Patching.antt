@@ -2,7 +2,7 @@
 use Rattle.std.proofs.Common.{◌≡◌, ℕ, ◌+◌, ◌-◌, ◌<◌, ◌≤◌, List, ◌++◌, length, take, slice_index, ap, ◌∙◌, arith, subst}
 use Rattle.std.proofs.lemmas.List.{take_at}
 use Rattle.geometry.specs.declared.geometry.Geometry.{Geometry}
-use Rattle.page_layout.specs.Layout.{SameOutside}
+use Rattle.nor_core.specs.Flash.{SameOutside}
 use Rattle.image_model.specs.Places.{page_of}
 use Rattle.page_renew.specs.Built.{IsLoaded}
 use Rattle.file_write.specs.Patches.{IsPatchedPage, IsPatchedCopy}

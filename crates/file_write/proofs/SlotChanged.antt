@@ -4,12 +4,12 @@ use Rattle.std.proofs.lemmas.Bool.{cases_eq}
 use Rattle.geometry.specs.declared.geometry.Geometry.{Geometry}
 use Rattle.geometry.specs.Numbers.{head_slots}
 use Rattle.table_model.specs.Room.{data_pages}
-use Rattle.page_layout.specs.Layout.{SameOutside}
+use Rattle.nor_core.specs.Flash.{SameOutside, word_at}
 use Rattle.page_layout.proofs.Stays.{word_stays, range_stays, name_stays}
 use Rattle.image_model.specs.Within.{sizes}
-use Rattle.image_model.specs.Headers.{word_at, obj_id, names_index, span_of, size_of, name_of}
-use Rattle.image_laws.specs.InPlace.{slot_at}
-use Rattle.image_laws.specs.Reindex.{index_span, slot_word}
+use Rattle.image_model.specs.Headers.{obj_id, names_index, span_of, size_of, name_of}
+use Rattle.image_model.specs.Files.{slot_at, index_span}
+use Rattle.image_laws.specs.Reindex.{slot_word}
 use Rattle.renew_laws.specs.Relink.{IsRelinked}
 use Rattle.page_renew.specs.Copies.{kept_of, IsCopy}
 use Rattle.page_renew.proofs.FreeEntries.{free_behind}

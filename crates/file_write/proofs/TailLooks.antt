@@ -11,7 +11,8 @@ use Rattle.geometry.specs.declared.geometry.Geometry.{Geometry}
 use Rattle.geometry.specs.Numbers.{body, head_slots, span_slots}
 use Rattle.table_model.specs.Room.{data_pages}
 use Rattle.image_model.specs.Within.{page_length}
-use Rattle.image_model.specs.Headers.{size_of, word_at}
+use Rattle.image_model.specs.Headers.{size_of}
+use Rattle.nor_core.specs.Flash.{word_at}
 use Rattle.image_model.specs.Live.{live_at, own}
 use Rattle.image_model.specs.Files.{index_page, further}
 use Rattle.image_model.specs.Places.{page_of, is_entry_page, IsImage}

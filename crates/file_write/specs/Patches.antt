@@ -3,9 +3,8 @@ use Rattle.std.specs.Prelude.{◌≡◌, ℕ, ◌+◌, ◌-◌, ◌*◌, ◌/◌
 use Rattle.geometry.specs.declared.geometry.Geometry.{Geometry}
 use Rattle.geometry.specs.Numbers.{body, page_count}
 use Rattle.image_model.specs.Live.{live_at, own}
-use Rattle.image_model.specs.Files.{index_page}
+use Rattle.image_model.specs.Files.{index_page, index_span}
 use Rattle.image_model.specs.Places.{page_of, is_entry_page}
-use Rattle.image_laws.specs.Reindex.{index_span}
 use Rattle.flash_view.specs.DataPages.{data_number_of}
 use Rattle.file_write.specs.declared.relinking.Patch.{Patch}
 use Rattle.file_write.specs.declared.relinking.Spot.{Spot}

@@ -8,7 +8,7 @@ use Rattle.table_model.specs.Room.{data_pages}
 use Rattle.image_model.specs.Collect.{are_had}
 use Rattle.image_model.specs.Headers.{names_index, span_of, size_of}
 use Rattle.image_model.specs.Live.{live_at, own}
-use Rattle.image_model.specs.Files.{index_page, entry_number}
+use Rattle.image_model.specs.Files.{index_page, entry_number, index_span}
 use Rattle.image_model.specs.Kinds.{is_data_block}
 use Rattle.image_model.specs.Places.{block_of}
 use Rattle.image_model.specs.Sound.{IsSound}
@@ -16,7 +16,6 @@ use Rattle.image_model.specs.Tables.{table_of}
 use Rattle.image_model.specs.Tidy.{IsTidy, HasReserve}
 use Rattle.image_laws.specs.LiveSteps.{KillDone}
 use Rattle.image_laws.specs.NewFile.{IsFreePage}
-use Rattle.image_laws.specs.Reindex.{index_span}
 use Rattle.renew_laws.specs.Idles.{Idles}
 use Rattle.renew_laws.specs.Overwrite.{IsPatched}
 use Rattle.renew_laws.specs.Primed.{Primed}

@@ -2,7 +2,7 @@
 ghost use Rattle.std.specs.Prelude.{◌≡◌, ℕ, ◌+◌, ◌<◌, ◌≤◌, length, slice_index, slice_range};
 ghost use Rattle.geometry.specs.Numbers.{head_slots};
 ghost use Rattle.image_laws.specs.Reindex.{slot_word};
-ghost use Rattle.page_layout.specs.Layout.{SameOutside};
+ghost use Rattle.nor_core.specs.Flash.{SameOutside};
 
 use geometry::Geometry;
 use page_renew::{erase_part, name_data, see_bytes};

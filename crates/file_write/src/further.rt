@@ -1,7 +1,7 @@
 // Bytes that begin a data page whose entry a further index page has.
 ghost use Rattle.std.specs.Prelude.{◌≡◌, ◌+◌, ◌-◌, ◌/◌, ◌%◌, ◌<◌, ◌≤◌, OnErr, IfOk, IfSome, length};
 ghost use Rattle.geometry.specs.Numbers.{body, head_slots, span_slots, page_count};
-ghost use Rattle.image_laws.specs.InPlace.{slot_at};
+ghost use Rattle.image_model.specs.Files.{slot_at};
 ghost use Rattle.nor_core.specs.Count.{Rose};
 ghost use Rattle.flash_view.specs.Places.{IsEntryPage};
 ghost use Rattle.flash_view.specs.Same.{OnlyLooks};

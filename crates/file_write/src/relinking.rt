@@ -2,7 +2,7 @@
 ghost use Rattle.std.specs.Prelude.{◌≡◌, ◌+◌, ◌<◌, ◌≤◌, OnErr, OnOk, IfOk, IfSome, ℕ, List, length, slice_index};
 ghost use Rattle.geometry.specs.Numbers.{body, page_count};
 ghost use Rattle.nor_core.specs.Count.{Rose};
-ghost use Rattle.page_layout.specs.Layout.{SameOutside};
+ghost use Rattle.nor_core.specs.Flash.{SameOutside};
 ghost use Rattle.table_model.specs.Table.{File};
 ghost use Rattle.flash_view.specs.Places.{IsEntryPage};
 ghost use Rattle.flash_view.specs.Same.{OnlyLooks};

@@ -9,7 +9,8 @@ use Rattle.geometry.specs.Numbers.{head_slots, span_slots, page_count as pages_o
 use Rattle.page_layout.specs.declared.header.PageHeader.{PageHeader}
 use Rattle.page_layout.specs.Layout.{header_at, names_index as names_index_head}
 use Rattle.image_model.specs.Volume.{page_count, per_block}
-use Rattle.image_model.specs.Headers.{obj_id, span_of, names_index, word_at}
+use Rattle.image_model.specs.Headers.{obj_id, span_of, names_index}
+use Rattle.nor_core.specs.Flash.{word_at}
 use Rattle.image_model.specs.Places.{page_of, is_entry_page}
 use Rattle.image_model.specs.Live.{Live, live_at, is_live, own}
 use Rattle.image_model.specs.Files.{is_index, index_page, entry_number, data_of}

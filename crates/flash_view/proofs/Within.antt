@@ -2,7 +2,7 @@
 use Rattle.std.proofs.Common.{ℕ, ◌≡◌, ◌+◌, ◌-◌, ◌*◌, ◌≤◌, List, take, drop, slice_index, slice_range, add_assoc, ap, sym, arith, refl, ◌∙◌}
 use Rattle.std.proofs.lemmas.List.{drop-take, take-take, drop-drop}
 use Rattle.geometry.specs.declared.geometry.Geometry.{Geometry}
-use Rattle.image_model.specs.Headers.{word_at}
+use Rattle.nor_core.specs.Flash.{word_at}
 use Rattle.image_model.specs.Places.{page_of}
 use Rattle.flash_view.proofs.Parts.{part_byte}
 

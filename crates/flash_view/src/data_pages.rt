@@ -3,7 +3,7 @@ ghost use Rattle.geometry.specs.Numbers.{page_count};
 ghost use Rattle.nor_core.specs.Count.{Rose};
 ghost use Rattle.page_layout.specs.Layout.{names_index};
 ghost use Rattle.image_model.specs.Places.{page_of};
-ghost use Rattle.image_model.specs.Headers.{word_at};
+ghost use Rattle.nor_core.specs.Flash.{word_at};
 ghost use Rattle.image_model.specs.Live.{live_at, own};
 ghost use Rattle.image_model.specs.Files.{data_of};
 ghost use Rattle.flash_view.specs.Same.{OnlyLooks};

@@ -39,10 +39,9 @@ impl<'b, N: Nor> View<'b, N> {
     ghost use Rattle.std.specs.Int.{to_le_bytes, w16};
     ghost use Rattle.geometry.specs.Numbers.{work_need, cache_need, page_count};
     ghost use Rattle.nor_core.specs.Count.{Rose};
-    ghost use Rattle.nor_core.specs.Flash.{HalfProgrammed, programmed, HalfErased, erased};
+    ghost use Rattle.nor_core.specs.Flash.{HalfProgrammed, programmed, HalfErased, erased, word_at};
     ghost use Rattle.nor_core.specs.Device.{Changes, InErase, Writes};
     ghost use Rattle.flash_view.specs.Places.{IsEntryPage, IsWordAt, page_start as the_page_start, entry_start as the_entry_start};
-    ghost use Rattle.image_model.specs.Headers.{word_at};
     ghost use Rattle.image_model.specs.Places.{page_of, entry_at, entry_of as the_entry_of, has_magic as the_magic, erase_count as the_erase_count};
     ghost use Rattle.image_model.specs.Tidy.{is_erased as the_erased};
     ghost use Rattle.page_layout.specs.Layout.{header_at};

@@ -5,13 +5,13 @@ use Rattle.std.proofs.lemmas.List.{ext_get_or}
 use Rattle.std.proofs.Math.Path.{fun_ext}
 use Rattle.geometry.specs.declared.geometry.Geometry.{Geometry}
 use Rattle.image_model.specs.Volume.{lookups, per_block, slots, entries}
-use Rattle.nor_core.specs.Flash.{SameOutside}
+use Rattle.nor_core.specs.Flash.{SameOutside, word_at}
 use Rattle.image_model.specs.Within.{Sizes}
 use Rattle.image_laws.proofs.Places.{pages_apart, lookups_apart, blocks_disjoint, same_page}
 use Rattle.std.proofs.Math.Nat.{mul-le-mul_right}
 use Rattle.std.proofs.lemmas.Bool.{cases_lt, cases_eq, cases_Bool, and_parts, eqb-true, eq-eqb}
 use Rattle.image_model.specs.Live.{live_at, is_live, Live}
-use Rattle.image_model.specs.Headers.{is_finished, is_flag_set, word_at, obj_id}
+use Rattle.image_model.specs.Headers.{is_finished, is_flag_set, obj_id}
 use Rattle.image_model.specs.Places.{has_magic, entry_of, page_of, block_of, place_of, slot_of, is_entry_page}
 use Rattle.image_model.specs.Tables.{table_of, damaged_of, records, damages, has_of}
 

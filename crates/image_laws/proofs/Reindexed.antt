@@ -11,8 +11,8 @@ use Rattle.table_model.specs.Room.{data_pages}
 use Rattle.image_model.specs.Headers.{size_of, name_of}
 use Rattle.image_model.specs.Live.{Live}
 use Rattle.table_model.specs.Table.{File}
-use Rattle.image_model.specs.Files.{index_page, further, entry_number, data_of, data_page, judged, judged_by, file_of, span_bytes, bytes_of, first_missing}
-use Rattle.image_laws.specs.Reindex.{index_span, slot_word}
+use Rattle.image_model.specs.Files.{index_page, further, entry_number, data_of, data_page, judged, judged_by, file_of, span_bytes, bytes_of, first_missing, index_span}
+use Rattle.image_laws.specs.Reindex.{slot_word}
 use Rattle.image_laws.proofs.Judge.{judged-same}
 
 -- ---- pages that say the same of each span

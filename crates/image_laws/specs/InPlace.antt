@@ -1,21 +1,15 @@
 -- An entry past the page count is programmed in place.
-use Rattle.std.specs.Prelude.{◌≡◌, ℕ, ◌+◌, ◌-◌, ◌*◌, ◌%◌, ◌≤◌, List, length, Bool, true, Some, nat_lt, if◌then◌else◌}
+use Rattle.std.specs.Prelude.{◌≡◌, ℕ, ◌+◌, ◌*◌, ◌≤◌, List, length, Bool, true, Some}
 use Rattle.geometry.specs.declared.geometry.Geometry.{Geometry}
 use Rattle.nor_core.specs.Flash.{HalfProgrammed}
-use Rattle.geometry.specs.Numbers.{head_slots, span_slots}
 use Rattle.table_model.specs.Room.{data_pages}
 use Rattle.image_model.specs.Live.{live_at, own}
 use Rattle.image_model.specs.Headers.{span_of, names_index, size_of}
-use Rattle.image_model.specs.Files.{index_page}
+use Rattle.image_model.specs.Files.{index_page, slot_at, index_span}
 use Rattle.image_model.specs.Places.{IsImage}
 use Rattle.image_model.specs.Sound.{HasMagics, Keeps}
 use Rattle.image_model.specs.Tables.{table_of}
-use Rattle.image_laws.specs.Reindex.{index_span}
 use Rattle.image_laws.specs.TidySteps.{IsTidyBut}
-
--- where an index page has the entry of a data span
-abbrev pub slot_at : Geometry → ℕ → ℕ
-slot_at g t = if nat_lt t (head_slots g) then 45 + g.meta + 2 * t else 8 + 2 * ((t - head_slots g) % span_slots g)
 
 -- Programming that entry in a live index page, of a span at or past the page count, done or cut off, keeps the image.
 abbrev pub EntryInPlaceKeeps : Geometry → Type 0

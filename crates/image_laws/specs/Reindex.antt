@@ -4,17 +4,15 @@ use Rattle.std.specs.List.{range_with_len, flat_map}
 use Rattle.geometry.specs.declared.geometry.Geometry.{Geometry}
 use Rattle.geometry.specs.Numbers.{head_slots, span_slots}
 use Rattle.table_model.specs.Room.{data_pages}
-use Rattle.image_model.specs.Headers.{word_at, obj_id, span_of, names_index, size_of, name_of}
+use Rattle.image_model.specs.Headers.{obj_id, span_of, names_index, size_of, name_of}
+use Rattle.nor_core.specs.Flash.{word_at}
 use Rattle.image_model.specs.Live.{Live}
 use Rattle.table_model.specs.Table.{File}
-use Rattle.image_model.specs.Files.{is_index, index_page, further, data_of, data_page, judged}
+use Rattle.image_model.specs.Files.{is_index, index_page, data_of, data_page, judged, index_span, slot_at}
 
--- the index page that has the entry of a data span, and that entry
-abbrev pub index_span : Geometry → ℕ → ℕ
-index_span g t = if nat_lt t (head_slots g) then 0 else further g t
-
+-- the entry of a data span, in the index page that has it
 abbrev pub slot_word : Geometry → List ℕ → ℕ → ℕ
-slot_word g page t = if nat_lt t (head_slots g) then word_at page (45 + g.meta + 2 * t) else word_at page (8 + 2 * ((t - head_slots g) % span_slots g))
+slot_word g page t = word_at page (slot_at g t)
 
 -- the data page of a span, with this index page in the place of the one of its span
 unfoldable pub now_data : Geometry → Live → List ℕ → List ℕ → ℕ → Option (List ℕ)

@@ -9,7 +9,8 @@ use Rattle.table_model.specs.Room.{data_pages}
 use Rattle.image_model.specs.declared.damage.Damage.{Damage}
 use Rattle.image_model.specs.declared.damage.Damage.TheVariants.{BadName, Missing}
 use Rattle.image_model.specs.Volume.{page_count}
-use Rattle.image_model.specs.Headers.{word_at, span_of, names_index, size_of, name_of}
+use Rattle.image_model.specs.Headers.{span_of, names_index, size_of, name_of}
+use Rattle.nor_core.specs.Flash.{word_at}
 use Rattle.image_model.specs.Live.{Live}
 
 -- a live index page of that span
@@ -24,6 +25,14 @@ index_page g pages span = find (λ p. is_index (pages p) span) (range_with_len 0
 -- the span of the further index page that has the entry of a data span (SPIFFS object index page)
 abbrev pub further : Geometry → ℕ → ℕ
 further g span = (span - head_slots g) / span_slots g + 1
+
+-- the span of the index page that has the entry of a data span: 0 is the header page (SPIFFS object index page)
+abbrev pub index_span : Geometry → ℕ → ℕ
+index_span g span = if nat_lt span (head_slots g) then 0 else further g span
+
+-- the byte of that index page at which the entry of a data span begins
+abbrev pub slot_at : Geometry → ℕ → ℕ
+slot_at g span = if nat_lt span (head_slots g) then 45 + g.meta + 2 * span else 8 + 2 * ((span - head_slots g) % span_slots g)
 
 -- the index entry of a data span: it stands in the header page, or in a further index page where that one has no place for it
 unfoldable pub entry_number : Geometry → Live → List ℕ → ℕ → Option ℕ

@@ -1,9 +1,6 @@
 -- The fields of a page, read from its bytes alone.
 use Rattle.std.specs.Prelude.{ℕ, ◌+◌, ◌*◌, ◌/◌, ◌%◌, ◌^◌, List, Bool, not, nat_lt, ◌==◌, ◌&&◌, ◌||◌, Option, Some, None, if◌then◌else◌, position, take, option_and_then, slice_index, slice_range}
-
--- a number of two bytes, the lower one first
-abbrev pub word_at : List ℕ → ℕ → ℕ
-word_at bytes at = slice_index bytes at + 256 * slice_index bytes (at + 1)
+use Rattle.nor_core.specs.Flash.{word_at}
 
 -- the object id, with bit 15 set in index pages (SPIFFS page header)
 abbrev pub obj_id : List ℕ → ℕ

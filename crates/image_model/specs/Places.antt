@@ -4,7 +4,7 @@ use Rattle.std.specs.List.{range_with_len, fold}
 use Rattle.geometry.specs.declared.geometry.Geometry.{Geometry}
 use Rattle.geometry.specs.Numbers.{right_magic}
 use Rattle.image_model.specs.Volume.{per_block, lookups, page_count, slots}
-use Rattle.image_model.specs.Headers.{word_at}
+use Rattle.nor_core.specs.Flash.{word_at}
 
 -- The bytes of a device that holds the volume, at its start.
 pub record IsImage (g : Geometry) (image : List ℕ) : Type 0 where

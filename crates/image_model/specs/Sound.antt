@@ -1,11 +1,12 @@
 -- Mixed blocks, and images that a step or a cut may leave.
-use Rattle.std.specs.Prelude.{◌≡◌, ℕ, ◌<◌, List, map, true, false, Some}
+use Rattle.std.specs.Prelude.{◌≡◌, ℕ, ◌<◌, List, map, true, false, Some, ◌≤◌}
 use Rattle.std.specs.List.{Contains}
 use Rattle.geometry.specs.declared.geometry.Geometry.{Geometry}
 use Rattle.image_model.specs.Places.{has_magic, block_of}
 use Rattle.image_model.specs.Headers.{names_index}
 use Rattle.image_model.specs.Live.{Live, live_at}
 use Rattle.image_model.specs.Tables.{table_of, damaged_of}
+use Rattle.image_model.specs.Tidy.{free_blocks}
 
 -- A block is mixed where it holds a live index page and a live data page.
 pub record IsMixed (g : Geometry) (live : Live) (block : ℕ) : Type 0 where
@@ -38,3 +39,8 @@ pub record IsSound (g : Geometry) (image first : List ℕ) : Type 0 where
 pub record Keeps (g : Geometry) (a b : List ℕ) : Type 0 where
   pub sound : IsSound g b a
   pub table : table_of g b ≡ table_of g a
+
+-- b is sound with respect to a, and has its table and no fewer free blocks
+pub record KeepsAll (g : Geometry) (a b : List ℕ) : Type 0 where
+  pub keeps : Keeps g a b
+  pub free : free_blocks g a ≤ free_blocks g b

@@ -4,7 +4,9 @@ use Rattle.std.proofs.lemmas.List.{drop_more, get_or-replicate, length-replicate
 use Rattle.std.proofs.lemmas.List.Folds.{drop_split}
 use Rattle.std.proofs.lemmas.Grind.{common_steps}
 use Rattle.geometry.specs.declared.geometry.Geometry.{Geometry}
-use Rattle.page_layout.specs.Layout.{SameOutside, obj_id, span_of, type_of, name_field, padded, new_header_page, IsNewHeader}
+use Rattle.page_layout.specs.Layout.{type_of, name_field, padded, new_header_page, IsNewHeader}
+use Rattle.nor_core.specs.Flash.{SameOutside}
+use Rattle.image_model.specs.Headers.{obj_id, span_of}
 use Rattle.page_layout.proofs.Parts.{padded_name}
 
 -- what the parts of a new header page hold

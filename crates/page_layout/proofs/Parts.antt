@@ -7,7 +7,9 @@ use Rattle.std.proofs.lemmas.List.Sums.{position_or_len_is}
 use Rattle.std.proofs.lemmas.List.Elements.{All-get_or}
 use Rattle.std.proofs.lemmas.Grind.{common_steps}
 use borrow.Rule.Slice.PartMut.{put_mid}
-use Rattle.page_layout.specs.Layout.{SameOutside, padded, name_field, name_of}
+use Rattle.page_layout.specs.Layout.{padded, name_field}
+use Rattle.nor_core.specs.Flash.{SameOutside}
+use Rattle.image_model.specs.Headers.{name_of}
 
 -- a part of n bytes is written over by as many: all else stays
 pub part_written : (a n k : ℕ) (xs ys : List ℕ) → a + n ≤ length xs → k ≡ n → length ys ≡ n → SameOutside a n xs (put_mid a k xs ys)

@@ -1,7 +1,9 @@
 -- A field that has none of the written bytes stays.
 use Rattle.std.proofs.Common.{ℕ, ◌≡◌, ◌+◌, ◌<◌, ◌-◌, ◌≤◌, ⊎_elim, List, drop, get_or, slice_range, arith, refl, sym, ◌∙◌, lit<, lit≤, length-take, length-drop}
 use Rattle.std.proofs.lemmas.List.{get_or-take, get_or-drop, ext_get_or}
-use Rattle.page_layout.specs.Layout.{word_at, SameOutside, IsApart, header_at, size_field, type_of, name_field, name_of}
+use Rattle.page_layout.specs.Layout.{IsApart, header_at, size_field, type_of, name_field}
+use Rattle.nor_core.specs.Flash.{word_at, SameOutside}
+use Rattle.image_model.specs.Headers.{name_of}
 
 -- a byte that is apart
 byte_stays : (at count i n k : ℕ) (old new : List ℕ) → SameOutside at count old new → IsApart at count i n → i ≤ k → k < i + n → get_or new k 0 ≡ get_or old k 0

@@ -1,22 +1,14 @@
 -- Where the fields of SPIFFS pages stand, and what they hold. A page is the list of its bytes.
-use Rattle.std.specs.Prelude.{◌≡◌, ◌≢◌, ◌⊎◌, ℕ, ◌+◌, ◌-◌, ◌*◌, ◌/◌, ◌%◌, ◌^◌, ◌<◌, ◌≤◌, List, ◌∷◌, ◌++◌, length, replicate, take, Bool, not, nat_lt, ◌==◌, ◌&&◌, ◌||◌, Option, Some, None, if◌then◌else◌, position, option_and_then, slice_index, slice_range}
+use Rattle.std.specs.Prelude.{◌≡◌, ◌≢◌, ◌⊎◌, ℕ, ◌+◌, ◌-◌, ◌*◌, ◌/◌, ◌%◌, ◌^◌, ◌<◌, ◌≤◌, List, ◌∷◌, ◌++◌, length, replicate, Bool, not, nat_lt, ◌==◌, ◌&&◌, ◌||◌, Some, if◌then◌else◌, slice_index, slice_range}
 use Rattle.std.specs.Int.{bit_at}
 use Rattle.geometry.specs.declared.geometry.Geometry.{Geometry}
 use Rattle.geometry.specs.Numbers.{head_slots, span_slots}
 use Rattle.page_layout.specs.declared.flags.Flags.{Flags}
 use Rattle.page_layout.specs.declared.header.PageHeader.{PageHeader}
+use Rattle.nor_core.specs.Flash.{word_at}
+use Rattle.image_model.specs.Headers.{name_of, span_of, obj_id}
 
 -- ---- numbers and places
-
--- a number of two bytes, the lower first (all numbers of SPIFFS are little endian)
-abbrev pub word_at : List ℕ → ℕ → ℕ
-word_at bytes i = slice_index bytes i + 256 * slice_index bytes (i + 1)
-
--- the same size, and the same bytes outside `count` bytes from `at` on
-pub record SameOutside (at count : ℕ) (old new : List ℕ) : Type 0 where
-  pub size : length new ≡ length old
-  pub before : (k : ℕ) → k < at → slice_index new k ≡ slice_index old k
-  pub after : (k : ℕ) → at + count ≤ k → slice_index new k ≡ slice_index old k
 
 -- `size` bytes from `from` on and `count` bytes from `at` on have no byte in common
 abbrev pub IsApart : ℕ → ℕ → ℕ → ℕ → Type 0
@@ -24,21 +16,9 @@ IsApart at count from size = (at + count ≤ from) ⊎ (from + size ≤ at)
 
 -- ---- the page header (SPIFFS page header: obj_id, span_ix, flags)
 
--- the object's id, with bit 15 set in index pages (obj_id)
-abbrev pub obj_id : List ℕ → ℕ
-obj_id page = word_at page 0
-
--- the page's place among the object's index pages or data pages (span_ix)
-abbrev pub span_of : List ℕ → ℕ
-span_of page = word_at page 2
-
 -- bit k of a byte of flags is set
 abbrev pub is_bit_set : ℕ → ℕ → Bool
 is_bit_set bits k = bits / 2 ^ k % 2 == 1
-
--- bit k of the page's flags is set (flags)
-abbrev pub is_flag_set : List ℕ → ℕ → Bool
-is_flag_set page k = is_bit_set (slice_index page 4) k
 
 -- the byte of flags as a number
 abbrev pub bits_of : Flags → ℕ
@@ -75,10 +55,6 @@ pub record ClearsBit (k old new : ℕ) : Type 0 where
 abbrev pub size_field : List ℕ → ℕ
 size_field page = word_at page 8 + 65536 * word_at page 10
 
--- the size in bytes: the undefined size counts as 0 (size, SPIFFS_UNDEFINED_LEN)
-abbrev pub size_of : List ℕ → ℕ
-size_of page = if size_field page == 0xFFFFFFFF then 0 else size_field page
-
 -- the object's type: 1 is a file (type)
 abbrev pub type_of : List ℕ → ℕ
 type_of page = slice_index page 12
@@ -86,11 +62,6 @@ type_of page = slice_index page 12
 -- the 32 bytes of the name (name)
 abbrev pub name_field : List ℕ → List ℕ
 name_field page = slice_range page 13 45
-
--- the name: the bytes before the field's first zero, which is there and is not the first byte
-abbrev pub name_of : List ℕ → Option (List ℕ)
-name_of page =
-    option_and_then (λ n. if n == 0 then None else Some (take n (name_field page))) (position (λ b. b == 0) (name_field page))
 
 -- a name with zeros to the end of its field
 abbrev pub padded : List ℕ → List ℕ

@@ -1,5 +1,7 @@
 ghost use Rattle.std.specs.Prelude.{◌≡◌, ◌≢◌, ◌+◌, ◌<◌, ◌≤◌, ◌==◌, length, position, All, Some};
-ghost use Rattle.page_layout.specs.Layout.{size_field, size_of as size_in, type_of as type_in, name_field, name_of as name_in, padded, meta_of as meta_in, SameOutside};
+ghost use Rattle.page_layout.specs.Layout.{size_field, type_of as type_in, name_field, padded, meta_of as meta_in};
+ghost use Rattle.image_model.specs.Headers.{size_of as size_in, name_of as name_in};
+ghost use Rattle.nor_core.specs.Flash.{SameOutside};
 
 use byteorder::{ByteOrder, LittleEndian};
 use geometry::Geometry;

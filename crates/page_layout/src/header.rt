@@ -1,5 +1,6 @@
 ghost use Rattle.std.specs.Prelude.{◌≡◌, ◌≤◌, length};
-ghost use Rattle.page_layout.specs.Layout.{header_at, SameOutside};
+ghost use Rattle.page_layout.specs.Layout.{header_at};
+ghost use Rattle.nor_core.specs.Flash.{SameOutside};
 
 use crate::words::{put_word, read_word};
 use crate::{FREE, Flags, INDEX_BIT};

@@ -1,5 +1,6 @@
 ghost use Rattle.std.specs.Prelude.{◌≡◌, ◌+◌, ◌<◌, ◌≤◌, length};
-ghost use Rattle.page_layout.specs.Layout.{slot_place, slots_of, page_number, SameOutside};
+ghost use Rattle.page_layout.specs.Layout.{slot_place, slots_of, page_number};
+ghost use Rattle.nor_core.specs.Flash.{SameOutside};
 
 use crate::words::{put_word, read_word};
 use geometry::Geometry;

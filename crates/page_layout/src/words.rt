@@ -1,5 +1,7 @@
 ghost use Rattle.std.specs.Prelude.{◌≡◌, ◌+◌, ◌≤◌, ℕ, List, length, slice_range};
-ghost use Rattle.page_layout.specs.Layout.{word_at, SameOutside, IsApart, header_at, size_field, type_of, name_of};
+ghost use Rattle.page_layout.specs.Layout.{IsApart, header_at, size_field, type_of};
+ghost use Rattle.nor_core.specs.Flash.{word_at, SameOutside};
+ghost use Rattle.image_model.specs.Headers.{name_of};
 
 use byteorder::{ByteOrder, LittleEndian};
 

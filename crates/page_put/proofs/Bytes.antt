@@ -2,7 +2,8 @@
 use Rattle.std.proofs.Common.{◌≡◌, ℕ, ◌/◌, ◌%◌, ◌<◌, List, [], ◌∷◌, length, drop, get_or, ap, arith}
 use Rattle.std.proofs.lemmas.List.{drop_more, drop_all}
 use Rattle.page_layout.specs.declared.header.PageHeader.{PageHeader}
-use Rattle.page_layout.specs.Layout.{header_at, obj_id, span_of, bits_of}
+use Rattle.page_layout.specs.Layout.{header_at, bits_of}
+use Rattle.image_model.specs.Headers.{obj_id, span_of}
 
 -- a header by its bytes
 pub bytes_of_header : (bytes : List ℕ) (head : PageHeader) → length bytes ≡ 5 → ((k : ℕ) → get_or bytes k 0 < 256) → header_at bytes ≡ head →

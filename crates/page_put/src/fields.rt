@@ -4,7 +4,7 @@ ghost use Rattle.geometry.specs.Numbers.{page_count};
 ghost use Rattle.nor_core.specs.Count.{Rose};
 ghost use Rattle.nor_core.specs.Flash.{HalfProgrammed, programmed};
 ghost use Rattle.nor_core.specs.Device.{Changes};
-ghost use Rattle.image_laws.specs.InPlace.{slot_at};
+ghost use Rattle.image_model.specs.Files.{slot_at};
 ghost use Rattle.flash_view.specs.Same.{IsSameView};
 
 use flash_view::View;

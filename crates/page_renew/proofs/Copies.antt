@@ -8,7 +8,9 @@ use Rattle.std.proofs.lemmas.List.Elements.{All-from_get_or}
 use Rattle.std.proofs.lemmas.Bool.{cases_Bool, eq-eqb}
 use Rattle.std.proofs.lemmas.Option.{none-some, same_Some}
 use Rattle.geometry.specs.declared.geometry.Geometry.{Geometry}
-use Rattle.page_layout.specs.Layout.{SameOutside, slot_place, name_of, name_field, padded}
+use Rattle.page_layout.specs.Layout.{slot_place, name_field, padded}
+use Rattle.nor_core.specs.Flash.{SameOutside}
+use Rattle.image_model.specs.Headers.{name_of}
 use Rattle.page_layout.proofs.Stays.{name_stays, range_stays}
 use Rattle.page_renew.specs.Copies.{IsCopy}
 

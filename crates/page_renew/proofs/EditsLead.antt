@@ -10,7 +10,8 @@ use Rattle.table_model.specs.Files.{written}
 use Rattle.table_model.specs.Room.{data_pages}
 use Rattle.image_model.specs.declared.damage.Damage.{Damage}
 use Rattle.image_model.specs.Within.{sizes, page_length}
-use Rattle.image_model.specs.Headers.{word_at, span_of, size_of, name_of}
+use Rattle.image_model.specs.Headers.{span_of, size_of, name_of}
+use Rattle.nor_core.specs.Flash.{word_at}
 use Rattle.image_model.specs.Live.{live_at, own}
 use Rattle.image_model.specs.Files.{is_index, judged, file_of}
 use Rattle.image_model.specs.Tables.{has_of, table_of}

@@ -7,8 +7,8 @@ use Rattle.geometry.specs.Numbers.{head_slots, span_slots}
 use Rattle.page_layout.specs.Layout.{slot_place}
 use Rattle.image_model.specs.Within.{sizes}
 use Rattle.image_model.specs.Headers.{span_of}
-use Rattle.image_model.specs.Files.{further}
-use Rattle.image_laws.specs.Reindex.{index_span, slot_word}
+use Rattle.image_model.specs.Files.{further, index_span}
+use Rattle.image_laws.specs.Reindex.{slot_word}
 use Rattle.page_renew.specs.Copies.{kept_of, IsCopy}
 
 -- the place of the entry behind the last one that is kept

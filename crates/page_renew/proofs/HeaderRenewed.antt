@@ -7,7 +7,8 @@ use Rattle.std.proofs.lemmas.Option.{none-some, same_Some}
 use Rattle.geometry.specs.declared.geometry.Geometry.{Geometry}
 use Rattle.table_model.specs.declared.error.Tag.{Tag}
 use Rattle.table_model.specs.Table.{File, put_file}
-use Rattle.page_layout.specs.Layout.{SameOutside, header_at}
+use Rattle.page_layout.specs.Layout.{header_at}
+use Rattle.nor_core.specs.Flash.{SameOutside}
 use Rattle.page_layout.specs.declared.header.PageHeader.{PageHeader}
 use Rattle.image_model.specs.Within.{sizes}
 use Rattle.image_model.specs.Headers.{obj_id, names_index}

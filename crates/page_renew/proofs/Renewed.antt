@@ -8,13 +8,14 @@ use Rattle.geometry.specs.declared.geometry.Geometry.{Geometry}
 use Rattle.geometry.specs.Numbers.{head_slots, span_slots}
 use Rattle.table_model.specs.Table.{File}
 use Rattle.table_model.specs.Room.{data_pages}
-use Rattle.page_layout.specs.Layout.{SameOutside, slot_place}
+use Rattle.page_layout.specs.Layout.{slot_place}
+use Rattle.nor_core.specs.Flash.{SameOutside, word_at}
 use Rattle.page_layout.proofs.Stays.{name_stays}
 use Rattle.image_model.specs.Within.{sizes}
-use Rattle.image_model.specs.Headers.{word_at, obj_id, span_of, names_index, is_finished, size_of, name_of}
+use Rattle.image_model.specs.Headers.{obj_id, span_of, names_index, is_finished, size_of, name_of}
 use Rattle.image_model.specs.Live.{Live}
-use Rattle.image_model.specs.Files.{is_index, index_page, further, entry_number, data_page, judged}
-use Rattle.image_laws.specs.Reindex.{Reindexes, index_span, slot_word, now_data, now_bytes}
+use Rattle.image_model.specs.Files.{is_index, index_page, further, entry_number, data_page, judged, index_span}
+use Rattle.image_laws.specs.Reindex.{Reindexes, slot_word, now_data, now_bytes}
 use Rattle.image_laws.proofs.Append.{find-all}
 use Rattle.image_laws.proofs.Finish.{is_finished-zero}
 use Rattle.image_laws.proofs.Tally.{is_finished-ones}

@@ -4,10 +4,10 @@ use Rattle.std.specs.Prelude.{nat_lt, if◌then◌else◌}
 use Rattle.std.proofs.lemmas.Bool.{cases_eq, cases_lt, lt-ltb, le-ltb, ne_eqb, eq-eqb}
 use Rattle.geometry.specs.declared.geometry.Geometry.{Geometry}
 use Rattle.geometry.specs.Numbers.{head_slots}
-use Rattle.page_layout.specs.Layout.{SameOutside}
+use Rattle.nor_core.specs.Flash.{SameOutside, word_at}
 use Rattle.page_layout.proofs.Stays.{word_stays, range_stays, name_stays}
 use Rattle.image_laws.proofs.Frames.{word_at-same, range-same}
-use Rattle.image_model.specs.Headers.{word_at, size_of, name_of}
+use Rattle.image_model.specs.Headers.{size_of, name_of}
 use Rattle.page_renew.specs.Copies.{kept_of, IsCopy}
 use Rattle.page_renew.specs.declared.edits.Edit.{Edit}
 use Rattle.page_renew.specs.declared.edits.Edit.TheVariants.{Cut, Grow}

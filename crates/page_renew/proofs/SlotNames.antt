@@ -6,13 +6,13 @@ use Rattle.geometry.specs.declared.geometry.Geometry.{Geometry}
 use Rattle.geometry.specs.Numbers.{head_slots, span_slots}
 use Rattle.table_model.specs.Table.{File}
 use Rattle.table_model.specs.Room.{data_pages}
-use Rattle.page_layout.specs.Layout.{SameOutside, IsApart}
+use Rattle.page_layout.specs.Layout.{IsApart}
+use Rattle.nor_core.specs.Flash.{SameOutside, word_at}
 use Rattle.page_layout.proofs.Stays.{word_stays, range_stays, name_stays}
-use Rattle.image_model.specs.Headers.{word_at, obj_id, span_of, size_of, name_of}
+use Rattle.image_model.specs.Headers.{obj_id, span_of, size_of, name_of}
 use Rattle.image_model.specs.Live.{Live}
-use Rattle.image_model.specs.Files.{data_of, data_page, span_bytes}
-use Rattle.image_laws.specs.InPlace.{slot_at}
-use Rattle.image_laws.specs.Reindex.{Reindexes, index_span, slot_word, now_data, now_bytes}
+use Rattle.image_model.specs.Files.{data_of, data_page, span_bytes, slot_at, index_span}
+use Rattle.image_laws.specs.Reindex.{Reindexes, slot_word, now_data, now_bytes}
 use Rattle.renew_laws.proofs.Leading.{copies-same}
 use Rattle.image_laws.proofs.Places.{same_page}
 

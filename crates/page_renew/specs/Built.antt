@@ -6,9 +6,9 @@ use Rattle.image_model.specs.Headers.{obj_id, span_of, names_index}
 use Rattle.image_model.specs.Live.{live_at}
 use Rattle.page_renew.specs.Copies.{IsCopyIn}
 use Rattle.image_model.specs.Places.{page_of}
-use Rattle.image_laws.specs.InPlace.{slot_at}
+use Rattle.image_model.specs.Files.{slot_at}
 use Rattle.image_laws.specs.Reindex.{slot_word}
-use Rattle.page_layout.specs.Layout.{SameOutside}
+use Rattle.nor_core.specs.Flash.{SameOutside}
 
 -- The first bytes are the copy of this live index page, with its id and span; they and the page's flags are bytes.
 pub record IsBuilt (g : Geometry) (image : List ℕ) (page : ℕ) (tag : Tag) (work : List ℕ) : Type 0 where

@@ -3,8 +3,8 @@ use Rattle.std.specs.Prelude.{◌≡◌, ℕ, ◌+◌, ◌-◌, ◌*◌, ◌%◌
 use Rattle.geometry.specs.declared.geometry.Geometry.{Geometry}
 use Rattle.geometry.specs.Numbers.{head_slots, span_slots}
 use Rattle.table_model.specs.Room.{data_pages}
-use Rattle.page_layout.specs.Layout.{slot_place, name_of, name_field, padded}
-use Rattle.image_model.specs.Headers.{obj_id, span_of, size_of}
+use Rattle.page_layout.specs.Layout.{slot_place, name_field, padded}
+use Rattle.image_model.specs.Headers.{name_of, obj_id, span_of, size_of}
 use Rattle.image_model.specs.Live.{live_at, own}
 use Rattle.image_model.specs.Files.{index_page}
 

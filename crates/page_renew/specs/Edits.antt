@@ -3,9 +3,9 @@ use Rattle.std.specs.Prelude.{◌≡◌, ◌≢◌, ℕ, ◌+◌, ◌*◌, ◌<�
 use Rattle.geometry.specs.declared.geometry.Geometry.{Geometry}
 use Rattle.geometry.specs.Numbers.{head_slots}
 use Rattle.table_model.specs.Room.{data_pages}
-use Rattle.image_model.specs.Headers.{word_at, obj_id, span_of, size_of, name_of}
+use Rattle.image_model.specs.Headers.{obj_id, span_of, size_of, name_of}
+use Rattle.nor_core.specs.Flash.{word_at, SameOutside}
 use Rattle.image_model.specs.Places.{page_of}
-use Rattle.page_layout.specs.Layout.{SameOutside}
 use Rattle.page_renew.specs.declared.edits.Edit.{Edit}
 use Rattle.page_renew.specs.declared.edits.Edit.TheVariants.{Name, Meta, Cut, Grow, GrowBy}
 

@@ -1,6 +1,8 @@
 // The copy of an index page.
 ghost use Rattle.std.specs.Prelude.{◌≡◌, ℕ, ◌+◌, ◌-◌, ◌<◌, ◌≤◌, List, length, slice_index, Some};
-ghost use Rattle.page_layout.specs.Layout.{SameOutside, name_of as name_in, name_field, padded, slots_of, slot_place};
+ghost use Rattle.page_layout.specs.Layout.{name_field, padded, slots_of, slot_place};
+ghost use Rattle.nor_core.specs.Flash.{SameOutside};
+ghost use Rattle.image_model.specs.Headers.{name_of as name_in};
 ghost use Rattle.page_renew.specs.Copies.{kept_of, IsCopy};
 
 use geometry::Geometry;

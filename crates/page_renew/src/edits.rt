@@ -2,7 +2,8 @@
 ghost use Rattle.std.specs.Prelude.{◌≡◌, ℕ, ◌<◌, ◌≤◌, OnErr, OnOk, length, slice_index};
 ghost use Rattle.geometry.specs.Numbers.{page_count};
 ghost use Rattle.nor_core.specs.Count.{Rose};
-ghost use Rattle.page_layout.specs.Layout.{SameOutside, size_of as size_in};
+ghost use Rattle.nor_core.specs.Flash.{SameOutside};
+ghost use Rattle.image_model.specs.Headers.{size_of};
 ghost use Rattle.flash_view.specs.Same.{OnlyLooks};
 ghost use Rattle.page_renew.specs.Edits.{Header, Says, edited, edited_size, IsEdited, IsEditable, HasEdited, IsNamed};
 
@@ -43,7 +44,7 @@ fn new_size(edit: Edit<'_>, size: u32) -> u32
 fn set_size(page: &mut [u8], size: u32)
     requires page { 12 ≤ length page.old }
     requires size { size < 0xFFFFFFFF }
-    ensures size { size_in page.new ≡ size }
+    ensures size { size_of page.new ≡ size }
     ensures others { SameOutside 8 4 page.old page.new }
 {
     let field = if size == 0 { UNDEFINED_SIZE } else { size };

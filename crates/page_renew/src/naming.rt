@@ -1,8 +1,8 @@
 // Where an index page names a data page.
 ghost use Rattle.std.specs.Prelude.{◌≡◌, ℕ, ◌<◌, length, slice_index};
-ghost use Rattle.page_layout.specs.Layout.{SameOutside};
-ghost use Rattle.image_laws.specs.InPlace.{slot_at};
-ghost use Rattle.image_laws.specs.Reindex.{index_span as the_index_span, slot_word};
+ghost use Rattle.nor_core.specs.Flash.{SameOutside};
+ghost use Rattle.image_model.specs.Files.{slot_at, index_span as the_index_span};
+ghost use Rattle.image_laws.specs.Reindex.{slot_word};
 
 use crate::copying::see_bytes;
 use geometry::Geometry;

@@ -10,18 +10,18 @@ use Rattle.std.proofs.lemmas.Option.{same_Some}
 use Rattle.geometry.specs.declared.geometry.Geometry.{Geometry}
 use Rattle.image_model.specs.Within.{sizes, Sizes, page_length}
 use Rattle.image_model.specs.declared.damage.Damage.{Damage}
-use Rattle.nor_core.specs.Flash.{SameOutside}
+use Rattle.nor_core.specs.Flash.{SameOutside, word_at}
 use Rattle.image_model.specs.Volume.{page_count}
 use Rattle.geometry.specs.Numbers.{head_slots, span_slots}
 use Rattle.table_model.specs.Room.{data_pages, index_pages}
 use Rattle.image_model.specs.Live.{live_at, Live, own}
-use Rattle.image_model.specs.Headers.{word_at, obj_id, span_of, names_index, size_of, name_of}
+use Rattle.image_model.specs.Headers.{obj_id, span_of, names_index, size_of, name_of}
 use Rattle.image_model.specs.Places.{page_of, block_of, IsImage}
 use Rattle.image_model.specs.Tables.{Found, has_of, records, damages, table_of, damaged_of}
-use Rattle.image_model.specs.Files.{is_index, index_page, further, entry_number, data_of, data_page, found}
+use Rattle.image_model.specs.Files.{is_index, index_page, further, entry_number, data_of, data_page, found, index_span, slot_at}
 use Rattle.image_model.specs.Sound.{HasMagics, IsMixed, Keeps}
-use Rattle.image_laws.specs.Reindex.{index_span, slot_word}
-use Rattle.image_laws.specs.InPlace.{slot_at, EntryInPlaceKeeps, EntryInPlaceTidies}
+use Rattle.image_laws.specs.Reindex.{slot_word}
+use Rattle.image_laws.specs.InPlace.{EntryInPlaceKeeps, EntryInPlaceTidies}
 use Rattle.image_laws.specs.TidySteps.{IsTidyBut}
 use Rattle.image_model.specs.Tidy.{is_number, serves}
 use Rattle.renew_laws.proofs.Leading.{any-range}

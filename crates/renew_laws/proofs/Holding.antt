@@ -7,7 +7,7 @@ use Rattle.image_model.specs.Within.{sizes, page_length}
 use Rattle.image_model.specs.Live.{live_at}
 use Rattle.image_model.specs.Places.{page_of, IsImage}
 use Rattle.image_laws.specs.Flash.{Programmed}
-use Rattle.image_laws.specs.InPlace.{slot_at}
+use Rattle.image_model.specs.Files.{slot_at}
 use Rattle.image_laws.proofs.Bits.{and_comm_255}
 use Rattle.image_laws.proofs.Frames.{live_parts}
 use Rattle.image_laws.proofs.Placing.{page_byte}

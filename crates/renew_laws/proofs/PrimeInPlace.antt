@@ -15,12 +15,11 @@ use Rattle.image_model.specs.Volume.{page_count}
 use Rattle.image_model.specs.Within.{sizes}
 use Rattle.image_model.specs.Headers.{obj_id, names_index, span_of, size_of}
 use Rattle.image_model.specs.Live.{Live, live_at, own}
-use Rattle.image_model.specs.Files.{is_index, index_page, further, entry_number, data_page, judged, found}
+use Rattle.image_model.specs.Files.{is_index, index_page, further, entry_number, data_page, judged, found, slot_at}
 use Rattle.image_model.specs.Places.{page_of, IsImage}
 use Rattle.image_model.specs.Sound.{Keeps}
 use Rattle.image_model.specs.Tables.{has_of}
 use Rattle.image_model.specs.Tidy.{free_blocks}
-use Rattle.image_laws.specs.InPlace.{slot_at}
 use Rattle.image_laws.specs.TidySteps.{IsTidyBut}
 use Rattle.image_laws.proofs.Append.{append_wide, append_kind, append_now, append_first, append_has, own-live, span-same}
 use Rattle.image_laws.proofs.Doubled.{index-span_is}

@@ -10,7 +10,8 @@ use Rattle.geometry.specs.Numbers.{head_slots, span_slots, ceil}
 use Rattle.table_model.specs.Table.{File}
 use Rattle.table_model.specs.Room.{data_pages, index_pages}
 use Rattle.image_model.specs.Within.{sizes}
-use Rattle.image_model.specs.Headers.{word_at, size_of}
+use Rattle.image_model.specs.Headers.{size_of}
+use Rattle.nor_core.specs.Flash.{word_at}
 use Rattle.image_model.specs.Live.{Live, live_at, own}
 use Rattle.image_model.specs.Files.{index_page, further, entry_number, data_of, data_page, judged}
 use Rattle.image_model.specs.Tidy.{serves}

@@ -13,9 +13,9 @@ use Rattle.image_model.specs.Headers.{span_of, size_of}
 use Rattle.image_laws.specs.Changes.{Gains, Loses}
 use Rattle.image_model.specs.Live.{Live}
 use Rattle.table_model.specs.Table.{File}
-use Rattle.image_model.specs.Files.{is_index, index_page, entry_number, data_of, data_page, judged, found}
+use Rattle.image_model.specs.Files.{is_index, index_page, entry_number, data_of, data_page, judged, found, index_span}
 use Rattle.image_model.specs.Tidy.{serves}
-use Rattle.image_laws.specs.Reindex.{Reindexes, index_span, slot_word, now_data, now_bytes}
+use Rattle.image_laws.specs.Reindex.{Reindexes, slot_word, now_data, now_bytes}
 use Rattle.image_laws.proofs.Tables.{find_only, find_gains}
 use Rattle.image_laws.proofs.Judge.{index_passes, found_from}
 use Rattle.image_laws.proofs.Doubled.{index-span_is}

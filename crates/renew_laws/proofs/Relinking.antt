@@ -12,11 +12,11 @@ use Rattle.table_model.specs.Room.{data_pages, index_pages}
 use Rattle.image_model.specs.Within.{page_length, page_number}
 use Rattle.image_model.specs.Live.{live_at, own}
 use Rattle.image_model.specs.Headers.{names_index, span_of, size_of}
-use Rattle.image_model.specs.Files.{is_index, index_page, entry_number, data_of, data_page}
+use Rattle.image_model.specs.Files.{is_index, index_page, entry_number, data_of, data_page, index_span}
 use Rattle.image_model.specs.Tables.{table_of}
 use Rattle.image_model.specs.Tidy.{IsTidy, serves}
 use Rattle.image_laws.specs.LiveSteps.{KillDone}
-use Rattle.image_laws.specs.Reindex.{Reindexes, index_span, slot_word, now_data, now_bytes}
+use Rattle.image_laws.specs.Reindex.{Reindexes, slot_word, now_data, now_bytes}
 use Rattle.image_laws.specs.Spares.{leftover}
 use Rattle.image_laws.proofs.Doubled.{index-span_is}
 use Rattle.image_laws.proofs.Finish.{own-parts}

@@ -6,7 +6,8 @@ use Rattle.geometry.specs.declared.geometry.Geometry.{Geometry}
 use Rattle.geometry.specs.Numbers.{head_slots}
 use Rattle.table_model.specs.Table.{File}
 use Rattle.table_model.specs.Room.{data_pages}
-use Rattle.image_model.specs.Headers.{word_at, names_index, span_of, size_of}
+use Rattle.image_model.specs.Headers.{names_index, span_of, size_of}
+use Rattle.nor_core.specs.Flash.{word_at}
 use Rattle.image_model.specs.Live.{Live}
 use Rattle.image_model.specs.Files.{index_page, further, entry_number, data_page, judged}
 use Rattle.image_laws.specs.Reindex.{slot_word}

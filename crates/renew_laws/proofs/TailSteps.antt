@@ -11,10 +11,10 @@ use Rattle.table_model.specs.Room.{data_pages}
 use Rattle.image_model.specs.Within.{sizes, page_number}
 use Rattle.image_model.specs.Headers.{names_index, size_of, span_of}
 use Rattle.image_model.specs.Live.{Live, live_at, own}
-use Rattle.image_model.specs.Files.{is_index, index_page, further, entry_number, data_of, data_page, span_bytes}
+use Rattle.image_model.specs.Files.{is_index, index_page, further, entry_number, data_of, data_page, span_bytes, index_span}
 use Rattle.image_laws.specs.Changes.{Gains, Loses}
 use Rattle.image_laws.specs.LiveSteps.{KillDone}
-use Rattle.image_laws.specs.Reindex.{index_span, slot_word, now_data}
+use Rattle.image_laws.specs.Reindex.{slot_word, now_data}
 use Rattle.image_laws.proofs.Finish.{own-parts}
 use Rattle.image_laws.proofs.Judge.{index_passes, index-none}
 use Rattle.image_laws.proofs.Kill.{own-loses, index-loses, bytes-loses, entry-loses}

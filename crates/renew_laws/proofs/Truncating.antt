@@ -5,7 +5,8 @@ use Rattle.std.specs.List.{range_with_len, flat_map}
 use Rattle.geometry.specs.declared.geometry.Geometry.{Geometry}
 use Rattle.geometry.specs.Numbers.{head_slots, body}
 use Rattle.table_model.specs.Room.{data_pages}
-use Rattle.image_model.specs.Headers.{word_at, size_of, name_of}
+use Rattle.image_model.specs.Headers.{size_of, name_of}
+use Rattle.nor_core.specs.Flash.{word_at}
 use Rattle.image_model.specs.Live.{Live}
 use Rattle.table_model.specs.Table.{File}
 use Rattle.image_model.specs.Files.{data_page, judged, span_bytes, bytes_of, first_missing}

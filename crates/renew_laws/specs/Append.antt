@@ -1,13 +1,13 @@
 -- Data bytes are appended to a file.
 use Rattle.std.specs.Prelude.{◌≡◌, ℕ, ◌+◌, ◌-◌, ◌*◌, ◌/◌, ◌%◌, ◌<◌, ◌≤◌, ◌⊎◌, List, ◌++◌, length, Bool, true, false, Some, Ok, is_some, slice_index, slice_range}
 use Rattle.geometry.specs.declared.geometry.Geometry.{Geometry}
-use Rattle.nor_core.specs.Flash.{HalfProgrammed}
+use Rattle.nor_core.specs.Flash.{HalfProgrammed, word_at}
 use Rattle.geometry.specs.Numbers.{body, head_slots}
 use Rattle.table_model.specs.Table.{File, put_file}
 use Rattle.table_model.specs.Files.{written}
 use Rattle.table_model.specs.Room.{data_pages, index_pages}
 use Rattle.image_model.specs.Live.{Live, live_at, own}
-use Rattle.image_model.specs.Headers.{word_at, obj_id, names_index, span_of, size_of, name_of}
+use Rattle.image_model.specs.Headers.{obj_id, names_index, span_of, size_of, name_of}
 use Rattle.image_model.specs.Files.{further, index_page, entry_number, data_page, judged}
 use Rattle.image_model.specs.Places.{IsImage}
 use Rattle.image_model.specs.Tables.{table_of}

@@ -4,7 +4,8 @@ use Rattle.geometry.specs.declared.geometry.Geometry.{Geometry}
 use Rattle.geometry.specs.Numbers.{head_slots}
 use Rattle.table_model.specs.Room.{data_pages}
 use Rattle.image_model.specs.Live.{live_at, Live, own}
-use Rattle.image_model.specs.Headers.{word_at, size_of, name_of}
+use Rattle.image_model.specs.Headers.{size_of, name_of}
+use Rattle.nor_core.specs.Flash.{word_at}
 use Rattle.table_model.specs.Table.{File, put_file}
 use Rattle.image_model.specs.Files.{index_page, judged, span_bytes}
 use Rattle.image_model.specs.Tables.{table_of}

@@ -2,22 +2,21 @@
 use Rattle.std.specs.Prelude.{◌≡◌, ◌≢◌, ℕ, ◌+◌, ◌*◌, ◌/◌, ◌%◌, ◌<◌, ◌≤◌, ◌⊎◌, List, length, Bool, true, false, ◌==◌, ◌||◌, Some, None, Ok, is_some, slice_index, slice_range}
 use Rattle.geometry.specs.declared.geometry.Geometry.{Geometry}
 use Rattle.geometry.specs.Numbers.{body, head_slots}
-use Rattle.nor_core.specs.Flash.{HalfProgrammed}
+use Rattle.nor_core.specs.Flash.{HalfProgrammed, word_at}
 use Rattle.table_model.specs.Table.{File, file_of, put_file}
 use Rattle.table_model.specs.Files.{written}
 use Rattle.table_model.specs.Room.{data_pages, index_pages}
 use Rattle.image_model.specs.Live.{live_at, own}
-use Rattle.image_model.specs.Headers.{word_at, obj_id, names_index, span_of, size_of, name_of}
-use Rattle.image_model.specs.Files.{is_index, index_page, entry_number, data_page, judged}
+use Rattle.image_model.specs.Headers.{obj_id, names_index, span_of, size_of, name_of}
+use Rattle.image_model.specs.Files.{is_index, index_page, entry_number, data_page, judged, slot_at, index_span}
 use Rattle.image_model.specs.Places.{page_of, is_entry_page, IsImage}
 use Rattle.image_model.specs.Tables.{table_of}
 use Rattle.image_model.specs.Tidy.{IsTidy, serves, free_blocks}
 use Rattle.image_model.specs.Sound.{Keeps}
 use Rattle.image_laws.specs.Flash.{Programmed}
-use Rattle.image_laws.specs.InPlace.{slot_at}
 use Rattle.image_laws.specs.LiveSteps.{PutLeaves, PutDone}
 use Rattle.image_laws.specs.Programs.{IsHead}
-use Rattle.image_laws.specs.Reindex.{index_span, slot_word}
+use Rattle.image_laws.specs.Reindex.{slot_word}
 use Rattle.image_laws.specs.SoundSteps.{IsOfKind}
 use Rattle.image_laws.specs.Spares.{leftover}
 use Rattle.image_laws.specs.TidySteps.{IsTidyBut}

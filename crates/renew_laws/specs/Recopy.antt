@@ -4,7 +4,7 @@ use Rattle.geometry.specs.declared.geometry.Geometry.{Geometry}
 use Rattle.image_model.specs.Live.{live_at, Live, own}
 use Rattle.image_model.specs.Headers.{obj_id, span_of, names_index, size_of}
 use Rattle.table_model.specs.Table.{File, put_file}
-use Rattle.image_model.specs.Files.{index_page, data_of, judged}
+use Rattle.image_model.specs.Files.{index_page, data_of, judged, index_span}
 use Rattle.image_model.specs.Tables.{has_of, damaged_of, table_of}
 use Rattle.image_model.specs.Places.{is_entry_page, IsImage}
 use Rattle.image_laws.specs.Programs.{ClearsBit}
@@ -15,7 +15,7 @@ use Rattle.image_laws.specs.TidySteps.{Agree, IsTidyBut}
 use Rattle.image_laws.specs.Creating.{CutOf}
 use Rattle.image_laws.specs.Put.{IsReadyPage}
 use Rattle.image_laws.specs.LiveSteps.{Finished, PutCut, Kills, KillCut, PutLeaves, PutDone}
-use Rattle.image_laws.specs.Reindex.{Reindexes, index_span, slot_word}
+use Rattle.image_laws.specs.Reindex.{Reindexes, slot_word}
 use Rattle.image_laws.specs.Spares.{Spares, leftover}
 use Rattle.table_model.specs.Room.{data_pages}
 use Rattle.renew_laws.specs.Replace.{ReplaceCut, Replaced}

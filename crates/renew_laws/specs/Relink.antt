@@ -7,12 +7,12 @@ use Rattle.table_model.specs.Files.{written}
 use Rattle.table_model.specs.Room.{data_pages}
 use Rattle.image_model.specs.Live.{live_at, own}
 use Rattle.image_model.specs.Headers.{obj_id, names_index, span_of, size_of, name_of}
-use Rattle.image_model.specs.Files.{index_page, entry_number, data_page}
+use Rattle.image_model.specs.Files.{index_page, entry_number, data_page, index_span}
 use Rattle.image_model.specs.Places.{is_entry_page}
 use Rattle.image_model.specs.Tables.{table_of}
 use Rattle.image_model.specs.Tidy.{IsTidy}
 use Rattle.image_laws.specs.LiveSteps.{KillDone}
-use Rattle.image_laws.specs.Reindex.{index_span, slot_word, now_data}
+use Rattle.image_laws.specs.Reindex.{slot_word, now_data}
 use Rattle.image_laws.specs.SoundSteps.{IsOfKind}
 use Rattle.renew_laws.specs.Idles.{Idles}
 use Rattle.renew_laws.specs.Overwrite.{IsPatched}

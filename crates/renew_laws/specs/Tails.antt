@@ -6,9 +6,9 @@ use Rattle.table_model.specs.Table.{File}
 use Rattle.table_model.specs.Room.{data_pages}
 use Rattle.image_model.specs.Live.{Live, live_at, own}
 use Rattle.image_model.specs.Headers.{names_index, size_of, span_of}
-use Rattle.image_model.specs.Files.{index_page, further, data_page, span_bytes}
+use Rattle.image_model.specs.Files.{index_page, further, data_page, span_bytes, index_span}
 use Rattle.image_laws.specs.LiveSteps.{PutDone, KillDone}
-use Rattle.image_laws.specs.Reindex.{index_span, slot_word, now_data}
+use Rattle.image_laws.specs.Reindex.{slot_word, now_data}
 use Rattle.renew_laws.specs.Primed.{Primed}
 use Rattle.renew_laws.specs.Recopy.{RecopiesTo, PutsDataTo}
 use Rattle.renew_laws.specs.Replace.{Replaced}

@@ -3,7 +3,8 @@ use Rattle.std.specs.Prelude.{◌≡◌, ℕ, ◌+◌, ◌*◌, ◌<◌, ◌≤�
 use Rattle.geometry.specs.declared.geometry.Geometry.{Geometry}
 use Rattle.geometry.specs.Numbers.{head_slots}
 use Rattle.table_model.specs.Room.{data_pages, index_pages}
-use Rattle.image_model.specs.Headers.{word_at, names_index, span_of, size_of, name_of}
+use Rattle.image_model.specs.Headers.{names_index, span_of, size_of, name_of}
+use Rattle.nor_core.specs.Flash.{word_at}
 use Rattle.image_model.specs.Live.{Live}
 use Rattle.table_model.specs.Table.{File}
 use Rattle.image_model.specs.Files.{judged}

@@ -13,7 +13,8 @@ use Rattle.image_model.specs.Within.{page_number, block_number}
 use Rattle.image_laws.proofs.Frames.{live_parts}
 use Rattle.image_laws.proofs.StillFree.{live-used}
 use Rattle.image_laws.proofs.Tally.{is_finished-ones}
-use Rattle.image_laws.specs.Reindex.{index_span, slot_word}
+use Rattle.image_laws.specs.Reindex.{slot_word}
+use Rattle.image_model.specs.Files.{index_span}
 use Rattle.room_laws.specs.Sorts.{Deleted, Free, sort_of_page, sort_at, TellsFree}
 use Rattle.room_laws.specs.Tags.{SameTag}
 use Rattle.room_laws.specs.Staged.{IsStaged}

@@ -6,8 +6,8 @@ use Rattle.geometry.specs.declared.geometry.Geometry.{Geometry}
 use Rattle.table_model.specs.Room.{data_pages, index_pages}
 use Rattle.image_model.specs.Headers.{obj_id, span_of, names_index, size_of}
 use Rattle.image_model.specs.Live.{live_at, own}
-use Rattle.image_model.specs.Files.{index_page, entry_number}
-use Rattle.image_laws.specs.Reindex.{index_span, slot_word}
+use Rattle.image_model.specs.Files.{index_page, entry_number, index_span}
+use Rattle.image_laws.specs.Reindex.{slot_word}
 use Rattle.image_laws.proofs.Finish.{own-parts}
 use Rattle.image_laws.proofs.Reindexed.{entry-slot}
 use Rattle.room_laws.specs.Tags.{SameTag, TagsAreOnce, TagsAreKept, TagsAreNamed}

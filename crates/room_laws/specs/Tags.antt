@@ -6,7 +6,8 @@ use Rattle.image_model.specs.Places.{IsImage}
 use Rattle.image_model.specs.Live.{live_at}
 use Rattle.image_model.specs.Tables.{table_of}
 use Rattle.image_model.specs.Tidy.{IsTidy}
-use Rattle.image_laws.specs.Reindex.{index_span, slot_word}
+use Rattle.image_laws.specs.Reindex.{slot_word}
+use Rattle.image_model.specs.Files.{index_span}
 
 -- Two pages have the same kind, id and span.
 pub record SameTag (x y : List ℕ) : Type 0 where

@@ -7,7 +7,8 @@ use Rattle.image_model.specs.Tables.{table_of}
 use Rattle.image_model.specs.Headers.{obj_id, span_of, names_index}
 use Rattle.image_model.specs.Tidy.{IsTidy, is_free_entry}
 use Rattle.image_laws.specs.LiveSteps.{PutLeaves, PutDone, KillLeaves, KillDone}
-use Rattle.image_laws.specs.Reindex.{index_span, slot_word}
+use Rattle.image_laws.specs.Reindex.{slot_word}
+use Rattle.image_model.specs.Files.{index_span}
 use Rattle.room_laws.specs.Sorts.{Sort, Deleted, Free, sort_at}
 use Rattle.room_laws.specs.Tags.{SameTag}
 use Rattle.room_laws.specs.Staged.{IsStaged}

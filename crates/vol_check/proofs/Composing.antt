@@ -14,7 +14,8 @@ use Rattle.room_laws.proofs.Staying.{free_stays}
 use Rattle.vol_check.specs.declared.checking.Culled.{Culled}
 use Rattle.vol_check.specs.declared.report.Report.{Report}
 use Rattle.vol_check.specs.Stage.{IsClean, CleansEntries}
-use Rattle.vol_check.specs.Culls.{KeepsAll, IsSettled, IsServed, Passes, PassesDoubled, PassesDamaged, PassesRest, CullsPages}
+use Rattle.vol_check.specs.Culls.{IsSettled, IsServed, Passes, PassesDoubled, PassesDamaged, PassesRest, CullsPages}
+use Rattle.image_model.specs.Sound.{KeepsAll}
 use Rattle.vol_check.specs.MadeFresh.{MadeFresh}
 use Rattle.vol_check.specs.Checks.{Checked}
 use Rattle.vol_check.specs.Works.{Work}

@@ -10,7 +10,7 @@ use Rattle.image_model.specs.Places.{page_of, block_of, has_magic, entry_of, is_
 use Rattle.image_model.specs.Tables.{Found, has_of, table_of, damaged_of, records}
 use Rattle.image_model.specs.Tidy.{is_free_entry, is_wanted, free_blocks}
 use Rattle.image_model.specs.Killed.{is_used, is_killable}
-use Rattle.image_model.specs.Sound.{HasMagics, Keeps}
+use Rattle.image_model.specs.Sound.{HasMagics, Keeps, KeepsAll}
 use Rattle.image_laws.specs.Changes.{Loses}
 use Rattle.image_laws.specs.LiveSteps.{KillLeaves, KillDone}
 use Rattle.image_laws.specs.TidySteps.{Agree}
@@ -22,7 +22,7 @@ use Rattle.image_laws.proofs.StillFree.{live-used}
 use Rattle.image_laws.proofs.Unwanted.{kill-counts}
 use Rattle.flash_view.specs.Steps.{Finishes}
 use Rattle.page_put.specs.LivePages.{killing}
-use Rattle.vol_check.specs.Culls.{KeepsAll, Spares, MayCull, Culls}
+use Rattle.vol_check.specs.Culls.{Spares, MayCull, Culls}
 use Rattle.vol_check.specs.Works.{step_of, culling}
 use Rattle.vol_check.proofs.Passing.{kills_one}
 

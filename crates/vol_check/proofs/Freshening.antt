@@ -12,7 +12,7 @@ use Rattle.image_model.specs.Places.{has_magic, block_of, is_entry_page, IsImage
 use Rattle.image_model.specs.Tidy.{is_free_block, free_blocks}
 use Rattle.image_model.specs.Kinds.{spoiled_blocks}
 use Rattle.image_model.specs.Killed.{is_used, is_killable, killed_of}
-use Rattle.image_model.specs.Sound.{HasMagics}
+use Rattle.image_model.specs.Sound.{HasMagics, KeepsAll}
 use Rattle.image_model.specs.Within.{sizes}
 use Rattle.image_laws.proofs.Tables.{find_passes}
 use Rattle.image_laws.proofs.Append.{find-all}
@@ -32,7 +32,6 @@ use Rattle.flash_view.specs.declared.view.View.{View}
 use Rattle.flash_view.specs.Same.{IsSameView, OnlyLooks}
 use Rattle.flash_view.specs.Steps.{Finishes, acting}
 use Rattle.flash_view.proofs.Stepped.{acted, after_look}
-use Rattle.vol_check.specs.Culls.{KeepsAll}
 use Rattle.vol_check.specs.MadeFresh.{HasAllMagics, MadeFresh}
 use Rattle.vol_check.specs.Works.{Work, step_of, Worked, making_fresh}
 use Rattle.vol_check.proofs.Working.{Goes}

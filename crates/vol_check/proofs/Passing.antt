@@ -6,11 +6,11 @@ use Rattle.geometry.specs.declared.geometry.Geometry.{Geometry}
 use Rattle.image_model.specs.Live.{live_at}
 use Rattle.image_model.specs.Places.{entry_of}
 use Rattle.image_model.specs.Tidy.{is_free_entry}
-use Rattle.image_model.specs.Sound.{HasMagics}
+use Rattle.image_model.specs.Sound.{HasMagics, KeepsAll}
 use Rattle.image_laws.specs.TidySteps.{Agree}
 use Rattle.image_laws.proofs.Sounding.{keeps-itself, keeps-on}
 use Rattle.room_laws.specs.Staged.{OnlyKills}
-use Rattle.vol_check.specs.Culls.{KeepsAll, Culls, Passes}
+use Rattle.vol_check.specs.Culls.{Culls, Passes}
 
 -- ---- at each cut
 

@@ -6,7 +6,7 @@ use Rattle.image_model.specs.Volume.{page_count}
 use Rattle.image_model.specs.Places.{IsImage}
 use Rattle.image_model.specs.Tidy.{is_free_entry}
 use Rattle.image_model.specs.Killed.{is_used, is_dead_entry}
-use Rattle.image_model.specs.Sound.{HasMagics}
+use Rattle.image_model.specs.Sound.{HasMagics, KeepsAll}
 use Rattle.image_laws.proofs.DeadEntries.{Stage, stage_start, stage_next, stage_clean, stage_count, turned, unturned, unused_page, unused_dead}
 use Rattle.image_laws.proofs.FreeBlocks.{free_blocks-fall, used-is_not_free}
 use Rattle.image_laws.proofs.Sounding.{keeps-by_live}
@@ -19,7 +19,6 @@ use Rattle.flash_view.proofs.Stepped.{after_look}
 use Rattle.page_put.specs.LivePages.{clearing, Stays}
 use Rattle.room_laws.specs.Staged.{OnlyKills}
 use Rattle.vol_check.specs.Stage.{CleansEntry, CleansEntries, IsClean}
-use Rattle.vol_check.specs.Culls.{KeepsAll}
 use Rattle.vol_check.specs.Works.{Work, step_of, Worked, cleaning_entry}
 use Rattle.vol_check.proofs.Working.{Goes, On}
 use Rattle.vol_check.proofs.Passing.{kills_none, kills_then, kills_one}

@@ -6,12 +6,11 @@ use Rattle.nor_core.specs.declared.state.NorState.{Ghosts as NorOf}
 use Rattle.nor_core.specs.Count.{Rose}
 use Rattle.nor_core.specs.Device.{OnlyReads, Changes}
 use Rattle.nor_core.proofs.Cuts.{wider, read_after, reads_then}
-use Rattle.image_model.specs.Sound.{HasMagics}
+use Rattle.image_model.specs.Sound.{HasMagics, KeepsAll}
 use Rattle.flash_view.specs.declared.view.View.{View}
 use Rattle.flash_view.specs.Same.{OnlyLooks}
 use Rattle.flash_view.specs.Steps.{Step, Stepped, failed}
 use Rattle.flash_view.proofs.Stepped.{looked, look_fails, after_look, stepped_then, ends_as, fails, framed_then, framed_looks}
-use Rattle.vol_check.specs.Culls.{KeepsAll}
 use Rattle.vol_check.specs.Works.{Work, Worked}
 use Rattle.vol_check.proofs.Passing.{keeps_all_none, keeps_all_on}
 

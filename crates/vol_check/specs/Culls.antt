@@ -1,5 +1,5 @@
 -- What the check's kills of live pages leave.
-use Rattle.std.specs.Prelude.{◌≡◌, ◌≢◌, ℕ, ◌+◌, ◌%◌, ◌≤◌, ◌&&◌, List, [], length, Bool, true, false, not, nat_lt, Option, Some, None, is_some, if◌then◌else◌}
+use Rattle.std.specs.Prelude.{◌≡◌, ◌≢◌, ℕ, ◌+◌, ◌%◌, ◌&&◌, List, [], length, Bool, true, false, not, nat_lt, Option, Some, None, is_some, if◌then◌else◌}
 use Rattle.std.specs.List.{Contains}
 use Rattle.geometry.specs.declared.geometry.Geometry.{Geometry}
 use Rattle.table_model.specs.Room.{data_pages, index_pages}
@@ -9,19 +9,14 @@ use Rattle.image_model.specs.Headers.{obj_id, span_of, names_index}
 use Rattle.image_model.specs.Live.{live_at, own}
 use Rattle.image_model.specs.Files.{index_page}
 use Rattle.image_model.specs.Tables.{table_of, damaged_of}
-use Rattle.image_model.specs.Tidy.{is_wanted, is_number, free_blocks}
+use Rattle.image_model.specs.Tidy.{is_wanted, is_number}
 use Rattle.image_model.specs.Killed.{killed_of}
-use Rattle.image_model.specs.Sound.{Keeps, damaged_ids}
+use Rattle.image_model.specs.Sound.{damaged_ids}
 use Rattle.image_laws.specs.Changes.{Loses}
 use Rattle.room_laws.specs.Staged.{OnlyKills}
 use Rattle.flash_view.specs.DataPages.{data_number_of}
 use Rattle.file_find.specs.Marks.{cause_at}
 use Rattle.vol_check.specs.Stage.{IsClean}
-
--- at each cut: the image is sound with its table, and no fewer blocks are free
-pub record KeepsAll (g : Geometry) (was image : List ℕ) : Type 0 where
-  pub keeps : Keeps g was image
-  pub free : free_blocks g was ≤ free_blocks g image
 
 -- without page p the table is the same, what is damaged was so, and every other page is as wanted as it was
 pub record Spares (g : Geometry) (p : ℕ) (was now : List ℕ) : Type 0 where

@@ -3,10 +3,9 @@ ghost use Rattle.geometry.specs.Numbers.{usable, write_refusal, page_count};
 ghost use Rattle.nor_core.specs.Count.{Rose};
 ghost use Rattle.nor_core.specs.Device.{Changes, OnlyReads};
 ghost use Rattle.image_model.specs.Kinds.{mixed_blocks as the_mixed_blocks};
-ghost use Rattle.image_model.specs.Sound.{HasMagics};
+ghost use Rattle.image_model.specs.Sound.{HasMagics, KeepsAll};
 ghost use Rattle.image_model.specs.Tidy.{IsTidy};
 ghost use Rattle.flash_view.specs.Same.{IsSameView};
-ghost use Rattle.vol_check.specs.Culls.{KeepsAll};
 ghost use Rattle.vol_check.specs.Checks.{IsWritable, IsRefusal, IsOfStages, CountsMixed, Checked};
 ghost use Rattle.vol_check.specs.Works.{Worked, culling_pages, checking};
 

@@ -7,7 +7,7 @@ use Rattle.nor_core.specs.Device.{Changes}
 use Rattle.nor_core.proofs.Cuts.{wider, go_on}
 use Rattle.image_model.specs.Places.{IsImage}
 use Rattle.image_model.specs.Tidy.{IsTidy, HasReserve, free_blocks}
-use Rattle.image_model.specs.Sound.{Keeps}
+use Rattle.image_model.specs.Sound.{Keeps, KeepsAll}
 use Rattle.image_laws.proofs.Sounding.{sound-on}
 use Rattle.room_laws.specs.Recovery.{Recovers}
 use Rattle.flash_view.specs.declared.kinds.StepErr.{StepErr}
@@ -18,7 +18,6 @@ use Rattle.flash_view.specs.Steps.{Step, stopped}
 use Rattle.vol_check.specs.declared.report.CheckErr.{CheckErr}
 use Rattle.vol_check.specs.declared.report.CheckErr.TheVariants.{Wrong, Mixed, DeviceFault, Damaged}
 use Rattle.vol_check.specs.declared.report.Report.{Report}
-use Rattle.vol_check.specs.Culls.{KeepsAll}
 use Rattle.vol_check.specs.Checks.{IsWritable, IsRefusal, IsOfStages, CountsMixed, Checked}
 use Rattle.volume.specs.Checking.{CheckCut, CheckDone, IsApart, IsUndamaged, as_check_err, MayStop, Cleared}
 use Rattle.file_calls.proofs.Going.{tidy_sound}

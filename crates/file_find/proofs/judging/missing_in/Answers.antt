@@ -1,6 +1,6 @@
 use Rattle.std.proofs.Common.{◌≡◌, ◌∙◌, ◌+◌, ◌-◌, ◌*◌, ℕ, true, false, refl}
 use Rattle.std.specs.Prelude.{is_none}
-use Rattle.image_model.specs.Headers.{word_at}
+use Rattle.nor_core.specs.Flash.{word_at}
 use Rattle.image_model.specs.Places.{page_of}
 use Rattle.image_model.specs.Live.{live_at, own}
 use Rattle.flash_view.specs.DataPages.{numbered}

@@ -3,10 +3,9 @@ use Rattle.std.proofs.Common.{◌≡◌, ◌+◌, ◌-◌, ◌/◌, ◌<◌, ◌
 use Rattle.geometry.specs.Numbers.{body}
 use Rattle.table_model.specs.Table.{File}
 use Rattle.image_model.specs.Live.{live_at, own}
-use Rattle.image_model.specs.Files.{index_page}
+use Rattle.image_model.specs.Files.{index_page, index_span}
 use Rattle.flash_view.specs.Same.{OnlyLooks}
 use Rattle.file_read.specs.Whole.{Reading}
-use Rattle.file_read.specs.Spans.{index_span}
 use Rattle.file_read.proofs.read.read_named.Given as goal
 
 abbrev pub invariant-loop-done : goal.invariant-loop-done

@@ -2,7 +2,7 @@ use Rattle.std.proofs.Common.{◌+◌, ◌*◌, refl}
 use Rattle.std.specs.Prelude.{length}
 use Rattle.std.specs.Int.{to_le_bytes, w16}
 use Rattle.nor_core.specs.Flash.{HalfProgrammed, programmed}
-use Rattle.image_laws.specs.InPlace.{slot_at}
+use Rattle.image_model.specs.Files.{slot_at}
 use Rattle.table_model.specs.Files.{written}
 use Rattle.flash_view.proofs.Stepped.{made, fails_as, stepped_then, view_image}
 use Rattle.flash_view.specs.Steps.{stopped}

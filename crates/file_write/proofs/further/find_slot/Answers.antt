@@ -1,7 +1,6 @@
 use Rattle.std.proofs.Common.{◌≡◌, Some, sym}
 use Rattle.image_model.specs.Live.{live_at, own}
-use Rattle.image_model.specs.Files.{index_page}
-use Rattle.image_laws.specs.Reindex.{index_span}
+use Rattle.image_model.specs.Files.{index_page, index_span}
 use Rattle.file_write.proofs.AfterName.{slot_told}
 use Rattle.file_write.proofs.further.find_slot.Goals as goal
 

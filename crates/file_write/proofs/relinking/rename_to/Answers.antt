@@ -1,7 +1,7 @@
 use Rattle.std.proofs.Common.{◌∙◌, ap}
 use Rattle.geometry.specs.declared.geometry.Geometry.{Geometry}
 use Rattle.flash_view.proofs.Stepped.{look_fails, after_look}
-use Rattle.image_laws.specs.Reindex.{index_span}
+use Rattle.image_model.specs.Files.{index_span}
 use Rattle.page_renew.specs.Renewals.{replacing}
 use Rattle.file_write.proofs.IndexNamed.{copy_stays, index_live, index_puts}
 use Rattle.file_write.proofs.relinking.rename_to.Goals as goal
