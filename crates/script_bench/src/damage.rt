@@ -8,6 +8,9 @@ use std::alloc::{AllocError, Global};
 /// The most changes of one image.
 const MOST_CHANGES: u64 = 6;
 
+// Flags that pages may have.
+const FLAGS: [u8; 10] = [0xF8, 0xFC, 0xB8, 0x78, 0x7C, 0xFA, 0xFE, 0xFF, 0x00, 0xFD];
+
 // A number below a count.
 fn below(x: &mut u64, count: usize) -> usize {
     (draw(x) % (count as u64).max(1)) as usize
@@ -45,8 +48,7 @@ fn drawn_number(x: &mut u64, g: &Geometry) -> u16 {
 
 // Flags of a page: live ones, half written ones, deleted ones.
 fn drawn_flags(x: &mut u64) -> u8 {
-    let flags = [0xF8, 0xFC, 0xB8, 0x78, 0x7C, 0xFA, 0xFE, 0xFF, 0x00, 0xFD];
-    flags[below(x, flags.len())]
+    FLAGS[draw(x) as usize % FLAGS.len()]
 }
 
 // Turns a bit, of a page or of the lookup pages of its block.
@@ -162,7 +164,8 @@ fn spoil(
         1 => put(image, at, &vec![in alloc; 0u8; g.page as usize]?),
         _ => {
             let end = at.saturating_add(g.lookups() as usize * g.page as usize);
-            put(image, end.saturating_sub(1 + below(x, 4)), &[byte]);
+            let last = end.saturating_sub(1);
+            put(image, last.saturating_sub(below(x, 4)), &[byte]);
         }
     }
     Ok(())
