@@ -5,7 +5,7 @@ use Rattle.std.proofs.lemmas.Grind.{common_steps, get_or_default_zero}
 use Rattle.std.proofs.lemmas.List.{same_lists}
 use Rattle.nor_core.specs.Flash.{programmed, erased}
 use Rattle.nor_core.proofs.Programs.{get_or-programmed_before, get_or-programmed_after, get_or-programmed_inside}
-use Rattle.page_cache.specs.Frames.{number_of, IsCopy, GoesWithProgram, GoesWithErase}
+use Rattle.page_cache.specs.Frames.{number_of, word_in, SameHead, IsCopy, GoesWithProgram, GoesWithErase}
 use Rattle.page_cache.proofs.Places.{put_before, put_after, put_inside, range_byte, range_length, lt_or_le}
 use borrow.Rule.Slice.PartMut.{put_mid}
 
@@ -23,6 +23,7 @@ erased_inside bytes at count k fits low high = grind (arith, common_steps)
 pub program_misses : (page at start : ℕ) (from old : List ℕ) → start ≡ number_of old * page → min (start + page) (at + length from) ≤ max start at → GoesWithProgram page at from old old
 program_misses page at start from old start_is apart = record {
   number = refl;
+  head = record { since = refl; until = refl; used = refl };
   goes = λ bytes copy i inside. copy i inside ∙ ⊎_elim
       (λ (before : number_of old * page + i < at). sym (get_or-programmed_before bytes at from (number_of old * page + i) before))
       (λ (behind : at ≤ number_of old * page + i). sym (get_or-programmed_after bytes at from (number_of old * page + i) (omega (arith, behind, apart, inside, start_is))))
@@ -32,6 +33,7 @@ program_misses page at start from old start_is apart = record {
 pub erase_misses : (page at count start : ℕ) (old : List ℕ) → start ≡ number_of old * page → min (start + page) (at + count) ≤ max start at → GoesWithErase page at count old old
 erase_misses page at count start old start_is apart = record {
   number = refl;
+  head = record { since = refl; until = refl; used = refl };
   goes = λ bytes fits copy i inside. copy i inside ∙ ⊎_elim
       (λ (before : number_of old * page + i < at). sym (erased_before bytes at count (number_of old * page + i) fits before))
       (λ (behind : at ≤ number_of old * page + i). sym (erased_after bytes at count (number_of old * page + i) fits (omega (arith, behind, apart, inside, start_is))))
@@ -49,6 +51,15 @@ module _ (page at start low high n a : ℕ) (old part : List ℕ) (long : length
       let b0 : get_or (put_mid a n old part) 0 0 ≡ get_or old 0 0 = put_before old part a n fits size 0 (omega (arith, low_is, a_is)) in
       let b1 : get_or (put_mid a n old part) 1 0 ≡ get_or old 1 0 = put_before old part a n fits size 1 (omega (arith, low_is, a_is)) in
       omega (arith, b0, b1)
+
+  same_word : (k : ℕ) → k + 1 < 8 → word_in (put_mid a n old part) k ≡ word_in old k
+  same_word k front =
+      let b0 : get_or (put_mid a n old part) k 0 ≡ get_or old k 0 = put_before old part a n fits size k (omega (arith, front, low_is, a_is)) in
+      let b1 : get_or (put_mid a n old part) (k + 1) 0 ≡ get_or old (k + 1) 0 = put_before old part a n fits size (k + 1) (omega (arith, front, low_is, a_is)) in
+      omega (arith, b0, b1)
+
+  same_head : SameHead old (put_mid a n old part)
+  same_head = record { since = same_word 2 (omega arith); until = same_word 4 (omega arith); used = same_word 6 (omega arith) }
 
   -- each byte of the new copy is by its place
   by_place : (after : List ℕ → List ℕ) (bytes : List ℕ) → IsCopy page bytes old
@@ -80,6 +91,7 @@ pub program_meets : (page at start low high n a : ℕ) (from old part : List ℕ
     → a ≡ 8 + low - start → n ≡ high - low → length part ≡ n → ((j : ℕ) → j < n → get_or part j 0 ≡ bit_and (get_or old (a + j) 0) (get_or from (low - at + j) 0)) → GoesWithProgram page at from old (put_mid a n old part)
 program_meets page at start low high n a from old part long start_is low_is high_is some a_is n_is size anded = record {
   number = same_number page at start low high n a old part long start_is low_is some (omega (arith, high_is)) a_is n_is size;
+  head = same_head page at start low high n a old part long start_is low_is some (omega (arith, high_is)) a_is n_is size;
   goes = λ bytes copy. by_place page at start low high n a old part long start_is low_is some (omega (arith, high_is)) a_is n_is size (λ (b : List ℕ). programmed b at from) bytes copy
       (λ k below above. get_or-programmed_before bytes at from k (omega (arith, below, above, low_is)))
       (λ k above below. get_or-programmed_after bytes at from k (omega (arith, below, above, high_is)))
@@ -92,6 +104,7 @@ pub erase_meets : (page at count start low high n a : ℕ) (old part : List ℕ)
     → a ≡ 8 + low - start → n ≡ high - low → length part ≡ n → ((j : ℕ) → j < n → get_or part j 0 ≡ 255) → GoesWithErase page at count old (put_mid a n old part)
 erase_meets page at count start low high n a old part long start_is low_is high_is some a_is n_is size blank = record {
   number = same_number page at start low high n a old part long start_is low_is some (omega (arith, high_is)) a_is n_is size;
+  head = same_head page at start low high n a old part long start_is low_is some (omega (arith, high_is)) a_is n_is size;
   goes = λ bytes fits copy. by_place page at start low high n a old part long start_is low_is some (omega (arith, high_is)) a_is n_is size (λ (b : List ℕ). erased b at count) bytes copy
       (λ k below above. erased_before bytes at count k fits (omega (arith, below, above, low_is)))
       (λ k above below. erased_after bytes at count k fits (omega (arith, below, above, high_is)))

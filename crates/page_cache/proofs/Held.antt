@@ -6,7 +6,7 @@ use Rattle.geometry.specs.declared.geometry.Geometry.{Geometry}
 use Rattle.geometry.specs.Numbers.{page_count}
 use Rattle.nor_core.specs.Count.{Rose}
 use Rattle.nor_core.specs.declared.state.NorState.{Ghosts as NorOf}
-use Rattle.page_cache.specs.Frames.{frame_count, number_of, page_in, holds, held, KeepsHeld, KeepsAllBut, KeepsOutside, LiesOutside, GivenUp, EachFrame}
+use Rattle.page_cache.specs.Frames.{frame_count, number_of, page_in, holds, held, KeepsHeld, KeepsAllBut, KeepsOutside, LiesOutside, GivenUp, EachPage, AreSameCopies}
 use Rattle.page_cache.specs.Kept.{FewReads}
 use Rattle.page_cache.proofs.Counts.{some_here, some_of, many_most, many_more, many_one_more, many_none}
 use Rattle.page_cache.proofs.Places.{count_same}
@@ -64,13 +64,13 @@ module _ (g : Geometry) where
       holds_by new w.frame page (omega (arith, w.below, same)) (others w.frame (λ at. another (sym w.is ∙ ap (page_in g old) at)) ∙ w.is)
 
   -- a failed program or erase gives up no page outside its range
-  pub keeps_outside : (at count : ℕ) (old new : List ℕ) → frame_count g new ≡ frame_count g old → EachFrame g (GivenUp g.page at count) old new → KeepsOutside g at count old new
+  pub keeps_outside : (at count : ℕ) (old new : List ℕ) → frame_count g new ≡ frame_count g old → EachPage g (GivenUp g.page at count) old new → KeepsOutside g at count old new
   keeps_outside at count old new same each page inside outside e =
       let w = holder old page e in
       holds_by new w.frame page (omega (arith, w.below, same)) (⊎_elim
       (λ given. absurd (meets_not at count page (page_in g old w.frame) g.page w.is given.1 given.2 outside))
       (λ stays. ap number_of stays.0 ∙ w.is)
-      (each w.frame w.below))
+      (each.pages w.frame w.below (omega (arith, w.is, inside))))
 
   -- no page is held where all frames are free
   pub held_none : (frames : List ℕ) → ((f : ℕ) → f < frame_count g frames → page_in g frames f ≡ 65535) → held g frames ≡ 0

@@ -1,4 +1,5 @@
 pub mod Places
+pub mod Findable
 pub mod Loops
 pub mod Copies
 pub mod Counts

@@ -116,6 +116,18 @@ some_frames g frames need =
     let one : 1 ≤ length frames / frame_size g = (le-div_iff_mul-le {k = frame_size g} {x = 1} {y = length frames} (omega arith)).1 (omega (arith, need)) in
     omega (arith, one)
 
+-- no more frames than a number of two bytes tells
+pub count_most : (g : Geometry) (frames : List ℕ) → frame_count g frames ≤ 65535
+unfolding frame_count
+count_most g frames = omega arith
+
+-- with so many bytes there is a frame of a page's number
+pub frame_there : (g : Geometry) (frames : List ℕ) (page : ℕ) → page < page_count g → (page + 1) * frame_size g ≤ length frames → page < frame_count g frames
+unfolding frame_count
+frame_there g frames page small long =
+    let some : page + 1 ≤ length frames / frame_size g = (le-div_iff_mul-le {k = frame_size g} {x = page + 1} {y = length frames} (omega arith)).1 long in
+    omega (arith, some, small, g.valid.few_pages)
+
 -- a page lies in the volume
 pub page_inside : (g : Geometry) (p : ℕ) → p < page_count g → p * g.page + g.page ≤ g.blocks * g.block
 page_inside g p below =

@@ -1,4 +1,5 @@
--- Frames of lent bytes that hold copies of pages: two bytes tell the page's number, six are spare, and the page's bytes follow.
+-- Frames of lent bytes that hold copies of pages: two bytes tell the page's number, six tell where other pages are, and the
+-- page's bytes follow.
 use Rattle.std.specs.Prelude.{ℕ, ◌≡◌, ◌≢◌, ◌+◌, ◌*◌, ◌/◌, ◌%◌, ◌<◌, ◌≤◌, ◌==◌, ◌⊎◌, min, true, Bool, List, length, slice_index, slice_range}
 use Rattle.geometry.specs.declared.geometry.Geometry.{Geometry}
 use Rattle.geometry.specs.Numbers.{page_count}
@@ -20,6 +21,10 @@ frame_at g frames f = slice_range frames (f * frame_size g) (f * frame_size g + 
 -- the number in a frame's first two bytes, little endian
 abbrev pub number_of : List ℕ → ℕ
 number_of frame = slice_index frame 0 + 256 * slice_index frame 1
+
+-- a number in two bytes of a frame, little endian
+abbrev pub word_in : List ℕ → ℕ → ℕ
+word_in frame k = slice_index frame k + 256 * slice_index frame (k + 1)
 
 -- the page whose copy a frame holds; a number that is no page's tells that it is free
 abbrev pub page_in : Geometry → List ℕ → ℕ → ℕ
@@ -57,6 +62,62 @@ AllInUse g frames = (f : ℕ) → f < frame_count g frames → page_in g frames 
 abbrev pub IsPlaced : Geometry → List ℕ → Type 0
 IsPlaced g frames = page_count g ≤ frame_count g frames → (f : ℕ) → f < frame_count g frames → page_in g frames f < page_count g → page_in g frames f ≡ f
 
+-- a page's home: the frame that is looked at first, and that gives up its page where none is free
+abbrev pub home_of : Geometry → List ℕ → ℕ → ℕ
+home_of g frames page = page % frame_count g frames
+
+-- from this frame on, and before the next one's number, stand pages whose home is a frame and that aren't there
+abbrev pub since_of : Geometry → List ℕ → ℕ → ℕ
+since_of g frames home = word_in (frame_at g frames home) 2
+
+abbrev pub until_of : Geometry → List ℕ → ℕ → ℕ
+until_of g frames home = word_in (frame_at g frames home) 4
+
+-- no frame below this one is free
+abbrev pub used_to : Geometry → List ℕ → ℕ
+used_to g frames = word_in (frame_at g frames 0) 6
+
+-- a frame is where a page is looked for: its home, or else one of those that its home tells
+abbrev pub IsNear : Geometry → List ℕ → (page frame : ℕ) → Type 0
+IsNear g frames page frame = frame ≢ home_of g frames page → (since_of g frames (home_of g frames page) ≤ frame) × (frame < until_of g frames (home_of g frames page))
+
+-- each page that is held stands in one frame alone, where it is looked for, and no frame below a number is free
+pub record IsFindable (g : Geometry) (frames : List ℕ) : Type 0 where
+  pub placed : IsPlaced g frames
+  pub near : (f : ℕ) → f < frame_count g frames → page_in g frames f < page_count g → IsNear g frames (page_in g frames f) f
+  pub one : (f h : ℕ) → f < frame_count g frames → h < frame_count g frames → page_in g frames f < page_count g → page_in g frames f ≡ page_in g frames h → f ≡ h
+  pub used : (f : ℕ) → f < used_to g frames → f < frame_count g frames → page_in g frames f < page_count g
+
+-- what a frame tells of other pages stays
+pub record SameHead (old new : List ℕ) : Type 0 where
+  pub since : word_in new 2 ≡ word_in old 2
+  pub until : word_in new 4 ≡ word_in old 4
+  pub used : word_in new 6 ≡ word_in old 6
+
+-- a frame's number and its page's bytes stay
+pub record SameCopy (old new : List ℕ) : Type 0 where
+  pub number : number_of new ≡ number_of old
+  pub bytes : (k : ℕ) → 8 ≤ k → slice_index new k ≡ slice_index old k
+
+-- all frames keep their numbers and their pages' bytes
+abbrev pub AreSameCopies : Geometry → List ℕ → List ℕ → Type 0
+AreSameCopies g old new = (f : ℕ) → SameCopy (frame_at g old f) (frame_at g new f)
+
+-- the frames that a home tells are those of before and one more
+pub record Widened (frame : ℕ) (old new : List ℕ) : Type 0 where
+  pub copy : SameCopy old new
+  pub used : word_in new 6 ≡ word_in old 6
+  pub low : word_in new 2 ≤ frame
+  pub high : frame < word_in new 4
+  pub wider : (x : ℕ) → word_in old 2 ≤ x → x < word_in old 4 → (word_in new 2 ≤ x) × (x < word_in new 4)
+
+-- the number below which no frame is free is another
+pub record Bounded (count : ℕ) (old new : List ℕ) : Type 0 where
+  pub copy : SameCopy old new
+  pub since : word_in new 2 ≡ word_in old 2
+  pub until : word_in new 4 ≡ word_in old 4
+  pub used : word_in new 6 ≡ count
+
 -- a frame holds the bytes that its page has
 abbrev pub IsCopy : ℕ → List ℕ → List ℕ → Type 0
 IsCopy page bytes frame = (i : ℕ) → i < page → slice_index frame (8 + i) ≡ slice_index bytes (number_of frame * page + i)
@@ -68,24 +129,36 @@ AreCopies g bytes frames = (f : ℕ) → f < frame_count g frames → page_in g 
 -- a frame goes with a program: what was a copy before it is a copy after it
 pub record GoesWithProgram (page at : ℕ) (from old new : List ℕ) : Type 0 where
   pub number : number_of new ≡ number_of old
+  pub head : SameHead old new
   pub goes : (bytes : List ℕ) → IsCopy page bytes old → IsCopy page (programmed bytes at from) new
 
 -- a frame goes with an erase
 pub record GoesWithErase (page at count : ℕ) (old new : List ℕ) : Type 0 where
   pub number : number_of new ≡ number_of old
+  pub head : SameHead old new
   pub goes : (bytes : List ℕ) → at + count ≤ length bytes → IsCopy page bytes old → IsCopy page (erased bytes at count) new
 
 -- a frame was given up where a range of the device meets its page, and else stays
 abbrev pub GivenUp : ℕ → ℕ → ℕ → List ℕ → List ℕ → Type 0
-GivenUp page at count old new = ((number_of new ≡ 65535) × (at < number_of old * page + page) × (number_of old * page < at + count)) ⊎ ((new ≡ old) × LiesOutside page at count (number_of old))
+GivenUp page at count old new = ((number_of new ≡ 65535) × (at < number_of old * page + page) × (number_of old * page < at + count) × SameHead old new) ⊎ ((new ≡ old) × LiesOutside page at count (number_of old))
 
--- a frame that is free
+-- a frame that is free, and tells of no other
 abbrev pub IsFree : List ℕ → List ℕ → Type 0
-IsFree old new = number_of new ≡ 65535
+IsFree old new = (number_of new ≡ 65535) × (word_in new 6 ≡ 0)
 
 -- each frame became another by a relation
 abbrev pub EachFrame : Geometry → (List ℕ → List ℕ → Type 0) → List ℕ → List ℕ → Type 0
 EachFrame g R old new = (f : ℕ) → f < frame_count g old → R (frame_at g old f) (frame_at g new f)
+
+-- each frame that held a page of the volume became another by a relation, and the others stay
+pub record EachPage (g : Geometry) (R : List ℕ → List ℕ → Type 0) (old new : List ℕ) : Type 0 where
+  pub pages : (f : ℕ) → f < frame_count g old → page_in g old f < page_count g → R (frame_at g old f) (frame_at g new f)
+  pub rest : (f : ℕ) → page_count g ≤ page_in g old f → frame_at g new f ≡ frame_at g old f
+
+-- the frames that hold one page became others by a relation, and the others stay
+pub record OnePage (g : Geometry) (R : List ℕ → List ℕ → Type 0) (page : ℕ) (old new : List ℕ) : Type 0 where
+  pub here : (f : ℕ) → f < frame_count g old → page_in g old f ≡ page → R (frame_at g old f) (frame_at g new f)
+  pub others : (f : ℕ) → page_in g old f ≢ page → frame_at g new f ≡ frame_at g old f
 
 -- so many bytes from a place on lie in one page of the volume
 pub record InOnePage (g : Geometry) (at count : ℕ) : Type 0 where

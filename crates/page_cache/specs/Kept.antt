@@ -4,11 +4,11 @@ use Rattle.geometry.specs.declared.geometry.Geometry.{Geometry}
 use Rattle.geometry.specs.Numbers.{page_count}
 use Rattle.nor_core.specs.Count.{Rose}
 use Rattle.nor_core.specs.declared.state.NorState.{Ghosts as NorOf}
-use Rattle.page_cache.specs.Frames.{frame_count, held, AllInUse, KeepsHeld, KeepsAllBut, IsPlaced, AreCopies}
+use Rattle.page_cache.specs.Frames.{frame_count, held, AllInUse, KeepsHeld, KeepsAllBut, IsFindable, AreCopies}
 
 -- the frames hold right copies of the device's pages
 pub record IsKept {D : Type 0} (nor : NorOf D) (g : Geometry) (d : D) (frames : List ℕ) : Type 0 where
-  pub placed : IsPlaced g frames
+  pub findable : IsFindable g frames
   pub right : nor.tells d → AreCopies g (nor.bytes d) frames
 
 -- with a frame for each page, and where no fault was counted, each read of the device has got one more page held

@@ -1,8 +1,9 @@
-//! One frame: the number of a page, little endian, six spare bytes, and the page's bytes.
-ghost use Rattle.std.specs.Prelude.{◌≡◌, ℕ, ◌+◌, ◌*◌, ◌^◌, ◌<◌, ◌≤◌, ◌⊎◌, length, slice_index, slice_range, bit_and, OnOk, OnErr};
+//! One frame: the number of a page, three numbers that tell where other pages are, all of two bytes, little endian, and the
+//! page's bytes.
+ghost use Rattle.std.specs.Prelude.{◌≡◌, ◌≢◌, ℕ, ◌+◌, ◌*◌, ◌^◌, ◌<◌, ◌≤◌, ◌⊎◌, length, slice_index, slice_range, bit_and, OnOk, OnErr};
 ghost use Rattle.nor_core.specs.Count.{Rose};
 ghost use Rattle.nor_core.specs.Device.{OnlyReads};
-ghost use Rattle.page_cache.specs.Frames.{number_of as the_number_of, IsCopy, GoesWithProgram, GoesWithErase, GivenUp};
+ghost use Rattle.page_cache.specs.Frames.{number_of as the_number_of, word_in, SameHead, SameCopy, Widened, Bounded, IsFree, IsCopy, GoesWithProgram, GoesWithErase, GivenUp};
 
 use nor_core::{Failed, Nor, NorState};
 
@@ -11,6 +12,13 @@ pub(crate) const HEAD: usize = 8;
 
 // The number that tells that a frame is free. No volume has a page of this number.
 const FREE: u16 = 0xFFFF;
+
+// Where a frame tells from which frame on, and before which, pages stand whose home it is and that aren't there.
+const SINCE: usize = 2;
+const UNTIL: usize = 4;
+
+// Where the first frame tells below which frame none is free.
+const USED: usize = 6;
 
 // The number in a frame.
 pub(crate) fn number_of(frame: &[u8]) -> u16
@@ -24,6 +32,7 @@ pub(crate) fn number_of(frame: &[u8]) -> u16
 fn put_number(frame: &mut [u8], number: u16)
     requires { 8 ≤ length frame.old }
     ensures number { the_number_of frame.new ≡ number }
+    ensures head { SameHead frame.old frame.new }
     ensures rest { (k : ℕ) → 8 ≤ k → slice_index frame.new k ≡ slice_index frame.old k }
 {
     frame[0] = (number % 256) as u8;
@@ -33,9 +42,81 @@ fn put_number(frame: &mut [u8], number: u16)
 // Gives up what a frame holds.
 pub(crate) fn give_up(frame: &mut [u8])
     requires { 8 ≤ length frame.old }
-    ensures { the_number_of frame.new ≡ 65535 }
+    ensures number { the_number_of frame.new ≡ 65535 }
+    ensures head { SameHead frame.old frame.new }
 {
     put_number(frame, FREE);
+}
+
+// A number of two bytes in a frame.
+fn word(frame: &[u8], at: usize) -> u16
+    requires { at + 2 ≤ length frame.now }
+    ensures { result ≡ word_in frame.now at }
+{
+    u16::from(frame[at]) + 256 * u16::from(frame[at + 1])
+}
+
+// Puts a number of two bytes into a frame.
+fn put_word(frame: &mut [u8], at: usize, number: u16)
+    requires { at + 2 ≤ length frame.old }
+    ensures word { word_in frame.new at ≡ number }
+    ensures rest { (k : ℕ) → k ≢ at → k ≢ at + 1 → slice_index frame.new k ≡ slice_index frame.old k }
+{
+    frame[at] = (number % 256) as u8;
+    frame[at + 1] = (number / 256) as u8;
+}
+
+// From which frame on pages stand whose home this one is, and before which.
+pub(crate) fn strays(frame: &[u8]) -> (usize, usize)
+    requires { 8 ≤ length frame.now }
+    ensures since { result.0 ≡ word_in frame.now 2 }
+    ensures until { result.1 ≡ word_in frame.now 4 }
+{
+    (usize::from(word(frame, SINCE)), usize::from(word(frame, UNTIL)))
+}
+
+// Below which frame none is free, as the first frame tells it.
+pub(crate) fn used(frame: &[u8]) -> usize
+    requires { 8 ≤ length frame.now }
+    ensures { result ≡ word_in frame.now 6 }
+{
+    usize::from(word(frame, USED))
+}
+
+// Makes a frame free, and lets it tell of no other.
+pub(crate) fn empty(frame: &mut [u8])
+    requires { 8 ≤ length frame.old }
+    ensures { IsFree frame.old frame.new }
+{
+    put_word(frame, SINCE, 0);
+    put_word(frame, UNTIL, 0);
+    put_word(frame, USED, 0);
+    give_up(frame);
+}
+
+// A home tells of one more frame.
+pub(crate) fn widen(frame: &mut [u8], stray: u16)
+    requires size { 8 ≤ length frame.old }
+    requires small { stray < 65535 }
+    ensures { Widened stray frame.old frame.new }
+{
+    let since = word(frame, SINCE);
+    let until = word(frame, UNTIL);
+    if since < until {
+        put_word(frame, SINCE, since.min(stray));
+        put_word(frame, UNTIL, until.max(stray + 1));
+    } else {
+        put_word(frame, SINCE, stray);
+        put_word(frame, UNTIL, stray + 1);
+    }
+}
+
+// The first frame tells that none is free below that number.
+pub(crate) fn bound(frame: &mut [u8], count: u16)
+    requires { 8 ≤ length frame.old }
+    ensures { Bounded count frame.old frame.new }
+{
+    put_word(frame, USED, count);
 }
 
 // A frame gets a page from the device.
@@ -48,6 +129,7 @@ pub(crate) fn fill<N: Nor>(nor: &mut N, frame: &mut [u8], len: u32, page: u16) -
     ensures once { N.device_reads nor.new ≤ N.device_reads nor.old + 1 }
     ensures number { OnOk result (the_number_of frame.new ≡ page) }
     ensures free { OnErr result (the_number_of frame.new ≡ 65535) }
+    ensures head { SameHead frame.old frame.new }
     ensures copy { N.tells nor.old → OnOk result (IsCopy len (N.bytes nor.old) frame.new) }
 {
     give_up(frame);

@@ -1,9 +1,14 @@
 //! All frames of the lent bytes.
+//!
+//! A page is looked for in its home, the frame of its own number modulo the number of frames, and in the frames from one that
+//! the home tells on, before another one. There stand the pages with this home that came while it was in use and others were
+//! free. So neither a page that is held nor one that isn't costs a walk over all frames, and nor does a program. Where no frame
+//! is free this is known without a walk too, by a number in the first frame.
 ghost use Rattle.std.specs.Prelude.{◌≡◌, ℕ, ◌+◌, ◌*◌, ◌%◌, ◌<◌, ◌≤◌, ◌≢◌, ◌⊎◌, ◌^◌, length, true, IfSome, None};
 ghost use Rattle.geometry.specs.Numbers.{page_count, cache_need};
-ghost use Rattle.page_cache.specs.Frames.{frame_size, frame_count as the_frame_count, frame_at, number_of as the_number_of, page_in, holds, AllInUse, IsPlaced, GoesWithProgram, GoesWithErase, GivenUp, IsFree, EachFrame};
+ghost use Rattle.page_cache.specs.Frames.{frame_size, frame_count as the_frame_count, frame_at, number_of as the_number_of, page_in, holds, home_of, used_to, AllInUse, IsFindable, IsNear, Widened, Bounded, AreSameCopies, GoesWithProgram, GoesWithErase, GivenUp, IsFree, EachFrame, EachPage, OnePage};
 
-use crate::frame::{HEAD, erase_copy, give_up, give_up_met, number_of, program_copy};
+use crate::frame::{HEAD, bound, empty, erase_copy, give_up_met, number_of, program_copy, strays, used, widen};
 use geometry::Geometry;
 
 // Bytes of a frame.
@@ -65,12 +70,13 @@ fn first_with(g: &Geometry, frames: &[u8], from: usize, to: usize, page: u16) ->
     None
 }
 
-// The first free frame.
-fn first_free(g: &Geometry, frames: &[u8]) -> Option<usize>
-    ensures found { IfSome result (λ f. (f < the_frame_count g.now frames.now) × (page_count g.now ≤ page_in g.now frames.now f)) }
-    ensures missing { result ≡ None → AllInUse g.now frames.now }
+// The first free frame from `from` on, below `to`.
+fn first_free(g: &Geometry, frames: &[u8], from: usize, to: usize) -> Option<usize>
+    requires { to ≤ the_frame_count g.now frames.now }
+    ensures found { IfSome result (λ f. (from ≤ f) × (f < to) × (page_count g.now ≤ page_in g.now frames.now f) × ((h : ℕ) → from ≤ h → h < f → page_in g.now frames.now h < page_count g.now)) }
+    ensures missing { result ≡ None → (f : ℕ) → from ≤ f → f < to → page_in g.now frames.now f < page_count g.now }
 {
-    for f in 0..frame_count(g, frames) {
+    for f in from..to {
         if u32::from(page_of(g, frames, f)) >= g.pages() {
             return Some(f);
         }
@@ -78,30 +84,45 @@ fn first_free(g: &Geometry, frames: &[u8]) -> Option<usize>
     None
 }
 
-// The frame that holds a page. With a frame for each page it can only be the one of the page's own number.
+// The home of a page. (Where the frames are so many that it is the frame of the page's own number, no division is needed.)
+fn home(g: &Geometry, frames: &[u8], page: u16) -> usize
+    requires need { cache_need g.now ≤ length frames.now }
+    requires page { page < page_count g.now }
+    ensures home { result ≡ home_of g.now frames.now page }
+    ensures below { result < the_frame_count g.now frames.now }
+{
+    let number = usize::from(page);
+    if (number + 1) * frame_len(g) <= frames.len() {
+        return number;
+    }
+    number % frame_count(g, frames)
+}
+
+// The frame that holds a page.
 pub(crate) fn find(g: &Geometry, frames: &[u8], page: u16) -> Option<usize>
     requires need { cache_need g.now ≤ length frames.now }
     requires page { page < page_count g.now }
-    requires placed { IsPlaced g.now frames.now }
+    requires findable { IsFindable g.now frames.now }
     ensures found { IfSome result (λ f. (f < the_frame_count g.now frames.now) × (page_in g.now frames.now f ≡ page)) }
     ensures missing { result ≡ None → (f : ℕ) → f < the_frame_count g.now frames.now → page_in g.now frames.now f ≢ page }
 {
-    let count = frame_count(g, frames);
-    let home = usize::from(page) % count;
-    if count >= g.pages() as usize {
-        return first_with(g, frames, home, home + 1, page);
+    let home = home(g, frames, page);
+    let head = frame(g, frames, home);
+    if number_of(head) == page {
+        return Some(home);
     }
-    match first_with(g, frames, home, count, page) {
-        Some(f) => Some(f),
-        None => first_with(g, frames, 0, home, page),
+    let (since, until) = strays(head);
+    if since >= until {
+        return None;
     }
+    first_with(g, frames, since, until.min(frame_count(g, frames)), page)
 }
 
 // The frame of a page that is held.
 pub(crate) fn holder(g: &Geometry, frames: &[u8], page: u16) -> usize
     requires need { cache_need g.now ≤ length frames.now }
     requires page { page < page_count g.now }
-    requires placed { IsPlaced g.now frames.now }
+    requires findable { IsFindable g.now frames.now }
     requires holds { holds g.now frames.now page ≡ true }
     ensures below { result < the_frame_count g.now frames.now }
     ensures page { page_in g.now frames.now result ≡ page }
@@ -112,23 +133,78 @@ pub(crate) fn holder(g: &Geometry, frames: &[u8], page: u16) -> usize
     }
 }
 
-// The frame for a page that is not held: that of its own number if it is free, else any free one, else its own.
-pub(crate) fn pick(g: &Geometry, frames: &[u8], page: u16) -> usize
-    requires need { cache_need g.now ≤ length frames.now }
-    requires page { page < page_count g.now }
-    requires placed { IsPlaced g.now frames.now }
-    requires missing { (f : ℕ) → f < the_frame_count g.now frames.now → page_in g.now frames.now f ≢ page }
-    ensures below { result < the_frame_count g.now frames.now }
-    ensures free { AllInUse g.now frames.now ⊎ (page_count g.now ≤ page_in g.now frames.now result) }
-    ensures home { page_count g.now ≤ the_frame_count g.now frames.now → result ≡ page }
+// How many frames from the home on are looked at first for a free one.
+const NEAR: usize = 8;
+
+// A home tells of one more frame.
+fn widen_one(g: &Geometry, frames: &mut [u8], home: usize, stray: u16)
+    requires home { home < the_frame_count g.now frames.old }
+    requires stray { stray < the_frame_count g.now frames.old }
+    ensures here { Widened stray (frame_at g.now frames.old home) (frame_at g.now frames.new home) }
+    ensures others { (h : ℕ) → h ≢ home → frame_at g.now frames.new h ≡ frame_at g.now frames.old h }
 {
-    let home = usize::from(page) % frame_count(g, frames);
-    if u32::from(page_of(g, frames, home)) >= g.pages() {
-        return home;
+    let start = start_of(g, frames, home);
+    let end = start + frame_len(g);
+    widen(&mut frames[start..end], stray);
+}
+
+// No frame below that number is free.
+pub(crate) fn bound_all(g: &Geometry, frames: &mut [u8], count: u16)
+    requires need { cache_need g.now ≤ length frames.old }
+    ensures here { Bounded count (frame_at g.now frames.old 0) (frame_at g.now frames.new 0) }
+    ensures others { (h : ℕ) → h ≢ 0 → frame_at g.now frames.new h ≡ frame_at g.now frames.old h }
+{
+    let start = start_of(g, frames, 0);
+    let end = start + frame_len(g);
+    bound(&mut frames[start..end], count);
+}
+
+// A free frame for a page, and its home tells of it.
+fn take(g: &Geometry, frames: &mut [u8], page: u16, free: usize) -> usize
+    requires need { cache_need g.now ≤ length frames.old }
+    requires page { page < page_count g.now }
+    requires findable { IsFindable g.now frames.old }
+    requires free { free < the_frame_count g.now frames.old }
+    ensures result { result ≡ free }
+    ensures findable { IsFindable g.now frames.new }
+    ensures copies { AreSameCopies g.now frames.old frames.new }
+    ensures near { IsNear g.now frames.new page free }
+{
+    let home = home(g, frames, page);
+    if free != home {
+        widen_one(g, frames, home, free as u16);
     }
-    match first_free(g, frames) {
-        Some(f) => f,
-        None => home,
+    free
+}
+
+// The frame for a page that is not held: that of its own number if it is free, else any free one, else its own.
+pub(crate) fn pick(g: &Geometry, frames: &mut [u8], page: u16) -> usize
+    requires need { cache_need g.now ≤ length frames.old }
+    requires page { page < page_count g.now }
+    requires findable { IsFindable g.now frames.old }
+    requires missing { (f : ℕ) → f < the_frame_count g.now frames.old → page_in g.now frames.old f ≢ page }
+    ensures below { result < the_frame_count g.now frames.old }
+    ensures free { AllInUse g.now frames.old ⊎ (page_count g.now ≤ page_in g.now frames.old result) }
+    ensures home { page_count g.now ≤ the_frame_count g.now frames.old → result ≡ page }
+    ensures findable { IsFindable g.now frames.new }
+    ensures copies { AreSameCopies g.now frames.old frames.new }
+    ensures near { IsNear g.now frames.new page result }
+{
+    let home = home(g, frames, page);
+    let count = frame_count(g, frames);
+    if let Some(free) = first_free(g, frames, home, count.min(home + NEAR)) {
+        return take(g, frames, page, free);
+    }
+    let from = used(frame(g, frames, 0));
+    match first_free(g, frames, from, count) {
+        Some(free) => {
+            bound_all(g, frames, free as u16);
+            take(g, frames, page, free)
+        }
+        None => {
+            bound_all(g, frames, count as u16);
+            home
+        }
     }
 }
 
@@ -140,7 +216,7 @@ fn clear_one(g: &Geometry, frames: &mut [u8], f: usize)
 {
     let start = start_of(g, frames, f);
     let end = start + frame_len(g);
-    give_up(&mut frames[start..end]);
+    empty(&mut frames[start..end]);
 }
 
 // A frame goes with a program.
@@ -188,32 +264,101 @@ pub(crate) fn clear(g: &Geometry, frames: &mut [u8])
     }
 }
 
-// All frames go with a program of bytes from byte `at` of the device on.
-pub(crate) fn program_all(g: &Geometry, frames: &mut [u8], at: usize, from: &[u8])
-    requires { at + length from.now < 2 ^ 32 }
-    ensures { EachFrame g.now (GoesWithProgram g.now.page at from.now) frames.old frames.new }
+// The first page that may have bytes from byte `at` of the device on.
+fn first_met(g: &Geometry, at: usize) -> usize
+    ensures { (q : ℕ) → q < result → q * g.now.page + g.now.page ≤ at }
 {
-    for f in 0..frame_count(g, frames) {
+    at / g.page() as usize
+}
+
+// The pages of the volume from this one on lie behind these bytes of the device.
+fn end_met(g: &Geometry, at: usize, count: usize) -> usize
+    requires { at + count < 2 ^ 32 }
+    ensures most { result ≤ page_count g.now }
+    ensures behind { (q : ℕ) → q < page_count g.now → result ≤ q → at + count ≤ q * g.now.page }
+{
+    let page = g.page() as usize;
+    ((at + count + page - 1) / page).min(g.pages() as usize)
+}
+
+// The frame of a page, if it is held, goes with a program.
+fn program_page(g: &Geometry, frames: &mut [u8], page: u16, at: usize, from: &[u8])
+    requires need { cache_need g.now ≤ length frames.old }
+    requires page { page < page_count g.now }
+    requires findable { IsFindable g.now frames.old }
+    requires fits { at + length from.now < 2 ^ 32 }
+    ensures { OnePage g.now (GoesWithProgram g.now.page at from.now) page frames.old frames.new }
+{
+    if let Some(f) = find(g, frames, page) {
         program_one(g, frames, f, at, from);
     }
 }
 
-// All frames go with an erase of bytes from byte `at` of the device on.
-pub(crate) fn erase_all(g: &Geometry, frames: &mut [u8], at: usize, count: usize)
-    requires { at + count < 2 ^ 32 }
-    ensures { EachFrame g.now (GoesWithErase g.now.page at count) frames.old frames.new }
+// The frame of a page, if it is held, goes with an erase.
+fn erase_page(g: &Geometry, frames: &mut [u8], page: u16, at: usize, count: usize)
+    requires need { cache_need g.now ≤ length frames.old }
+    requires page { page < page_count g.now }
+    requires findable { IsFindable g.now frames.old }
+    requires fits { at + count < 2 ^ 32 }
+    ensures { OnePage g.now (GoesWithErase g.now.page at count) page frames.old frames.new }
 {
-    for f in 0..frame_count(g, frames) {
+    if let Some(f) = find(g, frames, page) {
         erase_one(g, frames, f, at, count);
+    }
+}
+
+// The frame of a page, if it is held, is given up where a range of the device meets it.
+fn give_up_page(g: &Geometry, frames: &mut [u8], page: u16, at: usize, count: usize)
+    requires need { cache_need g.now ≤ length frames.old }
+    requires page { page < page_count g.now }
+    requires findable { IsFindable g.now frames.old }
+    requires fits { at + count < 2 ^ 32 }
+    ensures { OnePage g.now (GivenUp g.now.page at count) page frames.old frames.new }
+{
+    if let Some(f) = find(g, frames, page) {
+        give_up_one(g, frames, f, at, count);
+    }
+}
+
+// The pages that are held go with a program of bytes from byte `at` of the device on.
+pub(crate) fn program_all(g: &Geometry, frames: &mut [u8], at: usize, from: &[u8])
+    requires need { cache_need g.now ≤ length frames.old }
+    requires findable { IsFindable g.now frames.old }
+    requires fits { at + length from.now < 2 ^ 32 }
+    ensures { EachPage g.now (GoesWithProgram g.now.page at from.now) frames.old frames.new }
+{
+    let first = first_met(g, at);
+    let end = end_met(g, at, from.len());
+    for page in first..end {
+        program_page(g, frames, page as u16, at, from);
+    }
+}
+
+// The pages that are held go with an erase of bytes from byte `at` of the device on.
+pub(crate) fn erase_all(g: &Geometry, frames: &mut [u8], at: usize, count: usize)
+    requires need { cache_need g.now ≤ length frames.old }
+    requires findable { IsFindable g.now frames.old }
+    requires fits { at + count < 2 ^ 32 }
+    ensures { EachPage g.now (GoesWithErase g.now.page at count) frames.old frames.new }
+{
+    let first = first_met(g, at);
+    let end = end_met(g, at, count);
+    for page in first..end {
+        erase_page(g, frames, page as u16, at, count);
     }
 }
 
 // Gives up the copies of the pages that a range of the device meets.
 pub(crate) fn give_up_all(g: &Geometry, frames: &mut [u8], at: usize, count: usize)
-    requires { at + count < 2 ^ 32 }
-    ensures { EachFrame g.now (GivenUp g.now.page at count) frames.old frames.new }
+    requires need { cache_need g.now ≤ length frames.old }
+    requires findable { IsFindable g.now frames.old }
+    requires bound { used_to g.now frames.old ≡ 0 }
+    requires fits { at + count < 2 ^ 32 }
+    ensures { EachPage g.now (GivenUp g.now.page at count) frames.old frames.new }
 {
-    for f in 0..frame_count(g, frames) {
-        give_up_one(g, frames, f, at, count);
+    let first = first_met(g, at);
+    let end = end_met(g, at, count);
+    for page in first..end {
+        give_up_page(g, frames, page as u16, at, count);
     }
 }

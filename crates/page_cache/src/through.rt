@@ -5,11 +5,11 @@ ghost use Rattle.geometry.specs.Numbers.{page_count, cache_need};
 ghost use Rattle.nor_core.specs.Count.{Rose};
 ghost use Rattle.nor_core.specs.Flash.{programmed, HalfProgrammed, erased, HalfErased};
 ghost use Rattle.nor_core.specs.Device.{OnlyReads, Changes, InErase, Writes};
-ghost use Rattle.page_cache.specs.Frames.{frame_size, frame_count as the_frame_count, frame_at, page_in, holds, KeepsHeld, KeepsOutside, IsCopy, InOnePage};
+ghost use Rattle.page_cache.specs.Frames.{frame_size, frame_count as the_frame_count, frame_at, page_in, holds, KeepsHeld, KeepsOutside, SameHead, IsCopy, InOnePage};
 ghost use Rattle.page_cache.specs.Kept.{IsKept, FewReads, Stays};
 
 use crate::frame::{HEAD, fill};
-use crate::frames::{erase_all, find, frame, frame_len, give_up_all, pick, program_all, start_of};
+use crate::frames::{bound_all, erase_all, find, frame, frame_len, give_up_all, pick, program_all, start_of};
 use geometry::Geometry;
 use nor_core::{Failed, Mark, Nor, NorState};
 
@@ -29,6 +29,7 @@ fn load_frame<N: Nor>(
     ensures once { N.device_reads nor.new ≤ N.device_reads nor.old + 1 }
     ensures number { OnOk result (page_in g.now frames.new f ≡ page) }
     ensures free { OnErr result (page_in g.now frames.new f ≡ 65535) }
+    ensures head { SameHead (frame_at g.now frames.old f) (frame_at g.now frames.new f) }
     ensures copy { N.tells nor.old → OnOk result (IsCopy g.now.page (N.bytes nor.old) (frame_at g.now frames.new f)) }
     ensures others { (h : ℕ) → h ≢ f → frame_at g.now frames.new h ≡ frame_at g.now frames.old h }
 {
@@ -59,8 +60,13 @@ fn bring_missing<N: Nor>(
     ensures few { FewReads N.NorState g.now nor.old frames.old nor.new frames.new }
 {
     let f = pick(g, frames, page);
-    load_frame(nor, frames, g, f, page)?;
-    Ok(f)
+    match load_frame(nor, frames, g, f, page) {
+        Ok(()) => Ok(f),
+        Err(failed) => {
+            bound_all(g, frames, 0);
+            Err(failed)
+        }
+    }
 }
 
 // The frame of a page, which gets there from the device if it is not held.
@@ -162,6 +168,7 @@ pub(crate) fn program_through<N: Nor>(
 ) -> Result<(), Failed>
     requires some { 0 < length from.now }
     requires inside { at + length from.now ≤ N.size nor.old }
+    requires need { cache_need g.now ≤ length frames.old }
     requires kept { IsKept N.NorState g.now nor.old frames.old }
     ensures done { N.tells nor.old → OnOk result (N.bytes nor.new ≡ programmed (N.bytes nor.old) at from.now) }
     ensures changes { Changes N.NorState nor.old nor.new (HalfProgrammed at from.now) }
@@ -178,6 +185,7 @@ pub(crate) fn program_through<N: Nor>(
             Ok(())
         }
         Err(failed) => {
+            bound_all(g, frames, 0);
             give_up_all(g, frames, at as usize, from.len());
             Err(failed)
         }
@@ -194,6 +202,7 @@ pub(crate) fn erase_through<N: Nor>(
 ) -> Result<(), Failed>
     requires inside { unit_ix < N.size nor.old / N.unit nor.old }
     requires marked { ForSome mark (λ m. m.at + 2 ≤ N.unit nor.old) }
+    requires need { cache_need g.now ≤ length frames.old }
     requires kept { IsKept N.NorState g.now nor.old frames.old }
     ensures done { N.tells nor.old → OnOk result (N.bytes nor.new ≡ erased (N.bytes nor.old) (unit_ix * N.unit nor.old) (N.unit nor.old)) }
     ensures half { N.tells nor.old → OnErr result (HalfErased (unit_ix * N.unit nor.old) (N.unit nor.old) mark (N.bytes nor.old) (N.bytes nor.new)) }
@@ -213,6 +222,7 @@ pub(crate) fn erase_through<N: Nor>(
             Ok(())
         }
         Err(failed) => {
+            bound_all(g, frames, 0);
             give_up_all(g, frames, at, unit);
             Err(failed)
         }

@@ -1,18 +1,25 @@
-use Rattle.std.proofs.Common.{arith}
-use Rattle.std.proofs.lemmas.Grind.{common_steps}
-use Rattle.page_cache.specs.Frames.{GoesWithErase}
-use Rattle.page_cache.proofs.Places.{count_same}
-use Rattle.page_cache.proofs.Loops.{changed_none, changed_more, changed_all}
+use Rattle.std.proofs.Common.{ℕ, ◌*◌, length, inl, inr, refl, arith}
+use Rattle.page_cache.specs.Frames.{GoesWithErase, frame_at, page_in}
+use Rattle.page_cache.proofs.Places.{count_same, some_frames}
+use Rattle.page_cache.proofs.Copies.{erase_misses}
+use Rattle.page_cache.proofs.Loops.{followed_none, followed_more, followed_all, followed_findable, erase_steady}
 use Rattle.page_cache.proofs.frames.erase_all.Goals as goal
 
-pub loop-f-init : goal.loop-f-init
-loop-f-init c = changed_none c.args.g.now (GoesWithErase c.args.g.now.page c.args.at c.args.count) c.args.frames.now
+pub loop-page-init : goal.loop-page-init
+loop-page-init c = followed_none c.args.g.now (GoesWithErase c.args.g.now.page c.args.at c.args.count) (erase_steady c.args.g.now.page c.args.at c.args.count) c.args.frames.now c.first_met-first.result
+    (λ f below under. erase_misses c.args.g.now.page c.args.at c.args.count (page_in c.args.g.now c.args.frames.now f * c.args.g.now.page) (frame_at c.args.g.now c.args.frames.now f) refl (omega (arith, c.first_met-first.ensures (page_in c.args.g.now c.args.frames.now f) under)))
 
-pub erase_one-requires-clause-frame : goal.erase_one-requires-clause-frame
-erase_one-requires-clause-frame c = omega (arith, count_same c.args.g.now c.args.frames.now c.loop-f.frames c.loop-f.auto.frames, c.loop-f-test.true)
+pub erase_page-requires-clause-need : goal.erase_page-requires-clause-need
+erase_page-requires-clause-need c = omega (arith, c.loop-page.auto.frames, c.requires.need)
 
-pub loop-f-preserved : goal.loop-f-preserved
-loop-f-preserved c = changed_more c.args.g.now (GoesWithErase c.args.g.now.page c.args.at c.args.count) c.args.frames.now c.loop-f.frames c.erase_one.new.frames c.loop-f.f c.loop-f.invariant c.erase_one.ensures.here c.erase_one.ensures.others
+pub erase_page-requires-clause-findable : goal.erase_page-requires-clause-findable
+erase_page-requires-clause-findable c = followed_findable c.args.g.now (GoesWithErase c.args.g.now.page c.args.at c.args.count) (erase_steady c.args.g.now.page c.args.at c.args.count) c.args.frames.now c.loop-page.frames c.loop-page.page
+    (count_same c.args.g.now c.args.frames.now c.loop-page.frames c.loop-page.auto.frames) (some_frames c.args.g.now c.args.frames.now c.requires.need) (inr (λ a b r. r.number)) c.loop-page.invariant c.requires.findable
+
+pub loop-page-preserved : goal.loop-page-preserved
+loop-page-preserved c = followed_more c.args.g.now (GoesWithErase c.args.g.now.page c.args.at c.args.count) (erase_steady c.args.g.now.page c.args.at c.args.count) c.args.frames.now c.loop-page.frames c.erase_page.new.frames c.loop-page.page
+    (count_same c.args.g.now c.args.frames.now c.loop-page.frames c.loop-page.auto.frames) (omega (arith, c.loop-page-test.true, c.end_met-end.ensures.most)) c.loop-page.invariant c.erase_page.ensures
 
 pub returns : goal.returns
-returns c = changed_all c.args.g.now (GoesWithErase c.args.g.now.page c.args.at c.args.count) c.args.frames.now c.loop-f.frames c.loop-f.f (grind (arith, common_steps)) c.loop-f.invariant
+returns c = followed_all c.args.g.now (GoesWithErase c.args.g.now.page c.args.at c.args.count) (erase_steady c.args.g.now.page c.args.at c.args.count) c.args.frames.now c.loop-page.frames c.loop-page.page c.end_met-end.result (omega (arith, c.loop-page-test.false))
+    (λ f below used above. erase_misses c.args.g.now.page c.args.at c.args.count (page_in c.args.g.now c.args.frames.now f * c.args.g.now.page) (frame_at c.args.g.now c.args.frames.now f) refl (omega (arith, c.end_met-end.ensures.behind (page_in c.args.g.now c.args.frames.now f) used above))) c.loop-page.invariant

@@ -1,26 +1,16 @@
-use Rattle.std.proofs.Common.{◌≡◌, ◌%◌, ◌<◌, ◌∙◌, sym, arith}
-use Rattle.std.proofs.lemmas.Grind.{common_steps}
-use Rattle.std.proofs.Math.Nat.{mod-lt, mod-eq_of_lt}
-use Rattle.page_cache.proofs.Places.{some_frames}
+use Rattle.std.proofs.Common.{◌∙◌, sym, ap, arith}
+use Rattle.page_cache.specs.Frames.{number_of, word_in}
+use Rattle.page_cache.proofs.Findable.{missing_near}
 use Rattle.page_cache.proofs.frames.find.Goals as goal
 
-pub nonzero_rem-home : goal.nonzero_rem-home
-nonzero_rem-home c = omega (arith, some_frames c.args.g.now c.args.frames.now c.requires.need)
+pub returns-then-since-until-clause-missing : goal.returns-then-since-until-clause-missing
+returns-then-since-until-clause-missing c none = missing_near c.args.g.now c.args.frames.now c.args.page c.home-home.result c.strays-since.result.0 c.strays-since.result.1 c.requires.page c.requires.findable c.home-home.ensures.home
+    (λ is. c.if-number_of-page.false (c.number_of.ensures ∙ ap number_of c.frame-head.ensures.frame ∙ is))
+    (c.strays-since.ensures.since ∙ ap (λ l. word_in l 2) c.frame-head.ensures.frame) (c.strays-since.ensures.until ∙ ap (λ l. word_in l 4) c.frame-head.ensures.frame)
+    (λ f below low high is. absurd (omega (arith, low, high, c.if-since-until.true)))
 
-pub returns-then-count-pages-clause-missing : goal.returns-then-count-pages-clause-missing
-returns-then-count-pages-clause-missing c none f below is =
-    let home : c.from.result % c.frame_count-count.result ≡ c.from.result = mod-eq_of_lt (omega (arith, c.requires.page)) in
-    let at : c.args.page ≡ f = sym is ∙ c.requires.placed (omega arith) f below (omega (arith, is, c.requires.page)) in
-    c.first_with.ensures.missing none f (omega (arith, home, at, c.from.ensures)) (omega (arith, home, at, c.from.ensures)) is
-
-pub first_with-requires-in-None : goal.first_with-requires-in-None
-first_with-requires-in-None c =
-    let some = some_frames c.args.g.now c.args.frames.now c.requires.need in
-    let low : c.from.result % c.frame_count-count.result < c.frame_count-count.result = mod-lt c.from.result (omega (arith, some)) in
-    omega (arith, low)
-
-pub returns-in-None-clause-found : goal.returns-in-None-clause-found
-returns-in-None-clause-found c =
-    let some = some_frames c.args.g.now c.args.frames.now c.requires.need in
-    let low : c.from.result % c.frame_count-count.result < c.frame_count-count.result = mod-lt c.from.result (omega (arith, some)) in
-    grind (arith, common_steps)
+pub returns-clause-missing : goal.returns-clause-missing
+returns-clause-missing c none = missing_near c.args.g.now c.args.frames.now c.args.page c.home-home.result c.strays-since.result.0 c.strays-since.result.1 c.requires.page c.requires.findable c.home-home.ensures.home
+    (λ is. c.if-number_of-page.false (c.number_of.ensures ∙ ap number_of c.frame-head.ensures.frame ∙ is))
+    (c.strays-since.ensures.since ∙ ap (λ l. word_in l 2) c.frame-head.ensures.frame) (c.strays-since.ensures.until ∙ ap (λ l. word_in l 4) c.frame-head.ensures.frame)
+    (λ f below low high. c.first_with.ensures.missing none f low (omega (arith, below, high, c.min.ensures, c.frame_count.ensures)))

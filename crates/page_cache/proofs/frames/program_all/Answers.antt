@@ -1,18 +1,25 @@
-use Rattle.std.proofs.Common.{arith}
-use Rattle.std.proofs.lemmas.Grind.{common_steps}
-use Rattle.page_cache.specs.Frames.{GoesWithProgram}
-use Rattle.page_cache.proofs.Places.{count_same}
-use Rattle.page_cache.proofs.Loops.{changed_none, changed_more, changed_all}
+use Rattle.std.proofs.Common.{ℕ, ◌*◌, length, inl, inr, refl, arith}
+use Rattle.page_cache.specs.Frames.{GoesWithProgram, frame_at, page_in}
+use Rattle.page_cache.proofs.Places.{count_same, some_frames}
+use Rattle.page_cache.proofs.Copies.{program_misses}
+use Rattle.page_cache.proofs.Loops.{followed_none, followed_more, followed_all, followed_findable, program_steady}
 use Rattle.page_cache.proofs.frames.program_all.Goals as goal
 
-pub loop-f-init : goal.loop-f-init
-loop-f-init c = changed_none c.args.g.now (GoesWithProgram c.args.g.now.page c.args.at c.args.from.now) c.args.frames.now
+pub loop-page-init : goal.loop-page-init
+loop-page-init c = followed_none c.args.g.now (GoesWithProgram c.args.g.now.page c.args.at c.args.from.now) (program_steady c.args.g.now.page c.args.at c.args.from.now) c.args.frames.now c.first_met-first.result
+    (λ f below under. program_misses c.args.g.now.page c.args.at (page_in c.args.g.now c.args.frames.now f * c.args.g.now.page) c.args.from.now (frame_at c.args.g.now c.args.frames.now f) refl (omega (arith, c.first_met-first.ensures (page_in c.args.g.now c.args.frames.now f) under)))
 
-pub program_one-requires-clause-frame : goal.program_one-requires-clause-frame
-program_one-requires-clause-frame c = omega (arith, count_same c.args.g.now c.args.frames.now c.loop-f.frames c.loop-f.auto.frames, c.loop-f-test.true)
+pub program_page-requires-clause-need : goal.program_page-requires-clause-need
+program_page-requires-clause-need c = omega (arith, c.loop-page.auto.frames, c.requires.need)
 
-pub loop-f-preserved : goal.loop-f-preserved
-loop-f-preserved c = changed_more c.args.g.now (GoesWithProgram c.args.g.now.page c.args.at c.args.from.now) c.args.frames.now c.loop-f.frames c.program_one.new.frames c.loop-f.f c.loop-f.invariant c.program_one.ensures.here c.program_one.ensures.others
+pub program_page-requires-clause-findable : goal.program_page-requires-clause-findable
+program_page-requires-clause-findable c = followed_findable c.args.g.now (GoesWithProgram c.args.g.now.page c.args.at c.args.from.now) (program_steady c.args.g.now.page c.args.at c.args.from.now) c.args.frames.now c.loop-page.frames c.loop-page.page
+    (count_same c.args.g.now c.args.frames.now c.loop-page.frames c.loop-page.auto.frames) (some_frames c.args.g.now c.args.frames.now c.requires.need) (inr (λ a b r. r.number)) c.loop-page.invariant c.requires.findable
+
+pub loop-page-preserved : goal.loop-page-preserved
+loop-page-preserved c = followed_more c.args.g.now (GoesWithProgram c.args.g.now.page c.args.at c.args.from.now) (program_steady c.args.g.now.page c.args.at c.args.from.now) c.args.frames.now c.loop-page.frames c.program_page.new.frames c.loop-page.page
+    (count_same c.args.g.now c.args.frames.now c.loop-page.frames c.loop-page.auto.frames) (omega (arith, c.loop-page-test.true, c.end_met-end.ensures.most)) c.loop-page.invariant c.program_page.ensures
 
 pub returns : goal.returns
-returns c = changed_all c.args.g.now (GoesWithProgram c.args.g.now.page c.args.at c.args.from.now) c.args.frames.now c.loop-f.frames c.loop-f.f (grind (arith, common_steps)) c.loop-f.invariant
+returns c = followed_all c.args.g.now (GoesWithProgram c.args.g.now.page c.args.at c.args.from.now) (program_steady c.args.g.now.page c.args.at c.args.from.now) c.args.frames.now c.loop-page.frames c.loop-page.page c.end_met-end.result (omega (arith, c.loop-page-test.false))
+    (λ f below used above. program_misses c.args.g.now.page c.args.at (page_in c.args.g.now c.args.frames.now f * c.args.g.now.page) c.args.from.now (frame_at c.args.g.now c.args.frames.now f) refl (omega (arith, c.end_met-end.ensures.behind (page_in c.args.g.now c.args.frames.now f) used above))) c.loop-page.invariant

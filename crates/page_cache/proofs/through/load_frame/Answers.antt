@@ -1,6 +1,6 @@
 use Rattle.std.proofs.Common.{◌≡◌, ℕ, ◌+◌, ◌*◌, List, ◌∙◌, ap, sym, subst, arith, OnOk, OnErr}
-use Rattle.page_cache.specs.Frames.{number_of, IsCopy}
-use Rattle.page_cache.proofs.Places.{put_here, put_there, part_length, page_inside}
+use Rattle.page_cache.specs.Frames.{number_of, IsCopy, SameHead}
+use Rattle.page_cache.proofs.Places.{put_here, put_made, put_there, part_length, page_inside}
 use Rattle.page_cache.proofs.through.load_frame.Goals as goal
 
 pub fill-requires-clause-inside : goal.fill-requires-clause-inside
@@ -20,6 +20,11 @@ returns-clause-free g c =
     let size = c.fill.auto.frame ∙ part_length c.args.frames.now c.start_of-start.result c.frame_len.result (omega (arith, c.start_of-start.ensures.inside, c.frame_len.ensures)) ∙ c.frame_len.ensures in
     let here = put_here c.args.g.now c.args.frames.now c.fill.new.frame c.args.f c.start_of-start.result (c.start_of-start.result + c.frame_len.result) c.start_of-start.ensures.start (omega (arith, c.frame_len.ensures)) (omega (arith, c.start_of-start.ensures.inside, c.frame_len.ensures)) size in
     subst (λ (l : List ℕ). OnErr c.fill.result (number_of l ≡ 65535)) (sym here) c.fill.ensures.free
+
+pub returns-clause-head : goal.returns-clause-head
+returns-clause-head g c =
+    let size = c.fill.auto.frame ∙ part_length c.args.frames.now c.start_of-start.result c.frame_len.result (omega (arith, c.start_of-start.ensures.inside, c.frame_len.ensures)) ∙ c.frame_len.ensures in
+    put_made c.args.g.now SameHead c.args.frames.now c.fill.new.frame c.args.f c.start_of-start.result (c.start_of-start.result + c.frame_len.result) c.start_of-start.ensures.start (omega (arith, c.frame_len.ensures)) (omega (arith, c.start_of-start.ensures.inside, c.frame_len.ensures)) size c.fill.ensures.head
 
 pub returns-clause-copy : goal.returns-clause-copy
 returns-clause-copy g c tells =
