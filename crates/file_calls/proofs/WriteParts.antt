@@ -1,6 +1,6 @@
 -- One part of a write: pages are had for it, the tail is made ready where bytes are added behind it, and the page step is taken.
-use Rattle.std.proofs.Common.{◌≡◌, ℕ, ◌+◌, ◌==◌, ◌<◌, ◌≤◌, ⊎_elim, inl, inr, List, length, true, refl, sym, ◌∙◌, ap, subst, arith, replicate}
-use Rattle.std.specs.Prelude.{Some, is_some, Result, Ok}
+use Rattle.std.proofs.Common.{◌≡◌, ℕ, ◌+◌, ◌==◌, ◌<◌, ◌≤◌, ⊎_elim, inl, inr, List, length, Bool, true, false, refl, sym, ◌∙◌, ap, subst, arith, replicate}
+use Rattle.std.specs.Prelude.{◌↔◌, Some, is_some, Result, Ok}
 use Rattle.std.proofs.lemmas.Bool.{cases_lt}
 use Rattle.std.proofs.lemmas.List.{length-replicate}
 use Rattle.nor_core.specs.declared.state.NorState.{Ghosts as NorOf}
@@ -101,6 +101,10 @@ module _ (g : Geometry) (a : List ℕ) (id : ℕ) (can : CanHaveTail g a id) whe
     cut = λ c cut. step_cut g (table_of g a) a mid c made.tidy made.table made.ready.reserve (rw made.table at cut);
     done = λ c ok done. record { done = record { tidy = done.step.tidy; table = rw made.table at done.step.table; reserve = done.step.reserve made.ready.reserve }; ready = done.ready };
   }
+
+-- no tail that is ready is told as another
+pub not_ready : {P A : Type 0} (b : Bool) → (b ≡ true) ↔ P → P → b ≡ false → A
+not_ready b told ready is = let bad : true ≡ false = sym (told.1 ready) ∙ is in absurd (cc)
 
 -- ---- bytes behind the end of a file
 

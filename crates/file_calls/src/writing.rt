@@ -3,9 +3,11 @@ ghost use Rattle.std.specs.Prelude.{◌≡◌, ◌≢◌, ◌+◌, ◌-◌, ◌%
 ghost use Rattle.table_model.specs.Table.{File};
 ghost use Rattle.geometry.specs.Numbers.{body};
 ghost use Rattle.call_model.specs.Parts.{IsPartEnd};
+ghost use Rattle.flash_view.specs.Same.{OnlyLooks};
 ghost use Rattle.flash_view.specs.Steps.{Stepped};
 ghost use Rattle.file_calls.specs.Collecting.{refusing};
 ghost use Rattle.file_write.specs.Appends.{index_needed as the_index_needed};
+ghost use Rattle.file_write.specs.Readyings.{HasReadyTail};
 ghost use Rattle.file_calls.specs.Writings.{writing_part, writing, having_tail};
 
 use crate::collecting::take_pages;
@@ -44,9 +46,10 @@ fn index_needed(g: &Geometry, size: u32) -> u32
     }
 }
 
-// Makes the tail of a file ready for an append, where it isn't known to be.
+// Makes the tail of a file ready for an append, where it isn't ready.
 fn have_tail<N: Nor>(v: &mut View<'_, N>, id: u16) -> Result<(), FsErr>
-    ensures { Stepped refusing v.old v.new result (having_tail id) }
+    ensures steps { Stepped refusing v.old v.new result (having_tail id) }
+    ensures still { N.tells v.old.nor.now → HasReadyTail v.old.geometry (N.bytes v.old.nor.now) id → OnlyLooks v.old v.new }
 {
     match is_tail_ready(v, id) {
         Err(Failed) => return Err(FsErr::DeviceFault),

@@ -14,6 +14,7 @@ use Rattle.image_model.specs.Live.{live_at, own}
 use Rattle.image_model.specs.Files.{index_page, further}
 use Rattle.image_model.specs.Places.{IsImage}
 use Rattle.image_model.specs.Tables.{has_of, table_of}
+use Rattle.image_model.specs.Tidy.{IsTidy}
 use Rattle.image_laws.specs.Reindex.{slot_word}
 use Rattle.image_laws.proofs.Judge.{found_from}
 use Rattle.image_laws.proofs.Sounding.{keeps-itself}
@@ -27,7 +28,7 @@ use Rattle.page_renew.specs.PageSteps.{StepCut, StepDone}
 use Rattle.page_renew.specs.declared.finding.Found.{Found}
 use Rattle.page_renew.specs.Renewals.{IsHome}
 use Rattle.file_write.specs.declared.relinking.Patch.{Patch}
-use Rattle.file_write.specs.Readyings.{HasOnes, IsStale, CanReady, CanReadyIn, Readied, readying_entry, readying_in, readying}
+use Rattle.file_write.specs.Readyings.{HasOnes, IsStale, CanReady, CanReadyIn, HasReadyTail, HasReadyTailAt, Readied, readying_entry, readying_in, readying}
 use Rattle.file_write.specs.Relinkings.{CanPatch, HasPatch, IsFileAt, replacing}
 use Rattle.file_write.proofs.CopyPut.{no_file}
 use Rattle.file_write.proofs.FileHomes.{no_home, home_at}
@@ -48,17 +49,25 @@ some_is : {T : Type 0} (o : Option T) (other : T) → is_some o ≡ true → o �
 some_is None other e = absurd (cc)
 some_is (Some x) other e = refl
 
-module _ (g : Geometry) (a : List ℕ) (id : ℕ) (is : IsImage g a) (can : CanReady g a id) where
+module _ (g : Geometry) (a : List ℕ) (id : ℕ) (is : IsImage g a) (tidy : IsTidy g a) (there : has_id id (table_of g a) ≡ true) where
   chosen_there : file_of id (table_of g a) ≡ Some (chosen (table_of g a) id)
   unfolding has_id file_of
-  chosen_there = some_is (file_of id (table_of g a)) no_file (sym (any-found (λ (f : File). f.id == id) (table_of g a)) ∙ can.there)
+  chosen_there = some_is (file_of id (table_of g a)) no_file (sym (any-found (λ (f : File). f.id == id) (table_of g a)) ∙ there)
 
   -- there is a header page
-  pub ready_home_there : IsHome g a id None → ⊥
-  ready_home_there none = no_home g a id (chosen (table_of g a) id) is can.tidy chosen_there none
+  pub home_there : IsHome g a id None → ⊥
+  home_there none = no_home g a id (chosen (table_of g a) id) is tidy chosen_there none
 
-  pub ready_home : (found : Found) → IsHome g a id (Some found) → Finishes g a a (readying_in id found.size (chosen (table_of g a) id)) (readying id)
-  ready_home found is_found = record { needs = record { can = can; home = home_at g a id (chosen (table_of g a) id) is can.tidy chosen_there found is_found }; cut = λ c cut. cut; done = λ c ok done. done }
+  pub home_found : (found : Found) → IsHome g a id (Some found) → IsFileAt g a id found.size (chosen (table_of g a) id)
+  home_found found is_found = home_at g a id (chosen (table_of g a) id) is tidy chosen_there found is_found
+
+-- of a file whose tail can be made ready
+pub ready_home : (g : Geometry) (a : List ℕ) (id : ℕ) → IsImage g a → CanReady g a id → (found : Found) → IsHome g a id (Some found) → Finishes g a a (readying_in id found.size (chosen (table_of g a) id)) (readying id)
+ready_home g a id is can found is_found = record { needs = record { can = can; home = home_found g a id is can.tidy can.there found is_found }; cut = λ c cut. cut; done = λ c ok done. done }
+
+-- of one whose tail is ready
+pub ready_found : (g : Geometry) (a : List ℕ) (id : ℕ) → IsImage g a → HasReadyTail g a id → (found : Found) → IsHome g a id (Some found) → HasReadyTailAt g a id found.size (chosen (table_of g a) id)
+ready_found g a id is has found is_found = record { home = home_found g a id is has.tidy has.there found is_found; ready = has.ready }
 
 -- ---- a file of that size
 

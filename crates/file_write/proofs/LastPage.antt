@@ -8,6 +8,7 @@ use Rattle.nor_core.specs.Flash.{HalfProgrammed, SameOutside, programmed}
 use Rattle.nor_core.proofs.Programs.{half_programmed}
 use Rattle.table_model.specs.Table.{File, put_file}
 use Rattle.table_model.specs.Files.{written}
+use Rattle.table_model.specs.Room.{data_pages}
 use Rattle.image_model.specs.Volume.{page_count, per_block}
 use Rattle.image_model.specs.Headers.{names_index, span_of, size_of}
 use Rattle.image_model.specs.Live.{Live, live_at, own}
@@ -15,7 +16,7 @@ use Rattle.image_model.specs.Files.{entry_number, data_of, data_page}
 use Rattle.image_model.specs.Places.{page_of, IsImage}
 use Rattle.image_model.specs.Sound.{Keeps}
 use Rattle.image_model.specs.Tidy.{free_blocks}
-use Rattle.image_model.specs.Within.{sizes, page_number}
+use Rattle.image_model.specs.Within.{sizes, page_number, page_length}
 use Rattle.image_model.specs.Collect.{are_had}
 use Rattle.image_model.specs.Tables.{table_of}
 use Rattle.image_laws.specs.Flash.{Programmed}
@@ -83,6 +84,40 @@ data_kind g pages head t x there = option_and_then_some (λ p. data_of (pages p)
     of None k = absurd (none-some x k)
     of (Some w) k = let same : w ≡ x = (cond_some _ w x k).1 in subst (λ (y : List ℕ). names_index y ≡ false) same (data_parts w t (ap is_some k)).0
 
+-- ---- the last data page of a file that ends inside it
+
+pub record LastData (g : Geometry) (a : List ℕ) (id : ℕ) (head : List ℕ) : Type 0 where
+  pub q : ℕ
+  pub x : List ℕ
+  pub number : data_number_of g a id (size_of head / body g) ≡ Some q
+  pub inside : q < all_pages g
+  pub whole : data_page g (own (live_at g a) id) head (size_of head / body g) ≡ Some x
+  pub bytes : page_of g a q ≡ x
+  pub long : length (page_of g a q) ≡ g.page
+  pub count : data_pages g (size_of head) ≡ size_of head / body g + 1
+
+pub last_data : (g : Geometry) (a : List ℕ) (id h : ℕ) (head : List ℕ) (f : File) → Primed g id h head f (λ r. false) a a → 0 < size_of head % body g → LastData g a id head
+unfolding page_count per_block
+last_data g a id h head f prime used =
+    let pages = own (live_at g a) id in
+    let span = size_of head / body g in
+    let count = last_below g (size_of head) used in
+    let x = span_page g pages id head f prime.file span (omega (arith, count)) in
+    let n = number_there g pages head span x.0 x.1 in
+    let named = named_by g pages head span n.0 n.1 in
+    let live = (own-parts (live_at g a) id n.0 named.z named.is).0 in
+    let parts = live_parts g a n.0 named.z live in
+    record {
+      q = n.0;
+      x = named.z;
+      number = number_of g a a id h head f (λ r. false) span prime ∙ n.1;
+      inside = page_number g n.0 parts.entry_page;
+      whole = page_named g pages head span n.0 named.z named.entry named.is named.kind named.span;
+      bytes = parts.bytes;
+      long = page_length g a n.0 prime.image parts.entry_page;
+      count = count;
+    }
+
 -- ---- what the file's header page tells
 
 module _ (g : Geometry) (a : List ℕ) (id h size : ℕ) (bytes : List ℕ) (f : File) (can : CanAppendAt g a id h size bytes f) where
@@ -105,18 +140,12 @@ module _ (g : Geometry) (a : List ℕ) (id h size : ℕ) (bytes : List ℕ) (f :
 
   -- the file's last data page is found where it ends inside it
   pub last_there : 0 < size % body g → ((q : ℕ) → data_number_of g a id (size / body g) ≡ Some q → q < all_pages g → size / body g ≤ 0xFFFF → ⊥) → ⊥
-  unfolding page_count per_block
   last_there used none =
-      let used' : 0 < size_of can.head % body g = subst (λ (n : ℕ). 0 < n % body g) can.told used in
-      let pages = last_below g (size_of can.head) used' in
-      let x = span_page g (own (live_at g a) id) id can.head f can.prime.file (size_of can.head / body g) (omega (arith, pages)) in
-      let n = number_there g (own (live_at g a) id) can.head (size_of can.head / body g) x.0 x.1 in
-      let named = named_by g (own (live_at g a) id) can.head (size_of can.head / body g) n.0 n.1 in
-      let live = (own-parts (live_at g a) id n.0 named.z named.is).0 in
-      let number : data_number_of g a id (size / body g) ≡ Some n.0 = subst (λ (m : ℕ). data_number_of g a id (m / body g) ≡ Some n.0) (sym can.told) (number_of g a a id h can.head f (λ r. false) (size_of can.head / body g) can.prime ∙ n.1) in
+      let last = last_data g a id h can.head f can.prime (subst (λ (n : ℕ). 0 < n % body g) can.told used) in
+      let number : data_number_of g a id (size / body g) ≡ Some last.q = subst (λ (m : ℕ). data_number_of g a id (m / body g) ≡ Some last.q) (sym can.told) last.number in
       let more = ceil-mono (size_of can.head) (length f.bytes + length bytes) (body g) (omega (arith, (sizes g).page)) (omega (arith, can.long)) in
-      let span : size_of can.head / body g ≤ 0xFFFF = omega (arith, pages, more, can.can.few, usable_few g) in
-      none n.0 number (page_number g n.0 (live_parts g a n.0 named.z live).entry_page) (subst (λ (m : ℕ). m / body g ≤ 0xFFFF) (sym can.told) span)
+      let span : size_of can.head / body g ≤ 0xFFFF = omega (arith, last.count, more, can.can.few, usable_few g) in
+      none last.q number last.inside (subst (λ (m : ℕ). m / body g ≤ 0xFFFF) (sym can.told) span)
 
 -- ---- bytes are programmed behind its end
 

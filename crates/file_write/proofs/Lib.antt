@@ -21,3 +21,4 @@ pub mod BytesOver
 pub mod TailLooks
 pub mod BytesReadied
 pub mod IndexRefreshed
+pub mod UnreadyTails

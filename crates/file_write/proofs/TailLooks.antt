@@ -1,6 +1,6 @@
 -- What the looks at the tail of a file tell.
-use Rattle.std.proofs.Common.{◌≡◌, ℕ, ◌+◌, ◌-◌, ◌*◌, ◌/◌, ◌%◌, ◌<◌, ◌≤◌, List, length, drop, get_or, slice_index, Bool, true, false, ◌==◌, Option, Some, None, ap, sym, ◌∙◌, arith, subst, ⊎_elim, length-drop}
-use Rattle.std.specs.Prelude.{option_and_then, Result, Ok, Err, IfOk, is_some, not}
+use Rattle.std.proofs.Common.{◌≡◌, ℕ, ◌+◌, ◌-◌, ◌*◌, ◌/◌, ◌%◌, ◌<◌, ◌≤◌, List, length, drop, get_or, slice_index, Bool, true, false, ◌==◌, Some, None, ap, sym, ◌∙◌, arith, subst, ⊎_elim, length-drop}
+use Rattle.std.specs.Prelude.{option_and_then, Result, Ok, Err, IfOk}
 use Rattle.std.specs.Bool.{OnTrue}
 use Rattle.nor_core.specs.declared.device.Failed.{Failed}
 use Rattle.std.proofs.lemmas.Bool.{cases_eq, ne_eqb, le-ltb}
@@ -107,11 +107,3 @@ tail_ready g image id found home ones free h head at header =
       bytes = ones_clean g image id found.size h head at header told ones;
       entry = subst (λ (n : ℕ). (page : List ℕ) → head_slots g ≤ data_pages g n → option_and_then (own (live_at g image) id) (index_page g (own (live_at g image) id) (further g (data_pages g n))) ≡ Some page → slot_word g page (data_pages g n) ≡ 0xFFFF) told free;
     }
-
--- as the calls tell it
-pub tail_told : (g : Geometry) (image : List ℕ) (id : ℕ) (found : Found) (clean : Bool) (stale : Option ℕ) (b : Bool) → IsHome g image id (Some found) → clean ≡ true → OnTrue clean (HasOnes g image id found.size) → IsStale g image id found.size stale →
-    is_some stale ≡ not b → OnTrue b (IsTailReady g image id)
-tail_told g image id found clean None true home is_clean ones free is = tail_ready g image id found home (rw is_clean at ones) free
-tail_told g image id found clean None false home is_clean ones free is = tt
-tail_told g image id found clean (Some w) true home is_clean ones free is = absurd (cc)
-tail_told g image id found clean (Some w) false home is_clean ones free is = tt

@@ -1,7 +1,7 @@
 -- What the looks at the tail of a file tell, and what making it ready asks of an image and leaves.
-use Rattle.std.specs.Prelude.{◌≡◌, ◌≢◌, ℕ, ◌+◌, ◌/◌, ◌%◌, ◌<◌, ◌≤◌, List, Option, Some, None, true, false, slice_index, option_and_then}
+use Rattle.std.specs.Prelude.{◌≡◌, ◌≢◌, ℕ, ◌+◌, ◌/◌, ◌%◌, ◌<◌, ◌≤◌, List, Option, Some, None, true, false, drop, slice_index, option_and_then}
 use Rattle.geometry.specs.declared.geometry.Geometry.{Geometry}
-use Rattle.geometry.specs.Numbers.{body, head_slots}
+use Rattle.geometry.specs.Numbers.{body, head_slots, page_count}
 use Rattle.table_model.specs.Table.{File, has_id}
 use Rattle.table_model.specs.Room.{data_pages}
 use Rattle.image_model.specs.Collect.{are_had}
@@ -10,7 +10,7 @@ use Rattle.image_model.specs.Files.{index_page, further}
 use Rattle.image_model.specs.Kinds.{is_data_block}
 use Rattle.image_model.specs.Places.{page_of, block_of}
 use Rattle.image_model.specs.Tables.{table_of}
-use Rattle.image_model.specs.Tidy.{IsTidy}
+use Rattle.image_model.specs.Tidy.{IsTidy, is_erased}
 use Rattle.image_laws.specs.NewFile.{IsFreePage}
 use Rattle.image_laws.specs.Reindex.{slot_word}
 use Rattle.renew_laws.specs.Reserve.{CanTake}
@@ -23,6 +23,14 @@ use Rattle.file_write.specs.Relinkings.{IsFileAt}
 -- the bytes of the last data page of a file of that size past the size are 0xFF
 abbrev pub HasOnes : Geometry → (image : List ℕ) (id size : ℕ) → Type 0
 HasOnes g image id size = (q : ℕ) → size % body g ≢ 0 → data_number_of g image id (size / body g) ≡ Some q → (k : ℕ) → 5 + size % body g ≤ k → k < g.page → slice_index (page_of g image q) k ≡ 0xFF
+
+-- one of those bytes isn't 0xFF, where that page is there
+abbrev pub HasOther : Geometry → (image : List ℕ) (id size : ℕ) → Type 0
+HasOther g image id size = (q : ℕ) → data_number_of g image id (size / body g) ≡ Some q → q < page_count g → size / body g ≤ 0xFFFF → is_erased (drop (5 + size % body g) (page_of g image q)) ≡ false
+
+-- page w has another entry than 0xFFFF for the span behind the last
+abbrev pub IsTaken : Geometry → (image : List ℕ) (size w : ℕ) → Type 0
+IsTaken g image size w = slot_word g (page_of g image w) (data_pages g size) ≢ 0xFFFF
 
 -- the further index page with the entry of the span behind the last, or none where that entry is free
 abbrev pub IsStale : Geometry → (image : List ℕ) (id size : ℕ) → Option ℕ → Type 0
@@ -59,6 +67,17 @@ pub record CanRefreshTo (g : Geometry) (image : List ℕ) (id size index to : �
   pub free : IsFreePage g image to
   pub kind : is_data_block g image (block_of g to) ≡ false
   pub room : CanTake g image to
+
+-- The image is tidy, and the tail of a file of its table is ready for an append.
+pub record HasReadyTail (g : Geometry) (image : List ℕ) (id : ℕ) : Type 0 where
+  pub tidy : IsTidy g image
+  pub there : has_id id (table_of g image) ≡ true
+  pub ready : IsTailReady g image id
+
+-- The header page of that file was found.
+pub record HasReadyTailAt (g : Geometry) (image : List ℕ) (id size : ℕ) (f : File) : Type 0 where
+  pub home : IsFileAt g image id size f
+  pub ready : IsTailReady g image id
 
 -- The table is the same, and the tail of the file is ready for an append.
 pub record Readied (g : Geometry) (id : ℕ) (was now : List ℕ) : Type 0 where

@@ -3,8 +3,9 @@ ghost use Rattle.std.specs.Prelude.{◌≡◌, ◌%◌, ◌<◌, ◌≤◌, ℕ}
 ghost use Rattle.geometry.specs.Numbers.{body};
 ghost use Rattle.table_model.specs.Table.{File};
 ghost use Rattle.flash_view.specs.Places.{IsEntryPage};
+ghost use Rattle.flash_view.specs.Same.{OnlyLooks};
 ghost use Rattle.flash_view.specs.Steps.{Stepped, failed, stopped};
-ghost use Rattle.file_write.specs.Readyings.{refreshing_to, refreshing, readying_entry, readying_in, readying};
+ghost use Rattle.file_write.specs.Readyings.{HasReadyTail, HasReadyTailAt, refreshing_to, refreshing, readying_entry, readying_in, readying};
 
 use crate::create::missing;
 use crate::relinking::{Patch, replace_page};
@@ -49,7 +50,8 @@ fn refresh<N: Nor>(v: &mut View<'_, N>, id: u16, index: u16) -> Result<(), StepE
 // Makes the tail of a file of that size ready where its bytes past the size are 0xFF.
 fn ready_entry<N: Nor>(v: &mut View<'_, N>, id: u16, size: u32) -> Result<(), StepErr>
     requires id { (1 ≤ id) × (id ≤ 0x7FFE) }
-    ensures { (f : File) → Stepped stopped v.old v.new result (readying_entry id size f) }
+    ensures steps { (f : File) → Stepped stopped v.old v.new result (readying_entry id size f) }
+    ensures still { (f : File) → N.tells v.old.nor.now → HasReadyTailAt v.old.geometry (N.bytes v.old.nor.now) id size f → OnlyLooks v.old v.new }
 {
     match stale_index(v, id, size) {
         Err(Failed) => Err(StepErr::DeviceFault),
@@ -81,7 +83,8 @@ fn ready_bytes<N: Nor>(v: &mut View<'_, N>, id: u16, size: u32) -> Result<(), St
 // Makes the tail of a file of that size ready.
 fn ready_in<N: Nor>(v: &mut View<'_, N>, id: u16, size: u32) -> Result<(), StepErr>
     requires id { (1 ≤ id) × (id ≤ 0x7FFE) }
-    ensures { (f : File) → Stepped stopped v.old v.new result (readying_in id size f) }
+    ensures steps { (f : File) → Stepped stopped v.old v.new result (readying_in id size f) }
+    ensures still { (f : File) → N.tells v.old.nor.now → HasReadyTailAt v.old.geometry (N.bytes v.old.nor.now) id size f → OnlyLooks v.old v.new }
 {
     match has_clean_bytes(v, id, size) {
         Err(Failed) => Err(StepErr::DeviceFault),
@@ -91,9 +94,11 @@ fn ready_in<N: Nor>(v: &mut View<'_, N>, id: u16, size: u32) -> Result<(), StepE
 }
 
 /// Makes the tail of a file ready for an append, in one page step that leaves the table: its last data page is replaced by a copy with 0xFF
-/// past the size, or where those bytes are 0xFF already, the further index page by a copy with 0xFFFF behind the last entry.
+/// past the size, or where those bytes are 0xFF already, the further index page by a copy with 0xFFFF behind the last entry. Where the
+/// tail is ready nothing is programmed.
 pub fn ready_tail<N: Nor>(v: &mut View<'_, N>, id: u16) -> Result<(), StepErr>
-    ensures { Stepped stopped v.old v.new result (readying id) }
+    ensures steps { Stepped stopped v.old v.new result (readying id) }
+    ensures still { N.tells v.old.nor.now → HasReadyTail v.old.geometry (N.bytes v.old.nor.now) id → OnlyLooks v.old v.new }
 {
     match find_home(v, id) {
         Err(Failed) => Err(StepErr::DeviceFault),

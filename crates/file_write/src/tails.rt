@@ -1,5 +1,5 @@
 // The tail of a file: bytes of its last data page past the size, and the entry behind its last.
-ghost use Rattle.std.specs.Prelude.{◌≡◌, ◌%◌, ◌<◌, ◌≤◌, ℕ, OnErr, IfOk, IfSome, drop, true};
+ghost use Rattle.std.specs.Prelude.{◌≡◌, ◌%◌, ◌<◌, ◌≤◌, ◌↔◌, ℕ, OnErr, IfOk, IfSome, drop, true};
 ghost use Rattle.std.specs.Bool.{OnTrue, OnFalse};
 ghost use Rattle.geometry.specs.Numbers.{body, page_count};
 ghost use Rattle.nor_core.specs.Count.{Rose};
@@ -10,7 +10,7 @@ ghost use Rattle.image_model.specs.Tidy.{IsTidy, is_erased as the_erased};
 ghost use Rattle.renew_laws.specs.Tails.{IsTailReady};
 ghost use Rattle.flash_view.specs.Places.{IsEntryPage};
 ghost use Rattle.flash_view.specs.Same.{OnlyLooks};
-ghost use Rattle.file_write.specs.Readyings.{HasOnes, IsStale};
+ghost use Rattle.file_write.specs.Readyings.{HasOnes, HasOther, IsStale, IsTaken};
 
 use flash_view::{View, is_entry_page};
 use nor_core::{Failed, Nor, NorState};
@@ -36,7 +36,7 @@ fn ends_in_ones<N: Nor>(v: &mut View<'_, N>, page: u16, from: u32) -> Result<boo
     Ok(are_ones(&v.fetched()[from as usize..]))
 }
 
-// Whether the bytes of the last data page of a file of that size past the size are known to be 0xFF.
+// Whether the bytes of the last data page of a file of that size past the size are 0xFF.
 #[tactic(auto, using(flash_view::proofs::Looking::looks_then))]
 pub(crate) fn has_clean_bytes<N: Nor>(
     v: &mut View<'_, N>,
@@ -47,6 +47,7 @@ pub(crate) fn has_clean_bytes<N: Nor>(
     ensures looks { OnlyLooks v.old v.new }
     ensures part { IfOk result (λ clean. OnFalse clean (0 < size % body v.old.geometry)) }
     ensures told { N.tells v.old.nor.now → IfOk result (λ clean. OnTrue clean (HasOnes v.old.geometry (N.bytes v.old.nor.now) id size)) }
+    ensures other { N.tells v.old.nor.now → IfOk result (λ clean. OnFalse clean (HasOther v.old.geometry (N.bytes v.old.nor.now) id size)) }
 {
     let g = v.geometry;
     let used = size % g.body();
@@ -57,10 +58,13 @@ pub(crate) fn has_clean_bytes<N: Nor>(
     if span > 0xFFFF {
         return Ok(false);
     }
-    match v.find_data(id, span as u16)? {
-        Some(page) if u32::from(page) < g.pages() => ends_in_ones(v, page, 5 + used),
-        _ => Ok(false),
+    let Some(page) = v.find_data(id, span as u16)? else {
+        return Ok(false);
+    };
+    if u32::from(page) >= g.pages() {
+        return Ok(false);
     }
+    ends_in_ones(v, page, 5 + used)
 }
 
 // The further index page with the entry of the span behind the last of a file of that size, where that entry isn't 0xFFFF.
@@ -74,6 +78,7 @@ pub(crate) fn stale_index<N: Nor>(
     ensures looks { OnlyLooks v.old v.new }
     ensures entry { IfOk result (λ found. IfSome found (λ p. IsEntryPage v.old.geometry p)) }
     ensures told { N.tells v.old.nor.now → IfOk result (λ found. IsStale v.old.geometry (N.bytes v.old.nor.now) id size found) }
+    ensures taken { N.tells v.old.nor.now → IfOk result (λ found. IfSome found (IsTaken v.old.geometry (N.bytes v.old.nor.now) size)) }
 {
     let g = v.geometry;
     let count = data_pages(&g, size);
@@ -91,13 +96,13 @@ pub(crate) fn stale_index<N: Nor>(
     Ok(Some(index))
 }
 
-/// Whether the tail of a file is known to be ready for an append: the bytes of its last data page past its size are 0xFF, and so is the
-/// entry of the span behind its last one, where a further index page has it.
+/// Whether the tail of a file is ready for an append: the bytes of its last data page past its size are 0xFF, and the entry of the span
+/// behind its last one is 0xFFFF, where a further index page has it.
 #[tactic(auto, using(flash_view::proofs::Looking::looks_then))]
 pub fn is_tail_ready<N: Nor>(v: &mut View<'_, N>, id: u16) -> Result<bool, Failed>
     ensures cause { OnErr result (Rose (N.faults v.old.nor.now) (N.faults v.new.nor.now)) }
     ensures looks { OnlyLooks v.old v.new }
-    ensures told { N.tells v.old.nor.now → IsTidy v.old.geometry (N.bytes v.old.nor.now) → has_id id (table_of v.old.geometry (N.bytes v.old.nor.now)) ≡ true → IfOk result (λ ready. OnTrue ready (IsTailReady v.old.geometry (N.bytes v.old.nor.now) id)) }
+    ensures told { N.tells v.old.nor.now → IsTidy v.old.geometry (N.bytes v.old.nor.now) → has_id id (table_of v.old.geometry (N.bytes v.old.nor.now)) ≡ true → IfOk result (λ ready. (ready ≡ true) ↔ IsTailReady v.old.geometry (N.bytes v.old.nor.now) id) }
 {
     let Some(Found { size, .. }) = find_home(v, id)? else {
         return Ok(false);

@@ -2,28 +2,37 @@ use Rattle.std.proofs.Common.{◌≡◌, refl, rules, Err}
 use Rattle.flash_view.proofs.Stepped.{looked, after_look, passes, stepped_then}
 use Rattle.file_calls.specs.Collecting.{taking_pages}
 use Rattle.file_calls.proofs.Going.{step_fails}
-use Rattle.file_calls.proofs.WriteParts.{step_does, tail_stays, tail_is_ready, tail_begins, tail_ends}
+use Rattle.file_calls.proofs.WriteParts.{step_does, tail_stays, tail_is_ready, tail_begins, tail_ends, not_ready}
 use Rattle.file_calls.proofs.writing.have_tail.Goals as goal
 
-pub returns-in-Err : goal.returns-in-Err
-returns-in-Err g c = let seen = c.in-Err.ensures in looked seen.looks (λ e. seen.cause) tt (λ tells can. (tail_stays _ _ _ can, refl))
+pub returns-in-Err-clause-steps : goal.returns-in-Err-clause-steps
+returns-in-Err-clause-steps g c = let seen = c.in-Err.ensures in looked seen.looks (λ e. seen.cause) tt (λ tells can. (tail_stays _ _ _ can, refl))
 
-pub returns-in-Ok-true : goal.returns-in-Ok-true
-returns-in-Ok-true g c =
+pub returns-in-Ok-true-clause-steps : goal.returns-in-Ok-true-clause-steps
+returns-in-Ok-true-clause-steps g c =
     let seen = c.in-Ok-true.ensures in
-    looked seen.looks (λ e. absurd (cc)) tt (λ tells can. (tail_stays _ _ _ can, tail_is_ready _ _ _ can (rw c.in-Ok-true.field-0-test at (seen.told tells can.can.tidy can.there))))
+    looked seen.looks (λ e. absurd (cc)) tt (λ tells can. (tail_stays _ _ _ can, tail_is_ready _ _ _ can ((rw c.in-Ok-true.field-0-test at (seen.told tells can.can.tidy can.there)).0 refl)))
 
-pub returns-in_err-take_pages : goal.returns-in_err-take_pages
-returns-in_err-take_pages g c =
+pub returns-in_err-take_pages-clause-steps : goal.returns-in_err-take_pages-clause-steps
+returns-in_err-take_pages-clause-steps g c =
     let is : c.from_residual.result ≡ Err c.in_err-take_pages.field-0.0 = search rules in
     passes (after_look {r = Err c.in_err-take_pages.field-0.0} {whole = taking_pages 1 1} c.in-Ok-false.ensures.looks c.in_err-take_pages.ensures (λ tells can. record { needs = can; cut = λ d cut. cut; done = λ d ok done. done })) is (λ tells can. tail_begins _ _ _ can)
 
-pub returns-in-Ok : goal.returns-in-Ok
-returns-in-Ok g c =
-    stepped_then (after_look {whole = taking_pages 1 1} c.in-Ok-false.ensures.looks c.in_ok-take_pages.ensures (λ tells can. record { needs = can; cut = λ d cut. cut; done = λ d ok done. done })) (step_does c.in-Ok.ensures)
+pub returns-in-Ok-clause-steps : goal.returns-in-Ok-clause-steps
+returns-in-Ok-clause-steps g c =
+    stepped_then (after_look {whole = taking_pages 1 1} c.in-Ok-false.ensures.looks c.in_ok-take_pages.ensures (λ tells can. record { needs = can; cut = λ d cut. cut; done = λ d ok done. done })) (step_does c.in-Ok.ensures.steps)
     (λ tells can. tail_begins _ _ _ can) (λ tells can made. tail_ends _ _ _ can _ made)
 
-pub returns-in-Err-ready_tail : goal.returns-in-Err-ready_tail
-returns-in-Err-ready_tail g c =
-    rw c.failed_as.ensures (stepped_then (after_look {whole = taking_pages 1 1} c.in-Ok-false.ensures.looks c.in_ok-take_pages.ensures (λ tells can. record { needs = can; cut = λ d cut. cut; done = λ d ok done. done })) (step_fails c.in-Err-ready_tail.ensures)
+pub returns-in-Err-ready_tail-clause-steps : goal.returns-in-Err-ready_tail-clause-steps
+returns-in-Err-ready_tail-clause-steps g c =
+    rw c.failed_as.ensures (stepped_then (after_look {whole = taking_pages 1 1} c.in-Ok-false.ensures.looks c.in_ok-take_pages.ensures (λ tells can. record { needs = can; cut = λ d cut. cut; done = λ d ok done. done })) (step_fails c.in-Err-ready_tail.ensures.steps)
     (λ tells can. tail_begins _ _ _ can) (λ tells can made. tail_ends _ _ _ can _ made))
+
+pub returns-in_err-take_pages-clause-still : goal.returns-in_err-take_pages-clause-still
+returns-in_err-take_pages-clause-still g c = λ tells has. not_ready _ (c.in-Ok-false.ensures.told tells has.tidy has.there) has.ready (search rules)
+
+pub returns-in-Ok-clause-still : goal.returns-in-Ok-clause-still
+returns-in-Ok-clause-still g c = λ tells has. not_ready _ (c.in-Ok-false.ensures.told tells has.tidy has.there) has.ready (search rules)
+
+pub returns-in-Err-ready_tail-clause-still : goal.returns-in-Err-ready_tail-clause-still
+returns-in-Err-ready_tail-clause-still g c = λ tells has. not_ready _ (c.in-Ok-false.ensures.told tells has.tidy has.there) has.ready (search rules)

@@ -1,18 +1,29 @@
-use Rattle.std.proofs.Common.{◌≡◌, refl, rules, true}
+use Rattle.std.proofs.Common.{◌≡◌, refl, rules, true, false}
 use Rattle.flash_view.proofs.Stepped.{looked, after_look}
+use Rattle.file_write.specs.Readyings.{HasReadyTailAt}
 use Rattle.file_write.proofs.BytesReadied.{ready_stays, entry_next}
+use Rattle.file_write.proofs.UnreadyTails.{no_other, still_after}
 use Rattle.file_write.proofs.readying.ready_in.Goals as goal
 
-pub returns-in-Err : goal.returns-in-Err
-returns-in-Err g c = λ f. let seen = c.in-Err.ensures in looked seen.looks (λ e. seen.cause) tt (λ tells can. (ready_stays _ _ _ can.can, refl))
+pub returns-in-Err-clause-steps : goal.returns-in-Err-clause-steps
+returns-in-Err-clause-steps g c = λ f. let seen = c.in-Err.ensures in looked seen.looks (λ e. seen.cause) tt (λ tells can. (ready_stays _ _ _ can.can, refl))
 
-pub returns-in-Ok-true : goal.returns-in-Ok-true
-returns-in-Ok-true g c = λ f.
+pub returns-in-Ok-true-clause-steps : goal.returns-in-Ok-true-clause-steps
+returns-in-Ok-true-clause-steps g c = λ f.
     let seen = c.in-Ok-true.ensures in
     let yes : c.in-Ok-true.field-0 ≡ true = search rules in
-    after_look seen.looks (c.ready_entry.ensures f) (λ tells can. entry_next _ _ _ _ _ can (rw yes at (seen.told tells)))
+    after_look seen.looks (c.ready_entry.ensures.steps f) (λ tells can. entry_next _ _ _ _ _ can (rw yes at (seen.told tells)))
 
-pub returns-in-Ok-false : goal.returns-in-Ok-false
-returns-in-Ok-false g c = λ f.
+pub returns-in-Ok-false-clause-steps : goal.returns-in-Ok-false-clause-steps
+returns-in-Ok-false-clause-steps g c = λ f.
     let seen = c.in-Ok-false.ensures in
     after_look seen.looks (c.ready_bytes.ensures f) (λ tells can. record { needs = can; cut = λ d cut. cut; done = λ d ok done. done })
+
+pub returns-in-Ok-true-clause-still : goal.returns-in-Ok-true-clause-still
+returns-in-Ok-true-clause-still g c = λ f. still_after (λ k image. HasReadyTailAt k image c.args.id c.args.size f) c.in-Ok-true.ensures.looks (c.ready_entry.ensures.still f)
+
+pub returns-in-Ok-false-clause-still : goal.returns-in-Ok-false-clause-still
+returns-in-Ok-false-clause-still g c = λ f tells has.
+    let seen = c.in-Ok-false.ensures in
+    let no : c.in-Ok-false.field-0 ≡ false = search rules in
+    absurd (no_other _ _ _ _ f has (rw no at seen.part) (rw no at (seen.other tells)))
