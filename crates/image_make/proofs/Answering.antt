@@ -1,24 +1,23 @@
 -- What the flat table answers while a folder's files are put.
-use Rattle.std.proofs.Common.{◌≡◌, ℕ, zero, suc, ◌+◌, ◌-◌, ◌<◌, ◌≤◌, List, [], ◌∷◌, ◌++◌, length, take, drop, Bool, true, false, not, ◌==◌, ◌||◌, Option, Some, None, refl, sym, ◌∙◌, ap, arith, subst, ⊎_elim}
-use Rattle.std.specs.Prelude.{find, min, replicate, unwrap_or, if◌then◌else◌}
-use Rattle.std.specs.List.{range_with_len, list_any}
+use Rattle.std.proofs.Common.{◌≡◌, ℕ, zero, suc, ◌+◌, ◌<◌, ◌≤◌, List, [], ◌∷◌, ◌++◌, length, take, drop, Bool, true, false, not, ◌==◌, Option, Some, None, refl, sym, ◌∙◌, ap, arith, subst, ⊎_elim}
+use Rattle.std.specs.Prelude.{find, min, replicate, unwrap_or}
+use Rattle.std.specs.List.{range_with_len}
 use Rattle.std.proofs.lemmas.Bool.{cases_Bool, eqb-false, ne_eqb}
 use Rattle.std.proofs.lemmas.List.{take_all, drop_all, append-nil, length-append}
 use Rattle.geometry.specs.declared.geometry.Geometry.{Geometry}
-use Rattle.table_model.specs.Table.{File, Open, State, has_id, file_of, file_named, least_id, put_file}
+use Rattle.table_model.specs.Table.{File, Open, has_id, file_of, least_id, put_file}
 use Rattle.table_model.specs.Room.{has_room}
-use Rattle.table_model.specs.Names.{name_refusal}
 use Rattle.table_model.specs.Descriptors.{open_at, put_at, lowest_closed}
-use Rattle.table_model.specs.Files.{written, with_file, with_open, created}
-use Rattle.table_model.specs.Calls.{answer_write, answer_close, write_into}
+use Rattle.table_model.specs.Files.{written, created}
+use Rattle.table_model.specs.Calls.{answer_write, answer_close}
 use Rattle.table_model.specs.Opening.{answer_open}
-use Rattle.table_model.specs.Outcome.{Outcome, gives, page_refusal}
+use Rattle.table_model.specs.Outcome.{gives, page_refusal}
 use Rattle.table_model.specs.Ask.{Opens, Writes, Closes}
 use Rattle.table_model.specs.Reply.{Fine, Tells}
 use Rattle.table_model.specs.Flat.{answer}
 use Rattle.folder_core.specs.Files.{File as FolderFile}
 use Rattle.image_make.specs.Tables.{file_as, numbered, folder_table}
-use Rattle.image_make.specs.Putting.{with_files, writer, put_state, begun_state, IsNew}
+use Rattle.image_make.specs.Putting.{writer, put_state, begun_state, IsNew}
 use Rattle.image_make.proofs.Tabling.{numbered_end, put_last, put_over, file_last}
 
 -- ---- descriptors, all closed but the first
@@ -48,7 +47,7 @@ closed_again (suc n) d = refl
 
 -- ---- the least id that no file has, where they are numbered from 1
 
-numbered_long : (g : Geometry) (id : ℕ) (files : List FolderFile) → length (numbered g id files) ≡ length files
+pub numbered_long : (g : Geometry) (id : ℕ) (files : List FolderFile) → length (numbered g id files) ≡ length files
 unfolding numbered
 numbered_long g id [] = refl
 numbered_long g id (f ∷ files) = omega (arith, numbered_long g (id + 1) files)

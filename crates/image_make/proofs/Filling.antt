@@ -1,7 +1,6 @@
 -- The first files of a folder that isn't refused: their names are new, and there is room for them.
-use Rattle.std.proofs.Common.{◌≡◌, ℕ, zero, suc, ◌+◌, ◌-◌, ◌<◌, ◌≤◌, List, [], ◌∷◌, ◌++◌, length, take, get_or, Bool, true, false, ◌||◌, Option, Some, None, refl, sym, ◌∙◌, ap, arith, ⊎_elim, subst}
+use Rattle.std.proofs.Common.{◌≡◌, ℕ, zero, suc, ◌+◌, ◌-◌, ◌<◌, ◌≤◌, List, [], ◌∷◌, ◌++◌, length, take, Bool, true, false, ◌||◌, Option, Some, None, refl, sym, ◌∙◌, ap, arith, ⊎_elim, subst}
 use Rattle.std.specs.Prelude.{is_some, nat_lt, if◌then◌else◌}
-use Rattle.std.specs.List.{range_with_len, sum_by}
 use Rattle.std.proofs.lemmas.Bool.{cases_Bool, cases_lt, leb-true, le-leb, lt-ltb, le-ltb, both_ways, true≢false}
 use Rattle.std.proofs.lemmas.Option.{none-some}
 use Rattle.std.proofs.lemmas.List.{length-take, length-map, get_or-take, map-append}
@@ -10,12 +9,12 @@ use Rattle.geometry.specs.declared.geometry.Geometry.{Geometry}
 use Rattle.geometry.specs.Numbers.{ceil, body, head_slots, span_slots, entries as entry_pages}
 use Rattle.std.specs.Cmp.Lexicographic.{other_text}
 use Rattle.table_model.specs.declared.error.FsErr.{FsErr}
-use Rattle.table_model.specs.Table.{same_text, file_named}
+use Rattle.table_model.specs.Table.{same_text}
 use Rattle.table_model.specs.Names.{name_refusal}
 use Rattle.table_model.specs.Room.{index_pages, data_pages, has_room}
 use Rattle.image_laws.proofs.Serving.{ceil-mono}
 use Rattle.folder_core.specs.Files.{Entry, File as FolderFile, entry_of, entries_of, name_at, size_at}
-use Rattle.image_make.specs.Refusals.{is_refused, is_name_of, is_bad, first_bad, first_bad_from, index_sum, data_sum, leaves_two, fits, refusal_by, make_refusal}
+use Rattle.image_make.specs.Refusals.{is_refused, accepted, is_name_of, is_bad, first_bad, first_bad_from, index_sum, data_sum, leaves_two, fits, refusal_by, make_refusal}
 use Rattle.image_make.specs.Tables.{folder_table}
 use Rattle.image_make.specs.Putting.{IsNew}
 use Rattle.image_make.proofs.Naming.{first_here, first_on, name_there}
@@ -60,7 +59,7 @@ not_refused (Some why) is = absurd (true≢false is)
 
 -- the name of a file of it is one that a file can have, and no earlier one has it
 fine_name : (g : Geometry) (entries : List Entry) (i : ℕ) → make_refusal g entries ≡ None → i < length entries → (is_refused (name_at entries i) ≡ false) × (is_name_of (name_at entries i) (take i entries) ≡ false)
-fine_name g entries i fine inside = 
+fine_name g entries i fine inside =
     let whole : length entries - 0 ≡ length entries = omega arith in
     neither _ _ (none_bad entries 0 i i (omega arith) inside (ap (λ (n : ℕ). first_bad_from entries 0 n) whole ∙ (all_fine g entries fine).0))
 
@@ -144,3 +143,7 @@ next_new g slots entries files i some fine inside front = record {
   missing = named_none g 1 (name_at entries i) files (λ k below same. unnamed g entries files i k fine inside front below same);
   room = front_room g entries files (record { name = name_at entries i; bytes = [] }) i fine inside front (omega arith);
 }
+
+-- so a file can have its name
+pub named_fine : (g : Geometry) (entries : List Entry) (i : ℕ) → make_refusal g entries ≡ None → i < length entries → accepted (name_at entries i) ≡ Some (name_at entries i)
+named_fine g entries i fine inside = rw ((fine_name g entries i fine inside).0) refl
