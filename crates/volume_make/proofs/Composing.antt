@@ -35,9 +35,9 @@ if_err (Ok x) f failed = tt {0}
 if_err (Err e) f failed = f e failed
 
 -- an error that `?` passes on
-pub passed : {T E : Type 0} {P : E → Type 0} (result : Result T E) (why : E) → IsErrAnd result (λ e. e ≡ why) → P why → IfErr result P
-passed (Ok x) why same failed = absurd same
-passed (Err e) why same failed = rw same failed
+pub passed : {T E : Type 0} (P : E → Type 0) (result : Result T E) (why : E) → IsErrAnd result (λ e. e ≡ why) → P why → IfErr result P
+passed P (Ok x) why same failed = absurd same
+passed P (Err e) why same failed = rw same failed
 
 no_files : (g : Geometry) → folder_table g [] ≡ []
 unfolding numbered
@@ -49,25 +49,25 @@ module _ {N X : Type 0} {nor : NorOf N} (folder : FolderOf X) where
   pub writes_none : (count at : ℕ) (v : Volume N nor) (d : X) → WritesFrom folder count at at v v d d
   writes_none count at v d = λ g slots begun. begun
 
-  pub writes_then : {old mid new : Volume N nor} {was some now : X} (count at middle next : ℕ) → WritesFrom folder count at middle old mid was some → WritesFrom folder count middle next mid new some now → WritesFrom folder count at next old new was now
-  writes_then count at middle next first second = λ g slots begun. second g slots (first g slots begun)
-
   pub stops_then_writing : {old mid : Volume N nor} {was some : X} (count at middle : ℕ) (why : PutErr) → WritesFrom folder count at middle old mid was some → StopsWriting folder count middle mid some why → StopsWriting folder count at old was why
   stops_then_writing count at middle why first stops = λ g slots begun. stops g slots (first g slots begun)
 
+  pub writes_more : {old mid new : Volume N nor} {was some now : X} (count at n k : ℕ) → n ≡ k → WritesFrom folder count 0 at old mid was some → WritesFrom folder count at (at + n) mid new some now → WritesFrom folder count 0 (at + k) old new was now
+  writes_more {old} {mid} {new} {was} {some} {now} count at n k is first second = λ g slots begun. subst (λ (j : ℕ). HasBegun folder g slots now count (at + j) new) is (second g slots (first g slots begun))
+
   -- a piece was read and written
-  pub puts_piece : {old new : Volume N nor} {was now : X} (result : Result (Unit {0}) PutErr) (count at n fd : ℕ) (piece : List ℕ) → n ≡ length piece → 0 < n → count < length (folder.entries was) → at + n ≤ size_at (folder.entries was) count → Kept folder was now →
+  pub puts_piece : (old new : Volume N nor) (was now : X) (result : Result (Unit {0}) PutErr) (count at n fd : ℕ) (piece : List ℕ) → n ≡ length piece → 0 < n → count < length (folder.entries was) → at + n ≤ size_at (folder.entries was) count → Kept folder was now →
       (folder.tells was → piece ≡ slice_range (bytes_at (folder.files was) count) at (at + n)) → OnOk result (DoneFrom old (Writes fd piece) new) → fd ≡ 1 → OnOk result (WritesFrom folder count at (at + n) old new was now)
-  puts_piece {old} {new} {was} {now} result count at n fd piece long some inside within kept read done first = on_ok result
+  puts_piece old new was now result count at n fd piece long some inside within kept read done first = on_ok result
       (λ (d : DoneFrom old (Writes fd piece) new). λ g slots begun.
       begun_kept folder kept g slots count (at + n) new (subst (λ (k : ℕ). HasBegun folder g slots was count (at + k) new) (sym long)
       (more_begun folder g slots count at was piece (omega (arith, some, long)) inside (omega (arith, within, long)) (λ tells. read tells ∙ ap (λ (k : ℕ). slice_range (bytes_at (folder.files was) count) at (at + k)) long)
       (subst (λ (k : ℕ). DoneFrom old (Writes k piece) new) first d) begun)))
       done
 
-  pub stops_piece : {old : Volume N nor} {was : X} (result : Result (Unit {0}) PutErr) (count at n fd : ℕ) (piece : List ℕ) → n ≡ length piece → 0 < n → count < length (folder.entries was) → at + n ≤ size_at (folder.entries was) count →
+  pub stops_piece : (old : Volume N nor) (was : X) (result : Result (Unit {0}) PutErr) (count at n fd : ℕ) (piece : List ℕ) → n ≡ length piece → 0 < n → count < length (folder.entries was) → at + n ≤ size_at (folder.entries was) count →
       IfErr result (UndoneFrom old (Writes fd piece)) → fd ≡ 1 → IfErr result (StopsWriting folder count at old was)
-  stops_piece {old} {was} result count at n fd piece long some inside within undone first = if_err result
+  stops_piece old was result count at n fd piece long some inside within undone first = if_err result
       (λ why (u : UndoneFrom old (Writes fd piece) why). λ g slots begun.
       unwritten folder g slots count at was piece why (omega (arith, some, long)) inside (omega (arith, within, long)) (subst (λ (k : ℕ). UndoneFrom old (Writes k piece) why) first u) begun)
       undone
@@ -95,6 +95,19 @@ module _ {N X : Type 0} {nor : NorOf N} (folder : FolderOf X) where
       let b = next_begun folder g slots count fd was name named inside begins put in
       let w = writes b.0 g slots b.1 in
       unclosed folder g slots count size now why (stops b.0) w
+
+  -- how its closing ended
+  pub ends_file : (old opened written new : Volume N nor) (was now : X) (result : Result (Unit {0}) PutErr) (count size fd : ℕ) (name : List ℕ) → count < length (folder.entries was) → size ≡ size_at (folder.entries was) count → Kept folder was now → (folder.tells now → folder.entries now ≡ entries_of (folder.files now)) →
+      BeginsFrom name old opened fd → (fd ≡ 1 → WritesFrom folder count 0 size opened written was now) → OnOk result (DoneFrom written (Closes fd) new) → name ≡ name_at (folder.entries was) count → OnOk result (PutsFrom folder count (count + 1) old new was now)
+  ends_file old opened written new was now result count size fd name inside is kept listed begins writes done named = on_ok result
+      (λ (d : DoneFrom written (Closes fd) new). puts_file count size fd name named inside is kept listed begins writes (λ first. subst (λ (k : ℕ). DoneFrom written (Closes k) new) first d))
+      done
+
+  pub fails_file : (old opened written : Volume N nor) (was now : X) (result : Result (Unit {0}) PutErr) (count size fd : ℕ) (name : List ℕ) → count < length (folder.entries was) →
+      BeginsFrom name old opened fd → (fd ≡ 1 → WritesFrom folder count 0 size opened written was now) → IfErr result (UndoneFrom written (Closes fd)) → name ≡ name_at (folder.entries was) count → IfErr result (FailsFrom folder count old was)
+  fails_file old opened written was now result count size fd name inside begins writes undone named = if_err result
+      (λ why (u : UndoneFrom written (Closes fd) why). fails_closing count size fd name why named inside begins writes (λ first. subst (λ (k : ℕ). UndoneFrom written (Closes k) why) first u))
+      undone
 
   -- ---- the folder was looked at before
 
