@@ -1,14 +1,13 @@
 -- Files after files of a folder, each in pieces.
-use Rattle.std.proofs.Common.{◌≡◌, ℕ, ◌+◌, ◌<◌, ◌≤◌, List, [], length, take, Option, Some, None, Result, Ok, Err, ◌⊎◌, inl, inr, refl, sym, ◌∙◌, ap, subst, arith}
-use Rattle.std.specs.Prelude.{OnOk, IfErr, slice_range}
+use Rattle.std.proofs.Common.{◌≡◌, ℕ, ◌+◌, ◌<◌, ◌≤◌, List, [], length, take, Option, Some, None, Result, Ok, Err, refl, sym, ◌∙◌, ap, subst, arith}
+use Rattle.std.specs.Prelude.{OnOk, IfOk, IfErr, slice_range}
 use Rattle.std.specs.Result.{IsErrAnd}
-use Rattle.std.proofs.lemmas.Option.{none-some, same_Some}
+use Rattle.std.proofs.lemmas.Option.{none-some}
 use Rattle.std.proofs.lemmas.List.{length-map, take_all}
 use Rattle.geometry.specs.declared.geometry.Geometry.{Geometry}
 use Rattle.nor_core.specs.declared.state.NorState.{Ghosts as NorOf}
 use Rattle.table_model.specs.declared.reply.Info.{Info}
 use Rattle.table_model.specs.Table.{File}
-use Rattle.table_model.specs.Calls.{info_of}
 use Rattle.table_model.specs.Ask.{Writes, Closes}
 use Rattle.folder_core.specs.Files.{Entry, File as FolderFile, entry_of, entries_of, name_at, size_at, bytes_at}
 use Rattle.folder_core.specs.Puts.{Kept}
@@ -19,10 +18,11 @@ use Rattle.image_make.specs.Refusals.{accepted, make_refusal, index_sum, data_su
 use Rattle.image_make.specs.Tables.{numbered, folder_table}
 use Rattle.image_make.specs.Putting.{with_files, put_state}
 use Rattle.image_make.proofs.Tabling.{index_is, data_is}
+use Rattle.image_make.proofs.Naming.{accepted_is}
 use Rattle.image_make.proofs.Filling.{named_fine}
 use Rattle.image_make.proofs.Answering.{numbered_long}
 use Rattle.volume_make.specs.declared.put_err.PutErr.{PutErr}
-use Rattle.volume_make.specs.Making.{IsFault, HasPut, HasBegun, IsMade, IsMadeFrom, OnlyFailsFrom, PutsFrom, FailsFrom, WritesFrom, StopsWriting, BeginsFrom, StopsBeginning, DoneFrom, UndoneFrom, TellsFrom, StopsTelling}
+use Rattle.volume_make.specs.Making.{HasPut, HasBegun, IsMadeFrom, OnlyFailsFrom, PutsFrom, FailsFrom, WritesFrom, StopsWriting, BeginsFrom, StopsBeginning, DoneFrom, UndoneFrom, TellsFrom, StopsTelling}
 use Rattle.volume_make.proofs.Making.{put_kept, begun_kept, next_begun, unbegun, more_begun, unwritten, next_put, unclosed}
 
 -- what follows where a call is done, or where it fails
@@ -34,10 +34,18 @@ pub if_err : {T E : Type 0} {P Q : E → Type 0} (result : Result T E) → ((e :
 if_err (Ok x) f failed = tt {0}
 if_err (Err e) f failed = f e failed
 
+pub if_ok : {T E : Type 0} {P Q : T → Type 0} (result : Result T E) → ((x : T) → P x → Q x) → IfOk result P → IfOk result Q
+if_ok (Ok x) f done = f x done
+if_ok (Err e) f done = tt {0}
+
 -- an error that `?` passes on
 pub passed : {T E : Type 0} (P : E → Type 0) (result : Result T E) (why : E) → IsErrAnd result (λ e. e ≡ why) → P why → IfErr result P
 passed P (Ok x) why same failed = absurd same
 passed P (Err e) why same failed = rw same failed
+
+-- the name of a file that was read, where the folder stays
+pub named_by : (entries same : List Entry) (i : ℕ) (found : Option (List ℕ)) (name slice : List ℕ) → same ≡ entries → found ≡ accepted (name_at entries i) → found ≡ Some name → slice ≡ name → slice ≡ name_at same i
+named_by entries same i found name slice kept told is same_name = same_name ∙ (accepted_is (name_at entries i) name (sym told ∙ is)).1 ∙ ap (λ (l : List Entry). name_at l i) (sym kept)
 
 no_files : (g : Geometry) → folder_table g [] ≡ []
 unfolding numbered

@@ -1,15 +1,13 @@
 -- Steps of putting a folder's files onto a volume.
-use Rattle.std.proofs.Common.{◌≡◌, ℕ, zero, suc, ◌+◌, ◌-◌, ◌<◌, ◌≤◌, List, [], ◌∷◌, ◌++◌, length, take, drop, map, get_or, Bool, true, false, Option, Some, None, ◌⊎◌, inl, inr, refl, sym, ◌∙◌, ap, subst, arith, ⊎_elim}
-use Rattle.std.specs.Prelude.{slice_range, is_some, if◌then◌else◌}
+use Rattle.std.proofs.Common.{◌≡◌, ℕ, ◌+◌, ◌-◌, ◌<◌, ◌≤◌, List, [], ◌∷◌, ◌++◌, length, take, drop, get_or, true, Option, Some, None, inr, refl, sym, ◌∙◌, ap, subst, arith}
+use Rattle.std.specs.Prelude.{slice_range}
 use Rattle.std.proofs.lemmas.Option.{none-some, same_Some}
-use Rattle.std.proofs.lemmas.List.{length-append, length-map, length-take, take_all, take_more, take-take, drop-take, take-append-drop, get_or-map, map-append}
+use Rattle.std.proofs.lemmas.List.{length-append, length-map, take_all, take_more, take-take, drop-take, take-append-drop, get_or-map, map-append}
 use Rattle.geometry.specs.declared.geometry.Geometry.{Geometry}
 use Rattle.nor_core.specs.declared.state.NorState.{Ghosts as NorOf}
 use Rattle.table_model.specs.declared.reply.Info.{Info}
 use Rattle.table_model.specs.Table.{State}
 use Rattle.table_model.specs.Calls.{info_of}
-use Rattle.table_model.specs.Room.{index_count, data_count}
-use Rattle.table_model.specs.Names.{name_refusal}
 use Rattle.table_model.specs.Outcome.{Outcome}
 use Rattle.table_model.specs.Ask.{Ask, Opens, Writes, Closes, Informs}
 use Rattle.table_model.specs.Reply.{Answer, Tells, Counts, Refuses}
@@ -23,15 +21,13 @@ use Rattle.volume.specs.declared.volume.Volume.{Volume}
 use Rattle.volume_run.specs.Ready.{IsReady, IsAnsweredFrom, IsOpenedFrom, opened}
 use Rattle.volume_run.specs.Stops.{StopsFrom}
 use Rattle.volume_run.specs.declared.asking.Stop.{Stop}
-use Rattle.image_make.specs.Refusals.{accepted, make_refusal, index_sum, data_sum}
-use Rattle.image_make.specs.Tables.{numbered, folder_table}
-use Rattle.image_make.specs.Putting.{with_files, put_state, begun_state, IsNew}
-use Rattle.image_make.proofs.Tabling.{index_is, data_is}
+use Rattle.image_make.specs.Refusals.{make_refusal}
+use Rattle.image_make.specs.Putting.{put_state, begun_state, IsNew}
 use Rattle.image_make.proofs.Filling.{front_room, next_new}
-use Rattle.image_make.proofs.Answering.{longer, numbered_long, answer_begin, answer_more, answer_end}
+use Rattle.image_make.proofs.Answering.{longer, answer_begin, answer_more, answer_end}
 use Rattle.volume_make.specs.declared.put_err.PutErr.{PutErr}
-use Rattle.volume_make.specs.declared.put_err.PutErr.TheVariants.{Folder, Stopped}
-use Rattle.volume_make.specs.Making.{IsFault, HasPut, HasBegun, IsMade, IsMadeFrom, OnlyFailsFrom, PutsFrom, FailsFrom, WritesFrom, StopsWriting, BeginsFrom, StopsBeginning, DoneFrom, UndoneFrom, TellsFrom, StopsTelling}
+use Rattle.volume_make.specs.declared.put_err.PutErr.TheVariants.{Stopped}
+use Rattle.volume_make.specs.Making.{IsFault, HasPut, HasBegun, BeginsFrom, StopsBeginning, DoneFrom, UndoneFrom, TellsFrom, StopsTelling}
 
 -- ---- lists
 
@@ -158,17 +154,19 @@ module _ {N X : Type 0} {nor : NorOf N} (folder : FolderOf X) where
       (fd ≡ 1) × HasBegun folder g slots d count 0 new
   next_begun {old} {new} g slots count fd d name named inside begins put =
       let fresh = subst (λ (l : List ℕ). IsNew g slots put.files l) (sym named) (next_new g slots (folder.entries d) put.files count put.some put.fine inside put.entries) in
-      let b = begins g slots put.files fresh put.ready in
-      (b.0, record {
-        some = put.some;
-        fine = put.fine;
-        files = put.files;
-        bytes = [];
-        entries = put.entries;
-        many = refl;
-        told = λ tells. (put.told tells, refl);
-        ready = subst (λ (l : List ℕ). IsReady g new (begun_state g slots put.files (record { name = l; bytes = [] }))) named b.1;
-      })
+      let b = begins g slots put.files fresh put.ready in (
+        b.0,
+        record {
+          some = put.some;
+          fine = put.fine;
+          files = put.files;
+          bytes = [];
+          entries = put.entries;
+          many = refl;
+          told = λ tells. (put.told tells, refl);
+          ready = subst (λ (l : List ℕ). IsReady g new (begun_state g slots put.files (record { name = l; bytes = [] }))) named b.1;
+        },
+      )
 
   pub unbegun : {old : Volume N nor} (g : Geometry) (slots count : ℕ) (d : X) (name : List ℕ) (why : PutErr) → name ≡ name_at (folder.entries d) count → count < length (folder.entries d) → StopsBeginning name old why → HasPut folder g slots d count old → IsFault why
   unbegun g slots count d name why named inside stops put =

@@ -1,8 +1,8 @@
-use Rattle.std.proofs.Common.{◌≡◌, ◌∙◌, length, arith, ℕ, subst}
+use Rattle.std.proofs.Common.{arith}
 use Rattle.std.proofs.lemmas.List.{length-take-le}
 use Rattle.image_make.proofs.Keeping.{kept_then}
 use Rattle.volume_run.proofs.Moving.{moved_then}
-use Rattle.volume_make.specs.Making.{StopsWriting, WritesFrom}
+use Rattle.volume_make.specs.Making.{StopsWriting}
 use Rattle.volume_make.proofs.Composing.{passed, writes_more, stops_then_writing}
 use Rattle.volume_make.proofs.pieces.put_pieces.Goals as goal
 
