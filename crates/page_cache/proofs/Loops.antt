@@ -68,10 +68,10 @@ module _ (g : Geometry) (R : List ℕ → List ℕ → Type 0) (steady : Steady 
   pub followed_findable : (now : List ℕ) (q : ℕ) → frame_count g now ≡ frame_count g old → 0 < frame_count g old → (used_to g old ≡ 0) ⊎ ((a b : List ℕ) → R a b → number_of b ≡ number_of a) → Followed g R old now q → IsFindable g old → IsFindable g now
   followed_findable now q same some strict was findable =
       let each : (f : ℕ) → f < frame_count g old → R (frame_at g old f) (frame_at g now f) ⊎ (frame_at g now f ≡ frame_at g old f) = λ f below. ⊎_elim
-          (λ used. ⊎_elim (λ under. inl (was.done f below used under)) (λ above. inr (was.rest f (λ u. above))) (lt_or_le (page_in g old f) q))
-          (λ unused. inr (was.rest f (λ used. omega (arith, used, unused)))) (lt_or_le (page_in g old f) (page_count g)) in
+      (λ used. ⊎_elim (λ under. inl (was.done f below used under)) (λ above. inr (was.rest f (λ u. above))) (lt_or_le (page_in g old f) q))
+      (λ unused. inr (was.rest f (λ used. omega (arith, used, unused)))) (lt_or_le (page_in g old f) (page_count g)) in
       let heads : (f : ℕ) → f < frame_count g old → SameHead (frame_at g old f) (frame_at g now f) = λ f below. ⊎_elim
-          (λ made. steady.head _ _ made) (λ same. subst (SameHead (frame_at g old f)) (sym same) (record { since = refl; until = refl; used = refl })) (each f below) in
+      (λ made. steady.head _ _ made) (λ same. subst (SameHead (frame_at g old f)) (sym same) (record { since = refl; until = refl; used = refl })) (each f below) in
       findable_still g old now same
       (λ f below. ⊎_elim (λ made. steady.number _ _ made) (λ same. inl (ap number_of same)) (each f below))
       (λ h below x low high. (omega (arith, (heads h below).since, low), omega (arith, (heads h below).until, high)))

@@ -15,6 +15,7 @@ const FREE: u16 = 0xFFFF;
 
 // Where a frame tells from which frame on, and before which, pages stand whose home it is and that aren't there.
 const SINCE: usize = 2;
+
 const UNTIL: usize = 4;
 
 // Where the first frame tells below which frame none is free.
@@ -72,7 +73,10 @@ pub(crate) fn strays(frame: &[u8]) -> (usize, usize)
     ensures since { result.0 ≡ word_in frame.now 2 }
     ensures until { result.1 ≡ word_in frame.now 4 }
 {
-    (usize::from(word(frame, SINCE)), usize::from(word(frame, UNTIL)))
+    (
+        usize::from(word(frame, SINCE)),
+        usize::from(word(frame, UNTIL)),
+    )
 }
 
 // Below which frame none is free, as the first frame tells it.

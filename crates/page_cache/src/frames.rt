@@ -8,7 +8,9 @@ ghost use Rattle.std.specs.Prelude.{◌≡◌, ℕ, ◌+◌, ◌*◌, ◌%◌, �
 ghost use Rattle.geometry.specs.Numbers.{page_count, cache_need};
 ghost use Rattle.page_cache.specs.Frames.{frame_size, frame_count as the_frame_count, frame_at, number_of as the_number_of, page_in, holds, home_of, used_to, AllInUse, IsFindable, IsNear, Widened, Bounded, AreSameCopies, GoesWithProgram, GoesWithErase, GivenUp, IsFree, EachFrame, EachPage, OnePage};
 
-use crate::frame::{HEAD, bound, empty, erase_copy, give_up_met, number_of, program_copy, strays, used, widen};
+use crate::frame::{
+    HEAD, bound, empty, erase_copy, give_up_met, number_of, program_copy, strays, used, widen,
+};
 use geometry::Geometry;
 
 // Bytes of a frame.

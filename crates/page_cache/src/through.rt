@@ -9,7 +9,9 @@ ghost use Rattle.page_cache.specs.Frames.{frame_size, frame_count as the_frame_c
 ghost use Rattle.page_cache.specs.Kept.{IsKept, FewReads, Stays};
 
 use crate::frame::{HEAD, fill};
-use crate::frames::{bound_all, erase_all, find, frame, frame_len, give_up_all, pick, program_all, start_of};
+use crate::frames::{
+    bound_all, erase_all, find, frame, frame_len, give_up_all, pick, program_all, start_of,
+};
 use geometry::Geometry;
 use nor_core::{Failed, Mark, Nor, NorState};
 

@@ -70,7 +70,7 @@ returns-in-Err-clause-stays g c =
     let second = count_same me c.pick-f.new.frames c.load_frame.new.frames c.load_frame.auto.frames in
     let third = count_same me c.load_frame.new.frames c.bound_all.new.frames c.bound_all.auto.frames in
     let numbers : (h : ℕ) → h ≢ c.pick-f.result → page_in me c.bound_all.new.frames h ≡ page_in me c.args.frames.now h =
-      λ h ne. lost_number me c.pick-f.new.frames c.load_frame.new.frames c.bound_all.new.frames second third c.pick-f.result c.load_frame.ensures.others c.load_frame.ensures.head c.in-Err.ensures.free c.bound_all.ensures.here c.bound_all.ensures.others h ne ∙ (c.pick-f.ensures.copies h).number in
+    λ h ne. lost_number me c.pick-f.new.frames c.load_frame.new.frames c.bound_all.new.frames second third c.pick-f.result c.load_frame.ensures.others c.load_frame.ensures.head c.in-Err.ensures.free c.bound_all.ensures.here c.bound_all.ensures.others h ne ∙ (c.pick-f.ensures.copies h).number in
     ⊎_elim (λ all. inl (record { full = all; gone = page_in me c.args.frames.now c.pick-f.result; others = keeps_others me c.args.frames.now c.bound_all.new.frames c.pick-f.result (third ∙ second ∙ first) numbers }))
     (λ free. inr (keeps_but me c.args.frames.now c.bound_all.new.frames c.pick-f.result (third ∙ second ∙ first) free numbers))
     c.pick-f.ensures.free
