@@ -34,8 +34,8 @@ fn accept(name: &[u8]) -> Option<Name>
     Some(Name::from_slice(name))
 }
 
-/// The name of file `i` of a folder, if a file of a volume can have it.
-pub(crate) fn name_of<F: Folder>(folder: &mut F, i: u32) -> Result<Option<Name>, Failed>
+/// The name of file `i` of a folder, counted from 0, if a file of a volume can have it.
+pub fn name_of<F: Folder>(folder: &mut F, i: u32) -> Result<Option<Name>, Failed>
     requires inside { i < length (F.entries folder.old) }
     ensures name { IfOk result (λ name. name ≡ accepted (name_at (F.entries folder.old) i)) }
     ensures cause { OnErr result (Rose (F.faults folder.old) (F.faults folder.new)) }
