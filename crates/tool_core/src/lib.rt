@@ -20,5 +20,6 @@ mod tool;
 mod words;
 
 pub use buffers::Buffers;
+pub use plan::is_accepted;
 pub use tool::spiffs_tool;
 pub use words::{chip_size_of, unit_of};
