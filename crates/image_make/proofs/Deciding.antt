@@ -1,5 +1,5 @@
 -- Refusals of a folder, by the first bad name and by room.
-use Rattle.std.proofs.Common.{◌≡◌, ℕ, List, Bool, true, false, Option, Some, None, Result, Ok, Err, refl, sym, ◌∙◌, ap}
+use Rattle.std.proofs.Common.{◌≡◌, ℕ, List, Bool, true, false, Option, Some, None, Result, Ok, Err, sym, ◌∙◌, ap}
 use Rattle.std.specs.Prelude.{IfOk, if◌then◌else◌}
 use Rattle.geometry.specs.declared.geometry.Geometry.{Geometry}
 use Rattle.folder_core.specs.Files.{Entry}

@@ -3,3 +3,5 @@ pub mod Naming
 pub mod Summing
 pub mod Deciding
 pub mod Tabling
+pub mod Filling
+pub mod Answering

@@ -1,17 +1,15 @@
 -- Names of a folder's files.
-use Rattle.std.proofs.Common.{◌≡◌, ℕ, suc, ◌+◌, ◌-◌, ◌<◌, ◌≤◌, List, [], length, take, get_or, min, Bool, true, false, ◌||◌, Option, Some, None, refl, sym, ◌∙◌, ap, arith, ⊎_elim}
-use Rattle.std.specs.Prelude.{find, is_some, if◌then◌else◌}
-use Rattle.std.specs.List.{range_with_len}
+use Rattle.std.proofs.Common.{◌≡◌, ℕ, suc, ◌+◌, ◌-◌, ◌<◌, ◌≤◌, List, [], length, take, min, Bool, true, false, ◌||◌, Some, None, refl, sym, ◌∙◌, ap, arith, ⊎_elim}
+use Rattle.std.specs.Prelude.{if◌then◌else◌}
 use Rattle.std.specs.Cmp.Lexicographic.{same_text as text_same}
 use Rattle.std.proofs.lemmas.Bool.{cases_Bool, lt-ltb}
 use Rattle.std.proofs.lemmas.Option.{none-some, same_Some}
 use Rattle.std.proofs.lemmas.List.{take_all, length-take, get_or-take}
 use Rattle.std.proofs.lemmas.List.Folds.{list_any_more, list_any_at}
-use Rattle.table_model.specs.declared.error.FsErr.TheVariants.{BadName, NameTooLong}
 use Rattle.table_model.specs.Table.{same_text}
 use Rattle.table_model.specs.Names.{is_bad_name, name_refusal}
 use Rattle.folder_core.specs.Files.{Entry, name_at}
-use Rattle.image_make.specs.Refusals.{is_refused, accepted, is_name_of, is_bad, first_bad, first_bad_from}
+use Rattle.image_make.specs.Refusals.{is_refused, accepted, is_name_of, is_bad, first_bad_from}
 
 abbrev no_entry : Entry
 no_entry = record { name = []; size = 0 }

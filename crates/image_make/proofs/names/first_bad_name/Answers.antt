@@ -1,4 +1,4 @@
-use Rattle.std.proofs.Common.{◌<◌, ◌≡◌, length, List, arith, sym, ap, ◌∙◌}
+use Rattle.std.proofs.Common.{List, arith, sym, ap, ◌∙◌}
 use Rattle.folder_core.specs.Files.{Entry}
 use Rattle.image_make.specs.Refusals.{is_bad}
 use Rattle.image_make.proofs.Keeping.{kept_then}

@@ -1,4 +1,4 @@
-use Rattle.std.proofs.Common.{◌<◌, ◌≡◌, length, List, arith, sym, ap, ◌∙◌}
+use Rattle.std.proofs.Common.{List, arith, sym, ap, ◌∙◌}
 use Rattle.table_model.specs.Table.{same_text}
 use Rattle.folder_core.specs.Files.{Entry, name_at}
 use Rattle.image_make.proofs.Keeping.{kept_none, kept_then}

@@ -1,4 +1,4 @@
-use Rattle.std.proofs.Common.{◌≡◌, sym, ap, ◌∙◌}
+use Rattle.std.proofs.Common.{sym, ap, ◌∙◌}
 use Rattle.image_make.specs.Refusals.{first_bad}
 use Rattle.image_make.proofs.Deciding.{by_name, by_room}
 use Rattle.image_make.proofs.refusing.refusal_of.Goals as goal

@@ -1,4 +1,4 @@
-use Rattle.std.proofs.Common.{◌≡◌, sym, ◌∙◌}
+use Rattle.std.proofs.Common.{sym, ◌∙◌}
 use Rattle.image_make.proofs.Deciding.{has_some, has_none}
 use Rattle.image_make.proofs.refusing.room_refusal.Goals as goal
 

@@ -1,4 +1,4 @@
-use Rattle.std.proofs.Common.{◌<◌, ◌≡◌, length, arith, sym}
+use Rattle.std.proofs.Common.{◌<◌, length, arith, sym}
 use Rattle.image_make.proofs.Keeping.{kept_none, kept_then}
 use Rattle.image_make.proofs.Summing.{index_none, data_none, index_step, data_step}
 use Rattle.image_make.proofs.sizes.all_pages.Goals as goal

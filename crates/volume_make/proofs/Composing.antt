@@ -1,0 +1,127 @@
+-- Files after files of a folder, each in pieces.
+use Rattle.std.proofs.Common.{◌≡◌, ℕ, ◌+◌, ◌<◌, ◌≤◌, List, [], length, take, Option, Some, None, Result, Ok, Err, ◌⊎◌, inl, inr, refl, sym, ◌∙◌, ap, subst, arith}
+use Rattle.std.specs.Prelude.{IfErr}
+use Rattle.std.specs.Result.{IsErrAnd}
+use Rattle.std.proofs.lemmas.Option.{none-some, same_Some}
+use Rattle.std.proofs.lemmas.List.{length-map, take_all}
+use Rattle.geometry.specs.declared.geometry.Geometry.{Geometry}
+use Rattle.nor_core.specs.declared.state.NorState.{Ghosts as NorOf}
+use Rattle.table_model.specs.declared.reply.Info.{Info}
+use Rattle.table_model.specs.Table.{File}
+use Rattle.table_model.specs.Calls.{info_of}
+use Rattle.folder_core.specs.Files.{Entry, File as FolderFile, entry_of, entries_of, name_at, size_at}
+use Rattle.folder_core.specs.Puts.{Kept}
+use Rattle.folder_core.specs.declared.state.FolderState.{Ghosts as FolderOf}
+use Rattle.volume.specs.declared.volume.Volume.{Volume}
+use Rattle.volume_run.specs.Ready.{IsReady}
+use Rattle.image_make.specs.Refusals.{accepted, make_refusal, index_sum, data_sum}
+use Rattle.image_make.specs.Tables.{numbered, folder_table}
+use Rattle.image_make.specs.Putting.{with_files, put_state}
+use Rattle.image_make.proofs.Tabling.{index_is, data_is}
+use Rattle.image_make.proofs.Filling.{named_fine}
+use Rattle.image_make.proofs.Answering.{numbered_long}
+use Rattle.volume_make.specs.declared.put_err.PutErr.{PutErr}
+use Rattle.volume_make.specs.Making.{IsFault, HasPut, HasBegun, IsMade, IsMadeFrom, OnlyFailsFrom, PutsFrom, FailsFrom, WritesFrom, StopsWriting, BeginsFrom, StopsBeginning, ClosesFrom, StopsClosing, TellsFrom, StopsTelling}
+use Rattle.volume_make.proofs.Making.{put_kept, begun_kept, next_begun, unbegun, next_put}
+
+module _ {N X : Type 0} {nor : NorOf N} (folder : FolderOf X) where
+  -- ---- pieces of a file
+
+  pub writes_none : (count at : ℕ) (v : Volume N nor) (d : X) → WritesFrom folder count at at v v d d
+  writes_none count at v d = λ g slots begun. begun
+
+  pub writes_then : {old mid new : Volume N nor} {was some now : X} (count at middle next : ℕ) → WritesFrom folder count at middle old mid was some → WritesFrom folder count middle next mid new some now → WritesFrom folder count at next old new was now
+  writes_then count at middle next first second = λ g slots begun. second g slots (first g slots begun)
+
+  pub stops_then_writing : {old mid : Volume N nor} {was some : X} (count at middle : ℕ) (why : PutErr) → WritesFrom folder count at middle old mid was some → StopsWriting folder count middle mid some why → StopsWriting folder count at old was why
+  stops_then_writing count at middle why first stops = λ g slots begun. stops g slots (first g slots begun)
+
+  -- ---- one file
+
+  pub puts_file : {old opened written new : Volume N nor} {was now : X} (count size fd : ℕ) (name : List ℕ) → name ≡ name_at (folder.entries was) count → count < length (folder.entries was) → size ≡ size_at (folder.entries was) count → Kept folder was now → (folder.tells now → folder.entries now ≡ entries_of (folder.files now)) →
+      BeginsFrom name old opened fd → (fd ≡ 1 → WritesFrom folder count 0 size opened written was now) → (fd ≡ 1 → ClosesFrom written new) → PutsFrom folder count (count + 1) old new was now
+  puts_file {old} {opened} {written} {new} {was} {now} count size fd name named inside is kept listed begins writes closes = λ g slots put.
+      let b = next_begun folder g slots count fd was name named inside begins put in
+      let w = writes b.0 g slots b.1 in
+      next_put folder g slots count size now (omega (arith, inside, ap (λ (l : List Entry). length l) kept.entries)) (is ∙ ap (λ (l : List Entry). size_at l count) (sym kept.entries)) listed (closes b.0) w
+
+  pub fails_opening : {old : Volume N nor} {was : X} (count : ℕ) (name : List ℕ) (why : PutErr) → name ≡ name_at (folder.entries was) count → count < length (folder.entries was) → StopsBeginning name old why → FailsFrom folder count old was why
+  fails_opening {old} {was} count name why named inside stops = λ g slots put. unbegun folder g slots count was name why named inside stops put
+
+  pub fails_writing : {old opened : Volume N nor} {was : X} (count fd : ℕ) (name : List ℕ) (why : PutErr) → name ≡ name_at (folder.entries was) count → count < length (folder.entries was) → BeginsFrom name old opened fd → (fd ≡ 1 → StopsWriting folder count 0 opened was why) → FailsFrom folder count old was why
+  fails_writing {old} {opened} {was} count fd name why named inside begins stops = λ g slots put.
+      let b = next_begun folder g slots count fd was name named inside begins put in
+      stops b.0 g slots b.1
+
+  pub fails_closing : {old opened written : Volume N nor} {was now : X} (count size fd : ℕ) (name : List ℕ) (why : PutErr) → name ≡ name_at (folder.entries was) count → count < length (folder.entries was) →
+      BeginsFrom name old opened fd → (fd ≡ 1 → WritesFrom folder count 0 size opened written was now) → (fd ≡ 1 → StopsClosing written why) → FailsFrom folder count old was why
+  fails_closing {old} {opened} {written} {was} {now} count size fd name why named inside begins writes stops = λ g slots put.
+      let b = next_begun folder g slots count fd was name named inside begins put in
+      let w = writes b.0 g slots b.1 in
+      stops b.0 g slots w.files _ w.some w.ready
+
+  -- ---- the folder was looked at before
+
+  pub puts_kept : {old new : Volume N nor} {was some now : X} (count next : ℕ) → Kept folder was some → PutsFrom folder count next old new some now → PutsFrom folder count next old new was now
+  puts_kept {old} count next kept puts = λ g slots put. puts g slots (put_kept folder kept g slots count old put)
+
+  pub fails_kept : {old : Volume N nor} {was some : X} (count : ℕ) (why : PutErr) → Kept folder was some → FailsFrom folder count old some why → FailsFrom folder count old was why
+  fails_kept {old} count why kept fails = λ g slots put. fails g slots (put_kept folder kept g slots count old put)
+
+  -- its name is one that a file can have
+  pub never_unnamed : {old : Volume N nor} {was : X} (count : ℕ) (why : PutErr) → None ≡ accepted (name_at (folder.entries was) count) → count < length (folder.entries was) → FailsFrom folder count old was why
+  never_unnamed {old} {was} count why none inside = λ g slots put. absurd (none-some (name_at (folder.entries was) count) (none ∙ named_fine g (folder.entries was) count put.fine inside))
+
+  -- ---- files after files
+
+  pub puts_none : (count : ℕ) (v : Volume N nor) (d : X) → PutsFrom folder count count v v d d
+  puts_none count v d = λ g slots put. put
+
+  pub puts_then : {old mid new : Volume N nor} {was some now : X} (first middle last : ℕ) → PutsFrom folder first middle old mid was some → PutsFrom folder middle last mid new some now → PutsFrom folder first last old new was now
+  puts_then first middle last one two = λ g slots put. two g slots (one g slots put)
+
+  pub fails_then : {old mid : Volume N nor} {was some : X} (first middle : ℕ) (why : PutErr) → PutsFrom folder first middle old mid was some → FailsFrom folder middle mid some why → FailsFrom folder first old was why
+  fails_then first middle why puts fails = λ g slots put. fails g slots (puts g slots put)
+
+  -- ---- all files
+
+  no_files : (g : Geometry) → folder_table g [] ≡ []
+  unfolding numbered
+  no_files g = refl
+
+  none_put : (g : Geometry) (slots : ℕ) (d : X) (v : Volume N nor) → 0 < slots → make_refusal g (folder.entries d) ≡ None → IsReady g v (with_files slots []) → HasPut folder g slots d 0 v
+  none_put g slots d v some fine ready = record {
+    some = some;
+    fine = fine;
+    files = [];
+    entries = refl;
+    told = λ tells. refl;
+    ready = subst (λ (l : List File). IsReady g v (with_files slots l)) (sym (no_files g)) ready;
+  }
+
+  pub makes : {old mid new : Volume N nor} {was some now : X} (count : ℕ) (info : Info) → Kept folder was some → Kept folder some now → count ≡ length (folder.entries was) → (folder.tells was → folder.entries was ≡ entries_of (folder.files was)) →
+      PutsFrom folder 0 count old mid some now → TellsFrom mid new info → IsMadeFrom folder old was new info
+  makes {old} {mid} {new} {was} {some} {now} count info kept kept_on all listed puts tells = λ g slots open fine ready.
+      let put = puts g slots (put_kept folder kept g slots 0 old (none_put g slots was old open fine ready)) in
+      let told = tells g (put_state g slots put.files) put.ready in
+      let same : folder.entries now ≡ folder.entries was = kept_on.entries ∙ kept.entries in
+      let whole : entries_of put.files ≡ folder.entries was = put.entries ∙ ap (λ (l : List Entry). take count l) same ∙ take_all count (folder.entries was) (omega (arith, all)) in
+      record {
+        files = put.files;
+        entries = whole;
+        told = λ tells. let same_files : folder.files now ≡ folder.files was = kept_on.files ∙ kept.files in
+            put.told (kept_on.told (kept.told tells)) ∙ ap (λ (l : List FolderFile). take count l) same_files
+            ∙ take_all count (folder.files was) (omega (arith, all, ap (λ (l : List Entry). length l) (listed tells), length-map (folder.files was) entry_of));
+        ready = told.1;
+        files_are = ap (λ (i : Info). i.files) told.0 ∙ numbered_long g 1 put.files ∙ sym (length-map put.files entry_of) ∙ ap (λ (l : List Entry). length l) whole;
+        index_is = ap (λ (i : Info). i.index_pages) told.0 ∙ index_is g 1 put.files ∙ ap (index_sum g) whole;
+        data_is = ap (λ (i : Info). i.data_pages) told.0 ∙ data_is g 1 put.files ∙ ap (data_sum g) whole;
+      }
+
+  pub only_fails : {old : Volume N nor} {was some : X} (why : PutErr) → Kept folder was some → FailsFrom folder 0 old some why → OnlyFailsFrom folder old was why
+  only_fails {old} {was} why kept fails = λ g slots open fine ready. fails g slots (put_kept folder kept g slots 0 old (none_put g slots was old open fine ready))
+
+  pub only_fails_telling : {old mid : Volume N nor} {was some now : X} (count : ℕ) (why : PutErr) → Kept folder was some → PutsFrom folder 0 count old mid some now → StopsTelling mid why → OnlyFailsFrom folder old was why
+  only_fails_telling {old} {mid} {was} count why kept puts stops = λ g slots open fine ready.
+      let put = puts g slots (put_kept folder kept g slots 0 old (none_put g slots was old open fine ready)) in
+      stops g (put_state g slots put.files) put.ready
