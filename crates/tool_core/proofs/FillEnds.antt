@@ -64,6 +64,14 @@ module _ {N : Type 0} {nor : NorOf N} {old new : Volume N nor} {last : Result (U
 
 -- ---- what is said
 
+module _ {D : Type 0} {nor : NorOf D} where
+  -- what is said after nothing
+  pub speaks_said : {old mid new : D} {text : List ℕ} {ending result : Ending} → nor.said mid ≡ nor.said old → Speaks nor mid new text ending result → Speaks nor old new text ending result
+  speaks_said {old} {mid} {new} {text} before speaks = ⊎_elim
+      (λ broken. inl (broken.0, record { part = broken.1.part; rest = broken.1.rest; said = broken.1.said ∙ ap (λ (l : List ℕ). l ++ broken.1.part) before; whole_is = broken.1.whole_is }))
+      (λ whole. inr (whole.0, whole.1 ∙ ap (λ (l : List ℕ). l ++ text) before))
+      speaks
+
 module _ {D : Type 0} {nor : NorOf D} {g : Geometry} where
   -- the board failed, and nothing was said
   pub speaks_none : {old new : D} {text : List ℕ} {files : List File} (ending : Ending) → nor.said new ≡ nor.said old → ending ≡ BoardFault → SpeaksOf nor g old new text files ending
@@ -94,12 +102,6 @@ module _ {D : Type 0} {nor : NorOf D} {g : Geometry} where
     left = λ done. absurd (let bad : BoardFault ≡ Done = done in cc);
   }
 
-  -- what is said after nothing
-  pub speaks_said : {old mid new : D} {text : List ℕ} {ending result : Ending} → nor.said mid ≡ nor.said old → Speaks nor mid new text ending result → Speaks nor old new text ending result
-  speaks_said {old} {mid} {new} {text} before speaks = ⊎_elim
-      (λ broken. inl (broken.0, record { part = broken.1.part; rest = broken.1.rest; said = broken.1.said ∙ ap (λ (l : List ℕ). l ++ broken.1.part) before; whole_is = broken.1.whole_is }))
-      (λ whole. inr (whole.0, whole.1 ∙ ap (λ (l : List ℕ). l ++ text) before))
-      speaks
-
+  -- the same of what is said of files
   pub speaks_after : {old mid new : D} {text : List ℕ} {files : List File} {ending : Ending} → nor.said mid ≡ nor.said old → SpeaksOf nor g mid new text files ending → SpeaksOf nor g old new text files ending
   speaks_after before speaks = record { speaks = speaks_said before speaks.speaks; left = speaks.left }

@@ -20,9 +20,8 @@ use Rattle.volume_make.specs.Making.{made_text, make_text, IsMade}
 use Rattle.tool_core.specs.declared.ending.Ending.{Ending}
 use Rattle.tool_core.specs.declared.ending.Ending.TheVariants.{Done, BoardFault, FolderFault}
 use Rattle.tool_core.specs.Closing.{status_of}
-use Rattle.tool_core.specs.Endings.{EndsAs, OnlyCloses, Speaks, Concludes}
+use Rattle.tool_core.specs.Endings.{OnlyCloses, Speaks, Concludes}
 use Rattle.tool_core.specs.Filling.{HoldsFiles, SpeaksOf}
-use Rattle.tool_core.specs.Later.{IsLaterStatus}
 use Rattle.tool_core.specs.Making.{refused_by, StopsMake, HoldsFolder, MakesTo, DoesMake}
 use Rattle.tool_core.proofs.FillEnds.{speaks_none, speaks_said}
 use Rattle.tool_core.proofs.Speaking.{concludes, by_result}
@@ -36,6 +35,14 @@ refused_status (NoRoom index pages) = inl refl
 
 unrefused : {o : Option Refusal} (why : Refusal) → o ≡ None → o ≡ Some why → ⊥
 unrefused why none some = none-some why (sym none ∙ some)
+
+module _ {D : Type 0} {nor : NorOf D} where
+  -- nothing was said but that the folder failed
+  unread : {old mid new : D} (result : Ending) (status : ℕ) → nor.tells old → Leaves nor old mid (λ image count. Unit {0}) → result ≡ FolderFault → nor.said mid ≡ nor.said old → OnlyCloses nor mid new result status → Concludes nor old new [] FolderFault status
+  unread {old} result status tells goes fault said closes = concludes [] FolderFault result status (goes.told tells) goes.faults
+      (λ is. absurd (let bad : FolderFault ≡ BoardFault = sym fault ∙ is in cc))
+      (inr (fault, said ∙ sym (append-nil (nor.said old))))
+      closes
 
 module _ {D X : Type 0} {nor : NorOf D} {folder : FolderOf X} {g : Geometry} where
   -- its names and sizes refuse it
@@ -53,13 +60,6 @@ module _ {D X : Type 0} {nor : NorOf D} {folder : FolderOf X} {g : Geometry} whe
             here.ends);
         goes = goes_of closes.cuts;
       }
-
-  -- nothing was said but that the folder failed
-  unread : {old mid new : D} (result : Ending) (status : ℕ) → nor.tells old → Leaves nor old mid (λ image count. Unit {0}) → result ≡ FolderFault → nor.said mid ≡ nor.said old → OnlyCloses nor mid new result status → Concludes nor old new [] FolderFault status
-  unread {old} result status tells goes fault said closes = concludes [] FolderFault result status (goes.told tells) goes.faults
-      (λ is. absurd (let bad : FolderFault ≡ BoardFault = sym fault ∙ is in cc))
-      (inr (fault, said ∙ sym (append-nil (nor.said old))))
-      closes
 
   -- it failed before that was known
   make_unlisted : {old new : D} {before after : X} (ending : Ending) (status : ℕ) → ending ≡ FolderFault → Rose (folder.faults before) (folder.faults after) → Kept folder before after → OnlyCloses nor old new ending status → DoesMake nor folder g old new before after status
@@ -81,53 +81,8 @@ module _ {D X : Type 0} {nor : NorOf D} {folder : FolderOf X} {g : Geometry} whe
   pub make_stopped : {old new : D} {before after : X} (ending : Ending) (status : ℕ) → StopsMake folder g before after ending → Kept folder before after → OnlyCloses nor old new ending status → DoesMake nor folder g old new before after status
   make_stopped ending status stops kept closes = ⊎_elim
       (λ failed. make_unlisted ending status failed.0 failed.1 kept closes)
-      (λ why. make_named why.0 ending status why.1.0 why.1.1 kept closes)
+      (λ why. make_named why.0 ending status why.1 why.2 kept closes)
       stops
-
-  -- its status is that of its cause
-  stopped_as : {before after : X} {ending : Ending} → StopsMake folder g before after ending → ((status_of ending ≡ 9) × Rose (folder.faults before) (folder.faults after)) ⊎ ((status_of ending ≡ 6) ⊎ (status_of ending ≡ 13))
-  stopped_as stops = ⊎_elim
-      (λ failed. inl (ap status_of failed.0, failed.1))
-      (λ why. inr (⊎_elim (λ six. inl (ap status_of why.1.1 ∙ six)) (λ named. inr (ap status_of why.1.1 ∙ named)) (refused_status why.0)))
-      stops
-
-  -- and none of another
-  stopped_none : {old new : D} {before after : X} {ending : Ending} {status : ℕ} (n : ℕ) → n ≢ 6 → n ≢ 7 → n ≢ 9 → n ≢ 13 → StopsMake folder g before after ending → EndsAs nor old new ending status → status ≢ n
-  stopped_none n six seven nine named stops ends = λ is. ⊎_elim
-      (λ told. ⊎_elim
-      (λ failed. nine (sym is ∙ told ∙ failed.0))
-      (λ why. ⊎_elim (λ full. six (sym is ∙ told ∙ full)) (λ bad. named (sym is ∙ told ∙ bad)) why)
-      (stopped_as stops))
-      (λ fault. seven (sym is ∙ fault.0))
-      ends
-
-  pub stopped_later : {old new : D} {before after : X} {ending : Ending} {status : ℕ} → StopsMake folder g before after ending → EndsAs nor old new ending status → IsLaterStatus status
-  stopped_later stops ends = record {
-    no_usage = stopped_none 1 (omega arith) (omega arith) (omega arith) (omega arith) stops ends;
-    no_geometry = stopped_none 2 (omega arith) (omega arith) (omega arith) (omega arith) stops ends;
-    no_short = stopped_none 10 (omega arith) (omega arith) (omega arith) (omega arith) stops ends;
-  }
-
-  pub stopped_script : {old new : D} {before after : X} {ending : Ending} {status : ℕ} → StopsMake folder g before after ending → EndsAs nor old new ending status → status ≢ 8
-  stopped_script stops ends = stopped_none 8 (omega arith) (omega arith) (omega arith) (omega arith) stops ends
-
-  pub stopped_board : {old new : D} {before after : X} {ending : Ending} {status : ℕ} → StopsMake folder g before after ending → EndsAs nor old new ending status → status ≡ 7 → Rose (nor.faults old) (nor.faults new)
-  stopped_board stops ends is = ⊎_elim
-      (λ told. absurd (⊎_elim
-      (λ failed. omega (arith, is, told, failed.0))
-      (λ why. ⊎_elim (λ full. omega (arith, is, told, full)) (λ bad. omega (arith, is, told, bad)) why)
-      (stopped_as stops)))
-      (λ fault. fault.1)
-      ends
-
-  pub stopped_folder : {old new : D} {before after : X} {ending : Ending} {status : ℕ} → StopsMake folder g before after ending → EndsAs nor old new ending status → status ≡ 9 → Rose (folder.faults before) (folder.faults after)
-  stopped_folder stops ends is = ⊎_elim
-      (λ told. ⊎_elim
-      (λ failed. failed.1)
-      (λ why. absurd (⊎_elim (λ full. omega (arith, is, told, full)) (λ bad. omega (arith, is, told, bad)) why))
-      (stopped_as stops))
-      (λ fault. omega (arith, is, fault.0))
-      ends
 
   -- ---- one that isn't
 
@@ -152,6 +107,13 @@ module _ {D X : Type 0} {nor : NorOf D} {folder : FolderOf X} {g : Geometry} whe
         (makes tells);
     goes = andthen goes (goes_of closes.cuts);
   }
+
+  -- the board failed, and nothing was said
+  pub makes_none : {old new : D} {before : X} (ending : Ending) → nor.said new ≡ nor.said old → ending ≡ BoardFault → MakesTo nor folder g old new before ending
+  makes_none {old} {new} {before} ending said fault = inr (record {
+    speaks = (speaks_none {nor = nor} {g = g} {files = []} ending said fault).speaks;
+    left = λ done. absurd (let bad : Done ≡ BoardFault = sym done ∙ fault in cc);
+  })
 
   -- a volume that could not be formatted
   pub make_unformatted : {old mid new : D} {before after : X} (result : Ending) (status : ℕ) → make_refusal g (folder.entries before) ≡ None → Kept folder before after → Changes nor old mid (λ was image. Unit {0}) → result ≡ BoardFault → Rose (nor.faults old) (nor.faults mid) → OnlyCloses nor mid new result status →
@@ -178,13 +140,6 @@ module _ {D X : Type 0} {nor : NorOf D} {folder : FolderOf X} {g : Geometry} whe
         speaks = subst (λ (l : List ℕ). Speaks nor mid new l Done result) same spoken.speaks;
         left = λ done. record { files = made.files; entries = made.entries; told = made.told; holds = spoken.left done };
       })
-
-  -- the board failed, and nothing was said
-  pub makes_none : {old new : D} {before : X} (ending : Ending) → nor.said new ≡ nor.said old → ending ≡ BoardFault → MakesTo nor folder g old new before ending
-  makes_none {old} {new} {before} ending said fault = inr (record {
-    speaks = (speaks_none {nor = nor} {g = g} {files = []} ending said fault).speaks;
-    left = λ done. absurd (let bad : Done ≡ BoardFault = sym done ∙ fault in cc);
-  })
 
   -- the same of a folder that was kept before
   makes_kept : {old mid : D} {before between : X} {result : Ending} → Kept folder before between → MakesTo nor folder g old mid between result → MakesTo nor folder g old mid before result
