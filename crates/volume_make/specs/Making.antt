@@ -1,10 +1,13 @@
 -- What a volume holds while the files of a folder are put onto it, and once they are there.
-use Rattle.std.specs.Prelude.{ℕ, ◌≡◌, ◌<◌, ◌⊎◌, List, [], ◌∷◌, ◌++◌, length, take, codes, decimal, None}
+use Rattle.std.specs.Prelude.{ℕ, ◌≡◌, ◌<◌, ◌⊎◌, true, false, List, [], ◌∷◌, ◌++◌, length, take, codes, decimal, None}
 use Rattle.geometry.specs.declared.geometry.Geometry.{Geometry}
 use Rattle.nor_core.specs.declared.state.NorState.{Ghosts as NorOf}
 use Rattle.table_model.specs.declared.reply.Info.{Info}
 use Rattle.table_model.specs.Table.{State}
 use Rattle.table_model.specs.Calls.{info_of}
+use Rattle.table_model.specs.Ask.{Ask}
+use Rattle.table_model.specs.Flat.{answer}
+use Rattle.table_model.specs.Steps.{is_refusal}
 use Rattle.folder_core.specs.Files.{Entry, File as FolderFile, entries_of, name_at, bytes_at}
 use Rattle.folder_core.specs.declared.state.FolderState.{Ghosts as FolderOf}
 use Rattle.volume.specs.declared.volume.Volume.{Volume}
@@ -85,6 +88,15 @@ module _ {N X : Type 0} {nor : NorOf N} where
   abbrev pub StopsWriting : FolderOf X → (count at : ℕ) (old : Volume N nor) (was : X) → PutErr → Type 0
   StopsWriting folder count at old was why = (g : Geometry) (slots : ℕ) → HasBegun folder g slots was count at old → IsFault why
 
+module _ {N : Type 0} {nor : NorOf N} where
+  -- a call was done, and the volume stands at the state after it
+  abbrev pub DoneFrom : (old : Volume N nor) → Ask → (new : Volume N nor) → Type 0
+  DoneFrom old ask new = (g : Geometry) (s : State) → IsReady g old s → IsReady g new (answer g true s ask).next
+
+  -- a call that the flat table doesn't refuse wasn't done only where the device failed
+  abbrev pub UndoneFrom : (old : Volume N nor) → Ask → PutErr → Type 0
+  UndoneFrom old ask why = (g : Geometry) (s : State) → IsReady g old s → is_refusal (answer g true s ask).answer ≡ false → IsFault why
+
   -- A new file of a name was opened: where the files of a folder stood on the volume, none of them has that name, and there is room for it
   -- without a byte, it stands behind them, and the first descriptor is open on it.
   abbrev pub BeginsFrom : (name : List ℕ) (old new : Volume N nor) → (fd : ℕ) → Type 0
@@ -93,13 +105,6 @@ module _ {N X : Type 0} {nor : NorOf N} where
 
   abbrev pub StopsBeginning : (name : List ℕ) (old : Volume N nor) → PutErr → Type 0
   StopsBeginning name old why = (g : Geometry) (slots : ℕ) (files : List FolderFile) → IsNew g slots files name → IsReady g old (put_state g slots files) → IsFault why
-
-  -- The first descriptor was closed: the file that it is on stands among the files that were put.
-  abbrev pub ClosesFrom : (old new : Volume N nor) → Type 0
-  ClosesFrom old new = (g : Geometry) (slots : ℕ) (files : List FolderFile) (f : FolderFile) → 0 < slots → IsReady g old (begun_state g slots files f) → IsReady g new (put_state g slots (files ++ f ∷ []))
-
-  abbrev pub StopsClosing : (old : Volume N nor) → PutErr → Type 0
-  StopsClosing old why = (g : Geometry) (slots : ℕ) (files : List FolderFile) (f : FolderFile) → 0 < slots → IsReady g old (begun_state g slots files f) → IsFault why
 
   -- how full a volume is was told, which stands where it stood
   abbrev pub TellsFrom : (old new : Volume N nor) → Info → Type 0

@@ -3,16 +3,17 @@ ghost use Rattle.nor_core.specs.Count.{Rose};
 ghost use Rattle.folder_core.specs.Files.{name_at, size_at};
 ghost use Rattle.folder_core.specs.Puts.{Kept};
 ghost use Rattle.volume_run.specs.Ready.{IsMoved};
-ghost use Rattle.volume_make.specs.Making.{IsMadeFrom, OnlyFailsFrom, PutsFrom, FailsFrom, BeginsFrom, StopsBeginning, ClosesFrom, StopsClosing, TellsFrom, StopsTelling};
+ghost use Rattle.volume_make.specs.Making.{IsMadeFrom, OnlyFailsFrom, PutsFrom, FailsFrom, BeginsFrom, StopsBeginning, TellsFrom, StopsTelling};
 
 use crate::PutErr;
+use crate::performing::perform;
 use crate::pieces::put_pieces;
 use folder_core::{Folder, FolderState};
 use image_make::name_of;
 use nor_core::{Nor, NorState};
 use table_model::{Call, Info};
-use volume::{Told, Volume};
-use volume_run::{Stop, ask, open};
+use volume::Volume;
+use volume_run::{Stop, open, stop_of};
 
 /// Flags of an opening: the file is made where it is missing (4), and may be written (16).
 const NEW: u32 = 20;
@@ -21,6 +22,7 @@ const NEW: u32 = 20;
 fn open_new<N: Nor>(volume: &mut Volume<'_, N>, name: &[u8]) -> Result<u16, PutErr>
     ensures moved { IsMoved volume.old volume.new }
     ensures cause { result ≡ Err (PutErr.Stopped Stop.Fault) → Rose (N.faults volume.old.nor.now) (N.faults volume.new.nor.now) }
+    ensures folder { result ≡ Err PutErr.Folder → ⊥ }
     ensures begins { IfOk result (BeginsFrom name.now volume.old volume.new) }
     ensures stops { IfErr result (StopsBeginning name.now volume.old) }
 {
@@ -31,21 +33,8 @@ fn open_new<N: Nor>(volume: &mut Volume<'_, N>, name: &[u8]) -> Result<u16, PutE
     }
 }
 
-// Closes the descriptor of a file that was put.
-fn close<N: Nor>(volume: &mut Volume<'_, N>, fd: u16) -> Result<(), PutErr>
-    ensures moved { IsMoved volume.old volume.new }
-    ensures cause { result ≡ Err (PutErr.Stopped Stop.Fault) → Rose (N.faults volume.old.nor.now) (N.faults volume.new.nor.now) }
-    ensures closes { fd ≡ 1 → OnOk result (ClosesFrom volume.old volume.new) }
-    ensures stops { fd ≡ 1 → IfErr result (StopsClosing volume.old) }
-{
-    match ask(volume, &Call::Close { fd }, &mut []) {
-        Ok(Told::Done) => Ok(()),
-        Ok(_) => Err(PutErr::Refused),
-        Err(stop) => Err(PutErr::Stopped(stop)),
-    }
-}
-
 // Makes a file of file `i` of a folder, of that name and size.
+#[tactic(auto, using(volume_run::proofs::Moving::moved_then, image_make::proofs::Keeping::kept_then))]
 fn write_file<N: Nor, F: Folder>(
     volume: &mut Volume<'_, N>,
     folder: &mut F,
@@ -66,10 +55,11 @@ fn write_file<N: Nor, F: Folder>(
 {
     let fd = open_new(volume, name)?;
     put_pieces(volume, fd, folder, i, size, lent)?;
-    close(volume, fd)
+    perform(volume, &Call::Close { fd })
 }
 
 // Makes a file of file `i` of a folder.
+#[tactic(auto, using(volume_run::proofs::Moving::moved_then, image_make::proofs::Keeping::kept_then))]
 fn put_file<N: Nor, F: Folder>(
     volume: &mut Volume<'_, N>,
     folder: &mut F,
@@ -98,6 +88,7 @@ fn put_file<N: Nor, F: Folder>(
 }
 
 // Makes files of so many files of a folder, in its order.
+#[tactic(auto, using(volume_run::proofs::Moving::moved_then, image_make::proofs::Keeping::kept_then))]
 fn put_each<N: Nor, F: Folder>(
     volume: &mut Volume<'_, N>,
     folder: &mut F,
@@ -123,19 +114,23 @@ fn put_each<N: Nor, F: Folder>(
 fn tell_info<N: Nor>(volume: &mut Volume<'_, N>) -> Result<Info, PutErr>
     ensures moved { IsMoved volume.old volume.new }
     ensures cause { result ≡ Err (PutErr.Stopped Stop.Fault) → Rose (N.faults volume.old.nor.now) (N.faults volume.new.nor.now) }
+    ensures folder { result ≡ Err PutErr.Folder → ⊥ }
     ensures told { IfOk result (TellsFrom volume.old volume.new) }
     ensures stops { IfErr result (StopsTelling volume.old) }
 {
-    match ask(volume, &Call::GetInfo, &mut []) {
-        Ok(Told::Room(info)) => Ok(info),
-        Ok(_) => Err(PutErr::Refused),
-        Err(stop) => Err(PutErr::Stopped(stop)),
+    match volume.info() {
+        Ok(info) => Ok(info),
+        Err(why) => match stop_of(why) {
+            Some(stop) => Err(PutErr::Stopped(stop)),
+            None => Err(PutErr::Refused),
+        },
     }
 }
 
 /// Puts the files of a folder onto a checked volume that has none, numbered from 1 in the folder's order, through the volume's own calls, and
 /// answers how full it is then. The bytes go through the lent ones, a piece as long as these at a time. Where a fault ends it, the first files
 /// are there, and the next one may be there with a front of its bytes.
+#[tactic(auto, using(volume_run::proofs::Moving::moved_then, image_make::proofs::Keeping::kept_then))]
 pub fn put_files<N: Nor, F: Folder>(
     volume: &mut Volume<'_, N>,
     folder: &mut F,

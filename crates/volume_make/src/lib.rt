@@ -2,6 +2,7 @@
 #![tactic(auto)]
 
 mod files;
+mod performing;
 mod pieces;
 mod put_err;
 

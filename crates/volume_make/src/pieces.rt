@@ -7,11 +7,12 @@ ghost use Rattle.volume_run.specs.Ready.{IsMoved};
 ghost use Rattle.volume_make.specs.Making.{WritesFrom, StopsWriting};
 
 use crate::PutErr;
+use crate::performing::perform;
 use folder_core::{Folder, FolderState};
 use nor_core::{Failed, Nor, NorState};
 use table_model::Call;
-use volume::{Told, Volume};
-use volume_run::{Stop, ask};
+use volume::Volume;
+use volume_run::Stop;
 
 // Reads a piece of file `i` of a folder from a place on, and writes it through the descriptor of the new file.
 fn put_piece<N: Nor, F: Folder>(
@@ -35,11 +36,7 @@ fn put_piece<N: Nor, F: Folder>(
     if let Err(Failed) = folder.read(i, at, piece) {
         return Err(PutErr::Folder);
     }
-    match ask(volume, &Call::Write { fd, bytes: piece }, &mut []) {
-        Ok(Told::Number(_)) => Ok(()),
-        Ok(_) => Err(PutErr::Refused),
-        Err(stop) => Err(PutErr::Stopped(stop)),
-    }
+    perform(volume, &Call::Write { fd, bytes: piece })
 }
 
 // How many bytes of so many fit into a piece of that length.
@@ -58,6 +55,7 @@ fn piece_length(left: u64, most: usize) -> usize
 }
 
 /// Writes all bytes of file `i` of a folder through the descriptor of the new file, in pieces as long as the lent bytes.
+#[tactic(auto, using(volume_run::proofs::Moving::moved_then, image_make::proofs::Keeping::kept_then))]
 pub(crate) fn put_pieces<N: Nor, F: Folder>(
     volume: &mut Volume<'_, N>,
     fd: u16,

@@ -1,5 +1,4 @@
 -- The first files were put.
-use Rattle.std.proofs.Common.{◌≡◌, ◌≤◌}
 use Rattle.folder_core.specs.Puts.{Kept}
 use Rattle.volume_run.specs.Ready.{IsMoved}
 use Rattle.volume_make.specs.Making.{PutsFrom}
