@@ -27,6 +27,8 @@ pub enum Fault {
     Call { kind: CallKind, nth: u64 },
     /// The read of the script of that number, from 1 on.
     Script { nth: u64 },
+    /// The call of the folder of that number, from 1 on.
+    Folder { nth: u64 },
     /// All from the power cut inside the call behind so many programs, erases and says, done as the pick says.
     Power { passed: u64, pick: u64 },
 }
@@ -104,14 +106,18 @@ impl Bench {
         Ok(board.image().to_vec(self.alloc)?)
     }
 
-    /// The words of a command on the volume, parted by spaces.
+    /// The words of a command on the volume, parted by spaces; the folder is `files`.
     pub fn words(&self, command: &str) -> Result<String, Trouble> {
         let magic = match self.g.magic {
             MagicKind::Length => "len",
             MagicKind::Plain => "plain",
         };
+        let folder = match command {
+            "extract" | "make" => " files",
+            _ => "",
+        };
         Ok(format!(in self.alloc;
-            "{command} {} {} {} {} {magic} chip",
+            "{command} {} {} {} {} {magic} chip{folder}",
             self.g.page, self.g.block, self.g.blocks, self.g.meta
         )?)
     }
@@ -122,6 +128,7 @@ impl Bench {
         words: &str,
         board: &mut MemBoard,
         script: &mut MemSource,
+        folder: &mut MemFolder,
     ) -> Result<u8, Trouble> {
         let words = words_of(self.alloc, words)?;
         let mut work = vec![in self.alloc; 0u8; self.lends.work]?;
@@ -136,16 +143,17 @@ impl Bench {
             check: &mut check,
             line: &mut line,
         };
-        let mut folder = MemFolder::new(self.alloc);
-        Ok(spiffs_tool(&words, board, script, &mut folder, &mut bufs))
+        Ok(spiffs_tool(&words, board, script, folder, &mut bufs))
     }
 
-    /// What the command of these words does on a device that holds an image, by the calls of a script, where that is to fail.
-    pub fn give(
+    /// What the command of these words does on a device that holds an image, by the calls of a script and over a folder, where
+    /// that is to fail.
+    pub fn give_over(
         &self,
         words: &str,
         image: &[u8],
         script: &[u8],
+        folder: &mut MemFolder,
         fault: Fault,
     ) -> Result<Told, Trouble> {
         let mut board = self.board(image)?;
@@ -154,14 +162,28 @@ impl Bench {
             Fault::Nothing => {}
             Fault::Call { kind, nth } => board.fail_nth(kind, nth),
             Fault::Script { nth } => source.fail_nth(nth),
+            Fault::Folder { nth } => folder.fail_nth(nth),
             Fault::Power { passed, pick } => board.cut_after(passed, pick),
         }
-        let status = self.command(words, &mut board, &mut source)?;
+        let status = self.command(words, &mut board, &mut source, folder)?;
+        folder.fail_nth(0);
         Ok(Told {
             status,
             said: board.said().to_vec(self.alloc)?,
             image: board.image().to_vec(self.alloc)?,
         })
+    }
+
+    /// The same over a folder without files.
+    pub fn give(
+        &self,
+        words: &str,
+        image: &[u8],
+        script: &[u8],
+        fault: Fault,
+    ) -> Result<Told, Trouble> {
+        let mut folder = MemFolder::new(self.alloc);
+        self.give_over(words, image, script, &mut folder, fault)
     }
 
     /// What a run of a script does on an image, where that is to fail.

@@ -65,7 +65,7 @@ fn do_part(
 ) -> Result<(), Trouble> {
     let text = part.script.text(alloc, part.chosen)?;
     match word(part.words, 0)? {
-        command @ ("run" | "list" | "check") => {
+        command @ ("run" | "list" | "check" | "extract" | "make") => {
             let manner = Manner::of_words(alloc, part.words)?;
             let command = chip.bench()?.words(command)?;
             give(chip, &command, &manner, part.script, &text, out)

@@ -1,5 +1,6 @@
-//! The chip of a case, and the lines that make its image.
+//! The chip and the folder of a case, and the lines that make them.
 use crate::words::{byte_of, number, word};
+use folder_core::{Folder, MemFolder};
 use geometry::{Geometry, MagicKind};
 use script_bench::{Bench, Ends, Place, Trouble, letters, put, put_header, put_page, put_whole};
 use std::alloc::Global;
@@ -7,13 +8,17 @@ use std::alloc::Global;
 /// The greatest number of bytes of a chip.
 const MOST_BYTES: u64 = 0x100_0000;
 
-/// The chip of a case and the volume on it.
+/// The chip of a case and the volume on it, and the folder beside it.
 #[derive(Drop)]
 pub struct Chip {
     alloc: Global,
     bench: Option<Bench>,
     /// The bytes that stand on it.
     pub image: Vec<u8>,
+    /// The folder.
+    pub folder: MemFolder,
+    // How many files were put into it.
+    puts: usize,
     // The bytes that stood on it before the first command.
     first: Option<Vec<u8>>,
     // Where the next file made by hand goes, and its id.
@@ -69,6 +74,8 @@ impl Chip {
             alloc,
             bench: None,
             image: Vec::new(alloc),
+            folder: MemFolder::new(alloc),
+            puts: 0,
             first: None,
             ends: Ends::new(1),
             id: 1,
@@ -135,6 +142,14 @@ impl Chip {
         Ok(())
     }
 
+    // Puts a file of so many letters into the folder.
+    fn add(&mut self, words: &[&str]) -> Result<(), Trouble> {
+        self.puts = self.puts.saturating_add(1);
+        let bytes = letters(self.alloc, self.puts, short(words, 2)?.into())?;
+        self.folder.put(word(words, 1)?.as_bytes(), true, &bytes)?;
+        Ok(())
+    }
+
     // Puts a header page at a place: of an id, with a size and a name.
     fn header(&mut self, words: &[&str]) -> Result<(), Trouble> {
         let g = self.bench()?.g;
@@ -197,7 +212,7 @@ impl Chip {
         Ok(())
     }
 
-    /// Does what a line of these words says of the image, and answers whether it says something of that.
+    /// Does what a line of these words says of the image or of the folder, and answers whether it says something of that.
     pub fn make(&mut self, words: &[&str]) -> Result<bool, Trouble> {
         match word(words, 0)? {
             "volume" => self.volume(words)?,
@@ -207,6 +222,7 @@ impl Chip {
             "data" => self.ends.data = place(words, 1)?,
             "index" => self.ends.index = place(words, 1)?,
             "file" => self.file(words)?,
+            "add" => self.add(words)?,
             "header" => self.header(words)?,
             "page" => self.page(words)?,
             "deleted" => self.deleted(words)?,

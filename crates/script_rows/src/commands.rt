@@ -42,6 +42,7 @@ fn fault_of(words: &[&str]) -> Result<Fault, Trouble> {
     let nth = number(words, 2, u64::MAX)?;
     Ok(match word(words, 1)? {
         "script" => Fault::Script { nth },
+        "folder" => Fault::Folder { nth },
         kind => Fault::Call {
             kind: kind_of(kind)?,
             nth,
@@ -176,7 +177,13 @@ pub fn give(
 ) -> Result<(), Trouble> {
     let bench = chip.bench()?;
     let text = manner.ended(text);
-    let ran = bench.give(command, &chip.image, text.as_bytes(), manner.fault)?;
+    let ran = bench.give_over(
+        command,
+        &chip.image,
+        text.as_bytes(),
+        &mut chip.folder,
+        manner.fault,
+    )?;
     let is_run = command.starts_with("run ");
     tell_said(&bench, is_run, script, text_of(&ran)?, out)?;
     manner.tell_counts(&bench, command, &chip.image, text, out)?;

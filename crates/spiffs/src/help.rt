@@ -17,6 +17,9 @@ spiffs: a SPIFFS 0.3.7 flash volume in a chip file, or in several end to end
   spiffs extract PAGE BLOCK BLOCKS META MAGIC CHIP FOLDER
       tells what a list tells, and puts each file of the volume into the folder
       spiffs extract 256 4096 16 0 len chip files
+  spiffs make PAGE BLOCK BLOCKS META MAGIC CHIP FOLDER
+      formats the volume, and writes each file of the folder into it
+      spiffs make 256 4096 16 0 len chip files
   spiffs soak PAGE BLOCK BLOCKS META MAGIC CHIP SEED COUNT
       formats the volume, and makes COUNT turns of calls that SEED picks
       spiffs soak 256 4096 16 0 len first,second 0 1000
@@ -29,7 +32,7 @@ spiffs: a SPIFFS 0.3.7 flash volume in a chip file, or in several end to end
   MAGIC   `len` (the magic tells the volume's length) or `plain`
   CHIP    the chip's file, BLOCK * BLOCKS bytes; or the files of several chips,
           parted by commas, of BLOCK * ceil(BLOCKS / number) bytes each. Bytes
-          past a file's end are 0xFF. `soak` makes missing files
+          past a file's end are 0xFF. `make` and `soak` make missing files
   FOLDER  a folder that is there. In the names of its files `%` and two
           hexadecimal digits stand for a byte, as in `%2Findex.html`
   SEED    a number below 2^64
@@ -88,13 +91,17 @@ A check is a line `erased E killed K damaged D free F`: blocks that were erased
 for want of their magic, entries that were set to zero, ids that were damaged
 and are gone, and free blocks in the end, once blocks were cleaned to have two.
 
+A make is a line `files F index I data D`: files, their index pages and their
+data pages. Their ids are 1, 2, 3 and so on, in the order of the names' bytes.
+
 A soak is a line `turns N ok A refused B files F bytes S`: turns in all, those
 that did what was asked, those that were refused, files and bytes in the end.
 
 Statuses: 0 all was done; 1 usage; 2 numbers or device refused; 3 no volume;
-4 blocks with pages of both kinds; 5 a line outside the grammar; 7 a chip or
-the output failed, 8 the script could not be read, 9 the folder failed: then
-standard error tells why; 10 lent memory too short; 11 the script is too long;
-12 an id is damaged; 14 fewer than two free blocks; 15 no memory; 21 a page
-does not read as it was written; 22 the chips make no row.
+4 blocks with pages of both kinds; 5 a line outside the grammar; 6 no room for
+the files of the folder; 7 a chip or the output failed, 8 the script could not
+be read, 9 the folder failed: then standard error tells why; 10 lent memory too
+short; 11 the script is too long; 12 an id is damaged; 13 a name of the folder
+is no file's, or an earlier one's; 14 fewer than two free blocks; 15 no memory;
+21 a page does not read as it was written; 22 the chips make no row.
 ";

@@ -16,7 +16,7 @@ use std::io::Write;
 use std::process::ExitCode;
 use std::rt::Env;
 use std::{env, fs};
-use tool_core::{Buffers, chip_size_of, spiffs_tool, unit_of};
+use tool_core::{Buffers, chip_size_of, is_accepted, spiffs_tool, unit_of};
 
 /// The status where a chip or standard output failed.
 const BOARD_FAULT: u8 = 7;
@@ -115,11 +115,11 @@ impl From<MemErr> for Refusal {
 }
 
 // What the chip files are opened for: what writes nothing takes files that are for reading alone, and what formats them
-// makes them.
-fn access_of(words: &[String]) -> Access {
+// makes them, where the words, the chips and the lent memory are taken.
+fn access_of(words: &[String], is_taken: bool) -> Access {
     match word(words, 0) {
         "list" | "extract" => Access::Read,
-        "soak" => Access::Create,
+        "soak" | "make" if is_taken => Access::Create,
         _ => Access::Write,
     }
 }
@@ -130,14 +130,21 @@ fn chip_paths(alloc: Global, words: &[String]) -> Result<Vec<&str>, AllocError> 
 }
 
 // The row of the chip files.
-fn row_of(rt: &HostRuntime, words: &[String]) -> Result<ChipRow<FileChip>, Refusal> {
+fn row_of(
+    rt: &HostRuntime,
+    words: &[String],
+    bufs: &Buffers<'_>,
+) -> Result<ChipRow<FileChip>, Refusal> {
     let paths = chip_paths(rt.alloc(), words)?;
     let number = u32::try_from(paths.len()).unwrap_or(u32::MAX).max(1);
     let size = chip_size_of(words, number);
     let unit = unit_of(words);
+    let bytes = size.checked_mul(number);
+    let is_taken = bytes.is_some_and(|bytes| is_accepted(words, unit, bytes, bufs));
+    let access = access_of(words, is_taken);
     let mut chips = Vec::new(rt.alloc());
     for path in paths {
-        let chip = FileChip::new(rt, path, access_of(words), size, unit);
+        let chip = FileChip::new(rt, path, access, size, unit);
         chips.push(chip).map_err(AllocError::from)?;
     }
     match ChipRow::new(chips, size, unit) {
@@ -146,13 +153,13 @@ fn row_of(rt: &HostRuntime, words: &[String]) -> Result<ChipRow<FileChip>, Refus
     }
 }
 
-// The folder that is written; another command asks for none, and none is listed then.
+// The folder that is written or read; another command asks for none, and none is listed then.
 fn folder_of<'r>(
     rt: &'r HostRuntime,
     words: &[String],
 ) -> Result<StdFolder<&'r HostRuntime>, Refusal> {
     match word(words, 0) {
-        "extract" => Ok(StdFolder::new(rt, rt.alloc(), word(words, FOLDER_WORD))?),
+        "extract" | "make" => Ok(StdFolder::new(rt, rt.alloc(), word(words, FOLDER_WORD))?),
         _ => Ok(StdFolder::unlisted(rt, rt.alloc())),
     }
 }
@@ -184,9 +191,6 @@ fn explain_board<W: Write + Drop>(
 
 // Runs the command that the words spell, over the chip files and the folder that they name.
 fn run(rt: &HostRuntime, words: &[String], memory: &mut Memory) -> Result<u8, Refusal> {
-    let mut board = StdBoard::new(row_of(rt, words)?, rt.stdout());
-    let mut script = StdSource::new(rt.stdin());
-    let mut folder = folder_of(rt, words)?;
     let mut bufs = Buffers {
         work: &mut memory.work,
         slots: &mut memory.slots,
@@ -194,6 +198,9 @@ fn run(rt: &HostRuntime, words: &[String], memory: &mut Memory) -> Result<u8, Re
         check: &mut memory.check,
         line: &mut memory.line,
     };
+    let mut board = StdBoard::new(row_of(rt, words, &bufs)?, rt.stdout());
+    let mut script = StdSource::new(rt.stdin());
+    let mut folder = folder_of(rt, words)?;
     let status = spiffs_tool(words, &mut board, &mut script, &mut folder, &mut bufs);
     match status {
         BOARD_FAULT => explain_board(rt, words, &board),

@@ -31,7 +31,7 @@ use Rattle.tool_core.specs.Begins.{Begun}
 use Rattle.tool_core.specs.Mounting.{Checks, Reported, StopsCheck}
 use Rattle.tool_core.specs.Outcomes.{first_moment, closed_memory}
 use Rattle.tool_core.specs.Refusals.{check_refusal}
-use Rattle.tool_core.specs.Soaking.{HoldsFiles}
+use Rattle.tool_core.specs.Filling.{HoldsFiles}
 use Rattle.tool_core.proofs.Beginning.{begun_stands, first_room}
 use Rattle.tool_core.proofs.Refusals.{check_takes, not_both}
 

@@ -5,7 +5,7 @@ use Rattle.table_model.specs.declared.error.Differ.{Differ as Differs}
 use Rattle.vol_mount.specs.declared.lent.Part.{Part}
 use Rattle.vol_mount.specs.declared.lent.Part.TheVariants.{Work, Slots, Cache, Check, Line}
 use Rattle.tool_core.specs.declared.ending.Ending.{Ending}
-use Rattle.tool_core.specs.declared.ending.Ending.TheVariants.{Done, Usage, Geometry, ShortBuffer, NotAFs, BadLine, BoardFault, SourceFault, FolderFault, TooLong, Damaged, Tight, Mixed, Differ}
+use Rattle.tool_core.specs.declared.ending.Ending.TheVariants.{Done, Usage, Geometry, ShortBuffer, NotAFs, BadLine, Full, BoardFault, SourceFault, FolderFault, TooLong, Damaged, BadName, Tight, Mixed, Differ}
 
 -- the status that a command answers
 abbrev pub status_of : Ending → ℕ
@@ -15,12 +15,14 @@ status_of (Geometry why) = 2
 status_of (NotAFs spoiled) = 3
 status_of (Mixed blocks) = 4
 status_of (BadLine number) = 5
+status_of (Full index pages) = 6
 status_of BoardFault = 7
 status_of SourceFault = 8
 status_of FolderFault = 9
 status_of (ShortBuffer part need given) = 10
 status_of TooLong = 11
 status_of (Damaged count) = 12
+status_of (BadName at) = 13
 status_of (Tight free) = 14
 status_of (Differ differ) = 21
 
@@ -44,6 +46,10 @@ differ_text d = (codes "! differ " ++ decimal d.page) ++ (codes " " ++ decimal d
 abbrev pub spoiled_text : ℕ → List ℕ
 spoiled_text spoiled = (codes "! not a volume, " ++ decimal spoiled) ++ codes " blocks without magic"
 
+-- index pages and data pages for which there is no room
+abbrev pub full_text : (index pages : ℕ) → List ℕ
+full_text index pages = (codes "! full, index " ++ decimal index) ++ (codes " data " ++ decimal pages)
+
 -- the closing line, without the byte that ends it; none where all was done, and where the board failed
 abbrev pub closing_of : Ending → List ℕ
 closing_of Done = []
@@ -53,11 +59,13 @@ closing_of (ShortBuffer part need given) = short_text part need given
 closing_of (NotAFs spoiled) = spoiled_text spoiled
 closing_of (Mixed blocks) = codes "! mixed blocks " ++ decimal blocks
 closing_of (BadLine number) = codes "! bad line " ++ decimal number
+closing_of (Full index pages) = full_text index pages
 closing_of BoardFault = []
 closing_of SourceFault = codes "! script fault"
 closing_of FolderFault = codes "! folder fault"
 closing_of TooLong = codes "! script longer than 16777216 bytes"
 closing_of (Damaged count) = codes "! damaged " ++ decimal count
+closing_of (BadName at) = codes "! bad name " ++ decimal at
 closing_of (Tight free) = codes "! free blocks " ++ decimal free
 closing_of (Differ differ) = differ_text differ
 

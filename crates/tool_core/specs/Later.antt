@@ -3,18 +3,22 @@ use Rattle.std.specs.Prelude.{ℕ, ◌≢◌, Option, Some, None}
 use Rattle.tool_core.specs.declared.ending.Ending.{Ending}
 use Rattle.tool_core.specs.Closing.{status_of}
 
--- the status is none of those of a refusal, and no folder failed
+-- the status is none of those of a refusal, by a folder's names and sizes neither, and no folder failed
 pub record IsLater (ending : Ending) : Type 0 where
   pub no_usage : status_of ending ≢ 1
   pub no_geometry : status_of ending ≢ 2
   pub no_short : status_of ending ≢ 10
+  pub no_full : status_of ending ≢ 6
+  pub no_names : status_of ending ≢ 13
   pub no_folder : status_of ending ≢ 9
 
--- the status is none of those of a refusal
+-- the status is none of those of a refusal, by a folder's names and sizes neither
 pub record IsUnrefused (ending : Ending) : Type 0 where
   pub no_usage : status_of ending ≢ 1
   pub no_geometry : status_of ending ≢ 2
   pub no_short : status_of ending ≢ 10
+  pub no_full : status_of ending ≢ 6
+  pub no_names : status_of ending ≢ 13
 
 -- and where there is none, nothing is said
 abbrev pub IsLaterIf : Option Ending → Type 0

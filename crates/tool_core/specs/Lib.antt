@@ -21,5 +21,7 @@ pub mod Early
 pub mod Listing
 pub mod Checking
 pub mod Extracting
+pub mod Filling
 pub mod Soaking
+pub mod Making
 pub mod Does

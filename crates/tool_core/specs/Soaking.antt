@@ -4,35 +4,15 @@ use Rattle.geometry.specs.declared.geometry.Geometry.{Geometry}
 use Rattle.nor_core.specs.declared.state.NorState.{Ghosts as NorOf}
 use Rattle.nor_core.specs.Device.{Leaves}
 use Rattle.table_model.specs.Table.{File}
-use Rattle.table_model.specs.declared.error.FsErr.{FsErr}
-use Rattle.table_model.specs.declared.error.FsErr.TheVariants.{DeviceFault, Damaged}
-use Rattle.image_model.specs.Tables.{table_of}
-use Rattle.image_model.specs.Tidy.{IsTidy, HasReserve}
 use Rattle.volume_soak.specs.Turns.{empty, soaked, soak_text}
 use Rattle.tool_core.specs.declared.ending.Ending.{Ending}
-use Rattle.tool_core.specs.declared.ending.Ending.TheVariants.{Done, BoardFault, Tight, Differ}
-use Rattle.tool_core.specs.Endings.{Speaks, Concludes}
+use Rattle.tool_core.specs.declared.ending.Ending.TheVariants.{Done}
+use Rattle.tool_core.specs.Endings.{Concludes}
+use Rattle.tool_core.specs.Filling.{HoldsFiles, SpeaksOf}
 
 -- the files that so many turns from a seed leave on a volume that had none, with so many descriptors
 abbrev pub soaked_files : Geometry → (slots seed turns : ℕ) → List File
 soaked_files g slots seed turns = (soaked g (empty slots) seed turns).state.table
-
--- a tidy image with its reserve has these files
-pub record HoldsFiles (g : Geometry) (image : List ℕ) (files : List File) : Type 0 where
-  pub tidy : IsTidy g image
-  pub reserve : HasReserve g image
-  pub table : table_of g image ≡ files
-
--- Before its closing line a command said a text, and then the image has these files; or the board failed, and a front of it was said.
-pub record SpeaksOf {D : Type 0} (nor : NorOf D) (g : Geometry) (old new : D) (text : List ℕ) (files : List File) (result : Ending) : Type 0 where
-  pub speaks : Speaks nor old new text Done result
-  pub left : result ≡ Done → HoldsFiles g (nor.bytes new) files
-
--- how a soak ends whose written bytes can't be put onto the chip
-abbrev pub unsettled_as : FsErr → Ending
-unsettled_as DeviceFault = BoardFault
-unsettled_as (Damaged differ) = Differ differ
-unsettled_as _ = Tight 0
 
 -- before its closing line: the summary of a soak
 abbrev pub SoaksTo : {D : Type 0} (nor : NorOf D) (g : Geometry) (slots seed turns : ℕ) (old new : D) → Ending → Type 0

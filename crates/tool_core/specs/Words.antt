@@ -6,7 +6,7 @@ use Rattle.geometry.specs.declared.magic.MagicKind.{MagicKind}
 use Rattle.geometry.specs.declared.magic.MagicKind.TheVariants.{Plain, Length}
 use Rattle.call_script.specs.Numerals.{number_up_to}
 use Rattle.tool_core.specs.declared.words.Verb.{Verb}
-use Rattle.tool_core.specs.declared.words.Verb.TheVariants.{Run, List as Lists, Check, Extract, Soak}
+use Rattle.tool_core.specs.declared.words.Verb.TheVariants.{Run, List as Lists, Check, Extract, Make, Soak}
 use Rattle.tool_core.specs.declared.words.Form.{Form}
 
 -- a word is this text
@@ -47,6 +47,7 @@ verb_in words =
     else if is_text (word_at words 0) (codes "list") then Some Lists
     else if is_text (word_at words 0) (codes "check") then Some Check
     else if is_text (word_at words 0) (codes "extract") then Some Extract
+    else if is_text (word_at words 0) (codes "make") then Some Make
     else if is_text (word_at words 0) (codes "soak") then soak_in words
     else None
 
@@ -56,6 +57,7 @@ writes Run = true
 writes Lists = false
 writes Check = true
 writes Extract = false
+writes Make = true
 writes (Soak seed turns) = true
 
 -- a command takes a script
@@ -66,11 +68,13 @@ has_script _ = false
 -- a command has a folder
 abbrev pub has_folder : Verb → Bool
 has_folder Extract = true
+has_folder Make = true
 has_folder _ = false
 
 -- how many words spell a command: VERB PAGE BLOCK BLOCKS META MAGIC CHIP, then FOLDER, or SEED and COUNT
 abbrev pub word_count : Verb → ℕ
 word_count Extract = 8
+word_count Make = 8
 word_count (Soak seed turns) = 9
 word_count _ = 7
 

@@ -1,7 +1,7 @@
 ghost use Rattle.std.specs.Prelude.{◌≡◌, ◌+◌, ◌<◌, ◌≤◌, ◌++◌, [], length, decimal};
 ghost use Rattle.arrayvec.specs.ArrayVec.{array_vec_len};
 ghost use Rattle.tool_core.specs.Endings.{OnlyCloses};
-ghost use Rattle.tool_core.specs.Closing.{status_of, closing_of, closing_line_of, part_word, short_text, differ_text, spoiled_text};
+ghost use Rattle.tool_core.specs.Closing.{status_of, closing_of, closing_line_of, part_word, short_text, differ_text, spoiled_text, full_text};
 
 use arrayvec::ArrayVec;
 use geometry::GeoErr;
@@ -27,6 +27,8 @@ pub(crate) enum Ending {
     Mixed(u32),
     /// A line of the script isn't in the grammar: its number, from 1.
     BadLine(u32),
+    /// The volume has no room for the folder's files: so many index pages and data pages.
+    Full { index: u128, data_pages: u128 },
     /// The board failed.
     BoardFault,
     /// The script could not be read.
@@ -37,6 +39,9 @@ pub(crate) enum Ending {
     TooLong,
     /// Some ids are damaged: their number.
     Damaged(u32),
+    /// The folder has a name that no file of a volume can have, or one twice: the place of its
+    /// file, from 0.
+    BadName(u32),
     /// The check left fewer than two free blocks.
     Tight(u32),
     /// A page doesn't read as what was written there.
@@ -58,12 +63,14 @@ impl Ending {
             Ending::NotAFs(_) => 3,
             Ending::Mixed(_) => 4,
             Ending::BadLine(_) => 5,
+            Ending::Full { .. } => 6,
             Ending::BoardFault => 7,
             Ending::SourceFault => 8,
             Ending::FolderFault => 9,
             Ending::ShortBuffer { .. } => 10,
             Ending::TooLong => 11,
             Ending::Damaged(_) => 12,
+            Ending::BadName(_) => 13,
             Ending::Tight(_) => 14,
             Ending::Differ(_) => 21,
         }
@@ -101,6 +108,26 @@ pub(crate) fn put_count(line: &mut Closing, label: &[u8], number: u64)
 {
     put(line, label);
     put(line, Buffer::new().format(number).as_bytes());
+}
+
+// Appends a label and a number of pages to a line.
+fn put_pages(line: &mut Closing, label: &[u8], pages: u128)
+    requires { array_vec_len line.old + length label.now + 40 ≤ 144 }
+    ensures items { line.new.items ≡ line.old.items ++ (label.now ++ decimal pages) }
+    ensures len { array_vec_len line.new ≤ array_vec_len line.old + length label.now + 40 }
+{
+    put(line, label);
+    put(line, Buffer::new().format(pages).as_bytes());
+}
+
+// Appends for how many pages there is no room.
+fn put_full(line: &mut Closing, index: u128, data_pages: u128)
+    requires { line.old.items ≡ [] }
+    ensures text { line.new.items ≡ full_text index data_pages }
+    ensures short { array_vec_len line.new ≤ 127 }
+{
+    put_pages(line, b"! full, index ", index);
+    put_pages(line, b" data ", data_pages);
 }
 
 // Appends how much of a part of the lent memory is needed and given.
@@ -152,10 +179,12 @@ fn put_closing(line: &mut Closing, ending: Ending)
         Ending::NotAFs(spoiled) => put_spoiled(line, spoiled),
         Ending::Mixed(blocks) => put_count(line, b"! mixed blocks ", u64::from(blocks)),
         Ending::BadLine(number) => put_count(line, b"! bad line ", u64::from(number)),
+        Ending::Full { index, data_pages } => put_full(line, index, data_pages),
         Ending::SourceFault => put(line, b"! script fault"),
         Ending::FolderFault => put(line, b"! folder fault"),
         Ending::TooLong => put(line, b"! script longer than 16777216 bytes"),
         Ending::Damaged(count) => put_count(line, b"! damaged ", u64::from(count)),
+        Ending::BadName(at) => put_count(line, b"! bad name ", u64::from(at)),
         Ending::Tight(free) => put_count(line, b"! free blocks ", u64::from(free)),
         Ending::Differ(differ) => put_differ(line, differ),
     }

@@ -7,8 +7,10 @@ mod call;
 mod checking;
 mod ending;
 mod extracting;
+mod finishing;
 mod lines;
 mod listing;
+mod making;
 mod mounting;
 mod plan;
 mod run;
@@ -18,5 +20,6 @@ mod tool;
 mod words;
 
 pub use buffers::Buffers;
+pub use plan::is_accepted;
 pub use tool::spiffs_tool;
 pub use words::{chip_size_of, unit_of};

@@ -1,11 +1,13 @@
-ghost use Rattle.std.specs.Prelude.{◌≡◌, ◌*◌, ◌≤◌, length, map, string_bytes, IfOk, IfErr, OnOk, Ok, Err, Some, None};
+ghost use Rattle.std.specs.Prelude.{◌≡◌, ◌*◌, ◌≤◌, length, map, string_bytes, is_none, IfOk, IfErr, OnOk, Ok, Err, Some, None};
 ghost use Rattle.geometry.specs.Numbers.{IsOf, refusal};
 ghost use Rattle.tool_core.specs.Asked.{asked_by};
 ghost use Rattle.tool_core.specs.Plan.{chip_refusal, device_refusal, read_refusal, write_refusal_of, volume_refusal, length_refusal, shorter, refusal_of};
 ghost use Rattle.tool_core.specs.Planned.{IsPlanned};
 ghost use Rattle.tool_core.specs.Words.{writes};
+ghost use Rattle.tool_core.specs.Lent.{lengths_of};
 ghost use Rattle.tool_core.specs.Fits.{IsFitting, HoldsVolume, FitsFor, HasLengths};
 
+use crate::buffers::{Buffers, lengths};
 use crate::ending::Ending;
 use crate::words::{Form, Verb, read_form};
 use geometry::{GeoErr, Geometry};
@@ -172,4 +174,12 @@ pub(crate) fn plan(
         verb: form.verb,
         geometry,
     })
+}
+
+/// Whether the words spell a command that isn't refused on a device of that erase unit and size in bytes, with what is
+/// lent. A program asks this before it makes the files that stand for the device.
+pub fn is_accepted(words: &[String], unit: u32, size: u32, bufs: &Buffers<'_>) -> bool
+    ensures { result ≡ is_none (refusal_of (asked_by (map string_bytes words.now) unit size (lengths_of bufs.now))) }
+{
+    plan(words, unit, size, &lengths(bufs)).is_ok()
 }

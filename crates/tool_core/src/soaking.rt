@@ -1,25 +1,24 @@
-ghost use Rattle.std.specs.Prelude.{ℕ, ◌≡◌, ◌≢◌, ◌≤◌, [], length, min, OnOk, OnErr, IfErr, Err, None};
+ghost use Rattle.std.specs.Prelude.{ℕ, ◌≡◌, ◌≢◌, ◌≤◌, [], length, min, None};
 ghost use Rattle.geometry.specs.Numbers.{write_refusal, work_need, cache_need, check_need};
 ghost use Rattle.nor_core.specs.Count.{Rose};
-ghost use Rattle.nor_core.specs.Device.{Changes, Leaves};
-ghost use Rattle.table_model.specs.Table.{State};
+ghost use Rattle.nor_core.specs.Device.{Leaves};
 ghost use Rattle.volume.specs.Holds.{memory};
 ghost use Rattle.volume.specs.Same.{IsSameVolume};
-ghost use Rattle.volume_run.specs.Ready.{IsReady};
 ghost use Rattle.volume_soak.specs.Turns.{summary_text};
+ghost use Rattle.tool_core.specs.Filling.{HoldsFiles};
 ghost use Rattle.tool_core.specs.Fits.{IsFitting, HasLengths};
 ghost use Rattle.tool_core.specs.Later.{IsLater, IsLaterStatus};
 ghost use Rattle.tool_core.specs.Lent.{lengths_of};
 ghost use Rattle.tool_core.specs.Outcomes.{closed_memory};
-ghost use Rattle.tool_core.specs.Soaking.{HoldsFiles, SpeaksOf, SoaksTo, DoesSoak, unsettled_as};
+ghost use Rattle.tool_core.specs.Soaking.{SoaksTo, DoesSoak};
 
 use crate::buffers::Buffers;
 use crate::ending::{Closing, Ending, conclude, put, put_count};
+use crate::finishing::{finish, format_board};
 use crate::mounting::mount_and_check;
 use geometry::Geometry;
-use nor_core::{Board, Failed, Nor, NorState};
-use table_model::FsErr;
-use vol_mount::{Lent, format};
+use nor_core::{Board, Nor, NorState};
+use vol_mount::Lent;
 use volume::Volume;
 use volume_run::Stop;
 use volume_soak::{Summary, soak};
@@ -37,56 +36,6 @@ fn summary_line(turns: u32, summary: Summary) -> Closing
     put_count(&mut line, b" bytes ", summary.bytes);
     put(&mut line, b"\n");
     line
-}
-
-// How a soak ends whose written bytes can't be put onto the chip.
-fn unsettled(why: FsErr) -> Ending
-    ensures ends { result ≡ unsettled_as why }
-    ensures later { IsLater result }
-    ensures no_script { result ≢ Ending.SourceFault }
-    ensures fault { result ≡ Ending.BoardFault → why ≡ FsErr.DeviceFault }
-{
-    match why {
-        FsErr::DeviceFault => Ending::BoardFault,
-        FsErr::Damaged(differ) => Ending::Differ(differ),
-        _ => Ending::Tight(0),
-    }
-}
-
-// Puts the written bytes that wait onto the chip, or says how a soak ends there.
-fn settle<B: Board>(volume: &mut Volume<'_, B>) -> Result<(), Ending>
-    ensures later { IfErr result IsLater }
-    ensures no_script { ¬ (result ≡ Err Ending.SourceFault) }
-    ensures cause { result ≡ Err Ending.BoardFault → Rose (B.faults volume.old.nor.now) (B.faults volume.new.nor.now) }
-    ensures same { IsSameVolume volume.old volume.new }
-    ensures changes { Changes B.NorState volume.old.nor.now volume.new.nor.now (λ was image. Unit {0}) }
-    ensures files { OnOk result ((g : Geometry) (s : State) → IsReady g volume.old s → HoldsFiles g (B.bytes volume.new.nor.now) s.table) }
-    ensures stops { IfErr result (λ ending. (g : Geometry) (s : State) → IsReady g volume.old s → ending ≡ Ending.BoardFault) }
-{
-    match volume.settle() {
-        Ok(()) => Ok(()),
-        Err(why) => Err(unsettled(why)),
-    }
-}
-
-// Puts the written bytes that wait onto the chip, and then says the summary of the turns.
-#[tactic(auto, using(volume::proofs::Staying::same_then))]
-fn finish<B: Board>(volume: &mut Volume<'_, B>, turns: u32, summary: Summary) -> Ending
-    requires { summary.ok ≤ turns }
-    ensures later { IsLater result }
-    ensures no_script { result ≢ Ending.SourceFault }
-    ensures cause { result ≡ Ending.BoardFault → Rose (B.faults volume.old.nor.now) (B.faults volume.new.nor.now) }
-    ensures same { IsSameVolume volume.old volume.new }
-    ensures goes { Leaves B.NorState volume.old.nor.now volume.new.nor.now (λ image count. Unit {0}) }
-    ensures speaks { (g : Geometry) (s : State) → IsReady g volume.old s → SpeaksOf B.NorState g volume.old.nor.now volume.new.nor.now (summary_text turns summary.ok summary.files summary.bytes) s.table result }
-{
-    if let Err(ending) = settle(volume) {
-        return ending;
-    }
-    match volume.say(summary_line(turns, summary).as_slice()) {
-        Ok(()) => Ending::Done,
-        Err(Failed) => Ending::BoardFault,
-    }
 }
 
 // Mounts and checks a formatted volume, makes turns of calls on it, and says their summary.
@@ -110,7 +59,7 @@ fn soak_volume<B: Board>(
         return ending;
     }
     match soak(volume, seed, turns, line) {
-        Ok(summary) => finish(volume, turns, summary),
+        Ok(summary) => finish(volume, summary_line(turns, summary).as_slice()),
         Err(Stop::Fault) => Ending::BoardFault,
         Err(Stop::Differ(differ)) => Ending::Differ(differ),
     }
@@ -138,20 +87,6 @@ fn soak_board<'b, B: Board>(
 {
     let mut volume = Volume::new(g, board, lent);
     soak_volume(&mut volume, seed, turns, line)
-}
-
-// Formats the volume of a board, or says how a command ends there.
-fn format_board<B: Board>(g: &Geometry, board: &mut B) -> Result<(), Ending>
-    requires fits { IsFitting g.now (B.unit board.old) (B.size board.old) }
-    ensures cause { OnErr result (Rose (B.faults board.old) (B.faults board.new)) }
-    ensures stops { IfErr result (λ ending. ending ≡ Ending.BoardFault) }
-    ensures changes { Changes B.NorState board.old board.new (λ was image. Unit {0}) }
-    ensures files { B.tells board.old → OnOk result (HoldsFiles g.now (B.bytes board.new) []) }
-{
-    match format(g, board) {
-        Ok(()) => Ok(()),
-        Err(_) => Err(Ending::BoardFault),
-    }
 }
 
 /// Formats the volume of a board, mounts and checks it in the lent memory, makes so many turns of calls on it that are drawn from a seed, and

@@ -15,6 +15,7 @@ use crate::checking::check_on;
 use crate::ending::conclude;
 use crate::extracting::extract_on;
 use crate::listing::list_on;
+use crate::making::make_on;
 use crate::plan::{Command, plan};
 use crate::run::run_on;
 use crate::soaking::soak_on;
@@ -46,18 +47,19 @@ fn perform<B: Board, S: Source, F: Folder>(
         Verb::List => list_on(g, board, bufs),
         Verb::Check => check_on(g, board, bufs),
         Verb::Extract => extract_on(g, board, folder, bufs),
+        Verb::Make => make_on(g, board, folder, bufs),
         Verb::Soak { seed, turns } => soak_on(g, seed, turns, board, bufs),
     }
 }
 
 /// Does the command that the words spell, on a board, and answers its status. The forms are
 /// `run PAGE BLOCK BLOCKS META MAGIC CHIP`, the same with `list` or `check` in the place of `run`,
-/// `extract PAGE BLOCK BLOCKS META MAGIC CHIP FOLDER`, and
+/// `extract PAGE BLOCK BLOCKS META MAGIC CHIP FOLDER`, the same with `make`, and
 /// `soak PAGE BLOCK BLOCKS META MAGIC CHIP SEED COUNT`: the numbers in decimal digits without a leading zero, SEED below
 /// 2 ^ 64, COUNT at most 1,000,000 and the others below 2 ^ 32, MAGIC `plain` or `len`, CHIP and FOLDER any words that aren't
 /// empty, which aren't read here. `run` mounts and checks the volume, and runs each line of the script as a call; `list` mounts
 /// it and says its files and its damaged ids, and writes nothing; `extract` says the same and puts each file into the
-/// folder; `check` mounts and checks it, and says what the check found and did; `soak` formats it, does COUNT turns of calls that
+/// folder; `make` formats it and writes each file of the folder into it, in its order; `check` mounts and checks it, and says what the check found and did; `soak` formats it, does COUNT turns of calls that
 /// are drawn from SEED, and says a summary. It takes no memory but what is lent.
 pub fn spiffs_tool<B: Board, S: Source, F: Folder>(
     words: &[String],

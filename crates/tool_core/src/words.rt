@@ -15,6 +15,8 @@ pub(crate) enum Verb {
     Check,
     /// Mounts a volume, says its list, and puts its files into a folder.
     Extract,
+    /// Formats a volume, and writes the files of a folder into it.
+    Make,
     /// Formats a volume, and does so many turns of calls on it that are drawn from the seed.
     Soak { seed: u64, turns: u32 },
 }
@@ -25,7 +27,7 @@ impl Verb {
         ensures { result ≡ writes self }
     {
         match self {
-            Verb::Run | Verb::Check | Verb::Soak { .. } => true,
+            Verb::Run | Verb::Check | Verb::Make | Verb::Soak { .. } => true,
             Verb::List | Verb::Extract => false,
         }
     }
@@ -36,7 +38,7 @@ impl Verb {
     {
         match self {
             Verb::Run | Verb::List | Verb::Check => 7,
-            Verb::Extract => 8,
+            Verb::Extract | Verb::Make => 8,
             Verb::Soak { .. } => 9,
         }
     }
@@ -46,7 +48,7 @@ impl Verb {
         ensures { result ≡ has_folder self }
     {
         match self {
-            Verb::Extract => true,
+            Verb::Extract | Verb::Make => true,
             Verb::Run | Verb::List | Verb::Check | Verb::Soak { .. } => false,
         }
     }
@@ -107,6 +109,9 @@ fn read_verb(words: &[String]) -> Option<Verb>
     let verb = word(words, 0);
     if verb == b"extract".as_slice() {
         return Some(Verb::Extract);
+    }
+    if verb == b"make".as_slice() {
+        return Some(Verb::Make);
     }
     match verb {
         b"run" => Some(Verb::Run),

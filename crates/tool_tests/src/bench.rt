@@ -97,12 +97,13 @@ pub(crate) const AMPLE: Lends = Lends {
     line: 12288,
 };
 
-/// Runs the top call with that much memory, and gives its status.
-pub(crate) fn run_with(
+/// Runs the top call over a folder with that much memory, and gives its status.
+pub(crate) fn run_over(
     alloc: Global,
     words: &str,
     board: &mut MemBoard,
     source: &mut MemSource,
+    folder: &mut MemFolder,
     lends: &Lends,
 ) -> Result<u8, Fail> {
     let words = words_of(alloc, words)?;
@@ -118,8 +119,19 @@ pub(crate) fn run_with(
         check: &mut check,
         line: &mut line,
     };
+    Ok(spiffs_tool(&words, board, source, folder, &mut bufs))
+}
+
+/// The same over a folder without files.
+pub(crate) fn run_with(
+    alloc: Global,
+    words: &str,
+    board: &mut MemBoard,
+    source: &mut MemSource,
+    lends: &Lends,
+) -> Result<u8, Fail> {
     let mut folder = MemFolder::new(alloc);
-    Ok(spiffs_tool(&words, board, source, &mut folder, &mut bufs))
+    run_over(alloc, words, board, source, &mut folder, lends)
 }
 
 /// Runs the top call on a script with ample memory, and gives its status.

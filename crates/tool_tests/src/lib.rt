@@ -12,6 +12,8 @@ mod images;
 #[cfg(test)]
 mod lists;
 #[cfg(test)]
+mod makes;
+#[cfg(test)]
 mod readers;
 #[cfg(test)]
 mod scripts;

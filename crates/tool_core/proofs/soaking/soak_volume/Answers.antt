@@ -1,9 +1,11 @@
-use Rattle.std.proofs.Common.{◌∙◌, refl}
+use Rattle.std.proofs.Common.{◌≡◌, ◌∙◌, refl, subst}
+use Rattle.std.proofs.Common.{ℕ, List}
 use Rattle.std.specs.Prelude.{min}
 use Rattle.volume_soak.specs.Turns.{empty}
 use Rattle.tool_core.proofs.Beginning.{memory_begun}
 use Rattle.tool_core.proofs.Formatting.{tidy_stops, empty_ready}
-use Rattle.tool_core.proofs.SoakEnds.{speaks_none, speaks_after, speaks_soaked}
+use Rattle.tool_core.proofs.FillEnds.{speaks_none, speaks_after}
+use Rattle.tool_core.proofs.SoakEnds.{speaks_soaked}
 use Rattle.tool_core.proofs.soaking.soak_volume.Goals as goal
 
 pub returns-in-Err-clause-soaks : goal.returns-in-Err-clause-soaks
@@ -16,7 +18,9 @@ returns-in-Ok-clause-soaks g c = λ slots closed tells files.
     let memory = memory_begun c.args.volume.now c.mount_and_check.new.volume (min 65535 slots) c.in_default.ensures.closed closed in
     let ready = empty_ready c.args.volume.now c.mount_and_check.new.volume h slots c.in_default.field-0 checked.same.geometry c.in_default.ensures.taken c.requires.writable memory files checked.changes tells (c.in_default.ensures.reported tells) in
     let told = c.in-Ok.ensures.soaked h (empty slots) ready in
-    speaks_after (c.soak.ensures.moved.goes.said ∙ checked.changes.said) (speaks_soaked slots c.args.seed c.args.turns c.in-Ok.summary told (c.finish.ensures.speaks h _ told.ready))
+    let line = c.as_slice.ensures.value ∙ c.summary_line.ensures in
+    let spoken = rw line at c.finish.ensures.speaks h _ told.ready in
+    speaks_after (c.soak.ensures.moved.goes.said ∙ checked.changes.said) (speaks_soaked slots c.args.seed c.args.turns c.in-Ok.summary told spoken)
 
 pub returns-in-Err-Fault-clause-soaks : goal.returns-in-Err-Fault-clause-soaks
 returns-in-Err-Fault-clause-soaks g c = λ slots closed tells files. speaks_none _ (c.soak.ensures.moved.goes.said ∙ c.mount_and_check.ensures.changes.said) refl

@@ -1,7 +1,7 @@
 use Rattle.std.proofs.Common.{◌∙◌, ap}
-use Rattle.tool_core.specs.Soaking.{unsettled_as}
-use Rattle.tool_core.proofs.SoakEnds.{settled_changes, settled_files, settled_stops}
-use Rattle.tool_core.proofs.soaking.settle.Goals as goal
+use Rattle.tool_core.specs.Filling.{unsettled_as}
+use Rattle.tool_core.proofs.FillEnds.{settled_changes, settled_files, settled_stops}
+use Rattle.tool_core.proofs.finishing.settle.Goals as goal
 
 pub returns-in-Ok-clause-files : goal.returns-in-Ok-clause-files
 returns-in-Ok-clause-files g c = λ h s ready. settled_files c.settle.ensures.settled c.settle.ensures.closed h s c.in-Ok.field-0 c.in-Ok.is ready
