@@ -19,7 +19,11 @@ fn below(x: &mut u64, count: usize) -> usize {
 // An entry page: of four, three are among the first of their block.
 fn drawn_place(x: &mut u64, g: &Geometry) -> Place {
     let entries = g.entries() as usize;
-    let count = if draw(x) % 4 == 0 { entries } else { entries.min(6) };
+    let count = if draw(x) % 4 == 0 {
+        entries
+    } else {
+        entries.min(6)
+    };
     Place {
         block: below(x, g.blocks as usize),
         entry: below(x, count),
@@ -151,12 +155,7 @@ fn set_entry(image: &mut Vec<u8>, g: &Geometry, x: &mut u64) {
 }
 
 // Changes a block's magic or erase count, or all its bytes.
-fn spoil(
-    alloc: Global,
-    image: &mut Vec<u8>,
-    g: &Geometry,
-    x: &mut u64,
-) -> Result<(), AllocError> {
+fn spoil(alloc: Global, image: &mut Vec<u8>, g: &Geometry, x: &mut u64) -> Result<(), AllocError> {
     let at = below(x, g.blocks as usize).saturating_mul(g.block as usize);
     let byte = (draw(x) % 256) as u8;
     match draw(x) % 4 {
@@ -172,12 +171,7 @@ fn spoil(
 }
 
 // Makes one change.
-fn change(
-    alloc: Global,
-    image: &mut Vec<u8>,
-    g: &Geometry,
-    x: &mut u64,
-) -> Result<(), AllocError> {
+fn change(alloc: Global, image: &mut Vec<u8>, g: &Geometry, x: &mut u64) -> Result<(), AllocError> {
     match draw(x) % 16 {
         0 | 1 => turn_bit(image, g, x),
         2 | 3 => clear_bits(image, g, x),

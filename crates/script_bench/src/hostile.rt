@@ -73,7 +73,11 @@ fn checks(bench: &Bench, image: &[u8], told: &Told) -> Result<bool, Trouble> {
 // Whether the flat table can stand beside the files of an image: it makes files of type 1, and as many as the greatest id.
 fn is_for_flat(bench: &Bench, image: &[u8]) -> Result<bool, Trouble> {
     let files = table(bench.alloc, &bench.g, image)?;
-    Ok(files.iter().all(|file| file.kind == 1 && file.id <= MOST_ID))
+    Ok(
+        files
+            .iter()
+            .all(|file| file.kind == 1 && file.id <= MOST_ID),
+    )
 }
 
 // Whether a run on an image ends as its check does, or else answers a script as the flat table does. None where no flat table is made.

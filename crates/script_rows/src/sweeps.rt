@@ -50,7 +50,8 @@ pub fn draw(chip: &Chip, words: &[&str], out: &mut String) -> Result<(), Trouble
 // Tells what came of commands on damaged images.
 fn tell_tried(tried: Tried, out: &mut String) -> Result<(), AllocError> {
     match tried {
-        Tried::Whole(met) => write!(out,
+        Tried::Whole(met) => write!(
+            out,
             "  {} in order or soon so, {} with damaged ids, {} with mixed blocks, {} no volume; {} scripts as of the flat table\n",
             met.whole, met.damaged, met.mixed, met.foreign, met.scripts
         ),
@@ -60,7 +61,10 @@ fn tell_tried(tried: Tried, out: &mut String) -> Result<(), AllocError> {
                 Odd::Check => "check",
                 Odd::Run => "run",
             };
-            write!(out, "  damaged as {seed} says: {command} is not as the plain program tells\n")
+            write!(
+                out,
+                "  damaged as {seed} says: {command} is not as the plain program tells\n"
+            )
         }
     }
 }
