@@ -7,7 +7,9 @@ use std::alloc::Global;
 use std::test::Fail;
 
 const MAKE: &str = "make 256 4096 16 0 len chip folder";
+
 const LIST: &str = "list 256 4096 16 0 len chip";
+
 const EXTRACT: &str = "extract 256 4096 16 0 len chip folder";
 
 // Gives the command of these words over a folder, and answers its status.
