@@ -3,8 +3,8 @@ ghost use Rattle.std.specs.Prelude.{◌<◌};
 
 use block_gc::{RoomErr, are_had, choose, clean, compact, is_stuck, make_room, score};
 use fd_table::FdSlot;
-use flash_view::{StepErr, View};
-use free_search::{counts, next_count};
+use flash_view::{Kind, StepErr, View};
+use free_search::{counts, free_page, next_count};
 use geometry::Geometry;
 use nor_core::{Failed, MemBoard, Nor, NorState};
 use page_put::{fill_tail, name_slot};
@@ -21,6 +21,8 @@ pub(crate) enum Ask<'a> {
     Stuck,
     /// Whether so many index pages and data pages are had.
     Had(u32, u32),
+    /// The page for the next one of a kind, where a free block is taken only if more are free, and one is never chosen.
+    Page(Kind, u32, Option<u16>),
     /// The score of a block.
     Score(u16),
     /// Cleans a block.
@@ -39,6 +41,7 @@ pub(crate) enum Ask<'a> {
 #[derive(Clone, Copy, Debug, PartialEq, Eq)]
 pub(crate) enum Answer {
     Block(Option<u16>),
+    Page(Option<u16>),
     Is(bool),
     Score(i64),
     Done,
@@ -130,6 +133,10 @@ fn ask_view(v: &mut View<'_, MemBoard>, ask: &Ask<'_>) -> Answer {
         },
         Ask::Stuck => told(is_stuck(v)),
         Ask::Had(index, data) => told(are_had(v, index, data)),
+        Ask::Page(kind, keep, not_in) => match free_page(v, kind, keep, not_in) {
+            Ok(page) => Answer::Page(page),
+            Err(Failed) => Answer::Fault,
+        },
         Ask::Score(block) => ask_block(v, block, false),
         Ask::Clean(block) => ask_block(v, block, true),
         Ask::Room(index, data) => roomed(make_room(v, index, data)),

@@ -7,6 +7,8 @@ mod batches;
 #[cfg(test)]
 mod bench;
 #[cfg(test)]
+mod choosing;
+#[cfg(test)]
 mod collects;
 #[cfg(test)]
 mod cuts;
