@@ -179,7 +179,7 @@ fn change(alloc: Global, image: &mut Vec<u8>, g: &Geometry, x: &mut u64) -> Resu
         6 => copy_name(alloc, image, g, x)?,
         7..=9 => name_page(image, g, x),
         10 | 11 => set_size(image, g, x),
-        12..=14 => set_entry(image, g, x),
+        12 | 13 => set_entry(image, g, x),
         _ => spoil(alloc, image, g, x)?,
     }
     Ok(())

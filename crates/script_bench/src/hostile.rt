@@ -1,8 +1,10 @@
 //! Commands on images that were damaged at random, beside the plain programs.
 use crate::damage::damage;
+use crate::folders::holds;
 use crate::tables::is_orderly;
 use crate::wanted::{Wanted, check_of, list_of};
 use crate::{Agreement, Bench, Fault, Told, Trouble, agreement_of, are_same, draw_calls, table};
+use folder_core::MemFolder;
 
 /// Calls of the script that is run on a damaged image.
 const CALLS: u64 = 12;
@@ -14,6 +16,7 @@ const MOST_ID: u16 = 12;
 #[derive(Clone, Copy)]
 pub enum Odd {
     List,
+    Extract,
     Check,
     Run,
 }
@@ -52,6 +55,21 @@ fn lists(bench: &Bench, image: &[u8]) -> Result<bool, Trouble> {
     let told = bench.give(&bench.words("list")?, image, b"", Fault::Nothing)?;
     let wanted = list_of(bench.alloc, &bench.g, image)?;
     Ok(is_as(&told, &wanted) && told.image.as_slice() == image)
+}
+
+// Whether an extraction says what a listing does, changes nothing, and puts the files of the table into a folder.
+fn extracts(bench: &Bench, image: &[u8]) -> Result<bool, Trouble> {
+    let mut folder = MemFolder::new(bench.alloc);
+    let words = bench.words("extract")?;
+    let told = bench.give_over(&words, image, b"", &mut folder, Fault::Nothing)?;
+    let wanted = list_of(bench.alloc, &bench.g, image)?;
+    if !is_as(&told, &wanted) || told.image.as_slice() != image {
+        return Ok(false);
+    }
+    if told.status == 3 {
+        return holds(bench.alloc, &mut folder, &[]);
+    }
+    holds(bench.alloc, &mut folder, &table(bench.alloc, &bench.g, image)?)
 }
 
 // Whether what a check told and left is what the plain programs say.
@@ -128,6 +146,9 @@ fn try_image(
     if !lists(bench, image)? {
         return Ok(Some(Odd::List));
     }
+    if !extracts(bench, image)? {
+        return Ok(Some(Odd::Extract));
+    }
     let checked = bench.check(image, Fault::Nothing)?;
     if !checks(bench, image, &checked)? {
         return Ok(Some(Odd::Check));
@@ -141,7 +162,7 @@ fn try_image(
     Ok(None)
 }
 
-/// Damages an image as so many seeds from one on draw, and lists, checks and runs each beside the plain programs.
+/// Damages an image as so many seeds from one on draw, and lists, extracts, checks and runs each beside the plain programs.
 pub fn try_damaged(bench: &Bench, image: &[u8], from: u64, count: u64) -> Result<Tried, Trouble> {
     let mut met = Met::none();
     for i in 0..count {

@@ -9,6 +9,7 @@ mod damage;
 mod drawn;
 mod drawn_calls;
 mod flat_lines;
+mod folders;
 mod hostile;
 mod images;
 mod steps;

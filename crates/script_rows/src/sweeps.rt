@@ -58,6 +58,7 @@ fn tell_tried(tried: Tried, out: &mut String) -> Result<(), AllocError> {
         Tried::Odd { seed, command } => {
             let command = match command {
                 Odd::List => "list",
+                Odd::Extract => "extract",
                 Odd::Check => "check",
                 Odd::Run => "run",
             };
@@ -69,7 +70,7 @@ fn tell_tried(tried: Tried, out: &mut String) -> Result<(), AllocError> {
     }
 }
 
-/// Damages the chip as seeds draw, and lists, checks and runs each: `damaged FROM COUNT`.
+/// Damages the chip as seeds draw, and lists, extracts, checks and runs each: `damaged FROM COUNT`.
 pub fn damage(chip: &Chip, words: &[&str], out: &mut String) -> Result<(), Trouble> {
     let from = number(words, 1, u64::MAX)?;
     let count = number(words, 2, 10_000)?;

@@ -1,6 +1,6 @@
 //! Images made by hand, on the volume of these tests: pages of 256 bytes, 16 blocks of 4,096.
 use geometry::{Geometry, MagicKind};
-use nor_core::{Failed, MemBoard, draw};
+use nor_core::{Failed, MemBoard};
 use script_bench::{empty, put};
 use std::alloc::Global;
 use std::test::Fail;
@@ -66,28 +66,6 @@ pub(crate) fn board_of(alloc: Global, image: &[u8]) -> Result<MemBoard, Fail> {
         Err::<(), Failed>(Failed)?;
     }
     Ok(MemBoard::new(alloc, image.to_vec(alloc)?, 4096)?)
-}
-
-/// An image of a few files, of which some bytes were damaged as a seed says: of pages, entries and magics.
-pub(crate) fn damaged_image(alloc: Global, g: &Geometry, seed: u64) -> Result<Vec<u8>, Fail> {
-    let mut image = empty(alloc, g)?;
-    put_hello(&mut image);
-    put_header(&mut image, 2, 2, 300, b"b");
-    put_data(&mut image, 1, 2, 0, b"two");
-    put_data(&mut image, 2, 2, 1, b"pages");
-    put(&mut image, 256 * 3 + 45, &[0x12, 0, 0x13, 0]);
-    put_header(&mut image, 3, 3, 0xFFFF_FFFF, b"a");
-    put_header(&mut image, 4, 4, 0xFFFF_FFFF, b"c");
-    let mut x = seed;
-    for _ in 0..4 {
-        let place = draw(&mut x);
-        let value = draw(&mut x);
-        let page = [0usize, 1, 2, 3, 4, 16, 17, 18][place as usize % 8];
-        let offset = place as usize / 8 % 64;
-        let byte = [1u8, 2, 3, 4, 0x80, 0x11, 0x12, 0xFF, 0, 0xF8, 0xFC, 0x78][value as usize % 12];
-        put(&mut image, page * 256 + offset, &[byte]);
-    }
-    Ok(image)
 }
 
 /// Whether bytes are the same.

@@ -4,8 +4,6 @@
 #[cfg(test)]
 mod bench;
 #[cfg(test)]
-mod checks;
-#[cfg(test)]
 mod extracts;
 #[cfg(test)]
 mod images;
