@@ -5,12 +5,7 @@ use image_plain::Record;
 use std::alloc::Global;
 
 // Whether file `i` of a folder has a file's name and bytes.
-fn is_file(
-    alloc: Global,
-    folder: &mut MemFolder,
-    i: u32,
-    file: &Record,
-) -> Result<bool, Trouble> {
+fn is_file(alloc: Global, folder: &mut MemFolder, i: u32, file: &Record) -> Result<bool, Trouble> {
     if i >= folder.count()? {
         return Ok(false);
     }

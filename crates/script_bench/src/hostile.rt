@@ -69,7 +69,11 @@ fn extracts(bench: &Bench, image: &[u8]) -> Result<bool, Trouble> {
     if told.status == 3 {
         return holds(bench.alloc, &mut folder, &[]);
     }
-    holds(bench.alloc, &mut folder, &table(bench.alloc, &bench.g, image)?)
+    holds(
+        bench.alloc,
+        &mut folder,
+        &table(bench.alloc, &bench.g, image)?,
+    )
 }
 
 // Whether what a check told and left is what the plain programs say.
