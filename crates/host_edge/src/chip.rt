@@ -1,7 +1,7 @@
 ghost use Rattle.std.specs.Prelude.{[], ◌+◌, ◌<◌, ◌^◌};
 
 use crate::Trouble;
-use crate::file::{erase_at, program_at, read_at};
+use crate::file::Window;
 use crate::trouble::note;
 use chip_row::{Chip, ChipState};
 use nor_core::{Failed, Mark};
@@ -19,10 +19,12 @@ pub enum Access {
     Create,
 }
 
-/// A NOR chip that is a file of the host. Bytes past the file's end are 0xFF. It tells no bytes.
+/// A NOR chip that is a file of the host. Bytes past the file's end are 0xFF. It tells no bytes. A piece of the file is kept, so
+/// nothing else may write to the file while the chip is in use.
 #[derive(Drop)]
 pub struct FileChip {
     file: Option<File>,
+    window: Window,
     size: u32,
     unit: u32,
     last: u64,
@@ -54,6 +56,7 @@ impl FileChip {
         };
         FileChip {
             file,
+            window: Window::new(),
             size,
             unit,
             last: 0,
@@ -71,7 +74,8 @@ impl FileChip {
 
 // Reads bytes of the file, and answers whether that could be done.
 fn read_file(
-    file: &mut Option<File>,
+    file: &Option<File>,
+    window: &mut Window,
     first: &mut Option<Trouble>,
     at: u32,
     into: &mut [u8],
@@ -79,7 +83,7 @@ fn read_file(
     let Some(file) = file else {
         return false;
     };
-    match read_at(file, u64::from(at), into) {
+    match window.read_at(file, at, into) {
         Ok(()) => true,
         Err(why) => {
             note(first, Trouble::Read(why));
@@ -90,7 +94,8 @@ fn read_file(
 
 // Programs bytes of the file, and answers whether that could be done.
 fn program_file(
-    file: &mut Option<File>,
+    file: &Option<File>,
+    window: &mut Window,
     first: &mut Option<Trouble>,
     at: u32,
     from: &[u8],
@@ -98,7 +103,7 @@ fn program_file(
     let Some(file) = file else {
         return false;
     };
-    match program_at(file, at, from) {
+    match window.program_at(file, at, from) {
         Ok(()) => true,
         Err(why) => {
             note(first, Trouble::Write(why));
@@ -108,13 +113,19 @@ fn program_file(
 }
 
 // Erases bytes of the file, and answers whether that could be done.
-fn erase_file(file: &mut Option<File>, first: &mut Option<Trouble>, at: u64, count: u32) -> bool
+fn erase_file(
+    file: &Option<File>,
+    window: &mut Window,
+    first: &mut Option<Trouble>,
+    at: u64,
+    count: u32,
+) -> bool
     requires { at + count < 2 ^ 64 }
 {
     let Some(file) = file else {
         return false;
     };
-    match erase_at(file, at, count) {
+    match window.erase_at(file, at, count) {
         Ok(()) => true,
         Err(why) => {
             note(first, Trouble::Write(why));
@@ -156,7 +167,7 @@ impl Chip for FileChip {
 
     fn read(&mut self, at: u32, into: &mut [u8]) -> Result<(), Failed> {
         self.reads = self.reads.saturating_add(1);
-        if read_file(&mut self.file, &mut self.trouble, at, into) {
+        if read_file(&self.file, &mut self.window, &mut self.trouble, at, into) {
             return Ok(());
         }
         self.faults = self.faults.saturating_add(1);
@@ -165,7 +176,7 @@ impl Chip for FileChip {
 
     fn program(&mut self, now: u64, at: u32, from: &[u8]) -> Result<(), Failed> {
         self.last = now;
-        if program_file(&mut self.file, &mut self.trouble, at, from) {
+        if program_file(&self.file, &mut self.window, &mut self.trouble, at, from) {
             return Ok(());
         }
         self.faults = self.faults.saturating_add(1);
@@ -175,7 +186,7 @@ impl Chip for FileChip {
     fn erase(&mut self, now: u64, unit_ix: u32, _mark: Option<Mark>) -> Result<(), Failed> {
         self.last = now;
         let at = u64::from(unit_ix) * u64::from(self.unit);
-        if erase_file(&mut self.file, &mut self.trouble, at, self.unit) {
+        if erase_file(&self.file, &mut self.window, &mut self.trouble, at, self.unit) {
             return Ok(());
         }
         self.faults = self.faults.saturating_add(1);

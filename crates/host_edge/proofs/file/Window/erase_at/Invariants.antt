@@ -1,5 +1,5 @@
-use Rattle.std.proofs.Common.{◌-◌, ◌≤◌}
-use Rattle.host_edge.proofs.file.erase_at.Given as goal
+use Rattle.std.proofs.Common.{◌-◌, ◌≤◌, length}
+use Rattle.host_edge.proofs.file.Window.erase_at.Given as goal
 
 abbrev pub invariant-loop-done : goal.invariant-loop-done
 invariant-loop-done l = l.done ≤ l.count

@@ -1,0 +1,5 @@
+use Rattle.std.proofs.Common.{◌-◌, ◌≤◌, length}
+use Rattle.host_edge.proofs.file.Window.pad_to.Given as goal
+
+abbrev pub decreases-loop-end : goal.decreases-loop-end
+decreases-loop-end l = l.at - l.end

@@ -1,5 +1,0 @@
-use Rattle.std.proofs.Common.{◌-◌, ◌≤◌}
-use Rattle.host_edge.proofs.file.pad_to.Given as goal
-
-abbrev pub decreases-loop-end : goal.decreases-loop-end
-decreases-loop-end l = l.at - l.end
