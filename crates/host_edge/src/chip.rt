@@ -186,7 +186,13 @@ impl Chip for FileChip {
     fn erase(&mut self, now: u64, unit_ix: u32, _mark: Option<Mark>) -> Result<(), Failed> {
         self.last = now;
         let at = u64::from(unit_ix) * u64::from(self.unit);
-        if erase_file(&self.file, &mut self.window, &mut self.trouble, at, self.unit) {
+        if erase_file(
+            &self.file,
+            &mut self.window,
+            &mut self.trouble,
+            at,
+            self.unit,
+        ) {
             return Ok(());
         }
         self.faults = self.faults.saturating_add(1);

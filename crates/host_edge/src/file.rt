@@ -25,7 +25,11 @@ fn piece_of(at: u64, count: usize) -> (u64, usize, usize)
     ensures some { 0 < count → 0 < result.2 }
 {
     let first = at % WINDOW as u64;
-    (at - first, first as usize, count.min(WINDOW - first as usize))
+    (
+        at - first,
+        first as usize,
+        count.min(WINDOW - first as usize),
+    )
 }
 
 // Reads bytes from a place of the file. Past its end they are 0xFF.
