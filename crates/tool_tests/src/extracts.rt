@@ -69,8 +69,8 @@ fn extract_into(
     Ok(extract(&mut view, check, folder, &mut line))
 }
 
-// Whether file `i` of a folder has this name and these bytes.
-fn holds(
+/// Whether file `i` of a folder has this name and these bytes.
+pub(crate) fn holds(
     alloc: Global,
     folder: &mut MemFolder,
     i: u32,
@@ -83,7 +83,7 @@ fn holds(
     if i >= count {
         return Ok(false);
     }
-    let mut told = [0u8; 8];
+    let mut told = [0u8; 32];
     let Ok(n) = folder.name(i, &mut told) else {
         return Ok(false);
     };
