@@ -2,6 +2,7 @@
 use Rattle.std.proofs.Common.{ℕ, ◌≡◌, ◌+◌, ◌-◌, ◌*◌, ◌/◌, ◌%◌, ◌<◌, ◌≤◌, ⊎_elim, ap, ◌∙◌, arith}
 use Rattle.std.proofs.Math.Nat.{mul-le-mul_right, div-lt_iff_lt-mul, mod-lt}
 use Rattle.std.proofs.lemmas.Nat.{mod-mul-add, div-mul-add, div-add-mod'}
+use Rattle.geometry.proofs.Bounds.{magic_fits}
 use Rattle.geometry.specs.declared.geometry.Geometry.{Geometry}
 use Rattle.geometry.specs.Numbers.{per_block, page_count, lookups, slots}
 use Rattle.page_cache.specs.Frames.{InOnePage}
@@ -77,4 +78,4 @@ pub magic_in_page : (g : Geometry) (block : ℕ) → block < g.blocks → InOneP
 magic_in_page g block below = even_in_page g (magic_start g block) (even_slot g block (slots g - 2)) (omega (arith, magic_inside g block below))
 
 pub count_in_page : (g : Geometry) (block : ℕ) → block < g.blocks → InOnePage g (count_start g block) 2
-count_in_page g block below = even_in_page g (count_start g block) (even_slot g block (slots g - 1)) (omega (arith, magic_inside g block below, g.valid.magic_fits))
+count_in_page g block below = even_in_page g (count_start g block) (even_slot g block (slots g - 1)) (omega (arith, magic_inside g block below, magic_fits g))

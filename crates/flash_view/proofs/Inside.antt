@@ -2,6 +2,7 @@
 use Rattle.std.proofs.Common.{ℕ, ◌≡◌, ◌+◌, ◌-◌, ◌*◌, ◌/◌, ◌%◌, ◌<◌, ◌≤◌, ap, ◌∙◌, arith}
 use Rattle.std.proofs.Math.Nat.{mul-le-mul_right, mul-le-mul_left, mul_assoc, div-lt_iff_lt-mul, mod-lt}
 use Rattle.std.proofs.lemmas.Nat.{mod-mul-add}
+use Rattle.geometry.proofs.Bounds.{some_pages, some_entries, magic_fits}
 use Rattle.geometry.specs.declared.geometry.Geometry.{Geometry}
 use Rattle.geometry.specs.Numbers.{per_block, lookups, entries, page_count, slots}
 use Rattle.flash_view.specs.Places.{IsEntryPage, block_of, place_of, entry_start, magic_start}
@@ -29,27 +30,27 @@ page_inside g p below =
 -- the lookup pages lie in the block
 pub lookups_inside : (g : Geometry) → lookups g * g.page ≤ g.block
 lookups_inside g =
-    let few : lookups g ≤ per_block g = omega (arith, g.valid.some_entries) in
+    let few : lookups g ≤ per_block g = omega (arith, some_entries g) in
     omega (arith, mul-le-mul_right g.page few, block_pages g)
 
 pub block_below : (g : Geometry) (p : ℕ) → p < page_count g → p / per_block g < g.blocks
-block_below g p below = let some : 0 < per_block g = omega (arith, g.valid.some_pages) in (div-lt_iff_lt-mul some).1 below
+block_below g p below = let some : 0 < per_block g = omega (arith, some_pages g) in (div-lt_iff_lt-mul some).1 below
 
 pub entry_inside : (g : Geometry) (p : ℕ) → IsEntryPage g p → entry_start g p + 2 ≤ g.blocks * g.block
 entry_inside g p entry =
-    let some : 0 < per_block g = omega (arith, g.valid.some_pages) in
+    let some : 0 < per_block g = omega (arith, some_pages g) in
     let place : place_of g p < per_block g = mod-lt p some in
-    let slot : place_of g p - lookups g + 3 ≤ slots g = omega (arith, g.valid.magic_fits, entry.behind, place) in
+    let slot : place_of g p - lookups g + 3 ≤ slots g = omega (arith, magic_fits g, entry.behind, place) in
     omega (arith, slot, lookups_inside g, block_inside g (block_of g p) (block_below g p entry.below))
 
 pub magic_inside : (g : Geometry) (b : ℕ) → b < g.blocks → magic_start g b + 4 ≤ g.blocks * g.block
-magic_inside g b below = omega (arith, g.valid.magic_fits, lookups_inside g, block_inside g b below)
+magic_inside g b below = omega (arith, magic_fits g, lookups_inside g, block_inside g b below)
 
 -- the page of an entry is an entry page of the block
 pub entry_page_is : (g : Geometry) (b i p : ℕ) → b < g.blocks → i < entries g → p ≡ b * per_block g + lookups g + i → IsEntryPage g p
 entry_page_is g b i p block entry is =
     let next : b + 1 ≤ g.blocks = omega arith in
-    let place : lookups g + i < per_block g = omega (arith, entry, g.valid.some_entries) in
+    let place : lookups g + i < per_block g = omega (arith, entry, some_entries g) in
     let sum : p ≡ b * per_block g + (lookups g + i) = omega (arith, is) in
     let at : p % per_block g ≡ lookups g + i = rw sum (mod-mul-add b (per_block g) (lookups g + i) place) in
     record {

@@ -54,7 +54,7 @@ pub(crate) fn count_start(g: &Geometry, block: u16) -> u32
 }
 
 /// Whether a page of the volume is one of its entry pages, and no lookup page.
-#[tactic(auto, unfolding(image_model::specs::Places::is_entry_page, image_model::specs::Volume::page_count, image_model::specs::Volume::per_block, image_model::specs::Volume::lookups))]
+#[tactic(auto, unfolding(image_model::specs::Places::is_entry_page, geometry::specs::Numbers::page_count, geometry::specs::Numbers::per_block, geometry::specs::Numbers::lookups))]
 pub fn is_entry_page(g: &Geometry, page: u16) -> bool
     requires { page < page_count g.now }
     ensures entry { OnTrue result (IsEntryPage g.now page) }

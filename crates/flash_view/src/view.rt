@@ -117,7 +117,7 @@ impl<'b, N: Nor> View<'b, N> {
     }
 
     /// The entry of a page: free, deleted, or the id of its object with bit 15 set in index pages.
-    #[tactic(auto, unfolding(image_model::specs::Places::entry_of, image_model::specs::Places::slot_of, image_model::specs::Volume::per_block, image_model::specs::Volume::lookups))]
+    #[tactic(auto, unfolding(image_model::specs::Places::entry_of, image_model::specs::Places::slot_of, geometry::specs::Numbers::per_block, geometry::specs::Numbers::lookups))]
     pub fn entry(&mut self, page: u16) -> Result<u16, Failed>
         requires { IsEntryPage self.old.geometry page }
         ensures cause { OnErr result (Rose (N.faults self.old.nor.now) (N.faults self.new.nor.now)) }
@@ -131,7 +131,7 @@ impl<'b, N: Nor> View<'b, N> {
     }
 
     /// Whether a block has the magic of this volume.
-    #[tactic(auto, unfolding(image_model::specs::Places::has_magic, image_model::specs::Places::slot_of, image_model::specs::Volume::lookups))]
+    #[tactic(auto, unfolding(image_model::specs::Places::has_magic, image_model::specs::Places::slot_of, geometry::specs::Numbers::lookups))]
     pub fn has_magic(&mut self, block: u16) -> Result<bool, Failed>
         requires { block < self.old.geometry.blocks }
         ensures cause { OnErr result (Rose (N.faults self.old.nor.now) (N.faults self.new.nor.now)) }
@@ -145,7 +145,7 @@ impl<'b, N: Nor> View<'b, N> {
     }
 
     /// How often a block was erased, as its slot tells it: 0 where the slot holds no count.
-    #[tactic(auto, unfolding(image_model::specs::Places::erase_count, image_model::specs::Places::slot_of, image_model::specs::Volume::lookups))]
+    #[tactic(auto, unfolding(image_model::specs::Places::erase_count, image_model::specs::Places::slot_of, geometry::specs::Numbers::lookups))]
     pub fn erase_count(&mut self, block: u16) -> Result<u16, Failed>
         requires { block < self.old.geometry.blocks }
         ensures cause { OnErr result (Rose (N.faults self.old.nor.now) (N.faults self.new.nor.now)) }

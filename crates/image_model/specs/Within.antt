@@ -3,8 +3,9 @@ use Rattle.std.specs.Prelude.{◌≡◌, ℕ, ◌+◌, ◌-◌, ◌*◌, ◌/◌
 use Rattle.std.proofs.Common.{ap, refl, arith, length-take, length-drop, ⊎_elim}
 use Rattle.std.proofs.Math.Nat.{mul-le-mul_right, div-add-mod}
 use Rattle.std.proofs.lemmas.Bool.{cases_lt, lt-ltb, le-ltb}
+use Rattle.geometry.proofs.Bounds.{some_entries, magic_fits}
 use Rattle.geometry.specs.declared.geometry.Geometry.{Geometry}
-use Rattle.image_model.specs.Volume.{page_count, per_block, lookups, slots, entries}
+use Rattle.geometry.specs.Numbers.{page_count, per_block, lookups, slots, entries}
 use Rattle.image_model.specs.Places.{page_of, is_entry_page, block_of, place_of, IsImage, entry_at}
 
 -- what the sizes of a volume meet
@@ -25,8 +26,8 @@ sizes g =
     record {
       page = g.valid.page_least;
       block = (let whole : g.page * (g.block / g.page) ≡ g.block = omega (arith, div-add-mod g.block g.page, g.valid.whole_pages) in omega (arith, whole));
-      lookups_fit = omega (arith, g.valid.some_entries);
-      slots_fit = g.valid.magic_fits;
+      lookups_fit = omega (arith, some_entries g);
+      slots_fit = magic_fits g;
       meta = g.valid.meta_most;
       small = omega (arith, few, one, g.valid.page_most);
       total = omega (arith, few, g.valid.page_most);

@@ -6,7 +6,7 @@ use Rattle.geometry.specs.declared.geometry.Geometry.{Geometry}
 use Rattle.nor_core.specs.Flash.{HalfProgrammed}
 use Rattle.flash_view.specs.Places.{entry_start}
 use Rattle.image_model.specs.Within.{sizes}
-use Rattle.image_model.specs.Volume.{per_block, lookups}
+use Rattle.geometry.specs.Numbers.{per_block, lookups}
 use Rattle.image_model.specs.Places.{page_of, IsImage, entry_at}
 use Rattle.image_model.specs.Headers.{is_finished}
 use Rattle.image_model.specs.Live.{live_at}

@@ -2,7 +2,7 @@
 use Rattle.std.proofs.Common.{◌≡◌, ℕ, ◌+◌, ◌*◌, ◌<◌, ◌≤◌, List, slice_index, Bool, true, false, not, if◌then◌else◌, ◌==◌, ◌&&◌, ap, refl, sym, ◌∙◌, subst, arith}
 use Rattle.std.specs.Prelude.{is_none, Some, None}
 use Rattle.geometry.specs.declared.geometry.Geometry.{Geometry}
-use Rattle.image_model.specs.Volume.{per_block}
+use Rattle.geometry.specs.Numbers.{per_block}
 use Rattle.page_layout.specs.declared.header.PageHeader.{PageHeader}
 use Rattle.page_layout.specs.Layout.{header_at, bits_of, is_finished as is_finished_head}
 use Rattle.image_model.specs.Within.{sizes}

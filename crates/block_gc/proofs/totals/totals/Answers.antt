@@ -1,5 +1,5 @@
 use Rattle.std.proofs.Common.{refl, arith, rules}
-use Rattle.image_model.specs.Volume.{per_block, lookups, entries}
+use Rattle.geometry.specs.Numbers.{per_block, lookups, entries}
 use Rattle.flash_view.proofs.Looking.{looks_none, looks_then}
 use Rattle.free_search.specs.Counts.{AreCounts}
 use Rattle.block_gc.specs.Totals.{IsRoom}

@@ -1,7 +1,7 @@
 use Rattle.std.proofs.Common.{◌≡◌, refl, arith}
 use Rattle.std.specs.Option.{option_map}
 use Rattle.page_layout.specs.Layout.{header_at}
-use Rattle.image_model.specs.Volume.{page_count, per_block}
+use Rattle.geometry.specs.Numbers.{page_count, per_block}
 use Rattle.image_model.specs.Live.{live_at}
 use Rattle.flash_view.proofs.Looking.{looks_none, looks_then}
 use Rattle.file_calls.proofs.Counting.{counting_start, counting_more, few_more}

@@ -1,5 +1,5 @@
 use Rattle.std.proofs.Common.{arith}
-use Rattle.image_model.specs.Volume.{page_count, per_block}
+use Rattle.geometry.specs.Numbers.{page_count, per_block}
 use Rattle.flash_view.proofs.Looking.{looks_none}
 use Rattle.flash_view.proofs.Stepped.{looked, weaker, fails, stepped_then}
 use Rattle.file_drop.proofs.Passing.{none_yet, turns, all_passed}

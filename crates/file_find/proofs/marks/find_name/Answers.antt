@@ -1,6 +1,6 @@
 use Rattle.std.proofs.Common.{◌≡◌, ◌∙◌, sym, Some, None, refl}
 use Rattle.std.proofs.Math.Nat.{sub-zero}
-use Rattle.image_model.specs.Volume.{page_count, per_block}
+use Rattle.geometry.specs.Numbers.{page_count, per_block}
 use Rattle.file_find.specs.Marks.{whole_at}
 use Rattle.flash_view.proofs.Finds.{first_here, first_later}
 use Rattle.file_find.proofs.Holders.{first_whole}

@@ -1,5 +1,5 @@
 use Rattle.std.proofs.Common.{◌≡◌, refl, sym, arith}
-use Rattle.image_model.specs.Volume.{per_block, lookups, entries}
+use Rattle.geometry.specs.Numbers.{per_block, lookups, entries}
 use Rattle.flash_view.proofs.Looking.{looks_then}
 use Rattle.free_search.specs.Counts.{the_sort}
 use Rattle.free_search.proofs.Counting.{counting_start, counting_more, counting_end, total_more}

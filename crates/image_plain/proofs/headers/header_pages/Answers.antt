@@ -1,5 +1,5 @@
 use Rattle.std.proofs.Common.{◌≡◌, arith, subst}
-use Rattle.image_model.specs.Volume.{page_count, per_block}
+use Rattle.geometry.specs.Numbers.{page_count, per_block}
 use Rattle.image_model.specs.Live.{live_at}
 use Rattle.image_plain.proofs.Headed.{none_noted, noted_more, all_noted}
 use Rattle.image_plain.specs.Headed.{HeadsFrom}

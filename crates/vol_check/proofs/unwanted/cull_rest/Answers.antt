@@ -1,5 +1,5 @@
 use Rattle.std.proofs.Common.{arith}
-use Rattle.image_model.specs.Volume.{page_count, per_block}
+use Rattle.geometry.specs.Numbers.{page_count, per_block}
 use Rattle.flash_view.proofs.Looking.{looks_none}
 use Rattle.vol_check.proofs.Working.{look_works, works_as, works_end, works_stop}
 use Rattle.vol_check.proofs.Passing.{from_bool_is}

@@ -1,5 +1,5 @@
 use Rattle.std.proofs.Common.{◌≡◌, true, sym}
-use Rattle.image_model.specs.Volume.{per_block}
+use Rattle.geometry.specs.Numbers.{per_block}
 use Rattle.image_model.specs.Places.{has_magic, block_of, entry_of, page_of}
 use Rattle.page_layout.specs.Layout.{header_at}
 use Rattle.flash_view.proofs.Looking.{looks_then}

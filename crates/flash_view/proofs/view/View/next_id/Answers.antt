@@ -1,6 +1,5 @@
 use Rattle.std.proofs.Common.{◌≡◌, ◌∙◌, ap, sym, refl, arith}
-use Rattle.geometry.specs.Numbers.{page_count as pages_of}
-use Rattle.image_model.specs.Volume.{page_count, per_block}
+use Rattle.geometry.specs.Numbers.{page_count, per_block}
 use Rattle.image_model.specs.Live.{live_at}
 use Rattle.flash_view.specs.Found.{headed}
 use Rattle.flash_view.proofs.Least.{least_more, least_all}
@@ -21,7 +20,7 @@ loop-page-preserved g c =
     let looked = c.in_ok-found.ensures in
     let looks = looks_then was.looks looked.looks in
     record {
-      pages = was.pages ∙ ap pages_of (sym looked.looks.same.geometry);
+      pages = was.pages ∙ ap page_count (sym looked.looks.same.geometry);
       looks = looks;
       work = looked.work ∙ was.work;
       told = λ tells.
