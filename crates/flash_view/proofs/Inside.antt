@@ -5,7 +5,8 @@ use Rattle.std.proofs.lemmas.Nat.{mod-mul-add}
 use Rattle.geometry.proofs.Bounds.{some_pages, some_entries, magic_fits}
 use Rattle.geometry.specs.declared.geometry.Geometry.{Geometry}
 use Rattle.geometry.specs.Numbers.{per_block, lookups, entries, page_count, slots}
-use Rattle.flash_view.specs.Places.{IsEntryPage, block_of, place_of, entry_start, magic_start}
+use Rattle.flash_view.specs.Places.{IsEntryPage, magic_start}
+use Rattle.image_model.specs.Places.{block_of, place_of, entry_at}
 
 -- a block is its pages
 pub block_pages : (g : Geometry) → per_block g * g.page ≡ g.block
@@ -36,7 +37,7 @@ lookups_inside g =
 pub block_below : (g : Geometry) (p : ℕ) → p < page_count g → p / per_block g < g.blocks
 block_below g p below = let some : 0 < per_block g = omega (arith, some_pages g) in (div-lt_iff_lt-mul some).1 below
 
-pub entry_inside : (g : Geometry) (p : ℕ) → IsEntryPage g p → entry_start g p + 2 ≤ g.blocks * g.block
+pub entry_inside : (g : Geometry) (p : ℕ) → IsEntryPage g p → entry_at g p + 2 ≤ g.blocks * g.block
 entry_inside g p entry =
     let some : 0 < per_block g = omega (arith, some_pages g) in
     let place : place_of g p < per_block g = mod-lt p some in

@@ -1,8 +1,8 @@
 ghost use Rattle.std.specs.Prelude.{◌≡◌, ◌+◌, ◌*◌, ◌%◌, ◌<◌, ◌≤◌};
 ghost use Rattle.std.specs.Bool.{OnTrue, OnFalse};
 ghost use Rattle.geometry.specs.Numbers.{page_count, per_block, lookups, entries};
-ghost use Rattle.flash_view.specs.Places.{IsEntryPage, block_of as the_block_of, page_start as the_page_start, entry_start as the_entry_start, magic_start as the_magic_start, count_start as the_count_start};
-ghost use Rattle.image_model.specs.Places.{is_entry_page as the_entry_page};
+ghost use Rattle.flash_view.specs.Places.{IsEntryPage, page_start as the_page_start, magic_start as the_magic_start, count_start as the_count_start};
+ghost use Rattle.image_model.specs.Places.{block_of as the_block_of, entry_at, is_entry_page as the_entry_page};
 ghost use Rattle.page_cache.specs.Frames.{InOnePage};
 
 use geometry::Geometry;
@@ -22,7 +22,7 @@ pub(crate) fn page_start(g: &Geometry, page: u16) -> u32
 #[tactic(auto, using(crate::proofs::Inside::entry_inside, crate::proofs::InPage::entry_in_page))]
 pub(crate) fn entry_start(g: &Geometry, page: u16) -> u32
     requires { IsEntryPage g.now page }
-    ensures start { result ≡ the_entry_start g.now page }
+    ensures start { result ≡ entry_at g.now page }
     ensures inside { result + 2 ≤ g.now.blocks * g.now.block }
     ensures one_page { InOnePage g.now result 2 }
 {

@@ -41,7 +41,7 @@ impl<'b, N: Nor> View<'b, N> {
     ghost use Rattle.nor_core.specs.Count.{Rose};
     ghost use Rattle.nor_core.specs.Flash.{HalfProgrammed, programmed, HalfErased, erased, word_at};
     ghost use Rattle.nor_core.specs.Device.{Changes, InErase, Writes};
-    ghost use Rattle.flash_view.specs.Places.{IsEntryPage, IsWordAt, page_start as the_page_start, entry_start as the_entry_start};
+    ghost use Rattle.flash_view.specs.Places.{IsEntryPage, IsWordAt, page_start as the_page_start};
     ghost use Rattle.image_model.specs.Places.{page_of, entry_at, entry_of as the_entry_of, has_magic as the_magic, erase_count as the_erase_count};
     ghost use Rattle.image_model.specs.Tidy.{is_erased as the_erased};
     ghost use Rattle.page_layout.specs.Layout.{header_at};
@@ -351,8 +351,8 @@ impl<'b, N: Nor> View<'b, N> {
         requires { IsEntryPage self.old.geometry page }
         ensures cause { OnErr result (Rose (N.faults self.old.nor.now) (N.faults self.new.nor.now)) }
         ensures writes { Writes N.NorState self.old.nor.now self.new.nor.now }
-        ensures changes { Changes N.NorState self.old.nor.now self.new.nor.now (HalfProgrammed (the_entry_start self.old.geometry page) (to_le_bytes w16 entry)) }
-        ensures done { N.tells self.old.nor.now → OnOk result (N.bytes self.new.nor.now ≡ programmed (N.bytes self.old.nor.now) (the_entry_start self.old.geometry page) (to_le_bytes w16 entry)) }
+        ensures changes { Changes N.NorState self.old.nor.now self.new.nor.now (HalfProgrammed (entry_at self.old.geometry page) (to_le_bytes w16 entry)) }
+        ensures done { N.tells self.old.nor.now → OnOk result (N.bytes self.new.nor.now ≡ programmed (N.bytes self.old.nor.now) (entry_at self.old.geometry page) (to_le_bytes w16 entry)) }
         ensures work { self.new.work.now ≡ self.old.work.now }
         ensures same { IsSameView self.old self.new }
         ensures wrote { self.new.wrote ≡ true }

@@ -31,7 +31,7 @@ pub struct Geometry {
 }
 
 impl Geometry {
-    ghost use Rattle.std.specs.Prelude.{◌≡◌, ◌<◌, ◌≤◌, ◌^◌, IfOk, IfErr, OnOk, Some, None};
+    ghost use Rattle.std.specs.Prelude.{◌≡◌, ◌<◌, ◌≤◌, ◌*◌, ◌^◌, IfOk, IfErr, OnOk, Some, None};
     ghost use Rattle.geometry.specs.Numbers.{refusal, write_refusal, IsOf, per_block as per_block_of, lookups as lookups_of, entries as entries_of, body as body_of, head_slots as head_slots_of, span_slots as span_slots_of, page_count, usable as usable_of, work_need as work_need_of, cache_need as cache_need_of, check_need as check_need_of, length_mark as length_mark_of, right_magic};
 
     /// A volume of these numbers: `page`, `block` and `phys` in bytes, `meta` in bytes for each file. Of
@@ -140,7 +140,9 @@ impl Geometry {
     /// Lookup pages of a block; at least 1.
     #[tactic(auto, unfolding(crate::specs::Numbers::lookups))]
     pub fn lookups(&self) -> u32
-        ensures { result ≡ lookups_of self.now }
+        ensures count { result ≡ lookups_of self.now }
+        ensures some { 1 ≤ result }
+        ensures fits { result * self.now.page < 2 ^ 32 }
     {
         self.lookups_each
     }

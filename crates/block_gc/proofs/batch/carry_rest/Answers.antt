@@ -11,7 +11,7 @@ loop-i-init g c =
     let view = c.args.v.now in
     record {
       geometry = refl;
-      end = c.entries-i-end.ensures;
+      end = c.entries-i-end.ensures.count;
       pages = c.requires.pages;
       step = λ was. looked (looks_none view) (λ e. absurd (cc)) tt (λ tells need. (carry_stays _ was _ c.args.block c.args.most c.args.batch _ need.so_far, rest_begins _ was _ c.args.block c.args.most c.args.batch c.args.first _ _ need));
     }

@@ -11,7 +11,7 @@ loop-i-init g c =
     let view = c.args.v.now in
     record {
       geometry = refl;
-      end = c.entries-i-end.ensures;
+      end = c.entries-i-end.ensures.count;
       step = looked {step = emptying_to c.args.block c.args.most 0} (looks_none view) (λ e. absurd (cc)) tt (λ tells can. none_turned _ _ c.args.block c.args.most (view_image view (g.met.N.Nor.sized _) tells) can);
     }
 

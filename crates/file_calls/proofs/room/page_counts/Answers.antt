@@ -11,11 +11,11 @@ pub loop-page-init : goal.loop-page-init
 unfolding page_count per_block
 loop-page-init g c = record {
   looks = looks_none c.args.v.now;
-  end = c.pages-page-end.ensures;
+  end = c.pages-page-end.ensures.count;
   few_heads = omega arith;
   few_index = omega arith;
   few_pages = omega arith;
-  told = λ tells. counting_start c.args.v.now.geometry (g.N.NorState.bytes c.args.v.now.nor.now) c.pages-page-end.result _ c.pages-page-end.ensures refl refl refl;
+  told = λ tells. counting_start c.args.v.now.geometry (g.N.NorState.bytes c.args.v.now.nor.now) c.pages-page-end.result _ c.pages-page-end.ensures.count refl refl refl;
 }
 
 pub loop-page-preserved : goal.loop-page-preserved

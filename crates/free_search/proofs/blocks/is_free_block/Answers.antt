@@ -17,12 +17,12 @@ unfolding is_free_block per_block lookups entries
 loop-i-init g c = record {
   looks = c.in_ok-has_magic.ensures.looks;
   geometry = refl;
-  end = c.entries-i-end.ensures;
+  end = c.entries-i-end.ensures.count;
   told = λ tells.
       let image = g.N.NorState.bytes c.args.v.now.nor.now in
       let geometry = c.args.v.now.geometry in
       let magic : has_magic geometry image c.args.block ≡ true = cc (c.in_ok-has_magic.ensures.told tells, c.if-not-branch.false) in
-      rw c.entries-i-end.ensures (all_start (λ p. is_free_entry geometry image p) (c.args.block * per_block geometry + lookups geometry) (entries geometry) ∙ rw magic refl);
+      rw c.entries-i-end.ensures.count (all_start (λ p. is_free_entry geometry image p) (c.args.block * per_block geometry + lookups geometry) (entries geometry) ∙ rw magic refl);
 }
 
 pub returns-then-not-branch-2-clause-told : goal.returns-then-not-branch-2-clause-told

@@ -29,5 +29,5 @@ returns-clause-told g c = λ tells.
     let geometry = c.args.v.now.geometry in
     let image = g.N.NorState.bytes c.args.v.now.nor.now in
     let end : c.loop-page.page ≡ page_count geometry = omega (arith, was.end, c.loop-page-test.false, c.loop-page.auto.page-end) in
-    let all = rw (c.usable-usable.ensures, was.looks.same.geometry, c.bits_start-start.ensures, tail_of) at c.first_unnoted.ensures.first in
+    let all = rw (c.usable-usable.ensures.count, was.looks.same.geometry, c.bits_start-start.ensures, tail_of) at c.first_unnoted.ensures.first in
     all ∙ noted_all geometry image _ (subst (λ n. Noted geometry image (bits_at geometry c.loop-page.v.work.now) n) end (was.told tells))

@@ -21,4 +21,4 @@ returns-clause-told g c = λ tells frees.
     let image = g.N.NorState.bytes c.args.v.now.nor.now in
     let magic : has_magic geometry image c.args.block ≡ true = cc (m.told tells, c.if-not-branch.false) in
     let counts : AreCounts geometry image c.args.block c.in_ok-counts.field-0 = rw (m.looks.same.geometry, m.looks.reads.bytes) at (n.told (m.looks.reads.told tells)) in
-    rw (c.takes.ensures, c.entries-entries.ensures, m.looks.same.geometry) (opens geometry image c.args.block c.args.kind c.in_ok-counts.field-0 frees c.requires magic counts)
+    rw (c.takes.ensures, c.entries-entries.ensures.count, m.looks.same.geometry) (opens geometry image c.args.block c.args.kind c.in_ok-counts.field-0 frees c.requires magic counts)

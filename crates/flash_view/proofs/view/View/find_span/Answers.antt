@@ -10,10 +10,10 @@ use Rattle.flash_view.proofs.view.View.find_span.Goals as goal
 pub loop-page-init : goal.loop-page-init
 unfolding index_page page_count per_block
 loop-page-init g c = record {
-  pages = c.pages-page-end.ensures;
+  pages = c.pages-page-end.ensures.count;
   looks = looks_none c.args.self.now;
   work = refl;
-  told = λ tells. rw (sub-zero c.pages-page-end.result, c.pages-page-end.ensures) refl;
+  told = λ tells. rw (sub-zero c.pages-page-end.result, c.pages-page-end.ensures.count) refl;
 }
 
 pub returns-then-branch-clause-told : goal.returns-then-branch-clause-told

@@ -8,7 +8,7 @@ use Rattle.flash_view.proofs.view.View.next_id.Goals as goal
 
 pub loop-page-init : goal.loop-page-init
 loop-page-init g c = record {
-  pages = c.pages-page-end.ensures;
+  pages = c.pages-page-end.ensures.count;
   looks = looks_none c.args.self.now;
   work = refl;
   told = λ tells. record { none = λ q id low is. absurd (omega arith) };
@@ -36,5 +36,5 @@ unfolding page_count per_block
 returns-clause-told g c = λ tells.
     let was = c.loop-page.invariant in
     let view = c.args.self.now in
-    let end : c.loop-page.page ≡ page_count view.geometry = omega (arith, c.pages-page-end.ensures) in
+    let end : c.loop-page.page ≡ page_count view.geometry = omega (arith, c.pages-page-end.ensures.count) in
     least_all view.geometry (g.N.NorState.bytes view.nor.now) c.args.after c.loop-page.page c.loop-page.least end (was.told tells)
