@@ -3,9 +3,8 @@ ghost use Rattle.geometry.specs.Numbers.{page_count, cache_need};
 ghost use Rattle.nor_core.specs.Count.{Rose};
 ghost use Rattle.page_cache.specs.Kept.{IsKept};
 
-use crate::frame::HEAD;
-use crate::frames::{clear, find, frame, holder};
-use crate::through::{bring, erase_through, program_through, read_through};
+use crate::frames::{clear, find};
+use crate::through::{erase_through, held_page, hold_page, program_through, read_through};
 use geometry::Geometry;
 use nor_core::{Board, Failed, Mark, Nor, NorState};
 
@@ -99,10 +98,7 @@ impl<'b, N: Nor> Cached<'b, N> {
         ensures same { IsSameCached self.old self.new }
     {
         let g = self.geometry;
-        match bring(self.nor, self.frames, &g, page) {
-            Ok(_) => Ok(()),
-            Err(failed) => Err(failed),
-        }
+        hold_page(&g, self.nor, self.frames, page)
     }
 
     /// The bytes of a page that is held.
@@ -112,8 +108,7 @@ impl<'b, N: Nor> Cached<'b, N> {
         ensures size { length result.now ≡ self.now.geometry.page }
         ensures bytes { N.tells self.now.nor.now → result.now ≡ slice_range (N.bytes self.now.nor.now) (page * self.now.geometry.page) (page * self.now.geometry.page + self.now.geometry.page) }
     {
-        let f = holder(&self.geometry, self.frames, page);
-        &frame(&self.geometry, self.frames, f)[HEAD..]
+        held_page(&self.geometry, self.nor, self.frames, page)
     }
 
     /// The device and the bytes of the frames.

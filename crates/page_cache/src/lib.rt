@@ -7,6 +7,7 @@ mod frames;
 mod through;
 
 pub use cached::Cached;
+pub use through::{held_page, hold_page};
 
 #[cfg(test)]
 mod tests;

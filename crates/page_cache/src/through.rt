@@ -10,7 +10,7 @@ ghost use Rattle.page_cache.specs.Kept.{IsKept, FewReads, Stays};
 
 use crate::frame::{HEAD, fill};
 use crate::frames::{
-    bound_all, erase_all, find, frame, frame_len, give_up_all, pick, program_all, start_of,
+    bound_all, erase_all, find, frame, frame_len, give_up_all, holder, pick, program_all, start_of,
 };
 use geometry::Geometry;
 use nor_core::{Failed, Mark, Nor, NorState};
@@ -96,6 +96,47 @@ pub(crate) fn bring<N: Nor>(
         Some(f) => Ok(f),
         None => bring_missing(nor, frames, g, page),
     }
+}
+
+/// Gets a page of the volume held, for `held_page`. The volume is the first bytes of the device, and `frames` are those of a
+/// cached device over it, at least one. It fails where the device fails.
+pub fn hold_page<N: Nor>(
+    g: &Geometry,
+    nor: &mut N,
+    frames: &mut [u8],
+    page: u16,
+) -> Result<(), Failed>
+    requires need { cache_need g.now ≤ length frames.old }
+    requires page { page < page_count g.now }
+    requires volume { g.now.blocks * g.now.block ≤ N.size nor.old }
+    requires kept { IsKept N.NorState g.now nor.old frames.old }
+    ensures holds { OnOk result (holds g.now frames.new page ≡ true) }
+    ensures hit { holds g.now frames.old page ≡ true → IsOk result × (nor.new ≡ nor.old) × (frames.new ≡ frames.old) }
+    ensures once { N.device_reads nor.new ≤ N.device_reads nor.old + 1 }
+    ensures cause { OnErr result (Rose (N.faults nor.old) (N.faults nor.new)) }
+    ensures only_reads { OnlyReads N.NorState nor.old nor.new }
+    ensures stays { Stays g.now frames.old frames.new }
+    ensures few { FewReads N.NorState g.now nor.old frames.old nor.new frames.new }
+    ensures kept { IsKept N.NorState g.now nor.new frames.new }
+{
+    match bring(nor, frames, g, page) {
+        Ok(_) => Ok(()),
+        Err(failed) => Err(failed),
+    }
+}
+
+/// The bytes of a page that is held, lent from its frame.
+pub fn held_page<'a, N: Nor>(g: &Geometry, nor: &N, frames: &'a [u8], page: u16) -> &'a [u8]
+    requires need { cache_need g.now ≤ length frames.now }
+    requires page { page < page_count g.now }
+    requires volume { g.now.blocks * g.now.block ≤ N.size nor.now }
+    requires kept { IsKept N.NorState g.now nor.now frames.now }
+    requires holds { holds g.now frames.now page ≡ true }
+    ensures size { length result.now ≡ g.now.page }
+    ensures bytes { N.tells nor.now → result.now ≡ slice_range (N.bytes nor.now) (page * g.now.page) (page * g.now.page + g.now.page) }
+{
+    let f = holder(g, frames, page);
+    &frame(g, frames, f)[HEAD..]
 }
 
 // Reads bytes of a page, from its byte `start` on.

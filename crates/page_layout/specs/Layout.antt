@@ -1,5 +1,5 @@
 -- Where the fields of SPIFFS pages stand, and what they hold. A page is the list of its bytes.
-use Rattle.std.specs.Prelude.{◌≡◌, ◌≢◌, ◌⊎◌, ℕ, ◌+◌, ◌-◌, ◌*◌, ◌/◌, ◌%◌, ◌^◌, ◌<◌, ◌≤◌, List, ◌∷◌, ◌++◌, length, replicate, Bool, not, nat_lt, ◌==◌, ◌&&◌, ◌||◌, Some, if◌then◌else◌, slice_index, slice_range}
+use Rattle.std.specs.Prelude.{◌≡◌, ◌≢◌, ◌⊎◌, ℕ, ◌+◌, ◌-◌, ◌*◌, ◌/◌, ◌%◌, ◌^◌, ◌<◌, ◌≤◌, List, ◌∷◌, ◌++◌, length, replicate, Bool, not, nat_lt, nat_le, ◌==◌, ◌&&◌, ◌||◌, Option, Some, None, if◌then◌else◌, slice_index, slice_range}
 use Rattle.std.specs.Int.{bit_at}
 use Rattle.geometry.specs.declared.geometry.Geometry.{Geometry}
 use Rattle.geometry.specs.Numbers.{head_slots, span_slots}
@@ -90,6 +90,15 @@ page_number g page span slot = word_at page (slot_place g span slot)
 -- the erase count that its slot tells: 0x8000 and more, as in an erased slot, count as 0
 abbrev pub count_in : ℕ → ℕ
 count_in raw = if nat_lt raw 0x8000 then raw else 0
+
+-- a number lies between two, which count too
+abbrev pub is_between : ℕ → ℕ → ℕ → Bool
+is_between low high n = nat_le low n && nat_le n high
+
+-- where a search for a slot ended: at the slot that it found, or at its end
+abbrev pub end_of : ℕ → Option (ℕ × ℕ) → ℕ
+end_of to None = to
+end_of to (Some (i, n)) = i
 
 -- ---- the header page of a new file
 

@@ -20,7 +20,9 @@ pub use head::{
 };
 pub use header::{PageHeader, header_of, put_header};
 pub use index::{put_slot, slot_of, slot_offset};
-pub use lookup::{DELETED, FREE, INDEX_BIT, count_offset, entry_offset, magic_offset, read_count};
+pub use lookup::{
+    DELETED, FREE, INDEX_BIT, count_offset, entry_offset, magic_offset, read_count, slot_between,
+};
 pub use words::{fields_stay, put_word, read_word};
 
 #[cfg(test)]

@@ -1,7 +1,9 @@
-ghost use Rattle.std.specs.Prelude.{◌≡◌, ◌+◌, ◌-◌, ◌*◌, ◌<◌, ◌≤◌, ◌^◌};
+ghost use Rattle.std.specs.Prelude.{◌≡◌, ℕ, ◌+◌, ◌-◌, ◌*◌, ◌<◌, ◌≤◌, ◌^◌, length, IfSome, true, false};
 ghost use Rattle.geometry.specs.Numbers.{slots, lookups};
-ghost use Rattle.page_layout.specs.Layout.{count_in};
+ghost use Rattle.nor_core.specs.Flash.{word_at};
+ghost use Rattle.page_layout.specs.Layout.{count_in, is_between, end_of};
 
+use crate::words::read_word;
 use geometry::Geometry;
 
 /// The entry of a page that is free, and a page number that names no page.
@@ -42,4 +44,26 @@ pub fn read_count(raw: u16) -> u16
     ensures { result ≡ count_in raw }
 {
     if raw < 0x8000 { raw } else { 0 }
+}
+
+/// The first slot from `from` on, and below `to`, of a lookup page whose number lies between `low` and `high`, which count
+/// too, and that number.
+pub fn slot_between(
+    bytes: &[u8],
+    from: usize,
+    to: usize,
+    low: u16,
+    high: u16,
+) -> Option<(usize, u16)>
+    requires { 2 * to ≤ length bytes.now }
+    ensures found { IfSome result (λ f. (from ≤ f.0) × (f.0 < to) × (f.1 ≡ word_at bytes.now (2 * f.0)) × (is_between low high f.1 ≡ true)) }
+    ensures passed { (i : ℕ) → from ≤ i → i < end_of to result → is_between low high (word_at bytes.now (2 * i)) ≡ false }
+{
+    for i in from..to {
+        let word = read_word(bytes, 2 * i);
+        if low <= word && word <= high {
+            return Some((i, word));
+        }
+    }
+    None
 }
