@@ -9,7 +9,7 @@ use geometry::Geometry;
 use page_layout::{count_offset, entry_offset, magic_offset};
 
 // The first byte of a page.
-#[tactic(auto, using(crate::proofs::Inside::page_inside))]
+#[tactic(auto, using(geometry::proofs::Bounds::page_inside))]
 pub(crate) fn page_start(g: &Geometry, page: u16) -> u32
     requires { page < page_count g.now }
     ensures start { result ≡ the_page_start g.now page }
@@ -65,7 +65,7 @@ pub fn is_entry_page(g: &Geometry, page: u16) -> bool
 }
 
 /// The block of a page.
-#[tactic(auto, using(crate::proofs::Inside::block_below))]
+#[tactic(auto, using(geometry::proofs::Bounds::block_below))]
 pub fn block_of(g: &Geometry, page: u16) -> u16
     requires { page < page_count g.now }
     ensures block { result ≡ the_block_of g.now page }

@@ -1,6 +1,6 @@
 -- The rules that every geometry meets, said of the numbers of a volume.
-use Rattle.std.proofs.Common.{ℕ, ◌≡◌, ◌+◌, ◌-◌, ◌*◌, ◌/◌, ◌≤◌, ◌<◌, arith}
-use Rattle.std.proofs.Math.Nat.{mul-le-mul_left}
+use Rattle.std.proofs.Common.{ℕ, ◌≡◌, ◌+◌, ◌-◌, ◌*◌, ◌/◌, ◌≤◌, ◌<◌, ap, ◌∙◌, arith}
+use Rattle.std.proofs.Math.Nat.{mul-le-mul_right, mul-le-mul_left, mul_assoc, div-lt_iff_lt-mul}
 use Rattle.geometry.specs.declared.geometry.Geometry.{Geometry}
 use Rattle.geometry.specs.Numbers.{per_block, lookups, entries, page_count, usable, slots}
 
@@ -39,3 +39,33 @@ few_entries g = omega arith
 pub few_usable : (g : Geometry) → usable g ≤ 65535
 unfolding page_count
 few_usable g = omega (arith, mul-le-mul_left g.blocks (few_entries g), few_pages g)
+
+-- a block is its pages
+pub block_pages : (g : Geometry) → per_block g * g.page ≡ g.block
+unfolding per_block
+block_pages g = grind (arith, g.valid.whole_pages)
+
+-- the volume is below 2 ^ 28 bytes
+pub volume_small : (g : Geometry) → g.blocks * g.block ≤ 268431360
+volume_small g = omega (arith, g.valid.few_bytes, mul-le-mul_left 65535 g.valid.page_most)
+
+-- a block lies in the volume
+pub block_inside : (g : Geometry) (b : ℕ) → b < g.blocks → b * g.block + g.block ≤ g.blocks * g.block
+block_inside g b below = let next : b + 1 ≤ g.blocks = omega arith in omega (arith, mul-le-mul_right g.block next)
+
+-- the volume is its pages
+pub volume_pages : (g : Geometry) → page_count g * g.page ≡ g.blocks * g.block
+unfolding page_count
+volume_pages g = mul_assoc g.blocks (per_block g) g.page ∙ ap (λ n. g.blocks * n) (block_pages g)
+
+-- a page lies in the volume
+pub page_inside : (g : Geometry) (p : ℕ) → p < page_count g → p * g.page + g.page ≤ g.blocks * g.block
+unfolding page_count
+page_inside g p below =
+    let next : p + 1 ≤ g.blocks * per_block g = omega arith in
+    omega (arith, mul-le-mul_right g.page next, volume_pages g)
+
+-- the block of a page
+pub block_below : (g : Geometry) (p : ℕ) → p < page_count g → p / per_block g < g.blocks
+unfolding page_count
+block_below g p below = let some : 0 < per_block g = omega (arith, some_pages g) in (div-lt_iff_lt-mul some).1 below

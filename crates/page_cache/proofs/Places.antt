@@ -128,12 +128,3 @@ unfolding frame_count
 frame_there g frames page small long =
     let some : page + 1 ≤ length frames / frame_size g = (le-div_iff_mul-le {k = frame_size g} {x = page + 1} {y = length frames} (omega arith)).1 long in
     omega (arith, some, small, few_pages g)
-
--- a page lies in the volume
-pub page_inside : (g : Geometry) (p : ℕ) → p < page_count g → p * g.page + g.page ≤ g.blocks * g.block
-unfolding page_count per_block
-page_inside g p below =
-    let next : p + 1 ≤ g.blocks * per_block g = omega arith in
-    let block : per_block g * g.page ≡ g.block = grind (arith, g.valid.whole_pages) in
-    let all : g.blocks * per_block g * g.page ≡ g.blocks * g.block = mul_assoc g.blocks (per_block g) g.page ∙ ap (λ n. g.blocks * n) block in
-    omega (arith, mul-le-mul_right g.page next, all)
