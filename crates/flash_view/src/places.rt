@@ -1,7 +1,8 @@
-ghost use Rattle.std.specs.Prelude.{◌≡◌, ◌+◌, ◌*◌, ◌%◌, ◌<◌, ◌≤◌};
+ghost use Rattle.std.specs.Prelude.{◌≡◌, ◌+◌, ◌*◌, ◌/◌, ◌%◌, ◌<◌, ◌≤◌};
 ghost use Rattle.std.specs.Bool.{OnTrue, OnFalse};
 ghost use Rattle.geometry.specs.Numbers.{page_count, per_block, lookups, entries};
 ghost use Rattle.flash_view.specs.Places.{IsEntryPage, block_of as the_block_of, page_start as the_page_start, entry_start as the_entry_start, magic_start as the_magic_start, count_start as the_count_start};
+ghost use Rattle.image_model.specs.Volume.{per_block as pages_of_block, lookups as the_lookups, entries as the_entries};
 ghost use Rattle.image_model.specs.Places.{is_entry_page as the_entry_page};
 ghost use Rattle.page_cache.specs.Frames.{InOnePage};
 
@@ -51,6 +52,27 @@ pub(crate) fn count_start(g: &Geometry, block: u16) -> u32
     ensures one_page { InOnePage g.now result 2 }
 {
     u32::from(block) * g.block() + count_offset(g)
+}
+
+// Which of the lookup pages of a block has entry `i`. (Where there is one alone, no division is needed.)
+#[tactic(auto, using(crate::proofs::SlotHeld::lookup_below), unfolding(image_model::specs::Volume::entries, image_model::specs::Volume::per_block, image_model::specs::Volume::lookups))]
+pub(crate) fn lookup_of(g: &Geometry, i: u32) -> u32
+    requires { i < the_entries g.now }
+    ensures lookup { result ≡ 2 * i / g.now.page }
+    ensures below { result < the_lookups g.now }
+{
+    if g.lookups() == 1 { 0 } else { 2 * i / g.page() }
+}
+
+// Lookup page `k` of a block.
+#[tactic(auto, using(crate::proofs::SlotHeld::lookup_page_below), unfolding(image_model::specs::Volume::per_block, image_model::specs::Volume::lookups))]
+pub(crate) fn lookup_page(g: &Geometry, block: u16, k: u32) -> u16
+    requires block { block < g.now.blocks }
+    requires lookup { k < the_lookups g.now }
+    ensures page { result ≡ block * pages_of_block g.now + k }
+    ensures below { result < page_count g.now }
+{
+    (u32::from(block) * g.per_block() + k) as u16
 }
 
 /// Whether a page of the volume is one of its entry pages, and no lookup page.
