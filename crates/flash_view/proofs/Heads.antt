@@ -62,3 +62,14 @@ live_by g image p entry head place magic is_entry is_head same whole =
     let named : (entry_of g image p == obj_id (page_of g image p)) ≡ true = eq-eqb _ _ (cc) in
     let finished : is_finished_page (page_of g image p) ≡ true = sym (finished_is (page_of g image p)) ∙ subst (λ (h : PageHeader). is_finished h ≡ true) is_head whole in
     rw (page, magic, named, finished, is_head) refl
+
+pub and_false : (b : Bool) → (b && false) ≡ false
+and_false true = refl
+and_false false = refl
+
+-- a page whose header doesn't tell that it is live isn't
+pub dead_by : (g : Geometry) (image : List ℕ) (p : ℕ) (head : PageHeader) → head ≡ header_at (page_of g image p) → is_finished head ≡ false → None ≡ option_map header_at (live_at g image p)
+unfolding live_at is_live
+dead_by g image p head is open' =
+    let no' : is_finished_page (page_of g image p) ≡ false = sym (finished_is (page_of g image p)) ∙ subst (λ (h : PageHeader). is_finished h ≡ false) is open' in
+    rw (no', and_false (is_entry_page g p && has_magic g image (block_of g p) && (entry_of g image p == obj_id (page_of g image p)))) refl

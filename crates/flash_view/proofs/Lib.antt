@@ -8,5 +8,7 @@ pub mod Names
 pub mod Least
 pub mod Within
 pub mod Entries
+pub mod SlotHeld
+pub mod Walking
 pub mod Spans
 pub mod Stepped

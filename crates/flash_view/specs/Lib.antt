@@ -3,3 +3,4 @@ pub mod Same
 pub mod Found
 pub mod DataPages
 pub mod Steps
+pub mod Walk

@@ -7,6 +7,7 @@ mod live;
 mod places;
 mod through;
 mod view;
+mod walk;
 
 pub use data_pages::{FURTHER_SLOTS_AT, head_slots_at};
 pub use kinds::{Kind, StepErr};

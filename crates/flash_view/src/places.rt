@@ -1,4 +1,4 @@
-ghost use Rattle.std.specs.Prelude.{◌≡◌, ◌+◌, ◌*◌, ◌%◌, ◌<◌, ◌≤◌};
+ghost use Rattle.std.specs.Prelude.{◌≡◌, ◌+◌, ◌*◌, ◌/◌, ◌%◌, ◌<◌, ◌≤◌};
 ghost use Rattle.std.specs.Bool.{OnTrue, OnFalse};
 ghost use Rattle.geometry.specs.Numbers.{page_count, per_block, lookups, entries};
 ghost use Rattle.flash_view.specs.Places.{IsEntryPage, page_start as the_page_start, magic_start as the_magic_start, count_start as the_count_start};
@@ -51,6 +51,27 @@ pub(crate) fn count_start(g: &Geometry, block: u16) -> u32
     ensures one_page { InOnePage g.now result 2 }
 {
     u32::from(block) * g.block() + count_offset(g)
+}
+
+// Which of the lookup pages of a block has entry `i`. (Where there is one alone, no division is needed.)
+#[tactic(auto, using(crate::proofs::SlotHeld::lookup_below), unfolding(geometry::specs::Numbers::entries, geometry::specs::Numbers::per_block, geometry::specs::Numbers::lookups))]
+pub(crate) fn lookup_of(g: &Geometry, i: u32) -> u32
+    requires { i < entries g.now }
+    ensures lookup { result ≡ 2 * i / g.now.page }
+    ensures below { result < lookups g.now }
+{
+    if g.lookups() == 1 { 0 } else { 2 * i / g.page() }
+}
+
+// Lookup page `k` of a block.
+#[tactic(auto, using(crate::proofs::SlotHeld::lookup_page_below), unfolding(geometry::specs::Numbers::per_block, geometry::specs::Numbers::lookups))]
+pub(crate) fn lookup_page(g: &Geometry, block: u16, k: u32) -> u16
+    requires block { block < g.now.blocks }
+    requires lookup { k < lookups g.now }
+    ensures page { result ≡ block * per_block g.now + k }
+    ensures below { result < page_count g.now }
+{
+    (u32::from(block) * g.per_block() + k) as u16
 }
 
 /// Whether a page of the volume is one of its entry pages, and no lookup page.

@@ -10,7 +10,7 @@ use crate::places::{count_start, entry_start, magic_start, page_start};
 use crate::through::{erase_cached, program_cached, program_part, read_cached, say_cached};
 use geometry::Geometry;
 use nor_core::{Board, Failed, Mark, Nor, NorState};
-use page_cache::Cached;
+use page_cache::{Cached, held_page, hold_page};
 use page_layout::{PageHeader, header_of, read_count, read_word};
 
 /// A volume's device, with its geometry and the bytes that were lent for its work.
@@ -45,7 +45,7 @@ impl<'b, N: Nor> View<'b, N> {
     ghost use Rattle.image_model.specs.Places.{page_of, entry_at, entry_of as the_entry_of, has_magic as the_magic, erase_count as the_erase_count};
     ghost use Rattle.image_model.specs.Tidy.{is_erased as the_erased};
     ghost use Rattle.page_layout.specs.Layout.{header_at};
-    ghost use Rattle.page_cache.specs.Frames.{held, InOnePage};
+    ghost use Rattle.page_cache.specs.Frames.{holds, held, InOnePage};
     ghost use Rattle.page_cache.specs.Kept.{IsKept};
     ghost use Rattle.flash_view.specs.Same.{IsSameView, OnlyLooks};
 
@@ -200,6 +200,31 @@ impl<'b, N: Nor> View<'b, N> {
     {
         let at = page_start(&self.geometry, page) + start;
         self.word(at)
+    }
+
+    /// Gets a page held, for `held`.
+    pub fn hold(&mut self, page: u16) -> Result<(), Failed>
+        requires { page < page_count self.old.geometry }
+        ensures cause { OnErr result (Rose (N.faults self.old.nor.now) (N.faults self.new.nor.now)) }
+        ensures looks { OnlyLooks self.old self.new }
+        ensures held { OnOk result (holds self.new.geometry self.new.cache.now page ≡ true) }
+        ensures work { self.new.work.now ≡ self.old.work.now }
+    {
+        let g = self.geometry;
+        hold_page(&g, self.nor, self.cache, page)
+    }
+
+    /// The bytes of a page that is held.
+    #[tactic(auto, unfolding(image_model::specs::Places::page_of))]
+    pub fn held(&self, page: u16) -> &[u8]
+        requires page { page < page_count self.now.geometry }
+        requires holds { holds self.now.geometry self.now.cache.now page ≡ true }
+        ensures len { length result.now ≡ self.now.geometry.page }
+        ensures bytes { N.tells self.now.nor.now → result.now ≡ page_of self.now.geometry (N.bytes self.now.nor.now) page }
+        ensures small { (k : ℕ) → slice_index result.now k < 256 }
+    {
+        let bytes = held_page(&self.geometry, self.nor, self.cache, page);
+        bytes
     }
 
     /// The page that is being built becomes a copy of a page.

@@ -1,0 +1,31 @@
+use Rattle.std.proofs.Common.{◌≡◌, ◌+◌, ◌-◌, ◌*◌, ◌/◌, ◌<◌, ◌≤◌, ◌∙◌, arith}
+use Rattle.std.specs.Prelude.{None, min}
+use Rattle.geometry.specs.Numbers.{entries, per_block, lookups}
+use Rattle.flash_view.specs.Walk.{FirstSlot}
+use Rattle.flash_view.proofs.Looking.{looks_then}
+use Rattle.flash_view.proofs.SlotHeld.{in_lookup}
+use Rattle.flash_view.proofs.Walking.{slots_on}
+use Rattle.flash_view.proofs.view.View.find_slot.Goals as goal
+
+pub pages-smaller : goal.pages-smaller
+unfolding entries per_block lookups
+pages-smaller g c =
+    let w = in_lookup c.args.self.now.geometry (c.page.result / 2) c.lookup_of-k.result c.pages.at (omega (arith, c.page.ensures)) c.lookup_of-k.ensures.lookup in
+    omega (arith, w.high, c.pages-test.true, c.entries.ensures.count)
+
+pub pages-preserved : goal.pages-preserved
+pages-preserved g c =
+    let was = c.pages.invariant in
+    let looked = c.in_ok-found.ensures in
+    let w = in_lookup c.args.self.now.geometry (c.page.result / 2) c.lookup_of-k.result c.pages.at (omega (arith, c.page.ensures)) c.lookup_of-k.ensures.lookup in
+    record {
+      looks = looks_then was.looks looked.looks;
+      work = looked.work ∙ was.work;
+      from = omega (arith, was.from, w.high);
+      told = λ tells.
+          let view = c.args.self.now in
+          let image = g.N.NorState.bytes view.nor.now in
+          let none : FirstSlot view.geometry image c.args.block c.pages.at (min (entries view.geometry) ((c.lookup_of-k.result + 1) * (view.geometry.page / 2))) c.args.low c.args.high None =
+          rw (was.looks.same.geometry, was.looks.reads.bytes, c.in_default.is) at (looked.told (was.looks.reads.told tells)) in
+          slots_on view.geometry image c.args.low c.args.high (c.page.result / 2) c.lookup_of-k.result c.args.block c.args.from c.pages.at (entries view.geometry) (omega (arith, c.page.ensures)) (was.told tells) none;
+    }

@@ -1,0 +1,145 @@
+ghost use Rattle.std.specs.Prelude.{◌≡◌, ◌+◌, ◌*◌, ◌/◌, ◌<◌, ◌≤◌, min, true, OnErr, IfOk, IfSome};
+ghost use Rattle.std.specs.Option.{option_map};
+ghost use Rattle.nor_core.specs.Count.{Rose};
+ghost use Rattle.page_layout.specs.Layout.{header_at};
+ghost use Rattle.page_cache.specs.Frames.{holds};
+ghost use Rattle.geometry.specs.Numbers.{lookups, entries};
+ghost use Rattle.image_model.specs.Places.{block_of as the_block_of, entry_of};
+ghost use Rattle.image_model.specs.Live.{live_at};
+ghost use Rattle.flash_view.specs.Places.{IsEntryPage};
+ghost use Rattle.flash_view.specs.Same.{OnlyLooks};
+ghost use Rattle.flash_view.specs.Walk.{FirstSlot, NextSlot, NextLive};
+
+use crate::View;
+use crate::places::{entry_page, lookup_of, lookup_page};
+use nor_core::{Failed, Nor, NorState};
+use page_layout::{PageHeader, header_of, slot_between};
+
+impl<'b, N: Nor> View<'b, N> {
+    // The first entry from place `at` on in lookup page `k` of a block alone, which has that place, whose number lies
+    // between two, and the number.
+    fn slot_in(
+        &mut self,
+        block: u16,
+        k: u32,
+        at: u32,
+        low: u16,
+        high: u16,
+    ) -> Result<Option<(u32, u16)>, Failed>
+        requires block { block < self.old.geometry.blocks }
+        requires place { at < entries self.old.geometry }
+        requires lookup { k ≡ 2 * at / self.old.geometry.page }
+        requires few { k < lookups self.old.geometry }
+        ensures cause { OnErr result (Rose (N.faults self.old.nor.now) (N.faults self.new.nor.now)) }
+        ensures looks { OnlyLooks self.old self.new }
+        ensures inside { IfOk result (λ found. IfSome found (λ f. (at ≤ f.0) × (f.0 < entries self.old.geometry))) }
+        ensures told { N.tells self.old.nor.now → IfOk result (λ found. FirstSlot self.old.geometry (N.bytes self.old.nor.now) block at (min (entries self.old.geometry) ((k + 1) * (self.old.geometry.page / 2))) low high found) }
+        ensures work { self.new.work.now ≡ self.old.work.now }
+    {
+        let g = self.geometry;
+        let slots = g.page() / 2;
+        let start = k * slots;
+        let end = g.entries().min(start + slots);
+        let page = lookup_page(&g, block, k);
+        self.hold(page)?;
+        let from = (at - start) as usize;
+        let to = (end - start) as usize;
+        match slot_between(self.held(page), from, to, low, high) {
+            Some((i, entry)) => Ok(Some((start + i as u32, entry))),
+            None => Ok(None),
+        }
+    }
+
+    /// The first entry of a block, from its entry `from` on, whose number lies between `low` and `high`, which count too,
+    /// and that number. Entries are counted from 0.
+    #[tactic(auto, unfolding(geometry::specs::Numbers::entries, geometry::specs::Numbers::per_block, geometry::specs::Numbers::lookups), using(crate::proofs::Looking::looks_then))]
+    pub fn find_slot(
+        &mut self,
+        block: u16,
+        from: u32,
+        low: u16,
+        high: u16,
+    ) -> Result<Option<(u32, u16)>, Failed>
+        requires { block < self.old.geometry.blocks }
+        ensures cause { OnErr result (Rose (N.faults self.old.nor.now) (N.faults self.new.nor.now)) }
+        ensures looks { OnlyLooks self.old self.new }
+        ensures inside { IfOk result (λ found. IfSome found (λ f. (from ≤ f.0) × (f.0 < entries self.old.geometry))) }
+        ensures told { N.tells self.old.nor.now → IfOk result (λ found. NextSlot self.old.geometry (N.bytes self.old.nor.now) block from low high found) }
+        ensures work { self.new.work.now ≡ self.old.work.now }
+    {
+        let g = self.geometry;
+        let mut at = from;
+        'pages: while at < g.entries() {
+            let k = lookup_of(&g, at);
+            if let Some(found) = self.slot_in(block, k, at, low, high)? {
+                return Ok(Some(found));
+            }
+            at = (k + 1) * (g.page() / 2);
+        }
+        Ok(None)
+    }
+
+    // The header of a page, if the page is live, by its block and its entry. The page is held then. (The magic comes first:
+    // where there is one frame alone, it takes the place of the page.)
+    #[tactic(auto, unfolding(image_model::specs::Live::live_at, image_model::specs::Live::is_live, image_model::specs::Places::is_entry_page), using(crate::proofs::Looking::looks_then, crate::proofs::Parts::finished_is))]
+    pub(crate) fn live_by(
+        &mut self,
+        block: u16,
+        page: u16,
+        entry: u16,
+    ) -> Result<Option<PageHeader>, Failed>
+        requires page { IsEntryPage self.old.geometry page }
+        requires block { block ≡ the_block_of self.old.geometry page }
+        ensures cause { OnErr result (Rose (N.faults self.old.nor.now) (N.faults self.new.nor.now)) }
+        ensures looks { OnlyLooks self.old self.new }
+        ensures held { IfOk result (λ head. IfSome head (λ h. holds self.new.geometry self.new.cache.now page ≡ true)) }
+        ensures told { N.tells self.old.nor.now → entry ≡ entry_of self.old.geometry (N.bytes self.old.nor.now) page → IfOk result (λ head. head ≡ option_map header_at (live_at self.old.geometry (N.bytes self.old.nor.now) page)) }
+        ensures work { self.new.work.now ≡ self.old.work.now }
+    {
+        if !self.has_magic(block)? {
+            return Ok(None);
+        }
+        self.hold(page)?;
+        let head = header_of(self.held(page));
+        if entry != head.id {
+            return Ok(None);
+        }
+        Ok(if head.is_finished() { Some(head) } else { None })
+    }
+
+    /// The first live page from page `from` on whose entry lies between `low` and `high`, which count too, with its header.
+    /// The page is held.
+    pub fn next_live(
+        &mut self,
+        from: u32,
+        low: u16,
+        high: u16,
+    ) -> Result<Option<(u16, PageHeader)>, Failed>
+        ensures cause { OnErr result (Rose (N.faults self.old.nor.now) (N.faults self.new.nor.now)) }
+        ensures looks { OnlyLooks self.old self.new }
+        ensures inside { IfOk result (λ found. IfSome found (λ f. (from ≤ f.0) × IsEntryPage self.old.geometry f.0)) }
+        ensures held { IfOk result (λ found. IfSome found (λ f. holds self.new.geometry self.new.cache.now f.0 ≡ true)) }
+        ensures told { N.tells self.old.nor.now → IfOk result (λ found. NextLive self.old.geometry (N.bytes self.old.nor.now) from low high found) }
+        ensures work { self.new.work.now ≡ self.old.work.now }
+    {
+        let g = self.geometry;
+        let mut block = from / g.per_block();
+        let mut slot = (from % g.per_block()).saturating_sub(g.lookups());
+        'walk: while block < g.blocks() {
+            match self.find_slot(block as u16, slot, low, high)? {
+                Some((i, entry)) => {
+                    let page = entry_page(&g, block as u16, i);
+                    if let Some(head) = self.live_by(block as u16, page, entry)? {
+                        return Ok(Some((page, head)));
+                    }
+                    slot = i + 1;
+                }
+                None => {
+                    block += 1;
+                    slot = 0;
+                }
+            }
+        }
+        Ok(None)
+    }
+}
