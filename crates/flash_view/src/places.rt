@@ -54,17 +54,20 @@ pub(crate) fn count_start(g: &Geometry, block: u16) -> u32
 }
 
 // Which of the lookup pages of a block has entry `i`. (Where there is one alone, no division is needed.)
-#[tactic(auto, using(crate::proofs::SlotHeld::lookup_below), unfolding(geometry::specs::Numbers::entries, geometry::specs::Numbers::per_block, geometry::specs::Numbers::lookups))]
+#[tactic(auto, using(crate::proofs::SlotHeld::lookup_below, geometry::proofs::Bounds::few_entries, geometry::proofs::Bounds::few_in_block))]
 pub(crate) fn lookup_of(g: &Geometry, i: u32) -> u32
     requires { i < entries g.now }
     ensures lookup { result ≡ 2 * i / g.now.page }
     ensures below { result < lookups g.now }
 {
-    if g.lookups() == 1 { 0 } else { 2 * i / g.page() }
+    if g.lookups() == 1 {
+        0
+    } else {
+        2 * i / g.page()
+    }
 }
 
 // Lookup page `k` of a block.
-#[tactic(auto, using(crate::proofs::SlotHeld::lookup_page_below), unfolding(geometry::specs::Numbers::per_block, geometry::specs::Numbers::lookups))]
 pub(crate) fn lookup_page(g: &Geometry, block: u16, k: u32) -> u16
     requires block { block < g.now.blocks }
     requires lookup { k < lookups g.now }
