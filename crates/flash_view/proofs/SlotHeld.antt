@@ -30,6 +30,10 @@ pub lookups_told : (g : Geometry) → lookups_of_block g ≡ lookups g
 unfolding lookups
 lookups_told g = refl
 
+pub volume_told : (g : Geometry) → pages_of g ≡ page_count g
+unfolding page_count per_block
+volume_told g = refl
+
 pub all_told : (g : Geometry) → g.blocks * per_block g ≡ page_count g
 unfolding page_count
 all_told g = refl

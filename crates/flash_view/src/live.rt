@@ -153,10 +153,16 @@ impl<'b, N: Nor> View<'b, N> {
         ensures told { N.tells self.old.nor.now → IfOk result (λ page. page ≡ index_page self.old.geometry (own (live_at self.old.geometry (N.bytes self.old.nor.now)) id) span) }
         ensures work { self.new.work.now ≡ self.old.work.now }
     {
-        for page in 0..self.geometry.pages() as u16 {
-            if self.is_index_of(page, id, span)? {
+        if id >= INDEX_BIT {
+            return Ok(None);
+        }
+        let entry = INDEX_BIT + id;
+        let mut at = 0;
+        'pages: while let Some((page, head)) = self.next_live(at, entry, entry)? {
+            if u32::from(head.span) == span {
                 return Ok(Some(page));
             }
+            at = u32::from(page) + 1;
         }
         Ok(None)
     }
