@@ -18,6 +18,8 @@ some_live page x false e = absurd (cc)
 pub record LivePage (g : Geometry) (image : List ℕ) (p : ℕ) (page : List ℕ) : Type 0 where
   pub live : is_live g image p ≡ true
   pub bytes : page_of g image p ≡ page
+  pub place : is_entry_page g p ≡ true
+  pub number : entry_of g image p ≡ obj_id page
   pub entry : lookup_entry g image p ≡ obj_id page
   pub finished : is_finished page ≡ true
 
@@ -32,6 +34,8 @@ live_page g image p page e =
     record {
       live = w.0;
       bytes = w.1;
+      place = magic.0;
+      number = rw w.1 at same;
       entry = rw magic.0 (rw same (rw w.1 refl));
       finished = rw w.1 at parts.1;
     }
@@ -45,7 +49,7 @@ no_index true true span e = absurd (cc)
 no_index true false span e = refl
 no_index false index span e = refl
 
-other_index : (o : Option (List ℕ)) (entry id span : ℕ) → ((page : List ℕ) → o ≡ Some page → entry ≡ obj_id page) → (not (nat_lt entry 0x8000) && (entry % 0x8000 == id)) ≡ false →
+pub other_index : (o : Option (List ℕ)) (entry id span : ℕ) → ((page : List ℕ) → o ≡ Some page → entry ≡ obj_id page) → (not (nat_lt entry 0x8000) && (entry % 0x8000 == id)) ≡ false →
     is_index (option_and_then (λ page. if obj_id page % 0x8000 == id then Some page else None) o) span ≡ false
 other_index None entry id span known fails = refl
 other_index (Some page) entry id span known fails =
@@ -70,7 +74,7 @@ no_head page span id true true f e = absurd (cc)
 no_head page span id true false f e = absurd (cc)
 no_head page span id false free f e = refl
 
-other_head : (o : Option (List ℕ)) (entry : ℕ) → ((page : List ℕ) → o ≡ Some page → (entry ≡ obj_id page) × (is_finished page ≡ true)) →
+pub other_head : (o : Option (List ℕ)) (entry : ℕ) → ((page : List ℕ) → o ≡ Some page → (entry ≡ obj_id page) × (is_finished page ≡ true)) →
     (not (nat_lt entry 0x8000) && not (entry == 0xFFFF)) ≡ false → headed o ≡ None
 other_head None entry known fails = refl
 other_head (Some page) entry known fails =

@@ -11,4 +11,5 @@ pub mod Entries
 pub mod SlotHeld
 pub mod Walking
 pub mod Spans
+pub mod Passed
 pub mod Stepped

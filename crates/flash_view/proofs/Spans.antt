@@ -69,7 +69,7 @@ same_id n id mine low =
     (λ (above : 0x8000 ≤ n). let f : nat_lt n 0x8000 ≡ false = le-ltb n 0x8000 above in let t : not (nat_lt n 0x8000) ≡ true = rw f refl in absurd (cc))
     (cases_lt n 0x8000)
 
-data_other : (o : Option (List ℕ)) (entry id span : ℕ) → ((page : List ℕ) → o ≡ Some page → entry ≡ obj_id page) → entry ≢ id →
+pub data_other : (o : Option (List ℕ)) (entry id span : ℕ) → ((page : List ℕ) → o ≡ Some page → entry ≡ obj_id page) → entry ≢ id →
     is_some (data_of (option_and_then (λ page. if obj_id page % 0x8000 == id then Some page else None) o) span) ≡ false
 data_other None entry id span known differ = refl
 data_other (Some page) entry id span known differ =

@@ -44,20 +44,6 @@ fn headed_id(head: PageHeader) -> Option<u16>
     }
 }
 
-// Whether a header is that of an index page of an object and a span.
-fn is_of(head: PageHeader, id: u16, span: u32) -> bool
-    ensures { result ≡ ((head.id % 0x8000 == id) && (names_index head && (head.span == span))) }
-{
-    head.object() == id && head.is_index() && u32::from(head.span) == span
-}
-
-// Whether a lookup entry is that of index pages of an object.
-fn is_entry_of(entry: u16, id: u16) -> bool
-    ensures { result ≡ (not (nat_lt entry 0x8000) && (entry % 0x8000 == id)) }
-{
-    entry >= INDEX_BIT && entry % INDEX_BIT == id
-}
-
 // Whether a lookup entry is that of index pages of any object.
 fn is_index_entry(entry: u16) -> bool
     ensures { result ≡ (not (nat_lt entry 0x8000) && not (entry == 0xFFFF)) }
@@ -113,25 +99,6 @@ impl<'b, N: Nor> View<'b, N> {
         }
     }
 
-    // Whether a page is a live index page of an object and a span. Its header is read only where its entry is that
-    // of the object's index pages.
-    #[tactic(auto, using(crate::proofs::Looking::looks_then, crate::proofs::Heads::index_seen, crate::proofs::Heads::none_seen, crate::proofs::Entries::passed_index))]
-    fn is_index_of(&mut self, page: u16, id: u16, span: u32) -> Result<bool, Failed>
-        requires { page < page_count self.old.geometry }
-        ensures cause { OnErr result (Rose (N.faults self.old.nor.now) (N.faults self.new.nor.now)) }
-        ensures looks { OnlyLooks self.old self.new }
-        ensures told { N.tells self.old.nor.now → IfOk result (λ index. index ≡ is_index (own (live_at self.old.geometry (N.bytes self.old.nor.now)) id page) span) }
-        ensures work { self.new.work.now ≡ self.old.work.now }
-    {
-        if !is_entry_of(self.lookup_entry(page)?, id) {
-            return Ok(false);
-        }
-        Ok(match self.live_header(page)? {
-            Some(head) => is_of(head, id, span),
-            None => false,
-        })
-    }
-
     /// The index page of an object and a span: the first live one in page order. Span 0 is the header page.
     #[tactic(auto, using(crate::proofs::Looking::looks_then))]
     pub fn find_index(&mut self, id: u16, span: u16) -> Result<Option<u16>, Failed>
@@ -153,10 +120,16 @@ impl<'b, N: Nor> View<'b, N> {
         ensures told { N.tells self.old.nor.now → IfOk result (λ page. page ≡ index_page self.old.geometry (own (live_at self.old.geometry (N.bytes self.old.nor.now)) id) span) }
         ensures work { self.new.work.now ≡ self.old.work.now }
     {
-        for page in 0..self.geometry.pages() as u16 {
-            if self.is_index_of(page, id, span)? {
+        if id >= INDEX_BIT {
+            return Ok(None);
+        }
+        let entry = INDEX_BIT + id;
+        let mut at = 0;
+        'pages: while let Some((page, head)) = self.next_live(at, entry, entry)? {
+            if u32::from(head.span) == span {
                 return Ok(Some(page));
             }
+            at = u32::from(page) + 1;
         }
         Ok(None)
     }
@@ -237,8 +210,8 @@ impl<'b, N: Nor> View<'b, N> {
         ensures told { N.tells self.old.nor.now → IfOk result (λ name. name ≡ the_name_of (page_of self.old.geometry (N.bytes self.old.nor.now) page)) }
         ensures built { take self.old.geometry.page self.new.work.now ≡ take self.old.geometry.page self.old.work.now }
     {
-        self.fetch(page)?;
-        Ok(name_of(self.fetched()))
+        self.hold(page)?;
+        Ok(name_of(self.held(page)))
     }
 
     /// Whether a page holds that name, in the field of header pages.

@@ -1,6 +1,6 @@
 ghost use Rattle.std.specs.Prelude.{◌≡◌, ◌+◌, ◌*◌, ◌/◌, ◌%◌, ◌<◌, ◌≤◌};
 ghost use Rattle.std.specs.Bool.{OnTrue, OnFalse};
-ghost use Rattle.geometry.specs.Numbers.{page_count, per_block, lookups, entries};
+ghost use Rattle.geometry.specs.Numbers.{page_count, per_block, lookups, entries, slots};
 ghost use Rattle.flash_view.specs.Places.{IsEntryPage, page_start as the_page_start, magic_start as the_magic_start, count_start as the_count_start};
 ghost use Rattle.image_model.specs.Places.{block_of as the_block_of, entry_at, is_entry_page as the_entry_page};
 ghost use Rattle.page_cache.specs.Frames.{InOnePage};
@@ -31,32 +31,10 @@ pub(crate) fn entry_start(g: &Geometry, page: u16) -> u32
     page / g.per_block() * g.block() + entry_offset(slot)
 }
 
-// The first byte of a block's magic.
-#[tactic(auto, using(crate::proofs::Inside::magic_inside, crate::proofs::InPage::magic_in_page, crate::proofs::InPage::count_in_page))]
-pub(crate) fn magic_start(g: &Geometry, block: u16) -> u32
-    requires { block < g.now.blocks }
-    ensures start { result ≡ the_magic_start g.now block }
-    ensures inside { result + 2 ≤ g.now.blocks * g.now.block }
-    ensures one_page { InOnePage g.now result 2 }
-{
-    u32::from(block) * g.block() + magic_offset(g)
-}
-
-// The first byte of a block's erase count.
-#[tactic(auto, using(crate::proofs::Inside::magic_inside, crate::proofs::InPage::magic_in_page, crate::proofs::InPage::count_in_page))]
-pub(crate) fn count_start(g: &Geometry, block: u16) -> u32
-    requires { block < g.now.blocks }
-    ensures start { result ≡ the_count_start g.now block }
-    ensures inside { result + 2 ≤ g.now.blocks * g.now.block }
-    ensures one_page { InOnePage g.now result 2 }
-{
-    u32::from(block) * g.block() + count_offset(g)
-}
-
-// Which of the lookup pages of a block has entry `i`. (Where there is one alone, no division is needed.)
+// Which of the lookup pages of a block has slot `i`. (Where there is one alone, no division is needed.)
 #[tactic(auto, using(crate::proofs::SlotHeld::lookup_below, geometry::proofs::Bounds::few_entries, geometry::proofs::Bounds::few_in_block))]
 pub(crate) fn lookup_of(g: &Geometry, i: u32) -> u32
-    requires { i < entries g.now }
+    requires { i < slots g.now }
     ensures lookup { result ≡ 2 * i / g.now.page }
     ensures below { result < lookups g.now }
 {

@@ -6,12 +6,12 @@ ghost use Rattle.nor_core.specs.Device.{Changes};
 ghost use Rattle.image_model.specs.Tidy.{is_erased as the_erased};
 ghost use Rattle.page_cache.specs.Kept.{IsKept};
 
-use crate::places::{count_start, entry_start, magic_start, page_start};
+use crate::places::{block_of, entry_start, lookup_of, lookup_page, page_start};
 use crate::through::{erase_cached, program_cached, program_part, read_cached, say_cached};
 use geometry::Geometry;
 use nor_core::{Board, Failed, Mark, Nor, NorState};
 use page_cache::{Cached, held_page, hold_page};
-use page_layout::{PageHeader, header_of, read_count, read_word};
+use page_layout::{PageHeader, count_offset, header_of, magic_offset, read_count, read_word};
 
 /// A volume's device, with its geometry and the bytes that were lent for its work.
 #[derive(Drop)]
@@ -42,7 +42,8 @@ impl<'b, N: Nor> View<'b, N> {
     ghost use Rattle.nor_core.specs.Flash.{HalfProgrammed, programmed, HalfErased, erased, word_at};
     ghost use Rattle.nor_core.specs.Device.{Changes, InErase, Writes};
     ghost use Rattle.flash_view.specs.Places.{IsEntryPage, IsWordAt, page_start as the_page_start};
-    ghost use Rattle.image_model.specs.Places.{page_of, entry_at, entry_of as the_entry_of, has_magic as the_magic, erase_count as the_erase_count};
+    ghost use Rattle.image_model.specs.Volume.{slots};
+    ghost use Rattle.image_model.specs.Places.{page_of, slot_of, entry_at, entry_of as the_entry_of, has_magic as the_magic, erase_count as the_erase_count};
     ghost use Rattle.image_model.specs.Tidy.{is_erased as the_erased};
     ghost use Rattle.page_layout.specs.Layout.{header_at};
     ghost use Rattle.page_cache.specs.Frames.{holds, held, InOnePage};
@@ -86,38 +87,26 @@ impl<'b, N: Nor> View<'b, N> {
         &self.geometry
     }
 
-    /// Reads bytes of one page of the volume, from byte `at` on.
-    fn read(&mut self, at: u32, into: &mut [u8]) -> Result<(), Failed>
-        requires some { 0 < length into.old }
-        requires inside { at + length into.old ≤ self.old.geometry.blocks * self.old.geometry.block }
-        requires one_page { InOnePage self.old.geometry at (length into.old) }
+    // Slot `i` of the lookup pages of a block, counted from 0.
+    fn slot(&mut self, block: u16, i: u32) -> Result<u16, Failed>
+        requires block { block < self.old.geometry.blocks }
+        requires slot { i < slots self.old.geometry }
         ensures cause { OnErr result (Rose (N.faults self.old.nor.now) (N.faults self.new.nor.now)) }
         ensures looks { OnlyLooks self.old self.new }
-        ensures told { N.tells self.old.nor.now → OnOk result (into.new ≡ slice_range (N.bytes self.old.nor.now) at (at + length into.old)) }
+        ensures told { N.tells self.old.nor.now → IfOk result (λ word. word ≡ slot_of self.old.geometry (N.bytes self.old.nor.now) block i) }
         ensures work { self.new.work.now ≡ self.old.work.now }
-        ensures small { (k : ℕ) → slice_index into.new k < 256 }
+        ensures bytes { N.tells self.old.nor.now → OnOk result (IsWordAt (N.bytes self.old.nor.now) (block * self.old.geometry.block + 2 * i)) }
     {
-        read_cached(self.geometry, self.nor, self.cache, at, into)
-    }
-
-    /// Reads a slot of two bytes.
-    #[tactic(auto, using(crate::proofs::Parts::word_read, crate::proofs::Parts::word_small))]
-    fn word(&mut self, at: u32) -> Result<u16, Failed>
-        requires inside { at + 2 ≤ self.old.geometry.blocks * self.old.geometry.block }
-        requires one_page { InOnePage self.old.geometry at 2 }
-        ensures cause { OnErr result (Rose (N.faults self.old.nor.now) (N.faults self.new.nor.now)) }
-        ensures looks { OnlyLooks self.old self.new }
-        ensures told { N.tells self.old.nor.now → IfOk result (λ word. word ≡ word_at (N.bytes self.old.nor.now) at) }
-        ensures work { self.new.work.now ≡ self.old.work.now }
-        ensures bytes { N.tells self.old.nor.now → OnOk result (IsWordAt (N.bytes self.old.nor.now) at) }
-    {
-        let mut slot = [0u8; 2];
-        self.read(at, &mut slot)?;
-        Ok(read_word(&slot, 0))
+        let g = self.geometry;
+        let k = lookup_of(&g, i);
+        let page = lookup_page(&g, block, k);
+        let at = (2 * i - k * g.page()) as usize;
+        self.hold(page)?;
+        Ok(read_word(self.held(page), at))
     }
 
     /// The entry of a page: free, deleted, or the id of its object with bit 15 set in index pages.
-    #[tactic(auto, unfolding(image_model::specs::Places::entry_of, image_model::specs::Places::slot_of, geometry::specs::Numbers::per_block, geometry::specs::Numbers::lookups))]
+    #[tactic(auto, unfolding(image_model::specs::Places::entry_of, image_model::specs::Volume::per_block, image_model::specs::Volume::lookups))]
     pub fn entry(&mut self, page: u16) -> Result<u16, Failed>
         requires { IsEntryPage self.old.geometry page }
         ensures cause { OnErr result (Rose (N.faults self.old.nor.now) (N.faults self.new.nor.now)) }
@@ -126,12 +115,13 @@ impl<'b, N: Nor> View<'b, N> {
         ensures work { self.new.work.now ≡ self.old.work.now }
         ensures bytes { N.tells self.old.nor.now → OnOk result (IsWordAt (N.bytes self.old.nor.now) (entry_at self.old.geometry page)) }
     {
-        let at = entry_start(&self.geometry, page);
-        self.word(at)
+        let g = self.geometry;
+        let place = u32::from(page) % g.per_block() - g.lookups();
+        self.slot(block_of(&g, page), place)
     }
 
     /// Whether a block has the magic of this volume.
-    #[tactic(auto, unfolding(image_model::specs::Places::has_magic, image_model::specs::Places::slot_of, geometry::specs::Numbers::lookups))]
+    #[tactic(auto, unfolding(image_model::specs::Places::has_magic, image_model::specs::Volume::lookups))]
     pub fn has_magic(&mut self, block: u16) -> Result<bool, Failed>
         requires { block < self.old.geometry.blocks }
         ensures cause { OnErr result (Rose (N.faults self.old.nor.now) (N.faults self.new.nor.now)) }
@@ -139,13 +129,13 @@ impl<'b, N: Nor> View<'b, N> {
         ensures told { N.tells self.old.nor.now → IfOk result (λ has. has ≡ the_magic self.old.geometry (N.bytes self.old.nor.now) block) }
         ensures work { self.new.work.now ≡ self.old.work.now }
     {
-        let at = magic_start(&self.geometry, block);
+        let place = magic_offset(&self.geometry) / 2;
         let magic = self.geometry.magic_of(u32::from(block));
-        Ok(self.word(at)? == magic)
+        Ok(self.slot(block, place)? == magic)
     }
 
     /// How often a block was erased, as its slot tells it: 0 where the slot holds no count.
-    #[tactic(auto, unfolding(image_model::specs::Places::erase_count, image_model::specs::Places::slot_of, geometry::specs::Numbers::lookups))]
+    #[tactic(auto, unfolding(image_model::specs::Places::erase_count, image_model::specs::Volume::lookups))]
     pub fn erase_count(&mut self, block: u16) -> Result<u16, Failed>
         requires { block < self.old.geometry.blocks }
         ensures cause { OnErr result (Rose (N.faults self.old.nor.now) (N.faults self.new.nor.now)) }
@@ -153,12 +143,11 @@ impl<'b, N: Nor> View<'b, N> {
         ensures told { N.tells self.old.nor.now → IfOk result (λ count. count ≡ the_erase_count self.old.geometry (N.bytes self.old.nor.now) block) }
         ensures work { self.new.work.now ≡ self.old.work.now }
     {
-        let at = count_start(&self.geometry, block);
-        Ok(read_count(self.word(at)?))
+        let place = count_offset(&self.geometry) / 2;
+        Ok(read_count(self.slot(block, place)?))
     }
 
     /// The header of a page.
-    #[tactic(auto, using(crate::proofs::Parts::header_read))]
     pub fn header(&mut self, page: u16) -> Result<PageHeader, Failed>
         requires { page < page_count self.old.geometry }
         ensures cause { OnErr result (Rose (N.faults self.old.nor.now) (N.faults self.new.nor.now)) }
@@ -166,14 +155,11 @@ impl<'b, N: Nor> View<'b, N> {
         ensures told { N.tells self.old.nor.now → IfOk result (λ head. head ≡ header_at (page_of self.old.geometry (N.bytes self.old.nor.now) page)) }
         ensures work { self.new.work.now ≡ self.old.work.now }
     {
-        let at = page_start(&self.geometry, page);
-        let mut head = [0u8; 5];
-        self.read(at, &mut head)?;
-        Ok(header_of(&head))
+        self.hold(page)?;
+        Ok(header_of(self.held(page)))
     }
 
     /// Reads bytes of a page, from its byte `start` on.
-    #[tactic(auto, using(crate::proofs::Within::part_of_page, crate::proofs::InPage::part_in_page))]
     pub fn read_in(&mut self, page: u16, start: u32, into: &mut [u8]) -> Result<(), Failed>
         requires page { page < page_count self.old.geometry }
         requires some { 0 < length into.old }
@@ -184,12 +170,14 @@ impl<'b, N: Nor> View<'b, N> {
         ensures work { self.new.work.now ≡ self.old.work.now }
         ensures small { (k : ℕ) → slice_index into.new k < 256 }
     {
-        let at = page_start(&self.geometry, page) + start;
-        self.read(at, into)
+        self.hold(page)?;
+        let from = start as usize;
+        let end = from + into.len();
+        into.copy_from_slice(&self.held(page)[from..end]);
+        Ok(())
     }
 
     /// Reads the two bytes of a page at its byte `start`, as a number with the lower byte first.
-    #[tactic(auto, using(crate::proofs::Within::word_of_page, crate::proofs::InPage::part_in_page))]
     pub fn word_in(&mut self, page: u16, start: u32) -> Result<u16, Failed>
         requires page { page < page_count self.old.geometry }
         requires inside { start + 2 ≤ self.old.geometry.page }
@@ -198,8 +186,8 @@ impl<'b, N: Nor> View<'b, N> {
         ensures told { N.tells self.old.nor.now → IfOk result (λ word. word ≡ word_at (page_of self.old.geometry (N.bytes self.old.nor.now) page) start) }
         ensures work { self.new.work.now ≡ self.old.work.now }
     {
-        let at = page_start(&self.geometry, page) + start;
-        self.word(at)
+        self.hold(page)?;
+        Ok(read_word(self.held(page), start as usize))
     }
 
     /// Gets a page held, for `held`.
@@ -292,8 +280,8 @@ impl<'b, N: Nor> View<'b, N> {
         ensures told { N.tells self.old.nor.now → IfOk result (λ blank. blank ≡ the_erased (page_of self.old.geometry (N.bytes self.old.nor.now) page)) }
         ensures built { take self.old.geometry.page self.new.work.now ≡ take self.old.geometry.page self.old.work.now }
     {
-        self.fetch(page)?;
-        Ok(is_erased(self.fetched()))
+        self.hold(page)?;
+        Ok(is_erased(self.held(page)))
     }
 
     /// Programs bytes of the volume: bits are cleared, and none is set.
@@ -425,9 +413,13 @@ impl<'b, B: Board> View<'b, B> {
     }
 }
 
-// Whether these bytes are 0xFF alone.
+// Whether these bytes are 0xFF alone. (Without an early end many bytes are compared at once.)
 fn is_erased(bytes: &[u8]) -> bool
     ensures { result ≡ the_erased bytes.now }
 {
-    bytes.iter().all(|byte| *byte == 0xFF)
+    let mut least = 0xFF;
+    for byte in bytes {
+        least = (*byte).min(least);
+    }
+    least == 0xFF
 }

@@ -1,43 +1,62 @@
-use Rattle.std.proofs.Common.{◌≡◌, ◌∙◌, ap, sym, true, false, refl}
-use Rattle.std.proofs.Math.Nat.{sub-zero}
-use Rattle.geometry.specs.Numbers.{page_count, per_block}
+use Rattle.std.proofs.Common.{◌≡◌, ◌+◌, ◌<◌, ◌==◌, true, false, sym, ◌∙◌, arith}
+use Rattle.std.specs.Prelude.{Some, None}
+use Rattle.std.proofs.lemmas.Bool.{eq-eqb}
+use Rattle.image_model.specs.Volume.{page_count}
 use Rattle.image_model.specs.Live.{live_at, own}
-use Rattle.image_model.specs.Files.{index_page, is_index}
-use Rattle.flash_view.proofs.Finds.{find_here, find_later}
-use Rattle.flash_view.proofs.Looking.{looks_none, looks_then}
+use Rattle.image_model.specs.Files.{is_index, index_page}
+use Rattle.flash_view.specs.Walk.{IsNextLive, NextLive}
+use Rattle.flash_view.proofs.Looking.{looks_then}
+use Rattle.flash_view.proofs.SlotHeld.{volume_told}
+use Rattle.flash_view.proofs.Passed.{found_index, no_index, no_index_to, find_first, find_none, none_and, differ}
 use Rattle.flash_view.proofs.view.View.find_span.Goals as goal
 
-pub loop-page-init : goal.loop-page-init
-unfolding index_page page_count per_block
-loop-page-init g c = record {
-  pages = c.pages-page-end.ensures.count;
-  looks = looks_none c.args.self.now;
-  work = refl;
-  told = λ tells. rw (sub-zero c.pages-page-end.result, c.pages-page-end.ensures.count) refl;
-}
-
-pub returns-then-branch-clause-told : goal.returns-then-branch-clause-told
-returns-then-branch-clause-told g c = λ tells.
-    let was = c.loop-page.invariant in
-    let turn = c.in_ok-is_index_of.ensures.told (was.looks.reads.told tells) in
+pub returns-then-id-ge-INDEX_BIT-clause-told : goal.returns-then-id-ge-INDEX_BIT-clause-told
+unfolding index_page
+returns-then-id-ge-INDEX_BIT-clause-told g c = λ tells.
     let view = c.args.self.now in
-    let pages = own (live_at view.geometry (g.N.NorState.bytes view.nor.now)) c.args.id in
-    let passes : is_index (pages c.loop-page.page) c.args.span ≡ true = cc (turn, was.looks.reads.bytes, was.looks.same.geometry, c.if-branch.true) in
-    find_here (λ q. is_index (pages q) c.args.span) _ _ _ c.loop-page-test.true (was.told tells) passes
+    let image = g.N.NorState.bytes view.nor.now in
+    sym (find_none (λ p. is_index (own (live_at view.geometry image) c.args.id p) c.args.span) 0 (page_count view.geometry) (λ q after before. no_index view.geometry image c.args.id c.args.span q c.if-id-ge-INDEX_BIT.true))
 
-pub loop-page-preserved : goal.loop-page-preserved
-loop-page-preserved g c =
-    let was = c.loop-page.invariant in
-    let looked = c.in_ok-is_index_of.ensures in
-    let looks = looks_then was.looks looked.looks in
+pub returns-then-from-span-clause-told : goal.returns-then-from-span-clause-told
+unfolding index_page
+returns-then-from-span-clause-told g c = λ tells.
+    let was = c.pages.invariant in
+    let found = c.in_ok-page.ensures in
+    let view = c.args.self.now in
+    let image = g.N.NorState.bytes view.nor.now in
+    let next : IsNextLive view.geometry image c.pages.at (0x8000 + c.args.id) (0x8000 + c.args.id) c.in-Some.page c.in-Some.head = rw (was.looks.same.geometry, was.looks.reads.bytes, c.in-Some.is) at (found.told (was.looks.reads.told tells)) in
+    let inside = rw (c.in-Some.is, was.looks.same.geometry) at found.inside in
+    let is : is_index (own (live_at view.geometry image) c.args.id c.in-Some.page) c.args.span ≡ true = found_index view.geometry image c.args.id c.args.span c.pages.at c.in-Some.page c.in-Some.head (omega (arith, c.if-id-ge-INDEX_BIT.false)) next ∙ eq-eqb _ _ (sym c.from.ensures ∙ c.if-from-span.true) in
+    sym (find_first (λ p. is_index (own (live_at view.geometry image) c.args.id p) c.args.span) 0 (page_count view.geometry) c.in-Some.page (omega arith) (omega (arith, inside.1.below, volume_told view.geometry)) is
+    (λ q after before. no_index_to view.geometry image c.args.id c.args.span c.pages.at c.in-Some.page (was.told tells) next.passed q before))
+
+pub pages-smaller : goal.pages-smaller
+pages-smaller g c =
+    let inside = rw (c.in-Some.is, c.pages.invariant.looks.same.geometry) at c.in_ok-page.ensures.inside in
+    omega (arith, inside.0, inside.1.below, volume_told c.args.self.now.geometry, c.from-at.ensures)
+
+pub pages-preserved : goal.pages-preserved
+pages-preserved g c =
+    let was = c.pages.invariant in
+    let found = c.in_ok-page.ensures in
+    let inside = rw (c.in-Some.is, was.looks.same.geometry) at found.inside in
     record {
-      pages = was.pages ∙ ap page_count (sym looked.looks.same.geometry);
-      looks = looks;
-      work = looked.work ∙ was.work;
+      looks = looks_then was.looks found.looks;
+      work = found.work ∙ was.work;
+      most = omega (arith, inside.1.below, volume_told c.args.self.now.geometry, c.from-at.ensures);
       told = λ tells.
-          let turn = looked.told (was.looks.reads.told tells) in
           let view = c.args.self.now in
-          let pages = own (live_at view.geometry (g.N.NorState.bytes view.nor.now)) c.args.id in
-          let fails : is_index (pages c.loop-page.page) c.args.span ≡ false = cc (turn, was.looks.reads.bytes, was.looks.same.geometry, c.if-branch.false) in
-          find_later (λ q. is_index (pages q) c.args.span) _ _ _ c.loop-page-test.true (was.told tells) fails;
+          let image = g.N.NorState.bytes view.nor.now in
+          let next : IsNextLive view.geometry image c.pages.at (0x8000 + c.args.id) (0x8000 + c.args.id) c.in-Some.page c.in-Some.head = rw (was.looks.same.geometry, was.looks.reads.bytes, c.in-Some.is) at (found.told (was.looks.reads.told tells)) in
+          let isnt : is_index (own (live_at view.geometry image) c.args.id c.in-Some.page) c.args.span ≡ false = found_index view.geometry image c.args.id c.args.span c.pages.at c.in-Some.page c.in-Some.head (omega (arith, c.if-id-ge-INDEX_BIT.false)) next ∙ differ _ _ (λ same. c.if-from-span.false (c.from.ensures ∙ same)) in
+          none_and (λ p. is_index (own (live_at view.geometry image) c.args.id p) c.args.span) c.in-Some.page _ (omega (arith, c.from-at.ensures)) (no_index_to view.geometry image c.args.id c.args.span c.pages.at c.in-Some.page (was.told tells) next.passed) isnt;
     }
+
+pub returns-clause-told : goal.returns-clause-told
+unfolding index_page
+returns-clause-told g c = λ tells.
+    let was = c.pages.invariant in
+    let view = c.args.self.now in
+    let image = g.N.NorState.bytes view.nor.now in
+    let last : NextLive view.geometry image c.pages.at (0x8000 + c.args.id) (0x8000 + c.args.id) None = rw (was.looks.same.geometry, was.looks.reads.bytes, c.in_default.is) at (c.in_ok-page.ensures.told (was.looks.reads.told tells)) in
+    sym (find_none (λ p. is_index (own (live_at view.geometry image) c.args.id p) c.args.span) 0 (page_count view.geometry) (λ q after before. no_index_to view.geometry image c.args.id c.args.span c.pages.at (page_count view.geometry) (was.told tells) last q (omega (arith, before))))

@@ -1,20 +1,18 @@
--- The search from `page` on gives the answer.
-use Rattle.std.proofs.Common.{◌≡◌, ◌-◌, ℕ}
-use Rattle.std.specs.Prelude.{find}
-use Rattle.std.specs.List.{range_with_len}
-use Rattle.geometry.specs.Numbers.{page_count}
+-- No page below `at` is an index page of the object and the span.
+use Rattle.std.proofs.Common.{◌≡◌, ◌-◌, ◌<◌, ◌≤◌, ℕ, false}
+use Rattle.image_model.specs.Volume.{page_count}
 use Rattle.image_model.specs.Live.{live_at, own}
-use Rattle.image_model.specs.Files.{index_page, is_index}
+use Rattle.image_model.specs.Files.{is_index}
 use Rattle.flash_view.specs.Same.{OnlyLooks}
 use Rattle.flash_view.proofs.view.View.find_span.Given as goal
 
-abbrev pub invariant-loop-page : goal.invariant-loop-page
-invariant-loop-page g l = record {
-  pages : l.page-end ≡ page_count l.self.geometry;
+abbrev pub invariant-pages : goal.invariant-pages
+invariant-pages g l = record {
   looks : OnlyLooks l.fn.self l.self;
   work : l.self.work.now ≡ l.fn.self.work.now;
-  told :
-      (let live = own (live_at l.fn.self.geometry (g.N.NorState.bytes l.fn.self.nor.now)) l.id in
-      g.N.NorState.tells l.fn.self.nor.now →
-      find (λ (q : ℕ). is_index (live q) l.span) (range_with_len l.page (l.page-end - l.page)) ≡ index_page l.fn.self.geometry live l.span);
+  most : l.at ≤ page_count l.fn.self.geometry;
+  told : (g.N.NorState.tells l.fn.self.nor.now → (q : ℕ) → q < l.at → is_index (own (live_at l.fn.self.geometry (g.N.NorState.bytes l.fn.self.nor.now)) l.id q) l.span ≡ false);
 }
+
+abbrev pub decreases-pages : goal.decreases-pages
+decreases-pages g l = page_count l.fn.self.geometry - l.at
