@@ -64,7 +64,7 @@ module _ (g : Geometry) where
   in_place block k i is =
       let w = in_lookup (g.page / 2) k i refl is in
       let twice : k * g.page ≡ k * (2 * (g.page / 2)) = ap (λ (n : ℕ). k * n) whole_page in
-      let blocks : block * per_block g * g.page ≡ block * g.block = mul_assoc block (per_block g) g.page ∙ ap (λ (n : ℕ). block * n) whole_block in
+      let blocks : block * per_block g * g.page ≡ block * g.block = mul_assoc block (per_block g) g.page ∙ ap (λ (n : ℕ). block * n) (block_pages g) in
       record {
         low = omega (arith, w.low, twice);
         fits = omega (arith, w.high, twice, whole_page);
