@@ -22,7 +22,7 @@ use Rattle.file_find.specs.Judging.{cause_of}
 use Rattle.file_find.specs.Marks.{mark_of, mark_for, whole_at, table_id, same_name, cause_at}
 use Rattle.flash_view.proofs.Entries.{live_page}
 use Rattle.file_find.proofs.Marking.{has_at, has_none, find_parts}
-use Rattle.file_find.proofs.Nearest.{mark_entry, header_parts, header_mark, mark_head}
+use Rattle.file_find.proofs.Heads.{mark_entry, header_parts, header_mark, mark_head}
 
 -- ---- the id of a page of a whole file with a name, by its entry
 
@@ -170,7 +170,7 @@ find_nothing t a (suc n) none =
     (λ (no' : t a ≡ false). rw no' (find_nothing t (a + 1) n none))
     (cases_Bool (t a))
 
-nothing_found : (t : ℕ → Bool) (a n : ℕ) → find t (range_with_len a n) ≡ None → (q : ℕ) → a ≤ q → q < a + n → t q ≡ false
+pub nothing_found : (t : ℕ → Bool) (a n : ℕ) → find t (range_with_len a n) ≡ None → (q : ℕ) → a ≤ q → q < a + n → t q ≡ false
 nothing_found t a zero e q low high = absurd (omega arith)
 nothing_found t a (suc n) e q low high =
     ⊎_elim

@@ -1,5 +1,6 @@
--- Marks of pages: a byte for each, that tells the header pages of whole and of damaged files.
-use Rattle.std.specs.Prelude.{◌≡◌, ℕ, ◌<◌, List, ◌==◌, ◌&&◌, Option, Some, None, Result, Ok, Err, find, nat_lt, unwrap_or, slice_index, if◌then◌else◌}
+-- Marks of pages: a byte for each, that tells the header pages of whole and of damaged files, and behind them notes of ids.
+use Rattle.std.specs.Prelude.{◌≡◌, ℕ, ◌<◌, List, ◌==◌, ◌&&◌, Option, Some, None, Result, Ok, Err, find, true, ◌-◌, ◌+◌, unwrap_or, slice_index, if◌then◌else◌}
+use Rattle.std.specs.List.{range_with_len}
 use Rattle.std.specs.Option.{option_map}
 use Rattle.geometry.specs.declared.geometry.Geometry.{Geometry}
 use Rattle.geometry.specs.Numbers.{page_count}
@@ -9,9 +10,12 @@ use Rattle.image_model.specs.declared.damage.Damage.TheVariants.{SameName}
 use Rattle.image_model.specs.Places.{page_of}
 use Rattle.image_model.specs.Headers.{name_of}
 use Rattle.image_model.specs.Live.{Live, live_at, own}
-use Rattle.image_model.specs.Files.{index_page}
+use Rattle.image_model.specs.Files.{index_page, judged}
+use Rattle.image_model.specs.Tidy.{is_number}
 use Rattle.image_model.specs.Tables.{has_of, ids, counted, is_named, damage}
 use Rattle.flash_view.specs.Found.{headed, is_name, IsNextId, IsLastId}
+use Rattle.file_find.specs.Judging.{cause_of}
+use Rattle.file_find.specs.Ids.{is_noted}
 
 -- the mark of a page by what an id has: 1 for the header page of a whole file, 2 for that of a damaged one, and else 0
 abbrev pub mark_by : Option (ℕ × Result File Damage) → ℕ → ℕ
@@ -33,13 +37,35 @@ abbrev pub mark_for : Option Damage → ℕ
 mark_for None = 1
 mark_for (Some cause) = 2
 
--- each page of the volume has its mark
+-- the mark of a page, which is the first header page of this id where there is one
+abbrev pub head_mark : Geometry → List ℕ → Option ℕ → ℕ → ℕ
+head_mark g image None p = 0
+head_mark g image (Some id) p = mark_for (cause_of (judged g (own (live_at g image) id) id (page_of g image p)))
+
+-- each page of the volume has its mark, and each id that has a header page is noted behind them
 pub record IsMarked (g : Geometry) (image marks : List ℕ) : Type 0 where
   pub each : (p : ℕ) → p < page_count g → slice_index marks p ≡ mark_of g image p
+  pub noted : (p id : ℕ) → p < page_count g → headed (live_at g image p) ≡ Some id → is_noted marks (page_count g) id ≡ true
+
+-- a page below one that is a header page of this id
+pub record HasBelow (g : Geometry) (image : List ℕ) (id end : ℕ) : Type 0 where
+  pub page : ℕ
+  pub below : page < end
+  pub is : headed (live_at g image page) ≡ Some id
+
+-- each page below one has its mark, and noted are the ids that have a header page there
+pub record Surveyed (g : Geometry) (image marks : List ℕ) (end : ℕ) : Type 0 where
+  pub each : (p : ℕ) → p < end → slice_index marks p ≡ mark_of g image p
+  pub noted : (p id : ℕ) → p < end → headed (live_at g image p) ≡ Some id → is_noted marks (page_count g) id ≡ true
+  pub only : (id : ℕ) → id < 0x8000 → is_noted marks (page_count g) id ≡ true → HasBelow g image id end
 
 -- the id whose header page a page is, if it is marked
 unfoldable pub marked_id : Geometry → List ℕ → ℕ → Option ℕ
 marked_id g image p = if mark_of g image p == 0 then None else headed (live_at g image p)
+
+-- the header page of an id among the pages from `from` on and below `to`
+unfoldable pub head_between : Geometry → List ℕ → ℕ → ℕ → ℕ → Option ℕ
+head_between g image id from to = find (λ p. is_number (marked_id g image p) id) (range_with_len from (to - from))
 
 -- the id whose header page a page is, where its file is whole and has that name
 unfoldable pub whole_at : Geometry → List ℕ → List ℕ → ℕ → Option ℕ
@@ -49,12 +75,6 @@ whole_at g image name p = if (mark_of g image p == 1) && is_name (name_of (page_
 abbrev pub NextHead : Geometry → List ℕ → ℕ → Option (ℕ × ℕ) → Type 0
 NextHead g image after None = IsLastId g image after
 NextHead g image after (Some (id, page)) = IsNextId g image after id × (index_page g (own (live_at g image) id) 0 ≡ Some page)
-
--- the nearer of two header pages by their ids, where the second counts if its id is above `after` and less
-abbrev pub nearer : ℕ → Option (ℕ × ℕ) → Option ℕ → ℕ → Option (ℕ × ℕ)
-nearer after least None page = least
-nearer after None (Some id) page = if nat_lt after id then Some (id, page) else None
-nearer after (Some (old, first)) (Some id) page = if nat_lt after id then (if nat_lt id old then Some (id, page) else Some (old, first)) else Some (old, first)
 
 -- the id of the table's file of that name
 unfoldable pub table_id : Geometry → List ℕ → List ℕ → Option ℕ

@@ -1,12 +1,13 @@
-ghost use Rattle.std.specs.Prelude.{◌≡◌, ◌<◌, ◌≤◌, length, Some, OnOk, OnErr, IfOk, IfSome, take};
-ghost use Rattle.geometry.specs.Numbers.{page_count};
+ghost use Rattle.std.specs.Prelude.{◌≡◌, ◌+◌, ◌<◌, ◌≤◌, length, Some, OnOk, OnErr, IfOk, IfSome, take};
+ghost use Rattle.geometry.specs.Numbers.{page_count, check_need};
 ghost use Rattle.nor_core.specs.Count.{Rose};
 ghost use Rattle.image_model.specs.Live.{live_at, own};
 ghost use Rattle.image_model.specs.Files.{index_page};
 ghost use Rattle.image_model.specs.Tidy.{is_number};
 ghost use Rattle.flash_view.specs.Same.{OnlyLooks};
-ghost use Rattle.file_find.specs.Marks.{mark_of, mark_for as the_mark_for, IsMarked, marked_id as the_marked_id, whole_at as the_whole_at, NextHead, nearer as the_nearer, same_name as the_same_name, table_id, cause_at};
+ghost use Rattle.file_find.specs.Marks.{mark_of, mark_for as the_mark_for, head_mark, Surveyed, IsMarked, marked_id as the_marked_id, head_between, whole_at as the_whole_at, NextHead, same_name as the_same_name, table_id, cause_at};
 
+use crate::ids::{clear, is_noted, near, note_first};
 use crate::judging::judge;
 use flash_view::View;
 use image_model::Damage;
@@ -19,12 +20,12 @@ const WHOLE: u8 = 1;
 // The mark of the header page of a damaged file.
 const DAMAGED: u8 = 2;
 
-// Whether a page that was found is this one.
-fn is_same(found: Option<u16>, page: u16) -> bool
-    ensures { result ≡ is_number found page }
+// Whether an id that was found is this one.
+fn is_same(found: Option<u16>, id: u16) -> bool
+    ensures { result ≡ is_number found id }
 {
     match found {
-        Some(first) => first == page,
+        Some(first) => first == id,
         None => false,
     }
 }
@@ -34,26 +35,6 @@ fn mark_for(cause: Option<Damage>) -> u8
     ensures { result ≡ the_mark_for cause }
 {
     if cause.is_none() { WHOLE } else { DAMAGED }
-}
-
-// The nearer of two header pages by their ids above `after`: the second counts where its id is above `after` and less.
-fn nearer(
-    after: u16,
-    least: Option<(u16, u16)>,
-    found: Option<u16>,
-    page: u16,
-) -> Option<(u16, u16)>
-    ensures { result ≡ the_nearer after least found page }
-{
-    match (least, found) {
-        (_, None) => least,
-        (None, Some(id)) => if id > after { Some((id, page)) } else { None },
-        (Some((old, first)), Some(id)) => if id > after && id < old {
-            Some((id, page))
-        } else {
-            Some((old, first))
-        },
-    }
 }
 
 // The damage of a whole file of an id, by the id that the table has for its name.
@@ -69,47 +50,61 @@ fn same_name(holder: Option<u16>, id: u16) -> Option<Damage>
 }
 
 /// Marks each page, a byte for each page of the volume: 1 where it is the header page of an id whose file is whole,
-/// 2 where it is that of an id whose file is damaged, and else 0. Of several files of one name all are whole here.
+/// 2 where it is that of an id whose file is damaged, and else 0. Of several files of one name all are whole here. Notes
+/// the ids of header pages in the bytes behind.
 #[tactic(auto, using(flash_view::proofs::Looking::looks_then))]
 pub fn survey<N: Nor>(v: &mut View<'_, N>, marks: &mut [u8]) -> Result<(), Failed>
-    requires { page_count v.old.geometry ≤ length marks.old }
+    requires { check_need v.old.geometry ≤ length marks.old }
     ensures cause { OnErr result (Rose (N.faults v.old.nor.now) (N.faults v.new.nor.now)) }
     ensures looks { OnlyLooks v.old v.new }
     ensures told { N.tells v.old.nor.now → OnOk result (IsMarked v.old.geometry (N.bytes v.old.nor.now) marks.new) }
     ensures built { take v.old.geometry.page v.new.work.now ≡ take v.old.geometry.page v.old.work.now }
 {
+    clear(marks, v.geometry.pages() as usize);
     for page in 0..v.geometry.pages() as u16 {
-        marks[page as usize] = mark(v, page)?;
+        mark_page(v, marks, page)?;
     }
     Ok(())
 }
 
-// The mark of a page.
-#[tactic(auto, using(flash_view::proofs::Looking::looks_then, crate::proofs::Marking::mark_none, crate::proofs::Marking::mark_later, crate::proofs::Marking::mark_first))]
-fn mark<N: Nor>(v: &mut View<'_, N>, page: u16) -> Result<u8, Failed>
+// Marks a page behind those that are marked, and notes its id.
+#[tactic(auto, using(flash_view::proofs::Looking::looks_then))]
+fn mark_page<N: Nor>(v: &mut View<'_, N>, marks: &mut [u8], page: u16) -> Result<(), Failed>
+    requires page { page < page_count v.old.geometry }
+    requires room { check_need v.old.geometry ≤ length marks.old }
+    ensures cause { OnErr result (Rose (N.faults v.old.nor.now) (N.faults v.new.nor.now)) }
+    ensures looks { OnlyLooks v.old v.new }
+    ensures told { N.tells v.old.nor.now → Surveyed v.old.geometry (N.bytes v.old.nor.now) marks.old page → OnOk result (Surveyed v.old.geometry (N.bytes v.old.nor.now) marks.new (page + 1)) }
+    ensures built { take v.old.geometry.page v.new.work.now ≡ take v.old.geometry.page v.old.work.now }
+{
+    let found = v.header_id(page)?;
+    let first = note_first(marks, v.geometry.pages() as usize, found, page);
+    marks[page as usize] = mark(v, first, page)?;
+    Ok(())
+}
+
+// The mark of a page, which is the first header page of this id where there is one.
+fn mark<N: Nor>(v: &mut View<'_, N>, first: Option<u16>, page: u16) -> Result<u8, Failed>
     requires { page < page_count v.old.geometry }
     ensures cause { OnErr result (Rose (N.faults v.old.nor.now) (N.faults v.new.nor.now)) }
     ensures looks { OnlyLooks v.old v.new }
-    ensures told { N.tells v.old.nor.now → IfOk result (λ mark. mark ≡ mark_of v.old.geometry (N.bytes v.old.nor.now) page) }
+    ensures told { N.tells v.old.nor.now → IfOk result (λ mark. mark ≡ head_mark v.old.geometry (N.bytes v.old.nor.now) first page) }
     ensures built { take v.old.geometry.page v.new.work.now ≡ take v.old.geometry.page v.old.work.now }
 {
-    let Some(id) = v.header_id(page)? else {
-        return Ok(0);
-    };
-    if !is_same(v.find_index(id, 0)?, page) {
-        return Ok(0);
+    match first {
+        Some(id) => Ok(mark_for(judge(v, id, page)?)),
+        None => Ok(0),
     }
-    Ok(mark_for(judge(v, id, page)?))
 }
 
-/// The least id above `after` that has a header page, with that page, by right marks. Pages without a mark aren't
-/// looked at.
+/// The least id above `after` that has a header page, with that page, by right marks.
+#[tactic(auto, using(flash_view::proofs::Looking::looks_then))]
 pub fn next_marked<N: Nor>(
     v: &mut View<'_, N>,
     marks: &[u8],
     after: u16,
 ) -> Result<Option<(u16, u16)>, Failed>
-    requires room { page_count v.old.geometry ≤ length marks.now }
+    requires room { check_need v.old.geometry ≤ length marks.now }
     requires marked { N.tells v.old.nor.now → IsMarked v.old.geometry (N.bytes v.old.nor.now) marks.now }
     ensures cause { OnErr result (Rose (N.faults v.old.nor.now) (N.faults v.new.nor.now)) }
     ensures looks { OnlyLooks v.old v.new }
@@ -118,16 +113,69 @@ pub fn next_marked<N: Nor>(
     ensures told { N.tells v.old.nor.now → IfOk result (λ next. NextHead v.old.geometry (N.bytes v.old.nor.now) after next) }
     ensures work { v.new.work.now ≡ v.old.work.now }
 {
-    let mut least = None;
-    for page in 0..v.geometry.pages() as u16 {
-        let found = marked_id(v, marks[page as usize], page)?;
-        least = nearer(after, least, found, page);
+    for id in u32::from(after) + 1..u32::from(INDEX_BIT) {
+        if let Some(page) = marked_page(v, marks, id as u16)? {
+            return Ok(Some((id as u16, page)));
+        }
     }
-    Ok(least)
+    Ok(None)
+}
+
+/// The header page of an id, by right marks: looked for behind the page that is kept for it first. Pages without a
+/// mark aren't looked at, nor is any page for an id that isn't noted.
+#[tactic(auto, using(flash_view::proofs::Looking::looks_then))]
+pub(crate) fn marked_page<N: Nor>(
+    v: &mut View<'_, N>,
+    marks: &[u8],
+    id: u16,
+) -> Result<Option<u16>, Failed>
+    requires room { check_need v.old.geometry ≤ length marks.now }
+    requires marked { N.tells v.old.nor.now → IsMarked v.old.geometry (N.bytes v.old.nor.now) marks.now }
+    ensures cause { OnErr result (Rose (N.faults v.old.nor.now) (N.faults v.new.nor.now)) }
+    ensures looks { OnlyLooks v.old v.new }
+    ensures inside { IfOk result (λ page. IfSome page (λ p. p < page_count v.old.geometry)) }
+    ensures told { N.tells v.old.nor.now → IfOk result (λ page. page ≡ index_page v.old.geometry (own (live_at v.old.geometry (N.bytes v.old.nor.now)) id) 0) }
+    ensures work { v.new.work.now ≡ v.old.work.now }
+{
+    let pages = v.geometry.pages() as u16;
+    if !is_noted(marks, usize::from(pages), id) {
+        return Ok(None);
+    }
+    let near = near(marks, usize::from(pages), id).min(pages);
+    match marked_between(v, marks, id, near, pages)? {
+        Some(page) => Ok(Some(page)),
+        None => marked_between(v, marks, id, 0, near),
+    }
+}
+
+// The header page of an id, where it is one of the pages from `from` on and below `to`, by right marks.
+#[tactic(auto, using(flash_view::proofs::Looking::looks_then))]
+fn marked_between<N: Nor>(
+    v: &mut View<'_, N>,
+    marks: &[u8],
+    id: u16,
+    from: u16,
+    to: u16,
+) -> Result<Option<u16>, Failed>
+    requires inside { to ≤ page_count v.old.geometry }
+    requires room { page_count v.old.geometry ≤ length marks.now }
+    requires marked { N.tells v.old.nor.now → IsMarked v.old.geometry (N.bytes v.old.nor.now) marks.now }
+    ensures cause { OnErr result (Rose (N.faults v.old.nor.now) (N.faults v.new.nor.now)) }
+    ensures looks { OnlyLooks v.old v.new }
+    ensures inside { IfOk result (λ page. IfSome page (λ p. p < page_count v.old.geometry)) }
+    ensures told { N.tells v.old.nor.now → IfOk result (λ page. page ≡ head_between v.old.geometry (N.bytes v.old.nor.now) id from to) }
+    ensures work { v.new.work.now ≡ v.old.work.now }
+{
+    for page in from..to {
+        if is_same(marked_id(v, marks[page as usize], page)?, id) {
+            return Ok(Some(page));
+        }
+    }
+    Ok(None)
 }
 
 // The id whose header page a page with this mark is.
-#[tactic(auto, using(crate::proofs::Nearest::unmarked, crate::proofs::Nearest::id_of_entry))]
+#[tactic(auto, using(crate::proofs::Heads::unmarked, crate::proofs::Heads::id_of_entry))]
 fn marked_id<N: Nor>(v: &mut View<'_, N>, mark: u8, page: u16) -> Result<Option<u16>, Failed>
     requires page { page < page_count v.old.geometry }
     requires marked { N.tells v.old.nor.now → mark ≡ mark_of v.old.geometry (N.bytes v.old.nor.now) page }
@@ -150,7 +198,7 @@ pub fn find_name<N: Nor>(
     marks: &[u8],
     name: &[u8],
 ) -> Result<Option<u16>, Failed>
-    requires room { page_count v.old.geometry ≤ length marks.now }
+    requires room { check_need v.old.geometry ≤ length marks.now }
     requires marked { N.tells v.old.nor.now → IsMarked v.old.geometry (N.bytes v.old.nor.now) marks.now }
     ensures cause { OnErr result (Rose (N.faults v.old.nor.now) (N.faults v.new.nor.now)) }
     ensures looks { OnlyLooks v.old v.new }
@@ -197,7 +245,7 @@ pub fn damage<N: Nor>(
     id: u16,
     header: u16,
 ) -> Result<Option<Damage>, Failed>
-    requires room { page_count v.old.geometry ≤ length marks.now }
+    requires room { check_need v.old.geometry ≤ length marks.now }
     requires header { header < page_count v.old.geometry }
     requires marked { N.tells v.old.nor.now → IsMarked v.old.geometry (N.bytes v.old.nor.now) marks.now }
     requires first { N.tells v.old.nor.now → index_page v.old.geometry (own (live_at v.old.geometry (N.bytes v.old.nor.now)) id) 0 ≡ Some header }

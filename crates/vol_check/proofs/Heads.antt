@@ -11,7 +11,8 @@ use Rattle.geometry.specs.declared.geometry.Geometry.{Geometry}
 use Rattle.table_model.specs.Table.{File}
 use Rattle.image_model.specs.declared.damage.Damage.{Damage}
 use Rattle.image_model.specs.declared.damage.Damage.TheVariants.{SameName}
-use Rattle.image_model.specs.Volume.{page_count}
+use Rattle.geometry.specs.Numbers.{page_count as pages_of}
+use Rattle.image_model.specs.Volume.{page_count, per_block}
 use Rattle.image_model.specs.Places.{page_of, is_entry_page}
 use Rattle.image_model.specs.Headers.{obj_id, span_of, names_index}
 use Rattle.image_model.specs.Live.{Live, live_at, own}
@@ -27,7 +28,9 @@ use Rattle.image_laws.proofs.Kill.{own-loses, own-loses_other}
 use Rattle.image_laws.proofs.DamagedHead.{counts-gone, counted-gone, table-now, damaged-now, wanted-now}
 use Rattle.flash_view.specs.Found.{headed}
 use Rattle.file_find.specs.Marks.{mark_as, mark_of, IsMarked, cause_at}
+use Rattle.file_find.proofs.Bits.{mark_beside}
 use Rattle.file_find.proofs.Marking.{has_at, other_mark}
+use Rattle.file_find.proofs.Heads.{header_parts}
 use Rattle.flash_view.proofs.Spans.{index_known}
 use Rattle.vol_check.specs.Culls.{MayCull, HasNoDoubles, Culls}
 use Rattle.vol_check.specs.Works.{IsHead, TurnsHead, culling, culling_head}
@@ -174,12 +177,20 @@ module _ (g : Geometry) (a b : List ℕ) (p : ℕ) (head : List ℕ) (live : liv
     unfolding mark_of
     mark_gone = rw change.after refl
 
+    below : p < pages_of g
+    unfolding page_count per_block
+    below = (header_parts g a id p first).1
+
     -- right marks stay right by one set to 0
     pub marked_less : (marks : List ℕ) → p < length marks → IsMarked g a marks → IsMarked g b (slice_set marks p 0)
     marked_less marks room was = record {
       each = λ q low. ⊎_elim
           (λ (here : q ≡ p). rw here (get_or-set_same marks p 0 0 room ∙ sym mark_gone))
           (λ (there : q ≡ p → ⊥). get_or-set_other marks p q 0 0 there ∙ was.each q low ∙ sym (mark_other q there))
+          (cases_eq q p);
+      noted = λ q j low has. ⊎_elim
+          (λ (here : q ≡ p). let bad : None ≡ Some j = rw (here, change.after) at has in absurd (cc))
+          (λ (there : q ≡ p → ⊥). mark_beside marks _ p 0 j below ∙ was.noted q j low (rw (change.others q there) at has))
           (cases_eq q p);
     }
 
