@@ -30,13 +30,11 @@ pub number_is : (o : Option ℕ) (p : ℕ) → is_number o p ≡ true → o ≡ 
 number_is None p e = absurd (cc)
 number_is (Some q) p e = ap (λ (x : ℕ). Some x) (eqb-true q p e)
 
-pub other_mark : (r : Result File Damage) (q p : ℕ) → (q == p) ≡ false → mark_by (Some (q, r)) p ≡ 0
-other_mark (Ok f) q p other = rw other refl
-other_mark (Err e) q p other = rw other refl
+pub other_mark : (cause : Option Damage) (r : Result File Damage) (q p : ℕ) → (q == p) ≡ false → mark_by cause (Some (q, r)) p ≡ 0
+other_mark cause r q p other = rw other refl
 
-pub first_mark : (r : Result File Damage) (p : ℕ) → mark_by (Some (p, r)) p ≡ mark_for (cause_of r)
-first_mark (Ok f) p = rw (eq-eqb p p refl) refl
-first_mark (Err e) p = rw (eq-eqb p p refl) refl
+pub first_mark : (cause : Option Damage) (r : Result File Damage) (p : ℕ) → mark_by cause (Some (p, r)) p ≡ mark_for r cause
+first_mark cause r p = rw (eq-eqb p p refl) refl
 
 -- ---- the mark of a page
 

@@ -16,11 +16,11 @@ use Rattle.image_model.specs.Tidy.{is_number}
 use Rattle.flash_view.specs.Found.{headed, has_header}
 use Rattle.flash_view.proofs.Least.{heads}
 use Rattle.file_find.specs.Ids.{is_noted, unnoted, Notes}
-use Rattle.file_find.specs.Marks.{mark_by, mark_of, head_mark, marked_id, head_between, IsMarked, HasBelow, Surveyed, NextHead}
+use Rattle.file_find.specs.Marks.{mark_by, mark_of, head_mark, marked_id, head_between, cause_at, holder_below, table_id, IsMarked, HasBelow, MarkedBelow, Surveyed, NextHead}
 use Rattle.file_find.proofs.Bits.{mark_beside}
 use Rattle.file_find.proofs.Marking.{has_at, mark_none, other_mark, number_is, find_parts}
-use Rattle.file_find.proofs.Heads.{header_parts, header_mark, header_marked, marked_page}
-use Rattle.file_find.proofs.Holders.{head_within, nothing_found}
+use Rattle.file_find.proofs.Heads.{header_parts, header_marked, marked_page}
+use Rattle.file_find.proofs.Holders.{head_within, nothing_found, judged_right, holder_all}
 
 -- the pages of a volume by both names
 in_volume : (g : Geometry) (p : ℕ) → p < page_count g → p < volume_pages g
@@ -71,7 +71,7 @@ module _ (g : Geometry) (image : List ℕ) (p id : ℕ) (low : p < page_count g)
   later_mark before =
       let first = has_first g image id before.page (omega (arith, low, before.below)) before.is in
       let least = first_least g image id first.0 before.page first.1 before.is in
-      rw is (rw (has_at g image id first.0 first.1) (sym (other_mark (judged g (own (live_at g image) id) id (page_of g image first.0)) first.0 p (ne_eqb first.0 p (λ e. omega (arith, e, least, before.below))))))
+      rw is (rw (has_at g image id first.0 first.1) (sym (other_mark (cause_at g image id) (judged g (own (live_at g image) id) id (page_of g image first.0)) first.0 p (ne_eqb first.0 p (λ e. omega (arith, e, least, before.below))))))
 
   -- one before which there is none is the first
   first_page : (HasBelow g image id p → ⊥) → index_page g (own (live_at g image) id) 0 ≡ Some p
@@ -87,7 +87,7 @@ module _ (g : Geometry) (image : List ℕ) (p id : ℕ) (low : p < page_count g)
 
 pub surveyed_none : (g : Geometry) (image marks : List ℕ) → ((id : ℕ) → id < 0x8000 → is_noted marks (page_count g) id ≡ false) → Surveyed g image marks 0
 surveyed_none g image marks none = record {
-  each = λ p low. absurd (omega (arith, low));
+  marked = record { each = λ p low. absurd (omega (arith, low)) };
   noted = λ p id low. absurd (omega (arith, low));
   only = λ id low e. absurd (let bad : true ≡ false = sym e ∙ none id low in cc);
 }
@@ -96,11 +96,18 @@ unnoted_mark : (g : Geometry) (image old : List ℕ) (p id : ℕ) (noted : Bool)
     head_mark g image (if noted then None else Some id) p ≡ mark_of g image p
 unnoted_mark g image old p id true set low is was = later_mark g image p id low is (was.only id (let w = head_within g image p id is in omega (arith, w.1)) set)
 unnoted_mark g image old p id false set low is was =
-    sym (header_mark g image id p (first_page g image p id low is (λ before. let bad : true ≡ false = sym (was.noted before.page id before.below before.is) ∙ set in absurd (cc))))
+    judged_right g image id p (first_page g image p id low is (λ before. let bad : true ≡ false = sym (was.noted before.page id before.below before.is) ∙ set in absurd (cc)))
 
 page_mark : (g : Geometry) (image old : List ℕ) (p : ℕ) (found : Option ℕ) → found ≡ headed (live_at g image p) → p < page_count g → Surveyed g image old p → head_mark g image (unnoted old (page_count g) found) p ≡ mark_of g image p
 page_mark g image old p None is low was = mark_none g image p is
 page_mark g image old p (Some id) is low was = unnoted_mark g image old p id (is_noted old (page_count g) id) refl low (sym is) was
+
+-- the pages that are marked stay so while the id of another one is noted
+pub marked_still : (g : Geometry) (image old mid : List ℕ) (p : ℕ) (found : Option ℕ) → p < page_count g → Surveyed g image old p → Notes (page_count g) found old mid → MarkedBelow g image mid p
+marked_still g image old mid p found low was notes = record { each = λ q less. notes.pages q (omega (arith, less, low)) ∙ was.marked.each q less }
+
+pub marked_all : (g : Geometry) (image marks : List ℕ) → IsMarked g image marks → MarkedBelow g image marks (page_count g)
+marked_all g image marks was = record { each = was.each }
 
 -- an id is the one that was found, or another
 stays_noted : (start : ℕ) (old new : List ℕ) (found : Option ℕ) (id : ℕ) → Notes start found old new → id < 0x8000 → is_noted old start id ≡ true → is_noted new start id ≡ true
@@ -126,10 +133,12 @@ pub surveyed_more : (g : Geometry) (image old mid : List ℕ) (p mark : ℕ) (fo
 surveyed_more g image old mid p mark found first low room was is told notes marked =
     let right : mark ≡ mark_of g image p = marked ∙ ap (λ (o : Option ℕ). head_mark g image o p) told ∙ page_mark g image old p found is low was in
     record {
-      each = λ q less. ⊎_elim
-          (λ (before : q < p). get_or-set_other mid p q mark 0 (λ e. omega (arith, e, before)) ∙ notes.pages q (omega (arith, before, low)) ∙ was.each q before)
-          (λ (most : p ≤ q). let at : q ≡ p = omega arith in rw at (get_or-set_same mid p mark 0 room ∙ right))
-          (cases_lt q p);
+      marked = record {
+        each = λ q less. ⊎_elim
+            (λ (before : q < p). get_or-set_other mid p q mark 0 (λ e. omega (arith, e, before)) ∙ notes.pages q (omega (arith, before, low)) ∙ was.marked.each q before)
+            (λ (most : p ≤ q). let at : q ≡ p = omega arith in rw at (get_or-set_same mid p mark 0 room ∙ right))
+            (cases_lt q p);
+      };
       noted = λ q id less has.
           let within = head_within g image q id has in
           mark_beside mid (page_count g) p mark id low ∙ ⊎_elim
@@ -140,9 +149,12 @@ surveyed_more g image old mid p mark found first low room was is told notes mark
     }
 
 pub surveyed_all : (g : Geometry) (image marks : List ℕ) (end : ℕ) → end ≡ page_count g → Surveyed g image marks end → IsMarked g image marks
-surveyed_all g image marks end all was = record { each = λ p low. was.each p (omega (arith, low, all)); noted = λ p id low. was.noted p id (omega (arith, low, all)) }
+surveyed_all g image marks end all was = record { each = λ p low. was.marked.each p (omega (arith, low, all)); noted = λ p id low. was.noted p id (omega (arith, low, all)) }
 
 -- ---- the header page of an id, by right marks
+
+pub head_marked : (g : Geometry) (image marks : List ℕ) (id p : ℕ) → IsMarked g image marks → index_page g (own (live_at g image) id) 0 ≡ Some p → slice_index marks p ≡ mark_of g image p
+head_marked g image marks id p marked is = marked.each p (in_pages g p (header_parts g image id p is).1)
 
 no_first : (g : Geometry) (image : List ℕ) (id : ℕ) (o : Option ℕ) → index_page g (own (live_at g image) id) 0 ≡ o → ((p : ℕ) → p < page_count g → headed (live_at g image p) ≡ Some id → index_page g (own (live_at g image) id) 0 ≡ Some p → ⊥) → None ≡ index_page g (own (live_at g image) id) 0
 no_first g image id None is none = sym is
@@ -214,3 +226,9 @@ next_nowhere g image after at all was = record {
       (λ (past : at ≤ other). sym (no_first g image other (index_page g (own (live_at g image) other) 0) refl (λ p low has is. let within = head_within g image p other has in omega (arith, within.1, past, all))))
       (cases_lt other at));
 }
+
+-- ---- the table's file of a name, among all pages
+
+pub holder_volume : (g : Geometry) (image name : List ℕ) (end : ℕ) → end ≡ page_count g → holder_below g image name end ≡ table_id g image name
+unfolding volume_pages per_block
+holder_volume g image name end all = rw all (holder_all g image name)

@@ -5,7 +5,7 @@ ghost use Rattle.flash_view.specs.Same.{OnlyLooks};
 ghost use Rattle.file_find.specs.Marks.{IsMarked};
 ghost use Rattle.file_find.specs.Listing.{NextFile, TheFile, damaged_above};
 
-use crate::marks::{damage, marked_page, next_marked};
+use crate::marks::{damage, is_listed, marked_page, next_marked};
 use flash_view::View;
 use image_model::Damage;
 use nor_core::{Failed, Nor, NorState};
@@ -28,7 +28,7 @@ pub fn next_file<N: Nor>(
 {
     let mut at = after;
     'ids: while let Some((id, header)) = next_marked(v, marks, at)? {
-        if damage(v, marks, id, header)?.is_none() {
+        if is_listed(marks[header as usize]) {
             return Ok(Some((id, header)));
         }
         at = id;
@@ -50,9 +50,10 @@ pub fn find_file<N: Nor>(v: &mut View<'_, N>, marks: &[u8], id: u16) -> Result<O
     let Some(header) = marked_page(v, marks, id)? else {
         return Ok(None);
     };
-    Ok(match damage(v, marks, id, header)? {
-        Some(_) => None,
-        None => Some(header),
+    Ok(if is_listed(marks[header as usize]) {
+        Some(header)
+    } else {
+        None
     })
 }
 
