@@ -83,7 +83,7 @@ fn one_field_is_programmed_and_nothing_else(rt: HostRuntime) -> Result<(), Fail>
     Ok(())
 }
 
-// Reads the file of an id, where the table has one. The marks are one for each page.
+// Reads the file of an id, where the table has one. The marks are bytes for the check.
 #[tactic(auto, using(flash_view::proofs::Looking::looks_then))]
 fn read_whole(
     v: &mut View<'_, MemBoard>,
@@ -92,7 +92,7 @@ fn read_whole(
     at: u32,
     into: &mut [u8],
 ) -> Result<Option<u32>, Fail> {
-    if marks.len() < v.geometry.pages() as usize {
+    if marks.len() < v.geometry.check_need() as usize {
         return Ok(None);
     }
     survey(v, marks)?;

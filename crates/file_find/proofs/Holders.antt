@@ -1,4 +1,4 @@
--- The file that the table has for a name, by marked pages.
+-- The table's file of a name, by marked pages, and the damage of an id by its mark.
 use Rattle.std.proofs.Common.{◌≡◌, ◌≢◌, ℕ, zero, suc, ◌+◌, ◌%◌, ◌==◌, ◌&&◌, ◌<◌, ◌≤◌, not, nat_lt, ⊎_elim, Bool, true, false, List, [], ◌∷◌, refl, sym, ◌∙◌, ap, arith, Option, Some, None, if◌then◌else◌}
 use Rattle.std.specs.Prelude.{Result, Ok, Err, find, is_some, unwrap_or, option_and_then}
 use Rattle.std.specs.Option.{option_map}
@@ -19,33 +19,33 @@ use Rattle.image_model.specs.Tables.{Found, has_of, ids, is_before, counts, coun
 use Rattle.flash_view.specs.Found.{headed, is_name}
 use Rattle.flash_view.specs.DataPages.{lookup_entry}
 use Rattle.file_find.specs.Judging.{cause_of}
-use Rattle.file_find.specs.Marks.{mark_of, mark_for, whole_at, table_id, same_name, cause_at}
+use Rattle.file_find.specs.Marks.{name_hash, name_mark, mark_of, mark_for, holder_at, holder_below, judged_mark, table_id, same_name, cause_at}
 use Rattle.flash_view.proofs.Entries.{live_page}
 use Rattle.file_find.proofs.Marking.{has_at, has_none, find_parts}
-use Rattle.file_find.proofs.Nearest.{mark_entry, header_parts, header_mark, mark_head}
+use Rattle.file_find.proofs.Heads.{mark_entry, header_parts, header_mark, mark_head}
 
--- ---- the id of a page of a whole file with a name, by its entry
-
-pub not_whole : (g : Geometry) (image name : List ℕ) (p mark : ℕ) → mark ≡ mark_of g image p → mark ≢ 1 → None ≡ whole_at g image name p
-unfolding whole_at
-not_whole g image name p mark is other = rw (sym is, ne_eqb mark 1 other) refl
+-- ---- the id of a page that holds a name, by its entry
 
 none_if : (o : Option ℕ) (b : Bool) → None ≡ (if b && false then o else None)
 none_if o true = refl
 none_if o false = refl
 
-pub other_name : (g : Geometry) (image name : List ℕ) (p : ℕ) → is_name (name_of (page_of g image p)) name ≡ false → None ≡ whole_at g image name p
-unfolding whole_at
-other_name g image name p other = rw other (none_if (headed (live_at g image p)) (mark_of g image p == 1))
+pub other_name : (g : Geometry) (image name : List ℕ) (p : ℕ) → is_name (name_of (page_of g image p)) name ≡ false → None ≡ holder_at g image name p
+unfolding holder_at
+other_name g image name p other = rw other (none_if (headed (live_at g image p)) (mark_of g image p == name_mark name))
 
-pub whole_by_entry : (g : Geometry) (image name : List ℕ) (p mark entry : ℕ) → mark ≡ mark_of g image p → mark ≡ 1 → is_name (name_of (page_of g image p)) name ≡ true → entry ≡ lookup_entry g image p →
-    Some (entry % 0x8000) ≡ whole_at g image name p
-unfolding whole_at
-whole_by_entry g image name p mark entry is one named told =
-    let marked : mark_of g image p ≡ 1 = sym is ∙ one in
-    rw (marked, named, told) (mark_entry g image p (λ e. let bad : 1 ≡ 0 = sym marked ∙ e in absurd (omega (arith, bad))))
+pub other_mark_name : (g : Geometry) (image name : List ℕ) (p mark sought : ℕ) → sought ≡ name_mark name → mark ≡ mark_of g image p → mark ≢ sought → None ≡ holder_at g image name p
+unfolding holder_at
+other_mark_name g image name p mark sought seeks is other = rw (sym is, ne_eqb mark (name_mark name) (λ e. other (e ∙ sym seeks))) refl
 
--- ---- what such a page tells
+pub holder_by_entry : (g : Geometry) (image name : List ℕ) (p mark sought entry : ℕ) → sought ≡ name_mark name → mark ≡ mark_of g image p → mark ≡ sought → is_name (name_of (page_of g image p)) name ≡ true → entry ≡ lookup_entry g image p →
+    Some (entry % 0x8000) ≡ holder_at g image name p
+unfolding holder_at
+holder_by_entry g image name p mark sought entry seeks is same named told =
+    let marked : mark_of g image p ≡ name_mark name = sym is ∙ same ∙ seeks in
+    rw (eq-eqb (mark_of g image p) (name_mark name) marked, named, told) (mark_entry g image p (λ z. let bad : name_mark name ≡ 0 = sym marked ∙ z in absurd (omega (arith, bad))))
+
+-- ---- what a header page tells
 
 equal_text : (xs : List ℕ) → same_text xs xs ≡ true
 equal_text [] = refl
@@ -53,34 +53,6 @@ equal_text (x ∷ xs) = rw (eq-eqb x x refl) (equal_text xs)
 
 texts : (xs ys : List ℕ) → same_text xs ys ≡ true → xs ≡ ys
 texts xs ys e = text_is xs ys (sym e)
-
--- an id from 1 to 0x7FFF that has a whole file of this name, with this header page
-pub record Whole (g : Geometry) (image name : List ℕ) (p id : ℕ) : Type 0 where
-  pub file : File
-  pub has : has_of g (live_at g image) id ≡ Some (p, Ok file)
-  pub named : file.name ≡ name
-  pub low : 1 ≤ id
-  pub high : id ≤ 0x7FFF
-
-record IsFile (g : Geometry) (pages : Live) (id : ℕ) (head : List ℕ) (r : Result File Damage) : Type 0 where
-  file : File
-  is : r ≡ Ok file
-  named : name_of head ≡ Some file.name
-
-file_by : (g : Geometry) (pages : Live) (id : ℕ) (head : List ℕ) (name : Option (List ℕ)) (missing : Option ℕ) → name_of head ≡ name → mark_for (cause_of (judged_by g pages id head name missing)) ≡ 1 →
-    IsFile g pages id head (judged_by g pages id head name missing)
-file_by g pages id head None missing is e = absurd (omega (arith, e))
-file_by g pages id head (Some name) (Some span) is e = absurd (omega (arith, e))
-file_by g pages id head (Some name) None is e = record { file = file_of g pages id head name; is = refl; named = is }
-
-file_of_mark : (g : Geometry) (pages : Live) (id : ℕ) (head : List ℕ) → mark_for (cause_of (judged g pages id head)) ≡ 1 → IsFile g pages id head (judged g pages id head)
-unfolding judged
-file_of_mark g pages id head e = file_by g pages id head (name_of head) (first_missing g pages head) refl e
-
-name_by : (g : Geometry) (pages : Live) (id : ℕ) (head : List ℕ) (name : Option (List ℕ)) (missing : Option ℕ) (f : File) → judged_by g pages id head name missing ≡ Ok f → (name ≡ Some f.name) × (mark_for (cause_of (judged_by g pages id head name missing)) ≡ 1)
-name_by g pages id head None missing f e = absurd (cc)
-name_by g pages id head (Some name) (Some span) f e = absurd (cc)
-name_by g pages id head (Some name) None f e = let same : file_of g pages id head name ≡ f = cc in (ap (λ (x : File). Some x.name) same, refl)
 
 -- the id of a header page is from 1 to 0x7FFF
 id_within : (page : List ℕ) (id : ℕ) (index : Bool) → is_finished page ≡ true → (if index then Some (obj_id page % 0x8000) else None) ≡ Some id → (1 ≤ id) × (id ≤ 0x7FFF)
@@ -102,32 +74,25 @@ within_live g image p id (Some page) is e = id_within page id (is_index (Some pa
 pub head_within : (g : Geometry) (image : List ℕ) (p id : ℕ) → headed (live_at g image p) ≡ Some id → (1 ≤ id) × (id ≤ 0x7FFF)
 head_within g image p id e = within_live g image p id (live_at g image p) refl e
 
-whole_parts : (marked named : Bool) (o : Option ℕ) (id : ℕ) → (if marked && named then o else None) ≡ Some id → (marked ≡ true) × (named ≡ true) × (o ≡ Some id)
-whole_parts true true o id e = (refl, refl, e)
-whole_parts true false o id e = absurd (cc)
-whole_parts false named o id e = absurd (cc)
+named_parts : (marked named : Bool) (o : Option ℕ) (id : ℕ) → (if marked && named then o else None) ≡ Some id → (marked ≡ true) × (named ≡ true) × (o ≡ Some id)
+named_parts true true o id e = (refl, refl, e)
+named_parts true false o id e = absurd (cc)
+named_parts false named o id e = absurd (cc)
 
 name_is : (found : Option (List ℕ)) (mine name : List ℕ) → found ≡ Some mine → is_name found name ≡ true → mine ≡ name
 name_is None mine name is e = absurd (cc)
 name_is (Some found) mine name is e = let same : found ≡ mine = cc in sym same ∙ texts found name e
 
-pub whole_of : (g : Geometry) (image name : List ℕ) (p id : ℕ) → whole_at g image name p ≡ Some id → Whole g image name p id
-unfolding whole_at
-whole_of g image name p id e =
-    let w = whole_parts (mark_of g image p == 1) (is_name (name_of (page_of g image p)) name) (headed (live_at g image p)) id e in
-    let one : mark_of g image p ≡ 1 = eqb-true _ _ w.0 in
-    let at : index_page g (own (live_at g image) id) 0 ≡ Some p = mark_head g image p id w.2 (λ z. let bad : 1 ≡ 0 = sym one ∙ z in absurd (omega (arith, bad))) in
-    let f = file_of_mark g (own (live_at g image) id) id (page_of g image p) (sym (header_mark g image id p at) ∙ one) in
-    let within = head_within g image p id w.2 in
-    record {
-      file = f.file;
-      has = has_at g image id p at ∙ ap (λ (r : Result File Damage). Some (p, r)) f.is;
-      named = name_is (name_of (page_of g image p)) f.file.name name f.named w.1;
-      low = within.0;
-      high = within.1;
-    }
+name_by : (g : Geometry) (pages : Live) (id : ℕ) (head : List ℕ) (name : Option (List ℕ)) (missing : Option ℕ) (f : File) → judged_by g pages id head name missing ≡ Ok f → name ≡ Some f.name
+name_by g pages id head None missing f e = absurd (cc)
+name_by g pages id head (Some name) (Some span) f e = absurd (cc)
+name_by g pages id head (Some name) None f e = let same : file_of g pages id head name ≡ f = cc in ap (λ (x : File). Some x.name) same
 
--- ---- and what an id has, by its header page
+pub name_of_file : (g : Geometry) (pages : Live) (id : ℕ) (head : List ℕ) (f : File) → judged g pages id head ≡ Ok f → name_of head ≡ Some f.name
+unfolding judged
+name_of_file g pages id head f e = name_by g pages id head (name_of head) (first_missing g pages head) f e
+
+-- ---- what an id has, by its header page
 
 pub has_parts : (g : Geometry) (image : List ℕ) (id p : ℕ) (r : Result File Damage) (o : Option ℕ) → index_page g (own (live_at g image) id) 0 ≡ o → has_of g (live_at g image) id ≡ Some (p, r) →
     (index_page g (own (live_at g image) id) 0 ≡ Some p) × (judged g (own (live_at g image) id) id (page_of g image p) ≡ r)
@@ -136,18 +101,21 @@ has_parts g image id p r (Some q) is e =
     let w = some_pair_parts q p (judged g (own (live_at g image) id) id (page_of g image q)) r (sym (has_at g image id q is) ∙ e) in
     (is ∙ ap (λ (x : ℕ). Some x) w.0, rw w.0 at w.1)
 
-name_of_file : (g : Geometry) (pages : Live) (id : ℕ) (head : List ℕ) (f : File) → judged g pages id head ≡ Ok f → (name_of head ≡ Some f.name) × (mark_for (cause_of (judged g pages id head)) ≡ 1)
-unfolding judged
-name_of_file g pages id head f e = name_by g pages id head (name_of head) (first_missing g pages head) f e
+-- an id that has a whole file of this name with this header page
+pub record Whole (g : Geometry) (image : List ℕ) (id p : ℕ) (f : File) : Type 0 where
+  pub first : index_page g (own (live_at g image) id) 0 ≡ Some p
+  pub is : judged g (own (live_at g image) id) id (page_of g image p) ≡ Ok f
+  pub head : headed (live_at g image p) ≡ Some id
+  pub below : p < page_count g
+  pub low : 1 ≤ id
+  pub high : id ≤ 0x7FFF
 
-pub at_whole : (g : Geometry) (image name : List ℕ) (p id : ℕ) (f : File) → has_of g (live_at g image) id ≡ Some (p, Ok f) → f.name ≡ name → (whole_at g image name p ≡ Some id) × (p < page_count g)
-unfolding whole_at
-at_whole g image name p id f has named =
+pub whole_of : (g : Geometry) (image : List ℕ) (id p : ℕ) (f : File) → has_of g (live_at g image) id ≡ Some (p, Ok f) → Whole g image id p f
+whole_of g image id p f has =
     let w = has_parts g image id p (Ok f) (index_page g (own (live_at g image) id) 0) refl has in
     let head = header_parts g image id p w.0 in
-    let n = name_of_file g (own (live_at g image) id) id (page_of g image p) f w.1 in
-    let one : mark_of g image p ≡ 1 = header_mark g image id p w.0 ∙ n.1 in
-    (rw (one, n.0, named, equal_text name) head.0, head.1)
+    let within = head_within g image p id head.0 in
+    record { first = w.0; is = w.1; head = head.0; below = head.1; low = within.0; high = within.1 }
 
 -- ---- whole files of one name
 
@@ -170,7 +138,7 @@ find_nothing t a (suc n) none =
     (λ (no' : t a ≡ false). rw no' (find_nothing t (a + 1) n none))
     (cases_Bool (t a))
 
-nothing_found : (t : ℕ → Bool) (a n : ℕ) → find t (range_with_len a n) ≡ None → (q : ℕ) → a ≤ q → q < a + n → t q ≡ false
+pub nothing_found : (t : ℕ → Bool) (a n : ℕ) → find t (range_with_len a n) ≡ None → (q : ℕ) → a ≤ q → q < a + n → t q ≡ false
 nothing_found t a zero e q low high = absurd (omega arith)
 nothing_found t a (suc n) e q low high =
     ⊎_elim
@@ -199,6 +167,18 @@ any_at t a (suc n) j e low high =
     (λ (x : a ≡ j → ⊥). any_at t (a + 1) n j (rw no' at e) (omega (arith, x)) (omega arith))
     (cases_eq a j))
     (cases_Bool (t a))
+
+any_found : (t : ℕ → Bool) (a n : ℕ) → list_any t (range_with_len a n) ≡ true → (i : ℕ) × (t i ≡ true)
+any_found t a zero e = absurd (cc)
+any_found t a (suc n) e =
+    ⊎_elim
+    (λ (yes' : t a ≡ true). (a, yes'))
+    (λ (no' : t a ≡ false). any_found t (a + 1) n (rw no' at e))
+    (cases_Bool (t a))
+
+not_false : (b : Bool) → not b ≡ false → b ≡ true
+not_false true e = refl
+not_false false e = absurd (cc)
 
 not_true : (b : Bool) → not b ≡ true → b ≡ false
 not_true true e = absurd (cc)
@@ -237,6 +217,38 @@ first_counts has n p name none =
     let quiet : list_any (λ (id : ℕ). is_before (has id) p name) (ids n) ≡ false = any_nothing (λ (id : ℕ). is_before (has id) p name) 1 n (λ j e. let w = before_parts (has j) p name e in none j w.page w.file w.is w.named w.less) in
     rw quiet refl
 
+-- one that doesn't count has a whole file of its name before it
+record HasBefore (has : Found) (p : ℕ) (name : List ℕ) : Type 0 where
+  id : ℕ
+  before : IsBefore (has id) p name
+
+had_before : (has : Found) (n p : ℕ) (name : List ℕ) → counts has n p name ≡ false → HasBefore has p name
+unfolding counts
+had_before has n p name e =
+    let w = any_found (λ (id : ℕ). is_before (has id) p name) 1 n (not_false _ e) in
+    record { id = w.0; before = before_parts (has w.0) p name w.1 }
+
+-- the first of them counts
+pub record Counts (has : Found) (n end : ℕ) (name : List ℕ) : Type 0 where
+  pub id : ℕ
+  pub page : ℕ
+  pub file : File
+  pub is : has id ≡ Some (page, Ok file)
+  pub named : file.name ≡ name
+  pub counting : counts has n page name ≡ true
+  pub below : page < end
+
+first_that_counts : (has : Found) (n end bound id p : ℕ) (name : List ℕ) (f : File) → p < bound → p < end → has id ≡ Some (p, Ok f) → f.name ≡ name → Counts has n end name
+first_that_counts has n end zero id p name f low below is named = absurd (omega (arith, low))
+first_that_counts has n end (suc bound) id p name f low below is named =
+    ⊎_elim
+    (λ (yes' : counts has n p name ≡ true). record { id = id; page = p; file = f; is = is; named = named; counting = yes'; below = below })
+    (λ (no' : counts has n p name ≡ false).
+    let w = had_before has n p name no' in
+    let b = w.before in
+    first_that_counts has n end bound w.id b.page name b.file (omega (arith, b.less, low)) (omega (arith, b.less, below)) b.is b.named)
+    (cases_Bool (counts has n p name))
+
 record IsHolder (has : Found) (n : ℕ) (o : Option (ℕ × Result File Damage)) (name : List ℕ) : Type 0 where
   page : ℕ
   file : File
@@ -255,6 +267,65 @@ holder_parts has n (Some (q, Ok f)) name e =
     let w = named_if f (counts has n q f.name) name e in
     record { page = q; file = f; is = refl; counting = rw w.1 at w.0; named = w.1 }
 
+-- ---- the damage of an id that has a whole file
+
+cause_if : (counting : Bool) (id : ℕ) (e : Damage) → option_map (λ (d : ℕ × Damage). d.1) (if counting then None else Some (id, e)) ≡ None → counting ≡ true
+cause_if true id e none = refl
+cause_if false id e none = absurd (none-some e (sym none))
+
+pub cause_counts : (g : Geometry) (image : List ℕ) (id p : ℕ) (f : File) → has_of g (live_at g image) id ≡ Some (p, Ok f) → cause_at g image id ≡ None → counts (has_of g (live_at g image)) 0x7FFF p f.name ≡ true
+unfolding cause_at
+cause_counts g image id p f has none = cause_if (counts (has_of g (live_at g image)) 0x7FFF p f.name) id (SameName (holder (has_of g (live_at g image)) 0x7FFF f.name)) (rw has at none)
+
+pub counts_cause : (g : Geometry) (image : List ℕ) (id p : ℕ) (f : File) → has_of g (live_at g image) id ≡ Some (p, Ok f) → counts (has_of g (live_at g image)) 0x7FFF p f.name ≡ true → cause_at g image id ≡ None
+unfolding cause_at
+counts_cause g image id p f has counting = rw has (rw counting refl)
+
+pub doubled_cause : (g : Geometry) (image : List ℕ) (id p : ℕ) (f : File) → has_of g (live_at g image) id ≡ Some (p, Ok f) → counts (has_of g (live_at g image)) 0x7FFF p f.name ≡ false →
+    cause_at g image id ≡ Some (SameName (holder (has_of g (live_at g image)) 0x7FFF f.name))
+unfolding cause_at
+doubled_cause g image id p f has other = rw has (rw other refl)
+
+pub broken_cause : (g : Geometry) (image : List ℕ) (id p : ℕ) (e : Damage) → has_of g (live_at g image) id ≡ Some (p, Err e) → cause_at g image id ≡ Some e
+unfolding cause_at
+broken_cause g image id p e has = rw has refl
+
+-- ---- the page of the table's file of a name
+
+listed_parts : (r : Result File Damage) (cause : Option Damage) (name : List ℕ) → mark_for r cause ≡ name_mark name → (f : File) × (r ≡ Ok f) × (cause ≡ None)
+listed_parts (Err e) cause name is = absurd (omega (arith, is))
+listed_parts (Ok f) None name is = (f, refl, refl)
+listed_parts (Ok f) (Some x) name is = absurd (omega (arith, is))
+
+-- this page is the header page of the table's file of that name, and of this id
+pub record Holds (g : Geometry) (image name : List ℕ) (p id : ℕ) : Type 0 where
+  pub file : File
+  pub has : has_of g (live_at g image) id ≡ Some (p, Ok file)
+  pub named : file.name ≡ name
+  pub counting : counts (has_of g (live_at g image)) 0x7FFF p name ≡ true
+
+pub holder_parts_at : (g : Geometry) (image name : List ℕ) (p id : ℕ) → holder_at g image name p ≡ Some id → Holds g image name p id
+unfolding holder_at
+holder_parts_at g image name p id e =
+    let w = named_parts (mark_of g image p == name_mark name) (is_name (name_of (page_of g image p)) name) (headed (live_at g image p)) id e in
+    let marked : mark_of g image p ≡ name_mark name = eqb-true _ _ w.0 in
+    let at : index_page g (own (live_at g image) id) 0 ≡ Some p = mark_head g image p id w.2 (λ z. let bad : name_mark name ≡ 0 = sym marked ∙ z in absurd (omega (arith, bad))) in
+    let f = listed_parts (judged g (own (live_at g image) id) id (page_of g image p)) (cause_at g image id) name (sym (header_mark g image id p at) ∙ marked) in
+    let has = has_at g image id p at ∙ ap (λ (r : Result File Damage). Some (p, r)) f.1 in
+    let named = name_is (name_of (page_of g image p)) f.0.name name (name_of_file g (own (live_at g image) id) id (page_of g image p) f.0 f.1) w.1 in
+    record { file = f.0; has = has; named = named; counting = rw named at (cause_counts g image id p f.0 has f.2) }
+
+listed_mark : (r : Result File Damage) (cause : Option Damage) (f : File) → r ≡ Ok f → cause ≡ None → mark_for r cause ≡ name_mark f.name
+listed_mark r cause f is none = rw (is, none) refl
+
+pub holder_here : (g : Geometry) (image name : List ℕ) (p id : ℕ) (f : File) → has_of g (live_at g image) id ≡ Some (p, Ok f) → f.name ≡ name → counts (has_of g (live_at g image)) 0x7FFF p name ≡ true → holder_at g image name p ≡ Some id
+unfolding holder_at
+holder_here g image name p id f has named counting =
+    let w = whole_of g image id p f has in
+    let none : cause_at g image id ≡ None = counts_cause g image id p f has (rw named counting) in
+    let marked : mark_of g image p ≡ name_mark name = header_mark g image id p w.first ∙ listed_mark (judged g (own (live_at g image) id) id (page_of g image p)) (cause_at g image id) f w.is none ∙ ap name_mark named in
+    rw (eq-eqb (mark_of g image p) (name_mark name) marked, name_of_file g (own (live_at g image) id) id (page_of g image p) f w.is, named, equal_text name) w.head
+
 module _ (g : Geometry) (image name : List ℕ) where
   -- the id has the table's file of that name
   holds : ℕ → Bool
@@ -263,15 +334,13 @@ module _ (g : Geometry) (image name : List ℕ) where
   same_holder : (i j p q : ℕ) (f h : File) → has_of g (live_at g image) i ≡ Some (p, Ok f) → has_of g (live_at g image) j ≡ Some (q, Ok h) → f.name ≡ name → h.name ≡ name →
       counts (has_of g (live_at g image)) 0x7FFF p name ≡ true → counts (has_of g (live_at g image)) 0x7FFF q name ≡ true → i ≡ j
   same_holder i j p q f h is is' named named' c c' =
-      let a = at_whole g image name p i f is named in
-      let b = at_whole g image name q j h is' named' in
-      let within = whole_of g image name p i a.0 in
-      let within' = whole_of g image name q j b.0 in
+      let w = whole_of g image i p f is in
+      let w' = whole_of g image j q h is' in
       ⊎_elim
-      (λ (less : p < q). absurd (clash (has_of g (live_at g image)) 0x7FFF q p i name f c' within.low within.high is named less))
+      (λ (less : p < q). absurd (clash (has_of g (live_at g image)) 0x7FFF q p i name f c' w.low w.high is named less))
       (λ (high : q ≤ p). ⊎_elim
-      (λ (more : q < p). absurd (clash (has_of g (live_at g image)) 0x7FFF p q j name h c within'.low within'.high is' named' more))
-      (λ (low : p ≤ q). let at : p ≡ q = omega arith in let same : Some i ≡ Some j = sym a.0 ∙ ap (whole_at g image name) at ∙ b.0 in cc)
+      (λ (more : q < p). absurd (clash (has_of g (live_at g image)) 0x7FFF p q j name h c w'.low w'.high is' named' more))
+      (λ (low : p ≤ q). let at : p ≡ q = omega arith in let same : Some i ≡ Some j = sym w.head ∙ ap (λ (r : ℕ). headed (live_at g image r)) at ∙ w'.head in cc)
       (cases_lt q p))
       (cases_lt p q)
 
@@ -279,71 +348,102 @@ module _ (g : Geometry) (image name : List ℕ) where
   holder_is : (id p : ℕ) (f : File) → has_of g (live_at g image) id ≡ Some (p, Ok f) → f.name ≡ name → counts (has_of g (live_at g image)) 0x7FFF p name ≡ true → table_id g image name ≡ Some id
   unfolding table_id holds
   holder_is id p f is named c =
-      let within = whole_of g image name p id (at_whole g image name p id f is named).0 in
+      let within = whole_of g image id p f is in
       find_one holds 1 0x7FFF id within.low (omega (arith, within.high))
       (rw is (rw (named, c) (equal_text name)))
       (λ i e. let w = holder_parts (has_of g (live_at g image)) 0x7FFF (has_of g (live_at g image) i) name e in
       same_holder i id w.page p w.file f w.is is w.named named w.counting c)
 
-  first_is : (p id : ℕ) → whole_at g image name p ≡ Some id → ((q : ℕ) → q < p → is_some (whole_at g image name q) ≡ false) → Some id ≡ table_id g image name
-  first_is p id e before =
-      let w = whole_of g image name p id e in
-      let c : counts (has_of g (live_at g image)) 0x7FFF p name ≡ true =
-      first_counts (has_of g (live_at g image)) 0x7FFF p name (λ j q h is named less. let a = (at_whole g image name q j h is named).0 in let bad : true ≡ false = rw a at (before q less) in absurd (cc)) in
-      sym (holder_is id p w.file w.has w.named c)
-
-  none_is : ((q : ℕ) → q < page_count g → is_some (whole_at g image name q) ≡ false) → None ≡ table_id g image name
+  none_is : ((q : ℕ) → q < page_count g → is_some (holder_at g image name q) ≡ false) → None ≡ table_id g image name
   unfolding table_id holds
   none_is none =
       sym (find_nothing holds 1 0x7FFF (λ i e.
       let w = holder_parts (has_of g (live_at g image)) 0x7FFF (has_of g (live_at g image) i) name e in
-      let a = at_whole g image name w.page i w.file w.is w.named in
-      let bad : true ≡ false = rw a.0 at (none w.page a.1) in absurd (cc)))
+      let here = holder_here g image name w.page i w.file w.is w.named w.counting in
+      let bad : true ≡ false = rw here at (none w.page (whole_of g image i w.page w.file w.is).below) in absurd (cc)))
 
-  some_whole : (p : ℕ) (o : Option ℕ) → whole_at g image name p ≡ o → is_some o ≡ true → ((q : ℕ) → q < p → is_some (whole_at g image name q) ≡ false) → o ≡ table_id g image name
-  some_whole p None is e before = absurd (cc)
-  some_whole p (Some id) is e before = first_is p id is before
+  some_holder : (p : ℕ) (o : Option ℕ) → holder_at g image name p ≡ o → is_some o ≡ true → o ≡ table_id g image name
+  some_holder p None is e = absurd (cc)
+  some_holder p (Some id) is e = let w = holder_parts_at g image name p id is in sym (holder_is id p w.file w.has w.named w.counting)
 
-  table_by : (o : Option ℕ) → find (λ q. is_some (whole_at g image name q)) (range_with_len 0 (page_count g)) ≡ o → option_and_then (whole_at g image name) o ≡ table_id g image name
-  table_by None e = none_is (λ q low. nothing_found (λ (q : ℕ). is_some (whole_at g image name q)) 0 (page_count g) e q (omega arith) (omega arith))
+  table_by : (o : Option ℕ) → find (λ q. is_some (holder_at g image name q)) (range_with_len 0 (page_count g)) ≡ o → option_and_then (holder_at g image name) o ≡ table_id g image name
+  table_by None e = none_is (λ q low. nothing_found (λ (q : ℕ). is_some (holder_at g image name q)) 0 (page_count g) e q (omega arith) (omega arith))
   table_by (Some p) e =
-      let w = find_parts (λ (q : ℕ). is_some (whole_at g image name q)) 0 (page_count g) p e in
-      some_whole p (whole_at g image name p) refl w.0 (λ q less. w.3 q (omega arith) less)
+      let w = find_parts (λ (q : ℕ). is_some (holder_at g image name q)) 0 (page_count g) p e in
+      some_holder p (holder_at g image name p) refl w.0
 
-  -- the first page of a whole file of that name is that of the table's file
-  pub first_whole : option_and_then (whole_at g image name) (find (λ q. is_some (whole_at g image name q)) (range_with_len 0 (page_count g))) ≡ table_id g image name
-  first_whole = table_by (find (λ q. is_some (whole_at g image name q)) (range_with_len 0 (page_count g))) refl
+  -- the page that has it is one of the volume
+  pub holder_all : holder_below g image name (page_count g) ≡ table_id g image name
+  unfolding holder_below
+  holder_all = table_by (find (λ q. is_some (holder_at g image name q)) (range_with_len 0 (page_count g))) refl
 
--- ---- the damage of an id
+  -- ---- the same for the pages below one
 
-cause_by : (has : Found) (n id p : ℕ) (r : Result File Damage) → mark_for (cause_of r) ≢ 1 → cause_of r ≡ option_map (λ d. d.1) (damage has n id (Some (p, r)))
-cause_by has n id p (Ok f) other = absurd (other refl)
-cause_by has n id p (Err e) other = refl
+  held_by : (p : ℕ) (o : Option ℕ) → holder_at g image name p ≡ o → is_some o ≡ true → (id : ℕ) × (holder_at g image name p ≡ Some id)
+  held_by p None is e = absurd (cc)
+  held_by p (Some id) is e = (id, is)
 
--- a damaged file
-pub cause_judged : (g : Geometry) (image : List ℕ) (id p mark : ℕ) → index_page g (own (live_at g image) id) 0 ≡ Some p → mark ≡ mark_of g image p → mark ≢ 1 →
-    cause_of (judged g (own (live_at g image) id) id (page_of g image p)) ≡ cause_at g image id
-unfolding cause_at
-cause_judged g image id p mark at is other =
-    rw (has_at g image id p at) (cause_by (has_of g (live_at g image)) 0x7FFF id p (judged g (own (live_at g image) id) id (page_of g image p)) (λ e. other (is ∙ header_mark g image id p at ∙ e)))
+  below_by : (end : ℕ) (o : Option ℕ) → find (λ q. is_some (holder_at g image name q)) (range_with_len 0 end) ≡ o → is_some (option_and_then (holder_at g image name) o) ≡ true → Counts (has_of g (live_at g image)) 0x7FFF end name
+  below_by end None is e = absurd (cc)
+  below_by end (Some p) is e =
+      let w = find_parts (λ (q : ℕ). is_some (holder_at g image name q)) 0 end p is in
+      let at = held_by p (holder_at g image name p) refl w.0 in
+      let here = holder_parts_at g image name p at.0 at.1 in
+      record { id = at.0; page = p; file = here.file; is = here.has; named = here.named; counting = here.counting; below = omega (arith, w.2) }
 
--- a whole file has a name
-whole_file : (g : Geometry) (image : List ℕ) (id p mark : ℕ) → index_page g (own (live_at g image) id) 0 ≡ Some p → mark ≡ mark_of g image p → mark ≡ 1 →
-    IsFile g (own (live_at g image) id) id (page_of g image p) (judged g (own (live_at g image) id) id (page_of g image p))
-whole_file g image id p mark at is one = file_of_mark g (own (live_at g image) id) id (page_of g image p) (sym (header_mark g image id p at) ∙ sym is ∙ one)
+  held_below : (end : ℕ) → is_some (holder_below g image name end) ≡ true → Counts (has_of g (live_at g image)) 0x7FFF end name
+  unfolding holder_below
+  held_below end e = below_by end (find (λ q. is_some (holder_at g image name q)) (range_with_len 0 end)) refl e
 
-pub whole_named : (g : Geometry) (image : List ℕ) (id p mark : ℕ) → index_page g (own (live_at g image) id) 0 ≡ Some p → mark ≡ mark_of g image p → mark ≡ 1 → None ≡ name_of (page_of g image p) → ⊥
-whole_named g image id p mark at is one none = let w = whole_file g image id p mark at is one in let bad : None ≡ Some w.file.name = none ∙ w.named in absurd (cc)
+  nobody_by : (end : ℕ) (o : Option ℕ) → find (λ q. is_some (holder_at g image name q)) (range_with_len 0 end) ≡ o → is_some (option_and_then (holder_at g image name) o) ≡ false → Counts (has_of g (live_at g image)) 0x7FFF end name → ⊥
+  nobody_by end None is e w =
+      let none : is_some (holder_at g image name w.page) ≡ false = nothing_found (λ (q : ℕ). is_some (holder_at g image name q)) 0 end is w.page (omega arith) (omega (arith, w.below)) in
+      let here = holder_here g image name w.page w.id w.file w.is w.named w.counting in
+      let bad : true ≡ false = rw here at none in cc
+  nobody_by end (Some p) is e w =
+      let at = find_parts (λ (q : ℕ). is_some (holder_at g image name q)) 0 end p is in
+      let bad : true ≡ false = sym at.0 ∙ e in cc
 
-not_held : (g : Geometry) (image name : List ℕ) (id p : ℕ) (f : File) (o : Option ℕ) → has_of g (live_at g image) id ≡ Some (p, Ok f) → f.name ≡ name → counts (has_of g (live_at g image)) 0x7FFF p f.name ≡ false → 1 ≤ id →
-    table_id g image name ≡ o → unwrap_or o 0 ≢ id
-unfolding table_id
-not_held g image name id p f None has named other low is = λ e. omega (arith, e)
-not_held g image name id p f (Some k) has named other low is = λ e.
-    let w = find_parts (λ (j : ℕ). is_named (counted (has_of g (live_at g image)) 0x7FFF (has_of g (live_at g image) j)) name) 1 0x7FFF k is in
-    let here : is_named (counted (has_of g (live_at g image)) 0x7FFF (has_of g (live_at g image) id)) name ≡ true = rw e at w.0 in
-    let gone : is_named (counted (has_of g (live_at g image)) 0x7FFF (has_of g (live_at g image) id)) name ≡ false = rw has (rw other refl) in
-    let bad : true ≡ false = sym here ∙ gone in absurd (cc)
+  nobody_below : (end : ℕ) → is_some (holder_below g image name end) ≡ false → Counts (has_of g (live_at g image)) 0x7FFF end name → ⊥
+  unfolding holder_below
+  nobody_below end e w = nobody_by end (find (λ q. is_some (holder_at g image name q)) (range_with_len 0 end)) refl e w
+
+  -- a whole file counts where the pages before it have no holder of its name
+  counts_below : (id p : ℕ) (f : File) → has_of g (live_at g image) id ≡ Some (p, Ok f) → f.name ≡ name → counts (has_of g (live_at g image)) 0x7FFF p name ≡ not (is_some (holder_below g image name p))
+  counts_below id p f has named =
+      ⊎_elim
+      (λ (held : is_some (holder_below g image name p) ≡ true).
+      let w = held_below p held in
+      let within = whole_of g image w.id w.page w.file w.is in
+      ⊎_elim
+      (λ (yes' : counts (has_of g (live_at g image)) 0x7FFF p name ≡ true). absurd (clash (has_of g (live_at g image)) 0x7FFF p w.page w.id name w.file yes' within.low within.high w.is w.named w.below))
+      (λ (no' : counts (has_of g (live_at g image)) 0x7FFF p name ≡ false). rw (held, no') refl)
+      (cases_Bool (counts (has_of g (live_at g image)) 0x7FFF p name)))
+      (λ (nobody : is_some (holder_below g image name p) ≡ false).
+      ⊎_elim
+      (λ (yes' : counts (has_of g (live_at g image)) 0x7FFF p name ≡ true). rw (nobody, yes') refl)
+      (λ (no' : counts (has_of g (live_at g image)) 0x7FFF p name ≡ false).
+      let b = had_before (has_of g (live_at g image)) 0x7FFF p name no' in
+      let at = b.before in
+      absurd (nobody_below p nobody (first_that_counts (has_of g (live_at g image)) 0x7FFF p p b.id at.page name at.file at.less at.less at.is at.named)))
+      (cases_Bool (counts (has_of g (live_at g image)) 0x7FFF p name)))
+      (cases_Bool (is_some (holder_below g image name p)))
+
+-- ---- the mark of a header page, by what is judged of its file
+
+whole_right : (g : Geometry) (image : List ℕ) (id p : ℕ) (f : File) (held : Bool) → is_some (holder_below g image f.name p) ≡ held → has_of g (live_at g image) id ≡ Some (p, Ok f) →
+    (if held then 2 else name_mark f.name) ≡ mark_for (Ok f) (cause_at g image id)
+whole_right g image id p f true is has = rw (doubled_cause g image id p f has (counts_below g image f.name id p f has refl ∙ ap not is)) refl
+whole_right g image id p f false is has = rw (counts_cause g image id p f has (counts_below g image f.name id p f has refl ∙ ap not is)) refl
+
+right_by : (g : Geometry) (image : List ℕ) (id p : ℕ) (r : Result File Damage) → judged g (own (live_at g image) id) id (page_of g image p) ≡ r → has_of g (live_at g image) id ≡ Some (p, r) → judged_mark g image p (cause_of r) ≡ mark_for r (cause_at g image id)
+right_by g image id p (Err e) is has = refl
+right_by g image id p (Ok f) is has = rw (name_of_file g (own (live_at g image) id) id (page_of g image p) f is) (whole_right g image id p f (is_some (holder_below g image f.name p)) refl has)
+
+pub judged_right : (g : Geometry) (image : List ℕ) (id p : ℕ) → index_page g (own (live_at g image) id) 0 ≡ Some p → judged_mark g image p (cause_of (judged g (own (live_at g image) id) id (page_of g image p))) ≡ mark_of g image p
+judged_right g image id p at = right_by g image id p (judged g (own (live_at g image) id) id (page_of g image p)) refl (has_at g image id p at) ∙ sym (header_mark g image id p at)
+
+-- ---- the damage of an id, by the mark of its header page
 
 holder_name : (has : Found) (n : ℕ) (name mine : List ℕ) → mine ≡ name → unwrap_or (find (λ id. is_named (counted has n (has id)) name) (ids n)) 0 ≡ holder has n mine
 unfolding holder
@@ -353,24 +453,64 @@ held_name : (g : Geometry) (image name : List ℕ) (f : File) → f.name ≡ nam
 unfolding table_id
 held_name g image name f named = ap (λ (x : ℕ). Some (SameName x)) (holder_name (has_of g (live_at g image)) 0x7FFF name f.name named)
 
-cause_named_by : (g : Geometry) (image name : List ℕ) (id p : ℕ) (f : File) → has_of g (live_at g image) id ≡ Some (p, Ok f) → f.name ≡ name → same_name (table_id g image name) id ≡ cause_at g image id
-unfolding cause_at
-cause_named_by g image name id p f has named =
-    let within = whole_of g image name p id (at_whole g image name p id f has named).0 in
-    ⊎_elim
-    (λ (yes' : counts (has_of g (live_at g image)) 0x7FFF p f.name ≡ true).
-    let held : table_id g image name ≡ Some id = holder_is g image name id p f has named (rw named at yes') in
-    rw has (rw yes' (rw held (rw (eq-eqb id id refl) refl))))
-    (λ (no' : counts (has_of g (live_at g image)) 0x7FFF p f.name ≡ false).
-    let differ = not_held g image name id p f (table_id g image name) has named no' within.low refl in
-    rw has (rw no' (rw (ne_eqb (unwrap_or (table_id g image name) 0) id differ) (held_name g image name f named))))
-    (cases_Bool (counts (has_of g (live_at g image)) 0x7FFF p f.name))
 
--- a whole file, by the table's file of its name
-pub cause_named : (g : Geometry) (image name : List ℕ) (id p mark : ℕ) → index_page g (own (live_at g image) id) 0 ≡ Some p → mark ≡ mark_of g image p → mark ≡ 1 → Some name ≡ name_of (page_of g image p) →
-    same_name (table_id g image name) id ≡ cause_at g image id
-cause_named g image name id p mark at is one told =
-    let w = whole_file g image id p mark at is one in
-    let same : Some name ≡ Some w.file.name = told ∙ w.named in
-    let named : w.file.name ≡ name = cc in
-    cause_named_by g image name id p w.file (has_at g image id p at ∙ ap (λ (r : Result File Damage). Some (p, r)) w.is) named
+not_broken : (cause : Option Damage) (f : File) → mark_for (Ok f) cause ≡ 1 → ⊥
+not_broken None f one = omega (arith, one)
+not_broken (Some x) f one = omega (arith, one)
+
+not_doubled : (cause : Option Damage) (f : File) → cause ≡ None → mark_for (Ok f) cause ≡ 2 → ⊥
+not_doubled cause f none two = let bad : name_mark f.name ≡ 2 = rw none at two in omega (arith, bad)
+
+listed_by : (r : Result File Damage) (cause : Option Damage) (mark : ℕ) → mark ≡ mark_for r cause → mark ≢ 1 → mark ≢ 2 → None ≡ cause
+listed_by (Err e) cause mark is one two = absurd (one is)
+listed_by (Ok f) None mark is one two = refl
+listed_by (Ok f) (Some x) mark is one two = absurd (two is)
+
+some_by : (cause : Option Damage) (f : File) (mark : ℕ) → mark ≡ mark_for (Ok f) cause → mark < 3 → (c : Damage) × (Some c ≡ cause)
+some_by None f mark is few = absurd (omega (arith, is, few))
+some_by (Some x) f mark is few = (x, refl)
+
+module _ (g : Geometry) (image : List ℕ) (id p mark : ℕ) (at : index_page g (own (live_at g image) id) 0 ≡ Some p) (is : mark ≡ mark_of g image p) where
+  -- its mark by what is judged
+  mark_is : mark ≡ mark_for (judged g (own (live_at g image) id) id (page_of g image p)) (cause_at g image id)
+  mark_is = is ∙ header_mark g image id p at
+
+  broken_by : (r : Result File Damage) → has_of g (live_at g image) id ≡ Some (p, r) → mark_for r (cause_at g image id) ≡ 1 → cause_of r ≡ cause_at g image id
+  broken_by (Err e) has one = sym (broken_cause g image id p e has)
+  broken_by (Ok f) has one = absurd (not_broken (cause_at g image id) f one)
+
+  pub cause_broken : mark ≡ 1 → cause_of (judged g (own (live_at g image) id) id (page_of g image p)) ≡ cause_at g image id
+  cause_broken one = broken_by (judged g (own (live_at g image) id) id (page_of g image p)) (has_at g image id p at) (sym mark_is ∙ one)
+
+  doubled_by : (r : Result File Damage) → judged g (own (live_at g image) id) id (page_of g image p) ≡ r → has_of g (live_at g image) id ≡ Some (p, r) → mark_for r (cause_at g image id) ≡ 2 → same_name g image (name_of (page_of g image p)) ≡ cause_at g image id
+  doubled_by (Err e) judging has two = absurd (omega (arith, two))
+  doubled_by (Ok f) judging has two =
+      ⊎_elim
+      (λ (yes' : counts (has_of g (live_at g image)) 0x7FFF p f.name ≡ true). absurd (not_doubled (cause_at g image id) f (counts_cause g image id p f has yes') two))
+      (λ (no' : counts (has_of g (live_at g image)) 0x7FFF p f.name ≡ false).
+      rw (name_of_file g (own (live_at g image) id) id (page_of g image p) f judging) (held_name g image f.name f refl ∙ sym (doubled_cause g image id p f has no')))
+      (cases_Bool (counts (has_of g (live_at g image)) 0x7FFF p f.name))
+
+  pub cause_doubled : mark ≡ 2 → same_name g image (name_of (page_of g image p)) ≡ cause_at g image id
+  cause_doubled two = doubled_by (judged g (own (live_at g image) id) id (page_of g image p)) refl (has_at g image id p at) (sym mark_is ∙ two)
+
+  pub cause_other : mark ≢ 1 → mark ≢ 2 → None ≡ cause_at g image id
+  cause_other one two = listed_by (judged g (own (live_at g image) id) id (page_of g image p)) (cause_at g image id) mark mark_is one two
+
+  pub listed_none : not (nat_lt mark 3) ≡ true → None ≡ cause_at g image id
+  listed_none listed =
+      ⊎_elim
+      (λ (few : mark < 3). let bad : not true ≡ true = rw (lt-ltb mark 3 few) at listed in absurd (cc))
+      (λ (many : 3 ≤ mark). cause_other (λ e. omega (arith, e, many)) (λ e. omega (arith, e, many)))
+      (cases_lt mark 3)
+
+  few_by : (r : Result File Damage) → has_of g (live_at g image) id ≡ Some (p, r) → mark ≡ mark_for r (cause_at g image id) → mark < 3 → (c : Damage) × (Some c ≡ cause_at g image id)
+  few_by (Err e) has marked few = (e, sym (broken_cause g image id p e has))
+  few_by (Ok f) has marked few = some_by (cause_at g image id) f mark marked few
+
+  pub unlisted_some : not (nat_lt mark 3) ≡ false → (c : Damage) × (Some c ≡ cause_at g image id)
+  unlisted_some unlisted =
+      ⊎_elim
+      (λ (few : mark < 3). few_by (judged g (own (live_at g image) id) id (page_of g image p)) (has_at g image id p at) mark_is few)
+      (λ (many : 3 ≤ mark). let bad : not false ≡ false = rw (le-ltb mark 3 many) at unlisted in absurd (cc))
+      (cases_lt mark 3)

@@ -1,5 +1,7 @@
 pub mod Spans
+pub mod Bits
 pub mod Marking
-pub mod Nearest
+pub mod Heads
 pub mod Holders
+pub mod Noting
 pub mod Stepping

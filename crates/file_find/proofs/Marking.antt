@@ -26,39 +26,21 @@ pub has_none : (g : Geometry) (live : Live) (id : ℕ) → index_page g (own liv
 unfolding has_of found
 has_none g live id none = rw none refl
 
-number_is : (o : Option ℕ) (p : ℕ) → is_number o p ≡ true → o ≡ Some p
+pub number_is : (o : Option ℕ) (p : ℕ) → is_number o p ≡ true → o ≡ Some p
 number_is None p e = absurd (cc)
 number_is (Some q) p e = ap (λ (x : ℕ). Some x) (eqb-true q p e)
 
-pub other_mark : (r : Result File Damage) (q p : ℕ) → (q == p) ≡ false → mark_by (Some (q, r)) p ≡ 0
-other_mark (Ok f) q p other = rw other refl
-other_mark (Err e) q p other = rw other refl
+pub other_mark : (cause : Option Damage) (r : Result File Damage) (q p : ℕ) → (q == p) ≡ false → mark_by cause (Some (q, r)) p ≡ 0
+other_mark cause r q p other = rw other refl
 
--- an id that has no header page, or another one, gives a page no mark
-not_mark : (g : Geometry) (image : List ℕ) (id p : ℕ) (o : Option ℕ) → index_page g (own (live_at g image) id) 0 ≡ o → is_number o p ≡ false → mark_by (has_of g (live_at g image) id) p ≡ 0
-not_mark g image id p None is other = rw (has_none g (live_at g image) id is) refl
-not_mark g image id p (Some q) is other = rw (has_at g image id q is) (other_mark (judged g (own (live_at g image) id) id (page_of g image q)) q p other)
-
-pub first_mark : (r : Result File Damage) (p : ℕ) → mark_by (Some (p, r)) p ≡ mark_for (cause_of r)
-first_mark (Ok f) p = rw (eq-eqb p p refl) refl
-first_mark (Err e) p = rw (eq-eqb p p refl) refl
+pub first_mark : (cause : Option Damage) (r : Result File Damage) (p : ℕ) → mark_by cause (Some (p, r)) p ≡ mark_for r cause
+first_mark cause r p = rw (eq-eqb p p refl) refl
 
 -- ---- the mark of a page
 
 pub mark_none : (g : Geometry) (image : List ℕ) (p : ℕ) → None ≡ headed (live_at g image p) → 0 ≡ mark_of g image p
 unfolding mark_of
 mark_none g image p none = rw (sym none) refl
-
-pub mark_later : (g : Geometry) (image : List ℕ) (p id : ℕ) (first : Option ℕ) → Some id ≡ headed (live_at g image p) → first ≡ index_page g (own (live_at g image) id) 0 → is_number first p ≡ false → 0 ≡ mark_of g image p
-unfolding mark_of
-mark_later g image p id first is told other = rw (sym is) (sym (not_mark g image id p first (sym told) other))
-
-pub mark_first : (g : Geometry) (image : List ℕ) (p id : ℕ) (first : Option ℕ) (cause : Option Damage) → Some id ≡ headed (live_at g image p) → first ≡ index_page g (own (live_at g image) id) 0 → is_number first p ≡ true →
-    cause ≡ cause_of (judged g (own (live_at g image) id) id (page_of g image p)) → mark_for cause ≡ mark_of g image p
-unfolding mark_of
-mark_first g image p id first cause is told same judging =
-    let at : index_page g (own (live_at g image) id) 0 ≡ Some p = sym told ∙ number_is first p same in
-    rw (sym is) (rw (has_at g image id p at) (ap mark_for judging ∙ sym (first_mark (judged g (own (live_at g image) id) id (page_of g image p)) p)))
 
 -- ---- the first number that passes: it passes, it lies in the range, and none before it passes
 

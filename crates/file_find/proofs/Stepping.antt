@@ -18,7 +18,7 @@ use Rattle.flash_view.specs.Found.{has_header}
 use Rattle.file_find.specs.Marks.{NextHead, cause_at}
 use Rattle.file_find.specs.Listing.{IsNextFile, IsTheFile, damaged_above}
 use Rattle.file_find.proofs.Marking.{has_at, has_none}
-use Rattle.file_find.proofs.Nearest.{header_parts}
+use Rattle.file_find.proofs.Heads.{header_parts}
 use Rattle.file_find.proofs.Holders.{has_parts, head_within}
 
 -- ---- the first element of a number above another, in a list that goes by numbers

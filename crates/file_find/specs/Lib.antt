@@ -1,3 +1,4 @@
 pub mod Judging
+pub mod Ids
 pub mod Marks
 pub mod Listing

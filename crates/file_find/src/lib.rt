@@ -1,6 +1,7 @@
 //! The files of a volume: why one isn't whole, marks of the header pages of files, and files one after the other in order of ids.
 #![tactic(auto)]
 
+mod ids;
 mod judging;
 mod listing;
 mod marks;

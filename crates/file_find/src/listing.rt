@@ -1,11 +1,11 @@
 ghost use Rattle.std.specs.Prelude.{◌≡◌, ◌<◌, ◌≤◌, length, OnErr, IfOk, IfSome, take};
-ghost use Rattle.geometry.specs.Numbers.{page_count};
+ghost use Rattle.geometry.specs.Numbers.{page_count, check_need};
 ghost use Rattle.nor_core.specs.Count.{Rose};
 ghost use Rattle.flash_view.specs.Same.{OnlyLooks};
 ghost use Rattle.file_find.specs.Marks.{IsMarked};
 ghost use Rattle.file_find.specs.Listing.{NextFile, TheFile, damaged_above};
 
-use crate::marks::{damage, next_marked};
+use crate::marks::{damage, is_listed, marked_page, next_marked};
 use flash_view::View;
 use image_model::Damage;
 use nor_core::{Failed, Nor, NorState};
@@ -17,7 +17,7 @@ pub fn next_file<N: Nor>(
     marks: &[u8],
     after: u16,
 ) -> Result<Option<(u16, u16)>, Failed>
-    requires room { page_count v.old.geometry ≤ length marks.now }
+    requires room { check_need v.old.geometry ≤ length marks.now }
     requires marked { N.tells v.old.nor.now → IsMarked v.old.geometry (N.bytes v.old.nor.now) marks.now }
     ensures cause { OnErr result (Rose (N.faults v.old.nor.now) (N.faults v.new.nor.now)) }
     ensures looks { OnlyLooks v.old v.new }
@@ -28,7 +28,7 @@ pub fn next_file<N: Nor>(
 {
     let mut at = after;
     'ids: while let Some((id, header)) = next_marked(v, marks, at)? {
-        if damage(v, marks, id, header)?.is_none() {
+        if is_listed(marks[header as usize]) {
             return Ok(Some((id, header)));
         }
         at = id;
@@ -39,7 +39,7 @@ pub fn next_file<N: Nor>(
 /// The header page of the table's file of an id, by right marks.
 #[tactic(auto, using(flash_view::proofs::Looking::looks_then))]
 pub fn find_file<N: Nor>(v: &mut View<'_, N>, marks: &[u8], id: u16) -> Result<Option<u16>, Failed>
-    requires room { page_count v.old.geometry ≤ length marks.now }
+    requires room { check_need v.old.geometry ≤ length marks.now }
     requires marked { N.tells v.old.nor.now → IsMarked v.old.geometry (N.bytes v.old.nor.now) marks.now }
     ensures cause { OnErr result (Rose (N.faults v.old.nor.now) (N.faults v.new.nor.now)) }
     ensures looks { OnlyLooks v.old v.new }
@@ -47,12 +47,13 @@ pub fn find_file<N: Nor>(v: &mut View<'_, N>, marks: &[u8], id: u16) -> Result<O
     ensures told { N.tells v.old.nor.now → IfOk result (λ page. TheFile v.old.geometry (N.bytes v.old.nor.now) id page) }
     ensures built { take v.old.geometry.page v.new.work.now ≡ take v.old.geometry.page v.old.work.now }
 {
-    let Some(header) = v.find_index(id, 0)? else {
+    let Some(header) = marked_page(v, marks, id)? else {
         return Ok(None);
     };
-    Ok(match damage(v, marks, id, header)? {
-        Some(_) => None,
-        None => Some(header),
+    Ok(if is_listed(marks[header as usize]) {
+        Some(header)
+    } else {
+        None
     })
 }
 
@@ -63,7 +64,7 @@ pub fn next_damaged<N: Nor>(
     marks: &[u8],
     after: u16,
 ) -> Result<Option<(u16, Damage)>, Failed>
-    requires room { page_count v.old.geometry ≤ length marks.now }
+    requires room { check_need v.old.geometry ≤ length marks.now }
     requires marked { N.tells v.old.nor.now → IsMarked v.old.geometry (N.bytes v.old.nor.now) marks.now }
     ensures cause { OnErr result (Rose (N.faults v.old.nor.now) (N.faults v.new.nor.now)) }
     ensures looks { OnlyLooks v.old v.new }

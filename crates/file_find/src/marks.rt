@@ -1,115 +1,144 @@
-ghost use Rattle.std.specs.Prelude.{◌≡◌, ◌<◌, ◌≤◌, length, Some, OnOk, OnErr, IfOk, IfSome, take};
-ghost use Rattle.geometry.specs.Numbers.{page_count};
+ghost use Rattle.std.specs.Prelude.{◌≡◌, ◌+◌, ◌<◌, ◌≤◌, length, not, nat_lt, Some, OnOk, OnErr, IfOk, IfSome, take};
+ghost use Rattle.geometry.specs.Numbers.{page_count, check_need};
 ghost use Rattle.nor_core.specs.Count.{Rose};
+ghost use Rattle.image_model.specs.Places.{page_of};
+ghost use Rattle.image_model.specs.Headers.{name_of as the_name_of};
 ghost use Rattle.image_model.specs.Live.{live_at, own};
 ghost use Rattle.image_model.specs.Files.{index_page};
 ghost use Rattle.image_model.specs.Tidy.{is_number};
 ghost use Rattle.flash_view.specs.Same.{OnlyLooks};
-ghost use Rattle.file_find.specs.Marks.{mark_of, mark_for as the_mark_for, IsMarked, marked_id as the_marked_id, whole_at as the_whole_at, NextHead, nearer as the_nearer, same_name as the_same_name, table_id, cause_at};
+ghost use Rattle.file_find.specs.Marks.{mark_of, name_mark as the_name_mark, whole_mark, head_mark, MarkedBelow, Surveyed, IsMarked, marked_id as the_marked_id, head_between, holder_at as the_holder_at, holder_below as the_holder_below, NextHead, same_name as the_same_name, table_id, cause_at};
 
+use crate::ids::{clear, is_noted, near, note_first};
 use crate::judging::judge;
 use flash_view::View;
 use image_model::Damage;
 use nor_core::{Failed, Nor, NorState};
 use page_layout::INDEX_BIT;
 
-// The mark of the header page of a whole file.
-const WHOLE: u8 = 1;
+// The mark of the header page of a file that isn't whole.
+const BROKEN: u8 = 1;
 
-// The mark of the header page of a damaged file.
-const DAMAGED: u8 = 2;
+// The mark of the header page of a whole file, where another file has its name.
+const DOUBLED: u8 = 2;
 
-// Whether a page that was found is this one.
-fn is_same(found: Option<u16>, page: u16) -> bool
-    ensures { result ≡ is_number found page }
+// The least mark of the header page of a file that is in the table.
+const LISTED: u8 = 3;
+
+// Whether an id that was found is this one.
+fn is_same(found: Option<u16>, id: u16) -> bool
+    ensures { result ≡ is_number found id }
 {
     match found {
-        Some(first) => first == page,
+        Some(first) => first == id,
         None => false,
     }
 }
 
-// The mark of a header page, by the damage of its file.
-fn mark_for(cause: Option<Damage>) -> u8
-    ensures { result ≡ the_mark_for cause }
+// The mark of the header page of a file of the table by its name: a later file of that name is compared with such pages
+// alone.
+fn name_mark(name: &[u8]) -> u8
+    ensures { result ≡ the_name_mark name.now }
 {
-    if cause.is_none() { WHOLE } else { DAMAGED }
-}
-
-// The nearer of two header pages by their ids above `after`: the second counts where its id is above `after` and less.
-fn nearer(
-    after: u16,
-    least: Option<(u16, u16)>,
-    found: Option<u16>,
-    page: u16,
-) -> Option<(u16, u16)>
-    ensures { result ≡ the_nearer after least found page }
-{
-    match (least, found) {
-        (_, None) => least,
-        (None, Some(id)) => if id > after { Some((id, page)) } else { None },
-        (Some((old, first)), Some(id)) => if id > after && id < old {
-            Some((id, page))
-        } else {
-            Some((old, first))
-        },
+    let mut hash = 0u32;
+    for &byte in name {
+        hash = (31 * hash + u32::from(byte)) % 253;
     }
+    LISTED + hash as u8
 }
 
-// The damage of a whole file of an id, by the id that the table has for its name.
-fn same_name(holder: Option<u16>, id: u16) -> Option<Damage>
-    ensures { result ≡ the_same_name holder id }
+/// Whether the mark of a header page is that of a file in the table.
+pub(crate) fn is_listed(mark: u8) -> bool
+    ensures { result ≡ not (nat_lt mark 3) }
 {
-    let holder = holder.unwrap_or(0);
-    if holder == id {
-        None
-    } else {
-        Some(Damage::SameName(holder))
-    }
+    mark >= LISTED
 }
 
-/// Marks each page, a byte for each page of the volume: 1 where it is the header page of an id whose file is whole,
-/// 2 where it is that of an id whose file is damaged, and else 0. Of several files of one name all are whole here.
+/// Marks each page, a byte for each page of the volume: 1 where it is the header page of an id whose file isn't whole,
+/// 2 where it is that of an id whose file is whole and another file has the name, 3 and more by the name where the id
+/// has a file in the table, and else 0. Notes the ids of header pages in the bytes behind.
 #[tactic(auto, using(flash_view::proofs::Looking::looks_then))]
 pub fn survey<N: Nor>(v: &mut View<'_, N>, marks: &mut [u8]) -> Result<(), Failed>
-    requires { page_count v.old.geometry ≤ length marks.old }
+    requires { check_need v.old.geometry ≤ length marks.old }
     ensures cause { OnErr result (Rose (N.faults v.old.nor.now) (N.faults v.new.nor.now)) }
     ensures looks { OnlyLooks v.old v.new }
     ensures told { N.tells v.old.nor.now → OnOk result (IsMarked v.old.geometry (N.bytes v.old.nor.now) marks.new) }
     ensures built { take v.old.geometry.page v.new.work.now ≡ take v.old.geometry.page v.old.work.now }
 {
+    clear(marks, v.geometry.pages() as usize);
     for page in 0..v.geometry.pages() as u16 {
-        marks[page as usize] = mark(v, page)?;
+        mark_page(v, marks, page)?;
     }
     Ok(())
 }
 
-// The mark of a page.
-#[tactic(auto, using(flash_view::proofs::Looking::looks_then, crate::proofs::Marking::mark_none, crate::proofs::Marking::mark_later, crate::proofs::Marking::mark_first))]
-fn mark<N: Nor>(v: &mut View<'_, N>, page: u16) -> Result<u8, Failed>
-    requires { page < page_count v.old.geometry }
+// Marks a page behind those that are marked, and notes its id.
+#[tactic(auto, using(flash_view::proofs::Looking::looks_then))]
+fn mark_page<N: Nor>(v: &mut View<'_, N>, marks: &mut [u8], page: u16) -> Result<(), Failed>
+    requires page { page < page_count v.old.geometry }
+    requires room { check_need v.old.geometry ≤ length marks.old }
     ensures cause { OnErr result (Rose (N.faults v.old.nor.now) (N.faults v.new.nor.now)) }
     ensures looks { OnlyLooks v.old v.new }
-    ensures told { N.tells v.old.nor.now → IfOk result (λ mark. mark ≡ mark_of v.old.geometry (N.bytes v.old.nor.now) page) }
+    ensures told { N.tells v.old.nor.now → Surveyed v.old.geometry (N.bytes v.old.nor.now) marks.old page → OnOk result (Surveyed v.old.geometry (N.bytes v.old.nor.now) marks.new (page + 1)) }
     ensures built { take v.old.geometry.page v.new.work.now ≡ take v.old.geometry.page v.old.work.now }
 {
-    let Some(id) = v.header_id(page)? else {
-        return Ok(0);
-    };
-    if !is_same(v.find_index(id, 0)?, page) {
-        return Ok(0);
-    }
-    Ok(mark_for(judge(v, id, page)?))
+    let found = v.header_id(page)?;
+    let first = note_first(marks, v.geometry.pages() as usize, found, page);
+    marks[page as usize] = mark(v, marks, first, page)?;
+    Ok(())
 }
 
-/// The least id above `after` that has a header page, with that page, by right marks. Pages without a mark aren't
-/// looked at.
+// The mark of a page, which is the first header page of this id where there is one, behind pages that are marked.
+#[tactic(auto, using(flash_view::proofs::Looking::looks_then))]
+fn mark<N: Nor>(
+    v: &mut View<'_, N>,
+    marks: &[u8],
+    first: Option<u16>,
+    page: u16,
+) -> Result<u8, Failed>
+    requires page { page < page_count v.old.geometry }
+    requires room { page_count v.old.geometry ≤ length marks.now }
+    ensures cause { OnErr result (Rose (N.faults v.old.nor.now) (N.faults v.new.nor.now)) }
+    ensures looks { OnlyLooks v.old v.new }
+    ensures told { N.tells v.old.nor.now → MarkedBelow v.old.geometry (N.bytes v.old.nor.now) marks.now page → IfOk result (λ mark. mark ≡ head_mark v.old.geometry (N.bytes v.old.nor.now) first page) }
+    ensures built { take v.old.geometry.page v.new.work.now ≡ take v.old.geometry.page v.old.work.now }
+{
+    let Some(id) = first else {
+        return Ok(0);
+    };
+    match judge(v, id, page)? {
+        Some(_) => Ok(BROKEN),
+        None => mark_whole(v, marks, page),
+    }
+}
+
+// The mark of the header page of a whole file, behind pages that are marked.
+#[tactic(auto, using(flash_view::proofs::Looking::looks_then))]
+fn mark_whole<N: Nor>(v: &mut View<'_, N>, marks: &[u8], page: u16) -> Result<u8, Failed>
+    requires page { page < page_count v.old.geometry }
+    requires room { page_count v.old.geometry ≤ length marks.now }
+    ensures cause { OnErr result (Rose (N.faults v.old.nor.now) (N.faults v.new.nor.now)) }
+    ensures looks { OnlyLooks v.old v.new }
+    ensures told { N.tells v.old.nor.now → MarkedBelow v.old.geometry (N.bytes v.old.nor.now) marks.now page → IfOk result (λ mark. mark ≡ whole_mark v.old.geometry (N.bytes v.old.nor.now) page (the_name_of (page_of v.old.geometry (N.bytes v.old.nor.now) page))) }
+    ensures built { take v.old.geometry.page v.new.work.now ≡ take v.old.geometry.page v.old.work.now }
+{
+    let Some(name) = v.name_at(page)? else {
+        return Ok(BROKEN);
+    };
+    match holder_below(v, marks, name.as_slice(), page)? {
+        Some(_) => Ok(DOUBLED),
+        None => Ok(name_mark(name.as_slice())),
+    }
+}
+
+/// The least id above `after` that has a header page, with that page, by right marks.
+#[tactic(auto, using(flash_view::proofs::Looking::looks_then))]
 pub fn next_marked<N: Nor>(
     v: &mut View<'_, N>,
     marks: &[u8],
     after: u16,
 ) -> Result<Option<(u16, u16)>, Failed>
-    requires room { page_count v.old.geometry ≤ length marks.now }
+    requires room { check_need v.old.geometry ≤ length marks.now }
     requires marked { N.tells v.old.nor.now → IsMarked v.old.geometry (N.bytes v.old.nor.now) marks.now }
     ensures cause { OnErr result (Rose (N.faults v.old.nor.now) (N.faults v.new.nor.now)) }
     ensures looks { OnlyLooks v.old v.new }
@@ -118,16 +147,69 @@ pub fn next_marked<N: Nor>(
     ensures told { N.tells v.old.nor.now → IfOk result (λ next. NextHead v.old.geometry (N.bytes v.old.nor.now) after next) }
     ensures work { v.new.work.now ≡ v.old.work.now }
 {
-    let mut least = None;
-    for page in 0..v.geometry.pages() as u16 {
-        let found = marked_id(v, marks[page as usize], page)?;
-        least = nearer(after, least, found, page);
+    for id in u32::from(after) + 1..u32::from(INDEX_BIT) {
+        if let Some(page) = marked_page(v, marks, id as u16)? {
+            return Ok(Some((id as u16, page)));
+        }
     }
-    Ok(least)
+    Ok(None)
+}
+
+/// The header page of an id, by right marks: looked for behind the page that is kept for it first. Pages without a
+/// mark aren't looked at, nor is any page for an id that isn't noted.
+#[tactic(auto, using(flash_view::proofs::Looking::looks_then))]
+pub(crate) fn marked_page<N: Nor>(
+    v: &mut View<'_, N>,
+    marks: &[u8],
+    id: u16,
+) -> Result<Option<u16>, Failed>
+    requires room { check_need v.old.geometry ≤ length marks.now }
+    requires marked { N.tells v.old.nor.now → IsMarked v.old.geometry (N.bytes v.old.nor.now) marks.now }
+    ensures cause { OnErr result (Rose (N.faults v.old.nor.now) (N.faults v.new.nor.now)) }
+    ensures looks { OnlyLooks v.old v.new }
+    ensures inside { IfOk result (λ page. IfSome page (λ p. p < page_count v.old.geometry)) }
+    ensures told { N.tells v.old.nor.now → IfOk result (λ page. page ≡ index_page v.old.geometry (own (live_at v.old.geometry (N.bytes v.old.nor.now)) id) 0) }
+    ensures work { v.new.work.now ≡ v.old.work.now }
+{
+    let pages = v.geometry.pages() as u16;
+    if !is_noted(marks, usize::from(pages), id) {
+        return Ok(None);
+    }
+    let near = near(marks, usize::from(pages), id).min(pages);
+    match marked_between(v, marks, id, near, pages)? {
+        Some(page) => Ok(Some(page)),
+        None => marked_between(v, marks, id, 0, near),
+    }
+}
+
+// The header page of an id, where it is one of the pages from `from` on and below `to`, by right marks.
+#[tactic(auto, using(flash_view::proofs::Looking::looks_then))]
+fn marked_between<N: Nor>(
+    v: &mut View<'_, N>,
+    marks: &[u8],
+    id: u16,
+    from: u16,
+    to: u16,
+) -> Result<Option<u16>, Failed>
+    requires inside { to ≤ page_count v.old.geometry }
+    requires room { page_count v.old.geometry ≤ length marks.now }
+    requires marked { N.tells v.old.nor.now → IsMarked v.old.geometry (N.bytes v.old.nor.now) marks.now }
+    ensures cause { OnErr result (Rose (N.faults v.old.nor.now) (N.faults v.new.nor.now)) }
+    ensures looks { OnlyLooks v.old v.new }
+    ensures inside { IfOk result (λ page. IfSome page (λ p. p < page_count v.old.geometry)) }
+    ensures told { N.tells v.old.nor.now → IfOk result (λ page. page ≡ head_between v.old.geometry (N.bytes v.old.nor.now) id from to) }
+    ensures work { v.new.work.now ≡ v.old.work.now }
+{
+    for page in from..to {
+        if is_same(marked_id(v, marks[page as usize], page)?, id) {
+            return Ok(Some(page));
+        }
+    }
+    Ok(None)
 }
 
 // The id whose header page a page with this mark is.
-#[tactic(auto, using(crate::proofs::Nearest::unmarked, crate::proofs::Nearest::id_of_entry))]
+#[tactic(auto, using(crate::proofs::Heads::unmarked, crate::proofs::Heads::id_of_entry))]
 fn marked_id<N: Nor>(v: &mut View<'_, N>, mark: u8, page: u16) -> Result<Option<u16>, Failed>
     requires page { page < page_count v.old.geometry }
     requires marked { N.tells v.old.nor.now → mark ≡ mark_of v.old.geometry (N.bytes v.old.nor.now) page }
@@ -142,45 +224,64 @@ fn marked_id<N: Nor>(v: &mut View<'_, N>, mark: u8, page: u16) -> Result<Option<
     Ok(Some(v.lookup_entry(page)? % INDEX_BIT))
 }
 
-/// The id of the table's file of that name, by right marks: that of the first whole file of this name in the order
-/// of header pages. Only pages of whole files are looked at.
-#[tactic(auto, using(flash_view::proofs::Looking::looks_then))]
+/// The id of the table's file of that name, by right marks. Only pages that have the mark of the name are looked at.
 pub fn find_name<N: Nor>(
     v: &mut View<'_, N>,
     marks: &[u8],
     name: &[u8],
 ) -> Result<Option<u16>, Failed>
-    requires room { page_count v.old.geometry ≤ length marks.now }
+    requires room { check_need v.old.geometry ≤ length marks.now }
     requires marked { N.tells v.old.nor.now → IsMarked v.old.geometry (N.bytes v.old.nor.now) marks.now }
     ensures cause { OnErr result (Rose (N.faults v.old.nor.now) (N.faults v.new.nor.now)) }
     ensures looks { OnlyLooks v.old v.new }
     ensures told { N.tells v.old.nor.now → IfOk result (λ id. id ≡ table_id v.old.geometry (N.bytes v.old.nor.now) name.now) }
     ensures built { take v.old.geometry.page v.new.work.now ≡ take v.old.geometry.page v.old.work.now }
 {
-    for page in 0..v.geometry.pages() as u16 {
-        if let Some(id) = whole_at(v, marks[page as usize], page, name)? {
+    let pages = v.geometry.pages() as u16;
+    holder_below(v, marks, name, pages)
+}
+
+// The id of the table's file of that name, where its header page is below `end`: the pages below are marked.
+#[tactic(auto, using(flash_view::proofs::Looking::looks_then))]
+fn holder_below<N: Nor>(
+    v: &mut View<'_, N>,
+    marks: &[u8],
+    name: &[u8],
+    end: u16,
+) -> Result<Option<u16>, Failed>
+    requires end { end ≤ page_count v.old.geometry }
+    requires room { page_count v.old.geometry ≤ length marks.now }
+    ensures cause { OnErr result (Rose (N.faults v.old.nor.now) (N.faults v.new.nor.now)) }
+    ensures looks { OnlyLooks v.old v.new }
+    ensures told { N.tells v.old.nor.now → MarkedBelow v.old.geometry (N.bytes v.old.nor.now) marks.now end → IfOk result (λ id. id ≡ the_holder_below v.old.geometry (N.bytes v.old.nor.now) name.now end) }
+    ensures built { take v.old.geometry.page v.new.work.now ≡ take v.old.geometry.page v.old.work.now }
+{
+    let sought = name_mark(name);
+    for page in 0..end {
+        if let Some(id) = holder_at(v, marks[page as usize], sought, page, name)? {
             return Ok(Some(id));
         }
     }
     Ok(None)
 }
 
-// The id whose header page a page with this mark is, where its file is whole and has that name.
-#[tactic(auto, using(flash_view::proofs::Looking::looks_then, crate::proofs::Holders::not_whole, crate::proofs::Holders::other_name, crate::proofs::Holders::whole_by_entry))]
-fn whole_at<N: Nor>(
+// The id whose header page a page with this mark is, where its file is the table's of that name, whose mark is sought.
+#[tactic(auto, using(flash_view::proofs::Looking::looks_then, crate::proofs::Holders::other_mark_name, crate::proofs::Holders::other_name, crate::proofs::Holders::holder_by_entry))]
+fn holder_at<N: Nor>(
     v: &mut View<'_, N>,
     mark: u8,
+    sought: u8,
     page: u16,
     name: &[u8],
 ) -> Result<Option<u16>, Failed>
     requires page { page < page_count v.old.geometry }
-    requires marked { N.tells v.old.nor.now → mark ≡ mark_of v.old.geometry (N.bytes v.old.nor.now) page }
+    requires sought { sought ≡ the_name_mark name.now }
     ensures cause { OnErr result (Rose (N.faults v.old.nor.now) (N.faults v.new.nor.now)) }
     ensures looks { OnlyLooks v.old v.new }
-    ensures told { N.tells v.old.nor.now → IfOk result (λ id. id ≡ the_whole_at v.old.geometry (N.bytes v.old.nor.now) name.now page) }
+    ensures told { N.tells v.old.nor.now → mark ≡ mark_of v.old.geometry (N.bytes v.old.nor.now) page → IfOk result (λ id. id ≡ the_holder_at v.old.geometry (N.bytes v.old.nor.now) name.now page) }
     ensures built { take v.old.geometry.page v.new.work.now ≡ take v.old.geometry.page v.old.work.now }
 {
-    if mark != WHOLE {
+    if mark != sought {
         return Ok(None);
     }
     if !v.has_name(page, name)? {
@@ -197,7 +298,7 @@ pub fn damage<N: Nor>(
     id: u16,
     header: u16,
 ) -> Result<Option<Damage>, Failed>
-    requires room { page_count v.old.geometry ≤ length marks.now }
+    requires room { check_need v.old.geometry ≤ length marks.now }
     requires header { header < page_count v.old.geometry }
     requires marked { N.tells v.old.nor.now → IsMarked v.old.geometry (N.bytes v.old.nor.now) marks.now }
     requires first { N.tells v.old.nor.now → index_page v.old.geometry (own (live_at v.old.geometry (N.bytes v.old.nor.now)) id) 0 ≡ Some header }
@@ -206,11 +307,34 @@ pub fn damage<N: Nor>(
     ensures told { N.tells v.old.nor.now → IfOk result (λ cause. cause ≡ cause_at v.old.geometry (N.bytes v.old.nor.now) id) }
     ensures built { take v.old.geometry.page v.new.work.now ≡ take v.old.geometry.page v.old.work.now }
 {
-    if marks[header as usize] != WHOLE {
+    let mark = marks[header as usize];
+    if mark == BROKEN {
         return judge(v, id, header);
     }
+    if mark == DOUBLED {
+        return same_name(v, marks, header);
+    }
+    Ok(None)
+}
+
+// The damage of a whole file whose name another file has.
+#[tactic(auto, using(flash_view::proofs::Looking::looks_then))]
+fn same_name<N: Nor>(
+    v: &mut View<'_, N>,
+    marks: &[u8],
+    header: u16,
+) -> Result<Option<Damage>, Failed>
+    requires room { check_need v.old.geometry ≤ length marks.now }
+    requires header { header < page_count v.old.geometry }
+    requires marked { N.tells v.old.nor.now → IsMarked v.old.geometry (N.bytes v.old.nor.now) marks.now }
+    ensures cause { OnErr result (Rose (N.faults v.old.nor.now) (N.faults v.new.nor.now)) }
+    ensures looks { OnlyLooks v.old v.new }
+    ensures told { N.tells v.old.nor.now → IfOk result (λ cause. cause ≡ the_same_name v.old.geometry (N.bytes v.old.nor.now) (the_name_of (page_of v.old.geometry (N.bytes v.old.nor.now) header))) }
+    ensures built { take v.old.geometry.page v.new.work.now ≡ take v.old.geometry.page v.old.work.now }
+{
     let Some(name) = v.name_at(header)? else {
         return Ok(Some(Damage::BadName));
     };
-    Ok(same_name(find_name(v, marks, name.as_slice())?, id))
+    let holder = find_name(v, marks, name.as_slice())?;
+    Ok(Some(Damage::SameName(holder.unwrap_or(0))))
 }

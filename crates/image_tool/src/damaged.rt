@@ -1,7 +1,7 @@
 // Telling the damaged ids.
 ghost use Rattle.std.specs.Prelude.{◌≡◌, ◌<◌, ◌≤◌, ◌++◌, length, IfOk, OnOk, OnErr};
 ghost use Rattle.std.specs.Option.{option_map, IfSome};
-ghost use Rattle.geometry.specs.Numbers.{page_count};
+ghost use Rattle.geometry.specs.Numbers.{check_need};
 ghost use Rattle.nor_core.specs.Count.{Rose};
 ghost use Rattle.flash_view.specs.Same.{IsSameView};
 ghost use Rattle.file_find.specs.Marks.{IsMarked};
@@ -41,7 +41,7 @@ pub(crate) fn say_next_damaged<B: Board>(
     after: u16,
     line: &mut [u8],
 ) -> Result<Option<u16>, Failed>
-    requires room { page_count v.old.geometry ≤ length marks.now }
+    requires room { check_need v.old.geometry ≤ length marks.now }
     requires marked { B.tells v.old.nor.now → IsMarked v.old.geometry (B.bytes v.old.nor.now) marks.now }
     requires line { 12288 ≤ length line.old }
     ensures cause { OnErr result (Rose (B.faults v.old.nor.now) (B.faults v.new.nor.now)) }

@@ -1,6 +1,6 @@
 ghost use Rattle.std.specs.Prelude.{◌≡◌, ◌<◌, ◌≤◌, length, IfOk, IsErrOf};
 ghost use Rattle.std.specs.Option.{option_map, IfSome};
-ghost use Rattle.geometry.specs.Numbers.{page_count};
+ghost use Rattle.geometry.specs.Numbers.{check_need};
 ghost use Rattle.nor_core.specs.Count.{Rose};
 ghost use Rattle.table_model.specs.Table.{file_above};
 ghost use Rattle.image_model.specs.Tables.{table_of, damaged_of};
@@ -29,7 +29,7 @@ fn extract_next<B: Board, F: Folder>(
     folder: &mut F,
     line: &mut [u8],
 ) -> Result<Option<u16>, ExtractErr>
-    requires room { page_count v.old.geometry ≤ length marks.now }
+    requires room { check_need v.old.geometry ≤ length marks.now }
     requires marked { B.tells v.old.nor.now → IsMarked v.old.geometry (B.bytes v.old.nor.now) marks.now }
     requires line { 12288 ≤ length line.old }
     ensures cause { IsErrOf result ExtractErr.BoardFault → Rose (B.faults v.old.nor.now) (B.faults v.new.nor.now) }
@@ -60,7 +60,7 @@ fn extract_files<B: Board, F: Folder>(
     folder: &mut F,
     line: &mut [u8],
 ) -> Result<(), ExtractErr>
-    requires room { page_count v.old.geometry ≤ length marks.now }
+    requires room { check_need v.old.geometry ≤ length marks.now }
     requires marked { B.tells v.old.nor.now → IsMarked v.old.geometry (B.bytes v.old.nor.now) marks.now }
     requires line { 12288 ≤ length line.old }
     ensures cause { IsErrOf result ExtractErr.BoardFault → Rose (B.faults v.old.nor.now) (B.faults v.new.nor.now) }
@@ -86,7 +86,7 @@ fn extract_marked<B: Board, F: Folder>(
     folder: &mut F,
     line: &mut [u8],
 ) -> Result<u32, ExtractErr>
-    requires room { page_count v.old.geometry ≤ length marks.now }
+    requires room { check_need v.old.geometry ≤ length marks.now }
     requires marked { B.tells v.old.nor.now → IsMarked v.old.geometry (B.bytes v.old.nor.now) marks.now }
     requires line { 12288 ≤ length line.old }
     ensures cause { IsErrOf result ExtractErr.BoardFault → Rose (B.faults v.old.nor.now) (B.faults v.new.nor.now) }
@@ -118,7 +118,7 @@ pub fn extract<B: Board, F: Folder>(
     folder: &mut F,
     line: &mut [u8],
 ) -> Result<u32, ExtractErr>
-    requires room { page_count v.old.geometry ≤ length marks.old }
+    requires room { check_need v.old.geometry ≤ length marks.old }
     requires line { 12288 ≤ length line.old }
     ensures cause { IsErrOf result ExtractErr.BoardFault → Rose (B.faults v.old.nor.now) (B.faults v.new.nor.now) }
     ensures folder_cause { IsErrOf result ExtractErr.FolderFault → Rose (F.faults folder.old) (F.faults folder.new) }

@@ -1,6 +1,6 @@
 ghost use Rattle.std.specs.Prelude.{◌≡◌, ◌<◌, ◌≤◌, ◌++◌, length, IfOk, OnOk, OnErr};
 ghost use Rattle.std.specs.Option.{option_map, IfSome};
-ghost use Rattle.geometry.specs.Numbers.{page_count};
+ghost use Rattle.geometry.specs.Numbers.{check_need};
 ghost use Rattle.nor_core.specs.Count.{Rose};
 ghost use Rattle.image_model.specs.Tables.{damaged_of};
 ghost use Rattle.flash_view.specs.Same.{IsSameView};
@@ -33,7 +33,7 @@ fn say_next<B: Board>(
     after: u16,
     line: &mut [u8],
 ) -> Result<Option<u16>, Failed>
-    requires room { page_count v.old.geometry ≤ length marks.now }
+    requires room { check_need v.old.geometry ≤ length marks.now }
     requires marked { B.tells v.old.nor.now → IsMarked v.old.geometry (B.bytes v.old.nor.now) marks.now }
     requires line { 12288 ≤ length line.old }
     ensures cause { OnErr result (Rose (B.faults v.old.nor.now) (B.faults v.new.nor.now)) }
@@ -60,7 +60,7 @@ pub(crate) fn list_part<B: Board>(
     part: Part,
     line: &mut [u8],
 ) -> Result<u32, Failed>
-    requires room { page_count v.old.geometry ≤ length marks.now }
+    requires room { check_need v.old.geometry ≤ length marks.now }
     requires marked { B.tells v.old.nor.now → IsMarked v.old.geometry (B.bytes v.old.nor.now) marks.now }
     requires line { 12288 ≤ length line.old }
     ensures cause { OnErr result (Rose (B.faults v.old.nor.now) (B.faults v.new.nor.now)) }
@@ -81,7 +81,7 @@ pub(crate) fn list_part<B: Board>(
 
 // Says the list of a volume, by right marks, and answers the number of damaged ids.
 fn list_marked<B: Board>(v: &mut View<'_, B>, marks: &[u8], line: &mut [u8]) -> Result<u32, Failed>
-    requires room { page_count v.old.geometry ≤ length marks.now }
+    requires room { check_need v.old.geometry ≤ length marks.now }
     requires marked { B.tells v.old.nor.now → IsMarked v.old.geometry (B.bytes v.old.nor.now) marks.now }
     requires line { 12288 ≤ length line.old }
     ensures cause { OnErr result (Rose (B.faults v.old.nor.now) (B.faults v.new.nor.now)) }
@@ -105,7 +105,7 @@ pub fn list<B: Board>(
     marks: &mut [u8],
     line: &mut [u8],
 ) -> Result<u32, ToolErr>
-    requires room { page_count v.old.geometry ≤ length marks.old }
+    requires room { check_need v.old.geometry ≤ length marks.old }
     requires line { 12288 ≤ length line.old }
     ensures cause { OnErr result (Rose (B.faults v.old.nor.now) (B.faults v.new.nor.now)) }
     ensures same { IsSameView v.old v.new }

@@ -1,7 +1,7 @@
 // Telling the files of the table.
 ghost use Rattle.std.specs.Prelude.{◌≡◌, ◌<◌, ◌≤◌, ◌++◌, length, IfOk, OnOk, OnErr};
 ghost use Rattle.std.specs.Option.{IfSome};
-ghost use Rattle.geometry.specs.Numbers.{page_count};
+ghost use Rattle.geometry.specs.Numbers.{page_count, check_need};
 ghost use Rattle.nor_core.specs.Count.{Rose};
 ghost use Rattle.flash_view.specs.Same.{IsSameView, OnlyLooks};
 ghost use Rattle.file_find.specs.Marks.{IsMarked};
@@ -23,7 +23,7 @@ fn next_record<N: Nor>(
     marks: &[u8],
     after: u16,
 ) -> Result<Option<(u16, Stat)>, Failed>
-    requires room { page_count v.old.geometry ≤ length marks.now }
+    requires room { check_need v.old.geometry ≤ length marks.now }
     requires marked { N.tells v.old.nor.now → IsMarked v.old.geometry (N.bytes v.old.nor.now) marks.now }
     ensures cause { OnErr result (Rose (N.faults v.old.nor.now) (N.faults v.new.nor.now)) }
     ensures looks { OnlyLooks v.old v.new }
@@ -60,7 +60,7 @@ pub(crate) fn say_next_record<B: Board>(
     after: u16,
     line: &mut [u8],
 ) -> Result<Option<(u16, Stat)>, Failed>
-    requires room { page_count v.old.geometry ≤ length marks.now }
+    requires room { check_need v.old.geometry ≤ length marks.now }
     requires marked { B.tells v.old.nor.now → IsMarked v.old.geometry (B.bytes v.old.nor.now) marks.now }
     requires line { 12288 ≤ length line.old }
     ensures cause { OnErr result (Rose (B.faults v.old.nor.now) (B.faults v.new.nor.now)) }

@@ -1,5 +1,5 @@
 ghost use Rattle.std.specs.Prelude.{◌≡◌, ◌≢◌, ◌≤◌, length};
-ghost use Rattle.geometry.specs.Numbers.{page_count, work_need, cache_need, check_need};
+ghost use Rattle.geometry.specs.Numbers.{work_need, cache_need, check_need};
 ghost use Rattle.nor_core.specs.Count.{Rose};
 ghost use Rattle.flash_view.specs.Same.{IsSameView};
 ghost use Rattle.image_tool.specs.Putting.{FolderGoes};
@@ -27,7 +27,7 @@ fn extract_view<B: Board, F: Folder>(
     folder: &mut F,
     line: &mut [u8],
 ) -> Ending
-    requires room { page_count v.old.geometry ≤ length marks.old }
+    requires room { check_need v.old.geometry ≤ length marks.old }
     requires line { 12288 ≤ length line.old }
     ensures later { IsUnrefused result }
     ensures no_script { result ≢ Ending.SourceFault }

@@ -1,5 +1,5 @@
 ghost use Rattle.std.specs.Prelude.{◌≡◌, ◌≢◌, ◌≤◌, length};
-ghost use Rattle.geometry.specs.Numbers.{page_count, work_need, cache_need, check_need};
+ghost use Rattle.geometry.specs.Numbers.{work_need, cache_need, check_need};
 ghost use Rattle.nor_core.specs.Count.{Rose};
 ghost use Rattle.flash_view.specs.Same.{IsSameView};
 ghost use Rattle.tool_core.specs.Fits.{HoldsVolume, HasLengths};
@@ -34,7 +34,7 @@ pub(crate) fn end_of_list(damaged: u32) -> Ending
 
 // Mounts a volume, and says its list.
 fn list_view<B: Board>(v: &mut View<'_, B>, marks: &mut [u8], line: &mut [u8]) -> Ending
-    requires room { page_count v.old.geometry ≤ length marks.old }
+    requires room { check_need v.old.geometry ≤ length marks.old }
     requires line { 12288 ≤ length line.old }
     ensures later { IsLater result }
     ensures no_script { result ≢ Ending.SourceFault }

@@ -11,7 +11,8 @@ use Rattle.geometry.specs.declared.geometry.Geometry.{Geometry}
 use Rattle.table_model.specs.Table.{File}
 use Rattle.image_model.specs.declared.damage.Damage.{Damage}
 use Rattle.image_model.specs.declared.damage.Damage.TheVariants.{SameName}
-use Rattle.geometry.specs.Numbers.{page_count}
+use Rattle.geometry.specs.Numbers.{page_count as pages_of}
+use Rattle.image_model.specs.Volume.{page_count, per_block}
 use Rattle.image_model.specs.Places.{page_of, is_entry_page}
 use Rattle.image_model.specs.Headers.{obj_id, span_of, names_index}
 use Rattle.image_model.specs.Live.{Live, live_at, own}
@@ -27,7 +28,9 @@ use Rattle.image_laws.proofs.Kill.{own-loses, own-loses_other}
 use Rattle.image_laws.proofs.DamagedHead.{counts-gone, counted-gone, table-now, damaged-now, wanted-now}
 use Rattle.flash_view.specs.Found.{headed}
 use Rattle.file_find.specs.Marks.{mark_as, mark_of, IsMarked, cause_at}
+use Rattle.file_find.proofs.Bits.{mark_beside}
 use Rattle.file_find.proofs.Marking.{has_at, other_mark}
+use Rattle.file_find.proofs.Heads.{header_parts}
 use Rattle.flash_view.proofs.Spans.{index_known}
 use Rattle.vol_check.specs.Culls.{MayCull, HasNoDoubles, Culls}
 use Rattle.vol_check.specs.Works.{IsHead, TurnsHead, culling, culling_head}
@@ -158,31 +161,6 @@ module _ (g : Geometry) (a b : List ℕ) (p : ℕ) (head : List ℕ) (live : liv
     unfolding has_of
     other_now j there = ap (λ (pages : Live). found g pages j) (own-loses_other p head (live_at g a) (live_at g b) live change j (λ e. there (sym e ∙ of)))
 
-    mark_still : (q : ℕ) (o : Option ℕ) → q ≢ p → mark_as g (live_at g b) o q ≡ mark_as g (live_at g a) o q
-    mark_still q None other = refl
-    mark_still q (Some j) other =
-        ⊎_elim
-        (λ (here : j ≡ id). rw (here, gone_now, has_at g a id p first) (sym (other_mark (judged g (own (live_at g a) id) id (page_of g a p)) p q (ne_eqb p q (λ e. other (sym e))))))
-        (λ (there : j ≡ id → ⊥). rw (other_now j there) refl)
-        (cases_eq j id)
-
-    mark_other : (q : ℕ) → q ≢ p → mark_of g b q ≡ mark_of g a q
-    unfolding mark_of
-    mark_other q other = rw (change.others q other) (mark_still q (headed (live_at g a q)) other)
-
-    mark_gone : mark_of g b p ≡ 0
-    unfolding mark_of
-    mark_gone = rw change.after refl
-
-    -- right marks stay right by one set to 0
-    pub marked_less : (marks : List ℕ) → p < length marks → IsMarked g a marks → IsMarked g b (slice_set marks p 0)
-    marked_less marks room was = record {
-      each = λ q low. ⊎_elim
-          (λ (here : q ≡ p). rw here (get_or-set_same marks p 0 0 room ∙ sym mark_gone))
-          (λ (there : q ≡ p → ⊥). get_or-set_other marks p q 0 0 there ∙ was.each q low ∙ sym (mark_other q there))
-          (cases_eq q p);
-    }
-
     module _ (cause : Damage) (some : Some cause ≡ cause_at g a id) where
       uncounted : counted (has_of g (live_at g a)) 0x7FFF (has_of g (live_at g a) id) ≡ None
       unfolding cause_at
@@ -195,6 +173,39 @@ module _ (g : Geometry) (a b : List ℕ) (p : ℕ) (head : List ℕ) (live : liv
       pub cause_other_now : (j : ℕ) → j ≢ id → cause_at g b j ≡ cause_at g a j
       unfolding cause_at
       cause_other_now = cause_other (has_of g (live_at g a)) (has_of g (live_at g b)) 0x7FFF id p (judged g (own (live_at g a) id) id (page_of g a p)) (has_at g a id p first) uncounted gone_now other_now
+
+      mark_still : (q : ℕ) (o : Option ℕ) → q ≢ p → mark_as g b o q ≡ mark_as g a o q
+      mark_still q None other = refl
+      mark_still q (Some j) other =
+          ⊎_elim
+          (λ (here : j ≡ id). rw (here, gone_now, has_at g a id p first) (sym (other_mark (cause_at g a id) (judged g (own (live_at g a) id) id (page_of g a p)) p q (ne_eqb p q (λ e. other (sym e))))))
+          (λ (there : j ≡ id → ⊥). rw (other_now j there, cause_other_now j there) refl)
+          (cases_eq j id)
+
+      mark_other : (q : ℕ) → q ≢ p → mark_of g b q ≡ mark_of g a q
+      unfolding mark_of
+      mark_other q other = rw (change.others q other) (mark_still q (headed (live_at g a q)) other)
+
+      mark_gone : mark_of g b p ≡ 0
+      unfolding mark_of
+      mark_gone = rw change.after refl
+
+      below : p < pages_of g
+      unfolding page_count per_block
+      below = (header_parts g a id p first).1
+
+      -- right marks stay right by one set to 0
+      pub marked_less : (marks : List ℕ) → p < length marks → IsMarked g a marks → IsMarked g b (slice_set marks p 0)
+      marked_less marks room was = record {
+        each = λ q low. ⊎_elim
+            (λ (here : q ≡ p). rw here (get_or-set_same marks p 0 0 room ∙ sym mark_gone))
+            (λ (there : q ≡ p → ⊥). get_or-set_other marks p q 0 0 there ∙ was.each q low ∙ sym (mark_other q there))
+            (cases_eq q p);
+        noted = λ q j low has. ⊎_elim
+            (λ (here : q ≡ p). let bad : None ≡ Some j = rw (here, change.after) at has in absurd (cc))
+            (λ (there : q ≡ p → ⊥). mark_beside marks _ p 0 j below ∙ was.noted q j low (rw (change.others q there) at has))
+            (cases_eq q p);
+      }
 
       pub count_less : 1 + length (damaged_of g b) ≡ length (damaged_of g a)
       unfolding damaged_of cause_at
@@ -244,7 +255,7 @@ module _ (g : Geometry) (a : List ℕ) (id p : ℕ) (single : HasNoDoubles g a) 
           others = cause_other_now g a b p (page_of g a p) head_live.0 loses id head_live.1 first only cause some;
           count = count_less g a b p (page_of g a p) head_live.0 loses id head_live.1 first only cause some;
         };
-        marked = marked_less g a b p (page_of g a p) head_live.0 loses id head_live.1 first only marks room marked;
+        marked = marked_less g a b p (page_of g a p) head_live.0 loses id head_live.1 first only cause some marks room marked;
       }
 
 pub may_be_culled : (g : Geometry) (a : List ℕ) (id p : ℕ) (marks later : List ℕ) → IsHead g a id p marks → (cause : Damage) → Some cause ≡ cause_at g a id → Goes g a a (culling p) (culling_head id p marks later)

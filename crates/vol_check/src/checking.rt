@@ -1,5 +1,5 @@
 ghost use Rattle.std.specs.Prelude.{◌≡◌, ◌≤◌, length, OnErr, OnOk, IsErrOf, IfOk, IfErr, IfSome, Err, None};
-ghost use Rattle.geometry.specs.Numbers.{usable, write_refusal, page_count};
+ghost use Rattle.geometry.specs.Numbers.{usable, write_refusal, check_need};
 ghost use Rattle.nor_core.specs.Count.{Rose};
 ghost use Rattle.nor_core.specs.Device.{Changes, OnlyReads};
 ghost use Rattle.image_model.specs.Kinds.{mixed_blocks as the_mixed_blocks};
@@ -29,7 +29,7 @@ struct Culled {
 
 // Kills the live pages that the table doesn't need: doubled ones, then the header pages of damaged files, then the rest.
 fn cull_pages<N: Nor>(v: &mut View<'_, N>, marks: &mut [u8]) -> Result<Culled, Failed>
-    requires room { page_count v.old.geometry ≤ length marks.old }
+    requires room { check_need v.old.geometry ≤ length marks.old }
     requires magics { N.tells v.old.nor.now → HasMagics v.old.geometry (N.bytes v.old.nor.now) }
     ensures most { IfOk result (λ culled. culled.pages ≤ 196605) }
     ensures work { Worked v.old v.new result culling_pages }
@@ -45,7 +45,7 @@ fn cull_pages<N: Nor>(v: &mut View<'_, N>, marks: &mut [u8]) -> Result<Culled, F
 
 // Makes the block without its magic fresh, and kills what is to be killed.
 fn clean<N: Nor>(v: &mut View<'_, N>, marks: &mut [u8]) -> Result<Report, Failed>
-    requires room { page_count v.old.geometry ≤ length marks.old }
+    requires room { check_need v.old.geometry ≤ length marks.old }
     requires magics { N.tells v.old.nor.now → HasMagics v.old.geometry (N.bytes v.old.nor.now) }
     ensures { Worked v.old v.new result checking }
 {
@@ -69,7 +69,7 @@ fn clean<N: Nor>(v: &mut View<'_, N>, marks: &mut [u8]) -> Result<Report, Failed
 /// for notes, one for each page of the volume at least.
 #[tactic(auto, using(flash_view::proofs::Looking::same_then))]
 pub fn check_stages<N: Nor>(v: &mut View<'_, N>, marks: &mut [u8]) -> Result<Report, CheckErr>
-    requires room { page_count v.old.geometry ≤ length marks.old }
+    requires room { check_need v.old.geometry ≤ length marks.old }
     requires magics { N.tells v.old.nor.now → HasMagics v.old.geometry (N.bytes v.old.nor.now) }
     ensures wrong { IfSome (write_refusal v.old.geometry) (λ why. result ≡ Err (CheckErr.Wrong why)) }
     ensures writable { write_refusal v.old.geometry ≡ None → IfErr result IsWritable }

@@ -1,5 +1,5 @@
 ghost use Rattle.std.specs.Prelude.{◌≡◌, ◌<◌, ◌≤◌, length, Some, IfOk};
-ghost use Rattle.geometry.specs.Numbers.{page_count};
+ghost use Rattle.geometry.specs.Numbers.{page_count, check_need};
 ghost use Rattle.image_model.specs.Live.{live_at, own};
 ghost use Rattle.image_model.specs.Files.{index_page};
 ghost use Rattle.image_model.specs.Sound.{HasMagics};
@@ -19,7 +19,7 @@ fn cull_head<N: Nor>(
     id: u16,
     header: u16,
 ) -> Result<bool, Failed>
-    requires room { page_count v.old.geometry ≤ length marks.old }
+    requires room { check_need v.old.geometry ≤ length marks.old }
     requires header { header < page_count v.old.geometry }
     requires marked { N.tells v.old.nor.now → IsMarked v.old.geometry (N.bytes v.old.nor.now) marks.old }
     requires first { N.tells v.old.nor.now → index_page v.old.geometry (own (live_at v.old.geometry (N.bytes v.old.nor.now)) id) 0 ≡ Some header }
@@ -40,7 +40,7 @@ fn cull_head<N: Nor>(
 /// Kills the header page of each damaged file, in order of ids: how many there were. No page may be doubled. The marks
 /// are bytes for notes, one for each page of the volume at least.
 pub(crate) fn cull_damaged<N: Nor>(v: &mut View<'_, N>, marks: &mut [u8]) -> Result<u32, Failed>
-    requires room { page_count v.old.geometry ≤ length marks.old }
+    requires room { check_need v.old.geometry ≤ length marks.old }
     requires magics { N.tells v.old.nor.now → HasMagics v.old.geometry (N.bytes v.old.nor.now) }
     requires single { N.tells v.old.nor.now → HasNoDoubles v.old.geometry (N.bytes v.old.nor.now) }
     ensures most { IfOk result (λ killed. killed ≤ 65535) }

@@ -1,7 +1,7 @@
 //! Calls over a view of a reader's device, with the copies of its pages that are there.
 ghost use Rattle.std.specs.Prelude.{◌≡◌, ◌*◌, ◌<◌, ◌≤◌, length, OnOk, OnErr, IfOk, IfErr, IfSome, IsErrOf, Err};
 ghost use Rattle.std.specs.Option.{option_map};
-ghost use Rattle.geometry.specs.Numbers.{page_count, work_need, cache_need};
+ghost use Rattle.geometry.specs.Numbers.{work_need, cache_need, check_need};
 ghost use Rattle.nor_core.specs.Count.{Rose};
 ghost use Rattle.nor_core.specs.Device.{OnlyReads};
 ghost use Rattle.table_model.specs.Table.{file_above};
@@ -66,7 +66,7 @@ pub(crate) fn survey_on<N: Nor>(
     requires work { work_need g ≤ length work.old }
     requires cache { cache_need g ≤ length cache.old }
     requires kept { IsKept N.NorState g nor.old cache.old }
-    requires room { page_count g ≤ length marks.old }
+    requires room { check_need g ≤ length marks.old }
     ensures cause { OnErr result (Rose (N.faults nor.old) (N.faults nor.new)) }
     ensures looks { OnlyReads N.NorState nor.old nor.new }
     ensures kept { IsKept N.NorState g nor.new cache.new }
@@ -97,7 +97,7 @@ pub(crate) fn next_on<N: Nor>(
     requires work { work_need g ≤ length work.old }
     requires cache { cache_need g ≤ length cache.old }
     requires kept { IsKept N.NorState g nor.old cache.old }
-    requires room { page_count g ≤ length marks.now }
+    requires room { check_need g ≤ length marks.now }
     requires marked { N.tells nor.old → IsMarked g (N.bytes nor.old) marks.now }
     ensures cause { OnErr result (Rose (N.faults nor.old) (N.faults nor.new)) }
     ensures looks { OnlyReads N.NorState nor.old nor.new }
@@ -130,7 +130,7 @@ pub(crate) fn damaged_on<N: Nor>(
     requires work { work_need g ≤ length work.old }
     requires cache { cache_need g ≤ length cache.old }
     requires kept { IsKept N.NorState g nor.old cache.old }
-    requires room { page_count g ≤ length marks.now }
+    requires room { check_need g ≤ length marks.now }
     requires marked { N.tells nor.old → IsMarked g (N.bytes nor.old) marks.now }
     ensures cause { OnErr result (Rose (N.faults nor.old) (N.faults nor.new)) }
     ensures looks { OnlyReads N.NorState nor.old nor.new }
@@ -165,7 +165,7 @@ pub(crate) fn read_on<N: Nor>(
     requires work { work_need g ≤ length work.old }
     requires cache { cache_need g ≤ length cache.old }
     requires kept { IsKept N.NorState g nor.old cache.old }
-    requires room { page_count g ≤ length marks.now }
+    requires room { check_need g ≤ length marks.now }
     requires marked { N.tells nor.old → IsMarked g (N.bytes nor.old) marks.now }
     ensures cause { IsErrOf result FsErr.DeviceFault → Rose (N.faults nor.old) (N.faults nor.new) }
     ensures only { IfErr result (IsReadErr id) }

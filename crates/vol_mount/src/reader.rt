@@ -1,5 +1,5 @@
 ghost use Rattle.std.specs.Prelude.{◌≡◌, ◌*◌, ◌≤◌, length, true};
-ghost use Rattle.geometry.specs.Numbers.{page_count, work_need, cache_need};
+ghost use Rattle.geometry.specs.Numbers.{work_need, cache_need, check_need};
 ghost use Rattle.page_cache.specs.Kept.{IsKept};
 ghost use Rattle.file_find.specs.Marks.{IsMarked};
 
@@ -34,7 +34,7 @@ pub struct Reader<'b, N: Nor> {
     pub ghost fits: { geometry.blocks * geometry.block ≤ N.size nor.now },
     pub ghost work_fits: { work_need geometry ≤ length work.now },
     pub ghost cache_fits: { cache_need geometry ≤ length cache.now },
-    pub ghost check_fits: { page_count geometry ≤ length check.now },
+    pub ghost check_fits: { check_need geometry ≤ length check.now },
     pub ghost kept: { IsKept N.NorState geometry nor.now cache.now },
     pub ghost marked: { known ≡ true → N.tells nor.now → IsMarked geometry (N.bytes nor.now) check.now },
 }

@@ -1,6 +1,6 @@
 // The whole check of a mounted volume.
 ghost use Rattle.std.specs.Prelude.{◌≡◌, ◌≤◌, length, OnErr, OnOk, IsErrOf, IfOk, IfErr, IfSome, Err, None};
-ghost use Rattle.geometry.specs.Numbers.{usable, write_refusal, page_count};
+ghost use Rattle.geometry.specs.Numbers.{usable, write_refusal, check_need};
 ghost use Rattle.nor_core.specs.Count.{Rose};
 ghost use Rattle.nor_core.specs.Device.{Changes, OnlyReads};
 ghost use Rattle.image_model.specs.Kinds.{mixed_blocks};
@@ -54,7 +54,7 @@ fn clear<N: Nor>(v: &mut View<'_, N>) -> Result<u32, CheckErr>
 /// none that is worth cleaning can be cleaned any more.
 #[tactic(auto, using(flash_view::proofs::Looking::same_then))]
 pub(crate) fn check_view<N: Nor>(v: &mut View<'_, N>, marks: &mut [u8]) -> Result<Report, CheckErr>
-    requires room { page_count v.old.geometry ≤ length marks.old }
+    requires room { check_need v.old.geometry ≤ length marks.old }
     requires magics { N.tells v.old.nor.now → HasMagics v.old.geometry (N.bytes v.old.nor.now) }
     ensures wrong { IfSome (write_refusal v.old.geometry) (λ why. result ≡ Err (CheckErr.Wrong why)) }
     ensures writable { write_refusal v.old.geometry ≡ None → IfErr result IsWritable }

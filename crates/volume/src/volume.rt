@@ -1,5 +1,5 @@
 ghost use Rattle.std.specs.Prelude.{◌≡◌, ◌*◌, ◌≤◌, length, min, replicate, OnOk, IsErrOf, IfOk, IfErr, IfSome, Err, None, true};
-ghost use Rattle.geometry.specs.Numbers.{usable, write_refusal, work_need, cache_need, check_need, page_count};
+ghost use Rattle.geometry.specs.Numbers.{usable, write_refusal, work_need, cache_need, check_need};
 ghost use Rattle.nor_core.specs.Count.{Rose};
 ghost use Rattle.nor_core.specs.Device.{Changes, OnlyReads};
 ghost use Rattle.image_model.specs.Kinds.{spoiled_blocks, mixed_blocks};
@@ -115,7 +115,7 @@ fn check_on<N: Nor>(
     requires fits { g.blocks * g.block ≤ N.size nor.old }
     requires work { work_need g ≤ length work.old }
     requires cache { cache_need g ≤ length cache.old }
-    requires room { page_count g ≤ length marks.old }
+    requires room { check_need g ≤ length marks.old }
     requires magics { N.tells nor.old → HasMagics g (N.bytes nor.old) }
     requires kept { IsKept N.NorState g nor.old cache.old }
     ensures kept { IsKept N.NorState g nor.new cache.new }

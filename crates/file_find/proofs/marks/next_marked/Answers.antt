@@ -1,32 +1,38 @@
-use Rattle.std.proofs.Common.{◌≡◌, ◌∙◌, arith}
-use Rattle.geometry.specs.Numbers.{page_count, per_block}
-use Rattle.file_find.specs.Marks.{marked_id}
-use Rattle.file_find.proofs.Nearest.{near_more, near_all, near_inside, near_above}
+use Rattle.std.proofs.Common.{◌≡◌, ◌∙◌, arith, sym}
+use Rattle.image_model.specs.Live.{live_at, own}
+use Rattle.image_model.specs.Files.{index_page}
 use Rattle.flash_view.proofs.Looking.{looks_then}
+use Rattle.file_find.proofs.Noting.{no_heads_more, next_here, next_nowhere}
 use Rattle.file_find.proofs.marks.next_marked.Goals as goal
 
-pub loop-page-preserved : goal.loop-page-preserved
-loop-page-preserved g c =
-    let was = c.loop-page.invariant in
-    let looked = c.in_ok-found.ensures in
+pub returns-in-Some-clause-looks : goal.returns-in-Some-clause-looks
+returns-in-Some-clause-looks g c = looks_then c.loop-id.invariant.looks c.in_ok-page.ensures.looks
+
+pub returns-in-Some-clause-told : goal.returns-in-Some-clause-told
+returns-in-Some-clause-told g c = λ tells.
+    let was = c.loop-id.invariant in
+    let geo = c.args.v.now.geometry in
+    let image = g.N.NorState.bytes c.args.v.now.nor.now in
+    let first : c.in_ok-page.field-0 ≡ index_page geo (own (live_at geo image) c.loop-id.id) 0 = rw (was.looks.same.geometry, was.looks.reads.bytes) at (c.in_ok-page.ensures.told (was.looks.reads.told tells)) in
+    next_here geo image c.args.after c.loop-id.id c.in-Some.page was.low (was.told tells) (sym c.in-Some.is ∙ first)
+
+pub loop-id-preserved : goal.loop-id-preserved
+loop-id-preserved g c =
+    let was = c.loop-id.invariant in
+    let looked = c.in_ok-page.ensures in
     record {
-      pages = was.pages;
+      end = was.end;
+      low = omega (arith, was.low);
       looks = looks_then was.looks looked.looks;
       work = looked.work ∙ was.work;
-      inside = rw c.nearer-least.ensures (near_inside (page_count c.args.v.now.geometry) c.args.after c.loop-page.least c.in_ok-found.found c.loop-page.page (omega (arith, was.pages)) was.inside);
-      above = rw c.nearer-least.ensures (near_above c.args.after c.loop-page.least c.in_ok-found.found c.loop-page.page was.above);
       told = λ tells.
-          let turn = looked.told (was.looks.reads.told tells) in
-          let view = c.args.v.now in
-          let image = g.N.NorState.bytes view.nor.now in
-          let has : c.in_ok-found.found ≡ marked_id view.geometry image c.loop-page.page = rw (was.looks.same.geometry, was.looks.reads.bytes) at turn in
-          rw c.nearer-least.ensures (near_more (marked_id view.geometry image) c.args.after c.loop-page.page c.loop-page.least c.in_ok-found.found (was.told tells) has);
+          let geo = c.args.v.now.geometry in
+          let image = g.N.NorState.bytes c.args.v.now.nor.now in
+          let first : c.in_ok-page.field-0 ≡ index_page geo (own (live_at geo image) c.loop-id.id) 0 = rw (was.looks.same.geometry, was.looks.reads.bytes) at (looked.told (was.looks.reads.told tells)) in
+          no_heads_more geo image c.args.after c.loop-id.id (was.told tells) (sym c.in_default.is ∙ first);
     }
 
 pub returns-clause-told : goal.returns-clause-told
-unfolding page_count per_block
 returns-clause-told g c = λ tells.
-    let was = c.loop-page.invariant in
-    let view = c.args.v.now in
-    let end : c.loop-page.page ≡ page_count view.geometry = omega (arith, was.pages) in
-    near_all view.geometry (g.N.NorState.bytes view.nor.now) c.args.after c.loop-page.page c.loop-page.least end (was.told tells)
+    let was = c.loop-id.invariant in
+    next_nowhere c.args.v.now.geometry (g.N.NorState.bytes c.args.v.now.nor.now) c.args.after c.loop-id.id (omega (arith, was.end, c.loop-id-test.false)) (was.told tells)

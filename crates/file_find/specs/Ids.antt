@@ -1,0 +1,18 @@
+-- Ids that have header pages, noted as bits behind the marks of pages.
+use Rattle.std.specs.Prelude.{◌≡◌, ◌≢◌, ℕ, ◌+◌, ◌/◌, ◌%◌, ◌<◌, ◌==◌, List, Bool, true, Option, Some, None, slice_index, if◌then◌else◌}
+use Rattle.std.specs.Int.{bit_at}
+
+-- the bit of an id is set behind the first `start` bytes: eight ids to a byte, the lowest first
+unfoldable pub is_noted : List ℕ → ℕ → ℕ → Bool
+is_noted marks start id = bit_at (slice_index marks (start + id / 8)) (id % 8) == 1
+
+-- the id, where it is there and not noted
+abbrev pub unnoted : List ℕ → ℕ → Option ℕ → Option ℕ
+unnoted marks start None = None
+unnoted marks start (Some id) = if is_noted marks start id then None else Some id
+
+-- an id is noted beside those that were, and the first `start` bytes stay
+pub record Notes (start : ℕ) (found : Option ℕ) (old new : List ℕ) : Type 0 where
+  pub noted : (id : ℕ) → found ≡ Some id → is_noted new start id ≡ true
+  pub others : (k : ℕ) → k < 0x8000 → found ≢ Some k → is_noted new start k ≡ is_noted old start k
+  pub pages : (p : ℕ) → p < start → slice_index new p ≡ slice_index old p
