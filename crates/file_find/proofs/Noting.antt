@@ -5,8 +5,7 @@ use Rattle.std.specs.List.{range_with_len}
 use Rattle.std.proofs.lemmas.Bool.{cases_lt, cases_eq, cases_Bool, eq-eqb, ne_eqb}
 use Rattle.std.proofs.lemmas.List.{get_or-set_same, get_or-set_other}
 use Rattle.geometry.specs.declared.geometry.Geometry.{Geometry}
-use Rattle.geometry.specs.Numbers.{page_count}
-use Rattle.image_model.specs.Volume.{page_count as volume_pages, per_block}
+use Rattle.geometry.specs.Numbers.{page_count, per_block}
 use Rattle.image_model.specs.Headers.{obj_id}
 use Rattle.image_model.specs.Places.{page_of}
 use Rattle.image_model.specs.Live.{live_at, own}
@@ -23,12 +22,12 @@ use Rattle.file_find.proofs.Heads.{header_parts, header_marked, marked_page}
 use Rattle.file_find.proofs.Holders.{head_within, nothing_found, judged_right, holder_all}
 
 -- the pages of a volume by both names
-in_volume : (g : Geometry) (p : ℕ) → p < page_count g → p < volume_pages g
-unfolding volume_pages per_block
+in_volume : (g : Geometry) (p : ℕ) → p < page_count g → p < page_count g
+unfolding page_count per_block
 in_volume g p low = low
 
-in_pages : (g : Geometry) (p : ℕ) → p < volume_pages g → p < page_count g
-unfolding volume_pages per_block
+in_pages : (g : Geometry) (p : ℕ) → p < page_count g → p < page_count g
+unfolding page_count per_block
 in_pages g p low = low
 
 -- ---- the first header page of an id
@@ -49,7 +48,7 @@ unfolding index_page own
 first_least g image id p q is has =
     ⊎_elim
     (λ (less : q < p).
-    let w = find_parts (λ (r : ℕ). is_index (own (live_at g image) id r) 0) 0 (volume_pages g) p is in
+    let w = find_parts (λ (r : ℕ). is_index (own (live_at g image) id r) 0) 0 (page_count g) p is in
     let none : is_index (own (live_at g image) id q) 0 ≡ false = w.3 q (omega arith) less in
     let here : is_index (own (live_at g image) id q) 0 ≡ true = tells_index (live_at g image q) id has in
     absurd (let bad : true ≡ false = sym here ∙ none in cc))
@@ -230,5 +229,5 @@ next_nowhere g image after at all was = record {
 -- ---- the table's file of a name, among all pages
 
 pub holder_volume : (g : Geometry) (image name : List ℕ) (end : ℕ) → end ≡ page_count g → holder_below g image name end ≡ table_id g image name
-unfolding volume_pages per_block
+unfolding page_count per_block
 holder_volume g image name end all = rw all (holder_all g image name)

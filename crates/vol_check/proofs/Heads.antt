@@ -11,8 +11,7 @@ use Rattle.geometry.specs.declared.geometry.Geometry.{Geometry}
 use Rattle.table_model.specs.Table.{File}
 use Rattle.image_model.specs.declared.damage.Damage.{Damage}
 use Rattle.image_model.specs.declared.damage.Damage.TheVariants.{SameName}
-use Rattle.geometry.specs.Numbers.{page_count as pages_of}
-use Rattle.image_model.specs.Volume.{page_count, per_block}
+use Rattle.geometry.specs.Numbers.{page_count, per_block}
 use Rattle.image_model.specs.Places.{page_of, is_entry_page}
 use Rattle.image_model.specs.Headers.{obj_id, span_of, names_index}
 use Rattle.image_model.specs.Live.{Live, live_at, own}
@@ -190,7 +189,7 @@ module _ (g : Geometry) (a b : List ℕ) (p : ℕ) (head : List ℕ) (live : liv
       unfolding mark_of
       mark_gone = rw change.after refl
 
-      below : p < pages_of g
+      below : p < page_count g
       unfolding page_count per_block
       below = (header_parts g a id p first).1
 

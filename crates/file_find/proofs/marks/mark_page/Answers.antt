@@ -10,7 +10,7 @@ returns-clause-told g c = λ tells was.
     let image = g.N.NorState.bytes view.nor.now in
     let seen = c.in_ok-found.ensures in
     let noted = c.note_first-first in
-    let start : c.pages.result ≡ page_count view.geometry = rw seen.looks.same.geometry at c.pages.ensures in
+    let start : c.pages.result ≡ page_count view.geometry = rw seen.looks.same.geometry at c.pages.ensures.count in
     let mark : c.in_ok-marks.field-0 ≡ head_mark view.geometry image noted.result c.args.page =
     (rw (seen.looks.same.geometry, seen.looks.reads.bytes) at (c.in_ok-marks.ensures.told (seen.looks.reads.told tells)))
     (marked_still view.geometry image c.args.marks.now noted.new.marks c.args.page _ c.requires.page was (rw start at noted.ensures.notes)) in

@@ -10,7 +10,7 @@ use Rattle.file_find.proofs.marks.marked_page.Goals as goal
 pub returns-then-not-is_noted-clause-told : goal.returns-then-not-is_noted-clause-told
 returns-then-not-is_noted-clause-told g c = λ tells.
     let geo = c.args.v.now.geometry in
-    let clear : is_noted c.args.marks.now (page_count geo) c.args.id ≡ false = cc (c.is_noted.ensures, c.from.ensures, c.pages-pages.ensures, c.if-not-is_noted.true) in
+    let clear : is_noted c.args.marks.now (page_count geo) c.args.id ≡ false = cc (c.is_noted.ensures, c.from.ensures, c.pages-pages.ensures.count, c.if-not-is_noted.true) in
     not_noted geo (g.N.NorState.bytes c.args.v.now.nor.now) c.args.marks.now c.args.id (c.requires.marked tells) clear
 
 pub returns-in-Some-clause-told : goal.returns-in-Some-clause-told
@@ -25,6 +25,6 @@ returns-in-None-clause-told g c = λ tells.
     let geo = c.args.v.now.geometry in
     let image = g.N.NorState.bytes c.args.v.now.nor.now in
     let first = c.in_ok-page.ensures in
-    let behind : None ≡ head_between geo image c.args.id c.min-near.result (page_count geo) = rw c.pages-pages.ensures at (sym c.in-None.is ∙ first.told tells) in
+    let behind : None ≡ head_between geo image c.args.id c.min-near.result (page_count geo) = rw c.pages-pages.ensures.count at (sym c.in-None.is ∙ first.told tells) in
     let rest = rw (first.looks.same.geometry, first.looks.reads.bytes) at (c.marked_between-in-None.ensures.told (first.looks.reads.told tells)) in
     told_along _ _ _ rest (found_neither geo image c.args.id c.min-near.result (head_between geo image c.args.id 0 c.min-near.result) behind refl)

@@ -9,9 +9,9 @@ use Rattle.file_find.proofs.marks.survey.Goals as goal
 pub loop-page-init : goal.loop-page-init
 loop-page-init g c =
     let view = c.args.v.now in
-    let zeros : (k : ℕ) → page_count view.geometry ≤ k → k < page_count view.geometry + 4096 → slice_index c.clear.new.marks k ≡ 0 = rw c.pages.ensures at c.clear.ensures in
+    let zeros : (k : ℕ) → page_count view.geometry ≤ k → k < page_count view.geometry + 4096 → slice_index c.clear.new.marks k ≡ 0 = rw c.pages.ensures.count at c.clear.ensures in
     record {
-      pages = c.pages-page-end.ensures;
+      pages = c.pages-page-end.ensures.count;
       looks = looks_none view;
       built = refl;
       told = λ tells. surveyed_none view.geometry (g.N.NorState.bytes view.nor.now) c.clear.new.marks (none_set c.clear.new.marks (page_count view.geometry) zeros);
