@@ -12,7 +12,7 @@ use Rattle.page_layout.specs.Layout as layout
 use Rattle.page_layout.specs.Layout.{header_at}
 use Rattle.image_model.specs.Volume.{page_count}
 use Rattle.image_model.specs.Headers.{obj_id, span_of, names_index, size_of}
-use Rattle.image_model.specs.Live.{live_at, is_live, Live, own}
+use Rattle.image_model.specs.Live.{live_at, Live, own}
 use Rattle.image_model.specs.Places.{is_entry_page}
 use Rattle.image_model.specs.Files.{index_page, is_index, entry_number, data_of}
 use Rattle.image_model.specs.Tables.{Found, damaged_of, damages}
@@ -27,16 +27,11 @@ use Rattle.image_laws.proofs.Wants.{number-is, wanted_parts}
 use Rattle.vol_check.specs.Culls.{MayCull, Culls, Passes, is_doubled, is_doubled_as, HasNoDoubles, CullsDoubled, PassesDoubled}
 use Rattle.vol_check.specs.Works.{Work, culling, culling_doubled}
 use Rattle.vol_check.proofs.CullStep.{spares_by}
-use Rattle.vol_check.proofs.Resting.{own_self, headed_page, headless_page}
+use Rattle.vol_check.proofs.Resting.{own_self, headed_page, headless_page, lookup_dead}
 use Rattle.vol_check.proofs.Working.{Goes}
 use Rattle.vol_check.proofs.Passing.{culls_nothing, passes_none, passes_next}
 
 -- ---- what the header of a page tells
-
--- a lookup page isn't live
-lookup_dead : (g : Geometry) (a : List ℕ) (p : ℕ) → is_entry_page g p ≡ false → live_at g a p ≡ None
-unfolding live_at is_live
-lookup_dead g a p e = rw e refl
 
 pub dead_single : (g : Geometry) (a : List ℕ) (p : ℕ) → live_at g a p ≡ None → is_doubled g a p ≡ false
 unfolding is_doubled

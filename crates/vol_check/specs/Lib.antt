@@ -2,4 +2,5 @@ pub mod Stage
 pub mod Culls
 pub mod MadeFresh
 pub mod Checks
+pub mod Needed
 pub mod Works

@@ -18,6 +18,7 @@ use Rattle.vol_check.specs.declared.checking.Culled.{Culled}
 use Rattle.vol_check.specs.declared.report.Report.{Report}
 use Rattle.vol_check.specs.Stage.{IsClean, CleansEntry, CleansEntries}
 use Rattle.vol_check.specs.Culls.{MayCull, Culls, is_doubled, HasNoDoubles, IsSettled, is_unwanted, IsServed, CullsDoubled, CullsHead, CullsRest, PassesDoubled, PassesDamaged, PassesRest, CullsPages}
+use Rattle.vol_check.specs.Needed.{TellsUnwanted}
 use Rattle.vol_check.specs.MadeFresh.{HasAllMagics, MadeFresh}
 use Rattle.vol_check.specs.Checks.{Checked}
 
@@ -75,8 +76,8 @@ culling_head id p marks later = record { needs = λ g was. IsHead g was id p mar
 abbrev pub culling_damaged : Work ℕ
 culling_damaged = record { needs = λ g was. HasNoDoubles g was; done = λ g was now killed. PassesDamaged g killed was now; idle = λ g was. damaged_of g was ≡ [] }
 
-abbrev pub culling_unwanted : ℕ → Work Bool
-culling_unwanted p = record { needs = λ g was. IsSettled g was; done = λ g was now killed. CullsRest g p killed was now; idle = λ g was. is_unwanted g was p ≡ false }
+abbrev pub culling_unmarked : ℕ → ℕ → Work Bool
+culling_unmarked p mark = record { needs = λ g was. IsSettled g was × TellsUnwanted g was p mark; done = λ g was now killed. CullsRest g p killed was now; idle = λ g was. is_unwanted g was p ≡ false }
 
 abbrev pub culling_rest : Work ℕ
 culling_rest = record { needs = λ g was. IsSettled g was; done = λ g was now killed. PassesRest g killed was now; idle = λ g was. IsServed g was }

@@ -36,7 +36,7 @@ fn cull_pages<N: Nor>(v: &mut View<'_, N>, marks: &mut [u8]) -> Result<Culled, F
 {
     let doubled = cull_doubles(v)?;
     let damaged = cull_damaged(v, marks)?;
-    let rest = cull_rest(v)?;
+    let rest = cull_rest(v, marks)?;
     Ok(Culled {
         pages: doubled + damaged + rest,
         damaged,
