@@ -11,5 +11,6 @@ pub mod Resting
 pub mod MarkSteps
 pub mod WantedPages
 pub mod Doubles
+pub mod Noting
 pub mod Composing
 pub mod Freshening

@@ -5,7 +5,7 @@ use Rattle.std.specs.Option.{option_map}
 use Rattle.std.specs.List.{range_with_len, list_any}
 use Rattle.std.proofs.lemmas.Bool.{cases_Bool, cases_eq, cases_lt, le-ltb, not-true, not-false, eq-eqb, eqb-true, and_parts, or_cases, false_from_ne_true, true_from_ne_false}
 use Rattle.std.proofs.Math.Bool.{and-false}
-use Rattle.std.proofs.lemmas.Option.{none-some, same_Some}
+use Rattle.std.proofs.lemmas.Option.{none-some, same_Some, cond_some}
 use Rattle.geometry.specs.declared.geometry.Geometry.{Geometry}
 use Rattle.table_model.specs.Table.{File}
 use Rattle.table_model.specs.Room.{data_pages, index_pages}
@@ -29,6 +29,7 @@ use Rattle.image_laws.proofs.Wanted.{unwanted-idle}
 use Rattle.image_laws.proofs.Wants.{number-is, wanted_from}
 use Rattle.image_laws.proofs.Unwanted.{wanted-as_before}
 use Rattle.image_laws.proofs.Headless.{headless-is_idle, uncounted-wanted}
+use Rattle.flash_view.specs.Found.{headed}
 use Rattle.vol_check.specs.Culls.{Spares, is_doubled, is_doubled_as, HasNoDoubles, IsSettled, is_unwanted, IsServed, Culls, CullsRest, Passes, PassesRest}
 use Rattle.vol_check.specs.Needed.{TellsUnwanted}
 use Rattle.vol_check.specs.Works.{Work, culling, culling_unmarked}
@@ -116,6 +117,13 @@ head_of g pages h at = let w = index_parts (pages h) 0 (index_passes g pages 0 h
 pub headed_page : (o : Option (List ℕ)) (head : PageHeader) → Some head ≡ option_map header_at o → (page : List ℕ) × (o ≡ Some page) × (head ≡ header_at page)
 headed_page None head e = absurd (cc)
 headed_page (Some page) head e = (page, refl, cc)
+
+pub headed_at : (o : Option (List ℕ)) (id : ℕ) → headed o ≡ Some id → (head : List ℕ) × (o ≡ Some head) × (names_index head ≡ true) × (span_of head ≡ 0) × (obj_id head % 0x8000 ≡ id)
+headed_at None id e = absurd (none-some id e)
+headed_at (Some head) id e =
+    let w = cond_some (is_index (Some head) 0) (obj_id head % 0x8000) id e in
+    let v = and_parts _ _ w.0 in
+    (head, refl, v.0, eqb-true (span_of head) 0 v.1, w.1)
 
 pub headless_page : (o : Option (List ℕ)) → None ≡ option_map header_at o → o ≡ None
 headless_page None e = refl

@@ -31,7 +31,7 @@ use Rattle.file_find.proofs.Nearest.{header_parts}
 use Rattle.file_find.proofs.Spans.{below_ceil, ceil_enough, slots_some}
 use Rattle.vol_check.specs.Culls.{IsSettled, is_unwanted}
 use Rattle.vol_check.specs.Needed.{AddsMarks, IsNamed, OfHead, OfFurther, OfFirst, OfFile, OfHeaded, HasFurthers, TellsUnwanted}
-use Rattle.vol_check.proofs.Resting.{headed_counted, index_parts, quiet_at, served_parts, single_index}
+use Rattle.vol_check.proofs.Resting.{headed_at, headed_counted, index_parts, quiet_at, served_parts, single_index}
 
 -- ---- where the entry of a span stands
 
@@ -119,10 +119,6 @@ module _ (g : Geometry) (pages : Live) (head : List ℕ) where
 
 -- ---- the file of a header page
 
-headed_at : (o : Option (List ℕ)) (id : ℕ) → headed o ≡ Some id → (head : List ℕ) × (o ≡ Some head) × (is_index (Some head) 0 ≡ true) × (obj_id head % 0x8000 ≡ id)
-headed_at None id e = absurd (none-some id e)
-headed_at (Some head) id e = let w = cond_some (is_index (Some head) 0) (obj_id head % 0x8000) id e in (head, refl, w.0, w.1)
-
 whole_by : (has : Found) (m id q : ℕ) (r : Result File Damage) → damage has m id (Some (q, r)) ≡ None → (f : File) × (r ≡ Ok f)
 whole_by has m id q (Err e) quiet = absurd (none-some _ (sym quiet))
 whole_by has m id q (Ok f) quiet = (f, refl)
@@ -131,9 +127,7 @@ module _ (g : Geometry) (image : List ℕ) (settled : IsSettled g image) (id h :
   first : index_page g (own (live_at g image) id) 0 ≡ Some h
   first =
       let w = headed_at (live_at g image h) id heads in
-      let v = and_parts _ _ w.2 in
-      let span : span_of w.0 ≡ 0 = eqb-true _ 0 v.1 in
-      rw (w.3, span) at (single_index g image h w.0 (settled.single h) w.1 v.0)
+      rw (w.4, w.3) at (single_index g image h w.0 (settled.single h) w.1 w.2)
 
   -- it is whole
   pub is_whole : first_missing g (own (live_at g image) id) (page_of g image h) ≡ None

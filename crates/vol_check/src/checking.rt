@@ -34,7 +34,7 @@ fn cull_pages<N: Nor>(v: &mut View<'_, N>, marks: &mut [u8]) -> Result<Culled, F
     ensures most { IfOk result (λ culled. culled.pages ≤ 196605) }
     ensures work { Worked v.old v.new result culling_pages }
 {
-    let doubled = cull_doubles(v)?;
+    let doubled = cull_doubles(v, marks)?;
     let damaged = cull_damaged(v, marks)?;
     let rest = cull_rest(v, marks)?;
     Ok(Culled {

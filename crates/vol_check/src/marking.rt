@@ -37,12 +37,12 @@ fn further_pages(g: &Geometry, spans: u32) -> u32
     (spans.saturating_sub(g.head_slots()) + slots - 1) / slots
 }
 
-// Takes the marks of so many pages away.
-fn clear(marks: &mut [u8], pages: usize)
-    requires { pages ≤ length marks.old }
-    ensures { (p : ℕ) → p < pages → slice_index marks.new p ≡ 0 }
+/// Sets so many bytes to 0.
+pub(crate) fn clear(bytes: &mut [u8], count: usize)
+    requires { count ≤ length bytes.old }
+    ensures { (k : ℕ) → k < count → slice_index bytes.new k ≡ 0 }
 {
-    marks[..pages].fill(0);
+    bytes[..count].fill(0);
 }
 
 // Marks a page, where it is one of so many pages.
