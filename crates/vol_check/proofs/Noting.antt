@@ -1,27 +1,25 @@
 -- Header pages that are told doubled by the ids noted before them.
-use Rattle.std.proofs.Common.{◌≡◌, ◌≢◌, ℕ, ◌+◌, ◌/◌, ◌%◌, ◌<◌, ◌≤◌, List, length, length-set, Bool, true, false, not, ◌==◌, ◌*◌, ◌^◌, slice_index, slice_set, Option, Some, None, ap, refl, sym, ◌∙◌, arith, ⊎_elim, subst, cond}
+use Rattle.std.proofs.Common.{◌≡◌, ◌≢◌, ℕ, ◌+◌, ◌/◌, ◌%◌, ◌<◌, ◌≤◌, List, length, length-set, Bool, true, false, ◌==◌, ◌*◌, ◌^◌, slice_index, slice_set, Option, Some, None, ap, refl, sym, ◌∙◌, arith, ⊎_elim, subst, cond}
 use Rattle.std.specs.Prelude.{is_some, bit_or, bit_and}
 use Rattle.std.specs.Option.{option_map}
-use Rattle.std.proofs.lemmas.Bool.{cases_eq, cases_lt, cases_Bool, eq-eqb, eqb-true, ne_eqb, and_parts, and_from}
-use Rattle.std.proofs.lemmas.Option.{none-some, same_Some, cond_some}
+use Rattle.std.proofs.lemmas.Bool.{cases_eq, cases_lt, cases_Bool, eq-eqb, eqb-true, ne_eqb}
+use Rattle.std.proofs.lemmas.Option.{none-some, same_Some}
 use Rattle.geometry.specs.declared.geometry.Geometry.{Geometry}
 use Rattle.page_layout.specs.declared.header.PageHeader.{PageHeader}
 use Rattle.page_layout.specs.Layout as layout
 use Rattle.page_layout.specs.Layout.{header_at}
-use Rattle.image_model.specs.Volume.{page_count, per_block}
+use Rattle.image_model.specs.Volume.{page_count}
 use Rattle.image_model.specs.Live.{live_at, own}
 use Rattle.image_model.specs.Headers.{names_index, span_of}
 use Rattle.image_model.specs.Files.{is_index, index_page}
 use Rattle.image_model.specs.Tidy.{is_number}
-use Rattle.image_laws.proofs.Wanted.{number-other}
-use Rattle.image_laws.specs.Changes.{Loses}
 use Rattle.flash_view.specs.Found.{headed, has_header}
 use Rattle.flash_view.proofs.Least.{heads}
 use Rattle.file_find.proofs.Marking.{find_parts}
 use Rattle.file_find.proofs.Nearest.{header_parts}
 use Rattle.free_search.specs.Ids.{bit_of}
 use Rattle.free_search.proofs.Bits.{test_bit, set_here, set_other}
-use Rattle.vol_check.specs.Culls.{is_doubled, Culls, CullsDoubled}
+use Rattle.vol_check.specs.Culls.{is_doubled, Culls}
 use Rattle.vol_check.specs.Noted.{Notes, NotesId, TellsDoubled}
 use Rattle.vol_check.specs.Works.{TurnsDoubled}
 use Rattle.vol_check.proofs.Resting.{headed_at, headed_page, own_self}
@@ -71,12 +69,15 @@ pub noted_by : (bits : List ℕ) (i n id : ℕ) → n ≡ id → i ≡ n / 8 →
     ((bit_and (slice_index bits i / 2 ^ (n % 8)) 1 == 1) ≡ (bit_of bits id == 1)) × NotesId id bits (slice_set bits i (bit_or (slice_index bits i) (1 * 2 ^ (n % 8) % 256)))
 noted_by bits i n id same at low =
     let place : n / 8 < length bits = omega (arith, at, low) in
-    rw (sym same) (ap (λ (x : ℕ). x == 1) (test_bit bits i n at), record {
-      place = place;
-      len = length-set bits i (bit_or (slice_index bits i) (1 * 2 ^ (n % 8) % 256));
-      noted = set_here bits i n at place;
-      others = λ k other. set_other bits i n k at place other;
-    })
+    rw (sym same) (
+      ap (λ (x : ℕ). x == 1) (test_bit bits i n at),
+      record {
+        place = place;
+        len = length-set bits i (bit_or (slice_index bits i) (1 * 2 ^ (n % 8) % 256));
+        noted = set_here bits i n at place;
+        others = λ k other. set_other bits i n k at place other;
+      },
+    )
 
 -- ---- notes go on page by page
 
@@ -108,6 +109,7 @@ module _ (g : Geometry) (a : List ℕ) (p : ℕ) (bits : List ℕ) (notes : Note
           let mine : head.id % 0x8000 ≡ id = ap (λ (y : PageHeader). y.id % 0x8000) w.2 ∙ subst (λ (y : List ℕ). (header_at y).id % 0x8000 ≡ id) same x.4 in
           let past : length bits ≤ id / 8 = rw mine at (none span) in
           omega (arith, place, past)
+
       by : (b : Bool) → Notes g a (cond b p (p + 1)) bits
       by true = notes
       by false = notes_pass unnoted

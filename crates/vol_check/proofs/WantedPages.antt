@@ -1,10 +1,10 @@
 -- The pages of the files are the wanted ones, where no page is doubled and nothing is damaged.
 use Rattle.std.proofs.Common.{◌≡◌, ℕ, zero, suc, ◌+◌, ◌-◌, ◌*◌, ◌/◌, ◌%◌, ◌<◌, ◌≤◌, List, true, false, ◌&&◌, min, Option, Some, None, Result, Ok, Err, ap, refl, sym, ◌∙◌, arith, ⊎_elim, inl, inr, subst, slice_index}
 use Rattle.std.specs.Prelude.{is_none, is_some, option_and_then}
-use Rattle.std.proofs.lemmas.Bool.{cases_Bool, cases_lt, lt-ltb, le-ltb, eq-eqb, eqb-true, and_parts, and_from, or_left, or_right}
+use Rattle.std.proofs.lemmas.Bool.{cases_Bool, cases_lt, lt-ltb, le-ltb, eq-eqb, and_from, or_left, or_right}
 use Rattle.std.proofs.lemmas.Nat.{div-mul-add, mod-mul-add}
 use Rattle.std.proofs.Math.Nat.{div-add-mod}
-use Rattle.std.proofs.lemmas.Option.{none-some, same_Some, cond_some}
+use Rattle.std.proofs.lemmas.Option.{none-some, same_Some}
 use Rattle.geometry.specs.declared.geometry.Geometry.{Geometry}
 use Rattle.geometry.specs.Numbers.{head_slots, span_slots, ceil}
 use Rattle.nor_core.specs.Flash.{word_at}
@@ -13,9 +13,9 @@ use Rattle.table_model.specs.Room.{data_pages, index_pages}
 use Rattle.image_model.specs.declared.damage.Damage.{Damage}
 use Rattle.image_model.specs.Volume.{page_count}
 use Rattle.image_model.specs.Places.{page_of}
-use Rattle.image_model.specs.Headers.{obj_id, span_of, size_of}
+use Rattle.image_model.specs.Headers.{obj_id, size_of}
 use Rattle.image_model.specs.Live.{Live, live_at, own}
-use Rattle.image_model.specs.Files.{is_index, index_page, further, entry_number, data_of, data_page, first_missing, judged}
+use Rattle.image_model.specs.Files.{index_page, further, entry_number, data_of, data_page, first_missing, judged}
 use Rattle.image_model.specs.Tables.{Found, has_of, damage, damaged_of}
 use Rattle.image_model.specs.Tidy.{is_number, serves, is_wanted}
 use Rattle.image_laws.proofs.Append.{find-all}

@@ -1,5 +1,4 @@
-use Rattle.std.proofs.Common.{◌≡◌, true, false, sym, ◌∙◌}
-use Rattle.vol_check.specs.Noted.{TellsDoubled}
+use Rattle.std.proofs.Common.{sym, ◌∙◌}
 use Rattle.vol_check.proofs.Doubles.{may_be_culled}
 use Rattle.vol_check.proofs.Noting.{turns_double, turns_nothing}
 use Rattle.vol_check.proofs.Working.{look_works, look_stops, works_on, works_as, stops}
