@@ -12,7 +12,7 @@ use Rattle.page_layout.specs.Layout as layout
 use Rattle.page_layout.specs.Layout.{header_at}
 use Rattle.geometry.specs.Numbers.{page_count}
 use Rattle.image_model.specs.Headers.{obj_id, span_of, names_index, size_of}
-use Rattle.image_model.specs.Live.{live_at, is_live, Live, own}
+use Rattle.image_model.specs.Live.{live_at, Live, own}
 use Rattle.image_model.specs.Places.{is_entry_page}
 use Rattle.image_model.specs.Files.{index_page, is_index, entry_number, data_of}
 use Rattle.image_model.specs.Tables.{Found, damaged_of, damages}
@@ -25,18 +25,15 @@ use Rattle.image_laws.proofs.Kill.{own-loses, own-loses_other, index-loses}
 use Rattle.image_laws.proofs.Wanted.{number-other}
 use Rattle.image_laws.proofs.Wants.{number-is, wanted_parts}
 use Rattle.vol_check.specs.Culls.{MayCull, Culls, Passes, is_doubled, is_doubled_as, HasNoDoubles, CullsDoubled, PassesDoubled}
-use Rattle.vol_check.specs.Works.{Work, culling, culling_doubled}
+use Rattle.flash_view.specs.Found.{headed}
+use Rattle.vol_check.specs.Noted.{Notes}
+use Rattle.vol_check.specs.Works.{Work, TurnsDoubled, culling, culling_doubled}
 use Rattle.vol_check.proofs.CullStep.{spares_by}
-use Rattle.vol_check.proofs.Resting.{own_self, headed_page, headless_page}
+use Rattle.vol_check.proofs.Resting.{own_self, headed_page, headless_page, lookup_dead}
 use Rattle.vol_check.proofs.Working.{Goes}
 use Rattle.vol_check.proofs.Passing.{culls_nothing, passes_none, passes_next}
 
 -- ---- what the header of a page tells
-
--- a lookup page isn't live
-lookup_dead : (g : Geometry) (a : List ℕ) (p : ℕ) → is_entry_page g p ≡ false → live_at g a p ≡ None
-unfolding live_at is_live
-lookup_dead g a p e = rw e refl
 
 pub dead_single : (g : Geometry) (a : List ℕ) (p : ℕ) → live_at g a p ≡ None → is_doubled g a p ≡ false
 unfolding is_doubled
@@ -55,18 +52,35 @@ data_single g a p head e kind =
     let holds : names_index w.0 ≡ false = rw w.2 at kind in
     rw (w.1, holds) refl
 
+-- a page that isn't a live index page is no header page
+pub dead_headless : (g : Geometry) (a : List ℕ) (p : ℕ) → live_at g a p ≡ None → headed (live_at g a p) ≡ None
+dead_headless g a p none = rw none refl
+
+pub data_headless : (g : Geometry) (a : List ℕ) (p : ℕ) (head : PageHeader) → Some head ≡ option_map header_at (live_at g a p) → layout.names_index head ≡ false → headed (live_at g a p) ≡ None
+data_headless g a p head e kind =
+    let w = headed_page (live_at g a p) head e in
+    let holds : names_index w.0 ≡ false = rw w.2 at kind in
+    rw (w.1, holds) refl
+
 other_number : (o : Option ℕ) (p : ℕ) → option_eq (λ (x y : ℕ). x == y) o (Some p) ≡ is_number o p
 other_number None p = refl
 other_number (Some q) p = refl
 
-pub index_told : (g : Geometry) (a : List ℕ) (p : ℕ) (head : PageHeader) (first : Option ℕ) → Some head ≡ option_map header_at (live_at g a p) → layout.names_index head ≡ true →
-    first ≡ index_page g (own (live_at g a) (head.id % 0x8000)) head.span → not (option_eq (λ (x y : ℕ). x == y) first (Some p)) ≡ is_doubled g a p
+doubled_page : (g : Geometry) (a page : List ℕ) (p : ℕ) (head : PageHeader) → live_at g a p ≡ Some page → names_index page ≡ true → head ≡ header_at page →
+    is_doubled g a p ≡ not (is_number (index_page g (own (live_at g a) (head.id % 0x8000)) head.span) p)
 unfolding is_doubled
-index_told g a p head first e index is =
+doubled_page g a page p head live kind same = rw (live, kind, same) refl
+
+pub doubled_is : (g : Geometry) (a : List ℕ) (p : ℕ) (head : PageHeader) → Some head ≡ option_map header_at (live_at g a p) → layout.names_index head ≡ true →
+    is_doubled g a p ≡ not (is_number (index_page g (own (live_at g a) (head.id % 0x8000)) head.span) p)
+doubled_is g a p head e index =
     let w = headed_page (live_at g a p) head e in
     let kind : names_index w.0 ≡ true = rw w.2 at index in
-    let at : first ≡ index_page g (own (live_at g a) (obj_id w.0 % 0x8000)) (span_of w.0) = rw w.2 at is in
-    rw (w.1, kind) (ap (λ (x : Bool). not x) (other_number first p ∙ ap (λ (x : Option ℕ). is_number x p) at))
+    doubled_page g a w.0 p head w.1 kind w.2
+
+pub index_told : (g : Geometry) (a : List ℕ) (p : ℕ) (head : PageHeader) (first : Option ℕ) → Some head ≡ option_map header_at (live_at g a p) → layout.names_index head ≡ true →
+    first ≡ index_page g (own (live_at g a) (head.id % 0x8000)) head.span → not (option_eq (λ (x y : ℕ). x == y) first (Some p)) ≡ is_doubled g a p
+index_told g a p head first e index is = ap (λ (x : Bool). not x) (other_number first p ∙ ap (λ (x : Option ℕ). is_number x p) is) ∙ sym (doubled_is g a p head e index)
 
 -- ---- a doubled page by its parts
 
@@ -134,8 +148,8 @@ may_cull g a p doubled =
       spares = λ b change. spares_by g a b p (doubled-has g p d.page (live_at g a) (live_at g b) d.live_is change d.index d.later) (doubled-wanted g p d.page (live_at g a) (live_at g b) d.live_is change d.index d.later);
     }
 
-pub may_be_culled : (g : Geometry) (a : List ℕ) (p : ℕ) → is_doubled g a p ≡ true → Goes g a a (culling p) (culling_doubled p)
-may_be_culled g a p doubled = record { needs = may_cull g a p doubled; idle = λ quiet. let bad : true ≡ false = sym doubled ∙ quiet in absurd (cc) }
+pub may_be_culled : (g : Geometry) (a : List ℕ) (p : ℕ) (bits later : List ℕ) → is_doubled g a p ≡ true → Goes g a a (culling p) (culling_doubled p bits later)
+may_be_culled g a p bits later doubled = record { needs = may_cull g a p doubled; idle = λ quiet. let bad : true ≡ false = sym doubled ∙ quiet in absurd (cc) }
 
 -- ---- after its kill
 
@@ -176,35 +190,39 @@ culls_double g a b p doubled c =
 pub doubles_nothing : (g : Geometry) (a : List ℕ) (p : ℕ) → is_doubled g a p ≡ false → CullsDoubled g p false a a
 doubles_nothing g a p single = record { culls = culls_nothing g a p; single = single; others = λ q there. refl; damaged = refl }
 
--- ---- p pages on, with n of them killed
+-- ---- p pages on, with n of them killed and the ids of their header pages noted
 
-pub record Doubling (g : Geometry) (first now : List ℕ) (p n : ℕ) : Type 0 where
+pub record Doubling (g : Geometry) (first now bits : List ℕ) (p n : ℕ) : Type 0 where
   pub passes : Passes g n first now
   pub single : (q : ℕ) → q < p → is_doubled g now q ≡ false
   pub damaged : damaged_of g now ≡ damaged_of g first
+  pub noted : Notes g now p bits
 
-abbrev pub doubling_to : ℕ → Work ℕ
-doubling_to p = record { needs = λ g was. Unit {0}; done = λ g was now n. Doubling g was now p n; idle = λ g was. HasNoDoubles g was }
+abbrev pub doubling_to : ℕ → List ℕ → Work ℕ
+doubling_to p bits = record { needs = λ g was. Unit {0}; done = λ g was now n. Doubling g was now bits p n; idle = λ g was. HasNoDoubles g was }
 
-pub doubling_start : (g : Geometry) (a : List ℕ) → Doubling g a a 0 0
-doubling_start g a = record { passes = passes_none g a; single = λ q low. absurd (omega arith); damaged = refl }
+pub doubling_start : (g : Geometry) (a bits : List ℕ) → Notes g a 0 bits → Doubling g a a bits 0 0
+doubling_start g a bits noted = record { passes = passes_none g a; single = λ q low. absurd (omega arith); damaged = refl; noted = noted }
 
-pub doubling_next : (g : Geometry) (first a b : List ℕ) (p n m : ℕ) (killed : Bool) → Doubling g first a p n → CullsDoubled g p killed a b → m ≡ n + cond killed 1 0 → Doubling g first b (p + 1) m
-doubling_next g first a b p n m killed s t e = record {
-  passes = passes_next g first a b p n m killed s.passes t.culls e;
-  single = λ q low. ⊎_elim
-      (λ (here : q ≡ p). rw here t.single)
-      (λ (there : q ≡ p → ⊥). t.others q there ∙ s.single q (omega (arith, there)))
-      (cases_eq q p);
-  damaged = t.damaged ∙ s.damaged;
-}
+pub doubling_next : (g : Geometry) (first a b bits later : List ℕ) (p n m : ℕ) (killed : Bool) → Doubling g first a bits p n → TurnsDoubled g p later killed a b → m ≡ n + cond killed 1 0 → Doubling g first b later (p + 1) m
+doubling_next g first a b bits later p n m killed s turn e =
+    let t = turn.culls in
+    record {
+      passes = passes_next g first a b p n m killed s.passes t.culls e;
+      single = λ q low. ⊎_elim
+          (λ (here : q ≡ p). rw here t.single)
+          (λ (there : q ≡ p → ⊥). t.others q there ∙ s.single q (omega (arith, there)))
+          (cases_eq q p);
+      damaged = t.damaged ∙ s.damaged;
+      noted = turn.noted;
+    }
 
 outside_single : (g : Geometry) (a : List ℕ) (q : ℕ) → page_count g ≤ q → is_doubled g a q ≡ false
 unfolding is_entry_page
 outside_single g a q high = lookup_single g a q (rw (le-ltb q (page_count g) high) refl)
 
-pub doubling_end : (g : Geometry) (first a : List ℕ) (p n : ℕ) → page_count g ≤ p → Doubling g first a p n → PassesDoubled g n first a
-doubling_end g first a p n all s = record {
+pub doubling_end : (g : Geometry) (first a bits : List ℕ) (p n : ℕ) → page_count g ≤ p → Doubling g first a bits p n → PassesDoubled g n first a
+doubling_end g first a bits p n all s = record {
   passes = s.passes;
   single = λ q. ⊎_elim (λ (low : q < p). s.single q low) (λ (high : p ≤ q). outside_single g a q (omega (arith, all, high))) (cases_lt q p);
   damaged = s.damaged;

@@ -4,7 +4,7 @@ use Rattle.std.proofs.Math.Path.{fun_ext}
 use Rattle.std.specs.Prelude.{find, unwrap_or}
 use Rattle.std.specs.Option.{option_map}
 use Rattle.std.specs.List.{range_with_len, filter_map, cons_option}
-use Rattle.std.proofs.lemmas.Bool.{cases_eq, cases_Bool, and_parts, eqb-true, ne_eqb}
+use Rattle.std.proofs.lemmas.Bool.{cases_eq, cases_Bool, ne_eqb}
 use Rattle.std.proofs.lemmas.List.{get_or-set_same, get_or-set_other}
 use Rattle.std.proofs.lemmas.Option.{none-some, same_Some}
 use Rattle.geometry.specs.declared.geometry.Geometry.{Geometry}
@@ -13,7 +13,7 @@ use Rattle.image_model.specs.declared.damage.Damage.{Damage}
 use Rattle.image_model.specs.declared.damage.Damage.TheVariants.{SameName}
 use Rattle.geometry.specs.Numbers.{page_count, per_block}
 use Rattle.image_model.specs.Places.{page_of, is_entry_page}
-use Rattle.image_model.specs.Headers.{obj_id, span_of, names_index}
+use Rattle.image_model.specs.Headers.{obj_id}
 use Rattle.image_model.specs.Live.{Live, live_at, own}
 use Rattle.image_model.specs.Files.{is_index, index_page, found, judged}
 use Rattle.image_model.specs.Tables.{Found, has_of, counts, counted, is_named, holder, damage, damages, table_of, damaged_of, ids}
@@ -35,7 +35,7 @@ use Rattle.vol_check.specs.Culls.{MayCull, HasNoDoubles, Culls}
 use Rattle.vol_check.specs.Works.{IsHead, TurnsHead, culling, culling_head}
 use Rattle.vol_check.proofs.Working.{Goes}
 use Rattle.vol_check.proofs.Passing.{culls_nothing}
-use Rattle.vol_check.proofs.Resting.{quiet_at, single_index, single_loses}
+use Rattle.vol_check.proofs.Resting.{index_parts, quiet_at, single_index, single_loses}
 
 -- ---- a list that goes by numbers
 
@@ -125,10 +125,6 @@ module _ (has now : Found) (n id p : ℕ) (r : Result File Damage) (was : has id
       one_less (λ (j : ℕ). damage has n j (has j)) (λ (j : ℕ). damage now n j (now j)) id 1 n d low (omega arith) is damage_gone damage_other
 
 -- ---- index pages where none is doubled
-
-index_parts : (o : Option (List ℕ)) (span : ℕ) → is_index o span ≡ true → (page : List ℕ) × (o ≡ Some page) × (names_index page ≡ true) × (span_of page ≡ span)
-index_parts None span h = absurd (cc)
-index_parts (Some page) span h = let w = and_parts _ _ h in (page, refl, w.0, eqb-true (span_of page) span w.1)
 
 -- an id has one header page
 pub one_header : (g : Geometry) (image : List ℕ) (id p q : ℕ) → HasNoDoubles g image → index_page g (own (live_at g image) id) 0 ≡ Some p → is_index (own (live_at g image) id q) 0 ≡ true → q ≡ p

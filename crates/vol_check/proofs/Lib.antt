@@ -8,6 +8,9 @@ pub mod Passing
 pub mod CullStep
 pub mod Mixing
 pub mod Resting
+pub mod MarkSteps
+pub mod WantedPages
 pub mod Doubles
+pub mod Noting
 pub mod Composing
 pub mod Freshening

@@ -1,9 +1,9 @@
 -- Pages that no file of the table needs, where no page is doubled and nothing is damaged.
-use Rattle.std.proofs.Common.{◌≡◌, ◌≢◌, ℕ, ◌+◌, ◌%◌, ◌<◌, ◌≤◌, List, [], Bool, true, false, not, ◌&&◌, Option, Some, None, Result, Ok, Err, ap, refl, sym, ◌∙◌, arith, ⊎_elim, inl, inr, subst, ◌⊎◌, cond, if◌then◌else◌}
-use Rattle.std.specs.Prelude.{nat_lt, is_some, option_and_then}
+use Rattle.std.proofs.Common.{◌≡◌, ◌≢◌, ℕ, ◌+◌, ◌%◌, ◌<◌, ◌≤◌, List, [], Bool, true, false, not, ◌&&◌, ◌==◌, slice_index, Option, Some, None, Result, Ok, Err, ap, refl, sym, ◌∙◌, arith, ⊎_elim, inl, inr, ◌⊎◌, cond, if◌then◌else◌}
+use Rattle.std.specs.Prelude.{is_some}
 use Rattle.std.specs.Option.{option_map}
 use Rattle.std.specs.List.{range_with_len, list_any}
-use Rattle.std.proofs.lemmas.Bool.{true≢false, cases_Bool, cases_eq, cases_lt, lt-ltb, le-ltb, ltb-true, not-true, not-false, eq-eqb, eqb-true, and_parts, and_from, or_left, or_right, or_cases, false_from_ne_true, true_from_ne_false}
+use Rattle.std.proofs.lemmas.Bool.{cases_Bool, cases_eq, cases_lt, le-ltb, not-true, not-false, eq-eqb, eqb-true, and_parts, or_cases, false_from_ne_true, true_from_ne_false}
 use Rattle.std.proofs.Math.Bool.{and-false}
 use Rattle.std.proofs.lemmas.Option.{none-some, same_Some, cond_some}
 use Rattle.geometry.specs.declared.geometry.Geometry.{Geometry}
@@ -16,23 +16,23 @@ use Rattle.geometry.specs.Numbers.{page_count}
 use Rattle.image_model.specs.Places.{is_entry_page, page_of}
 use Rattle.image_model.specs.Headers.{obj_id, span_of, names_index, size_of}
 use Rattle.image_model.specs.Live.{Live, live_at, own, is_live}
-use Rattle.image_model.specs.Files.{is_index, index_page, entry_number, data_of, judged, found}
+use Rattle.image_model.specs.Files.{is_index, index_page, entry_number, data_of, judged}
 use Rattle.image_model.specs.Tables.{Found, has_of, counted, damage, damages, damaged_of}
 use Rattle.image_model.specs.Tidy.{is_number, serves, is_wanted, is_wanted_as}
 use Rattle.image_laws.specs.Changes.{Loses}
 use Rattle.image_laws.proofs.Records.{filter_map-nil, counts_from_quiet}
 use Rattle.image_laws.proofs.Judge.{found_from, found_none, index_passes}
-use Rattle.image_laws.proofs.Finish.{has_of-within, own-parts}
-use Rattle.image_laws.proofs.Damaged.{any_at, any_from, same_truth}
-use Rattle.image_laws.proofs.Frames.{live_parts}
+use Rattle.image_laws.proofs.Finish.{has_of-within}
+use Rattle.image_laws.proofs.Damaged.{any_at}
 use Rattle.image_laws.proofs.Kill.{index-loses, own-loses, has_of-loses}
 use Rattle.image_laws.proofs.Wanted.{unwanted-idle}
 use Rattle.image_laws.proofs.Wants.{number-is, wanted_from}
 use Rattle.image_laws.proofs.Unwanted.{wanted-as_before}
 use Rattle.image_laws.proofs.Headless.{headless-is_idle, uncounted-wanted}
-use Rattle.flash_view.specs.DataPages.{numbered, data_number, data_number_of}
-use Rattle.vol_check.specs.Culls.{Spares, is_doubled, is_doubled_as, HasNoDoubles, IsSettled, is_unwanted, IsServed, is_served_by, Culls, CullsRest, Passes, PassesRest}
-use Rattle.vol_check.specs.Works.{Work, culling, culling_unwanted}
+use Rattle.flash_view.specs.Found.{headed}
+use Rattle.vol_check.specs.Culls.{Spares, is_doubled, is_doubled_as, HasNoDoubles, IsSettled, is_unwanted, IsServed, Culls, CullsRest, Passes, PassesRest}
+use Rattle.vol_check.specs.Needed.{TellsUnwanted}
+use Rattle.vol_check.specs.Works.{Work, culling, culling_unmarked}
 use Rattle.vol_check.proofs.CullStep.{spares_by}
 use Rattle.vol_check.proofs.Working.{Goes}
 use Rattle.vol_check.proofs.Passing.{culls_nothing, passes_none, passes_next}
@@ -74,147 +74,79 @@ own_self live p page e = rw e (rw (eq-eqb (obj_id page % 0x8000) _ refl) refl)
 
 -- ---- what serves a file
 
-index_at : (o : Option (List ℕ)) (page : List ℕ) (span : ℕ) → o ≡ Some page → is_index o span ≡ true → (names_index page ≡ true) × (span_of page ≡ span)
-index_at None page span is e = absurd (none-some page is)
-index_at (Some x) page span is e = let w = and_parts _ _ e in let same : x ≡ page = same_Some x page is in (sym (ap names_index same) ∙ w.0, sym (ap span_of same) ∙ eqb-true _ span w.1)
+pub index_parts : (o : Option (List ℕ)) (span : ℕ) → is_index o span ≡ true → (page : List ℕ) × (o ≡ Some page) × (names_index page ≡ true) × (span_of page ≡ span)
+index_parts None span h = absurd (cc)
+index_parts (Some page) span h = let w = and_parts _ _ h in (page, refl, w.0, eqb-true (span_of page) span w.1)
 
-some_if : (page : List ℕ) (b : Bool) → is_some (if b then Some page else None) ≡ true → b ≡ true
-some_if page true e = refl
-some_if page false e = e
-
-data_at : (o : Option (List ℕ)) (page : List ℕ) (span : ℕ) → o ≡ Some page → is_some (data_of o span) ≡ true → (names_index page ≡ false) × (span_of page ≡ span)
-data_at None page span is e = absurd (none-some page is)
-data_at (Some x) page span is e =
-    let w = and_parts _ _ (some_if x _ e) in
-    let same : x ≡ page = same_Some x page is in
-    (sym (ap names_index same) ∙ not-true (names_index x) w.0, sym (ap span_of same) ∙ eqb-true _ span w.1)
-
--- an index page that serves is the one of its span, and that is below the file's number of them
-pub served_index : (g : Geometry) (pages : Live) (head page : List ℕ) (p : ℕ) → pages p ≡ Some page → names_index page ≡ true → serves g pages head p ≡ true →
-    (index_page g pages (span_of page) ≡ Some p) × (span_of page < index_pages g (size_of head))
+-- a page that serves a file is one of its index pages, or is named by an index entry
+pub served_parts : (g : Geometry) (pages : Live) (head : List ℕ) (p : ℕ) → serves g pages head p ≡ true →
+    ((j : ℕ) × (j < index_pages g (size_of head)) × (index_page g pages j ≡ Some p)) ⊎ ((s : ℕ) × (s < data_pages g (size_of head)) × (entry_number g pages head s ≡ Some p) × (is_some (data_of (pages p) s) ≡ true))
 unfolding serves
-served_index g pages head page p is index e =
+served_parts g pages head p e =
     ⊎_elim
     (λ (some : list_any (λ (j : ℕ). is_number (index_page g pages j) p) (range_with_len 0 (index_pages g (size_of head))) ≡ true).
     let w = any_at (λ (j : ℕ). is_number (index_page g pages j) p) 0 (index_pages g (size_of head)) some in
-    let found : index_page g pages w.0 ≡ Some p = number-is _ p w.3 in
-    let at : span_of page ≡ w.0 = (index_at (pages p) page w.0 is (index_passes g pages w.0 p found)).1 in
-    (rw at found, omega (arith, at, w.2)))
-    (λ (some : list_any (λ (span : ℕ). is_number (entry_number g pages head span) p && is_some (data_of (pages p) span)) (range_with_len 0 (data_pages g (size_of head))) ≡ true).
-    let w = any_at (λ (span : ℕ). is_number (entry_number g pages head span) p && is_some (data_of (pages p) span)) 0 (data_pages g (size_of head)) some in
-    let other : names_index page ≡ false = (data_at (pages p) page w.0 is (and_parts _ _ w.3).1).0 in
-    absurd (true≢false (sym index ∙ other)))
-    (or_cases _ _ e)
-
--- an index page of the id, by its span alone
-index_serves : (g : Geometry) (pages : Live) (head page : List ℕ) (p : ℕ) → pages p ≡ Some page → names_index page ≡ true → index_page g pages (span_of page) ≡ Some p →
-    serves g pages head p ≡ nat_lt (span_of page) (index_pages g (size_of head))
-unfolding serves
-index_serves g pages head page p is index single =
-    same_truth _ _
-    (λ e. lt-ltb (span_of page) (index_pages g (size_of head)) (served_index g pages head page p is index e).1)
-    (λ e. or_left _ _ (any_from (λ (j : ℕ). is_number (index_page g pages j) p) 0 (index_pages g (size_of head)) (span_of page) (omega arith) (omega (arith, ltb-true _ _ e)) (rw single (eq-eqb p p refl))))
-
-numbered_is : (pages : Live) (span p : ℕ) (o : Option ℕ) → option_and_then (numbered pages span) o ≡ Some p → (o ≡ Some p) × (is_some (data_of (pages p) span) ≡ true)
-numbered_is pages span p None e = absurd (none-some p e)
-numbered_is pages span p (Some q) e =
-    let w = cond_some (is_some (data_of (pages q) span)) q p e in
-    (ap (λ (x : ℕ). Some x) w.1, subst (λ (x : ℕ). is_some (data_of (pages x) span) ≡ true) w.1 w.0)
-
--- a data page of the id, by the index entry of its span
-data_serves : (g : Geometry) (pages : Live) (head page : List ℕ) (p : ℕ) → pages p ≡ Some page → names_index page ≡ false →
-    serves g pages head p ≡ (nat_lt (span_of page) (data_pages g (size_of head)) && is_number (data_number g pages head (span_of page)) p)
-unfolding serves data_number
-data_serves g pages head page p is other =
-    same_truth _ _
-    (λ e. ⊎_elim
-    (λ (some : list_any (λ (j : ℕ). is_number (index_page g pages j) p) (range_with_len 0 (index_pages g (size_of head))) ≡ true).
-    let w = any_at (λ (j : ℕ). is_number (index_page g pages j) p) 0 (index_pages g (size_of head)) some in
-    let index : names_index page ≡ true = (index_at (pages p) page w.0 is (index_passes g pages w.0 p (number-is _ p w.3))).0 in
-    absurd (cc))
+    inl (w.0, omega (arith, w.2), number-is _ p w.3))
     (λ (some : list_any (λ (span : ℕ). is_number (entry_number g pages head span) p && is_some (data_of (pages p) span)) (range_with_len 0 (data_pages g (size_of head))) ≡ true).
     let w = any_at (λ (span : ℕ). is_number (entry_number g pages head span) p && is_some (data_of (pages p) span)) 0 (data_pages g (size_of head)) some in
     let v = and_parts _ _ w.3 in
-    let named : entry_number g pages head w.0 ≡ Some p = number-is _ p v.0 in
-    let at : span_of page ≡ w.0 = (data_at (pages p) page w.0 is v.1).1 in
-    let number : is_number (option_and_then (numbered pages w.0) (entry_number g pages head w.0)) p ≡ true = rw named (rw v.1 (eq-eqb p p refl)) in
-    and_from _ _ (lt-ltb (span_of page) (data_pages g (size_of head)) (omega (arith, at, w.2))) (subst (λ (t : ℕ). is_number (option_and_then (numbered pages t) (entry_number g pages head t)) p ≡ true) (sym at) number))
-    (or_cases _ _ e))
-    (λ e. let v = and_parts _ _ e in
-    let low : span_of page < data_pages g (size_of head) = ltb-true _ _ v.0 in
-    let w = numbered_is pages (span_of page) p (entry_number g pages head (span_of page)) (number-is _ p v.1) in
-    or_right _ _ (any_from (λ (span : ℕ). is_number (entry_number g pages head span) p && is_some (data_of (pages p) span)) 0 (data_pages g (size_of head)) (span_of page) (omega arith) (omega arith)
-    (and_from _ _ (rw w.0 (eq-eqb p p refl)) w.1)))
+    inr (w.0, omega (arith, w.2), number-is _ p v.0, v.1))
+    (or_cases _ _ e)
 
--- ---- by what the device tells
+-- an index page that serves is the one of its span
+pub served_index : (g : Geometry) (pages : Live) (head page : List ℕ) (p : ℕ) → pages p ≡ Some page → names_index page ≡ true → serves g pages head p ≡ true → index_page g pages (span_of page) ≡ Some p
+served_index g pages head page p is index e =
+    ⊎_elim
+    (λ (at : (j : ℕ) × (j < index_pages g (size_of head)) × (index_page g pages j ≡ Some p)).
+    let passes : is_index (Some page) at.0 ≡ true = rw is at (index_passes g pages at.0 p at.2) in
+    let v = and_parts _ _ passes in
+    let span : span_of page ≡ at.0 = eqb-true (span_of page) at.0 v.1 in
+    rw span at.2)
+    (λ (entry : (s : ℕ) × (s < data_pages g (size_of head)) × (entry_number g pages head s ≡ Some p) × (is_some (data_of (pages p) s) ≡ true)).
+    let holds : is_some (data_of (Some page) entry.0) ≡ true = rw is at entry.3 in
+    let bad : false ≡ true = rw index at holds in absurd (cc))
+    (served_parts g pages head p e)
+
+-- the header page of an id
+pub head_of : (g : Geometry) (pages : Live) (h : ℕ) → index_page g pages 0 ≡ Some h → (head : List ℕ) × (pages h ≡ Some head)
+head_of g pages h at = let w = index_parts (pages h) 0 (index_passes g pages 0 h at) in (w.0, w.1)
+
+-- ---- by what the device tells of a page
 
 -- a live page by its header
 pub headed_page : (o : Option (List ℕ)) (head : PageHeader) → Some head ≡ option_map header_at o → (page : List ℕ) × (o ≡ Some page) × (head ≡ header_at page)
 headed_page None head e = absurd (cc)
 headed_page (Some page) head e = (page, refl, cc)
 
+pub headed_at : (o : Option (List ℕ)) (id : ℕ) → headed o ≡ Some id → (head : List ℕ) × (o ≡ Some head) × (names_index head ≡ true) × (span_of head ≡ 0) × (obj_id head % 0x8000 ≡ id)
+headed_at None id e = absurd (none-some id e)
+headed_at (Some head) id e =
+    let w = cond_some (is_index (Some head) 0) (obj_id head % 0x8000) id e in
+    let v = and_parts _ _ w.0 in
+    (head, refl, v.0, eqb-true (span_of head) 0 v.1, w.1)
+
 pub headless_page : (o : Option (List ℕ)) → None ≡ option_map header_at o → o ≡ None
 headless_page None e = refl
 headless_page (Some page) e = absurd (cc)
 
-pub dead_is_wanted : (g : Geometry) (image : List ℕ) (p : ℕ) → None ≡ option_map header_at (live_at g image p) → false ≡ is_unwanted g image p
-unfolding is_unwanted
-dead_is_wanted g image p e = let dead = headless_page (live_at g image p) e in rw dead refl
+-- a lookup page isn't live
+pub lookup_dead : (g : Geometry) (image : List ℕ) (p : ℕ) → is_entry_page g p ≡ false → live_at g image p ≡ None
+unfolding live_at is_live
+lookup_dead g image p e = rw e refl
 
-pub lookup_is_wanted : (g : Geometry) (image : List ℕ) (p : ℕ) → is_entry_page g p ≡ false → false ≡ is_unwanted g image p
-unfolding is_unwanted live_at is_live
-lookup_is_wanted g image p e = rw e refl
+pub lookup_unmarked : (g : Geometry) (image : List ℕ) (p mark : ℕ) → is_entry_page g p ≡ false → false ≡ (is_some (live_at g image p) && (mark == 0))
+lookup_unmarked g image p mark e = rw (lookup_dead g image p e) refl
 
-pub headless_unwanted : (g : Geometry) (image page : List ℕ) (p : ℕ) → live_at g image p ≡ Some page → index_page g (own (live_at g image) (obj_id page % 0x8000)) 0 ≡ None → true ≡ is_unwanted g image p
-unfolding is_unwanted is_wanted
-headless_unwanted g image page p live none = rw live (rw (none, and-false) refl)
+pub marked_stays : (g : Geometry) (image : List ℕ) (p mark : ℕ) → (mark == 0) ≡ false → false ≡ (is_some (live_at g image p) && (mark == 0))
+marked_stays g image p mark e = rw (e, and-false) refl
 
--- the header page of an id
-pub head_of : (g : Geometry) (pages : Live) (h : ℕ) → index_page g pages 0 ≡ Some h → (head : List ℕ) × (pages h ≡ Some head)
-head_of g pages h at = some (pages h) (index_passes g pages 0 h at)
+pub live_unmarked : (g : Geometry) (image : List ℕ) (p mark : ℕ) → mark ≡ 0 → is_live g image p ≡ (is_some (live_at g image p) && (mark == 0))
+unfolding live_at
+live_unmarked g image p mark none = rw none (by (is_live g image p))
   where
-    some : (o : Option (List ℕ)) → is_index o 0 ≡ true → (head : List ℕ) × (o ≡ Some head)
-    some None e = absurd (let bad : false ≡ true = e in cc)
-    some (Some head) e = (head, refl)
-
-module _ (g : Geometry) (image page head : List ℕ) (p h : ℕ) (single : HasNoDoubles g image) (undamaged : damaged_of g image ≡ []) (live : live_at g image p ≡ Some page)
-    (at : index_page g (own (live_at g image) (obj_id page % 0x8000)) 0 ≡ Some h) (is : own (live_at g image) (obj_id page % 0x8000) h ≡ Some head) where
-  served_told : serves g (own (live_at g image) (obj_id page % 0x8000)) head p ≡ is_served_by g image (header_at page) (size_of head) p
-  unfolding data_number_of
-  served_told =
-      let mine = own_self (live_at g image) p page live in
-      ⊎_elim
-      (λ (index : names_index page ≡ true). rw index (index_serves g (own (live_at g image) (obj_id page % 0x8000)) head page p mine index (single_index g image p page (single p) live index)))
-      (λ (other : names_index page ≡ false). rw other (rw at (rw is (data_serves g (own (live_at g image) (obj_id page % 0x8000)) head page p mine other))))
-      (cases_Bool (names_index page))
-
-  pub unwanted_told : not (is_served_by g image (header_at page) (size_of head) p) ≡ is_unwanted g image p
-  unfolding is_unwanted is_wanted
-  unwanted_told =
-      let counts = headed_counted g image (obj_id page % 0x8000) h head undamaged at is in
-      rw live (rw (counts, at, is, served_told) refl)
-
--- ---- in the words of the calls
-
-pub alone_told : (g : Geometry) (image : List ℕ) (p id : ℕ) (head : PageHeader) (found : Option ℕ) → Some head ≡ option_map header_at (live_at g image p) → id ≡ head.id % 0x8000 →
-    found ≡ index_page g (own (live_at g image) id) 0 → found ≡ None → true ≡ is_unwanted g image p
-alone_told g image p id head found e of at none =
-    let w = headed_page (live_at g image p) head e in
-    let same : id ≡ obj_id w.0 % 0x8000 = of ∙ ap (λ (x : PageHeader). x.id % 0x8000) w.2 in
-    let here : index_page g (own (live_at g image) id) 0 ≡ None = sym at ∙ none in
-    headless_unwanted g image w.0 p w.1 (subst (λ (k : ℕ). index_page g (own (live_at g image) k) 0 ≡ None) same here)
-
-pub rest_told : (g : Geometry) (image : List ℕ) (p id h size : ℕ) (head : PageHeader) (served : Bool) → HasNoDoubles g image → damaged_of g image ≡ [] → Some head ≡ option_map header_at (live_at g image p) → id ≡ head.id % 0x8000 →
-    Some h ≡ index_page g (own (live_at g image) id) 0 → size ≡ size_of (page_of g image h) → served ≡ is_served_by g image head size p → not served ≡ is_unwanted g image p
-rest_told g image p id h size head served single undamaged e of at sized told =
-    let w = headed_page (live_at g image p) head e in
-    let same : id ≡ obj_id w.0 % 0x8000 = of ∙ ap (λ (x : PageHeader). x.id % 0x8000) w.2 in
-    let here : index_page g (own (live_at g image) (obj_id w.0 % 0x8000)) 0 ≡ Some h = subst (λ (k : ℕ). index_page g (own (live_at g image) k) 0 ≡ Some h) same (sym at) in
-    let v = head_of g (own (live_at g image) (obj_id w.0 % 0x8000)) h here in
-    let bytes = (live_parts g image h v.0 (own-parts (live_at g image) (obj_id w.0 % 0x8000) h v.0 v.1).0).bytes in
-    let size_is : size ≡ size_of v.0 = sized ∙ ap size_of bytes in
-    let same_told : served ≡ is_served_by g image (header_at w.0) (size_of v.0) p = told ∙ ap (λ (x : PageHeader). is_served_by g image x size p) w.2 ∙ ap (λ (n : ℕ). is_served_by g image (header_at w.0) n p) size_is in
-    ap not same_told ∙ unwanted_told g image w.0 v.0 p h single undamaged w.1 here v.1
+    by : (b : Bool) → b ≡ (is_some (if b then Some (page_of g image p) else None) && true)
+    by true = refl
+    by false = refl
 
 -- ---- a page that is live and not wanted may be killed
 
@@ -303,8 +235,8 @@ module _ (g : Geometry) (a b : List ℕ) (p : ℕ) (page : List ℕ) (live : liv
   unfolding damaged_of
   rest_undamaged = ap (λ (x : Found). damages x 0x7FFF) rests.1 ∙ undamaged
 
-pub may_be_culled : (g : Geometry) (a : List ℕ) (p : ℕ) → IsSettled g a → is_unwanted g a p ≡ true → Goes g a a (culling p) (culling_unwanted p)
-may_be_culled g a p settled e =
+pub may_be_culled : (g : Geometry) (a : List ℕ) (p mark : ℕ) → IsSettled g a → is_unwanted g a p ≡ true → Goes g a a (culling p) (culling_unmarked p mark)
+may_be_culled g a p mark settled e =
     let w = unwanted_parts g a p e in
     record {
       needs = record { page = w.page; live = w.live; unwanted = w.unwanted; spares = λ b change. spares g a b p w.page w.live w.unwanted settled.undamaged change };
@@ -332,34 +264,38 @@ rests_nothing g a p settled served = record { culls = culls_nothing g a p; serve
 
 -- ---- page by page
 
--- p pages on, with n of them killed
-pub record Resting (g : Geometry) (first now : List ℕ) (p n : ℕ) : Type 0 where
+-- p pages on, with n of them killed and the marks of the rest right
+pub record Resting (g : Geometry) (first now marks : List ℕ) (p n : ℕ) : Type 0 where
   pub passes : Passes g n first now
   pub served : (q : ℕ) → q < p → is_unwanted g now q ≡ false
+  pub marked : (q : ℕ) → p ≤ q → q < page_count g → TellsUnwanted g now q (slice_index marks q)
   pub settled : IsSettled g now
 
-abbrev pub resting_to : ℕ → Work ℕ
-resting_to p = record { needs = λ g was. IsSettled g was; done = λ g was now n. Resting g was now p n; idle = λ g was. IsServed g was }
+abbrev pub resting_to : ℕ → List ℕ → Work ℕ
+resting_to p marks = record { needs = λ g was. IsSettled g was; done = λ g was now n. Resting g was now marks p n; idle = λ g was. IsServed g was }
 
-pub resting_start : (g : Geometry) (a : List ℕ) → IsSettled g a → Resting g a a 0 0
-resting_start g a settled = record { passes = passes_none g a; served = λ q low. absurd (omega arith); settled = settled }
+pub resting_start : (g : Geometry) (a marks : List ℕ) → IsSettled g a → ((q : ℕ) → q < page_count g → TellsUnwanted g a q (slice_index marks q)) → Resting g a a marks 0 0
+resting_start g a marks settled marked = record { passes = passes_none g a; served = λ q low. absurd (omega arith); marked = λ q low high. marked q high; settled = settled }
 
-pub resting_next : (g : Geometry) (first a b : List ℕ) (p n m : ℕ) (killed : Bool) → Resting g first a p n → CullsRest g p killed a b → m ≡ n + cond killed 1 0 → Resting g first b (p + 1) m
-resting_next g first a b p n m killed s t e = record {
+pub resting_next : (g : Geometry) (first a b marks : List ℕ) (p n m : ℕ) (killed : Bool) → Resting g first a marks p n → CullsRest g p killed a b → m ≡ n + cond killed 1 0 → Resting g first b marks (p + 1) m
+resting_next g first a b marks p n m killed s t e = record {
   passes = passes_next g first a b p n m killed s.passes t.culls e;
   served = λ q low. ⊎_elim
       (λ (here : q ≡ p). rw here t.served)
       (λ (there : q ≡ p → ⊥). t.others q there ∙ s.served q (omega (arith, there)))
       (cases_eq q p);
+  marked = λ q low high.
+      let there : q ≢ p = λ same. omega (arith, same, low) in
+      rw (t.others q there, t.culls.others q there) (s.marked q (omega (arith, low)) high);
   settled = t.settled;
 }
 
 beyond_served : (g : Geometry) (a : List ℕ) (p : ℕ) → page_count g ≤ p → is_unwanted g a p ≡ false
 unfolding is_entry_page
-beyond_served g a p past = sym (lookup_is_wanted g a p (rw (le-ltb p (page_count g) past) refl))
+beyond_served g a p past = dead_served g a p (lookup_dead g a p (rw (le-ltb p (page_count g) past) refl))
 
-pub resting_end : (g : Geometry) (first a : List ℕ) (p n : ℕ) → page_count g ≤ p → Resting g first a p n → PassesRest g n first a
-resting_end g first a p n all s = record {
+pub resting_end : (g : Geometry) (first a marks : List ℕ) (p n : ℕ) → page_count g ≤ p → Resting g first a marks p n → PassesRest g n first a
+resting_end g first a marks p n all s = record {
   passes = s.passes;
   served = λ q. ⊎_elim (λ (low : q < p). s.served q low) (λ (past : p ≤ q). beyond_served g a q (omega arith)) (cases_lt q p);
   none = s.settled.undamaged;

@@ -76,7 +76,7 @@ wanted_single g a p page live wanted index =
     let w = wanted_parts g (live_at g a) p wanted in
     let same : w.page ≡ page = same_Some w.page page (sym w.is ∙ live) in
     let served : serves g (own (live_at g a) (obj_id page % 0x8000)) w.head p ≡ true = subst (λ (x : List ℕ). serves g (own (live_at g a) (obj_id x % 0x8000)) w.head p ≡ true) same w.served in
-    (served_index g (own (live_at g a) (obj_id page % 0x8000)) w.head page p (own_self (live_at g a) p page live) index served).0
+    served_index g (own (live_at g a) (obj_id page % 0x8000)) w.head page p (own_self (live_at g a) p page live) index served
 
 pub tidy_single : (g : Geometry) (a : List ℕ) → IsTidy g a → HasNoDoubles g a
 unfolding is_doubled

@@ -1,10 +1,7 @@
 -- What the check's kills of live pages leave.
-use Rattle.std.specs.Prelude.{◌≡◌, ◌≢◌, ℕ, ◌+◌, ◌%◌, ◌&&◌, List, [], length, Bool, true, false, not, nat_lt, Option, Some, None, is_some, if◌then◌else◌}
+use Rattle.std.specs.Prelude.{◌≡◌, ◌≢◌, ℕ, ◌+◌, ◌%◌, ◌&&◌, List, [], length, Bool, true, false, not, Option, Some, None, is_some, if◌then◌else◌}
 use Rattle.std.specs.List.{Contains}
 use Rattle.geometry.specs.declared.geometry.Geometry.{Geometry}
-use Rattle.table_model.specs.Room.{data_pages, index_pages}
-use Rattle.page_layout.specs.declared.header.PageHeader.{PageHeader}
-use Rattle.page_layout.specs.Layout.{names_index as header_names_index}
 use Rattle.image_model.specs.Headers.{obj_id, span_of, names_index}
 use Rattle.image_model.specs.Live.{live_at, own}
 use Rattle.image_model.specs.Files.{index_page}
@@ -14,7 +11,6 @@ use Rattle.image_model.specs.Killed.{killed_of}
 use Rattle.image_model.specs.Sound.{damaged_ids}
 use Rattle.image_laws.specs.Changes.{Loses}
 use Rattle.room_laws.specs.Staged.{OnlyKills}
-use Rattle.flash_view.specs.DataPages.{data_number_of}
 use Rattle.file_find.specs.Marks.{cause_at}
 use Rattle.vol_check.specs.Stage.{IsClean}
 
@@ -70,13 +66,6 @@ is_unwanted g image p = is_some (live_at g image p) && not (is_wanted g image p)
 -- every live page is wanted
 abbrev pub IsServed : Geometry → List ℕ → Type 0
 IsServed g image = (p : ℕ) → is_unwanted g image p ≡ false
-
--- A page with this header serves its id's file, where that has this size and no page is doubled: as an index page by its
--- span alone, as a data page where the index entry of its span names it.
-abbrev pub is_served_by : Geometry → List ℕ → PageHeader → ℕ → ℕ → Bool
-is_served_by g image head size p =
-    if header_names_index head then nat_lt head.span (index_pages g size)
-    else nat_lt head.span (data_pages g size) && is_number (data_number_of g image (head.id % 0x8000) head.span) p
 
 -- after a turn of the first pass
 pub record CullsDoubled (g : Geometry) (p : ℕ) (killed : Bool) (was now : List ℕ) : Type 0 where

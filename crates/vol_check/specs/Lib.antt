@@ -2,4 +2,6 @@ pub mod Stage
 pub mod Culls
 pub mod MadeFresh
 pub mod Checks
+pub mod Noted
+pub mod Needed
 pub mod Works

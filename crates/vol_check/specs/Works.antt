@@ -1,5 +1,5 @@
 -- The works of the check, and what each needs and leaves.
-use Rattle.std.specs.Prelude.{◌≡◌, ℕ, List, [], Bool, true, false, Some, None, Result}
+use Rattle.std.specs.Prelude.{◌≡◌, ℕ, ◌+◌, List, [], Bool, true, false, Some, None, Result}
 use Rattle.geometry.specs.declared.geometry.Geometry.{Geometry}
 use Rattle.nor_core.specs.declared.device.Failed.{Failed}
 use Rattle.nor_core.specs.declared.state.NorState.{Ghosts as NorOf}
@@ -18,6 +18,8 @@ use Rattle.vol_check.specs.declared.checking.Culled.{Culled}
 use Rattle.vol_check.specs.declared.report.Report.{Report}
 use Rattle.vol_check.specs.Stage.{IsClean, CleansEntry, CleansEntries}
 use Rattle.vol_check.specs.Culls.{MayCull, Culls, is_doubled, HasNoDoubles, IsSettled, is_unwanted, IsServed, CullsDoubled, CullsHead, CullsRest, PassesDoubled, PassesDamaged, PassesRest, CullsPages}
+use Rattle.vol_check.specs.Noted.{Notes}
+use Rattle.vol_check.specs.Needed.{TellsUnwanted}
 use Rattle.vol_check.specs.MadeFresh.{HasAllMagics, MadeFresh}
 use Rattle.vol_check.specs.Checks.{Checked}
 
@@ -47,6 +49,11 @@ pub record TurnsHead (g : Geometry) (id p : ℕ) (marks : List ℕ) (killed : Bo
   pub culls : CullsHead g id p killed was now
   pub marked : IsMarked g now marks
 
+-- after a turn of the first pass, with the header page noted if one stands there
+pub record TurnsDoubled (g : Geometry) (p : ℕ) (bits : List ℕ) (killed : Bool) (was now : List ℕ) : Type 0 where
+  pub culls : CullsDoubled g p killed was now
+  pub noted : Notes g now (p + 1) bits
+
 -- ---- a block without its magic, and entries that are dead
 
 abbrev pub making_fresh : Work Bool
@@ -63,8 +70,8 @@ cleaning_entries = record { needs = λ g was. Unit {0}; done = λ g was now kill
 abbrev pub culling : ℕ → Work (Unit {0})
 culling p = record { needs = λ g was. MayCull g was p; done = λ g was now ok. Culls g p true was now; idle = λ g was. ⊥ }
 
-abbrev pub culling_doubled : ℕ → Work Bool
-culling_doubled p = record { needs = λ g was. Unit {0}; done = λ g was now killed. CullsDoubled g p killed was now; idle = λ g was. is_doubled g was p ≡ false }
+abbrev pub culling_doubled : ℕ → List ℕ → List ℕ → Work Bool
+culling_doubled p bits later = record { needs = λ g was. Notes g was p bits; done = λ g was now killed. TurnsDoubled g p later killed was now; idle = λ g was. is_doubled g was p ≡ false }
 
 abbrev pub culling_doubles : Work ℕ
 culling_doubles = record { needs = λ g was. Unit {0}; done = λ g was now killed. PassesDoubled g killed was now; idle = λ g was. HasNoDoubles g was }
@@ -75,8 +82,8 @@ culling_head id p marks later = record { needs = λ g was. IsHead g was id p mar
 abbrev pub culling_damaged : Work ℕ
 culling_damaged = record { needs = λ g was. HasNoDoubles g was; done = λ g was now killed. PassesDamaged g killed was now; idle = λ g was. damaged_of g was ≡ [] }
 
-abbrev pub culling_unwanted : ℕ → Work Bool
-culling_unwanted p = record { needs = λ g was. IsSettled g was; done = λ g was now killed. CullsRest g p killed was now; idle = λ g was. is_unwanted g was p ≡ false }
+abbrev pub culling_unmarked : ℕ → ℕ → Work Bool
+culling_unmarked p mark = record { needs = λ g was. IsSettled g was × TellsUnwanted g was p mark; done = λ g was now killed. CullsRest g p killed was now; idle = λ g was. is_unwanted g was p ≡ false }
 
 abbrev pub culling_rest : Work ℕ
 culling_rest = record { needs = λ g was. IsSettled g was; done = λ g was now killed. PassesRest g killed was now; idle = λ g was. IsServed g was }

@@ -6,6 +6,7 @@ mod culling;
 mod damaged;
 mod doubled;
 mod entries;
+mod marking;
 mod mixed;
 mod report;
 mod spoiled;

@@ -1,34 +1,6 @@
 use Rattle.std.proofs.Common.{arith}
-use Rattle.geometry.specs.Numbers.{page_count, per_block}
-use Rattle.flash_view.proofs.Looking.{looks_none}
-use Rattle.vol_check.proofs.Working.{look_works, works_as, works_end, works_stop}
-use Rattle.vol_check.proofs.Passing.{from_bool_is}
-use Rattle.vol_check.proofs.Doubles.{doubling_start, doubling_next, doubling_end}
+use Rattle.free_search.proofs.Bits.{none_set}
 use Rattle.vol_check.proofs.doubled.cull_doubles.Goals as goal
 
-pub loop-page-init : goal.loop-page-init
-loop-page-init g c = record { end = c.pages-page-end.ensures.count; few = omega arith; work = look_works (looks_none c.args.v.now) (λ tells magics need. doubling_start _ _) }
-
-pub cull_doubled-requires : goal.cull_doubled-requires
-cull_doubled-requires g c = let was = c.loop-page.invariant in rw was.work.step.framed.same.geometry (omega (arith, was.end, c.loop-page-test.true))
-
-pub returns-in_err-cull_doubled-clause-work : goal.returns-in_err-cull_doubled-clause-work
-returns-in_err-cull_doubled-clause-work g c =
-    works_stop c.loop-page.invariant.work c.in_err-cull_doubled.ensures c.from_residual.ensures.0 (λ tells magics need. record { needs = tt; idle = λ quiet. quiet }) (λ tells magics need was. record { needs = tt; idle = λ quiet. quiet c.loop-page.page })
-
-pub loop-page-preserved : goal.loop-page-preserved
-loop-page-preserved g c =
-    let was = c.loop-page.invariant in
-    let more = from_bool_is c.in_ok-cull_doubled.field-0 in
-    record {
-      end = was.end;
-      few = omega (arith, more.1, was.few, c.from.ensures);
-      work = works_end was.work c.in_ok-cull_doubled.ensures (λ tells magics need. record { needs = tt; idle = λ quiet. quiet }) (λ tells magics need before. record { needs = tt; idle = λ quiet. quiet c.loop-page.page })
-          (λ tells magics need before kept turn. doubling_next _ _ _ _ _ _ _ _ before turn (omega (arith, more.0, c.from.ensures)));
-    }
-
-pub returns-clause-work : goal.returns-clause-work
-unfolding page_count per_block
-returns-clause-work g c =
-    let was = c.loop-page.invariant in
-    works_as was.work (λ tells magics need. record { needs = tt; idle = λ quiet. quiet }) (λ tells magics need kept all. doubling_end _ _ _ _ _ (omega (arith, was.end, c.loop-page-test.false)) all)
+pub cull_noted-requires : goal.cull_noted-requires
+cull_noted-requires g c = none_set _ (λ k low. c.clear.ensures k (omega (arith, low)))
