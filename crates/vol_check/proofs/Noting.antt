@@ -8,7 +8,7 @@ use Rattle.geometry.specs.declared.geometry.Geometry.{Geometry}
 use Rattle.page_layout.specs.declared.header.PageHeader.{PageHeader}
 use Rattle.page_layout.specs.Layout as layout
 use Rattle.page_layout.specs.Layout.{header_at}
-use Rattle.image_model.specs.Volume.{page_count}
+use Rattle.geometry.specs.Numbers.{page_count}
 use Rattle.image_model.specs.Live.{live_at, own}
 use Rattle.image_model.specs.Headers.{names_index, span_of}
 use Rattle.image_model.specs.Files.{is_index, index_page}

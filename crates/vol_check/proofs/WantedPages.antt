@@ -6,12 +6,11 @@ use Rattle.std.proofs.lemmas.Nat.{div-mul-add, mod-mul-add}
 use Rattle.std.proofs.Math.Nat.{div-add-mod}
 use Rattle.std.proofs.lemmas.Option.{none-some, same_Some}
 use Rattle.geometry.specs.declared.geometry.Geometry.{Geometry}
-use Rattle.geometry.specs.Numbers.{head_slots, span_slots, ceil}
+use Rattle.geometry.specs.Numbers.{head_slots, span_slots, ceil, page_count}
 use Rattle.nor_core.specs.Flash.{word_at}
 use Rattle.table_model.specs.Table.{File}
 use Rattle.table_model.specs.Room.{data_pages, index_pages}
 use Rattle.image_model.specs.declared.damage.Damage.{Damage}
-use Rattle.image_model.specs.Volume.{page_count}
 use Rattle.image_model.specs.Places.{page_of}
 use Rattle.image_model.specs.Headers.{obj_id, size_of}
 use Rattle.image_model.specs.Live.{Live, live_at, own}

@@ -1,5 +1,5 @@
 use Rattle.std.proofs.Common.{◌∙◌}
-use Rattle.image_model.specs.Volume.{page_count, per_block}
+use Rattle.geometry.specs.Numbers.{page_count, per_block}
 use Rattle.vol_check.proofs.Doubles.{index_told}
 use Rattle.vol_check.proofs.Noting.{noted_told, searched_told}
 use Rattle.vol_check.proofs.doubled.is_later.Goals as goal

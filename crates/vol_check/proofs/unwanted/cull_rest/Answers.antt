@@ -1,5 +1,5 @@
 use Rattle.std.proofs.Common.{arith}
-use Rattle.image_model.specs.Volume.{page_count, per_block}
+use Rattle.geometry.specs.Numbers.{page_count, per_block}
 use Rattle.vol_check.proofs.Working.{look_works, look_stops, works_as, works_end, works_stop}
 use Rattle.vol_check.proofs.Passing.{from_bool_is}
 use Rattle.vol_check.proofs.Resting.{resting_start, resting_next, resting_end}
@@ -12,7 +12,7 @@ pub loop-page-init : goal.loop-page-init
 unfolding page_count per_block
 loop-page-init g c =
     let seen = c.in_ok-mark_wanted.ensures in
-    record { end = rw seen.looks.same.geometry at c.pages-page-end.ensures; few = omega arith; work = look_works seen.looks (λ tells magics settled. resting_start _ _ _ settled (seen.told tells settled)) }
+    record { end = rw seen.looks.same.geometry at c.pages-page-end.ensures.count; few = omega arith; work = look_works seen.looks (λ tells magics settled. resting_start _ _ _ settled (seen.told tells settled)) }
 
 pub cull_unmarked-requires : goal.cull_unmarked-requires
 cull_unmarked-requires g c = let was = c.loop-page.invariant in rw was.work.step.framed.same.geometry (omega (arith, was.end, c.loop-page-test.true))
