@@ -1,5 +1,6 @@
 pub mod Scans
 pub mod Counting
+pub mod Slots
 pub mod FreePages
 pub mod FirstBest
 pub mod Worn

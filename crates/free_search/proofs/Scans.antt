@@ -1,7 +1,7 @@
 -- Scans over numbers in a row: what those from a loop's counter on still bring.
 use Rattle.std.proofs.Common.{◌≡◌, ℕ, suc, ◌+◌, ◌-◌, ◌<◌, ◌≤◌, List, [], ◌∷◌, Bool, true, false, length, refl, sym, ◌∙◌, ap, arith, add-zero}
 use Rattle.std.specs.Prelude.{filter, find, Option, Some, None}
-use Rattle.std.specs.List.{range_with_len, list_all}
+use Rattle.std.specs.List.{range_with_len}
 use Rattle.std.proofs.Math.Nat.{sub-zero}
 
 pub scan_step : (first n i : ℕ) → i < n → range_with_len (first + i) (n - i) ≡ (first + i) ∷ range_with_len (first + (i + 1)) (n - (i + 1))
@@ -12,20 +12,6 @@ scan_end first n i h = let left : n - i ≡ 0 = omega arith in rw left refl
 
 scan_start : (first n : ℕ) → range_with_len (first + 0) (n - 0) ≡ range_with_len first n
 scan_start first n = rw (add-zero, sub-zero n) refl
-
--- whether all pass is what those from the counter on say, as long as the others passed
-pub all_start : (test : ℕ → Bool) (first n : ℕ) → list_all test (range_with_len (first + 0) (n - 0)) ≡ list_all test (range_with_len first n)
-all_start test first n = ap (list_all test) (scan_start first n)
-
-pub all_later : (test : ℕ → Bool) (first n i : ℕ) (total : Bool) → i < n → list_all test (range_with_len (first + i) (n - i)) ≡ total → test (first + i) ≡ true →
-    list_all test (range_with_len (first + (i + 1)) (n - (i + 1))) ≡ total
-all_later test first n i total h all passes = sym (ap (list_all test) (scan_step first n i h) ∙ rw passes refl) ∙ all
-
-pub all_fails : (test : ℕ → Bool) (first n i : ℕ) (total : Bool) → i < n → list_all test (range_with_len (first + i) (n - i)) ≡ total → test (first + i) ≡ false → false ≡ total
-all_fails test first n i total h all fails = sym (ap (list_all test) (scan_step first n i h) ∙ rw fails refl) ∙ all
-
-pub all_end : (test : ℕ → Bool) (first n i : ℕ) (total : Bool) → n ≤ i → list_all test (range_with_len (first + i) (n - i)) ≡ total → true ≡ total
-all_end test first n i total h all = sym (ap (list_all test) (scan_end first n i h)) ∙ all
 
 -- those that passed so far, and those to come, are all of them
 pub count_start : (test : ℕ → Bool) (first n : ℕ) → 0 + length (filter test (range_with_len (first + 0) (n - 0))) ≡ length (filter test (range_with_len first n))

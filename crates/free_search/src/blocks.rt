@@ -1,7 +1,8 @@
 ghost use Rattle.std.specs.Prelude.{◌≡◌, ◌+◌, ◌<◌, ◌≤◌, OnErr, IfOk};
-ghost use Rattle.image_model.specs.Tidy.{is_free_entry, is_free_block as the_free_block, free_blocks as the_free_blocks};
+ghost use Rattle.image_model.specs.Tidy.{is_free_block as the_free_block, free_blocks as the_free_blocks};
 ghost use Rattle.geometry.specs.Numbers.{entries};
 ghost use Rattle.nor_core.specs.Count.{Rose};
+ghost use Rattle.room_laws.specs.Sorts.{TellsFree};
 ghost use Rattle.flash_view.specs.Places.{IsEntryPage};
 ghost use Rattle.flash_view.specs.Same.{OnlyLooks};
 ghost use Rattle.free_search.specs.Counts.{the_sort, total_of, one_more, AreCounts};
@@ -102,43 +103,27 @@ pub fn counts<N: Nor>(v: &mut View<'_, N>, block: u16) -> Result<BlockCounts, Fa
     Ok(counts)
 }
 
-// Whether an entry is free over a page that holds 0xFF alone.
-#[tactic(auto, using(flash_view::proofs::Looking::looks_then))]
-fn is_unused<N: Nor>(v: &mut View<'_, N>, page: u16) -> Result<bool, Failed>
-    requires { IsEntryPage v.old.geometry page }
-    ensures cause { OnErr result (Rose (N.faults v.old.nor.now) (N.faults v.new.nor.now)) }
-    ensures looks { OnlyLooks v.old v.new }
-    ensures told { N.tells v.old.nor.now → IfOk result (λ unused. unused ≡ is_free_entry v.old.geometry (N.bytes v.old.nor.now) page) }
-{
-    Ok(v.entry(page)? == FREE && v.is_blank(page)?)
-}
-
-/// Whether a block has its magic, all its entries are free, and all its entry pages hold 0xFF alone.
+/// Whether a block is free: it has its magic, and all its entries are free. Its lookup pages alone are read, and right where
+/// they tell which entries are free.
 #[tactic(auto, using(flash_view::proofs::Looking::looks_then))]
 pub fn is_free_block<N: Nor>(v: &mut View<'_, N>, block: u16) -> Result<bool, Failed>
     requires { block < v.old.geometry.blocks }
     ensures cause { OnErr result (Rose (N.faults v.old.nor.now) (N.faults v.new.nor.now)) }
     ensures looks { OnlyLooks v.old v.new }
-    ensures told { N.tells v.old.nor.now → IfOk result (λ free. free ≡ the_free_block v.old.geometry (N.bytes v.old.nor.now) block) }
+    ensures told { N.tells v.old.nor.now → TellsFree v.old.geometry (N.bytes v.old.nor.now) → IfOk result (λ free. free ≡ the_free_block v.old.geometry (N.bytes v.old.nor.now) block) }
 {
-    let g = v.geometry;
     if !v.has_magic(block)? {
         return Ok(false);
     }
-    for i in 0..g.entries() {
-        if !is_unused(v, entry_page(&g, block, i))? {
-            return Ok(false);
-        }
-    }
-    Ok(true)
+    Ok(v.find_slot(block, 0, 0, FREE - 1)?.is_none())
 }
 
-/// How many blocks are free.
+/// How many blocks are free, by the lookup pages, as for one block.
 pub fn free_blocks<N: Nor>(v: &mut View<'_, N>) -> Result<u32, Failed>
     ensures cause { OnErr result (Rose (N.faults v.old.nor.now) (N.faults v.new.nor.now)) }
     ensures looks { OnlyLooks v.old v.new }
     ensures most { IfOk result (λ n. n ≤ v.old.geometry.blocks) }
-    ensures told { N.tells v.old.nor.now → IfOk result (λ n. n ≡ the_free_blocks v.old.geometry (N.bytes v.old.nor.now)) }
+    ensures told { N.tells v.old.nor.now → TellsFree v.old.geometry (N.bytes v.old.nor.now) → IfOk result (λ n. n ≡ the_free_blocks v.old.geometry (N.bytes v.old.nor.now)) }
 {
     let mut free = 0;
     for block in 0..v.geometry.blocks() as u16 {

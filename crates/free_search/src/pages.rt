@@ -103,7 +103,7 @@ fn less_worn<N: Nor>(
     ensures cause { OnErr result (Rose (N.faults v.old.nor.now) (N.faults v.new.nor.now)) }
     ensures looks { OnlyLooks v.old v.new }
     ensures below { IfOk result (λ found. IfSome found (λ worn. worn.block < v.old.geometry.blocks)) }
-    ensures told { N.tells v.old.nor.now → IfOk result (λ found. found ≡ worn_with v.old.geometry (N.bytes v.old.nor.now) least block) }
+    ensures told { N.tells v.old.nor.now → TellsFree v.old.geometry (N.bytes v.old.nor.now) → IfOk result (λ found. found ≡ worn_with v.old.geometry (N.bytes v.old.nor.now) least block) }
 {
     if !is_free_block(v, block)? {
         return Ok(least);
@@ -121,7 +121,7 @@ fn least_worn<N: Nor>(v: &mut View<'_, N>, not_in: Option<u16>) -> Result<Option
     ensures cause { OnErr result (Rose (N.faults v.old.nor.now) (N.faults v.new.nor.now)) }
     ensures looks { OnlyLooks v.old v.new }
     ensures below { IfOk result (λ found. IfSome found (λ block. block < v.old.geometry.blocks)) }
-    ensures told { N.tells v.old.nor.now → IfOk result (λ found. found ≡ the_least_worn v.old.geometry (N.bytes v.old.nor.now) not_in) }
+    ensures told { N.tells v.old.nor.now → TellsFree v.old.geometry (N.bytes v.old.nor.now) → IfOk result (λ found. found ≡ the_least_worn v.old.geometry (N.bytes v.old.nor.now) not_in) }
 {
     let mut least = None;
     for block in 0..v.geometry.blocks() as u16 {

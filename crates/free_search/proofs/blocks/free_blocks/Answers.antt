@@ -11,7 +11,7 @@ loop-block-init g c = record {
   looks = looks_none c.args.v.now;
   end = c.blocks-block-end.ensures;
   few = omega arith;
-  told = λ tells. rw c.blocks-block-end.ensures (count_start (λ b. is_free_block c.args.v.now.geometry (g.N.NorState.bytes c.args.v.now.nor.now) b) 0 c.args.v.now.geometry.blocks);
+  told = λ tells frees. rw c.blocks-block-end.ensures (count_start (λ b. is_free_block c.args.v.now.geometry (g.N.NorState.bytes c.args.v.now.nor.now) b) 0 c.args.v.now.geometry.blocks);
 }
 
 pub loop-block-preserved : goal.loop-block-preserved
@@ -25,21 +25,21 @@ loop-block-preserved g c =
         looks = looks_then was.looks looked.looks;
         end = was.end;
         few = omega (arith, was.few, w.free-is);
-        told = λ tells.
-            let passes : is_free_block geometry image c.loop-block.block ≡ true = cc (looked.told (was.looks.reads.told tells), was.looks.reads.bytes, was.looks.same.geometry, w.if-branch.true) in
-            rw w.free-is (count_yes (λ b. is_free_block geometry image b) 0 _ c.loop-block.block _ _ _ c.loop-block-test.true (was.told tells) (zero-add c.loop-block.block) passes);
+        told = λ tells frees.
+            let passes : is_free_block geometry image c.loop-block.block ≡ true = cc (looked.told (was.looks.reads.told tells) (rw (was.looks.same.geometry, was.looks.reads.bytes) frees), was.looks.reads.bytes, was.looks.same.geometry, w.if-branch.true) in
+            rw w.free-is (count_yes (λ b. is_free_block geometry image b) 0 _ c.loop-block.block _ _ _ c.loop-block-test.true (was.told tells frees) (zero-add c.loop-block.block) passes);
       }
       | else-branch w ↦ record {
         looks = looks_then was.looks looked.looks;
         end = was.end;
         few = omega (arith, was.few, w.free-is);
-        told = λ tells.
-            let fails : is_free_block geometry image c.loop-block.block ≡ false = cc (looked.told (was.looks.reads.told tells), was.looks.reads.bytes, was.looks.same.geometry, w.if-branch.false) in
-            rw w.free-is (count_no (λ b. is_free_block geometry image b) 0 _ c.loop-block.block _ _ _ c.loop-block-test.true (was.told tells) (zero-add c.loop-block.block) fails);
+        told = λ tells frees.
+            let fails : is_free_block geometry image c.loop-block.block ≡ false = cc (looked.told (was.looks.reads.told tells) (rw (was.looks.same.geometry, was.looks.reads.bytes) frees), was.looks.reads.bytes, was.looks.same.geometry, w.if-branch.false) in
+            rw w.free-is (count_no (λ b. is_free_block geometry image b) 0 _ c.loop-block.block _ _ _ c.loop-block-test.true (was.told tells frees) (zero-add c.loop-block.block) fails);
       }
     ]
 
 pub returns-clause-told : goal.returns-clause-told
-returns-clause-told g c = λ tells.
+returns-clause-told g c = λ tells frees.
     let was = c.loop-block.invariant in
-    count_end (λ b. is_free_block c.args.v.now.geometry (g.N.NorState.bytes c.args.v.now.nor.now) b) 0 _ c.loop-block.block _ _ c.loop-block-test.false (was.told tells)
+    count_end (λ b. is_free_block c.args.v.now.geometry (g.N.NorState.bytes c.args.v.now.nor.now) b) 0 _ c.loop-block.block _ _ c.loop-block-test.false (was.told tells frees)

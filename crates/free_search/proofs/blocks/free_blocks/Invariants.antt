@@ -2,6 +2,7 @@ use Rattle.std.proofs.Common.{◌≡◌, ◌+◌, ◌-◌, ◌≤◌, ℕ, lengt
 use Rattle.std.specs.Prelude.{filter}
 use Rattle.std.specs.List.{range_with_len}
 use Rattle.image_model.specs.Tidy.{is_free_block, free_blocks}
+use Rattle.room_laws.specs.Sorts.{TellsFree}
 use Rattle.flash_view.specs.Same.{OnlyLooks}
 use Rattle.free_search.proofs.blocks.free_blocks.Given as goal
 
@@ -12,6 +13,6 @@ invariant-loop-block g l = record {
   few : l.free ≤ l.block;
   told :
       (let image = g.N.NorState.bytes l.fn.v.nor.now in
-      g.N.NorState.tells l.fn.v.nor.now →
+      g.N.NorState.tells l.fn.v.nor.now → TellsFree l.fn.v.geometry image →
       l.free + length (filter (λ (b : ℕ). is_free_block l.fn.v.geometry image b) (range_with_len (0 + l.block) (l.block-end - l.block))) ≡ free_blocks l.fn.v.geometry image);
 }

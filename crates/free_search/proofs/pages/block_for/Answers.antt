@@ -19,7 +19,7 @@ returns-then-branch-keep-clause-told g c = λ tells frees.
     let image = g.N.NorState.bytes c.args.v.now.nor.now in
     let first = c.in_ok-block.ensures.looks in
     let none : the_open_block geometry image c.args.kind c.args.not_in ≡ None = sym (c.in_ok-block.ensures.told tells frees) ∙ c.in_default.is in
-    let count : c.in_ok-free_blocks.field-0 ≡ free_blocks geometry image = rw (first.same.geometry, first.reads.bytes) at (c.in_ok-free_blocks.ensures.told (first.reads.told tells)) in
+    let count : c.in_ok-free_blocks.field-0 ≡ free_blocks geometry image = rw (first.same.geometry, first.reads.bytes) at (c.in_ok-free_blocks.ensures.told (first.reads.told tells) (rw (first.same.geometry, first.reads.bytes) frees)) in
     let few : nat_lt c.args.keep (free_blocks geometry image) ≡ false = le-ltb c.args.keep (free_blocks geometry image) (omega (arith, count, c.if-branch-keep.true)) in
     rw (none, few) refl
 
@@ -31,7 +31,7 @@ returns-clause-told g c = λ tells frees.
     let first = c.in_ok-block.ensures.looks in
     let second = looks_then first c.in_ok-free_blocks.ensures.looks in
     let none : the_open_block geometry image c.args.kind c.args.not_in ≡ None = sym (c.in_ok-block.ensures.told tells frees) ∙ c.in_default.is in
-    let count : c.in_ok-free_blocks.field-0 ≡ free_blocks geometry image = rw (first.same.geometry, first.reads.bytes) at (c.in_ok-free_blocks.ensures.told (first.reads.told tells)) in
+    let count : c.in_ok-free_blocks.field-0 ≡ free_blocks geometry image = rw (first.same.geometry, first.reads.bytes) at (c.in_ok-free_blocks.ensures.told (first.reads.told tells) (rw (first.same.geometry, first.reads.bytes) frees)) in
     let more : nat_lt c.args.keep (free_blocks geometry image) ≡ true = lt-ltb c.args.keep (free_blocks geometry image) (omega (arith, count, c.if-branch-keep.false)) in
-    let found : IfOk c.least_worn.result (λ found. found ≡ the_least_worn geometry image c.args.not_in) = rw (second.same.geometry, second.reads.bytes) at (c.least_worn.ensures.told (second.reads.told tells)) in
+    let found : IfOk c.least_worn.result (λ found. found ≡ the_least_worn geometry image c.args.not_in) = rw (second.same.geometry, second.reads.bytes) at (c.least_worn.ensures.told (second.reads.told tells) (rw (second.same.geometry, second.reads.bytes) frees)) in
     rw (none, more) found

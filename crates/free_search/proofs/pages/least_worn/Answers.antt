@@ -14,22 +14,22 @@ loop-block-preserved g c =
         looks = rw w.v-is (looks_then was.looks w.in_ok-least.ensures.looks);
         end = was.end;
         below = rw (w.least-is, ← was.looks.same.geometry) w.in_ok-least.ensures.below;
-        told = λ tells. rw w.least-is (rw (rw (was.looks.same.geometry, was.looks.reads.bytes) at (w.in_ok-least.ensures.told (was.looks.reads.told tells))) (worn_more geometry image c.args.not_in c.loop-block.block c.loop-block.least (let h = w.if-ne.ensures in search rules) (was.told tells)));
+        told = λ tells frees. rw w.least-is (rw (rw (was.looks.same.geometry, was.looks.reads.bytes) at (w.in_ok-least.ensures.told (was.looks.reads.told tells) (rw (was.looks.same.geometry, was.looks.reads.bytes) frees))) (worn_more geometry image c.args.not_in c.loop-block.block c.loop-block.least (let h = w.if-ne.ensures in search rules) (was.told tells frees)));
       }
       | else-ne w ↦ record {
         looks = rw w.v-is was.looks;
         end = was.end;
         below = rw w.least-is was.below;
-        told = λ tells. rw w.least-is (worn_over geometry image c.args.not_in c.loop-block.block c.loop-block.least (let h = w.if-ne.ensures in search rules) (was.told tells));
+        told = λ tells frees. rw w.least-is (worn_over geometry image c.args.not_in c.loop-block.block c.loop-block.least (let h = w.if-ne.ensures in search rules) (was.told tells frees));
       }
     ]
 
 pub returns-clause-told : goal.returns-clause-told
-returns-clause-told g c = λ tells.
+returns-clause-told g c = λ tells frees.
     let was = c.loop-block.invariant in
     let geometry = c.args.v.now.geometry in
     let image = g.N.NorState.bytes c.args.v.now.nor.now in
     let end : c.loop-block.block ≡ geometry.blocks = omega (arith, was.end, c.loop-block-test.false, c.loop-block.auto.block-end) in
-    let all = worn_all geometry image c.args.not_in c.loop-block.block c.loop-block.least end (was.told tells) in
+    let all = worn_all geometry image c.args.not_in c.loop-block.block c.loop-block.least end (was.told tells frees) in
     let found = c.map.ensures in
     search rules

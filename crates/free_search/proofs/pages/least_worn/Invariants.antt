@@ -1,5 +1,6 @@
 use Rattle.std.proofs.Common.{◌≡◌, ◌<◌}
 use Rattle.std.specs.Prelude.{IfSome}
+use Rattle.room_laws.specs.Sorts.{TellsFree}
 use Rattle.flash_view.specs.Same.{OnlyLooks}
 use Rattle.free_search.proofs.Worn.{WornBelow}
 use Rattle.free_search.proofs.pages.least_worn.Given as goal
@@ -9,5 +10,5 @@ invariant-loop-block g l = record {
   looks : OnlyLooks l.fn.v l.v;
   end : l.block-end ≡ l.fn.v.geometry.blocks;
   below : IfSome l.least (λ worn. worn.block < l.fn.v.geometry.blocks);
-  told : g.N.NorState.tells l.fn.v.nor.now → WornBelow l.fn.v.geometry (g.N.NorState.bytes l.fn.v.nor.now) l.not_in l.block l.least;
+  told : g.N.NorState.tells l.fn.v.nor.now → TellsFree l.fn.v.geometry (g.N.NorState.bytes l.fn.v.nor.now) → WornBelow l.fn.v.geometry (g.N.NorState.bytes l.fn.v.nor.now) l.not_in l.block l.least;
 }
