@@ -11,8 +11,7 @@ use crate::pages::{Kept, drop_pages, is_left};
 use flash_view::{StepErr, View};
 use nor_core::{Failed, Nor, NorState};
 use page_put::{kill, mark_removed};
-use page_renew::no_page;
-use table_model::Tag;
+use table_model::{Differ, Tag};
 
 /// No page of a file that is removed is kept.
 const NONE: Kept = Kept {
@@ -65,7 +64,7 @@ pub fn remove_step<N: Nor>(v: &mut View<'_, N>, id: u16) -> Result<(), StepErr>
 {
     match find_header(v, id) {
         Err(Failed) => Err(StepErr::DeviceFault),
-        Ok(None) => Err(StepErr::Damaged(no_page(Tag { id, span: 0 }))),
+        Ok(None) => Err(StepErr::Damaged(Differ::no_page(Tag { id, span: 0 }))),
         Ok(Some(header)) => match drop_by(v, header, id) {
             Err(Failed) => Err(StepErr::DeviceFault),
             Ok(()) => Ok(()),

@@ -23,34 +23,20 @@ use table_model::{Differ, Tag};
 pub fn no_header(id: u16) -> Differ
     ensures { IsNoPage id result }
 {
-    Differ {
-        page: 0xFFFF,
-        wanted: Tag {
-            id: id % INDEX_BIT + INDEX_BIT,
-            span: 0,
-        },
-        found: Tag {
-            id: 0xFFFF,
-            span: 0xFFFF,
-        },
-    }
+    Differ::no_page(Tag {
+        id: id % INDEX_BIT + INDEX_BIT,
+        span: 0,
+    })
 }
 
 // That no data page of an object and a span was found. A span that no page can have is told as 0xFFFF.
 fn no_data(id: u16, span: u32) -> Differ
     ensures { IsNoPage id result }
 {
-    Differ {
-        page: 0xFFFF,
-        wanted: Tag {
-            id: id % INDEX_BIT,
-            span: span.min(0xFFFF) as u16,
-        },
-        found: Tag {
-            id: 0xFFFF,
-            span: 0xFFFF,
-        },
-    }
+    Differ::no_page(Tag {
+        id: id % INDEX_BIT,
+        span: span.min(0xFFFF) as u16,
+    })
 }
 
 // The data page of a span that an index page names, where there is one.

@@ -14,16 +14,7 @@ use table_model::{Differ, Tag};
 pub(crate) fn missing(id: u16) -> Differ
     ensures { result.wanted ≢ result.found }
 {
-    let wanted = Tag { id, span: 0 };
-    let found = Tag {
-        id: 0xFFFF,
-        span: 0xFFFF,
-    };
-    Differ {
-        page: 0xFFFF,
-        wanted,
-        found,
-    }
+    Differ::no_page(Tag { id, span: 0 })
 }
 
 // Puts the header page of a new file: four programs, the last of which makes the file.

@@ -1,5 +1,5 @@
 // Where the header page of a file is.
-ghost use Rattle.std.specs.Prelude.{◌≡◌, ◌≢◌, ◌%◌, ◌<◌, ◌≤◌, OnErr, IfOk, IfSome, true};
+ghost use Rattle.std.specs.Prelude.{◌≡◌, ◌%◌, ◌<◌, ◌≤◌, OnErr, IfOk, IfSome, true};
 ghost use Rattle.std.specs.Bool.{OnTrue};
 ghost use Rattle.geometry.specs.Numbers.{page_count};
 ghost use Rattle.nor_core.specs.Count.{Rose};
@@ -13,7 +13,6 @@ use flash_view::{View, is_entry_page};
 use geometry::Geometry;
 use nor_core::{Failed, Nor, NorState};
 use page_layout::PageHeader;
-use table_model::{Differ, Tag};
 
 /// The header page of a file.
 #[derive(Clone, Copy, Debug, PartialEq, Eq)]
@@ -22,21 +21,6 @@ pub struct Found {
     pub header: u16,
     /// The size in bytes that it tells.
     pub size: u32,
-}
-
-/// That no page was found where one of an id and a span was wanted: no page number, and an id and a span that no page has.
-pub fn no_page(wanted: Tag) -> Differ
-    requires { wanted.span ≢ 0xFFFF }
-    ensures { result.wanted ≢ result.found }
-{
-    Differ {
-        page: 0xFFFF,
-        wanted,
-        found: Tag {
-            id: 0xFFFF,
-            span: 0xFFFF,
-        },
-    }
 }
 
 // Whether the header of a page is that of a page of an id. The id in a header is a word.

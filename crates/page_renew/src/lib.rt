@@ -15,7 +15,7 @@ pub use building::{build_copy, build_data, build_renamed, name_page};
 pub use copying::{erase_part, see_bytes};
 pub use counts::{data_pages, index_pages};
 pub use edits::{Edit, build_edited};
-pub use finding::{Found, find_home, no_page};
+pub use finding::{Found, find_home};
 pub use laws::edits_lead;
 pub use naming::{index_span, name_data};
 pub use renewing::{put_over, renew_at, renew_from, renew_header};

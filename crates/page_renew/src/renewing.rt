@@ -7,12 +7,12 @@ ghost use Rattle.page_renew.specs.Edits.{IsEditable};
 ghost use Rattle.page_renew.specs.Renewals.{replacing, renewing_at, renewing_from, renewing};
 
 use crate::edits::{Edit, build_edited};
-use crate::finding::{Found, find_home, no_page};
+use crate::finding::{Found, find_home};
 use flash_view::{Kind, StepErr, View};
 use free_search::free_page;
 use nor_core::{Failed, Nor, NorState};
 use page_put::{kill, put_page};
-use table_model::Tag;
+use table_model::{Differ, Tag};
 
 /// Puts the index page that was built at `to`, and kills the one that it takes the place of: six programs.
 pub fn put_over<N: Nor>(v: &mut View<'_, N>, to: u16, tag: Tag, old: u16) -> Result<(), Failed>
@@ -59,7 +59,7 @@ pub fn renew_from<N: Nor>(
 {
     match free_page(v, Kind::Index, 2, None) {
         Err(Failed) => Err(StepErr::DeviceFault),
-        Ok(None) => Err(StepErr::Damaged(no_page(Tag { id, span: 0 }))),
+        Ok(None) => Err(StepErr::Damaged(Differ::no_page(Tag { id, span: 0 }))),
         Ok(Some(to)) => match renew_at(v, id, header, to, edit) {
             Err(Failed) => Err(StepErr::DeviceFault),
             Ok(()) => Ok(()),
@@ -77,7 +77,7 @@ pub fn renew_header<N: Nor>(v: &mut View<'_, N>, id: u16, edit: Edit<'_>) -> Res
 {
     match find_home(v, id) {
         Err(Failed) => Err(StepErr::DeviceFault),
-        Ok(None) => Err(StepErr::Damaged(no_page(Tag { id, span: 0 }))),
+        Ok(None) => Err(StepErr::Damaged(Differ::no_page(Tag { id, span: 0 }))),
         Ok(Some(Found { header, .. })) => renew_from(v, id, header, edit),
     }
 }

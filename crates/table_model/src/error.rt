@@ -22,6 +22,27 @@ pub struct Differ {
     pub found: Tag,
 }
 
+impl Differ {
+    ghost use Rattle.std.specs.Prelude.{◌≡◌};
+
+    /// That no page was found where one was wanted: no page number, and an id and a span that no page has.
+    pub fn no_page(wanted: Tag) -> Differ
+        ensures page { result.page ≡ 0xFFFF }
+        ensures wanted { result.wanted ≡ wanted }
+        ensures no_id { result.found.id ≡ 0xFFFF }
+        ensures no_span { result.found.span ≡ 0xFFFF }
+    {
+        Differ {
+            page: 0xFFFF,
+            wanted,
+            found: Tag {
+                id: 0xFFFF,
+                span: 0xFFFF,
+            },
+        }
+    }
+}
+
 /// Why a call was refused.
 #[derive(Clone, Copy, Debug, PartialEq, Eq)]
 pub enum FsErr {
