@@ -16,7 +16,7 @@ use Rattle.image_model.specs.Tidy.{is_number}
 use Rattle.flash_view.specs.Found.{headed, has_header}
 use Rattle.flash_view.proofs.Least.{heads}
 use Rattle.file_find.proofs.Marking.{find_parts}
-use Rattle.file_find.proofs.Nearest.{header_parts}
+use Rattle.file_find.proofs.Heads.{header_parts}
 use Rattle.free_search.specs.Ids.{bit_of}
 use Rattle.free_search.proofs.Bits.{test_bit, set_here, set_other}
 use Rattle.vol_check.specs.Culls.{is_doubled, Culls}

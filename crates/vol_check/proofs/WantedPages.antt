@@ -26,7 +26,7 @@ use Rattle.image_laws.proofs.Wants.{wanted_from, wanted_parts}
 use Rattle.flash_view.specs.Found.{headed}
 use Rattle.flash_view.proofs.Spans.{index_known}
 use Rattle.file_find.proofs.Marking.{has_at}
-use Rattle.file_find.proofs.Nearest.{header_parts}
+use Rattle.file_find.proofs.Heads.{header_parts}
 use Rattle.file_find.proofs.Spans.{below_ceil, ceil_enough, slots_some}
 use Rattle.vol_check.specs.Culls.{IsSettled, is_unwanted}
 use Rattle.vol_check.specs.Needed.{AddsMarks, IsNamed, OfHead, OfFurther, OfFirst, OfFile, OfHeaded, HasFurthers, TellsUnwanted}
