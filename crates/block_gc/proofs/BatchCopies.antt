@@ -9,7 +9,7 @@ use Rattle.table_model.specs.declared.error.Tag.{Tag}
 use Rattle.flash_view.specs.declared.kinds.Kind.TheVariants.{Data}
 use Rattle.flash_view.specs.Steps.{Finishes}
 use Rattle.image_model.specs.Within.{sizes, page_length, entry_of_block}
-use Rattle.image_model.specs.Volume.{per_block, lookups, entries}
+use Rattle.geometry.specs.Numbers.{per_block, lookups, entries}
 use Rattle.image_model.specs.Headers.{obj_id, span_of, names_index}
 use Rattle.image_model.specs.Live.{live_at, own}
 use Rattle.image_model.specs.Places.{block_of, IsImage}

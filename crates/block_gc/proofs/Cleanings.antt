@@ -12,7 +12,7 @@ use Rattle.image_model.specs.Live.{live_at}
 use Rattle.image_model.specs.Places.{IsImage}
 use Rattle.image_model.specs.Tables.{table_of}
 use Rattle.image_model.specs.Tidy.{IsTidy, HasReserve}
-use Rattle.image_model.specs.Volume.{entries}
+use Rattle.geometry.specs.Numbers.{entries}
 use Rattle.image_model.specs.Collect.{chosen_block, is_stuck, Swept, are_had, free_where, takes_index, takes_data}
 use Rattle.image_model.specs.Sound.{Keeps}
 use Rattle.image_laws.proofs.BlockCounts.{blocks-split}

@@ -3,7 +3,7 @@ use Rattle.std.proofs.Common.{◌≡◌, ℕ, ◌+◌, ◌*◌, ◌<◌, ◌≤�
 use Rattle.std.specs.Prelude.{Option}
 use Rattle.std.proofs.lemmas.Bool.{cases_eq, cases_lt}
 use Rattle.geometry.specs.declared.geometry.Geometry.{Geometry}
-use Rattle.image_model.specs.Volume.{per_block, lookups, entries, page_count}
+use Rattle.geometry.specs.Numbers.{per_block, lookups, entries, page_count}
 use Rattle.image_model.specs.Within.{entry_of_block}
 use Rattle.image_model.specs.Live.{live_at}
 use Rattle.image_model.specs.Places.{block_of, IsImage}

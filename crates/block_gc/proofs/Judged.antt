@@ -5,7 +5,7 @@ use Rattle.std.specs.List.{range_with_len}
 use Rattle.std.proofs.lemmas.List.Sums.{sum_by-cons}
 use Rattle.std.proofs.lemmas.Bool.{cases_eq, eq-eqb, ne_eqb}
 use Rattle.geometry.specs.declared.geometry.Geometry.{Geometry}
-use Rattle.image_model.specs.Volume.{entries}
+use Rattle.geometry.specs.Numbers.{entries}
 use Rattle.image_model.specs.Places.{next_count}
 use Rattle.image_model.specs.Tidy.{IsTidy, is_free_block}
 use Rattle.image_model.specs.Collect.{free_in, free_where, free_outside, takes_index, takes_data, holds_index, is_worth, is_fitting, score}

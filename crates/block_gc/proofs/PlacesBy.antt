@@ -5,7 +5,7 @@ use Rattle.std.proofs.lemmas.Option.{same_Some}
 use Rattle.geometry.specs.declared.geometry.Geometry.{Geometry}
 use Rattle.flash_view.specs.declared.kinds.Kind.{Kind as PageKind}
 use Rattle.flash_view.specs.declared.kinds.Kind.TheVariants.{Index as IndexPage, Data as DataPage}
-use Rattle.image_model.specs.Volume.{entries}
+use Rattle.geometry.specs.Numbers.{entries}
 use Rattle.image_model.specs.Places.{block_of}
 use Rattle.image_model.specs.Tidy.{is_free_block, free_blocks}
 use Rattle.image_model.specs.Collect.{free_in}

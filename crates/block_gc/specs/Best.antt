@@ -3,7 +3,7 @@ use Rattle.std.specs.Prelude.{◌≡◌, ℕ, ◌<◌, List, Bool, true, false, 
 use Rattle.geometry.specs.declared.geometry.Geometry.{Geometry}
 use Rattle.std.specs.List.{range_with_len, list_any}
 use Rattle.free_search.specs.declared.blocks.BlockCounts.{BlockCounts}
-use Rattle.image_model.specs.Volume.{entries}
+use Rattle.geometry.specs.Numbers.{entries}
 use Rattle.image_model.specs.Kinds.{is_data_block}
 use Rattle.image_model.specs.Collect.{is_worth, is_fitting, score}
 use Rattle.block_gc.specs.Totals.{score_by, room_by, worth_by, fits_by}

@@ -1,9 +1,8 @@
 -- What cleaning block after block leaves, and where it stops.
 use Rattle.std.specs.Prelude.{◌≡◌, ℕ, ◌+◌, ◌<◌, ◌≤◌, ◌⊎◌, List, [], ◌∷◌, Option, Bool, true, false, Some, None}
 use Rattle.geometry.specs.declared.geometry.Geometry.{Geometry}
-use Rattle.geometry.specs.Numbers.{ceil}
+use Rattle.geometry.specs.Numbers.{ceil, entries}
 use Rattle.table_model.specs.Room.{index_count, data_count}
-use Rattle.image_model.specs.Volume.{entries}
 use Rattle.image_model.specs.Places.{IsImage}
 use Rattle.image_model.specs.Tables.{table_of}
 use Rattle.image_model.specs.Tidy.{IsTidy, free_blocks, HasReserve}

@@ -1,7 +1,7 @@
 -- What the turn of an entry of a block that is emptied asks of an image and leaves.
 use Rattle.std.specs.Prelude.{◌≡◌, ℕ, ◌<◌, ◌≤◌, List, None, true}
 use Rattle.geometry.specs.declared.geometry.Geometry.{Geometry}
-use Rattle.image_model.specs.Volume.{page_count}
+use Rattle.geometry.specs.Numbers.{page_count}
 use Rattle.image_model.specs.Live.{live_at}
 use Rattle.image_model.specs.Places.{block_of}
 use Rattle.image_model.specs.Tidy.{IsTidy}

@@ -2,8 +2,7 @@
 ghost use Rattle.std.specs.Prelude.{◌≡◌, ◌-◌, ◌<◌, OnErr, IfOk, if◌then◌else◌};
 ghost use Rattle.image_model.specs.Tidy.{IsTidy};
 ghost use Rattle.image_model.specs.Places.{next_count as the_next_count};
-ghost use Rattle.image_model.specs.Volume.{entries};
-ghost use Rattle.geometry.specs.Numbers.{ceil};
+ghost use Rattle.geometry.specs.Numbers.{entries, ceil};
 ghost use Rattle.nor_core.specs.Count.{Rose};
 ghost use Rattle.flash_view.specs.Same.{OnlyLooks};
 ghost use Rattle.block_gc.specs.Totals.{worth_by, fits_by, AreTotals};
@@ -35,7 +34,7 @@ fn is_worth(c: &BlockCounts, all: &Room, own: &Room) -> bool
 }
 
 // How many free blocks so many pages need beside the free entries of their kind.
-#[tactic(auto, unfolding(image_model::specs::Volume::entries, image_model::specs::Volume::per_block, image_model::specs::Volume::lookups))]
+#[tactic(auto, unfolding(geometry::specs::Numbers::entries, geometry::specs::Numbers::per_block, geometry::specs::Numbers::lookups))]
 pub(crate) fn blocks_for_kind(g: &Geometry, pages: u32, free: u32) -> u64
     ensures value { result ≡ ceil (pages - free) (entries g.now) }
     ensures below { result < 8589934592 }
@@ -97,7 +96,7 @@ fn better_if(passes: bool, best: Option<Scored>, other: Scored) -> Option<Scored
 }
 
 // The bests so far with a block more, by its counts.
-#[tactic(auto, unfolding(image_model::specs::Volume::entries, image_model::specs::Volume::per_block, image_model::specs::Volume::lookups))]
+#[tactic(auto, unfolding(geometry::specs::Numbers::entries, geometry::specs::Numbers::per_block, geometry::specs::Numbers::lookups))]
 fn rated(g: &Geometry, c: &BlockCounts, all: &Room, next: u16, bests: &Bests, block: u16) -> Bests
     ensures { result ≡ bests_by g.now c.now all.now next bests.now block }
 {

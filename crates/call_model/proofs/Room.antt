@@ -6,6 +6,7 @@ use Rattle.std.proofs.Math.Nat.{div-mul-le_self}
 use Rattle.std.proofs.lemmas.Nat.{le-div}
 use Rattle.std.proofs.lemmas.Bool.{cases_Bool, leb-true, le-leb}
 use Rattle.std.proofs.lemmas.List.Sums.{sum_by-cons}
+use Rattle.geometry.proofs.Bounds.{entry_left}
 use Rattle.geometry.specs.declared.geometry.Geometry.{Geometry}
 use Rattle.geometry.specs.Numbers.{ceil, entries}
 use Rattle.table_model.specs.Table.{File, State, drop_file}
@@ -34,8 +35,8 @@ sum_by-fewer h t (x ∷ xs) =
 fewer-room : (g : Geometry) (files less : List File) → index_count g less ≤ index_count g files → data_count g less ≤ data_count g files → has_room g files ≡ true → has_room g less ≡ true
 unfolding has_room
 fewer-room g files less index pages room =
-    let a = ceil-mono (index_count g less + 1) (index_count g files + 1) (entries g) (omega (arith, g.valid.some_entries)) (omega (arith, index)) in
-    let b = ceil-mono (data_count g less + 1) (data_count g files + 1) (entries g) (omega (arith, g.valid.some_entries)) (omega (arith, pages)) in
+    let a = ceil-mono (index_count g less + 1) (index_count g files + 1) (entries g) (omega (arith, entry_left g)) (omega (arith, index)) in
+    let b = ceil-mono (data_count g less + 1) (data_count g files + 1) (entries g) (omega (arith, entry_left g)) (omega (arith, pages)) in
     let had = leb-true _ g.blocks room in
     le-leb _ g.blocks (omega (arith, a, b, had))
 

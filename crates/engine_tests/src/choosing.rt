@@ -16,7 +16,7 @@ use std::alloc::Global;
 use std::test::Fail;
 
 // Whether a page is an entry page with a free entry.
-#[tactic(auto, unfolding(image_model::specs::Volume::page_count, image_model::specs::Volume::lookups, image_model::specs::Volume::per_block))]
+#[tactic(auto, unfolding(geometry::specs::Numbers::page_count, geometry::specs::Numbers::lookups, geometry::specs::Numbers::per_block))]
 fn is_free(g: &Geometry, image: &[u8], page: u16) -> bool
     requires { IsImage g.now image.now }
 {

@@ -5,10 +5,9 @@ use Rattle.std.proofs.lemmas.Bool.{cases_Bool, cases_lt, leb-true, le-leb, lt-lt
 use Rattle.std.proofs.lemmas.Nat.{le-div}
 use Rattle.std.proofs.Math.Nat.{div-add-mod, mul-le-mul_right}
 use Rattle.geometry.specs.declared.geometry.Geometry.{Geometry}
-use Rattle.geometry.specs.Numbers.{ceil, body, head_slots, span_slots, usable}
+use Rattle.geometry.specs.Numbers.{ceil, body, head_slots, span_slots, usable, entries, per_block, lookups}
 use Rattle.table_model.specs.Table.{File, file_of, put_file}
 use Rattle.table_model.specs.Room.{index_pages, data_pages, index_count, data_count, has_room}
-use Rattle.image_model.specs.Volume.{entries, per_block, lookups}
 use Rattle.image_model.specs.Tables.{table_of, damaged_of}
 use Rattle.image_laws.proofs.Serving.{ceil-mono, ceil-enough}
 use Rattle.room_laws.specs.Stopping.{HasRoomFor}

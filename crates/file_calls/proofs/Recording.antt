@@ -4,13 +4,12 @@ use Rattle.std.specs.Prelude.{Option, Some, None, find}
 use Rattle.std.specs.List.{range_with_len}
 use Rattle.std.specs.Option.{option_map}
 use Rattle.geometry.specs.declared.geometry.Geometry.{Geometry}
-use Rattle.geometry.specs.Numbers.{entries}
+use Rattle.geometry.specs.Numbers.{entries, page_count}
 use Rattle.table_model.specs.Table.{File, file_of, file_named, file_above}
 use Rattle.table_model.specs.Files.{stat_of}
 use Rattle.table_model.specs.Calls.{info_of}
 use Rattle.image_model.specs.Places.{IsImage, page_of}
 use Rattle.image_model.specs.Live.{live_at, own}
-use Rattle.image_model.specs.Volume.{page_count}
 use Rattle.image_model.specs.Files.{index_page, is_index}
 use Rattle.image_laws.proofs.Frames.{live_parts}
 use Rattle.image_model.specs.Tables.{table_of}

@@ -6,6 +6,7 @@ use Rattle.std.proofs.lemmas.Bool.{cases_Bool, cases_lt, lt-leb}
 use Rattle.std.proofs.lemmas.List.Sums.{sum_by-cons}
 use Rattle.std.proofs.lemmas.Nat.{le-div}
 use Rattle.std.proofs.Math.Nat.{div-le_of_le-mul, mul-le-mul_left, mul-le-mul_right}
+use Rattle.geometry.proofs.Bounds.{few_pages, some_entries}
 use Rattle.geometry.specs.declared.geometry.Geometry.{Geometry}
 use Rattle.geometry.specs.Numbers.{ceil, body, head_slots, span_slots, per_block, entries}
 use Rattle.table_model.specs.Table.{File, file_of, put_file}
@@ -124,9 +125,9 @@ all_blocks : (g : Geometry) (pages : ℕ) → 65535 < pages → g.blocks < ceil 
 all_blocks g pages many = ⊎_elim
     (λ (more : g.blocks < ceil pages (entries g)). more)
     (λ (fits : ceil pages (entries g) ≤ g.blocks).
-    let few = g.valid.few_pages in
+    let few = few_pages g in
     let within : entries g ≤ per_block g = omega arith in
-    let some = g.valid.some_entries in
+    let some = some_entries g in
     let enough = ceil-enough pages (entries g) (omega (arith, some)) in
     let a = mul-le-mul_right (entries g) fits in
     let b = mul-le-mul_left g.blocks within in

@@ -2,7 +2,7 @@
 use Rattle.std.proofs.Common.{length, ◌*◌, Result, Ok, Err, OnOk, ◌≡◌, ℕ, ◌+◌, ◌<◌, ◌≤◌, List, Bool, true, false, Some, refl, sym, ◌∙◌, arith, ⊎_elim, inl, inr}
 use Rattle.std.proofs.lemmas.Bool.{cases_eq}
 use Rattle.geometry.specs.declared.geometry.Geometry.{Geometry}
-use Rattle.image_model.specs.Volume.{page_count}
+use Rattle.geometry.specs.Numbers.{page_count}
 use Rattle.image_model.specs.Within.{page_number}
 use Rattle.image_model.specs.Places.{IsImage}
 use Rattle.image_model.specs.Live.{live_at, own}

@@ -17,7 +17,7 @@ use Rattle.image_model.specs.Tables.{table_of, damaged_of}
 use Rattle.image_model.specs.Tidy.{IsTidy, HasReserve, is_free_block, free_blocks, is_wanted}
 use Rattle.image_model.specs.Sound.{HasMagics, IsSound}
 use Rattle.image_model.specs.Kinds.{is_data_block, is_data_page}
-use Rattle.image_model.specs.Volume.{page_count, per_block, lookups, entries}
+use Rattle.geometry.specs.Numbers.{page_count, per_block, lookups, entries}
 use Rattle.image_model.specs.Within.{sizes, entry_of_block, page_number}
 use Rattle.flash_view.specs.Found.{has_header}
 use Rattle.flash_view.specs.declared.kinds.Kind.TheVariants.{Index}

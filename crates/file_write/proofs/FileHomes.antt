@@ -7,10 +7,9 @@ use Rattle.std.proofs.lemmas.List.FromFn.{length-range_with_len}
 use Rattle.std.proofs.lemmas.List.Sums.{sum_by-cons}
 use Rattle.std.proofs.lemmas.Option.{none-some, same_Some}
 use Rattle.geometry.specs.declared.geometry.Geometry.{Geometry}
-use Rattle.geometry.specs.Numbers.{per_block as pages_in_block}
+use Rattle.geometry.specs.Numbers.{page_count, per_block}
 use Rattle.table_model.specs.Table.{File, file_of}
 use Rattle.table_model.specs.Room.{data_pages, data_count}
-use Rattle.image_model.specs.Volume.{page_count, per_block}
 use Rattle.image_model.specs.Within.{sizes}
 use Rattle.image_model.specs.Headers.{size_of}
 use Rattle.image_model.specs.Live.{live_at}
@@ -34,12 +33,12 @@ page_few : (g : Geometry) → page_count g ≤ 65535
 unfolding page_count per_block
 page_few g =
     let whole : g.blocks * g.block ≤ 65535 * g.page = g.valid.few_bytes in
-    let product : g.blocks * g.block ≡ g.blocks * (pages_in_block g * g.page) = ap (λ (k : ℕ). g.blocks * k) (let geo = sizes g in geo.block) in
+    let product : g.blocks * g.block ≡ g.blocks * (per_block g * g.page) = ap (λ (k : ℕ). g.blocks * k) (let geo = sizes g in geo.block) in
     let big : 128 ≤ g.page = (sizes g).page in
     ⊎_elim
-    (λ (more : 65535 < g.blocks * pages_in_block g). let long : 65536 * g.page ≤ g.blocks * pages_in_block g * g.page = mul-le-mul_right g.page (omega (arith, more)) in absurd (omega (arith, long, whole, product, big)))
-    (λ (few : g.blocks * pages_in_block g ≤ 65535). omega (arith, few))
-    (cases_lt 65535 (g.blocks * pages_in_block g))
+    (λ (more : 65535 < g.blocks * per_block g). let long : 65536 * g.page ≤ g.blocks * per_block g * g.page = mul-le-mul_right g.page (omega (arith, more)) in absurd (omega (arith, long, whole, product, big)))
+    (λ (few : g.blocks * per_block g ≤ 65535). omega (arith, few))
+    (cases_lt 65535 (g.blocks * per_block g))
 
 -- a file of a table has no more data pages than all of them
 one_of : (w : File → ℕ) (id : ℕ) (files : List File) (f : File) → find (λ (x : File). x.id == id) files ≡ Some f → w f ≤ sum_by w files

@@ -3,13 +3,12 @@ use Rattle.std.proofs.Common.{◌≡◌, ℕ, ◌+◌, ◌-◌, ◌*◌, ◌/◌
 use Rattle.std.specs.Prelude.{nat_le, ◌&&◌, if◌then◌else◌, is_some, slice_index, slice_range}
 use Rattle.std.proofs.lemmas.Option.{none-some, cond_some, option_and_then_some}
 use Rattle.geometry.specs.declared.geometry.Geometry.{Geometry}
-use Rattle.geometry.specs.Numbers.{body, head_slots, span_slots, page_count as all_pages}
+use Rattle.geometry.specs.Numbers.{body, head_slots, span_slots, page_count, per_block}
 use Rattle.nor_core.specs.Flash.{HalfProgrammed, SameOutside, programmed}
 use Rattle.nor_core.proofs.Programs.{half_programmed}
 use Rattle.table_model.specs.Table.{File, put_file}
 use Rattle.table_model.specs.Files.{written}
 use Rattle.table_model.specs.Room.{data_pages}
-use Rattle.image_model.specs.Volume.{page_count, per_block}
 use Rattle.image_model.specs.Headers.{names_index, span_of, size_of}
 use Rattle.image_model.specs.Live.{Live, live_at, own}
 use Rattle.image_model.specs.Files.{entry_number, data_of, data_page}
@@ -90,7 +89,7 @@ pub record LastData (g : Geometry) (a : List ℕ) (id : ℕ) (head : List ℕ) :
   pub q : ℕ
   pub x : List ℕ
   pub number : data_number_of g a id (size_of head / body g) ≡ Some q
-  pub inside : q < all_pages g
+  pub inside : q < page_count g
   pub whole : data_page g (own (live_at g a) id) head (size_of head / body g) ≡ Some x
   pub bytes : page_of g a q ≡ x
   pub long : length (page_of g a q) ≡ g.page
@@ -139,7 +138,7 @@ module _ (g : Geometry) (a : List ℕ) (id h size : ℕ) (bytes : List ℕ) (f :
   clear = primed_clear g a a id h can.head f (λ r. false) can.prime
 
   -- the file's last data page is found where it ends inside it
-  pub last_there : 0 < size % body g → ((q : ℕ) → data_number_of g a id (size / body g) ≡ Some q → q < all_pages g → size / body g ≤ 0xFFFF → ⊥) → ⊥
+  pub last_there : 0 < size % body g → ((q : ℕ) → data_number_of g a id (size / body g) ≡ Some q → q < page_count g → size / body g ≤ 0xFFFF → ⊥) → ⊥
   last_there used none =
       let last = last_data g a id h can.head f can.prime (subst (λ (n : ℕ). 0 < n % body g) can.told used) in
       let number : data_number_of g a id (size / body g) ≡ Some last.q = subst (λ (m : ℕ). data_number_of g a id (m / body g) ≡ Some last.q) (sym can.told) last.number in

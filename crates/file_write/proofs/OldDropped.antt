@@ -5,7 +5,7 @@ use Rattle.std.specs.Option.{option_map}
 use Rattle.std.proofs.lemmas.Bool.{eq-eqb}
 use Rattle.std.proofs.lemmas.Option.{none-some}
 use Rattle.geometry.specs.declared.geometry.Geometry.{Geometry}
-use Rattle.geometry.specs.Numbers.{page_count as all_pages}
+use Rattle.geometry.specs.Numbers.{page_count, per_block}
 use Rattle.table_model.specs.Table.{File}
 use Rattle.flash_view.specs.DataPages.{data_number_of}
 use Rattle.flash_view.specs.Steps.{Finishes}
@@ -14,7 +14,6 @@ use Rattle.image_model.specs.Files.{index_page, entry_number, index_span}
 use Rattle.image_model.specs.Places.{is_entry_page}
 use Rattle.image_model.specs.Sound.{Keeps}
 use Rattle.image_model.specs.Tidy.{free_blocks}
-use Rattle.image_model.specs.Volume.{page_count, per_block}
 use Rattle.image_model.specs.Within.{page_number}
 use Rattle.image_laws.specs.LiveSteps.{KillLeaves, KillDone}
 use Rattle.image_laws.specs.Reindex.{slot_word}
@@ -76,7 +75,7 @@ module _ (g : Geometry) (a : List ℕ) (patch : Patch) (bytes : List ℕ) (f : F
       let q_in = (live_parts g a x_there.0 named.z q_live).entry_page in
       by (index_page g (own (live_at g a) patch.id) (index_span g patch.span)) refl (page_number g x_there.0 q_in) q_in
     where
-      by : (o : Option ℕ) → index_page g (own (live_at g a) patch.id) (index_span g patch.span) ≡ o → x_there.0 < all_pages g → is_entry_page g x_there.0 ≡ true → ⊥
+      by : (o : Option ℕ) → index_page g (own (live_at g a) patch.id) (index_span g patch.span) ≡ o → x_there.0 < page_count g → is_entry_page g x_there.0 ≡ true → ⊥
       by None e low inside =
           let slot = entry-slot g (own (live_at g a) patch.id) can.h can.head patch.span can.prime.at can.prime.header in
           let gone : entry_number g (own (live_at g a) patch.id) can.head patch.span ≡ None = slot ∙ ap (λ (o : Option ℕ). option_map (λ (l : List ℕ). slot_word g l patch.span) (option_and_then (own (live_at g a) patch.id) o)) e in

@@ -5,8 +5,7 @@ use Rattle.std.specs.Option.{option_map}
 use Rattle.geometry.specs.declared.geometry.Geometry.{Geometry}
 use Rattle.page_layout.specs.declared.header.PageHeader.{PageHeader}
 use Rattle.std.proofs.lemmas.Bool.{eq-eqb, lt-ltb, le-ltb}
-use Rattle.geometry.specs.Numbers.{per_block as pages_of_block, lookups as lookups_of_block}
-use Rattle.image_model.specs.Volume.{page_count, per_block, lookups}
+use Rattle.geometry.specs.Numbers.{page_count, per_block, lookups}
 use Rattle.flash_view.specs.Places.{IsEntryPage}
 use Rattle.page_layout.specs.Layout.{header_at, names_index, is_finished}
 use Rattle.image_model.specs.Headers.{obj_id, is_finished as is_finished_page}
@@ -52,7 +51,7 @@ none_seen live p id span e = unseen (live p) id span e
 -- an entry page by its number
 pub entry_page_told : (g : Geometry) (p : ℕ) → IsEntryPage g p → is_entry_page g p ≡ true
 unfolding is_entry_page page_count per_block lookups
-entry_page_told g p place = rw (lt-ltb p (g.blocks * pages_of_block g) place.below, le-ltb (p % pages_of_block g) (lookups_of_block g) place.behind) refl
+entry_page_told g p place = rw (lt-ltb p (g.blocks * per_block g) place.below, le-ltb (p % per_block g) (lookups g) place.behind) refl
 
 -- a page that its block, its entry and its header tell to be live
 pub live_by : (g : Geometry) (image : List ℕ) (p entry : ℕ) (head : PageHeader) → IsEntryPage g p → has_magic g image (block_of g p) ≡ true →

@@ -6,8 +6,10 @@ use Rattle.geometry.specs.declared.geometry.Geometry.{Geometry}
 use Rattle.geometry.specs.Numbers.{per_block, page_count, lookups, slots}
 use Rattle.page_cache.specs.Frames.{InOnePage}
 use Rattle.page_cache.proofs.Places.{lt_or_le}
-use Rattle.flash_view.specs.Places.{IsEntryPage, slot_start, entry_start, magic_start, count_start, block_of, place_of}
-use Rattle.flash_view.proofs.Inside.{entry_inside, magic_inside, volume_pages, block_pages}
+use Rattle.flash_view.specs.Places.{IsEntryPage, slot_start, magic_start, count_start}
+use Rattle.image_model.specs.Places.{block_of, place_of, entry_at}
+use Rattle.flash_view.proofs.Inside.{entry_inside, magic_inside}
+use Rattle.geometry.proofs.Bounds.{magic_fits, volume_pages, block_pages}
 
 -- a part of a page
 pub part_in_page : (g : Geometry) (page start n at : ℕ) → page < page_count g → 0 < n → start + n ≤ g.page → at ≡ page * g.page + start → InOnePage g at n
@@ -70,11 +72,11 @@ even_in_page g at even inside =
       inside = omega (arith, whole, twice, low, even, half);
     }
 
-pub entry_in_page : (g : Geometry) (page : ℕ) → IsEntryPage g page → InOnePage g (entry_start g page) 2
-entry_in_page g page place = even_in_page g (entry_start g page) (even_slot g (block_of g page) (place_of g page - lookups g)) (entry_inside g page place)
+pub entry_in_page : (g : Geometry) (page : ℕ) → IsEntryPage g page → InOnePage g (entry_at g page) 2
+entry_in_page g page place = even_in_page g (entry_at g page) (even_slot g (block_of g page) (place_of g page - lookups g)) (entry_inside g page place)
 
 pub magic_in_page : (g : Geometry) (block : ℕ) → block < g.blocks → InOnePage g (magic_start g block) 2
 magic_in_page g block below = even_in_page g (magic_start g block) (even_slot g block (slots g - 2)) (omega (arith, magic_inside g block below))
 
 pub count_in_page : (g : Geometry) (block : ℕ) → block < g.blocks → InOnePage g (count_start g block) 2
-count_in_page g block below = even_in_page g (count_start g block) (even_slot g block (slots g - 1)) (omega (arith, magic_inside g block below, g.valid.magic_fits))
+count_in_page g block below = even_in_page g (count_start g block) (even_slot g block (slots g - 1)) (omega (arith, magic_inside g block below, magic_fits g))

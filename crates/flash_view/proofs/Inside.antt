@@ -1,55 +1,43 @@
 -- Pages, entries and slots stand inside the volume, and their places fit 32 bits.
-use Rattle.std.proofs.Common.{ℕ, ◌≡◌, ◌+◌, ◌-◌, ◌*◌, ◌/◌, ◌%◌, ◌<◌, ◌≤◌, ap, ◌∙◌, arith}
-use Rattle.std.proofs.Math.Nat.{mul-le-mul_right, mul-le-mul_left, mul_assoc, div-lt_iff_lt-mul, mod-lt}
+use Rattle.std.proofs.Common.{ℕ, ◌≡◌, ◌+◌, ◌-◌, ◌*◌, ◌%◌, ◌<◌, ◌≤◌, arith}
+use Rattle.std.proofs.Math.Nat.{mul-le-mul_right, mod-lt}
 use Rattle.std.proofs.lemmas.Nat.{mod-mul-add}
+use Rattle.geometry.proofs.Bounds.{some_pages, some_entries, magic_fits, block_pages, block_inside, block_below}
 use Rattle.geometry.specs.declared.geometry.Geometry.{Geometry}
 use Rattle.geometry.specs.Numbers.{per_block, lookups, entries, page_count, slots}
-use Rattle.flash_view.specs.Places.{IsEntryPage, block_of, place_of, entry_start, magic_start}
-
--- a block is its pages
-pub block_pages : (g : Geometry) → per_block g * g.page ≡ g.block
-block_pages g = grind (arith, g.valid.whole_pages)
-
--- the volume is below 2 ^ 28 bytes
-pub volume_small : (g : Geometry) → g.blocks * g.block ≤ 268431360
-volume_small g = omega (arith, g.valid.few_bytes, mul-le-mul_left 65535 g.valid.page_most)
-
-pub block_inside : (g : Geometry) (b : ℕ) → b < g.blocks → b * g.block + g.block ≤ g.blocks * g.block
-block_inside g b below = let next : b + 1 ≤ g.blocks = omega arith in omega (arith, mul-le-mul_right g.block next)
-
--- the volume is its pages
-pub volume_pages : (g : Geometry) → page_count g * g.page ≡ g.blocks * g.block
-volume_pages g = mul_assoc g.blocks (per_block g) g.page ∙ ap (λ n. g.blocks * n) (block_pages g)
-
-pub page_inside : (g : Geometry) (p : ℕ) → p < page_count g → p * g.page + g.page ≤ g.blocks * g.block
-page_inside g p below =
-    let next : p + 1 ≤ g.blocks * per_block g = omega arith in
-    omega (arith, mul-le-mul_right g.page next, volume_pages g)
+use Rattle.flash_view.specs.Places.{IsEntryPage, magic_start}
+use Rattle.image_model.specs.Places.{block_of, place_of, entry_at}
 
 -- the lookup pages lie in the block
 pub lookups_inside : (g : Geometry) → lookups g * g.page ≤ g.block
 lookups_inside g =
-    let few : lookups g ≤ per_block g = omega (arith, g.valid.some_entries) in
+    let few : lookups g ≤ per_block g = omega (arith, some_entries g) in
     omega (arith, mul-le-mul_right g.page few, block_pages g)
 
-pub block_below : (g : Geometry) (p : ℕ) → p < page_count g → p / per_block g < g.blocks
-block_below g p below = let some : 0 < per_block g = omega (arith, g.valid.some_pages) in (div-lt_iff_lt-mul some).1 below
-
-pub entry_inside : (g : Geometry) (p : ℕ) → IsEntryPage g p → entry_start g p + 2 ≤ g.blocks * g.block
-entry_inside g p entry =
-    let some : 0 < per_block g = omega (arith, g.valid.some_pages) in
+pub entry_slot : (g : Geometry) (p : ℕ) → IsEntryPage g p → p % per_block g - lookups g < slots g
+unfolding entries
+entry_slot g p entry =
+    let some : 0 < per_block g = omega (arith, some_pages g) in
     let place : place_of g p < per_block g = mod-lt p some in
-    let slot : place_of g p - lookups g + 3 ≤ slots g = omega (arith, g.valid.magic_fits, entry.behind, place) in
+    omega (arith, magic_fits g, entry.behind, place)
+
+pub entry_inside : (g : Geometry) (p : ℕ) → IsEntryPage g p → entry_at g p + 2 ≤ g.blocks * g.block
+unfolding entries
+entry_inside g p entry =
+    let some : 0 < per_block g = omega (arith, some_pages g) in
+    let place : place_of g p < per_block g = mod-lt p some in
+    let slot : place_of g p - lookups g + 3 ≤ slots g = omega (arith, magic_fits g, entry.behind, place) in
     omega (arith, slot, lookups_inside g, block_inside g (block_of g p) (block_below g p entry.below))
 
 pub magic_inside : (g : Geometry) (b : ℕ) → b < g.blocks → magic_start g b + 4 ≤ g.blocks * g.block
-magic_inside g b below = omega (arith, g.valid.magic_fits, lookups_inside g, block_inside g b below)
+magic_inside g b below = omega (arith, magic_fits g, lookups_inside g, block_inside g b below)
 
 -- the page of an entry is an entry page of the block
 pub entry_page_is : (g : Geometry) (b i p : ℕ) → b < g.blocks → i < entries g → p ≡ b * per_block g + lookups g + i → IsEntryPage g p
+unfolding entries page_count
 entry_page_is g b i p block entry is =
     let next : b + 1 ≤ g.blocks = omega arith in
-    let place : lookups g + i < per_block g = omega (arith, entry, g.valid.some_entries) in
+    let place : lookups g + i < per_block g = omega (arith, entry, some_entries g) in
     let sum : p ≡ b * per_block g + (lookups g + i) = omega (arith, is) in
     let at : p % per_block g ≡ lookups g + i = rw sum (mod-mul-add b (per_block g) (lookups g + i) place) in
     record {

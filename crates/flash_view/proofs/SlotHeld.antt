@@ -3,66 +3,39 @@ use Rattle.std.proofs.Common.{ℕ, ◌≡◌, ◌+◌, ◌-◌, ◌*◌, ◌/◌
 use Rattle.std.specs.Prelude.{slice_index}
 use Rattle.std.proofs.Math.Nat.{mul-le-mul_right, mul_assoc, div-lt_iff_lt-mul, mod-lt}
 use Rattle.std.proofs.lemmas.Nat.{div-add-mod'}
+use Rattle.geometry.proofs.Bounds.{some_entries, magic_fits, block_pages}
 use Rattle.geometry.specs.declared.geometry.Geometry.{Geometry}
-use Rattle.geometry.specs.Numbers.{page_count as pages_of, per_block as pages_of_block, lookups as lookups_of_block, entries as entries_of_block}
+use Rattle.geometry.specs.Numbers.{per_block, lookups, entries, page_count, slots}
 use Rattle.nor_core.specs.Flash.{word_at}
-use Rattle.image_model.specs.Volume.{per_block, lookups, entries, page_count, slots}
 use Rattle.image_model.specs.Places.{page_of, slot_of}
-use Rattle.flash_view.proofs.Inside.{block_pages}
 use Rattle.flash_view.proofs.InPage.{even_page}
 use Rattle.flash_view.specs.Places.{IsWordAt}
 use Rattle.flash_view.proofs.Within.{word_of_page, word_held}
 
 -- a block has lookup pages, and entry pages
 pub some_pages : (g : Geometry) → (1 ≤ lookups g) × (lookups g + entries g ≡ per_block g) × (1 ≤ entries g)
-unfolding per_block lookups entries
-some_pages g = (omega arith, omega (arith, g.valid.some_entries), omega (arith, g.valid.some_entries))
-
--- the numbers that the code has
-pub entries_told : (g : Geometry) → entries_of_block g ≡ entries g
-unfolding per_block lookups entries
-entries_told g = refl
-
-pub pages_told : (g : Geometry) → pages_of_block g ≡ per_block g
-unfolding per_block
-pages_told g = refl
-
-pub lookups_told : (g : Geometry) → lookups_of_block g ≡ lookups g
-unfolding lookups
-lookups_told g = refl
-
-pub volume_told : (g : Geometry) → pages_of g ≡ page_count g
-unfolding page_count per_block
-volume_told g = refl
-
-pub all_told : (g : Geometry) → g.blocks * per_block g ≡ page_count g
-unfolding page_count
-all_told g = refl
+unfolding lookups entries
+some_pages g = (omega arith, omega (arith, some_entries g), omega (arith, some_entries g))
 
 -- slots of two bytes in a page, of which a block's lookup pages have enough
 module _ (g : Geometry) where
   whole_page : g.page ≡ 2 * (g.page / 2)
   whole_page = omega (arith, even_page g)
 
-  whole_block : per_block g * g.page ≡ g.block
-  unfolding per_block
-  whole_block = block_pages g
-
   pub slots_fit : 2 * entries g + 4 ≤ lookups g * g.page
-  unfolding per_block lookups entries
-  slots_fit = omega (arith, g.valid.magic_fits)
+  slots_fit = omega (arith, magic_fits g)
 
   pub lookup_below : (i : ℕ) → i < slots g → 2 * i / g.page < lookups g
   lookup_below i below = (div-lt_iff_lt-mul (omega (arith, g.valid.page_least))).1 (omega (arith, below))
 
-  pub entry_slot : (i : ℕ) → i < entries g → i < slots g
-  entry_slot i below = omega (arith, below, slots_fit)
+  pub entry_below : (i : ℕ) → i < entries g → i < slots g
+  entry_below i below = omega (arith, below, slots_fit)
 
-  pub lookup_page_below : (block k : ℕ) → block < g.blocks → k < lookups g → block * per_block g + k < pages_of g
-  unfolding per_block lookups
+  pub lookup_page_below : (block k : ℕ) → block < g.blocks → k < lookups g → block * per_block g + k < page_count g
+  unfolding page_count
   lookup_page_below block k below few =
       let next : block + 1 ≤ g.blocks = omega arith in
-      omega (arith, few, g.valid.some_entries, mul-le-mul_right (per_block g) next)
+      omega (arith, few, some_entries g, mul-le-mul_right (per_block g) next)
 
   -- where a lookup page has s slots, those of page k begin at k * s
   pub record InLookup (s k at : ℕ) : Type 0 where
@@ -91,7 +64,7 @@ module _ (g : Geometry) where
   in_place block k i is =
       let w = in_lookup (g.page / 2) k i refl is in
       let twice : k * g.page ≡ k * (2 * (g.page / 2)) = ap (λ (n : ℕ). k * n) whole_page in
-      let blocks : block * per_block g * g.page ≡ block * g.block = mul_assoc block (per_block g) g.page ∙ ap (λ (n : ℕ). block * n) whole_block in
+      let blocks : block * per_block g * g.page ≡ block * g.block = mul_assoc block (per_block g) g.page ∙ ap (λ (n : ℕ). block * n) (block_pages g) in
       record {
         low = omega (arith, w.low, twice);
         fits = omega (arith, w.high, twice, whole_page);
@@ -115,7 +88,7 @@ module _ (g : Geometry) where
   slot_held image s block k i half below =
       let page : g.page ≡ 2 * s = omega (arith, whole_page, half) in
       let twice : k * g.page ≡ k * (2 * s) = ap (λ (n : ℕ). k * n) page in
-      let blocks : block * per_block g * g.page ≡ block * g.block = mul_assoc block (per_block g) g.page ∙ ap (λ (n : ℕ). block * n) whole_block in
+      let blocks : block * per_block g * g.page ≡ block * g.block = mul_assoc block (per_block g) g.page ∙ ap (λ (n : ℕ). block * n) (block_pages g) in
       let place : (block * per_block g + k) * g.page + 2 * i ≡ block * g.block + 2 * (k * s + i) = omega (arith, twice, blocks) in
       sym (word_of_page g image (block * per_block g + k) (2 * i) (omega (arith, page, below))) ∙ ap (word_at image) place
 

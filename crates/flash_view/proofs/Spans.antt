@@ -5,10 +5,9 @@ use Rattle.std.specs.List.{range_with_len}
 use Rattle.std.specs.Option.{option_map}
 use Rattle.std.proofs.lemmas.Bool.{cases_Bool, cases_lt, eqb-true, lt-ltb, le-ltb}
 use Rattle.geometry.specs.declared.geometry.Geometry.{Geometry}
-use Rattle.geometry.specs.Numbers.{head_slots, span_slots, page_count as pages_of}
+use Rattle.geometry.specs.Numbers.{head_slots, span_slots, page_count, per_block}
 use Rattle.page_layout.specs.declared.header.PageHeader.{PageHeader}
 use Rattle.page_layout.specs.Layout.{header_at, names_index as names_index_head}
-use Rattle.image_model.specs.Volume.{page_count, per_block}
 use Rattle.image_model.specs.Headers.{obj_id, span_of, names_index}
 use Rattle.nor_core.specs.Flash.{word_at}
 use Rattle.image_model.specs.Places.{page_of, is_entry_page}
@@ -49,11 +48,11 @@ unfolding own
 data_unseen live p id span e = unseen (live p) id span e
 
 -- past the volume's end no page is live
-beyond : (g : Geometry) (image : List ℕ) (p : ℕ) → pages_of g ≤ p → live_at g image p ≡ None
+beyond : (g : Geometry) (image : List ℕ) (p : ℕ) → page_count g ≤ p → live_at g image p ≡ None
 unfolding live_at is_live is_entry_page page_count per_block
-beyond g image p far = rw (le-ltb p (pages_of g) far) refl
+beyond g image p far = rw (le-ltb p (page_count g) far) refl
 
-pub data_beyond : (g : Geometry) (image : List ℕ) (p id span : ℕ) → pages_of g ≤ p → is_some (data_of (own (live_at g image) id p) span) ≡ false
+pub data_beyond : (g : Geometry) (image : List ℕ) (p id span : ℕ) → page_count g ≤ p → is_some (data_of (own (live_at g image) id p) span) ≡ false
 unfolding own
 data_beyond g image p id span far = rw (beyond g image p far) refl
 

@@ -9,7 +9,7 @@ use Rattle.page_layout.specs.declared.header.PageHeader.{PageHeader}
 use Rattle.page_layout.specs.Layout.{header_at, is_between, end_of}
 use Rattle.page_cache.proofs.Places.{lt_or_le}
 use Rattle.nor_core.specs.Flash.{word_at}
-use Rattle.image_model.specs.Volume.{per_block, lookups, entries, page_count}
+use Rattle.geometry.specs.Numbers.{per_block, lookups, entries, page_count}
 use Rattle.image_model.specs.Places.{page_of, slot_of, entry_of, is_entry_page, block_of, place_of}
 use Rattle.image_model.specs.Live.{live_at, is_live}
 use Rattle.flash_view.specs.Walk.{IsPassedSlot, IsNextSlot, FirstSlot, IsPassed, IsNextLive}

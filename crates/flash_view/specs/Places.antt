@@ -1,14 +1,8 @@
 -- Where pages and entries stand on the device.
-use Rattle.std.specs.Prelude.{ℕ, ◌+◌, ◌-◌, ◌*◌, ◌/◌, ◌%◌, ◌<◌, ◌≤◌, List, slice_index}
+use Rattle.std.specs.Prelude.{ℕ, ◌+◌, ◌-◌, ◌*◌, ◌<◌, ◌≤◌, List, slice_index}
 use Rattle.geometry.specs.declared.geometry.Geometry.{Geometry}
-use Rattle.geometry.specs.Numbers.{per_block, lookups, page_count, slots}
-
--- the block of a page, and its place there
-abbrev pub block_of : Geometry → ℕ → ℕ
-block_of g page = page / per_block g
-
-abbrev pub place_of : Geometry → ℕ → ℕ
-place_of g page = page % per_block g
+use Rattle.geometry.specs.Numbers.{lookups, page_count, slots}
+use Rattle.image_model.specs.Places.{place_of}
 
 -- a page of the volume that is no lookup page
 pub record IsEntryPage (g : Geometry) (page : ℕ) : Type 0 where
@@ -22,10 +16,6 @@ page_start g page = page * g.page
 -- the first byte of a slot of a block's lookup pages
 abbrev pub slot_start : Geometry → ℕ → ℕ → ℕ
 slot_start g block slot = block * g.block + 2 * slot
-
--- the first byte of a page's entry
-abbrev pub entry_start : Geometry → ℕ → ℕ
-entry_start g page = slot_start g (block_of g page) (place_of g page - lookups g)
 
 -- the first bytes of a block's magic and erase count: the last two slots
 abbrev pub magic_start : Geometry → ℕ → ℕ

@@ -3,7 +3,7 @@ use Rattle.std.specs.Prelude.{◌≡◌, ℕ, ◌<◌, ◌≤◌, List, true, fa
 use Rattle.geometry.specs.declared.geometry.Geometry.{Geometry}
 use Rattle.page_layout.specs.declared.header.PageHeader.{PageHeader}
 use Rattle.page_layout.specs.Layout.{header_at, is_between}
-use Rattle.image_model.specs.Volume.{entries, page_count}
+use Rattle.geometry.specs.Numbers.{entries, page_count}
 use Rattle.image_model.specs.Places.{page_of, slot_of, entry_of, is_entry_page}
 use Rattle.image_model.specs.Live.{is_live}
 

@@ -54,7 +54,7 @@ fn is_index_entry(entry: u16) -> bool
 impl<'b, N: Nor> View<'b, N> {
     /// The header of a page, if the page is live: in a block with its magic, finished, not deleted, and
     /// named by its entry.
-    #[tactic(auto, unfolding(image_model::specs::Live::live_at, image_model::specs::Live::is_live, image_model::specs::Places::is_entry_page, image_model::specs::Volume::page_count, image_model::specs::Volume::per_block, image_model::specs::Volume::lookups), using(crate::proofs::Looking::looks_then))]
+    #[tactic(auto, unfolding(image_model::specs::Live::live_at, image_model::specs::Live::is_live, image_model::specs::Places::is_entry_page, geometry::specs::Numbers::page_count, geometry::specs::Numbers::per_block, geometry::specs::Numbers::lookups), using(crate::proofs::Looking::looks_then))]
     pub fn live_header(&mut self, page: u16) -> Result<Option<PageHeader>, Failed>
         requires { page < page_count self.old.geometry }
         ensures cause { OnErr result (Rose (N.faults self.old.nor.now) (N.faults self.new.nor.now)) }

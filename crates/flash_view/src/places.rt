@@ -1,16 +1,15 @@
 ghost use Rattle.std.specs.Prelude.{◌≡◌, ◌+◌, ◌*◌, ◌/◌, ◌%◌, ◌<◌, ◌≤◌};
 ghost use Rattle.std.specs.Bool.{OnTrue, OnFalse};
-ghost use Rattle.geometry.specs.Numbers.{page_count, per_block, lookups, entries};
-ghost use Rattle.flash_view.specs.Places.{IsEntryPage, block_of as the_block_of, page_start as the_page_start, entry_start as the_entry_start, magic_start as the_magic_start, count_start as the_count_start};
-ghost use Rattle.image_model.specs.Volume.{per_block as pages_of_block, lookups as the_lookups, slots as the_slots};
-ghost use Rattle.image_model.specs.Places.{is_entry_page as the_entry_page};
+ghost use Rattle.geometry.specs.Numbers.{page_count, per_block, lookups, entries, slots};
+ghost use Rattle.flash_view.specs.Places.{IsEntryPage, page_start as the_page_start};
+ghost use Rattle.image_model.specs.Places.{block_of as the_block_of, entry_at, is_entry_page as the_entry_page};
 ghost use Rattle.page_cache.specs.Frames.{InOnePage};
 
 use geometry::Geometry;
-use page_layout::{count_offset, entry_offset, magic_offset};
+use page_layout::entry_offset;
 
 // The first byte of a page.
-#[tactic(auto, using(crate::proofs::Inside::page_inside))]
+#[tactic(auto, using(geometry::proofs::Bounds::page_inside))]
 pub(crate) fn page_start(g: &Geometry, page: u16) -> u32
     requires { page < page_count g.now }
     ensures start { result ≡ the_page_start g.now page }
@@ -23,7 +22,7 @@ pub(crate) fn page_start(g: &Geometry, page: u16) -> u32
 #[tactic(auto, using(crate::proofs::Inside::entry_inside, crate::proofs::InPage::entry_in_page))]
 pub(crate) fn entry_start(g: &Geometry, page: u16) -> u32
     requires { IsEntryPage g.now page }
-    ensures start { result ≡ the_entry_start g.now page }
+    ensures start { result ≡ entry_at g.now page }
     ensures inside { result + 2 ≤ g.now.blocks * g.now.block }
     ensures one_page { InOnePage g.now result 2 }
 {
@@ -33,28 +32,31 @@ pub(crate) fn entry_start(g: &Geometry, page: u16) -> u32
 }
 
 // Which of the lookup pages of a block has slot `i`. (Where there is one alone, no division is needed.)
-#[tactic(auto, using(crate::proofs::SlotHeld::lookup_below), unfolding(image_model::specs::Volume::lookups))]
+#[tactic(auto, using(crate::proofs::SlotHeld::lookup_below))]
 pub(crate) fn lookup_of(g: &Geometry, i: u32) -> u32
-    requires { i < the_slots g.now }
+    requires { i < slots g.now }
     ensures lookup { result ≡ 2 * i / g.now.page }
-    ensures below { result < the_lookups g.now }
+    ensures below { result < lookups g.now }
 {
-    if g.lookups() == 1 { 0 } else { 2 * i / g.page() }
+    if g.lookups() == 1 {
+        0
+    } else {
+        2 * i / g.page()
+    }
 }
 
 // Lookup page `k` of a block.
-#[tactic(auto, using(crate::proofs::SlotHeld::lookup_page_below), unfolding(image_model::specs::Volume::per_block, image_model::specs::Volume::lookups))]
 pub(crate) fn lookup_page(g: &Geometry, block: u16, k: u32) -> u16
     requires block { block < g.now.blocks }
-    requires lookup { k < the_lookups g.now }
-    ensures page { result ≡ block * pages_of_block g.now + k }
+    requires lookup { k < lookups g.now }
+    ensures page { result ≡ block * per_block g.now + k }
     ensures below { result < page_count g.now }
 {
     (u32::from(block) * g.per_block() + k) as u16
 }
 
 /// Whether a page of the volume is one of its entry pages, and no lookup page.
-#[tactic(auto, unfolding(image_model::specs::Places::is_entry_page, image_model::specs::Volume::page_count, image_model::specs::Volume::per_block, image_model::specs::Volume::lookups))]
+#[tactic(auto, unfolding(image_model::specs::Places::is_entry_page, geometry::specs::Numbers::page_count, geometry::specs::Numbers::per_block, geometry::specs::Numbers::lookups))]
 pub fn is_entry_page(g: &Geometry, page: u16) -> bool
     requires { page < page_count g.now }
     ensures entry { OnTrue result (IsEntryPage g.now page) }
@@ -65,7 +67,7 @@ pub fn is_entry_page(g: &Geometry, page: u16) -> bool
 }
 
 /// The block of a page.
-#[tactic(auto, using(crate::proofs::Inside::block_below))]
+#[tactic(auto, using(geometry::proofs::Bounds::block_below))]
 pub fn block_of(g: &Geometry, page: u16) -> u16
     requires { page < page_count g.now }
     ensures block { result ≡ the_block_of g.now page }

@@ -41,8 +41,8 @@ impl<'b, N: Nor> View<'b, N> {
     ghost use Rattle.nor_core.specs.Count.{Rose};
     ghost use Rattle.nor_core.specs.Flash.{HalfProgrammed, programmed, HalfErased, erased, word_at};
     ghost use Rattle.nor_core.specs.Device.{Changes, InErase, Writes};
-    ghost use Rattle.flash_view.specs.Places.{IsEntryPage, IsWordAt, page_start as the_page_start, entry_start as the_entry_start};
-    ghost use Rattle.image_model.specs.Volume.{slots};
+    ghost use Rattle.geometry.specs.Numbers.{slots};
+    ghost use Rattle.flash_view.specs.Places.{IsEntryPage, IsWordAt, page_start as the_page_start};
     ghost use Rattle.image_model.specs.Places.{page_of, slot_of, entry_at, entry_of as the_entry_of, has_magic as the_magic, erase_count as the_erase_count};
     ghost use Rattle.image_model.specs.Tidy.{is_erased as the_erased};
     ghost use Rattle.page_layout.specs.Layout.{header_at};
@@ -106,7 +106,7 @@ impl<'b, N: Nor> View<'b, N> {
     }
 
     /// The entry of a page: free, deleted, or the id of its object with bit 15 set in index pages.
-    #[tactic(auto, unfolding(image_model::specs::Places::entry_of, image_model::specs::Volume::per_block, image_model::specs::Volume::lookups))]
+    #[tactic(auto, unfolding(image_model::specs::Places::entry_of), using(crate::proofs::Inside::entry_slot))]
     pub fn entry(&mut self, page: u16) -> Result<u16, Failed>
         requires { IsEntryPage self.old.geometry page }
         ensures cause { OnErr result (Rose (N.faults self.old.nor.now) (N.faults self.new.nor.now)) }
@@ -121,7 +121,7 @@ impl<'b, N: Nor> View<'b, N> {
     }
 
     /// Whether a block has the magic of this volume.
-    #[tactic(auto, unfolding(image_model::specs::Places::has_magic, image_model::specs::Volume::lookups))]
+    #[tactic(auto, unfolding(image_model::specs::Places::has_magic), using(geometry::proofs::Bounds::magic_fits))]
     pub fn has_magic(&mut self, block: u16) -> Result<bool, Failed>
         requires { block < self.old.geometry.blocks }
         ensures cause { OnErr result (Rose (N.faults self.old.nor.now) (N.faults self.new.nor.now)) }
@@ -135,7 +135,7 @@ impl<'b, N: Nor> View<'b, N> {
     }
 
     /// How often a block was erased, as its slot tells it: 0 where the slot holds no count.
-    #[tactic(auto, unfolding(image_model::specs::Places::erase_count, image_model::specs::Volume::lookups))]
+    #[tactic(auto, unfolding(image_model::specs::Places::erase_count), using(geometry::proofs::Bounds::magic_fits))]
     pub fn erase_count(&mut self, block: u16) -> Result<u16, Failed>
         requires { block < self.old.geometry.blocks }
         ensures cause { OnErr result (Rose (N.faults self.old.nor.now) (N.faults self.new.nor.now)) }
@@ -364,8 +364,8 @@ impl<'b, N: Nor> View<'b, N> {
         requires { IsEntryPage self.old.geometry page }
         ensures cause { OnErr result (Rose (N.faults self.old.nor.now) (N.faults self.new.nor.now)) }
         ensures writes { Writes N.NorState self.old.nor.now self.new.nor.now }
-        ensures changes { Changes N.NorState self.old.nor.now self.new.nor.now (HalfProgrammed (the_entry_start self.old.geometry page) (to_le_bytes w16 entry)) }
-        ensures done { N.tells self.old.nor.now → OnOk result (N.bytes self.new.nor.now ≡ programmed (N.bytes self.old.nor.now) (the_entry_start self.old.geometry page) (to_le_bytes w16 entry)) }
+        ensures changes { Changes N.NorState self.old.nor.now self.new.nor.now (HalfProgrammed (entry_at self.old.geometry page) (to_le_bytes w16 entry)) }
+        ensures done { N.tells self.old.nor.now → OnOk result (N.bytes self.new.nor.now ≡ programmed (N.bytes self.old.nor.now) (entry_at self.old.geometry page) (to_le_bytes w16 entry)) }
         ensures work { self.new.work.now ≡ self.old.work.now }
         ensures same { IsSameView self.old self.new }
         ensures wrote { self.new.wrote ≡ true }

@@ -3,7 +3,7 @@ ghost use Rattle.std.specs.Option.{option_map};
 ghost use Rattle.nor_core.specs.Count.{Rose};
 ghost use Rattle.page_layout.specs.Layout.{header_at};
 ghost use Rattle.page_cache.specs.Frames.{holds};
-ghost use Rattle.image_model.specs.Volume.{lookups, entries};
+ghost use Rattle.geometry.specs.Numbers.{lookups, entries};
 ghost use Rattle.image_model.specs.Places.{block_of as the_block_of, entry_of};
 ghost use Rattle.image_model.specs.Live.{live_at};
 ghost use Rattle.flash_view.specs.Places.{IsEntryPage};
@@ -52,7 +52,7 @@ impl<'b, N: Nor> View<'b, N> {
 
     /// The first entry of a block, from its entry `from` on, whose number lies between `low` and `high`, which count too,
     /// and that number. Entries are counted from 0.
-    #[tactic(auto, unfolding(image_model::specs::Volume::entries, image_model::specs::Volume::per_block, image_model::specs::Volume::lookups), using(crate::proofs::Looking::looks_then))]
+    #[tactic(auto, unfolding(geometry::specs::Numbers::entries, geometry::specs::Numbers::per_block, geometry::specs::Numbers::lookups), using(crate::proofs::SlotHeld::entry_below, crate::proofs::Looking::looks_then))]
     pub fn find_slot(
         &mut self,
         block: u16,

@@ -5,9 +5,8 @@ use Rattle.std.specs.List.{range_with_len, list_all}
 use Rattle.std.proofs.Math.Nat.{mul-le-mul_right, div-add-mod}
 use Rattle.std.proofs.lemmas.Bool.{cases_lt, and_parts, eqb-true}
 use Rattle.geometry.specs.declared.geometry.Geometry.{Geometry}
-use Rattle.geometry.specs.Numbers.{right_magic}
+use Rattle.geometry.specs.Numbers.{right_magic, per_block, lookups, slots, entries}
 use Rattle.nor_core.specs.Flash.{SameOutside}
-use Rattle.image_model.specs.Volume.{per_block, lookups, slots, entries}
 use Rattle.image_model.specs.Live.{live_at}
 use Rattle.image_model.specs.Places.{has_magic, entry_of, page_of, block_of, place_of, is_entry_page}
 use Rattle.image_model.specs.Tidy.{is_free_entry, is_free_block}

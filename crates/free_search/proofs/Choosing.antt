@@ -7,7 +7,7 @@ use Rattle.geometry.specs.declared.geometry.Geometry.{Geometry}
 use Rattle.nor_core.specs.declared.device.Failed.{Failed}
 use Rattle.image_model.specs.Places.{block_of, is_entry_page, entry_at}
 use Rattle.image_model.specs.Tidy.{is_free_entry, is_free_block, free_blocks}
-use Rattle.image_model.specs.Volume.{per_block, lookups, entries}
+use Rattle.geometry.specs.Numbers.{per_block, lookups, entries}
 use Rattle.image_model.specs.Collect.{free_in}
 use Rattle.image_model.specs.Within.{entry_in}
 use Rattle.image_laws.proofs.Append.{find-all}

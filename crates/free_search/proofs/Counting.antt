@@ -4,7 +4,7 @@ use Rattle.std.specs.Prelude.{filter, Option, Some, None}
 use Rattle.std.specs.List.{range_with_len}
 use Rattle.std.proofs.lemmas.Bool.{eqb-true}
 use Rattle.geometry.specs.declared.geometry.Geometry.{Geometry}
-use Rattle.image_model.specs.Volume.{per_block, lookups, entries}
+use Rattle.geometry.specs.Numbers.{per_block, lookups, entries}
 use Rattle.image_model.specs.Headers.{names_index, is_finished}
 use Rattle.image_model.specs.Places.{entry_of, erase_count}
 use Rattle.image_model.specs.Live.{live_at}

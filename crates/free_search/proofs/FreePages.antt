@@ -5,7 +5,7 @@ use Rattle.std.specs.List.{range_with_len, list_any, list_all}
 use Rattle.std.proofs.lemmas.Bool.{eqb-true, ne_eqb, lt-ltb, ltb-true, ltb-false, and_parts, cases_Bool, cases_eq, false_from_ne_true}
 use Rattle.std.proofs.lemmas.List.FromFn.{length-range_with_len}
 use Rattle.geometry.specs.declared.geometry.Geometry.{Geometry}
-use Rattle.image_model.specs.Volume.{per_block, lookups, entries}
+use Rattle.geometry.specs.Numbers.{per_block, lookups, entries}
 use Rattle.image_model.specs.Places.{entry_of, has_magic, block_of, is_entry_page}
 use Rattle.image_model.specs.Live.{live_at}
 use Rattle.image_model.specs.Tidy.{is_free_entry, is_free_block, free_blocks}

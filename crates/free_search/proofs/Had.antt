@@ -6,8 +6,7 @@ use Rattle.std.proofs.Math.Nat.{div-eq_of_lt, div_self}
 use Rattle.std.proofs.lemmas.List.Sums.{sum_by-cons}
 use Rattle.std.proofs.lemmas.Bool.{le-leb, cases_eq}
 use Rattle.geometry.specs.declared.geometry.Geometry.{Geometry}
-use Rattle.geometry.specs.Numbers.{ceil}
-use Rattle.image_model.specs.Volume.{per_block, lookups, entries}
+use Rattle.geometry.specs.Numbers.{ceil, per_block, lookups, entries}
 use Rattle.image_model.specs.Places.{has_magic, block_of, is_entry_page}
 use Rattle.image_model.specs.Tidy.{is_free_entry, is_free_block, free_blocks}
 use Rattle.image_model.specs.Kinds.{is_data_block}

@@ -6,7 +6,7 @@ use Rattle.geometry.specs.declared.geometry.Geometry.{Geometry}
 use Rattle.flash_view.specs.declared.kinds.Kind.{Kind}
 use Rattle.flash_view.specs.declared.kinds.Kind.TheVariants.{Index, Data}
 use Rattle.free_search.specs.declared.pages.Worn.{Worn}
-use Rattle.image_model.specs.Volume.{per_block, lookups, entries}
+use Rattle.geometry.specs.Numbers.{per_block, lookups, entries}
 use Rattle.image_model.specs.Places.{has_magic, erase_count, block_of, is_entry_page, entry_at}
 use Rattle.flash_view.specs.Places.{IsWordAt}
 use Rattle.image_model.specs.Tidy.{is_free_entry, is_free_block, free_blocks}

@@ -5,19 +5,19 @@ use Rattle.geometry.specs.declared.magic.MagicKind.{MagicKind}
 use Rattle.geometry.specs.declared.magic.MagicKind.TheVariants.{Plain, Length}
 use Rattle.geometry.specs.declared.error.GeoErr.{GeoErr}
 use Rattle.geometry.specs.declared.error.GeoErr.TheVariants.{BadPage, BadBlock, TooFewBlocks, TooManyPages, NoRoomForMagic, BadMeta, TooManyUsable, TooFewToWrite}
-use Rattle.geometry.specs.Rules.{pages_in, lookups_in, entries_in, is_page, is_block, has_magic_room}
+use Rattle.geometry.specs.Rules.{pages_in, lookups_in, is_page, is_block, has_magic_room}
 
 -- pages of a block
-abbrev pub per_block : Geometry → ℕ
+unfoldable pub per_block : Geometry → ℕ
 per_block g = pages_in g.page g.block
 
--- lookup pages of a block
-abbrev pub lookups : Geometry → ℕ
+-- lookup pages of a block, its first pages
+unfoldable pub lookups : Geometry → ℕ
 lookups g = lookups_in g.page g.block
 
 -- entry pages of a block
-abbrev pub entries : Geometry → ℕ
-entries g = entries_in g.page g.block
+unfoldable pub entries : Geometry → ℕ
+entries g = per_block g - lookups g
 
 -- file bytes of a data page: all but its header of five bytes
 abbrev pub body : Geometry → ℕ
@@ -32,7 +32,7 @@ abbrev pub span_slots : Geometry → ℕ
 span_slots g = (g.page - 8) / 2
 
 -- pages of the volume
-abbrev pub page_count : Geometry → ℕ
+unfoldable pub page_count : Geometry → ℕ
 page_count g = g.blocks * per_block g
 
 -- entry pages of the volume

@@ -1,4 +1,5 @@
-ghost use Rattle.geometry.specs.Rules.{IsVolume};
+ghost use Rattle.std.specs.Prelude.{◌≡◌};
+ghost use Rattle.geometry.specs.Rules.{IsVolume, pages_in, lookups_in};
 
 use crate::rules::{has_magic_room, is_block, is_page, lookup_pages};
 use crate::{GeoErr, MagicKind};
@@ -22,11 +23,15 @@ pub struct Geometry {
     pub meta: u32,
     /// What the magic tells.
     pub magic: MagicKind,
+    // Pages of a block, and lookup pages of a block: kept, since each place on the device asks for them.
+    pages_each: u32,
+    lookups_each: u32,
     pub ghost valid: { IsVolume page block blocks phys meta },
+    pub ghost kept: { (pages_each ≡ pages_in page block) × (lookups_each ≡ lookups_in page block) },
 }
 
 impl Geometry {
-    ghost use Rattle.std.specs.Prelude.{◌≡◌, ◌<◌, ◌^◌, IfOk, IfErr, OnOk, Some, None};
+    ghost use Rattle.std.specs.Prelude.{◌≡◌, ◌<◌, ◌≤◌, ◌*◌, ◌^◌, IfOk, IfErr, OnOk, Some, None};
     ghost use Rattle.geometry.specs.Numbers.{refusal, write_refusal, IsOf, per_block as per_block_of, lookups as lookups_of, entries as entries_of, body as body_of, head_slots as head_slots_of, span_slots as span_slots_of, page_count, usable as usable_of, work_need as work_need_of, cache_need as cache_need_of, check_need as check_need_of, length_mark as length_mark_of, right_magic};
 
     /// A volume of these numbers: `page`, `block` and `phys` in bytes, `meta` in bytes for each file. Of
@@ -68,6 +73,8 @@ impl Geometry {
             phys,
             meta,
             magic,
+            pages_each: block / page,
+            lookups_each: lookup_pages(page, block),
         })
     }
 
@@ -121,22 +128,29 @@ impl Geometry {
     }
 
     /// Pages of a block, lookup pages included; at least 2.
+    #[tactic(auto, unfolding(crate::specs::Numbers::per_block))]
     pub fn per_block(&self) -> u32
-        ensures { result ≡ per_block_of self.now }
+        ensures count { result ≡ per_block_of self.now }
+        ensures few { result ≤ 65535 }
+        ensures some { 2 ≤ result }
     {
-        self.block / self.page
+        self.pages_each
     }
 
     /// Lookup pages of a block; at least 1.
+    #[tactic(auto, unfolding(crate::specs::Numbers::lookups))]
     pub fn lookups(&self) -> u32
-        ensures { result ≡ lookups_of self.now }
+        ensures count { result ≡ lookups_of self.now }
+        ensures some { 1 ≤ result }
+        ensures fits { result * self.now.page < 2 ^ 32 }
     {
-        lookup_pages(self.page, self.block)
+        self.lookups_each
     }
 
     /// Entry pages of a block; at least 1.
     pub fn entries(&self) -> u32
-        ensures { result ≡ entries_of self.now }
+        ensures count { result ≡ entries_of self.now }
+        ensures few { result ≤ 65535 }
     {
         self.per_block() - self.lookups()
     }
@@ -164,14 +178,16 @@ impl Geometry {
 
     /// Pages of the volume, lookup pages included; at most 65,535.
     pub fn pages(&self) -> u32
-        ensures { result ≡ page_count self.now }
+        ensures count { result ≡ page_count self.now }
+        ensures few { result ≤ 65535 }
     {
         self.blocks * self.per_block()
     }
 
     /// Entry pages of the volume.
     pub fn usable(&self) -> u32
-        ensures { result ≡ usable_of self.now }
+        ensures count { result ≡ usable_of self.now }
+        ensures few { result ≤ 65535 }
     {
         self.blocks * self.entries()
     }

@@ -9,7 +9,7 @@ use Rattle.geometry.specs.declared.geometry.Geometry.{Geometry}
 use Rattle.table_model.specs.Table.{File, same_text, has_name, file_named}
 use Rattle.table_model.specs.Room.{index_pages, data_pages}
 use Rattle.image_model.specs.Within.{page_number}
-use Rattle.image_model.specs.Volume.{page_count}
+use Rattle.geometry.specs.Numbers.{page_count}
 use Rattle.image_model.specs.Places.{IsImage}
 use Rattle.image_model.specs.Headers.{obj_id, names_index, size_of, name_of}
 use Rattle.image_model.specs.Live.{live_at, Live, own}

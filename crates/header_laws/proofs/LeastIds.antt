@@ -7,6 +7,7 @@ use Rattle.std.proofs.Math.Path.{fun_ext}
 use Rattle.std.proofs.lemmas.List.Sums.{sum_by-cons}
 use Rattle.std.proofs.lemmas.Bool.{cases_Bool, cases_lt, cases_eq, eq-eqb, ne_eqb, leb-true, not-true, not-false}
 use Rattle.std.proofs.lemmas.Option.{none-some, same_Some}
+use Rattle.geometry.proofs.Bounds.{entry_left}
 use Rattle.geometry.specs.declared.geometry.Geometry.{Geometry}
 use Rattle.geometry.specs.Numbers.{ceil, entries, usable}
 use Rattle.table_model.specs.Table.{File, has_id, least_id}
@@ -138,7 +139,7 @@ least-first g a name undamaged room =
     let files = table_of g a in
     let least = least-unused (table_of g a) in
     let fits : nat_le (ceil (index_count g (table_of g a) + 2) (entries g) + ceil (data_count g (table_of g a) + 1) (entries g) + 2) g.blocks ≡ true = sym (create-room g name (table_of g a)) ∙ room in
-    let bound = room-bound (index_count g (table_of g a)) (ceil (data_count g (table_of g a) + 1) (entries g)) (entries g) g.blocks (omega (arith, g.valid.some_entries)) (leb-true _ g.blocks fits) in
+    let bound = room-bound (index_count g (table_of g a)) (ceil (data_count g (table_of g a) + 1) (entries g)) (entries g) g.blocks (omega (arith, entry_left g)) (leb-true _ g.blocks fits) in
     let few = few_files g (table_of g a) in
     let high : least_id (table_of g a) ≤ usable g = omega (arith, least.high, few, bound) in (
       ap (λ (t : ℕ → Bool). find t (range_with_len 1 (usable g))) (fun_ext (λ (id : ℕ). ap not (has-ids g a undamaged id)))

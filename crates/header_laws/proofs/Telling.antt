@@ -4,10 +4,9 @@ use Rattle.std.specs.Prelude.{nat_lt}
 use Rattle.std.proofs.lemmas.Bool.{and_parts, eqb-true, false≢true}
 use Rattle.std.proofs.lemmas.Option.{same_Some}
 use Rattle.geometry.specs.declared.geometry.Geometry.{Geometry}
-use Rattle.geometry.specs.Numbers.{span_slots}
+use Rattle.geometry.specs.Numbers.{span_slots, page_count}
 use Rattle.table_model.specs.Table.{File, same_text, file_of, file_named, file_above}
 use Rattle.image_model.specs.Within.{Sizes, sizes, page_number, page_length}
-use Rattle.image_model.specs.Volume.{page_count}
 use Rattle.image_model.specs.Places.{IsImage}
 use Rattle.image_model.specs.Headers.{obj_id, names_index, span_of}
 use Rattle.image_model.specs.Live.{live_at, own}

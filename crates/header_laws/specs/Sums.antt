@@ -5,7 +5,7 @@ use Rattle.geometry.specs.declared.geometry.Geometry.{Geometry}
 use Rattle.table_model.specs.Table.{File, has_id, put_file}
 use Rattle.table_model.specs.Room.{index_pages, data_pages, index_count, data_count}
 use Rattle.table_model.specs.Files.{new_file}
-use Rattle.image_model.specs.Volume.{page_count}
+use Rattle.geometry.specs.Numbers.{page_count}
 use Rattle.image_model.specs.Places.{IsImage}
 use Rattle.image_model.specs.Live.{live_at}
 use Rattle.image_model.specs.Files.{is_index}

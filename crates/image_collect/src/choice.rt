@@ -2,8 +2,7 @@
 ghost use Rattle.std.specs.Prelude.{◌≡◌, ◌&&◌, ℕ, ◌<◌, ◌≤◌, ◌+◌, ◌-◌, ◌^◌, length, filter, map, IfOk, IfSome, not, int_le};
 ghost use Rattle.std.specs.List.{All, list_all, list_any};
 ghost use Rattle.image_model.specs.Kinds.{is_data_block as the_data_block};
-ghost use Rattle.geometry.specs.Numbers.{ceil};
-ghost use Rattle.image_model.specs.Volume.{entries};
+ghost use Rattle.geometry.specs.Numbers.{ceil, entries};
 ghost use Rattle.image_model.specs.Places.{IsImage};
 ghost use Rattle.image_model.specs.Collect.{is_worth as the_worth, is_fitting as the_fitting, candidates as the_candidates, first_candidates as the_first_candidates, best_of as the_best, chosen_block as the_chosen, score as the_score};
 
@@ -37,7 +36,7 @@ pub fn is_worth(g: &Geometry, image: &[u8], block: u32) -> bool
 }
 
 // How many free blocks so many pages need beside the free entries of their kind.
-#[tactic(auto, unfolding(image_model::specs::Volume::entries, image_model::specs::Volume::per_block, image_model::specs::Volume::lookups))]
+#[tactic(auto, unfolding(geometry::specs::Numbers::entries, geometry::specs::Numbers::per_block, geometry::specs::Numbers::lookups))]
 pub(crate) fn blocks_for_kind(g: &Geometry, pages: u32, free: u64) -> u64
     ensures value { result ≡ ceil (pages - free) (entries g.now) }
     ensures below { result < 2 ^ 33 }

@@ -1,6 +1,6 @@
 // Blocks that hold wanted pages of both kinds, and whether a check can part them.
 ghost use Rattle.std.specs.Prelude.{◌≡◌, ◌==◌, ◌&&◌, ℕ, ◌+◌, ◌*◌, ◌^◌, ◌<◌, ◌≤◌, length, get_or, not, false, true, IfOk, if◌then◌else◌};
-ghost use Rattle.image_model.specs.Volume.{page_count};
+ghost use Rattle.geometry.specs.Numbers.{page_count};
 ghost use Rattle.image_model.specs.Places.{IsImage, has_magic as the_magic};
 ghost use Rattle.image_model.specs.Tidy.{is_wanted as the_wanted, is_free_block as the_free_block};
 ghost use Rattle.image_model.specs.Collect.{count_in as the_count_in, free_in as the_free_in};
@@ -31,7 +31,7 @@ fn is_wanted_of(g: &Geometry, image: &[u8], wanted: &[bool], index: bool, p: u32
 }
 
 // How many wanted pages of that kind a block holds.
-#[tactic(auto, unfolding(image_model::specs::Volume::entries, image_model::specs::Volume::lookups, image_model::specs::Volume::per_block), using(image_plain::proofs::Ranges::tally_none, image_plain::proofs::Ranges::tally_all, image_model::specs::Within::entry_number_in))]
+#[tactic(auto, unfolding(geometry::specs::Numbers::entries, geometry::specs::Numbers::lookups, geometry::specs::Numbers::per_block), using(image_plain::proofs::Ranges::tally_none, image_plain::proofs::Ranges::tally_all, image_model::specs::Within::entry_number_in))]
 fn count_wanted(g: &Geometry, image: &[u8], wanted: &[bool], index: bool, block: u32) -> u32
     requires image { IsImage g.now image.now }
     requires wanted { AreWanted g.now image.now (page_count g.now) wanted.now }
@@ -154,7 +154,7 @@ pub struct SharedBlocks {
 
 /// Which blocks hold wanted pages of both kinds, and whether their index pages fit elsewhere: into the free entries of
 /// blocks in use without wanted data pages, and the free blocks above two.
-#[tactic(auto, unfolding(image_model::specs::Shared::fits_over, image_model::specs::Volume::entries, image_model::specs::Volume::lookups, image_model::specs::Volume::per_block))]
+#[tactic(auto, unfolding(image_model::specs::Shared::fits_over, geometry::specs::Numbers::entries, geometry::specs::Numbers::lookups, geometry::specs::Numbers::per_block))]
 pub fn parting(alloc: Global, g: &Geometry, image: &[u8]) -> Result<SharedBlocks, AllocError>
     requires { IsImage g.now image.now }
     ensures shared { IfOk result (λ over. over.shared ≡ the_shared_blocks g.now image.now) }

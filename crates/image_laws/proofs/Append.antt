@@ -10,9 +10,8 @@ use Rattle.std.proofs.lemmas.Option.{none-some, same_Some, cond_some, option_and
 use Rattle.geometry.specs.declared.geometry.Geometry.{Geometry}
 use Rattle.image_model.specs.Within.{sizes}
 use Rattle.image_model.specs.declared.damage.Damage.{Damage}
-use Rattle.image_model.specs.Volume.{page_count}
 use Rattle.table_model.specs.Room.{data_pages, index_pages}
-use Rattle.geometry.specs.Numbers.{body}
+use Rattle.geometry.specs.Numbers.{page_count, body}
 use Rattle.nor_core.specs.Flash.{SameOutside}
 use Rattle.image_model.specs.Within.{Sizes, page_length}
 use Rattle.image_model.specs.Live.{live_at, Live, own}

@@ -7,8 +7,7 @@ use Rattle.std.proofs.lemmas.List.Sums.{sum_by-cons}
 use Rattle.std.proofs.lemmas.Bool.{cases_lt, cases_Bool, and_parts, eq-eqb, eqb-true, ne_eqb, false_from_ne_true}
 use Rattle.geometry.specs.declared.geometry.Geometry.{Geometry}
 use Rattle.image_model.specs.Within.{sizes}
-use Rattle.image_model.specs.Volume.{page_count, per_block, lookups, entries}
-use Rattle.geometry.specs.Numbers.{ceil}
+use Rattle.geometry.specs.Numbers.{page_count, per_block, lookups, entries, ceil}
 use Rattle.image_model.specs.Within.{Sizes}
 use Rattle.image_model.specs.Live.{live_at}
 use Rattle.image_model.specs.Places.{block_of, entry_of, IsImage}

@@ -8,7 +8,7 @@ use Rattle.std.proofs.lemmas.Bool.{cases_eq, cases_Bool, false_from_ne_true}
 use Rattle.std.proofs.lemmas.Option.{none-some, same_Some, some_pair_parts}
 use Rattle.geometry.specs.declared.geometry.Geometry.{Geometry}
 use Rattle.image_model.specs.declared.damage.Damage.{Damage}
-use Rattle.image_model.specs.Volume.{page_count}
+use Rattle.geometry.specs.Numbers.{page_count}
 use Rattle.image_model.specs.Live.{live_at, Live, own}
 use Rattle.image_model.specs.Headers.{obj_id}
 use Rattle.image_laws.specs.Changes.{Loses}

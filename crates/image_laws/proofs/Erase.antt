@@ -4,8 +4,7 @@ use Rattle.std.proofs.lemmas.Bool.{cases_lt, cases_eq, cases_Bool}
 use Rattle.std.proofs.Math.Nat.{mul-le-mul_right, div-add-mod}
 use Rattle.geometry.specs.declared.geometry.Geometry.{Geometry}
 use Rattle.image_model.specs.Within.{sizes}
-use Rattle.image_model.specs.Volume.{per_block, lookups, slots}
-use Rattle.geometry.specs.Numbers.{right_magic}
+use Rattle.geometry.specs.Numbers.{per_block, lookups, slots, right_magic}
 use Rattle.nor_core.specs.Flash.{SameOutside}
 use Rattle.image_model.specs.Within.{Sizes}
 use Rattle.image_model.specs.Live.{live_at, is_live}

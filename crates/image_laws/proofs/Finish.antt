@@ -5,7 +5,7 @@ use Rattle.std.specs.List.{range_with_len, All}
 use Rattle.std.proofs.lemmas.Bool.{ne_eqb, eq-eqb, eqb-true}
 use Rattle.std.proofs.lemmas.Option.{none-some, same_Some, cond_some}
 use Rattle.geometry.specs.declared.geometry.Geometry.{Geometry}
-use Rattle.image_model.specs.Volume.{page_count}
+use Rattle.geometry.specs.Numbers.{page_count}
 use Rattle.image_model.specs.Headers.{obj_id, is_finished}
 use Rattle.image_model.specs.Live.{live_at, Live, own}
 use Rattle.image_model.specs.declared.damage.Damage.{Damage}

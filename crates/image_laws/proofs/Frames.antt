@@ -4,7 +4,7 @@ use Rattle.std.proofs.lemmas.Option.{cond_some}
 use Rattle.std.proofs.lemmas.List.{ext_get_or}
 use Rattle.std.proofs.Math.Path.{fun_ext}
 use Rattle.geometry.specs.declared.geometry.Geometry.{Geometry}
-use Rattle.image_model.specs.Volume.{lookups, per_block, slots, entries}
+use Rattle.geometry.specs.Numbers.{lookups, per_block, slots, entries}
 use Rattle.nor_core.specs.Flash.{SameOutside, word_at}
 use Rattle.image_model.specs.Within.{Sizes}
 use Rattle.image_laws.proofs.Places.{pages_apart, lookups_apart, blocks_disjoint, same_page}

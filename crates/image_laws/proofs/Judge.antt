@@ -7,9 +7,8 @@ use Rattle.std.specs.List.{range_with_len, flat_map}
 use Rattle.std.proofs.lemmas.Bool.{cases_eq, ne_eqb, false_from_ne_true}
 use Rattle.std.proofs.lemmas.Option.{none-some, option_and_then_some, some_pair_parts}
 use Rattle.geometry.specs.declared.geometry.Geometry.{Geometry}
-use Rattle.image_model.specs.Volume.{page_count}
 use Rattle.table_model.specs.Room.{data_pages}
-use Rattle.geometry.specs.Numbers.{head_slots}
+use Rattle.geometry.specs.Numbers.{page_count, head_slots}
 use Rattle.image_model.specs.Headers.{names_index, span_of, size_of, name_of}
 use Rattle.image_model.specs.declared.damage.Damage.{Damage}
 use Rattle.image_model.specs.Live.{Live}

@@ -7,7 +7,7 @@ use Rattle.std.proofs.lemmas.List.Folds.{list_all_at}
 use Rattle.geometry.specs.declared.geometry.Geometry.{Geometry}
 use Rattle.nor_core.specs.Flash.{SameOutside}
 use Rattle.image_model.specs.Within.{Sizes, sizes, behind, entry_slot, page_length}
-use Rattle.image_model.specs.Volume.{per_block, lookups}
+use Rattle.geometry.specs.Numbers.{per_block, lookups}
 use Rattle.image_model.specs.Headers.{is_finished}
 use Rattle.image_model.specs.Live.{live_at}
 use Rattle.image_model.specs.Places.{block_of, place_of, is_entry_page, entry_at, entry_of, page_of, IsImage}

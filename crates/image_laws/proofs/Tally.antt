@@ -6,8 +6,7 @@ use Rattle.std.proofs.lemmas.Bool.{cases_eq, cases_Bool, and_parts, eqb-true, eq
 use Rattle.std.proofs.lemmas.Option.{same_Some}
 use Rattle.geometry.specs.declared.geometry.Geometry.{Geometry}
 use Rattle.image_model.specs.Within.{sizes}
-use Rattle.image_model.specs.Volume.{page_count}
-use Rattle.geometry.specs.Numbers.{span_slots}
+use Rattle.geometry.specs.Numbers.{page_count, span_slots}
 use Rattle.table_model.specs.Room.{index_pages, data_pages, index_count, data_count}
 use Rattle.image_model.specs.Live.{live_at, Live, own}
 use Rattle.image_model.specs.Headers.{obj_id, is_finished, size_of}

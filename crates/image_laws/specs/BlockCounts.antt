@@ -2,8 +2,7 @@
 use Rattle.std.specs.Prelude.{◌≡◌, ℕ, ◌+◌, ◌*◌, ◌≤◌, List}
 use Rattle.geometry.specs.declared.geometry.Geometry.{Geometry}
 use Rattle.image_model.specs.Kinds.{data_blocks, other_blocks}
-use Rattle.image_model.specs.Volume.{entries}
-use Rattle.geometry.specs.Numbers.{ceil}
+use Rattle.geometry.specs.Numbers.{entries, ceil}
 use Rattle.image_model.specs.Tables.{table_of}
 use Rattle.image_model.specs.Tidy.{IsTidy, free_blocks}
 use Rattle.table_model.specs.Room.{index_count}

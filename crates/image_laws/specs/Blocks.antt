@@ -1,10 +1,9 @@
 -- What a block holds after an interrupted erase, and by which test it is mixed.
 use Rattle.std.specs.Prelude.{◌≡◌, ℕ, ◌-◌, ◌*◌, ◌<◌, ◌↔◌, List, false, true, Some}
 use Rattle.geometry.specs.declared.geometry.Geometry.{Geometry}
-use Rattle.geometry.specs.Numbers.{right_magic}
+use Rattle.geometry.specs.Numbers.{right_magic, slots}
 use Rattle.nor_core.specs.declared.device.Mark.{Mark}
 use Rattle.nor_core.specs.Flash.{Scrambled}
-use Rattle.image_model.specs.Volume.{slots}
 use Rattle.image_model.specs.Places.{has_magic}
 use Rattle.image_model.specs.Live.{live_at}
 use Rattle.image_model.specs.Sound.{IsMixed}

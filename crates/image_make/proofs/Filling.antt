@@ -8,6 +8,7 @@ use Rattle.std.proofs.lemmas.List.Sums.{sum_by_push, sum_by_more, sum_by-take-le
 use Rattle.geometry.specs.declared.geometry.Geometry.{Geometry}
 use Rattle.geometry.specs.Numbers.{ceil, body, head_slots, span_slots, entries as entry_pages}
 use Rattle.std.specs.Cmp.Lexicographic.{other_text}
+use Rattle.geometry.proofs.Bounds.{entry_left}
 use Rattle.table_model.specs.declared.error.FsErr.{FsErr}
 use Rattle.table_model.specs.Table.{same_text}
 use Rattle.table_model.specs.Names.{name_refusal}
@@ -67,8 +68,8 @@ fine_name g entries i fine inside =
 
 pub fewer_fit : (g : Geometry) (index pages less few : ℕ) → less ≤ index → few ≤ pages → leaves_two g index pages ≡ true → leaves_two g less few ≡ true
 fewer_fit g index pages less few i p room =
-    let a = ceil-mono (less + 1) (index + 1) (entry_pages g) (omega (arith, g.valid.some_entries)) (omega (arith, i)) in
-    let b = ceil-mono (few + 1) (pages + 1) (entry_pages g) (omega (arith, g.valid.some_entries)) (omega (arith, p)) in
+    let a = ceil-mono (less + 1) (index + 1) (entry_pages g) (omega (arith, entry_left g)) (omega (arith, i)) in
+    let b = ceil-mono (few + 1) (pages + 1) (entry_pages g) (omega (arith, entry_left g)) (omega (arith, p)) in
     let had = leb-true _ g.blocks room in
     le-leb _ g.blocks (omega (arith, a, b, had))
 

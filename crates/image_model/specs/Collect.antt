@@ -2,8 +2,7 @@
 use Rattle.std.specs.Prelude.{◌≡◌, ℕ, ◌+◌, ◌-◌, ◌*◌, ◌%◌, ◌≤◌, List, length, Bool, true, not, nat_lt, nat_le, ◌==◌, ◌&&◌, ◌||◌, Option, Some, is_none, if◌then◌else◌, filter, find, sum_by, ℤ, pos, ◌-ℤ◌, int_le}
 use Rattle.std.specs.List.{range_with_len, list_any, list_all}
 use Rattle.geometry.specs.declared.geometry.Geometry.{Geometry}
-use Rattle.geometry.specs.Numbers.{ceil}
-use Rattle.image_model.specs.Volume.{per_block, lookups, entries}
+use Rattle.geometry.specs.Numbers.{ceil, per_block, lookups, entries}
 use Rattle.image_model.specs.Places.{has_magic, entry_of, erase_count, next_count}
 use Rattle.image_model.specs.Live.{live_at}
 use Rattle.image_model.specs.Tables.{table_of}

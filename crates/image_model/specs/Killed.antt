@@ -2,7 +2,7 @@
 use Rattle.std.specs.Prelude.{ℕ, List, length, Bool, not, ◌==◌, ◌&&◌, is_none, filter}
 use Rattle.std.specs.List.{range_with_len}
 use Rattle.geometry.specs.declared.geometry.Geometry.{Geometry}
-use Rattle.image_model.specs.Volume.{page_count}
+use Rattle.geometry.specs.Numbers.{page_count}
 use Rattle.image_model.specs.Places.{has_magic, entry_of, block_of, is_entry_page}
 use Rattle.image_model.specs.Live.{live_at}
 use Rattle.image_model.specs.Tidy.{is_free_entry, is_wanted}

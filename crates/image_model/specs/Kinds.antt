@@ -2,7 +2,7 @@
 use Rattle.std.specs.Prelude.{ℕ, ◌+◌, ◌*◌, List, length, Bool, false, not, ◌&&◌, Option, Some, None, filter}
 use Rattle.std.specs.List.{range_with_len, list_any}
 use Rattle.geometry.specs.declared.geometry.Geometry.{Geometry}
-use Rattle.image_model.specs.Volume.{per_block, lookups, entries, page_count}
+use Rattle.geometry.specs.Numbers.{per_block, lookups, entries, page_count}
 use Rattle.image_model.specs.Headers.{names_index}
 use Rattle.image_model.specs.Places.{has_magic}
 use Rattle.image_model.specs.Live.{live_at}

@@ -1,4 +1,3 @@
-pub mod Volume
 pub mod Places
 pub mod Headers
 pub mod Live

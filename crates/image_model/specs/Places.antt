@@ -2,8 +2,7 @@
 use Rattle.std.specs.Prelude.{◌≤◌, ℕ, ◌+◌, ◌-◌, ◌*◌, ◌/◌, ◌%◌, List, length, Bool, not, nat_lt, ◌==◌, ◌&&◌, if◌then◌else◌, max, map, filter, slice_range}
 use Rattle.std.specs.List.{range_with_len, fold}
 use Rattle.geometry.specs.declared.geometry.Geometry.{Geometry}
-use Rattle.geometry.specs.Numbers.{right_magic}
-use Rattle.image_model.specs.Volume.{per_block, lookups, page_count, slots}
+use Rattle.geometry.specs.Numbers.{right_magic, per_block, lookups, page_count, slots}
 use Rattle.nor_core.specs.Flash.{word_at}
 
 -- The bytes of a device that holds the volume, at its start.

@@ -3,7 +3,7 @@ use Rattle.std.specs.Prelude.{◌≡◌, ℕ, ◌+◌, ◌*◌, ◌%◌, ◌<◌
 use Rattle.std.specs.List.{range_with_len, list_any, list_all}
 use Rattle.geometry.specs.declared.geometry.Geometry.{Geometry}
 use Rattle.table_model.specs.Room.{data_pages, index_pages}
-use Rattle.image_model.specs.Volume.{per_block, lookups, entries}
+use Rattle.geometry.specs.Numbers.{per_block, lookups, entries}
 use Rattle.image_model.specs.Places.{has_magic, entry_of, page_of, block_of, is_entry_page}
 use Rattle.image_model.specs.Headers.{obj_id, names_index, size_of}
 use Rattle.image_model.specs.Live.{Live, live_at, own}

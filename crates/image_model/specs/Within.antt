@@ -1,10 +1,11 @@
 -- Pages and slots lie within the image.
 use Rattle.std.specs.Prelude.{◌≡◌, ℕ, ◌+◌, ◌-◌, ◌*◌, ◌/◌, ◌%◌, ◌^◌, ◌<◌, ◌≤◌, List, length, true}
-use Rattle.std.proofs.Common.{ap, refl, arith, length-take, length-drop, ⊎_elim}
+use Rattle.std.proofs.Common.{ap, refl, sym, arith, length-take, length-drop, ⊎_elim}
 use Rattle.std.proofs.Math.Nat.{mul-le-mul_right, div-add-mod}
 use Rattle.std.proofs.lemmas.Bool.{cases_lt, lt-ltb, le-ltb}
+use Rattle.geometry.proofs.Bounds.{some_entries, magic_fits, block_pages, page_inside}
 use Rattle.geometry.specs.declared.geometry.Geometry.{Geometry}
-use Rattle.image_model.specs.Volume.{page_count, per_block, lookups, slots, entries}
+use Rattle.geometry.specs.Numbers.{page_count, per_block, lookups, slots, entries}
 use Rattle.image_model.specs.Places.{page_of, is_entry_page, block_of, place_of, IsImage, entry_at}
 
 -- what the sizes of a volume meet
@@ -24,9 +25,9 @@ sizes g =
     let one : 1 * g.block ≤ g.blocks * g.block = mul-le-mul_right g.block (omega (arith, g.valid.some_blocks)) in
     record {
       page = g.valid.page_least;
-      block = (let whole : g.page * (g.block / g.page) ≡ g.block = omega (arith, div-add-mod g.block g.page, g.valid.whole_pages) in omega (arith, whole));
-      lookups_fit = omega (arith, g.valid.some_entries);
-      slots_fit = g.valid.magic_fits;
+      block = sym (block_pages g);
+      lookups_fit = omega (arith, some_entries g);
+      slots_fit = magic_fits g;
       meta = g.valid.meta_most;
       small = omega (arith, few, one, g.valid.page_most);
       total = omega (arith, few, g.valid.page_most);
@@ -51,12 +52,7 @@ unfolding is_entry_page
 behind g p h = grind arith
 
 pub page_fits : (g : Geometry) (image : List ℕ) (p : ℕ) → IsImage g image → p < page_count g → p * g.page + g.page ≤ length image
-unfolding page_count
-page_fits g image p is h =
-    let next : p + 1 ≤ g.blocks * per_block g = omega arith in
-    let step : (p + 1) * g.page ≤ (g.blocks * per_block g) * g.page = mul-le-mul_right g.page next in
-    let whole : g.blocks * g.block ≡ g.blocks * (per_block g * g.page) = ap (λ (x : ℕ). g.blocks * x) (sizes g).block in
-    omega (arith, is.len)
+page_fits g image p is h = omega (arith, page_inside g p h, is.len)
 
 -- a whole page of the image
 pub page_length : (g : Geometry) (image : List ℕ) (p : ℕ) → IsImage g image → is_entry_page g p ≡ true → length (page_of g image p) ≡ g.page

@@ -5,7 +5,7 @@ use Rattle.std.proofs.lemmas.Bool.{cases_eq, cases_Bool, eq-eqb, ne_eqb}
 use Rattle.std.specs.Prelude.{Option, Some, None, option_and_then, find}
 use Rattle.std.proofs.lemmas.List.{get_or-set_same, get_or-set_other, get_or-replicate, length-replicate}
 use Rattle.geometry.specs.declared.geometry.Geometry.{Geometry}
-use Rattle.image_model.specs.Volume.{page_count}
+use Rattle.geometry.specs.Numbers.{page_count}
 use Rattle.image_model.specs.Headers.{obj_id}
 use Rattle.image_model.specs.Live.{Live, own}
 use Rattle.image_model.specs.Files.{is_index, index_page}

@@ -10,7 +10,7 @@ use Rattle.std.proofs.lemmas.List.{get_or_append_left, get_or_at, length-append}
 use Rattle.geometry.specs.declared.geometry.Geometry.{Geometry}
 use Rattle.table_model.specs.Table.{File, same_text}
 use Rattle.image_model.specs.declared.damage.Damage.{Damage}
-use Rattle.image_model.specs.Volume.{page_count}
+use Rattle.geometry.specs.Numbers.{page_count}
 use Rattle.image_model.specs.Live.{Live, own}
 use Rattle.image_model.specs.Headers.{name_of}
 use Rattle.image_model.specs.Files.{index_page, is_index, judged, judged_by, file_of, first_missing, found}

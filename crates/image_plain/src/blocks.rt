@@ -1,6 +1,6 @@
 // Blocks by what they hold.
 ghost use Rattle.std.specs.Prelude.{◌≡◌, ◌==◌, ℕ, ◌+◌, ◌*◌, ◌/◌, ◌%◌, ◌^◌, ◌<◌, ◌≤◌, length, filter};
-ghost use Rattle.image_model.specs.Volume.{page_count, per_block, lookups, entries};
+ghost use Rattle.geometry.specs.Numbers.{page_count, per_block, lookups, entries};
 ghost use Rattle.image_model.specs.Places.{IsImage};
 ghost use Rattle.image_model.specs.Live.{live_at as the_live_at};
 ghost use Rattle.image_model.specs.Tidy.{is_erased as the_erased, is_free_entry as the_free_entry, is_free_block as the_free_block, free_blocks as the_free_blocks};
@@ -26,7 +26,7 @@ pub(crate) fn is_free_entry(g: &Geometry, image: &[u8], p: u32) -> bool
 }
 
 /// The first entry page of a block.
-#[tactic(auto, unfolding(image_model::specs::Volume::lookups, image_model::specs::Volume::per_block, image_model::specs::Volume::page_count, image_model::specs::Volume::entries))]
+#[tactic(auto, unfolding(geometry::specs::Numbers::lookups, geometry::specs::Numbers::per_block, geometry::specs::Numbers::page_count, geometry::specs::Numbers::entries))]
 pub fn first_entry(g: &Geometry, block: u32) -> u32
     requires { block < g.now.blocks }
     ensures value { result ≡ block * per_block g.now + lookups g.now }
@@ -37,7 +37,7 @@ pub fn first_entry(g: &Geometry, block: u32) -> u32
 }
 
 // Entry pages of a block.
-#[tactic(auto, unfolding(image_model::specs::Volume::lookups, image_model::specs::Volume::per_block, image_model::specs::Volume::entries))]
+#[tactic(auto, unfolding(geometry::specs::Numbers::lookups, geometry::specs::Numbers::per_block, geometry::specs::Numbers::entries))]
 pub(crate) fn entry_count(g: &Geometry) -> u32
     ensures { result ≡ entries g.now }
 {

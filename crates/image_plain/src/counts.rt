@@ -1,6 +1,6 @@
 // How many entries of each kind blocks have.
 ghost use Rattle.std.specs.Prelude.{◌≡◌, ◌==◌, ◌&&◌, ℕ, ◌+◌, ◌*◌, ◌/◌, ◌%◌, ◌^◌, ◌<◌, ◌≤◌, length, not};
-ghost use Rattle.image_model.specs.Volume.{page_count, per_block, lookups, entries};
+ghost use Rattle.geometry.specs.Numbers.{page_count, per_block, lookups, entries};
 ghost use Rattle.image_model.specs.Places.{IsImage};
 ghost use Rattle.image_model.specs.Collect.{count_in as the_count_in, is_deleted_entry};
 ghost use Rattle.image_plain.specs.Sorts.{is_entry as the_entry_kind};

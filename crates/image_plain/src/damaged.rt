@@ -19,7 +19,7 @@ use std::alloc::{AllocError, Global};
 
 // The id that counts of those with that name, among the ids from 1 to n: of their whole files the first with the least
 // header page. 0 where there is none.
-#[tactic(auto, unfolding(image_model::specs::Volume::page_count, image_model::specs::Volume::per_block), using(crate::proofs::Leading::leads_none, crate::proofs::Leading::leads_yes, crate::proofs::Leading::leads_no, crate::proofs::Leading::leads_end, crate::proofs::Leading::has_within))]
+#[tactic(auto, unfolding(geometry::specs::Numbers::page_count, geometry::specs::Numbers::per_block), using(crate::proofs::Leading::leads_none, crate::proofs::Leading::leads_yes, crate::proofs::Leading::leads_no, crate::proofs::Leading::leads_end, crate::proofs::Leading::has_within))]
 fn holder(g: &Geometry, image: &[u8], files: &[Option<u32>], n: u16, name: &[u8]) -> u16
     requires image { IsImage g.now image.now }
     requires files { AreFiles g.now (the_live_at g.now image.now) 0x8000 files.now }

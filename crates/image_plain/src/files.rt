@@ -18,7 +18,7 @@ use std::alloc::{AllocError, Global};
 
 /// The number of the index page of that span: the first such live page of the id in page order. That of span 0 is
 /// the header page.
-#[tactic(auto, unfolding(image_model::specs::Files::index_page, image_model::specs::Volume::page_count, image_model::specs::Volume::per_block), using(crate::proofs::Ranges::range_step, crate::proofs::Ranges::range_end))]
+#[tactic(auto, unfolding(image_model::specs::Files::index_page, geometry::specs::Numbers::page_count, geometry::specs::Numbers::per_block), using(crate::proofs::Ranges::range_step, crate::proofs::Ranges::range_end))]
 pub fn index_page(g: &Geometry, image: &[u8], id: u16, span: u32) -> Option<u32>
     requires { IsImage g.now image.now }
     ensures { result ≡ the_index_page g.now (the_own (the_live_at g.now image.now) id) span }

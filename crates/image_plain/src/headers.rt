@@ -58,7 +58,7 @@ fn no_headers(alloc: Global, n: usize) -> Result<Vec<Option<u32>>, AllocError>
 }
 
 // The header page of each id below 0x8000: the first in page order. The pages are walked from the last one down.
-#[tactic(auto, unfolding(image_model::specs::Volume::page_count, image_model::specs::Volume::per_block))]
+#[tactic(auto, unfolding(geometry::specs::Numbers::page_count, geometry::specs::Numbers::per_block))]
 pub(crate) fn header_pages(
     alloc: Global,
     g: &Geometry,

@@ -1,6 +1,6 @@
 // Pages, lookup entries, magics and erase counts of an image, and its live pages.
 ghost use Rattle.std.specs.Prelude.{◌≡◌, ◌==◌, ℕ, ◌+◌, ◌*◌, ◌/◌, ◌%◌, ◌^◌, ◌<◌, ◌≤◌, length, option_copied, IfSome, IsTrue, ◌↔◌};
-ghost use Rattle.image_model.specs.Volume.{page_count, per_block, lookups, slots};
+ghost use Rattle.geometry.specs.Numbers.{page_count, per_block, lookups, slots};
 ghost use Rattle.image_model.specs.Places.{IsImage, page_of as the_page, slot_of as the_slot, has_magic as the_magic, erase_count as the_count, entry_of as the_entry};
 ghost use Rattle.image_model.specs.Headers.{is_finished as the_finished};
 ghost use Rattle.nor_core.specs.Flash.{word_at};
@@ -76,7 +76,7 @@ fn slot_of(g: &Geometry, image: &[u8], block: u32, slot: u32) -> u16
 }
 
 /// Whether a block has its magic.
-#[tactic(auto, unfolding(image_model::specs::Places::has_magic, image_model::specs::Volume::lookups, image_model::specs::Volume::entries))]
+#[tactic(auto, unfolding(image_model::specs::Places::has_magic, geometry::specs::Numbers::lookups, geometry::specs::Numbers::entries))]
 pub fn has_magic(g: &Geometry, image: &[u8], block: u32) -> bool
     requires image { IsImage g.now image.now }
     requires block { block < g.now.blocks }
@@ -86,7 +86,7 @@ pub fn has_magic(g: &Geometry, image: &[u8], block: u32) -> bool
 }
 
 /// The erase count of a block, from 0 to 0x7FFF; 0 where none was written.
-#[tactic(auto, unfolding(image_model::specs::Places::erase_count, image_model::specs::Volume::lookups))]
+#[tactic(auto, unfolding(image_model::specs::Places::erase_count, geometry::specs::Numbers::lookups))]
 pub fn erase_count(g: &Geometry, image: &[u8], block: u32) -> u16
     requires image { IsImage g.now image.now }
     requires block { block < g.now.blocks }
@@ -98,7 +98,7 @@ pub fn erase_count(g: &Geometry, image: &[u8], block: u32) -> u16
 }
 
 /// The lookup entry of an entry page.
-#[tactic(auto, unfolding(image_model::specs::Places::entry_of, image_model::specs::Volume::lookups, image_model::specs::Volume::per_block), using(image_model::specs::Within::block_number, image_model::specs::Within::entry_slot))]
+#[tactic(auto, unfolding(image_model::specs::Places::entry_of, geometry::specs::Numbers::lookups, geometry::specs::Numbers::per_block), using(image_model::specs::Within::block_number, image_model::specs::Within::entry_slot))]
 pub fn entry_of(g: &Geometry, image: &[u8], p: u32) -> u16
     requires image { IsImage g.now image.now }
     requires number { p < page_count g.now }
@@ -109,7 +109,7 @@ pub fn entry_of(g: &Geometry, image: &[u8], p: u32) -> u16
 }
 
 /// Whether a page is live.
-#[tactic(auto, unfolding(image_model::specs::Live::is_live, image_model::specs::Places::is_entry_page, image_model::specs::Volume::page_count, image_model::specs::Volume::lookups, image_model::specs::Volume::per_block), using(image_model::specs::Within::block_number))]
+#[tactic(auto, unfolding(image_model::specs::Live::is_live, image_model::specs::Places::is_entry_page, geometry::specs::Numbers::page_count, geometry::specs::Numbers::lookups, geometry::specs::Numbers::per_block), using(image_model::specs::Within::block_number))]
 pub fn is_live(g: &Geometry, image: &[u8], p: u32) -> bool
     requires { IsImage g.now image.now }
     ensures { result ≡ the_live g.now image.now p }

@@ -1,8 +1,7 @@
 // Wanted pages, killed entries, free blocks and mixed blocks.
 ghost use Rattle.std.specs.Prelude.{◌≡◌, ◌==◌, ◌&&◌, ℕ, ◌+◌, ◌*◌, ◌/◌, ◌%◌, ◌<◌, ◌≤◌, length, filter, is_some, IfOk, true};
 ghost use Rattle.std.specs.List.{range_with_len, list_any, list_all};
-ghost use Rattle.geometry.specs.Numbers.{head_slots};
-ghost use Rattle.image_model.specs.Volume.{page_count, per_block, lookups, entries};
+ghost use Rattle.geometry.specs.Numbers.{head_slots, page_count, per_block, lookups, entries};
 ghost use Rattle.image_model.specs.Places.{IsImage, is_entry_page as the_entry_page};
 ghost use Rattle.image_model.specs.Headers.{size_of as the_size};
 ghost use Rattle.image_model.specs.Live.{live_at as the_live_at, own as the_own};
@@ -185,7 +184,7 @@ pub fn is_wanted(alloc: Global, g: &Geometry, image: &[u8], p: u32) -> Result<bo
 }
 
 // Whether an entry is in use: in a block with its magic, and neither deleted nor free.
-#[tactic(auto, unfolding(image_model::specs::Killed::is_used, image_model::specs::Places::is_entry_page, image_model::specs::Volume::per_block, image_model::specs::Volume::lookups), using(image_model::specs::Within::block_number))]
+#[tactic(auto, unfolding(image_model::specs::Killed::is_used, image_model::specs::Places::is_entry_page, geometry::specs::Numbers::per_block, geometry::specs::Numbers::lookups), using(image_model::specs::Within::block_number))]
 fn is_used(g: &Geometry, image: &[u8], p: u32) -> bool
     requires image { IsImage g.now image.now }
     requires number { p < page_count g.now }
@@ -209,7 +208,7 @@ fn is_killable(g: &Geometry, image: &[u8], heads: &[Option<u32>], whole: &[bool]
 }
 
 /// How many entries a check kills: those in use whose pages aren't wanted.
-#[tactic(auto, unfolding(image_model::specs::Killed::killed_of, image_model::specs::Volume::page_count, image_model::specs::Volume::per_block), using(crate::proofs::Ranges::count_none, crate::proofs::Ranges::count_all))]
+#[tactic(auto, unfolding(image_model::specs::Killed::killed_of, geometry::specs::Numbers::page_count, geometry::specs::Numbers::per_block), using(crate::proofs::Ranges::count_none, crate::proofs::Ranges::count_all))]
 pub fn killed_of(alloc: Global, g: &Geometry, image: &[u8]) -> Result<u32, AllocError>
     requires { IsImage g.now image.now }
     ensures { IfOk result (λ count. count ≡ the_killed g.now image.now) }
@@ -227,7 +226,7 @@ pub fn killed_of(alloc: Global, g: &Geometry, image: &[u8]) -> Result<u32, Alloc
 }
 
 /// Which pages are wanted, by their numbers.
-#[tactic(auto, unfolding(image_model::specs::Volume::page_count, image_model::specs::Volume::per_block), using(crate::proofs::Wanting::wanted_none, crate::proofs::Wanting::wanted_more))]
+#[tactic(auto, unfolding(geometry::specs::Numbers::page_count, geometry::specs::Numbers::per_block), using(crate::proofs::Wanting::wanted_none, crate::proofs::Wanting::wanted_more))]
 pub fn wanted_pages(alloc: Global, g: &Geometry, image: &[u8]) -> Result<Vec<bool>, AllocError>
     requires { IsImage g.now image.now }
     ensures { IfOk result (λ wanted. AreWanted g.now image.now (page_count g.now) wanted.items) }

@@ -2,6 +2,7 @@
 use Rattle.std.proofs.Common.{◌≡◌, ◌≢◌, ℕ, ◌+◌, ◌%◌, ◌<◌, ◌≤◌, ◌⊎◌, inl, inr, ⊎_elim, List, refl, sym, ◌∙◌, ap, subst, arith}
 use Rattle.std.proofs.Math.Nat.{mod-lt, mod-eq_of_lt}
 use Rattle.std.specs.Prelude.{slice_index}
+use Rattle.geometry.proofs.Bounds.{few_pages}
 use Rattle.geometry.specs.declared.geometry.Geometry.{Geometry}
 use Rattle.geometry.specs.Numbers.{page_count}
 use Rattle.page_cache.specs.Frames.{frame_count, frame_at, number_of, word_in, page_in, home_of, since_of, until_of, used_to, IsPlaced, IsNear, IsFindable, SameHead, SameCopy, AreSameCopies, Widened, Bounded, IsFree, EachFrame}
@@ -15,7 +16,7 @@ home_below g frames page f below = mod-lt page (omega (arith, below))
 placed_still : (g : Geometry) (a b : List ℕ) → frame_count g b ≡ frame_count g a → IsPlaced g a → ((f : ℕ) → f < frame_count g a → (page_in g b f ≡ page_in g a f) ⊎ (page_in g b f ≡ 65535)) → IsPlaced g b
 placed_still g a b same placed numbers many f below used = ⊎_elim
     (λ e. e ∙ placed (omega (arith, many, same)) f (omega (arith, below, same)) (omega (arith, e, used)))
-    (λ free. absurd (omega (arith, free, used, g.valid.few_pages)))
+    (λ free. absurd (omega (arith, free, used, few_pages g)))
     (numbers f (omega (arith, below, same)))
 
 module _ (g : Geometry) (a b : List ℕ) (same : frame_count g b ≡ frame_count g a) where
@@ -33,7 +34,7 @@ module _ (g : Geometry) (a b : List ℕ) (same : frame_count g b ≡ frame_count
       → ((h : ℕ) → h < frame_count g a → (x : ℕ) → since_of g a h ≤ x → x < until_of g a h → (since_of g b h ≤ x) × (x < until_of g b h))
       → ((f : ℕ) → f < used_to g b → f < frame_count g a → page_in g b f < page_count g) → IsFindable g a → IsFindable g b
   findable_still numbers wider bound findable =
-      let was : (f : ℕ) → f < frame_count g a → page_in g b f < page_count g → page_in g b f ≡ page_in g a f = λ f below used. ⊎_elim (λ e. e) (λ free. absurd (omega (arith, free, used, g.valid.few_pages))) (numbers f below) in
+      let was : (f : ℕ) → f < frame_count g a → page_in g b f < page_count g → page_in g b f ≡ page_in g a f = λ f below used. ⊎_elim (λ e. e) (λ free. absurd (omega (arith, free, used, few_pages g))) (numbers f below) in
       record {
         placed = λ many f below used. let e = was f (omega (arith, below, same)) used in e ∙ findable.placed (omega (arith, many, same)) f (omega (arith, below, same)) (omega (arith, e, used));
         near = λ f below used. let e = was f (omega (arith, below, same)) used in
@@ -123,7 +124,7 @@ copies_then g a b c first second f = record { number = (second f).number ∙ (fi
 -- free frames hold no page, wherever it is looked for
 pub findable_free : (g : Geometry) (a b : List ℕ) → frame_count g b ≡ frame_count g a → EachFrame g IsFree a b → IsFindable g b
 findable_free g a b same free =
-    let no : (f : ℕ) → f < frame_count g b → page_in g b f < page_count g → ⊥ = λ f below used. omega (arith, (free f (omega (arith, below, same))).0, used, g.valid.few_pages) in
+    let no : (f : ℕ) → f < frame_count g b → page_in g b f < page_count g → ⊥ = λ f below used. omega (arith, (free f (omega (arith, below, same))).0, used, few_pages g) in
     record {
       placed = λ many f below used. absurd (no f below used);
       near = λ f below used. absurd (no f below used);

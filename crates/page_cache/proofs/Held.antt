@@ -2,6 +2,7 @@
 use Rattle.std.proofs.Common.{◌≡◌, ◌≢◌, ℕ, ◌+◌, ◌*◌, ◌<◌, ◌≤◌, ◌==◌, ⊎_elim, Bool, true, false, List, length, refl, sym, ◌∙◌, ap, arith}
 use Rattle.std.proofs.lemmas.Bool.{eq-eqb, eqb-true}
 use Rattle.std.specs.Prelude.{Option, Some, None, is_some, IfSome}
+use Rattle.geometry.proofs.Bounds.{few_pages}
 use Rattle.geometry.specs.declared.geometry.Geometry.{Geometry}
 use Rattle.geometry.specs.Numbers.{page_count}
 use Rattle.nor_core.specs.Count.{Rose}
@@ -74,7 +75,7 @@ module _ (g : Geometry) where
 
   -- no page is held where all frames are free
   pub held_none : (frames : List ℕ) → ((f : ℕ) → f < frame_count g frames → page_in g frames f ≡ 65535) → held g frames ≡ 0
-  held_none frames free = many_none (holds g frames) (page_count g) (λ page inside e. let w = holder frames page e in omega (arith, free w.frame w.below, w.is, inside, g.valid.few_pages))
+  held_none frames free = many_none (holds g frames) (page_count g) (λ page inside e. let w = holder frames page e in omega (arith, free w.frame w.below, w.is, inside, few_pages g))
 
 module _ {D : Type 0} {nor : NorOf D} (g : Geometry) where
   -- no read

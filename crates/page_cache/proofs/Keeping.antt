@@ -6,6 +6,7 @@ use Rattle.nor_core.specs.Flash.{programmed, erased, SameOutside, HalfErased}
 use Rattle.nor_core.specs.declared.device.Mark.{Mark}
 use Rattle.std.specs.declared.option.Option.{Option}
 use Rattle.std.specs.Prelude.{slice_index}
+use Rattle.geometry.proofs.Bounds.{few_pages}
 use Rattle.nor_core.specs.declared.state.NorState.{Ghosts as NorOf}
 use Rattle.page_cache.specs.Frames.{frame_count, frame_at, number_of, page_in, used_to, IsPlaced, IsFindable, IsNear, IsCopy, SameHead, AreSameCopies, GoesWithProgram, GoesWithErase, GivenUp, IsFree, EachFrame, EachPage}
 use Rattle.page_cache.specs.Kept.{IsKept}
@@ -59,7 +60,7 @@ module _ {D : Type 0} {nor : NorOf D} (g : Geometry) (old new : D) (a b : List �
     findable = findable;
     right = λ tells f below used. ⊎_elim
         (λ was. ⊎_elim
-        (λ given. absurd (omega (arith, given.0, used, g.valid.few_pages)))
+        (λ given. absurd (omega (arith, given.0, used, few_pages g)))
         (λ stays. subst (IsCopy g.page (nor.bytes new)) (sym stays.0)
         (outside_copy g.page at count (nor.bytes old) (nor.bytes new) (frame_at g a f) (outside (told tells)) stays.1
         (kept.right (told tells) f (omega (arith, below, same)) was)))
@@ -85,7 +86,7 @@ module _ {D : Type 0} {nor : NorOf D} (g : Geometry) (old new : D) (a b : List �
   kept_lost f kept told bytes numbers copies free findable = record {
     findable = findable;
     right = λ tells h below used i inside. ⊎_elim
-        (λ e. absurd (omega (arith, ap (page_in g b) e, free, used, g.valid.few_pages)))
+        (λ e. absurd (omega (arith, ap (page_in g b) e, free, used, few_pages g)))
         (λ ne.
         copies h (8 + i) ne (omega arith) ∙ kept.right (told tells) h (omega (arith, below, same)) (omega (arith, used, numbers h ne)) i inside
         ∙ ap (λ (l : List ℕ). slice_index l (page_in g a h * g.page + i)) (sym bytes)
@@ -104,5 +105,5 @@ half_outside start count mark was now half = ⊎_elim
 pub kept_free : {D : Type 0} {nor : NorOf D} (g : Geometry) (d : D) (a b : List ℕ) → frame_count g b ≡ frame_count g a → IsFindable g b → EachFrame g IsFree a b → IsKept nor g d b
 kept_free g d a b same findable free = record {
   findable = findable;
-  right = λ tells f below used. absurd (omega (arith, free f (omega (arith, below, same)), used, g.valid.few_pages));
+  right = λ tells f below used. absurd (omega (arith, free f (omega (arith, below, same)), used, few_pages g));
 }

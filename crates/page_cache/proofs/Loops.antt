@@ -1,5 +1,6 @@
 -- Loops over frames, and over the pages that a range of the device meets.
 use Rattle.std.proofs.Common.{◌≡◌, ◌≢◌, ℕ, ◌+◌, ◌<◌, ◌≤◌, ◌⊎◌, inl, inr, ⊎_elim, List, refl, sym, ◌∙◌, ap, subst, arith}
+use Rattle.geometry.proofs.Bounds.{few_pages}
 use Rattle.geometry.specs.declared.geometry.Geometry.{Geometry}
 use Rattle.geometry.specs.Numbers.{page_count}
 use Rattle.page_cache.specs.Frames.{frame_count, frame_at, number_of, word_in, page_in, used_to, IsFindable, SameHead, GoesWithProgram, GoesWithErase, GivenUp, EachFrame, EachPage, OnePage}
@@ -48,7 +49,7 @@ module _ (g : Geometry) (R : List ℕ → List ℕ → Type 0) (steady : Steady 
         (λ e. let before = was.rest f (λ used. omega (arith, e)) in
         subst (λ (l : List ℕ). R l (frame_at g new f)) before (one.here f (omega (arith, below, same)) (ap number_of before ∙ e)))
         (λ ne. let made = was.done f below used (omega (arith, under, ne)) in
-        subst (R (frame_at g old f)) (sym (one.others f (⊎_elim (λ e at. ne (sym e ∙ at)) (λ free at. omega (arith, free, at, small, g.valid.few_pages)) (steady.number _ _ made)))) made)
+        subst (R (frame_at g old f)) (sym (one.others f (⊎_elim (λ e at. ne (sym e ∙ at)) (λ free at. omega (arith, free, at, small, few_pages g)) (steady.number _ _ made)))) made)
         (same_or_not (page_in g old f) q);
     rest = λ f above.
         let before = was.rest f (λ used. omega (arith, above used)) in

@@ -4,6 +4,7 @@ use Rattle.std.proofs.Math.Nat.{mul_assoc, mul-le-mul_right, div-mul-le_self, le
 use Rattle.std.proofs.lemmas.Slice.{between-put_mid}
 use Rattle.std.proofs.lemmas.List.{length-take, get_or-take, get_or-drop, same_lists}
 use Rattle.std.proofs.lemmas.Grind.{common_steps, get_or_default_zero}
+use Rattle.geometry.proofs.Bounds.{few_pages}
 use Rattle.geometry.specs.declared.geometry.Geometry.{Geometry}
 use Rattle.geometry.specs.Numbers.{page_count, per_block, cache_need}
 use Rattle.page_cache.specs.Frames.{frame_size, frame_count, frame_at}
@@ -126,12 +127,4 @@ pub frame_there : (g : Geometry) (frames : List ℕ) (page : ℕ) → page < pag
 unfolding frame_count
 frame_there g frames page small long =
     let some : page + 1 ≤ length frames / frame_size g = (le-div_iff_mul-le {k = frame_size g} {x = page + 1} {y = length frames} (omega arith)).1 long in
-    omega (arith, some, small, g.valid.few_pages)
-
--- a page lies in the volume
-pub page_inside : (g : Geometry) (p : ℕ) → p < page_count g → p * g.page + g.page ≤ g.blocks * g.block
-page_inside g p below =
-    let next : p + 1 ≤ g.blocks * per_block g = omega arith in
-    let block : per_block g * g.page ≡ g.block = grind (arith, g.valid.whole_pages) in
-    let all : g.blocks * per_block g * g.page ≡ g.blocks * g.block = mul_assoc g.blocks (per_block g) g.page ∙ ap (λ n. g.blocks * n) block in
-    omega (arith, mul-le-mul_right g.page next, all)
+    omega (arith, some, small, few_pages g)

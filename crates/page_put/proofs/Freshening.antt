@@ -8,14 +8,14 @@ use Rattle.std.proofs.lemmas.Nat.{xor_lt}
 use Rattle.std.proofs.lemmas.Bool.{cases_lt, cases_eq, cases_Bool, ne_eqb, eq-eqb, lt-ltb}
 use Rattle.std.proofs.lemmas.List.{length-take, length-drop, length-replicate}
 use Rattle.std.proofs.lemmas.Grind.{same_number_lists}
+use Rattle.geometry.proofs.Bounds.{lookups_fit}
 use Rattle.geometry.specs.declared.geometry.Geometry.{Geometry}
 use Rattle.geometry.specs.declared.magic.MagicKind.{MagicKind}
 use Rattle.geometry.specs.declared.magic.MagicKind.TheVariants.{Plain, Length}
-use Rattle.geometry.specs.Numbers.{length_mark, right_magic}
+use Rattle.geometry.specs.Numbers.{length_mark, right_magic, per_block, lookups, slots, entries}
 use Rattle.nor_core.specs.Flash.{SameOutside, Scrambled, HalfErased, HalfProgrammed, erased, programmed}
 use Rattle.page_cache.proofs.Copies.{erased_before, erased_after, erased_inside}
 use Rattle.page_cache.proofs.Keeping.{half_outside}
-use Rattle.image_model.specs.Volume.{per_block, lookups, slots, entries}
 use Rattle.image_model.specs.Headers.{is_finished}
 use Rattle.image_model.specs.Live.{live_at}
 use Rattle.image_model.specs.Places.{has_magic, erase_count, entry_of, page_of, slot_of, block_of, place_of, is_entry_page, IsImage}
@@ -59,7 +59,7 @@ lies g =
     let rows : lookups g * g.page ≤ per_block g * g.page = mul-le-mul_right g.page fewer in
     record {
       units = omega (arith, div-add-mod g.block g.phys, g.valid.whole_units);
-      first = omega (arith, g.valid.lookups_fit);
+      first = omega (arith, lookups_fit g);
       pages = omega arith;
       some = omega (arith, geo.slots_fit, geo.lookups_fit);
       inside = omega (arith, geo.block);

@@ -4,9 +4,8 @@ use Rattle.std.specs.Prelude.{bit_and, is_some}
 use Rattle.std.specs.Int.{bit_at}
 use Rattle.geometry.specs.declared.geometry.Geometry.{Geometry}
 use Rattle.nor_core.specs.Flash.{HalfProgrammed}
-use Rattle.flash_view.specs.Places.{entry_start}
 use Rattle.image_model.specs.Within.{sizes}
-use Rattle.image_model.specs.Volume.{per_block, lookups}
+use Rattle.geometry.specs.Numbers.{per_block, lookups}
 use Rattle.image_model.specs.Places.{page_of, IsImage, entry_at}
 use Rattle.image_model.specs.Headers.{is_finished}
 use Rattle.image_model.specs.Live.{live_at}
@@ -29,10 +28,6 @@ use Rattle.page_put.proofs.Clearing.{left_half, left_done, clears_deleted}
 
 -- ---- a kill, as the laws name its programs
 
-entry_place : (g : Geometry) (p : ℕ) → entry_start g p ≡ entry_at g p
-unfolding per_block lookups
-entry_place g p = refl
-
 -- the flags that a kill leaves
 abbrev pub flags_left : Geometry → List ℕ → ℕ → ℕ
 flags_left g a p = bit_and (slice_index a (p * g.page + 4)) 0x7F
@@ -41,13 +36,13 @@ pub kill_cut : (g : Geometry) (a c : List ℕ) (p : ℕ) → HalfKilled g p a c 
 kill_cut g a c p h =
     ⊎_elim
     (λ (flags : HalfProgrammed (p * g.page + 4) (0x7F ∷ []) a c). inl (left_half (p * g.page + 4) 0x7F a c flags))
-    (λ (entry : HalfProgrammed (entry_start g p) (0 ∷ 0 ∷ []) (deleted g p a) c). inr (subst (λ (at : ℕ). HalfProgrammed at (0 ∷ 0 ∷ []) (deleted g p a) c) (entry_place g p) entry))
+    (λ (entry : HalfProgrammed (entry_at g p) (0 ∷ 0 ∷ []) (deleted g p a) c). inr entry)
     h
 
 pub kill_done : (g : Geometry) (a : List ℕ) (p : ℕ) → Kills g p (flags_left g a p) a (deleted g p a) (killed g p a)
 kill_done g a p = record {
   delete = left_done (p * g.page + 4) 0x7F a;
-  clear = subst (λ (at : ℕ). Programmed at (0 ∷ 0 ∷ []) (deleted g p a) (killed g p a)) (entry_place g p) (finished-programmed (entry_start g p) (0 ∷ 0 ∷ []) (deleted g p a));
+  clear = finished-programmed (entry_at g p) (0 ∷ 0 ∷ []) (deleted g p a);
 }
 
 -- ---- of a live page

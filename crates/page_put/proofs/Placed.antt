@@ -7,17 +7,13 @@ use Rattle.nor_core.specs.Flash.{HalfProgrammed, programmed}
 use Rattle.nor_core.specs.declared.state.NorState.{Ghosts as NorOf}
 use Rattle.nor_core.specs.Device.{Changes}
 use Rattle.nor_core.proofs.Cuts.{wider, go_on}
-use Rattle.image_model.specs.Volume.{per_block, lookups}
+use Rattle.geometry.specs.Numbers.{per_block, lookups}
 use Rattle.image_model.specs.Places.{entry_at}
 use Rattle.flash_view.specs.declared.kinds.Kind.{Kind}
-use Rattle.flash_view.specs.Places.{entry_start, page_start}
+use Rattle.flash_view.specs.Places.{page_start}
 use Rattle.page_layout.specs.declared.header.PageHeader.{PageHeader}
 use Rattle.page_layout.specs.Layout.{bits_of}
 use Rattle.page_put.specs.Placing.{placed_id, placed_flags, placed_header, placed_page, with_entry, with_header, with_page, IsPlacing}
-
-entry_place : (g : Geometry) (p : ℕ) → entry_start g p ≡ entry_at g p
-unfolding per_block lookups
-entry_place g p = refl
 
 -- the two bytes of an id
 id_bytes : (id asked : ℕ) → asked ≡ id → asked < 65536 → to_le_bytes w16 asked ≡ id % 256 ∷ id / 256 ∷ []
@@ -35,14 +31,14 @@ same_program {nor = nor} {old = old} {new = new} {at = at} {to = to} {asked = as
 
 module _ {D : Type 0} {nor : NorOf D} (g : Geometry) (p : ℕ) (kind : Kind) (tag : Tag) (built : List ℕ) where
   -- the entry
-  module _ {old mid : D} (asked : ℕ) (is : asked ≡ placed_id kind tag.id) (small : asked < 65536) (first : Changes nor old mid (HalfProgrammed (entry_start g p) (to_le_bytes w16 asked))) where
+  module _ {old mid : D} (asked : ℕ) (is : asked ≡ placed_id kind tag.id) (small : asked < 65536) (first : Changes nor old mid (HalfProgrammed (entry_at g p) (to_le_bytes w16 asked))) where
     pub cut1 : Changes nor old mid (IsPlacing g p (placed_page g kind tag built))
-    cut1 = wider (same_program (entry_place g p) (id_bytes _ asked is small) first) (λ tells image half. inl half)
+    cut1 = wider (same_program refl (id_bytes _ asked is small) first) (λ tells image half. inl half)
 
     -- the header after it
-    module _ (done : nor.tells old → nor.bytes mid ≡ programmed (nor.bytes old) (entry_start g p) (to_le_bytes w16 asked)) where
+    module _ (done : nor.tells old → nor.bytes mid ≡ programmed (nor.bytes old) (entry_at g p) (to_le_bytes w16 asked)) where
       entry_stands : nor.tells old → nor.bytes mid ≡ with_entry g p (placed_page g kind tag built) (nor.bytes old)
-      entry_stands tells = rw (← entry_place g p, ← id_bytes (placed_id kind tag.id) asked is small) (done tells)
+      entry_stands tells = rw (← id_bytes (placed_id kind tag.id) asked is small) (done tells)
 
       module _ {next : D} (g1 : Geometry) (same : g1 ≡ g) (bytes : List ℕ) (head : bytes ≡ placed_header kind tag) (second : Changes nor mid next (HalfProgrammed (page_start g1 p + 0) bytes)) where
         place1 : page_start g1 p + 0 ≡ p * g.page

@@ -13,6 +13,7 @@ use nor_core::{Failed, Mark, Nor, NorState};
 use page_layout::{count_offset, magic_offset};
 
 // The mark of a unit's erase: the magic of the block in its first unit.
+#[tactic(auto, using(geometry::proofs::Bounds::lookups_fit))]
 fn unit_mark(g: &Geometry, block: u16, i: u32) -> Option<Mark>
     requires { block < g.now.blocks }
     ensures first { i ≡ 0 → result ≡ Some (magic_mark g.now block) }
@@ -61,7 +62,7 @@ fn erase_block<N: Nor>(v: &mut View<'_, N>, block: u16) -> Result<(), Failed>
 }
 
 // Programs the erase count of a block, then its magic.
-#[tactic(auto, using(flash_view::proofs::Looking::same_then))]
+#[tactic(auto, using(flash_view::proofs::Looking::same_then, flash_view::proofs::Inside::lookups_inside, geometry::proofs::Bounds::block_inside, geometry::proofs::Bounds::volume_small))]
 fn mark_block<N: Nor>(v: &mut View<'_, N>, block: u16, count: u16) -> Result<(), Failed>
     requires { block < v.old.geometry.blocks }
     ensures cause { OnErr result (Rose (N.faults v.old.nor.now) (N.faults v.new.nor.now)) }

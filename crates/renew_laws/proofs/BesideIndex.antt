@@ -6,9 +6,8 @@ use Rattle.std.specs.Prelude.{option_and_then, find, is_some}
 use Rattle.std.specs.List.{range_with_len}
 use Rattle.std.proofs.lemmas.Bool.{cases_eq, cases_lt, lt-ltb, le-ltb, false_from_ne_true, eq-eqb}
 use Rattle.geometry.specs.declared.geometry.Geometry.{Geometry}
-use Rattle.geometry.specs.Numbers.{head_slots, span_slots, ceil}
+use Rattle.geometry.specs.Numbers.{head_slots, span_slots, ceil, page_count}
 use Rattle.table_model.specs.Room.{data_pages, index_pages}
-use Rattle.image_model.specs.Volume.{page_count}
 use Rattle.image_model.specs.Within.{sizes}
 use Rattle.image_model.specs.Headers.{obj_id, names_index, span_of, size_of}
 use Rattle.image_model.specs.Live.{Live, live_at, own}

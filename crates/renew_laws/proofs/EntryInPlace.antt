@@ -11,8 +11,7 @@ use Rattle.geometry.specs.declared.geometry.Geometry.{Geometry}
 use Rattle.image_model.specs.Within.{sizes, Sizes, page_length}
 use Rattle.image_model.specs.declared.damage.Damage.{Damage}
 use Rattle.nor_core.specs.Flash.{SameOutside, word_at}
-use Rattle.image_model.specs.Volume.{page_count}
-use Rattle.geometry.specs.Numbers.{head_slots, span_slots}
+use Rattle.geometry.specs.Numbers.{page_count, head_slots, span_slots}
 use Rattle.table_model.specs.Room.{data_pages, index_pages}
 use Rattle.image_model.specs.Live.{live_at, Live, own}
 use Rattle.image_model.specs.Headers.{obj_id, span_of, names_index, size_of, name_of}

@@ -7,11 +7,10 @@ use Rattle.std.specs.List.{range_with_len}
 use Rattle.std.proofs.lemmas.Bool.{cases_eq, le-ltb, false_from_ne_true}
 use Rattle.std.proofs.lemmas.Option.{some_pair_parts}
 use Rattle.geometry.specs.declared.geometry.Geometry.{Geometry}
-use Rattle.geometry.specs.Numbers.{body, head_slots}
+use Rattle.geometry.specs.Numbers.{body, head_slots, page_count}
 use Rattle.nor_core.specs.Flash.{SameOutside, HalfProgrammed}
 use Rattle.table_model.specs.Table.{File}
 use Rattle.image_model.specs.declared.damage.Damage.{Damage}
-use Rattle.image_model.specs.Volume.{page_count}
 use Rattle.image_model.specs.Within.{sizes}
 use Rattle.image_model.specs.Headers.{obj_id, names_index, span_of, size_of}
 use Rattle.image_model.specs.Live.{Live, live_at, own}

@@ -7,7 +7,7 @@ use Rattle.std.proofs.lemmas.Bool.{cases_eq, cases_lt, eq-eqb, ne_eqb, false_fro
 use Rattle.std.proofs.lemmas.Option.{none-some, same_Some}
 use Rattle.geometry.specs.declared.geometry.Geometry.{Geometry}
 use Rattle.image_model.specs.declared.damage.Damage.{Damage}
-use Rattle.image_model.specs.Volume.{page_count}
+use Rattle.geometry.specs.Numbers.{page_count}
 use Rattle.table_model.specs.Room.{data_pages, index_pages}
 use Rattle.image_model.specs.Headers.{span_of, size_of}
 use Rattle.image_laws.specs.Changes.{Gains, Loses}

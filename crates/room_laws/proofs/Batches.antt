@@ -3,7 +3,7 @@ use Rattle.std.proofs.Common.{◌≡◌, ◌≢◌, ℕ, suc, ◌+◌, ◌-◌, 
 use Rattle.std.specs.Prelude.{All, Contains}
 use Rattle.std.proofs.lemmas.Bool.{cases_eq}
 use Rattle.geometry.specs.declared.geometry.Geometry.{Geometry}
-use Rattle.image_model.specs.Volume.{entries}
+use Rattle.geometry.specs.Numbers.{entries}
 use Rattle.image_model.specs.Places.{block_of, is_entry_page}
 use Rattle.image_model.specs.Within.{page_number, block_number}
 use Rattle.image_laws.proofs.Frames.{live_parts}

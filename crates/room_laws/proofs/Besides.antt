@@ -4,7 +4,7 @@ use Rattle.std.specs.Prelude.{All, Contains}
 use Rattle.std.proofs.lemmas.Bool.{eq-eqb, ne_eqb}
 use Rattle.std.proofs.lemmas.List.FromFn.{length-map-range_with_len, get_or-map-range_with_len}
 use Rattle.geometry.specs.declared.geometry.Geometry.{Geometry}
-use Rattle.image_model.specs.Volume.{entries}
+use Rattle.geometry.specs.Numbers.{entries}
 use Rattle.image_model.specs.Tidy.{IsTidy, is_free_block, free_blocks}
 use Rattle.image_model.specs.Kinds.{live_index, live_data, is_data_block}
 use Rattle.image_model.specs.Collect.{index_in, data_in, deleted_in}

@@ -6,11 +6,10 @@ use Rattle.std.proofs.Math.Nat.{mul-le-mul_right, div-add-mod, mul-div_cancel}
 use Rattle.std.proofs.lemmas.Bool.{cases_eq, cases_lt, cases_Bool, and_parts, or_cases, eq-eqb, eqb-true, lt-ltb, le-ltb}
 use Rattle.std.proofs.lemmas.Option.{same_Some, none-some}
 use Rattle.geometry.specs.declared.geometry.Geometry.{Geometry}
-use Rattle.geometry.specs.Numbers.{head_slots, span_slots, ceil}
+use Rattle.geometry.specs.Numbers.{head_slots, span_slots, ceil, page_count}
 use Rattle.table_model.specs.Table.{File}
 use Rattle.table_model.specs.Room.{data_pages, index_pages}
 use Rattle.image_model.specs.Within.{sizes, page_length, page_number}
-use Rattle.image_model.specs.Volume.{page_count}
 use Rattle.image_model.specs.Headers.{obj_id, span_of, names_index, size_of}
 use Rattle.image_model.specs.Live.{Live, live_at, own}
 use Rattle.image_model.specs.Places.{IsImage}

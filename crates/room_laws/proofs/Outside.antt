@@ -5,7 +5,7 @@ use Rattle.std.proofs.lemmas.Nat.{div-mul-add}
 use Rattle.std.proofs.lemmas.Bool.{cases_lt}
 use Rattle.geometry.specs.declared.geometry.Geometry.{Geometry}
 use Rattle.nor_core.specs.Flash.{SameOutside}
-use Rattle.image_model.specs.Volume.{per_block, lookups}
+use Rattle.geometry.specs.Numbers.{per_block, lookups}
 use Rattle.image_model.specs.Places.{block_of, place_of, is_entry_page, entry_of, page_of}
 use Rattle.image_model.specs.Live.{live_at}
 use Rattle.image_model.specs.Within.{sizes, entry_slot}

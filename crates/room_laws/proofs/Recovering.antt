@@ -2,7 +2,7 @@
 use Rattle.std.proofs.Common.{◌≡◌, ◌≢◌, ℕ, ◌+◌, ◌<◌, ◌≤◌, ◌⊎◌, List, [], ◌∷◌, true, false, refl, sym, ◌∙◌, ap, subst, arith, ⊎_elim, inl, inr}
 use Rattle.std.proofs.lemmas.Bool.{cases_eq, cases_lt}
 use Rattle.geometry.specs.declared.geometry.Geometry.{Geometry}
-use Rattle.image_model.specs.Volume.{entries}
+use Rattle.geometry.specs.Numbers.{entries}
 use Rattle.image_model.specs.Places.{IsImage, block_of, is_entry_page}
 use Rattle.image_model.specs.Tables.{table_of}
 use Rattle.image_model.specs.Tidy.{IsTidy, is_free_block, free_blocks}

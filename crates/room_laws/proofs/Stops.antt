@@ -5,9 +5,10 @@ use Rattle.std.specs.List.{range_with_len, list_any}
 use Rattle.std.proofs.Math.Nat.{mul-le-mul, mul-le-mul_left, mul-le-mul_right}
 use Rattle.std.proofs.lemmas.Bool.{cases_Bool, cases_lt, and_from, and_parts, or_left, lt-ltb, le-ltb, false_from_ne_true}
 use Rattle.std.proofs.lemmas.List.FromFn.{length-map-range_with_len, get_or-map-range_with_len}
+use Rattle.geometry.proofs.Bounds.{few_pages, some_entries}
 use Rattle.geometry.specs.declared.geometry.Geometry.{Geometry}
 use Rattle.table_model.specs.Room.{index_count, data_count}
-use Rattle.image_model.specs.Volume.{per_block, lookups, entries}
+use Rattle.geometry.specs.Numbers.{per_block, lookups, entries}
 use Rattle.image_model.specs.Places.{IsImage}
 use Rattle.image_model.specs.Tables.{table_of}
 use Rattle.image_model.specs.Tidy.{IsTidy, free_blocks, HasReserve}
@@ -207,8 +208,8 @@ power_most m le =
 entries_most : (g : Geometry) → g.blocks * entries g ≤ 65532
 unfolding entries per_block lookups
 entries_most g =
-    let m : g.blocks * (per_block g - lookups g + 1) ≤ g.blocks * per_block g = mul-le-mul_left g.blocks (omega (arith, g.valid.some_entries)) in
-    omega (arith, m, g.valid.few_pages, g.valid.some_blocks)
+    let m : g.blocks * (per_block g - lookups g + 1) ≤ g.blocks * per_block g = mul-le-mul_left g.blocks (omega (arith, some_entries g)) in
+    omega (arith, m, few_pages g, g.valid.some_blocks)
 
 pub measure_is_small : (g : Geometry) → MeasureIsSmall g
 unfolding gc_measure measure

@@ -7,7 +7,7 @@ use Rattle.std.proofs.lemmas.Bool.{and_parts, eqb-true, eq-eqb, lt-ltb, false_fr
 use Rattle.std.proofs.lemmas.List.Sums.{sum_by-cons, length-filter}
 use Rattle.std.proofs.lemmas.List.FromFn.{length-map-range_with_len, get_or-map-range_with_len}
 use Rattle.geometry.specs.declared.geometry.Geometry.{Geometry}
-use Rattle.image_model.specs.Volume.{page_count, per_block, lookups, entries}
+use Rattle.geometry.specs.Numbers.{page_count, per_block, lookups, entries}
 use Rattle.image_model.specs.Places.{block_of, has_magic}
 use Rattle.image_model.specs.Live.{live_at}
 use Rattle.image_model.specs.Tidy.{IsTidy, is_free_block, free_blocks}

@@ -2,7 +2,7 @@
 use Rattle.std.specs.Prelude.{◌≡◌, ℕ, ◌<◌, ◌↔◌, List, length, Bool, true, not, map, sum_by, if◌then◌else◌}
 use Rattle.std.specs.List.{range_with_len}
 use Rattle.geometry.specs.declared.geometry.Geometry.{Geometry}
-use Rattle.image_model.specs.Volume.{entries}
+use Rattle.geometry.specs.Numbers.{entries}
 use Rattle.image_model.specs.Tidy.{IsTidy, free_blocks}
 use Rattle.image_model.specs.Kinds.{live_index, live_data, is_data_block, data_blocks, other_blocks}
 use Rattle.image_model.specs.Collect.{index_in, data_in, deleted_in, free_in, free_where, takes_index, takes_data, holds_index, is_worth, is_fitting, are_had}

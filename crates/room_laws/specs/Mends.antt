@@ -1,7 +1,7 @@
 -- Images that cleanings give back their reserve.
 use Rattle.std.specs.Prelude.{◌≡◌, ℕ, List, None}
 use Rattle.geometry.specs.declared.geometry.Geometry.{Geometry}
-use Rattle.image_model.specs.Volume.{entries}
+use Rattle.geometry.specs.Numbers.{entries}
 use Rattle.image_model.specs.Places.{IsImage}
 use Rattle.image_model.specs.Tidy.{IsTidy, HasReserve}
 use Rattle.image_model.specs.Collect.{chosen_block}

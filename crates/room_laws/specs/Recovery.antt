@@ -2,7 +2,7 @@
 use Rattle.std.specs.Prelude.{◌≡◌, ◌≢◌, ℕ, ◌+◌, ◌*◌, ◌<◌, ◌≤◌, ◌⊎◌, List, [], ◌∷◌, length, max, true, false, Some, All}
 use Rattle.geometry.specs.declared.geometry.Geometry.{Geometry}
 use Rattle.nor_core.specs.Flash.{SameOutside}
-use Rattle.image_model.specs.Volume.{entries}
+use Rattle.geometry.specs.Numbers.{entries}
 use Rattle.image_model.specs.Places.{IsImage, has_magic, block_of}
 use Rattle.image_model.specs.Live.{live_at}
 use Rattle.image_model.specs.Tables.{table_of}

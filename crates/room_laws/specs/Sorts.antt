@@ -2,7 +2,7 @@
 use Rattle.std.specs.Prelude.{◌≡◌, ◌≢◌, ℕ, zero, suc, ◌+◌, ◌<◌, ◌⊎◌, List, length, Bool, true, false, ◌==◌, Option, Some, None, if◌then◌else◌, map, slice_index_or, slice_set}
 use Rattle.std.specs.List.{range_with_len}
 use Rattle.geometry.specs.declared.geometry.Geometry.{Geometry}
-use Rattle.image_model.specs.Volume.{entries}
+use Rattle.geometry.specs.Numbers.{entries}
 use Rattle.image_model.specs.Headers.{names_index}
 use Rattle.image_model.specs.Places.{has_magic, entry_of, block_of, is_entry_page}
 use Rattle.image_model.specs.Live.{live_at}

@@ -1,7 +1,7 @@
 -- What the tests of an image's blocks tell by what its entries count as.
 use Rattle.std.specs.Prelude.{◌≡◌, ◌≢◌, ℕ, ◌<◌, ◌↔◌, List, Bool, true, false, All}
 use Rattle.geometry.specs.declared.geometry.Geometry.{Geometry}
-use Rattle.image_model.specs.Volume.{entries}
+use Rattle.geometry.specs.Numbers.{entries}
 use Rattle.image_model.specs.Places.{block_of, is_entry_page}
 use Rattle.image_model.specs.Tidy.{is_free_entry, is_free_block, free_blocks}
 use Rattle.image_model.specs.Collect.{free_in, takes_index, takes_data}

@@ -2,6 +2,7 @@
 use Rattle.std.proofs.Common.{◌≡◌, ℕ, ◌+◌, ◌-◌, ◌<◌, ◌≤◌, List, [], refl, sym, ◌∙◌, ap, subst, arith, ⊎_elim, Bool, true, false, not, cond, Some, None}
 use Rattle.std.specs.Prelude.{min, replicate, nat_lt}
 use Rattle.std.proofs.lemmas.Bool.{le-leb, lt-ltb, cases_lt}
+use Rattle.geometry.proofs.Bounds.{entry_left}
 use Rattle.geometry.specs.declared.geometry.Geometry.{Geometry}
 use Rattle.geometry.specs.declared.error.GeoErr.TheVariants.{TooManyUsable, TooFewToWrite}
 use Rattle.geometry.specs.Numbers.{usable, entries, ceil, write_refusal}
@@ -71,7 +72,7 @@ pub empty_room : (g : Geometry) → write_refusal g ≡ None → has_room g [] �
 unfolding has_room
 empty_room g writable =
     let enough = four_blocks g writable in
-    let some : 0 < entries g = omega (arith, g.valid.some_entries) in
+    let some : 0 < entries g = omega (arith, entry_left g) in
     let index = ceil-le (index_count g [] + 1) (entries g) 1 some (omega (arith, no_index g, some)) in
     let pages = ceil-le (data_count g [] + 1) (entries g) 1 some (omega (arith, no_data g, some)) in
     le-leb _ _ (omega (arith, index, pages, enough))

@@ -1,6 +1,7 @@
 -- How often a command reads.
 use Rattle.std.proofs.Common.{◌≡◌, ℕ, ◌+◌, ◌/◌, ◌≤◌, List, length, subst, arith}
 use Rattle.std.proofs.Math.Nat.{le-div_iff_mul-le}
+use Rattle.geometry.proofs.Bounds.{few_pages}
 use Rattle.geometry.specs.declared.geometry.Geometry.{Geometry}
 use Rattle.geometry.specs.Numbers.{page_count}
 use Rattle.page_cache.specs.Frames.{frame_count, held}
@@ -17,7 +18,7 @@ module _ {D : Type 0} {nor : NorOf D} {g : Geometry} where
   reads_once a b cache few none size = record {
     few = λ room calm.
         let frames : page_count g ≤ length a / (g.page + 8) = (le-div_iff_mul-le {k = g.page + 8} {x = page_count g} {y = length a} (omega arith)).1 (omega (arith, room, size)) in
-        let many : page_count g ≤ frame_count g a = omega (arith, frames, g.valid.few_pages) in
+        let many : page_count g ≤ frame_count g a = omega (arith, frames, few_pages g) in
         omega (arith, few.few many calm, none, held_most g b);
   }
 

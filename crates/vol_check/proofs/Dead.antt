@@ -2,14 +2,14 @@
 use Rattle.std.proofs.Common.{◌≡◌, ℕ, ◌+◌, ◌*◌, ◌<◌, ◌≤◌, List, slice_index, Bool, true, false, not, if◌then◌else◌, ◌==◌, ◌&&◌, ap, refl, sym, ◌∙◌, subst, arith}
 use Rattle.std.specs.Prelude.{is_none, Some, None}
 use Rattle.geometry.specs.declared.geometry.Geometry.{Geometry}
-use Rattle.image_model.specs.Volume.{per_block}
+use Rattle.geometry.specs.Numbers.{per_block}
 use Rattle.page_layout.specs.declared.header.PageHeader.{PageHeader}
 use Rattle.page_layout.specs.Layout.{header_at, bits_of, is_finished as is_finished_head}
 use Rattle.image_model.specs.Within.{sizes}
 use Rattle.image_model.specs.Places.{page_of, block_of, has_magic, entry_of, is_entry_page}
 use Rattle.image_model.specs.Live.{live_at, is_live}
 use Rattle.image_model.specs.Killed.{is_used, is_dead_entry}
-use Rattle.flash_view.specs.Places.{block_of as the_block_of, IsEntryPage}
+use Rattle.flash_view.specs.Places.{IsEntryPage}
 use Rattle.image_laws.proofs.Placing.{page_byte}
 use Rattle.flash_view.proofs.Heads.{entry_page_told}
 use Rattle.flash_view.proofs.Parts.{finished_is}
@@ -21,7 +21,7 @@ unfolding is_used
 lookup_is_not_dead g a p e = rw e refl
 
 -- entries of a block without its magic are not in use
-pub spoiled_is_not_dead : (g : Geometry) (a : List ℕ) (p : ℕ) → has_magic g a (the_block_of g p) ≡ false → false ≡ is_dead_entry g a p
+pub spoiled_is_not_dead : (g : Geometry) (a : List ℕ) (p : ℕ) → has_magic g a (block_of g p) ≡ false → false ≡ is_dead_entry g a p
 unfolding is_used per_block
 spoiled_is_not_dead g a p e = rw (e, and_false (is_entry_page g p)) refl
   where
@@ -34,7 +34,7 @@ none_if page true = refl
 none_if page false = refl
 
 -- the entry of a page that has its block's magic
-pub dead_told : (g : Geometry) (a : List ℕ) (p : ℕ) → IsEntryPage g p → has_magic g a (the_block_of g p) ≡ true → (is_taken_entry g a p && not (is_live g a p)) ≡ is_dead_entry g a p
+pub dead_told : (g : Geometry) (a : List ℕ) (p : ℕ) → IsEntryPage g p → has_magic g a (block_of g p) ≡ true → (is_taken_entry g a p && not (is_live g a p)) ≡ is_dead_entry g a p
 unfolding is_used per_block live_at
 dead_told g a p place magic = rw (entry_page_told g p place, magic, none_if) refl
 
@@ -53,7 +53,7 @@ byte_told g a p head is small =
     omega (arith, there, flag, small)
 
 -- the entry of a page is dead by what was read of it
-pub dead_by : (g : Geometry) (a : List ℕ) (p : ℕ) (taken alive : Bool) → IsEntryPage g p → has_magic g a (the_block_of g p) ≡ true → taken ≡ is_taken_entry g a p → taken ≡ true → (has_magic g a (block_of g p) ≡ true → alive ≡ is_live g a p) →
+pub dead_by : (g : Geometry) (a : List ℕ) (p : ℕ) (taken alive : Bool) → IsEntryPage g p → has_magic g a (block_of g p) ≡ true → taken ≡ is_taken_entry g a p → taken ≡ true → (has_magic g a (block_of g p) ≡ true → alive ≡ is_live g a p) →
     not alive ≡ is_dead_entry g a p
 unfolding per_block
 dead_by g a p taken alive place magic told used lives = ap not (lives magic) ∙ subst (λ (x : Bool). (x && not (is_live g a p)) ≡ is_dead_entry g a p) (sym told ∙ used) (dead_told g a p place magic)

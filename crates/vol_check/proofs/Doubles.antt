@@ -10,7 +10,7 @@ use Rattle.table_model.specs.Room.{index_pages, data_pages}
 use Rattle.page_layout.specs.declared.header.PageHeader.{PageHeader}
 use Rattle.page_layout.specs.Layout as layout
 use Rattle.page_layout.specs.Layout.{header_at}
-use Rattle.image_model.specs.Volume.{page_count}
+use Rattle.geometry.specs.Numbers.{page_count}
 use Rattle.image_model.specs.Headers.{obj_id, span_of, names_index, size_of}
 use Rattle.image_model.specs.Live.{live_at, is_live, Live, own}
 use Rattle.image_model.specs.Places.{is_entry_page}

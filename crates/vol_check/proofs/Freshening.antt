@@ -6,7 +6,7 @@ use Rattle.std.proofs.Math.Bool.{and-false}
 use Rattle.std.proofs.lemmas.Bool.{cases_eq, cases_Bool, lt-ltb, not-true, not-false}
 use Rattle.geometry.specs.declared.geometry.Geometry.{Geometry}
 use Rattle.nor_core.specs.Flash.{SameOutside}
-use Rattle.image_model.specs.Volume.{page_count}
+use Rattle.geometry.specs.Numbers.{page_count}
 use Rattle.image_model.specs.Live.{live_at}
 use Rattle.image_model.specs.Places.{has_magic, block_of, is_entry_page, IsImage}
 use Rattle.image_model.specs.Tidy.{is_free_block, free_blocks}

@@ -2,7 +2,7 @@
 use Rattle.std.proofs.Common.{◌≡◌, ℕ, ◌+◌, ◌*◌, ◌<◌, ◌≤◌, List, slice_index, Bool, true, false, cond, Result, sym, ◌∙◌, arith, inl}
 use Rattle.std.proofs.lemmas.Bool.{and_parts, not-true}
 use Rattle.geometry.specs.declared.geometry.Geometry.{Geometry}
-use Rattle.image_model.specs.Volume.{page_count}
+use Rattle.geometry.specs.Numbers.{page_count}
 use Rattle.image_model.specs.Places.{IsImage}
 use Rattle.image_model.specs.Tidy.{is_free_entry}
 use Rattle.image_model.specs.Killed.{is_used, is_dead_entry}

@@ -7,10 +7,9 @@ use Rattle.std.proofs.Math.Nat.{mul-le-mul_right}
 use Rattle.std.proofs.lemmas.Result.{on_ok_weaker}
 use Rattle.std.proofs.lemmas.Bool.{cases_lt, eq-eqb, and_parts}
 use Rattle.geometry.specs.declared.geometry.Geometry.{Geometry}
-use Rattle.geometry.specs.Numbers.{right_magic}
+use Rattle.geometry.specs.Numbers.{right_magic, slots, lookups, per_block}
 use Rattle.nor_core.specs.declared.device.Failed.{Failed}
 use Rattle.nor_core.specs.Flash.{erased, programmed}
-use Rattle.image_model.specs.Volume.{slots, lookups, per_block}
 use Rattle.image_model.specs.Live.{live_at}
 use Rattle.image_model.specs.Places.{IsImage, has_magic, erase_count, slot_of, block_of, is_entry_page}
 use Rattle.image_model.specs.Tables.{table_of}

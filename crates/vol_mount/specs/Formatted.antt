@@ -1,9 +1,8 @@
 -- What a format leaves.
 use Rattle.std.specs.Prelude.{◌≡◌, ℕ, ◌+◌, ◌-◌, ◌*◌, ◌/◌, ◌%◌, ◌<◌, ◌≤◌, List, [], length, true, slice_index}
 use Rattle.geometry.specs.declared.geometry.Geometry.{Geometry}
-use Rattle.geometry.specs.Numbers.{right_magic}
+use Rattle.geometry.specs.Numbers.{right_magic, slots}
 use Rattle.nor_core.specs.Flash.{SameOutside}
-use Rattle.image_model.specs.Volume.{slots}
 use Rattle.image_model.specs.Places.{erase_count}
 use Rattle.image_model.specs.Tables.{table_of}
 use Rattle.image_model.specs.Tidy.{IsTidy, is_free_block, free_blocks}

@@ -1,6 +1,5 @@
 use Rattle.std.proofs.Common.{◌≡◌, ◌<◌, [], refl, arith, rules, Err}
-use Rattle.geometry.specs.Numbers.{entries as entries_of}
-use Rattle.image_model.specs.Volume.{per_block, lookups, entries}
+use Rattle.geometry.specs.Numbers.{per_block, lookups, entries}
 use Rattle.image_model.specs.Within.{entry_in}
 use Rattle.flash_view.proofs.Looking.{looks_none}
 use Rattle.flash_view.proofs.Stepped.{looked, weaker, passes, stepped_then}
@@ -12,7 +11,7 @@ loop-i-init g c =
     let view = c.args.v.now in
     record {
       geometry = refl;
-      end = c.entries-i-end.ensures;
+      end = c.entries-i-end.ensures.count;
       pages = c.requires.pages;
       step = λ was. looked (looks_none view) (λ e. absurd (cc)) tt (λ tells need. (carry_stays _ was _ c.args.block c.args.most c.args.batch _ need.so_far, rest_begins _ was _ c.args.block c.args.most c.args.batch c.args.first _ _ need));
     }
@@ -24,7 +23,7 @@ returns-in_err-carry_turn-clause-step g c = λ was.
     let a = c.args in
     let geometry = c.args.v.now.geometry in
     let place = rw so_far.geometry at c.entry_page.ensures.place in
-    let less : c.loop-i.i < entries_of geometry = omega (arith, so_far.end, c.loop-i-test.true) in
+    let less : c.loop-i.i < entries geometry = omega (arith, so_far.end, c.loop-i-test.true) in
     let here = entry_in geometry c.args.block c.entry_page.result c.requires.block (omega (arith, place)) (omega (arith, place, less)) in
     let is : c.from_residual.result ≡ Err c.in_err-carry_turn.field-0.0 = search rules in
     passes
@@ -40,7 +39,7 @@ loop-i-preserved g c =
     let a = c.args in
     let geometry = c.args.v.now.geometry in
     let place = rw so_far.geometry at c.entry_page.ensures.place in
-    let less : c.loop-i.i < entries_of geometry = omega (arith, so_far.end, c.loop-i-test.true) in
+    let less : c.loop-i.i < entries geometry = omega (arith, so_far.end, c.loop-i-test.true) in
     let here = entry_in geometry c.args.block c.entry_page.result c.requires.block (omega (arith, place)) (omega (arith, place, less)) in
     record {
       geometry = so_far.geometry;

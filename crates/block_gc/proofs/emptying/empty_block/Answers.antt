@@ -1,6 +1,5 @@
 use Rattle.std.proofs.Common.{◌≡◌, ◌+◌, ◌<◌, refl, arith, rules, Err}
-use Rattle.geometry.specs.Numbers.{entries as entries_of}
-use Rattle.image_model.specs.Volume.{per_block, lookups, entries}
+use Rattle.geometry.specs.Numbers.{per_block, lookups, entries}
 use Rattle.image_model.specs.Within.{entry_in}
 use Rattle.flash_view.proofs.Looking.{looks_none}
 use Rattle.flash_view.proofs.Stepped.{looked, weaker, passes, stepped_then, view_image}
@@ -12,7 +11,7 @@ loop-i-init g c =
     let view = c.args.v.now in
     record {
       geometry = refl;
-      end = c.entries-i-end.ensures;
+      end = c.entries-i-end.ensures.count;
       step = looked {step = emptying_to c.args.block c.args.most 0} (looks_none view) (λ e. absurd (cc)) tt (λ tells can. none_turned _ _ c.args.block c.args.most (view_image view (g.met.N.Nor.sized _) tells) can);
     }
 
@@ -22,7 +21,7 @@ empty_entry-requires-clause-at g c =
     let was = c.loop-i.invariant in
     let geometry = c.args.v.now.geometry in
     let place = rw was.geometry at c.entry_page.ensures.place in
-    let less : c.loop-i.i < entries_of geometry = omega (arith, was.end, c.loop-i-test.true) in
+    let less : c.loop-i.i < entries geometry = omega (arith, was.end, c.loop-i-test.true) in
     let here = entry_in geometry c.args.block c.entry_page.result c.requires.block (omega (arith, place)) (omega (arith, place, less)) in
     rw was.step.framed.same.geometry here.0
 

@@ -10,4 +10,4 @@ returns-clause-told g c = λ tells tidy.
     let looked = c.in_ok-counts.ensures in
     let size = g.met.N.Nor.sized view.nor.now tells in
     let whole : IsImage view.geometry image = record { len = omega (arith, size, view.volume) } in
-    rw (c.blocks-2.ensures, c.entries.ensures, looked.looks.same.geometry) (info_by view.geometry image c.in_ok-counts.counts whole tidy (looked.told tells))
+    rw (c.blocks-2.ensures, c.entries.ensures.count, looked.looks.same.geometry) (info_by view.geometry image c.in_ok-counts.counts whole tidy (looked.told tells))

@@ -1,7 +1,7 @@
 use Rattle.std.proofs.Common.{◌≡◌, refl, arith}
 use Rattle.std.specs.Option.{option_map}
 use Rattle.page_layout.specs.Layout.{header_at}
-use Rattle.image_model.specs.Volume.{page_count, per_block}
+use Rattle.geometry.specs.Numbers.{page_count, per_block}
 use Rattle.image_model.specs.Live.{live_at}
 use Rattle.flash_view.proofs.Looking.{looks_none, looks_then}
 use Rattle.file_calls.proofs.Counting.{counting_start, counting_more, few_more}
@@ -11,11 +11,11 @@ pub loop-page-init : goal.loop-page-init
 unfolding page_count per_block
 loop-page-init g c = record {
   looks = looks_none c.args.v.now;
-  end = c.pages-page-end.ensures;
+  end = c.pages-page-end.ensures.count;
   few_heads = omega arith;
   few_index = omega arith;
   few_pages = omega arith;
-  told = λ tells. counting_start c.args.v.now.geometry (g.N.NorState.bytes c.args.v.now.nor.now) c.pages-page-end.result _ c.pages-page-end.ensures refl refl refl;
+  told = λ tells. counting_start c.args.v.now.geometry (g.N.NorState.bytes c.args.v.now.nor.now) c.pages-page-end.result _ c.pages-page-end.ensures.count refl refl refl;
 }
 
 pub loop-page-preserved : goal.loop-page-preserved

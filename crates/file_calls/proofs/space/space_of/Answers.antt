@@ -1,5 +1,5 @@
 use Rattle.std.proofs.Common.{arith, rules}
-use Rattle.image_model.specs.Volume.{per_block, lookups, entries}
+use Rattle.geometry.specs.Numbers.{per_block, lookups, entries}
 use Rattle.flash_view.proofs.Looking.{looks_none, looks_then}
 use Rattle.free_search.specs.Counts.{AreCounts}
 use Rattle.file_calls.proofs.Spaces.{adding_start, adding_more, adding_end, within_more, within_below}
@@ -9,7 +9,7 @@ pub loop-block-init : goal.loop-block-init
 unfolding per_block lookups entries
 loop-block-init g c = record {
   looks = looks_none c.args.v.now;
-  entries_is = c.entries-entries.ensures;
+  entries_is = c.entries-entries.ensures.count;
   end = c.blocks-block-end.ensures;
   few = search rules;
   told = λ tells tidy. adding_start c.args.v.now.geometry (g.N.NorState.bytes c.args.v.now.nor.now) _ c.blocks-block-end.ensures;

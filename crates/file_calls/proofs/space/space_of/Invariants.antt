@@ -1,6 +1,6 @@
 -- The blocks so far, and those to come.
 use Rattle.std.proofs.Common.{◌≡◌, ◌*◌}
-use Rattle.image_model.specs.Volume.{entries}
+use Rattle.geometry.specs.Numbers.{entries}
 use Rattle.image_model.specs.Tidy.{IsTidy}
 use Rattle.flash_view.specs.Same.{OnlyLooks}
 use Rattle.file_calls.specs.Spaces.{IsWithin}

@@ -1,12 +1,12 @@
 use Rattle.std.proofs.Common.{arith}
-use Rattle.image_model.specs.Volume.{page_count, per_block}
+use Rattle.geometry.specs.Numbers.{page_count, per_block}
 use Rattle.flash_view.proofs.Looking.{looks_none}
 use Rattle.flash_view.proofs.Stepped.{looked, weaker, fails, stepped_then}
 use Rattle.file_drop.proofs.Passing.{none_yet, turns, all_passed}
 use Rattle.file_drop.proofs.pages.drop_pages.Goals as goal
 
 pub loop-page-init : goal.loop-page-init
-loop-page-init g c = record { end = c.pages-page-end.ensures; step = looked (looks_none c.args.v.now) (λ e. absurd (cc)) tt (λ tells o. none_yet _ _ _ _ o) }
+loop-page-init g c = record { end = c.pages-page-end.ensures.count; step = looked (looks_none c.args.v.now) (λ e. absurd (cc)) tt (λ tells o. none_yet _ _ _ _ o) }
 
 pub drop_page-requires : goal.drop_page-requires
 drop_page-requires g c = let was = c.loop-page.invariant in rw was.step.framed.same.geometry (omega (arith, was.end, c.loop-page-test.true))

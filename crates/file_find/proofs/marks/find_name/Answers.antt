@@ -1,6 +1,6 @@
 use Rattle.std.proofs.Common.{◌≡◌, ◌∙◌, sym, Some, None, refl}
 use Rattle.std.proofs.Math.Nat.{sub-zero}
-use Rattle.image_model.specs.Volume.{page_count, per_block}
+use Rattle.geometry.specs.Numbers.{page_count, per_block}
 use Rattle.file_find.specs.Marks.{whole_at}
 use Rattle.flash_view.proofs.Finds.{first_here, first_later}
 use Rattle.file_find.proofs.Holders.{first_whole}
@@ -10,10 +10,10 @@ use Rattle.file_find.proofs.marks.find_name.Goals as goal
 pub loop-page-init : goal.loop-page-init
 unfolding page_count per_block
 loop-page-init g c = record {
-  pages = c.pages-page-end.ensures;
+  pages = c.pages-page-end.ensures.count;
   looks = looks_none c.args.v.now;
   built = refl;
-  told = λ tells. rw (sub-zero c.pages-page-end.result, c.pages-page-end.ensures) (first_whole c.args.v.now.geometry (g.N.NorState.bytes c.args.v.now.nor.now) c.args.name.now);
+  told = λ tells. rw (sub-zero c.pages-page-end.result, c.pages-page-end.ensures.count) (first_whole c.args.v.now.geometry (g.N.NorState.bytes c.args.v.now.nor.now) c.args.name.now);
 }
 
 pub returns-in-Some-clause-told : goal.returns-in-Some-clause-told

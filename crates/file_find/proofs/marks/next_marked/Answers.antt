@@ -1,6 +1,5 @@
 use Rattle.std.proofs.Common.{◌≡◌, ◌∙◌, arith}
-use Rattle.geometry.specs.Numbers.{page_count as pages_of}
-use Rattle.image_model.specs.Volume.{page_count, per_block}
+use Rattle.geometry.specs.Numbers.{page_count, per_block}
 use Rattle.file_find.specs.Marks.{marked_id}
 use Rattle.file_find.proofs.Nearest.{near_more, near_all, near_inside, near_above}
 use Rattle.flash_view.proofs.Looking.{looks_then}
@@ -14,7 +13,7 @@ loop-page-preserved g c =
       pages = was.pages;
       looks = looks_then was.looks looked.looks;
       work = looked.work ∙ was.work;
-      inside = rw c.nearer-least.ensures (near_inside (pages_of c.args.v.now.geometry) c.args.after c.loop-page.least c.in_ok-found.found c.loop-page.page (omega (arith, was.pages)) was.inside);
+      inside = rw c.nearer-least.ensures (near_inside (page_count c.args.v.now.geometry) c.args.after c.loop-page.least c.in_ok-found.found c.loop-page.page (omega (arith, was.pages)) was.inside);
       above = rw c.nearer-least.ensures (near_above c.args.after c.loop-page.least c.in_ok-found.found c.loop-page.page was.above);
       told = λ tells.
           let turn = looked.told (was.looks.reads.told tells) in

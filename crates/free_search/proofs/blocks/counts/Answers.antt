@@ -1,5 +1,5 @@
 use Rattle.std.proofs.Common.{◌≡◌, refl, sym, arith}
-use Rattle.image_model.specs.Volume.{per_block, lookups, entries}
+use Rattle.geometry.specs.Numbers.{per_block, lookups, entries}
 use Rattle.flash_view.proofs.Looking.{looks_then}
 use Rattle.free_search.specs.Counts.{the_sort}
 use Rattle.free_search.proofs.Counting.{counting_start, counting_more, counting_end, total_more}
@@ -10,9 +10,9 @@ unfolding per_block lookups entries
 loop-i-init g c = record {
   looks = c.in_ok-erase_count.ensures.looks;
   geometry = refl;
-  end = c.entries-i-end.ensures;
+  end = c.entries-i-end.ensures.count;
   few = omega arith;
-  told = λ tells. rw c.entries-i-end.ensures (counting_start c.args.v.now.geometry (g.N.NorState.bytes c.args.v.now.nor.now) c.args.block _ refl refl refl refl (c.in_ok-erase_count.ensures.told tells));
+  told = λ tells. rw c.entries-i-end.ensures.count (counting_start c.args.v.now.geometry (g.N.NorState.bytes c.args.v.now.nor.now) c.args.block _ refl refl refl refl (c.in_ok-erase_count.ensures.told tells));
 }
 
 pub loop-i-preserved : goal.loop-i-preserved

@@ -1,6 +1,5 @@
 use Rattle.std.proofs.Common.{◌≡◌, ◌∙◌, arith, subst}
-use Rattle.geometry.specs.Numbers.{page_count as pages_of, usable}
-use Rattle.image_model.specs.Volume.{page_count, per_block}
+use Rattle.geometry.specs.Numbers.{usable, page_count, per_block}
 use Rattle.image_model.specs.Live.{live_at}
 use Rattle.flash_view.specs.Found.{headed}
 use Rattle.flash_view.proofs.Looking.{looks_then}
@@ -29,6 +28,6 @@ returns-clause-told g c = λ tells.
     let was = c.loop-page.invariant in
     let geometry = c.args.v.now.geometry in
     let image = g.N.NorState.bytes c.args.v.now.nor.now in
-    let end : c.loop-page.page ≡ pages_of geometry = omega (arith, was.end, c.loop-page-test.false, c.loop-page.auto.page-end) in
-    let all = rw (c.usable-usable.ensures, was.looks.same.geometry, c.bits_start-start.ensures, tail_of) at c.first_unnoted.ensures.first in
+    let end : c.loop-page.page ≡ page_count geometry = omega (arith, was.end, c.loop-page-test.false, c.loop-page.auto.page-end) in
+    let all = rw (c.usable-usable.ensures.count, was.looks.same.geometry, c.bits_start-start.ensures, tail_of) at c.first_unnoted.ensures.first in
     all ∙ noted_all geometry image _ (subst (λ n. Noted geometry image (bits_at geometry c.loop-page.v.work.now) n) end (was.told tells))

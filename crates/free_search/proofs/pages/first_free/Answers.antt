@@ -1,6 +1,5 @@
 use Rattle.std.proofs.Common.{◌≡◌, ◌+◌, ◌*◌, ◌==◌, true, false, refl, sym, ◌∙◌}
-use Rattle.geometry.specs.Numbers.{entries as entries_of, per_block as pages_of, lookups as lookups_of}
-use Rattle.image_model.specs.Volume.{per_block, lookups, entries}
+use Rattle.geometry.specs.Numbers.{per_block, lookups, entries}
 use Rattle.image_model.specs.Places.{entry_at, entry_of}
 use Rattle.flash_view.specs.Places.{IsWordAt}
 use Rattle.std.proofs.lemmas.Bool.{ne_eqb, eq-eqb}
@@ -13,8 +12,8 @@ pub loop-i-init : goal.loop-i-init
 loop-i-init g c = record {
   looks = looks_none c.args.v.now;
   geometry = refl;
-  end = c.entries-i-end.ensures;
-  told = λ tells. rw c.entries-i-end.ensures (first_start (λ p. entry_of c.args.v.now.geometry (g.N.NorState.bytes c.args.v.now.nor.now) p == 0xFFFF) (c.args.block * pages_of c.args.v.now.geometry + lookups_of c.args.v.now.geometry) (entries_of c.args.v.now.geometry));
+  end = c.entries-i-end.ensures.count;
+  told = λ tells. rw c.entries-i-end.ensures.count (first_start (λ p. entry_of c.args.v.now.geometry (g.N.NorState.bytes c.args.v.now.nor.now) p == 0xFFFF) (c.args.block * per_block c.args.v.now.geometry + lookups c.args.v.now.geometry) (entries c.args.v.now.geometry));
 }
 
 pub loop-i-preserved : goal.loop-i-preserved

@@ -1,5 +1,5 @@
 use Rattle.std.proofs.Common.{◌≡◌, true, false}
-use Rattle.image_model.specs.Volume.{per_block, lookups, entries}
+use Rattle.geometry.specs.Numbers.{per_block, lookups, entries}
 use Rattle.image_model.specs.Places.{has_magic}
 use Rattle.free_search.specs.Counts.{AreCounts}
 use Rattle.free_search.proofs.FreePages.{opens, shut}
@@ -21,4 +21,4 @@ returns-clause-told g c = λ tells frees.
     let image = g.N.NorState.bytes c.args.v.now.nor.now in
     let magic : has_magic geometry image c.args.block ≡ true = cc (m.told tells, c.if-not-branch.false) in
     let counts : AreCounts geometry image c.args.block c.in_ok-counts.field-0 = rw (m.looks.same.geometry, m.looks.reads.bytes) at (n.told (m.looks.reads.told tells)) in
-    rw (c.takes.ensures, c.entries-entries.ensures, m.looks.same.geometry) (opens geometry image c.args.block c.args.kind c.in_ok-counts.field-0 frees c.requires magic counts)
+    rw (c.takes.ensures, c.entries-entries.ensures.count, m.looks.same.geometry) (opens geometry image c.args.block c.args.kind c.in_ok-counts.field-0 frees c.requires magic counts)

@@ -1,7 +1,7 @@
 -- The search from `p` on gives the answer.
 use Rattle.std.proofs.Common.{◌≡◌, ◌+◌, ◌-◌, ◌*◌, ℕ}
 use Rattle.std.specs.List.{range_with_len, list_all}
-use Rattle.image_model.specs.Volume.{per_block, lookups, entries}
+use Rattle.geometry.specs.Numbers.{per_block, lookups, entries}
 use Rattle.image_model.specs.Tidy.{is_free_entry}
 use Rattle.image_plain.proofs.blocks.is_free_block.Given as goal
 

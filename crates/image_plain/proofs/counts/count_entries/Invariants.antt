@@ -2,7 +2,7 @@
 use Rattle.std.proofs.Common.{ℕ, ◌+◌, ◌*◌, length}
 use Rattle.std.specs.Prelude.{filter}
 use Rattle.std.specs.List.{range_with_len}
-use Rattle.image_model.specs.Volume.{per_block, lookups, entries}
+use Rattle.geometry.specs.Numbers.{per_block, lookups, entries}
 use Rattle.image_plain.specs.Sorts.{is_entry}
 use Rattle.image_plain.specs.Tallied.{Tallies}
 use Rattle.image_plain.proofs.counts.count_entries.Given as goal

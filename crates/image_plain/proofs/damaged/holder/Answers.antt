@@ -1,6 +1,6 @@
 use Rattle.std.proofs.Common.{◌≡◌, ◌+◌, ◌∙◌, sym, subst, arith, ℕ}
 use Rattle.std.proofs.lemmas.Grind.{common_steps}
-use Rattle.image_model.specs.Volume.{page_count}
+use Rattle.geometry.specs.Numbers.{page_count}
 use Rattle.image_model.specs.Live.{live_at}
 use Rattle.image_model.specs.Tables.{has_of}
 use Rattle.image_plain.specs.Leading.{Leads}

@@ -1,5 +1,5 @@
 -- The first of the ids so far with the least header page.
-use Rattle.image_model.specs.Volume.{page_count}
+use Rattle.geometry.specs.Numbers.{page_count}
 use Rattle.image_model.specs.Live.{live_at}
 use Rattle.image_model.specs.Tables.{has_of}
 use Rattle.image_plain.specs.Leading.{Leads}

@@ -1,5 +1,5 @@
 use Rattle.std.proofs.Common.{◌≡◌, arith, subst}
-use Rattle.image_model.specs.Volume.{page_count, per_block}
+use Rattle.geometry.specs.Numbers.{page_count, per_block}
 use Rattle.image_model.specs.Live.{live_at}
 use Rattle.image_plain.proofs.Headed.{none_noted, noted_more, all_noted}
 use Rattle.image_plain.specs.Headed.{HeadsFrom}
@@ -7,7 +7,7 @@ use Rattle.image_plain.proofs.headers.header_pages.Goals as goal
 
 pub loop-p-init : goal.loop-p-init
 unfolding page_count per_block
-loop-p-init c = none_noted _ _ _ _ c.pages-p.ensures c.in_ok-heads.ensures
+loop-p-init c = none_noted _ _ _ _ c.pages-p.ensures.count c.in_ok-heads.ensures
 
 pub loop-p-preserved : goal.loop-p-preserved
 loop-p-preserved c = noted_more _ _ c.loop-p.p _ c.loop-p.heads.items _ (omega arith) c.loop-p.invariant c.note_header.ensures.len c.note_header.ensures.each

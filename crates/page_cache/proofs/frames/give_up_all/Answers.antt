@@ -1,4 +1,5 @@
 use Rattle.std.proofs.Common.{ℕ, ◌*◌, length, inl, inr, refl, arith}
+use Rattle.geometry.proofs.Bounds.{few_pages}
 use Rattle.page_cache.specs.Frames.{GivenUp, frame_at, page_in}
 use Rattle.page_cache.proofs.Places.{count_same, some_frames}
 use Rattle.page_cache.proofs.Loops.{followed_none, followed_more, followed_all, followed_findable, given_steady}
@@ -22,3 +23,6 @@ loop-page-preserved c = followed_more c.args.g.now (GivenUp c.args.g.now.page c.
 pub returns : goal.returns
 returns c = followed_all c.args.g.now (GivenUp c.args.g.now.page c.args.at c.args.count) (given_steady c.args.g.now.page c.args.at c.args.count) c.args.frames.now c.loop-page.frames c.loop-page.page c.end_met-end.result (omega (arith, c.loop-page-test.false))
     (λ f below used above. inr (refl, inr (omega (arith, c.end_met-end.ensures.behind (page_in c.args.g.now c.args.frames.now f) used above)))) c.loop-page.invariant
+
+pub overflow_cast-page : goal.overflow_cast-page
+overflow_cast-page c = omega (arith, c.loop-page-test.true, c.end_met-end.ensures.most, few_pages c.args.g.now)

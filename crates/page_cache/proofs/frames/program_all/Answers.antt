@@ -1,4 +1,5 @@
 use Rattle.std.proofs.Common.{ℕ, ◌*◌, length, inl, inr, refl, arith}
+use Rattle.geometry.proofs.Bounds.{few_pages}
 use Rattle.page_cache.specs.Frames.{GoesWithProgram, frame_at, page_in}
 use Rattle.page_cache.proofs.Places.{count_same, some_frames}
 use Rattle.page_cache.proofs.Copies.{program_misses}
@@ -23,3 +24,6 @@ loop-page-preserved c = followed_more c.args.g.now (GoesWithProgram c.args.g.now
 pub returns : goal.returns
 returns c = followed_all c.args.g.now (GoesWithProgram c.args.g.now.page c.args.at c.args.from.now) (program_steady c.args.g.now.page c.args.at c.args.from.now) c.args.frames.now c.loop-page.frames c.loop-page.page c.end_met-end.result (omega (arith, c.loop-page-test.false))
     (λ f below used above. program_misses c.args.g.now.page c.args.at (page_in c.args.g.now c.args.frames.now f * c.args.g.now.page) c.args.from.now (frame_at c.args.g.now c.args.frames.now f) refl (omega (arith, c.end_met-end.ensures.behind (page_in c.args.g.now c.args.frames.now f) used above))) c.loop-page.invariant
+
+pub overflow_cast-page : goal.overflow_cast-page
+overflow_cast-page c = omega (arith, c.loop-page-test.true, c.end_met-end.ensures.most, few_pages c.args.g.now)

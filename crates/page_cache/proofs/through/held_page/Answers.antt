@@ -1,7 +1,7 @@
 use Rattle.std.proofs.Common.{◌≡◌, ◌+◌, ◌*◌, ◌<◌, length, sym, refl, ◌∙◌, ap, subst, arith}
 use Rattle.geometry.specs.Numbers.{page_count}
 use Rattle.page_cache.specs.Frames.{IsCopy, number_of, page_in}
-use Rattle.page_cache.proofs.Places.{page_inside}
+use Rattle.geometry.proofs.Bounds.{page_inside}
 use Rattle.page_cache.proofs.Copies.{copy_range}
 use Rattle.page_cache.proofs.through.held_page.Goals as goal
 

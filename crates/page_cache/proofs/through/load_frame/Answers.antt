@@ -1,6 +1,7 @@
 use Rattle.std.proofs.Common.{◌≡◌, ℕ, ◌+◌, ◌*◌, List, ◌∙◌, ap, sym, subst, arith, OnOk, OnErr}
 use Rattle.page_cache.specs.Frames.{number_of, IsCopy, SameHead}
-use Rattle.page_cache.proofs.Places.{put_here, put_made, put_there, part_length, page_inside}
+use Rattle.page_cache.proofs.Places.{put_here, put_made, put_there, part_length}
+use Rattle.geometry.proofs.Bounds.{page_inside}
 use Rattle.page_cache.proofs.through.load_frame.Goals as goal
 
 pub fill-requires-clause-inside : goal.fill-requires-clause-inside

@@ -1,4 +1,4 @@
-use Rattle.image_model.specs.Volume.{lookups}
+use Rattle.geometry.specs.Numbers.{lookups}
 use Rattle.page_put.proofs.fresh.unit_mark.Goals as goal
 
 pub returns-clause-first : goal.returns-clause-first

@@ -1,5 +1,5 @@
 use Rattle.std.proofs.Common.{arith}
-use Rattle.image_model.specs.Volume.{page_count, per_block}
+use Rattle.geometry.specs.Numbers.{page_count, per_block}
 use Rattle.flash_view.proofs.Looking.{looks_none}
 use Rattle.flash_view.proofs.Stepped.{view_image}
 use Rattle.vol_check.proofs.Working.{look_works, works_as, works_end, works_stop}
@@ -8,7 +8,7 @@ use Rattle.vol_check.proofs.Staged.{cleaning_start, cleaning_next, cleaning_end}
 use Rattle.vol_check.proofs.entries.clean_entries.Goals as goal
 
 pub loop-page-init : goal.loop-page-init
-loop-page-init g c = record { end = c.pages-page-end.ensures; few = omega arith; work = look_works (looks_none c.args.v.now) (λ tells magics need. cleaning_start _ _ (view_image c.args.v.now (g.met.N.Nor.sized _) tells) magics) }
+loop-page-init g c = record { end = c.pages-page-end.ensures.count; few = omega arith; work = look_works (looks_none c.args.v.now) (λ tells magics need. cleaning_start _ _ (view_image c.args.v.now (g.met.N.Nor.sized _) tells) magics) }
 
 pub clean_entry-requires : goal.clean_entry-requires
 clean_entry-requires g c = let was = c.loop-page.invariant in rw was.work.step.framed.same.geometry (omega (arith, was.end, c.loop-page-test.true))

@@ -1,5 +1,5 @@
 use Rattle.std.proofs.Common.{arith}
-use Rattle.image_model.specs.Volume.{page_count, per_block}
+use Rattle.geometry.specs.Numbers.{page_count, per_block}
 use Rattle.flash_view.proofs.Looking.{looks_none}
 use Rattle.vol_check.proofs.Working.{look_works, works_as, works_end, works_stop}
 use Rattle.vol_check.proofs.Passing.{from_bool_is}
@@ -7,7 +7,7 @@ use Rattle.vol_check.proofs.Resting.{resting_start, resting_next, resting_end}
 use Rattle.vol_check.proofs.unwanted.cull_rest.Goals as goal
 
 pub loop-page-init : goal.loop-page-init
-loop-page-init g c = record { end = c.pages-page-end.ensures; few = omega arith; work = look_works (looks_none c.args.v.now) (λ tells magics settled. resting_start _ _ settled) }
+loop-page-init g c = record { end = c.pages-page-end.ensures.count; few = omega arith; work = look_works (looks_none c.args.v.now) (λ tells magics settled. resting_start _ _ settled) }
 
 pub cull_unwanted-requires : goal.cull_unwanted-requires
 cull_unwanted-requires g c = let was = c.loop-page.invariant in rw was.work.step.framed.same.geometry (omega (arith, was.end, c.loop-page-test.true))

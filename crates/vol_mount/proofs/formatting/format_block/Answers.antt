@@ -1,5 +1,5 @@
 use Rattle.std.proofs.Common.{refl, arith}
-use Rattle.image_model.specs.Volume.{lookups}
+use Rattle.geometry.specs.Numbers.{lookups}
 use Rattle.page_put.proofs.Freshening.{lies}
 use Rattle.vol_mount.proofs.Blanks.{block_done}
 use Rattle.vol_mount.proofs.Inside.{inside_then, inside_slot}

@@ -1,7 +1,6 @@
 use Rattle.std.proofs.Common.{◌≡◌, ◌∙◌, ap, sym, Some, None, refl}
 use Rattle.std.proofs.Math.Nat.{sub-zero}
-use Rattle.geometry.specs.Numbers.{page_count as pages_of}
-use Rattle.image_model.specs.Volume.{page_count, per_block}
+use Rattle.geometry.specs.Numbers.{page_count, per_block}
 use Rattle.image_model.specs.Live.{live_at}
 use Rattle.flash_view.specs.Found.{named_at, first_named}
 use Rattle.flash_view.proofs.Finds.{first_here, first_later}
@@ -11,10 +10,10 @@ use Rattle.flash_view.proofs.view.View.find_header_name.Goals as goal
 pub loop-page-init : goal.loop-page-init
 unfolding first_named page_count per_block
 loop-page-init g c = record {
-  pages = c.pages-page-end.ensures;
+  pages = c.pages-page-end.ensures.count;
   looks = looks_none c.args.self.now;
   built = refl;
-  told = λ tells. rw (sub-zero c.pages-page-end.result, c.pages-page-end.ensures) refl;
+  told = λ tells. rw (sub-zero c.pages-page-end.result, c.pages-page-end.ensures.count) refl;
 }
 
 pub returns-in-Some-clause-told : goal.returns-in-Some-clause-told
@@ -32,7 +31,7 @@ loop-page-preserved g c =
     let looked = c.in_ok-id.ensures in
     let looks = looks_then was.looks looked.looks in
     record {
-      pages = was.pages ∙ ap pages_of (sym looked.looks.same.geometry);
+      pages = was.pages ∙ ap page_count (sym looked.looks.same.geometry);
       looks = looks;
       built = built_then was.looks was.built _ looked.built;
       told = λ tells.

@@ -1,6 +1,6 @@
 -- The entries from `from` on and before `at` were passed over.
 use Rattle.std.proofs.Common.{◌≡◌, ◌-◌, ◌<◌, ◌≤◌, ℕ}
-use Rattle.image_model.specs.Volume.{entries}
+use Rattle.geometry.specs.Numbers.{entries}
 use Rattle.flash_view.specs.Same.{OnlyLooks}
 use Rattle.flash_view.specs.Walk.{IsPassedSlot}
 use Rattle.flash_view.proofs.view.View.find_slot.Given as goal

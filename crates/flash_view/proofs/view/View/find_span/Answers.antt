@@ -1,12 +1,11 @@
 use Rattle.std.proofs.Common.{◌≡◌, ◌+◌, ◌<◌, ◌==◌, true, false, sym, ◌∙◌, arith}
 use Rattle.std.specs.Prelude.{Some, None}
 use Rattle.std.proofs.lemmas.Bool.{eq-eqb}
-use Rattle.image_model.specs.Volume.{page_count}
+use Rattle.geometry.specs.Numbers.{page_count}
 use Rattle.image_model.specs.Live.{live_at, own}
 use Rattle.image_model.specs.Files.{is_index, index_page}
 use Rattle.flash_view.specs.Walk.{IsNextLive, NextLive}
 use Rattle.flash_view.proofs.Looking.{looks_then}
-use Rattle.flash_view.proofs.SlotHeld.{volume_told}
 use Rattle.flash_view.proofs.Passed.{found_index, no_index, no_index_to, find_first, find_none, none_and, differ}
 use Rattle.flash_view.proofs.view.View.find_span.Goals as goal
 
@@ -27,13 +26,13 @@ returns-then-from-span-clause-told g c = λ tells.
     let next : IsNextLive view.geometry image c.pages.at (0x8000 + c.args.id) (0x8000 + c.args.id) c.in-Some.page c.in-Some.head = rw (was.looks.same.geometry, was.looks.reads.bytes, c.in-Some.is) at (found.told (was.looks.reads.told tells)) in
     let inside = rw (c.in-Some.is, was.looks.same.geometry) at found.inside in
     let is : is_index (own (live_at view.geometry image) c.args.id c.in-Some.page) c.args.span ≡ true = found_index view.geometry image c.args.id c.args.span c.pages.at c.in-Some.page c.in-Some.head (omega (arith, c.if-id-ge-INDEX_BIT.false)) next ∙ eq-eqb _ _ (sym c.from.ensures ∙ c.if-from-span.true) in
-    sym (find_first (λ p. is_index (own (live_at view.geometry image) c.args.id p) c.args.span) 0 (page_count view.geometry) c.in-Some.page (omega arith) (omega (arith, inside.1.below, volume_told view.geometry)) is
+    sym (find_first (λ p. is_index (own (live_at view.geometry image) c.args.id p) c.args.span) 0 (page_count view.geometry) c.in-Some.page (omega arith) (omega (arith, inside.1.below)) is
     (λ q after before. no_index_to view.geometry image c.args.id c.args.span c.pages.at c.in-Some.page (was.told tells) next.passed q before))
 
 pub pages-smaller : goal.pages-smaller
 pages-smaller g c =
     let inside = rw (c.in-Some.is, c.pages.invariant.looks.same.geometry) at c.in_ok-page.ensures.inside in
-    omega (arith, inside.0, inside.1.below, volume_told c.args.self.now.geometry, c.from-at.ensures)
+    omega (arith, inside.0, inside.1.below, c.from-at.ensures)
 
 pub pages-preserved : goal.pages-preserved
 pages-preserved g c =
@@ -43,7 +42,7 @@ pages-preserved g c =
     record {
       looks = looks_then was.looks found.looks;
       work = found.work ∙ was.work;
-      most = omega (arith, inside.1.below, volume_told c.args.self.now.geometry, c.from-at.ensures);
+      most = omega (arith, inside.1.below, c.from-at.ensures);
       told = λ tells.
           let view = c.args.self.now in
           let image = g.N.NorState.bytes view.nor.now in

@@ -1,6 +1,6 @@
 -- No page below `at` is an index page of the object and the span.
 use Rattle.std.proofs.Common.{◌≡◌, ◌-◌, ◌<◌, ◌≤◌, ℕ, false}
-use Rattle.image_model.specs.Volume.{page_count}
+use Rattle.geometry.specs.Numbers.{page_count}
 use Rattle.image_model.specs.Live.{live_at, own}
 use Rattle.image_model.specs.Files.{is_index}
 use Rattle.flash_view.specs.Same.{OnlyLooks}

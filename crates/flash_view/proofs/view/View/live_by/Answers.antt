@@ -1,8 +1,8 @@
 use Rattle.std.proofs.Common.{◌≡◌, true, sym}
-use Rattle.image_model.specs.Volume.{per_block}
+use Rattle.geometry.specs.Numbers.{per_block}
 use Rattle.image_model.specs.Places.{has_magic, block_of, entry_of, page_of}
 use Rattle.page_layout.specs.Layout.{header_at}
-use Rattle.flash_view.proofs.Inside.{block_below}
+use Rattle.geometry.proofs.Bounds.{block_below}
 use Rattle.flash_view.proofs.Heads.{live_by, dead_by}
 use Rattle.flash_view.proofs.view.View.live_by.Goals as goal
 

@@ -1,6 +1,5 @@
 use Rattle.std.proofs.Common.{◌≡◌, ◌∙◌, ap, sym, refl, arith}
-use Rattle.geometry.specs.Numbers.{page_count as pages_of}
-use Rattle.image_model.specs.Volume.{page_count, per_block}
+use Rattle.geometry.specs.Numbers.{page_count, per_block}
 use Rattle.image_model.specs.Live.{live_at}
 use Rattle.flash_view.specs.Found.{headed}
 use Rattle.flash_view.proofs.Least.{least_more, least_all}
@@ -9,7 +8,7 @@ use Rattle.flash_view.proofs.view.View.next_id.Goals as goal
 
 pub loop-page-init : goal.loop-page-init
 loop-page-init g c = record {
-  pages = c.pages-page-end.ensures;
+  pages = c.pages-page-end.ensures.count;
   looks = looks_none c.args.self.now;
   work = refl;
   told = λ tells. record { none = λ q id low is. absurd (omega arith) };
@@ -21,7 +20,7 @@ loop-page-preserved g c =
     let looked = c.in_ok-found.ensures in
     let looks = looks_then was.looks looked.looks in
     record {
-      pages = was.pages ∙ ap pages_of (sym looked.looks.same.geometry);
+      pages = was.pages ∙ ap page_count (sym looked.looks.same.geometry);
       looks = looks;
       work = looked.work ∙ was.work;
       told = λ tells.
@@ -37,5 +36,5 @@ unfolding page_count per_block
 returns-clause-told g c = λ tells.
     let was = c.loop-page.invariant in
     let view = c.args.self.now in
-    let end : c.loop-page.page ≡ page_count view.geometry = omega (arith, c.pages-page-end.ensures) in
+    let end : c.loop-page.page ≡ page_count view.geometry = omega (arith, c.pages-page-end.ensures.count) in
     least_all view.geometry (g.N.NorState.bytes view.nor.now) c.args.after c.loop-page.page c.loop-page.least end (was.told tells)

@@ -4,12 +4,12 @@ use Rattle.std.specs.Option.{option_map}
 use Rattle.std.proofs.Math.Nat.{mod-lt, mul-le-mul_right}
 use Rattle.std.proofs.lemmas.Nat.{div-mul-add, div-add-mod'}
 use Rattle.page_layout.specs.Layout.{header_at}
-use Rattle.image_model.specs.Volume.{per_block, lookups, entries}
+use Rattle.geometry.specs.Numbers.{page_count, per_block, lookups, entries}
 use Rattle.image_model.specs.Places.{block_of, entry_of}
 use Rattle.image_model.specs.Live.{live_at}
 use Rattle.flash_view.specs.Walk.{IsNextSlot, FirstSlot}
 use Rattle.flash_view.proofs.Looking.{looks_none, looks_then}
-use Rattle.flash_view.proofs.SlotHeld.{some_pages, entries_told, pages_told, lookups_told, all_told}
+use Rattle.flash_view.proofs.SlotHeld.{some_pages}
 use Rattle.flash_view.proofs.Walking.{walk_start, walk_block, walk_dead, walk_live, unseen_live, entry_is, walk_from, found_block}
 use Rattle.flash_view.proofs.view.View.next_live.Goals as goal
 
@@ -17,9 +17,9 @@ pub walk-init : goal.walk-init
 walk-init g c =
     let view = c.args.self.now in
     let some : 0 < per_block view.geometry = omega (arith, some_pages view.geometry) in
-    let block : c.args.from / c.per_block.result ≡ c.args.from / per_block view.geometry = ap (λ n. c.args.from / n) (c.per_block.ensures ∙ pages_told view.geometry) in
-    let place : c.args.from % c.per_block-2.result ≡ c.args.from % per_block view.geometry = ap (λ n. c.args.from % n) (c.per_block-2.ensures ∙ pages_told view.geometry) in
-    let slot : c.saturating_sub-slot.result ≡ c.args.from % per_block view.geometry - lookups view.geometry = omega (arith, c.saturating_sub-slot.ensures, place, c.lookups.ensures, lookups_told view.geometry) in
+    let block : c.args.from / c.per_block.result ≡ c.args.from / per_block view.geometry = ap (λ n. c.args.from / n) (c.per_block.ensures.count) in
+    let place : c.args.from % c.per_block-2.result ≡ c.args.from % per_block view.geometry = ap (λ n. c.args.from % n) (c.per_block-2.ensures.count) in
+    let slot : c.saturating_sub-slot.result ≡ c.args.from % per_block view.geometry - lookups view.geometry = omega (arith, c.saturating_sub-slot.ensures, place, c.lookups.ensures.count) in
     record {
       looks = looks_none view;
       work = refl;
@@ -31,7 +31,7 @@ walk-init g c =
 pub entry_page-page-requires-clause-entry : goal.entry_page-page-requires-clause-entry
 entry_page-page-requires-clause-entry g c =
     let inside = rw (c.in-Some.is, c.walk.invariant.looks.same.geometry) at c.in_ok-i.ensures.inside in
-    omega (arith, inside, entries_told c.args.self.now.geometry)
+    omega (arith, inside)
 
 pub live_by-requires-clause-block : goal.live_by-requires-clause-block
 unfolding per_block lookups
@@ -119,7 +119,8 @@ returns-in-Some-2-clause-told g c = λ tells.
     walk_live view.geometry image c.args.low c.args.high c.args.from c.walk.block c.walk.slot c.in-Some.i c.in-Some.entry c.entry_page-page.result c.in-Some-2.head inside.1 place (was.told tells) is some
 
 pub returns-clause-told : goal.returns-clause-told
+unfolding page_count
 returns-clause-told g c = λ tells q after before.
     let view = c.args.self.now in
     let all : view.geometry.blocks ≤ c.walk.block = omega (arith, c.walk-test.false, c.blocks-in-walk.ensures) in
-    c.walk.invariant.told tells q after (omega (arith, before, all_told view.geometry, mul-le-mul_right (per_block view.geometry) all))
+    c.walk.invariant.told tells q after (omega (arith, before, mul-le-mul_right (per_block view.geometry) all))

@@ -1,6 +1,6 @@
 -- The pages from `from` on and before entry `slot` of the block were passed over.
 use Rattle.std.proofs.Common.{◌≡◌, ◌+◌, ◌-◌, ◌*◌, ◌<◌, ◌≤◌, ℕ}
-use Rattle.image_model.specs.Volume.{per_block, lookups, entries}
+use Rattle.geometry.specs.Numbers.{per_block, lookups, entries}
 use Rattle.flash_view.specs.Same.{OnlyLooks}
 use Rattle.flash_view.proofs.Walking.{Walked}
 use Rattle.flash_view.proofs.view.View.next_live.Given as goal

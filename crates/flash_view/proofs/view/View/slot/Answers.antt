@@ -1,5 +1,5 @@
 use Rattle.std.proofs.Common.{◌≡◌, ◌+◌, ◌*◌, ◌-◌, ◌≤◌, arith}
-use Rattle.image_model.specs.Volume.{per_block}
+use Rattle.geometry.specs.Numbers.{per_block}
 use Rattle.image_model.specs.Places.{page_of}
 use Rattle.flash_view.proofs.SlotHeld.{in_place, slot_read, slot_small}
 use Rattle.flash_view.proofs.view.View.slot.Goals as goal

@@ -1,5 +1,6 @@
 use Rattle.std.proofs.Common.{◌≡◌, ◌+◌, ◌*◌, ◌/◌, ◌<◌, ◌≤◌, arith}
-use Rattle.image_model.specs.Volume.{entries, per_block, lookups}
+use Rattle.geometry.proofs.Bounds.{few_in_block}
+use Rattle.geometry.specs.Numbers.{entries, per_block, lookups}
 use Rattle.image_model.specs.Places.{page_of}
 use Rattle.flash_view.proofs.SlotHeld.{in_lookup}
 use Rattle.flash_view.proofs.Walking.{found_in, none_in}
@@ -14,7 +15,7 @@ pub overflow_add-start : goal.overflow_add-start
 unfolding entries per_block lookups
 overflow_add-start g c =
     let w = in_lookup c.args.self.now.geometry (c.page-slots.result / 2) c.args.k c.args.at (omega (arith, c.page-slots.ensures)) c.requires.lookup in
-    omega (arith, w.low, c.requires.place, c.page-slots.ensures, c.args.self.now.geometry.valid.few_in_block, c.args.self.now.geometry.valid.page_most)
+    omega (arith, w.low, c.requires.place, c.page-slots.ensures, few_in_block c.args.self.now.geometry, c.args.self.now.geometry.valid.page_most)
 
 pub overflow_sub-from : goal.overflow_sub-from
 overflow_sub-from g c = (in_lookup c.args.self.now.geometry (c.page-slots.result / 2) c.args.k c.args.at (omega (arith, c.page-slots.ensures)) c.requires.lookup).low
@@ -23,13 +24,13 @@ pub overflow_sub-to : goal.overflow_sub-to
 unfolding entries per_block lookups
 overflow_sub-to g c =
     let w = in_lookup c.args.self.now.geometry (c.page-slots.result / 2) c.args.k c.args.at (omega (arith, c.page-slots.ensures)) c.requires.lookup in
-    omega (arith, w.low, c.requires.place, c.min-end.ensures, c.entries.ensures)
+    omega (arith, w.low, c.requires.place, c.min-end.ensures, c.entries.ensures.count)
 
 pub returns-in-Some-clause-inside : goal.returns-in-Some-clause-inside
 unfolding entries per_block lookups
 returns-in-Some-clause-inside g c =
     let w = in_lookup c.args.self.now.geometry (c.page-slots.result / 2) c.args.k c.args.at (omega (arith, c.page-slots.ensures)) c.requires.lookup in
-    (omega (arith, w.low, c.in-Some.ensures.found), omega (arith, c.in-Some.ensures.found, c.min-end.ensures, c.entries.ensures))
+    (omega (arith, w.low, c.in-Some.ensures.found), omega (arith, c.in-Some.ensures.found, c.min-end.ensures, c.entries.ensures.count))
 
 pub returns-in-Some-clause-told : goal.returns-in-Some-clause-told
 returns-in-Some-clause-told g c = λ tells.
@@ -50,4 +51,4 @@ returns-in-None-clause-told g c = λ tells.
     let half : c.page-slots.result / 2 ≡ view.geometry.page / 2 = omega (arith, c.page-slots.ensures) in
     let w = in_lookup view.geometry (c.page-slots.result / 2) c.args.k c.args.at half c.requires.lookup in
     let is : c.held.result.now ≡ page_of view.geometry image (c.args.block * per_block view.geometry + c.args.k) = rw (looks.same.geometry, looks.reads.bytes, c.lookup_page-page.ensures.page) at (c.held.ensures.bytes (looks.reads.told tells)) in
-    none_in view.geometry image c.args.low c.args.high (c.page-slots.result / 2) c.args.block c.args.k c.args.at c.min-end.result (entries view.geometry) c.held.result.now half is c.held.ensures.small (omega (arith, c.min-end.ensures, c.entries.ensures)) w.low c.in-None.ensures.passed
+    none_in view.geometry image c.args.low c.args.high (c.page-slots.result / 2) c.args.block c.args.k c.args.at c.min-end.result (entries view.geometry) c.held.result.now half is c.held.ensures.small (omega (arith, c.min-end.ensures, c.entries.ensures.count)) w.low c.in-None.ensures.passed
