@@ -29,9 +29,6 @@ entry_inside g p entry =
     let slot : place_of g p - lookups g + 3 ≤ slots g = omega (arith, magic_fits g, entry.behind, place) in
     omega (arith, slot, lookups_inside g, block_inside g (block_of g p) (block_below g p entry.below))
 
-pub magic_inside : (g : Geometry) (b : ℕ) → b < g.blocks → magic_start g b + 4 ≤ g.blocks * g.block
-magic_inside g b below = omega (arith, magic_fits g, lookups_inside g, block_inside g b below)
-
 -- the page of an entry is an entry page of the block
 pub entry_page_is : (g : Geometry) (b i p : ℕ) → b < g.blocks → i < entries g → p ≡ b * per_block g + lookups g + i → IsEntryPage g p
 unfolding entries page_count

@@ -19,12 +19,11 @@ pub(crate) fn page_start(g: &Geometry, page: u16) -> u32
 }
 
 // The first byte of a page's entry.
-#[tactic(auto, using(crate::proofs::Inside::entry_inside, crate::proofs::InPage::entry_in_page))]
+#[tactic(auto, using(crate::proofs::Inside::entry_inside))]
 pub(crate) fn entry_start(g: &Geometry, page: u16) -> u32
     requires { IsEntryPage g.now page }
     ensures start { result ≡ entry_at g.now page }
     ensures inside { result + 2 ≤ g.now.blocks * g.now.block }
-    ensures one_page { InOnePage g.now result 2 }
 {
     let page = u32::from(page);
     let slot = page % g.per_block() - g.lookups();
