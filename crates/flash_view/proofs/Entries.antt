@@ -57,17 +57,12 @@ other_index (Some page) entry id span known fails =
     own_index page (obj_id page % 0x8000 == id) span
     ∙ no_index (obj_id page % 0x8000 == id) (names_index page) (span_of page == span) (rw same at fails)
 
--- a page whose entry isn't that of an index page of the object is none
-pub passed_index : (g : Geometry) (image : List ℕ) (p id span entry : ℕ) → entry ≡ lookup_entry g image p → (not (nat_lt entry 0x8000) && (entry % 0x8000 == id)) ≡ false →
-    is_index (own (live_at g image) id p) span ≡ false
-unfolding own
-passed_index g image p id span entry is fails = other_index (live_at g image p) entry id span (λ page e. is ∙ (live_page g image p page e).entry) fails
-
-not_free : (page : List ℕ) → is_finished page ≡ true → not (obj_id page == 0xFFFF) ≡ true
+-- a page that tells that it is live has an object's id
+pub some_id : (page : List ℕ) → is_finished page ≡ true → (not (obj_id page % 0x8000 == 0) ≡ true) × (not (obj_id page == 0xFFFF) ≡ true)
 unfolding is_finished
-not_free page e =
+some_id page e =
     let a = and_parts _ _ e in let b = and_parts _ _ a.0 in let c = and_parts _ _ b.0 in let d = and_parts _ _ c.0 in
-    (and_parts (not (obj_id page % 0x8000 == 0)) (not (obj_id page == 0xFFFF)) d.0).1
+    and_parts (not (obj_id page % 0x8000 == 0)) (not (obj_id page == 0xFFFF)) d.0
 
 no_head : (page : List ℕ) (span : Bool) (id : ℕ) (index free : Bool) → not free ≡ true → (index && not free) ≡ false → (if index && span then Some id else None) ≡ None
 no_head page span id true true f e = absurd (cc)
@@ -79,7 +74,7 @@ pub other_head : (o : Option (List ℕ)) (entry : ℕ) → ((page : List ℕ) �
 other_head None entry known fails = refl
 other_head (Some page) entry known fails =
     let w = known page refl in
-    no_head page (span_of page == 0) (obj_id page % 0x8000) (names_index page) (obj_id page == 0xFFFF) (not_free page w.1) (rw w.0 at fails)
+    no_head page (span_of page == 0) (obj_id page % 0x8000) (names_index page) (obj_id page == 0xFFFF) (some_id page w.1).1 (rw w.0 at fails)
 
 -- a page whose entry isn't that of an index page is fails header page
 pub passed_head : (g : Geometry) (image : List ℕ) (p entry : ℕ) → entry ≡ lookup_entry g image p → (not (nat_lt entry 0x8000) && not (entry == 0xFFFF)) ≡ false →

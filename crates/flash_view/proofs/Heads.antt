@@ -40,14 +40,6 @@ pub index_seen : (live : Live) (p id span : ℕ) (head : PageHeader) → Some he
 unfolding own
 index_seen live p id span head e = seen (live p) id span head e
 
-unseen : (o : Option (List ℕ)) (id span : ℕ) → None ≡ option_map header_at o → is_index (option_and_then (λ page. if obj_id page % 0x8000 == id then Some page else None) o) span ≡ false
-unseen None id span e = refl
-unseen (Some page) id span e = absurd (cc)
-
-pub none_seen : (live : Live) (p id span : ℕ) → None ≡ option_map header_at (live p) → is_index (own live id p) span ≡ false
-unfolding own
-none_seen live p id span e = unseen (live p) id span e
-
 -- an entry page by its number
 pub entry_page_told : (g : Geometry) (p : ℕ) → IsEntryPage g p → is_entry_page g p ≡ true
 unfolding is_entry_page page_count per_block lookups

@@ -8,7 +8,7 @@ use Rattle.page_cache.specs.Frames.{InOnePage}
 use Rattle.page_cache.proofs.Places.{lt_or_le}
 use Rattle.flash_view.specs.Places.{IsEntryPage, slot_start, magic_start, count_start}
 use Rattle.image_model.specs.Places.{block_of, place_of, entry_at}
-use Rattle.flash_view.proofs.Inside.{entry_inside, magic_inside}
+use Rattle.flash_view.proofs.Inside.{entry_inside}
 use Rattle.geometry.proofs.Bounds.{magic_fits, volume_pages, block_pages}
 
 -- a part of a page
@@ -48,35 +48,3 @@ even_page g = ⊎_elim
         (λ (some : 1 ≤ q). omega (arith, is, long, mul-le-mul_right page some))
         (lt_or_le q 1)
 
--- so have blocks
-even_block : (g : Geometry) → g.block % 2 ≡ 0
-even_block g =
-    let half : g.page ≡ 2 * (g.page / 2) = omega (arith, even_page g) in
-    omega (arith, block_pages g, ap (λ (k : ℕ). per_block g * k) half)
-
-even_slot : (g : Geometry) (b slot : ℕ) → slot_start g b slot % 2 ≡ 0
-even_slot g b slot =
-    let half : g.block ≡ 2 * (g.block / 2) = omega (arith, even_block g) in
-    omega (arith, ap (λ (k : ℕ). b * k) half)
-
--- two bytes at an even place
-pub even_in_page : (g : Geometry) (at : ℕ) → at % 2 ≡ 0 → at + 2 ≤ g.blocks * g.block → InOnePage g at 2
-even_in_page g at even inside =
-    let some : 0 < g.page = omega (arith, g.valid.page_least) in
-    let half : g.page ≡ 2 * (g.page / 2) = omega (arith, even_page g) in
-    let whole : at / g.page * g.page + at % g.page ≡ at = div-add-mod' at g.page in
-    let twice : at / g.page * g.page ≡ at / g.page * (2 * (g.page / 2)) = ap (λ (k : ℕ). at / g.page * k) half in
-    let low : at % g.page < g.page = mod-lt at some in
-    record {
-      page = (div-lt_iff_lt-mul some).1 (omega (arith, inside, volume_pages g));
-      inside = omega (arith, whole, twice, low, even, half);
-    }
-
-pub entry_in_page : (g : Geometry) (page : ℕ) → IsEntryPage g page → InOnePage g (entry_at g page) 2
-entry_in_page g page place = even_in_page g (entry_at g page) (even_slot g (block_of g page) (place_of g page - lookups g)) (entry_inside g page place)
-
-pub magic_in_page : (g : Geometry) (block : ℕ) → block < g.blocks → InOnePage g (magic_start g block) 2
-magic_in_page g block below = even_in_page g (magic_start g block) (even_slot g block (slots g - 2)) (omega (arith, magic_inside g block below))
-
-pub count_in_page : (g : Geometry) (block : ℕ) → block < g.blocks → InOnePage g (count_start g block) 2
-count_in_page g block below = even_in_page g (count_start g block) (even_slot g block (slots g - 1)) (omega (arith, magic_inside g block below, magic_fits g))

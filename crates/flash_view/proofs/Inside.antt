@@ -14,6 +14,13 @@ lookups_inside g =
     let few : lookups g ≤ per_block g = omega (arith, some_entries g) in
     omega (arith, mul-le-mul_right g.page few, block_pages g)
 
+pub entry_slot : (g : Geometry) (p : ℕ) → IsEntryPage g p → p % per_block g - lookups g < slots g
+unfolding entries
+entry_slot g p entry =
+    let some : 0 < per_block g = omega (arith, some_pages g) in
+    let place : place_of g p < per_block g = mod-lt p some in
+    omega (arith, magic_fits g, entry.behind, place)
+
 pub entry_inside : (g : Geometry) (p : ℕ) → IsEntryPage g p → entry_at g p + 2 ≤ g.blocks * g.block
 unfolding entries
 entry_inside g p entry =
@@ -21,9 +28,6 @@ entry_inside g p entry =
     let place : place_of g p < per_block g = mod-lt p some in
     let slot : place_of g p - lookups g + 3 ≤ slots g = omega (arith, magic_fits g, entry.behind, place) in
     omega (arith, slot, lookups_inside g, block_inside g (block_of g p) (block_below g p entry.below))
-
-pub magic_inside : (g : Geometry) (b : ℕ) → b < g.blocks → magic_start g b + 4 ≤ g.blocks * g.block
-magic_inside g b below = omega (arith, magic_fits g, lookups_inside g, block_inside g b below)
 
 -- the page of an entry is an entry page of the block
 pub entry_page_is : (g : Geometry) (b i p : ℕ) → b < g.blocks → i < entries g → p ≡ b * per_block g + lookups g + i → IsEntryPage g p

@@ -71,6 +71,19 @@ least_more at after p (Some m) (Some id) was is =
     (λ (few : id ≤ after). rw (le-ltb after id few) (some_more at after p m was (λ x e above'. let same : x ≡ id = cc in absurd (omega (arith, same, few, above')))))
     (cases_lt after id)
 
+-- pages without an id
+pub least_skip : (at : ℕ → Option ℕ) (after p r : ℕ) (least : Option ℕ) → p ≤ r → LeastBelow at after p least → ((q : ℕ) → p ≤ q → q < r → at q ≡ None) → LeastBelow at after r least
+least_skip at after p r None on was none = record {
+  none = λ q id low is. ⊎_elim (λ (before : q < p). was.none q id before is) (λ (behind : p ≤ q). let no' = none q behind low in absurd (cc)) (cases_lt q p);
+}
+least_skip at after p r (Some id) on was none = record {
+  page = was.page;
+  below = omega (arith, was.below);
+  here = was.here;
+  above = was.above;
+  least = λ q other low is more. ⊎_elim (λ (before : q < p). was.least q other before is more) (λ (behind : p ≤ q). let no' = none q behind low in absurd (cc)) (cases_lt q p);
+}
+
 -- ---- what a header page says of its id
 
 own_if : (page : List ℕ) (mine : Bool) → is_index (if mine then Some page else None) 0 ≡ true → (mine ≡ true) × (is_index (Some page) 0 ≡ true)

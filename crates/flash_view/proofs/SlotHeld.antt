@@ -28,8 +28,8 @@ module _ (g : Geometry) where
   pub lookup_below : (i : ℕ) → i < slots g → 2 * i / g.page < lookups g
   lookup_below i below = (div-lt_iff_lt-mul (omega (arith, g.valid.page_least))).1 (omega (arith, below))
 
-  pub entry_slot : (i : ℕ) → i < entries g → i < slots g
-  entry_slot i below = omega (arith, below, slots_fit)
+  pub entry_below : (i : ℕ) → i < entries g → i < slots g
+  entry_below i below = omega (arith, below, slots_fit)
 
   pub lookup_page_below : (block k : ℕ) → block < g.blocks → k < lookups g → block * per_block g + k < page_count g
   unfolding page_count

@@ -7,21 +7,6 @@ use Rattle.image_model.specs.Places.{page_of}
 use Rattle.flash_view.specs.Places.{IsWordAt}
 use Rattle.flash_view.proofs.Parts.{part_byte}
 
--- a part of a part
-pub part_of_part : (bytes : List ℕ) (at n start len : ℕ) → start + len ≤ n → slice_range (slice_range bytes at (at + n)) start (start + len) ≡ slice_range bytes (at + start) (at + start + len)
-part_of_part bytes at n start len fits =
-    let less : at + n - at ≡ start + (n - start) = omega arith in
-    let size : start + len - start ≡ len = omega arith in
-    let same : at + start + len - (at + start) ≡ len = omega arith in
-    rw (less, size, same) (ap (take len) (drop-take start (n - start) (drop at bytes))
-    ∙ take-take len (n - start) (drop start (drop at bytes)) (omega arith)
-    ∙ ap (take len) (drop-drop start at bytes))
-
--- a part of a page is a part of the image
-pub part_of_page : (g : Geometry) (bytes : List ℕ) (page start len : ℕ) → start + len ≤ g.page → slice_range bytes (page * g.page + start) (page * g.page + start + len) ≡ slice_range (page_of g bytes page) start (start + len)
-unfolding page_of
-part_of_page g bytes page start len fits = sym (part_of_part bytes (page * g.page) g.page start len fits)
-
 -- a word of a page is a word of the image
 pub word_of_page : (g : Geometry) (bytes : List ℕ) (page start : ℕ) → start + 2 ≤ g.page → word_at bytes (page * g.page + start) ≡ word_at (page_of g bytes page) start
 unfolding page_of

@@ -1,4 +1,4 @@
-ghost use Rattle.std.specs.Prelude.{◌≡◌, ◌<◌, ◌%◌, ◌==◌, ◌&&◌, not, nat_lt, OnErr, IfOk, IfSome, Some, None, if◌then◌else◌, take};
+ghost use Rattle.std.specs.Prelude.{◌≡◌, ◌<◌, ◌≤◌, length, ◌%◌, ◌==◌, ◌&&◌, not, nat_lt, OnErr, IfOk, IfSome, Some, None, if◌then◌else◌, take};
 ghost use Rattle.std.specs.Option.{option_map};
 ghost use Rattle.geometry.specs.Numbers.{page_count};
 ghost use Rattle.nor_core.specs.Count.{Rose};
@@ -49,6 +49,17 @@ fn is_index_entry(entry: u16) -> bool
     ensures { result ≡ (not (nat_lt entry 0x8000) && not (entry == 0xFFFF)) }
 {
     entry >= INDEX_BIT && entry != FREE
+}
+
+// Whether a page holds that name, in the field of header pages.
+fn is_named(page: &[u8], name: &[u8]) -> bool
+    requires { 45 ≤ length page.now }
+    ensures { result ≡ is_name (the_name_of page.now) name.now }
+{
+    match name_of(page) {
+        Some(found) => found.as_slice() == name,
+        None => false,
+    }
 }
 
 impl<'b, N: Nor> View<'b, N> {
@@ -135,6 +146,7 @@ impl<'b, N: Nor> View<'b, N> {
     }
 
     /// The least id above `after` that has a header page.
+    #[tactic(auto, using(crate::proofs::Looking::looks_then))]
     pub fn next_id(&mut self, after: u16) -> Result<Option<u16>, Failed>
         ensures cause { OnErr result (Rose (N.faults self.old.nor.now) (N.faults self.new.nor.now)) }
         ensures looks { OnlyLooks self.old self.new }
@@ -142,9 +154,10 @@ impl<'b, N: Nor> View<'b, N> {
         ensures work { self.new.work.now ≡ self.old.work.now }
     {
         let mut least = None;
-        for page in 0..self.geometry.pages() as u16 {
-            let found = self.header_id(page)?;
-            least = lower(after, least, found);
+        let mut at = 0;
+        'pages: while let Some((page, head)) = self.next_live(at, INDEX_BIT, FREE - 1)? {
+            least = lower(after, least, headed_id(head));
+            at = u32::from(page) + 1;
         }
         Ok(least)
     }
@@ -157,31 +170,14 @@ impl<'b, N: Nor> View<'b, N> {
         ensures told { N.tells self.old.nor.now → IfOk result (λ id. id ≡ first_named self.old.geometry (N.bytes self.old.nor.now) name.now) }
         ensures built { take self.old.geometry.page self.new.work.now ≡ take self.old.geometry.page self.old.work.now }
     {
-        for page in 0..self.geometry.pages() as u16 {
-            if let Some(id) = self.named_id(page, name)? {
-                return Ok(Some(id));
+        let mut at = 0;
+        'pages: while let Some((page, head)) = self.next_live(at, INDEX_BIT, FREE - 1)? {
+            if head.span == 0 && is_named(self.held(page), name) {
+                return Ok(Some(head.object()));
             }
+            at = u32::from(page) + 1;
         }
         Ok(None)
-    }
-
-    // The id of a live header page that holds that name.
-    #[tactic(auto, using(crate::proofs::Names::named_by, crate::proofs::Names::unnamed_by, crate::proofs::Looking::looks_then))]
-    fn named_id(&mut self, page: u16, name: &[u8]) -> Result<Option<u16>, Failed>
-        requires { page < page_count self.old.geometry }
-        ensures cause { OnErr result (Rose (N.faults self.old.nor.now) (N.faults self.new.nor.now)) }
-        ensures looks { OnlyLooks self.old self.new }
-        ensures told { N.tells self.old.nor.now → IfOk result (λ id. id ≡ named_at (live_at self.old.geometry (N.bytes self.old.nor.now) page) name.now) }
-        ensures built { take self.old.geometry.page self.new.work.now ≡ take self.old.geometry.page self.old.work.now }
-    {
-        let Some(id) = self.header_id(page)? else {
-            return Ok(None);
-        };
-        Ok(if self.has_name(page, name)? {
-            Some(id)
-        } else {
-            None
-        })
     }
 
     /// The id of the object whose header page a page is, if it is a live one.
@@ -222,9 +218,7 @@ impl<'b, N: Nor> View<'b, N> {
         ensures told { N.tells self.old.nor.now → IfOk result (λ has. has ≡ is_name (the_name_of (page_of self.old.geometry (N.bytes self.old.nor.now) page)) name.now) }
         ensures built { take self.old.geometry.page self.new.work.now ≡ take self.old.geometry.page self.old.work.now }
     {
-        Ok(match self.name_at(page)? {
-            Some(found) => found.as_slice() == name,
-            None => false,
-        })
+        self.hold(page)?;
+        Ok(is_named(self.held(page), name))
     }
 }

@@ -1,12 +1,12 @@
 ghost use Rattle.std.specs.Prelude.{◌≡◌, ◌+◌, ◌*◌, ◌/◌, ◌%◌, ◌<◌, ◌≤◌};
 ghost use Rattle.std.specs.Bool.{OnTrue, OnFalse};
 ghost use Rattle.geometry.specs.Numbers.{page_count, per_block, lookups, entries, slots};
-ghost use Rattle.flash_view.specs.Places.{IsEntryPage, page_start as the_page_start, magic_start as the_magic_start, count_start as the_count_start};
+ghost use Rattle.flash_view.specs.Places.{IsEntryPage, page_start as the_page_start};
 ghost use Rattle.image_model.specs.Places.{block_of as the_block_of, entry_at, is_entry_page as the_entry_page};
 ghost use Rattle.page_cache.specs.Frames.{InOnePage};
 
 use geometry::Geometry;
-use page_layout::{count_offset, entry_offset, magic_offset};
+use page_layout::entry_offset;
 
 // The first byte of a page.
 #[tactic(auto, using(geometry::proofs::Bounds::page_inside))]
@@ -19,12 +19,11 @@ pub(crate) fn page_start(g: &Geometry, page: u16) -> u32
 }
 
 // The first byte of a page's entry.
-#[tactic(auto, using(crate::proofs::Inside::entry_inside, crate::proofs::InPage::entry_in_page))]
+#[tactic(auto, using(crate::proofs::Inside::entry_inside))]
 pub(crate) fn entry_start(g: &Geometry, page: u16) -> u32
     requires { IsEntryPage g.now page }
     ensures start { result ≡ entry_at g.now page }
     ensures inside { result + 2 ≤ g.now.blocks * g.now.block }
-    ensures one_page { InOnePage g.now result 2 }
 {
     let page = u32::from(page);
     let slot = page % g.per_block() - g.lookups();
@@ -32,7 +31,7 @@ pub(crate) fn entry_start(g: &Geometry, page: u16) -> u32
 }
 
 // Which of the lookup pages of a block has slot `i`. (Where there is one alone, no division is needed.)
-#[tactic(auto, using(crate::proofs::SlotHeld::lookup_below, geometry::proofs::Bounds::few_entries, geometry::proofs::Bounds::few_in_block))]
+#[tactic(auto, using(crate::proofs::SlotHeld::lookup_below))]
 pub(crate) fn lookup_of(g: &Geometry, i: u32) -> u32
     requires { i < slots g.now }
     ensures lookup { result ≡ 2 * i / g.now.page }

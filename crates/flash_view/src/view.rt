@@ -37,10 +37,11 @@ impl<'b, N: Nor> View<'b, N> {
     ghost use Rattle.std.specs.Prelude.{◌≡◌, ℕ, ◌+◌, ◌*◌, ◌/◌, ◌<◌, ◌≤◌, length, take, slice_index, slice_range, OnOk, OnErr, IfOk, true, false};
     ghost use Rattle.std.specs.Option.{ForSome};
     ghost use Rattle.std.specs.Int.{to_le_bytes, w16};
-    ghost use Rattle.geometry.specs.Numbers.{work_need, cache_need, page_count, slots};
+    ghost use Rattle.geometry.specs.Numbers.{work_need, cache_need, page_count};
     ghost use Rattle.nor_core.specs.Count.{Rose};
     ghost use Rattle.nor_core.specs.Flash.{HalfProgrammed, programmed, HalfErased, erased, word_at};
     ghost use Rattle.nor_core.specs.Device.{Changes, InErase, Writes};
+    ghost use Rattle.geometry.specs.Numbers.{slots};
     ghost use Rattle.flash_view.specs.Places.{IsEntryPage, IsWordAt, page_start as the_page_start};
     ghost use Rattle.image_model.specs.Places.{page_of, slot_of, entry_at, entry_of as the_entry_of, has_magic as the_magic, erase_count as the_erase_count};
     ghost use Rattle.image_model.specs.Tidy.{is_erased as the_erased};
@@ -105,7 +106,7 @@ impl<'b, N: Nor> View<'b, N> {
     }
 
     /// The entry of a page: free, deleted, or the id of its object with bit 15 set in index pages.
-    #[tactic(auto, unfolding(image_model::specs::Places::entry_of, geometry::specs::Numbers::per_block, geometry::specs::Numbers::lookups))]
+    #[tactic(auto, unfolding(image_model::specs::Places::entry_of), using(crate::proofs::Inside::entry_slot))]
     pub fn entry(&mut self, page: u16) -> Result<u16, Failed>
         requires { IsEntryPage self.old.geometry page }
         ensures cause { OnErr result (Rose (N.faults self.old.nor.now) (N.faults self.new.nor.now)) }
@@ -120,7 +121,7 @@ impl<'b, N: Nor> View<'b, N> {
     }
 
     /// Whether a block has the magic of this volume.
-    #[tactic(auto, unfolding(image_model::specs::Places::has_magic, geometry::specs::Numbers::lookups))]
+    #[tactic(auto, unfolding(image_model::specs::Places::has_magic), using(geometry::proofs::Bounds::magic_fits))]
     pub fn has_magic(&mut self, block: u16) -> Result<bool, Failed>
         requires { block < self.old.geometry.blocks }
         ensures cause { OnErr result (Rose (N.faults self.old.nor.now) (N.faults self.new.nor.now)) }
@@ -134,7 +135,7 @@ impl<'b, N: Nor> View<'b, N> {
     }
 
     /// How often a block was erased, as its slot tells it: 0 where the slot holds no count.
-    #[tactic(auto, unfolding(image_model::specs::Places::erase_count, geometry::specs::Numbers::lookups))]
+    #[tactic(auto, unfolding(image_model::specs::Places::erase_count), using(geometry::proofs::Bounds::magic_fits))]
     pub fn erase_count(&mut self, block: u16) -> Result<u16, Failed>
         requires { block < self.old.geometry.blocks }
         ensures cause { OnErr result (Rose (N.faults self.old.nor.now) (N.faults self.new.nor.now)) }

@@ -1,43 +1,67 @@
-use Rattle.std.proofs.Common.{◌≡◌, ◌∙◌, ap, sym, Some, None, refl}
-use Rattle.std.proofs.Math.Nat.{sub-zero}
-use Rattle.geometry.specs.Numbers.{page_count, per_block}
+use Rattle.std.proofs.Common.{◌≡◌, ◌+◌, ◌<◌, true, false, sym, ◌∙◌, refl, ap, ℕ, List, arith}
+use Rattle.std.specs.Prelude.{Some, None}
+use Rattle.geometry.specs.Numbers.{page_count}
 use Rattle.image_model.specs.Live.{live_at}
-use Rattle.flash_view.specs.Found.{named_at, first_named}
-use Rattle.flash_view.proofs.Finds.{first_here, first_later}
-use Rattle.flash_view.proofs.Looking.{looks_none, looks_then, built_then}
+use Rattle.image_model.specs.Headers.{name_of}
+use Rattle.image_model.specs.Places.{page_of}
+use Rattle.flash_view.specs.Found.{named_at, first_named, is_name}
+use Rattle.flash_view.specs.Walk.{IsNextLive, NextLive}
+use Rattle.flash_view.proofs.Looking.{looks_none, looks_then}
+use Rattle.flash_view.proofs.Passed.{passed_named, found_named, found_other, found_unnamed, all_to, all_and, first_some, first_none}
+use Rattle.flash_view.proofs.view.View.find_header_name.Goals.{else-head-eq0-via-then-head-eq0+else-is_named, else-head-eq0-via-else-head-eq0}
 use Rattle.flash_view.proofs.view.View.find_header_name.Goals as goal
 
-pub loop-page-init : goal.loop-page-init
-unfolding first_named page_count per_block
-loop-page-init g c = record {
-  pages = c.pages-page-end.ensures.count;
-  looks = looks_none c.args.self.now;
-  built = refl;
-  told = λ tells. rw (sub-zero c.pages-page-end.result, c.pages-page-end.ensures.count) refl;
-}
-
-pub returns-in-Some-clause-told : goal.returns-in-Some-clause-told
-returns-in-Some-clause-told g c = λ tells.
-    let was = c.loop-page.invariant in
-    let turn = c.in_ok-id.ensures.told (was.looks.reads.told tells) in
+pub returns-clause-told : goal.returns-clause-told
+unfolding first_named
+returns-clause-told g c = λ tells.
+    let was = c.pages.invariant in
     let view = c.args.self.now in
     let image = g.N.NorState.bytes view.nor.now in
-    let has : named_at (live_at view.geometry image c.loop-page.page) c.args.name.now ≡ Some c.in-Some.id = cc (turn, was.looks.reads.bytes, was.looks.same.geometry, c.in-Some.is) in
-    first_here (λ q. named_at (live_at view.geometry image q) c.args.name.now) _ _ _ _ c.loop-page-test.true (was.told tells) has
+    let last : NextLive view.geometry image c.pages.at 0x8000 0xFFFE None = rw (was.looks.same.geometry, was.looks.reads.bytes, c.in_default.is) at (c.in_ok-page.ensures.told (was.looks.reads.told tells)) in
+    sym (first_none (λ q. named_at (live_at view.geometry image q) c.args.name.now) (page_count view.geometry)
+    (all_to (λ q. named_at (live_at view.geometry image q) c.args.name.now ≡ None) c.pages.at (page_count view.geometry) (was.told tells) (λ q after before. passed_named view.geometry image q c.args.name.now (last q after before))))
 
-pub loop-page-preserved : goal.loop-page-preserved
-loop-page-preserved g c =
-    let was = c.loop-page.invariant in
-    let looked = c.in_ok-id.ensures in
-    let looks = looks_then was.looks looked.looks in
+pub pages-smaller : goal.pages-smaller
+pages-smaller g c =
+    let inside = rw (c.in-Some.is, c.pages.invariant.looks.same.geometry) at c.in_ok-page.ensures.inside in
+    omega (arith, inside.0, inside.1.below, c.from-at.ensures)
+
+pub returns-then-is_named-clause-told : goal.returns-then-is_named-clause-told
+unfolding first_named
+returns-then-is_named-clause-told g c = λ tells.
+    let was = c.pages.invariant in
+    let found = c.in_ok-page.ensures in
+    let view = c.args.self.now in
+    let image = g.N.NorState.bytes view.nor.now in
+    let tells_on = found.looks.reads.told (was.looks.reads.told tells) in
+    let next : IsNextLive view.geometry image c.pages.at 0x8000 0xFFFE c.in-Some.page c.in-Some.head = rw (was.looks.same.geometry, was.looks.reads.bytes, c.in-Some.is) at (found.told (was.looks.reads.told tells)) in
+    let inside = rw (c.in-Some.is, was.looks.same.geometry) at found.inside in
+    let held : c.held.result.now ≡ page_of view.geometry image c.in-Some.page = rw (found.looks.same.geometry, was.looks.same.geometry, found.looks.reads.bytes, was.looks.reads.bytes) at (c.held.ensures.bytes tells_on) in
+    let has : is_name (name_of (page_of view.geometry image c.in-Some.page)) c.args.name.now ≡ true = ap (λ (l : List ℕ). is_name (name_of l) c.args.name.now) (sym held) ∙ sym c.is_named.ensures ∙ c.if-is_named.true in
+    sym (first_some (λ q. named_at (live_at view.geometry image q) c.args.name.now) (page_count view.geometry) c.in-Some.page c.object.result inside.1.below
+    (rw c.object.ensures (found_named view.geometry image c.pages.at c.in-Some.page c.in-Some.head c.args.name.now next c.if-head-eq0.true has))
+    (all_to (λ q. named_at (live_at view.geometry image q) c.args.name.now ≡ None) c.pages.at c.in-Some.page (was.told tells) (λ q after before. passed_named view.geometry image q c.args.name.now (next.passed q after before))))
+
+pub pages-preserved : goal.pages-preserved
+pages-preserved g c =
+    let was = c.pages.invariant in
+    let found = c.in_ok-page.ensures in
+    let inside = rw (c.in-Some.is, was.looks.same.geometry) at found.inside in
     record {
-      pages = was.pages ∙ ap page_count (sym looked.looks.same.geometry);
-      looks = looks;
-      built = built_then was.looks was.built _ looked.built;
+      looks = looks_then was.looks found.looks;
+      work = found.work ∙ was.work;
+      most = omega (arith, inside.1.below, c.from-at.ensures);
       told = λ tells.
-          let turn = looked.told (was.looks.reads.told tells) in
           let view = c.args.self.now in
           let image = g.N.NorState.bytes view.nor.now in
-          let has : named_at (live_at view.geometry image c.loop-page.page) c.args.name.now ≡ None = cc (turn, was.looks.reads.bytes, was.looks.same.geometry, c.in_default.is) in
-          first_later (λ q. named_at (live_at view.geometry image q) c.args.name.now) _ _ _ c.loop-page-test.true (was.told tells) has;
+          let name = c.args.name.now in
+          let tells_on = found.looks.reads.told (was.looks.reads.told tells) in
+          let next : IsNextLive view.geometry image c.pages.at 0x8000 0xFFFE c.in-Some.page c.in-Some.head = rw (was.looks.same.geometry, was.looks.reads.bytes, c.in-Some.is) at (found.told (was.looks.reads.told tells)) in
+          let isnt : named_at (live_at view.geometry image c.in-Some.page) name ≡ None = elim c.else-head-eq0.branch
+            [ else-head-eq0-via-then-head-eq0+else-is_named w ↦
+                let held : w.held.result.now ≡ page_of view.geometry image c.in-Some.page = rw (found.looks.same.geometry, was.looks.same.geometry, found.looks.reads.bytes, was.looks.reads.bytes) at (w.held.ensures.bytes tells_on) in
+                found_unnamed view.geometry image c.pages.at c.in-Some.page c.in-Some.head name next (ap (λ (l : List ℕ). is_name (name_of l) name) (sym held) ∙ sym w.is_named.ensures ∙ w.if-is_named.false)
+            | else-head-eq0-via-else-head-eq0 w ↦ found_other view.geometry image c.pages.at c.in-Some.page c.in-Some.head name next w.if-head-eq0.false ] in
+          let unnamed = λ (q : ℕ). named_at (live_at view.geometry image q) name ≡ None in
+          all_and unnamed c.in-Some.page _ (omega (arith, c.from-at.ensures)) (all_to unnamed c.pages.at c.in-Some.page (was.told tells) (λ q after before. passed_named view.geometry image q name (next.passed q after before))) isnt;
     }

@@ -1,21 +1,19 @@
--- The search from `page` on gives the answer.
-use Rattle.std.proofs.Common.{◌≡◌, ◌-◌, ℕ, take}
-use Rattle.std.specs.Prelude.{find, is_some, option_and_then}
-use Rattle.std.specs.List.{range_with_len}
+-- No page below `at` is a header page with that name.
+use Rattle.std.proofs.Common.{◌≡◌, ◌-◌, ◌<◌, ◌≤◌, ℕ}
+use Rattle.std.specs.Prelude.{None}
 use Rattle.geometry.specs.Numbers.{page_count}
 use Rattle.image_model.specs.Live.{live_at}
-use Rattle.flash_view.specs.Found.{named_at, first_named}
+use Rattle.flash_view.specs.Found.{named_at}
 use Rattle.flash_view.specs.Same.{OnlyLooks}
 use Rattle.flash_view.proofs.view.View.find_header_name.Given as goal
 
-abbrev pub invariant-loop-page : goal.invariant-loop-page
-invariant-loop-page g l = record {
-  pages : l.page-end ≡ page_count l.self.geometry;
+abbrev pub invariant-pages : goal.invariant-pages
+invariant-pages g l = record {
   looks : OnlyLooks l.fn.self l.self;
-  built : take l.fn.self.geometry.page l.self.work.now ≡ take l.fn.self.geometry.page l.fn.self.work.now;
-  told :
-      (let image = g.N.NorState.bytes l.fn.self.nor.now in
-      let at = λ (q : ℕ). named_at (live_at l.fn.self.geometry image q) l.name in
-      g.N.NorState.tells l.fn.self.nor.now →
-      option_and_then at (find (λ (q : ℕ). is_some (at q)) (range_with_len l.page (l.page-end - l.page))) ≡ first_named l.fn.self.geometry image l.name);
+  work : l.self.work.now ≡ l.fn.self.work.now;
+  most : l.at ≤ page_count l.fn.self.geometry;
+  told : (g.N.NorState.tells l.fn.self.nor.now → (q : ℕ) → q < l.at → named_at (live_at l.fn.self.geometry (g.N.NorState.bytes l.fn.self.nor.now) q) l.name ≡ None);
 }
+
+abbrev pub decreases-pages : goal.decreases-pages
+decreases-pages g l = page_count l.fn.self.geometry - l.at
