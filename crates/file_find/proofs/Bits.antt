@@ -1,12 +1,12 @@
 -- Ids noted as bits behind the first bytes.
-use Rattle.std.proofs.Common.{◌≡◌, ◌≢◌, ℕ, ◌+◌, ◌*◌, ◌/◌, ◌%◌, ◌^◌, ◌==◌, ◌<◌, ◌≤◌, ⊎_elim, Bool, true, false, List, length, refl, sym, ◌∙◌, ap, arith, slice_index, slice_set, Option, Some, None}
+use Rattle.std.proofs.Common.{◌≡◌, ◌≢◌, ℕ, ◌+◌, ◌*◌, ◌/◌, ◌%◌, ◌^◌, ◌==◌, ◌<◌, ◌≤◌, ⊎_elim, true, false, List, length, refl, sym, ◌∙◌, ap, arith, slice_index, slice_set, Some}
 use Rattle.std.specs.Prelude.{bit_or, bit_and}
 use Rattle.std.specs.Int.{w8, bit_at}
 use Rattle.std.proofs.Math.Nat.{div-add-mod}
 use Rattle.std.proofs.lemmas.Bool.{cases_eq, eq-eqb}
 use Rattle.std.proofs.lemmas.List.{get_or-set_same, get_or-set_other}
 use Rattle.std.proofs.lemmas.Nat.Bits.{bit_at_set_same, bit_at_set_other, bit_at-zero, shr_and_one}
-use Rattle.file_find.specs.Ids.{is_noted, unnoted, Notes}
+use Rattle.file_find.specs.Ids.{is_noted, Notes}
 
 -- two ids whose bits are one are one
 same_id : (k id : ℕ) → k / 8 ≡ id / 8 → k % 8 ≡ id % 8 → k ≡ id
@@ -56,12 +56,6 @@ unfolding is_noted
 mark_beside marks start p mark k low = ap (λ (n : ℕ). bit_at n (k % 8) == 1) (get_or-set_other marks p (start + k / 8) mark 0 (λ e. omega (arith, e, low)))
 
 -- ---- an id that is noted
-
-pub notes_none : (start : ℕ) (marks : List ℕ) → Notes start None marks marks
-notes_none start marks = record { noted = λ id e. absurd (cc); others = λ k low other. refl; pages = λ p low. refl }
-
-pub notes_again : (start id : ℕ) (marks : List ℕ) → is_noted marks start id ≡ true → Notes start (Some id) marks marks
-notes_again start id marks was = record { noted = λ k e. let same : k ≡ id = cc in rw same was; others = λ k low other. refl; pages = λ p low. refl }
 
 pub notes_one : (start id : ℕ) (old mid new : List ℕ) → ((p : ℕ) → p < start + 4096 → slice_index mid p ≡ slice_index old p) → is_noted new start id ≡ true → ((k : ℕ) → k ≢ id → is_noted new start k ≡ is_noted mid start k) →
     ((p : ℕ) → p < start → slice_index new p ≡ slice_index mid p) → Notes start (Some id) old new

@@ -1,7 +1,7 @@
 -- Marked pages: their ids, by their entries, and the header pages of ids.
-use Rattle.std.proofs.Common.{◌≡◌, ◌≢◌, ℕ, ◌+◌, ◌%◌, ◌==◌, ◌<◌, ◌≤◌, ◌⊎◌, ⊎_elim, inl, inr, Bool, true, false, nat_lt, List, refl, sym, subst, ◌∙◌, ap, arith, Option, Some, None, if◌then◌else◌}
+use Rattle.std.proofs.Common.{◌≡◌, ◌≢◌, ℕ, ◌%◌, ◌==◌, ◌<◌, ⊎_elim, Bool, true, false, List, refl, sym, ◌∙◌, ap, arith, Option, Some, None, if◌then◌else◌}
 use Rattle.std.specs.Prelude.{Result, Ok, Err}
-use Rattle.std.proofs.lemmas.Bool.{cases_lt, cases_eq, cases_Bool, lt-ltb, le-ltb, eq-eqb, ne_eqb}
+use Rattle.std.proofs.lemmas.Bool.{cases_eq, eq-eqb, ne_eqb}
 use Rattle.geometry.specs.declared.geometry.Geometry.{Geometry}
 use Rattle.table_model.specs.Table.{File}
 use Rattle.image_model.specs.declared.damage.Damage.{Damage}
@@ -11,7 +11,7 @@ use Rattle.image_model.specs.Places.{page_of}
 use Rattle.image_model.specs.Live.{live_at, own}
 use Rattle.image_model.specs.Files.{index_page, is_index, judged}
 use Rattle.image_model.specs.Tables.{has_of}
-use Rattle.flash_view.specs.Found.{headed, has_header}
+use Rattle.flash_view.specs.Found.{headed}
 use Rattle.flash_view.specs.DataPages.{lookup_entry}
 use Rattle.file_find.specs.Marks.{mark_by, mark_as, mark_of, mark_for, marked_id, cause_at}
 use Rattle.flash_view.proofs.Entries.{live_page}

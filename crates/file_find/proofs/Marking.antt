@@ -1,6 +1,6 @@
 -- The mark of a page, by its id's header page and the judging of its file.
-use Rattle.std.proofs.Common.{◌≡◌, ℕ, zero, suc, ◌+◌, ◌<◌, ◌≤◌, ◌==◌, Bool, true, false, List, refl, sym, ◌∙◌, ap, ⊎_elim, arith}
-use Rattle.std.specs.Prelude.{Option, Some, None, Result, Ok, Err, find}
+use Rattle.std.proofs.Common.{◌≡◌, ℕ, zero, suc, ◌+◌, ◌<◌, ◌≤◌, ◌==◌, Bool, true, false, List, refl, sym, ap, ⊎_elim, arith}
+use Rattle.std.specs.Prelude.{Option, Some, None, Result, find}
 use Rattle.std.specs.List.{range_with_len}
 use Rattle.std.proofs.lemmas.Bool.{cases_Bool, cases_eq, eqb-true, eq-eqb}
 use Rattle.geometry.specs.declared.geometry.Geometry.{Geometry}
@@ -12,7 +12,6 @@ use Rattle.image_model.specs.Files.{index_page, judged, found}
 use Rattle.image_model.specs.Tables.{has_of}
 use Rattle.image_model.specs.Tidy.{is_number}
 use Rattle.flash_view.specs.Found.{headed}
-use Rattle.file_find.specs.Judging.{cause_of}
 use Rattle.file_find.specs.Marks.{mark_by, mark_of, mark_for}
 use Rattle.flash_view.proofs.Spans.{index_known}
 

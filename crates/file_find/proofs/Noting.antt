@@ -1,8 +1,7 @@
 -- The survey page by page, and the header pages of noted ids.
-use Rattle.std.proofs.Common.{◌≡◌, ◌≢◌, ℕ, ◌+◌, ◌-◌, ◌%◌, ◌==◌, ◌<◌, ◌≤◌, ⊎_elim, Bool, true, false, List, length, refl, sym, ◌∙◌, ap, arith, slice_index, slice_set, Option, Some, None, if◌then◌else◌}
-use Rattle.std.specs.Prelude.{find, is_some, option_and_then}
-use Rattle.std.specs.List.{range_with_len}
-use Rattle.std.proofs.lemmas.Bool.{cases_lt, cases_eq, cases_Bool, eq-eqb, ne_eqb}
+use Rattle.std.proofs.Common.{◌≡◌, ℕ, ◌+◌, ◌-◌, ◌%◌, ◌==◌, ◌<◌, ◌≤◌, ⊎_elim, Bool, true, false, List, length, refl, sym, ◌∙◌, ap, arith, slice_index, slice_set, Option, Some, None, if◌then◌else◌}
+use Rattle.std.specs.Prelude.{is_some, option_and_then}
+use Rattle.std.proofs.lemmas.Bool.{cases_lt, cases_eq, eq-eqb, ne_eqb}
 use Rattle.std.proofs.lemmas.List.{get_or-set_same, get_or-set_other}
 use Rattle.geometry.specs.declared.geometry.Geometry.{Geometry}
 use Rattle.geometry.specs.Numbers.{page_count, per_block}
@@ -10,16 +9,16 @@ use Rattle.image_model.specs.Headers.{obj_id}
 use Rattle.image_model.specs.Places.{page_of}
 use Rattle.image_model.specs.Live.{live_at, own}
 use Rattle.image_model.specs.Files.{index_page, is_index, judged}
-use Rattle.image_model.specs.Tables.{has_of}
 use Rattle.image_model.specs.Tidy.{is_number}
 use Rattle.flash_view.specs.Found.{headed, has_header}
 use Rattle.flash_view.proofs.Least.{heads}
 use Rattle.file_find.specs.Ids.{is_noted, unnoted, Notes}
-use Rattle.file_find.specs.Marks.{mark_by, mark_of, head_mark, marked_id, head_between, cause_at, holder_below, table_id, IsMarked, HasBelow, MarkedBelow, Surveyed, NextHead}
+use Rattle.file_find.specs.Marks.{mark_of, head_mark, marked_id, head_between, cause_at, holder_below, table_id, IsMarked, HasBelow, MarkedBelow, Surveyed, NextHead}
 use Rattle.file_find.proofs.Bits.{mark_beside}
 use Rattle.file_find.proofs.Marking.{has_at, mark_none, other_mark, number_is, find_parts}
 use Rattle.file_find.proofs.Heads.{header_parts, header_marked, marked_page}
-use Rattle.file_find.proofs.Holders.{head_within, nothing_found, judged_right, holder_all}
+use Rattle.file_find.proofs.Wholes.{head_within, nothing_found}
+use Rattle.file_find.proofs.Holders.{judged_right, holder_all}
 
 -- the pages of a volume by both names
 in_volume : (g : Geometry) (p : ℕ) → p < page_count g → p < page_count g
@@ -188,9 +187,6 @@ found_neither g image id near None behind is = no_first g image id (index_page g
 -- no id above `after` and below `at` has a header page
 pub record NoHeads (g : Geometry) (image : List ℕ) (after at : ℕ) : Type 0 where
   pub none : (j : ℕ) → after < j → j < at → index_page g (own (live_at g image) j) 0 ≡ None
-
-pub no_heads : (g : Geometry) (image : List ℕ) (after : ℕ) → NoHeads g image after (after + 1)
-no_heads g image after = record { none = λ j low high. absurd (omega (arith, low, high)) }
 
 pub no_heads_more : (g : Geometry) (image : List ℕ) (after at : ℕ) → NoHeads g image after at → None ≡ index_page g (own (live_at g image) at) 0 → NoHeads g image after (at + 1)
 no_heads_more g image after at was none = record {

@@ -108,13 +108,7 @@ module _ (g : Geometry) (pages : Live) (head : List ℕ) (k : ℕ) where
 
 -- ---- how many further index pages there are
 
--- a number below one that is rounded up
-pub below_ceil : (r x k : ℕ) → 0 < x → k < (r + x - 1) / x → k * x < r
-below_ceil r x k some low =
-    let whole : x * ((r + x - 1) / x) + (r + x - 1) % x ≡ r + x - 1 = div-add-mod (r + x - 1) x in
-    let step : (k + 1) * x ≤ (r + x - 1) / x * x = mul-le-mul_right x (omega arith) in
-    omega arith
-
+-- a number is at most so many times another as it is divided by that, rounded up
 pub ceil_enough : (r x k : ℕ) → 0 < x → (r + x - 1) / x ≤ k → r ≤ k * x
 ceil_enough r x k some high =
     let whole : x * ((r + x - 1) / x) + (r + x - 1) % x ≡ r + x - 1 = div-add-mod (r + x - 1) x in

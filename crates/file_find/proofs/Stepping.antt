@@ -19,7 +19,7 @@ use Rattle.file_find.specs.Marks.{NextHead, cause_at}
 use Rattle.file_find.specs.Listing.{IsNextFile, IsTheFile, damaged_above}
 use Rattle.file_find.proofs.Marking.{has_at, has_none}
 use Rattle.file_find.proofs.Heads.{header_parts}
-use Rattle.file_find.proofs.Holders.{has_parts, head_within}
+use Rattle.file_find.proofs.Wholes.{has_parts, head_within}
 
 -- ---- the first element of a number above another, in a list that goes by numbers
 
@@ -196,12 +196,6 @@ pub record NoDamage (g : Geometry) (image : List ℕ) (after at : ℕ) : Type 0 
   pub none : (j : ℕ) → after < j → j ≤ at → damage_at g image j ≡ None
 
 module _ (g : Geometry) (image : List ℕ) (after : ℕ) where
-  pub file_start : NoFile g image after after
-  file_start = record { low = omega arith; none = λ j less more. absurd (omega arith) }
-
-  pub damage_start : NoDamage g image after after
-  damage_start = record { low = omega arith; none = λ j less more. absurd (omega arith) }
-
   module _ (at id page : ℕ) (next : NextHead g image at (Some (id, page))) where
     -- the next id with a header page is damaged
     pub file_more : (cause : Damage) → NoFile g image after at → Some cause ≡ cause_at g image id → NoFile g image after id

@@ -110,8 +110,8 @@ fn extract_marked<B: Board, F: Folder>(
 /// file of its name there gets its bytes, or it is added as the last one. A file's line is said before the file is put,
 /// and its bytes go through the lent line buffer, which needs 12,288 bytes. Answers the number of damaged ids, whose
 /// files aren't put. A fault of the board or of the folder ends it: the first files are whole then, and the next one is
-/// as it was or has a front of its bytes. Nothing is written to the board. The volume is surveyed first: `marks` has a
-/// byte for each page, and what it holds at first doesn't matter.
+/// as it was or has a front of its bytes. Nothing is written to the board. The volume is surveyed first: `marks` are
+/// bytes for the check, and what they hold at first doesn't matter.
 pub fn extract<B: Board, F: Folder>(
     v: &mut View<'_, B>,
     marks: &mut [u8],

@@ -98,8 +98,8 @@ fn list_marked<B: Board>(v: &mut View<'_, B>, marks: &[u8], line: &mut [u8]) -> 
 /// Says the list of a volume: a line `ID TYPE SIZE NAME` for each file of the table in order of ids, the name
 /// printed as replies print it, then a line `damaged ID span S`, `damaged ID name` or `damaged ID same ID2` for each
 /// damaged id in order. Each line ends with a newline. Answers the number of damaged ids. The lent line buffer needs 12,288
-/// bytes. Nothing is written; a board fault ends it. The volume is surveyed first: `marks` has a byte for each page, and what
-/// it holds at first doesn't matter.
+/// bytes. Nothing is written; a board fault ends it. The volume is surveyed first: `marks` are bytes for the check, and what
+/// they hold at first doesn't matter.
 pub fn list<B: Board>(
     v: &mut View<'_, B>,
     marks: &mut [u8],

@@ -66,8 +66,7 @@ fn clean<N: Nor>(v: &mut View<'_, N>, marks: &mut [u8]) -> Result<Report, Failed
 /// header pages of damaged files, then the rest. So damaged files go, and the table stays, also at a cut. Refused, with
 /// nothing written, are a volume that may not be written (`Wrong`) and one of which a block holds live pages of both
 /// kinds (`Mixed`). Where the device fails, what was done stays, and the check can be called again. The marks are bytes
-/// for notes, one for each page of the volume at least; with 4,096 more, ids of header pages are noted behind these and
-/// not looked for.
+/// for notes, at least `Geometry::check_need`.
 #[tactic(auto, using(flash_view::proofs::Looking::same_then))]
 pub fn check_stages<N: Nor>(v: &mut View<'_, N>, marks: &mut [u8]) -> Result<Report, CheckErr>
     requires room { check_need v.old.geometry ≤ length marks.old }

@@ -38,7 +38,7 @@ fn cull_head<N: Nor>(
 }
 
 /// Kills the header page of each damaged file, in order of ids: how many there were. No page may be doubled. The marks
-/// are bytes for notes, one for each page of the volume at least.
+/// are bytes for notes, at least `Geometry::check_need`.
 pub(crate) fn cull_damaged<N: Nor>(v: &mut View<'_, N>, marks: &mut [u8]) -> Result<u32, Failed>
     requires room { check_need v.old.geometry ≤ length marks.old }
     requires magics { N.tells v.old.nor.now → HasMagics v.old.geometry (N.bytes v.old.nor.now) }

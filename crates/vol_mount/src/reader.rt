@@ -26,7 +26,7 @@ pub struct Reader<'b, N: Nor> {
     pub cache: &'b mut [u8],
     /// Descriptors, of which a reader uses none.
     pub slots: &'b mut [FdSlot],
-    /// A byte for each page: what the survey found.
+    /// Bytes for the check: what the survey found.
     pub check: &'b mut [u8],
     /// Whether the volume was surveyed.
     pub known: bool,

@@ -1,4 +1,4 @@
-use Rattle.std.proofs.Common.{◌≡◌, ◌∙◌, sym}
+use Rattle.std.proofs.Common.{◌∙◌, sym}
 use Rattle.file_find.proofs.Holders.{listed_none, unlisted_some}
 use Rattle.file_find.proofs.Noting.{head_marked}
 use Rattle.file_find.proofs.Stepping.{file_headless, file_damaged, file_whole}

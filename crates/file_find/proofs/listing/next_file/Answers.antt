@@ -1,4 +1,4 @@
-use Rattle.std.proofs.Common.{◌≡◌, ◌∙◌, sym, subst, Some, None, Option, ℕ, arith, ap, take}
+use Rattle.std.proofs.Common.{◌∙◌, sym, subst, Some, None, Option, ℕ, arith, ap, take}
 use Rattle.file_find.specs.Marks.{NextHead}
 use Rattle.file_find.proofs.Holders.{listed_none, unlisted_some}
 use Rattle.file_find.proofs.Noting.{head_marked}

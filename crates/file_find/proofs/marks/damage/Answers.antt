@@ -1,4 +1,3 @@
-use Rattle.std.proofs.Common.{◌≡◌, ◌∙◌, sym}
 use Rattle.flash_view.proofs.Spans.{told_along}
 use Rattle.file_find.proofs.Holders.{cause_broken, cause_doubled, cause_other}
 use Rattle.file_find.proofs.marks.damage.Goals as goal

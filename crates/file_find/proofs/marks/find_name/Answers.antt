@@ -1,5 +1,3 @@
-use Rattle.std.proofs.Common.{◌≡◌, ◌∙◌, sym, refl}
-use Rattle.geometry.specs.Numbers.{page_count}
 use Rattle.flash_view.proofs.Spans.{told_along}
 use Rattle.file_find.specs.Marks.{MarkedBelow}
 use Rattle.file_find.proofs.Noting.{marked_all, holder_volume}

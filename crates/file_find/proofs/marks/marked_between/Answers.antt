@@ -1,4 +1,4 @@
-use Rattle.std.proofs.Common.{◌≡◌, ◌∙◌, ℕ, ap, sym, refl, true, false}
+use Rattle.std.proofs.Common.{◌≡◌, ◌∙◌, ℕ, sym, refl, true, false}
 use Rattle.image_model.specs.Tidy.{is_number}
 use Rattle.file_find.specs.Marks.{marked_id, head_between}
 use Rattle.flash_view.proofs.Finds.{find_here, find_later}

@@ -1,4 +1,4 @@
-use Rattle.std.proofs.Common.{◌≡◌, ◌∙◌, sym, refl, false, None, Some}
+use Rattle.std.proofs.Common.{◌≡◌, ◌∙◌, sym, refl, false, None}
 use Rattle.geometry.specs.Numbers.{page_count}
 use Rattle.file_find.specs.Ids.{is_noted}
 use Rattle.file_find.specs.Marks.{head_between}
