@@ -7,7 +7,7 @@ use Rattle.geometry.specs.declared.geometry.Geometry.{Geometry}
 use Rattle.table_model.specs.Table.{File}
 use Rattle.image_model.specs.declared.damage.Damage.{Damage}
 use Rattle.image_model.specs.declared.damage.Damage.TheVariants.{SameName}
-use Rattle.image_model.specs.Volume.{page_count}
+use Rattle.geometry.specs.Numbers.{page_count}
 use Rattle.image_model.specs.Headers.{name_of}
 use Rattle.image_model.specs.Places.{page_of}
 use Rattle.image_model.specs.Live.{live_at, own}
