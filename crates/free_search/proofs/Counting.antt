@@ -5,32 +5,45 @@ use Rattle.std.specs.List.{range_with_len}
 use Rattle.std.proofs.lemmas.Bool.{eqb-true}
 use Rattle.geometry.specs.declared.geometry.Geometry.{Geometry}
 use Rattle.geometry.specs.Numbers.{per_block, lookups, entries}
-use Rattle.image_model.specs.Headers.{names_index, is_finished}
+use Rattle.image_model.specs.Headers.{obj_id, names_index, is_finished}
 use Rattle.image_model.specs.Places.{entry_of, erase_count}
 use Rattle.image_model.specs.Live.{live_at}
 use Rattle.image_model.specs.Kinds.{is_index_page, is_data_page}
 use Rattle.image_model.specs.Collect.{index_in, data_in, deleted_in, is_deleted_entry}
+use Rattle.image_laws.proofs.Finish.{is_finished-zero}
 use Rattle.image_laws.proofs.Tally.{is_finished-ones}
 use Rattle.image_laws.proofs.Frames.{live_parts}
 use Rattle.free_search.specs.declared.blocks.BlockCounts.{BlockCounts}
 use Rattle.free_search.specs.declared.blocks.Sort.{Sort}
-use Rattle.free_search.specs.declared.blocks.Sort.TheVariants.{Index, Data, Deleted, Free}
-use Rattle.free_search.specs.Counts.{the_sort, sort_of_page, one_more, total_of, AreCounts}
-use Rattle.free_search.proofs.Scans.{count_start, count_yes, count_no, count_end}
+use Rattle.free_search.specs.declared.blocks.Sort.TheVariants.{Index, Data, Deleted}
+use Rattle.free_search.specs.Counts.{sort_of_page, one_more, more_free, total_of, AreCounts}
+use Rattle.flash_view.specs.Walk.{IsNextSlot, NextSlot}
+use Rattle.free_search.proofs.Slots.{passed_free, used_entry}
+use Rattle.free_search.proofs.Scans.{count_start, count_yes, count_no, count_end, skip_no, skip_yes}
 
--- an entry of 0xFFFF is of no live page
-pub free_is_dead : (g : Geometry) (image : List ℕ) (p : ℕ) → entry_of g image p ≡ 0xFFFF → live_at g image p ≡ None
-free_is_dead g image p ones = dead (live_at g image p) refl
+-- an entry that is the id of no finished page is of no live page
+never_live : (g : Geometry) (image : List ℕ) (p : ℕ) → ((page : List ℕ) → obj_id page ≡ entry_of g image p → is_finished page ≡ false) → live_at g image p ≡ None
+never_live g image p never = dead (live_at g image p) refl
   where
     dead : (o : Option (List ℕ)) → live_at g image p ≡ o → o ≡ None
     dead None e = refl
     dead (Some page) e =
         let w = live_parts g image p page e in
-        let no : is_finished page ≡ false = is_finished-ones page (sym w.entry ∙ ones) in
+        let no : is_finished page ≡ false = never page (sym w.entry) in
         let yes : is_finished page ≡ true = w.finished in
         absurd (cc)
 
--- which of the four tests an entry passes, by what it counts as
+-- such is one of 0xFFFF
+pub free_is_dead : (g : Geometry) (image : List ℕ) (p : ℕ) → entry_of g image p ≡ 0xFFFF → live_at g image p ≡ None
+free_is_dead g image p ones = never_live g image p (λ page is. is_finished-ones page (is ∙ ones))
+
+-- so is a deleted one
+pub deleted_sort : (g : Geometry) (image : List ℕ) (p entry : ℕ) → entry ≡ 0 → entry ≡ entry_of g image p → Deleted ≡ sort_of_page (live_at g image p)
+deleted_sort g image p entry none is =
+    let dead : live_at g image p ≡ None = never_live g image p (λ page own. is_finished-zero page (rw (own, ← is, none) refl)) in
+    rw dead refl
+
+-- which of the four tests an entry that isn't free passes, by what it counts as
 abbrev pub is_index_sort : Sort → Bool
 is_index_sort Index = true
 is_index_sort _ = false
@@ -43,32 +56,21 @@ abbrev pub is_deleted_sort : Sort → Bool
 is_deleted_sort Deleted = true
 is_deleted_sort _ = false
 
-abbrev pub is_free_sort : Sort → Bool
-is_free_sort Free = true
-is_free_sort _ = false
-
 pub record Passes (g : Geometry) (image : List ℕ) (p : ℕ) (s : Sort) : Type 0 where
   pub index : is_index_page (live_at g image p) ≡ is_index_sort s
   pub pages : is_data_page (live_at g image p) ≡ is_data_sort s
   pub deleted : is_deleted_entry g image p ≡ is_deleted_sort s
-  pub free : (entry_of g image p == 0xFFFF) ≡ is_free_sort s
+  pub free : (entry_of g image p == 0xFFFF) ≡ false
 
-page_passes : (index : Bool) → (index ≡ is_index_sort (if index then Index else Data)) × (not index ≡ is_data_sort (if index then Index else Data)) × (false ≡ is_deleted_sort (if index then Index else Data)) × (false ≡ is_free_sort (if index then Index else Data))
-page_passes true = (refl, refl, refl, refl)
-page_passes false = (refl, refl, refl, refl)
+page_passes : (index : Bool) → (index ≡ is_index_sort (if index then Index else Data)) × (not index ≡ is_data_sort (if index then Index else Data)) × (false ≡ is_deleted_sort (if index then Index else Data))
+page_passes true = (refl, refl, refl)
+page_passes false = (refl, refl, refl)
 
-used_passes : (g : Geometry) (image : List ℕ) (p : ℕ) (o : Option (List ℕ)) → live_at g image p ≡ o → (entry_of g image p == 0xFFFF) ≡ false → Passes g image p (sort_of_page o)
+pub used_passes : (g : Geometry) (image : List ℕ) (p : ℕ) (o : Option (List ℕ)) → live_at g image p ≡ o → (entry_of g image p == 0xFFFF) ≡ false → Passes g image p (sort_of_page o)
 used_passes g image p None dead used = record { index = rw dead refl; pages = rw dead refl; deleted = rw (dead, used) refl; free = used }
 used_passes g image p (Some page) live used =
     let all = page_passes (names_index page) in
-    record { index = rw live all.0; pages = rw live all.1; deleted = rw (live, used) all.2; free = used ∙ all.3 }
-
-passes_by : (g : Geometry) (image : List ℕ) (p : ℕ) (ones : Bool) → (entry_of g image p == 0xFFFF) ≡ ones → Passes g image p (if ones then Free else sort_of_page (live_at g image p))
-passes_by g image p true ones = let dead : live_at g image p ≡ None = free_is_dead g image p (eqb-true _ 0xFFFF ones) in record { index = rw dead refl; pages = rw dead refl; deleted = rw (dead, ones) refl; free = ones }
-passes_by g image p false used = used_passes g image p (live_at g image p) refl used
-
-pub entry_passes : (g : Geometry) (image : List ℕ) (p : ℕ) → Passes g image p (the_sort g image p)
-entry_passes g image p = passes_by g image p (entry_of g image p == 0xFFFF) refl
+    record { index = rw live all.0; pages = rw live all.1; deleted = rw (live, used) all.2; free = used }
 
 -- those so far and those to come, of each sort
 pub record Counting (g : Geometry) (image : List ℕ) (first n i block : ℕ) (c : BlockCounts) : Type 0 where
@@ -89,37 +91,41 @@ counting_start g image block c a b d e erases = record {
   erases = erases;
 }
 
-pub counting_more : (g : Geometry) (image : List ℕ) (first n i block p : ℕ) (c : BlockCounts) (s : Sort) → i < n → Counting g image first n i block c → first + i ≡ p → s ≡ the_sort g image p →
+pub counting_more : (g : Geometry) (image : List ℕ) (first n i block p : ℕ) (c : BlockCounts) (s : Sort) → i < n → Counting g image first n i block c → first + i ≡ p → Passes g image p s →
     Counting g image first n (i + 1) block (one_more c s)
-counting_more g image first n i block p c s less was at_p is = turn s (subst (Passes g image p) (sym is) (entry_passes g image p))
-  where
-    turn : (s : Sort) → Passes g image p s → Counting g image first n (i + 1) block (one_more c s)
-    turn Index w = record {
-      index = count_yes _ first n i _ _ p less was.index at_p w.index;
-      pages = count_no _ first n i _ _ p less was.pages at_p w.pages;
-      deleted = count_no _ first n i _ _ p less was.deleted at_p w.deleted;
-      free = count_no _ first n i _ _ p less was.free at_p w.free;
-      erases = was.erases;
-    }
-    turn Data w = record {
-      index = count_no _ first n i _ _ p less was.index at_p w.index;
-      pages = count_yes _ first n i _ _ p less was.pages at_p w.pages;
-      deleted = count_no _ first n i _ _ p less was.deleted at_p w.deleted;
-      free = count_no _ first n i _ _ p less was.free at_p w.free;
-      erases = was.erases;
-    }
-    turn Deleted w = record {
-      index = count_no _ first n i _ _ p less was.index at_p w.index;
-      pages = count_no _ first n i _ _ p less was.pages at_p w.pages;
-      deleted = count_yes _ first n i _ _ p less was.deleted at_p w.deleted;
-      free = count_no _ first n i _ _ p less was.free at_p w.free;
-      erases = was.erases;
-    }
-    turn Free w = record {
-      index = count_no _ first n i _ _ p less was.index at_p w.index;
-      pages = count_no _ first n i _ _ p less was.pages at_p w.pages;
-      deleted = count_no _ first n i _ _ p less was.deleted at_p w.deleted;
-      free = count_yes _ first n i _ _ p less was.free at_p w.free;
+counting_more g image first n i block p c Index less was at_p w = record {
+  index = count_yes _ first n i _ _ p less was.index at_p w.index;
+  pages = count_no _ first n i _ _ p less was.pages at_p w.pages;
+  deleted = count_no _ first n i _ _ p less was.deleted at_p w.deleted;
+  free = count_no _ first n i _ _ p less was.free at_p w.free;
+  erases = was.erases;
+}
+counting_more g image first n i block p c Data less was at_p w = record {
+  index = count_no _ first n i _ _ p less was.index at_p w.index;
+  pages = count_yes _ first n i _ _ p less was.pages at_p w.pages;
+  deleted = count_no _ first n i _ _ p less was.deleted at_p w.deleted;
+  free = count_no _ first n i _ _ p less was.free at_p w.free;
+  erases = was.erases;
+}
+counting_more g image first n i block p c Deleted less was at_p w = record {
+  index = count_no _ first n i _ _ p less was.index at_p w.index;
+  pages = count_no _ first n i _ _ p less was.pages at_p w.pages;
+  deleted = count_yes _ first n i _ _ p less was.deleted at_p w.deleted;
+  free = count_no _ first n i _ _ p less was.free at_p w.free;
+  erases = was.erases;
+}
+
+-- free entries in a row
+pub counting_free : (g : Geometry) (image : List ℕ) (first n i j block : ℕ) (c : BlockCounts) → i ≤ j → j ≤ n → Counting g image first n i block c → ((k : ℕ) → i ≤ k → k < j → entry_of g image (first + k) ≡ 0xFFFF) →
+    Counting g image first n j block (more_free c (j - i))
+counting_free g image first n i j block c less most was ones =
+    let to : i + (j - i) ≡ j = omega arith in
+    let dead = λ (k : ℕ) (low : i ≤ k) (high : k < j). free_is_dead g image (first + k) (ones k low high) in
+    record {
+      index = skip_no (λ p. is_index_page (live_at g image p)) first n (j - i) i j _ _ to most was.index (λ k low high. rw (dead k low high) refl);
+      pages = skip_no (λ p. is_data_page (live_at g image p)) first n (j - i) i j _ _ to most was.pages (λ k low high. rw (dead k low high) refl);
+      deleted = skip_no (λ p. is_deleted_entry g image p) first n (j - i) i j _ _ to most was.deleted (λ k low high. rw (dead k low high, ones k low high) refl);
+      free = skip_yes (λ p. entry_of g image p == 0xFFFF) first n (j - i) i j _ _ to most was.free (λ k low high. rw (ones k low high) refl);
       erases = was.erases;
     }
 
@@ -132,9 +138,25 @@ counting_end g image block first n i c at_first at_n most was = record {
   erases = was.erases;
 }
 
+-- free entries in a row, and the used one behind them
+pub counting_on : (g : Geometry) (image : List ℕ) (block at i n p : ℕ) (c : BlockCounts) (s : Sort) → at ≤ i → i < entries g → IsNextSlot g image block at 0 0xFFFE i n → p ≡ block * per_block g + lookups g + i → s ≡ sort_of_page (live_at g image p) →
+    Counting g image (block * per_block g + lookups g) (entries g) at block c → Counting g image (block * per_block g + lookups g) (entries g) (i + 1) block (one_more (more_free c (i - at)) s)
+counting_on g image block at i n p c s low few found place sort was =
+    let free = counting_free g image (block * per_block g + lookups g) (entries g) at i block c low (omega (arith, few)) was (λ k from to. passed_free g image block k (omega (arith, to, few)) (found.passed k from to)) in
+    counting_more g image (block * per_block g + lookups g) (entries g) i block p (more_free c (i - at)) s few free (sym place)
+    (subst (Passes g image p) (sym sort) (used_passes g image p (live_at g image p) refl (used_entry g image block at i n p few found place)))
+
+pub counting_last : (g : Geometry) (image : List ℕ) (block at : ℕ) (c : BlockCounts) → at ≤ entries g → NextSlot g image block at 0 0xFFFE None → Counting g image (block * per_block g + lookups g) (entries g) at block c →
+    AreCounts g image block (more_free c (entries g - at))
+counting_last g image block at c low none was =
+    counting_end g image block (block * per_block g + lookups g) (entries g) (entries g) (more_free c (entries g - at)) refl refl (omega arith)
+    (counting_free g image (block * per_block g + lookups g) (entries g) at (entries g) block c low (omega arith) was (λ k from to. passed_free g image block k to (none k from to)))
+
 -- one entry more was counted
 pub total_more : (c : BlockCounts) (s : Sort) → total_of (one_more c s) ≡ total_of c + 1
 total_more c Index = omega arith
 total_more c Data = omega arith
 total_more c Deleted = omega arith
-total_more c Free = omega arith
+
+pub total_free : (c : BlockCounts) (n : ℕ) → total_of (more_free c n) ≡ total_of c + n
+total_free c n = omega arith

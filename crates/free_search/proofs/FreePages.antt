@@ -1,6 +1,6 @@
 -- Free pages of a tells image, by the counts of blocks.
 use Rattle.std.proofs.Common.{◌≡◌, ◌≢◌, ℕ, ◌+◌, ◌*◌, ◌<◌, ◌≤◌, ⊎_elim, List, [], ◌∷◌, Bool, true, false, not, ◌==◌, ◌&&◌, length, refl, sym, ◌∙◌, arith, nat_lt}
-use Rattle.std.specs.Prelude.{filter, find, Option, Some, None}
+use Rattle.std.specs.Prelude.{filter, Option, Some, None}
 use Rattle.std.specs.List.{range_with_len, list_any, list_all}
 use Rattle.std.proofs.lemmas.Bool.{eqb-true, ne_eqb, lt-ltb, ltb-true, ltb-false, and_parts, cases_Bool, cases_eq, false_from_ne_true}
 use Rattle.std.proofs.lemmas.List.FromFn.{length-range_with_len}
@@ -13,13 +13,12 @@ use Rattle.image_model.specs.Kinds.{is_index_page, is_data_page, is_index_block,
 use Rattle.image_model.specs.Collect.{count_in, index_in, data_in, free_in, takes_index, takes_data}
 use Rattle.image_model.specs.Within.{entry_in, sizes}
 use Rattle.image_laws.proofs.FreeBlocks.{all-at, filter-same}
-use Rattle.image_laws.proofs.Judge.{find-range}
 use Rattle.room_laws.specs.Sorts.{TellsFree}
 use Rattle.flash_view.specs.declared.kinds.Kind.{Kind}
 use Rattle.flash_view.specs.declared.kinds.Kind.TheVariants.{Index, Data}
 use Rattle.free_search.specs.declared.blocks.BlockCounts.{BlockCounts}
 use Rattle.free_search.specs.Counts.{AreCounts, the_takes}
-use Rattle.free_search.specs.Free.{is_open_for, takes_kind, holds_other, the_first_free}
+use Rattle.free_search.specs.Free.{is_open_for, takes_kind, holds_other}
 use Rattle.free_search.proofs.Counting.{free_is_dead}
 
 -- ---- tests over lists, and how many pass them
@@ -72,14 +71,7 @@ free_or : (g : Geometry) (image : List ℕ) (p : ℕ) → TellsFree g image → 
 free_or g image p tells page true e = sym (tells.free p page (eqb-true _ 0xFFFF e))
 free_or g image p tells page false e = rw e refl
 
--- so the first of these is the first free one
-pub first_told : (g : Geometry) (image : List ℕ) (block : ℕ) → TellsFree g image → block < g.blocks → find (λ p. entry_of g image p == 0xFFFF) (range_with_len (block * per_block g + lookups g) (entries g)) ≡ the_first_free g image block
-unfolding the_first_free
-first_told g image block tells below =
-    find-range (λ p. is_free_entry g image p) (λ p. entry_of g image p == 0xFFFF) (block * per_block g + lookups g) (entries g)
-    (λ q low high. free_or g image q tells (entry_in g block q below low high).1 (entry_of g image q == 0xFFFF) refl)
-
--- and these are counted alike
+-- so these are counted alike
 pub free_counted : (g : Geometry) (image : List ℕ) (block : ℕ) → TellsFree g image → block < g.blocks → count_in g block (λ p. entry_of g image p == 0xFFFF) ≡ free_in g image block
 unfolding free_in
 free_counted g image block tells below =

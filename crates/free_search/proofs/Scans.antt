@@ -1,5 +1,5 @@
 -- Scans over numbers in a row: what those from a loop's counter on still bring.
-use Rattle.std.proofs.Common.{◌≡◌, ℕ, suc, ◌+◌, ◌-◌, ◌<◌, ◌≤◌, List, [], ◌∷◌, Bool, true, false, length, refl, sym, ◌∙◌, ap, arith, add-zero}
+use Rattle.std.proofs.Common.{◌≡◌, ℕ, zero, suc, ◌+◌, ◌-◌, ◌<◌, ◌≤◌, List, [], ◌∷◌, Bool, true, false, length, refl, sym, ◌∙◌, ap, subst, arith, add-zero}
 use Rattle.std.specs.Prelude.{filter, find, Option, Some, None}
 use Rattle.std.specs.List.{range_with_len}
 use Rattle.std.proofs.Math.Nat.{sub-zero}
@@ -24,6 +24,23 @@ count_yes test first n i count total p h all at_p passes = let step = rw (scan_s
 pub count_no : (test : ℕ → Bool) (first n i count total p : ℕ) → i < n → count + length (filter test (range_with_len (first + i) (n - i))) ≡ total → first + i ≡ p → test p ≡ false →
     count + length (filter test (range_with_len (first + (i + 1)) (n - (i + 1)))) ≡ total
 count_no test first n i count total p h all at_p fails = rw (scan_step first n i h, at_p, fails) at all
+
+-- the same of several in a row, up to number j
+pub skip_no : (test : ℕ → Bool) (first n d i j count total : ℕ) → i + d ≡ j → j ≤ n → count + length (filter test (range_with_len (first + i) (n - i))) ≡ total → ((k : ℕ) → i ≤ k → k < j → test (first + k) ≡ false) →
+    count + length (filter test (range_with_len (first + j) (n - j))) ≡ total
+skip_no test first n zero i j count total to most all fails = let same : i ≡ j = omega (arith, to) in subst (λ (k : ℕ). count + length (filter test (range_with_len (first + k) (n - k))) ≡ total) same all
+skip_no test first n (suc d) i j count total to most all fails =
+    skip_no test first n d (i + 1) j count total (omega (arith, to)) most (count_no test first n i count total (first + i) (omega (arith, to, most)) all refl (fails i (omega arith) (omega (arith, to)))) (λ k low high. fails k (omega (arith, low)) high)
+
+pub skip_yes : (test : ℕ → Bool) (first n d i j count total : ℕ) → i + d ≡ j → j ≤ n → count + length (filter test (range_with_len (first + i) (n - i))) ≡ total → ((k : ℕ) → i ≤ k → k < j → test (first + k) ≡ true) →
+    count + d + length (filter test (range_with_len (first + j) (n - j))) ≡ total
+skip_yes test first n zero i j count total to most all passes =
+    let same : i ≡ j = omega (arith, to) in
+    let here = subst (λ (k : ℕ). count + length (filter test (range_with_len (first + k) (n - k))) ≡ total) same all in
+    omega (arith, here)
+skip_yes test first n (suc d) i j count total to most all passes =
+    let rest = skip_yes test first n d (i + 1) j (count + 1) total (omega (arith, to)) most (count_yes test first n i count total (first + i) (omega (arith, to, most)) all refl (passes i (omega arith) (omega (arith, to)))) (λ k low high. passes k (omega (arith, low)) high) in
+    omega (arith, rest)
 
 pub count_end : (test : ℕ → Bool) (first n i count total : ℕ) → n ≤ i → count + length (filter test (range_with_len (first + i) (n - i))) ≡ total → count ≡ total
 count_end test first n i count total h all = let last = rw (scan_end first n i h) at all in omega (arith, last)

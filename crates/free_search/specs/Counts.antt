@@ -5,20 +5,15 @@ use Rattle.flash_view.specs.declared.kinds.Kind.{Kind}
 use Rattle.flash_view.specs.declared.kinds.Kind.TheVariants.{Index as IndexKind, Data as DataKind}
 use Rattle.image_model.specs.Headers.{names_index}
 use Rattle.image_model.specs.Places.{entry_of, erase_count}
-use Rattle.image_model.specs.Live.{live_at}
 use Rattle.image_model.specs.Collect.{count_in, index_in, data_in, deleted_in}
 use Rattle.free_search.specs.declared.blocks.BlockCounts.{BlockCounts}
 use Rattle.free_search.specs.declared.blocks.Sort.{Sort}
-use Rattle.free_search.specs.declared.blocks.Sort.TheVariants.{Index, Data, Deleted, Free}
+use Rattle.free_search.specs.declared.blocks.Sort.TheVariants.{Index, Data, Deleted}
 
 -- what an entry that isn't free counts as, by its page where that is live
 abbrev pub sort_of_page : Option (List ℕ) → Sort
 sort_of_page None = Deleted
 sort_of_page (Some page) = if names_index page then Index else Data
-
--- what an entry counts as
-abbrev pub the_sort : Geometry → List ℕ → ℕ → Sort
-the_sort g image p = if entry_of g image p == 0xFFFF then Free else sort_of_page (live_at g image p)
 
 -- the entries that were counted
 abbrev pub total_of : BlockCounts → ℕ
@@ -29,7 +24,10 @@ abbrev pub one_more : BlockCounts → Sort → BlockCounts
 one_more c Index = record c { index_live = c.index_live + 1 }
 one_more c Data = record c { data_live = c.data_live + 1 }
 one_more c Deleted = record c { deleted = c.deleted + 1 }
-one_more c Free = record c { free = c.free + 1 }
+
+-- the counts with free entries more
+abbrev pub more_free : BlockCounts → ℕ → BlockCounts
+more_free c n = record c { free = c.free + n }
 
 -- The counts are those of the block's entries; `free` counts each entry of 0xFFFF, also over a page that isn't erased.
 pub record AreCounts (g : Geometry) (image : List ℕ) (block : ℕ) (c : BlockCounts) : Type 0 where

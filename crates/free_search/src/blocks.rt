@@ -1,15 +1,16 @@
 ghost use Rattle.std.specs.Prelude.{◌≡◌, ◌+◌, ◌<◌, ◌≤◌, OnErr, IfOk};
 ghost use Rattle.image_model.specs.Tidy.{is_free_block as the_free_block, free_blocks as the_free_blocks};
-ghost use Rattle.geometry.specs.Numbers.{entries};
+ghost use Rattle.image_model.specs.Live.{live_at};
+ghost use Rattle.image_model.specs.Places.{entry_of};
 ghost use Rattle.nor_core.specs.Count.{Rose};
 ghost use Rattle.room_laws.specs.Sorts.{TellsFree};
 ghost use Rattle.flash_view.specs.Places.{IsEntryPage};
 ghost use Rattle.flash_view.specs.Same.{OnlyLooks};
-ghost use Rattle.free_search.specs.Counts.{the_sort, total_of, one_more, AreCounts};
+ghost use Rattle.free_search.specs.Counts.{sort_of_page, total_of, one_more, more_free, AreCounts};
 
 use flash_view::{View, entry_page};
 use nor_core::{Failed, Nor, NorState};
-use page_layout::{FREE, INDEX_BIT};
+use page_layout::{DELETED, FREE, INDEX_BIT};
 
 /// How many entries of a block are of each sort.
 #[derive(Clone, Copy, Debug, PartialEq, Eq)]
@@ -26,28 +27,27 @@ pub struct BlockCounts {
     pub erases: u16,
 }
 
-/// What an entry of a block counts as.
+/// What an entry of a block that isn't free counts as.
 #[derive(Clone, Copy, Debug, PartialEq, Eq)]
 pub enum Sort {
     /// Its page is a live index page.
     Index,
     /// Its page is a live data page.
     Data,
-    /// It isn't free, and its page isn't live.
+    /// Its page isn't live.
     Deleted,
-    /// It is 0xFFFF.
-    Free,
 }
 
-#[tactic(auto, using(flash_view::proofs::Looking::looks_then))]
-fn sort_of<N: Nor>(v: &mut View<'_, N>, page: u16) -> Result<Sort, Failed>
+// What an entry counts as that isn't free. (A deleted one is that of no live page.)
+#[tactic(auto, using(flash_view::proofs::Looking::looks_then, crate::proofs::Counting::deleted_sort))]
+fn sort_of<N: Nor>(v: &mut View<'_, N>, page: u16, entry: u16) -> Result<Sort, Failed>
     requires { IsEntryPage v.old.geometry page }
     ensures cause { OnErr result (Rose (N.faults v.old.nor.now) (N.faults v.new.nor.now)) }
     ensures looks { OnlyLooks v.old v.new }
-    ensures told { N.tells v.old.nor.now → IfOk result (λ sort. sort ≡ the_sort v.old.geometry (N.bytes v.old.nor.now) page) }
+    ensures told { N.tells v.old.nor.now → entry ≡ entry_of v.old.geometry (N.bytes v.old.nor.now) page → IfOk result (λ sort. sort ≡ sort_of_page (live_at v.old.geometry (N.bytes v.old.nor.now) page)) }
 {
-    if v.entry(page)? == FREE {
-        return Ok(Sort::Free);
+    if entry == DELETED {
+        return Ok(Sort::Deleted);
     }
     Ok(match v.live_header(page)? {
         Some(head) if head.id >= INDEX_BIT => Sort::Index,
@@ -74,14 +74,22 @@ fn with_one(counts: BlockCounts, sort: Sort) -> BlockCounts
             deleted: counts.deleted + 1,
             ..counts
         },
-        Sort::Free => BlockCounts {
-            free: counts.free + 1,
-            ..counts
-        },
+    }
+}
+
+// The counts with so many free entries more.
+fn with_free(counts: BlockCounts, more: u32) -> BlockCounts
+    requires { total_of counts + more ≤ 65535 }
+    ensures { result ≡ more_free counts more }
+{
+    BlockCounts {
+        free: counts.free + more as u16,
+        ..counts
     }
 }
 
 /// The counts of a block's entries, and its erase count.
+#[tactic(auto, using(flash_view::proofs::Looking::looks_then))]
 pub fn counts<N: Nor>(v: &mut View<'_, N>, block: u16) -> Result<BlockCounts, Failed>
     requires { block < v.old.geometry.blocks }
     ensures cause { OnErr result (Rose (N.faults v.old.nor.now) (N.faults v.new.nor.now)) }
@@ -96,11 +104,13 @@ pub fn counts<N: Nor>(v: &mut View<'_, N>, block: u16) -> Result<BlockCounts, Fa
         free: 0,
         erases: v.erase_count(block)?,
     };
-    for i in 0..g.entries() {
-        let sort = sort_of(v, entry_page(&g, block, i))?;
-        counts = with_one(counts, sort);
+    let mut at = 0;
+    'used: while let Some((i, entry)) = v.find_slot(block, at, 0, FREE - 1)? {
+        let sort = sort_of(v, entry_page(&g, block, i), entry)?;
+        counts = with_one(with_free(counts, i - at), sort);
+        at = i + 1;
     }
-    Ok(counts)
+    Ok(with_free(counts, g.entries() - at))
 }
 
 /// Whether a block is free: it has its magic, and all its entries are free. Its lookup pages alone are read, and right where

@@ -29,7 +29,7 @@ fn takes(counts: &BlockCounts, kind: Kind, entries: u32) -> bool
     }
 }
 
-// The first free entry of a block.
+// The first free entry of a block. (It is read once more, so that it is known to be two bytes.)
 #[tactic(auto, using(flash_view::proofs::Looking::looks_then))]
 fn first_free<N: Nor>(v: &mut View<'_, N>, block: u16) -> Result<Option<u16>, Failed>
     requires { block < v.old.geometry.blocks }
@@ -39,14 +39,12 @@ fn first_free<N: Nor>(v: &mut View<'_, N>, block: u16) -> Result<Option<u16>, Fa
     ensures word { N.tells v.old.nor.now → IfOk result (λ found. IfSome found (λ p. IsWordAt (N.bytes v.old.nor.now) (entry_at v.old.geometry p))) }
     ensures told { N.tells v.old.nor.now → TellsFree v.old.geometry (N.bytes v.old.nor.now) → IfOk result (λ found. found ≡ the_first_free v.old.geometry (N.bytes v.old.nor.now) block) }
 {
-    let g = v.geometry;
-    for i in 0..g.entries() {
-        let page = entry_page(&g, block, i);
-        if v.entry(page)? == FREE {
-            return Ok(Some(page));
-        }
-    }
-    Ok(None)
+    let Some((i, _)) = v.find_slot(block, 0, FREE, FREE)? else {
+        return Ok(None);
+    };
+    let page = entry_page(&v.geometry, block, i);
+    v.entry(page)?;
+    Ok(Some(page))
 }
 
 // Whether a block in use takes a page of that kind.
