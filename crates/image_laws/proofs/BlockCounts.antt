@@ -10,10 +10,10 @@ use Rattle.image_model.specs.Within.{sizes}
 use Rattle.geometry.specs.Numbers.{page_count, per_block, lookups, entries, ceil}
 use Rattle.image_model.specs.Within.{Sizes}
 use Rattle.image_model.specs.Live.{live_at}
-use Rattle.image_model.specs.Places.{block_of, entry_of, IsImage}
+use Rattle.image_model.specs.Places.{block_of, IsImage}
 use Rattle.image_model.specs.Headers.{names_index}
 use Rattle.image_model.specs.Tables.{table_of}
-use Rattle.image_model.specs.Tidy.{IsTidy, is_free_block, is_free_entry, free_blocks}
+use Rattle.image_model.specs.Tidy.{IsTidy, is_free_block, free_blocks}
 use Rattle.table_model.specs.Room.{index_count}
 use Rattle.image_model.specs.Kinds.{is_index_page, is_data_page, live_index, live_data, is_data_block, is_other_block, data_blocks, other_blocks}
 use Rattle.image_laws.specs.BlockCounts.{BlocksSplit, IndexInOthers, ReserveRoom}
@@ -25,7 +25,7 @@ use Rattle.image_laws.proofs.FreeBlocks.{used-is_not_free}
 use Rattle.image_model.specs.Within.{entry_in, entry_of_block}
 use Rattle.image_laws.proofs.Matching.{filter-none_in, count_one, count_by_key}
 use Rattle.image_laws.proofs.Serving.{some_of, some_of_data}
-use Rattle.image_laws.proofs.Tally.{is_finished-ones, tidy-counts}
+use Rattle.image_laws.proofs.Tally.{tidy-counts}
 
 -- those that pass lie in a window
 count_window : (t : ℕ → Bool) (lo w a n : ℕ) → ((q : ℕ) → a ≤ q → q < a + n → t q ≡ true → (lo ≤ q) × (q < lo + w)) → length (filter t (range_with_len a n)) ≤ lo + w - max a lo

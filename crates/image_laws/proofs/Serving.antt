@@ -4,8 +4,7 @@ use Rattle.std.specs.Prelude.{filter, is_some, is_none, unwrap_or, option_and_th
 use Rattle.std.specs.List.{range_with_len, list_any, flat_map}
 use Rattle.std.proofs.Math.Nat.{mul-le-mul_right, div-add-mod, mul-div_cancel, div-mul-le_self}
 use Rattle.std.proofs.lemmas.Nat.{le-div}
-use Rattle.std.proofs.lemmas.Bool.{cases_lt, cases_eq, and_parts, or_cases, eqb-true, eq-eqb, lt-ltb, le-ltb}
-use Rattle.std.proofs.lemmas.Option.{same_Some}
+use Rattle.std.proofs.lemmas.Bool.{cases_lt, and_parts, or_cases, eqb-true, eq-eqb, lt-ltb, le-ltb}
 use Rattle.geometry.specs.declared.geometry.Geometry.{Geometry}
 use Rattle.geometry.specs.Numbers.{page_count, head_slots, span_slots, ceil}
 use Rattle.table_model.specs.Room.{data_pages, index_pages}

@@ -1,5 +1,5 @@
 -- A free page stays free where programs change another page and its entry.
-use Rattle.std.proofs.Common.{◌≡◌, ◌≢◌, ℕ, ◌+◌, ◌-◌, ◌*◌, ◌/◌, ◌%◌, ◌<◌, ◌≤◌, ◌⊎◌, List, [], ◌∷◌, length, take, drop, slice_index, true, false, ◌==◌, Some, ap, refl, sym, ◌∙◌, arith, ⊎_elim, inl, inr, subst, length-drop, length-take}
+use Rattle.std.proofs.Common.{◌≡◌, ◌≢◌, ℕ, ◌+◌, ◌-◌, ◌*◌, ◌/◌, ◌<◌, ◌≤◌, ◌⊎◌, List, length, take, drop, slice_index, true, false, ◌==◌, Some, ap, refl, sym, ◌∙◌, arith, ⊎_elim, inl, inr, subst, length-drop, length-take}
 use Rattle.std.proofs.Math.Nat.{mul-le-mul_right}
 use Rattle.std.specs.Int.{bit_at}
 use Rattle.std.proofs.lemmas.Bool.{cases_lt, cases_eq, and_parts, ne_eqb, false≢true, false_from_ne_true}

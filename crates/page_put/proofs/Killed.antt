@@ -5,11 +5,9 @@ use Rattle.std.specs.Int.{bit_at}
 use Rattle.geometry.specs.declared.geometry.Geometry.{Geometry}
 use Rattle.nor_core.specs.Flash.{HalfProgrammed}
 use Rattle.image_model.specs.Within.{sizes}
-use Rattle.geometry.specs.Numbers.{per_block, lookups}
 use Rattle.image_model.specs.Places.{page_of, IsImage, entry_at}
 use Rattle.image_model.specs.Headers.{is_finished}
 use Rattle.image_model.specs.Live.{live_at}
-use Rattle.image_laws.specs.Flash.{Programmed}
 use Rattle.image_laws.specs.Kills.{Deletes}
 use Rattle.image_laws.specs.Programs.{ClearsBit}
 use Rattle.image_laws.specs.LiveSteps.{Kills, KillCut, KillDone}

@@ -7,7 +7,6 @@ use Rattle.nor_core.specs.Flash.{HalfProgrammed, programmed}
 use Rattle.nor_core.specs.declared.state.NorState.{Ghosts as NorOf}
 use Rattle.nor_core.specs.Device.{Changes}
 use Rattle.nor_core.proofs.Cuts.{wider, go_on}
-use Rattle.geometry.specs.Numbers.{per_block, lookups}
 use Rattle.image_model.specs.Places.{entry_at}
 use Rattle.flash_view.specs.declared.kinds.Kind.{Kind}
 use Rattle.flash_view.specs.Places.{page_start}

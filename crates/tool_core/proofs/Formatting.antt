@@ -5,7 +5,7 @@ use Rattle.std.proofs.lemmas.Bool.{le-leb, lt-ltb, cases_lt}
 use Rattle.geometry.proofs.Bounds.{entry_left}
 use Rattle.geometry.specs.declared.geometry.Geometry.{Geometry}
 use Rattle.geometry.specs.declared.error.GeoErr.TheVariants.{TooManyUsable, TooFewToWrite}
-use Rattle.geometry.specs.Numbers.{usable, entries, ceil, write_refusal}
+use Rattle.geometry.specs.Numbers.{usable, entries, write_refusal}
 use Rattle.nor_core.specs.declared.state.NorState.{Ghosts as NorOf}
 use Rattle.nor_core.specs.Device.{Changes}
 use Rattle.table_model.specs.Table.{File}

@@ -1,4 +1,4 @@
-use Rattle.std.proofs.Common.{◌≡◌, ◌-◌, arith}
+use Rattle.std.proofs.Common.{◌-◌, arith}
 use Rattle.geometry.specs.Numbers.{per_block, lookups, entries}
 use Rattle.geometry.proofs.Bounds.{some_entries}
 use Rattle.geometry.proofs.geometry.Geometry.entries.Goals as goal

@@ -1,4 +1,4 @@
-use Rattle.std.proofs.Common.{◌≡◌, ◌*◌, ◌≤◌, refl, arith}
+use Rattle.std.proofs.Common.{refl, arith}
 use Rattle.geometry.specs.Numbers.{per_block, page_count}
 use Rattle.geometry.proofs.Bounds.{few_pages}
 use Rattle.geometry.proofs.geometry.Geometry.pages.Goals as goal

@@ -1,4 +1,4 @@
-use Rattle.std.proofs.Common.{◌≡◌, ◌*◌, ◌≤◌, refl, arith}
+use Rattle.std.proofs.Common.{refl, arith}
 use Rattle.geometry.specs.Numbers.{usable, entries}
 use Rattle.geometry.proofs.Bounds.{few_usable}
 use Rattle.geometry.proofs.geometry.Geometry.usable.Goals as goal
