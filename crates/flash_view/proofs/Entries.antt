@@ -5,7 +5,7 @@ use Rattle.std.proofs.lemmas.Bool.{and_parts, eqb-true}
 use Rattle.geometry.specs.declared.geometry.Geometry.{Geometry}
 use Rattle.image_model.specs.Headers.{obj_id, span_of, names_index, is_finished}
 use Rattle.image_model.specs.Places.{page_of, entry_of, has_magic, block_of, is_entry_page}
-use Rattle.image_model.specs.Live.{live_at, is_live, own}
+use Rattle.image_model.specs.Live.{live_at, is_live}
 use Rattle.image_model.specs.Files.{is_index}
 use Rattle.flash_view.specs.Found.{headed}
 use Rattle.flash_view.specs.DataPages.{lookup_entry}

@@ -1,15 +1,11 @@
 -- Slots and parts of pages lie in one page.
-use Rattle.std.proofs.Common.{ℕ, ◌≡◌, ◌+◌, ◌-◌, ◌*◌, ◌/◌, ◌%◌, ◌<◌, ◌≤◌, ⊎_elim, ap, ◌∙◌, arith}
-use Rattle.std.proofs.Math.Nat.{mul-le-mul_right, div-lt_iff_lt-mul, mod-lt}
-use Rattle.std.proofs.lemmas.Nat.{mod-mul-add, div-mul-add, div-add-mod'}
+use Rattle.std.proofs.Common.{ℕ, ◌≡◌, ◌+◌, ◌*◌, ◌/◌, ◌%◌, ◌<◌, ◌≤◌, ⊎_elim, ap, ◌∙◌, arith}
+use Rattle.std.proofs.Math.Nat.{mul-le-mul_right}
+use Rattle.std.proofs.lemmas.Nat.{mod-mul-add, div-mul-add}
 use Rattle.geometry.specs.declared.geometry.Geometry.{Geometry}
-use Rattle.geometry.specs.Numbers.{per_block, page_count, lookups, slots}
+use Rattle.geometry.specs.Numbers.{page_count}
 use Rattle.page_cache.specs.Frames.{InOnePage}
 use Rattle.page_cache.proofs.Places.{lt_or_le}
-use Rattle.flash_view.specs.Places.{IsEntryPage, slot_start, magic_start, count_start}
-use Rattle.image_model.specs.Places.{block_of, place_of, entry_at}
-use Rattle.flash_view.proofs.Inside.{entry_inside}
-use Rattle.geometry.proofs.Bounds.{magic_fits, volume_pages, block_pages}
 
 -- a part of a page
 pub part_in_page : (g : Geometry) (page start n at : ℕ) → page < page_count g → 0 < n → start + n ≤ g.page → at ≡ page * g.page + start → InOnePage g at n

@@ -5,7 +5,7 @@ use Rattle.std.proofs.lemmas.Nat.{mod-mul-add}
 use Rattle.geometry.proofs.Bounds.{some_pages, some_entries, magic_fits, block_pages, block_inside, block_below}
 use Rattle.geometry.specs.declared.geometry.Geometry.{Geometry}
 use Rattle.geometry.specs.Numbers.{per_block, lookups, entries, page_count, slots}
-use Rattle.flash_view.specs.Places.{IsEntryPage, magic_start}
+use Rattle.flash_view.specs.Places.{IsEntryPage}
 use Rattle.image_model.specs.Places.{block_of, place_of, entry_at}
 
 -- the lookup pages lie in the block

@@ -1,11 +1,7 @@
 -- Words and headers within bytes that were read.
-use Rattle.std.proofs.Common.{ℕ, ◌≡◌, ◌+◌, ◌-◌, ◌*◌, ◌<◌, List, drop, slice_index, slice_range, get_or-take, get_or-drop, add-zero, arith, refl, ◌∙◌}
-use Rattle.geometry.specs.declared.geometry.Geometry.{Geometry}
-use Rattle.nor_core.specs.Flash.{word_at}
-use Rattle.image_model.specs.Places.{page_of}
+use Rattle.std.proofs.Common.{ℕ, ◌≡◌, ◌+◌, ◌-◌, ◌<◌, List, drop, slice_index, slice_range, get_or-take, get_or-drop, arith, refl, ◌∙◌}
 use Rattle.image_model.specs.Headers.{is_finished as is_finished_page}
 use Rattle.page_layout.specs.Layout.{header_at, is_finished}
-use Rattle.flash_view.specs.Places.{IsWordAt}
 
 -- a byte of a part
 pub part_byte : (a b i : ℕ) (xs : List ℕ) → a + i < b → slice_index (slice_range xs a b) i ≡ slice_index xs (a + i)

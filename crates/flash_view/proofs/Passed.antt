@@ -9,7 +9,7 @@ use Rattle.geometry.specs.declared.geometry.Geometry.{Geometry}
 use Rattle.page_layout.specs.declared.header.PageHeader.{PageHeader}
 use Rattle.page_layout.specs.Layout.{header_at, names_index, is_between}
 use Rattle.image_model.specs.Headers.{obj_id, name_of, is_finished}
-use Rattle.image_model.specs.Places.{page_of, entry_of, is_entry_page}
+use Rattle.image_model.specs.Places.{page_of, entry_of}
 use Rattle.image_model.specs.Live.{live_at, is_live, own}
 use Rattle.image_model.specs.Files.{is_index, data_of}
 use Rattle.flash_view.specs.Found.{headed, named_at, is_name}

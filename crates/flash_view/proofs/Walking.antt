@@ -1,16 +1,16 @@
 -- Entries and pages that were passed over, and those that were found.
-use Rattle.std.proofs.Common.{ℕ, ◌≡◌, ◌+◌, ◌-◌, ◌*◌, ◌/◌, ◌%◌, ◌<◌, ◌≤◌, ⊎_elim, Bool, nat_lt, ◌&&◌, true, false, List, refl, sym, subst, ◌∙◌, ap, arith, if◌then◌else◌}
-use Rattle.std.specs.Prelude.{Option, Some, None, slice_index, IfSome, min}
+use Rattle.std.proofs.Common.{ℕ, ◌≡◌, ◌+◌, ◌-◌, ◌*◌, ◌/◌, ◌%◌, ◌<◌, ◌≤◌, ⊎_elim, Bool, nat_lt, true, false, List, refl, sym, subst, ◌∙◌, ap, arith, if◌then◌else◌}
+use Rattle.std.specs.Prelude.{Some, None, slice_index, min}
 use Rattle.std.specs.Option.{option_map}
 use Rattle.std.proofs.lemmas.Bool.{lt-ltb}
 use Rattle.std.proofs.lemmas.Nat.{mod-mul-add, div-mul-add, div-add-mod'}
 use Rattle.geometry.specs.declared.geometry.Geometry.{Geometry}
 use Rattle.page_layout.specs.declared.header.PageHeader.{PageHeader}
-use Rattle.page_layout.specs.Layout.{header_at, is_between, end_of}
+use Rattle.page_layout.specs.Layout.{header_at, is_between}
 use Rattle.page_cache.proofs.Places.{lt_or_le}
 use Rattle.nor_core.specs.Flash.{word_at}
 use Rattle.geometry.specs.Numbers.{per_block, lookups, entries, page_count}
-use Rattle.image_model.specs.Places.{page_of, slot_of, entry_of, is_entry_page, block_of, place_of}
+use Rattle.image_model.specs.Places.{page_of, slot_of, entry_of, is_entry_page, block_of}
 use Rattle.image_model.specs.Live.{live_at, is_live}
 use Rattle.flash_view.specs.Walk.{IsPassedSlot, IsNextSlot, FirstSlot, IsPassed, IsNextLive}
 use Rattle.flash_view.proofs.Heads.{and_false}

@@ -1,4 +1,4 @@
-use Rattle.std.proofs.Common.{◌+◌, ◌*◌, ◌<◌, arith}
+use Rattle.std.proofs.Common.{arith}
 use Rattle.geometry.proofs.Bounds.{few_pages}
 use Rattle.flash_view.proofs.SlotHeld.{lookup_page_below}
 use Rattle.flash_view.proofs.places.lookup_page.Goals as goal

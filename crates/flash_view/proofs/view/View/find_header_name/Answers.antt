@@ -1,12 +1,12 @@
-use Rattle.std.proofs.Common.{◌≡◌, ◌+◌, ◌<◌, true, false, sym, ◌∙◌, refl, ap, ℕ, List, arith}
-use Rattle.std.specs.Prelude.{Some, None}
+use Rattle.std.proofs.Common.{◌≡◌, true, sym, ◌∙◌, ap, ℕ, List, arith}
+use Rattle.std.specs.Prelude.{None}
 use Rattle.geometry.specs.Numbers.{page_count}
 use Rattle.image_model.specs.Live.{live_at}
 use Rattle.image_model.specs.Headers.{name_of}
 use Rattle.image_model.specs.Places.{page_of}
 use Rattle.flash_view.specs.Found.{named_at, first_named, is_name}
 use Rattle.flash_view.specs.Walk.{IsNextLive, NextLive}
-use Rattle.flash_view.proofs.Looking.{looks_none, looks_then}
+use Rattle.flash_view.proofs.Looking.{looks_then}
 use Rattle.flash_view.proofs.Passed.{passed_named, found_named, found_other, found_unnamed, all_to, all_and, first_some, first_none}
 use Rattle.flash_view.proofs.view.View.find_header_name.Goals.{else-head-eq0-via-then-head-eq0+else-is_named, else-head-eq0-via-else-head-eq0}
 use Rattle.flash_view.proofs.view.View.find_header_name.Goals as goal

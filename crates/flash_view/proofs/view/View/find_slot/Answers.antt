@@ -1,4 +1,4 @@
-use Rattle.std.proofs.Common.{◌≡◌, ◌+◌, ◌-◌, ◌*◌, ◌/◌, ◌<◌, ◌≤◌, ◌∙◌, arith}
+use Rattle.std.proofs.Common.{◌+◌, ◌*◌, ◌/◌, ◌∙◌, arith}
 use Rattle.std.specs.Prelude.{None, min}
 use Rattle.geometry.specs.Numbers.{entries, per_block, lookups}
 use Rattle.flash_view.specs.Walk.{FirstSlot}

@@ -1,6 +1,6 @@
 use Rattle.std.proofs.Common.{◌≡◌, true, sym}
 use Rattle.geometry.specs.Numbers.{per_block}
-use Rattle.image_model.specs.Places.{has_magic, block_of, entry_of, page_of}
+use Rattle.image_model.specs.Places.{has_magic, block_of, page_of}
 use Rattle.page_layout.specs.Layout.{header_at}
 use Rattle.geometry.proofs.Bounds.{block_below}
 use Rattle.flash_view.proofs.Heads.{live_by, dead_by}

@@ -1,10 +1,10 @@
-use Rattle.std.proofs.Common.{◌≡◌, ◌+◌, ◌<◌, sym, ◌∙◌, refl, subst, ℕ, arith}
-use Rattle.std.specs.Prelude.{Some, None}
+use Rattle.std.proofs.Common.{sym, ◌∙◌, refl, arith}
+use Rattle.std.specs.Prelude.{None}
 use Rattle.geometry.specs.Numbers.{page_count}
 use Rattle.image_model.specs.Live.{live_at}
-use Rattle.flash_view.specs.Found.{headed, lower}
+use Rattle.flash_view.specs.Found.{headed}
 use Rattle.flash_view.specs.Walk.{IsNextLive, NextLive}
-use Rattle.flash_view.proofs.Least.{LeastBelow, least_skip, least_more, least_all}
+use Rattle.flash_view.proofs.Least.{least_skip, least_more, least_all}
 use Rattle.flash_view.proofs.Looking.{looks_none, looks_then}
 use Rattle.flash_view.proofs.Passed.{passed_head, found_head}
 use Rattle.flash_view.proofs.view.View.next_id.Goals as goal

@@ -2,10 +2,9 @@ use Rattle.std.proofs.Common.{◌≡◌, ◌+◌, ◌-◌, ◌*◌, ◌/◌, ◌
 use Rattle.std.specs.Prelude.{Some, None}
 use Rattle.std.specs.Option.{option_map}
 use Rattle.std.proofs.Math.Nat.{mod-lt, mul-le-mul_right}
-use Rattle.std.proofs.lemmas.Nat.{div-mul-add, div-add-mod'}
 use Rattle.page_layout.specs.Layout.{header_at}
 use Rattle.geometry.specs.Numbers.{page_count, per_block, lookups, entries}
-use Rattle.image_model.specs.Places.{block_of, entry_of}
+use Rattle.image_model.specs.Places.{entry_of}
 use Rattle.image_model.specs.Live.{live_at}
 use Rattle.flash_view.specs.Walk.{IsNextSlot, FirstSlot}
 use Rattle.flash_view.proofs.Looking.{looks_none, looks_then}

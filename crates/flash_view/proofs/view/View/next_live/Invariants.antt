@@ -1,5 +1,5 @@
 -- The pages from `from` on and before entry `slot` of the block were passed over.
-use Rattle.std.proofs.Common.{◌≡◌, ◌+◌, ◌-◌, ◌*◌, ◌<◌, ◌≤◌, ℕ}
+use Rattle.std.proofs.Common.{◌≡◌, ◌+◌, ◌-◌, ◌*◌, ◌≤◌}
 use Rattle.geometry.specs.Numbers.{per_block, lookups, entries}
 use Rattle.flash_view.specs.Same.{OnlyLooks}
 use Rattle.flash_view.proofs.Walking.{Walked}

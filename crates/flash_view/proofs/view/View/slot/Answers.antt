@@ -1,4 +1,4 @@
-use Rattle.std.proofs.Common.{◌≡◌, ◌+◌, ◌*◌, ◌-◌, ◌≤◌, arith}
+use Rattle.std.proofs.Common.{◌≡◌, ◌+◌, ◌*◌, ◌-◌, ◌≤◌}
 use Rattle.geometry.specs.Numbers.{per_block}
 use Rattle.image_model.specs.Places.{page_of}
 use Rattle.flash_view.proofs.SlotHeld.{in_place, slot_read, slot_small}

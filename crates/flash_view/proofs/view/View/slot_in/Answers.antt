@@ -1,4 +1,4 @@
-use Rattle.std.proofs.Common.{◌≡◌, ◌+◌, ◌*◌, ◌/◌, ◌<◌, ◌≤◌, arith}
+use Rattle.std.proofs.Common.{◌≡◌, ◌+◌, ◌*◌, ◌/◌, arith}
 use Rattle.geometry.proofs.Bounds.{few_in_block}
 use Rattle.geometry.specs.Numbers.{entries, per_block, lookups}
 use Rattle.image_model.specs.Places.{page_of}
