@@ -43,4 +43,3 @@ even_page g = ⊎_elim
         (λ (none : q < 1). let z : q ≡ 0 = omega (arith, none) in omega (arith, is, ap (λ (k : ℕ). k * page) z))
         (λ (some : 1 ≤ q). omega (arith, is, long, mul-le-mul_right page some))
         (lt_or_le q 1)
-
