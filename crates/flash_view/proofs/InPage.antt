@@ -1,5 +1,5 @@
 -- Slots and parts of pages lie in one page.
-use Rattle.std.proofs.Common.{ℕ, ◌≡◌, ◌+◌, ◌-◌, ◌*◌, ◌/◌, ◌%◌, ◌<◌, ◌≤◌, ⊎_elim, ap, ◌∙◌, arith}
+use Rattle.std.proofs.Common.{ℕ, ◌≡◌, ◌+◌, ◌*◌, ◌/◌, ◌%◌, ◌<◌, ◌≤◌, ⊎_elim, ap, ◌∙◌, arith}
 use Rattle.std.proofs.Math.Nat.{mul-le-mul_right}
 use Rattle.std.proofs.lemmas.Nat.{mod-mul-add, div-mul-add}
 use Rattle.geometry.specs.declared.geometry.Geometry.{Geometry}
@@ -43,4 +43,3 @@ even_page g = ⊎_elim
         (λ (none : q < 1). let z : q ≡ 0 = omega (arith, none) in omega (arith, is, ap (λ (k : ℕ). k * page) z))
         (λ (some : 1 ≤ q). omega (arith, is, long, mul-le-mul_right page some))
         (lt_or_le q 1)
-

@@ -3,7 +3,7 @@ use Rattle.std.proofs.Common.{ℕ, ◌≡◌, ◌+◌, ◌-◌, ◌*◌, ◌/◌
 use Rattle.std.specs.Prelude.{slice_index}
 use Rattle.std.proofs.Math.Nat.{mul-le-mul_right, mul_assoc, div-lt_iff_lt-mul, mod-lt}
 use Rattle.std.proofs.lemmas.Nat.{div-add-mod'}
-use Rattle.geometry.proofs.Bounds.{some_entries, magic_fits, block_pages}
+use Rattle.geometry.proofs.Bounds.{some_entries, block_pages}
 use Rattle.geometry.specs.declared.geometry.Geometry.{Geometry}
 use Rattle.geometry.specs.Numbers.{per_block, lookups, entries, page_count, slots}
 use Rattle.nor_core.specs.Flash.{word_at}
@@ -22,14 +22,8 @@ module _ (g : Geometry) where
   whole_page : g.page ≡ 2 * (g.page / 2)
   whole_page = omega (arith, even_page g)
 
-  pub slots_fit : 2 * entries g + 4 ≤ lookups g * g.page
-  slots_fit = omega (arith, magic_fits g)
-
   pub lookup_below : (i : ℕ) → i < slots g → 2 * i / g.page < lookups g
   lookup_below i below = (div-lt_iff_lt-mul (omega (arith, g.valid.page_least))).1 (omega (arith, below))
-
-  pub entry_below : (i : ℕ) → i < entries g → i < slots g
-  entry_below i below = omega (arith, below, slots_fit)
 
   pub lookup_page_below : (block k : ℕ) → block < g.blocks → k < lookups g → block * per_block g + k < page_count g
   unfolding page_count

@@ -52,7 +52,7 @@ impl<'b, N: Nor> View<'b, N> {
 
     /// The first entry of a block, from its entry `from` on, whose number lies between `low` and `high`, which count too,
     /// and that number. Entries are counted from 0.
-    #[tactic(auto, unfolding(geometry::specs::Numbers::entries, geometry::specs::Numbers::per_block, geometry::specs::Numbers::lookups), using(crate::proofs::SlotHeld::entry_below, crate::proofs::Looking::looks_then))]
+    #[tactic(auto, using(geometry::proofs::Bounds::magic_fits, crate::proofs::Looking::looks_then))]
     pub fn find_slot(
         &mut self,
         block: u16,

@@ -1,7 +1,6 @@
 use Rattle.std.proofs.Common.{refl, arith}
 use Rattle.std.proofs.lemmas.Grind.{common_steps}
 use Rattle.geometry.proofs.Bounds.{few_pages}
-use Rattle.geometry.specs.Numbers.{per_block, lookups}
 use Rattle.flash_view.proofs.Inside.{entry_page_is}
 use Rattle.flash_view.proofs.places.entry_page.Goals as goal
 

@@ -1,4 +1,4 @@
-use Rattle.std.proofs.Common.{◌*◌, inr, refl, arith}
+use Rattle.std.proofs.Common.{ℕ, ◌*◌, length, inl, inr, refl, arith}
 use Rattle.geometry.proofs.Bounds.{few_pages}
 use Rattle.page_cache.specs.Frames.{GoesWithErase, frame_at, page_in}
 use Rattle.page_cache.proofs.Places.{count_same, some_frames}

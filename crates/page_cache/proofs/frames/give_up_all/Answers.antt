@@ -1,6 +1,6 @@
-use Rattle.std.proofs.Common.{inl, inr, refl, arith}
+use Rattle.std.proofs.Common.{ℕ, ◌*◌, length, inl, inr, refl, arith}
 use Rattle.geometry.proofs.Bounds.{few_pages}
-use Rattle.page_cache.specs.Frames.{GivenUp, page_in}
+use Rattle.page_cache.specs.Frames.{GivenUp, frame_at, page_in}
 use Rattle.page_cache.proofs.Places.{count_same, some_frames}
 use Rattle.page_cache.proofs.Loops.{followed_none, followed_more, followed_all, followed_findable, given_steady}
 use Rattle.page_cache.proofs.frames.give_up_all.Goals as goal

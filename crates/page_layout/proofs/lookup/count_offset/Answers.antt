@@ -1,4 +1,4 @@
-use Rattle.std.proofs.Common.{arith}
+use Rattle.std.proofs.Common.{◌*◌, ◌≤◌, arith}
 use Rattle.page_layout.proofs.lookup.count_offset.Goals as goal
 
 pub overflow_mul-result : goal.overflow_mul-result

@@ -1,4 +1,4 @@
-use Rattle.std.proofs.Common.{◌≡◌, ◌+◌, true, false, sym, ◌∙◌, ap, ℕ, List, arith}
+use Rattle.std.proofs.Common.{◌≡◌, true, sym, ◌∙◌, ap, ℕ, List, arith}
 use Rattle.std.specs.Prelude.{None}
 use Rattle.geometry.specs.Numbers.{page_count}
 use Rattle.image_model.specs.Live.{live_at}
@@ -57,11 +57,12 @@ pages-preserved g c =
           let name = c.args.name.now in
           let tells_on = found.looks.reads.told (was.looks.reads.told tells) in
           let next : IsNextLive view.geometry image c.pages.at 0x8000 0xFFFE c.in-Some.page c.in-Some.head = rw (was.looks.same.geometry, was.looks.reads.bytes, c.in-Some.is) at (found.told (was.looks.reads.told tells)) in
-          let isnt : named_at (live_at view.geometry image c.in-Some.page) name ≡ None = elim c.else-head-eq0.branch
-            [ else-head-eq0-via-then-head-eq0+else-is_named w ↦
+          let isnt : named_at (live_at view.geometry image c.in-Some.page) name ≡ None = elim c.else-head-eq0.branch [
+            | else-head-eq0-via-then-head-eq0+else-is_named w ↦
                 let held : w.held.result.now ≡ page_of view.geometry image c.in-Some.page = rw (found.looks.same.geometry, was.looks.same.geometry, found.looks.reads.bytes, was.looks.reads.bytes) at (w.held.ensures.bytes tells_on) in
                 found_unnamed view.geometry image c.pages.at c.in-Some.page c.in-Some.head name next (ap (λ (l : List ℕ). is_name (name_of l) name) (sym held) ∙ sym w.is_named.ensures ∙ w.if-is_named.false)
-            | else-head-eq0-via-else-head-eq0 w ↦ found_other view.geometry image c.pages.at c.in-Some.page c.in-Some.head name next w.if-head-eq0.false ] in
+            | else-head-eq0-via-else-head-eq0 w ↦ found_other view.geometry image c.pages.at c.in-Some.page c.in-Some.head name next w.if-head-eq0.false
+          ] in
           let unnamed = λ (q : ℕ). named_at (live_at view.geometry image q) name ≡ None in
           all_and unnamed c.in-Some.page _ (omega (arith, c.from-at.ensures)) (all_to unnamed c.pages.at c.in-Some.page (was.told tells) (λ q after before. passed_named view.geometry image q name (next.passed q after before))) isnt;
     }

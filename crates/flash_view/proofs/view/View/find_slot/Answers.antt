@@ -1,6 +1,6 @@
-use Rattle.std.proofs.Common.{◌+◌, ◌-◌, ◌*◌, ◌/◌, ◌∙◌, arith}
+use Rattle.std.proofs.Common.{◌+◌, ◌*◌, ◌/◌, ◌∙◌, arith}
 use Rattle.std.specs.Prelude.{None, min}
-use Rattle.geometry.specs.Numbers.{entries, per_block, lookups}
+use Rattle.geometry.specs.Numbers.{entries}
 use Rattle.flash_view.specs.Walk.{FirstSlot}
 use Rattle.flash_view.proofs.Looking.{looks_then}
 use Rattle.flash_view.proofs.SlotHeld.{in_lookup}
@@ -8,7 +8,6 @@ use Rattle.flash_view.proofs.Walking.{slots_on}
 use Rattle.flash_view.proofs.view.View.find_slot.Goals as goal
 
 pub pages-smaller : goal.pages-smaller
-unfolding entries per_block lookups
 pages-smaller g c =
     let w = in_lookup c.args.self.now.geometry (c.page.result / 2) c.lookup_of-k.result c.pages.at (omega (arith, c.page.ensures)) c.lookup_of-k.ensures.lookup in
     omega (arith, w.high, c.pages-test.true, c.entries.ensures.count)

@@ -33,7 +33,6 @@ entry_page-page-requires-clause-entry g c =
     omega (arith, inside)
 
 pub live_by-requires-clause-block : goal.live_by-requires-clause-block
-unfolding per_block lookups
 live_by-requires-clause-block g c =
     let inside = rw (c.in-Some.is, c.walk.invariant.looks.same.geometry) at c.in_ok-i.ensures.inside in
     let place : c.entry_page-page.result ≡ c.walk.block * per_block c.args.self.now.geometry + lookups c.args.self.now.geometry + c.in-Some.i = c.entry_page-page.ensures.place in
@@ -43,7 +42,6 @@ pub returns-in-Some-2-clause-looks : goal.returns-in-Some-2-clause-looks
 returns-in-Some-2-clause-looks g c = looks_then (looks_then c.walk.invariant.looks c.in_ok-i.ensures.looks) c.in_ok-head-in-Some.ensures.looks
 
 pub returns-in-Some-2-clause-inside : goal.returns-in-Some-2-clause-inside
-unfolding per_block lookups
 returns-in-Some-2-clause-inside g c =
     let inside = rw (c.in-Some.is, c.walk.invariant.looks.same.geometry) at c.in_ok-i.ensures.inside in
     let place : c.entry_page-page.result ≡ c.walk.block * per_block c.args.self.now.geometry + lookups c.args.self.now.geometry + c.in-Some.i = c.entry_page-page.ensures.place in
@@ -77,7 +75,6 @@ walk-preserved g c =
     }
 
 pub walk-preserved-in-Some : goal.walk-preserved-in-Some
-unfolding per_block lookups
 walk-preserved-in-Some g c =
     let was = c.walk.invariant in
     let found = c.in_ok-i.ensures in
@@ -101,7 +98,6 @@ walk-preserved-in-Some g c =
     }
 
 pub returns-in-Some-2-clause-told : goal.returns-in-Some-2-clause-told
-unfolding per_block lookups
 returns-in-Some-2-clause-told g c = λ tells.
     let was = c.walk.invariant in
     let found = c.in_ok-i.ensures in

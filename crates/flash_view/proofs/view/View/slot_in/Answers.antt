@@ -1,6 +1,6 @@
 use Rattle.std.proofs.Common.{◌≡◌, ◌+◌, ◌*◌, ◌/◌, arith}
 use Rattle.geometry.proofs.Bounds.{few_in_block}
-use Rattle.geometry.specs.Numbers.{entries, per_block, lookups}
+use Rattle.geometry.specs.Numbers.{entries, per_block}
 use Rattle.image_model.specs.Places.{page_of}
 use Rattle.flash_view.proofs.SlotHeld.{in_lookup}
 use Rattle.flash_view.proofs.Walking.{found_in, none_in}
@@ -12,7 +12,6 @@ overflow_mul-start g c =
     omega (arith, w.low, c.ranges.at.fits)
 
 pub overflow_add-start : goal.overflow_add-start
-unfolding entries per_block lookups
 overflow_add-start g c =
     let w = in_lookup c.args.self.now.geometry (c.page-slots.result / 2) c.args.k c.args.at (omega (arith, c.page-slots.ensures)) c.requires.lookup in
     omega (arith, w.low, c.requires.place, c.page-slots.ensures, few_in_block c.args.self.now.geometry, c.args.self.now.geometry.valid.page_most)
@@ -21,13 +20,11 @@ pub overflow_sub-from : goal.overflow_sub-from
 overflow_sub-from g c = (in_lookup c.args.self.now.geometry (c.page-slots.result / 2) c.args.k c.args.at (omega (arith, c.page-slots.ensures)) c.requires.lookup).low
 
 pub overflow_sub-to : goal.overflow_sub-to
-unfolding entries per_block lookups
 overflow_sub-to g c =
     let w = in_lookup c.args.self.now.geometry (c.page-slots.result / 2) c.args.k c.args.at (omega (arith, c.page-slots.ensures)) c.requires.lookup in
     omega (arith, w.low, c.requires.place, c.min-end.ensures, c.entries.ensures.count)
 
 pub returns-in-Some-clause-inside : goal.returns-in-Some-clause-inside
-unfolding entries per_block lookups
 returns-in-Some-clause-inside g c =
     let w = in_lookup c.args.self.now.geometry (c.page-slots.result / 2) c.args.k c.args.at (omega (arith, c.page-slots.ensures)) c.requires.lookup in
     (omega (arith, w.low, c.in-Some.ensures.found), omega (arith, c.in-Some.ensures.found, c.min-end.ensures, c.entries.ensures.count))
@@ -43,7 +40,6 @@ returns-in-Some-clause-told g c = λ tells.
     found_in view.geometry image c.args.low c.args.high (c.page-slots.result / 2) c.args.block c.args.k c.args.at c.min-end.result c.in-Some.i c.in-Some.entry c.held.result.now half is c.held.ensures.small (omega (arith, c.min-end.ensures)) w.low c.in-Some.ensures.found c.in-Some.ensures.passed
 
 pub returns-in-None-clause-told : goal.returns-in-None-clause-told
-unfolding entries per_block lookups
 returns-in-None-clause-told g c = λ tells.
     let view = c.args.self.now in
     let image = g.N.NorState.bytes view.nor.now in
