@@ -1,8 +1,9 @@
 -- Ids without a header page, noted as bits.
-use Rattle.std.specs.Prelude.{◌≡◌, ◌≢◌, ℕ, ◌+◌, ◌*◌, ◌/◌, ◌%◌, ◌≤◌, List, drop, not, Option, Some, find, slice_index}
+use Rattle.std.specs.Prelude.{◌≡◌, ◌≢◌, ℕ, ◌+◌, ◌*◌, ◌/◌, ◌%◌, ◌≤◌, List, drop, not, ◌==◌, Option, Some, None, if◌then◌else◌, find, slice_index}
 use Rattle.std.specs.List.{range_with_len}
 use Rattle.std.specs.Int.{bit_at}
 use Rattle.geometry.specs.declared.geometry.Geometry.{Geometry}
+use Rattle.page_layout.specs.declared.header.PageHeader.{PageHeader}
 use Rattle.geometry.specs.Numbers.{per_block, usable}
 use Rattle.flash_view.specs.Found.{has_header}
 
@@ -17,6 +18,10 @@ bits_at g work = drop (4 * g.page + 4 * per_block g + 16 * g.blocks) work
 -- the least id from 1 to the number of entry pages that has no header page
 unfoldable pub unused_id : Geometry → List ℕ → Option ℕ
 unused_id g image = find (λ id. not (has_header g image id)) (range_with_len 1 (usable g))
+
+-- the id of a live index page, where it is a header page
+abbrev pub head_id : PageHeader → Option ℕ
+head_id head = if head.span == 0 then Some (head.id % 0x8000) else None
 
 -- the bits with the id of a page noted, if it is a header page and the id isn't above the most
 pub record Notes (most : ℕ) (found : Option ℕ) (old new : List ℕ) : Type 0 where

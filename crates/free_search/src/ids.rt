@@ -1,15 +1,14 @@
-ghost use Rattle.std.specs.Prelude.{◌≡◌, ◌≢◌, ◌==◌, ℕ, ◌+◌, ◌*◌, ◌/◌, ◌<◌, ◌≤◌, OnErr, OnOk, IfOk, IfSome, find, length, not, drop, Some};
+ghost use Rattle.std.specs.Prelude.{◌≡◌, ◌≢◌, ◌==◌, ℕ, ◌+◌, ◌*◌, ◌/◌, ◌<◌, ◌≤◌, OnErr, IfOk, IfSome, find, length, not, drop, Some};
 ghost use Rattle.std.specs.List.{range_with_len};
-ghost use Rattle.image_model.specs.Live.{live_at};
-ghost use Rattle.flash_view.specs.Found.{headed};
-ghost use Rattle.free_search.specs.Ids.{bit_of, bits_at, unused_id, Notes};
-ghost use Rattle.geometry.specs.Numbers.{usable, page_count, per_block};
+ghost use Rattle.free_search.specs.Ids.{bit_of, bits_at, head_id, unused_id, Notes};
+ghost use Rattle.geometry.specs.Numbers.{usable, per_block};
 ghost use Rattle.nor_core.specs.Count.{Rose};
 ghost use Rattle.flash_view.specs.Same.{OnlyLooks};
 
 use flash_view::View;
 use geometry::Geometry;
 use nor_core::{Failed, Nor, NorState};
+use page_layout::{FREE, INDEX_BIT, PageHeader};
 
 // Sets the bit of an id.
 #[tactic(auto)]
@@ -62,37 +61,45 @@ fn bits_start(g: &Geometry) -> usize
     (4 * g.page() + 4 * g.per_block() + 16 * g.blocks()) as usize
 }
 
-// Notes the id of a page, if it is a live header page.
-fn note_page<N: Nor>(v: &mut View<'_, N>, page: u16) -> Result<(), Failed>
-    requires { page < page_count v.old.geometry }
-    ensures cause { OnErr result (Rose (N.faults v.old.nor.now) (N.faults v.new.nor.now)) }
+// Notes the id of a header page, if it is one of those that are looked for.
+fn note_head<N: Nor>(v: &mut View<'_, N>, head: &PageHeader)
     ensures looks { OnlyLooks v.old v.new }
-    ensures told { N.tells v.old.nor.now → OnOk result (Notes (usable v.old.geometry) (headed (live_at v.old.geometry (N.bytes v.old.nor.now) page)) (bits_at v.old.geometry v.old.work.now) (bits_at v.old.geometry v.new.work.now)) }
+    ensures noted { Notes (usable v.old.geometry) (head_id head.now) (bits_at v.old.geometry v.old.work.now) (bits_at v.old.geometry v.new.work.now) }
 {
-    let Some(id) = v.header_id(page)? else {
-        return Ok(());
-    };
-    if u32::from(id) <= v.geometry.usable() {
+    let id = head.object();
+    if head.span == 0 && u32::from(id) <= v.geometry.usable() {
         let start = bits_start(&v.geometry);
         let work = &mut *v.work;
         note(&mut work[start..], id);
     }
-    Ok(())
+}
+
+// Clears the bits of the ids that are looked for.
+fn clear_bits<N: Nor>(v: &mut View<'_, N>)
+    ensures looks { OnlyLooks v.old v.new }
+    ensures none { (id : ℕ) → id ≤ usable v.old.geometry → bit_of (bits_at v.old.geometry v.new.work.now) id ≡ 0 }
+{
+    let start = bits_start(&v.geometry);
+    let end = start + v.geometry.usable() as usize / 8 + 1;
+    let work = &mut *v.work;
+    clear(&mut work[start..end]);
 }
 
 /// The least id from 1 to the number of entry pages that has no header page, or None where there is none.
+#[tactic(auto, using(flash_view::proofs::Looking::looks_then))]
 pub fn free_id<N: Nor>(v: &mut View<'_, N>) -> Result<Option<u16>, Failed>
     ensures cause { OnErr result (Rose (N.faults v.old.nor.now) (N.faults v.new.nor.now)) }
     ensures looks { OnlyLooks v.old v.new }
     ensures inside { IfOk result (λ found. IfSome found (λ id. (1 ≤ id) × (id ≤ usable v.old.geometry))) }
     ensures told { N.tells v.old.nor.now → IfOk result (λ found. found ≡ unused_id v.old.geometry (N.bytes v.old.nor.now)) }
 {
-    let start = bits_start(&v.geometry);
-    let work = &mut *v.work;
-    clear(&mut work[start..]);
-    for page in 0..v.geometry.pages() as u16 {
-        note_page(v, page)?;
+    clear_bits(v);
+    let mut at = 0;
+    'heads: while let Some((page, head)) = v.next_live(at, INDEX_BIT, FREE - 1)? {
+        note_head(v, &head);
+        at = u32::from(page) + 1;
     }
+    let start = bits_start(&v.geometry);
     let usable = v.geometry.usable();
     Ok(first_unnoted(&v.work[start..], usable))
 }

@@ -1,33 +1,45 @@
-use Rattle.std.proofs.Common.{◌≡◌, ◌∙◌, arith, subst}
-use Rattle.geometry.specs.Numbers.{usable, page_count, per_block}
-use Rattle.image_model.specs.Live.{live_at}
-use Rattle.flash_view.specs.Found.{headed}
+use Rattle.std.proofs.Common.{◌≡◌, ◌≤◌, ◌∙◌, ℕ, Option, None, arith, subst}
+use Rattle.geometry.specs.Numbers.{usable, page_count}
+use Rattle.page_layout.specs.declared.header.PageHeader.{PageHeader}
+use Rattle.flash_view.specs.Places.{IsEntryPage}
+use Rattle.flash_view.specs.Walk.{IsNextLive, NextLive}
 use Rattle.flash_view.proofs.Looking.{looks_then}
-use Rattle.free_search.specs.Ids.{bits_at, Notes}
-use Rattle.free_search.proofs.Bits.{Noted, noted_more, noted_all, tail_of}
+use Rattle.free_search.specs.Ids.{bits_at, head_id, Notes}
+use Rattle.free_search.proofs.Bits.{noted_none, noted_on, noted_last, noted_all, tail_of}
 use Rattle.free_search.proofs.ids.free_id.Goals as goal
 
-pub loop-page-preserved : goal.loop-page-preserved
-loop-page-preserved g c =
-    let was = c.loop-page.invariant in
-    let looked = c.in_ok-note_page.ensures in
+pub heads-init : goal.heads-init
+heads-init g c = record {
+  looks = c.clear_bits.ensures.looks;
+  most = omega arith;
+  told = λ tells. noted_none c.args.v.now.geometry (g.N.NorState.bytes c.args.v.now.nor.now) _ c.clear_bits.ensures.none;
+}
+
+pub heads-preserved : goal.heads-preserved
+heads-preserved g c =
+    let was = c.heads.invariant in
+    let found = c.in_ok-page.ensures in
+    let noted = c.note_head.ensures in
+    let geometry = c.args.v.now.geometry in
+    let image = g.N.NorState.bytes c.args.v.now.nor.now in
+    let inside : (c.heads.at ≤ c.in-Some.page) × IsEntryPage geometry c.in-Some.page = rw (was.looks.same.geometry, c.in-Some.is) at found.inside in
+    let two = looks_then was.looks found.looks in
     record {
-      looks = looks_then was.looks looked.looks;
-      end = was.end;
+      looks = looks_then two noted.looks;
+      most = omega (arith, inside.1.below, c.from-at.ensures);
       told = λ tells.
-          let geometry = c.args.v.now.geometry in
-          let image = g.N.NorState.bytes c.args.v.now.nor.now in
-          let turn : Notes (usable geometry) (headed (live_at geometry image c.loop-page.page)) (bits_at geometry c.loop-page.v.work.now) (bits_at geometry c.note_page.new.v.work.now) =
-          rw (was.looks.same.geometry, was.looks.reads.bytes) at (looked.told (was.looks.reads.told tells)) in
-          noted_more geometry image _ _ c.loop-page.page (was.told tells) turn;
+          let next : IsNextLive geometry image c.heads.at 0x8000 0xFFFE c.in-Some.page c.in-Some.head = rw (was.looks.same.geometry, was.looks.reads.bytes, c.in-Some.is) at (found.told (was.looks.reads.told tells)) in
+          let notes : Notes (usable geometry) (head_id c.in-Some.head) (bits_at geometry c.heads.v.work.now) (bits_at geometry c.note_head.new.v.work.now) = rw (two.same.geometry, found.work) at noted.noted in
+          rw c.from-at.ensures (noted_on geometry image _ _ c.heads.at c.in-Some.page c.in-Some.head inside.0 next (was.told tells) notes);
     }
 
 pub returns-clause-told : goal.returns-clause-told
-unfolding page_count per_block
 returns-clause-told g c = λ tells.
-    let was = c.loop-page.invariant in
+    let was = c.heads.invariant in
+    let found = c.in_ok-page.ensures in
+    let two = looks_then was.looks found.looks in
     let geometry = c.args.v.now.geometry in
     let image = g.N.NorState.bytes c.args.v.now.nor.now in
-    let end : c.loop-page.page ≡ page_count geometry = omega (arith, was.end, c.loop-page-test.false, c.loop-page.auto.page-end) in
-    let all = rw (c.usable-usable.ensures.count, was.looks.same.geometry, c.bits_start-start.ensures, tail_of) at c.first_unnoted.ensures.first in
-    all ∙ noted_all geometry image _ (subst (λ n. Noted geometry image (bits_at geometry c.loop-page.v.work.now) n) end (was.told tells))
+    let last : NextLive geometry image c.heads.at 0x8000 0xFFFE None = subst (λ (o : Option (ℕ × PageHeader)). NextLive geometry image c.heads.at 0x8000 0xFFFE o) c.in_default.is (rw (was.looks.same.geometry, was.looks.reads.bytes) at (found.told (was.looks.reads.told tells))) in
+    let all = rw (c.usable-usable.ensures.count, c.bits_start-start.ensures, two.same.geometry, found.work, tail_of) at c.first_unnoted.ensures.first in
+    all ∙ noted_all geometry image _ (noted_last geometry image _ c.heads.at was.most last (was.told tells))
