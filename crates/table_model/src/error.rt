@@ -23,7 +23,7 @@ pub struct Differ {
 }
 
 impl Differ {
-    ghost use Rattle.std.specs.Prelude.{◌≡◌};
+    ghost use Rattle.std.specs.Prelude.{◌≡◌, ◌≢◌};
 
     /// That no page was found where one was wanted: no page number, and an id and a span that no page has.
     pub fn no_page(wanted: Tag) -> Differ
@@ -31,6 +31,7 @@ impl Differ {
         ensures wanted { result.wanted ≡ wanted }
         ensures no_id { result.found.id ≡ 0xFFFF }
         ensures no_span { result.found.span ≡ 0xFFFF }
+        ensures apart { wanted.span ≢ 0xFFFF → result.wanted ≢ result.found }
     {
         Differ {
             page: 0xFFFF,

@@ -10,7 +10,7 @@ returns-in-Err g c = let seen = c.in-Err.ensures in looked seen.looks (λ e. see
 pub returns-in-Ok-None : goal.returns-in-Ok-None
 returns-in-Ok-None g c =
     let seen = c.in-Ok-None.ensures in
-    looked seen.looks (λ e. absurd (cc)) c.no_page.ensures (λ tells can. (stays _ _ _ can, absurd (has_first _ _ _ can (rw c.in-Ok-None.field-0-is at (seen.told tells)))))
+    looked seen.looks (λ e. absurd (cc)) (c.no_page.ensures.apart (λ e. absurd (cc))) (λ tells can. (stays _ _ _ can, absurd (has_first _ _ _ can (rw c.in-Ok-None.field-0-is at (seen.told tells)))))
 
 pub returns-in-Err-drop_by : goal.returns-in-Err-drop_by
 returns-in-Err-drop_by g c =

@@ -10,7 +10,7 @@ returns-in-Err g c = λ f. let seen = c.in-Err.ensures in looked seen.looks (λ 
 pub returns-in-Ok-None : goal.returns-in-Ok-None
 returns-in-Ok-None g c = λ f.
     let seen = c.in-Ok-None.ensures in
-    looked seen.looks (λ e. absurd (cc)) c.no_page.ensures (λ tells can. (at_stays _ _ _ _ _ _ can, absurd (found_one _ _ _ _ _ _ can (rw c.in-Ok-None.field-0-is at (seen.told tells (at_tells _ _ _ _ _ _ can))))))
+    looked seen.looks (λ e. absurd (cc)) (c.no_page.ensures.apart (λ e. absurd (cc))) (λ tells can. (at_stays _ _ _ _ _ _ can, absurd (found_one _ _ _ _ _ _ can (rw c.in-Ok-None.field-0-is at (seen.told tells (at_tells _ _ _ _ _ _ can))))))
 
 pub returns-in-Err-renew_at : goal.returns-in-Err-renew_at
 returns-in-Err-renew_at g c = λ f.
