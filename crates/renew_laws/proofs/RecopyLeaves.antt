@@ -41,7 +41,7 @@ module _ (g : Geometry) (a0 a4 a6 : List ℕ) (p o id h : ℕ) (old page head he
   loses : Rattle.image_laws.specs.Changes.Loses o (own (live_at g a4) id) (own (live_at g a6) id)
   loses = mine5 g a0 p o id h old page head head' f0 f start a4 done.gains a6 last.loses
 
-  within : p < Rattle.image_model.specs.Volume.page_count g
+  within : p < Rattle.geometry.specs.Numbers.page_count g
   within = page_number g p start.inside
 
   -- a copy is neither the new index page nor the old one
