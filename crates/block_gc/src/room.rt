@@ -33,7 +33,7 @@ enum Goal {
 }
 
 // Whether so many pages of each kind are had and two blocks are free.
-#[tactic(auto, using(flash_view::proofs::Looking::looks_then))]
+#[tactic(auto, using(flash_view::proofs::Looking::looks_then, room_laws::proofs::Sorted::tidy_tells_free))]
 fn is_ready<N: Nor>(v: &mut View<'_, N>, index: u32, data_pages: u32) -> Result<bool, Failed>
     ensures cause { OnErr result (Rose (N.faults v.old.nor.now) (N.faults v.new.nor.now)) }
     ensures looks { OnlyLooks v.old v.new }

@@ -40,7 +40,7 @@ pub(crate) fn refuse_known<N: Nor>(v: &mut View<'_, N>, name: &[u8]) -> Result<(
 }
 
 // Why no index page is had for a call that leaves so many more of them, or nothing.
-#[tactic(auto, using(flash_view::proofs::Looking::looks_then), unfolding(crate::specs::Refusals::page_lack))]
+#[tactic(auto, using(flash_view::proofs::Looking::looks_then, room_laws::proofs::Sorted::tidy_tells_free), unfolding(crate::specs::Refusals::page_lack))]
 fn obstacle<N: Nor>(v: &mut View<'_, N>, more: u32) -> Result<Option<FsErr>, Failed>
     requires more { more ≤ 1 }
     ensures cause { OnErr result (Rose (N.faults v.old.nor.now) (N.faults v.new.nor.now)) }

@@ -107,7 +107,7 @@ fn has_room_for<N: Nor>(v: &mut View<'_, N>, from: u32, to: u32) -> Result<bool,
 }
 
 // Why the pages are not had for a file of a size in bytes that gets another one, or nothing.
-#[tactic(auto, using(flash_view::proofs::Looking::looks_then), unfolding(table_model::specs::Outcome::page_refusal))]
+#[tactic(auto, using(flash_view::proofs::Looking::looks_then, room_laws::proofs::Sorted::tidy_tells_free), unfolding(table_model::specs::Outcome::page_refusal))]
 fn obstacle_for<N: Nor>(v: &mut View<'_, N>, from: u32, to: u64) -> Result<Option<FsErr>, Failed>
     ensures cause { OnErr result (Rose (N.faults v.old.nor.now) (N.faults v.new.nor.now)) }
     ensures looks { OnlyLooks v.old v.new }

@@ -5,6 +5,7 @@ use Rattle.table_model.specs.Room.{has_room}
 use Rattle.table_model.specs.Outcome.{page_refusal}
 use Rattle.image_model.specs.Tables.{table_of}
 use Rattle.image_model.specs.Tidy.{free_blocks, has_spare}
+use Rattle.room_laws.proofs.Sorted.{tidy_tells_free}
 use Rattle.file_calls.proofs.Resizing.{no_room}
 use Rattle.file_calls.proofs.room.obstacle_for.Goals.{then-to-ge4294967295-via-then-to-ge4294967295, then-to-ge4294967295-via-else-to-ge4294967295+in_ok-has_room_for+then-not-branch}
 use Rattle.file_calls.proofs.room.obstacle_for.Goals as goal
@@ -15,7 +16,7 @@ returns-then-to-ge4294967295-clause-told g c = λ tells tidy f new is.
     let view = c.args.v.now in
     let image = g.N.NorState.bytes view.nor.now in
     let looks = c.in_ok-free_blocks.ensures.looks in
-    let two : has_spare view.geometry image ≡ true = le-leb 2 (free_blocks view.geometry image) (rw (c.in_ok-free_blocks.ensures.told tells) at c.if-branch-lt2.false) in
+    let two : has_spare view.geometry image ≡ true = le-leb 2 (free_blocks view.geometry image) (rw (c.in_ok-free_blocks.ensures.told tells (tidy_tells_free view.geometry image tidy)) at c.if-branch-lt2.false) in
     let none : has_room view.geometry (put_file new (table_of view.geometry image)) ≡ false = elim c.then-to-ge4294967295.branch [
       | then-to-ge4294967295-via-then-to-ge4294967295 w ↦ no_room view.geometry (table_of view.geometry image) new (omega (arith, is.now, w.if-to-ge4294967295.true))
       | then-to-ge4294967295-via-else-to-ge4294967295+in_ok-has_room_for+then-not-branch w ↦

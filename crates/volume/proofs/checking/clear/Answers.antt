@@ -1,5 +1,6 @@
 use Rattle.std.proofs.Common.{◌≡◌, refl, rules, Ok, Err}
 use Rattle.vol_check.specs.declared.report.CheckErr.TheVariants.{DeviceFault}
+use Rattle.room_laws.proofs.Sorted.{tidy_tells_free}
 use Rattle.flash_view.specs.Steps.{Stepped}
 use Rattle.flash_view.proofs.Stepped.{looked, passes, stepped_then}
 use Rattle.volume.specs.Checking.{check_stopped}
@@ -21,6 +22,6 @@ returns-in-Err g c =
 pub returns-in-Ok : goal.returns-in-Ok
 returns-in-Ok g c =
     let seen = c.in-Ok.ensures in
-    let look : Stepped check_stopped c.sweep.new.v c.free_blocks.new.v (Ok c.in-Ok.free) counting = looked seen.looks (λ e. absurd (cc)) tt (λ tells tidy. (refl, (refl, seen.told tells))) in
+    let look : Stepped check_stopped c.sweep.new.v c.free_blocks.new.v (Ok c.in-Ok.free) counting = looked seen.looks (λ e. absurd (cc)) tt (λ tells tidy. (refl, (refl, seen.told tells (tidy_tells_free _ _ tidy)))) in
     stepped_then c.in_ok-sweep.ensures look (λ tells tidy. record { needs = tidy; cut = λ c cut. cut })
     (λ tells tidy swept. record { needs = swept.tidy; cut = λ c cut. counted_keeps _ _ _ c (tidy_keeps _ _ _ swept) cut; done = λ c free w. cleared_counted _ _ _ c free swept w })
