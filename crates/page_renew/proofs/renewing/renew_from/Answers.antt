@@ -1,4 +1,4 @@
-use Rattle.std.proofs.Common.{refl}
+use Rattle.std.proofs.Common.{refl, arith}
 use Rattle.flash_view.proofs.Stepped.{looked, after_look, fault_as, done_as, view_image}
 use Rattle.page_renew.specs.Renewals.{renewing_at}
 use Rattle.page_renew.proofs.HeaderRenewed.{at_stays, at_tells, found_one, by_place}
@@ -10,7 +10,7 @@ returns-in-Err g c = λ f. let seen = c.in-Err.ensures in looked seen.looks (λ 
 pub returns-in-Ok-None : goal.returns-in-Ok-None
 returns-in-Ok-None g c = λ f.
     let seen = c.in-Ok-None.ensures in
-    looked seen.looks (λ e. absurd (cc)) (c.no_page.ensures.apart (λ e. absurd (cc))) (λ tells can. (at_stays _ _ _ _ _ _ can, absurd (found_one _ _ _ _ _ _ can (rw c.in-Ok-None.field-0-is at (seen.told tells (at_tells _ _ _ _ _ _ can))))))
+    looked seen.looks (λ e. absurd (cc)) (c.no_page.ensures.apart (λ e. absurd (omega (arith, e)))) (λ tells can. (at_stays _ _ _ _ _ _ can, absurd (found_one _ _ _ _ _ _ can (rw c.in-Ok-None.field-0-is at (seen.told tells (at_tells _ _ _ _ _ _ can))))))
 
 pub returns-in-Err-renew_at : goal.returns-in-Err-renew_at
 returns-in-Err-renew_at g c = λ f.
