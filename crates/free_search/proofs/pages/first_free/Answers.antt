@@ -1,4 +1,4 @@
-use Rattle.std.proofs.Common.{◌≡◌, ◌<◌, ◌≤◌, Option, ℕ, None, subst}
+use Rattle.std.proofs.Common.{◌<◌, ◌≤◌, Option, ℕ, subst}
 use Rattle.geometry.specs.Numbers.{entries}
 use Rattle.flash_view.specs.Walk.{IsNextSlot, NextSlot}
 use Rattle.flash_view.proofs.Heads.{entry_page_told}
