@@ -122,12 +122,12 @@ passed_head g image q passed = by_page (live_at g image q) refl
         let some : obj_id page ≢ 0xFFFF = λ ones. let no : false ≡ true = sym (is_finished-ones page ones) ∙ w.finished in absurd (cc) in
         let word = passed.word w.entry_page in
         let low : obj_id page < 0x8000 = ⊎_elim
-            (λ (few : obj_id page < 0x8000). few)
-            (λ (more : 0x8000 ≤ obj_id page).
-            let between : is_between 0x8000 0xFFFE (entry_of g image q) ≡ true = rw w.entry (rw (le-leb 0x8000 (obj_id page) more, le-leb (obj_id page) 0xFFFE (omega (arith, some, word, w.entry))) refl) in
-            let no : is_between 0x8000 0xFFFE (entry_of g image q) ≡ false = passed.none (seen_live g image q (header_at page) (rw e refl)).0 in
-            absurd (cc))
-            (cases_lt (obj_id page) 0x8000) in
+        (λ (few : obj_id page < 0x8000). few)
+        (λ (more : 0x8000 ≤ obj_id page).
+        let between : is_between 0x8000 0xFFFE (entry_of g image q) ≡ true = rw w.entry (rw (le-leb 0x8000 (obj_id page) more, le-leb (obj_id page) 0xFFFE (omega (arith, some, word, w.entry))) refl) in
+        let no : is_between 0x8000 0xFFFE (entry_of g image q) ≡ false = passed.none (seen_live g image q (header_at page) (rw e refl)).0 in
+        absurd (cc))
+        (cases_lt (obj_id page) 0x8000) in
         rw (lt-ltb (obj_id page) 0x8000 low) refl
 
 -- the next one is that of its header

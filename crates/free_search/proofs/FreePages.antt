@@ -1,25 +1,29 @@
 -- Free pages of a tells image, by the counts of blocks.
-use Rattle.std.proofs.Common.{◌≡◌, ℕ, ◌+◌, ◌*◌, ◌<◌, ◌≤◌, ⊎_elim, List, [], ◌∷◌, Bool, true, false, not, ◌==◌, ◌&&◌, length, refl, sym, ◌∙◌, arith, nat_lt}
-use Rattle.std.specs.Prelude.{filter, Option, None}
+use Rattle.std.proofs.Common.{◌≡◌, ◌≢◌, ℕ, ◌+◌, ◌*◌, ◌<◌, ◌≤◌, ⊎_elim, List, [], ◌∷◌, Bool, true, false, not, ◌==◌, ◌&&◌, length, refl, sym, ◌∙◌, arith, nat_lt}
+use Rattle.std.specs.Prelude.{filter, Option, Some, None, is_some}
 use Rattle.std.specs.List.{range_with_len, list_any, list_all}
 use Rattle.std.proofs.lemmas.Bool.{eqb-true, ne_eqb, lt-ltb, ltb-true, ltb-false, and_parts, cases_Bool, cases_eq, false_from_ne_true}
 use Rattle.std.proofs.lemmas.List.FromFn.{length-range_with_len}
 use Rattle.geometry.specs.declared.geometry.Geometry.{Geometry}
 use Rattle.geometry.specs.Numbers.{per_block, lookups, entries}
-use Rattle.image_model.specs.Places.{entry_of, has_magic, is_entry_page}
+use Rattle.image_model.specs.Places.{entry_of, has_magic, block_of, is_entry_page}
 use Rattle.image_model.specs.Live.{live_at}
-use Rattle.image_model.specs.Tidy.{is_free_entry, is_free_block}
+use Rattle.image_model.specs.Tidy.{is_free_entry, is_free_block, free_blocks}
 use Rattle.image_model.specs.Kinds.{is_index_page, is_data_page, is_index_block, is_data_block}
 use Rattle.image_model.specs.Collect.{count_in, index_in, data_in, free_in, takes_index, takes_data}
 use Rattle.image_model.specs.Within.{entry_in, sizes}
 use Rattle.image_laws.proofs.FreeBlocks.{all-at, filter-same}
+use Rattle.image_laws.proofs.Matching.{filter-none_in}
 use Rattle.room_laws.specs.Sorts.{TellsFree}
 use Rattle.flash_view.specs.declared.kinds.Kind.{Kind}
 use Rattle.flash_view.specs.declared.kinds.Kind.TheVariants.{Index, Data}
 use Rattle.free_search.specs.declared.blocks.BlockCounts.{BlockCounts}
 use Rattle.free_search.specs.Counts.{AreCounts, the_takes}
 use Rattle.free_search.specs.Free.{is_open_for, takes_kind, holds_other}
+use Rattle.flash_view.specs.Walk.{NextSlot}
+use Rattle.flash_view.proofs.Heads.{and_false}
 use Rattle.free_search.proofs.Counting.{free_is_dead}
+use Rattle.free_search.proofs.Slots.{none_unused}
 
 -- ---- tests over lists, and how many pass them
 
@@ -197,6 +201,15 @@ opens g image block Data c tells below magic counts =
 -- without its magic it takes none: such an image has no such block
 pub shut : (g : Geometry) (image : List ℕ) (block : ℕ) (kind : Kind) → TellsFree g image → block < g.blocks → has_magic g image block ≡ false → false ≡ is_open_for g image kind block
 shut g image block kind tells below none = absurd (let all : has_magic g image block ≡ true = tells.magic block below in cc)
+
+-- a block without a free entry takes none either
+full : (g : Geometry) (image : List ℕ) (block : ℕ) → NextSlot g image block 0 0xFFFF 0xFFFF None → free_in g image block ≡ 0
+unfolding free_in
+full g image block none = filter-none_in (λ p. is_free_entry g image p) (block * per_block g + lookups g) (entries g) (none_unused g image block (entries g) (omega arith) none)
+
+pub shut_full : (g : Geometry) (image : List ℕ) (block : ℕ) (kind : Kind) (found : Option (ℕ × ℕ)) (none : Bool) → NextSlot g image block 0 0xFFFF 0xFFFF found → is_some found ≡ not none → none ≡ true → false ≡ is_open_for g image kind block
+shut_full g image block kind None none next is has = rw (full g image block next) (sym (and_false (takes_kind g image kind block)))
+shut_full g image block kind (Some f) none next is has = absurd (let no : true ≡ false = rw has at is in cc)
 
 -- ---- a block that takes a kind, and a free block
 

@@ -91,11 +91,13 @@ passed_used g image block i few passed =
     let no : true ≡ false = rw number at passed.none in absurd (cc)) in
     rw used refl
 
+pub none_unused : (g : Geometry) (image : List ℕ) (block most : ℕ) → most ≤ entries g → ((k : ℕ) → 0 ≤ k → k < most → IsPassedSlot g image block 0xFFFF 0xFFFF k) →
+    (q : ℕ) → block * per_block g + lookups g ≤ q → q < block * per_block g + lookups g + most → is_free_entry g image q ≡ false
+none_unused g image block most few passed = by_place (λ (q : ℕ). is_free_entry g image q ≡ false) (block * per_block g + lookups g) most (λ k before. passed_used g image block k (omega (arith, before, few)) (passed k (omega arith) before))
+
 pub first_none : (g : Geometry) (image : List ℕ) (block : ℕ) → NextSlot g image block 0 0xFFFF 0xFFFF None → None ≡ the_first_free g image block
 unfolding the_first_free
-first_none g image block none =
-    sym (find_none-in (λ p. is_free_entry g image p) (block * per_block g + lookups g) (entries g)
-    (by_place (λ (q : ℕ). is_free_entry g image q ≡ false) (block * per_block g + lookups g) (entries g) (λ k few. passed_used g image block k few (none k (omega arith) few))))
+first_none g image block none = sym (find_none-in (λ p. is_free_entry g image p) (block * per_block g + lookups g) (entries g) (none_unused g image block (entries g) (omega arith) none))
 
 pub first_some : (g : Geometry) (image : List ℕ) (block i n p : ℕ) → TellsFree g image → is_entry_page g p ≡ true → i < entries g → IsNextSlot g image block 0 0xFFFF 0xFFFF i n → p ≡ block * per_block g + lookups g + i → Some p ≡ the_first_free g image block
 unfolding the_first_free
@@ -104,4 +106,4 @@ first_some g image block i n p tells page few found place =
     let number = found_number g image block 0 0xFFFF 0xFFFF i n p few found place in
     let ones : entry_of g image p ≡ 0xFFFF = omega (arith, number, leb-true 0xFFFF n parts.0, leb-true n 0xFFFF parts.1) in
     sym (find_first (λ q. is_free_entry g image q) (block * per_block g + lookups g) (entries g) p (omega (arith, place)) (omega (arith, place, few)) (tells.free p page ones)
-    (λ q low high. by_place (λ (r : ℕ). is_free_entry g image r ≡ false) (block * per_block g + lookups g) i (λ k before. passed_used g image block k (omega (arith, before, few)) (found.passed k (omega arith) before)) q low (omega (arith, high, place))))
+    (λ q low high. none_unused g image block i (omega (arith, few)) found.passed q low (omega (arith, high, place))))

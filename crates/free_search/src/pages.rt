@@ -47,7 +47,7 @@ fn first_free<N: Nor>(v: &mut View<'_, N>, block: u16) -> Result<Option<u16>, Fa
     Ok(Some(page))
 }
 
-// Whether a block in use takes a page of that kind.
+// Whether a block in use takes a page of that kind. (Most have no free entry: their pages aren't looked at.)
 #[tactic(auto, using(flash_view::proofs::Looking::looks_then))]
 fn is_open<N: Nor>(v: &mut View<'_, N>, block: u16, kind: Kind) -> Result<bool, Failed>
     requires { block < v.old.geometry.blocks }
@@ -56,6 +56,9 @@ fn is_open<N: Nor>(v: &mut View<'_, N>, block: u16, kind: Kind) -> Result<bool, 
     ensures told { N.tells v.old.nor.now → TellsFree v.old.geometry (N.bytes v.old.nor.now) → IfOk result (λ takes_one. takes_one ≡ is_open_for v.old.geometry (N.bytes v.old.nor.now) kind block) }
 {
     if !v.has_magic(block)? {
+        return Ok(false);
+    }
+    if v.find_slot(block, 0, FREE, FREE)?.is_none() {
         return Ok(false);
     }
     let entries = v.geometry.entries();

@@ -1,5 +1,5 @@
-use Rattle.std.proofs.Common.{◌≡◌, ◌≤◌, ◌∙◌, ℕ, Option, None, arith, subst}
-use Rattle.geometry.specs.Numbers.{usable, page_count}
+use Rattle.std.proofs.Common.{◌≤◌, ◌∙◌, ℕ, Option, None, arith, subst}
+use Rattle.geometry.specs.Numbers.{usable}
 use Rattle.page_layout.specs.declared.header.PageHeader.{PageHeader}
 use Rattle.flash_view.specs.Places.{IsEntryPage}
 use Rattle.flash_view.specs.Walk.{IsNextLive, NextLive}
