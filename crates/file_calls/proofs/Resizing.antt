@@ -6,9 +6,9 @@ use Rattle.std.proofs.lemmas.Bool.{cases_Bool, cases_lt, lt-leb}
 use Rattle.std.proofs.lemmas.List.Sums.{sum_by-cons}
 use Rattle.std.proofs.lemmas.Nat.{le-div}
 use Rattle.std.proofs.Math.Nat.{div-le_of_le-mul, mul-le-mul_left, mul-le-mul_right}
-use Rattle.geometry.proofs.Bounds.{few_pages, some_entries}
+use Rattle.geometry.proofs.Bounds.{few_pages, few_entries, entry_left}
 use Rattle.geometry.specs.declared.geometry.Geometry.{Geometry}
-use Rattle.geometry.specs.Numbers.{ceil, body, head_slots, span_slots, per_block, entries}
+use Rattle.geometry.specs.Numbers.{ceil, body, head_slots, span_slots, entries, page_count}
 use Rattle.table_model.specs.Table.{File, file_of, put_file}
 use Rattle.table_model.specs.Files.{written}
 use Rattle.table_model.specs.Room.{index_pages, data_pages, index_count, data_count, has_room}
@@ -122,13 +122,13 @@ many_data g size large = let most = g.valid.page_most in let least = g.valid.pag
 
 -- so many pages take more blocks than there are
 all_blocks : (g : Geometry) (pages : ℕ) → 65535 < pages → g.blocks < ceil pages (entries g)
+unfolding page_count
 all_blocks g pages many = ⊎_elim
     (λ (more : g.blocks < ceil pages (entries g)). more)
     (λ (fits : ceil pages (entries g) ≤ g.blocks).
     let few = few_pages g in
-    let within : entries g ≤ per_block g = omega arith in
-    let some = some_entries g in
-    let enough = ceil-enough pages (entries g) (omega (arith, some)) in
+    let within = few_entries g in
+    let enough = ceil-enough pages (entries g) (entry_left g) in
     let a = mul-le-mul_right (entries g) fits in
     let b = mul-le-mul_left g.blocks within in
     absurd (omega (arith, few, many, enough, a, b)))

@@ -2,6 +2,7 @@
 use Rattle.std.proofs.Common.{◌≡◌, ◌≢◌, ℕ, ◌+◌, ◌-◌, ◌/◌, ◌%◌, ◌<◌, ◌≤◌, List, length, true, false, Some, None, ap, refl, sym, ◌∙◌, arith, subst}
 use Rattle.std.proofs.lemmas.Bool.{le-ltb}
 use Rattle.std.proofs.lemmas.Option.{none-some, same_Some}
+use Rattle.geometry.proofs.Bounds.{few_usable}
 use Rattle.geometry.specs.declared.geometry.Geometry.{Geometry}
 use Rattle.geometry.specs.Numbers.{body, head_slots, span_slots}
 use Rattle.table_model.specs.Table.{File, put_file}
@@ -26,7 +27,7 @@ use Rattle.page_renew.specs.PageSteps.{StepCut}
 use Rattle.page_renew.proofs.HeaderRenewed.{stays}
 use Rattle.file_write.specs.Appends.{CanAppend, CanAppendAt, appending_at, appending}
 use Rattle.file_write.proofs.LastPage.{page_fits}
-use Rattle.file_write.proofs.Sizes.{usable_few, whole_pages, next_page, span_has}
+use Rattle.file_write.proofs.Sizes.{whole_pages, next_page, span_has}
 
 -- what stands is what a cut may leave
 pub append_stays : (g : Geometry) (a : List ℕ) (id : ℕ) (bytes : List ℕ) (f : File) → CanAppend g a id bytes f → StepCut g (put_file (written (length f.bytes) bytes f) (table_of g a)) a a
@@ -74,7 +75,7 @@ module _ (g : Geometry) (a : List ℕ) (id h size : ℕ) (bytes : List ℕ) (f :
       let fits = page_fits g a id h size bytes f can in
       let all = next_page g size (length bytes) whole can.can.some (omega (arith, fits, whole)) in
       let same : data_pages g (length f.bytes + length bytes) ≡ data_pages g (size + length bytes) = ap (λ (n : ℕ). data_pages g (n + length bytes)) (can.long ∙ sym can.told) in
-      let few = usable_few g in
+      let few = few_usable g in
       let most = can.can.few in
       omega (arith, all, same, few, most)
 

@@ -1,16 +1,15 @@
 -- The header page of a file that is found, and how many data pages the file has.
-use Rattle.std.proofs.Common.{◌≡◌, ℕ, ◌+◌, ◌*◌, ◌<◌, ◌≤◌, List, [], ◌∷◌, length, true, false, ◌==◌, Some, None, ap, sym, ◌∙◌, arith, subst, ⊎_elim}
+use Rattle.std.proofs.Common.{◌≡◌, ℕ, ◌+◌, ◌≤◌, List, [], ◌∷◌, length, true, false, ◌==◌, Some, None, ap, sym, ◌∙◌, arith, subst, ⊎_elim}
 use Rattle.std.specs.List.{range_with_len, find, sum_by}
-use Rattle.std.proofs.Math.Nat.{mul-le-mul_right}
-use Rattle.std.proofs.lemmas.Bool.{cases_lt, cases_Bool}
+use Rattle.std.proofs.lemmas.Bool.{cases_Bool}
 use Rattle.std.proofs.lemmas.List.FromFn.{length-range_with_len}
 use Rattle.std.proofs.lemmas.List.Sums.{sum_by-cons}
 use Rattle.std.proofs.lemmas.Option.{none-some, same_Some}
+use Rattle.geometry.proofs.Bounds.{few_pages}
 use Rattle.geometry.specs.declared.geometry.Geometry.{Geometry}
-use Rattle.geometry.specs.Numbers.{page_count, per_block}
+use Rattle.geometry.specs.Numbers.{page_count}
 use Rattle.table_model.specs.Table.{File, file_of}
 use Rattle.table_model.specs.Room.{data_pages, data_count}
-use Rattle.image_model.specs.Within.{sizes}
 use Rattle.image_model.specs.Headers.{size_of}
 use Rattle.image_model.specs.Live.{live_at}
 use Rattle.image_model.specs.Kinds.{is_data_page, live_data}
@@ -27,18 +26,6 @@ use Rattle.renew_laws.proofs.PrimeBeside.{prime-starts}
 use Rattle.page_renew.specs.declared.finding.Found.{Found}
 use Rattle.page_renew.specs.Renewals.{IsHome}
 use Rattle.file_write.specs.Relinkings.{IsFileAt}
-
--- a volume has fewer pages than a word can count
-page_few : (g : Geometry) → page_count g ≤ 65535
-unfolding page_count per_block
-page_few g =
-    let whole : g.blocks * g.block ≤ 65535 * g.page = g.valid.few_bytes in
-    let product : g.blocks * g.block ≡ g.blocks * (per_block g * g.page) = ap (λ (k : ℕ). g.blocks * k) (let geo = sizes g in geo.block) in
-    let big : 128 ≤ g.page = (sizes g).page in
-    ⊎_elim
-    (λ (more : 65535 < g.blocks * per_block g). let long : 65536 * g.page ≤ g.blocks * per_block g * g.page = mul-le-mul_right g.page (omega (arith, more)) in absurd (omega (arith, long, whole, product, big)))
-    (λ (few : g.blocks * per_block g ≤ 65535). omega (arith, few))
-    (cases_lt 65535 (g.blocks * per_block g))
 
 -- a file of a table has no more data pages than all of them
 one_of : (w : File → ℕ) (id : ℕ) (files : List File) (f : File) → find (λ (x : File). x.id == id) files ≡ Some f → w f ≤ sum_by w files
@@ -66,7 +53,7 @@ module _ (g : Geometry) (a : List ℕ) (id : ℕ) (f : File) (is : IsImage g a) 
       let all : live_data g a ≡ data_count g (table_of g a) = (tidy-counts g a is tidy).1 in
       let most = few_pass (λ (p : ℕ). is_data_page (live_at g a p)) (range_with_len 0 (page_count g)) in
       let n = length-range_with_len 0 (page_count g) in
-      let few = page_few g in
+      let few = few_pages g in
       omega (arith, one, all, most, n, few)
 
   start : (h : ℕ) × (head : List ℕ) × Primed g id h head f (λ r. false) a a

@@ -2,6 +2,7 @@
 use Rattle.std.proofs.Common.{◌≡◌, ℕ, ◌+◌, ◌-◌, ◌*◌, ◌/◌, ◌%◌, ◌<◌, ◌≤◌, List, length, Bool, true, false, ◌==◌, Option, Some, None, ap, refl, sym, ◌∙◌, arith, subst}
 use Rattle.std.specs.Prelude.{nat_le, ◌&&◌, if◌then◌else◌, is_some, slice_index, slice_range}
 use Rattle.std.proofs.lemmas.Option.{none-some, cond_some, option_and_then_some}
+use Rattle.geometry.proofs.Bounds.{few_usable}
 use Rattle.geometry.specs.declared.geometry.Geometry.{Geometry}
 use Rattle.geometry.specs.Numbers.{body, head_slots, span_slots, page_count, per_block}
 use Rattle.nor_core.specs.Flash.{HalfProgrammed, SameOutside, programmed}
@@ -38,7 +39,7 @@ use Rattle.page_renew.specs.Renewals.{renewing_from}
 use Rattle.page_renew.specs.PageSteps.{StepCut}
 use Rattle.page_renew.proofs.EditsLead.{word_kept}
 use Rattle.file_write.specs.Appends.{CanAppendAt, CanFill, index_needed, filling_at, appending_at}
-use Rattle.file_write.proofs.Sizes.{usable_few, size_few, last_below}
+use Rattle.file_write.proofs.Sizes.{size_few, last_below}
 use Rattle.file_write.proofs.AppendEnds.{primed_clear, IsReady, kept, ends}
 
 -- ---- the last data page of a file
@@ -143,7 +144,7 @@ module _ (g : Geometry) (a : List ℕ) (id h size : ℕ) (bytes : List ℕ) (f :
       let last = last_data g a id h can.head f can.prime (subst (λ (n : ℕ). 0 < n % body g) can.told used) in
       let number : data_number_of g a id (size / body g) ≡ Some last.q = subst (λ (m : ℕ). data_number_of g a id (m / body g) ≡ Some last.q) (sym can.told) last.number in
       let more = ceil-mono (size_of can.head) (length f.bytes + length bytes) (body g) (omega (arith, (sizes g).page)) (omega (arith, can.long)) in
-      let span : size_of can.head / body g ≤ 0xFFFF = omega (arith, last.count, more, can.can.few, usable_few g) in
+      let span : size_of can.head / body g ≤ 0xFFFF = omega (arith, last.count, more, can.can.few, few_usable g) in
       none last.q number last.inside (subst (λ (m : ℕ). m / body g ≤ 0xFFFF) (sym can.told) span)
 
 -- ---- bytes are programmed behind its end

@@ -1,9 +1,10 @@
 -- Sizes and page counts of a file that bytes are added to.
 use Rattle.std.proofs.Common.{◌≡◌, ℕ, ◌+◌, ◌-◌, ◌*◌, ◌/◌, ◌%◌, ◌<◌, ◌≤◌, true, refl, sym, ◌∙◌, ap, arith, ⊎_elim, subst}
-use Rattle.std.proofs.Math.Nat.{div-add-mod, mul-le-mul_left, mul-le-mul_right}
+use Rattle.std.proofs.Math.Nat.{div-add-mod, mul-le-mul_right}
 use Rattle.std.proofs.lemmas.Bool.{cases_lt, lt-ltb, le-ltb}
+use Rattle.geometry.proofs.Bounds.{few_pages, few_usable}
 use Rattle.geometry.specs.declared.geometry.Geometry.{Geometry}
-use Rattle.geometry.specs.Numbers.{body, head_slots, span_slots, usable, entries, ceil, page_count, per_block}
+use Rattle.geometry.specs.Numbers.{body, head_slots, span_slots, usable, ceil}
 use Rattle.table_model.specs.Room.{data_pages, index_pages}
 use Rattle.image_model.specs.Places.{is_entry_page}
 use Rattle.image_model.specs.Files.{further}
@@ -11,24 +12,9 @@ use Rattle.image_model.specs.Within.{sizes, page_number}
 use Rattle.renew_laws.proofs.Appended.{pages_of}
 use Rattle.room_laws.proofs.Totals.{ceil-is}
 
--- a volume has fewer pages than a word can count
-pub pages_few : (g : Geometry) → g.blocks * per_block g ≤ 65535
-unfolding per_block
-pages_few g =
-    let whole : g.blocks * g.block ≤ 65535 * g.page = g.valid.few_bytes in
-    let product : g.blocks * g.block ≡ g.blocks * (per_block g * g.page) = ap (λ (k : ℕ). g.blocks * k) (let geo = sizes g in geo.block) in
-    let big : 128 ≤ g.page = (sizes g).page in
-    ⊎_elim
-    (λ (more : 65535 < g.blocks * per_block g). let long : 65536 * g.page ≤ g.blocks * per_block g * g.page = mul-le-mul_right g.page (omega (arith, more)) in absurd (omega (arith, long, whole, product, big)))
-    (λ (few : g.blocks * per_block g ≤ 65535). few)
-    (cases_lt 65535 (g.blocks * per_block g))
-
+-- the number of a page is a word
 pub page_few : (g : Geometry) (p : ℕ) → is_entry_page g p ≡ true → p < 65536
-unfolding page_count per_block
-page_few g p page = let low = page_number g p page in omega (arith, low, pages_few g)
-
-pub usable_few : (g : Geometry) → usable g ≤ 65535
-usable_few g = let step : g.blocks * entries g ≤ g.blocks * per_block g = mul-le-mul_left g.blocks (omega arith) in omega (arith, step, pages_few g)
+page_few g p page = omega (arith, page_number g p page, few_pages g)
 
 -- so many data pages hold the bytes
 bytes_fit : (m b : ℕ) → 0 < b → m ≤ ceil m b * b
@@ -41,7 +27,7 @@ bytes_fit m b pos =
 pub size_few : (g : Geometry) (m : ℕ) → data_pages g m ≤ usable g → m < 0xFFFFFFFF
 size_few g m few =
     let fit = bytes_fit m (body g) (omega (arith, (sizes g).page)) in
-    let all : data_pages g m * body g ≤ 65535 * body g = mul-le-mul_right (body g) (omega (arith, few, usable_few g)) in
+    let all : data_pages g m * body g ≤ 65535 * body g = mul-le-mul_right (body g) (omega (arith, few, few_usable g)) in
     omega (arith, fit, all, g.valid.page_most)
 
 -- the span in which a file ends is one of its data pages
