@@ -34,7 +34,7 @@ fn is_worth(c: &BlockCounts, all: &Room, own: &Room) -> bool
 }
 
 // How many free blocks so many pages need beside the free entries of their kind.
-#[tactic(auto, unfolding(geometry::specs::Numbers::entries, geometry::specs::Numbers::per_block, geometry::specs::Numbers::lookups))]
+#[tactic(auto, using(geometry::proofs::Bounds::entry_left))]
 pub(crate) fn blocks_for_kind(g: &Geometry, pages: u32, free: u32) -> u64
     ensures value { result ≡ ceil (pages - free) (entries g.now) }
     ensures below { result < 8589934592 }

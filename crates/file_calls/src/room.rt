@@ -79,6 +79,7 @@ pub(crate) fn page_counts<N: Nor>(v: &mut View<'_, N>) -> Result<PageCounts, Fai
 }
 
 // Whether that many index pages and data pages, and one more of each, leave two blocks free.
+#[tactic(auto, using(geometry::proofs::Bounds::entry_left))]
 fn leaves_two(g: &Geometry, index_pages: u32, data_pages: u32) -> bool
     requires index { index_pages < 2 ^ 28 }
     requires data_pages { data_pages < 2 ^ 28 }

@@ -72,7 +72,7 @@ pub(crate) fn data_count(g: &Geometry, files: &[PlainFile]) -> Result<u64, Alloc
 }
 
 // Whether a table has room.
-#[tactic(auto, unfolding(table_model::specs::Room::has_room))]
+#[tactic(auto, unfolding(table_model::specs::Room::has_room), using(geometry::proofs::Bounds::entry_left))]
 pub(crate) fn has_room(g: &Geometry, files: &[PlainFile]) -> Result<bool, AllocError>
     ensures { IfOk result (λ room. room ≡ the_room g.now (map file files.now)) }
 {

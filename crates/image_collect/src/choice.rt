@@ -36,7 +36,7 @@ pub fn is_worth(g: &Geometry, image: &[u8], block: u32) -> bool
 }
 
 // How many free blocks so many pages need beside the free entries of their kind.
-#[tactic(auto, unfolding(geometry::specs::Numbers::entries, geometry::specs::Numbers::per_block, geometry::specs::Numbers::lookups))]
+#[tactic(auto, using(geometry::proofs::Bounds::entry_left))]
 pub(crate) fn blocks_for_kind(g: &Geometry, pages: u32, free: u64) -> u64
     ensures value { result ≡ ceil (pages - free) (entries g.now) }
     ensures below { result < 2 ^ 33 }

@@ -75,6 +75,7 @@ pub(crate) fn all_pages<F: Folder>(
 }
 
 /// Whether so many pages and one more of each kind, each kind in blocks of its own, leave two blocks free.
+#[tactic(auto, using(geometry::proofs::Bounds::entry_left))]
 pub(crate) fn have_room(g: &Geometry, pages: Pages) -> bool
     requires few_index { pages.index_pages ≤ 2 ^ 97 }
     requires few_data { pages.data_pages ≤ 2 ^ 97 }

@@ -46,7 +46,7 @@ fn data_count(g: &Geometry, records: &[Record]) -> u128
 }
 
 /// How many pages of each kind the files of a table take, and whether the table has room.
-#[tactic(auto, unfolding(table_model::specs::Room::has_room))]
+#[tactic(auto, unfolding(table_model::specs::Room::has_room), using(geometry::proofs::Bounds::entry_left))]
 pub fn room_of(g: &Geometry, records: &[Record]) -> Room
     ensures index { result.index_pages ≡ the_index_count g.now (map file records.now) }
     ensures pages { result.data_pages ≡ the_data_count g.now (map file records.now) }
