@@ -1,8 +1,7 @@
 -- Bits of ids in a row of bytes.
-use Rattle.std.proofs.Common.{◌≡◌, ◌≢◌, ℕ, ◌+◌, ◌*◌, ◌/◌, ◌%◌, ◌^◌, ◌<◌, ◌≤◌, ⊎_elim, List, ◌++◌, ◌==◌, Bool, true, false, not, nat_le, length, take, drop, ◌-◌, refl, sym, ◌∙◌, ap, subst, arith, slice_index, slice_set, get_or, Option, Some, None}
+use Rattle.std.proofs.Common.{◌≡◌, ◌≢◌, ℕ, ◌+◌, ◌*◌, ◌/◌, ◌%◌, ◌^◌, ◌<◌, ◌≤◌, ⊎_elim, List, ◌++◌, ◌==◌, true, false, not, nat_le, length, take, drop, ◌-◌, refl, sym, ◌∙◌, ap, subst, arith, slice_index, slice_set, get_or, Option, Some, None}
 use Rattle.std.specs.Prelude.{bit_or, bit_and, find}
 use Rattle.std.specs.List.{range_with_len}
-use Rattle.std.specs.Option.{option_map}
 use Rattle.std.specs.Int.{w8}
 use Rattle.std.proofs.Math.Nat.{div-add-mod}
 use Rattle.std.proofs.lemmas.Bool.{cases_lt, cases_eq, eqb-true, eq-eqb, lt-ltb, le-ltb, le-leb, leb-true, and_parts}

@@ -1,8 +1,8 @@
 -- The page that the next one of a kind takes, and what is known of it.
-use Rattle.std.proofs.Common.{◌≡◌, ◌≢◌, ℕ, ◌+◌, ◌*◌, ◌<◌, ◌≤◌, ⊎_elim, inl, inr, List, Bool, true, false, ◌&&◌, nat_lt, refl, sym, ◌∙◌, arith, if◌then◌else◌}
+use Rattle.std.proofs.Common.{◌≡◌, ◌≢◌, ℕ, ◌+◌, ◌*◌, ◌<◌, inl, inr, List, Bool, true, false, nat_lt, refl, sym, arith, if◌then◌else◌}
 use Rattle.std.specs.Prelude.{Option, Some, None, Result, Ok, Err, IfOk, IfSome, option_and_then}
 use Rattle.std.specs.Option.{option_or}
-use Rattle.std.proofs.lemmas.Bool.{ltb-true, ltb-false, lt-ltb, and_parts, cases_Bool}
+use Rattle.std.proofs.lemmas.Bool.{ltb-true, ltb-false, and_parts}
 use Rattle.geometry.specs.declared.geometry.Geometry.{Geometry}
 use Rattle.nor_core.specs.declared.device.Failed.{Failed}
 use Rattle.image_model.specs.Places.{block_of, is_entry_page, entry_at}
@@ -16,7 +16,7 @@ use Rattle.image_laws.proofs.Tables.{find_passes}
 use Rattle.room_laws.specs.Sorts.{TellsFree}
 use Rattle.flash_view.specs.declared.kinds.Kind.{Kind}
 use Rattle.flash_view.specs.Places.{IsWordAt}
-use Rattle.free_search.specs.Free.{FreePage, takes_kind, is_open_for, the_open_block, the_least_worn, the_block, the_first_free, the_free_page}
+use Rattle.free_search.specs.Free.{FreePage, takes_kind, the_open_block, the_least_worn, the_block, the_first_free, the_free_page}
 use Rattle.free_search.proofs.FreePages.{used_of, not_other, no_other, free_whole, some_entries}
 use Rattle.free_search.proofs.Worn.{may_take, is_other, none_free, least_parts}
 

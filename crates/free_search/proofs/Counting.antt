@@ -2,7 +2,6 @@
 use Rattle.std.proofs.Common.{◌≡◌, ℕ, ◌+◌, ◌-◌, ◌*◌, ◌<◌, ◌≤◌, List, Bool, true, false, not, ◌==◌, length, refl, sym, ◌∙◌, arith, subst, if◌then◌else◌}
 use Rattle.std.specs.Prelude.{filter, Option, Some, None}
 use Rattle.std.specs.List.{range_with_len}
-use Rattle.std.proofs.lemmas.Bool.{eqb-true}
 use Rattle.geometry.specs.declared.geometry.Geometry.{Geometry}
 use Rattle.geometry.specs.Numbers.{per_block, lookups, entries}
 use Rattle.image_model.specs.Headers.{obj_id, names_index, is_finished}

@@ -1,14 +1,14 @@
--- Free pages of a tells image, by the counts of blocks.
-use Rattle.std.proofs.Common.{◌≡◌, ◌≢◌, ℕ, ◌+◌, ◌*◌, ◌<◌, ◌≤◌, ⊎_elim, List, [], ◌∷◌, Bool, true, false, not, ◌==◌, ◌&&◌, length, refl, sym, ◌∙◌, arith, nat_lt}
+-- Free pages of an image whose lookup pages tell them, by the counts of blocks.
+use Rattle.std.proofs.Common.{◌≡◌, ℕ, ◌+◌, ◌*◌, ◌<◌, ◌≤◌, ⊎_elim, List, [], ◌∷◌, Bool, true, false, not, ◌==◌, ◌&&◌, length, refl, sym, ◌∙◌, arith, nat_lt}
 use Rattle.std.specs.Prelude.{filter, Option, Some, None, is_some}
 use Rattle.std.specs.List.{range_with_len, list_any, list_all}
 use Rattle.std.proofs.lemmas.Bool.{eqb-true, ne_eqb, lt-ltb, ltb-true, ltb-false, and_parts, cases_Bool, cases_eq, false_from_ne_true}
 use Rattle.std.proofs.lemmas.List.FromFn.{length-range_with_len}
 use Rattle.geometry.specs.declared.geometry.Geometry.{Geometry}
 use Rattle.geometry.specs.Numbers.{per_block, lookups, entries}
-use Rattle.image_model.specs.Places.{entry_of, has_magic, block_of, is_entry_page}
+use Rattle.image_model.specs.Places.{entry_of, has_magic, is_entry_page}
 use Rattle.image_model.specs.Live.{live_at}
-use Rattle.image_model.specs.Tidy.{is_free_entry, is_free_block, free_blocks}
+use Rattle.image_model.specs.Tidy.{is_free_entry, is_free_block}
 use Rattle.image_model.specs.Kinds.{is_index_page, is_data_page, is_index_block, is_data_block}
 use Rattle.image_model.specs.Collect.{count_in, index_in, data_in, free_in, takes_index, takes_data}
 use Rattle.image_model.specs.Within.{entry_in, sizes}
@@ -65,11 +65,7 @@ module _ (t : ℕ → Bool) where
   one_fails [] h = absurd (cc)
   one_fails (x ∷ xs) h = let step = fails_step x xs (t x) refl (one_fails xs) h in omega (arith, step)
 
--- ---- entries of a tells image
-
--- the entry pages of a block
-first_of : Geometry → ℕ → ℕ
-first_of g block = block * per_block g + lookups g
+-- ---- entries of such an image
 
 free_or : (g : Geometry) (image : List ℕ) (p : ℕ) → TellsFree g image → is_entry_page g p ≡ true → (ones : Bool) → (entry_of g image p == 0xFFFF) ≡ ones → ones ≡ is_free_entry g image p
 free_or g image p tells page true e = sym (tells.free p page (eqb-true _ 0xFFFF e))

@@ -1,4 +1,4 @@
-use Rattle.std.proofs.Common.{◌≡◌, ◌<◌, nat_lt, true, false, refl, sym, ◌∙◌, arith, IfOk}
+use Rattle.std.proofs.Common.{◌≡◌, nat_lt, true, false, refl, sym, ◌∙◌, arith, IfOk}
 use Rattle.std.specs.Prelude.{Some, None}
 use Rattle.std.proofs.lemmas.Bool.{lt-ltb, le-ltb}
 use Rattle.image_model.specs.Tidy.{free_blocks}
