@@ -9,7 +9,9 @@ use Rattle.image_model.specs.Kinds.{mixed_blocks}
 use Rattle.image_model.specs.Killed.{is_used, is_killable, killed_of}
 use Rattle.image_laws.proofs.Frames.{table_of-same, damaged_of-same}
 use Rattle.image_laws.proofs.Matching.{filter-none_in}
+use Rattle.room_laws.specs.Sorts.{TellsFree}
 use Rattle.room_laws.specs.Staged.{OnlyKills, IsStaged}
+use Rattle.room_laws.proofs.Sorted.{tidy_tells_free}
 use Rattle.room_laws.proofs.Staying.{free_stays}
 use Rattle.vol_check.specs.declared.checking.Culled.{Culled}
 use Rattle.vol_check.specs.declared.report.Report.{Report}
@@ -92,7 +94,7 @@ staged_after g a b d erased made kills tidy table =
     }
 
 pub checked : (g : Geometry) (a c d : List ℕ) (report : Report) (dead pages : ℕ) → mixed_blocks g a ≡ 0 → Readies g report.erased dead a c → CullsPages g pages report.damaged c d → KeepsAll g a d →
-    report.killed ≡ dead + pages → report.free_blocks ≡ free_blocks g d → Checked g a d report
+    report.killed ≡ dead + pages → (TellsFree g d → report.free_blocks ≡ free_blocks g d) → Checked g a d report
 checked g a c d report dead pages unmixed ready culled kept killed free =
     let made = ready.made in
     let cleans = ready.cleans in
@@ -107,7 +109,7 @@ checked g a c d report dead pages unmixed ready culled kept killed free =
       erased = made.erased_is;
       killed = omega (arith, killed, made.killed, cleans.killed_more, culled.passes.count, none);
       damaged = culled.count ∙ ap length same_damage;
-      free = free;
+      free = free (tidy_tells_free g d tidy);
       free_least = kept.free;
       staged = staged_after g a ready.image d report.erased made kills tidy kept.keeps.table;
     }

@@ -3,7 +3,7 @@ use Rattle.std.proofs.Common.{◌≡◌, ℕ, zero, suc, ◌+◌, ◌-◌, ◌*�
 use Rattle.std.specs.Prelude.{is_none, is_some, option_and_then}
 use Rattle.std.proofs.lemmas.Bool.{cases_Bool, cases_lt, lt-ltb, le-ltb, eq-eqb, and_from, or_left, or_right}
 use Rattle.std.proofs.lemmas.Nat.{div-mul-add, mod-mul-add}
-use Rattle.std.proofs.Math.Nat.{div-add-mod}
+use Rattle.std.proofs.Math.Nat.{div-add-mod, mul-le-mul_right}
 use Rattle.std.proofs.lemmas.Option.{none-some, same_Some}
 use Rattle.geometry.specs.declared.geometry.Geometry.{Geometry}
 use Rattle.geometry.specs.Numbers.{head_slots, span_slots, ceil, page_count}
@@ -27,12 +27,19 @@ use Rattle.flash_view.specs.Found.{headed}
 use Rattle.flash_view.proofs.Spans.{index_known}
 use Rattle.file_find.proofs.Marking.{has_at}
 use Rattle.file_find.proofs.Heads.{header_parts}
-use Rattle.file_find.proofs.Spans.{below_ceil, ceil_enough, slots_some}
+use Rattle.file_find.proofs.Spans.{ceil_enough, slots_some}
 use Rattle.vol_check.specs.Culls.{IsSettled, is_unwanted}
 use Rattle.vol_check.specs.Needed.{AddsMarks, IsNamed, OfHead, OfFurther, OfFirst, OfFile, OfHeaded, HasFurthers, TellsUnwanted}
 use Rattle.vol_check.proofs.Resting.{headed_at, headed_counted, index_parts, quiet_at, served_parts, single_index}
 
 -- ---- where the entry of a span stands
+
+-- a number below one that is rounded up
+below_ceil : (r x k : ℕ) → 0 < x → k < (r + x - 1) / x → k * x < r
+below_ceil r x k some low =
+    let whole : x * ((r + x - 1) / x) + (r + x - 1) % x ≡ r + x - 1 = div-add-mod (r + x - 1) x in
+    let step : (k + 1) * x ≤ (r + x - 1) / x * x = mul-le-mul_right x (omega arith) in
+    omega arith
 
 -- how many further index pages a size takes
 further_count : (g : Geometry) (size k : ℕ) → k < ceil (data_pages g size - head_slots g) (span_slots g) → (k + 1 < index_pages g size) × (head_slots g + k * span_slots g < data_pages g size)
