@@ -212,6 +212,7 @@ fn mark_headed<N: Nor>(
 }
 
 // Marks the pages that the files need.
+#[tactic(auto, using(flash_view::proofs::Looking::looks_then))]
 fn mark_files<N: Nor>(v: &mut View<'_, N>, marks: &mut [u8]) -> Result<(), Failed>
     requires room { page_count v.old.geometry ≤ length marks.old }
     ensures cause { OnErr result (Rose (N.faults v.old.nor.now) (N.faults v.new.nor.now)) }

@@ -5,7 +5,7 @@ use Rattle.flash_view.specs.Walk.{NextLive}
 use Rattle.flash_view.proofs.Looking.{looks_none}
 use Rattle.flash_view.proofs.Passed.{passed_head}
 use Rattle.vol_check.specs.Works.{Worked}
-use Rattle.vol_check.proofs.Working.{look_works, read_stops, works_seen, works_end, works_stop}
+use Rattle.vol_check.proofs.Working.{look_works, works_seen, works_end, works_stop}
 use Rattle.vol_check.proofs.Passing.{from_bool_is}
 use Rattle.vol_check.proofs.Noting.{notes_none, doubling_skip}
 use Rattle.vol_check.proofs.Doubles.{facing_at, doubling_start, doubling_next, doubling_end}
@@ -17,11 +17,8 @@ use Rattle.vol_check.proofs.doubled.cull_noted.Goals.{In-Some}
 pub pages-init : goal.pages-init
 pages-init g c = record { few = omega arith; most = omega arith; work = look_works (looks_none c.args.v.now) (λ tells magics need. doubling_start _ _ _ (notes_none _ _ c.args.bits.now c.requires)) }
 
-pub returns-in_err-next_live-clause-work : goal.returns-in_err-next_live-clause-work
-returns-in_err-next_live-clause-work g c = read_stops c.pages.invariant.work c.in_err-next_live.ensures.looks c.in_err-next_live.ensures.cause c.from_residual.ensures.0 (λ tells magics need. record { needs = tt; idle = λ quiet. quiet })
-
 -- up to the index page that was found
-faces : (g : Over) (c : In-Some g) → Worked {nor = g.N.NorState} c.args.v.now c.next_live.new.v (Ok c.pages.killed) (facing_at c.in-Some.page c.in-Some.head c.pages.bits)
+faces : (g : Over) (c : In-Some g) → Worked {nor = g.N.NorState} c.args.v.now c.next_live.new.self (Ok c.pages.killed) (facing_at c.in-Some.page c.in-Some.head c.pages.bits)
 faces g c =
     let found = c.in_ok-page.ensures in
     let inside = rw c.in-Some.is at found.inside in

@@ -1,4 +1,4 @@
-use Rattle.std.proofs.Common.{◌≡◌, None, sym, ◌∙◌, arith}
+use Rattle.std.proofs.Common.{None, sym, ◌∙◌, arith}
 use Rattle.std.proofs.lemmas.Option.{none-some}
 use Rattle.flash_view.specs.Walk.{IsNextLive, NextLive}
 use Rattle.flash_view.proofs.Looking.{looks_none, looks_then}

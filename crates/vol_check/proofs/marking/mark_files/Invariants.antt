@@ -1,5 +1,5 @@
 -- The files of header pages before page `at` are marked.
-use Rattle.std.proofs.Common.{◌≡◌, ◌-◌, ◌≤◌}
+use Rattle.std.proofs.Common.{◌-◌, ◌≤◌}
 use Rattle.geometry.specs.Numbers.{page_count}
 use Rattle.flash_view.specs.Same.{OnlyLooks}
 use Rattle.vol_check.specs.Culls.{IsSettled}

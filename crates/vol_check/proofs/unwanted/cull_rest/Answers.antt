@@ -20,11 +20,11 @@ pages-init g c =
     let seen = c.in_ok-mark_wanted.ensures in
     record { few = omega arith; most = omega arith; work = look_works seen.looks (λ tells magics settled. resting_start _ _ _ settled (seen.told tells settled)) }
 
-pub returns-in_err-next_live-clause-work : goal.returns-in_err-next_live-clause-work
-returns-in_err-next_live-clause-work g c = read_stops c.pages.invariant.work c.in_err-next_live.ensures.looks c.in_err-next_live.ensures.cause c.from_residual-in_err-next_live.ensures.0 (λ tells magics settled. record { needs = settled; idle = λ quiet. quiet })
+pub returns-in_err-page-clause-work : goal.returns-in_err-page-clause-work
+returns-in_err-page-clause-work g c = read_stops c.pages.invariant.work c.in_err-page.ensures.looks c.in_err-page.ensures.cause c.from_residual-in_err-page.ensures.0 (λ tells magics settled. record { needs = settled; idle = λ quiet. quiet })
 
 -- up to the page that was found, which is live
-stands : (g : Over) (c : In-Some g) → Worked {nor = g.N.NorState} c.args.v.now c.next_live.new.v (Ok c.pages.killed) (standing_at c.in-Some.page c.pages.marks)
+stands : (g : Over) (c : In-Some g) → Worked {nor = g.N.NorState} c.args.v.now c.next_live.new.self (Ok c.pages.killed) (standing_at c.in-Some.page c.mark_wanted.new.marks)
 stands g c =
     let found = c.in_ok-page.ensures in
     let inside = rw c.in-Some.is at found.inside in
@@ -38,7 +38,7 @@ pub returns-in_err-cull_unmarked-clause-work : goal.returns-in_err-cull_unmarked
 returns-in_err-cull_unmarked-clause-work g c =
     let inside = rw (c.in-Some.is, c.pages.invariant.work.step.framed.same.geometry) at c.in_ok-page.ensures.inside in
     works_stop (stands g (goal.at.returns-in_err-cull_unmarked-clause-work g c).In-Some) c.in_err-cull_unmarked.ensures c.from_residual-in_err-cull_unmarked.ensures.0 (λ tells magics settled. record { needs = settled; idle = λ quiet. quiet })
-    (λ tells magics settled before. record { needs = (before.resting.settled, before.resting.marked c.in-Some.page (omega arith) inside.1.below, before.live); idle = λ quiet. quiet c.in-Some.page })
+    (λ tells magics settled before. record { needs = (before.resting.settled, rw c.from.ensures (before.resting.marked c.in-Some.page (omega arith) inside.1.below), before.live); idle = λ quiet. quiet c.in-Some.page })
 
 pub pages-smaller : goal.pages-smaller
 pages-smaller g c =
@@ -54,7 +54,7 @@ pages-preserved g c =
       few = omega (arith, inside.0, more.1, was.few, c.from.ensures, c.from-at.ensures);
       most = omega (arith, inside.1.below, c.from-at.ensures);
       work = works_end (stands g (goal.at.pages-preserved g c).In-Some) c.in_ok-cull_unmarked.ensures (λ tells magics settled. record { needs = settled; idle = λ quiet. quiet })
-          (λ tells magics settled before. record { needs = (before.resting.settled, before.resting.marked c.in-Some.page (omega arith) inside.1.below, before.live); idle = λ quiet. quiet c.in-Some.page })
+          (λ tells magics settled before. record { needs = (before.resting.settled, rw c.from.ensures (before.resting.marked c.in-Some.page (omega arith) inside.1.below), before.live); idle = λ quiet. quiet c.in-Some.page })
           (λ tells magics need before kept turn. rw c.from-at.ensures (resting_next _ _ _ _ _ _ _ _ _ before.resting turn (omega (arith, more.0, c.from.ensures))));
     }
 
