@@ -1,17 +1,23 @@
 -- The survey page by page, and the header pages of noted ids.
-use Rattle.std.proofs.Common.{◌≡◌, ℕ, ◌+◌, ◌-◌, ◌%◌, ◌==◌, ◌<◌, ◌≤◌, ⊎_elim, Bool, true, false, List, length, refl, sym, ◌∙◌, ap, arith, slice_index, slice_set, Option, Some, None, if◌then◌else◌}
+use Rattle.std.proofs.Common.{◌≡◌, ℕ, ◌+◌, ◌-◌, ◌%◌, ◌==◌, ◌<◌, ◌≤◌, ⊎_elim, Bool, true, false, List, length, nat_lt, nat_le, refl, sym, ◌∙◌, ap, arith, slice_index, slice_set, Option, Some, None, if◌then◌else◌}
 use Rattle.std.specs.Prelude.{is_some, option_and_then}
-use Rattle.std.proofs.lemmas.Bool.{cases_lt, cases_eq, eq-eqb, ne_eqb}
+use Rattle.std.proofs.lemmas.Bool.{cases_lt, cases_eq, eq-eqb, ne_eqb, and_parts, leb-true, le-ltb}
+use Rattle.std.proofs.lemmas.Option.{none-some}
 use Rattle.std.proofs.lemmas.List.{get_or-set_same, get_or-set_other}
 use Rattle.geometry.specs.declared.geometry.Geometry.{Geometry}
 use Rattle.geometry.specs.Numbers.{page_count, per_block}
 use Rattle.image_model.specs.Headers.{obj_id}
-use Rattle.image_model.specs.Places.{page_of}
-use Rattle.image_model.specs.Live.{live_at, own}
+use Rattle.page_layout.specs.declared.header.PageHeader.{PageHeader}
+use Rattle.page_layout.specs.Layout.{names_index}
+use Rattle.image_model.specs.Places.{page_of, entry_of}
+use Rattle.image_model.specs.Live.{live_at, is_live, own}
 use Rattle.image_model.specs.Files.{index_page, is_index, judged}
 use Rattle.image_model.specs.Tidy.{is_number}
 use Rattle.flash_view.specs.Found.{headed, has_header}
+use Rattle.flash_view.specs.Walk.{IsNextLive}
+use Rattle.flash_view.proofs.Entries.{live_page}
 use Rattle.flash_view.proofs.Least.{heads}
+use Rattle.flash_view.proofs.Passed.{found_head}
 use Rattle.file_find.specs.Ids.{is_noted, unnoted, Notes}
 use Rattle.file_find.specs.Marks.{mark_of, head_mark, marked_id, head_between, cause_at, holder_below, table_id, IsMarked, HasBelow, MarkedBelow, Surveyed, NextHead}
 use Rattle.file_find.proofs.Bits.{mark_beside}
@@ -89,6 +95,39 @@ surveyed_none g image marks none = record {
   noted = λ p id low. absurd (omega (arith, low));
   only = λ id low e. absurd (let bad : true ≡ false = sym e ∙ none id low in cc);
 }
+
+-- pages without a header page, which have no mark
+pub surveyed_skip : (g : Geometry) (image marks : List ℕ) (at p : ℕ) → at ≤ p → p ≤ page_count g → ((q : ℕ) → at ≤ q → q < p → headed (live_at g image q) ≡ None) → ((q : ℕ) → at ≤ q → q < page_count g → slice_index marks q ≡ 0) →
+    Surveyed g image marks at → Surveyed g image marks p
+surveyed_skip g image marks at p more most none zeros was = record {
+  marked = record {
+    each = λ q less. ⊎_elim
+        (λ (early : q < at). was.marked.each q early)
+        (λ (late : at ≤ q). zeros q late (omega (arith, less, most)) ∙ mark_none g image q (sym (none q late less)))
+        (cases_lt q at);
+  };
+  noted = λ q id less has. ⊎_elim
+      (λ (early : q < at). was.noted q id early has)
+      (λ (late : at ≤ q). absurd (none-some id (sym (none q late less) ∙ has)))
+      (cases_lt q at);
+  only = λ id low set. let w = was.only id low set in record { page = w.page; below = omega (arith, w.below, more); is = w.is };
+}
+
+live_here : (g : Geometry) (image : List ℕ) (p : ℕ) → is_live g image p ≡ true → live_at g image p ≡ Some (page_of g image p)
+unfolding live_at
+live_here g image p e = rw e refl
+
+index_found : (g : Geometry) (image : List ℕ) (from p : ℕ) (head : PageHeader) → IsNextLive g image from 0x8000 0xFFFE p head → names_index head ≡ true
+index_found g image from p head found =
+    let w = live_page g image p (page_of g image p) (live_here g image p found.live) in
+    let large = and_parts (nat_le 0x8000 (entry_of g image p)) (nat_le (entry_of g image p) 0xFFFE) found.between in
+    let id : head.id ≡ entry_of g image p = ap (λ (h : PageHeader). h.id) found.header ∙ sym w.number in
+    let none : nat_lt head.id 0x8000 ≡ false = le-ltb head.id 0x8000 (omega (arith, id, leb-true 0x8000 (entry_of g image p) large.0)) in
+    rw none refl
+
+-- the id of an index page that was found, by its header
+pub found_told : (g : Geometry) (image : List ℕ) (from p : ℕ) (head : PageHeader) → IsNextLive g image from 0x8000 0xFFFE p head → (if head.span == 0 then Some (head.id % 0x8000) else None) ≡ headed (live_at g image p)
+found_told g image from p head found = sym (found_head g image from p head found ∙ rw (index_found g image from p head found) refl)
 
 unnoted_mark : (g : Geometry) (image old : List ℕ) (p id : ℕ) (noted : Bool) → is_noted old (page_count g) id ≡ noted → p < page_count g → headed (live_at g image p) ≡ Some id → Surveyed g image old p →
     head_mark g image (if noted then None else Some id) p ≡ mark_of g image p

@@ -19,13 +19,13 @@ fn note(marks: &mut [u8], start: usize, id: u16)
     marks[start + usize::from(id / 8)] |= 1 << (id % 8);
 }
 
-/// Clears the bits behind the first `start` bytes.
+/// Clears the first `start` bytes, and the bits behind them.
 #[tactic(auto)]
 pub(crate) fn clear(marks: &mut [u8], start: usize)
     requires { start + 4096 ≤ length marks.old }
-    ensures { (k : ℕ) → start ≤ k → k < start + 4096 → slice_index marks.new k ≡ 0 }
+    ensures { (k : ℕ) → k < start + 4096 → slice_index marks.new k ≡ 0 }
 {
-    marks[start..start + BITS].fill(0);
+    marks[..start + BITS].fill(0);
 }
 
 /// Whether an id is noted.

@@ -1,4 +1,4 @@
-ghost use Rattle.std.specs.Prelude.{◌≡◌, ◌+◌, ◌<◌, ◌≤◌, length, not, nat_lt, Some, OnOk, OnErr, IfOk, IfSome, take};
+ghost use Rattle.std.specs.Prelude.{◌≡◌, ◌+◌, ◌%◌, ◌==◌, ◌<◌, ◌≤◌, ℕ, length, slice_index, not, nat_lt, Some, None, OnOk, OnErr, IfOk, IfSome, take, if◌then◌else◌};
 ghost use Rattle.geometry.specs.Numbers.{page_count, check_need};
 ghost use Rattle.nor_core.specs.Count.{Rose};
 ghost use Rattle.image_model.specs.Places.{page_of};
@@ -6,6 +6,7 @@ ghost use Rattle.image_model.specs.Headers.{name_of as the_name_of};
 ghost use Rattle.image_model.specs.Live.{live_at, own};
 ghost use Rattle.image_model.specs.Files.{index_page};
 ghost use Rattle.image_model.specs.Tidy.{is_number};
+ghost use Rattle.flash_view.specs.Found.{headed as the_headed};
 ghost use Rattle.flash_view.specs.Same.{OnlyLooks};
 ghost use Rattle.file_find.specs.Marks.{mark_of, name_mark as the_name_mark, whole_mark, head_mark, MarkedBelow, Surveyed, IsMarked, marked_id as the_marked_id, head_between, holder_at as the_holder_at, holder_below as the_holder_below, NextHead, same_name as the_same_name, table_id, cause_at};
 
@@ -14,7 +15,7 @@ use crate::judging::judge;
 use flash_view::View;
 use image_model::Damage;
 use nor_core::{Failed, Nor, NorState};
-use page_layout::INDEX_BIT;
+use page_layout::{FREE, INDEX_BIT, PageHeader};
 
 // The mark of the header page of a file that isn't whole.
 const BROKEN: u8 = 1;
@@ -66,23 +67,41 @@ pub fn survey<N: Nor>(v: &mut View<'_, N>, marks: &mut [u8]) -> Result<(), Faile
     ensures built { take v.old.geometry.page v.new.work.now ≡ take v.old.geometry.page v.old.work.now }
 {
     clear(marks, v.geometry.pages() as usize);
-    for page in 0..v.geometry.pages() as u16 {
-        mark_page(v, marks, page)?;
+    let mut at = 0;
+    'heads: while let Some((page, head)) = v.next_live(at, INDEX_BIT, FREE - 1)? {
+        mark_page(v, marks, page, headed(head))?;
+        at = u32::from(page) + 1;
     }
     Ok(())
 }
 
-// Marks a page behind those that are marked, and notes its id.
+// The id of an object by the header of an index page, if that is its header page.
+fn headed(head: PageHeader) -> Option<u16>
+    ensures { result ≡ (if head.span == 0 then Some (head.id % 0x8000) else None) }
+{
+    if head.span == 0 {
+        Some(head.object())
+    } else {
+        None
+    }
+}
+
+// Marks a page behind those that are marked, and notes the id whose header page it is.
 #[tactic(auto, using(flash_view::proofs::Looking::looks_then))]
-fn mark_page<N: Nor>(v: &mut View<'_, N>, marks: &mut [u8], page: u16) -> Result<(), Failed>
+fn mark_page<N: Nor>(
+    v: &mut View<'_, N>,
+    marks: &mut [u8],
+    page: u16,
+    found: Option<u16>,
+) -> Result<(), Failed>
     requires page { page < page_count v.old.geometry }
     requires room { check_need v.old.geometry ≤ length marks.old }
     ensures cause { OnErr result (Rose (N.faults v.old.nor.now) (N.faults v.new.nor.now)) }
     ensures looks { OnlyLooks v.old v.new }
-    ensures told { N.tells v.old.nor.now → Surveyed v.old.geometry (N.bytes v.old.nor.now) marks.old page → OnOk result (Surveyed v.old.geometry (N.bytes v.old.nor.now) marks.new (page + 1)) }
+    ensures behind { OnOk result ((p : ℕ) → page < p → p < page_count v.old.geometry → slice_index marks.new p ≡ slice_index marks.old p) }
+    ensures told { N.tells v.old.nor.now → found ≡ the_headed (live_at v.old.geometry (N.bytes v.old.nor.now) page) → Surveyed v.old.geometry (N.bytes v.old.nor.now) marks.old page → OnOk result (Surveyed v.old.geometry (N.bytes v.old.nor.now) marks.new (page + 1)) }
     ensures built { take v.old.geometry.page v.new.work.now ≡ take v.old.geometry.page v.old.work.now }
 {
-    let found = v.header_id(page)?;
     let first = note_first(marks, v.geometry.pages() as usize, found, page);
     marks[page as usize] = mark(v, marks, first, page)?;
     Ok(())

@@ -25,11 +25,10 @@ use Rattle.image_laws.proofs.Kill.{own-loses, own-loses_other, index-loses}
 use Rattle.image_laws.proofs.Wanted.{number-other}
 use Rattle.image_laws.proofs.Wants.{number-is, wanted_parts}
 use Rattle.vol_check.specs.Culls.{MayCull, Culls, Passes, is_doubled, is_doubled_as, HasNoDoubles, CullsDoubled, PassesDoubled}
-use Rattle.flash_view.specs.Found.{headed}
-use Rattle.vol_check.specs.Noted.{Notes}
+use Rattle.vol_check.specs.Noted.{Notes, IsIndexPage}
 use Rattle.vol_check.specs.Works.{Work, TurnsDoubled, culling, culling_doubled}
 use Rattle.vol_check.proofs.CullStep.{spares_by}
-use Rattle.vol_check.proofs.Resting.{own_self, headed_page, headless_page, lookup_dead}
+use Rattle.vol_check.proofs.Resting.{own_self, headed_page, lookup_dead}
 use Rattle.vol_check.proofs.Working.{Goes}
 use Rattle.vol_check.proofs.Passing.{culls_nothing, passes_none, passes_next}
 
@@ -39,28 +38,8 @@ pub dead_single : (g : Geometry) (a : List ℕ) (p : ℕ) → live_at g a p ≡ 
 unfolding is_doubled
 dead_single g a p e = rw e refl
 
-pub lookup_single : (g : Geometry) (a : List ℕ) (p : ℕ) → is_entry_page g p ≡ false → is_doubled g a p ≡ false
+lookup_single : (g : Geometry) (a : List ℕ) (p : ℕ) → is_entry_page g p ≡ false → is_doubled g a p ≡ false
 lookup_single g a p e = dead_single g a p (lookup_dead g a p e)
-
-pub no_header_single : (g : Geometry) (a : List ℕ) (p : ℕ) → None ≡ option_map header_at (live_at g a p) → is_doubled g a p ≡ false
-no_header_single g a p e = dead_single g a p (headless_page (live_at g a p) e)
-
-pub data_single : (g : Geometry) (a : List ℕ) (p : ℕ) (head : PageHeader) → Some head ≡ option_map header_at (live_at g a p) → layout.names_index head ≡ false → is_doubled g a p ≡ false
-unfolding is_doubled
-data_single g a p head e kind =
-    let w = headed_page (live_at g a p) head e in
-    let holds : names_index w.0 ≡ false = rw w.2 at kind in
-    rw (w.1, holds) refl
-
--- a page that isn't a live index page is no header page
-pub dead_headless : (g : Geometry) (a : List ℕ) (p : ℕ) → live_at g a p ≡ None → headed (live_at g a p) ≡ None
-dead_headless g a p none = rw none refl
-
-pub data_headless : (g : Geometry) (a : List ℕ) (p : ℕ) (head : PageHeader) → Some head ≡ option_map header_at (live_at g a p) → layout.names_index head ≡ false → headed (live_at g a p) ≡ None
-data_headless g a p head e kind =
-    let w = headed_page (live_at g a p) head e in
-    let holds : names_index w.0 ≡ false = rw w.2 at kind in
-    rw (w.1, holds) refl
 
 other_number : (o : Option ℕ) (p : ℕ) → option_eq (λ (x y : ℕ). x == y) o (Some p) ≡ is_number o p
 other_number None p = refl
@@ -148,8 +127,8 @@ may_cull g a p doubled =
       spares = λ b change. spares_by g a b p (doubled-has g p d.page (live_at g a) (live_at g b) d.live_is change d.index d.later) (doubled-wanted g p d.page (live_at g a) (live_at g b) d.live_is change d.index d.later);
     }
 
-pub may_be_culled : (g : Geometry) (a : List ℕ) (p : ℕ) (bits later : List ℕ) → is_doubled g a p ≡ true → Goes g a a (culling p) (culling_doubled p bits later)
-may_be_culled g a p bits later doubled = record { needs = may_cull g a p doubled; idle = λ quiet. let bad : true ≡ false = sym doubled ∙ quiet in absurd (cc) }
+pub may_be_culled : (g : Geometry) (a : List ℕ) (p : ℕ) (head : PageHeader) (bits later : List ℕ) → is_doubled g a p ≡ true → Goes g a a (culling p) (culling_doubled p head bits later)
+may_be_culled g a p head bits later doubled = record { needs = may_cull g a p doubled; idle = λ quiet. let bad : true ≡ false = sym doubled ∙ quiet in absurd (cc) }
 
 -- ---- after its kill
 
@@ -216,6 +195,14 @@ doubling_next g first a b bits later p n m killed s turn e =
       damaged = t.damaged ∙ s.damaged;
       noted = turn.noted;
     }
+
+-- the same with a live index page at p
+pub record Facing (g : Geometry) (first now bits : List ℕ) (p n : ℕ) (head : PageHeader) : Type 0 where
+  pub doubling : Doubling g first now bits p n
+  pub index : IsIndexPage g now p head
+
+abbrev pub facing_at : ℕ → PageHeader → List ℕ → Work ℕ
+facing_at p head bits = record { needs = λ g was. Unit {0}; done = λ g was now n. Facing g was now bits p n head; idle = λ g was. HasNoDoubles g was }
 
 outside_single : (g : Geometry) (a : List ℕ) (q : ℕ) → page_count g ≤ q → is_doubled g a q ≡ false
 unfolding is_entry_page

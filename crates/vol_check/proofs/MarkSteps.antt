@@ -1,5 +1,5 @@
 -- Marks that are added one after the other.
-use Rattle.std.proofs.Common.{◌≡◌, ℕ, ◌+◌, ◌<◌, ◌≤◌, ◌⊎◌, List, slice_index, Some, ◌∙◌, sym, subst, arith, ⊎_elim, inl, inr}
+use Rattle.std.proofs.Common.{◌≡◌, ℕ, ◌+◌, ◌<◌, ◌≤◌, ◌⊎◌, List, slice_index, Some, refl, ◌∙◌, sym, subst, arith, ⊎_elim, inl, inr}
 use Rattle.std.proofs.lemmas.Bool.{cases_lt}
 use Rattle.std.proofs.lemmas.Option.{same_Some}
 use Rattle.geometry.specs.declared.geometry.Geometry.{Geometry}
@@ -52,6 +52,19 @@ module _ (P : ℕ → ℕ → Type 0) (n p : ℕ) where
 -- one number more
 pub first_next : {pages n : ℕ} {P : ℕ → ℕ → Type 0} {a b c : List ℕ} → AddsMarks pages (OfFirst P n) a b → AddsMarks pages (P n) b c → AddsMarks pages (OfFirst P (n + 1)) a c
 first_next {n = n} {P = P} first second = adds_as (adds_then first second) (λ p is. first_on P n p is) (λ p is. first_back P n p is)
+
+-- numbers without any
+pub first_skip : {pages n m : ℕ} {P : ℕ → ℕ → Type 0} {a b : List ℕ} → AddsMarks pages (OfFirst P n) a b → n ≤ m → ((k p : ℕ) → n ≤ k → k < m → P k p → ⊥) → AddsMarks pages (OfFirst P m) a b
+first_skip {n = n} adds more none =
+    adds_as adds (λ p is. record { number = is.number; below = omega (arith, is.below, more); of = is.of })
+    (λ p is. ⊎_elim
+    (λ (low : is.number < n). record { number = is.number; below = low; of = is.of })
+    (λ (past : n ≤ is.number). absurd (none is.number p past is.below is.of))
+    (cases_lt is.number n))
+
+-- no page of a kind
+pub adds_none : {pages : ℕ} {P : ℕ → Type 0} (a : List ℕ) → ((p : ℕ) → P p → ⊥) → AddsMarks pages P a a
+adds_none a none = record { set = λ p low is. absurd (none p is); rest = λ p low. inr refl }
 
 -- the file of a header page
 pub headed_adds : {pages : ℕ} {a b : List ℕ} (g : Geometry) (image : List ℕ) (id h : ℕ) → headed (live_at g image h) ≡ Some id → AddsMarks pages (OfFile g image id h) a b → AddsMarks pages (OfHeaded g image h) a b

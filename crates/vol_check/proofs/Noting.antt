@@ -23,7 +23,7 @@ use Rattle.vol_check.specs.Culls.{is_doubled, Culls}
 use Rattle.vol_check.specs.Noted.{Notes, NotesId, TellsDoubled}
 use Rattle.vol_check.specs.Works.{TurnsDoubled}
 use Rattle.vol_check.proofs.Resting.{headed_at, headed_page, own_self}
-use Rattle.vol_check.proofs.Doubles.{doubled_is, culls_double, doubles_nothing}
+use Rattle.vol_check.proofs.Doubles.{Doubling, doubled_is, culls_double, doubles_nothing}
 
 not_number : (o : Option ℕ) (p : ℕ) → o ≢ Some p → is_number o p ≡ false
 not_number None p other = refl
@@ -91,10 +91,6 @@ module _ (g : Geometry) (a : List ℕ) (p : ℕ) (bits : List ℕ) (notes : Note
         (cases_lt h p);
     only = λ id set. let w = notes.only id set in (w.0, omega (arith, w.1), w.2);
   }
-
-  -- a page that isn't a header page isn't doubled by its notes
-  pub headless_told : headed (live_at g a p) ≡ None → is_doubled g a p ≡ false → TellsDoubled g a p false bits
-  headless_told none single = record { is = sym single; noted = notes_pass (λ id is place. none-some id (sym none ∙ is)) }
 
   -- an index page that was looked for
   pub searched_told : (head : PageHeader) (doubled : Bool) → Some head ≡ option_map header_at (live_at g a p) → doubled ≡ is_doubled g a p → (head.span ≡ 0 → length bits ≤ head.id % 0x8000 / 8) → TellsDoubled g a p doubled bits
@@ -164,6 +160,19 @@ module _ (g : Geometry) (a : List ℕ) (p : ℕ) (bits : List ℕ) (notes : Note
         let bad : true ≡ false = sym (eq-eqb _ 1 set) ∙ sym told ∙ no in absurd (cc)) in
         rw no (record { is = sym (doubled_is g a p head e index ∙ rw (span, first, eq-eqb p p refl) refl); noted = noted_on }))
         (cases_Bool before)
+
+-- pages that are neither doubled nor header pages are passed over
+pub doubling_skip : (g : Geometry) (first a bits : List ℕ) (at p n : ℕ) → at ≤ p → ((q : ℕ) → at ≤ q → q < p → is_doubled g a q ≡ false) → ((q : ℕ) → at ≤ q → q < p → headed (live_at g a q) ≡ None) →
+    Doubling g first a bits at n → Doubling g first a bits p n
+doubling_skip g first a bits at p n more single none s = record {
+  passes = s.passes;
+  single = λ q low. ⊎_elim (λ (early : q < at). s.single q early) (λ (late : at ≤ q). single q late low) (cases_lt q at);
+  damaged = s.damaged;
+  noted = record {
+    noted = λ id h low is place. ⊎_elim (λ (early : h < at). s.noted.noted id h early is place) (λ (late : at ≤ h). absurd (none-some id (sym (none h late low) ∙ is))) (cases_lt h at);
+    only = λ id set. let w = s.noted.only id set in (w.0, omega (arith, w.1, more), w.2);
+  };
+}
 
 -- ---- a turn
 

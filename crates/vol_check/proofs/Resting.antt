@@ -1,9 +1,9 @@
 -- Pages that no file of the table needs, where no page is doubled and nothing is damaged.
-use Rattle.std.proofs.Common.{◌≡◌, ◌≢◌, ℕ, ◌+◌, ◌%◌, ◌<◌, ◌≤◌, List, [], Bool, true, false, not, ◌&&◌, ◌==◌, slice_index, Option, Some, None, Result, Ok, Err, ap, refl, sym, ◌∙◌, arith, ⊎_elim, inl, inr, ◌⊎◌, cond, if◌then◌else◌}
+use Rattle.std.proofs.Common.{◌≡◌, ◌≢◌, ℕ, ◌+◌, ◌%◌, ◌<◌, ◌≤◌, List, [], Bool, true, false, not, ◌&&◌, slice_index, Option, Some, None, Result, Ok, Err, ap, refl, sym, ◌∙◌, arith, ⊎_elim, inl, inr, ◌⊎◌, cond}
 use Rattle.std.specs.Prelude.{is_some}
 use Rattle.std.specs.Option.{option_map}
 use Rattle.std.specs.List.{range_with_len, list_any}
-use Rattle.std.proofs.lemmas.Bool.{cases_Bool, cases_eq, cases_lt, le-ltb, not-true, not-false, eq-eqb, eqb-true, and_parts, or_cases, false_from_ne_true, true_from_ne_false}
+use Rattle.std.proofs.lemmas.Bool.{cases_Bool, cases_eq, cases_lt, le-ltb, not-true, not-false, eq-eqb, ne_eqb, eqb-true, and_parts, or_cases, false_from_ne_true, true_from_ne_false}
 use Rattle.std.proofs.Math.Bool.{and-false}
 use Rattle.std.proofs.lemmas.Option.{none-some, same_Some, cond_some}
 use Rattle.geometry.specs.declared.geometry.Geometry.{Geometry}
@@ -13,7 +13,7 @@ use Rattle.page_layout.specs.declared.header.PageHeader.{PageHeader}
 use Rattle.page_layout.specs.Layout.{header_at}
 use Rattle.image_model.specs.declared.damage.Damage.{Damage}
 use Rattle.geometry.specs.Numbers.{page_count}
-use Rattle.image_model.specs.Places.{is_entry_page, page_of}
+use Rattle.image_model.specs.Places.{is_entry_page}
 use Rattle.image_model.specs.Headers.{obj_id, span_of, names_index, size_of}
 use Rattle.image_model.specs.Live.{Live, live_at, own, is_live}
 use Rattle.image_model.specs.Files.{is_index, index_page, entry_number, data_of, judged}
@@ -125,28 +125,16 @@ headed_at (Some head) id e =
     let v = and_parts _ _ w.0 in
     (head, refl, v.0, eqb-true (span_of head) 0 v.1, w.1)
 
-pub headless_page : (o : Option (List ℕ)) → None ≡ option_map header_at o → o ≡ None
-headless_page None e = refl
-headless_page (Some page) e = absurd (cc)
-
 -- a lookup page isn't live
 pub lookup_dead : (g : Geometry) (image : List ℕ) (p : ℕ) → is_entry_page g p ≡ false → live_at g image p ≡ None
 unfolding live_at is_live
 lookup_dead g image p e = rw e refl
 
-pub lookup_unmarked : (g : Geometry) (image : List ℕ) (p mark : ℕ) → is_entry_page g p ≡ false → false ≡ (is_some (live_at g image p) && (mark == 0))
-lookup_unmarked g image p mark e = rw (lookup_dead g image p e) refl
+pub marked_stays : (g : Geometry) (image : List ℕ) (p mark : ℕ) → TellsUnwanted g image p mark → mark ≢ 0 → is_unwanted g image p ≡ false
+marked_stays g image p mark tells some = tells ∙ rw (ne_eqb mark 0 some, and-false) refl
 
-pub marked_stays : (g : Geometry) (image : List ℕ) (p mark : ℕ) → (mark == 0) ≡ false → false ≡ (is_some (live_at g image p) && (mark == 0))
-marked_stays g image p mark e = rw (e, and-false) refl
-
-pub live_unmarked : (g : Geometry) (image : List ℕ) (p mark : ℕ) → mark ≡ 0 → is_live g image p ≡ (is_some (live_at g image p) && (mark == 0))
-unfolding live_at
-live_unmarked g image p mark none = rw none (by (is_live g image p))
-  where
-    by : (b : Bool) → b ≡ (is_some (if b then Some (page_of g image p) else None) && true)
-    by true = refl
-    by false = refl
+pub unmarked_goes : (g : Geometry) (image : List ℕ) (p mark : ℕ) → TellsUnwanted g image p mark → is_some (live_at g image p) ≡ true → mark ≡ 0 → is_unwanted g image p ≡ true
+unmarked_goes g image p mark tells live none = tells ∙ rw (live, none) refl
 
 -- ---- a page that is live and not wanted may be killed
 
@@ -243,7 +231,7 @@ may_be_culled g a p mark settled e =
       idle = λ quiet. let bad : true ≡ false = sym e ∙ quiet in absurd (cc);
     }
 
-dead_served : (g : Geometry) (b : List ℕ) (p : ℕ) → live_at g b p ≡ None → is_unwanted g b p ≡ false
+pub dead_served : (g : Geometry) (b : List ℕ) (p : ℕ) → live_at g b p ≡ None → is_unwanted g b p ≡ false
 unfolding is_unwanted
 dead_served g b p e = rw e refl
 
@@ -289,6 +277,23 @@ resting_next g first a b marks p n m killed s t e = record {
       rw (t.others q there, t.culls.others q there) (s.marked q (omega (arith, low)) high);
   settled = t.settled;
 }
+
+-- pages that aren't unwanted are passed over
+pub resting_skip : (g : Geometry) (first a marks : List ℕ) (at p n : ℕ) → at ≤ p → ((q : ℕ) → at ≤ q → q < p → is_unwanted g a q ≡ false) → Resting g first a marks at n → Resting g first a marks p n
+resting_skip g first a marks at p n more none s = record {
+  passes = s.passes;
+  served = λ q low. ⊎_elim (λ (early : q < at). s.served q early) (λ (late : at ≤ q). none q late low) (cases_lt q at);
+  marked = λ q low high. s.marked q (omega (arith, low, more)) high;
+  settled = s.settled;
+}
+
+-- the same with a live page at p
+pub record Standing (g : Geometry) (first now marks : List ℕ) (p n : ℕ) : Type 0 where
+  pub resting : Resting g first now marks p n
+  pub live : is_some (live_at g now p) ≡ true
+
+abbrev pub standing_at : ℕ → List ℕ → Work ℕ
+standing_at p marks = record { needs = λ g was. IsSettled g was; done = λ g was now n. Standing g was now marks p n; idle = λ g was. IsServed g was }
 
 beyond_served : (g : Geometry) (a : List ℕ) (p : ℕ) → page_count g ≤ p → is_unwanted g a p ≡ false
 unfolding is_entry_page

@@ -148,6 +148,14 @@ module _ {N : Type 0} {nor : NorOf N} where
         let fault : Worked {nor = nor} mid new (Err failed.fault) nothing = look_stops looks rose refl in
         works_stop call fault is start (λ tells magics need done. record { needs = tt; idle = λ quiet. tt })
 
+  -- a look after a work, and what it tells
+  module _ {S T : Type 0} {old mid new : View N nor} {x : S} {y : T} {first : Work S} {whole : Work T} where
+    pub works_seen : (P : Geometry → List ℕ → Type 0) → Worked old mid (Ok x) first → OnlyLooks mid new → (nor.tells mid.nor.now → P mid.geometry (nor.bytes mid.nor.now)) →
+        On old whole (λ g a. Goes g a a first whole) →
+        On old whole (λ g a. P g (nor.bytes new.nor.now) → first.done g a (nor.bytes new.nor.now) x → whole.done g a (nor.bytes new.nor.now) y) → Worked old new (Ok y) whole
+    works_seen P call looks told start law = works_as (works_read call looks) start (λ tells magics need kept done.
+        law tells magics need (moved P (sym call.step.framed.same.geometry) looks.reads.bytes (told (call.step.cuts.cuts.told tells))) done)
+
   -- ---- what a work leaves
 
   -- at most one block lacks its magic

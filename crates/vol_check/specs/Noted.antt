@@ -1,11 +1,18 @@
 -- Ids that are noted by bits as their header pages are passed.
-use Rattle.std.specs.Prelude.{◌≡◌, ◌≢◌, ℕ, ◌+◌, ◌/◌, ◌%◌, ◌<◌, ◌≤◌, List, length, Bool, ◌==◌, Option, Some, None, if◌then◌else◌}
+use Rattle.std.specs.Prelude.{◌≡◌, ◌≢◌, ℕ, ◌+◌, ◌/◌, ◌%◌, ◌<◌, ◌≤◌, List, length, Bool, true, ◌==◌, Option, Some, None, if◌then◌else◌}
+use Rattle.std.specs.Option.{option_map}
 use Rattle.geometry.specs.declared.geometry.Geometry.{Geometry}
 use Rattle.page_layout.specs.declared.header.PageHeader.{PageHeader}
+use Rattle.page_layout.specs.Layout.{header_at, names_index}
 use Rattle.image_model.specs.Live.{live_at}
 use Rattle.flash_view.specs.Found.{headed}
 use Rattle.free_search.specs.Ids.{bit_of}
 use Rattle.vol_check.specs.Culls.{is_doubled}
+
+-- Page p is a live index page with this header.
+pub record IsIndexPage (g : Geometry) (image : List ℕ) (p : ℕ) (head : PageHeader) : Type 0 where
+  pub is : Some head ≡ option_map header_at (live_at g image p)
+  pub index : names_index head ≡ true
 
 -- Of the ids that the bits have a place for, those are noted that have a live header page before page n.
 pub record Notes (g : Geometry) (image : List ℕ) (n : ℕ) (bits : List ℕ) : Type 0 where

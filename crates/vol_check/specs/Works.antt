@@ -1,9 +1,10 @@
 -- The works of the check, and what each needs and leaves.
-use Rattle.std.specs.Prelude.{◌≡◌, ℕ, ◌+◌, List, [], Bool, true, false, Some, None, Result}
+use Rattle.std.specs.Prelude.{◌≡◌, ℕ, ◌+◌, List, [], Bool, true, false, Some, None, is_some, Result}
 use Rattle.geometry.specs.declared.geometry.Geometry.{Geometry}
 use Rattle.nor_core.specs.declared.device.Failed.{Failed}
 use Rattle.nor_core.specs.declared.state.NorState.{Ghosts as NorOf}
 use Rattle.nor_core.specs.Device.{OnlyReads}
+use Rattle.page_layout.specs.declared.header.PageHeader.{PageHeader}
 use Rattle.image_model.specs.Live.{live_at, own}
 use Rattle.image_model.specs.Files.{index_page}
 use Rattle.image_model.specs.Kinds.{mixed_blocks}
@@ -18,7 +19,7 @@ use Rattle.vol_check.specs.declared.checking.Culled.{Culled}
 use Rattle.vol_check.specs.declared.report.Report.{Report}
 use Rattle.vol_check.specs.Stage.{IsClean, CleansEntry, CleansEntries}
 use Rattle.vol_check.specs.Culls.{MayCull, Culls, is_doubled, HasNoDoubles, IsSettled, is_unwanted, IsServed, CullsDoubled, CullsHead, CullsRest, PassesDoubled, PassesDamaged, PassesRest, CullsPages}
-use Rattle.vol_check.specs.Noted.{Notes}
+use Rattle.vol_check.specs.Noted.{Notes, IsIndexPage}
 use Rattle.vol_check.specs.Needed.{TellsUnwanted}
 use Rattle.vol_check.specs.MadeFresh.{HasAllMagics, MadeFresh}
 use Rattle.vol_check.specs.Checks.{Checked}
@@ -70,8 +71,8 @@ cleaning_entries = record { needs = λ g was. Unit {0}; done = λ g was now kill
 abbrev pub culling : ℕ → Work (Unit {0})
 culling p = record { needs = λ g was. MayCull g was p; done = λ g was now ok. Culls g p true was now; idle = λ g was. ⊥ }
 
-abbrev pub culling_doubled : ℕ → List ℕ → List ℕ → Work Bool
-culling_doubled p bits later = record { needs = λ g was. Notes g was p bits; done = λ g was now killed. TurnsDoubled g p later killed was now; idle = λ g was. is_doubled g was p ≡ false }
+abbrev pub culling_doubled : ℕ → PageHeader → List ℕ → List ℕ → Work Bool
+culling_doubled p head bits later = record { needs = λ g was. Notes g was p bits × IsIndexPage g was p head; done = λ g was now killed. TurnsDoubled g p later killed was now; idle = λ g was. is_doubled g was p ≡ false }
 
 abbrev pub culling_doubles : Work ℕ
 culling_doubles = record { needs = λ g was. Unit {0}; done = λ g was now killed. PassesDoubled g killed was now; idle = λ g was. HasNoDoubles g was }
@@ -83,7 +84,7 @@ abbrev pub culling_damaged : Work ℕ
 culling_damaged = record { needs = λ g was. HasNoDoubles g was; done = λ g was now killed. PassesDamaged g killed was now; idle = λ g was. damaged_of g was ≡ [] }
 
 abbrev pub culling_unmarked : ℕ → ℕ → Work Bool
-culling_unmarked p mark = record { needs = λ g was. IsSettled g was × TellsUnwanted g was p mark; done = λ g was now killed. CullsRest g p killed was now; idle = λ g was. is_unwanted g was p ≡ false }
+culling_unmarked p mark = record { needs = λ g was. IsSettled g was × TellsUnwanted g was p mark × (is_some (live_at g was p) ≡ true); done = λ g was now killed. CullsRest g p killed was now; idle = λ g was. is_unwanted g was p ≡ false }
 
 abbrev pub culling_rest : Work ℕ
 culling_rest = record { needs = λ g was. IsSettled g was; done = λ g was now killed. PassesRest g killed was now; idle = λ g was. IsServed g was }

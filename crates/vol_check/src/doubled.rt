@@ -1,21 +1,17 @@
-ghost use Rattle.std.specs.Prelude.{◌≡◌, ◌<◌, ◌≤◌, ℕ, length, true, Some, OnErr, IfOk};
-ghost use Rattle.std.specs.Bool.{OnTrue};
-ghost use Rattle.std.specs.Option.{option_map};
+ghost use Rattle.std.specs.Prelude.{◌≡◌, ◌<◌, ◌≤◌, ℕ, length, OnErr, IfOk};
 ghost use Rattle.geometry.specs.Numbers.{page_count};
 ghost use Rattle.nor_core.specs.Count.{Rose};
-ghost use Rattle.page_layout.specs.Layout.{header_at, names_index};
-ghost use Rattle.image_model.specs.Live.{live_at};
 ghost use Rattle.flash_view.specs.Places.{IsEntryPage};
 ghost use Rattle.flash_view.specs.Same.{OnlyLooks};
 ghost use Rattle.free_search.specs.Ids.{bit_of};
-ghost use Rattle.vol_check.specs.Noted.{Notes, NotesHeader, TellsDoubled};
+ghost use Rattle.vol_check.specs.Noted.{Notes, NotesHeader, IsIndexPage, TellsDoubled};
 ghost use Rattle.vol_check.specs.Works.{Worked, culling_doubled, culling_doubles};
 
 use crate::culling::cull;
 use crate::marking::clear;
-use flash_view::{View, is_entry_page};
+use flash_view::View;
 use nor_core::{Failed, Nor, NorState};
-use page_layout::PageHeader;
+use page_layout::{FREE, INDEX_BIT, PageHeader};
 
 // Bytes that hold a bit for each id.
 const ID_BYTES: usize = 4096;
@@ -46,10 +42,10 @@ fn is_later<N: Nor>(
     page: u16,
     head: PageHeader,
 ) -> Result<bool, Failed>
-    requires { page < page_count v.old.geometry }
+    requires { IsEntryPage v.old.geometry page }
     ensures cause { OnErr result (Rose (N.faults v.old.nor.now) (N.faults v.new.nor.now)) }
     ensures looks { OnlyLooks v.old v.new }
-    ensures told { N.tells v.old.nor.now → Notes v.old.geometry (N.bytes v.old.nor.now) page bits.old → Some head ≡ option_map header_at (live_at v.old.geometry (N.bytes v.old.nor.now) page) → names_index head ≡ true → IfOk result (λ later. TellsDoubled v.old.geometry (N.bytes v.old.nor.now) page later bits.new) }
+    ensures told { N.tells v.old.nor.now → Notes v.old.geometry (N.bytes v.old.nor.now) page bits.old → IsIndexPage v.old.geometry (N.bytes v.old.nor.now) page head → IfOk result (λ later. TellsDoubled v.old.geometry (N.bytes v.old.nor.now) page later bits.new) }
 {
     if let Some(noted) = note(bits, head) {
         return Ok(noted);
@@ -57,34 +53,17 @@ fn is_later<N: Nor>(
     Ok(v.find_index(head.object(), head.span)? != Some(page))
 }
 
-// Whether a page is a live index page, and another one of its id and span stands before it.
-#[tactic(auto, using(flash_view::proofs::Looking::looks_then))]
-fn is_doubled<N: Nor>(v: &mut View<'_, N>, bits: &mut [u8], page: u16) -> Result<bool, Failed>
-    requires { page < page_count v.old.geometry }
-    ensures cause { OnErr result (Rose (N.faults v.old.nor.now) (N.faults v.new.nor.now)) }
-    ensures looks { OnlyLooks v.old v.new }
-    ensures entry { IfOk result (λ doubled. OnTrue doubled (IsEntryPage v.old.geometry page)) }
-    ensures told { N.tells v.old.nor.now → Notes v.old.geometry (N.bytes v.old.nor.now) page bits.old → IfOk result (λ doubled. TellsDoubled v.old.geometry (N.bytes v.old.nor.now) page doubled bits.new) }
+// Kills a live index page with this header, if it is doubled: whether it was killed.
+fn cull_doubled<N: Nor>(
+    v: &mut View<'_, N>,
+    bits: &mut [u8],
+    page: u16,
+    head: PageHeader,
+) -> Result<bool, Failed>
+    requires { IsEntryPage v.old.geometry page }
+    ensures { Worked v.old v.new result (culling_doubled page head bits.old bits.new) }
 {
-    let g = v.geometry;
-    if !is_entry_page(&g, page) {
-        return Ok(false);
-    }
-    let Some(head) = v.live_header(page)? else {
-        return Ok(false);
-    };
-    if !head.is_index() {
-        return Ok(false);
-    }
-    is_later(v, bits, page, head)
-}
-
-// Kills a page, if it is doubled: whether it was killed.
-fn cull_doubled<N: Nor>(v: &mut View<'_, N>, bits: &mut [u8], page: u16) -> Result<bool, Failed>
-    requires { page < page_count v.old.geometry }
-    ensures { Worked v.old v.new result (culling_doubled page bits.old bits.new) }
-{
-    if !is_doubled(v, bits, page)? {
+    if !is_later(v, bits, page, head)? {
         return Ok(false);
     }
     cull(v, page)?;
@@ -99,8 +78,10 @@ fn cull_noted<N: Nor>(v: &mut View<'_, N>, bits: &mut [u8]) -> Result<u32, Faile
     ensures work { Worked v.old v.new result culling_doubles }
 {
     let mut killed = 0;
-    for page in 0..v.geometry.pages() as u16 {
-        killed += u32::from(cull_doubled(v, bits, page)?);
+    let mut at = 0;
+    'pages: while let Some((page, head)) = v.next_live(at, INDEX_BIT, FREE - 1)? {
+        killed += u32::from(cull_doubled(v, bits, page, head)?);
+        at = u32::from(page) + 1;
     }
     Ok(killed)
 }

@@ -9,11 +9,12 @@ ghost use Rattle.image_model.specs.Files.{index_page, first_missing};
 ghost use Rattle.flash_view.specs.Same.{OnlyLooks};
 ghost use Rattle.vol_check.specs.Culls.{IsSettled};
 ghost use Rattle.vol_check.specs.Needed.{AddsMarks, IsNamed, OfHead, OfFurther, OfFirst, OfFile, OfHeaded, HasFurthers, MarksWanted};
+ghost use Rattle.vol_check.specs.Noted.{IsIndexPage};
 
 use flash_view::{FURTHER_SLOTS_AT, View, head_slots_at};
 use geometry::Geometry;
 use nor_core::{Failed, Nor, NorState};
-use page_layout::{file_size, read_word};
+use page_layout::{FREE, INDEX_BIT, PageHeader, file_size, read_word};
 
 // The mark of a page that a file needs.
 const NEEDED: u8 = 1;
@@ -190,30 +191,38 @@ fn mark_file<N: Nor>(
     mark_furthers(v, marks, id, spans)
 }
 
-// Marks the pages that the file of a page needs, if the page is a header page.
+// Marks the pages that the file of a live index page with this header needs, if it is a header page.
 #[tactic(auto, using(flash_view::proofs::Looking::looks_then))]
-fn mark_headed<N: Nor>(v: &mut View<'_, N>, marks: &mut [u8], page: u16) -> Result<(), Failed>
+fn mark_headed<N: Nor>(
+    v: &mut View<'_, N>,
+    marks: &mut [u8],
+    page: u16,
+    head: PageHeader,
+) -> Result<(), Failed>
     requires room { page_count v.old.geometry ≤ length marks.old }
     requires page { page < page_count v.old.geometry }
     ensures cause { OnErr result (Rose (N.faults v.old.nor.now) (N.faults v.new.nor.now)) }
     ensures looks { OnlyLooks v.old v.new }
-    ensures told { N.tells v.old.nor.now → IsSettled v.old.geometry (N.bytes v.old.nor.now) → OnOk result (AddsMarks (page_count v.old.geometry) (OfHeaded v.old.geometry (N.bytes v.old.nor.now) page) marks.old marks.new) }
+    ensures told { N.tells v.old.nor.now → IsSettled v.old.geometry (N.bytes v.old.nor.now) → IsIndexPage v.old.geometry (N.bytes v.old.nor.now) page head → OnOk result (AddsMarks (page_count v.old.geometry) (OfHeaded v.old.geometry (N.bytes v.old.nor.now) page) marks.old marks.new) }
 {
-    let Some(id) = v.header_id(page)? else {
+    if head.span != 0 {
         return Ok(());
-    };
-    mark_file(v, marks, id, page)
+    }
+    mark_file(v, marks, head.object(), page)
 }
 
 // Marks the pages that the files need.
+#[tactic(auto, using(flash_view::proofs::Looking::looks_then))]
 fn mark_files<N: Nor>(v: &mut View<'_, N>, marks: &mut [u8]) -> Result<(), Failed>
     requires room { page_count v.old.geometry ≤ length marks.old }
     ensures cause { OnErr result (Rose (N.faults v.old.nor.now) (N.faults v.new.nor.now)) }
     ensures looks { OnlyLooks v.old v.new }
     ensures told { N.tells v.old.nor.now → IsSettled v.old.geometry (N.bytes v.old.nor.now) → OnOk result (AddsMarks (page_count v.old.geometry) (OfFirst (OfHeaded v.old.geometry (N.bytes v.old.nor.now)) (page_count v.old.geometry)) marks.old marks.new) }
 {
-    for page in 0..v.geometry.pages() as u16 {
-        mark_headed(v, marks, page)?;
+    let mut at = 0;
+    'pages: while let Some((page, head)) = v.next_live(at, INDEX_BIT, FREE - 1)? {
+        mark_headed(v, marks, page, head)?;
+        at = u32::from(page) + 1;
     }
     Ok(())
 }

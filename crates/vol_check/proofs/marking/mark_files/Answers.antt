@@ -1,15 +1,49 @@
-use Rattle.flash_view.proofs.Looking.{looks_then}
-use Rattle.vol_check.proofs.MarkSteps.{first_next}
+use Rattle.std.proofs.Common.{None, sym, ◌∙◌, arith}
+use Rattle.std.proofs.lemmas.Option.{none-some}
+use Rattle.flash_view.specs.Walk.{IsNextLive, NextLive}
+use Rattle.flash_view.proofs.Looking.{looks_none, looks_then}
+use Rattle.flash_view.proofs.Passed.{passed_head}
+use Rattle.vol_check.proofs.MarkSteps.{first_next, first_skip, adds_none}
+use Rattle.vol_check.proofs.Walks.{found_index}
 use Rattle.vol_check.proofs.marking.mark_files.Goals as goal
 
-pub loop-page-preserved : goal.loop-page-preserved
-loop-page-preserved g c =
-    let was = c.loop-page.invariant in
+pub pages-init : goal.pages-init
+pages-init g c = record { most = omega arith; looks = looks_none c.args.v.now; told = λ tells settled. adds_none _ (λ p of. absurd (omega (arith, of.below))) }
+
+pub mark_headed-requires-clause-page : goal.mark_headed-requires-clause-page
+mark_headed-requires-clause-page g c =
+    let was = c.pages.invariant in
+    let inside = rw (c.in-Some.is, was.looks.same.geometry) at c.in_ok-page.ensures.inside in
+    rw (c.in_ok-page.ensures.looks.same.geometry, was.looks.same.geometry) inside.1.below
+
+pub pages-smaller : goal.pages-smaller
+pages-smaller g c =
+    let inside = rw (c.in-Some.is, c.pages.invariant.looks.same.geometry) at c.in_ok-page.ensures.inside in
+    omega (arith, inside.0, inside.1.below, c.from-at.ensures)
+
+pub pages-preserved : goal.pages-preserved
+pages-preserved g c =
+    let was = c.pages.invariant in
+    let found = c.in_ok-page.ensures in
+    let inside = rw (c.in-Some.is, was.looks.same.geometry) at found.inside in
     let turn = c.in_ok-mark_headed.ensures in
+    let looked = looks_then was.looks found.looks in
     record {
-      end = was.end;
-      looks = looks_then was.looks turn.looks;
+      most = omega (arith, inside.1.below, c.from-at.ensures);
+      looks = looks_then looked turn.looks;
       told = λ tells settled.
-          let told = rw (was.looks.same.geometry, was.looks.reads.bytes) at (turn.told (was.looks.reads.told tells)) in
-          first_next (was.told tells settled) (told settled);
+          let geo = c.args.v.now.geometry in
+          let image = g.N.NorState.bytes c.args.v.now.nor.now in
+          let next : IsNextLive geo image c.pages.at 0x8000 0xFFFE c.in-Some.page c.in-Some.head = rw (was.looks.same.geometry, was.looks.reads.bytes, c.in-Some.is) at (found.told (was.looks.reads.told tells)) in
+          let turned = rw (looked.same.geometry, looked.reads.bytes) at (turn.told (looked.reads.told tells)) in
+          let to = first_skip (was.told tells settled) inside.0 (λ q p after before of. none-some of.id (sym (passed_head geo image q (next.passed q after before)) ∙ of.heads)) in
+          rw c.from-at.ensures (first_next to (turned settled (found_index geo image c.pages.at c.in-Some.page c.in-Some.head next)));
     }
+
+pub returns-clause-told : goal.returns-clause-told
+returns-clause-told g c = λ tells settled.
+    let was = c.pages.invariant in
+    let geo = c.args.v.now.geometry in
+    let image = g.N.NorState.bytes c.args.v.now.nor.now in
+    let last : NextLive geo image c.pages.at 0x8000 0xFFFE None = rw (was.looks.same.geometry, was.looks.reads.bytes, c.in_default.is) at (c.in_ok-page.ensures.told (was.looks.reads.told tells)) in
+    first_skip (was.told tells settled) was.most (λ q p after before of. none-some of.id (sym (passed_head geo image q (last q after before)) ∙ of.heads))

@@ -1,14 +1,17 @@
--- The files of header pages before `page` are marked.
-use Rattle.std.proofs.Common.{◌≡◌}
+-- The files of header pages before page `at` are marked.
+use Rattle.std.proofs.Common.{◌-◌, ◌≤◌}
 use Rattle.geometry.specs.Numbers.{page_count}
 use Rattle.flash_view.specs.Same.{OnlyLooks}
 use Rattle.vol_check.specs.Culls.{IsSettled}
 use Rattle.vol_check.specs.Needed.{AddsMarks, OfFirst, OfHeaded}
 use Rattle.vol_check.proofs.marking.mark_files.Given as goal
 
-abbrev pub invariant-loop-page : goal.invariant-loop-page
-invariant-loop-page g l = record {
-  end : l.page-end ≡ page_count l.fn.v.geometry;
+abbrev pub invariant-pages : goal.invariant-pages
+invariant-pages g l = record {
+  most : l.at ≤ page_count l.fn.v.geometry;
   looks : OnlyLooks l.fn.v l.v;
-  told : (g.N.NorState.tells l.fn.v.nor.now → IsSettled l.fn.v.geometry (g.N.NorState.bytes l.fn.v.nor.now) → AddsMarks (page_count l.fn.v.geometry) (OfFirst (OfHeaded l.fn.v.geometry (g.N.NorState.bytes l.fn.v.nor.now)) l.page) l.fn.marks l.marks);
+  told : (g.N.NorState.tells l.fn.v.nor.now → IsSettled l.fn.v.geometry (g.N.NorState.bytes l.fn.v.nor.now) → AddsMarks (page_count l.fn.v.geometry) (OfFirst (OfHeaded l.fn.v.geometry (g.N.NorState.bytes l.fn.v.nor.now)) l.at) l.fn.marks l.marks);
 }
+
+abbrev pub decreases-pages : goal.decreases-pages
+decreases-pages g l = page_count l.fn.v.geometry - l.at

@@ -1,44 +1,69 @@
-use Rattle.std.proofs.Common.{arith}
-use Rattle.geometry.specs.Numbers.{page_count, per_block}
-use Rattle.vol_check.proofs.Working.{look_works, look_stops, works_as, works_end, works_stop}
+use Rattle.std.proofs.Common.{None, Ok, Some, arith}
+use Rattle.geometry.specs.Numbers.{page_count}
+use Rattle.geometry.proofs.Bounds.{few_pages}
+use Rattle.flash_view.specs.Walk.{NextLive}
+use Rattle.flash_view.proofs.Passed.{passed_used}
+use Rattle.vol_check.specs.Works.{Worked}
+use Rattle.vol_check.proofs.Working.{look_works, look_stops, read_stops, works_seen, works_end, works_stop}
 use Rattle.vol_check.proofs.Passing.{from_bool_is}
-use Rattle.vol_check.proofs.Resting.{resting_start, resting_next, resting_end}
+use Rattle.vol_check.proofs.Resting.{dead_served, standing_at, resting_start, resting_skip, resting_next, resting_end}
+use Rattle.vol_check.proofs.Walks.{found_live}
+use Rattle.vol_check.proofs.unwanted.cull_rest.Given.{Over}
 use Rattle.vol_check.proofs.unwanted.cull_rest.Goals as goal
+use Rattle.vol_check.proofs.unwanted.cull_rest.Goals.{In-Some}
 
 pub returns-in_err-mark_wanted-clause-work : goal.returns-in_err-mark_wanted-clause-work
 returns-in_err-mark_wanted-clause-work g c = look_stops c.in_err-mark_wanted.ensures.looks c.in_err-mark_wanted.ensures.cause c.from_residual.ensures.0
 
-pub loop-page-init : goal.loop-page-init
-unfolding page_count per_block
-loop-page-init g c =
+pub pages-init : goal.pages-init
+pages-init g c =
     let seen = c.in_ok-mark_wanted.ensures in
-    record { end = rw seen.looks.same.geometry at c.pages-page-end.ensures.count; few = omega arith; work = look_works seen.looks (λ tells magics settled. resting_start _ _ _ settled (seen.told tells settled)) }
+    record { few = omega arith; most = omega arith; work = look_works seen.looks (λ tells magics settled. resting_start _ _ _ settled (seen.told tells settled)) }
+
+pub returns-in_err-page-clause-work : goal.returns-in_err-page-clause-work
+returns-in_err-page-clause-work g c = read_stops c.pages.invariant.work c.in_err-page.ensures.looks c.in_err-page.ensures.cause c.from_residual-in_err-page.ensures.0 (λ tells magics settled. record { needs = settled; idle = λ quiet. quiet })
+
+-- up to the page that was found, which is live
+stands : (g : Over) (c : In-Some g) → Worked {nor = g.N.NorState} c.args.v.now c.next_live.new.self (Ok c.pages.killed) (standing_at c.in-Some.page c.mark_wanted.new.marks)
+stands g c =
+    let found = c.in_ok-page.ensures in
+    let inside = rw c.in-Some.is at found.inside in
+    works_seen (λ geo image. NextLive geo image c.pages.at 1 0xFFFE (Some (c.in-Some.page, c.in-Some.field-0-1))) c.pages.invariant.work found.looks (λ tells. rw c.in-Some.is at (found.told tells)) (λ tells magics settled. record { needs = settled; idle = λ quiet. quiet })
+    (λ tells magics settled next done. record { resting = resting_skip _ _ _ _ _ _ _ inside.0 (λ q after before. dead_served _ _ q (passed_used _ _ q (next.passed q after before))) done; live = found_live _ _ _ _ _ next })
 
 pub cull_unmarked-requires : goal.cull_unmarked-requires
-cull_unmarked-requires g c = let was = c.loop-page.invariant in rw was.work.step.framed.same.geometry (omega (arith, was.end, c.loop-page-test.true))
+cull_unmarked-requires g c = let inside = rw c.in-Some.is at c.in_ok-page.ensures.inside in rw c.in_ok-page.ensures.looks.same.geometry inside.1
 
 pub returns-in_err-cull_unmarked-clause-work : goal.returns-in_err-cull_unmarked-clause-work
-unfolding page_count per_block
 returns-in_err-cull_unmarked-clause-work g c =
-    let was = c.loop-page.invariant in
-    works_stop was.work c.in_err-cull_unmarked.ensures c.from_residual-in_err-cull_unmarked.ensures.0 (λ tells magics settled. record { needs = settled; idle = λ quiet. quiet })
-    (λ tells magics settled before. record { needs = (before.settled, before.marked c.loop-page.page (omega arith) (omega (arith, was.end, c.loop-page-test.true))); idle = λ quiet. quiet c.loop-page.page })
+    let inside = rw (c.in-Some.is, c.pages.invariant.work.step.framed.same.geometry) at c.in_ok-page.ensures.inside in
+    works_stop (stands g (goal.at.returns-in_err-cull_unmarked-clause-work g c).In-Some) c.in_err-cull_unmarked.ensures c.from_residual-in_err-cull_unmarked.ensures.0 (λ tells magics settled. record { needs = settled; idle = λ quiet. quiet })
+    (λ tells magics settled before. record { needs = (before.resting.settled, rw c.from.ensures (before.resting.marked c.in-Some.page (omega arith) inside.1.below), before.live); idle = λ quiet. quiet c.in-Some.page })
 
-pub loop-page-preserved : goal.loop-page-preserved
-unfolding page_count per_block
-loop-page-preserved g c =
-    let was = c.loop-page.invariant in
+pub pages-smaller : goal.pages-smaller
+pages-smaller g c =
+    let inside = rw (c.in-Some.is, c.pages.invariant.work.step.framed.same.geometry) at c.in_ok-page.ensures.inside in
+    omega (arith, inside.0, inside.1.below, c.from-at.ensures)
+
+pub pages-preserved : goal.pages-preserved
+pages-preserved g c =
+    let was = c.pages.invariant in
+    let inside = rw (c.in-Some.is, was.work.step.framed.same.geometry) at c.in_ok-page.ensures.inside in
     let more = from_bool_is c.in_ok-cull_unmarked.field-0 in
     record {
-      end = was.end;
-      few = omega (arith, more.1, was.few, c.from.ensures);
-      work = works_end was.work c.in_ok-cull_unmarked.ensures (λ tells magics settled. record { needs = settled; idle = λ quiet. quiet })
-          (λ tells magics settled before. record { needs = (before.settled, before.marked c.loop-page.page (omega arith) (omega (arith, was.end, c.loop-page-test.true))); idle = λ quiet. quiet c.loop-page.page })
-          (λ tells magics need before kept turn. resting_next _ _ _ _ _ _ _ _ _ before turn (omega (arith, more.0, c.from.ensures)));
+      few = omega (arith, inside.0, more.1, was.few, c.from.ensures, c.from-at.ensures);
+      most = omega (arith, inside.1.below, c.from-at.ensures);
+      work = works_end (stands g (goal.at.pages-preserved g c).In-Some) c.in_ok-cull_unmarked.ensures (λ tells magics settled. record { needs = settled; idle = λ quiet. quiet })
+          (λ tells magics settled before. record { needs = (before.resting.settled, rw c.from.ensures (before.resting.marked c.in-Some.page (omega arith) inside.1.below), before.live); idle = λ quiet. quiet c.in-Some.page })
+          (λ tells magics need before kept turn. rw c.from-at.ensures (resting_next _ _ _ _ _ _ _ _ _ before.resting turn (omega (arith, more.0, c.from.ensures))));
     }
 
+pub returns-clause-most : goal.returns-clause-most
+returns-clause-most g c = let was = c.pages.invariant in omega (arith, was.few, was.most, few_pages c.args.v.now.geometry)
+
 pub returns-clause-work : goal.returns-clause-work
-unfolding page_count per_block
 returns-clause-work g c =
-    let was = c.loop-page.invariant in
-    works_as was.work (λ tells magics settled. record { needs = settled; idle = λ quiet. quiet }) (λ tells magics need kept all. resting_end _ _ _ _ _ _ (omega (arith, was.end, c.loop-page-test.false)) all)
+    let was = c.pages.invariant in
+    let found = c.in_ok-page.ensures in
+    works_seen (λ geo image. NextLive geo image c.pages.at 1 0xFFFE None) was.work found.looks (λ tells. rw c.in_default.is at (found.told tells)) (λ tells magics settled. record { needs = settled; idle = λ quiet. quiet })
+    (λ tells magics need last all. resting_end _ _ _ _ _ _ (omega arith) (resting_skip _ _ _ _ _ (page_count c.args.v.now.geometry) _ was.most (λ q after before. dead_served _ _ q (passed_used _ _ q (last q after before))) all))
