@@ -46,9 +46,9 @@ one_of w id (x ∷ files) f there =
     (cases_Bool (x.id == id))
 
 module _ (g : Geometry) (a : List ℕ) (id : ℕ) (f : File) (is : IsImage g a) (tidy : IsTidy g a) (there : file_of id (table_of g a) ≡ Some f) where
-  few_pages : data_pages g (length f.bytes) ≤ 0xFFFF
+  file_few : data_pages g (length f.bytes) ≤ 0xFFFF
   unfolding file_of data_count live_data
-  few_pages =
+  file_few =
       let one = one_of (λ (x : File). data_pages g (length x.bytes)) id (table_of g a) f there in
       let all : live_data g a ≡ data_count g (table_of g a) = (tidy-counts g a is tidy).1 in
       let most = few_pass (λ (p : ℕ). is_data_page (live_at g a p)) (range_with_len 0 (page_count g)) in
@@ -77,5 +77,5 @@ module _ (g : Geometry) (a : List ℕ) (id : ℕ) (f : File) (is : IsImage g a) 
         prime = start.2;
         told = is_found.1 ∙ ap size_of bytes;
         long = long;
-        few = subst (λ (n : ℕ). data_pages g n ≤ 0xFFFF) long few_pages;
+        few = subst (λ (n : ℕ). data_pages g n ≤ 0xFFFF) long file_few;
       }
