@@ -47,6 +47,7 @@ fn accept_chip(g: &Geometry, unit: u32, size: u32) -> Result<(), GeoErr>
 }
 
 // Refuses a volume that may not be written, and a device that doesn't fit it.
+#[tactic(auto, unfolding(geometry::specs::Numbers::page_count, geometry::specs::Numbers::entries, geometry::specs::Numbers::per_block, geometry::specs::Numbers::lookups))]
 fn accept_device(g: &Geometry, unit: u32, size: u32) -> Result<(), GeoErr>
     requires { g.now.phys ≡ g.now.block }
     ensures refused { IfErr result (λ why. device_refusal g.now.page g.now.block g.now.blocks unit size ≡ Some why) }
@@ -112,6 +113,7 @@ fn volume_geometry(form: Form, unit: u32, size: u32) -> Result<Geometry, GeoErr>
 }
 
 // The first part of the lent memory that is too short.
+#[tactic(auto, unfolding(geometry::specs::Numbers::page_count, geometry::specs::Numbers::entries, geometry::specs::Numbers::per_block, geometry::specs::Numbers::lookups))]
 fn short_part(g: &Geometry, lent: &Lengths) -> Option<Ending>
     ensures refused { result ≡ length_refusal g.now.page g.now.block g.now.blocks lent.now }
 {
@@ -134,6 +136,7 @@ fn too_short(part: Part, need: u32, given: usize) -> Option<Ending>
 }
 
 // The geometry, where its needs of lent memory are met.
+#[tactic(auto, unfolding(geometry::specs::Numbers::page_count, geometry::specs::Numbers::entries, geometry::specs::Numbers::per_block, geometry::specs::Numbers::lookups))]
 fn with_room(g: Result<Geometry, GeoErr>, lent: &Lengths) -> Result<Geometry, Ending>
     ensures room { IfOk result (λ g. HasLengths g lent.now) }
     ensures wrong { IfErr g (λ why. result ≡ Err (Ending.Geometry why)) }
