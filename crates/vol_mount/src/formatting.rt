@@ -15,6 +15,7 @@ use nor_core::{Failed, Mark, Nor, NorState};
 use page_layout::{count_offset, magic_offset};
 
 // Erases the units of a block from the first one up. A cut in the first one never leaves the magic.
+#[tactic(auto, using(geometry::proofs::Bounds::lookups_fit))]
 fn erase_block<N: Nor>(g: &Geometry, nor: &mut N, block: u32) -> Result<(), Failed>
     requires block { block < g.now.blocks }
     requires unit { N.unit nor.old ≡ g.now.phys }
@@ -35,6 +36,7 @@ fn erase_block<N: Nor>(g: &Geometry, nor: &mut N, block: u32) -> Result<(), Fail
 }
 
 // Makes a block fresh: erased, with an erase count of 0 and its magic.
+#[tactic(auto, using(flash_view::proofs::Inside::lookups_inside, geometry::proofs::Bounds::block_inside, geometry::proofs::Bounds::volume_small))]
 fn format_block<N: Nor>(g: &Geometry, nor: &mut N, block: u32) -> Result<(), Failed>
     requires block { block < g.now.blocks }
     requires unit { N.unit nor.old ≡ g.now.phys }
