@@ -4,7 +4,7 @@ use Rattle.std.proofs.Math.Nat.{ℕ_set}
 use Rattle.std.proofs.Math.Bridge.{le_prop}
 use Rattle.geometry.specs.declared.geometry.Geometry.{Geometry}
 use Rattle.geometry.specs.declared.magic.MagicKind.{MagicKind}
-use Rattle.geometry.specs.Rules.{IsVolume}
+use Rattle.geometry.specs.Rules.{IsVolume, pages_in, lookups_in}
 use Rattle.geometry.specs.Numbers.{IsOf}
 use Rattle.tool_core.specs.declared.words.Form.{Form}
 use Rattle.tool_core.specs.declared.plan.Command.{Command}
@@ -31,21 +31,37 @@ one_volume page block blocks phys meta v w = λ i. record {
   meta_most = le_prop v.meta_most w.meta_most i;
 }
 
-made : (page block blocks phys meta : ℕ) (magic : MagicKind) → IsVolume page block blocks phys meta → Geometry
-made page block blocks phys meta magic v = record { page = page; block = block; blocks = blocks; phys = phys; meta = meta; magic = magic; valid = v }
+made : (page block blocks phys meta : ℕ) (magic : MagicKind) → IsVolume page block blocks phys meta → (each lookups : ℕ) → (each ≡ pages_in page block) × (lookups ≡ lookups_in page block) → Geometry
+made page block blocks phys meta magic v each lookups kept =
+    record { page = page; block = block; blocks = blocks; phys = phys; meta = meta; magic = magic; pages_each = each; lookups_each = lookups; valid = v; kept = kept }
+
+-- what is kept of the numbers is so in one way
+one_kept : (each lookups m n : ℕ) (a b : (each ≡ m) × (lookups ≡ n)) → a ≡ b
+one_kept each lookups m n a b = λ i. (ℕ_set _ _ a.0 b.0 i, ℕ_set _ _ a.1 b.1 i)
+
+-- a geometry is each one that has such numbers
+abbrev IsEach : Geometry → (page block blocks phys meta : ℕ) → MagicKind → Type 0
+IsEach g page block blocks phys meta magic = (v : IsVolume page block blocks phys meta) (each lookups : ℕ) (kept : (each ≡ pages_in page block) × (lookups ≡ lookups_in page block)) → g ≡ made page block blocks phys meta magic v each lookups kept
+
+is_each : (g : Geometry) → IsEach g g.page g.block g.blocks g.phys g.meta g.magic
+unfolding made
+is_each g v each lookups kept =
+    subst (λ (x : ℕ). (k : (x ≡ pages_in g.page g.block) × (lookups ≡ lookups_in g.page g.block)) → g ≡ made g.page g.block g.blocks g.phys g.meta g.magic v x lookups k) (g.kept.0 ∙ sym kept.0)
+    (subst (λ (x : ℕ). (k : (g.pages_each ≡ pages_in g.page g.block) × (x ≡ lookups_in g.page g.block)) → g ≡ made g.page g.block g.blocks g.phys g.meta g.magic v g.pages_each x k) (g.kept.1 ∙ sym kept.1)
+    (λ k. λ i. made g.page g.block g.blocks g.phys g.meta g.magic (one_volume g.page g.block g.blocks g.phys g.meta g.valid v i) g.pages_each g.lookups_each (one_kept g.pages_each g.lookups_each (pages_in g.page g.block) (lookups_in g.page g.block) g.kept k i)))
+    kept
 
 -- the same numbers
 same_numbers : (g h : Geometry) → g.page ≡ h.page → g.block ≡ h.block → g.blocks ≡ h.blocks → g.phys ≡ h.phys → g.meta ≡ h.meta → g.magic ≡ h.magic → g ≡ h
 unfolding made
 same_numbers g h page block blocks phys meta magic =
-    let first : (w : IsVolume g.page g.block g.blocks g.phys g.meta) → g ≡ made g.page g.block g.blocks g.phys g.meta g.magic w = λ w. ap (made g.page g.block g.blocks g.phys g.meta g.magic) (one_volume g.page g.block g.blocks g.phys g.meta g.valid w) in
-    let second : (w : IsVolume h.page g.block g.blocks g.phys g.meta) → g ≡ made h.page g.block g.blocks g.phys g.meta g.magic w = subst (λ (x : ℕ). (w : IsVolume x g.block g.blocks g.phys g.meta) → g ≡ made x g.block g.blocks g.phys g.meta g.magic w) page first in
-    let third : (w : IsVolume h.page h.block g.blocks g.phys g.meta) → g ≡ made h.page h.block g.blocks g.phys g.meta g.magic w = subst (λ (x : ℕ). (w : IsVolume h.page x g.blocks g.phys g.meta) → g ≡ made h.page x g.blocks g.phys g.meta g.magic w) block second in
-    let fourth : (w : IsVolume h.page h.block h.blocks g.phys g.meta) → g ≡ made h.page h.block h.blocks g.phys g.meta g.magic w = subst (λ (x : ℕ). (w : IsVolume h.page h.block x g.phys g.meta) → g ≡ made h.page h.block x g.phys g.meta g.magic w) blocks third in
-    let fifth : (w : IsVolume h.page h.block h.blocks h.phys g.meta) → g ≡ made h.page h.block h.blocks h.phys g.meta g.magic w = subst (λ (x : ℕ). (w : IsVolume h.page h.block h.blocks x g.meta) → g ≡ made h.page h.block h.blocks x g.meta g.magic w) phys fourth in
-    let sixth : (w : IsVolume h.page h.block h.blocks h.phys h.meta) → g ≡ made h.page h.block h.blocks h.phys h.meta g.magic w = subst (λ (x : ℕ). (w : IsVolume h.page h.block h.blocks h.phys x) → g ≡ made h.page h.block h.blocks h.phys x g.magic w) meta fifth in
-    let last : (w : IsVolume h.page h.block h.blocks h.phys h.meta) → g ≡ made h.page h.block h.blocks h.phys h.meta h.magic w = subst (λ (x : MagicKind). (w : IsVolume h.page h.block h.blocks h.phys h.meta) → g ≡ made h.page h.block h.blocks h.phys h.meta x w) magic sixth in
-    last h.valid
+    let first = subst (λ (x : ℕ). IsEach g x g.block g.blocks g.phys g.meta g.magic) page (is_each g) in
+    let second = subst (λ (x : ℕ). IsEach g h.page x g.blocks g.phys g.meta g.magic) block first in
+    let third = subst (λ (x : ℕ). IsEach g h.page h.block x g.phys g.meta g.magic) blocks second in
+    let fourth = subst (λ (x : ℕ). IsEach g h.page h.block h.blocks x g.meta g.magic) phys third in
+    let fifth = subst (λ (x : ℕ). IsEach g h.page h.block h.blocks h.phys x g.magic) meta fourth in
+    let last = subst (λ (x : MagicKind). IsEach g h.page h.block h.blocks h.phys h.meta x) magic fifth in
+    last h.valid h.pages_each h.lookups_each h.kept
 
 same_command : (x y : Command) → x.verb ≡ y.verb → x.geometry ≡ y.geometry → x ≡ y
 same_command x y verb geometry = λ i. record { verb = verb i; geometry = geometry i }
