@@ -57,9 +57,17 @@ length_mark Length blocks b = blocks - b
 abbrev pub right_magic : Geometry → ℕ → ℕ
 right_magic g b = bit_xor (bit_xor 0x0529 g.page) (length_mark g.magic g.blocks b)
 
+-- bytes of work for pages, notes on pages and the bits of ids
+abbrev pub scratch_need : Geometry → ℕ
+scratch_need g = 4 * g.page + 4 * per_block g + usable g / 8 + 1
+
+-- bytes of work for the counts of all blocks: 16 a block
+abbrev pub rows_need : Geometry → ℕ
+rows_need g = 16 * g.blocks
+
 -- bytes of work that a mounted volume needs
 abbrev pub work_need : Geometry → ℕ
-work_need g = 4 * g.page + 4 * per_block g + 16 * g.blocks + usable g / 8 + 1
+work_need g = scratch_need g + rows_need g
 
 -- bytes of cache that a mounted volume needs: one frame
 abbrev pub cache_need : Geometry → ℕ

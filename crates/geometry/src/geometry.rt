@@ -32,7 +32,7 @@ pub struct Geometry {
 
 impl Geometry {
     ghost use Rattle.std.specs.Prelude.{◌≡◌, ◌<◌, ◌≤◌, ◌*◌, ◌^◌, IfOk, IfErr, OnOk, Some, None};
-    ghost use Rattle.geometry.specs.Numbers.{refusal, write_refusal, IsOf, per_block as per_block_of, lookups as lookups_of, entries as entries_of, body as body_of, head_slots as head_slots_of, span_slots as span_slots_of, page_count, usable as usable_of, work_need as work_need_of, cache_need as cache_need_of, check_need as check_need_of, length_mark as length_mark_of, right_magic};
+    ghost use Rattle.geometry.specs.Numbers.{refusal, write_refusal, IsOf, per_block as per_block_of, lookups as lookups_of, entries as entries_of, body as body_of, head_slots as head_slots_of, span_slots as span_slots_of, page_count, usable as usable_of, scratch_need as scratch_need_of, rows_need as rows_need_of, work_need as work_need_of, cache_need as cache_need_of, check_need as check_need_of, length_mark as length_mark_of, right_magic};
 
     /// A volume of these numbers: `page`, `block` and `phys` in bytes, `meta` in bytes for each file. Of
     /// several rules that are broken, the first in the order of `GeoErr` is answered.
@@ -148,8 +148,10 @@ impl Geometry {
     }
 
     /// Entry pages of a block; at least 1.
+    #[tactic(auto, using(crate::proofs::Bounds::some_entries))]
     pub fn entries(&self) -> u32
         ensures count { result ≡ entries_of self.now }
+        ensures some { 1 ≤ result }
         ensures few { result ≤ 65535 }
     {
         self.per_block() - self.lookups()
@@ -192,11 +194,27 @@ impl Geometry {
         self.blocks * self.entries()
     }
 
+    /// Bytes of work for pages, notes on pages and the bits of ids: the first ones of what is lent for work.
+    pub fn scratch_need(&self) -> u32
+        ensures need { result ≡ scratch_need_of self.now }
+        ensures few { result < 2 ^ 20 }
+    {
+        4 * self.page + 4 * self.per_block() + self.usable() / 8 + 1
+    }
+
+    /// Bytes of work for the counts of all blocks, behind those of `scratch_need`: 16 a block.
+    pub fn rows_need(&self) -> u32
+        ensures need { result ≡ rows_need_of self.now }
+        ensures few { result < 2 ^ 20 }
+    {
+        16 * self.blocks
+    }
+
     /// Bytes of work that a mounted volume needs.
     pub fn work_need(&self) -> u32
         ensures { result ≡ work_need_of self.now }
     {
-        4 * self.page + 4 * self.per_block() + 16 * self.blocks + self.usable() / 8 + 1
+        self.scratch_need() + self.rows_need()
     }
 
     /// Bytes of cache that a mounted volume needs: a frame of one page.
@@ -249,6 +267,7 @@ mod tests {
         assert_eq!(rt; (g.per_block(), g.lookups(), g.entries()), (16, 1, 15));
         assert_eq!(rt; (g.body(), g.head_slots(), g.span_slots()), (251, 105, 124));
         assert_eq!(rt; (g.usable(), g.work_need()), (240, 1375));
+        assert_eq!(rt; (g.scratch_need(), g.rows_need()), (1119, 256));
         assert_eq!(rt; (g.cache_need(), g.check_need()), (264, 8448));
         assert_eq!(rt;
             (g.magic_of(0), g.magic_of(1), g.magic_of(15)),

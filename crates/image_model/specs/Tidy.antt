@@ -55,6 +55,11 @@ pub record IsTidy (g : Geometry) (image : List ℕ) : Type 0 where
   pub undamaged : damaged_of g image ≡ []
   pub unmixed : (p q : ℕ) (x y : List ℕ) → live_at g image p ≡ Some x → live_at g image q ≡ Some y → block_of g p ≡ block_of g q → names_index x ≡ names_index y
 
+-- Free entries are told by the lookup pages alone: every block has its magic, and every entry of 0xFFFF lies over an erased page.
+pub record TellsFree (g : Geometry) (image : List ℕ) : Type 0 where
+  pub magic : (block : ℕ) → block < g.blocks → has_magic g image block ≡ true
+  pub free : (p : ℕ) → is_entry_page g p ≡ true → entry_of g image p ≡ 0xFFFF → is_free_entry g image p ≡ true
+
 -- A block is free where it has its magic and all its entries are free.
 unfoldable pub is_free_block : Geometry → List ℕ → ℕ → Bool
 is_free_block g image block =

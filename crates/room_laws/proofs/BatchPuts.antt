@@ -8,13 +8,13 @@ use Rattle.geometry.specs.Numbers.{entries}
 use Rattle.image_model.specs.Headers.{span_of, names_index}
 use Rattle.image_model.specs.Places.{entry_of, is_entry_page}
 use Rattle.image_model.specs.Live.{live_at}
-use Rattle.image_model.specs.Tidy.{is_free_entry}
+use Rattle.image_model.specs.Tidy.{is_free_entry, TellsFree}
 use Rattle.image_laws.specs.LiveSteps.{PutLeaves, PutDone, KillLeaves}
 use Rattle.image_laws.specs.Changes.{Gains, Loses}
 use Rattle.image_laws.specs.Reindex.{slot_word}
 use Rattle.room_laws.specs.Counts.{Counts, IsBlock, Kind, for_index, for_data}
 use Rattle.room_laws.specs.Order.{without}
-use Rattle.room_laws.specs.Sorts.{Index, Data, Deleted, Free, sort_of_page, sort_at, TellsFree, counts_by, others_by, with_sort, IsPlaceBy}
+use Rattle.room_laws.specs.Sorts.{Index, Data, Deleted, Free, sort_of_page, sort_at, counts_by, others_by, with_sort, IsPlaceBy}
 use Rattle.room_laws.specs.Tags.{SameTag}
 use Rattle.room_laws.specs.Ways.{Move, IsMove, AreApart, AreMoves, OnWay, IsRenamed}
 use Rattle.room_laws.specs.Recovery.{with_data, ArePagesWay}

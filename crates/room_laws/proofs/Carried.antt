@@ -6,7 +6,7 @@ use Rattle.geometry.specs.declared.geometry.Geometry.{Geometry}
 use Rattle.geometry.specs.Numbers.{entries}
 use Rattle.image_model.specs.Places.{entry_of, block_of, is_entry_page}
 use Rattle.image_model.specs.Live.{live_at}
-use Rattle.image_model.specs.Tidy.{is_free_entry}
+use Rattle.image_model.specs.Tidy.{is_free_entry, TellsFree}
 use Rattle.image_laws.specs.TidySteps.{Agree}
 use Rattle.image_laws.proofs.Frames.{live_parts}
 use Rattle.image_laws.proofs.Tally.{is_finished-ones}
@@ -16,7 +16,7 @@ use Rattle.room_laws.specs.Steps.{placed, killed}
 use Rattle.room_laws.specs.Order.{without, Rearranged}
 use Rattle.room_laws.specs.Places.{HadWith}
 use Rattle.room_laws.specs.Counting.{block_counts, counts_of}
-use Rattle.room_laws.specs.Sorts.{Sort, Index, Deleted, Free, sort_of_page, sort_at, TellsFree, counts_by, others_by, beside, with_sort, IsPlaceBy}
+use Rattle.room_laws.specs.Sorts.{Sort, Index, Deleted, Free, sort_of_page, sort_at, counts_by, others_by, beside, with_sort, IsPlaceBy}
 use Rattle.room_laws.specs.Ways.{Move, IsMove, AreMoves, Came, Stayed, Ends}
 use Rattle.room_laws.specs.Recovery.{HasPlaces, IsBetween, with_data, ArePagesWay}
 use Rattle.room_laws.specs.Carrying.{PutSorts, KillSorts, BeginsBetween, FitsHasPlaces, BatchHasPlaces, IndexGoesOn, BatchGoesOn}
@@ -44,7 +44,7 @@ unfolding sort_at
 agree_sort g a b p q agree page other live = rw (agree.entry q page other, live) refl
 
 -- and lookup pages tell it as before
-agree_tells : (g : Geometry) (a b : List ℕ) (p : ℕ) → TellsFree g a → Agree g a b p → (entry_of g b p ≡ 0xFFFF → ⊥) → TellsFree g b
+pub agree_tells : (g : Geometry) (a b : List ℕ) (p : ℕ) → TellsFree g a → Agree g a b p → (entry_of g b p ≡ 0xFFFF → ⊥) → TellsFree g b
 agree_tells g a b p t agree used = record {
   magic = λ c low. agree.magic c ∙ t.magic c low;
   free = λ q page ones. ⊎_elim

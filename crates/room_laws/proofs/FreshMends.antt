@@ -35,7 +35,7 @@ use Rattle.room_laws.proofs.Staying.{free_stays}
 use Rattle.room_laws.proofs.Tagged.{tags_are_once, tags_are_kept}
 
 -- each entry of a free block is free
-in_free : (g : Geometry) (image : List ℕ) (block p : ℕ) → is_free_block g image block ≡ true → is_entry_page g p ≡ true → block_of g p ≡ block → is_free_entry g image p ≡ true
+pub in_free : (g : Geometry) (image : List ℕ) (block p : ℕ) → is_free_block g image block ≡ true → is_entry_page g p ≡ true → block_of g p ≡ block → is_free_entry g image p ≡ true
 unfolding is_free_block
 in_free g image block p free page at =
     let w = and_parts _ _ free in
@@ -59,7 +59,7 @@ fresh_counts g image block t low free = by (told g image t block low)
     by (told_data f d j k i) = let bad : true ≡ false = sym free ∙ f in absurd (cc)
 
 -- the magics of other blocks stay
-magic_stays : (g : Geometry) (was image : List ℕ) (block other : ℕ) → SameOutside (block * g.block) g.block was image → other ≢ block → has_magic g image other ≡ has_magic g was other
+pub magic_stays : (g : Geometry) (was image : List ℕ) (block other : ℕ) → SameOutside (block * g.block) g.block was image → other ≢ block → has_magic g image other ≡ has_magic g was other
 unfolding has_magic
 magic_stays g was image block other same out =
     let fit : entries g + 2 ≤ slots g = (sizes g).slots_fit in

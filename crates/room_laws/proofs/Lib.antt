@@ -36,3 +36,4 @@ pub mod CleanedImages
 pub mod Carried
 pub mod Taken
 pub mod BatchPuts
+pub mod Recounts

@@ -8,14 +8,14 @@ use Rattle.image_model.specs.Headers.{obj_id, span_of, names_index}
 use Rattle.image_model.specs.Places.{IsImage, entry_of, block_of, is_entry_page}
 use Rattle.image_model.specs.Live.{live_at}
 use Rattle.image_model.specs.Tables.{table_of}
-use Rattle.image_model.specs.Tidy.{IsTidy, is_free_entry}
+use Rattle.image_model.specs.Tidy.{IsTidy, is_free_entry, TellsFree}
 use Rattle.image_model.specs.Within.{page_number, block_number}
 use Rattle.image_laws.proofs.Frames.{live_parts}
 use Rattle.image_laws.proofs.StillFree.{live-used}
 use Rattle.image_laws.proofs.Tally.{is_finished-ones}
 use Rattle.image_laws.specs.Reindex.{slot_word}
 use Rattle.image_model.specs.Files.{index_span}
-use Rattle.room_laws.specs.Sorts.{Deleted, Free, sort_of_page, sort_at, TellsFree}
+use Rattle.room_laws.specs.Sorts.{Deleted, Free, sort_of_page, sort_at}
 use Rattle.room_laws.specs.Tags.{SameTag}
 use Rattle.room_laws.specs.Staged.{IsStaged}
 use Rattle.room_laws.specs.Ways.{Move, HasCome, IsMove, AreApart, AreMoves, IsNoPlace, OnWay, Came, Stayed, Ends, IsAside, Resolves, WayResolves, IsNamedBy, IsRenamed, BatchResolves, BatchStays}

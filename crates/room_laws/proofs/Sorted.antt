@@ -9,7 +9,7 @@ use Rattle.geometry.specs.Numbers.{per_block, lookups, entries}
 use Rattle.image_model.specs.Headers.{names_index}
 use Rattle.image_model.specs.Places.{entry_of, block_of, is_entry_page}
 use Rattle.image_model.specs.Live.{live_at}
-use Rattle.image_model.specs.Tidy.{is_free_entry, is_wanted}
+use Rattle.image_model.specs.Tidy.{is_free_entry, is_wanted, TellsFree}
 use Rattle.image_model.specs.Kinds.{is_index_page, is_data_page}
 use Rattle.image_model.specs.Collect.{count_in, index_in, data_in, deleted_in, free_in, is_deleted_entry}
 use Rattle.image_model.specs.Within.{entry_in, entry_of_block, page_number, block_number}
@@ -22,7 +22,7 @@ use Rattle.room_laws.specs.Order.{without}
 use Rattle.room_laws.specs.Leaving.{page_killed}
 use Rattle.room_laws.specs.Losing.{spoiled}
 use Rattle.room_laws.specs.Counting.{block_counts, counts_of}
-use Rattle.room_laws.specs.Sorts.{Sort, Index, Data, Deleted, Free, sort_at, TellsFree, TidyTellsFree, same_sort, counts_by, all_by, beside, with_sort, CountsBySorts, AllBySorts, SameSorts, SortsAreWhole, SortChanges, SortsChange, SortIsCounted, SortsAreCounted, OtherSortsStay, SortsAtBlock, SortsBeside, BlocksBeside, PlaceCanPut}
+use Rattle.room_laws.specs.Sorts.{Sort, Index, Data, Deleted, Free, sort_at, TidyTellsFree, same_sort, counts_by, all_by, beside, with_sort, CountsBySorts, AllBySorts, SameSorts, SortsAreWhole, SortChanges, SortsChange, SortIsCounted, SortsAreCounted, OtherSortsStay, SortsAtBlock, SortsBeside, BlocksBeside, PlaceCanPut}
 use Rattle.room_laws.proofs.Ranges.{four_kinds, count_but}
 use Rattle.room_laws.proofs.Blocks.{unlive}
 
@@ -43,22 +43,20 @@ tidy_tells_free g image t = record {
       (t.entries p page);
 }
 
-module _ (g : Geometry) (image : List ℕ) (t : TellsFree g image) (p : ℕ) (page : is_entry_page g p ≡ true) where
+module _ (g : Geometry) (image : List ℕ) (p : ℕ) where
   -- what an entry counts as, by its four tests
-  record Tested : Type 0 where
-    index : same_sort (sort_at g image p) Index ≡ is_index_page (live_at g image p)
-    pages : same_sort (sort_at g image p) Data ≡ is_data_page (live_at g image p)
-    deleted : same_sort (sort_at g image p) Deleted ≡ is_deleted_entry g image p
-    free : same_sort (sort_at g image p) Free ≡ is_free_entry g image p
+  pub record Tested : Type 0 where
+    pub index : same_sort (sort_at g image p) Index ≡ is_index_page (live_at g image p)
+    pub pages : same_sort (sort_at g image p) Data ≡ is_data_page (live_at g image p)
+    pub deleted : same_sort (sort_at g image p) Deleted ≡ is_deleted_entry g image p
+    pub free : same_sort (sort_at g image p) Free ≡ (entry_of g image p == 0xFFFF)
 
   tested_free : (entry_of g image p == 0xFFFF) ≡ true → Tested
   unfolding sort_at
   tested_free ones =
       let at = eqb-true _ 0xFFFF ones in
       let dead = unlive g image p 0xFFFF at (λ x id. is_finished-ones x id) in
-      let free = t.free p page at in
-      let yes : same_sort (sort_at g image p) Free ≡ true = rw ones refl in
-      record { index = rw (ones, dead) refl; pages = rw (ones, dead) refl; deleted = rw ones refl; free = yes ∙ sym free }
+      record { index = rw (ones, dead) refl; pages = rw (ones, dead) refl; deleted = rw ones refl; free = rw ones refl }
 
   tested_used : (entry_of g image p == 0xFFFF) ≡ false → (o : Option (List ℕ)) → live_at g image p ≡ o → Tested
   unfolding sort_at
@@ -68,8 +66,15 @@ module _ (g : Geometry) (image : List ℕ) (t : TellsFree g image) (p : ℕ) (pa
       (λ (no : names_index x ≡ false). record { index = rw (none, e, no) refl; pages = rw (none, e, no) refl; deleted = rw (none, e, no) refl; free = rw (none, e, no) refl })
       (cases_Bool (names_index x))
 
-  tested : Tested
+  pub tested : Tested
   tested = ⊎_elim (λ (ones : (entry_of g image p == 0xFFFF) ≡ true). tested_free ones) (λ (none : (entry_of g image p == 0xFFFF) ≡ false). tested_used none (live_at g image p) refl) (cases_Bool (entry_of g image p == 0xFFFF))
+
+-- an entry of 0xFFFF is free where lookup pages tell that
+pub tells_alike : (g : Geometry) (image : List ℕ) (p : ℕ) → TellsFree g image → is_entry_page g p ≡ true → (entry_of g image p == 0xFFFF) ≡ is_free_entry g image p
+tells_alike g image p t page = ⊎_elim
+    (λ (ones : (entry_of g image p == 0xFFFF) ≡ true). ones ∙ sym (t.free p page (eqb-true _ 0xFFFF ones)))
+    (λ (none : (entry_of g image p == 0xFFFF) ≡ false). rw none refl)
+    (cases_Bool (entry_of g image p == 0xFFFF))
 
 -- counts that are the same
 abbrev four : ℕ → ℕ → ℕ → ℕ → Counts
@@ -81,13 +86,12 @@ same-counts i d x f i' d' x' f' a b c e = rw (a, b, c, e) refl
 pub counts_by_sorts : (g : Geometry) → CountsBySorts g
 unfolding block_counts counts_by index_in data_in deleted_in free_in
 counts_by_sorts g image block t low =
-    let at = λ (q : ℕ) (from : block * per_block g + lookups g ≤ q) (to : q < block * per_block g + lookups g + entries g). tested g image t q (entry_in g block q low from to).1 in
     same-counts (index_in g image block) (data_in g image block) (deleted_in g image block) (free_in g image block)
     (counts_by g (sort_at g image) block).index (counts_by g (sort_at g image) block).pages (counts_by g (sort_at g image) block).deleted (counts_by g (sort_at g image) block).free
-    (filter-same (λ p. same_sort (sort_at g image p) Index) (λ p. is_index_page (live_at g image p)) (block * per_block g + lookups g) (entries g) (λ q from to. sym (at q from to).index))
-    (filter-same (λ p. same_sort (sort_at g image p) Data) (λ p. is_data_page (live_at g image p)) (block * per_block g + lookups g) (entries g) (λ q from to. sym (at q from to).pages))
-    (filter-same (λ p. same_sort (sort_at g image p) Deleted) (λ p. is_deleted_entry g image p) (block * per_block g + lookups g) (entries g) (λ q from to. sym (at q from to).deleted))
-    (filter-same (λ p. same_sort (sort_at g image p) Free) (λ p. is_free_entry g image p) (block * per_block g + lookups g) (entries g) (λ q from to. sym (at q from to).free))
+    (filter-same (λ p. same_sort (sort_at g image p) Index) (λ p. is_index_page (live_at g image p)) (block * per_block g + lookups g) (entries g) (λ q from to. sym (tested g image q).index))
+    (filter-same (λ p. same_sort (sort_at g image p) Data) (λ p. is_data_page (live_at g image p)) (block * per_block g + lookups g) (entries g) (λ q from to. sym (tested g image q).pages))
+    (filter-same (λ p. same_sort (sort_at g image p) Deleted) (λ p. is_deleted_entry g image p) (block * per_block g + lookups g) (entries g) (λ q from to. sym (tested g image q).deleted))
+    (filter-same (λ p. same_sort (sort_at g image p) Free) (λ p. is_free_entry g image p) (block * per_block g + lookups g) (entries g) (λ q from to. sym ((tested g image q).free ∙ tells_alike g image q t (entry_in g block q low from to).1)))
 
 map-same : (f h : ℕ → Counts) (a n : ℕ) → ((q : ℕ) → a ≤ q → q < a + n → f q ≡ h q) → map f (range_with_len a n) ≡ map h (range_with_len a n)
 map-same f h a zero same = refl
@@ -126,7 +130,7 @@ sorts_are_whole g sorts block =
 -- ---- one changed sort
 
 -- two counts that are the same but at one number
-count-swap : (s t : ℕ → Bool) (k a n : ℕ) → a ≤ k → k < a + n → ((q : ℕ) → a ≤ q → q < a + n → (q ≡ k → ⊥) → t q ≡ s q) →
+pub count-swap : (s t : ℕ → Bool) (k a n : ℕ) → a ≤ k → k < a + n → ((q : ℕ) → a ≤ q → q < a + n → (q ≡ k → ⊥) → t q ≡ s q) →
     length (filter t (range_with_len a n)) + cond (s k) 1 0 ≡ length (filter s (range_with_len a n)) + cond (t k) 1 0
 count-swap s t k a n low high same =
     let none : (not (k == k) && s k) ≡ false = rw (eq-eqb k k refl) refl in

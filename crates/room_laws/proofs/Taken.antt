@@ -8,7 +8,7 @@ use Rattle.geometry.specs.declared.geometry.Geometry.{Geometry}
 use Rattle.geometry.specs.Numbers.{per_block, lookups, entries}
 use Rattle.image_model.specs.Places.{block_of, is_entry_page}
 use Rattle.image_model.specs.Live.{live_at}
-use Rattle.image_model.specs.Tidy.{is_free_entry, is_free_block, free_blocks}
+use Rattle.image_model.specs.Tidy.{is_free_entry, is_free_block, free_blocks, TellsFree}
 use Rattle.image_model.specs.Kinds.{is_index_page, is_data_page, is_index_block, is_data_block}
 use Rattle.image_model.specs.Collect.{index_in, data_in, free_in, takes_index, takes_data}
 use Rattle.image_model.specs.Within.{page_number, block_number}
@@ -16,7 +16,7 @@ use Rattle.room_laws.specs.Counts.{Counts, IsBlock, Kind, unused, for_index, for
 use Rattle.room_laws.specs.Volume.{total, blocks_of, free_of}
 use Rattle.room_laws.specs.Order.{without}
 use Rattle.room_laws.specs.Places.{HadWith}
-use Rattle.room_laws.specs.Sorts.{TellsFree, sort_at, counts_by, all_by, others_by, IsPlaceBy}
+use Rattle.room_laws.specs.Sorts.{sort_at, counts_by, all_by, others_by, IsPlaceBy}
 use Rattle.room_laws.specs.Taking.{takes_as, of_kind, IsFullBeside, KindsAreTested, PlacesAreBy, HasFreeBeside, PlacesAreFound}
 use Rattle.room_laws.proofs.Totals.{Seen, is_unused, is_index, is_data, seen, term, if_same-some}
 use Rattle.room_laws.proofs.Ranges.{any_counted, all_counted, not_all_counted}

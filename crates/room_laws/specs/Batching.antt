@@ -9,7 +9,8 @@ use Rattle.image_laws.specs.LiveSteps.{PutLeaves, PutDone, KillLeaves}
 use Rattle.image_laws.specs.Reindex.{slot_word}
 use Rattle.room_laws.specs.Counts.{IsBlock, Kind, for_index, for_data}
 use Rattle.room_laws.specs.Places.{HadWith}
-use Rattle.room_laws.specs.Sorts.{sort_at, TellsFree, counts_by, others_by, IsPlaceBy}
+use Rattle.room_laws.specs.Sorts.{sort_at, counts_by, others_by, IsPlaceBy}
+use Rattle.image_model.specs.Tidy.{TellsFree}
 use Rattle.room_laws.specs.Tags.{SameTag}
 use Rattle.room_laws.specs.Ways.{Move, AreMoves, OnWay, IsNamedBy, IsBatch}
 use Rattle.room_laws.specs.Recovery.{HasPlaces, IsBetween, with_data, ArePagesWay}

@@ -4,12 +4,12 @@ use Rattle.geometry.specs.declared.geometry.Geometry.{Geometry}
 use Rattle.geometry.specs.Numbers.{entries}
 use Rattle.image_model.specs.Places.{IsImage, block_of, is_entry_page}
 use Rattle.image_model.specs.Live.{live_at}
-use Rattle.image_model.specs.Tidy.{IsTidy}
+use Rattle.image_model.specs.Tidy.{IsTidy, TellsFree}
 use Rattle.image_model.specs.Collect.{is_fitting}
 use Rattle.image_laws.specs.LiveSteps.{PutDone, KillDone}
 use Rattle.room_laws.specs.Counts.{for_index}
 use Rattle.room_laws.specs.Places.{HadWith}
-use Rattle.room_laws.specs.Sorts.{Deleted, sort_of_page, sort_at, TellsFree, counts_by, others_by, with_sort, IsPlaceBy}
+use Rattle.room_laws.specs.Sorts.{Deleted, sort_of_page, sort_at, counts_by, others_by, with_sort, IsPlaceBy}
 use Rattle.room_laws.specs.Ways.{Move, AreMoves, IsBatch}
 use Rattle.room_laws.specs.Recovery.{HasPlaces, IsBetween, IsOnWay, IsIndexWay, with_data, ArePagesWay}
 

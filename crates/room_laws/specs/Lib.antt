@@ -24,3 +24,4 @@ pub mod Carrying
 pub mod CleanedImages
 pub mod Taking
 pub mod Batching
+pub mod Recounting

@@ -4,9 +4,9 @@ use Rattle.std.specs.List.{range_with_len}
 use Rattle.geometry.specs.declared.geometry.Geometry.{Geometry}
 use Rattle.geometry.specs.Numbers.{entries}
 use Rattle.image_model.specs.Headers.{names_index}
-use Rattle.image_model.specs.Places.{has_magic, entry_of, block_of, is_entry_page}
+use Rattle.image_model.specs.Places.{entry_of, block_of, is_entry_page}
 use Rattle.image_model.specs.Live.{live_at}
-use Rattle.image_model.specs.Tidy.{IsTidy, is_free_entry}
+use Rattle.image_model.specs.Tidy.{IsTidy, TellsFree}
 use Rattle.image_model.specs.Collect.{count_in}
 use Rattle.room_laws.specs.Counts.{Counts, Kind, unused, for_index, for_data, kind_of}
 use Rattle.room_laws.specs.Volume.{free_of}
@@ -31,11 +31,6 @@ sort_of_page (Some page) = if names_index page then Index else Data
 -- what an entry counts as
 unfoldable pub sort_at : Geometry → List ℕ → ℕ → Sort
 sort_at g image p = if entry_of g image p == 0xFFFF then Free else sort_of_page (live_at g image p)
-
--- Free entries are told by the lookup pages alone: every block has its magic, and every entry of 0xFFFF lies over an erased page.
-pub record TellsFree (g : Geometry) (image : List ℕ) : Type 0 where
-  pub magic : (block : ℕ) → block < g.blocks → has_magic g image block ≡ true
-  pub free : (p : ℕ) → is_entry_page g p ≡ true → entry_of g image p ≡ 0xFFFF → is_free_entry g image p ≡ true
 
 -- They are so in a tidy image.
 abbrev pub TidyTellsFree : Geometry → Type 0

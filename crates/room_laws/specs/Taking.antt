@@ -3,11 +3,11 @@ use Rattle.std.specs.Prelude.{◌≡◌, ◌≢◌, ℕ, ◌<◌, ◌↔◌, Lis
 use Rattle.geometry.specs.declared.geometry.Geometry.{Geometry}
 use Rattle.geometry.specs.Numbers.{entries}
 use Rattle.image_model.specs.Places.{block_of, is_entry_page}
-use Rattle.image_model.specs.Tidy.{is_free_entry, is_free_block, free_blocks}
+use Rattle.image_model.specs.Tidy.{is_free_entry, is_free_block, free_blocks, TellsFree}
 use Rattle.image_model.specs.Collect.{free_in, takes_index, takes_data}
 use Rattle.room_laws.specs.Counts.{IsBlock, Kind, unused, for_index, for_data, kind_of}
 use Rattle.room_laws.specs.Places.{HadWith}
-use Rattle.room_laws.specs.Sorts.{TellsFree, sort_at, counts_by, others_by, IsPlaceBy}
+use Rattle.room_laws.specs.Sorts.{sort_at, counts_by, others_by, IsPlaceBy}
 
 -- a block's free entries are for a kind
 abbrev pub takes_as : Geometry → List ℕ → Kind → ℕ → Bool
