@@ -13,3 +13,5 @@ pub mod Walking
 pub mod Spans
 pub mod Passed
 pub mod Stepped
+pub mod Sorts
+pub mod Rows

@@ -7,7 +7,7 @@ use Rattle.geometry.specs.declared.geometry.Geometry.{Geometry}
 use Rattle.page_cache.specs.Kept.{FewReads}
 use Rattle.page_cache.proofs.Held.{few_none, few_then}
 use Rattle.flash_view.specs.declared.view.View.{View}
-use Rattle.flash_view.specs.Same.{IsSameView, OnlyLooks}
+use Rattle.flash_view.specs.Same.{IsSameView, OnlyLooks, OnlyCounts}
 
 module _ {N : Type 0} {nor : NorOf N} where
   pub same_then : {old mid new : View N nor} → IsSameView old mid → IsSameView mid new → IsSameView old new
@@ -15,6 +15,7 @@ module _ {N : Type 0} {nor : NorOf N} where
     geometry = second.geometry ∙ first.geometry;
     nor_name = second.nor_name ∙ first.nor_name;
     work_name = second.work_name ∙ first.work_name;
+    rows_name = second.rows_name ∙ first.rows_name;
     cache_name = second.cache_name ∙ first.cache_name;
     cache_size = second.cache_size ∙ first.cache_size;
     faults = omega (arith, first.faults, second.faults);
@@ -27,13 +28,19 @@ module _ {N : Type 0} {nor : NorOf N} where
   }
 
   pub same_none : (v : View N nor) → IsSameView v v
-  same_none v = record { geometry = refl; nor_name = refl; work_name = refl; cache_name = refl; cache_size = refl; faults = omega arith; writes = omega arith; asked = λ before after. let bad : true ≡ false = sym after ∙ before in absurd (cc); few = few_none v.geometry v.nor.now v.cache.now }
+  same_none v = record { geometry = refl; nor_name = refl; work_name = refl; rows_name = refl; cache_name = refl; cache_size = refl; faults = omega arith; writes = omega arith; asked = λ before after. let bad : true ≡ false = sym after ∙ before in absurd (cc); few = few_none v.geometry v.nor.now v.cache.now }
 
   pub looks_then : {old mid new : View N nor} → OnlyLooks old mid → OnlyLooks mid new → OnlyLooks old new
-  looks_then first second = record { reads = reads_then first.reads second.reads; wrote = second.wrote ∙ first.wrote; same = same_then first.same second.same }
+  looks_then first second = record { reads = reads_then first.reads second.reads; wrote = second.wrote ∙ first.wrote; counted = second.counted ∙ first.counted; rows = second.rows ∙ first.rows; same = same_then first.same second.same }
 
   pub looks_none : (v : View N nor) → OnlyLooks v v
-  looks_none v = record { reads = reads_none v.nor.now; wrote = refl; same = same_none v }
+  looks_none v = record { reads = reads_none v.nor.now; wrote = refl; counted = refl; rows = refl; same = same_none v }
+
+  pub looks_counts : {old new : View N nor} → OnlyLooks old new → OnlyCounts old new
+  looks_counts looks = record { reads = looks.reads; wrote = looks.wrote; same = looks.same }
+
+  pub counts_then : {old mid new : View N nor} → OnlyCounts old mid → OnlyCounts mid new → OnlyCounts old new
+  counts_then first second = record { reads = reads_then first.reads second.reads; wrote = second.wrote ∙ first.wrote; same = same_then first.same second.same }
 
   -- the page that is being built stays from call to call
   pub built_then : {old mid : View N nor} → OnlyLooks old mid → take old.geometry.page mid.work.now ≡ take old.geometry.page old.work.now → (now : List ℕ) → take mid.geometry.page now ≡ take mid.geometry.page mid.work.now →

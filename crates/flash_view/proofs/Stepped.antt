@@ -10,8 +10,8 @@ use Rattle.nor_core.specs.declared.state.NorState.{Ghosts as NorOf}
 use Rattle.nor_core.proofs.Cuts.{wider, go_on, unchanged, after_reads, reads_then, reads_none}
 use Rattle.page_cache.proofs.Held.{few_none}
 use Rattle.flash_view.specs.declared.view.View.{View}
-use Rattle.flash_view.specs.Same.{IsSameView, OnlyLooks}
-use Rattle.flash_view.proofs.Looking.{same_then}
+use Rattle.flash_view.specs.Same.{IsSameView, OnlyLooks, OnlyCounts}
+use Rattle.flash_view.proofs.Looking.{same_then, looks_counts}
 use Rattle.flash_view.specs.Steps.{Step, Errors, Framed, Stepped, Begins, Finishes, acting, making, failed, IsRebuilt}
 
 on_ok : {T E : Type 0} (r : Result T E) (fault : E) (P Q : T → Type 0) → ((x : T) → P x → Q x) → MatchResult r P (λ why. why ≡ fault) → MatchResult r Q (λ why. why ≡ fault)
@@ -34,8 +34,11 @@ module _ {N : Type 0} {nor : NorOf N} where
 
   -- ---- the frame
 
+  pub framed_counts : {old new : View N nor} → OnlyCounts old new → Framed old new
+  framed_counts counts = record { same = counts.same; wrote = λ e. counts.wrote ∙ e; untouched = λ before after. counts.reads }
+
   pub framed_looks : {old new : View N nor} → OnlyLooks old new → Framed old new
-  framed_looks looks = record { same = looks.same; wrote = λ e. looks.wrote ∙ e; untouched = λ before after. looks.reads }
+  framed_looks looks = framed_counts (looks_counts looks)
 
   pub framed_wrote : {old new : View N nor} → IsSameView old new → new.wrote ≡ true → Framed old new
   framed_wrote same wrote = record { same = same; wrote = λ e. wrote; untouched = λ before after. let bad : true ≡ false = sym wrote ∙ after in absurd (cc) }
@@ -72,10 +75,13 @@ module _ {N : Type 0} {nor : NorOf N} where
   rebuilt {old} {new} same = record {
     reads = subst (λ (d : N). OnlyReads nor old.nor.now d) (sym same.device) (reads_none old.nor.now);
     wrote = same.wrote;
+    counted = same.counted;
+    rows = same.rows;
     same = record {
       geometry = same.geometry;
       nor_name = same.nor_name;
       work_name = same.work_name;
+      rows_name = same.rows_name;
       cache_name = same.cache_name;
       cache_size = ap length same.cache;
       faults = let e = ap nor.faults same.device in omega arith;

@@ -4,3 +4,5 @@ pub mod Found
 pub mod DataPages
 pub mod Steps
 pub mod Walk
+pub mod Counts
+pub mod Table

@@ -11,6 +11,7 @@ pub record IsSameView {N : Type 0} {nor : NorOf N} (old new : View N nor) : Type
   pub geometry : new.geometry ≡ old.geometry
   pub nor_name : new.nor.ghost_name ≡ old.nor.ghost_name
   pub work_name : new.work.ghost_name ≡ old.work.ghost_name
+  pub rows_name : new.rows.ghost_name ≡ old.rows.ghost_name
   pub cache_name : new.cache.ghost_name ≡ old.cache.ghost_name
   pub cache_size : length new.cache.now ≡ length old.cache.now
   pub faults : nor.faults old.nor.now ≤ nor.faults new.nor.now
@@ -18,8 +19,16 @@ pub record IsSameView {N : Type 0} {nor : NorOf N} (old new : View N nor) : Type
   pub asked : old.wrote ≡ false → new.wrote ≡ true → Rose (nor.device_writes old.nor.now) (nor.device_writes new.nor.now)
   pub few : FewReads nor old.geometry old.nor.now old.cache.now new.nor.now new.cache.now
 
--- the device was only read
+-- the device was only read, and the table of counts is as it was
 pub record OnlyLooks {N : Type 0} {nor : NorOf N} (old new : View N nor) : Type 0 where
+  pub reads : OnlyReads nor old.nor.now new.nor.now
+  pub wrote : new.wrote ≡ old.wrote
+  pub counted : new.counted ≡ old.counted
+  pub rows : new.rows.now ≡ old.rows.now
+  pub same : IsSameView old new
+
+-- the device was only read
+pub record OnlyCounts {N : Type 0} {nor : NorOf N} (old new : View N nor) : Type 0 where
   pub reads : OnlyReads nor old.nor.now new.nor.now
   pub wrote : new.wrote ≡ old.wrote
   pub same : IsSameView old new

@@ -75,4 +75,7 @@ pub record IsRebuilt {N : Type 0} {nor : NorOf N} (old new : View N nor) : Type 
   pub work_name : new.work.ghost_name ≡ old.work.ghost_name
   pub cache : new.cache.now ≡ old.cache.now
   pub cache_name : new.cache.ghost_name ≡ old.cache.ghost_name
+  pub rows : new.rows.now ≡ old.rows.now
+  pub rows_name : new.rows.ghost_name ≡ old.rows.ghost_name
   pub wrote : new.wrote ≡ old.wrote
+  pub counted : new.counted ≡ old.counted

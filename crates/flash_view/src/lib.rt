@@ -1,6 +1,7 @@
 //! A volume's device, its geometry and the bytes lent for its work: pages, entries, and which pages are live.
 #![tactic(auto)]
 
+mod counts;
 mod data_pages;
 mod kinds;
 mod live;
@@ -9,6 +10,7 @@ mod through;
 mod view;
 mod walk;
 
+pub use counts::{BlockCounts, Sort, with_free, with_one, without_one};
 pub use data_pages::{FURTHER_SLOTS_AT, head_slots_at};
 pub use kinds::{Kind, StepErr};
 pub use places::{block_of, entry_page, is_entry_page};

@@ -1,10 +1,11 @@
-ghost use Rattle.std.specs.Prelude.{◌≡◌, ◌+◌, ◌-◌, ◌*◌, ◌<◌, ◌≤◌, length, slice_range, OnOk, OnErr};
-ghost use Rattle.geometry.specs.Numbers.{work_need, cache_need};
+ghost use Rattle.std.specs.Prelude.{◌≡◌, ◌+◌, ◌-◌, ◌*◌, ◌<◌, ◌≤◌, length, slice_range, OnOk, OnErr, true};
+ghost use Rattle.geometry.specs.Numbers.{scratch_need, cache_need};
 ghost use Rattle.nor_core.specs.Count.{Rose};
 ghost use Rattle.nor_core.specs.Flash.{HalfProgrammed, programmed};
 ghost use Rattle.nor_core.specs.Device.{Changes};
 ghost use Rattle.image_model.specs.Tidy.{is_erased as the_erased};
 ghost use Rattle.page_cache.specs.Kept.{IsKept};
+ghost use Rattle.flash_view.specs.Table.{HasTable};
 
 use crate::places::{block_of, entry_start, lookup_of, lookup_page, page_start};
 use crate::through::{erase_cached, program_cached, program_part, read_cached, say_cached};
@@ -22,22 +23,27 @@ pub struct View<'b, N: Nor> {
     pub nor: &'b mut N,
     /// Bytes for work: a page to build, a page that was read, and notes.
     pub work: &'b mut [u8],
+    /// Bytes for the counts of blocks, 16 bytes a block; fewer where no table is kept.
+    pub rows: &'b mut [u8],
     /// Bytes for copies of pages.
     pub cache: &'b mut [u8],
     /// Whether the device was asked for a program or an erase since this was last set to false.
     pub wrote: bool,
+    /// Whether the table of counts stands: each row has the counts of its block, and entries alone tell what is free.
+    pub counted: bool,
     pub ghost unit: { N.unit nor.now ≡ geometry.phys },
     pub ghost volume: { geometry.blocks * geometry.block ≤ N.size nor.now },
-    pub ghost work_fits: { work_need geometry ≤ length work.now },
+    pub ghost work_fits: { scratch_need geometry ≤ length work.now },
     pub ghost cache_fits: { cache_need geometry ≤ length cache.now },
     pub ghost kept: { IsKept N.NorState geometry nor.now cache.now },
+    pub ghost table: { counted ≡ true → HasTable N.NorState geometry nor.now rows.now },
 }
 
 impl<'b, N: Nor> View<'b, N> {
     ghost use Rattle.std.specs.Prelude.{◌≡◌, ℕ, ◌+◌, ◌*◌, ◌/◌, ◌<◌, ◌≤◌, length, take, slice_index, slice_range, OnOk, OnErr, IfOk, true, false};
     ghost use Rattle.std.specs.Option.{ForSome};
     ghost use Rattle.std.specs.Int.{to_le_bytes, w16};
-    ghost use Rattle.geometry.specs.Numbers.{work_need, cache_need, page_count};
+    ghost use Rattle.geometry.specs.Numbers.{scratch_need, cache_need, page_count};
     ghost use Rattle.nor_core.specs.Count.{Rose};
     ghost use Rattle.nor_core.specs.Flash.{HalfProgrammed, programmed, HalfErased, erased, word_at};
     ghost use Rattle.nor_core.specs.Device.{Changes, InErase, Writes};
@@ -50,22 +56,25 @@ impl<'b, N: Nor> View<'b, N> {
     ghost use Rattle.page_cache.specs.Kept.{IsKept};
     ghost use Rattle.flash_view.specs.Same.{IsSameView, OnlyLooks};
 
-    /// A view of the volume on a device, with no page in the cache bytes. The device may be larger than the volume.
+    /// A view of the volume on a device, with no page in the cache bytes, and without a table of counts; what is lent for its rows
+    /// may be shorter than they are, then it never gets one. The device may be larger than the volume.
     pub fn new(
         geometry: Geometry,
         nor: &'b mut N,
         work: &'b mut [u8],
+        rows: &'b mut [u8],
         cache: &'b mut [u8],
     ) -> View<'b, N>
         requires unit { N.unit nor.old ≡ geometry.phys }
         requires volume { geometry.blocks * geometry.block ≤ N.size nor.old }
-        requires work { work_need geometry ≤ length work.old }
+        requires work { scratch_need geometry ≤ length work.old }
         requires cache { cache_need geometry ≤ length cache.old }
         ensures geometry { result.geometry ≡ geometry }
         ensures wrote { result.wrote ≡ false }
         ensures nor { result.nor.now ≡ nor.old }
         ensures nor_name { result.nor.ghost_name ≡ nor.entry.ghost_name }
         ensures work_name { result.work.ghost_name ≡ work.entry.ghost_name }
+        ensures rows_name { result.rows.ghost_name ≡ rows.entry.ghost_name }
         ensures cache_name { result.cache.ghost_name ≡ cache.entry.ghost_name }
         ensures cache_size { length result.cache.now ≡ length cache.old }
         ensures empty { held geometry result.cache.now ≡ 0 }
@@ -75,8 +84,10 @@ impl<'b, N: Nor> View<'b, N> {
             geometry,
             nor,
             work,
+            rows,
             cache,
             wrote: false,
+            counted: false,
         }
     }
 
@@ -191,6 +202,7 @@ impl<'b, N: Nor> View<'b, N> {
     }
 
     /// Gets a page held, for `held`.
+    #[tactic(auto, using(crate::proofs::Rows::table_stays))]
     pub fn hold(&mut self, page: u16) -> Result<(), Failed>
         requires { page < page_count self.old.geometry }
         ensures cause { OnErr result (Rose (N.faults self.old.nor.now) (N.faults self.new.nor.now)) }
@@ -216,7 +228,7 @@ impl<'b, N: Nor> View<'b, N> {
     }
 
     /// The page that is being built becomes a copy of a page.
-    #[tactic(auto, unfolding(image_model::specs::Places::page_of))]
+    #[tactic(auto, unfolding(image_model::specs::Places::page_of), using(crate::proofs::Rows::table_stays))]
     pub fn load(&mut self, page: u16) -> Result<(), Failed>
         requires { page < page_count self.old.geometry }
         ensures cause { OnErr result (Rose (N.faults self.old.nor.now) (N.faults self.new.nor.now)) }
@@ -235,7 +247,7 @@ impl<'b, N: Nor> View<'b, N> {
     }
 
     /// Reads a page, for `fetched`. The page that is being built stays.
-    #[tactic(auto, unfolding(image_model::specs::Places::page_of))]
+    #[tactic(auto, unfolding(image_model::specs::Places::page_of), using(crate::proofs::Rows::table_stays))]
     pub fn fetch(&mut self, page: u16) -> Result<(), Failed>
         requires { page < page_count self.old.geometry }
         ensures cause { OnErr result (Rose (N.faults self.old.nor.now) (N.faults self.new.nor.now)) }
@@ -295,8 +307,11 @@ impl<'b, N: Nor> View<'b, N> {
         ensures work { self.new.work.now ≡ self.old.work.now }
         ensures same { IsSameView self.old self.new }
         ensures wrote { self.new.wrote ≡ true }
+        ensures rows { self.new.rows.now ≡ self.old.rows.now }
+        ensures down { self.new.counted ≡ false }
     {
         self.wrote = true;
+        self.counted = false;
         program_cached(self.geometry, self.nor, self.cache, at, from)
     }
 
@@ -311,8 +326,11 @@ impl<'b, N: Nor> View<'b, N> {
         ensures changes { Changes N.NorState self.old.nor.now self.new.nor.now (InErase N.NorState self.old.nor.now self.new.nor.now unit_ix mark) }
         ensures same { IsSameView self.old self.new }
         ensures wrote { self.new.wrote ≡ true }
+        ensures rows { self.new.rows.now ≡ self.old.rows.now }
+        ensures down { self.new.counted ≡ false }
     {
         self.wrote = true;
+        self.counted = false;
         erase_cached(self.geometry, self.nor, self.cache, unit_ix, mark)
     }
 
@@ -327,10 +345,13 @@ impl<'b, N: Nor> View<'b, N> {
         ensures work { self.new.work.now ≡ self.old.work.now }
         ensures same { IsSameView self.old self.new }
         ensures wrote { self.new.wrote ≡ true }
+        ensures rows { self.new.rows.now ≡ self.old.rows.now }
+        ensures down { self.new.counted ≡ false }
     {
         let at = page_start(&self.geometry, page) + start;
         let end = self.geometry.page() as usize;
         self.wrote = true;
+        self.counted = false;
         program_part(
             self.geometry,
             self.nor,
@@ -354,6 +375,8 @@ impl<'b, N: Nor> View<'b, N> {
         ensures work { self.new.work.now ≡ self.old.work.now }
         ensures same { IsSameView self.old self.new }
         ensures wrote { self.new.wrote ≡ true }
+        ensures rows { self.new.rows.now ≡ self.old.rows.now }
+        ensures down { self.new.counted ≡ false }
     {
         let at = page_start(&self.geometry, page) + start;
         self.program(at, from)
@@ -369,6 +392,8 @@ impl<'b, N: Nor> View<'b, N> {
         ensures work { self.new.work.now ≡ self.old.work.now }
         ensures same { IsSameView self.old self.new }
         ensures wrote { self.new.wrote ≡ true }
+        ensures rows { self.new.rows.now ≡ self.old.rows.now }
+        ensures down { self.new.counted ≡ false }
     {
         let at = entry_start(&self.geometry, page);
         self.program(at, &entry.to_le_bytes())
@@ -387,8 +412,10 @@ impl<'b, N: Nor> View<'b, N> {
             geometry: _,
             nor,
             work,
+            rows: _,
             cache,
             wrote: _,
+            counted: _,
         } = self;
         (nor, work, cache)
     }
@@ -401,6 +428,7 @@ impl<'b, B: Board> View<'b, B> {
     ghost use Rattle.flash_view.specs.Same.{IsSameView};
 
     /// The device says a piece.
+    #[tactic(auto, using(crate::proofs::Rows::table_said))]
     pub fn say(&mut self, piece: &[u8]) -> Result<(), Failed>
         ensures cause { OnErr result (Rose (B.faults self.old.nor.now) (B.faults self.new.nor.now)) }
         ensures says { Says B.NorState self.old.nor.now self.new.nor.now piece.now }

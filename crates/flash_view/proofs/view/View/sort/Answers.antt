@@ -1,0 +1,10 @@
+use Rattle.flash_view.proofs.Sorts.{used_sort}
+use Rattle.flash_view.proofs.view.View.sort.Goals as goal
+
+pub returns-clause-told : goal.returns-clause-told
+returns-clause-told g c = λ tells.
+    let e = c.in_ok-entry.ensures in
+    let view = c.args.self.now in
+    let image = g.N.NorState.bytes view.nor.now in
+    let told = rw (e.looks.same.geometry, e.looks.reads.bytes) at (c.in_ok-sort.ensures.told (e.looks.reads.told tells)) in
+    used_sort view.geometry image c.args.page c.in_ok-entry.entry c.in_ok-sort.sort c.if-entry.false (e.told tells) (told (e.told tells))

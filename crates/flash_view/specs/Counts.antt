@@ -1,0 +1,49 @@
+-- The entries of a block by what they count as.
+use Rattle.std.specs.Prelude.{◌≡◌, ℕ, ◌+◌, ◌-◌, min, List, ◌==◌, Option, Some, None, if◌then◌else◌}
+use Rattle.geometry.specs.declared.geometry.Geometry.{Geometry}
+use Rattle.image_model.specs.Headers.{names_index}
+use Rattle.image_model.specs.Live.{live_at}
+use Rattle.image_model.specs.Places.{entry_of, erase_count}
+use Rattle.image_model.specs.Collect.{count_in, index_in, data_in, deleted_in}
+use Rattle.flash_view.specs.declared.counts.BlockCounts.{BlockCounts}
+use Rattle.flash_view.specs.declared.counts.Sort.{Sort}
+use Rattle.flash_view.specs.declared.counts.Sort.TheVariants.{Index, Data, Deleted, Free}
+
+-- what an entry that isn't free counts as, by its page where that is live
+abbrev pub sort_of_page : Option (List ℕ) → Sort
+sort_of_page None = Deleted
+sort_of_page (Some page) = if names_index page then Index else Data
+
+-- what an entry counts as
+unfoldable pub sort_at : Geometry → List ℕ → ℕ → Sort
+sort_at g image p = if entry_of g image p == 0xFFFF then Free else sort_of_page (live_at g image p)
+
+-- the entries that were counted
+abbrev pub total_of : BlockCounts → ℕ
+total_of c = c.index_live + c.data_live + c.deleted + c.free
+
+-- the counts with one entry more
+abbrev pub one_more : BlockCounts → Sort → BlockCounts
+one_more c Index = record c { index_live = c.index_live + 1 }
+one_more c Data = record c { data_live = c.data_live + 1 }
+one_more c Deleted = record c { deleted = c.deleted + 1 }
+one_more c Free = record c { free = c.free + 1 }
+
+-- the counts with one entry less
+abbrev pub one_less : BlockCounts → Sort → BlockCounts
+one_less c Index = record c { index_live = c.index_live - 1 }
+one_less c Data = record c { data_live = c.data_live - 1 }
+one_less c Deleted = record c { deleted = c.deleted - 1 }
+one_less c Free = record c { free = c.free - 1 }
+
+-- the counts with free entries more
+abbrev pub more_free : BlockCounts → ℕ → BlockCounts
+more_free c n = record c { free = c.free + n }
+
+-- The counts are those of the block's entries; `free` counts each entry of 0xFFFF, also over a page that isn't erased.
+pub record AreCounts (g : Geometry) (image : List ℕ) (block : ℕ) (c : BlockCounts) : Type 0 where
+  pub index : c.index_live ≡ index_in g image block
+  pub pages : c.data_live ≡ data_in g image block
+  pub deleted : c.deleted ≡ deleted_in g image block
+  pub free : c.free ≡ count_in g block (λ p. entry_of g image p == 0xFFFF)
+  pub erases : c.erases ≡ erase_count g image block
