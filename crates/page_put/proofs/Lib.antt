@@ -1,3 +1,5 @@
+pub mod Recounted
+pub mod Changing
 pub mod Bytes
 pub mod Finishing
 pub mod Placed

@@ -7,6 +7,7 @@ ghost use Rattle.nor_core.specs.Device.{Changes};
 ghost use Rattle.image_model.specs.Files.{slot_at};
 ghost use Rattle.flash_view.specs.Same.{IsSameView};
 
+use crate::rows::{recount, sort_before};
 use flash_view::View;
 use geometry::Geometry;
 use nor_core::{Failed, Nor, NorState};
@@ -23,8 +24,10 @@ pub fn mark_removed<N: Nor>(v: &mut View<'_, N>, page: u16) -> Result<(), Failed
     ensures changes { Changes N.NorState v.old.nor.now v.new.nor.now (HalfProgrammed (page * v.old.geometry.page + 4) (0xBF ∷ [])) }
     ensures done { N.tells v.old.nor.now → OnOk result (N.bytes v.new.nor.now ≡ programmed (N.bytes v.old.nor.now) (page * v.old.geometry.page + 4) (0xBF ∷ [])) }
 {
+    let before = sort_before(v, page);
     let erased = Flags::from_bits(0xFF);
-    v.program_in(page, 4, &[erased.removing().bits()])
+    v.program_in(page, 4, &[erased.removing().bits()])?;
+    recount(v, page, before?)
 }
 
 /// Programs bytes behind those that a data page holds, in one program. `at` counts bytes from the page's first one, its
@@ -40,7 +43,9 @@ pub fn fill_tail<N: Nor>(v: &mut View<'_, N>, page: u16, at: u32, from: &[u8]) -
     ensures changes { Changes N.NorState v.old.nor.now v.new.nor.now (HalfProgrammed (page * v.old.geometry.page + at) from.now) }
     ensures done { N.tells v.old.nor.now → OnOk result (N.bytes v.new.nor.now ≡ programmed (N.bytes v.old.nor.now) (page * v.old.geometry.page + at) from.now) }
 {
-    v.program_in(page, at, from)
+    let before = sort_before(v, page);
+    v.program_in(page, at, from)?;
+    recount(v, page, before?)
 }
 
 // The byte of an index page at which the entry of a data span stands: in the header page or in a further index page.
@@ -73,6 +78,8 @@ pub fn name_slot<N: Nor>(
     ensures changes { Changes N.NorState v.old.nor.now v.new.nor.now (HalfProgrammed (page * v.old.geometry.page + slot_at v.old.geometry span) (to_le_bytes w16 target)) }
     ensures done { N.tells v.old.nor.now → OnOk result (N.bytes v.new.nor.now ≡ programmed (N.bytes v.old.nor.now) (page * v.old.geometry.page + slot_at v.old.geometry span) (to_le_bytes w16 target)) }
 {
+    let before = sort_before(v, page);
     let start = slot_start(&v.geometry, span);
-    v.program_in(page, start, &target.to_le_bytes())
+    v.program_in(page, start, &target.to_le_bytes())?;
+    recount(v, page, before?)
 }

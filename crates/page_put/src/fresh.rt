@@ -7,6 +7,7 @@ ghost use Rattle.image_laws.specs.Blocks.{magic_mark};
 ghost use Rattle.flash_view.specs.Same.{IsSameView};
 ghost use Rattle.page_put.specs.Fresh.{Freshens, IsFresh, UnitCut, InErasing, MarkCut, FreshCut, blank, with_magic};
 
+use crate::rows::count_fresh;
 use flash_view::View;
 use geometry::Geometry;
 use nor_core::{Failed, Mark, Nor, NorState};
@@ -38,6 +39,7 @@ fn erase_unit<N: Nor>(v: &mut View<'_, N>, block: u16, i: u32) -> Result<(), Fai
     ensures done { N.tells v.old.nor.now → OnOk result (N.bytes v.new.nor.now ≡ erased (N.bytes v.old.nor.now) (block * v.old.geometry.block + i * v.old.geometry.phys) v.old.geometry.phys) }
     ensures same { IsSameView v.old v.new }
     ensures wrote { v.new.wrote ≡ true }
+    ensures rows { v.new.rows.now ≡ v.old.rows.now }
 {
     let g = v.geometry;
     let units = g.block() / g.phys();
@@ -53,6 +55,7 @@ fn erase_block<N: Nor>(v: &mut View<'_, N>, block: u16) -> Result<(), Failed>
     ensures done { N.tells v.old.nor.now → OnOk result (N.bytes v.new.nor.now ≡ blank v.old.geometry block (N.bytes v.old.nor.now)) }
     ensures same { IsSameView v.old v.new }
     ensures wrote { v.new.wrote ≡ true }
+    ensures rows { v.new.rows.now ≡ v.old.rows.now }
 {
     let units = v.geometry.block() / v.geometry.phys();
     for i in 0..units {
@@ -70,12 +73,31 @@ fn mark_block<N: Nor>(v: &mut View<'_, N>, block: u16, count: u16) -> Result<(),
     ensures done { N.tells v.old.nor.now → OnOk result (N.bytes v.new.nor.now ≡ with_magic v.old.geometry block count (N.bytes v.old.nor.now)) }
     ensures same { IsSameView v.old v.new }
     ensures wrote { v.new.wrote ≡ true }
+    ensures rows { v.new.rows.now ≡ v.old.rows.now }
 {
     let g = v.geometry;
     let start = u32::from(block) * g.block();
     let magic = g.magic_of(u32::from(block));
     v.program(start + count_offset(&g), &count.to_le_bytes())?;
     v.program(start + magic_offset(&g), &magic.to_le_bytes())
+}
+
+// The erases and programs of a block that is made fresh.
+#[tactic(auto, using(flash_view::proofs::Looking::same_then))]
+fn program_fresh<N: Nor>(v: &mut View<'_, N>, block: u16, count: u16) -> Result<(), Failed>
+    requires block { block < v.old.geometry.blocks }
+    requires count { count ≤ 0x7FFF }
+    ensures cause { OnErr result (Rose (N.faults v.old.nor.now) (N.faults v.new.nor.now)) }
+    ensures same { IsSameView v.old v.new }
+    ensures wrote { v.new.wrote ≡ true }
+    ensures rows { v.new.rows.now ≡ v.old.rows.now }
+    ensures changes { Changes N.NorState v.old.nor.now v.new.nor.now (Freshens v.old.geometry block) }
+    ensures order { Changes N.NorState v.old.nor.now v.new.nor.now (FreshCut v.old.geometry block count) }
+    ensures bytes { N.tells v.old.nor.now → OnOk result (N.bytes v.new.nor.now ≡ with_magic v.old.geometry block count (blank v.old.geometry block (N.bytes v.old.nor.now))) }
+    ensures done { N.tells v.old.nor.now → OnOk result (IsFresh v.old.geometry block count (N.bytes v.old.nor.now) (N.bytes v.new.nor.now)) }
+{
+    erase_block(v, block)?;
+    mark_block(v, block, count)
 }
 
 /// Makes a block fresh: erases its units from the first upwards, the first with the block's magic as its mark, then
@@ -94,6 +116,8 @@ pub fn fresh_block<N: Nor>(v: &mut View<'_, N>, block: u16, count: u16) -> Resul
     ensures bytes { N.tells v.old.nor.now → OnOk result (N.bytes v.new.nor.now ≡ with_magic v.old.geometry block count (blank v.old.geometry block (N.bytes v.old.nor.now))) }
     ensures done { N.tells v.old.nor.now → OnOk result (IsFresh v.old.geometry block count (N.bytes v.old.nor.now) (N.bytes v.new.nor.now)) }
 {
-    erase_block(v, block)?;
-    mark_block(v, block, count)
+    let stood = v.counted;
+    program_fresh(v, block, count)?;
+    count_fresh(v, block, count, stood);
+    Ok(())
 }

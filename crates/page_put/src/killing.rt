@@ -6,12 +6,31 @@ ghost use Rattle.flash_view.specs.Same.{IsSameView};
 ghost use Rattle.flash_view.specs.Steps.{Stepped, failed};
 ghost use Rattle.page_put.specs.Kills.{HalfKilled, killed};
 ghost use Rattle.page_put.specs.LivePages.{killing, clearing};
+ghost use Rattle.page_put.specs.Recount.{OneChanges};
 
+use crate::rows::{recount, sort_before};
 use flash_view::View;
 use nor_core::{Failed, Nor, NorState};
 use page_layout::{DELETED, Flags};
 
 // The two programs of a kill: one that clears DELET in the flags of a page, and one that sets its entry to zero.
+#[tactic(auto, using(flash_view::proofs::Looking::same_then))]
+fn program_dead<N: Nor>(v: &mut View<'_, N>, page: u16) -> Result<(), Failed>
+    requires page { IsEntryPage v.old.geometry page }
+    ensures cause { OnErr result (Rose (N.faults v.old.nor.now) (N.faults v.new.nor.now)) }
+    ensures changes { Changes N.NorState v.old.nor.now v.new.nor.now (HalfKilled v.old.geometry page) }
+    ensures done { N.tells v.old.nor.now → OnOk result (N.bytes v.new.nor.now ≡ killed v.old.geometry page (N.bytes v.old.nor.now)) }
+    ensures same { IsSameView v.old v.new }
+    ensures wrote { v.new.wrote ≡ true }
+    ensures only { N.tells v.old.nor.now → OneChanges v.old.geometry page (N.bytes v.old.nor.now) (N.bytes v.new.nor.now) }
+    ensures rows { v.new.rows.now ≡ v.old.rows.now }
+{
+    let erased = Flags::from_bits(0xFF);
+    v.program_in(page, 4, &[erased.deleted().bits()])?;
+    v.program_entry(page, DELETED)
+}
+
+// These programs, over which the table of counts stays.
 #[tactic(auto, using(flash_view::proofs::Looking::same_then))]
 fn program_kill<N: Nor>(v: &mut View<'_, N>, page: u16) -> Result<(), Failed>
     requires page { IsEntryPage v.old.geometry page }
@@ -22,9 +41,9 @@ fn program_kill<N: Nor>(v: &mut View<'_, N>, page: u16) -> Result<(), Failed>
     ensures same { IsSameView v.old v.new }
     ensures wrote { v.new.wrote ≡ true }
 {
-    let erased = Flags::from_bits(0xFF);
-    v.program_in(page, 4, &[erased.deleted().bits()])?;
-    v.program_entry(page, DELETED)
+    let before = sort_before(v, page);
+    program_dead(v, page)?;
+    recount(v, page, before?)
 }
 
 /// Kills a page: a program that clears DELET in its flags, and one that sets its entry to zero. Whatever the

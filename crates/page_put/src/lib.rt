@@ -5,6 +5,7 @@ mod fields;
 mod fresh;
 mod killing;
 mod put;
+mod rows;
 
 pub use fields::{fill_tail, mark_removed, name_slot};
 pub use fresh::fresh_block;

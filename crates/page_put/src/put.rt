@@ -9,7 +9,9 @@ ghost use Rattle.flash_view.specs.Steps.{Stepped, failed};
 ghost use Rattle.page_put.specs.LivePages.{putting};
 ghost use Rattle.page_put.specs.Placing.{placed_id, placed_flags, placed_page, with_page, IsPlacing, ProgramsPlace, FinishClearsFinal};
 ghost use Rattle.geometry.specs.declared.geometry.Geometry.{Geometry};
+ghost use Rattle.page_put.specs.Recount.{OneChanges};
 
+use crate::rows::{recount, sort_before};
 use flash_view::{Kind, View};
 use nor_core::{Failed, Nor, NorState};
 use page_layout::{Flags, INDEX_BIT, PageHeader, put_header};
@@ -44,6 +46,27 @@ fn fill_header(bytes: &mut [u8], head: PageHeader)
     put_header(bytes, head);
 }
 
+// The three programs of a page that is placed: its entry, its header, and all behind it.
+#[tactic(auto, using(flash_view::proofs::Looking::same_then))]
+fn program_page<N: Nor>(v: &mut View<'_, N>, page: u16, kind: Kind, tag: Tag) -> Result<(), Failed>
+    requires page { IsEntryPage v.old.geometry page }
+    requires id { (1 ≤ tag.id) × (tag.id ≤ 0x7FFE) }
+    ensures cause { OnErr result (Rose (N.faults v.old.nor.now) (N.faults v.new.nor.now)) }
+    ensures same { IsSameView v.old v.new }
+    ensures wrote { v.new.wrote ≡ true }
+    ensures only { N.tells v.old.nor.now → OneChanges v.old.geometry page (N.bytes v.old.nor.now) (N.bytes v.new.nor.now) }
+    ensures rows { v.new.rows.now ≡ v.old.rows.now }
+    ensures changes { Changes N.NorState v.old.nor.now v.new.nor.now (IsPlacing v.old.geometry page (placed_page v.old.geometry kind tag v.old.work.now)) }
+    ensures done { N.tells v.old.nor.now → OnOk result (N.bytes v.new.nor.now ≡ with_page v.old.geometry page (placed_page v.old.geometry kind tag v.old.work.now) (N.bytes v.old.nor.now)) }
+{
+    let head = placed(kind, tag);
+    v.program_entry(page, head.id)?;
+    let mut bytes = [0u8; 5];
+    fill_header(&mut bytes, head);
+    v.program_in(page, 0, &bytes)?;
+    v.program_build(page, 5)
+}
+
 /// Places a page: its entry, its header with USED cleared, and the rest of the page that is being built.
 /// These are three programs, and the page isn't live after any of them, nor where one is cut off. The entry
 /// and the page are to be erased, and the id without bit 15 is from 1 to 0x7FFE.
@@ -58,12 +81,9 @@ pub fn place<N: Nor>(v: &mut View<'_, N>, page: u16, kind: Kind, tag: Tag) -> Re
     ensures changes { Changes N.NorState v.old.nor.now v.new.nor.now (IsPlacing v.old.geometry page (placed_page v.old.geometry kind tag v.old.work.now)) }
     ensures done { N.tells v.old.nor.now → OnOk result (N.bytes v.new.nor.now ≡ with_page v.old.geometry page (placed_page v.old.geometry kind tag v.old.work.now) (N.bytes v.old.nor.now)) }
 {
-    let head = placed(kind, tag);
-    v.program_entry(page, head.id)?;
-    let mut bytes = [0u8; 5];
-    fill_header(&mut bytes, head);
-    v.program_in(page, 0, &bytes)?;
-    v.program_build(page, 5)
+    let before = sort_before(v, page);
+    program_page(v, page, kind, tag)?;
+    recount(v, page, before?)
 }
 
 /// Finishes a page that was placed: one program that clears FINAL, one bit.
@@ -76,8 +96,10 @@ pub fn finish<N: Nor>(v: &mut View<'_, N>, page: u16) -> Result<(), Failed>
     ensures changes { Changes N.NorState v.old.nor.now v.new.nor.now (HalfProgrammed (page * v.old.geometry.page + 4) (0xFD ∷ [])) }
     ensures done { N.tells v.old.nor.now → OnOk result (N.bytes v.new.nor.now ≡ programmed (N.bytes v.old.nor.now) (page * v.old.geometry.page + 4) (0xFD ∷ [])) }
 {
+    let before = sort_before(v, page);
     let erased = Flags::from_bits(0xFF);
-    v.program_in(page, 4, &[erased.finished().bits()])
+    v.program_in(page, 4, &[erased.finished().bits()])?;
+    recount(v, page, before?)
 }
 
 /// Puts the page that is being built: places it, and finishes it by a fourth program, the one that makes it live. At a

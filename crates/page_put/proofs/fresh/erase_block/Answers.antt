@@ -1,4 +1,4 @@
-use Rattle.std.proofs.Common.{◌/◌, ◌<◌, refl, sym, arith, rules}
+use Rattle.std.proofs.Common.{◌/◌, ◌<◌, ◌∙◌, refl, sym, arith, rules}
 use Rattle.nor_core.proofs.Cuts.{unchanged}
 use Rattle.flash_view.proofs.Looking.{same_then}
 use Rattle.flash_view.proofs.Stepped.{view_image}
@@ -13,6 +13,7 @@ loop-i-init g c =
       units = rw (c.block.ensures, c.phys.ensures) refl;
       below = omega arith;
       same = search rules;
+      rows = refl;
       wrote = λ some. absurd (omega (arith, some));
       changes = unchanged _ _ (λ tells. erasing_none view.geometry c.args.block _ c.requires.block (view_image view (g.met.N.Nor.sized _) tells));
       done = λ tells. sym (none_erased view.geometry c.args.block _ c.requires.block (view_image view (g.met.N.Nor.sized _) tells));
@@ -32,6 +33,7 @@ loop-i-preserved g c =
       units = was.units;
       below = omega (arith, c.loop-i-test.true);
       same = same_then was.same c.in_ok-erase_unit.ensures.same;
+      rows = c.in_ok-erase_unit.ensures.rows ∙ was.rows;
       wrote = λ some. c.in_ok-erase_unit.ensures.wrote;
       changes = erasing_then view.geometry c.loop-i.v.geometry c.args.block c.loop-i.i was.same.geometry low was.done was.changes c.in_ok-erase_unit.ensures.changes;
       done = λ tells. front_then view.geometry c.loop-i.v.geometry c.args.block c.loop-i.i was.same.geometry low _ _ _ c.requires.block (view_image view (g.met.N.Nor.sized _) tells) (was.done tells)

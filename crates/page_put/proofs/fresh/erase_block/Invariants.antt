@@ -10,6 +10,7 @@ invariant-loop-i g l = record {
   units : l.units ≡ l.fn.v.geometry.block / l.fn.v.geometry.phys;
   below : l.i ≤ l.units;
   same : IsSameView l.fn.v l.v;
+  rows : l.v.rows.now ≡ l.fn.v.rows.now;
   wrote : 0 < l.i → l.v.wrote ≡ true;
   changes : Changes g.N.NorState l.fn.v.nor.now l.v.nor.now (InErasing l.fn.v.geometry l.block);
   done : (g.N.NorState.tells l.fn.v.nor.now → g.N.NorState.bytes l.v.nor.now ≡ with_front_erased l.fn.v.geometry l.block (l.i * l.fn.v.geometry.phys) (g.N.NorState.bytes l.fn.v.nor.now));

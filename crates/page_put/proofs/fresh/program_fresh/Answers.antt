@@ -3,7 +3,7 @@ use Rattle.nor_core.proofs.Cuts.{wider}
 use Rattle.flash_view.proofs.Stepped.{view_image}
 use Rattle.page_put.proofs.Freshening.{cut_freshens}
 use Rattle.page_put.proofs.Erasures.{marks_then, marked_then, fresh_done}
-use Rattle.page_put.proofs.fresh.fresh_block.Goals as goal
+use Rattle.page_put.proofs.fresh.program_fresh.Goals as goal
 
 pub returns-clause-order : goal.returns-clause-order
 returns-clause-order g c =

@@ -1,0 +1,13 @@
+use Rattle.std.proofs.Common.{ap, length, arith}
+use Rattle.flash_view.proofs.Looking.{same_then}
+use Rattle.page_put.proofs.Changing.{field_counted}
+use Rattle.page_put.proofs.fields.fill_tail.Goals as goal
+
+pub recount-requires-clause-was : goal.recount-requires-clause-was
+recount-requires-clause-was g c =
+    let b = c.in_ok-before.ensures in
+    let p = c.in_ok-program_in.ensures in
+    field_counted c.args.page c.args.at c.args.from.now c.in_ok-before.field-0 b.looks p.same p.rows b.stood b.told p.changes b.entry (rw b.looks.same.geometry c.requires.inside)
+
+pub returns-clause-same : goal.returns-clause-same
+returns-clause-same g c = same_then (same_then c.in_ok-before.ensures.looks.same c.in_ok-program_in.ensures.same) c.recount.ensures.counts.same
