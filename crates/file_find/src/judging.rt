@@ -16,8 +16,8 @@ use nor_core::{Failed, Nor, NorState};
 use page_layout::{file_size, name_of};
 use table_model::Name;
 
-// Data pages of a file of that size.
-fn data_pages(g: &Geometry, size: u32) -> u32
+/// Data pages of a file of that size in bytes.
+pub fn data_pages(g: &Geometry, size: u32) -> u32
     ensures pages { result ≡ the_data_pages g.now size }
     ensures few { result < 2 ^ 26 }
 {
@@ -25,9 +25,10 @@ fn data_pages(g: &Geometry, size: u32) -> u32
     ((u64::from(size) + body - 1) / body) as u32
 }
 
-// Index pages behind the header page that name the spans below `spans`.
+/// Index pages behind the header page of a file of so many data pages: those that name the spans below `spans` which the header
+/// page doesn't.
 #[tactic(auto)]
-fn further_pages(g: &Geometry, spans: u32) -> u32
+pub fn further_pages(g: &Geometry, spans: u32) -> u32
     requires { spans < 2 ^ 26 }
     ensures { result ≡ (spans - head_slots g.now + span_slots g.now - 1) / span_slots g.now }
 {

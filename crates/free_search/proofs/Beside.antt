@@ -14,7 +14,7 @@ use Rattle.image_model.specs.Within.{Sizes, sizes, entry_in, entry_of_block, ent
 use Rattle.image_laws.proofs.Frames.{range-same, live_parts}
 use Rattle.image_laws.proofs.Erase.{slot-other}
 use Rattle.image_laws.proofs.FreeBlocks.{all-at}
-use Rattle.free_search.proofs.Counting.{free_is_dead}
+use Rattle.flash_view.proofs.Sorts.{free_is_dead}
 
 -- ---- a change inside one block, as the other blocks see it
 

@@ -6,14 +6,13 @@ use Rattle.std.proofs.lemmas.Bool.{ltb-true, ltb-false, and_parts}
 use Rattle.geometry.specs.declared.geometry.Geometry.{Geometry}
 use Rattle.nor_core.specs.declared.device.Failed.{Failed}
 use Rattle.image_model.specs.Places.{block_of, is_entry_page, entry_at}
-use Rattle.image_model.specs.Tidy.{is_free_entry, is_free_block, free_blocks}
+use Rattle.image_model.specs.Tidy.{is_free_entry, is_free_block, free_blocks, TellsFree}
 use Rattle.geometry.specs.Numbers.{per_block, lookups, entries}
 use Rattle.image_model.specs.Collect.{free_in}
 use Rattle.image_model.specs.Within.{entry_in}
 use Rattle.image_laws.proofs.Append.{find-all}
 use Rattle.image_laws.proofs.Matching.{filter-none_in}
 use Rattle.image_laws.proofs.Tables.{find_passes}
-use Rattle.room_laws.specs.Sorts.{TellsFree}
 use Rattle.flash_view.specs.declared.kinds.Kind.{Kind}
 use Rattle.flash_view.specs.Places.{IsWordAt}
 use Rattle.free_search.specs.Free.{FreePage, takes_kind, the_open_block, the_least_worn, the_block, the_first_free, the_free_page}

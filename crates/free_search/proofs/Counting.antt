@@ -4,43 +4,19 @@ use Rattle.std.specs.Prelude.{filter, Option, Some, None}
 use Rattle.std.specs.List.{range_with_len}
 use Rattle.geometry.specs.declared.geometry.Geometry.{Geometry}
 use Rattle.geometry.specs.Numbers.{per_block, lookups, entries}
-use Rattle.image_model.specs.Headers.{obj_id, names_index, is_finished}
+use Rattle.image_model.specs.Headers.{names_index}
 use Rattle.image_model.specs.Places.{entry_of, erase_count}
 use Rattle.image_model.specs.Live.{live_at}
 use Rattle.image_model.specs.Kinds.{is_index_page, is_data_page}
 use Rattle.image_model.specs.Collect.{index_in, data_in, deleted_in, is_deleted_entry}
-use Rattle.image_laws.proofs.Finish.{is_finished-zero}
-use Rattle.image_laws.proofs.Tally.{is_finished-ones}
-use Rattle.image_laws.proofs.Frames.{live_parts}
-use Rattle.free_search.specs.declared.blocks.BlockCounts.{BlockCounts}
-use Rattle.free_search.specs.declared.blocks.Sort.{Sort}
-use Rattle.free_search.specs.declared.blocks.Sort.TheVariants.{Index, Data, Deleted}
-use Rattle.free_search.specs.Counts.{sort_of_page, one_more, more_free, total_of, AreCounts}
+use Rattle.flash_view.specs.declared.counts.BlockCounts.{BlockCounts}
+use Rattle.flash_view.specs.declared.counts.Sort.{Sort}
+use Rattle.flash_view.specs.declared.counts.Sort.TheVariants.{Index, Data, Deleted, Free}
+use Rattle.flash_view.specs.Counts.{sort_of_page, one_more, more_free, total_of, AreCounts}
 use Rattle.flash_view.specs.Walk.{IsNextSlot, NextSlot}
+use Rattle.flash_view.proofs.Sorts.{free_is_dead}
 use Rattle.free_search.proofs.Slots.{passed_free, used_entry}
 use Rattle.free_search.proofs.Scans.{count_start, count_yes, count_no, count_end, skip_no, skip_yes}
-
--- an entry that is the id of no finished page is of no live page
-never_live : (g : Geometry) (image : List ℕ) (p : ℕ) → ((page : List ℕ) → obj_id page ≡ entry_of g image p → is_finished page ≡ false) → live_at g image p ≡ None
-never_live g image p never = dead (live_at g image p) refl
-  where
-    dead : (o : Option (List ℕ)) → live_at g image p ≡ o → o ≡ None
-    dead None e = refl
-    dead (Some page) e =
-        let w = live_parts g image p page e in
-        let no : is_finished page ≡ false = never page (sym w.entry) in
-        let yes : is_finished page ≡ true = w.finished in
-        absurd (cc)
-
--- such is one of 0xFFFF
-pub free_is_dead : (g : Geometry) (image : List ℕ) (p : ℕ) → entry_of g image p ≡ 0xFFFF → live_at g image p ≡ None
-free_is_dead g image p ones = never_live g image p (λ page is. is_finished-ones page (is ∙ ones))
-
--- so is a deleted one
-pub deleted_sort : (g : Geometry) (image : List ℕ) (p entry : ℕ) → entry ≡ 0 → entry ≡ entry_of g image p → Deleted ≡ sort_of_page (live_at g image p)
-deleted_sort g image p entry none is =
-    let dead : live_at g image p ≡ None = never_live g image p (λ page own. is_finished-zero page (rw (own, ← is, none) refl)) in
-    rw dead refl
 
 -- which of the four tests an entry that isn't free passes, by what it counts as
 abbrev pub is_index_sort : Sort → Bool
@@ -55,21 +31,26 @@ abbrev pub is_deleted_sort : Sort → Bool
 is_deleted_sort Deleted = true
 is_deleted_sort _ = false
 
+abbrev pub is_free_sort : Sort → Bool
+is_free_sort Free = true
+is_free_sort _ = false
+
 pub record Passes (g : Geometry) (image : List ℕ) (p : ℕ) (s : Sort) : Type 0 where
   pub index : is_index_page (live_at g image p) ≡ is_index_sort s
   pub pages : is_data_page (live_at g image p) ≡ is_data_sort s
   pub deleted : is_deleted_entry g image p ≡ is_deleted_sort s
-  pub free : (entry_of g image p == 0xFFFF) ≡ false
+  pub free : (entry_of g image p == 0xFFFF) ≡ is_free_sort s
 
 page_passes : (index : Bool) → (index ≡ is_index_sort (if index then Index else Data)) × (not index ≡ is_data_sort (if index then Index else Data)) × (false ≡ is_deleted_sort (if index then Index else Data))
-page_passes true = (refl, refl, refl)
-page_passes false = (refl, refl, refl)
+    × (false ≡ is_free_sort (if index then Index else Data))
+page_passes true = (refl, refl, refl, refl)
+page_passes false = (refl, refl, refl, refl)
 
 pub used_passes : (g : Geometry) (image : List ℕ) (p : ℕ) (o : Option (List ℕ)) → live_at g image p ≡ o → (entry_of g image p == 0xFFFF) ≡ false → Passes g image p (sort_of_page o)
 used_passes g image p None dead used = record { index = rw dead refl; pages = rw dead refl; deleted = rw (dead, used) refl; free = used }
 used_passes g image p (Some page) live used =
     let all = page_passes (names_index page) in
-    record { index = rw live all.0; pages = rw live all.1; deleted = rw (live, used) all.2; free = used }
+    record { index = rw live all.0; pages = rw live all.1; deleted = rw (live, used) all.2; free = used ∙ all.3 }
 
 -- those so far and those to come, of each sort
 pub record Counting (g : Geometry) (image : List ℕ) (first n i block : ℕ) (c : BlockCounts) : Type 0 where
@@ -111,6 +92,13 @@ counting_more g image first n i block p c Deleted less was at_p w = record {
   pages = count_no _ first n i _ _ p less was.pages at_p w.pages;
   deleted = count_yes _ first n i _ _ p less was.deleted at_p w.deleted;
   free = count_no _ first n i _ _ p less was.free at_p w.free;
+  erases = was.erases;
+}
+counting_more g image first n i block p c Free less was at_p w = record {
+  index = count_no _ first n i _ _ p less was.index at_p w.index;
+  pages = count_no _ first n i _ _ p less was.pages at_p w.pages;
+  deleted = count_no _ first n i _ _ p less was.deleted at_p w.deleted;
+  free = count_yes _ first n i _ _ p less was.free at_p w.free;
   erases = was.erases;
 }
 
@@ -156,6 +144,7 @@ pub total_more : (c : BlockCounts) (s : Sort) → total_of (one_more c s) ≡ to
 total_more c Index = omega arith
 total_more c Data = omega arith
 total_more c Deleted = omega arith
+total_more c Free = omega arith
 
 pub total_free : (c : BlockCounts) (n : ℕ) → total_of (more_free c n) ≡ total_of c + n
 total_free c n = omega arith

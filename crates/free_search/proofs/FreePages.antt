@@ -8,21 +8,21 @@ use Rattle.geometry.specs.declared.geometry.Geometry.{Geometry}
 use Rattle.geometry.specs.Numbers.{per_block, lookups, entries}
 use Rattle.image_model.specs.Places.{entry_of, has_magic, is_entry_page}
 use Rattle.image_model.specs.Live.{live_at}
-use Rattle.image_model.specs.Tidy.{is_free_entry, is_free_block}
+use Rattle.image_model.specs.Tidy.{is_free_entry, is_free_block, TellsFree}
 use Rattle.image_model.specs.Kinds.{is_index_page, is_data_page, is_index_block, is_data_block}
 use Rattle.image_model.specs.Collect.{count_in, index_in, data_in, free_in, takes_index, takes_data}
 use Rattle.image_model.specs.Within.{entry_in, sizes}
 use Rattle.image_laws.proofs.FreeBlocks.{all-at, filter-same}
 use Rattle.image_laws.proofs.Matching.{filter-none_in}
-use Rattle.room_laws.specs.Sorts.{TellsFree}
 use Rattle.flash_view.specs.declared.kinds.Kind.{Kind}
 use Rattle.flash_view.specs.declared.kinds.Kind.TheVariants.{Index, Data}
-use Rattle.free_search.specs.declared.blocks.BlockCounts.{BlockCounts}
-use Rattle.free_search.specs.Counts.{AreCounts, the_takes}
+use Rattle.flash_view.specs.declared.counts.BlockCounts.{BlockCounts}
+use Rattle.free_search.specs.Counts.{the_takes}
+use Rattle.flash_view.specs.Counts.{AreCounts}
 use Rattle.free_search.specs.Free.{is_open_for, takes_kind, holds_other}
 use Rattle.flash_view.specs.Walk.{NextSlot}
 use Rattle.flash_view.proofs.Heads.{and_false}
-use Rattle.free_search.proofs.Counting.{free_is_dead}
+use Rattle.flash_view.proofs.Sorts.{free_is_dead}
 use Rattle.free_search.proofs.Slots.{none_unused}
 
 -- ---- tests over lists, and how many pass them

@@ -11,3 +11,4 @@ pub mod Bits
 pub mod Greatest
 pub mod FoundPage
 pub mod Beside
+pub mod Rowed

@@ -7,11 +7,10 @@ use Rattle.geometry.specs.declared.geometry.Geometry.{Geometry}
 use Rattle.geometry.specs.Numbers.{per_block, lookups, entries}
 use Rattle.page_layout.specs.Layout.{is_between}
 use Rattle.image_model.specs.Places.{slot_of, entry_of, has_magic, is_entry_page}
-use Rattle.image_model.specs.Tidy.{is_free_entry, is_free_block}
+use Rattle.image_model.specs.Tidy.{is_free_entry, is_free_block, TellsFree}
 use Rattle.image_model.specs.Within.{entry_in}
 use Rattle.image_laws.proofs.FreeBlocks.{all-at}
 use Rattle.image_laws.proofs.Reindexed.{find_none-in}
-use Rattle.room_laws.specs.Sorts.{TellsFree}
 use Rattle.flash_view.specs.Walk.{IsPassedSlot, IsNextSlot, NextSlot}
 use Rattle.flash_view.proofs.Walking.{entry_is}
 use Rattle.free_search.specs.Free.{the_first_free}

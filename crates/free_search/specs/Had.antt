@@ -9,7 +9,8 @@ use Rattle.image_model.specs.Places.{block_of, is_entry_page}
 use Rattle.image_model.specs.Collect.{are_had}
 use Rattle.image_laws.specs.LiveSteps.{PutDone}
 use Rattle.image_laws.specs.TidySteps.{IsTidyBut}
-use Rattle.room_laws.specs.Sorts.{TellsFree, sort_at}
+use Rattle.room_laws.specs.Sorts.{sort_at}
+use Rattle.image_model.specs.Tidy.{TellsFree}
 use Rattle.free_search.specs.Free.{IsFreeFor}
 
 -- Lookup pages tell the free entries, and no block is mixed.

@@ -11,9 +11,9 @@ use Rattle.flash_view.specs.Found.{has_header}
 unfoldable pub bit_of : List ℕ → ℕ → ℕ
 bit_of bits id = bit_at (slice_index bits (id / 8)) (id % 8)
 
--- the bits among the bytes for work: behind the pages and the notes on pages and blocks
+-- the bits among the bytes for work: behind the pages and the notes on pages
 abbrev pub bits_at : Geometry → List ℕ → List ℕ
-bits_at g work = drop (4 * g.page + 4 * per_block g + 16 * g.blocks) work
+bits_at g work = drop (4 * g.page + 4 * per_block g) work
 
 -- the least id from 1 to the number of entry pages that has no header page
 unfoldable pub unused_id : Geometry → List ℕ → Option ℕ

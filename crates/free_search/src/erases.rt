@@ -6,6 +6,20 @@ ghost use Rattle.flash_view.specs.Same.{OnlyLooks};
 use flash_view::View;
 use nor_core::{Failed, Nor, NorState};
 
+/// The erase count of a block: that of its row, where the table of counts stands.
+#[tactic(auto, using(flash_view::proofs::Looking::looks_none))]
+pub(crate) fn erases<N: Nor>(v: &mut View<'_, N>, block: u16) -> Result<u16, Failed>
+    requires { block < v.old.geometry.blocks }
+    ensures cause { OnErr result (Rose (N.faults v.old.nor.now) (N.faults v.new.nor.now)) }
+    ensures looks { OnlyLooks v.old v.new }
+    ensures told { N.tells v.old.nor.now → IfOk result (λ count. count ≡ erase_count v.old.geometry (N.bytes v.old.nor.now) block) }
+{
+    match v.row(block) {
+        Some(counts) => Ok(counts.erases),
+        None => v.erase_count(block),
+    }
+}
+
 // One more than the erase count of a block with its magic, and 0 for any other.
 #[tactic(auto, using(flash_view::proofs::Looking::looks_then))]
 fn count_behind<N: Nor>(v: &mut View<'_, N>, block: u16) -> Result<u32, Failed>
@@ -14,6 +28,9 @@ fn count_behind<N: Nor>(v: &mut View<'_, N>, block: u16) -> Result<u32, Failed>
     ensures looks { OnlyLooks v.old v.new }
     ensures told { N.tells v.old.nor.now → IfOk result (λ n. n ≡ (if has_magic v.old.geometry (N.bytes v.old.nor.now) block then erase_count v.old.geometry (N.bytes v.old.nor.now) block + 1 else 0)) }
 {
+    if let Some(counts) = v.row(block) {
+        return Ok(u32::from(counts.erases) + 1);
+    }
     if !v.has_magic(block)? {
         return Ok(0);
     }

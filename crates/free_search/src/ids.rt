@@ -54,11 +54,11 @@ fn first_unnoted(bits: &[u8], most: u32) -> Option<u16>
     None
 }
 
-// Where the bits of ids stand among the work bytes: behind the pages and the notes on pages and blocks.
+// Where the bits of ids stand among the work bytes: behind the pages and the notes on pages.
 fn bits_start(g: &Geometry) -> usize
-    ensures { result ≡ 4 * g.now.page + 4 * per_block g.now + 16 * g.now.blocks }
+    ensures { result ≡ 4 * g.now.page + 4 * per_block g.now }
 {
-    (4 * g.page() + 4 * g.per_block() + 16 * g.blocks()) as usize
+    (4 * g.page() + 4 * g.per_block()) as usize
 }
 
 // Notes the id of a header page, if it is one of those that are looked for.

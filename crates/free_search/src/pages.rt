@@ -2,8 +2,7 @@ ghost use Rattle.std.specs.Prelude.{◌≡◌, ◌<◌, OnErr, IfOk, IfSome};
 ghost use Rattle.nor_core.specs.Count.{Rose};
 ghost use Rattle.flash_view.specs.Places.{IsEntryPage};
 ghost use Rattle.flash_view.specs.Same.{OnlyLooks};
-ghost use Rattle.image_model.specs.Tidy.{is_free_block as the_free_block};
-ghost use Rattle.room_laws.specs.Sorts.{TellsFree};
+ghost use Rattle.image_model.specs.Tidy.{is_free_block as the_free_block, TellsFree};
 ghost use Rattle.free_search.specs.Counts.{the_takes};
 ghost use Rattle.geometry.specs.declared.geometry.Geometry.{Geometry};
 ghost use Rattle.free_search.specs.Had.{TidyButIsClear, LessHad, PutHad, SameHad, InPlaceHad};
@@ -11,8 +10,9 @@ ghost use Rattle.image_model.specs.Places.{entry_at};
 ghost use Rattle.flash_view.specs.Places.{IsWordAt};
 ghost use Rattle.free_search.specs.Free.{FreePage, is_open_for, the_open_block, the_least_worn, the_block, the_first_free, the_free_page, worn_with, IndexPageHad, DataPageHad};
 
-use crate::{BlockCounts, counts, free_blocks, is_free_block};
-use flash_view::{Kind, View, entry_page};
+use crate::erases::erases;
+use crate::{counts, free_blocks, is_free_block};
+use flash_view::{BlockCounts, Kind, View, entry_page};
 use nor_core::{Failed, Nor, NorState};
 use page_layout::FREE;
 
@@ -47,7 +47,8 @@ fn first_free<N: Nor>(v: &mut View<'_, N>, block: u16) -> Result<Option<u16>, Fa
     Ok(Some(page))
 }
 
-// Whether a block in use takes a page of that kind. (Most have no free entry: their pages aren't looked at.)
+// Whether a block in use takes a page of that kind. (Where no table of counts stands: most have no free entry, and their pages aren't
+// looked at.)
 #[tactic(auto, using(flash_view::proofs::Looking::looks_then))]
 fn is_open<N: Nor>(v: &mut View<'_, N>, block: u16, kind: Kind) -> Result<bool, Failed>
     requires { block < v.old.geometry.blocks }
@@ -55,13 +56,16 @@ fn is_open<N: Nor>(v: &mut View<'_, N>, block: u16, kind: Kind) -> Result<bool, 
     ensures looks { OnlyLooks v.old v.new }
     ensures told { N.tells v.old.nor.now → TellsFree v.old.geometry (N.bytes v.old.nor.now) → IfOk result (λ takes_one. takes_one ≡ is_open_for v.old.geometry (N.bytes v.old.nor.now) kind block) }
 {
+    let entries = v.geometry.entries();
+    if let Some(counts) = v.row(block) {
+        return Ok(takes(&counts, kind, entries));
+    }
     if !v.has_magic(block)? {
         return Ok(false);
     }
     if v.find_slot(block, 0, FREE, FREE)?.is_none() {
         return Ok(false);
     }
-    let entries = v.geometry.entries();
     Ok(takes(&counts(v, block)?, kind, entries))
 }
 
@@ -109,7 +113,7 @@ fn less_worn<N: Nor>(
     if !is_free_block(v, block)? {
         return Ok(least);
     }
-    let erases = v.erase_count(block)?;
+    let erases = erases(v, block)?;
     match least {
         Some(worn) if worn.erases <= erases => Ok(Some(worn)),
         _ => Ok(Some(Worn { block, erases })),

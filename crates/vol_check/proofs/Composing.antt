@@ -4,12 +4,14 @@ use Rattle.std.proofs.lemmas.Bool.{cases_Bool}
 use Rattle.geometry.specs.declared.geometry.Geometry.{Geometry}
 use Rattle.geometry.specs.Numbers.{page_count}
 use Rattle.image_model.specs.Tables.{table_of, damaged_of}
-use Rattle.image_model.specs.Tidy.{IsTidy, free_blocks}
+use Rattle.image_model.specs.Tidy.{IsTidy, free_blocks, TellsFree, is_free_entry}
 use Rattle.image_model.specs.Kinds.{mixed_blocks}
-use Rattle.image_model.specs.Killed.{is_used, is_killable, killed_of}
+use Rattle.image_model.specs.Killed.{is_used, is_dead_entry, is_killable, killed_of}
+use Rattle.image_model.specs.Places.{entry_of, has_magic, block_of, is_entry_page}
+use Rattle.image_model.specs.Within.{block_number, page_number}
+use Rattle.flash_view.proofs.Sorts.{free_is_dead}
 use Rattle.image_laws.proofs.Frames.{table_of-same, damaged_of-same}
 use Rattle.image_laws.proofs.Matching.{filter-none_in}
-use Rattle.room_laws.specs.Sorts.{TellsFree}
 use Rattle.room_laws.specs.Staged.{OnlyKills, IsStaged}
 use Rattle.room_laws.proofs.Sorted.{tidy_tells_free}
 use Rattle.room_laws.proofs.Staying.{free_stays}
@@ -57,6 +59,17 @@ none_killed g a clean served = filter-none_in (λ p. is_killable g a p) 0 (page_
 
 -- ---- the whole check
 
+-- an entry of 0xFFFF that isn't dead is free
+ones_free : (g : Geometry) (a : List ℕ) (p : ℕ) → is_entry_page g p ≡ true → has_magic g a (block_of g p) ≡ true → entry_of g a p ≡ 0xFFFF → is_dead_entry g a p ≡ false → is_free_entry g a p ≡ true
+unfolding is_used
+ones_free g a p page magic ones clean =
+    ⊎_elim
+    (λ (free : is_free_entry g a p ≡ true). free)
+    (λ (not_free : is_free_entry g a p ≡ false). absurd (
+    let used : is_dead_entry g a p ≡ true = rw (page, magic, not_free, free_is_dead g a p ones, ones) refl in
+    let bad : true ≡ false = sym used ∙ clean in cc))
+    (cases_Bool (is_free_entry g a p))
+
 -- after the block without its magic was made fresh, and the entries that are dead were killed
 pub record Readies (g : Geometry) (erased : Bool) (dead : ℕ) (was now : List ℕ) : Type 0 where
   pub image : List ℕ
@@ -65,6 +78,16 @@ pub record Readies (g : Geometry) (erased : Bool) (dead : ℕ) (was now : List �
 
 abbrev pub readying : Work (Bool × ℕ)
 readying = record { needs = λ g was. Unit {0}; done = λ g was now x. Readies g x.0 x.1 was now; idle = λ g was. IsTidy g was }
+
+-- Then the lookup pages tell which entries are free.
+pub ready_tells : (g : Geometry) (a c : List ℕ) (erased : Bool) (dead : ℕ) → Readies g erased dead a c → TellsFree g c
+ready_tells g a c erased dead ready = record {
+  magic = λ block low. ready.cleans.kills.magic block ∙ ready.made.magics block low;
+  free = λ p page ones.
+      let block = block_number g p (page_number g p page) in
+      let magic : has_magic g c (block_of g p) ≡ true = ready.cleans.kills.magic (block_of g p) ∙ ready.made.magics (block_of g p) block in
+      ones_free g c p page magic ones (ready.cleans.clean p);
+}
 
 -- and the passes over live pages
 pub record CullsAll (g : Geometry) (erased : Bool) (dead : ℕ) (culled : Culled) (was now : List ℕ) : Type 0 where

@@ -16,8 +16,8 @@ use Rattle.image_laws.proofs.Frames.{live_parts}
 use Rattle.image_laws.proofs.Matching.{filter-none_in}
 use Rattle.image_laws.proofs.MixedBlocks.{mixed-tested}
 use Rattle.free_search.proofs.Had.{filter_some}
-use Rattle.free_search.specs.declared.blocks.BlockCounts.{BlockCounts}
-use Rattle.free_search.specs.Counts.{AreCounts}
+use Rattle.flash_view.specs.declared.counts.BlockCounts.{BlockCounts}
+use Rattle.flash_view.specs.Counts.{AreCounts}
 
 -- ---- by the counts of a block
 

@@ -5,12 +5,13 @@ use Rattle.nor_core.specs.declared.device.Failed.{Failed}
 use Rattle.nor_core.specs.declared.state.NorState.{Ghosts as NorOf}
 use Rattle.nor_core.specs.Count.{Rose}
 use Rattle.nor_core.specs.Device.{OnlyReads, Changes}
-use Rattle.nor_core.proofs.Cuts.{wider, read_after, reads_then}
+use Rattle.nor_core.proofs.Cuts.{wider, read_after, reads_then, after_reads, unchanged}
 use Rattle.image_model.specs.Sound.{HasMagics, KeepsAll}
 use Rattle.flash_view.specs.declared.view.View.{View}
-use Rattle.flash_view.specs.Same.{OnlyLooks}
+use Rattle.flash_view.specs.Same.{OnlyLooks, OnlyCounts}
+use Rattle.flash_view.proofs.Looking.{looks_counts}
 use Rattle.flash_view.specs.Steps.{Step, Stepped, failed}
-use Rattle.flash_view.proofs.Stepped.{looked, look_fails, after_look, stepped_then, ends_as, fails, framed_then, framed_looks}
+use Rattle.flash_view.proofs.Stepped.{looked, look_fails, after_look, stepped_then, ends_as, fails, framed_then, framed_counts}
 use Rattle.vol_check.specs.Works.{Work, Worked}
 use Rattle.vol_check.proofs.Passing.{keeps_all_none, keeps_all_on}
 
@@ -65,17 +66,20 @@ module _ {N : Type 0} {nor : NorOf N} where
     }
 
     -- a look after a work
-    pub works_read : Worked old mid r work → OnlyLooks mid new → Worked old new r work
-    works_read call looks = record {
+    pub works_counted : Worked old mid r work → OnlyCounts mid new → Worked old new r work
+    works_counted call counts = record {
       step = record {
-        framed = framed_then call.step.framed (framed_looks looks);
-        cause = λ e. let rose = call.step.cause e in let more = looks.same.faults in omega arith;
+        framed = framed_then call.step.framed (framed_counts counts);
+        cause = λ e. let rose = call.step.cause e in let more = counts.same.faults in omega arith;
         means = call.step.means;
-        cuts = read_after call.step.cuts looks.reads;
-        ends = λ tells need. subst (λ (b : List ℕ). MatchResult r (work.done old.geometry (nor.bytes old.nor.now) b) (λ why. why ≡ failed.fault)) (sym looks.reads.bytes) (call.step.ends tells need);
+        cuts = read_after call.step.cuts counts.reads;
+        ends = λ tells need. subst (λ (b : List ℕ). MatchResult r (work.done old.geometry (nor.bytes old.nor.now) b) (λ why. why ≡ failed.fault)) (sym counts.reads.bytes) (call.step.ends tells need);
       };
-      idle = λ tells magics need quiet. reads_then (call.idle tells magics need quiet) looks.reads;
+      idle = λ tells magics need quiet. reads_then (call.idle tells magics need quiet) counts.reads;
     }
+
+    pub works_read : Worked old mid r work → OnlyLooks mid new → Worked old new r work
+    works_read call looks = works_counted call (looks_counts looks)
 
   -- ---- as part of another
 
@@ -146,6 +150,22 @@ module _ {N : Type 0} {nor : NorOf N} where
     pub read_stops : {r : Result T Failed} → Worked old mid (Ok x) first → OnlyLooks mid new → Rose (nor.faults mid.nor.now) (nor.faults new.nor.now) → IsErr r → On old whole (λ g a. Goes g a a first whole) → Worked old new r whole
     read_stops call looks rose is start =
         let fault : Worked {nor = nor} mid new (Err failed.fault) nothing = look_stops looks rose refl in
+        works_stop call fault is start (λ tells magics need done. record { needs = tt; idle = λ quiet. tt })
+
+  -- a fault while blocks are counted after a work
+  module _ {S T : Type 0} {old mid new : View N nor} {x : S} {first : Work S} {whole : Work T} where
+    pub counts_stop : {r : Result T Failed} → Worked old mid (Ok x) first → OnlyCounts mid new → Rose (nor.faults mid.nor.now) (nor.faults new.nor.now) → IsErr r → On old whole (λ g a. Goes g a a first whole) → Worked old new r whole
+    counts_stop call counts rose is start =
+        let fault : Worked {nor = nor} mid new (Err failed.fault) nothing = record {
+          step = record {
+            framed = framed_counts counts;
+            cause = λ e. rose;
+            means = tt;
+            cuts = after_reads counts.reads (unchanged new.nor.now _ (λ tells need. keeps_all_none _ _ need.0));
+            ends = λ tells need. refl;
+          };
+          idle = λ tells magics need quiet. counts.reads;
+        } in
         works_stop call fault is start (λ tells magics need done. record { needs = tt; idle = λ quiet. tt })
 
   -- a look after a work, and what it tells

@@ -17,7 +17,7 @@ use crate::spoiled::make_fresh;
 use crate::unwanted::cull_rest;
 use crate::{CheckErr, Report};
 use flash_view::View;
-use free_search::free_blocks;
+use free_search::{count_all, free_blocks};
 use nor_core::{Failed, Nor, NorState};
 
 // How many live pages were killed, and how many files were damaged.
@@ -43,7 +43,8 @@ fn cull_pages<N: Nor>(v: &mut View<'_, N>, marks: &mut [u8]) -> Result<Culled, F
     })
 }
 
-// Makes the block without its magic fresh, and kills what is to be killed.
+// Makes the block without its magic fresh, and kills what is to be killed. Once the entries are cleaned they tell what is free, and the
+// blocks are counted.
 fn clean<N: Nor>(v: &mut View<'_, N>, marks: &mut [u8]) -> Result<Report, Failed>
     requires room { check_need v.old.geometry ≤ length marks.old }
     requires magics { N.tells v.old.nor.now → HasMagics v.old.geometry (N.bytes v.old.nor.now) }
@@ -51,6 +52,7 @@ fn clean<N: Nor>(v: &mut View<'_, N>, marks: &mut [u8]) -> Result<Report, Failed
 {
     let erased = make_fresh(v)?;
     let dead = clean_entries(v)?;
+    count_all(v)?;
     let culled = cull_pages(v, marks)?;
     Ok(Report {
         erased,

@@ -11,32 +11,13 @@ ghost use Rattle.vol_check.specs.Culls.{IsSettled};
 ghost use Rattle.vol_check.specs.Needed.{AddsMarks, IsNamed, OfHead, OfFurther, OfFirst, OfFile, OfHeaded, HasFurthers, MarksWanted};
 ghost use Rattle.vol_check.specs.Noted.{IsIndexPage};
 
+use file_find::{data_pages, further_pages};
 use flash_view::{FURTHER_SLOTS_AT, View, head_slots_at};
-use geometry::Geometry;
 use nor_core::{Failed, Nor, NorState};
 use page_layout::{FREE, INDEX_BIT, PageHeader, file_size, read_word};
 
 // The mark of a page that a file needs.
 const NEEDED: u8 = 1;
-
-// Data pages of a file of that size.
-fn data_pages(g: &Geometry, size: u32) -> u32
-    ensures pages { result ≡ the_data_pages g.now size }
-    ensures few { result < 2 ^ 26 }
-{
-    let body = u64::from(g.body());
-    ((u64::from(size) + body - 1) / body) as u32
-}
-
-// Index pages behind the header page of a file of so many data pages.
-#[tactic(auto)]
-fn further_pages(g: &Geometry, spans: u32) -> u32
-    requires { spans < 2 ^ 26 }
-    ensures { result ≡ ceil (spans - head_slots g.now) (span_slots g.now) }
-{
-    let slots = g.span_slots();
-    (spans.saturating_sub(g.head_slots()) + slots - 1) / slots
-}
 
 /// Sets so many bytes to 0.
 pub(crate) fn clear(bytes: &mut [u8], count: usize)

@@ -1,7 +1,7 @@
 use Rattle.std.proofs.Common.{◌≡◌, ◌+◌, ◌-◌, ◌*◌, ◌≤◌}
 use Rattle.geometry.specs.Numbers.{entries, per_block, lookups}
 use Rattle.flash_view.specs.Same.{OnlyLooks}
-use Rattle.free_search.specs.Counts.{total_of}
+use Rattle.flash_view.specs.Counts.{total_of}
 use Rattle.free_search.proofs.Counting.{Counting}
 use Rattle.free_search.proofs.blocks.counts.Given as goal
 

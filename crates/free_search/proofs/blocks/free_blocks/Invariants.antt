@@ -1,8 +1,7 @@
 use Rattle.std.proofs.Common.{◌≡◌, ◌+◌, ◌-◌, ◌≤◌, ℕ, length}
 use Rattle.std.specs.Prelude.{filter}
 use Rattle.std.specs.List.{range_with_len}
-use Rattle.image_model.specs.Tidy.{is_free_block, free_blocks}
-use Rattle.room_laws.specs.Sorts.{TellsFree}
+use Rattle.image_model.specs.Tidy.{is_free_block, free_blocks, TellsFree}
 use Rattle.flash_view.specs.Same.{OnlyLooks}
 use Rattle.free_search.proofs.blocks.free_blocks.Given as goal
 

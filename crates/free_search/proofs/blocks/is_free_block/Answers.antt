@@ -2,8 +2,13 @@ use Rattle.std.proofs.Common.{◌≡◌, true, false, refl}
 use Rattle.image_model.specs.Places.{has_magic}
 use Rattle.image_model.specs.Tidy.{is_free_block}
 use Rattle.flash_view.specs.Walk.{NextSlot}
+use Rattle.free_search.proofs.Rowed.{row_free}
 use Rattle.free_search.proofs.Slots.{free_by}
 use Rattle.free_search.proofs.blocks.is_free_block.Goals as goal
+
+pub returns-in-Some-clause-told : goal.returns-in-Some-clause-told
+returns-in-Some-clause-told g c = λ tells frees.
+    rw (c.from.ensures, c.entries.ensures.count) (row_free c.args.v.now.geometry c.args.v.now.nor.now c.args.v.now.rows.now c.args.block c.in-Some.counts c.requires c.in-Some.ensures.row c.in-Some.ensures.stands tells)
 
 pub returns-then-not-branch-clause-told : goal.returns-then-not-branch-clause-told
 unfolding is_free_block

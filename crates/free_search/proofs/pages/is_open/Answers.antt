@@ -3,9 +3,14 @@ use Rattle.geometry.specs.Numbers.{per_block, lookups, entries}
 use Rattle.image_model.specs.Places.{has_magic}
 use Rattle.flash_view.specs.Walk.{NextSlot}
 use Rattle.flash_view.proofs.Looking.{looks_then}
-use Rattle.free_search.specs.Counts.{AreCounts}
+use Rattle.flash_view.specs.Counts.{AreCounts}
 use Rattle.free_search.proofs.FreePages.{opens, shut, shut_full}
+use Rattle.free_search.proofs.Rowed.{row_open}
 use Rattle.free_search.proofs.pages.is_open.Goals as goal
+
+pub returns-in-Some-clause-told : goal.returns-in-Some-clause-told
+returns-in-Some-clause-told g c = λ tells frees.
+    rw (c.takes.ensures, c.entries-entries.ensures.count) (row_open c.args.v.now.geometry c.args.v.now.nor.now c.args.v.now.rows.now c.args.block c.in-Some.counts c.requires c.in-Some.ensures.row c.in-Some.ensures.stands tells c.args.kind)
 
 pub returns-then-not-branch-clause-told : goal.returns-then-not-branch-clause-told
 returns-then-not-branch-clause-told g c = λ tells frees.
@@ -32,4 +37,4 @@ returns-clause-told g c = λ tells frees.
     let image = g.N.NorState.bytes c.args.v.now.nor.now in
     let magic : has_magic geometry image c.args.block ≡ true = cc (m.told tells, c.if-not-branch.false) in
     let counts : AreCounts geometry image c.args.block c.in_ok-counts.field-0 = rw (two.same.geometry, two.reads.bytes) at (n.told (two.reads.told tells)) in
-    rw (c.takes.ensures, c.entries-entries.ensures.count, two.same.geometry) (opens geometry image c.args.block c.args.kind c.in_ok-counts.field-0 frees c.requires magic counts)
+    rw (c.takes-2.ensures, c.entries-entries.ensures.count) (opens geometry image c.args.block c.args.kind c.in_ok-counts.field-0 frees c.requires magic counts)

@@ -1,6 +1,6 @@
 use Rattle.std.proofs.Common.{◌≡◌, ◌<◌}
 use Rattle.std.specs.Prelude.{IfSome}
-use Rattle.room_laws.specs.Sorts.{TellsFree}
+use Rattle.image_model.specs.Tidy.{TellsFree}
 use Rattle.flash_view.specs.Same.{OnlyLooks}
 use Rattle.free_search.proofs.Worn.{WornBelow}
 use Rattle.free_search.proofs.pages.least_worn.Given as goal

@@ -1,7 +1,7 @@
 use Rattle.std.proofs.Common.{◌≡◌, ◌+◌, ◌-◌, ◌&&◌, ℕ}
 use Rattle.std.specs.Prelude.{find}
 use Rattle.std.specs.List.{range_with_len}
-use Rattle.room_laws.specs.Sorts.{TellsFree}
+use Rattle.image_model.specs.Tidy.{TellsFree}
 use Rattle.flash_view.specs.Same.{OnlyLooks}
 use Rattle.free_search.specs.Free.{may_choose, is_open_for, the_open_block}
 use Rattle.free_search.proofs.pages.open_block.Given as goal
