@@ -98,7 +98,7 @@ module _ (g : Geometry) (was image : List ℕ) (block most : ℕ) (batch : Batch
 -- ---- the names
 
 pub rebuilt_none : {N : Type 0} {nor : NorOf N} (v : View N nor) → IsRebuilt v v
-rebuilt_none v = record { geometry = refl; device = refl; nor_name = refl; work_name = refl; cache = refl; cache_name = refl; wrote = refl }
+rebuilt_none v = record { geometry = refl; device = refl; nor_name = refl; work_name = refl; cache = refl; cache_name = refl; rows = refl; rows_name = refl; wrote = refl; counted = refl }
 
 pub rebuilt_then : {N : Type 0} {nor : NorOf N} {old mid new : View N nor} → IsRebuilt old mid → IsRebuilt mid new → IsRebuilt old new
 rebuilt_then a b = record {
@@ -108,7 +108,10 @@ rebuilt_then a b = record {
   work_name = b.work_name ∙ a.work_name;
   cache = b.cache ∙ a.cache;
   cache_name = b.cache_name ∙ a.cache_name;
+  rows = b.rows ∙ a.rows;
+  rows_name = b.rows_name ∙ a.rows_name;
   wrote = b.wrote ∙ a.wrote;
+  counted = b.counted ∙ a.counted;
 }
 
 pub all_taken : (g : Geometry) (plain : List ℕ) (xs : List Carried) (n : ℕ) (page : List ℕ) → length xs ≤ n → AreNamed g plain (reverse (take n xs)) page → AreNamed g plain (reverse xs) page

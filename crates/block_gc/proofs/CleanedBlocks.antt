@@ -15,8 +15,8 @@ use Rattle.image_laws.proofs.Matching.{filter-none_in}
 use Rattle.image_laws.proofs.Sounding.{keeps-on}
 use Rattle.renew_laws.proofs.TailSteps.{tail-stays}
 use Rattle.flash_view.specs.Steps.{Begins, Finishes, acting}
-use Rattle.free_search.specs.declared.blocks.BlockCounts.{BlockCounts}
-use Rattle.free_search.specs.Counts.{AreCounts}
+use Rattle.flash_view.specs.declared.counts.BlockCounts.{BlockCounts}
+use Rattle.flash_view.specs.Counts.{AreCounts}
 use Rattle.free_search.proofs.FreePages.{free_counted}
 use Rattle.room_laws.specs.Sorts.{Sort, Index, Data, Deleted, Free, same_sort, sort_at, counts_by}
 use Rattle.room_laws.specs.Recovery.{IsBetween, IsEmptied, MayCut, Recovers, batch_most}

@@ -13,7 +13,8 @@ use Rattle.flash_view.specs.Steps.{Finishes}
 use Rattle.free_search.specs.Free.{IsFreeFor, HasNone}
 use Rattle.free_search.proofs.FoundPage.{free_of}
 use Rattle.room_laws.specs.Counts.{IsBlock, for_index}
-use Rattle.room_laws.specs.Sorts.{Index, TellsFree, sort_at, counts_by, others_by, IsPlaceBy}
+use Rattle.room_laws.specs.Sorts.{Index, sort_at, counts_by, others_by, IsPlaceBy}
+use Rattle.image_model.specs.Tidy.{TellsFree}
 use Rattle.room_laws.specs.Ways.{Move, AreMoves, HasCome}
 use Rattle.room_laws.specs.Recovery.{IsBetween, IsOnWay, IsIndexWay}
 use Rattle.room_laws.proofs.Carried.{begins_between, index_goes_on}

@@ -9,8 +9,8 @@ use Rattle.geometry.specs.Numbers.{entries}
 use Rattle.image_model.specs.Places.{next_count}
 use Rattle.image_model.specs.Tidy.{IsTidy, is_free_block}
 use Rattle.image_model.specs.Collect.{free_in, free_where, free_outside, takes_index, takes_data, holds_index, is_worth, is_fitting, score}
-use Rattle.free_search.specs.declared.blocks.BlockCounts.{BlockCounts}
-use Rattle.free_search.specs.Counts.{AreCounts}
+use Rattle.flash_view.specs.declared.counts.BlockCounts.{BlockCounts}
+use Rattle.flash_view.specs.Counts.{AreCounts}
 use Rattle.block_gc.specs.declared.totals.Room.{Room}
 use Rattle.block_gc.specs.declared.choice.Bests.{Bests}
 use Rattle.block_gc.specs.Totals.{score_by, room_by, worth_by, fits_by, AreTotals}

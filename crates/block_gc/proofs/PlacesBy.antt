@@ -7,12 +7,12 @@ use Rattle.flash_view.specs.declared.kinds.Kind.{Kind as PageKind}
 use Rattle.flash_view.specs.declared.kinds.Kind.TheVariants.{Index as IndexPage, Data as DataPage}
 use Rattle.geometry.specs.Numbers.{entries}
 use Rattle.image_model.specs.Places.{block_of}
-use Rattle.image_model.specs.Tidy.{is_free_block, free_blocks}
+use Rattle.image_model.specs.Tidy.{is_free_block, free_blocks, TellsFree}
 use Rattle.image_model.specs.Collect.{free_in}
 use Rattle.free_search.specs.Free.{IsFreeFor, HasNone, takes_kind}
 use Rattle.room_laws.specs.Counts.{Kind, for_index, for_data, IsBlock}
 use Rattle.room_laws.specs.Places.{HadWith}
-use Rattle.room_laws.specs.Sorts.{TellsFree, sort_at, others_by, IsPlaceBy}
+use Rattle.room_laws.specs.Sorts.{sort_at, others_by, IsPlaceBy}
 use Rattle.room_laws.specs.Taking.{takes_as, of_kind, IsFullBeside}
 use Rattle.room_laws.proofs.Taken.{places_are_by, places_are_found}
 

@@ -11,8 +11,8 @@ use Rattle.image_model.specs.Tidy.{IsTidy, is_free_block, free_blocks}
 use Rattle.image_model.specs.Live.{live_at}
 use Rattle.image_model.specs.Kinds.{is_index_page, is_data_block, is_index_block}
 use Rattle.image_model.specs.Collect.{index_in, free_in, free_where, takes_index, takes_data, holds_index}
-use Rattle.free_search.specs.declared.blocks.BlockCounts.{BlockCounts}
-use Rattle.free_search.specs.Counts.{AreCounts}
+use Rattle.flash_view.specs.declared.counts.BlockCounts.{BlockCounts}
+use Rattle.flash_view.specs.Counts.{AreCounts}
 use Rattle.free_search.proofs.FreePages.{some_pass, data_none, index_none, data_some, free_counted, free_whole, used_less}
 use Rattle.room_laws.proofs.Sorted.{tidy_tells_free}
 use Rattle.block_gc.specs.declared.totals.Room.{Room}
@@ -82,10 +82,10 @@ range_next p e h = let n : e - p ≡ suc (e - (p + 1)) = omega arith in rw n ref
 range_last : (p e : ℕ) → e ≤ p → range_with_len p (e - p) ≡ []
 range_last p e h = let n : e - p ≡ 0 = omega arith in rw n refl
 
-sum_more : (f : ℕ → ℕ) (p e total own all : ℕ) → p < e → total + sum_by f (range_with_len p (e - p)) ≡ all → own ≡ f p → total + own + sum_by f (range_with_len (p + 1) (e - (p + 1))) ≡ all
+pub sum_more : (f : ℕ → ℕ) (p e total own all : ℕ) → p < e → total + sum_by f (range_with_len p (e - p)) ≡ all → own ≡ f p → total + own + sum_by f (range_with_len (p + 1) (e - (p + 1))) ≡ all
 sum_more f p e total own all h was is = let step = rw (range_next p e h) at was in let first = sum_by-cons f p (range_with_len (p + 1) (e - (p + 1))) in omega (arith, step, first, is)
 
-sum_end : (f : ℕ → ℕ) (p e total all : ℕ) → e ≤ p → total + sum_by f (range_with_len p (e - p)) ≡ all → total ≡ all
+pub sum_end : (f : ℕ → ℕ) (p e total all : ℕ) → e ≤ p → total + sum_by f (range_with_len p (e - p)) ≡ all → total ≡ all
 sum_end f p e total all h was = let step = rw (range_last p e h) at was in omega (arith, step)
 
 count_more : (t : ℕ → Bool) (p e total own all : ℕ) → p < e → total + length (filter t (range_with_len p (e - p))) ≡ all → own ≡ (if t p then 1 else 0) → total + own + length (filter t (range_with_len (p + 1) (e - (p + 1)))) ≡ all

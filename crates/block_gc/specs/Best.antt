@@ -2,7 +2,7 @@
 use Rattle.std.specs.Prelude.{◌≡◌, ℕ, ◌<◌, List, Bool, true, false, not, ◌&&◌, ◌||◌, Option, Some, None, is_some, ℤ, ◌==◌, nat_lt, int_le, if◌then◌else◌}
 use Rattle.geometry.specs.declared.geometry.Geometry.{Geometry}
 use Rattle.std.specs.List.{range_with_len, list_any}
-use Rattle.free_search.specs.declared.blocks.BlockCounts.{BlockCounts}
+use Rattle.flash_view.specs.declared.counts.BlockCounts.{BlockCounts}
 use Rattle.geometry.specs.Numbers.{entries}
 use Rattle.image_model.specs.Kinds.{is_data_block}
 use Rattle.image_model.specs.Collect.{is_worth, is_fitting, score}

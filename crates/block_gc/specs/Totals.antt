@@ -1,7 +1,7 @@
 -- What the choice reads of a block's counts, and what the blocks add up to.
 use Rattle.std.specs.Prelude.{◌≡◌, ℕ, ◌+◌, ◌-◌, ◌*◌, ◌%◌, ◌≤◌, List, Bool, not, nat_lt, nat_le, ◌==◌, ◌&&◌, ◌||◌, ℤ, pos, ◌-ℤ◌, if◌then◌else◌}
 use Rattle.geometry.specs.declared.geometry.Geometry.{Geometry}
-use Rattle.free_search.specs.declared.blocks.BlockCounts.{BlockCounts}
+use Rattle.flash_view.specs.declared.counts.BlockCounts.{BlockCounts}
 use Rattle.image_model.specs.Tidy.{is_free_block, free_blocks}
 use Rattle.image_model.specs.Collect.{free_in, free_where, takes_index, takes_data, holds_index, blocks_for}
 use Rattle.block_gc.specs.declared.totals.Room.{Room}

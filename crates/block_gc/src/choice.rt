@@ -10,8 +10,8 @@ ghost use Rattle.block_gc.specs.Best.{better_of, bests_by, bests_with, AreBests,
 
 use crate::scores::score;
 use crate::totals::{Room, room_of};
-use flash_view::View;
-use free_search::{BlockCounts, counts};
+use flash_view::{BlockCounts, View};
+use free_search::counts;
 use geometry::Geometry;
 use nor_core::{Failed, Nor, NorState};
 

@@ -4,8 +4,8 @@ ghost use Rattle.flash_view.specs.Steps.{Stepped, stopped};
 ghost use Rattle.block_gc.specs.Cleanings.{cleaning_block};
 
 use crate::emptying::empty_block;
-use flash_view::{StepErr, View};
-use free_search::{BlockCounts, counts, next_count};
+use flash_view::{BlockCounts, StepErr, View};
+use free_search::{counts, next_count};
 use nor_core::{Failed, Nor, NorState};
 use page_put::fresh_block;
 

@@ -3,8 +3,8 @@ ghost use Rattle.std.specs.Prelude.{◌≡◌, ℕ, List};
 ghost use Rattle.geometry.specs.declared.geometry.Geometry.{Geometry};
 ghost use Rattle.image_model.specs.Places.{next_count};
 ghost use Rattle.image_model.specs.Collect.{score as the_score};
-ghost use Rattle.free_search.specs.declared.blocks.BlockCounts.{BlockCounts};
-ghost use Rattle.free_search.specs.Counts.{AreCounts};
+ghost use Rattle.flash_view.specs.declared.counts.BlockCounts.{BlockCounts};
+ghost use Rattle.flash_view.specs.Counts.{AreCounts};
 ghost use Rattle.block_gc.specs.Totals.{score_by};
 
 /// By the counts of a block of an image and by the image's next erase count, that is the score of the block.

@@ -2,7 +2,7 @@
 ghost use Rattle.std.specs.Prelude.{◌≡◌};
 ghost use Rattle.block_gc.specs.Totals.{score_by};
 
-use free_search::BlockCounts;
+use flash_view::BlockCounts;
 
 /// The score of a block by its counts and the next erase count: five for each deleted entry, 50 for each count of age, less
 /// one for each live page.

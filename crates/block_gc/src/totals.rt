@@ -5,8 +5,8 @@ ghost use Rattle.nor_core.specs.Count.{Rose};
 ghost use Rattle.flash_view.specs.Same.{OnlyLooks};
 ghost use Rattle.block_gc.specs.Totals.{room_by, both as the_both, AtMost, AreTotals};
 
-use flash_view::View;
-use free_search::{BlockCounts, counts};
+use flash_view::{BlockCounts, View};
+use free_search::counts;
 use nor_core::{Failed, Nor, NorState};
 
 // Free entries by what they are for, and free blocks.

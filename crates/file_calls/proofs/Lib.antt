@@ -1,4 +1,5 @@
 pub mod Counting
+pub mod Living
 pub mod Recording
 pub mod Going
 pub mod Paged

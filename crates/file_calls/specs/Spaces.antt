@@ -4,7 +4,7 @@ use Rattle.std.specs.List.{range_with_len}
 use Rattle.geometry.specs.declared.geometry.Geometry.{Geometry}
 use Rattle.image_model.specs.Tidy.{free_blocks}
 use Rattle.image_model.specs.Collect.{free_in, deleted_in}
-use Rattle.free_search.specs.declared.blocks.BlockCounts.{BlockCounts}
+use Rattle.flash_view.specs.declared.counts.BlockCounts.{BlockCounts}
 use Rattle.file_calls.specs.declared.space.Space.{Space}
 
 -- what the blocks of a volume add up to

@@ -4,6 +4,7 @@
 mod calls;
 mod collecting;
 mod create;
+mod live_pages;
 mod looking;
 mod names;
 mod opening;

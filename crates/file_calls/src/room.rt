@@ -12,6 +12,7 @@ ghost use Rattle.table_model.specs.Room.{has_room as the_room};
 ghost use Rattle.table_model.specs.Outcome.{page_refusal};
 ghost use Rattle.file_calls.specs.Pages.{with_page as the_page, AreLive};
 
+use crate::live_pages::live_pages;
 use flash_view::View;
 use free_search::free_blocks;
 use geometry::Geometry;
@@ -97,13 +98,13 @@ fn has_room_for<N: Nor>(v: &mut View<'_, N>, from: u32, to: u32) -> Result<bool,
     ensures told { N.tells v.old.nor.now → IsTidy v.old.geometry (N.bytes v.old.nor.now) →
         (f new : File) → IsResized (table_of v.old.geometry (N.bytes v.old.nor.now)) from to f new → IfOk result (λ room. room ≡ the_room v.old.geometry (put_file new (table_of v.old.geometry (N.bytes v.old.nor.now)))) }
 {
-    let counts = page_counts(v)?;
+    let live = live_pages(v)?;
     tidy_counts();
     let g = v.geometry;
     Ok(leaves_two(
         &g,
-        (counts.index_pages + index_pages(&g, to)).saturating_sub(index_pages(&g, from)),
-        (counts.data_pages + data_pages(&g, to)).saturating_sub(data_pages(&g, from)),
+        (live.index_pages + index_pages(&g, to)).saturating_sub(index_pages(&g, from)),
+        (live.data_pages + data_pages(&g, to)).saturating_sub(data_pages(&g, from)),
     ))
 }
 
@@ -152,7 +153,7 @@ pub(crate) fn has_room<N: Nor>(v: &mut View<'_, N>, more: u32) -> Result<bool, F
     ensures looks { OnlyLooks v.old v.new }
     ensures told { N.tells v.old.nor.now → IsTidy v.old.geometry (N.bytes v.old.nor.now) → IfOk result (λ room. room ≡ has_room_beside v.old.geometry (table_of v.old.geometry (N.bytes v.old.nor.now)) more) }
 {
-    let counts = page_counts(v)?;
+    let live = live_pages(v)?;
     tidy_counts();
-    Ok(leaves_two(&v.geometry, counts.index_pages + more, counts.data_pages))
+    Ok(leaves_two(&v.geometry, live.index_pages + more, live.data_pages))
 }

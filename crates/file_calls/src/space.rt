@@ -5,8 +5,8 @@ ghost use Rattle.image_model.specs.Tidy.{IsTidy};
 ghost use Rattle.flash_view.specs.Same.{OnlyLooks};
 ghost use Rattle.file_calls.specs.Spaces.{IsSpace, IsWithin, with_block as the_with_block};
 
-use flash_view::View;
-use free_search::{BlockCounts, counts};
+use flash_view::{BlockCounts, View};
+use free_search::counts;
 use nor_core::{Failed, Nor, NorState};
 
 /// What is free in a volume: blocks, and entry pages of all blocks, which are all but the lookup pages.

@@ -5,6 +5,7 @@ use Rattle.std.proofs.Math.Bool.{and-true}
 use Rattle.std.proofs.Math.Path.{fun_ext}
 use Rattle.std.proofs.lemmas.Bool.{cases_eq, eq-eqb, ne_eqb, le-leb}
 use Rattle.geometry.specs.declared.geometry.Geometry.{Geometry}
+use Rattle.page_layout.specs.declared.header.PageHeader.{PageHeader}
 use Rattle.image_model.specs.Headers.{names_index, span_of}
 use Rattle.image_model.specs.Places.{is_entry_page}
 use Rattle.image_model.specs.Live.{Live, live_at, own}
@@ -88,8 +89,8 @@ module _ (g : Geometry) (a : List ℕ) (id : ℕ) (kept : Kept) (p : ℕ) (o : H
         }
 
 -- its kill is its turn
-pub drops : (g : Geometry) (a : List ℕ) (id : ℕ) (kept : Kept) (p : ℕ) → HasLeft g id kept a → is_left g a id kept p ≡ true → slice_index a (p * g.page + 4) < 256 → Finishes g a a (killing p) (dropping id kept p)
-drops g a id kept p o mine byte = record { needs = record { live = ap is_some (live g a id kept p o mine); byte = byte }; cut = cut g a id kept p o mine; done = λ c ok h. done g a id kept p o mine c h }
+pub drops : (g : Geometry) (a : List ℕ) (id : ℕ) (kept : Kept) (p : ℕ) (head : PageHeader) → HasLeft g id kept a → is_left g a id kept p ≡ true → slice_index a (p * g.page + 4) < 256 → Finishes g a a (killing p) (dropping id kept p head)
+drops g a id kept p head o mine byte = record { needs = record { live = ap is_some (live g a id kept p o mine); byte = byte }; cut = cut g a id kept p o mine; done = λ c ok h. done g a id kept p o mine c h }
 
 -- ---- a page of the id that isn't live, as its header page is
 

@@ -1,7 +1,12 @@
 -- The turns of a remove and of a truncation one after the other.
-use Rattle.std.proofs.Common.{length, ◌*◌, Result, Ok, Err, OnOk, ◌≡◌, ℕ, ◌+◌, ◌<◌, ◌≤◌, List, Bool, true, false, Some, refl, sym, ◌∙◌, arith, ⊎_elim, inl, inr}
-use Rattle.std.proofs.lemmas.Bool.{cases_eq}
+use Rattle.std.proofs.Common.{length, ◌*◌, Result, Ok, Err, OnOk, ◌≡◌, ℕ, ◌+◌, ◌<◌, ◌≤◌, List, Bool, true, false, Some, refl, ap, sym, ◌∙◌, arith, ⊎_elim, inl, inr}
+use Rattle.std.specs.Prelude.{None}
+use Rattle.std.specs.Option.{option_map}
+use Rattle.std.proofs.lemmas.Bool.{cases_eq, cases_lt}
 use Rattle.geometry.specs.declared.geometry.Geometry.{Geometry}
+use Rattle.page_layout.specs.declared.header.PageHeader.{PageHeader}
+use Rattle.page_layout.specs.Layout.{header_at}
+use Rattle.page_renew.specs.EditLaws.{past_of}
 use Rattle.geometry.specs.Numbers.{page_count}
 use Rattle.image_model.specs.Within.{page_number}
 use Rattle.image_model.specs.Places.{IsImage}
@@ -20,7 +25,7 @@ use Rattle.flash_view.specs.Steps.{Step, Begins, Finishes}
 use Rattle.file_drop.specs.declared.pages.Kept.{Kept}
 use Rattle.file_drop.specs.Drops.{none_kept, is_left, HasLeft, DropsPage, dropping, dropping_all}
 use Rattle.file_drop.specs.Removals.{CanRemove, CanDrop, RemoveCut, HeaderDropped, dropping_header, removing_by, removing}
-use Rattle.file_drop.proofs.Killing.{past_page}
+use Rattle.file_drop.proofs.Killing.{past_page, own_none}
 
 -- an image that is tidy but for pages that are not needed has its magics
 idles-magics : (g : Geometry) (a : List ℕ) (spare : ℕ → Bool) → Idles g spare a → HasMagics g a
@@ -55,9 +60,20 @@ dropping_to id kept n = record { needs = λ g was. HasLeft g id kept was; cut = 
 pub none_yet : (g : Geometry) (a : List ℕ) (id : ℕ) (kept : Kept) → HasLeft g id kept a → KeepsAll g a a × Dropping g a a id kept 0
 none_yet g a id kept o = (keeps_none g id kept a o, record { keeps = keeps_none g id kept a o; left = o; passed = λ q low. absurd (omega arith) })
 
-pub turns : (g : Geometry) (a b : List ℕ) (id : ℕ) (kept : Kept) (n : ℕ) → Dropping g a b id kept n → Finishes g a b (dropping id kept n) (dropping_to id kept (n + 1))
-turns g a b id kept n s = record {
-  needs = s.left;
+-- pages that aren't live aren't to go
+pub passes_dead : (g : Geometry) (a b : List ℕ) (id : ℕ) (kept : Kept) (n m : ℕ) → ((q : ℕ) → n ≤ q → q < m → live_at g b q ≡ None) → Dropping g a b id kept n → Dropping g a b id kept m
+passes_dead g a b id kept n m dead s = record {
+  keeps = s.keeps;
+  left = s.left;
+  passed = λ q low. ⊎_elim
+      (λ (before : q < n). s.passed q before)
+      (λ (behind : n ≤ q). ap (past_of kept.index_pages kept.data_pages) (own_none (live_at g b) id q (dead q behind low)))
+      (cases_lt q n);
+}
+
+pub turns : (g : Geometry) (a b : List ℕ) (id : ℕ) (kept : Kept) (n : ℕ) (head : PageHeader) → Some head ≡ option_map header_at (live_at g b n) → Dropping g a b id kept n → Finishes g a b (dropping id kept n head) (dropping_to id kept (n + 1))
+turns g a b id kept n head live s = record {
+  needs = (s.left, live);
   cut = λ c keeps. keeps_then g a b c s.keeps keeps;
   done = λ c ok turn. record {
     keeps = keeps_then g a b c s.keeps turn.keeps;
@@ -69,23 +85,35 @@ turns g a b id kept n s = record {
   };
 }
 
-pub all_passed : (g : Geometry) (a : List ℕ) (id : ℕ) (kept : Kept) (n : ℕ) → page_count g ≤ n → HasLeft g id kept a → Finishes g a a (dropping_to id kept n) (dropping_all id kept)
-all_passed g a id kept n all o = record {
-  needs = o;
-  cut = λ c keeps. keeps;
-  done = λ c ok s. record {
-    keeps = s.keeps;
-    tidy = idles-end g c (λ (q : ℕ). is_left g c id kept q)
-        (λ r mine.
-        let x = past_page kept.index_pages kept.data_pages (own (live_at g c) id r) mine in
-        let live : live_at g c r ≡ Some x.0 = (own-parts (live_at g c) id r x.0 x.1).0 in
-        let low : r < page_count g = page_number g r (live_parts g c r x.0 live).entry_page in
-        let passed : is_left g c id kept r ≡ false = s.passed r (omega (arith, low, all)) in
-        let bad : true ≡ false = sym mine ∙ passed in
-        absurd (cc))
-        s.left;
-  };
-}
+-- A look in between.
+abbrev pub staying : Step (Unit {0})
+staying = record { needs = λ g was. Unit {0}; cut = λ g was image. image ≡ was; done = λ g was now ok. now ≡ was }
+
+-- and one that fails
+abbrev pub faulty : Step (Unit {0})
+faulty = record { needs = λ g was. Unit {0}; cut = λ g was image. image ≡ was; done = λ g was now ok. ⊥ }
+
+pub fails_later : (g : Geometry) (a b : List ℕ) (id : ℕ) (kept : Kept) (n : ℕ) → Dropping g a b id kept n → Finishes g a b faulty (dropping_all id kept)
+fails_later g a b id kept n s = record { needs = tt; cut = λ c same. rw same s.keeps; done = λ c ok none. absurd (none) }
+
+pub all_passed : (g : Geometry) (a b : List ℕ) (id : ℕ) (kept : Kept) (n : ℕ) → ((q : ℕ) → n ≤ q → q < page_count g → live_at g b q ≡ None) → Dropping g a b id kept n → Finishes g a b staying (dropping_all id kept)
+all_passed g a b id kept n dead s =
+    let all = passes_dead g a b id kept n (page_count g) dead s in
+    record {
+      needs = tt;
+      cut = λ c same. rw same s.keeps;
+      done = λ c ok same. rw same (record {
+        keeps = all.keeps;
+        tidy = idles-end g b (λ (q : ℕ). is_left g b id kept q)
+            (λ r mine.
+            let x = past_page kept.index_pages kept.data_pages (own (live_at g b) id r) mine in
+            let live : live_at g b r ≡ Some x.0 = (own-parts (live_at g b) id r x.0 x.1).0 in
+            let low : r < page_count g = page_number g r (live_parts g b r x.0 live).entry_page in
+            let bad : true ≡ false = sym mine ∙ all.passed r low in
+            absurd (cc))
+            all.left;
+      });
+    }
 
 -- a page that isn't to go is passed
 pub drops_none : (g : Geometry) (a : List ℕ) (id : ℕ) (kept : Kept) (p : ℕ) → is_left g a id kept p ≡ false → HasLeft g id kept a → DropsPage g id kept p a a

@@ -1,8 +1,9 @@
 -- Pages of a file that are to go, and their kills.
-use Rattle.std.specs.Prelude.{◌≡◌, ℕ, List, Bool, false, nat_le, if◌then◌else◌}
+use Rattle.std.specs.Prelude.{◌≡◌, ℕ, List, Bool, false, nat_le, if◌then◌else◌, Some}
+use Rattle.std.specs.Option.{option_map}
 use Rattle.geometry.specs.declared.geometry.Geometry.{Geometry}
 use Rattle.page_layout.specs.declared.header.PageHeader.{PageHeader}
-use Rattle.page_layout.specs.Layout.{names_index}
+use Rattle.page_layout.specs.Layout.{header_at, names_index}
 use Rattle.image_model.specs.Live.{live_at, own}
 use Rattle.image_model.specs.Sound.{KeepsAll}
 use Rattle.image_model.specs.Tidy.{IsTidy}
@@ -39,10 +40,10 @@ pub record DropsPages (g : Geometry) (was now : List ℕ) : Type 0 where
   pub keeps : KeepsAll g was now
   pub tidy : IsTidy g now
 
--- ---- the steps: a turn at page p, and all turns
+-- ---- the steps: a turn at page p, which is live with a header, and all turns
 
-abbrev pub dropping : ℕ → Kept → ℕ → Step (Unit {0})
-dropping id kept p = record { needs = λ g was. HasLeft g id kept was; cut = λ g was image. KeepsAll g was image; done = λ g was now ok. DropsPage g id kept p was now }
+abbrev pub dropping : ℕ → Kept → ℕ → PageHeader → Step (Unit {0})
+dropping id kept p head = record { needs = λ g was. HasLeft g id kept was × (Some head ≡ option_map header_at (live_at g was p)); cut = λ g was image. KeepsAll g was image; done = λ g was now ok. DropsPage g id kept p was now }
 
 abbrev pub dropping_all : ℕ → Kept → Step (Unit {0})
 dropping_all id kept = record { needs = λ g was. HasLeft g id kept was; cut = λ g was image. KeepsAll g was image; done = λ g was now ok. DropsPages g was now }

@@ -10,7 +10,7 @@ ghost use Rattle.file_drop.specs.Drops.{is_left as the_left, is_past_header, dro
 
 use flash_view::{View, is_entry_page};
 use nor_core::{Failed, Nor, NorState};
-use page_layout::PageHeader;
+use page_layout::{FREE, PageHeader};
 use page_put::kill;
 
 /// How many index pages and data pages of a file are kept.
@@ -60,12 +60,18 @@ pub(crate) fn is_left<N: Nor>(
     Ok(is_past(head, id, kept))
 }
 
-// Kills a page, if it is a live page of an id that isn't kept.
-fn drop_page<N: Nor>(v: &mut View<'_, N>, page: u16, id: u16, kept: Kept) -> Result<(), Failed>
-    requires { page < page_count v.old.geometry }
-    ensures { Stepped failed v.old v.new result (dropping id kept page) }
+// Kills a live page with this header, if it is a page of an id that isn't kept.
+fn drop_page<N: Nor>(
+    v: &mut View<'_, N>,
+    page: u16,
+    head: PageHeader,
+    id: u16,
+    kept: Kept,
+) -> Result<(), Failed>
+    requires { IsEntryPage v.old.geometry page }
+    ensures { Stepped failed v.old v.new result (dropping id kept page head) }
 {
-    if !is_left(v, page, id, kept)? {
+    if !is_past(head, id, kept) {
         return Ok(());
     }
     kill(v, page)
@@ -75,8 +81,10 @@ fn drop_page<N: Nor>(v: &mut View<'_, N>, page: u16, id: u16, kept: Kept) -> Res
 pub(crate) fn drop_pages<N: Nor>(v: &mut View<'_, N>, id: u16, kept: Kept) -> Result<(), Failed>
     ensures { Stepped failed v.old v.new result (dropping_all id kept) }
 {
-    for page in 0..v.geometry.pages() as u16 {
-        drop_page(v, page, id, kept)?;
+    let mut at = 0;
+    'pages: while let Some((page, head)) = v.next_live(at, 1, FREE - 1)? {
+        drop_page(v, page, head, id, kept)?;
+        at = u32::from(page) + 1;
     }
     Ok(())
 }

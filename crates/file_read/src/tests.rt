@@ -159,7 +159,7 @@ fn read_on(
     if work.len() < g.work_need() as usize || cache.len() < g.cache_need() as usize {
         return Ok(None);
     }
-    let mut v = View::new(g, chip, work, cache);
+    let mut v = View::new(g, chip, work, &mut [], cache);
     Ok(Some(read_at(&mut v, id, at, into)))
 }
 

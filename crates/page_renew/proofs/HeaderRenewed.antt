@@ -38,7 +38,7 @@ use Rattle.free_search.specs.Free.{IsFreeFor, FreePage}
 use Rattle.free_search.proofs.FoundPage.{free_of}
 use Rattle.free_search.proofs.Had.{page_had}
 use Rattle.free_search.proofs.HadBy.{tidy_but_is_clear}
-use Rattle.room_laws.specs.Sorts.{TellsFree}
+use Rattle.image_model.specs.Tidy.{TellsFree}
 use Rattle.page_put.specs.Placing.{placed_page}
 use Rattle.page_put.specs.LivePages.{finished_page, killing, putting}
 use Rattle.page_put.proofs.Putting.{ready}

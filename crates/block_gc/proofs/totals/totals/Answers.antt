@@ -1,7 +1,7 @@
 use Rattle.std.proofs.Common.{refl, arith, rules}
 use Rattle.geometry.specs.Numbers.{per_block, lookups, entries}
 use Rattle.flash_view.proofs.Looking.{looks_none, looks_then}
-use Rattle.free_search.specs.Counts.{AreCounts}
+use Rattle.flash_view.specs.Counts.{AreCounts}
 use Rattle.block_gc.specs.Totals.{IsRoom}
 use Rattle.block_gc.proofs.Rooms.{room_is, summing_start, summing_more, summing_end, most_more, most_below}
 use Rattle.block_gc.proofs.totals.totals.Goals as goal

@@ -1,7 +1,7 @@
 use Rattle.std.proofs.Common.{arith, rules}
 use Rattle.geometry.specs.Numbers.{per_block, lookups, entries}
 use Rattle.flash_view.proofs.Looking.{looks_none, looks_then}
-use Rattle.free_search.specs.Counts.{AreCounts}
+use Rattle.flash_view.specs.Counts.{AreCounts}
 use Rattle.file_calls.proofs.Spaces.{adding_start, adding_more, adding_end, within_more, within_below}
 use Rattle.file_calls.proofs.space.space_of.Goals as goal
 

@@ -1,20 +1,15 @@
 use Rattle.std.proofs.Common.{sym, ◌∙◌}
-use Rattle.flash_view.proofs.Stepped.{looked, look_fails, after_look}
+use Rattle.flash_view.proofs.Looking.{looks_none}
+use Rattle.flash_view.proofs.Stepped.{looked, weaker}
 use Rattle.file_drop.proofs.Killing.{drops}
 use Rattle.file_drop.proofs.Passing.{keeps_none, drops_none}
+use Rattle.file_drop.proofs.Seeing.{left_by_header, byte_by_header}
 use Rattle.file_drop.proofs.pages.drop_page.Goals as goal
 
-pub returns-in_err-is_left : goal.returns-in_err-is_left
-returns-in_err-is_left g c =
-    let seen = c.in_err-is_left.ensures in
-    look_fails seen.looks seen.cause c.from_residual.ensures.0 (λ tells o. keeps_none _ _ _ _ o)
-
-pub returns-then-not-branch : goal.returns-then-not-branch
-returns-then-not-branch g c =
-    let seen = c.in_ok-is_left.ensures in
-    looked seen.looks (λ e. absurd (cc)) tt (λ tells o. (keeps_none _ _ _ _ o, drops_none _ _ _ _ _ (sym (seen.told tells) ∙ c.if-not-branch.true) o))
+pub returns-then-not-is_past : goal.returns-then-not-is_past
+returns-then-not-is_past g c =
+    looked (looks_none c.args.v.now) (λ e. absurd (cc)) tt (λ tells o. (keeps_none _ _ _ _ o.0, drops_none _ _ _ _ _ (sym (left_by_header _ _ _ _ _ _ o.1) ∙ sym c.is_past.ensures.is ∙ c.if-not-is_past.true) o.0))
 
 pub returns : goal.returns
 returns g c =
-    let seen = c.in_ok-is_left.ensures in
-    after_look seen.looks c.kill.ensures.live (λ tells o. drops _ _ _ _ _ o (sym (seen.told tells) ∙ c.if-not-branch.false) (rw c.if-not-branch.false at (seen.byte tells)))
+    weaker c.kill.ensures.live (λ tells o. drops _ _ _ _ _ c.args.head o.0 (sym (left_by_header _ _ _ _ _ _ o.1) ∙ sym c.is_past.ensures.is ∙ c.if-not-is_past.false) (byte_by_header _ _ _ _ o.1 c.is_past.ensures.byte))

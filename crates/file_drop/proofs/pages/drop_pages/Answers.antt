@@ -1,32 +1,63 @@
-use Rattle.std.proofs.Common.{arith}
-use Rattle.geometry.specs.Numbers.{page_count, per_block}
+use Rattle.std.proofs.Common.{◌≡◌, ◌+◌, Result, Ok, Some, None, refl, arith}
+use Rattle.nor_core.specs.declared.device.Failed.{Failed}
+use Rattle.geometry.specs.Numbers.{page_count}
+use Rattle.flash_view.specs.Steps.{Stepped, failed}
+use Rattle.flash_view.specs.Walk.{NextLive}
 use Rattle.flash_view.proofs.Looking.{looks_none}
-use Rattle.flash_view.proofs.Stepped.{looked, weaker, fails, stepped_then}
-use Rattle.file_drop.proofs.Passing.{none_yet, turns, all_passed}
+use Rattle.flash_view.proofs.Passed.{found_some, passed_used}
+use Rattle.flash_view.proofs.Stepped.{looked, look_fails, after_look, fails, stepped_then}
+use Rattle.file_drop.specs.Drops.{dropping}
+use Rattle.file_drop.proofs.Passing.{none_yet, passes_dead, turns, all_passed, staying, faulty, fails_later, dropping_to}
+use Rattle.file_drop.proofs.pages.drop_pages.Given.{Over}
 use Rattle.file_drop.proofs.pages.drop_pages.Goals as goal
+use Rattle.file_drop.proofs.pages.drop_pages.Goals.{In-Some}
 
-pub loop-page-init : goal.loop-page-init
-loop-page-init g c = record { end = c.pages-page-end.ensures.count; step = looked (looks_none c.args.v.now) (λ e. absurd (cc)) tt (λ tells o. none_yet _ _ _ _ o) }
+pub pages-init : goal.pages-init
+pages-init g c = record { most = omega arith; step = looked (looks_none c.args.v.now) (λ e. absurd (cc)) tt (λ tells o. none_yet _ _ _ _ o) }
+
+pub returns-in_err-page : goal.returns-in_err-page
+returns-in_err-page g c =
+    let seen = c.in_err-page.ensures in
+    stepped_then {last = faulty} c.pages.invariant.step (look_fails seen.looks seen.cause c.from_residual.ensures.0 (λ tells o. refl)) (λ tells o. record { needs = o; cut = λ d kept. kept }) (λ tells o s. fails_later _ _ _ _ _ _ s)
 
 pub drop_page-requires : goal.drop_page-requires
-drop_page-requires g c = let was = c.loop-page.invariant in rw was.step.framed.same.geometry (omega (arith, was.end, c.loop-page-test.true))
+drop_page-requires g c = let inside = rw c.in-Some.is at c.in_ok-page.ensures.inside in rw c.in_ok-page.ensures.looks.same.geometry inside.1
+
+-- the turn of the page that was found, after the pages before it
+turn : (g : Over) (c : In-Some g) (r : Result (Unit {0}) Failed) (new : _) → Stepped failed c.next_live.new.self new r (dropping c.args.id c.args.kept c.in-Some.page c.in-Some.head) → Stepped failed c.args.v.now new r (dropping_to c.args.id c.args.kept (c.in-Some.page + 1))
+turn g c r new drops =
+    let was = c.pages.invariant in
+    let found = c.in_ok-page.ensures in
+    let geometry = c.args.v.now.geometry in
+    let image = g.N.NorState.bytes c.pages.v.nor.now in
+    stepped_then was.step (after_look found.looks drops (λ tells o. record { needs = o; cut = λ d k. k; done = λ d ok k. k })) (λ tells o. record { needs = o; cut = λ d kept. kept })
+    (λ tells o s.
+    let next : NextLive geometry image c.pages.at 1 0xFFFE (Some (c.in-Some.page, c.in-Some.head)) = rw (was.step.framed.same.geometry, c.in-Some.is) at (found.told (was.step.cuts.cuts.told tells)) in
+    turns geometry _ image c.args.id c.args.kept c.in-Some.page c.in-Some.head (found_some geometry image c.pages.at 1 0xFFFE c.in-Some.page c.in-Some.head next)
+    (passes_dead geometry _ image c.args.id c.args.kept c.pages.at c.in-Some.page (λ q from to. passed_used geometry image q (next.passed q from to)) s))
 
 pub returns-in_err-drop_page : goal.returns-in_err-drop_page
 returns-in_err-drop_page g c =
-    fails
-    (stepped_then c.loop-page.invariant.step c.in_err-drop_page.ensures (λ tells o. record { needs = o; cut = λ d kept. kept }) (λ tells o s. turns _ _ _ _ _ _ s))
-    c.from_residual.ensures.0 (λ tells o. record { needs = o; cut = λ d kept. kept })
+    fails (turn g (goal.at.returns-in_err-drop_page g c).In-Some _ _ c.in_err-drop_page.ensures) c.from_residual-in_err-drop_page.ensures.0 (λ tells o. record { needs = o; cut = λ d kept. kept })
 
-pub loop-page-preserved : goal.loop-page-preserved
-loop-page-preserved g c =
-    let was = c.loop-page.invariant in
-    record {
-      end = was.end;
-      step = stepped_then was.step c.in_ok-drop_page.ensures (λ tells o. record { needs = o; cut = λ d kept. kept }) (λ tells o s. turns _ _ _ _ _ _ s);
-    }
+pub pages-smaller : goal.pages-smaller
+pages-smaller g c =
+    let inside = rw (c.in-Some.is, c.pages.invariant.step.framed.same.geometry) at c.in_ok-page.ensures.inside in
+    omega (arith, inside.0, inside.1.below, c.from-at.ensures)
+
+pub pages-preserved : goal.pages-preserved
+pages-preserved g c =
+    let was = c.pages.invariant in
+    let inside = rw (c.in-Some.is, was.step.framed.same.geometry) at c.in_ok-page.ensures.inside in
+    record { most = omega (arith, inside.1.below, c.from-at.ensures); step = rw c.from-at.ensures (turn g (goal.at.pages-preserved g c).In-Some _ _ c.in_ok-drop_page.ensures) }
 
 pub returns : goal.returns
-unfolding page_count per_block
 returns g c =
-    let was = c.loop-page.invariant in
-    weaker was.step (λ tells o. all_passed _ _ _ _ _ (omega (arith, was.end, c.loop-page-test.false)) o)
+    let was = c.pages.invariant in
+    let found = c.in_ok-page.ensures in
+    let geometry = c.args.v.now.geometry in
+    let image = g.N.NorState.bytes c.pages.v.nor.now in
+    stepped_then {last = staying} was.step (looked found.looks (λ e. absurd (cc)) tt (λ tells o. (refl, refl))) (λ tells o. record { needs = o; cut = λ d kept. kept })
+    (λ tells o s.
+    let none : NextLive geometry image c.pages.at 1 0xFFFE None = rw (was.step.framed.same.geometry, c.in_default.is) at (found.told (was.step.cuts.cuts.told tells)) in
+    all_passed geometry _ image c.args.id c.args.kept c.pages.at (λ q from to. passed_used geometry image q (none q from to)) s)

@@ -9,10 +9,13 @@ returns-clause-looks g c =
     record {
       reads = all.reads;
       wrote = all.wrote;
+      counted = all.counted;
+      rows = all.rows;
       same = record {
         geometry = all.same.geometry;
         nor_name = all.same.nor_name;
         work_name = all.same.work_name;
+        rows_name = all.same.rows_name;
         cache_name = all.same.cache_name;
         cache_size = all.same.cache_size;
         faults = all.same.faults;
