@@ -160,7 +160,8 @@ fn ask_with(
     if work.len() < g.work_need() as usize || cache.len() < g.cache_need() as usize {
         return Answer::Outside;
     }
-    let mut v = View::new(g, board, work, cache);
+    let (work, rows) = work.split_at_mut(g.scratch_need() as usize);
+    let mut v = View::new(g, board, work, rows, cache);
     ask_view(&mut v, ask)
 }
 

@@ -116,7 +116,7 @@ fn a_whole_file_is_read_by_its_id(rt: HostRuntime) -> Result<(), Fail> {
         check,
         ..
     } = lent;
-    let mut v = View::new(g, &mut board, work, cache);
+    let mut v = View::new(g, &mut board, work, &mut [], cache);
     let mut into = [7u8; 4];
     for (id, at, wanted, bytes) in [
         (1, 0, Some(4), [0; 4]),
@@ -161,7 +161,7 @@ fn a_view_gives_back_what_was_lent(rt: HostRuntime) -> Result<(), Fail> {
     let lent = memory.lend();
     accept(&g, &board, &lent)?;
     let Lent { work, cache, .. } = lent;
-    let v = View::new(g, &mut board, work, cache);
+    let v = View::new(g, &mut board, work, &mut [], cache);
     let (nor, work, cache) = v.give_back();
     assert_eq!(rt; nor.image().get(4096..4098), Some([1u8, 0].as_slice()));
     assert_eq!(rt; work.len(), g.work_need() as usize);

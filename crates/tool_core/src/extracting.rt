@@ -71,7 +71,7 @@ fn extract_board<B: Board, F: Folder>(
     ensures extracts { Extracts B.NorState F.FolderState g board.old board.new folder.old folder.new result }
     ensures few { ReadsOnce B.NorState g (length cache.old) board.old board.new }
 {
-    let mut v = View::new(g, board, work, cache);
+    let mut v = View::new(g, board, work, &mut [], cache);
     extract_view(&mut v, marks, folder, line)
 }
 

@@ -71,7 +71,7 @@ fn list_board<B: Board>(
     ensures lists { ListsTo B.NorState g board.old board.new result }
     ensures few { ReadsOnce B.NorState g (length cache.old) board.old board.new }
 {
-    let mut v = View::new(g, board, work, cache);
+    let mut v = View::new(g, board, work, &mut [], cache);
     list_view(&mut v, marks, line)
 }
 

@@ -65,7 +65,7 @@ fn extract_into(
         ..
     } = lent;
     let mut line = vec![in alloc; 0u8; 12288]?;
-    let mut view = View::new(g, board, work, cache);
+    let mut view = View::new(g, board, work, &mut [], cache);
     Ok(extract(&mut view, check, folder, &mut line))
 }
 

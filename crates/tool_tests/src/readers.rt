@@ -76,7 +76,7 @@ fn a_view_finds_the_data_page_of_a_span(rt: HostRuntime) -> Result<(), Fail> {
     let lent = memory.lend();
     accept(&g, &board, &lent)?;
     let Lent { work, cache, .. } = lent;
-    let mut view = View::new(g, &mut board, work, cache);
+    let mut view = View::new(g, &mut board, work, &mut [], cache);
     for (id, span, page) in [
         (1, 0, Some(17)),
         (1, 1, None),

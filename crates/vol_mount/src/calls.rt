@@ -1,7 +1,7 @@
 //! Calls over a view of a reader's device, with the copies of its pages that are there.
 ghost use Rattle.std.specs.Prelude.{◌≡◌, ◌*◌, ◌<◌, ◌≤◌, length, OnOk, OnErr, IfOk, IfErr, IfSome, IsErrOf, Err};
 ghost use Rattle.std.specs.Option.{option_map};
-ghost use Rattle.geometry.specs.Numbers.{work_need, cache_need, check_need};
+ghost use Rattle.geometry.specs.Numbers.{scratch_need, cache_need, check_need};
 ghost use Rattle.nor_core.specs.Count.{Rose};
 ghost use Rattle.nor_core.specs.Device.{OnlyReads};
 ghost use Rattle.table_model.specs.Table.{file_above};
@@ -28,11 +28,12 @@ pub(crate) fn mount_on<N: Nor>(
     g: Geometry,
     nor: &mut N,
     work: &mut [u8],
+    rows: &mut [u8],
     cache: &mut [u8],
 ) -> Result<(), MountErr>
     requires unit { N.unit nor.old ≡ g.phys }
     requires fits { g.blocks * g.block ≤ N.size nor.old }
-    requires work { work_need g ≤ length work.old }
+    requires work { scratch_need g ≤ length work.old }
     requires cache { cache_need g ≤ length cache.old }
     requires kept { IsKept N.NorState g nor.old cache.old }
     ensures late { IfErr result IsLate }
@@ -47,8 +48,10 @@ pub(crate) fn mount_on<N: Nor>(
         geometry: g,
         nor,
         work,
+        rows,
         cache,
         wrote: false,
+        counted: false,
     };
     mount(&mut v)
 }
@@ -58,12 +61,13 @@ pub(crate) fn survey_on<N: Nor>(
     g: Geometry,
     nor: &mut N,
     work: &mut [u8],
+    rows: &mut [u8],
     cache: &mut [u8],
     marks: &mut [u8],
 ) -> Result<(), Failed>
     requires unit { N.unit nor.old ≡ g.phys }
     requires fits { g.blocks * g.block ≤ N.size nor.old }
-    requires work { work_need g ≤ length work.old }
+    requires work { scratch_need g ≤ length work.old }
     requires cache { cache_need g ≤ length cache.old }
     requires kept { IsKept N.NorState g nor.old cache.old }
     requires room { check_need g ≤ length marks.old }
@@ -77,8 +81,10 @@ pub(crate) fn survey_on<N: Nor>(
         geometry: g,
         nor,
         work,
+        rows,
         cache,
         wrote: false,
+        counted: false,
     };
     survey(&mut v, marks)
 }
@@ -88,13 +94,14 @@ pub(crate) fn next_on<N: Nor>(
     g: Geometry,
     nor: &mut N,
     work: &mut [u8],
+    rows: &mut [u8],
     cache: &mut [u8],
     marks: &[u8],
     after: u16,
 ) -> Result<Option<Stat>, Failed>
     requires unit { N.unit nor.old ≡ g.phys }
     requires fits { g.blocks * g.block ≤ N.size nor.old }
-    requires work { work_need g ≤ length work.old }
+    requires work { scratch_need g ≤ length work.old }
     requires cache { cache_need g ≤ length cache.old }
     requires kept { IsKept N.NorState g nor.old cache.old }
     requires room { check_need g ≤ length marks.now }
@@ -110,8 +117,10 @@ pub(crate) fn next_on<N: Nor>(
         geometry: g,
         nor,
         work,
+        rows,
         cache,
         wrote: false,
+        counted: false,
     };
     next_record(&mut v, marks, after)
 }
@@ -121,13 +130,14 @@ pub(crate) fn damaged_on<N: Nor>(
     g: Geometry,
     nor: &mut N,
     work: &mut [u8],
+    rows: &mut [u8],
     cache: &mut [u8],
     marks: &[u8],
     after: u16,
 ) -> Result<Option<(u16, Damage)>, Failed>
     requires unit { N.unit nor.old ≡ g.phys }
     requires fits { g.blocks * g.block ≤ N.size nor.old }
-    requires work { work_need g ≤ length work.old }
+    requires work { scratch_need g ≤ length work.old }
     requires cache { cache_need g ≤ length cache.old }
     requires kept { IsKept N.NorState g nor.old cache.old }
     requires room { check_need g ≤ length marks.now }
@@ -143,8 +153,10 @@ pub(crate) fn damaged_on<N: Nor>(
         geometry: g,
         nor,
         work,
+        rows,
         cache,
         wrote: false,
+        counted: false,
     };
     next_damaged(&mut v, marks, after)
 }
@@ -154,6 +166,7 @@ pub(crate) fn read_on<N: Nor>(
     g: Geometry,
     nor: &mut N,
     work: &mut [u8],
+    rows: &mut [u8],
     cache: &mut [u8],
     marks: &[u8],
     id: u16,
@@ -162,7 +175,7 @@ pub(crate) fn read_on<N: Nor>(
 ) -> Result<u32, FsErr>
     requires unit { N.unit nor.old ≡ g.phys }
     requires fits { g.blocks * g.block ≤ N.size nor.old }
-    requires work { work_need g ≤ length work.old }
+    requires work { scratch_need g ≤ length work.old }
     requires cache { cache_need g ≤ length cache.old }
     requires kept { IsKept N.NorState g nor.old cache.old }
     requires room { check_need g ≤ length marks.now }
@@ -178,8 +191,10 @@ pub(crate) fn read_on<N: Nor>(
         geometry: g,
         nor,
         work,
+        rows,
         cache,
         wrote: false,
+        counted: false,
     };
     read_file(&mut v, marks, id, at, into)
 }

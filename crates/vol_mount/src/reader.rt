@@ -100,7 +100,7 @@ impl<'b, N: Nor> Reader<'b, N> {
         ensures spoiled { N.tells self.old.nor.now → IfErr result (CountsSpoiled self.old.geometry (N.bytes self.old.nor.now)) }
         ensures same { IsSameReader self.old self.new }
     {
-        mount_on(self.geometry, self.nor, self.work, self.cache)
+        mount_on(self.geometry, self.nor, self.work, &mut [], self.cache)
     }
 
     // Surveys the volume, where that isn't done.
@@ -113,7 +113,14 @@ impl<'b, N: Nor> Reader<'b, N> {
         if self.known {
             return Ok(());
         }
-        survey_on(self.geometry, self.nor, self.work, self.cache, self.check)?;
+        survey_on(
+            self.geometry,
+            self.nor,
+            self.work,
+            &mut [],
+            self.cache,
+            self.check,
+        )?;
         self.known = true;
         Ok(())
     }
@@ -131,7 +138,15 @@ impl<'b, N: Nor> Reader<'b, N> {
             Err(Failed) => Err(FsErr::DeviceFault),
             Ok(()) => {
                 let marks = &mut *self.check;
-                match next_on(self.geometry, self.nor, self.work, self.cache, marks, after) {
+                match next_on(
+                    self.geometry,
+                    self.nor,
+                    self.work,
+                    &mut [],
+                    self.cache,
+                    marks,
+                    after,
+                ) {
                     Err(Failed) => Err(FsErr::DeviceFault),
                     Ok(found) => Ok(found),
                 }
@@ -153,7 +168,15 @@ impl<'b, N: Nor> Reader<'b, N> {
             Err(Failed) => Err(FsErr::DeviceFault),
             Ok(()) => {
                 let marks = &mut *self.check;
-                match damaged_on(self.geometry, self.nor, self.work, self.cache, marks, after) {
+                match damaged_on(
+                    self.geometry,
+                    self.nor,
+                    self.work,
+                    &mut [],
+                    self.cache,
+                    marks,
+                    after,
+                ) {
                     Err(Failed) => Err(FsErr::DeviceFault),
                     Ok(found) => Ok(found),
                 }
@@ -179,6 +202,7 @@ impl<'b, N: Nor> Reader<'b, N> {
                     self.geometry,
                     self.nor,
                     self.work,
+                    &mut [],
                     self.cache,
                     marks,
                     id,

@@ -1,3 +1,4 @@
+pub mod Rows
 pub mod Staying
 pub mod Magics
 pub mod Acting

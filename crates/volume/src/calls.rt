@@ -1,7 +1,8 @@
-ghost use Rattle.std.specs.Prelude.{◌≡◌, ◌*◌, ◌≤◌, ℕ, List, length, None, false};
-ghost use Rattle.geometry.specs.Numbers.{usable, body, work_need, cache_need};
+ghost use Rattle.std.specs.Prelude.{◌≡◌, ◌*◌, ◌≤◌, ℕ, List, length, None, true, false};
+ghost use Rattle.geometry.specs.Numbers.{usable, body, scratch_need, cache_need};
 ghost use Rattle.flash_view.specs.Same.{IsSameView};
 ghost use Rattle.page_cache.specs.Kept.{IsKept, FewReads};
+ghost use Rattle.flash_view.specs.Table.{HasTable};
 ghost use Rattle.table_model.specs.Ask.{asked};
 ghost use Rattle.file_calls.specs.Replies.{reply_of, shown_by, HasRoomFor};
 ghost use Rattle.volume.specs.Opening.{stage_after as the_stage_after};
@@ -60,7 +61,9 @@ fn call_on<N: Nor>(
     g: Geometry,
     nor: &mut N,
     work: &mut [u8],
+    rows: &mut [u8],
     cache: &mut [u8],
+    counted: &mut bool,
     slots: &mut [FdSlot],
     held: &mut Held,
     keep: &mut [u8],
@@ -69,9 +72,10 @@ fn call_on<N: Nor>(
 ) -> Attempt
     requires unit { N.unit nor.old ≡ g.phys }
     requires fits { g.blocks * g.block ≤ N.size nor.old }
-    requires work { work_need g ≤ length work.old }
+    requires work { scratch_need g ≤ length work.old }
     requires cache { cache_need g ≤ length cache.old }
     requires kept { IsKept N.NorState g nor.old cache.old }
+    requires table { counted.old ≡ true → HasTable N.NorState g nor.old rows.old }
     requires usable { usable g ≤ 32766 }
     requires room { HasRoomFor (asked call.now) (length into.old) }
     requires no_fill { is_fill (asked call.now) ≡ false }
@@ -85,18 +89,22 @@ fn call_on<N: Nor>(
     ensures size { length keep.new ≡ length keep.old }
     ensures held { held.new.taken ≤ length keep.new }
     ensures acts { Acts N.NorState g (asked call.now) nor.old nor.new slots.old slots.new (run_in held.new keep.new) result.wrote (shown_by result.told into.new) }
+    ensures table { counted.new ≡ true → HasTable N.NorState g nor.new rows.new }
 {
     let mut v = View {
         geometry: g,
         nor,
         work,
+        rows,
         cache,
         wrote: false,
+        counted: *counted,
     };
     let told = match answer_in(&mut v, slots, held, keep, call, into) {
         Ok(told) => told,
         Err(why) => Told::Refusal(why),
     };
+    *counted = v.counted;
     Attempt {
         told,
         wrote: v.wrote,
@@ -133,11 +141,16 @@ impl<'b, N: Nor> Volume<'b, N> {
         ensures same { IsSameVolume self.old self.new }
         ensures acts { ActsOn had (asked call.now) self.old self.new (shown_by result into.new) }
     {
+        let g = self.geometry;
+        let work = &mut *self.work;
+        let (work, rows) = work.split_at_mut(g.scratch_need() as usize);
         let Attempt { told, wrote } = call_on(
-            self.geometry,
+            g,
             self.nor,
-            self.work,
+            work,
+            rows,
             self.cache,
+            &mut self.counted,
             self.slots,
             &mut self.held,
             self.check,

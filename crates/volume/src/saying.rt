@@ -1,8 +1,9 @@
-ghost use Rattle.std.specs.Prelude.{◌≡◌, ◌*◌, ◌≤◌, ◌++◌, length, OnOk, OnErr};
-ghost use Rattle.geometry.specs.Numbers.{work_need, cache_need};
+ghost use Rattle.std.specs.Prelude.{◌≡◌, ◌*◌, ◌≤◌, ◌++◌, length, OnOk, OnErr, true};
+ghost use Rattle.geometry.specs.Numbers.{scratch_need, cache_need};
 ghost use Rattle.nor_core.specs.Count.{Rose};
 ghost use Rattle.nor_core.specs.Device.{Leaves, Says, InSay};
 ghost use Rattle.page_cache.specs.Kept.{IsKept, FewReads};
+ghost use Rattle.flash_view.specs.Table.{HasTable};
 ghost use Rattle.volume.specs.Stages.{takes_calls};
 ghost use Rattle.volume.specs.Holds.{memory};
 ghost use Rattle.volume.specs.Same.{IsSameVolume};
@@ -17,14 +18,17 @@ fn say_on<B: Board>(
     g: Geometry,
     nor: &mut B,
     work: &mut [u8],
+    rows: &mut [u8],
     cache: &mut [u8],
+    counted: &mut bool,
     piece: &[u8],
 ) -> Result<(), Failed>
     requires unit { B.unit nor.old ≡ g.phys }
     requires fits { g.blocks * g.block ≤ B.size nor.old }
-    requires work { work_need g ≤ length work.old }
+    requires work { scratch_need g ≤ length work.old }
     requires cache { cache_need g ≤ length cache.old }
     requires kept { IsKept B.NorState g nor.old cache.old }
+    requires table { counted.old ≡ true → HasTable B.NorState g nor.old rows.old }
     ensures kept { IsKept B.NorState g nor.new cache.new }
     ensures cache_size { length cache.new ≡ length cache.old }
     ensures few { FewReads B.NorState g nor.old cache.old nor.new cache.new }
@@ -33,15 +37,20 @@ fn say_on<B: Board>(
     ensures says { Says B.NorState nor.old nor.new piece.now }
     ensures done { B.tells nor.old → OnOk result (B.said nor.new ≡ B.said nor.old ++ piece.now) }
     ensures cuts { Leaves B.NorState nor.old nor.new (InSay B.NorState nor.old piece.now) }
+    ensures table { counted.new ≡ true → HasTable B.NorState g nor.new rows.new }
 {
     let mut v = View {
         geometry: g,
         nor,
         work,
+        rows,
         cache,
         wrote: false,
+        counted: *counted,
     };
-    v.say(piece)
+    let result = v.say(piece);
+    *counted = v.counted;
+    result
 }
 
 impl<'b, B: Board> Volume<'b, B> {
@@ -56,6 +65,17 @@ impl<'b, B: Board> Volume<'b, B> {
         ensures memory { memory self.new ≡ memory self.old }
         ensures same { IsSameVolume self.old self.new }
     {
-        say_on(self.geometry, self.nor, self.work, self.cache, piece)
+        let g = self.geometry;
+        let work = &mut *self.work;
+        let (work, rows) = work.split_at_mut(g.scratch_need() as usize);
+        say_on(
+            g,
+            self.nor,
+            work,
+            rows,
+            self.cache,
+            &mut self.counted,
+            piece,
+        )
     }
 }

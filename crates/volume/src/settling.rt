@@ -1,8 +1,9 @@
 // Written bytes that wait are put onto the chip.
 ghost use Rattle.std.specs.Prelude.{◌≡◌, ◌*◌, ◌≤◌, length, take, true};
-ghost use Rattle.geometry.specs.Numbers.{work_need, cache_need};
+ghost use Rattle.geometry.specs.Numbers.{scratch_need, cache_need};
 ghost use Rattle.table_model.specs.Table.{File};
 ghost use Rattle.page_cache.specs.Kept.{IsKept, FewReads};
+ghost use Rattle.flash_view.specs.Table.{HasTable};
 ghost use Rattle.file_calls.specs.Writings.{WritesOn};
 
 use crate::Volume;
@@ -26,31 +27,38 @@ fn settle_on<N: Nor>(
     g: Geometry,
     nor: &mut N,
     work: &mut [u8],
+    rows: &mut [u8],
     cache: &mut [u8],
+    counted: &mut bool,
     held: &Held,
     bytes: &[u8],
 ) -> Settling
     requires unit { N.unit nor.old ≡ g.phys }
     requires fits { g.blocks * g.block ≤ N.size nor.old }
-    requires work { work_need g ≤ length work.old }
+    requires work { scratch_need g ≤ length work.old }
     requires cache { cache_need g ≤ length cache.old }
     requires used { held.now.used ≡ true }
     requires held { held.now.taken ≤ length bytes.now }
     requires kept { IsKept N.NorState g nor.old cache.old }
+    requires table { counted.old ≡ true → HasTable N.NorState g nor.old rows.old }
     ensures kept { IsKept N.NorState g nor.new cache.new }
     ensures cache_size { length cache.new ≡ length cache.old }
     ensures few { FewReads N.NorState g nor.old cache.old nor.new cache.new }
     ensures faults { N.faults nor.old ≤ N.faults nor.new }
     ensures writes { (f : File) → WritesOn N.NorState g held.now.id held.now.start (take held.now.taken bytes.now) f nor.old nor.new result.wrote result.result }
+    ensures table { counted.new ≡ true → HasTable N.NorState g nor.new rows.new }
 {
     let mut v = View {
         geometry: g,
         nor,
         work,
+        rows,
         cache,
         wrote: false,
+        counted: *counted,
     };
     let result = write_all(&mut v, held.id, held.start, held.kept(bytes));
+    *counted = v.counted;
     Settling {
         result,
         wrote: v.wrote,
@@ -76,11 +84,16 @@ impl<'b, N: Nor> Volume<'b, N> {
             return Ok(false);
         }
         let bytes = &mut *self.check;
+        let g = self.geometry;
+        let work = &mut *self.work;
+        let (work, rows) = work.split_at_mut(g.scratch_need() as usize);
         let Settling { result, wrote } = settle_on(
-            self.geometry,
+            g,
             self.nor,
-            self.work,
+            work,
+            rows,
             self.cache,
+            &mut self.counted,
             &held,
             bytes,
         );

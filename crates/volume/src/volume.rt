@@ -1,11 +1,12 @@
 ghost use Rattle.std.specs.Prelude.{◌≡◌, ◌*◌, ◌≤◌, length, min, replicate, OnOk, IsErrOf, IfOk, IfErr, IfSome, Err, None, true};
-ghost use Rattle.geometry.specs.Numbers.{usable, write_refusal, work_need, cache_need, check_need};
+ghost use Rattle.geometry.specs.Numbers.{usable, write_refusal, scratch_need, work_need, cache_need, check_need};
 ghost use Rattle.nor_core.specs.Count.{Rose};
 ghost use Rattle.nor_core.specs.Device.{Changes, OnlyReads};
 ghost use Rattle.image_model.specs.Kinds.{spoiled_blocks, mixed_blocks};
 ghost use Rattle.image_model.specs.Sound.{HasMagics};
 ghost use Rattle.image_model.specs.Tidy.{IsTidy, HasReserve};
 ghost use Rattle.page_cache.specs.Kept.{IsKept, FewReads};
+ghost use Rattle.flash_view.specs.Table.{HasTable, rows_in};
 ghost use Rattle.fd_table.specs.Slots.{descriptors};
 ghost use Rattle.vol_mount.specs.Mounts.{IsLate, CountsSpoiled};
 ghost use Rattle.room_laws.specs.Recovery.{Recovers};
@@ -33,7 +34,7 @@ pub struct Volume<'b, N: Nor> {
     pub geometry: Geometry,
     /// The device. The volume is its first bytes.
     pub nor: &'b mut N,
-    /// Bytes for work: a page to build, a page that was read, and notes.
+    /// Bytes for work: a page to build, a page that was read, and notes; behind them the counts of blocks.
     pub work: &'b mut [u8],
     /// Bytes for copies of pages.
     pub cache: &'b mut [u8],
@@ -45,6 +46,8 @@ pub struct Volume<'b, N: Nor> {
     pub held: Held,
     /// How far the volume has come.
     pub stage: Stage,
+    /// Whether the table of counts stands behind the other bytes for work.
+    pub counted: bool,
     pub ghost unit: { N.unit nor.now ≡ geometry.phys },
     pub ghost fits: { geometry.blocks * geometry.block ≤ N.size nor.now },
     pub ghost work_fits: { work_need geometry ≤ length work.now },
@@ -54,6 +57,7 @@ pub struct Volume<'b, N: Nor> {
     pub ghost kept: { IsKept N.NorState geometry nor.now cache.now },
     pub ghost magics: { is_mounted stage ≡ true → N.tells nor.now → HasMagics geometry (N.bytes nor.now) },
     pub ghost writable: { is_open stage ≡ true → usable geometry ≤ 32766 },
+    pub ghost table: { counted ≡ true → HasTable N.NorState geometry nor.now (rows_in geometry work.now) },
 }
 
 /// A volume that was unmounted: what was lent for it, and how its last work went.
@@ -65,16 +69,17 @@ pub struct Unmounted<'b, N: Nor> {
     pub last: Result<(), FsErr>,
 }
 
-// Reads the magic of every block.
+// Reads the magic of every block. No table of counts is kept meanwhile.
 fn mount_on<N: Nor>(
     g: Geometry,
     nor: &mut N,
     work: &mut [u8],
+    rows: &mut [u8],
     cache: &mut [u8],
 ) -> Result<(), MountErr>
     requires unit { N.unit nor.old ≡ g.phys }
     requires fits { g.blocks * g.block ≤ N.size nor.old }
-    requires work { work_need g ≤ length work.old }
+    requires work { scratch_need g ≤ length work.old }
     requires cache { cache_need g ≤ length cache.old }
     requires kept { IsKept N.NorState g nor.old cache.old }
     ensures kept { IsKept N.NorState g nor.new cache.new }
@@ -90,8 +95,10 @@ fn mount_on<N: Nor>(
         geometry: g,
         nor,
         work,
+        rows,
         cache,
         wrote: false,
+        counted: false,
     };
     vol_mount::mount(&mut v)
 }
@@ -103,17 +110,19 @@ fn close_all(slots: &mut [FdSlot])
     FdTable::new(slots);
 }
 
-// Checks the volume.
+// Checks the volume, and tells whether the table of counts stands then.
 fn check_on<N: Nor>(
     g: Geometry,
     nor: &mut N,
     work: &mut [u8],
+    rows: &mut [u8],
     cache: &mut [u8],
+    counted: &mut bool,
     marks: &mut [u8],
 ) -> Result<Report, CheckErr>
     requires unit { N.unit nor.old ≡ g.phys }
     requires fits { g.blocks * g.block ≤ N.size nor.old }
-    requires work { work_need g ≤ length work.old }
+    requires work { scratch_need g ≤ length work.old }
     requires cache { cache_need g ≤ length cache.old }
     requires room { check_need g ≤ length marks.old }
     requires magics { N.tells nor.old → HasMagics g (N.bytes nor.old) }
@@ -134,15 +143,20 @@ fn check_on<N: Nor>(
     ensures idle { N.tells nor.old → IsTidy g (N.bytes nor.old) → HasReserve g (N.bytes nor.old) → OnlyReads N.NorState nor.old nor.new }
     ensures apart { IfErr result IsApart }
     ensures undamaged { N.tells nor.old → IfErr result IsUndamaged }
+    ensures table { counted.new ≡ true → HasTable N.NorState g nor.new rows.new }
 {
     let mut v = View {
         geometry: g,
         nor,
         work,
+        rows,
         cache,
         wrote: false,
+        counted: false,
     };
-    check_view(&mut v, marks)
+    let result = check_view(&mut v, marks);
+    *counted = v.counted;
+    result
 }
 
 impl<'b, N: Nor> Volume<'b, N> {
@@ -199,6 +213,7 @@ impl<'b, N: Nor> Volume<'b, N> {
             check,
             held: Held::none(),
             stage: Stage::Unmounted,
+            counted: false,
         }
     }
 
@@ -217,7 +232,8 @@ impl<'b, N: Nor> Volume<'b, N> {
         ensures memory { OnErr result (memory self.new ≡ memory self.old) }
         ensures same { IsSameVolume self.old self.new }
     {
-        mount_on(self.geometry, self.nor, self.work, self.cache)?;
+        self.counted = false;
+        mount_on(self.geometry, self.nor, self.work, &mut [], self.cache)?;
         self.held = Held::none();
         self.stage = Stage::Mounted;
         Ok(())
@@ -248,7 +264,18 @@ impl<'b, N: Nor> Volume<'b, N> {
         ensures slots { OnErr result (self.new.slots.now ≡ self.old.slots.now) }
         ensures same { IsSameVolume self.old self.new }
     {
-        let report = check_on(self.geometry, self.nor, self.work, self.cache, self.check)?;
+        let g = self.geometry;
+        let work = &mut *self.work;
+        let (work, rows) = work.split_at_mut(g.scratch_need() as usize);
+        let report = check_on(
+            g,
+            self.nor,
+            work,
+            rows,
+            self.cache,
+            &mut self.counted,
+            self.check,
+        )?;
         close_all(self.slots);
         self.held = Held::none();
         self.stage = Stage::Checked;
@@ -287,6 +314,7 @@ impl<'b, N: Nor> Volume<'b, N> {
             check,
             held: _,
             stage: _,
+            counted: _,
         } = self;
         let lent = Lent {
             work,

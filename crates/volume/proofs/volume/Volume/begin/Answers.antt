@@ -4,6 +4,7 @@ use Rattle.volume.specs.Replies.{breaks}
 use Rattle.volume.specs.Opening.{is_mounted}
 use Rattle.volume.specs.Holds.{memory}
 use Rattle.volume.proofs.Calling.{open_is, staged_by, not_mounted}
+use Rattle.volume.proofs.Rows.{rows_joined}
 use Rattle.volume.proofs.RunSettling.{run_of, run_used, used_is, any_file, settles_none, settles_done, settles_failed}
 use Rattle.volume.proofs.volume.Volume.begin.Goals as goal
 
@@ -19,10 +20,24 @@ settle_on-result-requires-clause-used g c =
     let v = c.args.self.now in
     used_is v.held v.check.now c.is_used.result (c.is_used.ensures v.check.now) ∙ c.if-not-is_used.false
 
-pub invariant_of-self : goal.invariant_of-self
-invariant_of-self g c =
+pub invariant_of-self-clause-unit : goal.invariant_of-self-clause-unit
+invariant_of-self-clause-unit g c =
     let w = (c.settle_on-result.ensures.writes any_file).cuts.cuts in
-    search (rules, w.unit, w.size, c.none-self.ensures.short)
+    search (rules, w.unit)
+
+pub invariant_of-self-clause-fits : goal.invariant_of-self-clause-fits
+invariant_of-self-clause-fits g c =
+    let w = (c.settle_on-result.ensures.writes any_file).cuts.cuts in
+    search (rules, w.size)
+
+pub invariant_of-self-clause-held_fits : goal.invariant_of-self-clause-held_fits
+invariant_of-self-clause-held_fits g c = search (rules, c.none-self.ensures.short)
+
+pub invariant_of-self-clause-table : goal.invariant_of-self-clause-table
+invariant_of-self-clause-table g c = λ on. rows_joined _ _ _ _ (c.settle_on-result.auto.work ∙ c.split_at_mut-work.ensures.front_len ∙ c.scratch_need.ensures.need) (c.settle_on-result.ensures.table on)
+
+pub invariant_of-self-in-Err-clause-table : goal.invariant_of-self-in-Err-clause-table
+invariant_of-self-in-Err-clause-table g c = λ on. rows_joined _ _ _ _ (c.settle_on-result.auto.work ∙ c.split_at_mut-work.ensures.front_len ∙ c.scratch_need.ensures.need) (c.settle_on-result.ensures.table on)
 
 pub invariant_of-self-in-Err-clause-unit : goal.invariant_of-self-in-Err-clause-unit
 invariant_of-self-in-Err-clause-unit g c =
