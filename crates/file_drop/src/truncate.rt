@@ -6,7 +6,8 @@ ghost use Rattle.file_drop.specs.Truncates.{truncating};
 use crate::pages::{Kept, drop_pages};
 use flash_view::{StepErr, View};
 use nor_core::{Failed, Nor};
-use page_renew::{Edit, data_pages, index_pages, renew_header};
+use page_layout::{data_pages, index_pages};
+use page_renew::{Edit, renew_header};
 
 /// Cuts the file of an id to its first bytes, in one page step: a new header page takes the place of the old one, which is
 /// the step, then every page of the id past the new counts is killed, in page order. At a cut the file has its old bytes or

@@ -1,7 +1,6 @@
 ghost use Rattle.std.specs.Prelude.{◌≡◌, ◌+◌, ◌-◌, ◌*◌, ◌/◌, ◌<◌, ◌≤◌, ◌^◌, min, List, ℕ, OnErr, IfOk, take};
 ghost use Rattle.geometry.specs.Numbers.{page_count, head_slots, span_slots};
 ghost use Rattle.nor_core.specs.Count.{Rose};
-ghost use Rattle.table_model.specs.Room.{data_pages as the_data_pages};
 ghost use Rattle.image_model.specs.Places.{page_of};
 ghost use Rattle.image_model.specs.Headers.{name_of as the_name_of, size_of};
 ghost use Rattle.image_model.specs.Live.{live_at, own};
@@ -13,28 +12,8 @@ use flash_view::{FURTHER_SLOTS_AT, View, head_slots_at};
 use geometry::Geometry;
 use image_model::Damage;
 use nor_core::{Failed, Nor, NorState};
-use page_layout::{file_size, name_of};
+use page_layout::{data_pages, file_size, further_pages, name_of};
 use table_model::Name;
-
-/// Data pages of a file of that size in bytes.
-pub fn data_pages(g: &Geometry, size: u32) -> u32
-    ensures pages { result ≡ the_data_pages g.now size }
-    ensures few { result < 2 ^ 26 }
-{
-    let body = u64::from(g.body());
-    ((u64::from(size) + body - 1) / body) as u32
-}
-
-/// Index pages behind the header page of a file of so many data pages: those that name the spans below `spans` which the header
-/// page doesn't.
-#[tactic(auto)]
-pub fn further_pages(g: &Geometry, spans: u32) -> u32
-    requires { spans < 2 ^ 26 }
-    ensures { result ≡ (spans - head_slots g.now + span_slots g.now - 1) / span_slots g.now }
-{
-    let slots = g.span_slots();
-    (spans.saturating_sub(g.head_slots()) + slots - 1) / slots
-}
 
 // The first of the spans from `first` on and below `end` that has no data page, where their page numbers stand in
 // an index page from byte `at` on.

@@ -6,6 +6,6 @@ mod judging;
 mod listing;
 mod marks;
 
-pub use judging::{data_pages, further_pages, judge};
+pub use judging::judge;
 pub use listing::{find_file, next_damaged, next_file};
 pub use marks::{damage, find_name, next_marked, survey};

@@ -14,7 +14,8 @@ ghost use Rattle.file_write.specs.Readyings.{HasOnes, HasOther, IsStale, IsTaken
 
 use flash_view::{View, is_entry_page};
 use nor_core::{Failed, Nor, NorState};
-use page_renew::{Found, data_pages, find_home};
+use page_layout::data_pages;
+use page_renew::{Found, find_home};
 
 // Whether all these bytes are 0xFF.
 fn are_ones(bytes: &[u8]) -> bool

@@ -4,6 +4,7 @@
 //! set on flash, as "used" or "deleted", when its bit is cleared.
 #![tactic(auto)]
 
+mod counts;
 mod flags;
 mod fresh;
 mod head;
@@ -12,6 +13,7 @@ mod index;
 mod lookup;
 mod words;
 
+pub use counts::{data_pages, further_pages, index_pages};
 pub use flags::Flags;
 pub use fresh::build_header_page;
 pub use head::{

@@ -179,3 +179,34 @@ fn slots_of_the_lookup_pages(rt: HostRuntime) -> Result<(), Fail> {
     }
     Ok(())
 }
+
+#[test]
+fn the_first_slot_between_two_numbers(rt: HostRuntime) {
+    let slots = [0, 0, 3, 0x80, 5, 0, 0xFF, 0xFF];
+    assert_eq!(rt; slot_between(&slots, 0, 4, 1, 0xFFFE), Some((1, 0x8003)));
+    assert_eq!(rt; slot_between(&slots, 0, 4, 5, 5), Some((2, 5)));
+    assert_eq!(rt; slot_between(&slots, 3, 4, FREE, FREE), Some((3, FREE)));
+    assert_eq!(rt; slot_between(&slots, 2, 4, 0x8000, 0xFFFE), None);
+    assert_eq!(rt; slot_between(&slots, 0, 3, FREE, FREE), None);
+}
+
+#[test]
+fn the_pages_of_a_file(rt: HostRuntime) -> Result<(), Fail> {
+    // 251 bytes of a page are a file's; its header page names 105 data pages, each further index page 124.
+    let g = Geometry::new(256, 4096, 16, 4096, 0, MagicKind::Length)?;
+    for (size, pages, index) in [
+        (0, 0, 1),
+        (1, 1, 1),
+        (251, 1, 1),
+        (26_355, 105, 1),
+        (26_356, 106, 2),
+        (u32::MAX, 17_111_424, 137_996),
+    ] {
+        assert_eq!(rt;
+            (data_pages(&g, size), index_pages(&g, size)),
+            (pages, index),
+            "of {size} bytes"
+        );
+    }
+    Ok(())
+}

@@ -12,12 +12,11 @@ ghost use Rattle.page_renew.specs.Copies.{count_of};
 ghost use Rattle.page_renew.specs.Built.{IsBuilt, IsLoaded, IsNamed, IsRenamed};
 
 use crate::copying::{copy_index, kept_slots, see_bytes};
-use crate::counts::data_pages;
 use crate::naming::name_data;
 use flash_view::View;
 use geometry::Geometry;
 use nor_core::{Failed, Nor, NorState};
-use page_layout::file_size;
+use page_layout::{data_pages, file_size};
 use table_model::Tag;
 
 // The size in bytes that a header page tells.

@@ -8,11 +8,10 @@ ghost use Rattle.flash_view.specs.Same.{OnlyLooks};
 ghost use Rattle.page_renew.specs.Edits.{Header, Says, edited, edited_size, IsEdited, IsEditable, HasEdited, IsNamed};
 
 use crate::copying::{copy_index, kept_slots, see_bytes};
-use crate::counts::data_pages;
 use flash_view::View;
 use geometry::Geometry;
 use nor_core::{Failed, Nor, NorState};
-use page_layout::{UNDEFINED_SIZE, file_size, put_meta, put_name, put_size, put_slot};
+use page_layout::{UNDEFINED_SIZE, data_pages, file_size, put_meta, put_name, put_size, put_slot};
 
 /// What a renewed header page says anew.
 #[derive(Clone, Copy, Debug)]

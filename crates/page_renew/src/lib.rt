@@ -3,7 +3,6 @@
 
 mod building;
 mod copying;
-mod counts;
 mod edits;
 mod finding;
 mod laws;
@@ -13,7 +12,6 @@ mod restating;
 
 pub use building::{build_copy, build_data, build_renamed, name_page};
 pub use copying::{erase_part, see_bytes};
-pub use counts::{data_pages, index_pages};
 pub use edits::{Edit, build_edited};
 pub use finding::{Found, find_home};
 pub use laws::edits_lead;

@@ -11,10 +11,9 @@ ghost use Rattle.vol_check.specs.Culls.{IsSettled};
 ghost use Rattle.vol_check.specs.Needed.{AddsMarks, IsNamed, OfHead, OfFurther, OfFirst, OfFile, OfHeaded, HasFurthers, MarksWanted};
 ghost use Rattle.vol_check.specs.Noted.{IsIndexPage};
 
-use file_find::{data_pages, further_pages};
 use flash_view::{FURTHER_SLOTS_AT, View, head_slots_at};
 use nor_core::{Failed, Nor, NorState};
-use page_layout::{FREE, INDEX_BIT, PageHeader, file_size, read_word};
+use page_layout::{FREE, INDEX_BIT, PageHeader, data_pages, file_size, further_pages, read_word};
 
 // The mark of a page that a file needs.
 const NEEDED: u8 = 1;
