@@ -14,4 +14,5 @@ pub mod Spans
 pub mod Passed
 pub mod Stepped
 pub mod Sorts
+pub mod RowPassed
 pub mod Rows

@@ -102,7 +102,7 @@ module _ (g : Geometry) (image : List ℕ) where
 
   -- ---- a live page that was found
 
-  live_here : (p : ℕ) → is_live g image p ≡ true → live_at g image p ≡ Some (page_of g image p)
+  pub live_here : (p : ℕ) → is_live g image p ≡ true → live_at g image p ≡ Some (page_of g image p)
   unfolding live_at
   live_here p e = rw e refl
 

@@ -1,11 +1,12 @@
 -- The rows of a table, and what leaves it standing.
-use Rattle.std.proofs.Common.{◌≡◌, ◌≢◌, ℕ, ◌+◌, ◌*◌, ◌<◌, ◌≤◌, ◌⊎◌, List, length, refl, sym, subst, arith, ⊎_elim, inl, inr}
+use Rattle.std.proofs.Common.{◌≡◌, ◌≢◌, ℕ, ◌+◌, ◌*◌, ◌<◌, ◌≤◌, ◌⊎◌, List, length, true, refl, sym, subst, arith, ⊎_elim, inl, inr}
 use Rattle.std.specs.Prelude.{slice_index}
 use Rattle.std.proofs.lemmas.Bool.{cases_lt}
 use Rattle.geometry.specs.declared.geometry.Geometry.{Geometry}
 use Rattle.nor_core.specs.Flash.{SameOutside, word_at}
 use Rattle.nor_core.specs.Device.{OnlyReads, Leaves, Says}
 use Rattle.nor_core.specs.declared.state.NorState.{Ghosts as NorOf}
+use Rattle.image_model.specs.Places.{has_magic}
 use Rattle.flash_view.specs.declared.counts.BlockCounts.{BlockCounts}
 use Rattle.flash_view.specs.Table.{row_of, IsTable, HasTable}
 
@@ -37,3 +38,7 @@ module _ {N : Type 0} {nor : NorOf N} where
   -- nor does it fall where it says a piece
   pub table_said : (g : Geometry) (old new : N) (rows piece : List ℕ) (P : List ℕ → ℕ → Type 0) → Says nor old new piece → Leaves nor old new P → HasTable nor g old rows → HasTable nor g new rows
   table_said g old new rows piece P says leaves was = record { room = was.room; told = λ tells. subst (λ (image : List ℕ). IsTable g image rows) (sym says.bytes) (was.told (leaves.told_before tells)) }
+
+  -- each block has its magic where it stands
+  pub table_magic : (g : Geometry) (device : N) (rows : List ℕ) (block : ℕ) → HasTable nor g device rows → nor.tells device → block < g.blocks → true ≡ has_magic g (nor.bytes device) block
+  table_magic g device rows block table tells low = sym ((table.told tells).clear.magic block low)

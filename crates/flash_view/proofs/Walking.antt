@@ -1,6 +1,6 @@
 -- Entries and pages that were passed over, and those that were found.
 use Rattle.std.proofs.Common.{ℕ, ◌≡◌, ◌+◌, ◌-◌, ◌*◌, ◌/◌, ◌%◌, ◌<◌, ◌≤◌, ⊎_elim, Bool, nat_lt, true, false, List, refl, sym, subst, ◌∙◌, ap, arith, if◌then◌else◌}
-use Rattle.std.specs.Prelude.{Some, None, slice_index, min}
+use Rattle.std.specs.Prelude.{Option, Some, None, slice_index, min}
 use Rattle.std.specs.Option.{option_map}
 use Rattle.std.proofs.lemmas.Bool.{lt-ltb}
 use Rattle.std.proofs.lemmas.Nat.{mod-mul-add, div-mul-add, div-add-mod'}
@@ -12,7 +12,7 @@ use Rattle.nor_core.specs.Flash.{word_at}
 use Rattle.geometry.specs.Numbers.{per_block, lookups, entries, page_count}
 use Rattle.image_model.specs.Places.{page_of, slot_of, entry_of, is_entry_page, block_of}
 use Rattle.image_model.specs.Live.{live_at, is_live}
-use Rattle.flash_view.specs.Walk.{IsPassedSlot, IsNextSlot, FirstSlot, IsPassed, IsNextLive}
+use Rattle.flash_view.specs.Walk.{IsPassedSlot, IsNextSlot, FirstSlot, NextSlot, IsPassed, ArePassed, NextPlace, IsNextLive}
 use Rattle.flash_view.proofs.Heads.{and_false}
 use Rattle.flash_view.proofs.SlotHeld.{slot_held, word_small, some_pages}
 
@@ -136,16 +136,26 @@ module _ (g : Geometry) (image : List ℕ) (low high : ℕ) where
       subst (IsPassed g image low high) at (passed_slot block (q - (block * per_block g + lookups g)) (omega (arith, before, few)) (slots (q - (block * per_block g + lookups g)) (omega (arith, late)) (omega (arith, late, before)))))
       (lt_or_le q (block * per_block g + lookups g + slot))
 
+  -- the next entry of a block is the next one that may be of a live page
+  pub slot_place : (block from : ℕ) (found : Option (ℕ × ℕ)) → NextSlot g image block from low high found → NextPlace g image block from low high found
+  slot_place block from None none = λ i after before. passed_slot block i before (none i after before)
+  slot_place block from (Some (i, n)) is = is
+
   -- a block's entries were all passed over, and the lookup pages of the next one are
-  pub walk_block : (from block slot : ℕ) → Walked from (block * per_block g + lookups g + slot) → FirstSlot g image block slot (entries g) low high None → Walked from ((block + 1) * per_block g + lookups g)
+  pub walk_block : (from block slot : ℕ) → Walked from (block * per_block g + lookups g + slot) → ArePassed g image block slot low high → Walked from ((block + 1) * per_block g + lookups g)
   walk_block from block slot was none q after before = ⊎_elim
-      (λ (early : q < block * per_block g + lookups g + entries g). walk_slots from block slot (entries g) (omega arith) was none q after early)
-      (λ (late : block * per_block g + lookups g + entries g ≤ q).
-      let few : q - (block + 1) * per_block g < lookups g = omega (arith, before, late, some_pages g) in
-      let at : (block + 1) * per_block g + (q - (block + 1) * per_block g) ≡ q = omega (arith, late, some_pages g) in
+      (λ (early : q < block * per_block g + lookups g + slot). was q after early)
+      (λ (late : block * per_block g + lookups g + slot ≤ q). ⊎_elim
+      (λ (here : q < block * per_block g + lookups g + entries g).
+      let at : block * per_block g + lookups g + (q - (block * per_block g + lookups g)) ≡ q = omega (arith, late) in
+      subst (IsPassed g image low high) at (none (q - (block * per_block g + lookups g)) (omega (arith, late)) (omega (arith, here, late))))
+      (λ (beyond : block * per_block g + lookups g + entries g ≤ q).
+      let few : q - (block + 1) * per_block g < lookups g = omega (arith, before, beyond, some_pages g) in
+      let at : (block + 1) * per_block g + (q - (block + 1) * per_block g) ≡ q = omega (arith, beyond, some_pages g) in
       let place : q % per_block g ≡ q - (block + 1) * per_block g = sym (ap (λ (n : ℕ). n % per_block g) at) ∙ mod-mul-add (block + 1) (per_block g) (q - (block + 1) * per_block g) (omega (arith, few, some_pages g)) in
       passed_lookup q (omega (arith, place, few)))
-      (lt_or_le q (block * per_block g + lookups g + entries g))
+      (lt_or_le q (block * per_block g + lookups g + entries g)))
+      (lt_or_le q (block * per_block g + lookups g + slot))
 
   -- the page of the entry that was found isn't live
   pub walk_dead : (from block slot i n p : ℕ) → i < entries g → p ≡ block * per_block g + lookups g + i → Walked from (block * per_block g + lookups g + slot) → IsNextSlot g image block slot low high i n → is_live g image p ≡ false →

@@ -1,9 +1,9 @@
 -- The entries of a block by what they count as.
-use Rattle.std.specs.Prelude.{◌≡◌, ℕ, ◌+◌, ◌-◌, min, List, ◌==◌, Option, Some, None, if◌then◌else◌}
+use Rattle.std.specs.Prelude.{◌≡◌, ℕ, ◌+◌, ◌-◌, ◌<◌, min, List, true, ◌==◌, Option, Some, None, if◌then◌else◌}
 use Rattle.geometry.specs.declared.geometry.Geometry.{Geometry}
 use Rattle.image_model.specs.Headers.{names_index}
 use Rattle.image_model.specs.Live.{live_at}
-use Rattle.image_model.specs.Places.{entry_of, erase_count}
+use Rattle.image_model.specs.Places.{entry_of, erase_count, is_entry_page, block_of}
 use Rattle.image_model.specs.Collect.{count_in, index_in, data_in, deleted_in}
 use Rattle.flash_view.specs.declared.counts.BlockCounts.{BlockCounts}
 use Rattle.flash_view.specs.declared.counts.Sort.{Sort}
@@ -40,10 +40,12 @@ one_less c Free = record c { free = c.free - 1 }
 abbrev pub more_free : BlockCounts → ℕ → BlockCounts
 more_free c n = record c { free = c.free + n }
 
--- The counts are those of the block's entries; `free` counts each entry of 0xFFFF, also over a page that isn't erased.
+-- The counts are those of the block's entries, each a number of two bytes; `free` counts each entry of 0xFFFF, also over a page that isn't
+-- erased.
 pub record AreCounts (g : Geometry) (image : List ℕ) (block : ℕ) (c : BlockCounts) : Type 0 where
   pub index : c.index_live ≡ index_in g image block
   pub pages : c.data_live ≡ data_in g image block
   pub deleted : c.deleted ≡ deleted_in g image block
   pub free : c.free ≡ count_in g block (λ p. entry_of g image p == 0xFFFF)
   pub erases : c.erases ≡ erase_count g image block
+  pub words : (p : ℕ) → is_entry_page g p ≡ true → block_of g p ≡ block → entry_of g image p < 0x10000

@@ -1,5 +1,5 @@
 -- The counts of all blocks, kept in the bytes for work.
-use Rattle.std.specs.Prelude.{◌≡◌, ℕ, ◌+◌, ◌*◌, ◌<◌, ◌≤◌, List, length, drop}
+use Rattle.std.specs.Prelude.{◌≡◌, ℕ, ◌+◌, ◌*◌, ◌<◌, ◌≤◌, ◌==◌, ◌&&◌, ◌||◌, nat_lt, nat_le, Bool, List, length, drop}
 use Rattle.geometry.specs.declared.geometry.Geometry.{Geometry}
 use Rattle.geometry.specs.Numbers.{scratch_need, rows_need}
 use Rattle.nor_core.specs.Flash.{word_at}
@@ -22,6 +22,11 @@ row_of rows block = record {
 pub record IsTable (g : Geometry) (image rows : List ℕ) : Type 0 where
   pub clear : TellsFree g image
   pub counts : (block : ℕ) → block < g.blocks → AreCounts g image block (row_of rows block)
+
+-- whether a row tells that its block has no live page with an entry between two numbers: it has no index page, or the numbers are those of
+-- data pages, and it has no data page, or they are those of index pages
+abbrev pub has_none : BlockCounts → (low high : ℕ) → Bool
+has_none c low high = ((c.index_live == 0) || nat_lt high 0x8000) && ((c.data_live == 0) || nat_le 0x8000 low)
 
 -- The table stands: there is room for its rows, and they are those of the device's bytes.
 pub record HasTable {N : Type 0} (nor : NorOf N) (g : Geometry) (device : N) (rows : List ℕ) : Type 0 where

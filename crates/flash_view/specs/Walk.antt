@@ -1,9 +1,9 @@
 -- Entries that are found by their numbers, and live pages that are found by their entries.
-use Rattle.std.specs.Prelude.{◌≡◌, ℕ, ◌<◌, ◌≤◌, List, true, false, Option, Some, None}
+use Rattle.std.specs.Prelude.{◌≡◌, ℕ, ◌+◌, ◌*◌, ◌<◌, ◌≤◌, List, true, false, Option, Some, None}
 use Rattle.geometry.specs.declared.geometry.Geometry.{Geometry}
 use Rattle.page_layout.specs.declared.header.PageHeader.{PageHeader}
 use Rattle.page_layout.specs.Layout.{header_at, is_between}
-use Rattle.geometry.specs.Numbers.{entries, page_count}
+use Rattle.geometry.specs.Numbers.{entries, page_count, per_block, lookups}
 use Rattle.image_model.specs.Places.{page_of, slot_of, entry_of, is_entry_page}
 use Rattle.image_model.specs.Live.{is_live}
 
@@ -32,6 +32,15 @@ NextSlot g image block from low high found = FirstSlot g image block from (entri
 pub record IsPassed (g : Geometry) (image : List ℕ) (low high p : ℕ) : Type 0 where
   pub word : is_entry_page g p ≡ true → entry_of g image p < 0x10000
   pub none : is_live g image p ≡ true → is_between low high (entry_of g image p) ≡ false
+
+-- no entry of a block from `from` on is that of a live page with an entry between two numbers
+abbrev pub ArePassed : Geometry → List ℕ → (block from low high : ℕ) → Type 0
+ArePassed g image block from low high = (i : ℕ) → from ≤ i → i < entries g → IsPassed g image low high (block * per_block g + lookups g + i)
+
+-- the first entry of a block from `from` on whose number lies between two others, or none where no page there is live with such an entry
+abbrev pub NextPlace : Geometry → List ℕ → (block from low high : ℕ) → Option (ℕ × ℕ) → Type 0
+NextPlace g image block from low high None = ArePassed g image block from low high
+NextPlace g image block from low high (Some (i, n)) = IsNextSlot g image block from low high i n
 
 -- page p is live with this header and an entry between two numbers, and no page from `from` on before it is
 pub record IsNextLive (g : Geometry) (image : List ℕ) (from low high p : ℕ) (head : PageHeader) : Type 0 where

@@ -1,4 +1,4 @@
-ghost use Rattle.std.specs.Prelude.{◌≡◌, ◌≢◌, ℕ, ◌+◌, ◌*◌, ◌<◌, ◌≤◌, length, OnErr, IfOk, IfSome, false};
+ghost use Rattle.std.specs.Prelude.{◌≡◌, ◌≢◌, ℕ, ◌+◌, ◌*◌, ◌<◌, ◌≤◌, length, OnErr, IfOk, IfSome, is_some, false};
 ghost use Rattle.geometry.specs.Numbers.{rows_need};
 ghost use Rattle.image_model.specs.Live.{live_at};
 ghost use Rattle.image_model.specs.Places.{entry_of};
@@ -162,6 +162,7 @@ impl<'b, N: Nor> View<'b, N> {
     pub fn row(&self, block: u16) -> Option<BlockCounts>
         requires { block < self.now.geometry.blocks }
         ensures row { IfSome result (λ counts. counts ≡ row_of self.now.rows.now block) }
+        ensures when { is_some result ≡ self.now.counted }
         ensures stands { IfSome result (λ counts. HasTable N.NorState self.now.geometry self.now.nor.now self.now.rows.now) }
     {
         if !self.counted {
@@ -177,12 +178,13 @@ impl<'b, N: Nor> View<'b, N> {
         ensures { result ≡ row_of self.now.rows.now block }
     {
         let at = 16 * usize::from(block);
+        let row = &self.rows[at..at + 10];
         BlockCounts {
-            index_live: read_word(self.rows, at),
-            data_live: read_word(self.rows, at + 2),
-            deleted: read_word(self.rows, at + 4),
-            free: read_word(self.rows, at + 6),
-            erases: read_word(self.rows, at + 8),
+            index_live: read_word(row, 0),
+            data_live: read_word(row, 2),
+            deleted: read_word(row, 4),
+            free: read_word(row, 6),
+            erases: read_word(row, 8),
         }
     }
 

@@ -54,9 +54,9 @@ fn is_index_entry(entry: u16) -> bool
 // Where the name begins in a header page, in bytes.
 const NAME_AT: usize = 13;
 
-// Whether a page holds that name, in the field of header pages. (Most pages hold other bytes there.)
+/// Whether the bytes of a page hold that name, in the field of header pages. (Most pages hold other bytes there.)
 #[tactic(auto, using(crate::proofs::Names::other_start, crate::proofs::Names::too_long))]
-fn is_named(page: &[u8], name: &[u8]) -> bool
+pub fn is_named(page: &[u8], name: &[u8]) -> bool
     requires { 45 ≤ length page.now }
     ensures { result ≡ is_name (the_name_of page.now) name.now }
 {

@@ -131,8 +131,8 @@ impl<'b, N: Nor> View<'b, N> {
         self.slot(block_of(&g, page), place)
     }
 
-    /// Whether a block has the magic of this volume.
-    #[tactic(auto, unfolding(image_model::specs::Places::has_magic), using(geometry::proofs::Bounds::magic_fits))]
+    /// Whether a block has the magic of this volume. (Where the table of counts stands each block has it.)
+    #[tactic(auto, unfolding(image_model::specs::Places::has_magic), using(geometry::proofs::Bounds::magic_fits, crate::proofs::Looking::looks_none, crate::proofs::Rows::table_magic))]
     pub fn has_magic(&mut self, block: u16) -> Result<bool, Failed>
         requires { block < self.old.geometry.blocks }
         ensures cause { OnErr result (Rose (N.faults self.old.nor.now) (N.faults self.new.nor.now)) }
@@ -140,6 +140,9 @@ impl<'b, N: Nor> View<'b, N> {
         ensures told { N.tells self.old.nor.now → IfOk result (λ has. has ≡ the_magic self.old.geometry (N.bytes self.old.nor.now) block) }
         ensures work { self.new.work.now ≡ self.old.work.now }
     {
+        if self.counted {
+            return Ok(true);
+        }
         let place = magic_offset(&self.geometry) / 2;
         let magic = self.geometry.magic_of(u32::from(block));
         Ok(self.slot(block, place)? == magic)

@@ -1,4 +1,4 @@
-ghost use Rattle.std.specs.Prelude.{◌≡◌, ◌+◌, ◌*◌, ◌/◌, ◌<◌, ◌≤◌, min, true, OnErr, IfOk, IfSome};
+ghost use Rattle.std.specs.Prelude.{◌≡◌, ◌+◌, ◌*◌, ◌/◌, ◌<◌, ◌≤◌, ◌&&◌, min, true, OnErr, IfOk, IfSome};
 ghost use Rattle.std.specs.Option.{option_map};
 ghost use Rattle.nor_core.specs.Count.{Rose};
 ghost use Rattle.page_layout.specs.Layout.{header_at};
@@ -8,12 +8,21 @@ ghost use Rattle.image_model.specs.Places.{block_of as the_block_of, entry_of};
 ghost use Rattle.image_model.specs.Live.{live_at};
 ghost use Rattle.flash_view.specs.Places.{IsEntryPage};
 ghost use Rattle.flash_view.specs.Same.{OnlyLooks};
-ghost use Rattle.flash_view.specs.Walk.{FirstSlot, NextSlot, NextLive};
+ghost use Rattle.flash_view.specs.Table.{has_none as the_has_none, row_of};
+ghost use Rattle.flash_view.specs.Walk.{FirstSlot, NextSlot, NextPlace, NextLive, ArePassed};
 
 use crate::View;
+use crate::counts::BlockCounts;
 use crate::places::{entry_page, lookup_of, lookup_page};
 use nor_core::{Failed, Nor, NorState};
-use page_layout::{PageHeader, header_of, slot_between};
+use page_layout::{INDEX_BIT, PageHeader, header_of, slot_between};
+
+// Whether a row tells that its block has no live page with an entry between two numbers: none of the kinds that have such entries.
+fn has_none(row: BlockCounts, low: u16, high: u16) -> bool
+    ensures { result ≡ the_has_none row low high }
+{
+    (row.index_live == 0 || high < INDEX_BIT) && (row.data_live == 0 || low >= INDEX_BIT)
+}
 
 impl<'b, N: Nor> View<'b, N> {
     // The first entry from place `at` on in lookup page `k` of a block alone, which has that place, whose number lies
@@ -79,6 +88,43 @@ impl<'b, N: Nor> View<'b, N> {
         Ok(None)
     }
 
+    // Whether the table of counts tells that no page of a block is live with an entry between two numbers.
+    #[tactic(auto, using(crate::proofs::RowPassed::table_passed))]
+    fn is_passed(&self, block: u16, low: u16, high: u16) -> bool
+        requires { block < self.now.geometry.blocks }
+        ensures row { result ≡ (self.now.counted && the_has_none (row_of self.now.rows.now block) low high) }
+        ensures told { N.tells self.now.nor.now → result ≡ true → ArePassed self.now.geometry (N.bytes self.now.nor.now) block 0 low high }
+    {
+        match self.row(block) {
+            Some(row) => has_none(row, low, high),
+            None => false,
+        }
+    }
+
+    // The next entry of a block that may be that of a live page: as `find_slot` finds it, but none in a block where the table
+    // of counts tells that there is no such page.
+    #[tactic(auto, using(crate::proofs::Looking::looks_none, crate::proofs::Walking::slot_place))]
+    fn next_place(
+        &mut self,
+        block: u16,
+        from: u32,
+        low: u16,
+        high: u16,
+    ) -> Result<Option<(u32, u16)>, Failed>
+        requires { block < self.old.geometry.blocks }
+        ensures cause { OnErr result (Rose (N.faults self.old.nor.now) (N.faults self.new.nor.now)) }
+        ensures looks { OnlyLooks self.old self.new }
+        ensures inside { IfOk result (λ found. IfSome found (λ f. (from ≤ f.0) × (f.0 < entries self.old.geometry))) }
+        ensures told { N.tells self.old.nor.now → IfOk result (λ found. NextPlace self.old.geometry (N.bytes self.old.nor.now) block from low high found) }
+        ensures work { self.new.work.now ≡ self.old.work.now }
+    {
+        if self.is_passed(block, low, high) {
+            return Ok(None);
+        }
+        let found = self.find_slot(block, from, low, high)?;
+        Ok(found)
+    }
+
     // The header of a page, if the page is live, by its block and its entry. The page is held then. (The magic comes first:
     // where there is one frame alone, it takes the place of the page.)
     #[tactic(auto, unfolding(image_model::specs::Live::live_at, image_model::specs::Live::is_live, image_model::specs::Places::is_entry_page), using(crate::proofs::Looking::looks_then, crate::proofs::Parts::finished_is))]
@@ -126,7 +172,7 @@ impl<'b, N: Nor> View<'b, N> {
         let mut block = from / g.per_block();
         let mut slot = (from % g.per_block()).saturating_sub(g.lookups());
         'walk: while block < g.blocks() {
-            match self.find_slot(block as u16, slot, low, high)? {
+            match self.next_place(block as u16, slot, low, high)? {
                 Some((i, entry)) => {
                     let page = entry_page(&g, block as u16, i);
                     if let Some(head) = self.live_by(block as u16, page, entry)? {

@@ -6,7 +6,7 @@ use Rattle.page_layout.specs.Layout.{header_at}
 use Rattle.geometry.specs.Numbers.{page_count, per_block, lookups, entries}
 use Rattle.image_model.specs.Places.{entry_of}
 use Rattle.image_model.specs.Live.{live_at}
-use Rattle.flash_view.specs.Walk.{IsNextSlot, FirstSlot}
+use Rattle.flash_view.specs.Walk.{IsNextSlot, ArePassed}
 use Rattle.flash_view.proofs.Looking.{looks_none, looks_then}
 use Rattle.flash_view.proofs.SlotHeld.{some_pages}
 use Rattle.flash_view.proofs.Walking.{walk_start, walk_block, walk_dead, walk_live, unseen_live, entry_is, walk_from, found_block}
@@ -70,7 +70,7 @@ walk-preserved g c =
       told = λ tells.
           let view = c.args.self.now in
           let image = g.N.NorState.bytes view.nor.now in
-          let none : FirstSlot view.geometry image c.walk.block c.walk.slot (entries view.geometry) c.args.low c.args.high None = rw (was.looks.same.geometry, was.looks.reads.bytes, c.in-None.is) at (looked.told (was.looks.reads.told tells)) in
+          let none : ArePassed view.geometry image c.walk.block c.walk.slot c.args.low c.args.high = rw (was.looks.same.geometry, was.looks.reads.bytes, c.in-None.is) at (looked.told (was.looks.reads.told tells)) in
           λ q after before. walk_block view.geometry image c.args.low c.args.high c.args.from c.walk.block c.walk.slot (was.told tells) none q after (omega (arith, before));
     }
 
