@@ -1,9 +1,12 @@
 -- The table of counts over the programs in a page and in its entry.
-use Rattle.std.specs.Prelude.{◌≡◌, ◌≢◌, ℕ, ◌<◌, List}
+use Rattle.std.specs.Prelude.{◌≡◌, ◌≢◌, ℕ, ◌<◌, List, true, Result, OnOk}
 use Rattle.geometry.specs.declared.geometry.Geometry.{Geometry}
+use Rattle.nor_core.specs.declared.state.NorState.{Ghosts as NorOf}
 use Rattle.image_model.specs.Places.{entry_of, erase_count}
 use Rattle.image_laws.specs.TidySteps.{Agree}
 use Rattle.flash_view.specs.declared.counts.Sort.{Sort}
+use Rattle.flash_view.specs.declared.view.View.{View}
+use Rattle.flash_view.specs.Places.{IsEntryPage}
 use Rattle.flash_view.specs.Counts.{sort_at}
 use Rattle.flash_view.specs.Table.{IsTable}
 use Rattle.page_put.specs.Fresh.{IsFresh}
@@ -13,8 +16,9 @@ pub record OneChanges (g : Geometry) (p : ℕ) (was now : List ℕ) : Type 0 whe
   pub agree : Agree g was now p
   pub erases : (block : ℕ) → block < g.blocks → erase_count g now block ≡ erase_count g was block
 
--- The page's entry isn't free, and counts as this.
+-- The page's entry is a number of two bytes and isn't free, and counts as this.
 pub record IsUsedAs (g : Geometry) (image : List ℕ) (p : ℕ) (sort : Sort) : Type 0 where
+  pub word : entry_of g image p < 0x10000
   pub used : entry_of g image p ≢ 0xFFFF
   pub sort_is : sort ≡ sort_at g image p
 
@@ -30,3 +34,12 @@ pub record WasFreshened (g : Geometry) (block count : ℕ) (rows now : List ℕ)
   pub was : List ℕ
   pub table : IsTable g was rows
   pub fresh : IsFresh g block count was now
+
+-- Where the table of counts stood, on a device that holds what it was given, it stands again once the call is done.
+abbrev pub StandsAgain : {N T E : Type 0} {nor : NorOf N} → View N nor → View N nor → Result T E → Type 0
+StandsAgain {nor = nor} old new result = nor.tells old.nor.now → old.counted ≡ true → OnOk result (new.counted ≡ true)
+
+-- The page has an entry, and this isn't free.
+pub record IsUsedPage (g : Geometry) (image : List ℕ) (p : ℕ) : Type 0 where
+  pub entry : IsEntryPage g p
+  pub used : entry_of g image p ≢ 0xFFFF

@@ -6,6 +6,7 @@ ghost use Rattle.nor_core.specs.Flash.{HalfProgrammed, programmed};
 ghost use Rattle.nor_core.specs.Device.{Changes};
 ghost use Rattle.image_model.specs.Files.{slot_at};
 ghost use Rattle.flash_view.specs.Same.{IsSameView};
+ghost use Rattle.page_put.specs.Recount.{IsUsedPage, StandsAgain};
 
 use crate::rows::{recount, sort_before};
 use flash_view::View;
@@ -23,6 +24,7 @@ pub fn mark_removed<N: Nor>(v: &mut View<'_, N>, page: u16) -> Result<(), Failed
     ensures wrote { v.new.wrote ≡ true }
     ensures changes { Changes N.NorState v.old.nor.now v.new.nor.now (HalfProgrammed (page * v.old.geometry.page + 4) (0xBF ∷ [])) }
     ensures done { N.tells v.old.nor.now → OnOk result (N.bytes v.new.nor.now ≡ programmed (N.bytes v.old.nor.now) (page * v.old.geometry.page + 4) (0xBF ∷ [])) }
+    ensures counted { IsUsedPage v.old.geometry (N.bytes v.old.nor.now) page → StandsAgain v.old v.new result }
 {
     let before = sort_before(v, page);
     let erased = Flags::from_bits(0xFF);
@@ -42,6 +44,7 @@ pub fn fill_tail<N: Nor>(v: &mut View<'_, N>, page: u16, at: u32, from: &[u8]) -
     ensures wrote { v.new.wrote ≡ true }
     ensures changes { Changes N.NorState v.old.nor.now v.new.nor.now (HalfProgrammed (page * v.old.geometry.page + at) from.now) }
     ensures done { N.tells v.old.nor.now → OnOk result (N.bytes v.new.nor.now ≡ programmed (N.bytes v.old.nor.now) (page * v.old.geometry.page + at) from.now) }
+    ensures counted { IsUsedPage v.old.geometry (N.bytes v.old.nor.now) page → StandsAgain v.old v.new result }
 {
     let before = sort_before(v, page);
     v.program_in(page, at, from)?;
@@ -77,6 +80,7 @@ pub fn name_slot<N: Nor>(
     ensures wrote { v.new.wrote ≡ true }
     ensures changes { Changes N.NorState v.old.nor.now v.new.nor.now (HalfProgrammed (page * v.old.geometry.page + slot_at v.old.geometry span) (to_le_bytes w16 target)) }
     ensures done { N.tells v.old.nor.now → OnOk result (N.bytes v.new.nor.now ≡ programmed (N.bytes v.old.nor.now) (page * v.old.geometry.page + slot_at v.old.geometry span) (to_le_bytes w16 target)) }
+    ensures counted { IsUsedPage v.old.geometry (N.bytes v.old.nor.now) page → StandsAgain v.old v.new result }
 {
     let before = sort_before(v, page);
     let start = slot_start(&v.geometry, span);

@@ -6,6 +6,7 @@ ghost use Rattle.nor_core.specs.Device.{Changes};
 ghost use Rattle.image_laws.specs.Blocks.{magic_mark};
 ghost use Rattle.flash_view.specs.Same.{IsSameView};
 ghost use Rattle.page_put.specs.Fresh.{Freshens, IsFresh, UnitCut, InErasing, MarkCut, FreshCut, blank, with_magic};
+ghost use Rattle.page_put.specs.Recount.{StandsAgain};
 
 use crate::rows::count_fresh;
 use flash_view::View;
@@ -115,6 +116,7 @@ pub fn fresh_block<N: Nor>(v: &mut View<'_, N>, block: u16, count: u16) -> Resul
     ensures order { Changes N.NorState v.old.nor.now v.new.nor.now (FreshCut v.old.geometry block count) }
     ensures bytes { N.tells v.old.nor.now → OnOk result (N.bytes v.new.nor.now ≡ with_magic v.old.geometry block count (blank v.old.geometry block (N.bytes v.old.nor.now))) }
     ensures done { N.tells v.old.nor.now → OnOk result (IsFresh v.old.geometry block count (N.bytes v.old.nor.now) (N.bytes v.new.nor.now)) }
+    ensures counted { StandsAgain v.old v.new result }
 {
     let stood = v.counted;
     program_fresh(v, block, count)?;

@@ -6,7 +6,7 @@ ghost use Rattle.flash_view.specs.Same.{IsSameView};
 ghost use Rattle.flash_view.specs.Steps.{Stepped, failed};
 ghost use Rattle.page_put.specs.Kills.{HalfKilled, killed};
 ghost use Rattle.page_put.specs.LivePages.{killing, clearing};
-ghost use Rattle.page_put.specs.Recount.{OneChanges};
+ghost use Rattle.page_put.specs.Recount.{OneChanges, StandsAgain};
 
 use crate::rows::{recount, sort_before};
 use flash_view::View;
@@ -40,6 +40,7 @@ fn program_kill<N: Nor>(v: &mut View<'_, N>, page: u16) -> Result<(), Failed>
     ensures done { N.tells v.old.nor.now → OnOk result (N.bytes v.new.nor.now ≡ killed v.old.geometry page (N.bytes v.old.nor.now)) }
     ensures same { IsSameView v.old v.new }
     ensures wrote { v.new.wrote ≡ true }
+    ensures counted { StandsAgain v.old v.new result }
 {
     let before = sort_before(v, page);
     program_dead(v, page)?;
@@ -59,6 +60,7 @@ pub fn kill<N: Nor>(v: &mut View<'_, N>, page: u16) -> Result<(), Failed>
     ensures wrote { v.new.wrote ≡ true }
     ensures live { Stepped failed v.old v.new result (killing page) }
     ensures dead { Stepped failed v.old v.new result (clearing page) }
+    ensures counted { StandsAgain v.old v.new result }
 {
     program_kill(v, page)
 }

@@ -1,15 +1,16 @@
-ghost use Rattle.std.specs.Prelude.{◌≡◌, ◌+◌, ◌*◌, ◌/◌, ◌%◌, ◌<◌, ◌≤◌, length, [], ◌∷◌, OnOk, OnErr, true};
+ghost use Rattle.std.specs.Prelude.{◌≡◌, ◌≢◌, ◌+◌, ◌*◌, ◌/◌, ◌%◌, ◌<◌, ◌≤◌, length, [], ◌∷◌, OnOk, OnErr, true};
 ghost use Rattle.nor_core.specs.Count.{Rose};
 ghost use Rattle.nor_core.specs.Flash.{HalfProgrammed, programmed};
 ghost use Rattle.nor_core.specs.Device.{Changes};
 ghost use Rattle.page_layout.specs.Layout.{bits_of};
+ghost use Rattle.image_model.specs.Places.{entry_of};
 ghost use Rattle.flash_view.specs.Places.{IsEntryPage};
 ghost use Rattle.flash_view.specs.Same.{IsSameView};
 ghost use Rattle.flash_view.specs.Steps.{Stepped, failed};
 ghost use Rattle.page_put.specs.LivePages.{putting};
 ghost use Rattle.page_put.specs.Placing.{placed_id, placed_flags, placed_page, with_page, IsPlacing, ProgramsPlace, FinishClearsFinal};
 ghost use Rattle.geometry.specs.declared.geometry.Geometry.{Geometry};
-ghost use Rattle.page_put.specs.Recount.{OneChanges};
+ghost use Rattle.page_put.specs.Recount.{OneChanges, StandsAgain};
 
 use crate::rows::{recount, sort_before};
 use flash_view::{Kind, View};
@@ -80,6 +81,7 @@ pub fn place<N: Nor>(v: &mut View<'_, N>, page: u16, kind: Kind, tag: Tag) -> Re
     ensures wrote { v.new.wrote ≡ true }
     ensures changes { Changes N.NorState v.old.nor.now v.new.nor.now (IsPlacing v.old.geometry page (placed_page v.old.geometry kind tag v.old.work.now)) }
     ensures done { N.tells v.old.nor.now → OnOk result (N.bytes v.new.nor.now ≡ with_page v.old.geometry page (placed_page v.old.geometry kind tag v.old.work.now) (N.bytes v.old.nor.now)) }
+    ensures counted { StandsAgain v.old v.new result }
 {
     let before = sort_before(v, page);
     program_page(v, page, kind, tag)?;
@@ -95,6 +97,7 @@ pub fn finish<N: Nor>(v: &mut View<'_, N>, page: u16) -> Result<(), Failed>
     ensures wrote { v.new.wrote ≡ true }
     ensures changes { Changes N.NorState v.old.nor.now v.new.nor.now (HalfProgrammed (page * v.old.geometry.page + 4) (0xFD ∷ [])) }
     ensures done { N.tells v.old.nor.now → OnOk result (N.bytes v.new.nor.now ≡ programmed (N.bytes v.old.nor.now) (page * v.old.geometry.page + 4) (0xFD ∷ [])) }
+    ensures counted { entry_of v.old.geometry (N.bytes v.old.nor.now) page ≢ 0xFFFF → StandsAgain v.old v.new result }
 {
     let before = sort_before(v, page);
     let erased = Flags::from_bits(0xFF);
@@ -109,6 +112,7 @@ pub fn put_page<N: Nor>(v: &mut View<'_, N>, page: u16, kind: Kind, tag: Tag) ->
     requires id { (1 ≤ tag.id) × (tag.id ≤ 0x7FFE) }
     ensures step { Stepped failed v.old v.new result (putting page kind tag v.old.work.now) }
     ensures wrote { v.new.wrote ≡ true }
+    ensures counted { StandsAgain v.old v.new result }
 {
     place(v, page, kind, tag)?;
     finish(v, page)

@@ -1,7 +1,8 @@
 //! The table of counts, kept right over programs and erases.
-ghost use Rattle.std.specs.Prelude.{◌≡◌, ◌<◌, ◌≤◌, length, OnErr, IfOk, IfSome, true};
+ghost use Rattle.std.specs.Prelude.{◌≡◌, ◌≢◌, ◌<◌, ◌≤◌, length, OnOk, OnErr, IfOk, IfSome, is_some, true};
 ghost use Rattle.nor_core.specs.Count.{Rose};
 ghost use Rattle.geometry.specs.Numbers.{rows_need, page_count};
+ghost use Rattle.image_model.specs.Places.{entry_of};
 ghost use Rattle.flash_view.specs.Places.{IsEntryPage};
 ghost use Rattle.flash_view.specs.Same.{OnlyLooks, OnlyCounts};
 ghost use Rattle.flash_view.specs.Counts.{sort_at, total_of};
@@ -21,6 +22,7 @@ pub(crate) fn sort_before<N: Nor>(v: &mut View<'_, N>, page: u16) -> Result<Opti
     ensures work { v.new.work.now ≡ v.old.work.now }
     ensures entry { IfOk result (λ before. IfSome before (λ sort. IsEntryPage v.old.geometry page)) }
     ensures stood { IfOk result (λ before. IfSome before (λ sort. v.old.counted ≡ true)) }
+    ensures some { v.old.counted ≡ true → IsEntryPage v.old.geometry page → IfOk result (λ before. is_some before ≡ true) }
     ensures told { N.tells v.old.nor.now → IfOk result (λ before. IfSome before (λ sort. sort ≡ sort_at v.old.geometry (N.bytes v.old.nor.now) page)) }
 {
     if !v.counted || !is_entry_page(&v.geometry, page) {
@@ -36,6 +38,7 @@ fn sort_after<N: Nor>(v: &mut View<'_, N>, page: u16) -> Result<Option<Sort>, Fa
     ensures cause { OnErr result (Rose (N.faults v.old.nor.now) (N.faults v.new.nor.now)) }
     ensures looks { OnlyLooks v.old v.new }
     ensures told { N.tells v.old.nor.now → IfOk result (λ after. IfSome after (IsUsedAs v.old.geometry (N.bytes v.old.nor.now) page)) }
+    ensures some { N.tells v.old.nor.now → entry_of v.old.geometry (N.bytes v.old.nor.now) page ≢ 0xFFFF → IfOk result (λ after. is_some after ≡ true) }
 {
     let entry = v.entry(page)?;
     if entry == FREE {
@@ -69,6 +72,7 @@ pub(crate) fn recount<N: Nor>(
     requires was { N.tells v.old.nor.now → IfSome before (λ sort. WasCounted v.old.geometry page sort v.old.rows.now (N.bytes v.old.nor.now)) }
     ensures cause { OnErr result (Rose (N.faults v.old.nor.now) (N.faults v.new.nor.now)) }
     ensures counts { OnlyCounts v.old v.new }
+    ensures stands { N.tells v.old.nor.now → is_some before ≡ true → entry_of v.old.geometry (N.bytes v.old.nor.now) page ≢ 0xFFFF → OnOk result (v.new.counted ≡ true) }
 {
     v.counted = false;
     let Some(before) = before else {
@@ -93,6 +97,7 @@ pub(crate) fn count_fresh<N: Nor>(v: &mut View<'_, N>, block: u16, erases: u16, 
     requires room { stood ≡ true → rows_need v.old.geometry ≤ length v.old.rows.now }
     requires was { stood ≡ true → N.tells v.old.nor.now → WasFreshened v.old.geometry block erases v.old.rows.now (N.bytes v.old.nor.now) }
     ensures counts { OnlyCounts v.old v.new }
+    ensures stands { stood ≡ true → v.new.counted ≡ true }
 {
     v.counted = false;
     if !stood {

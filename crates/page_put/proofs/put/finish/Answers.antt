@@ -1,6 +1,6 @@
 use Rattle.std.proofs.Common.{ap, length, arith}
 use Rattle.flash_view.proofs.Looking.{same_then}
-use Rattle.page_put.proofs.Changing.{field_counted}
+use Rattle.page_put.proofs.Changing.{field_counted, field_stands}
 use Rattle.page_put.proofs.put.finish.Goals as goal
 
 pub recount-requires-clause-was : goal.recount-requires-clause-was
@@ -11,3 +11,9 @@ recount-requires-clause-was g c =
 
 pub returns-clause-same : goal.returns-clause-same
 returns-clause-same g c = same_then (same_then c.in_ok-before.ensures.looks.same c.in_ok-program_in.ensures.same) c.recount.ensures.counts.same
+
+pub returns-clause-counted : goal.returns-clause-counted
+returns-clause-counted g c = λ used.
+    let b = c.in_ok-before.ensures in
+    let p = c.in_ok-program_in.ensures in
+    field_stands c.args.page c.in_ok-before.field-0 c.recount.new.v c.recount.result b.looks p.same b.some c.recount.ensures.stands 4 _ p.changes (omega (arith, c.sort_before-before.new.v.geometry.valid.page_least)) (record { entry = c.requires.page; used = used })

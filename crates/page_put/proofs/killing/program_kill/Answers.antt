@@ -1,0 +1,14 @@
+use Rattle.page_put.specs.Kills.{deleted, killed}
+use Rattle.image_laws.proofs.TidySteps.{zeroed}
+use Rattle.page_put.proofs.Killed.{kill_done}
+use Rattle.page_put.proofs.Changing.{stands_again}
+use Rattle.page_put.proofs.killing.program_kill.Goals as goal
+
+pub returns-clause-counted : goal.returns-clause-counted
+returns-clause-counted g c =
+    let b = c.in_ok-before.ensures in
+    let p = c.in_ok-program_dead.ensures in
+    let mid = c.sort_before-before.new.v in
+    let image = g.N.NorState.bytes mid.nor.now in
+    stands_again c.args.page c.in_ok-before.field-0 c.recount.new.v c.recount.result b.looks p.same b.some c.recount.ensures.stands p.changes.cuts.told c.requires.page
+    (λ tells free. let zero = zeroed mid.geometry (deleted mid.geometry c.args.page image) (killed mid.geometry c.args.page image) c.args.page (kill_done mid.geometry image c.args.page).clear in absurd (cc (zero, free, p.done tells)))
