@@ -22,7 +22,7 @@ use Rattle.flash_view.specs.Walk.{IsPassed, IsNextLive, NextLive}
 use Rattle.flash_view.proofs.Walking.{seen_live}
 use Rattle.flash_view.specs.Found.{headed, has_header}
 use Rattle.flash_view.proofs.Least.{heads, headed_of}
-use Rattle.free_search.specs.Ids.{bit_of, head_id, Notes, unused_id}
+use Rattle.free_search.specs.Ids.{bit_of, head_id, Notes, Noted, unused_id}
 
 -- the bytes from a place on, as a slice to the end
 pub tail_of : (s : ℕ) (w : List ℕ) → take (length w - s) (drop s w) ≡ drop s w
@@ -63,10 +63,6 @@ cleared_in s id work bits rest most low none = rw (drop_at (take s work) (bits +
 
 -- ---- the ids of the pages below a loop's counter
 
-pub record Noted (g : Geometry) (image bits : List ℕ) (end : ℕ) : Type 0 where
-  pub some : (id : ℕ) → id ≤ usable g → bit_of bits id ≡ 1 → (q : ℕ) × (q < end) × (headed (live_at g image q) ≡ Some id)
-  pub all : (q id : ℕ) → q < end → headed (live_at g image q) ≡ Some id → id ≤ usable g → bit_of bits id ≡ 1
-
 pub noted_none : (g : Geometry) (image bits : List ℕ) → ((id : ℕ) → id ≤ usable g → bit_of bits id ≡ 0) → Noted g image bits 0
 noted_none g image bits none = record {
   some = λ id low set. absurd (let clear = none id low in omega (arith, clear, set));
@@ -101,7 +97,7 @@ noted_more g image old new p was notes = record {
 }
 
 -- pages in a row without a header page
-noted_over : (g : Geometry) (image bits : List ℕ) (at p : ℕ) → at ≤ p → ((q : ℕ) → at ≤ q → q < p → headed (live_at g image q) ≡ None) → Noted g image bits at → Noted g image bits p
+pub noted_over : (g : Geometry) (image bits : List ℕ) (at p : ℕ) → at ≤ p → ((q : ℕ) → at ≤ q → q < p → headed (live_at g image q) ≡ None) → Noted g image bits at → Noted g image bits p
 noted_over g image bits at p low none was = record {
   some = λ id few set. let w = was.some id few set in (w.0, omega (arith, w.1, low), w.2);
   all = λ q id below is few. ⊎_elim

@@ -1,11 +1,13 @@
 -- The counts of a block's entries, entry after entry.
-use Rattle.std.proofs.Common.{◌≡◌, ℕ, ◌+◌, ◌-◌, ◌*◌, ◌<◌, ◌≤◌, List, Bool, true, false, not, ◌==◌, length, refl, sym, ◌∙◌, arith, subst, if◌then◌else◌}
+use Rattle.std.proofs.Common.{◌≡◌, ℕ, ◌+◌, ◌-◌, ◌*◌, ◌<◌, ◌≤◌, List, Bool, true, false, not, ◌==◌, length, refl, sym, ◌∙◌, arith, ap, subst, ⊎_elim, if◌then◌else◌}
 use Rattle.std.specs.Prelude.{filter, Option, Some, None}
 use Rattle.std.specs.List.{range_with_len}
+use Rattle.std.proofs.lemmas.Bool.{cases_lt}
 use Rattle.geometry.specs.declared.geometry.Geometry.{Geometry}
 use Rattle.geometry.specs.Numbers.{per_block, lookups, entries}
 use Rattle.image_model.specs.Headers.{names_index}
-use Rattle.image_model.specs.Places.{entry_of, erase_count}
+use Rattle.image_model.specs.Places.{entry_of, erase_count, slot_of, block_of, is_entry_page}
+use Rattle.image_model.specs.Within.{entry_of_block}
 use Rattle.image_model.specs.Live.{live_at}
 use Rattle.image_model.specs.Kinds.{is_index_page, is_data_page}
 use Rattle.image_model.specs.Collect.{index_in, data_in, deleted_in, is_deleted_entry}
@@ -15,6 +17,7 @@ use Rattle.flash_view.specs.declared.counts.Sort.TheVariants.{Index, Data, Delet
 use Rattle.flash_view.specs.Counts.{sort_of_page, one_more, more_free, total_of, AreCounts}
 use Rattle.flash_view.specs.Walk.{IsNextSlot, NextSlot}
 use Rattle.flash_view.proofs.Sorts.{free_is_dead}
+use Rattle.flash_view.proofs.Walking.{entry_is}
 use Rattle.free_search.proofs.Slots.{passed_free, used_entry}
 use Rattle.free_search.proofs.Scans.{count_start, count_yes, count_no, count_end, skip_no, skip_yes}
 
@@ -116,13 +119,40 @@ counting_free g image first n i j block c less most was ones =
       erases = was.erases;
     }
 
-pub counting_end : (g : Geometry) (image : List ℕ) (block first n i : ℕ) (c : BlockCounts) → first ≡ block * per_block g + lookups g → n ≡ entries g → n ≤ i → Counting g image first n i block c → AreCounts g image block c
-counting_end g image block first n i c at_first at_n most was = record {
+-- ---- entries that were counted are numbers of two bytes
+
+abbrev pub AreWords : Geometry → List ℕ → (block n : ℕ) → Type 0
+AreWords g image block n = (i : ℕ) → i < n → slot_of g image block i < 0x10000
+
+pub words_on : (g : Geometry) (image : List ℕ) (block at i n : ℕ) → IsNextSlot g image block at 0 0xFFFE i n → AreWords g image block at → AreWords g image block (i + 1)
+words_on g image block at i n found was k few = ⊎_elim
+    (λ (early : k < at). was k early)
+    (λ (late : at ≤ k). ⊎_elim
+    (λ (before : k < i). (found.passed k late before).word)
+    (λ (here : i ≤ k). let same : i ≡ k = omega (arith, few, here) in subst (λ (j : ℕ). slot_of g image block j < 0x10000) same (subst (λ (m : ℕ). m < 0x10000) found.number found.word))
+    (cases_lt k i))
+    (cases_lt k at)
+
+words_last : (g : Geometry) (image : List ℕ) (block at : ℕ) → NextSlot g image block at 0 0xFFFE None → AreWords g image block at → AreWords g image block (entries g)
+words_last g image block at none was k few = ⊎_elim (λ (early : k < at). was k early) (λ (late : at ≤ k). (none k late few).word) (cases_lt k at)
+
+words_told : (g : Geometry) (image : List ℕ) (block : ℕ) → AreWords g image block (entries g) → (p : ℕ) → is_entry_page g p ≡ true → block_of g p ≡ block → entry_of g image p < 0x10000
+words_told g image block words p page here =
+    let w = entry_of_block g p page in
+    let i = p - (block_of g p * per_block g + lookups g) in
+    let at : block_of g p * per_block g + lookups g + i ≡ p = omega (arith, w.0) in
+    let few : i < entries g = omega (arith, w.0, w.1) in
+    let number : slot_of g image block i ≡ entry_of g image p = ap (λ (b : ℕ). slot_of g image b i) (sym here) ∙ sym (entry_is g image (block_of g p) i few) ∙ ap (entry_of g image) at in
+    subst (λ (n : ℕ). n < 0x10000) number (words i few)
+
+pub counting_end : (g : Geometry) (image : List ℕ) (block first n i : ℕ) (c : BlockCounts) → first ≡ block * per_block g + lookups g → n ≡ entries g → n ≤ i → AreWords g image block (entries g) → Counting g image first n i block c → AreCounts g image block c
+counting_end g image block first n i c at_first at_n most words was = record {
   index = count_end _ first n i _ _ most was.index;
   pages = count_end _ first n i _ _ most was.pages;
   deleted = count_end _ first n i _ _ most was.deleted;
   free = count_end _ first n i _ _ most was.free ∙ rw (at_first, at_n) refl;
   erases = was.erases;
+  words = words_told g image block words;
 }
 
 -- free entries in a row, and the used one behind them
@@ -133,10 +163,10 @@ counting_on g image block at i n p c s low few found place sort was =
     counting_more g image (block * per_block g + lookups g) (entries g) i block p (more_free c (i - at)) s few free (sym place)
     (subst (Passes g image p) (sym sort) (used_passes g image p (live_at g image p) refl (used_entry g image block at i n p few found place)))
 
-pub counting_last : (g : Geometry) (image : List ℕ) (block at : ℕ) (c : BlockCounts) → at ≤ entries g → NextSlot g image block at 0 0xFFFE None → Counting g image (block * per_block g + lookups g) (entries g) at block c →
+pub counting_last : (g : Geometry) (image : List ℕ) (block at : ℕ) (c : BlockCounts) → at ≤ entries g → NextSlot g image block at 0 0xFFFE None → AreWords g image block at → Counting g image (block * per_block g + lookups g) (entries g) at block c →
     AreCounts g image block (more_free c (entries g - at))
-counting_last g image block at c low none was =
-    counting_end g image block (block * per_block g + lookups g) (entries g) (entries g) (more_free c (entries g - at)) refl refl (omega arith)
+counting_last g image block at c low none words was =
+    counting_end g image block (block * per_block g + lookups g) (entries g) (entries g) (more_free c (entries g - at)) refl refl (omega arith) (words_last g image block at none words)
     (counting_free g image (block * per_block g + lookups g) (entries g) at (entries g) block c low (omega arith) was (λ k from to. passed_free g image block k to (none k from to)))
 
 -- one entry more was counted

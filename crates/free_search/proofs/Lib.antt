@@ -12,3 +12,4 @@ pub mod Greatest
 pub mod FoundPage
 pub mod Beside
 pub mod Rowed
+pub mod Scanning

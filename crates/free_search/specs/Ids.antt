@@ -1,11 +1,12 @@
 -- Ids without a header page, noted as bits.
-use Rattle.std.specs.Prelude.{◌≡◌, ◌≢◌, ℕ, ◌+◌, ◌*◌, ◌/◌, ◌%◌, ◌≤◌, List, drop, not, ◌==◌, Option, Some, None, if◌then◌else◌, find, slice_index}
+use Rattle.std.specs.Prelude.{◌≡◌, ◌≢◌, ℕ, ◌+◌, ◌*◌, ◌/◌, ◌%◌, ◌<◌, ◌≤◌, List, drop, not, ◌==◌, Option, Some, None, if◌then◌else◌, find, slice_index}
 use Rattle.std.specs.List.{range_with_len}
 use Rattle.std.specs.Int.{bit_at}
 use Rattle.geometry.specs.declared.geometry.Geometry.{Geometry}
 use Rattle.page_layout.specs.declared.header.PageHeader.{PageHeader}
 use Rattle.geometry.specs.Numbers.{per_block, usable}
-use Rattle.flash_view.specs.Found.{has_header}
+use Rattle.image_model.specs.Live.{live_at}
+use Rattle.flash_view.specs.Found.{has_header, headed}
 
 -- the bit of an id: eight to a byte, the lowest first
 unfoldable pub bit_of : List ℕ → ℕ → ℕ
@@ -27,3 +28,8 @@ head_id head = if head.span == 0 then Some (head.id % 0x8000) else None
 pub record Notes (most : ℕ) (found : Option ℕ) (old new : List ℕ) : Type 0 where
   pub noted : (id : ℕ) → found ≡ Some id → id ≤ most → bit_of new id ≡ 1
   pub others : (k : ℕ) → found ≢ Some k → bit_of new k ≡ bit_of old k
+
+-- the ids that are noted are those of the header pages below one
+pub record Noted (g : Geometry) (image bits : List ℕ) (end : ℕ) : Type 0 where
+  pub some : (id : ℕ) → id ≤ usable g → bit_of bits id ≡ 1 → (q : ℕ) × (q < end) × (headed (live_at g image q) ≡ Some id)
+  pub all : (q id : ℕ) → q < end → headed (live_at g image q) ≡ Some id → id ≤ usable g → bit_of bits id ≡ 1

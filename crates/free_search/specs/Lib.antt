@@ -1,4 +1,6 @@
+pub mod ByRows
 pub mod Counts
 pub mod Free
 pub mod Had
 pub mod Ids
+pub mod Naming

@@ -5,23 +5,21 @@ ghost use Rattle.image_model.specs.Places.{entry_of};
 ghost use Rattle.nor_core.specs.Count.{Rose};
 ghost use Rattle.flash_view.specs.Places.{IsEntryPage};
 ghost use Rattle.flash_view.specs.Same.{OnlyLooks};
+ghost use Rattle.free_search.specs.ByRows.{IsByRows};
 ghost use Rattle.flash_view.specs.Counts.{sort_of_page, total_of, one_more, more_free, AreCounts};
 
 use flash_view::{BlockCounts, View, entry_page, with_free, with_one};
 use nor_core::{Failed, Nor, NorState};
 use page_layout::FREE;
 
-/// The counts of a block's entries, and its erase count: its row, where the table of counts stands.
+// The counts of a block's entries, and its erase count, by its lookup pages and the pages that they tell.
 #[tactic(auto, using(flash_view::proofs::Looking::looks_then))]
-pub fn counts<N: Nor>(v: &mut View<'_, N>, block: u16) -> Result<BlockCounts, Failed>
+fn count_block<N: Nor>(v: &mut View<'_, N>, block: u16) -> Result<BlockCounts, Failed>
     requires { block < v.old.geometry.blocks }
     ensures cause { OnErr result (Rose (N.faults v.old.nor.now) (N.faults v.new.nor.now)) }
     ensures looks { OnlyLooks v.old v.new }
     ensures told { N.tells v.old.nor.now → IfOk result (λ counts. AreCounts v.old.geometry (N.bytes v.old.nor.now) block counts) }
 {
-    if let Some(counts) = v.row(block) {
-        return Ok(counts);
-    }
     let g = v.geometry;
     let mut counts = BlockCounts {
         index_live: 0,
@@ -39,6 +37,22 @@ pub fn counts<N: Nor>(v: &mut View<'_, N>, block: u16) -> Result<BlockCounts, Fa
     Ok(with_free(counts, g.entries() - at))
 }
 
+/// The counts of a block's entries, and its erase count: its row, where the table of counts stands.
+#[inline(always)]
+#[tactic(auto, using(flash_view::proofs::Looking::looks_none))]
+pub fn counts<N: Nor>(v: &mut View<'_, N>, block: u16) -> Result<BlockCounts, Failed>
+    requires { block < v.old.geometry.blocks }
+    ensures cause { OnErr result (Rose (N.faults v.old.nor.now) (N.faults v.new.nor.now)) }
+    ensures looks { OnlyLooks v.old v.new }
+    ensures quick { IsByRows v.old v.new result }
+    ensures told { N.tells v.old.nor.now → IfOk result (λ counts. AreCounts v.old.geometry (N.bytes v.old.nor.now) block counts) }
+{
+    match v.row(block) {
+        Some(counts) => Ok(counts),
+        None => count_block(v, block),
+    }
+}
+
 /// Whether a block is free: it has its magic, and all its entries are free. Its row tells it, where the table of counts stands;
 /// else its lookup pages alone are read. The answer is right where these tell which entries are free.
 #[tactic(auto, using(flash_view::proofs::Looking::looks_then))]
@@ -46,6 +60,7 @@ pub fn is_free_block<N: Nor>(v: &mut View<'_, N>, block: u16) -> Result<bool, Fa
     requires { block < v.old.geometry.blocks }
     ensures cause { OnErr result (Rose (N.faults v.old.nor.now) (N.faults v.new.nor.now)) }
     ensures looks { OnlyLooks v.old v.new }
+    ensures quick { IsByRows v.old v.new result }
     ensures told { N.tells v.old.nor.now → TellsFree v.old.geometry (N.bytes v.old.nor.now) → IfOk result (λ free. free ≡ the_free_block v.old.geometry (N.bytes v.old.nor.now) block) }
 {
     if let Some(counts) = v.row(block) {
@@ -61,6 +76,7 @@ pub fn is_free_block<N: Nor>(v: &mut View<'_, N>, block: u16) -> Result<bool, Fa
 pub fn free_blocks<N: Nor>(v: &mut View<'_, N>) -> Result<u32, Failed>
     ensures cause { OnErr result (Rose (N.faults v.old.nor.now) (N.faults v.new.nor.now)) }
     ensures looks { OnlyLooks v.old v.new }
+    ensures quick { IsByRows v.old v.new result }
     ensures most { IfOk result (λ n. n ≤ v.old.geometry.blocks) }
     ensures told { N.tells v.old.nor.now → TellsFree v.old.geometry (N.bytes v.old.nor.now) → IfOk result (λ n. n ≡ the_free_blocks v.old.geometry (N.bytes v.old.nor.now)) }
 {

@@ -2,6 +2,7 @@ ghost use Rattle.std.specs.Prelude.{◌≡◌, ◌+◌, ◌<◌, ◌≤◌, OnEr
 ghost use Rattle.nor_core.specs.Count.{Rose};
 ghost use Rattle.image_model.specs.Places.{has_magic, erase_count, next_count as the_next_count};
 ghost use Rattle.flash_view.specs.Same.{OnlyLooks};
+ghost use Rattle.free_search.specs.ByRows.{IsByRows};
 
 use flash_view::View;
 use nor_core::{Failed, Nor, NorState};
@@ -12,6 +13,7 @@ pub(crate) fn erases<N: Nor>(v: &mut View<'_, N>, block: u16) -> Result<u16, Fai
     requires { block < v.old.geometry.blocks }
     ensures cause { OnErr result (Rose (N.faults v.old.nor.now) (N.faults v.new.nor.now)) }
     ensures looks { OnlyLooks v.old v.new }
+    ensures quick { IsByRows v.old v.new result }
     ensures told { N.tells v.old.nor.now → IfOk result (λ count. count ≡ erase_count v.old.geometry (N.bytes v.old.nor.now) block) }
 {
     match v.row(block) {
@@ -26,6 +28,7 @@ fn count_behind<N: Nor>(v: &mut View<'_, N>, block: u16) -> Result<u32, Failed>
     requires { block < v.old.geometry.blocks }
     ensures cause { OnErr result (Rose (N.faults v.old.nor.now) (N.faults v.new.nor.now)) }
     ensures looks { OnlyLooks v.old v.new }
+    ensures quick { IsByRows v.old v.new result }
     ensures told { N.tells v.old.nor.now → IfOk result (λ n. n ≡ (if has_magic v.old.geometry (N.bytes v.old.nor.now) block then erase_count v.old.geometry (N.bytes v.old.nor.now) block + 1 else 0)) }
 {
     if let Some(counts) = v.row(block) {
@@ -43,6 +46,7 @@ fn count_behind<N: Nor>(v: &mut View<'_, N>, block: u16) -> Result<u32, Failed>
 pub fn next_count<N: Nor>(v: &mut View<'_, N>) -> Result<u16, Failed>
     ensures cause { OnErr result (Rose (N.faults v.old.nor.now) (N.faults v.new.nor.now)) }
     ensures looks { OnlyLooks v.old v.new }
+    ensures quick { IsByRows v.old v.new result }
     ensures most { IfOk result (λ n. n ≤ 0x7FFF) }
     ensures told { N.tells v.old.nor.now → IfOk result (λ n. n ≡ the_next_count v.old.geometry (N.bytes v.old.nor.now)) }
 {

@@ -61,8 +61,8 @@ fn bits_start(g: &Geometry) -> usize
     (4 * g.page() + 4 * g.per_block()) as usize
 }
 
-// Notes the id of a header page, if it is one of those that are looked for.
-fn note_head<N: Nor>(v: &mut View<'_, N>, head: &PageHeader)
+/// Notes the id of a header page, if it is one of those that are looked for.
+pub(crate) fn note_head<N: Nor>(v: &mut View<'_, N>, head: &PageHeader)
     ensures looks { OnlyLooks v.old v.new }
     ensures noted { Notes (usable v.old.geometry) (head_id head.now) (bits_at v.old.geometry v.old.work.now) (bits_at v.old.geometry v.new.work.now) }
 {
@@ -74,8 +74,8 @@ fn note_head<N: Nor>(v: &mut View<'_, N>, head: &PageHeader)
     }
 }
 
-// Clears the bits of the ids that are looked for.
-fn clear_bits<N: Nor>(v: &mut View<'_, N>)
+/// Clears the bits of the ids that are looked for.
+pub(crate) fn clear_bits<N: Nor>(v: &mut View<'_, N>)
     ensures looks { OnlyLooks v.old v.new }
     ensures none { (id : ℕ) → id ≤ usable v.old.geometry → bit_of (bits_at v.old.geometry v.new.work.now) id ≡ 0 }
 {
@@ -83,6 +83,15 @@ fn clear_bits<N: Nor>(v: &mut View<'_, N>)
     let end = start + v.geometry.usable() as usize / 8 + 1;
     let work = &mut *v.work;
     clear(&mut work[start..end]);
+}
+
+/// The least id from 1 to the number of entry pages whose bit is clear.
+pub(crate) fn least_unnoted<N: Nor>(v: &View<'_, N>) -> Option<u16>
+    ensures inside { IfSome result (λ id. (1 ≤ id) × (id ≤ usable v.now.geometry)) }
+    ensures first { result ≡ find (λ id. not (bit_of (bits_at v.now.geometry v.now.work.now) id == 1)) (range_with_len 1 (usable v.now.geometry)) }
+{
+    let start = bits_start(&v.geometry);
+    first_unnoted(&v.work[start..], v.geometry.usable())
 }
 
 /// The least id from 1 to the number of entry pages that has no header page, or None where there is none.
@@ -99,7 +108,5 @@ pub fn free_id<N: Nor>(v: &mut View<'_, N>) -> Result<Option<u16>, Failed>
         note_head(v, &head);
         at = u32::from(page) + 1;
     }
-    let start = bits_start(&v.geometry);
-    let usable = v.geometry.usable();
-    Ok(first_unnoted(&v.work[start..], usable))
+    Ok(least_unnoted(v))
 }

@@ -1,5 +1,6 @@
-ghost use Rattle.std.specs.Prelude.{◌≡◌, OnErr};
+ghost use Rattle.std.specs.Prelude.{◌≡◌, ◌≤◌, length, OnErr, OnOk, true};
 ghost use Rattle.nor_core.specs.Count.{Rose};
+ghost use Rattle.geometry.specs.Numbers.{rows_need};
 ghost use Rattle.image_model.specs.Tidy.{TellsFree};
 ghost use Rattle.flash_view.specs.Same.{OnlyCounts};
 
@@ -14,6 +15,7 @@ pub fn count_all<N: Nor>(v: &mut View<'_, N>) -> Result<(), Failed>
     requires clear { N.tells v.old.nor.now → TellsFree v.old.geometry (N.bytes v.old.nor.now) }
     ensures cause { OnErr result (Rose (N.faults v.old.nor.now) (N.faults v.new.nor.now)) }
     ensures counts { OnlyCounts v.old v.new }
+    ensures stands { rows_need v.old.geometry ≤ length v.old.rows.now → OnOk result (v.new.counted ≡ true) }
 {
     if v.rows.len() < v.geometry.rows_need() as usize {
         return Ok(());

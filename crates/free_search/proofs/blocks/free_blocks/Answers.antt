@@ -1,4 +1,4 @@
-use Rattle.std.proofs.Common.{◌≡◌, true, false, arith, zero-add}
+use Rattle.std.proofs.Common.{◌≡◌, true, false, arith, zero-add, refl, ◌∙◌}
 use Rattle.image_model.specs.Tidy.{is_free_block, free_blocks}
 use Rattle.flash_view.proofs.Looking.{looks_none, looks_then}
 use Rattle.free_search.proofs.Scans.{count_start, count_yes, count_no, count_end}
@@ -9,6 +9,7 @@ pub loop-block-init : goal.loop-block-init
 unfolding free_blocks
 loop-block-init g c = record {
   looks = looks_none c.args.v.now;
+  quick = λ counted. refl;
   end = c.blocks-block-end.ensures;
   few = omega arith;
   told = λ tells frees. rw c.blocks-block-end.ensures (count_start (λ b. is_free_block c.args.v.now.geometry (g.N.NorState.bytes c.args.v.now.nor.now) b) 0 c.args.v.now.geometry.blocks);
@@ -23,6 +24,7 @@ loop-block-preserved g c =
     elim c.if-branch.branch [
       | then-branch w ↦ record {
         looks = looks_then was.looks looked.looks;
+        quick = λ counted. (looked.quick (was.looks.counted ∙ counted)).1 ∙ was.quick counted;
         end = was.end;
         few = omega (arith, was.few, w.free-is);
         told = λ tells frees.
@@ -31,6 +33,7 @@ loop-block-preserved g c =
       }
       | else-branch w ↦ record {
         looks = looks_then was.looks looked.looks;
+        quick = λ counted. (looked.quick (was.looks.counted ∙ counted)).1 ∙ was.quick counted;
         end = was.end;
         few = omega (arith, was.few, w.free-is);
         told = λ tells frees.

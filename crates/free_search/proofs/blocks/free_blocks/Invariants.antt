@@ -1,4 +1,4 @@
-use Rattle.std.proofs.Common.{◌≡◌, ◌+◌, ◌-◌, ◌≤◌, ℕ, length}
+use Rattle.std.proofs.Common.{◌≡◌, ◌+◌, ◌-◌, ◌≤◌, ℕ, length, true}
 use Rattle.std.specs.Prelude.{filter}
 use Rattle.std.specs.List.{range_with_len}
 use Rattle.image_model.specs.Tidy.{is_free_block, free_blocks, TellsFree}
@@ -8,6 +8,7 @@ use Rattle.free_search.proofs.blocks.free_blocks.Given as goal
 abbrev pub invariant-loop-block : goal.invariant-loop-block
 invariant-loop-block g l = record {
   looks : OnlyLooks l.fn.v l.v;
+  quick : l.fn.v.counted ≡ true → l.v.nor.now ≡ l.fn.v.nor.now;
   end : l.block-end ≡ l.fn.v.geometry.blocks;
   few : l.free ≤ l.block;
   told :

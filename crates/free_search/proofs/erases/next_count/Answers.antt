@@ -1,4 +1,4 @@
-use Rattle.std.proofs.Common.{◌+◌, ℕ, refl}
+use Rattle.std.proofs.Common.{◌+◌, ℕ, refl, ◌∙◌}
 use Rattle.image_model.specs.Places.{has_magic, erase_count, next_count}
 use Rattle.flash_view.proofs.Looking.{looks_then}
 use Rattle.free_search.proofs.Greatest.{greatest_more, greatest_end}
@@ -10,6 +10,7 @@ loop-block-preserved g c =
     let looked = c.in_ok-behind.ensures in
     record {
       looks = looks_then was.looks looked.looks;
+      quick = λ counted. (looked.quick (was.looks.counted ∙ counted)).1 ∙ was.quick counted;
       end = was.end;
       told = λ tells.
           let geometry = c.args.v.now.geometry in

@@ -1,5 +1,5 @@
 -- The greatest of the blocks below `block`, with those to come, is the greatest of all.
-use Rattle.std.proofs.Common.{◌≡◌, ◌+◌, ◌-◌, ℕ, map, max}
+use Rattle.std.proofs.Common.{◌≡◌, ◌+◌, ◌-◌, ℕ, map, max, true}
 use Rattle.std.specs.Prelude.{filter}
 use Rattle.std.specs.List.{range_with_len, fold}
 use Rattle.image_model.specs.Places.{has_magic, erase_count}
@@ -9,6 +9,7 @@ use Rattle.free_search.proofs.erases.next_count.Given as goal
 abbrev pub invariant-loop-block : goal.invariant-loop-block
 invariant-loop-block g l = record {
   looks : OnlyLooks l.fn.v l.v;
+  quick : l.fn.v.counted ≡ true → l.v.nor.now ≡ l.fn.v.nor.now;
   end : l.block-end ≡ l.fn.v.geometry.blocks;
   told :
       (let image = g.N.NorState.bytes l.fn.v.nor.now in

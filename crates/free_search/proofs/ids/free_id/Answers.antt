@@ -5,7 +5,7 @@ use Rattle.flash_view.specs.Places.{IsEntryPage}
 use Rattle.flash_view.specs.Walk.{IsNextLive, NextLive}
 use Rattle.flash_view.proofs.Looking.{looks_then}
 use Rattle.free_search.specs.Ids.{bits_at, head_id, Notes}
-use Rattle.free_search.proofs.Bits.{noted_none, noted_on, noted_last, noted_all, tail_of}
+use Rattle.free_search.proofs.Bits.{noted_none, noted_on, noted_last, noted_all}
 use Rattle.free_search.proofs.ids.free_id.Goals as goal
 
 pub heads-init : goal.heads-init
@@ -41,5 +41,5 @@ returns-clause-told g c = λ tells.
     let geometry = c.args.v.now.geometry in
     let image = g.N.NorState.bytes c.args.v.now.nor.now in
     let last : NextLive geometry image c.heads.at 0x8000 0xFFFE None = subst (λ (o : Option (ℕ × PageHeader)). NextLive geometry image c.heads.at 0x8000 0xFFFE o) c.in_default.is (rw (was.looks.same.geometry, was.looks.reads.bytes) at (found.told (was.looks.reads.told tells))) in
-    let all = rw (c.usable-usable.ensures.count, c.bits_start-start.ensures, two.same.geometry, found.work, tail_of) at c.first_unnoted.ensures.first in
+    let all = rw (two.same.geometry, found.work) at c.least_unnoted.ensures.first in
     all ∙ noted_all geometry image _ (noted_last geometry image _ c.heads.at was.most last (was.told tells))

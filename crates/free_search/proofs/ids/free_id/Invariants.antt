@@ -1,8 +1,7 @@
 use Rattle.std.proofs.Common.{◌-◌, ◌≤◌}
 use Rattle.geometry.specs.Numbers.{page_count}
 use Rattle.flash_view.specs.Same.{OnlyLooks}
-use Rattle.free_search.specs.Ids.{bits_at}
-use Rattle.free_search.proofs.Bits.{Noted}
+use Rattle.free_search.specs.Ids.{bits_at, Noted}
 use Rattle.free_search.proofs.ids.free_id.Given as goal
 
 abbrev pub decreases-heads : goal.decreases-heads

@@ -1,4 +1,4 @@
-use Rattle.std.proofs.Common.{◌≡◌, rules, arith}
+use Rattle.std.proofs.Common.{◌≡◌, rules, arith, ◌∙◌}
 use Rattle.flash_view.proofs.Looking.{looks_then}
 use Rattle.free_search.proofs.Worn.{worn_more, worn_over, worn_all}
 use Rattle.free_search.proofs.pages.least_worn.Goals.{then-ne+in_ok-least, else-ne}
@@ -12,12 +12,14 @@ loop-block-preserved g c =
     elim c.if-ne.branch [
       | then-ne+in_ok-least w ↦ record {
         looks = rw w.v-is (looks_then was.looks w.in_ok-least.ensures.looks);
+        quick = λ counted. rw w.v-is ((w.in_ok-least.ensures.quick (was.looks.counted ∙ counted)).1 ∙ was.quick counted);
         end = was.end;
         below = rw (w.least-is, ← was.looks.same.geometry) w.in_ok-least.ensures.below;
         told = λ tells frees. rw w.least-is (rw (rw (was.looks.same.geometry, was.looks.reads.bytes) at (w.in_ok-least.ensures.told (was.looks.reads.told tells) (rw (was.looks.same.geometry, was.looks.reads.bytes) frees))) (worn_more geometry image c.args.not_in c.loop-block.block c.loop-block.least (let h = w.if-ne.ensures in search rules) (was.told tells frees)));
       }
       | else-ne w ↦ record {
         looks = rw w.v-is was.looks;
+        quick = λ counted. rw w.v-is (was.quick counted);
         end = was.end;
         below = rw w.least-is was.below;
         told = λ tells frees. rw w.least-is (worn_over geometry image c.args.not_in c.loop-block.block c.loop-block.least (let h = w.if-ne.ensures in search rules) (was.told tells frees));

@@ -1,4 +1,4 @@
-use Rattle.std.proofs.Common.{◌≡◌, ◌≢◌, ◌&&◌, true, false, refl, zero-add, rules}
+use Rattle.std.proofs.Common.{◌≡◌, ◌≢◌, ◌&&◌, true, false, refl, zero-add, rules, ◌∙◌}
 use Rattle.std.specs.Prelude.{Some}
 use Rattle.flash_view.proofs.Looking.{looks_none, looks_then}
 use Rattle.free_search.specs.Free.{may_choose, is_open_for, the_open_block}
@@ -11,6 +11,7 @@ pub loop-block-init : goal.loop-block-init
 unfolding the_open_block
 loop-block-init g c = record {
   looks = looks_none c.args.v.now;
+  quick = λ counted. refl;
   end = c.blocks-block-end.ensures;
   told = λ tells frees. rw c.blocks-block-end.ensures (first_start (λ block. may_choose c.args.not_in block && is_open_for c.args.v.now.geometry (g.N.NorState.bytes c.args.v.now.nor.now) c.args.kind block) 0 c.args.v.now.geometry.blocks);
 }
@@ -34,6 +35,7 @@ loop-block-preserved g c =
     elim c.else-ne.branch [
       | else-ne-via-then-ne+in_ok-is_open+else-branch w ↦ record {
         looks = rw w.v-is (looks_then was.looks w.in_ok-is_open.ensures.looks);
+        quick = λ counted. rw w.v-is ((w.in_ok-is_open.ensures.quick (was.looks.counted ∙ counted)).1 ∙ was.quick counted);
         end = was.end;
         told = λ tells frees.
             let other : Some c.loop-block.block ≢ c.args.not_in = (let h = w.if-ne.ensures in search rules) in
@@ -44,6 +46,7 @@ loop-block-preserved g c =
       }
       | else-ne-via-else-ne w ↦ record {
         looks = rw w.v-is was.looks;
+        quick = λ counted. rw w.v-is (was.quick counted);
         end = was.end;
         told = λ tells frees.
             first_later (λ block. may_choose c.args.not_in block && is_open_for geometry image c.args.kind block) 0 _ c.loop-block.block c.loop-block.block _ c.loop-block-test.true (was.told tells frees) (zero-add c.loop-block.block)

@@ -1,4 +1,4 @@
-use Rattle.std.proofs.Common.{◌≡◌, ◌+◌, ◌-◌, ◌&&◌, ℕ}
+use Rattle.std.proofs.Common.{◌≡◌, ◌+◌, ◌-◌, ◌&&◌, ℕ, true}
 use Rattle.std.specs.Prelude.{find}
 use Rattle.std.specs.List.{range_with_len}
 use Rattle.image_model.specs.Tidy.{TellsFree}
@@ -9,6 +9,7 @@ use Rattle.free_search.proofs.pages.open_block.Given as goal
 abbrev pub invariant-loop-block : goal.invariant-loop-block
 invariant-loop-block g l = record {
   looks : OnlyLooks l.fn.v l.v;
+  quick : l.fn.v.counted ≡ true → l.v.nor.now ≡ l.fn.v.nor.now;
   end : l.block-end ≡ l.fn.v.geometry.blocks;
   told :
       (let image = g.N.NorState.bytes l.fn.v.nor.now in
