@@ -1,11 +1,11 @@
 -- The bests of all blocks, block after block, and the block that is chosen of them.
-use Rattle.std.proofs.Common.{◌≡◌, ℕ, ◌+◌, ◌-◌, ◌<◌, ◌≤◌, List, Bool, true, false, not, nat_lt, ◌&&◌, ◌||◌, refl, sym, ◌∙◌, if◌then◌else◌}
+use Rattle.std.proofs.Common.{◌≡◌, ℕ, ◌+◌, ◌-◌, ◌<◌, ◌≤◌, List, Bool, true, false, not, nat_lt, ◌&&◌, ◌||◌, refl, sym, ◌∙◌, arith, if◌then◌else◌}
 use Rattle.std.specs.Prelude.{None, is_some, filter}
 use Rattle.std.specs.Option.{option_map}
 use Rattle.std.specs.List.{range_with_len, list_any}
 use Rattle.std.proofs.Math.Nat.{sub-zero}
 use Rattle.geometry.specs.declared.geometry.Geometry.{Geometry}
-use Rattle.image_model.specs.Tidy.{free_blocks}
+use Rattle.image_model.specs.Tidy.{free_blocks, HasReserve}
 use Rattle.image_model.specs.Kinds.{is_data_block}
 use Rattle.image_model.specs.Collect.{is_worth, is_fitting, score, candidates, first_candidates, best_of, chosen_block, are_had, is_stuck}
 use Rattle.block_gc.specs.declared.totals.Room.{Room}
@@ -13,6 +13,7 @@ use Rattle.block_gc.specs.declared.choice.Bests.{Bests}
 use Rattle.block_gc.specs.Totals.{had_by, AreTotals}
 use Rattle.block_gc.specs.declared.next.Survey.{Survey}
 use Rattle.block_gc.specs.Surveys.{IsSurvey}
+use Rattle.block_gc.specs.RoomMade.{IsReady, IfReady}
 use Rattle.block_gc.specs.Best.{pick_of, stuck_by, is_candidate, is_plain, bests_with, IsFirst, AreBests}
 use Rattle.block_gc.proofs.Firsts.{first_start, first_more, first_found, first_some, filter_both, any_both, any_more, any_end}
 
@@ -74,3 +75,14 @@ stuck_is g image found is = rw (is.free, is.bests.worth, ← first_some (is_cand
 pub had_is : (g : Geometry) (image : List ℕ) (all : Room) (index pages : ℕ) → AreTotals g image all → had_by g all index pages ≡ are_had g image index pages
 unfolding are_had
 had_is g image all index pages totals = rw (totals.index, totals.pages, totals.blocks) refl
+
+-- whether pages are had and two blocks are free, by the room of all blocks
+ready_if : (g : Geometry) (image : List ℕ) (index pages : ℕ) (b : Bool) → b ≡ are_had g image index pages → HasReserve g image → IfReady g image index pages b
+ready_if g image index pages true had reserve = record { had = sym had; reserve = reserve }
+ready_if g image index pages false had reserve = λ ready. let is = ready.had in absurd (cc)
+
+pub ready_by : (g : Geometry) (image : List ℕ) (all : Room) (index pages : ℕ) → AreTotals g image all → 2 ≤ all.blocks → IfReady g image index pages (had_by g all index pages)
+ready_by g image all index pages totals two = ready_if g image index pages (had_by g all index pages) (had_is g image all index pages totals) (omega (arith, totals.blocks, two))
+
+pub unready : (g : Geometry) (image : List ℕ) (all : Room) (index pages : ℕ) → AreTotals g image all → all.blocks < 2 → IsReady g image index pages → ⊥
+unready g image all index pages totals few ready = omega (arith, totals.blocks, few, ready.reserve)

@@ -45,7 +45,7 @@ module _ (g : Geometry) (image : List ℕ) (block : ℕ) (c : BlockCounts) (coun
     free_is : c.free ≡ free_in g image block
     free_is = counts.free ∙ free_counted g image block (tidy_tells_free g image tidy) below
 
-    block_is : (c.free == entries g) ≡ is_free_block g image block
+    pub block_is : (c.free == entries g) ≡ is_free_block g image block
     block_is = equal_if c.free (entries g) (is_free_block g image block) (λ e. free_is ∙ free_whole g image block e) (λ e. let h = used_less g image block (tidy.magic block below) e in omega (arith, h, free_is))
 
     index_for : ((c.data_live == 0) && not (c.free == entries g)) ≡ takes_index g image block
@@ -88,14 +88,14 @@ sum_more f p e total own all h was is = let step = rw (range_next p e h) at was 
 pub sum_end : (f : ℕ → ℕ) (p e total all : ℕ) → e ≤ p → total + sum_by f (range_with_len p (e - p)) ≡ all → total ≡ all
 sum_end f p e total all h was = let step = rw (range_last p e h) at was in omega (arith, step)
 
-count_more : (t : ℕ → Bool) (p e total own all : ℕ) → p < e → total + length (filter t (range_with_len p (e - p))) ≡ all → own ≡ (if t p then 1 else 0) → total + own + length (filter t (range_with_len (p + 1) (e - (p + 1)))) ≡ all
+pub count_more : (t : ℕ → Bool) (p e total own all : ℕ) → p < e → total + length (filter t (range_with_len p (e - p))) ≡ all → own ≡ (if t p then 1 else 0) → total + own + length (filter t (range_with_len (p + 1) (e - (p + 1)))) ≡ all
 count_more t p e total own all h was is =
     ⊎_elim
     (λ (yes : t p ≡ true). let step = rw (range_next p e h, yes) at was in let one : own ≡ 1 = rw yes at is in omega (arith, step, one))
     (λ (no : t p ≡ false). let step = rw (range_next p e h, no) at was in let none : own ≡ 0 = rw no at is in omega (arith, step, none))
     (cases_Bool (t p))
 
-count_end : (t : ℕ → Bool) (p e total all : ℕ) → e ≤ p → total + length (filter t (range_with_len p (e - p))) ≡ all → total ≡ all
+pub count_end : (t : ℕ → Bool) (p e total all : ℕ) → e ≤ p → total + length (filter t (range_with_len p (e - p))) ≡ all → total ≡ all
 count_end t p e total all h was = let step = rw (range_last p e h) at was in omega (arith, step)
 
 -- the room of the blocks so far, and of those to come, is that of all

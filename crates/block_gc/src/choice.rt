@@ -5,6 +5,7 @@ ghost use Rattle.image_model.specs.Places.{next_count as the_next_count};
 ghost use Rattle.geometry.specs.Numbers.{entries, ceil};
 ghost use Rattle.nor_core.specs.Count.{Rose};
 ghost use Rattle.flash_view.specs.Same.{OnlyLooks};
+ghost use Rattle.free_search.specs.ByRows.{IsByRows};
 ghost use Rattle.block_gc.specs.Totals.{worth_by, fits_by, AreTotals};
 ghost use Rattle.block_gc.specs.Best.{better_of, bests_by, bests_with, AreBests, AreBelow};
 
@@ -127,6 +128,7 @@ fn with_block<N: Nor>(
     requires below { AreBelow v.old.geometry.blocks bests.now }
     ensures cause { OnErr result (Rose (N.faults v.old.nor.now) (N.faults v.new.nor.now)) }
     ensures looks { OnlyLooks v.old v.new }
+    ensures quick { IsByRows v.old v.new result }
     ensures below { IfOk result (λ found. AreBelow v.old.geometry.blocks found) }
     ensures told { N.tells v.old.nor.now → IsTidy v.old.geometry (N.bytes v.old.nor.now) → AreTotals v.old.geometry (N.bytes v.old.nor.now) all.now → next ≡ the_next_count v.old.geometry (N.bytes v.old.nor.now) → IfOk result (λ found. found ≡ bests_with v.old.geometry (N.bytes v.old.nor.now) bests.now block) }
 {
@@ -140,6 +142,7 @@ fn with_block<N: Nor>(
 pub(crate) fn all_bests<N: Nor>(v: &mut View<'_, N>, all: &Room, next: u16) -> Result<Bests, Failed>
     ensures cause { OnErr result (Rose (N.faults v.old.nor.now) (N.faults v.new.nor.now)) }
     ensures looks { OnlyLooks v.old v.new }
+    ensures quick { IsByRows v.old v.new result }
     ensures below { IfOk result (λ bests. AreBelow v.old.geometry.blocks bests) }
     ensures told { N.tells v.old.nor.now → IsTidy v.old.geometry (N.bytes v.old.nor.now) → AreTotals v.old.geometry (N.bytes v.old.nor.now) all.now → next ≡ the_next_count v.old.geometry (N.bytes v.old.nor.now) → IfOk result (λ bests. AreBests v.old.geometry (N.bytes v.old.nor.now) bests) }
 {

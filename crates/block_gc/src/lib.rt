@@ -14,6 +14,6 @@ mod totals;
 
 pub use cleaning::clean;
 pub use laws::scores_are_told;
-pub use next::{are_had, choose, is_stuck};
+pub use next::{choose, is_ready, is_stuck};
 pub use room::{RoomErr, compact, make_room};
 pub use scores::score;

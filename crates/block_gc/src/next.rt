@@ -2,11 +2,13 @@
 ghost use Rattle.std.specs.Prelude.{◌≡◌, ◌<◌, OnErr, IfOk, IfSome};
 ghost use Rattle.std.specs.Option.{option_map};
 ghost use Rattle.image_model.specs.Tidy.{IsTidy};
-ghost use Rattle.image_model.specs.Collect.{chosen_block, are_had as the_had, is_stuck as the_stuck};
+ghost use Rattle.image_model.specs.Collect.{chosen_block, is_stuck as the_stuck};
 ghost use Rattle.nor_core.specs.Count.{Rose};
 ghost use Rattle.flash_view.specs.Same.{OnlyLooks};
+ghost use Rattle.free_search.specs.ByRows.{IsByRows};
 ghost use Rattle.block_gc.specs.Totals.{had_by};
 ghost use Rattle.block_gc.specs.Best.{pick_of, stuck_by, AreBelow};
+ghost use Rattle.block_gc.specs.RoomMade.{IfReady};
 ghost use Rattle.block_gc.specs.Surveys.{IsSurvey};
 
 use crate::choice::{Bests, all_bests, blocks_for_kind};
@@ -28,6 +30,7 @@ struct Survey {
 fn take_survey<N: Nor>(v: &mut View<'_, N>) -> Result<Survey, Failed>
     ensures cause { OnErr result (Rose (N.faults v.old.nor.now) (N.faults v.new.nor.now)) }
     ensures looks { OnlyLooks v.old v.new }
+    ensures quick { IsByRows v.old v.new result }
     ensures below { IfOk result (λ found. AreBelow v.old.geometry.blocks found.bests) }
     ensures told { N.tells v.old.nor.now → IsTidy v.old.geometry (N.bytes v.old.nor.now) → IfOk result (λ found. IsSurvey v.old.geometry (N.bytes v.old.nor.now) found) }
 {
@@ -59,6 +62,7 @@ fn pick(found: &Survey) -> Option<u16>
 pub fn choose<N: Nor>(v: &mut View<'_, N>) -> Result<Option<u16>, Failed>
     ensures cause { OnErr result (Rose (N.faults v.old.nor.now) (N.faults v.new.nor.now)) }
     ensures looks { OnlyLooks v.old v.new }
+    ensures quick { IsByRows v.old v.new result }
     ensures below { IfOk result (λ found. IfSome found (λ block. block < v.old.geometry.blocks)) }
     ensures told { N.tells v.old.nor.now → IsTidy v.old.geometry (N.bytes v.old.nor.now) → IfOk result (λ found. found ≡ chosen_block v.old.geometry (N.bytes v.old.nor.now)) }
 {
@@ -77,6 +81,7 @@ fn is_stuck_by(found: &Survey) -> bool
 pub fn is_stuck<N: Nor>(v: &mut View<'_, N>) -> Result<bool, Failed>
     ensures cause { OnErr result (Rose (N.faults v.old.nor.now) (N.faults v.new.nor.now)) }
     ensures looks { OnlyLooks v.old v.new }
+    ensures quick { IsByRows v.old v.new result }
     ensures told { N.tells v.old.nor.now → IsTidy v.old.geometry (N.bytes v.old.nor.now) → IfOk result (λ stuck. stuck ≡ the_stuck v.old.geometry (N.bytes v.old.nor.now)) }
 {
     let found = take_survey(v)?;
@@ -92,15 +97,19 @@ fn are_had_by(g: &Geometry, all: &Room, index: u32, data_pages: u32) -> bool
     for_index + for_data <= u64::from(all.blocks.saturating_sub(2))
 }
 
-/// Whether so many wanted index pages and data pages are had: the free blocks above two hold those that the free entries of
-/// their kinds don't.
-#[tactic(auto, using(flash_view::proofs::Looking::looks_then))]
-pub fn are_had<N: Nor>(v: &mut View<'_, N>, index: u32, data_pages: u32) -> Result<bool, Failed>
+/// Whether so many wanted index pages and data pages are had, and two blocks are free: the free blocks above two hold the pages
+/// that the free entries of their kinds don't.
+#[tactic(auto, using(flash_view::proofs::Looking::looks_then, crate::proofs::Chosen::ready_by, crate::proofs::Chosen::unready))]
+pub fn is_ready<N: Nor>(v: &mut View<'_, N>, index: u32, data_pages: u32) -> Result<bool, Failed>
     ensures cause { OnErr result (Rose (N.faults v.old.nor.now) (N.faults v.new.nor.now)) }
     ensures looks { OnlyLooks v.old v.new }
-    ensures told { N.tells v.old.nor.now → IsTidy v.old.geometry (N.bytes v.old.nor.now) → IfOk result (λ had. had ≡ the_had v.old.geometry (N.bytes v.old.nor.now) index data_pages) }
+    ensures quick { IsByRows v.old v.new result }
+    ensures told { N.tells v.old.nor.now → IsTidy v.old.geometry (N.bytes v.old.nor.now) → IfOk result (λ ready. IfReady v.old.geometry (N.bytes v.old.nor.now) index data_pages ready) }
 {
     let g = v.geometry;
     let all = totals(v)?;
+    if all.blocks < 2 {
+        return Ok(false);
+    }
     Ok(are_had_by(&g, &all, index, data_pages))
 }

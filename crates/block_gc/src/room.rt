@@ -7,12 +7,11 @@ ghost use Rattle.flash_view.specs.Same.{IsSameView, OnlyLooks};
 ghost use Rattle.room_laws.specs.Stopping.{CanClean, HasRoomFor};
 ghost use Rattle.room_laws.specs.Mends.{CanMend};
 ghost use Rattle.flash_view.specs.Steps.{Stepped, stopped};
-ghost use Rattle.block_gc.specs.RoomMade.{IsFaultOrTight, is_apart_in, IsReady, IfReady, IsMet, IfMet, CollectCut, MadeRoom, IsTight, IsCompact, IsStuck, cleaning_chosen, turning_to, collecting, packing};
+ghost use Rattle.block_gc.specs.RoomMade.{IsFaultOrTight, is_apart_in, IsReady, IsMet, IfMet, CollectCut, MadeRoom, IsTight, IsCompact, IsStuck, cleaning_chosen, turning_to, collecting, packing};
 
 use crate::cleaning::clean;
-use crate::next::{are_had, choose, is_stuck};
+use crate::next::{choose, is_ready, is_stuck};
 use flash_view::{StepErr, View};
-use free_search::free_blocks;
 use nor_core::{Failed, Nor, NorState};
 
 /// Why room was not made.
@@ -30,16 +29,6 @@ enum Goal {
     // So many of each are had, and two blocks are free.
     Pages(u32, u32),
     Packed,
-}
-
-// Whether so many pages of each kind are had and two blocks are free.
-#[tactic(auto, using(flash_view::proofs::Looking::looks_then, room_laws::proofs::Sorted::tidy_tells_free))]
-fn is_ready<N: Nor>(v: &mut View<'_, N>, index: u32, data_pages: u32) -> Result<bool, Failed>
-    ensures cause { OnErr result (Rose (N.faults v.old.nor.now) (N.faults v.new.nor.now)) }
-    ensures looks { OnlyLooks v.old v.new }
-    ensures told { N.tells v.old.nor.now → IsTidy v.old.geometry (N.bytes v.old.nor.now) → IfOk result (λ ready. IfReady v.old.geometry (N.bytes v.old.nor.now) index data_pages ready) }
-{
-    Ok(free_blocks(v)? >= 2 && are_had(v, index, data_pages)?)
 }
 
 // Whether the goal is met.

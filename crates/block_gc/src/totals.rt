@@ -3,6 +3,7 @@ ghost use Rattle.std.specs.Prelude.{◌≡◌, OnErr, IfOk, if◌then◌else◌}
 ghost use Rattle.image_model.specs.Tidy.{IsTidy};
 ghost use Rattle.nor_core.specs.Count.{Rose};
 ghost use Rattle.flash_view.specs.Same.{OnlyLooks};
+ghost use Rattle.free_search.specs.ByRows.{IsByRows};
 ghost use Rattle.block_gc.specs.Totals.{room_by, both as the_both, AtMost, AreTotals};
 
 use flash_view::{BlockCounts, View};
@@ -62,6 +63,7 @@ fn both(a: &Room, b: &Room) -> Room
 pub(crate) fn totals<N: Nor>(v: &mut View<'_, N>) -> Result<Room, Failed>
     ensures cause { OnErr result (Rose (N.faults v.old.nor.now) (N.faults v.new.nor.now)) }
     ensures looks { OnlyLooks v.old v.new }
+    ensures quick { IsByRows v.old v.new result }
     ensures told { N.tells v.old.nor.now → IsTidy v.old.geometry (N.bytes v.old.nor.now) → IfOk result (λ all. AreTotals v.old.geometry (N.bytes v.old.nor.now) all) }
 {
     let entries = v.geometry.entries();

@@ -3,6 +3,7 @@ use Rattle.std.proofs.Common.{◌≡◌, ℕ, ⊎_elim, inl, inr, List, Bool, tr
 use Rattle.std.specs.Prelude.{Option, None}
 use Rattle.geometry.specs.declared.geometry.Geometry.{Geometry}
 use Rattle.nor_core.specs.declared.state.NorState.{Ghosts as NorOf}
+use Rattle.table_model.specs.declared.error.FsErr.{FsErr}
 use Rattle.table_model.specs.declared.error.FsErr.TheVariants.{ConflictingName}
 use Rattle.table_model.specs.Table.{File, Open, State, has_name, least_id, put_file}
 use Rattle.table_model.specs.Room.{has_room}
@@ -22,9 +23,9 @@ use Rattle.file_write.specs.Creates.{creating}
 use Rattle.fd_table.specs.declared.slot.FdSlot.{FdSlot}
 use Rattle.fd_table.specs.Slots.{descriptors}
 use Rattle.file_calls.specs.States.{IsImageOf}
-use Rattle.file_calls.specs.Refusals.{has_room_beside, page_lack}
+use Rattle.file_calls.specs.Refusals.{has_room_beside, page_lack, IsNotNew}
 use Rattle.file_calls.proofs.Going.{IsStep}
-use Rattle.file_calls.proofs.Paged.{TakesPage, with_room, page_step}
+use Rattle.file_calls.proofs.Paged.{TakesPage, with_room, page_refuses, page_step}
 
 -- a create leaves one index page more
 pub created_room : (g : Geometry) (name : List ℕ) (files : List File) → has_room g (created g name files) ≡ has_room_beside g files 1
@@ -80,6 +81,15 @@ unfolding answer answer_create done_steps
 creates_file g spare s name fine new = record { is = rw (fine, new) refl; reply_is = refl; table_is = refl; room_is = created_room g name s.table; step = refl }
 
 -- its step
+-- one that is refused, for its name or for its page
+pub create_refused : {D : Type 0} {nor : NorOf D} {g : Geometry} {old : D} {slots : List FdSlot} (name : List ℕ) → name_refusal name ≡ None → (why : FsErr) (s : State) → IsImageOf nor g old slots s →
+    IsNotNew g (nor.bytes old) name why → answer g (has_spare g (nor.bytes old)) s (Creates name) ≡ refused why s
+create_refused {D} {nor} {g} {old} name fine why s here stands = ⊎_elim
+    (λ taken. rw taken.0 (flat_conflicts g _ s name fine (ap (has_name name) here.table ∙ taken.1)))
+    (λ lack. page_refuses 1 (Creates name) Fine refl (created_as g name) (created g name (table_of g (nor.bytes old)))
+    (new_page name (Creates name) Fine refl (created_as g name) (λ t at. creates_file g _ t name fine (ap (has_name name) at.table ∙ lack.0))) s here lack.1)
+    stands
+
 pub created_step : {D : Type 0} {nor : NorOf D} {old : D} {slots : List FdSlot} (g : Geometry) (name : List ℕ) → name_refusal name ≡ None → (id : ℕ) → (nor.tells old → IsTidy g (nor.bytes old) → has_name name (table_of g (nor.bytes old)) ≡ false) →
     (nor.tells old → IsTidy g (nor.bytes old) → (page_lack g (nor.bytes old) 1 ≡ None) × (id ≡ least_id (table_of g (nor.bytes old)))) → IsStep nor g slots (Creates name) Fine (descriptors slots) old (with_room (creating id name))
 created_step {D} {nor} {old} {slots} g name fine id new prepared =

@@ -1,10 +1,12 @@
--- How many pages of each sort are live.
+-- How many pages of each sort are live, and how many blocks are free.
 use Rattle.std.specs.Prelude.{◌≡◌, ℕ, ◌+◌, List, ◌==◌, Option, Some, None, if◌then◌else◌}
 use Rattle.geometry.specs.declared.geometry.Geometry.{Geometry}
 use Rattle.page_layout.specs.declared.header.PageHeader.{PageHeader}
 use Rattle.page_layout.specs.Layout.{names_index}
 use Rattle.image_model.specs.Kinds.{live_index, live_data}
+use Rattle.image_model.specs.Tidy.{free_blocks}
 use Rattle.header_laws.specs.Sums.{live_heads}
+use Rattle.file_calls.specs.declared.live_pages.LivePages.{LivePages}
 use Rattle.file_calls.specs.declared.room.PageCounts.{PageCounts}
 
 -- the counts with an index page more, of span 0 or not, and with a data page more
@@ -24,3 +26,9 @@ pub record AreLive (g : Geometry) (image : List ℕ) (c : PageCounts) : Type 0 w
   pub heads : c.heads ≡ live_heads g image
   pub index : c.index_pages ≡ live_index g image
   pub pages : c.data_pages ≡ live_data g image
+
+-- the sums of the counts of all blocks are what the image holds
+pub record AreSums (g : Geometry) (image : List ℕ) (c : LivePages) : Type 0 where
+  pub index : c.index_pages ≡ live_index g image
+  pub pages : c.data_pages ≡ live_data g image
+  pub free : c.free_blocks ≡ free_blocks g image

@@ -1,5 +1,5 @@
 -- What stands against a new page, and against a new file.
-use Rattle.std.specs.Prelude.{◌≡◌, ℕ, ◌+◌, List, length, nat_le, Bool, true, false, not, nat_lt, Option, Some, None, Result, Ok, Err, if◌then◌else◌}
+use Rattle.std.specs.Prelude.{◌≡◌, ◌⊎◌, ℕ, ◌+◌, List, length, nat_le, Bool, true, false, not, nat_lt, Option, Some, None, Result, Ok, Err, if◌then◌else◌}
 use Rattle.geometry.specs.declared.geometry.Geometry.{Geometry}
 use Rattle.geometry.specs.Numbers.{ceil, entries}
 use Rattle.table_model.specs.declared.error.FsErr.{FsErr}
@@ -48,3 +48,12 @@ Prepares g image (Err why) = ¬ (why ≡ DeviceFault) → page_lack g image 1 �
 abbrev pub IsNewName : List ℕ → List File → Result (Unit {0}) FsErr → Type 0
 IsNewName name files (Ok done) = has_name name files ≡ false
 IsNewName name files (Err why) = ¬ (why ≡ DeviceFault) → (why ≡ ConflictingName) × (has_name name files ≡ true)
+
+-- Why there is no new file of a name: a file has it, or none has it and something stands against a page.
+abbrev pub IsNotNew : Geometry → List ℕ → (name : List ℕ) → FsErr → Type 0
+IsNotNew g image name why = ((why ≡ ConflictingName) × (has_name name (table_of g image) ≡ true)) ⊎ ((has_name name (table_of g image) ≡ false) × (page_lack g image 1 ≡ Some why))
+
+-- the id of a new file of a name that no file has, or why there is none
+abbrev pub PreparesNamed : Geometry → List ℕ → (name : List ℕ) → Result ℕ FsErr → Type 0
+PreparesNamed g image name (Ok id) = (has_name name (table_of g image) ≡ false) × Prepares g image (Ok id)
+PreparesNamed g image name (Err why) = ¬ (why ≡ DeviceFault) → IsNotNew g image name why

@@ -7,18 +7,19 @@ ghost use Rattle.table_model.specs.Ask.{Creates};
 ghost use Rattle.image_model.specs.Tables.{table_of};
 ghost use Rattle.image_model.specs.Tidy.{IsTidy};
 ghost use Rattle.fd_table.specs.declared.slot.FdSlot.{FdSlot};
-ghost use Rattle.file_calls.specs.Refusals.{page_lack, HasPage, Prepares, IsNewName};
-ghost use Rattle.file_calls.specs.Replies.{reply_of, MeetsPage, MeetsKnown};
+ghost use Rattle.file_calls.specs.Refusals.{page_lack, HasPage, Prepares, PreparesNamed, IsNewName};
+ghost use Rattle.file_calls.specs.Replies.{reply_of, may_meet, MeetsPage, MeetsKnown};
 ghost use Rattle.file_calls.specs.Goes.{Goes};
 
 use crate::Told;
 use crate::collecting::take_page;
+use crate::live_pages::live_pages;
 use crate::names::accept;
 use crate::room::has_room;
 use crate::steps::failed_as;
 use file_write::create_step;
 use flash_view::View;
-use free_search::{free_blocks, free_id};
+use free_search::{Naming, free_id, name_or_id};
 use header_laws::ids::names_are_told;
 use header_laws::room::ids_are_least;
 use nor_core::{Failed, Nor, NorState};
@@ -40,7 +41,7 @@ pub(crate) fn refuse_known<N: Nor>(v: &mut View<'_, N>, name: &[u8]) -> Result<(
 }
 
 // Why no index page is had for a call that leaves so many more of them, or nothing.
-#[tactic(auto, using(flash_view::proofs::Looking::looks_then, room_laws::proofs::Sorted::tidy_tells_free), unfolding(crate::specs::Refusals::page_lack))]
+#[tactic(auto, using(flash_view::proofs::Looking::looks_then), unfolding(crate::specs::Refusals::page_lack))]
 fn obstacle<N: Nor>(v: &mut View<'_, N>, more: u32) -> Result<Option<FsErr>, Failed>
     requires more { more ≤ 1 }
     ensures cause { OnErr result (Rose (N.faults v.old.nor.now) (N.faults v.new.nor.now)) }
@@ -49,10 +50,11 @@ fn obstacle<N: Nor>(v: &mut View<'_, N>, more: u32) -> Result<Option<FsErr>, Fai
     ensures among { IfOk result (λ found. IfSome found MeetsPage) }
     ensures told { N.tells v.old.nor.now → IsTidy v.old.geometry (N.bytes v.old.nor.now) → IfOk result (λ why. why ≡ page_lack v.old.geometry (N.bytes v.old.nor.now) more) }
 {
-    if free_blocks(v)? < 2 {
+    let live = live_pages(v)?;
+    if live.free_blocks < 2 {
         return Ok(Some(FsErr::Tight));
     }
-    if !has_room(v, more)? {
+    if !has_room(v, &live, more) {
         return Ok(Some(FsErr::Full));
     }
     Ok(None)
@@ -91,6 +93,30 @@ pub(crate) fn prepare<N: Nor>(v: &mut View<'_, N>) -> Result<u16, FsErr>
     }
 }
 
+/// The id of a new file of a name that no file has, or why there is none: its name, or that there is no page for it.
+#[tactic(auto, using(flash_view::proofs::Looking::looks_then))]
+fn new_id<N: Nor>(v: &mut View<'_, N>, name: &[u8]) -> Result<u16, FsErr>
+    ensures cause { IsErrOf result FsErr.DeviceFault → Rose (N.faults v.old.nor.now) (N.faults v.new.nor.now) }
+    ensures looks { OnlyLooks v.old v.new }
+    ensures id { IfOk result (λ id. (1 ≤ id) × (id ≤ usable v.old.geometry)) }
+    ensures among { IfErr result (λ why. may_meet (Creates name.now) why ≡ true) }
+    ensures told { N.tells v.old.nor.now → IsTidy v.old.geometry (N.bytes v.old.nor.now) → PreparesNamed v.old.geometry (N.bytes v.old.nor.now) name.now result }
+{
+    names_are_told();
+    ids_are_least();
+    match name_or_id(v, name) {
+        Err(Failed) => Err(FsErr::DeviceFault),
+        Ok(Naming::Taken) => Err(FsErr::ConflictingName),
+        Ok(Naming::Free(found)) => {
+            have_page(v, 1)?;
+            match found {
+                Some(id) => Ok(id),
+                None => Err(FsErr::Full),
+            }
+        }
+    }
+}
+
 /// Makes an empty file of a name.
 #[tactic(auto, using(flash_view::proofs::Looking::same_then, flash_view::proofs::Looking::same_none))]
 pub(crate) fn create_in<N: Nor>(v: &mut View<'_, N>, name: &[u8]) -> Result<Told, FsErr>
@@ -100,8 +126,7 @@ pub(crate) fn create_in<N: Nor>(v: &mut View<'_, N>, name: &[u8]) -> Result<Told
     ensures goes { (slots : List FdSlot) (into : List ℕ) → Goes N.NorState v.old.geometry (Creates name.now) v.old.nor.now v.new.nor.now slots slots v.new.wrote (reply_of result into) }
 {
     accept(name)?;
-    refuse_known(v, name)?;
-    let id = prepare(v)?;
+    let id = new_id(v, name)?;
     take_page(v)?;
     match create_step(v, id, name) {
         Ok(()) => Ok(Told::Done),

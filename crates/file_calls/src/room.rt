@@ -10,16 +10,14 @@ ghost use Rattle.file_calls.specs.Replies.{MeetsPage};
 ghost use Rattle.table_model.specs.Table.{File, put_file};
 ghost use Rattle.table_model.specs.Room.{has_room as the_room};
 ghost use Rattle.table_model.specs.Outcome.{page_refusal};
-ghost use Rattle.file_calls.specs.Pages.{with_page as the_page, AreLive};
+ghost use Rattle.file_calls.specs.Pages.{with_page as the_page, AreLive, AreSums};
 
-use crate::live_pages::live_pages;
+use crate::live_pages::{LivePages, live_pages};
 use flash_view::View;
-use free_search::free_blocks;
 use geometry::Geometry;
 use image_laws::counting::tidy_counts;
 use nor_core::{Failed, Nor, NorState};
-use page_layout::PageHeader;
-use page_renew::{data_pages, index_pages};
+use page_layout::{PageHeader, data_pages, index_pages};
 use table_model::FsErr;
 
 /// How many pages of each sort are live.
@@ -90,26 +88,24 @@ fn leaves_two(g: &Geometry, index_pages: u32, data_pages: u32) -> bool
     (index_pages + entries) / entries + (data_pages + entries) / entries + 2 <= g.blocks()
 }
 
-// Whether the table has room once a file of a size in bytes has another one.
-#[tactic(auto, using(flash_view::proofs::Looking::looks_then))]
-fn has_room_for<N: Nor>(v: &mut View<'_, N>, from: u32, to: u32) -> Result<bool, Failed>
-    ensures cause { OnErr result (Rose (N.faults v.old.nor.now) (N.faults v.new.nor.now)) }
-    ensures looks { OnlyLooks v.old v.new }
-    ensures told { N.tells v.old.nor.now → IsTidy v.old.geometry (N.bytes v.old.nor.now) →
-        (f new : File) → IsResized (table_of v.old.geometry (N.bytes v.old.nor.now)) from to f new → IfOk result (λ room. room ≡ the_room v.old.geometry (put_file new (table_of v.old.geometry (N.bytes v.old.nor.now)))) }
+// Whether the table has room once a file of a size in bytes has another one, by the sums of the blocks' counts.
+fn has_room_for<N: Nor>(v: &View<'_, N>, live: &LivePages, from: u32, to: u32) -> bool
+    requires index { live.now.index_pages ≤ 65535 }
+    requires pages { live.now.data_pages ≤ 65535 }
+    ensures { N.tells v.now.nor.now → IsTidy v.now.geometry (N.bytes v.now.nor.now) → AreSums v.now.geometry (N.bytes v.now.nor.now) live.now →
+        (f new : File) → IsResized (table_of v.now.geometry (N.bytes v.now.nor.now)) from to f new → result ≡ the_room v.now.geometry (put_file new (table_of v.now.geometry (N.bytes v.now.nor.now))) }
 {
-    let live = live_pages(v)?;
     tidy_counts();
     let g = v.geometry;
-    Ok(leaves_two(
+    leaves_two(
         &g,
         (live.index_pages + index_pages(&g, to)).saturating_sub(index_pages(&g, from)),
         (live.data_pages + data_pages(&g, to)).saturating_sub(data_pages(&g, from)),
-    ))
+    )
 }
 
 // Why the pages are not had for a file of a size in bytes that gets another one, or nothing.
-#[tactic(auto, using(flash_view::proofs::Looking::looks_then, room_laws::proofs::Sorted::tidy_tells_free), unfolding(table_model::specs::Outcome::page_refusal))]
+#[tactic(auto, using(flash_view::proofs::Looking::looks_then), unfolding(table_model::specs::Outcome::page_refusal))]
 fn obstacle_for<N: Nor>(v: &mut View<'_, N>, from: u32, to: u64) -> Result<Option<FsErr>, Failed>
     ensures cause { OnErr result (Rose (N.faults v.old.nor.now) (N.faults v.new.nor.now)) }
     ensures looks { OnlyLooks v.old v.new }
@@ -119,10 +115,11 @@ fn obstacle_for<N: Nor>(v: &mut View<'_, N>, from: u32, to: u64) -> Result<Optio
     ensures told { N.tells v.old.nor.now → IsTidy v.old.geometry (N.bytes v.old.nor.now) →
         (f new : File) → IsResized (table_of v.old.geometry (N.bytes v.old.nor.now)) from to f new → IfOk result (λ why. why ≡ page_refusal v.old.geometry (has_spare v.old.geometry (N.bytes v.old.nor.now)) (put_file new (table_of v.old.geometry (N.bytes v.old.nor.now)))) }
 {
-    if free_blocks(v)? < 2 {
+    let live = live_pages(v)?;
+    if live.free_blocks < 2 {
         return Ok(Some(FsErr::Tight));
     }
-    if to >= 0xFFFF_FFFF || !has_room_for(v, from, to as u32)? {
+    if to >= 0xFFFF_FFFF || !has_room_for(v, &live, from, to as u32) {
         return Ok(Some(FsErr::Full));
     }
     Ok(None)
@@ -145,15 +142,14 @@ pub fn have_room<N: Nor>(v: &mut View<'_, N>, from: u32, to: u64) -> Result<(), 
     }
 }
 
-// Whether the table has room with so many index pages more.
+// Whether the table has room with so many index pages more, by the sums of the blocks' counts.
 #[tactic(auto, unfolding(crate::specs::Refusals::has_room_beside))]
-pub(crate) fn has_room<N: Nor>(v: &mut View<'_, N>, more: u32) -> Result<bool, Failed>
+pub(crate) fn has_room<N: Nor>(v: &View<'_, N>, live: &LivePages, more: u32) -> bool
     requires more { more ≤ 1 }
-    ensures cause { OnErr result (Rose (N.faults v.old.nor.now) (N.faults v.new.nor.now)) }
-    ensures looks { OnlyLooks v.old v.new }
-    ensures told { N.tells v.old.nor.now → IsTidy v.old.geometry (N.bytes v.old.nor.now) → IfOk result (λ room. room ≡ has_room_beside v.old.geometry (table_of v.old.geometry (N.bytes v.old.nor.now)) more) }
+    requires index { live.now.index_pages ≤ 65535 }
+    requires pages { live.now.data_pages ≤ 65535 }
+    ensures { N.tells v.now.nor.now → IsTidy v.now.geometry (N.bytes v.now.nor.now) → AreSums v.now.geometry (N.bytes v.now.nor.now) live.now → result ≡ has_room_beside v.now.geometry (table_of v.now.geometry (N.bytes v.now.nor.now)) more }
 {
-    let live = live_pages(v)?;
     tidy_counts();
-    Ok(leaves_two(&v.geometry, live.index_pages + more, live.data_pages))
+    leaves_two(&v.geometry, live.index_pages + more, live.data_pages)
 }

@@ -1,4 +1,4 @@
-use Rattle.std.proofs.Common.{arith, rules}
+use Rattle.std.proofs.Common.{arith, rules, refl, ◌∙◌}
 use Rattle.flash_view.proofs.Looking.{looks_none, looks_then}
 use Rattle.block_gc.proofs.Chosen.{besting_start, besting_more, besting_end}
 use Rattle.block_gc.proofs.choice.all_bests.Goals as goal
@@ -6,6 +6,7 @@ use Rattle.block_gc.proofs.choice.all_bests.Goals as goal
 pub loop-block-init : goal.loop-block-init
 loop-block-init g c = record {
   looks = looks_none c.args.v.now;
+  quick = λ counted. refl;
   end = c.blocks-block-end.ensures;
   below = search rules;
   told = λ tells tidy totals next. besting_start c.args.v.now.geometry (g.N.NorState.bytes c.args.v.now.nor.now) _ c.blocks-block-end.ensures;
@@ -19,6 +20,7 @@ loop-block-preserved g c =
     let image = g.N.NorState.bytes c.args.v.now.nor.now in
     record {
       looks = looks_then was.looks looked.looks;
+      quick = λ counted. (looked.quick (was.looks.counted ∙ counted)).1 ∙ was.quick counted;
       end = was.end;
       below = rw was.looks.same.geometry at looked.below;
       told = λ tells tidy totals next.

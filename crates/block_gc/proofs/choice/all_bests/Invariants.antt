@@ -1,5 +1,5 @@
 -- The bests of the blocks so far.
-use Rattle.std.proofs.Common.{◌≡◌}
+use Rattle.std.proofs.Common.{◌≡◌, true}
 use Rattle.image_model.specs.Tidy.{IsTidy}
 use Rattle.image_model.specs.Places.{next_count}
 use Rattle.flash_view.specs.Same.{OnlyLooks}
@@ -11,6 +11,7 @@ use Rattle.block_gc.proofs.choice.all_bests.Given as goal
 abbrev pub invariant-loop-block : goal.invariant-loop-block
 invariant-loop-block g l = record {
   looks : OnlyLooks l.fn.v l.v;
+  quick : l.fn.v.counted ≡ true → l.v.nor.now ≡ l.fn.v.nor.now;
   end : l.block-end ≡ l.fn.v.geometry.blocks;
   below : AreBelow l.fn.v.geometry.blocks l.bests;
   told :

@@ -1,4 +1,4 @@
-use Rattle.std.proofs.Common.{refl, arith, rules}
+use Rattle.std.proofs.Common.{refl, arith, rules, ◌∙◌}
 use Rattle.geometry.specs.Numbers.{per_block, lookups, entries}
 use Rattle.flash_view.proofs.Looking.{looks_none, looks_then}
 use Rattle.flash_view.specs.Counts.{AreCounts}
@@ -10,6 +10,7 @@ pub loop-block-init : goal.loop-block-init
 unfolding per_block lookups entries
 loop-block-init g c = record {
   looks = looks_none c.args.v.now;
+  quick = λ counted. refl;
   entries_is = c.entries-entries.ensures.count;
   end = c.blocks-block-end.ensures;
   few = search rules;
@@ -24,6 +25,7 @@ loop-block-preserved g c =
     let image = g.N.NorState.bytes c.args.v.now.nor.now in
     record {
       looks = looks_then was.looks looked.looks;
+      quick = λ counted. (looked.quick (was.looks.counted ∙ counted)).1 ∙ was.quick counted;
       entries_is = was.entries_is;
       end = was.end;
       few = rw c.both-all.ensures (most_more c.loop-block.block c.loop-block.all c.room_of-own.result was.few c.room_of-own.ensures.small);

@@ -1,5 +1,5 @@
 -- The blocks so far, and those to come.
-use Rattle.std.proofs.Common.{◌≡◌, ◌*◌}
+use Rattle.std.proofs.Common.{◌≡◌, ◌*◌, true}
 use Rattle.geometry.specs.Numbers.{entries}
 use Rattle.image_model.specs.Tidy.{IsTidy}
 use Rattle.flash_view.specs.Same.{OnlyLooks}
@@ -10,6 +10,7 @@ use Rattle.block_gc.proofs.totals.totals.Given as goal
 abbrev pub invariant-loop-block : goal.invariant-loop-block
 invariant-loop-block g l = record {
   looks : OnlyLooks l.fn.v l.v;
+  quick : l.fn.v.counted ≡ true → l.v.nor.now ≡ l.fn.v.nor.now;
   entries_is : l.entries ≡ entries l.fn.v.geometry;
   end : l.block-end ≡ l.fn.v.geometry.blocks;
   few : AtMost (65535 * l.block) l.all;

@@ -11,6 +11,7 @@ invariant-loop-block g l = record {
   end : l.block-end ≡ l.fn.v.geometry.blocks;
   few_index : l.live.index_pages ≤ 65535;
   few_pages : l.live.data_pages ≤ 65535;
+  few_free : l.live.free_blocks ≤ l.block;
   told :
       (let image = g.N.NorState.bytes l.fn.v.nor.now in
       g.N.NorState.tells l.fn.v.nor.now → IsTidy l.fn.v.geometry image → Living l.fn.v.geometry image l.block l.block-end l.live);
