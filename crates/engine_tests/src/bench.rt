@@ -1,7 +1,7 @@
 //! Devices in memory, and what is asked of the engine on them.
 ghost use Rattle.std.specs.Prelude.{◌<◌};
 
-use block_gc::{RoomErr, are_had, choose, clean, compact, is_stuck, make_room, score};
+use block_gc::{RoomErr, choose, clean, compact, is_ready, is_stuck, make_room, score};
 use fd_table::FdSlot;
 use flash_view::{Kind, StepErr, View};
 use free_search::{counts, free_page, next_count};
@@ -20,7 +20,7 @@ pub(crate) enum Ask<'a> {
     /// Whether collection is stuck.
     Stuck,
     /// Whether so many index pages and data pages are had.
-    Had(u32, u32),
+    Ready(u32, u32),
     /// The page for the next one of a kind, where a free block is taken only if more are free, and one is never chosen.
     Page(Kind, u32, Option<u16>),
     /// The score of a block.
@@ -132,7 +132,7 @@ fn ask_view(v: &mut View<'_, MemBoard>, ask: &Ask<'_>) -> Answer {
             Err(Failed) => Answer::Fault,
         },
         Ask::Stuck => told(is_stuck(v)),
-        Ask::Had(index, data) => told(are_had(v, index, data)),
+        Ask::Ready(index, data) => told(is_ready(v, index, data)),
         Ask::Page(kind, keep, not_in) => match free_page(v, kind, keep, not_in) {
             Ok(page) => Answer::Page(page),
             Err(Failed) => Answer::Fault,

@@ -22,8 +22,8 @@ fn looks(alloc: Global, g: &Geometry, image: &[u8]) -> Result<Vec<(Ask<'static>,
     asks.push((Ask::Choose, Answer::Block(next_block(alloc, g, image)?)))?;
     asks.push((Ask::Stuck, Answer::Is(is_stuck(g, image))))?;
     for (index, data) in [(0, 0), (1, 1), (3, 9), (15, 2), (40, 40)] {
-        let had = are_had(g, image, index, data);
-        asks.push((Ask::Had(index, data), Answer::Is(had)))?;
+        let ready = has_room(g, image, index, data);
+        asks.push((Ask::Ready(index, data), Answer::Is(ready)))?;
     }
     for block in 0..g.blocks() {
         let score = score(g, image, block);

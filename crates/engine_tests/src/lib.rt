@@ -23,6 +23,8 @@ mod hand;
 #[cfg(test)]
 mod pages;
 #[cfg(test)]
+mod rows;
+#[cfg(test)]
 mod shapes;
 #[cfg(test)]
 mod space;

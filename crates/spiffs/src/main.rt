@@ -42,8 +42,8 @@ const SLOTS: usize = 16;
 /// The least bytes of cache that are lent.
 const LEAST_CACHE: usize = 262_144;
 
-/// The most bytes of cache that are lent.
-const MOST_CACHE: usize = 67_108_864;
+/// The most bytes of cache that are lent: enough for 65,535 pages of 4,096 bytes.
+const MOST_CACHE: usize = 301_989_888;
 
 /// Bytes of check that are lent.
 const CHECK: usize = 131_072;
@@ -240,9 +240,17 @@ fn tell(rt: &(impl Print + Eprint), text: &str, status: u8) -> u8 {
     }
 }
 
+// Takes the memory, with the least cache where the host has none for a frame of each page.
+fn take_memory(rt: &HostRuntime, words: &[String]) -> Result<Memory, AllocError> {
+    match Memory::new(rt.alloc(), cache_for(chip_size_of(words, 1))) {
+        Ok(memory) => Ok(memory),
+        Err(_) => Memory::new(rt.alloc(), LEAST_CACHE),
+    }
+}
+
 // Takes the memory, and runs the command.
 fn begin(rt: &HostRuntime, words: &[String]) -> Result<u8, Refusal> {
-    let mut memory = Memory::new(rt.alloc(), cache_for(chip_size_of(words, 1)))?;
+    let mut memory = take_memory(rt, words)?;
     run(rt, words, &mut memory)
 }
 
