@@ -1,4 +1,4 @@
-"""Images of volumes with pages of 256 bytes and blocks of 4,096, made by hand."""
+"""Images of volumes, made by hand: with pages of 256 bytes and blocks of 4,096, if nothing else is said."""
 
 PAGE, BLOCK = 256, 4096
 PER_BLOCK = BLOCK // PAGE
@@ -21,12 +21,12 @@ def index_pages(count):
 class Image:
     """An image of a volume that is filled page by page."""
 
-    def __init__(self, blocks):
+    def __init__(self, blocks, page=PAGE, size=BLOCK):
         self.blocks = blocks
-        self.bytes = bytearray(b"\xff" * (blocks * BLOCK))
+        self.bytes = bytearray(b"\xff" * (blocks * size))
         for block in range(blocks):
-            magic = (0x0529 ^ PAGE ^ (blocks - block)) & 0xFFFF
-            end = block * BLOCK + LOOKUPS * PAGE
+            magic = (0x0529 ^ page ^ (blocks - block)) & 0xFFFF
+            end = block * size + LOOKUPS * page
             self.bytes[end - 4 : end] = word(magic) + word(0)
 
     def put(self, page, entry, content):
@@ -56,15 +56,16 @@ def blocks_for(files, each):
     return -(-files * index_pages(each) // ENTRIES), -(-files * each // ENTRIES)
 
 
-def filled(blocks, files, each):
+def filled(blocks, files, each, index_at="spread"):
     """The image of a volume of so many files of so many data pages, named file1, file2 and so on, and the lines of its
     listing. The blocks of index pages lie spread among those of data pages, as on a volume that has been written for long,
-    and the blocks behind them are free, two at least."""
+    or "first", before these, or "last", behind them; the blocks behind all are free, two at least."""
     image = Image(blocks)
     count, rest = blocks_for(files, each)
     used = count + rest
     assert used <= blocks - 2
-    index_blocks = [i * used // count for i in range(count)]
+    places = {"spread": [i * used // count for i in range(count)], "first": range(count), "last": range(used - count, used)}
+    index_blocks = places[index_at]
     index = pages_of(index_blocks)
     data = pages_of(sorted(set(range(used)) - set(index_blocks)))
     lines = []
