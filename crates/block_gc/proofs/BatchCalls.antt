@@ -1,6 +1,10 @@
 -- A batch that is moved: where nothing is programmed yet, and its steps one after the other.
-use Rattle.std.proofs.Common.{◌≡◌, ◌≢◌, ℕ, ◌+◌, ◌<◌, ◌≤◌, List, [], ◌∷◌, ◌++◌, length, reverse, take, Option, Some, None, refl, sym, ◌∙◌, ap, subst, arith, ⊎_elim}
-use Rattle.std.specs.Prelude.{All, IsSome}
+use Rattle.std.proofs.Common.{◌≡◌, ◌≢◌, ℕ, ◌+◌, ◌<◌, ◌≤◌, List, [], ◌∷◌, ◌++◌, length, reverse, take, Option, Some, None, refl, sym, ◌∙◌, ap, subst, arith, ⊎_elim, inl, inr, ◌⊎◌, ◌*◌, true, false, Bool, ◌||◌}
+use Rattle.std.specs.Prelude.{All, IsSome, min}
+use Rattle.std.proofs.lemmas.Bool.{cases_eq, eq-eqb}
+use Rattle.geometry.specs.Numbers.{per_block, lookups, entries}
+use Rattle.image_model.specs.Within.{entry_of_block}
+use Rattle.image_laws.proofs.Frames.{live_parts}
 use Rattle.std.proofs.lemmas.List.Elements.{All-append}
 use Rattle.std.proofs.lemmas.List.{length-map, length-reverse, reverse-append, take_all}
 use Rattle.geometry.specs.declared.geometry.Geometry.{Geometry}
@@ -18,7 +22,7 @@ use Rattle.page_renew.specs.Built.{IsNamed}
 use Rattle.block_gc.specs.Turns.{TurnCut}
 use Rattle.block_gc.specs.declared.batch.Batch.{Batch}
 use Rattle.block_gc.specs.declared.batch.Carried.{Carried}
-use Rattle.block_gc.specs.Batches.{move_of, moves_of, AreEntries, HasMore, IsOfBatch, Carries, CanCarry, CanCarryTo, CarriesTo, carrying_to, carrying, carrying_turn, carrying_rest, carrying_all, AreNamed}
+use Rattle.block_gc.specs.Batches.{move_of, moves_of, are_from, AreEntries, HasMore, IsOfBatch, Carries, CanCarry, CanCarryTo, CarriesTo, carrying_to, carrying, carrying_turn, carrying_rest, carrying_all, AreNamed}
 use Rattle.block_gc.proofs.BatchCopies.{carrying_cut, named_moves}
 
 -- where nothing more is programmed the image recovers
@@ -57,12 +61,39 @@ carry_ends g was image block most batch old new q to span is can = record {
 
 -- ---- the pages behind the first one
 
--- nothing is carried in the turn of a page
-pub turn_idle : (g : Geometry) (was image : List ℕ) (block most : ℕ) (batch : Batch) (page q : ℕ) (cs : List Carried) → CarriesTo g was block most batch page q cs image → CarriesTo g was block most batch page (q + 1) cs image
-turn_idle g was image block most batch page q cs to = record { so_far = to.so_far; begun = to.begun; behind = λ r above next. to.behind r above (omega (arith, next)) }
+from_this : (cs : List Carried) (c : Carried) (r : ℕ) → r ≡ c.from → are_from (c ∷ cs) r ≡ true
+from_this cs c r is = rw (eq-eqb r c.from is) (or_true (are_from cs r))
+  where
+    or_true : (x : Bool) → (x || true) ≡ true
+    or_true true = refl
+    or_true false = refl
+
+-- one more page had its turn
+full_on : (g : Geometry) (was : List ℕ) (block most : ℕ) (batch : Batch) (page q r span : ℕ) (cs : List Carried) → ((span : ℕ) → block_of g q ≡ block → page < q → IsOfBatch g was batch q span → (are_from cs q ≡ true) ⊎ (min 64 most ≤ length cs)) →
+    ((span : ℕ) → block_of g r ≡ block → page < r → r < q → IsOfBatch g was batch r span → (are_from cs r ≡ true) ⊎ (min 64 most ≤ length cs)) →
+    block_of g r ≡ block → page < r → r < q + 1 → IsOfBatch g was batch r span → (are_from cs r ≡ true) ⊎ (min 64 most ≤ length cs)
+full_on g was block most batch page q r span cs this before here above next of = ⊎_elim
+    (λ (same : r ≡ q). subst (λ (k : ℕ). block_of g k ≡ block → page < k → IsOfBatch g was batch k span → (are_from cs k ≡ true) ⊎ (min 64 most ≤ length cs)) (sym same) (this span) here above of)
+    (λ (other : r ≡ q → ⊥). before span here above (omega (arith, next, other)) of)
+    (cases_eq r q)
+
+-- nothing is carried in the turn of a page that isn't of the batch, or where this is as long as it may be
+pub turn_idle : (g : Geometry) (was image : List ℕ) (block most : ℕ) (batch : Batch) (page q : ℕ) (cs : List Carried) →
+    ((span : ℕ) → block_of g q ≡ block → page < q → IsOfBatch g was batch q span → (are_from cs q ≡ true) ⊎ (min 64 most ≤ length cs)) →
+    CarriesTo g was block most batch page q cs image → CarriesTo g was block most batch page (q + 1) cs image
+turn_idle g was image block most batch page q cs this to = record {
+  so_far = to.so_far;
+  begun = to.begun;
+  behind = λ r above next. to.behind r above (omega (arith, next));
+  full = λ r span here above next of. full_on g was block most batch page q r span cs this (λ s. to.full r s) here above next of;
+}
+
+-- a page of the batch is one still
+pub of_still : (g : Geometry) (was image : List ℕ) (block most : ℕ) (batch : Batch) (cs : List Carried) → Carries g was block most batch cs image → (q span : ℕ) → IsOfBatch g was batch q span → IsOfBatch g image batch q span
+of_still g was image block most batch cs c q span of = record { page = of.page; live = c.beside.stays q of.page of.live; kind = of.kind; id = of.id; is_span = of.is_span; at = of.at }
 
 -- a live page of the block was live before
-live_was : (g : Geometry) (was image : List ℕ) (block most : ℕ) (batch : Batch) (cs : List Carried) → Carries g was block most batch cs image → (q : ℕ) (x : List ℕ) → block_of g q ≡ block → live_at g image q ≡ Some x → live_at g was q ≡ Some x
+pub live_was : (g : Geometry) (was image : List ℕ) (block most : ℕ) (batch : Batch) (cs : List Carried) → Carries g was block most batch cs image → (q : ℕ) (x : List ℕ) → block_of g q ≡ block → live_at g image q ≡ Some x → live_at g was q ≡ Some x
 live_was g was image block most batch cs c q x at live = ⊎_elim
     (λ (before : live_at g was q ≡ Some x). before)
     (λ (come : HasCome g was (moves_of cs) q x).
@@ -89,6 +120,14 @@ module _ (g : Geometry) (was image : List ℕ) (block most : ℕ) (batch : Batch
         begun = rw is (rw to.begun refl);
         behind = λ r above next. subst (λ (cs : List Carried). All (λ (d : Carried). r ≢ d.from) cs) (sym is)
             (all_cons (λ (d : Carried). r ≢ d.from) more.more (reverse old) (λ e. let f = more.from in omega (arith, e, f, next)) (to.behind r above (omega (arith, next))));
+        full = λ r span here above next of. subst (λ (cs : List Carried). (are_from cs r ≡ true) ⊎ (min 64 most ≤ length cs)) (sym is)
+            (full_on g was block most batch page q r span (more.more ∷ reverse old)
+            (λ s at beyond one. inl (from_this (reverse old) more.more q (sym more.from)))
+            (λ s at beyond below one. ⊎_elim
+            (λ (had : are_from (reverse old) r ≡ true). inl (rw had refl))
+            (λ (long : min 64 most ≤ length (reverse old)). inr (omega (arith, long)))
+            (to.full r s at beyond below one))
+            here above next of);
       }
 
   pub turn_ends : (new : List Carried) (span : ℕ) → block_of g q ≡ block → page < q → length old < most → IsOfBatch g image batch q span →
@@ -124,9 +163,19 @@ names_on g plain xs i c mid new is named one = subst (λ (cs : List Carried). Ar
 
 -- ---- all pages behind the first one
 
+-- a page of the batch is one of the block's entry pages
+entries_of : (g : Geometry) (was : List ℕ) (block : ℕ) (batch : Batch) (r span : ℕ) → block_of g r ≡ block → IsOfBatch g was batch r span → (block * per_block g + lookups g ≤ r) × (r < block * per_block g + lookups g + entries g)
+entries_of g was block batch r span here of = rw here at (entry_of_block g r (live_parts g was r of.page of.live).entry_page)
+
 -- what a loop over them begins with
-pub rest_begins : (g : Geometry) (was image : List ℕ) (block most : ℕ) (batch : Batch) (page next : ℕ) (cs : List Carried) → CarriesTo g was block most batch page 0 cs image → CarriesTo g was block most batch page next cs image
-rest_begins g was image block most batch page next cs to = record { so_far = to.so_far; begun = to.begun; behind = λ r above from. to.behind r above (omega arith) }
+pub rest_begins : (g : Geometry) (was image : List ℕ) (block most : ℕ) (batch : Batch) (page next : ℕ) (cs : List Carried) → next ≤ block * per_block g + lookups g → CarriesTo g was block most batch page 0 cs image →
+    CarriesTo g was block most batch page next cs image
+rest_begins g was image block most batch page next cs first to = record {
+  so_far = to.so_far;
+  begun = to.begun;
+  behind = λ r above from. to.behind r above (omega arith);
+  full = λ r span here above before of. let w = entries_of g was block batch r span here of in absurd (omega (arith, w.0, before, first));
+}
 
 pub rest_begin : (g : Geometry) (was image : List ℕ) (block most : ℕ) (batch : Batch) (page next more : ℕ) (old mid new : List Carried) → CarriesTo g was block most batch page 0 (reverse old) image →
     Begins g image (carrying_rest was block most batch old mid page next) (carrying_rest was block most batch old new page more)
@@ -146,9 +195,17 @@ pub rest_pass : (g : Geometry) (was image : List ℕ) (block most : ℕ) (batch 
     Begins g image (carrying_rest was block most batch old new page next) (carrying_all was block most batch old last page)
 rest_pass g was image block most batch page next old new last need = record { needs = need; cut = λ c cut. cut }
 
-pub rest_ends : (g : Geometry) (was image : List ℕ) (block most : ℕ) (batch : Batch) (page next : ℕ) (old new : List Carried) → CarriesTo g was block most batch page 0 (reverse old) image →
+pub rest_ends : (g : Geometry) (was image : List ℕ) (block most : ℕ) (batch : Batch) (page next : ℕ) (old new : List Carried) → block * per_block g + lookups g + entries g ≤ next → CarriesTo g was block most batch page 0 (reverse old) image →
     Finishes g image image (carrying_rest was block most batch old new page next) (carrying_all was block most batch old new page)
-rest_ends g was image block most batch page next old new need = record { needs = need; cut = λ c cut. cut; done = λ c ok done. record { so_far = done.so_far; begun = done.begun } }
+rest_ends g was image block most batch page next old new all need = record {
+  needs = need;
+  cut = λ c cut. cut;
+  done = λ c ok done. record {
+    so_far = done.so_far;
+    begun = done.begun;
+    full = λ r span here above of. let w = entries_of g was block batch r span here of in done.full r span here above (omega (arith, w.1, all)) of;
+  };
+}
 
 -- none is left where none was popped
 pub none_left : (xs : List Carried) (o : Option Carried) → o ≡ None → (0 < length xs → IsSome o) → xs ≡ []

@@ -1,8 +1,7 @@
 -- The old pages of a batch are killed, from what each kill leaves.
-use Rattle.std.proofs.Common.{◌≡◌, ◌≢◌, ℕ, List, [], ◌∷◌, true, false, not, ◌==◌, ◌&&◌, Option, Some, None, ap, refl, sym, ◌∙◌, arith, ⊎_elim, inl, inr}
+use Rattle.std.proofs.Common.{◌≡◌, ◌≢◌, ℕ, List, [], ◌∷◌, true, false, not, ◌==◌, ◌&&◌, ◌||◌, Bool, Some, None, ap, refl, sym, ◌∙◌, arith, ⊎_elim, inl, inr}
 use Rattle.std.specs.Prelude.{All, Contains, is_some}
-use Rattle.std.proofs.lemmas.Bool.{cases_eq, and_parts, or_cases, eqb-true, ne_eqb}
-use Rattle.std.proofs.lemmas.Option.{none-some}
+use Rattle.std.proofs.lemmas.Bool.{cases_eq, cases_Bool, and_parts, or_cases, eqb-true, eq-eqb, ne_eqb, false_from_ne_true}
 use Rattle.geometry.specs.declared.geometry.Geometry.{Geometry}
 use Rattle.flash_view.specs.Steps.{Finishes}
 use Rattle.image_model.specs.Live.{live_at}
@@ -24,9 +23,32 @@ use Rattle.room_laws.proofs.OnTheWay.{all_at, all_cons, all_from, all_head, all_
 use Rattle.page_put.specs.LivePages.{killing}
 use Rattle.block_gc.specs.Turns.{TurnCut, TurnDone}
 use Rattle.block_gc.specs.declared.batch.Carried.{Carried}
-use Rattle.block_gc.specs.Batches.{move_of, moves_of, are_from, IsLeft, Drops, dropping}
+use Rattle.block_gc.specs.Batches.{move_of, moves_of, are_from, IsLeft, HaveGone, Drops, dropping}
 use Rattle.block_gc.proofs.BatchRenews.{mapped}
 use Rattle.block_gc.proofs.Replacing.{flags_stay, kill_left}
+
+no_or : (x : Bool) → (x || true) ≡ false → ⊥
+no_or true e = absurd (cc)
+no_or false e = absurd (cc)
+
+-- none went where all are left
+pub none_gone : (g : Geometry) (cs : List Carried) (image : List ℕ) → HaveGone g cs cs image image
+none_gone g cs image = record { among = λ r e. e; gone = λ r e. inl e; others = λ r e. refl }
+
+pub gone_then : (g : Geometry) (from mid left : List Carried) (a b c : List ℕ) → HaveGone g from mid a b → HaveGone g mid left b c → HaveGone g from left a c
+gone_then g from mid left a b c first second = record {
+  among = λ r e. first.among r (second.among r e);
+  gone = λ r e. ⊎_elim
+      (λ (in_mid : are_from mid r ≡ true). second.gone r in_mid)
+      (λ (out : are_from mid r ≡ false). ⊎_elim
+      (λ (in_mid : are_from mid r ≡ true). second.gone r in_mid)
+      (λ (dead : live_at g b r ≡ None). inr (second.others r out ∙ dead))
+      (first.gone r e))
+      (cases_Bool (are_from mid r));
+  others = λ r e.
+      let out : are_from mid r ≡ false = false_from_ne_true _ (λ is. let f = first.among r is in let bad : true ≡ false = sym f ∙ e in absurd (cc)) in
+      second.others r out ∙ first.others r e;
+}
 
 -- what a cut leaves while they are killed
 dropped_cut : (g : Geometry) (was image : List ℕ) (block most page : ℕ) (left : List Carried) (d : Drops g was block most page left image) (c : List ℕ) → Keeps g was c → OnWay g (d.index ∷ d.moves) was c → IsBatch g was c d.index d.moves →
@@ -118,11 +140,21 @@ module _ (g : Geometry) (was image : List ℕ) (block most page : ℕ) (x : Carr
         tails = λ j ready. tail-dropped g image b x.from one.old one.live one.kind kill j (d.tails j ready);
       }
 
+  killed_one : (b : List ℕ) → KillDone g x.from image b → HaveGone g (x ∷ left) left image b
+  killed_one b kill = record {
+    among = λ r e. rw e refl;
+    gone = λ r e. ⊎_elim
+        (λ (rest : are_from left r ≡ true). inl rest)
+        (λ (here : (r == x.from) ≡ true). inr (ap (live_at g b) (eqb-true r x.from here) ∙ kill.loses.after))
+        (or_cases (are_from left r) (r == x.from) e);
+    others = λ r e. kill.loses.others r (λ same. (let bad = rw (eq-eqb r x.from same) at e in no_or (are_from left r) bad));
+  }
+
   pub drop_kills : Finishes g image image (killing x.from) (dropping was block most page x left)
   drop_kills = record {
     needs = record { live = ap is_some one.live; byte = one.flags };
     cut = λ c kill. kill_left_cut c kill;
-    done = λ c ok kill. kill_done c kill;
+    done = λ c ok kill. (kill_done c kill, killed_one c kill);
   }
 
 -- ---- with none left the turn is done
@@ -134,27 +166,23 @@ module _ (g : Geometry) (was image : List ℕ) (block most page : ℕ) (d : Drop
   on_way : IsOnWay g (d.index ∷ d.moves) was image
   on_way = record { moves_are = d.are; way = d.way; table = d.keeps.table }
 
-  -- no page of the block is live that wasn't
-  others_dead : (q : ℕ) → block_of g q ≡ block → live_at g was q ≡ None → live_at g image q ≡ None
-  others_dead q here dead = by (live_at g image q) refl
+  -- a live page of the block was live before
+  others_alive : (q : ℕ) (x : List ℕ) → block_of g q ≡ block → live_at g image q ≡ Some x → live_at g was q ≡ Some x
+  others_alive q x here e = ⊎_elim
+      (λ (before : live_at g was q ≡ Some x). before)
+      (λ (come : HasCome g was (d.index ∷ d.moves) q x). absurd (all_at (λ (m : Move). block_of g m.to ≢ block) (d.index ∷ d.moves) come.move outside come.one (ap (λ (p : ℕ). block_of g p) come.at ∙ here)))
+      (d.way.live q x e)
     where
       outside : All (λ (m : Move). block_of g m.to ≢ block) (d.index ∷ d.moves)
       outside = all_cons (λ (m : Move). block_of g m.to ≢ block) d.index d.moves d.place.apart
           (all_from (λ (m : Move). block_of g m.to ≢ block) d.moves (λ m has. (all_at (IsOut g block (sort_at g was)) d.moves m (outs g block (sort_at g was) d.moves d.ways) has).apart))
-
-      by : (x : Option (List ℕ)) → live_at g image q ≡ x → live_at g image q ≡ None
-      by None e = e
-      by (Some x) e = absurd (⊎_elim
-          (λ (before : live_at g was q ≡ Some x). none-some x (sym dead ∙ before))
-          (λ (come : HasCome g was (d.index ∷ d.moves) q x). all_at (λ (m : Move). block_of g m.to ≢ block) (d.index ∷ d.moves) come.move outside come.one (ap (λ (p : ℕ). block_of g p) come.at ∙ here))
-          (d.way.live q x e))
 
   pub drops_end : TurnDone g block page was image
   drops_end = record {
     keeps = d.keeps;
     can = record { tidy = tidy; places = (batch_goes_on g was was image block d.index d.moves d.low (begins_between g was block d.is d.can.tidy d.low) d.can.places d.ways d.some d.out d.place d.batch on_way tidy d.index_gone).1 };
     gone = ⊎_elim (λ (left : are_from [] page ≡ true). let bad : false ≡ true = left in absurd (cc)) (λ (dead : live_at g image page ≡ None). dead) d.gone;
-    others = others_dead;
+    others = others_alive;
     between = λ first so_far. (batch_goes_on g first was image block d.index d.moves d.low so_far d.can.places d.ways d.some d.out d.place d.batch on_way tidy d.index_gone).0;
     tails = d.tails;
   }

@@ -1,5 +1,5 @@
 -- A batch that is moved, by its steps: all pages are carried, the index page is renewed, and the old pages are killed.
-use Rattle.std.proofs.Common.{◌≡◌, ◌≢◌, ℕ, ◌<◌, ◌≤◌, List, [], ◌∷◌, ◌++◌, reverse, false, Option, Some, refl, sym, ◌∙◌, ap, subst, arith}
+use Rattle.std.proofs.Common.{◌≡◌, ◌≢◌, ℕ, ◌<◌, ◌≤◌, List, [], ◌∷◌, ◌++◌, reverse, true, false, Option, Some, None, refl, sym, ◌∙◌, ap, subst, arith, ⊎_elim, ◌+◌, ◌*◌, Result, Ok, Err, OnOk}
 use Rattle.std.specs.Prelude.{All}
 use Rattle.std.proofs.lemmas.Bool.{eq-eqb}
 use Rattle.geometry.specs.declared.geometry.Geometry.{Geometry}
@@ -20,9 +20,9 @@ use Rattle.page_renew.proofs.Homes.{Home, home_of, index_some}
 use Rattle.block_gc.specs.Turns.{CanMoveBatch, moving_batch}
 use Rattle.block_gc.specs.declared.batch.Batch.{Batch}
 use Rattle.block_gc.specs.declared.batch.Carried.{Carried}
-use Rattle.block_gc.specs.Batches.{IsNamedBy, IsFoundFor, are_to, HasMore, IsCarried, StandsBeside, Carries, CanCarry, CarriesAll, Drops, carrying, carrying_all, renaming, dropping, dropping_all, ending_batch, CanMoveFrom, carrying_batch, moving_from}
+use Rattle.block_gc.specs.Batches.{IsNamedBy, IsFoundFor, are_to, HasMore, IsCarried, StandsBeside, Carries, CanCarry, are_from, CarriesAll, Drops, HaveGone, StaysIn, carrying, carrying_all, renaming, dropping, dropping_all, ending_batch, CanMoveFrom, carrying_batch, moving_from}
 use Rattle.block_gc.proofs.BatchCalls.{one_more}
-use Rattle.block_gc.proofs.BatchDrops.{drops_end}
+use Rattle.block_gc.proofs.BatchDrops.{drops_end, gone_then}
 use Rattle.block_gc.proofs.BatchCopies.{some_data}
 use Rattle.block_gc.proofs.IndexOut.{block_low}
 use Rattle.block_gc.proofs.Replacing.{tidy_keeps}
@@ -85,10 +85,16 @@ module _ (g : Geometry) (was : List ℕ) (block most : ℕ) (batch : Batch) (pag
           begun = rw is (rw (eq-eqb page more.more.from from) refl);
           behind = λ r above next. subst (λ (cs : List Carried). All (λ (d : Carried). r ≢ d.from) cs) (sym is)
               (all_cons (λ (d : Carried). r ≢ d.from) more.more [] (λ e. let f = more.from in omega (arith, e, f, above)) (all_nil (λ (d : Carried). r ≢ d.from)));
+          full = λ r span here above before of. absurd (omega (arith, before));
         };
     cut = λ c cut. cut;
     done = λ c ok all. all;
   }
+
+-- the programs of the first page and of those behind it
+pub carried_on : {T E : Type 0} (r : Result T E) (first mid last m n : ℕ) → OnOk r (last + 4 * m ≤ mid + 4 * n) → mid ≤ first + 4 * m → OnOk r (last ≤ first + 4 * n)
+carried_on (Ok x) first mid last m n rest one = omega (arith, rest, one)
+carried_on (Err e) first mid last m n rest one = tt
 
 -- ---- and ends
 
@@ -96,12 +102,18 @@ pub ending_begins : (g : Geometry) (was image : List ℕ) (block most : ℕ) (ba
     Begins g image (renaming was block most batch page (reverse ys)) (ending_batch was block most batch page (reverse xs))
 ending_begins g was image block most batch page xs ys is all = record { needs = subst (λ (zs : List Carried). CarriesAll g was block most batch page (reverse zs) image) (sym is) all; cut = λ c cut. cut }
 
-pub ending_then : (g : Geometry) (was image b : List ℕ) (block most : ℕ) (batch : Batch) (page : ℕ) (xs ys : List Carried) → ys ≡ xs → Drops g was block most page (reverse ys) b →
+pub ending_then : (g : Geometry) (was image b : List ℕ) (block most : ℕ) (batch : Batch) (page : ℕ) (xs ys : List Carried) → ys ≡ xs → Drops g was block most page (reverse ys) b × StaysIn g block image b →
     Finishes g image b (dropping_all was block most page (reverse xs) []) (ending_batch was block most batch page (reverse xs))
 ending_then g was image b block most batch page xs ys is drops = record {
-  needs = subst (λ (zs : List Carried). Drops g was block most page (reverse zs) b) is drops;
+  needs = subst (λ (zs : List Carried). Drops g was block most page (reverse zs) b) is drops.0;
   cut = λ c cut. cut;
-  done = λ c ok done. drops_end g was c block most page done;
+  done = λ c ok done. (
+    drops_end g was c block most page done.0,
+    record {
+      gone = λ r here e. ⊎_elim (λ (left : are_from [] r ≡ true). let bad : false ≡ true = left in absurd (cc)) (λ (dead : live_at g c r ≡ None). dead) (done.1.gone r e);
+      others = λ r here e. done.1.others r e ∙ drops.1 r here;
+    },
+  );
 }
 
 pub from_begins : (g : Geometry) (was : List ℕ) (block most : ℕ) (batch : Batch) (page span : ℕ) (new : List Carried) → CanMoveFrom g was block most batch page span →
@@ -110,19 +122,21 @@ from_begins g was block most batch page span new can = record { needs = can; cut
 
 pub from_then : (g : Geometry) (was b : List ℕ) (block most : ℕ) (batch : Batch) (page span : ℕ) (new : List Carried) → CarriesAll g was block most batch page (reverse new) b →
     Finishes g was b (ending_batch was block most batch page (reverse new)) (moving_from block most batch page span)
-from_then g was b block most batch page span new all = record { needs = all; cut = λ c cut. cut; done = λ c ok done. done }
+from_then g was b block most batch page span new all = record { needs = all; cut = λ c cut. cut; done = λ c ok done. done.0 }
 
 -- the old pages go one by one
 pub drop_begin : (g : Geometry) (was image : List ℕ) (block most page : ℕ) (from mid left : List Carried) → Drops g was block most page from image → Begins g image (dropping_all was block most page from mid) (dropping_all was block most page from left)
 drop_begin g was image block most page from mid left drops = record { needs = drops; cut = λ c cut. cut }
 
-pub drop_on : (g : Geometry) (was image b : List ℕ) (block most page : ℕ) (c : Carried) (from mid left : List Carried) → mid ≡ left ++ c ∷ [] → Drops g was block most page (reverse mid) b →
+pub drop_on : (g : Geometry) (was image b : List ℕ) (block most page : ℕ) (c : Carried) (from mid left : List Carried) → mid ≡ left ++ c ∷ [] → Drops g was block most page (reverse mid) b × HaveGone g from (reverse mid) image b →
     Finishes g image b (dropping was block most page c (reverse left)) (dropping_all was block most page from (reverse left))
-drop_on g was image b block most page c from mid left is drops = record {
-  needs = subst (λ (cs : List Carried). Drops g was block most page cs b) (ap reverse is ∙ one_more left c) drops;
-  cut = λ d cut. cut;
-  done = λ d ok done. done;
-}
+drop_on g was image b block most page c from mid left is drops =
+    let more : reverse mid ≡ c ∷ reverse left = ap reverse is ∙ one_more left c in
+    record {
+      needs = subst (λ (cs : List Carried). Drops g was block most page cs b) more drops.0;
+      cut = λ d cut. cut;
+      done = λ d ok done. (done.0, gone_then g from (c ∷ reverse left) (reverse left) image b d (subst (λ (cs : List Carried). HaveGone g from cs image b) more drops.1) done.1);
+    }
 
 -- ---- the batch that a page begins is found
 

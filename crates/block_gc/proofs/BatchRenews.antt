@@ -60,7 +60,7 @@ use Rattle.page_renew.proofs.Renewed.{slot_same, renewed, now_same}
 use Rattle.block_gc.specs.Turns.{TurnCut}
 use Rattle.block_gc.specs.declared.batch.Batch.{Batch}
 use Rattle.block_gc.specs.declared.batch.Carried.{Carried}
-use Rattle.block_gc.specs.Batches.{move_of, moves_of, are_from, are_to, IsCarried, Carries, AreNamed, IsNamedCopy, CanRenameTo, IsLeft, Drops, renaming_to}
+use Rattle.block_gc.specs.Batches.{move_of, moves_of, are_from, are_to, IsCarried, Carries, AreNamed, IsNamedCopy, CanRenameTo, IsLeft, Drops, renaming_to, StaysIn}
 use Rattle.block_gc.proofs.BatchCopies.{data_there, named_moves}
 use Rattle.block_gc.proofs.BatchNames.{AreDistinct, IsThere, Leads, names_lead, names_each, names_left, names_size, names_head, names_small, names_finished, to_one, from_one, from_there}
 use Rattle.block_gc.proofs.BatchPlaces.{some_carried}
@@ -396,6 +396,10 @@ module _ (g : Geometry) (was image : List ℕ) (block most : ℕ) (batch : Batch
                 (flags_stay g image all.middle to x.from of.page all.put.agree live4 (not_put g image all.middle to x.from new of.page all.put live4) carried.flags);
           }
 
+      -- the index page and its place lie outside the block
+      stays_in : StaysIn g block image b6
+      stays_in r here = all.kill.loses.others r (λ e. out (ap (λ (k : ℕ). block_of g k) (sym e) ∙ here)) ∙ all.put.gains.others r (λ e. place.apart (ap (λ (k : ℕ). block_of g k) (sym e) ∙ here))
+
       renamed_done : Drops g was block most page cs b6
       renamed_done =
           let cut = replace_left all in
@@ -432,5 +436,5 @@ module _ (g : Geometry) (was image : List ℕ) (block most : ℕ) (batch : Batch
         kill = record { live = ap is_some copy.built.live; byte = copy.built.flags };
       };
       cut = λ d cut. cut_by d cut;
-      done = λ d ok done. renamed_done d done;
+      done = λ d ok done. (renamed_done d done, stays_in d done);
     }

@@ -43,7 +43,7 @@ worth_used g a block t low worth = false_from_ne_true _ (λ free.
 
 -- ---- before a page is moved
 
-can_empty : (g : Geometry) (a : List ℕ) (block : ℕ) → block < g.blocks → CanCleanBlock g a block → CanEmpty g a block
+pub can_empty : (g : Geometry) (a : List ℕ) (block : ℕ) → block < g.blocks → CanCleanBlock g a block → CanEmpty g a block
 can_empty g a block low can = record { tidy = can.tidy; places = fits_has_places g a block can.tidy low can.fits }
 
 -- the longest batch is as long as it may be at most

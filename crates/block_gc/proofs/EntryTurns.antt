@@ -1,7 +1,8 @@
 -- The turns of a block's entries one after the other, over plain images.
-use Rattle.std.proofs.Common.{◌≡◌, ℕ, ◌+◌, ◌*◌, ◌<◌, ◌≤◌, ◌⊎◌, ⊎_elim, inl, inr, List, true, Some, None, refl, subst, sym, arith}
+use Rattle.std.proofs.Common.{◌≡◌, ℕ, ◌+◌, ◌*◌, ◌<◌, ◌≤◌, ◌⊎◌, ⊎_elim, inl, inr, List, true, Some, None, refl, subst, sym, ◌∙◌, arith}
 use Rattle.std.specs.Prelude.{Option}
 use Rattle.std.proofs.lemmas.Bool.{cases_eq, cases_lt}
+use Rattle.std.proofs.lemmas.Option.{none-some}
 use Rattle.geometry.specs.declared.geometry.Geometry.{Geometry}
 use Rattle.geometry.specs.Numbers.{per_block, lookups, entries, page_count}
 use Rattle.image_model.specs.Within.{entry_of_block}
@@ -22,7 +23,7 @@ turn_passes g a block most p is dead can = record {
   keeps = (turn_stays g a block most is can).keeps;
   can = can;
   gone = dead;
-  others = λ q here none. none;
+  others = λ q x here live. live;
   between = λ first so_far. so_far;
   tails = λ id ready. ready;
 }
@@ -67,13 +68,21 @@ turns_begin g a block most n k can = record { needs = can; cut = λ c cut. cut }
 pub turns_pass : (g : Geometry) (a : List ℕ) (block most n : ℕ) → CanEmpty g a block → Begins g a (emptying_to block most n) (emptying block most)
 turns_pass g a block most n can = record { needs = can; cut = λ c cut. cut }
 
+-- a page of the block that isn't live stays so
+still_dead : (g : Geometry) (block p : ℕ) (a b : List ℕ) → TurnDone g block p a b → (q : ℕ) → block_of g q ≡ block → live_at g a q ≡ None → live_at g b q ≡ None
+still_dead g block p a b turn q here dead = by (live_at g b q) refl
+  where
+    by : (o : Option (List ℕ)) → live_at g b q ≡ o → live_at g b q ≡ None
+    by None e = e
+    by (Some x) e = absurd (none-some x (sym dead ∙ turn.others q x here e))
+
 emptied_on : (g : Geometry) (block p : ℕ) (first a b : List ℕ) → Emptied g block p first a → TurnDone g block p a b → Emptied g block (p + 1) first b
 emptied_on g block p first a b so_far turn = record {
   keeps = keeps-on g first a b so_far.keeps turn.keeps;
   can = turn.can;
   gone = λ q here low. ⊎_elim
       (λ (last : q ≡ p). rw last turn.gone)
-      (λ (other : q ≡ p → ⊥). turn.others q here (so_far.gone q here (omega (arith, low, other))))
+      (λ (other : q ≡ p → ⊥). still_dead g block p a b turn q here (so_far.gone q here (omega (arith, low, other))))
       (cases_eq q p);
   between = λ f so. turn.between f (so_far.between f so);
   tails = λ id ready. turn.tails id (so_far.tails id ready);

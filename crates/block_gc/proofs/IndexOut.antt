@@ -1,7 +1,6 @@
 -- An index page is moved out of its block, over plain images.
-use Rattle.std.proofs.Common.{◌≡◌, ◌≢◌, ℕ, ◌+◌, ◌<◌, List, [], ◌∷◌, true, Some, None, refl, sym, ◌∙◌, ap, subst, arith, ⊎_elim}
-use Rattle.std.specs.Prelude.{All, Option}
-use Rattle.std.proofs.lemmas.Option.{none-some}
+use Rattle.std.proofs.Common.{◌≡◌, ◌≢◌, ℕ, ◌+◌, ◌<◌, List, [], ◌∷◌, true, Some, refl, ◌∙◌, ap, subst, arith, ⊎_elim}
+use Rattle.std.specs.Prelude.{All}
 use Rattle.geometry.specs.declared.geometry.Geometry.{Geometry}
 use Rattle.geometry.specs.Numbers.{entries}
 use Rattle.image_model.specs.Within.{page_number, block_number}
@@ -75,18 +74,14 @@ module _ (g : Geometry) (a : List ℕ) (block : ℕ) (is : IsImage g a) (can : C
       out : IsIndexWay g block (sort_at g a) step
       out = record { from = at; sort = sort; place = place }
 
-      -- no page of the block is live that wasn't
-      others_dead : (c : List ℕ) → IsOnWay g (step ∷ []) a c → (q : ℕ) → block_of g q ≡ block → live_at g a q ≡ None → live_at g c q ≡ None
-      others_dead c way q here dead = by (live_at g c q) refl
-        where
-          by : (x : Option (List ℕ)) → live_at g c q ≡ x → live_at g c q ≡ None
-          by None e = e
-          by (Some x) e = absurd (⊎_elim
-              (λ (was : live_at g a q ≡ Some x). none-some x (sym dead ∙ was))
-              (λ (come : HasCome g a (step ∷ []) q x).
-              let apart : block_of g come.move.to ≢ block = all_at (λ (m : Move). block_of g m.to ≢ block) (step ∷ []) come.move (all_cons (λ (m : Move). block_of g m.to ≢ block) step [] place.apart (all_nil (λ (m : Move). block_of g m.to ≢ block))) come.one in
-              apart (ap (block_of g) come.at ∙ here))
-              (way.way.live q x e))
+      -- a live page of the block was live before
+      others_alive : (c : List ℕ) → IsOnWay g (step ∷ []) a c → (q : ℕ) (x : List ℕ) → block_of g q ≡ block → live_at g c q ≡ Some x → live_at g a q ≡ Some x
+      others_alive c way q x here live = ⊎_elim
+          (λ (was : live_at g a q ≡ Some x). was)
+          (λ (come : HasCome g a (step ∷ []) q x).
+          let apart : block_of g come.move.to ≢ block = all_at (λ (m : Move). block_of g m.to ≢ block) (step ∷ []) come.move (all_cons (λ (m : Move). block_of g m.to ≢ block) step [] place.apart (all_nil (λ (m : Move). block_of g m.to ≢ block))) come.one in
+          absurd (apart (ap (block_of g) come.at ∙ here)))
+          (way.way.live q x live)
 
       pub index_moves : Finishes g a a (moving o to) (moving_index block o)
       index_moves = record {
@@ -98,7 +93,7 @@ module _ (g : Geometry) (a : List ℕ) (block : ℕ) (is : IsImage g a) (can : C
               keeps = done.cut.keeps;
               can = record { tidy = done.tidy; places = (index_goes_on g a a c block step low between can.places out way done.tidy done.gone).1 };
               gone = done.gone;
-              others = others_dead c way;
+              others = others_alive c way;
               between = λ first so_far. (index_goes_on g first a c block step low so_far can.places out way done.tidy done.gone).0;
               tails = done.tails;
             };

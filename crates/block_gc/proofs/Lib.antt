@@ -1,3 +1,5 @@
+pub mod Ranks
+pub mod PagesMoved
 pub mod Rooms
 pub mod Judged
 pub mod Firsts
@@ -19,3 +21,4 @@ pub mod Cleanings
 pub mod PlacesBy
 pub mod IndexOut
 pub mod EntryTurns
+pub mod Programs

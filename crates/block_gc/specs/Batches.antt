@@ -1,5 +1,5 @@
 -- A batch of data pages that goes out of a block: what holds once some of them were carried, and while the old pages are killed.
-use Rattle.std.specs.Prelude.{◌≡◌, ◌≢◌, ℕ, ◌+◌, ◌*◌, ◌%◌, ◌<◌, ◌≤◌, ◌⊎◌, List, [], ◌∷◌, ◌++◌, length, map, reverse, Bool, true, false, ◌==◌, ◌||◌, Option, Some, None, Ok, All, slice_index, slice_range, take}
+use Rattle.std.specs.Prelude.{◌≡◌, ◌≢◌, ℕ, ◌+◌, ◌*◌, ◌%◌, ◌<◌, ◌≤◌, ◌⊎◌, List, [], ◌∷◌, ◌++◌, length, map, reverse, Bool, true, false, ◌==◌, ◌||◌, Option, Some, None, Ok, All, slice_index, slice_range, take, min}
 use Rattle.geometry.specs.declared.geometry.Geometry.{Geometry}
 use Rattle.table_model.specs.Table.{File}
 use Rattle.table_model.specs.declared.error.Tag.{Tag}
@@ -97,6 +97,11 @@ pub record IsOfBatch (g : Geometry) (image : List ℕ) (batch : Batch) (q span :
   pub is_span : span_of page ≡ span
   pub at : index_span g span ≡ batch.span
 
+-- it is one of that span, or none
+abbrev pub IsSpanOf : Geometry → (image : List ℕ) → Batch → (q : ℕ) → Option ℕ → Type 0
+IsSpanOf g image batch q None = (span : ℕ) → IsOfBatch g image batch q span → ⊥
+IsSpanOf g image batch q (Some span) = IsOfBatch g image batch q span
+
 -- A page of the batch was carried: its copy stands at its place.
 pub record IsCarried (g : Geometry) (was image : List ℕ) (batch : Batch) (c : Carried) : Type 0 where
   pub of : IsOfBatch g was batch c.from c.span
@@ -151,11 +156,12 @@ pub record CanCarryTo (g : Geometry) (was : List ℕ) (block most : ℕ) (batch 
   pub place : IsPlaceBy g (sort_at g image) block for_data to
   pub kind : is_index_block g image (block_of g to) ≡ false
 
--- The page that begins the batch was carried, and of those behind it none from page `next` on.
+-- The page that begins the batch was carried, and of those behind it none from page `next` on. Of those before page `next` all of the batch were, or it is as long as it may be.
 pub record CarriesTo (g : Geometry) (was : List ℕ) (block most : ℕ) (batch : Batch) (page next : ℕ) (cs : List Carried) (image : List ℕ) : Type 0 where
   pub so_far : Carries g was block most batch cs image
   pub begun : are_from cs page ≡ true
   pub behind : (r : ℕ) → page < r → next ≤ r → All (λ (c : Carried). r ≢ c.from) cs
+  pub full : (r span : ℕ) → block_of g r ≡ block → page < r → r < next → IsOfBatch g was batch r span → (are_from cs r ≡ true) ⊎ (min 64 most ≤ length cs)
 
 -- one more page is carried to a place that was found
 abbrev pub carrying_to : (was : List ℕ) (block most : ℕ) → Batch → (cs : List Carried) (q to span : ℕ) → Step (Unit {0})
@@ -183,10 +189,11 @@ carrying_turn was block most batch old new page q = record {
   done = λ g image now ok. CarriesTo g was block most batch page (q + 1) (reverse new) now;
 }
 
--- All that go with the batch were carried.
+-- All that go with the batch were carried: those of the block that its index page names, or as many as may be.
 pub record CarriesAll (g : Geometry) (was : List ℕ) (block most : ℕ) (batch : Batch) (page : ℕ) (cs : List Carried) (image : List ℕ) : Type 0 where
   pub so_far : Carries g was block most batch cs image
   pub begun : are_from cs page ≡ true
+  pub full : (r span : ℕ) → block_of g r ≡ block → page < r → IsOfBatch g was batch r span → (are_from cs r ≡ true) ⊎ (min 64 most ≤ length cs)
 
 -- those behind the first one have their turns, up to a page
 abbrev pub carrying_rest : (was : List ℕ) (block most : ℕ) → Batch → (old new : List Carried) (page next : ℕ) → Step (Unit {0})
@@ -261,12 +268,27 @@ pub record Drops (g : Geometry) (was : List ℕ) (block most page : ℕ) (left :
   pub gone : (are_from left page ≡ true) ⊎ (live_at g image page ≡ None)
   pub tails : KeepsTails g was image
 
+-- Of some pages those that aren't left are live no more, and all others are as they were.
+pub record HaveGone (g : Geometry) (from left : List Carried) (was now : List ℕ) : Type 0 where
+  pub among : (r : ℕ) → are_from left r ≡ true → are_from from r ≡ true
+  pub gone : (r : ℕ) → are_from from r ≡ true → (are_from left r ≡ true) ⊎ (live_at g now r ≡ None)
+  pub others : (r : ℕ) → are_from from r ≡ false → live_at g now r ≡ live_at g was r
+
+-- the live pages of a block stay
+abbrev pub StaysIn : Geometry → (block : ℕ) → (was now : List ℕ) → Type 0
+StaysIn g block was now = (r : ℕ) → block_of g r ≡ block → live_at g now r ≡ live_at g was r
+
+-- Of a block some pages are live no more, and all others are as they were.
+pub record HaveLeft (g : Geometry) (block : ℕ) (cs : List Carried) (was now : List ℕ) : Type 0 where
+  pub gone : (r : ℕ) → block_of g r ≡ block → are_from cs r ≡ true → live_at g now r ≡ None
+  pub others : (r : ℕ) → block_of g r ≡ block → are_from cs r ≡ false → live_at g now r ≡ live_at g was r
+
 -- the index page is renewed at a place that was found
 abbrev pub renaming_to : (was : List ℕ) (block most : ℕ) → Batch → (page to : ℕ) (cs : List Carried) → Step (Unit {0})
 renaming_to was block most batch page to cs = record {
   needs = λ g image. CanRenameTo g was block most batch page to cs image;
   cut = λ g image cut. TurnCut g block most was cut;
-  done = λ g image now ok. Drops g was block most page cs now;
+  done = λ g image now ok. Drops g was block most page cs now × StaysIn g block image now;
 }
 
 -- the index page is renewed
@@ -274,7 +296,7 @@ abbrev pub renaming : (was : List ℕ) (block most : ℕ) → Batch → (page : 
 renaming was block most batch page cs = record {
   needs = λ g image. CarriesAll g was block most batch page cs image;
   cut = λ g image cut. TurnCut g block most was cut;
-  done = λ g image now ok. Drops g was block most page cs now;
+  done = λ g image now ok. Drops g was block most page cs now × StaysIn g block image now;
 }
 
 -- the first one that is left is killed
@@ -282,7 +304,7 @@ abbrev pub dropping : (was : List ℕ) (block most page : ℕ) → Carried → (
 dropping was block most page c left = record {
   needs = λ g image. Drops g was block most page (c ∷ left) image;
   cut = λ g image cut. TurnCut g block most was cut;
-  done = λ g image now ok. Drops g was block most page left now;
+  done = λ g image now ok. Drops g was block most page left now × HaveGone g (c ∷ left) left image now;
 }
 
 -- those that are left are killed, until others are left
@@ -290,7 +312,7 @@ abbrev pub dropping_all : (was : List ℕ) (block most page : ℕ) → (from lef
 dropping_all was block most page from left = record {
   needs = λ g image. Drops g was block most page from image;
   cut = λ g image cut. TurnCut g block most was cut;
-  done = λ g image now ok. Drops g was block most page left now;
+  done = λ g image now ok. Drops g was block most page left now × HaveGone g from left image now;
 }
 
 -- where all were carried the index page is renewed, and the old pages are killed
@@ -298,7 +320,7 @@ abbrev pub ending_batch : (was : List ℕ) (block most : ℕ) → Batch → (pag
 ending_batch was block most batch page cs = record {
   needs = λ g image. CarriesAll g was block most batch page cs image;
   cut = λ g image cut. TurnCut g block most was cut;
-  done = λ g image now ok. TurnDone g block page was now;
+  done = λ g image now ok. TurnDone g block page was now × HaveLeft g block cs image now;
 }
 
 -- A page of a tidy image is one of a batch.

@@ -1,5 +1,5 @@
 -- What the turn of an entry of a block that is emptied asks of an image and leaves.
-use Rattle.std.specs.Prelude.{◌≡◌, ℕ, ◌<◌, ◌≤◌, List, None, true}
+use Rattle.std.specs.Prelude.{◌≡◌, ℕ, ◌<◌, ◌≤◌, List, None, Some, true}
 use Rattle.geometry.specs.declared.geometry.Geometry.{Geometry}
 use Rattle.geometry.specs.Numbers.{page_count}
 use Rattle.image_model.specs.Live.{live_at}
@@ -23,13 +23,13 @@ pub record TurnCut (g : Geometry) (block most : ℕ) (was image : List ℕ) : Ty
   pub keeps : Keeps g was image
   pub mends : (first : List ℕ) → MayCut g first block → most ≤ batch_most g first block → IsBetween g first block was → Recovers g image
 
--- After the turn of page p that page isn't live, and no other page of the block is that wasn't. The image still stands between two moves
+-- After the turn of page p that page isn't live, and each live page of the block was live before. The image still stands between two moves
 -- of each cleaning, the pages that are left in the block find places, and tails that were ready are so still.
 pub record TurnDone (g : Geometry) (block p : ℕ) (was now : List ℕ) : Type 0 where
   pub keeps : Keeps g was now
   pub can : CanEmpty g now block
   pub gone : live_at g now p ≡ None
-  pub others : (q : ℕ) → block_of g q ≡ block → live_at g was q ≡ None → live_at g now q ≡ None
+  pub others : (q : ℕ) (x : List ℕ) → block_of g q ≡ block → live_at g now q ≡ Some x → live_at g was q ≡ Some x
   pub between : (first : List ℕ) → IsBetween g first block was → IsBetween g first block now
   pub tails : KeepsTails g was now
 

@@ -1,5 +1,5 @@
 // Moving data pages out of a block in batches: the pages of one file that one index page names.
-ghost use Rattle.std.specs.Prelude.{◌≡◌, ◌+◌, ◌%◌, ◌<◌, ◌≤◌, OnErr, OnOk, IfOk, IfSome, List, length, reverse, take, true, ℕ, []};
+ghost use Rattle.std.specs.Prelude.{◌≡◌, ◌+◌, ◌*◌, ◌%◌, ◌<◌, ◌≤◌, OnErr, OnOk, IfOk, IfSome, List, length, reverse, take, true, ℕ, []};
 ghost use Rattle.arrayvec.specs.ArrayVec.{array_vec_len};
 ghost use Rattle.geometry.specs.Numbers.{page_count};
 ghost use Rattle.nor_core.specs.Count.{Rose};
@@ -11,8 +11,9 @@ ghost use Rattle.flash_view.specs.Places.{IsEntryPage};
 ghost use Rattle.flash_view.specs.Same.{OnlyLooks};
 ghost use Rattle.flash_view.specs.Steps.{Stepped, failed, stopped, IsRebuilt};
 ghost use Rattle.page_renew.specs.Built.{IsLoaded};
-ghost use Rattle.block_gc.specs.Turns.{moving_batch};
-ghost use Rattle.block_gc.specs.Batches.{AreEntries, IsFoundFor, IsOfBatch, AreNamed, IsNamedCopy, carrying_to, carrying, carrying_turn, carrying_all, renaming_to, renaming, dropping, dropping_all, ending_batch, carrying_batch, moving_from};
+ghost use Rattle.block_gc.specs.Programs.{SixEach, NoneBefore};
+ghost use Rattle.block_gc.specs.Turns.{CanMoveBatch, moving_batch};
+ghost use Rattle.block_gc.specs.Batches.{AreEntries, IsFoundFor, IsSpanOf, AreNamed, IsNamedCopy, carrying_to, carrying, carrying_turn, carrying_all, renaming_to, renaming, dropping, dropping_all, ending_batch, carrying_batch, CanMoveFrom, moving_from};
 
 use crate::emptying::no_place;
 use arrayvec::ArrayVec;
@@ -85,7 +86,8 @@ fn put_copy<N: Nor>(
     requires to { IsEntryPage v.old.geometry to }
     requires id { (1 ≤ batch.id) × (batch.id ≤ 0x7FFE) }
     requires loaded { N.tells v.old.nor.now → IsLoaded v.old.geometry (N.bytes v.old.nor.now) page v.old.work.now }
-    ensures { (was : List ℕ) (block most : ℕ) (cs : List Carried) → Stepped failed v.old v.new result (carrying_to was block most batch cs page to span) }
+    ensures step { (was : List ℕ) (block most : ℕ) (cs : List Carried) → Stepped failed v.old v.new result (carrying_to was block most batch cs page to span) }
+    ensures few { N.device_writes v.new.nor.now ≤ N.device_writes v.old.nor.now + 4 }
 {
     put_page(v, to, Kind::Data, Tag { id: batch.id, span })
 }
@@ -101,7 +103,8 @@ fn copy_to<N: Nor>(
     requires page { page < page_count v.old.geometry }
     requires to { IsEntryPage v.old.geometry to }
     requires id { (1 ≤ batch.id) × (batch.id ≤ 0x7FFE) }
-    ensures { (was : List ℕ) (block most : ℕ) (cs : List Carried) → Stepped failed v.old v.new result (carrying_to was block most batch cs page to span) }
+    ensures step { (was : List ℕ) (block most : ℕ) (cs : List Carried) → Stepped failed v.old v.new result (carrying_to was block most batch cs page to span) }
+    ensures few { N.device_writes v.new.nor.now ≤ N.device_writes v.old.nor.now + 4 }
 {
     build_data(v, page)?;
     put_copy(v, page, to, batch, span)
@@ -122,6 +125,7 @@ fn carry<N: Nor>(
     requires pages { AreEntries v.old.geometry carried.old.items }
     ensures pages { AreEntries v.old.geometry carried.new.items }
     ensures step { (was : List ℕ) (most : ℕ) → Stepped stopped v.old v.new result (carrying was block most batch carried.old.items carried.new.items page span) }
+    ensures few { OnOk result (N.device_writes v.new.nor.now + 4 * length carried.old.items ≤ N.device_writes v.old.nor.now + 4 * length carried.new.items) }
 {
     match free_page(v, Kind::Data, 0, Some(block)) {
         Err(Failed) => Err(StepErr::DeviceFault),
@@ -146,7 +150,7 @@ fn span_in<N: Nor>(v: &mut View<'_, N>, page: u16, batch: Batch) -> Result<Optio
     requires page { page < page_count v.old.geometry }
     ensures cause { OnErr result (Rose (N.faults v.old.nor.now) (N.faults v.new.nor.now)) }
     ensures looks { OnlyLooks v.old v.new }
-    ensures told { N.tells v.old.nor.now → IfOk result (λ found. IfSome found (λ span. IsOfBatch v.old.geometry (N.bytes v.old.nor.now) batch page span)) }
+    ensures told { N.tells v.old.nor.now → IfOk result (IsSpanOf v.old.geometry (N.bytes v.old.nor.now) batch page) }
 {
     let Some(head) = v.live_header(page)? else {
         return Ok(None);
@@ -173,6 +177,7 @@ fn carry_turn<N: Nor>(
     requires pages { AreEntries v.old.geometry carried.old.items }
     ensures pages { AreEntries v.old.geometry carried.new.items }
     ensures step { (was : List ℕ) → Stepped stopped v.old v.new result (carrying_turn was block most batch carried.old.items carried.new.items first page) }
+    ensures few { OnOk result (N.device_writes v.new.nor.now + 4 * length carried.old.items ≤ N.device_writes v.old.nor.now + 4 * length carried.new.items) }
 {
     if page <= first || carried.is_full() || carried.len() >= most as usize {
         return Ok(());
@@ -198,6 +203,7 @@ fn carry_rest<N: Nor>(
     requires pages { AreEntries v.old.geometry carried.old.items }
     ensures pages { AreEntries v.old.geometry carried.new.items }
     ensures step { (was : List ℕ) → Stepped stopped v.old v.new result (carrying_all was block most batch carried.old.items carried.new.items first) }
+    ensures few { OnOk result (N.device_writes v.new.nor.now + 4 * length carried.old.items ≤ N.device_writes v.old.nor.now + 4 * length carried.new.items) }
 {
     let g = v.geometry;
     for i in 0..g.entries() {
@@ -248,7 +254,8 @@ fn put_named<N: Nor>(
     requires index { IsEntryPage v.old.geometry batch.index }
     requires id { (1 ≤ batch.id) × (batch.id ≤ 0x7FFE) }
     requires named { N.tells v.old.nor.now → is_index_page (live_at v.old.geometry (N.bytes v.old.nor.now) batch.index) ≡ true → IsNamedCopy v.old.geometry (N.bytes v.old.nor.now) batch.index (reverse carried.now) v.old.work.now }
-    ensures { (was : List ℕ) (block most page : ℕ) → Stepped failed v.old v.new result (renaming_to was block most batch page to (reverse carried.now)) }
+    ensures step { (was : List ℕ) (block most page : ℕ) → Stepped failed v.old v.new result (renaming_to was block most batch page to (reverse carried.now)) }
+    ensures few { N.device_writes v.new.nor.now ≤ N.device_writes v.old.nor.now + 6 }
 {
     let tag = Tag {
         id: batch.id,
@@ -267,13 +274,14 @@ fn rename_to<N: Nor>(
     requires to { IsEntryPage v.old.geometry to }
     requires index { IsEntryPage v.old.geometry batch.index }
     requires id { (1 ≤ batch.id) × (batch.id ≤ 0x7FFE) }
-    ensures { (was : List ℕ) (block most page : ℕ) → Stepped failed v.old v.new result (renaming_to was block most batch page to (reverse carried.now)) }
+    ensures step { (was : List ℕ) (block most page : ℕ) → Stepped failed v.old v.new result (renaming_to was block most batch page to (reverse carried.now)) }
+    ensures few { N.device_writes v.new.nor.now ≤ N.device_writes v.old.nor.now + 6 }
 {
     build_named(v, batch.index, carried)?;
     put_named(v, to, batch, carried)
 }
 
-// Renews the index page of a batch outside the block.
+// Renews the index page of a batch outside the block: six programs.
 fn rename<N: Nor>(
     v: &mut View<'_, N>,
     page: u16,
@@ -283,7 +291,8 @@ fn rename<N: Nor>(
 ) -> Result<(), StepErr>
     requires index { IsEntryPage v.old.geometry batch.index }
     requires id { (1 ≤ batch.id) × (batch.id ≤ 0x7FFE) }
-    ensures { (was : List ℕ) (most : ℕ) → Stepped stopped v.old v.new result (renaming was block most batch page (reverse carried.now)) }
+    ensures step { (was : List ℕ) (most : ℕ) → Stepped stopped v.old v.new result (renaming was block most batch page (reverse carried.now)) }
+    ensures few { N.device_writes v.new.nor.now ≤ N.device_writes v.old.nor.now + 6 }
 {
     match free_page(v, Kind::Index, 0, Some(block)) {
         Err(Failed) => Err(StepErr::DeviceFault),
@@ -295,10 +304,11 @@ fn rename<N: Nor>(
     }
 }
 
-// Kills a page that was carried.
+// Kills a page that was carried: two programs.
 fn drop_one<N: Nor>(v: &mut View<'_, N>, c: Carried) -> Result<(), Failed>
     requires page { IsEntryPage v.old.geometry c.from }
-    ensures { (was : List ℕ) (block most page : ℕ) (left : List Carried) → Stepped failed v.old v.new result (dropping was block most page c left) }
+    ensures step { (was : List ℕ) (block most page : ℕ) (left : List Carried) → Stepped failed v.old v.new result (dropping was block most page c left) }
+    ensures few { N.device_writes v.new.nor.now ≤ N.device_writes v.old.nor.now + 2 }
 {
     kill(v, c.from)
 }
@@ -306,7 +316,8 @@ fn drop_one<N: Nor>(v: &mut View<'_, N>, c: Carried) -> Result<(), Failed>
 // Kills the pages that were carried, the last one first.
 fn drop_all<N: Nor>(v: &mut View<'_, N>, carried: &mut ArrayVec<Carried, 64>) -> Result<(), Failed>
     requires pages { AreEntries v.old.geometry carried.old.items }
-    ensures { (was : List ℕ) (block most page : ℕ) → Stepped failed v.old v.new result (dropping_all was block most page (reverse carried.old.items) []) }
+    ensures step { (was : List ℕ) (block most page : ℕ) → Stepped failed v.old v.new result (dropping_all was block most page (reverse carried.old.items) []) }
+    ensures few { N.device_writes v.new.nor.now ≤ N.device_writes v.old.nor.now + 2 * length carried.old.items }
 {
     while let Some(c) = carried.pop() {
         drop_one(v, c)?;
@@ -325,7 +336,8 @@ fn end_batch<N: Nor>(
     requires index { IsEntryPage v.old.geometry batch.index }
     requires id { (1 ≤ batch.id) × (batch.id ≤ 0x7FFE) }
     requires pages { AreEntries v.old.geometry carried.old.items }
-    ensures { (was : List ℕ) (most : ℕ) → Stepped stopped v.old v.new result (ending_batch was block most batch page (reverse carried.old.items)) }
+    ensures step { (was : List ℕ) (most : ℕ) → Stepped stopped v.old v.new result (ending_batch was block most batch page (reverse carried.old.items)) }
+    ensures few { N.device_writes v.new.nor.now ≤ N.device_writes v.old.nor.now + 6 + 2 * length carried.old.items }
 {
     rename(v, page, block, batch, carried.as_slice())?;
     match drop_all(v, carried) {
@@ -350,6 +362,7 @@ fn carry_all<N: Nor>(
     requires none { carried.old.items ≡ [] }
     ensures pages { AreEntries v.old.geometry carried.new.items }
     ensures step { Stepped stopped v.old v.new result (carrying_batch block most batch carried.new.items page span) }
+    ensures few { OnOk result (N.device_writes v.new.nor.now ≤ N.device_writes v.old.nor.now + 4 * length carried.new.items) }
 {
     carry(v, page, span, block, batch, carried)?;
     carry_rest(v, page, block, batch, most, carried)
@@ -368,7 +381,8 @@ fn move_from<N: Nor>(
     requires block { block < v.old.geometry.blocks }
     requires index { IsEntryPage v.old.geometry batch.index }
     requires id { (1 ≤ batch.id) × (batch.id ≤ 0x7FFE) }
-    ensures { Stepped stopped v.old v.new result (moving_from block most batch page span) }
+    ensures step { Stepped stopped v.old v.new result (moving_from block most batch page span) }
+    ensures few { N.tells v.old.nor.now → CanMoveFrom v.old.geometry (N.bytes v.old.nor.now) block most batch page span → NoneBefore v.old.geometry (N.bytes v.old.nor.now) block page → OnOk result (SixEach v.old.geometry block most (N.bytes v.old.nor.now) (N.bytes v.new.nor.now) (N.device_writes v.old.nor.now) (N.device_writes v.new.nor.now)) }
 {
     let mut carried = ArrayVec::new();
     carry_all(v, page, span, block, batch, most, &mut carried)?;
@@ -377,7 +391,8 @@ fn move_from<N: Nor>(
 
 /// Moves the batch that a live data page of a block begins out of the block: that page and those behind it in page order
 /// that the same index page names, at most so many. Each copy is put first, then the index page that names them all; then the old
-/// index page is killed, and then the old data pages. A cut leaves the table as it is.
+/// index page is killed, and then the old data pages. A cut leaves the table as it is. Each page takes six programs, and the
+/// index page six more.
 pub(crate) fn move_batch<N: Nor>(
     v: &mut View<'_, N>,
     page: u16,
@@ -387,7 +402,8 @@ pub(crate) fn move_batch<N: Nor>(
     requires page { IsEntryPage v.old.geometry page }
     requires at { the_block_of v.old.geometry page ≡ block }
     requires most { 1 ≤ most }
-    ensures { Stepped stopped v.old v.new result (moving_batch block most page) }
+    ensures step { Stepped stopped v.old v.new result (moving_batch block most page) }
+    ensures few { N.tells v.old.nor.now → CanMoveBatch v.old.geometry (N.bytes v.old.nor.now) block page → NoneBefore v.old.geometry (N.bytes v.old.nor.now) block page → OnOk result (SixEach v.old.geometry block most (N.bytes v.old.nor.now) (N.bytes v.new.nor.now) (N.device_writes v.old.nor.now) (N.device_writes v.new.nor.now)) }
 {
     match index_of(v, page) {
         Err(Failed) => Err(StepErr::DeviceFault),

@@ -1,5 +1,5 @@
 // Moving the live pages of a block out of it, in page order.
-ghost use Rattle.std.specs.Prelude.{◌≡◌, ◌≢◌, ◌<◌, ◌≤◌, OnErr, IfOk};
+ghost use Rattle.std.specs.Prelude.{◌≡◌, ◌≢◌, ◌+◌, ◌<◌, ◌≤◌, OnErr, OnOk, IfOk};
 ghost use Rattle.nor_core.specs.Count.{Rose};
 ghost use Rattle.geometry.specs.Numbers.{page_count};
 ghost use Rattle.image_model.specs.Live.{live_at};
@@ -8,7 +8,8 @@ ghost use Rattle.flash_view.specs.Places.{IsEntryPage};
 ghost use Rattle.flash_view.specs.Same.{OnlyLooks};
 ghost use Rattle.flash_view.specs.Steps.{Stepped, stopped};
 ghost use Rattle.block_gc.specs.Kinds.{IsKindAt};
-ghost use Rattle.block_gc.specs.Turns.{moving_index, turning_entry, emptying};
+ghost use Rattle.block_gc.specs.Programs.{SixEach, NoneBefore};
+ghost use Rattle.block_gc.specs.Turns.{CanEmpty, moving_index, turning_entry, emptying};
 
 use crate::batch::move_batch;
 use crate::moving::move_index;
@@ -56,7 +57,8 @@ fn live_kind<N: Nor>(v: &mut View<'_, N>, page: u16) -> Result<Option<Kind>, Fai
 fn move_index_out<N: Nor>(v: &mut View<'_, N>, page: u16, block: u16) -> Result<(), StepErr>
     requires page { IsEntryPage v.old.geometry page }
     requires at { the_block_of v.old.geometry page ≡ block }
-    ensures { Stepped stopped v.old v.new result (moving_index block page) }
+    ensures step { Stepped stopped v.old v.new result (moving_index block page) }
+    ensures few { N.device_writes v.new.nor.now ≤ N.device_writes v.old.nor.now + 6 }
 {
     match free_page(v, Kind::Index, 0, Some(block)) {
         Err(Failed) => Err(StepErr::DeviceFault),
@@ -73,7 +75,8 @@ fn empty_entry<N: Nor>(v: &mut View<'_, N>, page: u16, block: u16, most: u32) ->
     requires page { IsEntryPage v.old.geometry page }
     requires at { the_block_of v.old.geometry page ≡ block }
     requires most { 1 ≤ most }
-    ensures { Stepped stopped v.old v.new result (turning_entry block most page) }
+    ensures step { Stepped stopped v.old v.new result (turning_entry block most page) }
+    ensures few { N.tells v.old.nor.now → CanEmpty v.old.geometry (N.bytes v.old.nor.now) block → NoneBefore v.old.geometry (N.bytes v.old.nor.now) block page → OnOk result (SixEach v.old.geometry block most (N.bytes v.old.nor.now) (N.bytes v.new.nor.now) (N.device_writes v.old.nor.now) (N.device_writes v.new.nor.now)) }
 {
     match live_kind(v, page) {
         Err(Failed) => Err(StepErr::DeviceFault),
@@ -87,7 +90,8 @@ fn empty_entry<N: Nor>(v: &mut View<'_, N>, page: u16, block: u16, most: u32) ->
 pub(crate) fn empty_block<N: Nor>(v: &mut View<'_, N>, block: u16, most: u32) -> Result<(), StepErr>
     requires block { block < v.old.geometry.blocks }
     requires most { 1 ≤ most }
-    ensures { Stepped stopped v.old v.new result (emptying block most) }
+    ensures step { Stepped stopped v.old v.new result (emptying block most) }
+    ensures few { N.tells v.old.nor.now → CanEmpty v.old.geometry (N.bytes v.old.nor.now) block → OnOk result (SixEach v.old.geometry block most (N.bytes v.old.nor.now) (N.bytes v.new.nor.now) (N.device_writes v.old.nor.now) (N.device_writes v.new.nor.now)) }
 {
     let g = v.geometry;
     for i in 0..g.entries() {

@@ -1,5 +1,5 @@
 // Moving one index page out of a block, the step of which the cleaning of an index block consists.
-ghost use Rattle.std.specs.Prelude.{◌-◌, ◌<◌, ◌≤◌};
+ghost use Rattle.std.specs.Prelude.{◌-◌, ◌+◌, ◌<◌, ◌≤◌};
 ghost use Rattle.flash_view.specs.Places.{IsEntryPage};
 ghost use Rattle.flash_view.specs.Steps.{Stepped, failed};
 ghost use Rattle.block_gc.specs.Moves.{CanMove, moving};
@@ -17,7 +17,8 @@ fn put_copy<N: Nor>(v: &mut View<'_, N>, page: u16, to: u16, tag: Tag) -> Result
     requires to { IsEntryPage v.old.geometry to }
     requires id { (1 ≤ tag.id) × (tag.id ≤ 0x7FFE) }
     requires built { N.tells v.old.nor.now → CanMove v.old.geometry (N.bytes v.old.nor.now) page to → IsBuilt v.old.geometry (N.bytes v.old.nor.now) page tag v.old.work.now }
-    ensures { Stepped failed v.old v.new result (moving page to) }
+    ensures step { Stepped failed v.old v.new result (moving page to) }
+    ensures few { N.device_writes v.new.nor.now ≤ N.device_writes v.old.nor.now + 6 }
 {
     put_page(v, to, Kind::Index, tag)?;
     kill(v, page)
@@ -28,7 +29,8 @@ fn put_copy<N: Nor>(v: &mut View<'_, N>, page: u16, to: u16, tag: Tag) -> Result
 pub(crate) fn move_index<N: Nor>(v: &mut View<'_, N>, page: u16, to: u16) -> Result<(), Failed>
     requires page { IsEntryPage v.old.geometry page }
     requires to { IsEntryPage v.old.geometry to }
-    ensures { Stepped failed v.old v.new result (moving page to) }
+    ensures step { Stepped failed v.old v.new result (moving page to) }
+    ensures few { N.device_writes v.new.nor.now ≤ N.device_writes v.old.nor.now + 6 }
 {
     let tag = build_copy(v, page)?;
     if tag.id == 0 || tag.id > 0x7FFE {

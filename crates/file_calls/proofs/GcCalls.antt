@@ -110,7 +110,7 @@ module _ {N : Type 0} {nor : NorOf N} {old new : View N nor} (slots : List FdSlo
   gc_stuck call = goes_by Collects (Refuses FsTight) new.wrote
       (gc_refused FsTight slots new.wrote refl (stop_name FsTight tt))
       (gc_cuts call)
-      (λ s here no_fault whole. absurd (whole (record { why = inl refl; tight = refl })))
+      (λ s here no_fault whole. absurd (whole (record { why = inl refl; doable = flat_does old.geometry (nor.bytes old.nor.now) s; tight = refl })))
       (λ s here is. record { packed = λ e. absurd (cc); stuck = λ e. call.ends here.tells here.tidy })
       (λ s here corner tight. absurd (no_corner old.geometry (nor.bytes old.nor.now) s corner))
       (λ s here w. flat_does old.geometry (nor.bytes old.nor.now) s)

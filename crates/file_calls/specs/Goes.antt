@@ -57,9 +57,11 @@ pub record IsCorner (g : Geometry) (image : List ℕ) (s : State) (ask : Ask) : 
   pub reserve : HasReserve g image
   pub full : has_room g s.table ≡ false
 
--- Garbage collection was stopped for want of room, in a call for it or in such a cut: the one answer that the flat table doesn't tell.
+-- Garbage collection was stopped for want of room, in a call for it or in such a cut, where the flat table does the call: the one answer
+-- that it doesn't tell.
 pub record StopsShort (g : Geometry) (image : List ℕ) (s : State) (ask : Ask) (reply : Answer) : Type 0 where
   pub why : (ask ≡ Collects) ⊎ IsCorner g image s ask
+  pub doable : IsDoable g image s ask
   pub tight : reply ≡ Refuses Tight
 
 -- Device and descriptors are those of a state, and two blocks are free.

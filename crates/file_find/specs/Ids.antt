@@ -1,10 +1,10 @@
 -- Ids that have header pages, noted as bits behind the marks of pages.
-use Rattle.std.specs.Prelude.{◌≡◌, ◌≢◌, ℕ, ◌+◌, ◌/◌, ◌%◌, ◌<◌, ◌==◌, List, Bool, true, Option, Some, None, slice_index, if◌then◌else◌}
-use Rattle.std.specs.Int.{bit_at}
+use Rattle.std.specs.Prelude.{◌≡◌, ◌≢◌, ℕ, ◌<◌, ◌==◌, List, drop, Bool, true, Option, Some, None, slice_index, if◌then◌else◌}
+use Rattle.page_layout.specs.Ids.{bit_of}
 
--- the bit of an id is set behind the first `start` bytes: eight ids to a byte, the lowest first
+-- the bit of an id is set behind the first `start` bytes
 unfoldable pub is_noted : List ℕ → ℕ → ℕ → Bool
-is_noted marks start id = bit_at (slice_index marks (start + id / 8)) (id % 8) == 1
+is_noted marks start id = bit_of (drop start marks) id == 1
 
 -- the id, where it is there and not noted
 abbrev pub unnoted : List ℕ → ℕ → Option ℕ → Option ℕ

@@ -1,23 +1,12 @@
 //! Ids of header pages, noted behind the marks of pages: a bit for each id, eight to a byte, and behind these for each
 //! sixteen ids two bytes, the page that the first one of them was noted with.
-ghost use Rattle.std.specs.Prelude.{◌≡◌, ◌≢◌, ◌+◌, ◌*◌, ◌/◌, ◌<◌, ◌≤◌, ◌^◌, ℕ, length, slice_index, true, Some};
+ghost use Rattle.std.specs.Prelude.{◌≡◌, ◌+◌, ◌*◌, ◌/◌, ◌<◌, ◌≤◌, ◌^◌, ℕ, length, slice_index, Some};
 ghost use Rattle.file_find.specs.Ids.{is_noted as the_is_noted, unnoted, Notes};
 
-use page_layout::INDEX_BIT;
+use page_layout::{INDEX_BIT, note_id};
 
 // Bytes of the bits of all ids.
 const BITS: usize = 4096;
-
-// Sets the bit of an id.
-#[tactic(auto)]
-fn note(marks: &mut [u8], start: usize, id: u16)
-    requires { start + id / 8 < length marks.old }
-    ensures noted { the_is_noted marks.new start id ≡ true }
-    ensures others { (k : ℕ) → k ≢ id → the_is_noted marks.new start k ≡ the_is_noted marks.old start k }
-    ensures pages { (p : ℕ) → p < start → slice_index marks.new p ≡ slice_index marks.old p }
-{
-    marks[start + usize::from(id / 8)] |= 1 << (id % 8);
-}
 
 /// Clears the first `start` bytes, and the bits behind them.
 #[tactic(auto)]
@@ -34,7 +23,7 @@ pub(crate) fn is_noted(marks: &[u8], start: usize, id: u16) -> bool
     requires { start + id / 8 < length marks.now }
     ensures { result ≡ the_is_noted marks.now start id }
 {
-    (marks[start + usize::from(id / 8)] >> (id % 8)) & 1 == 1
+    page_layout::is_noted(&marks[start..], id)
 }
 
 // Where the page of sixteen ids stands.
@@ -77,7 +66,7 @@ fn note_with(marks: &mut [u8], start: usize, id: u16, page: u16)
     ensures { Notes start (Some id) marks.old marks.new }
 {
     keep_near(marks, start, id, page);
-    note(marks, start, id);
+    note_id(&mut marks[start..], id);
 }
 
 /// Notes the id that a page tells: that id, where it wasn't noted before.

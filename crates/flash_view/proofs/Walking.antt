@@ -3,6 +3,7 @@ use Rattle.std.proofs.Common.{ℕ, ◌≡◌, ◌+◌, ◌-◌, ◌*◌, ◌/◌
 use Rattle.std.specs.Prelude.{Option, Some, None, slice_index, min}
 use Rattle.std.specs.Option.{option_map}
 use Rattle.std.proofs.lemmas.Bool.{lt-ltb}
+use Rattle.std.proofs.Math.Nat.{mul-le-mul_right}
 use Rattle.std.proofs.lemmas.Nat.{mod-mul-add, div-mul-add, div-add-mod'}
 use Rattle.geometry.specs.declared.geometry.Geometry.{Geometry}
 use Rattle.page_layout.specs.declared.header.PageHeader.{PageHeader}
@@ -52,6 +53,16 @@ entry_is g image block i below =
     let place : (block * per_block g + lookups g + i) % per_block g ≡ lookups g + i = ap (λ (n : ℕ). n % per_block g) sum ∙ mod-mul-add block (per_block g) (lookups g + i) few in
     let slot : lookups g + i - lookups g ≡ i = omega arith in
     rw (at, place, slot) refl
+
+-- what ends behind another lookup page begins behind it
+pub page_after : (s t j k : ℕ) → s ≡ t → (j + 1) * s < (k + 1) * t → j < k
+page_after s t j k same before =
+    ⊎_elim
+    (λ (early : j < k). early)
+    (λ (late : k ≤ j).
+    let next : k + 1 ≤ j + 1 = omega (arith, late) in
+    absurd (omega (arith, before, ap (λ (n : ℕ). (k + 1) * n) same, mul-le-mul_right s next)))
+    (lt_or_le j k)
 
 module _ (g : Geometry) (image : List ℕ) (low high : ℕ) where
   -- after a lookup page without one the search goes on with the next page

@@ -104,6 +104,7 @@ impl<'b, N: Nor> View<'b, N> {
         requires slot { i < slots self.old.geometry }
         ensures cause { OnErr result (Rose (N.faults self.old.nor.now) (N.faults self.new.nor.now)) }
         ensures looks { OnlyLooks self.old self.new }
+        ensures once { N.device_reads self.new.nor.now ≤ N.device_reads self.old.nor.now + 1 }
         ensures told { N.tells self.old.nor.now → IfOk result (λ word. word ≡ slot_of self.old.geometry (N.bytes self.old.nor.now) block i) }
         ensures work { self.new.work.now ≡ self.old.work.now }
         ensures bytes { N.tells self.old.nor.now → OnOk result (IsWordAt (N.bytes self.old.nor.now) (block * self.old.geometry.block + 2 * i)) }
@@ -122,6 +123,7 @@ impl<'b, N: Nor> View<'b, N> {
         requires { IsEntryPage self.old.geometry page }
         ensures cause { OnErr result (Rose (N.faults self.old.nor.now) (N.faults self.new.nor.now)) }
         ensures looks { OnlyLooks self.old self.new }
+        ensures once { N.device_reads self.new.nor.now ≤ N.device_reads self.old.nor.now + 1 }
         ensures told { N.tells self.old.nor.now → IfOk result (λ entry. entry ≡ the_entry_of self.old.geometry (N.bytes self.old.nor.now) page) }
         ensures work { self.new.work.now ≡ self.old.work.now }
         ensures bytes { N.tells self.old.nor.now → OnOk result (IsWordAt (N.bytes self.old.nor.now) (entry_at self.old.geometry page)) }
@@ -210,6 +212,7 @@ impl<'b, N: Nor> View<'b, N> {
         requires { page < page_count self.old.geometry }
         ensures cause { OnErr result (Rose (N.faults self.old.nor.now) (N.faults self.new.nor.now)) }
         ensures looks { OnlyLooks self.old self.new }
+        ensures once { N.device_reads self.new.nor.now ≤ N.device_reads self.old.nor.now + 1 }
         ensures held { OnOk result (holds self.new.geometry self.new.cache.now page ≡ true) }
         ensures work { self.new.work.now ≡ self.old.work.now }
     {

@@ -41,6 +41,7 @@ impl<'b, N: Nor> View<'b, N> {
         requires few { k < lookups self.old.geometry }
         ensures cause { OnErr result (Rose (N.faults self.old.nor.now) (N.faults self.new.nor.now)) }
         ensures looks { OnlyLooks self.old self.new }
+        ensures once { N.device_reads self.new.nor.now ≤ N.device_reads self.old.nor.now + 1 }
         ensures inside { IfOk result (λ found. IfSome found (λ f. (at ≤ f.0) × (f.0 < entries self.old.geometry))) }
         ensures told { N.tells self.old.nor.now → IfOk result (λ found. FirstSlot self.old.geometry (N.bytes self.old.nor.now) block at (min (entries self.old.geometry) ((k + 1) * (self.old.geometry.page / 2))) low high found) }
         ensures work { self.new.work.now ≡ self.old.work.now }
@@ -60,7 +61,7 @@ impl<'b, N: Nor> View<'b, N> {
     }
 
     /// The first entry of a block, from its entry `from` on, whose number lies between `low` and `high`, which count too,
-    /// and that number. Entries are counted from 0.
+    /// and that number. Entries are counted from 0. Each lookup page of the block is read once at most.
     #[tactic(auto, using(geometry::proofs::Bounds::magic_fits, crate::proofs::Looking::looks_then))]
     pub fn find_slot(
         &mut self,
@@ -72,6 +73,7 @@ impl<'b, N: Nor> View<'b, N> {
         requires { block < self.old.geometry.blocks }
         ensures cause { OnErr result (Rose (N.faults self.old.nor.now) (N.faults self.new.nor.now)) }
         ensures looks { OnlyLooks self.old self.new }
+        ensures few { N.device_reads self.new.nor.now ≤ N.device_reads self.old.nor.now + lookups self.old.geometry }
         ensures inside { IfOk result (λ found. IfSome found (λ f. (from ≤ f.0) × (f.0 < entries self.old.geometry))) }
         ensures told { N.tells self.old.nor.now → IfOk result (λ found. NextSlot self.old.geometry (N.bytes self.old.nor.now) block from low high found) }
         ensures work { self.new.work.now ≡ self.old.work.now }

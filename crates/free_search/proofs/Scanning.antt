@@ -11,6 +11,7 @@ use Rattle.geometry.specs.Numbers.{usable, per_block, lookups, entries, page_cou
 use Rattle.nor_core.specs.Flash.{word_at}
 use Rattle.nor_core.specs.declared.state.NorState.{Ghosts as NorOf}
 use Rattle.page_layout.specs.declared.header.PageHeader.{PageHeader}
+use Rattle.page_layout.specs.Ids.{bit_of}
 use Rattle.page_layout.specs.Layout.{header_at, is_between, is_finished}
 use Rattle.image_model.specs.Headers.{obj_id, name_of}
 use Rattle.image_model.specs.Places.{page_of, slot_of, entry_of, block_of, has_magic, is_entry_page}
@@ -29,7 +30,7 @@ use Rattle.flash_view.proofs.RowPassed.{table_passed}
 use Rattle.flash_view.proofs.Rows.{table_magic}
 use Rattle.flash_view.proofs.SlotHeld.{some_pages, word_small, slot_held}
 use Rattle.flash_view.proofs.Walking.{seen_live, unseen_live, entry_is, found_block}
-use Rattle.free_search.specs.Ids.{bit_of, head_id, Notes, unused_id}
+use Rattle.free_search.specs.Ids.{head_id, Notes, unused_id}
 use Rattle.free_search.specs.Naming.{Scanned, IsIndexEntry, AreSlots, LacksIndex, first_entry}
 use Rattle.free_search.proofs.Bits.{noted_over, noted_on, noted_all}
 

@@ -1,8 +1,8 @@
 -- Free entries by their numbers, and free blocks.
-use Rattle.std.proofs.Common.{◌≡◌, ℕ, zero, suc, ◌+◌, ◌-◌, ◌*◌, ◌<◌, ◌≤◌, List, Bool, true, false, ◌==◌, nat_le, not, refl, sym, ◌∙◌, ap, subst, arith, ⊎_elim}
-use Rattle.std.specs.Prelude.{Option, Some, None, IfSome, is_some, find}
+use Rattle.std.proofs.Common.{◌≡◌, ℕ, zero, suc, ◌+◌, ◌-◌, ◌*◌, ◌<◌, ◌≤◌, List, Bool, true, false, ◌==◌, nat_le, not, refl, sym, ◌∙◌, ap, subst, arith}
+use Rattle.std.specs.Prelude.{Option, Some, None, IfSome, is_some}
 use Rattle.std.specs.List.{range_with_len, list_all}
-use Rattle.std.proofs.lemmas.Bool.{cases_eq, and_parts, le-leb, leb-true, leb-false, ne_eqb, false_from_ne_true}
+use Rattle.std.proofs.lemmas.Bool.{and_parts, le-leb, leb-true, leb-false, ne_eqb, false_from_ne_true}
 use Rattle.geometry.specs.declared.geometry.Geometry.{Geometry}
 use Rattle.geometry.specs.Numbers.{per_block, lookups, entries}
 use Rattle.page_layout.specs.Layout.{is_between}
@@ -12,6 +12,7 @@ use Rattle.image_model.specs.Within.{entry_in}
 use Rattle.image_laws.proofs.FreeBlocks.{all-at}
 use Rattle.image_laws.proofs.Reindexed.{find_none-in}
 use Rattle.flash_view.specs.Walk.{IsPassedSlot, IsNextSlot, NextSlot}
+use Rattle.flash_view.proofs.Passed.{find_first}
 use Rattle.flash_view.proofs.Walking.{entry_is}
 use Rattle.free_search.specs.Free.{the_first_free}
 
@@ -72,15 +73,6 @@ pub free_by : (g : Geometry) (image : List ℕ) (block : ℕ) → TellsFree g im
 free_by g image block tells below magic found none next inside is = turned (is_some found) none is ∙ free_as g image block tells below magic found next inside
 
 -- ---- the first free entry of a block
-
-find_first : (t : ℕ → Bool) (a n k : ℕ) → a ≤ k → k < a + n → t k ≡ true → ((q : ℕ) → a ≤ q → q < k → t q ≡ false) → find t (range_with_len a n) ≡ Some k
-find_first t a zero k low high passes before = absurd (omega arith)
-find_first t a (suc n) k low high passes before = ⊎_elim
-    (λ (here : a ≡ k). let now : t a ≡ true = ap t here ∙ passes in rw now (ap (λ (m : ℕ). Some m) here))
-    (λ (there : a ≡ k → ⊥).
-    let not_yet : t a ≡ false = before a (omega arith) (omega (arith, there)) in
-    rw not_yet (find_first t (a + 1) n k (omega (arith, there)) (omega arith) passes (λ q after low. before q (omega arith) low)))
-    (cases_eq a k)
 
 -- a search for free entries passed it over
 passed_used : (g : Geometry) (image : List ℕ) (block i : ℕ) → i < entries g → IsPassedSlot g image block 0xFFFF 0xFFFF i → is_free_entry g image (block * per_block g + lookups g + i) ≡ false

@@ -1,16 +1,12 @@
 -- Ids without a header page, noted as bits.
-use Rattle.std.specs.Prelude.{◌≡◌, ◌≢◌, ℕ, ◌+◌, ◌*◌, ◌/◌, ◌%◌, ◌<◌, ◌≤◌, List, drop, not, ◌==◌, Option, Some, None, if◌then◌else◌, find, slice_index}
+use Rattle.std.specs.Prelude.{◌≡◌, ◌≢◌, ℕ, ◌+◌, ◌*◌, ◌%◌, ◌<◌, ◌≤◌, List, drop, not, ◌==◌, Option, Some, None, if◌then◌else◌, find}
 use Rattle.std.specs.List.{range_with_len}
-use Rattle.std.specs.Int.{bit_at}
 use Rattle.geometry.specs.declared.geometry.Geometry.{Geometry}
 use Rattle.page_layout.specs.declared.header.PageHeader.{PageHeader}
 use Rattle.geometry.specs.Numbers.{per_block, usable}
+use Rattle.page_layout.specs.Ids.{bit_of}
 use Rattle.image_model.specs.Live.{live_at}
 use Rattle.flash_view.specs.Found.{has_header, headed}
-
--- the bit of an id: eight to a byte, the lowest first
-unfoldable pub bit_of : List ℕ → ℕ → ℕ
-bit_of bits id = bit_at (slice_index bits (id / 8)) (id % 8)
 
 -- the bits among the bytes for work: behind the pages and the notes on pages
 abbrev pub bits_at : Geometry → List ℕ → List ℕ

@@ -1,6 +1,7 @@
-ghost use Rattle.std.specs.Prelude.{◌≡◌, ◌≢◌, ◌==◌, ℕ, ◌+◌, ◌*◌, ◌/◌, ◌<◌, ◌≤◌, OnErr, IfOk, IfSome, find, length, not, drop, Some};
+ghost use Rattle.std.specs.Prelude.{◌≡◌, ◌==◌, ℕ, ◌+◌, ◌*◌, ◌/◌, ◌<◌, ◌≤◌, OnErr, IfOk, IfSome, find, length, not, drop, Some};
 ghost use Rattle.std.specs.List.{range_with_len};
-ghost use Rattle.free_search.specs.Ids.{bit_of, bits_at, head_id, unused_id, Notes};
+ghost use Rattle.page_layout.specs.Ids.{bit_of};
+ghost use Rattle.free_search.specs.Ids.{bits_at, head_id, unused_id, Notes};
 ghost use Rattle.geometry.specs.Numbers.{usable, per_block};
 ghost use Rattle.nor_core.specs.Count.{Rose};
 ghost use Rattle.flash_view.specs.Same.{OnlyLooks};
@@ -8,17 +9,7 @@ ghost use Rattle.flash_view.specs.Same.{OnlyLooks};
 use flash_view::View;
 use geometry::Geometry;
 use nor_core::{Failed, Nor, NorState};
-use page_layout::{FREE, INDEX_BIT, PageHeader};
-
-// Sets the bit of an id.
-#[tactic(auto)]
-fn note(bits: &mut [u8], id: u16)
-    requires { id / 8 < length bits.old }
-    ensures noted { bit_of bits.new id ≡ 1 }
-    ensures others { (k : ℕ) → k ≢ id → bit_of bits.new k ≡ bit_of bits.old k }
-{
-    bits[usize::from(id / 8)] |= 1 << (id % 8);
-}
+use page_layout::{FREE, INDEX_BIT, PageHeader, is_noted, note_id};
 
 // Clears every bit.
 fn clear(bits: &mut [u8])
@@ -28,15 +19,6 @@ fn clear(bits: &mut [u8])
     for byte in bits.iter_mut() {
         *byte = 0;
     }
-}
-
-// Whether the bit of an id is set.
-#[tactic(auto)]
-fn is_noted(bits: &[u8], id: u16) -> bool
-    requires { id / 8 < length bits.now }
-    ensures { result ≡ (bit_of bits.now id == 1) }
-{
-    (bits[usize::from(id / 8)] >> (id % 8)) & 1 == 1
 }
 
 // The least id from 1 to the most whose bit is clear.
@@ -70,7 +52,7 @@ pub(crate) fn note_head<N: Nor>(v: &mut View<'_, N>, head: &PageHeader)
     if head.span == 0 && u32::from(id) <= v.geometry.usable() {
         let start = bits_start(&v.geometry);
         let work = &mut *v.work;
-        note(&mut work[start..], id);
+        note_id(&mut work[start..], id);
     }
 }
 

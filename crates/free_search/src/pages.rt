@@ -1,4 +1,5 @@
-ghost use Rattle.std.specs.Prelude.{◌≡◌, ◌<◌, OnErr, IfOk, IfSome};
+ghost use Rattle.std.specs.Prelude.{◌≡◌, ◌+◌, ◌<◌, ◌≤◌, OnErr, IfOk, IfSome, true};
+ghost use Rattle.geometry.specs.Numbers.{lookups};
 ghost use Rattle.nor_core.specs.Count.{Rose};
 ghost use Rattle.flash_view.specs.Places.{IsEntryPage};
 ghost use Rattle.flash_view.specs.Same.{OnlyLooks};
@@ -36,6 +37,7 @@ fn first_free<N: Nor>(v: &mut View<'_, N>, block: u16) -> Result<Option<u16>, Fa
     requires { block < v.old.geometry.blocks }
     ensures cause { OnErr result (Rose (N.faults v.old.nor.now) (N.faults v.new.nor.now)) }
     ensures looks { OnlyLooks v.old v.new }
+    ensures few_reads { N.device_reads v.new.nor.now ≤ N.device_reads v.old.nor.now + lookups v.old.geometry + 1 }
     ensures entry { IfOk result (λ page. IfSome page (λ p. IsEntryPage v.old.geometry p)) }
     ensures word { N.tells v.old.nor.now → IfOk result (λ found. IfSome found (λ p. IsWordAt (N.bytes v.old.nor.now) (entry_at v.old.geometry p))) }
     ensures told { N.tells v.old.nor.now → TellsFree v.old.geometry (N.bytes v.old.nor.now) → IfOk result (λ found. found ≡ the_first_free v.old.geometry (N.bytes v.old.nor.now) block) }
@@ -168,7 +170,7 @@ fn block_for<N: Nor>(
 /// The page into which the next one of a kind goes: the first free entry of the lowest-numbered block in use
 /// that takes the kind, else the first entry of the least worn free block, the lowest-numbered among equals. A free
 /// block is taken only where more than `keep` are free; `not_in` is a block that is never chosen. None where there is
-/// no such page.
+/// no such page. Where the table of counts stands it tells the block, and the lookup pages of that block alone are read.
 #[tactic(auto, using(flash_view::proofs::Looking::looks_then))]
 pub fn free_page<N: Nor>(
     v: &mut View<'_, N>,
@@ -178,6 +180,7 @@ pub fn free_page<N: Nor>(
 ) -> Result<Option<u16>, Failed>
     ensures cause { OnErr result (Rose (N.faults v.old.nor.now) (N.faults v.new.nor.now)) }
     ensures looks { OnlyLooks v.old v.new }
+    ensures few_reads { v.old.counted ≡ true → N.device_reads v.new.nor.now ≤ N.device_reads v.old.nor.now + lookups v.old.geometry + 1 }
     ensures entry { IfOk result (λ page. IfSome page (λ p. IsEntryPage v.old.geometry p)) }
     ensures chosen { N.tells v.old.nor.now → TellsFree v.old.geometry (N.bytes v.old.nor.now) → IfOk result (λ found. found ≡ the_free_page v.old.geometry (N.bytes v.old.nor.now) kind keep not_in) }
     ensures told { N.tells v.old.nor.now → TellsFree v.old.geometry (N.bytes v.old.nor.now) → IfOk result (λ found. FreePage v.old.geometry (N.bytes v.old.nor.now) kind keep not_in found) }

@@ -157,7 +157,7 @@ module _ {D X : Type 0} (nor : NorOf D) (folder : FolderOf X) (old mid new : D) 
           table_is = w.1.0 ∙ ap (λ (x : List File). p.front ++ (x ++ w.0)) l.table_is ∙ ap (λ (x : List File). p.front ++ x) (append_assoc l.front l.rest w.0) ∙ sym (append_assoc p.front l.front (l.rest ++ w.0));
           said = l.said ∙ ap (λ (x : List ℕ). x ++ flat_map record_line l.front) p.said ∙ append_assoc (nor.said old) (flat_map record_line p.front) (flat_map record_line l.front) ∙ ap (λ (x : List ℕ). nor.said old ++ x) (sym (flat_map-append record_line p.front l.front));
         };
-        partly = partly_more (folder_files p.front) (folder_files (list_if (file_above after all))) (folder_files w.0) (folder_files all) w.1.1 goes puts fails.partly;
+        partly = partly_more (folder_files p.front) (folder_files l.front) [] (folder_files (p.front ++ l.front)) (map-append folder_file p.front l.front ∙ ap (λ (x : List FolderFile). folder_files p.front ++ x) (sym (append-nil (folder_files l.front)))) goes puts fails.partly;
       }
   files_stop P Q (Damaged differ) fails = fails
 

@@ -26,11 +26,11 @@ pub record ExtractsFront {D X : Type 0} (nor : NorOf D) (folder : FolderOf X) (t
   pub front : SaysFront nor old new text
   pub partly : PartlyPuts folder (folder_files table) was now
 
--- The same, where what was said ends with a whole line.
+-- The same, where what was said ends with a whole line, and no file was put whose line wasn't said.
 pub record ExtractsLines {D X : Type 0} (nor : NorOf D) (folder : FolderOf X) (text : List ℕ) (table : List File) (old new : D) (was now : X) : Type 0 where
   pub front : SaysFront nor old new text
   pub lines : SaysLines nor old new table
-  pub partly : PartlyPuts folder (folder_files table) was now
+  pub partly : PartlyPuts folder (folder_files lines.front) was now
 
 -- How saying a text and putting the files of a table ended: with an answer of which P holds all was done; a fault of the board
 -- leaves a front of the text, and one of the folder whole lines; there is no other error.

@@ -2,3 +2,4 @@ pub mod Bits
 pub mod Parts
 pub mod NewHeader
 pub mod Stays
+pub mod IdBits

@@ -9,6 +9,7 @@ mod flags;
 mod fresh;
 mod head;
 mod header;
+mod ids;
 mod index;
 mod lookup;
 mod words;
@@ -21,6 +22,7 @@ pub use head::{
     size_of, type_of,
 };
 pub use header::{PageHeader, header_of, put_header};
+pub use ids::{is_noted, note_id};
 pub use index::{put_slot, slot_of, slot_offset};
 pub use lookup::{
     DELETED, FREE, INDEX_BIT, count_offset, entry_offset, magic_offset, read_count, slot_between,

@@ -19,12 +19,12 @@ use page_layout::Flags;
 pub fn mark_removed<N: Nor>(v: &mut View<'_, N>, page: u16) -> Result<(), Failed>
     requires page { page < page_count v.old.geometry }
     ensures cause { OnErr result (Rose (N.faults v.old.nor.now) (N.faults v.new.nor.now)) }
-    ensures faults { N.faults v.old.nor.now ≤ N.faults v.new.nor.now }
     ensures same { IsSameView v.old v.new }
     ensures wrote { v.new.wrote ≡ true }
     ensures changes { Changes N.NorState v.old.nor.now v.new.nor.now (HalfProgrammed (page * v.old.geometry.page + 4) (0xBF ∷ [])) }
     ensures done { N.tells v.old.nor.now → OnOk result (N.bytes v.new.nor.now ≡ programmed (N.bytes v.old.nor.now) (page * v.old.geometry.page + 4) (0xBF ∷ [])) }
     ensures counted { IsUsedPage v.old.geometry (N.bytes v.old.nor.now) page → StandsAgain v.old v.new result }
+    ensures few { N.device_writes v.new.nor.now ≤ N.device_writes v.old.nor.now + 1 }
 {
     let before = sort_before(v, page);
     let erased = Flags::from_bits(0xFF);
@@ -39,12 +39,12 @@ pub fn fill_tail<N: Nor>(v: &mut View<'_, N>, page: u16, at: u32, from: &[u8]) -
     requires some { 0 < length from.now }
     requires inside { at + length from.now ≤ v.old.geometry.page }
     ensures cause { OnErr result (Rose (N.faults v.old.nor.now) (N.faults v.new.nor.now)) }
-    ensures faults { N.faults v.old.nor.now ≤ N.faults v.new.nor.now }
     ensures same { IsSameView v.old v.new }
     ensures wrote { v.new.wrote ≡ true }
     ensures changes { Changes N.NorState v.old.nor.now v.new.nor.now (HalfProgrammed (page * v.old.geometry.page + at) from.now) }
     ensures done { N.tells v.old.nor.now → OnOk result (N.bytes v.new.nor.now ≡ programmed (N.bytes v.old.nor.now) (page * v.old.geometry.page + at) from.now) }
     ensures counted { IsUsedPage v.old.geometry (N.bytes v.old.nor.now) page → StandsAgain v.old v.new result }
+    ensures few { N.device_writes v.new.nor.now ≤ N.device_writes v.old.nor.now + 1 }
 {
     let before = sort_before(v, page);
     v.program_in(page, at, from)?;
@@ -75,12 +75,12 @@ pub fn name_slot<N: Nor>(
 ) -> Result<(), Failed>
     requires page { page < page_count v.old.geometry }
     ensures cause { OnErr result (Rose (N.faults v.old.nor.now) (N.faults v.new.nor.now)) }
-    ensures faults { N.faults v.old.nor.now ≤ N.faults v.new.nor.now }
     ensures same { IsSameView v.old v.new }
     ensures wrote { v.new.wrote ≡ true }
     ensures changes { Changes N.NorState v.old.nor.now v.new.nor.now (HalfProgrammed (page * v.old.geometry.page + slot_at v.old.geometry span) (to_le_bytes w16 target)) }
     ensures done { N.tells v.old.nor.now → OnOk result (N.bytes v.new.nor.now ≡ programmed (N.bytes v.old.nor.now) (page * v.old.geometry.page + slot_at v.old.geometry span) (to_le_bytes w16 target)) }
     ensures counted { IsUsedPage v.old.geometry (N.bytes v.old.nor.now) page → StandsAgain v.old v.new result }
+    ensures few { N.device_writes v.new.nor.now ≤ N.device_writes v.old.nor.now + 1 }
 {
     let before = sort_before(v, page);
     let start = slot_start(&v.geometry, span);

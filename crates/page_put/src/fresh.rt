@@ -41,6 +41,7 @@ fn erase_unit<N: Nor>(v: &mut View<'_, N>, block: u16, i: u32) -> Result<(), Fai
     ensures same { IsSameView v.old v.new }
     ensures wrote { v.new.wrote ≡ true }
     ensures rows { v.new.rows.now ≡ v.old.rows.now }
+    ensures few { N.device_writes v.new.nor.now ≤ N.device_writes v.old.nor.now + 1 }
 {
     let g = v.geometry;
     let units = g.block() / g.phys();
@@ -57,6 +58,7 @@ fn erase_block<N: Nor>(v: &mut View<'_, N>, block: u16) -> Result<(), Failed>
     ensures same { IsSameView v.old v.new }
     ensures wrote { v.new.wrote ≡ true }
     ensures rows { v.new.rows.now ≡ v.old.rows.now }
+    ensures few { N.device_writes v.new.nor.now ≤ N.device_writes v.old.nor.now + v.old.geometry.block / v.old.geometry.phys }
 {
     let units = v.geometry.block() / v.geometry.phys();
     for i in 0..units {
@@ -75,6 +77,7 @@ fn mark_block<N: Nor>(v: &mut View<'_, N>, block: u16, count: u16) -> Result<(),
     ensures same { IsSameView v.old v.new }
     ensures wrote { v.new.wrote ≡ true }
     ensures rows { v.new.rows.now ≡ v.old.rows.now }
+    ensures few { N.device_writes v.new.nor.now ≤ N.device_writes v.old.nor.now + 2 }
 {
     let g = v.geometry;
     let start = u32::from(block) * g.block();
@@ -96,20 +99,21 @@ fn program_fresh<N: Nor>(v: &mut View<'_, N>, block: u16, count: u16) -> Result<
     ensures order { Changes N.NorState v.old.nor.now v.new.nor.now (FreshCut v.old.geometry block count) }
     ensures bytes { N.tells v.old.nor.now → OnOk result (N.bytes v.new.nor.now ≡ with_magic v.old.geometry block count (blank v.old.geometry block (N.bytes v.old.nor.now))) }
     ensures done { N.tells v.old.nor.now → OnOk result (IsFresh v.old.geometry block count (N.bytes v.old.nor.now) (N.bytes v.new.nor.now)) }
+    ensures few { N.device_writes v.new.nor.now ≤ N.device_writes v.old.nor.now + v.old.geometry.block / v.old.geometry.phys + 2 }
 {
     erase_block(v, block)?;
     mark_block(v, block, count)
 }
 
 /// Makes a block fresh: erases its units from the first upwards, the first with the block's magic as its mark, then
-/// programs the erase count, then the magic. A cut leaves the block as it was, or without any live page: it lacks its magic
-/// or is free, and where a bit of the magic may be cleared the whole erase count stands.
+/// programs the erase count, then the magic: an erase for each unit, and two programs. A cut leaves the block as it was, or
+/// without any live page: it lacks its magic or is free, and where a bit of the magic may be cleared the whole erase count
+/// stands.
 #[tactic(auto, using(flash_view::proofs::Looking::same_then))]
 pub fn fresh_block<N: Nor>(v: &mut View<'_, N>, block: u16, count: u16) -> Result<(), Failed>
     requires block { block < v.old.geometry.blocks }
     requires count { count ≤ 0x7FFF }
     ensures cause { OnErr result (Rose (N.faults v.old.nor.now) (N.faults v.new.nor.now)) }
-    ensures faults { N.faults v.old.nor.now ≤ N.faults v.new.nor.now }
     ensures same { IsSameView v.old v.new }
     ensures wrote { v.new.wrote ≡ true }
     ensures changes { Changes N.NorState v.old.nor.now v.new.nor.now (Freshens v.old.geometry block) }
@@ -117,6 +121,7 @@ pub fn fresh_block<N: Nor>(v: &mut View<'_, N>, block: u16, count: u16) -> Resul
     ensures bytes { N.tells v.old.nor.now → OnOk result (N.bytes v.new.nor.now ≡ with_magic v.old.geometry block count (blank v.old.geometry block (N.bytes v.old.nor.now))) }
     ensures done { N.tells v.old.nor.now → OnOk result (IsFresh v.old.geometry block count (N.bytes v.old.nor.now) (N.bytes v.new.nor.now)) }
     ensures counted { StandsAgain v.old v.new result }
+    ensures few { N.device_writes v.new.nor.now ≤ N.device_writes v.old.nor.now + v.old.geometry.block / v.old.geometry.phys + 2 }
 {
     let stood = v.counted;
     program_fresh(v, block, count)?;

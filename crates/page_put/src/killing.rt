@@ -1,4 +1,4 @@
-ghost use Rattle.std.specs.Prelude.{◌≡◌, ◌≤◌, OnErr, OnOk, true};
+ghost use Rattle.std.specs.Prelude.{◌≡◌, ◌+◌, ◌≤◌, OnErr, OnOk, true};
 ghost use Rattle.nor_core.specs.Count.{Rose};
 ghost use Rattle.nor_core.specs.Device.{Changes};
 ghost use Rattle.flash_view.specs.Places.{IsEntryPage};
@@ -24,6 +24,7 @@ fn program_dead<N: Nor>(v: &mut View<'_, N>, page: u16) -> Result<(), Failed>
     ensures wrote { v.new.wrote ≡ true }
     ensures only { N.tells v.old.nor.now → OneChanges v.old.geometry page (N.bytes v.old.nor.now) (N.bytes v.new.nor.now) }
     ensures rows { v.new.rows.now ≡ v.old.rows.now }
+    ensures few { N.device_writes v.new.nor.now ≤ N.device_writes v.old.nor.now + 2 }
 {
     let erased = Flags::from_bits(0xFF);
     v.program_in(page, 4, &[erased.deleted().bits()])?;
@@ -35,12 +36,12 @@ fn program_dead<N: Nor>(v: &mut View<'_, N>, page: u16) -> Result<(), Failed>
 fn program_kill<N: Nor>(v: &mut View<'_, N>, page: u16) -> Result<(), Failed>
     requires page { IsEntryPage v.old.geometry page }
     ensures cause { OnErr result (Rose (N.faults v.old.nor.now) (N.faults v.new.nor.now)) }
-    ensures faults { N.faults v.old.nor.now ≤ N.faults v.new.nor.now }
     ensures changes { Changes N.NorState v.old.nor.now v.new.nor.now (HalfKilled v.old.geometry page) }
     ensures done { N.tells v.old.nor.now → OnOk result (N.bytes v.new.nor.now ≡ killed v.old.geometry page (N.bytes v.old.nor.now)) }
     ensures same { IsSameView v.old v.new }
     ensures wrote { v.new.wrote ≡ true }
     ensures counted { StandsAgain v.old v.new result }
+    ensures few { N.device_writes v.new.nor.now ≤ N.device_writes v.old.nor.now + 2 }
 {
     let before = sort_before(v, page);
     program_dead(v, page)?;
@@ -53,7 +54,6 @@ fn program_kill<N: Nor>(v: &mut View<'_, N>, page: u16) -> Result<(), Failed>
 pub fn kill<N: Nor>(v: &mut View<'_, N>, page: u16) -> Result<(), Failed>
     requires page { IsEntryPage v.old.geometry page }
     ensures cause { OnErr result (Rose (N.faults v.old.nor.now) (N.faults v.new.nor.now)) }
-    ensures faults { N.faults v.old.nor.now ≤ N.faults v.new.nor.now }
     ensures changes { Changes N.NorState v.old.nor.now v.new.nor.now (HalfKilled v.old.geometry page) }
     ensures done { N.tells v.old.nor.now → OnOk result (N.bytes v.new.nor.now ≡ killed v.old.geometry page (N.bytes v.old.nor.now)) }
     ensures same { IsSameView v.old v.new }
@@ -61,6 +61,7 @@ pub fn kill<N: Nor>(v: &mut View<'_, N>, page: u16) -> Result<(), Failed>
     ensures live { Stepped failed v.old v.new result (killing page) }
     ensures dead { Stepped failed v.old v.new result (clearing page) }
     ensures counted { StandsAgain v.old v.new result }
+    ensures few { N.device_writes v.new.nor.now ≤ N.device_writes v.old.nor.now + 2 }
 {
     program_kill(v, page)
 }

@@ -59,6 +59,7 @@ fn program_page<N: Nor>(v: &mut View<'_, N>, page: u16, kind: Kind, tag: Tag) ->
     ensures rows { v.new.rows.now ≡ v.old.rows.now }
     ensures changes { Changes N.NorState v.old.nor.now v.new.nor.now (IsPlacing v.old.geometry page (placed_page v.old.geometry kind tag v.old.work.now)) }
     ensures done { N.tells v.old.nor.now → OnOk result (N.bytes v.new.nor.now ≡ with_page v.old.geometry page (placed_page v.old.geometry kind tag v.old.work.now) (N.bytes v.old.nor.now)) }
+    ensures few { N.device_writes v.new.nor.now ≤ N.device_writes v.old.nor.now + 3 }
 {
     let head = placed(kind, tag);
     v.program_entry(page, head.id)?;
@@ -76,12 +77,12 @@ pub fn place<N: Nor>(v: &mut View<'_, N>, page: u16, kind: Kind, tag: Tag) -> Re
     requires page { IsEntryPage v.old.geometry page }
     requires id { (1 ≤ tag.id) × (tag.id ≤ 0x7FFE) }
     ensures cause { OnErr result (Rose (N.faults v.old.nor.now) (N.faults v.new.nor.now)) }
-    ensures faults { N.faults v.old.nor.now ≤ N.faults v.new.nor.now }
     ensures same { IsSameView v.old v.new }
     ensures wrote { v.new.wrote ≡ true }
     ensures changes { Changes N.NorState v.old.nor.now v.new.nor.now (IsPlacing v.old.geometry page (placed_page v.old.geometry kind tag v.old.work.now)) }
     ensures done { N.tells v.old.nor.now → OnOk result (N.bytes v.new.nor.now ≡ with_page v.old.geometry page (placed_page v.old.geometry kind tag v.old.work.now) (N.bytes v.old.nor.now)) }
     ensures counted { StandsAgain v.old v.new result }
+    ensures few { N.device_writes v.new.nor.now ≤ N.device_writes v.old.nor.now + 3 }
 {
     let before = sort_before(v, page);
     program_page(v, page, kind, tag)?;
@@ -92,12 +93,12 @@ pub fn place<N: Nor>(v: &mut View<'_, N>, page: u16, kind: Kind, tag: Tag) -> Re
 pub fn finish<N: Nor>(v: &mut View<'_, N>, page: u16) -> Result<(), Failed>
     requires page { IsEntryPage v.old.geometry page }
     ensures cause { OnErr result (Rose (N.faults v.old.nor.now) (N.faults v.new.nor.now)) }
-    ensures faults { N.faults v.old.nor.now ≤ N.faults v.new.nor.now }
     ensures same { IsSameView v.old v.new }
     ensures wrote { v.new.wrote ≡ true }
     ensures changes { Changes N.NorState v.old.nor.now v.new.nor.now (HalfProgrammed (page * v.old.geometry.page + 4) (0xFD ∷ [])) }
     ensures done { N.tells v.old.nor.now → OnOk result (N.bytes v.new.nor.now ≡ programmed (N.bytes v.old.nor.now) (page * v.old.geometry.page + 4) (0xFD ∷ [])) }
     ensures counted { entry_of v.old.geometry (N.bytes v.old.nor.now) page ≢ 0xFFFF → StandsAgain v.old v.new result }
+    ensures few { N.device_writes v.new.nor.now ≤ N.device_writes v.old.nor.now + 1 }
 {
     let before = sort_before(v, page);
     let erased = Flags::from_bits(0xFF);
@@ -113,6 +114,7 @@ pub fn put_page<N: Nor>(v: &mut View<'_, N>, page: u16, kind: Kind, tag: Tag) ->
     ensures step { Stepped failed v.old v.new result (putting page kind tag v.old.work.now) }
     ensures wrote { v.new.wrote ≡ true }
     ensures counted { StandsAgain v.old v.new result }
+    ensures few { N.device_writes v.new.nor.now ≤ N.device_writes v.old.nor.now + 4 }
 {
     place(v, page, kind, tag)?;
     finish(v, page)

@@ -1,5 +1,5 @@
 // Renewing a header page: the edited one is put, and the old one is killed.
-ghost use Rattle.std.specs.Prelude.{◌≤◌};
+ghost use Rattle.std.specs.Prelude.{◌+◌, ◌≤◌};
 ghost use Rattle.flash_view.specs.Places.{IsEntryPage};
 ghost use Rattle.flash_view.specs.Steps.{Stepped, failed, stopped};
 ghost use Rattle.table_model.specs.Table.{File};
@@ -19,7 +19,8 @@ pub fn put_over<N: Nor>(v: &mut View<'_, N>, to: u16, tag: Tag, old: u16) -> Res
     requires to { IsEntryPage v.old.geometry to }
     requires old { IsEntryPage v.old.geometry old }
     requires id { (1 ≤ tag.id) × (tag.id ≤ 0x7FFE) }
-    ensures { Stepped failed v.old v.new result (replacing to old tag v.old.work.now) }
+    ensures step { Stepped failed v.old v.new result (replacing to old tag v.old.work.now) }
+    ensures few { N.device_writes v.new.nor.now ≤ N.device_writes v.old.nor.now + 6 }
 {
     put_page(v, to, Kind::Index, tag)?;
     kill(v, old)

@@ -117,6 +117,22 @@ pub fn cut_recoveries(steps: &Steps, passed: u64) -> Result<Swept, Trouble> {
     cut_recovery(steps, &ran)
 }
 
+/// Cuts a script so inside each of its calls, and each recovery: at how many programs and erases of recoveries that was, in all.
+pub fn cut_all_recoveries(steps: &Steps) -> Result<Swept, Trouble> {
+    let mut all = 0u64;
+    for passed in 0..MOST {
+        let ran = cut(steps, passed, 3)?;
+        if ran.status != DEVICE_FAULT {
+            break;
+        }
+        match cut_recovery(steps, &ran)? {
+            Swept::Whole(count) => all = all.saturating_add(count),
+            odd => return Ok(odd),
+        }
+    }
+    Ok(Swept::Whole(all))
+}
+
 /// Lets each call of a kind fail in turn. The run is to end there, and a check to leave two free blocks and a table that may be left: where a
 /// reply isn't said, its line was done.
 pub fn fail_each(steps: &Steps, kind: CallKind) -> Result<Swept, Trouble> {

@@ -3,8 +3,8 @@ use crate::chip::Chip;
 use crate::commands::{kind_of, kind_text};
 use crate::words::{number, word};
 use script_bench::{
-    Agreement, Odd, Steps, Swept, Tried, Trouble, agreement_of, cut_each, cut_recoveries,
-    draw_beside, draw_calls, draw_files, fail_each, try_damaged,
+    Agreement, Odd, Steps, Swept, Tried, Trouble, agreement_of, cut_all_recoveries, cut_each,
+    cut_recoveries, draw_beside, draw_calls, draw_files, fail_each, try_damaged,
 };
 use std::alloc::AllocError;
 
@@ -98,9 +98,14 @@ pub fn cut(steps: &Steps, out: &mut String) -> Result<(), Trouble> {
     Ok(())
 }
 
-/// Cuts the power of a script behind so many calls, and of the check behind it at each of its own.
+/// Cuts the power of a script behind so many calls, or inside each, and of the check behind it at each of its own.
 pub fn cut_twice(steps: &Steps, words: &[&str], out: &mut String) -> Result<(), Trouble> {
     let good = "cut at each of them the check leaves the files too";
+    if word(words, 1)? == "each" {
+        let found = cut_all_recoveries(steps)?;
+        tell_swept(found, "programs and erases of checks", good, out)?;
+        return Ok(());
+    }
     for at in 1..words.len() {
         let passed = number(words, at, u64::MAX)?;
         let found = cut_recoveries(steps, passed)?;

@@ -14,6 +14,7 @@ use Rattle.table_model.specs.Window.{Moment, settled_at}
 use Rattle.call_script.specs.Lines.{calls}
 use Rattle.image_model.specs.Tables.{table_of}
 use Rattle.image_model.specs.Tidy.{HasReserve}
+use Rattle.image_model.specs.Collect.{chosen_block}
 use Rattle.vol_check.specs.declared.report.Report.{Report}
 use Rattle.std.specs.Prelude.{min, map, take, length}
 use Rattle.std.proofs.lemmas.List.{length-map, length-take, length-replicate}
@@ -35,9 +36,9 @@ use Rattle.tool_core.specs.Mounting.{Checks, Reported, IsRefused, StopsCheck}
 use Rattle.tool_core.specs.Begins.{Begun, IsTight, StopsRun}
 use Rattle.tool_core.specs.Refusals.{check_refusal, begin_refusal}
 use Rattle.tool_core.specs.Settling.{SettlesTo, Settling}
-use Rattle.tool_core.specs.Outcomes.{Went, WhyRan, RunEnds, RunsTo, Refused, EndsByImages, first_moment, closed_memory}
+use Rattle.tool_core.specs.Outcomes.{Went, WhyEnds, RunEnds, RunsTo, Refused, EndsByImages, first_moment, closed_memory}
 use Rattle.tool_core.proofs.Mounted.{safe_check, holds_check}
-use Rattle.tool_core.proofs.Refusals.{not_both, no_fault, tight_some, tight_none}
+use Rattle.tool_core.proofs.Refusals.{not_both, no_fault, no_tight, tight_some, tight_none}
 use Rattle.tool_core.proofs.Settling.{settles_of}
 use Rattle.tool_core.proofs.Speaking.{writes_none}
 
@@ -177,6 +178,8 @@ module _ {D : Type 0} {nor : NorOf D} {g : Geometry} where
         tells = fine.1.stands.tells;
         among = (last.now stands.tells stands.image).1;
         table = fine.1.stands.image.table ∙ settled_table (after_all g m went.front).state;
+        tidy = λ taken. fine.1.stands.image.tidy;
+        stuck = λ n is. absurd (subst (λ (e : Ending). WhyEnds script left went.front went.later e) is went.why);
         why = inr (begins_on g (nor.bytes old) (nor.bytes new) begun.takes (fine.1.holds.reserve whole.stands.reserve), went.why);
         holds = holds_then g (nor.bytes old) (nor.bytes ran) (nor.bytes new) whole.holds fine.1.holds;
         cuts = andthen (whole_cut slots went.front memory changes tells room begun went.leaves) (subst (λ (l : List Ask). Leaves nor ran new (CutIn nor g old m l)) (append-nil went.front) (settle_cut went.front [] whole settles));
@@ -200,8 +203,8 @@ module _ {D : Type 0} {nor : NorOf D} {g : Geometry} where
       (λ went. begun_settles slots script left ending result memory changes tells room begun went (settles_of nor g ending result ran new after now script left went.front went.later went.why here))
       (next m (stands_there m (begun_reached slots memory changes tells room begun)))
 
-  early_came : {old mid : D} (slots : ℕ) (script left : List ℕ) (ending : Ending) → Changes nor old mid (Checks g) → nor.tells old → table_of g (nor.bytes mid) ≡ table_of g (nor.bytes old) → WhyRan g (nor.bytes old) (nor.bytes mid) script left [] (calls script) ending → RunsTo nor g old mid (first_moment g slots (nor.bytes old)) script left ending
-  early_came {old} {mid} slots script left ending changes tells same why = inr (record {
+  early_came : {old mid : D} (slots : ℕ) (script left : List ℕ) (ending : Ending) → Changes nor old mid (Checks g) → nor.tells old → table_of g (nor.bytes mid) ≡ table_of g (nor.bytes old) → begin_refusal g (nor.bytes old) (nor.bytes mid) ≡ Some ending → ((n : ℕ) → ending ≡ Tight n → chosen_block g (nor.bytes mid) ≡ None) → RunsTo nor g old mid (first_moment g slots (nor.bytes old)) script left ending
+  early_came {old} {mid} slots script left ending changes tells same refused stuck = inr (record {
     front = [];
     later = calls script;
     asks_are = refl;
@@ -209,7 +212,9 @@ module _ {D : Type 0} {nor : NorOf D} {g : Geometry} where
     tells = changes.cuts.told tells;
     among = is_settled (after_all g (first_moment g slots (nor.bytes old)) []) (table_of g (nor.bytes mid)) [] (same ∙ sym (first_settled g slots (nor.bytes old)));
     table = same ∙ sym (first_state g slots (nor.bytes old));
-    why = why;
+    tidy = λ taken. absurd (let no : None ≡ Some ending = sym taken ∙ refused in cc);
+    stuck = stuck;
+    why = inl (refl, refused);
     holds = holds_check (changes.now tells);
     cuts = check_cut slots [] changes tells;
   })
@@ -222,7 +227,7 @@ module _ {D : Type 0} {nor : NorOf D} {g : Geometry} where
   pub early_ends : {old mid : D} (slots : ℕ) (script left : List ℕ) (ending : Ending) → Changes nor old mid (Checks g) → nor.tells old → StopsRun nor g old mid ending → RunsTo nor g old mid (first_moment g slots (nor.bytes old)) script left ending
   early_ends {old} {mid} slots script left ending changes tells stops = ⊎_elim
       (λ fault. inl (fault, record { part = []; rest = replies g (first_moment g slots (nor.bytes old)) (calls script); said = changes.said ∙ sym (append-nil (nor.said old)); whole_is = refl }, check_cut slots (calls script) changes tells))
-      (λ ends. early_came slots script left ending changes tells (changes.now tells).table (inl (refl, early_why ends)))
+      (λ ends. early_came slots script left ending changes tells (changes.now tells).table (early_why ends) (λ n is. ⊎_elim (λ refused. absurd (no_tight g (nor.bytes old) ending n refused.refusal is)) (λ tight. tight.stuck) ends))
       stops
 
   -- one whose image isn't taken
@@ -252,6 +257,7 @@ module _ {D : Type 0} (nor : NorOf D) (g : Geometry) where
   tight_stops {old} {new} report reported less = inr (inr (record {
     takes = reported.takes;
     tight = tight_some g (nor.bytes new) report.free_blocks reported.done.free less;
+    stuck = ⊎_elim (λ (reserve : HasReserve g (nor.bytes new)). absurd (omega (arith, reserve, reported.done.free, less))) (λ (none : chosen_block g (nor.bytes new) ≡ None). none) reported.done.stopped;
     recovers_not = λ recovers. let enough = reported.mends recovers in omega (arith, enough, reported.done.free, less);
   }))
 

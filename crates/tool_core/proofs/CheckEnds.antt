@@ -13,7 +13,7 @@ use Rattle.volume.specs.Checking.{CheckDone}
 use Rattle.tool_core.specs.declared.ending.Ending.{Ending}
 use Rattle.tool_core.specs.declared.ending.Ending.TheVariants.{BoardFault}
 use Rattle.tool_core.specs.Mounting.{Checks, Reported, StopsCheck}
-use Rattle.tool_core.specs.Checking.{report_text, check_text, reported_text, ReportCut, IsTidyOnceSaid, ChecksTo}
+use Rattle.tool_core.specs.Checking.{report_text, check_text, reported_text, ReportCut, IsOrderedOnceSaid, ChecksTo}
 use Rattle.tool_core.specs.Endings.{Speaks}
 use Rattle.tool_core.specs.Refusals.{report_ending, check_ending}
 use Rattle.tool_core.proofs.Refusals.{not_both, no_fault}
@@ -60,8 +60,8 @@ module _ {D : Type 0} {nor : NorOf D} {g : Geometry} where
   pub said_none : {old new : D} → Changes nor old new (Checks g) → nor.said new ≡ nor.said old ++ []
   said_none {old} {new} changes = changes.said ∙ sym (append-nil (nor.said old))
 
-  untidy : {old new : D} → Changes nor old new (Checks g) → IsTidyOnceSaid nor g old new
-  untidy {old} {new} changes = λ tail e. absurd (nothing_else (nor.said old) (check_text g (nor.bytes old) (nor.bytes new)) tail (omega arith) (sym changes.said ∙ e))
+  unsaid_order : {old new : D} → Changes nor old new (Checks g) → IsOrderedOnceSaid nor g old new
+  unsaid_order {old} {new} changes = λ tail e. absurd (nothing_else (nor.said old) (check_text g (nor.bytes old) (nor.bytes new)) tail (omega arith) (sym changes.said ∙ e))
 
   -- a check that said no report: the board failed, or the image wasn't taken
   pub check_stopped : {old new : D} (ending : Ending) → Changes nor old new (Checks g) → (nor.tells old → StopsCheck nor g old new ending) → ChecksTo nor g old new ending
@@ -73,7 +73,7 @@ module _ {D : Type 0} {nor : NorOf D} {g : Geometry} where
         (stops tells);
     kept = λ tells is. ⊎_elim (λ fault. absurd (no_fault g (nor.bytes old) ending is fault)) (λ refused. writes_none refused.reads) (stops tells);
     leaves = changes.now;
-    tidy = λ tells. untidy changes;
+    ordered = λ tells. unsaid_order changes;
     mends = λ tells may. ⊎_elim (λ fault. inl fault) (λ refused. absurd (not_both may.takes refused.refusal)) (stops tells);
   }
 
@@ -109,7 +109,7 @@ module _ {D : Type 0} {nor : NorOf D} {g : Geometry} where
     speaks = speaks;
     kept = λ tells is. absurd (not_both (done tells).takes is);
     leaves = λ tells. subst (λ (l : List ℕ). Checks g (nor.bytes old) l) (sym says.bytes) (changes.now tells);
-    tidy = λ tells tail e. (reported_said report says (done tells)).done.tidy;
+    ordered = λ tells tail e. let w = (reported_said report says (done tells)).done in record { tidy = w.tidy; stopped = w.stopped };
     mends = λ tells may. inr ((reported_said report says (done tells)).mends may.recovers);
   }
 

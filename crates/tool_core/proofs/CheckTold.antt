@@ -7,7 +7,7 @@ use Rattle.nor_core.specs.Count.{Rose}
 use Rattle.nor_core.specs.Device.{Leaves}
 use Rattle.nor_core.proofs.Cuts.{andthen, widened}
 use Rattle.image_model.specs.Tables.{damaged_of}
-use Rattle.image_model.specs.Tidy.{IsTidy, free_blocks}
+use Rattle.image_model.specs.Tidy.{free_blocks}
 use Rattle.tool_core.specs.declared.ending.Ending.{Ending}
 use Rattle.tool_core.specs.declared.ending.Ending.TheVariants.{BoardFault}
 use Rattle.tool_core.specs.Closing.{status_of, closing_line_of}
@@ -15,7 +15,7 @@ use Rattle.tool_core.specs.Mounting.{Checks}
 use Rattle.tool_core.specs.Endings.{OnlyCloses, Concludes}
 use Rattle.tool_core.specs.Reads.{ReadsOnce}
 use Rattle.tool_core.specs.Refusals.{check_refusal, report_ending, check_ending, unless_refused}
-use Rattle.tool_core.specs.Checking.{check_text, reported_text, IsTidyOnceSaid, ChecksTo, CheckCut, DoesCheck}
+use Rattle.tool_core.specs.Checking.{check_text, reported_text, IsOrdered, IsOrderedOnceSaid, ChecksTo, CheckCut, DoesCheck}
 use Rattle.tool_core.proofs.Mounted.{safe_check, holds_check}
 use Rattle.tool_core.proofs.CheckEnds.{other_first, same_after}
 use Rattle.tool_core.proofs.Reading.{reads_said}
@@ -40,17 +40,17 @@ module _ {D : Type 0} {nor : NorOf D} where
       (sym (ap (λ (l : List ℕ). l ++ take n closing) before) ∙ sym closes.says.said.1 ∙ e)
 
 module _ {D : Type 0} {nor : NorOf D} {g : Geometry} where
-  -- a report that was said whole tells of a tidy image
-  tidy_said : {old mid new : D} (result : Ending) (status : ℕ) → ChecksTo nor g old mid result → OnlyCloses nor mid new result status → nor.tells old → IsTidyOnceSaid nor g old new
-  tidy_said {old} {mid} {new} result status checks closes tells = λ tail e. ⊎_elim
+  -- a report that was said whole tells of an image in order
+  ordered_said : {old mid new : D} (result : Ending) (status : ℕ) → ChecksTo nor g old mid result → OnlyCloses nor mid new result status → nor.tells old → IsOrderedOnceSaid nor g old new
+  ordered_said {old} {mid} {new} result status checks closes tells = λ tail e. ⊎_elim
       (λ broken.
       let still : mid ≡ new = sym (closes.silent (ap closing_line_of broken.0)) in
       let kept : ChecksTo nor g old new result = subst (λ (d : D). ChecksTo nor g old d result) still checks in
-      kept.tidy tells tail e)
+      kept.ordered tells tail e)
       (λ said. ⊎_elim
       (λ takes.
       let text : reported_text g (nor.bytes old) (nor.bytes mid) ≡ check_text g (nor.bytes old) (nor.bytes mid) ++ [] = ap (λ (o : Option Ending). unless_refused o (check_text g (nor.bytes old) (nor.bytes mid))) takes ∙ sym (append-nil (check_text g (nor.bytes old) (nor.bytes mid))) in
-      subst (λ (l : List ℕ). IsTidy g l) (sym closes.says.bytes) (checks.tidy tells [] (said.1 ∙ ap (λ (l : List ℕ). nor.said old ++ l) text)))
+      subst (λ (l : List ℕ). IsOrdered g l) (sym closes.says.bytes) (checks.ordered tells [] (said.1 ∙ ap (λ (l : List ℕ). nor.said old ++ l) text)))
       (λ refused.
       let ending = refused.0 in
       let is : result ≡ ending = said.0 ∙ ap (λ (o : Option Ending). unwrap_or o (report_ending (length (damaged_of g (nor.bytes old))) (free_blocks g (nor.bytes mid)))) refused.1 in
@@ -90,7 +90,7 @@ module _ {D : Type 0} {nor : NorOf D} {g : Geometry} where
             (concludes (reported_text g (nor.bytes old) (nor.bytes mid)) (check_ending g (nor.bytes old) (nor.bytes mid)) result status (checks.cuts.told tells) checks.cuts.faults cause (checks.speaks tells) closes);
         table = λ tells. (left tells).table;
         holds = λ tells. holds_check (left tells);
-        tidy = tidy_said result status checks closes;
+        ordered = ordered_said result status checks closes;
         mends = λ tells may. mended_closed g result (⊎_elim
             (λ broken. inl broken)
             (λ reserve. inr (

@@ -1,5 +1,5 @@
 -- The closing line of a run, and what the whole run leaves.
-use Rattle.std.proofs.Common.{◌≡◌, ℕ, ◌+◌, ◌-◌, ◌≤◌, ◌⊎◌, List, [], ◌∷◌, ◌++◌, length, take, drop, sym, ◌∙◌, ap, subst, arith, inl, inr, ⊎_elim, append-nil, append_assoc, length-append}
+use Rattle.std.proofs.Common.{◌≡◌, ℕ, ◌+◌, ◌-◌, ◌≤◌, ◌⊎◌, List, [], ◌∷◌, ◌++◌, length, take, drop, sym, ◌∙◌, ap, subst, arith, inl, inr, ⊎_elim, append-nil, append_assoc, length-append, None}
 use Rattle.std.proofs.lemmas.List.{take-append-drop, length-take-le}
 use Rattle.geometry.specs.declared.geometry.Geometry.{Geometry}
 use Rattle.nor_core.specs.declared.state.NorState.{Ghosts as NorOf}
@@ -9,6 +9,8 @@ use Rattle.table_model.specs.Ask.{Ask}
 use Rattle.table_model.specs.Window.{Moment, from_settled, IsAmong}
 use Rattle.call_script.specs.Lines.{calls}
 use Rattle.image_model.specs.Tables.{table_of}
+use Rattle.image_model.specs.Tidy.{IsTidy}
+use Rattle.image_model.specs.Collect.{chosen_block}
 use Rattle.run_model.specs.Runs.{after_all, replies, IsCut}
 use Rattle.call_model.specs.Safe.{IsSafe, Holds}
 use Rattle.call_model.proofs.Safety.{safe_as}
@@ -16,6 +18,7 @@ use Rattle.run_model.specs.Ran.{CutIn, SaidPart}
 use Rattle.run_model.proofs.Runs.{cut_none, cut_later, cut_after}
 use Rattle.tool_core.specs.declared.ending.Ending.{Ending}
 use Rattle.tool_core.specs.Closing.{status_of, closing_line_of}
+use Rattle.tool_core.specs.Refusals.{begin_refusal}
 use Rattle.tool_core.specs.Endings.{OnlyCloses}
 use Rattle.tool_core.specs.Outcomes.{WhyRan, Came, RunsTo}
 use Rattle.tool_core.specs.Running.{Outcome, CallCut, ClosingCut}
@@ -66,6 +69,8 @@ module _ {D : Type 0} {nor : NorOf D} {g : Geometry} where
         closing_is = sym (take-append-drop closes.says.said.0 (closing_line_of ending));
         said = closes.says.said.1 ∙ ap (λ (l : List ℕ). l ++ take closes.says.said.0 (closing_line_of ending)) came.said ∙ append_assoc (nor.said old) (replies g m came.front) (take closes.says.said.0 (closing_line_of ending));
         table = ap (table_of g) closes.says.bytes ∙ came.table;
+        tidy = subst (λ (l : List ℕ). begin_refusal g (nor.bytes old) l ≡ None → IsTidy g l) (sym closes.says.bytes) came.tidy;
+        stuck = λ n is. ap (chosen_block g) closes.says.bytes ∙ came.stuck n is;
         holds = subst (λ (l : List ℕ). Holds g (nor.bytes old) l) (sym closes.says.bytes) came.holds;
         cuts = andthen (widened came.cuts (λ image count here. inl (call_cut here))) (widened closes.cuts (λ image count here.
             let n = count - length (nor.said mid) in

@@ -67,6 +67,10 @@ refusal_is g image ending is = pick (nat_lt 1 (spoiled_blocks g image)) (nat_lt 
 pub no_fault : (g : Geometry) (image : List ℕ) (ending : Ending) → check_refusal g image ≡ Some ending → ending ≡ BoardFault → ⊥
 no_fault g image ending is fault = ⊎_elim (λ two. cc) (λ mixed. cc) (refusal_is g image ending is)
 
+-- nor does it end for want of free blocks
+pub no_tight : (g : Geometry) (image : List ℕ) (ending : Ending) (n : ℕ) → check_refusal g image ≡ Some ending → ending ≡ Tight n → ⊥
+no_tight g image ending n is tight = ⊎_elim (λ two. cc) (λ mixed. cc) (refusal_is g image ending is)
+
 -- its closing line begins so
 pub refusal_line : (g : Geometry) (image : List ℕ) (ending : Ending) → check_refusal g image ≡ Some ending → (xs : List ℕ) × (closing_line_of ending ≡ 33 ∷ xs)
 refusal_line g image ending is = ⊎_elim

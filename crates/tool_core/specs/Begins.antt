@@ -3,6 +3,7 @@ use Rattle.std.specs.Prelude.{◌≡◌, ℕ, ◌⊎◌, List, Some, None}
 use Rattle.geometry.specs.declared.geometry.Geometry.{Geometry}
 use Rattle.nor_core.specs.declared.state.NorState.{Ghosts as NorOf}
 use Rattle.image_model.specs.Tidy.{IsTidy, HasReserve}
+use Rattle.image_model.specs.Collect.{chosen_block}
 use Rattle.room_laws.specs.Recovery.{Recovers}
 use Rattle.tool_core.specs.declared.ending.Ending.{Ending}
 use Rattle.tool_core.specs.declared.ending.Ending.TheVariants.{BoardFault}
@@ -15,10 +16,12 @@ pub record Begun (g : Geometry) (was image : List ℕ) : Type 0 where
   pub tidy : IsTidy g image
   pub reserve : HasReserve g image
 
--- the first image is taken and doesn't recover, and the check left fewer than two free blocks
+-- the first image is taken and doesn't recover, and the check left fewer than two free blocks, and no block that is worth cleaning and can be
+-- cleaned
 pub record IsTight (g : Geometry) (was now : List ℕ) (ending : Ending) : Type 0 where
   pub takes : check_refusal g was ≡ None
   pub tight : tight_refusal g now ≡ Some ending
+  pub stuck : chosen_block g now ≡ None
   pub recovers_not : Recovers g was → ⊥
 
 -- why a run isn't begun: the board failed, or for its images

@@ -1,5 +1,5 @@
 -- What a check leaves and says.
-use Rattle.std.specs.Prelude.{ℕ, ◌≡◌, ◌≢◌, ◌+◌, ◌<◌, ◌≤◌, ◌⊎◌, List, ◌∷◌, [], ◌++◌, length, Bool, codes, decimal, nat_lt, Some, if◌then◌else◌}
+use Rattle.std.specs.Prelude.{ℕ, ◌≡◌, ◌≢◌, ◌+◌, ◌<◌, ◌≤◌, ◌⊎◌, List, ◌∷◌, [], ◌++◌, length, Bool, codes, decimal, nat_lt, Some, None, if◌then◌else◌}
 use Rattle.geometry.specs.declared.geometry.Geometry.{Geometry}
 use Rattle.nor_core.specs.declared.state.NorState.{Ghosts as NorOf}
 use Rattle.nor_core.specs.Device.{Leaves}
@@ -7,6 +7,7 @@ use Rattle.image_model.specs.Tables.{table_of, damaged_of}
 use Rattle.image_model.specs.Tidy.{IsTidy, HasReserve, free_blocks}
 use Rattle.image_model.specs.Kinds.{spoiled_blocks}
 use Rattle.image_model.specs.Killed.{killed_of}
+use Rattle.image_model.specs.Collect.{chosen_block}
 use Rattle.call_model.specs.Safe.{IsSafe, Holds}
 use Rattle.tool_core.specs.declared.ending.Ending.{Ending}
 use Rattle.tool_core.specs.declared.ending.Ending.TheVariants.{BoardFault}
@@ -39,9 +40,14 @@ pub record ReportCut {D : Type 0} (nor : NorOf D) (g : Geometry) (old new : D) (
   pub most : count ≤ length (nor.said old) + length (reported_text g (nor.bytes old) (nor.bytes new))
   pub once_said : length (nor.said old) < count → image ≡ nor.bytes new
 
--- where the line of its report was said whole, a check left a tidy image
-abbrev pub IsTidyOnceSaid : {D : Type 0} (nor : NorOf D) (g : Geometry) (old new : D) → Type 0
-IsTidyOnceSaid nor g old new = (tail : List ℕ) → nor.said new ≡ nor.said old ++ (check_text g (nor.bytes old) (nor.bytes new) ++ tail) → IsTidy g (nor.bytes new)
+-- An image in order: it is tidy, and two blocks are free, or no block that is worth cleaning can be cleaned.
+pub record IsOrdered (g : Geometry) (image : List ℕ) : Type 0 where
+  pub tidy : IsTidy g image
+  pub stopped : HasReserve g image ⊎ (chosen_block g image ≡ None)
+
+-- where the line of its report was said whole, a check left an image in order
+abbrev pub IsOrderedOnceSaid : {D : Type 0} (nor : NorOf D) (g : Geometry) (old new : D) → Type 0
+IsOrderedOnceSaid nor g old new = (tail : List ℕ) → nor.said new ≡ nor.said old ++ (check_text g (nor.bytes old) (nor.bytes new) ++ tail) → IsOrdered g (nor.bytes new)
 
 -- before its closing line: it said the line of its report
 pub record ChecksTo {D : Type 0} (nor : NorOf D) (g : Geometry) (old new : D) (result : Ending) : Type 0 where
@@ -49,7 +55,7 @@ pub record ChecksTo {D : Type 0} (nor : NorOf D) (g : Geometry) (old new : D) (r
   pub speaks : nor.tells old → Speaks nor old new (reported_text g (nor.bytes old) (nor.bytes new)) (check_ending g (nor.bytes old) (nor.bytes new)) result
   pub kept : nor.tells old → check_refusal g (nor.bytes old) ≡ Some result → WritesNone nor old new
   pub leaves : nor.tells old → Checks g (nor.bytes old) (nor.bytes new)
-  pub tidy : nor.tells old → IsTidyOnceSaid nor g old new
+  pub ordered : nor.tells old → IsOrderedOnceSaid nor g old new
   pub mends : nor.tells old → IsMendable g (nor.bytes old) → (result ≡ BoardFault) ⊎ HasReserve g (nor.bytes new)
 
 -- What a cut in a check leaves: an image with the table of the first one, which it may follow, and a front of what the check says;
@@ -68,8 +74,8 @@ pub record DoesCheck {D : Type 0} (nor : NorOf D) (g : Geometry) (cache : ℕ) (
   -- the last image has the table of the first one, which it may follow
   pub table : nor.tells old → table_of g (nor.bytes new) ≡ table_of g (nor.bytes old)
   pub holds : nor.tells old → Holds g (nor.bytes old) (nor.bytes new)
-  -- it is tidy, once the report was said
-  pub tidy : nor.tells old → IsTidyOnceSaid nor g old new
+  -- it is in order, once the report was said
+  pub ordered : nor.tells old → IsOrderedOnceSaid nor g old new
   -- it has two free blocks where the check takes the first one and that recovers, if the board didn't fail
   pub mends : nor.tells old → IsMendable g (nor.bytes old) → HasMended nor g new status
   -- an image that isn't taken stays

@@ -41,7 +41,7 @@ pub record EndsListed {D X : Type 0} (nor : NorOf D) (folder : FolderOf X) (g : 
   pub whole : status ≢ 7 → PutsFiles folder (folder_files (extracted g (nor.bytes old))) before after
   pub partly : PartlyPuts folder (folder_files (extracted g (nor.bytes old))) before after
 
--- The folder failed: the lines of the first files are said and the closing line of that, and a part of the files is put.
+-- The folder failed: the lines of the first files are said and the closing line of that, and a part of these files is put.
 pub record EndsBroken {D X : Type 0} (nor : NorOf D) (folder : FolderOf X) (g : Geometry) (old new : D) (before after : X) (status : ℕ) : Type 0 where
   pub front : List File
   pub rest : List File
@@ -49,7 +49,7 @@ pub record EndsBroken {D X : Type 0} (nor : NorOf D) (folder : FolderOf X) (g : 
   pub says : OnlySays nor old new (listed_text g (nor.bytes old) ++ closing_line_of FolderFault)
   pub concludes : Concludes nor old new (record_lines front) FolderFault status
   pub cause : Rose (folder.faults before) (folder.faults after)
-  pub partly : PartlyPuts folder (folder_files (extracted g (nor.bytes old))) before after
+  pub partly : PartlyPuts folder (folder_files front) before after
 
 -- An extraction writes nothing to the board, says the list of the image and a closing line, and puts the files of its table into the
 -- folder, the first ones of them alone where the board or the folder failed.

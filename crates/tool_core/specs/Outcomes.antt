@@ -7,12 +7,14 @@ use Rattle.table_model.specs.Ask.{Ask}
 use Rattle.table_model.specs.Window.{Moment, settled_at, from_settled, IsAmong}
 use Rattle.call_script.specs.Lines.{Bad, lines, of_line, calls, NoBreak}
 use Rattle.image_model.specs.Tables.{table_of}
+use Rattle.image_model.specs.Tidy.{IsTidy}
+use Rattle.image_model.specs.Collect.{chosen_block}
 use Rattle.run_model.specs.Runs.{after_all, replies}
 use Rattle.call_model.specs.Memory.{Memory}
 use Rattle.call_model.specs.Safe.{Holds}
 use Rattle.run_model.specs.Ran.{CutIn, MayCut, Reached, SaidPart}
 use Rattle.tool_core.specs.declared.ending.Ending.{Ending}
-use Rattle.tool_core.specs.declared.ending.Ending.TheVariants.{Done, BadLine, BoardFault, SourceFault, TooLong}
+use Rattle.tool_core.specs.declared.ending.Ending.TheVariants.{Done, BadLine, BoardFault, SourceFault, TooLong, Tight}
 use Rattle.tool_core.specs.Refusals.{begin_refusal}
 use Rattle.tool_core.specs.Closing.{status_of}
 use Rattle.tool_core.specs.Mounting.{IsMendable}
@@ -90,7 +92,8 @@ WhyRan g first image script left front later ending =
     ((front ≡ []) × (begin_refusal g first image ≡ Some ending))
     ⊎ ((begin_refusal g first image ≡ None) × WhyEnds script left front later ending)
 
--- before its closing line: the replies to the first calls were said, and the table is theirs, which was settled or waited
+-- Before its closing line: the replies to the first calls were said, and the table is theirs, which was settled or waited. The image is
+-- tidy, if the images don't end the run; and where too few blocks are free, none that is worth cleaning can be cleaned.
 pub record Came {D : Type 0} (nor : NorOf D) (g : Geometry) (old new : D) (m : Moment) (script left : List ℕ) (ending : Ending) : Type 0 where
   pub front : List Ask
   pub later : List Ask
@@ -99,6 +102,8 @@ pub record Came {D : Type 0} (nor : NorOf D) (g : Geometry) (old new : D) (m : M
   pub tells : nor.tells new
   pub among : IsAmong (table_of g (nor.bytes new)) (from_settled (after_all g m front) [])
   pub table : table_of g (nor.bytes new) ≡ (after_all g m front).state.table
+  pub tidy : begin_refusal g (nor.bytes old) (nor.bytes new) ≡ None → IsTidy g (nor.bytes new)
+  pub stuck : (n : ℕ) → ending ≡ Tight n → chosen_block g (nor.bytes new) ≡ None
   pub why : WhyRan g (nor.bytes old) (nor.bytes new) script left front later ending
   pub holds : Holds g (nor.bytes old) (nor.bytes new)
   pub cuts : Leaves nor old new (CutIn nor g old m front)

@@ -9,11 +9,14 @@ use Rattle.table_model.specs.Ask.{Ask}
 use Rattle.table_model.specs.Window.{Moment}
 use Rattle.call_script.specs.Lines.{lines, calls}
 use Rattle.image_model.specs.Tables.{table_of}
+use Rattle.image_model.specs.Tidy.{IsTidy}
+use Rattle.image_model.specs.Collect.{chosen_block}
 use Rattle.run_model.specs.Runs.{after_all, replies, IsCutAfter}
 use Rattle.call_model.specs.Safe.{IsSafe, Holds}
 use Rattle.run_model.specs.Ran.{SaidPart}
 use Rattle.tool_core.specs.declared.plan.Lengths.{Lengths}
 use Rattle.tool_core.specs.declared.ending.Ending.{Ending}
+use Rattle.tool_core.specs.declared.ending.Ending.TheVariants.{Tight}
 use Rattle.tool_core.specs.Closing.{status_of, closing_line_of}
 use Rattle.tool_core.specs.Endings.{EndsAs, Concludes, WritesNone, HasMended}
 use Rattle.tool_core.specs.Mounting.{IsMendable}
@@ -45,7 +48,8 @@ pub record Breaks {D : Type 0} (nor : NorOf D) (g : Geometry) (old new : D) (m :
   pub cuts : Leaves nor old new (CallCut nor g old m (calls script))
 
 -- A run was done up to some call: the replies before it were said, and then its closing line, or a front of that where the board
--- failed; the image's table is that of the state after these calls. A cut leaves what one in these calls may, or in that line.
+-- failed; the image's table is that of the state after these calls, and the image is tidy, if the images don't end the run; where it ends for
+-- too few free blocks, none that is worth cleaning can be cleaned. A cut leaves what one in these calls may, or in that line.
 pub record Closes {D : Type 0} (nor : NorOf D) (g : Geometry) (old new : D) (m : Moment) (script left : List ℕ) (status : ℕ) : Type 0 where
   pub ending : Ending
   pub ends : EndsAs nor old new ending status
@@ -59,6 +63,8 @@ pub record Closes {D : Type 0} (nor : NorOf D) (g : Geometry) (old new : D) (m :
   pub closing_is : closing_line_of ending ≡ part ++ rest
   pub said : nor.said new ≡ nor.said old ++ (replies g m front ++ part)
   pub table : table_of g (nor.bytes new) ≡ (after_all g m front).state.table
+  pub tidy : begin_refusal g (nor.bytes old) (nor.bytes new) ≡ None → IsTidy g (nor.bytes new)
+  pub stuck : (n : ℕ) → ending ≡ Tight n → chosen_block g (nor.bytes new) ≡ None
   pub holds : Holds g (nor.bytes old) (nor.bytes new)
   pub cuts : Leaves nor old new (λ image count. CallCut nor g old m front image count ⊎ ClosingCut nor old new (replies g m front) (closing_line_of ending) image count)
 

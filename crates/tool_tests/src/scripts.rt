@@ -16,5 +16,8 @@ fn a_script_has_at_most_16777216_bytes(rt: HostRuntime) -> Result<(), Fail> {
     assert_eq!(rt; run(rt.alloc(), RUN, &mut board, &script)?, 11);
     let closing = b"! script longer than 16777216 bytes\n";
     assert_eq!(rt; board.said(), closing.as_slice());
+    // a line outside the grammar behind these bytes isn't come to
+    script.push(b'x')?;
+    assert_eq!(rt; run(rt.alloc(), RUN, &mut board, &script)?, 11);
     Ok(())
 }

@@ -139,6 +139,10 @@ fn collect_in(rt: &impl Abort, volume: &mut Volume<'_, MemBoard>, image: &[u8]) 
             .stat(b"big")
             .is_ok_and(|stat| stat.id == 1 && stat.size == 7530)
     );
+    let mut into = [0u8; 8];
+    assert_eq!(rt; volume.open_file(b"big", 8), Ok(1));
+    assert_eq!(rt; volume.read(1, &mut into), Ok(8));
+    assert_eq!(rt; volume.close(1), Ok(()));
     assert_eq!(rt; volume.remove(b"big"), Ok(()));
     assert!(rt; matches!(volume.next(0), Ok(None)));
     assert_eq!(rt; volume.create(b"a"), Err(FsErr::Tight));

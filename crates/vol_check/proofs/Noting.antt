@@ -1,11 +1,12 @@
 -- Header pages that are told doubled by the ids noted before them.
-use Rattle.std.proofs.Common.{◌≡◌, ◌≢◌, ℕ, ◌+◌, ◌/◌, ◌%◌, ◌<◌, ◌≤◌, List, length, length-set, Bool, true, false, ◌==◌, ◌*◌, ◌^◌, slice_index, slice_set, Option, Some, None, ap, refl, sym, ◌∙◌, arith, ⊎_elim, subst, cond}
-use Rattle.std.specs.Prelude.{is_some, bit_or, bit_and}
+use Rattle.std.proofs.Common.{◌≡◌, ◌≢◌, ℕ, ◌+◌, ◌%◌, ◌<◌, ◌≤◌, List, Bool, true, false, ◌==◌, Option, Some, None, ap, refl, sym, ◌∙◌, arith, ⊎_elim, subst, cond}
+use Rattle.std.specs.Prelude.{is_some}
 use Rattle.std.specs.Option.{option_map}
 use Rattle.std.proofs.lemmas.Bool.{cases_eq, cases_lt, cases_Bool, eq-eqb, eqb-true, ne_eqb}
 use Rattle.std.proofs.lemmas.Option.{none-some, same_Some}
 use Rattle.geometry.specs.declared.geometry.Geometry.{Geometry}
 use Rattle.page_layout.specs.declared.header.PageHeader.{PageHeader}
+use Rattle.page_layout.specs.Ids.{bit_of}
 use Rattle.page_layout.specs.Layout as layout
 use Rattle.page_layout.specs.Layout.{header_at}
 use Rattle.geometry.specs.Numbers.{page_count}
@@ -17,8 +18,6 @@ use Rattle.flash_view.specs.Found.{headed, has_header}
 use Rattle.flash_view.proofs.Least.{heads}
 use Rattle.file_find.proofs.Marking.{find_parts}
 use Rattle.file_find.proofs.Heads.{header_parts}
-use Rattle.free_search.specs.Ids.{bit_of}
-use Rattle.free_search.proofs.Bits.{test_bit, set_here, set_other}
 use Rattle.vol_check.specs.Culls.{is_doubled, Culls}
 use Rattle.vol_check.specs.Noted.{Notes, NotesId, TellsDoubled}
 use Rattle.vol_check.specs.Works.{TurnsDoubled}
@@ -63,52 +62,33 @@ first_page g a p id low is none = by (index_page g (own (live_at g a) id) 0) ref
 heads_page : (g : Geometry) (a page : List ℕ) (p : ℕ) (head : PageHeader) → live_at g a p ≡ Some page → names_index page ≡ true → span_of page ≡ 0 → head ≡ header_at page → headed (live_at g a p) ≡ Some (head.id % 0x8000)
 heads_page g a page p head live kind first same = rw (live, kind, first, same) refl
 
--- ---- a bit that is set
-
-pub noted_by : (bits : List ℕ) (i n id : ℕ) → n ≡ id → i ≡ n / 8 → i < length bits →
-    ((bit_and (slice_index bits i / 2 ^ (n % 8)) 1 == 1) ≡ (bit_of bits id == 1)) × NotesId id bits (slice_set bits i (bit_or (slice_index bits i) (1 * 2 ^ (n % 8) % 256)))
-noted_by bits i n id same at low =
-    let place : n / 8 < length bits = omega (arith, at, low) in
-    rw (sym same) (
-      ap (λ (x : ℕ). x == 1) (test_bit bits i n at),
-      record {
-        place = place;
-        len = length-set bits i (bit_or (slice_index bits i) (1 * 2 ^ (n % 8) % 256));
-        noted = set_here bits i n at place;
-        others = λ k other. set_other bits i n k at place other;
-      },
-    )
-
 -- ---- notes go on page by page
 
 module _ (g : Geometry) (a : List ℕ) (p : ℕ) (bits : List ℕ) (notes : Notes g a p bits) where
   -- a page whose id is noted nowhere
-  notes_pass : ((id : ℕ) → headed (live_at g a p) ≡ Some id → id / 8 < length bits → ⊥) → Notes g a (p + 1) bits
+  notes_pass : ((id : ℕ) → headed (live_at g a p) ≡ Some id → ⊥) → Notes g a (p + 1) bits
   notes_pass none = record {
-    noted = λ id h low is place. ⊎_elim
-        (λ (before : h < p). notes.noted id h before is place)
-        (λ (after : p ≤ h). let same : h ≡ p = omega (arith, low, after) in absurd (none id (subst (λ (q : ℕ). headed (live_at g a q) ≡ Some id) same is) place))
+    noted = λ id h low is. ⊎_elim
+        (λ (before : h < p). notes.noted id h before is)
+        (λ (after : p ≤ h). let same : h ≡ p = omega (arith, low, after) in absurd (none id (subst (λ (q : ℕ). headed (live_at g a q) ≡ Some id) same is)))
         (cases_lt h p);
     only = λ id set. let w = notes.only id set in (w.0, omega (arith, w.1), w.2);
   }
 
   -- an index page that was looked for
-  pub searched_told : (head : PageHeader) (doubled : Bool) → Some head ≡ option_map header_at (live_at g a p) → doubled ≡ is_doubled g a p → (head.span ≡ 0 → length bits ≤ head.id % 0x8000 / 8) → TellsDoubled g a p doubled bits
-  searched_told head doubled e told none = record { is = told; noted = by doubled }
+  pub searched_told : (head : PageHeader) (doubled : Bool) → Some head ≡ option_map header_at (live_at g a p) → doubled ≡ is_doubled g a p → head.span ≢ 0 → TellsDoubled g a p doubled bits
+  searched_told head doubled e told further = record { is = told; noted = by doubled }
     where
-      unnoted : (id : ℕ) → headed (live_at g a p) ≡ Some id → id / 8 < length bits → ⊥
-      unnoted id is place =
+      unheaded : (id : ℕ) → headed (live_at g a p) ≡ Some id → ⊥
+      unheaded id is =
           let w = headed_page (live_at g a p) head e in
           let x = headed_at (live_at g a p) id is in
           let same : x.0 ≡ w.0 = same_Some x.0 w.0 (sym x.1 ∙ w.1) in
-          let span : head.span ≡ 0 = ap (λ (y : PageHeader). y.span) w.2 ∙ sym (ap span_of same) ∙ x.3 in
-          let mine : head.id % 0x8000 ≡ id = ap (λ (y : PageHeader). y.id % 0x8000) w.2 ∙ subst (λ (y : List ℕ). (header_at y).id % 0x8000 ≡ id) same x.4 in
-          let past : length bits ≤ id / 8 = rw mine at (none span) in
-          omega (arith, place, past)
+          further (ap (λ (y : PageHeader). y.span) w.2 ∙ sym (ap span_of same) ∙ x.3)
 
       by : (b : Bool) → Notes g a (cond b p (p + 1)) bits
       by true = notes
-      by false = notes_pass unnoted
+      by false = notes_pass unheaded
 
   -- a header page by the notes
   module _ (now : List ℕ) (head : PageHeader) (e : Some head ≡ option_map header_at (live_at g a p)) (index : layout.names_index head ≡ true) (span : head.span ≡ 0) (is : NotesId (head.id % 0x8000) bits now) where
@@ -121,10 +101,10 @@ module _ (g : Geometry) (a : List ℕ) (p : ℕ) (bits : List ℕ) (notes : Note
 
     noted_on : Notes g a (p + 1) now
     noted_on = record {
-      noted = λ id h low heads place. ⊎_elim
+      noted = λ id h low heads. ⊎_elim
           (λ (here : id ≡ head.id % 0x8000). rw here is.noted)
           (λ (there : id ≡ head.id % 0x8000 → ⊥). is.others id there ∙ ⊎_elim
-          (λ (before : h < p). notes.noted id h before heads (omega (arith, place, is.len)))
+          (λ (before : h < p). notes.noted id h before heads)
           (λ (after : p ≤ h). let same : h ≡ p = omega (arith, low, after) in
           absurd (there (same_Some id (head.id % 0x8000) (sym (subst (λ (q : ℕ). headed (live_at g a q) ≡ Some id) same heads) ∙ heads_it))))
           (cases_lt h p))
@@ -137,9 +117,9 @@ module _ (g : Geometry) (a : List ℕ) (p : ℕ) (bits : List ℕ) (notes : Note
 
     noted_again : bit_of bits (head.id % 0x8000) ≡ 1 → Notes g a p now
     noted_again set = record {
-      noted = λ id h low heads place. ⊎_elim
+      noted = λ id h low heads. ⊎_elim
           (λ (here : id ≡ head.id % 0x8000). rw here is.noted)
-          (λ (there : id ≡ head.id % 0x8000 → ⊥). is.others id there ∙ notes.noted id h low heads (omega (arith, place, is.len)))
+          (λ (there : id ≡ head.id % 0x8000 → ⊥). is.others id there ∙ notes.noted id h low heads)
           (cases_eq id (head.id % 0x8000));
       only = λ id later. ⊎_elim
           (λ (here : id ≡ head.id % 0x8000). notes.only id (rw here set))
@@ -156,7 +136,7 @@ module _ (g : Geometry) (a : List ℕ) (p : ℕ) (bits : List ℕ) (notes : Note
         rw yes (record { is = sym (doubled_is g a p head e index ∙ rw (span, other) refl); noted = noted_again set }))
         (λ (no : before ≡ false).
         let first = first_page g a p (head.id % 0x8000) low heads_it (λ h less heads.
-        let set = notes.noted (head.id % 0x8000) h less heads is.place in
+        let set = notes.noted (head.id % 0x8000) h less heads in
         let bad : true ≡ false = sym (eq-eqb _ 1 set) ∙ sym told ∙ no in absurd (cc)) in
         rw no (record { is = sym (doubled_is g a p head e index ∙ rw (span, first, eq-eqb p p refl) refl); noted = noted_on }))
         (cases_Bool before)
@@ -169,7 +149,7 @@ doubling_skip g first a bits at p n more single none s = record {
   single = λ q low. ⊎_elim (λ (early : q < at). s.single q early) (λ (late : at ≤ q). single q late low) (cases_lt q at);
   damaged = s.damaged;
   noted = record {
-    noted = λ id h low is place. ⊎_elim (λ (early : h < at). s.noted.noted id h early is place) (λ (late : at ≤ h). absurd (none-some id (sym (none h late low) ∙ is))) (cases_lt h at);
+    noted = λ id h low is. ⊎_elim (λ (early : h < at). s.noted.noted id h early is) (λ (late : at ≤ h). absurd (none-some id (sym (none h late low) ∙ is))) (cases_lt h at);
     only = λ id set. let w = s.noted.only id set in (w.0, omega (arith, w.1, more), w.2);
   };
 }
@@ -178,9 +158,9 @@ doubling_skip g first a bits at p n more single none s = record {
 
 notes_after : (g : Geometry) (a b : List ℕ) (p : ℕ) (bits : List ℕ) → Notes g a p bits → live_at g b p ≡ None → ((q : ℕ) → q ≢ p → live_at g b q ≡ live_at g a q) → Notes g b (p + 1) bits
 notes_after g a b p bits notes gone others = record {
-  noted = λ id h low is place. ⊎_elim
+  noted = λ id h low is. ⊎_elim
       (λ (here : h ≡ p). let none : headed (live_at g b h) ≡ None = rw (here, gone) refl in absurd (none-some id (sym none ∙ is)))
-      (λ (there : h ≡ p → ⊥). notes.noted id h (omega (arith, low, there)) (rw (others h there) at is) place)
+      (λ (there : h ≡ p → ⊥). notes.noted id h (omega (arith, low, there)) (rw (others h there) at is))
       (cases_eq h p);
   only = λ id set.
       let w = notes.only id set in
@@ -196,4 +176,4 @@ turns_nothing g a p bits told = record { culls = doubles_nothing g a p (sym told
 
 -- no id is noted at first
 pub notes_none : (g : Geometry) (a bits : List ℕ) → ((id : ℕ) → bit_of bits id ≡ 0) → Notes g a 0 bits
-notes_none g a bits none = record { noted = λ id h low is place. absurd (omega arith); only = λ id set. let clear = none id in absurd (omega (arith, set, clear)) }
+notes_none g a bits none = record { noted = λ id h low is. absurd (omega arith); only = λ id set. let clear = none id in absurd (omega (arith, set, clear)) }

@@ -78,7 +78,6 @@ pub fn check_stages<N: Nor>(v: &mut View<'_, N>, marks: &mut [u8]) -> Result<Rep
     ensures among { IfErr result IsOfStages }
     ensures few { OnOk result (usable v.old.geometry ≤ 32766) }
     ensures cause { IsErrOf result CheckErr.DeviceFault → Rose (N.faults v.old.nor.now) (N.faults v.new.nor.now) }
-    ensures faults { N.faults v.old.nor.now ≤ N.faults v.new.nor.now }
     ensures same { IsSameView v.old v.new }
     ensures changes { Changes N.NorState v.old.nor.now v.new.nor.now (KeepsAll v.old.geometry) }
     ensures unmixed { N.tells v.old.nor.now → OnOk result (the_mixed_blocks v.old.geometry (N.bytes v.old.nor.now) ≡ 0) }

@@ -6,6 +6,7 @@ use Rattle.std.proofs.lemmas.Bool.{cases_Bool, leb-true, le-leb}
 use Rattle.std.proofs.lemmas.List.{length-replicate}
 use Rattle.geometry.specs.declared.geometry.Geometry.{Geometry}
 use Rattle.nor_core.specs.declared.state.NorState.{Ghosts as NorOf}
+use Rattle.nor_core.specs.Count.{Rose}
 use Rattle.nor_core.specs.Device.{Changes, OnlyReads}
 use Rattle.nor_core.proofs.Cuts.{wider, go_on, unchanged, reads_none}
 use Rattle.table_model.specs.declared.error.FsErr.{FsErr}
@@ -155,6 +156,15 @@ pub open_is : (stage : Stage) → is_open stage ≡ true → stage ≡ Checked
 open_is Checked e = refl
 open_is _ e = absurd (let no : false ≡ true = e in cc)
 
+-- a volume that takes calls hasn't failed
+pub open_whole : (stage : Stage) → is_open stage ≡ true → is_failed stage ≡ false
+open_whole Checked e = refl
+open_whole _ e = absurd (let no : false ≡ true = e in cc)
+
+-- nor has one that stays so
+pub whole_still : (old new : Stage) → is_open old ≡ true → new ≡ old → is_failed new ≡ true → ⊥
+whole_still old new takes stays failed = let no : true ≡ false = sym failed ∙ ap is_failed stays ∙ open_whole old takes in cc
+
 -- a volume that takes a call is never mounted anew by it
 pub not_mounted : (wrote : Bool) (reply : Answer) → is_mounted (stage_after wrote reply) ≡ false
 not_mounted wrote reply = by_test (wrote && breaks reply)
@@ -214,6 +224,7 @@ module _ {N : Type 0} {nor : NorOf N} where
         answers = λ m takes. absurd (never takes);
         refused = λ m takes. absurd (never takes);
         collects = λ m takes. absurd (never takes);
+        packed = λ m takes. absurd (never takes);
         unstuck = λ m takes here reserve is tight. never takes;
         cornered = λ m takes. absurd (never takes);
         leaves = λ takes. absurd (never takes);
@@ -228,9 +239,11 @@ module _ {N : Type 0} {nor : NorOf N} where
         names = λ takes. absurd (never takes);
         failed = λ e. absurd (let no : false ≡ true = e in cc);
         stays = inl refl;
+        asked = λ takes. absurd (never takes);
         stops = λ m takes. absurd (never takes);
         looks = λ look none. (reads_none v.nor.now, refl);
         keeps = λ keeps. refl;
+        still = λ refusal. refl;
         begins = λ none run. (reads_none v.nor.now, refl);
       }
 
@@ -248,6 +261,7 @@ module _ {N : Type 0} {nor : NorOf N} where
         answers = λ m takes here no_fault whole. absurd (no_fault (fault m here));
         refused = λ m takes none. absurd (some none);
         collects = λ m takes none. absurd (some none);
+        packed = λ m takes here is fine. absurd (cc);
         unstuck = λ m takes here reserve is tight. let no : Refuses Tight ≡ Refuses DeviceFault = sym tight ∙ fault m here in cc;
         cornered = λ m takes here corner tight. absurd (let no : Refuses Tight ≡ Refuses DeviceFault = sym tight ∙ fault m here in cc);
         leaves = λ takes e. absurd (let no : true ≡ false = sym e ∙ leaves in cc);
@@ -262,9 +276,11 @@ module _ {N : Type 0} {nor : NorOf N} where
         names = λ takes w name e. absurd (name_settles w name (subst (λ (x : FsErr). may_settle (Refuses x) ≡ true) (refuses_same why w e) settles.stops.among));
         failed = settles.stops.failed;
         stays = ⊎_elim (λ (stood : new.stage ≡ old.stage). inl stood) (λ (broke : (has_failed new ≡ true) × (breaks (Refuses why) ≡ true)). inr (takes, broke.0, broke.1)) settles.stops.stays;
+        asked = λ takes failed. inl (settles.stops.asked takes failed);
         stops = λ m takes stopped here. inl run;
         looks = λ look none. absurd (some none);
         keeps = λ keeps. settles.slots;
+        still = λ refusal. settles.slots;
         begins = λ none run. absurd (some none);
       }
 
@@ -315,6 +331,7 @@ module _ {N : Type 0} {nor : NorOf N} where
           (λ (is : ask ≡ Collects). inl is)
           (λ (corner : IsCorner old.geometry (nor.bytes mid.nor.now) m.state ask). inr (record { cuts = corner.cuts; reserve = reserve_before m here corner.reserve; full = corner.full }))
           short.why;
+      doable = record { done = subst (λ (b : Bool). is_refusal (answer old.geometry b m.state ask).answer ≡ false) (spare m here) short.doable.done };
       tight = short.tight;
     }
 
@@ -388,6 +405,15 @@ module _ {N : Type 0} {nor : NorOf N} where
         (cases_Bool had))
         staged
 
+    asked_by : has_failed new ≡ true → Rose (nor.device_writes old.nor.now) (nor.device_writes new.nor.now) ⊎ (HasRun old × HasNone new)
+    asked_by failed = ⊎_elim
+        (λ (stood : (new.stage ≡ old.stage) × ((had || did.wrote) ≡ true → breaks reply ≡ true → ⊥)). absurd (whole_still old.stage new.stage takes stood.0 failed))
+        (λ (broke : (new.stage ≡ Failed) × ((had || did.wrote) ≡ true) × (breaks reply ≡ true)). ⊎_elim
+        (λ (h : had ≡ true). inr (sym settles.done.2 ∙ h, acts.empty (broken_refusal reply broke.2)))
+        (λ (h : had ≡ false). inl (subst (λ (v : Volume N nor). Rose (nor.device_writes v.nor.now) (nor.device_writes new.nor.now)) (settles.idle (had_none h)).1 (did.asked (rw h at broke.1))))
+        (cases_Bool had))
+        staged
+
     pub calls_by : Calls ask old new reply
     calls_by = record {
       same = same_then settles.same same;
@@ -395,6 +421,7 @@ module _ {N : Type 0} {nor : NorOf N} where
       answers = λ m takes here no_fault whole. answered_by m here no_fault whole;
       refused = λ m takes none here no_fault whole refusal. refused_by m none here no_fault whole refusal;
       collects = λ m takes none here is. subst (λ (v : Volume N nor). IsCollected old.geometry reply (nor.bytes v.nor.now) (nor.bytes new.nor.now)) (settles.idle none).1 (acts.does.collects m.state (image_mid m here) is);
+      packed = λ m takes here is fine. let p = (acts.does.collects m.state (image_mid m here) is).packed fine in record { worth = p.worth; packed = p.packed; free = p.free; unstuck = p.unstuck };
       unstuck = λ m takes here reserve is tight. ((acts.does.collects m.state (image_mid m here) is).stuck tight).short ((stood m here).1.reserve reserve);
       cornered = λ m takes here corner tight.
           let there : IsCorner old.geometry (nor.bytes mid.nor.now) m.state ask = record { cuts = corner.cuts; reserve = (stood m here).1.reserve corner.reserve; full = corner.full } in
@@ -417,9 +444,11 @@ module _ {N : Type 0} {nor : NorOf N} where
           (λ (stood : (new.stage ≡ old.stage) × ((had || did.wrote) ≡ true → breaks reply ≡ true → ⊥)). inl stood.0)
           (λ (failed : (new.stage ≡ Failed) × ((had || did.wrote) ≡ true) × (breaks reply ≡ true)). inr (takes, ap is_failed failed.0, failed.2))
           staged;
+      asked = λ takes failed. asked_by failed;
       stops = λ m takes stopped here. stopped_by m stopped here;
       looks = λ look none. let unwritten = acts.does.looks look in (only_reads none unwritten, stage_stays (no_run none) unwritten);
       keeps = λ keeps. acts.does.keeps keeps ∙ settles.slots;
+      still = λ refusal. acts.does.still refusal ∙ settles.slots;
       begins = λ none run. let unwritten = acts.waits run in (only_reads none unwritten, stage_stays (no_run none) unwritten);
     }
 
@@ -439,6 +468,7 @@ module _ {N : Type 0} {nor : NorOf N} where
         };
         refused = λ m takes none here no_fault whole refusal. unchanged_same v;
         collects = λ m takes none here is. absurd (cc);
+        packed = λ m takes here is fine. absurd (cc);
         unstuck = λ m takes here reserve is tight. cc;
         cornered = λ m takes here corner. absurd (let no : false ≡ true = corner.cuts in cc);
         leaves = λ takes e. refl;
@@ -453,9 +483,11 @@ module _ {N : Type 0} {nor : NorOf N} where
         names = λ takes why name e. absurd (name_calm why name (calm (Refuses why) e));
         failed = λ broke. inr (unchanged_same v);
         stays = inl refl;
+        asked = λ takes failed. absurd (whole_still v.stage v.stage takes refl failed);
         stops = λ m takes stopped. absurd (let no : true ≡ false = sym takes ∙ stopped in cc);
         looks = λ look none. (reads_none v.nor.now, refl);
         keeps = λ keeps. refl;
+        still = λ refusal. refl;
         begins = λ none run. (reads_none v.nor.now, refl);
       }
 
@@ -487,6 +519,7 @@ module _ {N : Type 0} {nor : NorOf N} where
             };
         refused = λ m takes none here no_fault short refusal. calls.refused m takes none here no_fault (whole m.state) refusal;
         collects = λ m takes none here is. absurd (cc);
+        packed = λ m takes here is fine. absurd (cc);
         unstuck = λ m takes here reserve is tight. cc;
         cornered = λ m takes here corner. absurd (let no : false ≡ true = corner.cuts in cc);
         leaves = λ takes e. absurd (let no : false ≡ true = e in cc);
@@ -504,11 +537,13 @@ module _ {N : Type 0} {nor : NorOf N} where
         names = calls.names;
         failed = calls.failed;
         stays = calls.stays;
+        asked = calls.asked;
         stops = λ m takes stopped here. ⊎_elim
             (λ (run : HasRun old). inl run)
             (λ (does : IsDoable g was m.state (Writes fd (replicate count byte))). inr (record { done = ap (λ (o : Outcome). is_refusal o.answer) (fills-as_writes g spare m fd count byte).answer_is ∙ does.done }))
             (calls.stops m takes stopped here);
         looks = calls.looks;
         keeps = calls.keeps;
+        still = calls.still;
         begins = calls.begins;
       }

@@ -50,6 +50,7 @@ use Rattle.volume.specs.Calls.{HasRun, HasNone, Calls}
 use Rattle.file_calls.proofs.Going.{table_names, is_first}
 use Rattle.volume.proofs.Acting.{goes_on_none}
 use Rattle.volume.proofs.Staying.{same_none}
+use Rattle.volume.proofs.Calling.{whole_still}
 use Rattle.file_calls.proofs.Descriptors.{held_at}
 use Rattle.file_calls.proofs.Resizing.{sum_put, no_room, written_size}
 
@@ -293,6 +294,7 @@ module _ {N : Type 0} {nor : NorOf N} where
         answers = λ m takes here no_fault whole. subst (λ (d : N). Answers nor old.geometry old.nor.now d (memory_of new) m (Writes fd bytes) (Number n)) (sym device) (answers m here);
         refused = λ m takes none. absurd (busy none);
         collects = λ m takes none. absurd (busy none);
+        packed = λ m takes here is fine. absurd (cc);
         unstuck = λ m takes here reserve is tight. cc;
         cornered = λ m takes here corner. absurd (let no : false ≡ true = corner.cuts in cc);
         leaves = λ takes leaves. absurd (let no : false ≡ true = leaves in cc);
@@ -307,9 +309,11 @@ module _ {N : Type 0} {nor : NorOf N} where
         names = λ takes why name e. absurd (cc);
         failed = λ broke. absurd (let no : false ≡ true = broke in cc);
         stays = inl stage;
+        asked = λ takes failed. absurd (whole_still old.stage new.stage takes stage failed);
         stops = λ m takes shut here. absurd (let no : true ≡ false = sym takes ∙ sym (ap is_open stage) ∙ shut in cc);
         looks = λ look. absurd (let no : true ≡ false = look in cc);
         keeps = λ keeps. absurd (let no : false ≡ true = keeps in cc);
+        still = λ refusal. absurd (let no : false ≡ true = refusal in cc);
         begins = λ none. absurd (busy none);
       }
 

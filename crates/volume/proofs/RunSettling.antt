@@ -1,6 +1,6 @@
 -- The bytes that wait are put onto the chip.
 use Rattle.std.proofs.Common.{◌≡◌, ℕ, ◌≤◌, length, take, ◌⊎◌, ⊎_elim, inl, inr, List, [], ◌∷◌, Bool, true, false, refl, sym, ◌∙◌, ap, subst}
-use Rattle.std.specs.Prelude.{unwrap_or, Option, Some, None, Result, Ok, Err, IsOk, IfErr}
+use Rattle.std.specs.Prelude.{◌≢◌, unwrap_or, Option, Some, None, Result, Ok, Err, IsOk, IfErr}
 use Rattle.std.specs.Option.{is_some}
 use Rattle.std.proofs.lemmas.Bool.{cases_Bool}
 use Rattle.geometry.specs.declared.geometry.Geometry.{Geometry}
@@ -10,6 +10,7 @@ use Rattle.nor_core.specs.Device.{Changes}
 use Rattle.nor_core.proofs.Cuts.{wider, unchanged}
 use Rattle.table_model.specs.declared.error.FsErr.{FsErr}
 use Rattle.table_model.specs.declared.error.FsErr.TheVariants.{Failed as FsFailed, Tight, DeviceFault, Damaged}
+use Rattle.table_model.specs.declared.error.Differ.{Differ}
 use Rattle.table_model.specs.Table.{File, Open, State, file_of, put_file}
 use Rattle.table_model.specs.Files.{written}
 use Rattle.table_model.specs.Room.{has_room}
@@ -30,9 +31,9 @@ use Rattle.call_model.specs.Memory.{Memory, Waits, RunWaits, IsAt}
 use Rattle.call_model.proofs.Safety.{holds_itself, safe_as}
 use Rattle.call_model.proofs.Settling.{wait_settles, wait_ends}
 use Rattle.volume.specs.declared.stage.Stage.{Stage}
-use Rattle.volume.specs.declared.stage.Stage.TheVariants.{Checked, Failed}
+use Rattle.volume.specs.declared.stage.Stage.TheVariants.{Failed}
 use Rattle.volume.specs.declared.volume.Volume.{Volume}
-use Rattle.volume.specs.Opening.{is_open, is_failed}
+use Rattle.volume.specs.Opening.{is_failed}
 use Rattle.volume.specs.Stages.{takes_calls, has_failed}
 use Rattle.volume.specs.Same.{IsSameVolume}
 use Rattle.volume.specs.Replies.{breaks, may_settle}
@@ -42,7 +43,7 @@ use Rattle.file_calls.specs.Writings.{CanWrite, WriteCut, JobDone, WritesOn, wri
 use Rattle.volume.specs.Settles.{Settles, SettledOr, without_had}
 use Rattle.volume.specs.Unmounts.{IsWhole, UnmountsTo}
 use Rattle.volume.proofs.Staying.{same_none}
-use Rattle.volume.proofs.Calling.{IsStaged, settled_first}
+use Rattle.volume.proofs.Calling.{IsStaged, settled_first, open_whole, whole_still}
 
 -- ---- images
 
@@ -105,11 +106,6 @@ stops_settling DeviceFault may = refl
 stops_settling Tight may = refl
 stops_settling (Damaged d) may = refl
 stops_settling _ may = absurd may
-
--- a volume that takes calls hasn't failed
-open_whole : (stage : Stage) → is_open stage ≡ true → is_failed stage ≡ false
-open_whole Checked e = refl
-open_whole _ e = absurd (let no : false ≡ true = e in cc)
 
 -- ---- the numbers of a run
 
@@ -201,8 +197,8 @@ module _ {N : Type 0} {nor : NorOf N} where
         }
 
     -- it isn't
-    pub settles_failed : (why : FsErr) → ((f : File) → WritesOn nor old.geometry r.id r.start r.bytes f old.nor.now new.nor.now wrote (Err why)) → (memory new).run ≡ (memory old).run → IsStaged old.stage new.stage wrote (Refuses why) → Settles old new (Err why)
-    settles_failed why writes kept staged =
+    pub settles_failed : (why : FsErr) → ((f : File) → WritesOn nor old.geometry r.id r.start r.bytes f old.nor.now new.nor.now wrote (Err why)) → (wrote ≡ true → Rose (nor.device_writes old.nor.now) (nor.device_writes new.nor.now)) → (memory new).run ≡ (memory old).run → IsStaged old.stage new.stage wrote (Refuses why) → Settles old new (Err why)
+    settles_failed why writes asked kept staged =
         let g = old.geometry in
         let was = nor.bytes old.nor.now in
         let f = file_in g was r.id in
@@ -222,6 +218,10 @@ module _ {N : Type 0} {nor : NorOf N} where
                 (cases_Bool wrote))
                 (λ (failed : (new.stage ≡ Failed) × (wrote ≡ true) × (breaks (Refuses why) ≡ true)). inl (ap is_failed failed.0))
                 staged;
+            asked = λ takes failed. ⊎_elim
+                (λ (stood : (new.stage ≡ old.stage) × (wrote ≡ true → breaks (Refuses why) ≡ true → ⊥)). absurd (whole_still old.stage new.stage takes stood.0 failed))
+                (λ (broke : (new.stage ≡ Failed) × (wrote ≡ true) × (breaks (Refuses why) ≡ true)). asked broke.1)
+                staged;
             stays = ⊎_elim
                 (λ (stood : (new.stage ≡ old.stage) × (wrote ≡ true → breaks (Refuses why) ≡ true → ⊥)). inl stood.0)
                 (λ (failed : (new.stage ≡ Failed) × (wrote ≡ true) × (breaks (Refuses why) ≡ true)). inr (ap is_failed failed.0, failed.2))
@@ -234,8 +234,8 @@ module _ {N : Type 0} {nor : NorOf N} where
   -- ---- unmounting
 
   -- where no call is taken nothing is done
-  pub unmounts_closed : (v : Volume N nor) (last : Result (Unit {0}) FsErr) → takes_calls v ≡ false → (last ≡ Err DeviceFault → ⊥) → (has_failed v ≡ true → last ≡ Err FsFailed) → (has_failed v ≡ false → IsOk last) → UnmountsTo v v.nor.now last
-  unmounts_closed v last shut fault failed whole =
+  pub unmounts_closed : (v : Volume N nor) (last : Result (Unit {0}) FsErr) → takes_calls v ≡ false → (last ≡ Err DeviceFault → ⊥) → ((d : Differ) → last ≡ Err (Damaged d) → ⊥) → (has_failed v ≡ true → last ≡ Err FsFailed) → (has_failed v ≡ false → IsOk last) → UnmountsTo v v.nor.now last
+  unmounts_closed v last shut fault damage failed whole =
       let g = v.geometry in
       let a = nor.bytes v.nor.now in
       let never : takes_calls v ≡ true → ⊥ = λ takes. let no : true ≡ false = sym takes ∙ shut in cc in
@@ -244,7 +244,9 @@ module _ {N : Type 0} {nor : NorOf N} where
             (λ tells m at. (safe_as g a a (holds_itself g a), settled_first (table_of g a) m [] at.table));
         stands = λ m takes. absurd (never takes);
         cause = λ e. absurd (fault e);
+        differs = λ d e. absurd (damage d e);
         among = λ takes. absurd (never takes);
+        idle = λ takes. absurd (never takes);
         still = λ e. refl;
         failed = failed;
         whole = λ e. whole;
@@ -274,6 +276,14 @@ module _ {N : Type 0} {nor : NorOf N} where
   among_by (Ok had) settles = tt
   among_by (Err why) settles = settles.stops.among
 
+  differs_by : {old new : Volume N nor} (had : Result Bool FsErr) → Settles old new had → (d : Differ) → without_had had ≡ Err (Damaged d) → d.wanted ≢ d.found
+  differs_by (Ok had) settles d e = absurd (cc)
+  differs_by (Err why) settles d e = settles.stops.differs d (cc)
+
+  idle_by : {old new : Volume N nor} (had : Result Bool FsErr) → Settles old new had → (memory old).run ≡ None → IsOk (without_had had) × (new.nor.now ≡ old.nor.now)
+  idle_by (Ok had) settles none = (refl, ap (λ (v : Volume N nor). v.nor.now) (settles.idle none).1)
+  idle_by (Err why) settles none = absurd (let no = (settles.idle none).0 in cc)
+
   pub unmounts_open : {old new : Volume N nor} (last : Result (Unit {0}) FsErr) → takes_calls old ≡ true → SettledOr old new last → UnmountsTo old new.nor.now last
   unmounts_open {old} {new} last takes settled =
       let shut : takes_calls old ≡ false → ⊥ = λ e. let no : true ≡ false = sym takes ∙ e in cc in
@@ -282,7 +292,9 @@ module _ {N : Type 0} {nor : NorOf N} where
         cuts = settled.settles.cuts;
         stands = λ m takes here. whole_by settled.had settled.settles m here;
         cause = cause_by settled.had settled.settles;
+        differs = differs_by settled.had settled.settles;
         among = λ takes. among_by settled.had settled.settles;
+        idle = λ takes none. idle_by settled.had settled.settles none;
         still = λ e. absurd (shut e);
         failed = λ e. absurd (let no : true ≡ false = sym e ∙ whole in cc);
         whole = λ e. absurd (shut e);

@@ -7,7 +7,7 @@ use Rattle.nor_core.specs.Device.{Changes, OnlyReads}
 use Rattle.table_model.specs.declared.error.FsErr.{FsErr}
 use Rattle.table_model.specs.declared.error.FsErr.TheVariants.{Failed, DeviceFault, Damaged, Tight}
 use Rattle.table_model.specs.declared.error.Differ.{Differ}
-use Rattle.table_model.specs.Reply.{Answer, Gives, Refuses}
+use Rattle.table_model.specs.Reply.{Answer, Fine, Gives, Refuses}
 use Rattle.table_model.specs.Ask.{Ask, Collects}
 use Rattle.table_model.specs.Steps.{is_refusal}
 use Rattle.table_model.specs.Window.{Moment, settled_at, leaves_window, incoming_of, continues}
@@ -20,6 +20,7 @@ use Rattle.file_calls.specs.Replies.{is_of_name, names_fault, may_answer, is_cha
 use Rattle.volume.specs.Replies.{may_settle, breaks}
 use Rattle.volume.specs.Holds.{memory, Holds}
 use Rattle.volume.specs.Unchanged.{Unchanged}
+use Rattle.volume.specs.Packed.{IsPackedNow}
 use Rattle.file_calls.specs.Goes.{IsDoable, IsCorner, StopsShort, IsCollected, IsGiven}
 
 module _ {N : Type 0} {nor : NorOf N} where
@@ -42,6 +43,8 @@ module _ {N : Type 0} {nor : NorOf N} where
     pub refused : (m : Moment) → takes_calls old ≡ true → HasNone old → Holds old m → ¬ (reply ≡ Refuses DeviceFault) → ¬ StopsShort old.geometry (nor.bytes old.nor.now) m.state ask reply → is_refusal reply ≡ true → Unchanged old new
     -- where garbage collection stops
     pub collects : (m : Moment) → takes_calls old ≡ true → HasNone old → Holds old m → ask ≡ Collects → IsCollected old.geometry reply (nor.bytes old.nor.now) (nor.bytes new.nor.now)
+    -- done, it leaves no block that is worth cleaning, also where bytes waited
+    pub packed : (m : Moment) → takes_calls old ≡ true → Holds old m → ask ≡ Collects → reply ≡ Fine → IsPackedNow old.geometry (nor.bytes new.nor.now)
     -- with two free blocks collection isn't stuck
     pub unstuck : (m : Moment) → takes_calls old ≡ true → Holds old m → HasReserve old.geometry (nor.bytes old.nor.now) → ask ≡ Collects → reply ≡ Refuses Tight → ⊥
     -- Tight for want of a page for a cut, nothing is changed but where pages stand, and that what waited is on the chip
@@ -65,9 +68,13 @@ module _ {N : Type 0} {nor : NorOf N} where
     -- table refuses
     pub failed : breaks reply ≡ true → (has_failed new ≡ true) ⊎ Unchanged old new
     pub stays : (new.stage ≡ old.stage) ⊎ ((takes_calls old ≡ true) × (has_failed new ≡ true) × (breaks reply ≡ true))
+    -- it fails only where the call has asked for a program or an erase, or has put what waited onto the chip
+    pub asked : takes_calls old ≡ true → has_failed new ≡ true → Rose (nor.device_writes old.nor.now) (nor.device_writes new.nor.now) ⊎ (HasRun old × HasNone new)
     pub stops : (m : Moment) → takes_calls old ≡ true → takes_calls new ≡ false → Holds old m → HasRun old ⊎ IsDoable old.geometry (nor.bytes old.nor.now) m.state ask
     -- where nothing waits a call that only looks asks for no program and no erase, and one that only looks at descriptors leaves them
     pub looks : is_change ask ≡ false → HasNone old → OnlyReads nor old.nor.now new.nor.now × (new.stage ≡ old.stage)
     pub keeps : keeps_slots ask ≡ true → new.slots.now ≡ old.slots.now
+    -- refused, or where the device failed, the descriptors stay
+    pub still : is_refusal reply ≡ true → new.slots.now ≡ old.slots.now
     -- a write whose bytes begin to wait asks for no program and no erase
     pub begins : HasNone old → HasRun new → OnlyReads nor old.nor.now new.nor.now × (new.stage ≡ old.stage)

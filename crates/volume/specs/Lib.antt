@@ -5,6 +5,7 @@ pub mod Same
 pub mod Holds
 pub mod Acts
 pub mod Unchanged
+pub mod Packed
 pub mod Settles
 pub mod Settled
 pub mod Extends

@@ -1,6 +1,7 @@
 -- Calls that begin once nothing waits.
 use Rattle.std.specs.Prelude.{◌≡◌, Bool, true, false, ◌||◌}
 use Rattle.nor_core.specs.declared.state.NorState.{Ghosts as NorOf}
+use Rattle.nor_core.specs.Count.{Rose}
 use Rattle.table_model.specs.Reply.{Answer}
 use Rattle.table_model.specs.Ask.{Ask, Fills}
 use Rattle.table_model.specs.Window.{Moment, incoming_of, continues}
@@ -23,4 +24,5 @@ module _ {N : Type 0} {nor : NorOf N} where
   pub record ActsOn (had : Bool) (ask : Ask) (old new : Volume N nor) (reply : Answer) : Type 0 where
     pub wrote : Bool
     pub acts : Acts nor old.geometry ask old.nor.now new.nor.now old.slots.now new.slots.now (memory new).run wrote reply
+    pub asked : wrote ≡ true → Rose (nor.device_writes old.nor.now) (nor.device_writes new.nor.now)
     pub stage : new.stage ≡ stage_after (had || wrote) reply

@@ -13,7 +13,7 @@ use Rattle.image_model.specs.Tables.{table_of}
 use Rattle.call_model.specs.Safe.{IsSafe, Holds as HoldsImage}
 use Rattle.call_model.specs.Memory.{IsAt}
 use Rattle.volume.specs.declared.volume.Volume.{Volume}
-use Rattle.volume.specs.Stages.{has_failed}
+use Rattle.volume.specs.Stages.{takes_calls, has_failed}
 use Rattle.volume.specs.Same.{IsSameVolume}
 use Rattle.volume.specs.Replies.{breaks, may_settle}
 use Rattle.volume.specs.Holds.{memory, Holds}
@@ -32,6 +32,7 @@ module _ {N : Type 0} {nor : NorOf N} where
     pub differs : (d : Differ) → why ≡ Damaged d → d.wanted ≢ d.found
     -- after a fault the volume has failed, or nothing is changed
     pub failed : breaks (Refuses why) ≡ true → (has_failed new ≡ true) ⊎ Unchanged old new
+    pub asked : takes_calls old ≡ true → has_failed new ≡ true → Rose (nor.device_writes old.nor.now) (nor.device_writes new.nor.now)
     pub stays : (new.stage ≡ old.stage) ⊎ ((has_failed new ≡ true) × (breaks (Refuses why) ≡ true))
 
   -- What settling does to a volume that takes calls: the bytes that wait are put onto the chip, and it tells whether there were any.

@@ -1,10 +1,11 @@
 -- What is left of a volume that is unmounted.
-use Rattle.std.specs.Prelude.{◌≡◌, ◌⊎◌, true, false, Result, Err, IsOk, [], IfErr}
+use Rattle.std.specs.Prelude.{◌≡◌, ◌≢◌, ◌⊎◌, true, false, None, Result, Err, IsOk, [], IfErr}
 use Rattle.nor_core.specs.declared.state.NorState.{Ghosts as NorOf}
 use Rattle.nor_core.specs.Count.{Rose}
 use Rattle.nor_core.specs.Device.{Changes}
 use Rattle.table_model.specs.declared.error.FsErr.{FsErr}
-use Rattle.table_model.specs.declared.error.FsErr.TheVariants.{Failed, DeviceFault}
+use Rattle.table_model.specs.declared.error.FsErr.TheVariants.{Failed, DeviceFault, Damaged}
+use Rattle.table_model.specs.declared.error.Differ.{Differ}
 use Rattle.table_model.specs.Reply.{Refuses}
 use Rattle.table_model.specs.Window.{Moment, from_settled, IsAmong}
 use Rattle.image_model.specs.Tables.{table_of}
@@ -29,7 +30,10 @@ pub record UnmountsTo {N : Type 0} {nor : NorOf N} (old : Volume N nor) (new : N
   -- of a volume that takes calls and stands at a moment, all is on the chip, unless the device failed
   pub stands : (m : Moment) → takes_calls old ≡ true → Holds old m → (IsOk last × IsWhole nor old new m) ⊎ (last ≡ Err DeviceFault)
   pub cause : last ≡ Err DeviceFault → Rose (nor.faults old.nor.now) (nor.faults new)
+  pub differs : (d : Differ) → last ≡ Err (Damaged d) → d.wanted ≢ d.found
   pub among : takes_calls old ≡ true → IfErr last (λ why. may_settle (Refuses why) ≡ true)
+  -- where nothing waits nothing is asked of the device
+  pub idle : takes_calls old ≡ true → (memory old).run ≡ None → IsOk last × (new ≡ old.nor.now)
   -- of one that takes none nothing is changed
   pub still : takes_calls old ≡ false → new ≡ old.nor.now
   pub failed : has_failed old ≡ true → last ≡ Err Failed

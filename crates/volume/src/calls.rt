@@ -1,5 +1,6 @@
 ghost use Rattle.std.specs.Prelude.{◌≡◌, ◌*◌, ◌≤◌, ℕ, List, length, None, true, false};
 ghost use Rattle.geometry.specs.Numbers.{usable, body, scratch_need, cache_need};
+ghost use Rattle.nor_core.specs.Count.{Rose};
 ghost use Rattle.flash_view.specs.Same.{IsSameView};
 ghost use Rattle.page_cache.specs.Kept.{IsKept, FewReads};
 ghost use Rattle.flash_view.specs.Table.{HasTable};
@@ -86,6 +87,7 @@ fn call_on<N: Nor>(
     ensures cache_size { length cache.new ≡ length cache.old }
     ensures few { FewReads N.NorState g nor.old cache.old nor.new cache.new }
     ensures faults { N.faults nor.old ≤ N.faults nor.new }
+    ensures asked { result.wrote ≡ true → Rose (N.device_writes nor.old) (N.device_writes nor.new) }
     ensures size { length keep.new ≡ length keep.old }
     ensures held { held.new.taken ≤ length keep.new }
     ensures acts { Acts N.NorState g (asked call.now) nor.old nor.new slots.old slots.new (run_in held.new keep.new) result.wrote (shown_by result.told into.new) }

@@ -61,6 +61,7 @@ impl<'b, B: Board> Volume<'b, B> {
         ensures done { B.tells self.old.nor.now → OnOk result (B.said self.new.nor.now ≡ B.said self.old.nor.now ++ piece.now) }
         ensures cuts { Leaves B.NorState self.old.nor.now self.new.nor.now (InSay B.NorState self.old.nor.now piece.now) }
         ensures stays { takes_calls self.new ≡ takes_calls self.old }
+        ensures stage { self.new.stage ≡ self.old.stage }
         ensures slots { self.new.slots.now ≡ self.old.slots.now }
         ensures memory { memory self.new ≡ memory self.old }
         ensures same { IsSameVolume self.old self.new }

@@ -1,6 +1,7 @@
 // Written bytes that wait are put onto the chip.
 ghost use Rattle.std.specs.Prelude.{◌≡◌, ◌*◌, ◌≤◌, length, take, true};
 ghost use Rattle.geometry.specs.Numbers.{scratch_need, cache_need};
+ghost use Rattle.nor_core.specs.Count.{Rose};
 ghost use Rattle.table_model.specs.Table.{File};
 ghost use Rattle.page_cache.specs.Kept.{IsKept, FewReads};
 ghost use Rattle.flash_view.specs.Table.{HasTable};
@@ -45,6 +46,7 @@ fn settle_on<N: Nor>(
     ensures cache_size { length cache.new ≡ length cache.old }
     ensures few { FewReads N.NorState g nor.old cache.old nor.new cache.new }
     ensures faults { N.faults nor.old ≤ N.faults nor.new }
+    ensures asked { result.wrote ≡ true → Rose (N.device_writes nor.old) (N.device_writes nor.new) }
     ensures writes { (f : File) → WritesOn N.NorState g held.now.id held.now.start (take held.now.taken bytes.now) f nor.old nor.new result.wrote result.result }
     ensures table { counted.new ≡ true → HasTable N.NorState g nor.new rows.new }
 {

@@ -1,5 +1,5 @@
 ghost use Rattle.std.specs.Prelude.{◌≡◌, ◌*◌, ◌≤◌, length, min, replicate, OnOk, IsErrOf, IfOk, IfErr, IfSome, Err, None, true};
-ghost use Rattle.geometry.specs.Numbers.{usable, write_refusal, scratch_need, work_need, cache_need, check_need};
+ghost use Rattle.geometry.specs.Numbers.{usable, write_refusal, scratch_need, rows_need, work_need, cache_need, check_need};
 ghost use Rattle.nor_core.specs.Count.{Rose};
 ghost use Rattle.nor_core.specs.Device.{Changes, OnlyReads};
 ghost use Rattle.image_model.specs.Kinds.{spoiled_blocks, mixed_blocks};
@@ -144,6 +144,7 @@ fn check_on<N: Nor>(
     ensures apart { IfErr result IsApart }
     ensures undamaged { N.tells nor.old → IfErr result IsUndamaged }
     ensures table { counted.new ≡ true → HasTable N.NorState g nor.new rows.new }
+    ensures stands { rows_need g ≤ length rows.new → OnOk result (counted.new ≡ true) }
 {
     let mut v = View {
         geometry: g,
@@ -167,6 +168,7 @@ impl<'b, N: Nor> Volume<'b, N> {
     ghost use Rattle.image_model.specs.Kinds.{spoiled_blocks, mixed_blocks};
     ghost use Rattle.image_model.specs.Tidy.{IsTidy, HasReserve};
     ghost use Rattle.page_cache.specs.Frames.{held};
+    ghost use Rattle.page_cache.specs.Kept.{FewReads};
     ghost use Rattle.volume.specs.Holds.{memory};
     ghost use Rattle.volume.specs.Unmounts.{UnmountsTo};
     ghost use Rattle.vol_mount.specs.Mounts.{IsLate, CountsSpoiled};
@@ -193,7 +195,7 @@ impl<'b, N: Nor> Volume<'b, N> {
         ensures check_name { result.check.ghost_name ≡ lent.entry.check.ghost_name }
         ensures cache_size { length result.cache.now ≡ length lent.entry.cache.now }
         ensures empty { held g result.cache.now ≡ 0 }
-        ensures unmounted { takes_calls result ≡ false }
+        ensures stage { result.stage ≡ Stage.Unmounted }
         ensures closed { memory result ≡ record { slots = replicate (min 65535 (length lent.entry.slots.now)) None; run = None } }
     {
         let Lent {
@@ -227,6 +229,7 @@ impl<'b, N: Nor> Volume<'b, N> {
         ensures told { N.tells self.old.nor.now → OnOk result (spoiled_blocks self.old.geometry (N.bytes self.old.nor.now) ≤ 1) }
         ensures spoiled { N.tells self.old.nor.now → IfErr result (CountsSpoiled self.old.geometry (N.bytes self.old.nor.now)) }
         ensures mounted { OnOk result (is_mounted self.new.stage ≡ true) }
+        ensures stage { OnErr result (self.new.stage ≡ self.old.stage) }
         ensures slots { self.new.slots.now ≡ self.old.slots.now }
         ensures empty { OnOk result ((memory self.new).run ≡ None) }
         ensures memory { OnErr result (memory self.new ≡ memory self.old) }
@@ -242,9 +245,10 @@ impl<'b, N: Nor> Volume<'b, N> {
     /// Checks a mounted volume, so that it takes calls, in whatever state a cut or another program left it: a block
     /// without its magic is made fresh, and every entry is killed that no file needs, those of damaged files too. Where fewer than two
     /// blocks are free then, blocks are cleaned until two are, or none that is worth cleaning can be cleaned: after a cut on a volume
-    /// with two free blocks there are two. Then every descriptor is closed. Refused, with nothing written, are a volume that may not be
-    /// written (`Wrong`) and one of which a block holds live pages of both kinds (`Mixed`). Where the device fails, or a page that is
-    /// moved reads otherwise than it was written (`Damaged`), what was done stays, and the check can be called again.
+    /// with two free blocks there are two. Then every descriptor is closed, and the counts of blocks are kept. Refused, with nothing
+    /// written, are a volume that may not be written (`Wrong`) and one of which a block holds live pages of both kinds (`Mixed`). Where
+    /// the device fails, or a page that is moved reads otherwise than it was written (`Damaged`), what was done stays, and the check can
+    /// be called again.
     pub fn check(&mut self) -> Result<Report, CheckErr>
         requires mounted { is_mounted self.old.stage ≡ true }
         ensures wrong { IfSome (write_refusal self.old.geometry) (λ why. result ≡ Err (CheckErr.Wrong why)) }
@@ -260,6 +264,8 @@ impl<'b, N: Nor> Volume<'b, N> {
         ensures undamaged { N.tells self.old.nor.now → IfErr result IsUndamaged }
         ensures idle { N.tells self.old.nor.now → IsTidy self.old.geometry (N.bytes self.old.nor.now) → HasReserve self.old.geometry (N.bytes self.old.nor.now) → OnlyReads N.NorState self.old.nor.now self.new.nor.now }
         ensures taken { OnOk result (takes_calls self.new ≡ true) }
+        ensures stage { OnErr result (self.new.stage ≡ self.old.stage) }
+        ensures counted { OnOk result (self.new.counted ≡ true) }
         ensures closed { OnOk result (memory self.new ≡ record { slots = replicate (min 65535 (length self.old.slots.now)) None; run = None }) }
         ensures slots { OnErr result (self.new.slots.now ≡ self.old.slots.now) }
         ensures same { IsSameVolume self.old self.new }
@@ -294,6 +300,7 @@ impl<'b, N: Nor> Volume<'b, N> {
     /// has failed before it is `Failed`, and where this fails why.
     pub fn unmount(mut self) -> Unmounted<'b, N>
         ensures unmounts { UnmountsTo self.entry result.back.nor.now result.last }
+        ensures few { FewReads N.NorState self.entry.geometry self.entry.nor.now self.entry.cache.now result.back.nor.now result.back.lent.cache.now }
         ensures nor_name { result.back.nor.ghost_name ≡ self.entry.nor.ghost_name }
         ensures work_name { result.back.lent.work.ghost_name ≡ self.entry.work.ghost_name }
         ensures cache_name { result.back.lent.cache.ghost_name ≡ self.entry.cache.ghost_name }

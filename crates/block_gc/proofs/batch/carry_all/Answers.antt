@@ -1,8 +1,8 @@
-use Rattle.std.proofs.Common.{◌≡◌, [], sym, subst, rules, Err}
+use Rattle.std.proofs.Common.{◌≡◌, [], sym, subst, rules, Err, arith, ap, length}
 use Rattle.geometry.specs.declared.geometry.Geometry.{Geometry}
 use Rattle.flash_view.proofs.Stepped.{passes, stepped_then}
 use Rattle.block_gc.specs.Batches.{AreEntries}
-use Rattle.block_gc.proofs.BatchEnds.{first_begins, first_then}
+use Rattle.block_gc.proofs.BatchEnds.{first_begins, first_then, carried_on}
 use Rattle.block_gc.proofs.batch.carry_all.Goals as goal
 
 pub returns-in_err-carry-clause-step : goal.returns-in_err-carry-clause-step
@@ -30,3 +30,11 @@ carry_rest-requires-clause-pages g c = subst (λ (k : Geometry). AreEntries k c.
 
 pub returns-clause-pages : goal.returns-clause-pages
 returns-clause-pages g c = subst (λ (k : Geometry). AreEntries k c.carry_rest.new.carried.items) (c.carry.ensures.step [] 0).framed.same.geometry c.carry_rest.ensures.pages
+
+pub returns-in_err-carry-clause-few : goal.returns-in_err-carry-clause-few
+returns-in_err-carry-clause-few g c = let is : c.from_residual.result ≡ Err c.in_err-carry.field-0.0 = search rules in rw is tt
+
+pub returns-clause-few : goal.returns-clause-few
+returns-clause-few g c =
+    let l = ap length c.requires.none in
+    carried_on _ _ _ _ _ _ c.carry_rest.ensures.few (omega (arith, c.in_ok-carry.ensures.few, l))

@@ -12,8 +12,9 @@ loop-i-init g c =
     record {
       geometry = refl;
       end = c.entries-i-end.ensures.count;
+      few = omega arith;
       pages = c.requires.pages;
-      step = λ was. looked (looks_none view) (λ e. absurd (cc)) tt (λ tells need. (carry_stays _ was _ c.args.block c.args.most c.args.batch _ need.so_far, rest_begins _ was _ c.args.block c.args.most c.args.batch c.args.first _ _ need));
+      step = λ was. looked (looks_none view) (λ e. absurd (cc)) tt (λ tells need. (carry_stays _ was _ c.args.block c.args.most c.args.batch _ need.so_far, rest_begins _ was _ c.args.block c.args.most c.args.batch c.args.first _ _ (omega arith) need));
     }
 
 pub returns-in_err-carry_turn-clause-step : goal.returns-in_err-carry_turn-clause-step
@@ -44,6 +45,7 @@ loop-i-preserved g c =
     record {
       geometry = so_far.geometry;
       end = so_far.end;
+      few = omega (arith, so_far.few, c.in_ok-carry_turn.ensures.few);
       pages = rw (so_far.step []).framed.same.geometry at c.in_ok-carry_turn.ensures.pages;
       step = λ was. stepped_then (so_far.step was) (c.in_ok-carry_turn.ensures.step was)
           (λ tells need. rest_begin _ was _ a.block a.most a.batch a.first _ _ a.carried.now.items c.loop-i.carried.items c.carry_turn.new.carried.items need)
@@ -51,4 +53,10 @@ loop-i-preserved g c =
     }
 
 pub returns-clause-step : goal.returns-clause-step
-returns-clause-step g c = λ was. weaker (c.loop-i.invariant.step was) (λ tells need. rest_ends _ was _ c.args.block c.args.most c.args.batch c.args.first _ c.args.carried.now.items c.loop-i.carried.items need)
+returns-clause-step g c = λ was. weaker (c.loop-i.invariant.step was) (λ tells need. rest_ends _ was _ c.args.block c.args.most c.args.batch c.args.first _ c.args.carried.now.items c.loop-i.carried.items (omega (arith, c.loop-i.invariant.end, c.loop-i-test.false)) need)
+
+pub returns-in_err-carry_turn-clause-few : goal.returns-in_err-carry_turn-clause-few
+returns-in_err-carry_turn-clause-few g c = let is : c.from_residual.result ≡ Err c.in_err-carry_turn.field-0.0 = search rules in rw is tt
+
+pub returns-clause-few : goal.returns-clause-few
+returns-clause-few g c = c.loop-i.invariant.few

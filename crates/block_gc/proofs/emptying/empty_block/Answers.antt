@@ -13,6 +13,7 @@ loop-i-init g c =
       geometry = refl;
       end = c.entries-i-end.ensures.count;
       step = looked {step = emptying_to c.args.block c.args.most 0} (looks_none view) (λ e. absurd (cc)) tt (λ tells can. none_turned _ _ c.args.block c.args.most (view_image view (g.met.N.Nor.sized _) tells) can);
+      few = λ tells can. omega arith;
     }
 
 pub empty_entry-requires-clause-at : goal.empty_entry-requires-clause-at
@@ -25,14 +26,14 @@ empty_entry-requires-clause-at g c =
     let here = entry_in geometry c.args.block c.entry_page.result c.requires.block (omega (arith, place)) (omega (arith, place, less)) in
     rw was.step.framed.same.geometry here.0
 
-pub returns-in_err-empty_entry : goal.returns-in_err-empty_entry
+pub returns-in_err-empty_entry-clause-step : goal.returns-in_err-empty_entry-clause-step
 unfolding per_block lookups
-returns-in_err-empty_entry g c =
+returns-in_err-empty_entry-clause-step g c =
     let was = c.loop-i.invariant in
     let place = rw was.geometry at c.entry_page.ensures.place in
     let is : c.from_residual.result ≡ Err c.in_err-empty_entry.field-0.0 = search rules in
     passes
-    (stepped_then was.step c.in_err-empty_entry.ensures (λ tells can. turns_begin _ _ c.args.block c.args.most c.loop-i.i (c.loop-i.i + 1) can) (λ tells can so_far. next_turn _ _ _ _ _ _ _ place (omega arith) so_far))
+    (stepped_then was.step c.in_err-empty_entry.ensures.step (λ tells can. turns_begin _ _ c.args.block c.args.most c.loop-i.i (c.loop-i.i + 1) can) (λ tells can so_far. next_turn _ _ _ _ _ _ _ place (omega arith) so_far))
     is (λ tells can. turns_pass _ _ c.args.block c.args.most (c.loop-i.i + 1) can)
 
 pub loop-i-preserved : goal.loop-i-preserved
@@ -43,11 +44,22 @@ loop-i-preserved g c =
     record {
       geometry = was.geometry;
       end = was.end;
-      step = stepped_then was.step c.in_ok-empty_entry.ensures (λ tells can. turns_begin _ _ c.args.block c.args.most c.loop-i.i (c.loop-i.i + 1) can) (λ tells can so_far. next_turn _ _ _ _ _ _ _ place (omega arith) so_far);
+      step = stepped_then was.step c.in_ok-empty_entry.ensures.step (λ tells can. turns_begin _ _ c.args.block c.args.most c.loop-i.i (c.loop-i.i + 1) can) (λ tells can so_far. next_turn _ _ _ _ _ _ _ place (omega arith) so_far);
+      few = λ tells can.
+          let so_far = was.step.ends tells can in
+          let turn = rw was.step.framed.same.geometry at (c.in_ok-empty_entry.ensures.few (was.step.cuts.cuts.told tells)) in
+          let less = turn so_far.can (λ q here below. so_far.gone q here (omega (arith, below, place))) in
+          omega (arith, was.few tells can, less);
     }
 
-pub returns : goal.returns
+pub returns-clause-step : goal.returns-clause-step
 unfolding per_block lookups entries
-returns g c =
+returns-clause-step g c =
     let was = c.loop-i.invariant in
     weaker was.step (λ tells can. turns_end _ _ c.args.block c.args.most c.loop-i.i (omega (arith, was.end, c.loop-i-test.false)) can)
+
+pub returns-in_err-empty_entry-clause-few : goal.returns-in_err-empty_entry-clause-few
+returns-in_err-empty_entry-clause-few g c = λ tells can. let is : c.from_residual.result ≡ Err c.in_err-empty_entry.field-0.0 = search rules in rw is tt
+
+pub returns-clause-few : goal.returns-clause-few
+returns-clause-few g c = λ tells can. c.loop-i.invariant.few tells can

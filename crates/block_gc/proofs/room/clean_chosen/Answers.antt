@@ -15,13 +15,13 @@ pub returns-in_err-clean-in-Ok-Some : goal.returns-in_err-clean-in-Ok-Some
 returns-in_err-clean-in-Ok-Some g c =
     let seen = c.in-Ok-Some.ensures in
     let is : c.from_residual.result ≡ Err c.in_err-clean-in-Ok-Some.field-0.0 = search rules in
-    passes (after_look seen.looks c.in_err-clean-in-Ok-Some.ensures (λ tells can. record { needs = can; cut = λ d cut. cut; done = λ d ok done. done })) is
+    passes (after_look seen.looks c.in_err-clean-in-Ok-Some.ensures.step (λ tells can. record { needs = can; cut = λ d cut. cut; done = λ d ok done. done })) is
     (λ tells t. cleans_chosen _ _ _ (sym (seen.told tells t) ∙ c.in-Ok-Some.field-0-is) t)
 
 pub returns-in_ok-clean-in-Ok-Some : goal.returns-in_ok-clean-in-Ok-Some
 returns-in_ok-clean-in-Ok-Some g c =
     let seen = c.in-Ok-Some.ensures in
     let block = c.in-Ok-Some.block in
-    ends_as (after_look seen.looks c.in_ok-clean-in-Ok-Some.ensures (λ tells can. record { needs = can; cut = λ d cut. cut; done = λ d ok done. done }))
+    ends_as (after_look seen.looks c.in_ok-clean-in-Ok-Some.ensures.step (λ tells can. record { needs = can; cut = λ d cut. cut; done = λ d ok done. done }))
     (λ tells t. cleans_chosen _ _ block (sym (seen.told tells t) ∙ c.in-Ok-Some.field-0-is) t)
     (λ tells t done. one_cleaned _ _ _ block (sym (seen.told tells t) ∙ c.in-Ok-Some.field-0-is) done)

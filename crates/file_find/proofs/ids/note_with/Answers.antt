@@ -1,5 +1,15 @@
+use Rattle.std.proofs.Common.{◌≡◌, ◌≢◌, ◌-◌, ◌≤◌, ℕ, [], length, drop, arith, append-nil}
+use Rattle.std.proofs.lemmas.Slice.{between_to_end}
+use Rattle.std.proofs.lemmas.List.{drop_all, length-drop}
+use Rattle.page_layout.specs.Ids.{bit_of}
 use Rattle.file_find.proofs.Bits.{notes_one}
 use Rattle.file_find.proofs.ids.note_with.Goals as goal
 
 pub returns : goal.returns
-returns c = notes_one c.args.start c.args.id c.args.marks.now c.keep_near.new.marks c.note.new.marks c.keep_near.ensures c.note.ensures.noted c.note.ensures.others c.note.ensures.pages
+returns c =
+    let mid = c.keep_near.new.marks in
+    let start = c.args.start in
+    let most : start ≤ length mid = omega (arith, c.requires, c.keep_near.auto.marks) in
+    let others : (k : ℕ) → k ≢ c.args.id → bit_of c.note_id.new.bits k ≡ bit_of (drop start mid) k = rw (between_to_end mid start (length mid) (omega arith)) at c.note_id.ensures.others in
+    let behind : drop (length mid - start) (drop start mid) ≡ [] = drop_all (length mid - start) (drop start mid) (simp length-drop (omega arith)) in
+    rw (behind, append-nil) (notes_one start c.args.id c.args.marks.now mid c.note_id.new.bits c.keep_near.ensures c.note_id.ensures.noted others most)

@@ -1,11 +1,8 @@
-use Rattle.std.proofs.Common.{◌≡◌, ◌+◌, ◌∙◌, ◌<◌, ◌≤◌, ℕ, arith, refl, None, ap, take, slice_index, List}
+use Rattle.std.proofs.Common.{◌≡◌, ◌+◌, ◌∙◌, ◌<◌, ℕ, arith, refl, None, ap, take, slice_index, List}
 use Rattle.geometry.specs.Numbers.{page_count}
-use Rattle.image_model.specs.Live.{live_at}
-use Rattle.flash_view.specs.Found.{headed}
 use Rattle.flash_view.specs.Walk.{IsNextLive, NextLive}
 use Rattle.flash_view.proofs.Looking.{looks_then, looks_none, built_then}
 use Rattle.flash_view.proofs.Passed.{passed_head}
-use Rattle.file_find.specs.Marks.{Surveyed}
 use Rattle.file_find.proofs.Bits.{none_set}
 use Rattle.file_find.proofs.Noting.{surveyed_none, surveyed_skip, surveyed_all, found_told}
 use Rattle.file_find.proofs.marks.survey.Goals as goal

@@ -11,5 +11,5 @@ pub returns : goal.returns
 returns g c = λ size f.
     let seen = c.in_ok-copied.ensures in
     let a = c.args in
-    after_look {last = replacing a.to a.index (record { id = a.id; span = c.in_ok-copied.copied.span }) c.build_copy.new.v.work.now} seen.looks c.put_over.ensures
+    after_look {last = replacing a.to a.index (record { id = a.id; span = c.in_ok-copied.copied.span }) c.build_copy.new.v.work.now} seen.looks c.put_over.ensures.step
     (λ tells can. refresh_puts _ _ a.id size a.index a.to f can c.requires.id c.in_ok-copied.copied _ (seen.told tells (refresh_live _ _ a.id size a.index f can.can)))

@@ -13,6 +13,6 @@ pub returns : goal.returns
 returns g c = λ was bytes f.
     let seen = c.in_ok-build_renamed.ensures in
     let a = c.args in
-    after_look {last = replacing a.at a.spot.index (record { id = a.patch.id; span = c.index_span.result }) c.build_renamed.new.v.work.now} seen.looks c.put_over.ensures
+    after_look {last = replacing a.at a.spot.index (record { id = a.patch.id; span = c.index_span.result }) c.build_renamed.new.v.work.now} seen.looks c.put_over.ensures.step
     (λ tells can. index_puts _ was _ a.patch a.spot a.to a.at bytes f can c.requires.id c.index_span.result
     (c.index_span.ensures ∙ ap (λ (x : Geometry). index_span x a.patch.span) seen.looks.same.geometry) _ (seen.told tells (index_live _ was _ a.patch a.spot a.to bytes f can.has)))

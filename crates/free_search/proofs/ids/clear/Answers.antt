@@ -1,5 +1,5 @@
 use Rattle.std.proofs.Common.{arith}
-use Rattle.free_search.proofs.Bits.{none_set}
+use Rattle.page_layout.proofs.IdBits.{none_set}
 use Rattle.free_search.proofs.ids.clear.Goals as goal
 
 pub returns-clause-none : goal.returns-clause-none

@@ -1,5 +1,5 @@
 use Rattle.std.proofs.Common.{arith}
-use Rattle.free_search.proofs.Bits.{cleared_in}
+use Rattle.page_layout.proofs.IdBits.{cleared_in}
 use Rattle.free_search.proofs.ids.clear_bits.Goals as goal
 
 pub returns-clause-none : goal.returns-clause-none

@@ -1,6 +1,6 @@
 use Rattle.std.proofs.Common.{◌≡◌, ◌+◌, ◌==◌, not, false, ap, sym}
 use Rattle.flash_view.proofs.Finds.{find_later}
-use Rattle.free_search.specs.Ids.{bit_of}
+use Rattle.page_layout.specs.Ids.{bit_of}
 use Rattle.free_search.proofs.ids.first_unnoted.Goals as goal
 
 pub loop-id-preserved : goal.loop-id-preserved

@@ -1,7 +1,7 @@
 use Rattle.std.proofs.Common.{◌≡◌, ◌==◌, ◌+◌, ◌-◌, ℕ, not}
 use Rattle.std.specs.Prelude.{find}
 use Rattle.std.specs.List.{range_with_len}
-use Rattle.free_search.specs.Ids.{bit_of}
+use Rattle.page_layout.specs.Ids.{bit_of}
 use Rattle.free_search.proofs.ids.first_unnoted.Given as goal
 
 abbrev pub invariant-loop-id : goal.invariant-loop-id

@@ -17,6 +17,7 @@ loop-i-init g c =
       wrote = λ some. absurd (omega (arith, some));
       changes = unchanged _ _ (λ tells. erasing_none view.geometry c.args.block _ c.requires.block (view_image view (g.met.N.Nor.sized _) tells));
       done = λ tells. sym (none_erased view.geometry c.args.block _ c.requires.block (view_image view (g.met.N.Nor.sized _) tells));
+      few = omega arith;
     }
 
 pub returns-in_err-erase_unit-clause-changes : goal.returns-in_err-erase_unit-clause-changes
@@ -38,6 +39,7 @@ loop-i-preserved g c =
       changes = erasing_then view.geometry c.loop-i.v.geometry c.args.block c.loop-i.i was.same.geometry low was.done was.changes c.in_ok-erase_unit.ensures.changes;
       done = λ tells. front_then view.geometry c.loop-i.v.geometry c.args.block c.loop-i.i was.same.geometry low _ _ _ c.requires.block (view_image view (g.met.N.Nor.sized _) tells) (was.done tells)
           (c.in_ok-erase_unit.ensures.done (was.changes.cuts.told tells));
+      few = omega (arith, was.few, c.in_ok-erase_unit.ensures.few);
     }
 
 pub returns-clause-done : goal.returns-clause-done
@@ -49,3 +51,9 @@ pub returns-clause-wrote : goal.returns-clause-wrote
 returns-clause-wrote g c =
     let was = c.loop-i.invariant in
     was.wrote (omega (arith, was.units, was.below, c.loop-i-test.false, some_units c.args.v.now.geometry))
+
+pub returns-in_err-erase_unit-clause-few : goal.returns-in_err-erase_unit-clause-few
+returns-in_err-erase_unit-clause-few g c = omega (arith, c.loop-i.invariant.few, c.erase_unit.ensures.few, c.loop-i.invariant.units, c.loop-i-test.true)
+
+pub returns-clause-few : goal.returns-clause-few
+returns-clause-few g c = omega (arith, c.loop-i.invariant.few, c.loop-i.invariant.units, c.loop-i.invariant.below)

@@ -1,3 +1,4 @@
+use Rattle.std.proofs.Common.{arith}
 use Rattle.page_put.proofs.Erasures.{unit_fits, marked, erase_done, erase_goes}
 use Rattle.page_put.proofs.fresh.erase_unit.Goals as goal
 
@@ -14,3 +15,6 @@ returns-clause-changes g c =
 pub returns-clause-done : goal.returns-clause-done
 returns-clause-done g c = λ tells.
     erase_done c.args.v.now.geometry c.args.block c.args.i _ (cc (c.from.ensures, c.block.ensures, c.phys.ensures)) c.erase.result _ _ (c.erase.ensures.done tells)
+
+pub returns-clause-few : goal.returns-clause-few
+returns-clause-few g c = omega (arith, c.erase.ensures.writes.writes)

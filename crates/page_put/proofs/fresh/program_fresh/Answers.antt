@@ -1,4 +1,4 @@
-use Rattle.std.proofs.Common.{inl}
+use Rattle.std.proofs.Common.{inl, arith}
 use Rattle.nor_core.proofs.Cuts.{wider}
 use Rattle.flash_view.proofs.Stepped.{view_image}
 use Rattle.page_put.proofs.Freshening.{cut_freshens}
@@ -37,3 +37,9 @@ returns-in_err-erase_block-clause-changes g c =
     let view = c.args.v.now in
     wider c.erase_block.ensures.changes
     (λ tells image erasing. cut_freshens view.geometry c.args.block c.args.count (g.N.NorState.bytes view.nor.now) image c.requires.block (view_image view (g.met.N.Nor.sized _) tells) (inl erasing))
+
+pub returns-in_err-erase_block-clause-few : goal.returns-in_err-erase_block-clause-few
+returns-in_err-erase_block-clause-few g c = omega (arith, c.erase_block.ensures.few)
+
+pub returns-clause-few : goal.returns-clause-few
+returns-clause-few g c = omega (arith, c.erase_block.ensures.few, c.mark_block.ensures.few)

@@ -1,3 +1,4 @@
+use Rattle.std.proofs.Common.{arith}
 use Rattle.page_put.specs.Kills.{deleted, killed}
 use Rattle.image_laws.proofs.TidySteps.{zeroed}
 use Rattle.page_put.proofs.Killed.{kill_done}
@@ -12,3 +13,12 @@ returns-clause-counted g c =
     let image = g.N.NorState.bytes mid.nor.now in
     stands_again c.args.page c.in_ok-before.field-0 c.recount.new.v c.recount.result b.looks p.same b.some c.recount.ensures.stands p.changes.cuts.told c.requires.page
     (λ tells free. let zero = zeroed mid.geometry (deleted mid.geometry c.args.page image) (killed mid.geometry c.args.page image) c.args.page (kill_done mid.geometry image c.args.page).clear in absurd (cc (zero, free, p.done tells)))
+
+pub returns-in_err-program_dead-clause-few : goal.returns-in_err-program_dead-clause-few
+returns-in_err-program_dead-clause-few g c = omega (arith, c.sort_before-before.ensures.looks.reads.writes, c.program_dead.ensures.few)
+
+pub returns-in_err-before-clause-few : goal.returns-in_err-before-clause-few
+returns-in_err-before-clause-few g c = omega (arith, c.sort_before-before.ensures.looks.reads.writes, c.program_dead.ensures.few)
+
+pub returns-clause-few : goal.returns-clause-few
+returns-clause-few g c = omega (arith, c.sort_before-before.ensures.looks.reads.writes, c.program_dead.ensures.few, c.recount.ensures.counts.reads.writes)

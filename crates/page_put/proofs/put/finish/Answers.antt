@@ -17,3 +17,12 @@ returns-clause-counted g c = λ used.
     let b = c.in_ok-before.ensures in
     let p = c.in_ok-program_in.ensures in
     field_stands c.args.page c.in_ok-before.field-0 c.recount.new.v c.recount.result b.looks p.same b.some c.recount.ensures.stands 4 _ p.changes (omega (arith, c.sort_before-before.new.v.geometry.valid.page_least)) (record { entry = c.requires.page; used = used })
+
+pub returns-in_err-program_in-clause-few : goal.returns-in_err-program_in-clause-few
+returns-in_err-program_in-clause-few g c = omega (arith, c.sort_before-before.ensures.looks.reads.writes, c.program_in.ensures.writes.writes)
+
+pub returns-in_err-before-clause-few : goal.returns-in_err-before-clause-few
+returns-in_err-before-clause-few g c = omega (arith, c.sort_before-before.ensures.looks.reads.writes, c.program_in.ensures.writes.writes)
+
+pub returns-clause-few : goal.returns-clause-few
+returns-clause-few g c = omega (arith, c.sort_before-before.ensures.looks.reads.writes, c.program_in.ensures.writes.writes, c.recount.ensures.counts.reads.writes)

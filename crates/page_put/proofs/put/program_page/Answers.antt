@@ -47,3 +47,12 @@ returns-clause-only g c = λ tells.
     let last = c.program_build.ensures in
     let two = header_changes g' _ first.same.geometry c.args.page (entry_page_told g' c.args.page c.requires.page) _ _ _ _ (first.changes.now tells).outside (next.changes.now (first.changes.cuts.told tells)).outside (ap length c.fill_header.ensures) in
     changes_then g' c.args.page _ _ _ two (rest_changes g' _ (next.same.geometry ∙ first.same.geometry) c.args.page (entry_page_told g' c.args.page c.requires.page) c.program_in.new.self.work.now _ _ (last.changes.now (next.changes.cuts.told (first.changes.cuts.told tells))).outside)
+
+pub returns-in_err-program_entry-clause-few : goal.returns-in_err-program_entry-clause-few
+returns-in_err-program_entry-clause-few g c = omega (arith, c.program_entry.ensures.writes.writes)
+
+pub returns-in_err-program_in-clause-few : goal.returns-in_err-program_in-clause-few
+returns-in_err-program_in-clause-few g c = omega (arith, c.program_entry.ensures.writes.writes, c.program_in.ensures.writes.writes)
+
+pub returns-clause-few : goal.returns-clause-few
+returns-clause-few g c = omega (arith, c.program_entry.ensures.writes.writes, c.program_in.ensures.writes.writes, c.program_build.ensures.writes.writes)

@@ -1,6 +1,6 @@
 use Rattle.flash_view.proofs.Stepped.{made, fails, stepped_then, view_image}
 use Rattle.nor_core.specs.Flash.{HalfProgrammed, programmed}
-use Rattle.std.proofs.Common.{◌+◌, ◌*◌, [], ◌∷◌}
+use Rattle.std.proofs.Common.{◌+◌, ◌*◌, [], ◌∷◌, arith}
 use Rattle.page_put.specs.Placing.{placed_page, with_page, IsPlacing}
 use Rattle.page_put.proofs.Putting.{places, finishes}
 use Rattle.flash_view.proofs.Heads.{entry_page_told}
@@ -37,3 +37,9 @@ returns-clause-counted g c = λ tells stood.
     let first = c.in_ok-place.ensures in
     c.finish.ensures.counted (rw (first.same.geometry, first.done tells) (placed_used view.geometry page (entry_page_told view.geometry page c.requires.page) c.args.kind c.args.tag view.work.now (g.N.NorState.bytes view.nor.now) c.requires.id.1))
     (first.changes.cuts.told tells) (first.counted tells stood)
+
+pub returns-in_err-place-clause-few : goal.returns-in_err-place-clause-few
+returns-in_err-place-clause-few g c = omega (arith, c.place.ensures.few)
+
+pub returns-clause-few : goal.returns-clause-few
+returns-clause-few g c = omega (arith, c.place.ensures.few, c.finish.ensures.few)

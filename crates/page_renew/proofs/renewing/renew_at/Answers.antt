@@ -9,4 +9,4 @@ returns-in_err-build_edited g c = λ f. let seen = c.in_err-build_edited.ensures
 pub returns : goal.returns
 returns g c = λ f.
     let seen = c.in_ok-build_edited.ensures in
-    after_look {last = replacing c.args.to c.args.header (record { id = c.args.id; span = 0 }) c.build_edited.new.v.work.now} seen.looks c.put_over.ensures (λ tells can. renews _ _ _ _ _ _ _ _ (view_image c.args.v.now (g.met.N.Nor.sized _) tells) c.requires.id can (seen.told tells))
+    after_look {last = replacing c.args.to c.args.header (record { id = c.args.id; span = 0 }) c.build_edited.new.v.work.now} seen.looks c.put_over.ensures.step (λ tells can. renews _ _ _ _ _ _ _ _ (view_image c.args.v.now (g.met.N.Nor.sized _) tells) c.requires.id can (seen.told tells))

@@ -15,7 +15,7 @@ use Rattle.vol_check.proofs.doubled.cull_noted.Goals as goal
 use Rattle.vol_check.proofs.doubled.cull_noted.Goals.{In-Some}
 
 pub pages-init : goal.pages-init
-pages-init g c = record { few = omega arith; most = omega arith; work = look_works (looks_none c.args.v.now) (λ tells magics need. doubling_start _ _ _ (notes_none _ _ c.args.bits.now c.requires)) }
+pages-init g c = record { few = omega arith; most = omega arith; work = look_works (looks_none c.args.v.now) (λ tells magics need. doubling_start _ _ _ (notes_none _ _ c.args.bits.now c.requires.clear)) }
 
 -- up to the index page that was found
 faces : (g : Over) (c : In-Some g) → Worked {nor = g.N.NorState} c.args.v.now c.next_live.new.self (Ok c.pages.killed) (facing_at c.in-Some.page c.in-Some.head c.pages.bits)
@@ -25,8 +25,8 @@ faces g c =
     works_seen (λ geo image. NextLive geo image c.pages.at 0x8000 0xFFFE (Some (c.in-Some.page, c.in-Some.head))) c.pages.invariant.work found.looks (λ tells. rw c.in-Some.is at (found.told tells)) (λ tells magics need. record { needs = tt; idle = λ quiet. quiet })
     (λ tells magics need next done. record { doubling = doubling_skip _ _ _ _ _ _ _ inside.0 (λ q after before. passed_single _ _ q (next.passed q after before)) (λ q after before. passed_head _ _ q (next.passed q after before)) done; index = found_index _ _ _ _ _ next })
 
-pub cull_doubled-requires : goal.cull_doubled-requires
-cull_doubled-requires g c = let inside = rw c.in-Some.is at c.in_ok-page.ensures.inside in rw c.in_ok-page.ensures.looks.same.geometry inside.1
+pub cull_doubled-requires-clause-page : goal.cull_doubled-requires-clause-page
+cull_doubled-requires-clause-page g c = let inside = rw c.in-Some.is at c.in_ok-page.ensures.inside in rw c.in_ok-page.ensures.looks.same.geometry inside.1
 
 pub returns-in_err-cull_doubled-clause-work : goal.returns-in_err-cull_doubled-clause-work
 returns-in_err-cull_doubled-clause-work g c =

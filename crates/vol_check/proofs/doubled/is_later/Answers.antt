@@ -4,7 +4,7 @@ use Rattle.vol_check.proofs.Noting.{noted_told, searched_told}
 use Rattle.vol_check.proofs.doubled.is_later.Goals as goal
 
 pub returns-in-Some-clause-told : goal.returns-in-Some-clause-told
-returns-in-Some-clause-told g c = λ tells notes index. let n = c.in-Some.ensures in noted_told _ _ _ _ notes _ _ index.is index.index n.0 n.2 _ c.requires.below n.1
+returns-in-Some-clause-told g c = λ tells notes index. let n = c.in-Some.ensures in noted_told _ _ _ _ notes _ _ index.is index.index n.0 n.2 _ c.requires.page.below n.1
 
 pub returns-clause-told : goal.returns-clause-told
 returns-clause-told g c = λ tells notes index.

@@ -1,8 +1,5 @@
 use Rattle.std.proofs.Common.{arith}
-use Rattle.vol_check.proofs.Noting.{noted_by}
 use Rattle.vol_check.proofs.doubled.note.Goals as goal
 
 pub returns : goal.returns
-returns c =
-    let by = noted_by c.args.bits.now c.from-at.result c.object-id.result _ c.object-id.ensures c.from-at.ensures (omega (arith, c.if-at-bits.false)) in
-    (omega (arith, c.if-head-ne0.false), by.0, by.1)
+returns c = rw (← c.object-id.ensures) (omega (arith, c.if-head-ne0.false), c.is_noted-noted.ensures, record { noted = c.note_id.ensures.noted; others = c.note_id.ensures.others })

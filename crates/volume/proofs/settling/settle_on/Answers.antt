@@ -11,6 +11,9 @@ returns-clause-few g c = let same = (c.write_all-result.ensures any_file).framed
 pub returns-clause-faults : goal.returns-clause-faults
 returns-clause-faults g c = let same = (c.write_all-result.ensures any_file).framed.same in search (rules, same.faults)
 
+pub returns-clause-asked : goal.returns-clause-asked
+returns-clause-asked g c = λ w. let same = (c.write_all-result.ensures any_file).framed.same in search (rules, same.asked refl w)
+
 pub returns-clause-writes : goal.returns-clause-writes
 returns-clause-writes g c =
     let kept : c.kept.result.now ≡ take c.args.held.now.taken c.args.bytes.now = rw c.requires.used at c.kept.ensures in

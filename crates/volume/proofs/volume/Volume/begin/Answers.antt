@@ -64,4 +64,4 @@ returns-in-Err g c =
     let used : v.held.used ≡ true = used_is v.held v.check.now c.is_used.result (c.is_used.ensures v.check.now) ∙ c.if-not-is_used.false in
     let why = c.in-Err.why in
     let staged = staged_by v.stage _ c.settle_on-result.result.wrote (Refuses why) (breaks (Refuses why)) (open_is v.stage c.requires) refl c.stage_at-self.ensures in
-    settles_failed (run_of v.held v.check.now) (run_used v.held v.check.now used) c.settle_on-result.result.wrote (search rules) refl why (rw c.in-Err.is at c.settle_on-result.ensures.writes) refl staged
+    settles_failed (run_of v.held v.check.now) (run_used v.held v.check.now used) c.settle_on-result.result.wrote (search rules) refl why (rw c.in-Err.is at c.settle_on-result.ensures.writes) c.settle_on-result.ensures.asked refl staged

@@ -1,5 +1,5 @@
-use Rattle.free_search.proofs.Bits.{set_here, set_other}
-use Rattle.free_search.proofs.ids.note.Goals as goal
+use Rattle.page_layout.proofs.IdBits.{set_here, set_other}
+use Rattle.page_layout.proofs.ids.note_id.Goals as goal
 
 pub returns-clause-noted : goal.returns-clause-noted
 returns-clause-noted c = set_here c.args.bits.now c.from.result c.args.id c.from.ensures c.requires

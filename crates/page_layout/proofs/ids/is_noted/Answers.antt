@@ -1,6 +1,6 @@
 use Rattle.std.proofs.Common.{◌==◌, ap}
-use Rattle.free_search.proofs.Bits.{test_bit}
-use Rattle.free_search.proofs.ids.is_noted.Goals as goal
+use Rattle.page_layout.proofs.IdBits.{test_bit}
+use Rattle.page_layout.proofs.ids.is_noted.Goals as goal
 
 pub returns : goal.returns
 returns c = ap (λ n. n == 1) (test_bit c.args.bits.now c.from.result c.args.id c.from.ensures)

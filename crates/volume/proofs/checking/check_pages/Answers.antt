@@ -2,7 +2,7 @@ use Rattle.std.proofs.Common.{arith}
 use Rattle.std.proofs.lemmas.Result.{err_from_is_err_and}
 use Rattle.flash_view.proofs.Stepped.{view_image}
 use Rattle.volume.proofs.Clearing.{stages_apart, stages_undamaged, stages_cut, done_at_once, stop_writable, stop_mixed, stop_goes_on, stop_apart, cuts_on, ends_on, done_on, mends_on}
-use Rattle.volume.proofs.checking.check_view.Goals as goal
+use Rattle.volume.proofs.checking.check_pages.Goals as goal
 
 pub returns-in_err-report-clause-changes : goal.returns-in_err-report-clause-changes
 returns-in_err-report-clause-changes g c = stages_cut _ c.in_err-report.ensures.changes
