@@ -39,7 +39,7 @@ use Rattle.file_calls.specs.Collecting.{RoomCut, seeking_page}
 use Rattle.file_calls.specs.Refusals.{has_room_beside, IsResized, HasRoomAfter}
 use Rattle.file_calls.specs.Cuts.{CanCut, JobCut, cutting}
 use Rattle.file_calls.specs.Goes.{cuts_file, Goes}
-use Rattle.file_calls.proofs.Going.{is_flat, not_collects, IsOneStep, one_step, before_or_after, IsStep, goes_by, named_fine, no_gift, refuses_same, stop_name}
+use Rattle.file_calls.proofs.Going.{is_flat, not_collects, IsOneStep, one_step, one_does, before_or_after, IsStep, goes_by, named_fine, no_gift, refuses_same, stop_name}
 use Rattle.file_calls.proofs.Paged.{room_for_one, left_since}
 use Rattle.file_calls.proofs.Descriptors.{open_in, file_at, stat_is}
 use Rattle.file_calls.proofs.Restates.{the_file, the_file_is}
@@ -167,7 +167,7 @@ module _ {D : Type 0} {nor : NorOf D} {g : Geometry} {old : D} {slots : List FdS
         slots = (flat s here).slots_are ∙ sym (ap (λ (x : Outcome). x.next.slots) (answered None s here (ready s here)));
         reserve = done.reserve;
       };
-      doable = λ s here. record { done = ap is_refusal (one s here).answer_is ∙ other };
+      doable = λ s here. one_does g (nor.bytes old) s ask reply left other (one s here);
     }
 
 -- No page was had for the cut, since the table had no room: nothing is changed but where pages stand.
@@ -194,6 +194,8 @@ goes_cornered {nor = nor} {old = old} {mid = mid} {new = new} {id = id} {size = 
     record {
       holds = record { tells = call.cuts.cuts.told here.tells; tidy = none.tidy; table = here.table ∙ sym none.table; slots = here.slots; opened = here.opened };
       reserve = none.reserve corner.reserve;
+      none = none.none;
+      short = none.short;
     })
     (λ s here w. does.doable s here)
     (λ none. call.framed.untouched fresh none)

@@ -34,7 +34,7 @@ use Rattle.table_model.specs.Steps.{is_refusal, done_steps}
 use Rattle.call_model.proofs.Tables.{file_of-id}
 use Rattle.file_drop.specs.Removals.{removing}
 use Rattle.file_calls.proofs.Removing.{has_by}
-use Rattle.file_calls.proofs.Going.{same_slots, goes_refused, goes_missed, IsOneStep, one_step, before_or_after, IsStep, is_flat}
+use Rattle.file_calls.proofs.Going.{same_slots, goes_refused, goes_missed, IsOneStep, one_step, one_does, before_or_after, IsStep, is_flat}
 use Rattle.room_laws.proofs.Staying.{reserve_mends}
 use Rattle.geometry.specs.declared.geometry.Geometry.{Geometry}
 use Rattle.table_model.specs.declared.call.Whence.{Whence}
@@ -287,5 +287,5 @@ module _ {D : Type 0} {nor : NorOf D} {g : Geometry} {old : D} {slots : List FdS
     cut = λ s here image cut. let o = removed_by s here in
         before_or_after g (nor.bytes old) image s (RemovesOpen fd) Fine (drop_file slot.id (table_of g (nor.bytes old))) o.0 here.table cut.sound (λ reserve. reserve_mends g image (let free = cut.free in omega (arith, reserve, free))) cut.table;
     done = λ s here now done. let o = removed_by s here in record { answer_is = o.0.answer_is; tidy = done.tidy; table = o.0.table_is ∙ sym done.table; slots = sym o.1; reserve = λ reserve. let free = done.free in omega (arith, reserve, free) };
-    doable = λ s here. let o = removed_by s here in record { done = ap (λ (a : Answer). is_refusal a) o.0.answer_is };
+    doable = λ s here. one_does g (nor.bytes old) s (RemovesOpen fd) Fine (drop_file slot.id (table_of g (nor.bytes old))) refl (removed_by s here).0;
   }

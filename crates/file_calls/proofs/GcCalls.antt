@@ -61,7 +61,7 @@ unfolding answer
 flat_collects g spare s = refl
 
 flat_does : (g : Geometry) (image : List ℕ) (s : State) → IsDoable g image s Collects
-flat_does g image s = record { done = ap (λ (o : Outcome). is_refusal o.answer) (flat_collects g (has_spare g image) s) }
+flat_does g image s = record { done = ap (λ (o : Outcome). is_refusal o.answer) (flat_collects g (has_spare g image) s); publishes = inl refl }
 
 -- it takes no bytes of a file
 no_corner : (g : Geometry) (image : List ℕ) (s : State) → IsCorner g image s Collects → ⊥

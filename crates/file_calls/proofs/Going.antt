@@ -83,6 +83,14 @@ one_step g spare s next ask reply other e one = record {
   steps_are = rw (e, other) one;
 }
 
+-- a call of one step publishes the table after it
+pub one_does : (g : Geometry) (image : List ℕ) (s : State) (ask : Ask) (reply : Answer) (files : List File) → is_refusal reply ≡ false → IsOneStep g (has_spare g image) s ask reply files → IsDoable g image s ask
+unfolding IsAmong
+one_does g image s ask reply files other one = record {
+  done = ap is_refusal one.answer_is ∙ other;
+  publishes = inr (subst (λ (all : List (List File)). IsAmong (answer g (has_spare g image) s ask).next.table all) (sym one.steps_are) (inl one.table_is));
+}
+
 -- a state with its own descriptors
 pub same_slots : (s : State) (slots : List (Option Open)) → slots ≡ s.slots → with_slots slots s ≡ s
 same_slots s slots e = rw e refl

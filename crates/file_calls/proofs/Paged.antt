@@ -32,7 +32,7 @@ use Rattle.file_calls.specs.Collecting.{RoomCut, CanTakePage, refusing, taking_p
 use Rattle.file_calls.specs.Goes.{IsDoable}
 use Rattle.file_calls.specs.Cuts.{JobCut}
 use Rattle.file_calls.specs.Refusals.{has_room_beside, page_lack}
-use Rattle.file_calls.proofs.Going.{IsOneStep, one_step, before_or_after, IsStep, tidy_sound}
+use Rattle.file_calls.proofs.Going.{IsOneStep, one_step, one_does, before_or_after, IsStep, tidy_sound}
 
 -- nothing stands against a call that leaves so many more index pages
 pub record Allowed (g : Geometry) (image : List ℕ) (more : ℕ) : Type 0 where
@@ -117,7 +117,7 @@ module _ (g : Geometry) (image : List ℕ) (s : State) (more : ℕ) (ask : Ask) 
   refuses why e = refused_by why (nat_lt (free_blocks g image) 2) (has_room_beside g (table_of g image) more) refl refl e
 
   doable : Allowed g image more → IsDoable g image s ask
-  doable w = record { done = ap (λ (o : Outcome). is_refusal o.answer) (does w) ∙ ap is_refusal page.reply_is ∙ other }
+  doable w = one_does g image s ask reply files other (one w)
 
 -- ---- the step, once an index page is had
 

@@ -30,7 +30,7 @@ use Rattle.image_model.specs.Tidy.{has_spare}
 use Rattle.file_calls.specs.States.{IsImageOf}
 use Rattle.file_calls.specs.Removes.{id_named, IsMissing}
 use Rattle.room_laws.proofs.Staying.{reserve_mends}
-use Rattle.file_calls.proofs.Going.{IsOneStep, one_step, before_or_after, IsStep}
+use Rattle.file_calls.proofs.Going.{IsOneStep, one_step, one_does, before_or_after, IsStep}
 
 -- ---- the file of a name
 
@@ -112,7 +112,5 @@ module _ {D : Type 0} {nor : NorOf D} {g : Geometry} {old : D} {slots : List FdS
     done = λ s here now done.
         let o = one g (nor.bytes old) s name id fine here.table (found here.tells here.tidy) in
         record { answer_is = o.answer_is; tidy = done.tidy; table = o.table_is ∙ sym done.table; slots = slots_by g (has_spare g (nor.bytes old)) s name id (descriptors slots) (file_named name s.table) fine refl (ap (id_named name) here.table ∙ found here.tells here.tidy) here.slots; reserve = λ reserve. let free = done.free in omega (arith, reserve, free) };
-    doable = λ s here.
-        let o = one g (nor.bytes old) s name id fine here.table (found here.tells here.tidy) in
-        record { done = ap is_refusal o.answer_is };
+    doable = λ s here. one_does g (nor.bytes old) s (Removes name) Fine (drop_file id (table_of g (nor.bytes old))) refl (one g (nor.bytes old) s name id fine here.table (found here.tells here.tidy));
   }

@@ -1,5 +1,5 @@
 -- What a call does to a device that holds a checked volume.
-use Rattle.std.specs.Prelude.{◌≡◌, ◌≢◌, ◌≤◌, ◌⊎◌, ℕ, List, ◌∷◌, length, Bool, true, false, Some}
+use Rattle.std.specs.Prelude.{◌≡◌, ◌≢◌, ◌≤◌, ◌⊎◌, ℕ, List, ◌∷◌, length, Bool, true, false, Some, None}
 use Rattle.geometry.specs.declared.geometry.Geometry.{Geometry}
 use Rattle.nor_core.specs.declared.state.NorState.{Ghosts as NorOf}
 use Rattle.nor_core.specs.Count.{Rose}
@@ -19,7 +19,8 @@ use Rattle.image_model.specs.Tables.{table_of}
 use Rattle.image_model.specs.Tidy.{HasReserve, has_spare}
 use Rattle.image_model.specs.Sound.{IsSound}
 use Rattle.room_laws.specs.Recovery.{Recovers}
-use Rattle.block_gc.specs.RoomMade.{IsCompact}
+use Rattle.image_model.specs.Collect.{chosen_block}
+use Rattle.block_gc.specs.RoomMade.{IsCompact, IsReady}
 use Rattle.fd_table.specs.declared.slot.FdSlot.{FdSlot}
 use Rattle.file_calls.specs.Replies.{is_of_name, names_fault, may_answer, is_change, keeps_slots}
 use Rattle.file_calls.specs.States.{IsImageOf}
@@ -40,9 +41,10 @@ pub record Reaches {D : Type 0} (nor : NorOf D) (g : Geometry) (old new : D) (af
   pub reserve : HasReserve g (nor.bytes old) → HasReserve g (nor.bytes new)
   pub reads : is_refusal reply ≡ true → OnlyReads nor old new
 
--- the flat table doesn't refuse a call
+-- The flat table doesn't refuse a call, and the call is for garbage collection or publishes the table after it.
 pub record IsDoable (g : Geometry) (image : List ℕ) (s : State) (ask : Ask) : Type 0 where
   pub done : is_refusal (answer g (has_spare g image) s ask).answer ≡ false
+  pub publishes : (ask ≡ Collects) ⊎ IsAmong (answer g (has_spare g image) s ask).next.table (steps g (has_spare g image) s ask)
 
 -- calls that take bytes of a file away
 abbrev pub cuts_file : Ask → Bool
@@ -64,10 +66,13 @@ pub record StopsShort (g : Geometry) (image : List ℕ) (s : State) (ask : Ask) 
   pub doable : IsDoable g image s ask
   pub tight : reply ≡ Refuses Tight
 
--- Device and descriptors are those of a state, and two blocks are free.
+-- Device and descriptors are those of a state, and two blocks are free; but no block can be cleaned any more, and there is no page for an
+-- index page.
 pub record StaysAt {D : Type 0} (nor : NorOf D) (g : Geometry) (new : D) (after : List FdSlot) (s : State) : Type 0 where
   pub holds : IsImageOf nor g new after s
   pub reserve : HasReserve g (nor.bytes new)
+  pub none : chosen_block g (nor.bytes new) ≡ None
+  pub short : IsReady g (nor.bytes new) 1 0 → ⊥
 
 -- Where garbage collection stops: done, the image is packed; Tight, it is stuck.
 pub record IsCollected (g : Geometry) (reply : Answer) (was now : List ℕ) : Type 0 where

@@ -1,3 +1,4 @@
+pub mod Behind
 pub mod Inside
 pub mod InPage
 pub mod Looking

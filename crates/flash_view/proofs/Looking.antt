@@ -7,7 +7,8 @@ use Rattle.geometry.specs.declared.geometry.Geometry.{Geometry}
 use Rattle.page_cache.specs.Kept.{FewReads}
 use Rattle.page_cache.proofs.Held.{few_none, few_then}
 use Rattle.flash_view.specs.declared.view.View.{View}
-use Rattle.flash_view.specs.Same.{IsSameView, OnlyLooks, OnlyCounts}
+use Rattle.flash_view.specs.Same.{StaysBehind, IsSameView, OnlyLooks, OnlyCounts}
+use Rattle.flash_view.proofs.Behind.{behind_none, behind_then}
 
 module _ {N : Type 0} {nor : NorOf N} where
   pub same_then : {old mid new : View N nor} → IsSameView old mid → IsSameView mid new → IsSameView old new
@@ -18,6 +19,7 @@ module _ {N : Type 0} {nor : NorOf N} where
     rows_name = second.rows_name ∙ first.rows_name;
     cache_name = second.cache_name ∙ first.cache_name;
     cache_size = second.cache_size ∙ first.cache_size;
+    behind = behind_then _ first.behind (subst (λ (g : Geometry). StaysBehind nor g mid.nor.now new.nor.now) first.geometry second.behind);
     faults = omega (arith, first.faults, second.faults);
     writes = omega (arith, first.writes, second.writes);
     asked = λ before after. ⊎_elim
@@ -28,7 +30,7 @@ module _ {N : Type 0} {nor : NorOf N} where
   }
 
   pub same_none : (v : View N nor) → IsSameView v v
-  same_none v = record { geometry = refl; nor_name = refl; work_name = refl; rows_name = refl; cache_name = refl; cache_size = refl; faults = omega arith; writes = omega arith; asked = λ before after. let bad : true ≡ false = sym after ∙ before in absurd (cc); few = few_none v.geometry v.nor.now v.cache.now }
+  same_none v = record { geometry = refl; nor_name = refl; work_name = refl; rows_name = refl; cache_name = refl; cache_size = refl; behind = behind_none v.geometry v.nor.now; faults = omega arith; writes = omega arith; asked = λ before after. let bad : true ≡ false = sym after ∙ before in absurd (cc); few = few_none v.geometry v.nor.now v.cache.now }
 
   pub looks_then : {old mid new : View N nor} → OnlyLooks old mid → OnlyLooks mid new → OnlyLooks old new
   looks_then first second = record { reads = reads_then first.reads second.reads; wrote = second.wrote ∙ first.wrote; counted = second.counted ∙ first.counted; rows = second.rows ∙ first.rows; same = same_then first.same second.same }

@@ -1,6 +1,6 @@
 -- Blocks without a page that a walk looks for, by their rows.
-use Rattle.std.proofs.Common.{◌≡◌, ℕ, zero, suc, ◌+◌, ◌*◌, ◌<◌, ◌≤◌, ◌==◌, ◌&&◌, ◌||◌, nat_lt, nat_le, not, Bool, true, false, List, length, sym, subst, refl, ◌∙◌, ap, arith, ⊎_elim}
-use Rattle.std.specs.Prelude.{Option, Some, None, filter}
+use Rattle.std.proofs.Common.{◌≡◌, ℕ, zero, suc, ◌+◌, ◌*◌, ◌<◌, ◌≤◌, ◌==◌, ◌||◌, nat_lt, nat_le, not, Bool, true, false, List, length, sym, subst, refl, ◌∙◌, arith, ⊎_elim}
+use Rattle.std.specs.Prelude.{Some, filter}
 use Rattle.std.specs.List.{range_with_len}
 use Rattle.std.proofs.lemmas.Bool.{cases_Bool, cases_eq, and_parts, eqb-true}
 use Rattle.std.proofs.lemmas.Bool.Decides.{nat_tests}
@@ -9,12 +9,11 @@ use Rattle.geometry.specs.Numbers.{per_block, lookups, entries}
 use Rattle.nor_core.specs.declared.state.NorState.{Ghosts as NorOf}
 use Rattle.page_layout.specs.Layout.{is_between}
 use Rattle.image_model.specs.Headers.{obj_id, names_index}
-use Rattle.image_model.specs.Places.{entry_of, page_of}
+use Rattle.image_model.specs.Places.{page_of}
 use Rattle.image_model.specs.Kinds.{is_index_page, is_data_page}
-use Rattle.image_model.specs.Live.{live_at, is_live}
+use Rattle.image_model.specs.Live.{live_at}
 use Rattle.image_model.specs.Collect.{index_in, data_in}
 use Rattle.image_laws.proofs.Frames.{live_parts}
-use Rattle.flash_view.specs.declared.counts.BlockCounts.{BlockCounts}
 use Rattle.flash_view.specs.Counts.{AreCounts}
 use Rattle.flash_view.specs.Table.{row_of, has_none, IsTable, HasTable}
 use Rattle.flash_view.specs.Walk.{IsPassed, ArePassed}

@@ -1,16 +1,16 @@
 -- What an entry counts as.
-use Rattle.std.proofs.Common.{◌≡◌, ◌≢◌, ◌==◌, ℕ, List, true, false, refl, sym, ◌∙◌, if◌then◌else◌}
+use Rattle.std.proofs.Common.{◌≡◌, ◌≢◌, ◌==◌, ℕ, List, true, false, refl, sym, ◌∙◌}
 use Rattle.std.specs.Prelude.{Option, Some, None}
 use Rattle.std.proofs.lemmas.Bool.{ne_eqb}
 use Rattle.geometry.specs.declared.geometry.Geometry.{Geometry}
-use Rattle.image_model.specs.Headers.{obj_id, is_finished, names_index}
+use Rattle.image_model.specs.Headers.{obj_id, is_finished}
 use Rattle.image_model.specs.Places.{entry_of}
 use Rattle.image_model.specs.Live.{live_at}
 use Rattle.image_laws.proofs.Finish.{is_finished-zero}
 use Rattle.image_laws.proofs.Tally.{is_finished-ones}
 use Rattle.image_laws.proofs.Frames.{live_parts}
 use Rattle.flash_view.specs.declared.counts.Sort.{Sort}
-use Rattle.flash_view.specs.declared.counts.Sort.TheVariants.{Index, Data, Deleted, Free}
+use Rattle.flash_view.specs.declared.counts.Sort.TheVariants.{Deleted, Free}
 use Rattle.flash_view.specs.Counts.{sort_of_page, sort_at}
 
 -- an entry that is the id of no finished page is of no live page

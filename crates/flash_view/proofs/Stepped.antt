@@ -10,7 +10,8 @@ use Rattle.nor_core.specs.declared.state.NorState.{Ghosts as NorOf}
 use Rattle.nor_core.proofs.Cuts.{wider, go_on, unchanged, after_reads, reads_then, reads_none}
 use Rattle.page_cache.proofs.Held.{few_none}
 use Rattle.flash_view.specs.declared.view.View.{View}
-use Rattle.flash_view.specs.Same.{IsSameView, OnlyLooks, OnlyCounts}
+use Rattle.flash_view.specs.Same.{StaysBehind, IsSameView, OnlyLooks, OnlyCounts}
+use Rattle.flash_view.proofs.Behind.{behind_none}
 use Rattle.flash_view.proofs.Looking.{same_then, looks_counts}
 use Rattle.flash_view.specs.Steps.{Step, Errors, Framed, Stepped, Begins, Finishes, acting, making, failed, IsRebuilt}
 
@@ -84,6 +85,7 @@ module _ {N : Type 0} {nor : NorOf N} where
       rows_name = same.rows_name;
       cache_name = same.cache_name;
       cache_size = ap length same.cache;
+      behind = subst (λ (d : N). StaysBehind nor old.geometry old.nor.now d) (sym same.device) (behind_none old.geometry old.nor.now);
       faults = let e = ap nor.faults same.device in omega arith;
       writes = let e = ap nor.device_writes same.device in omega arith;
       asked = λ before after. let bad : true ≡ false = sym after ∙ (same.wrote ∙ before) in absurd (cc);

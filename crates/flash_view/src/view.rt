@@ -207,7 +207,7 @@ impl<'b, N: Nor> View<'b, N> {
     }
 
     /// Gets a page held, for `held`.
-    #[tactic(auto, using(crate::proofs::Rows::table_stays))]
+    #[tactic(auto, using(crate::proofs::Rows::table_stays, crate::proofs::Behind::behind_reads))]
     pub fn hold(&mut self, page: u16) -> Result<(), Failed>
         requires { page < page_count self.old.geometry }
         ensures cause { OnErr result (Rose (N.faults self.old.nor.now) (N.faults self.new.nor.now)) }
@@ -442,6 +442,8 @@ impl<'b, B: Board> View<'b, B> {
         ensures cuts { Leaves B.NorState self.old.nor.now self.new.nor.now (InSay B.NorState self.old.nor.now piece.now) }
         ensures same { IsSameView self.old self.new }
         ensures wrote { self.new.wrote ≡ self.old.wrote }
+        ensures counted { self.new.counted ≡ self.old.counted }
+        ensures rows { self.new.rows.now ≡ self.old.rows.now }
     {
         say_cached(self.geometry, self.nor, self.cache, piece)
     }

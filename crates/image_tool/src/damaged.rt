@@ -35,6 +35,7 @@ fn say_damaged<B: Board>(
 }
 
 /// Says the line of the damaged id next above one, and answers that id.
+#[tactic(auto, using(flash_view::proofs::Looking::same_then))]
 pub(crate) fn say_next_damaged<B: Board>(
     v: &mut View<'_, B>,
     marks: &[u8],

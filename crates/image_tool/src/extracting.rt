@@ -22,6 +22,7 @@ use folder_core::{Folder, FolderState};
 use nor_core::{Board, Failed, NorState};
 
 // Says the line of the file of the least id above one, puts the file into a folder, and answers that id.
+#[tactic(auto, using(flash_view::proofs::Looking::same_then))]
 fn extract_next<B: Board, F: Folder>(
     v: &mut View<'_, B>,
     marks: &[u8],
@@ -54,6 +55,7 @@ fn extract_next<B: Board, F: Folder>(
 }
 
 // Says the lines of the files of the table and puts these files into a folder, in order of ids.
+#[tactic(auto, using(flash_view::proofs::Looking::same_then))]
 fn extract_files<B: Board, F: Folder>(
     v: &mut View<'_, B>,
     marks: &[u8],
@@ -80,6 +82,7 @@ fn extract_files<B: Board, F: Folder>(
 }
 
 // Says the list of a volume and puts its files into a folder, by right marks, and answers the number of damaged ids.
+#[tactic(auto, using(flash_view::proofs::Looking::same_then))]
 fn extract_marked<B: Board, F: Folder>(
     v: &mut View<'_, B>,
     marks: &[u8],
@@ -112,6 +115,7 @@ fn extract_marked<B: Board, F: Folder>(
 /// files aren't put. A fault of the board or of the folder ends it: the first files are whole then, and the next one is
 /// as it was or has a front of its bytes. Nothing is written to the board. The volume is surveyed first: `marks` are
 /// bytes for the check, and what they hold at first doesn't matter.
+#[tactic(auto, using(flash_view::proofs::Looking::same_then))]
 pub fn extract<B: Board, F: Folder>(
     v: &mut View<'_, B>,
     marks: &mut [u8],

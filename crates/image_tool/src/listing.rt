@@ -26,6 +26,7 @@ pub(crate) enum Part {
 }
 
 // Says the line of the least id above one in a part of a list, and answers that id.
+#[tactic(auto, using(flash_view::proofs::Looking::same_then))]
 fn say_next<B: Board>(
     v: &mut View<'_, B>,
     marks: &[u8],
@@ -54,6 +55,7 @@ fn say_next<B: Board>(
 }
 
 /// Says the lines of a part of a list in order of ids, by right marks, and answers their number.
+#[tactic(auto, using(flash_view::proofs::Looking::same_then))]
 pub(crate) fn list_part<B: Board>(
     v: &mut View<'_, B>,
     marks: &[u8],
@@ -80,6 +82,7 @@ pub(crate) fn list_part<B: Board>(
 }
 
 // Says the list of a volume, by right marks, and answers the number of damaged ids.
+#[tactic(auto, using(flash_view::proofs::Looking::same_then))]
 fn list_marked<B: Board>(v: &mut View<'_, B>, marks: &[u8], line: &mut [u8]) -> Result<u32, Failed>
     requires room { check_need v.old.geometry ≤ length marks.now }
     requires marked { B.tells v.old.nor.now → IsMarked v.old.geometry (B.bytes v.old.nor.now) marks.now }
@@ -100,6 +103,7 @@ fn list_marked<B: Board>(v: &mut View<'_, B>, marks: &[u8], line: &mut [u8]) -> 
 /// damaged id in order. Each line ends with a newline. Answers the number of damaged ids. The lent line buffer needs 12,288
 /// bytes. Nothing is written; a board fault ends it. The volume is surveyed first: `marks` are bytes for the check, and what
 /// they hold at first doesn't matter.
+#[tactic(auto, using(flash_view::proofs::Looking::same_then))]
 pub fn list<B: Board>(
     v: &mut View<'_, B>,
     marks: &mut [u8],

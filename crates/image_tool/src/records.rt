@@ -54,6 +54,7 @@ fn say_record<B: Board>(v: &mut View<'_, B>, stat: &Stat, line: &mut [u8]) -> Re
 }
 
 /// Says the line of the file of the least id above one, and answers its header page and its record.
+#[tactic(auto, using(flash_view::proofs::Looking::same_then))]
 pub(crate) fn say_next_record<B: Board>(
     v: &mut View<'_, B>,
     marks: &[u8],

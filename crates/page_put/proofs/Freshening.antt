@@ -16,6 +16,7 @@ use Rattle.geometry.specs.Numbers.{length_mark, right_magic, per_block, lookups,
 use Rattle.nor_core.specs.Flash.{SameOutside, Scrambled, HalfErased, HalfProgrammed, erased, programmed}
 use Rattle.page_cache.proofs.Copies.{erased_before, erased_after, erased_inside}
 use Rattle.page_cache.proofs.Keeping.{half_outside}
+use Rattle.flash_view.proofs.Behind.{erased_size, erased_outside, outside_on, same_all}
 use Rattle.image_model.specs.Headers.{is_finished}
 use Rattle.image_model.specs.Live.{live_at}
 use Rattle.image_model.specs.Places.{has_magic, erase_count, entry_of, page_of, slot_of, block_of, place_of, is_entry_page, IsImage}
@@ -116,9 +117,6 @@ module _ (g : Geometry) (image : List ℕ) (block : ℕ) where
 
 -- ---- the erase of a unit
 
-erased_size : (was : List ℕ) (start n : ℕ) → start + n ≤ length was → length (erased was start n) ≡ length was
-erased_size was start n fits = omega (arith, length-append (take start was ++ replicate n 255) (drop (start + n) was), length-append (take start was) (replicate n 255), length-take start was, length-drop (start + n) was, length-replicate {A = ℕ} n 255)
-
 module _ (g : Geometry) (block i start : ℕ) (was : List ℕ) (at : start ≡ block * g.block + i * g.phys) where
   pub unit_done : (now : List ℕ) → now ≡ erased was start g.phys → start + g.phys ≤ length was → UnitErased g block i was now
   unit_done now is fits = rw is (record {
@@ -161,20 +159,13 @@ module _ (was : List ℕ) (at n m : ℕ) (fits : at + (n + m) ≤ length was) wh
       (cases_lt k (at + n + m)))
       (cases_lt k (at + n)))
 
-pub erased_outside : (was : List ℕ) (start n : ℕ) → start + n ≤ length was → SameOutside start n was (erased was start n)
-erased_outside was start n fits = record { size = erased_size was start n fits; before = λ k low. erased_before was start n k fits low; after = λ k high. erased_after was start n k fits high }
-
 -- ---- unit after unit
 
 pub freshens_none : (g : Geometry) (block : ℕ) (was : List ℕ) → Freshens g block was was
-freshens_none g block was = record { outside = record { size = refl; before = λ k low. refl; after = λ k high. refl }; dead = inl refl; state = inl refl }
+freshens_none g block was = record { outside = same_all _ _ was; dead = inl refl; state = inl refl }
 
 pub erased_none : (g : Geometry) (block : ℕ) (was : List ℕ) → ErasedTo g block (0 * g.phys) was was
 erased_none g block was = record { outside = (freshens_none g block was).outside; ones = λ k low. absurd (omega arith) }
-
--- changes of a range one after the other
-pub outside_on : (at n : ℕ) (a b c : List ℕ) → SameOutside at n a b → SameOutside at n b c → SameOutside at n a c
-outside_on at n a b c x y = record { size = y.size ∙ x.size; before = λ k low. y.before k low ∙ x.before k low; after = λ k high. y.after k high ∙ x.after k high }
 
 module _ (g : Geometry) (block i : ℕ) (was now : List ℕ) (low : i < g.block / g.phys) (so_far : ErasedTo g block (i * g.phys) was now) where
   pub erased_more : (image : List ℕ) → UnitErased g block i now image → ErasedTo g block ((i + 1) * g.phys) was image

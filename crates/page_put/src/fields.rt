@@ -16,6 +16,7 @@ use page_layout::Flags;
 
 /// Marks a header page: its file is being removed. One program, which clears IXDELE alone, so that a live header page
 /// is live no more; that bit is to be set before.
+#[tactic(auto, using(flash_view::proofs::Looking::same_then))]
 pub fn mark_removed<N: Nor>(v: &mut View<'_, N>, page: u16) -> Result<(), Failed>
     requires page { page < page_count v.old.geometry }
     ensures cause { OnErr result (Rose (N.faults v.old.nor.now) (N.faults v.new.nor.now)) }
@@ -34,6 +35,7 @@ pub fn mark_removed<N: Nor>(v: &mut View<'_, N>, page: u16) -> Result<(), Failed
 
 /// Programs bytes behind those that a data page holds, in one program. `at` counts bytes from the page's first one, its
 /// header of 5 bytes included. The bytes from there on are to be erased, and past the size of the file.
+#[tactic(auto, using(flash_view::proofs::Looking::same_then))]
 pub fn fill_tail<N: Nor>(v: &mut View<'_, N>, page: u16, at: u32, from: &[u8]) -> Result<(), Failed>
     requires page { page < page_count v.old.geometry }
     requires some { 0 < length from.now }
@@ -67,6 +69,7 @@ fn slot_start(g: &Geometry, span: u16) -> u32
 /// Names the data page of a span in the index page that has its entry, in one program of two bytes. The data span is
 /// counted through the whole file from 0, and `target` is the number of the data page. The entry is to be 0xFFFF before,
 /// and at or past the page count of the file.
+#[tactic(auto, using(flash_view::proofs::Looking::same_then))]
 pub fn name_slot<N: Nor>(
     v: &mut View<'_, N>,
     page: u16,

@@ -49,7 +49,7 @@ fn erase_unit<N: Nor>(v: &mut View<'_, N>, block: u16, i: u32) -> Result<(), Fai
 }
 
 // Erases the units of a block from the first upwards.
-#[tactic(auto, using(flash_view::proofs::Looking::same_none))]
+#[tactic(auto, using(flash_view::proofs::Looking::same_then, flash_view::proofs::Looking::same_none))]
 fn erase_block<N: Nor>(v: &mut View<'_, N>, block: u16) -> Result<(), Failed>
     requires block { block < v.old.geometry.blocks }
     ensures cause { OnErr result (Rose (N.faults v.old.nor.now) (N.faults v.new.nor.now)) }

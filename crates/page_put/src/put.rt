@@ -90,6 +90,7 @@ pub fn place<N: Nor>(v: &mut View<'_, N>, page: u16, kind: Kind, tag: Tag) -> Re
 }
 
 /// Finishes a page that was placed: one program that clears FINAL, one bit.
+#[tactic(auto, using(flash_view::proofs::Looking::same_then))]
 pub fn finish<N: Nor>(v: &mut View<'_, N>, page: u16) -> Result<(), Failed>
     requires page { IsEntryPage v.old.geometry page }
     ensures cause { OnErr result (Rose (N.faults v.old.nor.now) (N.faults v.new.nor.now)) }

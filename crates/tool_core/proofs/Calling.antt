@@ -103,7 +103,7 @@ module _ {N : Type 0} {nor : NorOf N} where
       let answers : (StopsShort old.geometry (nor.bytes old.nor.now) m.state ask reply → ⊥) → StandsNow nor old.geometry new.nor.now (memory new) = λ whole. stands_next (calls.answers m takes here.stands fault whole) here.reserve in
       ⊎_elim
       (λ tight. ⊎_elim
-      (λ corner. let stays = calls.cornered m takes here.stands corner tight in record { moment = settled_at m.state; stands = stands_by calls.same.geometry stays.0; reserve = stays.1 })
+      (λ corner. let stays = calls.cornered m takes here.stands corner tight in record { moment = settled_at m.state; stands = stands_by calls.same.geometry stays.stands; reserve = stays.reserve })
       (λ none. answers (not_short m takes calls here.stands here.reserve none))
       (corner_cases old.geometry (nor.bytes old.nor.now) m.state ask here.reserve))
       (λ loose. answers (λ short. loose short.tight))

@@ -6,6 +6,7 @@ use Rattle.nor_core.specs.declared.state.NorState.{Ghosts as NorOf}
 use Rattle.nor_core.specs.Count.{Rose}
 use Rattle.nor_core.specs.Device.{Leaves}
 use Rattle.nor_core.proofs.Cuts.{andthen, widened}
+use Rattle.flash_view.specs.Same.{StaysBehind}
 use Rattle.image_model.specs.Tables.{damaged_of}
 use Rattle.image_model.specs.Tidy.{free_blocks}
 use Rattle.tool_core.specs.declared.ending.Ending.{Ending}
@@ -18,7 +19,7 @@ use Rattle.tool_core.specs.Refusals.{check_refusal, report_ending, check_ending,
 use Rattle.tool_core.specs.Checking.{check_text, reported_text, IsOrdered, IsOrderedOnceSaid, ChecksTo, CheckCut, DoesCheck}
 use Rattle.tool_core.proofs.Mounted.{safe_check, holds_check}
 use Rattle.tool_core.proofs.CheckEnds.{other_first, same_after}
-use Rattle.tool_core.proofs.Reading.{reads_said}
+use Rattle.tool_core.proofs.Reading.{reads_said, behind_closed}
 use Rattle.tool_core.proofs.Refusals.{option_cases, refusal_line, check_not_tight}
 use Rattle.tool_core.proofs.Speaking.{concludes, within, by_result, none_closed, mended_closed}
 
@@ -82,8 +83,8 @@ module _ {D : Type 0} {nor : NorOf D} {g : Geometry} where
       record { table = c.table; safe = c.safe; least = c.least; most = omega (arith, c.most, ap longest same); once_said = λ more. c.once_said more ∙ sym same }
 
   -- a whole check
-  pub check_does : {old mid new : D} (cache : ℕ) (result : Ending) (status : ℕ) → ChecksTo nor g old mid result → (result ≡ BoardFault → Rose (nor.faults old) (nor.faults mid)) → ReadsOnce nor g cache old mid → OnlyCloses nor mid new result status → DoesCheck nor g cache old new status
-  check_does {old} {mid} {new} cache result status checks cause reads closes =
+  pub check_does : {old mid new : D} (cache : ℕ) (result : Ending) (status : ℕ) → ChecksTo nor g old mid result → (result ≡ BoardFault → Rose (nor.faults old) (nor.faults mid)) → StaysBehind nor g old mid → ReadsOnce nor g cache old mid → OnlyCloses nor mid new result status → DoesCheck nor g cache old new status
+  check_does {old} {mid} {new} cache result status checks cause behind reads closes =
       let left : nor.tells old → Checks g (nor.bytes old) (nor.bytes new) = λ tells. subst (λ (l : List ℕ). Checks g (nor.bytes old) l) (sym closes.says.bytes) (checks.leaves tells) in
       record {
         told = λ tells. subst (λ (l : List ℕ). Concludes nor old new (reported_text g (nor.bytes old) l) (check_ending g (nor.bytes old) l) status) (sym closes.says.bytes)
@@ -105,5 +106,6 @@ module _ {D : Type 0} {nor : NorOf D} {g : Geometry} where
             let is : result ≡ ending = by_result (checks.speaks tells) closes fine ∙ ap (λ (o : Option Ending). unwrap_or o (report_ending (length (damaged_of g (nor.bytes old))) (free_blocks g (nor.bytes mid)))) refused in
             none_closed (checks.kept tells (refused ∙ ap (λ (e : Ending). Some e) (sym is))) closes;
         cuts = widened (check_cuts result status checks closes) (λ image count here tells. cut_as closes.says.bytes (here tells));
+        behind = behind_closed behind closes;
         reads = reads_said cache reads closes.says closes.cuts.faults;
       }

@@ -1,11 +1,13 @@
 -- How a make ends, before its closing line and with it.
-use Rattle.std.proofs.Common.{◌≡◌, ◌≢◌, ℕ, ◌⊎◌, List, [], ◌∷◌, ◌++◌, length, refl, sym, ◌∙◌, ap, subst, arith, inl, inr, ⊎_elim, append-nil, Option, Some, None}
+use Rattle.std.proofs.Common.{◌≡◌, ◌≢◌, ℕ, ◌*◌, ◌≤◌, ◌⊎◌, List, [], ◌∷◌, ◌++◌, length, refl, sym, ◌∙◌, ap, subst, arith, inl, inr, ⊎_elim, append-nil, Option, Some, None}
 use Rattle.std.proofs.lemmas.Option.{none-some, same_Some}
 use Rattle.geometry.specs.declared.geometry.Geometry.{Geometry}
 use Rattle.nor_core.specs.declared.state.NorState.{Ghosts as NorOf}
 use Rattle.nor_core.specs.Count.{Rose}
-use Rattle.nor_core.specs.Device.{Leaves, Changes}
-use Rattle.nor_core.proofs.Cuts.{andthen, started}
+use Rattle.nor_core.specs.Flash.{SameOutside}
+use Rattle.nor_core.specs.Device.{Changes}
+use Rattle.flash_view.specs.Same.{StaysBehind}
+use Rattle.flash_view.proofs.Behind.{behind_then, behind_said, behind_changes}
 use Rattle.table_model.specs.declared.reply.Info.{Info}
 use Rattle.folder_core.specs.declared.state.FolderState.{Ghosts as FolderOf}
 use Rattle.folder_core.specs.Files.{Entry}
@@ -25,7 +27,7 @@ use Rattle.tool_core.specs.Filling.{HoldsFiles, SpeaksOf}
 use Rattle.tool_core.specs.Making.{refused_by, StopsMake, HoldsFolder, MakesTo, DoesMake}
 use Rattle.tool_core.proofs.FillEnds.{speaks_none, speaks_said}
 use Rattle.tool_core.proofs.Speaking.{concludes, by_result}
-use Rattle.tool_core.proofs.Working.{goes_of}
+use Rattle.tool_core.proofs.Reading.{behind_closed}
 
 -- ---- a folder that is refused
 
@@ -38,8 +40,8 @@ unrefused why none some = none-some why (sym none ∙ some)
 
 module _ {D : Type 0} {nor : NorOf D} where
   -- nothing was said but that the folder failed
-  unread : {old mid new : D} (result : Ending) (status : ℕ) → nor.tells old → Leaves nor old mid (λ image count. Unit {0}) → result ≡ FolderFault → nor.said mid ≡ nor.said old → OnlyCloses nor mid new result status → Concludes nor old new [] FolderFault status
-  unread {old} result status tells goes fault said closes = concludes [] FolderFault result status (goes.told tells) goes.faults
+  unread : {old mid new : D} (result : Ending) (status : ℕ) → nor.tells old → nor.faults old ≤ nor.faults mid → (nor.tells old → nor.tells mid) → result ≡ FolderFault → nor.said mid ≡ nor.said old → OnlyCloses nor mid new result status → Concludes nor old new [] FolderFault status
+  unread {old} result status tells more told fault said closes = concludes [] FolderFault result status (told tells) more
       (λ is. absurd (let bad : FolderFault ≡ BoardFault = sym fault ∙ is in cc))
       (inr (fault, said ∙ sym (append-nil (nor.said old))))
       closes
@@ -58,7 +60,7 @@ module _ {D X : Type 0} {nor : NorOf D} {folder : FolderOf X} {g : Geometry} whe
             (λ said. ⊎_elim (λ six. omega (arith, done, said, six)) (λ named. omega (arith, done, said, named)) (refused_status why))
             (λ fault. omega (arith, done, fault.0))
             here.ends);
-        goes = goes_of closes.cuts;
+        behind = behind_said g _ closes.says closes.cuts;
       }
 
   -- it failed before that was known
@@ -73,9 +75,9 @@ module _ {D X : Type 0} {nor : NorOf D} {folder : FolderOf X} {g : Geometry} whe
           λ six. ⊎_elim (λ nine. omega (arith, six, nine)) (λ seven. omega (arith, six, seven)) is,
           λ named. ⊎_elim (λ nine. omega (arith, named, nine)) (λ seven. omega (arith, named, seven)) is,
         );
-        told = λ tells none. inr (record { concludes = unread FolderFault status tells (started old _) refl refl here; cause = rose });
+        told = λ tells none. inr (record { concludes = unread FolderFault status tells (omega arith) (λ same. same) refl refl here; cause = rose });
         files = λ tells done. absurd (⊎_elim (λ nine. omega (arith, done, nine)) (λ seven. omega (arith, done, seven)) is);
-        goes = goes_of closes.cuts;
+        behind = behind_said g _ closes.says closes.cuts;
       }
 
   pub make_stopped : {old new : D} {before after : X} (ending : Ending) (status : ℕ) → StopsMake folder g before after ending → Kept folder before after → OnlyCloses nor old new ending status → DoesMake nor folder g old new before after status
@@ -87,8 +89,8 @@ module _ {D X : Type 0} {nor : NorOf D} {folder : FolderOf X} {g : Geometry} whe
   -- ---- one that isn't
 
   make_closed : {old mid new : D} {before after : X} (result : Ending) (status : ℕ) → make_refusal g (folder.entries before) ≡ None → Kept folder before after → (nor.tells old → MakesTo nor folder g old mid before result) →
-      Leaves nor old mid (λ image count. Unit {0}) → (result ≡ BoardFault → Rose (nor.faults old) (nor.faults mid)) → (result ≡ FolderFault → Rose (folder.faults before) (folder.faults after)) → status_of result ≢ 6 → status_of result ≢ 13 → OnlyCloses nor mid new result status → DoesMake nor folder g old new before after status
-  make_closed {old} {mid} {new} {before} result status accepted kept makes goes cause folder_cause no_full no_names closes = record {
+      StaysBehind nor g old mid → (result ≡ BoardFault → Rose (nor.faults old) (nor.faults mid)) → (result ≡ FolderFault → Rose (folder.faults before) (folder.faults after)) → status_of result ≢ 6 → status_of result ≢ 13 → OnlyCloses nor mid new result status → DoesMake nor folder g old new before after status
+  make_closed {old} {mid} {new} {before} result status accepted kept makes behind cause folder_cause no_full no_names closes = record {
     kept = kept;
     refused = λ why is. absurd (unrefused why accepted is);
     accepted = λ none. (
@@ -96,8 +98,8 @@ module _ {D X : Type 0} {nor : NorOf D} {folder : FolderOf X} {g : Geometry} whe
       λ named. ⊎_elim (λ told. no_names (sym told ∙ named)) (λ fault. omega (arith, named, fault.0)) closes.ends,
     );
     told = λ tells none. ⊎_elim
-        (λ failed. inr (record { concludes = unread result status tells goes failed.0 failed.1 closes; cause = folder_cause failed.0 }))
-        (λ speaks. inl (concludes (make_text g (folder.entries before)) Done result status (goes.told tells) goes.faults cause speaks.speaks closes))
+        (λ failed. inr (record { concludes = unread result status tells behind.cuts.faults behind.cuts.told failed.0 failed.1 closes; cause = folder_cause failed.0 }))
+        (λ speaks. inl (concludes (make_text g (folder.entries before)) Done result status (behind.cuts.told tells) behind.cuts.faults cause speaks.speaks closes))
         (makes tells);
     files = λ tells done. ⊎_elim
         (λ failed. absurd (⊎_elim (λ said. omega (arith, done, said, ap status_of failed.0)) (λ fault. omega (arith, done, fault.0)) closes.ends))
@@ -105,7 +107,7 @@ module _ {D X : Type 0} {nor : NorOf D} {folder : FolderOf X} {g : Geometry} whe
         let is : result ≡ Done = by_result speaks.speaks closes (λ failed. omega (arith, done, failed)) in
         subst (λ (l : List ℕ). HoldsFolder folder g l before) (sym closes.says.bytes) (speaks.left is))
         (makes tells);
-    goes = andthen goes (goes_of closes.cuts);
+    behind = behind_closed behind closes;
   }
 
   -- the board failed, and nothing was said
@@ -116,11 +118,11 @@ module _ {D X : Type 0} {nor : NorOf D} {folder : FolderOf X} {g : Geometry} whe
   })
 
   -- a volume that could not be formatted
-  pub make_unformatted : {old mid new : D} {before after : X} (result : Ending) (status : ℕ) → make_refusal g (folder.entries before) ≡ None → Kept folder before after → Changes nor old mid (λ was image. Unit {0}) → result ≡ BoardFault → Rose (nor.faults old) (nor.faults mid) → OnlyCloses nor mid new result status →
+  pub make_unformatted : {old mid new : D} {before after : X} (result : Ending) (status : ℕ) → make_refusal g (folder.entries before) ≡ None → Kept folder before after → Changes nor old mid (SameOutside 0 (g.blocks * g.block)) → result ≡ BoardFault → Rose (nor.faults old) (nor.faults mid) → OnlyCloses nor mid new result status →
       DoesMake nor folder g old new before after status
   make_unformatted result status accepted kept changes fault rose closes = make_closed result status accepted kept
       (λ tells. makes_none result changes.said fault)
-      (goes_of changes.cuts)
+      (behind_changes g changes)
       (λ is. rose)
       (λ is. absurd (let bad : BoardFault ≡ FolderFault = sym fault ∙ is in cc))
       (λ six. omega (arith, six, ap status_of fault))
@@ -159,12 +161,12 @@ module _ {D X : Type 0} {nor : NorOf D} {folder : FolderOf X} {g : Geometry} whe
       makes
 
   -- a volume that was formatted
-  pub make_formatted : {old mid last new : D} {before between after : X} (result : Ending) (status : ℕ) → make_refusal g (folder.entries before) ≡ None → Kept folder before between → Kept folder between after → Changes nor old mid (λ was image. Unit {0}) → (nor.tells old → HoldsFiles g (nor.bytes mid) []) →
-      (nor.tells mid → HoldsFiles g (nor.bytes mid) [] → MakesTo nor folder g mid last between result) → Leaves nor mid last (λ image count. Unit {0}) → (result ≡ BoardFault → Rose (nor.faults mid) (nor.faults last)) → (result ≡ FolderFault → Rose (folder.faults between) (folder.faults after)) →
+  pub make_formatted : {old mid last new : D} {before between after : X} (result : Ending) (status : ℕ) → make_refusal g (folder.entries before) ≡ None → Kept folder before between → Kept folder between after → Changes nor old mid (SameOutside 0 (g.blocks * g.block)) → (nor.tells old → HoldsFiles g (nor.bytes mid) []) →
+      (nor.tells mid → HoldsFiles g (nor.bytes mid) [] → MakesTo nor folder g mid last between result) → StaysBehind nor g mid last → (result ≡ BoardFault → Rose (nor.faults mid) (nor.faults last)) → (result ≡ FolderFault → Rose (folder.faults between) (folder.faults after)) →
       status_of result ≢ 6 → status_of result ≢ 13 → OnlyCloses nor last new result status → DoesMake nor folder g old new before after status
-  make_formatted result status accepted kept later changes files makes goes cause folder_cause no_full no_names closes = make_closed result status accepted (kept_then kept later)
+  make_formatted result status accepted kept later changes files makes behind cause folder_cause no_full no_names closes = make_closed result status accepted (kept_then kept later)
       (λ tells. makes_after changes.said (makes_kept kept (makes (changes.cuts.told tells) (files tells))))
-      (andthen (goes_of changes.cuts) goes)
+      (behind_then g (behind_changes g changes) behind)
       (λ is. let rose = cause is in omega (arith, rose, changes.cuts.faults))
       (λ is. let rose = folder_cause is in omega (arith, rose, kept.faults))
       no_full

@@ -4,7 +4,7 @@ use Rattle.geometry.specs.declared.geometry.Geometry.{Geometry}
 use Rattle.nor_core.specs.declared.state.NorState.{Ghosts as NorOf}
 use Rattle.nor_core.specs.declared.source.Source.{Ghosts as SourceOf}
 use Rattle.nor_core.specs.Count.{Rose}
-use Rattle.nor_core.specs.Device.{Leaves}
+use Rattle.flash_view.specs.Same.{StaysBehind}
 use Rattle.table_model.specs.Room.{has_room}
 use Rattle.image_model.specs.Tables.{table_of}
 use Rattle.image_model.specs.Tidy.{HasReserve}
@@ -20,9 +20,7 @@ use Rattle.tool_core.specs.Outcomes.{RunsTo, Refused, EndsByImages}
 use Rattle.tool_core.specs.Running.{Outcome, first_of, DoesRun}
 use Rattle.tool_core.proofs.Concluding.{outcome_of}
 use Rattle.tool_core.proofs.Exact.{begins_as, complete_of, ran_whole}
-use Rattle.tool_core.proofs.Reading.{reads_said}
-use Rattle.tool_core.proofs.Working.{goes_of}
-use Rattle.nor_core.proofs.Cuts.{andthen}
+use Rattle.tool_core.proofs.Reading.{reads_said, behind_closed}
 use Rattle.tool_core.proofs.Refusals.{begun_reserve, script_not_tight}
 use Rattle.tool_core.proofs.Speaking.{concludes, by_result, none_closed, mended_closed}
 
@@ -40,10 +38,10 @@ module _ {D X : Type 0} {nor : NorOf D} {source : SourceOf X} {g : Geometry} whe
   pub run_does : {old mid new : D} {script after : X} (lent : Lengths) (result : Ending) (status : ℕ) →
       (source.tells script → nor.tells old → has_room g (table_of g (nor.bytes old)) ≡ true → RunsTo nor g old mid (first_of g lent (nor.bytes old)) (source.left script) (source.left after) result) →
       (nor.tells old → (ending : Ending) → check_refusal g (nor.bytes old) ≡ Some ending → Refused nor old mid ending result) →
-      (nor.tells old → EndsByImages g (nor.bytes old) (nor.bytes mid) result) → Leaves nor old mid (λ image count. Unit {0}) →
+      (nor.tells old → EndsByImages g (nor.bytes old) (nor.bytes mid) result) → StaysBehind nor g old mid →
       nor.faults old ≤ nor.faults mid → (result ≡ BoardFault → Rose (nor.faults old) (nor.faults mid)) →
       ReadsOnce nor g lent.cache old mid → OnlyCloses nor mid new result status → DoesRun nor source g lent old new script after status
-  run_does {old} {mid} {new} {script} {after} lent result status ends refused begins goes faults cause reads closes =
+  run_does {old} {mid} {new} {script} {after} lent result status ends refused begins behind faults cause reads closes =
       let m = first_of g lent (nor.bytes old) in
       let outcome : source.tells script → nor.tells old → has_room g (table_of g (nor.bytes old)) ≡ true → Outcome nor g old new m (source.left script) (source.left after) status = λ read tells room. outcome_of m (source.left script) (source.left after) result status faults (ends read tells room) closes in
       record {
@@ -51,7 +49,7 @@ module _ {D X : Type 0} {nor : NorOf D} {source : SourceOf X} {g : Geometry} whe
         whole = λ read tells room zero_is. ran_whole zero_is (outcome read tells room);
         begins = λ tells fine. begins_as g (nor.bytes old) result status fine (begins tells) closes;
         mends = λ tells may. mended_closed g result (mended_of g (nor.bytes old) (nor.bytes mid) result may (begins tells)) closes;
-        goes = andthen goes (goes_of closes.cuts);
+        behind = behind_closed behind closes;
         complete = λ read tells room fine read_fine takes. complete_of fine read_fine takes (outcome read tells room);
         refused = λ tells ending is.
             let r = refused tells ending is in

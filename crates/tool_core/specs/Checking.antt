@@ -8,6 +8,7 @@ use Rattle.image_model.specs.Tidy.{IsTidy, HasReserve, free_blocks}
 use Rattle.image_model.specs.Kinds.{spoiled_blocks}
 use Rattle.image_model.specs.Killed.{killed_of}
 use Rattle.image_model.specs.Collect.{chosen_block}
+use Rattle.flash_view.specs.Same.{StaysBehind}
 use Rattle.call_model.specs.Safe.{IsSafe, Holds}
 use Rattle.tool_core.specs.declared.ending.Ending.{Ending}
 use Rattle.tool_core.specs.declared.ending.Ending.TheVariants.{BoardFault}
@@ -82,5 +83,7 @@ pub record DoesCheck {D : Type 0} (nor : NorOf D) (g : Geometry) (cache : ℕ) (
   pub kept : nor.tells old → (ending : Ending) → check_refusal g (nor.bytes old) ≡ Some ending → status ≢ 7 → WritesNone nor old new
   -- what a cut at any moment leaves
   pub cuts : Leaves nor old new (λ image count. nor.tells old → CheckCut nor g old new image count)
+  -- the bytes behind the volume stay
+  pub behind : StaysBehind nor g old new
   -- each page is read once at most
   pub reads : ReadsOnce nor g cache old new

@@ -3,7 +3,7 @@ use Rattle.std.specs.Prelude.{ℕ, ◌≡◌, ◌≢◌, ◌⊎◌, List, [], So
 use Rattle.geometry.specs.declared.geometry.Geometry.{Geometry}
 use Rattle.nor_core.specs.declared.state.NorState.{Ghosts as NorOf}
 use Rattle.nor_core.specs.Count.{Rose}
-use Rattle.nor_core.specs.Device.{Leaves}
+use Rattle.flash_view.specs.Same.{StaysBehind}
 use Rattle.folder_core.specs.declared.state.FolderState.{Ghosts as FolderOf}
 use Rattle.folder_core.specs.Files.{File as FolderFile, entries_of}
 use Rattle.folder_core.specs.Puts.{Kept}
@@ -68,5 +68,5 @@ pub record DoesMake {D X : Type 0} (nor : NorOf D) (folder : FolderOf X) (g : Ge
   pub told : nor.tells old → make_refusal g (folder.entries before) ≡ None → Concludes nor old new (make_text g (folder.entries before)) Done status ⊎ EndsUnread nor folder old new before after status
   -- with status 0 the image has the folder's files
   pub files : nor.tells old → status ≡ 0 → HoldsFolder folder g (nor.bytes new) before
-  -- whatever is told, time goes on
-  pub goes : Leaves nor old new (λ image count. Unit {0})
+  -- whatever is told, time goes on, and the bytes behind the volume stay
+  pub behind : StaysBehind nor g old new

@@ -11,6 +11,7 @@ use Rattle.call_script.specs.Lines.{lines, calls}
 use Rattle.image_model.specs.Tables.{table_of}
 use Rattle.image_model.specs.Tidy.{IsTidy}
 use Rattle.image_model.specs.Collect.{chosen_block}
+use Rattle.flash_view.specs.Same.{StaysBehind}
 use Rattle.run_model.specs.Runs.{after_all, replies, IsCutAfter}
 use Rattle.call_model.specs.Safe.{IsSafe, Holds}
 use Rattle.run_model.specs.Ran.{SaidPart}
@@ -113,7 +114,7 @@ pub record DoesRun {D X : Type 0} (nor : NorOf D) (source : SourceOf X) (g : Geo
   pub refused : nor.tells old → (ending : Ending) → check_refusal g (nor.bytes old) ≡ Some ending → Concludes nor old new [] ending status × (status ≢ 7 → WritesNone nor old new)
   -- an image that the check takes and that recovers has two free blocks after the check, and so has the last one, if the board didn't fail
   pub mends : nor.tells old → IsMendable g (nor.bytes old) → HasMended nor g new status
-  -- whatever is told, time goes on
-  pub goes : Leaves nor old new (λ image count. Unit {0})
+  -- whatever is told, time goes on, and the bytes behind the volume stay
+  pub behind : StaysBehind nor g old new
   -- each page is read once at most
   pub reads : ReadsOnce nor g lent.cache old new

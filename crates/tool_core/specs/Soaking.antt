@@ -2,7 +2,7 @@
 use Rattle.std.specs.Prelude.{ℕ, ◌≡◌, List}
 use Rattle.geometry.specs.declared.geometry.Geometry.{Geometry}
 use Rattle.nor_core.specs.declared.state.NorState.{Ghosts as NorOf}
-use Rattle.nor_core.specs.Device.{Leaves}
+use Rattle.flash_view.specs.Same.{StaysBehind}
 use Rattle.table_model.specs.Table.{File}
 use Rattle.volume_soak.specs.Turns.{empty, soaked, soak_text}
 use Rattle.tool_core.specs.declared.ending.Ending.{Ending}
@@ -24,5 +24,5 @@ pub record DoesSoak {D : Type 0} (nor : NorOf D) (g : Geometry) (slots seed turn
   pub told : nor.tells old → Concludes nor old new (soak_text g slots seed turns) Done status
   -- with status 0 the image is tidy, has its reserve, and its table is that of the last state: all that was written is on the chip
   pub files : nor.tells old → status ≡ 0 → HoldsFiles g (nor.bytes new) (soaked_files g slots seed turns)
-  -- whatever is told, time goes on
-  pub goes : Leaves nor old new (λ image count. Unit {0})
+  -- whatever is told, time goes on, and the bytes behind the volume stay
+  pub behind : StaysBehind nor g old new

@@ -1,6 +1,7 @@
 ghost use Rattle.std.specs.Prelude.{◌≡◌, ◌≢◌, ◌*◌, ◌≤◌, length, None};
 ghost use Rattle.geometry.specs.Numbers.{write_refusal, work_need, cache_need, check_need};
 ghost use Rattle.nor_core.specs.Count.{Rose};
+ghost use Rattle.flash_view.specs.Same.{StaysBehind};
 ghost use Rattle.volume.specs.Same.{IsSameVolume};
 ghost use Rattle.tool_core.specs.Checking.{ChecksTo, DoesCheck, report_text};
 ghost use Rattle.tool_core.specs.Fits.{IsFitting, HasLengths};
@@ -76,6 +77,7 @@ fn check_board<'b, B: Board>(g: Geometry, board: &'b mut B, lent: Lent<'b>) -> E
     ensures no_script { result ≢ Ending.SourceFault }
     ensures cause { result ≡ Ending.BoardFault → Rose (B.faults board.old) (B.faults board.new) }
     ensures checks { ChecksTo B.NorState g board.old board.new result }
+    ensures behind { StaysBehind B.NorState g board.old board.new }
     ensures few { ReadsOnce B.NorState g (length lent.entry.cache.now) board.old board.new }
 {
     let mut volume = Volume::new(g, board, lent);

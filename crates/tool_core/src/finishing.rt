@@ -1,6 +1,7 @@
 ghost use Rattle.std.specs.Prelude.{◌≡◌, ◌≢◌, [], OnOk, OnErr, IfErr, Err};
 ghost use Rattle.nor_core.specs.Count.{Rose};
-ghost use Rattle.nor_core.specs.Device.{Changes, Leaves};
+ghost use Rattle.nor_core.specs.Flash.{SameOutside};
+ghost use Rattle.nor_core.specs.Device.{Changes};
 ghost use Rattle.table_model.specs.Table.{State};
 ghost use Rattle.volume.specs.Same.{IsSameVolume};
 ghost use Rattle.volume_run.specs.Ready.{IsReady};
@@ -20,7 +21,7 @@ pub(crate) fn format_board<B: Board>(g: &Geometry, board: &mut B) -> Result<(), 
     requires fits { IsFitting g.now (B.unit board.old) (B.size board.old) }
     ensures cause { OnErr result (Rose (B.faults board.old) (B.faults board.new)) }
     ensures stops { IfErr result (λ ending. ending ≡ Ending.BoardFault) }
-    ensures changes { Changes B.NorState board.old board.new (λ was image. Unit {0}) }
+    ensures changes { Changes B.NorState board.old board.new (SameOutside 0 (g.now.blocks * g.now.block)) }
     ensures files { B.tells board.old → OnOk result (HoldsFiles g.now (B.bytes board.new) []) }
 {
     match format(g, board) {
@@ -66,7 +67,6 @@ pub(crate) fn finish<B: Board>(volume: &mut Volume<'_, B>, line: &[u8]) -> Endin
     ensures no_script { result ≢ Ending.SourceFault }
     ensures cause { result ≡ Ending.BoardFault → Rose (B.faults volume.old.nor.now) (B.faults volume.new.nor.now) }
     ensures same { IsSameVolume volume.old volume.new }
-    ensures goes { Leaves B.NorState volume.old.nor.now volume.new.nor.now (λ image count. Unit {0}) }
     ensures speaks { (g : Geometry) (s : State) → IsReady g volume.old s → SpeaksOf B.NorState g volume.old.nor.now volume.new.nor.now line.now s.table result }
 {
     if let Err(ending) = settle(volume) {

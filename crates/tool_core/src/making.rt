@@ -1,8 +1,8 @@
 ghost use Rattle.std.specs.Prelude.{ℕ, ◌≡◌, ◌≢◌, ◌<◌, ◌≤◌, [], length, min, OnOk, IfErr, None};
 ghost use Rattle.geometry.specs.Numbers.{write_refusal, work_need, cache_need, check_need};
 ghost use Rattle.nor_core.specs.Count.{Rose};
-ghost use Rattle.nor_core.specs.Device.{Leaves};
 ghost use Rattle.folder_core.specs.Puts.{Kept};
+ghost use Rattle.flash_view.specs.Same.{StaysBehind};
 ghost use Rattle.image_make.specs.Refusals.{make_refusal};
 ghost use Rattle.volume.specs.Holds.{memory};
 ghost use Rattle.volume.specs.Same.{IsSameVolume};
@@ -79,7 +79,6 @@ fn make_volume<B: Board, F: Folder>(
     ensures folder_cause { result ≡ Ending.FolderFault → Rose (F.faults folder.old) (F.faults folder.new) }
     ensures same { IsSameVolume volume.old volume.new }
     ensures kept { Kept F.FolderState folder.old folder.new }
-    ensures goes { Leaves B.NorState volume.old.nor.now volume.new.nor.now (λ image count. Unit {0}) }
     ensures makes { (slots : ℕ) → 0 < slots → memory volume.old ≡ closed_memory (min 65535 slots) → B.tells volume.old.nor.now → HoldsFiles volume.old.geometry (B.bytes volume.old.nor.now) [] → MakesTo B.NorState F.FolderState volume.old.geometry volume.old.nor.now volume.new.nor.now folder.old result }
 {
     if let Err(ending) = mount_and_check(volume) {
@@ -114,7 +113,7 @@ fn make_board<'b, B: Board, F: Folder>(
     ensures cause { result ≡ Ending.BoardFault → Rose (B.faults board.old) (B.faults board.new) }
     ensures folder_cause { result ≡ Ending.FolderFault → Rose (F.faults folder.old) (F.faults folder.new) }
     ensures kept { Kept F.FolderState folder.old folder.new }
-    ensures goes { Leaves B.NorState board.old board.new (λ image count. Unit {0}) }
+    ensures behind { StaysBehind B.NorState g board.old board.new }
     ensures makes { B.tells board.old → HoldsFiles g (B.bytes board.old) [] → MakesTo B.NorState F.FolderState g board.old board.new folder.old result }
 {
     let mut volume = Volume::new(g, board, lent);

@@ -1,9 +1,10 @@
 ghost use Rattle.std.specs.Prelude.{ℕ, ◌≡◌, ◌≢◌, ◌*◌, ◌≤◌, ◌⊎◌, length, min, IfErr, OnOk, Err, Some, None, true};
 ghost use Rattle.geometry.specs.Numbers.{write_refusal, work_need, cache_need, check_need};
 ghost use Rattle.nor_core.specs.Count.{Rose};
-ghost use Rattle.nor_core.specs.Device.{Changes, Leaves};
+ghost use Rattle.nor_core.specs.Device.{Changes};
 ghost use Rattle.table_model.specs.Room.{has_room};
 ghost use Rattle.image_model.specs.Tables.{table_of};
+ghost use Rattle.flash_view.specs.Same.{StaysBehind};
 ghost use Rattle.volume.specs.Holds.{memory};
 ghost use Rattle.volume.specs.Stages.{takes_calls};
 ghost use Rattle.volume.specs.Same.{IsSameVolume};
@@ -100,7 +101,6 @@ fn run_volume<B: Board, S: Source>(
     ensures ends { (slots : ℕ) → memory volume.old ≡ closed_memory slots → S.tells script.old → B.tells volume.old.nor.now → has_room volume.old.geometry (table_of volume.old.geometry (B.bytes volume.old.nor.now)) ≡ true → RunsTo B.NorState volume.old.geometry volume.old.nor.now volume.new.nor.now (first_moment volume.old.geometry slots (B.bytes volume.old.nor.now)) (S.left script.old) (S.left script.new) result }
     ensures refused { B.tells volume.old.nor.now → (ending : Ending) → check_refusal volume.old.geometry (B.bytes volume.old.nor.now) ≡ Some ending → Refused B.NorState volume.old.nor.now volume.new.nor.now ending result }
     ensures begins { (slots : ℕ) → memory volume.old ≡ closed_memory slots → B.tells volume.old.nor.now → EndsByImages volume.old.geometry (B.bytes volume.old.nor.now) (B.bytes volume.new.nor.now) result }
-    ensures goes { Leaves B.NorState volume.old.nor.now volume.new.nor.now (λ image count. Unit {0}) }
 {
     match begin(volume) {
         Err(ending) => ending,
@@ -134,7 +134,7 @@ fn run<'b, B: Board, S: Source>(
     ensures ends { S.tells script.old → B.tells board.old → has_room g (table_of g (B.bytes board.old)) ≡ true → RunsTo B.NorState g board.old board.new (first_moment g (min 65535 (length lent.entry.slots.now)) (B.bytes board.old)) (S.left script.old) (S.left script.new) result }
     ensures refused { B.tells board.old → (ending : Ending) → check_refusal g (B.bytes board.old) ≡ Some ending → Refused B.NorState board.old board.new ending result }
     ensures begins { B.tells board.old → EndsByImages g (B.bytes board.old) (B.bytes board.new) result }
-    ensures goes { Leaves B.NorState board.old board.new (λ image count. Unit {0}) }
+    ensures behind { StaysBehind B.NorState g board.old board.new }
 {
     let mut volume = Volume::new(g, board, lent);
     run_volume(&mut volume, script, line)

@@ -1,7 +1,7 @@
 ghost use Rattle.std.specs.Prelude.{ℕ, ◌≡◌, ◌≢◌, ◌≤◌, [], length, min, None};
 ghost use Rattle.geometry.specs.Numbers.{write_refusal, work_need, cache_need, check_need};
 ghost use Rattle.nor_core.specs.Count.{Rose};
-ghost use Rattle.nor_core.specs.Device.{Leaves};
+ghost use Rattle.flash_view.specs.Same.{StaysBehind};
 ghost use Rattle.volume.specs.Holds.{memory};
 ghost use Rattle.volume.specs.Same.{IsSameVolume};
 ghost use Rattle.volume_soak.specs.Turns.{summary_text};
@@ -52,7 +52,6 @@ fn soak_volume<B: Board>(
     ensures no_script { result ≢ Ending.SourceFault }
     ensures cause { result ≡ Ending.BoardFault → Rose (B.faults volume.old.nor.now) (B.faults volume.new.nor.now) }
     ensures same { IsSameVolume volume.old volume.new }
-    ensures goes { Leaves B.NorState volume.old.nor.now volume.new.nor.now (λ image count. Unit {0}) }
     ensures soaks { (slots : ℕ) → memory volume.old ≡ closed_memory (min 65535 slots) → B.tells volume.old.nor.now → HoldsFiles volume.old.geometry (B.bytes volume.old.nor.now) [] → SoaksTo B.NorState volume.old.geometry slots seed turns volume.old.nor.now volume.new.nor.now result }
 {
     if let Err(ending) = mount_and_check(volume) {
@@ -82,7 +81,7 @@ fn soak_board<'b, B: Board>(
     ensures later { IsLater result }
     ensures no_script { result ≢ Ending.SourceFault }
     ensures cause { result ≡ Ending.BoardFault → Rose (B.faults board.old) (B.faults board.new) }
-    ensures goes { Leaves B.NorState board.old board.new (λ image count. Unit {0}) }
+    ensures behind { StaysBehind B.NorState g board.old board.new }
     ensures soaks { B.tells board.old → HoldsFiles g (B.bytes board.old) [] → SoaksTo B.NorState g (length lent.entry.slots.now) seed turns board.old board.new result }
 {
     let mut volume = Volume::new(g, board, lent);

@@ -21,7 +21,8 @@ use Rattle.image_laws.proofs.Frames.{live_parts}
 use Rattle.image_laws.proofs.FreeBlocks.{all-at}
 use Rattle.image_laws.proofs.Bits.{and_comm_255}
 use Rattle.page_put.specs.Fresh.{ErasedTo}
-use Rattle.page_put.proofs.Freshening.{magic_small, lies, unit_done, erased_more, counted, both, Stands, stands, outside_on, slots_wide, front_dead, is_free, count_is}
+use Rattle.flash_view.proofs.Behind.{outside_on}
+use Rattle.page_put.proofs.Freshening.{magic_small, lies, unit_done, erased_more, counted, both, Stands, stands, slots_wide, front_dead, is_free, count_is}
 use Rattle.page_put.proofs.Erasures.{unit_start, unit_fits}
 use Rattle.vol_mount.specs.Formatted.{IsBlank, MakesBlank, BlankTo, IsFormatted}
 use Rattle.vol_mount.proofs.Empty.{table_none, damaged_none}

@@ -324,6 +324,17 @@ module _ {N : Type 0} {nor : NorOf N} where
         acts.does.cuts
         (λ tells image before after m at. let here : Holds old m = record { tells = tells; image = at } in cut_by m here image (after m.state (image_mid m here)))
 
+    -- what the flat table does once all is settled it does before
+    does_before : (m : Moment) → Holds old m → IsDoable old.geometry (nor.bytes mid.nor.now) m.state ask → IsDoable old.geometry (nor.bytes old.nor.now) m.state ask
+    does_before m here does = record {
+      done = subst (λ (b : Bool). is_refusal (answer old.geometry b m.state ask).answer ≡ false) (spare m here) does.done;
+      publishes = ⊎_elim
+          (λ (is : ask ≡ Collects). inl is)
+          (λ (among : IsAmong (answer old.geometry (has_spare old.geometry (nor.bytes mid.nor.now)) m.state ask).next.table (steps old.geometry (has_spare old.geometry (nor.bytes mid.nor.now)) m.state ask)).
+          inr (subst (λ (b : Bool). IsAmong (answer old.geometry b m.state ask).next.table (steps old.geometry b m.state ask)) (spare m here) among))
+          does.publishes;
+    }
+
     -- what stops short once all is settled does so before
     short_before : (m : Moment) → Holds old m → StopsShort old.geometry (nor.bytes mid.nor.now) m.state ask reply → StopsShort old.geometry (nor.bytes old.nor.now) m.state ask reply
     short_before m here short = record {
@@ -331,7 +342,7 @@ module _ {N : Type 0} {nor : NorOf N} where
           (λ (is : ask ≡ Collects). inl is)
           (λ (corner : IsCorner old.geometry (nor.bytes mid.nor.now) m.state ask). inr (record { cuts = corner.cuts; reserve = reserve_before m here corner.reserve; full = corner.full }))
           short.why;
-      doable = record { done = subst (λ (b : Bool). is_refusal (answer old.geometry b m.state ask).answer ≡ false) (spare m here) short.doable.done };
+      doable = does_before m here short.doable;
       tight = short.tight;
     }
 
@@ -376,7 +387,7 @@ module _ {N : Type 0} {nor : NorOf N} where
 
     -- a call that asked for a program or an erase is one that the flat table does
     doable : (m : Moment) → Holds old m → did.wrote ≡ true → IsDoable old.geometry (nor.bytes old.nor.now) m.state ask
-    doable m here w = record { done = subst (λ (b : Bool). is_refusal (answer old.geometry b m.state ask).answer ≡ false) (spare m here) (acts.does.begun m.state (image_mid m here) w).done }
+    doable m here w = does_before m here (acts.does.begun m.state (image_mid m here) w)
 
     refused_by : (m : Moment) → HasNone old → Holds old m → (reply ≡ Refuses DeviceFault → ⊥) → (StopsShort old.geometry (nor.bytes old.nor.now) m.state ask reply → ⊥) → is_refusal reply ≡ true → Unchanged old new
     refused_by m none here no_fault whole refusal = ⊎_elim
@@ -428,7 +439,7 @@ module _ {N : Type 0} {nor : NorOf N} where
           let stays = acts.does.cornered m.state (image_mid m here) there tight in
           let geometry = same.geometry ∙ settles.same.geometry in
           let now = stands_by old.geometry new m.state (acts.empty (ap is_refusal tight)) stays.holds in
-          (subst (λ (g : Geometry). Stands nor g new.nor.now (memory new) (settled_at m.state)) (sym geometry) now, stays.reserve);
+          record { stands = subst (λ (g : Geometry). Stands nor g new.nor.now (memory new) (settled_at m.state)) (sym geometry) now; reserve = stays.reserve; none = stays.none; short = stays.short };
       leaves = λ takes e. absurd (let no : true ≡ false = sym e ∙ leaves in cc);
       extends = λ m takes here e. absurd (let no : true ≡ false = sym e ∙ apart m here in cc);
       closed = λ shut. absurd (let no : true ≡ false = sym takes ∙ shut in cc);
@@ -540,7 +551,15 @@ module _ {N : Type 0} {nor : NorOf N} where
         asked = calls.asked;
         stops = λ m takes stopped here. ⊎_elim
             (λ (run : HasRun old). inl run)
-            (λ (does : IsDoable g was m.state (Writes fd (replicate count byte))). inr (record { done = ap (λ (o : Outcome). is_refusal o.answer) (fills-as_writes g spare m fd count byte).answer_is ∙ does.done }))
+            (λ (does : IsDoable g was m.state (Writes fd (replicate count byte))). 
+            let f = fills-as_writes g spare m fd count byte in
+            inr (record {
+              done = ap (λ (o : Outcome). is_refusal o.answer) f.answer_is ∙ does.done;
+              publishes = ⊎_elim
+                  (λ (is : Writes fd (replicate count byte) ≡ Collects). absurd (cc))
+                  (λ (among : IsAmong (answer g spare m.state (Writes fd (replicate count byte))).next.table (steps g spare m.state (Writes fd (replicate count byte)))). inr (rw (f.answer_is, f.steps_are) among))
+                  does.publishes;
+            }))
             (calls.stops m takes stopped here);
         looks = calls.looks;
         keeps = calls.keeps;

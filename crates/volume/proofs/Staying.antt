@@ -4,6 +4,8 @@ use Rattle.nor_core.specs.declared.state.NorState.{Ghosts as NorOf}
 use Rattle.geometry.specs.declared.geometry.Geometry.{Geometry}
 use Rattle.page_cache.specs.Kept.{FewReads}
 use Rattle.page_cache.proofs.Held.{few_none, few_then}
+use Rattle.flash_view.specs.Same.{StaysBehind}
+use Rattle.flash_view.proofs.Behind.{behind_none, behind_then}
 use Rattle.volume.specs.declared.volume.Volume.{Volume}
 use Rattle.volume.specs.Same.{IsSameVolume}
 
@@ -17,6 +19,7 @@ module _ {N : Type 0} {nor : NorOf N} where
     slots_name = second.slots_name ∙ first.slots_name;
     check_name = second.check_name ∙ first.check_name;
     cache_size = second.cache_size ∙ first.cache_size;
+    behind = behind_then _ first.behind (subst (λ (g : Geometry). StaysBehind nor g mid.nor.now new.nor.now) first.geometry second.behind);
     faults = omega (arith, first.faults, second.faults);
     few = few_then _ first.cache_size first.faults second.faults first.few (subst (λ (g : Geometry). FewReads nor g mid.nor.now mid.cache.now new.nor.now new.cache.now) first.geometry second.few);
   }
@@ -30,6 +33,7 @@ module _ {N : Type 0} {nor : NorOf N} where
     slots_name = refl;
     check_name = refl;
     cache_size = refl;
+    behind = behind_none v.geometry v.nor.now;
     faults = omega arith;
     few = few_none v.geometry v.nor.now v.cache.now;
   }

@@ -19,8 +19,8 @@ use Rattle.table_model.specs.Calls.{answer_write, write_into}
 use Rattle.table_model.specs.Reply.{Tells as Number}
 use Rattle.table_model.specs.Ask.{Writes}
 use Rattle.table_model.specs.Flat.{answer}
-use Rattle.table_model.specs.Steps.{is_refusal}
-use Rattle.table_model.specs.Window.{Moment, settled_at, after, page_end}
+use Rattle.table_model.specs.Steps.{is_refusal, file_steps}
+use Rattle.table_model.specs.Window.{Moment, settled_at, after, page_end, IsAmong}
 use Rattle.image_model.specs.Tables.{table_of}
 use Rattle.image_model.specs.Tidy.{IsTidy, free_blocks, HasReserve, has_spare}
 use Rattle.write_window.specs.Runs.{Run}
@@ -30,6 +30,7 @@ use Rattle.call_model.specs.Writing.{IsWrite, Writing}
 use Rattle.call_model.proofs.Tables.{file_of-id}
 use Rattle.call_model.proofs.Opens.{opens_kept, place-inside, inside_file}
 use Rattle.call_model.proofs.Writing.{write-is_done}
+use Rattle.call_model.proofs.Parts.{whole-among}
 use Rattle.call_model.proofs.Waiting.{begun-moment, wait_begins}
 use Rattle.call_model.proofs.Settling.{direct-moment}
 use Rattle.call_model.proofs.Empty.{empty-is_done}
@@ -209,7 +210,14 @@ module _ {D : Type 0} {nor : NorOf D} {g : Geometry} {old : D} {slots : List FdS
             slots = moved_is s here;
             reserve = λ reserve. left.reserve;
           };
-          doable = λ s here. record { done = ap (λ (o : Outcome). is_refusal o.answer) (done s here).answer_is };
+          doable = λ s here.
+              let w = done s here in
+              let spare = has_spare g (nor.bytes old) in
+              record {
+                done = ap (λ (o : Outcome). is_refusal o.answer) w.answer_is;
+                publishes = inr (subst (λ (all : List (List File)). IsAmong (answer g spare s (Writes fd bytes)).next.table all) (sym w.steps_are)
+                    (subst (λ (table : List File). IsAmong table (file_steps g (write_place (opened slot) f) bytes f s.table)) (sym (ap (λ (o : Outcome). o.next.table) w.answer_is)) (whole-among g (write_place (opened slot) f) bytes f s.table some)));
+              };
         }
 
         -- what may not wait leaves nothing waiting

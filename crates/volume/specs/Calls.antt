@@ -12,6 +12,8 @@ use Rattle.table_model.specs.Ask.{Ask, Collects}
 use Rattle.table_model.specs.Steps.{is_refusal}
 use Rattle.table_model.specs.Window.{Moment, settled_at, leaves_window, incoming_of, continues}
 use Rattle.image_model.specs.Tidy.{HasReserve}
+use Rattle.image_model.specs.Collect.{chosen_block}
+use Rattle.block_gc.specs.RoomMade.{IsReady}
 use Rattle.call_model.specs.Calls.{Publishes, Answers}
 use Rattle.volume.specs.declared.volume.Volume.{Volume}
 use Rattle.volume.specs.Stages.{takes_calls, has_failed}
@@ -32,6 +34,14 @@ module _ {N : Type 0} {nor : NorOf N} where
   abbrev pub HasNone : Volume N nor → Type 0
   HasNone v = (memory v).run ≡ None
 
+  -- A volume stands where all is settled, with two free blocks; but no block can be cleaned any more, and there is no page for an index
+  -- page.
+  pub record StaysTight (old new : Volume N nor) (m : Moment) : Type 0 where
+    pub stands : Holds new (settled_at m.state)
+    pub reserve : HasReserve old.geometry (nor.bytes new.nor.now)
+    pub none : chosen_block old.geometry (nor.bytes new.nor.now) ≡ None
+    pub short : IsReady old.geometry (nor.bytes new.nor.now) 1 0 → ⊥
+
   -- What a call does. `old` and `new` are the volume before and after it. Every call but telling an offset and a write that goes on with
   -- what waits puts that onto the chip first.
   pub record Calls (ask : Ask) (old new : Volume N nor) (reply : Answer) : Type 0 where
@@ -48,7 +58,7 @@ module _ {N : Type 0} {nor : NorOf N} where
     -- with two free blocks collection isn't stuck
     pub unstuck : (m : Moment) → takes_calls old ≡ true → Holds old m → HasReserve old.geometry (nor.bytes old.nor.now) → ask ≡ Collects → reply ≡ Refuses Tight → ⊥
     -- Tight for want of a page for a cut, nothing is changed but where pages stand, and that what waited is on the chip
-    pub cornered : (m : Moment) → takes_calls old ≡ true → Holds old m → IsCorner old.geometry (nor.bytes old.nor.now) m.state ask → reply ≡ Refuses Tight → Holds new (settled_at m.state) × HasReserve old.geometry (nor.bytes new.nor.now)
+    pub cornered : (m : Moment) → takes_calls old ≡ true → Holds old m → IsCorner old.geometry (nor.bytes old.nor.now) m.state ask → reply ≡ Refuses Tight → StaysTight old new m
     -- telling an offset changes nothing, and a write that goes on with what waits asks nothing of the device
     pub leaves : takes_calls old ≡ true → leaves_window ask ≡ true → new ≡ old
     pub extends : (m : Moment) → takes_calls old ≡ true → Holds old m → continues old.geometry m.window (incoming_of m.state ask) ≡ true → new.nor.now ≡ old.nor.now

@@ -3,6 +3,7 @@ ghost use Rattle.geometry.specs.Numbers.{usable, body, scratch_need, cache_need}
 ghost use Rattle.nor_core.specs.Count.{Rose};
 ghost use Rattle.flash_view.specs.Same.{IsSameView};
 ghost use Rattle.page_cache.specs.Kept.{IsKept, FewReads};
+ghost use Rattle.flash_view.specs.Same.{StaysBehind};
 ghost use Rattle.flash_view.specs.Table.{HasTable};
 ghost use Rattle.table_model.specs.Ask.{asked};
 ghost use Rattle.file_calls.specs.Replies.{reply_of, shown_by, HasRoomFor};
@@ -85,6 +86,7 @@ fn call_on<N: Nor>(
     requires page { body g ≤ length keep.old }
     ensures kept { IsKept N.NorState g nor.new cache.new }
     ensures cache_size { length cache.new ≡ length cache.old }
+    ensures behind { StaysBehind N.NorState g nor.old nor.new }
     ensures few { FewReads N.NorState g nor.old cache.old nor.new cache.new }
     ensures faults { N.faults nor.old ≤ N.faults nor.new }
     ensures asked { result.wrote ≡ true → Rose (N.device_writes nor.old) (N.device_writes nor.new) }

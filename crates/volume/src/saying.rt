@@ -3,6 +3,7 @@ ghost use Rattle.geometry.specs.Numbers.{scratch_need, cache_need};
 ghost use Rattle.nor_core.specs.Count.{Rose};
 ghost use Rattle.nor_core.specs.Device.{Leaves, Says, InSay};
 ghost use Rattle.page_cache.specs.Kept.{IsKept, FewReads};
+ghost use Rattle.flash_view.specs.Same.{StaysBehind};
 ghost use Rattle.flash_view.specs.Table.{HasTable};
 ghost use Rattle.volume.specs.Stages.{takes_calls};
 ghost use Rattle.volume.specs.Holds.{memory};
@@ -31,6 +32,7 @@ fn say_on<B: Board>(
     requires table { counted.old ≡ true → HasTable B.NorState g nor.old rows.old }
     ensures kept { IsKept B.NorState g nor.new cache.new }
     ensures cache_size { length cache.new ≡ length cache.old }
+    ensures behind { StaysBehind B.NorState g nor.old nor.new }
     ensures few { FewReads B.NorState g nor.old cache.old nor.new cache.new }
     ensures cause { OnErr result (Rose (B.faults nor.old) (B.faults nor.new)) }
     ensures faults { B.faults nor.old ≤ B.faults nor.new }

@@ -4,6 +4,7 @@ ghost use Rattle.geometry.specs.Numbers.{scratch_need, cache_need};
 ghost use Rattle.nor_core.specs.Count.{Rose};
 ghost use Rattle.table_model.specs.Table.{File};
 ghost use Rattle.page_cache.specs.Kept.{IsKept, FewReads};
+ghost use Rattle.flash_view.specs.Same.{StaysBehind};
 ghost use Rattle.flash_view.specs.Table.{HasTable};
 ghost use Rattle.file_calls.specs.Writings.{WritesOn};
 
@@ -44,6 +45,7 @@ fn settle_on<N: Nor>(
     requires table { counted.old ≡ true → HasTable N.NorState g nor.old rows.old }
     ensures kept { IsKept N.NorState g nor.new cache.new }
     ensures cache_size { length cache.new ≡ length cache.old }
+    ensures behind { StaysBehind N.NorState g nor.old nor.new }
     ensures few { FewReads N.NorState g nor.old cache.old nor.new cache.new }
     ensures faults { N.faults nor.old ≤ N.faults nor.new }
     ensures asked { result.wrote ≡ true → Rose (N.device_writes nor.old) (N.device_writes nor.new) }

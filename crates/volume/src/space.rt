@@ -5,6 +5,7 @@ ghost use Rattle.nor_core.specs.Count.{Rose};
 ghost use Rattle.nor_core.specs.Device.{OnlyReads};
 ghost use Rattle.image_model.specs.Tidy.{IsTidy};
 ghost use Rattle.page_cache.specs.Kept.{IsKept, FewReads};
+ghost use Rattle.flash_view.specs.Same.{StaysBehind};
 ghost use Rattle.flash_view.specs.Table.{HasTable};
 ghost use Rattle.table_model.specs.Window.{Moment};
 ghost use Rattle.file_calls.specs.Spaces.{IsSpace};
@@ -38,6 +39,7 @@ fn space_on<N: Nor>(
     requires table { counted.old ≡ true → HasTable N.NorState g nor.old rows.old }
     ensures kept { IsKept N.NorState g nor.new cache.new }
     ensures cache_size { length cache.new ≡ length cache.old }
+    ensures behind { StaysBehind N.NorState g nor.old nor.new }
     ensures few { FewReads N.NorState g nor.old cache.old nor.new cache.new }
     ensures cause { OnErr result (Rose (N.faults nor.old) (N.faults nor.new)) }
     ensures looks { OnlyReads N.NorState nor.old nor.new }

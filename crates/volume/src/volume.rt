@@ -6,6 +6,7 @@ ghost use Rattle.image_model.specs.Kinds.{spoiled_blocks, mixed_blocks};
 ghost use Rattle.image_model.specs.Sound.{HasMagics};
 ghost use Rattle.image_model.specs.Tidy.{IsTidy, HasReserve};
 ghost use Rattle.page_cache.specs.Kept.{IsKept, FewReads};
+ghost use Rattle.flash_view.specs.Same.{StaysBehind};
 ghost use Rattle.flash_view.specs.Table.{HasTable, rows_in};
 ghost use Rattle.fd_table.specs.Slots.{descriptors};
 ghost use Rattle.vol_mount.specs.Mounts.{IsLate, CountsSpoiled};
@@ -84,6 +85,7 @@ fn mount_on<N: Nor>(
     requires kept { IsKept N.NorState g nor.old cache.old }
     ensures kept { IsKept N.NorState g nor.new cache.new }
     ensures cache_size { length cache.new ≡ length cache.old }
+    ensures behind { StaysBehind N.NorState g nor.old nor.new }
     ensures few { FewReads N.NorState g nor.old cache.old nor.new cache.new }
     ensures late { IfErr result IsLate }
     ensures cause { result ≡ Err MountErr.DeviceFault → Rose (N.faults nor.old) (N.faults nor.new) }
@@ -129,6 +131,7 @@ fn check_on<N: Nor>(
     requires kept { IsKept N.NorState g nor.old cache.old }
     ensures kept { IsKept N.NorState g nor.new cache.new }
     ensures cache_size { length cache.new ≡ length cache.old }
+    ensures behind { StaysBehind N.NorState g nor.old nor.new }
     ensures few { FewReads N.NorState g nor.old cache.old nor.new cache.new }
     ensures wrong { IfSome (write_refusal g) (λ why. result ≡ Err (CheckErr.Wrong why)) }
     ensures writable { write_refusal g ≡ None → IfErr result IsWritable }
@@ -169,6 +172,7 @@ impl<'b, N: Nor> Volume<'b, N> {
     ghost use Rattle.image_model.specs.Tidy.{IsTidy, HasReserve};
     ghost use Rattle.page_cache.specs.Frames.{held};
     ghost use Rattle.page_cache.specs.Kept.{FewReads};
+    ghost use Rattle.flash_view.specs.Same.{StaysBehind};
     ghost use Rattle.volume.specs.Holds.{memory};
     ghost use Rattle.volume.specs.Unmounts.{UnmountsTo};
     ghost use Rattle.vol_mount.specs.Mounts.{IsLate, CountsSpoiled};
@@ -300,6 +304,7 @@ impl<'b, N: Nor> Volume<'b, N> {
     /// has failed before it is `Failed`, and where this fails why.
     pub fn unmount(mut self) -> Unmounted<'b, N>
         ensures unmounts { UnmountsTo self.entry result.back.nor.now result.last }
+        ensures behind { StaysBehind N.NorState self.entry.geometry self.entry.nor.now result.back.nor.now }
         ensures few { FewReads N.NorState self.entry.geometry self.entry.nor.now self.entry.cache.now result.back.nor.now result.back.lent.cache.now }
         ensures nor_name { result.back.nor.ghost_name ≡ self.entry.nor.ghost_name }
         ensures work_name { result.back.lent.work.ghost_name ≡ self.entry.work.ghost_name }

@@ -1,6 +1,6 @@
-use Rattle.std.proofs.Common.{◌/◌, ◌<◌, ◌∙◌, refl, sym, arith, rules}
+use Rattle.std.proofs.Common.{◌/◌, ◌<◌, ◌∙◌, refl, sym, arith}
 use Rattle.nor_core.proofs.Cuts.{unchanged}
-use Rattle.flash_view.proofs.Looking.{same_then}
+use Rattle.flash_view.proofs.Looking.{same_none, same_then}
 use Rattle.flash_view.proofs.Stepped.{view_image}
 use Rattle.page_put.proofs.Freshening.{erasing_none, none_erased, some_units}
 use Rattle.page_put.proofs.Erasures.{erasing_then, front_then, front_all}
@@ -12,7 +12,7 @@ loop-i-init g c =
     record {
       units = rw (c.block.ensures, c.phys.ensures) refl;
       below = omega arith;
-      same = search rules;
+      same = same_none view;
       rows = refl;
       wrote = λ some. absurd (omega (arith, some));
       changes = unchanged _ _ (λ tells. erasing_none view.geometry c.args.block _ c.requires.block (view_image view (g.met.N.Nor.sized _) tells));

@@ -18,6 +18,7 @@ returns-clause-looks g c =
         rows_name = all.same.rows_name;
         cache_name = all.same.cache_name;
         cache_size = all.same.cache_size;
+        behind = all.same.behind;
         faults = all.same.faults;
         writes = all.same.writes;
         asked = all.same.asked;

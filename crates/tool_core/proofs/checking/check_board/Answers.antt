@@ -1,6 +1,12 @@
 use Rattle.std.proofs.Common.{rules}
-use Rattle.tool_core.proofs.Reading.{reads_once, reads_as}
+use Rattle.tool_core.proofs.Reading.{reads_once, reads_as, behind_as}
 use Rattle.tool_core.proofs.checking.check_board.Goals as goal
+
+pub returns-clause-behind : goal.returns-clause-behind
+returns-clause-behind g c =
+    let made = c.new-volume.ensures in
+    let here = rw (made.geometry, made.nor) at c.check_volume.ensures.same.behind in
+    behind_as here (search rules)
 
 pub returns-clause-few : goal.returns-clause-few
 returns-clause-few g c =

@@ -4,4 +4,4 @@ use Rattle.tool_core.proofs.checking.check_on.Goals as goal
 pub returns-clause-does : goal.returns-clause-does
 returns-clause-does g c =
     let checked = c.check_board-ending.ensures in
-    check_does _ c.check_board-ending.result c.conclude.result checked.checks checked.cause checked.few c.conclude.ensures
+    check_does _ c.check_board-ending.result c.conclude.result checked.checks checked.cause checked.behind checked.few c.conclude.ensures

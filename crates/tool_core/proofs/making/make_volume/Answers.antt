@@ -1,18 +1,13 @@
 use Rattle.std.proofs.Common.{◌≡◌, ◌∙◌, refl, sym, ⊎_elim}
 use Rattle.std.specs.Prelude.{min}
-use Rattle.nor_core.proofs.Cuts.{andthen}
 use Rattle.volume_make.specs.Making.{made_text}
 use Rattle.tool_core.proofs.Beginning.{memory_begun}
 use Rattle.tool_core.proofs.Formatting.{tidy_stops, empty_ready}
 use Rattle.tool_core.proofs.MakeEnds.{makes_none, makes_after, speaks_folder}
-use Rattle.tool_core.proofs.Working.{goes_of}
 use Rattle.tool_core.proofs.making.make_volume.Goals as goal
 
 pub returns-in-Err-clause-makes : goal.returns-in-Err-clause-makes
 returns-in-Err-clause-makes g c = λ slots some closed tells files. makes_none c.in-Err.ending c.mount_and_check.ensures.changes.said (tidy_stops c.in-Err.ending files.tidy (c.in-Err.ensures.stops tells))
-
-pub returns-in-Ok-clause-goes : goal.returns-in-Ok-clause-goes
-returns-in-Ok-clause-goes g c = andthen (goes_of c.mount_and_check.ensures.changes.cuts) (andthen (goes_of c.put_files.ensures.moved.goes.cuts) c.finish.ensures.goes)
 
 pub returns-in-Ok-clause-makes : goal.returns-in-Ok-clause-makes
 returns-in-Ok-clause-makes g c = λ slots some closed tells files.

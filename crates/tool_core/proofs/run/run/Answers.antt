@@ -1,6 +1,6 @@
 use Rattle.std.proofs.Common.{rules}
 use Rattle.tool_core.proofs.Beginning.{runs_as, images_as}
-use Rattle.tool_core.proofs.Reading.{reads_once, reads_as}
+use Rattle.tool_core.proofs.Reading.{reads_once, reads_as, behind_as}
 use Rattle.tool_core.proofs.run.run.Goals as goal
 
 pub returns-clause-few : goal.returns-clause-few
@@ -9,6 +9,12 @@ returns-clause-few g c =
     let few = c.run_volume.ensures.same.few in
     let here = rw (made.geometry, made.nor) at few in
     reads_as _ (reads_once _ _ _ here made.empty made.cache_size) (search rules)
+
+pub returns-clause-behind : goal.returns-clause-behind
+returns-clause-behind g c =
+    let made = c.new-volume.ensures in
+    let here = rw (made.geometry, made.nor) at c.run_volume.ensures.same.behind in
+    behind_as here (search rules)
 
 pub returns-clause-ends : goal.returns-clause-ends
 returns-clause-ends g c = λ script tells room.

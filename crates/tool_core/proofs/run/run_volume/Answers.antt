@@ -3,8 +3,7 @@ use Rattle.volume.specs.Holds.{memory}
 use Rattle.tool_core.proofs.Beginning.{memory_begun, begun_ends, early_ends, early_refused}
 use Rattle.tool_core.proofs.Refusals.{not_both}
 use Rattle.tool_core.proofs.Settling.{works_settled}
-use Rattle.tool_core.proofs.Working.{goes_of, early_images, begun_images}
-use Rattle.nor_core.proofs.Cuts.{andthen}
+use Rattle.tool_core.proofs.Working.{early_images, begun_images}
 use Rattle.tool_core.proofs.run.run_volume.Goals as goal
 
 pub returns-in-Err-clause-ends : goal.returns-in-Err-clause-ends
@@ -22,14 +21,8 @@ returns-in-Ok-clause-refused g c = λ tells ending is. absurd (not_both (c.in-Ok
 pub returns-in-Err-clause-begins : goal.returns-in-Err-clause-begins
 returns-in-Err-clause-begins g c = λ slots closed tells. early_images c.in-Err.ending (c.in-Err.ensures.stops tells)
 
-pub returns-in-Err-clause-goes : goal.returns-in-Err-clause-goes
-returns-in-Err-clause-goes g c = goes_of c.begin.ensures.changes.cuts
-
 pub returns-in-Ok-clause-begins : goal.returns-in-Ok-clause-begins
 returns-in-Ok-clause-begins g c = λ slots closed tells. begun_images slots c.settle.result c.begin.new.volume.geometry c.begin.ensures.same.geometry (memory_begun c.args.volume.now c.begin.new.volume slots c.in-Ok.ensures.closed closed) c.begin.ensures.changes tells (c.in-Ok.ensures.begun tells) (works_settled c.run_script-ending.result c.run_script-ending.new.volume.geometry c.run_script-ending.ensures.same.geometry c.run_script-ending.ensures.works c.settle.ensures.settles)
-
-pub returns-in-Ok-clause-goes : goal.returns-in-Ok-clause-goes
-returns-in-Ok-clause-goes g c = andthen (goes_of c.begin.ensures.changes.cuts) (works_settled c.run_script-ending.result c.run_script-ending.new.volume.geometry c.run_script-ending.ensures.same.geometry c.run_script-ending.ensures.works c.settle.ensures.settles).goes
 
 pub returns-in-Ok-clause-cause : goal.returns-in-Ok-clause-cause
 returns-in-Ok-clause-cause g c = λ is. ⊎_elim

@@ -5,6 +5,9 @@ use Rattle.volume.proofs.settling.settle_on.Goals as goal
 pub returns-clause-kept : goal.returns-clause-kept
 returns-clause-kept g c = let same = (c.write_all-result.ensures any_file).framed.same in search (rules, same)
 
+pub returns-clause-behind : goal.returns-clause-behind
+returns-clause-behind g c = let same = (c.write_all-result.ensures any_file).framed.same in search (rules, same.behind)
+
 pub returns-clause-few : goal.returns-clause-few
 returns-clause-few g c = let same = (c.write_all-result.ensures any_file).framed.same in search (rules, same.few)
 

@@ -3,7 +3,7 @@ use Rattle.std.specs.Prelude.{Some, None}
 use Rattle.std.specs.Option.{option_map}
 use Rattle.std.proofs.Math.Nat.{mod-lt, mul-le-mul_right}
 use Rattle.page_layout.specs.Layout.{header_at}
-use Rattle.geometry.specs.Numbers.{page_count, per_block, lookups, entries}
+use Rattle.geometry.specs.Numbers.{page_count, per_block, lookups}
 use Rattle.image_model.specs.Places.{entry_of}
 use Rattle.image_model.specs.Live.{live_at}
 use Rattle.flash_view.specs.Walk.{IsNextSlot, ArePassed}

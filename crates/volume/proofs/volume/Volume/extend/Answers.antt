@@ -1,5 +1,6 @@
 use Rattle.std.proofs.Common.{rules, ◌≡◌, ◌<◌, length, refl, arith}
 use Rattle.page_cache.proofs.Held.{few_none}
+use Rattle.flash_view.proofs.Behind.{behind_none}
 use Rattle.volume.proofs.Continuing.{room_held, few_held, extends_none, extends_some}
 use Rattle.volume.proofs.volume.Volume.extend.Goals as goal
 
@@ -27,6 +28,7 @@ returns g c =
       slots_name = refl;
       check_name = refl;
       cache_size = refl;
+      behind = behind_none self.geometry self.nor.now;
       faults = omega arith;
       few = few_none self.geometry self.nor.now self.cache.now;
     })
