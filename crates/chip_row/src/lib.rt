@@ -18,6 +18,3 @@ pub use chip::Chip;
 pub use mem_chip::MemChip;
 pub use row::{ChipRow, RowErr, RowRefusal};
 pub use state::ChipState;
-
-#[cfg(test)]
-mod tests;

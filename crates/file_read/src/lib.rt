@@ -7,6 +7,3 @@ mod stat;
 
 pub use read::{no_header, read_at, read_from};
 pub use stat::{stat_at, stat_in};
-
-#[cfg(test)]
-mod tests;

@@ -12,8 +12,6 @@ mod file;
 mod flat;
 mod names;
 mod opening;
-#[cfg(test)]
-mod rows;
 mod said;
 mod search;
 mod slots;

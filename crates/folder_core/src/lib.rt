@@ -10,6 +10,3 @@ mod state;
 pub use folder::Folder;
 pub use mem_folder::MemFolder;
 pub use state::FolderState;
-
-#[cfg(test)]
-mod tests;

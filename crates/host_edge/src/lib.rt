@@ -17,6 +17,3 @@ pub use chip::{Access, FileChip};
 pub use folder::StdFolder;
 pub use source::StdSource;
 pub use trouble::Trouble;
-
-#[cfg(test)]
-mod tests;

@@ -4,8 +4,6 @@
 mod ages;
 mod choice;
 mod places;
-#[cfg(test)]
-mod rows;
 mod shared;
 mod stuck;
 mod swept;

@@ -10,8 +10,6 @@ mod headers;
 mod pages;
 mod record;
 mod room;
-#[cfg(test)]
-mod rows;
 mod table;
 mod tidiness;
 mod tidy;

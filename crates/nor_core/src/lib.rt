@@ -19,6 +19,3 @@ pub use memory::MemBoard;
 pub use plan::CallKind;
 pub use source::Source;
 pub use state::NorState;
-
-#[cfg(test)]
-mod tests;

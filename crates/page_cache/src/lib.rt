@@ -8,6 +8,3 @@ mod through;
 
 pub use cached::Cached;
 pub use through::{held_page, hold_page};
-
-#[cfg(test)]
-mod tests;

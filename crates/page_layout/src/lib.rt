@@ -28,6 +28,3 @@ pub use lookup::{
     DELETED, FREE, INDEX_BIT, count_offset, entry_offset, magic_offset, read_count, slot_between,
 };
 pub use words::{fields_stay, put_word, read_word};
-
-#[cfg(test)]
-mod tests;

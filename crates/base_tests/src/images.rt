@@ -1,18 +1,14 @@
-// Images made by hand, and what they mean.
-use crate::*;
+//! Images made by hand, and what they mean.
+use crate::bytes::put;
 use geometry::{Geometry, MagicKind};
 use image_model::Damage;
+use image_plain::{
+    Record, Room, damaged_of, free_blocks, holds_volume, is_tidy, killed_of, mixed_blocks, room_of,
+    spoiled_blocks, table_of,
+};
 use std::alloc::{AllocError, Global};
 use std::process::Abort;
 use std::test::Fail;
-
-fn put(image: &mut Vec<u8>, at: usize, bytes: &[u8]) {
-    for (i, b) in bytes.iter().enumerate() {
-        if let Some(x) = image.get_mut(at.saturating_add(i)) {
-            *x = *b;
-        }
-    }
-}
 
 // Bytes of 0xFF, and in each block its magic and this erase count.
 fn blocks_with_magic(alloc: Global, g: &Geometry, count: &[u8]) -> Result<Vec<u8>, AllocError> {

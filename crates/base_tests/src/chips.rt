@@ -1,7 +1,8 @@
+//! Rows of chips in memory.
 ghost use Rattle.std.specs.Prelude.{◌≡◌, ◌+◌, ◌<◌, ◌≤◌, length, IfOk};
 ghost use Rattle.std.specs.Option.{ForSome};
 
-use super::*;
+use chip_row::{Chip, ChipRow, ChipState, MemChip, RowErr};
 use nor_core::{CallKind, Mark, Nor, NorState};
 use std::alloc::Global;
 use std::test::Fail;

@@ -1,20 +1,13 @@
-// Images of four blocks made by hand, and how collection cleans them.
+//! Images of four blocks made by hand, and how collection cleans them.
 ghost use Rattle.std.specs.Prelude.{◌<◌, ◌^◌};
 
-use crate::*;
+use crate::bytes::put;
 use geometry::{Geometry, MagicKind};
+use image_collect::{are_had, chosen_block, is_fitting, is_stuck, is_swept, is_worth, score};
 use image_plain::holds_volume;
 use std::alloc::{AllocError, Global};
 use std::process::Abort;
 use std::test::Fail;
-
-fn put(image: &mut Vec<u8>, at: usize, bytes: &[u8]) {
-    for (i, b) in bytes.iter().enumerate() {
-        if let Some(x) = image.get_mut(at.saturating_add(i)) {
-            *x = *b;
-        }
-    }
-}
 
 // An erased block with its magic and this erase count.
 fn put_fresh(image: &mut Vec<u8>, g: &Geometry, block: u8, count: u8) {

@@ -1,9 +1,10 @@
+//! Copies of pages on a device whose reads and programs fail.
 ghost use Rattle.std.specs.Prelude.{◌≡◌, ◌+◌, ◌*◌, ◌<◌, ◌≤◌, length, IfOk};
 ghost use Rattle.geometry.specs.Numbers.{IsOf};
 
-use crate::Cached;
 use geometry::{Geometry, MagicKind};
 use nor_core::{CallKind, MemBoard, Nor, NorState};
+use page_cache::Cached;
 use std::alloc::Global;
 use std::test::Fail;
 

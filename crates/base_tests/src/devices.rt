@@ -1,7 +1,8 @@
+//! A board and a script in memory: what calls, failures and power cuts leave.
 ghost use Rattle.std.specs.Prelude.{◌≡◌, ◌+◌, ◌<◌, ◌≤◌, length, IfOk};
 ghost use Rattle.std.specs.Option.{ForSome};
 
-use super::*;
+use nor_core::{Board, CallKind, Failed, Mark, MemBoard, MemSource, Nor, NorState, Source, draw};
 use std::alloc::Global;
 use std::test::Fail;
 

@@ -1,7 +1,13 @@
+//! Fields, flags and entries of pages.
 ghost use Rattle.std.specs.Prelude.{◌≡◌, ◌≤◌, length, IfOk};
 
-use crate::*;
 use geometry::{GeoErr, Geometry, MagicKind};
+use page_layout::{
+    FILE_TYPE, FREE, Flags, PageHeader, UNDEFINED_SIZE, build_header_page, count_offset,
+    data_pages, entry_offset, file_size, header_of, index_pages, magic_offset, meta_of, name_of,
+    put_header, put_meta, put_name, put_size, put_slot, put_word, read_count, read_word, size_of,
+    slot_between, slot_of, type_of,
+};
 use std::test::Fail;
 
 // An erased page of 128 bytes with these at its start.

@@ -1,6 +1,7 @@
+//! A file that is read across its pages, and pages that are gone.
 ghost use Rattle.std.specs.Prelude.{◌≡◌, ◌+◌, ◌-◌, ◌<◌, ◌≤◌, ◌^◌, [], length};
 
-use crate::read_at;
+use file_read::read_at;
 use flash_view::{StepErr, View};
 use geometry::{Geometry, MagicKind};
 use nor_core::{Failed, Mark, Nor, NorState};

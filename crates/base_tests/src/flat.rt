@@ -1,5 +1,5 @@
-// Scripts of calls, and what each of them answers.
-use crate::{Flat, Said};
+//! Scripts of calls, and what the plain flat table answers to each of them.
+use flat_plain::{Flat, Said};
 use geometry::{Geometry, MagicKind};
 use std::alloc::Global;
 use std::process::Abort;

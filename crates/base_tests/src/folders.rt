@@ -1,6 +1,7 @@
+//! A folder in memory, and calls of it that fail.
 ghost use Rattle.std.specs.Prelude.{◌<◌};
 
-use super::*;
+use folder_core::{Folder, MemFolder};
 use nor_core::Failed;
 use std::alloc::Global;
 use std::test::Fail;

@@ -1,8 +1,9 @@
+//! Chips, folders and streams of the host.
 ghost use Rattle.std.specs.Prelude.{◌<◌, ◌≤◌};
 
-use super::*;
 use chip_row::{Chip, ChipRow};
 use folder_core::Folder;
+use host_edge::{Access, FileChip, StdBoard, StdFolder, StdSource, Trouble};
 use nor_core::{Board, Nor, Source};
 use std::alloc::{AllocError, Global};
 use std::io::{Cursor, Error};

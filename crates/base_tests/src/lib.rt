@@ -1,0 +1,37 @@
+//! Tests of the crates below the volume, at concrete types.
+#![tactic(auto)]
+
+#[cfg(test)]
+mod bytes;
+#[cfg(test)]
+mod caches;
+#[cfg(test)]
+mod chips;
+#[cfg(test)]
+mod choices;
+#[cfg(test)]
+mod collects;
+#[cfg(test)]
+mod descriptors;
+#[cfg(test)]
+mod devices;
+#[cfg(test)]
+mod fields;
+#[cfg(test)]
+mod flat;
+#[cfg(test)]
+mod folders;
+#[cfg(test)]
+mod hosts;
+#[cfg(test)]
+mod images;
+#[cfg(test)]
+mod lines;
+#[cfg(test)]
+mod numbers;
+#[cfg(test)]
+mod reads;
+#[cfg(test)]
+mod shares;
+#[cfg(test)]
+mod windows;

@@ -1,0 +1,59 @@
+//! The numbers of volumes, and the rules that they break.
+use geometry::{GeoErr, Geometry, MagicKind};
+use std::test::Fail;
+
+#[test]
+fn the_numbers_of_a_small_volume(rt: HostRuntime) -> Result<(), Fail> {
+    let g = Geometry::new(256, 4096, 16, 4096, 0, MagicKind::Length)?;
+    assert_eq!(rt; (g.page(), g.block(), g.blocks()), (256, 4096, 16));
+    assert_eq!(rt; (g.phys(), g.meta(), g.pages()), (4096, 0, 256));
+    assert_eq!(rt; (g.per_block(), g.lookups(), g.entries()), (16, 1, 15));
+    assert_eq!(rt; (g.body(), g.head_slots(), g.span_slots()), (251, 105, 124));
+    assert_eq!(rt; (g.usable(), g.work_need()), (240, 1375));
+    assert_eq!(rt; (g.scratch_need(), g.rows_need()), (1119, 256));
+    assert_eq!(rt; (g.cache_need(), g.check_need()), (264, 8448));
+    assert_eq!(rt;
+        (g.magic_of(0), g.magic_of(1), g.magic_of(15)),
+        (0x0439, 0x0426, 0x0428)
+    );
+    assert_eq!(rt; g.writable(), Ok(()));
+    let plain = Geometry::new(256, 4096, 16, 4096, 0, MagicKind::Plain)?;
+    assert_eq!(rt; (plain.magic_of(0), plain.magic_of(15)), (0x0429, 0x0429));
+    let long = Geometry::new(256, 65536, 4, 65536, 0, MagicKind::Length)?;
+    assert_eq!(rt; (long.lookups(), long.entries()), (2, 254));
+    Ok(())
+}
+
+#[test]
+fn the_first_broken_rule_is_told(rt: HostRuntime) {
+    for (numbers, code) in [
+        ([100, 4096, 16, 4096, 0], 1),
+        ([8192, 8192, 0, 0, 99], 1),
+        ([256, 4000, 16, 4000, 0], 2),
+        ([256, 4096, 16, 0, 0], 2),
+        ([256, 4096, 16, 1000, 0], 2),
+        ([256, 256, 16, 256, 0], 2),
+        ([256, 4096, 16, 128, 0], 2),
+        ([256, 4096, 2, 4096, 65], 3),
+        ([256, 4096, 4096, 4096, 65], 4),
+        ([256, 32768, 4, 32768, 65], 5),
+        ([256, 4096, 16, 4096, 65], 6),
+    ] {
+        let [page, block, blocks, phys, meta] = numbers;
+        let made = Geometry::new(page, block, blocks, phys, meta, MagicKind::Length);
+        assert_eq!(rt;
+            made.err().map(GeoErr::code),
+            Some(code),
+            "at {page} {block}"
+        );
+    }
+}
+
+#[test]
+fn some_volumes_are_only_read(rt: HostRuntime) -> Result<(), Fail> {
+    let large = Geometry::new(256, 4096, 4095, 4096, 0, MagicKind::Length)?;
+    assert_eq!(rt; large.writable(), Err(GeoErr::TooManyUsable));
+    let small = Geometry::new(256, 4096, 3, 4096, 0, MagicKind::Length)?;
+    assert_eq!(rt; small.writable(), Err(GeoErr::TooFewToWrite));
+    Ok(())
+}

@@ -1,0 +1,133 @@
+//! Blocks that hold pages of both kinds, and whether a check can part them.
+use crate::bytes::put;
+use geometry::{Geometry, MagicKind};
+use image_collect::{SharedBlocks, parting};
+use image_plain::{holds_volume, is_tidy};
+use std::alloc::{AllocError, Global};
+use std::test::Fail;
+
+// The header page of a file of `spans` data pages at a byte, with an empty index.
+fn put_header(image: &mut Vec<u8>, at: usize, spans: u8) {
+    let size = u32::from(spans) * 251;
+    let low = [(size % 256) as u8, (size / 256) as u8, 0, 0, 1, 0x61];
+    put(image, at, &[1, 0x80, 0, 0, 0xF8, 0xFF, 0xFF, 0xFF]);
+    put(image, at.saturating_add(8), &low);
+    put(image, at.saturating_add(14), &[0; 31]);
+}
+
+// A file of `spans` data pages, with its header and the first of them in block 0 and the others in blocks 1 and 2.
+fn sample(alloc: Global, g: &Geometry, spans: u8) -> Result<Vec<u8>, AllocError> {
+    let mut image = vec![in alloc; 0xFFu8; 65536]?;
+    for block in 0..16u32 {
+        let magic = if block < g.blocks {
+            g.magic_of(block)
+        } else {
+            0
+        };
+        let end = block as usize * 4096 + 252;
+        put(
+            &mut image,
+            end,
+            &[(magic % 256) as u8, (magic / 256) as u8, 0, 0],
+        );
+    }
+    put(&mut image, 0, &[1, 0x80]);
+    put_header(&mut image, 256, spans);
+    for span in 0..spans.min(31) {
+        let place = if span == 0 { 1 } else { span + 14 };
+        let (block, entry) = (place / 15, place % 15);
+        let page = block * 16 + 1 + entry;
+        put(&mut image, 301 + 2 * span as usize, &[page, 0]);
+        put(
+            &mut image,
+            block as usize * 4096 + 2 * entry as usize,
+            &[1, 0],
+        );
+        put(&mut image, page as usize * 256, &[1, 0, span, 0, 0xFC]);
+    }
+    Ok(image)
+}
+
+fn said(
+    alloc: Global,
+    g: &Geometry,
+    image: &[u8],
+) -> Result<Option<(SharedBlocks, bool)>, AllocError> {
+    if !holds_volume(g, image) {
+        return Ok(None);
+    }
+    let numbers = parting(alloc, g, image)?;
+    Ok(Some((numbers, is_tidy(alloc, g, image)?)))
+}
+
+#[test]
+fn one_shared_block_fits_over_where_three_blocks_are_free(rt: HostRuntime) -> Result<(), Fail> {
+    for (blocks, spans, shared, fits, tidy) in [
+        (16, 1, 1, true, false),
+        (4, 30, 1, false, false),
+        (16, 0, 0, true, true),
+    ] {
+        let g = Geometry::new(256, 4096, blocks, 4096, 0, MagicKind::Length)?;
+        let mut image = sample(rt.alloc(), &g, spans)?;
+        if spans == 30 {
+            // The last entry of block 2 is deleted.
+            put(&mut image, 2 * 4096 + 28, &[0, 0]);
+        }
+        let numbers = SharedBlocks {
+            shared,
+            index_pages: u64::from(shared),
+            index_free: u64::from(1 - shared) * 14,
+            fits,
+        };
+        assert_eq!(rt;
+            said(rt.alloc(), &g, image.as_slice())?,
+            Some((numbers, tidy)),
+            "{blocks} blocks, {spans} pages"
+        );
+    }
+    Ok(())
+}
+
+// One step of moving the header page out of block 0: its copy's entry, the copy, its finishing, and the old page killed.
+fn move_header(image: &mut Vec<u8>, step: u8) {
+    match step {
+        1 => put(image, 4096, &[1, 0x80]),
+        2 => {
+            put_header(image, 4352, 1);
+            put(image, 4356, &[0xFA]);
+            put(image, 4397, &[2, 0]);
+        }
+        3 => put(image, 4356, &[0xF8]),
+        4 => put(image, 260, &[0x78]),
+        5 => put(image, 0, &[0, 0]),
+        _ => {}
+    }
+}
+
+#[test]
+fn a_block_is_shared_until_the_old_index_page_is_killed(rt: HostRuntime) -> Result<(), Fail> {
+    let g = Geometry::new(256, 4096, 16, 4096, 0, MagicKind::Length)?;
+    let mut image = sample(rt.alloc(), &g, 1)?;
+    for (step, shared, index_free) in [
+        (0u8, 1, 0),
+        (1, 1, 14),
+        (2, 1, 14),
+        (3, 1, 14),
+        (4, 0, 14),
+        (5, 0, 14),
+    ] {
+        move_header(&mut image, step);
+        let numbers = SharedBlocks {
+            shared,
+            index_pages: u64::from(shared),
+            index_free,
+            fits: true,
+        };
+        assert_eq!(rt;
+            said(rt.alloc(), &g, image.as_slice())?,
+            Some((numbers, step == 5)),
+            "after step {step}"
+        );
+    }
+    Ok(())
+}
