@@ -187,7 +187,7 @@ goes_cornered {nor = nor} {old = old} {mid = mid} {new = new} {id = id} {size = 
     (λ s here no_fault whole.
     let can = does.can s here in
     let none = call.ends here.tells can in
-    absurd (whole (record { why = inr (record { cuts = cuts; reserve = can.reserve; full = ap (has_room old.geometry) here.table ∙ no_room old.geometry (nor.bytes old.nor.now) none.1 }); doable = does.doable s here; tight = refl })))
+    absurd (whole (record { why = inr (record { cuts = cuts; reserve = can.reserve; full = ap (has_room old.geometry) here.table ∙ no_room old.geometry (nor.bytes old.nor.now) none.1; done = (does.doable s here).done }); doable = does.doable s here; tight = refl })))
     (λ s here collects. absurd (not_collects ask flat collects))
     (λ s here corner tight.
     let none = (call.ends here.tells (does.can s here)).0 in

@@ -275,10 +275,9 @@ module _ {D : Type 0} {nor : NorOf D} {g : Geometry} {slots : List FdSlot} where
         reads = λ refusal. reads;
       })
       (λ s here collects. absurd (not_collects ask flat collects))
-      (λ s here corner tight. record {
-        holds = subst (λ (l : List FdSlot). IsImageOf nor g new l s) (sym (fit.still (ap is_refusal tight))) (reads_stay s reads here);
-        reserve = subst (λ (l : List ℕ). HasReserve g l) (sym reads.bytes) corner.reserve;
-      })
+      (λ s here corner tight.
+      let told = is s here (λ fault. let no : Tight ≡ DeviceFault = refuses_same Tight DeviceFault (sym tight ∙ fault) in cc) in
+      absurd (let no : true ≡ false = sym (ap (λ (o : Outcome). is_refusal o.answer) told ∙ ap is_refusal tight) ∙ corner.done in cc))
       (λ s here w. absurd (let no : true ≡ false = sym w ∙ none in cc))
       (λ w. reads) cause differs (λ look. none)
 

@@ -52,12 +52,13 @@ cuts_file (Opens name flags) = empties flags
 cuts_file (Truncates fd size) = true
 cuts_file _ = false
 
--- A file is to be cut on a volume with two free blocks, but the table has no room as it is: then there may be no index page for the new
--- header page.
+-- A file is to be cut on a volume with two free blocks, and the flat table does so, but the table has no room as it is: then there may be
+-- no index page for the new header page.
 pub record IsCorner (g : Geometry) (image : List ℕ) (s : State) (ask : Ask) : Type 0 where
   pub cuts : cuts_file ask ≡ true
   pub reserve : HasReserve g image
   pub full : has_room g s.table ≡ false
+  pub done : is_refusal (answer g (has_spare g image) s ask).answer ≡ false
 
 -- Garbage collection was stopped for want of room, in a call for it or in such a cut, where the flat table does the call: the one answer
 -- that it doesn't tell.

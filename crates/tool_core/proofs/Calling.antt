@@ -16,7 +16,9 @@ use Rattle.table_model.specs.Reply.{Answer, Gives, Refuses, answered}
 use Rattle.table_model.specs.Window.{Moment, settled_at}
 use Rattle.call_script.specs.Lines.{Asks, IsCounted}
 use Rattle.call_script.specs.Pieces.{IsShort}
-use Rattle.image_model.specs.Tidy.{HasReserve}
+use Rattle.table_model.specs.Steps.{is_refusal}
+use Rattle.table_model.specs.Flat.{answer}
+use Rattle.image_model.specs.Tidy.{HasReserve, has_spare}
 use Rattle.call_model.specs.Memory.{Memory}
 use Rattle.call_model.specs.Calls.{Stands, Answers}
 use Rattle.run_model.specs.Ran.{RunPublishes}
@@ -67,7 +69,10 @@ corner_cases : (g : Geometry) (image : List ℕ) (s : State) (ask : Ask) → Has
 corner_cases g image s ask reserve = ⊎_elim
     (λ (cuts : cuts_file ask ≡ true). ⊎_elim
     (λ (room : has_room g s.table ≡ true). inr (λ corner. let no : false ≡ true = sym corner.full ∙ room in cc))
-    (λ (full : has_room g s.table ≡ false). inl (record { cuts = cuts; reserve = reserve; full = full }))
+    (λ (full : has_room g s.table ≡ false). ⊎_elim
+    (λ (refused : is_refusal (answer g (has_spare g image) s ask).answer ≡ true). inr (λ corner. let no : true ≡ false = sym refused ∙ corner.done in cc))
+    (λ (done : is_refusal (answer g (has_spare g image) s ask).answer ≡ false). inl (record { cuts = cuts; reserve = reserve; full = full; done = done }))
+    (cases_Bool (is_refusal (answer g (has_spare g image) s ask).answer)))
     (cases_Bool (has_room g s.table)))
     (λ (whole : cuts_file ask ≡ false). inr (λ corner. let no : false ≡ true = sym whole ∙ corner.cuts in cc))
     (cases_Bool (cuts_file ask))

@@ -340,7 +340,7 @@ module _ {N : Type 0} {nor : NorOf N} where
     short_before m here short = record {
       why = ⊎_elim
           (λ (is : ask ≡ Collects). inl is)
-          (λ (corner : IsCorner old.geometry (nor.bytes mid.nor.now) m.state ask). inr (record { cuts = corner.cuts; reserve = reserve_before m here corner.reserve; full = corner.full }))
+          (λ (corner : IsCorner old.geometry (nor.bytes mid.nor.now) m.state ask). inr (record { cuts = corner.cuts; reserve = reserve_before m here corner.reserve; full = corner.full; done = subst (λ (b : Bool). is_refusal (answer old.geometry b m.state ask).answer ≡ false) (spare m here) corner.done }))
           short.why;
       doable = does_before m here short.doable;
       tight = short.tight;
@@ -435,7 +435,7 @@ module _ {N : Type 0} {nor : NorOf N} where
       packed = λ m takes here is fine. let p = (acts.does.collects m.state (image_mid m here) is).packed fine in record { worth = p.worth; packed = p.packed; free = p.free; unstuck = p.unstuck };
       unstuck = λ m takes here reserve is tight. ((acts.does.collects m.state (image_mid m here) is).stuck tight).short ((stood m here).1.reserve reserve);
       cornered = λ m takes here corner tight.
-          let there : IsCorner old.geometry (nor.bytes mid.nor.now) m.state ask = record { cuts = corner.cuts; reserve = (stood m here).1.reserve corner.reserve; full = corner.full } in
+          let there : IsCorner old.geometry (nor.bytes mid.nor.now) m.state ask = record { cuts = corner.cuts; reserve = (stood m here).1.reserve corner.reserve; full = corner.full; done = subst (λ (b : Bool). is_refusal (answer old.geometry b m.state ask).answer ≡ false) (sym (spare m here)) corner.done } in
           let stays = acts.does.cornered m.state (image_mid m here) there tight in
           let geometry = same.geometry ∙ settles.same.geometry in
           let now = stands_by old.geometry new m.state (acts.empty (ap is_refusal tight)) stays.holds in

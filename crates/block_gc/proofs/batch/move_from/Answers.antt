@@ -21,7 +21,9 @@ returns-clause-step g c =
     (λ tells can all. from_then _ _ _ a.block a.most a.batch a.page a.span c.carry_all.new.carried.items all)
 
 pub returns-in_err-carry_all-clause-few : goal.returns-in_err-carry_all-clause-few
-returns-in_err-carry_all-clause-few g c = λ tells can none. let is : c.from_residual.result ≡ Err c.in_err-carry_all.field-0.0 = search rules in rw is tt
+returns-in_err-carry_all-clause-few g c =
+    let is : c.from_residual.result ≡ Err c.in_err-carry_all.field-0.0 = search rules in
+    λ tells can none. rw is tt
 
 pub returns-clause-few : goal.returns-clause-few
 returns-clause-few g c = λ tells can none.

@@ -62,3 +62,6 @@ returns-in-Err-FolderFault-clause-same g c = same_then c.mount.ensures.looks.sam
 
 pub returns-in-Err-Damaged-clause-same : goal.returns-in-Err-Damaged-clause-same
 returns-in-Err-Damaged-clause-same g c = same_then c.mount.ensures.looks.same c.extract.ensures.same
+
+pub returns-in-Err-BoardFault-clause-same : goal.returns-in-Err-BoardFault-clause-same
+returns-in-Err-BoardFault-clause-same g c = same_then c.mount.ensures.looks.same c.extract.ensures.same

@@ -20,3 +20,6 @@ returns-in-Err-BoardFault-clause-lists g c =
 
 pub returns-in-Ok-clause-same : goal.returns-in-Ok-clause-same
 returns-in-Ok-clause-same g c = same_then c.mount.ensures.looks.same c.list.ensures.same
+
+pub returns-in-Err-BoardFault-clause-same : goal.returns-in-Err-BoardFault-clause-same
+returns-in-Err-BoardFault-clause-same g c = same_then c.mount.ensures.looks.same c.list.ensures.same

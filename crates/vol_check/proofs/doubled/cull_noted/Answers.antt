@@ -5,7 +5,7 @@ use Rattle.flash_view.specs.Walk.{NextLive}
 use Rattle.flash_view.proofs.Looking.{looks_none}
 use Rattle.flash_view.proofs.Passed.{passed_head}
 use Rattle.vol_check.specs.Works.{Worked}
-use Rattle.vol_check.proofs.Working.{look_works, works_seen, works_end, works_stop}
+use Rattle.vol_check.proofs.Working.{look_works, works_seen, works_end, works_stop, read_stops}
 use Rattle.vol_check.proofs.Passing.{from_bool_is}
 use Rattle.vol_check.proofs.Noting.{notes_none, doubling_skip}
 use Rattle.vol_check.proofs.Doubles.{facing_at, doubling_start, doubling_next, doubling_end}
@@ -32,6 +32,9 @@ pub returns-in_err-cull_doubled-clause-work : goal.returns-in_err-cull_doubled-c
 returns-in_err-cull_doubled-clause-work g c =
     works_stop (faces g (goal.at.returns-in_err-cull_doubled-clause-work g c).In-Some) c.in_err-cull_doubled.ensures c.from_residual-in_err-cull_doubled.ensures.0 (λ tells magics need. record { needs = tt; idle = λ quiet. quiet })
     (λ tells magics need was. record { needs = (was.doubling.noted, was.index); idle = λ quiet. quiet c.in-Some.page })
+
+pub returns-in_err-page-clause-work : goal.returns-in_err-page-clause-work
+returns-in_err-page-clause-work g c = read_stops c.pages.invariant.work c.in_err-page.ensures.looks c.in_err-page.ensures.cause c.from_residual.ensures.0 (λ tells magics need. record { needs = tt; idle = λ quiet. quiet })
 
 pub pages-smaller : goal.pages-smaller
 pages-smaller g c =
