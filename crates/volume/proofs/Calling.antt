@@ -551,7 +551,7 @@ module _ {N : Type 0} {nor : NorOf N} where
         asked = calls.asked;
         stops = λ m takes stopped here. ⊎_elim
             (λ (run : HasRun old). inl run)
-            (λ (does : IsDoable g was m.state (Writes fd (replicate count byte))). 
+            (λ (does : IsDoable g was m.state (Writes fd (replicate count byte))).
             let f = fills-as_writes g spare m fd count byte in
             inr (record {
               done = ap (λ (o : Outcome). is_refusal o.answer) f.answer_is ∙ does.done;

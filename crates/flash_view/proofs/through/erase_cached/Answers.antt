@@ -11,7 +11,7 @@ returns-clause-behind g c =
     let same_size : g.N.NorState.size begun ≡ g.N.NorState.size c.args.nor.now = ap g.N.NorState.size c.resume-cached.ensures.nor in
     let inside : (c.args.unit_ix + 1) * g.N.NorState.unit begun ≤ c.args.g.blocks * c.args.g.block = rw same_unit c.requires.in_volume in
     let behind : StaysBehind g.N.NorState c.args.g c.args.nor.now c.erase_through.new.self.nor.now =
-        subst (λ (d : g.row.N.Denot). StaysBehind g.N.NorState c.args.g d c.erase_through.new.self.nor.now) c.resume-cached.ensures.nor
-        (behind_changes c.args.g (inside_erase _ c.args.unit_ix c.args.mark c.erase_through.result (omega (arith, inside))
-        (λ tells. omega (arith, g.met.N.Nor.sized begun tells, same_size, c.requires.volume)) step.done step.half step.changes)) in
+    subst (λ (d : g.row.N.Denot). StaysBehind g.N.NorState c.args.g d c.erase_through.new.self.nor.now) c.resume-cached.ensures.nor
+    (behind_changes c.args.g (inside_erase _ c.args.unit_ix c.args.mark c.erase_through.result (omega (arith, inside))
+    (λ tells. omega (arith, g.met.N.Nor.sized begun tells, same_size, c.requires.volume)) step.done step.half step.changes)) in
     search rules
