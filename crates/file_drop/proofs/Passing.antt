@@ -1,12 +1,10 @@
 -- The turns of a remove and of a truncation one after the other.
-use Rattle.std.proofs.Common.{length, ◌*◌, Result, Ok, Err, OnOk, ◌≡◌, ℕ, ◌+◌, ◌<◌, ◌≤◌, List, Bool, true, false, Some, refl, ap, sym, ◌∙◌, arith, ⊎_elim, inl, inr}
-use Rattle.std.specs.Prelude.{None}
+use Rattle.std.proofs.Common.{length, ◌*◌, Result, Ok, Err, OnOk, ◌≡◌, ℕ, ◌+◌, ◌<◌, ◌≤◌, List, Bool, true, false, Some, refl, sym, ◌∙◌, arith, ⊎_elim, inl, inr}
 use Rattle.std.specs.Option.{option_map}
 use Rattle.std.proofs.lemmas.Bool.{cases_eq, cases_lt}
 use Rattle.geometry.specs.declared.geometry.Geometry.{Geometry}
 use Rattle.page_layout.specs.declared.header.PageHeader.{PageHeader}
 use Rattle.page_layout.specs.Layout.{header_at}
-use Rattle.page_renew.specs.EditLaws.{past_of}
 use Rattle.geometry.specs.Numbers.{page_count}
 use Rattle.image_model.specs.Within.{page_number}
 use Rattle.image_model.specs.Places.{IsImage}
@@ -25,7 +23,7 @@ use Rattle.flash_view.specs.Steps.{Step, Begins, Finishes}
 use Rattle.file_drop.specs.declared.pages.Kept.{Kept}
 use Rattle.file_drop.specs.Drops.{none_kept, is_left, HasLeft, DropsPage, dropping, dropping_all}
 use Rattle.file_drop.specs.Removals.{CanRemove, CanDrop, RemoveCut, HeaderDropped, dropping_header, removing_by, removing}
-use Rattle.file_drop.proofs.Killing.{past_page, own_none}
+use Rattle.file_drop.proofs.Killing.{past_page}
 
 -- an image that is tidy but for pages that are not needed has its magics
 idles-magics : (g : Geometry) (a : List ℕ) (spare : ℕ → Bool) → Idles g spare a → HasMagics g a
@@ -60,14 +58,14 @@ dropping_to id kept n = record { needs = λ g was. HasLeft g id kept was; cut = 
 pub none_yet : (g : Geometry) (a : List ℕ) (id : ℕ) (kept : Kept) → HasLeft g id kept a → KeepsAll g a a × Dropping g a a id kept 0
 none_yet g a id kept o = (keeps_none g id kept a o, record { keeps = keeps_none g id kept a o; left = o; passed = λ q low. absurd (omega arith) })
 
--- pages that aren't live aren't to go
-pub passes_dead : (g : Geometry) (a b : List ℕ) (id : ℕ) (kept : Kept) (n m : ℕ) → ((q : ℕ) → n ≤ q → q < m → live_at g b q ≡ None) → Dropping g a b id kept n → Dropping g a b id kept m
-passes_dead g a b id kept n m dead s = record {
+-- pages that are passed over aren't to go
+pub passes_others : (g : Geometry) (a b : List ℕ) (id : ℕ) (kept : Kept) (n m : ℕ) → ((q : ℕ) → n ≤ q → q < m → is_left g b id kept q ≡ false) → Dropping g a b id kept n → Dropping g a b id kept m
+passes_others g a b id kept n m others s = record {
   keeps = s.keeps;
   left = s.left;
   passed = λ q low. ⊎_elim
       (λ (before : q < n). s.passed q before)
-      (λ (behind : n ≤ q). ap (past_of kept.index_pages kept.data_pages) (own_none (live_at g b) id q (dead q behind low)))
+      (λ (behind : n ≤ q). others q behind low)
       (cases_lt q n);
 }
 
@@ -96,9 +94,9 @@ faulty = record { needs = λ g was. Unit {0}; cut = λ g was image. image ≡ wa
 pub fails_later : (g : Geometry) (a b : List ℕ) (id : ℕ) (kept : Kept) (n : ℕ) → Dropping g a b id kept n → Finishes g a b faulty (dropping_all id kept)
 fails_later g a b id kept n s = record { needs = tt; cut = λ c same. rw same s.keeps; done = λ c ok none. absurd (none) }
 
-pub all_passed : (g : Geometry) (a b : List ℕ) (id : ℕ) (kept : Kept) (n : ℕ) → ((q : ℕ) → n ≤ q → q < page_count g → live_at g b q ≡ None) → Dropping g a b id kept n → Finishes g a b staying (dropping_all id kept)
-all_passed g a b id kept n dead s =
-    let all = passes_dead g a b id kept n (page_count g) dead s in
+pub all_passed : (g : Geometry) (a b : List ℕ) (id : ℕ) (kept : Kept) (n : ℕ) → ((q : ℕ) → n ≤ q → q < page_count g → is_left g b id kept q ≡ false) → Dropping g a b id kept n → Finishes g a b staying (dropping_all id kept)
+all_passed g a b id kept n others s =
+    let all = passes_others g a b id kept n (page_count g) others s in
     record {
       needs = tt;
       cut = λ c same. rw same s.keeps;

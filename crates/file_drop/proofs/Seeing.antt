@@ -1,12 +1,12 @@
 -- What the reads of a remove and of a truncation tell.
-use Rattle.std.proofs.Common.{◌≡◌, ℕ, ◌+◌, ◌*◌, ◌%◌, ◌<◌, ◌≤◌, List, slice_index, true, false, ◌==◌, ◌&&◌, Option, Some, None, ap, refl, sym, ◌∙◌, arith, ⊎_elim}
-use Rattle.std.specs.Prelude.{is_some}
+use Rattle.std.proofs.Common.{◌≡◌, ℕ, ◌+◌, ◌*◌, ◌%◌, ◌<◌, ◌≤◌, List, slice_index, true, false, ◌==◌, ◌&&◌, Option, Some, None, ap, refl, sym, ◌∙◌, arith, ⊎_elim, ◌≢◌}
+use Rattle.std.specs.Prelude.{is_some, min}
 use Rattle.std.specs.Option.{option_map}
-use Rattle.std.proofs.lemmas.Bool.{cases_eq, ne_eqb, eq-eqb}
+use Rattle.std.proofs.lemmas.Bool.{cases_eq, ne_eqb, eq-eqb, le-leb}
 use Rattle.std.proofs.lemmas.Option.{same_Some}
 use Rattle.geometry.specs.declared.geometry.Geometry.{Geometry}
 use Rattle.page_layout.specs.declared.header.PageHeader.{PageHeader}
-use Rattle.page_layout.specs.Layout.{header_at, bits_of}
+use Rattle.page_layout.specs.Layout.{header_at, bits_of, is_between}
 use Rattle.image_model.specs.Within.{sizes}
 use Rattle.image_model.specs.Places.{page_of, is_entry_page}
 use Rattle.image_model.specs.Headers.{obj_id}
@@ -17,6 +17,8 @@ use Rattle.image_laws.proofs.Frames.{live_parts}
 use Rattle.image_laws.proofs.Judge.{index_passes}
 use Rattle.image_laws.proofs.Placing.{page_byte}
 use Rattle.flash_view.specs.Found.{has_header}
+use Rattle.flash_view.specs.Walk.{IsPassed}
+use Rattle.flash_view.proofs.Passed.{passed_page}
 use Rattle.header_laws.proofs.HeadPages.{has-ids}
 use Rattle.page_renew.specs.EditLaws.{past_of}
 use Rattle.file_drop.specs.declared.pages.Kept.{Kept}
@@ -45,6 +47,25 @@ dead_not_left g image id kept p e = rw (own_none (live_at g image) id p (no_page
 the_page : (o : Option (List ℕ)) (head : PageHeader) → Some head ≡ option_map header_at o → (x : List ℕ) × ((o ≡ Some x) × (head ≡ header_at x))
 the_page None head e = absurd (cc)
 the_page (Some x) head e = (x, (refl, same_Some head (header_at x) e))
+
+-- a number of two bytes that isn't between the entry of an object's data pages and that of its index pages is neither
+not_mine : (n id high : ℕ) → n < 0x10000 → high ≡ min (id + 0x8000) 65535 → is_between id high n ≡ false → n % 0x8000 ≢ id
+not_mine n id high small top none mine =
+    let low : id ≤ n = omega (arith, mine) in
+    let inside : n ≤ high = omega (arith, mine, small, top) in
+    let yes : is_between id high n ≡ true = rw (le-leb id n low, le-leb n high inside) refl in
+    let bad : true ≡ false = sym yes ∙ none in
+    absurd (cc)
+
+-- a page that was passed over between these isn't to go
+pub passed_not_left : (g : Geometry) (image : List ℕ) (id high : ℕ) (kept : Kept) (p : ℕ) → high ≡ min (id + 0x8000) 65535 → IsPassed g image id high p → is_left g image id kept p ≡ false
+passed_not_left g image id high kept p top passed = ap (past_of kept.index_pages kept.data_pages) (go (live_at g image p) refl)
+  where
+    go : (o : Option (List ℕ)) → live_at g image p ≡ o → own (live_at g image) id p ≡ None
+    go None e = own_none (live_at g image) id p e
+    go (Some x) e =
+        let w = passed_page g image id high p x passed e in
+        own-other (live_at g image) id p x e (not_mine (obj_id x) id high w.word top w.none)
 
 -- whether it is to go, by its header
 pub left_by_header : (g : Geometry) (image : List ℕ) (id : ℕ) (kept : Kept) (p : ℕ) (head : PageHeader) → Some head ≡ option_map header_at (live_at g image p) → ((head.id % 0x8000 == id) && is_past_header kept head) ≡ is_left g image id kept p

@@ -10,7 +10,7 @@ ghost use Rattle.file_drop.specs.Drops.{is_left as the_left, is_past_header, dro
 
 use flash_view::{View, is_entry_page};
 use nor_core::{Failed, Nor, NorState};
-use page_layout::{FREE, PageHeader};
+use page_layout::{INDEX_BIT, PageHeader};
 use page_put::kill;
 
 /// How many index pages and data pages of a file are kept.
@@ -77,12 +77,14 @@ fn drop_page<N: Nor>(
     kill(v, page)
 }
 
-/// Kills each live page of an id that isn't kept, in page order. None of them is to be needed.
+/// Kills each live page of an id that isn't kept, in page order. None of them is to be needed. (Looked at are the pages
+/// whose entry lies between that of the id's data pages and that of its index pages.)
 pub(crate) fn drop_pages<N: Nor>(v: &mut View<'_, N>, id: u16, kept: Kept) -> Result<(), Failed>
     ensures { Stepped failed v.old v.new result (dropping_all id kept) }
 {
+    let high = id.saturating_add(INDEX_BIT);
     let mut at = 0;
-    'pages: while let Some((page, head)) = v.next_live(at, 1, FREE - 1)? {
+    'pages: while let Some((page, head)) = v.next_live(at, id, high)? {
         drop_page(v, page, head, id, kept)?;
         at = u32::from(page) + 1;
     }

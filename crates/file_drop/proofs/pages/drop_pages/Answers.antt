@@ -1,13 +1,13 @@
-use Rattle.std.proofs.Common.{◌≡◌, ◌+◌, Result, Ok, Some, None, refl, arith}
+use Rattle.std.proofs.Common.{◌+◌, Result, Some, None, refl, arith}
 use Rattle.nor_core.specs.declared.device.Failed.{Failed}
-use Rattle.geometry.specs.Numbers.{page_count}
 use Rattle.flash_view.specs.Steps.{Stepped, failed}
 use Rattle.flash_view.specs.Walk.{NextLive}
 use Rattle.flash_view.proofs.Looking.{looks_none}
-use Rattle.flash_view.proofs.Passed.{found_some, passed_used}
+use Rattle.flash_view.proofs.Passed.{found_some}
 use Rattle.flash_view.proofs.Stepped.{looked, look_fails, after_look, fails, stepped_then}
 use Rattle.file_drop.specs.Drops.{dropping}
-use Rattle.file_drop.proofs.Passing.{none_yet, passes_dead, turns, all_passed, staying, faulty, fails_later, dropping_to}
+use Rattle.file_drop.proofs.Passing.{none_yet, passes_others, turns, all_passed, staying, faulty, fails_later, dropping_to}
+use Rattle.file_drop.proofs.Seeing.{passed_not_left}
 use Rattle.file_drop.proofs.pages.drop_pages.Given.{Over}
 use Rattle.file_drop.proofs.pages.drop_pages.Goals as goal
 use Rattle.file_drop.proofs.pages.drop_pages.Goals.{In-Some}
@@ -32,9 +32,10 @@ turn g c r new drops =
     let image = g.N.NorState.bytes c.pages.v.nor.now in
     stepped_then was.step (after_look found.looks drops (λ tells o. record { needs = o; cut = λ d k. k; done = λ d ok k. k })) (λ tells o. record { needs = o; cut = λ d kept. kept })
     (λ tells o s.
-    let next : NextLive geometry image c.pages.at 1 0xFFFE (Some (c.in-Some.page, c.in-Some.head)) = rw (was.step.framed.same.geometry, c.in-Some.is) at (found.told (was.step.cuts.cuts.told tells)) in
-    turns geometry _ image c.args.id c.args.kept c.in-Some.page c.in-Some.head (found_some geometry image c.pages.at 1 0xFFFE c.in-Some.page c.in-Some.head next)
-    (passes_dead geometry _ image c.args.id c.args.kept c.pages.at c.in-Some.page (λ q from to. passed_used geometry image q (next.passed q from to)) s))
+    let high = c.saturating_add-high.result in
+    let next : NextLive geometry image c.pages.at c.args.id high (Some (c.in-Some.page, c.in-Some.head)) = rw (was.step.framed.same.geometry, c.in-Some.is) at (found.told (was.step.cuts.cuts.told tells)) in
+    turns geometry _ image c.args.id c.args.kept c.in-Some.page c.in-Some.head (found_some geometry image c.pages.at c.args.id high c.in-Some.page c.in-Some.head next)
+    (passes_others geometry _ image c.args.id c.args.kept c.pages.at c.in-Some.page (λ q from to. passed_not_left geometry image c.args.id high c.args.kept q c.saturating_add-high.ensures (next.passed q from to)) s))
 
 pub returns-in_err-drop_page : goal.returns-in_err-drop_page
 returns-in_err-drop_page g c =
@@ -59,5 +60,6 @@ returns g c =
     let image = g.N.NorState.bytes c.pages.v.nor.now in
     stepped_then {last = staying} was.step (looked found.looks (λ e. absurd (cc)) tt (λ tells o. (refl, refl))) (λ tells o. record { needs = o; cut = λ d kept. kept })
     (λ tells o s.
-    let none : NextLive geometry image c.pages.at 1 0xFFFE None = rw (was.step.framed.same.geometry, c.in_default.is) at (found.told (was.step.cuts.cuts.told tells)) in
-    all_passed geometry _ image c.args.id c.args.kept c.pages.at (λ q from to. passed_used geometry image q (none q from to)) s)
+    let high = c.saturating_add-high.result in
+    let none : NextLive geometry image c.pages.at c.args.id high None = rw (was.step.framed.same.geometry, c.in_default.is) at (found.told (was.step.cuts.cuts.told tells)) in
+    all_passed geometry _ image c.args.id c.args.kept c.pages.at (λ q from to. passed_not_left geometry image c.args.id high c.args.kept q c.saturating_add-high.ensures (none q from to)) s)
