@@ -13,6 +13,7 @@ use Rattle.flash_view.proofs.Sorts.{free_is_dead}
 use Rattle.image_laws.proofs.Frames.{table_of-same, damaged_of-same}
 use Rattle.image_laws.proofs.Matching.{filter-none_in}
 use Rattle.room_laws.specs.Staged.{OnlyKills, IsStaged}
+use Rattle.vol_check.specs.Stage.{Kills}
 use Rattle.room_laws.proofs.Sorted.{tidy_tells_free}
 use Rattle.room_laws.proofs.Staying.{free_stays}
 use Rattle.vol_check.specs.declared.checking.Culled.{Culled}
@@ -82,10 +83,10 @@ readying = record { needs = λ g was. Unit {0}; done = λ g was now x. Readies g
 -- Then the lookup pages tell which entries are free.
 pub ready_tells : (g : Geometry) (a c : List ℕ) (erased : Bool) (dead : ℕ) → Readies g erased dead a c → TellsFree g c
 ready_tells g a c erased dead ready = record {
-  magic = λ block low. ready.cleans.kills.magic block ∙ ready.made.magics block low;
+  magic = λ block low. ready.cleans.kills.pages.magic block ∙ ready.made.magics block low;
   free = λ p page ones.
       let block = block_number g p (page_number g p page) in
-      let magic : has_magic g c (block_of g p) ≡ true = ready.cleans.kills.magic (block_of g p) ∙ ready.made.magics (block_of g p) block in
+      let magic : has_magic g c (block_of g p) ≡ true = ready.cleans.kills.pages.magic (block_of g p) ∙ ready.made.magics (block_of g p) block in
       ones_free g c p page magic ones (ready.cleans.clean p);
 }
 
@@ -121,11 +122,11 @@ pub checked : (g : Geometry) (a c d : List ℕ) (report : Report) (dead pages : 
 checked g a c d report dead pages unmixed ready culled kept killed free =
     let made = ready.made in
     let cleans = ready.cleans in
-    let kills : OnlyKills g ready.image d = kills_then g ready.image c d cleans.kills culled.passes.kills in
+    let kills : Kills g ready.image d = kills_then g ready.image c d cleans.kills culled.passes.kills in
     let clean : IsClean g d = culled.passes.clean cleans.clean in
     let none : killed_of g d ≡ 0 = none_killed g d clean culled.served in
     let same_damage : damaged_of g c ≡ damaged_of g a = damaged_of-same g c a (λ p. cleans.live p ∙ made.live p) in
-    let tidy : IsTidy g d = tidy_after g d (λ block low. kills.magic block ∙ made.magics block low) clean culled.served culled.none (unmixed_after g a d unmixed kept.keeps) in
+    let tidy : IsTidy g d = tidy_after g d (λ block low. kills.pages.magic block ∙ made.magics block low) clean culled.served culled.none (unmixed_after g a d unmixed kept.keeps) in
     record {
       tidy = tidy;
       table = kept.keeps.table;
@@ -134,5 +135,6 @@ checked g a c d report dead pages unmixed ready culled kept killed free =
       damaged = culled.count ∙ ap length same_damage;
       free = free (tidy_tells_free g d tidy);
       free_least = kept.free;
-      staged = staged_after g a ready.image d report.erased made kills tidy kept.keeps.table;
+      staged = staged_after g a ready.image d report.erased made kills.pages tidy kept.keeps.table;
+      counts = λ block low. kills.counts block low ∙ made.counts block low;
     }

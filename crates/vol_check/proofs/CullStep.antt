@@ -22,8 +22,10 @@ use Rattle.image_laws.proofs.StillFree.{live-used}
 use Rattle.image_laws.proofs.Unwanted.{kill-counts}
 use Rattle.flash_view.specs.Steps.{Finishes}
 use Rattle.page_put.specs.LivePages.{killing}
+use Rattle.vol_check.specs.Stage.{SameCounts}
 use Rattle.vol_check.specs.Culls.{Spares, MayCull, Culls}
 use Rattle.vol_check.specs.Works.{step_of, culling}
+use Rattle.vol_check.proofs.Counts.{counts_too}
 use Rattle.vol_check.proofs.Passing.{kills_one}
 
 -- each id has what it had
@@ -82,8 +84,8 @@ module _ (g : Geometry) (a : List ℕ) (p : ℕ) (is : IsImage g a) (h : HasMagi
       let used : is_used g a p ≡ true = used_by g a p parts.entry_page parts.magic entry (live-used g a p may.page may.live) in
       rw (used, may.unwanted) refl
 
-  done : (c : List ℕ) → KillDone g p a c → Culls g p true a c
-  done c k = record {
+  done : (c : List ℕ) → KillDone g p a c → SameCounts g a c → Culls g p true a c
+  done c k counts = record {
     count = kill-counts g a c p is k.agree killable k.zero (may.spares c k.loses).wanted;
     gone = λ e. k.loses.after;
     others = k.loses.others;
@@ -95,12 +97,12 @@ module _ (g : Geometry) (a : List ℕ) (p : ℕ) (is : IsImage g a) (h : HasMagi
         (λ q. ⊎_elim
         (λ (here : q ≡ p). rw here (inr k.loses.after))
         (λ (there : q ≡ p → ⊥). inl (k.loses.others q there))
-        (cases_eq q p));
+        (cases_eq q p)) counts;
   }
 
 -- the kill of a page is its turn
-pub culls : (g : Geometry) (a : List ℕ) (p : ℕ) → IsImage g a → HasMagics g a → MayCull g a p → slice_index a (p * g.page + 4) < 256 → Finishes g a a (killing p) (step_of (culling p))
-culls g a p is h may byte = record { needs = record { live = ap is_some may.live; byte = byte }; cut = cut g a p is h may; done = λ c ok k. done g a p is h may c k }
+pub culls : (g : Geometry) (a : List ℕ) (p : ℕ) → IsImage g a → HasMagics g a → MayCull g a p → slice_index a (p * g.page + 4) < 256 → Finishes g a a (counts_too (killing p)) (step_of (culling p))
+culls g a p is h may byte = record { needs = record { live = ap is_some may.live; byte = byte }; cut = cut g a p is h may; done = λ c ok k. done g a p is h may c k.0 k.1 }
 
 -- a page that may be killed is live in a block with its magic
 pub alive : (g : Geometry) (a : List ℕ) (p : ℕ) → MayCull g a p → (has_magic g a (block_of g p) ≡ true) × (is_live g a p ≡ true)

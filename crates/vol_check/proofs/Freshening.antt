@@ -8,7 +8,7 @@ use Rattle.geometry.specs.declared.geometry.Geometry.{Geometry}
 use Rattle.nor_core.specs.Flash.{SameOutside}
 use Rattle.geometry.specs.Numbers.{page_count}
 use Rattle.image_model.specs.Live.{live_at}
-use Rattle.image_model.specs.Places.{has_magic, block_of, is_entry_page, IsImage}
+use Rattle.image_model.specs.Places.{has_magic, erase_count, next_count, block_of, is_entry_page, IsImage}
 use Rattle.image_model.specs.Tidy.{is_free_block, free_blocks}
 use Rattle.image_model.specs.Kinds.{spoiled_blocks}
 use Rattle.image_model.specs.Killed.{is_used, is_killable, killed_of}
@@ -23,6 +23,7 @@ use Rattle.image_laws.proofs.Matching.{filter-none_in}
 use Rattle.image_laws.proofs.TidySteps.{wanted-same}
 use Rattle.free_search.proofs.Had.{filter_some}
 use Rattle.free_search.proofs.Beside.{page_other, magic_other, entry_other, free_entry_other, free_block_other, free_magic, free_entry_at, free_dead}
+use Rattle.room_laws.proofs.Recounts.{fresh_erases}
 use Rattle.page_put.specs.Fresh.{Freshens, IsFresh}
 use Rattle.nor_core.specs.declared.device.Failed.{Failed}
 use Rattle.nor_core.specs.declared.state.NorState.{Ghosts as NorOf}
@@ -32,7 +33,7 @@ use Rattle.flash_view.specs.declared.view.View.{View}
 use Rattle.flash_view.specs.Same.{IsSameView, OnlyLooks}
 use Rattle.flash_view.specs.Steps.{Finishes, acting}
 use Rattle.flash_view.proofs.Stepped.{acted, after_look}
-use Rattle.vol_check.specs.MadeFresh.{HasAllMagics, MadeFresh}
+use Rattle.vol_check.specs.MadeFresh.{HasAllMagics, count_after, MadeFresh}
 use Rattle.vol_check.specs.Works.{Work, step_of, Worked, making_fresh}
 use Rattle.vol_check.proofs.Working.{Goes}
 
@@ -100,7 +101,7 @@ module _ (g : Geometry) (a : List ℕ) (c : ℕ) (is : IsImage g a) (h : HasMagi
     free = more_free x cut.outside;
   }
 
-  module _ (b : List ℕ) (erases : ℕ) (fresh : IsFresh g c erases a b) where
+  module _ (b : List ℕ) (erases : ℕ) (next : erases ≡ next_count g a) (fresh : IsFresh g c erases a b) where
     fresh_live : (p : ℕ) → live_at g b p ≡ live_at g a p
     fresh_live p =
         ⊎_elim
@@ -117,6 +118,13 @@ module _ (g : Geometry) (a : List ℕ) (c : ℕ) (is : IsImage g a) (h : HasMagi
         (cases_eq (block_of g p) c) in
         filter-same (λ (p : ℕ). is_killable g a p) (λ (p : ℕ). is_killable g b p) 0 (page_count g) (λ p from to. rw (used p, wanted-same g a b fresh_live p) refl)
 
+    fresh_counts : (d : ℕ) → d < g.blocks → erase_count g b d ≡ count_after g a d
+    fresh_counts d below =
+        ⊎_elim
+        (λ (here : d ≡ c). rw (here, lacks) (fresh.count ∙ next))
+        (λ (there : d ≡ c → ⊥). rw (others d below there) (fresh_erases g a b c fresh.outside d there))
+        (cases_eq d c)
+
     made : MadeFresh g true a b
     unfolding spoiled_blocks
     made = record {
@@ -132,29 +140,35 @@ module _ (g : Geometry) (a : List ℕ) (c : ℕ) (is : IsImage g a) (h : HasMagi
           (λ (here : d ≡ c). rw here fresh.free)
           (λ (there : d ≡ c → ⊥). let bad : true ≡ false = sym (others d below there) ∙ none in absurd (cc))
           (cases_eq d c);
+      counts = fresh_counts;
     }
 
   -- making it fresh
-  freshens : (erases : ℕ) → Finishes g a a (acting (λ h. Freshens h c) (λ h. IsFresh h c erases)) (step_of (freshening c))
-  freshens erases = record { needs = tt; cut = fresh_cut; done = λ b ok fresh. made b erases fresh }
+  freshens : (erases : ℕ) → erases ≡ next_count g a → Finishes g a a (acting (λ h. Freshens h c) (λ h. IsFresh h c erases)) (step_of (freshening c))
+  freshens erases next = record { needs = tt; cut = fresh_cut; done = λ b ok fresh. made b erases next fresh }
 
 -- where all blocks have their magic nothing is done
 pub made_none : (g : Geometry) (a : List ℕ) → HasAllMagics g a → MadeFresh g false a a
 unfolding spoiled_blocks
 made_none g a all =
     let count = filter-none_in (λ (d : ℕ). not (has_magic g a d)) 0 g.blocks (λ d from to. rw (all d (omega arith)) refl) in
-    record { erased_is = rw count refl; magics = all; live = λ p. refl; killed = refl; free = λ p page magic. refl; fresh = λ d below none. let bad : true ≡ false = sym (all d below) ∙ none in absurd (cc) }
+    record { erased_is = rw count refl; magics = all; live = λ p. refl; killed = refl; free = λ p page magic. refl; fresh = λ d below none. let bad : true ≡ false = sym (all d below) ∙ none in absurd (cc); counts = λ d below. rw (all d below) refl }
 
 -- ---- as works of the check
 
 pub must_be_made : (g : Geometry) (a : List ℕ) (c : ℕ) → (c < g.blocks) × (has_magic g a c ≡ false) → Goes g a a (freshening c) making_fresh
 must_be_made g a c found = record { needs = found; idle = λ all. let bad : true ≡ false = sym (all c found.0) ∙ found.1 in absurd (cc) }
 
+-- the count that was told after a look
+pub next_told : {N : Type 0} {nor : NorOf N} {old mid : View N nor} (n : ℕ) → OnlyLooks old mid → (nor.tells mid.nor.now → n ≡ next_count mid.geometry (nor.bytes mid.nor.now)) → nor.tells old.nor.now → n ≡ next_count old.geometry (nor.bytes old.nor.now)
+next_told {nor = nor} {old = old} {mid = mid} n looks told tells =
+    subst (λ (k : Geometry). n ≡ next_count k (nor.bytes old.nor.now)) looks.same.geometry (subst (λ (l : List ℕ). n ≡ next_count mid.geometry l) looks.reads.bytes (told (looks.reads.told tells)))
+
 -- making a block fresh after looks
 pub freshens_block : {N : Type 0} {nor : NorOf N} {old mid new : View N nor} {r : Result (Unit {0}) Failed} {c : ℕ} (erases : ℕ) → OnlyLooks old mid → IsSameView mid new → new.wrote ≡ true → OnErr r (Rose (nor.faults mid.nor.now) (nor.faults new.nor.now)) →
     Changes nor mid.nor.now new.nor.now (Freshens mid.geometry c) → (nor.tells mid.nor.now → OnOk r (IsFresh mid.geometry c erases (nor.bytes mid.nor.now) (nor.bytes new.nor.now))) →
-    (nor.tells old.nor.now → IsImage old.geometry (nor.bytes old.nor.now)) → Worked old new r (freshening c)
-freshens_block {c = c} erases looks same wrote cause changes done image = record {
-  step = after_look looks (acted (λ h. Freshens h c) (λ h. IsFresh h c erases) same wrote cause changes done) (λ tells need. freshens _ _ c (image tells) need.0 need.1.0 need.1.1 erases);
+    (nor.tells old.nor.now → IsImage old.geometry (nor.bytes old.nor.now)) → (nor.tells old.nor.now → erases ≡ next_count old.geometry (nor.bytes old.nor.now)) → Worked old new r (freshening c)
+freshens_block {c = c} erases looks same wrote cause changes done image next = record {
+  step = after_look looks (acted (λ h. Freshens h c) (λ h. IsFresh h c erases) same wrote cause changes done) (λ tells need. freshens _ _ c (image tells) need.0 need.1.0 need.1.1 erases (next tells));
   idle = λ tells magics need none. absurd (none);
 }

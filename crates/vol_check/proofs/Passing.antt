@@ -10,6 +10,7 @@ use Rattle.image_model.specs.Sound.{HasMagics, KeepsAll}
 use Rattle.image_laws.specs.TidySteps.{Agree}
 use Rattle.image_laws.proofs.Sounding.{keeps-itself, keeps-on}
 use Rattle.room_laws.specs.Staged.{OnlyKills}
+use Rattle.vol_check.specs.Stage.{SameCounts, Kills}
 use Rattle.vol_check.specs.Culls.{Culls, Passes}
 
 -- ---- at each cut
@@ -22,11 +23,11 @@ keeps_all_on g a b c x y = record { keeps = keeps-on g a b c x.keeps y.keeps; fr
 
 -- ---- kills alone
 
-pub kills_none : (g : Geometry) (a : List ℕ) → OnlyKills g a a
-kills_none g a = record { magic = λ block. refl; live = λ p. inl refl; free = λ p page. refl }
+pub kills_none : (g : Geometry) (a : List ℕ) → Kills g a a
+kills_none g a = record { pages = record { magic = λ block. refl; live = λ p. inl refl; free = λ p page. refl }; counts = λ block low. refl }
 
-pub kills_then : (g : Geometry) (a b c : List ℕ) → OnlyKills g a b → OnlyKills g b c → OnlyKills g a c
-kills_then g a b c x y = record {
+pages_then : (g : Geometry) (a b c : List ℕ) → OnlyKills g a b → OnlyKills g b c → OnlyKills g a c
+pages_then g a b c x y = record {
   magic = λ block. y.magic block ∙ x.magic block;
   live = λ p. ⊎_elim
       (λ (same : live_at g c p ≡ live_at g b p). ⊎_elim (λ (old : live_at g b p ≡ live_at g a p). inl (same ∙ old)) (λ (gone : live_at g b p ≡ None). inr (same ∙ gone)) (x.live p))
@@ -35,16 +36,22 @@ kills_then g a b c x y = record {
   free = λ p page. y.free p page ∙ x.free p page;
 }
 
+pub kills_then : (g : Geometry) (a b c : List ℕ) → Kills g a b → Kills g b c → Kills g a c
+kills_then g a b c x y = record { pages = pages_then g a b c x.pages y.pages; counts = λ block low. y.counts block low ∙ x.counts block low }
+
 -- an entry that was in use is zero, and the rest is as it was
 pub kills_one : (g : Geometry) (a c : List ℕ) (p : ℕ) → Agree g a c p → is_free_entry g a p ≡ false → entry_of g c p ≡ 0 →
-    ((q : ℕ) → (live_at g c q ≡ live_at g a q) ⊎ (live_at g c q ≡ None)) → OnlyKills g a c
-kills_one g a c p agree used zero live = record {
-  magic = agree.magic;
-  live = live;
-  free = λ q page. ⊎_elim
-      (λ (here : q ≡ p). rw here (let now : is_free_entry g c p ≡ false = rw zero refl in now ∙ sym used))
-      (λ (there : q ≡ p → ⊥). rw (agree.entry q page there, agree.page q page there) refl)
-      (cases_eq q p);
+    ((q : ℕ) → (live_at g c q ≡ live_at g a q) ⊎ (live_at g c q ≡ None)) → SameCounts g a c → Kills g a c
+kills_one g a c p agree used zero live counts = record {
+  pages = record {
+    magic = agree.magic;
+    live = live;
+    free = λ q page. ⊎_elim
+        (λ (here : q ≡ p). rw here (let now : is_free_entry g c p ≡ false = rw zero refl in now ∙ sym used))
+        (λ (there : q ≡ p → ⊥). rw (agree.entry q page there, agree.page q page there) refl)
+        (cases_eq q p);
+  };
+  counts = counts;
 }
 
 -- ---- turn by turn

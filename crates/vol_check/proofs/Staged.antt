@@ -1,5 +1,5 @@
 -- The entries of pages that aren't live, killed one after the other.
-use Rattle.std.proofs.Common.{◌≡◌, ℕ, ◌+◌, ◌*◌, ◌<◌, ◌≤◌, List, slice_index, Bool, true, false, cond, Result, sym, ◌∙◌, arith, inl}
+use Rattle.std.proofs.Common.{◌≡◌, ℕ, ◌+◌, ◌*◌, ◌<◌, ◌≤◌, List, slice_index, Bool, true, false, cond, Result, OnOk, sym, ◌∙◌, arith, inl}
 use Rattle.std.proofs.lemmas.Bool.{and_parts, not-true}
 use Rattle.geometry.specs.declared.geometry.Geometry.{Geometry}
 use Rattle.geometry.specs.Numbers.{page_count}
@@ -13,14 +13,16 @@ use Rattle.image_laws.proofs.Sounding.{keeps-by_live}
 use Rattle.nor_core.specs.declared.device.Failed.{Failed}
 use Rattle.nor_core.specs.declared.state.NorState.{Ghosts as NorOf}
 use Rattle.flash_view.specs.declared.view.View.{View}
+use Rattle.flash_view.specs.Places.{IsEntryPage}
 use Rattle.flash_view.specs.Same.{OnlyLooks}
 use Rattle.flash_view.specs.Steps.{Stepped, Finishes, failed}
 use Rattle.flash_view.proofs.Stepped.{after_look}
+use Rattle.page_put.specs.Kills.{killed}
 use Rattle.page_put.specs.LivePages.{clearing, Stays}
-use Rattle.room_laws.specs.Staged.{OnlyKills}
-use Rattle.vol_check.specs.Stage.{CleansEntry, CleansEntries, IsClean}
+use Rattle.vol_check.specs.Stage.{Kills, CleansEntry, CleansEntries, IsClean}
 use Rattle.vol_check.specs.Works.{Work, step_of, Worked, cleaning_entry}
 use Rattle.vol_check.proofs.Working.{Goes, On}
+use Rattle.vol_check.proofs.Counts.{counts_too, counts_kept}
 use Rattle.vol_check.proofs.Passing.{kills_none, kills_then, kills_one}
 
 -- ---- a turn
@@ -40,21 +42,22 @@ module _ (g : Geometry) (a : List ℕ) (p : ℕ) (h : HasMagics g a) (dead : is_
     free = (free_blocks-fall g a c p s.agree).1 (used-is_not_free g a p (unused_page g a p dead) (used_not_free g a p dead));
   }
 
-  clears_entry : slice_index a (p * g.page + 4) < 256 → Finishes g a a (clearing p) (step_of (killing_entry p))
+  clears_entry : slice_index a (p * g.page + 4) < 256 → Finishes g a a (counts_too (clearing p)) (step_of (killing_entry p))
   clears_entry byte = record {
     needs = record { inside = unused_page g a p dead; dead = unused_dead g a p dead; byte = byte };
     cut = stays;
-    done = λ c ok k. record { turned = turned g a c p (unused_page g a p dead) k.stays.agree k.stays.live k.stays.image (stays c k.stays).keeps k.zero dead; kills = kills_one g a c p k.stays.agree (used_not_free g a p dead) k.zero (λ q. inl (k.stays.live q)) };
+    done = λ c ok k. record { turned = turned g a c p (unused_page g a p dead) k.0.stays.agree k.0.stays.live k.0.stays.image (stays c k.0.stays).keeps k.0.zero dead; kills = kills_one g a c p k.0.stays.agree (used_not_free g a p dead) k.0.zero (λ q. inl (k.0.stays.live q)) k.1 };
   }
 
 pub must_be_killed : (g : Geometry) (a : List ℕ) (p : ℕ) → is_dead_entry g a p ≡ true → Goes g a a (killing_entry p) (cleaning_entry p)
 must_be_killed g a p dead = record { needs = dead; idle = λ quiet. let bad : true ≡ false = sym dead ∙ quiet in absurd (cc) }
 
 -- a kill after a look that told the flags to be a byte
-pub kills_entry : {N : Type 0} {nor : NorOf N} {old mid new : View N nor} {r : Result (Unit {0}) Failed} {p : ℕ} → OnlyLooks old mid → Stepped failed mid new r (clearing p) →
+pub kills_entry : {N : Type 0} {nor : NorOf N} {old mid new : View N nor} {r : Result (Unit {0}) Failed} {p : ℕ} → OnlyLooks old mid → IsEntryPage old.geometry p → Stepped failed mid new r (clearing p) →
+    (nor.tells mid.nor.now → OnOk r (nor.bytes new.nor.now ≡ killed mid.geometry p (nor.bytes mid.nor.now))) →
     On old (killing_entry p) (λ g a. slice_index a (p * g.page + 4) < 256) → Worked old new r (killing_entry p)
-kills_entry looks call byte = record {
-  step = after_look looks call (λ tells need. clears_entry _ _ _ need.0 need.1 (byte tells need.0 need.1));
+kills_entry looks entry call done byte = record {
+  step = after_look looks (counts_kept looks entry call done) (λ tells need. clears_entry _ _ _ need.0 need.1 (byte tells need.0 need.1));
   idle = λ tells magics need none. absurd (none);
 }
 
@@ -67,7 +70,7 @@ cleans_nothing g a p is h quiet = record { turned = unturned g a p is h quiet; k
 -- p entries on, with n of them killed
 pub record Cleaning (g : Geometry) (first now : List ℕ) (p n : ℕ) : Type 0 where
   pub stage : Stage g first now p n
-  pub kills : OnlyKills g first now
+  pub kills : Kills g first now
 
 abbrev pub cleaning_to : ℕ → Work ℕ
 cleaning_to p = record { needs = λ g was. Unit {0}; done = λ g was now n. Cleaning g was now p n; idle = λ g was. IsClean g was }

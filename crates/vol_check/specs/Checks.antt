@@ -1,6 +1,7 @@
 -- What a check refuses, and what it leaves.
 use Rattle.std.specs.Prelude.{◌≡◌, ℕ, ◌<◌, ◌≤◌, List, length, nat_lt}
 use Rattle.geometry.specs.declared.geometry.Geometry.{Geometry}
+use Rattle.image_model.specs.Places.{erase_count}
 use Rattle.image_model.specs.Tables.{table_of, damaged_of}
 use Rattle.image_model.specs.Tidy.{IsTidy, free_blocks}
 use Rattle.image_model.specs.Kinds.{mixed_blocks, spoiled_blocks}
@@ -9,6 +10,7 @@ use Rattle.room_laws.specs.Staged.{IsStaged}
 use Rattle.vol_check.specs.declared.report.CheckErr.{CheckErr}
 use Rattle.vol_check.specs.declared.report.CheckErr.TheVariants.{Wrong, Mixed, DeviceFault, Damaged}
 use Rattle.vol_check.specs.declared.report.Report.{Report}
+use Rattle.vol_check.specs.MadeFresh.{count_after}
 
 -- a refusal of a volume whose numbers allow writing
 abbrev pub IsWritable : CheckErr → Type 0
@@ -37,7 +39,8 @@ CountsMixed g image DeviceFault = Unit {0}
 CountsMixed g image (Damaged differ) = Unit {0}
 
 -- What the stages of a check leave: the image is tidy with its table and no fewer free blocks, of the pages that were live some were
--- killed, and the block without its magic is free; and the report tells what was found and done.
+-- killed, and the block without its magic is free, with the next erase count, while the others keep theirs; and the report tells what was
+-- found and done.
 pub record Checked (g : Geometry) (was now : List ℕ) (report : Report) : Type 0 where
   pub tidy : IsTidy g now
   pub table : table_of g now ≡ table_of g was
@@ -47,3 +50,4 @@ pub record Checked (g : Geometry) (was now : List ℕ) (report : Report) : Type 
   pub free : report.free_blocks ≡ free_blocks g now
   pub free_least : free_blocks g was ≤ free_blocks g now
   pub staged : IsStaged g was now
+  pub counts : (block : ℕ) → block < g.blocks → erase_count g now block ≡ count_after g was block

@@ -10,9 +10,8 @@ use Rattle.image_model.specs.Tidy.{is_wanted, is_number}
 use Rattle.image_model.specs.Killed.{killed_of}
 use Rattle.image_model.specs.Sound.{damaged_ids}
 use Rattle.image_laws.specs.Changes.{Loses}
-use Rattle.room_laws.specs.Staged.{OnlyKills}
 use Rattle.file_find.specs.Marks.{cause_at}
-use Rattle.vol_check.specs.Stage.{IsClean}
+use Rattle.vol_check.specs.Stage.{IsClean, Kills}
 
 -- without page p the table is the same, what is damaged was so, and every other page is as wanted as it was
 pub record Spares (g : Geometry) (p : ℕ) (was now : List ℕ) : Type 0 where
@@ -33,13 +32,13 @@ pub record Culls (g : Geometry) (p : ℕ) (killed : Bool) (was now : List ℕ) :
   pub gone : killed ≡ true → live_at g now p ≡ None
   pub others : (q : ℕ) → q ≢ p → live_at g now q ≡ live_at g was q
   pub clean : IsClean g was → IsClean g now
-  pub kills : OnlyKills g was now
+  pub kills : Kills g was now
 
 -- after a pass over the image that killed n live pages
 pub record Passes (g : Geometry) (n : ℕ) (was now : List ℕ) : Type 0 where
   pub count : n + killed_of g now ≡ killed_of g was
   pub clean : IsClean g was → IsClean g now
-  pub kills : OnlyKills g was now
+  pub kills : Kills g was now
 
 -- a live page is an index page, and not the index page of its id and span
 abbrev pub is_doubled_as : Geometry → List ℕ → ℕ → Option (List ℕ) → Bool

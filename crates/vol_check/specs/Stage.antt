@@ -1,12 +1,21 @@
 -- What the check's kills leave.
-use Rattle.std.specs.Prelude.{◌≡◌, ℕ, ◌+◌, List, Bool, false, not, ◌==◌, ◌&&◌}
+use Rattle.std.specs.Prelude.{◌≡◌, ℕ, ◌+◌, ◌<◌, List, Bool, false, not, ◌==◌, ◌&&◌}
 use Rattle.geometry.specs.declared.geometry.Geometry.{Geometry}
-use Rattle.image_model.specs.Places.{entry_of}
+use Rattle.image_model.specs.Places.{entry_of, erase_count}
 use Rattle.image_model.specs.Live.{live_at}
 use Rattle.image_model.specs.Tidy.{is_free_entry}
 use Rattle.image_model.specs.Killed.{killed_of, is_dead_entry, dead_entries}
 use Rattle.image_laws.specs.Kills.{Turned}
 use Rattle.room_laws.specs.Staged.{OnlyKills}
+
+-- each block has the erase count that it had
+abbrev pub SameCounts : Geometry → (was now : List ℕ) → Type 0
+SameCounts g was now = (block : ℕ) → block < g.blocks → erase_count g now block ≡ erase_count g was block
+
+-- Pages were killed and nothing else, and the erase counts stay.
+pub record Kills (g : Geometry) (was now : List ℕ) : Type 0 where
+  pub pages : OnlyKills g was now
+  pub counts : SameCounts g was now
 
 -- an entry that is neither deleted nor free
 abbrev pub is_taken_entry : Geometry → List ℕ → ℕ → Bool
@@ -15,7 +24,7 @@ is_taken_entry g image p = not (entry_of g image p == 0) && not (is_free_entry g
 -- after a turn: the entry of page p is clean, and killed where it wasn't
 pub record CleansEntry (g : Geometry) (p : ℕ) (killed : Bool) (was now : List ℕ) : Type 0 where
   pub turned : Turned g p killed was now
-  pub kills : OnlyKills g was now
+  pub kills : Kills g was now
 
 -- no entry in use is that of a page that isn't live
 abbrev pub IsClean : Geometry → List ℕ → Type 0
@@ -27,4 +36,4 @@ pub record CleansEntries (g : Geometry) (killed : ℕ) (was now : List ℕ) : Ty
   pub count : killed ≡ dead_entries g was
   pub killed_more : killed + killed_of g now ≡ killed_of g was
   pub live : (p : ℕ) → live_at g now p ≡ live_at g was p
-  pub kills : OnlyKills g was now
+  pub kills : Kills g was now

@@ -1,6 +1,7 @@
 -- What the whole check of a mounted volume does.
-use Rattle.std.specs.Prelude.{◌≡◌, ◌≢◌, ℕ, ◌⊎◌, List, length, nat_lt, None}
+use Rattle.std.specs.Prelude.{◌≡◌, ◌≢◌, ℕ, ◌<◌, ◌⊎◌, List, length, nat_lt, None}
 use Rattle.geometry.specs.declared.geometry.Geometry.{Geometry}
+use Rattle.image_model.specs.Places.{erase_count}
 use Rattle.image_model.specs.Tables.{table_of, damaged_of}
 use Rattle.image_model.specs.Tidy.{IsTidy, HasReserve, free_blocks}
 use Rattle.image_model.specs.Kinds.{spoiled_blocks}
@@ -8,17 +9,29 @@ use Rattle.image_model.specs.Killed.{killed_of}
 use Rattle.image_model.specs.Collect.{chosen_block}
 use Rattle.image_model.specs.Sound.{Keeps}
 use Rattle.room_laws.specs.Mends.{CanMend}
+use Rattle.room_laws.specs.Staged.{IsStaged}
+use Rattle.block_gc.specs.RoomMade.{SweptTo}
 use Rattle.flash_view.specs.declared.kinds.StepErr.{StepErr}
 use Rattle.flash_view.specs.declared.kinds.StepErr.TheVariants.{DeviceFault as StepFault, Damaged as StepDamaged}
 use Rattle.flash_view.specs.Steps.{Step, Errors}
 use Rattle.vol_check.specs.declared.report.CheckErr.{CheckErr}
 use Rattle.vol_check.specs.declared.report.CheckErr.TheVariants.{DeviceFault, Damaged}
 use Rattle.vol_check.specs.declared.report.Report.{Report}
+use Rattle.vol_check.specs.MadeFresh.{count_after}
 
 -- A cut in a check keeps the image, and two free blocks that were there are there.
 pub record CheckCut (g : Geometry) (was image : List ℕ) : Type 0 where
   pub keeps : Keeps g was image
   pub reserve : HasReserve g was → HasReserve g image
+
+-- The stages of a check left an image in which every block has the erase count that it had, but the one that lacked its magic the next one.
+-- From that image chosen blocks were cleaned, one after the other: none where two blocks were free in it.
+pub record SweepsAfter (g : Geometry) (was now : List ℕ) : Type 0 where
+  pub staged : List ℕ
+  pub stages : IsStaged g was staged
+  pub counts : (block : ℕ) → block < g.blocks → erase_count g staged block ≡ count_after g was block
+  pub swept : SweptTo g staged now
+  pub quiet : HasReserve g staged → now ≡ staged
 
 -- What a check leaves: the image is tidy with its table, and the report tells what was found and done, and how many blocks are free now.
 -- Two free blocks that were there are there; and two are free, or no block that is worth cleaning can be cleaned.
@@ -31,6 +44,7 @@ pub record CheckDone (g : Geometry) (was now : List ℕ) (report : Report) : Typ
   pub free : report.free_blocks ≡ free_blocks g now
   pub kept : HasReserve g was → HasReserve g now
   pub stopped : HasReserve g now ⊎ (chosen_block g now ≡ None)
+  pub sweeps : SweepsAfter g was now
 
 -- where a check tells of a page that reads otherwise, what was wanted there and what was found differ
 abbrev pub IsApart : CheckErr → Type 0
@@ -58,10 +72,12 @@ MayStop why = ⊥
 abbrev pub check_stopped : Errors CheckErr
 check_stopped = record { fault = DeviceFault; means = MayStop; told = tt }
 
--- What the cleaning leaves: a tidy image with the table, and two free blocks, or no block that is chosen; where the image mends, two.
+-- What the cleaning leaves, one chosen block after the other: a tidy image with the table, and two free blocks, or no block that is
+-- chosen; where the image mends, two.
 pub record Cleared (g : Geometry) (was now : List ℕ) : Type 0 where
   pub tidy : IsTidy g now
   pub table : table_of g now ≡ table_of g was
+  pub swept : SweptTo g was now
   pub stopped : HasReserve g now ⊎ (chosen_block g now ≡ None)
   pub mended : CanMend g was → HasReserve g now
 

@@ -1,7 +1,7 @@
 use Rattle.std.proofs.Common.{sym, ◌∙◌}
 use Rattle.flash_view.proofs.Looking.{looks_then}
 use Rattle.flash_view.proofs.Stepped.{view_image}
-use Rattle.vol_check.proofs.Freshening.{found_spoiled, none_spoiled, made_none, freshens_block, must_be_made}
+use Rattle.vol_check.proofs.Freshening.{found_spoiled, none_spoiled, made_none, next_told, freshens_block, must_be_made}
 use Rattle.vol_check.proofs.Working.{look_works, look_stops, works_on, works_as, stops}
 use Rattle.vol_check.proofs.spoiled.make_fresh.Goals as goal
 
@@ -20,12 +20,12 @@ pub returns-in_err-fresh_block : goal.returns-in_err-fresh_block
 returns-in_err-fresh_block g c =
     let looked = c.in_ok-block.ensures in
     let fresh = c.in_err-fresh_block.ensures in
-    stops (freshens_block c.in_ok-count.count (looks_then looked.looks c.in_ok-count.ensures.looks) fresh.same fresh.wrote fresh.cause fresh.changes fresh.done (view_image c.args.v.now (g.met.N.Nor.sized _))) c.from_residual-in_err-fresh_block.ensures.0
+    stops (freshens_block c.in_ok-count.count (looks_then looked.looks c.in_ok-count.ensures.looks) fresh.same fresh.wrote fresh.cause fresh.changes fresh.done (view_image c.args.v.now (g.met.N.Nor.sized _)) (next_told c.in_ok-count.count looked.looks c.in_ok-count.ensures.told)) c.from_residual-in_err-fresh_block.ensures.0
     (λ tells magics need. must_be_made _ _ _ (found_spoiled _ _ _ (sym (looked.told tells) ∙ c.in-Some.is)))
 
 pub returns : goal.returns
 returns g c =
     let looked = c.in_ok-block.ensures in
     let fresh = c.in_ok-fresh_block.ensures in
-    works_as (freshens_block c.in_ok-count.count (looks_then looked.looks c.in_ok-count.ensures.looks) fresh.same fresh.wrote fresh.cause fresh.changes fresh.done (view_image c.args.v.now (g.met.N.Nor.sized _)))
+    works_as (freshens_block c.in_ok-count.count (looks_then looked.looks c.in_ok-count.ensures.looks) fresh.same fresh.wrote fresh.cause fresh.changes fresh.done (view_image c.args.v.now (g.met.N.Nor.sized _)) (next_told c.in_ok-count.count looked.looks c.in_ok-count.ensures.told))
     (λ tells magics need. must_be_made _ _ _ (found_spoiled _ _ _ (sym (looked.told tells) ∙ c.in-Some.is))) (λ tells magics need kept done. done)

@@ -15,7 +15,7 @@ returns-in-Ok g c =
       cause = λ is. absurd (cc);
       means = tt;
       cuts = wider made.changes (λ tells image cut tidy. (cut tidy).keeps);
-      ends = λ tells tidy. let now = made.done tells tidy in record { tidy = now.tidy; table = now.table; stopped = inl now.ready.reserve; mended = λ can. now.ready.reserve };
+      ends = λ tells tidy. let now = made.done tells tidy in record { tidy = now.tidy; table = now.table; swept = now.swept; stopped = inl now.ready.reserve; mended = λ can. now.ready.reserve };
     }
 
 pub returns-in-Err-Tight : goal.returns-in-Err-Tight
@@ -27,7 +27,7 @@ returns-in-Err-Tight g c =
       cause = λ is. absurd (cc);
       means = tt;
       cuts = wider short.changes (λ tells image cut tidy. (cut tidy).keeps);
-      ends = λ tells tidy. let now = short.tight tells tidy (ap (λ (w : RoomErr). Err w) is) in record { tidy = now.tidy; table = now.table; stopped = inr now.none; mended = λ can. absurd (short.mended tells can refl refl is) };
+      ends = λ tells tidy. let now = short.tight tells tidy (ap (λ (w : RoomErr). Err w) is) in record { tidy = now.tidy; table = now.table; swept = now.swept; stopped = inr now.none; mended = λ can. absurd (short.mended tells can refl refl is) };
     }
 
 pub returns-in-Err-Step : goal.returns-in-Err-Step
