@@ -1,11 +1,15 @@
 -- The whole check, by what its stages and the cleaning after them leave.
-use Rattle.std.proofs.Common.{◌≡◌, ℕ, ◌<◌, ◌≤◌, inl, List, [], refl, sym, ◌∙◌, subst, arith}
-use Rattle.std.specs.Prelude.{Err, IsErrOf}
+use Rattle.std.proofs.Common.{◌≡◌, ℕ, ◌<◌, ◌≤◌, inl, List, [], refl, sym, ◌∙◌, ap, subst, arith}
+use Rattle.std.specs.Prelude.{Result, Ok, Err, Option, Some, None, IfSome, IsErrOf, OnOk}
 use Rattle.geometry.specs.declared.geometry.Geometry.{Geometry}
+use Rattle.geometry.specs.declared.error.GeoErr.{GeoErr}
+use Rattle.geometry.specs.Numbers.{usable, write_refusal}
 use Rattle.nor_core.specs.declared.state.NorState.{Ghosts as NorOf}
-use Rattle.nor_core.specs.Device.{Changes}
-use Rattle.nor_core.proofs.Cuts.{wider, go_on}
+use Rattle.nor_core.specs.Device.{Changes, OnlyReads}
+use Rattle.nor_core.specs.Count.{Rose}
+use Rattle.nor_core.proofs.Cuts.{wider, go_on, read_after, reads_then}
 use Rattle.image_model.specs.Places.{IsImage}
+use Rattle.image_model.specs.Kinds.{mixed_blocks}
 use Rattle.image_model.specs.Tidy.{IsTidy, HasReserve, free_blocks}
 use Rattle.image_model.specs.Sound.{Keeps, KeepsAll}
 use Rattle.image_laws.proofs.Sounding.{sound-on}
@@ -15,12 +19,12 @@ use Rattle.flash_view.specs.declared.kinds.StepErr.{StepErr}
 use Rattle.flash_view.specs.declared.kinds.StepErr.TheVariants.{DeviceFault as StepFault, Damaged as StepDamaged}
 use Rattle.flash_view.specs.declared.view.View.{View}
 use Rattle.flash_view.specs.Same.{IsSameView}
-use Rattle.flash_view.specs.Steps.{Step, stopped}
+use Rattle.flash_view.specs.Steps.{Step, Stepped, stopped}
 use Rattle.vol_check.specs.declared.report.CheckErr.{CheckErr}
 use Rattle.vol_check.specs.declared.report.CheckErr.TheVariants.{Wrong, Mixed, DeviceFault, Damaged}
 use Rattle.vol_check.specs.declared.report.Report.{Report}
 use Rattle.vol_check.specs.Checks.{IsWritable, IsRefusal, IsOfStages, CountsMixed, Checked}
-use Rattle.volume.specs.Checking.{CheckCut, CheckDone, IsApart, IsUndamaged, as_check_err, MayStop, Cleared}
+use Rattle.volume.specs.Checking.{CheckCut, CheckDone, ChecksTo, IsApart, IsUndamaged, as_check_err, check_stopped, clearing, MayStop, Cleared}
 use Rattle.file_calls.proofs.Going.{tidy_sound}
 
 -- ---- errors
@@ -69,6 +73,15 @@ stop_apart (Mixed n) h = tt
 stop_apart DeviceFault h = tt
 stop_apart (Damaged d) h = h
 
+-- the one error of the cleaning of a tidy image
+pub fault_undamaged : (why : CheckErr) → why ≡ DeviceFault → IsUndamaged why
+fault_undamaged why is = rw is tt
+
+-- where the stages were not refused for the numbers, nothing is
+pub none_wrong : (o : Option GeoErr) {report : Report} {P : GeoErr → Type 0} → IfSome o (λ why. ◌≡◌ {A = Result Report CheckErr} (Ok report) (Err (Wrong why))) → IfSome o P
+none_wrong None h = tt
+none_wrong (Some why) h = absurd (cc)
+
 -- ---- images
 
 -- the free blocks are counted, and nothing changes
@@ -110,7 +123,7 @@ done_at_once g was now report checked enough = record {
 
 -- fewer are
 module _ (g : Geometry) (was mid : List ℕ) (report : Report) (checked : Checked g was mid report) (few : report.free_blocks < 2) where
-  none_before : HasReserve g was → ⊥
+  pub none_before : HasReserve g was → ⊥
   none_before reserve = let free = checked.free in let more = checked.free_least in absurd (omega (arith, reserve, free, more, few))
 
   pub cut_on : (image : List ℕ) → KeepsAll g was mid → Keeps g mid image → CheckCut g was image
@@ -150,3 +163,83 @@ module _ {N : Type 0} {nor : NorOf N} {old mid : View N nor} {d : N} where
       Cleared old.geometry (nor.bytes mid.nor.now) (nor.bytes d) × (free ≡ free_blocks old.geometry (nor.bytes d))
   ends_on report free same checked ends =
       subst (λ (k : Geometry). IsTidy k (nor.bytes mid.nor.now) → Cleared k (nor.bytes mid.nor.now) (nor.bytes d) × (free ≡ free_blocks k (nor.bytes d))) same.geometry ends checked.tidy
+
+  module _ (report : Report) (few : report.free_blocks < 2) (same : IsSameView old mid) (wrong : IfSome (write_refusal old.geometry) (λ why. ◌≡◌ {A = Result Report CheckErr} (Ok report) (Err (Wrong why))))
+      (checked : nor.tells old.nor.now → Checked old.geometry (nor.bytes old.nor.now) (nor.bytes mid.nor.now) report) (kept : Changes nor old.nor.now mid.nor.now (KeepsAll old.geometry)) {new : View N nor} where
+    -- the cleaning failed, on the tidy image that the stages left
+    pub fails_on : {why : CheckErr} → Stepped check_stopped mid new (Err why) clearing → ChecksTo nor old.geometry old.nor.now new.nor.now (Err why)
+    fails_on {why} call = record {
+      wrong = none_wrong (write_refusal old.geometry) wrong;
+      writable = λ fine. stop_writable why call.means;
+      few = tt;
+      cause = λ is. let rose = call.cause (ap (λ (w : CheckErr). Err w) (same_err why DeviceFault is)) in let more = same.faults in omega arith;
+      changes = cuts_on report few same checked kept call.cuts;
+      unmixed = λ tells. tt;
+      mixed = λ tells. stop_mixed old.geometry (nor.bytes old.nor.now) why call.means;
+      refused = λ refusal. absurd (stop_goes_on why call.means refusal);
+      done = λ tells. tt;
+      mends = λ tells recovers. tt;
+      idle = λ tells tidy reserve. absurd (none_before old.geometry (nor.bytes old.nor.now) (nor.bytes mid.nor.now) report (checked tells) few reserve);
+      apart = stop_apart why call.means;
+      undamaged = λ tells. fault_undamaged why (call.ends (kept.cuts.told tells) (subst (λ (k : Geometry). IsTidy k (nor.bytes mid.nor.now)) (sym same.geometry) (checked tells).tidy));
+    }
+
+    -- it was done
+    pub cleans_on : {free : ℕ} → (nor.tells mid.nor.now → IsImage old.geometry (nor.bytes mid.nor.now)) → OnOk {E = CheckErr} (Ok report) (usable old.geometry ≤ 32766) → (nor.tells old.nor.now → mixed_blocks old.geometry (nor.bytes old.nor.now) ≡ 0) → Stepped check_stopped mid new (Ok free) clearing →
+        ChecksTo nor old.geometry old.nor.now new.nor.now (Ok (record report { free_blocks = free }))
+    cleans_on {free} is small unmixed call =
+        let ends : nor.tells old.nor.now → Cleared old.geometry (nor.bytes mid.nor.now) (nor.bytes new.nor.now) × (free ≡ free_blocks old.geometry (nor.bytes new.nor.now)) =
+        λ tells. ends_on report free same (checked tells) (call.ends (kept.cuts.told tells)) in
+        record {
+          wrong = none_wrong (write_refusal old.geometry) wrong;
+          writable = λ fine. tt;
+          few = small;
+          cause = λ is. absurd (cc);
+          changes = cuts_on report few same checked kept call.cuts;
+          unmixed = unmixed;
+          mixed = λ tells. tt;
+          refused = tt;
+          done = λ tells. done_on old.geometry (nor.bytes old.nor.now) (nor.bytes mid.nor.now) report (checked tells) few (nor.bytes new.nor.now) free (ends tells);
+          mends = λ tells recovers. mends_on old.geometry (nor.bytes old.nor.now) (nor.bytes mid.nor.now) report (checked tells) few (nor.bytes new.nor.now) free (is (kept.cuts.told tells)) recovers (ends tells);
+          idle = λ tells tidy reserve. absurd (none_before old.geometry (nor.bytes old.nor.now) (nor.bytes mid.nor.now) report (checked tells) few reserve);
+          apart = tt;
+          undamaged = λ tells. tt;
+        }
+
+-- ---- the blocks are counted after a check
+
+module _ {D : Type 0} {nor : NorOf D} {g : Geometry} {old mid new : D} {report : Report} (checks : ChecksTo nor g old mid (Ok report)) (reads : OnlyReads nor mid new) where
+  -- and the device failed in that
+  pub count_fails : Rose (nor.faults old) (nor.faults new) → ChecksTo nor g old new (Err DeviceFault)
+  count_fails rose = record {
+    wrong = none_wrong (write_refusal g) checks.wrong;
+    writable = λ fine. tt;
+    few = tt;
+    cause = λ is. rose;
+    changes = read_after checks.changes reads;
+    unmixed = λ tells. tt;
+    mixed = λ tells. tt;
+    refused = λ refusal. absurd refusal;
+    done = λ tells. tt;
+    mends = λ tells recovers. tt;
+    idle = λ tells tidy reserve. reads_then (checks.idle tells tidy reserve) reads;
+    apart = tt;
+    undamaged = λ tells. tt;
+  }
+
+  pub count_keeps : ChecksTo nor g old new (Ok report)
+  count_keeps = record {
+    wrong = checks.wrong;
+    writable = checks.writable;
+    few = checks.few;
+    cause = λ is. absurd (cc);
+    changes = read_after checks.changes reads;
+    unmixed = checks.unmixed;
+    mixed = checks.mixed;
+    refused = tt;
+    done = λ tells. subst (λ (l : List ℕ). CheckDone g (nor.bytes old) l report) (sym reads.bytes) (checks.done tells);
+    mends = checks.mends;
+    idle = λ tells tidy reserve. reads_then (checks.idle tells tidy reserve) reads;
+    apart = checks.apart;
+    undamaged = checks.undamaged;
+  }

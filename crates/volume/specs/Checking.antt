@@ -1,23 +1,29 @@
 -- What the whole check of a mounted volume does.
-use Rattle.std.specs.Prelude.{◌≡◌, ◌≢◌, ℕ, ◌<◌, ◌⊎◌, List, length, nat_lt, None}
+use Rattle.std.specs.Prelude.{◌≡◌, ◌≢◌, ℕ, ◌<◌, ◌≤◌, ◌⊎◌, List, length, nat_lt, Result, Err, None, OnOk, IfOk, IfErr, IfSome, IsErrOf}
 use Rattle.geometry.specs.declared.geometry.Geometry.{Geometry}
+use Rattle.geometry.specs.Numbers.{usable, write_refusal}
+use Rattle.nor_core.specs.declared.state.NorState.{Ghosts as NorOf}
+use Rattle.nor_core.specs.Count.{Rose}
+use Rattle.nor_core.specs.Device.{Changes, OnlyReads}
 use Rattle.image_model.specs.Places.{erase_count}
 use Rattle.image_model.specs.Tables.{table_of, damaged_of}
 use Rattle.image_model.specs.Tidy.{IsTidy, HasReserve, free_blocks}
-use Rattle.image_model.specs.Kinds.{spoiled_blocks}
+use Rattle.image_model.specs.Kinds.{spoiled_blocks, mixed_blocks}
 use Rattle.image_model.specs.Killed.{killed_of}
 use Rattle.image_model.specs.Collect.{chosen_block}
 use Rattle.image_model.specs.Sound.{Keeps}
 use Rattle.room_laws.specs.Mends.{CanMend}
+use Rattle.room_laws.specs.Recovery.{Recovers}
 use Rattle.room_laws.specs.Staged.{IsStaged}
 use Rattle.block_gc.specs.RoomMade.{SweptTo}
 use Rattle.flash_view.specs.declared.kinds.StepErr.{StepErr}
 use Rattle.flash_view.specs.declared.kinds.StepErr.TheVariants.{DeviceFault as StepFault, Damaged as StepDamaged}
 use Rattle.flash_view.specs.Steps.{Step, Errors}
 use Rattle.vol_check.specs.declared.report.CheckErr.{CheckErr}
-use Rattle.vol_check.specs.declared.report.CheckErr.TheVariants.{DeviceFault, Damaged}
+use Rattle.vol_check.specs.declared.report.CheckErr.TheVariants.{Wrong, DeviceFault, Damaged}
 use Rattle.vol_check.specs.declared.report.Report.{Report}
 use Rattle.vol_check.specs.MadeFresh.{count_after}
+use Rattle.vol_check.specs.Checks.{IsWritable, IsRefusal, CountsMixed}
 
 -- A cut in a check keeps the image, and two free blocks that were there are there.
 pub record CheckCut (g : Geometry) (was image : List ℕ) : Type 0 where
@@ -55,6 +61,23 @@ IsApart why = Unit {0}
 abbrev pub IsUndamaged : CheckErr → Type 0
 IsUndamaged (Damaged d) = ⊥
 IsUndamaged why = Unit {0}
+
+-- What a check does to a device, and why it is refused. A volume that may not be written is `Wrong`, one with mixed blocks `Mixed`, and
+-- then nothing is written. Else the device failed, or the check is done: a tidy image with two free blocks is only read.
+pub record ChecksTo {D : Type 0} (nor : NorOf D) (g : Geometry) (old new : D) (result : Result Report CheckErr) : Type 0 where
+  pub wrong : IfSome (write_refusal g) (λ why. result ≡ Err (Wrong why))
+  pub writable : write_refusal g ≡ None → IfErr result IsWritable
+  pub few : OnOk result (usable g ≤ 32766)
+  pub cause : IsErrOf result DeviceFault → Rose (nor.faults old) (nor.faults new)
+  pub changes : Changes nor old new (CheckCut g)
+  pub unmixed : nor.tells old → OnOk result (mixed_blocks g (nor.bytes old) ≡ 0)
+  pub mixed : nor.tells old → IfErr result (CountsMixed g (nor.bytes old))
+  pub refused : IfErr result (λ why. IsRefusal why → OnlyReads nor old new)
+  pub done : nor.tells old → IfOk result (λ report. CheckDone g (nor.bytes old) (nor.bytes new) report)
+  pub mends : nor.tells old → Recovers g (nor.bytes old) → IfOk result (λ report. 2 ≤ report.free_blocks)
+  pub idle : nor.tells old → IsTidy g (nor.bytes old) → HasReserve g (nor.bytes old) → OnlyReads nor old new
+  pub apart : IfErr result IsApart
+  pub undamaged : nor.tells old → IfErr result IsUndamaged
 
 -- ---- the cleaning
 

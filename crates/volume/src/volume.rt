@@ -1,18 +1,15 @@
-ghost use Rattle.std.specs.Prelude.{◌≡◌, ◌*◌, ◌≤◌, length, min, replicate, OnOk, IsErrOf, IfOk, IfErr, IfSome, Err, None, true};
-ghost use Rattle.geometry.specs.Numbers.{usable, write_refusal, scratch_need, rows_need, work_need, cache_need, check_need};
+ghost use Rattle.std.specs.Prelude.{◌≡◌, ◌*◌, ◌≤◌, length, min, replicate, OnOk, IfErr, Err, None, true};
+ghost use Rattle.geometry.specs.Numbers.{usable, scratch_need, rows_need, work_need, cache_need, check_need};
 ghost use Rattle.nor_core.specs.Count.{Rose};
-ghost use Rattle.nor_core.specs.Device.{Changes, OnlyReads};
-ghost use Rattle.image_model.specs.Kinds.{spoiled_blocks, mixed_blocks};
+ghost use Rattle.nor_core.specs.Device.{OnlyReads};
+ghost use Rattle.image_model.specs.Kinds.{spoiled_blocks};
 ghost use Rattle.image_model.specs.Sound.{HasMagics};
-ghost use Rattle.image_model.specs.Tidy.{IsTidy, HasReserve};
 ghost use Rattle.page_cache.specs.Kept.{IsKept, FewReads};
 ghost use Rattle.flash_view.specs.Same.{StaysBehind};
 ghost use Rattle.flash_view.specs.Table.{HasTable, rows_in};
 ghost use Rattle.fd_table.specs.Slots.{descriptors};
 ghost use Rattle.vol_mount.specs.Mounts.{IsLate, CountsSpoiled};
-ghost use Rattle.room_laws.specs.Recovery.{Recovers};
-ghost use Rattle.vol_check.specs.Checks.{IsWritable, IsRefusal, CountsMixed};
-ghost use Rattle.volume.specs.Checking.{CheckCut, CheckDone, IsApart, IsUndamaged};
+ghost use Rattle.volume.specs.Checking.{ChecksTo};
 ghost use Rattle.volume.specs.Opening.{is_open, is_mounted};
 
 use crate::checking::check_view;
@@ -133,19 +130,7 @@ fn check_on<N: Nor>(
     ensures cache_size { length cache.new ≡ length cache.old }
     ensures behind { StaysBehind N.NorState g nor.old nor.new }
     ensures few { FewReads N.NorState g nor.old cache.old nor.new cache.new }
-    ensures wrong { IfSome (write_refusal g) (λ why. result ≡ Err (CheckErr.Wrong why)) }
-    ensures writable { write_refusal g ≡ None → IfErr result IsWritable }
-    ensures usable { OnOk result (usable g ≤ 32766) }
-    ensures cause { IsErrOf result CheckErr.DeviceFault → Rose (N.faults nor.old) (N.faults nor.new) }
-    ensures changes { Changes N.NorState nor.old nor.new (CheckCut g) }
-    ensures unmixed { N.tells nor.old → OnOk result (mixed_blocks g (N.bytes nor.old) ≡ 0) }
-    ensures mixed { N.tells nor.old → IfErr result (CountsMixed g (N.bytes nor.old)) }
-    ensures refused { IfErr result (λ why. IsRefusal why → OnlyReads N.NorState nor.old nor.new) }
-    ensures done { N.tells nor.old → IfOk result (λ report. CheckDone g (N.bytes nor.old) (N.bytes nor.new) report) }
-    ensures mends { N.tells nor.old → Recovers g (N.bytes nor.old) → IfOk result (λ report. 2 ≤ report.free_blocks) }
-    ensures idle { N.tells nor.old → IsTidy g (N.bytes nor.old) → HasReserve g (N.bytes nor.old) → OnlyReads N.NorState nor.old nor.new }
-    ensures apart { IfErr result IsApart }
-    ensures undamaged { N.tells nor.old → IfErr result IsUndamaged }
+    ensures checks { ChecksTo N.NorState g nor.old nor.new result }
     ensures table { counted.new ≡ true → HasTable N.NorState g nor.new rows.new }
     ensures stands { rows_need g ≤ length rows.new → OnOk result (counted.new ≡ true) }
 {
@@ -164,21 +149,18 @@ fn check_on<N: Nor>(
 }
 
 impl<'b, N: Nor> Volume<'b, N> {
-    ghost use Rattle.std.specs.Prelude.{◌≡◌, ◌*◌, ◌≤◌, length, min, replicate, OnOk, OnErr, IsErrOf, IfOk, IfErr, IfSome, IsOk, Err, None, true, false};
-    ghost use Rattle.geometry.specs.Numbers.{write_refusal, work_need, cache_need, check_need};
+    ghost use Rattle.std.specs.Prelude.{◌≡◌, ◌*◌, ◌≤◌, length, min, replicate, OnOk, OnErr, IfErr, IsOk, Err, None, true, false};
+    ghost use Rattle.geometry.specs.Numbers.{work_need, cache_need, check_need};
     ghost use Rattle.nor_core.specs.Count.{Rose};
-    ghost use Rattle.nor_core.specs.Device.{Changes, OnlyReads};
-    ghost use Rattle.image_model.specs.Kinds.{spoiled_blocks, mixed_blocks};
-    ghost use Rattle.image_model.specs.Tidy.{IsTidy, HasReserve};
+    ghost use Rattle.nor_core.specs.Device.{OnlyReads};
+    ghost use Rattle.image_model.specs.Kinds.{spoiled_blocks};
     ghost use Rattle.page_cache.specs.Frames.{held};
     ghost use Rattle.page_cache.specs.Kept.{FewReads};
     ghost use Rattle.flash_view.specs.Same.{StaysBehind};
     ghost use Rattle.volume.specs.Holds.{memory};
     ghost use Rattle.volume.specs.Unmounts.{UnmountsTo};
     ghost use Rattle.vol_mount.specs.Mounts.{IsLate, CountsSpoiled};
-    ghost use Rattle.room_laws.specs.Recovery.{Recovers};
-    ghost use Rattle.vol_check.specs.Checks.{IsWritable, IsRefusal, CountsMixed};
-    ghost use Rattle.volume.specs.Checking.{CheckCut, CheckDone, IsApart, IsUndamaged};
+    ghost use Rattle.volume.specs.Checking.{ChecksTo};
     ghost use Rattle.volume.specs.Opening.{is_mounted};
     ghost use Rattle.volume.specs.Stages.{takes_calls, has_failed};
     ghost use Rattle.volume.specs.Same.{IsSameVolume};
@@ -255,18 +237,7 @@ impl<'b, N: Nor> Volume<'b, N> {
     /// be called again.
     pub fn check(&mut self) -> Result<Report, CheckErr>
         requires mounted { is_mounted self.old.stage ≡ true }
-        ensures wrong { IfSome (write_refusal self.old.geometry) (λ why. result ≡ Err (CheckErr.Wrong why)) }
-        ensures writable { write_refusal self.old.geometry ≡ None → IfErr result IsWritable }
-        ensures cause { IsErrOf result CheckErr.DeviceFault → Rose (N.faults self.old.nor.now) (N.faults self.new.nor.now) }
-        ensures changes { Changes N.NorState self.old.nor.now self.new.nor.now (CheckCut self.old.geometry) }
-        ensures unmixed { N.tells self.old.nor.now → OnOk result (mixed_blocks self.old.geometry (N.bytes self.old.nor.now) ≡ 0) }
-        ensures mixed { N.tells self.old.nor.now → IfErr result (CountsMixed self.old.geometry (N.bytes self.old.nor.now)) }
-        ensures refused { IfErr result (λ why. IsRefusal why → OnlyReads N.NorState self.old.nor.now self.new.nor.now) }
-        ensures done { N.tells self.old.nor.now → IfOk result (λ report. CheckDone self.old.geometry (N.bytes self.old.nor.now) (N.bytes self.new.nor.now) report) }
-        ensures mends { N.tells self.old.nor.now → Recovers self.old.geometry (N.bytes self.old.nor.now) → IfOk result (λ report. 2 ≤ report.free_blocks) }
-        ensures apart { IfErr result IsApart }
-        ensures undamaged { N.tells self.old.nor.now → IfErr result IsUndamaged }
-        ensures idle { N.tells self.old.nor.now → IsTidy self.old.geometry (N.bytes self.old.nor.now) → HasReserve self.old.geometry (N.bytes self.old.nor.now) → OnlyReads N.NorState self.old.nor.now self.new.nor.now }
+        ensures checks { ChecksTo N.NorState self.old.geometry self.old.nor.now self.new.nor.now result }
         ensures taken { OnOk result (takes_calls self.new ≡ true) }
         ensures stage { OnErr result (self.new.stage ≡ self.old.stage) }
         ensures counted { OnOk result (self.new.counted ≡ true) }

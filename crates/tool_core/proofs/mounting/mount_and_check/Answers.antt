@@ -10,13 +10,13 @@ pub returns-in-Err-clause-stops : goal.returns-in-Err-clause-stops
 returns-in-Err-clause-stops g c = λ tells. rw c.mount_ending.ensures.ends (mount_stops c.args.volume.now.geometry c.in-Err.why c.in-Err.ensures.late c.mount.ensures.looks (c.in-Err.ensures.spoiled tells))
 
 pub returns-in-Ok-clause-changes : goal.returns-in-Ok-clause-changes
-returns-in-Ok-clause-changes g c = check_changes c.mount.new.self.geometry c.mount.ensures.same.geometry c.mount.ensures.looks c.check.ensures.changes
+returns-in-Ok-clause-changes g c = check_changes c.mount.new.self.geometry c.mount.ensures.same.geometry c.mount.ensures.looks c.check.ensures.checks.changes
 
 pub returns-in-Ok-clause-reported : goal.returns-in-Ok-clause-reported
-returns-in-Ok-clause-reported g c = λ tells. was_reported c.in-Ok.report c.mount.new.self.geometry c.mount.ensures.same.geometry c.mount.ensures.looks (search rules) (c.in-Ok.ensures.unmixed (c.mount.ensures.looks.told tells)) (c.in-Ok.ensures.done (c.mount.ensures.looks.told tells)) (c.in-Ok.ensures.mends (c.mount.ensures.looks.told tells))
+returns-in-Ok-clause-reported g c = λ tells. was_reported c.in-Ok.report c.mount.new.self.geometry c.mount.ensures.same.geometry c.mount.ensures.looks (search rules) (c.in-Ok.ensures.checks.unmixed (c.mount.ensures.looks.told tells)) (c.in-Ok.ensures.checks.done (c.mount.ensures.looks.told tells)) (c.in-Ok.ensures.checks.mends (c.mount.ensures.looks.told tells))
 
 pub returns-in-Err-check-clause-changes : goal.returns-in-Err-check-clause-changes
-returns-in-Err-check-clause-changes g c = check_changes c.mount.new.self.geometry c.mount.ensures.same.geometry c.mount.ensures.looks c.check.ensures.changes
+returns-in-Err-check-clause-changes g c = check_changes c.mount.new.self.geometry c.mount.ensures.same.geometry c.mount.ensures.looks c.check.ensures.checks.changes
 
 pub returns-in-Err-check-clause-stops : goal.returns-in-Err-check-clause-stops
-returns-in-Err-check-clause-stops g c = λ tells. rw c.check_ending.ensures.ends (check_stops c.in-Err-check.why c.mount.new.self.geometry c.mount.ensures.same.geometry (c.in-Err-check.ensures.writable (ap write_refusal c.mount.ensures.same.geometry ∙ c.requires)) c.mount.ensures.looks (search rules) c.in-Err-check.ensures.refused (c.in-Err-check.ensures.mixed (c.mount.ensures.looks.told tells)) (c.in-Err-check.ensures.undamaged (c.mount.ensures.looks.told tells)))
+returns-in-Err-check-clause-stops g c = λ tells. rw c.check_ending.ensures.ends (check_stops c.in-Err-check.why c.mount.new.self.geometry c.mount.ensures.same.geometry (c.in-Err-check.ensures.checks.writable (ap write_refusal c.mount.ensures.same.geometry ∙ c.requires)) c.mount.ensures.looks (search rules) c.in-Err-check.ensures.checks.refused (c.in-Err-check.ensures.checks.mixed (c.mount.ensures.looks.told tells)) (c.in-Err-check.ensures.checks.undamaged (c.mount.ensures.looks.told tells)))

@@ -1,57 +1,58 @@
 use Rattle.std.proofs.Common.{arith}
 use Rattle.std.proofs.lemmas.Result.{err_from_is_err_and}
 use Rattle.flash_view.proofs.Stepped.{view_image}
-use Rattle.volume.proofs.Clearing.{stages_apart, stages_undamaged, stages_cut, done_at_once, stop_writable, stop_mixed, stop_goes_on, stop_apart, cuts_on, ends_on, done_on, mends_on}
+use Rattle.volume.proofs.Clearing.{stages_apart, stages_undamaged, stages_cut, done_at_once, fails_on, cleans_on}
 use Rattle.volume.proofs.checking.check_pages.Goals as goal
 
-pub returns-in_err-report-clause-changes : goal.returns-in_err-report-clause-changes
-returns-in_err-report-clause-changes g c = stages_cut _ c.in_err-report.ensures.changes
+pub returns-in_err-report-clause-checks : goal.returns-in_err-report-clause-checks
+returns-in_err-report-clause-checks g c =
+    let p = err_from_is_err_and c.from_residual.result c.from_residual.ensures.1 in
+    let stages = c.in_err-report.ensures in
+    rw (p.1, p.2) (record {
+      wrong = stages.wrong;
+      writable = stages.writable;
+      few = tt;
+      cause = stages.cause;
+      changes = stages_cut _ stages.changes;
+      unmixed = λ tells. tt;
+      mixed = stages.mixed;
+      refused = stages.refused;
+      done = λ tells. tt;
+      mends = λ tells recovers. tt;
+      idle = λ tells tidy reserve. stages.idle tells tidy;
+      apart = stages_apart _ stages.among;
+      undamaged = λ tells. stages_undamaged _ stages.among;
+    })
 
-pub returns-in_err-report-clause-apart : goal.returns-in_err-report-clause-apart
-returns-in_err-report-clause-apart g c = let p = err_from_is_err_and c.from_residual.result c.from_residual.ensures.1 in rw (p.1, p.2) (stages_apart _ c.in_err-report.ensures.among)
+pub returns-then-report-ge2-clause-checks : goal.returns-then-report-ge2-clause-checks
+returns-then-report-ge2-clause-checks g c =
+    let stages = c.in_ok-report.ensures in
+    let enough = c.if-report-ge2.true in
+    record {
+      wrong = stages.wrong;
+      writable = λ fine. tt;
+      few = stages.few;
+      cause = λ is. absurd (cc);
+      changes = stages_cut _ stages.changes;
+      unmixed = stages.unmixed;
+      mixed = λ tells. tt;
+      refused = tt;
+      done = λ tells. done_at_once _ _ _ _ (stages.done tells) (omega (arith, enough));
+      mends = λ tells recovers. omega (arith, enough);
+      idle = λ tells tidy reserve. stages.idle tells tidy;
+      apart = tt;
+      undamaged = λ tells. tt;
+    }
 
-pub returns-in_err-report-clause-undamaged : goal.returns-in_err-report-clause-undamaged
-returns-in_err-report-clause-undamaged g c = let p = err_from_is_err_and c.from_residual.result c.from_residual.ensures.1 in rw (p.1, p.2) (λ tells. stages_undamaged _ c.in_err-report.ensures.among)
-
-pub returns-then-report-ge2-clause-changes : goal.returns-then-report-ge2-clause-changes
-returns-then-report-ge2-clause-changes g c = stages_cut _ c.in_ok-report.ensures.changes
-
-pub returns-then-report-ge2-clause-done : goal.returns-then-report-ge2-clause-done
-returns-then-report-ge2-clause-done g c = λ tells. let enough = c.if-report-ge2.true in done_at_once _ _ _ _ (c.in_ok-report.ensures.done tells) (omega (arith, enough))
-
-pub returns-in_err-free_blocks-clause-writable : goal.returns-in_err-free_blocks-clause-writable
-returns-in_err-free_blocks-clause-writable g c = let p = err_from_is_err_and c.from_residual-in_err-free_blocks.result c.from_residual-in_err-free_blocks.ensures.1 in rw (p.1, p.2) (λ fine. stop_writable _ c.in_err-free_blocks.ensures.means)
-
-pub returns-in_err-free_blocks-clause-mixed : goal.returns-in_err-free_blocks-clause-mixed
-returns-in_err-free_blocks-clause-mixed g c = let p = err_from_is_err_and c.from_residual-in_err-free_blocks.result c.from_residual-in_err-free_blocks.ensures.1 in rw (p.1, p.2) (λ tells. stop_mixed _ _ _ c.in_err-free_blocks.ensures.means)
-
-pub returns-in_err-free_blocks-clause-refused : goal.returns-in_err-free_blocks-clause-refused
-returns-in_err-free_blocks-clause-refused g c = let p = err_from_is_err_and c.from_residual-in_err-free_blocks.result c.from_residual-in_err-free_blocks.ensures.1 in rw (p.1, p.2) (λ refusal. absurd (stop_goes_on _ c.in_err-free_blocks.ensures.means refusal))
-
-pub returns-in_err-free_blocks-clause-apart : goal.returns-in_err-free_blocks-clause-apart
-returns-in_err-free_blocks-clause-apart g c = let p = err_from_is_err_and c.from_residual-in_err-free_blocks.result c.from_residual-in_err-free_blocks.ensures.1 in rw (p.1, p.2) (stop_apart _ c.in_err-free_blocks.ensures.means)
-
-pub returns-in_err-free_blocks-clause-changes : goal.returns-in_err-free_blocks-clause-changes
-returns-in_err-free_blocks-clause-changes g c =
-    let before = c.in_ok-report.ensures in
+pub returns-in_err-free_blocks-clause-checks : goal.returns-in_err-free_blocks-clause-checks
+returns-in_err-free_blocks-clause-checks g c =
+    let p = err_from_is_err_and c.from_residual-in_err-free_blocks.result c.from_residual-in_err-free_blocks.ensures.1 in
+    let stages = c.in_ok-report.ensures in
     let few = c.if-report-ge2.false in
-    cuts_on c.in_ok-report.report (omega (arith, few)) before.same before.done before.changes c.in_err-free_blocks.ensures.cuts
+    rw (p.1, p.2) (fails_on c.in_ok-report.report (omega (arith, few)) stages.same stages.wrong stages.done stages.changes c.in_err-free_blocks.ensures)
 
-pub returns-clause-changes : goal.returns-clause-changes
-returns-clause-changes g c =
-    let before = c.in_ok-report.ensures in
+pub returns-clause-checks : goal.returns-clause-checks
+returns-clause-checks g c =
+    let stages = c.in_ok-report.ensures in
     let few = c.if-report-ge2.false in
-    cuts_on c.in_ok-report.report (omega (arith, few)) before.same before.done before.changes c.in_ok-free_blocks.ensures.cuts
-
-pub returns-clause-done : goal.returns-clause-done
-returns-clause-done g c = λ tells.
-    let before = c.in_ok-report.ensures in
-    let few = c.if-report-ge2.false in
-    done_on _ _ _ c.in_ok-report.report (before.done tells) (omega (arith, few)) _ _ (ends_on c.in_ok-report.report _ before.same (before.done tells) (c.in_ok-free_blocks.ensures.ends (before.changes.cuts.told tells)))
-
-pub returns-clause-mends : goal.returns-clause-mends
-returns-clause-mends g c = λ tells recovers.
-    let before = c.in_ok-report.ensures in
-    let few = c.if-report-ge2.false in
-    let is = view_image c.check_stages.new.v (g.met.N.Nor.sized _) (before.changes.cuts.told tells) in
-    mends_on _ _ _ c.in_ok-report.report (before.done tells) (omega (arith, few)) _ _ (rw before.same.geometry at is) recovers (ends_on c.in_ok-report.report _ before.same (before.done tells) (c.in_ok-free_blocks.ensures.ends (before.changes.cuts.told tells)))
+    cleans_on c.in_ok-report.report (omega (arith, few)) stages.same stages.wrong stages.done stages.changes (λ tells. rw stages.same.geometry at (view_image c.check_stages.new.v (g.met.N.Nor.sized _) tells)) stages.few stages.unmixed c.in_ok-free_blocks.ensures
