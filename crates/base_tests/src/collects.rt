@@ -185,6 +185,22 @@ fn blocks_are_worth_cleaning_and_fit_by_their_pages(rt: HostRuntime) -> Result<(
             Some(1),
             false,
         ),
+    )?;
+    for block in 1..4usize {
+        put(&mut image, block * 4096 + 254, &[5]);
+    }
+    let worn = (true, true, 125);
+    check_row(
+        &rt,
+        rt.alloc(),
+        &g,
+        image.as_slice(),
+        (
+            "the others erased five times",
+            [(true, true, 305), worn, worn, free],
+            Some(0),
+            false,
+        ),
     )
 }
 

@@ -1,8 +1,8 @@
-//! A board and a script in memory: what calls, failures and power cuts leave.
+//! A board in memory: what power cuts leave.
 ghost use Rattle.std.specs.Prelude.{◌≡◌, ◌+◌, ◌<◌, ◌≤◌, length, IfOk};
 ghost use Rattle.std.specs.Option.{ForSome};
 
-use nor_core::{Board, CallKind, Failed, Mark, MemBoard, MemSource, Nor, NorState, Source, draw};
+use nor_core::{Board, Mark, MemBoard, Nor, NorState, draw};
 use std::alloc::Global;
 use std::test::Fail;
 
@@ -57,19 +57,6 @@ fn say_fails(board: &mut MemBoard, piece: &[u8]) -> bool
     board.say(piece).is_err()
 }
 
-// Whether each bit that the old and the asked byte have is left, and none is set that the old one has not.
-fn is_between(old: u8, asked: u8, new: u8) -> bool {
-    new & old & asked == old & asked && new & old == new
-}
-
-// What is asked of the byte at i by a program at `at`: outside it no bit is to be cleared.
-fn asked_of(i: usize, at: u32, asked: &[u8]) -> u8 {
-    match i.checked_sub(at as usize) {
-        Some(k) => asked.get(k).copied().unwrap_or(0xff),
-        None => 0xff,
-    }
-}
-
 // The mark's two bytes of a unit, read little endian.
 fn word_of(unit: &[u8], mark: Mark) -> Option<u16> {
     let at = mark.at as usize;
@@ -79,65 +66,9 @@ fn word_of(unit: &[u8], mark: Mark) -> Option<u16> {
 }
 
 #[test]
-fn a_board_is_programmed_and_erased(rt: HostRuntime) -> Result<(), Fail> {
-    let mut board = board_of(rt.alloc(), 0xff)?;
-    assert!(rt; !program_fails(&mut board, 3, &[0xf0, 0x0f]));
-    assert!(rt; !program_fails(&mut board, 3, &[0x3f]));
-    assert!(rt; !say_fails(&mut board, b"o"));
-    assert!(rt; !say_fails(&mut board, b"k"));
-    assert_eq!(rt; board.said(), b"ok".as_slice());
-    let mut into = [0u8; 4];
-    board.read(2, &mut into).ok().ok_or("read")?;
-    assert_eq!(rt; into.as_slice(), [0xff, 0x30, 0x0f, 0xff].as_slice());
-    Ok(())
-}
-
-#[test]
-fn an_erase_fills_its_unit(rt: HostRuntime) -> Result<(), Fail> {
-    let mut board = board_of(rt.alloc(), 0)?;
-    assert_eq!(rt; (board.size(), board.unit()), (16, 8));
-    assert!(rt;
-        !erase_fails(
-            &mut board,
-            0,
-            Some(Mark {
-                at: 4,
-                word: 0xffff
-            })
-        )
-    );
-    assert!(rt;
-        board
-            .image()
-            .starts_with(&[0xff, 0xff, 0xff, 0xff, 0xff, 0xff, 0xff, 0xff, 0])
-    );
-    Ok(())
-}
-
-#[test]
 fn the_generator_draws_what_was_worked_out(rt: HostRuntime) {
     let mut x = 0;
     assert_eq!(rt; draw(&mut x), 167951807);
-}
-
-#[test]
-fn a_cut_program_leaves_what_the_rules_allow(rt: HostRuntime) -> Result<(), Fail> {
-    let asked = [0x00, 0x5a, 0x0f];
-    for (fill, at) in [(0xff, 0), (0xa5, 6), (0xff, 13)] {
-        assert!(rt; at < 14);
-        for pick in 0..10 {
-            let mut board = board_of(rt.alloc(), fill)?;
-            board.cut_after(0, pick);
-            assert!(rt; program_fails(&mut board, at, &asked));
-            for (i, new) in board.image().iter().enumerate() {
-                let wanted = asked_of(i, at, &asked);
-                assert!(rt; is_between(fill, wanted, *new), "pick {pick}, byte {i}");
-                assert!(rt; pick != 0 || *new == fill, "byte {i}");
-                assert!(rt; pick != 1 || *new == fill & wanted, "byte {i}");
-            }
-        }
-    }
-    Ok(())
 }
 
 #[test]
@@ -158,22 +89,6 @@ fn a_cut_erase_leaves_what_the_rules_allow(rt: HostRuntime) -> Result<(), Fail> 
                 pick == 0 || word == 0 || word_of(unit, mark) != Some(word),
                 "pick {pick}"
             );
-        }
-    }
-    Ok(())
-}
-
-#[test]
-fn a_cut_say_leaves_a_front_of_the_piece(rt: HostRuntime) -> Result<(), Fail> {
-    for piece in [b"".as_slice(), b"o".as_slice(), b"mount".as_slice()] {
-        for pick in 0..10 {
-            let mut board = board_of(rt.alloc(), 0xff)?;
-            board.cut_after(0, pick);
-            assert!(rt; say_fails(&mut board, piece));
-            let said = board.said();
-            assert!(rt; piece.starts_with(said), "pick {pick}");
-            assert!(rt; pick != 0 || said.is_empty());
-            assert!(rt; pick != 1 || said.len() == piece.len());
         }
     }
     Ok(())
@@ -226,38 +141,5 @@ fn the_power_goes_off_once_some_calls_have_passed_and_stays_off(
     assert!(rt; read_fails(&mut board));
     assert!(rt; board.image().starts_with(&[0x0f, 0x0f, 0xff]));
     assert_eq!(rt; board.said(), b"ok".as_slice());
-    Ok(())
-}
-
-#[test]
-fn the_nth_call_of_a_kind_fails_and_no_other(rt: HostRuntime) -> Result<(), Fail> {
-    let mut board = board_of(rt.alloc(), 0xff)?;
-    board.fail_nth(CallKind::Read, 2);
-    board.fail_nth(CallKind::Program, 1);
-    board.fail_nth(CallKind::Program, 2);
-    board.fail_nth(CallKind::Say, 2);
-    assert!(rt; !read_fails(&mut board));
-    assert!(rt; read_fails(&mut board));
-    assert!(rt; !program_fails(&mut board, 0, &[0xf0]));
-    assert!(rt; program_fails(&mut board, 0, &[0x0f]));
-    assert!(rt; !say_fails(&mut board, b"a"));
-    assert!(rt; say_fails(&mut board, b"b"));
-    assert!(rt; !say_fails(&mut board, b"c"));
-    assert!(rt; board.image().starts_with(&[0xf0, 0xff]));
-    assert_eq!(rt; board.said(), b"ac".as_slice());
-    Ok(())
-}
-
-#[test]
-fn a_script_is_taken_in_pieces_to_its_end(rt: HostRuntime) -> Result<(), Fail> {
-    let mut source = MemSource::new(b"mount".to_vec(rt.alloc())?);
-    let mut into = [0u8; 3];
-    assert_eq!(rt; source.read(&mut into), Ok(3));
-    assert_eq!(rt; into.as_slice(), b"mou".as_slice());
-    source.fail_nth(1);
-    assert_eq!(rt; source.read(&mut into), Err(Failed));
-    assert_eq!(rt; source.read(&mut into), Ok(2));
-    assert_eq!(rt; into.as_slice(), b"ntu".as_slice());
-    assert_eq!(rt; source.read(&mut into), Ok(0));
     Ok(())
 }

@@ -51,25 +51,6 @@ fn put_hello(image: &mut Vec<u8>) {
     put(image, 557, &[0x11, 0]);
 }
 
-// A file of 30 data pages that fill two blocks.
-fn put_big(image: &mut Vec<u8>) {
-    put(image, 0, &[1, 0x80]);
-    put(
-        image,
-        256,
-        &[1, 0x80, 0, 0, 0xF8, 0xFF, 0xFF, 0xFF, 0x6A, 0x1D, 0, 0, 1],
-    );
-    put(image, 269, b"big");
-    put(image, 272, &[0; 29]);
-    for span in 0..30u8 {
-        let page = if span < 15 { 17 + span } else { 18 + span };
-        let block = if span < 15 { 1 } else { 2 };
-        put(image, 301 + 2 * span as usize, &[page, 0]);
-        put(image, block * 4096 + 2 * (span % 15) as usize, &[1, 0]);
-        put(image, page as usize * 256, &[1, 0, span, 0, 0xFC]);
-    }
-}
-
 // Both kinds of pages in one block.
 fn put_mixed(image: &mut Vec<u8>) {
     put(image, 0, &[1, 0x80, 1, 0]);
@@ -178,7 +159,7 @@ fn images_mean_what_was_written(rt: HostRuntime) -> Result<(), Fail> {
 }
 
 #[test]
-fn a_mixed_block_and_two_full_ones(rt: HostRuntime) -> Result<(), Fail> {
+fn a_block_may_hold_both_kinds_of_pages(rt: HostRuntime) -> Result<(), Fail> {
     let g = Geometry::new(256, 4096, 16, 4096, 4, MagicKind::Length)?;
     let mut image = blocks_with_magic(rt.alloc(), &g, &[0xFF, 0xFF])?;
     put_mixed(&mut image);
@@ -189,17 +170,7 @@ fn a_mixed_block_and_two_full_ones(rt: HostRuntime) -> Result<(), Fail> {
         5,
         [0, 0, 15, 1],
     );
-    check_row(&rt, rt.alloc(), &g, image.as_slice(), row)?;
-    let small = Geometry::new(256, 4096, 4, 4096, 0, MagicKind::Length)?;
-    let mut full = blocks_with_magic(rt.alloc(), &small, &[0, 0])?;
-    put_big(&mut full);
-    check_row(
-        &rt,
-        rt.alloc(),
-        &small,
-        full.as_slice(),
-        ("full data blocks", b"big", b"", 7530, [0, 0, 1, 0]),
-    )
+    check_row(&rt, rt.alloc(), &g, image.as_slice(), row)
 }
 
 // The cause of the first damaged file.

@@ -4,15 +4,9 @@
 #[cfg(test)]
 mod bytes;
 #[cfg(test)]
-mod caches;
-#[cfg(test)]
 mod chips;
 #[cfg(test)]
-mod choices;
-#[cfg(test)]
 mod collects;
-#[cfg(test)]
-mod descriptors;
 #[cfg(test)]
 mod devices;
 #[cfg(test)]
@@ -30,8 +24,4 @@ mod lines;
 #[cfg(test)]
 mod numbers;
 #[cfg(test)]
-mod reads;
-#[cfg(test)]
 mod shares;
-#[cfg(test)]
-mod windows;

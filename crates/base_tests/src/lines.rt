@@ -1,7 +1,7 @@
 //! Lines of a script, and those that tell replies.
-use call_script::{parse_line, parse_number, reply_text};
+use call_script::{parse_line, reply_text};
 use std::test::Fail;
-use table_model::{FsErr, Info, Meta, Name, Reply, Stat};
+use table_model::{FsErr, Info, Reply};
 
 #[test]
 fn each_form_of_a_line_spells_its_call(rt: HostRuntime) -> Result<(), Fail> {
@@ -134,35 +134,6 @@ fn other_lines_are_refused(rt: HostRuntime) {
 }
 
 #[test]
-fn a_line_has_4096_bytes_at_most(rt: HostRuntime) {
-    let mut scratch = [0; 4096];
-    let mut line = [b'a'; 4096];
-    line[..7].copy_from_slice(b"create ");
-    assert!(rt; parse_line(&line, &mut scratch).is_ok());
-    assert!(rt; parse_line(&[b'#'; 4096], &mut scratch).is_ok());
-    assert!(rt; parse_line(&[b'#'; 4097], &mut scratch).is_err());
-}
-
-#[test]
-fn a_number_has_no_sign_and_no_leading_zero(rt: HostRuntime) {
-    for (word, number) in [
-        (b"0".as_slice(), Some(0)),
-        (b"18446744073709551615", Some(u64::MAX)),
-        (b"18446744073709551616", None),
-        (b"99999999999999999999", None),
-        (b"", None),
-        (b"00", None),
-        (b"+1", None),
-        (b"-1", None),
-        (b"1a", None),
-    ] {
-        assert_eq!(rt; parse_number(word, u64::MAX), number, "at {word:?}");
-    }
-    assert_eq!(rt; parse_number(b"4294967295", 4294967295), Some(4294967295));
-    assert_eq!(rt; parse_number(b"4294967296", 4294967295), None);
-}
-
-#[test]
 fn each_reply_has_its_line(rt: HostRuntime) {
     let info = Info {
         files: 2,
@@ -181,25 +152,6 @@ fn each_reply_has_its_line(rt: HostRuntime) {
         (Reply::Refusal(FsErr::Full), b"-10001\n"),
     ] {
         let length = reply_text(&reply, &mut into);
-        assert_eq!(rt; &into[..length], told);
-    }
-}
-
-#[test]
-fn a_record_tells_its_meta_bytes_where_there_are_some(rt: HostRuntime) {
-    let mut into = [0; 4096];
-    for (meta, told) in [
-        (b"".as_slice(), b"ok 7 1 12 a%20b\n".as_slice()),
-        (b"\x00\xaf", b"ok 7 1 12 a%20b 00AF\n"),
-    ] {
-        let stat = Stat {
-            id: 7,
-            kind: 1,
-            size: 12,
-            name: Name::from_slice(b"a b"),
-            meta: Meta::from_slice(meta),
-        };
-        let length = reply_text(&Reply::File(stat), &mut into);
         assert_eq!(rt; &into[..length], told);
     }
 }

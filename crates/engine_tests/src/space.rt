@@ -1,6 +1,6 @@
 //! What is free on a volume, as files come and go.
 use crate::bench::{Memory, board_of};
-use crate::hand::{filed, small};
+use crate::images::{filed, small};
 use std::test::Fail;
 use table_model::FsErr;
 use vol_mount::accept;

@@ -1,13 +1,12 @@
 //! Writes and truncates on a volume itself, and devices that fail in them.
 use crate::bench::{Memory, board_of};
-use crate::hand::{filed, small};
-use crate::tables::table;
+use crate::images::{filed, small};
 use nor_core::{CallKind, MemBoard};
 use std::alloc::Global;
 use std::process::Abort;
 use std::test::Fail;
 use table_model::{Call, FsErr, Whence};
-use vol_mount::accept;
+use vol_mount::{Reader, accept};
 use volume::{Told, Volume};
 
 // A device with the file `ba` of 502 bytes in two data pages, of which the program of that number is to fail.
@@ -53,16 +52,15 @@ fn a_volume_that_is_unmounted_has_all_its_bytes_on_the_chip(rt: HostRuntime) -> 
     volume.mount()?;
     volume.check()?;
     write_and_cut(&rt, &mut volume);
-    let before = table(alloc, &g, volume.nor.image())?;
-    assert_eq!(rt; before.first().map(|file| file.bytes.len()), Some(7));
     assert_eq!(rt; volume.unmount().last, Ok(()));
-    let after = table(alloc, &g, board.image())?;
-    assert_eq!(rt; after.len(), 1);
-    assert!(rt;
-        after
-            .first()
-            .is_some_and(|file| file.bytes.as_slice() == b"xyz\0fffw".as_slice())
-    );
+    let mut memory = Memory::new(alloc, &g)?;
+    let lent = memory.lend();
+    accept(&g, &board, &lent)?;
+    let mut reader = Reader::new(g, &mut board, lent);
+    reader.mount()?;
+    let mut into = [7u8; 9];
+    assert_eq!(rt; reader.read_at(1, 0, &mut into), Ok(8));
+    assert_eq!(rt; into, *b"xyz\0fffw\x07");
     Ok(())
 }
 
