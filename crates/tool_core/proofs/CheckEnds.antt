@@ -4,10 +4,10 @@ use Rattle.std.specs.Prelude.{zero, suc, unwrap_or}
 use Rattle.std.proofs.lemmas.List.{take-append-drop}
 use Rattle.geometry.specs.declared.geometry.Geometry.{Geometry}
 use Rattle.nor_core.specs.declared.state.NorState.{Ghosts as NorOf}
-use Rattle.nor_core.specs.Device.{Leaves, InSay, Says, Changes}
+use Rattle.nor_core.specs.Device.{Leaves, InSay, OnlyReads, Says, Changes}
 use Rattle.nor_core.proofs.Cuts.{andthen, widened}
 use Rattle.image_model.specs.Tables.{damaged_of}
-use Rattle.image_model.specs.Tidy.{free_blocks}
+use Rattle.image_model.specs.Tidy.{IsTidy, HasReserve, free_blocks}
 use Rattle.vol_check.specs.declared.report.Report.{Report}
 use Rattle.volume.specs.Checking.{CheckDone}
 use Rattle.tool_core.specs.declared.ending.Ending.{Ending}
@@ -17,7 +17,7 @@ use Rattle.tool_core.specs.Checking.{report_text, check_text, reported_text, Rep
 use Rattle.tool_core.specs.Endings.{Speaks}
 use Rattle.tool_core.specs.Refusals.{report_ending, check_ending}
 use Rattle.tool_core.proofs.Refusals.{not_both, no_fault}
-use Rattle.tool_core.proofs.Speaking.{writes_none}
+use Rattle.tool_core.proofs.Speaking.{writes_none, none_said}
 
 -- a front of one text is no text with another first byte
 pub other_first : (n x y : ℕ) (xs ys : List ℕ) → (x ≡ y → ⊥) → take n (x ∷ xs) ≡ y ∷ ys → ⊥
@@ -47,6 +47,10 @@ line_of g was now report done = same_line _ _ _ _ _ _ _ _ done.erased done.kille
 report_text_is : (g : Geometry) (was now : List ℕ) (report : Report) {piece : List ℕ} → piece ≡ report_text report.erased report.killed report.damaged report.free_blocks → Reported g was now report → piece ≡ reported_text g was now
 report_text_is g was now report piece_is reported = rw reported.takes (piece_is ∙ line_of g was now report reported.done)
 
+-- a tidy image with two free blocks is only read
+abbrev pub IsIdle : {D : Type 0} (nor : NorOf D) (g : Geometry) (old new : D) → Type 0
+IsIdle nor g old new = nor.tells old → IsTidy g (nor.bytes old) → HasReserve g (nor.bytes old) → OnlyReads nor old new
+
 module _ {D : Type 0} {nor : NorOf D} {g : Geometry} where
   -- a change before which and in which nothing was said
   unsaid : {old new : D} → Changes nor old new (Checks g) → Leaves nor old new (λ image count. nor.tells old → ReportCut nor g old new image count)
@@ -64,14 +68,15 @@ module _ {D : Type 0} {nor : NorOf D} {g : Geometry} where
   unsaid_order {old} {new} changes = λ tail e. absurd (nothing_else (nor.said old) (check_text g (nor.bytes old) (nor.bytes new)) tail (omega arith) (sym changes.said ∙ e))
 
   -- a check that said no report: the board failed, or the image wasn't taken
-  pub check_stopped : {old new : D} (ending : Ending) → Changes nor old new (Checks g) → (nor.tells old → StopsCheck nor g old new ending) → ChecksTo nor g old new ending
-  check_stopped {old} {new} ending changes stops = record {
+  pub check_stopped : {old new : D} (ending : Ending) → Changes nor old new (Checks g) → IsIdle nor g old new → (nor.tells old → StopsCheck nor g old new ending) → ChecksTo nor g old new ending
+  check_stopped {old} {new} ending changes idle stops = record {
     cuts = unsaid changes;
     speaks = λ tells. ⊎_elim
         (λ fault. inl (fault, record { part = []; rest = reported_text g (nor.bytes old) (nor.bytes new); said = said_none changes; whole_is = refl }))
         (λ refused. rw refused.refusal (inr (refl, said_none changes)))
         (stops tells);
     kept = λ tells is. ⊎_elim (λ fault. absurd (no_fault g (nor.bytes old) ending is fault)) (λ refused. writes_none refused.reads) (stops tells);
+    idle = λ tells tidy reserve. writes_none (idle tells tidy reserve);
     leaves = changes.now;
     ordered = λ tells. unsaid_order changes;
     mends = λ tells may. ⊎_elim (λ fault. inl fault) (λ refused. absurd (not_both may.takes refused.refusal)) (stops tells);
@@ -101,23 +106,24 @@ module _ {D : Type 0} {nor : NorOf D} {g : Geometry} where
   reported_said {old} {mid} {new} report says done = subst (λ (l : List ℕ). Reported g (nor.bytes old) l report) (sym says.bytes) done
 
   -- a check that came to its report
-  with_report : {old mid new : D} {piece : List ℕ} (result : Ending) (report : Report) → piece ≡ report_text report.erased report.killed report.damaged report.free_blocks → Changes nor old mid (Checks g) →
+  with_report : {old mid new : D} {piece : List ℕ} (result : Ending) (report : Report) → piece ≡ report_text report.erased report.killed report.damaged report.free_blocks → Changes nor old mid (Checks g) → IsIdle nor g old mid →
       (nor.tells old → Reported g (nor.bytes old) (nor.bytes mid) report) → Says nor mid new piece → Leaves nor mid new (InSay nor mid piece) →
       (nor.tells old → Speaks nor old new (reported_text g (nor.bytes old) (nor.bytes new)) (check_ending g (nor.bytes old) (nor.bytes new)) result) → ChecksTo nor g old new result
-  with_report {old} {mid} {new} {piece} result report piece_is changes done says leaves speaks = record {
+  with_report {old} {mid} {new} {piece} result report piece_is changes idle done says leaves speaks = record {
     cuts = report_cuts changes says leaves (λ tells. report_text_is g (nor.bytes old) (nor.bytes new) report piece_is (reported_said report says (done tells)));
     speaks = speaks;
     kept = λ tells is. absurd (not_both (done tells).takes is);
+    idle = λ tells tidy reserve. none_said (idle tells tidy reserve) says leaves;
     leaves = λ tells. subst (λ (l : List ℕ). Checks g (nor.bytes old) l) (sym says.bytes) (changes.now tells);
     ordered = λ tells tail e. let w = (reported_said report says (done tells)).done in record { tidy = w.tidy; stopped = w.stopped };
     mends = λ tells may. inr ((reported_said report says (done tells)).mends may.recovers);
   }
 
   -- a check that said its report
-  pub check_reported : {old mid new : D} {piece : List ℕ} (result : Ending) (report : Report) → piece ≡ report_text report.erased report.killed report.damaged report.free_blocks → result ≡ report_ending report.damaged report.free_blocks → Changes nor old mid (Checks g) →
+  pub check_reported : {old mid new : D} {piece : List ℕ} (result : Ending) (report : Report) → piece ≡ report_text report.erased report.killed report.damaged report.free_blocks → result ≡ report_ending report.damaged report.free_blocks → Changes nor old mid (Checks g) → IsIdle nor g old mid →
       (nor.tells old → Reported g (nor.bytes old) (nor.bytes mid) report) → Says nor mid new piece → Leaves nor mid new (InSay nor mid piece) → (nor.tells mid → nor.said new ≡ nor.said mid ++ piece) → ChecksTo nor g old new result
-  check_reported {old} {mid} {new} {piece} result report piece_is is changes done says leaves whole =
-      with_report result report piece_is changes done says leaves (λ tells.
+  check_reported {old} {mid} {new} {piece} result report piece_is is changes idle done says leaves whole =
+      with_report result report piece_is changes idle done says leaves (λ tells.
       let now = reported_said report says (done tells) in
       let text = report_text_is g (nor.bytes old) (nor.bytes new) report piece_is now in
       inr (
@@ -126,11 +132,11 @@ module _ {D : Type 0} {nor : NorOf D} {g : Geometry} where
       ))
 
   -- the board failed as it said it
-  pub check_broken : {old mid new : D} {piece : List ℕ} (report : Report) → piece ≡ report_text report.erased report.killed report.damaged report.free_blocks → Changes nor old mid (Checks g) →
+  pub check_broken : {old mid new : D} {piece : List ℕ} (report : Report) → piece ≡ report_text report.erased report.killed report.damaged report.free_blocks → Changes nor old mid (Checks g) → IsIdle nor g old mid →
       (nor.tells old → Reported g (nor.bytes old) (nor.bytes mid) report) → Says nor mid new piece → Leaves nor mid new (InSay nor mid piece) → ChecksTo nor g old new BoardFault
-  check_broken {old} {mid} {new} {piece} report piece_is changes done says leaves =
+  check_broken {old} {mid} {new} {piece} report piece_is changes idle done says leaves =
       let n = says.said.0 in
-      with_report BoardFault report piece_is changes done says leaves (λ tells.
+      with_report BoardFault report piece_is changes idle done says leaves (λ tells.
       let text = report_text_is g (nor.bytes old) (nor.bytes new) report piece_is (reported_said report says (done tells)) in
       inl (
         refl,

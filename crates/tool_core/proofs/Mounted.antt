@@ -5,6 +5,7 @@ use Rattle.nor_core.specs.declared.state.NorState.{Ghosts as NorOf}
 use Rattle.nor_core.specs.Device.{OnlyReads, Changes}
 use Rattle.nor_core.proofs.Cuts.{wider, unchanged, read_after, after_reads, reads_then}
 use Rattle.image_model.specs.Kinds.{spoiled_blocks, mixed_blocks}
+use Rattle.image_model.specs.Tidy.{IsTidy, HasReserve}
 use Rattle.room_laws.specs.Recovery.{Recovers}
 use Rattle.call_model.specs.Safe.{IsSafe, Holds}
 use Rattle.call_model.proofs.Safety.{safe_as}
@@ -67,6 +68,13 @@ module _ {D : Type 0} {nor : NorOf D} {g : Geometry} where
   check_stops CheckFault h same writable reads few refused counts whole = inl refl
   check_stops (CheckWrong why) h same writable reads few refused counts whole = absurd writable
   check_stops (CheckDamaged differ) h same writable reads few refused counts whole = absurd whole
+
+  -- a check after mounting that only reads
+  pub check_idle : {old mid new : D} (h : Geometry) → h ≡ g → OnlyReads nor old mid → (nor.tells mid → IsTidy h (nor.bytes mid) → HasReserve h (nor.bytes mid) → OnlyReads nor mid new) → nor.tells old → IsTidy g (nor.bytes old) → HasReserve g (nor.bytes old) → OnlyReads nor old new
+  check_idle {old} {mid} {new} h same reads idle tells tidy reserve =
+      let here : IsTidy h (nor.bytes mid) = subst (λ (l : List ℕ). IsTidy h l) (sym reads.bytes) (subst (λ (k : Geometry). IsTidy k (nor.bytes old)) (sym same) tidy) in
+      let two : HasReserve h (nor.bytes mid) = subst (λ (l : List ℕ). HasReserve h l) (sym reads.bytes) (subst (λ (k : Geometry). HasReserve k (nor.bytes old)) (sym same) reserve) in
+      reads_then reads (idle (reads.told tells) here two)
 
   -- mounting changes nothing
   pub mount_changes : {old mid : D} → OnlyReads nor old mid → Changes nor old mid (Checks g)

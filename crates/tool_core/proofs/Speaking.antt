@@ -4,7 +4,7 @@ use Rattle.std.proofs.lemmas.List.{take-append-drop}
 use Rattle.geometry.specs.declared.geometry.Geometry.{Geometry}
 use Rattle.nor_core.specs.declared.state.NorState.{Ghosts as NorOf}
 use Rattle.nor_core.specs.Count.{Rose}
-use Rattle.nor_core.specs.Device.{OnlyReads}
+use Rattle.nor_core.specs.Device.{Leaves, InSay, OnlyReads, Says}
 use Rattle.nor_core.proofs.Cuts.{andthen, widened, read_on}
 use Rattle.image_model.specs.Tidy.{HasReserve}
 use Rattle.image_tool.specs.Saying.{OnlySays}
@@ -88,6 +88,14 @@ module _ {D : Type 0} {nor : NorOf D} where
   -- reads write nothing
   pub writes_none : {old new : D} → OnlyReads nor old new → WritesNone nor old new
   writes_none {old} {new} reads = record { bytes = reads.bytes; writes = reads.writes; cuts = read_on _ reads }
+
+  -- nor does a piece that is said after them
+  pub none_said : {old mid new : D} {piece : List ℕ} → OnlyReads nor old mid → Says nor mid new piece → Leaves nor mid new (InSay nor mid piece) → WritesNone nor old new
+  none_said {old} {mid} {new} reads says cuts = record {
+    bytes = says.bytes ∙ reads.bytes;
+    writes = says.writes ∙ reads.writes;
+    cuts = andthen (read_on _ reads) (widened cuts (λ image count here tells. here.all_bytes (reads.told tells) ∙ reads.bytes));
+  }
 
   -- nor does a closing line
   pub none_closed : {old mid new : D} {result : Ending} {status : ℕ} → WritesNone nor old mid → OnlyCloses nor mid new result status → WritesNone nor old new

@@ -55,6 +55,7 @@ pub record ChecksTo {D : Type 0} (nor : NorOf D) (g : Geometry) (old new : D) (r
   pub cuts : Leaves nor old new (λ image count. nor.tells old → ReportCut nor g old new image count)
   pub speaks : nor.tells old → Speaks nor old new (reported_text g (nor.bytes old) (nor.bytes new)) (check_ending g (nor.bytes old) (nor.bytes new)) result
   pub kept : nor.tells old → check_refusal g (nor.bytes old) ≡ Some result → WritesNone nor old new
+  pub idle : nor.tells old → IsTidy g (nor.bytes old) → HasReserve g (nor.bytes old) → WritesNone nor old new
   pub leaves : nor.tells old → Checks g (nor.bytes old) (nor.bytes new)
   pub ordered : nor.tells old → IsOrderedOnceSaid nor g old new
   pub mends : nor.tells old → IsMendable g (nor.bytes old) → (result ≡ BoardFault) ⊎ HasReserve g (nor.bytes new)
@@ -81,6 +82,8 @@ pub record DoesCheck {D : Type 0} (nor : NorOf D) (g : Geometry) (cache : ℕ) (
   pub mends : nor.tells old → IsMendable g (nor.bytes old) → HasMended nor g new status
   -- an image that isn't taken stays
   pub kept : nor.tells old → (ending : Ending) → check_refusal g (nor.bytes old) ≡ Some ending → status ≢ 7 → WritesNone nor old new
+  -- a tidy image with two free blocks is only read
+  pub idle : nor.tells old → IsTidy g (nor.bytes old) → HasReserve g (nor.bytes old) → WritesNone nor old new
   -- what a cut at any moment leaves
   pub cuts : Leaves nor old new (λ image count. nor.tells old → CheckCut nor g old new image count)
   -- the bytes behind the volume stay

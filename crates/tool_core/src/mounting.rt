@@ -1,7 +1,8 @@
 ghost use Rattle.std.specs.Prelude.{◌≡◌, ◌≢◌, length, min, IfOk, IfErr, OnOk, Err, None, true};
 ghost use Rattle.geometry.specs.Numbers.{write_refusal};
 ghost use Rattle.nor_core.specs.Count.{Rose};
-ghost use Rattle.nor_core.specs.Device.{Changes};
+ghost use Rattle.nor_core.specs.Device.{Changes, OnlyReads};
+ghost use Rattle.image_model.specs.Tidy.{IsTidy, HasReserve};
 ghost use Rattle.vol_mount.specs.Mounts.{IsLate};
 ghost use Rattle.vol_check.specs.Checks.{IsWritable};
 ghost use Rattle.volume.specs.Holds.{memory};
@@ -60,6 +61,7 @@ pub(crate) fn mount_and_check<B: Board>(volume: &mut Volume<'_, B>) -> Result<Re
     ensures same { IsSameVolume volume.old volume.new }
     ensures changes { Changes B.NorState volume.old.nor.now volume.new.nor.now (Checks volume.old.geometry) }
     ensures reported { B.tells volume.old.nor.now → IfOk result (Reported volume.old.geometry (B.bytes volume.old.nor.now) (B.bytes volume.new.nor.now)) }
+    ensures idle { B.tells volume.old.nor.now → IsTidy volume.old.geometry (B.bytes volume.old.nor.now) → HasReserve volume.old.geometry (B.bytes volume.old.nor.now) → OnlyReads B.NorState volume.old.nor.now volume.new.nor.now }
     ensures stops { B.tells volume.old.nor.now → IfErr result (StopsCheck B.NorState volume.old.geometry volume.old.nor.now volume.new.nor.now) }
 {
     if let Err(why) = volume.mount() {

@@ -1,5 +1,5 @@
 //! Calls over a view of a reader's device, with the copies of its pages that are there.
-ghost use Rattle.std.specs.Prelude.{◌≡◌, ◌*◌, ◌<◌, ◌≤◌, length, OnOk, OnErr, IfOk, IfErr, IfSome, IsErrOf, Err};
+ghost use Rattle.std.specs.Prelude.{◌≡◌, ◌^◌, ◌+◌, ◌*◌, ◌<◌, ◌≤◌, length, OnOk, OnErr, IfOk, IfErr, IfSome, IsErrOf, Err};
 ghost use Rattle.std.specs.Option.{option_map};
 ghost use Rattle.geometry.specs.Numbers.{scratch_need, cache_need, check_need};
 ghost use Rattle.nor_core.specs.Count.{Rose};
@@ -182,6 +182,7 @@ pub(crate) fn read_on<N: Nor>(
     requires marked { N.tells nor.old → IsMarked g (N.bytes nor.old) marks.now }
     ensures cause { IsErrOf result FsErr.DeviceFault → Rose (N.faults nor.old) (N.faults nor.new) }
     ensures only { IfErr result (IsReadErr id) }
+    ensures within { IfOk result (λ n. (n ≤ length into.old) × (at + n < 2 ^ 32)) }
     ensures looks { OnlyReads N.NorState nor.old nor.new }
     ensures kept { IsKept N.NorState g nor.new cache.new }
     ensures few { FewReads N.NorState g nor.old cache.old nor.new cache.new }

@@ -23,6 +23,7 @@ fn erase_block<N: Nor>(g: &Geometry, nor: &mut N, block: u32) -> Result<(), Fail
     ensures cause { OnErr result (Rose (N.faults nor.old) (N.faults nor.new)) }
     ensures changes { Changes N.NorState nor.old nor.new (SameOutside 0 (g.now.blocks * g.now.block)) }
     ensures done { N.tells nor.old → OnOk result (ErasedTo g.now block g.now.block (N.bytes nor.old) (N.bytes nor.new)) }
+    ensures few { N.device_writes nor.new ≤ N.device_writes nor.old + g.now.block / g.now.phys }
 {
     let units = g.block() / g.phys();
     let mark = Mark {
@@ -44,6 +45,7 @@ fn format_block<N: Nor>(g: &Geometry, nor: &mut N, block: u32) -> Result<(), Fai
     ensures cause { OnErr result (Rose (N.faults nor.old) (N.faults nor.new)) }
     ensures changes { Changes N.NorState nor.old nor.new (SameOutside 0 (g.now.blocks * g.now.block)) }
     ensures done { N.tells nor.old → OnOk result (MakesBlank g.now block (N.bytes nor.old) (N.bytes nor.new)) }
+    ensures few { N.device_writes nor.new ≤ N.device_writes nor.old + (g.now.block / g.now.phys + 2) }
 {
     erase_block(g, nor, block)?;
     let start = block * g.block();
@@ -58,6 +60,7 @@ fn format_blocks<N: Nor>(g: &Geometry, nor: &mut N) -> Result<(), Failed>
     ensures cause { OnErr result (Rose (N.faults nor.old) (N.faults nor.new)) }
     ensures changes { Changes N.NorState nor.old nor.new (SameOutside 0 (g.now.blocks * g.now.block)) }
     ensures done { N.tells nor.old → OnOk result (BlankTo g.now g.now.blocks (N.bytes nor.old) (N.bytes nor.new)) }
+    ensures few { N.device_writes nor.new ≤ N.device_writes nor.old + g.now.blocks * (g.now.block / g.now.phys + 2) }
 {
     for block in 0..g.blocks() {
         format_block(g, nor, block)?;
@@ -68,7 +71,7 @@ fn format_blocks<N: Nor>(g: &Geometry, nor: &mut N) -> Result<(), Failed>
 /// Makes an empty volume: every block is erased, its erase count is 0, and its magic is right. A volume
 /// that may not be written and a device that doesn't fit are refused first (`Wrong`); where the device
 /// fails, it can be called again. A cut inside leaves what the next call makes good. Done, failed or cut off, it changes
-/// no byte behind the volume.
+/// no byte behind the volume. Of each block it erases each unit once, and makes two programs.
 pub fn format<N: Nor>(g: &Geometry, nor: &mut N) -> Result<(), MountErr>
     ensures writable { IfSome (write_refusal g.now) (λ why. result ≡ Err (MountErr.Wrong why)) }
     ensures chip { write_refusal g.now ≡ None → is_wrong_chip g.now (N.unit nor.old) (N.size nor.old) ≡ true → result ≡ Err (MountErr.Wrong GeoErr.WrongChip) }
@@ -77,6 +80,7 @@ pub fn format<N: Nor>(g: &Geometry, nor: &mut N) -> Result<(), MountErr>
     ensures cause { result ≡ Err MountErr.DeviceFault → Rose (N.faults nor.old) (N.faults nor.new) }
     ensures changes { Changes N.NorState nor.old nor.new (SameOutside 0 (g.now.blocks * g.now.block)) }
     ensures done { N.tells nor.old → OnOk result (IsFormatted g.now (N.bytes nor.old) (N.bytes nor.new)) }
+    ensures few { N.device_writes nor.new ≤ N.device_writes nor.old + g.now.blocks * (g.now.block / g.now.phys + 2) }
 {
     if let Err(why) = g.writable() {
         return Err(MountErr::Wrong(why));

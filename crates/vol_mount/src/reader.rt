@@ -40,7 +40,7 @@ pub struct Reader<'b, N: Nor> {
 }
 
 impl<'b, N: Nor> Reader<'b, N> {
-    ghost use Rattle.std.specs.Prelude.{◌≡◌, ◌*◌, ◌<◌, ◌≤◌, length, OnOk, OnErr, IsErrOf, IfOk, IfErr, IfSome, Err, true, false};
+    ghost use Rattle.std.specs.Prelude.{◌≡◌, ◌+◌, ◌*◌, ◌^◌, ◌<◌, ◌≤◌, length, OnOk, OnErr, IsErrOf, IfOk, IfErr, IfSome, Err, true, false};
     ghost use Rattle.std.specs.Option.{option_map};
     ghost use Rattle.geometry.specs.Numbers.{work_need, cache_need, check_need};
     ghost use Rattle.nor_core.specs.Count.{Rose};
@@ -132,6 +132,7 @@ impl<'b, N: Nor> Reader<'b, N> {
         ensures above { IfOk result (λ found. IfSome found (λ stat. after < stat.id)) }
         ensures looks { OnlyReads N.NorState self.old.nor.now self.new.nor.now }
         ensures told { N.tells self.old.nor.now → IfOk result (λ found. found ≡ option_map stat_of (file_above after (table_of self.old.geometry (N.bytes self.old.nor.now)))) }
+        ensures known { OnOk result (self.new.known ≡ true) }
         ensures same { IsSameReader self.old self.new }
     {
         match self.survey() {
@@ -162,6 +163,7 @@ impl<'b, N: Nor> Reader<'b, N> {
         ensures above { IfOk result (λ found. IfSome found (λ damaged. after < damaged.0)) }
         ensures looks { OnlyReads N.NorState self.old.nor.now self.new.nor.now }
         ensures told { N.tells self.old.nor.now → IfOk result (λ found. found ≡ damaged_above self.old.geometry (N.bytes self.old.nor.now) after) }
+        ensures known { OnOk result (self.new.known ≡ true) }
         ensures same { IsSameReader self.old self.new }
     {
         match self.survey() {
@@ -184,14 +186,16 @@ impl<'b, N: Nor> Reader<'b, N> {
         }
     }
 
-    /// The bytes of the table's file of an id, from byte `at` on, as many as there are and fit; the answer is how many.
-    /// Refused is `NotFound`. A page that was there in the survey and isn't any more (`Damaged`) is told only by a device
+    /// The bytes of the table's file of an id, from byte `at` on, as many as there are and fit; the answer is how many,
+    /// never more than fit. Refused is `NotFound`. A page that was there in the survey and isn't any more (`Damaged`) is told only by a device
     /// whose bytes change by themselves.
     pub fn read_at(&mut self, id: u16, at: u32, into: &mut [u8]) -> Result<u32, FsErr>
         ensures cause { IsErrOf result FsErr.DeviceFault → Rose (N.faults self.old.nor.now) (N.faults self.new.nor.now) }
         ensures only { IfErr result (IsReadErr id) }
+        ensures within { IfOk result (λ n. (n ≤ length into.old) × (at + n < 2 ^ 32)) }
         ensures looks { OnlyReads N.NorState self.old.nor.now self.new.nor.now }
         ensures told { N.tells self.old.nor.now → ReadAnswers self.old.geometry (N.bytes self.old.nor.now) id at into.old into.new result }
+        ensures known { OnOk result (self.new.known ≡ true) }
         ensures same { IsSameReader self.old self.new }
     {
         match self.survey() {

@@ -245,6 +245,7 @@ module _ {N : Type 0} {nor : NorOf N} where
         keeps = λ keeps. refl;
         still = λ refusal. refl;
         begins = λ none run. (reads_none v.nor.now, refl);
+        empty = λ refusal none. none;
       }
 
   -- ---- what waits could not be put onto the chip
@@ -282,6 +283,7 @@ module _ {N : Type 0} {nor : NorOf N} where
         keeps = λ keeps. settles.slots;
         still = λ refusal. settles.slots;
         begins = λ none run. absurd (some none);
+        empty = λ refusal none. absurd (some none);
       }
 
   -- ---- a call that is done where nothing waits
@@ -461,6 +463,7 @@ module _ {N : Type 0} {nor : NorOf N} where
       keeps = λ keeps. acts.does.keeps keeps ∙ settles.slots;
       still = λ refusal. acts.does.still refusal ∙ settles.slots;
       begins = λ none run. let unwritten = acts.waits run in (only_reads none unwritten, stage_stays (no_run none) unwritten);
+      empty = λ refusal none. acts.empty refusal;
     }
 
   -- ---- a call that only looks at descriptors: what waits goes on waiting
@@ -500,6 +503,7 @@ module _ {N : Type 0} {nor : NorOf N} where
         keeps = λ keeps. refl;
         still = λ refusal. refl;
         begins = λ none run. (reads_none v.nor.now, refl);
+        empty = λ refusal none. none;
       }
 
   -- ---- bytes that are lent for nothing, and fills
@@ -565,4 +569,5 @@ module _ {N : Type 0} {nor : NorOf N} where
         keeps = calls.keeps;
         still = calls.still;
         begins = calls.begins;
+        empty = calls.empty;
       }

@@ -24,7 +24,7 @@ use Rattle.vol_check.specs.declared.report.CheckErr.{CheckErr}
 use Rattle.vol_check.specs.declared.report.CheckErr.TheVariants.{Wrong, Mixed, DeviceFault, Damaged}
 use Rattle.vol_check.specs.declared.report.Report.{Report}
 use Rattle.vol_check.specs.Checks.{IsWritable, IsRefusal, IsOfStages, CountsMixed, Checked}
-use Rattle.volume.specs.Checking.{CheckCut, CheckDone, ChecksTo, IsApart, IsUndamaged, as_check_err, check_stopped, clearing, MayStop, Cleared}
+use Rattle.volume.specs.Checking.{CheckCut, CheckDone, ChecksVolume, IsApart, IsUndamaged, as_check_err, check_stopped, clearing, MayStop, Cleared}
 use Rattle.file_calls.proofs.Going.{tidy_sound}
 
 -- ---- errors
@@ -167,7 +167,7 @@ module _ {N : Type 0} {nor : NorOf N} {old mid : View N nor} {d : N} where
   module _ (report : Report) (few : report.free_blocks < 2) (same : IsSameView old mid) (wrong : IfSome (write_refusal old.geometry) (λ why. ◌≡◌ {A = Result Report CheckErr} (Ok report) (Err (Wrong why))))
       (checked : nor.tells old.nor.now → Checked old.geometry (nor.bytes old.nor.now) (nor.bytes mid.nor.now) report) (kept : Changes nor old.nor.now mid.nor.now (KeepsAll old.geometry)) {new : View N nor} where
     -- the cleaning failed, on the tidy image that the stages left
-    pub fails_on : {why : CheckErr} → Stepped check_stopped mid new (Err why) clearing → ChecksTo nor old.geometry old.nor.now new.nor.now (Err why)
+    pub fails_on : {why : CheckErr} → Stepped check_stopped mid new (Err why) clearing → ChecksVolume nor old.geometry old.nor.now new.nor.now (Err why)
     fails_on {why} call = record {
       wrong = none_wrong (write_refusal old.geometry) wrong;
       writable = λ fine. stop_writable why call.means;
@@ -186,7 +186,7 @@ module _ {N : Type 0} {nor : NorOf N} {old mid : View N nor} {d : N} where
 
     -- it was done
     pub cleans_on : {free : ℕ} → (nor.tells mid.nor.now → IsImage old.geometry (nor.bytes mid.nor.now)) → OnOk {E = CheckErr} (Ok report) (usable old.geometry ≤ 32766) → (nor.tells old.nor.now → mixed_blocks old.geometry (nor.bytes old.nor.now) ≡ 0) → Stepped check_stopped mid new (Ok free) clearing →
-        ChecksTo nor old.geometry old.nor.now new.nor.now (Ok (record report { free_blocks = free }))
+        ChecksVolume nor old.geometry old.nor.now new.nor.now (Ok (record report { free_blocks = free }))
     cleans_on {free} is small unmixed call =
         let ends : nor.tells old.nor.now → Cleared old.geometry (nor.bytes mid.nor.now) (nor.bytes new.nor.now) × (free ≡ free_blocks old.geometry (nor.bytes new.nor.now)) =
         λ tells. ends_on report free same (checked tells) (call.ends (kept.cuts.told tells)) in
@@ -208,9 +208,9 @@ module _ {N : Type 0} {nor : NorOf N} {old mid : View N nor} {d : N} where
 
 -- ---- the blocks are counted after a check
 
-module _ {D : Type 0} {nor : NorOf D} {g : Geometry} {old mid new : D} {report : Report} (checks : ChecksTo nor g old mid (Ok report)) (reads : OnlyReads nor mid new) where
+module _ {D : Type 0} {nor : NorOf D} {g : Geometry} {old mid new : D} {report : Report} (checks : ChecksVolume nor g old mid (Ok report)) (reads : OnlyReads nor mid new) where
   -- and the device failed in that
-  pub count_fails : Rose (nor.faults old) (nor.faults new) → ChecksTo nor g old new (Err DeviceFault)
+  pub count_fails : Rose (nor.faults old) (nor.faults new) → ChecksVolume nor g old new (Err DeviceFault)
   count_fails rose = record {
     wrong = none_wrong (write_refusal g) checks.wrong;
     writable = λ fine. tt;
@@ -227,7 +227,7 @@ module _ {D : Type 0} {nor : NorOf D} {g : Geometry} {old mid new : D} {report :
     undamaged = λ tells. tt;
   }
 
-  pub count_keeps : ChecksTo nor g old new (Ok report)
+  pub count_keeps : ChecksVolume nor g old new (Ok report)
   count_keeps = record {
     wrong = checks.wrong;
     writable = checks.writable;

@@ -315,6 +315,7 @@ module _ {N : Type 0} {nor : NorOf N} where
         keeps = λ keeps. absurd (let no : false ≡ true = keeps in cc);
         still = λ refusal. absurd (let no : false ≡ true = refusal in cc);
         begins = λ none. absurd (busy none);
+        empty = λ refusal none. absurd (busy none);
       }
 
   -- a write of no byte that goes on

@@ -88,3 +88,5 @@ module _ {N : Type 0} {nor : NorOf N} where
     pub still : is_refusal reply ≡ true → new.slots.now ≡ old.slots.now
     -- a write whose bytes begin to wait asks for no program and no erase
     pub begins : HasNone old → HasRun new → OnlyReads nor old.nor.now new.nor.now × (new.stage ≡ old.stage)
+    -- refused where nothing waits, or where the device failed then, nothing waits after it
+    pub empty : is_refusal reply ≡ true → HasNone old → HasNone new

@@ -64,7 +64,7 @@ IsUndamaged why = Unit {0}
 
 -- What a check does to a device, and why it is refused. A volume that may not be written is `Wrong`, one with mixed blocks `Mixed`, and
 -- then nothing is written. Else the device failed, or the check is done: a tidy image with two free blocks is only read.
-pub record ChecksTo {D : Type 0} (nor : NorOf D) (g : Geometry) (old new : D) (result : Result Report CheckErr) : Type 0 where
+pub record ChecksVolume {D : Type 0} (nor : NorOf D) (g : Geometry) (old new : D) (result : Result Report CheckErr) : Type 0 where
   pub wrong : IfSome (write_refusal g) (λ why. result ≡ Err (Wrong why))
   pub writable : write_refusal g ≡ None → IfErr result IsWritable
   pub few : OnOk result (usable g ≤ 32766)

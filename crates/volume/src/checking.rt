@@ -6,7 +6,7 @@ ghost use Rattle.image_model.specs.Sound.{HasMagics};
 ghost use Rattle.image_model.specs.Tidy.{IsTidy};
 ghost use Rattle.flash_view.specs.Same.{IsSameView, OnlyCounts};
 ghost use Rattle.flash_view.specs.Steps.{Stepped};
-ghost use Rattle.volume.specs.Checking.{ChecksTo, as_check_err, check_stopped, sweeping, clearing};
+ghost use Rattle.volume.specs.Checking.{ChecksVolume, as_check_err, check_stopped, sweeping, clearing};
 
 use block_gc::{RoomErr, make_room};
 use flash_view::{StepErr, View};
@@ -53,7 +53,7 @@ fn check_pages<N: Nor>(v: &mut View<'_, N>, marks: &mut [u8]) -> Result<Report, 
     requires room { check_need v.old.geometry ≤ length marks.old }
     requires magics { N.tells v.old.nor.now → HasMagics v.old.geometry (N.bytes v.old.nor.now) }
     ensures same { IsSameView v.old v.new }
-    ensures checks { ChecksTo N.NorState v.old.geometry v.old.nor.now v.new.nor.now result }
+    ensures checks { ChecksVolume N.NorState v.old.geometry v.old.nor.now v.new.nor.now result }
 {
     let report = check_stages(v, marks)?;
     if report.free_blocks >= 2 {
@@ -90,7 +90,7 @@ pub(crate) fn check_view<N: Nor>(v: &mut View<'_, N>, marks: &mut [u8]) -> Resul
     requires room { check_need v.old.geometry ≤ length marks.old }
     requires magics { N.tells v.old.nor.now → HasMagics v.old.geometry (N.bytes v.old.nor.now) }
     ensures same { IsSameView v.old v.new }
-    ensures checks { ChecksTo N.NorState v.old.geometry v.old.nor.now v.new.nor.now result }
+    ensures checks { ChecksVolume N.NorState v.old.geometry v.old.nor.now v.new.nor.now result }
     ensures stands { rows_need v.old.geometry ≤ length v.new.rows.now → OnOk result (v.new.counted ≡ true) }
 {
     let report = check_pages(v, marks)?;

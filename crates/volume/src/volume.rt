@@ -9,7 +9,7 @@ ghost use Rattle.flash_view.specs.Same.{StaysBehind};
 ghost use Rattle.flash_view.specs.Table.{HasTable, rows_in};
 ghost use Rattle.fd_table.specs.Slots.{descriptors};
 ghost use Rattle.vol_mount.specs.Mounts.{IsLate, CountsSpoiled};
-ghost use Rattle.volume.specs.Checking.{ChecksTo};
+ghost use Rattle.volume.specs.Checking.{ChecksVolume};
 ghost use Rattle.volume.specs.Opening.{is_open, is_mounted};
 
 use crate::checking::check_view;
@@ -130,7 +130,7 @@ fn check_on<N: Nor>(
     ensures cache_size { length cache.new ≡ length cache.old }
     ensures behind { StaysBehind N.NorState g nor.old nor.new }
     ensures few { FewReads N.NorState g nor.old cache.old nor.new cache.new }
-    ensures checks { ChecksTo N.NorState g nor.old nor.new result }
+    ensures checks { ChecksVolume N.NorState g nor.old nor.new result }
     ensures table { counted.new ≡ true → HasTable N.NorState g nor.new rows.new }
     ensures stands { rows_need g ≤ length rows.new → OnOk result (counted.new ≡ true) }
 {
@@ -160,7 +160,7 @@ impl<'b, N: Nor> Volume<'b, N> {
     ghost use Rattle.volume.specs.Holds.{memory};
     ghost use Rattle.volume.specs.Unmounts.{UnmountsTo};
     ghost use Rattle.vol_mount.specs.Mounts.{IsLate, CountsSpoiled};
-    ghost use Rattle.volume.specs.Checking.{ChecksTo};
+    ghost use Rattle.volume.specs.Checking.{ChecksVolume};
     ghost use Rattle.volume.specs.Opening.{is_mounted};
     ghost use Rattle.volume.specs.Stages.{takes_calls, has_failed};
     ghost use Rattle.volume.specs.Same.{IsSameVolume};
@@ -237,7 +237,7 @@ impl<'b, N: Nor> Volume<'b, N> {
     /// be called again.
     pub fn check(&mut self) -> Result<Report, CheckErr>
         requires mounted { is_mounted self.old.stage ≡ true }
-        ensures checks { ChecksTo N.NorState self.old.geometry self.old.nor.now self.new.nor.now result }
+        ensures checks { ChecksVolume N.NorState self.old.geometry self.old.nor.now self.new.nor.now result }
         ensures taken { OnOk result (takes_calls self.new ≡ true) }
         ensures stage { OnErr result (self.new.stage ≡ self.old.stage) }
         ensures counted { OnOk result (self.new.counted ≡ true) }

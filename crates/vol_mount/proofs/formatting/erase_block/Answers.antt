@@ -23,6 +23,8 @@ loop-i-preserved g c =
           (λ tells. omega (arith, g.met.N.Nor.sized c.loop-i.nor tells, was.changes.cuts.size, c.requires.volume)) c.erase.ensures.done c.erase.ensures.half step.changes);
       units = was.units;
       mark = was.mark;
+      few = omega (arith, was.few, step.writes.writes);
+      below = omega (arith, c.loop-i-test.true);
       done = λ tells.
           let unit : g.N.NorState.unit c.loop-i.nor ≡ volume.phys = was.changes.cuts.unit ∙ c.requires.unit in
           let fits : volume.blocks * volume.block ≤ length (g.N.NorState.bytes c.args.nor.now) = omega (arith, g.met.N.Nor.sized c.args.nor.now tells, c.requires.volume) in
@@ -41,3 +43,9 @@ returns-in_err-erase-clause-changes g c =
     inside_then _ was.changes
     (inside_unit c.args.g.now c.args.block c.loop-i.i _ _ c.erase.result c.requires.block (omega (arith, was.units, c.loop-i-test.true)) (cc) (was.changes.cuts.unit ∙ c.requires.unit)
     (λ tells. omega (arith, g.met.N.Nor.sized c.loop-i.nor tells, was.changes.cuts.size, c.requires.volume)) c.erase.ensures.done c.erase.ensures.half c.erase.ensures.changes)
+
+pub returns-in_err-erase-clause-few : goal.returns-in_err-erase-clause-few
+returns-in_err-erase-clause-few g c = omega (arith, c.loop-i.invariant.few, c.erase.ensures.writes.writes, c.loop-i.invariant.units, c.loop-i-test.true)
+
+pub returns-clause-few : goal.returns-clause-few
+returns-clause-few g c = omega (arith, c.loop-i.invariant.few, c.loop-i.invariant.units, c.loop-i.invariant.below)

@@ -29,3 +29,9 @@ returns-clause-changes g c =
     (inside_then _ c.erase_block.ensures.changes
     (inside_slot c.args.g.now c.args.block _ c.count_offset.result _ _ c.requires.block c.block.ensures refl (omega (arith, c.count_offset.ensures.place, in_block.some, in_block.pages, in_block.inside)) c.program.ensures.changes))
     (inside_slot c.args.g.now c.args.block _ c.magic_offset.result _ _ c.requires.block c.block.ensures refl (omega (arith, c.magic_offset.ensures.place, in_block.some, in_block.pages, in_block.inside)) c.program-2.ensures.changes)
+
+pub returns-in_err-program-clause-few : goal.returns-in_err-program-clause-few
+returns-in_err-program-clause-few g c = omega (arith, c.erase_block.ensures.few, c.program.ensures.writes.writes)
+
+pub returns-clause-few : goal.returns-clause-few
+returns-clause-few g c = omega (arith, c.erase_block.ensures.few, c.program.ensures.writes.writes, c.program-2.ensures.writes.writes)

@@ -14,6 +14,7 @@ returns-in-Ok-damaged_on-clause-same g c =
       slots_name = first.slots_name;
       check_name = first.check_name;
       cache_size = c.damaged_on.auto.cache ∙ first.cache_size;
+      known = first.known;
       faults = omega (arith, first.faults, call.looks.faults);
       few = few_more c.args.self.now c.survey.new.self c.damaged_on.new.nor c.damaged_on.new.cache first call.looks call.few;
     }
