@@ -78,9 +78,9 @@ pub fault_undamaged : (why : CheckErr) → why ≡ DeviceFault → IsUndamaged w
 fault_undamaged why is = rw is tt
 
 -- where the stages were not refused for the numbers, nothing is
-pub none_wrong : (o : Option GeoErr) {report : Report} {P : GeoErr → Type 0} → IfSome o (λ why. ◌≡◌ {A = Result Report CheckErr} (Ok report) (Err (Wrong why))) → IfSome o P
-none_wrong None h = tt
-none_wrong (Some why) h = absurd (cc)
+pub none_wrong : (o : Option GeoErr) (report : Report) (P : GeoErr → Type 0) → IfSome o (λ why. ◌≡◌ {A = Result Report CheckErr} (Ok report) (Err (Wrong why))) → IfSome o P
+none_wrong None report P h = tt
+none_wrong (Some why) report P h = absurd (cc)
 
 -- ---- images
 
@@ -164,12 +164,13 @@ module _ {N : Type 0} {nor : NorOf N} {old mid : View N nor} {d : N} where
   ends_on report free same checked ends =
       subst (λ (k : Geometry). IsTidy k (nor.bytes mid.nor.now) → Cleared k (nor.bytes mid.nor.now) (nor.bytes d) × (free ≡ free_blocks k (nor.bytes d))) same.geometry ends checked.tidy
 
+module _ {N : Type 0} {nor : NorOf N} {old mid : View N nor} where
   module _ (report : Report) (few : report.free_blocks < 2) (same : IsSameView old mid) (wrong : IfSome (write_refusal old.geometry) (λ why. ◌≡◌ {A = Result Report CheckErr} (Ok report) (Err (Wrong why))))
       (checked : nor.tells old.nor.now → Checked old.geometry (nor.bytes old.nor.now) (nor.bytes mid.nor.now) report) (kept : Changes nor old.nor.now mid.nor.now (KeepsAll old.geometry)) {new : View N nor} where
     -- the cleaning failed, on the tidy image that the stages left
     pub fails_on : {why : CheckErr} → Stepped check_stopped mid new (Err why) clearing → ChecksVolume nor old.geometry old.nor.now new.nor.now (Err why)
     fails_on {why} call = record {
-      wrong = none_wrong (write_refusal old.geometry) wrong;
+      wrong = none_wrong (write_refusal old.geometry) report _ wrong;
       writable = λ fine. stop_writable why call.means;
       few = tt;
       cause = λ is. let rose = call.cause (ap (λ (w : CheckErr). Err w) (same_err why DeviceFault is)) in let more = same.faults in omega arith;
@@ -191,7 +192,7 @@ module _ {N : Type 0} {nor : NorOf N} {old mid : View N nor} {d : N} where
         let ends : nor.tells old.nor.now → Cleared old.geometry (nor.bytes mid.nor.now) (nor.bytes new.nor.now) × (free ≡ free_blocks old.geometry (nor.bytes new.nor.now)) =
         λ tells. ends_on report free same (checked tells) (call.ends (kept.cuts.told tells)) in
         record {
-          wrong = none_wrong (write_refusal old.geometry) wrong;
+          wrong = none_wrong (write_refusal old.geometry) report _ wrong;
           writable = λ fine. tt;
           few = small;
           cause = λ is. absurd (cc);
@@ -212,7 +213,7 @@ module _ {D : Type 0} {nor : NorOf D} {g : Geometry} {old mid new : D} {report :
   -- and the device failed in that
   pub count_fails : Rose (nor.faults old) (nor.faults new) → ChecksVolume nor g old new (Err DeviceFault)
   count_fails rose = record {
-    wrong = none_wrong (write_refusal g) checks.wrong;
+    wrong = none_wrong (write_refusal g) report _ checks.wrong;
     writable = λ fine. tt;
     few = tt;
     cause = λ is. rose;
