@@ -1,5 +1,5 @@
 -- Cleaning block after block, over plain images.
-use Rattle.std.proofs.Common.{◌≡◌, ℕ, ◌+◌, ◌-◌, ◌<◌, ◌^◌, List, [], ◌∷◌, ◌++◌, map, Bool, true, false, Some, None, Result, refl, sym, ◌∙◌, subst, arith}
+use Rattle.std.proofs.Common.{◌≡◌, ℕ, ◌+◌, ◌-◌, ◌<◌, ◌^◌, List, [], ◌∷◌, ◌++◌, length, map, Bool, true, false, Some, None, Result, refl, sym, ◌∙◌, subst, arith, length-append}
 use Rattle.std.specs.List.{Contains}
 use Rattle.std.proofs.lemmas.Bool.{le-leb}
 use Rattle.geometry.specs.declared.geometry.Geometry.{Geometry}
@@ -35,11 +35,11 @@ use Rattle.block_gc.specs.declared.room.Goal.TheVariants.{Pages, Packed}
 use Rattle.block_gc.specs.Cleanings.{CanCleanBlock, CleanedBlock, cleaning_block}
 use Rattle.block_gc.proofs.CleanedBlocks.{worth_used}
 use Rattle.block_gc.proofs.Replacing.{tidy_keeps}
-use Rattle.block_gc.specs.RoomMade.{CollectCut, SweptAlong, SweptTo, Cleanings, MadeRoom, IsTight, IsCompact, IsStuck, IsMet, StopsAt, Collected, PackedOrStuck, cleaning_chosen, collecting, packing}
+use Rattle.block_gc.specs.RoomMade.{CollectCut, SweptAlong, SweptTo, NoneIs, Cleanings, CleaningsTo, MadeRoom, IsTight, IsCompact, IsStuck, IsReady, IsMet, StopsAt, Collected, PackedOrStuck, cleaning_chosen, collecting, packing}
 
 -- ---- swept steps
 
-swept_none : (g : Geometry) (a : List ℕ) → SweptTo g a a
+pub swept_none : (g : Geometry) (a : List ℕ) → SweptTo g a a
 unfolding SweptAlong
 swept_none g a = record { through = []; steps = refl }
 
@@ -55,12 +55,37 @@ along_on g a b c first (m ∷ more) x y = (along_on g a b m first more x y.0, y.
 swept_on : (g : Geometry) (a b c : List ℕ) → SweptTo g a b → SweptTo g b c → SweptTo g a c
 swept_on g a b c first second = record { through = second.through ++ first.through; steps = along_on g a b c first.through second.through first.steps second.steps }
 
+-- ---- images that none of them is
+
+-- one step began at the first image
+none_once : (is : List ℕ → Type 0) (g : Geometry) (a b : List ℕ) (through : List (List ℕ)) → SweptAlong g a through b → length through ≡ 1 → (is a → ⊥) → NoneIs is through
+unfolding SweptAlong NoneIs
+none_once is g a b [] steps one unmet = absurd (omega (arith, one))
+none_once is g a b (x ∷ []) steps one unmet = ((λ (here : is x). unmet (subst is steps.0 here)), tt {0})
+none_once is g a b (x ∷ y ∷ more) steps one unmet = absurd (omega (arith, one))
+
+none_both : (is : List ℕ → Type 0) (xs ys : List (List ℕ)) → NoneIs is xs → NoneIs is ys → NoneIs is (xs ++ ys)
+unfolding NoneIs
+none_both is [] ys first second = second
+none_both is (x ∷ xs) ys first second = (first.0, none_both is xs ys first.1 second)
+
+-- nor is one that would be more
+pub none_more : (is more : List ℕ → Type 0) (images : List (List ℕ)) → ((image : List ℕ) → more image → is image) → NoneIs is images → NoneIs more images
+unfolding NoneIs
+none_more is more [] weaker none = tt {0}
+none_more is more (image ∷ images) weaker none = ((λ (here : more image). none.0 (weaker image here)), none_more is more images weaker none.1)
+
+pub none_of_none : (is : List ℕ → Type 0) (g : Geometry) (a : List ℕ) → NoneIs is (swept_none g a).through
+unfolding NoneIs swept_none
+none_of_none is g a = tt {0}
+
 -- ---- one cleaning
 
 pub chosen_can : (g : Geometry) (a : List ℕ) (block : ℕ) → IsTidy g a → chosen_block g a ≡ Some block → CanCleanBlock g a block
 chosen_can g a block t chosen = let is = chosen_is_candidate g a block chosen in record { tidy = t; used = worth_used g a block t is.within is.worth; fits = is.fits }
 
 pub one_cleaned : (g : Geometry) (a b : List ℕ) (block : ℕ) → chosen_block g a ≡ Some block → CleanedBlock g block a b → Cleanings g 1 a b
+unfolding swept_once
 one_cleaned g a b block chosen done =
     let cleaned = done.cleaned in
     record {
@@ -68,6 +93,7 @@ one_cleaned g a b block chosen done =
       tidy = cleaned.after;
       table = cleaned.table;
       swept = swept_once g a b (has_cleaned_is_swept g a b block chosen cleaned);
+      count = refl;
       lower = let less = has_cleaned_is_lower g a b block cleaned (chosen_is_candidate g a block chosen).worth in omega (arith, less);
       again = λ can. has_cleaned_can_clean g a b block can cleaned;
       mend = λ can. has_cleaned_mends g a b block can cleaned;
@@ -98,19 +124,33 @@ later_cut g n a b c t before cut = record { keeps = keeps-on g a b c (both_keep 
 -- ---- one after others
 
 pub cleanings_none : (g : Geometry) (a : List ℕ) → IsImage g a → IsTidy g a → Cleanings g 0 a a
-cleanings_none g a is t = record { image = is; tidy = t; table = refl; swept = swept_none g a; lower = omega arith; again = λ can. can; mend = λ can. can; tails = λ id ready. ready }
+unfolding swept_none
+cleanings_none g a is t = record { image = is; tidy = t; table = refl; swept = swept_none g a; count = refl; lower = omega arith; again = λ can. can; mend = λ can. can; tails = λ id ready. ready }
 
 pub cleanings_on : (g : Geometry) (n : ℕ) (a b c : List ℕ) → Cleanings g n a b → Cleanings g 1 b c → Cleanings g (n + 1) a c
+unfolding swept_on
 cleanings_on g n a b c first second = record {
   image = second.image;
   tidy = second.tidy;
   table = second.table ∙ first.table;
   swept = swept_on g a b c first.swept second.swept;
+  count = let p = first.count in let q = second.count in omega (arith, length-append second.swept.through first.swept.through, p, q);
   lower = let p = first.lower in let q = second.lower in omega (arith, p, q);
   again = λ can. second.again (first.again can);
   mend = λ can. second.mend (first.mend can);
   tails = λ id ready. second.tails id (first.tails id ready);
 }
+
+-- each began where the goal wasn't met, and so did one more
+pub needed_none : (g : Geometry) (goal : Goal) (a : List ℕ) → IsImage g a → IsTidy g a → CleaningsTo g goal 0 a a
+unfolding cleanings_none
+needed_none g goal a is t = record { cleanings = cleanings_none g a is t; needed = none_of_none (λ image. IsMet g image goal) g a }
+
+pub needed_on : (g : Geometry) (goal : Goal) (n : ℕ) (a b c : List ℕ) → CleaningsTo g goal n a b → Cleanings g 1 b c → (IsMet g b goal → ⊥) → CleaningsTo g goal (n + 1) a c
+unfolding cleanings_on swept_on
+needed_on g goal n a b c first second unmet =
+    let last = none_once (λ (image : List ℕ). IsMet g image goal) g b c second.swept.through second.swept.steps second.count unmet in
+    record { cleanings = cleanings_on g n a b c first.cleanings second; needed = none_both (λ (image : List ℕ). IsMet g image goal) second.swept.through first.cleanings.swept.through last first.needed }
 
 -- they come to an end
 pub cleanings_few : (g : Geometry) (n : ℕ) (a b : List ℕ) → IsTidy g a → Cleanings g n a b → n < 2 ^ 64 - 1
@@ -123,13 +163,14 @@ pub keeps_reserve : (g : Geometry) (n : ℕ) (a b : List ℕ) → IsImage g a �
 keeps_reserve g n a b is t all none reserve = stopped_has_reserve g b (all.again (reserve_can_clean g a is t reserve)) none
 
 pub made_room : (g : Geometry) (i d : ℕ) (a b : List ℕ) → Collected g (Pages i d) true a b → MadeRoom g i d a b
-made_room g i d a b all = record { tidy = all.cleanings.tidy; table = all.cleanings.table; swept = all.cleanings.swept; ready = all.stops; tails = all.cleanings.tails }
+made_room g i d a b all = record { tidy = all.cleanings.tidy; table = all.cleanings.table; swept = all.cleanings.swept; needed = all.needed; ready = all.stops; tails = all.cleanings.tails }
 
 pub is_tight : (g : Geometry) (i d : ℕ) (a b : List ℕ) → IsImage g a → IsTidy g a → Collected g (Pages i d) false a b → IsTight g i d a b
 is_tight g i d a b is t all = record {
   tidy = all.cleanings.tidy;
   table = all.cleanings.table;
   swept = all.cleanings.swept;
+  needed = all.needed;
   none = all.stops.0;
   short = all.stops.1;
   again = all.cleanings.again;
@@ -150,6 +191,10 @@ none_had g a =
     let index = ceil-le (0 - free_where g a (takes_index g a)) (entries g) 0 (some_entries g) (omega arith) in
     let pages = ceil-le (0 - free_where g a (takes_data g a)) (entries g) 0 (some_entries g) (omega arith) in
     le-leb _ _ (omega (arith, index, pages))
+
+-- that two blocks are free is all that is needed then
+pub reserve_ready : (g : Geometry) (a : List ℕ) → HasReserve g a → IsReady g a 0 0
+reserve_ready g a reserve = record { had = none_had g a; reserve = reserve }
 
 -- an image that mends is cleaned until two blocks are free
 pub mended : (g : Geometry) (i d : ℕ) (a b : List ℕ) → CanMend g a → i ≡ 0 → d ≡ 0 → Collected g (Pages i d) false a b → ⊥
@@ -199,9 +244,12 @@ never_stuck_there g a b can stuck = let bad : true ≡ false = sym stuck.stuck �
 
 -- ---- the steps
 
--- the first n cleanings, and the turn at which collection stops
-abbrev pub collecting_to : ℕ → Step (Unit {0})
-collecting_to n = record { needs = IsTidy; cut = CollectCut; done = λ g was now ok. Cleanings g n was now }
+-- the first n cleanings, one more, and the turn at which collection stops
+abbrev pub collecting_to : Goal → ℕ → Step (Unit {0})
+collecting_to goal n = record { needs = IsTidy; cut = CollectCut; done = λ g was now ok. CleaningsTo g goal n was now }
+
+abbrev pub cleaning_more : Goal → Step (Unit {0})
+cleaning_more goal = record { needs = IsTidy; cut = CollectCut; done = λ g was now ok. Cleanings g 1 was now × (IsMet g was goal → ⊥) }
 
 abbrev pub stopping : Goal → Step Bool
 stopping goal = record { needs = IsTidy; cut = CollectCut; done = λ g was now met. (now ≡ was) × StopsAt g goal met was }
@@ -210,17 +258,19 @@ pub cleans_chosen : (g : Geometry) (a : List ℕ) (block : ℕ) → chosen_block
 cleans_chosen g a block chosen t = record { needs = chosen_can g a block t chosen; cut = λ c cut. record { keeps = cut.keeps; mends = λ can. cut.mends (chosen_may_cut g a block can chosen) } }
 
 -- a turn after n cleanings
-pub turn_begins : (g : Geometry) (n : ℕ) (a : List ℕ) {T : Type 0} (whole : Step T) → ((c : List ℕ) → CollectCut g a c → whole.cut g a c) → IsTidy g a → Begins g a (collecting_to n) whole
-turn_begins g n a whole wide t = record { needs = t; cut = wide }
+pub turn_begins : (g : Geometry) (goal : Goal) (n : ℕ) (a : List ℕ) {T : Type 0} (whole : Step T) → ((c : List ℕ) → CollectCut g a c → whole.cut g a c) → IsTidy g a → Begins g a (collecting_to goal n) whole
+turn_begins g goal n a whole wide t = record { needs = t; cut = wide }
 
-pub turn_goes : (g : Geometry) (n : ℕ) (a b : List ℕ) → IsTidy g a → Cleanings g n a b → Finishes g a b (collecting_to 1) (collecting_to (n + 1))
-turn_goes g n a b t before = record { needs = before.tidy; cut = λ c cut. later_cut g n a b c t before cut; done = λ c ok one. cleanings_on g n a b c before one }
+pub turn_goes : (g : Geometry) (goal : Goal) (n : ℕ) (a b : List ℕ) → IsTidy g a → CleaningsTo g goal n a b → Finishes g a b (cleaning_more goal) (collecting_to goal (n + 1))
+turn_goes g goal n a b t before = record { needs = before.cleanings.tidy; cut = λ c cut. later_cut g n a b c t before.cleanings cut; done = λ c ok one. needed_on g goal n a b c before one.0 one.1 }
 
-pub turn_stops : (g : Geometry) (goal : Goal) (n : ℕ) (a b : List ℕ) → IsTidy g a → Cleanings g n a b → Finishes g a b (stopping goal) (collecting goal)
+pub turn_stops : (g : Geometry) (goal : Goal) (n : ℕ) (a b : List ℕ) → IsTidy g a → CleaningsTo g goal n a b → Finishes g a b (stopping goal) (collecting goal)
 turn_stops g goal n a b t before = record {
-  needs = before.tidy;
-  cut = λ c cut. later_cut g n a b c t before cut;
-  done = λ c met stops. record { n = n; cleanings = rw stops.0 before; stops = rw stops.0 stops.1 };
+  needs = before.cleanings.tidy;
+  cut = λ c cut. later_cut g n a b c t before.cleanings cut;
+  done = λ c met stops.
+      let all : CleaningsTo g goal n a c = rw stops.0 before in
+      record { n = n; cleanings = all.cleanings; needed = all.needed; stops = rw stops.0 stops.1 };
 }
 
 -- whether collection is stuck, after it
@@ -242,7 +292,7 @@ packing_ends g met a b is t all = record {
     by_stuck false e = is_compact g met a b is t all (sym e)
 
 -- where the goal was met at first nothing is changed
-pub idle_then : {N T : Type 0} {nor : NorOf N} {old mid : View N nor} (new : View N nor) {r : Result (Unit {0}) T} {errors : Errors T} (goal : Goal) {n : ℕ} → Stepped errors old mid r (collecting_to n) →
+pub idle_then : {N T : Type 0} {nor : NorOf N} {old mid : View N nor} (new : View N nor) {r : Result (Unit {0}) T} {errors : Errors T} (goal : Goal) {n : ℕ} → Stepped errors old mid r (collecting_to goal n) →
     (nor.tells old.nor.now → IsTidy old.geometry (nor.bytes old.nor.now) → IsMet old.geometry (nor.bytes old.nor.now) goal → OnlyReads nor old.nor.now mid.nor.now) →
     (nor.tells mid.nor.now → IsTidy mid.geometry (nor.bytes mid.nor.now) → IsMet mid.geometry (nor.bytes mid.nor.now) goal → OnlyReads nor mid.nor.now new.nor.now) →
     nor.tells old.nor.now → IsTidy old.geometry (nor.bytes old.nor.now) → IsMet old.geometry (nor.bytes old.nor.now) goal → OnlyReads nor old.nor.now new.nor.now

@@ -1,5 +1,5 @@
 -- What cleaning block after block leaves, and where it stops.
-use Rattle.std.specs.Prelude.{◌≡◌, ℕ, ◌+◌, ◌<◌, ◌≤◌, ◌⊎◌, List, [], ◌∷◌, Option, Bool, true, false, Some, None}
+use Rattle.std.specs.Prelude.{◌≡◌, ℕ, ◌+◌, ◌<◌, ◌≤◌, ◌⊎◌, List, [], ◌∷◌, length, Option, Bool, true, false, Some, None}
 use Rattle.geometry.specs.declared.geometry.Geometry.{Geometry}
 use Rattle.geometry.specs.Numbers.{ceil, entries}
 use Rattle.table_model.specs.Room.{index_count, data_count}
@@ -62,12 +62,18 @@ pub record SweptTo (g : Geometry) (first image : List ℕ) : Type 0 where
   pub through : List (List ℕ)
   pub steps : SweptAlong g first through image
 
+-- no one of these images is so
+unfoldable pub NoneIs : (List ℕ → Type 0) → List (List ℕ) → Type 0
+NoneIs is [] = Unit {0}
+NoneIs is (image ∷ images) = (is image → ⊥) × NoneIs is images
+
 -- After n cleanings the image is tidy with the table of the first, and can be cleaned where the first could. Each was a swept step, has lowered the number that cleanings lower, and leaves an image that mends where it did. Tails that were ready are so still.
 pub record Cleanings (g : Geometry) (n : ℕ) (was now : List ℕ) : Type 0 where
   pub image : IsImage g now
   pub tidy : IsTidy g now
   pub table : table_of g now ≡ table_of g was
   pub swept : SweptTo g was now
+  pub count : length swept.through ≡ n
   pub lower : gc_measure g now + n ≤ gc_measure g was
   pub again : CanClean g was → CanClean g now
   pub mend : CanMend g was → CanMend g now
@@ -78,19 +84,21 @@ abbrev pub CleanedOrNone : Geometry → Bool → (was now : List ℕ) → Type 0
 CleanedOrNone g true was now = Cleanings g 1 was now
 CleanedOrNone g false was now = (chosen_block g was ≡ None) × (now ≡ was)
 
--- The image is tidy with its table, so many pages of each kind are had, and two blocks are free. Tails that were ready are so still.
+-- The image is tidy with its table, so many pages of each kind are had, and two blocks are free. Each cleaning began where that wasn't so. Tails that were ready are so still.
 pub record MadeRoom (g : Geometry) (index pages : ℕ) (was now : List ℕ) : Type 0 where
   pub tidy : IsTidy g now
   pub table : table_of g now ≡ table_of g was
   pub swept : SweptTo g was now
+  pub needed : NoneIs (λ image. IsReady g image index pages) swept.through
   pub ready : IsReady g now index pages
   pub tails : KeepsTails g was now
 
--- The image is tidy with its table, no block is chosen, and the pages aren't had or fewer than two blocks are free. It can be cleaned where the first could, and has its reserve where the first had. Tails that were ready are so still.
+-- The image is tidy with its table, no block is chosen, and the pages aren't had or fewer than two blocks are free, as where each cleaning began. It can be cleaned where the first could, and has its reserve where the first had. Tails that were ready are so still.
 pub record IsTight (g : Geometry) (index pages : ℕ) (was now : List ℕ) : Type 0 where
   pub tidy : IsTidy g now
   pub table : table_of g now ≡ table_of g was
   pub swept : SweptTo g was now
+  pub needed : NoneIs (λ image. IsReady g image index pages) swept.through
   pub none : chosen_block g now ≡ None
   pub short : IsReady g now index pages → ⊥
   pub again : CanClean g was → CanClean g now
@@ -125,15 +133,21 @@ abbrev pub StopsAt : Geometry → Goal → Bool → List ℕ → Type 0
 StopsAt g goal true now = IsMet g now goal
 StopsAt g goal false now = (chosen_block g now ≡ None) × (IsMet g now goal → ⊥)
 
+-- n cleanings, and each began where the goal wasn't met
+pub record CleaningsTo (g : Geometry) (goal : Goal) (n : ℕ) (was now : List ℕ) : Type 0 where
+  pub cleanings : Cleanings g n was now
+  pub needed : NoneIs (λ image. IsMet g image goal) cleanings.swept.through
+
 -- so many cleanings, and where they stopped
 pub record Collected (g : Geometry) (goal : Goal) (met : Bool) (was now : List ℕ) : Type 0 where
   pub n : ℕ
   pub cleanings : Cleanings g n was now
+  pub needed : NoneIs (λ image. IsMet g image goal) cleanings.swept.through
   pub stops : StopsAt g goal met now
 
--- a cleaning more, or collection stops there
+-- a cleaning more where the goal wasn't met, or collection stops there
 abbrev pub TurnOf : Geometry → Goal → Option Bool → (was now : List ℕ) → Type 0
-TurnOf g goal None was now = Cleanings g 1 was now
+TurnOf g goal None was now = Cleanings g 1 was now × (IsMet g was goal → ⊥)
 TurnOf g goal (Some met) was now = (now ≡ was) × StopsAt g goal met was
 
 -- ---- the steps: the chosen block is cleaned, a turn of collection, and all turns

@@ -1,5 +1,5 @@
 -- The whole check, by what its stages and the cleaning after them leave.
-use Rattle.std.proofs.Common.{◌≡◌, ℕ, ◌<◌, ◌≤◌, inl, List, [], refl, sym, ◌∙◌, ap, subst, arith}
+use Rattle.std.proofs.Common.{◌≡◌, ℕ, ◌<◌, ◌≤◌, inl, List, refl, sym, ◌∙◌, ap, subst, arith}
 use Rattle.std.specs.Prelude.{Result, Ok, Err, Option, Some, None, IfSome, IsErrOf, OnOk}
 use Rattle.geometry.specs.declared.geometry.Geometry.{Geometry}
 use Rattle.geometry.specs.declared.error.GeoErr.{GeoErr}
@@ -14,7 +14,7 @@ use Rattle.image_model.specs.Tidy.{IsTidy, HasReserve, free_blocks}
 use Rattle.image_model.specs.Sound.{Keeps, KeepsAll}
 use Rattle.image_laws.proofs.Sounding.{sound-on}
 use Rattle.room_laws.specs.Recovery.{Recovers}
-use Rattle.block_gc.specs.RoomMade.{SweptAlong, SweptTo}
+use Rattle.block_gc.proofs.Cleanings.{swept_none, none_of_none}
 use Rattle.flash_view.specs.declared.kinds.StepErr.{StepErr}
 use Rattle.flash_view.specs.declared.kinds.StepErr.TheVariants.{DeviceFault as StepFault, Damaged as StepDamaged}
 use Rattle.flash_view.specs.declared.view.View.{View}
@@ -102,11 +102,6 @@ cleared_counted g was mid now free s w = subst (λ (c : List ℕ). Cleared g was
 pub stages_cut : {D : Type 0} {nor : NorOf D} {old new : D} (g : Geometry) → Changes nor old new (KeepsAll g) → Changes nor old new (CheckCut g)
 stages_cut g changes = wider changes (λ tells image cut. record { keeps = cut.keeps; reserve = λ reserve. let more = cut.free in omega (arith, reserve, more) })
 
--- no block is cleaned
-swept_none : (g : Geometry) (image : List ℕ) → SweptTo g image image
-unfolding SweptAlong
-swept_none g image = record { through = []; steps = refl }
-
 -- two blocks are free after them
 pub done_at_once : (g : Geometry) (was now : List ℕ) (report : Report) → Checked g was now report → 2 ≤ report.free_blocks → CheckDone g was now report
 done_at_once g was now report checked enough = record {
@@ -118,7 +113,7 @@ done_at_once g was now report checked enough = record {
   free = checked.free;
   kept = λ reserve. let more = checked.free_least in omega (arith, reserve, more);
   stopped = inl (let free = checked.free in omega (arith, enough, free));
-  sweeps = record { staged = now; stages = checked.staged; counts = checked.counts; swept = swept_none g now; quiet = λ reserve. refl };
+  sweeps = record { staged = now; stages = checked.staged; counts = checked.counts; swept = swept_none g now; needed = none_of_none (HasReserve g) g now; quiet = λ reserve. refl };
 }
 
 -- fewer are
@@ -142,7 +137,7 @@ module _ (g : Geometry) (was mid : List ℕ) (report : Report) (checked : Checke
     free = w.1;
     kept = λ reserve. absurd (none_before reserve);
     stopped = w.0.stopped;
-    sweeps = record { staged = mid; stages = checked.staged; counts = checked.counts; swept = w.0.swept; quiet = λ reserve. let free = checked.free in absurd (omega (arith, reserve, free, few)) };
+    sweeps = record { staged = mid; stages = checked.staged; counts = checked.counts; swept = w.0.swept; needed = w.0.needed; quiet = λ reserve. let free = checked.free in absurd (omega (arith, reserve, free, few)) };
   }
 
   pub mends_on : (now : List ℕ) (free : ℕ) → IsImage g mid → Recovers g was → Cleared g mid now × (free ≡ free_blocks g now) → 2 ≤ free

@@ -15,7 +15,7 @@ use Rattle.image_model.specs.Sound.{Keeps}
 use Rattle.room_laws.specs.Mends.{CanMend}
 use Rattle.room_laws.specs.Recovery.{Recovers}
 use Rattle.room_laws.specs.Staged.{IsStaged}
-use Rattle.block_gc.specs.RoomMade.{SweptTo}
+use Rattle.block_gc.specs.RoomMade.{SweptTo, NoneIs}
 use Rattle.flash_view.specs.declared.kinds.StepErr.{StepErr}
 use Rattle.flash_view.specs.declared.kinds.StepErr.TheVariants.{DeviceFault as StepFault, Damaged as StepDamaged}
 use Rattle.flash_view.specs.Steps.{Step, Errors}
@@ -31,12 +31,14 @@ pub record CheckCut (g : Geometry) (was image : List ℕ) : Type 0 where
   pub reserve : HasReserve g was → HasReserve g image
 
 -- The stages of a check left an image in which every block has the erase count that it had, but the one that lacked its magic the next one.
--- From that image chosen blocks were cleaned, one after the other: none where two blocks were free in it.
+-- From that image chosen blocks were cleaned, one after the other, and each cleaning began with fewer than two free blocks: so none where
+-- two were free in it.
 pub record SweepsAfter (g : Geometry) (was now : List ℕ) : Type 0 where
   pub staged : List ℕ
   pub stages : IsStaged g was staged
   pub counts : (block : ℕ) → block < g.blocks → erase_count g staged block ≡ count_after g was block
   pub swept : SweptTo g staged now
+  pub needed : NoneIs (HasReserve g) swept.through
   pub quiet : HasReserve g staged → now ≡ staged
 
 -- What a check leaves: the image is tidy with its table, and the report tells what was found and done, and how many blocks are free now.
@@ -96,11 +98,12 @@ abbrev pub check_stopped : Errors CheckErr
 check_stopped = record { fault = DeviceFault; means = MayStop; told = tt }
 
 -- What the cleaning leaves, one chosen block after the other: a tidy image with the table, and two free blocks, or no block that is
--- chosen; where the image mends, two.
+-- chosen; where the image mends, two. Each cleaning began with fewer.
 pub record Cleared (g : Geometry) (was now : List ℕ) : Type 0 where
   pub tidy : IsTidy g now
   pub table : table_of g now ≡ table_of g was
   pub swept : SweptTo g was now
+  pub needed : NoneIs (HasReserve g) swept.through
   pub stopped : HasReserve g now ⊎ (chosen_block g now ≡ None)
   pub mended : CanMend g was → HasReserve g now
 

@@ -20,7 +20,7 @@ returns-in-Err-clean_chosen-clause-step g c =
 pub returns-in-Ok-true-clean_chosen-clause-step : goal.returns-in-Ok-true-clean_chosen-clause-step
 returns-in-Ok-true-clean_chosen-clause-step g c =
     ends_as (after_look {whole = cleaning_chosen} c.in-Ok-false.ensures.looks c.in-Ok-true-clean_chosen.ensures (λ tells t. record { needs = t; cut = λ d cut. cut; done = λ d ok done. done }))
-    (λ tells t. record { needs = t; cut = λ d cut. cut }) (λ tells t done. rw c.in-Ok-true-clean_chosen.field-0-test at done)
+    (λ tells t. record { needs = t; cut = λ d cut. cut }) (λ tells t done. (rw c.in-Ok-true-clean_chosen.field-0-test at done, rw c.in-Ok-false.field-0-test at (c.in-Ok-false.ensures.told tells t)))
 
 pub returns-in-Ok-false-clean_chosen-clause-step : goal.returns-in-Ok-false-clean_chosen-clause-step
 returns-in-Ok-false-clean_chosen-clause-step g c =

@@ -3,6 +3,7 @@ use Rattle.nor_core.proofs.Cuts.{wider}
 use Rattle.block_gc.specs.declared.room.RoomErr.{RoomErr}
 use Rattle.block_gc.specs.declared.room.RoomErr.TheVariants.{Step}
 use Rattle.volume.specs.Checking.{as_check_err}
+use Rattle.block_gc.proofs.Cleanings.{none_more, reserve_ready}
 use Rattle.file_calls.proofs.GcCalls.{step_fault}
 use Rattle.volume.proofs.Clearing.{stop_means, stop_fault, same_err}
 use Rattle.volume.proofs.checking.sweep.Goals as goal
@@ -15,7 +16,7 @@ returns-in-Ok g c =
       cause = λ is. absurd (cc);
       means = tt;
       cuts = wider made.changes (λ tells image cut tidy. (cut tidy).keeps);
-      ends = λ tells tidy. let now = made.done tells tidy in record { tidy = now.tidy; table = now.table; swept = now.swept; stopped = inl now.ready.reserve; mended = λ can. now.ready.reserve };
+      ends = λ tells tidy. let now = made.done tells tidy in record { tidy = now.tidy; table = now.table; swept = now.swept; needed = none_more _ _ now.swept.through (reserve_ready _) now.needed; stopped = inl now.ready.reserve; mended = λ can. now.ready.reserve };
     }
 
 pub returns-in-Err-Tight : goal.returns-in-Err-Tight
@@ -27,7 +28,7 @@ returns-in-Err-Tight g c =
       cause = λ is. absurd (cc);
       means = tt;
       cuts = wider short.changes (λ tells image cut tidy. (cut tidy).keeps);
-      ends = λ tells tidy. let now = short.tight tells tidy (ap (λ (w : RoomErr). Err w) is) in record { tidy = now.tidy; table = now.table; swept = now.swept; stopped = inr now.none; mended = λ can. absurd (short.mended tells can refl refl is) };
+      ends = λ tells tidy. let now = short.tight tells tidy (ap (λ (w : RoomErr). Err w) is) in record { tidy = now.tidy; table = now.table; swept = now.swept; needed = none_more _ _ now.swept.through (reserve_ready _) now.needed; stopped = inr now.none; mended = λ can. absurd (short.mended tells can refl refl is) };
     }
 
 pub returns-in-Err-Step : goal.returns-in-Err-Step
