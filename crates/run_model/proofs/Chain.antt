@@ -76,7 +76,7 @@ module _ {D : Type 0} {nor : NorOf D} {g : Geometry} where
 
   -- so it does at a moment of a run
   pub run_stands_on : {old new : D} {memory : Memory} {m : Moment} → nor.bytes new ≡ nor.bytes old → (nor.tells old → nor.tells new) → RunStands nor g old memory m → RunStands nor g new memory m
-  run_stands_on {old} {new} same told stands = record { stands = stands_on same told stands.stands; reserve = subst (λ (l : List ℕ). HasReserve g l) (sym same) stands.reserve; room = stands.room }
+  run_stands_on {old} {new} same told stands = record { stands = stands_on same told stands.stands; reserve = subst (λ (l : List ℕ). HasReserve g l) (sym same) stands.reserve }
 
   -- where only reads were made, no call was
   pub reached_reads : {old new : D} {memory : Memory} {m : Moment} → OnlyReads nor old new → RunStands nor g old memory m → Reached nor g old new memory m []

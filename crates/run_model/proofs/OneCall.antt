@@ -67,7 +67,7 @@ after_state g spare m ask = ⊎_elim
     (cases_Bool (leaves_window ask))
 
 -- a table that has room has it after a call
-room_after : (g : Geometry) (m : Moment) (ask : Ask) → has_room g m.state.table ≡ true → has_room g (after g true m ask).state.table ≡ true
+pub room_after : (g : Geometry) (m : Moment) (ask : Ask) → has_room g m.state.table ≡ true → has_room g (after g true m ask).state.table ≡ true
 room_after g m ask room = subst (λ (s : State). has_room g s.table ≡ true) (sym (after_state g true m ask)) (room_kept g true m.state ask room)
 
 module _ {D : Type 0} {nor : NorOf D} {g : Geometry} where
@@ -83,7 +83,6 @@ module _ {D : Type 0} {nor : NorOf D} {g : Geometry} where
     stands = record {
       stands = subst (λ (b : Bool). Stands nor g new after_it (after g b m ask)) (spared g (nor.bytes old) stands.reserve) a.stands;
       reserve = a.holds.reserve stands.reserve;
-      room = room_after g m ask stands.room;
     };
     holds = a.holds;
   }

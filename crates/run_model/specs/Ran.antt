@@ -3,7 +3,6 @@ use Rattle.std.specs.Prelude.{ℕ, ◌≡◌, ◌+◌, List, ◌++◌, length, t
 use Rattle.geometry.specs.declared.geometry.Geometry.{Geometry}
 use Rattle.nor_core.specs.declared.state.NorState.{Ghosts as NorOf}
 use Rattle.nor_core.specs.Device.{Leaves}
-use Rattle.table_model.specs.Room.{has_room}
 use Rattle.table_model.specs.Ask.{Ask}
 use Rattle.table_model.specs.Reply.{Answer}
 use Rattle.table_model.specs.Flat.{answer}
@@ -16,11 +15,10 @@ use Rattle.call_model.specs.Memory.{Memory, IsAt}
 use Rattle.call_model.specs.Calls.{Stands}
 use Rattle.run_model.specs.Runs.{after_all, replies, IsCut}
 
--- a volume stands at a moment of a run: two blocks are free, and its table has room
+-- a volume stands at a moment of a run: two blocks are free
 pub record RunStands {D : Type 0} (nor : NorOf D) (g : Geometry) (d : D) (memory : Memory) (m : Moment) : Type 0 where
   pub stands : Stands nor g d memory m
   pub reserve : HasReserve g (nor.bytes d)
-  pub room : has_room g m.state.table ≡ true
 
 -- What a cut in a call of a run may leave: an image that may follow, with a table from the settled one to the last step of the call.
 abbrev pub RunPublishes : Geometry → Memory → Moment → Ask → List ℕ → List ℕ → Type 0

@@ -35,6 +35,7 @@ use Rattle.tool_core.specs.Reads.{ReadsOnce}
 use Rattle.tool_core.specs.Mounting.{Checks, Reported, IsRefused, StopsCheck}
 use Rattle.tool_core.specs.Begins.{Begun, IsTight, StopsRun}
 use Rattle.tool_core.specs.Refusals.{check_refusal, begin_refusal}
+use Rattle.tool_core.specs.Rooms.{AllFindRoom}
 use Rattle.tool_core.specs.Settling.{SettlesTo, Settling}
 use Rattle.tool_core.specs.Outcomes.{Went, WhyEnds, RunEnds, RunsTo, Refused, EndsByImages, first_moment, closed_memory}
 use Rattle.tool_core.proofs.Mounted.{safe_check, holds_check}
@@ -120,16 +121,15 @@ module _ {D : Type 0} {nor : NorOf D} {g : Geometry} where
     image = first_at g slots (nor.bytes old) (nor.bytes mid) w memory begun (changes.now tells).table;
   }
 
-  -- it does at that of a run where its table has room
-  begun_reached : {old mid : D} {w : Memory} (slots : ℕ) → w ≡ closed_memory slots → Changes nor old mid (Checks g) → nor.tells old → has_room g (table_of g (nor.bytes old)) ≡ true → Begun g (nor.bytes old) (nor.bytes mid) → Reached nor g old mid w (first_moment g slots (nor.bytes old)) []
-  begun_reached {old} {mid} {w} slots memory changes tells room begun =
+  -- it does at that of a run
+  begun_reached : {old mid : D} {w : Memory} (slots : ℕ) → w ≡ closed_memory slots → Changes nor old mid (Checks g) → nor.tells old → Begun g (nor.bytes old) (nor.bytes mid) → Reached nor g old mid w (first_moment g slots (nor.bytes old)) []
+  begun_reached {old} {mid} {w} slots memory changes tells begun =
       let m = first_moment g slots (nor.bytes old) in
       record {
         said = changes.said ∙ sym (ap (λ (l : List ℕ). nor.said old ++ l) (no_replies g m) ∙ append-nil (nor.said old));
         stands = subst (λ (j : Moment). RunStands nor g mid w j) (sym (no_calls g m)) (record {
           stands = begun_stands slots memory changes tells begun;
           reserve = begun.reserve;
-          room = first_room g slots (nor.bytes old) room;
         });
         holds = holds_check (changes.now tells);
       }
@@ -139,10 +139,10 @@ module _ {D : Type 0} {nor : NorOf D} {g : Geometry} where
   stands_there {old} {mid} {w} m r = subst (λ (j : Moment). RunStands nor g mid w j) (no_calls g m) r.stands
 
   -- a cut in the check or in the calls after it
-  whole_cut : {old mid new : D} {w : Memory} (slots : ℕ) (asks : List Ask) → w ≡ closed_memory slots → Changes nor old mid (Checks g) → nor.tells old → has_room g (table_of g (nor.bytes old)) ≡ true → Begun g (nor.bytes old) (nor.bytes mid) → MayCut nor g mid new w (first_moment g slots (nor.bytes old)) asks → Leaves nor old new (CutIn nor g old (first_moment g slots (nor.bytes old)) asks)
-  whole_cut {old} {mid} {new} slots asks memory changes tells room begun leaves =
+  whole_cut : {old mid new : D} {w : Memory} (slots : ℕ) (asks : List Ask) → w ≡ closed_memory slots → Changes nor old mid (Checks g) → nor.tells old → Begun g (nor.bytes old) (nor.bytes mid) → MayCut nor g mid new w (first_moment g slots (nor.bytes old)) asks → Leaves nor old new (CutIn nor g old (first_moment g slots (nor.bytes old)) asks)
+  whole_cut {old} {mid} {new} slots asks memory changes tells begun leaves =
       let m = first_moment g slots (nor.bytes old) in
-      let r = begun_reached slots memory changes tells room begun in
+      let r = begun_reached slots memory changes tells begun in
       andthen (check_cut slots asks changes tells) (widened leaves (λ image count here. cut_behind r (subst (λ (j : Moment). CutIn nor g mid j asks image count) (sym (no_calls g m)) (here (stands_there m r)))))
 
   -- a cut while the bytes that wait are put onto the chip, after some calls and before others
@@ -152,20 +152,20 @@ module _ {D : Type 0} {nor : NorOf D} {g : Geometry} where
       cut_behind whole (record { part = []; count_is = here.0 ∙ omega arith; safe = safe.0; cut = cut_none g (after_all g m front) later (table_of g image) safe.1 }))
 
   -- the board failed in a call
-  begun_breaks : {old mid ran new : D} {between : Memory} (slots : ℕ) (script left : List ℕ) (result : Ending) → between ≡ closed_memory slots → Changes nor old mid (Checks g) → nor.tells old → has_room g (table_of g (nor.bytes old)) ≡ true → Begun g (nor.bytes old) (nor.bytes mid) →
+  begun_breaks : {old mid ran new : D} {between : Memory} (slots : ℕ) (script left : List ℕ) (result : Ending) → between ≡ closed_memory slots → Changes nor old mid (Checks g) → nor.tells old → Begun g (nor.bytes old) (nor.bytes mid) →
       SaidPart nor mid ran (replies g (first_moment g slots (nor.bytes old)) (calls script)) → MayCut nor g mid ran between (first_moment g slots (nor.bytes old)) (calls script) → (result ≡ BoardFault) × (new ≡ ran) → RunsTo nor g old new (first_moment g slots (nor.bytes old)) script left result
-  begun_breaks {old} {mid} {ran} {new} slots script left result memory changes tells room begun said leaves stays =
+  begun_breaks {old} {mid} {ran} {new} slots script left result memory changes tells begun said leaves stays =
       let m = first_moment g slots (nor.bytes old) in
-      let r = begun_reached slots memory changes tells room begun in
+      let r = begun_reached slots memory changes tells begun in
       let front = later_said (calls script) r (subst (λ (j : Moment). SaidPart nor mid ran (replies g j (calls script))) (sym (no_calls g m)) said) in
-      inl (stays.0, subst (λ (d : D). SaidPart nor old d (replies g m (calls script))) (sym stays.1) front, subst (λ (d : D). Leaves nor old d (CutIn nor g old m (calls script))) (sym stays.1) (whole_cut slots (calls script) memory changes tells room begun leaves))
+      inl (stays.0, subst (λ (d : D). SaidPart nor old d (replies g m (calls script))) (sym stays.1) front, subst (λ (d : D). Leaves nor old d (CutIn nor g old m (calls script))) (sym stays.1) (whole_cut slots (calls script) memory changes tells begun leaves))
 
   -- it came to its end, and the bytes that wait are put onto the chip
-  begun_settles : {old mid ran new : D} {between after now : Memory} (slots : ℕ) (script left : List ℕ) (ending result : Ending) → between ≡ closed_memory slots → Changes nor old mid (Checks g) → nor.tells old → has_room g (table_of g (nor.bytes old)) ≡ true → Begun g (nor.bytes old) (nor.bytes mid) →
+  begun_settles : {old mid ran new : D} {between after now : Memory} (slots : ℕ) (script left : List ℕ) (ending result : Ending) → between ≡ closed_memory slots → Changes nor old mid (Checks g) → nor.tells old → Begun g (nor.bytes old) (nor.bytes mid) →
       Went nor g mid ran between after (first_moment g slots (nor.bytes old)) script left ending → SettlesTo nor g ran new after now ending result → RunsTo nor g old new (first_moment g slots (nor.bytes old)) script left result
-  begun_settles {old} {mid} {ran} {new} {between} {after} {now} slots script left ending result memory changes tells room begun went settles =
+  begun_settles {old} {mid} {ran} {new} {between} {after} {now} slots script left ending result memory changes tells begun went settles =
       let m = first_moment g slots (nor.bytes old) in
-      let r = begun_reached slots memory changes tells room begun in
+      let r = begun_reached slots memory changes tells begun in
       let whole : Reached nor g old ran after m went.front = later_reached r (subst (λ (j : Moment). Reached nor g mid ran after j went.front) (sym (no_calls g m)) went.reached) in
       let stands = whole.stands.stands in
       let last = settles.changes (after_all g m went.front) in
@@ -182,26 +182,27 @@ module _ {D : Type 0} {nor : NorOf D} {g : Geometry} where
         stuck = λ n is. absurd (subst (λ (e : Ending). WhyEnds script left went.front went.later e) is went.why);
         why = inr (begins_on g (nor.bytes old) (nor.bytes new) begun.takes (fine.1.holds.reserve whole.stands.reserve), went.why);
         holds = holds_then g (nor.bytes old) (nor.bytes ran) (nor.bytes new) whole.holds fine.1.holds;
-        cuts = andthen (whole_cut slots went.front memory changes tells room begun went.leaves) (subst (λ (l : List Ask). Leaves nor ran new (CutIn nor g old m l)) (append-nil went.front) (settle_cut went.front [] whole settles));
+        cuts = andthen (whole_cut slots went.front memory changes tells begun went.leaves) (subst (λ (l : List Ask). Leaves nor ran new (CutIn nor g old m l)) (append-nil went.front) (settle_cut went.front [] whole settles));
       })))
       (λ fault. inl (
         fault,
         record { part = replies g m went.front; rest = replies g (after_all g m went.front) went.later; said = last.said ∙ whole.said; whole_is = ap (replies g m) went.asks_are ∙ replies-append g m went.front went.later },
-        subst (λ (l : List Ask). Leaves nor old new (CutIn nor g old m l)) (sym went.asks_are) (andthen (whole_cut slots (went.front ++ went.later) memory changes tells room begun (wider_cut went.later went.leaves)) (settle_cut went.front went.later whole settles)),
+        subst (λ (l : List Ask). Leaves nor old new (CutIn nor g old m l)) (sym went.asks_are) (andthen (whole_cut slots (went.front ++ went.later) memory changes tells begun (wider_cut went.later went.leaves)) (settle_cut went.front went.later whole settles)),
       ))
       (settles.stands (after_all g m went.front) stands)
 
   -- a run that was begun
-  pub begun_ends : {old mid ran new : D} {between after : Memory} (now : Memory) (slots : ℕ) (script left : List ℕ) (ending result : Ending) → between ≡ closed_memory slots → Changes nor old mid (Checks g) → nor.tells old → has_room g (table_of g (nor.bytes old)) ≡ true → Begun g (nor.bytes old) (nor.bytes mid) →
-      (h k : Geometry) → h ≡ g → k ≡ g → ((m : Moment) → RunStands nor h mid between m → RunEnds nor h mid ran between after m script left ending) → Settling nor k ran new after now ending result → RunsTo nor g old new (first_moment g slots (nor.bytes old)) script left result
-  begun_ends {old} {mid} {ran} {new} {between} {after} now slots script left ending result memory changes tells room begun h k same alike ends settles =
+  pub begun_ends : {old mid ran new : D} {between after : Memory} (now : Memory) (slots : ℕ) (script left : List ℕ) (ending result : Ending) → between ≡ closed_memory slots → Changes nor old mid (Checks g) → nor.tells old → Begun g (nor.bytes old) (nor.bytes mid) →
+      AllFindRoom g (first_moment g slots (nor.bytes old)) (calls script) →
+      (h k : Geometry) → h ≡ g → k ≡ g → ((m : Moment) → RunStands nor h mid between m → AllFindRoom h m (calls script) → RunEnds nor h mid ran between after m script left ending) → Settling nor k ran new after now ending result → RunsTo nor g old new (first_moment g slots (nor.bytes old)) script left result
+  begun_ends {old} {mid} {ran} {new} {between} {after} now slots script left ending result memory changes tells begun finds h k same alike ends settles =
       let m = first_moment g slots (nor.bytes old) in
-      let next : (j : Moment) → RunStands nor g mid between j → RunEnds nor g mid ran between after j script left ending = subst (λ (i : Geometry). (j : Moment) → RunStands nor i mid between j → RunEnds nor i mid ran between after j script left ending) same ends in
+      let next : (j : Moment) → RunStands nor g mid between j → AllFindRoom g j (calls script) → RunEnds nor g mid ran between after j script left ending = subst (λ (i : Geometry). (j : Moment) → RunStands nor i mid between j → AllFindRoom i j (calls script) → RunEnds nor i mid ran between after j script left ending) same ends in
       let here : Settling nor g ran new after now ending result = subst (λ (i : Geometry). Settling nor i ran new after now ending result) alike settles in
       ⊎_elim
-      (λ broken. begun_breaks slots script left result memory changes tells room begun broken.1 broken.2 (subst (λ (e : Ending). Settling nor g ran new after now e result) broken.0 here))
-      (λ went. begun_settles slots script left ending result memory changes tells room begun went (settles_of nor g ending result ran new after now script left went.front went.later went.why here))
-      (next m (stands_there m (begun_reached slots memory changes tells room begun)))
+      (λ broken. begun_breaks slots script left result memory changes tells begun broken.1 broken.2 (subst (λ (e : Ending). Settling nor g ran new after now e result) broken.0 here))
+      (λ went. begun_settles slots script left ending result memory changes tells begun went (settles_of nor g ending result ran new after now script left went.front went.later went.why here))
+      (next m (stands_there m (begun_reached slots memory changes tells begun)) finds)
 
   early_came : {old mid : D} (slots : ℕ) (script left : List ℕ) (ending : Ending) → Changes nor old mid (Checks g) → nor.tells old → table_of g (nor.bytes mid) ≡ table_of g (nor.bytes old) → begin_refusal g (nor.bytes old) (nor.bytes mid) ≡ Some ending → ((n : ℕ) → ending ≡ Tight n → chosen_block g (nor.bytes mid) ≡ None) → RunsTo nor g old mid (first_moment g slots (nor.bytes old)) script left ending
   early_came {old} {mid} slots script left ending changes tells same refused stuck = inr (record {

@@ -118,18 +118,18 @@ module _ {N : Type 0} {nor : NorOf N} where
   pub does_answer : {old new : Volume N nor} {ask : Ask} {lent : List ℕ} (told : Told) → takes_calls old ≡ true → Calls ask old new (shown_by told lent) → ¬ (shown_by told lent ≡ Refuses DeviceFault) → DoesCall nor old.geometry old.nor.now new.nor.now (memory old) (memory new) ask (Ok told) lent
   does_answer told takes calls fault = record {
     changes = changes_of calls;
-    answers = λ m stands. run_answers stands (calls.answers m takes stands.stands fault (not_short m takes calls stands.stands stands.reserve (λ corner. let no : false ≡ true = sym corner.full ∙ stands.room in cc)));
+    answers = λ m stands finds. run_answers stands (calls.answers m takes stands.stands fault (not_short m takes calls stands.stands stands.reserve (λ corner. let no : false ≡ true = sym corner.full ∙ finds corner.cuts in cc)));
     stops = λ m stands. tt {0};
     works = answer_works takes calls fault;
   }
 
   -- the device failed
   pub does_fault : {old new : Volume N nor} {ask : Ask} {lent : List ℕ} → Calls ask old new (Refuses DeviceFault) → DoesCall nor old.geometry old.nor.now new.nor.now (memory old) (memory new) ask (Err BoardFault) lent
-  does_fault calls = record { changes = changes_of calls; answers = λ m stands. tt {0}; stops = λ m stands. refl; works = λ here. tt {0} }
+  does_fault calls = record { changes = changes_of calls; answers = λ m stands finds. tt {0}; stops = λ m stands. refl; works = λ here. tt {0} }
 
   -- a page reads otherwise, which none does on a volume that stands
   pub does_damage : {old new : Volume N nor} {ask : Ask} {lent : List ℕ} (d : Differ) → Calls ask old new (Refuses (Damaged d)) → DoesCall nor old.geometry old.nor.now new.nor.now (memory old) (memory new) ask (Err (EndsDiffer d)) lent
-  does_damage d calls = record { changes = changes_of calls; answers = λ m stands. tt {0}; stops = λ m stands. absurd (calls.undamaged m stands.stands d refl); works = λ here. absurd (calls.undamaged here.moment here.stands d refl) }
+  does_damage d calls = record { changes = changes_of calls; answers = λ m stands finds. tt {0}; stops = λ m stands. absurd (calls.undamaged m stands.stands d refl); works = λ here. absurd (calls.undamaged here.moment here.stands d refl) }
 
   -- whether it takes calls after one that told no fault
   takes_on : {old new : Volume N nor} {ask : Ask} {reply : Answer} → takes_calls old ≡ true → Calls ask old new reply → (breaks reply ≡ true → ⊥) → takes_calls new ≡ true

@@ -89,14 +89,13 @@ module _ {D : Type 0} {nor : NorOf D} {g : Geometry} where
   tidy_begun report files changes tells reported = record { takes = reported.takes; tidy = reported.done.tidy; reserve = (changes.now tells).reserve files.reserve }
 
   -- it stands at the state without files
-  pub empty_stands : {old mid : D} {w : Memory} (slots : ℕ) (report : Report) → write_refusal g ≡ None → w ≡ closed_memory (min 65535 slots) → HoldsFiles g (nor.bytes old) [] → Changes nor old mid (Checks g) → nor.tells old → Reported g (nor.bytes old) (nor.bytes mid) report →
+  pub empty_stands : {old mid : D} {w : Memory} (slots : ℕ) (report : Report) → w ≡ closed_memory (min 65535 slots) → HoldsFiles g (nor.bytes old) [] → Changes nor old mid (Checks g) → nor.tells old → Reported g (nor.bytes old) (nor.bytes mid) report →
       RunStands nor g mid w (first_moment g (min 65535 slots) (nor.bytes old))
-  empty_stands {old} {mid} slots report writable closed files changes tells reported =
+  empty_stands {old} {mid} slots report closed files changes tells reported =
       let begun = tidy_begun report files changes tells reported in
       record {
         stands = begun_stands (min 65535 slots) closed changes tells begun;
         reserve = begun.reserve;
-        room = first_room g (min 65535 slots) (nor.bytes old) (subst (λ (l : List File). has_room g l ≡ true) (sym files.table) (empty_room g writable));
       }
 
 -- the state of the first moment of a volume without files
@@ -111,6 +110,7 @@ empty_ready {N} {nor} old new g slots report same takes writable closed files ch
   geometry = same;
   takes = takes;
   moment = first_moment g (min 65535 slots) (nor.bytes old.nor.now);
-  stands = empty_stands slots report writable closed files changes tells reported;
+  stands = empty_stands slots report closed files changes tells reported;
+  room = first_room g (min 65535 slots) (nor.bytes old.nor.now) (subst (λ (l : List File). has_room g l ≡ true) (sym files.table) (empty_room g writable));
   state_is = empty_state g slots (nor.bytes old.nor.now) files.table;
 }

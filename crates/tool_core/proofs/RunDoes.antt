@@ -1,12 +1,11 @@
 -- A whole run.
-use Rattle.std.proofs.Common.{◌≡◌, ℕ, ◌≤◌, ◌⊎◌, List, [], true, Some, inl, inr, ⊎_elim}
+use Rattle.std.proofs.Common.{◌≡◌, ℕ, ◌≤◌, ◌⊎◌, List, [], Some, inl, inr, ⊎_elim}
 use Rattle.geometry.specs.declared.geometry.Geometry.{Geometry}
 use Rattle.nor_core.specs.declared.state.NorState.{Ghosts as NorOf}
 use Rattle.nor_core.specs.declared.source.Source.{Ghosts as SourceOf}
 use Rattle.nor_core.specs.Count.{Rose}
 use Rattle.flash_view.specs.Same.{StaysBehind}
-use Rattle.table_model.specs.Room.{has_room}
-use Rattle.image_model.specs.Tables.{table_of}
+use Rattle.call_script.specs.Lines.{calls}
 use Rattle.image_model.specs.Tidy.{HasReserve}
 use Rattle.tool_core.specs.declared.plan.Lengths.{Lengths}
 use Rattle.tool_core.specs.declared.ending.Ending.{Ending}
@@ -16,6 +15,7 @@ use Rattle.tool_core.specs.Endings.{OnlyCloses}
 use Rattle.tool_core.specs.Mounting.{IsMendable}
 use Rattle.tool_core.specs.Reads.{ReadsOnce}
 use Rattle.tool_core.specs.Refusals.{check_refusal}
+use Rattle.tool_core.specs.Rooms.{IsRoomy}
 use Rattle.tool_core.specs.Outcomes.{RunsTo, Refused, EndsByImages}
 use Rattle.tool_core.specs.Running.{Outcome, first_of, DoesRun}
 use Rattle.tool_core.proofs.Concluding.{outcome_of}
@@ -36,14 +36,14 @@ mended_of g was now result may ends = ⊎_elim
 
 module _ {D X : Type 0} {nor : NorOf D} {source : SourceOf X} {g : Geometry} where
   pub run_does : {old mid new : D} {script after : X} (lent : Lengths) (result : Ending) (status : ℕ) →
-      (source.tells script → nor.tells old → has_room g (table_of g (nor.bytes old)) ≡ true → RunsTo nor g old mid (first_of g lent (nor.bytes old)) (source.left script) (source.left after) result) →
+      (source.tells script → nor.tells old → IsRoomy g (first_of g lent (nor.bytes old)) (calls (source.left script)) → RunsTo nor g old mid (first_of g lent (nor.bytes old)) (source.left script) (source.left after) result) →
       (nor.tells old → (ending : Ending) → check_refusal g (nor.bytes old) ≡ Some ending → Refused nor old mid ending result) →
       (nor.tells old → EndsByImages g (nor.bytes old) (nor.bytes mid) result) → StaysBehind nor g old mid →
       nor.faults old ≤ nor.faults mid → (result ≡ BoardFault → Rose (nor.faults old) (nor.faults mid)) →
       ReadsOnce nor g lent.cache old mid → OnlyCloses nor mid new result status → DoesRun nor source g lent old new script after status
   run_does {old} {mid} {new} {script} {after} lent result status ends refused begins behind faults cause reads closes =
       let m = first_of g lent (nor.bytes old) in
-      let outcome : source.tells script → nor.tells old → has_room g (table_of g (nor.bytes old)) ≡ true → Outcome nor g old new m (source.left script) (source.left after) status = λ read tells room. outcome_of m (source.left script) (source.left after) result status faults (ends read tells room) closes in
+      let outcome : source.tells script → nor.tells old → IsRoomy g (first_of g lent (nor.bytes old)) (calls (source.left script)) → Outcome nor g old new m (source.left script) (source.left after) status = λ read tells room. outcome_of m (source.left script) (source.left after) result status faults (ends read tells room) closes in
       record {
         outcome = outcome;
         whole = λ read tells room zero_is. ran_whole zero_is (outcome read tells room);

@@ -6,7 +6,7 @@ use Rattle.nor_core.specs.declared.state.NorState.{Ghosts as NorOf}
 use Rattle.nor_core.proofs.Cuts.{started}
 use Rattle.table_model.specs.Ask.{Ask}
 use Rattle.table_model.specs.Window.{Moment}
-use Rattle.call_script.specs.Lines.{onto, calls_of, lines, NoBreak}
+use Rattle.call_script.specs.Lines.{onto, calls_of, calls, lines, NoBreak}
 use Rattle.call_script.proofs.Breaks.{line_first, line_last}
 use Rattle.call_model.specs.Memory.{Memory}
 use Rattle.run_model.specs.Runs.{after_all}
@@ -14,8 +14,10 @@ use Rattle.run_model.specs.Ran.{RunStands, MayCut, Reached}
 use Rattle.run_model.proofs.Chain.{later_cut, later_reached, later_said, reached_none}
 use Rattle.tool_core.specs.declared.ending.Ending.{Ending}
 use Rattle.tool_core.specs.declared.ending.Ending.TheVariants.{Done, BadLine, BoardFault, SourceFault, TooLong}
-use Rattle.tool_core.specs.Turns.{DidLine, AllGood, BeginsBad, At, CountsLines, CountsBytes, Stops, Turned, OneMore, ended_turn}
+use Rattle.tool_core.specs.Rooms.{AllFindRoom}
+use Rattle.tool_core.specs.Turns.{DidLine, AllGood, BeginsBad, At, CountsLines, CountsBytes, Stops, Turned, Goes, Turns, OneMore, ended_turn}
 use Rattle.tool_core.proofs.LineWork.{bad_long, bad_calls, calls-append, good-append, same_cut}
+use Rattle.tool_core.proofs.Rooms.{later_room, line_room}
 
 -- the lines of two parts of a run are counted
 count_lines : (ending : Option Ending) (a b c i j : ℕ) → b ≡ a + i → CountsLines ending b c j → CountsLines ending a c (i + j)
@@ -58,6 +60,15 @@ module _ {D : Type 0} {nor : NorOf D} {g : Geometry} where
         leaves = same_cut calls_are (later_cut f.leaves (λ stands. r.0) s.leaves);
         stops = subst (λ (zs : List Ask). Stops nor g m a c zs s.tail ending) (sym calls_are) (stops_on ending m a b c (calls_of f.done) (calls_of s.done) s.tail r.0 s.stops);
       }
+
+-- the call of the first line finds room where all calls do, be the line ended or the last one
+pub first_line_room : (g : Geometry) (m : Moment) (p line q l : List ℕ) → NoBreak line → p ≡ line ++ (10 ∷ q) → AllFindRoom g m (calls (p ++ l)) → AllFindRoom g m (calls_of (line ∷ []))
+first_line_room g m p line q l plain is finds =
+    let split : calls (p ++ l) ≡ calls_of (line ∷ lines (q ++ l)) = ap (λ (x : List ℕ). calls (x ++ l)) is ∙ ap calls (append_assoc line (10 ∷ q) l) ∙ ap calls_of (line_first line (q ++ l) plain) in
+    line_room g m line (lines (q ++ l)) (subst (λ (asks : List Ask). AllFindRoom g m asks) split finds)
+
+pub last_line_room : (g : Geometry) (m : Moment) (line : List ℕ) → NoBreak line → 0 < length line → AllFindRoom g m (calls (line ++ [])) → AllFindRoom g m (calls_of (line ∷ []))
+last_line_room g m line plain some finds = subst (λ (asks : List Ask). AllFindRoom g m asks) (ap calls (append-nil line) ∙ ap calls_of (line_last line some plain)) finds
 
 cut_here : (line q l : List ℕ) → (line ++ (10 ∷ q)) ++ l ≡ (line ++ (10 ∷ [])) ++ (q ++ l)
 cut_here line q l = append_assoc line (10 ∷ q) l ∙ sym (append_assoc line (10 ∷ []) (q ++ l))
@@ -131,8 +142,16 @@ module _ {D : Type 0} {nor : NorOf D} {g : Geometry} where
   last_done (Some BoardFault) d e w v m line k h n plain some few number leaves did = record { seg = line; done = line ∷ []; tail = []; rest_is = refl; lines_are = λ more follows. ap (λ (x : List ℕ). lines (line ++ x)) follows ∙ ap lines (append-nil line) ∙ line_last line some plain ∙ ap (λ (x : List ℕ). line ∷ lines x) (sym follows); good = (did.0, tt {0}); number = tt {0}; bytes = tt {0}; leaves = leaves; stops = inl (refl, did.1) }
   last_done _ d e w v m line k h n plain some few number leaves did = absurd did
 
+  -- a run that goes on stands at its moment, and the calls behind those that were done find room
+  goes_on : {m : Moment} {a b : At D} → Goes nor g m a → (f : Turned nor g None m a b) → Goes nor g (after_all g m (calls_of f.done)) b
+  goes_on {m} {a} {b} goes f =
+      let r = went f in
+      let split : calls (a.pending ++ a.left) ≡ calls_of f.done ++ calls f.tail = ap calls f.rest_is ∙ ap calls_of (f.lines_are f.tail (tt {0})) ∙ calls-append f.done (lines f.tail) f.good in
+      let behind : AllFindRoom g (after_all g m (calls_of f.done)) (calls f.tail) = later_room g m (calls_of f.done) (calls f.tail) (subst (λ (asks : List Ask). AllFindRoom g m asks) split goes.room) in
+      record { stands = r.0.stands; room = subst (λ (l : List ℕ). AllFindRoom g (after_all g m (calls_of f.done)) (calls l)) r.1 behind }
+
   -- a turn after others, by the geometry that the run began with
-  pub turn_then : (ending : Option Ending) (h : Geometry) (m : Moment) (a b c : At D) → h ≡ g → Turned nor g None m a b → ((n : Moment) → RunStands nor h b.device b.memory n → Turned nor h ending n b c) → Turned nor g ending m a c
-  turn_then ending h m a b c same f then =
-      let next : (n : Moment) → RunStands nor g b.device b.memory n → Turned nor g ending n b c = subst (λ (k : Geometry). (n : Moment) → RunStands nor k b.device b.memory n → Turned nor k ending n b c) same then in
-      turn_on ending m a b c f (next (after_all g m (calls_of f.done)) (went f).0.stands)
+  pub turn_then : (ending : Option Ending) (h : Geometry) (m : Moment) (a b c : At D) → h ≡ g → Goes nor g m a → Turned nor g None m a b → Turns nor h ending b c → Turned nor g ending m a c
+  turn_then ending h m a b c same goes f then =
+      let next : Turns nor g ending b c = subst (λ (k : Geometry). Turns nor k ending b c) same then in
+      turn_on ending m a b c f (next (after_all g m (calls_of f.done)) (goes_on goes f))

@@ -13,6 +13,7 @@ pub mod Telling
 pub mod Mounting
 pub mod Runs
 pub mod Settling
+pub mod Rooms
 pub mod Turns
 pub mod Outcomes
 pub mod Begins

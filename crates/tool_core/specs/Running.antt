@@ -1,10 +1,9 @@
 -- What a run leaves and answers.
-use Rattle.std.specs.Prelude.{ℕ, ◌≡◌, ◌≢◌, ◌+◌, ◌<◌, ◌≤◌, ◌⊎◌, List, [], ◌++◌, length, min, true, Option, None, Some}
+use Rattle.std.specs.Prelude.{ℕ, ◌≡◌, ◌≢◌, ◌+◌, ◌<◌, ◌≤◌, ◌⊎◌, List, [], ◌++◌, length, min, Option, None, Some}
 use Rattle.geometry.specs.declared.geometry.Geometry.{Geometry}
 use Rattle.nor_core.specs.declared.state.NorState.{Ghosts as NorOf}
 use Rattle.nor_core.specs.declared.source.Source.{Ghosts as SourceOf}
 use Rattle.nor_core.specs.Device.{Leaves}
-use Rattle.table_model.specs.Room.{has_room}
 use Rattle.table_model.specs.Ask.{Ask}
 use Rattle.table_model.specs.Window.{Moment}
 use Rattle.call_script.specs.Lines.{lines, calls}
@@ -23,6 +22,7 @@ use Rattle.tool_core.specs.Endings.{EndsAs, Concludes, WritesNone, HasMended}
 use Rattle.tool_core.specs.Mounting.{IsMendable}
 use Rattle.tool_core.specs.Reads.{ReadsOnce}
 use Rattle.tool_core.specs.Refusals.{check_refusal, begin_refusal}
+use Rattle.tool_core.specs.Rooms.{IsRoomy}
 use Rattle.tool_core.specs.Turns.{AllGood}
 use Rattle.tool_core.specs.Outcomes.{HasBad, WhyRan, IsOfScript, first_moment}
 
@@ -100,15 +100,15 @@ pub record IsComplete (script : List ℕ) (status : ℕ) : Type 0 where
 
 -- A run mounts and checks the volume, and does the calls of the script.
 pub record DoesRun {D X : Type 0} (nor : NorOf D) (source : SourceOf X) (g : Geometry) (lent : Lengths) (old new : D) (script after : X) (status : ℕ) : Type 0 where
-  -- Where the table of the first image has room, the replies to some first calls are said, then a closing line, whose cause stands beside
-  -- it; the table is that after these calls, and a cut at any moment leaves what they may. (Without room a cut of a file may be Tight.)
-  pub outcome : source.tells script → nor.tells old → has_room g (table_of g (nor.bytes old)) ≡ true → Outcome nor g old new (first_of g lent (nor.bytes old)) (source.left script) (source.left after) status
+  -- Where the table of the first image has room, or no call of the script cuts a file on one without, the replies to some first calls are
+  -- said, then a closing line, whose cause stands beside it; the table is that after these calls, and a cut at any moment leaves what they may.
+  pub outcome : source.tells script → nor.tells old → IsRoomy g (first_of g lent (nor.bytes old)) (calls (source.left script)) → Outcome nor g old new (first_of g lent (nor.bytes old)) (source.left script) (source.left after) status
   -- with status 0 it was the whole script
-  pub whole : source.tells script → nor.tells old → has_room g (table_of g (nor.bytes old)) ≡ true → status ≡ 0 → RanWhole nor g old new (first_of g lent (nor.bytes old)) (source.left script) (source.left after)
+  pub whole : source.tells script → nor.tells old → IsRoomy g (first_of g lent (nor.bytes old)) (calls (source.left script)) → status ≡ 0 → RanWhole nor g old new (first_of g lent (nor.bytes old)) (source.left script) (source.left after)
   -- the status, if it isn't 7, is that of the images, where they end the run, or else one of a script ..
   pub begins : nor.tells old → status ≢ 7 → BeginsAs (begin_refusal g (nor.bytes old) (nor.bytes new)) status
   -- .. and, if it isn't 8, that of this script
-  pub complete : source.tells script → nor.tells old → has_room g (table_of g (nor.bytes old)) ≡ true → status ≢ 7 → status ≢ 8 →
+  pub complete : source.tells script → nor.tells old → IsRoomy g (first_of g lent (nor.bytes old)) (calls (source.left script)) → status ≢ 7 → status ≢ 8 →
       begin_refusal g (nor.bytes old) (nor.bytes new) ≡ None → IsComplete (source.left script) status
   -- an image that isn't taken stays, and its closing line is said alone
   pub refused : nor.tells old → (ending : Ending) → check_refusal g (nor.bytes old) ≡ Some ending → Concludes nor old new [] ending status × (status ≢ 7 → WritesNone nor old new)

@@ -5,12 +5,13 @@ use Rattle.nor_core.specs.declared.state.NorState.{Ghosts as NorOf}
 use Rattle.nor_core.specs.Device.{Changes}
 use Rattle.table_model.specs.Ask.{Ask}
 use Rattle.table_model.specs.Window.{Moment}
-use Rattle.call_script.specs.Lines.{Bad, lines, of_line, calls_of, NoBreak}
+use Rattle.call_script.specs.Lines.{Bad, lines, of_line, calls_of, calls, NoBreak}
 use Rattle.call_model.specs.Memory.{Memory}
 use Rattle.run_model.specs.Runs.{replies}
 use Rattle.run_model.specs.Ran.{RunStands, RunPublishes, RunAnswers, MayCut, Reached, SaidPart}
 use Rattle.file_calls.specs.declared.told.Told.{Told}
 use Rattle.file_calls.specs.Replies.{shown_by}
+use Rattle.tool_core.specs.Rooms.{FindsRoom, AllFindRoom}
 use Rattle.tool_core.specs.Runs.{result_err, StandsNow, WorksTo}
 use Rattle.tool_core.specs.declared.ending.Ending.{Ending}
 use Rattle.tool_core.specs.declared.ending.Ending.TheVariants.{Done, BadLine, BoardFault, SourceFault, TooLong}
@@ -18,7 +19,7 @@ use Rattle.tool_core.specs.declared.ending.Ending.TheVariants.{Done, BadLine, Bo
 -- What doing a call leaves: what a run may at each cut, and its answer, or that the board failed. `lent` are the bytes for what is read.
 pub record DoesCall {D : Type 0} (nor : NorOf D) (g : Geometry) (old new : D) (was now : Memory) (ask : Ask) (result : Result Told Ending) (lent : List ℕ) : Type 0 where
   pub changes : (m : Moment) → Changes nor old new (RunPublishes g was m ask)
-  pub answers : (m : Moment) → RunStands nor g old was m → IfOk result (λ told. RunAnswers nor g old new now m ask (shown_by told lent))
+  pub answers : (m : Moment) → RunStands nor g old was m → FindsRoom g m.state ask → IfOk result (λ told. RunAnswers nor g old new now m ask (shown_by told lent))
   pub stops : (m : Moment) → RunStands nor g old was m → IfErr result (λ ending. ending ≡ BoardFault)
   -- whether or not the table has room, it goes on standing
   pub works : StandsNow nor g old was → WorksTo nor g new now (result_err result)
@@ -109,6 +110,15 @@ pub record Turned {D : Type 0} (nor : NorOf D) (g : Geometry) (ending : Option E
   pub bytes : CountsBytes ending a b seg
   pub leaves : MayCut nor g a.device b.device a.memory m (calls_of done)
   pub stops : Stops nor g m a b (calls_of done) tail ending
+
+-- A volume stands at a moment of a run, and the calls of all bytes that are still to be done find room.
+pub record Goes {D : Type 0} (nor : NorOf D) (g : Geometry) (m : Moment) (a : At D) : Type 0 where
+  pub stands : RunStands nor g a.device a.memory m
+  pub room : AllFindRoom g m (calls (a.pending ++ a.left))
+
+-- from any such moment these lines were done
+abbrev pub Turns : {D : Type 0} (nor : NorOf D) (g : Geometry) (ending : Option Ending) (a b : At D) → Type 0
+Turns nor g ending a b = (m : Moment) → Goes nor g m a → Turned nor g ending m a b
 
 -- one byte more was left
 pub record OneMore (old new : List ℕ) : Type 0 where

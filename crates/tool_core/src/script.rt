@@ -4,7 +4,7 @@ ghost use Rattle.nor_core.specs.Count.{Rose};
 ghost use Rattle.nor_core.specs.Device.{Leaves, Says, InSay};
 ghost use Rattle.table_model.specs.Reply.{answered};
 ghost use Rattle.table_model.specs.Window.{Moment};
-ghost use Rattle.call_script.specs.Lines.{NoBreak, calls_of};
+ghost use Rattle.call_script.specs.Lines.{NoBreak, calls_of, calls};
 ghost use Rattle.call_script.specs.Pieces.{IsShort};
 ghost use Rattle.call_script.specs.Replies.{text};
 ghost use Rattle.run_model.specs.Ran.{RunStands, MayCut};
@@ -12,8 +12,9 @@ ghost use Rattle.volume.specs.Holds.{memory};
 ghost use Rattle.volume.specs.Stages.{takes_calls};
 ghost use Rattle.volume.specs.Same.{IsSameVolume};
 ghost use Rattle.tool_core.specs.Later.{IsLater, IsLaterIf};
+ghost use Rattle.tool_core.specs.Rooms.{AllFindRoom};
 ghost use Rattle.tool_core.specs.Runs.{Ran, Works};
-ghost use Rattle.tool_core.specs.Turns.{DidLine, OneMore, Turned, at_run};
+ghost use Rattle.tool_core.specs.Turns.{DidLine, OneMore, Turns, at_run};
 ghost use Rattle.tool_core.specs.Outcomes.{RunEnds};
 
 use crate::call::{BYTES, apply};
@@ -41,8 +42,8 @@ fn answer<B: Board>(
     ensures ran { Ran B.NorState volume.old.nor.now volume.new.nor.now result (takes_calls volume.new) }
     ensures same { IsSameVolume volume.old volume.new }
     ensures no_script { ¬ (result ≡ Some Ending.SourceFault) }
-    ensures leaves { (m : Moment) → MayCut B.NorState volume.old.geometry volume.old.nor.now volume.new.nor.now (memory volume.old) m (calls_of (line.now ∷ [])) }
-    ensures did { (m : Moment) → RunStands B.NorState volume.old.geometry volume.old.nor.now (memory volume.old) m → DidLine B.NorState volume.old.geometry volume.old.nor.now volume.new.nor.now (memory volume.old) (memory volume.new) m line.now number result }
+    ensures leaves { (m : Moment) → AllFindRoom volume.old.geometry m (calls_of (line.now ∷ [])) → MayCut B.NorState volume.old.geometry volume.old.nor.now volume.new.nor.now (memory volume.old) m (calls_of (line.now ∷ [])) }
+    ensures did { (m : Moment) → RunStands B.NorState volume.old.geometry volume.old.nor.now (memory volume.old) m → AllFindRoom volume.old.geometry m (calls_of (line.now ∷ [])) → DidLine B.NorState volume.old.geometry volume.old.nor.now volume.new.nor.now (memory volume.old) (memory volume.new) m line.now number result }
     ensures works { Works B.NorState volume.old.geometry volume.old.nor.now volume.new.nor.now (memory volume.old) (memory volume.new) result }
 {
     let Ok(parsed) = parse_line(line, scratch) else {
@@ -109,7 +110,7 @@ fn last_line<B: Board>(volume: &mut Volume<'_, B>, lines: &Lines<'_>, scratch: &
     ensures ran { Ran B.NorState volume.old.nor.now volume.new.nor.now (Some result) (takes_calls volume.new) }
     ensures same { IsSameVolume volume.old volume.new }
     ensures no_script { ¬ (result ≡ Ending.SourceFault) }
-    ensures turned { (m : Moment) → RunStands B.NorState volume.old.geometry volume.old.nor.now (memory volume.old) m → Turned B.NorState volume.old.geometry (Some result) m
+    ensures turned { Turns B.NorState volume.old.geometry (Some result)
         (at_run volume.old.nor.now (memory volume.old) lines.now.buf.now lines.now.start lines.now.end lines.now.taken lines.now.handed [])
         (at_run volume.new.nor.now (memory volume.new) lines.now.buf.now lines.now.start lines.now.end lines.now.taken lines.now.handed []) }
     ensures works { Works B.NorState volume.old.geometry volume.old.nor.now volume.new.nor.now (memory volume.old) (memory volume.new) (Some result) }
@@ -144,7 +145,7 @@ fn take_more<B: Board, S: Source>(
     ensures told { S.tells script.old → S.tells script.new }
     ensures same_buf { lines.new.buf.ghost_name ≡ lines.old.buf.ghost_name }
     ensures smaller { IfNone result (2 * (16777216 - lines.new.taken) + (lines.new.end - lines.new.start) < 2 * (16777216 - lines.old.taken) + (lines.old.end - lines.old.start)) }
-    ensures turned { (m : Moment) → S.tells script.old → RunStands B.NorState volume.old.geometry volume.old.nor.now (memory volume.old) m → Turned B.NorState volume.old.geometry result m
+    ensures turned { S.tells script.old → Turns B.NorState volume.old.geometry result
         (at_run volume.old.nor.now (memory volume.old) lines.old.buf.now lines.old.start lines.old.end lines.old.taken lines.old.handed (S.left script.old))
         (at_run volume.new.nor.now (memory volume.new) lines.new.buf.now lines.new.start lines.new.end lines.new.taken lines.new.handed (S.left script.new)) }
     ensures works { Works B.NorState volume.old.geometry volume.old.nor.now volume.new.nor.now (memory volume.old) (memory volume.new) result }
@@ -184,7 +185,7 @@ fn turn<B: Board, S: Source>(
     ensures told { S.tells script.old → S.tells script.new }
     ensures same_buf { lines.new.buf.ghost_name ≡ lines.old.buf.ghost_name }
     ensures smaller { IfNone result (2 * (16777216 - lines.new.taken) + (lines.new.end - lines.new.start) < 2 * (16777216 - lines.old.taken) + (lines.old.end - lines.old.start)) }
-    ensures turned { (m : Moment) → S.tells script.old → RunStands B.NorState volume.old.geometry volume.old.nor.now (memory volume.old) m → Turned B.NorState volume.old.geometry result m
+    ensures turned { S.tells script.old → Turns B.NorState volume.old.geometry result
         (at_run volume.old.nor.now (memory volume.old) lines.old.buf.now lines.old.start lines.old.end lines.old.taken lines.old.handed (S.left script.old))
         (at_run volume.new.nor.now (memory volume.new) lines.new.buf.now lines.new.start lines.new.end lines.new.taken lines.new.handed (S.left script.new)) }
     ensures works { Works B.NorState volume.old.geometry volume.old.nor.now volume.new.nor.now (memory volume.old) (memory volume.new) result }
@@ -214,7 +215,7 @@ fn run_lines<B: Board, S: Source>(
     ensures same { IsSameVolume volume.old volume.new }
     ensures script_faults { S.faults script.old ≤ S.faults script.new }
     ensures script_cause { result ≡ Ending.SourceFault → Rose (S.faults script.old) (S.faults script.new) }
-    ensures turned { (m : Moment) → S.tells script.old → RunStands B.NorState volume.old.geometry volume.old.nor.now (memory volume.old) m → Turned B.NorState volume.old.geometry (Some result) m
+    ensures turned { S.tells script.old → Turns B.NorState volume.old.geometry (Some result)
         (at_run volume.old.nor.now (memory volume.old) lines.old.buf.now lines.old.start lines.old.end lines.old.taken lines.old.handed (S.left script.old))
         (at_run volume.new.nor.now (memory volume.new) lines.new.buf.now lines.new.start lines.new.end lines.new.taken lines.new.handed (S.left script.new)) }
     ensures works { Works B.NorState volume.old.geometry volume.old.nor.now volume.new.nor.now (memory volume.old) (memory volume.new) (Some result) }
@@ -240,7 +241,7 @@ pub(crate) fn run_script<B: Board, S: Source>(
     ensures same { IsSameVolume volume.old volume.new }
     ensures script_faults { S.faults script.old ≤ S.faults script.new }
     ensures script_cause { result ≡ Ending.SourceFault → Rose (S.faults script.old) (S.faults script.new) }
-    ensures ends { (m : Moment) → S.tells script.old → RunStands B.NorState volume.old.geometry volume.old.nor.now (memory volume.old) m → RunEnds B.NorState volume.old.geometry volume.old.nor.now volume.new.nor.now (memory volume.old) (memory volume.new) m (S.left script.old) (S.left script.new) result }
+    ensures ends { (m : Moment) → S.tells script.old → RunStands B.NorState volume.old.geometry volume.old.nor.now (memory volume.old) m → AllFindRoom volume.old.geometry m (calls (S.left script.old)) → RunEnds B.NorState volume.old.geometry volume.old.nor.now volume.new.nor.now (memory volume.old) (memory volume.new) m (S.left script.old) (S.left script.new) result }
     ensures works { Works B.NorState volume.old.geometry volume.old.nor.now volume.new.nor.now (memory volume.old) (memory volume.new) (Some result) }
 {
     let (taken, scratch) = line.split_at_mut(LINES);

@@ -12,7 +12,7 @@ use Rattle.table_model.specs.Window.{Moment, Waiting, after, settled_at, leaves_
 use Rattle.call_model.specs.Calls.{Stands}
 use Rattle.call_model.proofs.After.{other-settles}
 use Rattle.run_model.specs.Ran.{RunAnswers}
-use Rattle.run_model.proofs.OneCall.{run_answers, after_state}
+use Rattle.run_model.proofs.OneCall.{run_answers, after_state, room_after}
 use Rattle.volume.specs.declared.volume.Volume.{Volume}
 use Rattle.volume.specs.Holds.{memory, Holds}
 use Rattle.volume.specs.Opening.{is_open}
@@ -47,7 +47,7 @@ module _ {N : Type 0} {nor : NorOf N} where
   not_short : {g : Geometry} {old new : Volume N nor} {s : State} {ask : Ask} {reply : Answer} (ready : IsReady g old s) → Calls ask old new reply → StopsShort old.geometry (nor.bytes old.nor.now) ready.moment.state ask reply → ⊥
   not_short {g} {old} {new} {s} {ask} {reply} ready calls short = ⊎_elim
       (λ collects. calls.unstuck ready.moment ready.takes (holds_at ready) (rw ready.geometry ready.stands.reserve) collects short.tight)
-      (λ corner. let no : false ≡ true = sym corner.full ∙ rw ready.geometry ready.stands.room in cc)
+      (λ corner. let no : false ≡ true = sym corner.full ∙ rw ready.geometry ready.room in cc)
       short.why
 
   -- a page that reads otherwise is told by no call
@@ -71,6 +71,7 @@ module _ {N : Type 0} {nor : NorOf N} where
           takes = takes_on ready.takes calls whole;
           moment = after g true m ask;
           stands = ran.stands;
+          room = room_after g m ask ready.room;
           state_is = after_state g true m ask ∙ ap (λ (t : State). (answer g true t ask).next) ready.state_is;
         };
       }

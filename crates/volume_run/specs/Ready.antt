@@ -4,6 +4,7 @@ use Rattle.geometry.specs.declared.geometry.Geometry.{Geometry}
 use Rattle.nor_core.specs.declared.state.NorState.{Ghosts as NorOf}
 use Rattle.nor_core.specs.Device.{Changes}
 use Rattle.table_model.specs.Table.{State}
+use Rattle.table_model.specs.Room.{has_room}
 use Rattle.table_model.specs.Ask.{Ask, Opens}
 use Rattle.table_model.specs.Reply.{Answer, Tells}
 use Rattle.table_model.specs.Flat.{answer}
@@ -27,6 +28,7 @@ module _ {N : Type 0} {nor : NorOf N} where
     pub takes : takes_calls v ≡ true
     pub moment : Moment
     pub stands : RunStands nor g v.nor.now (memory v) moment
+    pub room : has_room g moment.state.table ≡ true
     pub state_is : moment.state ≡ s
 
   -- A call was answered as the flat table is, and the volume stands at the state after it.

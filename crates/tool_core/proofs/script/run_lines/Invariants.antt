@@ -1,11 +1,9 @@
 use Rattle.std.proofs.Common.{◌≡◌, ◌≤◌, ◌+◌, ◌-◌, ◌*◌, None, true}
 use Rattle.volume.specs.Stages.{takes_calls}
 use Rattle.volume.specs.Same.{IsSameVolume}
-use Rattle.table_model.specs.Window.{Moment}
-use Rattle.run_model.specs.Ran.{RunStands}
 use Rattle.volume.specs.Holds.{memory}
 use Rattle.tool_core.specs.Runs.{Works}
-use Rattle.tool_core.specs.Turns.{Turned, at_run}
+use Rattle.tool_core.specs.Turns.{Turns, at_run}
 use Rattle.tool_core.proofs.script.run_lines.Given as goal
 
 abbrev pub invariant-turns : goal.invariant-turns
@@ -16,7 +14,7 @@ invariant-turns g l = record {
   stands : takes_calls l.volume ≡ true;
   told : g.S.Source.tells l.fn.script → g.S.Source.tells l.script;
   works : Works g.B.NorState l.fn.volume.geometry l.fn.volume.nor.now l.volume.nor.now (memory l.fn.volume) (memory l.volume) None;
-  turned : (m : Moment) → g.S.Source.tells l.fn.script → RunStands g.B.NorState l.fn.volume.geometry l.fn.volume.nor.now (memory l.fn.volume) m → Turned g.B.NorState l.fn.volume.geometry None m
+  turned : g.S.Source.tells l.fn.script → Turns g.B.NorState l.fn.volume.geometry None
       (at_run l.fn.volume.nor.now (memory l.fn.volume) l.fn.lines.buf.now l.fn.lines.start l.fn.lines.end l.fn.lines.taken l.fn.lines.handed (g.S.Source.left l.fn.script))
       (at_run l.volume.nor.now (memory l.volume) l.lines.buf.now l.lines.start l.lines.end l.lines.taken l.lines.handed (g.S.Source.left l.script));
 }
