@@ -8,10 +8,12 @@ use Rattle.nor_core.specs.declared.state.NorState.{Ghosts as NorOf}
 use Rattle.nor_core.specs.Count.{Rose}
 use Rattle.nor_core.specs.Device.{Changes, Says}
 use Rattle.nor_core.proofs.Cuts.{wider, unchanged}
+use Rattle.flash_view.specs.Same.{StaysBehind}
 use Rattle.table_model.specs.Table.{File, State}
 use Rattle.table_model.specs.declared.error.FsErr.{FsErr}
 use Rattle.table_model.specs.declared.error.FsErr.TheVariants.{DeviceFault, Failed}
 use Rattle.run_model.specs.Ran.{RunStands}
+use Rattle.vol_mount.specs.Formatted.{IsFormatted}
 use Rattle.volume.specs.declared.volume.Volume.{Volume}
 use Rattle.volume.specs.Holds.{memory}
 use Rattle.volume.specs.Same.{IsSameVolume}
@@ -22,8 +24,10 @@ use Rattle.volume.proofs.RunSettling.{unmounts_open}
 use Rattle.volume_run.specs.Ready.{IsReady}
 use Rattle.tool_core.specs.declared.ending.Ending.{Ending}
 use Rattle.tool_core.specs.declared.ending.Ending.TheVariants.{Done, BoardFault}
-use Rattle.tool_core.specs.Endings.{Speaks}
-use Rattle.tool_core.specs.Filling.{HoldsFiles, SpeaksOf}
+use Rattle.tool_core.specs.Endings.{OnlyCloses, Speaks}
+use Rattle.tool_core.specs.Filling.{HoldsFiles, WasFormatted, SpeaksOf}
+use Rattle.tool_core.proofs.Reading.{behind_closed}
+use Rattle.tool_core.proofs.Working.{goes_of}
 
 -- ---- the written bytes that wait are put onto the chip
 
@@ -61,6 +65,16 @@ module _ {N : Type 0} {nor : NorOf N} {old new : Volume N nor} {last : Result (U
 
   pub settled_stops : (g : Geometry) (s : State) (why : FsErr) → last ≡ Err why → IsReady g old s → why ≡ DeviceFault
   settled_stops g s why is ready = ⊎_elim (λ fine. let bad = subst (λ (r : Result (Unit {0}) FsErr). IsOk r) is fine.0 in absurd (cc)) (λ fault. let both = sym is ∙ fault in cc) (settled_cases g s ready)
+
+-- ---- a format
+
+-- an empty volume has no files
+pub holds_none : (g : Geometry) (was now : List ℕ) → IsFormatted g was now → HoldsFiles g now []
+holds_none g was now f = record { tidy = f.tidy; reserve = f.reserve; table = f.table }
+
+-- a command that went on from it
+pub was_formatted : {D : Type 0} {nor : NorOf D} {g : Geometry} {old empty last new : D} {ending : Ending} {status : ℕ} → IsFormatted g (nor.bytes old) (nor.bytes empty) → StaysBehind nor g empty last → OnlyCloses nor last new ending status → WasFormatted nor g old new
+was_formatted {empty = empty} formatted behind closes = record { empty = empty; formatted = formatted; later = goes_of (behind_closed behind closes).cuts }
 
 -- ---- what is said
 

@@ -17,15 +17,16 @@ use Rattle.image_make.specs.declared.refusing.Refusal.TheVariants.{BadNames, Ful
 use Rattle.image_make.specs.Refusals.{index_sum, make_refusal}
 use Rattle.image_make.specs.Tables.{folder_table}
 use Rattle.image_make.proofs.Keeping.{kept_then}
+use Rattle.vol_mount.specs.Formatted.{IsFormatted}
 use Rattle.volume.specs.declared.volume.Volume.{Volume}
 use Rattle.volume_make.specs.Making.{made_text, make_text, IsMade}
 use Rattle.tool_core.specs.declared.ending.Ending.{Ending}
 use Rattle.tool_core.specs.declared.ending.Ending.TheVariants.{Done, BoardFault, FolderFault}
 use Rattle.tool_core.specs.Closing.{status_of}
 use Rattle.tool_core.specs.Endings.{OnlyCloses, Speaks, Concludes}
-use Rattle.tool_core.specs.Filling.{HoldsFiles, SpeaksOf}
+use Rattle.tool_core.specs.Filling.{HoldsFiles, WasFormatted, SpeaksOf}
 use Rattle.tool_core.specs.Making.{refused_by, StopsMake, HoldsFolder, MakesTo, DoesMake}
-use Rattle.tool_core.proofs.FillEnds.{speaks_none, speaks_said}
+use Rattle.tool_core.proofs.FillEnds.{holds_none, was_formatted, speaks_none, speaks_said}
 use Rattle.tool_core.proofs.Speaking.{concludes, by_result}
 use Rattle.tool_core.proofs.Reading.{behind_closed}
 
@@ -51,15 +52,17 @@ module _ {D X : Type 0} {nor : NorOf D} {folder : FolderOf X} {g : Geometry} whe
   make_named : {old new : D} {before after : X} (why : Refusal) (ending : Ending) (status : ℕ) → make_refusal g (folder.entries before) ≡ Some why → ending ≡ refused_by why → Kept folder before after → OnlyCloses nor old new ending status → DoesMake nor folder g old new before after status
   make_named {old} {new} why ending status is ends kept closes =
       let here : OnlyCloses nor old new (refused_by why) status = subst (λ (e : Ending). OnlyCloses nor old new e status) ends closes in
+      let undone : status ≡ 0 → ⊥ = λ done. ⊎_elim
+      (λ said. ⊎_elim (λ six. omega (arith, done, said, six)) (λ named. omega (arith, done, said, named)) (refused_status why))
+      (λ fault. omega (arith, done, fault.0))
+      here.ends in
       record {
         kept = kept;
         refused = λ w at. inl (subst (λ (r : Refusal). OnlyCloses nor old new (refused_by r) status) (same_Some why w (sym is ∙ at)) here);
         accepted = λ none. absurd (unrefused why none is);
         told = λ tells none. absurd (unrefused why none is);
-        files = λ tells done. absurd (⊎_elim
-            (λ said. ⊎_elim (λ six. omega (arith, done, said, six)) (λ named. omega (arith, done, said, named)) (refused_status why))
-            (λ fault. omega (arith, done, fault.0))
-            here.ends);
+        files = λ tells done. absurd (undone done);
+        formats = λ tells done. absurd (undone done);
         behind = behind_said g _ closes.says closes.cuts;
       }
 
@@ -68,6 +71,7 @@ module _ {D X : Type 0} {nor : NorOf D} {folder : FolderOf X} {g : Geometry} whe
   make_unlisted {old} {new} ending status fault rose kept closes =
       let here : OnlyCloses nor old new FolderFault status = subst (λ (e : Ending). OnlyCloses nor old new e status) fault closes in
       let is : (status ≡ 9) ⊎ (status ≡ 7) = ⊎_elim (λ told. inl told) (λ failed. inr failed.0) here.ends in
+      let undone : status ≡ 0 → ⊥ = λ done. ⊎_elim (λ nine. omega (arith, done, nine)) (λ seven. omega (arith, done, seven)) is in
       record {
         kept = kept;
         refused = λ why some. inr (record { closes = here; cause = rose });
@@ -76,7 +80,8 @@ module _ {D X : Type 0} {nor : NorOf D} {folder : FolderOf X} {g : Geometry} whe
           λ named. ⊎_elim (λ nine. omega (arith, named, nine)) (λ seven. omega (arith, named, seven)) is,
         );
         told = λ tells none. inr (record { concludes = unread FolderFault status tells (omega arith) (λ same. same) refl refl here; cause = rose });
-        files = λ tells done. absurd (⊎_elim (λ nine. omega (arith, done, nine)) (λ seven. omega (arith, done, seven)) is);
+        files = λ tells done. absurd (undone done);
+        formats = λ tells done. absurd (undone done);
         behind = behind_said g _ closes.says closes.cuts;
       }
 
@@ -89,8 +94,8 @@ module _ {D X : Type 0} {nor : NorOf D} {folder : FolderOf X} {g : Geometry} whe
   -- ---- one that isn't
 
   make_closed : {old mid new : D} {before after : X} (result : Ending) (status : ℕ) → make_refusal g (folder.entries before) ≡ None → Kept folder before after → (nor.tells old → MakesTo nor folder g old mid before result) →
-      StaysBehind nor g old mid → (result ≡ BoardFault → Rose (nor.faults old) (nor.faults mid)) → (result ≡ FolderFault → Rose (folder.faults before) (folder.faults after)) → status_of result ≢ 6 → status_of result ≢ 13 → OnlyCloses nor mid new result status → DoesMake nor folder g old new before after status
-  make_closed {old} {mid} {new} {before} result status accepted kept makes behind cause folder_cause no_full no_names closes = record {
+      (nor.tells old → status ≡ 0 → WasFormatted nor g old new) → StaysBehind nor g old mid → (result ≡ BoardFault → Rose (nor.faults old) (nor.faults mid)) → (result ≡ FolderFault → Rose (folder.faults before) (folder.faults after)) → status_of result ≢ 6 → status_of result ≢ 13 → OnlyCloses nor mid new result status → DoesMake nor folder g old new before after status
+  make_closed {old} {mid} {new} {before} result status accepted kept makes formats behind cause folder_cause no_full no_names closes = record {
     kept = kept;
     refused = λ why is. absurd (unrefused why accepted is);
     accepted = λ none. (
@@ -107,6 +112,7 @@ module _ {D X : Type 0} {nor : NorOf D} {folder : FolderOf X} {g : Geometry} whe
         let is : result ≡ Done = by_result speaks.speaks closes (λ failed. omega (arith, done, failed)) in
         subst (λ (l : List ℕ). HoldsFolder folder g l before) (sym closes.says.bytes) (speaks.left is))
         (makes tells);
+    formats = formats;
     behind = behind_closed behind closes;
   }
 
@@ -122,6 +128,7 @@ module _ {D X : Type 0} {nor : NorOf D} {folder : FolderOf X} {g : Geometry} whe
       DoesMake nor folder g old new before after status
   make_unformatted result status accepted kept changes fault rose closes = make_closed result status accepted kept
       (λ tells. makes_none result changes.said fault)
+      (λ tells done. absurd (⊎_elim (λ said. omega (arith, done, said, ap status_of fault)) (λ failed. omega (arith, done, failed.0)) closes.ends))
       (behind_changes g changes)
       (λ is. rose)
       (λ is. absurd (let bad : BoardFault ≡ FolderFault = sym fault ∙ is in cc))
@@ -161,11 +168,12 @@ module _ {D X : Type 0} {nor : NorOf D} {folder : FolderOf X} {g : Geometry} whe
       makes
 
   -- a volume that was formatted
-  pub make_formatted : {old mid last new : D} {before between after : X} (result : Ending) (status : ℕ) → make_refusal g (folder.entries before) ≡ None → Kept folder before between → Kept folder between after → Changes nor old mid (SameOutside 0 (g.blocks * g.block)) → (nor.tells old → HoldsFiles g (nor.bytes mid) []) →
+  pub make_formatted : {old mid last new : D} {before between after : X} (result : Ending) (status : ℕ) → make_refusal g (folder.entries before) ≡ None → Kept folder before between → Kept folder between after → Changes nor old mid (SameOutside 0 (g.blocks * g.block)) → (nor.tells old → IsFormatted g (nor.bytes old) (nor.bytes mid)) →
       (nor.tells mid → HoldsFiles g (nor.bytes mid) [] → MakesTo nor folder g mid last between result) → StaysBehind nor g mid last → (result ≡ BoardFault → Rose (nor.faults mid) (nor.faults last)) → (result ≡ FolderFault → Rose (folder.faults between) (folder.faults after)) →
       status_of result ≢ 6 → status_of result ≢ 13 → OnlyCloses nor last new result status → DoesMake nor folder g old new before after status
-  make_formatted result status accepted kept later changes files makes behind cause folder_cause no_full no_names closes = make_closed result status accepted (kept_then kept later)
-      (λ tells. makes_after changes.said (makes_kept kept (makes (changes.cuts.told tells) (files tells))))
+  make_formatted result status accepted kept later changes formatted makes behind cause folder_cause no_full no_names closes = make_closed result status accepted (kept_then kept later)
+      (λ tells. makes_after changes.said (makes_kept kept (makes (changes.cuts.told tells) (holds_none g _ _ (formatted tells)))))
+      (λ tells done. was_formatted (formatted tells) behind closes)
       (behind_then g (behind_changes g changes) behind)
       (λ is. let rose = cause is in omega (arith, rose, changes.cuts.faults))
       (λ is. let rose = folder_cause is in omega (arith, rose, kept.faults))

@@ -1,5 +1,5 @@
 -- How a soak ends, before its closing line and with it.
-use Rattle.std.proofs.Common.{◌≡◌, ℕ, ◌*◌, List, [], length, refl, sym, ◌∙◌, ap, subst, arith}
+use Rattle.std.proofs.Common.{◌≡◌, ℕ, ◌*◌, List, [], length, refl, sym, ◌∙◌, ap, subst, arith, ⊎_elim}
 use Rattle.geometry.specs.declared.geometry.Geometry.{Geometry}
 use Rattle.nor_core.specs.declared.state.NorState.{Ghosts as NorOf}
 use Rattle.nor_core.specs.Count.{Rose}
@@ -7,6 +7,7 @@ use Rattle.nor_core.specs.Device.{Changes}
 use Rattle.nor_core.specs.Flash.{SameOutside}
 use Rattle.flash_view.specs.Same.{StaysBehind}
 use Rattle.flash_view.proofs.Behind.{behind_then, behind_changes}
+use Rattle.vol_mount.specs.Formatted.{IsFormatted}
 use Rattle.volume.specs.declared.volume.Volume.{Volume}
 use Rattle.volume_soak.specs.declared.soaking.Summary.{Summary}
 use Rattle.volume_soak.specs.Doing.{IsSummary}
@@ -14,9 +15,10 @@ use Rattle.volume_soak.specs.Turns.{empty, soaked, summary_text, soak_text}
 use Rattle.tool_core.specs.declared.ending.Ending.{Ending}
 use Rattle.tool_core.specs.declared.ending.Ending.TheVariants.{Done, BoardFault}
 use Rattle.tool_core.specs.Endings.{OnlyCloses}
-use Rattle.tool_core.specs.Filling.{HoldsFiles, SpeaksOf}
+use Rattle.tool_core.specs.Closing.{status_of}
+use Rattle.tool_core.specs.Filling.{HoldsFiles, WasFormatted, SpeaksOf}
 use Rattle.tool_core.specs.Soaking.{SoaksTo, DoesSoak, soaked_files}
-use Rattle.tool_core.proofs.FillEnds.{speaks_none, speaks_after}
+use Rattle.tool_core.proofs.FillEnds.{holds_none, was_formatted, speaks_none, speaks_after}
 use Rattle.tool_core.proofs.Speaking.{concludes, by_result}
 use Rattle.tool_core.proofs.Reading.{behind_closed}
 
@@ -33,25 +35,29 @@ module _ {D : Type 0} {nor : NorOf D} {g : Geometry} where
 
   -- ---- with the closing line
 
-  soak_closed : {old mid new : D} (slots seed turns : ℕ) (result : Ending) (status : ℕ) → (nor.tells old → SoaksTo nor g slots seed turns old mid result) → StaysBehind nor g old mid → (result ≡ BoardFault → Rose (nor.faults old) (nor.faults mid)) →
+  soak_closed : {old mid new : D} (slots seed turns : ℕ) (result : Ending) (status : ℕ) → (nor.tells old → SoaksTo nor g slots seed turns old mid result) → (nor.tells old → status ≡ 0 → WasFormatted nor g old new) → StaysBehind nor g old mid → (result ≡ BoardFault → Rose (nor.faults old) (nor.faults mid)) →
       OnlyCloses nor mid new result status → DoesSoak nor g slots seed turns old new status
-  soak_closed {old} {mid} {new} slots seed turns result status soaks behind cause closes = record {
+  soak_closed {old} {mid} {new} slots seed turns result status soaks formats behind cause closes = record {
     told = λ tells. concludes (soak_text g slots seed turns) Done result status (behind.cuts.told tells) behind.cuts.faults cause (soaks tells).speaks closes;
     files = λ tells done.
         let is : result ≡ Done = by_result (soaks tells).speaks closes (λ failed. omega (arith, done, failed)) in
         subst (λ (l : List ℕ). HoldsFiles g l (soaked_files g slots seed turns)) (sym closes.says.bytes) ((soaks tells).left is);
+    formats = formats;
     behind = behind_closed behind closes;
   }
 
   -- a volume that could not be formatted
   pub soak_unformatted : {old mid new : D} (slots seed turns : ℕ) (result : Ending) (status : ℕ) → Changes nor old mid (SameOutside 0 (g.blocks * g.block)) → result ≡ BoardFault → Rose (nor.faults old) (nor.faults mid) → OnlyCloses nor mid new result status → DoesSoak nor g slots seed turns old new status
-  soak_unformatted slots seed turns result status changes fault rose closes = soak_closed slots seed turns result status (λ tells. speaks_none result changes.said fault) (behind_changes g changes) (λ is. rose) closes
+  soak_unformatted slots seed turns result status changes fault rose closes = soak_closed slots seed turns result status (λ tells. speaks_none result changes.said fault)
+      (λ tells done. absurd (⊎_elim (λ said. omega (arith, done, said, ap status_of fault)) (λ failed. omega (arith, done, failed.0)) closes.ends))
+      (behind_changes g changes) (λ is. rose) closes
 
   -- one that was
-  pub soak_formatted : {old mid last new : D} (slots seed turns : ℕ) (result : Ending) (status : ℕ) → Changes nor old mid (SameOutside 0 (g.blocks * g.block)) → (nor.tells old → HoldsFiles g (nor.bytes mid) []) → (nor.tells mid → HoldsFiles g (nor.bytes mid) [] → SoaksTo nor g slots seed turns mid last result) →
+  pub soak_formatted : {old mid last new : D} (slots seed turns : ℕ) (result : Ending) (status : ℕ) → Changes nor old mid (SameOutside 0 (g.blocks * g.block)) → (nor.tells old → IsFormatted g (nor.bytes old) (nor.bytes mid)) → (nor.tells mid → HoldsFiles g (nor.bytes mid) [] → SoaksTo nor g slots seed turns mid last result) →
       StaysBehind nor g mid last → (result ≡ BoardFault → Rose (nor.faults mid) (nor.faults last)) → OnlyCloses nor last new result status → DoesSoak nor g slots seed turns old new status
-  soak_formatted slots seed turns result status changes files soaks behind cause closes = soak_closed slots seed turns result status
-      (λ tells. speaks_after changes.said (soaks (changes.cuts.told tells) (files tells)))
+  soak_formatted slots seed turns result status changes formatted soaks behind cause closes = soak_closed slots seed turns result status
+      (λ tells. speaks_after changes.said (soaks (changes.cuts.told tells) (holds_none g _ _ (formatted tells))))
+      (λ tells done. was_formatted (formatted tells) behind closes)
       (behind_then g (behind_changes g changes) behind)
       (λ is. let rose = cause is in omega (arith, rose, changes.cuts.faults))
       closes

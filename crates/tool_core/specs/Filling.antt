@@ -2,11 +2,13 @@
 use Rattle.std.specs.Prelude.{ℕ, ◌≡◌, List}
 use Rattle.geometry.specs.declared.geometry.Geometry.{Geometry}
 use Rattle.nor_core.specs.declared.state.NorState.{Ghosts as NorOf}
+use Rattle.nor_core.specs.Device.{Leaves}
 use Rattle.table_model.specs.Table.{File}
 use Rattle.table_model.specs.declared.error.FsErr.{FsErr}
 use Rattle.table_model.specs.declared.error.FsErr.TheVariants.{DeviceFault, Damaged}
 use Rattle.image_model.specs.Tables.{table_of}
 use Rattle.image_model.specs.Tidy.{IsTidy, HasReserve}
+use Rattle.vol_mount.specs.Formatted.{IsFormatted}
 use Rattle.tool_core.specs.declared.ending.Ending.{Ending}
 use Rattle.tool_core.specs.declared.ending.Ending.TheVariants.{Done, BoardFault, Tight, Differ}
 use Rattle.tool_core.specs.Endings.{Speaks}
@@ -16,6 +18,12 @@ pub record HoldsFiles (g : Geometry) (image : List ℕ) (files : List File) : Ty
   pub tidy : IsTidy g image
   pub reserve : HasReserve g image
   pub table : table_of g image ≡ files
+
+-- At a moment of the command the device held an empty volume, each byte as a format leaves it; what it holds in the end came of that.
+pub record WasFormatted {D : Type 0} (nor : NorOf D) (g : Geometry) (old new : D) : Type 0 where
+  pub empty : D
+  pub formatted : IsFormatted g (nor.bytes old) (nor.bytes empty)
+  pub later : Leaves nor empty new (λ image count. Unit {0})
 
 -- Before its closing line a command said a text, and then the image has these files; or the board failed, and a front of it was said.
 pub record SpeaksOf {D : Type 0} (nor : NorOf D) (g : Geometry) (old new : D) (text : List ℕ) (files : List File) (result : Ending) : Type 0 where

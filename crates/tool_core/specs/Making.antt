@@ -15,7 +15,7 @@ use Rattle.volume_make.specs.Making.{make_text}
 use Rattle.tool_core.specs.declared.ending.Ending.{Ending}
 use Rattle.tool_core.specs.declared.ending.Ending.TheVariants.{Done, Full, FolderFault, BadName}
 use Rattle.tool_core.specs.Endings.{OnlyCloses, Speaks, Concludes}
-use Rattle.tool_core.specs.Filling.{HoldsFiles}
+use Rattle.tool_core.specs.Filling.{HoldsFiles, WasFormatted}
 
 -- how a make ends whose folder's names and sizes refuse it
 abbrev pub refused_by : Refusal → Ending
@@ -66,7 +66,8 @@ pub record DoesMake {D X : Type 0} (nor : NorOf D) (folder : FolderOf X) (g : Ge
   pub accepted : make_refusal g (folder.entries before) ≡ None → (status ≢ 6) × (status ≢ 13)
   -- and the line of the folder is said, and the status is 0; or a front of it, and 7, where a fault of the board rose; or the folder failed
   pub told : nor.tells old → make_refusal g (folder.entries before) ≡ None → Concludes nor old new (make_text g (folder.entries before)) Done status ⊎ EndsUnread nor folder old new before after status
-  -- with status 0 the image has the folder's files
+  -- with status 0 the image has the folder's files, and came of a formatted one
   pub files : nor.tells old → status ≡ 0 → HoldsFolder folder g (nor.bytes new) before
+  pub formats : nor.tells old → status ≡ 0 → WasFormatted nor g old new
   -- whatever is told, time goes on, and the bytes behind the volume stay
   pub behind : StaysBehind nor g old new

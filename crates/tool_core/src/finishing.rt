@@ -1,8 +1,9 @@
-ghost use Rattle.std.specs.Prelude.{◌≡◌, ◌*◌, ◌≢◌, [], OnOk, OnErr, IfErr, Err};
+ghost use Rattle.std.specs.Prelude.{◌≡◌, ◌*◌, ◌≢◌, OnOk, OnErr, IfErr, Err};
 ghost use Rattle.nor_core.specs.Count.{Rose};
 ghost use Rattle.nor_core.specs.Flash.{SameOutside};
 ghost use Rattle.nor_core.specs.Device.{Changes};
 ghost use Rattle.table_model.specs.Table.{State};
+ghost use Rattle.vol_mount.specs.Formatted.{IsFormatted};
 ghost use Rattle.volume.specs.Same.{IsSameVolume};
 ghost use Rattle.volume_run.specs.Ready.{IsReady};
 ghost use Rattle.tool_core.specs.Fits.{IsFitting};
@@ -22,7 +23,7 @@ pub(crate) fn format_board<B: Board>(g: &Geometry, board: &mut B) -> Result<(), 
     ensures cause { OnErr result (Rose (B.faults board.old) (B.faults board.new)) }
     ensures stops { IfErr result (λ ending. ending ≡ Ending.BoardFault) }
     ensures changes { Changes B.NorState board.old board.new (SameOutside 0 (g.now.blocks * g.now.block)) }
-    ensures files { B.tells board.old → OnOk result (HoldsFiles g.now (B.bytes board.new) []) }
+    ensures done { B.tells board.old → OnOk result (IsFormatted g.now (B.bytes board.old) (B.bytes board.new)) }
 {
     match format(g, board) {
         Ok(()) => Ok(()),

@@ -7,4 +7,4 @@ returns-in-Err-clause-does g c = make_stopped c.in-Err.ending c.conclude.result 
 pub returns-clause-does : goal.returns-clause-does
 returns-clause-does g c =
     let made = c.make_board-ending.ensures in
-    make_formatted c.make_board-ending.result c.conclude-2.result c.in_default.ensures.accepted c.accept_folder.ensures.kept made.kept c.format_board.ensures.changes c.in_default-format_board.ensures.files made.makes made.behind made.cause made.folder_cause made.later.no_full made.later.no_names c.conclude-2.ensures
+    make_formatted c.make_board-ending.result c.conclude-2.result c.in_default.ensures.accepted c.accept_folder.ensures.kept made.kept c.format_board.ensures.changes c.in_default-format_board.ensures.done made.makes made.behind made.cause made.folder_cause made.later.no_full made.later.no_names c.conclude-2.ensures
