@@ -1,8 +1,9 @@
 //! Rows of chips in memory.
 ghost use Rattle.std.specs.Prelude.{◌≡◌, ◌+◌, ◌<◌, ◌≤◌, length, IfOk};
 
-use chip_row::{Chip, ChipRow, ChipState, MemChip, RowErr};
-use nor_core::{CallKind, Nor, NorState};
+use chip_row::{Chip, ChipRow, ChipState, RowErr};
+use nor_core::{Nor, NorState};
+use nor_memory::{CallKind, MemChip};
 use std::alloc::Global;
 use std::test::Fail;
 

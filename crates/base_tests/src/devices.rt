@@ -2,7 +2,8 @@
 ghost use Rattle.std.specs.Prelude.{◌≡◌, ◌+◌, ◌<◌, ◌≤◌, length, IfOk};
 ghost use Rattle.std.specs.Option.{ForSome};
 
-use nor_core::{Board, Mark, MemBoard, Nor, NorState, draw};
+use nor_core::{Board, Mark, Nor, NorState, draw};
+use nor_memory::MemBoard;
 use std::alloc::Global;
 use std::test::Fail;
 

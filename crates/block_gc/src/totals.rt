@@ -7,7 +7,7 @@ ghost use Rattle.free_search.specs.ByRows.{IsByRows};
 ghost use Rattle.block_gc.specs.Totals.{room_by, both as the_both, AtMost, AreTotals};
 
 use flash_view::{BlockCounts, View};
-use free_search::counts;
+use free_search::{counts, sums};
 use nor_core::{Failed, Nor, NorState};
 
 // Free entries by what they are for, and free blocks.
@@ -58,7 +58,7 @@ fn both(a: &Room, b: &Room) -> Room
     }
 }
 
-// The room of all blocks together.
+// The room of all blocks together: where the table of counts stands it is kept.
 #[tactic(auto, using(flash_view::proofs::Looking::looks_then))]
 pub(crate) fn totals<N: Nor>(v: &mut View<'_, N>) -> Result<Room, Failed>
     ensures cause { OnErr result (Rose (N.faults v.old.nor.now) (N.faults v.new.nor.now)) }
@@ -66,6 +66,14 @@ pub(crate) fn totals<N: Nor>(v: &mut View<'_, N>) -> Result<Room, Failed>
     ensures quick { IsByRows v.old v.new result }
     ensures told { N.tells v.old.nor.now → IsTidy v.old.geometry (N.bytes v.old.nor.now) → IfOk result (λ all. AreTotals v.old.geometry (N.bytes v.old.nor.now) all) }
 {
+    if let Some(sums) = sums(v) {
+        return Ok(Room {
+            index: u32::from(sums.for_index),
+            pages: u32::from(sums.for_data),
+            beside: u32::from(sums.beside),
+            blocks: u32::from(sums.blocks),
+        });
+    }
     let entries = v.geometry.entries();
     let mut all = Room {
         index: 0,

@@ -1,4 +1,3 @@
 pub mod Parts
 pub mod Ends
-pub mod Calls
 pub mod Pieces

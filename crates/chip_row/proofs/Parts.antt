@@ -11,9 +11,7 @@ use Rattle.nor_core.specs.declared.device.Failed.{Failed}
 use Rattle.std.specs.Option.{ForSome}
 use Rattle.std.specs.List.{slice_range}
 use Rattle.nor_core.specs.Flash.{programmed, HalfProgrammed, SameOutside, IsBetween, erased, HalfErased, Unmarked}
-use Rattle.nor_core.specs.Picks.{put}
 use Rattle.nor_core.proofs.Programs.{half_none, programmed-none}
-use Rattle.nor_core.proofs.Ranges.{put_size, get_or-put_before, get_or-put_after, get_or-put_inside}
 
 -- of two numbers one is below, or not
 pub lt_or_le : (a b : ℕ) → (a < b) ⊎ (b ≤ a)
@@ -21,25 +19,6 @@ lt_or_le zero zero = inr (omega arith)
 lt_or_le zero (suc b) = inl (omega arith)
 lt_or_le (suc a) zero = inr (omega arith)
 lt_or_le (suc a) (suc b) = ⊎_elim (λ h. inl (omega (arith, h))) (λ h. inr (omega (arith, h))) (lt_or_le a b)
-
--- where all stays outside a range, a range that stood there, put back, restores the whole
-pub restored : (old new before : List ℕ) (at n end : ℕ) → SameOutside at n old new → end ≡ at + n → end ≤ length old → before ≡ take (end - at) (drop at old) → put new at before ≡ old
-restored old new before at n end outside ends within before_is =
-    let long : length before ≡ n = omega (arith, ap length before_is, length-take (end - at) (drop at old), length-drop at old, within, ends) in
-    let room : at + length before ≤ length new = omega (arith, long, ends, within, outside.size) in
-    let same : length (put new at before) ≡ length old = put_size new at before room ∙ outside.size in
-    ext_get_or 0 (put new at before) old same (λ k inside. ⊎_elim
-    (λ low. get_or-put_before new at before k room low ∙ outside.before k low)
-    (λ high. ⊎_elim
-    (λ in_range. let j : ℕ = k - at in
-    let e : k ≡ at + j = omega (arith, high) in
-    let small : j < length before = omega (arith, e, in_range, long) in
-    ap (λ (i : ℕ). get_or (put new at before) i 0) e ∙ get_or-put_inside new at before j room small
-    ∙ ap (λ (l : List ℕ). get_or l j 0) before_is ∙ get_or-take (end - at) (drop at old) j 0 (omega (arith, small, long, ends)) ∙ get_or-drop at old j 0
-    ∙ sym (ap (λ (i : ℕ). get_or old i 0) e))
-    (λ past. get_or-put_after new at before k room (omega (arith, past, long)) ∙ outside.after k past)
-    (lt_or_le k (at + n)))
-    (lt_or_le k at))
 
 -- a finished erase leaves all other bytes
 pub erased_outside : (old : List ℕ) (at n : ℕ) → at + n ≤ length old → SameOutside at n old (erased old at n)

@@ -1,4 +1,3 @@
 pub mod Chips
-pub mod Moments
 pub mod Rows
 pub mod RowLaws

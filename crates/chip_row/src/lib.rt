@@ -5,9 +5,6 @@
 mod answer;
 mod boxed;
 mod chip;
-mod mem_chip;
-mod note;
-mod noted;
 mod numbers;
 mod one;
 mod row;
@@ -15,6 +12,5 @@ mod row_nor;
 mod state;
 
 pub use chip::Chip;
-pub use mem_chip::MemChip;
 pub use row::{ChipRow, RowErr, RowRefusal};
 pub use state::ChipState;

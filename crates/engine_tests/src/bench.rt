@@ -1,7 +1,8 @@
 //! Devices in memory, and memory for volumes.
 use fd_table::FdSlot;
 use geometry::Geometry;
-use nor_core::{Failed, MemBoard};
+use nor_core::Failed;
+use nor_memory::MemBoard;
 use std::alloc::Global;
 use std::test::Fail;
 use vol_mount::Lent;

@@ -1,7 +1,7 @@
 //! The calls of descriptors on a volume itself.
 use crate::bench::{Memory, board_of};
 use crate::images::{filed, small};
-use nor_core::MemBoard;
+use nor_memory::MemBoard;
 use std::alloc::Global;
 use std::test::Fail;
 use table_model::{FsErr, Whence};

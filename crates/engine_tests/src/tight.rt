@@ -1,7 +1,7 @@
 //! A volume of fewer than two free blocks, which no command takes.
 use crate::bench::{Memory, board_of};
 use crate::images::{filed, small};
-use nor_core::MemBoard;
+use nor_memory::MemBoard;
 use std::process::Abort;
 use std::test::Fail;
 use table_model::FsErr;

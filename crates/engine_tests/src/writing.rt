@@ -1,7 +1,7 @@
 //! Writes and truncates on a volume itself, and devices that fail in them.
 use crate::bench::{Memory, board_of};
 use crate::images::{filed, small};
-use nor_core::{CallKind, MemBoard};
+use nor_memory::{CallKind, MemBoard};
 use std::alloc::Global;
 use std::process::Abort;
 use std::test::Fail;

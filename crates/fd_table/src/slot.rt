@@ -1,5 +1,7 @@
 ghost use Rattle.std.specs.Prelude.{◌≡◌, false};
 
+use table_model::OpenFlags;
+
 /// One descriptor. What a slot that isn't used holds besides doesn't matter.
 #[derive(Clone, Copy, Debug, PartialEq, Eq)]
 pub struct FdSlot {
@@ -7,8 +9,8 @@ pub struct FdSlot {
     pub used: bool,
     /// The id of its file.
     pub id: u16,
-    /// The flags of its opening, from 0 to 127.
-    pub flags: u8,
+    /// The flags of its opening.
+    pub flags: OpenFlags,
     /// Its offset in the file, in bytes.
     pub offset: u32,
 }
@@ -21,7 +23,7 @@ impl FdSlot {
         FdSlot {
             used: false,
             id: 0,
-            flags: 0,
+            flags: OpenFlags::NONE,
             offset: 0,
         }
     }

@@ -4,6 +4,7 @@ ghost use Rattle.fd_table.specs.Seen.{seen};
 
 use crate::slots::{close, close_file, first_closed, open_slot, pull_file_back, put};
 use crate::{FdErr, FdSlot};
+use table_model::OpenFlags;
 
 /// The descriptors of a volume, in lent slots. They are numbered from 1, and at most the first 65,535 slots
 /// are used.
@@ -23,7 +24,7 @@ impl<'b> FdTable<'b> {
     }
 
     /// Opens the lowest closed descriptor on a file, at offset 0, and answers its number.
-    pub fn take(&mut self, id: u16, flags: u8) -> Result<u16, FdErr>
+    pub fn take(&mut self, id: u16, flags: OpenFlags) -> Result<u16, FdErr>
         ensures lowest { IfOk result (λ fd. lowest_closed (seen self.old) ≡ Some fd) }
         ensures opened { IfOk result (λ fd. seen self.new ≡ put_at (seen self.old) fd (Some (new_open id flags))) }
         ensures full { OnErr result (lowest_closed (seen self.old) ≡ None) }

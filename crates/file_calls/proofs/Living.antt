@@ -17,6 +17,8 @@ use Rattle.room_laws.proofs.Tallies.{total_map, tidy_counts_tell}
 use Rattle.flash_view.specs.declared.counts.BlockCounts.{BlockCounts}
 use Rattle.flash_view.specs.Counts.{AreCounts}
 use Rattle.free_search.proofs.FreePages.{few_pass}
+use Rattle.free_search.specs.Summed.{AreSumsOf}
+use Rattle.flash_view.specs.declared.sums.Sums.{Sums}
 use Rattle.block_gc.proofs.Rooms.{sum_more, sum_end, count_more, count_end, block_is}
 use Rattle.file_calls.specs.declared.live_pages.LivePages.{LivePages}
 use Rattle.file_calls.specs.Pages.{AreSums}
@@ -77,4 +79,12 @@ living_end g image p e n all was = record {
   index = sum_end (λ b. index_in g image b) p e n.index_pages (live_index g image) all was.index;
   pages = sum_end (λ b. data_in g image b) p e n.data_pages (live_data g image) all was.pages;
   free = count_end (λ b. is_free_block g image b) p e n.free_blocks (free_blocks g image) all was.free;
+}
+
+-- they are those that are kept
+pub living_kept : (g : Geometry) (image : List ℕ) (s : Sums) (n : LivePages) → IsTidy g image → AreSumsOf g image s → n.index_pages ≡ s.index_live → n.data_pages ≡ s.data_live → n.free_blocks ≡ s.blocks → AreSums g image n
+living_kept g image s n tidy kept index pages free = record {
+  index = index ∙ kept.index_live ∙ index_sum g image tidy;
+  pages = pages ∙ kept.data_live ∙ pages_sum g image tidy;
+  free = free ∙ kept.blocks;
 }

@@ -22,7 +22,6 @@ mod writing;
 
 pub use calls::call_in;
 pub use reading::record_of;
-pub use restating::may_write;
 pub use room::have_room;
 pub use slots::{opened, tell_in};
 pub use space::{Space, space_of};

@@ -6,7 +6,7 @@ ghost use Rattle.image_model.specs.Tidy.{IsTidy};
 ghost use Rattle.file_calls.specs.Pages.{AreSums};
 
 use flash_view::{BlockCounts, View};
-use free_search::counts;
+use free_search::{counts, sums};
 use nor_core::{Failed, Nor, NorState};
 
 // How many index pages and data pages are live, and how many blocks are free.
@@ -44,13 +44,20 @@ fn with_block(live: LivePages, counts: &BlockCounts, entries: u32) -> LivePages
     }
 }
 
-/// How many index pages and data pages are live, and how many blocks are free, in one pass over the blocks.
+/// How many index pages and data pages are live, and how many blocks are free: where the table of counts stands they are kept, else in one pass over the blocks.
 pub(crate) fn live_pages<N: Nor>(v: &mut View<'_, N>) -> Result<LivePages, Failed>
     ensures cause { OnErr result (Rose (N.faults v.old.nor.now) (N.faults v.new.nor.now)) }
     ensures looks { OnlyLooks v.old v.new }
     ensures few { IfOk result (λ live. (live.index_pages ≤ 65535) × (live.data_pages ≤ 65535)) }
     ensures told { N.tells v.old.nor.now → IsTidy v.old.geometry (N.bytes v.old.nor.now) → IfOk result (AreSums v.old.geometry (N.bytes v.old.nor.now)) }
 {
+    if let Some(sums) = sums(v) {
+        return Ok(LivePages {
+            index_pages: u32::from(sums.index_live),
+            data_pages: u32::from(sums.data_live),
+            free_blocks: u32::from(sums.blocks),
+        });
+    }
     let entries = v.geometry.entries();
     let mut live = LivePages {
         index_pages: 0,

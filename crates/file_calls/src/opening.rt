@@ -24,7 +24,7 @@ use fd_table::{FdErr, FdSlot, first_closed, pull_file_back, put};
 use file_write::create_step;
 use flash_view::View;
 use nor_core::{Failed, Nor, NorState};
-use table_model::FsErr;
+use table_model::{FsErr, OpenFlags};
 
 /// The file becomes empty as it is opened.
 const TRUNC: u32 = 2;
@@ -86,11 +86,22 @@ fn find_opened<N: Nor>(v: &mut View<'_, N>, name: &[u8], flags: u32) -> Result<O
     }
 }
 
+// Flags of a number that are fine.
+fn fine(flags: u32) -> OpenFlags
+    requires { flags ≤ 127 }
+    ensures { result ≡ flags }
+{
+    match OpenFlags::of_number(flags) {
+        Some(flags) => flags,
+        None => OpenFlags::NONE,
+    }
+}
+
 // Opens a descriptor on a file, at its first byte.
 fn open_at(slots: &mut [FdSlot], fd: u16, id: u16, flags: u32)
     requires some { 0 < fd }
     requires within { fd ≤ length slots.old }
-    requires flags { flags < 256 }
+    requires flags { flags ≤ 127 }
     ensures { descriptors slots.new ≡ put_at (descriptors slots.old) fd (Some (new_open id flags)) }
 {
     put(
@@ -99,7 +110,7 @@ fn open_at(slots: &mut [FdSlot], fd: u16, id: u16, flags: u32)
         FdSlot {
             used: true,
             id,
-            flags: flags as u8,
+            flags: fine(flags),
             offset: 0,
         },
     );

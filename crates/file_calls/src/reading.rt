@@ -19,9 +19,6 @@ use flash_view::View;
 use nor_core::{Failed, Nor, NorState};
 use table_model::{FsErr, Stat, Whence};
 
-/// The descriptor may read.
-const RDONLY: u8 = 8;
-
 /// The record of the file of an open descriptor, which is there.
 pub fn record_of<N: Nor>(v: &mut View<'_, N>, id: u16) -> Result<Stat, FsErr>
     ensures cause { IsErrOf result FsErr.DeviceFault → Rose (N.faults v.old.nor.now) (N.faults v.new.nor.now) }
@@ -112,7 +109,7 @@ pub(crate) fn read_in<N: Nor>(
     ensures goes { Goes N.NorState v.old.geometry (Reads fd count) v.old.nor.now v.new.nor.now slots.old slots.new v.new.wrote (reply_of result into.new) }
 {
     let slot = opened(slots, fd)?;
-    if slot.flags & RDONLY == 0 {
+    if !slot.flags.may_read() {
         return Err(FsErr::NotReadable);
     }
     match read_at(v, slot.id, slot.offset, &mut into[..count as usize]) {

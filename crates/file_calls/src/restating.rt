@@ -1,6 +1,5 @@
 ghost use Rattle.std.specs.Prelude.{◌≡◌, ℕ, List, length, IfErr, OnOk, false};
 ghost use Rattle.table_model.specs.Ask.{Ask, Renames, SetsMeta, SetsMetaOpen};
-ghost use Rattle.table_model.specs.Descriptors.{may_write as may_write_by};
 ghost use Rattle.flash_view.specs.Same.{IsSameView};
 ghost use Rattle.fd_table.specs.declared.slot.FdSlot.{FdSlot};
 ghost use Rattle.page_renew.specs.Edits.{IsEditable};
@@ -22,9 +21,6 @@ use nor_core::{Nor, NorState};
 use page_renew::{Edit, restate};
 use table_model::FsErr;
 
-/// The descriptor may write.
-const WRONLY: u8 = 16;
-
 // Refuses meta bytes that are not as many as each file has.
 fn accept_meta(g: &Geometry, meta: &[u8]) -> Result<(), FsErr>
     ensures fine { OnOk result (length meta.now ≡ g.now.meta) }
@@ -34,13 +30,6 @@ fn accept_meta(g: &Geometry, meta: &[u8]) -> Result<(), FsErr>
         return Err(FsErr::BadFlags);
     }
     Ok(())
-}
-
-/// Whether flags let a descriptor write.
-pub fn may_write(flags: u8) -> bool
-    ensures { result ≡ may_write_by flags }
-{
-    flags & WRONLY != 0
 }
 
 // Gives the file of an id, which is there, another name or other meta bytes, where a page is had for it.
@@ -103,7 +92,7 @@ pub(crate) fn set_meta_open<N: Nor>(
 {
     accept_meta(&v.geometry, meta)?;
     let slot = opened(slots, fd)?;
-    if !may_write(slot.flags) {
+    if !slot.flags.may_write() {
         return Err(FsErr::NotWritable);
     }
     restate_file(v, slot.id, Edit::Meta(meta))

@@ -6,7 +6,7 @@ ghost use Rattle.flash_view.specs.Same.{OnlyLooks};
 ghost use Rattle.file_calls.specs.Spaces.{IsSpace, IsWithin, with_block as the_with_block};
 
 use flash_view::{BlockCounts, View};
-use free_search::counts;
+use free_search::{counts, sums};
 use nor_core::{Failed, Nor, NorState};
 
 /// What is free in a volume: blocks, and entry pages of all blocks, which are all but the lookup pages.
@@ -32,13 +32,24 @@ fn with_block(space: Space, c: &BlockCounts, entries: u32) -> Space
     }
 }
 
-/// What is free, counted block by block.
+/// What is free: where the table of counts stands it is kept, else counted block by block.
 #[tactic(auto, using(flash_view::proofs::Looking::looks_then))]
 pub fn space_of<N: Nor>(v: &mut View<'_, N>) -> Result<Space, Failed>
     ensures cause { OnErr result (Rose (N.faults v.old.nor.now) (N.faults v.new.nor.now)) }
     ensures looks { OnlyLooks v.old v.new }
     ensures told { N.tells v.old.nor.now → IsTidy v.old.geometry (N.bytes v.old.nor.now) → IfOk result (λ space. IsSpace v.old.geometry (N.bytes v.old.nor.now) space) }
 {
+    if let Some(sums) = sums(v) {
+        let live = u32::from(sums.index_live) + u32::from(sums.data_live);
+        return Ok(Space {
+            free_blocks: u32::from(sums.blocks),
+            free_pages: u32::from(sums.free),
+            deleted_pages: v
+                .geometry
+                .usable()
+                .saturating_sub(live + u32::from(sums.free)),
+        });
+    }
     let entries = v.geometry.entries();
     let mut space = Space {
         free_blocks: 0,

@@ -10,7 +10,6 @@ ghost use Rattle.file_calls.specs.Goes.{Goes};
 use crate::Told;
 use crate::collecting::seek_page;
 use crate::reading::record_of;
-use crate::restating::may_write;
 use crate::room::have_room;
 use crate::slots::opened;
 use crate::steps::failed_as;
@@ -49,7 +48,7 @@ pub(crate) fn truncate_in<N: Nor>(
     ensures goes { (into : List ℕ) → Goes N.NorState v.old.geometry (Truncates fd size) v.old.nor.now v.new.nor.now slots.old slots.new v.new.wrote (reply_of result into) }
 {
     let slot = opened(slots, fd)?;
-    if !may_write(slot.flags) {
+    if !slot.flags.may_write() {
         return Err(FsErr::NotWritable);
     }
     let old = record_of(v, slot.id)?.size;

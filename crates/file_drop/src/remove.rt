@@ -2,6 +2,7 @@ ghost use Rattle.std.specs.Prelude.{◌≡◌, ◌+◌, ◌*◌, ◌<◌, OnErr,
 ghost use Rattle.nor_core.specs.Count.{Rose};
 ghost use Rattle.image_model.specs.Live.{live_at, own};
 ghost use Rattle.image_model.specs.Files.{index_page};
+ghost use Rattle.image_model.specs.Tidy.{IsTidy};
 ghost use Rattle.flash_view.specs.Places.{IsEntryPage};
 ghost use Rattle.flash_view.specs.Same.{OnlyLooks};
 ghost use Rattle.flash_view.specs.Steps.{Stepped, failed, stopped};
@@ -19,16 +20,16 @@ const NONE: Kept = Kept {
     data_pages: 0,
 };
 
-// The header page of an id.
+// The header page of an id, in a tidy image.
 #[tactic(auto, using(flash_view::proofs::Looking::looks_then))]
 fn find_header<N: Nor>(v: &mut View<'_, N>, id: u16) -> Result<Option<u16>, Failed>
     ensures cause { OnErr result (Rose (N.faults v.old.nor.now) (N.faults v.new.nor.now)) }
     ensures looks { OnlyLooks v.old v.new }
     ensures entry { IfOk result (λ found. IfSome found (λ page. IsEntryPage v.old.geometry page)) }
     ensures byte { N.tells v.old.nor.now → IfOk result (λ found. IfSome found (λ page. slice_index (N.bytes v.old.nor.now) (page * v.old.geometry.page + 4) < 256)) }
-    ensures told { N.tells v.old.nor.now → IfOk result (λ found. found ≡ index_page v.old.geometry (own (live_at v.old.geometry (N.bytes v.old.nor.now)) id) 0) }
+    ensures told { N.tells v.old.nor.now → IsTidy v.old.geometry (N.bytes v.old.nor.now) → IfOk result (λ found. found ≡ index_page v.old.geometry (own (live_at v.old.geometry (N.bytes v.old.nor.now)) id) 0) }
 {
-    let Some(page) = v.find_index(id, 0)? else {
+    let Some(page) = v.seek_header(id)? else {
         return Ok(None);
     };
     if is_left(v, page, id, NONE)? {

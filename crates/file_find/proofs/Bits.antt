@@ -1,8 +1,9 @@
 -- Ids noted as bits behind the first bytes.
-use Rattle.std.proofs.Common.{◌≡◌, ◌≢◌, ℕ, ◌+◌, ◌/◌, ◌%◌, ◌==◌, ◌<◌, ◌≤◌, ◌++◌, take, drop, false, List, length, refl, sym, ◌∙◌, ap, arith, slice_index, slice_set, Some}
+use Rattle.std.proofs.Common.{◌≡◌, ◌≢◌, ℕ, ◌+◌, ◌/◌, ◌%◌, ◌==◌, ◌<◌, ◌≤◌, ◌++◌, take, drop, false, List, ⊎_elim, length, refl, sym, ◌∙◌, ap, arith, slice_index, slice_set, Some}
 use Rattle.std.specs.Int.{bit_at}
 use Rattle.std.proofs.lemmas.List.{get_or-set_other, get_or-drop, get_or-take, get_or_append_left, drop_at, length-take-le}
 use Rattle.std.proofs.lemmas.Nat.Bits.{bit_at-zero}
+use Rattle.std.proofs.lemmas.Bool.{cases_eq}
 use Rattle.page_layout.specs.Ids.{bit_of}
 use Rattle.file_find.specs.Ids.{is_noted, Notes}
 
@@ -25,7 +26,7 @@ mark_beside marks start p mark k low = same_byte marks (slice_set marks p mark) 
 
 -- ---- an id that is noted
 
-pub notes_one : (start id : ℕ) (old mid bits : List ℕ) → ((p : ℕ) → p < start + 4096 → slice_index mid p ≡ slice_index old p) → bit_of bits id ≡ 1 → ((k : ℕ) → k ≢ id → bit_of bits k ≡ bit_of (drop start mid) k) →
+pub notes_one : (start id : ℕ) (old mid bits : List ℕ) → ((p : ℕ) → slice_index mid p ≡ slice_index old p) → bit_of bits id ≡ 1 → ((k : ℕ) → k ≢ id → bit_of bits k ≡ bit_of (drop start mid) k) →
     start ≤ length mid → Notes start (Some id) old (take start mid ++ bits)
 unfolding is_noted
 notes_one start id old mid bits keeps set others most =
@@ -33,6 +34,10 @@ notes_one start id old mid bits keeps set others most =
     let behind : drop start (take start mid ++ bits) ≡ bits = drop_at (take start mid) bits start front in
     record {
       noted = λ k e. let same : k ≡ id = cc in rw (behind, same, set) refl;
-      others = λ k low other. rw behind (ap (λ (n : ℕ). n == 1) (others k (λ e. other (ap (λ (n : ℕ). Some n) (sym e)))) ∙ same_byte old mid start k (keeps (start + k / 8) (omega (arith, low))));
-      pages = λ p low. rw (get_or_append_left (take start mid) bits 0 p (omega (arith, low, front)), get_or-take start mid p 0 low) (keeps p (omega (arith, low)));
+      others = λ k low other. rw behind (ap (λ (n : ℕ). n == 1) (others k (λ e. other (ap (λ (n : ℕ). Some n) (sym e)))) ∙ same_byte old mid start k (keeps (start + k / 8)));
+      more = λ k was. ⊎_elim
+          (λ (here : k ≡ id). rw (behind, here, set) refl)
+          (λ (there : k ≡ id → ⊥). rw behind (ap (λ (n : ℕ). n == 1) (others k there) ∙ same_byte old mid start k (keeps (start + k / 8)) ∙ was))
+          (cases_eq k id);
+      pages = λ p low. rw (get_or_append_left (take start mid) bits 0 p (omega (arith, low, front)), get_or-take start mid p 0 low) (keeps p);
     }

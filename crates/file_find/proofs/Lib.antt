@@ -4,5 +4,7 @@ pub mod Marking
 pub mod Heads
 pub mod Wholes
 pub mod Holders
+pub mod Naming
 pub mod Noting
 pub mod Stepping
+pub mod Scanning

@@ -146,15 +146,6 @@ marked_still g image old mid p found low was notes = record { each = λ q less. 
 pub marked_all : (g : Geometry) (image marks : List ℕ) → IsMarked g image marks → MarkedBelow g image marks (page_count g)
 marked_all g image marks was = record { each = was.each }
 
--- an id is the one that was found, or another
-stays_noted : (start : ℕ) (old new : List ℕ) (found : Option ℕ) (id : ℕ) → Notes start found old new → id < 0x8000 → is_noted old start id ≡ true → is_noted new start id ≡ true
-stays_noted start old new None id notes low set = notes.others id low (λ e. absurd (cc)) ∙ set
-stays_noted start old new (Some h) id notes low set =
-    ⊎_elim
-    (λ (here : h ≡ id). notes.noted id (ap (λ (n : ℕ). Some n) here))
-    (λ (there : h ≡ id → ⊥). notes.others id low (λ e. there (cc)) ∙ set)
-    (cases_eq h id)
-
 was_noted : (g : Geometry) (image old new : List ℕ) (p : ℕ) (found : Option ℕ) (id : ℕ) → headed (live_at g image p) ≡ found → Notes (page_count g) found old new → Surveyed g image old p → id < 0x8000 → is_noted new (page_count g) id ≡ true →
     HasBelow g image id (p + 1)
 was_noted g image old new p None id is notes was low set =
@@ -179,7 +170,7 @@ surveyed_more g image old mid p mark found first low room was is told notes mark
       noted = λ q id less has.
           let within = head_within g image q id has in
           mark_beside mid (page_count g) p mark id low ∙ ⊎_elim
-          (λ (before : q < p). stays_noted (page_count g) old mid found id notes (omega (arith, within.1)) (was.noted q id before has))
+          (λ (before : q < p). notes.more id (was.noted q id before has))
           (λ (most : p ≤ q). let at : q ≡ p = omega arith in notes.noted id (is ∙ ap (λ (r : ℕ). headed (live_at g image r)) (sym at) ∙ has))
           (cases_lt q p);
       only = λ id few set. was_noted g image old mid p found id (sym is) notes was few (sym (mark_beside mid (page_count g) p mark id low) ∙ set);

@@ -28,7 +28,7 @@ pub equal_text : (xs : List ℕ) → same_text xs xs ≡ true
 equal_text [] = refl
 equal_text (x ∷ xs) = rw (eq-eqb x x refl) (equal_text xs)
 
-texts : (xs ys : List ℕ) → same_text xs ys ≡ true → xs ≡ ys
+pub texts : (xs ys : List ℕ) → same_text xs ys ≡ true → xs ≡ ys
 texts xs ys e = text_is xs ys (sym e)
 
 -- the id of a header page is from 1 to 0x7FFF

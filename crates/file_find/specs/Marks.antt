@@ -1,5 +1,5 @@
 -- Marks of pages: a byte for each, that tells the header pages of files and of damaged files, and behind them notes of ids.
-use Rattle.std.specs.Prelude.{◌≡◌, ℕ, ◌<◌, ◌+◌, ◌-◌, ◌*◌, ◌%◌, List, ◌==◌, ◌&&◌, true, Option, Some, None, Result, Ok, Err, find, is_some, option_and_then, unwrap_or, slice_index, if◌then◌else◌}
+use Rattle.std.specs.Prelude.{◌≡◌, ◌≢◌, ℕ, ◌<◌, ◌≤◌, ◌+◌, ◌-◌, ◌*◌, ◌%◌, List, ◌==◌, ◌&&◌, true, Option, Some, None, Result, Ok, Err, find, is_some, option_and_then, unwrap_or, slice_index, if◌then◌else◌}
 use Rattle.std.specs.List.{range_with_len, fold}
 use Rattle.std.specs.Option.{option_map}
 use Rattle.geometry.specs.declared.geometry.Geometry.{Geometry}
@@ -15,7 +15,7 @@ use Rattle.image_model.specs.Tables.{has_of, ids, counted, is_named, damage}
 use Rattle.image_model.specs.Tidy.{is_number}
 use Rattle.flash_view.specs.Found.{headed, is_name, IsNextId, IsLastId}
 use Rattle.file_find.specs.Judging.{cause_of}
-use Rattle.file_find.specs.Ids.{is_noted}
+use Rattle.file_find.specs.Ids.{is_noted, name_number}
 
 -- why an id that has a header page has no file in the table, where it has none
 unfoldable pub cause_at : Geometry → List ℕ → ℕ → Option Damage
@@ -71,6 +71,18 @@ pub record Surveyed (g : Geometry) (image marks : List ℕ) (end : ℕ) : Type 0
   pub noted : (p id : ℕ) → p < end → headed (live_at g image p) ≡ Some id → is_noted marks (page_count g) id ≡ true
   pub only : (id : ℕ) → id < 0x8000 → is_noted marks (page_count g) id ≡ true → HasBelow g image id end
 
+-- page p, from `from` on and below `end`, has this mark, and no page from `from` on before it does
+pub record IsNextMark (marks : List ℕ) (sought from end p : ℕ) : Type 0 where
+  pub low : from ≤ p
+  pub below : p < end
+  pub is : slice_index marks p ≡ sought
+  pub passed : (q : ℕ) → from ≤ q → q < p → slice_index marks q ≢ sought
+
+-- the first page from `from` on and below `end` that has this mark, or none
+abbrev pub NextMark : List ℕ → (sought from end : ℕ) → Option ℕ → Type 0
+NextMark marks sought from end None = (q : ℕ) → from ≤ q → q < end → slice_index marks q ≢ sought
+NextMark marks sought from end (Some p) = IsNextMark marks sought from end p
+
 -- the id whose header page a page is, if it is marked
 unfoldable pub marked_id : Geometry → List ℕ → ℕ → Option ℕ
 marked_id g image p = if mark_of g image p == 0 then None else headed (live_at g image p)
@@ -82,6 +94,10 @@ head_between g image id from to = find (λ p. is_number (marked_id g image p) id
 -- the id whose header page a page is, where its file is the table's of that name
 unfoldable pub holder_at : Geometry → List ℕ → List ℕ → ℕ → Option ℕ
 holder_at g image name p = if (mark_of g image p == name_mark name) && is_name (name_of (page_of g image p)) name then headed (live_at g image p) else None
+
+-- the name of each file of the table whose header page is below `end` is noted
+pub record NamesBelow (g : Geometry) (image marks : List ℕ) (end : ℕ) : Type 0 where
+  pub each : (p : ℕ) (name : List ℕ) → p < end → is_some (holder_at g image name p) ≡ true → is_noted marks (page_count g) (name_number name) ≡ true
 
 -- the id of the table's file of that name, where its header page is below `end`
 unfoldable pub holder_below : Geometry → List ℕ → List ℕ → ℕ → Option ℕ

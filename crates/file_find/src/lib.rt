@@ -5,6 +5,7 @@ mod ids;
 mod judging;
 mod listing;
 mod marks;
+mod windows;
 
 pub use judging::judge;
 pub use listing::{find_file, next_damaged, next_file};

@@ -1,4 +1,4 @@
-ghost use Rattle.std.specs.Prelude.{◌≡◌, ◌+◌, ◌%◌, ◌==◌, ◌<◌, ◌≤◌, ℕ, length, slice_index, not, nat_lt, Some, None, OnOk, OnErr, IfOk, IfSome, take, if◌then◌else◌};
+ghost use Rattle.std.specs.Prelude.{◌≡◌, ◌+◌, ◌%◌, ◌==◌, ◌<◌, ◌≤◌, ℕ, List, true, length, slice_index, not, nat_lt, Some, None, OnOk, OnErr, IfOk, IfSome, take, if◌then◌else◌};
 ghost use Rattle.geometry.specs.Numbers.{page_count, check_need};
 ghost use Rattle.nor_core.specs.Count.{Rose};
 ghost use Rattle.image_model.specs.Places.{page_of};
@@ -8,12 +8,15 @@ ghost use Rattle.image_model.specs.Files.{index_page};
 ghost use Rattle.image_model.specs.Tidy.{is_number};
 ghost use Rattle.flash_view.specs.Found.{headed as the_headed};
 ghost use Rattle.flash_view.specs.Same.{OnlyLooks};
-ghost use Rattle.file_find.specs.Marks.{mark_of, name_mark as the_name_mark, whole_mark, head_mark, MarkedBelow, Surveyed, IsMarked, marked_id as the_marked_id, head_between, holder_at as the_holder_at, holder_below as the_holder_below, NextHead, same_name as the_same_name, table_id, cause_at};
+ghost use Rattle.file_find.specs.Ids.{is_noted as the_is_noted, name_number, NotesNames};
+ghost use Rattle.file_find.specs.Marks.{NamesBelow, mark_of, name_mark as the_name_mark, whole_mark, head_mark, MarkedBelow, Surveyed, IsMarked, marked_id as the_marked_id, head_between, holder_at as the_holder_at, holder_below as the_holder_below, NextHead, NextMark, same_name as the_same_name, table_id, cause_at};
 
-use crate::ids::{clear, is_noted, near, note_first};
+use crate::ids::{clear, is_noted, note_first, note_name};
 use crate::judging::judge;
+use crate::windows::likely_page;
 use flash_view::View;
 use image_model::Damage;
+use memchr::memchr;
 use nor_core::{Failed, Nor, NorState};
 use page_layout::{FREE, INDEX_BIT, PageHeader};
 
@@ -99,27 +102,31 @@ fn mark_page<N: Nor>(
     ensures cause { OnErr result (Rose (N.faults v.old.nor.now) (N.faults v.new.nor.now)) }
     ensures looks { OnlyLooks v.old v.new }
     ensures behind { OnOk result ((p : ℕ) → page < p → p < page_count v.old.geometry → slice_index marks.new p ≡ slice_index marks.old p) }
-    ensures told { N.tells v.old.nor.now → found ≡ the_headed (live_at v.old.geometry (N.bytes v.old.nor.now) page) → Surveyed v.old.geometry (N.bytes v.old.nor.now) marks.old page → OnOk result (Surveyed v.old.geometry (N.bytes v.old.nor.now) marks.new (page + 1)) }
+    ensures told { N.tells v.old.nor.now → found ≡ the_headed (live_at v.old.geometry (N.bytes v.old.nor.now) page) → Surveyed v.old.geometry (N.bytes v.old.nor.now) marks.old page → NamesBelow v.old.geometry (N.bytes v.old.nor.now) marks.old page → OnOk result (Surveyed v.old.geometry (N.bytes v.old.nor.now) marks.new (page + 1)) }
+    ensures names { N.tells v.old.nor.now → found ≡ the_headed (live_at v.old.geometry (N.bytes v.old.nor.now) page) → Surveyed v.old.geometry (N.bytes v.old.nor.now) marks.old page → NamesBelow v.old.geometry (N.bytes v.old.nor.now) marks.old page → OnOk result (NamesBelow v.old.geometry (N.bytes v.old.nor.now) marks.new (page + 1)) }
     ensures built { take v.old.geometry.page v.new.work.now ≡ take v.old.geometry.page v.old.work.now }
 {
-    let first = note_first(marks, v.geometry.pages() as usize, found, page);
+    let first = note_first(marks, v.geometry.pages() as usize, found);
     marks[page as usize] = mark(v, marks, first, page)?;
     Ok(())
 }
 
-// The mark of a page, which is the first header page of this id where there is one, behind pages that are marked.
+// The mark of a page, which is the first header page of this id where there is one, behind pages that are marked. Notes the
+// name of a whole file.
 #[tactic(auto, using(flash_view::proofs::Looking::looks_then))]
 fn mark<N: Nor>(
     v: &mut View<'_, N>,
-    marks: &[u8],
+    marks: &mut [u8],
     first: Option<u16>,
     page: u16,
 ) -> Result<u8, Failed>
     requires page { page < page_count v.old.geometry }
-    requires room { page_count v.old.geometry ≤ length marks.now }
+    requires room { check_need v.old.geometry ≤ length marks.old }
     ensures cause { OnErr result (Rose (N.faults v.old.nor.now) (N.faults v.new.nor.now)) }
     ensures looks { OnlyLooks v.old v.new }
-    ensures told { N.tells v.old.nor.now → MarkedBelow v.old.geometry (N.bytes v.old.nor.now) marks.now page → IfOk result (λ mark. mark ≡ head_mark v.old.geometry (N.bytes v.old.nor.now) first page) }
+    ensures told { N.tells v.old.nor.now → MarkedBelow v.old.geometry (N.bytes v.old.nor.now) marks.old page → NamesBelow v.old.geometry (N.bytes v.old.nor.now) marks.old page → IfOk result (λ mark. mark ≡ head_mark v.old.geometry (N.bytes v.old.nor.now) first page) }
+    ensures names { NotesNames (page_count v.old.geometry) marks.old marks.new }
+    ensures named { N.tells v.old.nor.now → IfOk result (λ mark. (name : List ℕ) → 3 ≤ mark → the_name_of (page_of v.old.geometry (N.bytes v.old.nor.now) page) ≡ Some name → the_is_noted marks.new (page_count v.old.geometry) (name_number name) ≡ true) }
     ensures built { take v.old.geometry.page v.new.work.now ≡ take v.old.geometry.page v.old.work.now }
 {
     let Some(id) = first else {
@@ -131,19 +138,25 @@ fn mark<N: Nor>(
     }
 }
 
-// The mark of the header page of a whole file, behind pages that are marked.
+// The mark of the header page of a whole file, behind pages that are marked. Notes its name: the pages are looked through only
+// where a name of its number was noted before.
 #[tactic(auto, using(flash_view::proofs::Looking::looks_then))]
-fn mark_whole<N: Nor>(v: &mut View<'_, N>, marks: &[u8], page: u16) -> Result<u8, Failed>
+fn mark_whole<N: Nor>(v: &mut View<'_, N>, marks: &mut [u8], page: u16) -> Result<u8, Failed>
     requires page { page < page_count v.old.geometry }
-    requires room { page_count v.old.geometry ≤ length marks.now }
+    requires room { check_need v.old.geometry ≤ length marks.old }
     ensures cause { OnErr result (Rose (N.faults v.old.nor.now) (N.faults v.new.nor.now)) }
     ensures looks { OnlyLooks v.old v.new }
-    ensures told { N.tells v.old.nor.now → MarkedBelow v.old.geometry (N.bytes v.old.nor.now) marks.now page → IfOk result (λ mark. mark ≡ whole_mark v.old.geometry (N.bytes v.old.nor.now) page (the_name_of (page_of v.old.geometry (N.bytes v.old.nor.now) page))) }
+    ensures told { N.tells v.old.nor.now → MarkedBelow v.old.geometry (N.bytes v.old.nor.now) marks.old page → NamesBelow v.old.geometry (N.bytes v.old.nor.now) marks.old page → IfOk result (λ mark. mark ≡ whole_mark v.old.geometry (N.bytes v.old.nor.now) page (the_name_of (page_of v.old.geometry (N.bytes v.old.nor.now) page))) }
+    ensures names { NotesNames (page_count v.old.geometry) marks.old marks.new }
+    ensures named { N.tells v.old.nor.now → IfOk result (λ mark. (name : List ℕ) → 3 ≤ mark → the_name_of (page_of v.old.geometry (N.bytes v.old.nor.now) page) ≡ Some name → the_is_noted marks.new (page_count v.old.geometry) (name_number name) ≡ true) }
     ensures built { take v.old.geometry.page v.new.work.now ≡ take v.old.geometry.page v.old.work.now }
 {
     let Some(name) = v.name_at(page)? else {
         return Ok(BROKEN);
     };
+    if note_name(marks, v.geometry.pages() as usize, name.as_slice()) {
+        return Ok(name_mark(name.as_slice()));
+    }
     match holder_below(v, marks, name.as_slice(), page)? {
         Some(_) => Ok(DOUBLED),
         None => Ok(name_mark(name.as_slice())),
@@ -164,7 +177,7 @@ pub fn next_marked<N: Nor>(
     ensures inside { IfOk result (λ next. IfSome next (λ n. n.1 < page_count v.old.geometry)) }
     ensures above { IfOk result (λ next. IfSome next (λ n. after < n.0)) }
     ensures told { N.tells v.old.nor.now → IfOk result (λ next. NextHead v.old.geometry (N.bytes v.old.nor.now) after next) }
-    ensures work { v.new.work.now ≡ v.old.work.now }
+    ensures built { take v.old.geometry.page v.new.work.now ≡ take v.old.geometry.page v.old.work.now }
 {
     for id in u32::from(after) + 1..u32::from(INDEX_BIT) {
         if let Some(page) = marked_page(v, marks, id as u16)? {
@@ -174,8 +187,8 @@ pub fn next_marked<N: Nor>(
     Ok(None)
 }
 
-/// The header page of an id, by right marks: looked for behind the page that is kept for it first. Pages without a
-/// mark aren't looked at, nor is any page for an id that isn't noted.
+/// The header page of an id, by right marks: looked for where it is likely to be first. Pages without a mark aren't looked
+/// at, nor is any page for an id that isn't noted.
 #[tactic(auto, using(flash_view::proofs::Looking::looks_then))]
 pub(crate) fn marked_page<N: Nor>(
     v: &mut View<'_, N>,
@@ -188,13 +201,34 @@ pub(crate) fn marked_page<N: Nor>(
     ensures looks { OnlyLooks v.old v.new }
     ensures inside { IfOk result (λ page. IfSome page (λ p. p < page_count v.old.geometry)) }
     ensures told { N.tells v.old.nor.now → IfOk result (λ page. page ≡ index_page v.old.geometry (own (live_at v.old.geometry (N.bytes v.old.nor.now)) id) 0) }
-    ensures work { v.new.work.now ≡ v.old.work.now }
+    ensures built { take v.old.geometry.page v.new.work.now ≡ take v.old.geometry.page v.old.work.now }
 {
     let pages = v.geometry.pages() as u16;
     if !is_noted(marks, usize::from(pages), id) {
         return Ok(None);
     }
-    let near = near(marks, usize::from(pages), id).min(pages);
+    let near = likely_page(v, marks, id)?.min(pages);
+    marked_near(v, marks, id, near)
+}
+
+// The same, looked for from page `near` on first.
+#[tactic(auto, using(flash_view::proofs::Looking::looks_then))]
+fn marked_near<N: Nor>(
+    v: &mut View<'_, N>,
+    marks: &[u8],
+    id: u16,
+    near: u16,
+) -> Result<Option<u16>, Failed>
+    requires near { near ≤ page_count v.old.geometry }
+    requires room { page_count v.old.geometry ≤ length marks.now }
+    requires marked { N.tells v.old.nor.now → IsMarked v.old.geometry (N.bytes v.old.nor.now) marks.now }
+    ensures cause { OnErr result (Rose (N.faults v.old.nor.now) (N.faults v.new.nor.now)) }
+    ensures looks { OnlyLooks v.old v.new }
+    ensures inside { IfOk result (λ page. IfSome page (λ p. p < page_count v.old.geometry)) }
+    ensures told { N.tells v.old.nor.now → IfOk result (λ page. page ≡ index_page v.old.geometry (own (live_at v.old.geometry (N.bytes v.old.nor.now)) id) 0) }
+    ensures work { v.new.work.now ≡ v.old.work.now }
+{
+    let pages = v.geometry.pages() as u16;
     match marked_between(v, marks, id, near, pages)? {
         Some(page) => Ok(Some(page)),
         None => marked_between(v, marks, id, 0, near),
@@ -276,12 +310,26 @@ fn holder_below<N: Nor>(
     ensures built { take v.old.geometry.page v.new.work.now ≡ take v.old.geometry.page v.old.work.now }
 {
     let sought = name_mark(name);
-    for page in 0..end {
+    let mut at = 0;
+    'pages: while let Some(page) = next_with(marks, sought, at, end) {
         if let Some(id) = holder_at(v, marks[page as usize], sought, page, name)? {
             return Ok(Some(id));
         }
+        at = page + 1;
     }
     Ok(None)
+}
+
+// The first page from `from` on and below `end` that has this mark. Many marks are looked at at once.
+fn next_with(marks: &[u8], sought: u8, from: u16, end: u16) -> Option<u16>
+    requires ordered { from ≤ end }
+    requires room { end ≤ length marks.now }
+    ensures { NextMark marks.now sought from end result }
+{
+    match memchr(sought, &marks[from as usize..end as usize]) {
+        Some(step) => Some(from + step as u16),
+        None => None,
+    }
 }
 
 // The id whose header page a page with this mark is, where its file is the table's of that name, whose mark is sought.

@@ -81,14 +81,11 @@ fn read_span<N: Nor>(
     ensures missing { IfErr result (IsMissing id) }
     ensures told { N.tells v.old.nor.now → (page : List ℕ) → named_page v.old.geometry (N.bytes v.old.nor.now) id index span ≡ Some page → HoldsOrFault result (λ done. part.new ≡ slice_range page (5 + from) (5 + from + length part.old)) }
 {
-    match find_data(v, id, span, index) {
-        Err(Failed) => Err(StepErr::DeviceFault),
-        Ok(None) => Err(StepErr::Damaged(no_data(id, span))),
-        Ok(Some(page)) => match v.read_in(page, 5 + from, part) {
-            Err(Failed) => Err(StepErr::DeviceFault),
-            Ok(()) => Ok(()),
-        },
-    }
+    let Some(page) = find_data(v, id, span, index)? else {
+        return Err(StepErr::Damaged(no_data(id, span)));
+    };
+    v.read_in(page, 5 + from, part)?;
+    Ok(())
 }
 
 // Reads on to the end of a data page, or of what is asked. The answer is how many bytes there are now.
@@ -173,10 +170,9 @@ fn index_for<N: Nor>(v: &mut View<'_, N>, id: u16, header: u16, span: u32) -> Re
     if which == 0 {
         return Ok(header);
     }
-    match v.find_span(id, which) {
-        Err(Failed) => Err(StepErr::DeviceFault),
-        Ok(None) => Err(StepErr::Damaged(no_data(id, span))),
-        Ok(Some(page)) => Ok(page),
+    match v.find_span(id, which)? {
+        Some(page) => Ok(page),
+        None => Err(StepErr::Damaged(no_data(id, span))),
     }
 }
 
@@ -236,15 +232,13 @@ pub fn read_from<N: Nor>(
     ensures within { IfOk result (λ n. (n ≤ length into.old) × (at + n < 2 ^ 32)) }
     ensures told { N.tells v.old.nor.now → (f : File) → IsFileAt v.old.geometry (N.bytes v.old.nor.now) id header f → HoldsOrFault result (λ n. IsRead f at into.old into.new n) }
 {
-    match size_in(v, header) {
-        Err(Failed) => Err(StepErr::DeviceFault),
-        Ok(size) if at >= size => Ok(0),
-        Ok(size) => {
-            let count = into.len().min((size - at) as usize);
-            read_inside(v, id, header, at, &mut into[..count])?;
-            Ok(count as u32)
-        }
+    let size = size_in(v, header)?;
+    if at >= size {
+        return Ok(0);
     }
+    let count = into.len().min((size - at) as usize);
+    read_inside(v, id, header, at, &mut into[..count])?;
+    Ok(count as u32)
 }
 
 /// The bytes of a whole file from byte `at` on, as many as there are and fit; none at the file's end and past it. The
@@ -263,9 +257,8 @@ pub fn read_at<N: Nor>(
     ensures within { IfOk result (λ n. (n ≤ length into.old) × (at + n < 2 ^ 32)) }
     ensures told { N.tells v.old.nor.now → (f : File) → IsFileOf v.old.geometry (N.bytes v.old.nor.now) id f → HoldsOrFault result (λ n. IsRead f at into.old into.new n) }
 {
-    match v.find_index(id, 0) {
-        Err(Failed) => Err(StepErr::DeviceFault),
-        Ok(None) => Err(StepErr::Damaged(no_header(id))),
-        Ok(Some(header)) => read_from(v, id, header, at, into),
+    match v.find_index(id, 0)? {
+        Some(header) => read_from(v, id, header, at, into),
+        None => Err(StepErr::Damaged(no_header(id))),
     }
 }

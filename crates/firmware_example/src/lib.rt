@@ -36,7 +36,7 @@ mod tests {
     use super::*;
     use fd_table::FdSlot;
     use geometry::GeoErr;
-    use nor_core::{CallKind, MemBoard};
+    use nor_memory::{CallKind, MemBoard};
     use std::alloc::Global;
     use std::test::Fail;
     use vol_mount::{MountErr, format};

@@ -13,7 +13,12 @@ pub mod SlotHeld
 pub mod Walking
 pub mod Spans
 pub mod Passed
+pub mod Near
+pub mod OneIndex
+pub mod OneName
 pub mod Stepped
 pub mod Sorts
 pub mod RowPassed
 pub mod Rows
+pub mod RowSums
+pub mod Telling

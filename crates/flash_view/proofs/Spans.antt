@@ -1,5 +1,5 @@
 -- Data pages by the entries that name them.
-use Rattle.std.proofs.Common.{◌≡◌, ◌≢◌, ℕ, zero, suc, ◌+◌, ◌-◌, ◌*◌, ◌/◌, ◌%◌, ◌<◌, ◌≤◌, ◌==◌, ◌&&◌, not, nat_lt, Bool, true, false, List, refl, ◌∙◌, if◌then◌else◌, ⊎_elim, arith}
+use Rattle.std.proofs.Common.{◌≡◌, ◌≢◌, ℕ, zero, suc, ◌+◌, ◌-◌, ◌*◌, ◌/◌, ◌%◌, ◌<◌, ◌≤◌, ◌==◌, ◌&&◌, not, nat_lt, Bool, true, false, List, refl, ap, ◌∙◌, if◌then◌else◌, ⊎_elim, arith}
 use Rattle.std.specs.Prelude.{Result, Ok, Err, IfOk, Option, Some, None, find, is_some, option_and_then}
 use Rattle.std.specs.List.{range_with_len}
 use Rattle.std.specs.Option.{option_map}
@@ -126,3 +126,8 @@ module _ (g : Geometry) (pages : Live) (head : List ℕ) (span : ℕ) where
 pub told_along : {A E : Type 0} (r : Result A E) (x y : A) → IfOk r (λ v. v ≡ x) → x ≡ y → IfOk r (λ v. v ≡ y)
 told_along (Ok v) x y told e = told ∙ e
 told_along (Err e) x y told same = told
+
+-- the same of what a function makes of them
+pub told_made : {A B E : Type 0} (made : A → B) (r : Result A E) (x : A) (y : B) → IfOk r (λ v. v ≡ x) → made x ≡ y → IfOk r (λ v. made v ≡ y)
+told_made made (Ok v) x y told e = ap made told ∙ e
+told_made made (Err e) x y told same = told

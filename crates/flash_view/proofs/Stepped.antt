@@ -1,5 +1,6 @@
 -- Calls over a view one after the other.
 use Rattle.std.proofs.Common.{◌≡◌, ℕ, List, true, false, refl, sym, ◌∙◌, arith, ap, ⊎_elim, subst, Result, Ok, Err, MatchResult, IsErrOf, OnErr, OnOk, IsErr, IfErr, length}
+use Rattle.std.specs.Prelude.{IsErrAnd}
 use Rattle.std.proofs.lemmas.Bool.{cases_Bool}
 use Rattle.geometry.specs.declared.geometry.Geometry.{Geometry}
 use Rattle.image_model.specs.Places.{IsImage}
@@ -27,6 +28,10 @@ one_fault e = refl
 fault_means : {T : Type 0} (r : Result T Failed) → IfErr r failed.means
 fault_means (Ok x) = tt
 fault_means (Err e) = tt
+
+fault_is : {T E : Type 0} (r : Result T E) (fault : E) → IsErr r → IsErrAnd r (λ why. why ≡ fault) → Err fault ≡ r
+fault_is (Ok x) fault is same = absurd (cc)
+fault_is (Err why) fault is same = ap Err (sym same)
 
 module _ {N : Type 0} {nor : NorOf N} where
   -- a device that holds the volume holds an image of it
@@ -230,6 +235,18 @@ module _ {N : Type 0} {nor : NorOf N} where
 
   pub done_as : {T E : Type 0} {errors : Errors E} {old new : View N nor} {x : T} {step : Step T} → Stepped failed old new (Ok x) step → Stepped errors old new (Ok x) step
   done_as call = ends_as call (λ tells need. record { needs = need; cut = λ c cut. cut }) (λ tells need done. done)
+
+  -- the exit of a `?` that gives a fault of the device as another error: after a step, and after a look
+  pub fault_passes : {T E : Type 0} {errors : Errors E} {old new : View N nor} {e : Failed} {r : Result T E} {step : Step T} → Stepped failed old new (Err e) step → IsErr r → IsErrAnd r (λ why. why ≡ errors.fault) → Stepped errors old new r step
+  fault_passes {T = T} {E = E} {errors = errors} {old = old} {new = new} {r = r} {step = step} call is same =
+      let failing : Stepped {nor = nor} errors old new (Err errors.fault) step = fault_as call in
+      subst (λ (x : Result T E). Stepped {nor = nor} errors old new x step) (fault_is r errors.fault is same) failing
+
+  pub look_faults : {T E : Type 0} {errors : Errors E} {old new : View N nor} {r : Result T E} {step : Step T} → OnlyLooks old new → Rose (nor.faults old.nor.now) (nor.faults new.nor.now) → IsErr r → IsErrAnd r (λ why. why ≡ errors.fault) →
+      (nor.tells old.nor.now → step.needs old.geometry (nor.bytes old.nor.now) → step.cut old.geometry (nor.bytes old.nor.now) (nor.bytes old.nor.now)) → Stepped errors old new r step
+  look_faults {T = T} {E = E} {errors = errors} {old = old} {new = new} {r = r} {step = step} looks rose is same law =
+      let failing : Stepped {nor = nor} errors old new (Err errors.fault) step = looked looks (λ e. rose) errors.told (λ tells need. (law tells need, refl)) in
+      subst (λ (x : Result T E). Stepped {nor = nor} errors old new x step) (fault_is r errors.fault is same) failing
 
   -- the exit of a `?` on any error
   pub passes : {S T E : Type 0} {errors : Errors E} {e : E} {old new : View N nor} {r : Result T E} {first : Step S} {whole : Step T} → Stepped errors old new (Err e) first → r ≡ Err e →

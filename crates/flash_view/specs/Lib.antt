@@ -6,3 +6,5 @@ pub mod Steps
 pub mod Walk
 pub mod Counts
 pub mod Table
+pub mod Firsts
+pub mod Looks

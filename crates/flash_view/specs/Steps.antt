@@ -5,6 +5,8 @@ use Rattle.nor_core.specs.declared.device.Failed.{Failed}
 use Rattle.nor_core.specs.Count.{Rose}
 use Rattle.nor_core.specs.Device.{Changes, OnlyReads}
 use Rattle.nor_core.specs.declared.state.NorState.{Ghosts as NorOf}
+use Rattle.table_model.specs.declared.error.FsErr.{FsErr}
+use Rattle.table_model.specs.declared.error.FsErr.TheVariants.{DeviceFault as FsFault, Damaged as FsDamaged}
 use Rattle.flash_view.specs.declared.kinds.StepErr.{StepErr}
 use Rattle.flash_view.specs.declared.kinds.StepErr.TheVariants.{DeviceFault, Damaged}
 use Rattle.flash_view.specs.declared.view.View.{View}
@@ -24,6 +26,11 @@ failed = record { fault = record {}; means = λ why. Unit {0}; told = tt }
 abbrev pub is_apart : StepErr → Type 0
 is_apart DeviceFault = Unit {0}
 is_apart (Damaged d) = d.wanted ≢ d.found
+
+-- the answer of a call whose step failed so
+abbrev pub as_fs_err : StepErr → FsErr
+as_fs_err DeviceFault = FsFault
+as_fs_err (Damaged differ) = FsDamaged differ
 
 abbrev pub stopped : Errors StepErr
 stopped = record { fault = DeviceFault; means = is_apart; told = tt }

@@ -1,12 +1,16 @@
 -- The counts of all blocks, kept in the bytes for work.
-use Rattle.std.specs.Prelude.{ℕ, ◌+◌, ◌*◌, ◌<◌, ◌≤◌, ◌==◌, ◌&&◌, ◌||◌, nat_lt, nat_le, Bool, List, length, drop}
+use Rattle.std.specs.Prelude.{◌≡◌, ℕ, ◌+◌, ◌*◌, ◌<◌, ◌≤◌, ◌==◌, ◌&&◌, ◌||◌, nat_lt, nat_le, Bool, List, length, drop, sum_by}
+use Rattle.std.specs.List.{range_with_len}
 use Rattle.geometry.specs.declared.geometry.Geometry.{Geometry}
-use Rattle.geometry.specs.Numbers.{scratch_need, rows_need}
+use Rattle.geometry.specs.Numbers.{scratch_need, rows_need, entries}
 use Rattle.nor_core.specs.Flash.{word_at}
 use Rattle.nor_core.specs.declared.state.NorState.{Ghosts as NorOf}
 use Rattle.image_model.specs.Tidy.{TellsFree}
 use Rattle.flash_view.specs.declared.counts.BlockCounts.{BlockCounts}
-use Rattle.flash_view.specs.Counts.{AreCounts}
+use Rattle.flash_view.specs.declared.sums.Sums.{Sums}
+use Rattle.flash_view.specs.declared.kinds.Kind.{Kind}
+use Rattle.flash_view.specs.declared.kinds.Kind.TheVariants.{Index, Data}
+use Rattle.flash_view.specs.Counts.{AreCounts, part_of, in_words, takes, IsFirst}
 
 -- the row of a block: five words, in 16 bytes
 abbrev pub row_of : List ℕ → ℕ → BlockCounts
@@ -18,10 +22,54 @@ row_of rows block = record {
   erases = word_at rows (16 * block + 8);
 }
 
--- The lookup pages tell which entries are free, and each row has the counts of its block.
+-- what the rows of all blocks add up to, of a number that each has
+abbrev pub sum_rows : List ℕ → ℕ → (BlockCounts → ℕ) → ℕ
+sum_rows rows blocks f = sum_by (λ b. f (row_of rows b)) (range_with_len 0 blocks)
+
+-- the sums of the rows of all blocks
+abbrev pub totals_of : Geometry → List ℕ → Sums
+totals_of g rows = record {
+  index_live = sum_rows rows g.blocks (λ c. (part_of c (entries g)).index_live);
+  data_live = sum_rows rows g.blocks (λ c. (part_of c (entries g)).data_live);
+  free = sum_rows rows g.blocks (λ c. (part_of c (entries g)).free);
+  blocks = sum_rows rows g.blocks (λ c. (part_of c (entries g)).blocks);
+  for_index = sum_rows rows g.blocks (λ c. (part_of c (entries g)).for_index);
+  for_data = sum_rows rows g.blocks (λ c. (part_of c (entries g)).for_data);
+  beside = sum_rows rows g.blocks (λ c. (part_of c (entries g)).beside);
+}
+
+-- the sums as they are kept: in words of the first three rows that no row uses
+abbrev pub sums_in : List ℕ → Sums
+sums_in rows = record {
+  index_live = word_at rows 10;
+  data_live = word_at rows 12;
+  free = word_at rows 14;
+  blocks = word_at rows 26;
+  for_index = word_at rows 28;
+  for_data = word_at rows 30;
+  beside = word_at rows 42;
+}
+
+-- the first open block for each kind, as it is kept
+abbrev pub first_in : List ℕ → Kind → ℕ
+first_in rows Index = word_at rows 44
+first_in rows Data = word_at rows 46
+
+-- by its row a block in use takes a page of a kind
+abbrev pub row_takes : Geometry → List ℕ → Kind → ℕ → Bool
+row_takes g rows kind block = takes (row_of rows block) kind (entries g)
+
+-- What is kept beside the rows is theirs: their sums, in words of 16 bits, and the first block that takes a page of each kind.
+pub record IsSummed (g : Geometry) (rows : List ℕ) : Type 0 where
+  pub sums : sums_in rows ≡ in_words (totals_of g rows)
+  pub index : IsFirst g.blocks (row_takes g rows Index) (first_in rows Index)
+  pub pages : IsFirst g.blocks (row_takes g rows Data) (first_in rows Data)
+
+-- The lookup pages tell which entries are free, each row has the counts of its block, and what is kept beside the rows is theirs.
 pub record IsTable (g : Geometry) (image rows : List ℕ) : Type 0 where
   pub clear : TellsFree g image
   pub counts : (block : ℕ) → block < g.blocks → AreCounts g image block (row_of rows block)
+  pub summed : IsSummed g rows
 
 -- whether a row tells that its block has no live page with an entry between two numbers: it has no index page, or the numbers are those of
 -- data pages, and it has no data page, or they are those of index pages

@@ -3,16 +3,17 @@ ghost use Rattle.geometry.specs.Numbers.{rows_need};
 ghost use Rattle.image_model.specs.Live.{live_at};
 ghost use Rattle.image_model.specs.Places.{entry_of};
 ghost use Rattle.nor_core.specs.Count.{Rose};
-ghost use Rattle.nor_core.specs.Flash.{SameOutside, word_at};
 ghost use Rattle.flash_view.specs.Places.{IsEntryPage};
 ghost use Rattle.flash_view.specs.Same.{OnlyLooks, OnlyCounts};
-ghost use Rattle.flash_view.specs.Counts.{sort_of_page, sort_at as the_sort_at, total_of, one_more, one_less, more_free, AreCounts};
-ghost use Rattle.flash_view.specs.Table.{row_of, HasTable};
+ghost use Rattle.flash_view.specs.Counts.{sort_of_page, sort_at as the_sort_at, total_of, one_more, one_less, more_free, IsFirst};
+ghost use Rattle.flash_view.specs.Table.{row_of, row_takes, totals_of, HasTable, IsSummed};
 
 use crate::View;
+use crate::kinds::Kind;
 use crate::places::block_of;
+use crate::sums::{Sums, clear_in, kept_first, kept_sums, put_in, row_at};
 use nor_core::{Failed, Nor, NorState};
-use page_layout::{DELETED, FREE, INDEX_BIT, put_word, read_word};
+use page_layout::{DELETED, FREE, INDEX_BIT};
 
 /// How many entries of a block are of each sort.
 #[derive(Clone, Copy, Debug, PartialEq, Eq)]
@@ -102,24 +103,6 @@ pub fn with_free(counts: BlockCounts, more: u32) -> BlockCounts
     }
 }
 
-// Fills the row at a byte.
-#[tactic(auto, using(crate::proofs::Rows::word_stays))]
-fn fill_row(rows: &mut [u8], at: usize, counts: BlockCounts)
-    requires { at + 10 ≤ length rows.old }
-    ensures index { word_at rows.new at ≡ counts.index_live }
-    ensures pages { word_at rows.new (at + 2) ≡ counts.data_live }
-    ensures deleted { word_at rows.new (at + 4) ≡ counts.deleted }
-    ensures free { word_at rows.new (at + 6) ≡ counts.free }
-    ensures erases { word_at rows.new (at + 8) ≡ counts.erases }
-    ensures others { SameOutside at 10 rows.old rows.new }
-{
-    put_word(rows, at, counts.index_live);
-    put_word(rows, at + 2, counts.data_live);
-    put_word(rows, at + 4, counts.deleted);
-    put_word(rows, at + 6, counts.free);
-    put_word(rows, at + 8, counts.erases);
-}
-
 impl<'b, N: Nor> View<'b, N> {
     /// What an entry counts as that isn't free. (A deleted one is that of no live page.)
     #[tactic(auto, using(crate::proofs::Looking::looks_then, crate::proofs::Sorts::deleted_sort))]
@@ -177,19 +160,50 @@ impl<'b, N: Nor> View<'b, N> {
         requires room { rows_need self.now.geometry ≤ length self.now.rows.now }
         ensures { result ≡ row_of self.now.rows.now block }
     {
-        let at = 16 * usize::from(block);
-        let row = &self.rows[at..at + 10];
-        BlockCounts {
-            index_live: read_word(row, 0),
-            data_live: read_word(row, 2),
-            deleted: read_word(row, 4),
-            free: read_word(row, 6),
-            erases: read_word(row, 8),
-        }
+        row_at(self.rows, block)
     }
 
-    /// Puts the row of a block, while the table doesn't stand.
-    #[tactic(auto, using(crate::proofs::Rows::row_is, crate::proofs::Rows::rows_beside))]
+    /// The sums of the rows of all blocks, where the table of counts stands.
+    #[tactic(auto, using(crate::proofs::RowSums::table_sums))]
+    pub fn sums(&self) -> Option<Sums>
+        ensures when { is_some result ≡ self.now.counted }
+        ensures stands { IfSome result (λ sums. HasTable N.NorState self.now.geometry self.now.nor.now self.now.rows.now) }
+        ensures told { N.tells self.now.nor.now → IfSome result (λ sums. sums ≡ totals_of self.now.geometry self.now.rows.now) }
+    {
+        if !self.counted {
+            return None;
+        }
+        Some(kept_sums(self.rows))
+    }
+
+    /// The first block that takes a page of a kind, by the rows, or the number of blocks; where the table of counts stands.
+    #[tactic(auto, using(crate::proofs::RowSums::table_first))]
+    pub fn first_open(&self, kind: Kind) -> Option<u16>
+        ensures when { is_some result ≡ self.now.counted }
+        ensures stands { IfSome result (λ first. HasTable N.NorState self.now.geometry self.now.nor.now self.now.rows.now) }
+        ensures told { N.tells self.now.nor.now → IfSome result (λ first. IsFirst self.now.geometry.blocks (row_takes self.now.geometry self.now.rows.now kind) first) }
+    {
+        if !self.counted {
+            return None;
+        }
+        Some(kept_first(self.rows, kind))
+    }
+
+    /// Sets all rows to 0, while the table doesn't stand: then what is kept beside the rows is right.
+    pub fn clear_rows(&mut self)
+        requires room { rows_need self.old.geometry ≤ length self.old.rows.now }
+        requires down { self.old.counted ≡ false }
+        ensures counts { OnlyCounts self.old self.new }
+        ensures device { self.new.nor.now ≡ self.old.nor.now }
+        ensures size { length self.new.rows.now ≡ length self.old.rows.now }
+        ensures down { self.new.counted ≡ false }
+        ensures summed { IsSummed self.new.geometry self.new.rows.now }
+    {
+        let g = self.geometry;
+        clear_in(self.rows, &g);
+    }
+
+    /// Puts the row of a block, while the table doesn't stand. What is kept beside the rows stays right.
     pub fn put_row(&mut self, block: u16, counts: BlockCounts)
         requires block { block < self.old.geometry.blocks }
         requires room { rows_need self.old.geometry ≤ length self.old.rows.now }
@@ -201,7 +215,9 @@ impl<'b, N: Nor> View<'b, N> {
         ensures down { self.new.counted ≡ false }
         ensures row { row_of self.new.rows.now block ≡ counts }
         ensures others { (c : ℕ) → c ≢ block → row_of self.new.rows.now c ≡ row_of self.old.rows.now c }
+        ensures summed { IsSummed self.old.geometry self.old.rows.now → IsSummed self.old.geometry self.new.rows.now }
     {
-        fill_row(self.rows, 16 * usize::from(block), counts);
+        let g = self.geometry;
+        put_in(self.rows, &g, block, &counts);
     }
 }

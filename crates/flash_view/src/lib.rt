@@ -3,9 +3,11 @@
 
 mod counts;
 mod data_pages;
+mod hints;
 mod kinds;
 mod live;
 mod places;
+mod sums;
 mod through;
 mod view;
 mod walk;
@@ -15,4 +17,5 @@ pub use data_pages::{FURTHER_SLOTS_AT, head_slots_at};
 pub use kinds::{Kind, StepErr};
 pub use live::is_named;
 pub use places::{block_of, entry_page, is_entry_page};
+pub use sums::{Sums, takes};
 pub use view::View;

@@ -7,10 +7,11 @@ ghost use Rattle.image_model.specs.Places.{page_of};
 ghost use Rattle.image_model.specs.Headers.{obj_id, name_of as the_name_of};
 ghost use Rattle.image_model.specs.Live.{live_at, own, is_live as the_live};
 ghost use Rattle.image_model.specs.Files.{is_index, index_page};
+ghost use Rattle.image_model.specs.Tidy.{IsTidy};
 ghost use Rattle.flash_view.specs.Places.{IsEntryPage};
 ghost use Rattle.flash_view.specs.Same.{OnlyLooks};
 ghost use Rattle.flash_view.specs.DataPages.{lookup_entry as the_lookup_entry};
-ghost use Rattle.flash_view.specs.Found.{NextId, headed, lower as the_lower, is_name, named_at, first_named};
+ghost use Rattle.flash_view.specs.Found.{NextId, index_between, index_near, headed, lower as the_lower, is_name, named_at, first_named, named_between as the_named_between, named_near};
 
 use crate::View;
 use crate::places::{block_of, is_entry_page};
@@ -138,12 +139,54 @@ impl<'b, N: Nor> View<'b, N> {
         ensures told { N.tells self.old.nor.now → IfOk result (λ page. page ≡ index_page self.old.geometry (own (live_at self.old.geometry (N.bytes self.old.nor.now)) id) span) }
         ensures work { self.new.work.now ≡ self.old.work.now }
     {
+        let pages = self.geometry.pages();
+        self.span_between(id, span, 0, pages)
+    }
+
+    /// The index page of an object and a span, looked for from page `near` on first, and then below it. Where the object has
+    /// one such page, as in a tidy image, it is the one that `find_span` gives, whatever `near` is.
+    #[tactic(auto, using(crate::proofs::Looking::looks_then))]
+    pub fn find_near(&mut self, id: u16, span: u32, near: u16) -> Result<Option<u16>, Failed>
+        ensures cause { OnErr result (Rose (N.faults self.old.nor.now) (N.faults self.new.nor.now)) }
+        ensures looks { OnlyLooks self.old self.new }
+        ensures inside { IfOk result (λ page. IfSome page (λ p. p < page_count self.old.geometry)) }
+        ensures any { N.tells self.old.nor.now → IfOk result (λ page. page ≡ index_near self.old.geometry (own (live_at self.old.geometry (N.bytes self.old.nor.now)) id) span near) }
+        ensures told { N.tells self.old.nor.now → IsTidy self.old.geometry (N.bytes self.old.nor.now) → IfOk result (λ page. page ≡ index_page self.old.geometry (own (live_at self.old.geometry (N.bytes self.old.nor.now)) id) span) }
+        ensures work { self.new.work.now ≡ self.old.work.now }
+    {
+        let pages = self.geometry.pages();
+        let from = u32::from(near).min(pages);
+        match self.span_between(id, span, from, pages)? {
+            Some(page) => Ok(Some(page)),
+            None => self.span_between(id, span, 0, from),
+        }
+    }
+
+    // The first index page of an object and a span from page `from` on and below page `to`.
+    #[tactic(auto, using(crate::proofs::Looking::looks_then))]
+    fn span_between(
+        &mut self,
+        id: u16,
+        span: u32,
+        from: u32,
+        to: u32,
+    ) -> Result<Option<u16>, Failed>
+        requires { from ≤ to }
+        ensures cause { OnErr result (Rose (N.faults self.old.nor.now) (N.faults self.new.nor.now)) }
+        ensures looks { OnlyLooks self.old self.new }
+        ensures inside { IfOk result (λ page. IfSome page (λ p. p < page_count self.old.geometry)) }
+        ensures told { N.tells self.old.nor.now → to ≤ page_count self.old.geometry → IfOk result (λ page. page ≡ index_between (own (live_at self.old.geometry (N.bytes self.old.nor.now)) id) span from to) }
+        ensures work { self.new.work.now ≡ self.old.work.now }
+    {
         if id >= INDEX_BIT {
             return Ok(None);
         }
         let entry = INDEX_BIT + id;
-        let mut at = 0;
+        let mut at = from;
         'pages: while let Some((page, head)) = self.next_live(at, entry, entry)? {
+            if u32::from(page) >= to {
+                return Ok(None);
+            }
             if u32::from(head.span) == span {
                 return Ok(Some(page));
             }
@@ -177,10 +220,54 @@ impl<'b, N: Nor> View<'b, N> {
         ensures told { N.tells self.old.nor.now → IfOk result (λ id. id ≡ first_named self.old.geometry (N.bytes self.old.nor.now) name.now) }
         ensures built { take self.old.geometry.page self.new.work.now ≡ take self.old.geometry.page self.old.work.now }
     {
-        let mut at = 0;
+        let pages = self.geometry.pages();
+        Ok(match self.named_between(name, 0, pages)? {
+            Some((id, _)) => Some(id),
+            None => None,
+        })
+    }
+
+    /// The id whose header page holds that name, and that page, looked for from page `near` on first, and then below it. Where
+    /// one header page has the name, as in a tidy image, the id is the one that `find_header_name` gives, whatever `near` is.
+    #[tactic(auto, using(crate::proofs::Looking::looks_then))]
+    pub fn find_name_near(&mut self, name: &[u8], near: u16) -> Result<Option<(u16, u16)>, Failed>
+        ensures cause { OnErr result (Rose (N.faults self.old.nor.now) (N.faults self.new.nor.now)) }
+        ensures looks { OnlyLooks self.old self.new }
+        ensures inside { IfOk result (λ found. IfSome found (λ f. f.1 < page_count self.old.geometry)) }
+        ensures any { N.tells self.old.nor.now → IfOk result (λ found. found ≡ named_near self.old.geometry (N.bytes self.old.nor.now) name.now near) }
+        ensures told { N.tells self.old.nor.now → IsTidy self.old.geometry (N.bytes self.old.nor.now) → IfOk result (λ found. option_map (λ f. f.0) found ≡ first_named self.old.geometry (N.bytes self.old.nor.now) name.now) }
+        ensures built { take self.old.geometry.page self.new.work.now ≡ take self.old.geometry.page self.old.work.now }
+    {
+        let pages = self.geometry.pages();
+        let from = u32::from(near).min(pages);
+        match self.named_between(name, from, pages)? {
+            Some(found) => Ok(Some(found)),
+            None => self.named_between(name, 0, from),
+        }
+    }
+
+    // The id whose header page holds that name, and that page: the first from page `from` on and below page `to`.
+    #[tactic(auto, using(crate::proofs::Looking::looks_then))]
+    fn named_between(
+        &mut self,
+        name: &[u8],
+        from: u32,
+        to: u32,
+    ) -> Result<Option<(u16, u16)>, Failed>
+        requires { from ≤ to }
+        ensures cause { OnErr result (Rose (N.faults self.old.nor.now) (N.faults self.new.nor.now)) }
+        ensures looks { OnlyLooks self.old self.new }
+        ensures inside { IfOk result (λ found. IfSome found (λ f. f.1 < page_count self.old.geometry)) }
+        ensures told { N.tells self.old.nor.now → to ≤ page_count self.old.geometry → IfOk result (λ found. found ≡ the_named_between self.old.geometry (N.bytes self.old.nor.now) name.now from to) }
+        ensures built { take self.old.geometry.page self.new.work.now ≡ take self.old.geometry.page self.old.work.now }
+    {
+        let mut at = from;
         'pages: while let Some((page, head)) = self.next_live(at, INDEX_BIT, FREE - 1)? {
+            if u32::from(page) >= to {
+                return Ok(None);
+            }
             if head.span == 0 && is_named(self.held(page), name) {
-                return Ok(Some(head.object()));
+                return Ok(Some((head.object(), page)));
             }
             at = u32::from(page) + 1;
         }

@@ -160,14 +160,14 @@ data_parts g image block h = let w = and_parts (is_data_block g image block) _ h
 
 -- ---- whether a block is open for a kind, by its counts
 
-zero_tells : (n : ℕ) → (n == 0) ≡ not (nat_lt 0 n)
+pub zero_tells : (n : ℕ) → (n == 0) ≡ not (nat_lt 0 n)
 zero_tells n = ⊎_elim (λ (none : n ≡ 0). rw none refl) (λ (some : n ≡ 0 → ⊥). rw (ne_eqb n 0 some, lt-ltb 0 n (omega (arith, some))) refl) (cases_eq n 0)
 
-data_tells : (g : Geometry) (image : List ℕ) (block : ℕ) → nat_lt 0 (data_in g image block) ≡ is_data_block g image block
+pub data_tells : (g : Geometry) (image : List ℕ) (block : ℕ) → nat_lt 0 (data_in g image block) ≡ is_data_block g image block
 unfolding data_in is_data_block
 data_tells g image block = some_tells (λ p. is_data_page (live_at g image p)) (range_with_len (block * per_block g + lookups g) (entries g))
 
-index_tells : (g : Geometry) (image : List ℕ) (block : ℕ) → nat_lt 0 (index_in g image block) ≡ is_index_block g image block
+pub index_tells : (g : Geometry) (image : List ℕ) (block : ℕ) → nat_lt 0 (index_in g image block) ≡ is_index_block g image block
 unfolding index_in is_index_block
 index_tells g image block = some_tells (λ p. is_index_page (live_at g image p)) (range_with_len (block * per_block g + lookups g) (entries g))
 

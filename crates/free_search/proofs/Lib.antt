@@ -13,3 +13,4 @@ pub mod FoundPage
 pub mod Beside
 pub mod Rowed
 pub mod Scanning
+pub mod Summed

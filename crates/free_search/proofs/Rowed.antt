@@ -20,7 +20,7 @@ module _ {N : Type 0} {nor : NorOf N} (g : Geometry) (device : N) (rows : List �
   pub row_counts : AreCounts g (nor.bytes device) block c
   row_counts = subst (λ (k : BlockCounts). AreCounts g (nor.bytes device) block k) (sym is) ((table.told tells).counts block low)
 
-  row_magic : has_magic g (nor.bytes device) block ≡ true
+  pub row_magic : has_magic g (nor.bytes device) block ≡ true
   row_magic = (table.told tells).clear.magic block low
 
   -- the block is free where as many of its entries are as it has

@@ -4,3 +4,4 @@ pub mod Free
 pub mod Had
 pub mod Ids
 pub mod Naming
+pub mod Summed

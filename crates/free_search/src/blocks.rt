@@ -1,14 +1,14 @@
-ghost use Rattle.std.specs.Prelude.{◌≡◌, ◌+◌, ◌<◌, ◌≤◌, OnErr, IfOk};
+ghost use Rattle.std.specs.Prelude.{◌≡◌, ◌+◌, ◌<◌, ◌≤◌, IfOk, IfSome, is_some};
 ghost use Rattle.image_model.specs.Tidy.{is_free_block as the_free_block, free_blocks as the_free_blocks, TellsFree};
 ghost use Rattle.image_model.specs.Live.{live_at};
 ghost use Rattle.image_model.specs.Places.{entry_of};
-ghost use Rattle.nor_core.specs.Count.{Rose};
 ghost use Rattle.flash_view.specs.Places.{IsEntryPage};
-ghost use Rattle.flash_view.specs.Same.{OnlyLooks};
+ghost use Rattle.flash_view.specs.Looks.{Looks};
 ghost use Rattle.free_search.specs.ByRows.{IsByRows};
+ghost use Rattle.free_search.specs.Summed.{AreSumsOf};
 ghost use Rattle.flash_view.specs.Counts.{sort_of_page, total_of, one_more, more_free, AreCounts};
 
-use flash_view::{BlockCounts, View, entry_page, with_free, with_one};
+use flash_view::{BlockCounts, Sums, View, entry_page, with_free, with_one};
 use nor_core::{Failed, Nor, NorState};
 use page_layout::FREE;
 
@@ -16,9 +16,7 @@ use page_layout::FREE;
 #[tactic(auto, using(flash_view::proofs::Looking::looks_then))]
 fn count_block<N: Nor>(v: &mut View<'_, N>, block: u16) -> Result<BlockCounts, Failed>
     requires { block < v.old.geometry.blocks }
-    ensures cause { OnErr result (Rose (N.faults v.old.nor.now) (N.faults v.new.nor.now)) }
-    ensures looks { OnlyLooks v.old v.new }
-    ensures told { N.tells v.old.nor.now → IfOk result (λ counts. AreCounts v.old.geometry (N.bytes v.old.nor.now) block counts) }
+    ensures looks { Looks v.old v.new result (λ g image counts. AreCounts g image block counts) }
 {
     let g = v.geometry;
     let mut counts = BlockCounts {
@@ -42,10 +40,8 @@ fn count_block<N: Nor>(v: &mut View<'_, N>, block: u16) -> Result<BlockCounts, F
 #[tactic(auto, using(flash_view::proofs::Looking::looks_none))]
 pub fn counts<N: Nor>(v: &mut View<'_, N>, block: u16) -> Result<BlockCounts, Failed>
     requires { block < v.old.geometry.blocks }
-    ensures cause { OnErr result (Rose (N.faults v.old.nor.now) (N.faults v.new.nor.now)) }
-    ensures looks { OnlyLooks v.old v.new }
+    ensures looks { Looks v.old v.new result (λ g image counts. AreCounts g image block counts) }
     ensures quick { IsByRows v.old v.new result }
-    ensures told { N.tells v.old.nor.now → IfOk result (λ counts. AreCounts v.old.geometry (N.bytes v.old.nor.now) block counts) }
 {
     match v.row(block) {
         Some(counts) => Ok(counts),
@@ -58,10 +54,8 @@ pub fn counts<N: Nor>(v: &mut View<'_, N>, block: u16) -> Result<BlockCounts, Fa
 #[tactic(auto, using(flash_view::proofs::Looking::looks_then))]
 pub fn is_free_block<N: Nor>(v: &mut View<'_, N>, block: u16) -> Result<bool, Failed>
     requires { block < v.old.geometry.blocks }
-    ensures cause { OnErr result (Rose (N.faults v.old.nor.now) (N.faults v.new.nor.now)) }
-    ensures looks { OnlyLooks v.old v.new }
+    ensures looks { Looks v.old v.new result (λ g image free. TellsFree g image → free ≡ the_free_block g image block) }
     ensures quick { IsByRows v.old v.new result }
-    ensures told { N.tells v.old.nor.now → TellsFree v.old.geometry (N.bytes v.old.nor.now) → IfOk result (λ free. free ≡ the_free_block v.old.geometry (N.bytes v.old.nor.now) block) }
 {
     if let Some(counts) = v.row(block) {
         return Ok(u32::from(counts.free) == v.geometry.entries());
@@ -72,14 +66,24 @@ pub fn is_free_block<N: Nor>(v: &mut View<'_, N>, block: u16) -> Result<bool, Fa
     Ok(v.find_slot(block, 0, 0, FREE - 1)?.is_none())
 }
 
-/// How many blocks are free, by the lookup pages, as for one block.
+/// What all blocks add up to, where the table of counts stands.
+#[tactic(auto, using(crate::proofs::Summed::sums_are_told))]
+pub fn sums<N: Nor>(v: &View<'_, N>) -> Option<Sums>
+    ensures when { is_some result ≡ v.now.counted }
+    ensures told { N.tells v.now.nor.now → IfSome result (AreSumsOf v.now.geometry (N.bytes v.now.nor.now)) }
+{
+    v.sums()
+}
+
+/// How many blocks are free, by the sums where the table of counts stands, else by the lookup pages, as for one block.
 pub fn free_blocks<N: Nor>(v: &mut View<'_, N>) -> Result<u32, Failed>
-    ensures cause { OnErr result (Rose (N.faults v.old.nor.now) (N.faults v.new.nor.now)) }
-    ensures looks { OnlyLooks v.old v.new }
+    ensures looks { Looks v.old v.new result (λ g image n. TellsFree g image → n ≡ the_free_blocks g image) }
     ensures quick { IsByRows v.old v.new result }
     ensures most { IfOk result (λ n. n ≤ v.old.geometry.blocks) }
-    ensures told { N.tells v.old.nor.now → TellsFree v.old.geometry (N.bytes v.old.nor.now) → IfOk result (λ n. n ≡ the_free_blocks v.old.geometry (N.bytes v.old.nor.now)) }
 {
+    if let Some(sums) = sums(v) {
+        return Ok(u32::from(sums.blocks).min(v.geometry.blocks()));
+    }
     let mut free = 0;
     for block in 0..v.geometry.blocks() as u16 {
         if is_free_block(v, block)? {

@@ -1,7 +1,6 @@
-ghost use Rattle.std.specs.Prelude.{◌≡◌, ◌+◌, ◌<◌, ◌≤◌, OnErr, IfOk, if◌then◌else◌};
-ghost use Rattle.nor_core.specs.Count.{Rose};
+ghost use Rattle.std.specs.Prelude.{◌≡◌, ◌+◌, ◌<◌, ◌≤◌, IfOk, if◌then◌else◌};
 ghost use Rattle.image_model.specs.Places.{has_magic, erase_count, next_count as the_next_count};
-ghost use Rattle.flash_view.specs.Same.{OnlyLooks};
+ghost use Rattle.flash_view.specs.Looks.{Looks};
 ghost use Rattle.free_search.specs.ByRows.{IsByRows};
 
 use flash_view::View;
@@ -11,10 +10,8 @@ use nor_core::{Failed, Nor, NorState};
 #[tactic(auto, using(flash_view::proofs::Looking::looks_none))]
 pub(crate) fn erases<N: Nor>(v: &mut View<'_, N>, block: u16) -> Result<u16, Failed>
     requires { block < v.old.geometry.blocks }
-    ensures cause { OnErr result (Rose (N.faults v.old.nor.now) (N.faults v.new.nor.now)) }
-    ensures looks { OnlyLooks v.old v.new }
+    ensures looks { Looks v.old v.new result (λ g image count. count ≡ erase_count g image block) }
     ensures quick { IsByRows v.old v.new result }
-    ensures told { N.tells v.old.nor.now → IfOk result (λ count. count ≡ erase_count v.old.geometry (N.bytes v.old.nor.now) block) }
 {
     match v.row(block) {
         Some(counts) => Ok(counts.erases),
@@ -26,10 +23,8 @@ pub(crate) fn erases<N: Nor>(v: &mut View<'_, N>, block: u16) -> Result<u16, Fai
 #[tactic(auto, using(flash_view::proofs::Looking::looks_then))]
 fn count_behind<N: Nor>(v: &mut View<'_, N>, block: u16) -> Result<u32, Failed>
     requires { block < v.old.geometry.blocks }
-    ensures cause { OnErr result (Rose (N.faults v.old.nor.now) (N.faults v.new.nor.now)) }
-    ensures looks { OnlyLooks v.old v.new }
+    ensures looks { Looks v.old v.new result (λ g image n. n ≡ (if has_magic g image block then erase_count g image block + 1 else 0)) }
     ensures quick { IsByRows v.old v.new result }
-    ensures told { N.tells v.old.nor.now → IfOk result (λ n. n ≡ (if has_magic v.old.geometry (N.bytes v.old.nor.now) block then erase_count v.old.geometry (N.bytes v.old.nor.now) block + 1 else 0)) }
 {
     if let Some(counts) = v.row(block) {
         return Ok(u32::from(counts.erases) + 1);
@@ -44,11 +39,9 @@ fn count_behind<N: Nor>(v: &mut View<'_, N>, block: u16) -> Result<u32, Failed>
 /// that would be 0x8000.
 #[tactic(auto, using(flash_view::proofs::Looking::looks_then))]
 pub fn next_count<N: Nor>(v: &mut View<'_, N>) -> Result<u16, Failed>
-    ensures cause { OnErr result (Rose (N.faults v.old.nor.now) (N.faults v.new.nor.now)) }
-    ensures looks { OnlyLooks v.old v.new }
+    ensures looks { Looks v.old v.new result (λ g image n. n ≡ the_next_count g image) }
     ensures quick { IsByRows v.old v.new result }
     ensures most { IfOk result (λ n. n ≤ 0x7FFF) }
-    ensures told { N.tells v.old.nor.now → IfOk result (λ n. n ≡ the_next_count v.old.geometry (N.bytes v.old.nor.now)) }
 {
     let mut next = 0;
     for block in 0..v.geometry.blocks() as u16 {

@@ -1,9 +1,9 @@
-ghost use Rattle.std.specs.Prelude.{◌≡◌, ◌==◌, ℕ, ◌+◌, ◌*◌, ◌/◌, ◌<◌, ◌≤◌, OnErr, IfOk, IfSome, find, length, not, drop, Some};
+ghost use Rattle.std.specs.Prelude.{◌≡◌, ◌==◌, ℕ, ◌+◌, ◌*◌, ◌/◌, ◌<◌, ◌≤◌, IfOk, IfSome, find, length, not, drop, Some};
 ghost use Rattle.std.specs.List.{range_with_len};
 ghost use Rattle.page_layout.specs.Ids.{bit_of};
 ghost use Rattle.free_search.specs.Ids.{bits_at, head_id, unused_id, Notes};
 ghost use Rattle.geometry.specs.Numbers.{usable, per_block};
-ghost use Rattle.nor_core.specs.Count.{Rose};
+ghost use Rattle.flash_view.specs.Looks.{Looks};
 ghost use Rattle.flash_view.specs.Same.{OnlyLooks};
 
 use flash_view::View;
@@ -79,10 +79,8 @@ pub(crate) fn least_unnoted<N: Nor>(v: &View<'_, N>) -> Option<u16>
 /// The least id from 1 to the number of entry pages that has no header page, or None where there is none.
 #[tactic(auto, using(flash_view::proofs::Looking::looks_then))]
 pub fn free_id<N: Nor>(v: &mut View<'_, N>) -> Result<Option<u16>, Failed>
-    ensures cause { OnErr result (Rose (N.faults v.old.nor.now) (N.faults v.new.nor.now)) }
-    ensures looks { OnlyLooks v.old v.new }
+    ensures looks { Looks v.old v.new result (λ g image found. found ≡ unused_id g image) }
     ensures inside { IfOk result (λ found. IfSome found (λ id. (1 ≤ id) × (id ≤ usable v.old.geometry))) }
-    ensures told { N.tells v.old.nor.now → IfOk result (λ found. found ≡ unused_id v.old.geometry (N.bytes v.old.nor.now)) }
 {
     clear_bits(v);
     let mut at = 0;

@@ -8,7 +8,7 @@ mod naming;
 mod pages;
 mod table;
 
-pub use blocks::{counts, free_blocks, is_free_block};
+pub use blocks::{counts, free_blocks, is_free_block, sums};
 pub use erases::next_count;
 pub use ids::free_id;
 pub use naming::{Naming, name_or_id};

@@ -1,9 +1,8 @@
-ghost use Rattle.std.specs.Prelude.{◌≡◌, ◌+◌, ◌-◌, ◌*◌, ◌/◌, ◌<◌, ◌≤◌, length, true, OnErr, IfOk};
+ghost use Rattle.std.specs.Prelude.{◌≡◌, ◌+◌, ◌-◌, ◌*◌, ◌/◌, ◌<◌, ◌≤◌, length, true, IfOk};
 ghost use Rattle.geometry.specs.Numbers.{usable, per_block, lookups, entries};
-ghost use Rattle.nor_core.specs.Count.{Rose};
 ghost use Rattle.image_model.specs.Places.{has_magic as the_magic};
 ghost use Rattle.flash_view.specs.Places.{IsEntryPage};
-ghost use Rattle.flash_view.specs.Same.{OnlyLooks};
+ghost use Rattle.flash_view.specs.Looks.{Looks};
 ghost use Rattle.free_search.specs.Ids.{bits_at};
 ghost use Rattle.free_search.specs.Naming.{IsNamingWithin, NamingOf, Scanned, ScannedTo, IsIndexEntry, AreSlots, LacksIndex, first_entry};
 
@@ -31,9 +30,7 @@ fn note_page<N: Nor>(
     name: &[u8],
 ) -> Result<bool, Failed>
     requires { IsEntryPage v.old.geometry page }
-    ensures cause { OnErr result (Rose (N.faults v.old.nor.now) (N.faults v.new.nor.now)) }
-    ensures looks { OnlyLooks v.old v.new }
-    ensures told { N.tells v.old.nor.now → IsIndexEntry v.old.geometry (N.bytes v.old.nor.now) page entry → Scanned v.old.geometry (N.bytes v.old.nor.now) (bits_at v.old.geometry v.old.work.now) name.now page → IfOk result (ScannedTo v.old.geometry (N.bytes v.old.nor.now) (bits_at v.old.geometry v.new.work.now) name.now (page + 1)) }
+    ensures looks { Looks v.old v.new result (λ g image x. IsIndexEntry g image page entry → Scanned g image (bits_at g v.old.work.now) name.now page → ScannedTo g image (bits_at g v.new.work.now) name.now (page + 1) x) }
 {
     v.hold(page)?;
     let head = header_of(v.held(page));
@@ -61,9 +58,7 @@ fn scan_slots<N: Nor>(
 ) -> Result<bool, Failed>
     requires block { block < v.old.geometry.blocks }
     requires few { start + length bytes.now / 2 ≤ entries v.old.geometry }
-    ensures cause { OnErr result (Rose (N.faults v.old.nor.now) (N.faults v.new.nor.now)) }
-    ensures looks { OnlyLooks v.old v.new }
-    ensures told { N.tells v.old.nor.now → AreSlots v.old.geometry (N.bytes v.old.nor.now) bytes.now block start (length bytes.now / 2) → Scanned v.old.geometry (N.bytes v.old.nor.now) (bits_at v.old.geometry v.old.work.now) name.now (first_entry v.old.geometry block + start) → IfOk result (ScannedTo v.old.geometry (N.bytes v.old.nor.now) (bits_at v.old.geometry v.new.work.now) name.now (first_entry v.old.geometry block + start + length bytes.now / 2)) }
+    ensures looks { Looks v.old v.new result (λ g image x. AreSlots g image bytes.now block start (length bytes.now / 2) → Scanned g image (bits_at g v.old.work.now) name.now (first_entry g block + start) → ScannedTo g image (bits_at g v.new.work.now) name.now (first_entry g block + start + length bytes.now / 2) x) }
 {
     let to = bytes.len() / 2;
     let mut from = 0;
@@ -97,9 +92,7 @@ fn scan_part<N: Nor>(
     requires few { start + count ≤ entries v.old.geometry }
     requires some { 0 < count }
     requires part { count ≤ 128 }
-    ensures cause { OnErr result (Rose (N.faults v.old.nor.now) (N.faults v.new.nor.now)) }
-    ensures looks { OnlyLooks v.old v.new }
-    ensures told { N.tells v.old.nor.now → the_magic v.old.geometry (N.bytes v.old.nor.now) block ≡ true → Scanned v.old.geometry (N.bytes v.old.nor.now) (bits_at v.old.geometry v.old.work.now) name.now (first_entry v.old.geometry block + start) → IfOk result (ScannedTo v.old.geometry (N.bytes v.old.nor.now) (bits_at v.old.geometry v.new.work.now) name.now (first_entry v.old.geometry block + start + count)) }
+    ensures looks { Looks v.old v.new result (λ g image x. the_magic g image block ≡ true → Scanned g image (bits_at g v.old.work.now) name.now (first_entry g block + start) → ScannedTo g image (bits_at g v.new.work.now) name.now (first_entry g block + start + count) x) }
 {
     let g = v.geometry;
     let page = (u32::from(block) * g.per_block() + k) as u16;
@@ -113,9 +106,7 @@ fn scan_part<N: Nor>(
 #[tactic(auto, using(flash_view::proofs::Looking::looks_none))]
 fn lacks_index<N: Nor>(v: &mut View<'_, N>, block: u16) -> Result<bool, Failed>
     requires { block < v.old.geometry.blocks }
-    ensures cause { OnErr result (Rose (N.faults v.old.nor.now) (N.faults v.new.nor.now)) }
-    ensures looks { OnlyLooks v.old v.new }
-    ensures told { N.tells v.old.nor.now → IfOk result (LacksIndex v.old.geometry (N.bytes v.old.nor.now) block) }
+    ensures looks { Looks v.old v.new result (λ g image. LacksIndex g image block) }
     ensures work { v.new.work.now ≡ v.old.work.now }
 {
     if let Some(row) = v.row(block) {
@@ -128,9 +119,7 @@ fn lacks_index<N: Nor>(v: &mut View<'_, N>, block: u16) -> Result<bool, Failed>
 #[tactic(auto, using(flash_view::proofs::Looking::looks_then))]
 fn scan_block<N: Nor>(v: &mut View<'_, N>, block: u16, name: &[u8]) -> Result<bool, Failed>
     requires { block < v.old.geometry.blocks }
-    ensures cause { OnErr result (Rose (N.faults v.old.nor.now) (N.faults v.new.nor.now)) }
-    ensures looks { OnlyLooks v.old v.new }
-    ensures told { N.tells v.old.nor.now → Scanned v.old.geometry (N.bytes v.old.nor.now) (bits_at v.old.geometry v.old.work.now) name.now (block * per_block v.old.geometry) → IfOk result (ScannedTo v.old.geometry (N.bytes v.old.nor.now) (bits_at v.old.geometry v.new.work.now) name.now ((block + 1) * per_block v.old.geometry)) }
+    ensures looks { Looks v.old v.new result (λ g image x. Scanned g image (bits_at g v.old.work.now) name.now (block * per_block g) → ScannedTo g image (bits_at g v.new.work.now) name.now ((block + 1) * per_block g) x) }
 {
     let g = v.geometry;
     let slots = g.page() / 2;
@@ -153,10 +142,8 @@ fn scan_block<N: Nor>(v: &mut View<'_, N>, block: u16, name: &[u8]) -> Result<bo
 /// pages are copied part by part, and each index page is looked at once.
 #[tactic(auto, using(flash_view::proofs::Looking::looks_then))]
 pub fn name_or_id<N: Nor>(v: &mut View<'_, N>, name: &[u8]) -> Result<Naming, Failed>
-    ensures cause { OnErr result (Rose (N.faults v.old.nor.now) (N.faults v.new.nor.now)) }
-    ensures looks { OnlyLooks v.old v.new }
+    ensures looks { Looks v.old v.new result (λ g image. NamingOf g image name.now) }
     ensures inside { IfOk result (IsNamingWithin (usable v.old.geometry)) }
-    ensures told { N.tells v.old.nor.now → IfOk result (NamingOf v.old.geometry (N.bytes v.old.nor.now) name.now) }
 {
     clear_bits(v);
     for block in 0..v.geometry.blocks() as u16 {

@@ -1,11 +1,9 @@
-ghost use Rattle.std.specs.Prelude.{◌≡◌, ◌+◌, ◌<◌, ◌≤◌, OnErr, IfOk, IfSome, true};
+ghost use Rattle.std.specs.Prelude.{◌≡◌, ◌+◌, ◌<◌, ◌≤◌, ℕ, IfOk, IfSome, true, false};
 ghost use Rattle.geometry.specs.Numbers.{lookups};
-ghost use Rattle.nor_core.specs.Count.{Rose};
 ghost use Rattle.flash_view.specs.Places.{IsEntryPage};
-ghost use Rattle.flash_view.specs.Same.{OnlyLooks};
+ghost use Rattle.flash_view.specs.Looks.{Looks};
 ghost use Rattle.free_search.specs.ByRows.{IsByRows};
 ghost use Rattle.image_model.specs.Tidy.{is_free_block as the_free_block, TellsFree};
-ghost use Rattle.free_search.specs.Counts.{the_takes};
 ghost use Rattle.geometry.specs.declared.geometry.Geometry.{Geometry};
 ghost use Rattle.free_search.specs.Had.{TidyButIsClear, LessHad, PutHad, SameHad, InPlaceHad};
 ghost use Rattle.image_model.specs.Places.{entry_at};
@@ -14,33 +12,18 @@ ghost use Rattle.free_search.specs.Free.{FreePage, is_open_for, the_open_block, 
 
 use crate::erases::erases;
 use crate::{counts, free_blocks, is_free_block};
-use flash_view::{BlockCounts, Kind, View, entry_page};
+use flash_view::{Kind, View, entry_page, takes};
 use nor_core::{Failed, Nor, NorState};
 use page_layout::FREE;
-
-// Whether pages of a kind go into a block in use: index pages where no live data page is and the block isn't
-// empty, data pages beside live data pages alone.
-fn takes(counts: &BlockCounts, kind: Kind, entries: u32) -> bool
-    ensures { result ≡ the_takes counts.now kind entries }
-{
-    match kind {
-        Kind::Index => {
-            counts.data_live == 0 && counts.free > 0 && u32::from(counts.free) < entries
-        }
-        Kind::Data => counts.data_live > 0 && counts.index_live == 0 && counts.free > 0,
-    }
-}
 
 // The first free entry of a block. (It is read once more, so that it is known to be two bytes.)
 #[tactic(auto, using(flash_view::proofs::Looking::looks_then))]
 fn first_free<N: Nor>(v: &mut View<'_, N>, block: u16) -> Result<Option<u16>, Failed>
     requires { block < v.old.geometry.blocks }
-    ensures cause { OnErr result (Rose (N.faults v.old.nor.now) (N.faults v.new.nor.now)) }
-    ensures looks { OnlyLooks v.old v.new }
+    ensures looks { Looks v.old v.new result (λ g image found. TellsFree g image → found ≡ the_first_free g image block) }
     ensures few_reads { N.device_reads v.new.nor.now ≤ N.device_reads v.old.nor.now + lookups v.old.geometry + 1 }
     ensures entry { IfOk result (λ page. IfSome page (λ p. IsEntryPage v.old.geometry p)) }
     ensures word { N.tells v.old.nor.now → IfOk result (λ found. IfSome found (λ p. IsWordAt (N.bytes v.old.nor.now) (entry_at v.old.geometry p))) }
-    ensures told { N.tells v.old.nor.now → TellsFree v.old.geometry (N.bytes v.old.nor.now) → IfOk result (λ found. found ≡ the_first_free v.old.geometry (N.bytes v.old.nor.now) block) }
 {
     let Some((i, _)) = v.find_slot(block, 0, FREE, FREE)? else {
         return Ok(None);
@@ -55,10 +38,8 @@ fn first_free<N: Nor>(v: &mut View<'_, N>, block: u16) -> Result<Option<u16>, Fa
 #[tactic(auto, using(flash_view::proofs::Looking::looks_then))]
 fn is_open<N: Nor>(v: &mut View<'_, N>, block: u16, kind: Kind) -> Result<bool, Failed>
     requires { block < v.old.geometry.blocks }
-    ensures cause { OnErr result (Rose (N.faults v.old.nor.now) (N.faults v.new.nor.now)) }
-    ensures looks { OnlyLooks v.old v.new }
+    ensures looks { Looks v.old v.new result (λ g image takes_one. TellsFree g image → takes_one ≡ is_open_for g image kind block) }
     ensures quick { IsByRows v.old v.new result }
-    ensures told { N.tells v.old.nor.now → TellsFree v.old.geometry (N.bytes v.old.nor.now) → IfOk result (λ takes_one. takes_one ≡ is_open_for v.old.geometry (N.bytes v.old.nor.now) kind block) }
 {
     let entries = v.geometry.entries();
     if let Some(counts) = v.row(block) {
@@ -73,20 +54,31 @@ fn is_open<N: Nor>(v: &mut View<'_, N>, block: u16, kind: Kind) -> Result<bool, 
     Ok(takes(&counts(v, block)?, kind, entries))
 }
 
-// The lowest-numbered block in use that takes a page of that kind.
+// No block below this one takes a page of that kind: the first one that does, where the table of counts stands, else 0.
+#[tactic(auto, using(crate::proofs::Summed::open_from))]
+fn lowest<N: Nor>(v: &View<'_, N>, kind: Kind) -> u16
+    ensures most { N.tells v.now.nor.now → result ≤ v.now.geometry.blocks }
+    ensures told { N.tells v.now.nor.now → (k : ℕ) → k < result → is_open_for v.now.geometry (N.bytes v.now.nor.now) kind k ≡ false }
+{
+    match v.first_open(kind) {
+        Some(first) => first,
+        None => 0,
+    }
+}
+
+// The lowest-numbered block in use that takes a page of that kind. (Where the table of counts stands it tells the first one.)
 #[tactic(auto, using(flash_view::proofs::Looking::looks_then))]
 fn open_block<N: Nor>(
     v: &mut View<'_, N>,
     kind: Kind,
     not_in: Option<u16>,
 ) -> Result<Option<u16>, Failed>
-    ensures cause { OnErr result (Rose (N.faults v.old.nor.now) (N.faults v.new.nor.now)) }
-    ensures looks { OnlyLooks v.old v.new }
+    ensures looks { Looks v.old v.new result (λ g image found. TellsFree g image → found ≡ the_open_block g image kind not_in) }
     ensures quick { IsByRows v.old v.new result }
     ensures below { IfOk result (λ found. IfSome found (λ block. block < v.old.geometry.blocks)) }
-    ensures told { N.tells v.old.nor.now → TellsFree v.old.geometry (N.bytes v.old.nor.now) → IfOk result (λ found. found ≡ the_open_block v.old.geometry (N.bytes v.old.nor.now) kind not_in) }
 {
-    for block in 0..v.geometry.blocks() as u16 {
+    let first = lowest(v, kind);
+    for block in first..v.geometry.blocks() as u16 {
         if Some(block) != not_in && is_open(v, block, kind)? {
             return Ok(Some(block));
         }
@@ -110,11 +102,9 @@ fn less_worn<N: Nor>(
 ) -> Result<Option<Worn>, Failed>
     requires block { block < v.old.geometry.blocks }
     requires least { IfSome least (λ worn. worn.block < v.old.geometry.blocks) }
-    ensures cause { OnErr result (Rose (N.faults v.old.nor.now) (N.faults v.new.nor.now)) }
-    ensures looks { OnlyLooks v.old v.new }
+    ensures looks { Looks v.old v.new result (λ g image found. TellsFree g image → found ≡ worn_with g image least block) }
     ensures quick { IsByRows v.old v.new result }
     ensures below { IfOk result (λ found. IfSome found (λ worn. worn.block < v.old.geometry.blocks)) }
-    ensures told { N.tells v.old.nor.now → TellsFree v.old.geometry (N.bytes v.old.nor.now) → IfOk result (λ found. found ≡ worn_with v.old.geometry (N.bytes v.old.nor.now) least block) }
 {
     if !is_free_block(v, block)? {
         return Ok(least);
@@ -129,11 +119,9 @@ fn less_worn<N: Nor>(
 // The free block that was erased least often, the lowest-numbered among equals.
 #[tactic(auto, using(flash_view::proofs::Looking::looks_then))]
 fn least_worn<N: Nor>(v: &mut View<'_, N>, not_in: Option<u16>) -> Result<Option<u16>, Failed>
-    ensures cause { OnErr result (Rose (N.faults v.old.nor.now) (N.faults v.new.nor.now)) }
-    ensures looks { OnlyLooks v.old v.new }
+    ensures looks { Looks v.old v.new result (λ g image found. TellsFree g image → found ≡ the_least_worn g image not_in) }
     ensures quick { IsByRows v.old v.new result }
     ensures below { IfOk result (λ found. IfSome found (λ block. block < v.old.geometry.blocks)) }
-    ensures told { N.tells v.old.nor.now → TellsFree v.old.geometry (N.bytes v.old.nor.now) → IfOk result (λ found. found ≡ the_least_worn v.old.geometry (N.bytes v.old.nor.now) not_in) }
 {
     let mut least = None;
     for block in 0..v.geometry.blocks() as u16 {
@@ -152,11 +140,9 @@ fn block_for<N: Nor>(
     keep: u32,
     not_in: Option<u16>,
 ) -> Result<Option<u16>, Failed>
-    ensures cause { OnErr result (Rose (N.faults v.old.nor.now) (N.faults v.new.nor.now)) }
-    ensures looks { OnlyLooks v.old v.new }
+    ensures looks { Looks v.old v.new result (λ g image found. TellsFree g image → found ≡ the_block g image kind keep not_in) }
     ensures quick { IsByRows v.old v.new result }
     ensures below { IfOk result (λ found. IfSome found (λ block. block < v.old.geometry.blocks)) }
-    ensures told { N.tells v.old.nor.now → TellsFree v.old.geometry (N.bytes v.old.nor.now) → IfOk result (λ found. found ≡ the_block v.old.geometry (N.bytes v.old.nor.now) kind keep not_in) }
 {
     if let Some(block) = open_block(v, kind, not_in)? {
         return Ok(Some(block));
@@ -178,12 +164,10 @@ pub fn free_page<N: Nor>(
     keep: u32,
     not_in: Option<u16>,
 ) -> Result<Option<u16>, Failed>
-    ensures cause { OnErr result (Rose (N.faults v.old.nor.now) (N.faults v.new.nor.now)) }
-    ensures looks { OnlyLooks v.old v.new }
+    ensures looks { Looks v.old v.new result (λ g image found. TellsFree g image → FreePage g image kind keep not_in found) }
     ensures few_reads { v.old.counted ≡ true → N.device_reads v.new.nor.now ≤ N.device_reads v.old.nor.now + lookups v.old.geometry + 1 }
     ensures entry { IfOk result (λ page. IfSome page (λ p. IsEntryPage v.old.geometry p)) }
     ensures chosen { N.tells v.old.nor.now → TellsFree v.old.geometry (N.bytes v.old.nor.now) → IfOk result (λ found. found ≡ the_free_page v.old.geometry (N.bytes v.old.nor.now) kind keep not_in) }
-    ensures told { N.tells v.old.nor.now → TellsFree v.old.geometry (N.bytes v.old.nor.now) → IfOk result (λ found. FreePage v.old.geometry (N.bytes v.old.nor.now) kind keep not_in found) }
 {
     match block_for(v, kind, keep, not_in)? {
         Some(block) => first_free(v, block),

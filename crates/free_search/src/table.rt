@@ -21,6 +21,7 @@ pub fn count_all<N: Nor>(v: &mut View<'_, N>) -> Result<(), Failed>
         return Ok(());
     }
     v.counted = false;
+    v.clear_rows();
     for block in 0..v.geometry.blocks() as u16 {
         let counts = counts(v, block)?;
         v.put_row(block, counts);

@@ -1,7 +1,7 @@
 -- The generator, draw by draw.
 use Rattle.std.proofs.Common.{◌≡◌, ℕ, ◌+◌, ◌/◌, ◌^◌, ◌<◌, List, [], ◌∷◌, ◌++◌, length, get_or, refl, sym, ◌∙◌, ap, add-one, below_more, arith}
 use Rattle.std.proofs.lemmas.Grind.{common_steps}
-use Rattle.nor_core.specs.Picks.{next_number, number_after, drawn}
+use Rattle.nor_core.specs.Draws.{next_number, number_after, drawn}
 
 -- no draw leaves the seed
 pub number_after-none : (seed : ℕ) → seed ≡ number_after seed 0
@@ -21,7 +21,3 @@ module _ (seed draws before after : ℕ) (before_is : before ≡ number_after se
   -- what the draw gives
   pub drawn_next : (gives : ℕ) → gives ≡ after / 2 ^ 33 → gives ≡ drawn seed draws
   drawn_next gives gives_is = gives_is ∙ ap (λ (n : ℕ). n / 2 ^ 33) number_next
-
--- what holds of each element so far, and of one more
-pub each_pushed : (f : ℕ → ℕ) (left : List ℕ) (n one : ℕ) → length left ≡ n → ((k : ℕ) → k < n → get_or left k 0 ≡ f k) → one ≡ f n → (k : ℕ) → k < n + 1 → get_or (left ++ one ∷ []) k 0 ≡ f k
-each_pushed f left n one size each one_is = below_more (λ (k : ℕ). get_or (left ++ one ∷ []) k 0 ≡ f k) n (λ k below. let here = each k below in grind (arith, common_steps)) (grind (arith, common_steps))

@@ -24,7 +24,7 @@ use Rattle.flash_view.specs.Same.{IsSameView, OnlyLooks}
 use Rattle.flash_view.specs.Places.{IsEntryPage}
 use Rattle.flash_view.proofs.Heads.{entry_page_told}
 use Rattle.flash_view.specs.Counts.{sort_at, one_more, one_less, total_of}
-use Rattle.flash_view.specs.Table.{row_of, HasTable}
+use Rattle.flash_view.specs.Table.{row_of, HasTable, IsSummed}
 use Rattle.page_put.specs.Placing.{placed_id, placed_page, with_page}
 use Rattle.page_put.specs.Recount.{OneChanges, IsUsedAs, WasCounted, StandsAgain, IsUsedPage}
 use Rattle.page_put.proofs.Finishing.{programs_place}
@@ -104,15 +104,15 @@ pub record Looked {N : Type 0} {nor : NorOf N} (old mid : View N nor) (p : ℕ) 
 
 pub table_put : {N : Type 0} {nor : NorOf N} {old mid : View N nor} (p block : ℕ) (before after : Sort) (geometry : Geometry) (device : N) (rows : List ℕ) → Looked old mid p before after → block ≡ block_of old.geometry p →
     geometry ≡ mid.geometry → device ≡ mid.nor.now → length rows ≡ length mid.rows.now →
-    row_of rows block ≡ one_more (one_less (row_of mid.rows.now block) before) after → ((c : ℕ) → c ≢ block → row_of rows c ≡ row_of mid.rows.now c) → HasTable nor geometry device rows
-table_put {nor = nor} {old = old} {mid = mid} p block before after geometry device rows l here kept is size own others =
+    row_of rows block ≡ one_more (one_less (row_of mid.rows.now block) before) after → ((c : ℕ) → c ≢ block → row_of rows c ≡ row_of mid.rows.now c) → (IsSummed mid.geometry mid.rows.now → IsSummed mid.geometry rows) → HasTable nor geometry device rows
+table_put {nor = nor} {old = old} {mid = mid} p block before after geometry device rows l here kept is size own others summed =
     rw (kept, l.looks.same.geometry, is) (record {
       room = let s : length mid.rows.now ≡ length old.rows.now = ap length l.looks.rows in omega (arith, l.room, s, size);
       told = λ tells.
           let back = l.looks.reads.told_before tells in
           let used = l.told back in
           rw l.looks.reads.bytes (table_moves old.geometry p (entry_page_told old.geometry p l.entry) before after old.rows.now (nor.bytes old.nor.now) (l.was back) used.sort_is used.word used.used rows
-          (rw (here, l.looks.rows) at own) (rw (here, l.looks.rows) at others));
+          (rw (here, l.looks.rows) at own) (rw (here, l.looks.rows) at others) (rw (l.looks.same.geometry, l.looks.rows) at summed));
     })
 
 -- the counts of a block leave room for one entry more, where one was taken off

@@ -23,7 +23,7 @@ use Rattle.flash_view.specs.declared.counts.BlockCounts.{BlockCounts}
 use Rattle.flash_view.specs.declared.counts.Sort.{Sort}
 use Rattle.flash_view.specs.declared.counts.Sort.TheVariants.{Index, Data, Deleted, Free}
 use Rattle.flash_view.specs.Counts.{sort_at, sort_of_page, one_more, one_less, total_of, AreCounts}
-use Rattle.flash_view.specs.Table.{row_of, IsTable}
+use Rattle.flash_view.specs.Table.{row_of, IsTable, IsSummed}
 use Rattle.page_put.specs.Fresh.{IsFresh}
 use Rattle.page_put.specs.Recount.{WasCounted, WasFreshened}
 
@@ -178,8 +178,9 @@ module _ (g : Geometry) where
           words = λ q is at. other_word c r had q is at (λ same. out (sym at ∙ ap (λ (k : ℕ). block_of g k) same));
         }
 
-    pub table_moves : entry_of g now p ≢ 0xFFFF → (rows' : List ℕ) → row_of rows' (block_of g p) ≡ one_more (one_less (row_of rows (block_of g p)) before) after → ((c : ℕ) → c ≢ block_of g p → row_of rows' c ≡ row_of rows c) → IsTable g now rows'
-    table_moves used rows' own others = record {
+    pub table_moves : entry_of g now p ≢ 0xFFFF → (rows' : List ℕ) → row_of rows' (block_of g p) ≡ one_more (one_less (row_of rows (block_of g p)) before) after → ((c : ℕ) → c ≢ block_of g p → row_of rows' c ≡ row_of rows c) → (IsSummed g rows → IsSummed g rows') → IsTable g now rows'
+    table_moves used rows' own others summed = record {
+      summed = summed w.table.summed;
       clear = tells_free_still g w.was now p w.table.clear w.only.agree page used;
       counts = λ c low. ⊎_elim
           (λ (same : c ≡ block_of g p). subst (λ (k : ℕ). AreCounts g now k (row_of rows' k)) (sym same) (rw own (here (row_of rows (block_of g p)) (subst (λ (k : ℕ). AreCounts g w.was k (row_of rows k)) same (w.table.counts c low)))))
@@ -194,8 +195,9 @@ module _ (g : Geometry) where
   free_is_word image p free = let ones = eqb-true _ 0xFFFF (and_parts (entry_of g image p == 0xFFFF) _ free).0 in omega (arith, ones)
 
   pub table_freshens : (block count : ℕ) (rows rows' now : List ℕ) → block < g.blocks → WasFreshened g block count rows now →
-      row_of rows' block ≡ record { index_live = 0; data_live = 0; deleted = 0; free = entries g; erases = count } → ((c : ℕ) → c ≢ block → row_of rows' c ≡ row_of rows c) → IsTable g now rows'
-  table_freshens block count rows rows' now inside w own others = record {
+      row_of rows' block ≡ record { index_live = 0; data_live = 0; deleted = 0; free = entries g; erases = count } → ((c : ℕ) → c ≢ block → row_of rows' c ≡ row_of rows c) → (IsSummed g rows → IsSummed g rows') → IsTable g now rows'
+  table_freshens block count rows rows' now inside w own others summed = record {
+    summed = summed w.table.summed;
     clear = tells_free_fresh g w.was now block w.table.clear w.fresh.outside w.fresh.free;
     counts = λ c low. ⊎_elim
         (λ (same : c ≡ block).

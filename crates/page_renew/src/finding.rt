@@ -4,6 +4,7 @@ ghost use Rattle.std.specs.Bool.{OnTrue};
 ghost use Rattle.geometry.specs.Numbers.{page_count};
 ghost use Rattle.nor_core.specs.Count.{Rose};
 ghost use Rattle.image_model.specs.Places.{is_entry_page as the_entry_page};
+ghost use Rattle.image_model.specs.Tidy.{IsTidy};
 ghost use Rattle.flash_view.specs.Places.{IsEntryPage};
 ghost use Rattle.flash_view.specs.Same.{OnlyLooks};
 ghost use Rattle.page_renew.specs.Renewals.{IsHome};
@@ -34,16 +35,17 @@ fn is_header_of(g: &Geometry, page: u16, head: PageHeader, id: u16) -> bool
     id != 0 && id <= 0x7FFE && head.object() == id && is_entry_page(g, page)
 }
 
-/// The header page of the file of an id from 1 to 0x7FFE, and its size; none where there is none.
+/// The header page of the file of an id from 1 to 0x7FFE, and its size, in a tidy image; none where there is none. It is looked
+/// for first where the id's hint says.
 #[tactic(auto, using(flash_view::proofs::Looking::looks_then))]
 pub fn find_home<N: Nor>(v: &mut View<'_, N>, id: u16) -> Result<Option<Found>, Failed>
     ensures cause { OnErr result (Rose (N.faults v.old.nor.now) (N.faults v.new.nor.now)) }
     ensures looks { OnlyLooks v.old v.new }
     ensures entry { IfOk result (λ found. IfSome found (λ f. IsEntryPage v.old.geometry f.header)) }
     ensures id { IfOk result (λ found. IfSome found (λ f. (1 ≤ id) × (id ≤ 0x7FFE))) }
-    ensures told { N.tells v.old.nor.now → IfOk result (λ found. IsHome v.old.geometry (N.bytes v.old.nor.now) id found) }
+    ensures told { N.tells v.old.nor.now → IsTidy v.old.geometry (N.bytes v.old.nor.now) → IfOk result (λ found. IsHome v.old.geometry (N.bytes v.old.nor.now) id found) }
 {
-    let Some(header) = v.find_index(id, 0)? else {
+    let Some(header) = v.seek_header(id)? else {
         return Ok(None);
     };
     let head = v.header(header)?;

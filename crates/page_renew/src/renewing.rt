@@ -58,14 +58,10 @@ pub fn renew_from<N: Nor>(
     requires edit { IsEditable v.old.geometry edit }
     ensures { (f : File) → Stepped stopped v.old v.new result (renewing_from id header edit.entry f) }
 {
-    match free_page(v, Kind::Index, 2, None) {
-        Err(Failed) => Err(StepErr::DeviceFault),
-        Ok(None) => Err(StepErr::Damaged(Differ::no_page(Tag { id, span: 0 }))),
-        Ok(Some(to)) => match renew_at(v, id, header, to, edit) {
-            Err(Failed) => Err(StepErr::DeviceFault),
-            Ok(()) => Ok(()),
-        },
-    }
+    let Some(to) = free_page(v, Kind::Index, 2, None)? else {
+        return Err(StepErr::Damaged(Differ::no_page(Tag { id, span: 0 })));
+    };
+    Ok(renew_at(v, id, header, to, edit)?)
 }
 
 /// Renews the header page of an id in a tidy image, in one page step: at a cut the file is the one before or the one
@@ -76,9 +72,8 @@ pub fn renew_header<N: Nor>(v: &mut View<'_, N>, id: u16, edit: Edit<'_>) -> Res
     requires edit { IsEditable v.old.geometry edit }
     ensures { (f : File) → Stepped stopped v.old v.new result (renewing id edit.entry f) }
 {
-    match find_home(v, id) {
-        Err(Failed) => Err(StepErr::DeviceFault),
-        Ok(None) => Err(StepErr::Damaged(Differ::no_page(Tag { id, span: 0 }))),
-        Ok(Some(Found { header, .. })) => renew_from(v, id, header, edit),
+    match find_home(v, id)? {
+        Some(Found { header, .. }) => renew_from(v, id, header, edit),
+        None => Err(StepErr::Damaged(Differ::no_page(Tag { id, span: 0 }))),
     }
 }

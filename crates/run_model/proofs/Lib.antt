@@ -1,3 +1,5 @@
 pub mod Runs
 pub mod Chain
 pub mod OneCall
+pub mod Rooms
+pub mod Corner

@@ -1,5 +1,5 @@
 -- One call and its reply.
-use Rattle.std.proofs.Common.{◌≡◌, ℕ, ◌-◌, ◌≤◌, List, [], ◌∷◌, ◌++◌, length, take, drop, refl, sym, ◌∙◌, ap, subst, arith, inl, inr, ⊎_elim, append-nil, Bool, true}
+use Rattle.std.proofs.Common.{◌≡◌, ℕ, ◌-◌, ◌≤◌, List, [], ◌∷◌, ◌++◌, length, take, drop, refl, sym, ◌∙◌, ap, subst, arith, ⊎_elim, append-nil, Bool, true}
 use Rattle.std.proofs.lemmas.Bool.Decides.{nat_tests}
 use Rattle.std.proofs.lemmas.List.{take-append-drop, length-take-le, take_all, length-drop}
 use Rattle.std.proofs.lemmas.Bool.{cases_Bool, cases_lt}
@@ -21,35 +21,62 @@ use Rattle.call_model.specs.Safe.{IsSafe, Holds}
 use Rattle.call_model.specs.Memory.{Memory}
 use Rattle.call_model.specs.Calls.{Stands, Publishes, Answers}
 use Rattle.call_model.proofs.Room.{room_kept}
-use Rattle.run_model.specs.Runs.{said_of, after_all, replies, IsCut}
-use Rattle.run_model.specs.Ran.{RunStands, RunPublishes, RunAnswers, MayCut, Reached, SaidPart}
-use Rattle.run_model.proofs.Runs.{said_some, is_settled}
+use Rattle.run_model.specs.Runs.{RunCall, IsFair, AreFair, next, said_of, after_all, replies, IsInCall, IsUnderWay, IsCut}
+use Rattle.run_model.specs.Ran.{RunStands, RunPublishes, RunAnswers, IsTold, CutIn, Reached, SaidPart}
+use Rattle.run_model.proofs.Runs.{said_some, is_settled, plain_fair}
 use Rattle.run_model.proofs.Chain.{run_stands_on}
 
 -- the one reply of one call
-one_reply : (g : Geometry) (m : Moment) (ask : Ask) → replies g m (ask ∷ []) ≡ said_of g m ask
+one_reply : (g : Geometry) (m : Moment) (call : RunCall) → replies g m (call ∷ []) ≡ said_of g m call
 unfolding replies
-one_reply g m ask = append-nil (said_of g m ask)
+one_reply g m call = append-nil (said_of g m call)
 
-one_call : (g : Geometry) (m : Moment) (ask : Ask) → after_all g m (ask ∷ []) ≡ after g true m ask
+one_call : (g : Geometry) (m : Moment) (call : RunCall) → after_all g m (call ∷ []) ≡ next g m call
 unfolding after_all
-one_call g m ask = refl
+one_call g m call = refl
+
+one_fair : (g : Geometry) (m : Moment) (call : RunCall) → IsFair g m call → AreFair g m (call ∷ [])
+unfolding AreFair
+one_fair g m call fair = (fair, tt {0})
+
+-- a part of a reply was said
+in_call : (g : Geometry) (m : Moment) (call : RunCall) (part : List ℕ) (t : List File) → IsInCall g m call part t → IsCut g m (call ∷ []) part t
+unfolding after_all replies IsUnderWay
+in_call g m call part t here = record { front = []; later = call ∷ []; part = part; calls_are = refl; said_is = refl; under_way = here }
+
+-- a reply was said whole
+call_done : (g : Geometry) (m : Moment) (call : RunCall) (t : List File) → t ≡ (next g m call).settled → IsCut g m (call ∷ []) (said_of g m call) t
+unfolding IsUnderWay
+call_done g m call t is = record {
+  front = call ∷ [];
+  later = [];
+  part = [];
+  calls_are = refl;
+  said_is = sym (append-nil (replies g m (call ∷ [])) ∙ one_reply g m call);
+  under_way = (refl, is_settled (after_all g m (call ∷ [])) t [] (is ∙ ap (λ (j : Moment). j.settled) (sym (one_call g m call))));
+}
 
 -- nothing was said of a reply
-cut_call : (g : Geometry) (m : Moment) (ask : Ask) (t : List File) → IsAmong t (from_settled m (steps g true m.state ask)) → IsCut g m (ask ∷ []) [] t
-unfolding IsCut
-cut_call g m ask t among = inl (record { rest = said_of g m ask; whole_is = refl; some = said_some g m ask }, among)
+cut_call : (g : Geometry) (m : Moment) (call : RunCall) (t : List File) → IsAmong t (from_settled m (steps g true m.state call.ask)) → IsCut g m (call ∷ []) [] t
+cut_call g m call t among = in_call g m call [] t (record {
+  said = record { rest = said_of g m call; whole_is = refl; some = said_some g m call };
+  among = among;
+  once_said = λ some. absurd (omega (arith, some));
+})
 
 -- a front of a reply line was said
-cut_say : (g : Geometry) (m : Moment) (ask : Ask) (n : ℕ) (t : List File) → n ≤ length (said_of g m ask) → t ≡ (after g true m ask).settled → IsAmong t (from_settled m (steps g true m.state ask)) → IsCut g m (ask ∷ []) (take n (said_of g m ask)) t
-unfolding IsCut
-cut_say g m ask n t le is among = ⊎_elim
-    (λ below. inl (record { rest = drop n (said_of g m ask); whole_is = sym (take-append-drop n (said_of g m ask)); some = omega (arith, length-drop n (said_of g m ask), below) }, among))
-    (λ above. inr ([], take_all n (said_of g m ask) above ∙ sym (append-nil (said_of g m ask)), (refl, is_settled (after g true m ask) t [] is)))
-    (cases_lt n (length (said_of g m ask)))
+cut_say : (g : Geometry) (m : Moment) (call : RunCall) (n : ℕ) (t : List File) → n ≤ length (said_of g m call) → t ≡ (next g m call).settled → IsAmong t (from_settled m (steps g true m.state call.ask)) → IsAmong t (from_settled m (steps g call.spare m.state call.ask)) → IsCut g m (call ∷ []) (take n (said_of g m call)) t
+cut_say g m call n t le is among told = ⊎_elim
+    (λ below. in_call g m call (take n (said_of g m call)) t (record {
+      said = record { rest = drop n (said_of g m call); whole_is = sym (take-append-drop n (said_of g m call)); some = omega (arith, length-drop n (said_of g m call), below) };
+      among = among;
+      once_said = λ some. told;
+    }))
+    (λ above. subst (λ (l : List ℕ). IsCut g m (call ∷ []) l t) (sym (take_all n (said_of g m call) above)) (call_done g m call t is))
+    (cases_lt n (length (said_of g m call)))
 
 -- two blocks are free
-spared : (g : Geometry) (image : List ℕ) → HasReserve g image → has_spare g image ≡ true
+pub spared : (g : Geometry) (image : List ℕ) → HasReserve g image → has_spare g image ≡ true
 spared g image reserve = grind (arith, nat_tests)
 
 -- the state after a call is that of its answer
@@ -87,50 +114,73 @@ module _ {D : Type 0} {nor : NorOf D} {g : Geometry} where
     holds = a.holds;
   }
 
+  -- so it was told
+  pub told_as : {old new : D} {memory : Memory} {m : Moment} {ask : Ask} {reply : Answer} → IsAmong (table_of g (nor.bytes new)) (from_settled m (steps g true m.state ask)) → RunAnswers nor g old new memory m ask reply → IsTold nor g old new memory m ask reply
+  told_as {old} {new} {memory} {m} {ask} {reply} among a = record { spare = true; fair = plain_fair g m ask; reply_is = a.reply_is; among = among; stands = a.stands; holds = a.holds }
+
   -- a cut in the call, before its reply
-  pub call_cut : {old mid : D} {memory : Memory} {m : Moment} {ask : Ask} → Changes nor old mid (RunPublishes g memory m ask) → MayCut nor g old mid memory m (ask ∷ [])
-  call_cut {old} {mid} {memory} {m} {ask} changes = widened changes.cuts (λ image count here stands. let now = here.1 stands.stands.tells stands.stands.image stands.reserve in record {
+  call_cuts : {old mid : D} {memory : Memory} {m : Moment} (call : RunCall) → Changes nor old mid (RunPublishes g memory m call.ask) → RunStands nor g old memory m → Leaves nor old mid (CutIn nor g old m (call ∷ []))
+  call_cuts {old} {mid} {memory} {m} call changes stands = widened changes.cuts (λ image count here. let now = here.1 stands.stands.tells stands.stands.image stands.reserve in record {
     part = [];
     count_is = here.0 ∙ omega arith;
     safe = now.0;
-    cut = cut_call g m ask (table_of g image) now.1;
+    cut = cut_call g m call (table_of g image) now.1;
   })
 
   -- nothing was said in the call
-  pub call_said : {old mid : D} {memory : Memory} {m : Moment} (ask : Ask) → Changes nor old mid (RunPublishes g memory m ask) → SaidPart nor old mid (replies g m (ask ∷ []))
-  call_said {old} {mid} {memory} {m} ask changes = record { part = []; rest = replies g m (ask ∷ []); said = changes.said ∙ sym (append-nil (nor.said old)); whole_is = refl }
+  pub call_said : {old mid : D} {memory : Memory} {m : Moment} (ask : Ask) → Changes nor old mid (RunPublishes g memory m ask) → RunStands nor g old memory m → SaidPart nor g old mid m (ask ∷ [])
+  call_said {old} {mid} {memory} {m} ask changes stands = record {
+    calls = record { ask = ask; spare = true } ∷ [];
+    asks_are = refl;
+    fair = one_fair g m (record { ask = ask; spare = true }) (plain_fair g m ask);
+    part = [];
+    rest = replies g m (record { ask = ask; spare = true } ∷ []);
+    said = changes.said ∙ sym (append-nil (nor.said old));
+    whole_is = refl;
+    cuts = call_cuts (record { ask = ask; spare = true }) changes stands;
+  }
 
   -- a cut in the call or in its reply
-  pub reply_cut : {old mid new : D} {before after_it : Memory} {m : Moment} {ask : Ask} {reply : Answer} → Changes nor old mid (RunPublishes g before m ask) → (RunStands nor g old before m → RunAnswers nor g old mid after_it m ask reply) → Leaves nor mid new (InSay nor mid (text reply)) → MayCut nor g old new before m (ask ∷ [])
+  reply_cuts : {old mid new : D} {before after_it : Memory} {m : Moment} {ask : Ask} {reply : Answer} → Changes nor old mid (RunPublishes g before m ask) → RunStands nor g old before m → (ok : IsTold nor g old mid after_it m ask reply) → Leaves nor mid new (InSay nor mid (text reply)) → Leaves nor old new (CutIn nor g old m (record { ask = ask; spare = ok.spare } ∷ []))
   unfolding said_of
-  reply_cut {old} {mid} {new} {before} {after_it} {m} {ask} {reply} changes answers leaves = andthen (call_cut changes) (widened leaves (λ image count here stands.
-      let ok = answers stands in
-      let whole : text reply ≡ said_of g m ask = ap text ok.reply_is in
-      let within : count - length (nor.said old) ≤ length (said_of g m ask) = omega (arith, here.most, ap length changes.said, ap length whole) in
+  reply_cuts {old} {mid} {new} {before} {after_it} {m} {ask} {reply} changes stands ok leaves = andthen (call_cuts (record { ask = ask; spare = ok.spare }) changes stands) (widened leaves (λ image count here.
+      let call : RunCall = record { ask = ask; spare = ok.spare } in
+      let whole : text reply ≡ said_of g m call = ap text ok.reply_is in
+      let within : count - length (nor.said old) ≤ length (said_of g m call) = omega (arith, here.most, ap length changes.said, ap length whole) in
       let same_image : image ≡ nor.bytes mid = here.all_bytes ok.stands.stands.tells in
       let now = changes.now stands.stands.tells stands.stands.image stands.reserve in
       record {
-        part = take (count - length (nor.said old)) (said_of g m ask);
-        count_is = omega (arith, here.least, ap length changes.said, length-take-le (count - length (nor.said old)) (said_of g m ask) within);
+        part = take (count - length (nor.said old)) (said_of g m call);
+        count_is = omega (arith, here.least, ap length changes.said, length-take-le (count - length (nor.said old)) (said_of g m call) within);
         safe = subst (λ (l : List ℕ). IsSafe g (nor.bytes old) l) (sym same_image) now.0;
-        cut = cut_say g m ask (count - length (nor.said old)) (table_of g image) within (ap (table_of g) same_image ∙ ok.stands.stands.image.table) (subst (λ (l : List ℕ). IsAmong (table_of g l) (from_settled m (steps g true m.state ask))) (sym same_image) now.1);
+        cut = cut_say g m call (count - length (nor.said old)) (table_of g image) within (ap (table_of g) same_image ∙ ok.stands.stands.image.table)
+            (subst (λ (l : List ℕ). IsAmong (table_of g l) (from_settled m (steps g true m.state ask))) (sym same_image) now.1)
+            (subst (λ (l : List ℕ). IsAmong (table_of g l) (from_settled m (steps g ok.spare m.state ask))) (sym same_image) ok.among);
       }))
 
   -- a front of the reply was said
-  pub reply_said : {old mid new : D} {before after_it : Memory} {m : Moment} (ask : Ask) {reply : Answer} → Changes nor old mid (RunPublishes g before m ask) → RunAnswers nor g old mid after_it m ask reply → Says nor mid new (text reply) → SaidPart nor old new (replies g m (ask ∷ []))
+  pub reply_said : {old mid new : D} {before after_it : Memory} {m : Moment} (ask : Ask) {reply : Answer} → Changes nor old mid (RunPublishes g before m ask) → RunStands nor g old before m → IsTold nor g old mid after_it m ask reply → Says nor mid new (text reply) → Leaves nor mid new (InSay nor mid (text reply)) → SaidPart nor g old new m (ask ∷ [])
   unfolding said_of
-  reply_said {old} {mid} {new} {before} {after_it} {m} ask {reply} changes ok says = record {
+  reply_said {old} {mid} {new} {before} {after_it} {m} ask {reply} changes stands ok says leaves = record {
+    calls = record { ask = ask; spare = ok.spare } ∷ [];
+    asks_are = refl;
+    fair = one_fair g m (record { ask = ask; spare = ok.spare }) ok.fair;
     part = take says.said.0 (text reply);
     rest = drop says.said.0 (text reply);
     said = says.said.1 ∙ ap (λ (l : List ℕ). l ++ take says.said.0 (text reply)) changes.said;
-    whole_is = one_reply g m ask ∙ sym (ap text ok.reply_is) ∙ sym (take-append-drop says.said.0 (text reply));
+    whole_is = one_reply g m (record { ask = ask; spare = ok.spare }) ∙ sym (ap text ok.reply_is) ∙ sym (take-append-drop says.said.0 (text reply));
+    cuts = reply_cuts changes stands ok leaves;
   }
 
   -- the call was done and its reply said
-  pub reply_reached : {old mid new : D} {before after_it : Memory} {m : Moment} {ask : Ask} {reply : Answer} → Changes nor old mid (RunPublishes g before m ask) → RunAnswers nor g old mid after_it m ask reply → Says nor mid new (text reply) → Leaves nor mid new (InSay nor mid (text reply)) → nor.said new ≡ nor.said mid ++ text reply → Reached nor g old new after_it m (ask ∷ [])
+  pub reply_reached : {old mid new : D} {before after_it : Memory} {m : Moment} {ask : Ask} {reply : Answer} → Changes nor old mid (RunPublishes g before m ask) → RunStands nor g old before m → IsTold nor g old mid after_it m ask reply → Says nor mid new (text reply) → Leaves nor mid new (InSay nor mid (text reply)) → nor.said new ≡ nor.said mid ++ text reply → Reached nor g old new after_it m (ask ∷ [])
   unfolding said_of
-  reply_reached {old} {mid} {new} {before} {after_it} {m} {ask} {reply} changes ok says leaves done = record {
-    said = done ∙ ap (λ (l : List ℕ). l ++ text reply) changes.said ∙ ap (λ (l : List ℕ). nor.said old ++ l) (ap text ok.reply_is ∙ sym (one_reply g m ask));
-    stands = subst (λ (j : Moment). RunStands nor g new after_it j) (sym (one_call g m ask)) (run_stands_on says.bytes leaves.told ok.stands);
+  reply_reached {old} {mid} {new} {before} {after_it} {m} {ask} {reply} changes stands ok says leaves done = record {
+    calls = record { ask = ask; spare = ok.spare } ∷ [];
+    asks_are = refl;
+    fair = one_fair g m (record { ask = ask; spare = ok.spare }) ok.fair;
+    said = done ∙ ap (λ (l : List ℕ). l ++ text reply) changes.said ∙ ap (λ (l : List ℕ). nor.said old ++ l) (ap text ok.reply_is ∙ sym (one_reply g m (record { ask = ask; spare = ok.spare })));
+    stands = subst (λ (j : Moment). RunStands nor g new after_it j) (sym (one_call g m (record { ask = ask; spare = ok.spare }))) (run_stands_on says.bytes leaves.told ok.stands);
     holds = subst (λ (l : List ℕ). Holds g (nor.bytes old) l) (sym says.bytes) ok.holds;
+    cuts = reply_cuts changes stands ok leaves;
   }

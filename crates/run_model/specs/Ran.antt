@@ -1,5 +1,5 @@
 -- What calls and their replies leave on a device.
-use Rattle.std.specs.Prelude.{ℕ, ◌≡◌, ◌+◌, List, ◌++◌, length, true}
+use Rattle.std.specs.Prelude.{ℕ, ◌≡◌, ◌+◌, List, ◌++◌, length, Bool, true}
 use Rattle.geometry.specs.declared.geometry.Geometry.{Geometry}
 use Rattle.nor_core.specs.declared.state.NorState.{Ghosts as NorOf}
 use Rattle.nor_core.specs.Device.{Leaves}
@@ -13,7 +13,7 @@ use Rattle.image_model.specs.Tidy.{HasReserve}
 use Rattle.call_model.specs.Safe.{IsSafe, Holds}
 use Rattle.call_model.specs.Memory.{Memory, IsAt}
 use Rattle.call_model.specs.Calls.{Stands}
-use Rattle.run_model.specs.Runs.{after_all, replies, IsCut}
+use Rattle.run_model.specs.Runs.{RunCall, IsFair, AreFair, asks_of, after_all, replies, IsCut}
 
 -- a volume stands at a moment of a run: two blocks are free
 pub record RunStands {D : Type 0} (nor : NorOf D) (g : Geometry) (d : D) (memory : Memory) (m : Moment) : Type 0 where
@@ -30,26 +30,41 @@ pub record RunAnswers {D : Type 0} (nor : NorOf D) (g : Geometry) (old new : D) 
   pub stands : RunStands nor g new memory (after g true m ask)
   pub holds : Holds g (nor.bytes old) (nor.bytes new)
 
+-- A call of a run was answered as with two free blocks, or without a page in the corner where one may be wanting, and the volume stands at the
+-- moment after it.
+pub record IsTold {D : Type 0} (nor : NorOf D) (g : Geometry) (old new : D) (memory : Memory) (m : Moment) (ask : Ask) (reply : Answer) : Type 0 where
+  pub spare : Bool
+  pub fair : IsFair g m (record { ask = ask; spare = spare })
+  pub reply_is : reply ≡ (answer g spare m.state ask).answer
+  pub among : IsAmong (table_of g (nor.bytes new)) (from_settled m (steps g spare m.state ask))
+  pub stands : RunStands nor g new memory (after g spare m ask)
+  pub holds : Holds g (nor.bytes old) (nor.bytes new)
+
 -- a cut in some calls: an image that may follow, and so many bytes said that the replies and the table fit
-pub record CutIn {D : Type 0} (nor : NorOf D) (g : Geometry) (old : D) (m : Moment) (asks : List Ask) (image : List ℕ) (count : ℕ) : Type 0 where
+pub record CutIn {D : Type 0} (nor : NorOf D) (g : Geometry) (old : D) (m : Moment) (calls : List RunCall) (image : List ℕ) (count : ℕ) : Type 0 where
   pub part : List ℕ
   pub count_is : count ≡ length (nor.said old) + length part
   pub safe : IsSafe g (nor.bytes old) image
-  pub cut : IsCut g m asks part (table_of g image)
+  pub cut : IsCut g m calls part (table_of g image)
 
--- Where the volume stands at a moment, a cut leaves what one in these calls may. `memory` is that before the calls.
-abbrev pub MayCut : {D : Type 0} (nor : NorOf D) (g : Geometry) (old new : D) (memory : Memory) (m : Moment) (asks : List Ask) → Type 0
-MayCut nor g old new memory m asks = Leaves nor old new (λ image count. RunStands nor g old memory m → CutIn nor g old m asks image count)
-
--- Some calls were done and their replies said, and the volume stands at the moment after them. `memory` is that after the calls.
+-- Some calls were done and their replies said, and the volume stands at the moment after them; a cut leaves what one in these calls may.
+-- `memory` is that after the calls.
 pub record Reached {D : Type 0} (nor : NorOf D) (g : Geometry) (old new : D) (memory : Memory) (m : Moment) (asks : List Ask) : Type 0 where
-  pub said : nor.said new ≡ nor.said old ++ replies g m asks
-  pub stands : RunStands nor g new memory (after_all g m asks)
+  pub calls : List RunCall
+  pub asks_are : asks ≡ asks_of calls
+  pub fair : AreFair g m calls
+  pub said : nor.said new ≡ nor.said old ++ replies g m calls
+  pub stands : RunStands nor g new memory (after_all g m calls)
   pub holds : Holds g (nor.bytes old) (nor.bytes new)
+  pub cuts : Leaves nor old new (CutIn nor g old m calls)
 
--- a front of these bytes was said
-pub record SaidPart {D : Type 0} (nor : NorOf D) (old new : D) (whole : List ℕ) : Type 0 where
+-- a front of the replies to some calls was said, and a cut leaves what one in these calls may
+pub record SaidPart {D : Type 0} (nor : NorOf D) (g : Geometry) (old new : D) (m : Moment) (asks : List Ask) : Type 0 where
+  pub calls : List RunCall
+  pub asks_are : asks ≡ asks_of calls
+  pub fair : AreFair g m calls
   pub part : List ℕ
   pub rest : List ℕ
   pub said : nor.said new ≡ nor.said old ++ part
-  pub whole_is : whole ≡ part ++ rest
+  pub whole_is : replies g m calls ≡ part ++ rest
+  pub cuts : Leaves nor old new (CutIn nor g old m calls)

@@ -1,15 +1,11 @@
 //! What a script does to a volume: the replies to its calls on the flat table, and what a power cut may leave.
 #![tactic(auto)]
 
-ghost use Rattle.std.specs.Prelude.{◌≡◌, ℕ, List};
 ghost use Rattle.geometry.specs.declared.geometry.Geometry.{Geometry};
-ghost use Rattle.table_model.specs.Table.{File};
-ghost use Rattle.table_model.specs.Ask.{Ask};
-ghost use Rattle.table_model.specs.Window.{Moment};
-ghost use Rattle.run_model.specs.Runs.{IsCut, IsCutAfter};
+ghost use Rattle.run_model.specs.Rooms.{RoomyIsPlain};
 
-/// A cut in a run is told by the calls whose replies were said whole.
-#[tactic(auto, using(crate::proofs::Runs::cut_after))]
-pub fn cuts_are_after_calls()
-    ensures { (g : Geometry) (m : Moment) (asks : List Ask) (said : List ℕ) (table : List File) → IsCut g m asks said table → IsCutAfter g m asks said table }
+/// Where the table has room, or no call cuts a file on one without, each call of a run is answered as with two free blocks.
+#[tactic(auto, using(crate::proofs::Rooms::roomy_plain))]
+pub fn roomy_runs_are_plain()
+    ensures { (g : Geometry) → RoomyIsPlain g }
 {}

@@ -3,7 +3,7 @@ use crate::Trouble;
 use fd_table::FdSlot;
 use folder_core::MemFolder;
 use geometry::{Geometry, MagicKind};
-use nor_core::{CallKind, MemBoard, MemSource};
+use nor_memory::{CallKind, MemBoard, MemSource};
 use std::alloc::{AllocError, Global};
 use tool_core::{Buffers, spiffs_tool};
 use vol_mount::format;

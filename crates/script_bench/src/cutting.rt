@@ -1,6 +1,6 @@
 //! Scripts whose power is cut at each of their programs, erases and replies, and scripts in which a call of the device fails.
 use crate::{Bench, Fault, Steps, Told, Trouble, are_same, listed, spare_blocks};
-use nor_core::CallKind;
+use nor_memory::CallKind;
 
 /// The status where the device failed.
 const DEVICE_FAULT: u8 = 7;

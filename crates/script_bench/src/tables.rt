@@ -4,7 +4,7 @@ use fd_table::FdSlot;
 use flat_plain::{Flat, PlainFile, Said};
 use geometry::Geometry;
 use image_plain::{Record, free_blocks, holds_volume, is_tidy, table_of};
-use nor_core::MemBoard;
+use nor_memory::MemBoard;
 use std::alloc::Global;
 use table_model::Stat;
 use vol_mount::{Lent, Reader, accept};

@@ -2,7 +2,7 @@
 use crate::chip::Chip;
 use crate::script::Script;
 use crate::words::{number, word};
-use nor_core::CallKind;
+use nor_memory::CallKind;
 use script_bench::{Bench, Fault, Told, Trouble, are_same, count_calls, table};
 use std::alloc::Global;
 

@@ -1,8 +1,13 @@
 ghost use Rattle.std.specs.Prelude.{◌≡◌};
 ghost use Rattle.table_model.specs.Numbers.{number_of};
+ghost use Rattle.table_model.specs.declared.error.FsErr.{FsErr};
+
+use nor_core::Failed;
+use thiserror::Error;
 
 /// An id and a span: which page of which file.
-#[derive(Clone, Copy, Debug, PartialEq, Eq)]
+#[derive(Clone, Copy, Debug, PartialEq, Eq, Error)]
+#[error("page {span} of id {id}")]
 pub struct Tag {
     /// The file's id, with bit 15 set in an index page.
     pub id: u16,
@@ -12,7 +17,8 @@ pub struct Tag {
 
 /// A page that doesn't read as what was written there. Where no page was found, `page` is 0xFFFF and `found`
 /// is (0xFFFF, 0xFFFF); where a page that the call itself made fresh reads otherwise, `wanted` is that.
-#[derive(Clone, Copy, Debug, PartialEq, Eq)]
+#[derive(Clone, Copy, Debug, PartialEq, Eq, Error)]
+#[error("at {page} {wanted} is wanted, and {found} is there")]
 pub struct Differ {
     /// The page's number in the volume.
     pub page: u16,
@@ -45,39 +51,55 @@ impl Differ {
 }
 
 /// Why a call was refused.
-#[derive(Clone, Copy, Debug, PartialEq, Eq)]
+#[derive(Clone, Copy, Debug, PartialEq, Eq, Error)]
 pub enum FsErr {
     /// An earlier call failed after it had asked the device for a program or an erase.
+    #[error("an earlier call failed after it had asked for a program or an erase")]
     Failed,
     /// A name is empty or holds a zero byte.
+    #[error("the name is empty or holds a zero byte")]
     BadName,
     /// A name has more than 31 bytes.
+    #[error("the name has more than 31 bytes")]
     NameTooLong,
     /// Flags that are none, or meta bytes of another length than the volume's.
+    #[error("the flags are none, or the meta bytes of another length than the volume's")]
     BadFlags,
     /// No descriptor of that number is open.
+    #[error("no descriptor of that number is open")]
     BadDescriptor,
     /// Every descriptor is open.
+    #[error("every descriptor is open")]
     OutOfDescriptors,
     /// There is no such file.
+    #[error("there is no such file")]
     NotFound,
     /// The file is there, and was to be made anew.
+    #[error("the file is there")]
     FileExists,
     /// The name to be made is there.
+    #[error("the new name is there")]
     ConflictingName,
     /// The descriptor was opened without reading.
+    #[error("the descriptor was opened without reading")]
     NotReadable,
     /// The descriptor was opened without writing.
+    #[error("the descriptor was opened without writing")]
     NotWritable,
     /// The position isn't inside the file.
+    #[error("the position isn't inside the file")]
     SeekBounds,
     /// The call needs a page, and fewer than two blocks are free.
+    #[error("the call needs a page, and fewer than two blocks are free")]
     Tight,
     /// The table after the call would not fit the volume.
+    #[error("the table after the call would not fit the volume")]
     Full,
     /// The device failed.
+    #[error("the device failed")]
     DeviceFault,
     /// A page doesn't read as what was written there.
+    #[error("a page doesn't read as what was written there: {0}")]
     Damaged(Differ),
 }
 
@@ -104,5 +126,13 @@ impl FsErr {
             FsErr::DeviceFault => -11006,
             FsErr::Damaged(_) => -11007,
         }
+    }
+}
+
+impl From<Failed> for FsErr {
+    ghost from_gives = { λ _ why. why ≡ FsErr.DeviceFault };
+
+    fn from(_: Failed) -> FsErr {
+        FsErr::DeviceFault
     }
 }

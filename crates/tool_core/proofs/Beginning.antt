@@ -24,20 +24,20 @@ use Rattle.volume.specs.declared.volume.Volume.{Volume}
 use Rattle.volume.specs.Holds.{memory}
 use Rattle.call_model.specs.Memory.{Memory, IsAt}
 use Rattle.call_model.specs.Calls.{Stands}
-use Rattle.call_model.proofs.Safety.{holds_then}
-use Rattle.run_model.specs.Runs.{after_all, replies}
-use Rattle.run_model.specs.Ran.{RunStands, CutIn, MayCut, Reached, SaidPart}
-use Rattle.run_model.proofs.Runs.{replies-append, is_settled, cut_none}
-use Rattle.run_model.proofs.Chain.{no_replies, no_calls, wider_cut, later_reached, later_said, cut_behind}
+use Rattle.call_model.specs.Safe.{Holds}
+use Rattle.call_model.proofs.Safety.{holds_safe, holds_then}
+use Rattle.run_model.specs.Runs.{RunCall, plain, asks_of, after_all, replies}
+use Rattle.run_model.specs.Ran.{RunStands, CutIn, SaidPart}
+use Rattle.run_model.proofs.Runs.{replies-append, asks-append, fair-append, plain-asks, plain-fair, is_settled, cut_none}
+use Rattle.run_model.proofs.Chain.{no_replies, none_fair, wider_cut, cut_behind}
 use Rattle.tool_core.specs.declared.ending.Ending.{Ending}
 use Rattle.tool_core.specs.declared.ending.Ending.TheVariants.{BoardFault, Tight}
 use Rattle.tool_core.specs.Reads.{ReadsOnce}
 use Rattle.tool_core.specs.Mounting.{Checks, Reported, IsRefused, StopsCheck}
 use Rattle.tool_core.specs.Begins.{Begun, IsTight, StopsRun}
 use Rattle.tool_core.specs.Refusals.{check_refusal, begin_refusal}
-use Rattle.tool_core.specs.Rooms.{AllFindRoom}
 use Rattle.tool_core.specs.Settling.{SettlesTo, Settling}
-use Rattle.tool_core.specs.Outcomes.{Went, WhyEnds, RunEnds, RunsTo, Refused, EndsByImages, first_moment, closed_memory}
+use Rattle.tool_core.specs.Outcomes.{Went, WhyEnds, RunEnds, RunCut, ImagesEnd, Broke, RunsTo, Refused, EndsByImages, first_moment, closed_memory}
 use Rattle.tool_core.proofs.Mounted.{safe_check, holds_check}
 use Rattle.tool_core.proofs.Refusals.{not_both, no_fault, no_tight, tight_some, tight_none}
 use Rattle.tool_core.proofs.Settling.{settles_of}
@@ -104,14 +104,17 @@ begins_on g first image takes reserve = rw takes (tight_none g image reserve)
 
 module _ {D : Type 0} {nor : NorOf D} {g : Geometry} where
   -- a cut in the check
-  check_cut : {old mid : D} (slots : ℕ) (asks : List Ask) → Changes nor old mid (Checks g) → nor.tells old → Leaves nor old mid (CutIn nor g old (first_moment g slots (nor.bytes old)) asks)
-  check_cut {old} {mid} slots asks changes tells = widened changes.cuts (λ image count here.
+  check_cut : {old mid : D} (slots : ℕ) (calls : List RunCall) → Changes nor old mid (Checks g) → nor.tells old → Leaves nor old mid (RunCut nor g old (first_moment g slots (nor.bytes old)) calls)
+  check_cut {old} {mid} slots calls changes tells = widened changes.cuts (λ image count here.
       let now = here.1 tells in
       record {
-        part = [];
-        count_is = here.0 ∙ omega arith;
-        safe = safe_check now;
-        cut = cut_none g (first_moment g slots (nor.bytes old)) asks (table_of g image) (is_settled (first_moment g slots (nor.bytes old)) (table_of g image) [] (now.table ∙ sym (first_table g slots (nor.bytes old))));
+        cut = record {
+          part = [];
+          count_is = here.0 ∙ omega arith;
+          safe = safe_check now;
+          cut = cut_none g (first_moment g slots (nor.bytes old)) calls (table_of g image) (is_settled (first_moment g slots (nor.bytes old)) (table_of g image) [] (now.table ∙ sym (first_table g slots (nor.bytes old))));
+        };
+        mends = inr (refl, now.table);
       })
 
   -- the volume stands at its first moment once it is checked
@@ -121,129 +124,184 @@ module _ {D : Type 0} {nor : NorOf D} {g : Geometry} where
     image = first_at g slots (nor.bytes old) (nor.bytes mid) w memory begun (changes.now tells).table;
   }
 
-  -- it does at that of a run
-  begun_reached : {old mid : D} {w : Memory} (slots : ℕ) → w ≡ closed_memory slots → Changes nor old mid (Checks g) → nor.tells old → Begun g (nor.bytes old) (nor.bytes mid) → Reached nor g old mid w (first_moment g slots (nor.bytes old)) []
-  begun_reached {old} {mid} {w} slots memory changes tells begun =
-      let m = first_moment g slots (nor.bytes old) in
-      record {
-        said = changes.said ∙ sym (ap (λ (l : List ℕ). nor.said old ++ l) (no_replies g m) ∙ append-nil (nor.said old));
-        stands = subst (λ (j : Moment). RunStands nor g mid w j) (sym (no_calls g m)) (record {
-          stands = begun_stands slots memory changes tells begun;
-          reserve = begun.reserve;
-        });
-        holds = holds_check (changes.now tells);
-      }
+  -- it stands there in a run
+  begun_run : {old mid : D} {w : Memory} (slots : ℕ) → w ≡ closed_memory slots → Changes nor old mid (Checks g) → nor.tells old → Begun g (nor.bytes old) (nor.bytes mid) → RunStands nor g mid w (first_moment g slots (nor.bytes old))
+  begun_run slots memory changes tells begun = record { stands = begun_stands slots memory changes tells begun; reserve = begun.reserve }
 
-  -- it stands there
-  stands_there : {old mid : D} {w : Memory} (m : Moment) → Reached nor g old mid w m [] → RunStands nor g mid w m
-  stands_there {old} {mid} {w} m r = subst (λ (j : Moment). RunStands nor g mid w j) (no_calls g m) r.stands
+  -- what is said after the check is said after nothing
+  said_behind : {old mid : D} (new : D) (piece : List ℕ) → Changes nor old mid (Checks g) → nor.said new ≡ nor.said mid ++ piece → nor.said new ≡ nor.said old ++ piece
+  said_behind new piece changes said = said ∙ ap (λ (l : List ℕ). l ++ piece) changes.said
+
+  -- a cut in the calls after the check is one in these calls
+  behind_check : {old mid : D} (m : Moment) (calls : List RunCall) (image : List ℕ) (count : ℕ) → Changes nor old mid (Checks g) → nor.tells old → CutIn nor g mid m calls image count → CutIn nor g old m calls image count
+  behind_check {old} {mid} m calls image count changes tells c = record {
+    part = c.part;
+    count_is = omega (arith, c.count_is, ap length changes.said);
+    safe = holds_safe g (nor.bytes old) (nor.bytes mid) image (holds_check (changes.now tells)) c.safe;
+    cut = c.cut;
+  }
 
   -- a cut in the check or in the calls after it
-  whole_cut : {old mid new : D} {w : Memory} (slots : ℕ) (asks : List Ask) → w ≡ closed_memory slots → Changes nor old mid (Checks g) → nor.tells old → Begun g (nor.bytes old) (nor.bytes mid) → MayCut nor g mid new w (first_moment g slots (nor.bytes old)) asks → Leaves nor old new (CutIn nor g old (first_moment g slots (nor.bytes old)) asks)
-  whole_cut {old} {mid} {new} slots asks memory changes tells begun leaves =
-      let m = first_moment g slots (nor.bytes old) in
-      let r = begun_reached slots memory changes tells begun in
-      andthen (check_cut slots asks changes tells) (widened leaves (λ image count here. cut_behind r (subst (λ (j : Moment). CutIn nor g mid j asks image count) (sym (no_calls g m)) (here (stands_there m r)))))
+  whole_cut : {old mid new : D} (slots : ℕ) (calls : List RunCall) → Changes nor old mid (Checks g) → nor.tells old → Begun g (nor.bytes old) (nor.bytes mid) → Leaves nor mid new (CutIn nor g mid (first_moment g slots (nor.bytes old)) calls) → Leaves nor old new (RunCut nor g old (first_moment g slots (nor.bytes old)) calls)
+  whole_cut {old} {mid} {new} slots calls changes tells begun leaves =
+      andthen (check_cut slots calls changes tells) (widened leaves (λ image count c. record {
+        cut = behind_check (first_moment g slots (nor.bytes old)) calls image count changes tells c;
+        mends = inl (c.safe.mends begun.reserve);
+      }))
 
   -- a cut while the bytes that wait are put onto the chip, after some calls and before others
-  settle_cut : {old mid new : D} {w now : Memory} {m : Moment} {ending result : Ending} (front later : List Ask) → Reached nor g old mid w m front → SettlesTo nor g mid new w now ending result → Leaves nor mid new (CutIn nor g old m (front ++ later))
-  settle_cut {old} {mid} {new} {w} {now} {m} front later whole settles = widened (settles.changes (after_all g m front)).cuts (λ image count here.
-      let safe = here.1 whole.stands.stands.tells whole.stands.stands.image in
-      cut_behind whole (record { part = []; count_is = here.0 ∙ omega arith; safe = safe.0; cut = cut_none g (after_all g m front) later (table_of g image) safe.1 }))
+  settle_cut : {old mid new : D} {w now : Memory} {m : Moment} {ending result : Ending} (calls later : List RunCall) → nor.said mid ≡ nor.said old ++ replies g m calls → Holds g (nor.bytes old) (nor.bytes mid) → RunStands nor g mid w (after_all g m calls) → SettlesTo nor g mid new w now ending result → Leaves nor mid new (RunCut nor g old m (calls ++ later))
+  settle_cut {old} {mid} {new} {w} {now} {m} calls later said holds stands settles = widened (settles.changes (after_all g m calls)).cuts (λ image count here.
+      let safe = here.1 stands.stands.tells stands.stands.image in
+      record {
+        cut = cut_behind calls said holds (record { part = []; count_is = here.0 ∙ omega arith; safe = safe.0; cut = cut_none g (after_all g m calls) later (table_of g image) safe.1 });
+        mends = inl (safe.0.mends stands.reserve);
+      })
 
   -- the board failed in a call
-  begun_breaks : {old mid ran new : D} {between : Memory} (slots : ℕ) (script left : List ℕ) (result : Ending) → between ≡ closed_memory slots → Changes nor old mid (Checks g) → nor.tells old → Begun g (nor.bytes old) (nor.bytes mid) →
-      SaidPart nor mid ran (replies g (first_moment g slots (nor.bytes old)) (calls script)) → MayCut nor g mid ran between (first_moment g slots (nor.bytes old)) (calls script) → (result ≡ BoardFault) × (new ≡ ran) → RunsTo nor g old new (first_moment g slots (nor.bytes old)) script left result
-  begun_breaks {old} {mid} {ran} {new} slots script left result memory changes tells begun said leaves stays =
+  begun_breaks : {old mid ran new : D} (slots : ℕ) (script left : List ℕ) (result : Ending) → Changes nor old mid (Checks g) → nor.tells old → Begun g (nor.bytes old) (nor.bytes mid) →
+      SaidPart nor g mid ran (first_moment g slots (nor.bytes old)) (calls script) → (result ≡ BoardFault) × (new ≡ ran) → RunsTo nor g old new (first_moment g slots (nor.bytes old)) script left result
+  begun_breaks {old} {mid} {ran} {new} slots script left result changes tells begun said stays =
       let m = first_moment g slots (nor.bytes old) in
-      let r = begun_reached slots memory changes tells begun in
-      let front = later_said (calls script) r (subst (λ (j : Moment). SaidPart nor mid ran (replies g j (calls script))) (sym (no_calls g m)) said) in
-      inl (stays.0, subst (λ (d : D). SaidPart nor old d (replies g m (calls script))) (sym stays.1) front, subst (λ (d : D). Leaves nor old d (CutIn nor g old m (calls script))) (sym stays.1) (whole_cut slots (calls script) memory changes tells begun leaves))
+      let cuts : Leaves nor old ran (RunCut nor g old m said.calls) = whole_cut slots said.calls changes tells begun said.cuts in
+      let broke : Broke nor g old ran m (calls script) = record {
+        said = record {
+          calls = said.calls;
+          asks_are = said.asks_are;
+          fair = said.fair;
+          part = said.part;
+          rest = said.rest;
+          said = said_behind ran said.part changes said.said;
+          whole_is = said.whole_is;
+          cuts = widened cuts (λ image count c. c.cut);
+        };
+        cuts = cuts;
+      } in
+      inl (stays.0, subst (λ (d : D). Broke nor g old d m (calls script)) (sym stays.1) broke)
 
   -- it came to its end, and the bytes that wait are put onto the chip
-  begun_settles : {old mid ran new : D} {between after now : Memory} (slots : ℕ) (script left : List ℕ) (ending result : Ending) → between ≡ closed_memory slots → Changes nor old mid (Checks g) → nor.tells old → Begun g (nor.bytes old) (nor.bytes mid) →
+  begun_settles : {old mid ran new : D} {between after now : Memory} (slots : ℕ) (script left : List ℕ) (ending result : Ending) → Changes nor old mid (Checks g) → nor.tells old → Begun g (nor.bytes old) (nor.bytes mid) →
       Went nor g mid ran between after (first_moment g slots (nor.bytes old)) script left ending → SettlesTo nor g ran new after now ending result → RunsTo nor g old new (first_moment g slots (nor.bytes old)) script left result
-  begun_settles {old} {mid} {ran} {new} {between} {after} {now} slots script left ending result memory changes tells begun went settles =
+  begun_settles {old} {mid} {ran} {new} {between} {after} {now} slots script left ending result changes tells begun went settles =
       let m = first_moment g slots (nor.bytes old) in
-      let r = begun_reached slots memory changes tells begun in
-      let whole : Reached nor g old ran after m went.front = later_reached r (subst (λ (j : Moment). Reached nor g mid ran after j went.front) (sym (no_calls g m)) went.reached) in
-      let stands = whole.stands.stands in
-      let last = settles.changes (after_all g m went.front) in
+      let r = went.reached in
+      let said : nor.said ran ≡ nor.said old ++ replies g m r.calls = said_behind ran (replies g m r.calls) changes r.said in
+      let holds : Holds g (nor.bytes old) (nor.bytes ran) = holds_then g (nor.bytes old) (nor.bytes mid) (nor.bytes ran) (holds_check (changes.now tells)) r.holds in
+      let last = settles.changes (after_all g m r.calls) in
+      let asks_are : calls script ≡ asks_of r.calls ++ went.later = went.asks_are ∙ ap (λ (l : List Ask). l ++ went.later) r.asks_are in
       ⊎_elim
       (λ fine. subst (λ (e : Ending). RunsTo nor g old new m script left e) (sym fine.0) (inr (record {
-        front = went.front;
+        front = r.calls;
         later = went.later;
-        asks_are = went.asks_are;
-        said = last.said ∙ whole.said;
+        asks_are = asks_are;
+        fair = r.fair;
+        said = last.said ∙ said;
         tells = fine.1.stands.tells;
-        among = (last.now stands.tells stands.image).1;
-        table = fine.1.stands.image.table ∙ settled_table (after_all g m went.front).state;
+        among = (last.now r.stands.stands.tells r.stands.stands.image).1;
+        table = fine.1.stands.image.table ∙ settled_table (after_all g m r.calls).state;
         tidy = λ taken. fine.1.stands.image.tidy;
         stuck = λ n is. absurd (subst (λ (e : Ending). WhyEnds script left went.front went.later e) is went.why);
-        why = inr (begins_on g (nor.bytes old) (nor.bytes new) begun.takes (fine.1.holds.reserve whole.stands.reserve), went.why);
-        holds = holds_then g (nor.bytes old) (nor.bytes ran) (nor.bytes new) whole.holds fine.1.holds;
-        cuts = andthen (whole_cut slots went.front memory changes tells begun went.leaves) (subst (λ (l : List Ask). Leaves nor ran new (CutIn nor g old m l)) (append-nil went.front) (settle_cut went.front [] whole settles));
+        why = inr (begins_on g (nor.bytes old) (nor.bytes new) begun.takes (fine.1.holds.reserve r.stands.reserve), subst (λ (l : List Ask). WhyEnds script left l went.later ending) r.asks_are went.why);
+        untouched = λ none. fine.1.stands.image.table ∙ settled_table (after_all g m r.calls).state ∙ ap (λ (l : List RunCall). (after_all g m l).state.table) none ∙ first_state g slots (nor.bytes old);
+        holds = holds_then g (nor.bytes old) (nor.bytes ran) (nor.bytes new) holds fine.1.holds;
+        cuts = andthen (whole_cut slots r.calls changes tells begun r.cuts) (subst (λ (l : List RunCall). Leaves nor ran new (RunCut nor g old m l)) (append-nil r.calls) (settle_cut r.calls [] said holds r.stands settles));
       })))
-      (λ fault. inl (
+      (λ fault.
+      let cuts : Leaves nor old new (RunCut nor g old m (r.calls ++ plain went.later)) = andthen (whole_cut slots (r.calls ++ plain went.later) changes tells begun (wider_cut (plain went.later) r.cuts)) (settle_cut r.calls (plain went.later) said holds r.stands settles) in
+      inl (
         fault,
-        record { part = replies g m went.front; rest = replies g (after_all g m went.front) went.later; said = last.said ∙ whole.said; whole_is = ap (replies g m) went.asks_are ∙ replies-append g m went.front went.later },
-        subst (λ (l : List Ask). Leaves nor old new (CutIn nor g old m l)) (sym went.asks_are) (andthen (whole_cut slots (went.front ++ went.later) memory changes tells begun (wider_cut went.later went.leaves)) (settle_cut went.front went.later whole settles)),
+        record {
+          said = record {
+            calls = r.calls ++ plain went.later;
+            asks_are = asks_are ∙ ap (λ (l : List Ask). asks_of r.calls ++ l) (sym (plain-asks went.later)) ∙ sym (asks-append r.calls (plain went.later));
+            fair = fair-append g m r.calls (plain went.later) r.fair (plain-fair g (after_all g m r.calls) went.later);
+            part = replies g m r.calls;
+            rest = replies g (after_all g m r.calls) (plain went.later);
+            said = last.said ∙ said;
+            whole_is = replies-append g m r.calls (plain went.later);
+            cuts = widened cuts (λ image count c. c.cut);
+          };
+          cuts = cuts;
+        },
       ))
-      (settles.stands (after_all g m went.front) stands)
+      (settles.stands (after_all g m r.calls) r.stands.stands)
 
   -- a run that was begun
   pub begun_ends : {old mid ran new : D} {between after : Memory} (now : Memory) (slots : ℕ) (script left : List ℕ) (ending result : Ending) → between ≡ closed_memory slots → Changes nor old mid (Checks g) → nor.tells old → Begun g (nor.bytes old) (nor.bytes mid) →
-      AllFindRoom g (first_moment g slots (nor.bytes old)) (calls script) →
-      (h k : Geometry) → h ≡ g → k ≡ g → ((m : Moment) → RunStands nor h mid between m → AllFindRoom h m (calls script) → RunEnds nor h mid ran between after m script left ending) → Settling nor k ran new after now ending result → RunsTo nor g old new (first_moment g slots (nor.bytes old)) script left result
-  begun_ends {old} {mid} {ran} {new} {between} {after} now slots script left ending result memory changes tells begun finds h k same alike ends settles =
+      (h k : Geometry) → h ≡ g → k ≡ g → ((m : Moment) → RunStands nor h mid between m → RunEnds nor h mid ran between after m script left ending) → Settling nor k ran new after now ending result → RunsTo nor g old new (first_moment g slots (nor.bytes old)) script left result
+  begun_ends {old} {mid} {ran} {new} {between} {after} now slots script left ending result memory changes tells begun h k same alike ends settles =
       let m = first_moment g slots (nor.bytes old) in
-      let next : (j : Moment) → RunStands nor g mid between j → AllFindRoom g j (calls script) → RunEnds nor g mid ran between after j script left ending = subst (λ (i : Geometry). (j : Moment) → RunStands nor i mid between j → AllFindRoom i j (calls script) → RunEnds nor i mid ran between after j script left ending) same ends in
+      let next : (j : Moment) → RunStands nor g mid between j → RunEnds nor g mid ran between after j script left ending = subst (λ (i : Geometry). (j : Moment) → RunStands nor i mid between j → RunEnds nor i mid ran between after j script left ending) same ends in
       let here : Settling nor g ran new after now ending result = subst (λ (i : Geometry). Settling nor i ran new after now ending result) alike settles in
       ⊎_elim
-      (λ broken. begun_breaks slots script left result memory changes tells begun broken.1 broken.2 (subst (λ (e : Ending). Settling nor g ran new after now e result) broken.0 here))
-      (λ went. begun_settles slots script left ending result memory changes tells begun went (settles_of nor g ending result ran new after now script left went.front went.later went.why here))
-      (next m (stands_there m (begun_reached slots memory changes tells begun)) finds)
+      (λ broken. begun_breaks slots script left result changes tells begun broken.1 (subst (λ (e : Ending). Settling nor g ran new after now e result) broken.0 here))
+      (λ went. begun_settles slots script left ending result changes tells begun went (settles_of nor g ending result ran new after now script left went.front went.later went.why here))
+      (next m (begun_run slots memory changes tells begun))
 
-  early_came : {old mid : D} (slots : ℕ) (script left : List ℕ) (ending : Ending) → Changes nor old mid (Checks g) → nor.tells old → table_of g (nor.bytes mid) ≡ table_of g (nor.bytes old) → begin_refusal g (nor.bytes old) (nor.bytes mid) ≡ Some ending → ((n : ℕ) → ending ≡ Tight n → chosen_block g (nor.bytes mid) ≡ None) → RunsTo nor g old mid (first_moment g slots (nor.bytes old)) script left ending
+  early_came : {old mid : D} (slots : ℕ) (script left : List ℕ) (ending : Ending) → Changes nor old mid (Checks g) → nor.tells old → table_of g (nor.bytes mid) ≡ table_of g (nor.bytes old) → ImagesEnd g (nor.bytes old) (nor.bytes mid) ending → ((n : ℕ) → ending ≡ Tight n → chosen_block g (nor.bytes mid) ≡ None) → RunsTo nor g old mid (first_moment g slots (nor.bytes old)) script left ending
   early_came {old} {mid} slots script left ending changes tells same refused stuck = inr (record {
     front = [];
     later = calls script;
     asks_are = refl;
+    fair = none_fair g (first_moment g slots (nor.bytes old));
     said = changes.said ∙ sym (ap (λ (l : List ℕ). nor.said old ++ l) (no_replies g (first_moment g slots (nor.bytes old))) ∙ append-nil (nor.said old));
     tells = changes.cuts.told tells;
     among = is_settled (after_all g (first_moment g slots (nor.bytes old)) []) (table_of g (nor.bytes mid)) [] (same ∙ sym (first_settled g slots (nor.bytes old)));
     table = same ∙ sym (first_state g slots (nor.bytes old));
-    tidy = λ taken. absurd (let no : None ≡ Some ending = sym taken ∙ refused in cc);
+    tidy = λ taken. absurd (let no : None ≡ Some ending = sym taken ∙ refused.refusal in cc);
     stuck = stuck;
     why = inl (refl, refused);
+    untouched = λ none. same;
     holds = holds_check (changes.now tells);
     cuts = check_cut slots [] changes tells;
   })
 
   -- why a run ends before its first line
-  pub early_why : {old mid : D} {ending : Ending} → IsRefused nor g old mid ending ⊎ IsTight g (nor.bytes old) (nor.bytes mid) ending → begin_refusal g (nor.bytes old) (nor.bytes mid) ≡ Some ending
-  early_why ends = ⊎_elim (λ refused. rw refused.refusal refl) (λ tight. rw tight.takes tight.tight) ends
+  pub early_why : {old mid : D} {ending : Ending} → IsRefused nor g old mid ending ⊎ IsTight g (nor.bytes old) (nor.bytes mid) ending → ImagesEnd g (nor.bytes old) (nor.bytes mid) ending
+  early_why ends = record {
+    refusal = ⊎_elim (λ refused. rw refused.refusal refl) (λ tight. rw tight.takes tight.tight) ends;
+    mends_not = λ may. ⊎_elim (λ refused. not_both may.takes refused.refusal) (λ tight. tight.recovers_not may.recovers) ends;
+  }
 
   -- a run that ends before its first line
   pub early_ends : {old mid : D} (slots : ℕ) (script left : List ℕ) (ending : Ending) → Changes nor old mid (Checks g) → nor.tells old → StopsRun nor g old mid ending → RunsTo nor g old mid (first_moment g slots (nor.bytes old)) script left ending
   early_ends {old} {mid} slots script left ending changes tells stops = ⊎_elim
-      (λ fault. inl (fault, record { part = []; rest = replies g (first_moment g slots (nor.bytes old)) (calls script); said = changes.said ∙ sym (append-nil (nor.said old)); whole_is = refl }, check_cut slots (calls script) changes tells))
+      (λ fault.
+      let m = first_moment g slots (nor.bytes old) in
+      let cuts : Leaves nor old mid (RunCut nor g old m (plain (calls script))) = check_cut slots (plain (calls script)) changes tells in
+      inl (
+        fault.fault,
+        record {
+          said = record {
+            calls = plain (calls script);
+            asks_are = sym (plain-asks (calls script));
+            fair = plain-fair g m (calls script);
+            part = [];
+            rest = replies g m (plain (calls script));
+            said = changes.said ∙ sym (append-nil (nor.said old));
+            whole_is = refl;
+            cuts = widened cuts (λ image count c. c.cut);
+          };
+          cuts = cuts;
+        },
+      ))
       (λ ends. early_came slots script left ending changes tells (changes.now tells).table (early_why ends) (λ n is. ⊎_elim (λ refused. absurd (no_tight g (nor.bytes old) ending n refused.refusal is)) (λ tight. tight.stuck) ends))
       stops
 
   -- one whose image isn't taken
-  pub early_refused : {old mid : D} (ending result : Ending) → Changes nor old mid (Checks g) → nor.tells old → check_refusal g (nor.bytes old) ≡ Some ending → StopsRun nor g old mid result → Refused nor old mid ending result
+  pub early_refused : {old mid : D} (ending result : Ending) → Changes nor old mid (Checks g) → nor.tells old → check_refusal g (nor.bytes old) ≡ Some ending → StopsRun nor g old mid result → Refused nor g old mid ending result
   early_refused {old} {mid} ending result changes tells is stops = ⊎_elim
       (λ fault. record {
         tells = changes.cuts.told tells;
-        speaks = inl (fault, record { part = []; rest = []; said = changes.said ∙ sym (append-nil (nor.said old)); whole_is = refl });
-        kept = λ same. absurd (no_fault g (nor.bytes old) ending is (sym same ∙ fault));
+        speaks = inl (fault.fault, record { part = []; rest = []; said = changes.said ∙ sym (append-nil (nor.said old)); whole_is = refl });
+        kept = λ same. absurd (no_fault g (nor.bytes old) ending is (sym same ∙ fault.fault));
+        looks = λ spoiled. writes_none (fault.looks ending spoiled);
       })
       (λ ends. ⊎_elim
       (λ refused.
       let both : Some result ≡ Some ending = sym refused.refusal ∙ is in
       let same : result ≡ ending = cc in
-      record { tells = changes.cuts.told tells; speaks = inr (same, changes.said ∙ sym (append-nil (nor.said old))); kept = λ e. writes_none refused.reads })
+      record { tells = changes.cuts.told tells; speaks = inr (same, changes.said ∙ sym (append-nil (nor.said old))); kept = λ e. writes_none refused.reads; looks = λ spoiled. writes_none refused.reads })
       (λ tight. absurd (not_both tight.takes is))
       ends)
       stops

@@ -1,5 +1,5 @@
 -- One call of a volume as a step of a run.
-use Rattle.std.proofs.Common.{◌≡◌, ◌≤◌, ℕ, ◌⊎◌, List, length, refl, sym, ◌∙◌, ap, subst, arith, inl, inr, ⊎_elim, true, false, None, Some, Err, Ok}
+use Rattle.std.proofs.Common.{◌≡◌, ◌≤◌, ℕ, ◌⊎◌, List, [], length, Bool, refl, sym, ◌∙◌, ap, subst, arith, inl, inr, ⊎_elim, true, false, None, Some, Err, Ok}
 use Rattle.std.proofs.lemmas.Bool.{cases_Bool}
 use Rattle.geometry.specs.declared.geometry.Geometry.{Geometry}
 use Rattle.nor_core.specs.declared.state.NorState.{Ghosts as NorOf}
@@ -9,20 +9,26 @@ use Rattle.table_model.specs.declared.error.FsErr.TheVariants.{DeviceFault, Dama
 use Rattle.table_model.specs.declared.error.Differ.{Differ}
 use Rattle.table_model.specs.declared.reply.Reply.{Reply}
 use Rattle.table_model.specs.declared.reply.Reply.TheVariants.{Bytes}
-use Rattle.table_model.specs.Table.{State}
+use Rattle.table_model.specs.Table.{File, State}
 use Rattle.table_model.specs.Room.{has_room}
-use Rattle.table_model.specs.Ask.{Ask, Reads, Fills}
+use Rattle.table_model.specs.Outcome.{Outcome, refused}
+use Rattle.table_model.specs.Ask.{Ask, Opens, Reads, Fills, Truncates, Collects}
 use Rattle.table_model.specs.Reply.{Answer, Gives, Refuses, answered}
-use Rattle.table_model.specs.Window.{Moment, settled_at}
+use Rattle.table_model.specs.Window.{Moment, settled_at, from_settled, IsAmong}
 use Rattle.call_script.specs.Lines.{Asks, IsCounted}
 use Rattle.call_script.specs.Pieces.{IsShort}
-use Rattle.table_model.specs.Steps.{is_refusal}
+use Rattle.table_model.specs.Steps.{is_refusal, steps}
 use Rattle.table_model.specs.Flat.{answer}
+use Rattle.image_model.specs.Tables.{table_of}
 use Rattle.image_model.specs.Tidy.{HasReserve, has_spare}
 use Rattle.call_model.specs.Memory.{Memory}
 use Rattle.call_model.specs.Calls.{Stands, Answers}
-use Rattle.run_model.specs.Ran.{RunPublishes}
-use Rattle.run_model.proofs.OneCall.{run_publishes, run_answers}
+use Rattle.call_model.proofs.After.{settled-among}
+use Rattle.run_model.specs.Runs.{cuts_file as takes_bytes, IsCorner as IsRunCorner}
+use Rattle.run_model.specs.Ran.{RunStands, RunPublishes, IsTold}
+use Rattle.run_model.proofs.Runs.{among_settled}
+use Rattle.run_model.proofs.Corner.{tight_or_still, tight_after}
+use Rattle.run_model.proofs.OneCall.{spared, run_publishes, run_answers, told_as}
 use Rattle.volume.specs.declared.volume.Volume.{Volume}
 use Rattle.volume.specs.Holds.{memory, Holds}
 use Rattle.volume.specs.Opening.{is_open}
@@ -77,6 +83,29 @@ corner_cases g image s ask reserve = ⊎_elim
     (λ (whole : cuts_file ask ≡ false). inr (λ corner. let no : false ≡ true = sym whole ∙ corner.cuts in cc))
     (cases_Bool (cuts_file ask))
 
+-- the calls that take bytes away, by either name
+same_cuts : (ask : Ask) → cuts_file ask ≡ true → takes_bytes ask ≡ true
+same_cuts (Opens name flags) cuts = cuts
+same_cuts (Truncates fd size) cuts = cuts
+same_cuts _ cuts = absurd (let no : false ≡ true = cuts in cc)
+
+-- the corner of a volume is that of a run
+run_corner : (g : Geometry) (image : List ℕ) (s : State) (ask : Ask) → IsCorner g image s ask → IsRunCorner g s ask
+run_corner g image s ask corner = record { cuts = same_cuts ask corner.cuts; full = corner.full; done = subst (λ (b : Bool). is_refusal (answer g b s ask).answer ≡ false) (spared g image corner.reserve) corner.done }
+
+-- a call in it isn't for garbage collection, so it publishes its table
+publishes_in : {P : Type 0} (ask : Ask) → takes_bytes ask ≡ true → (ask ≡ Collects) ⊎ P → P
+publishes_in ask cuts publishes = ⊎_elim (λ collects. absurd (let no : true ≡ false = sym cuts ∙ ap takes_bytes collects in cc)) (λ among. among) publishes
+
+-- one that publishes nothing has no such table
+still_whole : (g : Geometry) (image : List ℕ) (s : State) (ask : Ask) → IsRunCorner g s ask → steps g true s ask ≡ [] → IsAmong (answer g true s ask).next.table (steps g true s ask) → ⊥
+unfolding IsAmong
+still_whole g image s ask run still among = subst (λ (l : List (List File)). IsAmong (answer g true s ask).next.table l) still among
+
+settled_table : (s : State) → (settled_at s).settled ≡ s.table
+unfolding settled_at
+settled_table s = refl
+
 module _ {N : Type 0} {nor : NorOf N} where
   -- the same geometry by another name
   stands_by : {g h : Geometry} {d : N} {now : Memory} {m : Moment} → h ≡ g → Stands nor h d now m → Stands nor g d now m
@@ -114,22 +143,60 @@ module _ {N : Type 0} {nor : NorOf N} where
       (λ loose. answers (λ short. loose short.tight))
       (tight_cases reply)
 
+  -- answered as the flat table is, with two free blocks
+  told_plainly : {old new : Volume N nor} {ask : Ask} {reply : Answer} (m : Moment) → takes_calls old ≡ true → Calls ask old new reply → ¬ (reply ≡ Refuses DeviceFault) → RunStands nor old.geometry old.nor.now (memory old) m → (StopsShort old.geometry (nor.bytes old.nor.now) m.state ask reply → ⊥) → IsTold nor old.geometry old.nor.now new.nor.now (memory new) m ask reply
+  told_plainly m takes calls fault stands whole = told_as ((changes_of calls m).now stands.stands.tells stands.stands.image stands.reserve).1 (run_answers stands (calls.answers m takes stands.stands fault whole))
+
+  -- in the corner, Tight for want of a page
+  told_tight : {old new : Volume N nor} {ask : Ask} {reply : Answer} (m : Moment) → takes_calls old ≡ true → Calls ask old new reply → RunStands nor old.geometry old.nor.now (memory old) m → IsRunCorner old.geometry m.state ask → IsCorner old.geometry (nor.bytes old.nor.now) m.state ask → reply ≡ Refuses Tight → answer old.geometry false m.state ask ≡ refused Tight m.state → IsTold nor old.geometry old.nor.now new.nor.now (memory new) m ask reply
+  told_tight {old} {new} {ask} {reply} m takes calls stands run corner tight is =
+      let g = old.geometry in
+      let stays = calls.cornered m takes stands.stands corner tight in
+      let here : Stands nor g new.nor.now (memory new) (settled_at m.state) = stands_by calls.same.geometry stays.stands in
+      let now = (changes_of calls m).now stands.stands.tells stands.stands.image stands.reserve in
+      record {
+        spare = false;
+        fair = λ e. run;
+        reply_is = tight ∙ sym (ap (λ (o : Outcome). o.answer) is);
+        among = among_settled m (table_of g (nor.bytes new.nor.now)) (steps g false m.state ask) (subst (λ (l : List File). IsAmong l (from_settled m [])) (sym (here.image.table ∙ settled_table m.state)) (settled-among g (nor.bytes old.nor.now) (memory old) m stands.stands.image));
+        stands = subst (λ (j : Moment). RunStands nor g new.nor.now (memory new) j) (sym (tight_after g m ask run.cuts is)) (record { stands = here; reserve = stays.reserve });
+        holds = record { sound = now.0.sound; reserve = λ reserve. stays.reserve };
+      }
+
+  -- a call of a run was told: as by the flat table, but that one in the corner may be without a page
+  told_by : {old new : Volume N nor} {ask : Ask} {reply : Answer} (m : Moment) → takes_calls old ≡ true → Calls ask old new reply → ¬ (reply ≡ Refuses DeviceFault) → RunStands nor old.geometry old.nor.now (memory old) m → IsTold nor old.geometry old.nor.now new.nor.now (memory new) m ask reply
+  told_by {old} {new} {ask} {reply} m takes calls fault stands =
+      let g = old.geometry in
+      let plainly = told_plainly m takes calls fault stands in
+      ⊎_elim
+      (λ tight. ⊎_elim
+      (λ corner.
+      let run : IsRunCorner g m.state ask = run_corner g (nor.bytes old.nor.now) m.state ask corner in
+      ⊎_elim
+      (λ still. plainly (λ short. still_whole g (nor.bytes old.nor.now) m.state ask run still (subst (λ (b : Bool). IsAmong (answer g b m.state ask).next.table (steps g b m.state ask)) (spared g (nor.bytes old.nor.now) stands.reserve) (publishes_in ask run.cuts short.doable.publishes))))
+      (λ is. told_tight m takes calls stands run corner tight is)
+      (tight_or_still g m.state ask run.cuts run.done))
+      (λ none. plainly (not_short m takes calls stands.stands stands.reserve none))
+      (corner_cases g (nor.bytes old.nor.now) m.state ask stands.reserve))
+      (λ loose. plainly (λ short. loose short.tight))
+      (tight_cases reply)
+
   -- it was answered
   pub does_answer : {old new : Volume N nor} {ask : Ask} {lent : List ℕ} (told : Told) → takes_calls old ≡ true → Calls ask old new (shown_by told lent) → ¬ (shown_by told lent ≡ Refuses DeviceFault) → DoesCall nor old.geometry old.nor.now new.nor.now (memory old) (memory new) ask (Ok told) lent
   does_answer told takes calls fault = record {
     changes = changes_of calls;
-    answers = λ m stands finds. run_answers stands (calls.answers m takes stands.stands fault (not_short m takes calls stands.stands stands.reserve (λ corner. let no : false ≡ true = sym corner.full ∙ finds corner.cuts in cc)));
+    answers = λ m stands. told_by m takes calls fault stands;
     stops = λ m stands. tt {0};
     works = answer_works takes calls fault;
   }
 
   -- the device failed
   pub does_fault : {old new : Volume N nor} {ask : Ask} {lent : List ℕ} → Calls ask old new (Refuses DeviceFault) → DoesCall nor old.geometry old.nor.now new.nor.now (memory old) (memory new) ask (Err BoardFault) lent
-  does_fault calls = record { changes = changes_of calls; answers = λ m stands finds. tt {0}; stops = λ m stands. refl; works = λ here. tt {0} }
+  does_fault calls = record { changes = changes_of calls; answers = λ m stands. tt {0}; stops = λ m stands. refl; works = λ here. tt {0} }
 
   -- a page reads otherwise, which none does on a volume that stands
   pub does_damage : {old new : Volume N nor} {ask : Ask} {lent : List ℕ} (d : Differ) → Calls ask old new (Refuses (Damaged d)) → DoesCall nor old.geometry old.nor.now new.nor.now (memory old) (memory new) ask (Err (EndsDiffer d)) lent
-  does_damage d calls = record { changes = changes_of calls; answers = λ m stands finds. tt {0}; stops = λ m stands. absurd (calls.undamaged m stands.stands d refl); works = λ here. absurd (calls.undamaged here.moment here.stands d refl) }
+  does_damage d calls = record { changes = changes_of calls; answers = λ m stands. tt {0}; stops = λ m stands. absurd (calls.undamaged m stands.stands d refl); works = λ here. absurd (calls.undamaged here.moment here.stands d refl) }
 
   -- whether it takes calls after one that told no fault
   takes_on : {old new : Volume N nor} {ask : Ask} {reply : Answer} → takes_calls old ≡ true → Calls ask old new reply → (breaks reply ≡ true → ⊥) → takes_calls new ≡ true

@@ -105,6 +105,7 @@ module _ {D : Type 0} {nor : NorOf D} {g : Geometry} where
         kept = λ tells ending refused fine.
             let is : result ≡ ending = by_result (checks.speaks tells) closes fine ∙ ap (λ (o : Option Ending). unwrap_or o (report_ending (length (damaged_of g (nor.bytes old))) (free_blocks g (nor.bytes mid)))) refused in
             none_closed (checks.kept tells (refused ∙ ap (λ (e : Ending). Some e) (sym is))) closes;
+        looks = λ tells spoiled is. none_closed (checks.looks tells spoiled is) closes;
         idle = λ tells tidy reserve. none_closed (checks.idle tells tidy reserve) closes;
         cuts = widened (check_cuts result status checks closes) (λ image count here tells. cut_as closes.says.bytes (here tells));
         behind = behind_closed behind closes;

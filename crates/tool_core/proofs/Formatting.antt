@@ -1,5 +1,5 @@
 -- An empty volume is mounted and checked, and takes calls.
-use Rattle.std.proofs.Common.{◌≡◌, ℕ, ◌+◌, ◌-◌, ◌<◌, ◌≤◌, List, [], refl, sym, ◌∙◌, ap, subst, arith, ⊎_elim, Bool, true, false, not, cond, Some, None}
+use Rattle.std.proofs.Common.{◌≡◌, ℕ, ◌+◌, ◌<◌, ◌≤◌, List, [], refl, sym, ◌∙◌, ap, subst, arith, ⊎_elim, Bool, true, false, not, cond, Some, None}
 use Rattle.std.specs.Prelude.{min, replicate, nat_lt}
 use Rattle.std.proofs.lemmas.Bool.{le-leb, lt-ltb, cases_lt}
 use Rattle.geometry.proofs.Bounds.{entry_left}
@@ -82,7 +82,7 @@ empty_room g writable =
 module _ {D : Type 0} {nor : NorOf D} {g : Geometry} where
   -- mounting and the check end only where the board failed
   pub tidy_stops : {old new : D} (ending : Ending) → IsTidy g (nor.bytes old) → StopsCheck nor g old new ending → ending ≡ BoardFault
-  tidy_stops {old} ending tidy stops = ⊎_elim (λ fault. fault) (λ refused. absurd (not_both (tidy_taken g (nor.bytes old) tidy) refused.refusal)) stops
+  tidy_stops {old} ending tidy stops = ⊎_elim (λ fault. fault.fault) (λ refused. absurd (not_both (tidy_taken g (nor.bytes old) tidy) refused.refusal)) stops
 
   -- the image of a checked one
   tidy_begun : {old mid : D} (report : Report) → HoldsFiles g (nor.bytes old) [] → Changes nor old mid (Checks g) → nor.tells old → Reported g (nor.bytes old) (nor.bytes mid) report → Begun g (nor.bytes old) (nor.bytes mid)

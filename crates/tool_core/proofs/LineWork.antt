@@ -8,8 +8,7 @@ use Rattle.table_model.specs.Ask.{Ask}
 use Rattle.table_model.specs.Window.{Moment}
 use Rattle.call_script.specs.Lines.{Parsed, NoCall, Asks, Bad, of_line, calls_of, with_line}
 use Rattle.call_model.specs.Memory.{Memory}
-use Rattle.run_model.specs.Runs.{replies}
-use Rattle.run_model.specs.Ran.{MayCut, Reached, SaidPart}
+use Rattle.run_model.specs.Ran.{Reached, SaidPart}
 use Rattle.tool_core.specs.Turns.{AllGood}
 
 long_test : (n : ℕ) → 4096 < n → nat_lt 4096 n ≡ true
@@ -58,11 +57,8 @@ good-append (x ∷ xs) ys h k = (h.0, good-append xs ys h.1 k)
 
 module _ {D : Type 0} {nor : NorOf D} {g : Geometry} where
   -- the same calls
-  pub same_cut : {old new : D} {w : Memory} {m : Moment} {xs ys : List Ask} → ys ≡ xs → MayCut nor g old new w m xs → MayCut nor g old new w m ys
-  same_cut {old} {new} {w} {m} {xs} {ys} e h = subst (λ (zs : List Ask). MayCut nor g old new w m zs) (sym e) h
-
   pub same_reached : {old new : D} {w : Memory} {m : Moment} {xs ys : List Ask} → ys ≡ xs → Reached nor g old new w m xs → Reached nor g old new w m ys
   same_reached {old} {new} {w} {m} {xs} {ys} e h = subst (λ (zs : List Ask). Reached nor g old new w m zs) (sym e) h
 
-pub same_said : {D : Type 0} {nor : NorOf D} {old new : D} (g : Geometry) (m : Moment) (xs ys : List Ask) → ys ≡ xs → SaidPart nor old new (replies g m xs) → SaidPart nor old new (replies g m ys)
-same_said {D} {nor} {old} {new} g m xs ys e h = subst (λ (zs : List Ask). SaidPart nor old new (replies g m zs)) (sym e) h
+pub same_said : {D : Type 0} {nor : NorOf D} {old new : D} (g : Geometry) (m : Moment) (xs ys : List Ask) → ys ≡ xs → SaidPart nor g old new m xs → SaidPart nor g old new m ys
+same_said {D} {nor} {old} {new} g m xs ys e h = subst (λ (zs : List Ask). SaidPart nor g old new m zs) (sym e) h

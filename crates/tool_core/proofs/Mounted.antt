@@ -19,7 +19,7 @@ use Rattle.vol_check.specs.Checks.{IsWritable, IsRefusal, CountsMixed}
 use Rattle.volume.specs.Checking.{CheckCut, CheckDone, IsUndamaged}
 use Rattle.tool_core.specs.Mounting.{Checks, Reported, StopsCheck, mount_ends, check_ends}
 use Rattle.tool_core.specs.Refusals.{check_refusal}
-use Rattle.tool_core.proofs.Refusals.{check_two, check_mixed, check_takes}
+use Rattle.tool_core.proofs.Refusals.{not_both, mount_few, check_two, check_mixed, check_takes}
 
 -- what the check leaves holds
 pub holds_check : {g : Geometry} {was image : List ℕ} → Checks g was image → Holds g was image
@@ -36,7 +36,7 @@ checks_itself image = record { sound = λ magics. record { magics = magics; mixe
 -- a volume that wasn't mounted
 pub mount_stops : {D : Type 0} {nor : NorOf D} (g : Geometry) (why : MountErr) {old new : D} → IsLate why → OnlyReads nor old new → CountsSpoiled g (nor.bytes old) why → StopsCheck nor g old new (mount_ends why)
 mount_stops {D} {nor} g (MountNotAFs spoiled) {old} late reads cause = inr (record { refusal = check_two g (nor.bytes old) spoiled cause.0 cause.1; reads = reads })
-mount_stops g MountFault late reads cause = inl refl
+mount_stops g MountFault late reads cause = inl (record { fault = refl; looks = λ spoiled is. reads })
 mount_stops g _ late reads cause = absurd late
 
 module _ {D : Type 0} {nor : NorOf D} {g : Geometry} where
@@ -65,7 +65,7 @@ module _ {D : Type 0} {nor : NorOf D} {g : Geometry} where
   check_stops (CheckMixed blocks) {old} {mid} {new} h same writable reads few refused counts whole =
       let here : blocks ≡ mixed_blocks g (nor.bytes old) = counts.0 ∙ ap (λ (k : Geometry). mixed_blocks k (nor.bytes mid)) same ∙ ap (mixed_blocks g) reads.bytes in
       inr (record { refusal = check_mixed g (nor.bytes old) blocks few here counts.1; reads = reads_then reads (refused (tt {0})) })
-  check_stops CheckFault h same writable reads few refused counts whole = inl refl
+  check_stops CheckFault {old} h same writable reads few refused counts whole = inl (record { fault = refl; looks = λ spoiled is. absurd (not_both (mount_few g (nor.bytes old) few) is) })
   check_stops (CheckWrong why) h same writable reads few refused counts whole = absurd writable
   check_stops (CheckDamaged differ) h same writable reads few refused counts whole = absurd whole
 

@@ -34,6 +34,15 @@ pub mount_few : (g : Geometry) (image : List ℕ) → spoiled_blocks g image ≤
 unfolding mount_refusal
 mount_few g image few = rw (not_below 1 (spoiled_blocks g image) few) refl
 
+-- an image that isn't mounted isn't taken
+pick_mount : (b : Bool) (two ending : Ending) (o : Option Ending) → cond b (Some two) None ≡ Some ending → cond b (Some two) o ≡ Some ending
+pick_mount true two ending o is = is
+pick_mount false two ending o is = let bad : None ≡ Some ending = is in absurd (cc)
+
+pub mount_check : (g : Geometry) (image : List ℕ) (ending : Ending) → mount_refusal g image ≡ Some ending → check_refusal g image ≡ Some ending
+unfolding mount_refusal check_refusal
+mount_check g image ending is = pick_mount (nat_lt 1 (spoiled_blocks g image)) (NotAFs (spoiled_blocks g image)) ending _ is
+
 pub check_two : (g : Geometry) (image : List ℕ) (spoiled : ℕ) → spoiled ≡ spoiled_blocks g image → 2 ≤ spoiled → check_refusal g image ≡ Some (NotAFs spoiled)
 unfolding check_refusal
 check_two g image spoiled is two = rw (below 1 (spoiled_blocks g image) (omega (arith, is, two))) (ap (λ (n : ℕ). Some (NotAFs n)) (sym is))

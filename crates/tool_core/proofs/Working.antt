@@ -16,7 +16,6 @@ use Rattle.tool_core.specs.Outcomes.{EndsByImages, first_moment, closed_memory}
 use Rattle.tool_core.specs.Refusals.{check_refusal}
 use Rattle.tool_core.specs.Runs.{StandsNow, WorksTo, Works}
 use Rattle.tool_core.specs.Turns.{DoesCall, ended_turn}
-use Rattle.tool_core.proofs.Refusals.{not_both}
 use Rattle.tool_core.proofs.Standing.{now_on}
 use Rattle.tool_core.proofs.Beginning.{begins_on, begun_stands, early_why}
 
@@ -83,7 +82,4 @@ module _ {D : Type 0} {nor : NorOf D} {g : Geometry} where
 
   -- one that wasn't ends by its images
   pub early_images : {old mid : D} (ending : Ending) → StopsRun nor g old mid ending → EndsByImages g (nor.bytes old) (nor.bytes mid) ending
-  early_images ending stops = ⊎_elim (λ fault. inl fault) (λ ends. inr (inl (record {
-    refusal = early_why ends;
-    mends_not = λ may. ⊎_elim (λ refused. not_both may.takes refused.refusal) (λ tight. tight.recovers_not may.recovers) ends;
-  }))) stops
+  early_images ending stops = ⊎_elim (λ fault. inl fault.fault) (λ ends. inr (inl (early_why ends))) stops

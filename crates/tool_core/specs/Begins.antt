@@ -6,8 +6,7 @@ use Rattle.image_model.specs.Tidy.{IsTidy, HasReserve}
 use Rattle.image_model.specs.Collect.{chosen_block}
 use Rattle.room_laws.specs.Recovery.{Recovers}
 use Rattle.tool_core.specs.declared.ending.Ending.{Ending}
-use Rattle.tool_core.specs.declared.ending.Ending.TheVariants.{BoardFault}
-use Rattle.tool_core.specs.Mounting.{IsRefused}
+use Rattle.tool_core.specs.Mounting.{HasFailed, IsRefused}
 use Rattle.tool_core.specs.Refusals.{check_refusal, tight_refusal}
 
 -- a volume that was checked: its image was one that the check takes, and is tidy with its reserve
@@ -26,4 +25,4 @@ pub record IsTight (g : Geometry) (was now : List ℕ) (ending : Ending) : Type 
 
 -- why a run isn't begun: the board failed, or for its images
 abbrev pub StopsRun : {D : Type 0} (nor : NorOf D) (g : Geometry) (old new : D) → Ending → Type 0
-StopsRun nor g old new ending = (ending ≡ BoardFault) ⊎ (IsRefused nor g old new ending ⊎ IsTight g (nor.bytes old) (nor.bytes new) ending)
+StopsRun nor g old new ending = HasFailed nor g old new ending ⊎ (IsRefused nor g old new ending ⊎ IsTight g (nor.bytes old) (nor.bytes new) ending)

@@ -13,11 +13,11 @@ pub mod Telling
 pub mod Mounting
 pub mod Runs
 pub mod Settling
-pub mod Rooms
 pub mod Turns
 pub mod Outcomes
 pub mod Begins
 pub mod Running
+pub mod Taken
 pub mod Early
 pub mod Listing
 pub mod Checking

@@ -15,7 +15,7 @@ use Rattle.vol_check.specs.declared.report.Report.{Report}
 use Rattle.volume.specs.Checking.{CheckDone}
 use Rattle.tool_core.specs.declared.ending.Ending.{Ending}
 use Rattle.tool_core.specs.declared.ending.Ending.TheVariants.{Geometry as WrongGeometry, ShortBuffer, NotAFs, Mixed, BoardFault, Differ}
-use Rattle.tool_core.specs.Refusals.{check_refusal}
+use Rattle.tool_core.specs.Refusals.{mount_refusal, check_refusal}
 
 -- what mounting and the check may leave of any image: its table, sound, and two free blocks where they were there
 pub record Checks (g : Geometry) (was image : List ℕ) : Type 0 where
@@ -40,9 +40,14 @@ pub record IsRefused {D : Type 0} (nor : NorOf D) (g : Geometry) (old new : D) (
   pub refusal : check_refusal g (nor.bytes old) ≡ Some ending
   pub reads : OnlyReads nor old new
 
+-- the board failed; an image that doesn't mount was only read then too
+pub record HasFailed {D : Type 0} (nor : NorOf D) (g : Geometry) (old new : D) (ending : Ending) : Type 0 where
+  pub fault : ending ≡ BoardFault
+  pub looks : (spoiled : Ending) → mount_refusal g (nor.bytes old) ≡ Some spoiled → OnlyReads nor old new
+
 -- why a volume isn't checked: the board failed, or its image isn't taken
 abbrev pub StopsCheck : {D : Type 0} (nor : NorOf D) (g : Geometry) (old new : D) → Ending → Type 0
-StopsCheck nor g old new ending = (ending ≡ BoardFault) ⊎ IsRefused nor g old new ending
+StopsCheck nor g old new ending = HasFailed nor g old new ending ⊎ IsRefused nor g old new ending
 
 -- how a command ends that doesn't mount its volume
 abbrev pub mount_ends : MountErr → Ending

@@ -8,11 +8,12 @@ use Rattle.table_model.specs.Ask.{Ask}
 use Rattle.table_model.specs.Window.{Moment}
 use Rattle.call_script.specs.Lines.{lines, calls}
 use Rattle.image_model.specs.Tables.{table_of}
-use Rattle.image_model.specs.Tidy.{IsTidy}
+use Rattle.image_model.specs.Tidy.{IsTidy, HasReserve}
 use Rattle.image_model.specs.Collect.{chosen_block}
 use Rattle.flash_view.specs.Same.{StaysBehind}
-use Rattle.run_model.specs.Runs.{after_all, replies, IsCutAfter}
+use Rattle.run_model.specs.Runs.{RunCall, AreFair, asks_of, after_all, replies, IsCut}
 use Rattle.call_model.specs.Safe.{IsSafe, Holds}
+use Rattle.room_laws.specs.Recovery.{Recovers}
 use Rattle.run_model.specs.Ran.{SaidPart}
 use Rattle.tool_core.specs.declared.plan.Lengths.{Lengths}
 use Rattle.tool_core.specs.declared.ending.Ending.{Ending}
@@ -21,21 +22,24 @@ use Rattle.tool_core.specs.Closing.{status_of, closing_line_of}
 use Rattle.tool_core.specs.Endings.{EndsAs, Concludes, WritesNone, HasMended}
 use Rattle.tool_core.specs.Mounting.{IsMendable}
 use Rattle.tool_core.specs.Reads.{ReadsOnce}
-use Rattle.tool_core.specs.Refusals.{check_refusal, begin_refusal}
-use Rattle.tool_core.specs.Rooms.{IsRoomy}
+use Rattle.tool_core.specs.Refusals.{mount_refusal, check_refusal, begin_refusal}
 use Rattle.tool_core.specs.Turns.{AllGood}
-use Rattle.tool_core.specs.Outcomes.{HasBad, WhyRan, IsOfScript, first_moment}
+use Rattle.tool_core.specs.Outcomes.{HasBad, IsTooLong, WhyRan, IsOfScript, first_moment}
 
--- A cut in the calls: the image may follow the first one, and the replies said and its table are those of a cut in the calls.
-pub record CallCut {D : Type 0} (nor : NorOf D) (g : Geometry) (old : D) (m : Moment) (asks : List Ask) (image : List ℕ) (count : ℕ) : Type 0 where
+-- A cut in the calls: the image may follow the first one, and the replies said and its table are those of a cut in the calls. It recovers, once
+-- the check has ended; while that is under way nothing is said, and the table is that of the first image.
+pub record CallCut {D : Type 0} (nor : NorOf D) (g : Geometry) (old : D) (m : Moment) (done : List RunCall) (image : List ℕ) (count : ℕ) : Type 0 where
   pub said : List ℕ
   pub count_is : count ≡ length (nor.said old) + length said
   pub safe : IsSafe g (nor.bytes old) image
-  pub cut : IsCutAfter g m asks said (table_of g image)
+  pub mends : Recovers g image ⊎ ((said ≡ []) × (table_of g image ≡ table_of g (nor.bytes old)))
+  pub cut : IsCut g m done said (table_of g image)
 
--- A cut in the closing line: the last image, and so many bytes of that line behind what was said before it.
-pub record ClosingCut {D : Type 0} (nor : NorOf D) (old new : D) (before closing : List ℕ) (image : List ℕ) (count : ℕ) : Type 0 where
+-- A cut in the closing line: the last image, and so many bytes of that line behind what was said before it. Two blocks are free, where
+-- the first image is one that the check gives them, and where a reply was said.
+pub record ClosingCut {D : Type 0} (nor : NorOf D) (g : Geometry) (old new : D) (before closing : List ℕ) (image : List ℕ) (count : ℕ) : Type 0 where
   pub image_is : image ≡ nor.bytes new
+  pub reserve : IsMendable g (nor.bytes old) ⊎ (0 < length before) → HasReserve g image
   pub part : List ℕ
   pub rest : List ℕ
   pub closing_is : closing ≡ part ++ rest
@@ -45,8 +49,8 @@ pub record ClosingCut {D : Type 0} (nor : NorOf D) (old new : D) (before closing
 -- the board failed in a call: a front of the replies was said, and a cut leaves what one in the calls may
 pub record Breaks {D : Type 0} (nor : NorOf D) (g : Geometry) (old new : D) (m : Moment) (script : List ℕ) (status : ℕ) : Type 0 where
   pub status_is : status ≡ 7
-  pub said : SaidPart nor old new (replies g m (calls script))
-  pub cuts : Leaves nor old new (CallCut nor g old m (calls script))
+  pub said : SaidPart nor g old new m (calls script)
+  pub cuts : Leaves nor old new (CallCut nor g old m said.calls)
 
 -- A run was done up to some call: the replies before it were said, and then its closing line, or a front of that where the board
 -- failed; the image's table is that of the state after these calls, and the image is tidy, if the images don't end the run; where it ends for
@@ -54,9 +58,10 @@ pub record Breaks {D : Type 0} (nor : NorOf D) (g : Geometry) (old new : D) (m :
 pub record Closes {D : Type 0} (nor : NorOf D) (g : Geometry) (old new : D) (m : Moment) (script left : List ℕ) (status : ℕ) : Type 0 where
   pub ending : Ending
   pub ends : EndsAs nor old new ending status
-  pub front : List Ask
+  pub front : List RunCall
   pub later : List Ask
-  pub asks_are : calls script ≡ front ++ later
+  pub asks_are : calls script ≡ asks_of front ++ later
+  pub fair : AreFair g m front
   pub why : WhyRan g (nor.bytes old) (nor.bytes new) script left front later ending
   pub whole : status ≢ 7 → nor.said new ≡ nor.said old ++ (replies g m front ++ closing_line_of ending)
   pub part : List ℕ
@@ -67,7 +72,7 @@ pub record Closes {D : Type 0} (nor : NorOf D) (g : Geometry) (old new : D) (m :
   pub tidy : begin_refusal g (nor.bytes old) (nor.bytes new) ≡ None → IsTidy g (nor.bytes new)
   pub stuck : (n : ℕ) → ending ≡ Tight n → chosen_block g (nor.bytes new) ≡ None
   pub holds : Holds g (nor.bytes old) (nor.bytes new)
-  pub cuts : Leaves nor old new (λ image count. CallCut nor g old m front image count ⊎ ClosingCut nor old new (replies g m front) (closing_line_of ending) image count)
+  pub cuts : Leaves nor old new (λ image count. CallCut nor g old m front image count ⊎ ClosingCut nor g old new (replies g m front) (closing_line_of ending) image count)
 
 -- what a run leaves and answers
 abbrev pub Outcome : {D : Type 0} (nor : NorOf D) (g : Geometry) (old new : D) (m : Moment) (script left : List ℕ) (status : ℕ) → Type 0
@@ -79,8 +84,11 @@ pub record RanWhole {D : Type 0} (nor : NorOf D) (g : Geometry) (old new : D) (m
   pub good : AllGood (lines script)
   pub none_left : left ≡ []
   pub few : length script ≤ 16777216
-  pub said : nor.said new ≡ nor.said old ++ replies g m (calls script)
-  pub table : table_of g (nor.bytes new) ≡ (after_all g m (calls script)).state.table
+  pub done : List RunCall
+  pub asks_are : calls script ≡ asks_of done
+  pub fair : AreFair g m done
+  pub said : nor.said new ≡ nor.said old ++ replies g m done
+  pub table : table_of g (nor.bytes new) ≡ (after_all g m done).state.table
 
 -- the moment at which a volume of that image stands with the lent descriptors
 abbrev pub first_of : Geometry → Lengths → List ℕ → Moment
@@ -92,26 +100,30 @@ BeginsAs (Some ending) status = status ≡ status_of ending
 BeginsAs None status = IsOfScript status
 
 -- A run whose images are worked on, and neither the board nor the script failed. The status is 0 for a script of at most 16,777,216 bytes of which
--- every line is in the grammar, 11 for a longer one, and 5 for one that isn't longer with a line outside.
+-- every line is in the grammar, 11 for a longer one, also where its first 16,777,216 bytes are in it and what is behind them is not, and 5 for one
+-- that isn't longer with a line outside.
 pub record IsComplete (script : List ℕ) (status : ℕ) : Type 0 where
   pub done : length script ≤ 16777216 → AllGood (lines script) → status ≡ 0
   pub long : 16777216 < length script → AllGood (lines script) → status ≡ 11
+  pub too_long : (front : List Ask) → IsTooLong script front → status ≡ 11
   pub bad_line : length script ≤ 16777216 → (number : ℕ) → HasBad script number → status ≡ 5
 
 -- A run mounts and checks the volume, and does the calls of the script.
 pub record DoesRun {D X : Type 0} (nor : NorOf D) (source : SourceOf X) (g : Geometry) (lent : Lengths) (old new : D) (script after : X) (status : ℕ) : Type 0 where
-  -- Where the table of the first image has room, or no call of the script cuts a file on one without, the replies to some first calls are
-  -- said, then a closing line, whose cause stands beside it; the table is that after these calls, and a cut at any moment leaves what they may.
-  pub outcome : source.tells script → nor.tells old → IsRoomy g (first_of g lent (nor.bytes old)) (calls (source.left script)) → Outcome nor g old new (first_of g lent (nor.bytes old)) (source.left script) (source.left after) status
+  -- The replies to some first calls are said, then a closing line, whose cause stands beside it; the table is that after these calls, and a
+  -- cut at any moment leaves what they may. Each is answered as by the flat table, but that one in the corner may be without a page.
+  pub outcome : source.tells script → nor.tells old → Outcome nor g old new (first_of g lent (nor.bytes old)) (source.left script) (source.left after) status
   -- with status 0 it was the whole script
-  pub whole : source.tells script → nor.tells old → IsRoomy g (first_of g lent (nor.bytes old)) (calls (source.left script)) → status ≡ 0 → RanWhole nor g old new (first_of g lent (nor.bytes old)) (source.left script) (source.left after)
+  pub whole : source.tells script → nor.tells old → status ≡ 0 → RanWhole nor g old new (first_of g lent (nor.bytes old)) (source.left script) (source.left after)
   -- the status, if it isn't 7, is that of the images, where they end the run, or else one of a script ..
   pub begins : nor.tells old → status ≢ 7 → BeginsAs (begin_refusal g (nor.bytes old) (nor.bytes new)) status
   -- .. and, if it isn't 8, that of this script
-  pub complete : source.tells script → nor.tells old → IsRoomy g (first_of g lent (nor.bytes old)) (calls (source.left script)) → status ≢ 7 → status ≢ 8 →
+  pub complete : source.tells script → nor.tells old → status ≢ 7 → status ≢ 8 →
       begin_refusal g (nor.bytes old) (nor.bytes new) ≡ None → IsComplete (source.left script) status
   -- an image that isn't taken stays, and its closing line is said alone
   pub refused : nor.tells old → (ending : Ending) → check_refusal g (nor.bytes old) ≡ Some ending → Concludes nor old new [] ending status × (status ≢ 7 → WritesNone nor old new)
+  -- one that doesn't mount stays where the board fails too
+  pub looks : nor.tells old → (ending : Ending) → mount_refusal g (nor.bytes old) ≡ Some ending → WritesNone nor old new
   -- an image that the check takes and that recovers has two free blocks after the check, and so has the last one, if the board didn't fail
   pub mends : nor.tells old → IsMendable g (nor.bytes old) → HasMended nor g new status
   -- whatever is told, time goes on, and the bytes behind the volume stay

@@ -1,17 +1,15 @@
 -- What a turn of a run leaves, and many turns.
-use Rattle.std.specs.Prelude.{ℕ, ◌≡◌, ◌+◌, ◌≤◌, ◌⊎◌, List, [], ◌∷◌, ◌++◌, length, slice_range, Option, Some, None, Result, IfOk, IfErr}
+use Rattle.std.specs.Prelude.{ℕ, ◌≡◌, ◌+◌, ◌<◌, ◌≤◌, ◌⊎◌, List, [], ◌∷◌, ◌++◌, length, slice_range, Option, Some, None, Result, IfOk, IfErr}
 use Rattle.geometry.specs.declared.geometry.Geometry.{Geometry}
 use Rattle.nor_core.specs.declared.state.NorState.{Ghosts as NorOf}
 use Rattle.nor_core.specs.Device.{Changes}
 use Rattle.table_model.specs.Ask.{Ask}
 use Rattle.table_model.specs.Window.{Moment}
-use Rattle.call_script.specs.Lines.{Bad, lines, of_line, calls_of, calls, NoBreak}
+use Rattle.call_script.specs.Lines.{Bad, lines, of_line, calls_of, NoBreak}
 use Rattle.call_model.specs.Memory.{Memory}
-use Rattle.run_model.specs.Runs.{replies}
-use Rattle.run_model.specs.Ran.{RunStands, RunPublishes, RunAnswers, MayCut, Reached, SaidPart}
+use Rattle.run_model.specs.Ran.{RunStands, RunPublishes, IsTold, Reached, SaidPart}
 use Rattle.file_calls.specs.declared.told.Told.{Told}
 use Rattle.file_calls.specs.Replies.{shown_by}
-use Rattle.tool_core.specs.Rooms.{FindsRoom, AllFindRoom}
 use Rattle.tool_core.specs.Runs.{result_err, StandsNow, WorksTo}
 use Rattle.tool_core.specs.declared.ending.Ending.{Ending}
 use Rattle.tool_core.specs.declared.ending.Ending.TheVariants.{Done, BadLine, BoardFault, SourceFault, TooLong}
@@ -19,16 +17,16 @@ use Rattle.tool_core.specs.declared.ending.Ending.TheVariants.{Done, BadLine, Bo
 -- What doing a call leaves: what a run may at each cut, and its answer, or that the board failed. `lent` are the bytes for what is read.
 pub record DoesCall {D : Type 0} (nor : NorOf D) (g : Geometry) (old new : D) (was now : Memory) (ask : Ask) (result : Result Told Ending) (lent : List ℕ) : Type 0 where
   pub changes : (m : Moment) → Changes nor old new (RunPublishes g was m ask)
-  pub answers : (m : Moment) → RunStands nor g old was m → FindsRoom g m.state ask → IfOk result (λ told. RunAnswers nor g old new now m ask (shown_by told lent))
+  pub answers : (m : Moment) → RunStands nor g old was m → IfOk result (λ told. IsTold nor g old new now m ask (shown_by told lent))
   pub stops : (m : Moment) → RunStands nor g old was m → IfErr result (λ ending. ending ≡ BoardFault)
-  -- whether or not the table has room, it goes on standing
+  -- whatever the moment, it goes on standing
   pub works : StandsNow nor g old was → WorksTo nor g new now (result_err result)
 
 -- what doing the line of that number leaves, by how the run ends there
 abbrev pub DidLine : {D : Type 0} (nor : NorOf D) (g : Geometry) (old new : D) (was now : Memory) (m : Moment) (line : List ℕ) (number : ℕ) → Option Ending → Type 0
 DidLine nor g old new was now m line number None = (of_line line ≡ Bad → ⊥) × Reached nor g old new now m (calls_of (line ∷ []))
 DidLine nor g old new was now m line number (Some (BadLine n)) = (of_line line ≡ Bad) × (n ≡ number) × Reached nor g old new now m []
-DidLine nor g old new was now m line number (Some BoardFault) = (of_line line ≡ Bad → ⊥) × SaidPart nor old new (replies g m (calls_of (line ∷ [])))
+DidLine nor g old new was now m line number (Some BoardFault) = (of_line line ≡ Bad → ⊥) × SaidPart nor g old new m (calls_of (line ∷ []))
 DidLine nor g old new was now m line number _ = ⊥
 
 -- each line is in the grammar
@@ -75,13 +73,23 @@ CountsLines None before now done = now ≡ before + done
 CountsLines (Some (BadLine n)) before now done = n ≡ before + done + 1
 CountsLines _ before now done = Unit {0}
 
+-- the first line of a tail is seen to be outside the grammar by bytes that were taken of it: it is ended in them, they are more than a line
+-- has, or nothing is behind them
+pub record IsSeen {D : Type 0} (a b : At D) (seg tail : List ℕ) : Type 0 where
+  pub taken : List ℕ
+  pub tail_is : tail ≡ taken ++ b.left
+  pub count : b.taken + length a.pending ≡ a.taken + length seg + length taken
+  pub few : b.taken ≤ 16777216
+  pub seen : (bad : List ℕ) (others : List (List ℕ)) → lines tail ≡ bad ∷ others → (length bad < length taken) ⊎ ((4096 < length taken) ⊎ (b.left ≡ []))
+
 -- The bytes that were taken are those of the lines that were done, and the pending ones; at the script's end all of them are
 -- those of lines, and no more than the limit.
-abbrev pub CountsBytes : Option Ending → {D : Type 0} → (a b : At D) (seg : List ℕ) → Type 0
-CountsBytes None a b seg = b.taken + length a.pending ≡ a.taken + length seg + length b.pending
-CountsBytes (Some Done) a b seg = (a.taken + length seg ≡ b.taken + length a.pending) × (b.taken ≤ 16777216)
-CountsBytes (Some TooLong) a b seg = b.taken + length a.pending ≡ a.taken + length seg + length b.pending
-CountsBytes _ a b seg = Unit {0}
+abbrev pub CountsBytes : Option Ending → {D : Type 0} → (a b : At D) (seg tail : List ℕ) → Type 0
+CountsBytes None a b seg tail = b.taken + length a.pending ≡ a.taken + length seg + length b.pending
+CountsBytes (Some Done) a b seg tail = (a.taken + length seg ≡ b.taken + length a.pending) × (b.taken ≤ 16777216)
+CountsBytes (Some TooLong) a b seg tail = b.taken + length a.pending ≡ a.taken + length seg + length b.pending
+CountsBytes (Some (BadLine n)) a b seg tail = IsSeen a b seg tail
+CountsBytes _ a b seg tail = Unit {0}
 
 -- why a run stands where it does before these bytes
 abbrev pub WhyHere : {D : Type 0} (b : At D) (tail : List ℕ) → Option Ending → Type 0
@@ -95,7 +103,7 @@ WhyHere b tail _ = ⊥
 -- a run came to the moment after these calls, or the board failed in them
 abbrev pub Stops : {D : Type 0} (nor : NorOf D) (g : Geometry) (m : Moment) (a b : At D) (asks : List Ask) (tail : List ℕ) → Option Ending → Type 0
 Stops nor g m a b asks tail ending =
-    ((ending ≡ Some BoardFault) × SaidPart nor a.device b.device (replies g m asks))
+    ((ending ≡ Some BoardFault) × SaidPart nor g a.device b.device m asks)
     ⊎ (Reached nor g a.device b.device b.memory m asks × WhyHere b tail ending)
 
 -- From one place of a run to another these lines were done.
@@ -107,18 +115,12 @@ pub record Turned {D : Type 0} (nor : NorOf D) (g : Geometry) (ending : Option E
   pub lines_are : (more : List ℕ) → Follows ending tail more → lines (seg ++ more) ≡ done ++ lines more
   pub good : AllGood done
   pub number : CountsLines ending a.handed b.handed (length done)
-  pub bytes : CountsBytes ending a b seg
-  pub leaves : MayCut nor g a.device b.device a.memory m (calls_of done)
+  pub bytes : CountsBytes ending a b seg tail
   pub stops : Stops nor g m a b (calls_of done) tail ending
 
--- A volume stands at a moment of a run, and the calls of all bytes that are still to be done find room.
-pub record Goes {D : Type 0} (nor : NorOf D) (g : Geometry) (m : Moment) (a : At D) : Type 0 where
-  pub stands : RunStands nor g a.device a.memory m
-  pub room : AllFindRoom g m (calls (a.pending ++ a.left))
-
--- from any such moment these lines were done
+-- from any moment at which the volume stands these lines were done
 abbrev pub Turns : {D : Type 0} (nor : NorOf D) (g : Geometry) (ending : Option Ending) (a b : At D) → Type 0
-Turns nor g ending a b = (m : Moment) → Goes nor g m a → Turned nor g ending m a b
+Turns nor g ending a b = (m : Moment) → RunStands nor g a.device a.memory m → Turned nor g ending m a b
 
 -- one byte more was left
 pub record OneMore (old new : List ℕ) : Type 0 where

@@ -8,6 +8,7 @@ mod checking;
 mod ending;
 mod extracting;
 mod finishing;
+pub mod laws;
 mod lines;
 mod listing;
 mod making;

@@ -2,7 +2,6 @@ ghost use Rattle.std.specs.Prelude.{ℕ, ◌≡◌, ◌≢◌, ◌*◌, ◌≤�
 ghost use Rattle.geometry.specs.Numbers.{write_refusal, work_need, cache_need, check_need};
 ghost use Rattle.nor_core.specs.Count.{Rose};
 ghost use Rattle.nor_core.specs.Device.{Changes};
-ghost use Rattle.call_script.specs.Lines.{calls};
 ghost use Rattle.flash_view.specs.Same.{StaysBehind};
 ghost use Rattle.volume.specs.Holds.{memory};
 ghost use Rattle.volume.specs.Stages.{takes_calls};
@@ -15,7 +14,6 @@ ghost use Rattle.tool_core.specs.Mounting.{Checks};
 ghost use Rattle.tool_core.specs.Outcomes.{RunsTo, Refused, EndsByImages, first_moment, closed_memory};
 ghost use Rattle.tool_core.specs.Reads.{ReadsOnce};
 ghost use Rattle.tool_core.specs.Refusals.{check_refusal};
-ghost use Rattle.tool_core.specs.Rooms.{IsRoomy};
 ghost use Rattle.tool_core.specs.Running.{DoesRun};
 ghost use Rattle.tool_core.specs.Runs.{StandsBy};
 ghost use Rattle.tool_core.specs.Settling.{Settling, settled_as};
@@ -98,8 +96,8 @@ fn run_volume<B: Board, S: Source>(
     ensures same { IsSameVolume volume.old volume.new }
     ensures script_faults { S.faults script.old ≤ S.faults script.new }
     ensures script_cause { result ≡ Ending.SourceFault → Rose (S.faults script.old) (S.faults script.new) }
-    ensures ends { (slots : ℕ) → memory volume.old ≡ closed_memory slots → S.tells script.old → B.tells volume.old.nor.now → IsRoomy volume.old.geometry (first_moment volume.old.geometry slots (B.bytes volume.old.nor.now)) (calls (S.left script.old)) → RunsTo B.NorState volume.old.geometry volume.old.nor.now volume.new.nor.now (first_moment volume.old.geometry slots (B.bytes volume.old.nor.now)) (S.left script.old) (S.left script.new) result }
-    ensures refused { B.tells volume.old.nor.now → (ending : Ending) → check_refusal volume.old.geometry (B.bytes volume.old.nor.now) ≡ Some ending → Refused B.NorState volume.old.nor.now volume.new.nor.now ending result }
+    ensures ends { (slots : ℕ) → memory volume.old ≡ closed_memory slots → S.tells script.old → B.tells volume.old.nor.now → RunsTo B.NorState volume.old.geometry volume.old.nor.now volume.new.nor.now (first_moment volume.old.geometry slots (B.bytes volume.old.nor.now)) (S.left script.old) (S.left script.new) result }
+    ensures refused { B.tells volume.old.nor.now → (ending : Ending) → check_refusal volume.old.geometry (B.bytes volume.old.nor.now) ≡ Some ending → Refused B.NorState volume.old.geometry volume.old.nor.now volume.new.nor.now ending result }
     ensures begins { (slots : ℕ) → memory volume.old ≡ closed_memory slots → B.tells volume.old.nor.now → EndsByImages volume.old.geometry (B.bytes volume.old.nor.now) (B.bytes volume.new.nor.now) result }
 {
     match begin(volume) {
@@ -131,8 +129,8 @@ fn run<'b, B: Board, S: Source>(
     ensures board_faults { B.faults board.old ≤ B.faults board.new }
     ensures board_cause { result ≡ Ending.BoardFault → Rose (B.faults board.old) (B.faults board.new) }
     ensures few { ReadsOnce B.NorState g (length lent.entry.cache.now) board.old board.new }
-    ensures ends { S.tells script.old → B.tells board.old → IsRoomy g (first_moment g (min 65535 (length lent.entry.slots.now)) (B.bytes board.old)) (calls (S.left script.old)) → RunsTo B.NorState g board.old board.new (first_moment g (min 65535 (length lent.entry.slots.now)) (B.bytes board.old)) (S.left script.old) (S.left script.new) result }
-    ensures refused { B.tells board.old → (ending : Ending) → check_refusal g (B.bytes board.old) ≡ Some ending → Refused B.NorState board.old board.new ending result }
+    ensures ends { S.tells script.old → B.tells board.old → RunsTo B.NorState g board.old board.new (first_moment g (min 65535 (length lent.entry.slots.now)) (B.bytes board.old)) (S.left script.old) (S.left script.new) result }
+    ensures refused { B.tells board.old → (ending : Ending) → check_refusal g (B.bytes board.old) ≡ Some ending → Refused B.NorState g board.old board.new ending result }
     ensures begins { B.tells board.old → EndsByImages g (B.bytes board.old) (B.bytes board.new) result }
     ensures behind { StaysBehind B.NorState g board.old board.new }
 {

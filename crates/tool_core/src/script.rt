@@ -4,15 +4,14 @@ ghost use Rattle.nor_core.specs.Count.{Rose};
 ghost use Rattle.nor_core.specs.Device.{Leaves, Says, InSay};
 ghost use Rattle.table_model.specs.Reply.{answered};
 ghost use Rattle.table_model.specs.Window.{Moment};
-ghost use Rattle.call_script.specs.Lines.{NoBreak, calls_of, calls};
+ghost use Rattle.call_script.specs.Lines.{NoBreak};
 ghost use Rattle.call_script.specs.Pieces.{IsShort};
 ghost use Rattle.call_script.specs.Replies.{text};
-ghost use Rattle.run_model.specs.Ran.{RunStands, MayCut};
+ghost use Rattle.run_model.specs.Ran.{RunStands};
 ghost use Rattle.volume.specs.Holds.{memory};
 ghost use Rattle.volume.specs.Stages.{takes_calls};
 ghost use Rattle.volume.specs.Same.{IsSameVolume};
 ghost use Rattle.tool_core.specs.Later.{IsLater, IsLaterIf};
-ghost use Rattle.tool_core.specs.Rooms.{AllFindRoom};
 ghost use Rattle.tool_core.specs.Runs.{Ran, Works};
 ghost use Rattle.tool_core.specs.Turns.{DidLine, OneMore, Turns, at_run};
 ghost use Rattle.tool_core.specs.Outcomes.{RunEnds};
@@ -42,8 +41,7 @@ fn answer<B: Board>(
     ensures ran { Ran B.NorState volume.old.nor.now volume.new.nor.now result (takes_calls volume.new) }
     ensures same { IsSameVolume volume.old volume.new }
     ensures no_script { ¬ (result ≡ Some Ending.SourceFault) }
-    ensures leaves { (m : Moment) → AllFindRoom volume.old.geometry m (calls_of (line.now ∷ [])) → MayCut B.NorState volume.old.geometry volume.old.nor.now volume.new.nor.now (memory volume.old) m (calls_of (line.now ∷ [])) }
-    ensures did { (m : Moment) → RunStands B.NorState volume.old.geometry volume.old.nor.now (memory volume.old) m → AllFindRoom volume.old.geometry m (calls_of (line.now ∷ [])) → DidLine B.NorState volume.old.geometry volume.old.nor.now volume.new.nor.now (memory volume.old) (memory volume.new) m line.now number result }
+    ensures did { (m : Moment) → RunStands B.NorState volume.old.geometry volume.old.nor.now (memory volume.old) m → DidLine B.NorState volume.old.geometry volume.old.nor.now volume.new.nor.now (memory volume.old) (memory volume.new) m line.now number result }
     ensures works { Works B.NorState volume.old.geometry volume.old.nor.now volume.new.nor.now (memory volume.old) (memory volume.new) result }
 {
     let Ok(parsed) = parse_line(line, scratch) else {
@@ -241,7 +239,7 @@ pub(crate) fn run_script<B: Board, S: Source>(
     ensures same { IsSameVolume volume.old volume.new }
     ensures script_faults { S.faults script.old ≤ S.faults script.new }
     ensures script_cause { result ≡ Ending.SourceFault → Rose (S.faults script.old) (S.faults script.new) }
-    ensures ends { (m : Moment) → S.tells script.old → RunStands B.NorState volume.old.geometry volume.old.nor.now (memory volume.old) m → AllFindRoom volume.old.geometry m (calls (S.left script.old)) → RunEnds B.NorState volume.old.geometry volume.old.nor.now volume.new.nor.now (memory volume.old) (memory volume.new) m (S.left script.old) (S.left script.new) result }
+    ensures ends { (m : Moment) → S.tells script.old → RunStands B.NorState volume.old.geometry volume.old.nor.now (memory volume.old) m → RunEnds B.NorState volume.old.geometry volume.old.nor.now volume.new.nor.now (memory volume.old) (memory volume.new) m (S.left script.old) (S.left script.new) result }
     ensures works { Works B.NorState volume.old.geometry volume.old.nor.now volume.new.nor.now (memory volume.old) (memory volume.new) (Some result) }
 {
     let (taken, scratch) = line.split_at_mut(LINES);

@@ -12,31 +12,12 @@ ghost use Rattle.file_calls.specs.Replies.{reply_of};
 
 use crate::{Told, Volume};
 use fd_table::{FdSlot, open_slot, put};
-use file_calls::{have_room, may_write, opened, record_of, write_all};
+use file_calls::{have_room, opened, record_of, write_all};
 use flash_view::View;
 use geometry::Geometry;
 use nor_core::{Nor, NorState};
-use table_model::FsErr;
+use table_model::{FsErr, OpenFlags};
 use write_window::{Held, begin, push};
-
-/// Each write goes to the file's end.
-const APPEND: u8 = 1;
-/// No byte that is written through the descriptor waits.
-const DIRECT: u8 = 32;
-
-// Whether each write of a descriptor goes to the file's end.
-fn appends(flags: u8) -> bool
-    ensures { result ≡ the_appends flags }
-{
-    flags & APPEND != 0
-}
-
-// Whether no byte that is written through a descriptor waits.
-fn is_direct(flags: u8) -> bool
-    ensures { result ≡ the_direct flags }
-{
-    flags & DIRECT != 0
-}
 
 // Whether bytes up to an end lie in the data page of the place where they begin.
 fn is_in_page(g: &Geometry, at: u32, end: u64) -> bool
@@ -46,17 +27,17 @@ fn is_in_page(g: &Geometry, at: u32, end: u64) -> bool
 }
 
 // Whether bytes that a descriptor with these flags writes from a place up to an end may wait.
-fn may_wait(g: &Geometry, flags: u8, at: u32, end: u64) -> bool
+fn may_wait(g: &Geometry, flags: OpenFlags, at: u32, end: u64) -> bool
     ensures { result ≡ (not (the_direct flags) && nat_le end (page_end g.now at)) }
 {
-    !is_direct(flags) && is_in_page(g, at, end)
+    !flags.is_direct() && is_in_page(g, at, end)
 }
 
 // Where a write through a descriptor begins, in a file of that size in bytes.
 fn place_of(slot: &FdSlot, size: u32) -> u32
     ensures { result ≡ (if the_appends slot.now.flags then size else slot.now.offset) }
 {
-    if appends(slot.flags) {
+    if slot.flags.appends() {
         size
     } else {
         slot.offset
@@ -83,7 +64,7 @@ pub(crate) fn write_in<N: Nor>(
     ensures acts { (into : List ℕ) → Acts N.NorState v.old.geometry (Writes fd bytes.now) v.old.nor.now v.new.nor.now slots.old slots.new (run_in held.new kept.new) v.new.wrote (reply_of result into) }
 {
     let slot = opened(slots, fd)?;
-    if !may_write(slot.flags) {
+    if !slot.flags.may_write() {
         return Err(FsErr::NotWritable);
     }
     if bytes.is_empty() {
@@ -111,7 +92,7 @@ pub(crate) fn write_in<N: Nor>(
 fn next_place(held: &Held, slot: &FdSlot) -> u64
     ensures { (bytes : List ℕ) → held.now.taken ≤ length bytes → result ≡ (if the_appends slot.now.flags then start_of (run_in held.now bytes) + length (bytes_of (run_in held.now bytes)) else slot.now.offset) }
 {
-    if appends(slot.flags) {
+    if slot.flags.appends() {
         held.end()
     } else {
         u64::from(slot.offset)

@@ -1,7 +1,7 @@
 -- The turns of a soak on the flat table, and its summary.
 use Rattle.std.specs.Prelude.{ℕ, zero, suc, ◌+◌, ◌-◌, List, [], ◌∷◌, ◌++◌, length, replicate, min, codes, decimal, Bool, true, false, not, Option, Some, None, if◌then◌else◌, sum_by}
 use Rattle.geometry.specs.declared.geometry.Geometry.{Geometry}
-use Rattle.nor_core.specs.Picks.{drawn}
+use Rattle.nor_core.specs.Draws.{drawn}
 use Rattle.table_model.specs.Table.{File, State}
 use Rattle.table_model.specs.Ask.{Ask, Opens, Reads, Fills, Closes, Removes}
 use Rattle.table_model.specs.Flat.{answer}

@@ -5,14 +5,14 @@ use Rattle.block_gc.proofs.BatchCalls.{carry_stays}
 use Rattle.block_gc.proofs.batch.rename.Goals as goal
 
 pub returns-in-Err-clause-step : goal.returns-in-Err-clause-step
-returns-in-Err-clause-step g c = λ was most. let seen = c.in-Err.ensures in looked seen.looks (λ e. seen.cause) tt (λ tells all. (carry_stays _ was _ c.args.block most c.args.batch _ all.so_far, refl))
+returns-in-Err-clause-step g c = λ was most. let seen = c.in-Err.ensures in looked seen.looks.only (λ e. seen.looks.cause) tt (λ tells all. (carry_stays _ was _ c.args.block most c.args.batch _ all.so_far, refl))
 
 pub returns-in-Ok-None-clause-step : goal.returns-in-Ok-None-clause-step
 returns-in-Ok-None-clause-step g c = λ was most.
     let seen = c.in-Ok-None.ensures in
-    looked seen.looks (λ e. absurd (cc)) c.no_place.ensures (λ tells all. (
+    looked seen.looks.only (λ e. absurd (cc)) c.no_place.ensures (λ tells all. (
       carry_stays _ was _ c.args.block most c.args.batch _ all.so_far,
-      absurd (rename_found _ was _ c.args.block most c.args.batch _ all.so_far c.args.page all (rw c.in-Ok-None.field-0-is at (seen.told tells all.so_far.carrying.tells))),
+      absurd (rename_found _ was _ c.args.block most c.args.batch _ all.so_far c.args.page all (rw c.in-Ok-None.field-0-is at (seen.looks.told tells all.so_far.carrying.tells))),
     ))
 
 pub returns-in-Err-rename_to-clause-step : goal.returns-in-Err-rename_to-clause-step
@@ -20,25 +20,25 @@ returns-in-Err-rename_to-clause-step g c = λ was most.
     let seen = c.in-Ok-Some.ensures in
     let a = c.args in
     fault_as
-    (after_look seen.looks (c.in-Err-rename_to.ensures.step was a.block most a.page)
-    (λ tells all. record { needs = rename_place _ was _ a.block most a.batch _ all.so_far a.page all c.in-Ok-Some.to (rw c.in-Ok-Some.field-0-is at (seen.told tells all.so_far.carrying.tells)); cut = λ d cut. cut; done = λ d ok done. done }))
+    (after_look seen.looks.only (c.in-Err-rename_to.ensures.step was a.block most a.page)
+    (λ tells all. record { needs = rename_place _ was _ a.block most a.batch _ all.so_far a.page all c.in-Ok-Some.to (rw c.in-Ok-Some.field-0-is at (seen.looks.told tells all.so_far.carrying.tells)); cut = λ d cut. cut; done = λ d ok done. done }))
 
 pub returns-in-Ok-clause-step : goal.returns-in-Ok-clause-step
 returns-in-Ok-clause-step g c = λ was most.
     let seen = c.in-Ok-Some.ensures in
     let a = c.args in
     done_as
-    (after_look seen.looks (c.in-Ok.ensures.step was a.block most a.page)
-    (λ tells all. record { needs = rename_place _ was _ a.block most a.batch _ all.so_far a.page all c.in-Ok-Some.to (rw c.in-Ok-Some.field-0-is at (seen.told tells all.so_far.carrying.tells)); cut = λ d cut. cut; done = λ d ok done. done }))
+    (after_look seen.looks.only (c.in-Ok.ensures.step was a.block most a.page)
+    (λ tells all. record { needs = rename_place _ was _ a.block most a.batch _ all.so_far a.page all c.in-Ok-Some.to (rw c.in-Ok-Some.field-0-is at (seen.looks.told tells all.so_far.carrying.tells)); cut = λ d cut. cut; done = λ d ok done. done }))
 
 pub returns-in-Err-clause-few : goal.returns-in-Err-clause-few
-returns-in-Err-clause-few g c = omega (arith, c.in-Err.ensures.looks.reads.writes)
+returns-in-Err-clause-few g c = omega (arith, c.in-Err.ensures.looks.only.reads.writes)
 
 pub returns-in-Ok-None-clause-few : goal.returns-in-Ok-None-clause-few
-returns-in-Ok-None-clause-few g c = omega (arith, c.in-Ok-None.ensures.looks.reads.writes)
+returns-in-Ok-None-clause-few g c = omega (arith, c.in-Ok-None.ensures.looks.only.reads.writes)
 
 pub returns-in-Err-rename_to-clause-few : goal.returns-in-Err-rename_to-clause-few
-returns-in-Err-rename_to-clause-few g c = omega (arith, c.in-Ok-Some.ensures.looks.reads.writes, c.in-Err-rename_to.ensures.few)
+returns-in-Err-rename_to-clause-few g c = omega (arith, c.in-Ok-Some.ensures.looks.only.reads.writes, c.in-Err-rename_to.ensures.few)
 
 pub returns-in-Ok-clause-few : goal.returns-in-Ok-clause-few
-returns-in-Ok-clause-few g c = omega (arith, c.in-Ok-Some.ensures.looks.reads.writes, c.in-Ok.ensures.few)
+returns-in-Ok-clause-few g c = omega (arith, c.in-Ok-Some.ensures.looks.only.reads.writes, c.in-Ok.ensures.few)

@@ -9,46 +9,46 @@ use Rattle.block_gc.proofs.Programs.{longest_is}
 use Rattle.block_gc.proofs.cleaning.clean.Goals as goal
 
 pub returns-in_default-clause-step : goal.returns-in_default-clause-step
-returns-in_default-clause-step g c = let seen = c.in_default.ensures in looked seen.looks (λ e. search rules) tt (λ tells can. (clean_stays _ _ _ (view_image c.args.v.now (g.met.N.Nor.sized _) tells) c.requires can, refl))
+returns-in_default-clause-step g c = let seen = c.in_default.ensures in looked seen.looks.only (λ e. search rules) tt (λ tells can. (clean_stays _ _ _ (view_image c.args.v.now (g.met.N.Nor.sized _) tells) c.requires can, refl))
 
 pub returns-in_default-next_count-clause-step : goal.returns-in_default-next_count-clause-step
 returns-in_default-next_count-clause-step g c =
-    let both = looks_then c.in-Ok.ensures.looks c.in_default-next_count.ensures.looks in
+    let both = looks_then c.in-Ok.ensures.looks.only c.in_default-next_count.ensures.looks.only in
     looked both (λ e. search rules) tt (λ tells can. (clean_stays _ _ _ (view_image c.args.v.now (g.met.N.Nor.sized _) tells) c.requires can, refl))
 
 pub returns-in_err-empty_block-clause-step : goal.returns-in_err-empty_block-clause-step
 returns-in_err-empty_block-clause-step g c =
     let one = c.in-Ok.ensures in
-    let both = looks_then one.looks c.in-Ok-next_count.ensures.looks in
+    let both = looks_then one.looks.only c.in-Ok-next_count.ensures.looks.only in
     let is : c.from_residual.result ≡ Err c.in_err-empty_block.field-0.0 = search rules in
     passes (after_look both c.in_err-empty_block.ensures.step (λ tells need. record { needs = need; cut = λ d cut. cut; done = λ d ok done. done })) is
-    (λ tells can. empties _ _ _ _ (view_image c.args.v.now (g.met.N.Nor.sized _) tells) c.requires (longest _ _ _ _ _ can.tidy c.requires (one.told tells) c.longest_batch.ensures) can)
+    (λ tells can. empties _ _ _ _ (view_image c.args.v.now (g.met.N.Nor.sized _) tells) c.requires (longest _ _ _ _ _ can.tidy c.requires (one.looks.told tells) c.longest_batch.ensures) can)
 
 pub returns-in-Err-clause-step : goal.returns-in-Err-clause-step
 returns-in-Err-clause-step g c =
     let one = c.in-Ok.ensures in
     let two = c.in-Ok-next_count.ensures in
-    let both = looks_then one.looks two.looks in
+    let both = looks_then one.looks.only two.looks.only in
     let block = c.args.block in
     let last = c.in-Err.ensures in
     let first : Stepped stopped c.args.v.now c.empty_block.new.v (Ok tt) (emptying block c.longest_batch.result) = after_look both c.in_ok-empty_block.ensures.step (λ tells need. record { needs = need; cut = λ d cut. cut; done = λ d ok done. done }) in
     fault_as (stepped_then first (acted (λ h. Freshens h block) (λ h. IsFresh h block c.in-Ok-next_count.count) last.same last.wrote last.cause last.changes last.done)
-    (λ tells can. empties _ _ _ _ (view_image c.args.v.now (g.met.N.Nor.sized _) tells) c.requires (longest _ _ _ _ _ can.tidy c.requires (one.told tells) c.longest_batch.ensures) can)
+    (λ tells can. empties _ _ _ _ (view_image c.args.v.now (g.met.N.Nor.sized _) tells) c.requires (longest _ _ _ _ _ can.tidy c.requires (one.looks.told tells) c.longest_batch.ensures) can)
     (λ tells can empty. freshens _ _ _ block c.in-Ok-next_count.count (view_image c.args.v.now (g.met.N.Nor.sized _) tells) (image_after g.met.N.Nor.sized first tells) c.requires
-    (rw (one.looks.same.geometry, one.looks.reads.bytes) at (two.told (one.looks.reads.told tells))) can empty))
+    (rw (one.looks.only.same.geometry, one.looks.only.reads.bytes) at (two.looks.told (one.looks.only.reads.told tells))) can empty))
 
 pub returns-in-Ok-fresh_block-clause-step : goal.returns-in-Ok-fresh_block-clause-step
 returns-in-Ok-fresh_block-clause-step g c =
     let one = c.in-Ok.ensures in
     let two = c.in-Ok-next_count.ensures in
-    let both = looks_then one.looks two.looks in
+    let both = looks_then one.looks.only two.looks.only in
     let block = c.args.block in
     let last = c.in-Ok-fresh_block.ensures in
     let first : Stepped stopped c.args.v.now c.empty_block.new.v (Ok tt) (emptying block c.longest_batch.result) = after_look both c.in_ok-empty_block.ensures.step (λ tells need. record { needs = need; cut = λ d cut. cut; done = λ d ok done. done }) in
     done_as (stepped_then first (acted (λ h. Freshens h block) (λ h. IsFresh h block c.in-Ok-next_count.count) last.same last.wrote last.cause last.changes last.done)
-    (λ tells can. empties _ _ _ _ (view_image c.args.v.now (g.met.N.Nor.sized _) tells) c.requires (longest _ _ _ _ _ can.tidy c.requires (one.told tells) c.longest_batch.ensures) can)
+    (λ tells can. empties _ _ _ _ (view_image c.args.v.now (g.met.N.Nor.sized _) tells) c.requires (longest _ _ _ _ _ can.tidy c.requires (one.looks.told tells) c.longest_batch.ensures) can)
     (λ tells can empty. freshens _ _ _ block c.in-Ok-next_count.count (view_image c.args.v.now (g.met.N.Nor.sized _) tells) (image_after g.met.N.Nor.sized first tells) c.requires
-    (rw (one.looks.same.geometry, one.looks.reads.bytes) at (two.told (one.looks.reads.told tells))) can empty))
+    (rw (one.looks.only.same.geometry, one.looks.only.reads.bytes) at (two.looks.told (one.looks.only.reads.told tells))) can empty))
 
 pub returns-in_default-clause-few : goal.returns-in_default-clause-few
 returns-in_default-clause-few g c = λ tells can. tt
@@ -67,9 +67,9 @@ returns-in-Ok-fresh_block-clause-few g c = λ tells can.
     let view = c.args.v.now in
     let block = c.args.block in
     let one = c.in-Ok.ensures in
-    let both = looks_then one.looks c.in-Ok-next_count.ensures.looks in
+    let both = looks_then one.looks.only c.in-Ok-next_count.ensures.looks.only in
     let all = rw (both.same.geometry, both.reads.bytes, both.reads.writes) at (c.in_ok-empty_block.ensures.few (both.reads.told tells)) in
     let moved = all (can_empty _ _ _ c.requires can) in
-    let most = longest_is _ _ block c.longest_batch.result _ can.tidy c.requires (one.told tells) c.longest_batch.ensures in
+    let most = longest_is _ _ block c.longest_batch.result _ can.tidy c.requires (one.looks.told tells) c.longest_batch.ensures in
     let last = rw (c.empty_block.ensures.step.framed.same.geometry, both.same.geometry) at c.in-Ok-fresh_block.ensures.few in
     omega (arith, moved, most, last)

@@ -24,13 +24,13 @@ loop-block-preserved g c =
     let geometry = c.args.v.now.geometry in
     let image = g.N.NorState.bytes c.args.v.now.nor.now in
     record {
-      looks = looks_then was.looks looked.looks;
+      looks = looks_then was.looks looked.looks.only;
       quick = λ counted. (looked.quick (was.looks.counted ∙ counted)).1 ∙ was.quick counted;
       entries_is = was.entries_is;
       end = was.end;
       few = rw c.both-all.ensures (most_more c.loop-block.block c.loop-block.all c.room_of-own.result was.few c.room_of-own.ensures.small);
       told = λ tells tidy.
-          let counts : AreCounts geometry image c.loop-block.block c.in_ok-counts.field-0 = rw (was.looks.same.geometry, was.looks.reads.bytes) at (looked.told (was.looks.reads.told tells)) in
+          let counts : AreCounts geometry image c.loop-block.block c.in_ok-counts.field-0 = rw (was.looks.same.geometry, was.looks.reads.bytes) at (looked.looks.told (was.looks.reads.told tells)) in
           let own : IsRoom geometry image c.loop-block.block c.room_of-own.result = rw (c.room_of-own.ensures.value, was.entries_is) (room_is geometry image c.loop-block.block c.in_ok-counts.field-0 counts tidy (omega (arith, was.end))) in
           rw c.both-all.ensures (summing_more geometry image c.loop-block.block _ c.loop-block.all c.room_of-own.result c.loop-block-test.true (was.told tells tidy) own);
     }

@@ -1,5 +1,5 @@
-use Rattle.std.proofs.Common.{◌∙◌, arith}
-use Rattle.fd_table.specs.Slots.{descriptors}
+use Rattle.std.proofs.Common.{◌∙◌, ap, sym, arith}
+use Rattle.fd_table.specs.Slots.{descriptors, held}
 use Rattle.fd_table.proofs.Held.{open_none, open_held, open_past, held_used, held_closed}
 use Rattle.fd_table.proofs.slots.open_slot.Goals as goal
 use Rattle.fd_table.proofs.slots.open_slot.Goals.{then-fd-eq0-via-then-fd-eq0, then-fd-eq0-via-else-fd-eq0+then-slots-from}
@@ -11,8 +11,8 @@ returns-then-fd-eq0-clause-closed c =
 
 pub returns-then-slot-clause-found : goal.returns-then-slot-clause-found
 unfolding descriptors
-returns-then-slot-clause-found c = open_held 65535 c.args.slots.now c.args.fd c.from-2.result _ c.from-2.ensures (omega arith) (omega arith) (omega arith) ∙ held_used _ c.if-slot.true
+returns-then-slot-clause-found c = open_held 65535 c.args.slots.now c.args.fd c.from-2.result c.index-slots-from.result c.from-2.ensures (omega arith) (omega arith) (omega arith) ∙ ap held (sym c.index-slots-from.is) ∙ held_used _ c.if-slot.true
 
 pub returns-else-slot-clause-closed : goal.returns-else-slot-clause-closed
 unfolding descriptors
-returns-else-slot-clause-closed c = open_held 65535 c.args.slots.now c.args.fd c.from-2.result _ c.from-2.ensures (omega arith) (omega arith) (omega arith) ∙ held_closed _ c.if-slot.false
+returns-else-slot-clause-closed c = open_held 65535 c.args.slots.now c.args.fd c.from-2.result c.index-slots-from.result c.from-2.ensures (omega arith) (omega arith) (omega arith) ∙ ap held (sym c.index-slots-from.is) ∙ held_closed _ c.if-slot.false

@@ -1,4 +1,4 @@
-use Rattle.std.proofs.Common.{◌≡◌, ◌≤◌, ◌+◌, ℕ, List, length, true, false, refl, ◌∙◌, ap, arith, subst, take, drop, bit_and}
+use Rattle.std.proofs.Common.{◌≡◌, ◌≤◌, ◌+◌, ℕ, List, length, true, false, refl, sym, ◌∙◌, ap, arith, subst, take, drop}
 use Rattle.std.proofs.lemmas.Result.{err_from_is_err_and}
 use Rattle.std.proofs.lemmas.List.{length-take, length-take-le, take-append-le}
 use Rattle.table_model.specs.declared.error.FsErr.TheVariants.{NotReadable}
@@ -13,7 +13,6 @@ use Rattle.table_model.specs.Descriptors.{put_at}
 use Rattle.fd_table.specs.Slots.{descriptors}
 use Rattle.file_calls.proofs.Going.{goes_refused, goes_moved}
 use Rattle.file_read.proofs.Going.{fault}
-use Rattle.file_calls.proofs.Openings.{is_set, is_clear}
 use Rattle.file_calls.proofs.Descriptors.{read_closed, goes_closed, file_at, whole_file, read_refused, read_gives, held_at, unread_by}
 use Rattle.file_calls.proofs.reading.read_in.Goals as goal
 
@@ -23,16 +22,16 @@ returns-in_err-slot-clause-goes g c =
     let bad = c.in_err-slot.ensures in
     rw (p.1, p.2, bad.error) (goes_closed (Reads c.args.fd c.args.count) c.args.fd c.args.v.now.wrote c.requires.fresh refl refl refl bad.closed (λ s none. read_closed c.args.v.now.geometry _ s c.args.fd c.args.count none))
 
-pub returns-then-slot-eq0-clause-goes : goal.returns-then-slot-eq0-clause-goes
-returns-then-slot-eq0-clause-goes g c =
-    let never : may_read c.in_ok-slot.slot.flags ≡ false = is_clear (bit_and c.in_ok-slot.slot.flags 8) c.if-slot-eq0.true in
+pub returns-then-not-may_read-clause-goes : goal.returns-then-not-may_read-clause-goes
+returns-then-not-may_read-clause-goes g c =
+    let never : may_read c.in_ok-slot.slot.flags ≡ false = sym c.may_read.ensures ∙ c.if-not-may_read.true in
     goes_refused {T = Unit {0}} (Reads c.args.fd c.args.count) NotReadable c.args.v.now.wrote c.requires.fresh (reads_none c.args.v.now.nor.now) refl refl refl (λ e. absurd (cc))
     (λ s here no_fault. read_refused c.args.fd c.in_ok-slot.slot c.in_ok-slot.ensures.found c.args.count never s here)
 
 pub returns-in-Ok-clause-goes : goal.returns-in-Ok-clause-goes
 returns-in-Ok-clause-goes g c =
     let read = c.in-Ok.ensures in
-    let may : may_read c.in_ok-slot.slot.flags ≡ true = is_set (bit_and c.in_ok-slot.slot.flags 8) c.if-slot-eq0.false in
+    let may : may_read c.in_ok-slot.slot.flags ≡ true = sym c.may_read.ensures ∙ c.if-not-may_read.false in
     let room = c.requires.room in
     let lent : length (take c.args.count c.args.into.now) ≡ c.args.count = length-take-le c.args.count c.args.into.now room in
     let kept : length c.read_at.new.into ≡ c.args.count = c.read_at.auto.into ∙ lent in

@@ -23,12 +23,12 @@ loop-block-preserved g c =
     let geometry = c.args.v.now.geometry in
     let image = g.N.NorState.bytes c.args.v.now.nor.now in
     record {
-      looks = looks_then was.looks looked.looks;
+      looks = looks_then was.looks looked.looks.only;
       entries_is = was.entries_is;
       end = was.end;
       few = rw c.with_block-space.ensures (within_more c.loop-block.block _ c.loop-block.space counted (omega arith) (omega arith) was.few);
       told = λ tells tidy.
-          let counts : AreCounts geometry image c.loop-block.block counted = rw (was.looks.same.geometry, was.looks.reads.bytes) at (looked.told (was.looks.reads.told tells)) in
+          let counts : AreCounts geometry image c.loop-block.block counted = rw (was.looks.same.geometry, was.looks.reads.bytes) at (looked.looks.told (was.looks.reads.told tells)) in
           rw (c.with_block-space.ensures, was.entries_is) (adding_more geometry image c.loop-block.block _ c.loop-block.space counted c.loop-block-test.true was.end tidy counts (was.told tells tidy));
     }
 

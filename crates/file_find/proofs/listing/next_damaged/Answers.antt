@@ -1,4 +1,4 @@
-use Rattle.std.proofs.Common.{◌≡◌, ◌∙◌, sym, subst, Some, None, Option, ℕ, arith, ap, take}
+use Rattle.std.proofs.Common.{◌≡◌, ◌∙◌, sym, subst, Some, None, Option, ℕ, arith}
 use Rattle.file_find.specs.Marks.{NextHead, cause_at}
 use Rattle.file_find.proofs.Stepping.{damage_more, damage_next, damage_last}
 use Rattle.flash_view.proofs.Looking.{looks_then, built_then}
@@ -22,7 +22,7 @@ ids-preserved g c =
     let head = c.in_ok-id.ensures in
     record {
       looks = looks_then (looks_then was.looks head.looks) c.in_ok-cause.ensures.looks;
-      built = built_then (looks_then was.looks head.looks) (built_then was.looks was.built _ (ap (take _) head.work)) _ c.in_ok-cause.ensures.built;
+      built = built_then (looks_then was.looks head.looks) (built_then was.looks was.built _ head.built) _ c.in_ok-cause.ensures.built;
       low = (let above = rw c.in-Some.is at head.above in omega (arith, above, was.low));
       told = λ tells.
           let geo = c.args.v.now.geometry in

@@ -1,4 +1,4 @@
-use Rattle.std.proofs.Common.{◌∙◌, sym, subst, Some, None, Option, ℕ, arith, ap, take}
+use Rattle.std.proofs.Common.{◌∙◌, sym, subst, Some, None, Option, ℕ, arith}
 use Rattle.file_find.specs.Marks.{NextHead}
 use Rattle.file_find.proofs.Holders.{listed_none, unlisted_some}
 use Rattle.file_find.proofs.Noting.{head_marked}
@@ -23,7 +23,7 @@ ids-preserved g c =
     let head = c.in_ok-id.ensures in
     record {
       looks = looks_then was.looks head.looks;
-      built = built_then was.looks was.built _ (ap (take _) head.work);
+      built = built_then was.looks was.built _ head.built;
       low = (let above = rw c.in-Some.is at head.above in omega (arith, above, was.low));
       told = λ tells.
           let geo = c.args.v.now.geometry in

@@ -1,10 +1,7 @@
-use Rattle.std.proofs.Common.{◌≡◌, ◌∙◌, sym, refl, false, None}
+use Rattle.std.proofs.Common.{◌≡◌, false}
 use Rattle.geometry.specs.Numbers.{page_count}
 use Rattle.file_find.specs.Ids.{is_noted}
-use Rattle.file_find.specs.Marks.{head_between}
-use Rattle.flash_view.proofs.Looking.{looks_then}
-use Rattle.flash_view.proofs.Spans.{told_along}
-use Rattle.file_find.proofs.Noting.{not_noted, found_page, found_neither}
+use Rattle.file_find.proofs.Noting.{not_noted}
 use Rattle.file_find.proofs.marks.marked_page.Goals as goal
 
 pub returns-then-not-is_noted-clause-told : goal.returns-then-not-is_noted-clause-told
@@ -12,19 +9,3 @@ returns-then-not-is_noted-clause-told g c = λ tells.
     let geo = c.args.v.now.geometry in
     let clear : is_noted c.args.marks.now (page_count geo) c.args.id ≡ false = cc (c.is_noted.ensures, c.from.ensures, c.pages-pages.ensures.count, c.if-not-is_noted.true) in
     not_noted geo (g.N.NorState.bytes c.args.v.now.nor.now) c.args.marks.now c.args.id (c.requires.marked tells) clear
-
-pub returns-in-Some-clause-told : goal.returns-in-Some-clause-told
-returns-in-Some-clause-told g c = λ tells.
-    found_page c.args.v.now.geometry (g.N.NorState.bytes c.args.v.now.nor.now) c.args.id _ _ c.in-Some.page (sym c.in-Some.is ∙ c.in_ok-page.ensures.told tells)
-
-pub returns-in-None-clause-looks : goal.returns-in-None-clause-looks
-returns-in-None-clause-looks g c = looks_then c.in_ok-page.ensures.looks c.marked_between-in-None.ensures.looks
-
-pub returns-in-None-clause-told : goal.returns-in-None-clause-told
-returns-in-None-clause-told g c = λ tells.
-    let geo = c.args.v.now.geometry in
-    let image = g.N.NorState.bytes c.args.v.now.nor.now in
-    let first = c.in_ok-page.ensures in
-    let behind : None ≡ head_between geo image c.args.id c.min-near.result (page_count geo) = rw c.pages-pages.ensures.count at (sym c.in-None.is ∙ first.told tells) in
-    let rest = rw (first.looks.same.geometry, first.looks.reads.bytes) at (c.marked_between-in-None.ensures.told (first.looks.reads.told tells)) in
-    told_along _ _ _ rest (found_neither geo image c.args.id c.min-near.result (head_between geo image c.args.id 0 c.min-near.result) behind refl)

@@ -1,7 +1,7 @@
 use Rattle.std.proofs.Common.{◌≡◌, ◌∙◌, arith, sym}
 use Rattle.image_model.specs.Live.{live_at, own}
 use Rattle.image_model.specs.Files.{index_page}
-use Rattle.flash_view.proofs.Looking.{looks_then}
+use Rattle.flash_view.proofs.Looking.{looks_then, built_then}
 use Rattle.file_find.proofs.Noting.{no_heads_more, next_here, next_nowhere}
 use Rattle.file_find.proofs.marks.next_marked.Goals as goal
 
@@ -24,7 +24,7 @@ loop-id-preserved g c =
       end = was.end;
       low = omega (arith, was.low);
       looks = looks_then was.looks looked.looks;
-      work = looked.work ∙ was.work;
+      built = built_then was.looks was.built _ looked.built;
       told = λ tells.
           let geo = c.args.v.now.geometry in
           let image = g.N.NorState.bytes c.args.v.now.nor.now in

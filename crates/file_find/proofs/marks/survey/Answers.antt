@@ -4,19 +4,21 @@ use Rattle.flash_view.specs.Walk.{IsNextLive, NextLive}
 use Rattle.flash_view.proofs.Looking.{looks_then, looks_none, built_then}
 use Rattle.flash_view.proofs.Passed.{passed_head}
 use Rattle.file_find.proofs.Bits.{none_set}
+use Rattle.file_find.proofs.Naming.{names_start, names_skip}
 use Rattle.file_find.proofs.Noting.{surveyed_none, surveyed_skip, surveyed_all, found_told}
 use Rattle.file_find.proofs.marks.survey.Goals as goal
 
 pub heads-init : goal.heads-init
 heads-init g c =
     let view = c.args.v.now in
-    let zeros : (k : ℕ) → k < page_count view.geometry + 4096 → slice_index c.clear.new.marks k ≡ 0 = rw c.pages.ensures.count at c.clear.ensures in
+    let zeros : (k : ℕ) → k < page_count view.geometry + 8192 → slice_index c.clear.new.marks k ≡ 0 = rw c.pages.ensures.count at c.clear.ensures in
     record {
       most = omega arith;
       looks = looks_none view;
       built = refl;
       zeros = λ p after before. zeros p (omega (arith, before));
-      told = λ tells. surveyed_none view.geometry (g.N.NorState.bytes view.nor.now) c.clear.new.marks (none_set c.clear.new.marks (page_count view.geometry) (λ k after before. zeros k before));
+      told = λ tells. surveyed_none view.geometry (g.N.NorState.bytes view.nor.now) c.clear.new.marks (none_set c.clear.new.marks (page_count view.geometry) (λ k after before. zeros k (omega (arith, before))));
+      named = λ tells. names_start view.geometry (g.N.NorState.bytes view.nor.now) c.clear.new.marks;
     }
 
 pub heads-smaller : goal.heads-smaller
@@ -42,7 +44,16 @@ heads-preserved g c =
           let next : IsNextLive geo image c.heads.at 0x8000 0xFFFE c.in-Some.page c.in-Some.head = rw (was.looks.same.geometry, was.looks.reads.bytes, c.in-Some.is) at (found.told (was.looks.reads.told tells)) in
           let marked = rw (looked.same.geometry, looked.reads.bytes) at (turn.told (looked.reads.told tells)) in
           let to = surveyed_skip geo image c.heads.marks c.heads.at c.in-Some.page inside.0 (omega (arith, inside.1.below)) (λ q after before. passed_head geo image q (next.passed q after before)) was.zeros (was.told tells) in
-          rw c.from-at.ensures (marked (c.headed.ensures ∙ found_told geo image c.heads.at c.in-Some.page c.in-Some.head next) to);
+          let named = names_skip geo image c.heads.marks c.heads.at c.in-Some.page (λ q after before. passed_head geo image q (next.passed q after before)) (was.named tells) in
+          rw c.from-at.ensures (marked (c.headed.ensures ∙ found_told geo image c.heads.at c.in-Some.page c.in-Some.head next) to named);
+      named = λ tells.
+          let geo = c.args.v.now.geometry in
+          let image = g.N.NorState.bytes c.args.v.now.nor.now in
+          let next : IsNextLive geo image c.heads.at 0x8000 0xFFFE c.in-Some.page c.in-Some.head = rw (was.looks.same.geometry, was.looks.reads.bytes, c.in-Some.is) at (found.told (was.looks.reads.told tells)) in
+          let more = rw (looked.same.geometry, looked.reads.bytes) at (turn.names (looked.reads.told tells)) in
+          let to = surveyed_skip geo image c.heads.marks c.heads.at c.in-Some.page inside.0 (omega (arith, inside.1.below)) (λ q after before. passed_head geo image q (next.passed q after before)) was.zeros (was.told tells) in
+          let named = names_skip geo image c.heads.marks c.heads.at c.in-Some.page (λ q after before. passed_head geo image q (next.passed q after before)) (was.named tells) in
+          rw c.from-at.ensures (more (c.headed.ensures ∙ found_told geo image c.heads.at c.in-Some.page c.in-Some.head next) to named);
     }
 
 pub returns-clause-told : goal.returns-clause-told

@@ -10,10 +10,10 @@ returns-in-Err g c = λ f. let seen = c.in-Err.ensures in looked seen.looks (λ 
 pub returns-in-Ok-None : goal.returns-in-Ok-None
 returns-in-Ok-None g c = λ f.
     let seen = c.in-Ok-None.ensures in
-    looked seen.looks (λ e. absurd (cc)) c.missing.ensures (λ tells can. (append_stays _ _ _ _ _ can, absurd (home_there _ _ _ _ _ (view_image c.args.v.now (g.met.N.Nor.sized _) tells) can (rw c.in-Ok-None.field-0-is at (seen.told tells)))))
+    looked seen.looks (λ e. absurd (cc)) c.missing.ensures (λ tells can. (append_stays _ _ _ _ _ can, absurd (home_there _ _ _ _ _ (view_image c.args.v.now (g.met.N.Nor.sized _) tells) can (rw c.in-Ok-None.field-0-is at (seen.told tells can.tidy)))))
 
 pub returns-in-Ok-Some : goal.returns-in-Ok-Some
 returns-in-Ok-Some g c = λ f.
     let seen = c.in-Ok-Some.ensures in
     after_look {last = appending_at c.args.id c.in-Ok-Some.found.header c.in-Ok-Some.found.size c.args.from.now f} seen.looks (c.append_found.ensures f)
-    (λ tells can. let home = rw c.in-Ok-Some.field-0-is at (seen.told tells) in append_at _ _ _ _ _ (view_image c.args.v.now (g.met.N.Nor.sized _) tells) can _ _ home.0 home.1)
+    (λ tells can. let home = rw c.in-Ok-Some.field-0-is at (seen.told tells can.tidy) in append_at _ _ _ _ _ (view_image c.args.v.now (g.met.N.Nor.sized _) tells) can _ _ home.0 home.1)

@@ -6,27 +6,27 @@ use Rattle.file_write.proofs.DataBeside.{one_found, add_begins, add_ends, add_at
 use Rattle.file_write.proofs.beside.add_index.Goals as goal
 
 pub returns-in-Err : goal.returns-in-Err
-returns-in-Err g c = let seen = c.in-Err.ensures in looked seen.looks (λ e. seen.cause) tt (λ tells can. (inl refl, refl))
+returns-in-Err g c = let seen = c.in-Err.ensures in looked seen.looks.only (λ e. seen.looks.cause) tt (λ tells can. (inl refl, refl))
 
 pub returns-in-Ok-None : goal.returns-in-Ok-None
 returns-in-Ok-None g c =
     let seen = c.in-Ok-None.ensures in
-    looked seen.looks (λ e. absurd (cc)) c.missing.ensures (λ tells can. (inl refl, absurd (one_found _ _ _ can (rw c.in-Ok-None.field-0-is at (seen.told tells can.clear.tells)))))
+    looked seen.looks.only (λ e. absurd (cc)) c.missing.ensures (λ tells can. (inl refl, absurd (one_found _ _ _ can (rw c.in-Ok-None.field-0-is at (seen.looks.told tells can.clear.tells)))))
 
 pub returns-in-Err-put_index : goal.returns-in-Err-put_index
 returns-in-Err-put_index g c =
     let seen = c.in-Ok-Some.ensures in
     let to = c.in-Ok-Some.to in
     let holds = is_further c.args.id c.args.span c.args.data_span c.args.target in
-    after_look {last = adding_at to Index holds} seen.looks
+    after_look {last = adding_at to Index holds} seen.looks.only
     (fails_as {first = putting_one to holds} c.in-Err-put_index.ensures (λ same. refl) (λ same. refl) tt (λ tells need. add_begins _ Index _ to holds need))
-    (λ tells can. add_at _ Index _ to holds (view_image c.args.v.now (g.met.N.Nor.sized _) tells) (rw c.in-Ok-Some.field-0-is at (seen.told tells can.clear.tells)))
+    (λ tells can. add_at _ Index _ to holds (view_image c.args.v.now (g.met.N.Nor.sized _) tells) (rw c.in-Ok-Some.field-0-is at (seen.looks.told tells can.clear.tells)))
 
 pub returns-in-Ok : goal.returns-in-Ok
 returns-in-Ok g c =
     let seen = c.in-Ok-Some.ensures in
     let to = c.in-Ok-Some.to in
     let holds = is_further c.args.id c.args.span c.args.data_span c.args.target in
-    after_look {last = adding_at to Index holds} seen.looks
+    after_look {last = adding_at to Index holds} seen.looks.only
     (ends_as {first = putting_one to holds} c.in-Ok.ensures (λ tells need. add_begins _ Index _ to holds need) (λ tells need done. add_ends _ Index _ to holds _ need done))
-    (λ tells can. add_at _ Index _ to holds (view_image c.args.v.now (g.met.N.Nor.sized _) tells) (rw c.in-Ok-Some.field-0-is at (seen.told tells can.clear.tells)))
+    (λ tells can. add_at _ Index _ to holds (view_image c.args.v.now (g.met.N.Nor.sized _) tells) (rw c.in-Ok-Some.field-0-is at (seen.looks.told tells can.clear.tells)))

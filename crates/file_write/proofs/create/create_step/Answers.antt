@@ -5,19 +5,19 @@ use Rattle.file_write.proofs.Finding.{stays, found_one, by_page}
 use Rattle.file_write.proofs.create.create_step.Goals as goal
 
 pub returns-in-Err : goal.returns-in-Err
-returns-in-Err g c = let seen = c.in-Err.ensures in looked seen.looks (λ e. seen.cause) tt (λ tells can. (stays _ _ _ _ can, refl))
+returns-in-Err g c = let seen = c.in-Err.ensures in looked seen.looks.only (λ e. seen.looks.cause) tt (λ tells can. (stays _ _ _ _ can, refl))
 
 pub returns-in-Ok-None : goal.returns-in-Ok-None
 returns-in-Ok-None g c =
     let seen = c.in-Ok-None.ensures in
-    looked seen.looks (λ e. absurd (cc)) c.missing.ensures (λ tells can. (stays _ _ _ _ can, absurd (found_one _ _ _ _ can (rw c.in-Ok-None.field-0-is at (seen.told tells (tidy_tells_free _ _ can.tidy))))))
+    looked seen.looks.only (λ e. absurd (cc)) c.missing.ensures (λ tells can. (stays _ _ _ _ can, absurd (found_one _ _ _ _ can (rw c.in-Ok-None.field-0-is at (seen.looks.told tells (tidy_tells_free _ _ can.tidy))))))
 
 pub returns-in-Err-put_header_page : goal.returns-in-Err-put_header_page
 returns-in-Err-put_header_page g c =
     let seen = c.in-Ok-Some.ensures in
-    fault_as (after_look seen.looks c.in-Err-put_header_page.ensures (λ tells can. by_page _ _ _ _ _ (view_image c.args.v.now (g.met.N.Nor.sized _) tells) can (rw c.in-Ok-Some.field-0-is at (seen.told tells (tidy_tells_free _ _ can.tidy)))))
+    fault_as (after_look seen.looks.only c.in-Err-put_header_page.ensures (λ tells can. by_page _ _ _ _ _ (view_image c.args.v.now (g.met.N.Nor.sized _) tells) can (rw c.in-Ok-Some.field-0-is at (seen.looks.told tells (tidy_tells_free _ _ can.tidy)))))
 
 pub returns-in-Ok : goal.returns-in-Ok
 returns-in-Ok g c =
     let seen = c.in-Ok-Some.ensures in
-    done_as (after_look seen.looks c.in-Ok.ensures (λ tells can. by_page _ _ _ _ _ (view_image c.args.v.now (g.met.N.Nor.sized _) tells) can (rw c.in-Ok-Some.field-0-is at (seen.told tells (tidy_tells_free _ _ can.tidy)))))
+    done_as (after_look seen.looks.only c.in-Ok.ensures (λ tells can. by_page _ _ _ _ _ (view_image c.args.v.now (g.met.N.Nor.sized _) tells) can (rw c.in-Ok-Some.field-0-is at (seen.looks.told tells (tidy_tells_free _ _ can.tidy)))))

@@ -5,24 +5,24 @@ use Rattle.file_write.proofs.IndexRefreshed.{refresh_clear, place_found, refresh
 use Rattle.file_write.proofs.readying.refresh.Goals as goal
 
 pub returns-in-Err : goal.returns-in-Err
-returns-in-Err g c = λ size f. let seen = c.in-Err.ensures in looked seen.looks (λ e. seen.cause) tt (λ tells can. (ready_stays _ _ _ can.at.at.can, refl))
+returns-in-Err g c = λ size f. let seen = c.in-Err.ensures in looked seen.looks.only (λ e. seen.looks.cause) tt (λ tells can. (ready_stays _ _ _ can.at.at.can, refl))
 
 pub returns-in-Ok-None : goal.returns-in-Ok-None
 returns-in-Ok-None g c = λ size f.
     let seen = c.in-Ok-None.ensures in
-    looked seen.looks (λ e. absurd (cc)) c.missing.ensures
-    (λ tells can. (ready_stays _ _ _ can.at.at.can, absurd (place_found _ _ _ size _ f can (rw c.in-Ok-None.field-0-is at (seen.told tells (refresh_clear _ _ _ size _ f can).tells)))))
+    looked seen.looks.only (λ e. absurd (cc)) c.missing.ensures
+    (λ tells can. (ready_stays _ _ _ can.at.at.can, absurd (place_found _ _ _ size _ f can (rw c.in-Ok-None.field-0-is at (seen.looks.told tells (refresh_clear _ _ _ size _ f can).tells)))))
 
 pub returns-in-Err-refresh_to : goal.returns-in-Err-refresh_to
 returns-in-Err-refresh_to g c = λ size f.
     let seen = c.in-Ok-Some.ensures in
     fault_as
-    (after_look seen.looks (c.in-Err-refresh_to.ensures size f)
-    (λ tells can. refresh_place _ _ _ size _ f can c.in-Ok-Some.to (rw c.in-Ok-Some.field-0-is at (seen.told tells (refresh_clear _ _ _ size _ f can).tells))))
+    (after_look seen.looks.only (c.in-Err-refresh_to.ensures size f)
+    (λ tells can. refresh_place _ _ _ size _ f can c.in-Ok-Some.to (rw c.in-Ok-Some.field-0-is at (seen.looks.told tells (refresh_clear _ _ _ size _ f can).tells))))
 
 pub returns-in-Ok : goal.returns-in-Ok
 returns-in-Ok g c = λ size f.
     let seen = c.in-Ok-Some.ensures in
     done_as
-    (after_look seen.looks (c.in-Ok.ensures size f)
-    (λ tells can. refresh_place _ _ _ size _ f can c.in-Ok-Some.to (rw c.in-Ok-Some.field-0-is at (seen.told tells (refresh_clear _ _ _ size _ f can).tells))))
+    (after_look seen.looks.only (c.in-Ok.ensures size f)
+    (λ tells can. refresh_place _ _ _ size _ f can c.in-Ok-Some.to (rw c.in-Ok-Some.field-0-is at (seen.looks.told tells (refresh_clear _ _ _ size _ f can).tells))))

@@ -4,24 +4,24 @@ use Rattle.file_write.proofs.IndexNamed.{copy_clear, copy_stays, index_found, in
 use Rattle.file_write.proofs.relinking.rename.Goals as goal
 
 pub returns-in-Err : goal.returns-in-Err
-returns-in-Err g c = λ was bytes f. let seen = c.in-Err.ensures in looked seen.looks (λ e. seen.cause) tt (λ tells has. (copy_stays _ was _ _ _ _ _ _ has, refl))
+returns-in-Err g c = λ was bytes f. let seen = c.in-Err.ensures in looked seen.looks.only (λ e. seen.looks.cause) tt (λ tells has. (copy_stays _ was _ _ _ _ _ _ has, refl))
 
 pub returns-in-Ok-None : goal.returns-in-Ok-None
 returns-in-Ok-None g c = λ was bytes f.
     let seen = c.in-Ok-None.ensures in
-    looked seen.looks (λ e. absurd (cc)) c.missing.ensures
-    (λ tells has. (copy_stays _ was _ _ _ _ _ _ has, absurd (index_found _ was _ _ _ _ _ _ has (rw c.in-Ok-None.field-0-is at (seen.told tells (copy_clear _ was _ _ _ _ _ _ has).tells)))))
+    looked seen.looks.only (λ e. absurd (cc)) c.missing.ensures
+    (λ tells has. (copy_stays _ was _ _ _ _ _ _ has, absurd (index_found _ was _ _ _ _ _ _ has (rw c.in-Ok-None.field-0-is at (seen.looks.told tells (copy_clear _ was _ _ _ _ _ _ has).tells)))))
 
 pub returns-in-Err-rename_to : goal.returns-in-Err-rename_to
 returns-in-Err-rename_to g c = λ was bytes f.
     let seen = c.in-Ok-Some.ensures in
     fault_as
-    (after_look seen.looks (c.in-Err-rename_to.ensures was bytes f)
-    (λ tells has. record { needs = index_place _ was _ _ _ _ _ _ has c.in-Ok-Some.at (rw c.in-Ok-Some.field-0-is at (seen.told tells (copy_clear _ was _ _ _ _ _ _ has).tells)); cut = λ d cut. cut; done = λ d ok done. done }))
+    (after_look seen.looks.only (c.in-Err-rename_to.ensures was bytes f)
+    (λ tells has. record { needs = index_place _ was _ _ _ _ _ _ has c.in-Ok-Some.at (rw c.in-Ok-Some.field-0-is at (seen.looks.told tells (copy_clear _ was _ _ _ _ _ _ has).tells)); cut = λ d cut. cut; done = λ d ok done. done }))
 
 pub returns-in-Ok : goal.returns-in-Ok
 returns-in-Ok g c = λ was bytes f.
     let seen = c.in-Ok-Some.ensures in
     done_as
-    (after_look seen.looks (c.in-Ok.ensures was bytes f)
-    (λ tells has. record { needs = index_place _ was _ _ _ _ _ _ has c.in-Ok-Some.at (rw c.in-Ok-Some.field-0-is at (seen.told tells (copy_clear _ was _ _ _ _ _ _ has).tells)); cut = λ d cut. cut; done = λ d ok done. done }))
+    (after_look seen.looks.only (c.in-Ok.ensures was bytes f)
+    (λ tells has. record { needs = index_place _ was _ _ _ _ _ _ has c.in-Ok-Some.at (rw c.in-Ok-Some.field-0-is at (seen.looks.told tells (copy_clear _ was _ _ _ _ _ _ has).tells)); cut = λ d cut. cut; done = λ d ok done. done }))

@@ -4,6 +4,7 @@ use Rattle.geometry.proofs.Bounds.{few_entries, few_in_block}
 use Rattle.image_model.specs.Live.{live_at}
 use Rattle.flash_view.specs.Walk.{IsNextSlot, NextSlot}
 use Rattle.flash_view.proofs.Looking.{looks_then}
+use Rattle.flash_view.proofs.Telling.{looked, failed}
 use Rattle.flash_view.specs.Counts.{sort_of_page, more_free}
 use Rattle.free_search.proofs.Slots.{found_number}
 use Rattle.free_search.proofs.Counting.{counting_start, counting_on, words_on, counting_last, total_more, total_free}
@@ -49,10 +50,19 @@ used-preserved g c =
           words_on geometry image c.args.block c.used.at c.in-Some.i c.in-Some.entry next (was.words tells);
     }
 
-pub returns-clause-told : goal.returns-clause-told
-returns-clause-told g c = λ tells.
-    let was = c.used.invariant in
-    let geometry = c.args.v.now.geometry in
-    let image = g.N.NorState.bytes c.args.v.now.nor.now in
-    let none : NextSlot geometry image c.args.block c.used.at 0 0xFFFE None = subst (λ (o : Option (ℕ × ℕ)). NextSlot geometry image c.args.block c.used.at 0 0xFFFE o) c.in_default.is (rw (was.looks.same.geometry, was.looks.reads.bytes) at (c.in_ok-i.ensures.told (was.looks.reads.told tells))) in
-    rw (c.with_free-2.ensures, c.entries.ensures.count) (counting_last geometry image c.args.block c.used.at c.used.counts was.most none (was.words tells) (was.told tells))
+pub returns-in_err-sort : goal.returns-in_err-sort
+returns-in_err-sort g c =
+    let was = c.used.invariant.looks in
+    let found = c.in_ok-i.ensures.looks in
+    let sort = c.in_err-sort.ensures in
+    record { looks = failed (looks_then was found) sort.looks sort.cause c.from_residual-in_err-sort.ensures.0 }
+
+pub returns : goal.returns
+returns g c = record {
+  looks = looked (looks_then c.used.invariant.looks c.in_ok-i.ensures.looks) (λ tells.
+      let was = c.used.invariant in
+      let geometry = c.args.v.now.geometry in
+      let image = g.N.NorState.bytes c.args.v.now.nor.now in
+      let none : NextSlot geometry image c.args.block c.used.at 0 0xFFFE None = subst (λ (o : Option (ℕ × ℕ)). NextSlot geometry image c.args.block c.used.at 0 0xFFFE o) c.in_default.is (rw (was.looks.same.geometry, was.looks.reads.bytes) at (c.in_ok-i.ensures.told (was.looks.reads.told tells))) in
+      rw (c.with_free-2.ensures, c.entries.ensures.count) (counting_last geometry image c.args.block c.used.at c.used.counts was.most none (was.words tells) (was.told tells)));
+}

@@ -4,6 +4,7 @@ use Rattle.page_layout.specs.declared.header.PageHeader.{PageHeader}
 use Rattle.flash_view.specs.Places.{IsEntryPage}
 use Rattle.flash_view.specs.Walk.{IsNextLive, NextLive}
 use Rattle.flash_view.proofs.Looking.{looks_then}
+use Rattle.flash_view.proofs.Telling.{looked}
 use Rattle.free_search.specs.Ids.{bits_at, head_id, Notes}
 use Rattle.free_search.proofs.Bits.{noted_none, noted_on, noted_last, noted_all}
 use Rattle.free_search.proofs.ids.free_id.Goals as goal
@@ -33,8 +34,8 @@ heads-preserved g c =
           rw c.from-at.ensures (noted_on geometry image _ _ c.heads.at c.in-Some.page c.in-Some.head inside.0 next (was.told tells) notes);
     }
 
-pub returns-clause-told : goal.returns-clause-told
-returns-clause-told g c = λ tells.
+pub returns-clause-looks : goal.returns-clause-looks
+returns-clause-looks g c = looked (looks_then c.heads.invariant.looks c.in_ok-page.ensures.looks) (λ tells.
     let was = c.heads.invariant in
     let found = c.in_ok-page.ensures in
     let two = looks_then was.looks found.looks in
@@ -42,4 +43,4 @@ returns-clause-told g c = λ tells.
     let image = g.N.NorState.bytes c.args.v.now.nor.now in
     let last : NextLive geometry image c.heads.at 0x8000 0xFFFE None = subst (λ (o : Option (ℕ × PageHeader)). NextLive geometry image c.heads.at 0x8000 0xFFFE o) c.in_default.is (rw (was.looks.same.geometry, was.looks.reads.bytes) at (found.told (was.looks.reads.told tells))) in
     let all = rw (two.same.geometry, found.work) at c.least_unnoted.ensures.first in
-    all ∙ noted_all geometry image _ (noted_last geometry image _ c.heads.at was.most last (was.told tells))
+    all ∙ noted_all geometry image _ (noted_last geometry image _ c.heads.at was.most last (was.told tells)))

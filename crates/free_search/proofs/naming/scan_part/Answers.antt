@@ -2,6 +2,7 @@ use Rattle.std.proofs.Common.{◌≡◌, ◌-◌, ◌*◌, ◌/◌, arith, ap, �
 use Rattle.std.proofs.lemmas.List.{length-replicate}
 use Rattle.geometry.proofs.Bounds.{few_pages}
 use Rattle.flash_view.proofs.SlotHeld.{lookup_page_below}
+use Rattle.flash_view.proofs.Telling.{looked_then}
 use Rattle.free_search.specs.Naming.{AreSlots}
 use Rattle.free_search.proofs.Scanning.{are_slots}
 use Rattle.free_search.proofs.naming.scan_part.Goals as goal
@@ -12,15 +13,17 @@ overflow_cast-page g c = rw (c.from.ensures, c.per_block.ensures.count) (omega (
 pub read_in-requires-clause-page : goal.read_in-requires-clause-page
 read_in-requires-clause-page g c = rw (c.from.ensures, c.per_block.ensures.count) (lookup_page_below c.args.v.now.geometry c.args.block c.args.k c.requires.block c.requires.lookup)
 
-pub returns-clause-told : goal.returns-clause-told
-returns-clause-told g c = λ tells magic was.
-    let r = c.in_ok-read_in.ensures in
-    let geometry = c.args.v.now.geometry in
-    let image = g.N.NorState.bytes c.args.v.now.nor.now in
-    let whole : length c.read_in.new.into ≡ 2 * c.args.count = c.read_in.auto.into ∙ length-take-le (2 * c.args.count) (replicate 256 0) (omega (arith, c.requires.part, length-replicate {A = ℕ} 256 0)) in
-    let half : length c.read_in.new.into / 2 ≡ c.args.count = omega (arith, whole) in
-    let are = are_slots geometry image c.read_in.new.into c.args.block c.args.k c.args.start c.args.count (2 * (c.args.start - c.args.k * (c.page.result / 2))) _ magic r.small c.requires.low c.requires.high
-    (ap (λ n. 2 * (c.args.start - c.args.k * (n / 2))) c.page.ensures) (omega (arith, c.requires.part)) (rw (c.from.ensures, c.per_block.ensures.count) at (r.told tells)) in
-    let all : AreSlots geometry image c.read_in.new.into c.args.block c.args.start (length c.read_in.new.into / 2) = rw half are in
-    let told = (rw (r.looks.same.geometry, r.looks.reads.bytes, r.work) at (c.scan_slots.ensures.told (r.looks.reads.told tells))) all was in
-    rw half at told
+pub returns : goal.returns
+returns g c = record {
+  looks = looked_then c.in_ok-read_in.ensures.looks c.scan_slots.ensures.looks (λ tells found slots magic was.
+      let r = c.in_ok-read_in.ensures in
+      let geometry = c.args.v.now.geometry in
+      let image = g.N.NorState.bytes c.args.v.now.nor.now in
+      let whole : length c.read_in.new.into ≡ 2 * c.args.count = c.read_in.auto.into ∙ length-take-le (2 * c.args.count) (replicate 256 0) (omega (arith, c.requires.part, length-replicate {A = ℕ} 256 0)) in
+      let half : length c.read_in.new.into / 2 ≡ c.args.count = omega (arith, whole) in
+      let are = are_slots geometry image c.read_in.new.into c.args.block c.args.k c.args.start c.args.count (2 * (c.args.start - c.args.k * (c.page.result / 2))) _ magic r.small c.requires.low c.requires.high
+      (ap (λ n. 2 * (c.args.start - c.args.k * (n / 2))) c.page.ensures) (omega (arith, c.requires.part)) (rw (c.from.ensures, c.per_block.ensures.count) at (r.told tells)) in
+      let all : AreSlots geometry image c.read_in.new.into c.args.block c.args.start (length c.read_in.new.into / 2) = rw half are in
+      let told = (rw (r.looks.same.geometry, r.looks.reads.bytes, r.work) at slots) all was in
+      rw half at told);
+}

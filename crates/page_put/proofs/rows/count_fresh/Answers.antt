@@ -10,5 +10,5 @@ invariant_of-v-2-clause-table g c = λ on.
       room = rw p.counts.same.geometry (omega (arith, c.requires.room stood, p.size));
       told = λ tells.
           rw (p.counts.same.geometry, p.device) (table_freshens c.args.v.now.geometry c.args.block c.args.erases c.args.v.now.rows.now c.put_row.new.self.rows.now _ c.requires.block (c.requires.was stood (rw p.device at tells))
-          (p.row ∙ rw c.entries.ensures.count refl) p.others);
+          (p.row ∙ rw c.entries.ensures.count refl) p.others p.summed);
     }

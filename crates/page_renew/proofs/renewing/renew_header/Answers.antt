@@ -1,17 +1,17 @@
 use Rattle.std.proofs.Common.{refl, arith}
-use Rattle.flash_view.proofs.Stepped.{looked, after_look}
+use Rattle.flash_view.proofs.Stepped.{looked, look_faults, after_look}
 use Rattle.page_renew.proofs.HeaderRenewed.{edit_stays, no_home, from_home}
 use Rattle.page_renew.proofs.renewing.renew_header.Goals as goal
 
-pub returns-in-Err : goal.returns-in-Err
-returns-in-Err g c = λ f. let seen = c.in-Err.ensures in looked seen.looks (λ e. seen.cause) tt (λ tells can. (edit_stays _ _ _ _ _ can, refl))
+pub returns-in_err-header : goal.returns-in_err-header
+returns-in_err-header g c = λ f. let seen = c.in_err-header.ensures in look_faults seen.looks seen.cause c.from_residual.ensures.0 c.from_residual.ensures.1 (λ tells can. edit_stays _ _ _ _ _ can)
 
-pub returns-in-Ok-None : goal.returns-in-Ok-None
-returns-in-Ok-None g c = λ f.
-    let seen = c.in-Ok-None.ensures in
-    looked seen.looks (λ e. absurd (cc)) (c.no_page.ensures.apart (λ e. absurd (omega (arith, e)))) (λ tells can. (edit_stays _ _ _ _ _ can, absurd (no_home _ _ _ _ _ can (rw c.in-Ok-None.field-0-is at (seen.told tells)))))
+pub returns-in-None : goal.returns-in-None
+returns-in-None g c = λ f.
+    let seen = c.in_ok-header.ensures in
+    looked seen.looks (λ e. absurd (cc)) (c.no_page.ensures.apart (λ e. absurd (omega (arith, e)))) (λ tells can. (edit_stays _ _ _ _ _ can, absurd (no_home _ _ _ _ _ can (rw c.in-None.is at (seen.told tells can.tidy)))))
 
-pub returns-in-Ok-Some : goal.returns-in-Ok-Some
-returns-in-Ok-Some g c = λ f.
-    let seen = c.in-Ok-Some.ensures in
-    after_look seen.looks (c.renew_from.ensures f) (λ tells can. from_home _ _ _ _ _ _ can refl (rw c.in-Ok-Some.field-0-is at (seen.told tells)).0)
+pub returns-in-Some : goal.returns-in-Some
+returns-in-Some g c = λ f.
+    let seen = c.in_ok-header.ensures in
+    after_look seen.looks (c.renew_from.ensures f) (λ tells can. from_home _ _ _ _ _ _ can refl (rw c.in-Some.is at (seen.told tells can.tidy)).0)

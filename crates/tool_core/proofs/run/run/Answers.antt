@@ -17,11 +17,11 @@ returns-clause-behind g c =
     behind_as here (search rules)
 
 pub returns-clause-ends : goal.returns-clause-ends
-returns-clause-ends g c = λ script tells roomy.
+returns-clause-ends g c = λ script tells.
     let made = c.new-volume.ensures in
     let ends = c.run_volume.ensures.ends _ made.closed in
     let here = rw (made.geometry, made.nor) at ends in
-    runs_as _ _ (search rules) (here script tells roomy)
+    runs_as _ _ (search rules) (here script tells)
 
 pub returns-clause-begins : goal.returns-clause-begins
 returns-clause-begins g c = λ tells.

@@ -2,16 +2,15 @@ use Rattle.std.proofs.Common.{◌∙◌, ap, arith, ⊎_elim, Some}
 use Rattle.volume.specs.Holds.{memory}
 use Rattle.tool_core.proofs.Beginning.{memory_begun, begun_ends, early_ends, early_refused}
 use Rattle.tool_core.proofs.Refusals.{not_both}
-use Rattle.tool_core.proofs.Rooms.{find_room}
 use Rattle.tool_core.proofs.Settling.{works_settled}
 use Rattle.tool_core.proofs.Working.{early_images, begun_images}
 use Rattle.tool_core.proofs.run.run_volume.Goals as goal
 
 pub returns-in-Err-clause-ends : goal.returns-in-Err-clause-ends
-returns-in-Err-clause-ends g c = λ slots closed script tells roomy. early_ends slots (g.S.Source.left c.args.script.now) (g.S.Source.left c.args.script.now) c.in-Err.ending c.begin.ensures.changes tells (c.in-Err.ensures.stops tells)
+returns-in-Err-clause-ends g c = λ slots closed script tells. early_ends slots (g.S.Source.left c.args.script.now) (g.S.Source.left c.args.script.now) c.in-Err.ending c.begin.ensures.changes tells (c.in-Err.ensures.stops tells)
 
 pub returns-in-Ok-clause-ends : goal.returns-in-Ok-clause-ends
-returns-in-Ok-clause-ends g c = λ slots closed script tells roomy. begun_ends (memory c.settle.new.volume) slots (g.S.Source.left c.args.script.now) (g.S.Source.left c.run_script-ending.new.script) c.run_script-ending.result c.settle.result (memory_begun c.args.volume.now c.begin.new.volume slots c.in-Ok.ensures.closed closed) c.begin.ensures.changes tells (c.in-Ok.ensures.begun tells) (find_room _ _ _ roomy) c.begin.new.volume.geometry c.run_script-ending.new.volume.geometry c.begin.ensures.same.geometry (c.run_script-ending.ensures.same.geometry ∙ c.begin.ensures.same.geometry) (λ m stands finds. c.run_script-ending.ensures.ends m script stands finds) c.settle.ensures.settles
+returns-in-Ok-clause-ends g c = λ slots closed script tells. begun_ends (memory c.settle.new.volume) slots (g.S.Source.left c.args.script.now) (g.S.Source.left c.run_script-ending.new.script) c.run_script-ending.result c.settle.result (memory_begun c.args.volume.now c.begin.new.volume slots c.in-Ok.ensures.closed closed) c.begin.ensures.changes tells (c.in-Ok.ensures.begun tells) c.begin.new.volume.geometry c.run_script-ending.new.volume.geometry c.begin.ensures.same.geometry (c.run_script-ending.ensures.same.geometry ∙ c.begin.ensures.same.geometry) (λ m stands. c.run_script-ending.ensures.ends m script stands) c.settle.ensures.settles
 
 pub returns-in-Err-clause-refused : goal.returns-in-Err-clause-refused
 returns-in-Err-clause-refused g c = λ tells ending is. early_refused ending c.in-Err.ending c.begin.ensures.changes tells is (c.in-Err.ensures.stops tells)

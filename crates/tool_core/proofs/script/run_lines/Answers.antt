@@ -14,7 +14,7 @@ turns-init g c = record {
   stands = search rules;
   told = λ tells. tells;
   works = works_none c.args.volume.now.nor.now (memory c.args.volume.now);
-  turned = λ tells m goes. took_more c.args.volume.now.nor.now (memory c.args.volume.now) m (slice_range c.args.lines.now.buf.now c.args.lines.now.start c.args.lines.now.end) (g.S.Source.left c.args.script.now) (slice_range c.args.lines.now.buf.now c.args.lines.now.start c.args.lines.now.end) (g.S.Source.left c.args.script.now) c.args.lines.now.taken c.args.lines.now.taken c.args.lines.now.handed goes.stands refl refl;
+  turned = λ tells m stands. took_more c.args.volume.now.nor.now (memory c.args.volume.now) m (slice_range c.args.lines.now.buf.now c.args.lines.now.start c.args.lines.now.end) (g.S.Source.left c.args.script.now) (slice_range c.args.lines.now.buf.now c.args.lines.now.start c.args.lines.now.end) (g.S.Source.left c.args.script.now) c.args.lines.now.taken c.args.lines.now.taken c.args.lines.now.handed stands refl refl;
 }
 
 pub turns-preserved : goal.turns-preserved
@@ -25,11 +25,11 @@ turns-preserved g c = record {
   stands = search rules;
   told = λ tells. c.turn.ensures.told (c.turns.invariant.told tells);
   works = let none : c.turn.result ≡ None = search rules in rw (sym none) (works_then c.turn.result _ c.turns.invariant.same.geometry c.turns.invariant.works c.turn.ensures.works);
-  turned = λ tells m goes. let none : c.turn.result ≡ None = search rules in rw (sym none) (turn_then c.turn.result _ m _ _ _ c.turns.invariant.same.geometry goes (c.turns.invariant.turned tells m goes) (c.turn.ensures.turned (c.turns.invariant.told tells)));
+  turned = λ tells m stands. let none : c.turn.result ≡ None = search rules in rw (sym none) (turn_then c.turn.result _ m _ _ _ c.turns.invariant.same.geometry (c.turns.invariant.turned tells m stands) (c.turn.ensures.turned (c.turns.invariant.told tells)));
 }
 
 pub returns-in-Some-clause-turned : goal.returns-in-Some-clause-turned
-returns-in-Some-clause-turned g c = λ tells m goes. turn_then (Some c.in-Some.ending) _ m _ _ _ c.turns.invariant.same.geometry goes (c.turns.invariant.turned tells m goes) (c.in-Some.ensures.turned (c.turns.invariant.told tells))
+returns-in-Some-clause-turned g c = λ tells m stands. turn_then (Some c.in-Some.ending) _ m _ _ _ c.turns.invariant.same.geometry (c.turns.invariant.turned tells m stands) (c.in-Some.ensures.turned (c.turns.invariant.told tells))
 
 pub returns-in-Some-clause-works : goal.returns-in-Some-clause-works
 returns-in-Some-clause-works g c = works_then (Some c.in-Some.ending) _ c.turns.invariant.same.geometry c.turns.invariant.works c.in-Some.ensures.works

@@ -1,12 +1,10 @@
-use Rattle.std.proofs.Common.{◌≡◌, ◌++◌, [], List, ℕ, refl, sym, ap, subst}
+use Rattle.std.proofs.Common.{◌≡◌, ◌++◌, [], List, ℕ, refl, sym, ap}
 use Rattle.std.specs.Prelude.{slice_range}
-use Rattle.call_script.specs.Lines.{calls}
-use Rattle.tool_core.specs.Rooms.{AllFindRoom}
 use Rattle.tool_core.proofs.Arriving.{run_ends}
 use Rattle.tool_core.proofs.script.run_script.Goals as goal
 
 pub returns-clause-ends : goal.returns-clause-ends
-returns-clause-ends g c = λ m tells stands finds.
+returns-clause-ends g c = λ m tells stands.
     let fresh : slice_range c.new-lines.result.buf.now c.new-lines.result.start c.new-lines.result.end ≡ [] = rw c.new-lines.ensures.start (rw c.new-lines.ensures.end refl) in
     let script : g.S.Source.left c.args.script.now ≡ slice_range c.new-lines.result.buf.now c.new-lines.result.start c.new-lines.result.end ++ g.S.Source.left c.args.script.now = sym (ap (λ (l : List ℕ). l ++ g.S.Source.left c.args.script.now) fresh) in
-    run_ends c.run_lines.result m _ _ (g.S.Source.left c.args.script.now) script fresh c.new-lines.ensures.taken c.new-lines.ensures.handed (c.run_lines.ensures.turned tells m (record { stands = stands; room = subst (λ (l : List ℕ). AllFindRoom c.args.volume.now.geometry m (calls l)) script finds }))
+    run_ends c.run_lines.result m _ _ (g.S.Source.left c.args.script.now) script fresh c.new-lines.ensures.taken c.new-lines.ensures.handed (c.run_lines.ensures.turned tells m stands)

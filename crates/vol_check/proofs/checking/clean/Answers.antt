@@ -59,12 +59,12 @@ culled g c was =
 pub returns-in_err-free_blocks : goal.returns-in_err-free_blocks
 returns-in_err-free_blocks g c =
     let at = goal.at.returns-in_err-free_blocks g c in
-    read_stops (culled g at.In_ok-culled (counted g at.In_ok-count_all (ready g at.In_ok-dead))) c.in_err-free_blocks.ensures.looks c.in_err-free_blocks.ensures.cause c.from_residual-in_err-free_blocks.ensures.0 (λ tells magics need. record { needs = tt; idle = λ tidy. tidy })
+    read_stops (culled g at.In_ok-culled (counted g at.In_ok-count_all (ready g at.In_ok-dead))) c.in_err-free_blocks.ensures.looks.only c.in_err-free_blocks.ensures.looks.cause c.from_residual-in_err-free_blocks.ensures.0 (λ tells magics need. record { needs = tt; idle = λ tidy. tidy })
 
 pub returns : goal.returns
 returns g c =
     let at = goal.at.returns g c in
     let was = culled g at.In_ok-culled (counted g at.In_ok-count_all (ready g at.In_ok-dead)) in
-    let looks = c.free_blocks.ensures.looks in
+    let looks = c.free_blocks.ensures.looks.only in
     works_as (works_read was looks) (λ tells magics need. record { needs = tt; idle = λ tidy. tidy })
-    (λ tells magics unmixed kept done. checked _ _ _ _ _ _ _ unmixed done.ready done.passes kept refl (rw (looks.reads.bytes) (rw was.step.framed.same.geometry at (c.in_ok-free_blocks.ensures.told (was.step.cuts.cuts.told tells)))))
+    (λ tells magics unmixed kept done. checked _ _ _ _ _ _ _ unmixed done.ready done.passes kept refl (rw (looks.reads.bytes) (rw was.step.framed.same.geometry at (c.in_ok-free_blocks.ensures.looks.told (was.step.cuts.cuts.told tells)))))

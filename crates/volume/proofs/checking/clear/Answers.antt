@@ -15,13 +15,13 @@ returns-in_err-sweep g c =
 pub returns-in-Err : goal.returns-in-Err
 returns-in-Err g c =
     let seen = c.in-Err.ensures in
-    let look : Stepped check_stopped c.sweep.new.v c.free_blocks.new.v (Err DeviceFault) counting = looked seen.looks (λ e. seen.cause) tt (λ tells tidy. (refl, refl)) in
+    let look : Stepped check_stopped c.sweep.new.v c.free_blocks.new.v (Err DeviceFault) counting = looked seen.looks.only (λ e. seen.looks.cause) tt (λ tells tidy. (refl, refl)) in
     stepped_then c.in_ok-sweep.ensures look (λ tells tidy. record { needs = tidy; cut = λ c cut. cut })
     (λ tells tidy swept. record { needs = swept.tidy; cut = λ c cut. counted_keeps _ _ _ c (tidy_keeps _ _ _ swept) cut; done = λ c free w. cleared_counted _ _ _ c free swept w })
 
 pub returns-in-Ok : goal.returns-in-Ok
 returns-in-Ok g c =
     let seen = c.in-Ok.ensures in
-    let look : Stepped check_stopped c.sweep.new.v c.free_blocks.new.v (Ok c.in-Ok.free) counting = looked seen.looks (λ e. absurd (cc)) tt (λ tells tidy. (refl, (refl, seen.told tells (tidy_tells_free _ _ tidy)))) in
+    let look : Stepped check_stopped c.sweep.new.v c.free_blocks.new.v (Ok c.in-Ok.free) counting = looked seen.looks.only (λ e. absurd (cc)) tt (λ tells tidy. (refl, (refl, seen.looks.told tells (tidy_tells_free _ _ tidy)))) in
     stepped_then c.in_ok-sweep.ensures look (λ tells tidy. record { needs = tidy; cut = λ c cut. cut })
     (λ tells tidy swept. record { needs = swept.tidy; cut = λ c cut. counted_keeps _ _ _ c (tidy_keeps _ _ _ swept) cut; done = λ c free w. cleared_counted _ _ _ c free swept w })

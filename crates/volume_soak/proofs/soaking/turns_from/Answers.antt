@@ -1,5 +1,5 @@
 use Rattle.std.proofs.Common.{◌≡◌, ◌+◌, ◌/◌, ◌^◌, ℕ, refl, ◌∙◌, ap, subst, arith}
-use Rattle.nor_core.specs.Picks.{drawn}
+use Rattle.nor_core.specs.Draws.{drawn}
 use Rattle.nor_core.proofs.Draws.{number_after-none, number_next}
 use Rattle.volume_run.proofs.Moving.{moved_none, moved_then}
 use Rattle.volume_run.proofs.Stopping.{stops_passed}

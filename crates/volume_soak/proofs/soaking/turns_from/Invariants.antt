@@ -1,5 +1,5 @@
 use Rattle.std.proofs.Common.{◌-◌, ◌≡◌, ◌≤◌, length}
-use Rattle.nor_core.specs.Picks.{number_after}
+use Rattle.nor_core.specs.Draws.{number_after}
 use Rattle.volume_run.specs.Ready.{IsMoved}
 use Rattle.volume_soak.specs.Doing.{HasSoakedFrom}
 use Rattle.volume_soak.proofs.soaking.turns_from.Given as goal

@@ -1,68 +1,18 @@
-use Rattle.std.proofs.Common.{◌≡◌, true, sym, ◌∙◌, ap, ℕ, List, arith}
-use Rattle.std.specs.Prelude.{None}
-use Rattle.geometry.specs.Numbers.{page_count}
-use Rattle.image_model.specs.Live.{live_at}
-use Rattle.image_model.specs.Headers.{name_of}
-use Rattle.image_model.specs.Places.{page_of}
-use Rattle.flash_view.specs.Found.{named_at, first_named, is_name}
-use Rattle.flash_view.specs.Walk.{IsNextLive, NextLive}
-use Rattle.flash_view.proofs.Looking.{looks_then}
-use Rattle.flash_view.proofs.Passed.{passed_named, found_named, found_other, found_unnamed, all_to, all_and, first_some, first_none}
-use Rattle.flash_view.proofs.view.View.find_header_name.Goals.{else-head-eq0-via-then-head-eq0+else-is_named, else-head-eq0-via-else-head-eq0}
+use Rattle.std.proofs.Common.{◌∙◌, ℕ, ap, sym, arith}
+use Rattle.std.specs.Option.{option_map}
+use Rattle.flash_view.proofs.Near.{named_all}
 use Rattle.flash_view.proofs.view.View.find_header_name.Goals as goal
 
-pub returns-clause-told : goal.returns-clause-told
-unfolding first_named
-returns-clause-told g c = λ tells.
-    let was = c.pages.invariant in
+pub returns-in-Some-clause-told : goal.returns-in-Some-clause-told
+returns-in-Some-clause-told g c = λ tells.
     let view = c.args.self.now in
     let image = g.N.NorState.bytes view.nor.now in
-    let last : NextLive view.geometry image c.pages.at 0x8000 0xFFFE None = rw (was.looks.same.geometry, was.looks.reads.bytes, c.in_default.is) at (c.in_ok-page.ensures.told (was.looks.reads.told tells)) in
-    sym (first_none (λ q. named_at (live_at view.geometry image q) c.args.name.now) (page_count view.geometry)
-    (all_to (λ q. named_at (live_at view.geometry image q) c.args.name.now ≡ None) c.pages.at (page_count view.geometry) (was.told tells) (λ q after before. passed_named view.geometry image q c.args.name.now (last q after before))))
+    ap (option_map (λ (f : ℕ × ℕ). f.0)) (sym c.in-Some.is ∙ c.in_ok-id.ensures.told tells (omega (arith, c.pages-pages.ensures.count)))
+    ∙ named_all view.geometry image c.args.name.now c.pages-pages.result c.pages-pages.ensures.count
 
-pub pages-smaller : goal.pages-smaller
-pages-smaller g c =
-    let inside = rw (c.in-Some.is, c.pages.invariant.looks.same.geometry) at c.in_ok-page.ensures.inside in
-    omega (arith, inside.0, inside.1.below, c.from-at.ensures)
-
-pub returns-then-is_named-clause-told : goal.returns-then-is_named-clause-told
-unfolding first_named
-returns-then-is_named-clause-told g c = λ tells.
-    let was = c.pages.invariant in
-    let found = c.in_ok-page.ensures in
+pub returns-in-None-clause-told : goal.returns-in-None-clause-told
+returns-in-None-clause-told g c = λ tells.
     let view = c.args.self.now in
     let image = g.N.NorState.bytes view.nor.now in
-    let tells_on = found.looks.reads.told (was.looks.reads.told tells) in
-    let next : IsNextLive view.geometry image c.pages.at 0x8000 0xFFFE c.in-Some.page c.in-Some.head = rw (was.looks.same.geometry, was.looks.reads.bytes, c.in-Some.is) at (found.told (was.looks.reads.told tells)) in
-    let inside = rw (c.in-Some.is, was.looks.same.geometry) at found.inside in
-    let held : c.held.result.now ≡ page_of view.geometry image c.in-Some.page = rw (found.looks.same.geometry, was.looks.same.geometry, found.looks.reads.bytes, was.looks.reads.bytes) at (c.held.ensures.bytes tells_on) in
-    let has : is_name (name_of (page_of view.geometry image c.in-Some.page)) c.args.name.now ≡ true = ap (λ (l : List ℕ). is_name (name_of l) c.args.name.now) (sym held) ∙ sym c.is_named.ensures ∙ c.if-is_named.true in
-    sym (first_some (λ q. named_at (live_at view.geometry image q) c.args.name.now) (page_count view.geometry) c.in-Some.page c.object.result inside.1.below
-    (rw c.object.ensures (found_named view.geometry image c.pages.at c.in-Some.page c.in-Some.head c.args.name.now next c.if-head-eq0.true has))
-    (all_to (λ q. named_at (live_at view.geometry image q) c.args.name.now ≡ None) c.pages.at c.in-Some.page (was.told tells) (λ q after before. passed_named view.geometry image q c.args.name.now (next.passed q after before))))
-
-pub pages-preserved : goal.pages-preserved
-pages-preserved g c =
-    let was = c.pages.invariant in
-    let found = c.in_ok-page.ensures in
-    let inside = rw (c.in-Some.is, was.looks.same.geometry) at found.inside in
-    record {
-      looks = looks_then was.looks found.looks;
-      work = found.work ∙ was.work;
-      most = omega (arith, inside.1.below, c.from-at.ensures);
-      told = λ tells.
-          let view = c.args.self.now in
-          let image = g.N.NorState.bytes view.nor.now in
-          let name = c.args.name.now in
-          let tells_on = found.looks.reads.told (was.looks.reads.told tells) in
-          let next : IsNextLive view.geometry image c.pages.at 0x8000 0xFFFE c.in-Some.page c.in-Some.head = rw (was.looks.same.geometry, was.looks.reads.bytes, c.in-Some.is) at (found.told (was.looks.reads.told tells)) in
-          let isnt : named_at (live_at view.geometry image c.in-Some.page) name ≡ None = elim c.else-head-eq0.branch [
-            | else-head-eq0-via-then-head-eq0+else-is_named w ↦
-                let held : w.held.result.now ≡ page_of view.geometry image c.in-Some.page = rw (found.looks.same.geometry, was.looks.same.geometry, found.looks.reads.bytes, was.looks.reads.bytes) at (w.held.ensures.bytes tells_on) in
-                found_unnamed view.geometry image c.pages.at c.in-Some.page c.in-Some.head name next (ap (λ (l : List ℕ). is_name (name_of l) name) (sym held) ∙ sym w.is_named.ensures ∙ w.if-is_named.false)
-            | else-head-eq0-via-else-head-eq0 w ↦ found_other view.geometry image c.pages.at c.in-Some.page c.in-Some.head name next w.if-head-eq0.false
-          ] in
-          let unnamed = λ (q : ℕ). named_at (live_at view.geometry image q) name ≡ None in
-          all_and unnamed c.in-Some.page _ (omega (arith, c.from-at.ensures)) (all_to unnamed c.pages.at c.in-Some.page (was.told tells) (λ q after before. passed_named view.geometry image q name (next.passed q after before))) isnt;
-    }
+    ap (option_map (λ (f : ℕ × ℕ). f.0)) (sym c.in-None.is ∙ c.in_ok-id.ensures.told tells (omega (arith, c.pages-pages.ensures.count)))
+    ∙ named_all view.geometry image c.args.name.now c.pages-pages.result c.pages-pages.ensures.count

@@ -1,0 +1,193 @@
+//! Hints: page numbers that stand in the bytes for work, behind the page that was read. What stands there means nothing, and may be
+//! any number, for other code uses these bytes too: whoever takes a hint looks at its page first, and where the hint fails, at the
+//! others (`find_near`, `find_name_near`).
+ghost use Rattle.std.specs.Prelude.{◌≡◌, ◌+◌, ◌*◌, ◌/◌, ◌<◌, ◌≤◌, take, OnErr, IfOk, IfSome};
+ghost use Rattle.geometry.specs.Numbers.{scratch_need, usable, page_count};
+ghost use Rattle.nor_core.specs.Count.{Rose};
+ghost use Rattle.image_model.specs.Live.{live_at, own};
+ghost use Rattle.image_model.specs.Files.{index_page};
+ghost use Rattle.image_model.specs.Tidy.{IsTidy};
+ghost use Rattle.flash_view.specs.Found.{first_named};
+ghost use Rattle.flash_view.specs.Same.{OnlyLooks};
+
+use crate::View;
+use geometry::Geometry;
+use nor_core::{Failed, Nor, NorState};
+use page_layout::{INDEX_BIT, put_word, read_word};
+
+// How many hints there is room for.
+fn hint_count(g: &Geometry) -> u32
+    ensures { result ≡ g.now.page + usable g.now / 16 }
+{
+    g.page() + g.usable() / 16
+}
+
+// Where a hint stands.
+fn hint_at(g: &Geometry, i: u32) -> usize
+    requires { i < g.now.page + usable g.now / 16 }
+    ensures low { 2 * g.now.page ≤ result }
+    ensures high { result + 2 ≤ scratch_need g.now }
+{
+    2 * g.page() as usize + 2 * i as usize
+}
+
+// Where the hint for the header page of an id stands: among the first ones, as many as half a page has bytes.
+fn id_at(g: &Geometry, id: u16) -> usize
+    ensures low { 2 * g.now.page ≤ result }
+    ensures high { result + 2 ≤ scratch_need g.now }
+{
+    hint_at(g, u32::from(id) % (g.page() / 2))
+}
+
+// Where the hint for the header page with a name stands: among as many behind those.
+fn name_at(g: &Geometry, name: &[u8]) -> usize
+    ensures low { 2 * g.now.page ≤ result }
+    ensures high { result + 2 ≤ scratch_need g.now }
+{
+    let mut hash = 0u32;
+    for &byte in name {
+        hash = hash.wrapping_mul(31).wrapping_add(u32::from(byte));
+    }
+    let half = g.page() / 2;
+    hint_at(g, half + hash % half)
+}
+
+// Where the hint for the header page of an id stands in a walk over all ids.
+fn walk_at(g: &Geometry, id: u16) -> usize
+    ensures low { 2 * g.now.page ≤ result }
+    ensures high { result + 2 ≤ scratch_need g.now }
+{
+    hint_at(g, u32::from(id) % hint_count(g))
+}
+
+impl<'b, N: Nor> View<'b, N> {
+    /// The page at which the header page of an id was noted last, or any other number.
+    pub fn hint(&self, id: u16) -> u16 {
+        read_word(self.work, id_at(&self.geometry, id))
+    }
+
+    /// The page at which the header page with a name was noted last, or any other number.
+    pub fn name_hint(&self, name: &[u8]) -> u16 {
+        read_word(self.work, name_at(&self.geometry, name))
+    }
+
+    /// The same as `hint` in a walk over all ids.
+    pub fn walk_hint(&self, id: u16) -> u16 {
+        read_word(self.work, walk_at(&self.geometry, id))
+    }
+
+    /// So many ids that follow one another have hints of their own in a walk over all ids.
+    pub fn walk_hints(&self) -> u32
+        ensures { 0 < result }
+    {
+        hint_count(&self.geometry)
+    }
+
+    /// Notes the page of the header page of an id. The page that is being built and the one that was read stay.
+    #[tactic(auto, using(crate::proofs::Looking::looks_none))]
+    pub fn note_hint(&mut self, id: u16, page: u16)
+        ensures looks { OnlyLooks self.old self.new }
+        ensures kept { take (2 * self.old.geometry.page) self.new.work.now ≡ take (2 * self.old.geometry.page) self.old.work.now }
+    {
+        let at = id_at(&self.geometry, id);
+        let work = &mut *self.work;
+        put_word(work, at, page);
+    }
+
+    /// Notes the page of the header page with a name.
+    #[tactic(auto, using(crate::proofs::Looking::looks_none))]
+    pub fn note_name_hint(&mut self, name: &[u8], page: u16)
+        ensures looks { OnlyLooks self.old self.new }
+        ensures kept { take (2 * self.old.geometry.page) self.new.work.now ≡ take (2 * self.old.geometry.page) self.old.work.now }
+    {
+        let at = name_at(&self.geometry, name);
+        let work = &mut *self.work;
+        put_word(work, at, page);
+    }
+
+    /// The same as `note_hint` in a walk over all ids.
+    #[tactic(auto, using(crate::proofs::Looking::looks_none))]
+    pub fn note_walk_hint(&mut self, id: u16, page: u16)
+        ensures looks { OnlyLooks self.old self.new }
+        ensures kept { take (2 * self.old.geometry.page) self.new.work.now ≡ take (2 * self.old.geometry.page) self.old.work.now }
+    {
+        let at = walk_at(&self.geometry, id);
+        let work = &mut *self.work;
+        put_word(work, at, page);
+    }
+
+    // Where to look for the header page of an id: where its hint says, if that page has the entry, else behind the header page
+    // that was found last.
+    #[tactic(auto, using(crate::proofs::Looking::looks_none))]
+    fn id_near(&mut self, id: u16) -> Result<u16, Failed>
+        ensures cause { OnErr result (Rose (N.faults self.old.nor.now) (N.faults self.new.nor.now)) }
+        ensures looks { OnlyLooks self.old self.new }
+        ensures work { self.new.work.now ≡ self.old.work.now }
+    {
+        let page = self.hint(id);
+        let last = self.hint(0);
+        if u32::from(page) >= self.geometry.pages() {
+            return Ok(last.saturating_add(1));
+        }
+        let entry = self.lookup_entry(page)?;
+        Ok(if entry == INDEX_BIT + id % INDEX_BIT {
+            page
+        } else {
+            last.saturating_add(1)
+        })
+    }
+
+    // The same for a name.
+    #[tactic(auto, using(crate::proofs::Looking::looks_none))]
+    fn name_near(&mut self, name: &[u8]) -> Result<u16, Failed>
+        ensures cause { OnErr result (Rose (N.faults self.old.nor.now) (N.faults self.new.nor.now)) }
+        ensures looks { OnlyLooks self.old self.new }
+        ensures built { take self.old.geometry.page self.new.work.now ≡ take self.old.geometry.page self.old.work.now }
+    {
+        let page = self.name_hint(name);
+        let last = self.hint(0);
+        if u32::from(page) >= self.geometry.pages() {
+            return Ok(last.saturating_add(1));
+        }
+        let has = self.has_name(page, name)?;
+        Ok(if has { page } else { last.saturating_add(1) })
+    }
+
+    /// The header page of an id, in a tidy image as `find_index` gives it: looked for where its hint says first, else from
+    /// the one that was found last on. It is noted.
+    #[tactic(auto, using(crate::proofs::Looking::looks_then))]
+    pub fn seek_header(&mut self, id: u16) -> Result<Option<u16>, Failed>
+        ensures cause { OnErr result (Rose (N.faults self.old.nor.now) (N.faults self.new.nor.now)) }
+        ensures looks { OnlyLooks self.old self.new }
+        ensures inside { IfOk result (λ page. IfSome page (λ p. p < page_count self.old.geometry)) }
+        ensures told { N.tells self.old.nor.now → IsTidy self.old.geometry (N.bytes self.old.nor.now) → IfOk result (λ page. page ≡ index_page self.old.geometry (own (live_at self.old.geometry (N.bytes self.old.nor.now)) id) 0) }
+        ensures kept { take (2 * self.old.geometry.page) self.new.work.now ≡ take (2 * self.old.geometry.page) self.old.work.now }
+    {
+        let near = self.id_near(id)?;
+        let Some(page) = self.find_near(id, 0, near)? else {
+            return Ok(None);
+        };
+        self.note_hint(id, page);
+        self.note_hint(0, page);
+        Ok(Some(page))
+    }
+
+    /// The id whose header page holds that name, in a tidy image as `find_header_name` gives it: looked for where the name's hint
+    /// says first, else from the one that was found last on. The page is noted, for the name and for the id.
+    #[tactic(auto, using(crate::proofs::Looking::looks_then))]
+    pub fn seek_name(&mut self, name: &[u8]) -> Result<Option<u16>, Failed>
+        ensures cause { OnErr result (Rose (N.faults self.old.nor.now) (N.faults self.new.nor.now)) }
+        ensures looks { OnlyLooks self.old self.new }
+        ensures told { N.tells self.old.nor.now → IsTidy self.old.geometry (N.bytes self.old.nor.now) → IfOk result (λ id. id ≡ first_named self.old.geometry (N.bytes self.old.nor.now) name.now) }
+        ensures built { take self.old.geometry.page self.new.work.now ≡ take self.old.geometry.page self.old.work.now }
+    {
+        let near = self.name_near(name)?;
+        let Some((id, page)) = self.find_name_near(name, near)? else {
+            return Ok(None);
+        };
+        self.note_name_hint(name, page);
+        self.note_hint(id, page);
+        self.note_hint(0, page);
+        Ok(Some(id))
+    }
+}

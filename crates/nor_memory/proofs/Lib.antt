@@ -1,0 +1,5 @@
+pub mod Pushing
+pub mod Ranges
+pub mod Units
+pub mod MemoryLemmas
+pub mod ChipCalls

@@ -1,0 +1,5 @@
+pub mod Record
+pub mod RecordLaws
+pub mod Ways
+pub mod Moments
+pub mod Picks
