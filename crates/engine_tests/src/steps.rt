@@ -50,12 +50,12 @@ pub(crate) enum Step<'t> {
     HasCounted,
 }
 
-// Whether a volume that is mounted and checked has so many free blocks.
+// Whether a volume mounts, its check ends, and so many blocks are free.
 fn starts(volume: &mut Volume<'_, MemBoard>, free: u32) -> bool {
-    volume.mount().is_ok()
-        && volume
-            .check()
-            .is_ok_and(|report| report.free_blocks == free)
+    let Ok(()) = volume.mount() else {
+        return false;
+    };
+    matches!(volume.check(), Ok(report) if report.free_blocks == free)
 }
 
 // Whether a read into bytes of 7 tells that, and leaves these.

@@ -133,8 +133,8 @@ pub fn cut_all_recoveries(steps: &Steps) -> Result<Swept, Trouble> {
     Ok(Swept::Whole(all))
 }
 
-/// Cuts a script inside the call behind so many, and tells what is left, if a line was answered, and a check then leaves two free blocks and a table
-/// that may be left.
+/// What a script leaves that is cut inside the call behind so many, if a line was answered, and a check leaves two free blocks and a table that may
+/// be left.
 pub fn cut_once(steps: &Steps, passed: u64) -> Result<Option<Told>, Trouble> {
     let ran = cut(steps, passed, passed % 5)?;
     if ran.status == DEVICE_FAULT && ran.lines() > 0 && recovers(steps, &ran, false)? {
