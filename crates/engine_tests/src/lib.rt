@@ -10,6 +10,8 @@ mod images;
 #[cfg(test)]
 mod space;
 #[cfg(test)]
+mod steps;
+#[cfg(test)]
 mod tight;
 #[cfg(test)]
 mod views;
