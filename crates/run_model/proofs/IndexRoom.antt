@@ -8,7 +8,6 @@ use Rattle.table_model.specs.Room.{index_count, data_count, has_room}
 use Rattle.image_model.specs.Places.{IsImage}
 use Rattle.image_model.specs.Tables.{table_of}
 use Rattle.image_model.specs.Tidy.{IsTidy, HasReserve}
-use Rattle.image_model.specs.Collect.{are_had}
 use Rattle.image_laws.proofs.Serving.{ceil-mono}
 use Rattle.room_laws.specs.Stopping.{HasRoomFor}
 use Rattle.room_laws.proofs.Tallies.{entries_pos}

@@ -80,13 +80,13 @@ unfolding after_all replies
 cut_none g m calls image h = record { front = []; later = calls; part = []; calls_are = refl; said_is = refl; under_way = none_under_way g m calls image h }
 
 -- what is under way in some calls is so in more
-wider_under_way : (g : Geometry) (m : Moment) (xs ys : List RunCall) (part : List ℕ) (image : List ℕ) → IsUnderWay g m xs part image → IsUnderWay g m (xs ++ ys) part image
+wider_under_way : (g : Geometry) (m : Moment) (xs ys : List RunCall) (part image : List ℕ) → IsUnderWay g m xs part image → IsUnderWay g m (xs ++ ys) part image
 unfolding IsUnderWay
 wider_under_way g m [] ys part image h = subst (λ (l : List ℕ). IsUnderWay g m ys l image) (sym h.0) (none_under_way g m ys image h.1)
 wider_under_way g m (x ∷ xs) ys part image h = h
 
 -- a cut in the front of a run is one in the run
-pub cut_wider : (g : Geometry) (m : Moment) (xs ys : List RunCall) (said : List ℕ) (image : List ℕ) → IsCut g m xs said image → IsCut g m (xs ++ ys) said image
+pub cut_wider : (g : Geometry) (m : Moment) (xs ys : List RunCall) (said image : List ℕ) → IsCut g m xs said image → IsCut g m (xs ++ ys) said image
 cut_wider g m xs ys said image h = record {
   front = h.front;
   later = h.later ++ ys;
@@ -97,7 +97,7 @@ cut_wider g m xs ys said image h = record {
 }
 
 -- a cut after calls that were done is one in these and the others
-pub cut_later : (g : Geometry) (m : Moment) (xs ys : List RunCall) (said : List ℕ) (image : List ℕ) → IsCut g (after_all g m xs) ys said image → IsCut g m (xs ++ ys) (replies g m xs ++ said) image
+pub cut_later : (g : Geometry) (m : Moment) (xs ys : List RunCall) (said image : List ℕ) → IsCut g (after_all g m xs) ys said image → IsCut g m (xs ++ ys) (replies g m xs ++ said) image
 cut_later g m xs ys said image h = record {
   front = xs ++ h.front;
   later = h.later;
