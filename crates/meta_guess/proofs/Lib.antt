@@ -1,0 +1,7 @@
+mod Geometries
+mod Sums
+mod Ascending
+mod Counting
+mod Found
+mod Needs
+mod Choosing
