@@ -24,7 +24,7 @@ impl fmt::Display for BadName<'_> {
             BadName::Empty { path } => write!(f, "{path}: its name is empty"),
             BadName::Zero { path } => write!(f, "{path}: its name holds a zero byte"),
             BadName::Long { path, bytes } => {
-                write!(f, "{path}: its name has {bytes} bytes, and {MOST} at most go")
+                write!(f, "{path}: its name has {bytes} bytes, and 31 at most go")
             }
             BadName::Taken { path, by } => write!(f, "{path}: {by} has the same name"),
         }
@@ -48,13 +48,13 @@ fn wrong<'f>(earlier: &'f [HostFile], file: &'f HostFile) -> Option<BadName<'f>>
     if bytes == 0 {
         return Some(BadName::Empty { path });
     }
-    if file.name.contains(&0) {
+    if file.name.as_slice().contains(&0) {
         return Some(BadName::Zero { path });
     }
     if bytes > MOST {
         return Some(BadName::Long { path, bytes });
     }
-    let by = holder(earlier, &file.name)?.path.as_str();
+    let by = holder(earlier, file.name.as_slice())?.path.as_str();
     Some(BadName::Taken { path, by })
 }
 

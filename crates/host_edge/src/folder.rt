@@ -67,12 +67,12 @@ impl<R: Files + Drop> StdFolder<R> {
 
     /// What stands in the folder and is no plain file, in the order of the paths' bytes.
     pub fn passed_over(&self) -> &[PassedOver] {
-        &self.passed_over
+        self.passed_over.as_slice()
     }
 
     /// The first file whose name no file of a volume can have, or an earlier file has, with what is wrong with it.
     pub fn bad_name(&self) -> Option<BadName<'_>> {
-        first_bad(&self.files)
+        first_bad(self.files.as_slice())
     }
 
     // Lists the folder of that path.

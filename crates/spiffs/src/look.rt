@@ -87,33 +87,38 @@ fn is_mounted<N: Nor>(
     }
 }
 
+// What a guess tells, where that META was given.
+fn look_of(given: u32, guess: Guess) -> Look {
+    let better = if guess.best.whole > guess.given.whole {
+        Some(Better { given, guess })
+    } else {
+        None
+    };
+    Look {
+        damaged: guess.given.damaged,
+        better,
+    }
+}
+
 // Looks at a volume that mounts; where the command is forced, no other META is tried.
 fn look_at<N: Nor>(
     g: &Geometry,
     is_forced: bool,
     nor: &mut N,
     lent: &mut Lent<'_>,
-) -> Result<Look, Failed> {
+) -> Result<Option<Look>, Failed> {
     let Ok(()) = accept(g, nor, lent) else {
-        return Err(Failed);
+        return Ok(None);
     };
     if is_forced {
         let counts = count_files(g, nor, lent.work, lent.cache, lent.check)?;
-        return Ok(Look {
+        return Ok(Some(Look {
             damaged: counts.damaged,
             better: None,
-        });
+        }));
     }
     let guess = guess_meta(g, nor, lent.work, lent.cache, lent.check)?;
-    let given = g.meta();
-    Ok(Look {
-        damaged: guess.given.damaged,
-        better: if guess.best.whole > guess.given.whole {
-            Some(Better { given, guess })
-        } else {
-            None
-        },
-    })
+    Ok(Some(look_of(g.meta(), guess)))
 }
 
 /// Looks at the volume, where the words are a command that removes damaged files, which isn't refused, and the volume mounts.
@@ -142,5 +147,5 @@ pub fn look<N: Nor>(
     if !is_mounted(&g, nor, lent.work, lent.cache)? {
         return Ok(None);
     }
-    Ok(Some(look_at(&g, is_forced, nor, &mut lent)?))
+    look_at(&g, is_forced, nor, &mut lent)
 }

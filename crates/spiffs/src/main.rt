@@ -204,11 +204,11 @@ fn has_repaired(status: u8) -> bool {
 
 // Says on standard error how many damaged files a check removed.
 fn explain_removed(rt: &impl Eprint, look: Option<Look>, status: u8) {
-    if let Some(look) = look
-        && look.damaged > 0
-        && has_repaired(status)
-    {
-        let damaged = look.damaged;
+    let Some(look) = look else {
+        return;
+    };
+    let damaged = look.damaged;
+    if damaged > 0 && has_repaired(status) {
         // (if standard error fails too there is nobody to tell)
         let _said = eprintln!(rt; "spiffs: damaged files that the check removed: {damaged}");
     }
@@ -218,11 +218,17 @@ fn explain_removed(rt: &impl Eprint, look: Option<Look>, status: u8) {
 fn explain_folder<'r>(rt: &impl Eprint, folder: &StdFolder<&'r HostRuntime>, status: u8) {
     for passed in folder.passed_over() {
         let path = passed.path.as_str();
-        let kind = if passed.is_folder { "folder" } else { "special file" };
+        let kind = if passed.is_folder {
+            "folder"
+        } else {
+            "special file"
+        };
         let _said = eprintln!(rt; "spiffs: {path}: a {kind}, passed over");
     }
-    if status == BAD_NAME && let Some(bad) = folder.bad_name() {
-        let _said = eprintln!(rt; "spiffs: {bad}");
+    if status == BAD_NAME {
+        if let Some(bad) = folder.bad_name() {
+            let _said = eprintln!(rt; "spiffs: {bad}");
+        }
     }
 }
 

@@ -21,7 +21,7 @@ pub enum Wrong<'w> {
     /// A word that has to be a number from 0 to `most` is none.
     Number {
         name: &'static str,
-        word: &'w str,
+        given: &'w str,
         most: u64,
     },
     /// MAGIC is neither `len` nor `plain`.
@@ -39,10 +39,10 @@ impl fmt::Display for Wrong<'_> {
             Wrong::Count { verb, form, given } => {
                 write!(f, "{verb} takes {form}, and {given} words are given")
             }
-            Wrong::Number { name, word, most } => {
-                write!(f, "{name} is a number from 0 to {most} in decimal digits, and not {word}")
+            Wrong::Number { name, given, most } => {
+                write!(f, "{name} is a number from 0 to {most} in decimal digits, and not {given}")
             }
-            Wrong::Magic(word) => write!(f, "MAGIC is len or plain, and not {word}"),
+            Wrong::Magic(given) => write!(f, "MAGIC is len or plain, and not {given}"),
             Wrong::Empty(name) => write!(f, "{name} is empty"),
         }
     }
@@ -65,10 +65,10 @@ fn wrong_number<'w>(
     name: &'static str,
     most: u64,
 ) -> Option<Wrong<'w>> {
-    let word = word(words, at);
-    match parse_number(word.as_bytes(), most) {
+    let given = word(words, at);
+    match parse_number(given.as_bytes(), most) {
         Some(_) => None,
-        None => Some(Wrong::Number { name, word, most }),
+        None => Some(Wrong::Number { name, given, most }),
     }
 }
 
