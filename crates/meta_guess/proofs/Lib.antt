@@ -5,3 +5,4 @@ mod Counting
 mod Found
 mod Needs
 mod Choosing
+mod Reading

@@ -1,6 +1,9 @@
 -- What a volume holds by different numbers of meta bytes, and which number reads most.
-use Rattle.std.specs.Prelude.{ℕ, ◌≡◌, ◌<◌, ◌≤◌, List, length}
+use Rattle.std.specs.Prelude.{ℕ, ◌≡◌, ◌+◌, ◌*◌, ◌<◌, ◌≤◌, List, length}
 use Rattle.geometry.specs.declared.geometry.Geometry.{Geometry}
+use Rattle.geometry.specs.Numbers.{page_count}
+use Rattle.nor_core.specs.Count.{Rose}
+use Rattle.nor_core.specs.declared.state.NorState.{Ghosts as NorOf}
 use Rattle.image_model.specs.Tables.{table_of, damaged_of}
 use Rattle.meta_guess.specs.declared.counts.Counts.{Counts}
 use Rattle.meta_guess.specs.declared.counts.Guess.{Guess}
@@ -44,3 +47,7 @@ pub record IsGuess (g : Geometry) (image : List ℕ) (guess : Guess) : Type 0 wh
   pub fewest : (h : Geometry) → SameBut g h → guess.best.damaged ≤ length (damaged_of h image)
   pub stays : guess.given.damaged ≡ 0 → guess.meta ≡ g.meta
   pub least : (h : Geometry) → 0 < guess.given.damaged → SameBut g h → h.meta < guess.meta → length (table_of h image) < guess.best.whole
+
+-- with lent bytes for a copy of each page, and where no fault was counted, the device was asked for no more reads than it has pages
+pub record ReadsOnce {D : Type 0} (nor : NorOf D) (g : Geometry) (cache : ℕ) (old new : D) : Type 0 where
+  pub few : page_count g * (g.page + 8) ≤ cache → ¬ Rose (nor.faults old) (nor.faults new) → nor.device_reads new ≤ nor.device_reads old + page_count g

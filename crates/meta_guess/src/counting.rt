@@ -5,7 +5,7 @@ ghost use Rattle.nor_core.specs.Device.{OnlyReads};
 ghost use Rattle.image_model.specs.Tables.{table_of, damaged_of};
 ghost use Rattle.flash_view.specs.Same.{OnlyLooks};
 ghost use Rattle.file_find.specs.Marks.{IsMarked};
-ghost use Rattle.meta_guess.specs.Guesses.{CountsOf};
+ghost use Rattle.meta_guess.specs.Guesses.{CountsOf, ReadsOnce};
 
 use crate::counts::Counts;
 use file_find::{next_damaged, next_file, survey};
@@ -93,6 +93,7 @@ pub fn count_files<N: Nor>(
     ensures cause { OnErr result (Rose (N.faults nor.old) (N.faults nor.new)) }
     ensures reads { OnlyReads N.NorState nor.old nor.new }
     ensures told { N.tells nor.old → IfOk result (CountsOf g.now (N.bytes nor.old)) }
+    ensures few { ReadsOnce N.NorState g.now (length cache.old) nor.old nor.new }
 {
     let mut v = View::new(*g, nor, work, &mut [], cache);
     count_view(&mut v, marks)

@@ -2,7 +2,7 @@ ghost use Rattle.std.specs.Prelude.{◌≡◌, ◌*◌, ◌≤◌, length, nat_l
 ghost use Rattle.geometry.specs.Numbers.{scratch_need, cache_need, check_need};
 ghost use Rattle.nor_core.specs.Count.{Rose};
 ghost use Rattle.nor_core.specs.Device.{OnlyReads};
-ghost use Rattle.meta_guess.specs.Guesses.{CountsBy, IsBest, IsGuess, IsMeta};
+ghost use Rattle.meta_guess.specs.Guesses.{CountsBy, IsBest, IsGuess, IsMeta, ReadsOnce};
 
 use crate::counting::count_files;
 use crate::counts::{Counts, Guess};
@@ -102,6 +102,7 @@ pub fn guess_meta<N: Nor>(
     ensures reads { OnlyReads N.NorState nor.old nor.new }
     ensures range { IfOk result (λ guess. guess.meta ≤ 64) }
     ensures told { N.tells nor.old → IfOk result (IsGuess g.now (N.bytes nor.old)) }
+    ensures few { IfOk result (λ guess. guess.given.damaged ≡ 0 → ReadsOnce N.NorState g.now (length cache.old) nor.old nor.new) }
 {
     let given = count_files(g, nor, work, cache, marks)?;
     if given.damaged == 0 {

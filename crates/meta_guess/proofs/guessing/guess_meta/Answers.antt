@@ -20,3 +20,9 @@ returns-clause-told g c = λ tells.
 
 pub returns-clause-reads : goal.returns-clause-reads
 returns-clause-reads g c = reads_then c.in_ok-given.ensures.reads c.in_ok-meta.ensures.reads
+
+pub returns-then-given-clause-few : goal.returns-then-given-clause-few
+returns-then-given-clause-few g c = λ none. c.in_ok-given.ensures.few
+
+pub returns-clause-few : goal.returns-clause-few
+returns-clause-few g c = λ none. absurd (c.if-given.false none)
