@@ -4,9 +4,15 @@
 #[cfg(test)]
 mod bench;
 #[cfg(test)]
+mod chip_rows;
+#[cfg(test)]
 mod descriptors;
 #[cfg(test)]
 mod images;
+#[cfg(test)]
+mod metas;
+#[cfg(test)]
+mod rows;
 #[cfg(test)]
 mod space;
 #[cfg(test)]
