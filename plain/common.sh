@@ -55,9 +55,39 @@ set_target() {
     [ -d "$sources/vendor" ] && [ -x /usr/bin/cargo ] && has_debian_crates || return
     mkdir -p "$3/crates"
     ln -sfn "$debian_crates"/* "$sources"/vendor/* "$3/crates/"
-    for_target=(env RUSTC=/usr/bin/rustc RUSTC_BOOTSTRAP=1 /usr/bin/cargo --offline -Zbuild-std="$2"
+    for_target=(env RUSTC=/usr/bin/rustc RUSTC_BOOTSTRAP=1 /usr/bin/cargo --offline -Zbuild-std="${2/std/std,panic_abort}"
       --config "source.debian.directory='$3/crates'")
-    [ "$2" = std ] && for_target+=(-Zbuild-std=std,panic_abort)
   fi
   for_target+=(build --release --quiet --target "$1")
+}
+
+passed=0
+failed=0
+
+# Does a step, tells whether it went well, and what it said if not.
+try() {
+  local name=$1 said
+  shift
+  if said=$("$@" 2>&1 </dev/null); then
+    passed=$((passed + 1))
+    echo "ok    $name"
+  else
+    failed=$((failed + 1))
+    printf 'WRONG %s\n%s\n' "$name" "$(tail -n 20 <<<"$said")"
+  fi
+}
+
+# Ends a script of such steps.
+tell_all() {
+  echo "$passed passed, $failed failed"
+  [ "$failed" -eq 0 ]
+}
+
+# Writes the edition and gets its crates, or tells why that can't be done.
+ready() {
+  local why
+  why=$(missing_tool)
+  [ -z "$why" ] && { python3 "$1/plain.py" >/dev/null || why="it can't be written"; }
+  [ -z "$why" ] && { get_crates "$1/out" || why="the crates $registry_crates can't be had, neither of crates.io nor as Debian's packages"; }
+  [ -z "$why" ] || { echo "the plain edition: $why" >&2; return 1; }
 }
