@@ -24,7 +24,8 @@ get_debian_crates() {
   [ "$(id -u)" -eq 0 ] && command -v apt-get >/dev/null || return 1
   local packages
   packages=$(printf 'librust-%s-dev ' $registry_crates)
-  { apt-get update -qq && apt-get install -y -qq --no-install-recommends $packages; } >/dev/null 2>&1 </dev/null
+  export DEBIAN_FRONTEND=noninteractive
+  { timeout 60 apt-get update -qq && timeout 120 apt-get install -y -qq --no-install-recommends $packages; } >/dev/null 2>&1 </dev/null
 }
 
 # Sees to it that cargo finds the crates of the workspace in a folder: those of Debian where they are at hand, else those of
@@ -34,7 +35,7 @@ get_crates() {
   [ -e "$config" ] && has_debian_crates && return
   rm -f "$config"
   if ! has_debian_crates; then
-    (cd "$1" && timeout 120 cargo fetch --quiet) >/dev/null 2>&1 && return
+    (cd "$1" && CARGO_NET_RETRY=0 timeout 60 cargo fetch --quiet) >/dev/null 2>&1 && return
     get_debian_crates && has_debian_crates || return
   fi
   mkdir -p "$1/.cargo"

@@ -243,12 +243,16 @@ static inline int spiffs_names_program(void *context, uint32_t at, const uint8_t
   return SPIFFS_HAL(fs, hal_write_f, fs->cfg.phys_addr + at, count, (u8_t *)(uintptr_t)from) != SPIFFS_OK;
 }
 
-/* (the mark is programmed to zero first, so that an erase that is cut off doesn't leave it) */
+/* (the mark is programmed to zero first, where it is there, so that an erase that is cut off doesn't leave it) */
 static inline int spiffs_names_erase(void *context, uint32_t unit, const spf_mark *mark) {
   spiffs *fs = (spiffs *)context;
   static const uint8_t zeros[2] = {0, 0};
+  uint8_t there[2];
   u32_t size = fs->cfg.phys_erase_block;
-  if (mark && spiffs_names_program(context, unit * size + mark->at, zeros, 2)) return 1;
+  if (mark) {
+    if (spiffs_names_read(context, unit * size + mark->at, there, 2)) return 1;
+    if ((there[0] | there[1] << 8) == mark->word && spiffs_names_program(context, unit * size + mark->at, zeros, 2)) return 1;
+  }
   return SPIFFS_HAL(fs, hal_erase_f, fs->cfg.phys_addr + unit * size, size) != SPIFFS_OK;
 }
 
