@@ -4,6 +4,9 @@
 registry_crates="arrayvec byteorder itoa memchr thiserror"
 debian_crates=/usr/share/cargo/registry
 
+# Each workspace has its own folder for what is built.
+unset CARGO_TARGET_DIR
+
 # Tells why the edition can't be built here, if it can't: sources of edition 2024 want cargo 1.85.
 missing_tool() {
   local version

@@ -4,8 +4,8 @@
     sums.py [--into FOLDER] [--list]
 
 On a target of 32 bits these are what no proof bounds: in Rattle a `usize` has 64 bits. They are read from what rustc makes of the
-plain edition, with overflow checks. Ends with 1 where a function isn't in the table with as many, or is more; `--list` prints the
-functions instead. Python 3.9, standard library alone.
+plain edition, with overflow checks. Ends with 1 where a function has more than the table tells of; `--list` prints the functions
+instead. Python 3.9, standard library alone.
 """
 
 import argparse
@@ -60,11 +60,11 @@ def main():
         return 0
     rows = (ROW.match(line) for line in (here / "sums.md").read_text(encoding="utf-8").splitlines())
     told = Counter({row[1]: int(row[2]) for row in rows if row})
-    for name in sorted(set(found) | set(told)):
-        if found[name] != told[name]:
-            print(f"{name} has {found[name]} sums and products of usize, and sums.md tells of {told[name]}", file=sys.stderr)
+    odd = [name for name in sorted(found) if found[name] > told[name]]
+    for name in odd:
+        print(f"{name} has {found[name]} sums and products of usize, and sums.md tells of {told[name]}", file=sys.stderr)
     print(f"{sum(found.values())} sums and products of usize in {len(found)} functions")
-    return 0 if found == told else 1
+    return 1 if odd else 0
 
 
 if __name__ == "__main__":
