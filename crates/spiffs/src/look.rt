@@ -42,8 +42,14 @@ impl fmt::Display for Better {
         let whole = was.whole;
         let more = best.whole;
         let lost = was.damaged;
-        write!(f, "whole files: {whole} with META {given}, {more} with META {meta}; nothing was written; ")?;
-        write!(f, "try META {meta}, or begin with --force to remove {lost} damaged files for good")
+        write!(
+            f,
+            "whole files: {whole} with META {given}, {more} with META {meta}; nothing was written; "
+        )?;
+        write!(
+            f,
+            "try META {meta}, or begin with --force to remove {lost} damaged files for good"
+        )
     }
 }
 

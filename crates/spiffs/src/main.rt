@@ -49,20 +49,20 @@ const BAD_NAME: u8 = 13;
 /// The status where another META reads more whole files.
 const OTHER_META: u8 = 23;
 
-/// Bytes of work that are lent.
-const WORK: usize = 1_048_576;
+/// The most bytes of work that are lent: enough for every volume.
+const MOST_WORK: usize = 1_048_576;
 
 /// Descriptors that are lent.
 const SLOTS: usize = 16;
 
-/// The least bytes of cache that are lent.
-const LEAST_CACHE: usize = 262_144;
+/// The most bytes of cache that are lent where there is no memory for a frame of each page.
+const SMALL_CACHE: usize = 262_144;
 
 /// The most bytes of cache that are lent: enough for 65,535 pages of 4,096 bytes.
 const MOST_CACHE: usize = 301_989_888;
 
-/// Bytes of check that are lent.
-const CHECK: usize = 131_072;
+/// The most bytes of check that are lent: enough for 65,535 pages.
+const MOST_CHECK: usize = 131_072;
 
 /// Bytes of line that are lent.
 const LINE: usize = 12_288;
@@ -77,20 +77,30 @@ struct Memory {
     line: Vec<u8>,
 }
 
-// Bytes of cache for a volume of that many bytes: a frame for each page, within the limits. A frame has eight bytes
-// more than a page, which has at least 128.
+// Bytes of work for a volume of that many bytes, within the limit: four for each byte of a page, which has at most 4,096 and at least
+// 128, four for each page of a block, sixteen for each block, which has at least two pages, and a bit for each usable page.
+fn work_for(volume: u32) -> usize {
+    (16_385 + volume as usize / 8).min(MOST_WORK)
+}
+
+// Bytes of cache for a volume of that many bytes: a frame for each page, within the limit. A frame has eight bytes more than a page, which
+// has at least 128.
 fn cache_for(volume: u32) -> usize {
-    let frames = volume as usize + volume as usize / 16;
-    frames.max(LEAST_CACHE).min(MOST_CACHE)
+    (volume as usize + volume as usize / 16).min(MOST_CACHE)
+}
+
+// Bytes of check for a volume of that many bytes, within the limit: one for each page, which has at least 128, and 8,192.
+fn check_for(volume: u32) -> usize {
+    (8192 + volume as usize / 128).min(MOST_CHECK)
 }
 
 impl Memory {
-    fn new(alloc: Global, cache: usize) -> Result<Memory, AllocError> {
+    fn new(alloc: Global, volume: u32, cache: usize) -> Result<Memory, AllocError> {
         Ok(Memory {
-            work: vec![in alloc; 0u8; WORK]?,
+            work: vec![in alloc; 0u8; work_for(volume)]?,
             slots: vec![in alloc; FdSlot::empty(); SLOTS]?,
             cache: vec![in alloc; 0u8; cache]?,
-            check: vec![in alloc; 0u8; CHECK]?,
+            check: vec![in alloc; 0u8; check_for(volume)]?,
             line: vec![in alloc; 0u8; LINE]?,
         })
     }
@@ -327,11 +337,13 @@ fn tell(rt: &(impl Print + Eprint), text: &str, status: u8) -> u8 {
     }
 }
 
-// Takes the memory, with the least cache where the host has none for a frame of each page.
+// Takes the memory, with a small cache where the host has none for a frame of each page.
 fn take_memory(rt: &HostRuntime, words: &[String]) -> Result<Memory, AllocError> {
-    match Memory::new(rt.alloc(), cache_for(chip_size_of(words, 1))) {
+    let volume = chip_size_of(words, 1);
+    let cache = cache_for(volume);
+    match Memory::new(rt.alloc(), volume, cache) {
         Ok(memory) => Ok(memory),
-        Err(_) => Memory::new(rt.alloc(), LEAST_CACHE),
+        Err(_) => Memory::new(rt.alloc(), volume, cache.min(SMALL_CACHE)),
     }
 }
 

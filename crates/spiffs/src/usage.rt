@@ -40,7 +40,10 @@ impl fmt::Display for Wrong<'_> {
                 write!(f, "{verb} takes {form}, and {given} words are given")
             }
             Wrong::Number { name, given, most } => {
-                write!(f, "{name} is a number from 0 to {most} in decimal digits, and not {given}")
+                write!(
+                    f,
+                    "{name} is a number from 0 to {most} in decimal digits, and not {given}"
+                )
             }
             Wrong::Magic(given) => write!(f, "MAGIC is len or plain, and not {given}"),
             Wrong::Empty(name) => write!(f, "{name} is empty"),
