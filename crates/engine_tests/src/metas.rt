@@ -11,14 +11,7 @@ use vol_mount::accept;
 
 // A volume of four blocks with so many meta bytes.
 fn volume_by(meta: u32) -> Result<Geometry, Fail> {
-    Ok(Geometry::new(
-        256,
-        4096,
-        4,
-        4096,
-        meta,
-        MagicKind::Length,
-    )?)
+    Ok(Geometry::new(256, 4096, 4, 4096, meta, MagicKind::Length)?)
 }
 
 // A device with a file of two data pages that was written with four meta bytes, and an empty file, which is whole by each number.
