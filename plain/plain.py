@@ -143,8 +143,8 @@ class Edition:
             return "crate" if crate.is_program() else f"crate::{crate.name}"
         if stem == crate.root and word in crate.modules():
             return f"self::{word}"
-        if word == "std" and is_hosted:
-            return HOST
+        if word == "std":
+            return HOST if is_hosted else "core" if package.no_std else word
         home = self.home.get(word)
         if home is None:
             return word
