@@ -166,7 +166,7 @@ class Edition:
         for stem, text in crate.files.items():
             is_hosted = rules.uses_host(text)
             text = rules.with_roots(text, lambda word: self.root_of(package, crate, stem, is_hosted, word))
-            text = rules.errors(text, package.no_std)
+            text = rules.displays(rules.errors(text, package.no_std))
             if is_hosted:
                 text = rules.hosted(text)
             if stem == "main":

@@ -81,6 +81,12 @@ def errors(text, no_std):
     return re.sub(r"^use thiserror::Error;\n", "", text, flags=re.M)
 
 
+def displays(text):
+    """A text of `Display` is generic over what it is written to: Rust's isn't."""
+    generic = r"fn fmt<W: fmt::Write>\(&self, f: &mut fmt::Formatter<W>\)"
+    return re.sub(generic, "fn fmt(&self, f: &mut fmt::Formatter<'_>)", text)
+
+
 def starts(text):
     """`main` and tests are passed the runtime: they get a name of their own, and what starts them has theirs."""
     main = f"{HOST}::main!(main_with);\n\nfn main_with("

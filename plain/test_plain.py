@@ -57,6 +57,10 @@ class Contracts(unittest.TestCase):
 
 
 class Rules(unittest.TestCase):
+    def test_a_text_of_display_is_not_generic(self):
+        told = rules.displays("    fn fmt<W: fmt::Write>(&self, f: &mut fmt::Formatter<W>) -> fmt::Result {\n")
+        self.assertEqual(told, "    fn fmt(&self, f: &mut fmt::Formatter<'_>) -> fmt::Result {\n")
+
     def test_drop_is_neither_derived_nor_a_bound(self):
         self.assertEqual(rules.drops("#[derive(Drop)]\nstruct S<W: Write + Drop>;\n"), "struct S<W: Write>;\n")
         self.assertEqual(rules.drops("#[derive(Debug, Drop)]\nstruct S<T: Drop>(T);\n"), "#[derive(Debug)]\nstruct S<T>(T);\n")
