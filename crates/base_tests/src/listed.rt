@@ -1,5 +1,7 @@
 //! What a folder of the host has that goes onto no volume.
+use geometry::{Geometry, MagicKind};
 use host_edge::StdFolder;
+use image_make::{Refusal, refusal_of};
 use std::alloc::AllocError;
 use std::test::Fail;
 use std::{fs, process};
@@ -35,22 +37,26 @@ fn what_is_no_plain_file_is_told(rt: HostRuntime) -> Result<(), Fail> {
 
 #[test]
 fn what_is_wrong_with_a_name_is_told(rt: HostRuntime) -> Result<(), Fail> {
-    for (name, why) in [
-        ("%00", "its name holds a zero byte"),
+    let g = Geometry::new(256, 4096, 16, 4096, 0, MagicKind::Length)?;
+    for (name, at, why) in [
+        ("%00", 0, "its name holds a zero byte"),
         (
             "12345678901234567890123456789012",
+            0,
             "its name has 32 bytes, and 31 at most go",
         ),
-        ("%42", "has the same name"),
+        ("%42", 1, "has the same name"),
     ] {
         let path = path_for(&rt, "names")?;
         let path = path.as_str();
         fs::create_dir(&rt, path)?;
         make_in(&rt, path, "B")?;
         make_in(&rt, path, name)?;
-        let folder = StdFolder::new(&rt, rt.alloc(), path)?;
+        let mut folder = StdFolder::new(&rt, rt.alloc(), path)?;
         let told = folder.bad_name().ok_or("none")?.to_string(rt.alloc())?;
         assert!(rt; told.ends_with(why));
+        let refusal = refusal_of(&g, &mut folder);
+        assert!(rt; refusal == Ok(Some(Refusal::BadNames { at })));
         fs::remove_dir_all(&rt, path)?;
     }
     Ok(())
