@@ -22,8 +22,8 @@ ROW = re.compile(r"^\| `([\w:]+)` \| (\d+) \|")
 
 
 def name_of(path):
-    """`flash_view::view::read_in` of `flash_view::view::<impl at src/..>::read_in`."""
-    return re.sub(r"<[^>]*>::|::\{closure#\d+\}", "", path)
+    """The function's own name: rustc leaves out of a path what isn't needed to tell one function from another."""
+    return re.sub(r"::\{closure#\d+\}", "", path).rpartition("::")[2]
 
 
 def made(folder):
@@ -59,7 +59,9 @@ def main():
             print(f"{name} {count}")
         return 0
     rows = (ROW.match(line) for line in (here / "sums.md").read_text(encoding="utf-8").splitlines())
-    told = Counter({row[1]: int(row[2]) for row in rows if row})
+    told = Counter()
+    for row in filter(None, rows):
+        told[name_of(row[1])] += int(row[2])
     odd = [name for name in sorted(found) if found[name] > told[name]]
     for name in odd:
         print(f"{name} has {found[name]} sums and products of usize, and sums.md tells of {told[name]}", file=sys.stderr)
