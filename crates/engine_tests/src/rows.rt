@@ -53,7 +53,7 @@ fn a_volume_whose_chip_failed_takes_no_call(rt: HostRuntime) -> Result<(), Fail>
     volume.mount()?;
     volume.check()?;
     assert!(rt; volume.stat(b"a").is_ok());
-    assert!(rt; volume.stat(b"b") == Err(FsErr::NotFound));
+    assert!(rt; matches!(volume.stat(b"b"), Err(FsErr::NotFound)));
     Ok(())
 }
 
