@@ -22,11 +22,11 @@ loop-meta-preserved g c =
     let other : ℕ × Counts = (c.loop-meta.meta, c.in_ok-counts.counts) in
     record {
       reads = reads_then was.reads turn.reads;
-      below = next_below c.args.g.now (g.N.NorState.bytes c.args.nor.now) c.loop-meta.meta best other c.better.result refl was.below c.better.ensures;
+      below = next_below c.args.g.now (g.N.NorState.bytes c.args.nor.now) c.loop-meta.meta best other c.better-best.result refl was.below c.better-best.ensures;
       told = λ tells.
           let image = g.N.NorState.bytes c.args.nor.now in
           let by : CountsBy c.args.g.now image c.loop-meta.meta c.in_ok-counts.counts = rw was.reads.bytes at (turn.told (was.reads.told tells)) in
-          best_next c.args.g.now image c.loop-meta.meta best other c.better.result refl (was.told tells) by c.better.ensures;
+          best_next c.args.g.now image c.loop-meta.meta best other c.better-best.result refl (was.told tells) by c.better-best.ensures;
     }
 
 pub returns-clause-told : goal.returns-clause-told

@@ -6,10 +6,10 @@ use Rattle.meta_guess.proofs.guessing.guess_meta.Goals as goal
 
 pub returns-then-given-eq0-clause-told : goal.returns-then-given-eq0-clause-told
 returns-then-given-eq0-clause-told g c = λ tells.
-    guess_given c.args.g.now (g.N.NorState.bytes c.args.nor.now) c.in_ok-given.given c.meta.result (c.in_ok-given.ensures.told tells) c.if-given-eq0.true c.meta.ensures
+    guess_given c.args.g.now (g.N.NorState.bytes c.args.nor.now) c.in_ok-given.given c.meta-meta.result (c.in_ok-given.ensures.told tells) c.if-given-eq0.true c.meta-meta.ensures
 
 pub returns-then-given-eq0-clause-range : goal.returns-then-given-eq0-clause-range
-returns-then-given-eq0-clause-range g c = let most = c.args.g.now.valid.meta_most in omega (arith, c.meta.ensures, most)
+returns-then-given-eq0-clause-range g c = let most = c.args.g.now.valid.meta_most in omega (arith, c.meta-meta.ensures, most)
 
 pub returns-clause-told : goal.returns-clause-told
 returns-clause-told g c = λ tells.
