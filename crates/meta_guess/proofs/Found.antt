@@ -9,7 +9,7 @@ use Rattle.image_model.specs.declared.damage.Damage.{Damage}
 use Rattle.image_model.specs.Tables.{table_of, damaged_of}
 use Rattle.file_find.specs.Listing.{NextFile, damaged_above}
 use Rattle.meta_guess.proofs.Ascending.{table-ascends, damaged-ascends}
-use Rattle.meta_guess.proofs.Counting.{left_above, none_counted, one_counted, all_counted}
+use Rattle.meta_guess.proofs.Remaining.{left_above, none_counted, one_counted, all_counted}
 
 -- files and damaged ids by their ids
 abbrev pub file_key : File → ℕ

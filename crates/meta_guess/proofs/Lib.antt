@@ -1,7 +1,7 @@
 mod Geometries
 mod Sums
 mod Ascending
-mod Counting
+mod Remaining
 mod Found
 mod Needs
 mod Choosing
