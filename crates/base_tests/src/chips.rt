@@ -73,7 +73,7 @@ fn programs(row: &mut ChipRow<MemChip>, at: u32, from: &[u8]) -> bool
 #[test]
 fn a_row_is_read_and_programmed_across_its_boundaries(rt: HostRuntime) -> Result<(), Fail> {
     let mut row = fresh_row(rt.alloc())?;
-    assert_eq!(rt; (row.size(), row.unit()), (48, 8));
+    assert!(rt; (row.size(), row.unit()) == (48, 8));
     assert!(rt; programs(&mut row, 14, &[1, 2, 3]));
     assert!(rt; holds(&mut row, 13, &[0xff, 1, 2, 3, 0xff]));
     assert!(rt; row.fuse_chip().is_none());
@@ -88,7 +88,7 @@ fn a_cut_in_a_program_leaves_a_front_of_it(rt: HostRuntime) -> Result<(), Fail> 
         second.cut_after(0, pick);
         let mut row = row_of(rt.alloc(), first, second, chip_of(rt.alloc(), 0xff)?)?;
         assert!(rt; !programs(&mut row, 14, &[0x0f; 20]));
-        assert_eq!(rt; row.fuse_chip(), Some(1));
+        assert!(rt; row.fuse_chip() == Some(1));
         assert!(rt; holds(&mut row, 12, &[0xff, 0xff, 0x0f, 0x0f]));
         assert!(rt; holds(&mut row, 32, &[0xff, 0xff]));
         assert!(rt; !programs(&mut row, 16, &[0]));
@@ -104,19 +104,19 @@ fn a_chip_that_does_not_fit_is_handed_back(rt: HostRuntime) -> Result<(), Fail> 
     let Err(refusal) = row.replace(3, chip_of(rt.alloc(), 0xa5)?) else {
         return Err("no refusal".into());
     };
-    assert_eq!(rt; refusal.why, RowErr::NoSuchChip);
+    assert!(rt; refusal.why == RowErr::NoSuchChip);
     assert!(rt; refusal.chip.image().starts_with(&[0xa5]));
     let short = MemChip::new(rt.alloc(), vec![in rt.alloc(); 0x5a; 8]?, 8)?;
     let Err(refusal) = row.replace(1, short) else {
         return Err("no refusal".into());
     };
-    assert_eq!(rt; refusal.why, RowErr::WrongSize);
+    assert!(rt; refusal.why == RowErr::WrongSize);
     assert!(rt; refusal.chip.image().starts_with(&[0x5a]));
     let fine = MemChip::new(rt.alloc(), vec![in rt.alloc(); 0x5a; 16]?, 4)?;
     let Err(refusal) = row.replace(2, fine) else {
         return Err("no refusal".into());
     };
-    assert_eq!(rt; refusal.why, RowErr::WrongSize);
+    assert!(rt; refusal.why == RowErr::WrongSize);
     assert!(rt; holds(&mut row, 30, &[0xff, 3, 4, 0xff]));
     Ok(())
 }
@@ -129,17 +129,17 @@ fn boxed_chips_make_a_row(rt: HostRuntime) -> Result<(), Fail> {
     chips.push(Box::new(rt.alloc(), first)?)?;
     chips.push(Box::new(rt.alloc(), chip_of(rt.alloc(), 0xff)?)?)?;
     let mut row: ChipRow = ChipRow::new(chips, 16, 8).ok().ok_or("row")?;
-    assert_eq!(rt; row.size(), 32);
+    assert!(rt; row.size() == 32);
     row.program(15, &[1, 2]).ok().ok_or("program")?;
     row.erase(2, None).ok().ok_or("erase")?;
     assert!(rt; row.program(15, &[0, 0]).is_err());
-    assert_eq!(rt; row.fuse_chip(), Some(0));
+    assert!(rt; row.fuse_chip() == Some(0));
     let mut bytes = [0u8; 4];
     row.read(14, &mut bytes).ok().ok_or("read")?;
-    assert_eq!(rt; bytes, [0xff, 1, 0xff, 0xff]);
+    assert!(rt; bytes == [0xff, 1, 0xff, 0xff]);
     let other: Box<dyn Chip> = Box::new(rt.alloc(), chip_of(rt.alloc(), 0)?)?;
     assert!(rt; row.replace(1, other).is_ok());
     row.read(14, &mut bytes).ok().ok_or("read again")?;
-    assert_eq!(rt; bytes, [0xff, 1, 0, 0]);
+    assert!(rt; bytes == [0xff, 1, 0, 0]);
     Ok(())
 }

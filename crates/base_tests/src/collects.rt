@@ -120,16 +120,14 @@ fn check_row(
     row: (&str, [(bool, bool, i64); 4], Option<u32>, bool),
 ) -> Result<(), Fail> {
     for block in 0..4u32 {
-        assert_eq!(rt;
-            numbers_of(g, image, block),
-            Some(row.1[block as usize]),
+        assert!(rt;
+            numbers_of(g, image, block) == Some(row.1[block as usize]),
             "{}, block {block}",
             row.0
         );
     }
-    assert_eq!(rt;
-        next_of(alloc, g, image)?,
-        Some((row.2, row.3)),
+    assert!(rt;
+        next_of(alloc, g, image)? == Some((row.2, row.3)),
         "{}",
         row.0
     );
@@ -259,9 +257,8 @@ fn wanted_pages_are_had_in_free_entries_of_their_kind(rt: HostRuntime) -> Result
     ] {
         let mut image = formatted(rt.alloc(), &g)?;
         put_file(&mut image, spans);
-        assert_eq!(rt;
-            had(&g, image.as_slice(), index, pages),
-            Some(wanted),
+        assert!(rt;
+            had(&g, image.as_slice(), index, pages) == Some(wanted),
             "{spans} pages, {index} and {pages} wanted"
         );
     }
@@ -286,9 +283,8 @@ fn the_chosen_block_is_swept_and_no_other(rt: HostRuntime) -> Result<(), Fail> {
     for block in 0..4u8 {
         let mut after = Vec::from_slice(rt.alloc(), before.as_slice())?;
         put_fresh(&mut after, &g, block, 1);
-        assert_eq!(rt;
-            swept(rt.alloc(), &g, before.as_slice(), after.as_slice())?,
-            Some(block == 1),
+        assert!(rt;
+            swept(rt.alloc(), &g, before.as_slice(), after.as_slice())? == Some(block == 1),
             "block {block}"
         );
     }
@@ -311,9 +307,8 @@ fn a_swept_data_block_leaves_at_most_one_deleted_entry_for_each_page(
         for killed in 0..entry {
             put(&mut after, 2 * killed as usize, &[0, 0]);
         }
-        assert_eq!(rt;
-            swept(rt.alloc(), &g, before.as_slice(), after.as_slice())?,
-            Some(wanted),
+        assert!(rt;
+            swept(rt.alloc(), &g, before.as_slice(), after.as_slice())? == Some(wanted),
             "{entry} deleted"
         );
     }

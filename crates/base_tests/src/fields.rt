@@ -39,22 +39,21 @@ fn a_new_header_page_gets_size_and_pages(rt: HostRuntime) -> Result<(), Fail> {
     let mut page = [0; 128];
     build_header_page(&g, &mut page, 1, b"a");
     let placed = header_of(&page);
-    assert_eq!(rt; placed.flags, Flags::placed_index());
+    assert!(rt; placed.flags == Flags::placed_index());
     assert!(rt; !placed.is_finished());
     let flags = placed.flags.finished();
     put_header(&mut page, PageHeader { flags, ..placed });
-    assert_eq!(rt; page.as_slice(), head_of_a().as_slice());
+    assert!(rt; page.as_slice() == head_of_a().as_slice());
     put_size(&mut page, 5);
     put_slot(&g, &mut page, 0, 0, 17);
-    assert_eq!(rt; &page[8..12], [0x05, 0, 0, 0].as_slice());
-    assert_eq!(rt; &page[45..47], [0x11, 0].as_slice());
-    assert_eq!(rt;
+    assert!(rt; &page[8..12] == [0x05, 0, 0, 0].as_slice());
+    assert!(rt; &page[45..47] == [0x11, 0].as_slice());
+    assert!(rt;
         (
             file_size(&page),
             slot_of(&g, &page, 0, 0),
             slot_of(&g, &page, 0, 1)
-        ),
-        (5, 17, FREE)
+        ) == (5, 17, FREE)
     );
     Ok(())
 }
@@ -65,10 +64,10 @@ fn meta_bytes_stand_before_the_page_numbers(rt: HostRuntime) -> Result<(), Fail>
     let mut page = page_of(&[0; 45]);
     put_meta(&g, &mut page, &[1, 2, 3, 4]);
     put_slot(&g, &mut page, 0, 0, 0x0203);
-    assert_eq!(rt; &page[44..52], [0, 1, 2, 3, 4, 3, 2, 0xFF].as_slice());
-    assert_eq!(rt; meta_of(&g, &page).as_slice(), [1, 2, 3, 4].as_slice());
+    assert!(rt; &page[44..52] == [0, 1, 2, 3, 4, 3, 2, 0xFF].as_slice());
+    assert!(rt; meta_of(&g, &page).as_slice() == [1, 2, 3, 4].as_slice());
     put_slot(&g, &mut page, 1, 2, 0x0405);
-    assert_eq!(rt; &page[12..14], [0x05, 0x04].as_slice());
+    assert!(rt; &page[12..14] == [0x05, 0x04].as_slice());
     Ok(())
 }
 
@@ -84,18 +83,16 @@ fn each_flag_is_a_cleared_bit(rt: HostRuntime) {
         (0xC7, false, false, false, false, false),
     ] {
         let flags = Flags::from_bits(bits);
-        assert_eq!(rt;
-            (flags.is_used(), flags.is_final(), flags.is_index()),
-            (used, last, index),
+        assert!(rt;
+            (flags.is_used(), flags.is_final(), flags.is_index()) == (used, last, index),
             "at {bits}"
         );
-        assert_eq!(rt;
-            (flags.is_removing(), flags.is_deleted()),
-            (removing, deleted),
+        assert!(rt;
+            (flags.is_removing(), flags.is_deleted()) == (removing, deleted),
             "at {bits}"
         );
     }
-    assert_eq!(rt; Flags::placed_data().finished(), Flags::finished_data());
-    assert_eq!(rt; Flags::finished_index().removing().bits(), 0xB8);
-    assert_eq!(rt; Flags::finished_data().deleted().bits(), 0x7C);
+    assert!(rt; Flags::placed_data().finished() == Flags::finished_data());
+    assert!(rt; Flags::finished_index().removing().bits() == 0xB8);
+    assert!(rt; Flags::finished_data().deleted().bits() == 0x7C);
 }

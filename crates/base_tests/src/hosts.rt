@@ -30,16 +30,16 @@ fn row_of(alloc: Global, chips: [FileChip; 2]) -> Result<ChipRow<FileChip>, Fail
 fn a_chip_file_is_programmed_and_erased(rt: HostRuntime) -> Result<(), Fail> {
     let path = path_for(&rt, "chip")?;
     let mut chip = chip_at(&rt, path.as_str(), Access::Create);
-    assert_eq!(rt; (chip.size(), chip.unit(), chip.last()), (8192, 4096, 0));
+    assert!(rt; (chip.size(), chip.unit(), chip.last()) == (8192, 4096, 0));
     chip.program(1, 4095, &[0xF0, 0x3C]).ok().ok_or("program")?;
-    assert_eq!(rt; chip.last(), 1);
+    assert!(rt; chip.last() == 1);
     chip.program(2, 4095, &[0x1F]).ok().ok_or("program again")?;
     let mut bytes = [0u8; 4];
     chip.read(4094, &mut bytes).ok().ok_or("read")?;
-    assert_eq!(rt; bytes.as_slice(), [0xFF, 0x10, 0x3C, 0xFF].as_slice());
+    assert!(rt; bytes.as_slice() == [0xFF, 0x10, 0x3C, 0xFF].as_slice());
     chip.erase(3, 0, None).ok().ok_or("erase")?;
     chip.read(4094, &mut bytes).ok().ok_or("read again")?;
-    assert_eq!(rt; bytes.as_slice(), [0xFF, 0xFF, 0x3C, 0xFF].as_slice());
+    assert!(rt; bytes.as_slice() == [0xFF, 0xFF, 0x3C, 0xFF].as_slice());
     fs::remove_file(&rt, path.as_str())?;
     Ok(())
 }
@@ -50,15 +50,15 @@ fn a_chip_that_is_opened_for_reading_is_read_alone(rt: HostRuntime) -> Result<()
     let path = path.as_str();
     fs::write(&rt, path, "abcd")?;
     let mut chip = chip_at(&rt, path, Access::Read);
-    assert_eq!(rt; (chip.size(), chip.last()), (8192, 0));
+    assert!(rt; (chip.size(), chip.last()) == (8192, 0));
     let mut bytes = [0u8; 2];
     chip.read(1, &mut bytes).ok().ok_or("read")?;
-    assert_eq!(rt; bytes.as_slice(), b"bc".as_slice());
+    assert!(rt; bytes.as_slice() == b"bc".as_slice());
     assert!(rt; chip.trouble().is_none());
     assert!(rt; chip.program(1, 0, &[0]).is_err());
     let told = chip.trouble().ok_or("no trouble")?.to_string(rt.alloc())?;
     assert!(rt; told.starts_with("the chip file can't be written: "));
-    assert_eq!(rt; fs::read_to_string(&rt, path)?.as_str(), "abcd");
+    assert!(rt; fs::read_to_string(&rt, path)?.as_str() == "abcd");
     fs::remove_file(&rt, path)?;
     Ok(())
 }
@@ -72,16 +72,16 @@ fn a_program_goes_from_file_to_file(rt: HostRuntime) -> Result<(), Fail> {
         chip_at(&rt, second.as_str(), Access::Create),
     ];
     let mut board = StdBoard::new(row_of(rt.alloc(), chips)?, Vec::new(rt.alloc()));
-    assert_eq!(rt; (board.size(), board.unit()), (16384, 4096));
+    assert!(rt; (board.size(), board.unit()) == (16384, 4096));
     board.program(8190, b"abcd").ok().ok_or("program")?;
     let mut bytes = [0u8; 6];
     board.read(8189, &mut bytes).ok().ok_or("read")?;
-    assert_eq!(rt; bytes.as_slice(), b"\xffabcd\xff".as_slice());
+    assert!(rt; bytes.as_slice() == b"\xffabcd\xff".as_slice());
     board.erase(2, None).ok().ok_or("erase")?;
     board.read(8189, &mut bytes).ok().ok_or("read again")?;
-    assert_eq!(rt; bytes.as_slice(), b"\xffab\xff\xff\xff".as_slice());
+    assert!(rt; bytes.as_slice() == b"\xffab\xff\xff\xff".as_slice());
     assert!(rt; board.trouble().is_none());
-    assert_eq!(rt; fs::read(&rt, second.as_str())?.len(), 4096);
+    assert!(rt; fs::read(&rt, second.as_str())?.len() == 4096);
     fs::remove_file(&rt, first.as_str())?;
     fs::remove_file(&rt, second.as_str())?;
     Ok(())
@@ -95,18 +95,18 @@ fn a_board_names_the_chip_without_a_file(rt: HostRuntime) -> Result<(), Fail> {
         chip_at(&rt, "/tmp/liverymenhir_no_such_file", Access::Write),
     ];
     let mut board = StdBoard::new(row_of(rt.alloc(), chips)?, Vec::new(rt.alloc()));
-    assert_eq!(rt; (board.size(), board.unit()), (16384, 4096));
+    assert!(rt; (board.size(), board.unit()) == (16384, 4096));
     let mut bytes = [0u8; 4];
     assert!(rt; board.read(0, &mut bytes).is_ok());
-    assert_eq!(rt; board.failed_chip(), None);
+    assert!(rt; board.failed_chip() == None);
     assert!(rt; board.program(8190, b"abcd").is_err());
-    assert_eq!(rt; board.failed_chip(), Some(1));
+    assert!(rt; board.failed_chip() == Some(1));
     let told = board.trouble().ok_or("no trouble")?.to_string(rt.alloc())?;
     let wanted = "the chip file can't be opened: No such file or directory (os error 2)";
-    assert_eq!(rt; told.as_str(), wanted);
+    assert!(rt; told.as_str() == wanted);
     let mut bytes = [0u8; 2];
     board.read(8190, &mut bytes).ok().ok_or("read")?;
-    assert_eq!(rt; bytes.as_slice(), b"ab".as_slice());
+    assert!(rt; bytes.as_slice() == b"ab".as_slice());
     fs::remove_file(&rt, path.as_str())?;
     Ok(())
 }
@@ -122,17 +122,17 @@ fn what_a_board_says_goes_to_its_writer(rt: HostRuntime) -> Result<(), Fail> {
     board.say(b"ok\n").ok().ok_or("say")?;
     board.say(b"ok 1\n").ok().ok_or("say again")?;
     let (_, said) = board.give_back();
-    assert_eq!(rt; said.as_slice(), b"ok\nok 1\n".as_slice());
+    assert!(rt; said.as_slice() == b"ok\nok 1\n".as_slice());
     Ok(())
 }
 
 #[test]
 fn why_output_failed_is_told(rt: HostRuntime) -> Result<(), Fail> {
     let closed = Trouble::of_output(Error::from_raw_os_error(9)).to_string(rt.alloc())?;
-    assert_eq!(rt; closed.as_str(), "standard output is closed");
+    assert!(rt; closed.as_str() == "standard output is closed");
     let full = Trouble::of_output(Error::from_raw_os_error(28)).to_string(rt.alloc())?;
     let wanted = "standard output can't be written: No space left on device (os error 28)";
-    assert_eq!(rt; full.as_str(), wanted);
+    assert!(rt; full.as_str() == wanted);
     Ok(())
 }
 
@@ -141,8 +141,8 @@ fn a_script_is_read_to_its_end(rt: HostRuntime) -> Result<(), Fail> {
     let mut source = StdSource::new(Cursor::new(b"create a\n".as_slice()));
     let mut bytes = [0u8; 16];
     let count = source.read(&mut bytes).ok().ok_or("read")?;
-    assert_eq!(rt; bytes.get(..count), Some(b"create a\n".as_slice()));
-    assert_eq!(rt; source.read(&mut bytes).ok(), Some(0));
+    assert!(rt; bytes.get(..count) == Some(b"create a\n".as_slice()));
+    assert!(rt; source.read(&mut bytes).ok() == Some(0));
     Ok(())
 }
 
@@ -203,7 +203,7 @@ fn a_folder_is_listed_by_what_its_names_stand_for(rt: HostRuntime) -> Result<(),
     let inner = format!(in rt.alloc(); "{path}/a_folder")?;
     fs::create_dir(&rt, inner.as_str())?;
     let mut folder = StdFolder::new(&rt, rt.alloc(), path)?;
-    assert_eq!(rt; folder.count(), Ok(6));
+    assert!(rt; folder.count() == Ok(6));
     assert!(rt; holds(&mut folder, 0, b"%zz%4", b"percent"));
     assert!(rt; holds(&mut folder, 1, b".hidden", b"dot"));
     assert!(rt; holds(&mut folder, 2, b"/index.html", b"slash"));
@@ -232,7 +232,7 @@ fn pieces_are_put_under_the_printed_name(rt: HostRuntime) -> Result<(), Fail> {
         folder.put(name, true, &bytes[..2]).ok().ok_or("put again")?;
         folder.put(name, false, &bytes[2..]).ok().ok_or("append")?;
     }
-    assert_eq!(rt; folder.count(), Ok(4));
+    assert!(rt; folder.count() == Ok(4));
     assert!(rt; holds(&mut folder, 0, b"a", b"hello"));
     assert!(rt; holds(&mut folder, 3, b"\x80\xff\n", b"bytes"));
     for (name, bytes) in [
@@ -241,7 +241,7 @@ fn pieces_are_put_under_the_printed_name(rt: HostRuntime) -> Result<(), Fail> {
         ("%2E.", "dots"),
         ("%80%FF%0A", "bytes"),
     ] {
-        assert_eq!(rt; read_in(&rt, path, name)?.as_str(), bytes);
+        assert!(rt; read_in(&rt, path, name)?.as_str() == bytes);
     }
     fs::remove_dir_all(&rt, path)?;
     Ok(())
@@ -255,12 +255,12 @@ fn a_put_leaves_what_is_no_plain_file_alone(rt: HostRuntime) -> Result<(), Fail>
     let inner = format!(in rt.alloc(); "{path}/a")?;
     fs::create_dir(&rt, inner.as_str())?;
     let mut folder = StdFolder::new(&rt, rt.alloc(), path)?;
-    assert_eq!(rt; folder.count(), Ok(0));
+    assert!(rt; folder.count() == Ok(0));
     assert!(rt; folder.put(b"a", true, b"hello").is_err());
-    assert_eq!(rt; folder.count(), Ok(0));
+    assert!(rt; folder.count() == Ok(0));
     let told = folder.trouble().ok_or("no trouble")?.to_string(rt.alloc())?;
     let wanted = "a file of the folder can't be written: File exists (os error 17)";
-    assert_eq!(rt; told.as_str(), wanted);
+    assert!(rt; told.as_str() == wanted);
     fs::remove_dir_all(&rt, path)?;
     Ok(())
 }
@@ -273,7 +273,7 @@ fn a_folder_that_is_not_there_fails_each_call(rt: HostRuntime) -> Result<(), Fai
     assert!(rt; folder.put(b"a", true, b"hello").is_err());
     let told = folder.trouble().ok_or("no trouble")?.to_string(rt.alloc())?;
     let wanted = "the folder can't be listed: No such file or directory (os error 2)";
-    assert_eq!(rt; told.as_str(), wanted);
+    assert!(rt; told.as_str() == wanted);
     assert!(rt; StdFolder::unlisted(&rt, rt.alloc()).count().is_err());
     Ok(())
 }

@@ -108,7 +108,7 @@ fn check_row(
         bytes: row.3,
         counts: row.4,
     };
-    assert_eq!(rt; summary_of(alloc, g, image)?, Some(wanted), "{}", row.0);
+    assert!(rt; summary_of(alloc, g, image)? == Some(wanted), "{}", row.0);
     Ok(())
 }
 
@@ -202,9 +202,8 @@ fn damaged_files_have_their_first_cause(rt: HostRuntime) -> Result<(), Fail> {
         put(&mut image, 33 * 256, &[2]);
         put(&mut image, 33 * 256 + 14, &[0; 31]);
         put(&mut image, place, &[byte]);
-        assert_eq!(rt;
-            first_cause(rt.alloc(), &g, image.as_slice())?,
-            Some((id, cause)),
+        assert!(rt;
+            first_cause(rt.alloc(), &g, image.as_slice())? == Some((id, cause)),
             "at {place}"
         );
     }
@@ -283,9 +282,8 @@ fn check_rooms(
             data_pages: *data_pages,
             fits: *fits,
         };
-        assert_eq!(rt;
-            room_of(g, table.as_slice()),
-            wanted,
+        assert!(rt;
+            room_of(g, table.as_slice()) == wanted,
             "{files} files of {size} bytes"
         );
     }
@@ -337,10 +335,7 @@ fn blocks_without_magic_leave_the_files_of_others(rt: HostRuntime) -> Result<(),
     let g = Geometry::new(256, 4096, 16, 4096, 0, MagicKind::Length)?;
     let mut image = blocks_with_magic(rt.alloc(), &g, &[0, 0])?;
     put_hello(&mut image);
-    assert_eq!(rt;
-        magics_of(rt.alloc(), &g, image.as_slice())?,
-        Some((0, true))
-    );
+    assert!(rt; magics_of(rt.alloc(), &g, image.as_slice())? == Some((0, true)));
     put(&mut image, 20480, &[0x5A; 4096]);
     check_row(
         &rt,
@@ -356,9 +351,8 @@ fn blocks_without_magic_leave_the_files_of_others(rt: HostRuntime) -> Result<(),
             65536usize.saturating_sub(count),
             scrambled.as_slice(),
         );
-        assert_eq!(rt;
-            magics_of(rt.alloc(), &g, image.as_slice())?,
-            Some((spoiled, false)),
+        assert!(rt;
+            magics_of(rt.alloc(), &g, image.as_slice())? == Some((spoiled, false)),
             "{count} bytes of {byte}"
         );
     }
@@ -378,10 +372,7 @@ fn a_size_counts_where_pages_stand_behind_it(rt: HostRuntime) -> Result<(), Fail
         image.as_slice(),
         ("a size without pages", b"", b"", 0, [1, 1, 15, 0]),
     )?;
-    assert_eq!(rt;
-        first_cause(rt.alloc(), &g, image.as_slice())?,
-        Some((1, Damage::Missing(0)))
-    );
+    assert!(rt; first_cause(rt.alloc(), &g, image.as_slice())? == Some((1, Damage::Missing(0))));
     put_hello(&mut image);
     put(&mut image, 0, &[0, 0, 0, 0, 1, 0x80]);
     put(&mut image, 516, &[0x78]);

@@ -22,6 +22,8 @@ mod images;
 #[cfg(test)]
 mod lines;
 #[cfg(test)]
+mod listed;
+#[cfg(test)]
 mod numbers;
 #[cfg(test)]
 mod shares;

@@ -74,7 +74,7 @@ fn each_form_of_a_line_spells_its_call(rt: HostRuntime) -> Result<(), Fail> {
         (b"#", "Ok(None)"),
     ] {
         let call = parse_line(line, &mut scratch);
-        assert_eq!(rt; format!(in rt.alloc(); "{call:?}")?.as_str(), told);
+        assert!(rt; format!(in rt.alloc(); "{call:?}")?.as_str() == told);
     }
     Ok(())
 }
@@ -152,6 +152,6 @@ fn each_reply_has_its_line(rt: HostRuntime) {
         (Reply::Refusal(FsErr::Full), b"-10001\n"),
     ] {
         let length = reply_text(&reply, &mut into);
-        assert_eq!(rt; &into[..length], told);
+        assert!(rt; &into[..length] == told);
     }
 }

@@ -79,9 +79,8 @@ fn one_shared_block_fits_over_where_three_blocks_are_free(rt: HostRuntime) -> Re
             index_free: u64::from(1 - shared) * 14,
             fits,
         };
-        assert_eq!(rt;
-            said(rt.alloc(), &g, image.as_slice())?,
-            Some((numbers, tidy)),
+        assert!(rt;
+            said(rt.alloc(), &g, image.as_slice())? == Some((numbers, tidy)),
             "{blocks} blocks, {spans} pages"
         );
     }

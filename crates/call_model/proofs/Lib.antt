@@ -12,3 +12,4 @@ pub mod Writing
 pub mod Waiting
 pub mod Settling
 pub mod Empty
+pub mod Mounts

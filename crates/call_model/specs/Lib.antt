@@ -5,3 +5,4 @@ pub mod Tables
 pub mod Moves
 pub mod Parts
 pub mod Writing
+pub mod Taken

@@ -2,6 +2,7 @@
 #![tactic(auto)]
 
 pub mod capacity;
+pub mod cuts;
 pub mod descriptors;
 pub mod runs;
 pub mod windows;

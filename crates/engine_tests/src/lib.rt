@@ -4,11 +4,19 @@
 #[cfg(test)]
 mod bench;
 #[cfg(test)]
+mod chip_rows;
+#[cfg(test)]
 mod descriptors;
 #[cfg(test)]
 mod images;
 #[cfg(test)]
+mod metas;
+#[cfg(test)]
+mod rows;
+#[cfg(test)]
 mod space;
+#[cfg(test)]
+mod steps;
 #[cfg(test)]
 mod tight;
 #[cfg(test)]

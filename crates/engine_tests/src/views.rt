@@ -32,17 +32,17 @@ fn a_reader_tells_files_damage_and_bytes(rt: HostRuntime) -> Result<(), Fail> {
     );
     assert!(rt; first.is_some_and(|stat| stat.name.as_slice() == b"ba".as_slice()));
     assert!(rt; matches!(reader.next(1), Ok(None)));
-    assert_eq!(rt; reader.next_damaged(0), Ok(Some((2, Damage::Missing(0)))));
-    assert_eq!(rt; reader.next_damaged(2), Ok(None));
+    assert!(rt; reader.next_damaged(0) == Ok(Some((2, Damage::Missing(0)))));
+    assert!(rt; reader.next_damaged(2) == Ok(None));
     let mut into = [7u8; 4];
-    assert_eq!(rt; reader.read_at(1, 249, &mut into), Ok(4));
-    assert_eq!(rt; into, [0, 0, 1, 1]);
-    assert_eq!(rt; reader.read_at(2, 0, &mut into), Err(FsErr::NotFound));
+    assert!(rt; reader.read_at(1, 249, &mut into) == Ok(4));
+    assert!(rt; into == [0, 0, 1, 1]);
+    assert!(rt; reader.read_at(2, 0, &mut into) == Err(FsErr::NotFound));
     reader.say(b"o")?;
     reader.say(b"k")?;
     let lent = reader.give_back().lent;
-    assert_eq!(rt; lent.work.len(), g.work_need() as usize);
-    assert_eq!(rt; board.said(), b"ok".as_slice());
+    assert!(rt; lent.work.len() == g.work_need() as usize);
+    assert!(rt; board.said() == b"ok".as_slice());
     Ok(())
 }
 
@@ -59,8 +59,8 @@ fn a_view_tells_a_page_that_is_gone(rt: HostRuntime) -> Result<(), Fail> {
     let Lent { work, cache, .. } = lent;
     let mut v = View::new(g, &mut board, work, &mut [], cache);
     let mut into = [7u8; 4];
-    assert_eq!(rt; read_at(&mut v, 1, 247, &mut into), Ok(4));
-    assert_eq!(rt; into, [0; 4]);
+    assert!(rt; read_at(&mut v, 1, 247, &mut into) == Ok(4));
+    assert!(rt; into == [0; 4]);
     let wanted = Tag { id: 1, span: 1 };
     let found = Tag {
         id: 0xFFFF,
@@ -71,13 +71,10 @@ fn a_view_tells_a_page_that_is_gone(rt: HostRuntime) -> Result<(), Fail> {
         wanted,
         found,
     };
-    assert_eq!(rt;
-        read_at(&mut v, 1, 249, &mut into),
-        Err(StepErr::Damaged(differ))
-    );
+    assert!(rt; read_at(&mut v, 1, 249, &mut into) == Err(StepErr::Damaged(differ)));
     let (nor, work, cache) = v.give_back();
-    assert_eq!(rt; nor.image().get(4096..4098), Some([1u8, 0].as_slice()));
-    assert_eq!(rt; work.len(), g.work_need() as usize);
-    assert_eq!(rt; cache.len(), g.cache_need() as usize);
+    assert!(rt; nor.image().get(4096..4098) == Some([1u8, 0].as_slice()));
+    assert!(rt; work.len() == g.work_need() as usize);
+    assert!(rt; cache.len() == g.cache_need() as usize);
     Ok(())
 }

@@ -1,13 +1,12 @@
 //! Writes and truncates on a volume itself, and devices that fail in them.
 use crate::bench::{Memory, board_of};
 use crate::images::{filed, small};
+use crate::steps::{Step, go};
 use nor_memory::{CallKind, MemBoard};
 use std::alloc::Global;
-use std::process::Abort;
 use std::test::Fail;
-use table_model::{Call, FsErr, Whence};
+use table_model::FsErr;
 use vol_mount::{Reader, accept};
-use volume::{Told, Volume};
 
 // A device with the file `ba` of 502 bytes in two data pages, of which the program of that number is to fail.
 fn board(alloc: Global, nth: u64) -> Result<MemBoard, Fail> {
@@ -17,50 +16,36 @@ fn board(alloc: Global, nth: u64) -> Result<MemBoard, Fail> {
     Ok(board)
 }
 
-// Calls that write and cut, and one that waits in the end.
-fn write_and_cut(rt: &impl Abort, volume: &mut Volume<'_, MemBoard>) {
-    assert_eq!(rt; volume.open_file(b"ba", 24), Ok(1));
-    assert_eq!(rt; volume.write(1, b""), Ok(0));
-    assert_eq!(rt; volume.write(1, b"xyz"), Ok(3));
-    assert_eq!(rt; volume.tell(1), Ok(3));
-    let mut into = [7u8; 4];
-    assert_eq!(rt; volume.seek(1, 1, Whence::Set), Ok(1));
-    assert_eq!(rt; volume.read(1, &mut into), Ok(4));
-    assert_eq!(rt; into, [b'y', b'z', 0, 0]);
-    assert_eq!(rt; volume.truncate(1, 503), Err(FsErr::SeekBounds));
-    assert_eq!(rt; volume.truncate(1, 4), Ok(()));
-    assert_eq!(rt; volume.tell(1), Ok(4));
-    let fill = Call::Fill {
-        fd: 1,
-        count: 3,
-        byte: b'f',
-    };
-    assert!(rt; matches!(volume.answer(&fill, &mut [0; 3]), Told::Number(3)));
-    assert!(rt; volume.fstat(1).is_ok_and(|stat| stat.size == 7));
-    assert_eq!(rt; volume.write(1, b"w"), Ok(1));
-}
-
 #[test]
 fn a_volume_that_is_unmounted_has_all_its_bytes_on_the_chip(rt: HostRuntime) -> Result<(), Fail> {
     let alloc = rt.alloc();
     let g = small()?;
     let mut board = board(alloc, 0)?;
-    let mut memory = Memory::new(alloc, &g)?;
-    let lent = memory.lend();
-    accept(&g, &board, &lent)?;
-    let mut volume = Volume::new(g, &mut board, lent);
-    volume.mount()?;
-    volume.check()?;
-    write_and_cut(&rt, &mut volume);
-    assert_eq!(rt; volume.unmount().last, Ok(()));
+    // calls that write and cut, and one that waits in the end
+    let steps = [
+        Step::Starts(2),
+        Step::Opens(b"ba", 24, Ok(1)),
+        Step::Writes(1, b"", Ok(0)),
+        Step::Writes(1, b"xyz", Ok(3)),
+        Step::Tells(1, Ok(3)),
+        Step::Seeks(1, 1, Ok(1)),
+        Step::Reads(1, Ok(4), &[b'y', b'z', 0, 0]),
+        Step::Truncates(1, 503, Err(FsErr::SeekBounds)),
+        Step::Truncates(1, 4, Ok(())),
+        Step::Tells(1, Ok(4)),
+        Step::Fills(1, 3),
+        Step::StatsOpen(1, 1, 7),
+        Step::Writes(1, b"w", Ok(1)),
+    ];
+    go(&rt, alloc, &g, &mut board, &steps, Ok(()))?;
     let mut memory = Memory::new(alloc, &g)?;
     let lent = memory.lend();
     accept(&g, &board, &lent)?;
     let mut reader = Reader::new(g, &mut board, lent);
     reader.mount()?;
     let mut into = [7u8; 9];
-    assert_eq!(rt; reader.read_at(1, 0, &mut into), Ok(8));
-    assert_eq!(rt; into, *b"xyz\0fffw\x07");
+    assert!(rt; reader.read_at(1, 0, &mut into) == Ok(8));
+    assert!(rt; into == *b"xyz\0fffw\x07");
     Ok(())
 }
 
@@ -69,32 +54,26 @@ fn a_fault_as_waiting_bytes_are_put_onto_the_chip_is_told(rt: HostRuntime) -> Re
     let alloc = rt.alloc();
     let g = small()?;
     let mut board = board(alloc, 2)?;
-    let mut memory = Memory::new(alloc, &g)?;
-    let lent = memory.lend();
-    accept(&g, &board, &lent)?;
-    let mut volume = Volume::new(g, &mut board, lent);
-    volume.mount()?;
-    volume.check()?;
-    assert_eq!(rt; volume.open_file(b"ba", 16), Ok(1));
-    assert_eq!(rt; volume.write(1, b"xyz"), Ok(3));
-    assert!(rt; !volume.has_failed());
-    assert_eq!(rt; volume.settle(), Err(FsErr::DeviceFault));
-    assert!(rt; volume.has_failed());
-    assert_eq!(rt; volume.tell(1), Ok(3));
-    assert_eq!(rt; volume.write(1, b"1"), Err(FsErr::Failed));
-    assert_eq!(rt; volume.truncate(1, 0), Err(FsErr::Failed));
-    assert_eq!(rt; volume.settle(), Err(FsErr::Failed));
-    volume.mount()?;
-    volume.check()?;
-    assert_eq!(rt; volume.tell(1), Err(FsErr::BadDescriptor));
-    assert_eq!(rt; volume.open_file(b"ba", 25), Ok(1));
-    let mut into = [7u8; 2];
-    assert_eq!(rt; volume.read(1, &mut into), Ok(2));
-    assert_eq!(rt; into, [0, 0]);
-    assert_eq!(rt; volume.write(1, b"1"), Ok(1));
-    assert_eq!(rt; volume.settle(), Ok(()));
-    assert!(rt; volume.fstat(1).is_ok_and(|stat| stat.size == 503));
-    Ok(())
+    let steps = [
+        Step::Starts(2),
+        Step::Opens(b"ba", 16, Ok(1)),
+        Step::Writes(1, b"xyz", Ok(3)),
+        Step::HasFailed(false),
+        Step::Settles(Err(FsErr::DeviceFault)),
+        Step::HasFailed(true),
+        Step::Tells(1, Ok(3)),
+        Step::Writes(1, b"1", Err(FsErr::Failed)),
+        Step::Truncates(1, 0, Err(FsErr::Failed)),
+        Step::Settles(Err(FsErr::Failed)),
+        Step::Starts(2),
+        Step::Tells(1, Err(FsErr::BadDescriptor)),
+        Step::Opens(b"ba", 25, Ok(1)),
+        Step::Reads(1, Ok(2), &[0, 0]),
+        Step::Writes(1, b"1", Ok(1)),
+        Step::Settles(Ok(())),
+        Step::StatsOpen(1, 1, 503),
+    ];
+    go(&rt, alloc, &g, &mut board, &steps, Ok(()))
 }
 
 #[test]
@@ -103,17 +82,14 @@ fn a_fault_of_the_last_work_is_told_as_the_volume_is_unmounted(
 ) -> Result<(), Fail> {
     let alloc = rt.alloc();
     let g = small()?;
+    let steps = [
+        Step::Starts(2),
+        Step::Opens(b"ba", 17, Ok(1)),
+        Step::Writes(1, b"xyz", Ok(3)),
+    ];
     for (nth, last) in [(1, Err(FsErr::DeviceFault)), (100, Ok(()))] {
         let mut board = board(alloc, nth)?;
-        let mut memory = Memory::new(alloc, &g)?;
-        let lent = memory.lend();
-        accept(&g, &board, &lent)?;
-        let mut volume = Volume::new(g, &mut board, lent);
-        volume.mount()?;
-        volume.check()?;
-        assert_eq!(rt; volume.open_file(b"ba", 17), Ok(1), "at {nth}");
-        assert_eq!(rt; volume.write(1, b"xyz"), Ok(3), "at {nth}");
-        assert_eq!(rt; volume.unmount().last, last, "at {nth}");
+        go(&rt, alloc, &g, &mut board, &steps, last)?;
     }
     Ok(())
 }

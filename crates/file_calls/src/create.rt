@@ -33,7 +33,7 @@ pub(crate) fn refuse_known<N: Nor>(v: &mut View<'_, N>, name: &[u8]) -> Result<(
     ensures told { N.tells v.old.nor.now → IsTidy v.old.geometry (N.bytes v.old.nor.now) → IsNewName name.now (table_of v.old.geometry (N.bytes v.old.nor.now)) result }
 {
     names_are_told();
-    match v.find_header_name(name) {
+    match v.seek_name(name) {
         Err(Failed) => Err(FsErr::DeviceFault),
         Ok(Some(_)) => Err(FsErr::ConflictingName),
         Ok(None) => Ok(()),

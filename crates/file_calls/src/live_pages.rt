@@ -44,7 +44,8 @@ fn with_block(live: LivePages, counts: &BlockCounts, entries: u32) -> LivePages
     }
 }
 
-/// How many index pages and data pages are live, and how many blocks are free: where the table of counts stands they are kept, else in one pass over the blocks.
+/// How many index pages and data pages are live, and how many blocks are free: by the sums that are kept, where the table of
+/// counts stands, else in one pass over the blocks.
 pub(crate) fn live_pages<N: Nor>(v: &mut View<'_, N>) -> Result<LivePages, Failed>
     ensures cause { OnErr result (Rose (N.faults v.old.nor.now) (N.faults v.new.nor.now)) }
     ensures looks { OnlyLooks v.old v.new }

@@ -67,7 +67,7 @@ fn find_opened<N: Nor>(v: &mut View<'_, N>, name: &[u8], flags: u32) -> Result<O
     ensures making { IfOk result (λ found. found ≡ None → makes flags ≡ true) }
     ensures told { N.tells v.old.nor.now → IsTidy v.old.geometry (N.bytes v.old.nor.now) → FindsOpened name.now flags (table_of v.old.geometry (N.bytes v.old.nor.now)) result }
 {
-    match v.find_header_name(name) {
+    match v.seek_name(name) {
         Err(Failed) => Err(FsErr::DeviceFault),
         Ok(Some(id)) => {
             if flags & CREAT != 0 && flags & EXCL != 0 {
@@ -86,8 +86,8 @@ fn find_opened<N: Nor>(v: &mut View<'_, N>, name: &[u8], flags: u32) -> Result<O
     }
 }
 
-// Flags of a number that are fine.
-fn fine(flags: u32) -> OpenFlags
+// The flags of a number up to 127.
+fn flags_of(flags: u32) -> OpenFlags
     requires { flags ≤ 127 }
     ensures { result ≡ flags }
 {
@@ -110,7 +110,7 @@ fn open_at(slots: &mut [FdSlot], fd: u16, id: u16, flags: u32)
         FdSlot {
             used: true,
             id,
-            flags: fine(flags),
+            flags: flags_of(flags),
             offset: 0,
         },
     );

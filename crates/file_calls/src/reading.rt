@@ -1,10 +1,13 @@
-ghost use Rattle.std.specs.Prelude.{ℤ, pos, ◌+ℤ◌, ◌≡◌, ◌≢◌, ◌≤◌, ℕ, List, length, OnOk, IsErrOf, IfOk, IfErr, true, false};
+ghost use Rattle.std.specs.Prelude.{ℤ, pos, ◌+ℤ◌, ◌≡◌, ◌≢◌, ◌+◌, ◌^◌, ◌<◌, ◌≤◌, ℕ, List, length, OnOk, IsErrOf, IfOk, IfErr, true, false};
 ghost use Rattle.nor_core.specs.Count.{Rose};
 ghost use Rattle.flash_view.specs.Same.{IsSameView, OnlyLooks};
 ghost use Rattle.table_model.specs.Ask.{Reads, Seeks, StatsOpen};
 ghost use Rattle.table_model.specs.Files.{place_within};
+ghost use Rattle.table_model.specs.Table.{File};
 ghost use Rattle.image_model.specs.Tables.{table_of};
 ghost use Rattle.image_model.specs.Tidy.{IsTidy};
+ghost use Rattle.file_read.specs.Whole.{IsFileOf, IsRead};
+ghost use Rattle.file_read.specs.Missing.{IsMissing, HoldsOrFault};
 ghost use Rattle.file_calls.specs.Replies.{reply_of, base_at};
 ghost use Rattle.file_calls.specs.Recorded.{TellsRecord, MayMiss};
 ghost use Rattle.file_calls.specs.Goes.{Goes};
@@ -14,8 +17,8 @@ use crate::records::stat_of_id;
 use crate::slots::opened;
 use crate::steps::failed_as;
 use fd_table::{FdSlot, put};
-use file_read::{no_header, read_at};
-use flash_view::View;
+use file_read::{no_header, read_from};
+use flash_view::{StepErr, View};
 use nor_core::{Failed, Nor, NorState};
 use table_model::{FsErr, Stat, Whence};
 
@@ -94,6 +97,21 @@ pub(crate) fn seek_in<N: Nor>(
     Ok(Told::Number(at))
 }
 
+// The bytes of a file from byte `at` on, as many as there are and fit. The answer is how many bytes were read.
+#[tactic(auto, using(flash_view::proofs::Looking::looks_then))]
+fn read_file<N: Nor>(v: &mut View<'_, N>, id: u16, at: u32, into: &mut [u8]) -> Result<u32, StepErr>
+    ensures cause { IsErrOf result StepErr.DeviceFault → Rose (N.faults v.old.nor.now) (N.faults v.new.nor.now) }
+    ensures looks { OnlyLooks v.old v.new }
+    ensures missing { IfErr result (IsMissing id) }
+    ensures within { IfOk result (λ n. (n ≤ length into.old) × (at + n < 2 ^ 32)) }
+    ensures told { N.tells v.old.nor.now → IsTidy v.old.geometry (N.bytes v.old.nor.now) → (f : File) → IsFileOf v.old.geometry (N.bytes v.old.nor.now) id f → HoldsOrFault result (λ n. IsRead f at into.old into.new n) }
+{
+    match v.seek_header(id)? {
+        Some(header) => read_from(v, id, header, at, into),
+        None => Err(StepErr::Damaged(no_header(id))),
+    }
+}
+
 /// Reads from the offset of a descriptor, as many bytes as there are and as are asked for.
 #[tactic(auto, using(flash_view::proofs::Looking::same_none))]
 pub(crate) fn read_in<N: Nor>(
@@ -112,7 +130,7 @@ pub(crate) fn read_in<N: Nor>(
     if !slot.flags.may_read() {
         return Err(FsErr::NotReadable);
     }
-    match read_at(v, slot.id, slot.offset, &mut into[..count as usize]) {
+    match read_file(v, slot.id, slot.offset, &mut into[..count as usize]) {
         Ok(read) => {
             put(
                 slots,

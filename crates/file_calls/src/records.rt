@@ -42,7 +42,7 @@ pub(crate) fn stat_of_id<N: Nor>(v: &mut View<'_, N>, id: u16) -> Result<Option<
     ensures looks { OnlyLooks v.old v.new }
     ensures told { N.tells v.old.nor.now → IsTidy v.old.geometry (N.bytes v.old.nor.now) → IfOk result (λ found. found ≡ option_map the_stat (file_of id (table_of v.old.geometry (N.bytes v.old.nor.now)))) }
 {
-    let Some(page) = v.find_index(id, 0)? else {
+    let Some(page) = v.seek_header(id)? else {
         return Ok(None);
     };
     v.fetch(page)?;
@@ -56,7 +56,7 @@ pub(crate) fn stat_named<N: Nor>(v: &mut View<'_, N>, name: &[u8]) -> Result<Opt
     ensures looks { OnlyLooks v.old v.new }
     ensures told { N.tells v.old.nor.now → IsTidy v.old.geometry (N.bytes v.old.nor.now) → IfOk result (λ found. found ≡ option_map the_stat (file_named name.now (table_of v.old.geometry (N.bytes v.old.nor.now)))) }
 {
-    match v.find_header_name(name)? {
+    match v.seek_name(name)? {
         Some(id) => stat_of_id(v, id),
         None => Ok(None),
     }

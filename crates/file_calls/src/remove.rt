@@ -25,7 +25,7 @@ pub(crate) fn find_named<N: Nor>(v: &mut View<'_, N>, name: &[u8]) -> Result<u16
     ensures among { IfErr result (MeetsNamed name.now) }
     ensures told { N.tells v.old.nor.now → IsTidy v.old.geometry (N.bytes v.old.nor.now) → FindsNamed name.now (table_of v.old.geometry (N.bytes v.old.nor.now)) result }
 {
-    match v.find_header_name(name) {
+    match v.seek_name(name) {
         Err(Failed) => Err(FsErr::DeviceFault),
         Ok(Some(id)) => Ok(id),
         Ok(None) => Err(FsErr::NotFound),

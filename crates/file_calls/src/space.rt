@@ -32,7 +32,7 @@ fn with_block(space: Space, c: &BlockCounts, entries: u32) -> Space
     }
 }
 
-/// What is free: where the table of counts stands it is kept, else counted block by block.
+/// What is free: by the sums that are kept, where the table of counts stands, else counted block by block.
 #[tactic(auto, using(flash_view::proofs::Looking::looks_then))]
 pub fn space_of<N: Nor>(v: &mut View<'_, N>) -> Result<Space, Failed>
     ensures cause { OnErr result (Rose (N.faults v.old.nor.now) (N.faults v.new.nor.now)) }

@@ -37,6 +37,14 @@ impl Flat {
         })
     }
 
+    /// Takes another volume's numbers; files and descriptors stay, whether or not they leave room there.
+    pub fn set_geometry(&mut self, geometry: Geometry)
+        ensures state { state_of self.new ≡ state_of self.old }
+        ensures geometry { self.new.geometry ≡ geometry }
+    {
+        self.geometry = geometry;
+    }
+
     // Why a call that needs a page and leaves this table is refused, if it is.
     #[tactic(auto, unfolding(table_model::specs::Outcome::page_refusal))]
     pub(crate) fn page_fault(

@@ -3,7 +3,8 @@ ghost use Rattle.std.specs.Prelude.{◌≡◌, ◌^◌, ◌<◌, [], length};
 ghost use Rattle.host_edge.specs.Host.{host_entries, few_entries};
 
 use crate::Trouble;
-use crate::host_file::{HostFile, list, name_of, read_at, size_of};
+use crate::bad_name::{BadName, first_bad};
+use crate::host_file::{HostFile, Listed, PassedOver, list, name_of, read_at, size_of};
 use crate::put::put_in;
 use crate::trouble::note;
 use folder_core::{Folder, FolderState};
@@ -22,6 +23,7 @@ pub struct StdFolder<R: Files + Drop> {
     alloc: Global,
     path: String,
     files: Vec<HostFile>,
+    passed_over: Vec<PassedOver>,
     is_listed: bool,
     faults: u64,
     trouble: Option<Trouble>,
@@ -51,6 +53,7 @@ impl<R: Files + Drop> StdFolder<R> {
             alloc,
             path: String::new(alloc),
             files: Vec::new(alloc),
+            passed_over: Vec::new(alloc),
             is_listed: false,
             faults: 0,
             trouble: None,
@@ -62,10 +65,22 @@ impl<R: Files + Drop> StdFolder<R> {
         self.trouble.as_ref()
     }
 
+    /// What stands in the folder and is no plain file, in the order of the paths' bytes.
+    pub fn passed_over(&self) -> &[PassedOver] {
+        self.passed_over.as_slice()
+    }
+
+    /// The first file whose name no file of a volume can have, or an earlier file has, with what is wrong with it.
+    pub fn bad_name(&self) -> Option<BadName<'_>> {
+        first_bad(self.files.as_slice())
+    }
+
     // Lists the folder of that path.
     fn list(&mut self, path: &str) -> io::Result<()> {
         self.path = String::from_str(self.alloc, path)?;
-        self.files = list(&self.rt, self.alloc, path)?;
+        let Listed { files, passed_over } = list(&self.rt, self.alloc, path)?;
+        self.files = files;
+        self.passed_over = passed_over;
         self.is_listed = true;
         Ok(())
     }

@@ -20,6 +20,24 @@ pub struct HostFile {
     pub size: u64,
 }
 
+/// What stands in a host folder and is no plain file.
+#[derive(Drop)]
+pub struct PassedOver {
+    /// By which the host opens it.
+    pub path: String,
+    /// Whether it is a folder.
+    pub is_folder: bool,
+}
+
+/// What stands in a host folder.
+#[derive(Drop)]
+pub(crate) struct Listed {
+    /// The plain files, in the order of their names' bytes.
+    pub files: Vec<HostFile>,
+    /// All else, in the order of the paths' bytes.
+    pub passed_over: Vec<PassedOver>,
+}
+
 // What the name of file `i` stands for.
 pub(crate) fn name_of(files: &Vec<HostFile>, i: usize) -> &[u8]
     requires { i < length files.now.items }
@@ -36,26 +54,31 @@ pub(crate) fn size_of(files: &Vec<HostFile>, i: usize) -> u64
     files[i].size
 }
 
-// The plain files of a folder, in the order of their names' bytes, so that equal folders are told equally.
-pub(crate) fn list<R: Files>(rt: &R, alloc: Global, folder: &str) -> io::Result<Vec<HostFile>>
-    ensures few { IfOk result (λ files. length files.items < 2 ^ 32) }
+// What stands in a folder, in order, so that equal folders are told equally.
+pub(crate) fn list<R: Files>(rt: &R, alloc: Global, folder: &str) -> io::Result<Listed>
+    ensures few { IfOk result (λ listed. length listed.files.items < 2 ^ 32) }
 {
     let mut files = Vec::new(alloc);
+    let mut passed_over = Vec::new(alloc);
     for entry in fs::read_dir(&(rt, alloc), folder)? {
         let entry = entry?;
         let metadata = entry.metadata()?;
+        let path = String::from_str(alloc, entry.path().as_str())?;
         if metadata.is_file() {
             let name = decoded(alloc, entry.file_name().as_bytes())?;
-            let path = String::from_str(alloc, entry.path().as_str())?;
             let size = metadata.len();
             files.push(HostFile { name, path, size })?;
+        } else {
+            let is_folder = metadata.is_dir();
+            passed_over.push(PassedOver { path, is_folder })?;
         }
     }
     if files.len() > u32::MAX as usize {
         return Err(Error::from(ErrorKind::FileTooLarge));
     }
     files.sort_unstable_by(|a, b| a.name.cmp(&b.name));
-    Ok(files)
+    passed_over.sort_unstable_by(|a, b| a.path.cmp(&b.path));
+    Ok(Listed { files, passed_over })
 }
 
 // Reads bytes of a file from a place on.

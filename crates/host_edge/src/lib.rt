@@ -2,6 +2,7 @@
 //! can say what these hold; each type counts its faults, and tells what failed first.
 #![tactic(auto)]
 
+mod bad_name;
 mod board;
 mod chip;
 mod file;
@@ -12,8 +13,10 @@ mod put;
 mod source;
 mod trouble;
 
+pub use bad_name::BadName;
 pub use board::StdBoard;
 pub use chip::{Access, FileChip};
 pub use folder::StdFolder;
+pub use host_file::PassedOver;
 pub use source::StdSource;
 pub use trouble::Trouble;

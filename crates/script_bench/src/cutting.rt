@@ -133,6 +133,17 @@ pub fn cut_all_recoveries(steps: &Steps) -> Result<Swept, Trouble> {
     Ok(Swept::Whole(all))
 }
 
+/// What a script leaves that is cut inside the call behind so many, if a line was answered, and a check leaves two free blocks and a table that may
+/// be left.
+pub fn cut_once(steps: &Steps, passed: u64) -> Result<Option<Told>, Trouble> {
+    let ran = cut(steps, passed, passed % 5)?;
+    if ran.status == DEVICE_FAULT && ran.lines() > 0 && recovers(steps, &ran, false)? {
+        Ok(Some(ran))
+    } else {
+        Ok(None)
+    }
+}
+
 /// Lets each call of a kind fail in turn. The run is to end there, and a check to leave two free blocks and a table that may be left: where a
 /// reply isn't said, its line was done.
 pub fn fail_each(steps: &Steps, kind: CallKind) -> Result<Swept, Trouble> {

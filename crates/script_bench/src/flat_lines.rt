@@ -2,6 +2,7 @@
 use crate::{Bench, Trouble};
 use call_script::{parse_line, reply_text};
 use flat_plain::{Flat, PlainFile, Said};
+use geometry::Geometry;
 use image_plain::Record;
 use table_model::{Call, Meta, Name, Reply, Stat};
 
@@ -33,10 +34,19 @@ fn gap_name(id: u16) -> [u8; 3] {
     [1, low.max(1), high.max(1)]
 }
 
-/// The flat table that holds these files, in order of their ids, with no open descriptor.
+// The numbers of a volume of twice the blocks, or of the same where there are none.
+fn wider(g: &Geometry) -> Geometry {
+    let blocks = g.blocks.saturating_mul(2);
+    match Geometry::new(g.page, g.block, blocks, g.phys, g.meta, g.magic) {
+        Ok(wide) => wide,
+        Err(_) => *g,
+    }
+}
+
+/// The flat table that holds these files, in order of their ids, with no open descriptor. They may leave no room on the volume.
 pub(crate) fn flat_of(bench: &Bench, files: &[Record]) -> Result<Flat, Trouble> {
     let slots = bench.lends.slots.min(65535) as u16;
-    let mut flat = Flat::new(bench.alloc, bench.g, slots)?;
+    let mut flat = Flat::new(bench.alloc, wider(&bench.g), slots)?;
     let mut gaps: Vec<u16> = Vec::new(bench.alloc);
     let mut next = 1u16;
     for file in files {
@@ -60,6 +70,7 @@ pub(crate) fn flat_of(bench: &Bench, files: &[Record]) -> Result<Flat, Trouble> 
             },
         )?;
     }
+    flat.set_geometry(bench.g);
     Ok(flat)
 }
 

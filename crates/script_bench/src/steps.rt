@@ -16,6 +16,8 @@ pub enum Kept {
     Before,
     /// No more than before its reply: its bytes wait behind others, or it tells an offset.
     NoMore,
+    /// All; it cuts a file and is refused, since no page is had for it.
+    NoPage,
 }
 
 /// A script on a volume, and the tables that its calls lead to, step by step.
@@ -184,12 +186,12 @@ impl Steps {
         }
     }
 
-    // Adds the steps of a call.
-    fn answer(&mut self, call: &Call<'_>) -> Result<(), Trouble> {
+    // Adds the steps of a call, for which a page is had or not.
+    fn answer(&mut self, call: &Call<'_>, is_had: bool) -> Result<(), Trouble> {
         match *call {
             Call::Write { fd, .. } | Call::Fill { fd, .. } => self.write(fd, call),
             _ => {
-                self.flat.answer(true, call)?;
+                self.flat.answer(is_had, call)?;
                 self.step(None)
             }
         }
@@ -204,12 +206,12 @@ impl Steps {
         self.script.extend_from_slice(line)?;
         self.script.push(b'\n')?;
         let before = self.tables.len().saturating_sub(1);
-        self.answer(&call)?;
+        self.answer(&call, !matches!(kept, Kept::NoPage))?;
         let after = self.tables.len().saturating_sub(1);
         let first = self.first.last().copied().unwrap_or(0);
         self.last.push(after)?;
         self.first.push(match kept {
-            Kept::All => after,
+            Kept::All | Kept::NoPage => after,
             Kept::Before => before,
             Kept::NoMore => first,
         })?;

@@ -6,7 +6,7 @@ use crate::input::Line;
 use crate::script::Script;
 use crate::sweeps;
 use crate::words::{byte_of, number, word, words_of};
-use script_bench::{Steps, Trouble, spare_blocks};
+use script_bench::{Steps, Trouble, cut_once, spare_blocks};
 use std::alloc::Global;
 
 /// The most runs of one case.
@@ -27,6 +27,25 @@ fn steps_of(alloc: Global, chip: &Chip, part: &Part<'_, '_>) -> Result<Steps, Tr
     let mut steps = Steps::new(chip.bench()?, image)?;
     part.script.add_to(alloc, part.chosen, &mut steps)?;
     Ok(steps)
+}
+
+// Runs a script on what the run before left, as often as there are numbers, each time cut behind so many calls.
+fn cut_in_turn(
+    alloc: Global,
+    chip: &mut Chip,
+    part: &Part<'_, '_>,
+    out: &mut String,
+) -> Result<(), Trouble> {
+    for at in 1..part.words.len() {
+        let passed = number(part.words, at, u64::MAX)?;
+        let left = cut_once(&steps_of(alloc, chip, part)?, passed)?;
+        sweeps::tell_turn(passed, left.is_some(), out)?;
+        let Some(ran) = left else {
+            break;
+        };
+        chip.image = ran.image;
+    }
+    Ok(())
 }
 
 // Tells the bytes from a place of the image on.
@@ -79,6 +98,7 @@ fn do_part(
         "drawn" => sweeps::draw(chip, part.words, out),
         "damaged" => sweeps::damage(chip, part.words, out),
         "cuts" => sweeps::cut(&steps_of(alloc, chip, part)?, out),
+        "again" => cut_in_turn(alloc, chip, part, out),
         "recoveries" => sweeps::cut_twice(&steps_of(alloc, chip, part)?, part.words, out),
         "fails" => sweeps::fail(&steps_of(alloc, chip, part)?, part.words, out),
         "bytes" => tell_bytes(chip, part.words, out),
@@ -99,7 +119,7 @@ struct Wrong {
 fn has_script(verb: &str) -> bool {
     matches!(
         verb,
-        "run" | "tool" | "flat" | "cuts" | "recoveries" | "fails"
+        "run" | "tool" | "flat" | "cuts" | "again" | "recoveries" | "fails"
     )
 }
 

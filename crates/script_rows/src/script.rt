@@ -33,6 +33,7 @@ fn spoken_of(text: &str) -> Option<Spoken<'_>> {
         ("  ", Kept::All),
         ("~ ", Kept::Before),
         ("& ", Kept::NoMore),
+        ("- ", Kept::NoPage),
     ] {
         if let Some(text) = text.strip_prefix(front) {
             return Some(Spoken { kept, text });

@@ -98,6 +98,17 @@ pub fn cut(steps: &Steps, out: &mut String) -> Result<(), Trouble> {
     Ok(())
 }
 
+/// Tells whether what a cut left behind so many calls is as it is to be.
+pub fn tell_turn(passed: u64, is_so: bool, out: &mut String) -> Result<(), Trouble> {
+    let told = if is_so {
+        "a check leaves a front of the steps and two free blocks"
+    } else {
+        "not so"
+    };
+    write!(out, "  behind {passed}: {told}\n")?;
+    Ok(())
+}
+
 /// Cuts the power of a script behind so many calls, or inside each, and of the check behind it at each of its own.
 pub fn cut_twice(steps: &Steps, words: &[&str], out: &mut String) -> Result<(), Trouble> {
     let good = "cut at each of them the check leaves the files too";

@@ -6,13 +6,15 @@ pub const HELP: &str = "\
 spiffs: a SPIFFS 0.3.7 flash volume in a chip file, or in several end to end
 
   spiffs run PAGE BLOCK BLOCKS META MAGIC CHIP < SCRIPT
-      mounts and checks the volume, then runs each line of the script as a call
+      mounts and checks the volume, then runs each line of the script as a call;
+      the check removes damaged files for good: see META
       spiffs run 256 4096 16 0 len chip < script
   spiffs list PAGE BLOCK BLOCKS META MAGIC CHIP
       mounts the volume and tells its files and damaged ids; writes nothing
       spiffs list 256 4096 16 0 len chip
   spiffs check PAGE BLOCK BLOCKS META MAGIC CHIP
-      mounts and checks the volume, and tells what the check found and did
+      mounts and checks the volume, and tells what the check found and did;
+      it removes damaged files for good: see META
       spiffs check 256 4096 16 0 len chip
   spiffs extract PAGE BLOCK BLOCKS META MAGIC CHIP FOLDER
       tells what a list tells, and puts each file of the volume into the folder
@@ -23,12 +25,16 @@ spiffs: a SPIFFS 0.3.7 flash volume in a chip file, or in several end to end
   spiffs soak PAGE BLOCK BLOCKS META MAGIC CHIP SEED COUNT
       formats the volume, and makes COUNT turns of calls that SEED picks
       spiffs soak 256 4096 16 0 len first,second 0 1000
+  spiffs --force run .. | --force check ..
+      goes on where another META reads more whole files
   spiffs --help | --version
 
   PAGE    bytes of a page, a power of two from 128 to 4096
   BLOCK   bytes of a block, a multiple of PAGE
   BLOCKS  blocks of the volume
-  META    meta bytes of each file, 0 to 64
+  META    meta bytes of each file, 0 to 64. First `list` a chip that you did not
+          make. If ids are damaged the META may be wrong; `run` and `check`
+          remove damaged files for good
   MAGIC   `len` (the magic tells the volume's length) or `plain`
   CHIP    the chip's file, BLOCK * BLOCKS bytes; or the files of several chips,
           parted by commas, of BLOCK * ceil(BLOCKS / number) bytes each. Bytes
@@ -100,8 +106,11 @@ that did what was asked, those that were refused, files and bytes in the end.
 Statuses: 0 all was done; 1 usage; 2 numbers or device refused; 3 no volume;
 4 blocks with pages of both kinds; 5 a line outside the grammar; 6 no room for
 the files of the folder; 7 a chip or the output failed, 8 the script could not
-be read, 9 the folder failed: then standard error tells why; 10 lent memory too
-short; 11 the script is too long; 12 an id is damaged; 13 a name of the folder
-is no file's, or an earlier one's; 14 fewer than two free blocks; 15 no memory;
-21 a page does not read as it was written; 22 the chips make no row.
+be read, 9 the folder failed; 10 lent memory too short; 11 the script is too
+long; 12 an id is damaged; 13 a name of the folder is no file's, or an earlier
+one's; 14 fewer than two free blocks; 15 no memory; 21 a page does not read as
+it was written; 22 the chips make no row; 23 `run` or `check`: ids are damaged
+and another META reads more whole files, nothing was written. Standard error
+tells more of statuses 1, 3, 7, 8, 9, 13 and 23, what `make` passed over, and
+how many damaged files were removed.
 ";

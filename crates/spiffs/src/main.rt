@@ -1,15 +1,20 @@
 //! The program `spiffs`: makes a board of chip files and the standard streams, lists the folder, lends the memory, and
-//! ends with the status of the top call. Where a chip file, standard output, the script or the folder failed it says why on
-//! standard error.
+//! ends with the status of the top call. What the one who gave the command has to know beside that, it says on standard error:
+//! what failed, which word or name is wrong, what was passed over or removed. Before a command that removes damaged files it
+//! looks whether another META reads more whole files, and then it writes nothing.
 #![tactic(auto)]
 
 mod help;
+mod look;
+mod usage;
+mod words;
 
 use chip_row::ChipRow;
 use fd_table::FdSlot;
 use help::{HELP, VERSION};
 use host_edge::{Access, FileChip, StdBoard, StdFolder, StdSource, Trouble};
-use nor_core::MemErr;
+use look::{Look, look};
+use nor_core::{Failed, MemErr};
 use std::alloc::{AllocError, Global};
 use std::fs::File;
 use std::io::Write;
@@ -17,6 +22,17 @@ use std::process::ExitCode;
 use std::rt::Env;
 use std::{env, fs};
 use tool_core::{Buffers, chip_size_of, is_accepted, spiffs_tool, unit_of};
+use usage::wrong_word;
+use words::{CHIP_WORD, FOLDER_WORD, repairs, word};
+
+/// The status where the words are no command.
+const USAGE: u8 = 1;
+
+/// The status where two or more blocks lack their magic.
+const NO_VOLUME: u8 = 3;
+
+/// The status where the volume has no room for a folder.
+const FULL: u8 = 6;
 
 /// The status where a chip or standard output failed.
 const BOARD_FAULT: u8 = 7;
@@ -27,26 +43,26 @@ const SCRIPT_FAULT: u8 = 8;
 /// The status where the folder failed.
 const FOLDER_FAULT: u8 = 9;
 
-/// The place among the words of the chip files' names.
-const CHIP_WORD: usize = 6;
+/// The status where a name of the folder is no file's.
+const BAD_NAME: u8 = 13;
 
-/// The place among the words of the folder's name.
-const FOLDER_WORD: usize = 7;
+/// The status where another META reads more whole files.
+const OTHER_META: u8 = 23;
 
-/// Bytes of work that are lent.
-const WORK: usize = 1_048_576;
+/// The most bytes of work that are lent: enough for every volume.
+const MOST_WORK: usize = 1_048_576;
 
 /// Descriptors that are lent.
 const SLOTS: usize = 16;
 
-/// The least bytes of cache that are lent.
-const LEAST_CACHE: usize = 262_144;
+/// The most bytes of cache that are lent where there is no memory for a frame of each page.
+const SMALL_CACHE: usize = 262_144;
 
 /// The most bytes of cache that are lent: enough for 65,535 pages of 4,096 bytes.
 const MOST_CACHE: usize = 301_989_888;
 
-/// Bytes of check that are lent.
-const CHECK: usize = 131_072;
+/// The most bytes of check that are lent: enough for 65,535 pages.
+const MOST_CHECK: usize = 131_072;
 
 /// Bytes of line that are lent.
 const LINE: usize = 12_288;
@@ -61,20 +77,30 @@ struct Memory {
     line: Vec<u8>,
 }
 
-// Bytes of cache for a volume of that many bytes: a frame for each page, within the limits. A frame has eight bytes
-// more than a page, which has at least 128.
+// Bytes of work for a volume of that many bytes, within the limit: four for each byte of a page, which has at most 4,096 and at least
+// 128, four for each page of a block, sixteen for each block, which has at least two pages, and a bit for each usable page.
+fn work_for(volume: u32) -> usize {
+    (16_385 + volume as usize / 8).min(MOST_WORK)
+}
+
+// Bytes of cache for a volume of that many bytes: a frame for each page, within the limit. A frame has eight bytes more than a page, which
+// has at least 128.
 fn cache_for(volume: u32) -> usize {
-    let frames = volume as usize + volume as usize / 16;
-    frames.max(LEAST_CACHE).min(MOST_CACHE)
+    (volume as usize + volume as usize / 16).min(MOST_CACHE)
+}
+
+// Bytes of check for a volume of that many bytes, within the limit: one for each page, which has at least 128, and 8,192.
+fn check_for(volume: u32) -> usize {
+    (8192 + volume as usize / 128).min(MOST_CHECK)
 }
 
 impl Memory {
-    fn new(alloc: Global, cache: usize) -> Result<Memory, AllocError> {
+    fn new(alloc: Global, volume: u32, cache: usize) -> Result<Memory, AllocError> {
         Ok(Memory {
-            work: vec![in alloc; 0u8; WORK]?,
+            work: vec![in alloc; 0u8; work_for(volume)]?,
             slots: vec![in alloc; FdSlot::empty(); SLOTS]?,
             cache: vec![in alloc; 0u8; cache]?,
-            check: vec![in alloc; 0u8; CHECK]?,
+            check: vec![in alloc; 0u8; check_for(volume)]?,
             line: vec![in alloc; 0u8; LINE]?,
         })
     }
@@ -84,14 +110,6 @@ impl Memory {
 fn words_of<R: Env + Alloc<A = Global>>(rt: &R) -> Option<Result<Vec<String>, AllocError>> {
     let args = env::args(rt).ok()?;
     Some(args.skip(1).collect(rt.alloc()))
-}
-
-// The word of that number, or an empty one.
-fn word(words: &[String], number: usize) -> &str {
-    match words.get(number) {
-        Some(word) => word.as_str(),
-        None => "",
-    }
 }
 
 /// Why no command was begun.
@@ -189,8 +207,75 @@ fn explain_board<W: Write + Drop>(
     }
 }
 
+// Whether a command that ended so has brought the volume into order: then its damaged files are gone.
+fn has_repaired(status: u8) -> bool {
+    matches!(status, 0 | 5 | 8 | 11 | 12 | 14)
+}
+
+// Says on standard error how many damaged files a check removed.
+fn explain_removed(rt: &impl Eprint, look: Option<Look>, status: u8) {
+    let Some(look) = look else {
+        return;
+    };
+    let damaged = look.damaged;
+    if damaged > 0 && has_repaired(status) {
+        // (if standard error fails too there is nobody to tell)
+        let _said = eprintln!(rt; "spiffs: damaged files that the check removed: {damaged}");
+    }
+}
+
+// Says on standard error what of the folder was passed over, and what is wrong with a name.
+fn explain_folder<'r>(rt: &impl Eprint, folder: &StdFolder<&'r HostRuntime>, status: u8) {
+    for passed in folder.passed_over() {
+        let path = passed.path.as_str();
+        let kind = if passed.is_folder {
+            "folder"
+        } else {
+            "special file"
+        };
+        let _said = eprintln!(rt; "spiffs: {path}: a {kind}, passed over");
+    }
+    if status == BAD_NAME {
+        if let Some(bad) = folder.bad_name() {
+            let _said = eprintln!(rt; "spiffs: {bad}");
+        }
+    }
+}
+
+// Says on standard error what the one who gave the words has to know of a status.
+fn explain_status(rt: &impl Eprint, words: &[String], status: u8) {
+    match status {
+        USAGE => {
+            if let Some(wrong) = wrong_word(words) {
+                let _said = eprintln!(rt; "spiffs: {wrong}; try spiffs --help");
+            }
+        }
+        NO_VOLUME => {
+            let _said = eprintln!(rt; "spiffs: PAGE, BLOCK, BLOCKS or MAGIC may be wrong");
+        }
+        _ => {}
+    }
+}
+
+// Says on standard error that another META reads more whole files, if one does.
+fn is_refused(rt: &impl Eprint, look: Option<Look>) -> bool {
+    let Some(look) = look else {
+        return false;
+    };
+    let Some(better) = look.better else {
+        return false;
+    };
+    let _said = eprintln!(rt; "spiffs: {better}");
+    true
+}
+
 // Runs the command that the words spell, over the chip files and the folder that they name.
-fn run(rt: &HostRuntime, words: &[String], memory: &mut Memory) -> Result<u8, Refusal> {
+fn run(
+    rt: &HostRuntime,
+    words: &[String],
+    is_forced: bool,
+    memory: &mut Memory,
+) -> Result<u8, Refusal> {
     let mut bufs = Buffers {
         work: &mut memory.work,
         slots: &mut memory.slots,
@@ -199,6 +284,16 @@ fn run(rt: &HostRuntime, words: &[String], memory: &mut Memory) -> Result<u8, Re
         line: &mut memory.line,
     };
     let mut board = StdBoard::new(row_of(rt, words, &bufs)?, rt.stdout());
+    let seen = match look(words, is_forced, &mut board, &mut bufs) {
+        Ok(seen) => seen,
+        Err(Failed) => {
+            explain_board(rt, words, &board);
+            return Ok(BOARD_FAULT);
+        }
+    };
+    if is_refused(rt, seen) {
+        return Ok(OTHER_META);
+    }
     let mut script = StdSource::new(rt.stdin());
     let mut folder = folder_of(rt, words)?;
     let status = spiffs_tool(words, &mut board, &mut script, &mut folder, &mut bufs);
@@ -206,8 +301,10 @@ fn run(rt: &HostRuntime, words: &[String], memory: &mut Memory) -> Result<u8, Re
         BOARD_FAULT => explain_board(rt, words, &board),
         SCRIPT_FAULT => explain(rt, script.trouble()),
         FOLDER_FAULT => explain(rt, folder.trouble()),
-        _ => {}
+        0 | FULL | BAD_NAME if word(words, 0) == "make" => explain_folder(rt, &folder, status),
+        _ => explain_status(rt, words, status),
     }
+    explain_removed(rt, seen, status);
     Ok(status)
 }
 
@@ -240,25 +337,38 @@ fn tell(rt: &(impl Print + Eprint), text: &str, status: u8) -> u8 {
     }
 }
 
-// Takes the memory, with the least cache where the host has none for a frame of each page.
+// Takes the memory, with a small cache where the host has none for a frame of each page.
 fn take_memory(rt: &HostRuntime, words: &[String]) -> Result<Memory, AllocError> {
-    match Memory::new(rt.alloc(), cache_for(chip_size_of(words, 1))) {
+    let volume = chip_size_of(words, 1);
+    let cache = cache_for(volume);
+    match Memory::new(rt.alloc(), volume, cache) {
         Ok(memory) => Ok(memory),
-        Err(_) => Memory::new(rt.alloc(), LEAST_CACHE),
+        Err(_) => Memory::new(rt.alloc(), volume, cache.min(SMALL_CACHE)),
     }
 }
 
 // Takes the memory, and runs the command.
-fn begin(rt: &HostRuntime, words: &[String]) -> Result<u8, Refusal> {
+fn begin(rt: &HostRuntime, words: &[String], is_forced: bool) -> Result<u8, Refusal> {
     let mut memory = take_memory(rt, words)?;
-    run(rt, words, &mut memory)
+    run(rt, words, is_forced, &mut memory)
+}
+
+// The words without a first `--force`, and whether it stands there before a command that removes damaged files.
+fn without_force(words: &[String]) -> (&[String], bool) {
+    match words {
+        [first, rest @ ..] if first.as_str() == "--force" && repairs(rest) => (rest, true),
+        _ => (words, false),
+    }
 }
 
 fn start(rt: &HostRuntime) -> u8 {
     let words = match words_of(rt) {
         Some(Ok(words)) => words,
         Some(Err(_)) => return tell(rt, "! memory\n", 15),
-        None => return tell(rt, "! usage\n", 1),
+        None => {
+            let _said = eprintln!(rt; "spiffs: a word is no UTF-8; try spiffs --help");
+            return tell(rt, "! usage\n", USAGE);
+        }
     };
     if words.len() == 1 && words[0].as_str() == "--help" {
         return tell(rt, HELP, 0);
@@ -266,7 +376,8 @@ fn start(rt: &HostRuntime) -> u8 {
     if words.len() == 1 && words[0].as_str() == "--version" {
         return tell(rt, VERSION, 0);
     }
-    match begin(rt, &words) {
+    let (words, is_forced) = without_force(&words);
+    match begin(rt, words, is_forced) {
         Ok(status) => status,
         Err(Refusal::Memory) => tell(rt, "! memory\n", 15),
         Err(Refusal::Chips) => tell(rt, "! chips\n", 22),

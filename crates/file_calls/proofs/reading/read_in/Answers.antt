@@ -34,25 +34,25 @@ returns-in-Ok-clause-goes g c =
     let may : may_read c.in_ok-slot.slot.flags ≡ true = sym c.may_read.ensures ∙ c.if-not-may_read.false in
     let room = c.requires.room in
     let lent : length (take c.args.count c.args.into.now) ≡ c.args.count = length-take-le c.args.count c.args.into.now room in
-    let kept : length c.read_at.new.into ≡ c.args.count = c.read_at.auto.into ∙ lent in
+    let kept : length c.read_file.new.into ≡ c.args.count = c.read_file.auto.into ∙ lent in
     let few : c.in-Ok.read ≤ c.args.count = rw lent at read.within.0 in
     let put = c.put.ensures ∙ ap (λ (o : Option Open). put_at (descriptors c.args.slots.now) c.args.fd o) (held_at c.in_ok-slot.slot (c.in_ok-slot.slot.offset + c.in-Ok.read) c.in_ok-slot.ensures.used) in
-    rw (take-append-le c.in-Ok.read c.read_at.new.into (drop c.args.count c.args.into.now) (omega (arith, kept, few)))
-    (goes_moved (Reads c.args.fd c.args.count) (Gives (take c.in-Ok.read c.read_at.new.into)) c.read_at.new.v.wrote (read.looks.wrote ∙ c.requires.fresh) read.looks.reads refl refl refl refl
-    (λ bytes e. let same : take c.in-Ok.read c.read_at.new.into ≡ bytes = cc in record { fd = c.args.fd; count = c.args.count; reads = refl; few = subst (λ (l : List ℕ). length l ≤ c.args.count) same (omega (arith, few, kept, length-take c.in-Ok.read c.read_at.new.into)) })
+    rw (take-append-le c.in-Ok.read c.read_file.new.into (drop c.args.count c.args.into.now) (omega (arith, kept, few)))
+    (goes_moved (Reads c.args.fd c.args.count) (Gives (take c.in-Ok.read c.read_file.new.into)) c.read_file.new.v.wrote (read.looks.wrote ∙ c.requires.fresh) read.looks.reads refl refl refl refl
+    (λ bytes e. let same : take c.in-Ok.read c.read_file.new.into ≡ bytes = cc in record { fd = c.args.fd; count = c.args.count; reads = refl; few = subst (λ (l : List ℕ). length l ≤ c.args.count) same (omega (arith, few, kept, length-take c.in-Ok.read c.read_file.new.into)) })
     (λ k. absurd (let no : false ≡ true = k in cc))
     (λ s here.
     let size = g.met.N.Nor.sized c.args.v.now.nor.now here.tells in
     let whole : IsImage c.args.v.now.geometry (g.N.NorState.bytes c.args.v.now.nor.now) = record { len = omega (arith, size, c.args.v.now.volume) } in
-    rw put (read_gives c.args.fd c.in_ok-slot.slot c.in_ok-slot.ensures.found c.args.count c.in-Ok.read (take c.in-Ok.read c.read_at.new.into) may
-    (λ f file. let is = read.told here.tells f file in (rw lent at is.bytes, rw lent at is.count)) (λ t at. whole) s here)))
+    rw put (read_gives c.args.fd c.in_ok-slot.slot c.in_ok-slot.ensures.found c.args.count c.in-Ok.read (take c.in-Ok.read c.read_file.new.into) may
+    (λ f file. let is = read.told here.tells here.tidy f file in (rw lent at is.bytes, rw lent at is.count)) (λ t at. whole) s here)))
 
 pub returns-in-Err-clause-goes : goal.returns-in-Err-clause-goes
 returns-in-Err-clause-goes g c =
     let failed = c.in-Err.ensures in
-    rw c.failed_as.ensures (unread_by {T = ℕ} c.in_ok-slot.slot.id (Reads c.args.fd c.args.count) c.in-Err.why c.read_at.new.v.wrote (failed.looks.wrote ∙ c.requires.fresh) failed.looks.reads refl refl refl refl failed.missing failed.cause
+    rw c.failed_as.ensures (unread_by {T = ℕ} c.in_ok-slot.slot.id (Reads c.args.fd c.args.count) c.in-Err.why c.read_file.new.v.wrote (failed.looks.wrote ∙ c.requires.fresh) failed.looks.reads refl refl refl refl failed.missing failed.cause
     (λ s here.
     let w = file_at c.args.fd c.in_ok-slot.slot c.in_ok-slot.ensures.found s here in
     let size = g.met.N.Nor.sized c.args.v.now.nor.now here.tells in
     let whole : IsImage c.args.v.now.geometry (g.N.NorState.bytes c.args.v.now.nor.now) = record { len = omega (arith, size, c.args.v.now.volume) } in
-    fault {T = ℕ} {U = ℕ} c.in-Err.why _ (λ x. Unit {0}) (failed.told here.tells w.file (whole_file c.args.v.now.geometry (g.N.NorState.bytes c.args.v.now.nor.now) c.in_ok-slot.slot.id w.file whole here.tidy w.listed))))
+    fault {T = ℕ} {U = ℕ} c.in-Err.why _ (λ x. Unit {0}) (failed.told here.tells here.tidy w.file (whole_file c.args.v.now.geometry (g.N.NorState.bytes c.args.v.now.nor.now) c.in_ok-slot.slot.id w.file whole here.tidy w.listed))))

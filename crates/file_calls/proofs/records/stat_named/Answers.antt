@@ -12,7 +12,7 @@ returns-in-Some-clause-told g c = λ tells tidy.
     let size = g.met.N.Nor.sized view.nor.now tells in
     let whole : IsImage view.geometry image = record { len = omega (arith, size, view.volume) } in
     let looked = c.in_ok-id.ensures in
-    let first : first_named view.geometry image c.args.name.now ≡ Some c.in-Some.id = sym (looked.told tells) ∙ c.in-Some.is in
+    let first : first_named view.geometry image c.args.name.now ≡ Some c.in-Some.id = sym (looked.told tells tidy) ∙ c.in-Some.is in
     let found = (rw (looked.looks.same.geometry, looked.looks.reads.bytes) at c.stat_of_id.ensures.told) (looked.looks.reads.told tells) tidy in
     IfOk-weaker c.stat_of_id.result _ _ (λ stat is. is ∙ of_name view.geometry image whole tidy c.args.name.now c.in-Some.id first) found
 
@@ -22,4 +22,4 @@ returns-in-None-clause-told g c = λ tells tidy.
     let image = g.N.NorState.bytes view.nor.now in
     let size = g.met.N.Nor.sized view.nor.now tells in
     let whole : IsImage view.geometry image = record { len = omega (arith, size, view.volume) } in
-    no_name view.geometry image whole tidy c.args.name.now (sym (c.in_ok-id.ensures.told tells) ∙ c.in-None.is)
+    no_name view.geometry image whole tidy c.args.name.now (sym (c.in_ok-id.ensures.told tells tidy) ∙ c.in-None.is)

@@ -11,7 +11,7 @@ returns-in_default-clause-told g c = λ tells tidy.
     let image = g.N.NorState.bytes view.nor.now in
     let size = g.met.N.Nor.sized view.nor.now tells in
     let whole : IsImage view.geometry image = record { len = omega (arith, size, view.volume) } in
-    no_file view.geometry image whole tidy c.args.id (sym (c.in_ok-page.ensures.told tells) ∙ c.in_default.is)
+    no_file view.geometry image whole tidy c.args.id (sym (c.in_ok-page.ensures.told tells tidy) ∙ c.in_default.is)
 
 pub returns-clause-told : goal.returns-clause-told
 returns-clause-told g c = λ tells tidy.
@@ -21,6 +21,6 @@ returns-clause-told g c = λ tells tidy.
     let whole : IsImage view.geometry image = record { len = omega (arith, size, view.volume) } in
     let looked = c.in_ok-page.ensures in
     let fetched = c.in_ok-fetch.ensures in
-    let at : index_page view.geometry (own (live_at view.geometry image) c.args.id) 0 ≡ Some c.in-Some.page = sym (looked.told tells) ∙ c.in-Some.is in
+    let at : index_page view.geometry (own (live_at view.geometry image) c.args.id) 0 ≡ Some c.in-Some.page = sym (looked.told tells tidy) ∙ c.in-Some.is in
     let bytes : c.fetched.result.now ≡ page_of view.geometry image c.in-Some.page = (rw (fetched.looks.same.geometry, looked.looks.same.geometry) at c.fetched.ensures.bytes) ∙ (rw (looked.looks.same.geometry, looked.looks.reads.bytes) at (fetched.told (looked.looks.reads.told tells))) in
     c.stat_in.ensures ∙ rw (bytes, fetched.looks.same.geometry, looked.looks.same.geometry) (told_at view.geometry image whole tidy c.args.id c.in-Some.page at)

@@ -9,7 +9,7 @@ returns-in-Ok-Some-clause-told g c = λ tells tidy.
     let image = g.N.NorState.bytes view.nor.now in
     let size = g.met.N.Nor.sized view.nor.now tells in
     let whole : IsImage view.geometry image = record { len = omega (arith, size, view.volume) } in
-    named_some view.geometry image c.args.name.now c.in-Ok-Some.id whole tidy (sym (c.in-Ok-Some.ensures.told tells) ∙ c.in-Ok-Some.field-0-is)
+    named_some view.geometry image c.args.name.now c.in-Ok-Some.id whole tidy (sym (c.in-Ok-Some.ensures.told tells tidy) ∙ c.in-Ok-Some.field-0-is)
 
 pub returns-in-Ok-None-clause-told : goal.returns-in-Ok-None-clause-told
 returns-in-Ok-None-clause-told g c = λ tells tidy no_fault.
@@ -17,4 +17,4 @@ returns-in-Ok-None-clause-told g c = λ tells tidy no_fault.
     let image = g.N.NorState.bytes view.nor.now in
     let size = g.met.N.Nor.sized view.nor.now tells in
     let whole : IsImage view.geometry image = record { len = omega (arith, size, view.volume) } in
-    (refl, named_none view.geometry image c.args.name.now whole tidy (sym (c.in-Ok-None.ensures.told tells) ∙ c.in-Ok-None.field-0-is))
+    (refl, named_none view.geometry image c.args.name.now whole tidy (sym (c.in-Ok-None.ensures.told tells tidy) ∙ c.in-Ok-None.field-0-is))

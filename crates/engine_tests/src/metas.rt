@@ -1,0 +1,110 @@
+//! Which number of meta bytes reads most of a volume.
+use crate::bench::{Memory, board_of};
+use crate::images::{filed, put};
+use geometry::{Geometry, MagicKind};
+use meta_guess::{Counts, Guess, count_files, guess_meta};
+use nor_core::Failed;
+use nor_memory::{CallKind, MemBoard};
+use std::alloc::Global;
+use std::test::Fail;
+use vol_mount::accept;
+
+// A volume of four blocks with so many meta bytes.
+fn volume_by(meta: u32) -> Result<Geometry, Fail> {
+    Ok(Geometry::new(256, 4096, 4, 4096, meta, MagicKind::Length)?)
+}
+
+// A device with a file of two data pages that was written with four meta bytes, and an empty file, which is whole by each number.
+fn board_by_four(alloc: Global) -> Result<MemBoard, Fail> {
+    let g = volume_by(4)?;
+    let mut image = filed(alloc, &g, 2)?;
+    put(&mut image, 301, &[0xFF, 0xFF, 0xFF, 0xFF, 17, 0, 18, 0]);
+    put(&mut image, 2, &[2, 0x80]);
+    put(&mut image, 512, &[2, 0x80, 0, 0, 0xF8]);
+    put(&mut image, 520, &[0, 0, 0, 0, 1, b'e', 0]);
+    board_of(alloc, &g, &image)
+}
+
+// What is counted and guessed by so many meta bytes.
+fn guessed(
+    alloc: Global,
+    meta: u32,
+    board: &mut MemBoard,
+) -> Result<Result<(Counts, Guess), Failed>, Fail> {
+    let g = volume_by(meta)?;
+    let mut memory = Memory::new(alloc, &g)?;
+    let lent = memory.lend();
+    accept(&g, board, &lent)?;
+    let Ok(counts) = count_files(&g, board, lent.work, lent.cache, lent.check) else {
+        return Ok(Err(Failed));
+    };
+    let Ok(guess) = guess_meta(&g, board, lent.work, lent.cache, lent.check) else {
+        return Ok(Err(Failed));
+    };
+    Ok(Ok((counts, guess)))
+}
+
+#[test]
+fn the_meta_that_reads_most_files_is_found(rt: HostRuntime) -> Result<(), Fail> {
+    let alloc = rt.alloc();
+    let mut board = board_by_four(alloc)?;
+    let image = board.image().to_vec(alloc)?;
+    let best = Counts {
+        whole: 2,
+        damaged: 0,
+    };
+    let worse = Counts {
+        whole: 1,
+        damaged: 1,
+    };
+    for (meta, given) in [
+        (4, best),
+        (0, worse),
+        (3, worse),
+        (5, worse),
+        (6, worse),
+        (64, worse),
+    ] {
+        let guess = Guess {
+            given,
+            meta: 4,
+            best,
+        };
+        let told = guessed(alloc, meta, &mut board)?;
+        assert!(rt; told == Ok((given, guess)), "{meta}");
+        assert!(rt; board.image() == image.as_slice());
+    }
+    Ok(())
+}
+
+#[test]
+fn the_given_meta_stays_where_no_id_is_damaged(rt: HostRuntime) -> Result<(), Fail> {
+    let alloc = rt.alloc();
+    let g = volume_by(0)?;
+    let mut board = board_of(alloc, &g, &filed(alloc, &g, 0)?)?;
+    let all = Counts {
+        whole: 1,
+        damaged: 0,
+    };
+    for meta in [0, 7, 64] {
+        let guess = Guess {
+            given: all,
+            meta,
+            best: all,
+        };
+        let told = guessed(alloc, meta, &mut board)?;
+        assert!(rt; told == Ok((all, guess)), "{meta}");
+    }
+    Ok(())
+}
+
+#[test]
+fn a_device_that_fails_is_told(rt: HostRuntime) -> Result<(), Fail> {
+    let alloc = rt.alloc();
+    for nth in [1, 30, 300] {
+        let mut board = board_by_four(alloc)?;
+        board.fail_nth(CallKind::Read, nth);
+        assert!(rt; guessed(alloc, 0, &mut board)? == Err(Failed), "{nth}");
+    }
+    Ok(())
+}

@@ -1,0 +1,148 @@
+//! Calls of a volume, one after the other, and what each is to tell.
+use crate::bench::Memory;
+use geometry::Geometry;
+use nor_memory::MemBoard;
+use std::alloc::Global;
+use std::process::Abort;
+use std::test::Fail;
+use table_model::{Call, FsErr, Whence};
+use vol_mount::accept;
+use volume::{Space, Told, Volume};
+
+/// A call of a volume, or a look at it, and what it is to tell.
+#[derive(Clone, Copy)]
+pub(crate) enum Step<'t> {
+    /// It mounts, its check ends, and so many blocks are free.
+    Starts(u32),
+    Creates(&'t [u8], Result<(), FsErr>),
+    Opens(&'t [u8], u32, Result<u16, FsErr>),
+    /// A read into bytes of 7, as many as stand here: these are there afterwards.
+    Reads(u16, Result<u32, FsErr>, &'t [u8]),
+    Writes(u16, &'t [u8], Result<u32, FsErr>),
+    /// So many bytes `f` are written.
+    Fills(u16, u32),
+    Seeks(u16, u32, Result<u32, FsErr>),
+    Tells(u16, Result<u32, FsErr>),
+    Truncates(u16, u32, Result<(), FsErr>),
+    Flushes(u16, Result<(), FsErr>),
+    Closes(u16, Result<(), FsErr>),
+    Removes(&'t [u8], Result<(), FsErr>),
+    RemovesOpen(u16, Result<(), FsErr>),
+    Renames(&'t [u8], &'t [u8], Result<(), FsErr>),
+    SetsMeta(&'t [u8], Result<(), FsErr>),
+    SetsMetaOpen(u16, Result<(), FsErr>),
+    /// The file of a name has this id and this size.
+    Stats(&'t [u8], u16, u32),
+    /// The file of a descriptor has this id and this size.
+    StatsOpen(u16, u16, u32),
+    /// There is no file.
+    HasNone,
+    /// So many index pages.
+    HasIndexPages(u32),
+    Collects(Result<(), FsErr>),
+    Settles(Result<(), FsErr>),
+    HasSpace(Result<Space, FsErr>),
+    /// The chip holds these bytes.
+    Holds(&'t [u8]),
+    /// Whether a device fault ended the volume's work.
+    HasFailed(bool),
+    /// The blocks' numbers are counted.
+    HasCounted,
+}
+
+// Whether a volume mounts, its check ends, and so many blocks are free.
+fn starts(volume: &mut Volume<'_, MemBoard>, free: u32) -> bool {
+    let Ok(()) = volume.mount() else {
+        return false;
+    };
+    matches!(volume.check(), Ok(report) if report.free_blocks == free)
+}
+
+// Whether a read into bytes of 7 tells that, and leaves these.
+fn reads(
+    volume: &mut Volume<'_, MemBoard>,
+    fd: u16,
+    told: Result<u32, FsErr>,
+    wanted: &[u8],
+) -> bool {
+    let mut bytes = [7u8; 4];
+    let Some(into) = bytes.get_mut(..wanted.len()) else {
+        return false;
+    };
+    volume.read(fd, into) == told && *into == *wanted
+}
+
+// Whether so many bytes `f` are written.
+fn fills(volume: &mut Volume<'_, MemBoard>, fd: u16, count: u32) -> bool {
+    let byte = b'f';
+    let call = Call::Fill { fd, count, byte };
+    matches!(volume.answer(&call, &mut [0; 4]), Told::Number(n) if n == count)
+}
+
+// Whether a call of a descriptor is as its step says.
+fn is_so_open(volume: &mut Volume<'_, MemBoard>, step: &Step<'_>) -> bool {
+    match *step {
+        Step::Reads(fd, told, wanted) => reads(volume, fd, told, wanted),
+        Step::Writes(fd, bytes, told) => volume.write(fd, bytes) == told,
+        Step::Fills(fd, count) => fills(volume, fd, count),
+        Step::Seeks(fd, at, told) => volume.seek(fd, i64::from(at), Whence::Set) == told,
+        Step::Tells(fd, told) => volume.tell(fd) == told,
+        Step::Truncates(fd, size, told) => volume.truncate(fd, size) == told,
+        Step::Flushes(fd, told) => volume.flush(fd) == told,
+        Step::Closes(fd, told) => volume.close(fd) == told,
+        Step::RemovesOpen(fd, told) => volume.fremove(fd) == told,
+        Step::SetsMetaOpen(fd, told) => volume.fupdate_meta(fd, b"") == told,
+        Step::StatsOpen(fd, id, size) => {
+            volume
+                .fstat(fd)
+                .is_ok_and(|stat| stat.id == id && stat.size == size)
+        }
+        _ => false,
+    }
+}
+
+// Whether a step is as it says.
+fn is_so(volume: &mut Volume<'_, MemBoard>, step: &Step<'_>) -> bool {
+    match *step {
+        Step::Starts(free) => starts(volume, free),
+        Step::Creates(name, told) => volume.create(name) == told,
+        Step::Opens(name, flags, told) => volume.open_file(name, flags) == told,
+        Step::Removes(name, told) => volume.remove(name) == told,
+        Step::Renames(old, new, told) => volume.rename(old, new) == told,
+        Step::SetsMeta(name, told) => volume.update_meta(name, b"") == told,
+        Step::Stats(name, id, size) => {
+            volume
+                .stat(name)
+                .is_ok_and(|stat| stat.id == id && stat.size == size)
+        }
+        Step::HasNone => matches!(volume.next(0), Ok(None)),
+        Step::HasIndexPages(count) => volume.info().is_ok_and(|info| info.index_pages == count),
+        Step::HasSpace(told) => volume.space() == told,
+        Step::Collects(told) => volume.gc() == told,
+        Step::Settles(told) => volume.settle() == told,
+        Step::Holds(image) => volume.nor.image() == image,
+        Step::HasFailed(told) => volume.has_failed() == told,
+        Step::HasCounted => volume.counted,
+        _ => is_so_open(volume, step),
+    }
+}
+
+/// Does steps on a device in memory that is lent anew. At the end the volume is unmounted, and `last` is told of its last work.
+pub(crate) fn go(
+    rt: &impl Abort,
+    alloc: Global,
+    g: &Geometry,
+    board: &mut MemBoard,
+    steps: &[Step<'_>],
+    last: Result<(), FsErr>,
+) -> Result<(), Fail> {
+    let mut memory = Memory::new(alloc, g)?;
+    let lent = memory.lend();
+    accept(g, board, &lent)?;
+    let mut volume = Volume::new(*g, board, lent);
+    for (nth, step) in steps.iter().enumerate() {
+        assert!(rt; is_so(&mut volume, step), "step {nth}");
+    }
+    assert!(rt; volume.unmount().last == last, "unmounted");
+    Ok(())
+}

@@ -1,0 +1,38 @@
+use Rattle.std.proofs.Common.{◌≡◌, arith}
+use Rattle.flash_view.proofs.Looking.{looks_none, looks_then}
+use Rattle.file_find.specs.Listing.{NextFile}
+use Rattle.meta_guess.proofs.Found.{files_first, file_more, file_last}
+use Rattle.meta_guess.proofs.counting.count_whole.Goals as goal
+
+pub ids-init : goal.ids-init
+ids-init g c = record {
+  looks = looks_none c.args.v.now;
+  few = omega arith;
+  told = λ tells. files_first c.args.v.now.geometry (g.N.NorState.bytes c.args.v.now.nor.now);
+}
+
+pub ids-preserved : goal.ids-preserved
+ids-preserved g c =
+    let was = c.ids.invariant in
+    let turn = c.in_ok-next.ensures in
+    let above = rw c.in-Some.is at turn.above in
+    record {
+      looks = looks_then was.looks turn.looks;
+      few = omega (arith, was.few, above);
+      told = λ tells.
+          let geo = c.args.v.now.geometry in
+          let image = g.N.NorState.bytes c.args.v.now.nor.now in
+          let found : NextFile geo image c.ids.after c.in_ok-next.field-0 = rw (was.looks.same.geometry, was.looks.reads.bytes) at (turn.told (was.looks.reads.told tells)) in
+          file_more geo image c.ids.after c.ids.count c.in_ok-next.field-0 c.in-Some.next found c.in-Some.is (was.told tells);
+    }
+
+pub returns-clause-told : goal.returns-clause-told
+returns-clause-told g c = λ tells.
+    let was = c.ids.invariant in
+    let geo = c.args.v.now.geometry in
+    let image = g.N.NorState.bytes c.args.v.now.nor.now in
+    let found : NextFile geo image c.ids.after c.in_ok-next.field-0 = rw (was.looks.same.geometry, was.looks.reads.bytes) at (c.in_ok-next.ensures.told (was.looks.reads.told tells)) in
+    file_last geo image c.ids.after c.ids.count c.in_ok-next.field-0 found c.in_default.is (was.told tells)
+
+pub returns-clause-looks : goal.returns-clause-looks
+returns-clause-looks g c = looks_then c.ids.invariant.looks c.in_ok-next.ensures.looks

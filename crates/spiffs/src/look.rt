@@ -1,0 +1,157 @@
+//! A look at the volume before a command that removes damaged files for good.
+ghost use Rattle.std.specs.Prelude.{◌≡◌, ◌*◌, ◌≤◌, length};
+ghost use Rattle.geometry.specs.Numbers.{scratch_need, cache_need};
+ghost use Rattle.nor_core.specs.Device.{OnlyReads};
+
+use crate::words::{repairs, word};
+use call_script::parse_number;
+use flash_view::View;
+use geometry::{Geometry, MagicKind};
+use meta_guess::{Guess, count_files, guess_meta};
+use nor_core::{Failed, Nor, NorState};
+use std::fmt;
+use tool_core::{Buffers, is_accepted};
+use vol_mount::{Lent, MountErr, accept, mount};
+
+/// What a volume holds before the command.
+#[derive(Clone, Copy, Debug, PartialEq, Eq)]
+pub struct Look {
+    /// How many ids are damaged.
+    pub damaged: u32,
+    /// Where another META reads more whole files.
+    pub better: Option<Better>,
+}
+
+/// Another META, by which more files are whole.
+#[derive(Clone, Copy, Debug, PartialEq, Eq)]
+pub struct Better {
+    /// The META that was given.
+    pub given: u32,
+    /// What it reads, and what the better one does.
+    pub guess: Guess,
+}
+
+impl fmt::Display for Better {
+    fn fmt<W: fmt::Write>(&self, f: &mut fmt::Formatter<W>) -> fmt::Result {
+        let given = self.given;
+        let Guess {
+            given: was,
+            meta,
+            best,
+        } = self.guess;
+        let whole = was.whole;
+        let more = best.whole;
+        let lost = was.damaged;
+        write!(
+            f,
+            "whole files: {whole} with META {given}, {more} with META {meta}; nothing was written; "
+        )?;
+        write!(
+            f,
+            "try META {meta}, or begin with --force to remove {lost} damaged files for good"
+        )
+    }
+}
+
+// The word at a place as a number.
+fn number(words: &[String], at: usize) -> Option<u32> {
+    let number = parse_number(word(words, at).as_bytes(), u64::from(u32::MAX))?;
+    u32::try_from(number).ok()
+}
+
+// The numbers of the volume.
+fn geometry_of(words: &[String]) -> Option<Geometry> {
+    let page = number(words, 1)?;
+    let block = number(words, 2)?;
+    let blocks = number(words, 3)?;
+    let meta = number(words, 4)?;
+    let magic = match word(words, 5) {
+        "plain" => MagicKind::Plain,
+        _ => MagicKind::Length,
+    };
+    Geometry::new(page, block, blocks, block, meta, magic).ok()
+}
+
+// Whether the volume mounts.
+fn is_mounted<N: Nor>(
+    g: &Geometry,
+    nor: &mut N,
+    work: &mut [u8],
+    cache: &mut [u8],
+) -> Result<bool, Failed>
+    requires unit { N.unit nor.old ≡ g.now.phys }
+    requires fits { g.now.blocks * g.now.block ≤ N.size nor.old }
+    requires work { scratch_need g.now ≤ length work.old }
+    requires cache { cache_need g.now ≤ length cache.old }
+    ensures { OnlyReads N.NorState nor.old nor.new }
+{
+    let mut v = View::new(*g, nor, work, &mut [], cache);
+    match mount(&mut v) {
+        Ok(()) => Ok(true),
+        Err(MountErr::DeviceFault) => Err(Failed),
+        Err(_) => Ok(false),
+    }
+}
+
+// What a guess tells, where that META was given.
+fn look_of(given: u32, guess: Guess) -> Look {
+    let better = if guess.best.whole > guess.given.whole {
+        Some(Better { given, guess })
+    } else {
+        None
+    };
+    Look {
+        damaged: guess.given.damaged,
+        better,
+    }
+}
+
+// Looks at a volume that mounts; where the command is forced, no other META is tried.
+fn look_at<N: Nor>(
+    g: &Geometry,
+    is_forced: bool,
+    nor: &mut N,
+    lent: &mut Lent<'_>,
+) -> Result<Option<Look>, Failed> {
+    let Ok(()) = accept(g, nor, lent) else {
+        return Ok(None);
+    };
+    if is_forced {
+        let counts = count_files(g, nor, lent.work, lent.cache, lent.check)?;
+        return Ok(Some(Look {
+            damaged: counts.damaged,
+            better: None,
+        }));
+    }
+    let guess = guess_meta(g, nor, lent.work, lent.cache, lent.check)?;
+    Ok(Some(look_of(g.meta(), guess)))
+}
+
+/// Looks at the volume, where the words are a command that removes damaged files, which isn't refused, and the volume mounts.
+/// Nothing is written.
+pub fn look<N: Nor>(
+    words: &[String],
+    is_forced: bool,
+    nor: &mut N,
+    bufs: &mut Buffers<'_>,
+) -> Result<Option<Look>, Failed> {
+    if !repairs(words) || !is_accepted(words, nor.unit(), nor.size(), bufs) {
+        return Ok(None);
+    }
+    let Some(g) = geometry_of(words) else {
+        return Ok(None);
+    };
+    let mut lent = Lent {
+        work: &mut *bufs.work,
+        slots: &mut *bufs.slots,
+        cache: &mut *bufs.cache,
+        check: &mut *bufs.check,
+    };
+    let Ok(()) = accept(&g, nor, &lent) else {
+        return Ok(None);
+    };
+    if !is_mounted(&g, nor, lent.work, lent.cache)? {
+        return Ok(None);
+    }
+    look_at(&g, is_forced, nor, &mut lent)
+}

@@ -1,0 +1,126 @@
+//! Which word of a faulty command line is wrong.
+use crate::words::{CHIP_WORD, FOLDER_WORD, word};
+use call_script::parse_number;
+use std::fmt;
+
+/// What is wrong with the words of a command.
+#[derive(Clone, Copy, Debug, PartialEq, Eq)]
+pub enum Wrong<'w> {
+    /// There is no word.
+    Nothing,
+    /// `--force` stands before another command than `run` and `check`.
+    Force,
+    /// The first word is no command.
+    Verb(&'w str),
+    /// There are too few or too many words behind the command's name.
+    Count {
+        verb: &'w str,
+        form: &'static str,
+        given: usize,
+    },
+    /// A word that has to be a number from 0 to `most` is none.
+    Number {
+        name: &'static str,
+        given: &'w str,
+        most: u64,
+    },
+    /// MAGIC is neither `len` nor `plain`.
+    Magic(&'w str),
+    /// A name is empty.
+    Empty(&'static str),
+}
+
+impl fmt::Display for Wrong<'_> {
+    fn fmt<W: fmt::Write>(&self, f: &mut fmt::Formatter<W>) -> fmt::Result {
+        match self {
+            Wrong::Nothing => write!(f, "no command is given"),
+            Wrong::Force => write!(f, "--force is for run and check alone"),
+            Wrong::Verb(verb) => write!(f, "there is no command {verb}"),
+            Wrong::Count { verb, form, given } => {
+                write!(f, "{verb} takes {form}, and {given} words are given")
+            }
+            Wrong::Number { name, given, most } => {
+                write!(
+                    f,
+                    "{name} is a number from 0 to {most} in decimal digits, and not {given}"
+                )
+            }
+            Wrong::Magic(given) => write!(f, "MAGIC is len or plain, and not {given}"),
+            Wrong::Empty(name) => write!(f, "{name} is empty"),
+        }
+    }
+}
+
+// The words that a command takes behind its name, and how many they are.
+fn form_of(verb: &str) -> Option<(&'static str, usize)> {
+    match verb {
+        "run" | "list" | "check" => Some(("PAGE BLOCK BLOCKS META MAGIC CHIP", 6)),
+        "extract" | "make" => Some(("PAGE BLOCK BLOCKS META MAGIC CHIP FOLDER", 7)),
+        "soak" => Some(("PAGE BLOCK BLOCKS META MAGIC CHIP SEED COUNT", 8)),
+        _ => None,
+    }
+}
+
+// What is wrong with a word that has to be a number.
+fn wrong_number<'w>(
+    words: &'w [String],
+    at: usize,
+    name: &'static str,
+    most: u64,
+) -> Option<Wrong<'w>> {
+    let given = word(words, at);
+    match parse_number(given.as_bytes(), most) {
+        Some(_) => None,
+        None => Some(Wrong::Number { name, given, most }),
+    }
+}
+
+// What is wrong with the numbers of the volume.
+fn wrong_volume(words: &[String]) -> Option<Wrong<'_>> {
+    let most = u64::from(u32::MAX);
+    wrong_number(words, 1, "PAGE", most)
+        .or(wrong_number(words, 2, "BLOCK", most))
+        .or(wrong_number(words, 3, "BLOCKS", most))
+        .or(wrong_number(words, 4, "META", most))
+}
+
+// What is wrong with the words behind the chip's name.
+fn wrong_end(words: &[String]) -> Option<Wrong<'_>> {
+    match word(words, 0) {
+        "extract" | "make" if word(words, FOLDER_WORD).is_empty() => Some(Wrong::Empty("FOLDER")),
+        "soak" => {
+            wrong_number(words, 7, "SEED", u64::MAX).or(wrong_number(words, 8, "COUNT", 1_000_000))
+        }
+        _ => None,
+    }
+}
+
+/// The first word that is wrong, if one is.
+pub fn wrong_word(words: &[String]) -> Option<Wrong<'_>> {
+    let verb = word(words, 0);
+    if words.is_empty() {
+        return Some(Wrong::Nothing);
+    }
+    if verb == "--force" {
+        return Some(Wrong::Force);
+    }
+    let Some((form, count)) = form_of(verb) else {
+        return Some(Wrong::Verb(verb));
+    };
+    let given = words.len() - 1;
+    if given != count {
+        return Some(Wrong::Count { verb, form, given });
+    }
+    let wrong = wrong_volume(words);
+    if wrong.is_some() {
+        return wrong;
+    }
+    let magic = word(words, 5);
+    if magic != "len" && magic != "plain" {
+        return Some(Wrong::Magic(magic));
+    }
+    if word(words, CHIP_WORD).is_empty() {
+        return Some(Wrong::Empty("CHIP"));
+    }
+    wrong_end(words)
+}

@@ -1,0 +1,97 @@
+# What the scripts of the plain edition share: whether its tools are there, and its crates. To be sourced by bash.
+
+# Crates of a registry that the edition stands on, and the folder that Debian's packages of them fill.
+registry_crates="arrayvec byteorder itoa memchr thiserror"
+debian_crates=/usr/share/cargo/registry
+
+# Each workspace has its own folder for what is built.
+unset CARGO_TARGET_DIR
+
+# Tells why the edition can't be built here, if it can't: sources of edition 2024 want cargo 1.85.
+missing_tool() {
+  local version
+  command -v python3 >/dev/null || { echo "python3 isn't there"; return; }
+  command -v cargo >/dev/null || { echo "cargo isn't there"; return; }
+  version=$(cargo --version 2>/dev/null | awk '{ split($2, part, "."); print part[1] * 1000 + part[2] }')
+  [ "${version:-0}" -ge 1085 ] || echo "cargo is older than 1.85"
+}
+
+has_debian_crates() {
+  local name
+  for name in $registry_crates; do
+    compgen -G "$debian_crates/$name-[0-9]*" >/dev/null || return 1
+  done
+}
+
+get_debian_crates() {
+  [ "$(id -u)" -eq 0 ] && command -v apt-get >/dev/null || return 1
+  local packages
+  packages=$(printf 'librust-%s-dev ' $registry_crates)
+  export DEBIAN_FRONTEND=noninteractive
+  { timeout 60 apt-get update -qq && timeout 120 apt-get install -y -qq --no-install-recommends $packages; } >/dev/null 2>&1 </dev/null
+}
+
+# Sees to it that cargo finds the crates of the workspace in a folder: those of Debian where they are at hand, else those of
+# crates.io, else Debian's are installed. Fails where they can't be had.
+get_crates() {
+  local config=$1/.cargo/config.toml
+  [ -e "$config" ] && has_debian_crates && return
+  rm -f "$config"
+  if ! has_debian_crates; then
+    (cd "$1" && CARGO_NET_RETRY=0 timeout 60 cargo fetch --quiet) >/dev/null 2>&1 && return
+    get_debian_crates && has_debian_crates || return
+  fi
+  mkdir -p "$1/.cargo"
+  printf '[source.crates-io]\nreplace-with = "debian"\n\n[source.debian]\ndirectory = "%s"\n' "$debian_crates" >"$config"
+  rm -f "$1/Cargo.lock"
+}
+
+# What `cargo build` needs for a target, as words in `for_target`. The target's library is rustup's, or else it is built of
+# Debian's sources of it (package rust-web-src, of the version of rustc-web). Fails where neither is there.
+#
+#   set_target TARGET LIBRARY FOLDER    LIBRARY is core or std; FOLDER is that of the edition
+set_target() {
+  local sysroot sources
+  sysroot=$(rustc --print sysroot)
+  for_target=(cargo)
+  if ! compgen -G "$sysroot/lib/rustlib/$1/lib/lib$2-*.rlib" >/dev/null; then
+    sources=/usr/src/rustc-$(/usr/bin/rustc --version 2>/dev/null | cut -d' ' -f2)/library
+    [ -d "$sources/vendor" ] && [ -x /usr/bin/cargo ] && has_debian_crates || return
+    mkdir -p "$3/crates"
+    ln -sfn "$debian_crates"/* "$sources"/vendor/* "$3/crates/"
+    for_target=(env RUSTC=/usr/bin/rustc RUSTC_BOOTSTRAP=1 /usr/bin/cargo --offline -Zbuild-std="${2/std/std,panic_abort}"
+      --config "source.debian.directory='$3/crates'")
+  fi
+  for_target+=(build --release --quiet --target "$1")
+}
+
+passed=0
+failed=0
+
+# Does a step, tells whether it went well, and what it said if not.
+try() {
+  local name=$1 said
+  shift
+  if said=$("$@" 2>&1 </dev/null); then
+    passed=$((passed + 1))
+    echo "ok    $name"
+  else
+    failed=$((failed + 1))
+    printf 'WRONG %s\n%s\n' "$name" "$(tail -n 20 <<<"$said")"
+  fi
+}
+
+# Ends a script of such steps.
+tell_all() {
+  echo "$passed passed, $failed failed"
+  [ "$failed" -eq 0 ]
+}
+
+# Writes the edition and gets its crates, or tells why that can't be done.
+ready() {
+  local why
+  why=$(missing_tool)
+  [ -z "$why" ] && { python3 "$1/plain.py" >/dev/null || why="it can't be written"; }
+  [ -z "$why" ] && { get_crates "$1/out" || why="the crates $registry_crates can't be had, neither of crates.io nor as Debian's packages"; }
+  [ -z "$why" ] || { echo "the plain edition: $why" >&2; return 1; }
+}
