@@ -4,7 +4,7 @@ use Rattle.std.specs.Prelude.{filter, not}
 use Rattle.std.specs.List.{range_with_len}
 use Rattle.std.proofs.lemmas.Bool.{cases_Bool, cases_lt, false_from_ne_true}
 use Rattle.geometry.specs.declared.geometry.Geometry.{Geometry}
-use Rattle.image_model.specs.Places.{has_magic, block_of}
+use Rattle.image_model.specs.Places.{has_magic}
 use Rattle.image_model.specs.Live.{live_at}
 use Rattle.image_model.specs.Kinds.{is_mixed, spoiled_blocks, mixed_blocks}
 use Rattle.image_model.specs.Sound.{HasMagics, IsMixed}

@@ -6,7 +6,6 @@ use Rattle.nor_core.specs.Device.{OnlyReads, Leaves}
 use Rattle.nor_core.proofs.Cuts.{andthen, widened, read_on, started}
 use Rattle.table_model.specs.Ask.{Ask}
 use Rattle.table_model.specs.Window.{Moment}
-use Rattle.image_model.specs.Tables.{table_of}
 use Rattle.image_model.specs.Tidy.{HasReserve}
 use Rattle.call_model.specs.Safe.{Holds}
 use Rattle.call_model.specs.Memory.{Memory, IsAt}
@@ -33,7 +32,7 @@ none_fair g m = tt {0}
 module _ {D : Type 0} {nor : NorOf D} {g : Geometry} where
   -- a cut in the front of a run
   pub wider_cut : {old new : D} {m : Moment} {xs : List RunCall} (ys : List RunCall) → Leaves nor old new (CutIn nor g old m xs) → Leaves nor old new (CutIn nor g old m (xs ++ ys))
-  wider_cut {old} {new} {m} {xs} ys leaves = widened leaves (λ image count c. record { part = c.part; count_is = c.count_is; safe = c.safe; cut = cut_wider g m xs ys c.part (table_of g image) c.cut })
+  wider_cut {old} {new} {m} {xs} ys leaves = widened leaves (λ image count c. record { part = c.part; count_is = c.count_is; safe = c.safe; cut = cut_wider g m xs ys c.part image c.cut })
 
   -- a cut in calls after those that were done
   pub cut_behind : {old mid : D} {m : Moment} (xs : List RunCall) {ys : List RunCall} {image : List ℕ} {count : ℕ} → nor.said mid ≡ nor.said old ++ replies g m xs → Holds g (nor.bytes old) (nor.bytes mid) → CutIn nor g mid (after_all g m xs) ys image count → CutIn nor g old m (xs ++ ys) image count
@@ -41,7 +40,7 @@ module _ {D : Type 0} {nor : NorOf D} {g : Geometry} where
     part = replies g m xs ++ c.part;
     count_is = omega (arith, c.count_is, ap length said, length-append (nor.said old) (replies g m xs), length-append (replies g m xs) c.part);
     safe = holds_safe g (nor.bytes old) (nor.bytes mid) image holds c.safe;
-    cut = cut_later g m xs ys c.part (table_of g image) c.cut;
+    cut = cut_later g m xs ys c.part image c.cut;
   }
 
   -- a cut in calls, or in those that come after

@@ -3,3 +3,4 @@ pub mod Chain
 pub mod OneCall
 pub mod Rooms
 pub mod Corner
+pub mod IndexRoom

@@ -1,5 +1,5 @@
 -- One call and its reply.
-use Rattle.std.proofs.Common.{◌≡◌, ℕ, ◌-◌, ◌≤◌, List, [], ◌∷◌, ◌++◌, length, take, drop, refl, sym, ◌∙◌, ap, subst, arith, ⊎_elim, append-nil, Bool, true}
+use Rattle.std.proofs.Common.{◌≡◌, ℕ, ◌-◌, ◌≤◌, List, [], ◌∷◌, ◌++◌, length, take, drop, refl, sym, ◌∙◌, ap, subst, arith, ⊎_elim, append-nil, Bool, true, false}
 use Rattle.std.proofs.lemmas.Bool.Decides.{nat_tests}
 use Rattle.std.proofs.lemmas.List.{take-append-drop, length-take-le, take_all, length-drop}
 use Rattle.std.proofs.lemmas.Bool.{cases_Bool, cases_lt}
@@ -7,7 +7,7 @@ use Rattle.geometry.specs.declared.geometry.Geometry.{Geometry}
 use Rattle.nor_core.specs.declared.state.NorState.{Ghosts as NorOf}
 use Rattle.nor_core.specs.Device.{Leaves, Changes, InSay, Says}
 use Rattle.nor_core.proofs.Cuts.{andthen, widened, wider}
-use Rattle.table_model.specs.Table.{File, State}
+use Rattle.table_model.specs.Table.{State}
 use Rattle.table_model.specs.Room.{has_room}
 use Rattle.table_model.specs.Ask.{Ask}
 use Rattle.table_model.specs.Reply.{Answer}
@@ -21,7 +21,7 @@ use Rattle.call_model.specs.Safe.{IsSafe, Holds}
 use Rattle.call_model.specs.Memory.{Memory}
 use Rattle.call_model.specs.Calls.{Stands, Publishes, Answers}
 use Rattle.call_model.proofs.Room.{room_kept}
-use Rattle.run_model.specs.Runs.{RunCall, IsFair, AreFair, next, said_of, after_all, replies, IsInCall, IsUnderWay, IsCut}
+use Rattle.run_model.specs.Runs.{RunCall, IsFair, AreFair, next, said_of, after_all, replies, LacksPage, IsInCall, IsUnderWay, IsCut}
 use Rattle.run_model.specs.Ran.{RunStands, RunPublishes, RunAnswers, IsTold, CutIn, Reached, SaidPart}
 use Rattle.run_model.proofs.Runs.{said_some, is_settled, plain_fair}
 use Rattle.run_model.proofs.Chain.{run_stands_on}
@@ -40,39 +40,41 @@ unfolding AreFair
 one_fair g m call fair = (fair, tt {0})
 
 -- a part of a reply was said
-in_call : (g : Geometry) (m : Moment) (call : RunCall) (part : List ℕ) (t : List File) → IsInCall g m call part t → IsCut g m (call ∷ []) part t
+in_call : (g : Geometry) (m : Moment) (call : RunCall) (part image : List ℕ) → IsInCall g m call part image → IsCut g m (call ∷ []) part image
 unfolding after_all replies IsUnderWay
-in_call g m call part t here = record { front = []; later = call ∷ []; part = part; calls_are = refl; said_is = refl; under_way = here }
+in_call g m call part image here = record { front = []; later = call ∷ []; part = part; calls_are = refl; said_is = refl; under_way = here }
 
 -- a reply was said whole
-call_done : (g : Geometry) (m : Moment) (call : RunCall) (t : List File) → t ≡ (next g m call).settled → IsCut g m (call ∷ []) (said_of g m call) t
+call_done : (g : Geometry) (m : Moment) (call : RunCall) (image : List ℕ) → table_of g image ≡ (next g m call).settled → IsCut g m (call ∷ []) (said_of g m call) image
 unfolding IsUnderWay
-call_done g m call t is = record {
+call_done g m call image is = record {
   front = call ∷ [];
   later = [];
   part = [];
   calls_are = refl;
   said_is = sym (append-nil (replies g m (call ∷ [])) ∙ one_reply g m call);
-  under_way = (refl, is_settled (after_all g m (call ∷ [])) t [] (is ∙ ap (λ (j : Moment). j.settled) (sym (one_call g m call))));
+  under_way = (refl, is_settled (after_all g m (call ∷ [])) (table_of g image) [] (is ∙ ap (λ (j : Moment). j.settled) (sym (one_call g m call))));
 }
 
 -- nothing was said of a reply
-cut_call : (g : Geometry) (m : Moment) (call : RunCall) (t : List File) → IsAmong t (from_settled m (steps g true m.state call.ask)) → IsCut g m (call ∷ []) [] t
-cut_call g m call t among = in_call g m call [] t (record {
+cut_call : (g : Geometry) (m : Moment) (call : RunCall) (image : List ℕ) → IsAmong (table_of g image) (from_settled m (steps g true m.state call.ask)) → IsCut g m (call ∷ []) [] image
+cut_call g m call image among = in_call g m call [] image (record {
   said = record { rest = said_of g m call; whole_is = refl; some = said_some g m call };
   among = among;
   once_said = λ some. absurd (omega (arith, some));
+  lacks = λ some. absurd (omega (arith, some));
 })
 
 -- a front of a reply line was said
-cut_say : (g : Geometry) (m : Moment) (call : RunCall) (n : ℕ) (t : List File) → n ≤ length (said_of g m call) → t ≡ (next g m call).settled → IsAmong t (from_settled m (steps g true m.state call.ask)) → IsAmong t (from_settled m (steps g call.spare m.state call.ask)) → IsCut g m (call ∷ []) (take n (said_of g m call)) t
-cut_say g m call n t le is among told = ⊎_elim
-    (λ below. in_call g m call (take n (said_of g m call)) t (record {
+cut_say : (g : Geometry) (m : Moment) (call : RunCall) (n : ℕ) (image : List ℕ) → n ≤ length (said_of g m call) → table_of g image ≡ (next g m call).settled → IsAmong (table_of g image) (from_settled m (steps g true m.state call.ask)) → IsAmong (table_of g image) (from_settled m (steps g call.spare m.state call.ask)) → (call.spare ≡ false → LacksPage g image) → IsCut g m (call ∷ []) (take n (said_of g m call)) image
+cut_say g m call n image le is among told lacks = ⊎_elim
+    (λ below. in_call g m call (take n (said_of g m call)) image (record {
       said = record { rest = drop n (said_of g m call); whole_is = sym (take-append-drop n (said_of g m call)); some = omega (arith, length-drop n (said_of g m call), below) };
       among = among;
       once_said = λ some. told;
+      lacks = λ some. lacks;
     }))
-    (λ above. subst (λ (l : List ℕ). IsCut g m (call ∷ []) l t) (sym (take_all n (said_of g m call) above)) (call_done g m call t is))
+    (λ above. subst (λ (l : List ℕ). IsCut g m (call ∷ []) l image) (sym (take_all n (said_of g m call) above)) (call_done g m call image is))
     (cases_lt n (length (said_of g m call)))
 
 -- two blocks are free
@@ -116,7 +118,7 @@ module _ {D : Type 0} {nor : NorOf D} {g : Geometry} where
 
   -- so it was told
   pub told_as : {old new : D} {memory : Memory} {m : Moment} {ask : Ask} {reply : Answer} → IsAmong (table_of g (nor.bytes new)) (from_settled m (steps g true m.state ask)) → RunAnswers nor g old new memory m ask reply → IsTold nor g old new memory m ask reply
-  told_as {old} {new} {memory} {m} {ask} {reply} among a = record { spare = true; fair = plain_fair g m ask; reply_is = a.reply_is; among = among; stands = a.stands; holds = a.holds }
+  told_as {old} {new} {memory} {m} {ask} {reply} among a = record { spare = true; fair = plain_fair g m ask; lacks = λ e. absurd (let no : true ≡ false = e in cc); reply_is = a.reply_is; among = among; stands = a.stands; holds = a.holds }
 
   -- a cut in the call, before its reply
   call_cuts : {old mid : D} {memory : Memory} {m : Moment} (call : RunCall) → Changes nor old mid (RunPublishes g memory m call.ask) → RunStands nor g old memory m → Leaves nor old mid (CutIn nor g old m (call ∷ []))
@@ -124,7 +126,7 @@ module _ {D : Type 0} {nor : NorOf D} {g : Geometry} where
     part = [];
     count_is = here.0 ∙ omega arith;
     safe = now.0;
-    cut = cut_call g m call (table_of g image) now.1;
+    cut = cut_call g m call image now.1;
   })
 
   -- nothing was said in the call
@@ -153,9 +155,10 @@ module _ {D : Type 0} {nor : NorOf D} {g : Geometry} where
         part = take (count - length (nor.said old)) (said_of g m call);
         count_is = omega (arith, here.least, ap length changes.said, length-take-le (count - length (nor.said old)) (said_of g m call) within);
         safe = subst (λ (l : List ℕ). IsSafe g (nor.bytes old) l) (sym same_image) now.0;
-        cut = cut_say g m call (count - length (nor.said old)) (table_of g image) within (ap (table_of g) same_image ∙ ok.stands.stands.image.table)
+        cut = cut_say g m call (count - length (nor.said old)) image within (ap (table_of g) same_image ∙ ok.stands.stands.image.table)
             (subst (λ (l : List ℕ). IsAmong (table_of g l) (from_settled m (steps g true m.state ask))) (sym same_image) now.1)
-            (subst (λ (l : List ℕ). IsAmong (table_of g l) (from_settled m (steps g ok.spare m.state ask))) (sym same_image) ok.among);
+            (subst (λ (l : List ℕ). IsAmong (table_of g l) (from_settled m (steps g ok.spare m.state ask))) (sym same_image) ok.among)
+            (λ e. subst (λ (l : List ℕ). LacksPage g l) (sym same_image) (ok.lacks e));
       }))
 
   -- a front of the reply was said

@@ -8,12 +8,13 @@ use Rattle.table_model.specs.Window.{Moment, after}
 use Rattle.run_model.specs.Runs.{RunCall, IsCorner, IsFair, AreFair, next, plain, asks_of}
 use Rattle.run_model.specs.Rooms.{AllFindRoom, RoomyIsPlain}
 use Rattle.run_model.proofs.OneCall.{room_after}
+use Rattle.run_model.proofs.IndexRoom.{room_for_index}
 
 -- where the table has room each call finds it
 all_room : (g : Geometry) (m : Moment) (asks : List Ask) → has_room g m.state.table ≡ true → AllFindRoom g m asks
 unfolding AllFindRoom
 all_room g m [] room = tt {0}
-all_room g m (ask ∷ asks) room = (λ corner. let no : false ≡ true = sym corner.full ∙ room in absurd (cc), all_room g (after g true m ask) asks (room_after g m ask room))
+all_room g m (ask ∷ asks) room = (λ corner. let no : false ≡ true = sym corner.full ∙ room_for_index g m.state.table room in absurd (cc), all_room g (after g true m ask) asks (room_after g m ask room))
 
 -- a fair call that isn't in the corner has two free blocks
 is_plain : (g : Geometry) (m : Moment) (call : RunCall) → (IsCorner g m.state call.ask → ⊥) → IsFair g m call → call.spare ≡ true

@@ -7,6 +7,7 @@ use Rattle.table_model.specs.Flat.{answer}
 use Rattle.table_model.specs.Steps.{steps}
 use Rattle.table_model.specs.Window.{Moment, from_settled, IsAmong}
 use Rattle.call_script.specs.Replies.{told}
+use Rattle.image_model.specs.Tables.{table_of}
 use Rattle.run_model.specs.Runs.{RunCall, IsFair, AreFair, next, plain, asks_of, after_all, said_of, replies, IsUnderWay, IsCut}
 
 pub after_all-append : (g : Geometry) (m : Moment) (xs ys : List RunCall) → after_all g m (xs ++ ys) ≡ after_all g (after_all g m xs) ys
@@ -63,44 +64,45 @@ unfolding IsAmong
 is_settled m t vs e = inl e
 
 -- before the first byte of the next reply
-none_under_way : (g : Geometry) (m : Moment) (calls : List RunCall) (t : List File) → IsAmong t (from_settled m []) → IsUnderWay g m calls [] t
+none_under_way : (g : Geometry) (m : Moment) (calls : List RunCall) (image : List ℕ) → IsAmong (table_of g image) (from_settled m []) → IsUnderWay g m calls [] image
 unfolding IsUnderWay
-none_under_way g m [] t h = (refl, h)
-none_under_way g m (x ∷ xs) t h = record {
+none_under_way g m [] image h = (refl, h)
+none_under_way g m (x ∷ xs) image h = record {
   said = record { rest = said_of g m x; whole_is = refl; some = said_some g m x };
-  among = among_settled m t (steps g true m.state x.ask) h;
+  among = among_settled m (table_of g image) (steps g true m.state x.ask) h;
   once_said = λ some. absurd (omega (arith, some));
+  lacks = λ some. absurd (omega (arith, some));
 }
 
 -- a cut before the first byte of a reply
-pub cut_none : (g : Geometry) (m : Moment) (calls : List RunCall) (t : List File) → IsAmong t (from_settled m []) → IsCut g m calls [] t
+pub cut_none : (g : Geometry) (m : Moment) (calls : List RunCall) (image : List ℕ) → IsAmong (table_of g image) (from_settled m []) → IsCut g m calls [] image
 unfolding after_all replies
-cut_none g m calls t h = record { front = []; later = calls; part = []; calls_are = refl; said_is = refl; under_way = none_under_way g m calls t h }
+cut_none g m calls image h = record { front = []; later = calls; part = []; calls_are = refl; said_is = refl; under_way = none_under_way g m calls image h }
 
 -- what is under way in some calls is so in more
-wider_under_way : (g : Geometry) (m : Moment) (xs ys : List RunCall) (part : List ℕ) (t : List File) → IsUnderWay g m xs part t → IsUnderWay g m (xs ++ ys) part t
+wider_under_way : (g : Geometry) (m : Moment) (xs ys : List RunCall) (part image : List ℕ) → IsUnderWay g m xs part image → IsUnderWay g m (xs ++ ys) part image
 unfolding IsUnderWay
-wider_under_way g m [] ys part t h = subst (λ (l : List ℕ). IsUnderWay g m ys l t) (sym h.0) (none_under_way g m ys t h.1)
-wider_under_way g m (x ∷ xs) ys part t h = h
+wider_under_way g m [] ys part image h = subst (λ (l : List ℕ). IsUnderWay g m ys l image) (sym h.0) (none_under_way g m ys image h.1)
+wider_under_way g m (x ∷ xs) ys part image h = h
 
 -- a cut in the front of a run is one in the run
-pub cut_wider : (g : Geometry) (m : Moment) (xs ys : List RunCall) (said : List ℕ) (t : List File) → IsCut g m xs said t → IsCut g m (xs ++ ys) said t
-cut_wider g m xs ys said t h = record {
+pub cut_wider : (g : Geometry) (m : Moment) (xs ys : List RunCall) (said image : List ℕ) → IsCut g m xs said image → IsCut g m (xs ++ ys) said image
+cut_wider g m xs ys said image h = record {
   front = h.front;
   later = h.later ++ ys;
   part = h.part;
   calls_are = ap (λ (l : List RunCall). l ++ ys) h.calls_are ∙ append_assoc h.front h.later ys;
   said_is = h.said_is;
-  under_way = wider_under_way g (after_all g m h.front) h.later ys h.part t h.under_way;
+  under_way = wider_under_way g (after_all g m h.front) h.later ys h.part image h.under_way;
 }
 
 -- a cut after calls that were done is one in these and the others
-pub cut_later : (g : Geometry) (m : Moment) (xs ys : List RunCall) (said : List ℕ) (t : List File) → IsCut g (after_all g m xs) ys said t → IsCut g m (xs ++ ys) (replies g m xs ++ said) t
-cut_later g m xs ys said t h = record {
+pub cut_later : (g : Geometry) (m : Moment) (xs ys : List RunCall) (said image : List ℕ) → IsCut g (after_all g m xs) ys said image → IsCut g m (xs ++ ys) (replies g m xs ++ said) image
+cut_later g m xs ys said image h = record {
   front = xs ++ h.front;
   later = h.later;
   part = h.part;
   calls_are = ap (λ (l : List RunCall). xs ++ l) h.calls_are ∙ sym (append_assoc xs h.front h.later);
   said_is = ap (λ (l : List ℕ). replies g m xs ++ l) h.said_is ∙ sym (append_assoc (replies g m xs) (replies g (after_all g m xs) h.front) h.part) ∙ ap (λ (l : List ℕ). l ++ h.part) (sym (replies-append g m xs h.front));
-  under_way = subst (λ (j : Moment). IsUnderWay g j h.later h.part t) (sym (after_all-append g m xs h.front)) h.under_way;
+  under_way = subst (λ (j : Moment). IsUnderWay g j h.later h.part image) (sym (after_all-append g m xs h.front)) h.under_way;
 }

@@ -1,5 +1,5 @@
 -- What calls and their replies leave on a device.
-use Rattle.std.specs.Prelude.{ℕ, ◌≡◌, ◌+◌, List, ◌++◌, length, Bool, true}
+use Rattle.std.specs.Prelude.{ℕ, ◌≡◌, ◌+◌, List, ◌++◌, length, Bool, true, false}
 use Rattle.geometry.specs.declared.geometry.Geometry.{Geometry}
 use Rattle.nor_core.specs.declared.state.NorState.{Ghosts as NorOf}
 use Rattle.nor_core.specs.Device.{Leaves}
@@ -13,7 +13,7 @@ use Rattle.image_model.specs.Tidy.{HasReserve}
 use Rattle.call_model.specs.Safe.{IsSafe, Holds}
 use Rattle.call_model.specs.Memory.{Memory, IsAt}
 use Rattle.call_model.specs.Calls.{Stands}
-use Rattle.run_model.specs.Runs.{RunCall, IsFair, AreFair, asks_of, after_all, replies, IsCut}
+use Rattle.run_model.specs.Runs.{RunCall, IsFair, AreFair, asks_of, after_all, replies, LacksPage, IsCut}
 
 -- a volume stands at a moment of a run: two blocks are free
 pub record RunStands {D : Type 0} (nor : NorOf D) (g : Geometry) (d : D) (memory : Memory) (m : Moment) : Type 0 where
@@ -30,11 +30,12 @@ pub record RunAnswers {D : Type 0} (nor : NorOf D) (g : Geometry) (old new : D) 
   pub stands : RunStands nor g new memory (after g true m ask)
   pub holds : Holds g (nor.bytes old) (nor.bytes new)
 
--- A call of a run was answered as with two free blocks, or without a page in the corner where one may be wanting, and the volume stands at the
--- moment after it.
+-- A call of a run was told: answered as with two free blocks, or in the corner as with fewer, and then the image lacks a page. The volume stands
+-- at the moment after the call as it was answered.
 pub record IsTold {D : Type 0} (nor : NorOf D) (g : Geometry) (old new : D) (memory : Memory) (m : Moment) (ask : Ask) (reply : Answer) : Type 0 where
   pub spare : Bool
   pub fair : IsFair g m (record { ask = ask; spare = spare })
+  pub lacks : spare ≡ false → LacksPage g (nor.bytes new)
   pub reply_is : reply ≡ (answer g spare m.state ask).answer
   pub among : IsAmong (table_of g (nor.bytes new)) (from_settled m (steps g spare m.state ask))
   pub stands : RunStands nor g new memory (after g spare m ask)
@@ -45,7 +46,7 @@ pub record CutIn {D : Type 0} (nor : NorOf D) (g : Geometry) (old : D) (m : Mome
   pub part : List ℕ
   pub count_is : count ≡ length (nor.said old) + length part
   pub safe : IsSafe g (nor.bytes old) image
-  pub cut : IsCut g m calls part (table_of g image)
+  pub cut : IsCut g m calls part image
 
 -- Some calls were done and their replies said, and the volume stands at the moment after them; a cut leaves what one in these calls may.
 -- `memory` is that after the calls.

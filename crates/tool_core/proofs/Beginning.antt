@@ -112,7 +112,7 @@ module _ {D : Type 0} {nor : NorOf D} {g : Geometry} where
           part = [];
           count_is = here.0 ∙ omega arith;
           safe = safe_check now;
-          cut = cut_none g (first_moment g slots (nor.bytes old)) calls (table_of g image) (is_settled (first_moment g slots (nor.bytes old)) (table_of g image) [] (now.table ∙ sym (first_table g slots (nor.bytes old))));
+          cut = cut_none g (first_moment g slots (nor.bytes old)) calls image (is_settled (first_moment g slots (nor.bytes old)) (table_of g image) [] (now.table ∙ sym (first_table g slots (nor.bytes old))));
         };
         mends = inr (refl, now.table);
       })
@@ -154,7 +154,7 @@ module _ {D : Type 0} {nor : NorOf D} {g : Geometry} where
   settle_cut {old} {mid} {new} {w} {now} {m} calls later said holds stands settles = widened (settles.changes (after_all g m calls)).cuts (λ image count here.
       let safe = here.1 stands.stands.tells stands.stands.image in
       record {
-        cut = cut_behind calls said holds (record { part = []; count_is = here.0 ∙ omega arith; safe = safe.0; cut = cut_none g (after_all g m calls) later (table_of g image) safe.1 });
+        cut = cut_behind calls said holds (record { part = []; count_is = here.0 ∙ omega arith; safe = safe.0; cut = cut_none g (after_all g m calls) later image safe.1 });
         mends = inl (safe.0.mends stands.reserve);
       })
 

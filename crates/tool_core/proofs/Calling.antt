@@ -1,6 +1,6 @@
 -- One call of a volume as a step of a run.
 use Rattle.std.proofs.Common.{◌≡◌, ◌≤◌, ℕ, ◌⊎◌, List, [], length, Bool, refl, sym, ◌∙◌, ap, subst, arith, inl, inr, ⊎_elim, true, false, None, Some, Err, Ok}
-use Rattle.std.proofs.lemmas.Bool.{cases_Bool}
+use Rattle.std.proofs.lemmas.Bool.{cases_Bool, false_from_ne_true}
 use Rattle.geometry.specs.declared.geometry.Geometry.{Geometry}
 use Rattle.nor_core.specs.declared.state.NorState.{Ghosts as NorOf}
 use Rattle.nor_core.specs.Device.{Changes}
@@ -19,15 +19,18 @@ use Rattle.call_script.specs.Lines.{Asks, IsCounted}
 use Rattle.call_script.specs.Pieces.{IsShort}
 use Rattle.table_model.specs.Steps.{is_refusal, steps}
 use Rattle.table_model.specs.Flat.{answer}
+use Rattle.image_model.specs.Places.{IsImage}
 use Rattle.image_model.specs.Tables.{table_of}
 use Rattle.image_model.specs.Tidy.{HasReserve, has_spare}
+use Rattle.image_model.specs.Collect.{are_had}
 use Rattle.call_model.specs.Memory.{Memory}
 use Rattle.call_model.specs.Calls.{Stands, Answers}
 use Rattle.call_model.proofs.After.{settled-among}
-use Rattle.run_model.specs.Runs.{cuts_file as takes_bytes, IsCorner as IsRunCorner}
+use Rattle.run_model.specs.Runs.{cuts_file as takes_bytes, IsCorner as IsRunCorner, LacksPage, has_index_room}
 use Rattle.run_model.specs.Ran.{RunStands, RunPublishes, IsTold}
 use Rattle.run_model.proofs.Runs.{among_settled}
 use Rattle.run_model.proofs.Corner.{tight_or_still, tight_after}
+use Rattle.run_model.proofs.IndexRoom.{lacks_room}
 use Rattle.run_model.proofs.OneCall.{spared, run_publishes, run_answers, told_as}
 use Rattle.volume.specs.declared.volume.Volume.{Volume}
 use Rattle.volume.specs.Holds.{memory, Holds}
@@ -37,7 +40,7 @@ use Rattle.file_calls.specs.declared.told.Told.{Told}
 use Rattle.file_calls.specs.Replies.{shown_by, HasRoomFor}
 use Rattle.volume.specs.Replies.{breaks}
 use Rattle.file_calls.specs.Goes.{cuts_file, IsCorner, StopsShort}
-use Rattle.volume.specs.Calls.{Calls}
+use Rattle.volume.specs.Calls.{Calls, StaysTight}
 use Rattle.tool_core.specs.declared.ending.Ending.TheVariants.{BoardFault, Differ as EndsDiffer}
 use Rattle.tool_core.specs.Runs.{Ran, StandsNow}
 use Rattle.tool_core.specs.Turns.{DoesCall}
@@ -89,18 +92,18 @@ same_cuts (Opens name flags) cuts = cuts
 same_cuts (Truncates fd size) cuts = cuts
 same_cuts _ cuts = absurd (let no : false ≡ true = cuts in cc)
 
--- the corner of a volume is that of a run
-run_corner : (g : Geometry) (image : List ℕ) (s : State) (ask : Ask) → IsCorner g image s ask → IsRunCorner g s ask
-run_corner g image s ask corner = record { cuts = same_cuts ask corner.cuts; full = corner.full; done = subst (λ (b : Bool). is_refusal (answer g b s ask).answer ≡ false) (spared g image corner.reserve) corner.done }
+-- in the corner of a volume the flat table does the call with two free blocks
+corner_done : (g : Geometry) (image : List ℕ) (s : State) (ask : Ask) → IsCorner g image s ask → is_refusal (answer g true s ask).answer ≡ false
+corner_done g image s ask corner = subst (λ (b : Bool). is_refusal (answer g b s ask).answer ≡ false) (spared g image corner.reserve) corner.done
 
 -- a call in it isn't for garbage collection, so it publishes its table
 publishes_in : {P : Type 0} (ask : Ask) → takes_bytes ask ≡ true → (ask ≡ Collects) ⊎ P → P
 publishes_in ask cuts publishes = ⊎_elim (λ collects. absurd (let no : true ≡ false = sym cuts ∙ ap takes_bytes collects in cc)) (λ among. among) publishes
 
 -- one that publishes nothing has no such table
-still_whole : (g : Geometry) (image : List ℕ) (s : State) (ask : Ask) → IsRunCorner g s ask → steps g true s ask ≡ [] → IsAmong (answer g true s ask).next.table (steps g true s ask) → ⊥
+still_whole : (g : Geometry) (s : State) (ask : Ask) → steps g true s ask ≡ [] → IsAmong (answer g true s ask).next.table (steps g true s ask) → ⊥
 unfolding IsAmong
-still_whole g image s ask run still among = subst (λ (l : List (List File)). IsAmong (answer g true s ask).next.table l) still among
+still_whole g s ask still among = subst (λ (l : List (List File)). IsAmong (answer g true s ask).next.table l) still among
 
 settled_table : (s : State) → (settled_at s).settled ≡ s.table
 unfolding settled_at
@@ -147,16 +150,38 @@ module _ {N : Type 0} {nor : NorOf N} where
   told_plainly : {old new : Volume N nor} {ask : Ask} {reply : Answer} (m : Moment) → takes_calls old ≡ true → Calls ask old new reply → ¬ (reply ≡ Refuses DeviceFault) → RunStands nor old.geometry old.nor.now (memory old) m → (StopsShort old.geometry (nor.bytes old.nor.now) m.state ask reply → ⊥) → IsTold nor old.geometry old.nor.now new.nor.now (memory new) m ask reply
   told_plainly m takes calls fault stands whole = told_as ((changes_of calls m).now stands.stands.tells stands.stands.image stands.reserve).1 (run_answers stands (calls.answers m takes stands.stands fault whole))
 
+  -- an image on which collection stopped has no page for an index page
+  lacks_page : {old new : Volume N nor} {m : Moment} → StaysTight old new m → LacksPage old.geometry (nor.bytes new.nor.now)
+  lacks_page {old} {new} stays = record {
+    stuck = stays.none;
+    none_had = false_from_ne_true (are_had old.geometry (nor.bytes new.nor.now) 1 0) (λ had. stays.short (record { had = had; reserve = stays.reserve }));
+  }
+
+  -- so its table has no room for one
+  tight_corner : {old new : Volume N nor} {ask : Ask} {reply : Answer} (m : Moment) → ((d : N) → nor.tells d → length (nor.bytes d) ≡ nor.size d) → Calls ask old new reply → IsCorner old.geometry (nor.bytes old.nor.now) m.state ask → StaysTight old new m → IsRunCorner old.geometry m.state ask
+  tight_corner {old} {new} {ask} m sized calls corner stays =
+      let g = old.geometry in
+      let image = nor.bytes new.nor.now in
+      let here : Stands nor g new.nor.now (memory new) (settled_at m.state) = stands_by calls.same.geometry stays.stands in
+      let whole : IsImage g image = subst (λ (k : Geometry). IsImage k image) calls.same.geometry (record { len = omega (arith, sized new.nor.now here.tells, new.fits) }) in
+      record {
+        cuts = same_cuts ask corner.cuts;
+        full = ap (has_index_room g) (sym (here.image.table ∙ settled_table m.state)) ∙ lacks_room g image whole here.image.tidy stays.reserve (lacks_page stays);
+        done = corner_done g (nor.bytes old.nor.now) m.state ask corner;
+      }
+
   -- in the corner, Tight for want of a page
-  told_tight : {old new : Volume N nor} {ask : Ask} {reply : Answer} (m : Moment) → takes_calls old ≡ true → Calls ask old new reply → RunStands nor old.geometry old.nor.now (memory old) m → IsRunCorner old.geometry m.state ask → IsCorner old.geometry (nor.bytes old.nor.now) m.state ask → reply ≡ Refuses Tight → answer old.geometry false m.state ask ≡ refused Tight m.state → IsTold nor old.geometry old.nor.now new.nor.now (memory new) m ask reply
-  told_tight {old} {new} {ask} {reply} m takes calls stands run corner tight is =
+  told_tight : {old new : Volume N nor} {ask : Ask} {reply : Answer} (m : Moment) → ((d : N) → nor.tells d → length (nor.bytes d) ≡ nor.size d) → takes_calls old ≡ true → Calls ask old new reply → RunStands nor old.geometry old.nor.now (memory old) m → IsCorner old.geometry (nor.bytes old.nor.now) m.state ask → reply ≡ Refuses Tight → answer old.geometry false m.state ask ≡ refused Tight m.state → IsTold nor old.geometry old.nor.now new.nor.now (memory new) m ask reply
+  told_tight {old} {new} {ask} {reply} m sized takes calls stands corner tight is =
       let g = old.geometry in
       let stays = calls.cornered m takes stands.stands corner tight in
       let here : Stands nor g new.nor.now (memory new) (settled_at m.state) = stands_by calls.same.geometry stays.stands in
+      let run : IsRunCorner g m.state ask = tight_corner m sized calls corner stays in
       let now = (changes_of calls m).now stands.stands.tells stands.stands.image stands.reserve in
       record {
         spare = false;
         fair = λ e. run;
+        lacks = λ e. lacks_page stays;
         reply_is = tight ∙ sym (ap (λ (o : Outcome). o.answer) is);
         among = among_settled m (table_of g (nor.bytes new.nor.now)) (steps g false m.state ask) (subst (λ (l : List File). IsAmong l (from_settled m [])) (sym (here.image.table ∙ settled_table m.state)) (settled-among g (nor.bytes old.nor.now) (memory old) m stands.stands.image));
         stands = subst (λ (j : Moment). RunStands nor g new.nor.now (memory new) j) (sym (tight_after g m ask run.cuts is)) (record { stands = here; reserve = stays.reserve });
@@ -164,28 +189,28 @@ module _ {N : Type 0} {nor : NorOf N} where
       }
 
   -- a call of a run was told: as by the flat table, but that one in the corner may be without a page
-  told_by : {old new : Volume N nor} {ask : Ask} {reply : Answer} (m : Moment) → takes_calls old ≡ true → Calls ask old new reply → ¬ (reply ≡ Refuses DeviceFault) → RunStands nor old.geometry old.nor.now (memory old) m → IsTold nor old.geometry old.nor.now new.nor.now (memory new) m ask reply
-  told_by {old} {new} {ask} {reply} m takes calls fault stands =
+  told_by : {old new : Volume N nor} {ask : Ask} {reply : Answer} (m : Moment) → ((d : N) → nor.tells d → length (nor.bytes d) ≡ nor.size d) → takes_calls old ≡ true → Calls ask old new reply → ¬ (reply ≡ Refuses DeviceFault) → RunStands nor old.geometry old.nor.now (memory old) m → IsTold nor old.geometry old.nor.now new.nor.now (memory new) m ask reply
+  told_by {old} {new} {ask} {reply} m sized takes calls fault stands =
       let g = old.geometry in
       let plainly = told_plainly m takes calls fault stands in
       ⊎_elim
       (λ tight. ⊎_elim
       (λ corner.
-      let run : IsRunCorner g m.state ask = run_corner g (nor.bytes old.nor.now) m.state ask corner in
+      let cuts : takes_bytes ask ≡ true = same_cuts ask corner.cuts in
       ⊎_elim
-      (λ still. plainly (λ short. still_whole g (nor.bytes old.nor.now) m.state ask run still (subst (λ (b : Bool). IsAmong (answer g b m.state ask).next.table (steps g b m.state ask)) (spared g (nor.bytes old.nor.now) stands.reserve) (publishes_in ask run.cuts short.doable.publishes))))
-      (λ is. told_tight m takes calls stands run corner tight is)
-      (tight_or_still g m.state ask run.cuts run.done))
+      (λ still. plainly (λ short. still_whole g m.state ask still (subst (λ (b : Bool). IsAmong (answer g b m.state ask).next.table (steps g b m.state ask)) (spared g (nor.bytes old.nor.now) stands.reserve) (publishes_in ask cuts short.doable.publishes))))
+      (λ is. told_tight m sized takes calls stands corner tight is)
+      (tight_or_still g m.state ask cuts (corner_done g (nor.bytes old.nor.now) m.state ask corner)))
       (λ none. plainly (not_short m takes calls stands.stands stands.reserve none))
       (corner_cases g (nor.bytes old.nor.now) m.state ask stands.reserve))
       (λ loose. plainly (λ short. loose short.tight))
       (tight_cases reply)
 
   -- it was answered
-  pub does_answer : {old new : Volume N nor} {ask : Ask} {lent : List ℕ} (told : Told) → takes_calls old ≡ true → Calls ask old new (shown_by told lent) → ¬ (shown_by told lent ≡ Refuses DeviceFault) → DoesCall nor old.geometry old.nor.now new.nor.now (memory old) (memory new) ask (Ok told) lent
-  does_answer told takes calls fault = record {
+  pub does_answer : {old new : Volume N nor} {ask : Ask} {lent : List ℕ} (told : Told) → ((d : N) → nor.tells d → length (nor.bytes d) ≡ nor.size d) → takes_calls old ≡ true → Calls ask old new (shown_by told lent) → ¬ (shown_by told lent ≡ Refuses DeviceFault) → DoesCall nor old.geometry old.nor.now new.nor.now (memory old) (memory new) ask (Ok told) lent
+  does_answer told sized takes calls fault = record {
     changes = changes_of calls;
-    answers = λ m stands. told_by m takes calls fault stands;
+    answers = λ m stands. told_by m sized takes calls fault stands;
     stops = λ m stands. tt {0};
     works = answer_works takes calls fault;
   }

@@ -58,7 +58,7 @@ module _ {D : Type 0} {nor : NorOf D} {g : Geometry} where
           part = replies g m came.front ++ [];
           count_is = omega (arith, count_is, ap length came.said, length-append (nor.said old) (replies g m came.front), ap length all);
           safe = subst (λ (l : List ℕ). IsSafe g (nor.bytes old) l) (sym same) (safe_as g (nor.bytes old) (nor.bytes mid) came.holds);
-          cut = subst (λ (zs : List RunCall). IsCut g m zs (replies g m came.front ++ []) (table_of g image)) (append-nil came.front) (cut_later g m came.front [] [] (table_of g image) (cut_none g (after_all g m came.front) [] (table_of g image) (subst (λ (l : List ℕ). IsAmong (table_of g l) (from_settled (after_all g m came.front) [])) (sym same) came.among)));
+          cut = subst (λ (zs : List RunCall). IsCut g m zs (replies g m came.front ++ []) image) (append-nil came.front) (cut_later g m came.front [] [] image (cut_none g (after_all g m came.front) [] image (subst (λ (l : List ℕ). IsAmong (table_of g l) (from_settled (after_all g m came.front) [])) (sym same) came.among)));
         };
         mends = ⊎_elim
             (λ mends. inl (subst (λ (l : List ℕ). Recovers g l) (sym same) mends))

@@ -1,21 +1,15 @@
 -- What a cut leaves of an image that mounting and the check take, they take.
-use Rattle.std.proofs.Common.{◌≡◌, ℕ, zero, suc, ◌+◌, ◌<◌, ◌≤◌, List, length, Bool, true, false, cond, Option, Some, None, refl, sym, ◌∙◌, ap, subst, arith, inl, ⊎_elim}
-use Rattle.std.specs.Prelude.{filter, not, nat_lt}
-use Rattle.std.specs.List.{range_with_len}
-use Rattle.std.proofs.lemmas.Bool.{cases_Bool}
+use Rattle.std.proofs.Common.{◌≡◌, ℕ, ◌≤◌, List, length, Bool, true, false, cond, Option, Some, None, refl, sym, ap, subst, arith, inl, ⊎_elim}
+use Rattle.std.specs.Prelude.{nat_lt}
 use Rattle.std.proofs.lemmas.Bool.Decides.{nat_tests}
 use Rattle.geometry.specs.declared.geometry.Geometry.{Geometry}
 use Rattle.nor_core.specs.declared.state.NorState.{Ghosts as NorOf}
 use Rattle.nor_core.proofs.Cuts.{widened}
-use Rattle.image_model.specs.Places.{has_magic}
-use Rattle.image_model.specs.Live.{live_at}
 use Rattle.image_model.specs.Kinds.{spoiled_blocks, mixed_blocks}
-use Rattle.image_model.specs.Sound.{HasMagics, IsMixed, IsSound}
 use Rattle.room_laws.proofs.Staying.{reserve_mends}
 use Rattle.call_model.specs.Safe.{IsSafe}
 use Rattle.call_model.proofs.Safety.{safe_as}
-use Rattle.vol_check.proofs.Mixing.{unmixed, unmixed_by}
-use Rattle.volume.proofs.Magics.{few_spoiled}
+use Rattle.call_model.proofs.Mounts.{cuts_keep_magics, cuts_mix_none}
 use Rattle.tool_core.specs.declared.ending.Ending.{Ending}
 use Rattle.tool_core.specs.declared.ending.Ending.TheVariants.{NotAFs, Mixed}
 use Rattle.tool_core.specs.Mounting.{IsMendable}
@@ -23,40 +17,6 @@ use Rattle.tool_core.specs.Refusals.{mount_refusal, check_refusal}
 use Rattle.tool_core.specs.Running.{ClosingCut}
 use Rattle.tool_core.specs.Taken.{CutsMount, CutsAreTaken, CutCallsMend, CutRunsMend}
 use Rattle.tool_core.proofs.Refusals.{mount_few, check_takes}
-
--- ---- blocks without their magic
-
--- where any two numbers of a range that pass are one, none passes behind the first that does
-none_behind : (test : ℕ → Bool) (a b n : ℕ) → ((c : ℕ) → b ≤ c → c < b + n → test c ≡ true → a ≡ c) → a < b → length (filter test (range_with_len b n)) ≡ 0
-none_behind test a b zero one less = refl
-none_behind test a b (suc n) one less = ⊎_elim
-    (λ (yes : test b ≡ true). let same : a ≡ b = one b (omega arith) (omega arith) yes in absurd (omega (arith, same, less)))
-    (λ (no : test b ≡ false). rw no (none_behind test a (b + 1) n (λ c low high passes. one c (omega (arith, low)) (omega (arith, high)) passes) (omega (arith, less))))
-    (cases_Bool (test b))
-
--- so no more than one does
-one_at_most : (test : ℕ → Bool) (a n : ℕ) → ((b c : ℕ) → a ≤ b → b < a + n → a ≤ c → c < a + n → test b ≡ true → test c ≡ true → b ≡ c) → length (filter test (range_with_len a n)) ≤ 1
-one_at_most test a zero one = omega arith
-one_at_most test a (suc n) one = ⊎_elim
-    (λ (yes : test a ≡ true).
-    let none : length (filter test (range_with_len (a + 1) n)) ≡ 0 = none_behind test a (a + 1) n (λ c low high passes. one a c (omega arith) (omega arith) (omega (arith, low)) (omega (arith, high)) yes passes) (omega arith) in
-    rw yes (omega (arith, none)))
-    (λ (no : test a ≡ false). rw no (one_at_most test (a + 1) n (λ b c low high low' high' here there. one b c (omega (arith, low)) (omega (arith, high)) (omega (arith, low')) (omega (arith, high')) here there)))
-    (cases_Bool (test a))
-
-not_true : (b : Bool) → not b ≡ true → b ≡ false
-not_true true is = let no : false ≡ true = is in absurd (cc)
-not_true false is = refl
-
--- at most one lacks its magic
-spoiled_few : (g : Geometry) (image : List ℕ) → HasMagics g image → spoiled_blocks g image ≤ 1
-unfolding spoiled_blocks
-spoiled_few g image magics = one_at_most (λ (block : ℕ). not (has_magic g image block)) 0 g.blocks (λ b c low high low' high' here there. magics.one b c (omega (arith, high)) (omega (arith, high')) (not_true (has_magic g image b) here) (not_true (has_magic g image c) there))
-
--- ---- mixed blocks
-
-none_mixed : (g : Geometry) (image : List ℕ) → mixed_blocks g image ≡ 0 → (block : ℕ) → IsMixed g (live_at g image) block → ⊥
-none_mixed g image none block m = let same = unmixed g image none m.p m.q m.x m.y m.p_is m.q_is (m.p_at ∙ sym m.q_at) in let no : true ≡ false = sym m.names ∙ same ∙ m.holds in absurd (cc)
 
 -- ---- what is taken
 
@@ -83,13 +43,12 @@ check_tells g image is =
     (few_of (spoiled_blocks g image) first.0, none_of (mixed_blocks g image) second.0)
 
 pub cuts_mount : (g : Geometry) → CutsMount g
-cuts_mount g was image is safe = mount_few g image (spoiled_few g image (safe.sound (few_spoiled g was (mount_tells g was is))).magics)
+cuts_mount g was image is safe = mount_few g image (cuts_keep_magics g was image (mount_tells g was is) safe)
 
 pub cuts_taken : (g : Geometry) → CutsAreTaken g
 cuts_taken g was image is safe =
     let tells = check_tells g was is in
-    let sound : IsSound g image was = safe.sound (few_spoiled g was tells.0) in
-    check_takes g image (spoiled_few g image sound.magics) (unmixed_by g image (λ block m. none_mixed g was tells.1 block (sound.mixed block m)))
+    check_takes g image (cuts_keep_magics g was image tells.0 safe) (cuts_mix_none g was image tells.0 tells.1 safe)
 
 -- ---- what is mended
 

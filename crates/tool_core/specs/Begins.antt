@@ -15,14 +15,13 @@ pub record Begun (g : Geometry) (was image : List ℕ) : Type 0 where
   pub tidy : IsTidy g image
   pub reserve : HasReserve g image
 
--- the first image is taken and doesn't recover, and the check left fewer than two free blocks, and no block that is worth cleaning and can be
--- cleaned
+-- the first image is taken and doesn't recover; the check left fewer than two free blocks, and no block that is worth cleaning can be cleaned
 pub record IsTight (g : Geometry) (was now : List ℕ) (ending : Ending) : Type 0 where
   pub takes : check_refusal g was ≡ None
   pub tight : tight_refusal g now ≡ Some ending
   pub stuck : chosen_block g now ≡ None
   pub recovers_not : Recovers g was → ⊥
 
--- why a run isn't begun: the board failed, or for its images
+-- why a run isn't begun: the board failed, the first image isn't taken, or the check left too few free blocks
 abbrev pub StopsRun : {D : Type 0} (nor : NorOf D) (g : Geometry) (old new : D) → Ending → Type 0
 StopsRun nor g old new ending = HasFailed nor g old new ending ⊎ (IsRefused nor g old new ending ⊎ IsTight g (nor.bytes old) (nor.bytes new) ending)

@@ -3,7 +3,8 @@ use Rattle.std.specs.Prelude.{ℕ, ◌≢◌, Option, Some, None}
 use Rattle.tool_core.specs.declared.ending.Ending.{Ending}
 use Rattle.tool_core.specs.Closing.{status_of}
 
--- the status is none of those of a refusal, by a folder's names and sizes neither, and no folder failed
+-- An ending that isn't told before the device is read, for words, numbers or lent memory (1, 2, 10), or for a folder's sizes and names (6, 13);
+-- and no folder failed (9).
 pub record IsLater (ending : Ending) : Type 0 where
   pub no_usage : status_of ending ≢ 1
   pub no_geometry : status_of ending ≢ 2
@@ -12,7 +13,7 @@ pub record IsLater (ending : Ending) : Type 0 where
   pub no_names : status_of ending ≢ 13
   pub no_folder : status_of ending ≢ 9
 
--- the status is none of those of a refusal, by a folder's names and sizes neither
+-- the same, where a folder may have failed
 pub record IsUnrefused (ending : Ending) : Type 0 where
   pub no_usage : status_of ending ≢ 1
   pub no_geometry : status_of ending ≢ 2
@@ -20,12 +21,12 @@ pub record IsUnrefused (ending : Ending) : Type 0 where
   pub no_full : status_of ending ≢ 6
   pub no_names : status_of ending ≢ 13
 
--- and where there is none, nothing is said
+-- the same of an ending, if there is one
 abbrev pub IsLaterIf : Option Ending → Type 0
 IsLaterIf None = Unit {0}
 IsLaterIf (Some ending) = IsLater ending
 
--- a status that is none of those of a refusal
+-- a status that isn't told before the device is read
 pub record IsLaterStatus (status : ℕ) : Type 0 where
   pub no_usage : status ≢ 1
   pub no_geometry : status ≢ 2

@@ -32,7 +32,7 @@ pub record HasBad (script : List ℕ) (number : ℕ) : Type 0 where
   pub is_bad : of_line bad ≡ Bad
   pub number_is : number ≡ length done + 1
 
--- So it is seen in the first 16,777,216 bytes: it is ended in them, more than 4,096 of them are its own, or the script has no more.
+-- Such a line is seen in the first 16,777,216 bytes: it is ended in them, more than 4,096 of them are its own, or the script has no more.
 pub record HasSeenBad (script : List ℕ) (number : ℕ) : Type 0 where
   pub bad_line : HasBad script number
   pub whole : List ℕ
@@ -95,7 +95,7 @@ first_moment g slots image = settled_at (record { table = table_of g image; slot
 abbrev pub closed_memory : (slots : ℕ) → Memory
 closed_memory slots = record { slots = replicate slots None; run = None }
 
--- the images ended the run, of which the first isn't one that the check gives two free blocks
+-- The images end the run: the first isn't taken, or the check left too few free blocks. The first isn't one that the check gives two.
 pub record ImagesEnd (g : Geometry) (was now : List ℕ) (ending : Ending) : Type 0 where
   pub refusal : begin_refusal g was now ≡ Some ending
   pub mends_not : IsMendable g was → ⊥
@@ -111,8 +111,8 @@ pub record RunCut {D : Type 0} (nor : NorOf D) (g : Geometry) (old : D) (m : Mom
   pub cut : CutIn nor g old m calls image count
   pub mends : Recovers g image ⊎ ((cut.part ≡ []) × (table_of g image ≡ table_of g (nor.bytes old)))
 
--- Before its closing line: the replies to the first calls were said, and the table is theirs, which was settled or waited. The image is
--- tidy, if the images don't end the run; and where too few blocks are free, none that is worth cleaning can be cleaned.
+-- A run that came to its closing line: the replies to some first calls were said, and the table is the one after them, which was settled or
+-- waited. The image is tidy, unless the images end the run. Where too few blocks are free, no block that is worth cleaning can be cleaned.
 pub record Came {D : Type 0} (nor : NorOf D) (g : Geometry) (old new : D) (m : Moment) (script left : List ℕ) (ending : Ending) : Type 0 where
   pub front : List RunCall
   pub later : List Ask

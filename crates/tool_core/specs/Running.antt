@@ -33,7 +33,7 @@ pub record CallCut {D : Type 0} (nor : NorOf D) (g : Geometry) (old : D) (m : Mo
   pub count_is : count ≡ length (nor.said old) + length said
   pub safe : IsSafe g (nor.bytes old) image
   pub mends : Recovers g image ⊎ ((said ≡ []) × (table_of g image ≡ table_of g (nor.bytes old)))
-  pub cut : IsCut g m done said (table_of g image)
+  pub cut : IsCut g m done said image
 
 -- A cut in the closing line: the last image, and so many bytes of that line behind what was said before it. Two blocks are free, where
 -- the first image is one that the check gives them, and where a reply was said.
@@ -52,9 +52,9 @@ pub record Breaks {D : Type 0} (nor : NorOf D) (g : Geometry) (old new : D) (m :
   pub said : SaidPart nor g old new m (calls script)
   pub cuts : Leaves nor old new (CallCut nor g old m said.calls)
 
--- A run was done up to some call: the replies before it were said, and then its closing line, or a front of that where the board
--- failed; the image's table is that of the state after these calls, and the image is tidy, if the images don't end the run; where it ends for
--- too few free blocks, none that is worth cleaning can be cleaned. A cut leaves what one in these calls may, or in that line.
+-- A run was done up to some call: the replies before it were said, and then its closing line, or a front of that where the board failed. The
+-- image's table is that of the state after these calls. It is tidy, unless the images end the run (`begin_refusal`). Where the run ends for too
+-- few free blocks, no block that is worth cleaning can be cleaned. A cut leaves what one in these calls may, or one in that line.
 pub record Closes {D : Type 0} (nor : NorOf D) (g : Geometry) (old new : D) (m : Moment) (script left : List ℕ) (status : ℕ) : Type 0 where
   pub ending : Ending
   pub ends : EndsAs nor old new ending status
@@ -111,7 +111,8 @@ pub record IsComplete (script : List ℕ) (status : ℕ) : Type 0 where
 -- A run mounts and checks the volume, and does the calls of the script.
 pub record DoesRun {D X : Type 0} (nor : NorOf D) (source : SourceOf X) (g : Geometry) (lent : Lengths) (old new : D) (script after : X) (status : ℕ) : Type 0 where
   -- The replies to some first calls are said, then a closing line, whose cause stands beside it; the table is that after these calls, and a
-  -- cut at any moment leaves what they may. Each is answered as by the flat table, but that one in the corner may be without a page.
+  -- cut at any moment leaves what they may. Each is answered as the flat table is with two free blocks, but in the corner, where the table has
+  -- no room for the index page that a cut of a file needs: there it may be Tight.
   pub outcome : source.tells script → nor.tells old → Outcome nor g old new (first_of g lent (nor.bytes old)) (source.left script) (source.left after) status
   -- with status 0 it was the whole script
   pub whole : source.tells script → nor.tells old → status ≡ 0 → RanWhole nor g old new (first_of g lent (nor.bytes old)) (source.left script) (source.left after)

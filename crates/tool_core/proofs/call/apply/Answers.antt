@@ -18,7 +18,7 @@ returns-in-Refusal-Damaged-clause-does g c =
     does_damage here.differ (subst (λ (why : FsErr). Calls (asked c.args.call.now) c.args.volume.now c.answer.new.self (Refuses why)) here.field-0-is here.ensures)
 
 pub returns-in_default-clause-does : goal.returns-in_default-clause-does
-returns-in_default-clause-does g c = does_answer {old = c.args.volume.now} {new = c.answer.new.self} {ask = asked c.args.call.now} _ c.requires.takes (search rules) (search rules)
+returns-in_default-clause-does g c = does_answer {old = c.args.volume.now} {new = c.answer.new.self} {ask = asked c.args.call.now} _ (g.met.B.Nor.sized) c.requires.takes (search rules) (search rules)
 
 pub returns-in_default-clause-brief : goal.returns-in_default-clause-brief
 returns-in_default-clause-brief g c = brief_of {old = c.args.volume.now} {new = c.answer.new.self} (asked c.args.call.now) (shown_by c.in_default-1.told c.answer.new.into) c.requires.counted (search rules)
