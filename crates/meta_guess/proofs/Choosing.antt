@@ -3,10 +3,9 @@ use Rattle.std.proofs.Common.{◌≡◌, ℕ, ◌+◌, ◌<◌, ◌≤◌, List,
 use Rattle.std.specs.Prelude.{nat_lt, if◌then◌else◌}
 use Rattle.std.proofs.lemmas.Bool.{lt-ltb, le-ltb, cases_lt}
 use Rattle.geometry.specs.declared.geometry.Geometry.{Geometry}
-use Rattle.image_model.specs.Tables.{table_of, damaged_of}
+use Rattle.image_model.specs.Tables.{table_of}
 use Rattle.meta_guess.specs.declared.counts.Counts.{Counts}
-use Rattle.meta_guess.specs.declared.counts.Guess.{Guess}
-use Rattle.meta_guess.specs.Guesses.{CountsOf, SameBut, IsMeta, CountsBy, IsBest, IsGuess}
+use Rattle.meta_guess.specs.Guesses.{CountsOf, SameBut, CountsBy, IsBest, IsGuess}
 use Rattle.meta_guess.proofs.Geometries.{same_meta}
 use Rattle.meta_guess.proofs.Sums.{same_sum}
 

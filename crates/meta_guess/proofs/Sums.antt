@@ -1,5 +1,5 @@
 -- Whole files and damaged ids together are as many as ids that have a header page, whatever the meta bytes.
-use Rattle.std.proofs.Common.{◌≡◌, ℕ, ◌+◌, List, [], ◌∷◌, Bool, true, false, Option, Some, None, Result, Ok, Err, length, ap, refl, sym, ◌∙◌, arith, subst, ⊎_elim}
+use Rattle.std.proofs.Common.{◌≡◌, ℕ, ◌+◌, List, [], ◌∷◌, true, false, Option, Some, None, Result, Ok, Err, length, ap, refl, sym, ◌∙◌, arith, subst, ⊎_elim}
 use Rattle.std.specs.Prelude.{is_some, option_and_then}
 use Rattle.std.specs.Option.{option_map}
 use Rattle.std.specs.List.{filter_map, cons_option}
@@ -9,11 +9,10 @@ use Rattle.geometry.specs.Rules.{IsVolume}
 use Rattle.geometry.specs.Numbers.{per_block, lookups, page_count}
 use Rattle.table_model.specs.Table.{File}
 use Rattle.image_model.specs.declared.damage.Damage.{Damage}
-use Rattle.image_model.specs.declared.damage.Damage.TheVariants.{SameName}
 use Rattle.image_model.specs.Places.{page_of, slot_of, entry_of, is_entry_page, has_magic}
 use Rattle.image_model.specs.Live.{Live, live_at, is_live, own}
 use Rattle.image_model.specs.Files.{index_page, judged, found}
-use Rattle.image_model.specs.Tables.{Found, counts, counted, records, damage, damages, holder, has_of, ids, table_of, damaged_of}
+use Rattle.image_model.specs.Tables.{Found, counts, counted, records, damage, damages, has_of, ids, table_of, damaged_of}
 use Rattle.meta_guess.specs.Guesses.{SameBut}
 use Rattle.meta_guess.proofs.Geometries.{made, with_meta, is_with}
 

@@ -1,4 +1,4 @@
-use Rattle.std.proofs.Common.{◌≡◌, arith}
+use Rattle.std.proofs.Common.{arith}
 use Rattle.flash_view.proofs.Looking.{looks_none, looks_then}
 use Rattle.file_find.specs.Listing.{NextFile}
 use Rattle.meta_guess.proofs.Found.{files_first, file_more, file_last}

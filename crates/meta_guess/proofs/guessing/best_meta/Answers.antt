@@ -1,4 +1,4 @@
-use Rattle.std.proofs.Common.{◌≡◌, ◌∙◌, ◌≤◌, ◌+◌, ◌*◌, ℕ, sym, refl, subst, arith}
+use Rattle.std.proofs.Common.{◌≡◌, ℕ, refl, subst, arith}
 use Rattle.nor_core.proofs.Cuts.{reads_then}
 use Rattle.meta_guess.specs.declared.counts.Counts.{Counts}
 use Rattle.meta_guess.specs.Guesses.{IsBest, CountsBy}

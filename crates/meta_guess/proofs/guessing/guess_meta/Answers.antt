@@ -1,4 +1,4 @@
-use Rattle.std.proofs.Common.{◌≡◌, ◌<◌, ◌≤◌, ℕ, arith}
+use Rattle.std.proofs.Common.{arith}
 use Rattle.nor_core.proofs.Cuts.{reads_then}
 use Rattle.meta_guess.specs.Guesses.{IsBest}
 use Rattle.meta_guess.proofs.Choosing.{guess_given, guess_best}
