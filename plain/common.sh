@@ -51,7 +51,7 @@ get_crates() {
 #
 #   set_target TARGET LIBRARY FOLDER    LIBRARY is core or std; FOLDER is that of the edition
 set_target() {
-  local sysroot sources
+  local sysroot sources linker= name=${1//-/_}
   sysroot=$(rustc --print sysroot)
   for_target=(cargo)
   if ! compgen -G "$sysroot/lib/rustlib/$1/lib/lib$2-*.rlib" >/dev/null; then
@@ -59,7 +59,9 @@ set_target() {
     [ -d "$sources/vendor" ] && [ -x /usr/bin/cargo ] && has_debian_crates || return
     mkdir -p "$3/crates"
     ln -sfn "$debian_crates"/* "$sources"/vendor/* "$3/crates/"
-    for_target=(env RUSTC=/usr/bin/rustc RUSTC_BOOTSTRAP=1 /usr/bin/cargo --offline -Zbuild-std="${2/std/std,panic_abort}"
+    # (Debian's rustc has no linker of its own for these)
+    case $1 in thumb*) linker=CARGO_TARGET_${name^^}_LINKER=arm-none-eabi-ld ;; esac
+    for_target=(env RUSTC=/usr/bin/rustc RUSTC_BOOTSTRAP=1 $linker /usr/bin/cargo --offline -Zbuild-std="${2/std/std,panic_abort}"
       --config "source.debian.directory='$3/crates'")
   fi
   for_target+=(build --release --quiet --target "$1")
