@@ -86,7 +86,7 @@ fn work_for(volume: u32) -> usize {
 // Bytes of cache for a volume of that many bytes: a frame for each page, within the limit. A frame has eight bytes more than a page, which
 // has at least 128.
 fn cache_for(volume: u32) -> usize {
-    (volume as usize + volume as usize / 16).min(MOST_CACHE)
+    (volume.saturating_add(volume / 16) as usize).min(MOST_CACHE)
 }
 
 // Bytes of check for a volume of that many bytes, within the limit: one for each page, which has at least 128, and 8,192.
