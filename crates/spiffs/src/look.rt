@@ -15,7 +15,7 @@ use vol_mount::{Lent, MountErr, accept, mount};
 
 /// What a volume holds before the command.
 #[derive(Clone, Copy, Debug, PartialEq, Eq)]
-pub struct Look {
+pub struct Seen {
     /// How many ids are damaged.
     pub damaged: u32,
     /// Where another META reads more whole files.
@@ -94,13 +94,13 @@ fn is_mounted<N: Nor>(
 }
 
 // What a guess tells, where that META was given.
-fn look_of(given: u32, guess: Guess) -> Look {
+fn seen_by(given: u32, guess: Guess) -> Seen {
     let better = if guess.best.whole > guess.given.whole {
         Some(Better { given, guess })
     } else {
         None
     };
-    Look {
+    Seen {
         damaged: guess.given.damaged,
         better,
     }
@@ -112,29 +112,29 @@ fn look_at<N: Nor>(
     is_forced: bool,
     nor: &mut N,
     lent: &mut Lent<'_>,
-) -> Result<Option<Look>, Failed> {
+) -> Result<Option<Seen>, Failed> {
     let Ok(()) = accept(g, nor, lent) else {
         return Ok(None);
     };
     if is_forced {
         let counts = count_files(g, nor, lent.work, lent.cache, lent.check)?;
-        return Ok(Some(Look {
+        return Ok(Some(Seen {
             damaged: counts.damaged,
             better: None,
         }));
     }
     let guess = guess_meta(g, nor, lent.work, lent.cache, lent.check)?;
-    Ok(Some(look_of(g.meta(), guess)))
+    Ok(Some(seen_by(g.meta(), guess)))
 }
 
 /// Looks at the volume, where the words are a command that removes damaged files, which isn't refused, and the volume mounts.
 /// Nothing is written.
-pub fn look<N: Nor>(
+pub fn look_before<N: Nor>(
     words: &[String],
     is_forced: bool,
     nor: &mut N,
     bufs: &mut Buffers<'_>,
-) -> Result<Option<Look>, Failed> {
+) -> Result<Option<Seen>, Failed> {
     if !repairs(words) || !is_accepted(words, nor.unit(), nor.size(), bufs) {
         return Ok(None);
     }

@@ -13,7 +13,7 @@ use chip_row::ChipRow;
 use fd_table::FdSlot;
 use help::{HELP, VERSION};
 use host_edge::{Access, FileChip, StdBoard, StdFolder, StdSource, Trouble};
-use look::{Look, look};
+use look::{Seen, look_before};
 use nor_core::{Failed, MemErr};
 use std::alloc::{AllocError, Global};
 use std::fs::File;
@@ -213,11 +213,11 @@ fn has_repaired(status: u8) -> bool {
 }
 
 // Says on standard error how many damaged files a check removed.
-fn explain_removed(rt: &impl Eprint, look: Option<Look>, status: u8) {
-    let Some(look) = look else {
+fn explain_removed(rt: &impl Eprint, seen: Option<Seen>, status: u8) {
+    let Some(seen) = seen else {
         return;
     };
-    let damaged = look.damaged;
+    let damaged = seen.damaged;
     if damaged > 0 && has_repaired(status) {
         // (if standard error fails too there is nobody to tell)
         let _said = eprintln!(rt; "spiffs: damaged files that the check removed: {damaged}");
@@ -258,11 +258,11 @@ fn explain_status(rt: &impl Eprint, words: &[String], status: u8) {
 }
 
 // Says on standard error that another META reads more whole files, if one does.
-fn is_refused(rt: &impl Eprint, look: Option<Look>) -> bool {
-    let Some(look) = look else {
+fn is_refused(rt: &impl Eprint, seen: Option<Seen>) -> bool {
+    let Some(seen) = seen else {
         return false;
     };
-    let Some(better) = look.better else {
+    let Some(better) = seen.better else {
         return false;
     };
     let _said = eprintln!(rt; "spiffs: {better}");
@@ -284,7 +284,7 @@ fn run(
         line: &mut memory.line,
     };
     let mut board = StdBoard::new(row_of(rt, words, &bufs)?, rt.stdout());
-    let seen = match look(words, is_forced, &mut board, &mut bufs) {
+    let seen = match look_before(words, is_forced, &mut board, &mut bufs) {
         Ok(seen) => seen,
         Err(Failed) => {
             explain_board(rt, words, &board);
