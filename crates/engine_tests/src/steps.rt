@@ -19,8 +19,8 @@ pub(crate) enum Step<'t> {
     /// A read into bytes of 7, as many as stand here: these are there afterwards.
     Reads(u16, Result<u32, FsErr>, &'t [u8]),
     Writes(u16, &'t [u8], Result<u32, FsErr>),
-    /// So many bytes `f` are written.
-    Fills(u16, u32),
+    /// Three bytes `f` are written.
+    FillsThree(u16),
     Seeks(u16, u32, Result<u32, FsErr>),
     Tells(u16, Result<u32, FsErr>),
     Truncates(u16, u32, Result<(), FsErr>),
@@ -72,11 +72,14 @@ fn reads(
     volume.read(fd, into) == told && *into == *wanted
 }
 
-// Whether so many bytes `f` are written.
-fn fills(volume: &mut Volume<'_, MemBoard>, fd: u16, count: u32) -> bool {
-    let byte = b'f';
-    let call = Call::Fill { fd, count, byte };
-    matches!(volume.answer(&call, &mut [0; 4]), Told::Number(n) if n == count)
+// Whether three bytes `f` are written.
+fn fills_three(volume: &mut Volume<'_, MemBoard>, fd: u16) -> bool {
+    let fill = Call::Fill {
+        fd,
+        count: 3,
+        byte: b'f',
+    };
+    matches!(volume.answer(&fill, &mut [0; 3]), Told::Number(3))
 }
 
 // Whether a call of a descriptor is as its step says.
@@ -84,7 +87,7 @@ fn is_so_open(volume: &mut Volume<'_, MemBoard>, step: &Step<'_>) -> bool {
     match *step {
         Step::Reads(fd, told, wanted) => reads(volume, fd, told, wanted),
         Step::Writes(fd, bytes, told) => volume.write(fd, bytes) == told,
-        Step::Fills(fd, count) => fills(volume, fd, count),
+        Step::FillsThree(fd) => fills_three(volume, fd),
         Step::Seeks(fd, at, told) => volume.seek(fd, i64::from(at), Whence::Set) == told,
         Step::Tells(fd, told) => volume.tell(fd) == told,
         Step::Truncates(fd, size, told) => volume.truncate(fd, size) == told,

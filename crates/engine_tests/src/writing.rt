@@ -33,7 +33,7 @@ fn a_volume_that_is_unmounted_has_all_its_bytes_on_the_chip(rt: HostRuntime) -> 
         Step::Truncates(1, 503, Err(FsErr::SeekBounds)),
         Step::Truncates(1, 4, Ok(())),
         Step::Tells(1, Ok(4)),
-        Step::Fills(1, 3),
+        Step::FillsThree(1),
         Step::StatsOpen(1, 1, 7),
         Step::Writes(1, b"w", Ok(1)),
     ];
