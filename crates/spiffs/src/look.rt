@@ -1,14 +1,10 @@
 //! A look at the volume before a command that removes damaged files for good.
-ghost use Rattle.std.specs.Prelude.{◌≡◌, ◌*◌, ◌≤◌, length};
-ghost use Rattle.geometry.specs.Numbers.{scratch_need, cache_need};
-ghost use Rattle.nor_core.specs.Device.{OnlyReads};
-
 use crate::words::{repairs, word};
 use call_script::parse_number;
 use flash_view::View;
 use geometry::{Geometry, MagicKind};
 use meta_guess::{Guess, count_files, guess_meta};
-use nor_core::{Failed, Nor, NorState};
+use nor_core::{Failed, Nor};
 use std::fmt;
 use tool_core::{Buffers, is_accepted};
 use vol_mount::{Lent, MountErr, accept, mount};
@@ -72,20 +68,12 @@ fn geometry_of(words: &[String]) -> Option<Geometry> {
     Geometry::new(page, block, blocks, block, meta, magic).ok()
 }
 
-// Whether the volume mounts.
-fn is_mounted<N: Nor>(
-    g: &Geometry,
-    nor: &mut N,
-    work: &mut [u8],
-    cache: &mut [u8],
-) -> Result<bool, Failed>
-    requires unit { N.unit nor.old ≡ g.now.phys }
-    requires fits { g.now.blocks * g.now.block ≤ N.size nor.old }
-    requires work { scratch_need g.now ≤ length work.old }
-    requires cache { cache_need g.now ≤ length cache.old }
-    ensures { OnlyReads N.NorState nor.old nor.new }
-{
-    let mut v = View::new(*g, nor, work, &mut [], cache);
+// Whether the volume mounts in the lent memory.
+fn is_mounted<N: Nor>(g: &Geometry, nor: &mut N, lent: &mut Lent<'_>) -> Result<bool, Failed> {
+    let Ok(()) = accept(g, nor, lent) else {
+        return Ok(false);
+    };
+    let mut v = View::new(*g, nor, lent.work, &mut [], lent.cache);
     match mount(&mut v) {
         Ok(()) => Ok(true),
         Err(MountErr::DeviceFault) => Err(Failed),
@@ -147,10 +135,7 @@ pub fn look_before<N: Nor>(
         cache: &mut *bufs.cache,
         check: &mut *bufs.check,
     };
-    let Ok(()) = accept(&g, nor, &lent) else {
-        return Ok(None);
-    };
-    if !is_mounted(&g, nor, lent.work, lent.cache)? {
+    if !is_mounted(&g, nor, &mut lent)? {
         return Ok(None);
     }
     look_at(&g, is_forced, nor, &mut lent)
