@@ -3,7 +3,6 @@ use crate::bench::Memory;
 use crate::images::put;
 use chip_row::ChipRow;
 use geometry::{Geometry, MagicKind};
-use nor_core::Failed;
 use nor_memory::{CallKind, MemChip};
 use std::alloc::Global;
 use std::test::Fail;
@@ -28,8 +27,13 @@ fn chip_of(alloc: Global, g: &Geometry, i: u32) -> Result<MemChip, Fail> {
             &[(magic % 256) as u8, (magic / 256) as u8, 0, 0],
         );
     }
-    if image.len() % 4096 != 0 || image.len() > 0x10_0000 {
-        Err::<(), Failed>(Failed)?;
+    chip_with(alloc, image)
+}
+
+// A chip that holds this image of four blocks.
+fn chip_with(alloc: Global, image: Vec<u8>) -> Result<MemChip, Fail> {
+    if image.len() != 16384 {
+        return Err("an image of another size".into());
     }
     Ok(MemChip::new(alloc, image, 4096)?)
 }

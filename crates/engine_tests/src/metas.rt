@@ -35,10 +35,13 @@ fn guessed(
     let mut memory = Memory::new(alloc, &g)?;
     let lent = memory.lend();
     accept(&g, board, &lent)?;
-    let Ok(counts) = count_files(&g, board, lent.work, lent.cache, lent.check) else {
+    let work = lent.work;
+    let cache = lent.cache;
+    let marks = lent.check;
+    let Ok(counts) = count_files(&g, board, work, cache, marks) else {
         return Ok(Err(Failed));
     };
-    let Ok(guess) = guess_meta(&g, board, lent.work, lent.cache, lent.check) else {
+    let Ok(guess) = guess_meta(&g, board, work, cache, marks) else {
         return Ok(Err(Failed));
     };
     Ok(Ok((counts, guess)))
