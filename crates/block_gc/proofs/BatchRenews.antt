@@ -33,6 +33,7 @@ use Rattle.image_laws.proofs.Reindexed.{entry-slot}
 use Rattle.image_laws.proofs.Sounding.{keeps-on}
 use Rattle.image_laws.proofs.SpareKill.{tidy-has_magics}
 use Rattle.image_laws.proofs.Tally.{served}
+use Rattle.image_laws.proofs.TidySteps.{neat_of}
 use Rattle.renew_laws.specs.Recopy.{RecopiesTo, Renamed}
 use Rattle.renew_laws.specs.Replace.{ReplaceCut, Replaced}
 use Rattle.renew_laws.proofs.RecopyCuts.{recopy-cuts, mine4, mine5}
@@ -128,7 +129,7 @@ module _ (g : Geometry) (was image : List ℕ) (block most : ℕ) (batch : Batch
       let of = carried.of in
       let mine : pages0 x.from ≡ Some of.page = subst (λ (n : ℕ). own (live_at g was) n x.from ≡ Some of.page) of.id (own_of (live_at g was) x.from of.page of.live) in
       let mine4 : pages4 x.from ≡ Some of.page = subst (λ (n : ℕ). own (live_at g image) n x.from ≡ Some of.page) of.id (own_of (live_at g image) x.from of.page (c.beside.stays x.from of.page of.live)) in
-      let served0 = serves_data g pages0 head of.page x.from mine of.kind (served g was c.is c.can.tidy id h head c.beside.was_at c.beside.was_header x.from of.page mine) in
+      let served0 = serves_data g pages0 head of.page x.from mine of.kind (served g was c.is (neat_of c.can.tidy) id h head c.beside.was_at c.beside.was_header x.from of.page mine) in
       let entry0 : entry_number g pages0 head x.span ≡ Some x.from = subst (λ (n : ℕ). entry_number g pages0 head n ≡ Some x.from) of.is_span served0.1 in
       let entry4 : entry_number g pages4 head x.span ≡ Some x.from = c.beside.entry x.span ∙ entry0 in
       let copy_id : obj_id carried.copy % 0x8000 ≡ id = ap (λ (n : ℕ). n % 0x8000) carried.copied.id ∙ of.id in

@@ -19,6 +19,7 @@ use Rattle.image_laws.proofs.Frames.{LivePage, live_parts}
 use Rattle.image_laws.proofs.Judge.{index_passes}
 use Rattle.image_laws.proofs.Reindexed.{entry-slot}
 use Rattle.image_laws.proofs.Tally.{is_finished-ones, served}
+use Rattle.image_laws.proofs.TidySteps.{neat_of}
 use Rattle.block_gc.specs.Batches.{IsNamedBy}
 use Rattle.page_renew.proofs.IndexCopies.{high_id}
 use Rattle.block_gc.proofs.BatchCopies.{some_data}
@@ -61,7 +62,7 @@ module _ (g : Geometry) (image : List ℕ) (page : ℕ) (is : IsImage g image) (
   mine = own_of (live_at g image) page there.0 there.1
 
   named : (span_of there.0 < data_pages g (size_of home.head)) × (entry_number g (own (live_at g image) (obj_id there.0 % 0x8000)) home.head (span_of there.0) ≡ Some page)
-  named = serves_data g (own (live_at g image) (obj_id there.0 % 0x8000)) home.head there.0 page mine kind (served g image is tidy (obj_id there.0 % 0x8000) home.h home.head home.at home.header page there.0 mine)
+  named = serves_data g (own (live_at g image) (obj_id there.0 % 0x8000)) home.head there.0 page mine kind (served g image is (neat_of tidy) (obj_id there.0 % 0x8000) home.h home.head home.at home.header page there.0 mine)
 
   span_at : span ≡ index_span g (span_of there.0)
   span_at = is_span ∙ ap (index_span g) span_of_it

@@ -24,7 +24,7 @@ use Rattle.image_laws.proofs.Placing.{page_byte}
 use Rattle.image_laws.proofs.Sounding.{keeps-itself}
 use Rattle.image_laws.proofs.SpareKill.{tidy-has_magics}
 use Rattle.image_laws.proofs.Tally.{served}
-use Rattle.image_laws.proofs.TidySteps.{tidy-is_tidy}
+use Rattle.image_laws.proofs.TidySteps.{neat_of, tidy-is_tidy}
 use Rattle.renew_laws.specs.Replace.{ReplaceCut, Replaced}
 use Rattle.renew_laws.proofs.RecopyLeaves.{put-same}
 use Rattle.page_put.specs.Placing.{placed_page}
@@ -72,7 +72,7 @@ replace_left all = inr (all.middle, all.put, kill_left all.kill)
 -- in a tidy image each index page of a file is the first one of its span, and the only one
 module _ (g : Geometry) (a : List ℕ) (is : IsImage g a) (tidy : IsTidy g a) (id : ℕ) (home : Home g a id) where
   pub index_first : (q : ℕ) (x : List ℕ) → own (live_at g a) id q ≡ Some x → names_index x ≡ true → index_page g (own (live_at g a) id) (span_of x) ≡ Some q
-  index_first q x mine index = serves_first g (own (live_at g a) id) home.head x q mine index (served g a is tidy id home.h home.head home.at home.header q x mine)
+  index_first q x mine index = serves_first g (own (live_at g a) id) home.head x q mine index (served g a is (neat_of tidy) id home.h home.head home.at home.header q x mine)
 
   pub index_alone : (s q : ℕ) → index_page g (own (live_at g a) id) s ≡ Some q → (r : ℕ) → is_index (own (live_at g a) id r) s ≡ true → r ≡ q
   index_alone s q first r passes =

@@ -16,6 +16,7 @@ use Rattle.image_laws.proofs.Judge.{index_passes}
 use Rattle.image_laws.proofs.Finish.{own-parts}
 use Rattle.image_laws.proofs.Wants.{number-is}
 use Rattle.image_laws.proofs.Tally.{wants}
+use Rattle.image_laws.proofs.TidySteps.{neat_of}
 use Rattle.flash_view.specs.Found.{index_near}
 use Rattle.flash_view.proofs.Near.{near_is_first}
 
@@ -41,7 +42,7 @@ module _ (g : Geometry) (a : List ℕ) (is : IsImage g a) (t : IsTidy g a) (id s
       let x = w.0 in
       let parts = own-parts (live_at g a) id p x w.1 in
       let index : is_index (Some x) span ≡ true = ap (λ (o : Option (List ℕ)). is_index o span) (sym w.1) ∙ e in
-      let v = wants g a is t p x parts.0 in
+      let v = wants g a is (neat_of t) p x parts.0 in
       let same : v.page ≡ x = same_Some v.page x (sym v.is ∙ parts.0) in
       let mine : obj_id v.page % 0x8000 ≡ id = ap (λ (l : List ℕ). obj_id l % 0x8000) same ∙ parts.1 in
       let serving : serves g (own (live_at g a) id) v.head p ≡ true = rw mine at v.served in

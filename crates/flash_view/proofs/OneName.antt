@@ -17,6 +17,7 @@ use Rattle.image_laws.proofs.Judge.{found_parts}
 use Rattle.image_laws.proofs.Records.{bytes_same, counted-some, names-apart}
 use Rattle.image_laws.proofs.Reindexed.{judged-parts}
 use Rattle.image_laws.proofs.Tally.{wants}
+use Rattle.image_laws.proofs.TidySteps.{neat_of}
 use Rattle.image_laws.proofs.Wanted.{some_file}
 use Rattle.flash_view.specs.Found.{headed, is_name, named_at, first_named, named_near}
 use Rattle.flash_view.proofs.Near.{named_near_is_first}
@@ -69,7 +70,7 @@ module _ (g : Geometry) (a : List ℕ) (is : IsImage g a) (t : IsTidy g a) (name
       let w = name_parts page name i (ap (λ (o : Option (List ℕ)). named_at o name) (sym s.1) ∙ e) in
       let mine : own (live_at g a) i p ≡ Some page = ap (λ (k : ℕ). own (live_at g a) k p) (sym w.id) ∙ own_from (live_at g a) p page s.1 in
       let at : index_page g (own (live_at g a) i) 0 ≡ Some p = index_only g a is t i 0 p (ap (λ (o : Option (List ℕ)). is_index o 0) mine ∙ w.index) in
-      let v = wants g a is t p page s.1 in
+      let v = wants g a is (neat_of t) p page s.1 in
       let same : v.page ≡ page = same_Some v.page page (sym v.is ∙ s.1) in
       let id : obj_id v.page % 0x8000 ≡ i = ap (λ (l : List ℕ). obj_id l % 0x8000) same ∙ w.id in
       let in_table : is_some (counted (has_of g (live_at g a)) 0x7FFF (has_of g (live_at g a) i)) ≡ true = rw id at v.in_table in

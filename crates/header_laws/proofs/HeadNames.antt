@@ -27,6 +27,7 @@ use Rattle.image_laws.proofs.Finish.{own-parts, heads-apart}
 use Rattle.image_laws.proofs.Frames.{live_parts}
 use Rattle.image_laws.proofs.Wants.{number-is}
 use Rattle.image_laws.proofs.Tally.{wants}
+use Rattle.image_laws.proofs.TidySteps.{neat_of}
 use Rattle.header_laws.specs.Ids.{Named, HasNames}
 use Rattle.header_laws.specs.Names.{OwnNameUnused}
 use Rattle.header_laws.proofs.Listed.{any-found, found-first, found-none, each-listed}
@@ -86,7 +87,7 @@ pub head-only : (g : Geometry) (a : List ℕ) → IsImage g a → IsTidy g a →
     index_page g (own (live_at g a) (obj_id page % 0x8000)) 0 ≡ Some p
 unfolding serves
 head-only g a is t p page live index =
-    let v = wants g a is t p page live in
+    let v = wants g a is (neat_of t) p page live in
     let same : v.page ≡ page = same_Some v.page page (sym v.is ∙ live) in
     let s = v.served in
     let serving : serves g (own (live_at g a) (obj_id page % 0x8000)) v.head p ≡ true = rw same at s in

@@ -21,6 +21,7 @@ use Rattle.image_laws.proofs.Judge.{index_passes}
 use Rattle.image_laws.proofs.Wanted.{judged-whole}
 use Rattle.image_laws.proofs.Serving.{bytes_long}
 use Rattle.image_laws.proofs.Tally.{served}
+use Rattle.image_laws.proofs.TidySteps.{neat_of}
 use Rattle.header_laws.specs.Heads.{Tells, HeadTells, FilesHaveHeads, FoundById, EachById, OneHead}
 use Rattle.header_laws.proofs.Listed.{IsFirst, found-first, each-listed}
 use Rattle.header_laws.proofs.HeadPages.{Headed, file_at, file_at-keyed, file_of-at, headed, headed-by_file}
@@ -53,7 +54,7 @@ module _ (g : Geometry) (a : List ℕ) (is : IsImage g a) (t : IsTidy g a) (id :
         name = name;
         kind = ap (λ (x : File). x.kind) (sym w.2);
         meta = meta;
-        size = ap length bytes ∙ bytes_long g pos (own (live_at g a) id) h.p h.head h.at whole (served g a is t id h.p h.head h.at h.page) inside long geo.page;
+        size = ap length bytes ∙ bytes_long g pos (own (live_at g a) id) h.p h.head h.at whole (served g a is (neat_of t) id h.p h.head h.at h.page) inside long geo.page;
         meta_length = ap length meta ∙ (simp (length-take, length-drop) (omega (arith, page, geo.page, geo.meta)));
         fine_name = (fine-names h.f.name).1 (name_of-fine h.head h.f.name name);
         whole = h.file;

@@ -206,6 +206,7 @@ module _ (g : Geometry) (a b : List ℕ) (p asked : ℕ) (is : IsImage g a) (h :
         magic = λ d. s2.magic d ∙ s1.magic d;
         entry = λ q e there. s2.entry q e there ∙ s1.entry q e there;
         page = λ q e there. s2.page q e there ∙ s1.page q e there;
+        counts = λ d low. s2.counts d low ∙ s1.counts d low;
       } in
       turned g a c p (unused_page g a p unused) agree (λ q. (cut_entry c torn).0 q ∙ first.0 q)
       (record { len = omega (arith, two.outside.size, one.outside.size, is.len) }) (keeps_entry c torn) (zeroed g b c p two) unused

@@ -38,3 +38,5 @@ pub mod BetweenTorn
 pub mod Reindexed
 pub mod RemoveTidy
 pub mod MixedBlocks
+pub mod EraseCounts
+pub mod Uses

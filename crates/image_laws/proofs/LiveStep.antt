@@ -35,7 +35,7 @@ done_byte k at asked a b clears h =
     now ∙ cleared-and k (slice_index a at) asked clears
 
 agree-itself : (g : Geometry) (a : List ℕ) (p : ℕ) → Agree g a a p
-agree-itself g a p = record { magic = λ c. refl; entry = λ q e there. refl; page = λ q e there. refl }
+agree-itself g a p = record { magic = λ c. refl; entry = λ q e there. refl; page = λ q e there. refl; counts = λ d low. refl }
 
 module _ (g : Geometry) (a0 a1 a2 a3 a4 : List ℕ) (p : ℕ) (page : List ℕ) (fin : ℕ) (is : IsImage g a0) (free : IsFreePage g a0 p) (ready : IsReadyPage g page fin) (all : Finished g p page fin a0 a1 a2 a3 a4) where
   image3 : IsImage g a3

@@ -10,7 +10,7 @@ use Rattle.image_model.specs.Tables.{has_of}
 use Rattle.image_model.specs.Tidy.{is_wanted, is_free_entry, free_blocks}
 use Rattle.image_laws.specs.Programs.{IsIdle, ClearsBit}
 use Rattle.image_model.specs.Sound.{HasMagics, Keeps}
-use Rattle.image_laws.specs.TidySteps.{IsTidyBut, Agree}
+use Rattle.image_laws.specs.TidySteps.{IsNeatBut, IsTidyBut, Agree}
 use Rattle.image_laws.specs.LiveSteps.{Kills, KillCut, KillDone}
 use Rattle.image_laws.specs.Spares.{Spares, SpareKills, SparesEnd, TidyHasMagics, is_in_table}
 use Rattle.image_laws.proofs.Frames.{live_parts}
@@ -28,7 +28,7 @@ use Rattle.image_laws.proofs.StillFree.{live-used}
 use Rattle.image_laws.proofs.LiveStep.{kill-changes, dead}
 
 -- a live page is spare or wanted
-pub wanted-or_spare : (g : Geometry) (a : List ℕ) (spare : ℕ → Bool) → IsTidyBut g a spare → (p : ℕ) (x : List ℕ) → live_at g a p ≡ Some x → (spare p ≡ true) ⊎ (is_wanted g a p ≡ true)
+pub wanted-or_spare : (g : Geometry) (a : List ℕ) (spare : ℕ → Bool) → IsNeatBut g a spare → (p : ℕ) (x : List ℕ) → live_at g a p ≡ Some x → (spare p ≡ true) ⊎ (is_wanted g a p ≡ true)
 wanted-or_spare g a spare t p x e =
     let w = live_parts g a p x e in
     ⊎_elim

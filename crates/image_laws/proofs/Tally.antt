@@ -14,10 +14,11 @@ use Rattle.image_model.specs.Places.{entry_of, IsImage}
 use Rattle.table_model.specs.Table.{File}
 use Rattle.image_model.specs.Tables.{Found, has_of, counted, records, table_of}
 use Rattle.image_model.specs.Files.{index_page, judged, bytes_of}
-use Rattle.image_model.specs.Tidy.{IsTidy, is_wanted, is_free_entry, serves}
+use Rattle.image_model.specs.Tidy.{IsNeat, is_wanted, is_free_entry, serves}
 use Rattle.image_model.specs.Kinds.{is_index_page, is_data_page, live_index, live_data}
 use Rattle.image_laws.specs.PageCounts.{TidyCounts}
 use Rattle.image_laws.proofs.Frames.{live_parts}
+use Rattle.image_laws.proofs.TidySteps.{neat_of}
 use Rattle.image_model.specs.Within.{page_number, page_length}
 use Rattle.image_laws.proofs.Finish.{own-parts, is_finished-zero}
 use Rattle.image_laws.proofs.Records.{counted-some}
@@ -63,7 +64,7 @@ is_finished-ones page h =
     (λ (other : (obj_id page % 0x8000 == 0) ≡ false). rw other (rw (eq-eqb (obj_id page) 0xFFFF h) refl))
     (cases_Bool (obj_id page % 0x8000 == 0))
 
-module _ (g : Geometry) (a : List ℕ) (is : IsImage g a) (t : IsTidy g a) where
+module _ (g : Geometry) (a : List ℕ) (is : IsImage g a) (t : IsNeat g a) where
   live-id : (p : ℕ) (x : List ℕ) → live_at g a p ≡ Some x → (1 ≤ obj_id x % 0x8000) × (obj_id x % 0x8000 ≤ 0x7FFF)
   live-id p x e =
       let w = live_parts g a p x e in
@@ -164,9 +165,13 @@ module _ (g : Geometry) (a : List ℕ) (is : IsImage g a) (t : IsTidy g a) where
           | Some f ↦ λ e. (totals f e).1
         ] in go (counted (has_of g (live_at g a)) 0x7FFF (has_of g (live_at g a) id)) refl
 
-pub tidy-counts : (g : Geometry) → TidyCounts g
+-- the live pages of a neat image are as many as the files of its table need
+pub neat-counts : (g : Geometry) (a : List ℕ) → IsImage g a → IsNeat g a → (live_index g a ≡ index_count g (table_of g a)) × (live_data g a ≡ data_count g (table_of g a))
 unfolding live_index live_data table_of index_count data_count
-tidy-counts g a is t = (
+neat-counts g a is t = (
   tally (live_at g a) (has_of g (live_at g a)) 0x7FFF (page_count g) (λ f. index_pages g (length f.bytes)) is_index_page refl (live-id g a is t) (λ id low high. index-per g a is t id),
   tally (live_at g a) (has_of g (live_at g a)) 0x7FFF (page_count g) (λ f. data_pages g (length f.bytes)) is_data_page refl (live-id g a is t) (λ id low high. data-per g a is t id),
 )
+
+pub tidy-counts : (g : Geometry) → TidyCounts g
+tidy-counts g a is t = neat-counts g a is (neat_of t)

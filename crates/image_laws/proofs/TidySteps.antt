@@ -14,13 +14,14 @@ use Rattle.image_model.specs.Live.{live_at, Live}
 use Rattle.image_model.specs.Places.{page_of, block_of, entry_of, slot_of, is_entry_page, IsImage, entry_at}
 use Rattle.image_model.specs.Headers.{names_index}
 use Rattle.image_model.specs.Tables.{damaged_of}
-use Rattle.image_model.specs.Tidy.{is_free_entry, is_wanted, is_wanted_as}
+use Rattle.image_model.specs.Tidy.{is_free_entry, is_wanted, is_wanted_as, IsTidy, IsNeat}
 use Rattle.image_laws.specs.Changes.{Gains}
 use Rattle.image_laws.specs.SoundSteps.{IsOfKind}
-use Rattle.image_laws.specs.TidySteps.{Agree, ProgramsAgree, IsTidyBut, TidyIsTidy, PlacingEntryTidy, PlacingPageTidy, FinishingTidies, KillingTidy, KilledTidies}
+use Rattle.image_laws.specs.TidySteps.{Agree, ProgramsAgree, IsTidyBut, IsNeatBut, TidyIsTidy, PlacingEntryTidy, PlacingPageTidy, FinishingTidies, KillingTidy, KilledTidies}
 use Rattle.image_laws.proofs.Frames.{magic-same_page, magic-same_entry, entry-same_page, entry-same_entry, other-same_page, page-same_entry, entry_place-at, live_parts, damaged_of-same, live-entry_changed}
 use Rattle.image_model.specs.Within.{page_number}
 use Rattle.image_laws.proofs.Placing.{wider, live-placing_entry, live-placing_page}
+use Rattle.image_laws.proofs.EraseCounts.{erases_stay}
 use Rattle.image_laws.proofs.Bits.{one_bit_image}
 use Rattle.image_laws.proofs.Kill.{killing-loses, killing-keeps}
 use Rattle.image_laws.proofs.Publish.{finishing-gains}
@@ -38,6 +39,20 @@ tidy-is_tidy g a spare = (
     unmixed = t.unmixed;
   },
 )
+
+-- tidy images are neat
+pub neat_of : {g : Geometry} {a : List ℕ} → IsTidy g a → IsNeat g a
+neat_of t = record { magic = t.magic; entries = t.entries; undamaged = t.undamaged }
+
+pub neat-but : {g : Geometry} {a : List ℕ} {spare : ℕ → Bool} → IsTidyBut g a spare → IsNeatBut g a spare
+neat-but t = record { magic = t.magic; entries = t.entries; undamaged = t.undamaged }
+
+-- no page is spare
+pub neat-none : {g : Geometry} {a : List ℕ} (spare : ℕ → Bool) → IsNeat g a → IsNeatBut g a spare
+neat-none spare n = record { magic = n.magic; entries = λ p e. inr (n.entries p e); undamaged = n.undamaged }
+
+pub neat-end : {g : Geometry} {a : List ℕ} (spare : ℕ → Bool) → ((p : ℕ) → spare p ≡ true → ⊥) → IsNeatBut g a spare → IsNeat g a
+neat-end spare none n = record { magic = n.magic; entries = λ p e. ⊎_elim (λ (x : spare p ≡ true). absurd (none p x)) (λ y. y) (n.entries p e); undamaged = n.undamaged }
 
 -- what an entry may be
 abbrev pub Entry : Geometry → List ℕ → ℕ → Type 0
@@ -62,6 +77,7 @@ agree_page g a b p geo page h = record {
   magic = magic-same_page g geo a b p page h;
   entry = λ q e there. entry-same_page g geo a b p page h q;
   page = λ q e there. other-same_page g geo a b p page h q there;
+  counts = λ d low. erases_stay g a b p d page low (inl h);
 }
 
 pub agree_entry : (g : Geometry) (a b : List ℕ) (p : ℕ) → Sizes g → is_entry_page g p ≡ true → SameOutside (entry_at g p) 2 a b → Agree g a b p
@@ -69,6 +85,7 @@ agree_entry g a b p geo page h = record {
   magic = magic-same_entry g geo a b p page h;
   entry = λ q e there. entry-same_entry g geo a b p page h q (entry_place-at g q e) there;
   page = λ q e there. page-same_entry g geo a b p page h q e;
+  counts = λ d low. erases_stay g a b p d page low (inr h);
 }
 
 pub agree-on : (g : Geometry) (a b c : List ℕ) (p : ℕ) → Agree g a b p → Agree g b c p → Agree g a c p
@@ -76,6 +93,7 @@ agree-on g a b c p x y = record {
   magic = λ d. y.magic d ∙ x.magic d;
   entry = λ q e there. y.entry q e there ∙ x.entry q e there;
   page = λ q e there. y.page q e there ∙ x.page q e there;
+  counts = λ d low. y.counts d low ∙ x.counts d low;
 }
 
 -- the entries but for that of p

@@ -11,6 +11,7 @@ use Rattle.table_model.specs.Table.{File}
 use Rattle.image_model.specs.Files.{index_page}
 use Rattle.image_model.specs.Tables.{damaged_of}
 use Rattle.image_model.specs.Tidy.{is_free_entry, is_wanted, IsTidy, is_free_block, free_blocks}
+use Rattle.image_model.specs.Shared.{SameCounts}
 use Rattle.image_laws.specs.Programs.{IsUnfinished, IsPlaced, LeadsTo, ClearsBit, IsIdle}
 use Rattle.image_laws.specs.SoundSteps.{IsOfKind}
 
@@ -21,6 +22,13 @@ pub record IsTidyBut (g : Geometry) (image : List ℕ) (spare : ℕ → Bool) : 
       (spare p ≡ true) ⊎ ((entry_of g image p ≡ 0) ⊎ ((is_free_entry g image p ≡ true) ⊎ (is_wanted g image p ≡ true)))
   pub undamaged : damaged_of g image ≡ []
   pub unmixed : (p q : ℕ) (x y : List ℕ) → live_at g image p ≡ Some x → live_at g image q ≡ Some y → block_of g p ≡ block_of g q → names_index x ≡ names_index y
+
+-- neat but for the entries of some pages
+pub record IsNeatBut (g : Geometry) (image : List ℕ) (spare : ℕ → Bool) : Type 0 where
+  pub magic : (b : ℕ) → b < g.blocks → has_magic g image b ≡ true
+  pub entries : (p : ℕ) → is_entry_page g p ≡ true →
+      (spare p ≡ true) ⊎ ((entry_of g image p ≡ 0) ⊎ ((is_free_entry g image p ≡ true) ⊎ (is_wanted g image p ≡ true)))
+  pub undamaged : damaged_of g image ≡ []
 
 -- the spare pages but for p
 pub record Leaves (p : ℕ) (spare later : ℕ → Bool) : Type 0 where
@@ -60,6 +68,7 @@ pub record Agree (g : Geometry) (a b : List ℕ) (p : ℕ) : Type 0 where
   pub magic : (c : ℕ) → has_magic g b c ≡ has_magic g a c
   pub entry : (q : ℕ) → is_entry_page g q ≡ true → q ≢ p → entry_of g b q ≡ entry_of g a q
   pub page : (q : ℕ) → is_entry_page g q ≡ true → q ≢ p → page_of g b q ≡ page_of g a q
+  pub counts : SameCounts g a b
 
 abbrev pub ProgramsAgree : Geometry → Type 0
 ProgramsAgree g = ((a b : List ℕ) (p : ℕ) → is_entry_page g p ≡ true → SameOutside (p * g.page) g.page a b ⊎ SameOutside (entry_at g p) 2 a b → Agree g a b p)

@@ -10,3 +10,4 @@ pub mod Kinds
 pub mod Within
 pub mod Collect
 pub mod Shared
+pub mod Wear

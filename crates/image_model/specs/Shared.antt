@@ -1,11 +1,11 @@
 -- Blocks that hold wanted pages of both kinds, and whether a check can part them.
-use Rattle.std.specs.Prelude.{ℕ, ◌+◌, ◌-◌, ◌*◌, List, length, Bool, not, nat_le, ◌==◌, ◌&&◌, ◌||◌, if◌then◌else◌, filter, sum_by}
+use Rattle.std.specs.Prelude.{◌≡◌, ℕ, ◌<◌, ◌≤◌, ◌⊎◌, true, false, ◌+◌, ◌-◌, ◌*◌, List, length, Bool, not, nat_le, ◌==◌, ◌&&◌, ◌||◌, if◌then◌else◌, filter, sum_by}
 use Rattle.std.specs.List.{range_with_len}
 use Rattle.geometry.specs.declared.geometry.Geometry.{Geometry}
 use Rattle.geometry.specs.Numbers.{entries}
-use Rattle.image_model.specs.Places.{has_magic}
+use Rattle.image_model.specs.Places.{has_magic, block_of, is_entry_page, erase_count}
 use Rattle.image_model.specs.Live.{live_at}
-use Rattle.image_model.specs.Tidy.{is_wanted, is_free_block, free_blocks}
+use Rattle.image_model.specs.Tidy.{is_wanted, is_free_entry, is_free_block, free_blocks}
 use Rattle.image_model.specs.Kinds.{is_index_page, is_data_page, spoiled_blocks}
 use Rattle.image_model.specs.Collect.{count_in, free_where}
 
@@ -48,3 +48,21 @@ blocks_to_use g image = free_blocks g image + (if spoiled_blocks g image == 1 th
 unfoldable pub fits_over : Geometry → List ℕ → Bool
 fits_over g image =
     (shared_blocks g image == 0) || nat_le (shared_index g image) (open_entries g image + (blocks_to_use g image - 2) * entries g)
+
+-- It fits over with so many entries to spare where no block is shared, or the index pages of shared blocks and so many more fit there.
+abbrev pub FitsWith : Geometry → List ℕ → (spare : ℕ) → Type 0
+FitsWith g image spare =
+    (shared_blocks g image ≡ 0) ⊎ (shared_index g image + spare ≤ open_entries g image + (blocks_to_use g image - 2) * entries g)
+
+-- Each page is wanted as before, the free entries of blocks that had their magic are those that were free, and a block without it
+-- lacks it still or is free. So both images have the same shared blocks, and the same places.
+pub record SameUses (g : Geometry) (was now : List ℕ) : Type 0 where
+  pub wanted : (p : ℕ) → is_wanted g now p ≡ is_wanted g was p
+  pub kind : (p : ℕ) → is_wanted g was p ≡ true → live_at g now p ≡ live_at g was p
+  pub magic : (block : ℕ) → has_magic g was block ≡ true → has_magic g now block ≡ true
+  pub free : (p : ℕ) → is_entry_page g p ≡ true → has_magic g was (block_of g p) ≡ true → is_free_entry g now p ≡ is_free_entry g was p
+  pub fresh : (block : ℕ) → block < g.blocks → has_magic g was block ≡ false → (has_magic g now block ≡ false) ⊎ (is_free_block g now block ≡ true)
+
+-- each block has the erase count that it had
+abbrev pub SameCounts : Geometry → (was now : List ℕ) → Type 0
+SameCounts g was now = (block : ℕ) → block < g.blocks → erase_count g now block ≡ erase_count g was block

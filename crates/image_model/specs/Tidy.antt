@@ -55,6 +55,13 @@ pub record IsTidy (g : Geometry) (image : List ℕ) : Type 0 where
   pub undamaged : damaged_of g image ≡ []
   pub unmixed : (p q : ℕ) (x y : List ℕ) → live_at g image p ≡ Some x → live_at g image q ≡ Some y → block_of g p ≡ block_of g q → names_index x ≡ names_index y
 
+-- An image is neat where it is tidy but for blocks that hold live pages of both kinds.
+pub record IsNeat (g : Geometry) (image : List ℕ) : Type 0 where
+  pub magic : (block : ℕ) → block < g.blocks → has_magic g image block ≡ true
+  pub entries : (p : ℕ) → is_entry_page g p ≡ true →
+      (entry_of g image p ≡ 0) ⊎ ((is_free_entry g image p ≡ true) ⊎ (is_wanted g image p ≡ true))
+  pub undamaged : damaged_of g image ≡ []
+
 -- Free entries are told by the lookup pages alone: every block has its magic, and every entry of 0xFFFF lies over an erased page.
 pub record TellsFree (g : Geometry) (image : List ℕ) : Type 0 where
   pub magic : (block : ℕ) → block < g.blocks → has_magic g image block ≡ true

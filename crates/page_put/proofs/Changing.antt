@@ -15,7 +15,7 @@ use Rattle.image_laws.specs.Flash.{Programmed}
 use Rattle.image_laws.proofs.Frames.{entry-same_page}
 use Rattle.image_laws.proofs.Placing.{wider}
 use Rattle.image_laws.proofs.TidySteps.{agree_page, agree_entry, agree-on}
-use Rattle.room_laws.proofs.Recounts.{erases_stay}
+use Rattle.image_laws.proofs.EraseCounts.{erases_stay}
 use Rattle.flash_view.specs.declared.view.View.{View}
 use Rattle.flash_view.specs.declared.counts.Sort.{Sort}
 use Rattle.flash_view.specs.declared.kinds.Kind.{Kind}

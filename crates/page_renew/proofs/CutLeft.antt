@@ -12,6 +12,7 @@ use Rattle.image_model.specs.Live.{Live, live_at, own}
 use Rattle.image_model.specs.Tidy.{serves}
 use Rattle.image_laws.specs.Spares.{leftover}
 use Rattle.image_laws.proofs.Serving.{ceil-mono}
+use Rattle.image_laws.proofs.TidySteps.{neat-but}
 use Rattle.renew_laws.specs.Idles.{Idles}
 use Rattle.renew_laws.specs.Primed.{Primed}
 use Rattle.renew_laws.specs.Truncate.{is_past}
@@ -94,7 +95,7 @@ module _ (g : Geometry) (a c : List ℕ) (id h : ℕ) (head : List ℕ) (f f' : 
   left_over : (r : ℕ) (o : Option (List ℕ)) → own (live_at g a) id r ≡ o → leftover g (own (live_at g a) id) done.y r ≡ past_of (index_pages g size) (data_pages g size) o
   left_over r None is = left_none g (own (live_at g a) id) done.y r is
   left_over r (Some x) is =
-      let served : serves g (own (live_at g a) id) head r ≡ true = ⊎_elim (λ (s : false ≡ true). absurd (cc)) (λ (s : serves g (own (live_at g a) id) head r ≡ true). s) (served-or_spare g a (λ (q : ℕ). false) prime.tidy id h head prime.at prime.header r x is) in
+      let served : serves g (own (live_at g a) id) head r ≡ true = ⊎_elim (λ (s : false ≡ true). absurd (cc)) (λ (s : serves g (own (live_at g a) id) head r ≡ true). s) (served-or_spare g a (λ (q : ℕ). false) (neat-but prime.tidy) id h head prime.at prime.header r x is) in
       left-is_past g (own (live_at g a) id) head done.y (λ t later below. word_kept g head done.y (Cut size) edited t (fewer t (rw now at later)) (rw now at later) below) r x is served
       ∙ ap (λ (n : ℕ). is_past (index_pages g n) (data_pages g n) x) now
 

@@ -23,6 +23,7 @@ use Rattle.image_laws.proofs.Frames.{live_parts}
 use Rattle.image_laws.proofs.Judge.{found_parts, index_passes}
 use Rattle.image_laws.proofs.Records.{counted-some, list_any-at}
 use Rattle.image_laws.proofs.Tally.{counted-in}
+use Rattle.image_laws.proofs.TidySteps.{neat_of}
 use Rattle.image_laws.proofs.Wanted.{some_file}
 use Rattle.image_laws.proofs.Wants.{number-is}
 
@@ -129,7 +130,7 @@ pub record Home (g : Geometry) (a : List ℕ) (id : ℕ) : Type 0 where
 pub home_of : (g : Geometry) (a : List ℕ) → IsImage g a → IsTidy g a → (p : ℕ) (page : List ℕ) → live_at g a p ≡ Some page → Home g a (obj_id page % 0x8000)
 unfolding has_of
 home_of g a is t p page live =
-    let yes = counted-in g a is t (obj_id page % 0x8000) p page (own_of (live_at g a) p page live) in
+    let yes = counted-in g a is (neat_of t) (obj_id page % 0x8000) p page (own_of (live_at g a) p page live) in
     let f = some_file (counted (has_of g (live_at g a)) 0x7FFF (has_of g (live_at g a) (obj_id page % 0x8000))) yes in
     let w = counted-some (has_of g (live_at g a)) 0x7FFF (has_of g (live_at g a) (obj_id page % 0x8000)) f.0 f.1 in
     let v = found_parts g (own (live_at g a) (obj_id page % 0x8000)) (obj_id page % 0x8000) w.0 (Ok f.0) w.1 in

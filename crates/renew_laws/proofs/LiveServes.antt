@@ -6,12 +6,12 @@ use Rattle.image_model.specs.Live.{live_at, own}
 use Rattle.image_model.specs.Headers.{obj_id}
 use Rattle.image_model.specs.Files.{index_page}
 use Rattle.image_model.specs.Tidy.{is_wanted, serves}
-use Rattle.image_laws.specs.TidySteps.{IsTidyBut}
+use Rattle.image_laws.specs.TidySteps.{IsNeatBut}
 use Rattle.image_laws.proofs.Finish.{own-parts}
 use Rattle.image_laws.proofs.Wants.{wanted_parts}
 use Rattle.image_laws.proofs.SpareKill.{wanted-or_spare}
 
-pub served-or_spare : (g : Geometry) (a : List ℕ) (spare : ℕ → Bool) → IsTidyBut g a spare → (id h : ℕ) (head : List ℕ) → index_page g (own (live_at g a) id) 0 ≡ Some h → own (live_at g a) id h ≡ Some head →
+pub served-or_spare : (g : Geometry) (a : List ℕ) (spare : ℕ → Bool) → IsNeatBut g a spare → (id h : ℕ) (head : List ℕ) → index_page g (own (live_at g a) id) 0 ≡ Some h → own (live_at g a) id h ≡ Some head →
     (p : ℕ) (x : List ℕ) → own (live_at g a) id p ≡ Some x → (spare p ≡ true) ⊎ (serves g (own (live_at g a) id) head p ≡ true)
 unfolding is_wanted
 served-or_spare g a spare t id h head at header p x e =
@@ -31,7 +31,7 @@ served-or_spare g a spare t id h head at header p x e =
     inr (ap (λ (y : List ℕ). serves g (own (live_at g a) id) y p) (sym head_same) ∙ serving))
     (wanted-or_spare g a spare t p x live.0)
 
-pub served-but : (g : Geometry) (a : List ℕ) (spare : ℕ → Bool) → IsTidyBut g a spare → (id h : ℕ) (head : List ℕ) → index_page g (own (live_at g a) id) 0 ≡ Some h → own (live_at g a) id h ≡ Some head →
+pub served-but : (g : Geometry) (a : List ℕ) (spare : ℕ → Bool) → IsNeatBut g a spare → (id h : ℕ) (head : List ℕ) → index_page g (own (live_at g a) id) 0 ≡ Some h → own (live_at g a) id h ≡ Some head →
     (p : ℕ) (x : List ℕ) → spare p ≡ false → own (live_at g a) id p ≡ Some x → serves g (own (live_at g a) id) head p ≡ true
 served-but g a spare t id h head at header p x out e =
     ⊎_elim

@@ -11,7 +11,7 @@ use Rattle.table_model.specs.Table.{File, put_file}
 use Rattle.image_model.specs.Files.{index_page, found}
 use Rattle.image_model.specs.Tables.{has_of, counted, damages, table_of, damaged_of}
 use Rattle.image_model.specs.Tidy.{serves, is_wanted}
-use Rattle.image_laws.specs.TidySteps.{IsTidyBut}
+use Rattle.image_laws.specs.TidySteps.{IsNeatBut, IsTidyBut}
 use Rattle.image_model.specs.Sound.{IsMixed}
 use Rattle.renew_laws.specs.OneId.{OneIdChanges, OneIdIsTidy}
 use Rattle.image_laws.specs.Spares.{Spares, is_in_table}
@@ -21,7 +21,7 @@ use Rattle.image_laws.proofs.Finish.{own-parts, has_of-keyed, records-changed}
 use Rattle.image_laws.proofs.Judge.{found_from, judged-keyed}
 use Rattle.image_laws.proofs.Undamaged.{undamaged-changed, apart-new, apart-old}
 use Rattle.image_laws.proofs.Wants.{wanted_from, wanted_parts}
-use Rattle.image_laws.proofs.TidySteps.{Entry}
+use Rattle.image_laws.proofs.TidySteps.{neat-but, Entry}
 
 own-of : (live : Live) (p : ℕ) (x : List ℕ) → live p ≡ Some x → own live (obj_id x % 0x8000) p ≡ Some x
 unfolding own
@@ -48,7 +48,7 @@ unmixed-from g live none p q x y e f at =
     (cases_Bool (names_index y)))
     (cases_Bool (names_index x))
 
-module _ (g : Geometry) (a b : List ℕ) (id k : ℕ) (head : List ℕ) (f : File) (before touched spare : ℕ → Bool) (t : IsTidyBut g a before) (inside : (r : ℕ) → before r ≡ true → touched r ≡ true) (change : OneIdChanges g id k head f touched spare a b) where
+module _ (g : Geometry) (a b : List ℕ) (id k : ℕ) (head : List ℕ) (f : File) (before touched spare : ℕ → Bool) (t : IsNeatBut g a before) (inside : (r : ℕ) → before r ≡ true → touched r ≡ true) (change : OneIdChanges g id k head f touched spare a b) where
   has_now : has_of g (live_at g b) id ≡ Some (k, Ok f)
   unfolding has_of
   has_now = found_from g (own (live_at g b) id) id k head change.at change.header ∙ ap (λ (r : Result File Damage). Some (k, r)) change.file
@@ -142,23 +142,29 @@ module _ (g : Geometry) (a b : List ℕ) (id k : ℕ) (head : List ℕ) (f : Fil
       (t.entries r e))
       (cases_Bool (touched r))
 
-  pub one_id-tidy : IsTidyBut g b spare × (table_of g b ≡ put_file f (table_of g a))
+  pub one_id-neat : IsNeatBut g b spare × (table_of g b ≡ put_file f (table_of g a))
   unfolding table_of damaged_of
-  one_id-tidy = (
+  one_id-neat = (
     record {
       magic = λ c low. change.magic c ∙ t.magic c low;
       entries = entries;
       undamaged = undamaged-changed g a id f change.low change.high undamaged change.unused (live_at g b) k its has_now same;
-      unmixed = unmixed-from g (live_at g b) (λ c m. mixed-none g (live_at g a) t.unmixed c (change.mixed c m));
     },
     records-changed g a (live_at g b) id k f change.low change.high undamaged change.unused its has_now same,
   )
+
+-- in a tidy image
+pub one_id-tidy : (g : Geometry) (a b : List ℕ) (id k : ℕ) (head : List ℕ) (f : File) (before touched spare : ℕ → Bool) → IsTidyBut g a before → ((r : ℕ) → before r ≡ true → touched r ≡ true) → OneIdChanges g id k head f touched spare a b →
+    IsTidyBut g b spare × (table_of g b ≡ put_file f (table_of g a))
+one_id-tidy g a b id k head f before touched spare t inside change =
+    let w = one_id-neat g a b id k head f before touched spare (neat-but t) inside change in
+    (record { magic = w.0.magic; entries = w.0.entries; undamaged = w.0.undamaged; unmixed = unmixed-from g (live_at g b) (λ c m. mixed-none g (live_at g a) t.unmixed c (change.mixed c m)) }, w.1)
 
 -- what is spare is unwanted where it does not serve
 module _ (g : Geometry) (a b : List ℕ) (id k : ℕ) (head : List ℕ) (f : File) (before touched spare : ℕ → Bool) (t : IsTidyBut g a before) (inside : (r : ℕ) → before r ≡ true → touched r ≡ true) (change : OneIdChanges g id k head f touched spare a b)
     (idle : (r : ℕ) (x : List ℕ) → spare r ≡ true → live_at g b r ≡ Some x → (obj_id x % 0x8000 ≡ id) × (serves g (own (live_at g b) id) head r ≡ false)) where
   counts : is_in_table g b id ≡ true
-  counts = rw (count_new g a b id k head f before touched spare t inside change) refl
+  counts = rw (count_new g a b id k head f before touched spare (neat-but t) inside change) refl
 
   unserved : (r : ℕ) (x : List ℕ) → spare r ≡ true → live_at g b r ≡ Some x → (is_wanted g b r ≡ false) × (is_in_table g b (obj_id x % 0x8000) ≡ true)
   unfolding is_wanted

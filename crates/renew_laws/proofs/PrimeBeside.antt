@@ -20,7 +20,7 @@ use Rattle.image_laws.proofs.Judge.{found_parts}
 use Rattle.image_laws.proofs.Records.{counted-some, counted-keyed}
 use Rattle.image_laws.proofs.Sounding.{keeps-itself, keeps-on, keeps-by_live}
 use Rattle.image_laws.proofs.SpareKill.{tidy-has_magics}
-use Rattle.image_laws.proofs.TidySteps.{tidy-is_tidy}
+use Rattle.image_laws.proofs.TidySteps.{neat-but, tidy-is_tidy}
 use Rattle.image_laws.proofs.Wanted.{header-below}
 use Rattle.renew_laws.specs.Primed.{Primed, PrimeStarts, PrimeData, PrimeIndex}
 use Rattle.renew_laws.specs.Recopy.{PutsDataTo}
@@ -71,7 +71,7 @@ prime-starts g a id f is t e =
             ⊎_elim
             (λ (none : false ≡ true). absurd (cc))
             (λ (s : serves g (own (live_at g a) id) v.0 r ≡ true). same_Some r w.0 (sym (served_place g (own (live_at g a) id) v.0 r 0 s passes).0 ∙ v.1))
-            (served-or_spare g a (λ (r : ℕ). false) but id w.0 v.0 v.1 v.2 r x.0 x.1);
+            (served-or_spare g a (λ (r : ℕ). false) (neat-but but) id w.0 v.0 v.1 v.2 r x.0 x.1);
         file = v.3;
       },
     )

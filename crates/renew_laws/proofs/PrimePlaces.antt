@@ -15,6 +15,7 @@ use Rattle.nor_core.specs.Flash.{word_at}
 use Rattle.image_model.specs.Live.{Live, live_at, own}
 use Rattle.image_model.specs.Files.{index_page, further, entry_number, data_of, data_page, judged}
 use Rattle.image_model.specs.Tidy.{serves}
+use Rattle.image_laws.proofs.TidySteps.{neat-but}
 use Rattle.image_laws.proofs.Judge.{index_passes}
 use Rattle.renew_laws.specs.Primed.{PrimedPlaces}
 use Rattle.renew_laws.specs.Tails.{TailTogether}
@@ -63,7 +64,7 @@ primed-places g a b id h head f beside prime = (
       ⊎_elim
       (λ (s : beside r ≡ true). inl s)
       (λ (s : serves g (own (live_at g b) id) head r ≡ true). inr (served_place g (own (live_at g b) id) head r j s passes))
-      (served-or_spare g b beside prime.tidy id h head prime.at prime.header r x.0 x.1),
+      (served-or_spare g b beside (neat-but prime.tidy) id h head prime.at prime.header r x.0 x.1),
 )
 
 -- ---- behind the last span

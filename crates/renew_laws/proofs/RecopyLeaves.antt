@@ -7,19 +7,21 @@ use Rattle.geometry.specs.declared.geometry.Geometry.{Geometry}
 use Rattle.image_model.specs.Live.{live_at, Live, own}
 use Rattle.image_model.specs.Headers.{obj_id}
 use Rattle.image_model.specs.Places.{entry_of}
+use Rattle.image_laws.proofs.TidySteps.{neat-but, neat-end, neat-none}
 use Rattle.image_laws.specs.Changes.{Gains}
 use Rattle.table_model.specs.Table.{File, put_file}
 use Rattle.image_model.specs.Tables.{damaged_of, table_of}
 use Rattle.image_model.specs.Files.{index_page, data_of}
-use Rattle.image_model.specs.Tidy.{serves}
-use Rattle.image_laws.specs.TidySteps.{IsTidyBut}
+use Rattle.image_model.specs.Tidy.{serves, IsNeat}
+use Rattle.image_laws.specs.TidySteps.{IsTidyBut, IsNeatBut}
 use Rattle.image_laws.specs.Spares.{leftover, Spares}
 use Rattle.renew_laws.specs.OneId.{OneIdChanges}
 use Rattle.image_laws.specs.LiveSteps.{PutDone, KillDone}
+use Rattle.renew_laws.specs.Replace.{Replaced}
 use Rattle.renew_laws.specs.Recopy.{RecopiesTo, RecopySpares, Renamed, PutSame}
 use Rattle.image_model.specs.Within.{page_number}
 use Rattle.image_laws.proofs.Finish.{own-parts, has_of-within, records-put_again}
-use Rattle.renew_laws.proofs.OneIdTidy.{one_id-spares}
+use Rattle.renew_laws.proofs.OneIdTidy.{one_id-neat, one_id-spares}
 use Rattle.renew_laws.proofs.ReindexSteps.{three_other, three_v, head3, judged3, serves_named, serves_copy, serves_still}
 use Rattle.renew_laws.proofs.RecopyCuts.{mine4, mine5, mixed5, others5, unused0, bounds}
 use Rattle.renew_laws.proofs.LiveServes.{served-but}
@@ -34,7 +36,7 @@ some_data None t h = cc
 some_data (Some x) t h = (x, refl)
 
 module _ (g : Geometry) (a0 a4 a6 : List ℕ) (p o id h : ℕ) (old page head head' : List ℕ) (f0 f : File) (copies olds : ℕ → Bool) (start : RecopiesTo g a0 p o id h old page head head' f0 f)
-    (t : IsTidyBut g a0 copies) (done : PutDone g p page a0 a4) (last : KillDone g o a4 a6) (names : Renamed g (own (live_at g a0) id) head old page copies olds) where
+    (t : IsNeatBut g a0 copies) (done : PutDone g p page a0 a4) (last : KillDone g o a4 a6) (names : Renamed g (own (live_at g a0) id) head old page copies olds) where
   gains : Gains p page (own (live_at g a0) id) (own (live_at g a4) id)
   gains = mine4 g a0 p o id h old page head head' f0 f start a4 done.gains
 
@@ -155,15 +157,25 @@ pub recopied : (g : Geometry) (a0 a4 a6 : List ℕ) (p o id h : ℕ) (old page h
     PutDone g p page a0 a4 → KillDone g o a4 a6 → IsTidyBut g a0 copies → Renamed g (own (live_at g a0) id) head old page copies olds →
     Spares g (λ r. olds r && leftover g (own (live_at g a6) id) head' r) a6 × (table_of g a6 ≡ put_file f (table_of g a0))
 recopied g a0 a4 a6 p o id h old page head head' f0 f copies olds start done last t names =
-    one_id-spares g a0 a6 id (header g a0 a4 a6 p o id h old page head head' f0 f copies olds start t done last names).0 head' f copies (λ (r : ℕ). copies r || ((r == p) || (r == o)))
+    one_id-spares g a0 a6 id (header g a0 a4 a6 p o id h old page head head' f0 f copies olds start (neat-but t) done last names).0 head' f copies (λ (r : ℕ). copies r || ((r == p) || (r == o)))
     (λ (r : ℕ). olds r && leftover g (own (live_at g a6) id) head' r) t (λ r e. rw e refl)
-    (changes g a0 a4 a6 p o id h old page head head' f0 f copies olds start t done last names)
-    (idle g a0 a4 a6 p o id h old page head head' f0 f copies olds start t done last names)
+    (changes g a0 a4 a6 p o id h old page head head' f0 f copies olds start (neat-but t) done last names)
+    (idle g a0 a4 a6 p o id h old page head head' f0 f copies olds start (neat-but t) done last names)
 
 pub recopy-spares : (g : Geometry) → RecopySpares g
 recopy-spares g a b p o id h old page head head' f0 f copies olds start all t names =
     let w = recopied g a all.middle b p o id h old page head head' f0 f copies olds start all.put all.kill t names in
     (inr w.0, w.1)
+
+-- An index page of a neat image that is renewed as it is leaves it neat.
+pub recopied-neat : (g : Geometry) (a0 b : List ℕ) (p o id h : ℕ) (old page head head' : List ℕ) (f0 f : File) → RecopiesTo g a0 p o id h old page head head' f0 f →
+    Replaced g p o page a0 b → IsNeat g a0 → Renamed g (own (live_at g a0) id) head old page (λ r. false) (λ r. false) → IsNeat g b × (table_of g b ≡ put_file f (table_of g a0))
+recopied-neat g a0 b p o id h old page head head' f0 f start all n names =
+    let t : IsNeatBut g a0 (λ (r : ℕ). false) = neat-none (λ (r : ℕ). false) n in
+    let w = one_id-neat g a0 b id (header g a0 all.middle b p o id h old page head head' f0 f (λ (r : ℕ). false) (λ (r : ℕ). false) start t all.put all.kill names).0 head' f (λ (r : ℕ). false) (λ (r : ℕ). false || ((r == p) || (r == o)))
+    (λ (r : ℕ). false && leftover g (own (live_at g b) id) head' r) t (λ r e. absurd (cc))
+    (changes g a0 all.middle b p o id h old page head head' f0 f (λ (r : ℕ). false) (λ (r : ℕ). false) start t all.put all.kill names) in
+    (neat-end (λ (r : ℕ). false && leftover g (own (live_at g b) id) head' r) (λ r e. absurd (cc)) w.0, w.1)
 
 pub put-same : (g : Geometry) → PutSame g
 unfolding table_of damaged_of

@@ -6,7 +6,7 @@ use Rattle.image_model.specs.Live.{live_at, own}
 use Rattle.image_model.specs.Tidy.{serves}
 use Rattle.image_laws.specs.Spares.{leftover}
 use Rattle.image_laws.proofs.SpareKill.{spares-end}
-use Rattle.image_laws.proofs.TidySteps.{tidy-is_tidy}
+use Rattle.image_laws.proofs.TidySteps.{neat-but, tidy-is_tidy}
 use Rattle.renew_laws.specs.Append.{RenewedTidies}
 use Rattle.renew_laws.specs.Leads.{RenameTidies}
 use Rattle.renew_laws.specs.Renew.{NoneLeft}
@@ -17,7 +17,7 @@ use Rattle.renew_laws.proofs.RenewStep.{renewed-spares}
 pub none-left : (g : Geometry) → NoneLeft g
 none-left g a o id old head before t at header beside on r e =
     no_leftover g (own (live_at g a) id) head r
-    (λ x k. ⊎_elim (λ (b : before r ≡ true). beside r b) (λ (s : serves g (own (live_at g a) id) old r ≡ true). on r s) (served-or_spare g a before t id o old at header r x k))
+    (λ x k. ⊎_elim (λ (b : before r ≡ true). beside r b) (λ (s : serves g (own (live_at g a) id) old r ≡ true). on r s) (served-or_spare g a before (neat-but t) id o old at header r x k))
     e
 
 pub renewed-tidies : (g : Geometry) → RenewedTidies g

@@ -11,16 +11,16 @@ use Rattle.room_laws.proofs.Totals.{Seen, is_unused, is_index, is_data, seen, Su
 use Rattle.room_laws.proofs.Bounding.{data-size, index-size}
 use Rattle.room_laws.proofs.Measures.{beside-le, if_any-le}
 
-bound-from : (e : ℕ) (a b : List Counts) → index_total b ≡ index_total a → blocks_of for_data b ≤ blocks_of for_data a → length b ≡ length a → Bound e a → Bound e b
+pub bound-from : (e : ℕ) (a b : List Counts) → index_total b ≡ index_total a → blocks_of for_data b ≤ blocks_of for_data a → length b ≡ length a → Bound e a → Bound e b
 bound-from e a b i k l bound = rw (i, l) (omega arith)
 
 near-from : (e : ℕ) (a b : List Counts) → index_total b ≡ index_total a → blocks_of for_data b ≤ blocks_of for_data a + 1 → length b ≡ length a → Bound e a → NearBound e b
 near-from e a b i k l bound = rw (i, l) (omega arith)
 
-tail-sums : (e : ℕ) (c : Counts) (r : List Counts) → IsVolume e (c ∷ r) → Sums e r
+pub tail-sums : (e : ℕ) (c : Counts) (r : List Counts) → IsVolume e (c ∷ r) → Sums e r
 tail-sums e c r is = sums e r (λ k d low. is.blocks (suc k) d (omega arith))
 
-head-seen : (e : ℕ) (c : Counts) (r : List Counts) → IsVolume e (c ∷ r) → Seen e c
+pub head-seen : (e : ℕ) (c : Counts) (r : List Counts) → IsVolume e (c ∷ r) → Seen e c
 head-seen e c r is = seen e c (is.blocks 0 c (omega arith))
 
 -- L live pages, F free and D deleted entries in n blocks become L', F' and D' in more: so many entries went, beyond all that were free
@@ -60,10 +60,10 @@ fits-data e d s pos k places others =
     rw k (omega (arith, m, n))
 
 -- a dead block is worth cleaning and fits
-dead-worth : (v : List Counts) (x : Counts) → kind_of x ≡ for_index → 0 < x.deleted → Worth v x
+pub dead-worth : (v : List Counts) (x : Counts) → kind_of x ≡ for_index → 0 < x.deleted → Worth v x
 dead-worth v x k some = rw k (inl some)
 
-dead-fits : (e : ℕ) (v : List Counts) (x : Counts) → 0 < e → kind_of x ≡ for_index → x.index ≡ 0 → Fits e v x
+pub dead-fits : (e : ℕ) (v : List Counts) (x : Counts) → 0 < e → kind_of x ≡ for_index → x.index ≡ 0 → Fits e v x
 dead-fits e v x pos k none =
     let m : need e x.index (free_of for_index v - x.free) ≤ 0 = ceil-le (x.index - (free_of for_index v - x.free)) e 0 pos (omega arith) in
     rw k (omega (arith, m))
@@ -95,16 +95,16 @@ if_same-le for_index for_index n = omega arith
 if_same-le for_data for_data n = omega arith
 if_same-le k j n = omega arith
 
-head-free-data : (d : Counts) → if_kind for_data d 1 ≤ 1
+pub head-free-data : (d : Counts) → if_kind for_data d 1 ≤ 1
 head-free-data d = if_same-le for_data (kind_of d) 1
 
-no-data-index : (e : ℕ) (c : Counts) → Seen e c → kind_of c ≡ for_data → c.index ≡ 0
+pub no-data-index : (e : ℕ) (c : Counts) → Seen e c → kind_of c ≡ for_data → c.index ≡ 0
 no-data-index e c (is_unused k i d x) j = i
 no-data-index e c (is_index k d x w) j = absurd (cc)
 no-data-index e c (is_data k i x w) j = i
 
 -- so few copies take one block at most
-one-more : (e L F D n L' F' D' n' : ℕ) → L + F + D ≡ n * e → L' + F' + D' ≡ n' * e → (n < n' → F' < e) → L' + D' ≤ L + D + e → n' ≤ n + 1
+pub one-more : (e L F D n L' F' D' n' : ℕ) → L + F + D ≡ n * e → L' + F' + D' ≡ n' * e → (n < n' → F' < e) → L' + D' ≤ L + D + e → n' ≤ n + 1
 one-more e L F D n L' F' D' n' x y low few = ⊎_elim
     (λ (h : n + 1 < n'). absurd (omega (arith, beyond e L F D n L' F' D' n' x y 1 (omega arith) (low (omega arith)))))
     (λ (h : n' ≤ n + 1). h)

@@ -123,7 +123,7 @@ fresh_way_mends g first was image block may between emptied is_image table outsi
       let rest : others_of g now block ≡ others_by g (sort_at g was) block = others_are g block at now s.tidy ∙ others in
       let x = own_by g block at first may.can.tidy in
       let y = others_are g block at first may.can.tidy in
-      let bound = front_bound g first now block may.can is may.candidate s.tidy (s.table ∙ table ∙ between.table) in
+      let bound = front_bound g first now block may.can is may.within s.tidy (s.table ∙ table ∙ between.table) in
       let bound' = rw (x, y) at bound in
       let m = cleaned_mends (entries g) (counts_by g (sort_at g first) block ∷ others_by g (sort_at g first) block) (fresh (entries g) ∷ others_by g (sort_at g was) block) (counts_by g (sort_at g first) block) whole.cleaned bound' in
       record {

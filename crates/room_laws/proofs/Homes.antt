@@ -25,6 +25,7 @@ use Rattle.image_laws.proofs.Judge.{found_parts, index_passes}
 use Rattle.image_laws.proofs.Records.{counted-some, counted-keyed}
 use Rattle.image_laws.proofs.Serving.{judged-bytes, bytes_long}
 use Rattle.image_laws.proofs.Tally.{counted-in, served}
+use Rattle.image_laws.proofs.TidySteps.{neat_of}
 use Rattle.image_laws.proofs.Wanted.{some_file, judged-whole}
 use Rattle.image_laws.proofs.Wants.{number-is}
 
@@ -190,13 +191,13 @@ home_by g a id f counts =
 
 pub home_of : (g : Geometry) (a : List ℕ) → IsImage g a → IsTidy g a → (p : ℕ) (page : List ℕ) → live_at g a p ≡ Some page → Home g a (obj_id page % 0x8000)
 home_of g a is t p page live =
-    let yes = counted-in g a is t (obj_id page % 0x8000) p page (own_of (live_at g a) p page live) in
+    let yes = counted-in g a is (neat_of t) (obj_id page % 0x8000) p page (own_of (live_at g a) p page live) in
     let f = some_file (counted (has_of g (live_at g a)) 0x7FFF (has_of g (live_at g a) (obj_id page % 0x8000))) yes in
     (home_by g a (obj_id page % 0x8000) f.0 f.1).0
 
 module _ (g : Geometry) (a : List ℕ) (is : IsImage g a) (t : IsTidy g a) (id : ℕ) (home : Home g a id) where
   pub serves_own : (p : ℕ) (x : List ℕ) → own (live_at g a) id p ≡ Some x → serves g (own (live_at g a) id) home.head p ≡ true
-  serves_own p x e = served g a is t id home.h home.head home.at home.header p x e
+  serves_own p x e = served g a is (neat_of t) id home.h home.head home.at home.header p x e
 
   pub home_whole : first_missing g (own (live_at g a) id) home.head ≡ None
   home_whole = judged-whole g (own (live_at g a) id) id home.head home.f home.file

@@ -1,5 +1,5 @@
 -- Images that cleanings give back their reserve.
-use Rattle.std.proofs.Common.{◌≡◌, ◌≢◌, ℕ, zero, suc, ◌<◌, ◌≤◌, ◌⊎◌, List, [], ◌∷◌, length, true, false, slice_index_or, refl, sym, ◌∙◌, ap, arith}
+use Rattle.std.proofs.Common.{◌≡◌, ◌≢◌, ℕ, zero, suc, ◌<◌, ◌≤◌, ◌⊎◌, List, [], ◌∷◌, length, true, false, slice_index_or, refl, sym, ◌∙◌, ap, arith, ⊎_elim}
 use Rattle.std.specs.Prelude.{Contains}
 use Rattle.std.proofs.lemmas.List.FromFn.{length-map-range_with_len, get_or-map-range_with_len}
 use Rattle.geometry.specs.declared.geometry.Geometry.{Geometry}
@@ -7,6 +7,7 @@ use Rattle.geometry.specs.Numbers.{entries}
 use Rattle.image_model.specs.Places.{IsImage}
 use Rattle.image_model.specs.Tables.{table_of}
 use Rattle.image_model.specs.Tidy.{IsTidy, is_free_block, free_blocks}
+use Rattle.image_model.specs.Collect.{is_worth}
 use Rattle.image_model.specs.Kinds.{is_data_block}
 use Rattle.room_laws.specs.Counts.{Counts, Kind, unused, for_index, for_data, kind_of}
 use Rattle.room_laws.specs.Volume.{WorthAs, Worth}
@@ -15,10 +16,10 @@ use Rattle.room_laws.specs.Mending.{strong}
 use Rattle.room_laws.specs.Cut.{CutIndex, CutData}
 use Rattle.room_laws.specs.Order.{without, Rearranged}
 use Rattle.room_laws.specs.Counting.{block_counts, counts_of}
-use Rattle.room_laws.specs.Choosing.{IsCandidate}
 use Rattle.room_laws.specs.Stopping.{CanClean}
 use Rattle.room_laws.specs.Mends.{CanMend, CleanMends, MendedHasReserve}
 use Rattle.room_laws.proofs.Cuts.{cut_mends}
+use Rattle.room_laws.proofs.ThreesFree.{three_cut_mends}
 use Rattle.room_laws.proofs.Orders.{stopped_mended, mending_rearranged, blocks-same, free-same, beside-same, index-same}
 use Rattle.room_laws.proofs.Blocks.{Told, told_free, told_index, told_data}
 use Rattle.room_laws.proofs.Tallies.{tidy_counts_tell, tidy_is_volume}
@@ -75,10 +76,7 @@ other_has g image block other low out =
     without_has (counts_of g image) block other (block_counts g image other) (omega (arith, size, low)) out
     (get_or-map-range_with_len (block_counts g image) 0 g.blocks other other (block_counts g image other) low (omega arith))
 
-module _ (g : Geometry) (was now : List ℕ) (block : ℕ) (can : CanClean g was) (is : IsImage g now) (candidate : IsCandidate g was block) (t : IsTidy g now) (table : table_of g now ≡ table_of g was) where
-  low : block < g.blocks
-  low = candidate.within
-
+module _ (g : Geometry) (was now : List ℕ) (block : ℕ) (can : CanClean g was) (is : IsImage g now) (low : block < g.blocks) (t : IsTidy g now) (table : table_of g now ≡ table_of g was) where
   o : OthersTell g was block
   o = others_tell g was block can.tidy low
 
@@ -91,15 +89,19 @@ module _ (g : Geometry) (was now : List ℕ) (block : ℕ) (can : CanClean g was
       let bound = bound_to g was can.tidy can.image_is can.bound in
       rw (index-same (block_counts g was block ∷ others_of g was block) (counts_of g was) f) (omega (arith, bound, blocks-same for_data (block_counts g was block ∷ others_of g was block) (counts_of g was) f, f.long))
 
-  front_worth : Worth (block_counts g was block ∷ others_of g was block) (block_counts g was block)
-  front_worth = worth_back (block_counts g was block ∷ others_of g was block) (counts_of g was) (block_counts g was block) (front g was block low) ((worth_is_tested g was block can.tidy low).0 candidate.worth)
+  front_worth : is_worth g was block ≡ true → Worth (block_counts g was block ∷ others_of g was block) (block_counts g was block)
+  front_worth worth = worth_back (block_counts g was block ∷ others_of g was block) (counts_of g was) (block_counts g was block) (front g was block low) ((worth_is_tested g was block can.tidy low).0 worth)
 
   -- what is cut to mends, whatever was cleaned
-  pub mends : is_free_block g was block ≡ false → (kind_of (block_counts g was block) ≡ for_data → 2 ≤ free_blocks g was) →
+  pub mends : is_free_block g was block ≡ false → (kind_of (block_counts g was block) ≡ for_data → 2 ≤ free_blocks g was) → (is_worth g was block ≡ true) ⊎ (3 ≤ free_blocks g was) →
       CutIndex (entries g) (block_counts g was block) (others_of g was block) (block_counts g now block) (others_of g now block)
       ⊎ CutData (entries g) (block_counts g was block) (others_of g was block) (block_counts g now block) (others_of g now block) → CanMend g now
-  mends used two cut =
+  mends used two gains cut =
       let free = rw used at o.unused_blocks in
-      let m = cut_mends (entries g) (block_counts g was block) (others_of g was block) (block_counts g now block) (others_of g now block)
-      (front_volume g was block low can.tidy) (front_volume g now block low t) (omega (arith, o.long, o'.long)) front_bound (omega (arith, free, can.some)) (λ kind. omega (arith, free, two kind)) front_worth cut in
+      let m = ⊎_elim
+      (λ (worth : is_worth g was block ≡ true). cut_mends (entries g) (block_counts g was block) (others_of g was block) (block_counts g now block) (others_of g now block)
+      (front_volume g was block low can.tidy) (front_volume g now block low t) (omega (arith, o.long, o'.long)) front_bound (omega (arith, free, can.some)) (λ kind. omega (arith, free, two kind)) (front_worth worth) cut)
+      (λ (three : 3 ≤ free_blocks g was). three_cut_mends (entries g) (block_counts g was block) (others_of g was block) (block_counts g now block) (others_of g now block)
+      (front_volume g was block low can.tidy) (front_volume g now block low t) (omega (arith, o.long, o'.long)) (omega (arith, free, three)) cut)
+      gains in
       record { image_is = is; tidy = t; mending = mending_rearranged (entries g) (block_counts g now block ∷ others_of g now block) (counts_of g now) (front g now block low) m }

@@ -1,12 +1,13 @@
 -- Live pages that leave a block.
-use Rattle.std.proofs.Common.{◌≡◌, ℕ, ◌+◌, ◌-◌, ◌<◌, List, ◌∷◌, length, refl, sym, ◌∙◌, subst, arith, ⊎_elim, slice_index_or, slice_set}
+use Rattle.std.proofs.Common.{◌≡◌, ℕ, suc, ◌≤◌, ◌+◌, ◌-◌, ◌<◌, List, ◌∷◌, length, refl, sym, ◌∙◌, subst, arith, ⊎_elim, slice_index_or, slice_set}
 use Rattle.room_laws.specs.Counts.{Counts, Kind, unused, for_index, for_data, kind_of, if_kind}
-use Rattle.room_laws.specs.Volume.{IsVolume, blocks_of, free_of, deleted_of, pages_total}
+use Rattle.room_laws.specs.Volume.{IsVolume, blocks_of, free_of, deleted_of, index_total, pages_total}
 use Rattle.room_laws.specs.Steps.{placed, killed, CanPut, Reached}
 use Rattle.room_laws.specs.Order.{Rearranged, Stays}
 use Rattle.room_laws.specs.Cleaning.{KindKept}
-use Rattle.room_laws.specs.Leaving.{Emptying, fresh, EmptyingStarts, IndexLeaves, PageLeaves, IndexRenewed, EmptyingCleans, CleanedRearranged}
-use Rattle.room_laws.proofs.Totals.{Seen, is_unused, is_index, is_data, seen}
+use Rattle.room_laws.specs.Leaving.{Emptying, SameTotals, fresh, EmptyingStarts, IndexLeaves, PageLeaves, IndexRenewed, EmptyingCleans, CleanedRearranged}
+use Rattle.room_laws.proofs.Totals.{Seen, is_unused, is_index, is_data, seen, sums}
+use Rattle.room_laws.proofs.Cuts.{one-more}
 use Rattle.room_laws.proofs.Moves.{kind-data, reached_start, reached_index, reached_data, reached_kill, reached_end}
 use Rattle.room_laws.proofs.Orders.{stays_start, stays_set, stays_end, blocks-same, free-same, index-same}
 use Rattle.room_laws.proofs.Puts.{put-index, put-data, kill-index}
@@ -98,10 +99,20 @@ none-renewed e c r d s carried is was kind = by (seen e c (is.blocks 0 c (omega 
     by (is_index j p x w) = p
     by (is_data j i x w) = absurd (cc)
 
+-- at most one block more is for index pages
+index-few : (e : ℕ) (c : Counts) (r : List Counts) (d : Counts) (s : List Counts) (carried : ℕ) → IsVolume e (c ∷ r) → Emptying e c r d s carried → SameTotals c r d s → d.index ≡ 0 → blocks_of for_index s ≤ blocks_of for_index r + 1
+index-few e c r d s carried is was same none =
+    let x = sums e r (λ k b low. is.blocks (suc k) b (omega (arith, low))) in
+    let y = sums e s was.reached.blocks in
+    let whole = (is.blocks 0 c (omega arith)).whole in
+    one-more e (index_total r) (free_of for_index r) (deleted_of for_index r) (blocks_of for_index r) (index_total s) (free_of for_index s) (deleted_of for_index s) (blocks_of for_index s) x.index y.index was.reached.on_index.taken
+    (omega (arith, same.index, none, was.reached.index_deleted, was.few, whole))
+
 pub emptying_cleans : EmptyingCleans
 emptying_cleans e c r d s carried is was same no_index no_pages = record {
   cleaned = reached_end e c (fresh e) r s was.renewed is was.reached
       (λ kind. let none = none-renewed e c r d s carried is was kind in omega (arith, was.few, none))
+      (index-few e c r d s carried is was same no_index)
       refl refl refl refl (omega (arith, same.index, no_index)) (omega (arith, same.pages, no_pages));
   stay = stays_end r s c (fresh e) was.stays;
   deleted = omega (arith, was.reached.index_deleted, was.reached.data_deleted, was.few);
@@ -132,4 +143,5 @@ cleaned_rearranged e a a' b b' c before after x y was = record {
   free = omega (arith, was.free, blocks-same unused b b' y);
   for_index_kept = λ kind. kept-same e a a' b b' c for_index x y (was.for_index_kept kind);
   for_data_kept = kept-same e a a' b b' c for_data x y was.for_data_kept;
+  index_few = omega (arith, was.index_few, blocks-same for_index a a' x, blocks-same for_index b b' y);
 }

@@ -37,3 +37,5 @@ pub mod Carried
 pub mod Taken
 pub mod BatchPuts
 pub mod Recounts
+pub mod Partings
+pub mod ThreesFree

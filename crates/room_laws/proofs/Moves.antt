@@ -137,7 +137,7 @@ kept e r s k c d t x y z less = record { taken = λ h. omega (arith, y, t.taken 
 
 pub reached_end : ReachedEnd
 unfolding blocks_of index_total pages_total
-reached_end e c d r s n is was few i p x f li ld =
+reached_end e c d r s n is was few one i p x f li ld =
     let k = kind-unused d i p x in
     record {
       before = is;
@@ -149,4 +149,5 @@ reached_end e c d r s n is was few i p x f li ld =
       free = rw k (omega arith);
       for_index_kept = λ j. kept e r s for_index c d was.on_index (rw k refl) (rw k refl) (rw k refl) (omega (arith, was.index_deleted, few j));
       for_data_kept = kept e r s for_data c d was.on_data (rw k refl) (rw k refl) (rw k refl) (omega (arith, was.data_deleted));
+      index_few = rw k (omega (arith, one));
     }

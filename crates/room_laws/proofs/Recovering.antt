@@ -7,6 +7,7 @@ use Rattle.image_model.specs.Places.{IsImage, block_of, is_entry_page}
 use Rattle.image_model.specs.Tables.{table_of}
 use Rattle.image_model.specs.Tidy.{IsTidy, is_free_block, free_blocks}
 use Rattle.image_model.specs.Kinds.{live_index, live_data}
+use Rattle.image_model.specs.Collect.{is_worth}
 use Rattle.image_laws.proofs.Frames.{live_parts}
 use Rattle.image_laws.proofs.Tally.{tidy-counts}
 use Rattle.room_laws.specs.Counts.{Counts, unused, for_index, for_data, kind_of}
@@ -36,15 +37,28 @@ use Rattle.room_laws.proofs.OnTheWay.{all_nil, all_cons, all_head, way_none}
 
 -- ---- the chosen block
 
+-- a block that is worth cleaning is in use
+used_by : (g : Geometry) (first : List ℕ) (block : ℕ) → IsTidy g first → block < g.blocks → is_worth g first block ≡ true → is_free_block g first block ≡ false
+used_by g first block t low worth = by (told g first t block low) ((worth_is_tested g first block t low).0 worth)
+  where
+    by : Told g first block → Worth (counts_of g first) (block_counts g first block) → is_free_block g first block ≡ false
+    by (told_free f d j k i p x) w = absurd (rw k at w)
+    by (told_index f d k p) w = f
+    by (told_data f d j k i) w = f
+
 pub chosen_may_cut : (g : Geometry) → ChosenMayCut g
-chosen_may_cut g first block can chosen = record {
-  can = can;
-  candidate = chosen_is_candidate g first block chosen;
-  reserve = λ held. ⊎_elim
-      (λ (few : free_blocks g first < 2). let none = last_free_is_plain g first block can few chosen in let bad : true ≡ false = sym held ∙ none in absurd (cc))
-      (λ (enough : 2 ≤ free_blocks g first). enough)
-      (cases_lt (free_blocks g first) 2);
-}
+chosen_may_cut g first block can chosen =
+    let candidate = chosen_is_candidate g first block chosen in
+    record {
+      can = can;
+      within = candidate.within;
+      used = used_by g first block can.tidy candidate.within candidate.worth;
+      reserve = λ held. ⊎_elim
+          (λ (few : free_blocks g first < 2). let none = last_free_is_plain g first block can few chosen in let bad : true ≡ false = sym held ∙ none in absurd (cc))
+          (λ (enough : 2 ≤ free_blocks g first). enough)
+          (cases_lt (free_blocks g first) 2);
+      gains = inl candidate.worth;
+    }
 
 -- ---- images and sorts
 
@@ -89,21 +103,15 @@ module _ (g : Geometry) (block : ℕ) (low : block < g.blocks) where
 
 module _ (g : Geometry) (first : List ℕ) (block : ℕ) (may : MayCut g first block) where
   pub low : block < g.blocks
-  low = may.candidate.within
+  low = may.within
 
-  worth : Worth (counts_of g first) (block_counts g first block)
-  worth = (worth_is_tested g first block may.can.tidy low).0 may.candidate.worth
-
-  in_use : Told g first block → Worth (counts_of g first) (block_counts g first block) → (is_free_block g first block ≡ false) × (kind_of (block_counts g first block) ≡ unused → ⊥)
-  in_use (told_free f d j k i p x) w = absurd (rw k at w)
-  in_use (told_index f d k p) w = (f, λ e. let bad : for_index ≡ unused = sym k ∙ e in absurd (cc))
-  in_use (told_data f d j k i) w = (f, λ e. let bad : for_data ≡ unused = sym k ∙ e in absurd (cc))
-
-  both : (is_free_block g first block ≡ false) × (kind_of (block_counts g first block) ≡ unused → ⊥)
-  both = in_use (told g first may.can.tidy block low) worth
+  in_use : Told g first block → kind_of (block_counts g first block) ≡ unused → ⊥
+  in_use (told_free f d j k i p x) e = let bad : false ≡ true = sym may.used ∙ f in absurd (cc)
+  in_use (told_index f d k p) e = let bad : for_index ≡ unused = sym k ∙ e in absurd (cc)
+  in_use (told_data f d j k i) e = let bad : for_data ≡ unused = sym k ∙ e in absurd (cc)
 
   pub used : kind_of (counts_by g (sort_at g first) block) ≡ unused → ⊥
-  used kind = both.1 (ap kind_of (own_by g block low first may.can.tidy) ∙ kind)
+  used kind = in_use (told g first may.can.tidy block low) (ap kind_of (own_by g block low first may.can.tidy) ∙ kind)
 
   -- what is cut to mends
   pub cut_recovers : (now : List ℕ) → IsImage g now → IsTidy g now → table_of g now ≡ table_of g first →
@@ -114,8 +122,8 @@ module _ (g : Geometry) (first : List ℕ) (block : ℕ) (may : MayCut g first b
       let y = others_are g block low first may.can.tidy in
       let x' = own_by g block low now t in
       let y' = others_are g block low now t in
-      mends g first now block may.can is may.candidate t table both.0
-      (λ kind. may.reserve (data_kind g first block (told g first may.can.tidy block low) kind))
+      mends g first now block may.can is may.within t table may.used
+      (λ kind. may.reserve (data_kind g first block (told g first may.can.tidy block low) kind)) may.gains
       (rw (x, y, x', y') cut)
 
   -- ---- whole turns

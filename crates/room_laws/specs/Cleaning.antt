@@ -20,3 +20,4 @@ pub record Cleaned (e : ℕ) (a : List Counts) (c : Counts) (b : List Counts) : 
   pub free : 0 < blocks_of unused b
   pub for_index_kept : kind_of c ≡ for_index → KindKept e a c b for_index
   pub for_data_kept : KindKept e a c b for_data
+  pub index_few : blocks_of for_index b ≤ blocks_of for_index a + 1

@@ -25,3 +25,5 @@ pub mod CleanedImages
 pub mod Taking
 pub mod Batching
 pub mod Recounting
+pub mod Parting
+pub mod ThreeFree

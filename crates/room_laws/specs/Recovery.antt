@@ -7,12 +7,11 @@ use Rattle.image_model.specs.Places.{IsImage, has_magic, block_of}
 use Rattle.image_model.specs.Live.{live_at}
 use Rattle.image_model.specs.Tables.{table_of}
 use Rattle.image_model.specs.Headers.{names_index}
-use Rattle.image_model.specs.Tidy.{IsTidy, is_free_block, HasReserve}
+use Rattle.image_model.specs.Tidy.{IsTidy, is_free_block, free_blocks, HasReserve}
 use Rattle.image_model.specs.Kinds.{is_data_block}
-use Rattle.image_model.specs.Collect.{deleted_in, free_in, chosen_block}
+use Rattle.image_model.specs.Collect.{deleted_in, free_in, is_worth, chosen_block}
 use Rattle.room_laws.specs.Counts.{for_index, for_data}
 use Rattle.room_laws.specs.Places.{HadWith}
-use Rattle.room_laws.specs.Choosing.{IsCandidate}
 use Rattle.room_laws.specs.Stopping.{CanClean}
 use Rattle.room_laws.specs.Mends.{CanMend}
 use Rattle.room_laws.specs.Leaving.{Emptying}
@@ -32,11 +31,14 @@ ReserveMends g = (image : List ℕ) → HasReserve g image → Recovers g image
 abbrev pub MendedRecovers : Geometry → Type 0
 MendedRecovers g = (image : List ℕ) → CanMend g image → Recovers g image
 
--- The block of an image that can be cleaned is worth cleaning and fits, and holds a live data page only where two blocks are free.
+-- The block of an image that can be cleaned is in use, and holds a live data page only where two blocks are free. It is worth cleaning, or three
+-- blocks are free.
 pub record MayCut (g : Geometry) (first : List ℕ) (block : ℕ) : Type 0 where
   pub can : CanClean g first
-  pub candidate : IsCandidate g first block
+  pub within : block < g.blocks
+  pub used : is_free_block g first block ≡ false
   pub reserve : is_data_block g first block ≡ true → HasReserve g first
+  pub gains : (is_worth g first block ≡ true) ⊎ (3 ≤ free_blocks g first)
 
 -- The chosen block is such a one.
 abbrev pub ChosenMayCut : Geometry → Type 0

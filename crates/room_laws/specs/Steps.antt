@@ -1,7 +1,7 @@
 -- The single steps of a cleaning, over the blocks other than the one that is cleaned.
-use Rattle.std.specs.Prelude.{◌≡◌, ℕ, ◌+◌, ◌-◌, ◌<◌, ◌⊎◌, List, ◌∷◌, length, slice_index_or, slice_set, All}
+use Rattle.std.specs.Prelude.{◌≡◌, ℕ, ◌+◌, ◌-◌, ◌<◌, ◌≤◌, ◌⊎◌, List, ◌∷◌, length, slice_index_or, slice_set, All}
 use Rattle.room_laws.specs.Counts.{Counts, IsBlock, Kind, unused, for_index, for_data, kind_of}
-use Rattle.room_laws.specs.Volume.{IsVolume, free_of, deleted_of, index_total, pages_total}
+use Rattle.room_laws.specs.Volume.{IsVolume, blocks_of, free_of, deleted_of, index_total, pages_total}
 use Rattle.room_laws.specs.Cleaning.{Cleaned}
 use Rattle.room_laws.specs.Cut.{Takes}
 
@@ -52,5 +52,5 @@ ReachedKill = (e : ℕ) (r s : List Counts) (n i : ℕ) (c : Counts) → Reached
 -- Once the cleaned block is fresh these steps were a cleaning.
 abbrev pub ReachedEnd : Type 0
 ReachedEnd = (e : ℕ) (c d : Counts) (r s : List Counts) (n : ℕ) → IsVolume e (c ∷ r) → Reached e r s n → (kind_of c ≡ for_index → n ≡ 0) →
-    d.index ≡ 0 → d.pages ≡ 0 → d.deleted ≡ 0 → d.free ≡ e → index_total s ≡ c.index + index_total r → pages_total s ≡ c.pages + pages_total r →
+    blocks_of for_index s ≤ blocks_of for_index r + 1 → d.index ≡ 0 → d.pages ≡ 0 → d.deleted ≡ 0 → d.free ≡ e → index_total s ≡ c.index + index_total r → pages_total s ≡ c.pages + pages_total r →
     Cleaned e (c ∷ r) c (d ∷ s)

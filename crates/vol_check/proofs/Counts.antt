@@ -12,7 +12,7 @@ use Rattle.flash_view.proofs.Heads.{entry_page_told}
 use Rattle.page_put.specs.Kills.{deleted, killed}
 use Rattle.page_put.proofs.Changing.{page_changes, entry_changes}
 use Rattle.page_put.proofs.Killed.{kill_done}
-use Rattle.vol_check.specs.Stage.{SameCounts}
+use Rattle.image_model.specs.Shared.{SameCounts}
 
 -- ---- its two programs
 

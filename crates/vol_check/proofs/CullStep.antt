@@ -22,7 +22,7 @@ use Rattle.image_laws.proofs.StillFree.{live-used}
 use Rattle.image_laws.proofs.Unwanted.{kill-counts}
 use Rattle.flash_view.specs.Steps.{Finishes}
 use Rattle.page_put.specs.LivePages.{killing}
-use Rattle.vol_check.specs.Stage.{SameCounts}
+use Rattle.image_model.specs.Shared.{SameCounts}
 use Rattle.vol_check.specs.Culls.{Spares, MayCull, Culls}
 use Rattle.vol_check.specs.Works.{step_of, culling}
 use Rattle.vol_check.proofs.Counts.{counts_too}

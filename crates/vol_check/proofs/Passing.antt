@@ -10,7 +10,8 @@ use Rattle.image_model.specs.Sound.{HasMagics, KeepsAll}
 use Rattle.image_laws.specs.TidySteps.{Agree}
 use Rattle.image_laws.proofs.Sounding.{keeps-itself, keeps-on}
 use Rattle.room_laws.specs.Staged.{OnlyKills}
-use Rattle.vol_check.specs.Stage.{SameCounts, Kills}
+use Rattle.image_model.specs.Shared.{SameCounts}
+use Rattle.vol_check.specs.Stage.{Kills}
 use Rattle.vol_check.specs.Culls.{Culls, Passes}
 
 -- ---- at each cut

@@ -14,7 +14,7 @@ use Rattle.image_model.specs.Tidy.{IsTidy, is_wanted, is_free_entry, serves}
 use Rattle.image_model.specs.Killed.{is_used, is_dead_entry}
 use Rattle.image_model.specs.Within.{block_number, page_number}
 use Rattle.image_laws.proofs.SpareKill.{wanted-or_spare}
-use Rattle.image_laws.proofs.TidySteps.{tidy-is_tidy}
+use Rattle.image_laws.proofs.TidySteps.{neat-none, neat_of}
 use Rattle.image_laws.proofs.Wants.{wanted_parts}
 use Rattle.vol_check.specs.Stage.{IsClean}
 use Rattle.vol_check.specs.Culls.{is_doubled, is_doubled_as, HasNoDoubles, is_unwanted, IsServed}
@@ -58,7 +58,7 @@ tidy_wanted g a p page t live =
     ⊎_elim
     (λ (spare : false ≡ true). absurd (false≢true spare))
     (λ (wanted : is_wanted g a p ≡ true). wanted)
-    (wanted-or_spare g a (λ q. false) ((tidy-is_tidy g a (λ q. false)).0 t) p page live)
+    (wanted-or_spare g a (λ q. false) (neat-none (λ q. false) (neat_of t)) p page live)
 
 pub tidy_served : (g : Geometry) (a : List ℕ) → IsTidy g a → IsServed g a
 unfolding is_unwanted

@@ -1,16 +1,13 @@
 -- What the check's kills leave.
-use Rattle.std.specs.Prelude.{◌≡◌, ℕ, ◌+◌, ◌<◌, List, Bool, false, not, ◌==◌, ◌&&◌}
+use Rattle.std.specs.Prelude.{◌≡◌, ℕ, ◌+◌, List, Bool, false, not, ◌==◌, ◌&&◌}
 use Rattle.geometry.specs.declared.geometry.Geometry.{Geometry}
-use Rattle.image_model.specs.Places.{entry_of, erase_count}
+use Rattle.image_model.specs.Places.{entry_of}
 use Rattle.image_model.specs.Live.{live_at}
 use Rattle.image_model.specs.Tidy.{is_free_entry}
 use Rattle.image_model.specs.Killed.{killed_of, is_dead_entry, dead_entries}
+use Rattle.image_model.specs.Shared.{SameCounts}
 use Rattle.image_laws.specs.Kills.{Turned}
 use Rattle.room_laws.specs.Staged.{OnlyKills}
-
--- each block has the erase count that it had
-abbrev pub SameCounts : Geometry → (was now : List ℕ) → Type 0
-SameCounts g was now = (block : ℕ) → block < g.blocks → erase_count g now block ≡ erase_count g was block
 
 -- Pages were killed and nothing else, and the erase counts stay.
 pub record Kills (g : Geometry) (was now : List ℕ) : Type 0 where
