@@ -16,7 +16,7 @@ use Rattle.geometry.specs.Numbers.{entries}
 use Rattle.image_model.specs.Collect.{chosen_block, is_stuck, Swept, are_had, free_where, takes_index, takes_data}
 use Rattle.image_model.specs.Sound.{Keeps}
 use Rattle.image_laws.proofs.BlockCounts.{blocks-split}
-use Rattle.renew_laws.proofs.OneIdTidy.{mixed-none}
+use Rattle.image_laws.proofs.MixedBlocks.{mixed-none}
 use Rattle.image_laws.proofs.Sounding.{keeps-on}
 use Rattle.image_laws.proofs.SpareKill.{tidy-has_magics}
 use Rattle.image_laws.proofs.TidySteps.{tidy-is_tidy}

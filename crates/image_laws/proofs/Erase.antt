@@ -62,15 +62,16 @@ module _ (g : Geometry) (geo : Sizes g) (a b : List ℕ) (c : ℕ) (same : SameO
       let byte = byte-other (p / per_block g) (i - (p / per_block g) * g.block) differ (omega (arith, geo.block)) in
       rw j byte)
 
+  pub magic-other : (d : ℕ) → d ≢ c → has_magic g b d ≡ has_magic g a d
+  unfolding has_magic
+  magic-other d differ = ap (λ (w : ℕ). w == right_magic g d) (slot-other d (slots g - 2) differ (omega (arith, geo.slots_fit)))
+
+  pub entry-other : (p : ℕ) → block_of g p ≢ c → entry_of g b p ≡ entry_of g a p
+  unfolding entry_of
+  entry-other p differ = slot-other (block_of g p) (place_of g p - lookups g) differ (entry_slot g p)
+
   pub live-other : (p : ℕ) → block_of g p ≢ c → live_at g b p ≡ live_at g a p
-  unfolding has_magic entry_of
-  live-other p differ =
-      live_at-kept g a b p
-      (λ page. (
-        ap (λ (w : ℕ). w == right_magic g (block_of g p)) (slot-other (block_of g p) (slots g - 2) differ (omega (arith, geo.slots_fit))),
-        slot-other (block_of g p) (place_of g p - lookups g) differ (entry_slot g p),
-        page-other p differ,
-      ))
+  live-other p differ = live_at-kept g a b p (λ page. (magic-other (block_of g p) differ, entry-other p differ, page-other p differ))
 
 pub block-keeps : (g : Geometry) → BlockKeeps g
 block-keeps g a b c is same before after =

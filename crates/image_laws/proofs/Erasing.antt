@@ -1,25 +1,20 @@
 -- An erase keeps the image sound.
-use Rattle.std.proofs.Common.{◌≡◌, ◌≢◌, ℕ, ◌-◌, ◌*◌, ◌<◌, List, true, false, ◌==◌, ap, sym, ◌∙◌, arith, ⊎_elim}
+use Rattle.std.proofs.Common.{◌≡◌, ◌≢◌, ℕ, ◌*◌, ◌<◌, List, true, false, sym, ◌∙◌, ⊎_elim}
 use Rattle.std.proofs.lemmas.Bool.{cases_eq}
 use Rattle.geometry.specs.declared.geometry.Geometry.{Geometry}
 use Rattle.image_model.specs.Within.{sizes}
-use Rattle.geometry.specs.Numbers.{slots, right_magic}
 use Rattle.nor_core.specs.Flash.{SameOutside}
 use Rattle.image_model.specs.Live.{live_at}
 use Rattle.image_model.specs.Places.{has_magic, block_of, IsImage}
 use Rattle.image_laws.specs.SoundSteps.{ErasingIsSound}
-use Rattle.image_laws.proofs.Erase.{slot-other, live-other, block-keeps}
+use Rattle.image_laws.proofs.Erase.{magic-other, live-other, block-keeps}
 use Rattle.image_laws.proofs.Sounding.{mixed-from}
 
-magic-other : (g : Geometry) (a b : List ℕ) (c : ℕ) → IsImage g a → SameOutside (c * g.block) g.block a b → (d : ℕ) → d ≢ c → has_magic g b d ≡ has_magic g a d
-unfolding has_magic
-magic-other g a b c is same d differ = ap (λ (w : ℕ). w == right_magic g d) (slot-other g (sizes g) a b c same d (slots g - 2) differ (omega (arith, (sizes g).slots_fit)))
-
-at-c : (g : Geometry) (a b : List ℕ) (c : ℕ) → IsImage g a → ((d : ℕ) → d < g.blocks → d ≢ c → has_magic g a d ≡ true) → SameOutside (c * g.block) g.block a b → (d : ℕ) → d < g.blocks → has_magic g b d ≡ false → d ≡ c
-at-c g a b c is others same d low lacks =
+at-c : (g : Geometry) (a b : List ℕ) (c : ℕ) → ((d : ℕ) → d < g.blocks → d ≢ c → has_magic g a d ≡ true) → SameOutside (c * g.block) g.block a b → (d : ℕ) → d < g.blocks → has_magic g b d ≡ false → d ≡ c
+at-c g a b c others same d low lacks =
     ⊎_elim
     (λ (here : d ≡ c). here)
-    (λ (there : d ≡ c → ⊥). let bad : true ≡ false = sym (magic-other g a b c is same d there ∙ others d low there) ∙ lacks in absurd (cc))
+    (λ (there : d ≡ c → ⊥). let bad : true ≡ false = sym (magic-other g (sizes g) a b c same d there ∙ others d low there) ∙ lacks in absurd (cc))
     (cases_eq d c)
 
 pub erasing-sound : (g : Geometry) → ErasingIsSound g
@@ -31,7 +26,7 @@ erasing-sound g a b c is others same before after =
     (cases_eq (block_of g p) c) in
     record {
       sound = record {
-        magics = record { one = λ d e low low' x y. at-c g a b c is others same d low x ∙ sym (at-c g a b c is others same e low' y) };
+        magics = record { one = λ d e low low' x y. at-c g a b c others same d low x ∙ sym (at-c g a b c others same e low' y) };
         mixed = λ d m. mixed-from g (live_at g a) (live_at g b) d (λ q x k. sym (live q) ∙ k) m;
         damaged = λ id k. rw keeps.1 at k;
       };

@@ -11,7 +11,7 @@ use Rattle.image_model.specs.Places.{block_of}
 use Rattle.image_model.specs.Tidy.{is_free_entry, is_free_block, free_blocks}
 use Rattle.image_laws.specs.TidySteps.{Agree, FreeBlocksFall, UsedIsNotFree}
 
-all-range : (test now : ℕ → Bool) (a n : ℕ) → ((q : ℕ) → a ≤ q → q < a + n → now q ≡ test q) → list_all now (range_with_len a n) ≡ list_all test (range_with_len a n)
+pub all-range : (test now : ℕ → Bool) (a n : ℕ) → ((q : ℕ) → a ≤ q → q < a + n → now q ≡ test q) → list_all now (range_with_len a n) ≡ list_all test (range_with_len a n)
 all-range test now a zero same = refl
 all-range test now a (suc n) same = rw (same a (omega arith) (omega arith)) (ap (λ (b : Bool). test a && b) (all-range test now (a + 1) n (λ q low high. same q (omega arith) (omega arith))))
 

@@ -40,3 +40,5 @@ pub mod RemoveTidy
 pub mod MixedBlocks
 pub mod EraseCounts
 pub mod Uses
+pub mod UsesStay
+pub mod Unshared

@@ -1,13 +1,13 @@
--- The test of a mixed block, and the magic after an interrupted erase.
-use Rattle.std.proofs.Common.{◌≡◌, ℕ, zero, suc, ◌+◌, ◌*◌, ◌<◌, ◌≤◌, Bool, true, false, List, refl, subst, arith, ⊎_elim}
+-- The test of a mixed block, images without one, and the magic after an interrupted erase.
+use Rattle.std.proofs.Common.{◌≡◌, ℕ, zero, suc, ◌+◌, ◌*◌, ◌<◌, ◌≤◌, Bool, true, false, List, refl, sym, ◌∙◌, subst, arith, ⊎_elim}
 use Rattle.std.specs.Prelude.{Option, Some, None}
 use Rattle.std.specs.List.{range_with_len, list_any}
 use Rattle.std.proofs.lemmas.Bool.{cases_eq, cases_Bool, and_parts, and_from, or_cases, or_left, or_right, ne_eqb}
 use Rattle.geometry.specs.declared.geometry.Geometry.{Geometry}
 use Rattle.geometry.specs.Numbers.{per_block, lookups, entries}
-use Rattle.image_model.specs.Places.{has_magic, slot_of, is_entry_page}
+use Rattle.image_model.specs.Places.{has_magic, slot_of, block_of, is_entry_page}
 use Rattle.image_model.specs.Headers.{names_index}
-use Rattle.image_model.specs.Live.{live_at, is_live}
+use Rattle.image_model.specs.Live.{Live, live_at, is_live}
 use Rattle.image_model.specs.Sound.{IsMixed}
 use Rattle.image_model.specs.Kinds.{is_index_page, is_data_page, is_index_block, is_data_block, is_mixed}
 use Rattle.image_model.specs.Within.{entry_in, entry_of_block}
@@ -77,6 +77,25 @@ mixed-test g image block m =
 
 pub mixed-tested : (g : Geometry) → MixedIsTested g
 mixed-tested g image block low = (mixed-pages g image block low, mixed-test g image block)
+
+-- ---- images without one
+
+-- where the live pages of each block are of one kind no block is mixed, and the other way round
+pub mixed-none : (g : Geometry) (live : Live) → ((p q : ℕ) (x y : List ℕ) → live p ≡ Some x → live q ≡ Some y → block_of g p ≡ block_of g q → names_index x ≡ names_index y) → (c : ℕ) → IsMixed g live c → ⊥
+mixed-none g live one c m = let same = one m.p m.q m.x m.y m.p_is m.q_is (m.p_at ∙ sym m.q_at) in let n = m.names in let h = m.holds in absurd (cc)
+
+pub unmixed-from : (g : Geometry) (live : Live) → ((c : ℕ) → IsMixed g live c → ⊥) → (p q : ℕ) (x y : List ℕ) → live p ≡ Some x → live q ≡ Some y → block_of g p ≡ block_of g q → names_index x ≡ names_index y
+unmixed-from g live none p q x y e f at =
+    ⊎_elim
+    (λ (i : names_index x ≡ true). ⊎_elim
+    (λ (j : names_index y ≡ true). i ∙ sym j)
+    (λ (d : names_index y ≡ false). absurd (none (block_of g q) (record { p = p; q = q; x = x; y = y; p_at = at; q_at = refl; p_is = e; q_is = f; names = i; holds = d })))
+    (cases_Bool (names_index y)))
+    (λ (d : names_index x ≡ false). ⊎_elim
+    (λ (j : names_index y ≡ true). absurd (none (block_of g q) (record { p = q; q = p; x = y; y = x; p_at = refl; q_at = at; p_is = f; q_is = e; names = j; holds = d })))
+    (λ (k : names_index y ≡ false). d ∙ sym k)
+    (cases_Bool (names_index y)))
+    (cases_Bool (names_index x))
 
 pub scrambled-lacks : (g : Geometry) → ScrambledLacksMagic g
 unfolding has_magic slot_of

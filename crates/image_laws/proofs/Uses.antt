@@ -1,8 +1,9 @@
 -- Images with the same wanted pages and the same places: what fits over in one fits over in the other.
 use Rattle.std.proofs.Common.{◌≡◌, ℕ, zero, suc, ◌+◌, ◌-◌, ◌*◌, ◌<◌, ◌≤◌, ◌⊎◌, List, [], length, Bool, true, false, not, cond, ◌==◌, ◌&&◌, ap, refl, sym, ◌∙◌, arith, ⊎_elim, inl, inr}
 use Rattle.std.specs.Prelude.{filter, sum_by}
-use Rattle.std.specs.List.{range_with_len, list_all}
-use Rattle.std.proofs.lemmas.Bool.{cases_Bool, eqb-true, eq-eqb}
+use Rattle.std.specs.List.{range_with_len}
+use Rattle.std.proofs.Math.Bool.{and-false}
+use Rattle.std.proofs.lemmas.Bool.{cases_Bool, and_parts, false_from_ne_true, not-true}
 use Rattle.std.proofs.lemmas.List.Sums.{length-filter, sum_by-cons}
 use Rattle.geometry.specs.declared.geometry.Geometry.{Geometry}
 use Rattle.geometry.specs.Numbers.{per_block, lookups, entries}
@@ -14,29 +15,22 @@ use Rattle.image_model.specs.Kinds.{is_index_page, is_data_page, spoiled_blocks}
 use Rattle.image_model.specs.Collect.{count_in, free_in, free_where}
 use Rattle.image_model.specs.Sound.{HasMagics}
 use Rattle.image_model.specs.Shared.{is_wanted_index, is_wanted_data, wanted_index_in, wanted_data_in, is_shared, shared_blocks, shared_index, open_entries, blocks_to_use, FitsWith, SameUses}
-use Rattle.image_laws.proofs.FreeBlocks.{filter-same}
-use Rattle.image_laws.proofs.Matching.{sum-range}
-
--- the same for all of a list
-all-same : (test now : ℕ → Bool) (a n : ℕ) → ((q : ℕ) → a ≤ q → q < a + n → now q ≡ test q) → list_all now (range_with_len a n) ≡ list_all test (range_with_len a n)
-all-same test now a zero same = refl
-all-same test now a (suc n) same = rw (same a (omega arith) (omega arith)) (ap (λ (b : Bool). test a && b) (all-same test now (a + 1) n (λ q low high. same q (omega arith) (omega arith))))
+use Rattle.image_laws.proofs.FreeBlocks.{all-range, filter-same}
+use Rattle.image_laws.proofs.Matching.{filter-none_in, sum-range}
 
 -- of numbers that pass at most one does
 one-passes : (test : ℕ → Bool) (a n : ℕ) → ((b c : ℕ) → a ≤ b → b < a + n → a ≤ c → c < a + n → test b ≡ true → test c ≡ true → b ≡ c) → length (filter test (range_with_len a n)) ≤ 1
 one-passes test a zero one = omega arith
 one-passes test a (suc n) one = ⊎_elim
     (λ (yes : test a ≡ true).
-    let none : length (filter test (range_with_len (a + 1) n)) ≡ length (filter (λ (q : ℕ). false) (range_with_len (a + 1) n)) =
-    filter-same (λ (q : ℕ). false) test (a + 1) n (λ q low high. Rattle.std.proofs.lemmas.Bool.false_from_ne_true _ (λ passes. let e : a ≡ q = one a q (omega arith) (omega arith) (omega arith) (omega arith) yes passes in omega (arith, e, low))) in
-    let zero_is = Rattle.image_laws.proofs.Matching.filter-none_in (λ (q : ℕ). false) (a + 1) n (λ q low high. refl) in
-    rw yes (omega (arith, none, zero_is)))
+    let none = filter-none_in test (a + 1) n (λ q low high. false_from_ne_true _ (λ passes. let e : a ≡ q = one a q (omega arith) (omega arith) (omega arith) (omega arith) yes passes in omega (arith, e, low))) in
+    rw yes (omega (arith, none)))
     (λ (no : test a ≡ false). rw no (one-passes test (a + 1) n (λ b c x y z w p q. one b c (omega arith) (omega arith) (omega arith) (omega arith) p q)))
     (cases_Bool (test a))
 
 pub spoiled-few : (g : Geometry) (image : List ℕ) → HasMagics g image → spoiled_blocks g image ≤ 1
 unfolding spoiled_blocks
-spoiled-few g image h = one-passes (λ (block : ℕ). not (has_magic g image block)) 0 g.blocks (λ b c x y z w p q. h.one b c (omega arith) (omega arith) (Rattle.std.proofs.lemmas.Bool.not-true _ p) (Rattle.std.proofs.lemmas.Bool.not-true _ q))
+spoiled-few g image h = one-passes (λ (block : ℕ). not (has_magic g image block)) 0 g.blocks (λ b c x y z w p q. h.one b c (omega arith) (omega arith) (not-true _ p) (not-true _ q))
 
 if-one : (n : ℕ) → n ≤ 1 → cond (n == 1) 1 0 ≡ n
 if-one zero h = refl
@@ -52,20 +46,12 @@ module _ (g : Geometry) (was now : List ℕ) (s : SameUses g was now) where
       (λ (yes : is_wanted g was p ≡ true). rw (s.wanted p, s.kind p yes) refl)
       (λ (no : is_wanted g was p ≡ false). rw (s.wanted p, no) (and-false _ ∙ sym (and-false _)))
       (cases_Bool (is_wanted g was p))
-    where
-      and-false : (b : Bool) → (b && false) ≡ false
-      and-false true = refl
-      and-false false = refl
 
   data-same : (p : ℕ) → is_wanted_data g now p ≡ is_wanted_data g was p
   data-same p = ⊎_elim
       (λ (yes : is_wanted g was p ≡ true). rw (s.wanted p, s.kind p yes) refl)
       (λ (no : is_wanted g was p ≡ false). rw (s.wanted p, no) (and-false _ ∙ sym (and-false _)))
       (cases_Bool (is_wanted g was p))
-    where
-      and-false : (b : Bool) → (b && false) ≡ false
-      and-false true = refl
-      and-false false = refl
 
   index-in : (block : ℕ) → wanted_index_in g now block ≡ wanted_index_in g was block
   unfolding wanted_index_in
@@ -98,7 +84,7 @@ module _ (g : Geometry) (was now : List ℕ) (s : SameUses g was now) where
 
     free-same : is_free_block g now block ≡ is_free_block g was block
     unfolding is_free_block
-    free-same = rw (s.magic block magic, magic) (all-same (λ p. is_free_entry g was p) (λ p. is_free_entry g now p) (block * per_block g + lookups g) (entries g) entry-same)
+    free-same = rw (s.magic block magic, magic) (all-range (λ p. is_free_entry g was p) (λ p. is_free_entry g now p) (block * per_block g + lookups g) (entries g) entry-same)
 
   -- ---- any block
   abbrev opens : List ℕ → ℕ → Bool
@@ -128,7 +114,7 @@ module _ (g : Geometry) (was now : List ℕ) (s : SameUses g was now) where
       (λ (no : has_magic g was block ≡ false). ⊎_elim
       (λ (still : has_magic g now block ≡ false). rw (no, still) refl)
       (λ (free : is_free_block g now block ≡ true).
-      let has : has_magic g now block ≡ true = (Rattle.std.proofs.lemmas.Bool.and_parts (has_magic g now block) _ free).0 in
+      let has : has_magic g now block ≡ true = (and_parts (has_magic g now block) _ free).0 in
       rw (free, no, has) refl)
       (s.fresh block low no))
       (cases_Bool (has_magic g was block))

@@ -18,7 +18,7 @@ use Rattle.image_laws.proofs.Sounding.{sound-by, keeps-by_live, mixed-gains, gai
 use Rattle.image_laws.proofs.TidySteps.{entries-but}
 use Rattle.image_laws.proofs.Wants.{wanted-gains, wanted-new}
 use Rattle.renew_laws.specs.NewHead.{IsNewHead, NewHeadCuts, NewHeadTidies}
-use Rattle.renew_laws.proofs.OneIdTidy.{unmixed-from, mixed-none}
+use Rattle.image_laws.proofs.MixedBlocks.{unmixed-from, mixed-none}
 use Rattle.image_laws.proofs.Publish as publish
 
 module _ (g : Geometry) (a : List ℕ) (p id : ℕ) (head : List ℕ) (f : File) (start : IsNewHead g a p id head f) where

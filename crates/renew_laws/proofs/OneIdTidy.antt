@@ -6,16 +6,16 @@ use Rattle.geometry.specs.declared.geometry.Geometry.{Geometry}
 use Rattle.image_model.specs.declared.damage.Damage.{Damage}
 use Rattle.image_model.specs.Live.{live_at, Live, own}
 use Rattle.image_model.specs.Places.{block_of, is_entry_page}
-use Rattle.image_model.specs.Headers.{obj_id, names_index}
+use Rattle.image_model.specs.Headers.{obj_id}
 use Rattle.table_model.specs.Table.{File, put_file}
 use Rattle.image_model.specs.Files.{index_page, found}
 use Rattle.image_model.specs.Tables.{has_of, counted, damages, table_of, damaged_of}
 use Rattle.image_model.specs.Tidy.{serves, is_wanted}
 use Rattle.image_laws.specs.TidySteps.{IsNeatBut, IsTidyBut}
-use Rattle.image_model.specs.Sound.{IsMixed}
 use Rattle.renew_laws.specs.OneId.{OneIdChanges, OneIdIsTidy}
 use Rattle.image_laws.specs.Spares.{Spares, is_in_table}
 use Rattle.image_laws.proofs.Frames.{live_at-kept}
+use Rattle.image_laws.proofs.MixedBlocks.{mixed-none, unmixed-from}
 use Rattle.image_laws.proofs.Records.{counted-kept, counted-new}
 use Rattle.image_laws.proofs.Finish.{own-parts, has_of-keyed, records-changed}
 use Rattle.image_laws.proofs.Judge.{found_from, judged-keyed}
@@ -30,23 +30,6 @@ own-of live p x e = rw e (rw (Rattle.std.proofs.lemmas.Bool.eq-eqb (obj_id x % 0
 some-or_none : (o : Option (List ℕ)) → (o ≡ None) ⊎ ((x : List ℕ) × (o ≡ Some x))
 some-or_none None = inl refl
 some-or_none (Some x) = inr (x, refl)
-
--- where no block is mixed, the live pages of a block are of one kind
-pub mixed-none : (g : Geometry) (live : Live) → ((p q : ℕ) (x y : List ℕ) → live p ≡ Some x → live q ≡ Some y → block_of g p ≡ block_of g q → names_index x ≡ names_index y) → (c : ℕ) → IsMixed g live c → ⊥
-mixed-none g live one c m = let same = one m.p m.q m.x m.y m.p_is m.q_is (m.p_at ∙ sym m.q_at) in let n = m.names in let h = m.holds in absurd (cc)
-
-pub unmixed-from : (g : Geometry) (live : Live) → ((c : ℕ) → IsMixed g live c → ⊥) → (p q : ℕ) (x y : List ℕ) → live p ≡ Some x → live q ≡ Some y → block_of g p ≡ block_of g q → names_index x ≡ names_index y
-unmixed-from g live none p q x y e f at =
-    ⊎_elim
-    (λ (i : names_index x ≡ true). ⊎_elim
-    (λ (j : names_index y ≡ true). i ∙ sym j)
-    (λ (d : names_index y ≡ false). absurd (none (block_of g q) (record { p = p; q = q; x = x; y = y; p_at = at; q_at = refl; p_is = e; q_is = f; names = i; holds = d })))
-    (cases_Bool (names_index y)))
-    (λ (d : names_index x ≡ false). ⊎_elim
-    (λ (j : names_index y ≡ true). absurd (none (block_of g q) (record { p = q; q = p; x = y; y = x; p_at = refl; q_at = at; p_is = f; q_is = e; names = j; holds = d })))
-    (λ (k : names_index y ≡ false). d ∙ sym k)
-    (cases_Bool (names_index y)))
-    (cases_Bool (names_index x))
 
 module _ (g : Geometry) (a b : List ℕ) (id k : ℕ) (head : List ℕ) (f : File) (before touched spare : ℕ → Bool) (t : IsNeatBut g a before) (inside : (r : ℕ) → before r ≡ true → touched r ≡ true) (change : OneIdChanges g id k head f touched spare a b) where
   has_now : has_of g (live_at g b) id ≡ Some (k, Ok f)

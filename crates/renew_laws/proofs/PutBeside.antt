@@ -19,7 +19,7 @@ use Rattle.image_laws.proofs.Sounding.{sound-by, mixed-gains}
 use Rattle.image_laws.proofs.Tables.{own-gains_other, own-gains_page, own-gains_rest}
 use Rattle.image_laws.proofs.TidySteps.{entries-but}
 use Rattle.image_laws.proofs.Wants.{wanted_parts, wanted_from}
-use Rattle.renew_laws.proofs.OneIdTidy.{unmixed-from, mixed-none}
+use Rattle.image_laws.proofs.MixedBlocks.{unmixed-from, mixed-none}
 use Rattle.renew_laws.proofs.RecopyCuts.{has-all}
 
 -- the pages of the id

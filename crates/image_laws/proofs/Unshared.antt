@@ -1,0 +1,139 @@
+-- Images without a shared block, and images that fit over.
+use Rattle.std.proofs.Common.{◌≡◌, ℕ, zero, suc, ◌+◌, ◌-◌, ◌*◌, ◌<◌, ◌≤◌, List, length, Bool, true, false, cond, ◌==◌, ap, refl, sym, ◌∙◌, arith, ⊎_elim, inl, inr}
+use Rattle.std.specs.Prelude.{filter, sum_by, nat_le}
+use Rattle.std.specs.List.{range_with_len}
+use Rattle.std.proofs.Math.Bool.{and-false}
+use Rattle.std.proofs.lemmas.Bool.{cases_Bool, cases_eq, false_from_ne_true, eqb-true, eq-eqb, leb-true, le-leb, or_cases, or_left, or_right}
+use Rattle.std.proofs.lemmas.List.Sums.{sum_by-cons}
+use Rattle.geometry.specs.declared.geometry.Geometry.{Geometry}
+use Rattle.geometry.specs.Numbers.{per_block, lookups, entries}
+use Rattle.image_model.specs.Live.{live_at}
+use Rattle.image_model.specs.Kinds.{is_index_page, is_data_page, is_index_block, is_data_block, is_mixed, mixed_blocks}
+use Rattle.image_model.specs.Tidy.{IsTidy, IsNeat}
+use Rattle.image_model.specs.Sound.{IsMixed, IsSound}
+use Rattle.image_model.specs.Shared.{is_wanted_index, is_wanted_data, wanted_index_in, wanted_data_in, is_shared, shared_blocks, shared_index, open_entries, blocks_to_use, fits_over, FitsWith}
+use Rattle.image_laws.proofs.Matching.{filter-none_in}
+use Rattle.image_laws.proofs.MixedBlocks.{mixed-tested, mixed-none, unmixed-from}
+use Rattle.image_laws.proofs.Records.{list_any-at}
+
+-- where none of some numbers is counted, none passes
+pub counted-none : (test : ℕ → Bool) (a n : ℕ) → length (filter test (range_with_len a n)) ≡ 0 → (q : ℕ) → a ≤ q → q < a + n → test q ≡ false
+counted-none test a zero none q low high = absurd (omega (arith, low, high))
+counted-none test a (suc n) none q low high = ⊎_elim
+    (λ (yes : test a ≡ true). let bad = rw yes at none in absurd (omega (arith, bad)))
+    (λ (no : test a ≡ false).
+    let rest = rw no at none in
+    ⊎_elim
+    (λ (here : a ≡ q). ap test (sym here) ∙ no)
+    (λ (there : a ≡ q → ⊥). counted-none test (a + 1) n rest q (omega (arith, there, low)) (omega (arith, high)))
+    (cases_eq a q))
+    (cases_Bool (test a))
+
+sums-none : (f : ℕ → ℕ) (a n : ℕ) → ((q : ℕ) → a ≤ q → q < a + n → f q ≡ 0) → sum_by f (range_with_len a n) ≡ 0
+sums-none f a zero none = refl
+sums-none f a (suc n) none =
+    let rest = sums-none f (a + 1) n (λ q low high. none q (omega (arith, low)) (omega (arith, high))) in
+    omega (arith, rest, none a (omega arith) (omega arith), sum_by-cons f a (range_with_len (a + 1) n))
+
+summed-none : (f : ℕ → ℕ) (a n : ℕ) → sum_by f (range_with_len a n) ≡ 0 → (q : ℕ) → a ≤ q → q < a + n → f q ≡ 0
+summed-none f a zero none q low high = absurd (omega (arith, low, high))
+summed-none f a (suc n) none q low high =
+    let parts = sum_by-cons f a (range_with_len (a + 1) n) in
+    ⊎_elim
+    (λ (here : a ≡ q). ap f (sym here) ∙ omega (arith, none, parts))
+    (λ (there : a ≡ q → ⊥). summed-none f (a + 1) n (omega (arith, none, parts)) q (omega (arith, there, low)) (omega (arith, high)))
+    (cases_eq a q)
+
+module _ (g : Geometry) (image : List ℕ) where
+  -- a block without a live page of a kind has no wanted one of it
+  no-index : (block : ℕ) → is_index_block g image block ≡ false → wanted_index_in g image block ≡ 0
+  unfolding is_index_block wanted_index_in
+  no-index block none =
+      filter-none_in (λ p. is_wanted_index g image p) (block * per_block g + lookups g) (entries g) (λ q low high.
+      let no : is_index_page (live_at g image q) ≡ false = list_any-at (λ (r : ℕ). is_index_page (live_at g image r)) _ _ none q low high in rw no refl)
+
+  no-data : (block : ℕ) → is_data_block g image block ≡ false → wanted_data_in g image block ≡ 0
+  unfolding is_data_block wanted_data_in
+  no-data block none =
+      filter-none_in (λ p. is_wanted_data g image p) (block * per_block g + lookups g) (entries g) (λ q low high.
+      let no : is_data_page (live_at g image q) ≡ false = list_any-at (λ (r : ℕ). is_data_page (live_at g image r)) _ _ none q low high in rw no refl)
+
+  -- a block that isn't mixed isn't shared
+  pub unmixed-unshared : (block : ℕ) → is_mixed g image block ≡ false → is_shared g image block ≡ false
+  unfolding is_mixed is_shared
+  unmixed-unshared block none = ⊎_elim
+      (λ (index : is_index_block g image block ≡ true). let no : is_data_block g image block ≡ false = rw index at none in rw (no-data block no) (and-false _))
+      (λ (no : is_index_block g image block ≡ false). rw (no-index block no) refl)
+      (cases_Bool (is_index_block g image block))
+
+  -- Where no block is mixed none is shared.
+  pub none-shared : ((block : ℕ) → IsMixed g (live_at g image) block → ⊥) → shared_blocks g image ≡ 0
+  unfolding shared_blocks
+  none-shared none =
+      filter-none_in (λ b. is_shared g image b) 0 g.blocks (λ block low high.
+      unmixed-unshared block (false_from_ne_true _ (λ yes. none block ((mixed-tested g image block (omega (arith, high))).0 yes))))
+
+  pub no_mixed-unshared : mixed_blocks g image ≡ 0 → shared_blocks g image ≡ 0
+  unfolding mixed_blocks shared_blocks
+  no_mixed-unshared none =
+      filter-none_in (λ b. is_shared g image b) 0 g.blocks (λ block low high. unmixed-unshared block (counted-none (λ b. is_mixed g image b) 0 g.blocks none block low high))
+
+  -- Where none is shared, no index page of one is counted.
+  pub unshared-index : shared_blocks g image ≡ 0 → shared_index g image ≡ 0
+  unfolding shared_blocks shared_index
+  unshared-index none =
+      sums-none (λ b. cond (is_shared g image b) (wanted_index_in g image b) 0) 0 g.blocks (λ block low high.
+      let no : is_shared g image block ≡ false = counted-none (λ b. is_shared g image b) 0 g.blocks none block low high in rw no refl)
+
+  some-index : (block : ℕ) → is_shared g image block ≡ true → wanted_index_in g image block ≡ 0 → ⊥
+  unfolding is_shared
+  some-index block yes none = let bad : false ≡ true = rw none at yes in absurd (cc)
+
+  -- And the other way round.
+  pub index-unshared : shared_index g image ≡ 0 → shared_blocks g image ≡ 0
+  unfolding shared_blocks shared_index
+  index-unshared none =
+      filter-none_in (λ b. is_shared g image b) 0 g.blocks (λ block low high.
+      let term : cond (is_shared g image block) (wanted_index_in g image block) 0 ≡ 0 = summed-none (λ b. cond (is_shared g image b) (wanted_index_in g image b) 0) 0 g.blocks none block low high in
+      false_from_ne_true _ (λ yes. let no : wanted_index_in g image block ≡ 0 = rw yes at term in some-index block yes no))
+
+-- ---- tidy images
+
+pub tidy-unshared : (g : Geometry) (image : List ℕ) → IsTidy g image → shared_blocks g image ≡ 0
+tidy-unshared g image t = none-shared g image (λ block m. mixed-none g (live_at g image) t.unmixed block m)
+
+-- So has an image that is sound with respect to a tidy one.
+pub sound-unshared : (g : Geometry) (was now : List ℕ) → IsTidy g was → IsSound g now was → shared_blocks g now ≡ 0
+sound-unshared g was now t s = none-shared g now (λ block m. mixed-none g (live_at g was) t.unmixed block (s.mixed block m))
+
+-- A neat image without a mixed block is tidy.
+pub neat-tidy : (g : Geometry) (image : List ℕ) → IsNeat g image → ((block : ℕ) → IsMixed g (live_at g image) block → ⊥) → IsTidy g image
+neat-tidy g image n none = record { magic = n.magic; entries = n.entries; undamaged = n.undamaged; unmixed = unmixed-from g (live_at g image) none }
+
+-- So is one that is sound with respect to a tidy one.
+pub sound-tidy : (g : Geometry) (was now : List ℕ) → IsTidy g was → IsSound g now was → IsNeat g now → IsTidy g now
+sound-tidy g was now t s n = neat-tidy g now n (λ block m. mixed-none g (live_at g was) t.unmixed block (s.mixed block m))
+
+-- ---- what fits over
+
+module _ (g : Geometry) (image : List ℕ) where
+  pub fits-less : (spare less : ℕ) → less ≤ spare → FitsWith g image spare → FitsWith g image less
+  fits-less spare less few fits = ⊎_elim
+      (λ (none : shared_blocks g image ≡ 0). inl none)
+      (λ (room : shared_index g image + spare ≤ open_entries g image + (blocks_to_use g image - 2) * entries g). inr (omega (arith, room, few)))
+      fits
+
+  -- It fits over where it does so with none to spare.
+  pub fits-tested : fits_over g image ≡ true → FitsWith g image 0
+  unfolding fits_over
+  fits-tested fits = ⊎_elim
+      (λ (none : (shared_blocks g image == 0) ≡ true). inl (eqb-true _ 0 none))
+      (λ (room : nat_le (shared_index g image) (open_entries g image + (blocks_to_use g image - 2) * entries g) ≡ true). let le = leb-true _ _ room in inr (omega (arith, le)))
+      (or_cases _ _ fits)
+
+  pub tested-fits : FitsWith g image 0 → fits_over g image ≡ true
+  unfolding fits_over
+  tested-fits fits = ⊎_elim
+      (λ (none : shared_blocks g image ≡ 0). or_left _ _ (eq-eqb (shared_blocks g image) 0 none))
+      (λ (room : shared_index g image + 0 ≤ open_entries g image + (blocks_to_use g image - 2) * entries g). or_right _ _ (le-leb _ _ (omega (arith, room))))
+      fits
