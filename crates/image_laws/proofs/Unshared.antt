@@ -1,20 +1,24 @@
 -- Images without a shared block, and images that fit over.
-use Rattle.std.proofs.Common.{◌≡◌, ℕ, zero, suc, ◌+◌, ◌-◌, ◌*◌, ◌<◌, ◌≤◌, List, length, Bool, true, false, cond, ◌==◌, ap, refl, sym, ◌∙◌, arith, ⊎_elim, inl, inr}
+use Rattle.std.proofs.Common.{◌≡◌, ℕ, zero, suc, ◌+◌, ◌-◌, ◌*◌, ◌<◌, ◌≤◌, List, length, Bool, true, false, not, cond, ◌==◌, Some, ap, refl, sym, ◌∙◌, subst, arith, ⊎_elim, inl, inr}
 use Rattle.std.specs.Prelude.{filter, sum_by, nat_le}
 use Rattle.std.specs.List.{range_with_len}
 use Rattle.std.proofs.Math.Bool.{and-false}
-use Rattle.std.proofs.lemmas.Bool.{cases_Bool, cases_eq, false_from_ne_true, eqb-true, eq-eqb, leb-true, le-leb, or_cases, or_left, or_right}
+use Rattle.std.proofs.lemmas.Bool.{cases_Bool, cases_eq, and_from, false_from_ne_true, eqb-true, eq-eqb, ne_eqb, leb-true, le-leb, or_cases, or_left, or_right}
 use Rattle.std.proofs.lemmas.List.Sums.{sum_by-cons}
 use Rattle.geometry.specs.declared.geometry.Geometry.{Geometry}
 use Rattle.geometry.specs.Numbers.{per_block, lookups, entries}
 use Rattle.image_model.specs.Live.{live_at}
 use Rattle.image_model.specs.Kinds.{is_index_page, is_data_page, is_index_block, is_data_block, is_mixed, mixed_blocks}
-use Rattle.image_model.specs.Tidy.{IsTidy, IsNeat}
+use Rattle.image_model.specs.Tidy.{IsTidy, IsNeat, is_wanted}
+use Rattle.image_model.specs.Within.{entry_of_block, block_number, page_number}
 use Rattle.image_model.specs.Sound.{IsMixed, IsSound}
 use Rattle.image_model.specs.Shared.{is_wanted_index, is_wanted_data, wanted_index_in, wanted_data_in, is_shared, shared_blocks, shared_index, open_entries, blocks_to_use, fits_over, FitsWith}
+use Rattle.image_laws.proofs.Frames.{live_parts}
 use Rattle.image_laws.proofs.Matching.{filter-none_in}
 use Rattle.image_laws.proofs.MixedBlocks.{mixed-tested, mixed-none, unmixed-from}
 use Rattle.image_laws.proofs.Records.{list_any-at}
+use Rattle.image_laws.proofs.SpareKill.{wanted-or_spare}
+use Rattle.image_laws.proofs.TidySteps.{neat-none}
 
 -- where none of some numbers is counted, none passes
 pub counted-none : (test : ℕ → Bool) (a n : ℕ) → length (filter test (range_with_len a n)) ≡ 0 → (q : ℕ) → a ≤ q → q < a + n → test q ≡ false
@@ -29,7 +33,7 @@ counted-none test a (suc n) none q low high = ⊎_elim
     (cases_eq a q))
     (cases_Bool (test a))
 
-sums-none : (f : ℕ → ℕ) (a n : ℕ) → ((q : ℕ) → a ≤ q → q < a + n → f q ≡ 0) → sum_by f (range_with_len a n) ≡ 0
+pub sums-none : (f : ℕ → ℕ) (a n : ℕ) → ((q : ℕ) → a ≤ q → q < a + n → f q ≡ 0) → sum_by f (range_with_len a n) ≡ 0
 sums-none f a zero none = refl
 sums-none f a (suc n) none =
     let rest = sums-none f (a + 1) n (λ q low high. none q (omega (arith, low)) (omega (arith, high))) in
@@ -102,7 +106,7 @@ module _ (g : Geometry) (image : List ℕ) where
 pub tidy-unshared : (g : Geometry) (image : List ℕ) → IsTidy g image → shared_blocks g image ≡ 0
 tidy-unshared g image t = none-shared g image (λ block m. mixed-none g (live_at g image) t.unmixed block m)
 
--- So has an image that is sound with respect to a tidy one.
+-- Nor has one that is sound with respect to a tidy one.
 pub sound-unshared : (g : Geometry) (was now : List ℕ) → IsTidy g was → IsSound g now was → shared_blocks g now ≡ 0
 sound-unshared g was now t s = none-shared g now (λ block m. mixed-none g (live_at g was) t.unmixed block (s.mixed block m))
 
@@ -113,6 +117,56 @@ neat-tidy g image n none = record { magic = n.magic; entries = n.entries; undama
 -- So is one that is sound with respect to a tidy one.
 pub sound-tidy : (g : Geometry) (was now : List ℕ) → IsTidy g was → IsSound g now was → IsNeat g now → IsTidy g now
 sound-tidy g was now t s n = neat-tidy g now n (λ block m. mixed-none g (live_at g was) t.unmixed block (s.mixed block m))
+
+-- ---- neat images
+
+-- Their live pages are wanted.
+pub neat_wanted : (g : Geometry) (image : List ℕ) → IsNeat g image → (p : ℕ) (x : List ℕ) → live_at g image p ≡ Some x → is_wanted g image p ≡ true
+neat_wanted g image n p x e = ⊎_elim
+    (λ (spare : false ≡ true). absurd (cc))
+    (λ (wanted : is_wanted g image p ≡ true). wanted)
+    (wanted-or_spare g image (λ (r : ℕ). false) (neat-none (λ (r : ℕ). false) n) p x e)
+
+some-not_none : (n : ℕ) → (n ≡ 0 → ⊥) → not (n == 0) ≡ true
+some-not_none n some = rw (ne_eqb n 0 some) refl
+
+module _ (g : Geometry) (image : List ℕ) (n : IsNeat g image) (block : ℕ) (m : IsMixed g (live_at g image) block) where
+  index-lies : (block * per_block g + lookups g ≤ m.p) × (m.p < block * per_block g + lookups g + entries g)
+  index-lies = subst (λ (b : ℕ). (b * per_block g + lookups g ≤ m.p) × (m.p < b * per_block g + lookups g + entries g)) m.p_at (entry_of_block g m.p (live_parts g image m.p m.x m.p_is).entry_page)
+
+  data-lies : (block * per_block g + lookups g ≤ m.q) × (m.q < block * per_block g + lookups g + entries g)
+  data-lies = subst (λ (b : ℕ). (b * per_block g + lookups g ≤ m.q) × (m.q < b * per_block g + lookups g + entries g)) m.q_at (entry_of_block g m.q (live_parts g image m.q m.y m.q_is).entry_page)
+
+  -- a mixed block holds a wanted page of each kind
+  index-wanted : is_wanted_index g image m.p ≡ true
+  index-wanted = and_from _ _ (rw m.p_is m.names) (neat_wanted g image n m.p m.x m.p_is)
+
+  data-wanted : is_wanted_data g image m.q ≡ true
+  data-wanted = and_from _ _ (rw (m.q_is, m.holds) refl) (neat_wanted g image n m.q m.y m.q_is)
+
+  some-index_in : wanted_index_in g image block ≡ 0 → ⊥
+  unfolding wanted_index_in
+  some-index_in none =
+      let no : is_wanted_index g image m.p ≡ false = counted-none (λ p. is_wanted_index g image p) (block * per_block g + lookups g) (entries g) none m.p index-lies.0 index-lies.1 in
+      let bad : true ≡ false = sym index-wanted ∙ no in absurd (cc)
+
+  some-data_in : wanted_data_in g image block ≡ 0 → ⊥
+  unfolding wanted_data_in
+  some-data_in none =
+      let no : is_wanted_data g image m.q ≡ false = counted-none (λ p. is_wanted_data g image p) (block * per_block g + lookups g) (entries g) none m.q data-lies.0 data-lies.1 in
+      let bad : true ≡ false = sym data-wanted ∙ no in absurd (cc)
+
+  pub mixed-shared : is_shared g image block ≡ true
+  unfolding is_shared
+  mixed-shared = and_from _ _ (some-not_none (wanted_index_in g image block) some-index_in) (some-not_none (wanted_data_in g image block) some-data_in)
+
+-- So a neat image without a shared block is tidy.
+pub neat-unshared : (g : Geometry) (image : List ℕ) → IsNeat g image → shared_blocks g image ≡ 0 → IsTidy g image
+unfolding shared_blocks
+neat-unshared g image n none = neat-tidy g image n (λ block m.
+    let low : block < g.blocks = subst (λ (b : ℕ). b < g.blocks) m.p_at (block_number g m.p (page_number g m.p (live_parts g image m.p m.x m.p_is).entry_page)) in
+    let no : is_shared g image block ≡ false = counted-none (λ b. is_shared g image b) 0 g.blocks none block (omega arith) (omega (arith, low)) in
+    let yes = mixed-shared g image n block m in absurd (cc))
 
 -- ---- what fits over
 

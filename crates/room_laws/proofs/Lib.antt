@@ -38,4 +38,6 @@ pub mod Taken
 pub mod BatchPuts
 pub mod Recounts
 pub mod Partings
+pub mod NeatCounts
+pub mod PartMoves
 pub mod ThreesFree

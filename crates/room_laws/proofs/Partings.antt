@@ -44,11 +44,11 @@ shared-set : (s : List Counts) (i : ℕ) (c d : Counts) → i < length s → sli
 unfolding shared_total
 shared-set s i c d within at = total-set (λ c. if_any c.pages c.index) s i c d within at
 
-any-none : (n m : ℕ) → n ≡ 0 → if_any n m ≡ 0
+pub any-none : (n m : ℕ) → n ≡ 0 → if_any n m ≡ 0
 any-none zero m h = refl
 any-none (suc n) m h = absurd (omega (arith, h))
 
-any-some : (n m : ℕ) → 0 < n → if_any n m ≡ m
+pub any-some : (n m : ℕ) → 0 < n → if_any n m ≡ m
 any-some zero m h = absurd (omega (arith, h))
 any-some (suc n) m h = refl
 

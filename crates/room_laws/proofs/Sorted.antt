@@ -15,6 +15,7 @@ use Rattle.image_model.specs.Collect.{count_in, index_in, data_in, deleted_in, f
 use Rattle.image_model.specs.Within.{entry_in, entry_of_block, page_number, block_number}
 use Rattle.image_laws.proofs.FreeBlocks.{filter-same}
 use Rattle.image_laws.proofs.Tally.{is_finished-ones}
+use Rattle.image_laws.proofs.TidySteps.{neat_of}
 use Rattle.image_laws.proofs.Wants.{wanted_parts}
 use Rattle.room_laws.specs.Counts.{Counts, for_index, for_data}
 use Rattle.room_laws.specs.Steps.{placed, killed}
@@ -22,15 +23,15 @@ use Rattle.room_laws.specs.Order.{without}
 use Rattle.room_laws.specs.Leaving.{page_killed}
 use Rattle.room_laws.specs.Losing.{spoiled}
 use Rattle.room_laws.specs.Counting.{block_counts, counts_of}
-use Rattle.room_laws.specs.Sorts.{Sort, Index, Data, Deleted, Free, sort_at, TidyTellsFree, same_sort, counts_by, all_by, beside, with_sort, CountsBySorts, AllBySorts, SameSorts, SortsAreWhole, SortChanges, SortsChange, SortIsCounted, SortsAreCounted, OtherSortsStay, SortsAtBlock, SortsBeside, BlocksBeside, PlaceCanPut}
+use Rattle.room_laws.specs.Sorts.{Sort, Index, Data, Deleted, Free, sort_at, TidyTellsFree, NeatTellsFree, same_sort, counts_by, all_by, beside, with_sort, CountsBySorts, AllBySorts, SameSorts, SortsAreWhole, SortChanges, SortsChange, SortIsCounted, SortsAreCounted, OtherSortsStay, SortsAtBlock, SortsBeside, BlocksBeside, PlaceCanPut}
 use Rattle.room_laws.proofs.Ranges.{four_kinds, count_but}
 use Rattle.room_laws.proofs.Blocks.{unlive}
 
 -- ---- what entries count as
 
-pub tidy_tells_free : (g : Geometry) → TidyTellsFree g
+pub neat_tells_free : (g : Geometry) → NeatTellsFree g
 unfolding is_wanted
-tidy_tells_free g image t = record {
+neat_tells_free g image t = record {
   magic = t.magic;
   free = λ p page ones. ⊎_elim
       (λ (zero : entry_of g image p ≡ 0). let no : 0 ≡ 0xFFFF = sym zero ∙ ones in absurd (omega (arith, no)))
@@ -42,6 +43,9 @@ tidy_tells_free g image t = record {
       more)
       (t.entries p page);
 }
+
+pub tidy_tells_free : (g : Geometry) → TidyTellsFree g
+tidy_tells_free g image t = neat_tells_free g image (neat_of t)
 
 module _ (g : Geometry) (image : List ℕ) (p : ℕ) where
   -- what an entry counts as, by its four tests

@@ -27,20 +27,20 @@ use Rattle.room_laws.proofs.Resolved.{free_sort}
 use Rattle.room_laws.proofs.Spoiling.{stands_block}
 use Rattle.image_laws.proofs.Damaged.{any_from}
 
-module _ (g : Geometry) (image : List ℕ) (t : TellsFree g image) (block : ℕ) (low : block < g.blocks) (is : IsBlock (entries g) (counts_by g (sort_at g image) block)) where
+module _ (g : Geometry) (image : List ℕ) (t : TellsFree g image) (block : ℕ) (low : block < g.blocks) where
   abbrev c : Counts
   c = counts_by g (sort_at g image) block
 
-  index_is : index_in g image block ≡ c.index
+  pub index_is : index_in g image block ≡ c.index
   index_is = sym (index_counted g image block) ∙ ap (λ (d : Counts). d.index) (counts_by_sorts g image block t low)
 
-  pages_are : data_in g image block ≡ c.pages
+  pub pages_are : data_in g image block ≡ c.pages
   pages_are = sym (pages_counted g image block) ∙ ap (λ (d : Counts). d.pages) (counts_by_sorts g image block t low)
 
   pub free_is : free_in g image block ≡ c.free
   free_is = sym (free_counted g image block) ∙ ap (λ (d : Counts). d.free) (counts_by_sorts g image block t low)
 
-  holds_data : is_data_block g image block ≡ nat_lt 0 c.pages
+  pub holds_data : is_data_block g image block ≡ nat_lt 0 c.pages
   unfolding data_in is_data_block
   holds_data = sym (any_counted (λ p. is_data_page (live_at g image p)) (range_with_len (block * per_block g + lookups g) (entries g))) ∙ ap (nat_lt 0) pages_are
 
@@ -49,98 +49,100 @@ module _ (g : Geometry) (image : List ℕ) (t : TellsFree g image) (block : ℕ)
   holds_index = sym (any_counted (λ p. is_index_page (live_at g image p)) (range_with_len (block * per_block g + lookups g) (entries g))) ∙ ap (nat_lt 0) index_is
 
   -- a block is free where all its entries are
-  free_by : is_free_block g image block ≡ true → c.free ≡ entries g
+  pub free_by : is_free_block g image block ≡ true → c.free ≡ entries g
   unfolding is_free_block free_in
   free_by free =
       let all = all_counted (λ p. is_free_entry g image p) (range_with_len (block * per_block g + lookups g) (entries g)) (and_parts _ _ free).1 in
       sym free_is ∙ all ∙ length-range_with_len (block * per_block g + lookups g) (entries g)
 
-  not_free_by : is_free_block g image block ≡ false → c.free < entries g
+  pub not_free_by : is_free_block g image block ≡ false → c.free < entries g
   unfolding is_free_block free_in
   not_free_by none =
       let rest = rw (t.magic block low) at none in
       let few = not_all_counted (λ p. is_free_entry g image p) (range_with_len (block * per_block g + lookups g) (entries g)) rest in
       omega (arith, few, length-range_with_len (block * per_block g + lookups g) (entries g), free_is)
 
-  -- the tests, by the kind of the block
-  record Tests (free index pages : Bool) : Type 0 where
-    is_free : is_free_block g image block ≡ free
-    takes_i : takes_index g image block ≡ index
-    takes_d : takes_data g image block ≡ pages
+  -- where it is not mixed
+  module _ (is : IsBlock (entries g) (counts_by g (sort_at g image) block)) where
+    -- the tests, by the kind of the block
+    record Tests (free index pages : Bool) : Type 0 where
+      is_free : is_free_block g image block ≡ free
+      takes_i : takes_index g image block ≡ index
+      takes_d : takes_data g image block ≡ pages
 
-  tests_free : Seen (entries g) c → kind_of c ≡ unused → Tests true false false
-  unfolding takes_index takes_data
-  tests_free (is_unused k i p x) kind =
-      let free : is_free_block g image block ≡ true = ⊎_elim (λ (yes : is_free_block g image block ≡ true). yes) (λ (no : is_free_block g image block ≡ false). absurd (omega (arith, not_free_by no, is.whole, i, p, x))) (cases_Bool (is_free_block g image block)) in
-      let none : is_data_block g image block ≡ false = holds_data ∙ le-ltb 0 c.pages (omega (arith, p)) in
-      record { is_free = free; takes_i = rw (t.magic block low, free) refl; takes_d = rw none refl }
-  tests_free (is_index k p x w) kind = let bad : for_index ≡ unused = sym k ∙ kind in absurd (cc)
-  tests_free (is_data k i x w) kind = let bad : for_data ≡ unused = sym k ∙ kind in absurd (cc)
+    tests_free : Seen (entries g) c → kind_of c ≡ unused → Tests true false false
+    unfolding takes_index takes_data
+    tests_free (is_unused k i p x) kind =
+        let free : is_free_block g image block ≡ true = ⊎_elim (λ (yes : is_free_block g image block ≡ true). yes) (λ (no : is_free_block g image block ≡ false). absurd (omega (arith, not_free_by no, is.whole, i, p, x))) (cases_Bool (is_free_block g image block)) in
+        let none : is_data_block g image block ≡ false = holds_data ∙ le-ltb 0 c.pages (omega (arith, p)) in
+        record { is_free = free; takes_i = rw (t.magic block low, free) refl; takes_d = rw none refl }
+    tests_free (is_index k p x w) kind = let bad : for_index ≡ unused = sym k ∙ kind in absurd (cc)
+    tests_free (is_data k i x w) kind = let bad : for_data ≡ unused = sym k ∙ kind in absurd (cc)
 
-  used_by : 0 < c.index + c.pages + c.deleted → is_free_block g image block ≡ false
-  used_by some = ⊎_elim (λ (yes : is_free_block g image block ≡ true). absurd (omega (arith, free_by yes, is.whole, some))) (λ (no : is_free_block g image block ≡ false). no) (cases_Bool (is_free_block g image block))
+    used_by : 0 < c.index + c.pages + c.deleted → is_free_block g image block ≡ false
+    used_by some = ⊎_elim (λ (yes : is_free_block g image block ≡ true). absurd (omega (arith, free_by yes, is.whole, some))) (λ (no : is_free_block g image block ≡ false). no) (cases_Bool (is_free_block g image block))
 
-  tests_index : Seen (entries g) c → kind_of c ≡ for_index → Tests false true false
-  unfolding takes_index takes_data
-  tests_index (is_unused k i p x) kind = let bad : unused ≡ for_index = sym k ∙ kind in absurd (cc)
-  tests_index (is_index k p x w) kind =
-      let used = used_by (omega (arith, x)) in
-      let none : is_data_block g image block ≡ false = holds_data ∙ le-ltb 0 c.pages (omega (arith, p)) in
-      record { is_free = used; takes_i = rw (t.magic block low, used, none) refl; takes_d = rw none refl }
-  tests_index (is_data k i x w) kind = let bad : for_data ≡ for_index = sym k ∙ kind in absurd (cc)
+    tests_index : Seen (entries g) c → kind_of c ≡ for_index → Tests false true false
+    unfolding takes_index takes_data
+    tests_index (is_unused k i p x) kind = let bad : unused ≡ for_index = sym k ∙ kind in absurd (cc)
+    tests_index (is_index k p x w) kind =
+        let used = used_by (omega (arith, x)) in
+        let none : is_data_block g image block ≡ false = holds_data ∙ le-ltb 0 c.pages (omega (arith, p)) in
+        record { is_free = used; takes_i = rw (t.magic block low, used, none) refl; takes_d = rw none refl }
+    tests_index (is_data k i x w) kind = let bad : for_data ≡ for_index = sym k ∙ kind in absurd (cc)
 
-  tests_data : Seen (entries g) c → kind_of c ≡ for_data → Tests false false true
-  unfolding takes_index takes_data
-  tests_data (is_unused k i p x) kind = let bad : unused ≡ for_data = sym k ∙ kind in absurd (cc)
-  tests_data (is_index k p x w) kind = let bad : for_index ≡ for_data = sym k ∙ kind in absurd (cc)
-  tests_data (is_data k i x w) kind =
-      let used = used_by (omega (arith, x)) in
-      let some : is_data_block g image block ≡ true = holds_data ∙ lt-ltb 0 c.pages x in
-      let none : is_index_block g image block ≡ false = holds_index ∙ le-ltb 0 c.index (omega (arith, i)) in
-      record { is_free = used; takes_i = rw (t.magic block low, used, some) refl; takes_d = rw (some, none) refl }
+    tests_data : Seen (entries g) c → kind_of c ≡ for_data → Tests false false true
+    unfolding takes_index takes_data
+    tests_data (is_unused k i p x) kind = let bad : unused ≡ for_data = sym k ∙ kind in absurd (cc)
+    tests_data (is_index k p x w) kind = let bad : for_index ≡ for_data = sym k ∙ kind in absurd (cc)
+    tests_data (is_data k i x w) kind =
+        let used = used_by (omega (arith, x)) in
+        let some : is_data_block g image block ≡ true = holds_data ∙ lt-ltb 0 c.pages x in
+        let none : is_index_block g image block ≡ false = holds_index ∙ le-ltb 0 c.index (omega (arith, i)) in
+        record { is_free = used; takes_i = rw (t.magic block low, used, some) refl; takes_d = rw (some, none) refl }
 
-  kind_or : (kind_of c ≡ unused) ⊎ ((kind_of c ≡ for_index) ⊎ (kind_of c ≡ for_data))
-  kind_or = by (kind_of c) refl
-    where
-      by : (k : Kind) → kind_of c ≡ k → (kind_of c ≡ unused) ⊎ ((kind_of c ≡ for_index) ⊎ (kind_of c ≡ for_data))
-      by unused e = inl e
-      by for_index e = inr (inl e)
-      by for_data e = inr (inr e)
+    kind_or : (kind_of c ≡ unused) ⊎ ((kind_of c ≡ for_index) ⊎ (kind_of c ≡ for_data))
+    kind_or = by (kind_of c) refl
+      where
+        by : (k : Kind) → kind_of c ≡ k → (kind_of c ≡ unused) ⊎ ((kind_of c ≡ for_index) ⊎ (kind_of c ≡ for_data))
+        by unused e = inl e
+        by for_index e = inr (inl e)
+        by for_data e = inr (inr e)
 
-  look : Seen (entries g) c
-  look = seen (entries g) c is
+    look : Seen (entries g) c
+    look = seen (entries g) c is
 
-  tested_unused : (takes_as g image unused block ≡ true → kind_of c ≡ unused) × (kind_of c ≡ unused → takes_as g image unused block ≡ true)
-  tested_unused = (
-    λ takes. ⊎_elim (λ (k : kind_of c ≡ unused). k) (λ other. absurd (⊎_elim
-        (λ (k : kind_of c ≡ for_index). let w = tests_index look k in let bad : false ≡ true = sym w.is_free ∙ takes in cc)
-        (λ (k : kind_of c ≡ for_data). let w = tests_data look k in let bad : false ≡ true = sym w.is_free ∙ takes in cc)
-        other)) kind_or,
-    λ k. (tests_free look k).is_free,
-  )
+    tested_unused : (takes_as g image unused block ≡ true → kind_of c ≡ unused) × (kind_of c ≡ unused → takes_as g image unused block ≡ true)
+    tested_unused = (
+      λ takes. ⊎_elim (λ (k : kind_of c ≡ unused). k) (λ other. absurd (⊎_elim
+          (λ (k : kind_of c ≡ for_index). let w = tests_index look k in let bad : false ≡ true = sym w.is_free ∙ takes in cc)
+          (λ (k : kind_of c ≡ for_data). let w = tests_data look k in let bad : false ≡ true = sym w.is_free ∙ takes in cc)
+          other)) kind_or,
+      λ k. (tests_free look k).is_free,
+    )
 
-  tested_index : (takes_as g image for_index block ≡ true → kind_of c ≡ for_index) × (kind_of c ≡ for_index → takes_as g image for_index block ≡ true)
-  tested_index = (
-    λ takes. ⊎_elim (λ (k : kind_of c ≡ unused). let w = tests_free look k in let bad : false ≡ true = sym w.takes_i ∙ takes in absurd (cc)) (λ other. ⊎_elim
-        (λ (k : kind_of c ≡ for_index). k)
-        (λ (k : kind_of c ≡ for_data). let w = tests_data look k in let bad : false ≡ true = sym w.takes_i ∙ takes in absurd (cc))
-        other) kind_or,
-    λ k. (tests_index look k).takes_i,
-  )
+    tested_index : (takes_as g image for_index block ≡ true → kind_of c ≡ for_index) × (kind_of c ≡ for_index → takes_as g image for_index block ≡ true)
+    tested_index = (
+      λ takes. ⊎_elim (λ (k : kind_of c ≡ unused). let w = tests_free look k in let bad : false ≡ true = sym w.takes_i ∙ takes in absurd (cc)) (λ other. ⊎_elim
+          (λ (k : kind_of c ≡ for_index). k)
+          (λ (k : kind_of c ≡ for_data). let w = tests_data look k in let bad : false ≡ true = sym w.takes_i ∙ takes in absurd (cc))
+          other) kind_or,
+      λ k. (tests_index look k).takes_i,
+    )
 
-  tested_data : (takes_as g image for_data block ≡ true → kind_of c ≡ for_data) × (kind_of c ≡ for_data → takes_as g image for_data block ≡ true)
-  tested_data = (
-    λ takes. ⊎_elim (λ (k : kind_of c ≡ unused). let w = tests_free look k in let bad : false ≡ true = sym w.takes_d ∙ takes in absurd (cc)) (λ other. ⊎_elim
-        (λ (k : kind_of c ≡ for_index). let w = tests_index look k in let bad : false ≡ true = sym w.takes_d ∙ takes in absurd (cc))
-        (λ (k : kind_of c ≡ for_data). k)
-        other) kind_or,
-    λ k. (tests_data look k).takes_d,
-  )
+    tested_data : (takes_as g image for_data block ≡ true → kind_of c ≡ for_data) × (kind_of c ≡ for_data → takes_as g image for_data block ≡ true)
+    tested_data = (
+      λ takes. ⊎_elim (λ (k : kind_of c ≡ unused). let w = tests_free look k in let bad : false ≡ true = sym w.takes_d ∙ takes in absurd (cc)) (λ other. ⊎_elim
+          (λ (k : kind_of c ≡ for_index). let w = tests_index look k in let bad : false ≡ true = sym w.takes_d ∙ takes in absurd (cc))
+          (λ (k : kind_of c ≡ for_data). k)
+          other) kind_or,
+      λ k. (tests_data look k).takes_d,
+    )
 
-  pub kind_tested : (k : Kind) → (takes_as g image k block ≡ true → kind_of c ≡ k) × (kind_of c ≡ k → takes_as g image k block ≡ true)
-  kind_tested unused = tested_unused
-  kind_tested for_index = tested_index
-  kind_tested for_data = tested_data
+    pub kind_tested : (k : Kind) → (takes_as g image k block ≡ true → kind_of c ≡ k) × (kind_of c ≡ k → takes_as g image k block ≡ true)
+    kind_tested unused = tested_unused
+    kind_tested for_index = tested_index
+    kind_tested for_data = tested_data
 
 pub kinds_are_tested : (g : Geometry) → KindsAreTested g
 kinds_are_tested g image block k t low is = kind_tested g image t block low is k
@@ -192,7 +194,7 @@ module _ (g : Geometry) (image : List ℕ) (block : ℕ) (t : TellsFree g image)
       let is = block_beside b.other b.within b.apart in
       let kind : kind_of (counts_by g (sort_at g image) b.other) ≡ k = ap kind_of b.same ∙ v.0 in
       let empty = full b.other b.within b.apart ((kind_tested g image t b.other b.within is k).1 kind) in
-      let free : free_in g image b.other ≡ r.0.free = free_is g image t b.other b.within is ∙ ap (λ (c : Counts). c.free) b.same in
+      let free : free_in g image b.other ≡ r.0.free = free_is g image t b.other b.within ∙ ap (λ (c : Counts). c.free) b.same in
       absurd (omega (arith, v.1, empty, free)))
       (λ (none : total (λ c. if_kind k c c.free) (others_by g (sort_at g image) block) ≤ 0). omega (arith, none))
       (cases_lt 0 (total (λ c. if_kind k c c.free) (others_by g (sort_at g image) block)))

@@ -6,7 +6,7 @@ use Rattle.geometry.specs.Numbers.{entries}
 use Rattle.image_model.specs.Headers.{names_index}
 use Rattle.image_model.specs.Places.{entry_of, block_of, is_entry_page}
 use Rattle.image_model.specs.Live.{live_at}
-use Rattle.image_model.specs.Tidy.{IsTidy, TellsFree}
+use Rattle.image_model.specs.Tidy.{IsTidy, IsNeat, TellsFree}
 use Rattle.image_model.specs.Collect.{count_in}
 use Rattle.room_laws.specs.Counts.{Counts, Kind, unused, for_index, for_data, kind_of}
 use Rattle.room_laws.specs.Volume.{free_of}
@@ -32,9 +32,12 @@ sort_of_page (Some page) = if names_index page then Index else Data
 unfoldable pub sort_at : Geometry → List ℕ → ℕ → Sort
 sort_at g image p = if entry_of g image p == 0xFFFF then Free else sort_of_page (live_at g image p)
 
--- They are so in a tidy image.
+-- In a tidy image lookup pages tell the free entries, and so they do in a neat one.
 abbrev pub TidyTellsFree : Geometry → Type 0
 TidyTellsFree g = (image : List ℕ) → IsTidy g image → TellsFree g image
+
+abbrev pub NeatTellsFree : Geometry → Type 0
+NeatTellsFree g = (image : List ℕ) → IsNeat g image → TellsFree g image
 
 -- whether two sorts are the same
 abbrev pub same_sort : Sort → Sort → Bool
