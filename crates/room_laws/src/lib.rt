@@ -9,6 +9,7 @@ pub mod images;
 pub mod leaving;
 pub mod losing;
 pub mod mending;
+pub mod parting;
 pub mod places;
 pub mod recovery;
 pub mod sorts;

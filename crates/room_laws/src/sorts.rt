@@ -1,9 +1,10 @@
 ghost use Rattle.geometry.specs.declared.geometry.Geometry.{Geometry};
-ghost use Rattle.room_laws.specs.Sorts.{TidyTellsFree, CountsBySorts, AllBySorts, SameSorts, SortsAreWhole, SortsChange, SortsAreCounted, OtherSortsStay, SortsAtBlock, SortsBeside, BlocksBeside, PlaceCanPut};
+ghost use Rattle.room_laws.specs.Sorts.{TidyTellsFree, NeatTellsFree, CountsBySorts, AllBySorts, SameSorts, SortsAreWhole, SortsChange, SortsAreCounted, OtherSortsStay, SortsAtBlock, SortsBeside, BlocksBeside, PlaceCanPut};
 
 /// The counts of an image are those by what its entries count as.
 pub fn sorts_are_counts()
     ensures tidy { (g : Geometry) → TidyTellsFree g }
+    ensures neat { (g : Geometry) → NeatTellsFree g }
     ensures block { (g : Geometry) → CountsBySorts g }
     ensures all { (g : Geometry) → AllBySorts g }
     ensures same { (g : Geometry) → SameSorts g }

@@ -1,6 +1,7 @@
 ghost use Rattle.room_laws.specs.Bounds.{ReserveIsBound, CleaningKeepsBound, ReserveFitsAll, LastFreeFitsOne};
 ghost use Rattle.room_laws.specs.Measure.{CleaningFalls, CleaningLowers};
 ghost use Rattle.room_laws.specs.Packing.{NoneWorthIsPacked, HadHasRoom, StoppedIsHad};
+ghost use Rattle.room_laws.specs.ThreeFree.{ThreeCutMends, ThreeLeaveTwo};
 
 /// Where no block is worth cleaning nothing is deleted, and each kind has as few blocks as it can.
 pub fn none_worth_is_packed()
@@ -23,6 +24,12 @@ pub fn blocks_fit()
 pub fn cleanings_end()
     ensures falls { CleaningFalls }
     ensures lowers { CleaningLowers }
+{}
+
+/// A cleaning of any block that begins with three free blocks leaves two, and cut off a volume that cleanings mend.
+pub fn three_free_are_enough()
+    ensures cut { ThreeCutMends }
+    ensures done { ThreeLeaveTwo }
 {}
 
 /// The pages that are had where cleaning stops are those for which there is room.
