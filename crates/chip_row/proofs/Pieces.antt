@@ -1,16 +1,17 @@
--- A range of bytes in pieces, each in one chip, and why a piece failed.
-use Rattle.std.proofs.Common.{◌≡◌, ◌≢◌, ℕ, ◌+◌, ◌-◌, ◌*◌, ◌/◌, ◌%◌, ◌<◌, ◌≤◌, ◌⊎◌, min, inl, inr, ⊎_elim, List, length, refl, sym, ◌∙◌, ap, arith, OnErr, Ok, Err, Result}
+-- A range of bytes in pieces, each in one chip, and what the calls of these leave together.
+use Rattle.std.proofs.Common.{◌≡◌, ℕ, ◌+◌, ◌-◌, ◌*◌, ◌/◌, ◌%◌, ◌<◌, ◌≤◌, ◌⊎◌, min, inl, inr, ⊎_elim, List, length, sym, ◌∙◌, ap, subst, refl, arith, Ok, Err, Result}
 use Rattle.std.proofs.lemmas.Nat.{div-add-mod'}
 use Rattle.std.proofs.Math.Nat.{mul-le-mul_left, mod-lt}
-use Rattle.std.specs.List.{slice_get}
-use Rattle.std.specs.declared.option.Option.{Option}
 use Rattle.nor_core.specs.declared.device.Failed.{Failed}
 use Rattle.nor_core.specs.declared.state.NorState.{Ghosts as NorOf}
+use Rattle.nor_core.specs.Count.{counted}
 use Rattle.nor_core.specs.Device.{Changes}
 use Rattle.nor_core.proofs.Cuts.{andthen, widened}
+use Rattle.chip_row.specs.declared.row.ChipRow.{ChipRow}
 use Rattle.chip_row.specs.Chips.{ChipOf}
-use Rattle.chip_row.specs.Rows.{OthersAt, OthersStay, BlamedAt, Blamed}
+use Rattle.chip_row.specs.Asks.{Asks, HoldsSome}
 use Rattle.chip_row.proofs.Parts.{lt_or_le, unit_within}
+use Rattle.chip_row.proofs.Ends.{on_ok, on_err}
 
 -- the piece of a range that lies in the chip where it goes on
 pub record Piece (at done len size m : ℕ) : Type 0 where
@@ -39,9 +40,61 @@ piece_of at done len size m some below more m_is =
 pub AtChip : ℕ → ℕ → ℕ → ℕ → Type 0
 AtChip at done len size = (done ≡ 0) ⊎ (done ≡ len) ⊎ ((k : ℕ) × (at + done ≡ k * size))
 
--- all chips that hold none of the bytes so far stay
-pub OthersSoFar : {D : Type 0} → ℕ → ℕ → ℕ → List D → List D → Type 0
-OthersSoFar size at done old new = (k : ℕ) → (done ≡ 0) ⊎ ((k + 1) * size ≤ at) ⊎ (at + done ≤ k * size) → slice_get new k ≡ slice_get old k
+-- at first the range stands at its start
+pub at_start : (at len size : ℕ) → AtChip at 0 len size
+unfolding AtChip
+at_start at len size = inl refl
+
+-- a chip that holds some of a range holds some of a longer one
+pub holds_more : (size at n more place : ℕ) → n ≤ more → HoldsSome size at n place → HoldsSome size at more place
+holds_more size at n more place within holds = record { byte = holds.byte; below = omega (arith, holds.below, within); starts = holds.starts; ends = holds.ends }
+
+module _ {C : Type 0} {chip : ChipOf C} where
+  -- nothing was called
+  pub asks_none : {Asked : ℕ → Type 0} {Other : Type 0} (row : ChipRow C) → Asks chip Asked row row (Ok tt) Other
+  asks_none row = record { numbers = refl; others = λ place other. refl; sound = λ fit. fit; no_fault = refl; one_fault = tt; no_fuse = refl; blamed = tt }
+
+  module _ {Asked : ℕ → Type 0} {old new : ChipRow C} where
+    -- after an Ok there is no cause to tell
+    pub asks_ok : {Other None : Type 0} {done also : Unit {0}} → Asks chip Asked old new (Ok done) Other → Asks chip Asked old new (Ok also) None
+    asks_ok call = record { numbers = call.numbers; others = call.others; sound = call.sound; no_fault = call.no_fault; one_fault = tt; no_fuse = call.no_fuse; blamed = tt }
+
+    -- each failure is the same
+    pub asks_err : {Other : Type 0} {failed also : Failed} → Asks chip Asked old new (Err failed) Other → Asks chip Asked old new (Err also) Other
+    asks_err call = record { numbers = call.numbers; others = call.others; sound = call.sound; no_fault = tt; one_fault = call.one_fault; no_fuse = tt; blamed = call.blamed }
+
+  -- seen as a call that may ask more chips
+  pub asks_wider : {Few Many : ℕ → Type 0} {old new : ChipRow C} {S T : Type 0} (result : Result (Unit {0}) Failed) → ((place : ℕ) → Few place → Many place) → (S → T) → Asks chip Few old new result S → Asks chip Many old new result T
+  asks_wider result more goes call = record {
+    numbers = call.numbers;
+    others = λ place other. call.others place (λ few. other (more place few));
+    sound = call.sound;
+    no_fault = call.no_fault;
+    one_fault = call.one_fault;
+    no_fuse = call.no_fuse;
+    blamed = on_err result (λ blame. ⊎_elim (λ rose. inl (rose.0, more rose.0 rose.1, rose.2, rose.3)) (λ stuck. inr (stuck.0, goes stuck.1)) blame) call.blamed;
+  }
+
+  -- a call after others that were Ok, which asked no chip that it asks
+  pub asks_then : {First Next Both : ℕ → Type 0} {old mid new : ChipRow C} {None S T : Type 0} (result : Result (Unit {0}) Failed) → Asks chip First old mid (Ok tt) None → Asks chip Next mid new result S
+      → ((place : ℕ) → First place → Both place) → ((place : ℕ) → Next place → Both place × (First place → ⊥)) → (S → T) → Asks chip Both old new result T
+  asks_then {First} {Next} {Both} {old} {mid} {new} result first call wide next goes =
+      let same : mid.faults ≡ old.faults = first.no_fault in
+      let named : mid.fuse ≡ old.fuse = first.no_fuse in
+      record {
+        numbers = call.numbers ∙ first.numbers;
+        others = λ place other. call.others place (λ here. other (next place here).0) ∙ first.others place (λ here. other (wide place here));
+        sound = λ fit. call.sound (first.sound fit);
+        no_fault = on_ok result (λ none. none ∙ same) call.no_fault;
+        one_fault = on_err result (λ one. one ∙ ap (λ (n : ℕ). counted n) same) call.one_fault;
+        no_fuse = on_ok result (λ none. none ∙ named) call.no_fuse;
+        blamed = on_err result (λ blame. ⊎_elim
+            (λ rose. (
+              let here = next rose.0 rose.1 in
+              inl (rose.0, here.0, record { was = rose.2.was; is = rose.2.is; old_is = sym (first.others rose.0 here.1) ∙ rose.2.old_is; new_is = rose.2.new_is; rose = rose.2.rose }, rose.3)))
+            (λ stuck. inr (stuck.0 ∙ named, goes stuck.1))
+            blame) call.blamed;
+      }
 
 module _ (size at done len m i : ℕ) (i_is : i ≡ (at + done) / size) (p : Piece at done len size m) where
   -- after a piece the range stands at a chip's beginning, or is done
@@ -49,23 +102,19 @@ module _ (size at done len m i : ℕ) (i_is : i ≡ (at + done) / size) (p : Pie
   unfolding AtChip
   at_chip_next = ⊎_elim (λ ends. inr (inl ends)) (λ next. inr (inr (i + 1, (let e : i * size ≡ (at + done) / size * size = ap (λ (k : ℕ). k * size) i_is in omega (arith, next, e))))) p.goes_on
 
-  -- one more piece leaves all other chips
-  pub others_next : {D : Type 0} (old mid new : List D) → OthersSoFar size at done old mid → OthersAt i mid new → OthersSoFar size at (done + m) old new
-  unfolding OthersSoFar
-  others_next old mid new before others = λ k where_it_is.
-      (let start : i * size ≡ (at + done) / size * size = ap (λ (j : ℕ). j * size) i_is in
-      let else_where : k ≢ i = λ is. (let same : k * size ≡ i * size = ap (λ (j : ℕ). j * size) is in
-      ⊎_elim (λ none. absurd (omega (arith, none, p.some)))
-      (⊎_elim (λ low. absurd (omega (arith, low, same, start, p.place, p.fits, p.some))) (λ high. absurd (omega (arith, high, same, start, p.place, p.some)))) where_it_is) in
-      others k else_where ∙ before k (⊎_elim (λ none. absurd (omega (arith, none, p.some))) (⊎_elim (λ low. inr (inl low)) (λ high. inr (inr (omega (arith, high))))) where_it_is))
+  -- the chip of the piece holds some of the range with it
+  holds_here : HoldsSome size at (done + m) i
+  holds_here =
+      let start : i * size ≡ (at + done) / size * size = ap (λ (k : ℕ). k * size) i_is in
+      record { byte = done; below = omega (arith, p.some); starts = omega (arith, start, p.place); ends = omega (arith, start, p.place, p.fits, p.some) }
 
-  -- the chip where the range goes on is as it was at first
-  pub not_yet : {D : Type 0} (old mid : List D) → done < len → 0 < size → AtChip at done len size → OthersSoFar size at done old mid → slice_get mid i ≡ slice_get old i
-  unfolding OthersSoFar AtChip
-  not_yet old mid more some here before = ⊎_elim
-      (λ none. before i (inl none))
+  -- and none of the range before it
+  none_yet : done < len → AtChip at done len size → HoldsSome size at done i → ⊥
+  unfolding AtChip
+  none_yet more here holds = ⊎_elim
+      (λ none. absurd (omega (arith, none, holds.below)))
       (⊎_elim (λ ends. absurd (omega (arith, ends, more)))
-      (λ at_it. before i (inr (inr (starts at_it.0 at_it.1)))))
+      (λ at_it. (let starts_here = starts at_it.0 at_it.1 in absurd (omega (arith, starts_here, holds.starts, holds.below)))))
       here
     where
       starts : (k : ℕ) → at + done ≡ k * size → at + done ≤ i * size
@@ -77,38 +126,13 @@ module _ (size at done len m i : ℕ) (i_is : i ≡ (at + done) / size) (p : Pie
           (λ more_it. (let over = mul-le-mul_left size more_it in omega (arith, over, is)))
           (lt_or_le i k)
 
--- at first the range stands at its start
-pub at_start : (at len size : ℕ) → AtChip at 0 len size
-unfolding AtChip
-at_start at len size = inl refl
-
--- nothing has been called
-pub others_none : {D : Type 0} (size at : ℕ) (chips : List D) → OthersSoFar size at 0 chips chips
-unfolding OthersSoFar
-others_none size at chips k here = refl
-
--- where a range goes on to its end all chips that hold none of it stay
-pub others_end : {D : Type 0} (size at done len : ℕ) (old new : List D) → done ≤ len → OthersSoFar size at done old new → OthersStay size at len old new
-unfolding OthersSoFar
-others_end size at done len old new within before = λ k here. before k (inr (⊎_elim (λ low. inl low) (λ high. inr (omega (arith, high, within))) here))
-
-module _ {D : Type 0} (chip : ChipOf D) where
-  -- what a call of one chip is blamed for, seen from the start
-  pub blamed_from : (i : ℕ) (old mid new : List D) (fuse_old fuse_mid fuse_new : Option ℕ) (Stuck Since : Type 0) → slice_get mid i ≡ slice_get old i → fuse_mid ≡ fuse_old → (Stuck → Since) → BlamedAt chip i mid new fuse_mid fuse_new Stuck → Blamed chip old new fuse_old fuse_new Since
-  blamed_from i old mid new fuse_old fuse_mid fuse_new Stuck Since same fuse goes blamed = ⊎_elim
-      (λ rose. inl (i, record { was = rose.0.was; is = rose.0.is; old_is = sym same ∙ rose.0.old_is; new_is = rose.0.new_is; rose = rose.0.rose }, rose.1))
-      (λ stuck. inr (stuck.0 ∙ fuse, goes stuck.1))
-      blamed
-
-module _ {D : Type 0} (chip : ChipOf D) where
-  -- a call of one chip that is blamed
-  pub blamed_at : (i : ℕ) (old new : List D) (fuse_old fuse_new : Option ℕ) (Stuck : Type 0) → BlamedAt chip i old new fuse_old fuse_new Stuck → Blamed chip old new fuse_old fuse_new Stuck
-  blamed_at i old new fuse_old fuse_new Stuck blamed = ⊎_elim (λ rose. inl (i, rose.0, rose.1)) (λ stuck. inr stuck) blamed
-
--- what holds holds on a failure
-pub on_any : {W : Type 0} (result : Result (Unit {0}) Failed) → W → OnErr result W
-on_any (Ok done) holds = tt
-on_any (Err failed) holds = holds
+  -- what the pieces so far and this one leave together
+  pub asks_next : {C : Type 0} {chip : ChipOf C} {old mid new : ChipRow C} {None S T : Type 0} (result : Result (Unit {0}) Failed) → done < len → AtChip at done len size
+      → Asks chip (HoldsSome size at done) old mid (Ok tt) None → Asks chip (λ place. place ≡ i) mid new result S → (S → T) → Asks chip (HoldsSome size at (done + m)) old new result T
+  asks_next result more here first call goes = asks_then result first call
+      (λ place holds. holds_more size at done (done + m) place (omega arith) holds)
+      (λ place is. subst (λ (k : ℕ). HoldsSome size at (done + m) k × (HoldsSome size at done k → ⊥)) (sym is) (holds_here, none_yet more here))
+      goes
 
 -- a change by one relation, and then by another
 pub go_to : {E : Type 0} {nor : NorOf E} {old mid new : E} {R S W : List ℕ → List ℕ → Type 0} → Changes nor old mid R → Changes nor mid new S
@@ -119,10 +143,6 @@ go_to first second wide step = record {
   said = second.said ∙ first.said;
   now = λ tells. step tells _ (first.now tells) (second.now (first.cuts.told tells));
 }
-
--- a call of one chip, seen from the row
-pub others_of : {D : Type 0} (size at n i : ℕ) (old new : List D) → i * size ≤ at → 0 < n → at + n ≤ i * size + size → OthersAt i old new → OthersStay size at n old new
-others_of size at n i old new low some high others = λ k here. others k (λ is. (let same : k * size ≡ i * size = ap (λ (j : ℕ). j * size) is in ⊎_elim (λ before. absurd (omega (arith, before, same, high, some, low))) (λ after. absurd (omega (arith, after, same, low, some))) here))
 
 -- an erase unit of a row, and its place in its chip
 pub record UnitPlace (count chip_size unit unit_ix : ℕ) : Type 0 where
@@ -151,3 +171,7 @@ unit_place count chip_size unit unit_ix some whole below some_bytes =
       start = omega (arith, here, scaled);
       ends = unit_within chip_size unit r some whole rest;
     }
+
+-- the chip of that place holds some of the unit
+pub unit_held : (count chip_size unit unit_ix : ℕ) → 0 < unit → UnitPlace count chip_size unit unit_ix → HoldsSome chip_size (unit_ix * unit) unit (unit_ix / (chip_size / unit))
+unit_held count chip_size unit unit_ix some p = record { byte = 0; below = some; starts = omega (arith, p.start); ends = omega (arith, p.start, p.ends, some) }

@@ -1,3 +1,4 @@
 pub mod Chips
 pub mod Rows
 pub mod RowLaws
+pub mod Asks

@@ -1,6 +1,5 @@
 -- Chips of one size end to end: what a row is, and what a call on one of its chips leaves.
-use Rattle.std.specs.Prelude.{ℕ, ◌≡◌, ◌≢◌, ◌+◌, ◌*◌, ◌%◌, ◌^◌, ◌<◌, ◌≤◌, ◌⊎◌, max, List, [], ◌∷◌, ◌++◌, length, slice_get, slice_range, Some, OnOk, OnErr, Result, All}
-use Rattle.std.specs.declared.option.Option.{Option}
+use Rattle.std.specs.Prelude.{ℕ, ◌≡◌, ◌≢◌, ◌+◌, ◌*◌, ◌%◌, ◌^◌, ◌<◌, ◌≤◌, max, List, [], ◌∷◌, ◌++◌, length, slice_get, slice_range, Some, OnOk, OnErr, Result, All}
 use Rattle.nor_core.specs.declared.device.Failed.{Failed}
 use Rattle.nor_core.specs.Count.{Rose}
 use Rattle.chip_row.specs.declared.numbers.Numbers.{Numbers}
@@ -75,10 +74,6 @@ pub record OneRead {D : Type 0} (chip : ChipOf D) (place at count : ℕ) (old ne
 abbrev pub OthersAt : {D : Type 0} → ℕ → List D → List D → Type 0
 OthersAt place old new = (k : ℕ) → k ≢ place → slice_get new k ≡ slice_get old k
 
--- all chips that hold none of the `count` bytes from `at` on stay
-abbrev pub OthersStay : {D : Type 0} → ℕ → ℕ → ℕ → List D → List D → Type 0
-OthersStay chip_size at count old new = (k : ℕ) → ((k + 1) * chip_size ≤ at) ⊎ (at + count ≤ k * chip_size) → slice_get new k ≡ slice_get old k
-
 -- the count of faults of the chip at `place` rose
 pub record ChipRose {D : Type 0} (chip : ChipOf D) (place : ℕ) (old new : List D) : Type 0 where
   pub was : D
@@ -86,11 +81,3 @@ pub record ChipRose {D : Type 0} (chip : ChipOf D) (place : ℕ) (old new : List
   pub old_is : slice_get old place ≡ Some was
   pub new_is : slice_get new place ≡ Some is
   pub rose : Rose (chip.faults was) (chip.faults is)
-
--- why a call of the chip at `place` failed: that chip's count rose, and it is the one that the row names from now on; or no chip failed, and the row was stuck
-abbrev pub BlamedAt : {D : Type 0} → ChipOf D → ℕ → List D → List D → Option ℕ → Option ℕ → Type 0 → Type 0
-BlamedAt chip place old new fuse_old fuse_new Stuck = (ChipRose chip place old new × (fuse_new ≡ Some place)) ⊎ ((fuse_new ≡ fuse_old) × Stuck)
-
--- why a call of a row failed: the count of a chip rose, which is the one that it names from now on; or no chip failed, and it was stuck
-abbrev pub Blamed : {D : Type 0} → ChipOf D → List D → List D → Option ℕ → Option ℕ → Type 0 → Type 0
-Blamed chip old new fuse_old fuse_new Stuck = ((place : ℕ) × ChipRose chip place old new × (fuse_new ≡ Some place)) ⊎ ((fuse_new ≡ fuse_old) × Stuck)

@@ -1,12 +1,12 @@
 //! The calls of a row, piece by piece.
-ghost use Rattle.std.specs.Prelude.{◌≡◌, ◌+◌, ◌*◌, ◌/◌, ◌%◌, ◌<◌, ◌≤◌, ◌⊎◌, length, slice_range, OnOk, OnErr};
+ghost use Rattle.std.specs.Prelude.{◌≡◌, ◌+◌, ◌*◌, ◌/◌, ◌%◌, ◌<◌, ◌≤◌, length, slice_range, OnOk, OnErr};
 ghost use Rattle.std.specs.Option.{ForSome};
-ghost use Rattle.nor_core.specs.Count.{counted, Rose, last_count};
+ghost use Rattle.nor_core.specs.Count.{counted, Rose};
 ghost use Rattle.nor_core.specs.Flash.{programmed, HalfProgrammed, erased, HalfErased};
 ghost use Rattle.nor_core.specs.Device.{OnlyReads, Changes, InErase, Writes};
 ghost use Rattle.chip_row.specs.Chips.{InChipErase};
 ghost use Rattle.chip_row.specs.RowLaws.{row_sized, now_stands, now_counts};
-ghost use Rattle.chip_row.specs.Rows.{AllFit, OthersAt, OthersStay, Blamed, BlamedAt};
+ghost use Rattle.chip_row.specs.Asks.{Asks, HoldsSome, Unfit, Stuck};
 
 use crate::answer::{faults_after, fuse_after};
 use crate::one::{erase_one, is_sound, program_one, read_one};
@@ -25,17 +25,9 @@ impl<C: Chip> ChipRow<C> {
             (i * self.old.numbers.chip_size + at + length into.old)) }
         ensures only_reads { OnlyReads ⟦<ChipRow<C> as NorState>⟧ self.old self.new }
         ensures length { length into.new ≡ length into.old }
-        ensures numbers { self.new.numbers ≡ self.old.numbers }
-        ensures others { OthersAt i self.old.chips.items self.new.chips.items }
-        ensures sound { AllFit C.ChipState self.old.numbers self.old.moment self.old.chips.items →
-            AllFit C.ChipState self.new.numbers self.new.moment self.new.chips.items }
         ensures reads { self.new.reads ≡ self.old.reads }
-        ensures no_fault { OnOk result (self.new.faults ≡ self.old.faults) }
-        ensures one_fault { OnErr result (self.new.faults ≡ counted self.old.faults) }
-        ensures no_fuse { OnOk result (self.new.fuse ≡ self.old.fuse) }
-        ensures blamed { OnErr result (BlamedAt C.ChipState i self.old.chips.items
-            self.new.chips.items self.old.fuse self.new.fuse
-            (AllFit C.ChipState self.old.numbers self.old.moment self.old.chips.items → ⊥)) }
+        ensures asks { Asks C.ChipState (λ place. place ≡ i) self.old self.new result
+            (Unfit C.ChipState self.old) }
     {
         if !is_sound(&self.chips, self.numbers, self.moment) {
             self.faults = self.faults.saturating_add(1);
@@ -58,19 +50,10 @@ impl<C: Chip> ChipRow<C> {
             from.now) }
         ensures changes { Changes ⟦<ChipRow<C> as NorState>⟧ self.old self.new
             (HalfProgrammed (i * self.old.numbers.chip_size + at) from.now) }
-        ensures numbers { self.new.numbers ≡ self.old.numbers }
-        ensures others { OthersAt i self.old.chips.items self.new.chips.items }
-        ensures sound { AllFit C.ChipState self.old.numbers self.old.moment self.old.chips.items →
-            AllFit C.ChipState self.new.numbers self.new.moment self.new.chips.items }
         ensures reads { self.new.reads ≡ self.old.reads }
         ensures writes { self.new.writes ≡ self.old.writes }
-        ensures no_fault { OnOk result (self.new.faults ≡ self.old.faults) }
-        ensures one_fault { OnErr result (self.new.faults ≡ counted self.old.faults) }
-        ensures no_fuse { OnOk result (self.new.fuse ≡ self.old.fuse) }
-        ensures blamed { OnErr result (BlamedAt C.ChipState i self.old.chips.items
-            self.new.chips.items self.old.fuse self.new.fuse
-            ((self.new.moment ≡ last_count) ⊎
-            (AllFit C.ChipState self.old.numbers self.old.moment self.old.chips.items → ⊥))) }
+        ensures asks { Asks C.ChipState (λ place. place ≡ i) self.old self.new result
+            (Stuck C.ChipState self.old self.new) }
     {
         if self.moment == u64::MAX || !is_sound(&self.chips, self.numbers, self.moment) {
             self.faults = self.faults.saturating_add(1);
@@ -101,19 +84,10 @@ impl<C: Chip> ChipRow<C> {
             (λ was image. InChipErase
             (i * self.old.numbers.chip_size + unit_ix * self.old.numbers.unit)
             self.old.numbers.unit mark was (⟦<ChipRow<C> as NorState>⟧.bytes self.new) image) }
-        ensures numbers { self.new.numbers ≡ self.old.numbers }
-        ensures others { OthersAt i self.old.chips.items self.new.chips.items }
-        ensures sound { AllFit C.ChipState self.old.numbers self.old.moment self.old.chips.items →
-            AllFit C.ChipState self.new.numbers self.new.moment self.new.chips.items }
         ensures reads { self.new.reads ≡ self.old.reads }
         ensures writes { self.new.writes ≡ self.old.writes }
-        ensures no_fault { OnOk result (self.new.faults ≡ self.old.faults) }
-        ensures one_fault { OnErr result (self.new.faults ≡ counted self.old.faults) }
-        ensures no_fuse { OnOk result (self.new.fuse ≡ self.old.fuse) }
-        ensures blamed { OnErr result (BlamedAt C.ChipState i self.old.chips.items
-            self.new.chips.items self.old.fuse self.new.fuse
-            ((self.new.moment ≡ last_count) ⊎
-            (AllFit C.ChipState self.old.numbers self.old.moment self.old.chips.items → ⊥))) }
+        ensures asks { Asks C.ChipState (λ place. place ≡ i) self.old self.new result
+            (Stuck C.ChipState self.old self.new) }
     {
         if self.moment == u64::MAX || !is_sound(&self.chips, self.numbers, self.moment) {
             self.faults = self.faults.saturating_add(1);
@@ -137,18 +111,10 @@ impl<C: Chip> ChipRow<C> {
             slice_range (⟦<ChipRow<C> as NorState>⟧.bytes self.old) at
             (at + length into.old)) }
         ensures only_reads { OnlyReads ⟦<ChipRow<C> as NorState>⟧ self.old self.new }
-        ensures numbers { self.new.numbers ≡ self.old.numbers }
-        ensures others { OthersStay self.old.numbers.chip_size at (length into.old)
-            self.old.chips.items self.new.chips.items }
-        ensures sound { AllFit C.ChipState self.old.numbers self.old.moment self.old.chips.items →
-            AllFit C.ChipState self.new.numbers self.new.moment self.new.chips.items }
         ensures reads { self.new.reads ≡ self.old.reads }
-        ensures no_fault { OnOk result (self.new.faults ≡ self.old.faults) }
-        ensures one_fault { OnErr result (self.new.faults ≡ counted self.old.faults) }
-        ensures no_fuse { OnOk result (self.new.fuse ≡ self.old.fuse) }
-        ensures blamed { OnErr result (Blamed C.ChipState self.old.chips.items
-            self.new.chips.items self.old.fuse self.new.fuse
-            (AllFit C.ChipState self.old.numbers self.old.moment self.old.chips.items → ⊥)) }
+        ensures asks { Asks C.ChipState
+            (HoldsSome self.old.numbers.chip_size at (length into.old)) self.old self.new result
+            (Unfit C.ChipState self.old) }
     {
         let size = self.numbers.chip_size as usize;
         let mut done = 0;
@@ -171,20 +137,11 @@ impl<C: Chip> ChipRow<C> {
             (⟦<ChipRow<C> as NorState>⟧.bytes self.old) at from.now) }
         ensures changes { Changes ⟦<ChipRow<C> as NorState>⟧ self.old self.new
             (HalfProgrammed at from.now) }
-        ensures numbers { self.new.numbers ≡ self.old.numbers }
-        ensures others { OthersStay self.old.numbers.chip_size at (length from.now)
-            self.old.chips.items self.new.chips.items }
-        ensures sound { AllFit C.ChipState self.old.numbers self.old.moment self.old.chips.items →
-            AllFit C.ChipState self.new.numbers self.new.moment self.new.chips.items }
         ensures reads { self.new.reads ≡ self.old.reads }
         ensures writes { self.new.writes ≡ self.old.writes }
-        ensures no_fault { OnOk result (self.new.faults ≡ self.old.faults) }
-        ensures one_fault { OnErr result (self.new.faults ≡ counted self.old.faults) }
-        ensures no_fuse { OnOk result (self.new.fuse ≡ self.old.fuse) }
-        ensures blamed { OnErr result (Blamed C.ChipState self.old.chips.items
-            self.new.chips.items self.old.fuse self.new.fuse
-            ((self.new.moment ≡ last_count) ⊎
-            (AllFit C.ChipState self.old.numbers self.old.moment self.old.chips.items → ⊥))) }
+        ensures asks { Asks C.ChipState
+            (HoldsSome self.old.numbers.chip_size at (length from.now)) self.old self.new result
+            (Stuck C.ChipState self.old self.new) }
     {
         let size = self.numbers.chip_size as usize;
         let mut done = 0;
@@ -219,17 +176,9 @@ impl<C: Chip> Nor for ChipRow<C> {
         ensures cause { OnErr result (Rose (⟦<ChipRow<C> as NorState>⟧.faults self.old)
             (⟦<ChipRow<C> as NorState>⟧.faults self.new)) }
         ensures only_reads { OnlyReads ⟦<ChipRow<C> as NorState>⟧ self.old self.new }
-        ensures numbers { self.new.numbers ≡ self.old.numbers }
-        ensures others { OthersStay self.old.numbers.chip_size at (length into.old)
-            self.old.chips.items self.new.chips.items }
-        ensures sound { AllFit C.ChipState self.old.numbers self.old.moment self.old.chips.items →
-            AllFit C.ChipState self.new.numbers self.new.moment self.new.chips.items }
-        ensures no_fault { OnOk result (self.new.faults ≡ self.old.faults) }
-        ensures one_fault { OnErr result (self.new.faults ≡ counted self.old.faults) }
-        ensures no_fuse { OnOk result (self.new.fuse ≡ self.old.fuse) }
-        ensures blamed { OnErr result (Blamed C.ChipState self.old.chips.items
-            self.new.chips.items self.old.fuse self.new.fuse
-            (AllFit C.ChipState self.old.numbers self.old.moment self.old.chips.items → ⊥)) }
+        ensures asks { Asks C.ChipState
+            (HoldsSome self.old.numbers.chip_size at (length into.old)) self.old self.new result
+            (Unfit C.ChipState self.old) }
     {
         self.reads = self.reads.saturating_add(1);
         self.read_all(at, into)
@@ -246,18 +195,9 @@ impl<C: Chip> Nor for ChipRow<C> {
         ensures cause { OnErr result (Rose (⟦<ChipRow<C> as NorState>⟧.faults self.old)
             (⟦<ChipRow<C> as NorState>⟧.faults self.new)) }
         ensures writes { Writes ⟦<ChipRow<C> as NorState>⟧ self.old self.new }
-        ensures numbers { self.new.numbers ≡ self.old.numbers }
-        ensures others { OthersStay self.old.numbers.chip_size at (length from.now)
-            self.old.chips.items self.new.chips.items }
-        ensures sound { AllFit C.ChipState self.old.numbers self.old.moment self.old.chips.items →
-            AllFit C.ChipState self.new.numbers self.new.moment self.new.chips.items }
-        ensures no_fault { OnOk result (self.new.faults ≡ self.old.faults) }
-        ensures one_fault { OnErr result (self.new.faults ≡ counted self.old.faults) }
-        ensures no_fuse { OnOk result (self.new.fuse ≡ self.old.fuse) }
-        ensures blamed { OnErr result (Blamed C.ChipState self.old.chips.items
-            self.new.chips.items self.old.fuse self.new.fuse
-            ((self.new.moment ≡ last_count) ⊎
-            (AllFit C.ChipState self.old.numbers self.old.moment self.old.chips.items → ⊥))) }
+        ensures asks { Asks C.ChipState
+            (HoldsSome self.old.numbers.chip_size at (length from.now)) self.old self.new result
+            (Stuck C.ChipState self.old self.new) }
     {
         self.writes = self.writes.saturating_add(1);
         self.program_all(at, from)
@@ -283,19 +223,9 @@ impl<C: Chip> Nor for ChipRow<C> {
         ensures writes { Writes ⟦<ChipRow<C> as NorState>⟧ self.old self.new }
         ensures changes { Changes ⟦<ChipRow<C> as NorState>⟧ self.old self.new
             (InErase ⟦<ChipRow<C> as NorState>⟧ self.old self.new unit_ix mark) }
-        ensures numbers { self.new.numbers ≡ self.old.numbers }
-        ensures others { OthersStay self.old.numbers.chip_size
-            (unit_ix * self.old.numbers.unit) self.old.numbers.unit self.old.chips.items
-            self.new.chips.items }
-        ensures sound { AllFit C.ChipState self.old.numbers self.old.moment self.old.chips.items →
-            AllFit C.ChipState self.new.numbers self.new.moment self.new.chips.items }
-        ensures no_fault { OnOk result (self.new.faults ≡ self.old.faults) }
-        ensures one_fault { OnErr result (self.new.faults ≡ counted self.old.faults) }
-        ensures no_fuse { OnOk result (self.new.fuse ≡ self.old.fuse) }
-        ensures blamed { OnErr result (Blamed C.ChipState self.old.chips.items
-            self.new.chips.items self.old.fuse self.new.fuse
-            ((self.new.moment ≡ last_count) ⊎
-            (AllFit C.ChipState self.old.numbers self.old.moment self.old.chips.items → ⊥))) }
+        ensures asks { Asks C.ChipState (HoldsSome self.old.numbers.chip_size
+            (unit_ix * self.old.numbers.unit) self.old.numbers.unit) self.old self.new result
+            (Stuck C.ChipState self.old self.new) }
     {
         self.writes = self.writes.saturating_add(1);
         let units = self.numbers.chip_size / self.numbers.unit;

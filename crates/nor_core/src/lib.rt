@@ -1,5 +1,4 @@
-//! NOR flash as the file system sees it, and where a script comes from. Contracts speak of a device by the meanings of
-//! `NorState`, and of what a cut may leave by the relations of `specs/Device.antt`.
+//! NOR flash as the file system sees it, and where a script comes from. A driver of a chip implements `Nor`.
 #![tactic(auto)]
 
 mod device;

@@ -100,7 +100,7 @@ module _ (old new : MemBoard) (keeps : Keeps old new) where
   noted_leaves call noted = record {
     size = keeps.size;
     unit = keeps.unit;
-    lent = refl;
+    lent = keeps.first;
     told = λ tells. tells;
     told_before = λ tells. tells;
     faults = keeps.faults;
@@ -116,7 +116,7 @@ module _ (old new : MemBoard) (keeps : Keeps old new) where
   same_leaves P same = record {
     size = keeps.size;
     unit = keeps.unit;
-    lent = refl;
+    lent = keeps.first;
     told = λ tells. tells;
     told_before = λ tells. tells;
     faults = keeps.faults;

@@ -46,7 +46,9 @@ fn picked_programmed_bytes(
     }
 }
 
-fn cleared_bytes(alloc: Global, bytes: &[u8], asked: &[u8]) -> Result<Vec<u8>, AllocError>
+/// What a finished program leaves of these bytes, where as many are asked for: each is the old and the asked byte, bit by
+/// bit.
+pub fn cleared_bytes(alloc: Global, bytes: &[u8], asked: &[u8]) -> Result<Vec<u8>, AllocError>
     requires { length bytes.now ≡ length asked.now }
     ensures size { IfOk result (λ left. length left.items ≡ length asked.now) }
     ensures range { IfOk result (λ left. left.items ≡ programmed bytes.now 0 asked.now) }

@@ -12,6 +12,7 @@ mod note;
 mod noted;
 mod plan;
 
+pub use cut::cleared_bytes;
 pub use mem_chip::MemChip;
 pub use mem_source::MemSource;
 pub use memory::MemBoard;

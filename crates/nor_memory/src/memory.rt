@@ -51,6 +51,8 @@ impl MemBoard {
         ensures reads { IfOk result (λ board. mem.device_reads board ≡ 0) }
         ensures writes { IfOk result (λ board. mem.device_writes board ≡ 0) }
         ensures planned { IfOk result (λ board. board.plan ≡ no_plan) }
+        ensures first { IfOk result (λ board. mem.lent board ≡ image.items) }
+        ensures moment { IfOk result (λ board. mem.moment board ≡ 0) }
     {
         let Ok(first) = image.to_vec(alloc) else {
             return Err(MemErr::Memory);
@@ -100,6 +102,13 @@ impl MemBoard {
         &self.bytes
     }
 
+    /// The image that it was made of.
+    pub fn first(&self) -> &[u8]
+        ensures { result.now ≡ mem.lent self.now }
+    {
+        &self.first
+    }
+
     /// The bytes that were said.
     pub fn said(&self) -> &[u8]
         ensures { result.now ≡ mem.said self.now }
@@ -120,6 +129,8 @@ impl NorState for MemBoard {
     ghost said = { λ m. m.said.items };
 
     ghost faults = { λ m. m.faults };
+
+    ghost lent = { λ m. m.first.items };
 
     ghost moment = { λ m. length m.calls.items };
 

@@ -69,8 +69,8 @@ returns-clause-half g c = λ tells. (
     let fits : start + row.unit ≤ row.chip_size = unit_within row.chip_size row.unit c.args.unit_ix row.some_unit row.whole c.requires.fits in
     erase_half chip row n c.args.i old new call.result good call.ensures.honest start row.unit c.args.mark c.requires.marked fits call.ensures.one tells)
 
-pub returns-clause-sound : goal.returns-clause-sound
-returns-clause-sound g c = λ fit. (
+pub returns-clause-asks : goal.returns-clause-asks
+returns-clause-asks g c =
     let was = c.args.self.now in
     let chip = g.C.ChipState in
     let row = was.numbers in
@@ -80,17 +80,12 @@ returns-clause-sound g c = λ fit. (
     let new = call.new.chips.items in
     let sound : c.is_sound.result ≡ true = search rules in
     let good : AllFit chip row n old = c.is_sound.ensures.sound sound in
-    fit_after chip row n c.args.i old new _ _ call.result call.ensures.one good call.ensures.honest)
-
-pub returns-clause-blamed : goal.returns-clause-blamed
-returns-clause-blamed g c =
-    let was = c.args.self.now in
-    let chip = g.C.ChipState in
-    let row = was.numbers in
-    let n = was.moment in
-    let old = was.chips.items in
-    let call = c.erase_one-answer in
-    let new = call.new.chips.items in
-    let sound : c.is_sound.result ≡ true = search rules in
-    let good : AllFit chip row n old = c.is_sound.ensures.sound sound in
-    on_err_both call.result (λ rose names. inl (chip_rose chip row n c.args.i old new _ _ call.result call.ensures.one good call.ensures.honest rose, names)) call.ensures.one.cause c.fuse_after-self.ensures.names
+    record {
+      numbers = refl;
+      others = call.ensures.others;
+      sound = λ fit. fit_after chip row n c.args.i old new _ _ call.result call.ensures.one good call.ensures.honest;
+      no_fault = c.faults_after-self.ensures.kept;
+      one_fault = c.faults_after-self.ensures.rises;
+      no_fuse = c.fuse_after-self.ensures.kept;
+      blamed = on_err_both call.result (λ rose names. inl (c.args.i, refl, chip_rose chip row n c.args.i old new _ _ call.result call.ensures.one good call.ensures.honest rose, names)) call.ensures.one.cause c.fuse_after-self.ensures.names;
+    }

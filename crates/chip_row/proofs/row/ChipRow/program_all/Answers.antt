@@ -1,14 +1,12 @@
-use Rattle.std.proofs.Common.{◌≡◌, ℕ, ◌+◌, ◌-◌, ◌*◌, ◌/◌, ◌%◌, ◌<◌, List, length, take, drop, inl, inr, ◌⊎◌, ⊎_elim, ◌∙◌, refl, sym, ap, subst, arith, rules}
+use Rattle.std.proofs.Common.{◌≡◌, ℕ, ◌+◌, ◌-◌, ◌*◌, ◌/◌, ◌%◌, ◌<◌, List, length, take, drop, inl, inr, ⊎_elim, ◌∙◌, refl, sym, ap, subst, arith, rules}
 use Rattle.std.proofs.lemmas.List.{length-take}
-use Rattle.nor_core.specs.Count.{last_count}
 use Rattle.nor_core.specs.Flash.{programmed, HalfProgrammed}
 use Rattle.nor_core.proofs.Cuts.{unchanged}
 use Rattle.nor_core.proofs.Programs.{half_none}
 use Rattle.chip_row.specs.declared.numbers.Numbers.{Numbers}
 use Rattle.chip_row.specs.contracts.row.ChipRowNorState.TheImpl.{ghosts}
 use Rattle.chip_row.proofs.Parts.{half_on, half_wider, half_all, programmed_on, programmed_nothing, take_join}
-use Rattle.chip_row.specs.Rows.{AllFit}
-use Rattle.chip_row.proofs.Pieces.{piece_of, at_start, at_chip_next, others_none, others_next, others_end, not_yet, blamed_from, on_any, go_to}
+use Rattle.chip_row.proofs.Pieces.{piece_of, at_start, at_chip_next, holds_more, asks_none, asks_ok, asks_err, asks_wider, asks_next, go_to}
 use Rattle.chip_row.proofs.row.ChipRow.program_all.Goals as goal
 
 pub loop-done-init : goal.loop-done-init
@@ -20,13 +18,9 @@ loop-done-init g c =
       bytes = λ tells. sym (programmed_nothing (nor.bytes was) c.args.at);
       within = omega arith;
       at_chip = at_start c.args.at (length c.args.from.now) was.numbers.chip_size;
-      numbers = refl;
-      others = others_none was.numbers.chip_size c.args.at was.chips.items;
-      sound = λ fit. fit;
+      asks = asks_none was;
       reads = refl;
       writes = refl;
-      faults = refl;
-      fuse = refl;
     }
 
 pub loop-done-preserved : goal.loop-done-preserved
@@ -45,7 +39,7 @@ loop-done-preserved g c =
     let more : done < length from = c.loop-done-test.true in
     let below : r < size = search rules in
     let piece = piece_of at done (length from) size m was.numbers.some_bytes below more c.min-here.ensures in
-    let mid_size : mid.numbers.chip_size ≡ size = ap (λ (k : Numbers). k.chip_size) inv.numbers in
+    let mid_size : mid.numbers.chip_size ≡ size = ap (λ (k : Numbers). k.chip_size) inv.asks.numbers in
     let e : i * mid.numbers.chip_size + r ≡ at + done = ap (λ (k : ℕ). i * k + r) mid_size ∙ piece.place in
     let f : done + m - done ≡ m = omega arith in
     let call = c.in_ok-program_in.ensures in
@@ -63,13 +57,9 @@ loop-done-preserved g c =
           ∙ ap (λ (l : List ℕ). programmed (nor.bytes was) at l) (take_join from done m);
       within = piece.within;
       at_chip = at_chip_next size at done (length from) m i refl piece;
-      numbers = call.numbers ∙ inv.numbers;
-      others = others_next size at done (length from) m i refl piece was.chips.items mid.chips.items _ inv.others call.others;
-      sound = λ fit. call.sound (inv.sound fit);
+      asks = asks_ok (asks_next size at done (length from) m i refl piece _ more inv.at_chip inv.asks call.asks (λ other. other));
       reads = call.reads ∙ inv.reads;
       writes = call.writes ∙ inv.writes;
-      faults = call.no_fault ∙ inv.faults;
-      fuse = call.no_fuse ∙ inv.fuse;
     }
 
 pub returns-in_err-program_in-clause-changes : goal.returns-in_err-program_in-clause-changes
@@ -88,18 +78,16 @@ returns-in_err-program_in-clause-changes g c =
     let more : done < length from = c.loop-done-test.true in
     let below : r < size = search rules in
     let piece = piece_of at done (length from) size m was.numbers.some_bytes below more c.min-here.ensures in
-    let mid_size : mid.numbers.chip_size ≡ size = ap (λ (k : Numbers). k.chip_size) inv.numbers in
+    let mid_size : mid.numbers.chip_size ≡ size = ap (λ (k : Numbers). k.chip_size) inv.asks.numbers in
     let e : i * mid.numbers.chip_size + r ≡ at + done = ap (λ (k : ℕ). i * k + r) mid_size ∙ piece.place in
     let f : done + m - done ≡ m = omega arith in
     go_to inv.changes c.program_in.ensures.changes
     (λ tells image half. half_all at done from _ image (omega (arith, more)) half)
     (λ tells image first second. half_all at (done + m) from _ image piece.within (half_on at done m from _ (nor.bytes mid) image piece.within first (subst (λ (k : ℕ). HalfProgrammed k (take m (drop done from)) (nor.bytes mid) image) e (subst (λ (k : ℕ). HalfProgrammed (i * mid.numbers.chip_size + r) (take k (drop done from)) (nor.bytes mid) image) f second))))
 
-pub returns-in_err-program_in-clause-others : goal.returns-in_err-program_in-clause-others
-returns-in_err-program_in-clause-others g c =
-    let nor = (ghosts g.row.C g.C.Chip g.C.Chip-dict g.C.ChipState g.C.ChipState-dict g.C.Destruct-dict) in
+pub returns-in_err-program_in-clause-asks : goal.returns-in_err-program_in-clause-asks
+returns-in_err-program_in-clause-asks g c =
     let was = c.args.self.now in
-    let mid = c.loop-done.self in
     let inv = c.loop-done.invariant in
     let at = c.args.at in
     let done = c.loop-done.done in
@@ -111,34 +99,10 @@ returns-in_err-program_in-clause-others g c =
     let more : done < length from = c.loop-done-test.true in
     let below : r < size = search rules in
     let piece = piece_of at done (length from) size m was.numbers.some_bytes below more c.min-here.ensures in
-    let mid_size : mid.numbers.chip_size ≡ size = ap (λ (k : Numbers). k.chip_size) inv.numbers in
-    let e : i * mid.numbers.chip_size + r ≡ at + done = ap (λ (k : ℕ). i * k + r) mid_size ∙ piece.place in
-    let f : done + m - done ≡ m = omega arith in
-    others_end size at (done + m) (length from) was.chips.items _ piece.within (others_next size at done (length from) m i refl piece was.chips.items mid.chips.items _ inv.others c.program_in.ensures.others)
+    let all = asks_next size at done (length from) m i refl piece _ more inv.at_chip inv.asks c.in_err-program_in.ensures.asks (λ stuck. ⊎_elim (λ last. inl last) (λ unfit. inr (λ fit. unfit (inv.asks.sound fit))) stuck) in
+    asks_err (asks_wider _ (λ place holds. holds_more size at (done + m) (length from) place piece.within holds) (λ stuck. stuck) all)
 
-pub returns-in_err-program_in-clause-blamed : goal.returns-in_err-program_in-clause-blamed
-returns-in_err-program_in-clause-blamed g c =
-    let nor = (ghosts g.row.C g.C.Chip g.C.Chip-dict g.C.ChipState g.C.ChipState-dict g.C.Destruct-dict) in
-    let was = c.args.self.now in
-    let mid = c.loop-done.self in
+pub returns-clause-asks : goal.returns-clause-asks
+returns-clause-asks g c =
     let inv = c.loop-done.invariant in
-    let at = c.args.at in
-    let done = c.loop-done.done in
-    let m = c.min-here.result in
-    let from = c.args.from.now in
-    let size = was.numbers.chip_size in
-    let i : ℕ = (at + done) / size in
-    let r : ℕ = (at + done) % size in
-    let more : done < length from = c.loop-done-test.true in
-    let below : r < size = search rules in
-    let piece = piece_of at done (length from) size m was.numbers.some_bytes below more c.min-here.ensures in
-    let mid_size : mid.numbers.chip_size ≡ size = ap (λ (k : Numbers). k.chip_size) inv.numbers in
-    let e : i * mid.numbers.chip_size + r ≡ at + done = ap (λ (k : ℕ). i * k + r) mid_size ∙ piece.place in
-    let f : done + m - done ≡ m = omega arith in
-    on_any _ (blamed_from g.C.ChipState i was.chips.items mid.chips.items c.program_in.new.self.chips.items was.fuse mid.fuse c.program_in.new.self.fuse
-    ((c.program_in.new.self.moment ≡ last_count) ⊎ (AllFit g.C.ChipState mid.numbers mid.moment mid.chips.items → ⊥)) ((c.program_in.new.self.moment ≡ last_count) ⊎ (AllFit g.C.ChipState was.numbers was.moment was.chips.items → ⊥))
-    (not_yet size at done (length from) m i refl piece was.chips.items mid.chips.items more was.numbers.some_bytes inv.at_chip inv.others) inv.fuse
-    (λ stuck. ⊎_elim (λ last. inl last) (λ none. inr (λ fit. none (inv.sound fit))) stuck) c.in_err-program_in.ensures.blamed)
-
-pub returns-clause-others : goal.returns-clause-others
-returns-clause-others g c = others_end _ _ _ _ _ _ c.loop-done.invariant.within c.loop-done.invariant.others
+    asks_ok (asks_wider _ (λ place holds. holds_more c.args.self.now.numbers.chip_size c.args.at c.loop-done.done (length c.args.from.now) place inv.within holds) (λ other. other) inv.asks)

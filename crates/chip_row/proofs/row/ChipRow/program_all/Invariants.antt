@@ -1,9 +1,9 @@
-use Rattle.std.proofs.Common.{◌≡◌, ◌≤◌, ◌-◌, length, take}
+use Rattle.std.proofs.Common.{◌≡◌, ◌≤◌, ◌-◌, length, take, Ok}
 use Rattle.nor_core.specs.Device.{Changes}
 use Rattle.nor_core.specs.Flash.{programmed, HalfProgrammed}
 use Rattle.chip_row.specs.contracts.row.ChipRowNorState.TheImpl.{ghosts}
-use Rattle.chip_row.specs.Rows.{AllFit}
-use Rattle.chip_row.proofs.Pieces.{AtChip, OthersSoFar}
+use Rattle.chip_row.specs.Asks.{Asks, HoldsSome}
+use Rattle.chip_row.proofs.Pieces.{AtChip}
 use Rattle.chip_row.proofs.row.ChipRow.program_all.Given as goal
 
 abbrev pub decreases-loop-done : goal.decreases-loop-done
@@ -18,11 +18,7 @@ invariant-loop-done g l =
       bytes : nor.tells was → nor.bytes l.self ≡ programmed (nor.bytes was) l.at (take l.done l.from);
       within : l.done ≤ length l.from;
       at_chip : AtChip l.at l.done (length l.from) was.numbers.chip_size;
-      numbers : l.self.numbers ≡ was.numbers;
-      others : OthersSoFar was.numbers.chip_size l.at l.done was.chips.items l.self.chips.items;
-      sound : AllFit g.C.ChipState was.numbers was.moment was.chips.items → AllFit g.C.ChipState l.self.numbers l.self.moment l.self.chips.items;
+      asks : Asks g.C.ChipState (HoldsSome was.numbers.chip_size l.at l.done) was l.self (Ok tt) ⊥;
       reads : l.self.reads ≡ was.reads;
       writes : l.self.writes ≡ was.writes;
-      faults : l.self.faults ≡ was.faults;
-      fuse : l.self.fuse ≡ was.fuse;
     }

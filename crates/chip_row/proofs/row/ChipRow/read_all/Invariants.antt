@@ -1,9 +1,9 @@
-use Rattle.std.proofs.Common.{◌≡◌, ◌+◌, ◌≤◌, ◌-◌, length, take}
+use Rattle.std.proofs.Common.{◌≡◌, ◌+◌, ◌≤◌, ◌-◌, length, take, Ok}
 use Rattle.std.specs.List.{slice_range}
 use Rattle.nor_core.specs.Device.{OnlyReads}
 use Rattle.chip_row.specs.contracts.row.ChipRowNorState.TheImpl.{ghosts}
-use Rattle.chip_row.specs.Rows.{AllFit}
-use Rattle.chip_row.proofs.Pieces.{AtChip, OthersSoFar}
+use Rattle.chip_row.specs.Asks.{Asks, HoldsSome}
+use Rattle.chip_row.proofs.Pieces.{AtChip}
 use Rattle.chip_row.proofs.row.ChipRow.read_all.Given as goal
 
 abbrev pub decreases-loop-done : goal.decreases-loop-done
@@ -19,10 +19,6 @@ invariant-loop-done g l =
       read : nor.tells was → take l.done l.into ≡ slice_range (nor.bytes was) l.at (l.at + l.done);
       within : l.done ≤ length l.fn.into;
       at_chip : AtChip l.at l.done (length l.fn.into) was.numbers.chip_size;
-      numbers : l.self.numbers ≡ was.numbers;
-      others : OthersSoFar was.numbers.chip_size l.at l.done was.chips.items l.self.chips.items;
-      sound : AllFit g.C.ChipState was.numbers was.moment was.chips.items → AllFit g.C.ChipState l.self.numbers l.self.moment l.self.chips.items;
+      asks : Asks g.C.ChipState (HoldsSome was.numbers.chip_size l.at l.done) was l.self (Ok tt) ⊥;
       reads : l.self.reads ≡ was.reads;
-      faults : l.self.faults ≡ was.faults;
-      fuse : l.self.fuse ≡ was.fuse;
     }

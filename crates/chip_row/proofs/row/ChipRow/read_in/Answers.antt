@@ -43,8 +43,8 @@ returns-clause-read g c = λ tells. (
     let good : AllFit chip row n old = c.is_sound.ensures.sound sound in
     row_read chip row n c.args.i c.args.at (length c.args.into.now) old new call.new.into call.result call.ensures.one good call.ensures.honest c.requires.fits tells)
 
-pub returns-clause-sound : goal.returns-clause-sound
-returns-clause-sound g c = λ fit. (
+pub returns-clause-asks : goal.returns-clause-asks
+returns-clause-asks g c =
     let was = c.args.self.now in
     let chip = g.C.ChipState in
     let row = was.numbers in
@@ -54,17 +54,12 @@ returns-clause-sound g c = λ fit. (
     let new = call.new.chips.items in
     let sound : c.is_sound.result ≡ true = search rules in
     let good : AllFit chip row n old = c.is_sound.ensures.sound sound in
-    fit_read chip row n c.args.i c.args.at (length c.args.into.now) old new call.new.into call.result call.ensures.one good call.ensures.honest)
-
-pub returns-clause-blamed : goal.returns-clause-blamed
-returns-clause-blamed g c =
-    let was = c.args.self.now in
-    let chip = g.C.ChipState in
-    let row = was.numbers in
-    let n = was.moment in
-    let old = was.chips.items in
-    let call = c.read_one-answer in
-    let new = call.new.chips.items in
-    let sound : c.is_sound.result ≡ true = search rules in
-    let good : AllFit chip row n old = c.is_sound.ensures.sound sound in
-    on_err_both call.result (λ rose names. inl (read_rose chip row n c.args.i c.args.at (length c.args.into.now) old new call.new.into call.result call.ensures.one good call.ensures.honest rose, names)) call.ensures.one.cause c.fuse_after-self.ensures.names
+    record {
+      numbers = refl;
+      others = call.ensures.others;
+      sound = λ fit. fit_read chip row n c.args.i c.args.at (length c.args.into.now) old new call.new.into call.result call.ensures.one good call.ensures.honest;
+      no_fault = c.faults_after-self.ensures.kept;
+      one_fault = c.faults_after-self.ensures.rises;
+      no_fuse = c.fuse_after-self.ensures.kept;
+      blamed = on_err_both call.result (λ rose names. inl (c.args.i, refl, read_rose chip row n c.args.i c.args.at (length c.args.into.now) old new call.new.into call.result call.ensures.one good call.ensures.honest rose, names)) call.ensures.one.cause c.fuse_after-self.ensures.names;
+    }

@@ -1,10 +1,10 @@
-use Rattle.std.proofs.Common.{◌≡◌, ℕ, ◌*◌, ◌/◌, ◌≤◌, OnOk, OnErr, subst, arith, rules}
+use Rattle.std.proofs.Common.{◌≡◌, ℕ, ◌*◌, ◌/◌, ◌≤◌, OnOk, OnErr, sym, subst, arith, rules}
 use Rattle.nor_core.specs.Flash.{erased, HalfErased}
 use Rattle.nor_core.specs.Device.{Changes}
 use Rattle.chip_row.specs.contracts.row.ChipRowNorState.TheImpl.{ghosts}
 use Rattle.chip_row.specs.Chips.{InChipErase}
-use Rattle.chip_row.proofs.Ends.{on_err}
-use Rattle.chip_row.proofs.Pieces.{unit_place, others_of, blamed_at}
+use Rattle.chip_row.specs.Asks.{HoldsSome}
+use Rattle.chip_row.proofs.Pieces.{unit_place, unit_held, asks_wider}
 use Rattle.chip_row.proofs.row_nor.ChipRowNor.erase.Goals as goal
 
 pub erase_in-requires-clause-inside : goal.erase_in-requires-clause-inside
@@ -61,14 +61,20 @@ returns-clause-changes g c =
       now = done.now;
     }
 
-pub returns-clause-others : goal.returns-clause-others
-returns-clause-others g c =
-    let nor = (ghosts g.row.C g.C.Chip g.C.Chip-dict g.C.ChipState g.C.ChipState-dict g.C.Destruct-dict) in
+pub returns-clause-asks : goal.returns-clause-asks
+returns-clause-asks g c =
     let was = c.args.self.now in
     let row = was.numbers in
-    let p = unit_place row.count row.chip_size row.unit c.args.unit_ix row.some_unit row.whole c.requires.inside row.some_bytes in
-    let new = c.erase_in.new.self in
-    others_of row.chip_size (c.args.unit_ix * row.unit) row.unit (c.args.unit_ix / (row.chip_size / row.unit)) was.chips.items new.chips.items (omega (arith, p.start)) row.some_unit (omega (arith, p.start, p.ends)) c.erase_in.ensures.others
-
-pub returns-clause-blamed : goal.returns-clause-blamed
-returns-clause-blamed g c = on_err c.erase_in.result (λ blamed. blamed_at g.C.ChipState _ _ _ _ _ _ blamed) c.erase_in.ensures.blamed
+    let unit_ix = c.args.unit_ix in
+    let p = unit_place row.count row.chip_size row.unit unit_ix row.some_unit row.whole c.requires.inside row.some_bytes in
+    let holds = unit_held row.count row.chip_size row.unit unit_ix row.some_unit p in
+    let call = asks_wider c.erase_in.result (λ place is. subst (λ (k : ℕ). HoldsSome row.chip_size (unit_ix * row.unit) row.unit k) (sym is) holds) (λ stuck. stuck) c.erase_in.ensures.asks in
+    record {
+      numbers = call.numbers;
+      others = call.others;
+      sound = call.sound;
+      no_fault = call.no_fault;
+      one_fault = call.one_fault;
+      no_fuse = call.no_fuse;
+      blamed = call.blamed;
+    }
