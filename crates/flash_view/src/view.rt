@@ -20,7 +20,7 @@ pub struct View<'b, N: Nor> {
     pub geometry: Geometry,
     /// The device. The volume is its first bytes.
     pub nor: &'b mut N,
-    /// Bytes for work: a page to build, a page that was read, and notes.
+    /// Bytes for work: a page to build, a page that was read, and behind them hints and other notes.
     pub work: &'b mut [u8],
     /// Bytes for the counts of blocks, 16 bytes a block; fewer where no table is kept.
     pub rows: &'b mut [u8],
