@@ -80,6 +80,12 @@ module _ {N : Type 0} {nor : NorOf N} (g : Geometry) where
     pub behind_program : (at : ℕ) (asked : List ℕ) → at + length asked ≤ g.blocks * g.block → Changes nor old new (HalfProgrammed at asked) → StaysBehind nor g old new
     behind_program at asked fits changes = behind_changes (inside_program (g.blocks * g.block) at asked fits changes)
 
+    -- an erase of a unit of it
+    pub behind_erase : (n : ℕ) (mark : Option Mark) (result : Result (Unit {0}) Failed) → (n + 1) * nor.unit old ≤ g.blocks * g.block → (nor.tells old → g.blocks * g.block ≤ length (nor.bytes old)) →
+        (nor.tells old → OnOk result (nor.bytes new ≡ erased (nor.bytes old) (n * nor.unit old) (nor.unit old))) → (nor.tells old → OnErr result (HalfErased (n * nor.unit old) (nor.unit old) mark (nor.bytes old) (nor.bytes new))) → Changes nor old new (InErase nor old new n mark) →
+        StaysBehind nor g old new
+    behind_erase n mark result inside whole done half changes = behind_changes (inside_erase _ n mark result (omega (arith, inside)) whole done half changes)
+
     -- a piece that the device said
     pub behind_said : (piece : List ℕ) → Says nor old new piece → Leaves nor old new (InSay nor old piece) → StaysBehind nor g old new
     behind_said piece says leaves = record {

@@ -1,18 +1,8 @@
--- Slots and parts of pages lie in one page.
-use Rattle.std.proofs.Common.{ℕ, ◌≡◌, ◌+◌, ◌*◌, ◌/◌, ◌%◌, ◌<◌, ◌≤◌, ⊎_elim, ap, ◌∙◌, arith}
+-- Pages have an even number of bytes, so that each slot lies in one page.
+use Rattle.std.proofs.Common.{ℕ, ◌≡◌, ◌+◌, ◌*◌, ◌/◌, ◌%◌, ◌<◌, ◌≤◌, ⊎_elim, ap, arith}
 use Rattle.std.proofs.Math.Nat.{mul-le-mul_right}
-use Rattle.std.proofs.lemmas.Nat.{mod-mul-add, div-mul-add}
 use Rattle.geometry.specs.declared.geometry.Geometry.{Geometry}
-use Rattle.geometry.specs.Numbers.{page_count}
-use Rattle.page_cache.specs.Frames.{InOnePage}
 use Rattle.page_cache.proofs.Places.{lt_or_le}
-
--- a part of a page
-pub part_in_page : (g : Geometry) (page start n at : ℕ) → page < page_count g → 0 < n → start + n ≤ g.page → at ≡ page * g.page + start → InOnePage g at n
-part_in_page g page start n at below some fits at_is =
-    let d : at / g.page ≡ page = ap (λ (k : ℕ). k / g.page) at_is ∙ div-mul-add page g.page start (omega arith) in
-    let m : at % g.page ≡ start = ap (λ (k : ℕ). k % g.page) at_is ∙ mod-mul-add page g.page start (omega arith) in
-    record { page = omega (arith, d, below); inside = omega (arith, m, fits) }
 
 -- half of a number's multiples of an odd number
 halved : (page q n : ℕ) → page % 2 ≡ 1 → q * page ≡ 2 * n → q / 2 * page ≡ n

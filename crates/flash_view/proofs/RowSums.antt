@@ -123,15 +123,21 @@ first_rises end test block first found fails is scan was = record {
 
 -- ---- rows of zeros
 
-pub row_none : (rows : List ℕ) → ((k : ℕ) → slice_index rows k ≡ 0) → (block : ℕ) → row_of rows block ≡ record { index_live = 0; data_live = 0; deleted = 0; free = 0; erases = 0 }
-row_none rows none block = rw (none (16 * block), none (16 * block + 1), none (16 * block + 2), none (16 * block + 2 + 1), none (16 * block + 4), none (16 * block + 4 + 1), none (16 * block + 6), none (16 * block + 6 + 1), none (16 * block + 8), none (16 * block + 8 + 1)) refl
+module _ (rows : List ℕ) (n : ℕ) (none : (k : ℕ) → k < n → slice_index rows k ≡ 0) where
+  pub row_none : (block : ℕ) → 16 * block + 10 ≤ n → row_of rows block ≡ record { index_live = 0; data_live = 0; deleted = 0; free = 0; erases = 0 }
+  row_none block inside =
+      let byte : (i : ℕ) → i < 10 → slice_index rows (16 * block + i) ≡ 0 = λ i low. none (16 * block + i) (omega (arith, low, inside)) in
+      let first : slice_index rows (16 * block) ≡ 0 = none (16 * block) (omega (arith, inside)) in
+      rw (first, byte 1 (omega arith), byte 2 (omega arith), none (16 * block + 2 + 1) (omega (arith, inside)), byte 4 (omega arith), none (16 * block + 4 + 1) (omega (arith, inside)), byte 6 (omega arith), none (16 * block + 6 + 1) (omega (arith, inside)), byte 8 (omega arith), none (16 * block + 8 + 1) (omega (arith, inside))) refl
 
-pub sums_none : (rows : List ℕ) → ((k : ℕ) → slice_index rows k ≡ 0) → sums_in rows ≡ record { index_live = 0; data_live = 0; free = 0; blocks = 0; for_index = 0; for_data = 0; beside = 0 }
-sums_none rows none = rw (none 10, none 11, none 12, none 13, none 14, none 15, none 26, none 27, none 28, none 29, none 30, none 31, none 42, none 43) refl
+  pub sums_none : 48 ≤ n → sums_in rows ≡ record { index_live = 0; data_live = 0; free = 0; blocks = 0; for_index = 0; for_data = 0; beside = 0 }
+  sums_none long =
+      let byte : (i : ℕ) → i < 48 → slice_index rows i ≡ 0 = λ i low. none i (omega (arith, low, long)) in
+      rw (byte 10 (omega arith), byte 11 (omega arith), byte 12 (omega arith), byte 13 (omega arith), byte 14 (omega arith), byte 15 (omega arith), byte 26 (omega arith), byte 27 (omega arith), byte 28 (omega arith), byte 29 (omega arith), byte 30 (omega arith), byte 31 (omega arith), byte 42 (omega arith), byte 43 (omega arith)) refl
 
-module _ (g : Geometry) (rows : List ℕ) (none : (k : ℕ) → row_of rows k ≡ record { index_live = 0; data_live = 0; deleted = 0; free = 0; erases = 0 }) where
+module _ (g : Geometry) (rows : List ℕ) (none : (k : ℕ) → k < g.blocks → row_of rows k ≡ record { index_live = 0; data_live = 0; deleted = 0; free = 0; erases = 0 }) where
   sum_none : (f : BlockCounts → ℕ) → f (record { index_live = 0; data_live = 0; deleted = 0; free = 0; erases = 0 }) ≡ 0 → sum_rows rows g.blocks f ≡ 0
-  sum_none f zeros = let most = sum_most (λ b. f (row_of rows b)) 0 0 g.blocks (λ k low high. let e : f (row_of rows k) ≡ 0 = ap f (none k) ∙ zeros in omega (arith, e)) in omega (arith, most)
+  sum_none f zeros = let most = sum_most (λ b. f (row_of rows b)) 0 0 g.blocks (λ k low high. let e : f (row_of rows k) ≡ 0 = ap f (none k (omega (arith, high))) ∙ zeros in omega (arith, e)) in omega (arith, most)
 
   no_block : ◌≡◌ {A = ℕ} (if 0 == entries g then 1 else 0) 0
   no_block = let other : (0 == entries g) ≡ false = ne_eqb 0 (entries g) (λ e. let some = entry_left g in omega (arith, e, some)) in rw other refl
@@ -163,7 +169,7 @@ module _ (g : Geometry) (rows : List ℕ) (none : (k : ℕ) → row_of rows k �
       first : (kind : Kind) → first_in rows kind ≡ g.blocks → takes (record { index_live = 0; data_live = 0; deleted = 0; free = 0; erases = 0 }) kind (entries g) ≡ false → IsFirst g.blocks (row_takes g rows kind) (first_in rows kind)
       first kind is fails = record {
         most = omega (arith, is);
-        below = λ k less. ap (λ (r : BlockCounts). takes r kind (entries g)) (none k) ∙ fails;
+        below = λ k less. ap (λ (r : BlockCounts). takes r kind (entries g)) (none k (omega (arith, is, less))) ∙ fails;
         here = λ less. absurd (omega (arith, is, less));
       }
 

@@ -13,7 +13,9 @@ pub record StaysBehind {N : Type 0} (nor : NorOf N) (g : Geometry) (old new : N)
   pub cuts : Leaves nor old new (λ image count. nor.tells old → SameOutside 0 (g.blocks * g.block) (nor.bytes old) image)
   pub now : nor.tells old → SameOutside 0 (g.blocks * g.block) (nor.bytes old) (nor.bytes new)
 
--- The same geometry, over the same device, work and cache; the bytes behind the volume stay. The count of programs and erases never falls, and where one was asked for that wasn't before, it rose. Each read of the device has got one more page held, where there is a frame for each page and no fault was counted.
+-- The same geometry, over the same device, work, rows and cache; the bytes behind the volume stay. The count of programs and erases never falls,
+-- and where one was asked for that wasn't before, it rose. Each read of the device has got one more page held, where there is a frame for each
+-- page and no fault was counted.
 pub record IsSameView {N : Type 0} {nor : NorOf N} (old new : View N nor) : Type 0 where
   pub geometry : new.geometry ≡ old.geometry
   pub nor_name : new.nor.ghost_name ≡ old.nor.ghost_name

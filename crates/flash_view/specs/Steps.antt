@@ -47,7 +47,8 @@ pub record Framed {N : Type 0} {nor : NorOf N} (old new : View N nor) : Type 0 w
   pub wrote : old.wrote ≡ true → new.wrote ≡ true
   pub untouched : old.wrote ≡ false → new.wrote ≡ false → OnlyReads nor old.nor.now new.nor.now
 
--- A call took that step: whatever is cut off in it is a cut of the step. It is done, or gives a fault of the device alone, where the image has what it needs; where it gives a fault, one was counted. On every image its error means what it says.
+-- A call took that step: whatever is cut off in it is a cut of the step. It is done, or gives a fault of the device alone, where the image has
+-- what it needs; where it gives a fault, one was counted. On every image its error means what it says.
 pub record Stepped {N T E : Type 0} {nor : NorOf N} (errors : Errors E) (old new : View N nor) (result : Result T E) (step : Step T) : Type 0 where
   pub framed : Framed old new
   pub cause : IsErrOf result errors.fault → Rose (nor.faults old.nor.now) (nor.faults new.nor.now)

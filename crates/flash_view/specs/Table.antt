@@ -1,4 +1,4 @@
--- The counts of all blocks, kept in the bytes for work.
+-- The table of block counts: a row for each block, and beside the rows what they add up to.
 use Rattle.std.specs.Prelude.{◌≡◌, ℕ, ◌+◌, ◌*◌, ◌<◌, ◌≤◌, ◌==◌, ◌&&◌, ◌||◌, nat_lt, nat_le, Bool, List, length, drop, sum_by}
 use Rattle.std.specs.List.{range_with_len}
 use Rattle.geometry.specs.declared.geometry.Geometry.{Geometry}
@@ -12,7 +12,7 @@ use Rattle.flash_view.specs.declared.kinds.Kind.{Kind}
 use Rattle.flash_view.specs.declared.kinds.Kind.TheVariants.{Index, Data}
 use Rattle.flash_view.specs.Counts.{AreCounts, part_of, in_words, takes, IsFirst}
 
--- the row of a block: five words, in 16 bytes
+-- the row of a block: five words in the first 10 of its 16 bytes
 abbrev pub row_of : List ℕ → ℕ → BlockCounts
 row_of rows block = record {
   index_live = word_at rows (16 * block);
@@ -22,7 +22,7 @@ row_of rows block = record {
   erases = word_at rows (16 * block + 8);
 }
 
--- what the rows of all blocks add up to, of a number that each has
+-- what a number of each row adds up to
 abbrev pub sum_rows : List ℕ → ℕ → (BlockCounts → ℕ) → ℕ
 sum_rows rows blocks f = sum_by (λ b. f (row_of rows b)) (range_with_len 0 blocks)
 
@@ -38,7 +38,7 @@ totals_of g rows = record {
   beside = sum_rows rows g.blocks (λ c. (part_of c (entries g)).beside);
 }
 
--- the sums as they are kept: in words of the first three rows that no row uses
+-- the sums as they are kept: in the words that the first three rows leave over
 abbrev pub sums_in : List ℕ → Sums
 sums_in rows = record {
   index_live = word_at rows 10;
@@ -50,7 +50,7 @@ sums_in rows = record {
   beside = word_at rows 42;
 }
 
--- the first open block for each kind, as it is kept
+-- the first block that takes a page of a kind as it is kept, behind the sums
 abbrev pub first_in : List ℕ → Kind → ℕ
 first_in rows Index = word_at rows 44
 first_in rows Data = word_at rows 46
@@ -81,6 +81,6 @@ pub record HasTable {N : Type 0} (nor : NorOf N) (g : Geometry) (device : N) (ro
   pub room : rows_need g ≤ length rows
   pub told : nor.tells device → IsTable g (nor.bytes device) rows
 
--- the rows among the bytes that are lent for work: behind all others
+-- the rows of a mounted volume, which stand in its bytes for work behind all others
 abbrev pub rows_in : Geometry → List ℕ → List ℕ
 rows_in g work = drop (scratch_need g) work

@@ -1,6 +1,6 @@
-//! Hints: page numbers that stand in the bytes for work, behind the page that was read. What stands there means nothing, and may be
-//! any number, for other code uses these bytes too: whoever takes a hint looks at its page first, and where the hint fails, at the
-//! others (`find_near`, `find_name_near`).
+//! Hints: the numbers of pages that were found to be header pages, noted in the bytes for work behind the page that was read, two bytes
+//! each. Several ids or names have one place, and other code uses these bytes too, so any number may stand there: whoever takes a hint
+//! looks at its page, and where that isn't the header page that is sought, at the others (`find_near`, `find_name_near`).
 ghost use Rattle.std.specs.Prelude.{◌≡◌, ◌+◌, ◌*◌, ◌/◌, ◌<◌, ◌≤◌, take, OnErr, IfOk, IfSome};
 ghost use Rattle.geometry.specs.Numbers.{scratch_need, usable, page_count};
 ghost use Rattle.nor_core.specs.Count.{Rose};
@@ -22,7 +22,7 @@ fn hint_count(g: &Geometry) -> u32
     g.page() + g.usable() / 16
 }
 
-// Where a hint stands.
+// The byte of hint `i`.
 fn hint_at(g: &Geometry, i: u32) -> usize
     requires { i < g.now.page + usable g.now / 16 }
     ensures low { 2 * g.now.page ≤ result }
@@ -31,7 +31,7 @@ fn hint_at(g: &Geometry, i: u32) -> usize
     2 * g.page() as usize + 2 * i as usize
 }
 
-// Where the hint for the header page of an id stands: among the first ones, as many as half a page has bytes.
+// The byte of the hint for an id: one of the first hints, of which there are half as many as a page has bytes.
 fn id_at(g: &Geometry, id: u16) -> usize
     ensures low { 2 * g.now.page ≤ result }
     ensures high { result + 2 ≤ scratch_need g.now }
@@ -39,7 +39,7 @@ fn id_at(g: &Geometry, id: u16) -> usize
     hint_at(g, u32::from(id) % (g.page() / 2))
 }
 
-// Where the hint for the header page with a name stands: among as many behind those.
+// The byte of the hint for a name, by a hash of it: one of as many hints behind those of ids.
 fn name_at(g: &Geometry, name: &[u8]) -> usize
     ensures low { 2 * g.now.page ≤ result }
     ensures high { result + 2 ≤ scratch_need g.now }
@@ -52,7 +52,7 @@ fn name_at(g: &Geometry, name: &[u8]) -> usize
     hint_at(g, half + hash % half)
 }
 
-// Where the hint for the header page of an id stands in a walk over all ids.
+// The byte of the hint for an id in a walk over all ids, which has all hints for itself.
 fn walk_at(g: &Geometry, id: u16) -> usize
     ensures low { 2 * g.now.page ≤ result }
     ensures high { result + 2 ≤ scratch_need g.now }
@@ -61,29 +61,30 @@ fn walk_at(g: &Geometry, id: u16) -> usize
 }
 
 impl<'b, N: Nor> View<'b, N> {
-    /// The page at which the header page of an id was noted last, or any other number.
+    /// The page that was noted as the header page of an id, or any other number. That of id 0, which no file has, is the header page
+    /// that was found last.
     pub fn hint(&self, id: u16) -> u16 {
         read_word(self.work, id_at(&self.geometry, id))
     }
 
-    /// The page at which the header page with a name was noted last, or any other number.
+    /// The page that was noted as the header page with a name, or any other number.
     pub fn name_hint(&self, name: &[u8]) -> u16 {
         read_word(self.work, name_at(&self.geometry, name))
     }
 
-    /// The same as `hint` in a walk over all ids.
+    /// The same as `hint` in a walk over all ids. What was noted otherwise may be lost in it.
     pub fn walk_hint(&self, id: u16) -> u16 {
         read_word(self.work, walk_at(&self.geometry, id))
     }
 
-    /// So many ids that follow one another have hints of their own in a walk over all ids.
+    /// How many ids that follow one another have places of their own in a walk over all ids.
     pub fn walk_hints(&self) -> u32
         ensures { 0 < result }
     {
         hint_count(&self.geometry)
     }
 
-    /// Notes the page of the header page of an id. The page that is being built and the one that was read stay.
+    /// Notes a page as the header page of an id. The page that is being built and the one that was read stay.
     #[tactic(auto, using(crate::proofs::Looking::looks_none))]
     pub fn note_hint(&mut self, id: u16, page: u16)
         ensures looks { OnlyLooks self.old self.new }
@@ -94,7 +95,7 @@ impl<'b, N: Nor> View<'b, N> {
         put_word(work, at, page);
     }
 
-    /// Notes the page of the header page with a name.
+    /// Notes a page as the header page with a name.
     #[tactic(auto, using(crate::proofs::Looking::looks_none))]
     pub fn note_name_hint(&mut self, name: &[u8], page: u16)
         ensures looks { OnlyLooks self.old self.new }
@@ -116,8 +117,8 @@ impl<'b, N: Nor> View<'b, N> {
         put_word(work, at, page);
     }
 
-    // Where to look for the header page of an id: where its hint says, if that page has the entry, else behind the header page
-    // that was found last.
+    // From which page on to look for the header page of an id: from that of its hint, if this has the entry of the id's index pages, else
+    // from behind the header page that was found last.
     #[tactic(auto, using(crate::proofs::Looking::looks_none))]
     fn id_near(&mut self, id: u16) -> Result<u16, Failed>
         ensures cause { OnErr result (Rose (N.faults self.old.nor.now) (N.faults self.new.nor.now)) }
@@ -137,7 +138,7 @@ impl<'b, N: Nor> View<'b, N> {
         })
     }
 
-    // The same for a name.
+    // The same for a name: from the page of its hint, if this holds the name.
     #[tactic(auto, using(crate::proofs::Looking::looks_none))]
     fn name_near(&mut self, name: &[u8]) -> Result<u16, Failed>
         ensures cause { OnErr result (Rose (N.faults self.old.nor.now) (N.faults self.new.nor.now)) }
@@ -153,8 +154,8 @@ impl<'b, N: Nor> View<'b, N> {
         Ok(if has { page } else { last.saturating_add(1) })
     }
 
-    /// The header page of an id, in a tidy image as `find_index` gives it: looked for where its hint says first, else from
-    /// the one that was found last on. It is noted.
+    /// The header page of an id, in a tidy image the one that `find_index` gives. The page of its hint comes first, else those behind the
+    /// header page that was found last. What is found is noted.
     #[tactic(auto, using(crate::proofs::Looking::looks_then))]
     pub fn seek_header(&mut self, id: u16) -> Result<Option<u16>, Failed>
         ensures cause { OnErr result (Rose (N.faults self.old.nor.now) (N.faults self.new.nor.now)) }
@@ -172,8 +173,8 @@ impl<'b, N: Nor> View<'b, N> {
         Ok(Some(page))
     }
 
-    /// The id whose header page holds that name, in a tidy image as `find_header_name` gives it: looked for where the name's hint
-    /// says first, else from the one that was found last on. The page is noted, for the name and for the id.
+    /// The id whose header page holds that name, in a tidy image the one that `find_header_name` gives. The page of the name's hint comes
+    /// first, else those behind the header page that was found last. What is found is noted, for the name and for the id.
     #[tactic(auto, using(crate::proofs::Looking::looks_then))]
     pub fn seek_name(&mut self, name: &[u8]) -> Result<Option<u16>, Failed>
         ensures cause { OnErr result (Rose (N.faults self.old.nor.now) (N.faults self.new.nor.now)) }

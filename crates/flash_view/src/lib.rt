@@ -8,7 +8,6 @@ mod kinds;
 mod live;
 mod places;
 mod sums;
-mod through;
 mod view;
 mod walk;
 

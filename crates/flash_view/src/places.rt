@@ -3,7 +3,6 @@ ghost use Rattle.std.specs.Bool.{OnTrue, OnFalse};
 ghost use Rattle.geometry.specs.Numbers.{page_count, per_block, lookups, entries, slots};
 ghost use Rattle.flash_view.specs.Places.{IsEntryPage, page_start as the_page_start};
 ghost use Rattle.image_model.specs.Places.{block_of as the_block_of, entry_at, is_entry_page as the_entry_page};
-ghost use Rattle.page_cache.specs.Frames.{InOnePage};
 
 use geometry::Geometry;
 use page_layout::entry_offset;

@@ -1,4 +1,5 @@
-//! What the rows of all blocks add up to, and the first blocks that take pages, kept beside the rows.
+//! What the rows of all blocks add up to, and the first block that takes pages of each kind. They are kept beside the rows: a row has
+//! 16 bytes and fills 10, and these stand in what the first three rows leave over (a volume has three blocks at least).
 ghost use Rattle.std.specs.Prelude.{◌≡◌, ◌≢◌, ℕ, ◌+◌, ◌*◌, ◌%◌, ◌<◌, ◌≤◌, length, slice_index, if◌then◌else◌};
 ghost use Rattle.geometry.specs.Numbers.{rows_need};
 ghost use Rattle.nor_core.specs.Flash.{SameOutside, word_at};
@@ -32,8 +33,8 @@ pub struct Sums {
     pub beside: u16,
 }
 
-/// Whether pages of a kind go into a block in use: index pages where no live data page is and the block isn't
-/// empty, data pages beside live data pages alone.
+/// Whether a block in use takes a page of a kind: it has a free entry, and for an index page no live data page, for a data page live
+/// data pages alone.
 pub fn takes(counts: &BlockCounts, kind: Kind, entries: u32) -> bool
     ensures { result ≡ the_takes counts.now kind entries }
 {
@@ -45,7 +46,7 @@ pub fn takes(counts: &BlockCounts, kind: Kind, entries: u32) -> bool
     }
 }
 
-// The free entries of a block, where it passes.
+// The free entries of a block that passes, and 0 of any other.
 fn free_if(passes: bool, c: &BlockCounts) -> u16
     ensures { result ≡ (if passes then c.now.free else 0) }
 {
@@ -68,7 +69,7 @@ fn part_of(c: &BlockCounts, entries: u32) -> Sums
     }
 }
 
-// A sum in 16 bits, of which a part becomes another one.
+// A sum in a word of 16 bits, once a part of it that was `less` is `more`. (The word wraps around, so the order doesn't matter.)
 fn moved_sum(sum: u16, less: u16, more: u16) -> u16
     ensures { result ≡ (sum + 65535 * less + more) % 65536 }
 {
@@ -90,7 +91,7 @@ fn moved(sums: &Sums, less: &Sums, more: &Sums) -> Sums
     }
 }
 
-// The sums that are kept beside rows.
+// The sums, as they are kept beside the rows.
 pub(crate) fn kept_sums(rows: &[u8]) -> Sums
     requires { 48 ≤ length rows.now }
     ensures { result ≡ sums_in rows.now }
@@ -106,7 +107,7 @@ pub(crate) fn kept_sums(rows: &[u8]) -> Sums
     }
 }
 
-// The first block for a kind that is kept beside rows.
+// The first block that takes a page of a kind, as it is kept beside the rows.
 pub(crate) fn kept_first(rows: &[u8], kind: Kind) -> u16
     requires { 48 ≤ length rows.now }
     ensures { result ≡ first_in rows.now kind }
@@ -117,7 +118,7 @@ pub(crate) fn kept_first(rows: &[u8], kind: Kind) -> u16
     }
 }
 
-// Puts three words that no row uses.
+// Puts three words one behind the other, as fit behind what a row fills.
 #[tactic(auto, using(crate::proofs::Rows::word_stays))]
 fn put_three(rows: &mut [u8], at: usize, first: u16, second: u16, third: u16)
     requires { at + 6 ≤ length rows.old }
@@ -131,7 +132,7 @@ fn put_three(rows: &mut [u8], at: usize, first: u16, second: u16, third: u16)
     put_word(rows, at + 4, third);
 }
 
-// Puts the sums beside rows.
+// Puts the sums beside the rows.
 fn put_sums(rows: &mut [u8], sums: &Sums)
     requires { 48 ≤ length rows.old }
     ensures size { length rows.new ≡ length rows.old }
@@ -144,7 +145,7 @@ fn put_sums(rows: &mut [u8], sums: &Sums)
     put_word(rows, 42, sums.beside);
 }
 
-// Puts the first block for each kind beside rows.
+// Puts the first block that takes a page of each kind beside the rows.
 fn put_firsts(rows: &mut [u8], index: u16, pages: u16)
     requires { 48 ≤ length rows.old }
     ensures size { length rows.new ≡ length rows.old }
@@ -188,7 +189,7 @@ fn next_open(rows: &[u8], g: &Geometry, from: u16, kind: Kind) -> u16
     block
 }
 
-// The first block that takes a page of a kind once the row of a block was put, by the one before.
+// The first block that takes a page of a kind, once the row of `block` was put; `first` was it before.
 fn first_now(rows: &[u8], g: &Geometry, first: u16, block: u16, kind: Kind) -> u16
     requires room { rows_need g.now ≤ length rows.now }
     requires block { block < g.now.blocks }
@@ -234,7 +235,7 @@ fn fill_block(rows: &mut [u8], block: u16, counts: &BlockCounts)
     fill_row(rows, 16 * usize::from(block), counts);
 }
 
-// Puts the first block for each kind right, once the row of a block was put.
+// Puts the first block that takes a page of each kind right, once the row of `block` was put.
 fn settle_firsts(rows: &mut [u8], g: &Geometry, block: u16)
     requires room { rows_need g.now ≤ length rows.old }
     requires block { block < g.now.blocks }
@@ -249,7 +250,7 @@ fn settle_firsts(rows: &mut [u8], g: &Geometry, block: u16)
     put_firsts(rows, index, pages);
 }
 
-// Puts the row of a block, and what is kept beside the rows right.
+// Puts the row of a block, and what is kept beside the rows right. A row that says that already stays, and all beside it.
 pub(crate) fn put_in(rows: &mut [u8], g: &Geometry, block: u16, counts: &BlockCounts)
     requires room { rows_need g.now ≤ length rows.old }
     requires block { block < g.now.blocks }
@@ -258,29 +259,34 @@ pub(crate) fn put_in(rows: &mut [u8], g: &Geometry, block: u16, counts: &BlockCo
     ensures others { (c : ℕ) → c ≢ block → row_of rows.new c ≡ row_of rows.old c }
     ensures summed { IsSummed g.now rows.old → IsSummed g.now rows.new }
 {
+    let before = row_at(rows, block);
+    if before == *counts {
+        return;
+    }
     let entries = g.entries();
-    let less = part_of(&row_at(rows, block), entries);
+    let less = part_of(&before, entries);
     let sums = moved(&kept_sums(rows), &less, &part_of(counts, entries));
     fill_block(rows, block, counts);
     put_sums(rows, &sums);
     settle_firsts(rows, g, block);
 }
 
-// Sets bytes to 0.
-fn clear(bytes: &mut [u8])
+// Sets the first bytes to 0.
+fn clear(bytes: &mut [u8], count: usize)
+    requires { count ≤ length bytes.old }
     ensures size { length bytes.new ≡ length bytes.old }
-    ensures none { (k : ℕ) → slice_index bytes.new k ≡ 0 }
+    ensures none { (k : ℕ) → k < count → slice_index bytes.new k ≡ 0 }
 {
-    bytes.fill(0);
+    bytes[..count].fill(0);
 }
 
-// Sets the rows to 0: no block has any entry, and what is kept beside the rows is right.
+// Sets the rows to 0, and no byte behind them: no block has any entry, and what is kept beside the rows is right.
 pub(crate) fn clear_in(rows: &mut [u8], g: &Geometry)
     requires { rows_need g.now ≤ length rows.old }
     ensures size { length rows.new ≡ length rows.old }
     ensures summed { IsSummed g.now rows.new }
 {
     let end = g.blocks() as u16;
-    clear(rows);
+    clear(rows, g.rows_need() as usize);
     put_firsts(rows, end, end);
 }

@@ -8,10 +8,9 @@ ghost use Rattle.page_cache.specs.Kept.{IsKept};
 ghost use Rattle.flash_view.specs.Table.{HasTable};
 
 use crate::places::{block_of, entry_start, lookup_of, lookup_page, page_start};
-use crate::through::{erase_cached, program_cached, program_part, read_cached, say_cached};
 use geometry::Geometry;
 use nor_core::{Board, Failed, Mark, Nor, NorState};
-use page_cache::{Cached, held_page, hold_page};
+use page_cache::{Cached, erase_through, held_page, hold_page, program_through, read_page};
 use page_layout::{PageHeader, count_offset, header_of, magic_offset, read_count, read_word};
 
 /// A volume's device, with its geometry and the bytes that were lent for its work.
@@ -21,7 +20,7 @@ pub struct View<'b, N: Nor> {
     pub geometry: Geometry,
     /// The device. The volume is its first bytes.
     pub nor: &'b mut N,
-    /// Bytes for work: a page to build, a page that was read, and notes.
+    /// Bytes for work: a page to build, a page that was read, and behind them hints and other notes.
     pub work: &'b mut [u8],
     /// Bytes for the counts of blocks, 16 bytes a block; fewer where no table is kept.
     pub rows: &'b mut [u8],
@@ -52,7 +51,7 @@ impl<'b, N: Nor> View<'b, N> {
     ghost use Rattle.image_model.specs.Places.{page_of, slot_of, entry_at, entry_of as the_entry_of, has_magic as the_magic, erase_count as the_erase_count};
     ghost use Rattle.image_model.specs.Tidy.{is_erased as the_erased};
     ghost use Rattle.page_layout.specs.Layout.{header_at};
-    ghost use Rattle.page_cache.specs.Frames.{holds, held, InOnePage};
+    ghost use Rattle.page_cache.specs.Frames.{holds, held};
     ghost use Rattle.page_cache.specs.Kept.{IsKept};
     ghost use Rattle.flash_view.specs.Same.{IsSameView, OnlyLooks};
 
@@ -234,26 +233,20 @@ impl<'b, N: Nor> View<'b, N> {
     }
 
     /// The page that is being built becomes a copy of a page.
-    #[tactic(auto, unfolding(image_model::specs::Places::page_of), using(crate::proofs::Rows::table_stays))]
+    #[tactic(auto, unfolding(image_model::specs::Places::page_of), using(crate::proofs::Rows::table_stays, crate::proofs::Behind::behind_reads))]
     pub fn load(&mut self, page: u16) -> Result<(), Failed>
         requires { page < page_count self.old.geometry }
         ensures cause { OnErr result (Rose (N.faults self.old.nor.now) (N.faults self.new.nor.now)) }
         ensures looks { OnlyLooks self.old self.new }
         ensures told { N.tells self.old.nor.now → OnOk result (take self.old.geometry.page self.new.work.now ≡ page_of self.old.geometry (N.bytes self.old.nor.now) page) }
     {
-        let at = page_start(&self.geometry, page);
-        let len = self.geometry.page() as usize;
-        read_cached(
-            self.geometry,
-            self.nor,
-            self.cache,
-            at,
-            &mut self.work[..len],
-        )
+        let g = self.geometry;
+        let len = g.page() as usize;
+        read_page(&g, self.nor, self.cache, page, &mut self.work[..len])
     }
 
     /// Reads a page, for `fetched`. The page that is being built stays.
-    #[tactic(auto, unfolding(image_model::specs::Places::page_of), using(crate::proofs::Rows::table_stays))]
+    #[tactic(auto, unfolding(image_model::specs::Places::page_of), using(crate::proofs::Rows::table_stays, crate::proofs::Behind::behind_reads))]
     pub fn fetch(&mut self, page: u16) -> Result<(), Failed>
         requires { page < page_count self.old.geometry }
         ensures cause { OnErr result (Rose (N.faults self.old.nor.now) (N.faults self.new.nor.now)) }
@@ -261,15 +254,9 @@ impl<'b, N: Nor> View<'b, N> {
         ensures told { N.tells self.old.nor.now → OnOk result (slice_range self.new.work.now self.old.geometry.page (2 * self.old.geometry.page) ≡ page_of self.old.geometry (N.bytes self.old.nor.now) page) }
         ensures built { take self.old.geometry.page self.new.work.now ≡ take self.old.geometry.page self.old.work.now }
     {
-        let at = page_start(&self.geometry, page);
-        let len = self.geometry.page() as usize;
-        read_cached(
-            self.geometry,
-            self.nor,
-            self.cache,
-            at,
-            &mut self.work[len..2 * len],
-        )
+        let g = self.geometry;
+        let len = g.page() as usize;
+        read_page(&g, self.nor, self.cache, page, &mut self.work[len..2 * len])
     }
 
     /// The bytes of the page that was fetched last.
@@ -303,6 +290,7 @@ impl<'b, N: Nor> View<'b, N> {
     }
 
     /// Programs bytes of the volume: bits are cleared, and none is set.
+    #[tactic(auto, using(crate::proofs::Behind::behind_program))]
     pub fn program(&mut self, at: u32, from: &[u8]) -> Result<(), Failed>
         requires some { 0 < length from.now }
         requires inside { at + length from.now ≤ self.old.geometry.blocks * self.old.geometry.block }
@@ -316,12 +304,14 @@ impl<'b, N: Nor> View<'b, N> {
         ensures rows { self.new.rows.now ≡ self.old.rows.now }
         ensures down { self.new.counted ≡ false }
     {
+        let g = self.geometry;
         self.wrote = true;
         self.counted = false;
-        program_cached(self.geometry, self.nor, self.cache, at, from)
+        program_through(&g, self.nor, self.cache, at, from)
     }
 
-    /// Erases a unit of the volume: its bytes become 0xFF. A cut never leaves the mark's word in its place.
+    /// Erases a unit of the volume: its bytes become 0xFF. An erase that was cut, and has changed anything in the unit, doesn't leave
+    /// the mark's word in its place.
     pub fn erase(&mut self, unit_ix: u32, mark: Option<Mark>) -> Result<(), Failed>
         requires inside { (unit_ix + 1) * self.old.geometry.phys ≤ self.old.geometry.blocks * self.old.geometry.block }
         requires marked { ForSome mark (λ m. m.at + 2 ≤ self.old.geometry.phys) }
@@ -335,12 +325,14 @@ impl<'b, N: Nor> View<'b, N> {
         ensures rows { self.new.rows.now ≡ self.old.rows.now }
         ensures down { self.new.counted ≡ false }
     {
+        let g = self.geometry;
         self.wrote = true;
         self.counted = false;
-        erase_cached(self.geometry, self.nor, self.cache, unit_ix, mark)
+        erase_through(&g, self.nor, self.cache, unit_ix, mark)
     }
 
     /// Programs the page that is being built, from byte `start` to its end, into a page of the volume.
+    #[tactic(auto, using(crate::proofs::Behind::behind_program))]
     pub fn program_build(&mut self, page: u16, start: u32) -> Result<(), Failed>
         requires page { page < page_count self.old.geometry }
         requires start { start < self.old.geometry.page }
@@ -354,19 +346,13 @@ impl<'b, N: Nor> View<'b, N> {
         ensures rows { self.new.rows.now ≡ self.old.rows.now }
         ensures down { self.new.counted ≡ false }
     {
-        let at = page_start(&self.geometry, page) + start;
-        let end = self.geometry.page() as usize;
+        let g = self.geometry;
+        let at = page_start(&g, page) + start;
+        let end = g.page() as usize;
         self.wrote = true;
         self.counted = false;
-        program_part(
-            self.geometry,
-            self.nor,
-            self.cache,
-            at,
-            self.work,
-            start as usize,
-            end,
-        )
+        let work = &mut *self.work;
+        program_through(&g, self.nor, self.cache, at, &work[start as usize..end])
     }
 
     /// Programs bytes of a page, from its byte `start` on.
@@ -434,7 +420,7 @@ impl<'b, B: Board> View<'b, B> {
     ghost use Rattle.flash_view.specs.Same.{IsSameView};
 
     /// The device says a piece.
-    #[tactic(auto, using(crate::proofs::Rows::table_said))]
+    #[tactic(auto, using(crate::proofs::Rows::table_said, crate::proofs::Behind::behind_said))]
     pub fn say(&mut self, piece: &[u8]) -> Result<(), Failed>
         ensures cause { OnErr result (Rose (B.faults self.old.nor.now) (B.faults self.new.nor.now)) }
         ensures says { Says B.NorState self.old.nor.now self.new.nor.now piece.now }
@@ -445,7 +431,7 @@ impl<'b, B: Board> View<'b, B> {
         ensures counted { self.new.counted ≡ self.old.counted }
         ensures rows { self.new.rows.now ≡ self.old.rows.now }
     {
-        say_cached(self.geometry, self.nor, self.cache, piece)
+        self.nor.say(piece)
     }
 }
 

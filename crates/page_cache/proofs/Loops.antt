@@ -1,9 +1,12 @@
 -- Loops over frames, and over the pages that a range of the device meets.
-use Rattle.std.proofs.Common.{◌≡◌, ◌≢◌, ℕ, ◌+◌, ◌<◌, ◌≤◌, ◌⊎◌, inl, inr, ⊎_elim, List, refl, sym, ◌∙◌, ap, subst, arith}
+use Rattle.std.proofs.Common.{◌≡◌, ◌≢◌, ℕ, ◌+◌, ◌*◌, ◌<◌, ◌≤◌, ◌⊎◌, inl, inr, ⊎_elim, List, refl, sym, ◌∙◌, ap, subst, arith}
 use Rattle.geometry.proofs.Bounds.{few_pages}
 use Rattle.geometry.specs.declared.geometry.Geometry.{Geometry}
 use Rattle.geometry.specs.Numbers.{page_count}
-use Rattle.page_cache.specs.Frames.{frame_count, frame_at, number_of, word_in, page_in, used_to, IsFindable, SameHead, GoesWithProgram, GoesWithErase, GivenUp, EachFrame, EachPage, OnePage}
+use Rattle.page_cache.specs.Frames.{frame_count, frame_at, number_of, word_in, page_in, used_to, IsFindable, SameHead, GoesWithProgram, GoesWithErase, GivenUp, LiesOutside, span_of, Follows, IsReady, EachFrame, EachPage, OnePage}
+use Rattle.page_cache.specs.declared.frame.Event.{Event}
+use Rattle.page_cache.specs.declared.frame.Event.TheVariants.{Program, Erase, Failure}
+use Rattle.page_cache.proofs.Copies.{program_misses, erase_misses}
 use Rattle.page_cache.proofs.Places.{same_or_not, lt_or_le}
 use Rattle.page_cache.proofs.Findable.{findable_still}
 
@@ -106,6 +109,24 @@ given_steady page at count = record {
   number = λ a b r. ⊎_elim (λ given. inr given.0) (λ stays. inl (ap number_of stays.0)) r;
   head = λ a b r. ⊎_elim (λ given. given.3) (λ stays. subst (SameHead a) (sym stays.0) (record { since = refl; until = refl; used = refl })) r;
 }
+
+-- an event leaves what a frame tells,
+pub follows_steady : (page at : ℕ) (event : Event) → Steady (Follows page at event)
+follows_steady page at (Program from) = program_steady page at from.now
+follows_steady page at (Erase count) = erase_steady page at count
+follows_steady page at (Failure count) = given_steady page at count
+
+-- and its number too, where it gives up no frame
+pub follows_strict : (g : Geometry) (at : ℕ) (event : Event) (frames : List ℕ) → IsReady g event frames → (used_to g frames ≡ 0) ⊎ ((a b : List ℕ) → Follows g.page at event a b → number_of b ≡ number_of a)
+follows_strict g at (Program from) frames ready = inr (λ a b r. r.number)
+follows_strict g at (Erase count) frames ready = inr (λ a b r. r.number)
+follows_strict g at (Failure count) frames ready = inl ready
+
+-- a frame whose page it doesn't meet stays
+pub follows_misses : (page at : ℕ) (event : Event) (old : List ℕ) → LiesOutside page at (span_of event) (number_of old) → Follows page at event old old
+follows_misses page at (Program from) old apart = program_misses page at (number_of old * page) from.now old refl (⊎_elim (λ before. omega (arith, before)) (λ behind. omega (arith, behind)) apart)
+follows_misses page at (Erase count) old apart = erase_misses page at count (number_of old * page) old refl (⊎_elim (λ before. omega (arith, before)) (λ behind. omega (arith, behind)) apart)
+follows_misses page at (Failure count) old apart = inr (refl, apart)
 
 -- the one frame of a page is changed
 module _ (g : Geometry) (R : List ℕ → List ℕ → Type 0) (page : ℕ) (a : List ℕ) where

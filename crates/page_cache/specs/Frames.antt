@@ -5,6 +5,8 @@ use Rattle.geometry.specs.declared.geometry.Geometry.{Geometry}
 use Rattle.geometry.specs.Numbers.{page_count}
 use Rattle.nor_core.specs.Flash.{programmed, erased}
 use Rattle.page_cache.specs.Counting.{some_below, many_below}
+use Rattle.page_cache.specs.declared.frame.Event.{Event}
+use Rattle.page_cache.specs.declared.frame.Event.TheVariants.{Program, Erase, Failure}
 
 -- bytes of a frame
 abbrev pub frame_size : Geometry → ℕ
@@ -141,6 +143,24 @@ pub record GoesWithErase (page at count : ℕ) (old new : List ℕ) : Type 0 whe
 -- a frame was given up where a range of the device meets its page, and else stays
 abbrev pub GivenUp : ℕ → ℕ → ℕ → List ℕ → List ℕ → Type 0
 GivenUp page at count old new = ((number_of new ≡ 65535) × (at < number_of old * page + page) × (number_of old * page < at + count) × SameHead old new) ⊎ ((new ≡ old) × LiesOutside page at count (number_of old))
+
+-- how many bytes of the device an event meets
+abbrev pub span_of : Event → ℕ
+span_of (Program from) = length from.now
+span_of (Erase count) = count
+span_of (Failure count) = count
+
+-- a frame goes with an event that meets the device from a byte on
+abbrev pub Follows : (page at : ℕ) → Event → List ℕ → List ℕ → Type 0
+Follows page at (Program from) = GoesWithProgram page at from.now
+Follows page at (Erase count) = GoesWithErase page at count
+Follows page at (Failure count) = GivenUp page at count
+
+-- before a failure, by which frames may become free, no frame is told to be in use
+abbrev pub IsReady : Geometry → Event → List ℕ → Type 0
+IsReady g (Program from) frames = Unit {0}
+IsReady g (Erase count) frames = Unit {0}
+IsReady g (Failure count) frames = used_to g frames ≡ 0
 
 -- a frame that is free, and tells of no other
 abbrev pub IsFree : List ℕ → List ℕ → Type 0

@@ -144,7 +144,7 @@ impl<'b, N: Nor> Cached<'b, N> {
         ensures same { IsSameCached self.old self.new }
     {
         let g = self.geometry;
-        read_through(self.nor, self.frames, &g, at, into)
+        read_through(&g, self.nor, self.frames, at, into)
     }
 
     /// Programs as `Nor::program` does, with what that leaves of device and copies. No page is read. Where it failed, the
@@ -163,7 +163,7 @@ impl<'b, N: Nor> Cached<'b, N> {
         ensures same { IsSameCached self.old self.new }
     {
         let g = self.geometry;
-        program_through(self.nor, self.frames, &g, at, from)
+        program_through(&g, self.nor, self.frames, at, from)
     }
 
     /// Erases as `Nor::erase` does, with what that leaves of device and copies. No page is read. Where it failed, the
@@ -183,7 +183,7 @@ impl<'b, N: Nor> Cached<'b, N> {
         ensures same { IsSameCached self.old self.new }
     {
         let g = self.geometry;
-        erase_through(self.nor, self.frames, &g, unit_ix, mark)
+        erase_through(&g, self.nor, self.frames, unit_ix, mark)
     }
 }
 

@@ -3,9 +3,30 @@
 ghost use Rattle.std.specs.Prelude.{◌≡◌, ◌≢◌, ℕ, ◌+◌, ◌*◌, ◌^◌, ◌<◌, ◌≤◌, ◌⊎◌, length, slice_index, slice_range, bit_and, OnOk, OnErr};
 ghost use Rattle.nor_core.specs.Count.{Rose};
 ghost use Rattle.nor_core.specs.Device.{OnlyReads};
-ghost use Rattle.page_cache.specs.Frames.{number_of as the_number_of, word_in, SameHead, SameCopy, Widened, Bounded, IsFree, IsCopy, GoesWithProgram, GoesWithErase, GivenUp};
+ghost use Rattle.page_cache.specs.Frames.{number_of as the_number_of, word_in, SameHead, Widened, Bounded, IsFree, IsCopy, GoesWithProgram, GoesWithErase, GivenUp, span_of, Follows};
 
 use nor_core::{Failed, Nor, NorState};
+
+// What happened to bytes of the device, from one of them on.
+#[derive(Clone, Copy)]
+pub(crate) enum Event<'a> {
+    // These bytes were programmed.
+    Program(&'a [u8]),
+    // So many bytes were erased.
+    Erase(usize),
+    // A program or an erase of so many bytes failed.
+    Failure(usize),
+}
+
+// How many bytes of the device an event meets.
+pub(crate) fn span(event: Event<'_>) -> usize
+    ensures { result ≡ span_of event.entry }
+{
+    match event {
+        Event::Program(from) => from.len(),
+        Event::Erase(count) | Event::Failure(count) => count,
+    }
+}
 
 // Bytes before the page's.
 pub(crate) const HEAD: usize = 8;
@@ -154,7 +175,7 @@ fn and_bytes(bytes: &mut [u8], others: &[u8])
 }
 
 // A frame goes with a program of bytes from byte `at` of the device on.
-pub(crate) fn program_copy(frame: &mut [u8], page: usize, at: usize, from: &[u8])
+fn program_copy(frame: &mut [u8], page: usize, at: usize, from: &[u8])
     requires size { length frame.old ≡ page + 8 }
     requires page { page ≤ 4096 }
     requires fits { at + length from.now < 2 ^ 32 }
@@ -179,7 +200,7 @@ fn blank(bytes: &mut [u8])
 }
 
 // A frame goes with an erase of bytes from byte `at` of the device on.
-pub(crate) fn erase_copy(frame: &mut [u8], page: usize, at: usize, count: usize)
+fn erase_copy(frame: &mut [u8], page: usize, at: usize, count: usize)
     requires size { length frame.old ≡ page + 8 }
     requires page { page ≤ 4096 }
     requires fits { at + count < 2 ^ 32 }
@@ -194,7 +215,7 @@ pub(crate) fn erase_copy(frame: &mut [u8], page: usize, at: usize, count: usize)
 }
 
 // Gives up what a frame holds, if a range of the device meets its page.
-pub(crate) fn give_up_met(frame: &mut [u8], page: usize, at: usize, count: usize)
+fn give_up_met(frame: &mut [u8], page: usize, at: usize, count: usize)
     requires size { length frame.old ≡ page + 8 }
     requires page { page ≤ 4096 }
     requires fits { at + count < 2 ^ 32 }
@@ -203,5 +224,19 @@ pub(crate) fn give_up_met(frame: &mut [u8], page: usize, at: usize, count: usize
     let start = usize::from(number_of(frame)) * page;
     if at < start + page && start < at + count {
         give_up(frame);
+    }
+}
+
+// A frame goes with an event from byte `at` of the device on.
+pub(crate) fn follow(frame: &mut [u8], page: usize, at: usize, event: Event<'_>)
+    requires size { length frame.old ≡ page + 8 }
+    requires page { page ≤ 4096 }
+    requires fits { at + span_of event < 2 ^ 32 }
+    ensures { Follows page at event.entry frame.old frame.new }
+{
+    match event {
+        Event::Program(from) => program_copy(frame, page, at, from),
+        Event::Erase(count) => erase_copy(frame, page, at, count),
+        Event::Failure(count) => give_up_met(frame, page, at, count),
     }
 }

@@ -6,10 +6,10 @@
 //! is free this is known without a walk too, by a number in the first frame.
 ghost use Rattle.std.specs.Prelude.{◌≡◌, ℕ, ◌+◌, ◌*◌, ◌%◌, ◌<◌, ◌≤◌, ◌≢◌, ◌⊎◌, ◌^◌, length, true, IfSome, None};
 ghost use Rattle.geometry.specs.Numbers.{page_count, cache_need};
-ghost use Rattle.page_cache.specs.Frames.{frame_size, frame_count as the_frame_count, frame_at, number_of as the_number_of, page_in, holds, home_of, used_to, AllInUse, IsFindable, IsNear, Widened, Bounded, AreSameCopies, GoesWithProgram, GoesWithErase, GivenUp, IsFree, EachFrame, EachPage, OnePage};
+ghost use Rattle.page_cache.specs.Frames.{frame_size, frame_count as the_frame_count, frame_at, number_of as the_number_of, page_in, holds, home_of, AllInUse, IsFindable, IsNear, Widened, Bounded, AreSameCopies, span_of, Follows, IsReady, IsFree, EachFrame, EachPage, OnePage};
 
 use crate::frame::{
-    HEAD, bound, empty, erase_copy, give_up_met, number_of, program_copy, strays, used, widen,
+    Event, HEAD, bound, empty, follow, number_of, span, strays, used, widen,
 };
 use geometry::Geometry;
 
@@ -221,40 +221,16 @@ fn clear_one(g: &Geometry, frames: &mut [u8], f: usize)
     empty(&mut frames[start..end]);
 }
 
-// A frame goes with a program.
-fn program_one(g: &Geometry, frames: &mut [u8], f: usize, at: usize, from: &[u8])
+// A frame goes with an event from byte `at` of the device on.
+fn follow_one(g: &Geometry, frames: &mut [u8], f: usize, at: usize, event: Event<'_>)
     requires frame { f < the_frame_count g.now frames.old }
-    requires fits { at + length from.now < 2 ^ 32 }
-    ensures here { GoesWithProgram g.now.page at from.now (frame_at g.now frames.old f) (frame_at g.now frames.new f) }
+    requires fits { at + span_of event < 2 ^ 32 }
+    ensures here { Follows g.now.page at event.entry (frame_at g.now frames.old f) (frame_at g.now frames.new f) }
     ensures others { (h : ℕ) → h ≢ f → frame_at g.now frames.new h ≡ frame_at g.now frames.old h }
 {
     let start = start_of(g, frames, f);
     let end = start + frame_len(g);
-    program_copy(&mut frames[start..end], g.page() as usize, at, from);
-}
-
-// A frame goes with an erase.
-fn erase_one(g: &Geometry, frames: &mut [u8], f: usize, at: usize, count: usize)
-    requires frame { f < the_frame_count g.now frames.old }
-    requires fits { at + count < 2 ^ 32 }
-    ensures here { GoesWithErase g.now.page at count (frame_at g.now frames.old f) (frame_at g.now frames.new f) }
-    ensures others { (h : ℕ) → h ≢ f → frame_at g.now frames.new h ≡ frame_at g.now frames.old h }
-{
-    let start = start_of(g, frames, f);
-    let end = start + frame_len(g);
-    erase_copy(&mut frames[start..end], g.page() as usize, at, count);
-}
-
-// A frame is given up, if a range of the device meets its page.
-fn give_up_one(g: &Geometry, frames: &mut [u8], f: usize, at: usize, count: usize)
-    requires frame { f < the_frame_count g.now frames.old }
-    requires fits { at + count < 2 ^ 32 }
-    ensures here { GivenUp g.now.page at count (frame_at g.now frames.old f) (frame_at g.now frames.new f) }
-    ensures others { (h : ℕ) → h ≢ f → frame_at g.now frames.new h ≡ frame_at g.now frames.old h }
-{
-    let start = start_of(g, frames, f);
-    let end = start + frame_len(g);
-    give_up_met(&mut frames[start..end], g.page() as usize, at, count);
+    follow(&mut frames[start..end], g.page() as usize, at, event);
 }
 
 // Makes all frames free.
@@ -283,84 +259,31 @@ fn end_met(g: &Geometry, at: usize, count: usize) -> usize
     ((at + count + page - 1) / page).min(g.pages() as usize)
 }
 
-// The frame of a page, if it is held, goes with a program.
-fn program_page(g: &Geometry, frames: &mut [u8], page: u16, at: usize, from: &[u8])
+// The frame of a page, if it is held, goes with an event from byte `at` of the device on.
+fn follow_page(g: &Geometry, frames: &mut [u8], page: u16, at: usize, event: Event<'_>)
     requires need { cache_need g.now ≤ length frames.old }
     requires page { page < page_count g.now }
     requires findable { IsFindable g.now frames.old }
-    requires fits { at + length from.now < 2 ^ 32 }
-    ensures { OnePage g.now (GoesWithProgram g.now.page at from.now) page frames.old frames.new }
+    requires fits { at + span_of event < 2 ^ 32 }
+    ensures { OnePage g.now (Follows g.now.page at event.entry) page frames.old frames.new }
 {
     if let Some(f) = find(g, frames, page) {
-        program_one(g, frames, f, at, from);
+        follow_one(g, frames, f, at, event);
     }
 }
 
-// The frame of a page, if it is held, goes with an erase.
-fn erase_page(g: &Geometry, frames: &mut [u8], page: u16, at: usize, count: usize)
-    requires need { cache_need g.now ≤ length frames.old }
-    requires page { page < page_count g.now }
-    requires findable { IsFindable g.now frames.old }
-    requires fits { at + count < 2 ^ 32 }
-    ensures { OnePage g.now (GoesWithErase g.now.page at count) page frames.old frames.new }
-{
-    if let Some(f) = find(g, frames, page) {
-        erase_one(g, frames, f, at, count);
-    }
-}
-
-// The frame of a page, if it is held, is given up where a range of the device meets it.
-fn give_up_page(g: &Geometry, frames: &mut [u8], page: u16, at: usize, count: usize)
-    requires need { cache_need g.now ≤ length frames.old }
-    requires page { page < page_count g.now }
-    requires findable { IsFindable g.now frames.old }
-    requires fits { at + count < 2 ^ 32 }
-    ensures { OnePage g.now (GivenUp g.now.page at count) page frames.old frames.new }
-{
-    if let Some(f) = find(g, frames, page) {
-        give_up_one(g, frames, f, at, count);
-    }
-}
-
-// The pages that are held go with a program of bytes from byte `at` of the device on.
-pub(crate) fn program_all(g: &Geometry, frames: &mut [u8], at: usize, from: &[u8])
+// The pages that are held go with an event from byte `at` of the device on. (Before a failure, by which frames may become free, the
+// first frame is to tell of no frame that it isn't: `bound_all` with 0.)
+pub(crate) fn follow_all(g: &Geometry, frames: &mut [u8], at: usize, event: Event<'_>)
     requires need { cache_need g.now ≤ length frames.old }
     requires findable { IsFindable g.now frames.old }
-    requires fits { at + length from.now < 2 ^ 32 }
-    ensures { EachPage g.now (GoesWithProgram g.now.page at from.now) frames.old frames.new }
+    requires ready { IsReady g.now event frames.old }
+    requires fits { at + span_of event < 2 ^ 32 }
+    ensures { EachPage g.now (Follows g.now.page at event.entry) frames.old frames.new }
 {
     let first = first_met(g, at);
-    let end = end_met(g, at, from.len());
+    let end = end_met(g, at, span(event));
     for page in first..end {
-        program_page(g, frames, page as u16, at, from);
-    }
-}
-
-// The pages that are held go with an erase of bytes from byte `at` of the device on.
-pub(crate) fn erase_all(g: &Geometry, frames: &mut [u8], at: usize, count: usize)
-    requires need { cache_need g.now ≤ length frames.old }
-    requires findable { IsFindable g.now frames.old }
-    requires fits { at + count < 2 ^ 32 }
-    ensures { EachPage g.now (GoesWithErase g.now.page at count) frames.old frames.new }
-{
-    let first = first_met(g, at);
-    let end = end_met(g, at, count);
-    for page in first..end {
-        erase_page(g, frames, page as u16, at, count);
-    }
-}
-
-// Gives up the copies of the pages that a range of the device meets.
-pub(crate) fn give_up_all(g: &Geometry, frames: &mut [u8], at: usize, count: usize)
-    requires need { cache_need g.now ≤ length frames.old }
-    requires findable { IsFindable g.now frames.old }
-    requires bound { used_to g.now frames.old ≡ 0 }
-    requires fits { at + count < 2 ^ 32 }
-    ensures { EachPage g.now (GivenUp g.now.page at count) frames.old frames.new }
-{
-    let first = first_met(g, at);
-    let end = end_met(g, at, count);
-    for page in first..end {
-        give_up_page(g, frames, page as u16, at, count);
+        follow_page(g, frames, page as u16, at, event);
     }
 }

@@ -1,4 +1,5 @@
-//! A device that keeps copies of pages in lent bytes, so that a page that is held is not read again.
+//! A device that keeps copies of pages in lent bytes, so that a page that is held is not read again: `Cached`, or the functions over
+//! a device and frames that stand apart.
 #![tactic(auto)]
 
 mod cached;
@@ -7,4 +8,4 @@ mod frames;
 mod through;
 
 pub use cached::Cached;
-pub use through::{held_page, hold_page};
+pub use through::{erase_through, held_page, hold_page, program_through, read_page, read_through};

@@ -1,4 +1,7 @@
-//! Calls of a device through the copies of its pages.
+//! Calls of a device through the copies of its pages, for an owner that keeps the device and the bytes of the frames apart, as in
+//! two fields of its own; `Cached` holds both. The volume is the first bytes of the device. The frames are those that `Cached::new`
+//! made over that device and `give_back` gave back, and no other call has changed the device since: their copies are right, and
+//! every call here leaves them so.
 ghost use Rattle.std.specs.Prelude.{◌≡◌, ◌≢◌, ℕ, ◌+◌, ◌*◌, ◌/◌, ◌%◌, ◌<◌, ◌≤◌, ◌⊎◌, length, slice_index, slice_range, OnOk, OnErr, IfOk, IsOk, true, None};
 ghost use Rattle.std.specs.Option.{ForSome};
 ghost use Rattle.geometry.specs.Numbers.{page_count, cache_need};
@@ -8,18 +11,16 @@ ghost use Rattle.nor_core.specs.Device.{OnlyReads, Changes, InErase, Writes};
 ghost use Rattle.page_cache.specs.Frames.{frame_size, frame_count as the_frame_count, frame_at, page_in, holds, KeepsHeld, KeepsOutside, SameHead, IsCopy, InOnePage};
 ghost use Rattle.page_cache.specs.Kept.{IsKept, FewReads, Stays};
 
-use crate::frame::{HEAD, fill};
-use crate::frames::{
-    bound_all, erase_all, find, frame, frame_len, give_up_all, holder, pick, program_all, start_of,
-};
+use crate::frame::{Event, HEAD, fill};
+use crate::frames::{bound_all, find, follow_all, frame, frame_len, holder, pick, start_of};
 use geometry::Geometry;
 use nor_core::{Failed, Mark, Nor, NorState};
 
 // A frame gets a page from the device.
 fn load_frame<N: Nor>(
+    g: &Geometry,
     nor: &mut N,
     frames: &mut [u8],
-    g: &Geometry,
     f: usize,
     page: u16,
 ) -> Result<(), Failed>
@@ -42,9 +43,9 @@ fn load_frame<N: Nor>(
 
 // A page that is not held gets into a frame.
 fn bring_missing<N: Nor>(
+    g: &Geometry,
     nor: &mut N,
     frames: &mut [u8],
-    g: &Geometry,
     page: u16,
 ) -> Result<usize, Failed>
     requires need { cache_need g.now ≤ length frames.old }
@@ -62,7 +63,7 @@ fn bring_missing<N: Nor>(
     ensures few { FewReads N.NorState g.now nor.old frames.old nor.new frames.new }
 {
     let f = pick(g, frames, page);
-    match load_frame(nor, frames, g, f, page) {
+    match load_frame(g, nor, frames, f, page) {
         Ok(()) => Ok(f),
         Err(failed) => {
             bound_all(g, frames, 0);
@@ -72,10 +73,10 @@ fn bring_missing<N: Nor>(
 }
 
 // The frame of a page, which gets there from the device if it is not held.
-pub(crate) fn bring<N: Nor>(
+fn bring<N: Nor>(
+    g: &Geometry,
     nor: &mut N,
     frames: &mut [u8],
-    g: &Geometry,
     page: u16,
 ) -> Result<usize, Failed>
     requires need { cache_need g.now ≤ length frames.old }
@@ -94,12 +95,12 @@ pub(crate) fn bring<N: Nor>(
 {
     match find(g, frames, page) {
         Some(f) => Ok(f),
-        None => bring_missing(nor, frames, g, page),
+        None => bring_missing(g, nor, frames, page),
     }
 }
 
-/// Gets a page of the volume held, for `held_page`. The volume is the first bytes of the device, and `frames` are those of a
-/// cached device over it, at least one. It fails where the device fails.
+/// Gets a page of the volume held, for `held_page`. It reads the device once, or not at all if the page is held. It fails where the
+/// device fails.
 pub fn hold_page<N: Nor>(
     g: &Geometry,
     nor: &mut N,
@@ -119,7 +120,7 @@ pub fn hold_page<N: Nor>(
     ensures few { FewReads N.NorState g.now nor.old frames.old nor.new frames.new }
     ensures kept { IsKept N.NorState g.now nor.new frames.new }
 {
-    match bring(nor, frames, g, page) {
+    match bring(g, nor, frames, page) {
         Ok(_) => Ok(()),
         Err(failed) => Err(failed),
     }
@@ -141,9 +142,9 @@ pub fn held_page<'a, N: Nor>(g: &Geometry, nor: &N, frames: &'a [u8], page: u16)
 
 // Reads bytes of a page, from its byte `start` on.
 fn read_within<N: Nor>(
+    g: &Geometry,
     nor: &mut N,
     frames: &mut [u8],
-    g: &Geometry,
     page: u16,
     start: usize,
     into: &mut [u8],
@@ -163,18 +164,45 @@ fn read_within<N: Nor>(
     ensures stays { Stays g.now frames.old frames.new }
     ensures few { FewReads N.NorState g.now nor.old frames.old nor.new frames.new }
 {
-    let f = bring(nor, frames, g, page)?;
+    let f = bring(g, nor, frames, page)?;
     let first = HEAD + start;
     let end = first + into.len();
     into.copy_from_slice(&frame(g, frames, f)[first..end]);
     Ok(())
 }
 
-// Reads bytes: through the copies where they lie in one page of the volume, else from the device.
-pub(crate) fn read_through<N: Nor>(
+/// Reads a page of the volume, from its copy, and the page is held afterwards. It fails where the device fails.
+pub fn read_page<N: Nor>(
+    g: &Geometry,
     nor: &mut N,
     frames: &mut [u8],
+    page: u16,
+    into: &mut [u8],
+) -> Result<(), Failed>
+    requires need { cache_need g.now ≤ length frames.old }
+    requires page { page < page_count g.now }
+    requires whole { length into.old ≡ g.now.page }
+    requires volume { g.now.blocks * g.now.block ≤ N.size nor.old }
+    requires kept { IsKept N.NorState g.now nor.old frames.old }
+    ensures read { N.tells nor.old → OnOk result (into.new ≡ slice_range (N.bytes nor.old) (page * g.now.page) (page * g.now.page + g.now.page)) }
+    ensures once { N.device_reads nor.new ≤ N.device_reads nor.old + 1 }
+    ensures cause { OnErr result (Rose (N.faults nor.old) (N.faults nor.new)) }
+    ensures only_reads { OnlyReads N.NorState nor.old nor.new }
+    ensures hit { holds g.now frames.old page ≡ true → IsOk result × (nor.new ≡ nor.old) × (frames.new ≡ frames.old) }
+    ensures held { OnOk result (holds g.now frames.new page ≡ true) }
+    ensures stays { Stays g.now frames.old frames.new }
+    ensures few { FewReads N.NorState g.now nor.old frames.old nor.new frames.new }
+    ensures kept { IsKept N.NorState g.now nor.new frames.new }
+{
+    read_within(g, nor, frames, page, 0, into)
+}
+
+/// Reads bytes as `Nor::read` does. Bytes that lie in one page of the volume come from its copy, and the page is held afterwards;
+/// others come from the device, and no frame changes.
+pub fn read_through<N: Nor>(
     g: &Geometry,
+    nor: &mut N,
+    frames: &mut [u8],
     at: u32,
     into: &mut [u8],
 ) -> Result<(), Failed>
@@ -187,86 +215,88 @@ pub(crate) fn read_through<N: Nor>(
     ensures counted { N.device_reads nor.new ≤ N.device_reads nor.old + 1 }
     ensures cause { OnErr result (Rose (N.faults nor.old) (N.faults nor.new)) }
     ensures only_reads { OnlyReads N.NorState nor.old nor.new }
-    ensures kept { IsKept N.NorState g.now nor.new frames.new }
     ensures hit { InOnePage g.now at (length into.old) → holds g.now frames.old (at / g.now.page) ≡ true → IsOk result × (nor.new ≡ nor.old) × (frames.new ≡ frames.old) }
     ensures held { InOnePage g.now at (length into.old) → OnOk result (holds g.now frames.new (at / g.now.page) ≡ true) }
     ensures stays { Stays g.now frames.old frames.new }
     ensures few { InOnePage g.now at (length into.old) → FewReads N.NorState g.now nor.old frames.old nor.new frames.new }
+    ensures kept { IsKept N.NorState g.now nor.new frames.new }
 {
     let page = at / g.page();
     let start = (at % g.page()) as usize;
     if page < g.pages() && start + into.len() <= g.page() as usize {
-        return read_within(nor, frames, g, page as u16, start, into);
+        return read_within(g, nor, frames, page as u16, start, into);
     }
     nor.read(at, into)
 }
 
-// A program. Copies go with it, or are given up where it failed.
-pub(crate) fn program_through<N: Nor>(
+/// Programs bytes as `Nor::program` does. No page is read: the copies go with the program. Where it failed, the pages that hold
+/// bytes of its range are given up, and no others.
+pub fn program_through<N: Nor>(
+    g: &Geometry,
     nor: &mut N,
     frames: &mut [u8],
-    g: &Geometry,
     at: u32,
     from: &[u8],
 ) -> Result<(), Failed>
+    requires need { cache_need g.now ≤ length frames.old }
     requires some { 0 < length from.now }
     requires inside { at + length from.now ≤ N.size nor.old }
-    requires need { cache_need g.now ≤ length frames.old }
     requires kept { IsKept N.NorState g.now nor.old frames.old }
     ensures done { N.tells nor.old → OnOk result (N.bytes nor.new ≡ programmed (N.bytes nor.old) at from.now) }
     ensures changes { Changes N.NorState nor.old nor.new (HalfProgrammed at from.now) }
     ensures cause { OnErr result (Rose (N.faults nor.old) (N.faults nor.new)) }
     ensures writes { Writes N.NorState nor.old nor.new }
-    ensures kept { IsKept N.NorState g.now nor.new frames.new }
     ensures stays { OnOk result (KeepsHeld g.now frames.old frames.new) }
     ensures outside { OnErr result (KeepsOutside g.now at (length from.now) frames.old frames.new) }
     ensures few { FewReads N.NorState g.now nor.old frames.old nor.new frames.new }
+    ensures kept { IsKept N.NorState g.now nor.new frames.new }
 {
     match nor.program(at, from) {
         Ok(()) => {
-            program_all(g, frames, at as usize, from);
+            follow_all(g, frames, at as usize, Event::Program(from));
             Ok(())
         }
         Err(failed) => {
             bound_all(g, frames, 0);
-            give_up_all(g, frames, at as usize, from.len());
+            follow_all(g, frames, at as usize, Event::Failure(from.len()));
             Err(failed)
         }
     }
 }
 
-// An erase. Copies go with it, or are given up where it failed.
-pub(crate) fn erase_through<N: Nor>(
+/// Erases a unit as `Nor::erase` does. No page is read: the copies go with the erase. Where it failed, the pages that hold bytes of
+/// the unit are given up, and no others.
+pub fn erase_through<N: Nor>(
+    g: &Geometry,
     nor: &mut N,
     frames: &mut [u8],
-    g: &Geometry,
     unit_ix: u32,
     mark: Option<Mark>,
 ) -> Result<(), Failed>
+    requires need { cache_need g.now ≤ length frames.old }
     requires inside { unit_ix < N.size nor.old / N.unit nor.old }
     requires marked { ForSome mark (λ m. m.at + 2 ≤ N.unit nor.old) }
-    requires need { cache_need g.now ≤ length frames.old }
     requires kept { IsKept N.NorState g.now nor.old frames.old }
     ensures done { N.tells nor.old → OnOk result (N.bytes nor.new ≡ erased (N.bytes nor.old) (unit_ix * N.unit nor.old) (N.unit nor.old)) }
     ensures half { N.tells nor.old → OnErr result (HalfErased (unit_ix * N.unit nor.old) (N.unit nor.old) mark (N.bytes nor.old) (N.bytes nor.new)) }
     ensures cause { OnErr result (Rose (N.faults nor.old) (N.faults nor.new)) }
     ensures writes { Writes N.NorState nor.old nor.new }
     ensures changes { Changes N.NorState nor.old nor.new (InErase N.NorState nor.old nor.new unit_ix mark) }
-    ensures kept { IsKept N.NorState g.now nor.new frames.new }
     ensures stays { OnOk result (KeepsHeld g.now frames.old frames.new) }
     ensures outside { OnErr result (KeepsOutside g.now (unit_ix * N.unit nor.old) (N.unit nor.old) frames.old frames.new) }
     ensures few { FewReads N.NorState g.now nor.old frames.old nor.new frames.new }
+    ensures kept { IsKept N.NorState g.now nor.new frames.new }
 {
     let unit = nor.unit() as usize;
     let at = unit_ix as usize * unit;
     match nor.erase(unit_ix, mark) {
         Ok(()) => {
-            erase_all(g, frames, at, unit);
+            follow_all(g, frames, at, Event::Erase(unit));
             Ok(())
         }
         Err(failed) => {
             bound_all(g, frames, 0);
-            give_up_all(g, frames, at, unit);
+            follow_all(g, frames, at, Event::Failure(unit));
             Err(failed)
         }
     }

@@ -20,7 +20,7 @@ returns-clause-summed c = λ was.
     let others = λ (k : ℕ) (out : k ≢ block). put.rows k ∙ fill.others k out in
     let but = first_but g old mid block counts c.requires.block own others in
     record {
-      sums = settle.sums ∙ put.sums ∙ c.moved-sums.ensures ∙ rw (c.part_of-less.ensures, c.part_of.ensures, c.row_at.ensures, c.entries-entries.ensures.count)
+      sums = settle.sums ∙ put.sums ∙ c.moved-sums.ensures ∙ rw (c.part_of-less.ensures, c.part_of.ensures, c.row_at-before.ensures, c.entries-entries.ensures.count)
           (sums_move g old new block counts c.requires.block (settle.rows block ∙ own) (λ k out. settle.rows k ∙ others k out) c.kept_sums.result (c.kept_sums.ensures ∙ was.sums));
       index = settle.index (subst (IsFirstBut g.blocks (row_takes g mid Index) block) (sym (put.firsts Index ∙ fill.firsts Index)) (but Index _ was.index));
       pages = settle.pages (subst (IsFirstBut g.blocks (row_takes g mid Data) block) (sym (put.firsts Data ∙ fill.firsts Data)) (but Data _ was.pages));
