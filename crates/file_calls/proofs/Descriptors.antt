@@ -20,12 +20,13 @@ use Rattle.header_laws.proofs.Telling.{files-have_heads}
 use Rattle.std.specs.Prelude.{IsErrOf, map}
 use Rattle.flash_view.specs.declared.kinds.StepErr.{StepErr}
 use Rattle.flash_view.specs.declared.kinds.StepErr.TheVariants.{DeviceFault as StepFault, Damaged as StepDamaged}
+use Rattle.flash_view.specs.Steps.{as_fs_err}
 use Rattle.file_read.specs.Missing.{IsMissing, HoldsOrFault}
 use Rattle.file_read.specs.Whole.{IsFileOf}
 use Rattle.fd_table.specs.declared.slot.FdSlot.{FdSlot}
 use Rattle.fd_table.specs.Slots.{descriptors, held, opened}
 use Rattle.file_calls.specs.declared.told.Told.TheVariants.{Done, Number as AsNumber}
-use Rattle.file_calls.specs.Replies.{may_answer, may_meet, names_fault, is_change, reads_file, base_at, as_fs_err}
+use Rattle.file_calls.specs.Replies.{may_answer, may_meet, names_fault, is_change, reads_file, base_at}
 use Rattle.file_calls.specs.States.{IsImageOf}
 use Rattle.file_calls.specs.Goes.{Goes}
 use Rattle.file_calls.specs.Moves.{with_slots, Moves}
