@@ -1,5 +1,5 @@
 -- What the looks at the tail of a file tell.
-use Rattle.std.proofs.Common.{◌≡◌, ℕ, ◌+◌, ◌-◌, ◌*◌, ◌/◌, ◌%◌, ◌<◌, ◌≤◌, List, length, drop, get_or, slice_index, Bool, true, false, ◌==◌, Some, None, ap, sym, ◌∙◌, arith, subst, ⊎_elim, length-drop}
+use Rattle.std.proofs.Common.{◌≡◌, ℕ, ◌+◌, ◌-◌, ◌/◌, ◌%◌, ◌<◌, ◌≤◌, List, length, drop, get_or, slice_index, Bool, true, false, ◌==◌, Some, None, ap, sym, ◌∙◌, arith, subst, ⊎_elim, length-drop}
 use Rattle.std.specs.Prelude.{option_and_then, Result, Ok, Err, IfOk}
 use Rattle.std.specs.Bool.{OnTrue}
 use Rattle.nor_core.specs.declared.device.Failed.{Failed}
