@@ -6,6 +6,7 @@ use Rattle.std.proofs.lemmas.List.Sums.{sum_by-cons}
 use Rattle.std.proofs.lemmas.Bool.{cases_eq, eq-eqb, ne_eqb}
 use Rattle.geometry.specs.declared.geometry.Geometry.{Geometry}
 use Rattle.geometry.specs.Numbers.{entries}
+use Rattle.table_model.proofs.Sums.{sum_alike}
 use Rattle.image_model.specs.Places.{next_count}
 use Rattle.image_model.specs.Tidy.{IsTidy, is_free_block}
 use Rattle.image_model.specs.Collect.{free_in, free_where, free_outside, takes_index, takes_data, holds_index, is_worth, is_fitting, score}
@@ -19,15 +20,6 @@ use Rattle.block_gc.proofs.Rooms.{room_is, data_is}
 
 -- ---- the free entries outside a block
 
-pub sum_same : (f h : ℕ → ℕ) (a n : ℕ) → ((q : ℕ) → a ≤ q → q < a + n → f q ≡ h q) → sum_by f (range_with_len a n) ≡ sum_by h (range_with_len a n)
-sum_same f h a zero same = refl
-sum_same f h a (suc n) same =
-    let first = same a (omega arith) (omega arith) in
-    let rest = sum_same f h (a + 1) n (λ q low high. same q (omega arith) (omega arith)) in
-    let left = sum_by-cons f a (range_with_len (a + 1) n) in
-    let right = sum_by-cons h a (range_with_len (a + 1) n) in
-    omega (arith, first, rest, left, right)
-
 sum_but : (f h : ℕ → ℕ) (k a n : ℕ) → a ≤ k → k < a + n → f k ≡ 0 → ((q : ℕ) → (q ≡ k → ⊥) → f q ≡ h q) → sum_by f (range_with_len a n) + h k ≡ sum_by h (range_with_len a n)
 sum_but f h k a zero low high none same = absurd (omega arith)
 sum_but f h k a (suc n) low high none same =
@@ -35,7 +27,7 @@ sum_but f h k a (suc n) low high none same =
     let right = sum_by-cons h a (range_with_len (a + 1) n) in
     ⊎_elim
     (λ (here : a ≡ k).
-    let rest = sum_same f h (a + 1) n (λ q more below. same q (λ e. omega (arith, e, here, more))) in
+    let rest = sum_alike f h (a + 1) n (λ q more below. same q (λ e. omega (arith, e, here, more))) in
     let f_none : f a ≡ 0 = ap f here ∙ none in
     let h_same : h a ≡ h k = ap h here in
     omega (arith, rest, left, right, f_none, h_same))

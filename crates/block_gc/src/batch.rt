@@ -20,9 +20,9 @@ use arrayvec::ArrayVec;
 use flash_view::{Kind, StepErr, View, entry_page, is_entry_page};
 use free_search::free_page;
 use nor_core::{Failed, Nor, NorState};
-use page_layout::PageHeader;
+use page_layout::{PageHeader, index_span};
 use page_put::{kill, put_page};
-use page_renew::{build_copy, build_data, index_span, name_page, put_over};
+use page_renew::{build_copy, build_data, name_page, put_over};
 use table_model::Tag;
 
 // The data pages of a block that one index page names: that page, the id of its file, and its span.

@@ -19,7 +19,7 @@ use Rattle.table_model.specs.Calls.{answer_truncate}
 use Rattle.table_model.specs.Reply.{Answer, Fine, Refuses}
 use Rattle.table_model.specs.Ask.{Ask, Truncates}
 use Rattle.table_model.specs.Flat.{answer}
-use Rattle.table_model.specs.Steps.{is_refusal, done_steps, open_file}
+use Rattle.table_model.specs.Steps.{is_refusal, done_steps, open_file, cuts_file}
 use Rattle.image_model.specs.Tables.{table_of}
 use Rattle.image_model.specs.Tidy.{IsTidy, free_blocks, has_spare}
 use Rattle.room_laws.specs.Stopping.{HasRoomFor}
@@ -38,7 +38,7 @@ use Rattle.file_calls.specs.States.{IsImageOf}
 use Rattle.file_calls.specs.Collecting.{RoomCut, seeking_page}
 use Rattle.file_calls.specs.Refusals.{has_room_beside, IsResized, HasRoomAfter}
 use Rattle.file_calls.specs.Cuts.{CanCut, JobCut, cutting}
-use Rattle.file_calls.specs.Goes.{cuts_file, Goes}
+use Rattle.file_calls.specs.Goes.{Goes}
 use Rattle.file_calls.proofs.Going.{is_flat, not_collects, IsOneStep, one_step, one_does, before_or_after, IsStep, goes_by, named_fine, no_gift, refuses_same, stop_name}
 use Rattle.file_calls.proofs.Paged.{room_for_one, left_since}
 use Rattle.file_calls.proofs.Descriptors.{open_in, file_at, stat_is}

@@ -20,17 +20,18 @@ use Rattle.header_laws.proofs.Telling.{files-have_heads}
 use Rattle.std.specs.Prelude.{IsErrOf, map}
 use Rattle.flash_view.specs.declared.kinds.StepErr.{StepErr}
 use Rattle.flash_view.specs.declared.kinds.StepErr.TheVariants.{DeviceFault as StepFault, Damaged as StepDamaged}
+use Rattle.flash_view.specs.Steps.{as_fs_err}
 use Rattle.file_read.specs.Missing.{IsMissing, HoldsOrFault}
 use Rattle.file_read.specs.Whole.{IsFileOf}
 use Rattle.fd_table.specs.declared.slot.FdSlot.{FdSlot}
 use Rattle.fd_table.specs.Slots.{descriptors, held, opened}
 use Rattle.file_calls.specs.declared.told.Told.TheVariants.{Done, Number as AsNumber}
-use Rattle.file_calls.specs.Replies.{may_answer, may_meet, names_fault, is_change, reads_file, base_at, as_fs_err}
+use Rattle.file_calls.specs.Replies.{may_answer, may_meet, names_fault, is_change, reads_file, base_at}
 use Rattle.file_calls.specs.States.{IsImageOf}
 use Rattle.file_calls.specs.Goes.{Goes}
 use Rattle.file_calls.specs.Moves.{with_slots, Moves}
 use Rattle.file_calls.specs.Recorded.{MayMiss}
-use Rattle.table_model.specs.Steps.{is_refusal, done_steps}
+use Rattle.table_model.specs.Steps.{done_steps}
 use Rattle.call_model.proofs.Tables.{file_of-id}
 use Rattle.file_drop.specs.Removals.{removing}
 use Rattle.file_calls.proofs.Removing.{has_by}
@@ -45,7 +46,7 @@ use Rattle.table_model.specs.Descriptors.{open_at, put_at, may_read, at_offset, 
 use Rattle.table_model.specs.Files.{stat_of, bytes_at, with_open, closed, without, seek_base, place_within, seek_place}
 use Rattle.table_model.specs.Calls.{answer_read, answer_seek, answer_tell, answer_flush, answer_close, answer_fremove, answer_fstat, move_to}
 use Rattle.table_model.specs.Outcome.{Outcome, refused, gives}
-use Rattle.table_model.specs.Reply.{Answer, Fine, Tells as Number, Gives, Shows, Refuses}
+use Rattle.table_model.specs.Reply.{Fine, Tells as Number, Gives, Shows, Refuses}
 use Rattle.table_model.specs.Ask.{Ask, Reads, Seeks, Tells, Flushes, Closes, RemovesOpen, StatsOpen}
 use Rattle.table_model.specs.Flat.{answer}
 

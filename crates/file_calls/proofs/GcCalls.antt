@@ -22,12 +22,12 @@ use Rattle.block_gc.specs.RoomMade.{CollectCut}
 use Rattle.flash_view.specs.declared.kinds.StepErr.{StepErr}
 use Rattle.flash_view.specs.declared.kinds.StepErr.TheVariants.{DeviceFault as StepFault, Damaged as StepDamaged}
 use Rattle.flash_view.specs.declared.view.View.{View}
-use Rattle.flash_view.specs.Steps.{Stepped, stopped}
+use Rattle.flash_view.specs.Steps.{Stepped, as_fs_err, stopped}
 use Rattle.flash_view.proofs.Stepped.{view_image}
 use Rattle.fd_table.specs.declared.slot.FdSlot.{FdSlot}
 use Rattle.file_calls.specs.Collecting.{RoomCut, packing}
 use Rattle.file_calls.specs.States.{IsImageOf}
-use Rattle.file_calls.specs.Replies.{as_fs_err, is_of_name, may_answer}
+use Rattle.file_calls.specs.Replies.{is_of_name, may_answer}
 use Rattle.file_calls.specs.Goes.{CallCut, IsDoable, IsCorner, Goes}
 use Rattle.file_calls.proofs.Going.{IsFit, goes_by, named_fine, is_first, no_gift, refuses_same, stop_name, stop_apart, step_stops, step_among, fault_is}
 

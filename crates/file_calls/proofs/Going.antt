@@ -27,11 +27,11 @@ use Rattle.flash_view.specs.declared.kinds.StepErr.{StepErr}
 use Rattle.flash_view.specs.declared.kinds.StepErr.TheVariants.{DeviceFault as StepFault, Damaged as StepDamaged}
 use Rattle.flash_view.specs.declared.view.View.{View}
 use Rattle.flash_view.specs.Same.{OnlyLooks}
-use Rattle.flash_view.specs.Steps.{Step, Errors, Stepped, stopped}
+use Rattle.flash_view.specs.Steps.{Step, Errors, Stepped, as_fs_err, stopped}
 use Rattle.flash_view.proofs.Stepped.{after_look, fails_as}
 use Rattle.table_model.specs.Steps.{steps}
 use Rattle.table_model.specs.Window.{IsAmong}
-use Rattle.file_calls.specs.Replies.{as_fs_err, is_of_name, is_of_descriptor, is_early, meets, may_meet, has_name, is_change, reads_file, keeps_slots, may_answer, names_fault, reply_of, is_calm}
+use Rattle.file_calls.specs.Replies.{is_of_name, is_of_descriptor, is_early, meets, may_meet, has_name, is_change, reads_file, keeps_slots, may_answer, names_fault, reply_of, is_calm}
 use Rattle.file_calls.specs.Moves.{with_slots, Moves}
 use Rattle.fd_table.specs.declared.slot.FdSlot.{FdSlot}
 use Rattle.fd_table.specs.Slots.{descriptors}

@@ -17,7 +17,7 @@ use Rattle.table_model.specs.Calls.{answer_remove}
 use Rattle.table_model.specs.Reply.{Fine}
 use Rattle.table_model.specs.Ask.{Removes}
 use Rattle.table_model.specs.Flat.{answer}
-use Rattle.table_model.specs.Steps.{is_refusal, done_steps}
+use Rattle.table_model.specs.Steps.{done_steps}
 use Rattle.image_model.specs.Places.{IsImage}
 use Rattle.image_model.specs.Tables.{table_of}
 use Rattle.image_model.specs.Tidy.{IsTidy}

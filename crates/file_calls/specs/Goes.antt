@@ -9,11 +9,10 @@ use Rattle.table_model.specs.declared.error.FsErr.TheVariants.{DeviceFault, Dama
 use Rattle.table_model.specs.declared.error.Differ.{Differ}
 use Rattle.table_model.specs.Table.{State}
 use Rattle.table_model.specs.Reply.{Answer, Fine, Gives, Refuses}
-use Rattle.table_model.specs.Ask.{Ask, Opens, Reads, Truncates, Collects}
-use Rattle.table_model.specs.Descriptors.{empties}
+use Rattle.table_model.specs.Ask.{Ask, Reads, Collects}
 use Rattle.table_model.specs.Room.{has_room}
 use Rattle.table_model.specs.Flat.{answer}
-use Rattle.table_model.specs.Steps.{is_refusal, steps}
+use Rattle.table_model.specs.Steps.{is_refusal, steps, cuts_file}
 use Rattle.table_model.specs.Window.{IsAmong}
 use Rattle.image_model.specs.Tables.{table_of}
 use Rattle.image_model.specs.Tidy.{HasReserve, has_spare}
@@ -45,12 +44,6 @@ pub record Reaches {D : Type 0} (nor : NorOf D) (g : Geometry) (old new : D) (af
 pub record IsDoable (g : Geometry) (image : List ℕ) (s : State) (ask : Ask) : Type 0 where
   pub done : is_refusal (answer g (has_spare g image) s ask).answer ≡ false
   pub publishes : (ask ≡ Collects) ⊎ IsAmong (answer g (has_spare g image) s ask).next.table (steps g (has_spare g image) s ask)
-
--- calls that take bytes of a file away
-abbrev pub cuts_file : Ask → Bool
-cuts_file (Opens name flags) = empties flags
-cuts_file (Truncates fd size) = true
-cuts_file _ = false
 
 -- A file is to be cut on a volume with two free blocks, and the flat table does so, but the table has no room as it is: then there may be
 -- no index page for the new header page.

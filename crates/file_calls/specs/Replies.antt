@@ -8,8 +8,6 @@ use Rattle.file_calls.specs.declared.told.Told.TheVariants.{Done, Number as AsNu
 use Rattle.table_model.specs.declared.call.Whence.{Whence}
 use Rattle.table_model.specs.declared.call.Whence.TheVariants.{Set, Cur, End}
 use Rattle.table_model.specs.Descriptors.{empties, makes}
-use Rattle.flash_view.specs.declared.kinds.StepErr.{StepErr}
-use Rattle.flash_view.specs.declared.kinds.StepErr.TheVariants.{DeviceFault as StepFault, Damaged as StepDamaged}
 use Rattle.table_model.specs.Names.{name_refusal, names_refusal}
 use Rattle.table_model.specs.Reply.{Answer, Fine, Tells as Number, Gives, Shows, Ends, Counts, Refuses}
 use Rattle.table_model.specs.Ask.{Ask, Creates, Opens, Reads, Writes, Fills, Seeks, Tells, Truncates, Flushes, Closes, Removes, RemovesOpen, Renames, Stats, StatsOpen, NextAbove, Informs, Collects, SetsMeta, SetsMetaOpen}
@@ -28,11 +26,6 @@ shown_by (Refusal why) into = Refuses why
 abbrev pub reply_of : Result Told FsErr → List ℕ → Answer
 reply_of (Ok told) into = shown_by told into
 reply_of (Err why) into = Refuses why
-
--- how a step failed, as a call tells it
-abbrev pub as_fs_err : StepErr → FsErr
-as_fs_err StepFault = DeviceFault
-as_fs_err (StepDamaged differ) = Damaged differ
 
 -- a refusal of a name
 abbrev pub is_of_name : FsErr → Bool

@@ -1,5 +1,5 @@
 ghost use Rattle.std.specs.Prelude.{◌≡◌};
-ghost use Rattle.file_calls.specs.Replies.{as_fs_err};
+ghost use Rattle.flash_view.specs.Steps.{as_fs_err};
 
 use flash_view::StepErr;
 use table_model::FsErr;

@@ -8,11 +8,11 @@ ghost use Rattle.image_model.specs.Files.{judged};
 ghost use Rattle.flash_view.specs.Same.{OnlyLooks};
 ghost use Rattle.file_find.specs.Judging.{missing_entry, missing_between, cause_of};
 
-use flash_view::{FURTHER_SLOTS_AT, View, head_slots_at};
+use flash_view::View;
 use geometry::Geometry;
 use image_model::Damage;
 use nor_core::{Failed, Nor, NorState};
-use page_layout::{data_pages, file_size, further_pages, name_of};
+use page_layout::{FURTHER_SLOTS_AT, data_pages, file_size, further_pages, head_slots_at, name_of};
 use table_model::Name;
 
 // The first of the spans from `first` on and below `end` that has no data page, where their page numbers stand in

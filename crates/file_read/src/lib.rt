@@ -1,7 +1,6 @@
 //! Reading a file: its record from its header page, and its bytes by its index pages from its data pages.
 #![tactic(auto)]
 
-mod pages;
 mod read;
 mod stat;
 

@@ -7,16 +7,15 @@ ghost use Rattle.table_model.specs.Files.{bytes_at};
 ghost use Rattle.image_model.specs.Places.{page_of};
 ghost use Rattle.image_model.specs.Headers.{size_of};
 ghost use Rattle.image_model.specs.Live.{live_at, own};
-ghost use Rattle.image_model.specs.Files.{index_page, index_span as the_index_span};
+ghost use Rattle.image_model.specs.Files.{index_page, index_span};
 ghost use Rattle.flash_view.specs.Same.{OnlyLooks};
 ghost use Rattle.file_read.specs.Whole.{IsFileOf, IsFileAt, IsRead, Reading};
 ghost use Rattle.file_read.specs.Spans.{named_page};
 ghost use Rattle.file_read.specs.Missing.{IsNoPage, IsMissing, HoldsOrFault};
 
-use crate::pages::{entry_place, index_span};
 use flash_view::{StepErr, View};
 use nor_core::{Failed, Nor, NorState};
-use page_layout::{INDEX_BIT, UNDEFINED_SIZE};
+use page_layout::{BODY_AT, INDEX_BIT, UNDEFINED_SIZE, entry_place, wide_index_span};
 use table_model::{Differ, Tag};
 
 /// That no header page of a file was found where one was wanted: no page number, and an id and a span that no page has.
@@ -84,7 +83,7 @@ fn read_span<N: Nor>(
     let Some(page) = find_data(v, id, span, index)? else {
         return Err(StepErr::Damaged(no_data(id, span)));
     };
-    v.read_in(page, 5 + from, part)?;
+    v.read_in(page, BODY_AT + from, part)?;
     Ok(())
 }
 
@@ -106,7 +105,7 @@ fn read_piece<N: Nor>(
     ensures missing { IfErr result (IsMissing id) }
     ensures more { IfOk result (λ n. (done < n) × (n ≤ length into.old)) }
     ensures told { N.tells v.old.nor.now → (f : File) → Reading v.old.geometry (N.bytes v.old.nor.now) id f at done into.old →
-        index_page v.old.geometry (own (live_at v.old.geometry (N.bytes v.old.nor.now)) id) (the_index_span v.old.geometry ((at + done) / body v.old.geometry)) ≡ Some index →
+        index_page v.old.geometry (own (live_at v.old.geometry (N.bytes v.old.nor.now)) id) (index_span v.old.geometry ((at + done) / body v.old.geometry)) ≡ Some index →
         HoldsOrFault result (λ n. Reading v.old.geometry (N.bytes v.old.nor.now) id f at n into.new) }
 {
     let body = v.geometry.body();
@@ -142,15 +141,15 @@ fn read_named<N: Nor>(
     ensures missing { IfErr result (IsMissing id) }
     ensures more { IfOk result (λ n. (done < n) × (n ≤ length into.old)) }
     ensures told { N.tells v.old.nor.now → (f : File) → Reading v.old.geometry (N.bytes v.old.nor.now) id f at done into.old →
-        index_page v.old.geometry (own (live_at v.old.geometry (N.bytes v.old.nor.now)) id) (the_index_span v.old.geometry ((at + done) / body v.old.geometry)) ≡ Some index →
+        index_page v.old.geometry (own (live_at v.old.geometry (N.bytes v.old.nor.now)) id) (index_span v.old.geometry ((at + done) / body v.old.geometry)) ≡ Some index →
         HoldsOrFault result (λ n. Reading v.old.geometry (N.bytes v.old.nor.now) id f at n into.new) }
 {
     let g = v.geometry;
-    let which = index_span(&g, (at + done as u32) / g.body());
+    let which = wide_index_span(&g, (at + done as u32) / g.body());
     let mut done = done;
     loop {
         done = read_piece(v, id, index, at, done, into)?;
-        if done == into.len() || index_span(&g, (at + done as u32) / g.body()) != which {
+        if done == into.len() || wide_index_span(&g, (at + done as u32) / g.body()) != which {
             return Ok(done);
         }
     }
@@ -164,9 +163,9 @@ fn index_for<N: Nor>(v: &mut View<'_, N>, id: u16, header: u16, span: u32) -> Re
     ensures missing { IfErr result (IsMissing id) }
     ensures inside { IfOk result (λ page. page < page_count v.old.geometry) }
     ensures told { N.tells v.old.nor.now → (page : ℕ) → index_page v.old.geometry (own (live_at v.old.geometry (N.bytes v.old.nor.now)) id) 0 ≡ Some header →
-        index_page v.old.geometry (own (live_at v.old.geometry (N.bytes v.old.nor.now)) id) (the_index_span v.old.geometry span) ≡ Some page → HoldsOrFault result (λ found. found ≡ page) }
+        index_page v.old.geometry (own (live_at v.old.geometry (N.bytes v.old.nor.now)) id) (index_span v.old.geometry span) ≡ Some page → HoldsOrFault result (λ found. found ≡ page) }
 {
-    let which = index_span(&v.geometry, span);
+    let which = wide_index_span(&v.geometry, span);
     if which == 0 {
         return Ok(header);
     }

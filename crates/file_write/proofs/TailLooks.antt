@@ -1,5 +1,5 @@
 -- What the looks at the tail of a file tell.
-use Rattle.std.proofs.Common.{◌≡◌, ℕ, ◌+◌, ◌-◌, ◌*◌, ◌/◌, ◌%◌, ◌<◌, ◌≤◌, List, length, drop, get_or, slice_index, Bool, true, false, ◌==◌, Some, None, ap, sym, ◌∙◌, arith, subst, ⊎_elim, length-drop}
+use Rattle.std.proofs.Common.{◌≡◌, ℕ, ◌+◌, ◌-◌, ◌/◌, ◌%◌, ◌<◌, ◌≤◌, List, length, drop, get_or, slice_index, Bool, true, false, ◌==◌, Some, None, ap, sym, ◌∙◌, arith, subst, ⊎_elim, length-drop}
 use Rattle.std.specs.Prelude.{option_and_then, Result, Ok, Err, IfOk}
 use Rattle.std.specs.Bool.{OnTrue}
 use Rattle.nor_core.specs.declared.device.Failed.{Failed}
@@ -8,13 +8,13 @@ use Rattle.std.proofs.lemmas.List.{get_or-drop}
 use Rattle.std.proofs.lemmas.List.Folds.{list_all_at}
 use Rattle.std.proofs.lemmas.Option.{same_Some, option_and_then_some}
 use Rattle.geometry.specs.declared.geometry.Geometry.{Geometry}
-use Rattle.geometry.specs.Numbers.{body, head_slots, span_slots}
+use Rattle.geometry.specs.Numbers.{body, head_slots}
 use Rattle.table_model.specs.Room.{data_pages}
 use Rattle.image_model.specs.Within.{page_length}
 use Rattle.image_model.specs.Headers.{size_of}
 use Rattle.nor_core.specs.Flash.{word_at}
 use Rattle.image_model.specs.Live.{live_at, own}
-use Rattle.image_model.specs.Files.{index_page, further}
+use Rattle.image_model.specs.Files.{index_page, further, index_span, slot_at}
 use Rattle.image_model.specs.Places.{page_of, is_entry_page, IsImage}
 use Rattle.image_model.specs.Tidy.{is_erased}
 use Rattle.image_laws.specs.Reindex.{slot_word}
@@ -78,22 +78,26 @@ ones_clean g image id size h head at header told ones z more there k low high =
 
 -- ---- the entry behind the last
 
-module _ (g : Geometry) (image : List ℕ) (id size span w : ℕ) (at : span ≡ further g (data_pages g size)) (found : Some w ≡ index_page g (own (live_at g image) id) span) where
-  first : index_page g (own (live_at g image) id) (further g (data_pages g size)) ≡ Some w
-  first = ap (index_page g (own (live_at g image) id)) (sym at) ∙ sym found
+module _ (g : Geometry) (image : List ℕ) (id size span w : ℕ) (at : span ≡ index_span g (data_pages g size)) (found : Some w ≡ index_page g (own (live_at g image) id) span) where
+  behind : head_slots g ≤ data_pages g size → span ≡ further g (data_pages g size)
+  behind high = rw (le-ltb (data_pages g size) (head_slots g) high) at at
 
-  page_at : (page : List ℕ) → option_and_then (own (live_at g image) id) (index_page g (own (live_at g image) id) (further g (data_pages g size))) ≡ Some page → live_at g image w ≡ Some page
-  page_at page there = (own-parts (live_at g image) id w page (ap (option_and_then (own (live_at g image) id)) (sym first) ∙ there)).0
+  first : head_slots g ≤ data_pages g size → index_page g (own (live_at g image) id) (further g (data_pages g size)) ≡ Some w
+  first high = ap (index_page g (own (live_at g image) id)) (sym (behind high)) ∙ sym found
+
+  page_at : (page : List ℕ) → head_slots g ≤ data_pages g size →
+      option_and_then (own (live_at g image) id) (index_page g (own (live_at g image) id) (further g (data_pages g size))) ≡ Some page → live_at g image w ≡ Some page
+  page_at page high there = (own-parts (live_at g image) id w page (ap (option_and_then (own (live_at g image) id)) (sym (first high)) ∙ there)).0
 
   -- it is free
-  pub free_behind : (word : ℕ) → word ≡ word_at (page_of g image w) (8 + 2 * ((data_pages g size - head_slots g) % span_slots g)) → word ≡ 0xFFFF → IsStale g image id size None
+  pub free_behind : (word : ℕ) → word ≡ word_at (page_of g image w) (slot_at g (data_pages g size)) → word ≡ 0xFFFF → IsStale g image id size None
   free_behind word is ones page high there =
-      let bytes : page_of g image w ≡ page = (live_parts g image w page (page_at page there)).bytes in
-      rw (le-ltb (data_pages g size) (head_slots g) high) (ap (λ (l : List ℕ). word_at l (8 + 2 * ((data_pages g size - head_slots g) % span_slots g))) (sym bytes) ∙ sym is ∙ ones)
+      let bytes : page_of g image w ≡ page = (live_parts g image w page (page_at page high there)).bytes in
+      ap (λ (l : List ℕ). word_at l (slot_at g (data_pages g size))) (sym bytes) ∙ sym is ∙ ones
 
   -- an index page is an entry page
   pub not_inside : is_entry_page g w ≡ false → IsStale g image id size None
-  not_inside out page high there = let yes = (live_parts g image w page (page_at page there)).entry_page in let bad : true ≡ false = sym yes ∙ out in absurd (cc)
+  not_inside out page high there = let yes = (live_parts g image w page (page_at page high there)).entry_page in let bad : true ≡ false = sym yes ∙ out in absurd (cc)
 
 -- ---- the tail
 

@@ -5,6 +5,7 @@ ghost use Rattle.image_laws.specs.Reindex.{slot_word};
 ghost use Rattle.nor_core.specs.Flash.{SameOutside};
 
 use geometry::Geometry;
+use page_layout::BODY_AT;
 use page_renew::{erase_part, name_data, see_bytes};
 
 // Copies bytes to a place.
@@ -25,8 +26,8 @@ pub(crate) fn build_bytes(page: &mut [u8], from: &[u8])
     ensures bytes { (k : ℕ) → slice_index page.new k < 256 }
 {
     let len = page.len();
-    erase_part(page, 5, len);
-    copy_part(page, 5, from);
+    erase_part(page, BODY_AT as usize, len);
+    copy_part(page, BODY_AT as usize, from);
     see_bytes(page);
 }
 
@@ -39,6 +40,6 @@ pub(crate) fn build_index(g: &Geometry, page: &mut [u8], span: u16, target: u16)
     ensures bytes { (k : ℕ) → slice_index page.new k < 256 }
 {
     let len = page.len();
-    erase_part(page, 5, len);
+    erase_part(page, BODY_AT as usize, len);
     name_data(g, page, span, target);
 }

@@ -11,6 +11,7 @@ ghost use Rattle.file_write.specs.Appends.{IsLast, filling_at, appending_at};
 use crate::create::missing;
 use flash_view::{StepErr, View};
 use nor_core::{Failed, Nor, NorState};
+use page_layout::BODY_AT;
 use page_put::fill_tail;
 use page_renew::{Edit, Found, renew_from};
 
@@ -50,7 +51,7 @@ fn fill_last<N: Nor>(
     requires end { (end ≡ found.size + length from.now) × (end < 0xFFFFFFFF) }
     ensures { (f : File) → Stepped stopped v.old v.new result (filling_at id found.header found.size page from.now f) }
 {
-    let at = 5 + found.size % v.geometry.body();
+    let at = BODY_AT + found.size % v.geometry.body();
     match fill_tail(v, page, at, from) {
         Err(Failed) => Err(StepErr::DeviceFault),
         Ok(()) => renew_from(v, id, found.header, Edit::Grow(end)),

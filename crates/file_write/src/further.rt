@@ -1,7 +1,6 @@
 // Bytes that begin a data page whose entry a further index page has.
 ghost use Rattle.std.specs.Prelude.{◌≡◌, ◌+◌, ◌-◌, ◌/◌, ◌%◌, ◌<◌, ◌≤◌, OnErr, IfOk, IfSome, length};
 ghost use Rattle.geometry.specs.Numbers.{body, head_slots, span_slots, page_count};
-ghost use Rattle.image_model.specs.Files.{slot_at};
 ghost use Rattle.nor_core.specs.Count.{Rose};
 ghost use Rattle.flash_view.specs.Places.{IsEntryPage};
 ghost use Rattle.flash_view.specs.Same.{OnlyLooks};
@@ -11,19 +10,10 @@ ghost use Rattle.file_write.specs.Appends.{IsSlot, naming_at, appending_at};
 
 use crate::beside::{add_data, add_index};
 use flash_view::{StepErr, View};
-use geometry::Geometry;
 use nor_core::{Failed, Nor, NorState};
+use page_layout::{entry_place, index_span};
 use page_put::name_slot;
-use page_renew::{Edit, Found, index_span, renew_from};
-
-// The byte of a further index page at which the entry of a data span stands.
-fn slot_start(g: &Geometry, span: u16) -> u32
-    requires { head_slots g.now ≤ span }
-    ensures place { result ≡ slot_at g.now span }
-    ensures inside { result + 2 ≤ g.now.page }
-{
-    8 + 2 * ((u32::from(span) - g.head_slots()) % g.span_slots())
-}
+use page_renew::{Edit, Found, renew_from};
 
 // The further index page with the entry of a data span, whose two bytes it reads.
 #[tactic(auto, using(flash_view::proofs::Looking::looks_then))]
@@ -43,7 +33,7 @@ pub(crate) fn find_slot<N: Nor>(
         return Ok(None);
     };
     let mut bytes = [0u8; 2];
-    v.read_in(page, slot_start(&g, span), &mut bytes)?;
+    v.read_in(page, entry_place(&g, u32::from(span)), &mut bytes)?;
     Ok(Some(page))
 }
 

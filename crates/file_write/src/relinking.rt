@@ -15,8 +15,9 @@ use flash_view::{Kind, StepErr, View, is_entry_page};
 use free_search::free_page;
 use geometry::Geometry;
 use nor_core::{Failed, Nor, NorState};
+use page_layout::{BODY_AT, index_span};
 use page_put::{kill, put_page};
-use page_renew::{build_data, build_renamed, erase_part, index_span, put_over, see_bytes};
+use page_renew::{build_data, build_renamed, erase_part, put_over, see_bytes};
 use table_model::Tag;
 
 // What is to change in a data page of a file: its span, the place of the bytes that are written, and how many of the page's
@@ -87,8 +88,8 @@ fn patch_page(page: &mut [u8], from: u32, used: u32, bytes: &[u8])
     ensures small { (k : ℕ) → slice_index page.new k < 256 }
 {
     let len = page.len();
-    erase_part(page, 5 + used as usize, len);
-    write_part(page, 5 + from as usize, bytes);
+    erase_part(page, BODY_AT as usize + used as usize, len);
+    write_part(page, BODY_AT as usize + from as usize, bytes);
     see_bytes(page);
 }
 

@@ -14,7 +14,7 @@ ghost use Rattle.file_write.specs.Readyings.{HasOnes, HasOther, IsStale, IsTaken
 
 use flash_view::{View, is_entry_page};
 use nor_core::{Failed, Nor, NorState};
-use page_layout::data_pages;
+use page_layout::{BODY_AT, data_pages, entry_place, wide_index_span};
 use page_renew::{Found, find_home};
 
 // Whether all these bytes are 0xFF.
@@ -65,7 +65,7 @@ pub(crate) fn has_clean_bytes<N: Nor>(
     if u32::from(page) >= g.pages() {
         return Ok(false);
     }
-    ends_in_ones(v, page, 5 + used)
+    ends_in_ones(v, page, BODY_AT + used)
 }
 
 // The further index page with the entry of the span behind the last of a file of that size, where that entry isn't 0xFFFF.
@@ -86,11 +86,10 @@ pub(crate) fn stale_index<N: Nor>(
     if count < g.head_slots() {
         return Ok(None);
     }
-    let behind = count - g.head_slots();
-    let Some(index) = v.find_span(id, behind / g.span_slots() + 1)? else {
+    let Some(index) = v.find_span(id, wide_index_span(&g, count))? else {
         return Ok(None);
     };
-    let word = v.word_in(index, 8 + 2 * (behind % g.span_slots()))?;
+    let word = v.word_in(index, entry_place(&g, count))?;
     if word == 0xFFFF || !is_entry_page(&g, index) {
         return Ok(None);
     }

@@ -1,18 +1,18 @@
 -- Data pages by the entries that name them.
-use Rattle.std.proofs.Common.{◌≡◌, ◌≢◌, ℕ, zero, suc, ◌+◌, ◌-◌, ◌*◌, ◌/◌, ◌%◌, ◌<◌, ◌≤◌, ◌==◌, ◌&&◌, not, nat_lt, Bool, true, false, List, refl, ap, ◌∙◌, if◌then◌else◌, ⊎_elim, arith}
+use Rattle.std.proofs.Common.{◌≡◌, ◌≢◌, ℕ, zero, suc, ◌+◌, ◌%◌, ◌<◌, ◌≤◌, ◌==◌, ◌&&◌, not, nat_lt, Bool, true, false, List, refl, ap, ◌∙◌, if◌then◌else◌, ⊎_elim, arith}
 use Rattle.std.specs.Prelude.{Result, Ok, Err, IfOk, Option, Some, None, find, is_some, option_and_then}
 use Rattle.std.specs.List.{range_with_len}
 use Rattle.std.specs.Option.{option_map}
 use Rattle.std.proofs.lemmas.Bool.{cases_Bool, cases_lt, eqb-true, lt-ltb, le-ltb}
 use Rattle.geometry.specs.declared.geometry.Geometry.{Geometry}
-use Rattle.geometry.specs.Numbers.{head_slots, span_slots, page_count, per_block}
+use Rattle.geometry.specs.Numbers.{head_slots, page_count, per_block}
 use Rattle.page_layout.specs.declared.header.PageHeader.{PageHeader}
 use Rattle.page_layout.specs.Layout.{header_at, names_index as names_index_head}
 use Rattle.image_model.specs.Headers.{obj_id, span_of, names_index}
 use Rattle.nor_core.specs.Flash.{word_at}
 use Rattle.image_model.specs.Places.{page_of, is_entry_page}
 use Rattle.image_model.specs.Live.{Live, live_at, is_live, own}
-use Rattle.image_model.specs.Files.{is_index, index_page, entry_number, data_of}
+use Rattle.image_model.specs.Files.{is_index, index_page, further, index_span, slot_at, entry_number, data_of}
 use Rattle.flash_view.specs.DataPages.{lookup_entry, numbered, data_number}
 use Rattle.flash_view.proofs.Entries.{live_page}
 
@@ -108,18 +108,22 @@ index_known g image id span q e = own_live (page_of g image q) (is_live g image 
 -- ---- the number of a data page
 
 module _ (g : Geometry) (pages : Live) (head : List ℕ) (span : ℕ) where
-  pub number_near : span < head_slots g → numbered pages span (word_at head (45 + g.meta + 2 * span)) ≡ data_number g pages head span
+  pub number_near : span < head_slots g → numbered pages span (word_at head (slot_at g span)) ≡ data_number g pages head span
   unfolding data_number entry_number
   number_near low = rw (lt-ltb span (head_slots g) low) refl
 
-  pub number_behind : (page : List ℕ) (q : ℕ) → head_slots g ≤ span → index_page g pages ((span - head_slots g) / span_slots g + 1) ≡ Some q → pages q ≡ Some page →
-      numbered pages span (word_at page (8 + 2 * ((span - head_slots g) % span_slots g))) ≡ data_number g pages head span
+  pub number_behind : (page : List ℕ) (q : ℕ) → head_slots g ≤ span → index_page g pages (index_span g span) ≡ Some q → pages q ≡ Some page →
+      numbered pages span (word_at page (slot_at g span)) ≡ data_number g pages head span
   unfolding data_number entry_number
-  number_behind page q high is holds = rw (le-ltb span (head_slots g) high) (rw is (rw holds refl))
+  number_behind page q high is holds =
+      let first : index_page g pages (further g span) ≡ Some q = rw (le-ltb span (head_slots g) high) at is in
+      rw (le-ltb span (head_slots g) high) (rw first (rw holds refl))
 
-  pub number_none : head_slots g ≤ span → index_page g pages ((span - head_slots g) / span_slots g + 1) ≡ None → None ≡ data_number g pages head span
+  pub number_none : head_slots g ≤ span → index_page g pages (index_span g span) ≡ None → None ≡ data_number g pages head span
   unfolding data_number entry_number
-  number_none high none = rw (le-ltb span (head_slots g) high) (rw none refl)
+  number_none high none =
+      let first : index_page g pages (further g span) ≡ None = rw (le-ltb span (head_slots g) high) at none in
+      rw (le-ltb span (head_slots g) high) (rw first refl)
 
 -- ---- answers that are told
 

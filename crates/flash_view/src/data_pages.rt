@@ -1,4 +1,4 @@
-ghost use Rattle.std.specs.Prelude.{◌≡◌, ◌+◌, ◌-◌, ◌*◌, ◌/◌, ◌<◌, ◌≤◌, ◌%◌, ◌^◌, ◌==◌, ◌&&◌, not, OnErr, IfOk, IsTrue, is_some};
+ghost use Rattle.std.specs.Prelude.{◌≡◌, ◌+◌, ◌<◌, ◌≤◌, ◌%◌, ◌^◌, ◌==◌, ◌&&◌, not, OnErr, IfOk, IsTrue, is_some};
 ghost use Rattle.geometry.specs.Numbers.{page_count};
 ghost use Rattle.nor_core.specs.Count.{Rose};
 ghost use Rattle.page_layout.specs.Layout.{names_index};
@@ -10,19 +10,8 @@ ghost use Rattle.flash_view.specs.Same.{OnlyLooks};
 ghost use Rattle.flash_view.specs.DataPages.{numbered, data_number, data_number_of};
 
 use crate::View;
-use geometry::Geometry;
 use nor_core::{Failed, Nor, NorState};
-use page_layout::PageHeader;
-
-/// Where the numbers of data pages begin in a further index page, in bytes.
-pub const FURTHER_SLOTS_AT: u32 = 8;
-
-/// Where the numbers of data pages begin in a header page, in bytes: behind the name and the meta bytes.
-pub fn head_slots_at(g: &Geometry) -> u32
-    ensures { result ≡ 45 + g.now.meta }
-{
-    45 + g.meta()
-}
+use page_layout::{PageHeader, entry_place, wide_index_span};
 
 // Whether a header is that of a data page of an object and a span.
 fn is_data(head: PageHeader, id: u16, span: u32) -> bool
@@ -58,17 +47,12 @@ impl<'b, N: Nor> View<'b, N> {
         ensures work { self.new.work.now ≡ self.old.work.now }
     {
         let g = self.geometry;
+        let at = entry_place(&g, span);
         if span < g.head_slots() {
-            return self.data_in(header, head_slots_at(&g) + 2 * span, id, span);
+            return self.data_in(header, at, id, span);
         }
-        let behind = span - g.head_slots();
-        match self.find_span(id, behind / g.span_slots() + 1)? {
-            Some(index) => self.data_in(
-                index,
-                FURTHER_SLOTS_AT + 2 * (behind % g.span_slots()),
-                id,
-                span,
-            ),
+        match self.find_span(id, wide_index_span(&g, span))? {
+            Some(index) => self.data_in(index, at, id, span),
             None => Ok(None),
         }
     }

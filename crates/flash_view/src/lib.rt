@@ -12,7 +12,6 @@ mod view;
 mod walk;
 
 pub use counts::{BlockCounts, Sort, with_free, with_one, without_one};
-pub use data_pages::{FURTHER_SLOTS_AT, head_slots_at};
 pub use kinds::{Kind, StepErr};
 pub use live::is_named;
 pub use places::{block_of, entry_page, is_entry_page};

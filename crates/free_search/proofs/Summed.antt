@@ -8,6 +8,7 @@ use Rattle.std.proofs.lemmas.List.FromFn.{length-range_with_len}
 use Rattle.geometry.specs.declared.geometry.Geometry.{Geometry}
 use Rattle.geometry.specs.Numbers.{entries}
 use Rattle.nor_core.specs.declared.state.NorState.{Ghosts as NorOf}
+use Rattle.table_model.proofs.Sums.{sum_alike}
 use Rattle.image_model.specs.Tidy.{is_free_block, free_blocks}
 use Rattle.image_model.specs.Kinds.{is_data_block, is_index_block}
 use Rattle.image_model.specs.Collect.{index_in, data_in, free_in, deleted_in, free_where, takes_index, takes_data, holds_index}
@@ -23,15 +24,6 @@ use Rattle.free_search.specs.Free.{is_open_for, may_choose, the_open_block}
 use Rattle.free_search.specs.Summed.{in_blocks, AreSumsOf}
 use Rattle.free_search.proofs.FreePages.{free_counted, few_pass, data_tells, index_tells, zero_tells}
 use Rattle.free_search.proofs.Rowed.{row_counts, row_magic, row_free, row_open}
-
--- sums of the same numbers
-sum_alike : (f h : ℕ → ℕ) (a n : ℕ) → ((k : ℕ) → a ≤ k → k < a + n → f k ≡ h k) → sum_by f (range_with_len a n) ≡ sum_by h (range_with_len a n)
-sum_alike f h a zero same = refl
-sum_alike f h a (suc n) same =
-    let first = sum_by-cons f a (range_with_len (a + 1) n) in
-    let other = sum_by-cons h a (range_with_len (a + 1) n) in
-    let rest = sum_alike f h (a + 1) n (λ k low high. same k (omega (arith, low)) (omega (arith, high))) in
-    omega (arith, first, other, rest, same a (omega arith) (omega arith))
 
 -- a sum of ones is a count
 sum_ones : (t : ℕ → Bool) (xs : List ℕ) → sum_by (λ k. if t k then 1 else 0) xs ≡ length (filter t xs)

@@ -9,7 +9,7 @@ use Rattle.std.proofs.lemmas.Option.{none-some, same_Some}
 use Rattle.nor_core.specs.declared.state.NorState.{Ghosts as NorOf}
 use Rattle.image_tool.specs.Texts.{line_if, list_if}
 use Rattle.image_tool.specs.Saying.{OnlySays, SaysFront}
-use Rattle.image_tool.proofs.Ascending.{Ascends, head_found, found_behind}
+use Rattle.table_model.proofs.Ascending.{Ascends, head_found, found_behind}
 use Rattle.image_tool.proofs.Speaking.{Ahead, says_more, front_more, says_same}
 
 -- the first of a list whose key is above a number

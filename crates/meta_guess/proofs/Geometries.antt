@@ -1,51 +1,10 @@
--- Geometries of the same numbers are one.
+-- Geometries of the same numbers but for the meta bytes.
 use Rattle.std.proofs.Common.{◌≡◌, ℕ, sym, ◌∙◌, subst}
-use Rattle.std.proofs.Math.Nat.{ℕ_set}
-use Rattle.std.proofs.Math.Bridge.{le_prop}
 use Rattle.geometry.specs.declared.geometry.Geometry.{Geometry}
 use Rattle.geometry.specs.declared.magic.MagicKind.{MagicKind}
-use Rattle.geometry.specs.Rules.{IsVolume, pages_in, lookups_in}
+use Rattle.geometry.specs.Rules.{IsVolume}
+use Rattle.geometry.proofs.Geometries.{made, IsEach, is_each}
 use Rattle.meta_guess.specs.Guesses.{SameBut}
-
--- the rules are met in one way
-one_volume : (page block blocks phys meta : ℕ) (v w : IsVolume page block blocks phys meta) → v ≡ w
-one_volume page block blocks phys meta v w = λ i. record {
-  page_least = le_prop v.page_least w.page_least i;
-  page_most = le_prop v.page_most w.page_most i;
-  page_divides = ℕ_set _ _ v.page_divides w.page_divides i;
-  whole_pages = ℕ_set _ _ v.whole_pages w.whole_pages i;
-  whole_units = ℕ_set _ _ v.whole_units w.whole_units i;
-  some_pages = le_prop v.some_pages w.some_pages i;
-  some_entries = le_prop v.some_entries w.some_entries i;
-  lookups_fit = le_prop v.lookups_fit w.lookups_fit i;
-  magic_fits = le_prop v.magic_fits w.magic_fits i;
-  some_blocks = le_prop v.some_blocks w.some_blocks i;
-  few_blocks = le_prop v.few_blocks w.few_blocks i;
-  few_pages = le_prop v.few_pages w.few_pages i;
-  few_in_block = le_prop v.few_in_block w.few_in_block i;
-  few_bytes = le_prop v.few_bytes w.few_bytes i;
-  meta_most = le_prop v.meta_most w.meta_most i;
-}
-
-unfoldable pub made : (page block blocks phys meta : ℕ) (magic : MagicKind) → IsVolume page block blocks phys meta → (each lookups : ℕ) → (each ≡ pages_in page block) × (lookups ≡ lookups_in page block) → Geometry
-made page block blocks phys meta magic v each lookups kept =
-    record { page = page; block = block; blocks = blocks; phys = phys; meta = meta; magic = magic; pages_each = each; lookups_each = lookups; valid = v; kept = kept }
-
--- what is kept of the numbers is so in one way
-one_kept : (each lookups m n : ℕ) (a b : (each ≡ m) × (lookups ≡ n)) → a ≡ b
-one_kept each lookups m n a b = λ i. (ℕ_set _ _ a.0 b.0 i, ℕ_set _ _ a.1 b.1 i)
-
--- a geometry is each one that has such numbers
-abbrev IsEach : Geometry → (page block blocks phys meta : ℕ) → MagicKind → Type 0
-IsEach g page block blocks phys meta magic = (v : IsVolume page block blocks phys meta) (each lookups : ℕ) (kept : (each ≡ pages_in page block) × (lookups ≡ lookups_in page block)) → g ≡ made page block blocks phys meta magic v each lookups kept
-
-is_each : (g : Geometry) → IsEach g g.page g.block g.blocks g.phys g.meta g.magic
-unfolding made
-is_each g v each lookups kept =
-    subst (λ (x : ℕ). (k : (x ≡ pages_in g.page g.block) × (lookups ≡ lookups_in g.page g.block)) → g ≡ made g.page g.block g.blocks g.phys g.meta g.magic v x lookups k) (g.kept.0 ∙ sym kept.0)
-    (subst (λ (x : ℕ). (k : (g.pages_each ≡ pages_in g.page g.block) × (x ≡ lookups_in g.page g.block)) → g ≡ made g.page g.block g.blocks g.phys g.meta g.magic v g.pages_each x k) (g.kept.1 ∙ sym kept.1)
-    (λ k. λ i. made g.page g.block g.blocks g.phys g.meta g.magic (one_volume g.page g.block g.blocks g.phys g.meta g.valid v i) g.pages_each g.lookups_each (one_kept g.pages_each g.lookups_each (pages_in g.page g.block) (lookups_in g.page g.block) g.kept k i)))
-    kept
 
 -- a geometry of the same numbers but for the meta bytes is one of these numbers
 each_but : (g h : Geometry) → SameBut g h → IsEach h g.page g.block g.blocks g.phys h.meta g.magic

@@ -4,7 +4,8 @@ use Rattle.geometry.specs.declared.geometry.Geometry.{Geometry}
 use Rattle.geometry.specs.Rules.{IsVolume}
 use Rattle.geometry.specs.Numbers.{per_block, lookups, entries, page_count, scratch_need, check_need}
 use Rattle.meta_guess.specs.Guesses.{SameBut}
-use Rattle.meta_guess.proofs.Geometries.{made, with_meta, is_with}
+use Rattle.geometry.proofs.Geometries.{made}
+use Rattle.meta_guess.proofs.Geometries.{with_meta, is_with}
 
 needs_with : (g : Geometry) (meta : ℕ) (v : IsVolume g.page g.block g.blocks g.phys meta) → (scratch_need (with_meta g meta v) ≡ scratch_need g) × (check_need (with_meta g meta v) ≡ check_need g)
 unfolding with_meta made per_block lookups entries page_count

@@ -4,7 +4,7 @@ use Rattle.std.specs.Prelude.{nat_lt, find, filter}
 use Rattle.std.specs.Option.{option_map}
 use Rattle.std.proofs.lemmas.Bool.{lt-ltb, le-ltb, cases_lt}
 use Rattle.std.proofs.lemmas.Option.{none-some, same_Some}
-use Rattle.meta_guess.proofs.Ascending.{Ascends}
+use Rattle.table_model.proofs.Ascending.{Ascends}
 
 -- how many of a list have a key above a number
 unfoldable pub left_above : {X : Type 0} → (X → ℕ) → ℕ → List X → ℕ

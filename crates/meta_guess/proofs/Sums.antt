@@ -14,7 +14,8 @@ use Rattle.image_model.specs.Live.{Live, live_at, is_live, own}
 use Rattle.image_model.specs.Files.{index_page, judged, found}
 use Rattle.image_model.specs.Tables.{Found, counts, counted, records, damage, damages, has_of, ids, table_of, damaged_of}
 use Rattle.meta_guess.specs.Guesses.{SameBut}
-use Rattle.meta_guess.proofs.Geometries.{made, with_meta, is_with}
+use Rattle.geometry.proofs.Geometries.{made}
+use Rattle.meta_guess.proofs.Geometries.{with_meta, is_with}
 
 -- 1 for what there is
 abbrev one_if : {X : Type 0} → Option X → ℕ

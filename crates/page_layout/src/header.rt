@@ -5,6 +5,9 @@ ghost use Rattle.nor_core.specs.Flash.{SameOutside};
 use crate::words::{put_word, read_word};
 use crate::{FREE, Flags, INDEX_BIT};
 
+/// Where the bytes behind the header of a page begin, which are file bytes in a data page.
+pub const BODY_AT: u32 = 5;
+
 /// The header of a page: its first five bytes.
 #[derive(Clone, Copy, Debug, PartialEq, Eq)]
 pub struct PageHeader {

@@ -10,9 +10,8 @@ ghost use Rattle.page_put.specs.Recount.{IsUsedPage, StandsAgain};
 
 use crate::rows::{recount, sort_before};
 use flash_view::View;
-use geometry::Geometry;
 use nor_core::{Failed, Nor, NorState};
-use page_layout::Flags;
+use page_layout::{Flags, entry_place};
 
 /// Marks a header page: its file is being removed. One program, which clears IXDELE alone, so that a live header page
 /// is live no more; that bit is to be set before.
@@ -53,19 +52,6 @@ pub fn fill_tail<N: Nor>(v: &mut View<'_, N>, page: u16, at: u32, from: &[u8]) -
     recount(v, page, before?)
 }
 
-// The byte of an index page at which the entry of a data span stands: in the header page or in a further index page.
-fn slot_start(g: &Geometry, span: u16) -> u32
-    ensures place { result ≡ slot_at g.now span }
-    ensures inside { result + 2 ≤ g.now.page }
-{
-    let span = u32::from(span);
-    if span < g.head_slots() {
-        45 + g.meta() + 2 * span
-    } else {
-        8 + 2 * ((span - g.head_slots()) % g.span_slots())
-    }
-}
-
 /// Names the data page of a span in the index page that has its entry, in one program of two bytes. The data span is
 /// counted through the whole file from 0, and `target` is the number of the data page. The entry is to be 0xFFFF before,
 /// and at or past the page count of the file.
@@ -86,7 +72,7 @@ pub fn name_slot<N: Nor>(
     ensures few { N.device_writes v.new.nor.now ≤ N.device_writes v.old.nor.now + 1 }
 {
     let before = sort_before(v, page);
-    let start = slot_start(&v.geometry, span);
+    let start = entry_place(&v.geometry, u32::from(span));
     v.program_in(page, start, &target.to_le_bytes())?;
     recount(v, page, before?)
 }

@@ -1,12 +1,12 @@
 // The copy of an index page.
 ghost use Rattle.std.specs.Prelude.{◌≡◌, ℕ, ◌+◌, ◌-◌, ◌<◌, ◌≤◌, List, length, slice_index, Some};
-ghost use Rattle.page_layout.specs.Layout.{name_field, padded, slots_of, slot_place};
+ghost use Rattle.page_layout.specs.Layout.{name_field, padded, slots_of};
 ghost use Rattle.nor_core.specs.Flash.{SameOutside};
 ghost use Rattle.image_model.specs.Headers.{name_of as name_in};
 ghost use Rattle.page_renew.specs.Copies.{kept_of, IsCopy};
 
 use geometry::Geometry;
-use page_layout::{name_of, put_name};
+use page_layout::{BODY_AT, FURTHER_SLOTS_AT, name_of, put_name, slots_end};
 
 /// Makes the bytes of a part 0xFF.
 pub fn erase_part(bytes: &mut [u8], from: usize, to: usize)
@@ -43,21 +43,6 @@ pub(crate) fn kept_slots(g: &Geometry, span: u16, count: u32) -> u32
     count.saturating_sub(before).min(slots)
 }
 
-// The byte of an index page of that span behind so many page numbers.
-fn slots_end(g: &Geometry, span: u16, kept: u32) -> usize
-    requires kept { kept ≤ slots_of g.now span }
-    ensures place { result ≡ slot_place g.now span kept }
-    ensures from { 8 ≤ result }
-    ensures within { result ≤ g.now.page }
-{
-    let end = if span == 0 {
-        45 + g.meta() + 2 * kept
-    } else {
-        8 + 2 * kept
-    };
-    end as usize
-}
-
 /// Tells that a slice holds bytes.
 pub fn see_bytes(bytes: &[u8])
     ensures { (k : ℕ) → slice_index bytes.now k < 256 }
@@ -72,11 +57,11 @@ pub(crate) fn copy_index(g: &Geometry, page: &mut [u8], span: u16, kept: u32)
     ensures new_bytes { (k : ℕ) → slice_index page.new k < 256 }
 {
     see_bytes(page);
-    erase_part(page, 5, 8);
+    erase_part(page, BODY_AT as usize, FURTHER_SLOTS_AT as usize);
     if span == 0 {
         pad_name(page);
     }
-    let end = slots_end(g, span, kept);
+    let end = slots_end(g, span, kept) as usize;
     let len = g.page() as usize;
     erase_part(page, end, len);
 }

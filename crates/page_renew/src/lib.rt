@@ -15,6 +15,6 @@ pub use copying::{erase_part, see_bytes};
 pub use edits::{Edit, build_edited};
 pub use finding::{Found, find_home};
 pub use laws::edits_lead;
-pub use naming::{index_span, name_data};
+pub use naming::name_data;
 pub use renewing::{put_over, renew_at, renew_from, renew_header};
 pub use restating::restate;

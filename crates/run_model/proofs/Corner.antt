@@ -14,10 +14,9 @@ use Rattle.table_model.specs.Calls.{answer_truncate}
 use Rattle.table_model.specs.Ask.{Ask, Opens, Truncates}
 use Rattle.table_model.specs.Outcome.{Outcome, refused, page_refusal}
 use Rattle.table_model.specs.Flat.{answer}
-use Rattle.table_model.specs.Steps.{steps, done_steps, open_file, is_refusal}
+use Rattle.table_model.specs.Steps.{steps, done_steps, open_file, is_refusal, cuts_file}
 use Rattle.table_model.specs.Window.{Moment, after, settled_at, leaves_window}
 use Rattle.call_model.proofs.After.{refused-settles}
-use Rattle.run_model.specs.Runs.{cuts_file}
 
 -- Without two free blocks a call that cuts a file is Tight, or it publishes nothing.
 abbrev IsTightOrStill : Geometry → State → Ask → Type 0

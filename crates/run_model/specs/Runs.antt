@@ -4,20 +4,13 @@ use Rattle.geometry.specs.declared.geometry.Geometry.{Geometry}
 use Rattle.geometry.specs.Numbers.{ceil, entries}
 use Rattle.table_model.specs.Table.{File, State}
 use Rattle.table_model.specs.Room.{index_count, data_count}
-use Rattle.table_model.specs.Descriptors.{empties}
-use Rattle.table_model.specs.Ask.{Ask, Opens, Truncates}
+use Rattle.table_model.specs.Ask.{Ask}
 use Rattle.table_model.specs.Flat.{answer}
-use Rattle.table_model.specs.Steps.{steps, is_refusal}
+use Rattle.table_model.specs.Steps.{steps, is_refusal, cuts_file}
 use Rattle.table_model.specs.Window.{Moment, after, from_settled, IsAmong}
 use Rattle.call_script.specs.Replies.{text}
 use Rattle.image_model.specs.Tables.{table_of}
 use Rattle.image_model.specs.Collect.{chosen_block, are_had}
-
--- the calls that may take bytes of a file away: an opening that empties it, and a truncate
-abbrev pub cuts_file : Ask → Bool
-cuts_file (Opens name flags) = empties flags
-cuts_file (Truncates fd size) = true
-cuts_file _ = false
 
 -- A table has room for an index page where its pages and one such page more, each kind in blocks of its own, leave two blocks free.
 unfoldable pub has_index_room : Geometry → List File → Bool

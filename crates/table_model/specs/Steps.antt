@@ -4,7 +4,7 @@ use Rattle.std.specs.List.{range_with_len}
 use Rattle.geometry.specs.declared.geometry.Geometry.{Geometry}
 use Rattle.geometry.specs.Numbers.{body}
 use Rattle.table_model.specs.Table.{File, Open, State, file_named, file_of, put_file}
-use Rattle.table_model.specs.Descriptors.{open_at}
+use Rattle.table_model.specs.Descriptors.{open_at, empties}
 use Rattle.table_model.specs.Files.{write_place, written}
 use Rattle.table_model.specs.Opening.{open_changes}
 use Rattle.table_model.specs.Ask.{Ask, Creates, Opens, Writes, Fills, Truncates, Removes, RemovesOpen, Renames, SetsMeta, SetsMetaOpen}
@@ -74,3 +74,9 @@ steps_of g s ask outcome = if is_refusal outcome.answer then [] else done_steps 
 -- the published steps of a call
 unfoldable pub steps : Geometry → Bool → State → Ask → List (List File)
 steps g spare s ask = steps_of g s ask (answer g spare s ask)
+
+-- the calls that may take bytes of a file away: an opening that empties it, and a truncate
+abbrev pub cuts_file : Ask → Bool
+cuts_file (Opens name flags) = empties flags
+cuts_file (Truncates fd size) = true
+cuts_file _ = false

@@ -12,12 +12,12 @@ use Rattle.table_model.specs.declared.reply.Reply.TheVariants.{Bytes}
 use Rattle.table_model.specs.Table.{File, State}
 use Rattle.table_model.specs.Room.{has_room}
 use Rattle.table_model.specs.Outcome.{Outcome, refused}
-use Rattle.table_model.specs.Ask.{Ask, Opens, Reads, Fills, Truncates, Collects}
+use Rattle.table_model.specs.Ask.{Ask, Reads, Fills, Collects}
 use Rattle.table_model.specs.Reply.{Answer, Gives, Refuses, answered}
 use Rattle.table_model.specs.Window.{Moment, settled_at, from_settled, IsAmong}
 use Rattle.call_script.specs.Lines.{Asks, IsCounted}
 use Rattle.call_script.specs.Pieces.{IsShort}
-use Rattle.table_model.specs.Steps.{is_refusal, steps}
+use Rattle.table_model.specs.Steps.{is_refusal, steps, cuts_file}
 use Rattle.table_model.specs.Flat.{answer}
 use Rattle.image_model.specs.Places.{IsImage}
 use Rattle.image_model.specs.Tables.{table_of}
@@ -26,7 +26,7 @@ use Rattle.image_model.specs.Collect.{are_had}
 use Rattle.call_model.specs.Memory.{Memory}
 use Rattle.call_model.specs.Calls.{Stands, Answers}
 use Rattle.call_model.proofs.After.{settled-among}
-use Rattle.run_model.specs.Runs.{cuts_file as takes_bytes, IsCorner as IsRunCorner, LacksPage, has_index_room}
+use Rattle.run_model.specs.Runs.{IsCorner as IsRunCorner, LacksPage, has_index_room}
 use Rattle.run_model.specs.Ran.{RunStands, RunPublishes, IsTold}
 use Rattle.run_model.proofs.Runs.{among_settled}
 use Rattle.run_model.proofs.Corner.{tight_or_still, tight_after}
@@ -39,7 +39,7 @@ use Rattle.volume.specs.Stages.{takes_calls}
 use Rattle.file_calls.specs.declared.told.Told.{Told}
 use Rattle.file_calls.specs.Replies.{shown_by, HasRoomFor}
 use Rattle.volume.specs.Replies.{breaks}
-use Rattle.file_calls.specs.Goes.{cuts_file, IsCorner, StopsShort}
+use Rattle.file_calls.specs.Goes.{IsCorner, StopsShort}
 use Rattle.volume.specs.Calls.{Calls, StaysTight}
 use Rattle.tool_core.specs.declared.ending.Ending.TheVariants.{BoardFault, Differ as EndsDiffer}
 use Rattle.tool_core.specs.Runs.{Ran, StandsNow}
@@ -86,19 +86,13 @@ corner_cases g image s ask reserve = ⊎_elim
     (λ (whole : cuts_file ask ≡ false). inr (λ corner. let no : false ≡ true = sym whole ∙ corner.cuts in cc))
     (cases_Bool (cuts_file ask))
 
--- the calls that take bytes away, by either name
-same_cuts : (ask : Ask) → cuts_file ask ≡ true → takes_bytes ask ≡ true
-same_cuts (Opens name flags) cuts = cuts
-same_cuts (Truncates fd size) cuts = cuts
-same_cuts _ cuts = absurd (let no : false ≡ true = cuts in cc)
-
 -- in the corner of a volume the flat table does the call with two free blocks
 corner_done : (g : Geometry) (image : List ℕ) (s : State) (ask : Ask) → IsCorner g image s ask → is_refusal (answer g true s ask).answer ≡ false
 corner_done g image s ask corner = subst (λ (b : Bool). is_refusal (answer g b s ask).answer ≡ false) (spared g image corner.reserve) corner.done
 
 -- a call in it isn't for garbage collection, so it publishes its table
-publishes_in : {P : Type 0} (ask : Ask) → takes_bytes ask ≡ true → (ask ≡ Collects) ⊎ P → P
-publishes_in ask cuts publishes = ⊎_elim (λ collects. absurd (let no : true ≡ false = sym cuts ∙ ap takes_bytes collects in cc)) (λ among. among) publishes
+publishes_in : {P : Type 0} (ask : Ask) → cuts_file ask ≡ true → (ask ≡ Collects) ⊎ P → P
+publishes_in ask cuts publishes = ⊎_elim (λ collects. absurd (let no : true ≡ false = sym cuts ∙ ap cuts_file collects in cc)) (λ among. among) publishes
 
 -- one that publishes nothing has no such table
 still_whole : (g : Geometry) (s : State) (ask : Ask) → steps g true s ask ≡ [] → IsAmong (answer g true s ask).next.table (steps g true s ask) → ⊥
@@ -165,7 +159,7 @@ module _ {N : Type 0} {nor : NorOf N} where
       let here : Stands nor g new.nor.now (memory new) (settled_at m.state) = stands_by calls.same.geometry stays.stands in
       let whole : IsImage g image = subst (λ (k : Geometry). IsImage k image) calls.same.geometry (record { len = omega (arith, sized new.nor.now here.tells, new.fits) }) in
       record {
-        cuts = same_cuts ask corner.cuts;
+        cuts = corner.cuts;
         full = ap (has_index_room g) (sym (here.image.table ∙ settled_table m.state)) ∙ lacks_room g image whole here.image.tidy stays.reserve (lacks_page stays);
         done = corner_done g (nor.bytes old.nor.now) m.state ask corner;
       }
@@ -195,12 +189,10 @@ module _ {N : Type 0} {nor : NorOf N} where
       let plainly = told_plainly m takes calls fault stands in
       ⊎_elim
       (λ tight. ⊎_elim
-      (λ corner.
-      let cuts : takes_bytes ask ≡ true = same_cuts ask corner.cuts in
-      ⊎_elim
-      (λ still. plainly (λ short. still_whole g m.state ask still (subst (λ (b : Bool). IsAmong (answer g b m.state ask).next.table (steps g b m.state ask)) (spared g (nor.bytes old.nor.now) stands.reserve) (publishes_in ask cuts short.doable.publishes))))
+      (λ corner. ⊎_elim
+      (λ still. plainly (λ short. still_whole g m.state ask still (subst (λ (b : Bool). IsAmong (answer g b m.state ask).next.table (steps g b m.state ask)) (spared g (nor.bytes old.nor.now) stands.reserve) (publishes_in ask corner.cuts short.doable.publishes))))
       (λ is. told_tight m sized takes calls stands corner tight is)
-      (tight_or_still g m.state ask cuts (corner_done g (nor.bytes old.nor.now) m.state ask corner)))
+      (tight_or_still g m.state ask corner.cuts (corner_done g (nor.bytes old.nor.now) m.state ask corner)))
       (λ none. plainly (not_short m takes calls stands.stands stands.reserve none))
       (corner_cases g (nor.bytes old.nor.now) m.state ask stands.reserve))
       (λ loose. plainly (λ short. loose short.tight))

@@ -11,9 +11,12 @@ ghost use Rattle.vol_check.specs.Culls.{IsSettled};
 ghost use Rattle.vol_check.specs.Needed.{AddsMarks, IsNamed, OfHead, OfFurther, OfFirst, OfFile, OfHeaded, HasFurthers, MarksWanted};
 ghost use Rattle.vol_check.specs.Noted.{IsIndexPage};
 
-use flash_view::{FURTHER_SLOTS_AT, View, head_slots_at};
+use flash_view::View;
 use nor_core::{Failed, Nor, NorState};
-use page_layout::{FREE, INDEX_BIT, PageHeader, data_pages, file_size, further_pages, read_word};
+use page_layout::{
+    FREE, FURTHER_SLOTS_AT, INDEX_BIT, PageHeader, data_pages, file_size, further_pages, head_slots_at,
+    read_word,
+};
 
 // The mark of a page that a file needs.
 const NEEDED: u8 = 1;

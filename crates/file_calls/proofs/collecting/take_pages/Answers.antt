@@ -2,7 +2,7 @@ use Rattle.std.proofs.Common.{◌∙◌, ap, Err}
 use Rattle.nor_core.proofs.Cuts.{wider}
 use Rattle.block_gc.specs.declared.room.RoomErr.{RoomErr}
 use Rattle.block_gc.specs.declared.room.RoomErr.TheVariants.{Step}
-use Rattle.file_calls.specs.Replies.{as_fs_err}
+use Rattle.flash_view.specs.Steps.{as_fs_err}
 use Rattle.file_calls.proofs.Going.{err_same, step_stops, fault_is}
 use Rattle.file_calls.proofs.GcCalls.{view_can, room_cuts, step_fault}
 use Rattle.file_calls.proofs.collecting.take_pages.Goals as goal

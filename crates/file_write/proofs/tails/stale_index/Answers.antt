@@ -11,7 +11,7 @@ returns-then-word-clause-told g c = λ tells.
     let there = sym c.in-Some.is ∙ c.in_ok-index.ensures.told tells in
     let word = c.in_ok-word.ensures.told (looks.reads.told tells) in
     elim c.then-word.branch [
-      | then-word-via-then-word w ↦ free_behind k image c.args.id c.args.size _ c.in-Some.index (rw (c.data_pages-count.ensures.pages, c.head_slots-2.ensures, c.span_slots.ensures) refl) there c.in_ok-word.word
-          (rw (c.data_pages-count.ensures.pages, c.head_slots-2.ensures, c.span_slots-2.ensures) at (rw looks.same.geometry at (rw looks.reads.bytes at word))) (search rules)
-      | then-word-via-else-word+then-not-is_entry_page w ↦ not_inside k image c.args.id c.args.size _ c.in-Some.index (rw (c.data_pages-count.ensures.pages, c.head_slots-2.ensures, c.span_slots.ensures) refl) there (search rules)
+      | then-word-via-then-word w ↦ free_behind k image c.args.id c.args.size _ c.in-Some.index (rw (c.wide_index_span.ensures, c.data_pages-count.ensures.pages) refl) there c.in_ok-word.word
+          (rw (c.entry_place.ensures.place, c.data_pages-count.ensures.pages) at (rw looks.same.geometry at (rw looks.reads.bytes at word))) (search rules)
+      | then-word-via-else-word+then-not-is_entry_page w ↦ not_inside k image c.args.id c.args.size _ c.in-Some.index (rw (c.wide_index_span.ensures, c.data_pages-count.ensures.pages) refl) there (search rules)
     ]
