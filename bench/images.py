@@ -1,5 +1,7 @@
 """Images of volumes, made by hand: with pages of 256 bytes and blocks of 4,096, if nothing else is said."""
 
+import random
+
 PAGE, BLOCK = 256, 4096
 PER_BLOCK = BLOCK // PAGE
 LOOKUPS = 1
@@ -56,10 +58,18 @@ def blocks_for(files, each):
     return -(-files * index_pages(each) // ENTRIES), -(-files * each // ENTRIES)
 
 
-def filled(blocks, files, each, index_at="spread"):
+def shuffled(numbers):
+    """The numbers in an order that is the same each time."""
+    numbers = list(numbers)
+    random.Random(len(numbers)).shuffle(numbers)
+    return numbers
+
+
+def filled(blocks, files, each, index_at="spread", ids_in_order=True):
     """The image of a volume of so many files of so many data pages, named file1, file2 and so on, and the lines of its
-    listing. The blocks of index pages lie spread among those of data pages, as on a volume that has been written for long,
-    or "first", before these, or "last", behind them; the blocks behind all are free, two at least."""
+    listing. Bytes behind the end of a file are 0xFF. The blocks of index pages lie spread among those of data pages, as on a
+    volume that has been written for long, or "first", before these, or "last", behind them; the blocks behind all are free, two
+    at least. The pages of the files lie in the order of their ids, or in that of `shuffled`."""
     image = Image(blocks)
     count, rest = blocks_for(files, each)
     used = count + rest
@@ -68,13 +78,14 @@ def filled(blocks, files, each, index_at="spread"):
     index_blocks = places[index_at]
     index = pages_of(index_blocks)
     data = pages_of(sorted(set(range(used)) - set(index_blocks)))
-    lines = []
-    for ident in range(1, files + 1):
+    lines = {}
+    ids = range(1, files + 1)
+    for ident in ids if ids_in_order else shuffled(ids):
         size = max(0, each * BODY - ident % 7)
         slots = []
         for span in range(each):
             page = next(data)
-            image.put(page, ident, word(ident) + word(span) + b"\xfc" + bytes([ident % 256]) * BODY)
+            image.put(page, ident, word(ident) + word(span) + b"\xfc" + bytes([ident % 256]) * min(BODY, size - span * BODY))
             slots.append(page)
         name = b"file%d" % ident
         for span in range(index_pages(each)):
@@ -84,5 +95,5 @@ def filled(blocks, files, each, index_at="spread"):
             else:
                 first = HEAD_SLOTS + (span - 1) * SPAN_SLOTS
                 image.put(page, 0x8000 | ident, further(ident, span, slots[first : first + SPAN_SLOTS]))
-        lines.append(b"%d 1 %d %s\n" % (ident, size, name))
-    return bytes(image.bytes), b"".join(lines)
+        lines[ident] = b"%d 1 %d %s\n" % (ident, size, name)
+    return bytes(image.bytes), b"".join(lines[ident] for ident in ids)

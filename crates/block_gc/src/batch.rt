@@ -22,7 +22,7 @@ use free_search::free_page;
 use nor_core::{Failed, Nor, NorState};
 use page_layout::{PageHeader, index_span};
 use page_put::{kill, put_page};
-use page_renew::{build_copy, build_data, name_page, put_over};
+use page_renew::{build_copy, build_data, name_page, put_over, seek_index};
 use table_model::Tag;
 
 // The data pages of a block that one index page names: that page, the id of its file, and its span.
@@ -61,7 +61,7 @@ fn index_of<N: Nor>(v: &mut View<'_, N>, page: u16) -> Result<Option<(u16, Tag)>
 {
     let head = v.header(page)?;
     let span = index_span(&v.geometry, head.span);
-    let Some(index) = v.find_index(head.object(), span)? else {
+    let Some(index) = seek_index(v, head.object(), u32::from(span))? else {
         return Ok(None);
     };
     let id = file_id(v.header(index)?);

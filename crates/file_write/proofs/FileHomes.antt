@@ -19,6 +19,7 @@ use Rattle.image_model.specs.Tidy.{IsTidy}
 use Rattle.image_laws.proofs.Finish.{own-parts}
 use Rattle.image_laws.proofs.Frames.{live_parts}
 use Rattle.image_laws.proofs.Tally.{tidy-counts}
+use Rattle.image_laws.proofs.TidySteps.{tidy-is_tidy}
 use Rattle.free_search.proofs.FreePages.{few_pass}
 use Rattle.header_laws.proofs.Telling.{files-have_heads}
 use Rattle.renew_laws.specs.Primed.{Primed}
@@ -26,6 +27,10 @@ use Rattle.renew_laws.proofs.PrimeBeside.{prime-starts}
 use Rattle.page_renew.specs.declared.finding.Found.{Found}
 use Rattle.page_renew.specs.Renewals.{IsHome}
 use Rattle.file_write.specs.Relinkings.{IsFileAt}
+
+-- a file that stands with nothing beside it does so in a tidy image
+pub primed_tidy : (g : Geometry) (a : List ℕ) (id h : ℕ) (head : List ℕ) (f : File) → Primed g id h head f (λ r. false) a a → IsTidy g a
+primed_tidy g a id h head f prime = (tidy-is_tidy g a (λ (r : ℕ). false)).1 (λ r e. absurd (cc)) prime.tidy
 
 -- a file of a table has no more data pages than all of them
 one_of : (w : File → ℕ) (id : ℕ) (files : List File) (f : File) → find (λ (x : File). x.id == id) files ≡ Some f → w f ≤ sum_by w files

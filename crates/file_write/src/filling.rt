@@ -2,6 +2,7 @@
 ghost use Rattle.std.specs.Prelude.{◌≡◌, ◌+◌, ◌%◌, ◌<◌, ◌≤◌, OnErr, IfOk, IfSome, length};
 ghost use Rattle.geometry.specs.Numbers.{body, page_count};
 ghost use Rattle.nor_core.specs.Count.{Rose};
+ghost use Rattle.image_model.specs.Tidy.{IsTidy};
 ghost use Rattle.flash_view.specs.Places.{IsEntryPage};
 ghost use Rattle.flash_view.specs.Same.{OnlyLooks};
 ghost use Rattle.flash_view.specs.Steps.{Stepped, stopped};
@@ -9,26 +10,27 @@ ghost use Rattle.table_model.specs.Table.{File};
 ghost use Rattle.file_write.specs.Appends.{IsLast, filling_at, appending_at};
 
 use crate::create::missing;
+use crate::seeking::seek_data;
 use flash_view::{StepErr, View};
 use nor_core::{Failed, Nor, NorState};
 use page_layout::BODY_AT;
 use page_put::fill_tail;
 use page_renew::{Edit, Found, renew_from};
 
-// The last data page of a file of that size, which ends inside it.
+// The last data page of a file of that size of a tidy image, which ends inside it.
 #[tactic(auto, using(flash_view::proofs::Looking::looks_then))]
 fn last_page<N: Nor>(v: &mut View<'_, N>, id: u16, size: u32) -> Result<Option<u16>, Failed>
     ensures cause { OnErr result (Rose (N.faults v.old.nor.now) (N.faults v.new.nor.now)) }
     ensures looks { OnlyLooks v.old v.new }
     ensures inside { IfOk result (λ found. IfSome found (λ page. page < page_count v.old.geometry)) }
-    ensures told { N.tells v.old.nor.now → IfOk result (λ found. IsLast v.old.geometry (N.bytes v.old.nor.now) id size found) }
+    ensures told { N.tells v.old.nor.now → IsTidy v.old.geometry (N.bytes v.old.nor.now) → IfOk result (λ found. IsLast v.old.geometry (N.bytes v.old.nor.now) id size found) }
 {
     let g = v.geometry;
     let span = size / g.body();
     if span > 0xFFFF {
         return Ok(None);
     }
-    match v.find_data(id, span as u16)? {
+    match seek_data(v, id, span as u16)? {
         Some(page) if u32::from(page) < g.pages() => Ok(Some(page)),
         _ => Ok(None),
     }

@@ -1,6 +1,7 @@
 // Bytes that begin a data page whose entry a further index page has.
 ghost use Rattle.std.specs.Prelude.{◌≡◌, ◌+◌, ◌-◌, ◌/◌, ◌%◌, ◌<◌, ◌≤◌, OnErr, IfOk, IfSome, length};
 ghost use Rattle.geometry.specs.Numbers.{body, head_slots, span_slots, page_count};
+ghost use Rattle.image_model.specs.Tidy.{IsTidy};
 ghost use Rattle.nor_core.specs.Count.{Rose};
 ghost use Rattle.flash_view.specs.Places.{IsEntryPage};
 ghost use Rattle.flash_view.specs.Same.{OnlyLooks};
@@ -13,9 +14,9 @@ use flash_view::{StepErr, View};
 use nor_core::{Failed, Nor, NorState};
 use page_layout::{entry_place, index_span};
 use page_put::name_slot;
-use page_renew::{Edit, Found, renew_from};
+use page_renew::{Edit, Found, renew_from, seek_index};
 
-// The further index page with the entry of a data span, whose two bytes it reads.
+// The further index page with the entry of a data span in a tidy image, whose two bytes it reads.
 #[tactic(auto, using(flash_view::proofs::Looking::looks_then))]
 pub(crate) fn find_slot<N: Nor>(
     v: &mut View<'_, N>,
@@ -26,10 +27,10 @@ pub(crate) fn find_slot<N: Nor>(
     ensures cause { OnErr result (Rose (N.faults v.old.nor.now) (N.faults v.new.nor.now)) }
     ensures looks { OnlyLooks v.old v.new }
     ensures inside { IfOk result (λ found. IfSome found (λ page. page < page_count v.old.geometry)) }
-    ensures told { N.tells v.old.nor.now → IfOk result (λ found. IsSlot v.old.geometry (N.bytes v.old.nor.now) id span found) }
+    ensures told { N.tells v.old.nor.now → IsTidy v.old.geometry (N.bytes v.old.nor.now) → IfOk result (λ found. IsSlot v.old.geometry (N.bytes v.old.nor.now) id span found) }
 {
     let g = v.geometry;
-    let Some(page) = v.find_index(id, index_span(&g, span))? else {
+    let Some(page) = seek_index(v, id, u32::from(index_span(&g, span)))? else {
         return Ok(None);
     };
     let mut bytes = [0u8; 2];

@@ -10,6 +10,7 @@ mod further;
 mod overwriting;
 mod readying;
 mod relinking;
+mod seeking;
 mod tails;
 
 pub use append::append_step;

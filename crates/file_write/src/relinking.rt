@@ -3,6 +3,7 @@ ghost use Rattle.std.specs.Prelude.{◌≡◌, ◌+◌, ◌<◌, ◌≤◌, OnEr
 ghost use Rattle.geometry.specs.Numbers.{body, page_count};
 ghost use Rattle.nor_core.specs.Count.{Rose};
 ghost use Rattle.nor_core.specs.Flash.{SameOutside};
+ghost use Rattle.image_model.specs.Tidy.{IsTidy};
 ghost use Rattle.table_model.specs.Table.{File};
 ghost use Rattle.flash_view.specs.Places.{IsEntryPage};
 ghost use Rattle.flash_view.specs.Same.{OnlyLooks};
@@ -11,13 +12,14 @@ ghost use Rattle.file_write.specs.Patches.{IsPatchedPage, IsPatchedCopy, IsSpotO
 ghost use Rattle.file_write.specs.Relinkings.{copying_to, copying, renaming_to, renaming, dropping, ending, replacing_at, replacing};
 
 use crate::create::missing;
+use crate::seeking::seek_data;
 use flash_view::{Kind, StepErr, View, is_entry_page};
 use free_search::free_page;
 use geometry::Geometry;
 use nor_core::{Failed, Nor, NorState};
 use page_layout::{BODY_AT, index_span};
 use page_put::{kill, put_page};
-use page_renew::{build_data, build_renamed, erase_part, put_over, see_bytes};
+use page_renew::{build_data, build_renamed, erase_part, put_over, see_bytes, seek_index};
 use table_model::Tag;
 
 // What is to change in a data page of a file: its span, the place of the bytes that are written, and how many of the page's
@@ -56,18 +58,18 @@ fn spot_of(g: &Geometry, number: Option<u16>, index: Option<u16>) -> Option<Spot
     Some(Spot { page, index })
 }
 
-// The data page of a span of a file and the index page that names it, where both are entry pages.
+// The data page of a span of a file of a tidy image and the index page that names it, where both are entry pages.
 #[tactic(auto, using(flash_view::proofs::Looking::looks_then))]
 fn find_spot<N: Nor>(v: &mut View<'_, N>, id: u16, span: u16) -> Result<Option<Spot>, Failed>
     ensures cause { OnErr result (Rose (N.faults v.old.nor.now) (N.faults v.new.nor.now)) }
     ensures looks { OnlyLooks v.old v.new }
     ensures page { IfOk result (λ found. IfSome found (λ spot. IsEntryPage v.old.geometry spot.page)) }
     ensures index { IfOk result (λ found. IfSome found (λ spot. IsEntryPage v.old.geometry spot.index)) }
-    ensures told { N.tells v.old.nor.now → IfOk result (λ found. IsSpot v.old.geometry (N.bytes v.old.nor.now) id span found) }
+    ensures told { N.tells v.old.nor.now → IsTidy v.old.geometry (N.bytes v.old.nor.now) → IfOk result (λ found. IsSpot v.old.geometry (N.bytes v.old.nor.now) id span found) }
 {
     let g = v.geometry;
-    let number = v.find_data(id, span)?;
-    let index = v.find_index(id, index_span(&g, span))?;
+    let number = seek_data(v, id, span)?;
+    let index = seek_index(v, id, u32::from(index_span(&g, span)))?;
     Ok(spot_of(&g, number, index))
 }
 

@@ -12,10 +12,11 @@ ghost use Rattle.flash_view.specs.Places.{IsEntryPage};
 ghost use Rattle.flash_view.specs.Same.{OnlyLooks};
 ghost use Rattle.file_write.specs.Readyings.{HasOnes, HasOther, IsStale, IsTaken};
 
+use crate::seeking::seek_data;
 use flash_view::{View, is_entry_page};
 use nor_core::{Failed, Nor, NorState};
 use page_layout::{BODY_AT, data_pages, entry_place, wide_index_span};
-use page_renew::{Found, find_home};
+use page_renew::{Found, find_home, seek_index};
 
 // Whether all these bytes are 0xFF.
 fn are_ones(bytes: &[u8]) -> bool
@@ -37,7 +38,7 @@ fn ends_in_ones<N: Nor>(v: &mut View<'_, N>, page: u16, from: u32) -> Result<boo
     Ok(are_ones(&v.fetched()[from as usize..]))
 }
 
-// Whether the bytes of the last data page of a file of that size past the size are 0xFF.
+// Whether the bytes of the last data page of a file of that size past the size are 0xFF, in a tidy image.
 #[tactic(auto, using(flash_view::proofs::Looking::looks_then))]
 pub(crate) fn has_clean_bytes<N: Nor>(
     v: &mut View<'_, N>,
@@ -47,8 +48,8 @@ pub(crate) fn has_clean_bytes<N: Nor>(
     ensures cause { OnErr result (Rose (N.faults v.old.nor.now) (N.faults v.new.nor.now)) }
     ensures looks { OnlyLooks v.old v.new }
     ensures part { IfOk result (λ clean. OnFalse clean (0 < size % body v.old.geometry)) }
-    ensures told { N.tells v.old.nor.now → IfOk result (λ clean. OnTrue clean (HasOnes v.old.geometry (N.bytes v.old.nor.now) id size)) }
-    ensures other { N.tells v.old.nor.now → IfOk result (λ clean. OnFalse clean (HasOther v.old.geometry (N.bytes v.old.nor.now) id size)) }
+    ensures told { N.tells v.old.nor.now → IsTidy v.old.geometry (N.bytes v.old.nor.now) → IfOk result (λ clean. OnTrue clean (HasOnes v.old.geometry (N.bytes v.old.nor.now) id size)) }
+    ensures other { N.tells v.old.nor.now → IsTidy v.old.geometry (N.bytes v.old.nor.now) → IfOk result (λ clean. OnFalse clean (HasOther v.old.geometry (N.bytes v.old.nor.now) id size)) }
 {
     let g = v.geometry;
     let used = size % g.body();
@@ -59,7 +60,7 @@ pub(crate) fn has_clean_bytes<N: Nor>(
     if span > 0xFFFF {
         return Ok(false);
     }
-    let Some(page) = v.find_data(id, span as u16)? else {
+    let Some(page) = seek_data(v, id, span as u16)? else {
         return Ok(false);
     };
     if u32::from(page) >= g.pages() {
@@ -68,7 +69,8 @@ pub(crate) fn has_clean_bytes<N: Nor>(
     ends_in_ones(v, page, BODY_AT + used)
 }
 
-// The further index page with the entry of the span behind the last of a file of that size, where that entry isn't 0xFFFF.
+// The further index page with the entry of the span behind the last of a file of that size, where that entry isn't 0xFFFF, in a
+// tidy image.
 #[tactic(auto, using(flash_view::proofs::Looking::looks_then))]
 pub(crate) fn stale_index<N: Nor>(
     v: &mut View<'_, N>,
@@ -78,7 +80,7 @@ pub(crate) fn stale_index<N: Nor>(
     ensures cause { OnErr result (Rose (N.faults v.old.nor.now) (N.faults v.new.nor.now)) }
     ensures looks { OnlyLooks v.old v.new }
     ensures entry { IfOk result (λ found. IfSome found (λ p. IsEntryPage v.old.geometry p)) }
-    ensures told { N.tells v.old.nor.now → IfOk result (λ found. IsStale v.old.geometry (N.bytes v.old.nor.now) id size found) }
+    ensures told { N.tells v.old.nor.now → IsTidy v.old.geometry (N.bytes v.old.nor.now) → IfOk result (λ found. IsStale v.old.geometry (N.bytes v.old.nor.now) id size found) }
     ensures taken { N.tells v.old.nor.now → IfOk result (λ found. IfSome found (IsTaken v.old.geometry (N.bytes v.old.nor.now) size)) }
 {
     let g = v.geometry;
@@ -86,7 +88,7 @@ pub(crate) fn stale_index<N: Nor>(
     if count < g.head_slots() {
         return Ok(None);
     }
-    let Some(index) = v.find_span(id, wide_index_span(&g, count))? else {
+    let Some(index) = seek_index(v, id, wide_index_span(&g, count))? else {
         return Ok(None);
     };
     let word = v.word_in(index, entry_place(&g, count))?;

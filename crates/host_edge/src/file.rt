@@ -46,6 +46,18 @@ fn read_whole(file: &File, at: u64, into: &mut [u8]) -> io::Result<()> {
     Ok(())
 }
 
+// Appends 0xFF to the file from its end on until it reaches a place. Answers how long the file is then.
+fn append_blank(file: &File, end: u64, at: u64) -> io::Result<u64> {
+    let blank = [0xFFu8; WINDOW];
+    let mut end = end;
+    while end < at {
+        let piece = (at - end).min(WINDOW as u64);
+        file.write_all_at(&blank[..piece as usize], end)?;
+        end += piece;
+    }
+    Ok(end)
+}
+
 impl Window {
     /// Nothing is kept yet.
     pub(crate) fn new() -> Window {
@@ -83,17 +95,15 @@ impl Window {
     // Appends 0xFF to the file until it reaches a place: bytes past its end count as erased, and those that a write leaves
     // out would otherwise read as zeros. Answers how long the file is then.
     fn pad_to(&mut self, file: &File, at: u64) -> io::Result<u64> {
-        let blank = [0xFFu8; WINDOW];
-        let mut end = match self.end.take() {
+        let end = match self.end.take() {
             Some(end) => end,
             None => file.metadata()?.len(),
         };
-        while end < at {
-            let piece = (at - end).min(WINDOW as u64);
-            file.write_all_at(&blank[..piece as usize], end)?;
-            end += piece;
+        if end < at {
+            append_blank(file, end, at)
+        } else {
+            Ok(end)
         }
-        Ok(end)
     }
 
     // Writes bytes at a place of the file.

@@ -1,8 +1,10 @@
-// Where the header page of a file is.
+// Where the header page of a file is, and where its other index pages are.
 ghost use Rattle.std.specs.Prelude.{◌≡◌, ◌≢◌, ◌%◌, ◌<◌, ◌≤◌, OnErr, IfOk, IfSome, true};
 ghost use Rattle.std.specs.Bool.{OnTrue};
 ghost use Rattle.geometry.specs.Numbers.{page_count};
 ghost use Rattle.nor_core.specs.Count.{Rose};
+ghost use Rattle.image_model.specs.Files.{index_page};
+ghost use Rattle.image_model.specs.Live.{live_at, own};
 ghost use Rattle.image_model.specs.Places.{is_entry_page as the_entry_page};
 ghost use Rattle.image_model.specs.Tidy.{IsTidy};
 ghost use Rattle.flash_view.specs.Places.{IsEntryPage};
@@ -54,4 +56,31 @@ pub fn find_home<N: Nor>(v: &mut View<'_, N>, id: u16) -> Result<Option<Found>, 
     }
     let size = size_at(v, header)?;
     Ok(Some(Found { header, size }))
+}
+
+// The number under which the page of an index page behind the header page is noted, as that of a header page is under its id.
+// (Others may share it.)
+fn noted_as(id: u16, span: u32) -> u16 {
+    id.wrapping_add((span % 0x1_0000) as u16).wrapping_mul(31)
+}
+
+/// The index page of an id and a span, in a tidy image as `find_span` gives it; span 0 is the header page. It is looked for
+/// from the page on that was noted for it, then below that page, and it is noted.
+#[tactic(auto, using(flash_view::proofs::Looking::looks_then))]
+pub fn seek_index<N: Nor>(v: &mut View<'_, N>, id: u16, span: u32) -> Result<Option<u16>, Failed>
+    ensures cause { OnErr result (Rose (N.faults v.old.nor.now) (N.faults v.new.nor.now)) }
+    ensures looks { OnlyLooks v.old v.new }
+    ensures inside { IfOk result (λ page. IfSome page (λ p. p < page_count v.old.geometry)) }
+    ensures told { N.tells v.old.nor.now → IsTidy v.old.geometry (N.bytes v.old.nor.now) → IfOk result (λ page. page ≡ index_page v.old.geometry (own (live_at v.old.geometry (N.bytes v.old.nor.now)) id) span) }
+{
+    if span == 0 {
+        return v.seek_header(id);
+    }
+    let place = noted_as(id, span);
+    let near = v.hint(place);
+    let Some(page) = v.find_near(id, span, near)? else {
+        return Ok(None);
+    };
+    v.note_hint(place, page);
+    Ok(Some(page))
 }

@@ -13,7 +13,7 @@ mod restating;
 pub use building::{build_copy, build_data, build_renamed, name_page};
 pub use copying::{erase_part, see_bytes};
 pub use edits::{Edit, build_edited};
-pub use finding::{Found, find_home};
+pub use finding::{Found, find_home, seek_index};
 pub use laws::edits_lead;
 pub use naming::name_data;
 pub use renewing::{put_over, renew_at, renew_from, renew_header};

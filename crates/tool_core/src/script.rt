@@ -34,8 +34,10 @@ fn answer<B: Board>(
     line: &[u8],
     number: u32,
     scratch: &mut [u8],
+    lent: &mut [u8],
 ) -> Option<Ending>
     requires room { 4096 ≤ length scratch.old }
+    requires lent { 4096 ≤ length lent.old }
     requires stands { takes_calls volume.old ≡ true }
     ensures later { IsLaterIf result }
     ensures ran { Ran B.NorState volume.old.nor.now volume.new.nor.now result (takes_calls volume.new) }
@@ -50,9 +52,8 @@ fn answer<B: Board>(
     let Some(call) = parsed else {
         return None;
     };
-    let mut lent = [0u8; BYTES];
-    match apply(volume, &call, &mut lent) {
-        Ok(told) => say_reply(volume, &told.reply(&lent), scratch),
+    match apply(volume, &call, lent) {
+        Ok(told) => say_reply(volume, &told.reply(lent), scratch),
         Err(ending) => Some(ending),
     }
 }
@@ -100,8 +101,14 @@ fn gives_more<S: Source>(script: &mut S) -> Result<bool, Failed>
 
 // Does the bytes that were taken as the last line, and ends the run.
 #[tactic(auto, using(volume::proofs::Staying::same_then))]
-fn last_line<B: Board>(volume: &mut Volume<'_, B>, lines: &Lines<'_>, scratch: &mut [u8]) -> Ending
+fn last_line<B: Board>(
+    volume: &mut Volume<'_, B>,
+    lines: &Lines<'_>,
+    scratch: &mut [u8],
+    lent: &mut [u8],
+) -> Ending
     requires room { 4096 ≤ length scratch.old }
+    requires lent { 4096 ≤ length lent.old }
     requires stands { takes_calls volume.old ≡ true }
     requires no_break { NoBreak (slice_range lines.now.buf.now lines.now.start lines.now.end) }
     ensures later { IsLater result }
@@ -118,7 +125,7 @@ fn last_line<B: Board>(volume: &mut Volume<'_, B>, lines: &Lines<'_>, scratch: &
         return Ending::Done;
     }
     let number = lines.handed.saturating_add(1);
-    match answer(volume, line, number, scratch) {
+    match answer(volume, line, number, scratch, lent) {
         None => Ending::Done,
         Some(ending) => ending,
     }
@@ -131,8 +138,10 @@ fn take_more<B: Board, S: Source>(
     lines: &mut Lines<'_>,
     script: &mut S,
     scratch: &mut [u8],
+    lent: &mut [u8],
 ) -> Option<Ending>
     requires room { 4096 ≤ length scratch.old }
+    requires lent { 4096 ≤ length lent.old }
     requires stands { takes_calls volume.old ≡ true }
     requires no_break { NoBreak (slice_range lines.old.buf.now lines.old.start lines.old.end) }
     ensures later { IsLaterIf result }
@@ -155,12 +164,12 @@ fn take_more<B: Board, S: Source>(
         return Some(match gives_more(script) {
             Err(Failed) => Ending::SourceFault,
             Ok(true) => Ending::TooLong,
-            Ok(false) => last_line(volume, lines, scratch),
+            Ok(false) => last_line(volume, lines, scratch, lent),
         });
     }
     match lines.fill(script) {
         Err(Failed) => Some(Ending::SourceFault),
-        Ok(0) => Some(last_line(volume, lines, scratch)),
+        Ok(0) => Some(last_line(volume, lines, scratch, lent)),
         Ok(_) => None,
     }
 }
@@ -172,8 +181,10 @@ fn turn<B: Board, S: Source>(
     lines: &mut Lines<'_>,
     script: &mut S,
     scratch: &mut [u8],
+    lent: &mut [u8],
 ) -> Option<Ending>
     requires room { 4096 ≤ length scratch.old }
+    requires lent { 4096 ≤ length lent.old }
     requires stands { takes_calls volume.old ≡ true }
     ensures later { IsLaterIf result }
     ensures ran { Ran B.NorState volume.old.nor.now volume.new.nor.now result (takes_calls volume.new) }
@@ -192,9 +203,9 @@ fn turn<B: Board, S: Source>(
     match lines.take_line() {
         Some(to) => {
             let number = lines.handed;
-            answer(volume, lines.piece(from, to), number, scratch)
+            answer(volume, lines.piece(from, to), number, scratch, lent)
         }
-        None => take_more(volume, lines, script, scratch),
+        None => take_more(volume, lines, script, scratch, lent),
     }
 }
 
@@ -205,8 +216,10 @@ fn run_lines<B: Board, S: Source>(
     lines: &mut Lines<'_>,
     script: &mut S,
     scratch: &mut [u8],
+    lent: &mut [u8],
 ) -> Ending
     requires room { 4096 ≤ length scratch.old }
+    requires lent { 4096 ≤ length lent.old }
     requires stands { takes_calls volume.old ≡ true }
     ensures later { IsLater result }
     ensures ran { Ran B.NorState volume.old.nor.now volume.new.nor.now (Some result) (takes_calls volume.new) }
@@ -219,7 +232,7 @@ fn run_lines<B: Board, S: Source>(
     ensures works { Works B.NorState volume.old.geometry volume.old.nor.now volume.new.nor.now (memory volume.old) (memory volume.new) (Some result) }
 {
     'turns: loop {
-        if let Some(ending) = turn(volume, lines, script, scratch) {
+        if let Some(ending) = turn(volume, lines, script, scratch, lent) {
             return ending;
         }
     }
@@ -244,5 +257,6 @@ pub(crate) fn run_script<B: Board, S: Source>(
 {
     let (taken, scratch) = line.split_at_mut(LINES);
     let mut lines = Lines::new(taken);
-    run_lines(volume, &mut lines, script, scratch)
+    let mut lent = [0u8; BYTES];
+    run_lines(volume, &mut lines, script, scratch, &mut lent)
 }

@@ -2,6 +2,7 @@ use Rattle.std.proofs.Common.{◌≡◌, refl, rules, true, false}
 use Rattle.flash_view.proofs.Stepped.{looked, after_look}
 use Rattle.file_write.specs.Readyings.{HasReadyTailAt}
 use Rattle.file_write.proofs.BytesReadied.{ready_stays, entry_next}
+use Rattle.file_write.proofs.FileHomes.{primed_tidy}
 use Rattle.file_write.proofs.UnreadyTails.{no_other, still_after}
 use Rattle.file_write.proofs.readying.ready_in.Goals as goal
 
@@ -12,7 +13,7 @@ pub returns-in-Ok-true-clause-steps : goal.returns-in-Ok-true-clause-steps
 returns-in-Ok-true-clause-steps g c = λ f.
     let seen = c.in-Ok-true.ensures in
     let yes : c.in-Ok-true.field-0 ≡ true = search rules in
-    after_look seen.looks (c.ready_entry.ensures.steps f) (λ tells can. entry_next _ _ _ _ _ can (rw yes at (seen.told tells)))
+    after_look seen.looks (c.ready_entry.ensures.steps f) (λ tells can. entry_next _ _ _ _ _ can (rw yes at (seen.told tells can.can.tidy)))
 
 pub returns-in-Ok-false-clause-steps : goal.returns-in-Ok-false-clause-steps
 returns-in-Ok-false-clause-steps g c = λ f.
@@ -26,4 +27,4 @@ pub returns-in-Ok-false-clause-still : goal.returns-in-Ok-false-clause-still
 returns-in-Ok-false-clause-still g c = λ f tells has.
     let seen = c.in-Ok-false.ensures in
     let no : c.in-Ok-false.field-0 ≡ false = search rules in
-    absurd (no_other _ _ _ _ f has (rw no at seen.part) (rw no at (seen.other tells)))
+    absurd (no_other _ _ _ _ f has (rw no at seen.part) (rw no at (seen.other tells (primed_tidy _ _ _ _ _ _ has.home.prime))))

@@ -12,7 +12,7 @@ pub returns-then-not-branch-clause-told : goal.returns-then-not-branch-clause-to
 returns-then-not-branch-clause-told g c = λ tells tidy there.
     let one = c.in_ok-size.ensures.looks in
     let seen = c.in_ok-has_clean_bytes.ensures in
-    let other = seen.other (one.reads.told tells) in
+    let other = seen.other (one.reads.told tells) (rw (one.same.geometry, one.reads.bytes) tidy) in
     let is : c.in_ok-has_clean_bytes.field-0 ≡ false = search rules in
     let at = home_found _ _ c.args.id (view_image c.args.v.now (g.met.N.Nor.sized _) tells) tidy there c.in-Some.field-0 (rw c.in-Some.is at (c.in_ok-size.ensures.told tells tidy)) in
     never false refl (λ ready. no_other _ _ _ c.in-Some.field-0.size _ (record { home = at; ready = ready }) (rw one.same.geometry at (rw is at seen.part)) (rw (one.same.geometry, one.reads.bytes) at (rw is at other)))
@@ -22,8 +22,8 @@ returns-clause-told g c = λ tells tidy there.
     let one = c.in_ok-size.ensures.looks in
     let two = c.in_ok-has_clean_bytes.ensures.looks in
     let first = one.reads.told tells in
-    let clean = c.in_ok-has_clean_bytes.ensures.told first in
-    let stale = c.in_ok-stale.ensures.told (two.reads.told first) in
+    let clean = c.in_ok-has_clean_bytes.ensures.told first (rw (one.same.geometry, one.reads.bytes) tidy) in
+    let stale = c.in_ok-stale.ensures.told (two.reads.told first) (rw (two.same.geometry, two.reads.bytes) (rw (one.same.geometry, one.reads.bytes) tidy)) in
     let taken = c.in_ok-stale.ensures.taken (two.reads.told first) in
     let yes : c.in_ok-has_clean_bytes.field-0 ≡ true = search rules in
     let home = rw c.in-Some.is at (c.in_ok-size.ensures.told tells tidy) in

@@ -4,11 +4,11 @@ use Rattle.file_write.proofs.tails.stale_index.Goals as goal
 use Rattle.file_write.proofs.tails.stale_index.Goals.{then-word-via-then-word, then-word-via-else-word+then-not-is_entry_page}
 
 pub returns-then-word-clause-told : goal.returns-then-word-clause-told
-returns-then-word-clause-told g c = λ tells.
+returns-then-word-clause-told g c = λ tells tidy.
     let looks = c.in_ok-index.ensures.looks in
     let k = c.args.v.now.geometry in
     let image = g.N.NorState.bytes c.args.v.now.nor.now in
-    let there = sym c.in-Some.is ∙ c.in_ok-index.ensures.told tells in
+    let there = sym c.in-Some.is ∙ c.in_ok-index.ensures.told tells tidy in
     let word = c.in_ok-word.ensures.told (looks.reads.told tells) in
     elim c.then-word.branch [
       | then-word-via-then-word w ↦ free_behind k image c.args.id c.args.size _ c.in-Some.index (rw (c.wide_index_span.ensures, c.data_pages-count.ensures.pages) refl) there c.in_ok-word.word

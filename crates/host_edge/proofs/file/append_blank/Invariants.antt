@@ -1,5 +1,5 @@
 use Rattle.std.proofs.Common.{◌-◌, ◌≤◌, length}
-use Rattle.host_edge.proofs.file.Window.pad_to.Given as goal
+use Rattle.host_edge.proofs.file.append_blank.Given as goal
 
 abbrev pub decreases-loop-end : goal.decreases-loop-end
 decreases-loop-end l = l.at - l.end
