@@ -8,8 +8,9 @@ ghost use Rattle.image_model.specs.Tidy.{IsTidy};
 ghost use Rattle.flash_view.specs.DataPages.{data_number, data_number_of};
 ghost use Rattle.flash_view.specs.Same.{OnlyLooks};
 
-use flash_view::{FURTHER_SLOTS_AT, View, head_slots_at};
+use flash_view::View;
 use nor_core::{Failed, Nor, NorState};
+use page_layout::{entry_place, wide_index_span};
 use page_renew::seek_index;
 
 // The data page of a span, by a header page.
@@ -27,17 +28,12 @@ fn named_data<N: Nor>(
     ensures told { N.tells v.old.nor.now → IsTidy v.old.geometry (N.bytes v.old.nor.now) → IfOk result (λ page. page ≡ data_number v.old.geometry (own (live_at v.old.geometry (N.bytes v.old.nor.now)) id) (page_of v.old.geometry (N.bytes v.old.nor.now) header) span) }
 {
     let g = v.geometry;
+    let at = entry_place(&g, span);
     if span < g.head_slots() {
-        return v.data_in(header, head_slots_at(&g) + 2 * span, id, span);
+        return v.data_in(header, at, id, span);
     }
-    let behind = span - g.head_slots();
-    match seek_index(v, id, behind / g.span_slots() + 1)? {
-        Some(index) => v.data_in(
-            index,
-            FURTHER_SLOTS_AT + 2 * (behind % g.span_slots()),
-            id,
-            span,
-        ),
+    match seek_index(v, id, wide_index_span(&g, span))? {
+        Some(index) => v.data_in(index, at, id, span),
         None => Ok(None),
     }
 }
