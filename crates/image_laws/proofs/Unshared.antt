@@ -14,6 +14,7 @@ use Rattle.image_model.specs.Tidy.{IsTidy, IsNeat, is_wanted, free_blocks}
 use Rattle.image_model.specs.Within.{entry_of_block, block_number, page_number}
 use Rattle.image_model.specs.Sound.{IsMixed, IsSound}
 use Rattle.image_model.specs.Shared.{is_wanted_index, is_wanted_data, wanted_index_in, wanted_data_in, is_shared, shared_blocks, shared_index, open_entries, blocks_to_use, fits_over, FitsWith}
+use Rattle.image_laws.specs.Sharing.{UnmixedIsUnshared, SoundIsUnshared, NeatIsTidy, FitsIsTested}
 use Rattle.image_laws.proofs.Frames.{live_parts}
 use Rattle.image_laws.proofs.Matching.{filter-none_in}
 use Rattle.image_laws.proofs.MixedBlocks.{mixed-tested, mixed-none, unmixed-from}
@@ -94,10 +95,9 @@ module _ (g : Geometry) (image : List ℕ) where
       (λ (no : is_index_block g image block ≡ false). rw (no-index block no) refl)
       (cases_Bool (is_index_block g image block))
 
-  -- Where no block is mixed none is shared.
-  pub none-shared : ((block : ℕ) → IsMixed g (live_at g image) block → ⊥) → shared_blocks g image ≡ 0
+  none_shared : ((block : ℕ) → IsMixed g (live_at g image) block → ⊥) → shared_blocks g image ≡ 0
   unfolding shared_blocks
-  none-shared none =
+  none_shared none =
       filter-none_in (λ b. is_shared g image b) 0 g.blocks (λ block low high.
       unmixed-unshared block (false_from_ne_true _ (λ yes. none block ((mixed-tested g image block (omega (arith, high))).0 yes))))
 
@@ -124,7 +124,7 @@ module _ (g : Geometry) (image : List ℕ) where
   unfolding is_shared
   shared-from block index some = rw (ne_eqb (wanted_index_in g image block) 0 index, ne_eqb (wanted_data_in g image block) 0 some) refl
 
-  -- And the other way round.
+  -- Where no index page of a shared block is counted, none is shared.
   pub index-unshared : shared_index g image ≡ 0 → shared_blocks g image ≡ 0
   unfolding shared_blocks shared_index
   index-unshared none =
@@ -142,11 +142,14 @@ use-free g image magics = rw (none-spoiled g image magics) (omega arith)
 
 -- ---- tidy images
 
+pub none-shared : (g : Geometry) → UnmixedIsUnshared g
+none-shared g image none = none_shared g image none
+
 pub tidy-unshared : (g : Geometry) (image : List ℕ) → IsTidy g image → shared_blocks g image ≡ 0
 tidy-unshared g image t = none-shared g image (λ block m. mixed-none g (live_at g image) t.unmixed block m)
 
 -- Nor has one that is sound with respect to a tidy one.
-pub sound-unshared : (g : Geometry) (was now : List ℕ) → IsTidy g was → IsSound g now was → shared_blocks g now ≡ 0
+pub sound-unshared : (g : Geometry) → SoundIsUnshared g
 sound-unshared g was now t s = none-shared g now (λ block m. mixed-none g (live_at g was) t.unmixed block (s.mixed block m))
 
 -- A neat image without a mixed block is tidy.
@@ -196,7 +199,7 @@ module _ (g : Geometry) (image : List ℕ) (n : IsNeat g image) (block : ℕ) (m
   mixed-shared = shared-from g image block some-index_in some-data_in
 
 -- So a neat image without a shared block is tidy.
-pub neat-unshared : (g : Geometry) (image : List ℕ) → IsNeat g image → shared_blocks g image ≡ 0 → IsTidy g image
+pub neat-unshared : (g : Geometry) → NeatIsTidy g
 unfolding shared_blocks
 neat-unshared g image n none = neat-tidy g image n (λ block m.
     let low : block < g.blocks = subst (λ (b : ℕ). b < g.blocks) m.p_at (block_number g m.p (page_number g m.p (live_parts g image m.p m.x m.p_is).entry_page)) in
@@ -212,17 +215,20 @@ module _ (g : Geometry) (image : List ℕ) where
       (λ (room : shared_index g image + spare ≤ open_entries g image + (blocks_to_use g image - 2) * entries g). inr (omega (arith, room, few)))
       fits
 
-  -- It fits over where it does so with none to spare.
-  pub fits-tested : fits_over g image ≡ true → FitsWith g image 0
+  with-fits : fits_over g image ≡ true → FitsWith g image 0
   unfolding fits_over
-  fits-tested fits = ⊎_elim
+  with-fits fits = ⊎_elim
       (λ (none : (shared_blocks g image == 0) ≡ true). inl (eqb-true _ 0 none))
       (λ (room : nat_le (shared_index g image) (open_entries g image + (blocks_to_use g image - 2) * entries g) ≡ true). let le = leb-true _ _ room in inr (omega (arith, le)))
       (or_cases _ _ fits)
 
-  pub tested-fits : FitsWith g image 0 → fits_over g image ≡ true
+  fits-with : FitsWith g image 0 → fits_over g image ≡ true
   unfolding fits_over
-  tested-fits fits = ⊎_elim
+  fits-with fits = ⊎_elim
       (λ (none : shared_blocks g image ≡ 0). or_left _ _ (eq-eqb (shared_blocks g image) 0 none))
       (λ (room : shared_index g image + 0 ≤ open_entries g image + (blocks_to_use g image - 2) * entries g). or_right _ _ (le-leb _ _ (omega (arith, room))))
       fits
+
+-- It fits over where it does so with none to spare.
+pub fits-tested : (g : Geometry) → FitsIsTested g
+fits-tested g image = (with-fits g image, fits-with g image)
