@@ -42,3 +42,4 @@ pub mod EraseCounts
 pub mod Uses
 pub mod UsesStay
 pub mod Unshared
+pub mod Copying

@@ -37,11 +37,11 @@ live_entry g image p x e =
     (λ (no' : is_entry_page g p ≡ false). let bad = rw no' at e in absurd (cc))
     (cases_Bool (is_entry_page g p))
 
-index_some : (o : Option (List ℕ)) → is_index_page o ≡ true → (x : List ℕ) × (o ≡ Some x) × (names_index x ≡ true)
+pub index_some : (o : Option (List ℕ)) → is_index_page o ≡ true → (x : List ℕ) × (o ≡ Some x) × (names_index x ≡ true)
 index_some None h = absurd (let bad : false ≡ true = h in cc)
 index_some (Some x) h = (x, refl, h)
 
-data_some : (o : Option (List ℕ)) → is_data_page o ≡ true → (x : List ℕ) × (o ≡ Some x) × (names_index x ≡ false)
+pub data_some : (o : Option (List ℕ)) → is_data_page o ≡ true → (x : List ℕ) × (o ≡ Some x) × (names_index x ≡ false)
 data_some None h = absurd (let bad : false ≡ true = h in cc)
 data_some (Some x) h = (x, refl, ⊎_elim (λ (y : names_index x ≡ true). let bad = rw y at h in absurd (cc)) (λ (n : names_index x ≡ false). n) (cases_Bool (names_index x)))
 

@@ -17,6 +17,7 @@ use Rattle.image_model.specs.Files.{index_page, judged, bytes_of}
 use Rattle.image_model.specs.Tidy.{IsNeat, is_wanted, is_free_entry, serves}
 use Rattle.image_model.specs.Kinds.{is_index_page, is_data_page, live_index, live_data}
 use Rattle.image_laws.specs.PageCounts.{TidyCounts}
+use Rattle.image_laws.specs.Sharing.{NeatCounts}
 use Rattle.image_laws.proofs.Frames.{live_parts}
 use Rattle.image_laws.proofs.TidySteps.{neat_of}
 use Rattle.image_model.specs.Within.{page_number, page_length}
@@ -165,8 +166,7 @@ module _ (g : Geometry) (a : List ℕ) (is : IsImage g a) (t : IsNeat g a) where
           | Some f ↦ λ e. (totals f e).1
         ] in go (counted (has_of g (live_at g a)) 0x7FFF (has_of g (live_at g a) id)) refl
 
--- the live pages of a neat image are as many as the files of its table need
-pub neat-counts : (g : Geometry) (a : List ℕ) → IsImage g a → IsNeat g a → (live_index g a ≡ index_count g (table_of g a)) × (live_data g a ≡ data_count g (table_of g a))
+pub neat-counts : (g : Geometry) → NeatCounts g
 unfolding live_index live_data table_of index_count data_count
 neat-counts g a is t = (
   tally (live_at g a) (has_of g (live_at g a)) 0x7FFF (page_count g) (λ f. index_pages g (length f.bytes)) is_index_page refl (live-id g a is t) (λ id low high. index-per g a is t id),

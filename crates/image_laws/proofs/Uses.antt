@@ -15,6 +15,7 @@ use Rattle.image_model.specs.Kinds.{is_index_page, is_data_page, spoiled_blocks}
 use Rattle.image_model.specs.Collect.{count_in, free_in, free_where}
 use Rattle.image_model.specs.Sound.{HasMagics}
 use Rattle.image_model.specs.Shared.{is_wanted_index, is_wanted_data, wanted_index_in, wanted_data_in, is_shared, shared_blocks, shared_index, open_entries, blocks_to_use, FitsWith, SameUses}
+use Rattle.image_laws.specs.Sharing.{SameUsesFit}
 use Rattle.image_laws.proofs.FreeBlocks.{all-range, filter-same}
 use Rattle.image_laws.proofs.Matching.{filter-none_in, sum-range}
 
@@ -138,3 +139,6 @@ module _ (g : Geometry) (was now : List ℕ) (s : SameUses g was now) where
   -- so what fits over in one fits over in the other
   pub fits-same : HasMagics g was → HasMagics g now → (spare : ℕ) → FitsWith g was spare → FitsWith g now spare
   fits-same before after spare fits = rw (shared-blocks, shared-index, open-same, use-same before after) fits
+
+pub same-uses-fit : (g : Geometry) → SameUsesFit g
+same-uses-fit g was now s before after = (shared-blocks g was now s, fits-same g was now s before after)

@@ -16,3 +16,4 @@ pub mod Put
 pub mod Reindex
 pub mod Spares
 pub mod Remove
+pub mod Sharing

@@ -7,6 +7,7 @@ pub mod killing;
 pub mod laws;
 pub mod removing;
 pub mod renewing;
+pub mod sharing;
 pub mod sound;
 pub mod staging;
 pub mod tidying;

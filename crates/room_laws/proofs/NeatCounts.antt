@@ -10,12 +10,12 @@ use Rattle.geometry.specs.Numbers.{per_block, lookups, entries}
 use Rattle.image_model.specs.Places.{has_magic}
 use Rattle.image_model.specs.Live.{live_at}
 use Rattle.image_model.specs.Tidy.{IsNeat, is_wanted, is_free_block, free_blocks, TellsFree}
-use Rattle.image_model.specs.Kinds.{is_index_page, is_data_page, is_data_block, spoiled_blocks}
+use Rattle.image_model.specs.Kinds.{is_index_page, is_data_page, is_data_block}
 use Rattle.image_model.specs.Collect.{index_in, data_in, free_in, free_where, takes_index}
 use Rattle.image_model.specs.Shared.{is_wanted_index, is_wanted_data, wanted_index_in, wanted_data_in, is_shared, shared_blocks, shared_index, open_entries, blocks_to_use, FitsWith}
 use Rattle.image_laws.proofs.FreeBlocks.{filter-same}
-use Rattle.image_laws.proofs.Matching.{filter-none_in, sum-range}
-use Rattle.image_laws.proofs.Unshared.{neat_wanted, sums-none, unshared-index, index-unshared}
+use Rattle.image_laws.proofs.Matching.{sum-range}
+use Rattle.image_laws.proofs.Unshared.{shut, use-free, neat_wanted, sums-none, unshared-index, index-unshared}
 use Rattle.room_laws.specs.Counts.{Counts, unused, for_index, for_data, kind_of, if_kind, if_any}
 use Rattle.room_laws.specs.Volume.{total, blocks_of, free_of}
 use Rattle.room_laws.specs.Sorts.{sort_at, counts_by, all_by}
@@ -26,10 +26,6 @@ use Rattle.room_laws.proofs.Sorted.{neat_tells_free, sorts_are_whole}
 use Rattle.room_laws.proofs.Taken.{index_is, pages_are, free_is, holds_data, free_by, not_free_by}
 use Rattle.room_laws.proofs.Tallies.{total_map}
 
-closed : (b : Bool) (n : ℕ) → cond (b && false) n 0 ≡ 0
-closed true n = refl
-closed false n = refl
-
 itself : (i : ℕ) → cond (not (i == 0) && true) i 0 ≡ i
 itself i = ⊎_elim
     (λ (none : i ≡ 0). rw none refl)
@@ -39,7 +35,7 @@ itself i = ⊎_elim
 -- index pages that stand beside data pages
 shared_number : (i d : ℕ) → cond (not (i == 0) && not (d == 0)) i 0 ≡ if_any d i
 shared_number i d = ⊎_elim
-    (λ (none : d ≡ 0). rw (eq-eqb d 0 none, any-none d i none) (closed (not (i == 0)) i))
+    (λ (none : d ≡ 0). rw (eq-eqb d 0 none, any-none d i none) (shut (not (i == 0)) i))
     (λ (some : d ≡ 0 → ⊥). rw (ne_eqb d 0 some, any-some d i (omega (arith, some))) (itself i))
     (cases_eq d 0)
 
@@ -171,12 +167,8 @@ module _ (g : Geometry) (image : List ℕ) (n : IsNeat g image) where
       ∙ sum-range (λ b. cond (is_free_block g image b) 1 0) (λ b. if_kind unused (counts_by g (sort_at g image) b) 1) 0 g.blocks (λ b from to. sym (unused_term b (omega (arith, to)) (looks b (omega (arith, to)))))
       ∙ sym (total_map (λ c. if_kind unused c 1) (counts_by g (sort_at g image)) (range_with_len 0 g.blocks))
 
-  none_spoiled : spoiled_blocks g image ≡ 0
-  unfolding spoiled_blocks
-  none_spoiled = filter-none_in (λ b. not (has_magic g image b)) 0 g.blocks (λ b from to. rw (n.magic b (omega (arith, to))) refl)
-
   use_adds : blocks_to_use g image ≡ blocks_of unused (all_by g (sort_at g image))
-  use_adds = let free = free_adds in rw none_spoiled (omega (arith, free))
+  use_adds = use-free g image n.magic ∙ free_adds
 
   -- where each block that takes index pages is full they have no free entry
   pub full_adds : ((block : ℕ) → block < g.blocks → takes_index g image block ≡ true → free_in g image block ≡ 0) → free_of for_index (all_by g (sort_at g image)) ≡ 0

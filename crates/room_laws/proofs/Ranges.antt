@@ -25,14 +25,6 @@ sum_but f h k a (suc n) low high none same =
     omega (arith, rest, left, right, first))
     (cases_eq a k)
 
-pub sum_le : (f h : ℕ → ℕ) (a n : ℕ) → ((q : ℕ) → a ≤ q → q < a + n → f q ≤ h q) → sum_by f (range_with_len a n) ≤ sum_by h (range_with_len a n)
-sum_le f h a zero le = omega arith
-sum_le f h a (suc n) le =
-    let left = sum_by-cons f a (range_with_len (a + 1) n) in
-    let right = sum_by-cons h a (range_with_len (a + 1) n) in
-    let rest = sum_le f h (a + 1) n (λ q low high. le q (omega arith) (omega arith)) in
-    omega (arith, left, right, le a (omega arith) (omega arith), rest)
-
 count_append : (t : ℕ → Bool) (a n m : ℕ) → length (filter t (range_with_len a (n + m))) ≡ length (filter t (range_with_len a n)) + length (filter t (range_with_len (a + n) m))
 count_append t a zero m = let at : a + 0 ≡ a = omega arith in let all : 0 + m ≡ m = omega arith in rw (at, all) (omega arith)
 count_append t a (suc n) m =

@@ -1,5 +1,5 @@
 -- Counts of blocks after a program of a page, and once a block is made fresh.
-use Rattle.std.proofs.Common.{◌≡◌, ◌≢◌, ℕ, zero, suc, ◌+◌, ◌-◌, ◌*◌, ◌<◌, ◌≤◌, ◌⊎◌, List, length, Bool, true, false, ◌==◌, refl, sym, ◌∙◌, ap, arith, ⊎_elim}
+use Rattle.std.proofs.Common.{◌≡◌, ◌≢◌, ℕ, ◌+◌, ◌-◌, ◌*◌, ◌<◌, ◌≤◌, ◌⊎◌, List, length, Bool, true, false, ◌==◌, refl, sym, ◌∙◌, ap, arith, ⊎_elim}
 use Rattle.std.specs.Prelude.{filter}
 use Rattle.std.specs.List.{range_with_len, list_all}
 use Rattle.std.proofs.lemmas.Bool.{cases_Bool, cases_eq, and_parts, eq-eqb, ne_eqb}
@@ -18,6 +18,7 @@ use Rattle.image_laws.proofs.FreeBlocks.{filter-same}
 use Rattle.image_laws.proofs.Matching.{filter-none_in}
 use Rattle.image_laws.proofs.Frames.{live_at-kept}
 use Rattle.image_laws.proofs.Erase.{slot-other}
+use Rattle.image_laws.proofs.Unshared.{counted-all}
 use Rattle.room_laws.specs.Sorts.{Sort, Index, Data, Deleted, Free, sort_at, same_sort, counts_by}
 use Rattle.room_laws.specs.Counts.{Counts}
 use Rattle.room_laws.specs.Recounting.{ones_in, CountsAreSorts, RecountedHere, RecountedBeside, FreshHere}
@@ -88,11 +89,6 @@ tells_free_still g was now p t agree page used = agree_tells g was now p t agree
 
 -- ---- a fresh block
 
--- as many numbers pass as there are, where all do
-all_pass : (t : ℕ → Bool) (a n : ℕ) → ((q : ℕ) → a ≤ q → q < a + n → t q ≡ true) → length (filter t (range_with_len a n)) ≡ n
-all_pass t a zero every = refl
-all_pass t a (suc n) every = rw (every a (omega arith) (omega arith)) (ap (λ (k : ℕ). suc k) (all_pass t (a + 1) n (λ q low high. every q (omega arith) (omega arith))))
-
 -- A free block counts no page and no deleted entry, and all its entries are 0xFFFF.
 pub fresh_here : (g : Geometry) (now : List ℕ) (block : ℕ) → block < g.blocks → is_free_block g now block ≡ true → FreshHere g now block
 unfolding index_in data_in deleted_in
@@ -106,7 +102,7 @@ fresh_here g now block low free =
       index = filter-none_in (λ p. is_index_page (live_at g now p)) (block * per_block g + lookups g) (entries g) (λ q from to. rw (dead q from to) refl);
       pages = filter-none_in (λ p. is_data_page (live_at g now p)) (block * per_block g + lookups g) (entries g) (λ q from to. rw (dead q from to) refl);
       deleted = filter-none_in (λ p. is_deleted_entry g now p) (block * per_block g + lookups g) (entries g) (λ q from to. rw (ones q from to) refl);
-      free = all_pass (λ p. entry_of g now p == 0xFFFF) (block * per_block g + lookups g) (entries g) ones;
+      free = counted-all (λ p. entry_of g now p == 0xFFFF) (block * per_block g + lookups g) (entries g) ones;
     }
 
 -- an entry of another block counts as it did

@@ -1,9 +1,7 @@
 -- What the stages of a check leave.
 use Rattle.std.proofs.Common.{◌≡◌, ℕ, ◌+◌, ◌*◌, ◌<◌, ◌≤◌, List, length, Bool, true, false, cond, None, refl, sym, ◌∙◌, subst, arith, ⊎_elim, inl, inr}
-use Rattle.std.specs.Prelude.{filter}
 use Rattle.std.specs.List.{range_with_len}
 use Rattle.std.proofs.lemmas.Bool.{and_parts, and_from}
-use Rattle.std.proofs.lemmas.List.Sums.{length-filter}
 use Rattle.geometry.specs.declared.geometry.Geometry.{Geometry}
 use Rattle.geometry.specs.Numbers.{per_block, lookups, entries}
 use Rattle.image_model.specs.Places.{has_magic, block_of}
@@ -11,9 +9,10 @@ use Rattle.image_model.specs.Live.{live_at}
 use Rattle.image_model.specs.Tidy.{is_free_entry, is_free_block, free_blocks}
 use Rattle.image_model.specs.Within.{entry_in}
 use Rattle.image_laws.proofs.TidySteps.{neat_of}
+use Rattle.image_laws.proofs.Unshared.{counted-le}
 use Rattle.room_laws.specs.Staged.{OnlyKills, IsStaged, IsStripped, StrippedIsStaged, TidyIsStaged, NeatIsStripped, KillsAreStaged, KillsAreStripped}
 use Rattle.room_laws.specs.Recovery.{ReserveMends}
-use Rattle.room_laws.proofs.Ranges.{sum_le, list_all_same}
+use Rattle.room_laws.proofs.Ranges.{list_all_same}
 use Rattle.room_laws.proofs.Stops.{reserve_can_clean}
 use Rattle.room_laws.proofs.ImageMends.{clean_mends}
 
@@ -66,18 +65,9 @@ stripped_free_stays g image now s block low free =
 pub free_stays : (g : Geometry) (image now : List ℕ) → IsStaged g image now → (block : ℕ) → block < g.blocks → is_free_block g image block ≡ true → is_free_block g now block ≡ true
 free_stays g image now s block low free = stripped_free_stays g image now (staged_is_stripped g image now s) block low free
 
-one_le : (a b : Bool) → (a ≡ true → b ≡ true) → cond a 1 0 ≤ cond b 1 0
-one_le true b more = let yes = more refl in rw yes (omega arith)
-one_le false b more = omega arith
-
-filter_le : (s t : ℕ → Bool) (a n : ℕ) → ((q : ℕ) → a ≤ q → q < a + n → s q ≡ true → t q ≡ true) → length (filter s (range_with_len a n)) ≤ length (filter t (range_with_len a n))
-filter_le s t a n more =
-    let le = sum_le (λ q. cond (s q) 1 0) (λ q. cond (t q) 1 0) a n (λ q low high. one_le (s q) (t q) (more q low high)) in
-    omega (arith, le, length-filter s (range_with_len a n), length-filter t (range_with_len a n))
-
 free_rises : (g : Geometry) (image now : List ℕ) → IsStaged g image now → free_blocks g image ≤ free_blocks g now
 unfolding free_blocks
-free_rises g image now s = filter_le (λ b. is_free_block g image b) (λ b. is_free_block g now b) 0 g.blocks (λ b low high free. free_stays g image now s b (omega arith) free)
+free_rises g image now s = counted-le (λ b. is_free_block g image b) (λ b. is_free_block g now b) 0 g.blocks (λ b low high free. free_stays g image now s b (omega arith) free)
 
 pub reserve_mends : (g : Geometry) → ReserveMends g
 reserve_mends g image reserve = record {
