@@ -104,8 +104,8 @@ module _ (g : Geometry) (a c : List ℕ) (p : ℕ) (n : IsNeat g a) (page : is_e
       counted-le (λ q. is_wanted_index g c q) (λ q. is_wanted_index g a q) (block * per_block g + lookups g) (entries g) (λ q from to. index_back q (other block q below out from to))
 
   shared_back : (block : ℕ) → block < g.blocks → is_shared g c block ≡ true → (block ≢ block_of g p) × (is_shared g a block ≡ true)
-  shared_back block below yes =
-      let parts = shared-parts g c block yes in
+  shared_back block below both =
+      let parts = shared-parts g c block both in
       let out : block ≢ block_of g p = λ e. parts.1 (rw e none_now) in
       let d = data_less block in
       let i = index_less block below out in
@@ -189,19 +189,19 @@ module _ (g : Geometry) (a c : List ℕ) (p : ℕ) (n : IsNeat g a) (page : is_e
       omega (arith, was, now, here)
 
   opens_free : is_free_block g a (block_of g p) ≡ true → opens g a (block_of g p) ≡ 0
-  opens_free yes = rw (n.magic (block_of g p) low, yes) refl
+  opens_free whole = rw (n.magic (block_of g p) low, whole) refl
 
   -- a free block that is begun gives all its entries but one
   all_here : is_free_block g a (block_of g p) ≡ true → free_in g a (block_of g p) ≡ entries g
   unfolding is_free_block free_in
-  all_here yes =
-      let w = and_parts (has_magic g a (block_of g p)) _ yes in
+  all_here whole =
+      let w = and_parts (has_magic g a (block_of g p)) _ whole in
       counted-all (λ q. is_free_entry g a q) (block_of g p * per_block g + lookups g) (entries g) (λ q from to. all-at (λ r. is_free_entry g a r) (block_of g p * per_block g + lookups g) (entries g) w.1 q from to)
 
   opens_begun : is_free_block g a (block_of g p) ≡ true → is_free_block g c (block_of g p) ≡ false → entries g ≤ opens g c (block_of g p) + 1
-  opens_begun yes no =
-      let now : opens g c (block_of g p) ≡ free_in g c (block_of g p) = rw (magic_now (block_of g p) low, no, none_now) refl in
-      let all = all_here yes in
+  opens_begun whole begun =
+      let now : opens g c (block_of g p) ≡ free_in g c (block_of g p) = rw (magic_now (block_of g p) low, begun, none_now) refl in
+      let all = all_here whole in
       let here = free_here in
       omega (arith, now, all, here)
 
@@ -224,19 +224,19 @@ module _ (g : Geometry) (a c : List ℕ) (p : ℕ) (n : IsNeat g a) (page : is_e
 
   module _ (many : is_free_block g a (block_of g p) ≡ true → 2 < free_blocks g a) where
     places_begun : is_free_block g a (block_of g p) ≡ true → is_free_block g c (block_of g p) ≡ false → open_entries g a + (free_blocks g a - 2) * entries g ≤ open_entries g c + (free_blocks g c - 2) * entries g + 1
-    places_begun yes no =
-        let three = many yes in
-        let fall : free_blocks g a ≤ free_blocks g c + 1 = rw yes at blocks_fall in
+    places_begun whole begun =
+        let three = many whole in
+        let fall : free_blocks g a ≤ free_blocks g c + 1 = rw whole at blocks_fall in
         let rows : (free_blocks g a - 2) * entries g ≤ (free_blocks g c - 2 + 1) * entries g = mul-le-mul_right (entries g) (omega (arith, three, fall)) in
         let sum = opens_sum in
-        let none = opens_free yes in
-        let begun = opens_begun yes no in
-        omega (arith, rows, sum, none, begun)
+        let none = opens_free whole in
+        let most = opens_begun whole begun in
+        omega (arith, rows, sum, none, most)
 
     places_stay : is_free_block g a (block_of g p) ≡ true → is_free_block g c (block_of g p) ≡ true → open_entries g a + (free_blocks g a - 2) * entries g ≤ open_entries g c + (free_blocks g c - 2) * entries g + 1
-    places_stay yes now =
+    places_stay whole now =
         let sum = opens_sum in
-        let none = opens_free yes in
+        let none = opens_free whole in
         rw (blocks_stay now) (omega (arith, sum, none))
 
     places_used : is_free_block g a (block_of g p) ≡ false → open_entries g a + (free_blocks g a - 2) * entries g ≤ open_entries g c + (free_blocks g c - 2) * entries g + 1

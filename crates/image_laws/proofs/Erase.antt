@@ -48,7 +48,7 @@ module _ (g : Geometry) (geo : Sizes g) (a b : List ℕ) (c : ℕ) (same : SameO
       word_at-same a b (d * g.block + 2 * s) (byte-other d (2 * s) differ (omega arith))
       (let next : slice_index b (d * g.block + (2 * s + 1)) ≡ slice_index a (d * g.block + (2 * s + 1)) = byte-other d (2 * s + 1) differ (omega arith) in rw add_assoc next)
 
-  page-other : (p : ℕ) → block_of g p ≢ c → page_of g b p ≡ page_of g a p
+  pub page-other : (p : ℕ) → block_of g p ≢ c → page_of g b p ≡ page_of g a p
   unfolding page_of
   page-other p differ =
       let whole : per_block g * (p / per_block g) + p % per_block g ≡ p = div-add-mod p (per_block g) in

@@ -66,7 +66,7 @@ summed-none f a (suc n) none q low high =
     (cases_eq a q)
 
 some-of : (n : ℕ) → not (n == 0) ≡ true → n ≢ 0
-some-of n yes none = let bad : false ≡ true = rw none at yes in absurd (cc)
+some-of n some none = let bad : false ≡ true = rw none at some in absurd (cc)
 
 -- nothing is counted where a test fails
 pub shut : (b : Bool) (n : ℕ) → cond (b && false) n 0 ≡ 0
@@ -116,8 +116,8 @@ module _ (g : Geometry) (image : List ℕ) where
   -- a shared block holds some of each kind
   pub shared-parts : (block : ℕ) → is_shared g image block ≡ true → (wanted_index_in g image block ≢ 0) × (wanted_data_in g image block ≢ 0)
   unfolding is_shared
-  shared-parts block yes =
-      let w = and_parts (not (wanted_index_in g image block == 0)) (not (wanted_data_in g image block == 0)) yes in
+  shared-parts block both =
+      let w = and_parts (not (wanted_index_in g image block == 0)) (not (wanted_data_in g image block == 0)) both in
       (some-of (wanted_index_in g image block) w.0, some-of (wanted_data_in g image block) w.1)
 
   pub shared-from : (block : ℕ) → wanted_index_in g image block ≢ 0 → wanted_data_in g image block ≢ 0 → is_shared g image block ≡ true
@@ -226,7 +226,7 @@ module _ (g : Geometry) (image : List ℕ) where
   unfolding fits_over
   fits-with fits = ⊎_elim
       (λ (none : shared_blocks g image ≡ 0). or_left _ _ (eq-eqb (shared_blocks g image) 0 none))
-      (λ (room : shared_index g image + 0 ≤ open_entries g image + (blocks_to_use g image - 2) * entries g). or_right _ _ (le-leb _ _ (omega (arith, room))))
+      (λ (room : shared_index g image + 0 ≤ open_entries g image + (blocks_to_use g image - 2) * entries g). or_right _ _ (le-leb (shared_index g image) (open_entries g image + (blocks_to_use g image - 2) * entries g) (omega (arith, room))))
       fits
 
 -- It fits over where it does so with none to spare.

@@ -83,7 +83,7 @@ module _ (g : Geometry) (was now : List ℕ) (s : SameUses g was now) where
     unfolding free_in
     free-in = filter-same (λ p. is_free_entry g was p) (λ p. is_free_entry g now p) (block * per_block g + lookups g) (entries g) entry-same
 
-    free-same : is_free_block g now block ≡ is_free_block g was block
+    pub free-same : is_free_block g now block ≡ is_free_block g was block
     unfolding is_free_block
     free-same = rw (s.magic block magic, magic) (all-range (λ p. is_free_entry g was p) (λ p. is_free_entry g now p) (block * per_block g + lookups g) (entries g) entry-same)
 
