@@ -1,9 +1,9 @@
 -- What a cut in the move of an index page leaves of the places for index pages.
-use Rattle.std.proofs.Common.{◌≡◌, ◌≢◌, ℕ, zero, suc, ◌+◌, ◌-◌, ◌*◌, ◌<◌, ◌≤◌, ◌⊎◌, List, length, Bool, true, false, not, cond, ◌==◌, ◌&&◌, Some, None, ap, refl, sym, ◌∙◌, subst, arith, ⊎_elim, inl, inr}
-use Rattle.std.specs.Prelude.{filter, sum_by}
+use Rattle.std.proofs.Common.{◌≡◌, ◌≢◌, ℕ, zero, suc, ◌+◌, ◌-◌, ◌*◌, ◌<◌, ◌≤◌, ◌⊎◌, List, true, false, not, cond, ◌==◌, ◌&&◌, Some, None, ap, refl, sym, ◌∙◌, arith, ⊎_elim, inl, inr}
+use Rattle.std.specs.Prelude.{sum_by}
 use Rattle.std.specs.List.{range_with_len}
 use Rattle.std.proofs.Math.Nat.{mul-le-mul_right}
-use Rattle.std.proofs.lemmas.Bool.{cases_Bool, cases_eq, and_parts, and_from, false_from_ne_true, eq-eqb, ne_eqb}
+use Rattle.std.proofs.lemmas.Bool.{cases_Bool, cases_eq, and_parts, and_from, false_from_ne_true, ne_eqb}
 use Rattle.std.proofs.lemmas.List.Sums.{sum_by-cons}
 use Rattle.std.proofs.lemmas.Option.{same_Some}
 use Rattle.geometry.specs.declared.geometry.Geometry.{Geometry}
@@ -17,7 +17,6 @@ use Rattle.image_model.specs.Collect.{free_in, free_where}
 use Rattle.image_model.specs.Shared.{is_wanted_index, is_wanted_data, wanted_index_in, wanted_data_in, is_shared, shared_blocks, shared_index, open_entries, blocks_to_use, FitsWith}
 use Rattle.image_model.specs.Within.{entry_in, entry_of_block, page_number, block_number}
 use Rattle.image_laws.specs.Changes.{Gains, Loses}
-use Rattle.image_laws.specs.LiveSteps.{PutLeaves, PutDone, KillLeaves}
 use Rattle.image_laws.specs.Sharing.{IsCopying, CopyingFits, PutIsCopying, KillIsCopying}
 use Rattle.image_laws.proofs.FreeBlocks.{all-range, all-at, filter-same, filter-but}
 use Rattle.image_laws.proofs.Matching.{filter-none_in}

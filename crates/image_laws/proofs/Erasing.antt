@@ -5,7 +5,7 @@ use Rattle.geometry.specs.declared.geometry.Geometry.{Geometry}
 use Rattle.image_model.specs.Within.{sizes}
 use Rattle.nor_core.specs.Flash.{SameOutside}
 use Rattle.image_model.specs.Live.{live_at}
-use Rattle.image_model.specs.Places.{has_magic, block_of, IsImage}
+use Rattle.image_model.specs.Places.{has_magic, block_of}
 use Rattle.image_laws.specs.SoundSteps.{ErasingIsSound}
 use Rattle.image_laws.proofs.Erase.{magic-other, live-other, block-keeps}
 use Rattle.image_laws.proofs.Sounding.{mixed-from}

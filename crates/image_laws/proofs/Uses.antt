@@ -1,5 +1,5 @@
 -- Images with the same wanted pages and the same places: what fits over in one fits over in the other.
-use Rattle.std.proofs.Common.{◌≡◌, ℕ, zero, suc, ◌+◌, ◌-◌, ◌*◌, ◌<◌, ◌≤◌, ◌⊎◌, List, [], length, Bool, true, false, not, cond, ◌==◌, ◌&&◌, ap, refl, sym, ◌∙◌, arith, ⊎_elim, inl, inr}
+use Rattle.std.proofs.Common.{◌≡◌, ℕ, zero, suc, ◌+◌, ◌*◌, ◌<◌, ◌≤◌, List, length, Bool, true, false, not, cond, ◌==◌, ◌&&◌, ap, refl, sym, ◌∙◌, arith, ⊎_elim}
 use Rattle.std.specs.Prelude.{filter, sum_by}
 use Rattle.std.specs.List.{range_with_len}
 use Rattle.std.proofs.Math.Bool.{and-false}
@@ -8,11 +8,10 @@ use Rattle.std.proofs.lemmas.List.Sums.{length-filter, sum_by-cons}
 use Rattle.geometry.specs.declared.geometry.Geometry.{Geometry}
 use Rattle.geometry.specs.Numbers.{per_block, lookups, entries}
 use Rattle.image_model.specs.Within.{entry_in}
-use Rattle.image_model.specs.Live.{live_at}
-use Rattle.image_model.specs.Places.{has_magic, block_of, is_entry_page}
+use Rattle.image_model.specs.Places.{has_magic}
 use Rattle.image_model.specs.Tidy.{is_wanted, is_free_entry, is_free_block, free_blocks}
-use Rattle.image_model.specs.Kinds.{is_index_page, is_data_page, spoiled_blocks}
-use Rattle.image_model.specs.Collect.{count_in, free_in, free_where}
+use Rattle.image_model.specs.Kinds.{spoiled_blocks}
+use Rattle.image_model.specs.Collect.{free_in, free_where}
 use Rattle.image_model.specs.Sound.{HasMagics}
 use Rattle.image_model.specs.Shared.{is_wanted_index, is_wanted_data, wanted_index_in, wanted_data_in, is_shared, shared_blocks, shared_index, open_entries, blocks_to_use, FitsWith, SameUses}
 use Rattle.image_laws.specs.Sharing.{SameUsesFit}
@@ -132,9 +131,16 @@ module _ (g : Geometry) (was now : List ℕ) (s : SameUses g was now) where
       let each = sums-same (λ b. cond (is_free_block g now b) 1 0) (λ b. cond (not (has_magic g now b)) 1 0) (λ b. cond (is_free_block g was b) 1 0) (λ b. cond (not (has_magic g was b)) 1 0) 0 g.blocks (λ q low high. use-term q (omega (arith, high))) in
       let u = to-use g now after in
       let v = to-use g was before in
-      omega (arith, u, v, each,
-      length-filter (λ b. is_free_block g now b) (range_with_len 0 g.blocks), length-filter (λ b. not (has_magic g now b)) (range_with_len 0 g.blocks),
-      length-filter (λ b. is_free_block g was b) (range_with_len 0 g.blocks), length-filter (λ b. not (has_magic g was b)) (range_with_len 0 g.blocks))
+      omega (
+        arith,
+        u,
+        v,
+        each,
+        length-filter (λ b. is_free_block g now b) (range_with_len 0 g.blocks),
+        length-filter (λ b. not (has_magic g now b)) (range_with_len 0 g.blocks),
+        length-filter (λ b. is_free_block g was b) (range_with_len 0 g.blocks),
+        length-filter (λ b. not (has_magic g was b)) (range_with_len 0 g.blocks),
+      )
 
   -- so what fits over in one fits over in the other
   pub fits-same : HasMagics g was → HasMagics g now → (spare : ℕ) → FitsWith g was spare → FitsWith g now spare

@@ -1,11 +1,11 @@
 -- What leaves the wanted pages of an image and the places beside them.
-use Rattle.std.proofs.Common.{◌≡◌, ◌≢◌, ℕ, ◌*◌, ◌<◌, ◌⊎◌, List, true, false, refl, sym, ◌∙◌, ⊎_elim, inl, inr}
+use Rattle.std.proofs.Common.{◌≡◌, ◌≢◌, ℕ, ◌*◌, ◌⊎◌, List, true, false, refl, sym, ◌∙◌, ⊎_elim, inl, inr}
 use Rattle.std.proofs.lemmas.Bool.{cases_eq, and_parts}
 use Rattle.geometry.specs.declared.geometry.Geometry.{Geometry}
 use Rattle.nor_core.specs.Flash.{SameOutside}
 use Rattle.image_model.specs.Within.{sizes}
 use Rattle.image_model.specs.Live.{live_at}
-use Rattle.image_model.specs.Places.{has_magic, block_of, is_entry_page}
+use Rattle.image_model.specs.Places.{has_magic, block_of}
 use Rattle.image_model.specs.Tidy.{is_wanted, is_free_entry, is_free_block}
 use Rattle.image_model.specs.Shared.{SameUses}
 use Rattle.image_laws.specs.TidySteps.{Agree}

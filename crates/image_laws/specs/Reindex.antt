@@ -1,8 +1,7 @@
 -- An index page is renewed: its copy names other data pages.
-use Rattle.std.specs.Prelude.{◌≡◌, ◌≢◌, ℕ, ◌+◌, ◌-◌, ◌*◌, ◌%◌, ◌<◌, List, [], true, ◌==◌, nat_lt, Option, Some, Ok, is_some, unwrap_or, take, slice_index, slice_range, if◌then◌else◌}
+use Rattle.std.specs.Prelude.{◌≡◌, ◌≢◌, ℕ, ◌+◌, ◌%◌, ◌<◌, List, [], true, ◌==◌, Option, Some, Ok, is_some, unwrap_or, take, slice_index, slice_range, if◌then◌else◌}
 use Rattle.std.specs.List.{range_with_len, flat_map}
 use Rattle.geometry.specs.declared.geometry.Geometry.{Geometry}
-use Rattle.geometry.specs.Numbers.{head_slots, span_slots}
 use Rattle.table_model.specs.Room.{data_pages}
 use Rattle.image_model.specs.Headers.{obj_id, span_of, names_index, size_of, name_of}
 use Rattle.nor_core.specs.Flash.{word_at}

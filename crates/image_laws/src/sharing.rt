@@ -1,6 +1,14 @@
 ghost use Rattle.geometry.specs.declared.geometry.Geometry.{Geometry};
 ghost use Rattle.image_laws.specs.Sharing.{
-    NeatCounts, UnmixedIsUnshared, SoundIsUnshared, NeatIsTidy, FitsIsTested, SameUsesFit, PutIsCopying, KillIsCopying, CopyingFits,
+  NeatCounts,
+  UnmixedIsUnshared,
+  SoundIsUnshared,
+  NeatIsTidy,
+  FitsIsTested,
+  SameUsesFit,
+  PutIsCopying,
+  KillIsCopying,
+  CopyingFits,
 };
 
 /// Images without shared blocks, and neat ones.

@@ -1,5 +1,5 @@
 -- Which block a scrub step moves: the least worn one in use, where the free blocks are more worn.
-use Rattle.std.specs.Prelude.{ℕ, ◌+◌, List, Bool, not, nat_le, ◌&&◌, Option, Some, None, if◌then◌else◌, max, map, filter, find, option_and_then}
+use Rattle.std.specs.Prelude.{ℕ, ◌+◌, List, not, nat_le, ◌&&◌, Option, Some, None, if◌then◌else◌, max, map, filter, find, option_and_then}
 use Rattle.std.specs.List.{range_with_len, list_all, fold}
 use Rattle.geometry.specs.declared.geometry.Geometry.{Geometry}
 use Rattle.image_model.specs.Tidy.{is_free_block}

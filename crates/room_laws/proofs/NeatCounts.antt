@@ -1,6 +1,5 @@
 -- The index pages of shared blocks, and the places for them, by the counts of a neat image.
-use Rattle.std.proofs.Common.{◌≡◌, ℕ, ◌+◌, ◌-◌, ◌*◌, ◌<◌, ◌≤◌, List, length, Bool, true, false, not, cond, ◌==◌, ◌&&◌, Option, Some, None, ap, refl, sym, ◌∙◌, arith, ⊎_elim, inl, inr}
-use Rattle.std.specs.Prelude.{filter, sum_by}
+use Rattle.std.proofs.Common.{◌≡◌, ℕ, ◌+◌, ◌-◌, ◌*◌, ◌<◌, ◌≤◌, List, true, false, not, cond, ◌==◌, ◌&&◌, Option, Some, None, refl, sym, ◌∙◌, arith, ⊎_elim, inl, inr}
 use Rattle.std.specs.List.{range_with_len}
 use Rattle.std.proofs.Math.Bool.{and-true}
 use Rattle.std.proofs.lemmas.Bool.{cases_Bool, cases_eq, cases_lt, eq-eqb, ne_eqb, le-ltb, lt-ltb}
@@ -9,17 +8,17 @@ use Rattle.geometry.specs.declared.geometry.Geometry.{Geometry}
 use Rattle.geometry.specs.Numbers.{per_block, lookups, entries}
 use Rattle.image_model.specs.Places.{has_magic}
 use Rattle.image_model.specs.Live.{live_at}
-use Rattle.image_model.specs.Tidy.{IsNeat, is_wanted, is_free_block, free_blocks, TellsFree}
+use Rattle.image_model.specs.Tidy.{IsNeat, is_free_block, free_blocks, TellsFree}
 use Rattle.image_model.specs.Kinds.{is_index_page, is_data_page, is_data_block}
 use Rattle.image_model.specs.Collect.{index_in, data_in, free_in, free_where, takes_index}
-use Rattle.image_model.specs.Shared.{is_wanted_index, is_wanted_data, wanted_index_in, wanted_data_in, is_shared, shared_blocks, shared_index, open_entries, blocks_to_use, FitsWith}
+use Rattle.image_model.specs.Shared.{is_wanted_index, is_wanted_data, wanted_index_in, wanted_data_in, is_shared, shared_blocks, shared_index, open_entries, blocks_to_use}
 use Rattle.image_laws.proofs.FreeBlocks.{filter-same}
 use Rattle.image_laws.proofs.Matching.{sum-range}
 use Rattle.image_laws.proofs.Unshared.{shut, use-free, neat_wanted, sums-none, unshared-index, index-unshared}
 use Rattle.room_laws.specs.Counts.{Counts, unused, for_index, for_data, kind_of, if_kind, if_any}
-use Rattle.room_laws.specs.Volume.{total, blocks_of, free_of}
+use Rattle.room_laws.specs.Volume.{blocks_of, free_of}
 use Rattle.room_laws.specs.Sorts.{sort_at, counts_by, all_by}
-use Rattle.room_laws.specs.Parting.{shared_total, FitsBy, PartsAreCounted, NeatPartsAreCounted}
+use Rattle.room_laws.specs.Parting.{shared_total, PartsAreCounted, NeatPartsAreCounted}
 use Rattle.room_laws.proofs.Moves.{kind-index, kind-data, kind-unused}
 use Rattle.room_laws.proofs.Partings.{any-none, any-some}
 use Rattle.room_laws.proofs.Sorted.{neat_tells_free, sorts_are_whole}

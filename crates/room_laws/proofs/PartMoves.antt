@@ -1,5 +1,5 @@
 -- An index page moved out of a block that holds data pages, by the counts of the images.
-use Rattle.std.proofs.Common.{◌≡◌, ◌≢◌, ℕ, ◌+◌, ◌-◌, ◌*◌, ◌<◌, ◌≤◌, ◌⊎◌, List, length, true, false, Some, None, ap, refl, sym, ◌∙◌, subst, arith, ⊎_elim, inl, inr, slice_index_or, slice_set}
+use Rattle.std.proofs.Common.{◌≡◌, ◌≢◌, ℕ, ◌+◌, ◌<◌, ◌≤◌, ◌⊎◌, List, length, true, false, Some, None, ap, refl, sym, ◌∙◌, subst, arith, ⊎_elim, inl, inr, slice_index_or, slice_set}
 use Rattle.std.proofs.lemmas.Bool.{cases_Bool}
 use Rattle.std.proofs.lemmas.List.FromFn.{length-map-range_with_len, get_or-map-range_with_len}
 use Rattle.geometry.specs.declared.geometry.Geometry.{Geometry}
@@ -7,7 +7,7 @@ use Rattle.geometry.specs.Numbers.{entries}
 use Rattle.image_model.specs.Places.{block_of, is_entry_page}
 use Rattle.image_model.specs.Headers.{names_index}
 use Rattle.image_model.specs.Live.{live_at}
-use Rattle.image_model.specs.Tidy.{IsNeat, is_free_block, free_blocks, TellsFree}
+use Rattle.image_model.specs.Tidy.{IsNeat, is_free_block, TellsFree}
 use Rattle.image_model.specs.Kinds.{is_data_block}
 use Rattle.image_model.specs.Collect.{free_in, takes_index}
 use Rattle.image_model.specs.Within.{page_number, block_number}
@@ -17,7 +17,7 @@ use Rattle.room_laws.specs.Counts.{Counts, unused, for_index, for_data, kind_of}
 use Rattle.room_laws.specs.Volume.{blocks_of, free_of}
 use Rattle.room_laws.specs.Steps.{placed, killed}
 use Rattle.room_laws.specs.Sorts.{Sort, Index, Deleted, Free, sort_of_page, sort_at, counts_by, all_by, with_sort}
-use Rattle.room_laws.specs.Parting.{shared_total, index_places, CanPart, TakesOne, PartsOne, FitsBy, PartsAreCounted, IsPartPlace, PartedOne, MovePartsOne, PartPlaceIsFound}
+use Rattle.room_laws.specs.Parting.{shared_total, index_places, CanPart, TakesOne, PartsOne, FitsBy, IsPartPlace, PartedOne, MovePartsOne, PartPlaceIsFound}
 use Rattle.room_laws.proofs.Carried.{put_sorts, kill_sorts}
 use Rattle.room_laws.proofs.NeatCounts.{looks, data_kind, index_kind, free_kind, full_adds, parts_are_counted}
 use Rattle.room_laws.proofs.Partings.{part_finds, part_puts, part_kills}

@@ -1,12 +1,11 @@
 -- Index pages that go out of blocks that hold both kinds.
 use Rattle.std.proofs.Common.{◌≡◌, ℕ, zero, suc, ◌+◌, ◌-◌, ◌*◌, ◌<◌, ◌≤◌, ◌⊎◌, List, length, refl, arith, ⊎_elim, inl, inr, slice_index_or, slice_set}
-use Rattle.std.proofs.lemmas.Bool.{cases_lt, cases_Bool, lt-ltb, le-ltb}
-use Rattle.std.specs.Prelude.{Bool, true, false, nat_lt}
-use Rattle.room_laws.specs.Counts.{Counts, unused, for_index, for_data, kind_of, if_kind, if_any}
+use Rattle.std.proofs.lemmas.Bool.{cases_lt, le-ltb}
+use Rattle.room_laws.specs.Counts.{Counts, unused, for_index, for_data, kind_of, if_any}
 use Rattle.room_laws.specs.Volume.{blocks_of, free_of}
-use Rattle.room_laws.specs.Steps.{placed, killed, CanPut}
+use Rattle.room_laws.specs.Steps.{placed, killed}
 use Rattle.room_laws.specs.Losing.{spoiled}
-use Rattle.room_laws.specs.Parting.{shared_total, index_places, IsWhole, CanPart, PartFinds, TakesOne, PartPuts, PartsOne, PartKills}
+use Rattle.room_laws.specs.Parting.{shared_total, IsWhole, CanPart, PartFinds, TakesOne, PartPuts, PartKills}
 use Rattle.room_laws.proofs.Moves.{total-set, blocks-set, free-set, kind-index, kind-data}
 
 pub part_finds : PartFinds

@@ -1,5 +1,5 @@
 -- Counts of blocks after a program of a page, and once a block is made fresh.
-use Rattle.std.proofs.Common.{◌≡◌, ◌≢◌, ℕ, ◌+◌, ◌-◌, ◌*◌, ◌<◌, ◌≤◌, ◌⊎◌, List, length, Bool, true, false, ◌==◌, refl, sym, ◌∙◌, ap, arith, ⊎_elim}
+use Rattle.std.proofs.Common.{◌≡◌, ◌≢◌, ℕ, ◌+◌, ◌-◌, ◌*◌, ◌<◌, ◌≤◌, List, length, Bool, true, false, ◌==◌, refl, sym, ◌∙◌, ap, arith, ⊎_elim}
 use Rattle.std.specs.Prelude.{filter}
 use Rattle.std.specs.List.{range_with_len, list_all}
 use Rattle.std.proofs.lemmas.Bool.{cases_Bool, cases_eq, and_parts, eq-eqb, ne_eqb}

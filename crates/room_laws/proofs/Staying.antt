@@ -1,6 +1,5 @@
 -- What the stages of a check leave.
-use Rattle.std.proofs.Common.{◌≡◌, ℕ, ◌+◌, ◌*◌, ◌<◌, ◌≤◌, List, length, Bool, true, false, cond, None, refl, sym, ◌∙◌, subst, arith, ⊎_elim, inl, inr}
-use Rattle.std.specs.List.{range_with_len}
+use Rattle.std.proofs.Common.{◌≡◌, ℕ, ◌+◌, ◌*◌, ◌<◌, ◌≤◌, List, true, false, None, refl, sym, ◌∙◌, subst, arith, ⊎_elim, inl, inr}
 use Rattle.std.proofs.lemmas.Bool.{and_parts, and_from}
 use Rattle.geometry.specs.declared.geometry.Geometry.{Geometry}
 use Rattle.geometry.specs.Numbers.{per_block, lookups, entries}
@@ -10,7 +9,7 @@ use Rattle.image_model.specs.Tidy.{is_free_entry, is_free_block, free_blocks}
 use Rattle.image_model.specs.Within.{entry_in}
 use Rattle.image_laws.proofs.TidySteps.{neat_of}
 use Rattle.image_laws.proofs.Unshared.{counted-le}
-use Rattle.room_laws.specs.Staged.{OnlyKills, IsStaged, IsStripped, StrippedIsStaged, TidyIsStaged, NeatIsStripped, KillsAreStaged, KillsAreStripped}
+use Rattle.room_laws.specs.Staged.{IsStaged, IsStripped, StrippedIsStaged, TidyIsStaged, NeatIsStripped, KillsAreStaged, KillsAreStripped}
 use Rattle.room_laws.specs.Recovery.{ReserveMends}
 use Rattle.room_laws.proofs.Ranges.{list_all_same}
 use Rattle.room_laws.proofs.Stops.{reserve_can_clean}

@@ -1,16 +1,16 @@
 -- Cleanings that begin with three free blocks.
-use Rattle.std.proofs.Common.{◌≡◌, ℕ, suc, ◌+◌, ◌*◌, ◌<◌, ◌≤◌, ◌⊎◌, List, ◌∷◌, length, refl, arith, ⊎_elim, inl, inr}
+use Rattle.std.proofs.Common.{◌≡◌, ℕ, suc, ◌+◌, ◌<◌, ◌≤◌, ◌⊎◌, List, ◌∷◌, length, refl, arith, ⊎_elim, inl, inr}
 use Rattle.std.proofs.lemmas.Bool.{cases_lt}
 use Rattle.geometry.specs.Numbers.{ceil}
-use Rattle.room_laws.specs.Counts.{Counts, unused, for_index, for_data, kind_of}
+use Rattle.room_laws.specs.Counts.{Counts, unused, for_index, for_data}
 use Rattle.room_laws.specs.Volume.{IsVolume, blocks_of, free_of, deleted_of, index_total, pages_total}
 use Rattle.room_laws.specs.Bounds.{Bound}
 use Rattle.room_laws.specs.Mending.{Mending, strong, strong_none}
 use Rattle.room_laws.specs.Cut.{CutIndex, Batches, DeadBlock, CutData}
 use Rattle.room_laws.specs.ThreeFree.{ThreeCutMends, ThreeLeaveTwo}
-use Rattle.room_laws.proofs.Totals.{Seen, is_unused, is_index, is_data, Sums, sums, ceil-le}
+use Rattle.room_laws.proofs.Totals.{Seen, is_unused, is_index, is_data, sums, ceil-le}
 use Rattle.room_laws.proofs.Bounding.{data-size, index-size, no-more}
-use Rattle.room_laws.proofs.Cuts.{bound-from, tail-sums, head-seen, one-more, no-data-index, dead-worth, dead-fits, head-free-data}
+use Rattle.room_laws.proofs.Cuts.{tail-sums, head-seen, one-more, no-data-index, dead-worth, dead-fits, head-free-data}
 
 -- with three free blocks the bound has one to spare
 bound-three : (e : ℕ) (v : List Counts) → IsVolume e v → 3 ≤ blocks_of unused v → ceil (index_total v) e + blocks_of for_data v + 3 ≤ length v

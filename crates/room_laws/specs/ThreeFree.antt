@@ -1,5 +1,5 @@
 -- Cleanings that begin with three free blocks, whatever block is cleaned.
-use Rattle.std.specs.Prelude.{◌≡◌, ℕ, ◌+◌, ◌≤◌, ◌⊎◌, List, ◌∷◌, length}
+use Rattle.std.specs.Prelude.{◌≡◌, ℕ, ◌≤◌, ◌⊎◌, List, ◌∷◌, length}
 use Rattle.room_laws.specs.Counts.{Counts, unused}
 use Rattle.room_laws.specs.Volume.{IsVolume, blocks_of}
 use Rattle.room_laws.specs.Cleaning.{Cleaned}
