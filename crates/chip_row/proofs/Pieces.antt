@@ -1,5 +1,7 @@
 -- A range of bytes in pieces, each in one chip, and what the calls of these leave together.
 use Rattle.std.proofs.Common.{◌≡◌, ℕ, ◌+◌, ◌-◌, ◌*◌, ◌/◌, ◌%◌, ◌<◌, ◌≤◌, ◌⊎◌, min, inl, inr, ⊎_elim, List, length, sym, ◌∙◌, ap, subst, refl, arith, Ok, Err, Result}
+use Rattle.std.specs.Result.{IsErr}
+use Rattle.std.proofs.lemmas.Bool.{false≢true}
 use Rattle.std.proofs.lemmas.Nat.{div-add-mod'}
 use Rattle.std.proofs.Math.Nat.{mul-le-mul_left, mod-lt}
 use Rattle.nor_core.specs.declared.device.Failed.{Failed}
@@ -60,8 +62,9 @@ module _ {C : Type 0} {chip : ChipOf C} where
     asks_ok call = record { numbers = call.numbers; others = call.others; sound = call.sound; no_fault = call.no_fault; one_fault = tt; no_fuse = call.no_fuse; blamed = tt }
 
     -- each failure is the same
-    pub asks_err : {Other : Type 0} {failed also : Failed} → Asks chip Asked old new (Err failed) Other → Asks chip Asked old new (Err also) Other
-    asks_err call = record { numbers = call.numbers; others = call.others; sound = call.sound; no_fault = tt; one_fault = call.one_fault; no_fuse = tt; blamed = call.blamed }
+    pub asks_err : {Other : Type 0} {failed : Failed} (result : Result (Unit {0}) Failed) → IsErr result → Asks chip Asked old new (Err failed) Other → Asks chip Asked old new result Other
+    asks_err (Ok done) is call = absurd (false≢true is)
+    asks_err (Err also) is call = record { numbers = call.numbers; others = call.others; sound = call.sound; no_fault = tt; one_fault = call.one_fault; no_fuse = tt; blamed = call.blamed }
 
   -- seen as a call that may ask more chips
   pub asks_wider : {Few Many : ℕ → Type 0} {old new : ChipRow C} {S T : Type 0} (result : Result (Unit {0}) Failed) → ((place : ℕ) → Few place → Many place) → (S → T) → Asks chip Few old new result S → Asks chip Many old new result T

@@ -4,6 +4,7 @@ use Rattle.nor_core.specs.Flash.{programmed, HalfProgrammed}
 use Rattle.nor_core.proofs.Cuts.{unchanged}
 use Rattle.nor_core.proofs.Programs.{half_none}
 use Rattle.chip_row.specs.declared.numbers.Numbers.{Numbers}
+use Rattle.chip_row.specs.Asks.{Stuck}
 use Rattle.chip_row.specs.contracts.row.ChipRowNorState.TheImpl.{ghosts}
 use Rattle.chip_row.proofs.Parts.{half_on, half_wider, half_all, programmed_on, programmed_nothing, take_join}
 use Rattle.chip_row.proofs.Pieces.{piece_of, at_start, at_chip_next, holds_more, asks_none, asks_ok, asks_err, asks_wider, asks_next, go_to}
@@ -99,8 +100,11 @@ returns-in_err-program_in-clause-asks g c =
     let more : done < length from = c.loop-done-test.true in
     let below : r < size = search rules in
     let piece = piece_of at done (length from) size m was.numbers.some_bytes below more c.min-here.ensures in
-    let all = asks_next size at done (length from) m i refl piece _ more inv.at_chip inv.asks c.in_err-program_in.ensures.asks (λ stuck. ⊎_elim (λ last. inl last) (λ unfit. inr (λ fit. unfit (inv.asks.sound fit))) stuck) in
-    asks_err (asks_wider _ (λ place holds. holds_more size at (done + m) (length from) place piece.within holds) (λ stuck. stuck) all)
+    let new = c.program_in.new.self in
+    let goes : Stuck g.C.ChipState c.loop-done.self new → Stuck g.C.ChipState was new = λ stuck. ⊎_elim (λ last. inl last) (λ unfit. inr (λ fit. unfit (inv.asks.sound fit))) stuck in
+    let all = asks_next size at done (length from) m i refl piece _ more inv.at_chip inv.asks c.in_err-program_in.ensures.asks goes in
+    let wide = asks_wider _ (λ place holds. holds_more size at (done + m) (length from) place piece.within holds) (λ stuck. stuck) all in
+    asks_err c.from_residual.result c.from_residual.ensures.0 wide
 
 pub returns-clause-asks : goal.returns-clause-asks
 returns-clause-asks g c =

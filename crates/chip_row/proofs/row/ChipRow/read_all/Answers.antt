@@ -4,6 +4,7 @@ use Rattle.std.proofs.lemmas.List.{length-take, length-drop, length-append}
 use Rattle.std.proofs.lemmas.Slice.{take-put_mid}
 use Rattle.nor_core.proofs.Cuts.{reads_none, reads_then}
 use Rattle.chip_row.specs.declared.numbers.Numbers.{Numbers}
+use Rattle.chip_row.specs.Asks.{Unfit}
 use Rattle.chip_row.specs.contracts.row.ChipRowNorState.TheImpl.{ghosts}
 use Rattle.chip_row.proofs.Parts.{slice_join}
 use Rattle.chip_row.proofs.Pieces.{piece_of, at_start, at_chip_next, holds_more, asks_none, asks_ok, asks_err, asks_wider, asks_next}
@@ -81,8 +82,10 @@ returns-in_err-read_in-clause-asks g c =
     let more : done < length into = omega (arith, c.loop-done-test.true, inv.size) in
     let below : r < size = search rules in
     let piece = piece_of at done (length into) size m was.numbers.some_bytes below more (c.min-here.ensures ∙ ap (λ (k : ℕ). min (size - r) (k - done)) inv.size) in
-    let all = asks_next size at done (length into) m i refl piece _ more inv.at_chip inv.asks c.in_err-read_in.ensures.asks (λ unfit fit. unfit (inv.asks.sound fit)) in
-    asks_err (asks_wider _ (λ place holds. holds_more size at (done + m) (length into) place piece.within holds) (λ unfit. unfit) all)
+    let goes : Unfit g.C.ChipState c.loop-done.self → Unfit g.C.ChipState was = λ unfit fit. unfit (inv.asks.sound fit) in
+    let all = asks_next size at done (length into) m i refl piece _ more inv.at_chip inv.asks c.in_err-read_in.ensures.asks goes in
+    let wide = asks_wider _ (λ place holds. holds_more size at (done + m) (length into) place piece.within holds) (λ unfit. unfit) all in
+    asks_err c.from_residual.result c.from_residual.ensures.0 wide
 
 pub returns-clause-asks : goal.returns-clause-asks
 returns-clause-asks g c =
