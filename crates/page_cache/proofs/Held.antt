@@ -7,7 +7,7 @@ use Rattle.geometry.specs.declared.geometry.Geometry.{Geometry}
 use Rattle.geometry.specs.Numbers.{page_count}
 use Rattle.nor_core.specs.Count.{Rose}
 use Rattle.nor_core.specs.declared.state.NorState.{Ghosts as NorOf}
-use Rattle.page_cache.specs.Frames.{frame_count, number_of, page_in, holds, held, KeepsHeld, KeepsAllBut, KeepsOutside, LiesOutside, GivenUp, EachPage, AreSameCopies}
+use Rattle.page_cache.specs.Frames.{frame_count, number_of, page_in, holds, held, KeepsHeld, KeepsAllBut, KeepsOutside, LiesOutside, GivenUp, EachPage}
 use Rattle.page_cache.specs.Kept.{FewReads}
 use Rattle.page_cache.proofs.Counts.{some_here, some_of, many_most, many_more, many_one_more, many_none}
 use Rattle.page_cache.proofs.Places.{count_same}

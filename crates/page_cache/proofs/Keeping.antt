@@ -1,5 +1,5 @@
 -- Copies that stay right.
-use Rattle.std.proofs.Common.{◌≡◌, ◌≢◌, ℕ, ◌+◌, ◌*◌, ◌<◌, ◌≤◌, ◌⊎◌, inl, inr, ⊎_elim, List, length, sym, ◌∙◌, ap, subst, arith}
+use Rattle.std.proofs.Common.{◌≡◌, ◌≢◌, ℕ, ◌+◌, ◌*◌, ◌<◌, ◌≤◌, ◌⊎◌, ⊎_elim, List, length, sym, ◌∙◌, ap, subst, arith}
 use Rattle.geometry.specs.declared.geometry.Geometry.{Geometry}
 use Rattle.geometry.specs.Numbers.{page_count}
 use Rattle.nor_core.specs.Flash.{programmed, erased, SameOutside, HalfErased}
@@ -8,10 +8,9 @@ use Rattle.std.specs.declared.option.Option.{Option}
 use Rattle.std.specs.Prelude.{slice_index}
 use Rattle.geometry.proofs.Bounds.{few_pages}
 use Rattle.nor_core.specs.declared.state.NorState.{Ghosts as NorOf}
-use Rattle.page_cache.specs.Frames.{frame_count, frame_at, number_of, page_in, used_to, IsPlaced, IsFindable, IsNear, IsCopy, SameHead, AreSameCopies, GoesWithProgram, GoesWithErase, GivenUp, IsFree, EachFrame, EachPage}
+use Rattle.page_cache.specs.Frames.{frame_count, frame_at, number_of, page_in, IsFindable, IsCopy, AreSameCopies, GoesWithProgram, GoesWithErase, GivenUp, IsFree, EachFrame, EachPage}
 use Rattle.page_cache.specs.Kept.{IsKept}
 use Rattle.page_cache.proofs.Places.{same_or_not, lt_or_le}
-use Rattle.page_cache.proofs.Findable.{findable_still, findable_loaded}
 
 outside_copy : (page at count : ℕ) (was now frame : List ℕ) → SameOutside at count was now → (number_of frame * page + page ≤ at) ⊎ (at + count ≤ number_of frame * page) → IsCopy page was frame → IsCopy page now frame
 outside_copy page at count was now frame outside apart copy i inside = copy i inside ∙ ⊎_elim

@@ -3,7 +3,7 @@ use Rattle.std.proofs.Common.{◌≡◌, ◌≢◌, ℕ, ◌+◌, ◌*◌, ◌<�
 use Rattle.geometry.proofs.Bounds.{few_pages}
 use Rattle.geometry.specs.declared.geometry.Geometry.{Geometry}
 use Rattle.geometry.specs.Numbers.{page_count}
-use Rattle.page_cache.specs.Frames.{frame_count, frame_at, number_of, word_in, page_in, used_to, IsFindable, SameHead, GoesWithProgram, GoesWithErase, GivenUp, LiesOutside, span_of, Follows, IsReady, EachFrame, EachPage, OnePage}
+use Rattle.page_cache.specs.Frames.{frame_count, frame_at, number_of, page_in, used_to, IsFindable, SameHead, GoesWithProgram, GoesWithErase, GivenUp, LiesOutside, span_of, Follows, IsReady, EachFrame, EachPage, OnePage}
 use Rattle.page_cache.specs.declared.frame.Event.{Event}
 use Rattle.page_cache.specs.declared.frame.Event.TheVariants.{Program, Erase, Failure}
 use Rattle.page_cache.proofs.Copies.{program_misses, erase_misses}

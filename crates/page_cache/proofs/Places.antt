@@ -1,12 +1,12 @@
 -- Where frames lie, and what a write into one of them leaves.
 use Rattle.std.proofs.Common.{◌≡◌, ◌≢◌, ℕ, zero, suc, ◌+◌, ◌-◌, ◌*◌, ◌/◌, ◌<◌, ◌≤◌, ◌⊎◌, inl, inr, ⊎_elim, List, length, get_or, min, drop, slice_range, refl, sym, ◌∙◌, ap, subst, arith, length-drop}
-use Rattle.std.proofs.Math.Nat.{mul_assoc, mul-le-mul_right, div-mul-le_self, le-div_iff_mul-le}
+use Rattle.std.proofs.Math.Nat.{mul-le-mul_right, div-mul-le_self, le-div_iff_mul-le}
 use Rattle.std.proofs.lemmas.Slice.{between-put_mid}
 use Rattle.std.proofs.lemmas.List.{length-take, get_or-take, get_or-drop, same_lists}
 use Rattle.std.proofs.lemmas.Grind.{common_steps, get_or_default_zero}
 use Rattle.geometry.proofs.Bounds.{few_pages}
 use Rattle.geometry.specs.declared.geometry.Geometry.{Geometry}
-use Rattle.geometry.specs.Numbers.{page_count, per_block, cache_need}
+use Rattle.geometry.specs.Numbers.{page_count, cache_need}
 use Rattle.page_cache.specs.Frames.{frame_size, frame_count, frame_at}
 use borrow.Rule.Slice.PartMut.{put_mid}
 

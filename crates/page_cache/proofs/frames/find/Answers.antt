@@ -1,4 +1,4 @@
-use Rattle.std.proofs.Common.{◌∙◌, sym, ap, arith}
+use Rattle.std.proofs.Common.{◌∙◌, ap, arith}
 use Rattle.page_cache.specs.Frames.{number_of, word_in}
 use Rattle.page_cache.proofs.Findable.{missing_near}
 use Rattle.page_cache.proofs.frames.find.Goals as goal

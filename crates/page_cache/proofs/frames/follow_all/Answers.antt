@@ -1,4 +1,4 @@
-use Rattle.std.proofs.Common.{ℕ, ◌*◌, ◌+◌, inl, inr, arith}
+use Rattle.std.proofs.Common.{inl, inr, arith}
 use Rattle.geometry.proofs.Bounds.{few_pages}
 use Rattle.page_cache.specs.Frames.{Follows, frame_at, page_in}
 use Rattle.page_cache.proofs.Places.{count_same, some_frames}

@@ -1,4 +1,4 @@
-use Rattle.std.proofs.Common.{◌≡◌, ◌%◌, ◌<◌, ℕ, inl, inr, ⊎_elim, ◌∙◌, sym, ap, arith}
+use Rattle.std.proofs.Common.{◌≡◌, ◌%◌, ℕ, inl, ⊎_elim, ◌∙◌, sym, ap, arith}
 use Rattle.page_cache.specs.Frames.{used_to, word_in}
 use Rattle.page_cache.proofs.Places.{count_most, count_same, same_or_not, lt_or_le}
 use Rattle.page_cache.proofs.Findable.{findable_bounded, bounded_number, copies_then, home_free}

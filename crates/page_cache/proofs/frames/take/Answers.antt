@@ -1,6 +1,6 @@
-use Rattle.std.proofs.Common.{ℕ, ◌%◌, ◌≡◌, ◌∙◌, inl, sym, ap, arith}
+use Rattle.std.proofs.Common.{ℕ, ◌%◌, ◌∙◌, sym, ap, arith}
 use Rattle.page_cache.proofs.Places.{count_most, count_same}
-use Rattle.page_cache.proofs.Findable.{findable_widened, widened_copies, widened_near, copies_same}
+use Rattle.page_cache.proofs.Findable.{findable_widened, widened_copies, widened_near}
 use Rattle.page_cache.proofs.frames.take.Goals as goal
 
 pub overflow_cast-free : goal.overflow_cast-free

@@ -35,8 +35,8 @@ returns-in-Ok-clause-few g c =
     few_kept me c.args.nor.now c.erase.new.self c.args.frames.now c.follow_all.new.frames (omega (arith, c.erase.ensures.writes.reads))
     (keeps_numbers me c.args.frames.now c.follow_all.new.frames same (number_still me (GoesWithErase me.page (c.args.unit_ix * c.unit-unit.result) c.unit-unit.result) c.args.frames.now c.follow_all.new.frames c.follow_all.ensures (λ x y r. r.number)))
 
-pub follow_all-in-Err-requires-clause-findable : goal.follow_all-in-Err-requires-clause-findable
-follow_all-in-Err-requires-clause-findable g c = findable_bounded c.args.g.now c.args.frames.now c.bound_all.new.frames (count_same c.args.g.now c.args.frames.now c.bound_all.new.frames c.bound_all.auto.frames) 0 c.bound_all.ensures.here c.bound_all.ensures.others (λ f under. absurd (omega (arith, under))) c.requires.kept.findable
+pub follow_all-requires-in-Err-clause-findable : goal.follow_all-requires-in-Err-clause-findable
+follow_all-requires-in-Err-clause-findable g c = findable_bounded c.args.g.now c.args.frames.now c.bound_all.new.frames (count_same c.args.g.now c.args.frames.now c.bound_all.new.frames c.bound_all.auto.frames) 0 c.bound_all.ensures.here c.bound_all.ensures.others (λ f under. absurd (omega (arith, under))) c.requires.kept.findable
 
 pub returns-in-Err-clause-kept : goal.returns-in-Err-clause-kept
 returns-in-Err-clause-kept g c =
@@ -59,8 +59,8 @@ returns-in-Err-clause-outside g c =
     (λ page inside outside e. keeps_outside me (c.args.unit_ix * c.unit-unit.result) c.unit-unit.result c.bound_all.new.frames c.follow_all-in-Err.new.frames second c.follow_all-in-Err.ensures page inside outside
     (keeps_numbers me c.args.frames.now c.bound_all.new.frames first (λ f below. (bounded_number me c.args.frames.now c.bound_all.new.frames first 0 c.bound_all.ensures.here c.bound_all.ensures.others f).number) page inside e))
 
-pub follow_all-in-Err-requires-clause-fits : goal.follow_all-in-Err-requires-clause-fits
-follow_all-in-Err-requires-clause-fits g c =
+pub follow_all-requires-in-Err-clause-fits : goal.follow_all-requires-in-Err-clause-fits
+follow_all-requires-in-Err-clause-fits g c =
     let next : c.args.unit_ix + 1 ≤ g.N.NorState.size c.args.nor.now / g.N.NorState.unit c.args.nor.now = omega (arith, c.requires.inside) in
     let inside : c.args.unit_ix * g.N.NorState.unit c.args.nor.now + g.N.NorState.unit c.args.nor.now ≤ g.N.NorState.size c.args.nor.now = omega (arith, mul-le-mul_right (g.N.NorState.unit c.args.nor.now) next, div-mul-le_self (g.N.NorState.size c.args.nor.now) (g.N.NorState.unit c.args.nor.now)) in
     let at = ap (λ (n : ℕ). c.args.unit_ix * n) c.unit-unit.ensures in

@@ -1,4 +1,4 @@
-use Rattle.std.proofs.Common.{ℕ, length, inl, inr, refl, ◌∙◌, arith}
+use Rattle.std.proofs.Common.{◌+◌, ◌^◌, ◌<◌, length, inl, inr, refl, arith}
 use Rattle.page_cache.specs.Frames.{GoesWithProgram, GivenUp}
 use Rattle.page_cache.proofs.Places.{count_same, some_frames}
 use Rattle.page_cache.proofs.Held.{keeps_numbers, keeps_outside, few_kept}
@@ -28,8 +28,13 @@ returns-in-Ok-clause-few g c =
     few_kept me c.args.nor.now c.program.new.self c.args.frames.now c.follow_all.new.frames (omega (arith, c.program.ensures.writes.reads))
     (keeps_numbers me c.args.frames.now c.follow_all.new.frames same (number_still me (GoesWithProgram me.page c.args.at c.args.from.now) c.args.frames.now c.follow_all.new.frames c.follow_all.ensures (λ x y r. r.number)))
 
-pub follow_all-in-Err-requires-clause-findable : goal.follow_all-in-Err-requires-clause-findable
-follow_all-in-Err-requires-clause-findable g c = findable_bounded c.args.g.now c.args.frames.now c.bound_all.new.frames (count_same c.args.g.now c.args.frames.now c.bound_all.new.frames c.bound_all.auto.frames) 0 c.bound_all.ensures.here c.bound_all.ensures.others (λ f under. absurd (omega (arith, under))) c.requires.kept.findable
+pub follow_all-requires-in-Err-clause-findable : goal.follow_all-requires-in-Err-clause-findable
+follow_all-requires-in-Err-clause-findable g c = findable_bounded c.args.g.now c.args.frames.now c.bound_all.new.frames (count_same c.args.g.now c.args.frames.now c.bound_all.new.frames c.bound_all.auto.frames) 0 c.bound_all.ensures.here c.bound_all.ensures.others (λ f under. absurd (omega (arith, under))) c.requires.kept.findable
+
+pub follow_all-requires-in-Err-clause-fits : goal.follow_all-requires-in-Err-clause-fits
+follow_all-requires-in-Err-clause-fits g c =
+    let small : c.args.at + length c.args.from.now < 2 ^ 32 = omega (arith, c.requires.inside, g.met.N.Nor.small c.args.nor.now) in
+    small
 
 pub returns-in-Err-clause-kept : goal.returns-in-Err-clause-kept
 returns-in-Err-clause-kept g c =
