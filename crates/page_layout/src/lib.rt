@@ -24,8 +24,8 @@ pub use head::{
 pub use header::{BODY_AT, PageHeader, header_of, put_header};
 pub use ids::{is_noted, note_id};
 pub use index::{
-    FURTHER_SLOTS_AT, entry_place, head_slots_at, index_span, put_entry, put_slot, slot_of, slot_offset,
-    slots_end, wide_index_span,
+    FURTHER_SLOTS_AT, entry_place, head_slots_at, index_span, put_entry, put_slot, slot_of,
+    slot_offset, slots_end, wide_index_span,
 };
 pub use lookup::{
     DELETED, FREE, INDEX_BIT, count_offset, entry_offset, magic_offset, read_count, slot_between,
