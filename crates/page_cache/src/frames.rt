@@ -8,9 +8,7 @@ ghost use Rattle.std.specs.Prelude.{◌≡◌, ℕ, ◌+◌, ◌*◌, ◌%◌, �
 ghost use Rattle.geometry.specs.Numbers.{page_count, cache_need};
 ghost use Rattle.page_cache.specs.Frames.{frame_size, frame_count as the_frame_count, frame_at, number_of as the_number_of, page_in, holds, home_of, AllInUse, IsFindable, IsNear, Widened, Bounded, AreSameCopies, span_of, Follows, IsReady, IsFree, EachFrame, EachPage, OnePage};
 
-use crate::frame::{
-    Event, HEAD, bound, empty, follow, number_of, span, strays, used, widen,
-};
+use crate::frame::{Event, HEAD, bound, empty, follow, number_of, span, strays, used, widen};
 use geometry::Geometry;
 
 // Bytes of a frame.

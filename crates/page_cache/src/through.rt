@@ -73,12 +73,7 @@ fn bring_missing<N: Nor>(
 }
 
 // The frame of a page, which gets there from the device if it is not held.
-fn bring<N: Nor>(
-    g: &Geometry,
-    nor: &mut N,
-    frames: &mut [u8],
-    page: u16,
-) -> Result<usize, Failed>
+fn bring<N: Nor>(g: &Geometry, nor: &mut N, frames: &mut [u8], page: u16) -> Result<usize, Failed>
     requires need { cache_need g.now ≤ length frames.old }
     requires page { page < page_count g.now }
     requires volume { g.now.blocks * g.now.block ≤ N.size nor.old }

@@ -14,8 +14,8 @@ ghost use Rattle.vol_check.specs.Noted.{IsIndexPage};
 use flash_view::View;
 use nor_core::{Failed, Nor, NorState};
 use page_layout::{
-    FREE, FURTHER_SLOTS_AT, INDEX_BIT, PageHeader, data_pages, file_size, further_pages, head_slots_at,
-    read_word,
+    FREE, FURTHER_SLOTS_AT, INDEX_BIT, PageHeader, data_pages, file_size, further_pages,
+    head_slots_at, read_word,
 };
 
 // The mark of a page that a file needs.
