@@ -2,9 +2,9 @@ ghost use Rattle.std.specs.Prelude.{◌≡◌, ◌+◌, ◌-◌, ◌*◌, ◌<�
 ghost use Rattle.geometry.specs.Numbers.{scratch_need, cache_need};
 ghost use Rattle.nor_core.specs.Count.{Rose};
 ghost use Rattle.nor_core.specs.Flash.{HalfProgrammed, programmed};
-ghost use Rattle.nor_core.specs.Device.{Changes};
+ghost use Rattle.nor_core.specs.Device.{Changes, Writes};
 ghost use Rattle.image_model.specs.Tidy.{is_erased as the_erased};
-ghost use Rattle.page_cache.specs.Kept.{IsKept};
+ghost use Rattle.page_cache.specs.Kept.{IsKept, FewReads};
 ghost use Rattle.flash_view.specs.Table.{HasTable};
 
 use crate::places::{block_of, entry_start, lookup_of, lookup_page, page_start};
@@ -36,6 +36,33 @@ pub struct View<'b, N: Nor> {
     pub ghost cache_fits: { cache_need geometry ≤ length cache.now },
     pub ghost kept: { IsKept N.NorState geometry nor.now cache.now },
     pub ghost table: { counted ≡ true → HasTable N.NorState geometry nor.now rows.now },
+}
+
+// Programs a part of the bytes for work, which stay.
+fn program_part<N: Nor>(
+    g: &Geometry,
+    nor: &mut N,
+    cache: &mut [u8],
+    at: u32,
+    work: &mut [u8],
+    start: usize,
+    end: usize,
+) -> Result<(), Failed>
+    requires volume { g.now.blocks * g.now.block ≤ N.size nor.old }
+    requires need { cache_need g.now ≤ length cache.old }
+    requires kept { IsKept N.NorState g.now nor.old cache.old }
+    requires some { start < end }
+    requires inside { end ≤ length work.old }
+    requires fits { at + (end - start) ≤ g.now.blocks * g.now.block }
+    ensures cause { OnErr result (Rose (N.faults nor.old) (N.faults nor.new)) }
+    ensures writes { Writes N.NorState nor.old nor.new }
+    ensures changes { Changes N.NorState nor.old nor.new (HalfProgrammed at (slice_range work.old start end)) }
+    ensures done { N.tells nor.old → OnOk result (N.bytes nor.new ≡ programmed (N.bytes nor.old) at (slice_range work.old start end)) }
+    ensures few { FewReads N.NorState g.now nor.old cache.old nor.new cache.new }
+    ensures kept { IsKept N.NorState g.now nor.new cache.new }
+    ensures stays { work.new ≡ work.old }
+{
+    program_through(g, nor, cache, at, &work[start..end])
 }
 
 impl<'b, N: Nor> View<'b, N> {
@@ -351,8 +378,7 @@ impl<'b, N: Nor> View<'b, N> {
         let end = g.page() as usize;
         self.wrote = true;
         self.counted = false;
-        let work = &mut *self.work;
-        program_through(&g, self.nor, self.cache, at, &work[start as usize..end])
+        program_part(&g, self.nor, self.cache, at, self.work, start as usize, end)
     }
 
     /// Programs bytes of a page, from its byte `start` on.
