@@ -93,8 +93,8 @@ module _ {C : Type 0} {chip : ChipOf C} where
         no_fuse = on_ok result (λ none. none ∙ named) call.no_fuse;
         blamed = on_err result (λ blame. ⊎_elim
             (λ rose. (
-              let here = next rose.0 rose.1 in
-              inl (rose.0, here.0, record { was = rose.2.was; is = rose.2.is; old_is = sym (first.others rose.0 here.1) ∙ rose.2.old_is; new_is = rose.2.new_is; rose = rose.2.rose }, rose.3)))
+            let here = next rose.0 rose.1 in
+            inl (rose.0, here.0, record { was = rose.2.was; is = rose.2.is; old_is = sym (first.others rose.0 here.1) ∙ rose.2.old_is; new_is = rose.2.new_is; rose = rose.2.rose }, rose.3)))
             (λ stuck. inr (stuck.0 ∙ named, goes stuck.1))
             blame) call.blamed;
       }
