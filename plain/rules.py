@@ -14,7 +14,7 @@ DOCS = r"(?:^[ ]*//[^\n]*\n)*"
 LAW = re.compile(DOCS + r"^pub fn (\w+)\(\)\s*\{\}\n?", re.M)
 
 # A trait that only had ghost members, as `NorState`.
-EMPTY_TRAIT = re.compile(DOCS + r"^pub trait (\w+)\s*\{\s*\}\n?", re.M)
+EMPTY_TRAIT = re.compile(DOCS + r"^pub trait (\w+)\s*\{(?:\s|//[^\n]*\n)*\}\n?", re.M)
 
 GROUP = re.compile(r"^((?:pub )?use [\w:]*)\{([^}]*)\};", re.M)
 

@@ -67,7 +67,7 @@ class Rules(unittest.TestCase):
 
     def test_laws_and_empty_traits_go_where_they_are_named(self):
         law = "/// Told.\npub fn is_told()\n{}\n"
-        state = "/// State.\npub trait State {\n    \n}\n"
+        state = "/// State.\npub trait State {\n    // Told.\n\n    \n}\n"
         self.assertEqual(rules.idle_names(law + state), {"is_told", "State"})
         text = law + "use a::{b, State};\nuse a::is_told;\nimpl State for S {\n}\ntrait T: State {}\nfn f() {\n    is_told();\n}\n"
         self.assertEqual(rules.without(text, {"is_told", "State"}), "use a::{b};\ntrait T {}\nfn f() {\n}\n")
