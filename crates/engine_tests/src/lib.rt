@@ -1,10 +1,12 @@
-//! Tests that run a volume, a reader and a view themselves, by the calls that no command makes.
+//! Tests that run a volume, a reader and a view themselves, by the calls that no command makes; and commands on a row of chips.
 #![tactic(auto)]
 
 #[cfg(test)]
 mod bench;
 #[cfg(test)]
 mod chip_rows;
+#[cfg(test)]
+mod commands;
 #[cfg(test)]
 mod descriptors;
 #[cfg(test)]

@@ -14,11 +14,14 @@ fn volume_by(meta: u32) -> Result<Geometry, Fail> {
     Ok(Geometry::new(256, 4096, 4, 4096, meta, MagicKind::Length)?)
 }
 
-// A device with a file of two data pages that was written with four meta bytes, and an empty file, which is whole by each number.
-fn board_by_four(alloc: Global) -> Result<MemBoard, Fail> {
-    let g = volume_by(4)?;
+// A device with a file of two data pages that was written with four meta bytes or with none, and an empty file, which is whole by each
+// number.
+fn board_by(alloc: Global, meta: u32) -> Result<MemBoard, Fail> {
+    let g = volume_by(meta)?;
     let mut image = filed(alloc, &g, 2)?;
-    put(&mut image, 301, &[0xFF, 0xFF, 0xFF, 0xFF, 17, 0, 18, 0]);
+    if meta == 4 {
+        put(&mut image, 301, &[0xFF, 0xFF, 0xFF, 0xFF, 17, 0, 18, 0]);
+    }
     put(&mut image, 2, &[2, 0x80]);
     put(&mut image, 512, &[2, 0x80, 0, 0, 0xF8]);
     put(&mut image, 520, &[0, 0, 0, 0, 1, b'e', 0]);
@@ -50,8 +53,6 @@ fn guessed(
 #[test]
 fn the_meta_that_reads_most_files_is_found(rt: HostRuntime) -> Result<(), Fail> {
     let alloc = rt.alloc();
-    let mut board = board_by_four(alloc)?;
-    let image = board.image().to_vec(alloc)?;
     let best = Counts {
         whole: 2,
         damaged: 0,
@@ -60,21 +61,23 @@ fn the_meta_that_reads_most_files_is_found(rt: HostRuntime) -> Result<(), Fail> 
         whole: 1,
         damaged: 1,
     };
-    for (meta, given) in [
-        (4, best),
-        (0, worse),
-        (3, worse),
-        (5, worse),
-        (6, worse),
-        (64, worse),
+    for (made, meta, given) in [
+        (4, 4, best),
+        (4, 0, worse),
+        (4, 3, worse),
+        (4, 5, worse),
+        (4, 64, worse),
+        (0, 4, worse),
     ] {
+        let mut board = board_by(alloc, made)?;
+        let image = board.image().to_vec(alloc)?;
         let guess = Guess {
             given,
-            meta: 4,
+            meta: made,
             best,
         };
         let told = guessed(alloc, meta, &mut board)?;
-        assert!(rt; told == Ok((given, guess)), "{meta}");
+        assert!(rt; told == Ok((given, guess)), "{made} {meta}");
         assert!(rt; board.image() == image.as_slice());
     }
     Ok(())
@@ -105,7 +108,7 @@ fn the_given_meta_stays_where_no_id_is_damaged(rt: HostRuntime) -> Result<(), Fa
 fn a_device_that_fails_is_told(rt: HostRuntime) -> Result<(), Fail> {
     let alloc = rt.alloc();
     for nth in [1, 30, 300] {
-        let mut board = board_by_four(alloc)?;
+        let mut board = board_by(alloc, 4)?;
         board.fail_nth(CallKind::Read, nth);
         assert!(rt; guessed(alloc, 0, &mut board)? == Err(Failed), "{nth}");
     }

@@ -61,7 +61,8 @@ fn a_volume_whose_chip_failed_takes_no_call(rt: HostRuntime) -> Result<(), Fail>
 fn a_volume_of_one_free_block_is_read(rt: HostRuntime) -> Result<(), Fail> {
     let alloc = rt.alloc();
     let g = small()?;
-    let mut board = board_of(alloc, &g, &filed(alloc, &g, 30)?)?;
+    let image = filed(alloc, &g, 30)?;
+    let mut board = board_of(alloc, &g, &image)?;
     let mut memory = Memory::new(alloc, &g)?;
     let lent = memory.lend();
     accept(&g, &board, &lent)?;
@@ -74,6 +75,7 @@ fn a_volume_of_one_free_block_is_read(rt: HostRuntime) -> Result<(), Fail> {
     assert!(rt; bytes == [0, 0, 0, 0]);
     assert!(rt; volume.rename(b"ba", b"b") == Err(FsErr::Tight));
     assert!(rt; volume.gc() == Ok(()));
+    assert!(rt; volume.nor.image() == image.as_slice());
     assert!(rt; volume.remove(b"ba") == Ok(()));
     Ok(())
 }
