@@ -43,7 +43,7 @@ get_crates() {
   fi
   mkdir -p "$1/.cargo"
   printf '[source.crates-io]\nreplace-with = "debian"\n\n[source.debian]\ndirectory = "%s"\n' "$debian_crates" >"$config"
-  rm -f "$1/Cargo.lock"
+  rm -f "$1"/Cargo.lock "$1"/*/Cargo.lock
 }
 
 # What `cargo build` needs for a target, as words in `for_target`. The target's library is rustup's, or else it is built of
