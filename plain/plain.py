@@ -95,7 +95,7 @@ def crates_of(top):
     for line in (top / "crates.txt").read_text(encoding="utf-8").splitlines():
         name, _, rest = line.partition("#")[0].partition(":")
         if name.strip():
-            below[name.strip()] = [word for word in rest.split() if "=" not in word]
+            below[name.strip()] = rest.split()
     return below
 
 
