@@ -43,17 +43,18 @@ get_crates() {
   fi
   mkdir -p "$1/.cargo"
   printf '[source.crates-io]\nreplace-with = "debian"\n\n[source.debian]\ndirectory = "%s"\n' "$debian_crates" >"$config"
-  rm -f "$1/Cargo.lock"
+  rm -f "$1"/Cargo.lock "$1"/*/Cargo.lock
 }
 
-# What `cargo build` needs for a target, as words in `for_target`. The target's library is rustup's, or else it is built of
-# Debian's sources of it (package rust-web-src, of the version of rustc-web). Fails where neither is there.
+# What `cargo build` needs for a target, as words in `for_target`, and its compiler in `rustc`. The target's library is rustup's, or
+# else it is built of Debian's sources of it (package rust-web-src, of the version of rustc-web). Fails where neither is there.
 #
 #   set_target TARGET LIBRARY FOLDER    LIBRARY is core or std; FOLDER is that of the edition
 set_target() {
   local sysroot sources linker= name=${1//-/_}
   sysroot=$(rustc --print sysroot)
   for_target=(cargo)
+  rustc=rustc
   if ! compgen -G "$sysroot/lib/rustlib/$1/lib/lib$2-*.rlib" >/dev/null; then
     sources=/usr/src/rustc-$(/usr/bin/rustc --version 2>/dev/null | cut -d' ' -f2)/library
     [ -d "$sources/vendor" ] && [ -x /usr/bin/cargo ] && has_debian_crates || return
@@ -61,7 +62,8 @@ set_target() {
     ln -sfn "$debian_crates"/* "$sources"/vendor/* "$3/crates/"
     # (Debian's rustc has no linker of its own for these)
     case $1 in thumb*) linker=CARGO_TARGET_${name^^}_LINKER=arm-none-eabi-ld ;; esac
-    for_target=(env RUSTC=/usr/bin/rustc RUSTC_BOOTSTRAP=1 $linker /usr/bin/cargo --offline -Zbuild-std="${2/std/std,panic_abort}"
+    rustc=/usr/bin/rustc
+    for_target=(env RUSTC=$rustc RUSTC_BOOTSTRAP=1 $linker /usr/bin/cargo --offline -Zbuild-std="${2/std/std,panic_abort}"
       --config "source.debian.directory='$3/crates'")
   fi
   for_target+=(build --release --quiet --target "$1")

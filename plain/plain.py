@@ -95,7 +95,7 @@ def crates_of(top):
     for line in (top / "crates.txt").read_text(encoding="utf-8").splitlines():
         name, _, rest = line.partition("#")[0].partition(":")
         if name.strip():
-            below[name.strip()] = [word for word in rest.split() if "=" not in word]
+            below[name.strip()] = rest.split()
     return below
 
 
@@ -134,8 +134,9 @@ class Edition:
             names = standing_on(below, package.heads) & left - set(self.home)
             package.crates = [crates[name] for name in below if name in names]
             self.home.update({name: package for name in names})
-        for name in sorted(left - set(self.home)):
-            print(f"{name} is in no package", file=sys.stderr)
+        homeless = sorted(left - set(self.home))
+        if homeless:
+            raise Refused(f"no package of PACKAGES has {', '.join(homeless)}")
 
     # How a module of a crate of a package names what begins with a word.
     def root_of(self, package, crate, stem, is_hosted, word):

@@ -100,7 +100,7 @@ def starts(text):
 HOSTED = {"alloc", "Vec", "String", "Box", "HostRuntime", "Abort", "Env", "Fail", "Files", "OpenOptions"}
 
 # Macros that are passed the allocator or the runtime first.
-MACROS = ("assert", "assert_eq", "eprintln", "format", "vec")
+MACROS = ("assert", "eprintln", "format", "vec")
 
 # Methods that are passed the allocator, where Rust has one of the same name that isn't.
 TAKES_ALLOC = {"to_vec", "collect", "to_string"}

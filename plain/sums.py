@@ -4,8 +4,8 @@
     sums.py [--into FOLDER] [--list]
 
 On a target of 32 bits these are what no proof bounds: in Rattle a `usize` has 64 bits. They are read from what rustc makes of the
-plain edition, with overflow checks. Ends with 1 where a function has more than the table tells of; `--list` prints the functions
-instead. Python 3.9, standard library alone.
+plain edition, with overflow checks. Ends with 1 where a function has more of them than the table tells, or the table tells of a
+function that isn't there; `--list` prints the functions instead. Python 3.9, standard library alone.
 """
 
 import argparse
@@ -40,11 +40,20 @@ def sums_in(text):
     for line in text.splitlines():
         if match := FUNCTION.match(line):
             name, pairs = name_of(match[1]), set()
+            counts[name] += 0
         elif match := LOCAL.match(line):
             pairs.add(match[1])
         elif (match := SUM.match(line)) and match[1] in pairs:
             counts[name] += 1
     return counts
+
+
+def told_in(text):
+    """How many the table tells of, by the rows' functions."""
+    told = Counter()
+    for row in filter(None, map(ROW.match, text.splitlines())):
+        told[name_of(row[1])] += int(row[2])
+    return told
 
 
 def main():
@@ -54,18 +63,17 @@ def main():
     words.add_argument("--list", action="store_true")
     asked = words.parse_args()
     found = sums_in(made(asked.into))
+    some = [name for name in sorted(found) if found[name] > 0]
     if asked.list:
-        for name, count in sorted(found.items()):
-            print(f"{name} {count}")
+        for name in some:
+            print(f"{name} {found[name]}")
         return 0
-    rows = (ROW.match(line) for line in (here / "sums.md").read_text(encoding="utf-8").splitlines())
-    told = Counter()
-    for row in filter(None, rows):
-        told[name_of(row[1])] += int(row[2])
-    odd = [name for name in sorted(found) if found[name] > told[name]]
-    for name in odd:
-        print(f"{name} has {found[name]} sums and products of usize, and sums.md tells of {told[name]}", file=sys.stderr)
-    print(f"{sum(found.values())} sums and products of usize in {len(found)} functions")
+    told = told_in((here / "sums.md").read_text(encoding="utf-8"))
+    odd = [f"{name} has {found[name]} sums and products of usize, and sums.md tells of {told[name]}" for name in some if found[name] > told[name]]
+    odd += [f"{name} isn't there, and sums.md tells of it" for name in sorted(told) if name not in found]
+    for line in odd:
+        print(line, file=sys.stderr)
+    print(f"{sum(found.values())} sums and products of usize in {len(some)} functions")
     return 1 if odd else 0
 
 

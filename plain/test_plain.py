@@ -142,20 +142,21 @@ class Refusals(unittest.TestCase):
             path.write_text(text, encoding="utf-8")
 
     def test_what_is_changed_is_refused(self):
+        numbers, body = "crates/geometry/src/geometry.rt", "self.pages() + 8192\n"
         self.assertEqual(self.ended("plain.py"), 0)
         self.assertEqual(self.both(), (0, 0))
-        made = self.with_change("out/liverymenhir/src/geometry/geometry.rs", "self.pages() + 8192", "self.pages() + 8191", self.both)
+        made = self.with_change("out/liverymenhir/src/geometry/geometry.rs", body, "self.pages() + 8191\n", self.both)
         self.assertEqual(made, (1, 1), "a made file")
-        body = self.with_change("crates/geometry/src/geometry.rt", "self.pages() + 8192\n", "self.pages() + 8191\n", self.both)
-        self.assertEqual(body, (1, 1), "a body of the sources")
-        form = self.with_change(
-            "crates/geometry/src/geometry.rt",
-            "self.pages() + 8192\n",
-            "prove!(0 < 1);\n        self.pages() + 8192\n",
-            lambda: self.ended("plain.py"),
-        )
+        self.assertEqual(self.with_change(numbers, body, "self.pages() + 8191\n", self.both), (1, 1), "a body of the sources")
+        form = self.with_change(numbers, body, f"prove!(0 < 1);\n        {body}", lambda: self.ended("plain.py"))
         self.assertEqual(form, 1, "a form that no rule is for")
-        self.assertEqual(self.both(), (0, 0))
+
+    def test_a_crate_that_no_package_has_is_refused(self):
+        lonely = self.top / "crates/lonely/src"
+        lonely.mkdir(parents=True)
+        (lonely / "lib.rt").write_text("pub fn one() -> u32 {\n    1\n}\n", encoding="utf-8")
+        self.assertEqual(self.with_change("crates.txt", "geometry: thiserror\n", "geometry: thiserror\nlonely: geometry\n", lambda: self.ended("plain.py")), 1)
+        shutil.rmtree(lonely.parent)
 
 
 if __name__ == "__main__":

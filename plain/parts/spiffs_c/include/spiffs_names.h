@@ -1,11 +1,12 @@
 /* SPIFFS's own names over spiffs.h, for firmware that was written for SPIFFS 0.3.7 in C: include this in the place of its
  * "spiffs.h", leave its .c files out, and link libspiffs.a. The firmware's spiffs_config.h is read where it is there.
  *
- * Three things differ and want a look:
+ * Four things differ and want a look:
  *
  * - SPIFFS_mount also checks the volume, as has to be done after each reset, and wants more memory for it. All of it comes from
  *   `cache`, whose size SPIFFS_CACHE_BYTES tells; `work` isn't used and may be NULL. `fd_space` has SPIFFS_FD_BYTES for each
  *   descriptor, and 3 more where it isn't aligned to 4 bytes.
+ * - The check calls nothing back: `check_cb_f` isn't used, and what was found stands in `fs->report`.
  * - A volume that SPIFFS in C wrote is refused with SPIFFS_ERR_MIXED_BLOCKS where a block holds live pages of both kinds.
  * - After a failing program or erase every call answers SPIFFS_ERR_FAILED until the volume is mounted again.
  *
@@ -76,6 +77,13 @@ typedef u16_t spiffs_span_ix;
 #ifndef SPIFFS_HAL_CALLBACK_EXTRA
 #define SPIFFS_HAL_CALLBACK_EXTRA 0
 #endif
+/* Each call takes the firmware's lock once: two statements in one block, as in C. */
+#ifndef SPIFFS_LOCK
+#define SPIFFS_LOCK(fs)
+#endif
+#ifndef SPIFFS_UNLOCK
+#define SPIFFS_UNLOCK(fs)
+#endif
 
 #ifdef __cplusplus
 #define SPIFFS_CANT(type, why) ([] { static_assert(sizeof(type) == 0, why); return (type)0; }())
@@ -102,6 +110,10 @@ SPIFFS_HAS_TO(sizeof(spiffs_obj_id) == 2 && sizeof(spiffs_page_ix) == 2 && sizeo
 #define SPIFFS_buffer_bytes_for_filedescs(...) SPIFFS_CANT(u32_t, "each descriptor takes SPIFFS_FD_BYTES")
 #define SPIFFS_buffer_bytes_for_cache(...) SPIFFS_CANT(u32_t, "the size of the cache is told by SPIFFS_CACHE_BYTES")
 #define SPIFFS_vis(...) SPIFFS_CANT(s32_t, "nothing is printed: the program spiffs lists an image of the chip")
+#if !SPIFFS_OBJ_META_LEN
+#define SPIFFS_update_meta(...) SPIFFS_CANT(s32_t, "files have no meta bytes where SPIFFS_OBJ_META_LEN is 0")
+#define SPIFFS_fupdate_meta(...) SPIFFS_CANT(s32_t, "files have no meta bytes where SPIFFS_OBJ_META_LEN is 0")
+#endif
 
 /* --- numbers and types ------------------------------------------------------------------------------------------------ */
 
@@ -120,6 +132,36 @@ SPIFFS_HAS_TO(sizeof(spiffs_obj_id) == 2 && sizeof(spiffs_page_ix) == 2 && sizeo
 #define SPIFFS_ERR_MOUNTED -10026
 #define SPIFFS_ERR_FILE_EXISTS -10030
 #define SPIFFS_ERR_NAME_TOO_LONG -10036
+#define SPIFFS_ERR_SEEK_BOUNDS -10040
+/* numbers of SPIFFS in C that no call answers here */
+#define SPIFFS_ERR_DELETED -10004
+#define SPIFFS_ERR_NOT_FINALIZED -10005
+#define SPIFFS_ERR_NOT_INDEX -10006
+#define SPIFFS_ERR_FILE_CLOSED -10008
+#define SPIFFS_ERR_FILE_DELETED -10009
+#define SPIFFS_ERR_IS_INDEX -10011
+#define SPIFFS_ERR_IS_FREE -10012
+#define SPIFFS_ERR_INDEX_SPAN_MISMATCH -10013
+#define SPIFFS_ERR_DATA_SPAN_MISMATCH -10014
+#define SPIFFS_ERR_INDEX_REF_FREE -10015
+#define SPIFFS_ERR_INDEX_REF_LU -10016
+#define SPIFFS_ERR_INDEX_REF_INVALID -10017
+#define SPIFFS_ERR_INDEX_FREE -10018
+#define SPIFFS_ERR_INDEX_LU -10019
+#define SPIFFS_ERR_INDEX_INVALID -10020
+#define SPIFFS_ERR_ERASE_FAIL -10027
+#define SPIFFS_ERR_MAGIC_NOT_POSSIBLE -10028
+#define SPIFFS_ERR_NO_DELETED_BLOCKS -10029
+#define SPIFFS_ERR_NOT_A_FILE -10031
+#define SPIFFS_ERR_RO_NOT_IMPL -10032
+#define SPIFFS_ERR_RO_ABORTED_OPERATION -10033
+#define SPIFFS_ERR_PROBE_TOO_FEW_BLOCKS -10034
+#define SPIFFS_ERR_PROBE_NOT_A_FS -10035
+#define SPIFFS_ERR_IX_MAP_UNMAPPED -10037
+#define SPIFFS_ERR_IX_MAP_MAPPED -10038
+#define SPIFFS_ERR_IX_MAP_BAD_RANGE -10039
+#define SPIFFS_ERR_INTERNAL -10050
+#define SPIFFS_ERR_TEST -10100
 /* numbers that SPIFFS in C hasn't */
 #define SPIFFS_ERR_BAD_NAME SPF_BAD_NAME
 #define SPIFFS_ERR_BAD_FLAGS SPF_BAD_FLAGS
@@ -150,6 +192,9 @@ SPIFFS_HAS_TO(sizeof(spiffs_obj_id) == 2 && sizeof(spiffs_page_ix) == 2 && sizeo
 #define SPIFFS_SEEK_CUR SPF_SEEK_CUR
 #define SPIFFS_SEEK_END SPF_SEEK_END
 #define SPIFFS_TYPE_FILE 1
+#define SPIFFS_TYPE_DIR 2
+#define SPIFFS_TYPE_HARD_LINK 3
+#define SPIFFS_TYPE_SOFT_LINK 4
 
 /* Bytes of a descriptor. */
 #define SPIFFS_FD_BYTES 8
@@ -192,8 +237,18 @@ typedef u16_t spiffs_flags;
 typedef u16_t spiffs_mode; /* isn't used, here as in C */
 typedef u8_t spiffs_obj_type;
 
-/* Is never called: the check has its report. */
-typedef void (*spiffs_check_callback)(struct spiffs_t *fs, int type, int report, u32_t arg1, u32_t arg2);
+/* What a check in C calls back. Nothing is called here: `fs->report` has what was found. */
+typedef enum { SPIFFS_CHECK_LOOKUP = 0, SPIFFS_CHECK_INDEX, SPIFFS_CHECK_PAGE } spiffs_check_type;
+typedef enum {
+  SPIFFS_CHECK_PROGRESS = 0, SPIFFS_CHECK_ERROR, SPIFFS_CHECK_FIX_INDEX, SPIFFS_CHECK_FIX_LOOKUP,
+  SPIFFS_CHECK_DELETE_ORPHANED_INDEX, SPIFFS_CHECK_DELETE_PAGE, SPIFFS_CHECK_DELETE_BAD_FILE
+} spiffs_check_report;
+#if SPIFFS_HAL_CALLBACK_EXTRA
+typedef void (*spiffs_check_callback)(struct spiffs_t *fs, spiffs_check_type type, spiffs_check_report report, u32_t arg1,
+                                      u32_t arg2);
+#else
+typedef void (*spiffs_check_callback)(spiffs_check_type type, spiffs_check_report report, u32_t arg1, u32_t arg2);
+#endif
 
 /* A volume, static or set to zero before its first call. */
 typedef struct spiffs_t {
@@ -277,7 +332,7 @@ static inline s32_t spiffs_names_told(spiffs *fs, s32_t answer) {
     case SPF_NOT_A_FS: answer = SPIFFS_ERR_NOT_A_FS; break;
     case SPF_NOT_MOUNTED: answer = SPIFFS_ERR_NOT_MOUNTED; break;
     case SPF_BAD_NUMBERS: answer = SPIFFS_ERR_NOT_CONFIGURED; break;
-    case SPF_SEEK_BOUNDS: answer = SPIFFS_ERR_END_OF_OBJECT; break;
+    case SPF_SEEK_BOUNDS: answer = SPIFFS_ERR_SEEK_BOUNDS; break;
     case SPF_TIGHT: answer = SPIFFS_ERR_FULL; break;
     default: break;
   }
@@ -285,115 +340,145 @@ static inline s32_t spiffs_names_told(spiffs *fs, s32_t answer) {
   return answer;
 }
 
+/* The body of a call: what it does, within the firmware's lock, and its answer. */
+#define SPIFFS_NAMES_CALL(type, fs, call)                                                                            \
+  s32_t told;                                                                                                        \
+  SPIFFS_LOCK(fs);                                                                                                   \
+  told = spiffs_names_told(fs, call);                                                                                \
+  SPIFFS_UNLOCK(fs);                                                                                                 \
+  return (type)told
+
 static inline s32_t spiffs_names_mount(spiffs *fs) {
   spf_numbers numbers = spiffs_names_numbers(fs);
   spf_chip chip = spiffs_names_chip(fs);
   s32_t answer = spf_mount(&fs->volume, &numbers, &chip, &fs->memory, &fs->report);
   fs->is_mounted = answer >= 0;
-  return spiffs_names_told(fs, answer);
+  return answer;
+}
+
+/* Shares the lent memory out, and mounts. (where it is too little none is lent, which spf_mount refuses) */
+static inline s32_t spiffs_names_begin(spiffs *fs, u8_t *fd_space, u32_t fd_space_size, u8_t *cache, u32_t cache_size) {
+  spf_needs needs;
+  spf_numbers numbers = spiffs_names_numbers(fs);
+  u32_t skipped = (u32_t)(-(uintptr_t)fd_space & 3u);
+  memset(&fs->memory, 0, sizeof fs->memory);
+  if (spf_needs_of(&numbers, &needs) == 0 && cache_size >= needs.work + needs.check && fd_space_size >= skipped) {
+    fs->memory.work = cache;
+    fs->memory.work_size = needs.work;
+    fs->memory.check = cache + needs.work;
+    fs->memory.check_size = needs.check;
+    fs->memory.cache = cache + needs.work + needs.check;
+    fs->memory.cache_size = cache_size - needs.work - needs.check;
+    fs->memory.slots = (uint32_t *)(void *)(fd_space + skipped);
+    fs->memory.slot_count = (fd_space_size - skipped) / needs.slot;
+  }
+  return spiffs_names_mount(fs);
 }
 
 static inline s32_t SPIFFS_mount(spiffs *fs, spiffs_config *config, u8_t *work, u8_t *fd_space, u32_t fd_space_size,
                                  void *cache, u32_t cache_size, spiffs_check_callback check_cb_f) {
-  spf_needs needs;
-  spf_numbers numbers;
-  u32_t skipped = (u32_t)(-(uintptr_t)fd_space & 3u);
-  s32_t answer;
   (void)work;
   (void)check_cb_f;
   fs->cfg = *config;
-  fs->is_mounted = 0;
-  numbers = spiffs_names_numbers(fs);
-  answer = spf_needs_of(&numbers, &needs);
-  if (answer < 0) return spiffs_names_told(fs, answer);
-  if (cache_size < needs.work + needs.check || fd_space_size < skipped) return spiffs_names_told(fs, SPF_SHORT_MEMORY);
-  fs->memory.work = (u8_t *)cache;
-  fs->memory.work_size = needs.work;
-  fs->memory.check = (u8_t *)cache + needs.work;
-  fs->memory.check_size = needs.check;
-  fs->memory.cache = (u8_t *)cache + needs.work + needs.check;
-  fs->memory.cache_size = cache_size - needs.work - needs.check;
-  fs->memory.slots = (uint32_t *)(void *)(fd_space + skipped);
-  fs->memory.slot_count = (fd_space_size - skipped) / needs.slot;
-  return spiffs_names_mount(fs);
+  fs->err_code = SPIFFS_OK;
+  SPIFFS_NAMES_CALL(s32_t, fs, spiffs_names_begin(fs, fd_space, fd_space_size, (u8_t *)cache, cache_size));
 }
 
 static inline u8_t SPIFFS_mounted(spiffs *fs) { return fs->is_mounted; }
 
-static inline void SPIFFS_unmount(spiffs *fs) {
-  if (fs->is_mounted) spiffs_names_told(fs, spf_unmount(&fs->volume));
+/* Puts what waits onto the chip. */
+static inline s32_t spiffs_names_end(spiffs *fs) {
+  s32_t answer = fs->is_mounted ? (s32_t)spf_unmount(&fs->volume) : SPF_NOT_MOUNTED;
   fs->is_mounted = 0;
+  return answer;
+}
+
+/* It answers nothing, as in C: SPIFFS_errno tells what failed. */
+static inline s32_t spiffs_names_unmount(spiffs *fs) { SPIFFS_NAMES_CALL(s32_t, fs, spiffs_names_end(fs)); }
+static inline void SPIFFS_unmount(spiffs *fs) {
+  if (fs->is_mounted) spiffs_names_unmount(fs);
+}
+
+static inline s32_t spiffs_names_format(spiffs *fs) {
+  spf_numbers numbers = spiffs_names_numbers(fs);
+  spf_chip chip = spiffs_names_chip(fs);
+  if (fs->is_mounted) return SPIFFS_ERR_MOUNTED;
+  return fs->cfg.hal_erase_f ? (s32_t)spf_format(&numbers, &chip) : SPIFFS_ERR_NOT_CONFIGURED;
 }
 
 /* Of a volume that isn't mounted, after a SPIFFS_mount that told its numbers. */
-static inline s32_t SPIFFS_format(spiffs *fs) {
-  spf_numbers numbers = spiffs_names_numbers(fs);
-  spf_chip chip = spiffs_names_chip(fs);
-  if (fs->is_mounted) return spiffs_names_told(fs, SPIFFS_ERR_MOUNTED);
-  if (!fs->cfg.hal_erase_f) return spiffs_names_told(fs, SPIFFS_ERR_NOT_CONFIGURED);
-  return spiffs_names_told(fs, spf_format(&numbers, &chip));
+static inline s32_t SPIFFS_format(spiffs *fs) { SPIFFS_NAMES_CALL(s32_t, fs, spiffs_names_format(fs)); }
+
+static inline s32_t spiffs_names_again(spiffs *fs) {
+  s32_t answer = spiffs_names_end(fs);
+  return answer < 0 ? answer : spiffs_names_mount(fs);
 }
 
 /* Puts what waits onto the chip, mounts again, and checks; every descriptor is closed by that. `fs->report` tells what was found. */
-static inline s32_t SPIFFS_check(spiffs *fs) {
-  s32_t answer;
-  if (!fs->is_mounted) return spiffs_names_told(fs, SPIFFS_ERR_NOT_MOUNTED);
-  answer = spf_unmount(&fs->volume);
-  fs->is_mounted = 0;
-  if (answer < 0) return spiffs_names_told(fs, answer);
-  return spiffs_names_mount(fs);
-}
+static inline s32_t SPIFFS_check(spiffs *fs) { SPIFFS_NAMES_CALL(s32_t, fs, spiffs_names_again(fs)); }
 
 static inline s32_t SPIFFS_errno(spiffs *fs) { return fs->err_code; }
 static inline void SPIFFS_clearerr(spiffs *fs) { fs->err_code = SPIFFS_OK; }
 
 static inline s32_t SPIFFS_creat(spiffs *fs, const char *path, spiffs_mode mode) {
   (void)mode;
-  return spiffs_names_told(fs, spf_create(&fs->volume, path));
+  SPIFFS_NAMES_CALL(s32_t, fs, spf_create(&fs->volume, path));
 }
 
 static inline spiffs_file SPIFFS_open(spiffs *fs, const char *path, spiffs_flags flags, spiffs_mode mode) {
   (void)mode;
-  return (spiffs_file)spiffs_names_told(fs, spf_open(&fs->volume, path, flags));
+  SPIFFS_NAMES_CALL(spiffs_file, fs, spf_open(&fs->volume, path, flags));
 }
 
 /* A read at the end of a file answers SPIFFS_ERR_END_OF_OBJECT. */
+static inline s32_t spiffs_names_bytes(s32_t answer, s32_t len) {
+  return answer == 0 && len > 0 ? SPIFFS_ERR_END_OF_OBJECT : answer;
+}
+
 static inline s32_t SPIFFS_read(spiffs *fs, spiffs_file fh, void *buf, s32_t len) {
-  s32_t answer = spf_read(&fs->volume, fh, buf, len < 0 ? 0 : (u32_t)len);
-  return spiffs_names_told(fs, answer == 0 && len > 0 ? SPIFFS_ERR_END_OF_OBJECT : answer);
+  SPIFFS_NAMES_CALL(s32_t, fs, spiffs_names_bytes(spf_read(&fs->volume, fh, buf, len < 0 ? 0 : (u32_t)len), len));
 }
 
 static inline s32_t SPIFFS_write(spiffs *fs, spiffs_file fh, const void *buf, s32_t len) {
-  return spiffs_names_told(fs, spf_write(&fs->volume, fh, buf, len < 0 ? 0 : (u32_t)len));
+  SPIFFS_NAMES_CALL(s32_t, fs, spf_write(&fs->volume, fh, buf, len < 0 ? 0 : (u32_t)len));
+}
+
+/* Behind the end of a file the place is its end, and the answer SPIFFS_ERR_END_OF_OBJECT; before its beginning nothing changes. */
+static inline s32_t spiffs_names_seek(spiffs *fs, spiffs_file fh, s32_t offs, int whence) {
+  s32_t answer = spf_seek(&fs->volume, fh, offs, whence);
+  if (answer != SPF_SEEK_BOUNDS || offs < 0) return answer;
+  answer = spf_seek(&fs->volume, fh, 0, SPF_SEEK_END);
+  return answer < 0 ? answer : SPIFFS_ERR_END_OF_OBJECT;
 }
 
 static inline s32_t SPIFFS_lseek(spiffs *fs, spiffs_file fh, s32_t offs, int whence) {
-  return spiffs_names_told(fs, spf_seek(&fs->volume, fh, offs, whence));
+  SPIFFS_NAMES_CALL(s32_t, fs, spiffs_names_seek(fs, fh, offs, whence));
 }
 
-static inline s32_t SPIFFS_tell(spiffs *fs, spiffs_file fh) { return spiffs_names_told(fs, spf_tell(&fs->volume, fh)); }
+static inline s32_t SPIFFS_tell(spiffs *fs, spiffs_file fh) { SPIFFS_NAMES_CALL(s32_t, fs, spf_tell(&fs->volume, fh)); }
 
 static inline s32_t SPIFFS_remove(spiffs *fs, const char *path) {
-  return spiffs_names_told(fs, spf_remove(&fs->volume, path));
+  SPIFFS_NAMES_CALL(s32_t, fs, spf_remove(&fs->volume, path));
 }
 
 static inline s32_t SPIFFS_fremove(spiffs *fs, spiffs_file fh) {
-  return spiffs_names_told(fs, spf_fremove(&fs->volume, fh));
+  SPIFFS_NAMES_CALL(s32_t, fs, spf_fremove(&fs->volume, fh));
 }
 
 static inline s32_t SPIFFS_fflush(spiffs *fs, spiffs_file fh) {
-  return spiffs_names_told(fs, spf_flush(&fs->volume, fh));
+  SPIFFS_NAMES_CALL(s32_t, fs, spf_flush(&fs->volume, fh));
 }
 
 static inline s32_t SPIFFS_close(spiffs *fs, spiffs_file fh) {
-  return spiffs_names_told(fs, spf_close(&fs->volume, fh));
+  SPIFFS_NAMES_CALL(s32_t, fs, spf_close(&fs->volume, fh));
 }
 
 static inline s32_t SPIFFS_rename(spiffs *fs, const char *old_path, const char *new_path) {
-  return spiffs_names_told(fs, spf_rename(&fs->volume, old_path, new_path));
+  SPIFFS_NAMES_CALL(s32_t, fs, spf_rename(&fs->volume, old_path, new_path));
 }
 
-static inline void spiffs_names_put(const spf_stat *from, spiffs_stat *into) {
+static inline s32_t spiffs_names_put(s32_t answer, const spf_stat *from, spiffs_stat *into) {
+  if (answer < 0) return answer;
   into->obj_id = from->id;
   into->size = from->size;
   into->type = from->type;
@@ -401,37 +486,38 @@ static inline void spiffs_names_put(const spf_stat *from, spiffs_stat *into) {
 #if SPIFFS_OBJ_META_LEN
   memcpy(into->meta, from->meta, SPIFFS_OBJ_META_LEN);
 #endif
+  return answer;
 }
 
 static inline s32_t SPIFFS_stat(spiffs *fs, const char *path, spiffs_stat *s) {
   spf_stat stat;
-  s32_t answer = spf_stat_of(&fs->volume, path, &stat);
-  if (answer >= 0) spiffs_names_put(&stat, s);
-  return spiffs_names_told(fs, answer);
+  SPIFFS_NAMES_CALL(s32_t, fs, spiffs_names_put(spf_stat_of(&fs->volume, path, &stat), &stat, s));
 }
 
 static inline s32_t SPIFFS_fstat(spiffs *fs, spiffs_file fh, spiffs_stat *s) {
   spf_stat stat;
-  s32_t answer = spf_fstat(&fs->volume, fh, &stat);
-  if (answer >= 0) spiffs_names_put(&stat, s);
-  return spiffs_names_told(fs, answer);
+  SPIFFS_NAMES_CALL(s32_t, fs, spiffs_names_put(spf_fstat(&fs->volume, fh, &stat), &stat, s));
 }
 
-/* 1 at the file's end, else 0. */
-static inline s32_t SPIFFS_eof(spiffs *fs, spiffs_file fh) {
+static inline s32_t spiffs_names_at_end(spiffs *fs, spiffs_file fh) {
   spf_stat stat;
   s32_t at = spf_tell(&fs->volume, fh);
   s32_t answer = at < 0 ? at : spf_fstat(&fs->volume, fh, &stat);
-  return spiffs_names_told(fs, answer < 0 ? answer : (u32_t)at >= stat.size);
+  return answer < 0 ? answer : (u32_t)at >= stat.size;
 }
 
+/* 1 at the file's end, else 0. */
+static inline s32_t SPIFFS_eof(spiffs *fs, spiffs_file fh) { SPIFFS_NAMES_CALL(s32_t, fs, spiffs_names_at_end(fs, fh)); }
+
+#if SPIFFS_OBJ_META_LEN
 static inline s32_t SPIFFS_update_meta(spiffs *fs, const char *name, const void *meta) {
-  return spiffs_names_told(fs, spf_set_meta(&fs->volume, name, (const uint8_t *)meta, SPIFFS_OBJ_META_LEN));
+  SPIFFS_NAMES_CALL(s32_t, fs, spf_set_meta(&fs->volume, name, (const uint8_t *)meta, SPIFFS_OBJ_META_LEN));
 }
 
 static inline s32_t SPIFFS_fupdate_meta(spiffs *fs, spiffs_file fh, const void *meta) {
-  return spiffs_names_told(fs, spf_fset_meta(&fs->volume, fh, (const uint8_t *)meta, SPIFFS_OBJ_META_LEN));
+  SPIFFS_NAMES_CALL(s32_t, fs, spf_fset_meta(&fs->volume, fh, (const uint8_t *)meta, SPIFFS_OBJ_META_LEN));
 }
+#endif
 
 /* There is one folder, whose name isn't looked at. Entries come in the order of their ids. */
 static inline spiffs_DIR *SPIFFS_opendir(spiffs *fs, const char *name, spiffs_DIR *d) {
@@ -445,9 +531,13 @@ static inline spiffs_DIR *SPIFFS_opendir(spiffs *fs, const char *name, spiffs_DI
   return d;
 }
 
+static inline s32_t spiffs_names_next(spiffs *fs, u16_t after, spf_stat *stat) {
+  SPIFFS_NAMES_CALL(s32_t, fs, spf_next(&fs->volume, after, stat));
+}
+
 static inline struct spiffs_dirent *SPIFFS_readdir(spiffs_DIR *d, struct spiffs_dirent *e) {
   spf_stat stat;
-  if (spiffs_names_told(d->fs, spf_next(&d->fs->volume, d->after, &stat)) != 1) return NULL;
+  if (spiffs_names_next(d->fs, d->after, &stat) != 1) return NULL;
   d->after = stat.id;
   e->obj_id = stat.id;
   e->type = stat.type;
@@ -461,20 +551,24 @@ static inline struct spiffs_dirent *SPIFFS_readdir(spiffs_DIR *d, struct spiffs_
 
 static inline s32_t SPIFFS_closedir(spiffs_DIR *d) { return d->fs->is_mounted ? SPIFFS_OK : SPIFFS_ERR_NOT_MOUNTED; }
 
-/* Bytes of data pages that files can have, and of pages that they take, counted as SPIFFS in C counts them. */
-static inline s32_t SPIFFS_info(spiffs *fs, u32_t *total, u32_t *used) {
+static inline s32_t spiffs_names_info(spiffs *fs, u32_t *total, u32_t *used) {
   spf_info info;
   u32_t body = fs->cfg.log_page_size - 5;
   s32_t answer = spf_info_of(&fs->volume, &info);
   if (answer >= 0 && total) *total = (info.usable_pages + 1) * body;
   if (answer >= 0 && used) *used = (info.index_pages + info.data_pages) * body;
-  return spiffs_names_told(fs, answer);
+  return answer;
+}
+
+/* Bytes of data pages that files can have, and of pages that they take, counted as SPIFFS in C counts them. */
+static inline s32_t SPIFFS_info(spiffs *fs, u32_t *total, u32_t *used) {
+  SPIFFS_NAMES_CALL(s32_t, fs, spiffs_names_info(fs, total, used));
 }
 
 /* Cleans every block that is worth cleaning, whatever size is asked for. */
 static inline s32_t SPIFFS_gc(spiffs *fs, u32_t size) {
   (void)size;
-  return spiffs_names_told(fs, spf_gc(&fs->volume));
+  SPIFFS_NAMES_CALL(s32_t, fs, spf_gc(&fs->volume));
 }
 
 #endif
