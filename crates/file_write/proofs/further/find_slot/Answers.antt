@@ -10,5 +10,5 @@ returns-clause-told g c = λ tells tidy.
     let image = g.N.NorState.bytes c.args.v.now.nor.now in
     let found = c.in_ok-page.ensures in
     let first : index_page geometry (own (live_at geometry image) c.args.id) (index_span geometry c.args.span) ≡ Some c.in-Some.page = rw (c.from.ensures, c.index_span.ensures, c.in-Some.is) at (sym (found.told tells tidy)) in
-    slot_told geometry image c.args.id c.args.span c.in-Some.page c.entry_place.result c.read_in.new.into first (rw c.from.ensures at c.entry_place.ensures.place)
+    slot_told geometry image c.args.id c.args.span c.in-Some.page c.entry_place.result c.read_in.new.into first (rw c.from-2.ensures at c.entry_place.ensures.place)
     (rw (found.looks.same.geometry, found.looks.reads.bytes) at (c.in_ok-read_in.ensures.told (found.looks.reads.told tells))) c.in_ok-read_in.ensures.small

@@ -11,7 +11,7 @@ unfolding data_number_of
 returns-in-Some-clause-told g c = λ tells tidy.
     let view = c.args.v.now in
     let image = g.N.NorState.bytes view.nor.now in
-    let found = c.in_ok-seek_header.ensures in
+    let found = c.in_ok-header.ensures in
     let is : index_page view.geometry (own (live_at view.geometry image) c.args.id) 0 ≡ Some c.in-Some.header = sym (found.told tells tidy) ∙ c.in-Some.is in
     let holds : own (live_at view.geometry image) c.args.id c.in-Some.header ≡ Some (page_of view.geometry image c.in-Some.header) = index_known view.geometry image c.args.id 0 c.in-Some.header is in
     told_along _ _ _ (c.named_data.ensures.told (found.looks.reads.told tells) (rw (found.looks.same.geometry, found.looks.reads.bytes) tidy))
@@ -22,5 +22,5 @@ unfolding data_number_of
 returns-in-None-clause-told g c = λ tells tidy.
     let view = c.args.v.now in
     let image = g.N.NorState.bytes view.nor.now in
-    let is : index_page view.geometry (own (live_at view.geometry image) c.args.id) 0 ≡ None = sym (c.in_ok-seek_header.ensures.told tells tidy) ∙ c.in-None.is in
+    let is : index_page view.geometry (own (live_at view.geometry image) c.args.id) 0 ≡ None = sym (c.in_ok-header.ensures.told tells tidy) ∙ c.in-None.is in
     rw is refl
