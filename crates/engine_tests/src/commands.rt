@@ -107,17 +107,20 @@ fn a_row_of_four_chips_answers_as_one_device_and_takes_no_chip_that_does_not_fit
         "run 256 4096 16 0 len chip",
         "check 256 4096 16 0 len chip",
     ] {
-        assert!(rt; give(alloc, words, &mut one, &script, &mut folder)? == 0, "{words}");
-        assert!(rt; give(alloc, words, &mut board, &script, &mut folder)? == 0, "{words}");
+        assert!(rt;
+            give(alloc, words, &mut one, &script, &mut folder)? == 0,
+            "{words}"
+        );
+        assert!(rt;
+            give(alloc, words, &mut board, &script, &mut folder)? == 0,
+            "{words}"
+        );
     }
     let (mut row, said) = board.give_back();
     assert!(rt; said.starts_with(b"files 2 index 2 data 1\n1 1 5 a\n2 1 0 e\nok\n"));
     assert!(rt; said.as_slice() == one.said());
     assert!(rt; hold(&row, one.image()));
-    for (i, size, why) in [
-        (4, 16384, RowErr::NoSuchChip),
-        (1, 8192, RowErr::WrongSize),
-    ] {
+    for (i, size, why) in [(4, 16384, RowErr::NoSuchChip), (1, 8192, RowErr::WrongSize)] {
         let Err(refusal) = row.replace(i, erased_chip(alloc, size)?) else {
             return Err("no refusal".into());
         };
