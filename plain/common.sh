@@ -74,14 +74,16 @@ failed=0
 
 # Does a step, tells whether it went well, and what it said if not.
 try() {
-  local name=$1 said
+  local name=$1 said status
   shift
-  if said=$("$@" 2>&1 </dev/null); then
+  said=$("$@" 2>&1 </dev/null)
+  status=$?
+  if [ "$status" -eq 0 ]; then
     passed=$((passed + 1))
     echo "ok    $name"
   else
     failed=$((failed + 1))
-    printf 'WRONG %s\n%s\n' "$name" "$(tail -n 20 <<<"$said")"
+    printf 'WRONG %s (status %d)\n%s\n' "$name" "$status" "$(tail -n 20 <<<"$said")"
   fi
 }
 
