@@ -20,7 +20,7 @@ use std::fs::File;
 use std::io::Write;
 use std::process::ExitCode;
 use std::rt::Env;
-use std::{env, fs};
+use std::{env, fs, io};
 use tool_core::{Buffers, chip_size_of, is_accepted, spiffs_tool, unit_of};
 use usage::wrong_word;
 use words::{CHIP_WORD, FOLDER_WORD, repairs, word};
@@ -106,10 +106,10 @@ impl Memory {
     }
 }
 
-// The words of the command line, without the program's own name. None where one isn't text.
-fn words_of<R: Env + Alloc<A = Global>>(rt: &R) -> Option<Result<Vec<String>, AllocError>> {
-    let args = env::args(rt).ok()?;
-    Some(args.skip(1).collect(rt.alloc()))
+// The words of the command line, without the program's own name. Else the cause is want of memory, or a word that isn't text.
+fn words_of<R: Env + Alloc<A = Global>>(rt: &R) -> io::Result<Vec<String>> {
+    let args = env::args(rt)?;
+    Ok(args.skip(1).collect(rt.alloc())?)
 }
 
 /// Why no command was begun.
@@ -363,9 +363,9 @@ fn without_force(words: &[String]) -> (&[String], bool) {
 
 fn start(rt: &HostRuntime) -> u8 {
     let words = match words_of(rt) {
-        Some(Ok(words)) => words,
-        Some(Err(_)) => return tell(rt, "! memory\n", 15),
-        None => {
+        Ok(words) => words,
+        Err(why) if why.kind() == io::ErrorKind::OutOfMemory => return tell(rt, "! memory\n", 15),
+        Err(_) => {
             let _said = eprintln!(rt; "spiffs: a word is no UTF-8; try spiffs --help");
             return tell(rt, "! usage\n", USAGE);
         }
