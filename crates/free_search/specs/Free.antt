@@ -5,6 +5,7 @@ use Rattle.std.specs.List.{range_with_len, list_all}
 use Rattle.geometry.specs.declared.geometry.Geometry.{Geometry}
 use Rattle.flash_view.specs.declared.kinds.Kind.{Kind}
 use Rattle.flash_view.specs.declared.kinds.Kind.TheVariants.{Index, Data}
+use Rattle.flash_view.specs.Table.{row_of}
 use Rattle.free_search.specs.declared.pages.Worn.{Worn}
 use Rattle.geometry.specs.Numbers.{per_block, lookups, entries}
 use Rattle.image_model.specs.Places.{has_magic, erase_count, block_of, is_entry_page, entry_at}
@@ -93,6 +94,11 @@ less_worn_of (Some worn) other = if nat_le worn.erases other.erases then Some wo
 -- the less worn of the block so far and this one, where that is free
 abbrev pub worn_with : Geometry → List ℕ → Option Worn → ℕ → Option Worn
 worn_with g image least block = if is_free_block g image block then less_worn_of least (record { block = block; erases = erase_count g image block }) else least
+
+-- the same by its row, which tells that it is free where so many of its entries are
+abbrev pub worn_by_row : (rows : List ℕ) → (entries : ℕ) → Option Worn → ℕ → Option Worn
+worn_by_row rows entries least block =
+    if (row_of rows block).free == entries then less_worn_of least (record { block = block; erases = (row_of rows block).erases }) else least
 
 -- A page is found for an index page that leaves two blocks free exactly where one index page is had.
 abbrev pub IndexPageHad : Geometry → Type 0

@@ -1,5 +1,6 @@
-ghost use Rattle.std.specs.Prelude.{◌≡◌, ◌+◌, ◌<◌, ◌≤◌, ℕ, IfOk, IfSome, true, false};
-ghost use Rattle.geometry.specs.Numbers.{lookups};
+ghost use Rattle.std.specs.Prelude.{◌≡◌, ◌+◌, ◌<◌, ◌≤◌, ◌*◌, ℕ, List, IfOk, IfSome, is_some, length, true, false};
+ghost use Rattle.geometry.specs.Numbers.{lookups, entries as the_entries};
+ghost use Rattle.flash_view.specs.Table.{IsTable};
 ghost use Rattle.flash_view.specs.Places.{IsEntryPage};
 ghost use Rattle.flash_view.specs.Looks.{Looks};
 ghost use Rattle.free_search.specs.ByRows.{IsByRows};
@@ -8,13 +9,13 @@ ghost use Rattle.geometry.specs.declared.geometry.Geometry.{Geometry};
 ghost use Rattle.free_search.specs.Had.{TidyButIsClear, LessHad, PutHad, SameHad, InPlaceHad};
 ghost use Rattle.image_model.specs.Places.{entry_at};
 ghost use Rattle.flash_view.specs.Places.{IsWordAt};
-ghost use Rattle.free_search.specs.Free.{FreePage, is_open_for, the_open_block, the_least_worn, the_block, the_first_free, the_free_page, worn_with, IndexPageHad, DataPageHad};
+ghost use Rattle.free_search.specs.Free.{FreePage, is_open_for, the_open_block, the_least_worn, the_block, the_first_free, the_free_page, worn_with, worn_by_row, IndexPageHad, DataPageHad};
 
 use crate::erases::erases;
 use crate::{counts, free_blocks, is_free_block};
 use flash_view::{Kind, View, entry_page, takes};
 use nor_core::{Failed, Nor, NorState};
-use page_layout::FREE;
+use page_layout::{FREE, read_word};
 
 // The first free entry of a block. (It is read once more, so that it is known to be two bytes.)
 #[tactic(auto, using(flash_view::proofs::Looking::looks_then))]
@@ -116,13 +117,59 @@ fn less_worn<N: Nor>(
     }
 }
 
+// The less worn of the block so far and this one, if its row tells that it is free; the earlier one among equals. (Of the row no more
+// is read than that.)
+fn less_worn_row(rows: &[u8], entries: u32, least: Option<Worn>, block: u16) -> Option<Worn>
+    requires { 16 * block + 16 ≤ length rows.now }
+    ensures { result ≡ worn_by_row rows.now entries least block }
+{
+    let at = 16 * usize::from(block);
+    if u32::from(read_word(rows, at + 6)) != entries {
+        return least;
+    }
+    let erases = read_word(rows, at + 8);
+    match least {
+        Some(worn) if worn.erases <= erases => Some(worn),
+        _ => Some(Worn { block, erases }),
+    }
+}
+
+// The free block that was erased least often, by the rows of so many blocks.
+fn least_by_rows(rows: &[u8], entries: u32, blocks: u16, not_in: Option<u16>) -> Option<u16>
+    requires { 16 * blocks ≤ length rows.now }
+    ensures below { IfSome result (λ block. block < blocks) }
+    ensures told { (g : Geometry) (image : List ℕ) → IsTable g image rows.now → entries ≡ the_entries g → blocks ≡ g.blocks → result ≡ the_least_worn g image not_in }
+{
+    let mut least = None;
+    for block in 0..blocks {
+        if Some(block) != not_in {
+            least = less_worn_row(rows, entries, least, block);
+        }
+    }
+    least.map(|worn| worn.block)
+}
+
+// The same of a volume, where the table of counts stands.
+fn least_counted<N: Nor>(v: &View<'_, N>, not_in: Option<u16>) -> Option<Option<u16>>
+    ensures when { is_some result ≡ v.now.counted }
+    ensures below { IfSome result (λ found. IfSome found (λ block. block < v.now.geometry.blocks)) }
+    ensures told { N.tells v.now.nor.now → IfSome result (λ found. found ≡ the_least_worn v.now.geometry (N.bytes v.now.nor.now) not_in) }
+{
+    v.sums()?;
+    let blocks = v.geometry.blocks() as u16;
+    Some(least_by_rows(v.rows, v.geometry.entries(), blocks, not_in))
+}
+
 // The free block that was erased least often, the lowest-numbered among equals.
-#[tactic(auto, using(flash_view::proofs::Looking::looks_then))]
+#[tactic(auto, using(flash_view::proofs::Looking::looks_then, flash_view::proofs::Looking::looks_none))]
 fn least_worn<N: Nor>(v: &mut View<'_, N>, not_in: Option<u16>) -> Result<Option<u16>, Failed>
     ensures looks { Looks v.old v.new result (λ g image found. TellsFree g image → found ≡ the_least_worn g image not_in) }
     ensures quick { IsByRows v.old v.new result }
     ensures below { IfOk result (λ found. IfSome found (λ block. block < v.old.geometry.blocks)) }
 {
+    if let Some(found) = least_counted(v, not_in) {
+        return Ok(found);
+    }
     let mut least = None;
     for block in 0..v.geometry.blocks() as u16 {
         if Some(block) != not_in {
