@@ -39,7 +39,7 @@ mod tests {
     use nor_memory::{CallKind, MemBoard};
     use std::alloc::Global;
     use std::test::Fail;
-    use vol_mount::{MountErr, format};
+    use vol_mount::{AcceptErr, format};
 
     // A chip of 64 KiB with an empty volume.
     fn formatted(alloc: Global) -> Result<MemBoard, Fail> {
@@ -91,7 +91,7 @@ mod tests {
     #[test]
     fn a_chip_of_another_size_is_refused(rt: HostRuntime) -> Result<(), Fail> {
         let mut board = MemBoard::new(rt.alloc(), vec![in rt.alloc(); 0xFFu8; 4096]?, 4096)?;
-        let wrong = Trouble::Mount(MountErr::Wrong(GeoErr::WrongChip));
+        let wrong = Trouble::Accept(AcceptErr::Wrong(GeoErr::WrongChip));
         assert!(rt; started(&mut board).err() == Some(wrong));
         Ok(())
     }

@@ -1,16 +1,18 @@
 ghost use Rattle.std.specs.Prelude.{◌≡◌};
-ghost use Rattle.vol_mount.specs.declared.lent.MountErr.{MountErr};
+ghost use Rattle.vol_mount.specs.declared.lent.AcceptErr.{AcceptErr};
 ghost use Rattle.firmware_example.specs.declared.trouble.Trouble.{Trouble};
 
 use geometry::GeoErr;
 use table_model::FsErr;
-use vol_mount::MountErr;
+use vol_mount::{AcceptErr, MountErr};
 use volume::CheckErr;
 
 /// Why a device can't use its volume.
 #[derive(Clone, Copy, Debug, PartialEq, Eq)]
 pub enum Trouble {
-    /// The numbers, the chip or the lent memory don't fit, or the chip holds no volume.
+    /// The numbers, the chip or the lent memory don't fit.
+    Accept(AcceptErr),
+    /// The chip holds no volume, or failed while that was looked for.
     Mount(MountErr),
     /// The check refused the volume, or the chip failed in it.
     Check(CheckErr),
@@ -19,10 +21,18 @@ pub enum Trouble {
 }
 
 impl From<GeoErr> for Trouble {
-    ghost from_gives = { λ why trouble. trouble ≡ Trouble.Mount (MountErr.Wrong why) };
+    ghost from_gives = { λ why trouble. trouble ≡ Trouble.Accept (AcceptErr.Wrong why) };
 
     fn from(why: GeoErr) -> Trouble {
-        Trouble::Mount(MountErr::Wrong(why))
+        Trouble::Accept(AcceptErr::Wrong(why))
+    }
+}
+
+impl From<AcceptErr> for Trouble {
+    ghost from_gives = { λ why trouble. trouble ≡ Trouble.Accept why };
+
+    fn from(why: AcceptErr) -> Trouble {
+        Trouble::Accept(why)
     }
 }
 

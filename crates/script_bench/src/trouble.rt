@@ -3,7 +3,7 @@ use nor_core::{Failed, MemErr};
 use std::alloc::AllocError;
 use table_model::FsErr;
 use thiserror::Error;
-use vol_mount::MountErr;
+use vol_mount::{AcceptErr, FormatErr, MountErr};
 
 /// Why something can't be done on a device in memory.
 #[derive(Debug, Drop, Error)]
@@ -17,8 +17,14 @@ pub enum Trouble {
     /// The device isn't as large as the volume, or no whole number of its units.
     #[error("the device does not fit")]
     Device,
+    /// The device or the memory isn't taken.
+    #[error("the device or the memory is not taken: {0}")]
+    Accept(AcceptErr),
+    /// The volume isn't formatted.
+    #[error("the volume is not formatted: {0}")]
+    Format(FormatErr),
     /// The volume isn't mounted.
-    #[error("the volume is not mounted: {0:?}")]
+    #[error("the volume is not mounted: {0}")]
     Mount(MountErr),
     /// A call is refused that wasn't to be.
     #[error("a call is refused: {0:?}")]
@@ -40,6 +46,18 @@ impl From<Failed> for Trouble {
 impl From<MemErr> for Trouble {
     fn from(_why: MemErr) -> Trouble {
         Trouble::Device
+    }
+}
+
+impl From<AcceptErr> for Trouble {
+    fn from(why: AcceptErr) -> Trouble {
+        Trouble::Accept(why)
+    }
+}
+
+impl From<FormatErr> for Trouble {
+    fn from(why: FormatErr) -> Trouble {
+        Trouble::Format(why)
     }
 }
 

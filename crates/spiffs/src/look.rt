@@ -77,7 +77,7 @@ fn is_mounted<N: Nor>(g: &Geometry, nor: &mut N, lent: &mut Lent<'_>) -> Result<
     match mount(&mut v) {
         Ok(()) => Ok(true),
         Err(MountErr::DeviceFault) => Err(Failed),
-        Err(_) => Ok(false),
+        Err(MountErr::NotAFs { .. }) => Ok(false),
     }
 }
 

@@ -11,7 +11,7 @@ use Rattle.image_model.specs.Kinds.{spoiled_blocks}
 use Rattle.folder_core.specs.declared.state.FolderState.{Ghosts as FolderOf}
 use Rattle.vol_mount.specs.declared.lent.MountErr.{MountErr}
 use Rattle.vol_mount.specs.declared.lent.MountErr.TheVariants.{NotAFs as MountNotAFs, DeviceFault as MountFault}
-use Rattle.vol_mount.specs.Mounts.{IsLate, CountsSpoiled}
+use Rattle.vol_mount.specs.Mounts.{CountsSpoiled}
 use Rattle.image_tool.specs.Extracting.{ExtractsAll, ExtractsFront, ExtractsLines}
 use Rattle.image_tool.specs.Lists.{list_of}
 use Rattle.image_tool.specs.Putting.{folder_files, FolderGoes}
@@ -34,13 +34,12 @@ use Rattle.tool_core.proofs.Speaking.{concludes, says_closed, none_closed}
 
 module _ {D X : Type 0} {nor : NorOf D} {folder : FolderOf X} where
   -- a volume that wasn't mounted
-  pub not_mounted : (g : Geometry) (why : MountErr) {old new : D} (d : X) → IsLate why → OnlyReads nor old new → (nor.tells old → CountsSpoiled g (nor.bytes old) why) → Extracts nor folder g old new d d (mount_ends why)
-  not_mounted g (MountNotAFs spoiled) {old} {new} d late reads cause = record {
+  pub not_mounted : (g : Geometry) (why : MountErr) {old new : D} (d : X) → OnlyReads nor old new → (nor.tells old → CountsSpoiled g (nor.bytes old) why) → Extracts nor folder g old new d d (mount_ends why)
+  not_mounted g (MountNotAFs spoiled) {old} {new} d reads cause = record {
     says = says_none _ reads;
     ends = λ tells. let why = cause tells in rw (mount_two g (nor.bytes old) spoiled why.0 why.1) (inl (refl, record { said = reads.said ∙ sym (append-nil (nor.said old)); puts = files_none (kept_none d) }));
   }
-  not_mounted g MountFault d late reads cause = record { says = says_none _ reads; ends = λ tells. inr (inl (refl, record { front = front_none _ reads; partly = partly_none _ (kept_none d) })) }
-  not_mounted g _ d late reads cause = absurd late
+  not_mounted g MountFault d reads cause = record { says = says_none _ reads; ends = λ tells. inr (inl (refl, record { front = front_none _ reads; partly = partly_none _ (kept_none d) })) }
 
 module _ {D : Type 0} {nor : NorOf D} {g : Geometry} where
   -- the list and the files of the first image, which mounts

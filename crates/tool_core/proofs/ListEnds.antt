@@ -8,7 +8,7 @@ use Rattle.image_model.specs.Tables.{damaged_of}
 use Rattle.image_model.specs.Kinds.{spoiled_blocks}
 use Rattle.vol_mount.specs.declared.lent.MountErr.{MountErr}
 use Rattle.vol_mount.specs.declared.lent.MountErr.TheVariants.{NotAFs as MountNotAFs, DeviceFault as MountFault}
-use Rattle.vol_mount.specs.Mounts.{IsLate, CountsSpoiled}
+use Rattle.vol_mount.specs.Mounts.{CountsSpoiled}
 use Rattle.image_tool.specs.Lists.{list_of}
 use Rattle.image_tool.specs.Saying.{OnlySays, SaysFront}
 use Rattle.image_tool.proofs.Speaking.{says_none, front_none, says_after, front_after, says_same}
@@ -20,13 +20,12 @@ use Rattle.tool_core.specs.Refusals.{said_ending}
 use Rattle.tool_core.proofs.Refusals.{mount_two, mount_few}
 
 -- a volume that wasn't mounted
-pub not_mounted : {D : Type 0} {nor : NorOf D} (g : Geometry) (why : MountErr) {old new : D} → IsLate why → OnlyReads nor old new → (nor.tells old → CountsSpoiled g (nor.bytes old) why) → ListsTo nor g old new (mount_ends why)
-not_mounted {D} {nor} g (MountNotAFs spoiled) {old} {new} late reads cause = record {
+pub not_mounted : {D : Type 0} {nor : NorOf D} (g : Geometry) (why : MountErr) {old new : D} → OnlyReads nor old new → (nor.tells old → CountsSpoiled g (nor.bytes old) why) → ListsTo nor g old new (mount_ends why)
+not_mounted {D} {nor} g (MountNotAFs spoiled) {old} {new} reads cause = record {
   says = says_none _ reads;
   speaks = λ tells. let why = cause tells in rw (mount_two g (nor.bytes old) spoiled why.0 why.1) (inr (refl, reads.said ∙ sym (append-nil (nor.said old))));
 }
-not_mounted g MountFault late reads cause = record { says = says_none _ reads; speaks = λ tells. inl (refl, front_none _ reads) }
-not_mounted g _ late reads cause = absurd late
+not_mounted g MountFault reads cause = record { says = says_none _ reads; speaks = λ tells. inl (refl, front_none _ reads) }
 
 module _ {D : Type 0} {nor : NorOf D} {g : Geometry} where
   -- the list of the first image, which mounts

@@ -11,7 +11,7 @@ use Rattle.call_model.specs.Safe.{IsSafe, Holds}
 use Rattle.call_model.proofs.Safety.{safe_as}
 use Rattle.vol_mount.specs.declared.lent.MountErr.{MountErr}
 use Rattle.vol_mount.specs.declared.lent.MountErr.TheVariants.{NotAFs as MountNotAFs, DeviceFault as MountFault}
-use Rattle.vol_mount.specs.Mounts.{IsLate, CountsSpoiled}
+use Rattle.vol_mount.specs.Mounts.{CountsSpoiled}
 use Rattle.vol_check.specs.declared.report.CheckErr.{CheckErr}
 use Rattle.vol_check.specs.declared.report.CheckErr.TheVariants.{Wrong as CheckWrong, Mixed as CheckMixed, DeviceFault as CheckFault, Damaged as CheckDamaged}
 use Rattle.vol_check.specs.declared.report.Report.{Report}
@@ -34,10 +34,9 @@ checks_itself : {g : Geometry} (image : List ℕ) → Checks g image image
 checks_itself image = record { sound = λ magics. record { magics = magics; mixed = λ block h. h; damaged = λ id h. h }; table = refl; reserve = λ reserve. reserve }
 
 -- a volume that wasn't mounted
-pub mount_stops : {D : Type 0} {nor : NorOf D} (g : Geometry) (why : MountErr) {old new : D} → IsLate why → OnlyReads nor old new → CountsSpoiled g (nor.bytes old) why → StopsCheck nor g old new (mount_ends why)
-mount_stops {D} {nor} g (MountNotAFs spoiled) {old} late reads cause = inr (record { refusal = check_two g (nor.bytes old) spoiled cause.0 cause.1; reads = reads })
-mount_stops g MountFault late reads cause = inl (record { fault = refl; looks = λ spoiled is. reads })
-mount_stops g _ late reads cause = absurd late
+pub mount_stops : {D : Type 0} {nor : NorOf D} (g : Geometry) (why : MountErr) {old new : D} → OnlyReads nor old new → CountsSpoiled g (nor.bytes old) why → StopsCheck nor g old new (mount_ends why)
+mount_stops {D} {nor} g (MountNotAFs spoiled) {old} reads cause = inr (record { refusal = check_two g (nor.bytes old) spoiled cause.0 cause.1; reads = reads })
+mount_stops g MountFault reads cause = inl (record { fault = refl; looks = λ spoiled is. reads })
 
 module _ {D : Type 0} {nor : NorOf D} {g : Geometry} where
   -- mounting and the check take the first image

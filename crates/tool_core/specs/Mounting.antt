@@ -8,7 +8,7 @@ use Rattle.image_model.specs.Tidy.{HasReserve}
 use Rattle.image_model.specs.Sound.{HasMagics, IsSound}
 use Rattle.room_laws.specs.Recovery.{Recovers}
 use Rattle.vol_mount.specs.declared.lent.MountErr.{MountErr}
-use Rattle.vol_mount.specs.declared.lent.MountErr.TheVariants.{Wrong as MountWrong, ShortBuffer as MountShort, NotAFs as MountNotAFs, DeviceFault as MountFault}
+use Rattle.vol_mount.specs.declared.lent.MountErr.TheVariants.{NotAFs as MountNotAFs, DeviceFault as MountFault}
 use Rattle.vol_check.specs.declared.report.CheckErr.{CheckErr}
 use Rattle.vol_check.specs.declared.report.CheckErr.TheVariants.{Wrong as CheckWrong, Mixed as CheckMixed, DeviceFault as CheckFault, Damaged as CheckDamaged}
 use Rattle.vol_check.specs.declared.report.Report.{Report}
@@ -51,8 +51,6 @@ StopsCheck nor g old new ending = HasFailed nor g old new ending ⊎ IsRefused n
 
 -- how a command ends that doesn't mount its volume
 abbrev pub mount_ends : MountErr → Ending
-mount_ends (MountWrong why) = WrongGeometry why
-mount_ends (MountShort part need given) = ShortBuffer part need given
 mount_ends (MountNotAFs spoiled) = NotAFs spoiled
 mount_ends MountFault = BoardFault
 

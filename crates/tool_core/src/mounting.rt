@@ -3,7 +3,6 @@ ghost use Rattle.geometry.specs.Numbers.{write_refusal};
 ghost use Rattle.nor_core.specs.Count.{Rose};
 ghost use Rattle.nor_core.specs.Device.{Changes, OnlyReads};
 ghost use Rattle.image_model.specs.Tidy.{IsTidy, HasReserve};
-ghost use Rattle.vol_mount.specs.Mounts.{IsLate};
 ghost use Rattle.vol_check.specs.Checks.{IsWritable};
 ghost use Rattle.volume.specs.Holds.{memory};
 ghost use Rattle.volume.specs.Stages.{takes_calls};
@@ -19,15 +18,12 @@ use volume::{CheckErr, Report, Volume};
 
 /// How a command ends that doesn't mount the volume.
 pub(crate) fn mount_ending(why: MountErr) -> Ending
-    requires { IsLate why }
     ensures ends { result ≡ mount_ends why }
     ensures later { IsLater result }
     ensures fault { result ≡ Ending.BoardFault → why ≡ MountErr.DeviceFault }
     ensures no_script { result ≢ Ending.SourceFault }
 {
     match why {
-        MountErr::Wrong(why) => Ending::Geometry(why),
-        MountErr::ShortBuffer { part, need, given } => Ending::ShortBuffer { part, need, given },
         MountErr::NotAFs { spoiled } => Ending::NotAFs(spoiled),
         MountErr::DeviceFault => Ending::BoardFault,
     }

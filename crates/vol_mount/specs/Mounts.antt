@@ -4,24 +4,18 @@ use Rattle.geometry.specs.declared.geometry.Geometry.{Geometry}
 use Rattle.geometry.specs.Numbers.{work_need, cache_need, check_need}
 use Rattle.image_model.specs.Kinds.{spoiled_blocks}
 use Rattle.vol_mount.specs.declared.lent.Lent.{Lent}
+use Rattle.vol_mount.specs.declared.lent.AcceptErr.{AcceptErr}
 use Rattle.vol_mount.specs.declared.lent.MountErr.{MountErr}
-use Rattle.vol_mount.specs.declared.lent.MountErr.TheVariants.{Wrong, ShortBuffer, NotAFs, DeviceFault}
+use Rattle.vol_mount.specs.declared.lent.MountErr.TheVariants.{NotAFs, DeviceFault}
 use Rattle.vol_mount.specs.Needs.{short_buffer}
-
--- a refusal that comes of reading the device
-abbrev pub IsLate : MountErr → Type 0
-IsLate (Wrong why) = ⊥
-IsLate (ShortBuffer part need given) = ⊥
-IsLate (NotAFs spoiled) = Unit {0}
-IsLate DeviceFault = Unit {0}
 
 -- it names how many blocks of the image lack their magic, two or more
 abbrev pub CountsSpoiled : Geometry → List ℕ → MountErr → Type 0
 CountsSpoiled g image (NotAFs spoiled) = (spoiled ≡ spoiled_blocks g image) × (2 ≤ spoiled)
-CountsSpoiled g image _ = Unit {0}
+CountsSpoiled g image DeviceFault = Unit {0}
 
 -- the first part of the lent memory that is too short
-abbrev pub short_of : Geometry → Lent → Option MountErr
+abbrev pub short_of : Geometry → Lent → Option AcceptErr
 short_of g lent = short_buffer g (length lent.work.now) (length lent.slots.now) (length lent.cache.now) (length lent.check.now)
 
 -- the device has the volume's erase unit and holds the volume, and every part of the lent memory has its need

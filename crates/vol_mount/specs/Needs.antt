@@ -3,15 +3,15 @@ use Rattle.std.specs.Prelude.{ℕ, ◌*◌, Bool, not, nat_lt, ◌==◌, ◌||�
 use Rattle.geometry.specs.declared.geometry.Geometry.{Geometry}
 use Rattle.geometry.specs.Numbers.{work_need, cache_need, check_need}
 use Rattle.vol_mount.specs.declared.lent.Part.TheVariants.{Work, Slots, Cache, Check}
-use Rattle.vol_mount.specs.declared.lent.MountErr.{MountErr}
-use Rattle.vol_mount.specs.declared.lent.MountErr.TheVariants.{ShortBuffer}
+use Rattle.vol_mount.specs.declared.lent.AcceptErr.{AcceptErr}
+use Rattle.vol_mount.specs.declared.lent.AcceptErr.TheVariants.{ShortBuffer}
 
 -- a device of that unit and size doesn't fit: it has another erase unit, or is smaller than the volume
 abbrev pub is_wrong_chip : Geometry → ℕ → ℕ → Bool
 is_wrong_chip g unit size = not (unit == g.phys) || nat_lt size (g.blocks * g.block)
 
 -- the first part of the lent memory that is too short, by the lengths of work, slots, cache and check
-abbrev pub short_buffer : Geometry → ℕ → ℕ → ℕ → ℕ → Option MountErr
+abbrev pub short_buffer : Geometry → ℕ → ℕ → ℕ → ℕ → Option AcceptErr
 short_buffer g work slots cache check =
     if nat_lt work (work_need g) then Some (ShortBuffer Work (work_need g) work)
     else if nat_lt slots 1 then Some (ShortBuffer Slots 1 slots)

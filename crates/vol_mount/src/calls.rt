@@ -11,7 +11,7 @@ ghost use Rattle.image_model.specs.Tables.{table_of};
 ghost use Rattle.page_cache.specs.Kept.{IsKept, FewReads};
 ghost use Rattle.file_find.specs.Marks.{IsMarked};
 ghost use Rattle.file_find.specs.Listing.{damaged_above};
-ghost use Rattle.vol_mount.specs.Mounts.{IsLate, CountsSpoiled};
+ghost use Rattle.vol_mount.specs.Mounts.{CountsSpoiled};
 ghost use Rattle.vol_mount.specs.Reads.{ReadAnswers, IsReadErr};
 
 use crate::reading::{next_record, read_file};
@@ -36,7 +36,6 @@ pub(crate) fn mount_on<N: Nor>(
     requires work { scratch_need g ≤ length work.old }
     requires cache { cache_need g ≤ length cache.old }
     requires kept { IsKept N.NorState g nor.old cache.old }
-    ensures late { IfErr result IsLate }
     ensures cause { result ≡ Err MountErr.DeviceFault → Rose (N.faults nor.old) (N.faults nor.new) }
     ensures looks { OnlyReads N.NorState nor.old nor.new }
     ensures kept { IsKept N.NorState g nor.new cache.new }

@@ -8,7 +8,7 @@ ghost use Rattle.page_put.specs.Fresh.{ErasedTo};
 ghost use Rattle.vol_mount.specs.Formatted.{MakesBlank, BlankTo, IsFormatted};
 ghost use Rattle.vol_mount.specs.Needs.{is_wrong_chip};
 
-use crate::MountErr;
+use crate::FormatErr;
 use crate::mounting::wrong_chip;
 use geometry::{GeoErr, Geometry};
 use nor_core::{Failed, Mark, Nor, NorState};
@@ -72,24 +72,24 @@ fn format_blocks<N: Nor>(g: &Geometry, nor: &mut N) -> Result<(), Failed>
 /// that may not be written and a device that doesn't fit are refused first (`Wrong`); where the device
 /// fails, it can be called again. A cut inside leaves what the next call makes good. Done, failed or cut off, it changes
 /// no byte behind the volume. Of each block it erases each unit once, and makes two programs.
-pub fn format<N: Nor>(g: &Geometry, nor: &mut N) -> Result<(), MountErr>
-    ensures writable { IfSome (write_refusal g.now) (λ why. result ≡ Err (MountErr.Wrong why)) }
-    ensures chip { write_refusal g.now ≡ None → is_wrong_chip g.now (N.unit nor.old) (N.size nor.old) ≡ true → result ≡ Err (MountErr.Wrong GeoErr.WrongChip) }
-    ensures refused { (why : GeoErr) → result ≡ Err (MountErr.Wrong why) → nor.new ≡ nor.old }
-    ensures only { write_refusal g.now ≡ None → is_wrong_chip g.now (N.unit nor.old) (N.size nor.old) ≡ false → IfErr result (λ why. why ≡ MountErr.DeviceFault) }
-    ensures cause { result ≡ Err MountErr.DeviceFault → Rose (N.faults nor.old) (N.faults nor.new) }
+pub fn format<N: Nor>(g: &Geometry, nor: &mut N) -> Result<(), FormatErr>
+    ensures writable { IfSome (write_refusal g.now) (λ why. result ≡ Err (FormatErr.Wrong why)) }
+    ensures chip { write_refusal g.now ≡ None → is_wrong_chip g.now (N.unit nor.old) (N.size nor.old) ≡ true → result ≡ Err (FormatErr.Wrong GeoErr.WrongChip) }
+    ensures refused { (why : GeoErr) → result ≡ Err (FormatErr.Wrong why) → nor.new ≡ nor.old }
+    ensures only { write_refusal g.now ≡ None → is_wrong_chip g.now (N.unit nor.old) (N.size nor.old) ≡ false → IfErr result (λ why. why ≡ FormatErr.DeviceFault) }
+    ensures cause { result ≡ Err FormatErr.DeviceFault → Rose (N.faults nor.old) (N.faults nor.new) }
     ensures changes { Changes N.NorState nor.old nor.new (SameOutside 0 (g.now.blocks * g.now.block)) }
     ensures done { N.tells nor.old → OnOk result (IsFormatted g.now (N.bytes nor.old) (N.bytes nor.new)) }
     ensures few { N.device_writes nor.new ≤ N.device_writes nor.old + g.now.blocks * (g.now.block / g.now.phys + 2) }
 {
     if let Err(why) = g.writable() {
-        return Err(MountErr::Wrong(why));
+        return Err(FormatErr::Wrong(why));
     }
     if wrong_chip(g, nor) {
-        return Err(MountErr::Wrong(GeoErr::WrongChip));
+        return Err(FormatErr::Wrong(GeoErr::WrongChip));
     }
     match format_blocks(g, nor) {
         Ok(()) => Ok(()),
-        Err(Failed) => Err(MountErr::DeviceFault),
+        Err(Failed) => Err(FormatErr::DeviceFault),
     }
 }

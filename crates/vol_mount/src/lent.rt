@@ -1,6 +1,7 @@
 use fd_table::FdSlot;
 use geometry::GeoErr;
 use nor_core::{Nor, NorState};
+use thiserror::Error;
 
 /// The memory that a mounted volume works with. What it holds at first doesn't matter.
 #[derive(Drop)]
@@ -25,29 +26,54 @@ pub struct Returned<'b, N: Nor> {
 }
 
 /// A part of the lent memory.
-#[derive(Clone, Copy, Debug, PartialEq, Eq)]
+#[derive(Clone, Copy, Debug, PartialEq, Eq, Error)]
 pub enum Part {
     /// Bytes for work.
+    #[error("work")]
     Work,
     /// Descriptors.
+    #[error("descriptors")]
     Slots,
     /// Bytes for copies of pages.
+    #[error("cache")]
     Cache,
     /// Bytes for the check and the write window.
+    #[error("check")]
     Check,
     /// Bytes for a line of a script and its reply.
+    #[error("line")]
     Line,
 }
 
-/// Why a volume is not mounted or not formatted.
-#[derive(Clone, Copy, Debug, PartialEq, Eq)]
-pub enum MountErr {
-    /// The numbers don't allow it, or the device doesn't fit them.
+/// Why a device or the lent memory isn't taken for a volume. Nothing was read then.
+#[derive(Clone, Copy, Debug, PartialEq, Eq, Error)]
+pub enum AcceptErr {
+    /// The device doesn't fit the numbers.
+    #[error("{0}")]
     Wrong(GeoErr),
     /// A part of the lent memory is shorter than its need: in bytes, or in descriptors.
+    #[error("the memory lent for {part} has {given}, and {need} are needed")]
     ShortBuffer { part: Part, need: u32, given: usize },
+}
+
+/// Why a volume is not mounted. Nothing was written then.
+#[derive(Clone, Copy, Debug, PartialEq, Eq, Error)]
+pub enum MountErr {
     /// Two or more blocks lack their magic: this is no volume of these numbers.
+    #[error("{spoiled} blocks lack their magic: this is no volume of these numbers")]
     NotAFs { spoiled: u32 },
     /// The device failed.
+    #[error("the device failed")]
+    DeviceFault,
+}
+
+/// Why a volume is not formatted.
+#[derive(Clone, Copy, Debug, PartialEq, Eq, Error)]
+pub enum FormatErr {
+    /// The numbers don't allow writing, or the device doesn't fit them. Nothing was written.
+    #[error("{0}")]
+    Wrong(GeoErr),
+    /// The device failed. What was written stays, and the volume can be formatted again.
+    #[error("the device failed")]
     DeviceFault,
 }

@@ -12,7 +12,7 @@ pub use fd_table::FdSlot;
 pub use formatting::format;
 pub use geometry::{GeoErr, Geometry, MagicKind};
 pub use image_model::Damage;
-pub use lent::{Lent, MountErr, Part, Returned};
+pub use lent::{AcceptErr, FormatErr, Lent, MountErr, Part, Returned};
 pub use mounting::{accept, mount};
 pub use reader::Reader;
 pub use reading::next_record;

@@ -3,10 +3,10 @@ ghost use Rattle.std.specs.Option.{IfSome};
 ghost use Rattle.nor_core.specs.Count.{Rose};
 ghost use Rattle.image_model.specs.Kinds.{spoiled_blocks as the_spoiled};
 ghost use Rattle.flash_view.specs.Same.{OnlyLooks};
-ghost use Rattle.vol_mount.specs.Mounts.{IsLate, CountsSpoiled, Fits, short_of};
+ghost use Rattle.vol_mount.specs.Mounts.{CountsSpoiled, Fits, short_of};
 ghost use Rattle.vol_mount.specs.Needs.{is_wrong_chip, short_buffer};
 
-use crate::{Lent, MountErr, Part};
+use crate::{AcceptErr, Lent, MountErr, Part};
 use flash_view::View;
 use geometry::{GeoErr, Geometry};
 use nor_core::{Failed, Nor, NorState};
@@ -19,18 +19,18 @@ pub(crate) fn wrong_chip<N: Nor>(g: &Geometry, nor: &N) -> bool
 }
 
 // The refusal of a part of the lent memory, if it is too short.
-fn too_short(part: Part, need: u32, given: usize) -> Option<MountErr>
-    ensures { result ≡ (if nat_lt given need then Some (MountErr.ShortBuffer part need given) else None) }
+fn too_short(part: Part, need: u32, given: usize) -> Option<AcceptErr>
+    ensures { result ≡ (if nat_lt given need then Some (AcceptErr.ShortBuffer part need given) else None) }
 {
     if given < need as usize {
-        Some(MountErr::ShortBuffer { part, need, given })
+        Some(AcceptErr::ShortBuffer { part, need, given })
     } else {
         None
     }
 }
 
 // The first part of the lent memory that is too short.
-fn short(g: &Geometry, lent: &Lent<'_>) -> Option<MountErr>
+fn short(g: &Geometry, lent: &Lent<'_>) -> Option<AcceptErr>
     ensures { result ≡ short_buffer g.now (length lent.now.work.now) (length lent.now.slots.now) (length lent.now.cache.now) (length lent.now.check.now) }
 {
     let work = too_short(Part::Work, g.work_need(), lent.work.len());
@@ -65,14 +65,14 @@ fn spoiled_blocks<N: Nor>(v: &mut View<'_, N>) -> Result<u32, Failed>
 
 /// Whether a device and the lent memory fit a volume. Nothing is read. Refused are, in this order, a device
 /// that doesn't fit (`Wrong`), and lent memory that is too short (`ShortBuffer`). `View::new` then takes them.
-pub fn accept<N: Nor>(g: &Geometry, nor: &N, lent: &Lent<'_>) -> Result<(), MountErr>
-    ensures wrong { is_wrong_chip g.now (N.unit nor.now) (N.size nor.now) ≡ true → result ≡ Err (MountErr.Wrong GeoErr.WrongChip) }
+pub fn accept<N: Nor>(g: &Geometry, nor: &N, lent: &Lent<'_>) -> Result<(), AcceptErr>
+    ensures wrong { is_wrong_chip g.now (N.unit nor.now) (N.size nor.now) ≡ true → result ≡ Err (AcceptErr.Wrong GeoErr.WrongChip) }
     ensures short { is_wrong_chip g.now (N.unit nor.now) (N.size nor.now) ≡ false → IfSome (short_of g.now lent.now) (λ why. result ≡ Err why) }
     ensures accepted { is_wrong_chip g.now (N.unit nor.now) (N.size nor.now) ≡ false → short_of g.now lent.now ≡ None → IsOk result }
     ensures fits { OnOk result (Fits g.now (N.unit nor.now) (N.size nor.now) lent.now) }
 {
     if wrong_chip(g, nor) {
-        return Err(MountErr::Wrong(GeoErr::WrongChip));
+        return Err(AcceptErr::Wrong(GeoErr::WrongChip));
     }
     match short(g, lent) {
         Some(why) => Err(why),
@@ -84,7 +84,6 @@ pub fn accept<N: Nor>(g: &Geometry, nor: &N, lent: &Lent<'_>) -> Result<(), Moun
 /// volume of which two or more blocks lack their magic (`NotAFs`). One such block is accepted: a cut while it
 /// was erased left it.
 pub fn mount<N: Nor>(v: &mut View<'_, N>) -> Result<(), MountErr>
-    ensures late { IfErr result IsLate }
     ensures cause { result ≡ Err MountErr.DeviceFault → Rose (N.faults v.old.nor.now) (N.faults v.new.nor.now) }
     ensures looks { OnlyLooks v.old v.new }
     ensures told { N.tells v.old.nor.now → OnOk result (the_spoiled v.old.geometry (N.bytes v.old.nor.now) ≤ 1) }

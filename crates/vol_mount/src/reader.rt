@@ -51,7 +51,7 @@ impl<'b, N: Nor> Reader<'b, N> {
     ghost use Rattle.image_model.specs.Tables.{table_of};
     ghost use Rattle.page_cache.specs.Frames.{held};
     ghost use Rattle.file_find.specs.Listing.{damaged_above};
-    ghost use Rattle.vol_mount.specs.Mounts.{IsLate, CountsSpoiled};
+    ghost use Rattle.vol_mount.specs.Mounts.{CountsSpoiled};
     ghost use Rattle.vol_mount.specs.Reads.{ReadAnswers, IsReadErr};
     ghost use Rattle.vol_mount.specs.Readers.{IsSameReader};
 
@@ -93,7 +93,6 @@ impl<'b, N: Nor> Reader<'b, N> {
     /// Mounts the volume: reads the magic of each block. Refused are a device that fails, and a volume of which two or
     /// more blocks lack their magic (`NotAFs`).
     pub fn mount(&mut self) -> Result<(), MountErr>
-        ensures late { IfErr result IsLate }
         ensures cause { result ≡ Err MountErr.DeviceFault → Rose (N.faults self.old.nor.now) (N.faults self.new.nor.now) }
         ensures looks { OnlyReads N.NorState self.old.nor.now self.new.nor.now }
         ensures told { N.tells self.old.nor.now → OnOk result (spoiled_blocks self.old.geometry (N.bytes self.old.nor.now) ≤ 1) }

@@ -17,5 +17,5 @@ pub use geometry::{GeoErr, Geometry, MagicKind};
 pub use stage::Stage;
 pub use table_model::{Call, Differ, FsErr, Info, Meta, Name, Reply, Stat, Tag, Whence};
 pub use vol_check::{CheckErr, Report};
-pub use vol_mount::{Lent, MountErr, Part, Returned, accept, format};
+pub use vol_mount::{AcceptErr, FormatErr, Lent, MountErr, Part, Returned, accept, format};
 pub use volume::{Unmounted, Volume};

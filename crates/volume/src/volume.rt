@@ -8,7 +8,7 @@ ghost use Rattle.page_cache.specs.Kept.{IsKept, FewReads};
 ghost use Rattle.flash_view.specs.Same.{StaysBehind};
 ghost use Rattle.flash_view.specs.Table.{HasTable, rows_in};
 ghost use Rattle.fd_table.specs.Slots.{descriptors};
-ghost use Rattle.vol_mount.specs.Mounts.{IsLate, CountsSpoiled};
+ghost use Rattle.vol_mount.specs.Mounts.{CountsSpoiled};
 ghost use Rattle.volume.specs.Checking.{ChecksVolume};
 ghost use Rattle.volume.specs.Opening.{is_open, is_mounted};
 
@@ -84,7 +84,6 @@ fn mount_on<N: Nor>(
     ensures cache_size { length cache.new ≡ length cache.old }
     ensures behind { StaysBehind N.NorState g nor.old nor.new }
     ensures few { FewReads N.NorState g nor.old cache.old nor.new cache.new }
-    ensures late { IfErr result IsLate }
     ensures cause { result ≡ Err MountErr.DeviceFault → Rose (N.faults nor.old) (N.faults nor.new) }
     ensures looks { OnlyReads N.NorState nor.old nor.new }
     ensures told { N.tells nor.old → OnOk result (spoiled_blocks g (N.bytes nor.old) ≤ 1) }
@@ -159,7 +158,7 @@ impl<'b, N: Nor> Volume<'b, N> {
     ghost use Rattle.flash_view.specs.Same.{StaysBehind};
     ghost use Rattle.volume.specs.Holds.{memory};
     ghost use Rattle.volume.specs.Unmounts.{UnmountsTo};
-    ghost use Rattle.vol_mount.specs.Mounts.{IsLate, CountsSpoiled};
+    ghost use Rattle.vol_mount.specs.Mounts.{CountsSpoiled};
     ghost use Rattle.volume.specs.Checking.{ChecksVolume};
     ghost use Rattle.volume.specs.Opening.{is_mounted};
     ghost use Rattle.volume.specs.Stages.{takes_calls, has_failed};
@@ -209,8 +208,7 @@ impl<'b, N: Nor> Volume<'b, N> {
     /// volume of which two or more blocks lack their magic (`NotAFs`). One such block is accepted: a cut while it
     /// was erased left it.
     pub fn mount(&mut self) -> Result<(), MountErr>
-        ensures late { IfErr result IsLate }
-        ensures cause { result ≡ Err MountErr.DeviceFault → Rose (N.faults self.old.nor.now) (N.faults self.new.nor.now) }
+            ensures cause { result ≡ Err MountErr.DeviceFault → Rose (N.faults self.old.nor.now) (N.faults self.new.nor.now) }
         ensures looks { OnlyReads N.NorState self.old.nor.now self.new.nor.now }
         ensures told { N.tells self.old.nor.now → OnOk result (spoiled_blocks self.old.geometry (N.bytes self.old.nor.now) ≤ 1) }
         ensures spoiled { N.tells self.old.nor.now → IfErr result (CountsSpoiled self.old.geometry (N.bytes self.old.nor.now)) }

@@ -8,7 +8,7 @@ use Rattle.tool_core.proofs.extracting.extract_view.Goals as goal
 pub returns-in-Err-clause-extracts : goal.returns-in-Err-clause-extracts
 returns-in-Err-clause-extracts g c =
     let v = c.args.v.now in
-    subst (λ (e : Ending). Extracts g.B.NorState g.F.FolderState v.geometry v.nor.now c.mount.new.v.nor.now c.args.folder.now c.args.folder.now e) (sym c.mount_ending.ensures.ends) (not_mounted v.geometry c.in-Err.why c.args.folder.now c.in-Err.ensures.late c.mount.ensures.looks.reads c.in-Err.ensures.spoiled)
+    subst (λ (e : Ending). Extracts g.B.NorState g.F.FolderState v.geometry v.nor.now c.mount.new.v.nor.now c.args.folder.now c.args.folder.now e) (sym c.mount_ending.ensures.ends) (not_mounted v.geometry c.in-Err.why c.args.folder.now c.mount.ensures.looks.reads c.in-Err.ensures.spoiled)
 
 pub returns-in-Ok-clause-extracts : goal.returns-in-Ok-clause-extracts
 returns-in-Ok-clause-extracts g c =

@@ -8,7 +8,7 @@ use Rattle.tool_core.proofs.listing.list_view.Goals as goal
 pub returns-in-Err-clause-lists : goal.returns-in-Err-clause-lists
 returns-in-Err-clause-lists g c =
     let v = c.args.v.now in
-    subst (λ (e : Ending). ListsTo g.B.NorState v.geometry v.nor.now c.mount.new.v.nor.now e) (sym c.mount_ending.ensures.ends) (not_mounted v.geometry c.in-Err.why c.in-Err.ensures.late c.mount.ensures.looks.reads c.in-Err.ensures.spoiled)
+    subst (λ (e : Ending). ListsTo g.B.NorState v.geometry v.nor.now c.mount.new.v.nor.now e) (sym c.mount_ending.ensures.ends) (not_mounted v.geometry c.in-Err.why c.mount.ensures.looks.reads c.in-Err.ensures.spoiled)
 
 pub returns-in-Ok-clause-lists : goal.returns-in-Ok-clause-lists
 returns-in-Ok-clause-lists g c =

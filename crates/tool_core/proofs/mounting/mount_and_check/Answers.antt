@@ -7,7 +7,7 @@ pub returns-in-Err-clause-changes : goal.returns-in-Err-clause-changes
 returns-in-Err-clause-changes g c = mount_changes c.mount.ensures.looks
 
 pub returns-in-Err-clause-stops : goal.returns-in-Err-clause-stops
-returns-in-Err-clause-stops g c = λ tells. rw c.mount_ending.ensures.ends (mount_stops c.args.volume.now.geometry c.in-Err.why c.in-Err.ensures.late c.mount.ensures.looks (c.in-Err.ensures.spoiled tells))
+returns-in-Err-clause-stops g c = λ tells. rw c.mount_ending.ensures.ends (mount_stops c.args.volume.now.geometry c.in-Err.why c.mount.ensures.looks (c.in-Err.ensures.spoiled tells))
 
 pub returns-in-Ok-clause-changes : goal.returns-in-Ok-clause-changes
 returns-in-Ok-clause-changes g c = check_changes c.mount.new.self.geometry c.mount.ensures.same.geometry c.mount.ensures.looks c.check.ensures.checks.changes
