@@ -1,5 +1,5 @@
 -- The turn of an index page: where its block holds data pages it is moved out, over plain images.
-use Rattle.std.proofs.Common.{◌≡◌, ℕ, ◌+◌, ◌*◌, ◌<◌, ◌≤◌, List, [], ◌∷◌, true, false, Some, None, refl, sym, ◌∙◌, ap, rw, arith, ⊎_elim, inl, inr}
+use Rattle.std.proofs.Common.{◌≡◌, ℕ, ◌+◌, ◌*◌, ◌<◌, ◌≤◌, List, [], ◌∷◌, true, false, Some, None, refl, sym, ◌∙◌, ap, arith, ⊎_elim, inl, inr}
 use Rattle.std.proofs.lemmas.Bool.{cases_Bool, false_from_ne_true}
 use Rattle.std.proofs.lemmas.Option.{none-some, same_Some}
 use Rattle.geometry.specs.declared.geometry.Geometry.{Geometry}
@@ -30,7 +30,7 @@ use Rattle.free_search.specs.Free.{IsFreeFor, HasNone}
 use Rattle.free_search.proofs.FoundPage.{free_of}
 use Rattle.block_gc.specs.Moves.{IndexCut, IndexMoved, moving}
 use Rattle.block_gc.specs.Partings.{PartCut, IsBesideData, Parts, PartsPage, parting_page}
-use Rattle.block_gc.proofs.Replacing.{neat_keeps, counts_then}
+use Rattle.block_gc.proofs.Replacing.{neat_keeps}
 
 -- ---- one after the other
 
@@ -47,7 +47,7 @@ parts_on g a b c first then = record {
   keeps = keeps-on g a b c first.keeps then.keeps;
   reserve = λ two. then.reserve (first.reserve two);
   fits = λ spare fits. then.fits spare (first.fits spare fits);
-  counts = counts_then first.counts then.counts;
+  counts = λ block low. then.counts block low ∙ first.counts block low;
 }
 
 pub cut_after : (g : Geometry) (a b c : List ℕ) → Parts g a b → PartCut g b c → PartCut g a c
