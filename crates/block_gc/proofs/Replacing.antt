@@ -80,12 +80,12 @@ replace_left all = inr (all.middle, all.put, kill_left all.kill)
 -- ---- erase counts
 
 -- they stay from image to image
-pub counts_then : {g : Geometry} {a b c : List ℕ} → SameCounts g a b → SameCounts g b c → SameCounts g a c
-counts_then first second block low = second block low ∙ first block low
+pub counts_then : (g : Geometry) (a b c : List ℕ) → SameCounts g a b → SameCounts g b c → SameCounts g a c
+counts_then g a b c first second block low = second block low ∙ first block low
 
 -- and where a page takes the place of another
 pub replaced_counts : {g : Geometry} {p o : ℕ} {page a b : List ℕ} → Replaced g p o page a b → SameCounts g a b
-replaced_counts all = counts_then all.put.agree.counts all.kill.agree.counts
+replaced_counts {g} {p} {o} {page} {a} {b} all = counts_then g a all.middle b all.put.agree.counts all.kill.agree.counts
 
 -- ---- index pages
 
