@@ -143,4 +143,7 @@ module _ (g : Geometry) (a0 : List ℕ) (o p : ℕ) (tag : Tag) (work : List ℕ
         gone = all.kill.loses.after;
         tails = tails b all;
         counts = replaced_counts all;
+        copy = new;
+        copy_index = pages.1.new_index;
+        replaced = all;
       }
