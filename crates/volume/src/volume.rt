@@ -208,7 +208,7 @@ impl<'b, N: Nor> Volume<'b, N> {
     /// volume of which two or more blocks lack their magic (`NotAFs`). One such block is accepted: a cut while it
     /// was erased left it.
     pub fn mount(&mut self) -> Result<(), MountErr>
-            ensures cause { result ≡ Err MountErr.DeviceFault → Rose (N.faults self.old.nor.now) (N.faults self.new.nor.now) }
+        ensures cause { result ≡ Err MountErr.DeviceFault → Rose (N.faults self.old.nor.now) (N.faults self.new.nor.now) }
         ensures looks { OnlyReads N.NorState self.old.nor.now self.new.nor.now }
         ensures told { N.tells self.old.nor.now → OnOk result (spoiled_blocks self.old.geometry (N.bytes self.old.nor.now) ≤ 1) }
         ensures spoiled { N.tells self.old.nor.now → IfErr result (CountsSpoiled self.old.geometry (N.bytes self.old.nor.now)) }
