@@ -10,7 +10,9 @@ mod marking;
 mod mixed;
 mod report;
 mod spoiled;
+mod survey;
 mod unwanted;
 
 pub use checking::check_stages;
 pub use report::{CheckErr, Report};
+pub use survey::{Parting, Survey};
