@@ -2,9 +2,9 @@
 use Rattle.std.specs.Prelude.{◌≡◌, ℕ, ◌<◌, List, false}
 use Rattle.geometry.specs.declared.geometry.Geometry.{Geometry}
 use Rattle.image_model.specs.Shared.{shared_blocks, shared_index, open_entries, blocks_to_use, fits_over, FitsWith}
-use Rattle.vol_check.specs.declared.survey.Survey.{Survey}
-use Rattle.vol_check.specs.declared.survey.Parting.{Parting}
-use Rattle.vol_check.specs.declared.survey.Parting.TheVariants.{None, Fits, Over}
+use Rattle.vol_check.specs.declared.parting.Survey.{Survey}
+use Rattle.vol_check.specs.declared.parting.Parting.{Parting}
+use Rattle.vol_check.specs.declared.parting.Parting.TheVariants.{None, Fits, Over}
 
 -- What a check finds has the numbers of the image.
 pub record IsSurvey (g : Geometry) (image : List ℕ) (found : Survey) : Type 0 where

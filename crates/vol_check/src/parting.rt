@@ -1,12 +1,3 @@
-ghost use Rattle.std.specs.Prelude.{◌≤◌, length, OnErr, IfOk};
-ghost use Rattle.geometry.specs.Numbers.{check_need};
-ghost use Rattle.nor_core.specs.Count.{Rose};
-ghost use Rattle.flash_view.specs.Same.{OnlyLooks};
-ghost use Rattle.vol_check.specs.Surveys.{IsSurvey, TellsParting};
-
-use flash_view::View;
-use nor_core::{Failed, Nor, NorState};
-
 /// What a check has to part, by the wanted pages of an image.
 #[derive(Clone, Copy, Debug, PartialEq, Eq)]
 pub struct Survey {
