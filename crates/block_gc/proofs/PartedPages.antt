@@ -1,5 +1,5 @@
 -- The turn of an index page: where its block holds data pages it is moved out, over plain images.
-use Rattle.std.proofs.Common.{◌≡◌, ℕ, ◌+◌, ◌*◌, ◌<◌, ◌≤◌, List, [], ◌∷◌, true, false, Some, None, refl, sym, ◌∙◌, ap, rw, arith, ⊎_elim, inl, inr}
+use Rattle.std.proofs.Common.{◌≡◌, ℕ, ◌+◌, ◌*◌, ◌<◌, ◌≤◌, List, [], ◌∷◌, true, false, Some, None, refl, sym, ◌∙◌, ap, arith, ⊎_elim, inl, inr}
 use Rattle.std.proofs.lemmas.Bool.{cases_Bool, false_from_ne_true}
 use Rattle.std.proofs.lemmas.Option.{none-some, same_Some}
 use Rattle.geometry.specs.declared.geometry.Geometry.{Geometry}
@@ -11,13 +11,14 @@ use Rattle.image_model.specs.Live.{live_at}
 use Rattle.image_model.specs.Places.{block_of, IsImage}
 use Rattle.image_model.specs.Tidy.{IsTidy, IsNeat, is_free_block, free_blocks}
 use Rattle.image_model.specs.Kinds.{is_index_page, is_data_page, is_data_block}
+use Rattle.image_model.specs.Shared.{FitsWith}
 use Rattle.image_model.specs.Within.{entry_in, block_number, page_number}
 use Rattle.image_laws.specs.Sharing.{IsCopying}
 use Rattle.image_laws.proofs.Copying.{copying-fits}
 use Rattle.image_laws.proofs.Damaged.{any_at, any_from}
 use Rattle.image_laws.proofs.Frames.{live_parts}
 use Rattle.image_laws.proofs.Matching.{filter-none_in}
-use Rattle.image_laws.proofs.MixedBlocks.{data_some}
+use Rattle.image_laws.proofs.MixedBlocks.{index_some, data_some}
 use Rattle.image_laws.proofs.Sounding.{keeps-on}
 use Rattle.image_laws.proofs.Unshared.{fits-less}
 use Rattle.room_laws.specs.Parting.{IsPartPlace}
@@ -27,10 +28,9 @@ use Rattle.room_laws.proofs.OnTheWay.{all_nil, all_cons, all_at}
 use Rattle.room_laws.proofs.PartMoves.{part_place_is_found, move_parts_one}
 use Rattle.free_search.specs.Free.{IsFreeFor, HasNone}
 use Rattle.free_search.proofs.FoundPage.{free_of}
-use Rattle.page_renew.proofs.Homes.{some_index}
 use Rattle.block_gc.specs.Moves.{IndexCut, IndexMoved, moving}
-use Rattle.block_gc.specs.Partings.{PartCut, IsBesideData, Parts, CanPartPage, PartsPage, parting_page}
-use Rattle.block_gc.proofs.Replacing.{neat_keeps, counts_then}
+use Rattle.block_gc.specs.Partings.{PartCut, IsBesideData, Parts, PartsPage, parting_page}
+use Rattle.block_gc.proofs.Replacing.{neat_keeps}
 
 -- ---- one after the other
 
@@ -47,7 +47,7 @@ parts_on g a b c first then = record {
   keeps = keeps-on g a b c first.keeps then.keeps;
   reserve = λ two. then.reserve (first.reserve two);
   fits = λ spare fits. then.fits spare (first.fits spare fits);
-  counts = counts_then first.counts then.counts;
+  counts = λ block low. then.counts block low ∙ first.counts block low;
 }
 
 pub cut_after : (g : Geometry) (a b c : List ℕ) → Parts g a b → PartCut g b c → PartCut g a c
@@ -63,7 +63,7 @@ cut_after g a b c first cut = record {
 pub none_beside : (g : Geometry) (a : List ℕ) (o : ℕ) → IsTidy g a → IsBesideData g a o → ⊥
 unfolding is_data_block
 none_beside g a o tidy beside =
-    let x = some_index (live_at g a o) beside.index in
+    let x = index_some (live_at g a o) beside.index in
     let w = any_at (λ (p : ℕ). is_data_page (live_at g a p)) (block_of g o * per_block g + lookups g) (entries g) beside.held in
     let y = data_some (live_at g a w.0) w.3 in
     let low : block_of g o < g.blocks = block_number g o (page_number g o (live_parts g a o x.0 x.1).entry_page) in
@@ -83,7 +83,7 @@ data_back g a c to block copying held =
     (λ (copy : (w.0 ≡ to) × (names_index y.0 ≡ true)). let bad : true ≡ false = sym copy.1 ∙ y.2 in absurd (cc))
     (copying.live w.0 y.0 y.1)
 
-module _ (g : Geometry) (a : List ℕ) (o : ℕ) (can : CanPartPage g a o) where
+module _ (g : Geometry) (a : List ℕ) (o : ℕ) (neat : IsNeat g a) (fits : FitsWith g a 0) (index : is_index_page (live_at g a o) ≡ true) where
   abbrev step : ℕ → Move
   step to = record { from = o; to = to }
 
@@ -95,7 +95,7 @@ module _ (g : Geometry) (a : List ℕ) (o : ℕ) (can : CanPartPage g a o) where
         (λ (was : live_at g a q ≡ Some x). inl was)
         (λ (come : HasCome g a (step to ∷ []) q x).
         let same = all_at (λ (m : Move). (m.from ≡ o) × (m.to ≡ to)) (step to ∷ []) come.move (all_cons (λ (m : Move). (m.from ≡ o) × (m.to ≡ to)) (step to) [] (refl, refl) (all_nil (λ (m : Move). (m.from ≡ o) × (m.to ≡ to)))) come.one in
-        let old = some_index (live_at g a o) can.index in
+        let old = index_some (live_at g a o) index in
         let is : come.old ≡ old.0 = same_Some come.old old.0 (sym come.from ∙ ap (live_at g a) same.0 ∙ old.1) in
         inr (sym come.at ∙ same.1, come.tag.kind ∙ ap names_index is ∙ old.2))
         (way.way.live q x live);
@@ -104,7 +104,7 @@ module _ (g : Geometry) (a : List ℕ) (o : ℕ) (can : CanPartPage g a o) where
   -- a page of a block without data pages is passed over
   pub page_passes : is_data_block g a (block_of g o) ≡ false → PartsPage g o a a
   page_passes plain = record {
-    parts = parts_itself g a can.neat;
+    parts = parts_itself g a neat;
     gone = λ beside. let bad : true ≡ false = sym beside.held ∙ plain in absurd (cc);
     others = λ q beside. beside;
   }
@@ -114,8 +114,8 @@ module _ (g : Geometry) (a : List ℕ) (o : ℕ) (can : CanPartPage g a o) where
     pub place_found : HasNone g a IndexPage 2 None → ⊥
     unfolding free_blocks
     place_found none =
-        let x = some_index (live_at g a o) can.index in
-        let three = part_place_is_found g a o x.0 can.neat can.fits x.1 x.2 held (λ block low takes. none.full block low (λ e. none-some block (sym e)) takes) in
+        let x = index_some (live_at g a o) index in
+        let three = part_place_is_found g a o x.0 neat fits x.1 x.2 held (λ block low takes. none.full block low (λ e. none-some block (sym e)) takes) in
         ⊎_elim
         (λ (few : free_blocks g a ≤ 2). omega (arith, three, few))
         (λ (used : (block : ℕ) → block < g.blocks → (Some block ≡ None → ⊥) → is_free_block g a block ≡ false).
@@ -141,13 +141,13 @@ module _ (g : Geometry) (a : List ℕ) (o : ℕ) (can : CanPartPage g a o) where
 
       move_cut : (c : List ℕ) → IndexCut g o to a c → PartCut g a c
       move_cut c cut =
-          let law = copying-fits g a c to can.neat found.page found.free found.kind_is many (copying c to cut.way) in
+          let law = copying-fits g a c to neat found.page found.free found.kind_is many (copying c to cut.way) in
           record { keeps = cut.keeps; reserve = law.1; fits = law.0 }
 
       -- of the pages beside data pages the image has but some
       stays_beside : (c : List ℕ) → IsCopying g to a c → (q : ℕ) → IsBesideData g c q → IsBesideData g a q
       stays_beside c copying q beside =
-          let x = some_index (live_at g c q) beside.index in
+          let x = index_some (live_at g c q) beside.index in
           let held : is_data_block g a (block_of g q) ≡ true = data_back g a c to (block_of g q) copying beside.held in
           ⊎_elim
           (λ (old : live_at g a q ≡ Some x.0). record { index = rw old x.2; held = held })
@@ -157,9 +157,9 @@ module _ (g : Geometry) (a : List ℕ) (o : ℕ) (can : CanPartPage g a o) where
 
       move_done : (c : List ℕ) → IndexMoved g o to a c → PartsPage g o a c
       move_done c done =
-          let x = some_index (live_at g a o) can.index in
+          let x = index_some (live_at g a o) index in
           let r = done.replaced in
-          let one = move_parts_one g a r.middle c o to x.0 done.copy can.neat done.neat place x.1 x.2 held done.copy_index r.put r.kill in
+          let one = move_parts_one g a r.middle c o to x.0 done.copy neat done.neat place x.1 x.2 held done.copy_index r.put r.kill in
           record {
             parts = record { neat = done.neat; keeps = done.cut.keeps; reserve = one.reserve; fits = one.fits; counts = done.counts };
             gone = λ beside. let bad : false ≡ true = rw done.gone at beside.index in absurd (cc);
@@ -169,7 +169,7 @@ module _ (g : Geometry) (a : List ℕ) (o : ℕ) (can : CanPartPage g a o) where
       -- and it is moved there
       pub page_moves : Finishes g a a (moving o to) (parting_page o)
       page_moves = record {
-        needs = record { neat = can.neat; index = can.index; free = free_of g a IndexPage 2 to None is found; entry = found.free; kind = found.kind_is };
+        needs = record { neat = neat; index = index; free = free_of g a IndexPage 2 to None is found; entry = found.free; kind = found.kind_is };
         cut = λ c cut. move_cut c cut;
         done = λ c ok done. move_done c done;
       }

@@ -41,20 +41,14 @@ pub record Parts (g : Geometry) (was now : List ℕ) : Type 0 where
   pub fits : (spare : ℕ) → FitsWith g was spare → FitsWith g now spare
   pub counts : SameCounts g was now
 
--- A live index page can have its turn.
-pub record CanPartPage (g : Geometry) (image : List ℕ) (page : ℕ) : Type 0 where
-  pub neat : IsNeat g image
-  pub fits : FitsWith g image 0
-  pub index : is_index_page (live_at g image page) ≡ true
-
--- It had its turn: it doesn't lie beside data pages, and each page that does lay so before.
+-- An index page had its turn: it doesn't lie beside data pages, and each page that does lay so before.
 pub record PartsPage (g : Geometry) (page : ℕ) (was now : List ℕ) : Type 0 where
   pub parts : Parts g was now
   pub gone : IsBesideData g now page → ⊥
   pub others : (q : ℕ) → IsBesideData g now q → IsBesideData g was q
 
 abbrev pub parting_page : (page : ℕ) → Step (Unit {0})
-parting_page page = record { needs = λ g was. CanPartPage g was page; cut = λ g was image. PartCut g was image; done = λ g was now ok. PartsPage g page was now }
+parting_page page = record { needs = λ g was. IsNeat g was × FitsWith g was 0; cut = λ g was image. PartCut g was image; done = λ g was now ok. PartsPage g page was now }
 
 -- All index pages below page `at` had their turns.
 pub record PartsTo (g : Geometry) (at : ℕ) (was now : List ℕ) : Type 0 where

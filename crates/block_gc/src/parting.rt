@@ -19,8 +19,9 @@ use page_layout::{FREE, INDEX_BIT};
 // free blocks are kept.
 fn part_page<N: Nor>(v: &mut View<'_, N>, page: u16) -> Result<(), StepErr>
     requires page { IsEntryPage v.old.geometry page }
+    requires index { N.tells v.old.nor.now → is_index_page (live_at v.old.geometry (N.bytes v.old.nor.now) page) ≡ true }
     ensures step { Stepped stopped v.old v.new result (parting_page page) }
-    ensures idle { N.tells v.old.nor.now → IsTidy v.old.geometry (N.bytes v.old.nor.now) → is_index_page (live_at v.old.geometry (N.bytes v.old.nor.now) page) ≡ true → OnlyReads N.NorState v.old.nor.now v.new.nor.now }
+    ensures idle { N.tells v.old.nor.now → IsTidy v.old.geometry (N.bytes v.old.nor.now) → OnlyReads N.NorState v.old.nor.now v.new.nor.now }
     ensures few { N.device_writes v.new.nor.now ≤ N.device_writes v.old.nor.now + 6 }
 {
     let block = block_of(&v.geometry, page);
