@@ -94,9 +94,9 @@ fn part_and_clear<N: Nor>(v: &mut View<'_, N>, shares: bool, free: u32) -> Resul
     ensures step { Stepped check_stopped v.old v.new result (finishing shares free) }
     ensures idle { shares ≡ false → 2 ≤ free → OnlyReads N.NorState v.old.nor.now v.new.nor.now }
 {
-    let free = divide(v, shares, free)?;
-    if free >= 2 {
-        return Ok(free);
+    let left = divide(v, shares, free)?;
+    if left >= 2 {
+        return Ok(left);
     }
     clear(v)
 }
