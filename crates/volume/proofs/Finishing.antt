@@ -24,8 +24,9 @@ use Rattle.block_gc.proofs.Cleanings.{swept_none, none_of_none}
 use Rattle.flash_view.specs.declared.view.View.{View}
 use Rattle.flash_view.specs.Same.{IsSameView, OnlyLooks}
 use Rattle.flash_view.specs.Steps.{Stepped}
+use Rattle.flash_view.proofs.Looking.{looks_none}
 use Rattle.vol_check.specs.declared.report.CheckErr.{CheckErr}
-use Rattle.vol_check.specs.declared.report.CheckErr.TheVariants.{Wrong, DeviceFault}
+use Rattle.vol_check.specs.declared.report.CheckErr.TheVariants.{Wrong, Mixed, DeviceFault}
 use Rattle.vol_check.specs.declared.report.Report.{Report}
 use Rattle.vol_check.specs.Checks.{IsWritable, IsRefusal, IsOfStages, CountsMixed, Checked}
 use Rattle.vol_check.specs.Works.{StageCut}
@@ -215,7 +216,7 @@ module _ (g : Geometry) (was mid now : List ℕ) (report : Report) (free : ℕ) 
 -- ---- over a device
 
 -- a look before a check
-checks_after : {N : Type 0} {nor : NorOf N} {old seen : View N nor} {new : N} {r : Result Report CheckErr} → OnlyLooks old seen → ChecksVolume nor seen.geometry seen.nor.now new r → ChecksVolume nor old.geometry old.nor.now new r
+pub checks_after : {N : Type 0} {nor : NorOf N} {old seen : View N nor} {new : N} {r : Result Report CheckErr} → OnlyLooks old seen → ChecksVolume nor seen.geometry seen.nor.now new r → ChecksVolume nor old.geometry old.nor.now new r
 checks_after {N} {nor} {old} {seen} {new} {r} looks after =
     let reads = looks.reads in
     let c : ChecksVolume nor old.geometry seen.nor.now new r = subst (λ (k : Geometry). ChecksVolume nor k seen.nor.now new r) looks.same.geometry after in
@@ -240,6 +241,56 @@ checks_after {N} {nor} {old} {seen} {new} {r} looks after =
     on_refusal : (r : Result Report CheckErr) {P Q : Type 0} → IfErr r (λ why. IsRefusal why → P) → (P → Q) → IfErr r (λ why. IsRefusal why → Q)
     on_refusal (Ok x) h go = tt
     on_refusal (Err why) h go = λ refusal. go (h refusal)
+
+module _ {N : Type 0} {nor : NorOf N} where
+  -- the volume may not be written
+  pub judges_wrong : (v : View N nor) (why : GeoErr) → write_refusal v.geometry ≡ Some why → Judges v v (Err (Wrong why))
+  judges_wrong v why is = record {
+    looks = looks_none v;
+    wrong = subst (λ (o : Option GeoErr). IfSome o (λ e. ◌≡◌ {A = Result Bool CheckErr} (Err (Wrong why)) (Err (Wrong e)))) (sym is) refl;
+    writable = λ none. let no : None ≡ Some why = sym none ∙ is in absurd (cc);
+    among = tt;
+    cause = λ fault. absurd (cc);
+    fits = λ tells. tt;
+    mixed = λ tells. tt;
+  }
+
+module _ {N : Type 0} {nor : NorOf N} {old seen : View N nor} (fine : write_refusal old.geometry ≡ None) (looks : OnlyLooks old seen) where
+  -- the device failed
+  pub judges_fault : Rose (nor.faults old.nor.now) (nor.faults seen.nor.now) → Judges old seen (Err DeviceFault)
+  judges_fault rose = record {
+    looks = looks;
+    wrong = no_refusal (write_refusal old.geometry) _ fine;
+    writable = λ none. tt;
+    among = tt;
+    cause = λ fault. rose;
+    fits = λ tells. tt;
+    mixed = λ tells. tt;
+  }
+
+  -- what is shared doesn't fit over
+  pub judges_over : (blocks : ℕ) → (nor.tells old.nor.now → (blocks ≡ shared_blocks old.geometry (nor.bytes old.nor.now)) × (fits_over old.geometry (nor.bytes old.nor.now) ≡ false)) → Judges old seen (Err (Mixed blocks))
+  judges_over blocks over = record {
+    looks = looks;
+    wrong = no_refusal (write_refusal old.geometry) _ fine;
+    writable = λ none. tt;
+    among = tt;
+    cause = λ fault. absurd (cc);
+    fits = λ tells. tt;
+    mixed = over;
+  }
+
+  -- it fits over
+  pub judges_fitting : (shares : Bool) → (nor.tells old.nor.now → IsFitting old.geometry (nor.bytes old.nor.now) shares) → Judges old seen (Ok shares)
+  judges_fitting shares fitting = record {
+    looks = looks;
+    wrong = no_refusal (write_refusal old.geometry) _ fine;
+    writable = λ none. tt;
+    among = tt;
+    cause = λ fault. absurd (cc);
+    fits = fitting;
+    mixed = λ tells. tt;
+  }
 
 module _ {N : Type 0} {nor : NorOf N} {old seen : View N nor} where
   -- it was refused before anything was written, or the device failed then
@@ -269,6 +320,17 @@ module _ {N : Type 0} {nor : NorOf N} {old seen : View N nor} where
 
       as_bool : (w : CheckErr) → IsErrOf {T = Report} (Err w) DeviceFault → IsErrOf {T = Bool} (Err w) DeviceFault
       as_bool w is = ap (λ (x : CheckErr). Err x) (same_err w DeviceFault is)
+
+  -- it was not, and that holds of the view after it
+  module _ {shares : Bool} (magics : nor.tells old.nor.now → HasMagics old.geometry (nor.bytes old.nor.now)) (judges : Judges old seen (Ok shares)) where
+    pub fine_on : write_refusal seen.geometry ≡ None
+    fine_on = ap write_refusal judges.looks.same.geometry ∙ none_wrong (write_refusal old.geometry) shares judges.wrong
+
+    pub magics_on : nor.tells seen.nor.now → HasMagics seen.geometry (nor.bytes seen.nor.now)
+    magics_on tells = rw (judges.looks.same.geometry, judges.looks.reads.bytes) (magics (judges.looks.reads.told_before tells))
+
+    pub fitting_on : nor.tells seen.nor.now → IsFitting seen.geometry (nor.bytes seen.nor.now) shares
+    fitting_on tells = rw (judges.looks.same.geometry, judges.looks.reads.bytes) (judges.fits (judges.looks.reads.told_before tells))
 
 -- the volume may be written and fits over, so no image of it is refused
 module _ {N : Type 0} {nor : NorOf N} {old mid : View N nor} (shares : Bool) (fine : write_refusal old.geometry ≡ None) (magics : nor.tells old.nor.now → HasMagics old.geometry (nor.bytes old.nor.now))
