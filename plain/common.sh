@@ -35,19 +35,27 @@ get_debian_crates() {
 # crates.io, else Debian's are installed. Fails where they can't be had.
 get_crates() {
   local config=$1/.cargo/config.toml
-  [ -e "$config" ] && has_debian_crates && return
-  rm -f "$config"
+  if [ -e "$config" ]; then
+    has_debian_crates && return
+    let_go_of_crates "$1"
+  fi
   if ! has_debian_crates; then
     (cd "$1" && CARGO_NET_RETRY=0 timeout 60 cargo fetch --quiet) >/dev/null 2>&1 && return
     get_debian_crates && has_debian_crates || return
   fi
+  let_go_of_crates "$1"
   mkdir -p "$1/.cargo"
   printf '[source.crates-io]\nreplace-with = "debian"\n\n[source.debian]\ndirectory = "%s"\n' "$debian_crates" >"$config"
-  rm -f "$1"/Cargo.lock "$1"/*/Cargo.lock
 }
 
-# What `cargo build` needs for a target, as words in `for_target`, and its compiler in `rustc`. The target's library is rustup's, or
-# else it is built of Debian's sources of it (package rust-web-src, of the version of rustc-web). Fails where neither is there.
+# Forgets where the crates of a workspace came from. (Cargo.lock has the versions and the sums of the crates of one source.)
+let_go_of_crates() {
+  rm -f "$1"/.cargo/config.toml "$1"/Cargo.lock "$1"/*/Cargo.lock
+}
+
+# What `cargo build` needs for a target, as words in `for_target`, its compiler in `rustc`, and where the programs then are in `made`.
+# The target's library is rustup's, or else it is built of Debian's sources of it (package rust-web-src, of the version of rustc-web),
+# once for all workspaces of the edition. Fails where neither is there.
 #
 #   set_target TARGET LIBRARY FOLDER    LIBRARY is core or std; FOLDER is that of the edition
 set_target() {
@@ -66,7 +74,8 @@ set_target() {
     for_target=(env RUSTC=$rustc RUSTC_BOOTSTRAP=1 $linker /usr/bin/cargo --offline -Zbuild-std="${2/std/std,panic_abort}"
       --config "source.debian.directory='$3/crates'")
   fi
-  for_target+=(build --release --quiet --target "$1")
+  for_target+=(build --release --quiet --target "$1" --target-dir "$3/target")
+  made=$3/target/$1/release
 }
 
 passed=0
