@@ -59,7 +59,7 @@ let_go_of_crates() {
 #
 #   set_target TARGET LIBRARY FOLDER    LIBRARY is core or std; FOLDER is that of the edition
 set_target() {
-  local sysroot sources linker= name=${1//-/_}
+  local sysroot sources linker= name=${1//-/_} library=-Zbuild-std=$2
   sysroot=$(rustc --print sysroot)
   for_target=(cargo)
   rustc=rustc
@@ -71,8 +71,10 @@ set_target() {
     ln -sfn "$debian_crates"/* "$sources"/vendor/* "$3/crates/"
     # (Debian's rustc has no linker of its own for these)
     case $1 in thumb*) linker=CARGO_TARGET_${name^^}_LINKER=arm-none-eabi-ld ;; esac
+    # (without backtraces, for which more crates than for all else would be built)
+    [ "$2" != std ] || library+=",panic_abort -Zbuild-std-features=panic-unwind"
     rustc=/usr/bin/rustc
-    for_target=(env RUSTC=$rustc RUSTC_BOOTSTRAP=1 $linker /usr/bin/cargo --offline -Zbuild-std="${2/std/std,panic_abort}"
+    for_target=(env RUSTC=$rustc RUSTC_BOOTSTRAP=1 $linker /usr/bin/cargo --offline $library
       --config "source.debian.directory='$3/crates'")
   fi
   for_target+=(build --release --quiet --target "$1" --target-dir "$3/target")
