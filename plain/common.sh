@@ -4,16 +4,16 @@
 registry_crates="arrayvec byteorder itoa memchr thiserror"
 debian_crates=/usr/share/cargo/registry
 
-# Each workspace has its own folder for what is built.
+# What is built is looked for in the folder of the edition.
 unset CARGO_TARGET_DIR
 
-# Tells why the edition can't be built here, if it can't: sources of edition 2024 want cargo 1.85.
+# Tells why the edition can't be built here, if it can't: its manifests tell rust-version 1.87, for `str::from_utf8`.
 missing_tool() {
   local version
   command -v python3 >/dev/null || { echo "python3 isn't there"; return; }
   command -v cargo >/dev/null || { echo "cargo isn't there"; return; }
   version=$(cargo --version 2>/dev/null | awk '{ split($2, part, "."); print part[1] * 1000 + part[2] }')
-  [ "${version:-0}" -ge 1085 ] || echo "cargo is older than 1.85"
+  [ "${version:-0}" -ge 1087 ] || echo "cargo is older than 1.87"
 }
 
 has_debian_crates() {
@@ -35,56 +35,80 @@ get_debian_crates() {
 # crates.io, else Debian's are installed. Fails where they can't be had.
 get_crates() {
   local config=$1/.cargo/config.toml
-  [ -e "$config" ] && has_debian_crates && return
-  rm -f "$config"
+  if [ -e "$config" ]; then
+    has_debian_crates && return
+    let_go_of_crates "$1"
+  fi
   if ! has_debian_crates; then
     (cd "$1" && CARGO_NET_RETRY=0 timeout 60 cargo fetch --quiet) >/dev/null 2>&1 && return
     get_debian_crates && has_debian_crates || return
   fi
+  let_go_of_crates "$1"
   mkdir -p "$1/.cargo"
   printf '[source.crates-io]\nreplace-with = "debian"\n\n[source.debian]\ndirectory = "%s"\n' "$debian_crates" >"$config"
-  rm -f "$1"/Cargo.lock "$1"/*/Cargo.lock
 }
 
-# What `cargo build` needs for a target, as words in `for_target`, and its compiler in `rustc`. The target's library is rustup's, or
-# else it is built of Debian's sources of it (package rust-web-src, of the version of rustc-web). Fails where neither is there.
+# Forgets where the crates of a workspace came from. (Cargo.lock has the versions and the sums of the crates of one source.)
+let_go_of_crates() {
+  rm -f "$1"/.cargo/config.toml "$1"/Cargo.lock "$1"/*/Cargo.lock
+}
+
+# What `cargo build` needs for a target, as words in `for_target`, its compiler in `rustc`, and where the programs then are in `made`.
+# The target's library is rustup's, or else it is built of Debian's sources of it (package rust-web-src, of the version of rustc-web),
+# once for all workspaces of the edition. Fails where neither is there.
 #
 #   set_target TARGET LIBRARY FOLDER    LIBRARY is core or std; FOLDER is that of the edition
 set_target() {
-  local sysroot sources linker= name=${1//-/_}
+  local sysroot sources linker= name=${1//-/_} library=-Zbuild-std=$2
   sysroot=$(rustc --print sysroot)
   for_target=(cargo)
   rustc=rustc
   if ! compgen -G "$sysroot/lib/rustlib/$1/lib/lib$2-*.rlib" >/dev/null; then
     sources=/usr/src/rustc-$(/usr/bin/rustc --version 2>/dev/null | cut -d' ' -f2)/library
     [ -d "$sources/vendor" ] && [ -x /usr/bin/cargo ] && has_debian_crates || return
+    lock_crates "$3" || return
     mkdir -p "$3/crates"
     ln -sfn "$debian_crates"/* "$sources"/vendor/* "$3/crates/"
     # (Debian's rustc has no linker of its own for these)
     case $1 in thumb*) linker=CARGO_TARGET_${name^^}_LINKER=arm-none-eabi-ld ;; esac
+    # (without backtraces, for which more crates than for all else would be built)
+    [ "$2" != std ] || library+=",panic_abort -Zbuild-std-features=panic-unwind"
     rustc=/usr/bin/rustc
-    for_target=(env RUSTC=$rustc RUSTC_BOOTSTRAP=1 $linker /usr/bin/cargo --offline -Zbuild-std="${2/std/std,panic_abort}"
+    for_target=(env RUSTC=$rustc RUSTC_BOOTSTRAP=1 $linker /usr/bin/cargo --offline $library
       --config "source.debian.directory='$3/crates'")
   fi
-  for_target+=(build --release --quiet --target "$1")
+  for_target+=(build --release --quiet --target "$1" --target-dir "$3/target")
+  made=$3/target/$1/release
+}
+
+# Writes down which crates the workspaces of the edition take, where that isn't done yet: of the sources beside a library cargo would take newer
+# ones, which it doesn't find in the next build without them.
+lock_crates() {
+  local workspace
+  for workspace in "$1" "$1/spiffs_c" "$1/firmware"; do
+    (cd "$workspace" && { [ -e Cargo.lock ] || /usr/bin/cargo generate-lockfile --quiet --offline; }) || return
+  done
 }
 
 passed=0
 failed=0
 
-# Does a step, tells whether it went well, and what it said if not.
+# Does a step, tells whether it went well and how many seconds of a processor it took, and what it said if not.
 try() {
-  local name=$1 said status
+  local name=$1 status took said TIMEFORMAT='%U %S'
   shift
-  said=$("$@" 2>&1 </dev/null)
+  said=$(mktemp)
+  took=$({ time "$@" >"$said" 2>&1 </dev/null; } 2>&1)
   status=$?
+  took=$(awk '{ printf "%.0f", $1 + $2 }' <<<"$took")
   if [ "$status" -eq 0 ]; then
     passed=$((passed + 1))
-    echo "ok    $name"
+    echo "ok    $name, $took s"
   else
     failed=$((failed + 1))
-    printf 'WRONG %s (status %d)\n%s\n' "$name" "$status" "$(tail -n 20 <<<"$said")"
+    printf 'WRONG %s, %s s (status %d)\n%s\n' "$name" "$took" "$status" "$(tail -n 20 "$said")"
   fi
+  rm -f "$said"
 }
 
 # Ends a script of such steps.

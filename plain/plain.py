@@ -190,7 +190,7 @@ class Edition:
         return text + "\n" + "".join(f"pub mod {name};\n" for name in modules)
 
     def manifest(self, package, uses):
-        text = f'[package]\nname = "{package.name}"\nversion = "0.1.0"\nedition = "2024"\n'
+        text = f'[package]\nname = "{package.name}"\nversion = "0.1.0"\nedition = "2024"\nrust-version = "1.87"\n'
         text += self.part(package, "Cargo.extra") or "publish = false\n"
         text += "\n[dependencies]\n" + "".join(self.dependency(package, name) for name in sorted(uses))
         if package.no_std:

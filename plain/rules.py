@@ -33,6 +33,8 @@ def idle_names(text):
 
 def without(text, idle):
     """Laws and empty traits go, where they are made, called, implemented, asked for and brought in."""
+    if not idle:
+        return text
     one = f"(?:{'|'.join(sorted(idle))})"
     text = EMPTY_TRAIT.sub("", LAW.sub("", text))
     text = re.sub(rf"^ *{one}\(\);\n", "", text, flags=re.M)
