@@ -25,7 +25,7 @@ use Rattle.block_gc.specs.Turns.{TurnCut, TurnDone}
 use Rattle.block_gc.specs.declared.batch.Carried.{Carried}
 use Rattle.block_gc.specs.Batches.{move_of, moves_of, are_from, IsLeft, HaveGone, Drops, dropping}
 use Rattle.block_gc.proofs.BatchRenews.{mapped}
-use Rattle.block_gc.proofs.Replacing.{flags_stay, kill_left}
+use Rattle.block_gc.proofs.Replacing.{counts_then, flags_stay, kill_left}
 
 no_or : (x : Bool) → (x || true) ≡ false → ⊥
 no_or true e = absurd (cc)
@@ -138,6 +138,7 @@ module _ (g : Geometry) (was image : List ℕ) (block most page : ℕ) (x : Carr
             (λ (dead : live_at g image page ≡ None). inr (still page dead))
             d.gone;
         tails = λ j ready. tail-dropped g image b x.from one.old one.live one.kind kill j (d.tails j ready);
+        counts = counts_then g was image b d.counts kill.agree.counts;
       }
 
   killed_one : (b : List ℕ) → KillDone g x.from image b → HaveGone g (x ∷ left) left image b
@@ -185,4 +186,5 @@ module _ (g : Geometry) (was image : List ℕ) (block most page : ℕ) (d : Drop
     others = others_alive;
     between = λ first so_far. (batch_goes_on g first was image block d.index d.moves d.low so_far d.can.places d.ways d.some d.out d.place d.batch on_way tidy d.index_gone).0;
     tails = d.tails;
+    counts = d.counts;
   }

@@ -11,12 +11,12 @@ use Rattle.image_model.specs.Files.{index_page, index_span}
 use Rattle.image_laws.proofs.Finish.{own-parts}
 use Rattle.image_laws.proofs.Frames.{live_parts}
 use Rattle.image_laws.proofs.Judge.{index_passes}
-use Rattle.image_laws.proofs.TidySteps.{tidy-is_tidy}
+use Rattle.image_laws.proofs.TidySteps.{neat_of, tidy-is_tidy}
 use Rattle.room_laws.proofs.BatchPuts.{carrying_starts}
 use Rattle.room_laws.proofs.Carried.{begins_between}
 use Rattle.room_laws.proofs.OnTheWay.{all_nil, all_cons}
 use Rattle.flash_view.specs.Steps.{Begins, Finishes}
-use Rattle.page_renew.proofs.Homes.{Home, home_of, index_some}
+use Rattle.page_renew.proofs.Homes.{Home, index_some}
 use Rattle.block_gc.specs.Turns.{CanMoveBatch, moving_batch}
 use Rattle.block_gc.specs.declared.batch.Batch.{Batch}
 use Rattle.block_gc.specs.declared.batch.Carried.{Carried}
@@ -25,7 +25,7 @@ use Rattle.block_gc.proofs.BatchCalls.{one_more}
 use Rattle.block_gc.proofs.BatchDrops.{drops_end, gone_then}
 use Rattle.block_gc.proofs.BatchCopies.{some_data}
 use Rattle.block_gc.proofs.IndexOut.{block_low}
-use Rattle.block_gc.proofs.Replacing.{tidy_keeps}
+use Rattle.block_gc.proofs.Replacing.{tidy_keeps, home_of}
 
 -- ---- a batch begins
 
@@ -34,7 +34,7 @@ module _ (g : Geometry) (was : List ℕ) (block most : ℕ) (batch : Batch) (pag
   low = block_low g block page (live_parts g was page can.of.page can.of.live).entry_page can.at
 
   home0 : Home g was batch.id
-  home0 = subst (λ (n : ℕ). Home g was n) can.index.id (home_of g was can.is can.can.can.tidy batch.index can.index.page can.index.live)
+  home0 = subst (λ (n : ℕ). Home g was n) can.index.id (home_of g was can.is (neat_of can.can.can.tidy) batch.index can.index.page can.index.live)
 
   beside : StandsBeside g was was batch.id
   beside = record {
@@ -65,6 +65,7 @@ module _ (g : Geometry) (was : List ℕ) (block most : ℕ) (batch : Batch) (pag
     beside = beside;
     few = omega arith;
     tails = λ id ready. ready;
+    counts = λ c inside. refl;
   }
 
   first_can : CanCarry g was block most batch [] page span was

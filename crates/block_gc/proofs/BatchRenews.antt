@@ -55,7 +55,7 @@ use Rattle.page_put.specs.LivePages.{finished_page}
 use Rattle.page_renew.specs.Copies.{count_of}
 use Rattle.page_renew.specs.Renewals.{replacing}
 use Rattle.page_renew.proofs.FreeEntries.{free_behind}
-use Rattle.page_renew.proofs.Homes.{serves_data, own_of, of_kind, Home, home_of}
+use Rattle.page_renew.proofs.Homes.{serves_data, own_of, of_kind, Home}
 use Rattle.page_renew.proofs.IndexCopies.{placed_index}
 use Rattle.page_renew.proofs.Renewed.{slot_same, renewed, now_same}
 use Rattle.block_gc.specs.Turns.{TurnCut}
@@ -65,7 +65,7 @@ use Rattle.block_gc.specs.Batches.{move_of, moves_of, are_from, are_to, IsCarrie
 use Rattle.block_gc.proofs.BatchCopies.{data_there, named_moves}
 use Rattle.block_gc.proofs.BatchNames.{AreDistinct, IsThere, Leads, names_lead, names_each, names_left, names_size, names_head, names_small, names_finished, to_one, from_one, from_there}
 use Rattle.block_gc.proofs.BatchPlaces.{some_carried}
-use Rattle.block_gc.proofs.Replacing.{keeps_same, flags_stay, not_put, still_live, replace_left, index_alone, set_twice, index_ready}
+use Rattle.block_gc.proofs.Replacing.{keeps_same, counts_then, replaced_counts, home_of, flags_stay, not_put, still_live, replace_left, index_alone, set_twice, index_ready}
 
 some_in : (o : Option (List ℕ)) (f : List ℕ → ℕ) (n : ℕ) → option_map f o ≡ Some n → (x : List ℕ) → o ≡ Some x → f x ≡ n
 some_in o f n is x at = let e : Some (f x) ≡ Some n = rw at at is in same_Some (f x) n e
@@ -177,10 +177,10 @@ module _ (g : Geometry) (was image : List ℕ) (block most : ℕ) (batch : Batch
     first4 = c.beside.index (span_of old) ∙ ap (index_page g pages0) (sym at_span) ∙ c.index.first
 
     home0 : Home g was id
-    home0 = subst (λ (n : ℕ). Home g was n) c.index.id (home_of g was c.is c.can.tidy w c.index.page c.index.live)
+    home0 = subst (λ (n : ℕ). Home g was n) c.index.id (home_of g was c.is (neat_of c.can.tidy) w c.index.page c.index.live)
 
     alone4 : (r : ℕ) → is_index (pages4 r) (span_of old) ≡ true → r ≡ w
-    alone4 r passes = index_alone g was c.is c.can.tidy id home0 (span_of old) w (ap (index_page g pages0) (sym at_span) ∙ c.index.first) r (c.beside.alone r (span_of old) passes)
+    alone4 r passes = index_alone g was c.is (neat_of c.can.tidy) id home0 (span_of old) w (ap (index_page g pages0) (sym at_span) ∙ c.index.first) r (c.beside.alone r (span_of old) passes)
 
     count : count_of g image (obj_id old % 0x8000) ≡ data_pages g (size_of head)
     unfolding count_of
@@ -428,6 +428,7 @@ module _ (g : Geometry) (was image : List ℕ) (block most : ℕ) (batch : Batch
             apart = c.carrying.are;
             gone = inl can.all.begun;
             tails = λ j ready. tail-copied g image b6 to w id h old new head leads.head' f0 f0 start all leads.spans next j (c.tails j ready);
+            counts = counts_then g was image b6 c.counts (replaced_counts all);
           }
 
     pub rename_puts : Finishes g image image (replacing to w tag work) (renaming_to was block most batch page to cs)

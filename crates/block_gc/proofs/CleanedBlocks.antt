@@ -25,6 +25,7 @@ use Rattle.room_laws.proofs.Carried.{begins_between, fits_has_places}
 use Rattle.room_laws.proofs.CleanedImages.{emptied_has_cleaned}
 use Rattle.room_laws.proofs.Blocks.{free_told}
 use Rattle.room_laws.proofs.FreshMends.{fresh_way_mends}
+use Rattle.room_laws.proofs.Recounts.{fresh_erases}
 use Rattle.room_laws.proofs.Recovering.{still_mends}
 use Rattle.room_laws.proofs.Resolved.{dead_sort}
 use Rattle.room_laws.proofs.Sorted.{tidy_tells_free}
@@ -107,6 +108,7 @@ module _ (g : Geometry) (a b : List ℕ) (block count : ℕ) (is_a : IsImage g a
     cleaned = emptied_has_cleaned g a b c block low is_a can.tidy between emptied (image_of c fresh.outside.size) (fresh_tidy g block b empty.can.tidy dead count c fresh)
         (table_of-same g c b (fresh_live g block b empty.can.tidy dead count c fresh)) fresh.outside fresh.free;
     count = fresh.count ∙ next;
+    others = λ d inside out. fresh_erases g b c block fresh.outside d out ∙ empty.counts d inside;
     tails = λ id ready. tail-stays g b c id (ap (λ (live : Live). own live id) (fun_ext (fresh_live g block b empty.can.tidy dead count c fresh))) (empty.tails id ready);
   }
 

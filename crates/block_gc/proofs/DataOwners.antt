@@ -23,7 +23,8 @@ use Rattle.image_laws.proofs.TidySteps.{neat_of}
 use Rattle.block_gc.specs.Batches.{IsNamedBy}
 use Rattle.page_renew.proofs.IndexCopies.{high_id}
 use Rattle.block_gc.proofs.BatchCopies.{some_data}
-use Rattle.page_renew.proofs.Homes.{serves_data, own_of, index_some, Home, home_of}
+use Rattle.page_renew.proofs.Homes.{serves_data, own_of, index_some, Home}
+use Rattle.block_gc.proofs.Replacing.{home_of}
 
 live_data : (o : Option (List ℕ)) → is_data_page o ≡ true → (x : List ℕ) × (o ≡ Some x)
 live_data None h = absurd (cc)
@@ -56,7 +57,7 @@ module _ (g : Geometry) (image : List ℕ) (page : ℕ) (is : IsImage g image) (
   span_of_it = ap (λ (h : PageHeader). h.span) head_is
 
   home : Home g image (obj_id there.0 % 0x8000)
-  home = home_of g image is tidy page there.0 there.1
+  home = home_of g image is (neat_of tidy) page there.0 there.1
 
   mine : own (live_at g image) (obj_id there.0 % 0x8000) page ≡ Some there.0
   mine = own_of (live_at g image) page there.0 there.1

@@ -14,6 +14,7 @@ use Rattle.image_laws.proofs.Sounding.{keeps-on}
 use Rattle.flash_view.specs.Steps.{Step, Begins, Finishes}
 use Rattle.block_gc.specs.Turns.{CanEmpty, TurnCut, TurnDone, moving_index, moving_batch, turning_entry, Emptied, emptying}
 use Rattle.block_gc.proofs.IndexOut.{turn_stays}
+use Rattle.block_gc.proofs.Replacing.{counts_then}
 
 -- ---- one turn
 
@@ -26,6 +27,7 @@ turn_passes g a block most p is dead can = record {
   others = λ q x here live. live;
   between = λ first so_far. so_far;
   tails = λ id ready. ready;
+  counts = λ c inside. refl;
 }
 
 pub index_turn : (g : Geometry) (a : List ℕ) (block most p : ℕ) → 1 ≤ most → is_index_page (live_at g a p) ≡ true → CanEmpty g a block → Finishes g a a (moving_index block p) (turning_entry block most p)
@@ -60,7 +62,7 @@ dead_around g a block q here around = dead (live_at g a q) refl
 pub none_turned : (g : Geometry) (a : List ℕ) (block most : ℕ) → IsImage g a → CanEmpty g a block → TurnCut g block most a a × Emptied g block (block * per_block g + lookups g + 0) a a
 none_turned g a block most is can =
     let stays = turn_stays g a block most is can in
-    (stays, record { keeps = stays.keeps; can = can; gone = λ q here below. dead_around g a block q here (inl (omega (arith, below))); between = λ first so_far. so_far; tails = λ id ready. ready })
+    (stays, record { keeps = stays.keeps; can = can; gone = λ q here below. dead_around g a block q here (inl (omega (arith, below))); between = λ first so_far. so_far; tails = λ id ready. ready; counts = λ c inside. refl })
 
 pub turns_begin : (g : Geometry) (a : List ℕ) (block most n k : ℕ) → CanEmpty g a block → Begins g a (emptying_to block most n) (emptying_to block most k)
 turns_begin g a block most n k can = record { needs = can; cut = λ c cut. cut }
@@ -86,6 +88,7 @@ emptied_on g block p first a b so_far turn = record {
       (cases_eq q p);
   between = λ f so. turn.between f (so_far.between f so);
   tails = λ id ready. turn.tails id (so_far.tails id ready);
+  counts = counts_then g first a b so_far.counts turn.counts;
 }
 
 -- a cut in a turn
@@ -112,6 +115,7 @@ emptied_end g block p n first a all so_far = record {
   gone = λ q here low. ⊎_elim (λ (below : q < p). so_far.gone q here below) (λ (high : p ≤ q). dead_around g a block q here (inr (omega (arith, high, all)))) (cases_lt q p);
   between = so_far.between;
   tails = so_far.tails;
+  counts = so_far.counts;
 }
 
 pub turns_end : (g : Geometry) (a : List ℕ) (block most n : ℕ) → entries g ≤ n → CanEmpty g a block → Finishes g a a (emptying_to block most n) (emptying block most)

@@ -7,6 +7,8 @@ use Rattle.image_model.specs.Within.{page_number, block_number}
 use Rattle.image_model.specs.Live.{live_at}
 use Rattle.image_model.specs.Places.{block_of, is_entry_page, IsImage}
 use Rattle.image_model.specs.Kinds.{is_index_page}
+use Rattle.image_laws.proofs.TidySteps.{neat_of}
+use Rattle.image_laws.proofs.Unshared.{sound-tidy}
 use Rattle.flash_view.specs.declared.kinds.Kind.TheVariants.{Index as IndexPage}
 use Rattle.flash_view.specs.Steps.{Finishes}
 use Rattle.free_search.specs.Free.{IsFreeFor, HasNone}
@@ -85,16 +87,18 @@ module _ (g : Geometry) (a : List ℕ) (block : ℕ) (is : IsImage g a) (can : C
 
       pub index_moves : Finishes g a a (moving o to) (moving_index block o)
       index_moves = record {
-        needs = record { tidy = can.tidy; index = index; free = free_of g a IndexPage 0 to (Some block) is found; entry = found.free; kind = found.kind_is };
+        needs = record { neat = neat_of can.tidy; index = index; free = free_of g a IndexPage 0 to (Some block) is found; entry = found.free; kind = found.kind_is };
         cut = λ c cut. record { keeps = cut.keeps; mends = λ first may few between. index_way_mends g first a c block step may between out cut.way };
         done = λ c ok done.
             let way = done.cut.way in
+            let tidy = sound-tidy g a c can.tidy done.cut.keeps.sound done.neat in
             record {
               keeps = done.cut.keeps;
-              can = record { tidy = done.tidy; places = (index_goes_on g a a c block step low between can.places out way done.tidy done.gone).1 };
+              can = record { tidy = tidy; places = (index_goes_on g a a c block step low between can.places out way tidy done.gone).1 };
               gone = done.gone;
               others = others_alive c way;
-              between = λ first so_far. (index_goes_on g first a c block step low so_far can.places out way done.tidy done.gone).0;
+              between = λ first so_far. (index_goes_on g first a c block step low so_far can.places out way tidy done.gone).0;
               tails = done.tails;
+              counts = done.counts;
             };
       }

@@ -1,5 +1,5 @@
 -- Moving an index page, from what the put of its copy and its kill leave.
-use Rattle.std.proofs.Common.{◌≡◌, ℕ, ◌%◌, ◌<◌, ◌≤◌, Option, List, [], ◌∷◌, length, take, set, slice_range, false, ◌&&◌, Some, ap, refl, sym, ◌∙◌, arith, ⊎_elim, inl, subst}
+use Rattle.std.proofs.Common.{◌≡◌, ℕ, ◌%◌, ◌<◌, ◌≤◌, Option, List, [], ◌∷◌, length, take, set, slice_range, Some, ap, refl, sym, ◌∙◌, arith, ⊎_elim, inl, subst}
 use Rattle.std.specs.Prelude.{unwrap_or}
 use Rattle.std.proofs.lemmas.List.{get_or-take}
 use Rattle.geometry.specs.declared.geometry.Geometry.{Geometry}
@@ -15,30 +15,26 @@ use Rattle.image_model.specs.Files.{index_page, span_bytes, index_span}
 use Rattle.image_laws.specs.LiveSteps.{PutLeaves, PutDone, KillLeaves}
 use Rattle.image_laws.specs.Put.{IsReadyPage}
 use Rattle.image_laws.specs.Reindex.{Reindexes, slot_word, now_data}
-use Rattle.image_laws.specs.Spares.{leftover}
 use Rattle.image_laws.proofs.Frames.{live_parts}
-use Rattle.image_laws.proofs.SpareKill.{tidy-has_magics}
-use Rattle.image_laws.proofs.TidySteps.{tidy-is_tidy}
 use Rattle.renew_laws.specs.Recopy.{RecopiesTo}
 use Rattle.renew_laws.specs.Replace.{ReplaceCut, Replaced}
 use Rattle.renew_laws.specs.Tails.{KeepsTails}
-use Rattle.renew_laws.proofs.IdleKill.{idles-end}
 use Rattle.renew_laws.proofs.RecopyCuts.{recopy-cuts}
-use Rattle.renew_laws.proofs.RecopyLeaves.{recopy-spares}
+use Rattle.renew_laws.proofs.RecopyLeaves.{recopied-neat}
 use Rattle.renew_laws.proofs.TailSteps.{tail-copied}
 use Rattle.page_put.specs.Placing.{placed_page}
 use Rattle.page_put.specs.LivePages.{finished_page}
 use Rattle.page_renew.specs.Built.{IsBuilt}
 use Rattle.page_renew.specs.Copies.{count_of}
 use Rattle.page_renew.proofs.FreeEntries.{free_behind}
-use Rattle.page_renew.proofs.Homes.{some_index, own_of, of_kind, Home, home_of}
+use Rattle.page_renew.proofs.Homes.{some_index, own_of, of_kind, Home}
 use Rattle.page_renew.proofs.IndexCopies.{built_page}
 use Rattle.page_renew.proofs.Renewed.{same_id, same_span, slot_same, renewed, now_same}
 use Rattle.room_laws.specs.Tags.{SameTag}
 use Rattle.room_laws.specs.Ways.{Move, AreApart, AreMoves, OnWay}
 use Rattle.room_laws.proofs.OnTheWay.{all_nil, way_none, way_put, way_kill, done_leaves}
 use Rattle.block_gc.specs.Moves.{CanMove, IndexCut, IndexMoved}
-use Rattle.block_gc.proofs.Replacing.{tidy_keeps, keeps_same, replace_left, index_first, index_alone, set_twice, index_ready}
+use Rattle.block_gc.proofs.Replacing.{neat_magics, neat_keeps, keeps_same, replaced_counts, home_of, replace_left, index_first, index_alone, set_twice, index_ready}
 
 one_move : (g : Geometry) (a : List ℕ) (o p : ℕ) → CanMove g a o p → AreMoves g a (record { from = o; to = p } ∷ [])
 unfolding AreMoves
@@ -49,7 +45,7 @@ one_move g a o p can =
 -- where nothing was programmed
 pub none_cut : (g : Geometry) (a : List ℕ) (o p : ℕ) → IsImage g a → CanMove g a o p → IndexCut g o p a a
 none_cut g a o p is can = record {
-  keeps = tidy_keeps g a can.tidy;
+  keeps = neat_keeps g a can.neat;
   way = record {
     moves_are = one_move g a o p can;
     way = record { image_is = is; magic = λ b. refl; live = λ q y live. inl live; free = λ q page aside. refl };
@@ -68,7 +64,7 @@ module _ (g : Geometry) (a0 : List ℕ) (o p : ℕ) (tag : Tag) (work : List ℕ
   new = finished_page g Index tag work
 
   home : Home g a0 id
-  home = home_of g a0 is can.tidy o old built.live
+  home = home_of g a0 is can.neat o old built.live
 
   mine : own (live_at g a0) id o ≡ Some old
   mine = own_of (live_at g a0) o old built.live
@@ -80,7 +76,7 @@ module _ (g : Geometry) (a0 : List ℕ) (o p : ℕ) (tag : Tag) (work : List ℕ
   sets = ap (λ (l : List ℕ). set l 4 0xF8) (built_page g a0 o tag work is built) ∙ set_twice (take g.page work) 4 0xFA 0xF8
 
   first : index_page g (own (live_at g a0) id) (span_of old) ≡ Some o
-  first = index_first g a0 is can.tidy id home o old mine built.index
+  first = index_first g a0 is can.neat id home o old mine built.index
 
   count : count_of g a0 id ≡ data_pages g (size_of home.head)
   unfolding count_of
@@ -88,19 +84,19 @@ module _ (g : Geometry) (a0 : List ℕ) (o p : ℕ) (tag : Tag) (work : List ℕ
 
   pages : (head' : List ℕ) × Reindexes g (own (live_at g a0) id) id o home.h old new home.head head' home.f home.f
   pages =
-      renewed g old (take g.page work) new (count_of g a0 id) built.copied sets len (own (live_at g a0) id) id o home.h home.head home.f mine first (index_alone g a0 is can.tidy id home (span_of old) o first) built.index refl
+      renewed g old (take g.page work) new (count_of g a0 id) built.copied sets len (own (live_at g a0) id) id o home.h home.head home.f mine first (index_alone g a0 is can.neat id home (span_of old) o first) built.index refl
       home.at home.header home.file count
 
   pub moved_ready : (1 ≤ tag.id) × (tag.id ≤ 0x7FFE) → IsReadyPage g (placed_page g Index tag work) 0xF8
   moved_ready = index_ready g tag work (take g.page work) (built_page g a0 o tag work is built) (built.copied.size ∙ len) (λ k below. rw (get_or-take g.page work k 0 below) (built.small k below))
 
   start : RecopiesTo g a0 p o id home.h old new home.head pages.0 home.f home.f
-  start = record { undamaged = can.tidy.undamaged; inside = can.free.entry_page; kind = of_kind g a0 p new can.kind pages.1.new_index; pages = pages.1 }
+  start = record { undamaged = can.neat.undamaged; inside = can.free.entry_page; kind = of_kind g a0 p new can.kind pages.1.new_index; pages = pages.1 }
 
   -- the copy leads to the same bytes, and its entry behind the last one is free
   spans : (t : ℕ) → t < data_pages g (size_of home.head) → slice_range (unwrap_or (now_data g (own (live_at g a0) id) home.head new t) []) 5 g.page ≡ span_bytes g (own (live_at g a0) id) home.head t
   spans t below = ap (λ (x : Option (List ℕ)). slice_range (unwrap_or x []) 5 g.page)
-      (now_same g old (take g.page work) new (count_of g a0 id) built.copied sets len (own (live_at g a0) id) id o home.h home.head home.f mine first (index_alone g a0 is can.tidy id home (span_of old) o first) built.index refl
+      (now_same g old (take g.page work) new (count_of g a0 id) built.copied sets len (own (live_at g a0) id) id o home.h home.head home.f mine first (index_alone g a0 is can.neat id home (span_of old) o first) built.index refl
       home.at home.header home.file count t below)
 
   next : head_slots g ≤ data_pages g (size_of home.head) → index_span g (data_pages g (size_of home.head)) ≡ span_of old → slot_word g new (data_pages g (size_of home.head)) ≡ 0xFFFF
@@ -130,20 +126,24 @@ module _ (g : Geometry) (a0 : List ℕ) (o p : ℕ) (tag : Tag) (work : List ℕ
 
   pub move_left : (c : List ℕ) → ReplaceCut g p o new a0 c → IndexCut g o p a0 c
   move_left c cut =
-      let law = recopy-cuts g a0 c p o id home.h old new home.head pages.0 home.f home.f start (tidy-has_magics g a0 (λ (r : ℕ). false) ((tidy-is_tidy g a0 (λ (r : ℕ). false)).0 can.tidy)) cut in
-      let keeps = keeps_same g a0 c id home.h home.f can.tidy.undamaged home.has law.0 in
+      let law = recopy-cuts g a0 c p o id home.h old new home.head pages.0 home.f home.f start (neat_magics g a0 can.neat) cut in
+      let keeps = keeps_same g a0 c id home.h home.f can.neat.undamaged home.has law.0 in
       record { keeps = keeps; way = record { moves_are = one_move g a0 o p can; way = way_left c cut; table = keeps.table } }
 
   pub moved_done : (b : List ℕ) → Replaced g p o new a0 b → IndexMoved g o p a0 b
   moved_done b all =
-      let tidied = recopy-spares g a0 b p o id home.h old new home.head pages.0 home.f home.f (λ (r : ℕ). false) (λ (r : ℕ). false) start all ((tidy-is_tidy g a0 (λ (r : ℕ). false)).0 can.tidy)
+      let renewed_neat = recopied-neat g a0 b p o id home.h old new home.head pages.0 home.f home.f start all can.neat
       (record {
         named = λ r e. absurd (cc);
         left = λ t below at. inl (slot_same g old (take g.page work) new (count_of g a0 id) built.copied sets len t (omega (arith, below, count)) at);
       }) in
       record {
         cut = move_left b (replace_left all);
-        tidy = idles-end g b (λ (r : ℕ). false && leftover g (own (live_at g b) id) pages.0 r) (λ r e. absurd (cc)) tidied.0;
+        neat = renewed_neat.0;
         gone = all.kill.loses.after;
         tails = tails b all;
+        counts = replaced_counts all;
+        copy = new;
+        copy_index = pages.1.new_index;
+        replaced = all;
       }

@@ -1,5 +1,5 @@
 -- What moves of index pages and of data pages share: a page is put, and then another one is killed.
-use Rattle.std.proofs.Common.{◌≡◌, ◌≢◌, ℕ, zero, suc, ◌+◌, ◌*◌, ◌<◌, ◌≤◌, List, [], ◌∷◌, length, set, slice_index, true, false, Some, Ok, ap, refl, sym, ◌∙◌, arith, ⊎_elim, inr, subst, length-set, get_or-set_same, get_or-set_other}
+use Rattle.std.proofs.Common.{◌≡◌, ◌≢◌, ℕ, zero, suc, ◌+◌, ◌*◌, ◌%◌, ◌<◌, ◌≤◌, List, [], ◌∷◌, length, set, slice_index, true, Some, Ok, ap, refl, sym, ◌∙◌, arith, ⊎_elim, inr, subst, length-set, get_or-set_same, get_or-set_other}
 use Rattle.std.proofs.lemmas.Bool.{cases_eq}
 use Rattle.std.proofs.lemmas.Option.{none-some, same_Some}
 use Rattle.geometry.specs.declared.geometry.Geometry.{Geometry}
@@ -8,32 +8,42 @@ use Rattle.table_model.specs.Table.{File, put_file}
 use Rattle.flash_view.specs.declared.kinds.Kind.TheVariants.{Index}
 use Rattle.nor_core.specs.Flash.{SameOutside}
 use Rattle.image_model.specs.Within.{sizes}
-use Rattle.image_model.specs.Headers.{names_index, span_of}
+use Rattle.image_model.specs.Headers.{obj_id, names_index, span_of}
 use Rattle.image_model.specs.Live.{live_at, own}
 use Rattle.image_model.specs.Places.{IsImage}
 use Rattle.image_model.specs.Files.{is_index, index_page}
-use Rattle.image_model.specs.Sound.{Keeps}
-use Rattle.image_model.specs.Tables.{has_of, damaged_of, table_of}
-use Rattle.image_model.specs.Tidy.{IsTidy}
+use Rattle.image_model.specs.Sound.{HasMagics, Keeps}
+use Rattle.image_model.specs.Shared.{SameCounts}
+use Rattle.image_model.specs.Tables.{has_of, counted, damaged_of, table_of}
+use Rattle.image_model.specs.Tidy.{IsTidy, IsNeat}
 use Rattle.image_laws.specs.Creating.{CutOf}
 use Rattle.image_laws.specs.LiveSteps.{PutDone, KillLeaves, KillDone}
 use Rattle.image_laws.specs.Put.{IsReadyPage}
 use Rattle.image_laws.specs.TidySteps.{Agree}
 use Rattle.image_laws.proofs.Frames.{live_parts}
+use Rattle.image_laws.proofs.Judge.{found_parts}
 use Rattle.image_laws.proofs.Placing.{page_byte}
+use Rattle.image_laws.proofs.Records.{counted-some}
 use Rattle.image_laws.proofs.Sounding.{keeps-itself}
-use Rattle.image_laws.proofs.SpareKill.{tidy-has_magics}
-use Rattle.image_laws.proofs.Tally.{served}
-use Rattle.image_laws.proofs.TidySteps.{neat_of, tidy-is_tidy}
+use Rattle.image_laws.proofs.Tally.{counted-in, served}
+use Rattle.image_laws.proofs.TidySteps.{neat_of}
+use Rattle.image_laws.proofs.Wanted.{some_file}
 use Rattle.renew_laws.specs.Replace.{ReplaceCut, Replaced}
 use Rattle.renew_laws.proofs.RecopyLeaves.{put-same}
 use Rattle.page_put.specs.Placing.{placed_page}
 use Rattle.page_put.proofs.Putting.{ready}
-use Rattle.page_renew.proofs.Homes.{Home, index_some, serves_first}
+use Rattle.page_renew.proofs.Homes.{Home, index_some, own_of, serves_first}
 
--- a tidy image keeps itself
+-- all blocks of a neat image have their magic, and it keeps itself
+pub neat_magics : (g : Geometry) (a : List ℕ) → IsNeat g a → HasMagics g a
+neat_magics g a n = record { one = λ b c low low' no no'. let yes = n.magic b low in absurd (cc) }
+
+pub neat_keeps : (g : Geometry) (a : List ℕ) → IsNeat g a → Keeps g a a
+neat_keeps g a n = keeps-itself g a (neat_magics g a n)
+
+-- so does a tidy one
 pub tidy_keeps : (g : Geometry) (a : List ℕ) → IsTidy g a → Keeps g a a
-tidy_keeps g a t = keeps-itself g a (tidy-has_magics g a (λ p. false) ((tidy-is_tidy g a (λ p. false)).0 t))
+tidy_keeps g a t = neat_keeps g a (neat_of t)
 
 -- a cut that puts a file as it is keeps the image
 pub keeps_same : (g : Geometry) (a c : List ℕ) (id h : ℕ) (f : File) → damaged_of g a ≡ [] → has_of g (live_at g a) id ≡ Some (h, Ok f) → CutOf g a f c → Keeps g a c
@@ -67,12 +77,32 @@ kill_left done = record { image = done.image; agree = done.agree; live = inr don
 pub replace_left : {g : Geometry} {p o : ℕ} {page a b : List ℕ} → Replaced g p o page a b → ReplaceCut g p o page a b
 replace_left all = inr (all.middle, all.put, kill_left all.kill)
 
+-- ---- erase counts
+
+-- they stay from image to image
+pub counts_then : (g : Geometry) (a b c : List ℕ) → SameCounts g a b → SameCounts g b c → SameCounts g a c
+counts_then g a b c first second block low = second block low ∙ first block low
+
+-- and where a page takes the place of another
+pub replaced_counts : {g : Geometry} {p o : ℕ} {page a b : List ℕ} → Replaced g p o page a b → SameCounts g a b
+replaced_counts {g} {p} {o} {page} {a} {b} all = counts_then g a all.middle b all.put.agree.counts all.kill.agree.counts
+
 -- ---- index pages
 
--- in a tidy image each index page of a file is the first one of its span, and the only one
-module _ (g : Geometry) (a : List ℕ) (is : IsImage g a) (tidy : IsTidy g a) (id : ℕ) (home : Home g a id) where
+-- the file of a live page of a neat image
+pub home_of : (g : Geometry) (a : List ℕ) → IsImage g a → IsNeat g a → (p : ℕ) (page : List ℕ) → live_at g a p ≡ Some page → Home g a (obj_id page % 0x8000)
+unfolding has_of
+home_of g a is neat p page live =
+    let yes = counted-in g a is neat (obj_id page % 0x8000) p page (own_of (live_at g a) p page live) in
+    let f = some_file (counted (has_of g (live_at g a)) 0x7FFF (has_of g (live_at g a) (obj_id page % 0x8000))) yes in
+    let w = counted-some (has_of g (live_at g a)) 0x7FFF (has_of g (live_at g a) (obj_id page % 0x8000)) f.0 f.1 in
+    let v = found_parts g (own (live_at g a) (obj_id page % 0x8000)) (obj_id page % 0x8000) w.0 (Ok f.0) w.1 in
+    record { h = w.0; head = v.0; f = f.0; has = w.1; at = v.1; header = v.2; file = v.3 }
+
+-- in a neat image each index page of a file is the first one of its span, and the only one
+module _ (g : Geometry) (a : List ℕ) (is : IsImage g a) (neat : IsNeat g a) (id : ℕ) (home : Home g a id) where
   pub index_first : (q : ℕ) (x : List ℕ) → own (live_at g a) id q ≡ Some x → names_index x ≡ true → index_page g (own (live_at g a) id) (span_of x) ≡ Some q
-  index_first q x mine index = serves_first g (own (live_at g a) id) home.head x q mine index (served g a is (neat_of tidy) id home.h home.head home.at home.header q x mine)
+  index_first q x mine index = serves_first g (own (live_at g a) id) home.head x q mine index (served g a is neat id home.h home.head home.at home.header q x mine)
 
   pub index_alone : (s q : ℕ) → index_page g (own (live_at g a) id) s ≡ Some q → (r : ℕ) → is_index (own (live_at g a) id r) s ≡ true → r ≡ q
   index_alone s q first r passes =

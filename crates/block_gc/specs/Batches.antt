@@ -9,6 +9,7 @@ use Rattle.image_model.specs.Live.{live_at, own}
 use Rattle.image_model.specs.Files.{is_index, index_page, entry_number, judged, index_span}
 use Rattle.image_model.specs.Kinds.{is_index_block, is_data_block}
 use Rattle.image_model.specs.Sound.{Keeps}
+use Rattle.image_model.specs.Shared.{SameCounts}
 use Rattle.image_laws.specs.NewFile.{IsFreePage}
 use Rattle.image_laws.specs.TidySteps.{IsTidyBut}
 use Rattle.renew_laws.specs.Idles.{Idles}
@@ -127,7 +128,8 @@ pub record StandsBeside (g : Geometry) (was image : List ℕ) (id : ℕ) : Type 
 
 -- ---- what is carried
 
--- Copies of some data pages of a batch were put since an image, at most so many, and nothing else changed. Tails that were ready are so still.
+-- Copies of some data pages of a batch were put since an image, at most so many, and nothing else changed. Tails that were ready are so still,
+-- and erase counts stay.
 pub record Carries (g : Geometry) (was : List ℕ) (block most : ℕ) (batch : Batch) (cs : List Carried) (image : List ℕ) : Type 0 where
   pub is : IsImage g was
   pub can : CanEmpty g was block
@@ -140,6 +142,7 @@ pub record Carries (g : Geometry) (was : List ℕ) (block most : ℕ) (batch : B
   pub beside : StandsBeside g was image batch.id
   pub few : length cs ≤ most
   pub tails : KeepsTails g was image
+  pub counts : SameCounts g was image
 
 -- One more page of the block may be carried.
 pub record CanCarry (g : Geometry) (was : List ℕ) (block most : ℕ) (batch : Batch) (cs : List Carried) (q span : ℕ) (image : List ℕ) : Type 0 where
@@ -243,7 +246,8 @@ pub record IsLeft (g : Geometry) (was image : List ℕ) (spare : ℕ → Bool) (
   pub idle : spare c.from ≡ true
   pub flags : slice_index image (c.from * g.page + 4) < 256
 
--- Copies of a batch's pages are at their places, its index page is renewed, and of the old pages those of a list are left. Tails that were ready are so still.
+-- Copies of a batch's pages are at their places, its index page is renewed, and of the old pages those of a list are left. Tails that were ready
+-- are so still, and erase counts stay.
 pub record Drops (g : Geometry) (was : List ℕ) (block most page : ℕ) (left : List Carried) (image : List ℕ) : Type 0 where
   pub is : IsImage g was
   pub can : CanEmpty g was block
@@ -267,6 +271,7 @@ pub record Drops (g : Geometry) (was : List ℕ) (block most page : ℕ) (left :
   pub apart : AreMoves g was (moves_of left)
   pub gone : (are_from left page ≡ true) ⊎ (live_at g image page ≡ None)
   pub tails : KeepsTails g was image
+  pub counts : SameCounts g was image
 
 -- Of some pages those that aren't left are live no more, and all others are as they were.
 pub record HaveGone (g : Geometry) (from left : List Carried) (was now : List ℕ) : Type 0 where

@@ -1,5 +1,5 @@
 -- What cleaning a block asks of an image and leaves.
-use Rattle.std.specs.Prelude.{◌≡◌, ℕ, List, true, false}
+use Rattle.std.specs.Prelude.{◌≡◌, ◌≢◌, ℕ, ◌<◌, List, true, false}
 use Rattle.geometry.specs.declared.geometry.Geometry.{Geometry}
 use Rattle.image_model.specs.Places.{erase_count, next_count}
 use Rattle.image_model.specs.Tidy.{IsTidy, is_free_block}
@@ -21,10 +21,11 @@ pub record CleanCut (g : Geometry) (block : ℕ) (was image : List ℕ) : Type 0
   pub keeps : Keeps g was image
   pub mends : MayCut g was block → Recovers g image
 
--- The block was cleaned, and has the next erase count. Tails that were ready are so still.
+-- The block was cleaned and has the next erase count, and all other blocks have the erase counts that they had. Tails that were ready are so still.
 pub record CleanedBlock (g : Geometry) (block : ℕ) (was now : List ℕ) : Type 0 where
   pub cleaned : HasCleaned g was block now
   pub count : erase_count g now block ≡ next_count g was
+  pub others : (block' : ℕ) → block' < g.blocks → block' ≢ block → erase_count g now block' ≡ erase_count g was block'
   pub tails : KeepsTails g was now
 
 abbrev pub cleaning_block : ℕ → Step (Unit {0})

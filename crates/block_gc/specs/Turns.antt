@@ -7,6 +7,7 @@ use Rattle.image_model.specs.Places.{block_of}
 use Rattle.image_model.specs.Tidy.{IsTidy}
 use Rattle.image_model.specs.Kinds.{is_index_page, is_data_page}
 use Rattle.image_model.specs.Sound.{Keeps}
+use Rattle.image_model.specs.Shared.{SameCounts}
 use Rattle.renew_laws.specs.Tails.{KeepsTails}
 use Rattle.flash_view.specs.Steps.{Step}
 use Rattle.room_laws.specs.Sorts.{sort_at}
@@ -24,7 +25,7 @@ pub record TurnCut (g : Geometry) (block most : ℕ) (was image : List ℕ) : Ty
   pub mends : (first : List ℕ) → MayCut g first block → most ≤ batch_most g first block → IsBetween g first block was → Recovers g image
 
 -- After the turn of page p that page isn't live, and each live page of the block was live before. The image still stands between two moves
--- of each cleaning, the pages that are left in the block find places, and tails that were ready are so still.
+-- of each cleaning, the pages that are left in the block find places, tails that were ready are so still, and erase counts stay.
 pub record TurnDone (g : Geometry) (block p : ℕ) (was now : List ℕ) : Type 0 where
   pub keeps : Keeps g was now
   pub can : CanEmpty g now block
@@ -32,6 +33,7 @@ pub record TurnDone (g : Geometry) (block p : ℕ) (was now : List ℕ) : Type 0
   pub others : (q : ℕ) (x : List ℕ) → block_of g q ≡ block → live_at g now q ≡ Some x → live_at g was q ≡ Some x
   pub between : (first : List ℕ) → IsBetween g first block was → IsBetween g first block now
   pub tails : KeepsTails g was now
+  pub counts : SameCounts g was now
 
 -- a live index page of the block, or a live data page, is to be moved out of it
 pub record CanMoveIndex (g : Geometry) (image : List ℕ) (block p : ℕ) : Type 0 where
@@ -54,13 +56,14 @@ abbrev pub turning_entry : (block most p : ℕ) → Step (Unit {0})
 turning_entry block most p = record { needs = λ g was. CanEmpty g was block; cut = λ g was image. TurnCut g block most was image; done = λ g was now ok. TurnDone g block p was now }
 
 -- No page of the block below p is live any more. The image still stands between two moves of each cleaning, the pages that are left
--- in the block find places, and tails that were ready are so still.
+-- in the block find places, tails that were ready are so still, and erase counts stay.
 pub record Emptied (g : Geometry) (block p : ℕ) (was now : List ℕ) : Type 0 where
   pub keeps : Keeps g was now
   pub can : CanEmpty g now block
   pub gone : (q : ℕ) → block_of g q ≡ block → q < p → live_at g now q ≡ None
   pub between : (first : List ℕ) → IsBetween g first block was → IsBetween g first block now
   pub tails : KeepsTails g was now
+  pub counts : SameCounts g was now
 
 -- all entries of a block have their turns
 abbrev pub emptying : (block most : ℕ) → Step (Unit {0})

@@ -4,4 +4,5 @@ pub mod MadeFresh
 pub mod Checks
 pub mod Noted
 pub mod Needed
+pub mod Surveys
 pub mod Works

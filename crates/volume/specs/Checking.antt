@@ -20,6 +20,8 @@ use Rattle.block_gc.specs.RoomMade.{SweptTo, NoneIs}
 use Rattle.block_gc.specs.Partings.{PartCut, Parted}
 use Rattle.flash_view.specs.declared.kinds.StepErr.{StepErr}
 use Rattle.flash_view.specs.declared.kinds.StepErr.TheVariants.{DeviceFault as StepFault, Damaged as StepDamaged}
+use Rattle.flash_view.specs.declared.view.View.{View}
+use Rattle.flash_view.specs.Same.{OnlyLooks}
 use Rattle.flash_view.specs.Steps.{Step, Errors}
 use Rattle.vol_check.specs.declared.report.CheckErr.{CheckErr}
 use Rattle.vol_check.specs.declared.report.CheckErr.TheVariants.{Wrong, DeviceFault, Damaged}
@@ -92,6 +94,28 @@ pub record ChecksVolume {D : Type 0} (nor : NorOf D) (g : Geometry) (old new : D
   pub apart : IfErr result IsApart
   pub undamaged : nor.tells old → IfErr result IsUndamaged
 
+-- ---- before anything is written
+
+-- whether blocks are shared
+abbrev pub TellsShared : Geometry → List ℕ → Bool → Type 0
+TellsShared g image true = 0 < shared_blocks g image
+TellsShared g image false = shared_blocks g image ≡ 0
+
+-- the shared blocks fit over, and it is told whether there are any
+abbrev pub IsFitting : Geometry → List ℕ → Bool → Type 0
+IsFitting g image shares = FitsWith g image 0 × TellsShared g image shares
+
+-- What is told before anything is written: whether blocks are shared, where the volume may be written and fits over. Else it is refused for
+-- that, or the device failed.
+pub record Judges {N : Type 0} {nor : NorOf N} (old new : View N nor) (result : Result Bool CheckErr) : Type 0 where
+  pub looks : OnlyLooks old new
+  pub wrong : IfSome (write_refusal old.geometry) (λ why. result ≡ Err (Wrong why))
+  pub writable : write_refusal old.geometry ≡ None → IfErr result IsWritable
+  pub among : IfErr result IsUndamaged
+  pub cause : IsErrOf result DeviceFault → Rose (nor.faults old.nor.now) (nor.faults new.nor.now)
+  pub fits : nor.tells old.nor.now → IfOk result (IsFitting old.geometry (nor.bytes old.nor.now))
+  pub mixed : nor.tells old.nor.now → IfErr result (CountsMixed old.geometry (nor.bytes old.nor.now))
+
 -- ---- the cleaning
 
 -- how the cleaning failed, as a check tells it
@@ -120,16 +144,10 @@ pub record Cleared (g : Geometry) (was now : List ℕ) : Type 0 where
 
 -- ---- the steps: shared blocks are parted, blocks are cleaned, and the free ones are counted after each
 
--- whether blocks are shared
-abbrev pub TellsShared : Geometry → List ℕ → Bool → Type 0
-TellsShared g image true = 0 < shared_blocks g image
-TellsShared g image false = shared_blocks g image ≡ 0
-
 -- What the stages leave of an image that fits over: it is told whether blocks are shared, and how many are free.
 pub record IsJudged (g : Geometry) (shares : Bool) (free : ℕ) (image : List ℕ) : Type 0 where
   pub neat : IsNeat g image
-  pub fits : FitsWith g image 0
-  pub shared : TellsShared g image shares
+  pub fitting : IsFitting g image shares
   pub free : free ≡ free_blocks g image
 
 -- The shared blocks are parted, nothing is done where there are none, and so many blocks are free.
