@@ -22,6 +22,10 @@ use Rattle.flash_view.specs.Steps.{Step, Begins, Finishes}
 use Rattle.flash_view.specs.Walk.{IsPassed, IsNextLive, NextLive}
 use Rattle.flash_view.proofs.Entries.{live_page, some_id}
 use Rattle.flash_view.proofs.Passed.{live_here, passed_page}
+use Rattle.flash_view.specs.declared.view.View.{View}
+use Rattle.nor_core.specs.Device.{OnlyReads}
+use Rattle.nor_core.specs.declared.state.NorState.{Ghosts as NorOf}
+use Rattle.nor_core.proofs.Cuts.{reads_then}
 use Rattle.block_gc.specs.Partings.{PartCut, Parted, parting, IsBesideData, Parts, PartsPage, parting_page, PartsTo, parting_to}
 use Rattle.block_gc.proofs.PartedPages.{part_stays, parts_itself, parts_on, cut_after}
 
@@ -49,23 +53,28 @@ passed_index g image p passed index =
 
 -- ---- turn after turn
 
--- a look on the way
+-- a look on the way, and one that fails
 abbrev pub looking : Step (Unit {0})
 looking = record { needs = λ g was. IsNeat g was × FitsWith g was 0; cut = λ g was image. PartCut g was image; done = λ g was now ok. now ≡ was }
+
+abbrev pub failing : Step (Unit {0})
+failing = record { needs = λ g was. IsNeat g was × FitsWith g was 0; cut = λ g was image. PartCut g was image; done = λ g was now ok. ⊥ }
 
 pub turns_start : (g : Geometry) (a : List ℕ) → IsNeat g a × FitsWith g a 0 → PartCut g a a × PartsTo g 0 a a
 turns_start g a can = (part_stays g a can.0, record { parts = parts_itself g a can.0; none = λ page below. absurd (omega (arith, below)) })
 
--- what can be parted still can
+-- turns are part of the whole, and what can be parted still can
+pub turns_begin : (g : Geometry) (at next : ℕ) (a : List ℕ) → IsNeat g a × FitsWith g a 0 → Begins g a (parting_to at) (parting_to next)
+turns_begin g at next a can = record { needs = can; cut = λ c cut. cut }
+
+pub turns_part : (g : Geometry) (at : ℕ) (a : List ℕ) → IsNeat g a × FitsWith g a 0 → Begins g a (parting_to at) parting
+turns_part g at a can = record { needs = can; cut = λ c cut. cut }
+
 so_far_can : (g : Geometry) (at : ℕ) (a b : List ℕ) → IsNeat g a × FitsWith g a 0 → PartsTo g at a b → IsNeat g b × FitsWith g b 0
 so_far_can g at a b can so_far = (so_far.parts.neat, so_far.parts.fits 0 can.1)
 
-pub look_goes : (g : Geometry) (at : ℕ) (a b : List ℕ) → IsNeat g a × FitsWith g a 0 → PartsTo g at a b → Finishes g a b looking (parting_to at)
-look_goes g at a b can so_far = record {
-  needs = so_far_can g at a b can so_far;
-  cut = λ c cut. cut_after g a b c so_far.parts cut;
-  done = λ c ok same. subst (λ (d : List ℕ). PartsTo g at a d) (sym same) so_far;
-}
+pub look_stops : (g : Geometry) (at : ℕ) (a b : List ℕ) → IsNeat g a × FitsWith g a 0 → PartsTo g at a b → Finishes g a b failing parting
+look_stops g at a b can so_far = record { needs = so_far_can g at a b can so_far; cut = λ c cut. cut_after g a b c so_far.parts cut; done = λ c ok bad. absurd bad }
 
 -- an index page was found, and has its turn
 pub turn_goes : (g : Geometry) (at p next : ℕ) (head : PageHeader) (a b : List ℕ) → next ≡ p + 1 → IsNeat g a × FitsWith g a 0 → IsNextLive g b at 0x8000 0xFFFE p head → PartsTo g at a b → Finishes g a b (parting_page p) (parting_to next)
@@ -114,3 +123,9 @@ turns_end g at a b can last so_far = record {
 
     parted : Parted g a b
     parted = record { tidy = unmixed_tidy g b so_far.parts.neat none; table = so_far.parts.keeps.table; reserve = so_far.parts.reserve; counts = so_far.parts.counts }
+
+-- ---- a tidy image isn't written
+
+pub idle_on : {N : Type 0} {nor : NorOf N} {old mid new : View N nor} → mid.geometry ≡ old.geometry → (nor.tells old.nor.now → IsTidy old.geometry (nor.bytes old.nor.now) → OnlyReads nor old.nor.now mid.nor.now) →
+    (nor.tells mid.nor.now → IsTidy mid.geometry (nor.bytes mid.nor.now) → OnlyReads nor mid.nor.now new.nor.now) → nor.tells old.nor.now → IsTidy old.geometry (nor.bytes old.nor.now) → OnlyReads nor old.nor.now new.nor.now
+idle_on same first second tells t = let reads = first tells t in reads_then reads (second (reads.told tells) (rw (same, reads.bytes) t))

@@ -1,9 +1,11 @@
 -- The turn of an index page: where its block holds data pages it is moved out, over plain images.
 use Rattle.std.proofs.Common.{◌≡◌, ℕ, ◌+◌, ◌*◌, ◌<◌, ◌≤◌, List, [], ◌∷◌, true, false, Some, None, refl, sym, ◌∙◌, ap, arith, ⊎_elim, inl, inr}
-use Rattle.std.proofs.lemmas.Bool.{cases_Bool, false_from_ne_true}
+use Rattle.std.proofs.lemmas.Bool.{cases_Bool}
 use Rattle.std.proofs.lemmas.Option.{none-some, same_Some}
 use Rattle.geometry.specs.declared.geometry.Geometry.{Geometry}
 use Rattle.geometry.specs.Numbers.{per_block, lookups, entries}
+use Rattle.flash_view.specs.Counts.{AreCounts}
+use Rattle.flash_view.specs.declared.counts.BlockCounts.{BlockCounts}
 use Rattle.flash_view.specs.declared.kinds.Kind.TheVariants.{Index as IndexPage}
 use Rattle.flash_view.specs.Steps.{Finishes}
 use Rattle.image_model.specs.Headers.{names_index}
@@ -28,6 +30,7 @@ use Rattle.room_laws.proofs.OnTheWay.{all_nil, all_cons, all_at}
 use Rattle.room_laws.proofs.PartMoves.{part_place_is_found, move_parts_one}
 use Rattle.free_search.specs.Free.{IsFreeFor, HasNone}
 use Rattle.free_search.proofs.FoundPage.{free_of}
+use Rattle.free_search.proofs.FreePages.{no_data, data_none}
 use Rattle.block_gc.specs.Moves.{IndexCut, IndexMoved, moving}
 use Rattle.block_gc.specs.Partings.{PartCut, IsBesideData, Parts, PartsPage, parting_page}
 use Rattle.block_gc.proofs.Replacing.{neat_keeps}
@@ -56,6 +59,17 @@ cut_after g a b c first cut = record {
   reserve = λ two. cut.reserve (first.reserve two);
   fits = λ spare fits. cut.fits spare (first.fits (spare + 1) fits);
 }
+
+-- ---- a block by its counts
+
+pub plain_by : (g : Geometry) (image : List ℕ) (block : ℕ) (c : BlockCounts) → AreCounts g image block c → c.data_live ≡ 0 → is_data_block g image block ≡ false
+plain_by g image block c counts none = no_data g image block (sym counts.pages ∙ none)
+
+pub held_by : (g : Geometry) (image : List ℕ) (block : ℕ) (c : BlockCounts) → AreCounts g image block c → (c.data_live ≡ 0 → ⊥) → is_data_block g image block ≡ true
+held_by g image block c counts some = ⊎_elim
+    (λ (yes : is_data_block g image block ≡ true). yes)
+    (λ (no : is_data_block g image block ≡ false). absurd (some (counts.pages ∙ data_none g image block no)))
+    (cases_Bool (is_data_block g image block))
 
 -- ---- a tidy image
 
