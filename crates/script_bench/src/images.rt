@@ -1,4 +1,6 @@
 //! Images made by hand.
+ghost use Rattle.std.specs.Prelude.{◌≤◌};
+
 use geometry::Geometry;
 use std::alloc::{AllocError, Global};
 
@@ -123,13 +125,15 @@ impl Ends {
     }
 }
 
-// How many spans of data pages have no entry in the header page, up to one.
+// How many spans lie between the last one that has its entry in the header page and this one, if it lies behind that.
 fn past_heads(g: &Geometry, span: usize) -> Option<usize> {
     span.checked_sub(g.head_slots() as usize)
 }
 
 // How many entries an index page has that isn't a header page.
-fn slots_of(g: &Geometry) -> usize {
+fn slots_of(g: &Geometry) -> usize
+    ensures { 1 ≤ result }
+{
     g.span_slots().max(1) as usize
 }
 
