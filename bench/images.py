@@ -53,6 +53,19 @@ def pages_of(blocks):
     return (block * PER_BLOCK + LOOKUPS + place for block in blocks for place in range(ENTRIES))
 
 
+def in_a_row(blocks, files, each):
+    """The image of a volume of so many files of so many data pages, named file1, file2 and so on, as tools that make images write them: each
+    header page stands before the data pages of its file, and all pages stand in a row."""
+    image = Image(blocks)
+    pages = pages_of(range(blocks))
+    for number in range(1, files + 1):
+        head, *slots = [next(pages) for _ in range(1 + each)]
+        image.put(head, 0x8000 | number, header(number, each * BODY, b"file%d" % number, slots))
+        for span, page in enumerate(slots):
+            image.put(page, number, word(number) + word(span) + b"\xfc" + bytes(BODY))
+    return image
+
+
 def blocks_for(files, each):
     """How many blocks of index pages, and how many of data pages, so many files of so many data pages take."""
     return -(-files * index_pages(each) // ENTRIES), -(-files * each // ENTRIES)

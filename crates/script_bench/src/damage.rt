@@ -1,5 +1,6 @@
 //! Damage to images, drawn from a seed: what a broken chip, another maker or a hostile hand may leave.
 use crate::images::put_page;
+use crate::rows::copy;
 use crate::{Place, put};
 use geometry::Geometry;
 use nor_core::draw;
@@ -76,22 +77,6 @@ fn clear_bits(image: &mut Vec<u8>, g: &Geometry, x: &mut u64) {
             *byte &= (draw(x) % 256) as u8;
         }
     }
-}
-
-// Copies bytes to another place.
-fn copy(
-    alloc: Global,
-    image: &mut Vec<u8>,
-    from: usize,
-    to: usize,
-    count: usize,
-) -> Result<(), AllocError> {
-    let end = from.saturating_add(count);
-    if let Some(bytes) = image.get(from..end) {
-        let bytes = bytes.to_vec(alloc)?;
-        put(image, to, &bytes);
-    }
-    Ok(())
 }
 
 // Copies a page with its entry to another place.

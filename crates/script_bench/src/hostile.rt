@@ -26,8 +26,8 @@ pub enum Odd {
 pub struct Met {
     /// Two or more blocks without their magic.
     pub foreign: u64,
-    /// Blocks with both kinds of pages.
-    pub mixed: u64,
+    /// Shared blocks that can't be parted.
+    pub over: u64,
     /// Damaged ids.
     pub damaged: u64,
     /// Anything else.
@@ -121,7 +121,7 @@ impl Met {
     fn none() -> Met {
         Met {
             foreign: 0,
-            mixed: 0,
+            over: 0,
             damaged: 0,
             whole: 0,
             scripts: 0,
@@ -132,7 +132,7 @@ impl Met {
     fn count(&mut self, status: u8) {
         let count = match status {
             3 => &mut self.foreign,
-            4 => &mut self.mixed,
+            4 => &mut self.over,
             12 => &mut self.damaged,
             _ => &mut self.whole,
         };

@@ -1,4 +1,6 @@
 //! Images made by hand.
+ghost use Rattle.std.specs.Prelude.{◌≤◌};
+
 use geometry::Geometry;
 use std::alloc::{AllocError, Global};
 
@@ -123,27 +125,49 @@ impl Ends {
     }
 }
 
-// Names the data page of a span in the index page that has its entry, of those that follow a header page.
-fn name_page(image: &mut Vec<u8>, g: &Geometry, header: Place, span: usize, page: usize) {
-    let heads = g.head_slots() as usize;
+// How many spans lie between the last one that has its entry in the header page and this one, if it lies behind that.
+fn past_heads(g: &Geometry, span: usize) -> Option<usize> {
+    span.checked_sub(g.head_slots() as usize)
+}
+
+// How many entries an index page has that isn't a header page.
+fn slots_of(g: &Geometry) -> usize
+    ensures { 1 ≤ result }
+{
+    g.span_slots().max(1) as usize
+}
+
+// Names the data page of a span in the index page that has its entry.
+pub(crate) fn name_page(image: &mut Vec<u8>, g: &Geometry, index: Place, span: usize, page: usize) {
+    let (first, slot) = match past_heads(g, span) {
+        None => (45 + g.meta as usize, span),
+        Some(rest) => (8, rest % slots_of(g)),
+    };
+    let at = index.at(g).saturating_add(first);
     let bytes = ((page % 65536) as u16).to_le_bytes();
-    if span < heads {
-        let at = header.at(g).saturating_add(45 + g.meta as usize);
-        put(image, at.saturating_add(span.saturating_mul(2)), &bytes);
-        return;
+    put(image, at.saturating_add(slot.saturating_mul(2)), &bytes);
+}
+
+// The number of the index page that begins with the entry of a span, if one does that isn't a header page.
+pub(crate) fn begun_index(g: &Geometry, span: usize) -> Option<u16> {
+    let rest = past_heads(g, span)?;
+    let slots = slots_of(g);
+    if rest % slots != 0 {
+        return None;
     }
-    let rest = span.saturating_sub(heads);
-    let slots = g.span_slots().max(1) as usize;
+    Some((rest / slots % 65535) as u16 + 1)
+}
+
+// The index page that has the entry of a span, of those that follow a header page.
+fn index_of(g: &Geometry, header: Place, span: usize) -> Place {
+    let Some(rest) = past_heads(g, span) else {
+        return header;
+    };
     let mut index = header.next(g);
-    for _ in 0..rest / slots {
+    for _ in 0..rest / slots_of(g) {
         index = index.next(g);
     }
-    let at = index.at(g).saturating_add(8);
-    put(
-        image,
-        at.saturating_add((rest % slots).saturating_mul(2)),
-        &bytes,
-    );
+    index
 }
 
 // Puts a data page, and the index page that is the first to need it.
@@ -155,18 +179,23 @@ fn put_span(
     header: Place,
     span: usize,
 ) {
-    let heads = g.head_slots() as usize;
-    let slots = g.span_slots().max(1) as usize;
-    let rest = span.saturating_sub(heads);
-    if span >= heads && rest % slots == 0 {
-        let index_span = (rest / slots % 65535) as u16 + 1;
-        put_page(image, g, ends.index, id | 0x8000, index_span, 0xF8);
+    if let Some(number) = begun_index(g, span) {
+        put_page(image, g, ends.index, id | 0x8000, number, 0xF8);
         ends.index = ends.index.next(g);
     }
     put_page(image, g, ends.data, id, (span % 65536) as u16, 0xFC);
-    name_page(image, g, header, span, ends.data.page(g));
+    let index = index_of(g, header, span);
+    name_page(image, g, index, span, ends.data.page(g));
     ends.last = ends.data;
     ends.data = ends.data.next(g);
+}
+
+// The size in the header page of a file of these bytes.
+pub(crate) fn size_of(bytes: &[u8]) -> u32 {
+    match bytes.len() {
+        0 => 0xFFFF_FFFF,
+        size => (size % 65536) as u32,
+    }
 }
 
 /// Puts a file of these bytes behind the pages that are there. Its index pages follow each other.
@@ -179,11 +208,7 @@ pub fn put_whole(
     bytes: &[u8],
 ) {
     let header = ends.index;
-    let size = match bytes.len() {
-        0 => 0xFFFF_FFFF,
-        size => (size % 65536) as u32,
-    };
-    put_header(image, g, header, id, size, name);
+    put_header(image, g, header, id, size_of(bytes), name);
     ends.index = header.next(g);
     let body = g.body().max(1) as usize;
     for (i, byte) in bytes.iter().enumerate() {

@@ -1,10 +1,9 @@
 //! What `list` and `check` are to say of an image, by the plain programs.
 use crate::Trouble;
 use geometry::Geometry;
+use image_collect::parting;
 use image_model::Damage;
-use image_plain::{
-    damaged_of, free_blocks, holds_volume, killed_of, mixed_blocks, spoiled_blocks, table_of,
-};
+use image_plain::{damaged_of, free_blocks, holds_volume, killed_of, spoiled_blocks, table_of};
 use std::alloc::Global;
 
 /// What a command is to say, and its status.
@@ -84,9 +83,9 @@ pub(crate) fn check_of(
     if spoiled > 1 {
         return refusal_of(alloc, spoiled);
     }
-    let mixed = mixed_blocks(g, was);
-    if mixed > 0 {
-        let said = format!(in alloc; "! mixed blocks {mixed}\n")?;
+    let over = parting(alloc, g, was)?;
+    if !over.fits {
+        let said = format!(in alloc; "! mixed blocks {}\n", over.shared)?;
         return Ok(Wanted { status: 4, said });
     }
     let killed = killed_of(alloc, g, was)?;

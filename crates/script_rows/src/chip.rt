@@ -2,7 +2,10 @@
 use crate::words::{byte_of, number, word};
 use folder_core::{Folder, MemFolder};
 use geometry::{Geometry, MagicKind};
-use script_bench::{Bench, Ends, Place, Trouble, letters, put, put_header, put_page, put_whole};
+use script_bench::{
+    Bench, Ends, Maker, Place, RowFile, Trouble, clear_counts, letters, put, put_header, put_page, put_row,
+    put_whole,
+};
 use std::alloc::Global;
 
 /// The greatest number of bytes of a chip.
@@ -142,6 +145,41 @@ impl Chip {
         Ok(())
     }
 
+    // Puts a file of so many letters in a row, as another maker's program does, from the place of the next index page on.
+    fn row(&mut self, maker: Maker, name: &[u8], size: u16) -> Result<(), Trouble> {
+        let g = self.bench()?.g;
+        let bytes = letters(self.alloc, usize::from(self.id), size.into())?;
+        let file = RowFile {
+            id: self.id,
+            name,
+            bytes: &bytes,
+        };
+        let first = self.ends.index;
+        self.ends.index = put_row(self.alloc, &mut self.image, &g, maker, first, file)?;
+        self.id = self.id.saturating_add(1);
+        Ok(())
+    }
+
+    // Puts one such file, or so many with a number behind the name.
+    fn rows(&mut self, maker: Maker, words: &[&str]) -> Result<(), Trouble> {
+        let (name, size) = (word(words, 1)?, short(words, 2)?);
+        if words.len() < 4 {
+            return self.row(maker, name.as_bytes(), size);
+        }
+        for n in 0..count(words, 3)? {
+            let name = format!(in self.alloc; "{name}{n}")?;
+            self.row(maker, name.as_bytes(), size)?;
+        }
+        Ok(())
+    }
+
+    // Puts files as an image tool does, which never erases.
+    fn foreign(&mut self, words: &[&str]) -> Result<(), Trouble> {
+        let g = self.bench()?.g;
+        clear_counts(&mut self.image, &g);
+        self.rows(Maker::Tool, words)
+    }
+
     // Puts a file of so many letters into the folder.
     fn add(&mut self, words: &[&str]) -> Result<(), Trouble> {
         self.puts = self.puts.saturating_add(1);
@@ -222,6 +260,8 @@ impl Chip {
             "data" => self.ends.data = place(words, 1)?,
             "index" => self.ends.index = place(words, 1)?,
             "file" => self.file(words)?,
+            "foreign" => self.foreign(words)?,
+            "renewed" => self.rows(Maker::Driver, words)?,
             "add" => self.add(words)?,
             "header" => self.header(words)?,
             "page" => self.page(words)?,

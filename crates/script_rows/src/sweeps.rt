@@ -52,8 +52,8 @@ fn tell_tried(tried: Tried, out: &mut String) -> Result<(), AllocError> {
     match tried {
         Tried::Whole(met) => write!(
             out,
-            "  {} in order or soon so, {} with damaged ids, {} with mixed blocks, {} no volume; {} scripts as of the flat table\n",
-            met.whole, met.damaged, met.mixed, met.foreign, met.scripts
+            "  {} in order or soon so, {} with damaged ids, {} with blocks that can't be parted, {} no volume; {} scripts as of the flat table\n",
+            met.whole, met.damaged, met.over, met.foreign, met.scripts
         ),
         Tried::Odd { seed, command } => {
             let command = match command {

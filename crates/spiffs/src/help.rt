@@ -14,7 +14,8 @@ spiffs: a SPIFFS 0.3.7 flash volume in a chip file, or in several end to end
       spiffs list 256 4096 16 0 len chip
   spiffs check PAGE BLOCK BLOCKS META MAGIC CHIP
       mounts and checks the volume, and tells what the check found and did;
-      it removes damaged files for good: see META
+      it removes damaged files for good: see META. Blocks with pages of both
+      kinds, as C code makes them, are parted, if enough blocks are free
       spiffs check 256 4096 16 0 len chip
   spiffs extract PAGE BLOCK BLOCKS META MAGIC CHIP FOLDER
       tells what a list tells, and puts each file of the volume into the folder
@@ -104,13 +105,14 @@ A soak is a line `turns N ok A refused B files F bytes S`: turns in all, those
 that did what was asked, those that were refused, files and bytes in the end.
 
 Statuses: 0 all was done; 1 usage; 2 numbers or device refused; 3 no volume;
-4 blocks with pages of both kinds; 5 a line outside the grammar; 6 no room for
-the files of the folder; 7 a chip or the output failed, 8 the script could not
-be read, 9 the folder failed; 10 lent memory too short; 11 the script is too
-long; 12 an id is damaged; 13 a name of the folder is no file's, or an earlier
-one's; 14 fewer than two free blocks; 15 no memory; 21 a page does not read as
-it was written; 22 the chips make no row; 23 `run` or `check`: ids are damaged
-and another META reads more whole files, nothing was written. Standard error
-tells more of statuses 1, 3, 7, 8, 9, 13 and 23, what `make` passed over, and
-how many damaged files were removed.
+4 blocks hold pages of both kinds, and too few are free to part them: extract
+the files and make a new chip; 5 a line outside the grammar; 6 no room for the
+files of the folder; 7 a chip or the output failed, 8 the script could not be
+read, 9 the folder failed; 10 lent memory too short; 11 the script is too long;
+12 an id is damaged; 13 a name of the folder is no file's, or an earlier one's;
+14 fewer than two free blocks; 15 no memory; 21 a page does not read as it was
+written; 22 the chips make no row; 23 `run` or `check`: ids are damaged and
+another META reads more whole files, nothing was written. Standard error tells
+more of statuses 1, 3, 4, 7, 8, 9, 13 and 23, what `make` passed over, and how
+many damaged files were removed.
 ";

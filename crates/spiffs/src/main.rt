@@ -31,6 +31,9 @@ const USAGE: u8 = 1;
 /// The status where two or more blocks lack their magic.
 const NO_VOLUME: u8 = 3;
 
+/// The status where blocks with pages of both kinds can't be parted.
+const OVER: u8 = 4;
+
 /// The status where the volume has no room for a folder.
 const FULL: u8 = 6;
 
@@ -252,6 +255,9 @@ fn explain_status(rt: &impl Eprint, words: &[String], status: u8) {
         }
         NO_VOLUME => {
             let _said = eprintln!(rt; "spiffs: PAGE, BLOCK, BLOCKS or MAGIC may be wrong");
+        }
+        OVER => {
+            let _said = eprintln!(rt; "spiffs: too few blocks are free to part those with pages of both kinds: extract the files and make a new chip");
         }
         _ => {}
     }

@@ -25,7 +25,7 @@ use Rattle.volume.specs.Holds.{memory}
 use Rattle.call_model.specs.Memory.{Memory, IsAt}
 use Rattle.call_model.specs.Calls.{Stands}
 use Rattle.call_model.specs.Safe.{Holds}
-use Rattle.call_model.proofs.Safety.{holds_safe, holds_then}
+use Rattle.call_model.proofs.Safety.{holds_safe, holds_then, safe_as}
 use Rattle.run_model.specs.Runs.{RunCall, plain, asks_of, after_all, replies}
 use Rattle.run_model.specs.Ran.{RunStands, CutIn, SaidPart}
 use Rattle.run_model.proofs.Runs.{replies-append, asks-append, fair-append, plain-asks, plain-fair, is_settled, cut_none}
@@ -39,7 +39,7 @@ use Rattle.tool_core.specs.Refusals.{check_refusal, begin_refusal}
 use Rattle.tool_core.specs.Settling.{SettlesTo, Settling}
 use Rattle.tool_core.specs.Outcomes.{Went, WhyEnds, RunEnds, RunCut, ImagesEnd, Broke, RunsTo, Refused, EndsByImages, first_moment, closed_memory}
 use Rattle.tool_core.proofs.Mounted.{safe_check, holds_check}
-use Rattle.tool_core.proofs.Refusals.{not_both, no_fault, no_tight, tight_some, tight_none}
+use Rattle.tool_core.proofs.Refusals.{not_both, no_tight, tight_some, tight_none, safe_mends}
 use Rattle.tool_core.proofs.Settling.{settles_of}
 use Rattle.tool_core.proofs.Speaking.{writes_none}
 
@@ -133,11 +133,11 @@ module _ {D : Type 0} {nor : NorOf D} {g : Geometry} where
   said_behind new piece changes said = said ∙ ap (λ (l : List ℕ). l ++ piece) changes.said
 
   -- a cut in the calls after the check is one in these calls
-  behind_check : {old mid : D} (m : Moment) (calls : List RunCall) (image : List ℕ) (count : ℕ) → Changes nor old mid (Checks g) → nor.tells old → CutIn nor g mid m calls image count → CutIn nor g old m calls image count
-  behind_check {old} {mid} m calls image count changes tells c = record {
+  behind_check : {old mid : D} (m : Moment) (calls : List RunCall) (image : List ℕ) (count : ℕ) → Changes nor old mid (Checks g) → nor.tells old → Begun g (nor.bytes old) (nor.bytes mid) → CutIn nor g mid m calls image count → CutIn nor g old m calls image count
+  behind_check {old} {mid} m calls image count changes tells begun c = record {
     part = c.part;
     count_is = omega (arith, c.count_is, ap length changes.said);
-    safe = holds_safe g (nor.bytes old) (nor.bytes mid) image (holds_check (changes.now tells)) c.safe;
+    safe = holds_safe g (nor.bytes old) (nor.bytes mid) image (holds_check (changes.now tells)) begun.tidy c.safe;
     cut = c.cut;
   }
 
@@ -145,8 +145,8 @@ module _ {D : Type 0} {nor : NorOf D} {g : Geometry} where
   whole_cut : {old mid new : D} (slots : ℕ) (calls : List RunCall) → Changes nor old mid (Checks g) → nor.tells old → Begun g (nor.bytes old) (nor.bytes mid) → Leaves nor mid new (CutIn nor g mid (first_moment g slots (nor.bytes old)) calls) → Leaves nor old new (RunCut nor g old (first_moment g slots (nor.bytes old)) calls)
   whole_cut {old} {mid} {new} slots calls changes tells begun leaves =
       andthen (check_cut slots calls changes tells) (widened leaves (λ image count c. record {
-        cut = behind_check (first_moment g slots (nor.bytes old)) calls image count changes tells c;
-        mends = inl (c.safe.mends begun.reserve);
+        cut = behind_check (first_moment g slots (nor.bytes old)) calls image count changes tells begun c;
+        mends = inl (safe_mends g (nor.bytes mid) image begun.tidy begun.reserve c.safe);
       }))
 
   -- a cut while the bytes that wait are put onto the chip, after some calls and before others
@@ -154,8 +154,8 @@ module _ {D : Type 0} {nor : NorOf D} {g : Geometry} where
   settle_cut {old} {mid} {new} {w} {now} {m} calls later said holds stands settles = widened (settles.changes (after_all g m calls)).cuts (λ image count here.
       let safe = here.1 stands.stands.tells stands.stands.image in
       record {
-        cut = cut_behind calls said holds (record { part = []; count_is = here.0 ∙ omega arith; safe = safe.0; cut = cut_none g (after_all g m calls) later image safe.1 });
-        mends = inl (safe.0.mends stands.reserve);
+        cut = cut_behind calls said holds stands.stands.image.tidy (record { part = []; count_is = here.0 ∙ omega arith; safe = safe.0; cut = cut_none g (after_all g m calls) later image safe.1 });
+        mends = inl (safe_mends g (nor.bytes mid) image stands.stands.image.tidy stands.reserve safe.0);
       })
 
   -- the board failed in a call
@@ -204,6 +204,7 @@ module _ {D : Type 0} {nor : NorOf D} {g : Geometry} where
         why = inr (begins_on g (nor.bytes old) (nor.bytes new) begun.takes (fine.1.holds.reserve r.stands.reserve), subst (λ (l : List Ask). WhyEnds script left l went.later ending) r.asks_are went.why);
         untouched = λ none. fine.1.stands.image.table ∙ settled_table (after_all g m r.calls).state ∙ ap (λ (l : List RunCall). (after_all g m l).state.table) none ∙ first_state g slots (nor.bytes old);
         holds = holds_then g (nor.bytes old) (nor.bytes ran) (nor.bytes new) holds fine.1.holds;
+        safe = safe_as g (nor.bytes old) (nor.bytes new) (holds_then g (nor.bytes old) (nor.bytes ran) (nor.bytes new) holds fine.1.holds) fine.1.stands.image.tidy;
         cuts = andthen (whole_cut slots r.calls changes tells begun r.cuts) (subst (λ (l : List RunCall). Leaves nor ran new (RunCut nor g old m l)) (append-nil r.calls) (settle_cut r.calls [] said holds r.stands settles));
       })))
       (λ fault.
@@ -253,6 +254,7 @@ module _ {D : Type 0} {nor : NorOf D} {g : Geometry} where
     why = inl (refl, refused);
     untouched = λ none. same;
     holds = holds_check (changes.now tells);
+    safe = safe_check (changes.now tells);
     cuts = check_cut slots [] changes tells;
   })
 
@@ -260,7 +262,7 @@ module _ {D : Type 0} {nor : NorOf D} {g : Geometry} where
   pub early_why : {old mid : D} {ending : Ending} → IsRefused nor g old mid ending ⊎ IsTight g (nor.bytes old) (nor.bytes mid) ending → ImagesEnd g (nor.bytes old) (nor.bytes mid) ending
   early_why ends = record {
     refusal = ⊎_elim (λ refused. rw refused.refusal refl) (λ tight. rw tight.takes tight.tight) ends;
-    mends_not = λ may. ⊎_elim (λ refused. not_both may.takes refused.refusal) (λ tight. tight.recovers_not may.recovers) ends;
+    mends_not = λ may. ⊎_elim (λ refused. not_both may.takes refused.refusal) (λ tight. tight.recovers_not may.comes_back) ends;
   }
 
   -- a run that ends before its first line
@@ -294,14 +296,13 @@ module _ {D : Type 0} {nor : NorOf D} {g : Geometry} where
       (λ fault. record {
         tells = changes.cuts.told tells;
         speaks = inl (fault.fault, record { part = []; rest = []; said = changes.said ∙ sym (append-nil (nor.said old)); whole_is = refl });
-        kept = λ same. absurd (no_fault g (nor.bytes old) ending is (sym same ∙ fault.fault));
-        looks = λ spoiled. writes_none (fault.looks ending spoiled);
+        kept = writes_none (fault.looks ending is);
       })
       (λ ends. ⊎_elim
       (λ refused.
       let both : Some result ≡ Some ending = sym refused.refusal ∙ is in
       let same : result ≡ ending = cc in
-      record { tells = changes.cuts.told tells; speaks = inr (same, changes.said ∙ sym (append-nil (nor.said old))); kept = λ e. writes_none refused.reads; looks = λ spoiled. writes_none refused.reads })
+      record { tells = changes.cuts.told tells; speaks = inr (same, changes.said ∙ sym (append-nil (nor.said old))); kept = writes_none refused.reads })
       (λ tight. absurd (not_both tight.takes is))
       ends)
       stops
@@ -317,7 +318,7 @@ module _ {D : Type 0} (nor : NorOf D) (g : Geometry) where
     takes = reported.takes;
     tight = tight_some g (nor.bytes new) report.free_blocks reported.done.free less;
     stuck = ⊎_elim (λ (reserve : HasReserve g (nor.bytes new)). absurd (omega (arith, reserve, reported.done.free, less))) (λ (none : chosen_block g (nor.bytes new) ≡ None). none) reported.done.stopped;
-    recovers_not = λ recovers. let enough = reported.mends recovers in omega (arith, enough, reported.done.free, less);
+    recovers_not = λ back. let enough = reported.mends back in omega (arith, enough, reported.done.free, less);
   }))
 
   -- the same device by another name

@@ -16,7 +16,7 @@ use Rattle.tool_core.specs.Mounting.{Checks, Reported, StopsCheck}
 use Rattle.tool_core.specs.Checking.{report_text, check_text, reported_text, ReportCut, IsOrderedOnceSaid, ChecksTo}
 use Rattle.tool_core.specs.Endings.{Speaks}
 use Rattle.tool_core.specs.Refusals.{report_ending, check_ending}
-use Rattle.tool_core.proofs.Refusals.{not_both, no_fault, mount_check}
+use Rattle.tool_core.proofs.Refusals.{not_both}
 use Rattle.tool_core.proofs.Speaking.{writes_none, none_said}
 
 -- a front of one text is no text with another first byte
@@ -75,8 +75,7 @@ module _ {D : Type 0} {nor : NorOf D} {g : Geometry} where
         (λ fault. inl (fault.fault, record { part = []; rest = reported_text g (nor.bytes old) (nor.bytes new); said = said_none changes; whole_is = refl }))
         (λ refused. rw refused.refusal (inr (refl, said_none changes)))
         (stops tells);
-    kept = λ tells is. ⊎_elim (λ fault. absurd (no_fault g (nor.bytes old) ending is fault.fault)) (λ refused. writes_none refused.reads) (stops tells);
-    looks = λ tells spoiled is. ⊎_elim (λ fault. writes_none (fault.looks spoiled is)) (λ refused. writes_none refused.reads) (stops tells);
+    kept = λ tells why is. ⊎_elim (λ fault. writes_none (fault.looks why is)) (λ refused. writes_none refused.reads) (stops tells);
     idle = λ tells tidy reserve. writes_none (idle tells tidy reserve);
     leaves = changes.now;
     ordered = λ tells. unsaid_order changes;
@@ -113,12 +112,11 @@ module _ {D : Type 0} {nor : NorOf D} {g : Geometry} where
   with_report {old} {mid} {new} {piece} result report piece_is changes idle done says leaves speaks = record {
     cuts = report_cuts changes says leaves (λ tells. report_text_is g (nor.bytes old) (nor.bytes new) report piece_is (reported_said report says (done tells)));
     speaks = speaks;
-    kept = λ tells is. absurd (not_both (done tells).takes is);
-    looks = λ tells spoiled is. absurd (not_both (done tells).takes (mount_check g (nor.bytes old) spoiled is));
+    kept = λ tells why is. absurd (not_both (done tells).takes is);
     idle = λ tells tidy reserve. none_said (idle tells tidy reserve) says leaves;
     leaves = λ tells. subst (λ (l : List ℕ). Checks g (nor.bytes old) l) (sym says.bytes) (changes.now tells);
     ordered = λ tells tail e. let w = (reported_said report says (done tells)).done in record { tidy = w.tidy; stopped = w.stopped };
-    mends = λ tells may. inr ((reported_said report says (done tells)).mends may.recovers);
+    mends = λ tells may. inr ((reported_said report says (done tells)).mends may.comes_back);
   }
 
   -- a check that said its report

@@ -21,7 +21,7 @@ use Rattle.tool_core.proofs.Mounted.{safe_check, holds_check}
 use Rattle.tool_core.proofs.CheckEnds.{other_first, same_after}
 use Rattle.tool_core.proofs.Reading.{reads_said, behind_closed}
 use Rattle.tool_core.proofs.Refusals.{option_cases, refusal_line, check_not_tight}
-use Rattle.tool_core.proofs.Speaking.{concludes, within, by_result, none_closed, mended_closed}
+use Rattle.tool_core.proofs.Speaking.{concludes, within, none_closed, mended_closed}
 
 -- a closing line is no line of a report
 not_closing : (n : ℕ) (said closing first tail : List ℕ) (x y : ℕ) (xs ys : List ℕ) → closing ≡ x ∷ xs → first ++ tail ≡ y ∷ ys → (x ≡ y → ⊥) → said ++ take n closing ≡ said ++ (first ++ tail) → ⊥
@@ -102,10 +102,7 @@ module _ {D : Type 0} {nor : NorOf D} {g : Geometry} where
                   (checks.speaks tells),
             ))
             (checks.mends tells may)) closes;
-        kept = λ tells ending refused fine.
-            let is : result ≡ ending = by_result (checks.speaks tells) closes fine ∙ ap (λ (o : Option Ending). unwrap_or o (report_ending (length (damaged_of g (nor.bytes old))) (free_blocks g (nor.bytes mid)))) refused in
-            none_closed (checks.kept tells (refused ∙ ap (λ (e : Ending). Some e) (sym is))) closes;
-        looks = λ tells spoiled is. none_closed (checks.looks tells spoiled is) closes;
+        kept = λ tells ending refused. none_closed (checks.kept tells ending refused) closes;
         idle = λ tells tidy reserve. none_closed (checks.idle tells tidy reserve) closes;
         cuts = widened (check_cuts result status checks closes) (λ image count here tells. cut_as closes.says.bytes (here tells));
         behind = behind_closed behind closes;

@@ -8,12 +8,9 @@ use Rattle.table_model.specs.Window.{Moment, from_settled, IsAmong}
 use Rattle.call_script.specs.Lines.{calls}
 use Rattle.image_model.specs.Tables.{table_of}
 use Rattle.image_model.specs.Tidy.{IsTidy, HasReserve}
-use Rattle.room_laws.specs.Recovery.{Recovers}
-use Rattle.room_laws.proofs.Staying.{reserve_mends}
 use Rattle.image_model.specs.Collect.{chosen_block}
 use Rattle.run_model.specs.Runs.{RunCall, after_all, replies, IsCut}
 use Rattle.call_model.specs.Safe.{IsSafe, Holds}
-use Rattle.call_model.proofs.Safety.{safe_as}
 use Rattle.run_model.proofs.Runs.{cut_none, cut_later}
 use Rattle.run_model.proofs.Chain.{no_replies}
 use Rattle.tool_core.specs.declared.ending.Ending.{Ending}
@@ -23,7 +20,7 @@ use Rattle.tool_core.specs.Endings.{OnlyCloses}
 use Rattle.tool_core.specs.Mounting.{IsMendable}
 use Rattle.tool_core.specs.Outcomes.{WhyRan, RunCut, Broke, Came, RunsTo}
 use Rattle.tool_core.specs.Running.{Outcome, CallCut, ClosingCut}
-use Rattle.tool_core.proofs.Refusals.{begun_reserve}
+use Rattle.tool_core.proofs.Refusals.{begun_reserve, tidy_mends}
 
 module _ {D : Type 0} {nor : NorOf D} {g : Geometry} where
   -- a cut in the calls by those whose replies were said whole
@@ -34,12 +31,12 @@ module _ {D : Type 0} {nor : NorOf D} {g : Geometry} where
   came_reserve : {old mid : D} {m : Moment} {script left : List ℕ} {ending : Ending} → (c : Came nor g old mid m script left ending) → HasReserve g (nor.bytes mid) ⊎ ((c.front ≡ []) × (IsMendable g (nor.bytes old) → ⊥))
   came_reserve {old} {mid} came = ⊎_elim (λ early. inr (early.0, early.1.mends_not)) (λ ran. inl (begun_reserve g (nor.bytes old) (nor.bytes mid) ran.0)) came.why
 
-  -- so it recovers, or nothing was said
-  came_mends : {old mid : D} {m : Moment} {script left : List ℕ} {ending : Ending} → (c : Came nor g old mid m script left ending) → Recovers g (nor.bytes mid) ⊎ ((replies g m c.front ≡ []) × (table_of g (nor.bytes mid) ≡ table_of g (nor.bytes old)))
+  -- so a check takes it and gives it two free blocks, or nothing was said
+  came_mends : {old mid : D} {m : Moment} {script left : List ℕ} {ending : Ending} → (c : Came nor g old mid m script left ending) → IsMendable g (nor.bytes mid) ⊎ ((replies g m c.front ≡ []) × (table_of g (nor.bytes mid) ≡ table_of g (nor.bytes old)))
   came_mends {old} {mid} {m} came = ⊎_elim
-      (λ reserve. inl (reserve_mends g (nor.bytes mid) reserve))
-      (λ none. inr (ap (replies g m) none.0 ∙ no_replies g m, came.untouched none.0))
-      (came_reserve came)
+      (λ early. inr (ap (replies g m) early.0 ∙ no_replies g m, came.untouched early.0))
+      (λ ran. inl (tidy_mends g (nor.bytes mid) (came.tidy ran.0) (begun_reserve g (nor.bytes old) (nor.bytes mid) ran.0)))
+      came.why
 
   -- and where a reply was said or the first image is one that the check gives two free blocks, they are free
   came_closes : {old mid : D} {m : Moment} {script left : List ℕ} {ending : Ending} → (c : Came nor g old mid m script left ending) → IsMendable g (nor.bytes old) ⊎ (0 < length (replies g m c.front)) → HasReserve g (nor.bytes mid)
@@ -57,11 +54,11 @@ module _ {D : Type 0} {nor : NorOf D} {g : Geometry} where
         cut = record {
           part = replies g m came.front ++ [];
           count_is = omega (arith, count_is, ap length came.said, length-append (nor.said old) (replies g m came.front), ap length all);
-          safe = subst (λ (l : List ℕ). IsSafe g (nor.bytes old) l) (sym same) (safe_as g (nor.bytes old) (nor.bytes mid) came.holds);
+          safe = subst (λ (l : List ℕ). IsSafe g (nor.bytes old) l) (sym same) came.safe;
           cut = subst (λ (zs : List RunCall). IsCut g m zs (replies g m came.front ++ []) image) (append-nil came.front) (cut_later g m came.front [] [] image (cut_none g (after_all g m came.front) [] image (subst (λ (l : List ℕ). IsAmong (table_of g l) (from_settled (after_all g m came.front) [])) (sym same) came.among)));
         };
         mends = ⊎_elim
-            (λ mends. inl (subst (λ (l : List ℕ). Recovers g l) (sym same) mends))
+            (λ mends. inl (subst (λ (l : List ℕ). IsMendable g l) (sym same) mends))
             (λ none. inr (all ∙ none.0, ap (table_of g) same ∙ none.1))
             (came_mends came);
       }))

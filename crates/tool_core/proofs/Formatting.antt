@@ -13,13 +13,9 @@ use Rattle.table_model.specs.Room.{has_room, index_count, data_count}
 use Rattle.table_model.specs.Window.{settled_at}
 use Rattle.image_model.specs.Tables.{table_of}
 use Rattle.image_model.specs.Tidy.{IsTidy}
-use Rattle.image_model.specs.Kinds.{spoiled_blocks, mixed_blocks}
-use Rattle.image_model.specs.Places.{has_magic}
-use Rattle.image_laws.proofs.Matching.{filter-none_in}
 use Rattle.room_laws.proofs.Totals.{ceil-le}
 use Rattle.call_model.specs.Memory.{Memory}
 use Rattle.run_model.specs.Ran.{RunStands}
-use Rattle.vol_check.proofs.Mixing.{unmixed_by}
 use Rattle.vol_check.specs.declared.report.Report.{Report}
 use Rattle.volume.specs.declared.volume.Volume.{Volume}
 use Rattle.volume.specs.Holds.{memory}
@@ -31,22 +27,9 @@ use Rattle.tool_core.specs.declared.ending.Ending.TheVariants.{BoardFault}
 use Rattle.tool_core.specs.Begins.{Begun}
 use Rattle.tool_core.specs.Mounting.{Checks, Reported, StopsCheck}
 use Rattle.tool_core.specs.Outcomes.{first_moment, closed_memory}
-use Rattle.tool_core.specs.Refusals.{check_refusal}
 use Rattle.tool_core.specs.Filling.{HoldsFiles}
 use Rattle.tool_core.proofs.Beginning.{begun_stands, first_room}
-use Rattle.tool_core.proofs.Refusals.{check_takes, not_both}
-
--- ---- a tidy image is taken by mounting and the check
-
-no_spoiled : (g : Geometry) (image : List ℕ) → IsTidy g image → spoiled_blocks g image ≡ 0
-unfolding spoiled_blocks
-no_spoiled g image tidy = filter-none_in (λ (block : ℕ). not (has_magic g image block)) 0 g.blocks (λ block low high. rw (tidy.magic block (omega (arith, high))) refl)
-
-none_mixed : (g : Geometry) (image : List ℕ) → IsTidy g image → mixed_blocks g image ≡ 0
-none_mixed g image tidy = unmixed_by g image (λ block m. absurd (let bad : true ≡ false = sym m.names ∙ tidy.unmixed m.p m.q m.x m.y m.p_is m.q_is (m.p_at ∙ sym m.q_at) ∙ m.holds in cc))
-
-pub tidy_taken : (g : Geometry) (image : List ℕ) → IsTidy g image → check_refusal g image ≡ None
-tidy_taken g image tidy = check_takes g image (omega (arith, no_spoiled g image tidy)) (none_mixed g image tidy)
+use Rattle.tool_core.proofs.Refusals.{tidy_taken, not_both}
 
 -- ---- an empty table has room in a volume that may be written
 

@@ -1,15 +1,24 @@
 -- Which images are refused, and how.
 use Rattle.std.proofs.Common.{◌≡◌, ℕ, ◌<◌, ◌≤◌, ◌⊎◌, List, ◌∷◌, length, refl, sym, ◌∙◌, ap, arith, inl, inr, ⊎_elim, Bool, true, false, cond, Option, Some, None}
+use Rattle.std.proofs.lemmas.Bool.{cases_Bool}
 use Rattle.std.proofs.lemmas.Bool.Decides.{nat_tests}
-use Rattle.std.specs.Prelude.{nat_lt, unwrap_or}
+use Rattle.std.specs.Prelude.{nat_lt, not, unwrap_or}
 use Rattle.geometry.specs.declared.geometry.Geometry.{Geometry}
 use Rattle.image_model.specs.Tables.{damaged_of}
-use Rattle.image_model.specs.Tidy.{HasReserve, free_blocks}
-use Rattle.image_model.specs.Kinds.{spoiled_blocks, mixed_blocks}
+use Rattle.image_model.specs.Places.{has_magic}
+use Rattle.image_model.specs.Tidy.{IsTidy, HasReserve, free_blocks}
+use Rattle.image_model.specs.Kinds.{spoiled_blocks}
+use Rattle.image_model.specs.Shared.{shared_blocks, fits_over, FitsWith}
+use Rattle.image_laws.proofs.Matching.{filter-none_in}
+use Rattle.image_laws.proofs.Unshared.{tidy-unshared, fits-tested}
+use Rattle.room_laws.proofs.Staying.{reserve_mends}
+use Rattle.call_model.specs.Safe.{ComesBack, IsSafe}
+use Rattle.call_model.proofs.Mounts.{cuts_keep_magics}
 use Rattle.tool_core.specs.declared.ending.Ending.{Ending}
 use Rattle.tool_core.specs.declared.ending.Ending.TheVariants.{Done, NotAFs, Mixed, Damaged, Tight, BoardFault}
 use Rattle.tool_core.specs.Closing.{status_of, closing_line_of}
 use Rattle.tool_core.specs.Refusals.{mount_refusal, check_refusal, tight_refusal, or_ending, begin_refusal, report_ending, check_ending}
+use Rattle.tool_core.specs.Mounting.{IsMendable}
 use Rattle.tool_core.specs.Outcomes.{IsOfScript}
 
 below : (m n : ℕ) → m < n → nat_lt m n ≡ true
@@ -47,13 +56,45 @@ pub check_two : (g : Geometry) (image : List ℕ) (spoiled : ℕ) → spoiled �
 unfolding check_refusal
 check_two g image spoiled is two = rw (below 1 (spoiled_blocks g image) (omega (arith, is, two))) (ap (λ (n : ℕ). Some (NotAFs n)) (sym is))
 
-pub check_mixed : (g : Geometry) (image : List ℕ) (blocks : ℕ) → spoiled_blocks g image ≤ 1 → blocks ≡ mixed_blocks g image → 0 < blocks → check_refusal g image ≡ Some (Mixed blocks)
+pub check_over : (g : Geometry) (image : List ℕ) (blocks : ℕ) → spoiled_blocks g image ≤ 1 → blocks ≡ shared_blocks g image → fits_over g image ≡ false → check_refusal g image ≡ Some (Mixed blocks)
 unfolding check_refusal
-check_mixed g image blocks few is some = rw (not_below 1 (spoiled_blocks g image) few) (rw (below 0 (mixed_blocks g image) (omega (arith, is, some))) (ap (λ (n : ℕ). Some (Mixed n)) (sym is)))
+check_over g image blocks few is over = rw (not_below 1 (spoiled_blocks g image) few) (rw over (ap (λ (n : ℕ). Some (Mixed n)) (sym is)))
 
-pub check_takes : (g : Geometry) (image : List ℕ) → spoiled_blocks g image ≤ 1 → mixed_blocks g image ≡ 0 → check_refusal g image ≡ None
+check_fits : (g : Geometry) (image : List ℕ) → spoiled_blocks g image ≤ 1 → fits_over g image ≡ true → check_refusal g image ≡ None
 unfolding check_refusal
-check_takes g image few none = rw (not_below 1 (spoiled_blocks g image) few) (rw (not_below 0 (mixed_blocks g image) (omega (arith, none))) refl)
+check_fits g image few fits = rw (not_below 1 (spoiled_blocks g image) few) (rw fits refl)
+
+pub check_takes : (g : Geometry) (image : List ℕ) → spoiled_blocks g image ≤ 1 → FitsWith g image 0 → check_refusal g image ≡ None
+check_takes g image few fits = check_fits g image few ((fits-tested g image).1 fits)
+
+-- one that mounts and isn't taken doesn't fit over
+pub over_of : (g : Geometry) (image : List ℕ) (why : Ending) → spoiled_blocks g image ≤ 1 → check_refusal g image ≡ Some why → fits_over g image ≡ false
+over_of g image why few is = ⊎_elim
+    (λ (fits : fits_over g image ≡ true). absurd (not_both (check_fits g image few fits) is))
+    (λ (over : fits_over g image ≡ false). over)
+    (cases_Bool (fits_over g image))
+
+-- ---- tidy images, and what a cut leaves of them
+
+pub no_spoiled : (g : Geometry) (image : List ℕ) → IsTidy g image → spoiled_blocks g image ≡ 0
+unfolding spoiled_blocks
+no_spoiled g image tidy = filter-none_in (λ (block : ℕ). not (has_magic g image block)) 0 g.blocks (λ block low high. rw (tidy.magic block (omega (arith, high))) refl)
+
+pub tidy_taken : (g : Geometry) (image : List ℕ) → IsTidy g image → check_refusal g image ≡ None
+tidy_taken g image tidy = check_takes g image (omega (arith, no_spoiled g image tidy)) (inl (tidy-unshared g image tidy))
+
+-- where two blocks are free a check leaves two
+pub reserve_back : (g : Geometry) (image : List ℕ) → HasReserve g image → ComesBack g image
+reserve_back g image reserve = record { recovers = reserve_mends g image reserve; parts = inr reserve }
+
+pub tidy_mends : (g : Geometry) (image : List ℕ) → IsTidy g image → HasReserve g image → IsMendable g image
+tidy_mends g image tidy reserve = record { takes = tidy_taken g image tidy; comes_back = reserve_back g image reserve }
+
+pub safe_mends : (g : Geometry) (was image : List ℕ) → IsTidy g was → HasReserve g was → IsSafe g was image → IsMendable g image
+safe_mends g was image tidy reserve safe = record {
+  takes = check_takes g image (cuts_keep_magics g was image (omega (arith, no_spoiled g was tidy)) safe) (safe.fits 0 (inl (tidy-unshared g was tidy)));
+  comes_back = safe.mends reserve;
+}
 
 pub tight_some : (g : Geometry) (image : List ℕ) (free : ℕ) → free ≡ free_blocks g image → free < 2 → tight_refusal g image ≡ Some (Tight free)
 unfolding tight_refusal
@@ -68,9 +109,9 @@ pick true c m n ending is = inl cc
 pick false true m n ending is = inr cc
 pick false false m n ending is = cc
 
-refusal_is : (g : Geometry) (image : List ℕ) (ending : Ending) → check_refusal g image ≡ Some ending → (ending ≡ NotAFs (spoiled_blocks g image)) ⊎ (ending ≡ Mixed (mixed_blocks g image))
+refusal_is : (g : Geometry) (image : List ℕ) (ending : Ending) → check_refusal g image ≡ Some ending → (ending ≡ NotAFs (spoiled_blocks g image)) ⊎ (ending ≡ Mixed (shared_blocks g image))
 unfolding check_refusal
-refusal_is g image ending is = pick (nat_lt 1 (spoiled_blocks g image)) (nat_lt 0 (mixed_blocks g image)) (spoiled_blocks g image) (mixed_blocks g image) ending is
+refusal_is g image ending is = pick (nat_lt 1 (spoiled_blocks g image)) (not (fits_over g image)) (spoiled_blocks g image) (shared_blocks g image) ending is
 
 -- no image makes a fault
 pub no_fault : (g : Geometry) (image : List ℕ) (ending : Ending) → check_refusal g image ≡ Some ending → ending ≡ BoardFault → ⊥

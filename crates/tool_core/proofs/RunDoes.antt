@@ -19,8 +19,8 @@ use Rattle.tool_core.specs.Running.{Outcome, first_of, DoesRun}
 use Rattle.tool_core.proofs.Concluding.{outcome_of}
 use Rattle.tool_core.proofs.Exact.{begins_as, complete_of, ran_whole}
 use Rattle.tool_core.proofs.Reading.{reads_said, behind_closed}
-use Rattle.tool_core.proofs.Refusals.{begun_reserve, script_not_tight, mount_check}
-use Rattle.tool_core.proofs.Speaking.{concludes, by_result, none_closed, mended_closed}
+use Rattle.tool_core.proofs.Refusals.{begun_reserve, script_not_tight}
+use Rattle.tool_core.proofs.Speaking.{concludes, none_closed, mended_closed}
 
 -- an image that the check takes and that recovers isn't what ends a run
 mended_of : (g : Geometry) (was now : List ℕ) (result : Ending) → IsMendable g was → EndsByImages g was now result → (result ≡ BoardFault) ⊎ (HasReserve g now × (status_of result ≡ 14 → ⊥))
@@ -51,7 +51,6 @@ module _ {D X : Type 0} {nor : NorOf D} {source : SourceOf X} {g : Geometry} whe
         complete = λ read tells fine read_fine takes. complete_of fine read_fine takes (outcome read tells);
         refused = λ tells ending is.
             let r = refused tells ending is in
-            (concludes [] ending result status r.tells faults cause r.speaks closes, λ fine. none_closed (r.kept (by_result r.speaks closes fine)) closes);
-        looks = λ tells ending is. none_closed ((refused tells ending (mount_check g (nor.bytes old) ending is)).looks is) closes;
+            (concludes [] ending result status r.tells faults cause r.speaks closes, none_closed r.kept closes);
         reads = reads_said lent.cache reads closes.says closes.cuts.faults;
       }

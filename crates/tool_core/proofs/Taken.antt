@@ -5,18 +5,16 @@ use Rattle.std.proofs.lemmas.Bool.Decides.{nat_tests}
 use Rattle.geometry.specs.declared.geometry.Geometry.{Geometry}
 use Rattle.nor_core.specs.declared.state.NorState.{Ghosts as NorOf}
 use Rattle.nor_core.proofs.Cuts.{widened}
-use Rattle.image_model.specs.Kinds.{spoiled_blocks, mixed_blocks}
-use Rattle.room_laws.proofs.Staying.{reserve_mends}
-use Rattle.call_model.specs.Safe.{IsSafe}
-use Rattle.call_model.proofs.Safety.{safe_as}
-use Rattle.call_model.proofs.Mounts.{cuts_keep_magics, cuts_mix_none}
+use Rattle.image_model.specs.Kinds.{spoiled_blocks}
+use Rattle.image_model.specs.Tidy.{IsTidy}
+use Rattle.call_model.proofs.Mounts.{cuts_keep_magics}
 use Rattle.tool_core.specs.declared.ending.Ending.{Ending}
-use Rattle.tool_core.specs.declared.ending.Ending.TheVariants.{NotAFs, Mixed}
+use Rattle.tool_core.specs.declared.ending.Ending.TheVariants.{NotAFs}
 use Rattle.tool_core.specs.Mounting.{IsMendable}
-use Rattle.tool_core.specs.Refusals.{mount_refusal, check_refusal}
+use Rattle.tool_core.specs.Refusals.{mount_refusal}
 use Rattle.tool_core.specs.Running.{ClosingCut}
 use Rattle.tool_core.specs.Taken.{CutsMount, CutsAreTaken, CutCallsMend, CutRunsMend}
-use Rattle.tool_core.proofs.Refusals.{mount_few, check_takes}
+use Rattle.tool_core.proofs.Refusals.{mount_few, check_takes, tidy_mends}
 
 -- ---- what is taken
 
@@ -28,49 +26,34 @@ later false e o is = (refl, is)
 few_of : (n : ℕ) → nat_lt 1 n ≡ false → n ≤ 1
 few_of n is = grind (arith, nat_tests)
 
-none_of : (n : ℕ) → nat_lt 0 n ≡ false → n ≡ 0
-none_of n is = grind (arith, nat_tests)
-
 mount_tells : (g : Geometry) (image : List ℕ) → mount_refusal g image ≡ None → spoiled_blocks g image ≤ 1
 unfolding mount_refusal
 mount_tells g image is = few_of (spoiled_blocks g image) (later (nat_lt 1 (spoiled_blocks g image)) (NotAFs (spoiled_blocks g image)) None is).0
-
-check_tells : (g : Geometry) (image : List ℕ) → check_refusal g image ≡ None → (spoiled_blocks g image ≤ 1) × (mixed_blocks g image ≡ 0)
-unfolding check_refusal
-check_tells g image is =
-    let first = later (nat_lt 1 (spoiled_blocks g image)) (NotAFs (spoiled_blocks g image)) (cond (nat_lt 0 (mixed_blocks g image)) (Some (Mixed (mixed_blocks g image))) None) is in
-    let second = later (nat_lt 0 (mixed_blocks g image)) (Mixed (mixed_blocks g image)) None first.1 in
-    (few_of (spoiled_blocks g image) first.0, none_of (mixed_blocks g image) second.0)
 
 pub cuts_mount : (g : Geometry) → CutsMount g
 cuts_mount g was image is safe = mount_few g image (cuts_keep_magics g was image (mount_tells g was is) safe)
 
 pub cuts_taken : (g : Geometry) → CutsAreTaken g
-cuts_taken g was image is safe =
-    let tells = check_tells g was is in
-    check_takes g image (cuts_keep_magics g was image tells.0 safe) (cuts_mix_none g was image tells.0 tells.1 safe)
+cuts_taken g was image is fits safe = check_takes g image (cuts_keep_magics g was image (mount_tells g was is) safe) (safe.fits 0 fits)
 
 -- ---- what is mended
 
 module _ {D : Type 0} (nor : NorOf D) (g : Geometry) where
   pub cut_calls_mend : CutCallsMend nor g
-  cut_calls_mend old m calls image count takes cut some = record {
-    takes = cuts_taken g (nor.bytes old) image takes cut.safe;
-    recovers = ⊎_elim (λ mends. mends) (λ none. absurd (omega (arith, some, cut.count_is, ap length none.0))) cut.mends;
-  }
+  cut_calls_mend old m calls image count cut some = ⊎_elim (λ mends. mends) (λ none. absurd (omega (arith, some, cut.count_is, ap length none.0))) cut.mends
 
   -- the last image, once a byte of the closing line was said
-  closing_mends : (old new : D) (before closing image : List ℕ) (count : ℕ) → IsMendable g (nor.bytes old) → IsSafe g (nor.bytes old) (nor.bytes new) → ClosingCut nor g old new before closing image count → IsMendable g image
-  closing_mends old new before closing image count may safe cut = record {
-    takes = cuts_taken g (nor.bytes old) image may.takes (subst (λ (l : List ℕ). IsSafe g (nor.bytes old) l) (sym cut.image_is) safe);
-    recovers = reserve_mends g image (cut.reserve (inl may));
-  }
+  closing_mends : (old new : D) (before closing image : List ℕ) (count : ℕ) → IsMendable g (nor.bytes old) → IsTidy g (nor.bytes new) → ClosingCut nor g old new before closing image count → IsMendable g image
+  closing_mends old new before closing image count may tidy cut = tidy_mends g image (subst (λ (l : List ℕ). IsTidy g l) (sym cut.image_is) tidy) (cut.reserve (inl may))
 
   pub cut_runs_mend : CutRunsMend nor g
   cut_runs_mend old new m script left status may outcome = ⊎_elim
-      (λ broken. widened broken.cuts (λ image count here some. cut_calls_mend old m _ image count may.takes here some))
-      (λ closed. widened closed.cuts (λ image count here some. ⊎_elim
-      (λ calls. cut_calls_mend old m _ image count may.takes calls some)
-      (λ closing. closing_mends old new _ _ image count may (safe_as g (nor.bytes old) (nor.bytes new) closed.holds) closing)
+      (λ broken. widened broken.cuts (λ image count here some. cut_calls_mend old m _ image count here some))
+      (λ closed. ⊎_elim
+      (λ early. absurd (early.1.mends_not may))
+      (λ ran. widened closed.cuts (λ image count here some. ⊎_elim
+      (λ calls. cut_calls_mend old m _ image count calls some)
+      (λ closing. closing_mends old new _ _ image count may (closed.tidy ran.0) closing)
       here))
+      closed.why)
       outcome

@@ -4,7 +4,7 @@ use Rattle.geometry.specs.declared.geometry.Geometry.{Geometry}
 use Rattle.nor_core.specs.declared.state.NorState.{Ghosts as NorOf}
 use Rattle.image_model.specs.Tidy.{IsTidy, HasReserve}
 use Rattle.image_model.specs.Collect.{chosen_block}
-use Rattle.room_laws.specs.Recovery.{Recovers}
+use Rattle.call_model.specs.Safe.{ComesBack}
 use Rattle.tool_core.specs.declared.ending.Ending.{Ending}
 use Rattle.tool_core.specs.Mounting.{HasFailed, IsRefused}
 use Rattle.tool_core.specs.Refusals.{check_refusal, tight_refusal}
@@ -15,12 +15,12 @@ pub record Begun (g : Geometry) (was image : List ℕ) : Type 0 where
   pub tidy : IsTidy g image
   pub reserve : HasReserve g image
 
--- the first image is taken and doesn't recover; the check left fewer than two free blocks, and no block that is worth cleaning can be cleaned
+-- the first image is taken, and an uncut check needn't leave it two free blocks; the check left fewer than two free blocks, and no block that is worth cleaning can be cleaned
 pub record IsTight (g : Geometry) (was now : List ℕ) (ending : Ending) : Type 0 where
   pub takes : check_refusal g was ≡ None
   pub tight : tight_refusal g now ≡ Some ending
   pub stuck : chosen_block g now ≡ None
-  pub recovers_not : Recovers g was → ⊥
+  pub recovers_not : ComesBack g was → ⊥
 
 -- why a run isn't begun: the board failed, the first image isn't taken, or the check left too few free blocks
 abbrev pub StopsRun : {D : Type 0} (nor : NorOf D) (g : Geometry) (old new : D) → Ending → Type 0

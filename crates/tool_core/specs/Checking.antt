@@ -15,7 +15,7 @@ use Rattle.tool_core.specs.declared.ending.Ending.TheVariants.{BoardFault}
 use Rattle.tool_core.specs.Closing.{closing_line_of}
 use Rattle.tool_core.specs.Endings.{Speaks, Concludes, WritesNone, HasMended}
 use Rattle.tool_core.specs.Reads.{ReadsOnce}
-use Rattle.tool_core.specs.Refusals.{mount_refusal, check_refusal, check_ending, unless_refused}
+use Rattle.tool_core.specs.Refusals.{check_refusal, check_ending, unless_refused}
 use Rattle.tool_core.specs.Mounting.{Checks, IsMendable}
 
 -- the line of a report: whether a block was erased, how many entries were killed, how many files were damaged, and how many blocks
@@ -54,8 +54,7 @@ IsOrderedOnceSaid nor g old new = (tail : List ℕ) → nor.said new ≡ nor.sai
 pub record ChecksTo {D : Type 0} (nor : NorOf D) (g : Geometry) (old new : D) (result : Ending) : Type 0 where
   pub cuts : Leaves nor old new (λ image count. nor.tells old → ReportCut nor g old new image count)
   pub speaks : nor.tells old → Speaks nor old new (reported_text g (nor.bytes old) (nor.bytes new)) (check_ending g (nor.bytes old) (nor.bytes new)) result
-  pub kept : nor.tells old → check_refusal g (nor.bytes old) ≡ Some result → WritesNone nor old new
-  pub looks : nor.tells old → (ending : Ending) → mount_refusal g (nor.bytes old) ≡ Some ending → WritesNone nor old new
+  pub kept : nor.tells old → (ending : Ending) → check_refusal g (nor.bytes old) ≡ Some ending → WritesNone nor old new
   pub idle : nor.tells old → IsTidy g (nor.bytes old) → HasReserve g (nor.bytes old) → WritesNone nor old new
   pub leaves : nor.tells old → Checks g (nor.bytes old) (nor.bytes new)
   pub ordered : nor.tells old → IsOrderedOnceSaid nor g old new
@@ -79,12 +78,10 @@ pub record DoesCheck {D : Type 0} (nor : NorOf D) (g : Geometry) (cache : ℕ) (
   pub holds : nor.tells old → Holds g (nor.bytes old) (nor.bytes new)
   -- it is in order, once the report was said
   pub ordered : nor.tells old → IsOrderedOnceSaid nor g old new
-  -- it has two free blocks where the check takes the first one and that recovers, if the board didn't fail
+  -- it has two free blocks where the check takes the first one and leaves it two, if the board didn't fail
   pub mends : nor.tells old → IsMendable g (nor.bytes old) → HasMended nor g new status
-  -- an image that isn't taken stays
-  pub kept : nor.tells old → (ending : Ending) → check_refusal g (nor.bytes old) ≡ Some ending → status ≢ 7 → WritesNone nor old new
-  -- one that doesn't mount stays where the board fails too
-  pub looks : nor.tells old → (ending : Ending) → mount_refusal g (nor.bytes old) ≡ Some ending → WritesNone nor old new
+  -- an image that isn't taken stays, where the board fails too
+  pub kept : nor.tells old → (ending : Ending) → check_refusal g (nor.bytes old) ≡ Some ending → WritesNone nor old new
   -- a tidy image with two free blocks is only read
   pub idle : nor.tells old → IsTidy g (nor.bytes old) → HasReserve g (nor.bytes old) → WritesNone nor old new
   -- what a cut at any moment leaves

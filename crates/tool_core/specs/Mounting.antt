@@ -1,12 +1,13 @@
 -- What mounting and checking a volume leave.
-use Rattle.std.specs.Prelude.{◌≡◌, ℕ, ◌⊎◌, List, Some, None}
+use Rattle.std.specs.Prelude.{◌≡◌, ℕ, ◌+◌, ◌⊎◌, List, Some, None}
 use Rattle.geometry.specs.declared.geometry.Geometry.{Geometry}
 use Rattle.nor_core.specs.declared.state.NorState.{Ghosts as NorOf}
 use Rattle.nor_core.specs.Device.{OnlyReads}
 use Rattle.image_model.specs.Tables.{table_of}
 use Rattle.image_model.specs.Tidy.{HasReserve}
 use Rattle.image_model.specs.Sound.{HasMagics, IsSound}
-use Rattle.room_laws.specs.Recovery.{Recovers}
+use Rattle.image_model.specs.Shared.{FitsWith}
+use Rattle.call_model.specs.Safe.{ComesBack}
 use Rattle.vol_mount.specs.declared.lent.MountErr.{MountErr}
 use Rattle.vol_mount.specs.declared.lent.MountErr.TheVariants.{NotAFs as MountNotAFs, DeviceFault as MountFault}
 use Rattle.vol_check.specs.declared.report.CheckErr.{CheckErr}
@@ -15,35 +16,37 @@ use Rattle.vol_check.specs.declared.report.Report.{Report}
 use Rattle.volume.specs.Checking.{CheckDone}
 use Rattle.tool_core.specs.declared.ending.Ending.{Ending}
 use Rattle.tool_core.specs.declared.ending.Ending.TheVariants.{Geometry as WrongGeometry, ShortBuffer, NotAFs, Mixed, BoardFault, Differ}
-use Rattle.tool_core.specs.Refusals.{mount_refusal, check_refusal}
+use Rattle.tool_core.specs.Refusals.{check_refusal}
 
--- what mounting and the check may leave of any image: its table, sound, and two free blocks where they were there
+-- what mounting and the check may leave of any image: its table, sound, two free blocks where they were there, and of the entries to spare
+-- all but one
 pub record Checks (g : Geometry) (was image : List ℕ) : Type 0 where
   pub sound : HasMagics g was → IsSound g image was
   pub table : table_of g image ≡ table_of g was
   pub reserve : HasReserve g was → HasReserve g image
+  pub fits : (spare : ℕ) → FitsWith g was (spare + 1) → FitsWith g image spare
 
--- mounting and the check take the image, and it recovers: an uncut check leaves two free blocks
+-- mounting and the check take the image, and an uncut check leaves two free blocks
 pub record IsMendable (g : Geometry) (image : List ℕ) : Type 0 where
   pub takes : check_refusal g image ≡ None
-  pub recovers : Recovers g image
+  pub comes_back : ComesBack g image
 
 -- a volume that was checked: its image was one that the check takes, the report tells what was found and done, and two blocks are free
--- where that image recovers
+-- where an uncut check of that image leaves them
 pub record Reported (g : Geometry) (was now : List ℕ) (report : Report) : Type 0 where
   pub takes : check_refusal g was ≡ None
   pub done : CheckDone g was now report
-  pub mends : Recovers g was → HasReserve g now
+  pub mends : ComesBack g was → HasReserve g now
 
 -- the first image isn't taken, and was only read
 pub record IsRefused {D : Type 0} (nor : NorOf D) (g : Geometry) (old new : D) (ending : Ending) : Type 0 where
   pub refusal : check_refusal g (nor.bytes old) ≡ Some ending
   pub reads : OnlyReads nor old new
 
--- the board failed; an image that doesn't mount was only read then too
+-- the board failed; an image that isn't taken was only read then too
 pub record HasFailed {D : Type 0} (nor : NorOf D) (g : Geometry) (old new : D) (ending : Ending) : Type 0 where
   pub fault : ending ≡ BoardFault
-  pub looks : (spoiled : Ending) → mount_refusal g (nor.bytes old) ≡ Some spoiled → OnlyReads nor old new
+  pub looks : (why : Ending) → check_refusal g (nor.bytes old) ≡ Some why → OnlyReads nor old new
 
 -- why a volume isn't checked: the board failed, or its image isn't taken
 abbrev pub StopsCheck : {D : Type 0} (nor : NorOf D) (g : Geometry) (old new : D) → Ending → Type 0

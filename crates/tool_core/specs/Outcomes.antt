@@ -11,12 +11,11 @@ use Rattle.image_model.specs.Tidy.{IsTidy}
 use Rattle.image_model.specs.Collect.{chosen_block}
 use Rattle.run_model.specs.Runs.{RunCall, AreFair, asks_of, after_all, replies}
 use Rattle.call_model.specs.Memory.{Memory}
-use Rattle.call_model.specs.Safe.{Holds}
-use Rattle.room_laws.specs.Recovery.{Recovers}
+use Rattle.call_model.specs.Safe.{IsSafe, Holds}
 use Rattle.run_model.specs.Ran.{CutIn, Reached, SaidPart}
 use Rattle.tool_core.specs.declared.ending.Ending.{Ending}
 use Rattle.tool_core.specs.declared.ending.Ending.TheVariants.{Done, BadLine, BoardFault, SourceFault, TooLong, Tight}
-use Rattle.tool_core.specs.Refusals.{mount_refusal, begin_refusal}
+use Rattle.tool_core.specs.Refusals.{begin_refusal}
 use Rattle.tool_core.specs.Closing.{status_of}
 use Rattle.tool_core.specs.Mounting.{IsMendable}
 use Rattle.tool_core.specs.Endings.{Speaks, WritesNone}
@@ -106,10 +105,11 @@ WhyRan g first image script left front later ending =
     ((front ≡ []) × ImagesEnd g first image ending)
     ⊎ ((begin_refusal g first image ≡ None) × WhyEnds script left (asks_of front) later ending)
 
--- A cut in a run: one in its calls. The image recovers, once the check has ended; before that nothing is said, and the table is the first one.
+-- A cut in a run: one in its calls. Once the check has ended, another takes the image and gives it two free blocks; before that nothing is said,
+-- and the table is the first one.
 pub record RunCut {D : Type 0} (nor : NorOf D) (g : Geometry) (old : D) (m : Moment) (calls : List RunCall) (image : List ℕ) (count : ℕ) : Type 0 where
   pub cut : CutIn nor g old m calls image count
-  pub mends : Recovers g image ⊎ ((cut.part ≡ []) × (table_of g image ≡ table_of g (nor.bytes old)))
+  pub mends : IsMendable g image ⊎ ((cut.part ≡ []) × (table_of g image ≡ table_of g (nor.bytes old)))
 
 -- A run that came to its closing line: the replies to some first calls were said, and the table is the one after them, which was settled or
 -- waited. The image is tidy, unless the images end the run. Where too few blocks are free, no block that is worth cleaning can be cleaned.
@@ -127,6 +127,7 @@ pub record Came {D : Type 0} (nor : NorOf D) (g : Geometry) (old new : D) (m : M
   pub why : WhyRan g (nor.bytes old) (nor.bytes new) script left front later ending
   pub untouched : front ≡ [] → table_of g (nor.bytes new) ≡ table_of g (nor.bytes old)
   pub holds : Holds g (nor.bytes old) (nor.bytes new)
+  pub safe : IsSafe g (nor.bytes old) (nor.bytes new)
   pub cuts : Leaves nor old new (RunCut nor g old m front)
 
 -- the board failed in the calls
@@ -151,5 +152,4 @@ EndsByImages g was now ending = (ending ≡ BoardFault) ⊎ (ImagesEnd g was now
 pub record Refused {D : Type 0} (nor : NorOf D) (g : Geometry) (old new : D) (ending result : Ending) : Type 0 where
   pub tells : nor.tells new
   pub speaks : Speaks nor old new [] ending result
-  pub kept : result ≡ ending → WritesNone nor old new
-  pub looks : mount_refusal g (nor.bytes old) ≡ Some ending → WritesNone nor old new
+  pub kept : WritesNone nor old new

@@ -1,9 +1,10 @@
 -- How a command ends by the images that it finds and leaves.
-use Rattle.std.specs.Prelude.{ℕ, List, [], length, nat_lt, Option, Some, None, if◌then◌else◌, unwrap_or}
+use Rattle.std.specs.Prelude.{ℕ, List, [], length, nat_lt, not, Option, Some, None, if◌then◌else◌, unwrap_or}
 use Rattle.geometry.specs.declared.geometry.Geometry.{Geometry}
 use Rattle.image_model.specs.Tables.{damaged_of}
 use Rattle.image_model.specs.Tidy.{free_blocks}
-use Rattle.image_model.specs.Kinds.{spoiled_blocks, mixed_blocks}
+use Rattle.image_model.specs.Kinds.{spoiled_blocks}
+use Rattle.image_model.specs.Shared.{shared_blocks, fits_over}
 use Rattle.tool_core.specs.declared.ending.Ending.{Ending}
 use Rattle.tool_core.specs.declared.ending.Ending.TheVariants.{Done, NotAFs, Mixed, Damaged, Tight}
 
@@ -11,11 +12,12 @@ use Rattle.tool_core.specs.declared.ending.Ending.TheVariants.{Done, NotAFs, Mix
 unfoldable pub mount_refusal : Geometry → List ℕ → Option Ending
 mount_refusal g image = if nat_lt 1 (spoiled_blocks g image) then Some (NotAFs (spoiled_blocks g image)) else None
 
--- why mounting or the check doesn't take one: two or more blocks lack their magic, or some are mixed
+-- why mounting or the check doesn't take one: two or more blocks lack their magic, or it doesn't fit over: some blocks are shared, and their
+-- index pages find no places
 unfoldable pub check_refusal : Geometry → List ℕ → Option Ending
 check_refusal g image =
     if nat_lt 1 (spoiled_blocks g image) then Some (NotAFs (spoiled_blocks g image))
-    else if nat_lt 0 (mixed_blocks g image) then Some (Mixed (mixed_blocks g image))
+    else if not (fits_over g image) then Some (Mixed (shared_blocks g image))
     else None
 
 -- why an image that the check left isn't worked on: fewer than two blocks are free

@@ -13,7 +13,6 @@ use Rattle.image_model.specs.Collect.{chosen_block}
 use Rattle.flash_view.specs.Same.{StaysBehind}
 use Rattle.run_model.specs.Runs.{RunCall, AreFair, asks_of, after_all, replies, IsCut}
 use Rattle.call_model.specs.Safe.{IsSafe, Holds}
-use Rattle.room_laws.specs.Recovery.{Recovers}
 use Rattle.run_model.specs.Ran.{SaidPart}
 use Rattle.tool_core.specs.declared.plan.Lengths.{Lengths}
 use Rattle.tool_core.specs.declared.ending.Ending.{Ending}
@@ -22,17 +21,17 @@ use Rattle.tool_core.specs.Closing.{status_of, closing_line_of}
 use Rattle.tool_core.specs.Endings.{EndsAs, Concludes, WritesNone, HasMended}
 use Rattle.tool_core.specs.Mounting.{IsMendable}
 use Rattle.tool_core.specs.Reads.{ReadsOnce}
-use Rattle.tool_core.specs.Refusals.{mount_refusal, check_refusal, begin_refusal}
+use Rattle.tool_core.specs.Refusals.{check_refusal, begin_refusal}
 use Rattle.tool_core.specs.Turns.{AllGood}
 use Rattle.tool_core.specs.Outcomes.{HasBad, IsTooLong, WhyRan, IsOfScript, first_moment}
 
--- A cut in the calls: the image may follow the first one, and the replies said and its table are those of a cut in the calls. It recovers, once
--- the check has ended; while that is under way nothing is said, and the table is that of the first image.
+-- A cut in the calls: the image may follow the first one, and the replies said and its table are those of a cut in the calls. Once the check has
+-- ended, another takes it and gives it two free blocks; while it is under way nothing is said, and the table is that of the first image.
 pub record CallCut {D : Type 0} (nor : NorOf D) (g : Geometry) (old : D) (m : Moment) (done : List RunCall) (image : List ℕ) (count : ℕ) : Type 0 where
   pub said : List ℕ
   pub count_is : count ≡ length (nor.said old) + length said
   pub safe : IsSafe g (nor.bytes old) image
-  pub mends : Recovers g image ⊎ ((said ≡ []) × (table_of g image ≡ table_of g (nor.bytes old)))
+  pub mends : IsMendable g image ⊎ ((said ≡ []) × (table_of g image ≡ table_of g (nor.bytes old)))
   pub cut : IsCut g m done said image
 
 -- A cut in the closing line: the last image, and so many bytes of that line behind what was said before it. Two blocks are free, where
@@ -121,11 +120,9 @@ pub record DoesRun {D X : Type 0} (nor : NorOf D) (source : SourceOf X) (g : Geo
   -- .. and, if it isn't 8, that of this script
   pub complete : source.tells script → nor.tells old → status ≢ 7 → status ≢ 8 →
       begin_refusal g (nor.bytes old) (nor.bytes new) ≡ None → IsComplete (source.left script) status
-  -- an image that isn't taken stays, and its closing line is said alone
-  pub refused : nor.tells old → (ending : Ending) → check_refusal g (nor.bytes old) ≡ Some ending → Concludes nor old new [] ending status × (status ≢ 7 → WritesNone nor old new)
-  -- one that doesn't mount stays where the board fails too
-  pub looks : nor.tells old → (ending : Ending) → mount_refusal g (nor.bytes old) ≡ Some ending → WritesNone nor old new
-  -- an image that the check takes and that recovers has two free blocks after the check, and so has the last one, if the board didn't fail
+  -- an image that isn't taken stays, where the board fails too, and its closing line is said alone
+  pub refused : nor.tells old → (ending : Ending) → check_refusal g (nor.bytes old) ≡ Some ending → Concludes nor old new [] ending status × WritesNone nor old new
+  -- an image that the check takes and gives two free blocks has them after the check, and so has the last one, if the board didn't fail
   pub mends : nor.tells old → IsMendable g (nor.bytes old) → HasMended nor g new status
   -- whatever is told, time goes on, and the bytes behind the volume stay
   pub behind : StaysBehind nor g old new

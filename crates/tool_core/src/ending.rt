@@ -23,7 +23,7 @@ pub(crate) enum Ending {
     ShortBuffer { part: Part, need: u32, given: usize },
     /// Two or more blocks lack their magic: their number.
     NotAFs(u32),
-    /// Some blocks hold live pages of both kinds: their number.
+    /// Some blocks hold wanted pages of both kinds, and the index pages find no places: how many blocks.
     Mixed(u32),
     /// A line of the script isn't in the grammar: its number, from 1.
     BadLine(u32),

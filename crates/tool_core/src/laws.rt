@@ -3,7 +3,7 @@ ghost use Rattle.tool_core.specs.Taken.{CutsMount, CutsAreTaken, CutCallsMend, C
 
 use nor_core::{Board, NorState};
 
-/// What a power cut leaves of a chip that mounting and the check take, they take.
+/// What a power cut leaves of a chip that mounts, mounts; and of one that fits over with an entry to spare, the check takes.
 pub fn cuts_are_taken()
     ensures mounts { (g : Geometry) → CutsMount g }
     ensures takes { (g : Geometry) → CutsAreTaken g }

@@ -7,7 +7,8 @@
  *   `cache`, whose size SPIFFS_CACHE_BYTES tells; `work` isn't used and may be NULL. `fd_space` has SPIFFS_FD_BYTES for each
  *   descriptor, and 3 more where it isn't aligned to 4 bytes.
  * - The check calls nothing back: `check_cb_f` isn't used, and what was found stands in `fs->report`.
- * - A volume that SPIFFS in C wrote is refused with SPIFFS_ERR_MIXED_BLOCKS where a block holds live pages of both kinds.
+ * - A volume that SPIFFS in C wrote has blocks with pages of both kinds. The check parts them; where too few blocks are free for that,
+ *   SPIFFS_mount answers SPIFFS_ERR_MIXED_BLOCKS and writes nothing.
  * - After a failing program or erase every call answers SPIFFS_ERR_FAILED until the volume is mounted again.
  *
  * What can't be had is refused by the compiler, with a sentence. */
