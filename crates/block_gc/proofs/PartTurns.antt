@@ -126,6 +126,6 @@ turns_end g at a b can last so_far = record {
 
 -- ---- a tidy image isn't written
 
-pub idle_on : {N : Type 0} {nor : NorOf N} {old mid new : View N nor} → mid.geometry ≡ old.geometry → (nor.tells old.nor.now → IsTidy old.geometry (nor.bytes old.nor.now) → OnlyReads nor old.nor.now mid.nor.now) →
+pub idle_on : {N : Type 0} {nor : NorOf N} (old mid new : View N nor) → mid.geometry ≡ old.geometry → (nor.tells old.nor.now → IsTidy old.geometry (nor.bytes old.nor.now) → OnlyReads nor old.nor.now mid.nor.now) →
     (nor.tells mid.nor.now → IsTidy mid.geometry (nor.bytes mid.nor.now) → OnlyReads nor mid.nor.now new.nor.now) → nor.tells old.nor.now → IsTidy old.geometry (nor.bytes old.nor.now) → OnlyReads nor old.nor.now new.nor.now
-idle_on same first second tells t = let reads = first tells t in reads_then reads (second (reads.told tells) (rw (same, reads.bytes) t))
+idle_on old mid new same first second tells t = let reads = first tells t in reads_then reads (second (reads.told tells) (rw (same, reads.bytes) t))
