@@ -1,9 +1,8 @@
-use Rattle.std.proofs.Common.{◌≡◌, ◌+◌, refl, arith, rules, Ok, Err, None}
-use Rattle.nor_core.proofs.Cuts.{reads_none, reads_then}
-use Rattle.flash_view.specs.Steps.{Stepped, stopped}
+use Rattle.std.proofs.Common.{◌≡◌, ◌+◌, refl, arith, rules, Err}
+use Rattle.nor_core.proofs.Cuts.{reads_none}
 use Rattle.flash_view.proofs.Looking.{looks_none}
 use Rattle.flash_view.proofs.Stepped.{looked, look_faults, after_look, stepped_then, passes}
-use Rattle.block_gc.specs.Partings.{parting_page, parting_to}
+use Rattle.block_gc.specs.Partings.{parting_to}
 use Rattle.block_gc.proofs.PartedPages.{part_stays}
 use Rattle.block_gc.proofs.PartTurns.{found_index, looking, failing, turns_start, turns_begin, turns_part, look_stops, turn_goes, turns_end, idle_on}
 use Rattle.block_gc.proofs.parting.part_mixed.Goals as goal
