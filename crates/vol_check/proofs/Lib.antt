@@ -5,7 +5,6 @@ pub mod Dead
 pub mod Heads
 pub mod Heading
 pub mod Passing
-pub mod Counts
 pub mod Walks
 pub mod CullStep
 pub mod Mixing
