@@ -7,7 +7,6 @@ pub mod Heading
 pub mod Passing
 pub mod Walks
 pub mod CullStep
-pub mod Mixing
 pub mod Resting
 pub mod MarkSteps
 pub mod WantedPages

@@ -7,7 +7,6 @@ mod damaged;
 mod doubled;
 mod entries;
 mod marking;
-mod mixed;
 mod report;
 mod spoiled;
 mod unwanted;
