@@ -12,6 +12,7 @@ mod parting;
 mod report;
 mod spoiled;
 mod surveying;
+mod tallies;
 mod unwanted;
 mod uses;
 
