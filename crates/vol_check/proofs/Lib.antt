@@ -8,9 +8,13 @@ pub mod Passing
 pub mod Walks
 pub mod CullStep
 pub mod Resting
+pub mod Listed
 pub mod MarkSteps
 pub mod WantedPages
 pub mod Doubles
 pub mod Noting
 pub mod Composing
 pub mod Freshening
+pub mod RangeSums
+pub mod UseSums
+pub mod TallySums
