@@ -125,7 +125,7 @@ impl Ends {
     }
 }
 
-// How many spans lie between the last one that has its entry in the header page and this one, if it lies behind that.
+// How far a span lies behind those that have their entries in the header page, if it does.
 fn past_heads(g: &Geometry, span: usize) -> Option<usize> {
     span.checked_sub(g.head_slots() as usize)
 }

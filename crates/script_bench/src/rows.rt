@@ -52,7 +52,12 @@ impl Row {
     }
 
     // Writes the header page anew, and deletes the old one.
-    fn renew(&mut self, alloc: Global, image: &mut Vec<u8>, g: &Geometry) -> Result<(), AllocError> {
+    fn renew(
+        &mut self,
+        alloc: Global,
+        image: &mut Vec<u8>,
+        g: &Geometry,
+    ) -> Result<(), AllocError> {
         let old = self.header;
         let new = self.take(g);
         copy(alloc, image, old.at(g), new.at(g), g.page as usize)?;

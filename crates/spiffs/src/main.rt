@@ -257,7 +257,9 @@ fn explain_status(rt: &impl Eprint, words: &[String], status: u8) {
             let _said = eprintln!(rt; "spiffs: PAGE, BLOCK, BLOCKS or MAGIC may be wrong");
         }
         OVER => {
-            let _said = eprintln!(rt; "spiffs: too few blocks are free to part those with pages of both kinds: extract the files and make a new chip");
+            let _said = eprintln!(rt;
+                "spiffs: too few blocks are free to part those with pages of both kinds: extract the files and make a new chip"
+            );
         }
         _ => {}
     }
