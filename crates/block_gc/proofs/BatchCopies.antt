@@ -294,7 +294,7 @@ module _ (g : Geometry) (was image : List ℕ) (block most : ℕ) (batch : Batch
         beside = beside_put g was image b batch.id to new so_far.beside put new_kind of_new;
         few = let room = can.can.room in omega (arith, room);
         tails = λ j ready. tail-beside g image b to batch.id so_far.beside.h new so_far.beside.head so_far.beside.f start put j (so_far.tails j ready);
-        counts = counts_then so_far.counts put.agree.counts;
+        counts = counts_then g was image b so_far.counts put.agree.counts;
       }
 
   pub copy_puts : Finishes g image image (putting to Data tag work) (carrying_to was block most batch cs q to span)

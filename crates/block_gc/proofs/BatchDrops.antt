@@ -138,7 +138,7 @@ module _ (g : Geometry) (was image : List ℕ) (block most page : ℕ) (x : Carr
             (λ (dead : live_at g image page ≡ None). inr (still page dead))
             d.gone;
         tails = λ j ready. tail-dropped g image b x.from one.old one.live one.kind kill j (d.tails j ready);
-        counts = counts_then d.counts kill.agree.counts;
+        counts = counts_then g was image b d.counts kill.agree.counts;
       }
 
   killed_one : (b : List ℕ) → KillDone g x.from image b → HaveGone g (x ∷ left) left image b

@@ -428,7 +428,7 @@ module _ (g : Geometry) (was image : List ℕ) (block most : ℕ) (batch : Batch
             apart = c.carrying.are;
             gone = inl can.all.begun;
             tails = λ j ready. tail-copied g image b6 to w id h old new head leads.head' f0 f0 start all leads.spans next j (c.tails j ready);
-            counts = counts_then c.counts (replaced_counts all);
+            counts = counts_then g was image b6 c.counts (replaced_counts all);
           }
 
     pub rename_puts : Finishes g image image (replacing to w tag work) (renaming_to was block most batch page to cs)

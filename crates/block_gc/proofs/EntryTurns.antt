@@ -88,7 +88,7 @@ emptied_on g block p first a b so_far turn = record {
       (cases_eq q p);
   between = λ f so. turn.between f (so_far.between f so);
   tails = λ id ready. turn.tails id (so_far.tails id ready);
-  counts = counts_then so_far.counts turn.counts;
+  counts = counts_then g first a b so_far.counts turn.counts;
 }
 
 -- a cut in a turn

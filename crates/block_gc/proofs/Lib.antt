@@ -22,3 +22,5 @@ pub mod PlacesBy
 pub mod IndexOut
 pub mod EntryTurns
 pub mod Programs
+pub mod PartedPages
+pub mod PartTurns

@@ -1,5 +1,5 @@
 -- Moving an index page, from what the put of its copy and its kill leave.
-use Rattle.std.proofs.Common.{◌≡◌, ℕ, ◌%◌, ◌<◌, ◌≤◌, Option, List, [], ◌∷◌, length, take, set, slice_range, false, Some, ap, refl, sym, ◌∙◌, arith, ⊎_elim, inl, subst}
+use Rattle.std.proofs.Common.{◌≡◌, ℕ, ◌%◌, ◌<◌, ◌≤◌, Option, List, [], ◌∷◌, length, take, set, slice_range, Some, ap, refl, sym, ◌∙◌, arith, ⊎_elim, inl, subst}
 use Rattle.std.specs.Prelude.{unwrap_or}
 use Rattle.std.proofs.lemmas.List.{get_or-take}
 use Rattle.geometry.specs.declared.geometry.Geometry.{Geometry}
@@ -143,4 +143,7 @@ module _ (g : Geometry) (a0 : List ℕ) (o p : ℕ) (tag : Tag) (work : List ℕ
         gone = all.kill.loses.after;
         tails = tails b all;
         counts = replaced_counts all;
+        copy = new;
+        copy_index = pages.1.new_index;
+        replaced = all;
       }

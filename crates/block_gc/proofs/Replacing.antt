@@ -1,5 +1,5 @@
 -- What moves of index pages and of data pages share: a page is put, and then another one is killed.
-use Rattle.std.proofs.Common.{◌≡◌, ◌≢◌, ℕ, zero, suc, ◌+◌, ◌*◌, ◌%◌, ◌<◌, ◌≤◌, List, [], ◌∷◌, length, set, slice_index, true, false, Some, Ok, ap, refl, sym, ◌∙◌, arith, ⊎_elim, inr, subst, length-set, get_or-set_same, get_or-set_other}
+use Rattle.std.proofs.Common.{◌≡◌, ◌≢◌, ℕ, zero, suc, ◌+◌, ◌*◌, ◌%◌, ◌<◌, ◌≤◌, List, [], ◌∷◌, length, set, slice_index, true, Some, Ok, ap, refl, sym, ◌∙◌, arith, ⊎_elim, inr, subst, length-set, get_or-set_same, get_or-set_other}
 use Rattle.std.proofs.lemmas.Bool.{cases_eq}
 use Rattle.std.proofs.lemmas.Option.{none-some, same_Some}
 use Rattle.geometry.specs.declared.geometry.Geometry.{Geometry}
@@ -80,12 +80,12 @@ replace_left all = inr (all.middle, all.put, kill_left all.kill)
 -- ---- erase counts
 
 -- they stay from image to image
-pub counts_then : {g : Geometry} {a b c : List ℕ} → SameCounts g a b → SameCounts g b c → SameCounts g a c
-counts_then first second block low = second block low ∙ first block low
+pub counts_then : (g : Geometry) (a b c : List ℕ) → SameCounts g a b → SameCounts g b c → SameCounts g a c
+counts_then g a b c first second block low = second block low ∙ first block low
 
 -- and where a page takes the place of another
 pub replaced_counts : {g : Geometry} {p o : ℕ} {page a b : List ℕ} → Replaced g p o page a b → SameCounts g a b
-replaced_counts all = counts_then all.put.agree.counts all.kill.agree.counts
+replaced_counts {g} {p} {o} {page} {a} {b} all = counts_then g a all.middle b all.put.agree.counts all.kill.agree.counts
 
 -- ---- index pages
 

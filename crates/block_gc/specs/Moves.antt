@@ -1,6 +1,7 @@
 -- What moving an index page asks of an image and leaves.
 use Rattle.std.specs.Prelude.{◌≡◌, ℕ, List, [], ◌∷◌, None, true, false}
 use Rattle.geometry.specs.declared.geometry.Geometry.{Geometry}
+use Rattle.image_model.specs.Headers.{names_index}
 use Rattle.image_model.specs.Live.{live_at}
 use Rattle.image_model.specs.Places.{block_of}
 use Rattle.image_model.specs.Tidy.{IsNeat, is_free_entry}
@@ -8,6 +9,7 @@ use Rattle.image_model.specs.Kinds.{is_index_page, is_data_block}
 use Rattle.image_model.specs.Sound.{Keeps}
 use Rattle.image_model.specs.Shared.{SameCounts}
 use Rattle.image_laws.specs.NewFile.{IsFreePage}
+use Rattle.renew_laws.specs.Replace.{Replaced}
 use Rattle.renew_laws.specs.Tails.{KeepsTails}
 use Rattle.flash_view.specs.Steps.{Step}
 use Rattle.room_laws.specs.Recovery.{IsOnWay}
@@ -32,6 +34,10 @@ pub record IndexMoved (g : Geometry) (page to : ℕ) (was now : List ℕ) : Type
   pub gone : live_at g now page ≡ None
   pub tails : KeepsTails g was now
   pub counts : SameCounts g was now
+  -- an index page was put there, and then the page was killed
+  pub copy : List ℕ
+  pub copy_index : names_index copy ≡ true
+  pub replaced : Replaced g to page copy was now
 
 abbrev pub moving : (page to : ℕ) → Step (Unit {0})
 moving page to = record { needs = λ g was. CanMove g was page to; cut = λ g was image. IndexCut g page to was image; done = λ g was now ok. IndexMoved g page to was now }
