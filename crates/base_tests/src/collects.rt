@@ -3,7 +3,9 @@ ghost use Rattle.std.specs.Prelude.{◌<◌, ◌^◌};
 
 use crate::bytes::put;
 use geometry::{Geometry, MagicKind};
-use image_collect::{are_had, chosen_block, is_fitting, is_stuck, is_swept, is_worth, score};
+use image_collect::{
+    are_had, chosen_block, is_fitting, is_stuck, is_swept, is_worth, score, scrub_victim,
+};
 use image_plain::holds_volume;
 use std::alloc::{AllocError, Global};
 use std::process::Abort;
@@ -310,6 +312,49 @@ fn a_swept_data_block_leaves_at_most_one_deleted_entry_for_each_page(
         assert!(rt;
             swept(rt.alloc(), &g, before.as_slice(), after.as_slice())? == Some(wanted),
             "{entry} deleted"
+        );
+    }
+    Ok(())
+}
+
+// The block that a scrub step with this limit moves.
+fn victim_of(
+    alloc: Global,
+    g: &Geometry,
+    image: &[u8],
+    limit: u16,
+) -> Result<Option<Option<u32>>, AllocError> {
+    if !holds_volume(g, image) {
+        return Ok(None);
+    }
+    Ok(Some(scrub_victim(alloc, g, image, limit)?))
+}
+
+#[test]
+fn a_scrub_moves_the_first_of_the_oldest_blocks_in_use_that_fit(
+    rt: HostRuntime,
+) -> Result<(), Fail> {
+    let g = small()?;
+    for (spans, counts, limit, wanted) in [
+        (15, [0u16, 0, 0, 0], 1, None),
+        (15, [0, 0, 5, 5], 5, Some(0)),
+        (15, [0, 0, 5, 5], 6, None),
+        (15, [1, 0, 5, 5], 5, Some(1)),
+        (15, [0, 0, 5, 3], 3, Some(0)),
+        (15, [0, 0, 5, 3], 4, None),
+        (15, [0x7FF0, 0, 0x7FFF, 0x7FFF], 15, Some(0)),
+        (30, [9, 0, 0, 9], 1, None),
+        (30, [5, 0, 0, 9], 4, Some(0)),
+    ] {
+        let mut image = formatted(rt.alloc(), &g)?;
+        put_file(&mut image, spans);
+        for block in 0..4usize {
+            let count = [(counts[block] % 256) as u8, (counts[block] / 256) as u8];
+            put(&mut image, block * 4096 + 254, &count);
+        }
+        assert!(rt;
+            victim_of(rt.alloc(), &g, image.as_slice(), limit)? == Some(wanted),
+            "{spans} pages, {counts:?}, limit {limit}"
         );
     }
     Ok(())

@@ -23,7 +23,8 @@ pub fn next_count(g: &Geometry, image: &[u8]) -> u16
     next % 0x8000
 }
 
-fn age_of(g: &Geometry, image: &[u8], next: u16, block: u32) -> u16
+// The age of a block, where the next erase count is known.
+pub(crate) fn age_of(g: &Geometry, image: &[u8], next: u16, block: u32) -> u16
     requires image { IsImage g.now image.now }
     requires block { block < g.now.blocks }
     requires next { next ≡ the_next_count g.now image.now }
