@@ -161,9 +161,8 @@ pub over_told : (g : Geometry) (image : List ℕ) (found : Survey) → IsSurvey 
 over_told g image found is some room = (
   is.shared,
   false_from_ne_true _ (λ yes. ⊎_elim
-        (λ (none : shared_blocks g image ≡ 0). omega (arith, some, none, is.shared))
-        (λ (fits : shared_index g image + 0 ≤ open_entries g image + (blocks_to_use g image - 2) * entries g).
-        let more : open_entries g image + (blocks_to_use g image - 2) * entries g < shared_index g image = rw (is.index_pages, is.index_free, is.free_blocks) at room in
-        omega (arith, more, fits))
-        ((fits-tested g image).0 yes)),
-  )
+      (λ (none : shared_blocks g image ≡ 0). omega (arith, some, none, is.shared))
+      (λ (fits : shared_index g image + 0 ≤ open_entries g image + (blocks_to_use g image - 2) * entries g).
+      let more : open_entries g image + (blocks_to_use g image - 2) * entries g < shared_index g image = rw (is.index_pages, is.index_free, is.free_blocks) at room in omega (arith, more, fits))
+      ((fits-tested g image).0 yes)),
+)
