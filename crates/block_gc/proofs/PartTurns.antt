@@ -1,5 +1,5 @@
 -- Index pages have their turns one after the other, over plain images.
-use Rattle.std.proofs.Common.{◌≡◌, ℕ, ◌+◌, ◌*◌, ◌<◌, ◌≤◌, ◌==◌, not, nat_lt, nat_le, List, true, false, None, refl, sym, ◌∙◌, ap, subst, arith, ⊎_elim}
+use Rattle.std.proofs.Common.{◌≡◌, ℕ, ◌+◌, ◌*◌, ◌<◌, ◌≤◌, ◌==◌, not, nat_lt, nat_le, List, true, false, None, refl, sym, ◌∙◌, subst, arith, ⊎_elim}
 use Rattle.std.proofs.lemmas.Bool.{cases_eq, cases_lt, and_parts, leb-true, le-ltb}
 use Rattle.std.proofs.lemmas.Bool.Decides.{nat_tests}
 use Rattle.geometry.specs.declared.geometry.Geometry.{Geometry}
@@ -26,7 +26,7 @@ use Rattle.flash_view.specs.declared.view.View.{View}
 use Rattle.nor_core.specs.Device.{OnlyReads}
 use Rattle.nor_core.specs.declared.state.NorState.{Ghosts as NorOf}
 use Rattle.nor_core.proofs.Cuts.{reads_then}
-use Rattle.block_gc.specs.Partings.{PartCut, Parted, parting, IsBesideData, Parts, PartsPage, parting_page, PartsTo, parting_to}
+use Rattle.block_gc.specs.Partings.{PartCut, Parted, parting, IsBesideData, PartsPage, parting_page, PartsTo, parting_to}
 use Rattle.block_gc.proofs.PartedPages.{part_stays, parts_itself, parts_on, cut_after}
 
 -- ---- pages that a walk over the entries of index pages finds
@@ -126,6 +126,6 @@ turns_end g at a b can last so_far = record {
 
 -- ---- a tidy image isn't written
 
-pub idle_on : {N : Type 0} {nor : NorOf N} {old mid new : View N nor} → mid.geometry ≡ old.geometry → (nor.tells old.nor.now → IsTidy old.geometry (nor.bytes old.nor.now) → OnlyReads nor old.nor.now mid.nor.now) →
+pub idle_on : {N : Type 0} {nor : NorOf N} (old mid new : View N nor) → mid.geometry ≡ old.geometry → (nor.tells old.nor.now → IsTidy old.geometry (nor.bytes old.nor.now) → OnlyReads nor old.nor.now mid.nor.now) →
     (nor.tells mid.nor.now → IsTidy mid.geometry (nor.bytes mid.nor.now) → OnlyReads nor mid.nor.now new.nor.now) → nor.tells old.nor.now → IsTidy old.geometry (nor.bytes old.nor.now) → OnlyReads nor old.nor.now new.nor.now
-idle_on same first second tells t = let reads = first tells t in reads_then reads (second (reads.told tells) (rw (same, reads.bytes) t))
+idle_on old mid new same first second tells t = let reads = first tells t in reads_then reads (second (reads.told tells) (rw (same, reads.bytes) t))

@@ -1,5 +1,5 @@
 -- The pages that the files of a table need, and marks of them.
-use Rattle.std.specs.Prelude.{◌≡◌, ℕ, ◌+◌, ◌-◌, ◌*◌, ◌<◌, ◌≤◌, ◌⊎◌, min, List, true, nat_le, ◌==◌, ◌&&◌, Some, is_some, slice_index}
+use Rattle.std.specs.Prelude.{◌≡◌, ℕ, ◌+◌, ◌-◌, ◌*◌, ◌<◌, ◌≤◌, ◌⊎◌, min, List, true, not, nat_lt, ◌==◌, ◌&&◌, Some, is_some, slice_index}
 use Rattle.geometry.specs.declared.geometry.Geometry.{Geometry}
 use Rattle.geometry.specs.Numbers.{page_count, head_slots, span_slots, ceil}
 use Rattle.nor_core.specs.Flash.{word_at}
@@ -80,7 +80,7 @@ MarksWanted g image marks = (p : ℕ) → p < page_count g → TellsUnwanted g i
 
 -- by its mark a page is wanted exactly where it is live and the mark is 3 or more
 abbrev pub TellsWanted : Geometry → List ℕ → ℕ → ℕ → Type 0
-TellsWanted g image p mark = is_wanted g image p ≡ (is_some (live_at g image p) && nat_le 3 mark)
+TellsWanted g image p mark = is_wanted g image p ≡ (is_some (live_at g image p) && not (nat_lt mark 3))
 
 -- each page of the volume has a mark that tells so
 abbrev pub MarksUses : Geometry → List ℕ → List ℕ → Type 0

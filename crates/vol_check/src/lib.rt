@@ -7,11 +7,11 @@ mod damaged;
 mod doubled;
 mod entries;
 mod marking;
-mod mixed;
 mod parting;
 mod report;
 mod spoiled;
 mod surveying;
+mod tallies;
 mod unwanted;
 mod uses;
 

@@ -24,7 +24,6 @@ use Rattle.block_gc.proofs.Cleanings.{swept_none, none_of_none}
 use Rattle.flash_view.specs.declared.view.View.{View}
 use Rattle.flash_view.specs.Same.{IsSameView, OnlyLooks}
 use Rattle.flash_view.specs.Steps.{Stepped}
-use Rattle.flash_view.proofs.Looking.{looks_none}
 use Rattle.vol_check.specs.declared.report.CheckErr.{CheckErr}
 use Rattle.vol_check.specs.declared.report.CheckErr.TheVariants.{Wrong, Mixed, DeviceFault}
 use Rattle.vol_check.specs.declared.report.Report.{Report}
@@ -242,56 +241,6 @@ checks_after {N} {nor} {old} {seen} {new} {r} looks after =
     on_refusal (Ok x) h go = tt
     on_refusal (Err why) h go = λ refusal. go (h refusal)
 
-module _ {N : Type 0} {nor : NorOf N} where
-  -- the volume may not be written
-  pub judges_wrong : (v : View N nor) (why : GeoErr) → write_refusal v.geometry ≡ Some why → Judges v v (Err (Wrong why))
-  judges_wrong v why is = record {
-    looks = looks_none v;
-    wrong = subst (λ (o : Option GeoErr). IfSome o (λ e. ◌≡◌ {A = Result Bool CheckErr} (Err (Wrong why)) (Err (Wrong e)))) (sym is) refl;
-    writable = λ none. let no : None ≡ Some why = sym none ∙ is in absurd (cc);
-    among = tt;
-    cause = λ fault. absurd (cc);
-    fits = λ tells. tt;
-    mixed = λ tells. tt;
-  }
-
-module _ {N : Type 0} {nor : NorOf N} {old seen : View N nor} (fine : write_refusal old.geometry ≡ None) (looks : OnlyLooks old seen) where
-  -- the device failed
-  pub judges_fault : Rose (nor.faults old.nor.now) (nor.faults seen.nor.now) → Judges old seen (Err DeviceFault)
-  judges_fault rose = record {
-    looks = looks;
-    wrong = no_refusal (write_refusal old.geometry) _ fine;
-    writable = λ none. tt;
-    among = tt;
-    cause = λ fault. rose;
-    fits = λ tells. tt;
-    mixed = λ tells. tt;
-  }
-
-  -- what is shared doesn't fit over
-  pub judges_over : (blocks : ℕ) → (nor.tells old.nor.now → (blocks ≡ shared_blocks old.geometry (nor.bytes old.nor.now)) × (fits_over old.geometry (nor.bytes old.nor.now) ≡ false)) → Judges old seen (Err (Mixed blocks))
-  judges_over blocks over = record {
-    looks = looks;
-    wrong = no_refusal (write_refusal old.geometry) _ fine;
-    writable = λ none. tt;
-    among = tt;
-    cause = λ fault. absurd (cc);
-    fits = λ tells. tt;
-    mixed = over;
-  }
-
-  -- it fits over
-  pub judges_fitting : (shares : Bool) → (nor.tells old.nor.now → IsFitting old.geometry (nor.bytes old.nor.now) shares) → Judges old seen (Ok shares)
-  judges_fitting shares fitting = record {
-    looks = looks;
-    wrong = no_refusal (write_refusal old.geometry) _ fine;
-    writable = λ none. tt;
-    among = tt;
-    cause = λ fault. absurd (cc);
-    fits = fitting;
-    mixed = λ tells. tt;
-  }
-
 module _ {N : Type 0} {nor : NorOf N} {old seen : View N nor} where
   -- it was refused before anything was written, or the device failed then
   pub judge_fails : {why : CheckErr} → (nor.tells old.nor.now → HasMagics old.geometry (nor.bytes old.nor.now)) → Judges old seen (Err why) → ChecksVolume nor old.geometry old.nor.now seen.nor.now (Err why)
@@ -332,15 +281,15 @@ module _ {N : Type 0} {nor : NorOf N} {old seen : View N nor} where
     pub fitting_on : nor.tells seen.nor.now → IsFitting seen.geometry (nor.bytes seen.nor.now) shares
     fitting_on tells = rw (judges.looks.same.geometry, judges.looks.reads.bytes) (judges.fits (judges.looks.reads.told_before tells))
 
--- the volume may be written and fits over, so no image of it is refused
-module _ {N : Type 0} {nor : NorOf N} {old mid : View N nor} (shares : Bool) (fine : write_refusal old.geometry ≡ None) (magics : nor.tells old.nor.now → HasMagics old.geometry (nor.bytes old.nor.now))
-    (fitting : nor.tells old.nor.now → IsFitting old.geometry (nor.bytes old.nor.now) shares) where
-  never_refused : {P : Type 0} → nor.tells old.nor.now → IsRefused old.geometry (nor.bytes old.nor.now) → P
-  never_refused {P} tells refused = ⊎_elim
-      (λ (wrong : write_refusal old.geometry ≡ None → ⊥). absurd (wrong fine))
-      (λ (over : fits_over old.geometry (nor.bytes old.nor.now) ≡ false). let yes = (fits-tested old.geometry (nor.bytes old.nor.now)).1 (fitting tells).0 in let no : true ≡ false = sym yes ∙ over in absurd (cc))
-      refused
+-- where the volume may be written and fits over, no image of it is refused
+never_refused : {P : Type 0} (g : Geometry) (image : List ℕ) (shares : Bool) → write_refusal g ≡ None → IsFitting g image shares → IsRefused g image → P
+never_refused g image shares fine fitting refused = ⊎_elim
+    (λ (wrong : write_refusal g ≡ None → ⊥). absurd (wrong fine))
+    (λ (over : fits_over g image ≡ false). let yes = (fits-tested g image).1 fitting.0 in let no : true ≡ false = sym yes ∙ over in absurd (cc))
+    refused
 
+module _ {N : Type 0} {nor : NorOf N} (old mid : View N nor) (shares : Bool) (fine : write_refusal old.geometry ≡ None) (magics : nor.tells old.nor.now → HasMagics old.geometry (nor.bytes old.nor.now))
+    (fitting : nor.tells old.nor.now → IsFitting old.geometry (nor.bytes old.nor.now) shares) where
   -- the stages failed
   pub stages_fail : {why : CheckErr} → IsOfStages why → (write_refusal old.geometry ≡ None → IsWritable why) → (IsErrOf {T = Report} (Err why) DeviceFault → Rose (nor.faults old.nor.now) (nor.faults mid.nor.now)) →
       Changes nor old.nor.now mid.nor.now (StageCut old.geometry) → (IsRefusal why → OnlyReads nor old.nor.now mid.nor.now) → (nor.tells old.nor.now → IsTidy old.geometry (nor.bytes old.nor.now) → OnlyReads nor old.nor.now mid.nor.now) →
@@ -354,7 +303,7 @@ module _ {N : Type 0} {nor : NorOf N} {old mid : View N nor} (shares : Bool) (fi
     fits = λ tells. tt;
     mixed = λ tells. stages_mixed old.geometry (nor.bytes old.nor.now) why among;
     refused = refused;
-    spared = λ tells refused. never_refused tells refused;
+    spared = λ tells refused. never_refused old.geometry (nor.bytes old.nor.now) shares fine (fitting tells) refused;
     done = λ tells. tt;
     mends = λ tells recovers parts. tt;
     idle = λ tells tidy reserve. idle tells tidy;
@@ -363,13 +312,13 @@ module _ {N : Type 0} {nor : NorOf N} {old mid : View N nor} (shares : Bool) (fi
   }
 
   module _ (report : Report) (same : IsSameView old mid) (checked : nor.tells old.nor.now → Checked old.geometry (nor.bytes old.nor.now) (nor.bytes mid.nor.now) report)
-      (changes : Changes nor old.nor.now mid.nor.now (StageCut old.geometry)) (idle : nor.tells old.nor.now → IsTidy old.geometry (nor.bytes old.nor.now) → OnlyReads nor old.nor.now mid.nor.now) {new : View N nor} where
+      (changes : Changes nor old.nor.now mid.nor.now (StageCut old.geometry)) (idle : nor.tells old.nor.now → IsTidy old.geometry (nor.bytes old.nor.now) → OnlyReads nor old.nor.now mid.nor.now) where
     judged : nor.tells old.nor.now → IsJudged mid.geometry shares report.free_blocks (nor.bytes mid.nor.now)
     judged tells = subst (λ (k : Geometry). IsJudged k shares report.free_blocks (nor.bytes mid.nor.now)) (sym same.geometry)
         (judged_on old.geometry (nor.bytes old.nor.now) (nor.bytes mid.nor.now) shares report (magics tells) (changes.now tells).keeps.keeps.sound.magics (fitting tells) (checked tells))
 
-    finishing_cuts : {r : Result ℕ CheckErr} → Stepped check_stopped mid new r (finishing shares report.free_blocks) → Changes nor old.nor.now new.nor.now (CheckCut old.geometry)
-    finishing_cuts step =
+    finishing_cuts : {new : View N nor} {r : Result ℕ CheckErr} → Stepped check_stopped mid new r (finishing shares report.free_blocks) → Changes nor old.nor.now new.nor.now (CheckCut old.geometry)
+    finishing_cuts {new} step =
         let cuts : Changes nor mid.nor.now new.nor.now (λ was image. IsJudged old.geometry shares report.free_blocks was → CheckCut old.geometry was image) =
         subst (λ (k : Geometry). Changes nor mid.nor.now new.nor.now (λ was image. IsJudged k shares report.free_blocks was → CheckCut k was image)) same.geometry step.cuts in
         go_on (wider changes (λ tells image cut. stage_cut old.geometry (nor.bytes old.nor.now) image (magics tells) cut)) cuts (λ tells image was cut.
@@ -377,7 +326,7 @@ module _ {N : Type 0} {nor : NorOf N} {old mid : View N nor} (shares : Bool) (fi
         later_cut old.geometry (nor.bytes old.nor.now) (nor.bytes mid.nor.now) image (magics tells) (changes.now tells) (cut at))
 
     -- a tidy image with two free blocks is only read
-    reads_on : (shares ≡ false → 2 ≤ report.free_blocks → OnlyReads nor mid.nor.now new.nor.now) → nor.tells old.nor.now → IsTidy old.geometry (nor.bytes old.nor.now) → HasReserve old.geometry (nor.bytes old.nor.now) → OnlyReads nor old.nor.now new.nor.now
+    reads_on : {d : N} → (shares ≡ false → 2 ≤ report.free_blocks → OnlyReads nor mid.nor.now d) → nor.tells old.nor.now → IsTidy old.geometry (nor.bytes old.nor.now) → HasReserve old.geometry (nor.bytes old.nor.now) → OnlyReads nor old.nor.now d
     reads_on quiet tells tidy reserve =
         let none = tidy-unshared old.geometry (nor.bytes old.nor.now) tidy in
         let free = (checked tells).free in
@@ -389,8 +338,8 @@ module _ {N : Type 0} {nor : NorOf N} {old mid : View N nor} (shares : Bool) (fi
         alone false none some = refl
 
     -- the parting or the cleaning failed
-    pub finishing_fails : {why : CheckErr} → (shares ≡ false → 2 ≤ report.free_blocks → OnlyReads nor mid.nor.now new.nor.now) → Stepped check_stopped mid new (Err why) (finishing shares report.free_blocks) → ChecksVolume nor old.geometry old.nor.now new.nor.now (Err why)
-    finishing_fails {why} quiet step = record {
+    pub finishing_fails : {new : View N nor} {why : CheckErr} → (shares ≡ false → 2 ≤ report.free_blocks → OnlyReads nor mid.nor.now new.nor.now) → Stepped check_stopped mid new (Err why) (finishing shares report.free_blocks) → ChecksVolume nor old.geometry old.nor.now new.nor.now (Err why)
+    finishing_fails {new} {why} quiet step = record {
       wrong = no_refusal (write_refusal old.geometry) _ fine;
       writable = λ none. stop_writable why step.means;
       few = tt;
@@ -399,7 +348,7 @@ module _ {N : Type 0} {nor : NorOf N} {old mid : View N nor} (shares : Bool) (fi
       fits = λ tells. tt;
       mixed = λ tells. stop_mixed old.geometry (nor.bytes old.nor.now) why step.means;
       refused = λ refusal. absurd (stop_goes_on why step.means refusal);
-      spared = λ tells refused. never_refused tells refused;
+      spared = λ tells refused. never_refused old.geometry (nor.bytes old.nor.now) shares fine (fitting tells) refused;
       done = λ tells. tt;
       mends = λ tells recovers parts. tt;
       idle = reads_on quiet;
@@ -408,9 +357,9 @@ module _ {N : Type 0} {nor : NorOf N} {old mid : View N nor} (shares : Bool) (fi
     }
 
     -- all was done
-    pub finishes_on : {free : ℕ} → (nor.tells mid.nor.now → IsImage old.geometry (nor.bytes mid.nor.now)) → usable old.geometry ≤ 32766 → (shares ≡ false → 2 ≤ report.free_blocks → OnlyReads nor mid.nor.now new.nor.now) →
+    pub finishes_on : {new : View N nor} {free : ℕ} → (nor.tells mid.nor.now → IsImage old.geometry (nor.bytes mid.nor.now)) → usable old.geometry ≤ 32766 → (shares ≡ false → 2 ≤ report.free_blocks → OnlyReads nor mid.nor.now new.nor.now) →
         Stepped check_stopped mid new (Ok free) (finishing shares report.free_blocks) → ChecksVolume nor old.geometry old.nor.now new.nor.now (Ok (record report { free_blocks = free }))
-    finishes_on {free} is small quiet step =
+    finishes_on {new} {free} is small quiet step =
         let ends : nor.tells old.nor.now → PartedCleared old.geometry (nor.bytes mid.nor.now) (nor.bytes new.nor.now) free =
         λ tells. subst (λ (k : Geometry). PartedCleared k (nor.bytes mid.nor.now) (nor.bytes new.nor.now) free) same.geometry (step.ends (changes.cuts.told tells) (judged tells)) in
         record {
@@ -422,7 +371,7 @@ module _ {N : Type 0} {nor : NorOf N} {old mid : View N nor} (shares : Bool) (fi
           fits = λ tells. (fitting tells).0;
           mixed = λ tells. tt;
           refused = tt;
-          spared = λ tells refused. never_refused tells refused;
+          spared = λ tells refused. never_refused old.geometry (nor.bytes old.nor.now) shares fine (fitting tells) refused;
           done = λ tells. done_after old.geometry (nor.bytes old.nor.now) (nor.bytes mid.nor.now) (nor.bytes new.nor.now) report free (checked tells) (ends tells);
           mends = λ tells. mends_after old.geometry (nor.bytes old.nor.now) (nor.bytes mid.nor.now) (nor.bytes new.nor.now) report free (checked tells) (ends tells) (is (changes.cuts.told tells));
           idle = reads_on quiet;

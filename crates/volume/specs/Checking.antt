@@ -145,25 +145,25 @@ pub record Cleared (g : Geometry) (was now : List ℕ) : Type 0 where
 -- ---- the steps: shared blocks are parted, blocks are cleaned, and the free ones are counted after each
 
 -- What the stages leave of an image that fits over: it is told whether blocks are shared, and how many are free.
-pub record IsJudged (g : Geometry) (shares : Bool) (free : ℕ) (image : List ℕ) : Type 0 where
+pub record IsJudged (g : Geometry) (shares : Bool) (count : ℕ) (image : List ℕ) : Type 0 where
   pub neat : IsNeat g image
   pub fitting : IsFitting g image shares
-  pub free : free ≡ free_blocks g image
+  pub free : count ≡ free_blocks g image
 
 -- The shared blocks are parted, nothing is done where there are none, and so many blocks are free.
-pub record PartedOr (g : Geometry) (was now : List ℕ) (free : ℕ) : Type 0 where
+pub record PartedOr (g : Geometry) (was now : List ℕ) (count : ℕ) : Type 0 where
   pub parting : Parted g was now
   pub alone : shared_blocks g was ≡ 0 → now ≡ was
-  pub free : free ≡ free_blocks g now
+  pub free : count ≡ free_blocks g now
 
 -- Then blocks are cleaned where fewer than two are free.
-pub record PartedCleared (g : Geometry) (was now : List ℕ) (free : ℕ) : Type 0 where
+pub record PartedCleared (g : Geometry) (was now : List ℕ) (count : ℕ) : Type 0 where
   pub parted : List ℕ
   pub parting : Parted g was parted
   pub alone : shared_blocks g was ≡ 0 → parted ≡ was
   pub cleared : Cleared g parted now
   pub quiet : HasReserve g parted → now ≡ parted
-  pub free : free ≡ free_blocks g now
+  pub free : count ≡ free_blocks g now
 
 abbrev pub dividing : (shares : Bool) (free : ℕ) → Step ℕ
 dividing shares free = record { needs = λ g was. IsJudged g shares free was; cut = CheckCut; done = PartedOr }

@@ -1,4 +1,4 @@
-use Rattle.std.proofs.Common.{refl, arith}
+use Rattle.std.proofs.Common.{arith}
 use Rattle.flash_view.proofs.Looking.{looks_then}
 use Rattle.flash_view.proofs.Stepped.{looked, look_faults, after_look, fault_passes, done_as, view_image}
 use Rattle.room_laws.proofs.Sorted.{neat_tells_free}
