@@ -1,0 +1,3 @@
+pub mod NextCounts
+pub mod Found
+pub mod Steps
