@@ -57,8 +57,8 @@ fn settle<B: Board>(volume: &mut Volume<'_, B>, ending: Ending) -> Ending
     }
 }
 
-// Mounts and checks a volume that a script is to be run on, or says how the run ends there.
-fn begin<B: Board>(volume: &mut Volume<'_, B>) -> Result<(), Ending>
+/// Mounts and checks a volume that is to be worked on, or says how the command ends there.
+pub(crate) fn begin<B: Board>(volume: &mut Volume<'_, B>) -> Result<(), Ending>
     requires { write_refusal volume.old.geometry ≡ None }
     ensures later { IfErr result IsLater }
     ensures no_script { ¬ (result ≡ Err Ending.SourceFault) }

@@ -7,6 +7,7 @@ pub mod Acts
 pub mod Unchanged
 pub mod Packed
 pub mod Settles
+pub mod Scrubs
 pub mod Settled
 pub mod Extends
 pub mod Unmounts
