@@ -2,7 +2,7 @@
 use Rattle.std.specs.Prelude.{ℕ, ◌≡◌, ◌≢◌, ◌+◌, ◌<◌, ◌≤◌, ◌⊎◌, List, ◌∷◌, [], ◌++◌, length, Bool, true, false, codes, decimal, Some, None, unwrap_or, Result, OnOk, MatchResult}
 use Rattle.geometry.specs.declared.geometry.Geometry.{Geometry}
 use Rattle.nor_core.specs.declared.state.NorState.{Ghosts as NorOf}
-use Rattle.nor_core.specs.Device.{Leaves, Changes}
+use Rattle.nor_core.specs.Device.{Leaves, Changes, InSay, Says}
 use Rattle.image_model.specs.Places.{next_count}
 use Rattle.image_model.specs.Tables.{table_of}
 use Rattle.image_model.specs.Tidy.{IsTidy, HasReserve, free_blocks}
@@ -105,13 +105,25 @@ pub record ScrubCut {D : Type 0} (nor : NorOf D) (g : Geometry) (old new : D) (t
   pub most : count ≤ length (nor.said old) + length text
   pub once_said : length (nor.said old) < count → image ≡ nor.bytes new
 
--- A scrub of a checked volume: it said its line, or the board failed.
-pub record ScrubEnds {D : Type 0} (nor : NorOf D) (g : Geometry) (limit : ℕ) (old new : D) (result : Ending) : Type 0 where
+-- The steps on a checked volume were made, and their line was said, or the board failed there.
+pub record SaysScrub {D : Type 0} (nor : NorOf D) (g : Geometry) (limit : ℕ) (old new : D) (result : Ending) : Type 0 where
   pub moved : ℕ
-  pub cuts : Leaves nor old new (λ image count. nor.tells old → IsTidy g (nor.bytes old) → HasReserve g (nor.bytes old) → ScrubCut nor g old new (scrub_text moved (free_blocks g (nor.bytes new))) image count)
-  pub now : nor.tells old → KeepsFiles g (nor.bytes old) (nor.bytes new)
-  pub speaks : nor.tells old → IsTidy g (nor.bytes old) → HasReserve g (nor.bytes old) → Speaks nor old new (scrub_text moved (free_blocks g (nor.bytes new))) Done result
-  pub done : nor.tells old → IsTidy g (nor.bytes old) → HasReserve g (nor.bytes old) → (result ≡ BoardFault) ⊎ Scrubbed g limit (nor.bytes old) (nor.bytes new) moved
+  pub free : ℕ
+  pub mid : D
+  pub changes : Changes nor old mid (KeepsFiles g)
+  pub made : nor.tells old → IsTidy g (nor.bytes old) → HasReserve g (nor.bytes old) → Scrubbed g limit (nor.bytes old) (nor.bytes mid) moved × (free ≡ free_blocks g (nor.bytes mid))
+  pub says : Says nor mid new (scrub_text moved free)
+  pub cuts : Leaves nor mid new (InSay nor mid (scrub_text moved free))
+  pub ends : (result ≡ BoardFault) ⊎ ((result ≡ Done) × (nor.tells mid → nor.said new ≡ nor.said mid ++ scrub_text moved free))
+
+-- the board failed in the steps, and nothing was said
+pub record StopsScrub {D : Type 0} (nor : NorOf D) (g : Geometry) (old new : D) (result : Ending) : Type 0 where
+  pub changes : Changes nor old new (KeepsFiles g)
+  pub fault : nor.tells old → IsTidy g (nor.bytes old) → HasReserve g (nor.bytes old) → result ≡ BoardFault
+
+-- either of these
+abbrev pub ScrubEnds : {D : Type 0} (nor : NorOf D) (g : Geometry) (limit : ℕ) (old new : D) (result : Ending) → Type 0
+ScrubEnds nor g limit old new result = StopsScrub nor g old new result ⊎ SaysScrub nor g limit old new result
 
 -- What a check leaves of an image that it takes: a tidy image with its files and two free blocks, by the stages, the parting and the cleaning of a
 -- check; the first image itself, where that is tidy with its reserve.
