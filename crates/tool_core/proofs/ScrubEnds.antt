@@ -1,5 +1,5 @@
 -- How a scrub ends before its closing line.
-use Rattle.std.proofs.Common.{◌≡◌, ℕ, ◌+◌, ◌<◌, ◌≤◌, ◌⊎◌, List, [], ◌++◌, length, take, drop, refl, sym, ◌∙◌, ap, subst, arith, inl, inr, ⊎_elim, append-nil, Option, Some, None, Ok, Err}
+use Rattle.std.proofs.Common.{◌≡◌, ℕ, ◌+◌, ◌<◌, ◌≤◌, ◌⊎◌, List, [], ◌++◌, length, take, drop, refl, sym, ◌∙◌, ap, subst, arith, inl, inr, ⊎_elim, append-nil, Option, Some, None, Result, Ok, Err}
 use Rattle.std.specs.Prelude.{unwrap_or}
 use Rattle.std.proofs.lemmas.List.{take-append-drop}
 use Rattle.geometry.specs.declared.geometry.Geometry.{Geometry}
@@ -36,11 +36,18 @@ check_leaves report reported enough idle = record {
   idle = λ tidy reserve. (idle tidy reserve).bytes;
 }
 
+-- how the steps went
+pub makes_ok : {D T : Type 0} {nor : NorOf D} {g : Geometry} {slots : ℕ} {old new : D} {now : Memory} {result : Result T Ending} {x : T} {Is : List ℕ → List ℕ → T → Type 0} → result ≡ Ok x → Makes nor g slots old new now result Is → Makes nor g slots old new now (Ok x) Is
+makes_ok {D} {T} {nor} {g} {slots} {old} {new} {now} {result} {x} {Is} is made = subst (λ (r : Result T Ending). Makes nor g slots old new now r Is) is made
+
+pub makes_err : {D T : Type 0} {nor : NorOf D} {g : Geometry} {slots : ℕ} {old new : D} {now : Memory} {result : Result T Ending} {ending : Ending} {Is : List ℕ → List ℕ → T → Type 0} → result ≡ Err ending → Makes nor g slots old new now result Is → Makes nor g slots old new now (Err ending) Is
+makes_err {D} {T} {nor} {g} {slots} {old} {new} {now} {result} {ending} {Is} is made = subst (λ (r : Result T Ending). Makes nor g slots old new now r Is) is made
+
 -- ---- on a checked volume
 
 module _ {D : Type 0} {nor : NorOf D} {g : Geometry} {slots limit : ℕ} where
   -- the board failed in the steps
-  pub ends_stopped : {old new : D} {now : Memory} (ending : Ending) → Makes nor g slots old new now (Err {T = Tally} ending) (IsTally g limit) → ScrubEnds nor g limit old new ending
+  pub ends_stopped : {old new : D} {now : Memory} (ending : Ending) → Makes {T = Tally} nor g slots old new now (Err ending) (IsTally g limit) → ScrubEnds nor g limit old new ending
   ends_stopped ending made = inl (record { changes = made.changes; fault = made.done })
 
   says_tally : {old mid new : D} {w : Memory} {piece : List ℕ} (tally : Tally) (result : Ending) → Makes nor g slots old mid w (Ok tally) (IsTally g limit) → piece ≡ scrub_text tally.moved tally.free → Says nor mid new piece → Leaves nor mid new (InSay nor mid piece) →
@@ -67,6 +74,14 @@ module _ {D : Type 0} {nor : NorOf D} {g : Geometry} {slots limit : ℕ} where
 
 -- ---- with the check before the steps
 
+module _ {D : Type 0} {nor : NorOf D} where
+  -- nothing was said
+  said_nothing : {old new : D} {R : List ℕ → List ℕ → Type 0} → Changes nor old new R → nor.said new ≡ nor.said old ++ []
+  said_nothing {old} changes = changes.said ∙ sym (append-nil (nor.said old))
+
+  none_said_of : {old new : D} {R : List ℕ → List ℕ → Type 0} (text : List ℕ) (ending result : Ending) → Changes nor old new R → result ≡ BoardFault → Speaks nor old new text ending result
+  none_said_of text ending result changes fault = inl (fault, record { part = []; rest = text; said = said_nothing changes; whole_is = refl })
+
 -- a cut leaves what may follow the first image, with its files
 abbrev pub LeavesFiles : Geometry → (was image : List ℕ) → Type 0
 LeavesFiles g was image = IsSafe g was image × (table_of g image ≡ table_of g was)
@@ -91,15 +106,8 @@ module _ {D : Type 0} {nor : NorOf D} {g : Geometry} where
     once_said = λ more. absurd (omega (arith, here.0, more));
   })
 
-  -- nothing was said
-  said_nothing : {old new : D} {R : List ℕ → List ℕ → Type 0} → Changes nor old new R → nor.said new ≡ nor.said old ++ []
-  said_nothing {old} changes = changes.said ∙ sym (append-nil (nor.said old))
-
-  none_said_of : {old new : D} {R : List ℕ → List ℕ → Type 0} (text : List ℕ) (ending result : Ending) → Changes nor old new R → result ≡ BoardFault → Speaks nor old new text ending result
-  none_said_of text ending result changes fault = inl (fault, record { part = []; rest = text; said = said_nothing changes; whole_is = refl })
-
   -- a volume whose images end the scrub
-  speaks_refused : {old new : D} {R : List ℕ → List ℕ → Type 0} (ending : Ending) → Changes nor old new R → begin_refusal g (nor.bytes old) (nor.bytes new) ≡ Some ending → Speaks nor old new (moved_text g (nor.bytes old) (nor.bytes new) 0) (scrub_ending g (nor.bytes old) (nor.bytes new)) ending
+  speaks_refused : {old new : D} (ending : Ending) → Changes nor old new (Checks g) → begin_refusal g (nor.bytes old) (nor.bytes new) ≡ Some ending → Speaks nor old new (moved_text g (nor.bytes old) (nor.bytes new) 0) (scrub_ending g (nor.bytes old) (nor.bytes new)) ending
   speaks_refused ending changes is = rw is (inr (refl, said_nothing changes))
 
   -- a volume that wasn't checked, or has too few free blocks

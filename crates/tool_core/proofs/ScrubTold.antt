@@ -23,6 +23,14 @@ done_of : (ending : Ending) → status_of ending ≡ 0 → ending ≡ Done
 done_of Done is = refl
 done_of _ is = absurd (omega (arith, is))
 
+module _ {D : Type 0} {nor : NorOf D} {g : Geometry} where
+  -- the image that a cut is told by
+  cut_as : {old mid new : D} (moved : ℕ) {image : List ℕ} {count : ℕ} → nor.bytes new ≡ nor.bytes mid → ScrubCut nor g old mid (moved_text g (nor.bytes old) (nor.bytes mid) moved ++ closing_line_of (scrub_ending g (nor.bytes old) (nor.bytes mid))) image count →
+      ScrubCut nor g old new (moved_text g (nor.bytes old) (nor.bytes new) moved ++ closing_line_of (scrub_ending g (nor.bytes old) (nor.bytes new))) image count
+  cut_as {old} {mid} {new} moved {image} {count} same c =
+      let longest : List ℕ → ℕ = λ (l : List ℕ). length (moved_text g (nor.bytes old) l moved ++ closing_line_of (scrub_ending g (nor.bytes old) l)) in
+      record { table = c.table; safe = c.safe; least = c.least; most = omega (arith, c.most, ap longest same); once_said = λ more. c.once_said more ∙ sym same }
+
 module _ {D : Type 0} {nor : NorOf D} {g : Geometry} {limit : ℕ} where
   -- a cut in a scrub or in its closing line
   scrub_cuts : {old mid new : D} (result : Ending) (status : ℕ) → (s : ScrubsTo nor g limit old mid result) → OnlyCloses nor mid new result status →
@@ -45,13 +53,6 @@ module _ {D : Type 0} {nor : NorOf D} {g : Geometry} {limit : ℕ} where
         most = bounds.1;
         once_said = λ more. is;
       }))
-
-  -- the image that a cut is told by
-  cut_as : {old mid new : D} (moved : ℕ) {image : List ℕ} {count : ℕ} → nor.bytes new ≡ nor.bytes mid → ScrubCut nor g old mid (moved_text g (nor.bytes old) (nor.bytes mid) moved ++ closing_line_of (scrub_ending g (nor.bytes old) (nor.bytes mid))) image count →
-      ScrubCut nor g old new (moved_text g (nor.bytes old) (nor.bytes new) moved ++ closing_line_of (scrub_ending g (nor.bytes old) (nor.bytes new))) image count
-  cut_as {old} {mid} {new} moved {image} {count} same c =
-      let longest : List ℕ → ℕ = λ (l : List ℕ). length (moved_text g (nor.bytes old) l moved ++ closing_line_of (scrub_ending g (nor.bytes old) l)) in
-      record { table = c.table; safe = c.safe; least = c.least; most = omega (arith, c.most, ap longest same); once_said = λ more. c.once_said more ∙ sym same }
 
   -- a scrub with status 0 came to its end
   status_done : {old mid new : D} (result : Ending) (status : ℕ) → (s : ScrubsTo nor g limit old mid result) → OnlyCloses nor mid new result status → nor.tells old → status ≡ 0 → ScrubbedAfter g limit s.moved (nor.bytes old) (nor.bytes mid)

@@ -1,5 +1,5 @@
 -- Scrub steps on a volume, one after the other.
-use Rattle.std.proofs.Common.{◌≡◌, ℕ, ◌+◌, ◌≤◌, ◌⊎◌, List, Bool, true, false, refl, sym, ◌∙◌, ap, subst, arith, ⊎_elim, None, Result, Ok, Err}
+use Rattle.std.proofs.Common.{◌≡◌, ℕ, ◌+◌, ◌≤◌, ◌⊎◌, List, [], Bool, true, false, refl, sym, ◌∙◌, ap, subst, arith, ⊎_elim, None, Result, Ok, Err}
 use Rattle.geometry.specs.declared.geometry.Geometry.{Geometry}
 use Rattle.nor_core.specs.declared.state.NorState.{Ghosts as NorOf}
 use Rattle.nor_core.specs.Device.{OnlyReads, Changes}
@@ -48,8 +48,8 @@ pub stands_first : {D : Type 0} {nor : NorOf D} (g : Geometry) (slots : ℕ) (d 
 stands_first {D} {nor} g slots d w closed tells tidy = record { tells = tells; image = first_at g slots (nor.bytes d) (nor.bytes d) w closed tidy refl }
 
 module _ {N : Type 0} {nor : NorOf N} where
-  closed_still : {old new : Volume N nor} (slots : ℕ) → memory old ≡ closed_memory slots → new.slots.now ≡ old.slots.now → (memory new).run ≡ None → memory new ≡ closed_memory slots
-  closed_still {old} {new} slots closed same none =
+  closed_still : (old new : Volume N nor) (slots : ℕ) → memory old ≡ closed_memory slots → new.slots.now ≡ old.slots.now → (memory new).run ≡ None → memory new ≡ closed_memory slots
+  closed_still old new slots closed same none =
       let s : descriptors new.slots.now ≡ (closed_memory slots).slots = ap descriptors same ∙ ap (λ (w : Memory). w.slots) closed in
       λ i. record { slots = s i; run = none i }
 
@@ -84,13 +84,13 @@ module _ {N : Type 0} {nor : NorOf N} where
   turn_ok {limit} {old} {new} slots scrub moved is done takes scrubs closed =
       let s : Scrubs limit old new (Ok scrub) = subst (λ (r : Result Scrub FsErr). Scrubs limit old new r) done scrubs in
       record {
-        memory = closed_still slots closed s.slots (s.ends takes).1;
+        memory = closed_still old new slots closed s.slots (s.ends takes).1;
         changes = turn_changes slots closed s;
         done = λ tells tidy reserve. step_done slots scrub moved is closed takes s tells tidy;
       }
 
   -- one that failed
-  pub turn_err : {limit : ℕ} {old new : Volume N nor} {result : Result Scrub FsErr} (slots : ℕ) (why : FsErr) → result ≡ Err why → takes_calls old ≡ true → Scrubs limit old new result → memory old ≡ closed_memory slots → Makes nor old.geometry slots old.nor.now new.nor.now (memory new) (Err {T = Bool} (unsettled_as why)) (IsStepDone old.geometry limit)
+  pub turn_err : {limit : ℕ} {old new : Volume N nor} {result : Result Scrub FsErr} (slots : ℕ) (why : FsErr) → result ≡ Err why → takes_calls old ≡ true → Scrubs limit old new result → memory old ≡ closed_memory slots → Makes {T = Bool} nor old.geometry slots old.nor.now new.nor.now (memory new) (Err (unsettled_as why)) (IsStepDone old.geometry limit)
   turn_err {limit} {old} {new} slots why failed takes scrubs closed =
       let s : Scrubs limit old new (Err why) = subst (λ (r : Result Scrub FsErr). Scrubs limit old new r) failed scrubs in
       record {
@@ -141,10 +141,10 @@ module _ {D : Type 0} {nor : NorOf D} {g : Geometry} {slots limit : ℕ} where
       }
 
   -- one that failed too
-  pub makes_fails : {old mid new : D} {w now : Memory} (n : ℕ) (ending : Ending) (h : Geometry) → h ≡ g → Makes nor g slots old mid w (Ok n) (λ was image n. StepsMade g limit n was image) → (w ≡ closed_memory slots → Makes nor h slots mid new now (Err {T = Bool} ending) (IsStepDone h limit)) →
-      Makes nor g slots old new now (Err {T = ℕ} ending) (Scrubbed g limit)
+  pub makes_fails : {old mid new : D} {w now : Memory} (n : ℕ) (ending : Ending) (h : Geometry) → h ≡ g → Makes nor g slots old mid w (Ok n) (λ was image n. StepsMade g limit n was image) → (w ≡ closed_memory slots → Makes {T = Bool} nor h slots mid new now (Err ending) (IsStepDone h limit)) →
+      Makes {T = ℕ} nor g slots old new now (Err ending) (Scrubbed g limit)
   makes_fails {old} {mid} {new} {w} {now} n ending h same first turn =
-      let next : Makes nor g slots mid new now (Err {T = Bool} ending) (IsStepDone g limit) = subst (λ (k : Geometry). Makes nor k slots mid new now (Err {T = Bool} ending) (IsStepDone k limit)) same (turn first.memory) in
+      let next : Makes {T = Bool} nor g slots mid new now (Err ending) (IsStepDone g limit) = subst (λ (k : Geometry). Makes {T = Bool} nor k slots mid new now (Err ending) (IsStepDone k limit)) same (turn first.memory) in
       record {
         memory = tt;
         changes = makes_changes first next.changes;
@@ -164,11 +164,11 @@ module _ {D : Type 0} {nor : NorOf D} {g : Geometry} {slots limit : ℕ} where
   -- ---- the free blocks are counted
 
   -- a failed step
-  pub makes_uncounted : {old new : D} {now : Memory} (ending : Ending) → Makes nor g slots old new now (Err {T = ℕ} ending) (Scrubbed g limit) → Makes nor g slots old new now (Err {T = Tally} ending) (IsTally g limit)
+  pub makes_uncounted : {old new : D} {now : Memory} (ending : Ending) → Makes {T = ℕ} nor g slots old new now (Err ending) (Scrubbed g limit) → Makes {T = Tally} nor g slots old new now (Err ending) (IsTally g limit)
   makes_uncounted ending made = record { memory = tt; changes = made.changes; done = made.done }
 
   -- a count that failed
-  pub makes_no_count : {old mid new : D} {w now : Memory} {n : ℕ} (ending : Ending) → Makes nor g slots old mid w (Ok n) (Scrubbed g limit) → OnlyReads nor mid new → ending ≡ BoardFault → Makes nor g slots old new now (Err {T = Tally} ending) (IsTally g limit)
+  pub makes_no_count : {old mid new : D} {w now : Memory} {n : ℕ} (ending : Ending) → Makes nor g slots old mid w (Ok n) (Scrubbed g limit) → OnlyReads nor mid new → ending ≡ BoardFault → Makes {T = Tally} nor g slots old new now (Err ending) (IsTally g limit)
   makes_no_count ending made reads fault = record { memory = tt; changes = read_after made.changes reads; done = λ tells tidy reserve. fault }
 
   -- a count
@@ -184,13 +184,13 @@ module _ {D : Type 0} {nor : NorOf D} {g : Geometry} {slots limit : ℕ} where
 
 module _ {N : Type 0} {nor : NorOf N} where
   -- a volume that was only read remembers what it did
-  pub still_closed : {mid new : Volume N nor} {slots : ℕ} → Unchanged mid new → memory mid ≡ closed_memory slots → memory new ≡ closed_memory slots
-  still_closed {mid} {new} {slots} same closed = closed_still slots closed same.slots (same.run ∙ ap (λ (w : Memory). w.run) closed)
+  pub still_closed : (mid new : Volume N nor) (slots : ℕ) → Unchanged mid new → memory mid ≡ closed_memory slots → memory new ≡ closed_memory slots
+  still_closed mid new slots same closed = closed_still mid new slots closed same.slots (same.run ∙ ap (λ (w : Memory). w.run) closed)
 
   -- how many blocks are free in it
-  pub free_told : {v : Volume N nor} {slots : ℕ} (space : Space) (g : Geometry) → v.geometry ≡ g → takes_calls v ≡ true → ((m : Moment) → takes_calls v ≡ true → Holds v m → IsSpace v.geometry (nor.bytes v.nor.now) space) → memory v ≡ closed_memory slots → nor.tells v.nor.now → IsTidy g (nor.bytes v.nor.now) →
+  pub free_told : (v : Volume N nor) (slots : ℕ) (space : Space) (g : Geometry) → v.geometry ≡ g → takes_calls v ≡ true → ((m : Moment) → takes_calls v ≡ true → Holds v m → IsSpace v.geometry (nor.bytes v.nor.now) space) → memory v ≡ closed_memory slots → nor.tells v.nor.now → IsTidy g (nor.bytes v.nor.now) →
       space.free_blocks ≡ free_blocks g (nor.bytes v.nor.now)
-  free_told {v} {slots} space g same takes told closed tells tidy =
+  free_told v slots space g same takes told closed tells tidy =
       let here : IsTidy v.geometry (nor.bytes v.nor.now) = subst (λ (k : Geometry). IsTidy k (nor.bytes v.nor.now)) (sym same) tidy in
       let space_is = told _ takes (stands_first v.geometry slots v.nor.now (memory v) closed tells here) in
       space_is.blocks ∙ ap (λ (k : Geometry). free_blocks k (nor.bytes v.nor.now)) same

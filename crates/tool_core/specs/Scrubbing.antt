@@ -1,5 +1,5 @@
 -- What a scrub leaves and says.
-use Rattle.std.specs.Prelude.{ℕ, ◌≡◌, ◌≢◌, ◌+◌, ◌<◌, ◌≤◌, ◌⊎◌, List, ◌∷◌, [], ◌++◌, length, Bool, true, false, codes, decimal, Some, None, unwrap_or, Result, OnOk, MatchResult}
+use Rattle.std.specs.Prelude.{ℕ, zero, suc, ◌≡◌, ◌≢◌, ◌+◌, ◌<◌, ◌≤◌, ◌⊎◌, List, ◌∷◌, [], ◌++◌, length, Bool, true, false, codes, decimal, Some, None, unwrap_or, Result, OnOk, MatchResult}
 use Rattle.geometry.specs.declared.geometry.Geometry.{Geometry}
 use Rattle.nor_core.specs.declared.state.NorState.{Ghosts as NorOf}
 use Rattle.nor_core.specs.Device.{Leaves, Changes, InSay, Says}
@@ -51,7 +51,7 @@ pub record IsStep (g : Geometry) (limit : ℕ) (was now : List ℕ) (moved : Boo
 
 -- Each of so many steps moved a block, the last one behind the others.
 unfoldable pub EachMoved : Geometry → (limit : ℕ) → (moved : ℕ) → (was now : List ℕ) → Type 0
-EachMoved g limit 0 was now = now ≡ was
+EachMoved g limit zero was now = now ≡ was
 EachMoved g limit (suc moved) was now = (mid : List ℕ) × EachMoved g limit moved was mid × IsStep g limit mid now true
 
 -- So many steps moved blocks: the image is tidy with its table and follows the first one. Where erase counts don't wrap, each step raised the

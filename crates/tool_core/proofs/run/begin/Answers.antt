@@ -1,5 +1,6 @@
 use Rattle.std.proofs.Common.{arith}
 use Rattle.tool_core.proofs.Beginning.{unchecked_stops, tight_stops}
+use Rattle.tool_core.proofs.ScrubEnds.{check_leaves}
 use Rattle.tool_core.proofs.run.begin.Goals as goal
 
 pub returns-in-Err-clause-stops : goal.returns-in-Err-clause-stops
@@ -7,3 +8,6 @@ returns-in-Err-clause-stops g c = λ tells. unchecked_stops _ _ c.in-Err.ending 
 
 pub returns-then-report-lt2-clause-stops : goal.returns-then-report-lt2-clause-stops
 returns-then-report-lt2-clause-stops g c = λ tells. tight_stops _ _ c.in-Ok.report (c.in-Ok.ensures.reported tells) (omega arith)
+
+pub returns-in-Ok-clause-leaves : goal.returns-in-Ok-clause-leaves
+returns-in-Ok-clause-leaves g c = λ tells. check_leaves c.in-Ok.report (c.in-Ok.ensures.reported tells) (omega arith) (c.mount_and_check.ensures.idle tells)
