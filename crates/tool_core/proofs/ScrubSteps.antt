@@ -31,7 +31,7 @@ module _ (g : Geometry) (limit : ℕ) where
 
   each_more : (n : ℕ) (was mid now : List ℕ) → EachMoved g limit n was mid → IsStep g limit mid now true → EachMoved g limit (n + 1) was now
   unfolding EachMoved
-  each_more n was mid now each step = subst (λ (k : ℕ). EachMoved g limit k was now) (omega arith) (mid, each, step)
+  each_more n was mid now each step = let same : suc n ≡ n + 1 = omega arith in subst (λ (k : ℕ). EachMoved g limit k was now) same (mid, each, step)
 
   -- a step more
   pub made_more : (n : ℕ) (was mid now : List ℕ) → StepsMade g limit n was mid → IsStepDone g limit mid now true → StepsMade g limit (n + 1) was now

@@ -78,10 +78,11 @@ fn scrub_all<B: Board>(volume: &mut Volume<'_, B>, limit: u16) -> Result<u32, En
     let blocks = volume.geometry.blocks();
     let mut moved = 0;
     'steps: while moved < blocks {
-        if !scrub_turn(volume, limit)? {
-            return Ok(moved);
+        match scrub_turn(volume, limit) {
+            Ok(true) => moved += 1,
+            Ok(false) => return Ok(moved),
+            Err(ending) => return Err(ending),
         }
-        moved += 1;
     }
     Ok(moved)
 }
@@ -97,7 +98,10 @@ fn scrub_and_count<B: Board>(volume: &mut Volume<'_, B>, limit: u16) -> Result<T
     ensures same { IsSameVolume volume.old volume.new }
     ensures makes { (slots : ℕ) → memory volume.old ≡ closed_memory slots → Makes B.NorState volume.old.geometry slots volume.old.nor.now volume.new.nor.now (memory volume.new) result (IsTally volume.old.geometry limit) }
 {
-    let moved = scrub_all(volume, limit)?;
+    let moved = match scrub_all(volume, limit) {
+        Ok(moved) => moved,
+        Err(ending) => return Err(ending),
+    };
     match volume.space() {
         Ok(space) => Ok(Tally {
             moved,
