@@ -13,3 +13,21 @@ steps-init g c = record {
   few = omega arith;
   makes = λ slots closed. makes_none c.args.volume.now.nor.now (memory c.args.volume.now) closed;
 }
+
+pub steps-preserved : goal.steps-preserved
+steps-preserved g c = record {
+  same = same_then c.steps.invariant.same c.scrub_turn.ensures.same;
+  stands = c.in-Ok-true.ensures.taken;
+  blocks = c.steps.invariant.blocks;
+  few = omega (arith, c.steps.invariant.few);
+  makes = λ slots closed. makes_more c.steps.moved c.steps.volume.geometry c.steps.invariant.same.geometry (c.steps.invariant.makes slots closed) (λ still. makes_ok c.in-Ok-true.is (c.scrub_turn.ensures.makes slots still));
+}
+
+pub returns-in-Ok-false-clause-makes : goal.returns-in-Ok-false-clause-makes
+returns-in-Ok-false-clause-makes g c = λ slots closed. makes_rest c.steps.moved c.steps.volume.geometry c.steps.invariant.same.geometry (omega (arith, c.steps.invariant.few, c.steps.invariant.blocks)) (c.steps.invariant.makes slots closed) (λ still. makes_ok c.in-Ok-false.is (c.scrub_turn.ensures.makes slots still))
+
+pub returns-in-Err-clause-makes : goal.returns-in-Err-clause-makes
+returns-in-Err-clause-makes g c = λ slots closed. makes_fails c.steps.moved c.in-Err.ending c.steps.volume.geometry c.steps.invariant.same.geometry (c.steps.invariant.makes slots closed) (λ still. makes_err c.in-Err.is (c.scrub_turn.ensures.makes slots still))
+
+pub returns-clause-makes : goal.returns-clause-makes
+returns-clause-makes g c = λ slots closed. makes_all c.steps.moved (omega (arith, c.steps.invariant.few, c.steps.invariant.blocks, c.steps-test.false)) (c.steps.invariant.makes slots closed)
