@@ -1,8 +1,8 @@
 -- The ages of all blocks, one block after the other, and what a scrub step does by them.
-use Rattle.std.proofs.Common.{◌≡◌, ℕ, zero, suc, ◌+◌, ◌-◌, ◌%◌, ◌<◌, ◌≤◌, ⊎_elim, List, Bool, true, false, not, nat_lt, nat_le, ◌==◌, ◌&&◌, length, max, map, refl, sym, ◌∙◌, ap, arith, if◌then◌else◌}
-use Rattle.std.specs.Prelude.{Option, Some, None, filter, find, option_and_then}
+use Rattle.std.proofs.Common.{◌≡◌, ℕ, zero, suc, ◌+◌, ◌-◌, ◌<◌, ◌≤◌, ⊎_elim, List, Bool, true, false, not, nat_lt, nat_le, ◌==◌, ◌&&◌, length, max, map, refl, ◌∙◌, ap, arith, if◌then◌else◌}
+use Rattle.std.specs.Prelude.{Option, Some, None, filter}
 use Rattle.std.specs.Option.{option_map}
-use Rattle.std.specs.List.{range_with_len, fold, list_all}
+use Rattle.std.specs.List.{range_with_len, fold}
 use Rattle.std.proofs.Math.Nat.{sub-zero}
 use Rattle.std.proofs.lemmas.Bool.{cases_lt, lt-ltb, le-ltb, leb-true, leb-false, lt-leb, le-leb}
 use Rattle.geometry.specs.declared.geometry.Geometry.{Geometry}
@@ -19,7 +19,6 @@ use Rattle.room_laws.proofs.Stops.{reserve_fits_each}
 use Rattle.block_gc.proofs.Rooms.{block_is, count_more, count_end}
 use Rattle.wear_scrub.specs.declared.ages.Aged.{Aged}
 use Rattle.wear_scrub.specs.declared.ages.Ages.{Ages}
-use Rattle.wear_scrub.specs.declared.scrubs.Scrub.{Scrub}
 use Rattle.wear_scrub.specs.declared.scrubs.Scrub.TheVariants.{NoRoom, Rested, Moved}
 use Rattle.wear_scrub.specs.Ages.{age_by, older_of, with_one, ages_by, IsOldest, IsFirst, AreAges, IsBelow, oldest_or_rest, pick_of}
 use Rattle.wear_scrub.specs.Scrubs.{IsInside, IsPick}
@@ -133,10 +132,10 @@ aging_more g image p e found c n next h low tidy counts whole is was = rw (free,
     age = rw (counts.erases, is) refl
 
     by : (b : Bool) → is_free_block g image p ≡ b → Aging g image (p + 1) e (with_one b found (age_of g image p) p)
-    by true yes = record {
-      free = count_more (λ b. is_free_block g image b) p e found.free 1 _ h was.free (rw yes refl);
-      young_is = greatest_more (λ b. is_free_block g image b) (λ b. age_of g image b) found.young p e _ was.young_is (age_of g image p) (max (age_of g image p) found.young) h (rw yes refl) refl;
-      oldest = first_free g image p found.oldest yes was.oldest;
+    by true free_too = record {
+      free = count_more (λ b. is_free_block g image b) p e found.free 1 _ h was.free (rw free_too refl);
+      young_is = greatest_more (λ b. is_free_block g image b) (λ b. age_of g image b) found.young p e _ was.young_is (age_of g image p) (max (age_of g image p) found.young) h (rw free_too refl) refl;
+      oldest = first_free g image p found.oldest free_too was.oldest;
     }
     by false used = record {
       free = (let more = count_more (λ b. is_free_block g image b) p e found.free 0 _ h was.free (rw used refl) in omega (arith, more));
@@ -156,11 +155,11 @@ aging_end g image p e found at h was = record {
 -- where two blocks are free each block in use may be moved
 all_move : (g : Geometry) (image : List ℕ) → IsTidy g image → HasReserve g image → movable g image ≡ filter (λ b. not (is_free_block g image b)) (range_with_len 0 g.blocks)
 unfolding movable
-all_move g image tidy two = same 0 g.blocks (λ q low. low)
+all_move g image tidy two = same 0 g.blocks (λ q low. omega (arith, low))
   where
     passes : (used fits : Bool) → fits ≡ true → (used && fits) ≡ used
-    passes true fits yes = yes
-    passes false fits yes = refl
+    passes true fits h = h
+    passes false fits h = refl
 
     same : (a n : ℕ) → ((q : ℕ) → q < a + n → q < g.blocks) → filter (λ b. not (is_free_block g image b) && is_fitting g image b) (range_with_len a n) ≡ filter (λ b. not (is_free_block g image b)) (range_with_len a n)
     same a zero below = refl

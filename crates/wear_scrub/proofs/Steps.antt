@@ -7,7 +7,7 @@ use Rattle.std.proofs.lemmas.Option.{same_Some}
 use Rattle.geometry.specs.declared.geometry.Geometry.{Geometry}
 use Rattle.geometry.specs.Numbers.{entries}
 use Rattle.image_model.specs.Places.{IsImage}
-use Rattle.image_model.specs.Tidy.{IsTidy, is_free_block, free_blocks}
+use Rattle.image_model.specs.Tidy.{IsTidy, is_free_block}
 use Rattle.image_model.specs.Collect.{is_fitting, age_of}
 use Rattle.image_model.specs.Wear.{young, movable, oldest_of, scrub_victim}
 use Rattle.flash_view.specs.Steps.{Begins}
@@ -19,9 +19,8 @@ use Rattle.room_laws.proofs.Tallies.{tidy_counts_tell}
 use Rattle.room_laws.proofs.ThreesFree.{three_leave_two}
 use Rattle.block_gc.specs.Cleanings.{CanCleanBlock, CleanedBlock, cleaning_block}
 use Rattle.block_gc.proofs.Replacing.{tidy_keeps}
-use Rattle.wear_scrub.specs.declared.scrubs.Scrub.{Scrub}
-use Rattle.wear_scrub.specs.declared.scrubs.Scrub.TheVariants.{NoRoom, Rested, Moved}
-use Rattle.wear_scrub.specs.Scrubs.{IsPick, Moves, ScrubCut, ScrubDone, scrubbing}
+use Rattle.wear_scrub.specs.declared.scrubs.Scrub.TheVariants.{Moved}
+use Rattle.wear_scrub.specs.Scrubs.{IsPick, Moves, ScrubCut, scrubbing}
 use Rattle.wear_scrub.proofs.NextCounts.{next_rises}
 
 -- ---- the victim
@@ -70,7 +69,7 @@ rests g image tidy = record { keeps = tidy_keeps g image tidy; mends = λ two. r
 -- the victim is cleaned
 pub moves : (g : Geometry) (image : List ℕ) (limit block age : ℕ) → IsImage g image → IsTidy g image → block < g.blocks → IsPick g image limit (Moved block age) → Begins g image (cleaning_block block) (scrubbing limit)
 moves g image limit block age is tidy low pick =
-    let can = can_clean g image limit block tidy pick.1.0 in
+    let can = can_clean g image limit block tidy pick.1 in
     let three = pick.0 in
     let may : MayCut g image block = record { can = reserve_can_clean g image is tidy (omega (arith, three)); within = low; used = can.used; reserve = λ h. omega (arith, three); gains = inr three } in
     record { needs = can; cut = λ c cut. record { keeps = cut.keeps; mends = λ two. cut.mends may } }

@@ -1,4 +1,4 @@
-use Rattle.std.proofs.Common.{refl, arith, rules, ◌∙◌}
+use Rattle.std.proofs.Common.{arith, rules, ◌∙◌}
 use Rattle.geometry.specs.Numbers.{per_block, lookups, entries}
 use Rattle.flash_view.proofs.Looking.{looks_then}
 use Rattle.flash_view.specs.Counts.{AreCounts}

@@ -33,7 +33,7 @@ returns-in_err-clean-in-Ok-Moved g c =
     let block = c.in-Ok-Moved.block in
     let age = c.in-Ok-Moved.age in
     let view = c.args.v.now in
-    let low : IsInside view.geometry.blocks (Moved block age) = rw c.in-Ok-Moved.field-0-is at seen.below in
+    let low : IsInside _ (Moved block age) = rw c.in-Ok-Moved.field-0-is at seen.below in
     let is : c.from_residual.result ≡ Err c.in_err-clean-in-Ok-Moved.field-0.0 = search rules in
     record {
       step =
@@ -49,7 +49,7 @@ returns-in_ok-clean-in-Ok-Moved g c =
     let block = c.in-Ok-Moved.block in
     let age = c.in-Ok-Moved.age in
     let view = c.args.v.now in
-    let low : IsInside view.geometry.blocks (Moved block age) = rw c.in-Ok-Moved.field-0-is at seen.below in
+    let low : IsInside _ (Moved block age) = rw c.in-Ok-Moved.field-0-is at seen.below in
     let pick : g.N.NorState.tells view.nor.now → IsTidy view.geometry (g.N.NorState.bytes view.nor.now) → IsPick view.geometry (g.N.NorState.bytes view.nor.now) c.args.limit (Moved block age) =
     λ tells tidy. rw c.in-Ok-Moved.field-0-is at (seen.told tells tidy) in
     record {
