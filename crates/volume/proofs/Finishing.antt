@@ -1,6 +1,6 @@
 -- The whole check, by what is told before its stages, what they leave, and the parting and the cleaning after them.
 use Rattle.std.proofs.Common.{◌≡◌, ℕ, ◌+◌, ◌<◌, ◌≤◌, inl, List, Bool, true, false, refl, sym, ◌∙◌, ap, subst, arith, ⊎_elim}
-use Rattle.std.specs.Prelude.{◌⊎◌, not, Option, Some, None, Result, Ok, Err, IfErr, IfSome, IsErrOf, OnOk, IfOk}
+use Rattle.std.specs.Prelude.{◌⊎◌, Option, Some, None, Result, Ok, Err, IfErr, IfSome, IsErrOf, OnOk, IfOk}
 use Rattle.std.proofs.lemmas.Bool.{cases_Bool}
 use Rattle.geometry.specs.declared.geometry.Geometry.{Geometry}
 use Rattle.geometry.specs.declared.error.GeoErr.{GeoErr}
@@ -106,8 +106,8 @@ judged_tidy : (g : Geometry) (image : List ℕ) (free : ℕ) → IsJudged g fals
 judged_tidy g image free judged = neat-unshared g image judged.neat judged.fitting.1
 
 -- and nothing is parted
-pub divides_none : (g : Geometry) (image : List ℕ) (shares : Bool) (free : ℕ) → not shares ≡ true → IsJudged g shares free image → CheckCut g image image × PartedOr g image image free
-divides_none g image true free no judged = absurd (let bad : false ≡ true = no in cc)
+pub divides_none : (g : Geometry) (image : List ℕ) (shares : Bool) (free : ℕ) → shares ≡ false → IsJudged g shares free image → CheckCut g image image × PartedOr g image image free
+divides_none g image true free no judged = absurd (cc)
 divides_none g image false free no judged =
     let tidy = judged_tidy g image free judged in (
       cut_none g image (tidy_sound g image image tidy).magics,
@@ -127,8 +127,8 @@ pub divided_cut : (g : Geometry) (was mid image : List ℕ) → Parted g was mid
 divided_cut g was mid image p same = subst (λ (c : List ℕ). CheckCut g was c) (sym same) (parted_cut g was mid p)
 
 -- which ends it
-pub divided_counted : (g : Geometry) (was mid now : List ℕ) (shares : Bool) (free before : ℕ) → not shares ≡ false → IsJudged g shares before was → Parted g was mid → (now ≡ mid) × (free ≡ free_blocks g mid) → PartedOr g was now free
-divided_counted g was mid now false free before no judged p w = absurd (let bad : true ≡ false = no in cc)
+pub divided_counted : (g : Geometry) (was mid now : List ℕ) (shares : Bool) (free before : ℕ) → shares ≡ true → IsJudged g shares before was → Parted g was mid → (now ≡ mid) × (free ≡ free_blocks g mid) → PartedOr g was now free
+divided_counted g was mid now false free before no judged p w = absurd (cc)
 divided_counted g was mid now true free before no judged p w =
     subst (λ (c : List ℕ). PartedOr g was c free) (sym w.0) (record { parting = p; alone = λ none. let some = judged.fitting.1 in absurd (omega (arith, some, none)); free = w.1 })
 
