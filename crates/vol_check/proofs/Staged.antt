@@ -1,8 +1,7 @@
 -- The entries of pages that aren't live, killed one after the other.
-use Rattle.std.proofs.Common.{◌≡◌, ℕ, ◌+◌, ◌*◌, ◌<◌, ◌≤◌, List, [], ◌∷◌, slice_index, Bool, true, false, cond, Result, OnErr, OnOk, ap, refl, sym, ◌∙◌, arith, add-zero, ⊎_elim, inl}
+use Rattle.std.proofs.Common.{◌≡◌, ℕ, ◌+◌, ◌*◌, ◌<◌, ◌≤◌, List, [], ◌∷◌, slice_index, Bool, true, false, cond, Result, OnErr, OnOk, ap, sym, ◌∙◌, arith, add-zero, ⊎_elim, inl}
 use Rattle.std.specs.Int.{bit_at}
 use Rattle.std.proofs.lemmas.Bool.{and_parts, not-true}
-use Rattle.std.proofs.lemmas.Nat.Bits.{bit_at_and}
 use Rattle.geometry.specs.declared.geometry.Geometry.{Geometry}
 use Rattle.geometry.specs.Numbers.{page_count}
 use Rattle.image_model.specs.Places.{IsImage, page_of, is_entry_page, entry_at}
@@ -12,7 +11,7 @@ use Rattle.image_model.specs.Sound.{HasMagics}
 use Rattle.image_model.specs.Within.{sizes}
 use Rattle.image_laws.proofs.BetweenTorn.{torn_byte}
 use Rattle.image_laws.proofs.Bits.{bit_cases, one_bit_image}
-use Rattle.image_laws.proofs.DeadEntries.{Stage, stage_start, stage_next, stage_clean, stage_count, turned, unturned, unused_page, unused_dead}
+use Rattle.image_laws.proofs.DeadEntries.{Stage, stage_start, stage_next, stage_clean, stage_count, turned, unturned, unused_page, unused_dead, deletes_by}
 use Rattle.image_laws.proofs.Finished.{finished-programmed}
 use Rattle.image_laws.proofs.Frames.{page-same_entry}
 use Rattle.image_laws.proofs.FreeBlocks.{free_blocks-fall, used-is_not_free}
@@ -53,6 +52,10 @@ module _ (g : Geometry) (a : List ℕ) (p : ℕ) (is : IsImage g a) (h : HasMagi
   page : is_entry_page g p ≡ true
   page = unused_page g a p dead
 
+  -- a kill clears DELET
+  gone : bit_at (flags_left g a p) 7 ≡ 0
+  gone = (deletes_by (slice_index a (p * g.page + 4)) byte).cleared
+
   -- with DELET clear the page isn't erased
   marked : (c : List ℕ) → IsImage g c → bit_at (slice_index c (p * g.page + 4)) 7 ≡ 0 → is_free_entry g c p ≡ false
   marked c sized clear =
@@ -64,7 +67,6 @@ module _ (g : Geometry) (a : List ℕ) (p : ℕ) (is : IsImage g a) (h : HasMagi
   flags_used c half =
       let at = p * g.page + 4 in
       let sized : IsImage g c = record { len = omega (arith, half.outside.size, is.len) } in
-      let gone : bit_at (flags_left g a p) 7 ≡ 0 = let e = bit_at_and (slice_index a at) 0x7F 7 in let z : bit_at 0x7F 7 ≡ 0 = refl in omega (arith, e, z) in
       ⊎_elim
       (λ (set : bit_at (slice_index a at) 7 ≡ 1). ⊎_elim
       (λ (same : c ≡ a). rw same (used_not_free g a p dead))
@@ -86,7 +88,6 @@ module _ (g : Geometry) (a : List ℕ) (p : ℕ) (is : IsImage g a) (h : HasMagi
       let same : page_of g c p ≡ page_of g (deleted g p a) p = page-same_entry g (sizes g) (deleted g p a) c p page half.outside p page in
       let there : slice_index c at ≡ slice_index (deleted g p a) at = sym (page_byte g c p 4 (omega (arith, big))) ∙ ap (λ (l : List ℕ). slice_index l 4) same ∙ page_byte g (deleted g p a) p 4 (omega (arith, big)) in
       let now : slice_index (deleted g p a) at ≡ flags_left g a p = rw add-zero at (done.bytes 0 (omega arith)) in
-      let gone : bit_at (flags_left g a p) 7 ≡ 0 = let e = bit_at_and (slice_index a at) 0x7F 7 in let z : bit_at 0x7F 7 ≡ 0 = refl in omega (arith, e, z) in
       marked c sized (rw (there, now) gone)
 
   still_used : (c : List ℕ) → HalfKilled g p a c → is_free_entry g c p ≡ false

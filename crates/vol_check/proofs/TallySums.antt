@@ -15,7 +15,7 @@ use Rattle.image_model.specs.Collect.{index_in, free_in, free_where}
 use Rattle.image_model.specs.Shared.{is_wanted_index, wanted_index_in, wanted_data_in, is_shared, shared_blocks, shared_index, open_entries, blocks_to_use, fits_over, FitsWith}
 use Rattle.image_model.specs.Within.{entry_in}
 use Rattle.image_laws.proofs.Matching.{filter-none_in}
-use Rattle.image_laws.proofs.Unshared.{unmixed-unshared, with-fits}
+use Rattle.image_laws.proofs.Unshared.{unmixed-unshared, fits-tested}
 use Rattle.flash_view.specs.declared.counts.BlockCounts.{BlockCounts}
 use Rattle.flash_view.specs.Counts.{AreCounts}
 use Rattle.free_search.proofs.FreePages.{free_whole, used_less, index_tells, data_tells}
@@ -156,17 +156,14 @@ pub unmixed_all : (g : Geometry) (image : List ℕ) → ((block : ℕ) → block
 unfolding shared_blocks
 unmixed_all g image none = filter-none_in (λ b. is_shared g image b) 0 g.blocks (λ block low high. unmixed-unshared g image block (none block (omega (arith, high))))
 
-module _ (g : Geometry) (image : List ℕ) (found : Survey) (is : IsSurvey g image found) where
-  pub fits_told : 0 < found.shared → found.index_pages ≤ found.index_free + (found.free_blocks - 2) * entries g → (0 < shared_blocks g image) × FitsWith g image 0
-  fits_told some room = (omega (arith, some, is.shared), inr (rw (is.index_pages, is.index_free, is.free_blocks) at (let more : found.index_pages + 0 ≤ found.index_free + (found.free_blocks - 2) * entries g = omega (arith, room) in more)))
-
-  pub over_told : 0 < found.shared → found.index_free + (found.free_blocks - 2) * entries g < found.index_pages → (found.shared ≡ shared_blocks g image) × (fits_over g image ≡ false)
-  over_told some room = (
-    is.shared,
-    false_from_ne_true _ (λ yes. ⊎_elim
-        (λ (none : shared_blocks g image ≡ 0). omega (arith, some, none, is.shared))
-        (λ (fits : shared_index g image + 0 ≤ open_entries g image + (blocks_to_use g image - 2) * entries g).
-        let more : open_entries g image + (blocks_to_use g image - 2) * entries g < shared_index g image = rw (is.index_pages, is.index_free, is.free_blocks) at room in
-        omega (arith, more, fits))
-        (with-fits g image yes)),
-  )
+-- where some are and the places are too few it doesn't fit over
+pub over_told : (g : Geometry) (image : List ℕ) (found : Survey) → IsSurvey g image found → 0 < found.shared → found.index_free + (found.free_blocks - 2) * entries g < found.index_pages → (found.shared ≡ shared_blocks g image) × (fits_over g image ≡ false)
+over_told g image found is some room = (
+  is.shared,
+  false_from_ne_true _ (λ yes. ⊎_elim
+      (λ (none : shared_blocks g image ≡ 0). omega (arith, some, none, is.shared))
+      (λ (fits : shared_index g image + 0 ≤ open_entries g image + (blocks_to_use g image - 2) * entries g).
+      let more : open_entries g image + (blocks_to_use g image - 2) * entries g < shared_index g image = rw (is.index_pages, is.index_free, is.free_blocks) at room in
+      omega (arith, more, fits))
+      ((fits-tested g image).0 yes)),
+)

@@ -66,9 +66,9 @@ pub record UsesTo (g : Geometry) (image : List ℕ) (block i : ℕ) (u : Uses) :
 pub uses_start : (g : Geometry) (image : List ℕ) (block : ℕ) → UsesTo g image block 0 no_use
 unfolding wanted_index_in wanted_data_in free_in
 uses_start g image block = record {
-  index = sum_start _ _ _ _ (sym (length-filter (λ p. is_wanted_index g image p) (range_with_len (block * per_block g + lookups g) (entries g))));
-  pages = sum_start _ _ _ _ (sym (length-filter (λ p. is_wanted_data g image p) (range_with_len (block * per_block g + lookups g) (entries g))));
-  free = sum_start _ _ _ _ (sym (length-filter (λ p. is_free_entry g image p) (range_with_len (block * per_block g + lookups g) (entries g))));
+  index = sum_start (λ p. if is_wanted_index g image p then 1 else 0) (block * per_block g + lookups g) (entries g) _ (sym (length-filter (λ p. is_wanted_index g image p) (range_with_len (block * per_block g + lookups g) (entries g))));
+  pages = sum_start (λ p. if is_wanted_data g image p then 1 else 0) (block * per_block g + lookups g) (entries g) _ (sym (length-filter (λ p. is_wanted_data g image p) (range_with_len (block * per_block g + lookups g) (entries g))));
+  free = sum_start (λ p. if is_free_entry g image p then 1 else 0) (block * per_block g + lookups g) (entries g) _ (sym (length-filter (λ p. is_free_entry g image p) (range_with_len (block * per_block g + lookups g) (entries g))));
 }
 
 pub uses_on : (g : Geometry) (image : List ℕ) (block i p : ℕ) (u own : Uses) → i < entries g → p ≡ block * per_block g + lookups g + i → UsesTo g image block i u → IsUse g image p own → UsesTo g image block (i + 1) (both_uses u own)

@@ -1,4 +1,4 @@
-use Rattle.std.proofs.Common.{arith}
+use Rattle.std.proofs.Common.{◌≤◌, slice_index, arith}
 use Rattle.std.proofs.lemmas.Result.{on_ok_weaker}
 use Rattle.vol_check.proofs.Listed.{listed_whole}
 use Rattle.vol_check.proofs.MarkSteps.{adds_none, headed_adds, headless_none}
@@ -11,6 +11,7 @@ returns-then-head-ne0-clause-told g c = λ tells listed index. adds_none _ (λ p
 pub returns-clause-told : goal.returns-clause-told
 returns-clause-told g c = λ tells marked index.
     let heads = first_heads _ _ _ _ index (omega (arith, c.if-head-ne0.false)) in
-    let listed = marked.listed _ heads (omega (arith, c.if-branch.false)) in
+    let more : c.args.least ≤ slice_index c.args.marks.now c.from.result = omega (arith, c.if-marks-from.false) in
+    let listed = marked.listed _ heads (rw c.from.ensures at more) in
     let told = rw c.object.ensures at (c.mark_file.ensures.told tells) in
     on_ok_weaker c.mark_file.result (λ adds. headed_adds _ _ _ _ listed adds) (told (listed_whole _ _ _ _ listed))
