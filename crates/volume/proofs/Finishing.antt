@@ -107,8 +107,8 @@ judged_tidy g image free judged = neat-unshared g image judged.neat judged.fitti
 
 -- and nothing is parted
 pub divides_none : (g : Geometry) (image : List ℕ) (shares : Bool) (free : ℕ) → shares ≡ false → IsJudged g shares free image → CheckCut g image image × PartedOr g image image free
-divides_none g image true free no judged = absurd (cc)
-divides_none g image false free no judged =
+divides_none g image true free told judged = absurd (cc)
+divides_none g image false free told judged =
     let tidy = judged_tidy g image free judged in (
       cut_none g image (tidy_sound g image image tidy).magics,
       record { parting = record { tidy = tidy; table = refl; reserve = λ reserve. reserve; counts = λ block low. refl }; alone = λ none. refl; free = judged.free },
@@ -128,8 +128,8 @@ divided_cut g was mid image p same = subst (λ (c : List ℕ). CheckCut g was c)
 
 -- which ends it
 pub divided_counted : (g : Geometry) (was mid now : List ℕ) (shares : Bool) (free before : ℕ) → shares ≡ true → IsJudged g shares before was → Parted g was mid → (now ≡ mid) × (free ≡ free_blocks g mid) → PartedOr g was now free
-divided_counted g was mid now false free before no judged p w = absurd (cc)
-divided_counted g was mid now true free before no judged p w =
+divided_counted g was mid now false free before told judged p w = absurd (cc)
+divided_counted g was mid now true free before told judged p w =
     subst (λ (c : List ℕ). PartedOr g was c free) (sym w.0) (record { parting = p; alone = λ none. let some = judged.fitting.1 in absurd (omega (arith, some, none)); free = w.1 })
 
 -- ---- the cleaning after it
