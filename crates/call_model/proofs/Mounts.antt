@@ -12,7 +12,8 @@ use Rattle.image_model.specs.Within.{block_number, page_number}
 use Rattle.image_laws.proofs.Frames.{live_parts}
 use Rattle.image_laws.proofs.Matching.{filter-none_in}
 use Rattle.image_laws.proofs.MixedBlocks.{mixed-tested}
-use Rattle.call_model.specs.Taken.{CutsKeepMagics, CutsMixNone}
+use Rattle.image_laws.proofs.Unshared.{fits-tested}
+use Rattle.call_model.specs.Taken.{CutsKeepMagics, CutsMixNone, CutsFit}
 
 -- ---- how many numbers of a range pass a test
 
@@ -104,3 +105,6 @@ cuts_keep_magics g was image few safe = spoiled_few g image (safe.sound (few_spo
 
 pub cuts_mix_none : (g : Geometry) → CutsMixNone g
 cuts_mix_none g was image few none safe = unmixed_by g image (λ block m. none_mixed g was none block ((safe.sound (few_spoiled g was few)).mixed block m))
+
+pub cuts_fit : (g : Geometry) → CutsFit g
+cuts_fit g was image fits safe = (fits-tested g image).1 (safe.fits 0 fits)

@@ -1,7 +1,10 @@
 -- What may follow an image.
-use Rattle.std.proofs.Common.{ℕ, List}
+use Rattle.std.proofs.Common.{ℕ, List, inl}
 use Rattle.geometry.specs.declared.geometry.Geometry.{Geometry}
+use Rattle.image_model.specs.Tidy.{IsTidy, HasReserve}
 use Rattle.image_model.specs.Sound.{IsSound}
+use Rattle.image_laws.proofs.Unshared.{tidy-unshared, sound-unshared}
+use Rattle.room_laws.specs.Recovery.{Recovers}
 use Rattle.room_laws.proofs.Staying.{reserve_mends}
 use Rattle.call_model.specs.Safe.{IsSafe, Holds}
 
@@ -13,11 +16,22 @@ sound_then g a b c one two = record {
   damaged = λ id h. one.damaged id (two.damaged id h);
 }
 
--- what a cut leaves of an image that stands after another
-pub holds_safe : (g : Geometry) (a b c : List ℕ) → Holds g a b → IsSafe g b c → IsSafe g a c
-holds_safe g a b c first second = record {
+-- what a cut leaves of a tidy image: it has no shared block
+pub safe_of_tidy : (g : Geometry) (was image : List ℕ) → IsTidy g was → IsSound g image was → (HasReserve g was → Recovers g image) → IsSafe g was image
+safe_of_tidy g was image tidy sound mends =
+    let none = sound-unshared g was image tidy sound in
+    record {
+      sound = λ magics. sound;
+      mends = λ reserve. record { recovers = mends reserve; parts = inl none };
+      fits = λ spare fits. inl none;
+    }
+
+-- what a cut leaves of a tidy image that stands after another
+pub holds_safe : (g : Geometry) (a b c : List ℕ) → Holds g a b → IsTidy g b → IsSafe g b c → IsSafe g a c
+holds_safe g a b c first tidy second = record {
   sound = λ magics. let one = first.sound magics in sound_then g a b c one (second.sound one.magics);
   mends = λ reserve. second.mends (first.reserve reserve);
+  fits = λ spare fits. second.fits spare (inl (tidy-unshared g b tidy));
 }
 
 -- and what stands after it
@@ -34,6 +48,12 @@ holds_itself g image = record {
   reserve = λ reserve. reserve;
 }
 
--- what stands uncut may be left by a cut
-pub safe_as : (g : Geometry) (a b : List ℕ) → Holds g a b → IsSafe g a b
-safe_as g a b h = record { sound = h.sound; mends = λ reserve. reserve_mends g b (h.reserve reserve) }
+-- what stands uncut and is tidy may be left by a cut
+pub safe_as : (g : Geometry) (a b : List ℕ) → Holds g a b → IsTidy g b → IsSafe g a b
+safe_as g a b h tidy =
+    let none = tidy-unshared g b tidy in
+    record {
+      sound = h.sound;
+      mends = λ reserve. record { recovers = reserve_mends g b (h.reserve reserve); parts = inl none };
+      fits = λ spare fits. inl none;
+    }

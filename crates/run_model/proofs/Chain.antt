@@ -6,7 +6,7 @@ use Rattle.nor_core.specs.Device.{OnlyReads, Leaves}
 use Rattle.nor_core.proofs.Cuts.{andthen, widened, read_on, started}
 use Rattle.table_model.specs.Ask.{Ask}
 use Rattle.table_model.specs.Window.{Moment}
-use Rattle.image_model.specs.Tidy.{HasReserve}
+use Rattle.image_model.specs.Tidy.{IsTidy, HasReserve}
 use Rattle.call_model.specs.Safe.{Holds}
 use Rattle.call_model.specs.Memory.{Memory, IsAt}
 use Rattle.call_model.specs.Calls.{Stands}
@@ -35,17 +35,17 @@ module _ {D : Type 0} {nor : NorOf D} {g : Geometry} where
   wider_cut {old} {new} {m} {xs} ys leaves = widened leaves (λ image count c. record { part = c.part; count_is = c.count_is; safe = c.safe; cut = cut_wider g m xs ys c.part image c.cut })
 
   -- a cut in calls after those that were done
-  pub cut_behind : {old mid : D} {m : Moment} (xs : List RunCall) {ys : List RunCall} {image : List ℕ} {count : ℕ} → nor.said mid ≡ nor.said old ++ replies g m xs → Holds g (nor.bytes old) (nor.bytes mid) → CutIn nor g mid (after_all g m xs) ys image count → CutIn nor g old m (xs ++ ys) image count
-  cut_behind {old} {mid} {m} xs {ys} {image} {count} said holds c = record {
+  pub cut_behind : {old mid : D} {m : Moment} (xs : List RunCall) {ys : List RunCall} {image : List ℕ} {count : ℕ} → nor.said mid ≡ nor.said old ++ replies g m xs → Holds g (nor.bytes old) (nor.bytes mid) → IsTidy g (nor.bytes mid) → CutIn nor g mid (after_all g m xs) ys image count → CutIn nor g old m (xs ++ ys) image count
+  cut_behind {old} {mid} {m} xs {ys} {image} {count} said holds tidy c = record {
     part = replies g m xs ++ c.part;
     count_is = omega (arith, c.count_is, ap length said, length-append (nor.said old) (replies g m xs), length-append (replies g m xs) c.part);
-    safe = holds_safe g (nor.bytes old) (nor.bytes mid) image holds c.safe;
+    safe = holds_safe g (nor.bytes old) (nor.bytes mid) image holds tidy c.safe;
     cut = cut_later g m xs ys c.part image c.cut;
   }
 
   -- a cut in calls, or in those that come after
-  later_cut : {old mid new : D} {m : Moment} (xs : List RunCall) {ys : List RunCall} → nor.said mid ≡ nor.said old ++ replies g m xs → Holds g (nor.bytes old) (nor.bytes mid) → Leaves nor old mid (CutIn nor g old m xs) → Leaves nor mid new (CutIn nor g mid (after_all g m xs) ys) → Leaves nor old new (CutIn nor g old m (xs ++ ys))
-  later_cut {old} {mid} {new} {m} xs {ys} said holds first second = andthen (wider_cut ys first) (widened second (λ image count c. cut_behind xs said holds c))
+  later_cut : {old mid new : D} {m : Moment} (xs : List RunCall) {ys : List RunCall} → nor.said mid ≡ nor.said old ++ replies g m xs → Holds g (nor.bytes old) (nor.bytes mid) → IsTidy g (nor.bytes mid) → Leaves nor old mid (CutIn nor g old m xs) → Leaves nor mid new (CutIn nor g mid (after_all g m xs) ys) → Leaves nor old new (CutIn nor g old m (xs ++ ys))
+  later_cut {old} {mid} {new} {m} xs {ys} said holds tidy first second = andthen (wider_cut ys first) (widened second (λ image count c. cut_behind xs said holds tidy c))
 
   -- a front of the replies to calls is one of the replies to more calls
   pub said_wider : {old new : D} {m : Moment} {xs : List Ask} (ys : List Ask) → SaidPart nor g old new m xs → SaidPart nor g old new m (xs ++ ys)
@@ -69,7 +69,7 @@ module _ {D : Type 0} {nor : NorOf D} {g : Geometry} where
     said = s.said ∙ ap (λ (l : List ℕ). l ++ replies g (after_all g m r.calls) s.calls) r.said ∙ append_assoc (nor.said old) (replies g m r.calls) (replies g (after_all g m r.calls) s.calls) ∙ ap (λ (l : List ℕ). nor.said old ++ l) (sym (replies-append g m r.calls s.calls));
     stands = subst (λ (j : Moment). RunStands nor g new after j) (sym (after_all-append g m r.calls s.calls)) s.stands;
     holds = holds_then g (nor.bytes old) (nor.bytes mid) (nor.bytes new) r.holds s.holds;
-    cuts = later_cut r.calls r.said r.holds r.cuts s.cuts;
+    cuts = later_cut r.calls r.said r.holds r.stands.stands.image.tidy r.cuts s.cuts;
   }
 
   -- the replies to calls were said, and a front of those after them
@@ -82,7 +82,7 @@ module _ {D : Type 0} {nor : NorOf D} {g : Geometry} where
     rest = s.rest;
     said = s.said ∙ ap (λ (l : List ℕ). l ++ s.part) r.said ∙ append_assoc (nor.said old) (replies g m r.calls) s.part;
     whole_is = replies-append g m r.calls s.calls ∙ ap (λ (l : List ℕ). replies g m r.calls ++ l) s.whole_is ∙ sym (append_assoc (replies g m r.calls) s.part s.rest);
-    cuts = later_cut r.calls r.said r.holds r.cuts s.cuts;
+    cuts = later_cut r.calls r.said r.holds r.stands.stands.image.tidy r.cuts s.cuts;
   }
 
   -- a volume stands still on a device that tells the same bytes

@@ -4,29 +4,26 @@ use Rattle.std.proofs.lemmas.Bool.{cases_Bool}
 use Rattle.geometry.specs.declared.geometry.Geometry.{Geometry}
 use Rattle.geometry.specs.Numbers.{page_count}
 use Rattle.image_model.specs.Tables.{table_of, damaged_of}
-use Rattle.image_model.specs.Tidy.{IsTidy, free_blocks, TellsFree, is_free_entry}
-use Rattle.image_model.specs.Kinds.{mixed_blocks}
+use Rattle.image_model.specs.Tidy.{IsTidy, IsNeat, free_blocks, TellsFree, is_free_entry}
 use Rattle.image_model.specs.Killed.{is_used, is_dead_entry, is_killable, killed_of}
 use Rattle.image_model.specs.Places.{entry_of, has_magic, block_of, is_entry_page}
 use Rattle.image_model.specs.Within.{block_number, page_number}
 use Rattle.flash_view.proofs.Sorts.{free_is_dead}
 use Rattle.image_laws.proofs.Frames.{table_of-same, damaged_of-same}
 use Rattle.image_laws.proofs.Matching.{filter-none_in}
-use Rattle.room_laws.specs.Staged.{OnlyKills, IsStaged}
+use Rattle.room_laws.specs.Staged.{OnlyKills, IsStripped}
 use Rattle.vol_check.specs.Stage.{Kills}
-use Rattle.room_laws.proofs.Sorted.{tidy_tells_free}
-use Rattle.room_laws.proofs.Staying.{free_stays}
+use Rattle.room_laws.proofs.Sorted.{neat_tells_free}
+use Rattle.room_laws.proofs.Staying.{stripped_free_stays}
 use Rattle.vol_check.specs.declared.checking.Culled.{Culled}
 use Rattle.vol_check.specs.declared.report.Report.{Report}
 use Rattle.vol_check.specs.Stage.{IsClean, CleansEntries}
 use Rattle.vol_check.specs.Culls.{IsSettled, IsServed, Passes, PassesDoubled, PassesDamaged, PassesRest, CullsPages}
-use Rattle.image_model.specs.Sound.{KeepsAll}
 use Rattle.vol_check.specs.MadeFresh.{MadeFresh}
 use Rattle.vol_check.specs.Checks.{Checked}
-use Rattle.vol_check.specs.Works.{Work}
+use Rattle.vol_check.specs.Works.{Work, StageCut}
 use Rattle.vol_check.proofs.Passing.{passes_then, kills_then}
-use Rattle.vol_check.proofs.Mixing.{unmixed_after}
-use Rattle.vol_check.proofs.Tidied.{wanted_by, tidy_after}
+use Rattle.vol_check.proofs.Tidied.{wanted_by, neat_after}
 
 -- ---- the passes over live pages
 
@@ -100,41 +97,42 @@ abbrev pub culling_all : Work (Bool × ℕ × Culled)
 culling_all = record { needs = λ g was. Unit {0}; done = λ g was now x. CullsAll g x.0 x.1 x.2 was now; idle = λ g was. IsTidy g was }
 
 -- kills after a block was made fresh
-staged_after : (g : Geometry) (a b d : List ℕ) (erased : Bool) → MadeFresh g erased a b → OnlyKills g b d → IsTidy g d → table_of g d ≡ table_of g a → IsStaged g a d
-staged_after g a b d erased made kills tidy table =
-    let later : IsStaged g b d = record {
-      tidy = tidy;
+stripped_after : (g : Geometry) (a b d : List ℕ) (erased : Bool) → MadeFresh g erased a b → OnlyKills g b d → IsNeat g d → table_of g d ≡ table_of g a → IsStripped g a d
+stripped_after g a b d erased made kills neat table =
+    let later : IsStripped g b d = record {
+      neat = neat;
       table = table ∙ sym (table_of-same g b a made.live);
       live = kills.live;
       free = λ p page magic. kills.free p page;
       fresh = λ block low none. let bad : true ≡ false = sym (made.magics block low) ∙ none in absurd (cc);
     } in
     record {
-      tidy = tidy;
+      neat = neat;
       table = table;
       live = λ p. rw (made.live p) at (kills.live p);
       free = λ p page magic. kills.free p page ∙ made.free p page magic;
-      fresh = λ block low none. free_stays g b d later block low (made.fresh block low none);
+      fresh = λ block low none. stripped_free_stays g b d later block low (made.fresh block low none);
     }
 
-pub checked : (g : Geometry) (a c d : List ℕ) (report : Report) (dead pages : ℕ) → mixed_blocks g a ≡ 0 → Readies g report.erased dead a c → CullsPages g pages report.damaged c d → KeepsAll g a d →
+pub checked : (g : Geometry) (a c d : List ℕ) (report : Report) (dead pages : ℕ) → Readies g report.erased dead a c → CullsPages g pages report.damaged c d → StageCut g a d →
     report.killed ≡ dead + pages → (TellsFree g d → report.free_blocks ≡ free_blocks g d) → Checked g a d report
-checked g a c d report dead pages unmixed ready culled kept killed free =
+checked g a c d report dead pages ready culled kept killed free =
     let made = ready.made in
     let cleans = ready.cleans in
     let kills : Kills g ready.image d = kills_then g ready.image c d cleans.kills culled.passes.kills in
     let clean : IsClean g d = culled.passes.clean cleans.clean in
     let none : killed_of g d ≡ 0 = none_killed g d clean culled.served in
     let same_damage : damaged_of g c ≡ damaged_of g a = damaged_of-same g c a (λ p. cleans.live p ∙ made.live p) in
-    let tidy : IsTidy g d = tidy_after g d (λ block low. kills.pages.magic block ∙ made.magics block low) clean culled.served culled.none (unmixed_after g a d unmixed kept.keeps) in
+    let neat : IsNeat g d = neat_after g d (λ block low. kills.pages.magic block ∙ made.magics block low) clean culled.served culled.none in
     record {
-      tidy = tidy;
-      table = kept.keeps.table;
+      neat = neat;
+      table = kept.keeps.keeps.table;
       erased = made.erased_is;
       killed = omega (arith, killed, made.killed, cleans.killed_more, culled.passes.count, none);
       damaged = culled.count ∙ ap length same_damage;
-      free = free (tidy_tells_free g d tidy);
-      free_least = kept.free;
-      staged = staged_after g a ready.image d report.erased made kills.pages tidy kept.keeps.table;
+      free = free (neat_tells_free g d neat);
+      free_least = kept.keeps.free;
+      stripped = stripped_after g a ready.image d report.erased made kills.pages neat kept.keeps.keeps.table;
+      uses = kept.uses;
       counts = λ block low. kills.counts block low ∙ made.counts block low;
     }

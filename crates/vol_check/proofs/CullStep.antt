@@ -1,6 +1,6 @@
 -- A kill of a live page that isn't wanted, as a turn of the check.
 use Rattle.std.proofs.Common.{◌≡◌, ◌≢◌, ℕ, ◌+◌, ◌*◌, ◌<◌, ◌≤◌, List, slice_index, true, false, ◌==◌, ap, refl, sym, ◌∙◌, ⊎_elim, inl, inr}
-use Rattle.std.specs.Prelude.{is_some}
+use Rattle.std.specs.Prelude.{None, is_some}
 use Rattle.std.proofs.lemmas.Bool.{cases_eq, cases_Bool, ne_eqb}
 use Rattle.std.proofs.lemmas.Option.{cond_some}
 use Rattle.geometry.specs.declared.geometry.Geometry.{Geometry}
@@ -10,7 +10,7 @@ use Rattle.image_model.specs.Places.{page_of, block_of, has_magic, entry_of, is_
 use Rattle.image_model.specs.Tables.{Found, has_of, table_of, damaged_of, records}
 use Rattle.image_model.specs.Tidy.{is_free_entry, is_wanted, free_blocks}
 use Rattle.image_model.specs.Killed.{is_used, is_killable}
-use Rattle.image_model.specs.Sound.{HasMagics, Keeps, KeepsAll}
+use Rattle.image_model.specs.Sound.{HasMagics, Keeps}
 use Rattle.image_laws.specs.Changes.{Loses}
 use Rattle.image_laws.specs.LiveSteps.{KillLeaves, KillDone}
 use Rattle.image_laws.specs.TidySteps.{Agree}
@@ -19,13 +19,14 @@ use Rattle.image_laws.proofs.Frames.{LivePage, live_parts}
 use Rattle.image_laws.proofs.FreeBlocks.{free_blocks-fall, used-is_not_free}
 use Rattle.image_laws.proofs.Sounding.{magics-same, mixed-from, loses-back, keeps-by_live}
 use Rattle.image_laws.proofs.StillFree.{live-used}
+use Rattle.image_laws.proofs.TidySteps.{wanted-same}
 use Rattle.image_laws.proofs.Unwanted.{kill-counts}
+use Rattle.image_laws.proofs.UsesStay.{uses-agree}
 use Rattle.flash_view.specs.Steps.{Finishes}
 use Rattle.page_put.specs.LivePages.{killing}
-use Rattle.image_model.specs.Shared.{SameCounts}
+use Rattle.image_model.specs.Shared.{SameUses}
 use Rattle.vol_check.specs.Culls.{Spares, MayCull, Culls}
-use Rattle.vol_check.specs.Works.{step_of, culling}
-use Rattle.vol_check.proofs.Counts.{counts_too}
+use Rattle.vol_check.specs.Works.{StageCut, step_of, culling}
 use Rattle.vol_check.proofs.Passing.{kills_one}
 
 -- each id has what it had
@@ -45,6 +46,11 @@ used-same g a b p agree q there =
 zero_unused : (g : Geometry) (b : List ℕ) (p : ℕ) → entry_of g b p ≡ 0 → is_used g b p ≡ false
 unfolding is_used
 zero_unused g b p e = rw e (and_false _ _)
+
+-- a page that isn't live isn't wanted
+dead_unwanted : (g : Geometry) (b : List ℕ) (p : ℕ) → live_at g b p ≡ None → is_wanted g b p ≡ false
+unfolding is_wanted
+dead_unwanted g b p e = rw e refl
 
 -- the id of a finished page isn't 0
 finished_id : (page : List ℕ) → is_finished page ≡ true → obj_id page ≢ 0
@@ -72,10 +78,32 @@ module _ (g : Geometry) (a : List ℕ) (p : ℕ) (is : IsImage g a) (h : HasMagi
         table = s.table;
       }
 
-  cut : (c : List ℕ) → KillLeaves g p a c → KeepsAll g a c
+  -- another page than p is wanted
+  apart : (q : ℕ) → is_wanted g a q ≡ true → q ≢ p
+  apart q wanted here = let no : is_wanted g a q ≡ false = rw here may.unwanted in let bad : true ≡ false = sym wanted ∙ no in absurd (cc)
+
+  wanted_too : (c : List ℕ) → KillLeaves g p a c → (q : ℕ) → is_wanted g c q ≡ is_wanted g a q
+  wanted_too c k q = ⊎_elim
+      (λ (same : live_at g c ≡ live_at g a). wanted-same g a c (λ r. ap (λ (l : Live). l r) same) q)
+      (λ (loses : Loses p (live_at g a) (live_at g c)). ⊎_elim
+      (λ (here : q ≡ p). rw here (dead_unwanted g c p loses.after ∙ sym may.unwanted))
+      (λ (there : q ≡ p → ⊥). (may.spares c loses).wanted q there)
+      (cases_eq q p))
+      k.live
+
+  wanted_live : (c : List ℕ) → KillLeaves g p a c → (q : ℕ) → is_wanted g a q ≡ true → live_at g c q ≡ live_at g a q
+  wanted_live c k q wanted = ⊎_elim (λ (same : live_at g c ≡ live_at g a). ap (λ (l : Live). l q) same) (λ (loses : Loses p (live_at g a) (live_at g c)). loses.others q (apart q wanted)) k.live
+
+  uses : (c : List ℕ) → KillLeaves g p a c → SameUses g a c
+  uses c k = uses-agree g a c p k.agree (live-used g a p may.page may.live) k.used (wanted_too c k) (wanted_live c k)
+
+  cut : (c : List ℕ) → KillLeaves g p a c → StageCut g a c
   cut c k = record {
-    keeps = ⊎_elim (λ (same : live_at g c ≡ live_at g a). keeps-by_live g a c h k.agree.magic (λ q. ap (λ (l : Live). l q) same)) (λ (loses : Loses p (live_at g a) (live_at g c)). keeps c k.agree loses) k.live;
-    free = free c k.agree;
+    keeps = record {
+      keeps = ⊎_elim (λ (same : live_at g c ≡ live_at g a). keeps-by_live g a c h k.agree.magic (λ q. ap (λ (l : Live). l q) same)) (λ (loses : Loses p (live_at g a) (live_at g c)). keeps c k.agree loses) k.live;
+      free = free c k.agree;
+    };
+    uses = uses c k;
   }
 
   killable : is_killable g a p ≡ true
@@ -84,8 +112,8 @@ module _ (g : Geometry) (a : List ℕ) (p : ℕ) (is : IsImage g a) (h : HasMagi
       let used : is_used g a p ≡ true = used_by g a p parts.entry_page parts.magic entry (live-used g a p may.page may.live) in
       rw (used, may.unwanted) refl
 
-  done : (c : List ℕ) → KillDone g p a c → SameCounts g a c → Culls g p true a c
-  done c k counts = record {
+  done : (c : List ℕ) → KillDone g p a c → Culls g p true a c
+  done c k = record {
     count = kill-counts g a c p is k.agree killable k.zero (may.spares c k.loses).wanted;
     gone = λ e. k.loses.after;
     others = k.loses.others;
@@ -97,12 +125,12 @@ module _ (g : Geometry) (a : List ℕ) (p : ℕ) (is : IsImage g a) (h : HasMagi
         (λ q. ⊎_elim
         (λ (here : q ≡ p). rw here (inr k.loses.after))
         (λ (there : q ≡ p → ⊥). inl (k.loses.others q there))
-        (cases_eq q p)) counts;
+        (cases_eq q p));
   }
 
 -- the kill of a page is its turn
-pub culls : (g : Geometry) (a : List ℕ) (p : ℕ) → IsImage g a → HasMagics g a → MayCull g a p → slice_index a (p * g.page + 4) < 256 → Finishes g a a (counts_too (killing p)) (step_of (culling p))
-culls g a p is h may byte = record { needs = record { live = ap is_some may.live; byte = byte }; cut = cut g a p is h may; done = λ c ok k. done g a p is h may c k.0 k.1 }
+pub culls : (g : Geometry) (a : List ℕ) (p : ℕ) → IsImage g a → HasMagics g a → MayCull g a p → slice_index a (p * g.page + 4) < 256 → Finishes g a a (killing p) (step_of (culling p))
+culls g a p is h may byte = record { needs = record { live = ap is_some may.live; byte = byte }; cut = cut g a p is h may; done = λ c ok k. done g a p is h may c k }
 
 -- a page that may be killed is live in a block with its magic
 pub alive : (g : Geometry) (a : List ℕ) (p : ℕ) → MayCull g a p → (has_magic g a (block_of g p) ≡ true) × (is_live g a p ≡ true)

@@ -1,5 +1,5 @@
 -- The block without its magic, made fresh, over plain images.
-use Rattle.std.proofs.Common.{◌≡◌, ◌≢◌, ℕ, ◌*◌, ◌<◌, ◌≤◌, ⊎_elim, List, true, false, not, Some, None, Result, OnErr, OnOk, refl, sym, ◌∙◌, subst, arith}
+use Rattle.std.proofs.Common.{◌≡◌, ◌≢◌, ℕ, ◌*◌, ◌<◌, ◌≤◌, ◌⊎◌, ⊎_elim, List, true, false, not, Some, None, Result, OnErr, OnOk, refl, sym, ◌∙◌, subst, arith}
 use Rattle.std.specs.Prelude.{find}
 use Rattle.std.specs.List.{range_with_len}
 use Rattle.std.proofs.Math.Bool.{and-false}
@@ -12,7 +12,8 @@ use Rattle.image_model.specs.Places.{has_magic, erase_count, next_count, block_o
 use Rattle.image_model.specs.Tidy.{is_free_block, free_blocks}
 use Rattle.image_model.specs.Kinds.{spoiled_blocks}
 use Rattle.image_model.specs.Killed.{is_used, is_killable, killed_of}
-use Rattle.image_model.specs.Sound.{HasMagics, KeepsAll}
+use Rattle.image_model.specs.Shared.{SameUses}
+use Rattle.image_model.specs.Sound.{HasMagics}
 use Rattle.image_model.specs.Within.{sizes}
 use Rattle.image_laws.proofs.Tables.{find_passes}
 use Rattle.image_laws.proofs.Append.{find-all}
@@ -21,6 +22,7 @@ use Rattle.image_laws.proofs.Erasing.{erasing-sound}
 use Rattle.image_laws.proofs.FreeBlocks.{filter-same, filter-but}
 use Rattle.image_laws.proofs.Matching.{filter-none_in}
 use Rattle.image_laws.proofs.TidySteps.{wanted-same}
+use Rattle.image_laws.proofs.UsesStay.{uses-itself, uses-fresh}
 use Rattle.free_search.proofs.Had.{filter_some}
 use Rattle.free_search.proofs.Beside.{page_other, magic_other, entry_other, free_entry_other, free_block_other, free_magic, free_entry_at, free_dead}
 use Rattle.room_laws.proofs.Recounts.{fresh_erases}
@@ -34,7 +36,7 @@ use Rattle.flash_view.specs.Same.{IsSameView, OnlyLooks}
 use Rattle.flash_view.specs.Steps.{Finishes, acting}
 use Rattle.flash_view.proofs.Stepped.{acted, after_look}
 use Rattle.vol_check.specs.MadeFresh.{HasAllMagics, count_after, MadeFresh}
-use Rattle.vol_check.specs.Works.{Work, step_of, Worked, making_fresh}
+use Rattle.vol_check.specs.Works.{Work, StageCut, step_of, Worked, making_fresh}
 use Rattle.vol_check.proofs.Working.{Goes}
 
 -- ---- the first block that lacks its magic
@@ -91,23 +93,31 @@ module _ (g : Geometry) (a : List ℕ) (c : ℕ) (is : IsImage g a) (h : HasMagi
       let tight = rw not_free at fall in
       omega (arith, tight)
 
-  fresh_cut : (x : List ℕ) → Freshens g c a x → KeepsAll g a x
-  fresh_cut x cut = record {
-    keeps = erasing-sound g a x c is others cut.outside dead_before
-        (⊎_elim
-        (λ (same : x ≡ a). subst (λ (l : List ℕ). (p : ℕ) → block_of g p ≡ c → live_at g l p ≡ None) (sym same) dead_before)
-        (λ (dead : (p : ℕ) → block_of g p ≡ c → live_at g x p ≡ None). dead)
-        cut.dead);
-    free = more_free x cut.outside;
-  }
+  dead_at : (x : List ℕ) → Freshens g c a x → (p : ℕ) → block_of g p ≡ c → live_at g x p ≡ None
+  dead_at x cut = ⊎_elim
+      (λ (same : x ≡ a). subst (λ (l : List ℕ). (p : ℕ) → block_of g p ≡ c → live_at g l p ≡ None) (sym same) dead_before)
+      (λ (dead : (p : ℕ) → block_of g p ≡ c → live_at g x p ≡ None). dead)
+      cut.dead
+
+  live_too : (x : List ℕ) → SameOutside (c * g.block) g.block a x → ((p : ℕ) → block_of g p ≡ c → live_at g x p ≡ None) → (p : ℕ) → live_at g x p ≡ live_at g a p
+  live_too x outside dead p = ⊎_elim
+      (λ (here : block_of g p ≡ c). dead p here ∙ sym (dead_before p here))
+      (λ (there : block_of g p ≡ c → ⊥). live-other g (sizes g) a x c outside p there)
+      (cases_eq (block_of g p) c)
+
+  -- the block lacks its magic still, or is free
+  fresh_uses : (x : List ℕ) → Freshens g c a x → SameUses g a x
+  fresh_uses x cut = ⊎_elim
+      (λ (same : x ≡ a). rw same (uses-itself g a))
+      (λ (state : (has_magic g x c ≡ false) ⊎ (is_free_block g x c ≡ true)). uses-fresh g a x c lacks cut.outside (live_too x cut.outside (dead_at x cut)) state)
+      cut.state
+
+  fresh_cut : (x : List ℕ) → Freshens g c a x → StageCut g a x
+  fresh_cut x cut = record { keeps = record { keeps = erasing-sound g a x c is others cut.outside dead_before (dead_at x cut); free = more_free x cut.outside }; uses = fresh_uses x cut }
 
   module _ (b : List ℕ) (erases : ℕ) (next : erases ≡ next_count g a) (fresh : IsFresh g c erases a b) where
     fresh_live : (p : ℕ) → live_at g b p ≡ live_at g a p
-    fresh_live p =
-        ⊎_elim
-        (λ (here : block_of g p ≡ c). free_dead g b c fresh.free p here ∙ sym (dead_before p here))
-        (λ (there : block_of g p ≡ c → ⊥). live-other g (sizes g) a b c fresh.outside p there)
-        (cases_eq (block_of g p) c)
+    fresh_live = live_too b fresh.outside (free_dead g b c fresh.free)
 
     fresh_killed : killed_of g b ≡ killed_of g a
     unfolding killed_of

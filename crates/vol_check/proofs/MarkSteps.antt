@@ -1,11 +1,12 @@
 -- Marks that are added one after the other.
-use Rattle.std.proofs.Common.{◌≡◌, ℕ, ◌+◌, ◌<◌, ◌≤◌, ◌⊎◌, List, slice_index, Some, refl, ◌∙◌, sym, subst, arith, ⊎_elim, inl, inr}
+use Rattle.std.proofs.Common.{◌≡◌, ℕ, ◌+◌, ◌<◌, ◌≤◌, ◌⊎◌, List, slice_index, Some, None, refl, ◌∙◌, sym, subst, arith, ⊎_elim, inl, inr}
 use Rattle.std.proofs.lemmas.Bool.{cases_lt}
-use Rattle.std.proofs.lemmas.Option.{same_Some}
+use Rattle.std.proofs.lemmas.Option.{none-some, same_Some}
 use Rattle.geometry.specs.declared.geometry.Geometry.{Geometry}
 use Rattle.image_model.specs.Live.{live_at}
 use Rattle.flash_view.specs.Found.{headed}
-use Rattle.vol_check.specs.Needed.{AddsMarks, OfFirst, OfFile, OfHeaded}
+use Rattle.file_find.proofs.Heads.{header_parts}
+use Rattle.vol_check.specs.Needed.{AddsMarks, OfFirst, OfFile, OfHeaded, IsListed}
 
 module _ {pages : ℕ} {P Q : ℕ → Type 0} {a b : List ℕ} where
   -- the same kind in other words
@@ -67,7 +68,11 @@ pub adds_none : {pages : ℕ} {P : ℕ → Type 0} (a : List ℕ) → ((p : ℕ)
 adds_none a none = record { set = λ p low is. absurd (none p is); rest = λ p low. inr refl }
 
 -- the file of a header page
-pub headed_adds : {pages : ℕ} {a b : List ℕ} (g : Geometry) (image : List ℕ) (id h : ℕ) → headed (live_at g image h) ≡ Some id → AddsMarks pages (OfFile g image id h) a b → AddsMarks pages (OfHeaded g image h) a b
-headed_adds g image id h heads adds =
-    adds_as adds (λ p of. record { id = id; heads = heads; of = of })
-    (λ p of. let same : of.id ≡ id = same_Some of.id id (sym of.heads ∙ heads) in subst (λ (k : ℕ). OfFile g image k h p) same of.of)
+pub headed_adds : {pages : ℕ} {a b : List ℕ} (g : Geometry) (image : List ℕ) (id h : ℕ) → IsListed g image id h → AddsMarks pages (OfFile g image id h) a b → AddsMarks pages (OfHeaded g image h) a b
+headed_adds g image id h listed adds =
+    adds_as adds (λ p of. record { id = id; listed = listed; of = of })
+    (λ p of. let same : of.id ≡ id = same_Some of.id id (sym (header_parts g image of.id h of.listed.first).0 ∙ (header_parts g image id h listed.first).0) in subst (λ (k : ℕ). OfFile g image k h p) same of.of)
+
+-- a page that is no header page has none
+pub headless_none : (g : Geometry) (image : List ℕ) (h p : ℕ) → headed (live_at g image h) ≡ None → OfHeaded g image h p → ⊥
+headless_none g image h p none of = none-some of.id (sym none ∙ (header_parts g image of.id h of.listed.first).0)

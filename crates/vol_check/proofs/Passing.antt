@@ -6,21 +6,25 @@ use Rattle.geometry.specs.declared.geometry.Geometry.{Geometry}
 use Rattle.image_model.specs.Live.{live_at}
 use Rattle.image_model.specs.Places.{entry_of}
 use Rattle.image_model.specs.Tidy.{is_free_entry}
-use Rattle.image_model.specs.Sound.{HasMagics, KeepsAll}
+use Rattle.image_model.specs.Sound.{HasMagics}
 use Rattle.image_laws.specs.TidySteps.{Agree}
 use Rattle.image_laws.proofs.Sounding.{keeps-itself, keeps-on}
+use Rattle.image_laws.proofs.UsesStay.{uses-itself, uses-on}
 use Rattle.room_laws.specs.Staged.{OnlyKills}
-use Rattle.image_model.specs.Shared.{SameCounts}
 use Rattle.vol_check.specs.Stage.{Kills}
 use Rattle.vol_check.specs.Culls.{Culls, Passes}
+use Rattle.vol_check.specs.Works.{StageCut}
 
 -- ---- at each cut
 
-pub keeps_all_none : (g : Geometry) (a : List ℕ) → HasMagics g a → KeepsAll g a a
-keeps_all_none g a h = record { keeps = keeps-itself g a h; free = omega arith }
+pub stage_none : (g : Geometry) (a : List ℕ) → HasMagics g a → StageCut g a a
+stage_none g a h = record { keeps = record { keeps = keeps-itself g a h; free = omega arith }; uses = uses-itself g a }
 
-pub keeps_all_on : (g : Geometry) (a b c : List ℕ) → KeepsAll g a b → KeepsAll g b c → KeepsAll g a c
-keeps_all_on g a b c x y = record { keeps = keeps-on g a b c x.keeps y.keeps; free = omega (arith, x.free, y.free) }
+pub stage_on : (g : Geometry) (a b c : List ℕ) → StageCut g a b → StageCut g b c → StageCut g a c
+stage_on g a b c x y = record {
+  keeps = record { keeps = keeps-on g a b c x.keeps.keeps y.keeps.keeps; free = omega (arith, x.keeps.free, y.keeps.free) };
+  uses = uses-on g a b c x.uses y.uses;
+}
 
 -- ---- kills alone
 
@@ -42,8 +46,8 @@ kills_then g a b c x y = record { pages = pages_then g a b c x.pages y.pages; co
 
 -- an entry that was in use is zero, and the rest is as it was
 pub kills_one : (g : Geometry) (a c : List ℕ) (p : ℕ) → Agree g a c p → is_free_entry g a p ≡ false → entry_of g c p ≡ 0 →
-    ((q : ℕ) → (live_at g c q ≡ live_at g a q) ⊎ (live_at g c q ≡ None)) → SameCounts g a c → Kills g a c
-kills_one g a c p agree used zero live counts = record {
+    ((q : ℕ) → (live_at g c q ≡ live_at g a q) ⊎ (live_at g c q ≡ None)) → Kills g a c
+kills_one g a c p agree used zero live = record {
   pages = record {
     magic = agree.magic;
     live = live;
@@ -52,7 +56,7 @@ kills_one g a c p agree used zero live counts = record {
         (λ (there : q ≡ p → ⊥). rw (agree.entry q page there, agree.page q page there) refl)
         (cases_eq q p);
   };
-  counts = counts;
+  counts = agree.counts;
 }
 
 -- ---- turn by turn

@@ -1,4 +1,4 @@
--- What a tidy image has nothing of, and what makes an image tidy.
+-- What a tidy image has nothing of, and what makes an image neat.
 use Rattle.std.proofs.Common.{◌≡◌, ℕ, ◌%◌, ◌⊎◌, List, [], true, false, not, ◌&&◌, refl, sym, ◌∙◌, arith, ⊎_elim, inl, inr, subst}
 use Rattle.std.specs.Prelude.{Option, Some, None, is_some, is_none}
 use Rattle.std.proofs.lemmas.Bool.{cases_Bool, cases_eq, false≢true, true≢false, not-false, eq-eqb, ne_eqb}
@@ -8,9 +8,8 @@ use Rattle.image_model.specs.Places.{entry_of, is_entry_page, block_of}
 use Rattle.image_model.specs.Headers.{obj_id, span_of, names_index}
 use Rattle.image_model.specs.Live.{live_at, own}
 use Rattle.image_model.specs.Files.{index_page}
-use Rattle.image_model.specs.Kinds.{mixed_blocks}
 use Rattle.image_model.specs.Tables.{damaged_of}
-use Rattle.image_model.specs.Tidy.{IsTidy, is_wanted, is_free_entry, serves}
+use Rattle.image_model.specs.Tidy.{IsTidy, IsNeat, is_wanted, is_free_entry, serves}
 use Rattle.image_model.specs.Killed.{is_used, is_dead_entry}
 use Rattle.image_model.specs.Within.{block_number, page_number}
 use Rattle.image_laws.proofs.SpareKill.{wanted-or_spare}
@@ -19,7 +18,6 @@ use Rattle.image_laws.proofs.Wants.{wanted_parts}
 use Rattle.vol_check.specs.Stage.{IsClean}
 use Rattle.vol_check.specs.Culls.{is_doubled, is_doubled_as, HasNoDoubles, is_unwanted, IsServed}
 use Rattle.vol_check.specs.MadeFresh.{HasAllMagics}
-use Rattle.vol_check.proofs.Mixing.{unmixed}
 use Rattle.vol_check.proofs.CullStep.{used_by}
 use Rattle.vol_check.proofs.Resting.{own_self, served_index}
 
@@ -89,7 +87,7 @@ tidy_single g a t p = by (live_at g a p) refl
         (λ (other : names_index page ≡ false). rw other refl)
         (cases_Bool (names_index page))
 
--- ---- what makes an image tidy
+-- ---- what makes an image neat
 
 not_none : (o : Option (List ℕ)) → is_none o ≡ false → is_some o ≡ true
 not_none None e = absurd (true≢false e)
@@ -103,8 +101,8 @@ wanted_by g a p clean served used =
     let none : not (is_wanted g a p) ≡ false = rw (not_none (live_at g a p) alive) at (served p) in
     not-false (is_wanted g a p) none
 
-pub tidy_after : (g : Geometry) (a : List ℕ) → HasAllMagics g a → IsClean g a → IsServed g a → damaged_of g a ≡ [] → mixed_blocks g a ≡ 0 → IsTidy g a
-tidy_after g a magics clean served undamaged none = record {
+pub neat_after : (g : Geometry) (a : List ℕ) → HasAllMagics g a → IsClean g a → IsServed g a → damaged_of g a ≡ [] → IsNeat g a
+neat_after g a magics clean served undamaged = record {
   magic = magics;
   entries = λ p page. ⊎_elim
       (λ (zero : entry_of g a p ≡ 0). inl zero)
@@ -114,5 +112,4 @@ tidy_after g a magics clean served undamaged none = record {
       (cases_Bool (is_free_entry g a p)))
       (cases_eq (entry_of g a p) 0);
   undamaged = undamaged;
-  unmixed = unmixed g a none;
 }

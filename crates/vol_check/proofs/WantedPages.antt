@@ -1,6 +1,7 @@
--- The pages of the files are the wanted ones, where no page is doubled and nothing is damaged.
-use Rattle.std.proofs.Common.{◌≡◌, ℕ, zero, suc, ◌+◌, ◌-◌, ◌*◌, ◌/◌, ◌%◌, ◌<◌, ◌≤◌, List, true, false, ◌&&◌, min, Option, Some, None, Result, Ok, Err, ap, refl, sym, ◌∙◌, arith, ⊎_elim, inl, inr, subst, slice_index}
+-- The pages of the files of the table are the wanted ones.
+use Rattle.std.proofs.Common.{◌≡◌, ℕ, zero, suc, ◌+◌, ◌-◌, ◌*◌, ◌/◌, ◌%◌, ◌<◌, ◌≤◌, List, true, false, ◌&&◌, min, Option, Some, None, ap, refl, sym, ◌∙◌, arith, ⊎_elim, inl, inr, subst, slice_index}
 use Rattle.std.specs.Prelude.{is_none, is_some, option_and_then}
+use Rattle.std.proofs.Math.Bool.{and-false}
 use Rattle.std.proofs.lemmas.Bool.{cases_Bool, cases_lt, lt-ltb, le-ltb, eq-eqb, and_from, or_left, or_right}
 use Rattle.std.proofs.lemmas.Nat.{div-mul-add, mod-mul-add}
 use Rattle.std.proofs.Math.Nat.{div-add-mod, mul-le-mul_right}
@@ -8,29 +9,28 @@ use Rattle.std.proofs.lemmas.Option.{none-some, same_Some}
 use Rattle.geometry.specs.declared.geometry.Geometry.{Geometry}
 use Rattle.geometry.specs.Numbers.{head_slots, span_slots, ceil, page_count}
 use Rattle.nor_core.specs.Flash.{word_at}
-use Rattle.table_model.specs.Table.{File}
 use Rattle.table_model.specs.Room.{data_pages, index_pages}
-use Rattle.image_model.specs.declared.damage.Damage.{Damage}
 use Rattle.image_model.specs.Places.{page_of}
-use Rattle.image_model.specs.Headers.{obj_id, size_of}
+use Rattle.image_model.specs.Headers.{obj_id, span_of, size_of}
 use Rattle.image_model.specs.Live.{Live, live_at, own}
-use Rattle.image_model.specs.Files.{index_page, further, entry_number, data_of, data_page, first_missing, judged}
-use Rattle.image_model.specs.Tables.{Found, has_of, damage, damaged_of}
+use Rattle.image_model.specs.Files.{index_page, further, entry_number, data_of, data_page, first_missing}
 use Rattle.image_model.specs.Tidy.{is_number, serves, is_wanted}
 use Rattle.image_laws.proofs.Append.{find-all}
 use Rattle.image_laws.proofs.Damaged.{any_from}
-use Rattle.image_laws.proofs.Finish.{has_of-within, own-parts}
+use Rattle.image_laws.proofs.Finish.{own-parts}
 use Rattle.image_laws.proofs.Judge.{index_passes}
-use Rattle.image_laws.proofs.Wanted.{judged-whole, header-below}
+use Rattle.image_laws.proofs.Wanted.{header-below}
 use Rattle.image_laws.proofs.Wants.{wanted_from, wanted_parts}
 use Rattle.flash_view.specs.Found.{headed}
 use Rattle.flash_view.proofs.Spans.{index_known}
-use Rattle.file_find.proofs.Marking.{has_at}
+use Rattle.file_find.specs.Marks.{mark_of, IsMarked}
+use Rattle.file_find.proofs.Marking.{mark_none}
 use Rattle.file_find.proofs.Heads.{header_parts}
 use Rattle.file_find.proofs.Spans.{ceil_enough, slots_some}
-use Rattle.vol_check.specs.Culls.{IsSettled, is_unwanted}
-use Rattle.vol_check.specs.Needed.{AddsMarks, IsNamed, OfHead, OfFurther, OfFirst, OfFile, OfHeaded, HasFurthers, TellsUnwanted}
-use Rattle.vol_check.proofs.Resting.{headed_at, headed_counted, index_parts, quiet_at, served_parts, single_index}
+use Rattle.vol_check.specs.Culls.{is_unwanted}
+use Rattle.vol_check.specs.Needed.{AddsMarks, IsNamed, OfHead, OfFurther, OfFirst, OfFile, OfHeaded, IsListed, TellsListed, MarksListed, HasFurthers, TellsUnwanted, MarksUses}
+use Rattle.vol_check.proofs.Listed.{listed_whole, listed_by}
+use Rattle.vol_check.proofs.Resting.{headed_at, index_parts, served_parts, served_index}
 
 -- ---- where the entry of a span stands
 
@@ -122,29 +122,6 @@ module _ (g : Geometry) (pages : Live) (head : List ℕ) where
       (λ (index : (j : ℕ) × (j < index_pages g (size_of head)) × (index_page g pages j ≡ Some p)). let w = index_parts (pages p) index.0 (index_passes g pages index.0 p index.2) in (w.0, w.1))
       (λ (entry : (s : ℕ) × (s < data_pages g (size_of head)) × (entry_number g pages head s ≡ Some p) × (is_some (data_of (pages p) s) ≡ true)). there (pages p) entry.0 entry.3)
       (served_parts g pages head p e)
-
--- ---- the file of a header page
-
-whole_by : (has : Found) (m id q : ℕ) (r : Result File Damage) → damage has m id (Some (q, r)) ≡ None → (f : File) × (r ≡ Ok f)
-whole_by has m id q (Err e) quiet = absurd (none-some _ (sym quiet))
-whole_by has m id q (Ok f) quiet = (f, refl)
-
-module _ (g : Geometry) (image : List ℕ) (settled : IsSettled g image) (id h : ℕ) (heads : headed (live_at g image h) ≡ Some id) where
-  first : index_page g (own (live_at g image) id) 0 ≡ Some h
-  first =
-      let w = headed_at (live_at g image h) id heads in
-      rw (w.4, w.3) at (single_index g image h w.0 (settled.single h) w.1 w.2)
-
-  -- it is whole
-  pub is_whole : first_missing g (own (live_at g image) id) (page_of g image h) ≡ None
-  unfolding damaged_of
-  is_whole =
-      let r = judged g (own (live_at g image) id) id (page_of g image h) in
-      let has = has_at g image id h first in
-      let within = has_of-within g image id h r has in
-      let quiet : damage (has_of g (live_at g image)) 0x7FFF id (Some (h, r)) ≡ None = rw has at (quiet_at (has_of g (live_at g image)) 0x7FFF id settled.undamaged within.0 within.1) in
-      let w = whole_by (has_of g (live_at g image)) 0x7FFF id h r quiet in
-      judged-whole g (own (live_at g image) id) id (page_of g image h) w.0 w.1
 
 -- ---- a whole file
 
@@ -241,14 +218,18 @@ module _ (g : Geometry) (image : List ℕ) (id h : ℕ) (first : index_page g (o
 
 -- ---- all files
 
-module _ (g : Geometry) (image : List ℕ) (settled : IsSettled g image) where
+module _ (g : Geometry) (image : List ℕ) where
+  -- a page of a file of the table
+  of_served : (h p : ℕ) (of : OfHeaded g image h p) → serves g (own (live_at g image) of.id) (page_of g image h) p ≡ true
+  of_served h p of = file_served g image of.id h (listed_whole g image of.id h of.listed) of.listed.first p of.of
+
   files_wanted : (n p : ℕ) → OfFirst (OfHeaded g image) n p → is_wanted g image p ≡ true
   unfolding is_wanted
   files_wanted n p of =
       let id = of.of.id in
-      let at = first g image settled id of.number of.of.heads in
+      let at = of.of.listed.first in
       let header = index_known g image id 0 of.number at in
-      let served = file_served g image id of.number (is_whole g image settled id of.number of.of.heads) at p of.of.of in
+      let served = of_served of.number p of.of in
       let w = served_page g (own (live_at g image) id) (page_of g image of.number) p served in
       let v = own-parts (live_at g image) id p w.0 w.1 in
       wanted_from g (live_at g image) p (record {
@@ -256,7 +237,7 @@ module _ (g : Geometry) (image : List ℕ) (settled : IsSettled g image) where
         h = of.number;
         head = page_of g image of.number;
         is = v.0;
-        in_table = rw v.1 (headed_counted g image id of.number (page_of g image of.number) settled.undamaged at header);
+        in_table = rw v.1 of.of.listed.in_table;
         at = rw v.1 at;
         header = rw v.1 header;
         served = rw v.1 served;
@@ -270,7 +251,36 @@ module _ (g : Geometry) (image : List ℕ) (settled : IsSettled g image) where
       let parts = header_parts g image id w.h w.at in
       let same : w.head ≡ page_of g image w.h = same_Some w.head (page_of g image w.h) (sym w.header ∙ index_known g image id 0 w.h w.at) in
       let served : serves g (own (live_at g image) id) (page_of g image w.h) p ≡ true = subst (λ (x : List ℕ). serves g (own (live_at g image) id) x p ≡ true) same w.served in
-      record { number = w.h; below = parts.1; of = record { id = id; heads = parts.0; of = served_file g image id w.h w.at p served } }
+      record { number = w.h; below = parts.1; of = record { id = id; listed = record { first = w.at; in_table = w.in_table }; of = served_file g image id w.h w.at p served } }
+
+  live_wanted : (p : ℕ) → is_wanted g image p ≡ true → is_some (live_at g image p) ≡ true
+  unfolding is_wanted
+  live_wanted p e = ap is_some (wanted_parts g (live_at g image) p e).is
+
+  -- ---- marks that are added
+
+  -- a header page that a file of the table needs is that file's own
+  own_head : (h p id : ℕ) → OfHeaded g image h p → headed (live_at g image p) ≡ Some id → IsListed g image id p
+  own_head h p id of heads =
+      let w = served_page g (own (live_at g image) of.id) (page_of g image h) p (of_served h p of) in
+      let v = own-parts (live_at g image) of.id p w.0 w.1 in
+      let x = headed_at (live_at g image p) id heads in
+      let same : w.0 ≡ x.0 = same_Some w.0 x.0 (sym v.0 ∙ x.1) in
+      let page : own (live_at g image) of.id p ≡ Some x.0 = subst (λ (y : List ℕ). own (live_at g image) of.id p ≡ Some y) same w.1 in
+      let at : index_page g (own (live_at g image) of.id) (span_of x.0) ≡ Some p = served_index g (own (live_at g image) of.id) (page_of g image h) x.0 p page x.2 (of_served h p of) in
+      let to : of.id ≡ id = sym v.1 ∙ ap (λ (y : List ℕ). obj_id y % 0x8000) same ∙ x.4 in
+      let first : index_page g (own (live_at g image) of.id) 0 ≡ Some p = subst (λ (span : ℕ). index_page g (own (live_at g image) of.id) span ≡ Some p) x.3 at in
+      subst (λ (i : ℕ). IsListed g image i p) to (record { first = first; in_table = of.listed.in_table })
+
+  -- so marks of 3 tell header pages of files of the table as those before did
+  pub listed_still : (least n : ℕ) (a b : List ℕ) → least ≤ 3 → MarksListed g image least a → AddsMarks (page_count g) (OfFirst (OfHeaded g image) n) a b → MarksListed g image least b
+  listed_still least n a b few was adds h low =
+      ⊎_elim
+      (λ (of : OfFirst (OfHeaded g image) n h).
+      let is : slice_index b h ≡ 3 = adds.set h low of in
+      record { listed = λ id heads more. own_head of.number h id of.of heads; enough = λ id listed. omega (arith, is, few) })
+      (λ (same : slice_index b h ≡ slice_index a h). subst (λ (m : ℕ). TellsListed g image least h m) (sym same) (was h low))
+      (adds.rest h low)
 
   -- marks of these pages alone tell what is unwanted
   pub marks_wanted : (zeros marks : List ℕ) → ((p : ℕ) → p < page_count g → slice_index zeros p ≡ 0) → AddsMarks (page_count g) (OfFirst (OfHeaded g image) (page_count g)) zeros marks →
@@ -282,5 +292,24 @@ module _ (g : Geometry) (image : List ℕ) (settled : IsSettled g image) where
       (λ (no : is_wanted g image p ≡ false). ⊎_elim
       (λ (of : OfFirst (OfHeaded g image) (page_count g) p). let bad : true ≡ false = sym (files_wanted (page_count g) p of) ∙ no in absurd (cc))
       (λ (same : slice_index marks p ≡ slice_index zeros p). rw (no, same ∙ clear p low) refl)
+      (adds.rest p low))
+      (cases_Bool (is_wanted g image p))
+
+  -- a page with the mark of a file of the table is its header page, and wanted
+  listed_wanted : (p mark : ℕ) (o : Option ℕ) → headed (live_at g image p) ≡ o → mark ≡ mark_of g image p → 3 ≤ mark → is_wanted g image p ≡ true
+  listed_wanted p mark None e is more = let none = mark_none g image p (sym e) in absurd (omega (arith, is, none, more))
+  listed_wanted p mark (Some id) e is more = files_wanted (p + 1) p (record { number = p; below = omega arith; of = record { id = id; listed = listed_by g image id p mark e is more; of = inl (inl refl) } })
+
+  -- added to the marks of header pages they tell what is wanted
+  pub marks_uses : (heads marks : List ℕ) → IsMarked g image heads → AddsMarks (page_count g) (OfFirst (OfHeaded g image) (page_count g)) heads marks → MarksUses g image marks
+  marks_uses heads marks marked adds p low =
+      ⊎_elim
+      (λ (yes : is_wanted g image p ≡ true). rw (yes, live_wanted p yes, adds.set p low (wanted_files p yes)) refl)
+      (λ (no : is_wanted g image p ≡ false). ⊎_elim
+      (λ (of : OfFirst (OfHeaded g image) (page_count g) p). let bad : true ≡ false = sym (files_wanted (page_count g) p of) ∙ no in absurd (cc))
+      (λ (same : slice_index marks p ≡ slice_index heads p). ⊎_elim
+      (λ (few : slice_index marks p < 3). no ∙ sym (rw (lt-ltb (slice_index marks p) 3 few) (and-false (is_some (live_at g image p)))))
+      (λ (more : 3 ≤ slice_index marks p). let bad : true ≡ false = sym (listed_wanted p (slice_index marks p) (headed (live_at g image p)) refl (same ∙ marked.each p low) more) ∙ no in absurd (cc))
+      (cases_lt (slice_index marks p) 3))
       (adds.rest p low))
       (cases_Bool (is_wanted g image p))

@@ -6,14 +6,14 @@ use Rattle.nor_core.specs.declared.state.NorState.{Ghosts as NorOf}
 use Rattle.nor_core.specs.Count.{Rose}
 use Rattle.nor_core.specs.Device.{OnlyReads, Changes}
 use Rattle.nor_core.proofs.Cuts.{wider, read_after, reads_then, after_reads, unchanged}
-use Rattle.image_model.specs.Sound.{HasMagics, KeepsAll}
+use Rattle.image_model.specs.Sound.{HasMagics}
 use Rattle.flash_view.specs.declared.view.View.{View}
 use Rattle.flash_view.specs.Same.{OnlyLooks, OnlyCounts}
 use Rattle.flash_view.proofs.Looking.{looks_counts}
 use Rattle.flash_view.specs.Steps.{Step, Stepped, failed}
 use Rattle.flash_view.proofs.Stepped.{looked, look_fails, after_look, stepped_then, ends_as, fails, framed_then, framed_counts}
-use Rattle.vol_check.specs.Works.{Work, Worked}
-use Rattle.vol_check.proofs.Passing.{keeps_all_none, keeps_all_on}
+use Rattle.vol_check.specs.Works.{Work, Worked, StageCut}
+use Rattle.vol_check.proofs.Passing.{stage_none, stage_on}
 
 -- A part of a work that began on image a can begin on image b, and has nothing to do where the whole has nothing to do.
 pub record Goes {S T : Type 0} (g : Geometry) (a b : List ℕ) (part : Work S) (whole : Work T) : Type 0 where
@@ -26,10 +26,10 @@ moved P {g} {h} {a} {b} e f p = subst (λ (k : Geometry). P k b) (sym e) (subst 
 
 -- the step of a work that ended with k and left image b, told as y, and of one that gave a fault
 abbrev ended : {S T : Type 0} → Work S → S → T → List ℕ → Step T
-ended work k y b = record { needs = λ g was. HasMagics g was × work.needs g was; cut = λ g was image. KeepsAll g was image; done = λ g was now z. (now ≡ b) × (z ≡ y) × KeepsAll g was now × work.done g was now k }
+ended work k y b = record { needs = λ g was. HasMagics g was × work.needs g was; cut = StageCut; done = λ g was now z. (now ≡ b) × (z ≡ y) × StageCut g was now × work.done g was now k }
 
 abbrev faulty : {S T : Type 0} → Work S → Step T
-faulty work = record { needs = λ g was. HasMagics g was × work.needs g was; cut = λ g was image. KeepsAll g was image; done = λ g was now z. ⊥ }
+faulty work = record { needs = λ g was. HasMagics g was × work.needs g was; cut = StageCut; done = λ g was now z. ⊥ }
 
 -- no work
 abbrev nothing : Work (Unit {0})
@@ -46,13 +46,13 @@ module _ {N : Type 0} {nor : NorOf N} where
     -- a look alone
     pub look_works : {y : T} → OnlyLooks old new → On old whole (λ g a. whole.done g a a y) → Worked old new (Ok y) whole
     look_works looks law = record {
-      step = looked looks (λ e. absurd (cc)) tt (λ tells need. (keeps_all_none _ _ need.0, law tells need.0 need.1));
+      step = looked looks (λ e. absurd (cc)) tt (λ tells need. (stage_none _ _ need.0, law tells need.0 need.1));
       idle = λ tells magics need quiet. looks.reads;
     }
 
     -- a fault in a look
     pub look_stops : {r : Result T Failed} → OnlyLooks old new → Rose (nor.faults old.nor.now) (nor.faults new.nor.now) → IsErr r → Worked old new r whole
-    look_stops looks rose is = record { step = look_fails looks rose is (λ tells need. keeps_all_none _ _ need.0); idle = λ tells magics need quiet. looks.reads }
+    look_stops looks rose is = record { step = look_fails looks rose is (λ tells need. stage_none _ _ need.0); idle = λ tells magics need quiet. looks.reads }
 
   module _ {T : Type 0} {old mid new : View N nor} {r : Result T Failed} {work : Work T} where
     -- a work after a look
@@ -93,7 +93,7 @@ module _ {N : Type 0} {nor : NorOf N} where
 
     pub works_as : {x : S} {y : T} → Worked old new (Ok x) first →
         On old whole (λ g a. Goes g a a first whole) →
-        On old whole (λ g a. KeepsAll g a (nor.bytes new.nor.now) → first.done g a (nor.bytes new.nor.now) x → whole.done g a (nor.bytes new.nor.now) y) → Worked old new (Ok y) whole
+        On old whole (λ g a. StageCut g a (nor.bytes new.nor.now) → first.done g a (nor.bytes new.nor.now) x → whole.done g a (nor.bytes new.nor.now) y) → Worked old new (Ok y) whole
     works_as call start law = record {
       step = ends_as call.step (λ tells need. record { needs = (need.0, (start tells need.0 need.1).needs); cut = λ c k. k })
           (λ tells need done. law tells need.0 need.1 (call.step.cuts.now tells (need.0, (start tells need.0 need.1).needs)) done);
@@ -121,7 +121,7 @@ module _ {N : Type 0} {nor : NorOf N} where
         record {
           step = stepped_then call.step fault (λ tells need. record { needs = (need.0, (start tells need.0 need.1).needs); cut = λ c k. k }) (λ tells need done.
               let kept = call.step.cuts.now tells (need.0, (start tells need.0 need.1).needs) in
-              record { needs = (kept.keeps.sound.magics, (go tells need.0 need.1 done).needs); cut = λ c k. keeps_all_on _ _ _ _ kept k; done = λ c z d. absurd (d) });
+              record { needs = (kept.keeps.keeps.sound.magics, (go tells need.0 need.1 done).needs); cut = λ c k. stage_on _ _ _ _ kept k; done = λ c z d. absurd (d) });
           idle = idle_then call next start go;
         }
 
@@ -129,7 +129,7 @@ module _ {N : Type 0} {nor : NorOf N} where
     pub works_end : {k : S} {y : T} → Worked old mid (Ok x) first → Worked mid new (Ok k) last →
         On old whole (λ g a. Goes g a a first whole) →
         On old whole (λ g a. first.done g a (nor.bytes mid.nor.now) x → Goes g a (nor.bytes mid.nor.now) last whole) →
-        On old whole (λ g a. first.done g a (nor.bytes mid.nor.now) x → KeepsAll g a (nor.bytes new.nor.now) → last.done g (nor.bytes mid.nor.now) (nor.bytes new.nor.now) k → whole.done g a (nor.bytes new.nor.now) y) → Worked old new (Ok y) whole
+        On old whole (λ g a. first.done g a (nor.bytes mid.nor.now) x → StageCut g a (nor.bytes new.nor.now) → last.done g (nor.bytes mid.nor.now) (nor.bytes new.nor.now) k → whole.done g a (nor.bytes new.nor.now) y) → Worked old new (Ok y) whole
     works_end {k} {y} call next start go law =
         let now = nor.bytes new.nor.now in
         let told : Stepped {nor = nor} failed mid new (Ok y) (ended last k y now) = ends_as next.step (λ tells need. record { needs = need; cut = λ c k. k }) (λ tells need done. (refl, refl, next.step.cuts.now tells need, done)) in
@@ -137,9 +137,9 @@ module _ {N : Type 0} {nor : NorOf N} where
           step = stepped_then call.step told (λ tells need. record { needs = (need.0, (start tells need.0 need.1).needs); cut = λ c k. k }) (λ tells need done.
               let kept = call.step.cuts.now tells (need.0, (start tells need.0 need.1).needs) in
               record {
-                needs = (kept.keeps.sound.magics, (go tells need.0 need.1 done).needs);
-                cut = λ c k. keeps_all_on _ _ _ _ kept k;
-                done = λ c z d. rw (d.0, d.1) (law tells need.0 need.1 done (keeps_all_on _ _ _ _ kept (subst (λ (l : List ℕ). KeepsAll old.geometry (nor.bytes mid.nor.now) l) d.0 d.2))
+                needs = (kept.keeps.keeps.sound.magics, (go tells need.0 need.1 done).needs);
+                cut = λ c k. stage_on _ _ _ _ kept k;
+                done = λ c z d. rw (d.0, d.1) (law tells need.0 need.1 done (stage_on _ _ _ _ kept (subst (λ (l : List ℕ). StageCut old.geometry (nor.bytes mid.nor.now) l) d.0 d.2))
                     (subst (λ (l : List ℕ). last.done old.geometry (nor.bytes mid.nor.now) l k) d.0 d.3));
               });
           idle = idle_then call next start go;
@@ -161,7 +161,7 @@ module _ {N : Type 0} {nor : NorOf N} where
             framed = framed_counts counts;
             cause = λ e. rose;
             means = tt;
-            cuts = after_reads counts.reads (unchanged new.nor.now _ (λ tells need. keeps_all_none _ _ need.0));
+            cuts = after_reads counts.reads (unchanged new.nor.now _ (λ tells need. stage_none _ _ need.0));
             ends = λ tells need. refl;
           };
           idle = λ tells magics need quiet. counts.reads;
@@ -183,9 +183,9 @@ module _ {N : Type 0} {nor : NorOf N} where
       nor.tells new.nor.now → HasMagics new.geometry (nor.bytes new.nor.now)
   work_magics {new = new} call magics need tells =
       let before = call.step.cuts.cuts.told_before tells in
-      subst (λ (k : Geometry). HasMagics k (nor.bytes new.nor.now)) (sym call.step.framed.same.geometry) (call.step.cuts.now before (magics before, need before)).keeps.sound.magics
+      subst (λ (k : Geometry). HasMagics k (nor.bytes new.nor.now)) (sym call.step.framed.same.geometry) (call.step.cuts.now before (magics before, need before)).keeps.keeps.sound.magics
 
-  -- each image that a cut in it may leave keeps the first one
+  -- each image that a cut in it may leave keeps the first one, with the uses of its pages
   pub work_changes : {T : Type 0} {old new : View N nor} {r : Result T Failed} {work : Work T} → Worked old new r work → (nor.tells old.nor.now → HasMagics old.geometry (nor.bytes old.nor.now)) →
-      (nor.tells old.nor.now → work.needs old.geometry (nor.bytes old.nor.now)) → Changes nor old.nor.now new.nor.now (KeepsAll old.geometry)
+      (nor.tells old.nor.now → work.needs old.geometry (nor.bytes old.nor.now)) → Changes nor old.nor.now new.nor.now (StageCut old.geometry)
   work_changes call magics need = wider call.step.cuts (λ tells image cut. cut (magics tells, need tells))

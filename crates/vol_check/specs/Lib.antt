@@ -4,4 +4,6 @@ pub mod MadeFresh
 pub mod Checks
 pub mod Noted
 pub mod Needed
+pub mod Used
+pub mod Surveys
 pub mod Works

@@ -1,5 +1,5 @@
 -- The pages that the files of a table need, and marks of them.
-use Rattle.std.specs.Prelude.{◌≡◌, ℕ, ◌+◌, ◌-◌, ◌*◌, ◌<◌, ◌⊎◌, min, List, true, ◌==◌, ◌&&◌, Some, is_some, slice_index}
+use Rattle.std.specs.Prelude.{◌≡◌, ℕ, ◌+◌, ◌-◌, ◌*◌, ◌<◌, ◌≤◌, ◌⊎◌, min, List, true, not, nat_lt, ◌==◌, ◌&&◌, Some, is_some, slice_index}
 use Rattle.geometry.specs.declared.geometry.Geometry.{Geometry}
 use Rattle.geometry.specs.Numbers.{page_count, head_slots, span_slots, ceil}
 use Rattle.nor_core.specs.Flash.{word_at}
@@ -8,12 +8,14 @@ use Rattle.image_model.specs.Places.{page_of}
 use Rattle.image_model.specs.Headers.{size_of}
 use Rattle.image_model.specs.Live.{live_at, own}
 use Rattle.image_model.specs.Files.{index_page}
+use Rattle.image_model.specs.Tables.{has_of, counted}
+use Rattle.image_model.specs.Tidy.{is_wanted}
 use Rattle.flash_view.specs.Found.{headed}
 use Rattle.vol_check.specs.Culls.{is_unwanted}
 
--- Of so many pages those of a kind were marked by 1, and the others have the mark that they had.
+-- Of so many pages those of a kind were marked by 3, and the others have the mark that they had.
 pub record AddsMarks (pages : ℕ) (P : ℕ → Type 0) (was now : List ℕ) : Type 0 where
-  pub set : (p : ℕ) → p < pages → P p → slice_index now p ≡ 1
+  pub set : (p : ℕ) → p < pages → P p → slice_index now p ≡ 3
   pub rest : (p : ℕ) → p < pages → P p ⊎ (slice_index now p ≡ slice_index was p)
 
 -- Page p is one of n pages whose numbers stand in an index page from byte `at` on.
@@ -48,11 +50,25 @@ OfFile g image id h p =
     let spans = data_pages g (size_of (page_of g image h)) in
     OfHead g (page_of g image h) h p ⊎ OfFirst (λ k q. OfFurther g image id k spans q) (ceil (spans - head_slots g) (span_slots g)) p
 
--- Page h is the header page of an id, and page p one of its file.
+-- Page h is the header page of an id that has a file in the table.
+pub record IsListed (g : Geometry) (image : List ℕ) (id h : ℕ) : Type 0 where
+  pub first : index_page g (own (live_at g image) id) 0 ≡ Some h
+  pub in_table : is_some (counted (has_of g (live_at g image)) 0x7FFF (has_of g (live_at g image) id)) ≡ true
+
+-- Page h is the header page of an id that has a file in the table, and page p one of that file.
 pub record OfHeaded (g : Geometry) (image : List ℕ) (h p : ℕ) : Type 0 where
   pub id : ℕ
-  pub heads : headed (live_at g image h) ≡ Some id
+  pub listed : IsListed g image id h
   pub of : OfFile g image id h p
+
+-- Page h is the header page of an id that has a file in the table exactly where it is a header page and its mark is at least so great.
+pub record TellsListed (g : Geometry) (image : List ℕ) (least h mark : ℕ) : Type 0 where
+  pub listed : (id : ℕ) → headed (live_at g image h) ≡ Some id → least ≤ mark → IsListed g image id h
+  pub enough : (id : ℕ) → IsListed g image id h → least ≤ mark
+
+-- each page of the volume has a mark that tells so
+abbrev pub MarksListed : Geometry → List ℕ → (least : ℕ) → List ℕ → Type 0
+MarksListed g image least marks = (h : ℕ) → h < page_count g → TellsListed g image least h (slice_index marks h)
 
 -- by its mark a page is unwanted exactly where it is live and the mark is 0
 abbrev pub TellsUnwanted : Geometry → List ℕ → ℕ → ℕ → Type 0
@@ -61,3 +77,11 @@ TellsUnwanted g image p mark = is_unwanted g image p ≡ (is_some (live_at g ima
 -- each page of the volume has a mark that tells so
 abbrev pub MarksWanted : Geometry → List ℕ → List ℕ → Type 0
 MarksWanted g image marks = (p : ℕ) → p < page_count g → TellsUnwanted g image p (slice_index marks p)
+
+-- by its mark a page is wanted exactly where it is live and the mark is 3 or more
+abbrev pub TellsWanted : Geometry → List ℕ → ℕ → ℕ → Type 0
+TellsWanted g image p mark = is_wanted g image p ≡ (is_some (live_at g image p) && not (nat_lt mark 3))
+
+-- each page of the volume has a mark that tells so
+abbrev pub MarksUses : Geometry → List ℕ → List ℕ → Type 0
+MarksUses g image marks = (p : ℕ) → p < page_count g → TellsWanted g image p (slice_index marks p)

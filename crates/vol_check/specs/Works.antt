@@ -7,8 +7,8 @@ use Rattle.nor_core.specs.Device.{OnlyReads}
 use Rattle.page_layout.specs.declared.header.PageHeader.{PageHeader}
 use Rattle.image_model.specs.Live.{live_at, own}
 use Rattle.image_model.specs.Files.{index_page}
-use Rattle.image_model.specs.Kinds.{mixed_blocks}
 use Rattle.image_model.specs.Killed.{is_dead_entry}
+use Rattle.image_model.specs.Shared.{SameUses}
 use Rattle.image_model.specs.Sound.{HasMagics, KeepsAll}
 use Rattle.image_model.specs.Tables.{damaged_of}
 use Rattle.image_model.specs.Tidy.{IsTidy}
@@ -30,9 +30,14 @@ pub record Work (T : Type 0) : Type 1 where
   pub done : Geometry → List ℕ → List ℕ → T → Type 0
   pub idle : Geometry → List ℕ → Type 0
 
--- as a step: a cut in it keeps the image
+-- A cut in a work keeps the image, and each page is used as before.
+pub record StageCut (g : Geometry) (was image : List ℕ) : Type 0 where
+  pub keeps : KeepsAll g was image
+  pub uses : SameUses g was image
+
+-- as a step, with what a cut in it leaves
 abbrev pub step_of : {T : Type 0} → Work T → Step T
-step_of work = record { needs = λ g was. HasMagics g was × work.needs g was; cut = λ g was image. KeepsAll g was image; done = work.done }
+step_of work = record { needs = λ g was. HasMagics g was × work.needs g was; cut = StageCut; done = work.done }
 
 -- A call did that work, and only read where there was nothing to do.
 pub record Worked {N T : Type 0} {nor : NorOf N} (old new : View N nor) (result : Result T Failed) (work : Work T) : Type 0 where
@@ -95,4 +100,4 @@ culling_pages = record { needs = λ g was. Unit {0}; done = λ g was now culled.
 -- ---- the whole check
 
 abbrev pub checking : Work Report
-checking = record { needs = λ g was. mixed_blocks g was ≡ 0; done = λ g was now report. Checked g was now report; idle = λ g was. IsTidy g was }
+checking = record { needs = λ g was. Unit {0}; done = λ g was now report. Checked g was now report; idle = λ g was. IsTidy g was }

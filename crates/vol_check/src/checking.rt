@@ -2,17 +2,15 @@ ghost use Rattle.std.specs.Prelude.{◌≡◌, ◌≤◌, length, OnErr, OnOk, I
 ghost use Rattle.geometry.specs.Numbers.{usable, write_refusal, check_need};
 ghost use Rattle.nor_core.specs.Count.{Rose};
 ghost use Rattle.nor_core.specs.Device.{Changes, OnlyReads};
-ghost use Rattle.image_model.specs.Kinds.{mixed_blocks as the_mixed_blocks};
-ghost use Rattle.image_model.specs.Sound.{HasMagics, KeepsAll};
+ghost use Rattle.image_model.specs.Sound.{HasMagics};
 ghost use Rattle.image_model.specs.Tidy.{IsTidy};
 ghost use Rattle.flash_view.specs.Same.{IsSameView};
-ghost use Rattle.vol_check.specs.Checks.{IsWritable, IsRefusal, IsOfStages, CountsMixed, Checked};
-ghost use Rattle.vol_check.specs.Works.{Worked, culling_pages, checking};
+ghost use Rattle.vol_check.specs.Checks.{IsWritable, IsRefusal, IsOfStages, Checked};
+ghost use Rattle.vol_check.specs.Works.{Worked, StageCut, culling_pages, checking};
 
 use crate::damaged::cull_damaged;
 use crate::doubled::cull_doubles;
 use crate::entries::clean_entries;
-use crate::mixed::mixed_blocks;
 use crate::spoiled::make_fresh;
 use crate::unwanted::cull_rest;
 use crate::{CheckErr, Report};
@@ -65,10 +63,10 @@ fn clean<N: Nor>(v: &mut View<'_, N>, marks: &mut [u8]) -> Result<Report, Failed
 /// The stages of the check of a mounted volume before its cleaning, in whatever state a cut or another program left it. The block
 /// without its magic is made fresh, if there is one; then every entry is killed that is neither deleted, free nor that
 /// of a page that a file of the table needs: first those over pages that aren't live, then doubled index pages, then the
-/// header pages of damaged files, then the rest. So damaged files go, and the table stays, also at a cut. Refused, with
-/// nothing written, are a volume that may not be written (`Wrong`) and one of which a block holds live pages of both
-/// kinds (`Mixed`). Where the device fails, what was done stays, and the check can be called again. The marks are bytes
-/// for notes, at least `Geometry::check_need`.
+/// header pages of damaged files, then the rest. So damaged files go, and the table stays, also at a cut. Blocks that hold
+/// wanted pages of both kinds are left as they are, and they find the same places: whether the image fits over can be told
+/// before. Refused, with nothing written, is only a volume that may not be written (`Wrong`). Where the device fails, what
+/// was done stays, and the check can be called again. The marks are bytes for notes, at least `Geometry::check_need`.
 #[tactic(auto, using(flash_view::proofs::Looking::same_then))]
 pub fn check_stages<N: Nor>(v: &mut View<'_, N>, marks: &mut [u8]) -> Result<Report, CheckErr>
     requires room { check_need v.old.geometry ≤ length marks.old }
@@ -79,20 +77,13 @@ pub fn check_stages<N: Nor>(v: &mut View<'_, N>, marks: &mut [u8]) -> Result<Rep
     ensures few { OnOk result (usable v.old.geometry ≤ 32766) }
     ensures cause { IsErrOf result CheckErr.DeviceFault → Rose (N.faults v.old.nor.now) (N.faults v.new.nor.now) }
     ensures same { IsSameView v.old v.new }
-    ensures changes { Changes N.NorState v.old.nor.now v.new.nor.now (KeepsAll v.old.geometry) }
-    ensures unmixed { N.tells v.old.nor.now → OnOk result (the_mixed_blocks v.old.geometry (N.bytes v.old.nor.now) ≡ 0) }
-    ensures mixed { N.tells v.old.nor.now → IfErr result (CountsMixed v.old.geometry (N.bytes v.old.nor.now)) }
+    ensures changes { Changes N.NorState v.old.nor.now v.new.nor.now (StageCut v.old.geometry) }
     ensures refused { IfErr result (λ why. IsRefusal why → OnlyReads N.NorState v.old.nor.now v.new.nor.now) }
     ensures done { N.tells v.old.nor.now → IfOk result (λ report. Checked v.old.geometry (N.bytes v.old.nor.now) (N.bytes v.new.nor.now) report) }
     ensures idle { N.tells v.old.nor.now → IsTidy v.old.geometry (N.bytes v.old.nor.now) → OnlyReads N.NorState v.old.nor.now v.new.nor.now }
 {
     if let Err(why) = v.geometry.writable() {
         return Err(CheckErr::Wrong(why));
-    }
-    match mixed_blocks(v) {
-        Ok(0) => {}
-        Ok(blocks) => return Err(CheckErr::Mixed { blocks }),
-        Err(Failed) => return Err(CheckErr::DeviceFault),
     }
     match clean(v, marks) {
         Ok(report) => Ok(report),

@@ -7,10 +7,15 @@ mod damaged;
 mod doubled;
 mod entries;
 mod marking;
-mod mixed;
+mod parting;
 mod report;
 mod spoiled;
+mod surveying;
+mod tallies;
 mod unwanted;
+mod uses;
 
 pub use checking::check_stages;
+pub use parting::{Parting, Survey};
 pub use report::{CheckErr, Report};
+pub use surveying::{judge_parting, survey};

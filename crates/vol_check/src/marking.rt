@@ -1,5 +1,5 @@
 ghost use Rattle.std.specs.Prelude.{◌≡◌, ℕ, ◌+◌, ◌-◌, ◌*◌, ◌<◌, ◌≤◌, ◌^◌, ◌⊎◌, length, slice_index, is_some, None, OnErr, OnOk, IfOk};
-ghost use Rattle.geometry.specs.Numbers.{page_count, head_slots, span_slots, ceil};
+ghost use Rattle.geometry.specs.Numbers.{page_count, check_need, head_slots, span_slots, ceil};
 ghost use Rattle.nor_core.specs.Count.{Rose};
 ghost use Rattle.table_model.specs.Room.{data_pages as the_data_pages};
 ghost use Rattle.image_model.specs.Places.{page_of};
@@ -8,9 +8,10 @@ ghost use Rattle.image_model.specs.Live.{live_at, own};
 ghost use Rattle.image_model.specs.Files.{index_page, first_missing};
 ghost use Rattle.flash_view.specs.Same.{OnlyLooks};
 ghost use Rattle.vol_check.specs.Culls.{IsSettled};
-ghost use Rattle.vol_check.specs.Needed.{AddsMarks, IsNamed, OfHead, OfFurther, OfFirst, OfFile, OfHeaded, HasFurthers, MarksWanted};
+ghost use Rattle.vol_check.specs.Needed.{AddsMarks, IsNamed, OfHead, OfFurther, OfFirst, OfFile, OfHeaded, TellsListed, MarksListed, HasFurthers, MarksWanted, MarksUses};
 ghost use Rattle.vol_check.specs.Noted.{IsIndexPage};
 
+use file_find::survey as mark_heads;
 use flash_view::View;
 use nor_core::{Failed, Nor, NorState};
 use page_layout::{
@@ -18,8 +19,8 @@ use page_layout::{
     head_slots_at, read_word,
 };
 
-// The mark of a page that a file needs.
-const NEEDED: u8 = 1;
+/// The least mark of a page that a file of the table needs, as header pages have it.
+pub(crate) const NEEDED: u8 = 3;
 
 /// Sets so many bytes to 0.
 pub(crate) fn clear(bytes: &mut [u8], count: usize)
@@ -174,11 +175,12 @@ fn mark_file<N: Nor>(
     mark_furthers(v, marks, id, spans)
 }
 
-// Marks the pages that the file of a live index page with this header needs, if it is a header page.
+// Marks the pages that the file of a live index page with this header needs, if it is a header page with a mark so great.
 #[tactic(auto, using(flash_view::proofs::Looking::looks_then))]
 fn mark_headed<N: Nor>(
     v: &mut View<'_, N>,
     marks: &mut [u8],
+    least: u8,
     page: u16,
     head: PageHeader,
 ) -> Result<(), Failed>
@@ -186,25 +188,30 @@ fn mark_headed<N: Nor>(
     requires page { page < page_count v.old.geometry }
     ensures cause { OnErr result (Rose (N.faults v.old.nor.now) (N.faults v.new.nor.now)) }
     ensures looks { OnlyLooks v.old v.new }
-    ensures told { N.tells v.old.nor.now → IsSettled v.old.geometry (N.bytes v.old.nor.now) → IsIndexPage v.old.geometry (N.bytes v.old.nor.now) page head → OnOk result (AddsMarks (page_count v.old.geometry) (OfHeaded v.old.geometry (N.bytes v.old.nor.now) page) marks.old marks.new) }
+    ensures told { N.tells v.old.nor.now → TellsListed v.old.geometry (N.bytes v.old.nor.now) least page (slice_index marks.old page) → IsIndexPage v.old.geometry (N.bytes v.old.nor.now) page head → OnOk result (AddsMarks (page_count v.old.geometry) (OfHeaded v.old.geometry (N.bytes v.old.nor.now) page) marks.old marks.new) }
 {
     if head.span != 0 {
+        return Ok(());
+    }
+    if marks[usize::from(page)] < least {
         return Ok(());
     }
     mark_file(v, marks, head.object(), page)
 }
 
-// Marks the pages that the files need.
+// Marks the pages that files need: those of header pages with a mark so great. Marks that are made don't count as such, since a
+// file needs no header page but its own.
 #[tactic(auto, using(flash_view::proofs::Looking::looks_then))]
-fn mark_files<N: Nor>(v: &mut View<'_, N>, marks: &mut [u8]) -> Result<(), Failed>
+fn mark_files<N: Nor>(v: &mut View<'_, N>, marks: &mut [u8], least: u8) -> Result<(), Failed>
     requires room { page_count v.old.geometry ≤ length marks.old }
+    requires least { least ≤ 3 }
     ensures cause { OnErr result (Rose (N.faults v.old.nor.now) (N.faults v.new.nor.now)) }
     ensures looks { OnlyLooks v.old v.new }
-    ensures told { N.tells v.old.nor.now → IsSettled v.old.geometry (N.bytes v.old.nor.now) → OnOk result (AddsMarks (page_count v.old.geometry) (OfFirst (OfHeaded v.old.geometry (N.bytes v.old.nor.now)) (page_count v.old.geometry)) marks.old marks.new) }
+    ensures told { N.tells v.old.nor.now → MarksListed v.old.geometry (N.bytes v.old.nor.now) least marks.old → OnOk result (AddsMarks (page_count v.old.geometry) (OfFirst (OfHeaded v.old.geometry (N.bytes v.old.nor.now)) (page_count v.old.geometry)) marks.old marks.new) }
 {
     let mut at = 0;
     'pages: while let Some((page, head)) = v.next_live(at, INDEX_BIT, FREE - 1)? {
-        mark_headed(v, marks, page, head)?;
+        mark_headed(v, marks, least, page, head)?;
         at = u32::from(page) + 1;
     }
     Ok(())
@@ -219,5 +226,18 @@ pub(crate) fn mark_wanted<N: Nor>(v: &mut View<'_, N>, marks: &mut [u8]) -> Resu
     ensures told { N.tells v.old.nor.now → IsSettled v.old.geometry (N.bytes v.old.nor.now) → OnOk result (MarksWanted v.old.geometry (N.bytes v.old.nor.now) marks.new) }
 {
     clear(marks, v.geometry.pages() as usize);
-    mark_files(v, marks)
+    mark_files(v, marks, 0)
+}
+
+/// Marks the pages that a file of the table needs in any image, with 3 or more: the header pages are judged first, and then
+/// those of files of the table tell the others. Of pages that aren't live the marks tell nothing.
+#[tactic(auto, using(flash_view::proofs::Looking::looks_then))]
+pub(crate) fn mark_uses<N: Nor>(v: &mut View<'_, N>, marks: &mut [u8]) -> Result<(), Failed>
+    requires room { check_need v.old.geometry ≤ length marks.old }
+    ensures cause { OnErr result (Rose (N.faults v.old.nor.now) (N.faults v.new.nor.now)) }
+    ensures looks { OnlyLooks v.old v.new }
+    ensures told { N.tells v.old.nor.now → OnOk result (MarksUses v.old.geometry (N.bytes v.old.nor.now) marks.new) }
+{
+    mark_heads(v, marks)?;
+    mark_files(v, marks, NEEDED)
 }

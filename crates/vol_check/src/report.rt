@@ -19,7 +19,8 @@ pub struct Report {
 pub enum CheckErr {
     /// The numbers don't allow writing.
     Wrong(GeoErr),
-    /// So many blocks hold live pages of both kinds.
+    /// So many blocks are shared, and they don't fit over: they hold wanted pages of both kinds, and too few places are free for their
+    /// index pages.
     Mixed {
         /// How many.
         blocks: u32,

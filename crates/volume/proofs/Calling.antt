@@ -26,7 +26,7 @@ use Rattle.write_window.specs.Runs.{Run}
 use Rattle.call_model.specs.Safe.{IsSafe, Holds as HoldsImage}
 use Rattle.call_model.specs.Memory.{RunWaits}
 use Rattle.call_model.specs.Calls.{Stands, Publishes, Answers}
-use Rattle.call_model.proofs.Safety.{holds_safe, holds_then, holds_itself, safe_as}
+use Rattle.call_model.proofs.Safety.{holds_safe, holds_then, holds_itself, safe_as, safe_of_tidy}
 use Rattle.call_model.proofs.Parts.{among-left, among-right}
 use Rattle.call_model.proofs.After.{tell-stays, after-settled, settled-among, fills-as_writes}
 use Rattle.volume.specs.declared.stage.Stage.{Stage}
@@ -211,7 +211,7 @@ module _ {N : Type 0} {nor : NorOf N} where
   cuts_none ask v =
       let a = nor.bytes v.nor.now in
       unchanged v.nor.now (λ was image. (m : Moment) → Publishes v.geometry (memory v) m ask was image)
-      (λ tells m at. (safe_as v.geometry a a (holds_itself v.geometry a), settled_first (table_of v.geometry a) m (steps v.geometry (has_spare v.geometry a) m.state ask) at.table))
+      (λ tells m at. (safe_as v.geometry a a (holds_itself v.geometry a) at.tidy, settled_first (table_of v.geometry a) m (steps v.geometry (has_spare v.geometry a) m.state ask) at.table))
 
   -- ---- a volume that takes no calls
 
@@ -315,8 +315,9 @@ module _ {N : Type 0} {nor : NorOf N} where
         IsSafe old.geometry (nor.bytes old.nor.now) image × IsAmong (table_of old.geometry image) (from_settled m (steps old.geometry (has_spare old.geometry (nor.bytes old.nor.now)) m.state ask))
     cut_by m here image cut =
         let g = old.geometry in
-        let was = nor.bytes old.nor.now in (
-          holds_safe g was (nor.bytes mid.nor.now) image (stood m here).1 (record { sound = λ magics. cut.sound; mends = cut.mends }),
+        let was = nor.bytes old.nor.now in
+        let tidy = (image_mid m here).tidy in (
+          holds_safe g was (nor.bytes mid.nor.now) image (stood m here).1 tidy (safe_of_tidy g (nor.bytes mid.nor.now) image tidy cut.sound cut.mends),
           among_step (table_of g image) m (steps g (has_spare g was) m.state ask) (settled-among g was (memory old) m here.image) (subst (λ (b : Bool). IsAmong (table_of g image) (m.state.table ∷ steps g b m.state ask)) (spare m here) cut.table),
         )
 

@@ -290,7 +290,7 @@ module _ {N : Type 0} {nor : NorOf N} where
         same = same;
         cuts = subst (λ (d : N). Changes nor old.nor.now d (λ was image. (m : Moment) → Publishes old.geometry (memory_of old) m (Writes fd bytes) was image)) (sym device)
             (unchanged old.nor.now (λ was image. (m : Moment) → Publishes old.geometry (memory_of old) m (Writes fd bytes) was image) (λ tells m at.
-            (safe_as old.geometry (nor.bytes old.nor.now) (nor.bytes old.nor.now) (holds_itself old.geometry (nor.bytes old.nor.now)), is_first (table_of old.geometry (nor.bytes old.nor.now)) m.settled (m.waiting ++ steps old.geometry (has_spare old.geometry (nor.bytes old.nor.now)) m.state (Writes fd bytes)) at.table)));
+            (safe_as old.geometry (nor.bytes old.nor.now) (nor.bytes old.nor.now) (holds_itself old.geometry (nor.bytes old.nor.now)) at.tidy, is_first (table_of old.geometry (nor.bytes old.nor.now)) m.settled (m.waiting ++ steps old.geometry (has_spare old.geometry (nor.bytes old.nor.now)) m.state (Writes fd bytes)) at.table)));
         answers = λ m takes here no_fault whole. subst (λ (d : N). Answers nor old.geometry old.nor.now d (memory_of new) m (Writes fd bytes) (Number n)) (sym device) (answers m here);
         refused = λ m takes none. absurd (busy none);
         collects = λ m takes none. absurd (busy none);

@@ -3,6 +3,7 @@ pub mod Staying
 pub mod Magics
 pub mod Acting
 pub mod Clearing
+pub mod Finishing
 pub mod Continuing
 pub mod WriteCalls
 pub mod Calling

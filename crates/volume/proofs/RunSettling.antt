@@ -28,7 +28,7 @@ use Rattle.flash_view.specs.declared.view.View.{View}
 use Rattle.flash_view.specs.Steps.{Stepped}
 use Rattle.call_model.specs.Safe.{IsSafe}
 use Rattle.call_model.specs.Memory.{Memory, Waits, RunWaits, IsAt}
-use Rattle.call_model.proofs.Safety.{holds_itself, safe_as}
+use Rattle.call_model.proofs.Safety.{holds_itself, safe_as, safe_of_tidy}
 use Rattle.call_model.proofs.Settling.{wait_settles, wait_ends}
 use Rattle.volume.specs.declared.stage.Stage.{Stage}
 use Rattle.volume.specs.declared.stage.Stage.TheVariants.{Failed}
@@ -90,7 +90,7 @@ module _ (g : Geometry) (was : List ℕ) (memory : Memory) (m : Moment) (r : Run
   -- what a cut leaves then was waiting
   pub cut_waits : (image : List ℕ) → WriteCut g r.start r.bytes (file_in g was r.id) was image → IsSafe g was image × IsAmong (table_of g image) (from_settled m [])
   cut_waits image cut = (
-    record { sound = λ magics. cut.sound; mends = cut.mends },
+    safe_of_tidy g was image at.tidy cut.sound cut.mends,
     wait_settles g m r (file_in g was r.id) (table_of g image) [] waits.0 settled_there
         (subst (λ (t : List File). IsAmong (table_of g image) (t ∷ file_steps g r.start r.bytes (file_in g was r.id) t)) at.table cut.table),
   )
@@ -143,7 +143,7 @@ module _ {N : Type 0} {nor : NorOf N} where
         same = same_none v;
         slots = refl;
         cuts = unchanged v.nor.now (λ was image. (m : Moment) → IsAt g was (memory v) m → IsSafe g was image × IsAmong (table_of g image) (from_settled m []))
-            (λ tells m at. (safe_as g a a (holds_itself g a), settled_first (table_of g a) m [] at.table));
+            (λ tells m at. (safe_as g a a (holds_itself g a) at.tidy, settled_first (table_of g a) m [] at.table));
         done = (refl, none, sym (ap is_some none));
         stops = tt;
         idle = λ e. (refl, refl);
@@ -241,7 +241,7 @@ module _ {N : Type 0} {nor : NorOf N} where
       let never : takes_calls v ≡ true → ⊥ = λ takes. let no : true ≡ false = sym takes ∙ shut in cc in
       record {
         cuts = unchanged v.nor.now (λ was image. (m : Moment) → IsAt g was (memory v) m → IsSafe g was image × IsAmong (table_of g image) (from_settled m []))
-            (λ tells m at. (safe_as g a a (holds_itself g a), settled_first (table_of g a) m [] at.table));
+            (λ tells m at. (safe_as g a a (holds_itself g a) at.tidy, settled_first (table_of g a) m [] at.table));
         stands = λ m takes. absurd (never takes);
         cause = λ e. absurd (fault e);
         differs = λ d e. absurd (damage d e);

@@ -1,18 +1,20 @@
 // The whole check of a mounted volume.
-ghost use Rattle.std.specs.Prelude.{◌≡◌, ◌≤◌, length, OnOk, IfErr, true};
+ghost use Rattle.std.specs.Prelude.{◌≡◌, ◌≤◌, length, Ok, OnOk, IfErr, true, false};
 ghost use Rattle.geometry.specs.Numbers.{check_need, rows_need};
 ghost use Rattle.nor_core.specs.Count.{Rose};
+ghost use Rattle.nor_core.specs.Device.{OnlyReads};
 ghost use Rattle.image_model.specs.Sound.{HasMagics};
 ghost use Rattle.image_model.specs.Tidy.{IsTidy};
 ghost use Rattle.flash_view.specs.Same.{IsSameView, OnlyCounts};
 ghost use Rattle.flash_view.specs.Steps.{Stepped};
-ghost use Rattle.volume.specs.Checking.{ChecksVolume, as_check_err, check_stopped, sweeping, clearing};
+ghost use Rattle.block_gc.specs.Partings.{parting};
+ghost use Rattle.volume.specs.Checking.{ChecksVolume, Judges, as_check_err, check_stopped, sweeping, clearing, dividing, finishing};
 
-use block_gc::{RoomErr, make_room};
+use block_gc::{RoomErr, make_room, part_mixed};
 use flash_view::{StepErr, View};
 use free_search::{count_all, free_blocks};
 use nor_core::{Failed, Nor, NorState};
-use vol_check::{CheckErr, Report, check_stages};
+use vol_check::{CheckErr, Parting, Report, check_stages, judge_parting};
 
 // How a check failed whose cleaning did.
 fn check_err(why: StepErr) -> CheckErr
@@ -46,8 +48,61 @@ fn clear<N: Nor>(v: &mut View<'_, N>) -> Result<u32, CheckErr>
     }
 }
 
-// Checks a mounted volume: the stages first, and then, where fewer than two blocks are free, blocks are cleaned until two are free or
-// none that is worth cleaning can be cleaned any more.
+// Whether blocks are shared. A volume that isn't written is refused, and one whose shared blocks don't fit over.
+fn judge<N: Nor>(v: &mut View<'_, N>, marks: &mut [u8]) -> Result<bool, CheckErr>
+    requires room { check_need v.old.geometry ≤ length marks.old }
+    ensures { Judges v.old v.new result }
+{
+    if let Err(why) = v.geometry.writable() {
+        return Err(CheckErr::Wrong(why));
+    }
+    match judge_parting(v, marks) {
+        Err(Failed) => Err(CheckErr::DeviceFault),
+        Ok(Parting::None) => Ok(false),
+        Ok(Parting::Fits) => Ok(true),
+        Ok(Parting::Over { blocks }) => Err(CheckErr::Mixed { blocks }),
+    }
+}
+
+// Moves the index pages out of shared blocks.
+fn part<N: Nor>(v: &mut View<'_, N>) -> Result<(), CheckErr>
+    ensures { Stepped check_stopped v.old v.new result parting }
+{
+    match part_mixed(v) {
+        Ok(()) => Ok(()),
+        Err(why) => Err(check_err(why)),
+    }
+}
+
+// Parts the shared blocks, where there are some, and tells how many blocks are free then: so many are before.
+fn divide<N: Nor>(v: &mut View<'_, N>, shares: bool, free: u32) -> Result<u32, CheckErr>
+    ensures step { Stepped check_stopped v.old v.new result (dividing shares free) }
+    ensures idle { shares ≡ false → (result ≡ Ok free) × OnlyReads N.NorState v.old.nor.now v.new.nor.now }
+{
+    if !shares {
+        return Ok(free);
+    }
+    part(v)?;
+    match free_blocks(v) {
+        Err(Failed) => Err(CheckErr::DeviceFault),
+        Ok(free) => Ok(free),
+    }
+}
+
+// Parts them so, and then cleans blocks where fewer than two are free, and tells how many are.
+fn part_and_clear<N: Nor>(v: &mut View<'_, N>, shares: bool, free: u32) -> Result<u32, CheckErr>
+    ensures step { Stepped check_stopped v.old v.new result (finishing shares free) }
+    ensures idle { shares ≡ false → 2 ≤ free → OnlyReads N.NorState v.old.nor.now v.new.nor.now }
+{
+    let left = divide(v, shares, free)?;
+    if left >= 2 {
+        return Ok(left);
+    }
+    clear(v)
+}
+
+// Checks a mounted volume: the stages first; then the shared blocks are parted, where there are some; and then, where fewer than two blocks
+// are free, blocks are cleaned until two are free or none that is worth cleaning can be cleaned any more.
 #[tactic(auto, using(flash_view::proofs::Looking::same_then))]
 fn check_pages<N: Nor>(v: &mut View<'_, N>, marks: &mut [u8]) -> Result<Report, CheckErr>
     requires room { check_need v.old.geometry ≤ length marks.old }
@@ -55,11 +110,9 @@ fn check_pages<N: Nor>(v: &mut View<'_, N>, marks: &mut [u8]) -> Result<Report, 
     ensures same { IsSameView v.old v.new }
     ensures checks { ChecksVolume N.NorState v.old.geometry v.old.nor.now v.new.nor.now result }
 {
+    let shares = judge(v, marks)?;
     let report = check_stages(v, marks)?;
-    if report.free_blocks >= 2 {
-        return Ok(report);
-    }
-    let free_blocks = clear(v)?;
+    let free_blocks = part_and_clear(v, shares, report.free_blocks)?;
     Ok(Report {
         free_blocks,
         ..report

@@ -229,12 +229,12 @@ impl<'b, N: Nor> Volume<'b, N> {
     }
 
     /// Checks a mounted volume, so that it takes calls, in whatever state a cut or another program left it: a block
-    /// without its magic is made fresh, and every entry is killed that no file needs, those of damaged files too. Where fewer than two
-    /// blocks are free then, blocks are cleaned until two are, or none that is worth cleaning can be cleaned: after a cut on a volume
-    /// with two free blocks there are two. Then every descriptor is closed, and the counts of blocks are kept. Refused, with nothing
-    /// written, are a volume that may not be written (`Wrong`) and one of which a block holds live pages of both kinds (`Mixed`). Where
-    /// the device fails, or a page that is moved reads otherwise than it was written (`Damaged`), what was done stays, and the check can
-    /// be called again.
+    /// without its magic is made fresh, and every entry is killed that no file needs, those of damaged files too. Out of blocks that
+    /// hold pages of both kinds, as other programs make them, the index pages are moved. Where fewer than two blocks are free then, blocks
+    /// are cleaned until two are, or none that is worth cleaning can be cleaned: after a cut on a volume with two free blocks there are
+    /// two. Then every descriptor is closed, and the counts of blocks are kept. Refused, with nothing written, are a volume that may not
+    /// be written (`Wrong`) and one with too few free pages for the index pages of such blocks (`Mixed`). Where the device fails, or a
+    /// page that is moved reads otherwise than it was written (`Damaged`), what was done stays, and the check can be called again.
     pub fn check(&mut self) -> Result<Report, CheckErr>
         requires mounted { is_mounted self.old.stage ≡ true }
         ensures checks { ChecksVolume N.NorState self.old.geometry self.old.nor.now self.new.nor.now result }

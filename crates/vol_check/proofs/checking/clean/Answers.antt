@@ -67,4 +67,4 @@ returns g c =
     let was = culled g at.In_ok-culled (counted g at.In_ok-count_all (ready g at.In_ok-dead)) in
     let looks = c.free_blocks.ensures.looks.only in
     works_as (works_read was looks) (λ tells magics need. record { needs = tt; idle = λ tidy. tidy })
-    (λ tells magics unmixed kept done. checked _ _ _ _ _ _ _ unmixed done.ready done.passes kept refl (rw (looks.reads.bytes) (rw was.step.framed.same.geometry at (c.in_ok-free_blocks.ensures.looks.told (was.step.cuts.cuts.told tells)))))
+    (λ tells magics need kept done. checked _ _ _ _ _ _ _ done.ready done.passes kept refl (rw (looks.reads.bytes) (rw was.step.framed.same.geometry at (c.in_ok-free_blocks.ensures.looks.told (was.step.cuts.cuts.told tells)))))

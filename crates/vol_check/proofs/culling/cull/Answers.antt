@@ -1,6 +1,5 @@
 use Rattle.std.proofs.Common.{◌≡◌, true, false, sym, ◌∙◌}
 use Rattle.flash_view.proofs.Stepped.{after_look, view_image}
-use Rattle.vol_check.proofs.Counts.{counts_kept}
 use Rattle.vol_check.proofs.CullStep.{culls, alive}
 use Rattle.vol_check.proofs.Working.{look_works, look_stops}
 use Rattle.vol_check.proofs.culling.cull.Goals as goal
@@ -19,6 +18,6 @@ pub returns : goal.returns
 returns g c =
     let seen = c.in_ok-is_alive.ensures in
     record {
-      step = after_look seen.looks (counts_kept seen.looks c.requires c.kill.ensures.live c.kill.ensures.done) (λ tells need. culls _ _ _ (view_image c.args.v.now (g.met.N.Nor.sized _) tells) need.0 need.1 (seen.byte tells));
+      step = after_look seen.looks c.kill.ensures.live (λ tells need. culls _ _ _ (view_image c.args.v.now (g.met.N.Nor.sized _) tells) need.0 need.1 (seen.byte tells));
       idle = λ tells magics need none. absurd (none);
     }

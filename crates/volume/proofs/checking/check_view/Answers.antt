@@ -1,6 +1,6 @@
 use Rattle.std.proofs.lemmas.Result.{err_from_is_err_and}
 use Rattle.std.proofs.Common.{arith}
-use Rattle.volume.proofs.Clearing.{count_fails, count_keeps}
+use Rattle.volume.proofs.Finishing.{count_fails, count_keeps}
 use Rattle.volume.proofs.checking.check_view.Goals as goal
 
 pub returns-in_err-report-clause-checks : goal.returns-in_err-report-clause-checks

@@ -1,0 +1,19 @@
+-- The uses of the first `i` entries, and those to come.
+use Rattle.std.proofs.Common.{◌≡◌}
+use Rattle.geometry.specs.Numbers.{entries}
+use Rattle.flash_view.specs.Same.{OnlyLooks}
+use Rattle.vol_check.specs.Needed.{MarksUses}
+use Rattle.vol_check.specs.Used.{FewUses}
+use Rattle.vol_check.proofs.UseSums.{UsesTo}
+use Rattle.vol_check.proofs.uses.block_uses.Given as goal
+
+abbrev pub invariant-loop-i : goal.invariant-loop-i
+invariant-loop-i g l = record {
+  looks : OnlyLooks l.fn.v l.v;
+  geometry : l.g ≡ l.fn.v.geometry;
+  end : l.i-end ≡ entries l.fn.v.geometry;
+  few : FewUses l.i l.all;
+  told :
+      (let image = g.N.NorState.bytes l.fn.v.nor.now in
+      g.N.NorState.tells l.fn.v.nor.now → MarksUses l.fn.v.geometry image l.marks → UsesTo l.fn.v.geometry image l.block l.i l.all);
+}
