@@ -1,0 +1,25 @@
+use Rattle.std.proofs.Common.{rules, refl}
+use Rattle.flash_view.proofs.Stepped.{view_image}
+use Rattle.volume.proofs.Scrubbings.{scrubs_on}
+use Rattle.volume.proofs.scrubbing.scrub_on.Goals as goal
+
+pub returns-clause-kept : goal.returns-clause-kept
+returns-clause-kept g c = let same = c.scrub_step-result.ensures.step.framed.same in search (rules, same)
+
+pub returns-clause-behind : goal.returns-clause-behind
+returns-clause-behind g c = let same = c.scrub_step-result.ensures.step.framed.same in search (rules, same.behind)
+
+pub returns-clause-few : goal.returns-clause-few
+returns-clause-few g c = let same = c.scrub_step-result.ensures.step.framed.same in search (rules, same.few)
+
+pub returns-clause-faults : goal.returns-clause-faults
+returns-clause-faults g c = let same = c.scrub_step-result.ensures.step.framed.same in search (rules, same.faults)
+
+pub returns-clause-asked : goal.returns-clause-asked
+returns-clause-asked g c = λ w. let same = c.scrub_step-result.ensures.step.framed.same in search (rules, same.asked refl w)
+
+pub returns-clause-scrubs : goal.returns-clause-scrubs
+returns-clause-scrubs g c = let step = c.scrub_step-result.ensures.step in search (rules, scrubs_on (λ tells. view_image _ (g.met.N.Nor.sized _) tells) step refl)
+
+pub returns-clause-table : goal.returns-clause-table
+returns-clause-table g c = λ on. let same = c.scrub_step-result.ensures.step.framed.same in search (rules, same, c.scrub_step-result.new.v.table on)
