@@ -120,15 +120,15 @@ module _ {N : Type 0} {nor : NorOf N} where
     same = settles.same;
     slots = settles.slots;
     cuts = settles.cuts;
-    done = λ m open here. settles.stands m here;
+    done = λ m takes_too here. settles.stands m here;
     closed = λ shut. absurd (let no : true ≡ false = sym takes ∙ shut in cc);
-    among = λ open. settles.stops.among;
+    among = λ takes_too. settles.stops.among;
     cause = λ e. settles.stops.cause (same_err why FsFault e);
     differs = λ d e. settles.stops.differs d (same_err why (FsDamaged d) e);
     failed = settles.stops.failed;
-    asked = λ open failed. inl (settles.stops.asked open failed);
+    asked = λ takes_too failed. inl (settles.stops.asked takes_too failed);
     stays = ⊎_elim (λ (stood : new.stage ≡ old.stage). inl stood) (λ (broke : (has_failed new ≡ true) × (breaks (Refuses why) ≡ true)). inr broke.0) settles.stops.stays;
-    empty = λ open. tt;
+    empty = λ takes_too. tt;
   }
 
   -- ---- a step where nothing waits
@@ -221,15 +221,15 @@ module _ {N : Type 0} {nor : NorOf N} where
             same = same_then settles.same same;
             slots = did.slots ∙ settles.slots;
             cuts = cuts_by;
-            done = λ m open here. done_by scrub m here (subst (λ (r : Result Scrub StepErr). MatchResult r (ScrubDone old.geometry limit (nor.bytes mid.nor.now) (nor.bytes new.nor.now)) (λ why. why ≡ DeviceFault)) is (scrubs.ends (stood m here).0.tells (tidy_mid m here)));
+            done = λ m takes_too here. done_by scrub m here (subst (λ (r : Result Scrub StepErr). MatchResult r (ScrubDone old.geometry limit (nor.bytes mid.nor.now) (nor.bytes new.nor.now)) (λ why. why ≡ DeviceFault)) is (scrubs.ends (stood m here).0.tells (tidy_mid m here)));
             closed = λ shut. absurd (let no : true ≡ false = sym takes ∙ shut in cc);
-            among = λ open. tt;
+            among = λ takes_too. tt;
             cause = λ e. absurd (cc);
             differs = λ d e. absurd (cc);
             failed = tt;
-            asked = λ open failed. absurd (whole_still old.stage new.stage takes stage failed);
+            asked = λ takes_too failed. absurd (whole_still old.stage new.stage takes stage failed);
             stays = inl stage;
-            empty = λ open. did.run ∙ none;
+            empty = λ takes_too. did.run ∙ none;
           }
       by_result (Err why) is =
           let stage : new.stage ≡ stage_after (had || did.wrote) (Refuses (as_fs_err why)) =
@@ -239,18 +239,18 @@ module _ {N : Type 0} {nor : NorOf N} where
             same = same_then settles.same same;
             slots = did.slots ∙ settles.slots;
             cuts = cuts_by;
-            done = λ m open here. ap as_fs_err (subst (λ (r : Result Scrub StepErr). MatchResult r (ScrubDone old.geometry limit (nor.bytes mid.nor.now) (nor.bytes new.nor.now)) (λ w. w ≡ DeviceFault)) is (scrubs.ends (stood m here).0.tells (tidy_mid m here)));
+            done = λ m takes_too here. ap as_fs_err (subst (λ (r : Result Scrub StepErr). MatchResult r (ScrubDone old.geometry limit (nor.bytes mid.nor.now) (nor.bytes new.nor.now)) (λ w. w ≡ DeviceFault)) is (scrubs.ends (stood m here).0.tells (tidy_mid m here)));
             closed = λ shut. absurd (let no : true ≡ false = sym takes ∙ shut in cc);
-            among = λ open. all_settle why;
+            among = λ takes_too. all_settle why;
             cause = λ e.
                 let fault : ◌≡◌ {A = Result Scrub StepErr} did.first (Err DeviceFault) = is ∙ ap (λ (w : StepErr). Err w) (fault_is why (same_err (as_fs_err why) FsFault e)) in
-                let rose = scrubs.cause (sym fault) in let more = settles.same.faults in omega arith;
+                let rose = scrubs.cause fault in let more = settles.same.faults in omega arith;
             differs = λ d e. damage_is why d (same_err (as_fs_err why) (FsDamaged d) e) (subst (λ (r : Result Scrub StepErr). IfErr r is_apart) is scrubs.means);
             failed = λ broke. ⊎_elim
                 (λ (failed : (is_failed new.stage ≡ true) × ((had || did.wrote) ≡ true)). inl failed.0)
                 (λ (stood : (new.stage ≡ Checked) × ((had || did.wrote) ≡ false)). let no = neither stood.1 in inr (untouched no.0 no.1 stood.0))
                 led;
-            asked = λ open failed. ⊎_elim
+            asked = λ takes_too failed. ⊎_elim
                 (λ (broke : (is_failed new.stage ≡ true) × ((had || did.wrote) ≡ true)). asked_by broke.1)
                 (λ (stood : (new.stage ≡ Checked) × ((had || did.wrote) ≡ false)). absurd (whole_still old.stage new.stage takes (stood.0 ∙ sym (open_is old.stage takes)) failed))
                 led;
@@ -258,7 +258,7 @@ module _ {N : Type 0} {nor : NorOf N} where
                 (λ (failed : (is_failed new.stage ≡ true) × ((had || did.wrote) ≡ true)). inr failed.0)
                 (λ (stood : (new.stage ≡ Checked) × ((had || did.wrote) ≡ false)). inl (stood.0 ∙ sym (open_is old.stage takes)))
                 led;
-            empty = λ open. tt;
+            empty = λ takes_too. tt;
           }
 
       pub scrubs_by : Scrubs limit old new result

@@ -102,6 +102,18 @@ impl<'b, N: Nor> Volume<'b, N> {
         }
     }
 
+    // Does a scrub on a volume that takes calls.
+    fn scrub_open(&mut self, limit: u16) -> Result<Scrub, FsErr>
+        requires takes { takes_calls self.old ≡ true }
+        requires limit { (1 ≤ limit) × (limit ≤ 32767) }
+        ensures { Scrubs limit self.old self.new result }
+    {
+        match self.begin() {
+            Err(why) => Err(why),
+            Ok(had) => self.scrub_settled(had, limit),
+        }
+    }
+
     /// Moves the least worn block in use, where three blocks are free and each of them is more worn by the limit, 1 to 32767 erase
     /// counts: written bytes that wait are put onto the chip first, then one block is cleaned, or none. Refused are a volume that takes no
     /// calls (`Failed`), and a device that fails: `DeviceFault`, or `Damaged` where a page reads otherwise than it was written; then the
@@ -113,9 +125,6 @@ impl<'b, N: Nor> Volume<'b, N> {
         if self.stage != Stage::Checked {
             return Err(FsErr::Failed);
         }
-        match self.begin() {
-            Err(why) => Err(why),
-            Ok(had) => self.scrub_settled(had, limit),
-        }
+        self.scrub_open(limit)
     }
 }

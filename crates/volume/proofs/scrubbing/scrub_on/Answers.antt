@@ -1,5 +1,5 @@
-use Rattle.std.proofs.Common.{rules, refl}
-use Rattle.flash_view.proofs.Stepped.{view_image}
+use Rattle.std.proofs.Common.{rules, refl, arith}
+use Rattle.image_model.specs.Places.{IsImage}
 use Rattle.volume.proofs.Scrubbings.{scrubs_on}
 use Rattle.volume.proofs.scrubbing.scrub_on.Goals as goal
 
@@ -19,7 +19,10 @@ pub returns-clause-asked : goal.returns-clause-asked
 returns-clause-asked g c = λ w. let same = c.scrub_step-result.ensures.step.framed.same in search (rules, same.asked refl w)
 
 pub returns-clause-scrubs : goal.returns-clause-scrubs
-returns-clause-scrubs g c = let step = c.scrub_step-result.ensures.step in search (rules, scrubs_on (λ tells. view_image _ (g.met.N.Nor.sized _) tells) step refl)
+returns-clause-scrubs g c =
+    let step = c.scrub_step-result.ensures.step in
+    let image : g.N.NorState.tells c.args.nor.now → IsImage c.args.g (g.N.NorState.bytes c.args.nor.now) = λ tells. record { len = (let sized = g.met.N.Nor.sized _ tells in omega (arith, sized, c.requires.fits)) } in
+    search (rules, scrubs_on image step refl)
 
 pub returns-clause-table : goal.returns-clause-table
 returns-clause-table g c = λ on. let same = c.scrub_step-result.ensures.step.framed.same in search (rules, same, c.scrub_step-result.new.v.table on)

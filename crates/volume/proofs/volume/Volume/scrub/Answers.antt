@@ -1,10 +1,7 @@
-use Rattle.volume.proofs.Scrubbings.{scrubs_by, scrubs_stopped, scrubs_closed}
+use Rattle.std.proofs.Common.{◌≡◌, false, rules}
+use Rattle.volume.specs.Stages.{takes_calls}
+use Rattle.volume.proofs.Scrubbings.{scrubs_closed}
 use Rattle.volume.proofs.volume.Volume.scrub.Goals as goal
 
-pub returns-in-Err : goal.returns-in-Err
-returns-in-Err g c = scrubs_stopped c.args.limit c.in-Err.why c.begin.requires (rw c.in-Err.is at c.begin.ensures)
-
-pub returns-in-Ok : goal.returns-in-Ok
-returns-in-Ok g c =
-    let begun = rw c.in-Ok.is at c.begin.ensures in
-    scrubs_by c.args.limit c.in-Ok.had c.begin.requires begun c.scrub_settled.ensures.same begun.done.1 c.scrub_settled.result c.scrub_settled.ensures.scrubs
+pub returns-then-ne : goal.returns-then-ne
+returns-then-ne g c = let shut : takes_calls c.args.self.now ≡ false = search rules in scrubs_closed c.args.limit c.args.self.now shut
