@@ -64,13 +64,13 @@ next_rises g was now block before after low count others some few =
     let is : old ≡ next_count g was = rest_of old (next_count g was) small refl some in
     let up : erase_count g now block + 1 ≤ new = reaches (λ b. has_magic g now b) (λ b. erase_count g now b + 1) block 0 0 g.blocks (omega arith) (omega (arith, low)) (after block low) in
     let most : new ≤ next_count g was + 1 = stays_below (λ b. has_magic g now b) (λ b. erase_count g now b + 1) (next_count g was + 1) 0 0 g.blocks (omega arith)
-        (λ q from to. ⊎_elim
-        (λ (here : q ≡ block). let same : erase_count g now q ≡ erase_count g now block = rw here refl in omega (arith, same, count))
-        (λ (there : q ≡ block → ⊥).
-        let same = others q (omega (arith, to)) there in
-        let below = reaches (λ b. has_magic g was b) (λ b. erase_count g was b + 1) q 0 0 g.blocks (omega arith) (omega (arith, to)) (before q (omega (arith, to))) in
-        omega (arith, same, below, is))
-        (cases_eq q block)) in
+    (λ q from to. ⊎_elim
+    (λ (here : q ≡ block). let same : erase_count g now q ≡ erase_count g now block = rw here refl in omega (arith, same, count))
+    (λ (there : q ≡ block → ⊥).
+    let same = others q (omega (arith, to)) there in
+    let below = reaches (λ b. has_magic g was b) (λ b. erase_count g was b + 1) q 0 0 g.blocks (omega arith) (omega (arith, to)) (before q (omega (arith, to))) in
+    omega (arith, same, below, is))
+    (cases_eq q block)) in
     let exact : new ≡ next_count g was + 1 = omega (arith, up, most, count) in
     rw exact (small_rest (next_count g was + 1) few)
   where
