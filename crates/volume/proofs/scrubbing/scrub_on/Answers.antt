@@ -22,7 +22,7 @@ pub returns-clause-scrubs : goal.returns-clause-scrubs
 returns-clause-scrubs g c =
     let step = c.scrub_step-result.ensures.step in
     let image : g.N.NorState.tells c.args.nor.now → IsImage c.args.g (g.N.NorState.bytes c.args.nor.now) = λ tells. record { len = (let sized = g.met.N.Nor.sized _ tells in omega (arith, sized, c.requires.fits)) } in
-    search (rules, scrubs_on image step refl)
+    scrubs_on {nor = g.N.NorState} image step refl
 
 pub returns-clause-table : goal.returns-clause-table
 returns-clause-table g c = λ on. let same = c.scrub_step-result.ensures.step.framed.same in search (rules, same, c.scrub_step-result.new.v.table on)
