@@ -1,5 +1,6 @@
-use Rattle.std.proofs.Common.{rules, refl, arith}
+use Rattle.std.proofs.Common.{◌≡◌, rules, refl, arith}
 use Rattle.image_model.specs.Places.{IsImage}
+use Rattle.volume.specs.Scrubs.{ScrubsOn}
 use Rattle.volume.proofs.Scrubbings.{scrubs_on}
 use Rattle.volume.proofs.scrubbing.scrub_on.Goals as goal
 
@@ -22,7 +23,9 @@ pub returns-clause-scrubs : goal.returns-clause-scrubs
 returns-clause-scrubs g c =
     let step = c.scrub_step-result.ensures.step in
     let image : g.N.NorState.tells c.args.nor.now → IsImage c.args.g (g.N.NorState.bytes c.args.nor.now) = λ tells. record { len = (let sized = g.met.N.Nor.sized _ tells in omega (arith, sized, c.requires.fits)) } in
-    scrubs_on {nor = g.N.NorState} image step refl
+    let made = scrubs_on {nor = g.N.NorState} image step refl in
+    let given_back : (d : _) → d ≡ c.scrub_step-result.new.v.nor.now → ScrubsOn g.N.NorState c.args.g c.args.limit c.args.nor.now d c.scrub_step-result.new.v.wrote c.scrub_step-result.result = λ d e. rw e made in
+    given_back _ (search rules)
 
 pub returns-clause-table : goal.returns-clause-table
 returns-clause-table g c = λ on. let same = c.scrub_step-result.ensures.step.framed.same in search (rules, same, c.scrub_step-result.new.v.table on)
