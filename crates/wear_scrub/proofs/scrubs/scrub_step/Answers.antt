@@ -49,8 +49,8 @@ returns-in_err-clean-in-Ok-Moved g c =
           (λ tells need.
           let pick : IsPick view.geometry (g.N.NorState.bytes view.nor.now) c.args.limit (Moved block age) = rw c.in-Ok-Moved.field-0-is at (seen.told tells need.1) in
           moves _ _ c.args.limit block age need.0 need.1 low pick);
-      rest = tt;
-      few = λ tells tidy. tt;
+      rest = rw is tt;
+      few = λ tells tidy. rw is tt;
     }
 
 pub returns-in_ok-clean-in-Ok-Moved : goal.returns-in_ok-clean-in-Ok-Moved
@@ -68,7 +68,8 @@ returns-in_ok-clean-in-Ok-Moved g c =
       few = λ tells tidy.
           let can = can_clean view.geometry (g.N.NorState.bytes view.nor.now) c.args.limit block tidy (pick tells tidy).1 in
           let bound = rw (seen.looks.same.geometry, seen.looks.reads.bytes, seen.looks.reads.writes) at (clean.few (seen.looks.reads.told tells)) in
-          bound can;
+          let most = bound can in
+          omega (arith, most);
       step =
           ends_as (after_look seen.looks c.in_ok-clean-in-Ok-Moved.ensures.step (λ tells can. record { needs = can; cut = λ d cut. cut; done = λ d ok done. done }))
           (λ tells need. moves _ _ c.args.limit block age need.0 need.1 low (pick tells need.1))
