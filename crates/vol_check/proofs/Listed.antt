@@ -1,5 +1,5 @@
 -- Header pages of files of the table, by their marks.
-use Rattle.std.proofs.Common.{◌≡◌, ℕ, ◌+◌, ◌<◌, ◌≤◌, List, true, false, Option, Some, None, Result, Ok, Err, ap, refl, sym, ◌∙◌, arith, ⊎_elim, slice_index}
+use Rattle.std.proofs.Common.{◌≡◌, ℕ, ◌+◌, ◌≤◌, List, true, false, Option, Some, None, Result, Ok, Err, ap, refl, ◌∙◌, arith, ⊎_elim, slice_index}
 use Rattle.std.specs.Prelude.{is_some}
 use Rattle.std.proofs.lemmas.Bool.{cases_Bool}
 use Rattle.geometry.specs.declared.geometry.Geometry.{Geometry}

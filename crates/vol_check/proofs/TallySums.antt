@@ -1,8 +1,7 @@
 -- What a block adds by its uses, and what blocks add, block after block.
-use Rattle.std.proofs.Common.{◌≡◌, ℕ, ◌+◌, ◌-◌, ◌*◌, ◌<◌, ◌≤◌, List, true, false, not, nat_lt, ◌==◌, ◌&&◌, ap, refl, sym, ◌∙◌, arith, ⊎_elim, inl, inr}
+use Rattle.std.proofs.Common.{◌≡◌, ℕ, ◌+◌, ◌-◌, ◌*◌, ◌<◌, ◌≤◌, List, true, false, not, nat_lt, ◌==◌, refl, sym, ◌∙◌, arith, ⊎_elim}
 use Rattle.std.specs.Prelude.{if◌then◌else◌}
 use Rattle.std.specs.List.{range_with_len}
-use Rattle.std.proofs.Math.Bool.{and-false}
 use Rattle.std.proofs.lemmas.Bool.{cases_Bool, eq-eqb, ne_eqb, lt-ltb, le-ltb, false_from_ne_true}
 use Rattle.std.proofs.lemmas.List.Sums.{length-filter}
 use Rattle.geometry.specs.declared.geometry.Geometry.{Geometry}
@@ -12,7 +11,7 @@ use Rattle.image_model.specs.Live.{live_at, is_live}
 use Rattle.image_model.specs.Tidy.{is_free_block, free_blocks}
 use Rattle.image_model.specs.Kinds.{is_index_page, is_index_block, is_mixed, spoiled_blocks}
 use Rattle.image_model.specs.Collect.{index_in, free_in, free_where}
-use Rattle.image_model.specs.Shared.{is_wanted_index, wanted_index_in, wanted_data_in, is_shared, shared_blocks, shared_index, open_entries, blocks_to_use, fits_over, FitsWith}
+use Rattle.image_model.specs.Shared.{is_wanted_index, wanted_index_in, is_shared, shared_blocks, shared_index, open_entries, blocks_to_use, fits_over}
 use Rattle.image_model.specs.Within.{entry_in}
 use Rattle.image_laws.proofs.Matching.{filter-none_in}
 use Rattle.image_laws.proofs.Unshared.{unmixed-unshared, fits-tested}
@@ -163,7 +162,6 @@ over_told g image found is some room = (
   false_from_ne_true _ (λ yes. ⊎_elim
       (λ (none : shared_blocks g image ≡ 0). omega (arith, some, none, is.shared))
       (λ (fits : shared_index g image + 0 ≤ open_entries g image + (blocks_to_use g image - 2) * entries g).
-      let more : open_entries g image + (blocks_to_use g image - 2) * entries g < shared_index g image = rw (is.index_pages, is.index_free, is.free_blocks) at room in
-      omega (arith, more, fits))
+      let more : open_entries g image + (blocks_to_use g image - 2) * entries g < shared_index g image = rw (is.index_pages, is.index_free, is.free_blocks) at room in omega (arith, more, fits))
       ((fits-tested g image).0 yes)),
 )

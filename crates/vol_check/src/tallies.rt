@@ -10,6 +10,7 @@ use crate::uses::{Uses, block_uses};
 use flash_view::View;
 use nor_core::{Failed, Nor, NorState};
 
+// What blocks add up to.
 #[derive(Clone, Copy)]
 pub(crate) struct Tally {
     // Blocks that hold wanted pages of both kinds.
@@ -24,6 +25,7 @@ pub(crate) struct Tally {
     pub(crate) spoiled: u32,
 }
 
+// What no block adds up to.
 fn no_tally() -> Tally
     ensures { result ≡ the_none }
 {

@@ -20,6 +20,7 @@ pub(crate) struct Uses {
     pub(crate) free: u32,
 }
 
+// None of them.
 fn no_use() -> Uses
     ensures { result ≡ the_none }
 {

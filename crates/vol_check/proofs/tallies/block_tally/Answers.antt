@@ -1,6 +1,5 @@
 use Rattle.std.proofs.Common.{◌≡◌, true, false}
 use Rattle.image_model.specs.Places.{has_magic}
-use Rattle.flash_view.proofs.Looking.{looks_then}
 use Rattle.vol_check.specs.Used.{AreUses}
 use Rattle.vol_check.proofs.TallySums.{uses_tally, spoiled_is_tally}
 use Rattle.vol_check.proofs.tallies.block_tally.Goals as goal

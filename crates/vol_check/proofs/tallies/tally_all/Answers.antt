@@ -1,4 +1,4 @@
-use Rattle.std.proofs.Common.{◌≡◌, ◌<◌, arith}
+use Rattle.std.proofs.Common.{◌<◌, arith}
 use Rattle.flash_view.proofs.Looking.{looks_none, looks_then}
 use Rattle.vol_check.specs.Used.{IsTally}
 use Rattle.vol_check.proofs.TallySums.{tallies_start, tallies_on, tallies_end, few_on, few_below}
