@@ -9,6 +9,7 @@ pub mod Packed
 pub mod Settles
 pub mod Settled
 pub mod Extends
+pub mod Scrubs
 pub mod Unmounts
 pub mod Calls
 pub mod Checking

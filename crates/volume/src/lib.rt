@@ -4,6 +4,7 @@
 mod calls;
 mod checking;
 mod saying;
+mod scrubbing;
 mod settling;
 mod space;
 mod stage;
@@ -19,3 +20,4 @@ pub use table_model::{Call, Differ, FsErr, Info, Meta, Name, Reply, Stat, Tag, W
 pub use vol_check::{CheckErr, Report};
 pub use vol_mount::{AcceptErr, FormatErr, Lent, MountErr, Part, Returned, accept, format};
 pub use volume::{Unmounted, Volume};
+pub use wear_scrub::Scrub;

@@ -1,5 +1,5 @@
 -- A scrub step, over plain images.
-use Rattle.std.proofs.Common.{◌≡◌, ℕ, ◌+◌, ◌<◌, ◌≤◌, ⊎_elim, inr, List, [], ◌∷◌, Bool, true, false, not, refl, arith, if◌then◌else◌}
+use Rattle.std.proofs.Common.{◌≡◌, ℕ, ◌+◌, ◌<◌, ⊎_elim, inr, List, [], ◌∷◌, Bool, true, false, not, refl, arith, if◌then◌else◌}
 use Rattle.std.specs.Prelude.{Option, Some, None, filter, find, option_and_then, nat_le, ◌&&◌}
 use Rattle.std.specs.List.{range_with_len, list_all}
 use Rattle.std.proofs.lemmas.Bool.{cases_Bool, and_parts}
