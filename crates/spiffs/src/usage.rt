@@ -8,7 +8,7 @@ use std::fmt;
 pub enum Wrong<'w> {
     /// There is no word.
     Nothing,
-    /// `--force` stands before another command than `run` and `check`.
+    /// `--force` stands before another command than `run`, `check` and `scrub`.
     Force,
     /// The first word is no command.
     Verb(&'w str),
@@ -18,10 +18,11 @@ pub enum Wrong<'w> {
         form: &'static str,
         given: usize,
     },
-    /// A word that has to be a number from 0 to `most` is none.
+    /// A word that has to be a number from `least` to `most` is none.
     Number {
         name: &'static str,
         given: &'w str,
+        least: u64,
         most: u64,
     },
     /// MAGIC is neither `len` nor `plain`.
@@ -34,15 +35,20 @@ impl fmt::Display for Wrong<'_> {
     fn fmt<W: fmt::Write>(&self, f: &mut fmt::Formatter<W>) -> fmt::Result {
         match self {
             Wrong::Nothing => write!(f, "no command is given"),
-            Wrong::Force => write!(f, "--force is for run and check alone"),
+            Wrong::Force => write!(f, "--force is for run, check and scrub alone"),
             Wrong::Verb(verb) => write!(f, "there is no command {verb}"),
             Wrong::Count { verb, form, given } => {
                 write!(f, "{verb} takes {form}, and {given} words are given")
             }
-            Wrong::Number { name, given, most } => {
+            Wrong::Number {
+                name,
+                given,
+                least,
+                most,
+            } => {
                 write!(
                     f,
-                    "{name} is a number from 0 to {most} in decimal digits, and not {given}"
+                    "{name} is a number from {least} to {most} in decimal digits, and not {given}"
                 )
             }
             Wrong::Magic(given) => write!(f, "MAGIC is len or plain, and not {given}"),
@@ -57,7 +63,28 @@ fn form_of(verb: &str) -> Option<(&'static str, usize)> {
         "run" | "list" | "check" => Some(("PAGE BLOCK BLOCKS META MAGIC CHIP", 6)),
         "extract" | "make" => Some(("PAGE BLOCK BLOCKS META MAGIC CHIP FOLDER", 7)),
         "soak" => Some(("PAGE BLOCK BLOCKS META MAGIC CHIP SEED COUNT", 8)),
+        "scrub" => Some(("PAGE BLOCK BLOCKS META MAGIC CHIP LIMIT", 7)),
         _ => None,
+    }
+}
+
+// What is wrong with a word that has to be a number from one to another.
+fn wrong_between<'w>(
+    words: &'w [String],
+    at: usize,
+    name: &'static str,
+    least: u64,
+    most: u64,
+) -> Option<Wrong<'w>> {
+    let given = word(words, at);
+    match parse_number(given.as_bytes(), most) {
+        Some(number) if number >= least => None,
+        _ => Some(Wrong::Number {
+            name,
+            given,
+            least,
+            most,
+        }),
     }
 }
 
@@ -68,11 +95,7 @@ fn wrong_number<'w>(
     name: &'static str,
     most: u64,
 ) -> Option<Wrong<'w>> {
-    let given = word(words, at);
-    match parse_number(given.as_bytes(), most) {
-        Some(_) => None,
-        None => Some(Wrong::Number { name, given, most }),
-    }
+    wrong_between(words, at, name, 0, most)
 }
 
 // What is wrong with the numbers of the volume.
@@ -91,6 +114,7 @@ fn wrong_end(words: &[String]) -> Option<Wrong<'_>> {
         "soak" => {
             wrong_number(words, 7, "SEED", u64::MAX).or(wrong_number(words, 8, "COUNT", 1_000_000))
         }
+        "scrub" => wrong_between(words, 7, "LIMIT", 1, 32_767),
         _ => None,
     }
 }

@@ -13,7 +13,7 @@ use Rattle.table_model.specs.Ask.{Ask}
 use Rattle.table_model.specs.Window.{Moment, settled_at}
 use Rattle.call_script.specs.Lines.{calls}
 use Rattle.image_model.specs.Tables.{table_of}
-use Rattle.image_model.specs.Tidy.{HasReserve}
+use Rattle.image_model.specs.Tidy.{IsTidy, HasReserve}
 use Rattle.image_model.specs.Collect.{chosen_block}
 use Rattle.vol_check.specs.declared.report.Report.{Report}
 use Rattle.std.specs.Prelude.{min, map, take, length}
@@ -87,11 +87,11 @@ none_open slots (suc n) fd e = let some : (suc n == 0) ≡ false = ne_eqb (suc n
 opens_none : (s : State) (slots : ℕ) → s.slots ≡ replicate slots None → OpensFiles s
 opens_none s slots same fd d at = absurd (let no : None ≡ Some d = sym (ap (λ (l : List (Option Open)). open_at l fd) same ∙ none_open slots fd fd refl) ∙ at in cc)
 
--- an image that the check left is that of the first moment
-first_at : (g : Geometry) (slots : ℕ) (was image : List ℕ) (w : Memory) → w ≡ closed_memory slots → Begun g was image → table_of g image ≡ table_of g was → IsAt g image w (first_moment g slots was)
+-- a tidy image with the first one's table is that of the first moment
+pub first_at : (g : Geometry) (slots : ℕ) (was image : List ℕ) (w : Memory) → w ≡ closed_memory slots → IsTidy g image → table_of g image ≡ table_of g was → IsAt g image w (first_moment g slots was)
 unfolding settled_at
-first_at g slots was image w memory begun same = subst (λ (v : Memory). IsAt g image v (first_moment g slots was)) (sym memory) (record {
-  tidy = begun.tidy;
+first_at g slots was image w memory tidy same = subst (λ (v : Memory). IsAt g image v (first_moment g slots was)) (sym memory) (record {
+  tidy = tidy;
   table = same ∙ sym (first_table g slots was);
   slots = sym (first_slots g slots was);
   run = first_still g slots was;
@@ -121,7 +121,7 @@ module _ {D : Type 0} {nor : NorOf D} {g : Geometry} where
   pub begun_stands : {old mid : D} {w : Memory} (slots : ℕ) → w ≡ closed_memory slots → Changes nor old mid (Checks g) → nor.tells old → Begun g (nor.bytes old) (nor.bytes mid) → Stands nor g mid w (first_moment g slots (nor.bytes old))
   begun_stands {old} {mid} {w} slots memory changes tells begun = record {
     tells = changes.cuts.told tells;
-    image = first_at g slots (nor.bytes old) (nor.bytes mid) w memory begun (changes.now tells).table;
+    image = first_at g slots (nor.bytes old) (nor.bytes mid) w memory begun.tidy (changes.now tells).table;
   }
 
   -- it stands there in a run

@@ -25,4 +25,5 @@ pub mod Extracting
 pub mod Filling
 pub mod Soaking
 pub mod Making
+pub mod Scrubbing
 pub mod Does

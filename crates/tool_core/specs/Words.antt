@@ -1,12 +1,12 @@
 -- The words of a command.
-use Rattle.std.specs.Prelude.{ℕ, List, [], length, Bool, true, false, not, ◌*◌, ◌==◌, ◌&&◌, ◌||◌, nat_eq, nat_lt, Option, Some, None, if◌then◌else◌, codes, unwrap_or, slice_get, option_and_then}
+use Rattle.std.specs.Prelude.{ℕ, ◌≤◌, List, [], length, Bool, true, false, not, ◌*◌, ◌==◌, ◌&&◌, ◌||◌, nat_eq, nat_lt, Option, Some, None, if◌then◌else◌, codes, unwrap_or, slice_get, option_and_then}
 use Rattle.std.specs.Int.{div_ceil}
 use Rattle.std.specs.Cmp.Lexicographic.{pointwise}
 use Rattle.geometry.specs.declared.magic.MagicKind.{MagicKind}
 use Rattle.geometry.specs.declared.magic.MagicKind.TheVariants.{Plain, Length}
 use Rattle.call_script.specs.Numerals.{number_up_to}
 use Rattle.tool_core.specs.declared.words.Verb.{Verb}
-use Rattle.tool_core.specs.declared.words.Verb.TheVariants.{Run, List as Lists, Check, Extract, Make, Soak}
+use Rattle.tool_core.specs.declared.words.Verb.TheVariants.{Run, List as Lists, Check, Extract, Make, Soak, Scrub}
 use Rattle.tool_core.specs.declared.words.Form.{Form}
 
 -- a word is this text
@@ -40,7 +40,15 @@ turns_word word = number_up_to 1000000 word
 abbrev pub soak_in : List (List ℕ) → Option Verb
 soak_in words = option_and_then (λ seed. option_and_then (λ turns. Some (Soak seed turns)) (turns_word (word_at words 8))) (seed_word (word_at words 7))
 
--- what a command does, by its first word, and for a soak by the last two
+-- a limit of a scrub, from 1 to 32,767
+abbrev pub limit_word : List ℕ → Option ℕ
+limit_word word = option_and_then (λ limit. if limit == 0 then None else Some limit) (number_up_to 32767 word)
+
+-- the scrub with the limit behind the chip's name
+abbrev pub limit_in : List (List ℕ) → Option Verb
+limit_in words = option_and_then (λ limit. Some (Scrub limit)) (limit_word (word_at words 7))
+
+-- what a command does, by its first word, and for a soak and a scrub by those behind the chip's name
 abbrev pub verb_in : List (List ℕ) → Option Verb
 verb_in words =
     if is_text (word_at words 0) (codes "run") then Some Run
@@ -49,6 +57,7 @@ verb_in words =
     else if is_text (word_at words 0) (codes "extract") then Some Extract
     else if is_text (word_at words 0) (codes "make") then Some Make
     else if is_text (word_at words 0) (codes "soak") then soak_in words
+    else if is_text (word_at words 0) (codes "scrub") then limit_in words
     else None
 
 -- a command writes its volume
@@ -59,6 +68,12 @@ writes Check = true
 writes Extract = false
 writes Make = true
 writes (Soak seed turns) = true
+writes (Scrub limit) = true
+
+-- the limit of a scrub is 1 to 32,767
+abbrev pub HasLimit : Verb → Type 0
+HasLimit (Scrub limit) = (1 ≤ limit) × (limit ≤ 32767)
+HasLimit _ = Unit {0}
 
 -- a command takes a script
 abbrev pub has_script : Verb → Bool
@@ -71,11 +86,12 @@ has_folder Extract = true
 has_folder Make = true
 has_folder _ = false
 
--- how many words spell a command: VERB PAGE BLOCK BLOCKS META MAGIC CHIP, then FOLDER, or SEED and COUNT
+-- how many words spell a command: VERB PAGE BLOCK BLOCKS META MAGIC CHIP, then FOLDER, or SEED and COUNT, or LIMIT
 abbrev pub word_count : Verb → ℕ
 word_count Extract = 8
 word_count Make = 8
 word_count (Soak seed turns) = 9
+word_count (Scrub limit) = 8
 word_count _ = 7
 
 -- There are as many words as the command has, and those that name a chip and a folder aren't empty.

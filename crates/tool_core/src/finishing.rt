@@ -31,8 +31,8 @@ pub(crate) fn format_board<B: Board>(g: &Geometry, board: &mut B) -> Result<(), 
     }
 }
 
-// How a command ends whose written bytes can't be put onto the chip.
-fn unsettled(why: FsErr) -> Ending
+/// How a command ends on whose volume a call failed so.
+pub(crate) fn unsettled(why: FsErr) -> Ending
     ensures ends { result ≡ unsettled_as why }
     ensures later { IsLater result }
     ensures no_script { result ≢ Ending.SourceFault }

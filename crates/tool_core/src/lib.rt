@@ -16,6 +16,7 @@ mod mounting;
 mod plan;
 mod run;
 mod script;
+mod scrubbing;
 mod soaking;
 mod tool;
 mod words;

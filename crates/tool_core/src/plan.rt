@@ -3,7 +3,7 @@ ghost use Rattle.geometry.specs.Numbers.{IsOf, refusal};
 ghost use Rattle.tool_core.specs.Asked.{asked_by};
 ghost use Rattle.tool_core.specs.Plan.{chip_refusal, device_refusal, read_refusal, write_refusal_of, volume_refusal, length_refusal, shorter, refusal_of};
 ghost use Rattle.tool_core.specs.Planned.{IsPlanned};
-ghost use Rattle.tool_core.specs.Words.{writes};
+ghost use Rattle.tool_core.specs.Words.{writes, HasLimit};
 ghost use Rattle.tool_core.specs.Lent.{lengths_of};
 ghost use Rattle.tool_core.specs.Fits.{IsFitting, HoldsVolume, FitsFor, HasLengths};
 
@@ -167,6 +167,7 @@ pub(crate) fn plan(
     ensures accepted { OnOk result (refusal_of (asked_by (map string_bytes words.now) unit size lent.now) ≡ None) }
     ensures fits { IfOk result (λ command. FitsFor (writes command.verb) command.geometry unit size) }
     ensures room { IfOk result (λ command. HasLengths command.geometry lent.now) }
+    ensures limit { IfOk result (λ command. HasLimit command.verb) }
     ensures planned { IfOk result (IsPlanned (asked_by (map string_bytes words.now) unit size lent.now)) }
 {
     let Some(form) = read_form(words) else {

@@ -16,6 +16,7 @@ ghost use Rattle.tool_core.specs.Reads.{ReadsOnce};
 ghost use Rattle.tool_core.specs.Refusals.{check_refusal};
 ghost use Rattle.tool_core.specs.Running.{DoesRun};
 ghost use Rattle.tool_core.specs.Runs.{StandsBy};
+ghost use Rattle.tool_core.specs.Scrubbing.{CheckLeaves};
 ghost use Rattle.tool_core.specs.Settling.{Settling, settled_as};
 
 use crate::buffers::Buffers;
@@ -57,8 +58,8 @@ fn settle<B: Board>(volume: &mut Volume<'_, B>, ending: Ending) -> Ending
     }
 }
 
-// Mounts and checks a volume that a script is to be run on, or says how the run ends there.
-fn begin<B: Board>(volume: &mut Volume<'_, B>) -> Result<(), Ending>
+/// Mounts and checks a volume that is to be worked on, or says how the command ends there.
+pub(crate) fn begin<B: Board>(volume: &mut Volume<'_, B>) -> Result<(), Ending>
     requires { write_refusal volume.old.geometry ≡ None }
     ensures later { IfErr result IsLater }
     ensures no_script { ¬ (result ≡ Err Ending.SourceFault) }
@@ -68,6 +69,7 @@ fn begin<B: Board>(volume: &mut Volume<'_, B>) -> Result<(), Ending>
     ensures same { IsSameVolume volume.old volume.new }
     ensures changes { Changes B.NorState volume.old.nor.now volume.new.nor.now (Checks volume.old.geometry) }
     ensures begun { B.tells volume.old.nor.now → OnOk result (Begun volume.old.geometry (B.bytes volume.old.nor.now) (B.bytes volume.new.nor.now)) }
+    ensures leaves { B.tells volume.old.nor.now → OnOk result (CheckLeaves volume.old.geometry (B.bytes volume.old.nor.now) (B.bytes volume.new.nor.now)) }
     ensures stops { B.tells volume.old.nor.now → IfErr result (StopsRun B.NorState volume.old.geometry volume.old.nor.now volume.new.nor.now) }
 {
     match mount_and_check(volume) {

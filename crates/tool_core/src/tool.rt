@@ -2,7 +2,7 @@ ghost use Rattle.std.specs.Prelude.{◌≡◌, map, string_bytes, false, None};
 ghost use Rattle.nor_core.specs.Count.{Rose};
 ghost use Rattle.tool_core.specs.Plan.{refusal_of};
 ghost use Rattle.tool_core.specs.Planned.{IsPlanned};
-ghost use Rattle.tool_core.specs.Words.{writes, has_script, has_folder};
+ghost use Rattle.tool_core.specs.Words.{writes, has_script, has_folder, HasLimit};
 ghost use Rattle.tool_core.specs.Endings.{RefusesIf};
 ghost use Rattle.tool_core.specs.Does.{Does};
 ghost use Rattle.tool_core.specs.Fits.{FitsFor, HasLengths};
@@ -18,6 +18,7 @@ use crate::listing::list_on;
 use crate::making::make_on;
 use crate::plan::{Command, plan};
 use crate::run::run_on;
+use crate::scrubbing::scrub_on;
 use crate::soaking::soak_on;
 use crate::words::Verb;
 use folder_core::{Folder, FolderState};
@@ -33,6 +34,7 @@ fn perform<B: Board, S: Source, F: Folder>(
 ) -> u8
     requires fits { FitsFor (writes command.verb) command.geometry (B.unit board.old) (B.size board.old) }
     requires room { HasLengths command.geometry (lengths_of bufs.old) }
+    requires limit { HasLimit command.verb }
     ensures later { IsLaterStatus result }
     ensures board_fault { result ≡ 7 → Rose (B.faults board.old) (B.faults board.new) }
     ensures script_fault { result ≡ 8 → Rose (S.faults script.old) (S.faults script.new) }
@@ -49,18 +51,21 @@ fn perform<B: Board, S: Source, F: Folder>(
         Verb::Extract => extract_on(g, board, folder, bufs),
         Verb::Make => make_on(g, board, folder, bufs),
         Verb::Soak { seed, turns } => soak_on(g, seed, turns, board, bufs),
+        Verb::Scrub { limit } => scrub_on(g, limit, board, bufs),
     }
 }
 
 /// Does the command that the words spell, on a board, and answers its status. The forms are
 /// `run PAGE BLOCK BLOCKS META MAGIC CHIP`, the same with `list` or `check` in the place of `run`,
-/// `extract PAGE BLOCK BLOCKS META MAGIC CHIP FOLDER`, the same with `make`, and
-/// `soak PAGE BLOCK BLOCKS META MAGIC CHIP SEED COUNT`: the numbers in decimal digits without a leading zero, SEED below
-/// 2 ^ 64, COUNT at most 1,000,000 and the others below 2 ^ 32, MAGIC `plain` or `len`, CHIP and FOLDER any words that aren't
+/// `extract PAGE BLOCK BLOCKS META MAGIC CHIP FOLDER`, the same with `make`,
+/// `soak PAGE BLOCK BLOCKS META MAGIC CHIP SEED COUNT` and `scrub PAGE BLOCK BLOCKS META MAGIC CHIP LIMIT`: the numbers in
+/// decimal digits without a leading zero, SEED below 2 ^ 64, COUNT at most 1,000,000, LIMIT 1 to 32,767 and the others below
+/// 2 ^ 32, MAGIC `plain` or `len`, CHIP and FOLDER any words that aren't
 /// empty, which aren't read here. `run` mounts and checks the volume, and runs each line of the script as a call; `list` mounts
 /// it and says its files and its damaged ids, and writes nothing; `extract` says the same and puts each file into the
 /// folder; `make` formats it and writes each file of the folder into it, in its order; `check` mounts and checks it, and says what the check found and did; `soak` formats it, does COUNT turns of calls that
-/// are drawn from SEED, and says a summary. It takes no memory but what is lent.
+/// are drawn from SEED, and says a summary; `scrub` mounts and checks it, makes scrub steps until one moves no block or as many as there
+/// are blocks were made, and says how many moved one and how many blocks are free. It takes no memory but what is lent.
 pub fn spiffs_tool<B: Board, S: Source, F: Folder>(
     words: &[String],
     board: &mut B,

@@ -1,5 +1,5 @@
 ghost use Rattle.std.specs.Prelude.{◌≡◌, ◌+◌, ◌*◌, ◌<◌, ◌≤◌, ◌^◌, length, map, string_bytes, option_copied, IfSome, Some, None, true};
-ghost use Rattle.tool_core.specs.Words.{form_of, verb_in, soak_in, number_word, seed_word, turns_word, magic_word, word_at, word_count, has_folder, has_form, writes, blocks_in, unit_for, chip_size_for};
+ghost use Rattle.tool_core.specs.Words.{form_of, verb_in, soak_in, limit_in, number_word, seed_word, turns_word, limit_word, magic_word, word_at, word_count, has_folder, has_form, writes, HasLimit, blocks_in, unit_for, chip_size_for};
 
 use call_script::parse_number;
 use geometry::MagicKind;
@@ -19,6 +19,8 @@ pub(crate) enum Verb {
     Make,
     /// Formats a volume, and does so many turns of calls on it that are drawn from the seed.
     Soak { seed: u64, turns: u32 },
+    /// Mounts and checks a volume, and moves the least worn blocks that hold files, while they are so many erase counts behind the free ones.
+    Scrub { limit: u16 },
 }
 
 impl Verb {
@@ -27,7 +29,11 @@ impl Verb {
         ensures { result ≡ writes self }
     {
         match self {
-            Verb::Run | Verb::Check | Verb::Make | Verb::Soak { .. } => true,
+            Verb::Run
+            | Verb::Check
+            | Verb::Make
+            | Verb::Soak { .. }
+            | Verb::Scrub { .. } => true,
             Verb::List | Verb::Extract => false,
         }
     }
@@ -38,7 +44,7 @@ impl Verb {
     {
         match self {
             Verb::Run | Verb::List | Verb::Check => 7,
-            Verb::Extract | Verb::Make => 8,
+            Verb::Extract | Verb::Make | Verb::Scrub { .. } => 8,
             Verb::Soak { .. } => 9,
         }
     }
@@ -49,7 +55,11 @@ impl Verb {
     {
         match self {
             Verb::Extract | Verb::Make => true,
-            Verb::Run | Verb::List | Verb::Check | Verb::Soak { .. } => false,
+            Verb::Run
+            | Verb::List
+            | Verb::Check
+            | Verb::Soak { .. }
+            | Verb::Scrub { .. } => false,
         }
     }
 }
@@ -103,6 +113,19 @@ fn read_soak(words: &[String]) -> Option<Verb>
     })
 }
 
+// The scrub with the limit behind the chip's name.
+fn read_scrub(words: &[String]) -> Option<Verb>
+    ensures { result ≡ limit_in (map string_bytes words.now) }
+{
+    let limit = parse_number(word(words, 7), 32_767)?;
+    if limit == 0 {
+        return None;
+    }
+    Some(Verb::Scrub {
+        limit: limit as u16,
+    })
+}
+
 fn read_verb(words: &[String]) -> Option<Verb>
     ensures { result ≡ verb_in (map string_bytes words.now) }
 {
@@ -118,6 +141,7 @@ fn read_verb(words: &[String]) -> Option<Verb>
         b"list" => Some(Verb::List),
         b"check" => Some(Verb::Check),
         b"soak" => read_soak(words),
+        b"scrub" => read_scrub(words),
         _ => None,
     }
 }
@@ -134,7 +158,8 @@ fn has_form(verb: Verb, words: &[String]) -> bool
 /// What the words `VERB PAGE BLOCK BLOCKS META MAGIC CHIP` and those behind give, or None for other words.
 #[tactic(auto, unfolding(crate::specs::Words::form_of))]
 pub(crate) fn read_form(words: &[String]) -> Option<Form>
-    ensures { result ≡ form_of (map string_bytes words.now) }
+    ensures form { result ≡ form_of (map string_bytes words.now) }
+    ensures limit { IfSome result (λ form. HasLimit form.verb) }
 {
     let verb = read_verb(words)?;
     if !has_form(verb, words) {

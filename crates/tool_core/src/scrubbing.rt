@@ -1,0 +1,185 @@
+ghost use Rattle.std.specs.Prelude.{ℕ, ◌≡◌, ◌≢◌, ◌≤◌, length, OnOk, IfErr, Err, None, true};
+ghost use Rattle.geometry.specs.Numbers.{write_refusal, work_need, cache_need, check_need};
+ghost use Rattle.nor_core.specs.Count.{Rose};
+ghost use Rattle.flash_view.specs.Same.{StaysBehind};
+ghost use Rattle.volume.specs.Holds.{memory};
+ghost use Rattle.volume.specs.Stages.{takes_calls};
+ghost use Rattle.volume.specs.Same.{IsSameVolume};
+ghost use Rattle.tool_core.specs.Fits.{IsFitting, HasLengths};
+ghost use Rattle.tool_core.specs.Later.{IsLater, IsLaterStatus};
+ghost use Rattle.tool_core.specs.Lent.{lengths_of};
+ghost use Rattle.tool_core.specs.Outcomes.{closed_memory};
+ghost use Rattle.tool_core.specs.Reads.{ReadsOnce};
+ghost use Rattle.tool_core.specs.Scrubbing.{Makes, IsStepDone, Scrubbed, IsTally, ScrubEnds, ScrubsTo, DoesScrub, scrub_text};
+
+use crate::buffers::Buffers;
+use crate::ending::{Closing, Ending, conclude, put, put_count};
+use crate::finishing::unsettled;
+use crate::run::begin;
+use geometry::Geometry;
+use nor_core::{Board, Failed, Nor, NorState};
+use vol_mount::Lent;
+use volume::{Scrub, Volume};
+
+// What a scrub did: how many steps moved a block, and how many blocks are free then.
+#[derive(Clone, Copy)]
+struct Tally {
+    moved: u32,
+    free: u32,
+}
+
+// The line of that.
+fn tally_line(tally: Tally) -> Closing
+    ensures { result.items ≡ scrub_text tally.moved tally.free }
+{
+    let mut line = Closing::new();
+    put_count(&mut line, b"moved ", u64::from(tally.moved));
+    put_count(&mut line, b" free ", u64::from(tally.free));
+    put(&mut line, b"\n");
+    line
+}
+
+// A step of a scrub: whether it moved a block.
+fn scrub_turn<B: Board>(volume: &mut Volume<'_, B>, limit: u16) -> Result<bool, Ending>
+    requires limit { (1 ≤ limit) × (limit ≤ 32767) }
+    requires takes { takes_calls volume.old ≡ true }
+    ensures later { IfErr result IsLater }
+    ensures no_script { ¬ (result ≡ Err Ending.SourceFault) }
+    ensures cause { result ≡ Err Ending.BoardFault → Rose (B.faults volume.old.nor.now) (B.faults volume.new.nor.now) }
+    ensures taken { OnOk result (takes_calls volume.new ≡ true) }
+    ensures same { IsSameVolume volume.old volume.new }
+    ensures makes { (slots : ℕ) → memory volume.old ≡ closed_memory slots → Makes B.NorState volume.old.geometry slots volume.old.nor.now volume.new.nor.now (memory volume.new) result (IsStepDone volume.old.geometry limit) }
+{
+    match volume.scrub(limit) {
+        Ok(Scrub::Moved { .. }) => Ok(true),
+        Ok(Scrub::NoRoom { .. } | Scrub::Rested) => Ok(false),
+        Err(why) => Err(unsettled(why)),
+    }
+}
+
+// Makes steps until one moves no block, or as many as there are blocks: how many moved one.
+#[tactic(auto, using(volume::proofs::Staying::same_then))]
+fn scrub_all<B: Board>(volume: &mut Volume<'_, B>, limit: u16) -> Result<u32, Ending>
+    requires limit { (1 ≤ limit) × (limit ≤ 32767) }
+    requires takes { takes_calls volume.old ≡ true }
+    ensures later { IfErr result IsLater }
+    ensures no_script { ¬ (result ≡ Err Ending.SourceFault) }
+    ensures cause { result ≡ Err Ending.BoardFault → Rose (B.faults volume.old.nor.now) (B.faults volume.new.nor.now) }
+    ensures taken { OnOk result (takes_calls volume.new ≡ true) }
+    ensures same { IsSameVolume volume.old volume.new }
+    ensures makes { (slots : ℕ) → memory volume.old ≡ closed_memory slots → Makes B.NorState volume.old.geometry slots volume.old.nor.now volume.new.nor.now (memory volume.new) result (Scrubbed volume.old.geometry limit) }
+{
+    let blocks = volume.geometry.blocks();
+    let mut moved = 0;
+    'steps: while moved < blocks {
+        if !scrub_turn(volume, limit)? {
+            return Ok(moved);
+        }
+        moved += 1;
+    }
+    Ok(moved)
+}
+
+// Makes the steps, and counts the free blocks then.
+#[tactic(auto, using(volume::proofs::Staying::same_then))]
+fn scrub_and_count<B: Board>(volume: &mut Volume<'_, B>, limit: u16) -> Result<Tally, Ending>
+    requires limit { (1 ≤ limit) × (limit ≤ 32767) }
+    requires takes { takes_calls volume.old ≡ true }
+    ensures later { IfErr result IsLater }
+    ensures no_script { ¬ (result ≡ Err Ending.SourceFault) }
+    ensures cause { result ≡ Err Ending.BoardFault → Rose (B.faults volume.old.nor.now) (B.faults volume.new.nor.now) }
+    ensures same { IsSameVolume volume.old volume.new }
+    ensures makes { (slots : ℕ) → memory volume.old ≡ closed_memory slots → Makes B.NorState volume.old.geometry slots volume.old.nor.now volume.new.nor.now (memory volume.new) result (IsTally volume.old.geometry limit) }
+{
+    let moved = scrub_all(volume, limit)?;
+    match volume.space() {
+        Ok(space) => Ok(Tally {
+            moved,
+            free: space.free_blocks,
+        }),
+        Err(why) => Err(unsettled(why)),
+    }
+}
+
+// Makes the steps on a checked volume, and says their line.
+#[tactic(auto, using(volume::proofs::Staying::same_then))]
+fn scrub_checked<B: Board>(volume: &mut Volume<'_, B>, limit: u16) -> Ending
+    requires limit { (1 ≤ limit) × (limit ≤ 32767) }
+    requires takes { takes_calls volume.old ≡ true }
+    ensures later { IsLater result }
+    ensures no_script { result ≢ Ending.SourceFault }
+    ensures cause { result ≡ Ending.BoardFault → Rose (B.faults volume.old.nor.now) (B.faults volume.new.nor.now) }
+    ensures same { IsSameVolume volume.old volume.new }
+    ensures scrubs { (slots : ℕ) → memory volume.old ≡ closed_memory slots → ScrubEnds B.NorState volume.old.geometry limit volume.old.nor.now volume.new.nor.now result }
+{
+    let tally = match scrub_and_count(volume, limit) {
+        Ok(tally) => tally,
+        Err(ending) => return ending,
+    };
+    match volume.say(tally_line(tally).as_slice()) {
+        Ok(()) => Ending::Done,
+        Err(Failed) => Ending::BoardFault,
+    }
+}
+
+// Mounts and checks a volume, makes the steps, and says their line.
+#[tactic(auto, using(volume::proofs::Staying::same_then))]
+fn scrub_volume<B: Board>(volume: &mut Volume<'_, B>, limit: u16) -> Ending
+    requires writable { write_refusal volume.old.geometry ≡ None }
+    requires limit { (1 ≤ limit) × (limit ≤ 32767) }
+    ensures later { IsLater result }
+    ensures no_script { result ≢ Ending.SourceFault }
+    ensures cause { result ≡ Ending.BoardFault → Rose (B.faults volume.old.nor.now) (B.faults volume.new.nor.now) }
+    ensures same { IsSameVolume volume.old volume.new }
+    ensures scrubs { (slots : ℕ) → memory volume.old ≡ closed_memory slots → ScrubsTo B.NorState volume.old.geometry limit volume.old.nor.now volume.new.nor.now result }
+{
+    match begin(volume) {
+        Ok(()) => scrub_checked(volume, limit),
+        Err(ending) => ending,
+    }
+}
+
+// Mounts and checks the volume of a board, makes the steps, and says their line.
+fn scrub_board<'b, B: Board>(g: Geometry, limit: u16, board: &'b mut B, lent: Lent<'b>) -> Ending
+    requires fits { IsFitting g (B.unit board.old) (B.size board.old) }
+    requires limit { (1 ≤ limit) × (limit ≤ 32767) }
+    requires work { work_need g ≤ length lent.work.now }
+    requires cache { cache_need g ≤ length lent.cache.now }
+    requires check { check_need g ≤ length lent.check.now }
+    ensures later { IsLater result }
+    ensures no_script { result ≢ Ending.SourceFault }
+    ensures cause { result ≡ Ending.BoardFault → Rose (B.faults board.old) (B.faults board.new) }
+    ensures scrubs { ScrubsTo B.NorState g limit board.old board.new result }
+    ensures behind { StaysBehind B.NorState g board.old board.new }
+    ensures few { ReadsOnce B.NorState g (length lent.entry.cache.now) board.old board.new }
+{
+    let mut volume = Volume::new(g, board, lent);
+    scrub_volume(&mut volume, limit)
+}
+
+/// Mounts and checks the volume of a board in the lent memory, makes scrub steps until one moves no block or as many as there are
+/// blocks were made, and says how many moved one and how many blocks are free.
+pub(crate) fn scrub_on<B: Board>(
+    g: Geometry,
+    limit: u16,
+    board: &mut B,
+    bufs: &mut Buffers<'_>,
+) -> u8
+    requires fits { IsFitting g (B.unit board.old) (B.size board.old) }
+    requires room { HasLengths g (lengths_of bufs.old) }
+    requires limit { (1 ≤ limit) × (limit ≤ 32767) }
+    ensures later { IsLaterStatus result }
+    ensures board_fault { result ≡ 7 → Rose (B.faults board.old) (B.faults board.new) }
+    ensures no_script { result ≢ 8 }
+    ensures no_folder { result ≢ 9 }
+    ensures does { DoesScrub B.NorState g (length bufs.old.cache.now) limit board.old board.new result }
+{
+    let lent = Lent {
+        work: &mut *bufs.work,
+        slots: &mut *bufs.slots,
+        cache: &mut *bufs.cache,
+        check: &mut *bufs.check,
+    };
+    let ending = scrub_board(g, limit, board, lent);
+    conclude(board, ending)
+}
