@@ -122,6 +122,12 @@ impl Bench {
         )?)
     }
 
+    /// The words of a scrub of the volume with a limit.
+    pub fn scrub_words(&self, limit: u64) -> Result<String, Trouble> {
+        let words = self.words("scrub")?;
+        Ok(format!(in self.alloc; "{words} {limit}")?)
+    }
+
     // Gives the command of these words, and answers its status.
     fn command(
         &self,

@@ -189,3 +189,34 @@ pub fn count_calls(
     }
     Ok(calls)
 }
+
+// Whether an image has the same files as another, and a check leaves it these and two free blocks.
+fn is_mended(bench: &Bench, was: &[u8], image: &[u8]) -> Result<bool, Trouble> {
+    let files = listed(bench, was)?;
+    let checked = bench.check(image, Fault::Nothing)?;
+    let free = spare_blocks(&bench.g, &checked.image).unwrap_or(0);
+    Ok(
+        checked.status == 0
+            && free >= 2
+            && are_same(&files, &listed(bench, image)?)
+            && are_same(&files, &listed(bench, &checked.image)?),
+    )
+}
+
+/// Cuts a scrub with a limit inside each of its programs, erases and replies, done in five ways. The files are to stay, and a check is to leave
+/// two free blocks.
+pub fn cut_scrub(bench: &Bench, image: &[u8], limit: u64) -> Result<Swept, Trouble> {
+    let words = bench.scrub_words(limit)?;
+    for passed in 0..MOST {
+        for pick in 0..5 {
+            let ran = bench.give(&words, image, b"", Fault::Power { passed, pick })?;
+            if ran.status != DEVICE_FAULT {
+                return Ok(Swept::Whole(passed));
+            }
+            if !is_mended(bench, image, &ran.image)? {
+                return Ok(Swept::Cut { passed, pick });
+            }
+        }
+    }
+    Ok(Swept::Whole(MOST))
+}

@@ -125,11 +125,11 @@ fn has_same_files(bench: &Bench, old: &[u8], new: &[u8]) -> Result<bool, Trouble
 }
 
 // Tells the status of a command, and what it left.
-fn tell_status(chip: &Chip, ran: &Told, is_check: bool, out: &mut String) -> Result<(), Trouble> {
+fn tell_status(chip: &Chip, ran: &Told, keeps_files: bool, out: &mut String) -> Result<(), Trouble> {
     write!(out, "  status {}", ran.status)?;
     if ran.image.as_slice() == chip.image.as_slice() {
         out.push_str(", chip as before")?;
-    } else if is_check && has_same_files(&chip.bench()?, &chip.image, &ran.image)? {
+    } else if keeps_files && has_same_files(&chip.bench()?, &chip.image, &ran.image)? {
         out.push_str(", files as before")?;
     }
     out.push('\n')?;
@@ -187,7 +187,8 @@ pub fn give(
     let is_run = command.starts_with("run ");
     tell_said(&bench, is_run, script, text_of(&ran)?, out)?;
     manner.tell_counts(&bench, command, &chip.image, text, out)?;
-    tell_status(chip, &ran, command.starts_with("check "), out)?;
+    let keeps_files = command.starts_with("check ") || command.starts_with("scrub ");
+    tell_status(chip, &ran, keeps_files, out)?;
     chip.image = ran.image;
     Ok(())
 }

@@ -4,7 +4,7 @@ use crate::commands::{kind_of, kind_text};
 use crate::words::{number, word};
 use script_bench::{
     Agreement, Odd, Steps, Swept, Tried, Trouble, agreement_of, cut_all_recoveries, cut_each,
-    cut_recoveries, draw_beside, draw_calls, draw_files, fail_each, try_damaged,
+    cut_recoveries, cut_scrub, draw_beside, draw_calls, draw_files, fail_each, try_damaged,
 };
 use std::alloc::AllocError;
 
@@ -123,6 +123,14 @@ pub fn cut_twice(steps: &Steps, words: &[&str], out: &mut String) -> Result<(), 
         write!(out, "  behind {passed}:")?;
         tell_swept(found, "programs and erases of a check", good, out)?;
     }
+    Ok(())
+}
+
+/// Cuts the power of a scrub at each program, erase and reply: `scrubs LIMIT`.
+pub fn scrub(chip: &Chip, words: &[&str], out: &mut String) -> Result<(), Trouble> {
+    let good = "the files stay, and a check leaves two free blocks";
+    let found = cut_scrub(&chip.bench()?, &chip.image, number(words, 1, u64::MAX)?)?;
+    tell_swept(found, "programs, erases and replies of a scrub", good, out)?;
     Ok(())
 }
 

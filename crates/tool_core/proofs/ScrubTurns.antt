@@ -80,20 +80,24 @@ module _ {N : Type 0} {nor : NorOf N} where
       }
 
   -- a step
-  pub turn_ok : {limit : ℕ} {old new : Volume N nor} (slots : ℕ) (scrub : Scrub) (moved : Bool) → moved ≡ has_moved scrub → takes_calls old ≡ true → Scrubs limit old new (Ok scrub) → memory old ≡ closed_memory slots → Makes nor old.geometry slots old.nor.now new.nor.now (memory new) (Ok moved) (IsStepDone old.geometry limit)
-  turn_ok slots scrub moved is takes s closed = record {
-    memory = closed_still slots closed s.slots (s.ends takes).1;
-    changes = turn_changes slots closed s;
-    done = λ tells tidy reserve. step_done slots scrub moved is closed takes s tells tidy;
-  }
+  pub turn_ok : {limit : ℕ} {old new : Volume N nor} {result : Result Scrub FsErr} (slots : ℕ) (scrub : Scrub) (moved : Bool) → moved ≡ has_moved scrub → result ≡ Ok scrub → takes_calls old ≡ true → Scrubs limit old new result → memory old ≡ closed_memory slots → Makes nor old.geometry slots old.nor.now new.nor.now (memory new) (Ok moved) (IsStepDone old.geometry limit)
+  turn_ok {limit} {old} {new} slots scrub moved is done takes scrubs closed =
+      let s : Scrubs limit old new (Ok scrub) = subst (λ (r : Result Scrub FsErr). Scrubs limit old new r) done scrubs in
+      record {
+        memory = closed_still slots closed s.slots (s.ends takes).1;
+        changes = turn_changes slots closed s;
+        done = λ tells tidy reserve. step_done slots scrub moved is closed takes s tells tidy;
+      }
 
   -- one that failed
-  pub turn_err : {limit : ℕ} {old new : Volume N nor} (slots : ℕ) (why : FsErr) → takes_calls old ≡ true → Scrubs limit old new (Err why) → memory old ≡ closed_memory slots → Makes nor old.geometry slots old.nor.now new.nor.now (memory new) (Err {T = Bool} (unsettled_as why)) (IsStepDone old.geometry limit)
-  turn_err {limit} {old} slots why takes s closed = record {
-    memory = tt;
-    changes = turn_changes slots closed s;
-    done = λ tells tidy reserve. ap unsettled_as (s.done (first_moment old.geometry slots (nor.bytes old.nor.now)) takes (stands_first old.geometry slots old.nor.now (memory old) closed tells tidy));
-  }
+  pub turn_err : {limit : ℕ} {old new : Volume N nor} {result : Result Scrub FsErr} (slots : ℕ) (why : FsErr) → result ≡ Err why → takes_calls old ≡ true → Scrubs limit old new result → memory old ≡ closed_memory slots → Makes nor old.geometry slots old.nor.now new.nor.now (memory new) (Err {T = Bool} (unsettled_as why)) (IsStepDone old.geometry limit)
+  turn_err {limit} {old} {new} slots why failed takes scrubs closed =
+      let s : Scrubs limit old new (Err why) = subst (λ (r : Result Scrub FsErr). Scrubs limit old new r) failed scrubs in
+      record {
+        memory = tt;
+        changes = turn_changes slots closed s;
+        done = λ tells tidy reserve. ap unsettled_as (s.done (first_moment old.geometry slots (nor.bytes old.nor.now)) takes (stands_first old.geometry slots old.nor.now (memory old) closed tells tidy));
+      }
 
 module _ {D : Type 0} {nor : NorOf D} {g : Geometry} {slots limit : ℕ} where
   -- none yet

@@ -10,7 +10,7 @@ ghost use Rattle.tool_core.specs.Later.{IsLater, IsLaterStatus};
 ghost use Rattle.tool_core.specs.Lent.{lengths_of};
 ghost use Rattle.tool_core.specs.Outcomes.{closed_memory};
 ghost use Rattle.tool_core.specs.Reads.{ReadsOnce};
-ghost use Rattle.tool_core.specs.Scrubbing.{Makes, IsStepDone, Scrubbed, IsTally, ScrubEnds, ScrubsTo, DoesScrub, scrub_text};
+ghost use Rattle.tool_core.specs.Scrubbing.{Makes, IsStepDone, Scrubbed, IsTally, ScrubEnds, ScrubsTo, DoesScrub, scrub_text, has_moved};
 
 use crate::buffers::Buffers;
 use crate::ending::{Closing, Ending, conclude, put, put_count};
@@ -39,6 +39,13 @@ fn tally_line(tally: Tally) -> Closing
     line
 }
 
+// Whether a step moved a block.
+fn has_moved(scrub: Scrub) -> bool
+    ensures { result ≡ has_moved scrub }
+{
+    matches!(scrub, Scrub::Moved { .. })
+}
+
 // A step of a scrub: whether it moved a block.
 fn scrub_turn<B: Board>(volume: &mut Volume<'_, B>, limit: u16) -> Result<bool, Ending>
     requires limit { (1 ≤ limit) × (limit ≤ 32767) }
@@ -51,8 +58,7 @@ fn scrub_turn<B: Board>(volume: &mut Volume<'_, B>, limit: u16) -> Result<bool, 
     ensures makes { (slots : ℕ) → memory volume.old ≡ closed_memory slots → Makes B.NorState volume.old.geometry slots volume.old.nor.now volume.new.nor.now (memory volume.new) result (IsStepDone volume.old.geometry limit) }
 {
     match volume.scrub(limit) {
-        Ok(Scrub::Moved { .. }) => Ok(true),
-        Ok(Scrub::NoRoom { .. } | Scrub::Rested) => Ok(false),
+        Ok(scrub) => Ok(has_moved(scrub)),
         Err(why) => Err(unsettled(why)),
     }
 }
