@@ -71,7 +71,7 @@ set_target() {
     ln -sfn "$debian_crates"/* "$sources"/vendor/* "$3/crates/"
     # (Debian's rustc has no linker of its own for these)
     case $1 in thumb*) linker=CARGO_TARGET_${name^^}_LINKER=arm-none-eabi-ld ;; esac
-    # (without backtraces, for which seven more crates would be built)
+    # (without backtraces, for which six more crates would be built)
     [ "$2" != std ] || library+=",panic_abort -Zbuild-std-features=panic-unwind"
     rustc=/usr/bin/rustc
     for_target=(env RUSTC=$rustc RUSTC_BOOTSTRAP=1 $linker /usr/bin/cargo --offline $library

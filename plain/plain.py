@@ -37,7 +37,7 @@ class Package:
 
 
 PACKAGES = [
-    Package("liverymenhir", ["volume"], exported=["volume", "nor_core"], no_std=True),
+    Package("liverymenhir", ["volume", "wear_scrub"], exported=["volume", "nor_core"], no_std=True),
     Package("spiffs", ["spiffs"]),
     Package("script_rows", ["script_rows"]),
     Package("image_explain", ["image_explain"]),

@@ -125,7 +125,12 @@ fn has_same_files(bench: &Bench, old: &[u8], new: &[u8]) -> Result<bool, Trouble
 }
 
 // Tells the status of a command, and what it left.
-fn tell_status(chip: &Chip, ran: &Told, keeps_files: bool, out: &mut String) -> Result<(), Trouble> {
+fn tell_status(
+    chip: &Chip,
+    ran: &Told,
+    keeps_files: bool,
+    out: &mut String,
+) -> Result<(), Trouble> {
     write!(out, "  status {}", ran.status)?;
     if ran.image.as_slice() == chip.image.as_slice() {
         out.push_str(", chip as before")?;

@@ -1,5 +1,5 @@
 -- An empty volume is mounted and checked, and takes calls.
-use Rattle.std.proofs.Common.{◌≡◌, ℕ, ◌+◌, ◌<◌, ◌≤◌, List, [], refl, sym, ◌∙◌, ap, subst, arith, ⊎_elim, Bool, true, false, not, cond, Some, None}
+use Rattle.std.proofs.Common.{◌≡◌, ℕ, ◌+◌, ◌<◌, ◌≤◌, List, [], refl, sym, ◌∙◌, ap, subst, arith, ⊎_elim, Bool, true, false, cond, Some, None}
 use Rattle.std.specs.Prelude.{min, replicate, nat_lt}
 use Rattle.std.proofs.lemmas.Bool.{le-leb, lt-ltb, cases_lt}
 use Rattle.geometry.proofs.Bounds.{entry_left}

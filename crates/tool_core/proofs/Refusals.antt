@@ -15,7 +15,7 @@ use Rattle.room_laws.proofs.Staying.{reserve_mends}
 use Rattle.call_model.specs.Safe.{ComesBack, IsSafe}
 use Rattle.call_model.proofs.Mounts.{cuts_keep_magics}
 use Rattle.tool_core.specs.declared.ending.Ending.{Ending}
-use Rattle.tool_core.specs.declared.ending.Ending.TheVariants.{Done, NotAFs, Mixed, Damaged, Tight, BoardFault}
+use Rattle.tool_core.specs.declared.ending.Ending.TheVariants.{Done, NotAFs, Mixed, Damaged, Tight}
 use Rattle.tool_core.specs.Closing.{status_of, closing_line_of}
 use Rattle.tool_core.specs.Refusals.{mount_refusal, check_refusal, tight_refusal, or_ending, begin_refusal, report_ending, check_ending}
 use Rattle.tool_core.specs.Mounting.{IsMendable}
@@ -42,15 +42,6 @@ mount_two g image spoiled is two = rw (below 1 (spoiled_blocks g image) (omega (
 pub mount_few : (g : Geometry) (image : List ℕ) → spoiled_blocks g image ≤ 1 → mount_refusal g image ≡ None
 unfolding mount_refusal
 mount_few g image few = rw (not_below 1 (spoiled_blocks g image) few) refl
-
--- an image that isn't mounted isn't taken
-pick_mount : (b : Bool) (two ending : Ending) (o : Option Ending) → cond b (Some two) None ≡ Some ending → cond b (Some two) o ≡ Some ending
-pick_mount true two ending o is = is
-pick_mount false two ending o is = let bad : None ≡ Some ending = is in absurd (cc)
-
-pub mount_check : (g : Geometry) (image : List ℕ) (ending : Ending) → mount_refusal g image ≡ Some ending → check_refusal g image ≡ Some ending
-unfolding mount_refusal check_refusal
-mount_check g image ending is = pick_mount (nat_lt 1 (spoiled_blocks g image)) (NotAFs (spoiled_blocks g image)) ending _ is
 
 pub check_two : (g : Geometry) (image : List ℕ) (spoiled : ℕ) → spoiled ≡ spoiled_blocks g image → 2 ≤ spoiled → check_refusal g image ≡ Some (NotAFs spoiled)
 unfolding check_refusal
@@ -113,11 +104,7 @@ refusal_is : (g : Geometry) (image : List ℕ) (ending : Ending) → check_refus
 unfolding check_refusal
 refusal_is g image ending is = pick (nat_lt 1 (spoiled_blocks g image)) (not (fits_over g image)) (spoiled_blocks g image) (shared_blocks g image) ending is
 
--- no image makes a fault
-pub no_fault : (g : Geometry) (image : List ℕ) (ending : Ending) → check_refusal g image ≡ Some ending → ending ≡ BoardFault → ⊥
-no_fault g image ending is fault = ⊎_elim (λ two. cc) (λ mixed. cc) (refusal_is g image ending is)
-
--- nor does it end for want of free blocks
+-- no image that isn't taken ends a command for want of free blocks
 pub no_tight : (g : Geometry) (image : List ℕ) (ending : Ending) (n : ℕ) → check_refusal g image ≡ Some ending → ending ≡ Tight n → ⊥
 no_tight g image ending n is tight = ⊎_elim (λ two. cc) (λ mixed. cc) (refusal_is g image ending is)
 

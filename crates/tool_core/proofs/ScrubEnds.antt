@@ -161,7 +161,7 @@ module _ {D : Type 0} {nor : NorOf D} {g : Geometry} where
       let reserve : nor.tells old → HasReserve g now = λ tells. subst (λ (l : List ℕ). HasReserve g l) (sym s.says.bytes) (made tells).0.reserve in
       let takes : nor.tells old → begin_refusal g was now ≡ None = λ tells. begins_on g was now (leaves tells).takes (reserve tells) in
       let text : nor.tells old → piece ≡ moved_text g was now s.moved = λ tells.
-          ap (scrub_text s.moved) ((made tells).1 ∙ ap (free_blocks g) (sym s.says.bytes)) ∙ sym (ap (λ (o : Option Ending). unless_refused o (scrub_text s.moved (free_blocks g now))) (takes tells)) in
+      ap (scrub_text s.moved) ((made tells).1 ∙ ap (free_blocks g) (sym s.says.bytes)) ∙ sym (ap (λ (o : Option Ending). unless_refused o (scrub_text s.moved (free_blocks g now))) (takes tells)) in
       let ending : nor.tells old → scrub_ending g was now ≡ Done = λ tells. ap (λ (o : Option Ending). unwrap_or o Done) (takes tells) in
       record {
         moved = s.moved;
@@ -179,12 +179,15 @@ module _ {D : Type 0} {nor : NorOf D} {g : Geometry} where
         speaks = λ tells. ⊎_elim
             (λ fault.
             let n = s.says.said.0 in
-            inl (fault, record {
-              part = take n piece;
-              rest = drop n piece;
-              said = s.says.said.1 ∙ ap (λ (l : List ℕ). l ++ take n piece) whole.said;
-              whole_is = sym (text tells) ∙ sym (take-append-drop n piece);
-            }))
+            inl (
+              fault,
+              record {
+                part = take n piece;
+                rest = drop n piece;
+                said = s.says.said.1 ∙ ap (λ (l : List ℕ). l ++ take n piece) whole.said;
+                whole_is = sym (text tells) ∙ sym (take-append-drop n piece);
+              },
+            ))
             (λ said. inr (said.0 ∙ sym (ending tells), said.1 (whole.cuts.told tells) ∙ ap (λ (l : List ℕ). l ++ piece) whole.said ∙ ap (λ (l : List ℕ). nor.said old ++ l) (text tells)))
             s.ends;
         done = λ tells is. record { checked = nor.bytes mid; check = leaves tells; scrubbed = subst (λ (l : List ℕ). Scrubbed g limit (nor.bytes mid) l s.moved) (sym s.says.bytes) (made tells).0 };

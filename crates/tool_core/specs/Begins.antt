@@ -15,7 +15,8 @@ pub record Begun (g : Geometry) (was image : List ℕ) : Type 0 where
   pub tidy : IsTidy g image
   pub reserve : HasReserve g image
 
--- the first image is taken, and an uncut check needn't leave it two free blocks; the check left fewer than two free blocks, and no block that is worth cleaning can be cleaned
+-- the first image is taken, and isn't one that an uncut check gives two free blocks; the check left fewer than two, and no block that is worth
+-- cleaning can be cleaned
 pub record IsTight (g : Geometry) (was now : List ℕ) (ending : Ending) : Type 0 where
   pub takes : check_refusal g was ≡ None
   pub tight : tight_refusal g now ≡ Some ending

@@ -29,11 +29,7 @@ impl Verb {
         ensures { result ≡ writes self }
     {
         match self {
-            Verb::Run
-            | Verb::Check
-            | Verb::Make
-            | Verb::Soak { .. }
-            | Verb::Scrub { .. } => true,
+            Verb::Run | Verb::Check | Verb::Make | Verb::Soak { .. } | Verb::Scrub { .. } => true,
             Verb::List | Verb::Extract => false,
         }
     }
@@ -55,11 +51,7 @@ impl Verb {
     {
         match self {
             Verb::Extract | Verb::Make => true,
-            Verb::Run
-            | Verb::List
-            | Verb::Check
-            | Verb::Soak { .. }
-            | Verb::Scrub { .. } => false,
+            Verb::Run | Verb::List | Verb::Check | Verb::Soak { .. } | Verb::Scrub { .. } => false,
         }
     }
 }

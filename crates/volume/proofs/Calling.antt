@@ -86,7 +86,7 @@ same_le n a b to from = ⊎_elim
     (cases_Bool (nat_le n a))
 
 -- nothing is there
-none_is : {X : Type 0} (o : Option X) → is_some o ≡ false → o ≡ None
+pub none_is : {X : Type 0} (o : Option X) → is_some o ≡ false → o ≡ None
 none_is None e = refl
 none_is (Some x) e = absurd (let no : true ≡ false = e in cc)
 

@@ -87,12 +87,14 @@ later_cut g was mid image magics before cut = record {
 }
 
 -- whether blocks are shared is told alike of images with as many shared blocks
-same_shared : (g : Geometry) (was now : List ℕ) (shares : Bool) → shared_blocks g now ≡ shared_blocks g was → TellsShared g was shares → TellsShared g now shares
+same_shared : (g : Geometry) (was now : List ℕ) (shares : Bool) → shared_blocks g now ≡ shared_blocks g was → TellsShared g was shares →
+    TellsShared g now shares
 same_shared g was now true same some = omega (arith, same, some)
 same_shared g was now false same none = same ∙ none
 
 -- what the stages leave is judged as the image before them
-pub judged_on : (g : Geometry) (was mid : List ℕ) (shares : Bool) (report : Report) → HasMagics g was → HasMagics g mid → IsFitting g was shares → Checked g was mid report → IsJudged g shares report.free_blocks mid
+pub judged_on : (g : Geometry) (was mid : List ℕ) (shares : Bool) (report : Report) → HasMagics g was → HasMagics g mid → IsFitting g was shares →
+    Checked g was mid report → IsJudged g shares report.free_blocks mid
 judged_on g was mid shares report before after fitting checked = record {
   neat = checked.neat;
   fitting = (fits-same g was mid checked.uses before after 0 fitting.0, same_shared g was mid shares (shared-blocks g was mid checked.uses) fitting.1);
@@ -106,12 +108,13 @@ judged_tidy : (g : Geometry) (image : List ℕ) (free : ℕ) → IsJudged g fals
 judged_tidy g image free judged = neat-unshared g image judged.neat judged.fitting.1
 
 -- and nothing is parted
-pub divides_none : (g : Geometry) (image : List ℕ) (free : ℕ) → IsJudged g false free image → CheckCut g image image × PartedOr g image image free
-divides_none g image free judged =
-    let tidy = judged_tidy g image free judged in (
-      cut_none g image (tidy_sound g image image tidy).magics,
-      record { parting = record { tidy = tidy; table = refl; reserve = λ reserve. reserve; counts = λ block low. refl }; alone = λ none. refl; free = judged.free },
-    )
+pub divides_none : (g : Geometry) (image : List ℕ) (shares : Bool) (free : ℕ) → shares ≡ false → IsJudged g shares free image →
+    CheckCut g image image × PartedOr g image image free
+divides_none g image true free told judged = absurd (cc)
+divides_none g image false free told judged =
+    let tidy = judged_tidy g image free judged in
+    let same : Parted g image image = record { tidy = tidy; table = refl; reserve = λ reserve. reserve; counts = λ block low. refl } in
+    (cut_none g image (tidy_sound g image image tidy).magics, record { parting = same; alone = λ none. refl; free = judged.free })
 
 -- the parted image is a cut
 parted_cut : (g : Geometry) (was now : List ℕ) → Parted g was now → CheckCut g was now
@@ -126,9 +129,12 @@ pub divided_cut : (g : Geometry) (was mid image : List ℕ) → Parted g was mid
 divided_cut g was mid image p same = subst (λ (c : List ℕ). CheckCut g was c) (sym same) (parted_cut g was mid p)
 
 -- which ends it
-pub divided_counted : (g : Geometry) (was mid now : List ℕ) (free before : ℕ) → IsJudged g true before was → Parted g was mid → (now ≡ mid) × (free ≡ free_blocks g mid) → PartedOr g was now free
-divided_counted g was mid now free before judged p w =
-    subst (λ (c : List ℕ). PartedOr g was c free) (sym w.0) (record { parting = p; alone = λ none. let some = judged.fitting.1 in absurd (omega (arith, some, none)); free = w.1 })
+pub divided_counted : (g : Geometry) (was mid now : List ℕ) (shares : Bool) (free before : ℕ) → shares ≡ true → IsJudged g shares before was → Parted g was mid →
+    (now ≡ mid) × (free ≡ free_blocks g mid) → PartedOr g was now free
+divided_counted g was mid now false free before told judged p w = absurd (cc)
+divided_counted g was mid now true free before told judged p w =
+    let some = judged.fitting.1 in
+    subst (λ (c : List ℕ). PartedOr g was c free) (sym w.0) (record { parting = p; alone = λ none. absurd (omega (arith, some, none)); free = w.1 })
 
 -- ---- the cleaning after it
 
@@ -165,7 +171,14 @@ module _ (g : Geometry) (was mid : List ℕ) (before : ℕ) (few : before < 2) (
   }
 
   pub finished_by : (now : List ℕ) (free : ℕ) → Cleared g mid now × (free ≡ free_blocks g now) → PartedCleared g was now free
-  finished_by now free w = record { parted = mid; parting = p.parting; alone = p.alone; cleared = w.0; quiet = λ reserve. absurd (none_before reserve); free = w.1 }
+  finished_by now free w = record {
+    parted = mid;
+    parting = p.parting;
+    alone = p.alone;
+    cleared = w.0;
+    quiet = λ reserve. absurd (none_before reserve);
+    free = w.1;
+  }
 
 -- ---- all of it
 
@@ -215,10 +228,12 @@ module _ (g : Geometry) (was mid now : List ℕ) (report : Report) (free : ℕ) 
 -- ---- over a device
 
 -- a look before a check
-pub checks_after : {N : Type 0} {nor : NorOf N} {old seen : View N nor} {new : N} {r : Result Report CheckErr} → OnlyLooks old seen → ChecksVolume nor seen.geometry seen.nor.now new r → ChecksVolume nor old.geometry old.nor.now new r
+pub checks_after : {N : Type 0} {nor : NorOf N} {old seen : View N nor} {new : N} {r : Result Report CheckErr} → OnlyLooks old seen →
+    ChecksVolume nor seen.geometry seen.nor.now new r → ChecksVolume nor old.geometry old.nor.now new r
 checks_after {N} {nor} {old} {seen} {new} {r} looks after =
     let reads = looks.reads in
     let c : ChecksVolume nor old.geometry seen.nor.now new r = subst (λ (k : Geometry). ChecksVolume nor k seen.nor.now new r) looks.same.geometry after in
+    let g = old.geometry in
     let back : (P : List ℕ → Type 0) → P (nor.bytes seen.nor.now) → P (nor.bytes old.nor.now) = λ P h. subst P reads.bytes h in
     record {
       wrong = c.wrong;
@@ -226,13 +241,13 @@ checks_after {N} {nor} {old} {seen} {new} {r} looks after =
       few = c.few;
       cause = λ is. let rose = c.cause is in let more = reads.faults in omega arith;
       changes = after_reads reads c.changes;
-      fits = λ tells. back (λ l. OnOk r (FitsWith old.geometry l 0)) (c.fits (reads.told tells));
-      mixed = λ tells. back (λ l. IfErr r (CountsMixed old.geometry l)) (c.mixed (reads.told tells));
+      fits = λ tells. back (λ l. OnOk r (FitsWith g l 0)) (c.fits (reads.told tells));
+      mixed = λ tells. back (λ l. IfErr r (CountsMixed g l)) (c.mixed (reads.told tells));
       refused = on_refusal r c.refused (λ later. reads_then reads later);
-      spared = λ tells. back (λ l. IsRefused old.geometry l → OnlyReads nor old.nor.now new) (λ refused. reads_then reads (c.spared (reads.told tells) refused));
-      done = λ tells. back (λ l. IfOk r (λ report. CheckDone old.geometry l (nor.bytes new) report)) (c.done (reads.told tells));
-      mends = λ tells. back (λ l. Recovers old.geometry l → (shared_blocks old.geometry l ≡ 0) ⊎ HasReserve old.geometry l → IfOk r (λ report. 2 ≤ report.free_blocks)) (c.mends (reads.told tells));
-      idle = λ tells. back (λ l. IsTidy old.geometry l → HasReserve old.geometry l → OnlyReads nor old.nor.now new) (λ tidy reserve. reads_then reads (c.idle (reads.told tells) tidy reserve));
+      spared = λ tells. back (λ l. IsRefused g l → OnlyReads nor old.nor.now new) (λ refused. reads_then reads (c.spared (reads.told tells) refused));
+      done = λ tells. back (λ l. IfOk r (λ report. CheckDone g l (nor.bytes new) report)) (c.done (reads.told tells));
+      mends = λ tells. back (λ l. Recovers g l → (shared_blocks g l ≡ 0) ⊎ HasReserve g l → IfOk r (λ report. 2 ≤ report.free_blocks)) (c.mends (reads.told tells));
+      idle = λ tells. back (λ l. IsTidy g l → HasReserve g l → OnlyReads nor old.nor.now new) (λ tidy two. reads_then reads (c.idle (reads.told tells) tidy two));
       apart = c.apart;
       undamaged = λ tells. c.undamaged (reads.told tells);
     }
@@ -243,7 +258,8 @@ checks_after {N} {nor} {old} {seen} {new} {r} looks after =
 
 module _ {N : Type 0} {nor : NorOf N} {old seen : View N nor} where
   -- it was refused before anything was written, or the device failed then
-  pub judge_fails : {why : CheckErr} → (nor.tells old.nor.now → HasMagics old.geometry (nor.bytes old.nor.now)) → Judges old seen (Err why) → ChecksVolume nor old.geometry old.nor.now seen.nor.now (Err why)
+  pub judge_fails : {why : CheckErr} → (nor.tells old.nor.now → HasMagics old.geometry (nor.bytes old.nor.now)) → Judges old seen (Err why) →
+      ChecksVolume nor old.geometry old.nor.now seen.nor.now (Err why)
   judge_fails {why} magics judges =
       let reads = judges.looks.reads in
       record {
@@ -263,7 +279,8 @@ module _ {N : Type 0} {nor : NorOf N} {old seen : View N nor} where
         undamaged = λ tells. judges.among;
       }
     where
-      as_report : (o : Option GeoErr) (w : CheckErr) → IfSome o (λ e. ◌≡◌ {A = Result Bool CheckErr} (Err w) (Err (Wrong e))) → IfSome o (λ e. ◌≡◌ {A = Result Report CheckErr} (Err w) (Err (Wrong e)))
+      as_report : (o : Option GeoErr) (w : CheckErr) → IfSome o (λ e. ◌≡◌ {A = Result Bool CheckErr} (Err w) (Err (Wrong e))) →
+          IfSome o (λ e. ◌≡◌ {A = Result Report CheckErr} (Err w) (Err (Wrong e)))
       as_report None w h = tt
       as_report (Some e) w h = let same : w ≡ Wrong e = cc in ap (λ (x : CheckErr). Err x) same
 
@@ -288,11 +305,14 @@ never_refused g image shares fine fitting refused = ⊎_elim
     (λ (over : fits_over g image ≡ false). let yes = (fits-tested g image).1 fitting.0 in let no : true ≡ false = sym yes ∙ over in absurd (cc))
     refused
 
-module _ {N : Type 0} {nor : NorOf N} (old mid : View N nor) (shares : Bool) (fine : write_refusal old.geometry ≡ None) (magics : nor.tells old.nor.now → HasMagics old.geometry (nor.bytes old.nor.now))
+module _ {N : Type 0} {nor : NorOf N} (old mid : View N nor) (shares : Bool) (fine : write_refusal old.geometry ≡ None)
+    (magics : nor.tells old.nor.now → HasMagics old.geometry (nor.bytes old.nor.now))
     (fitting : nor.tells old.nor.now → IsFitting old.geometry (nor.bytes old.nor.now) shares) where
   -- the stages failed
-  pub stages_fail : {why : CheckErr} → IsOfStages why → (write_refusal old.geometry ≡ None → IsWritable why) → (IsErrOf {T = Report} (Err why) DeviceFault → Rose (nor.faults old.nor.now) (nor.faults mid.nor.now)) →
-      Changes nor old.nor.now mid.nor.now (StageCut old.geometry) → (IsRefusal why → OnlyReads nor old.nor.now mid.nor.now) → (nor.tells old.nor.now → IsTidy old.geometry (nor.bytes old.nor.now) → OnlyReads nor old.nor.now mid.nor.now) →
+  pub stages_fail : {why : CheckErr} → IsOfStages why → (write_refusal old.geometry ≡ None → IsWritable why) →
+      (IsErrOf {T = Report} (Err why) DeviceFault → Rose (nor.faults old.nor.now) (nor.faults mid.nor.now)) →
+      Changes nor old.nor.now mid.nor.now (StageCut old.geometry) → (IsRefusal why → OnlyReads nor old.nor.now mid.nor.now) →
+      (nor.tells old.nor.now → IsTidy old.geometry (nor.bytes old.nor.now) → OnlyReads nor old.nor.now mid.nor.now) →
       ChecksVolume nor old.geometry old.nor.now mid.nor.now (Err why)
   stages_fail {why} among writable cause changes refused idle = record {
     wrong = no_refusal (write_refusal old.geometry) _ fine;
@@ -311,22 +331,32 @@ module _ {N : Type 0} {nor : NorOf N} (old mid : View N nor) (shares : Bool) (fi
     undamaged = λ tells. stages_undamaged why among;
   }
 
-  module _ (report : Report) (same : IsSameView old mid) (checked : nor.tells old.nor.now → Checked old.geometry (nor.bytes old.nor.now) (nor.bytes mid.nor.now) report)
-      (changes : Changes nor old.nor.now mid.nor.now (StageCut old.geometry)) (idle : nor.tells old.nor.now → IsTidy old.geometry (nor.bytes old.nor.now) → OnlyReads nor old.nor.now mid.nor.now) where
-    judged : nor.tells old.nor.now → IsJudged mid.geometry shares report.free_blocks (nor.bytes mid.nor.now)
-    judged tells = subst (λ (k : Geometry). IsJudged k shares report.free_blocks (nor.bytes mid.nor.now)) (sym same.geometry)
-        (judged_on old.geometry (nor.bytes old.nor.now) (nor.bytes mid.nor.now) shares report (magics tells) (changes.now tells).keeps.keeps.sound.magics (fitting tells) (checked tells))
+  module _ (report : Report) (same : IsSameView old mid)
+      (checked : nor.tells old.nor.now → Checked old.geometry (nor.bytes old.nor.now) (nor.bytes mid.nor.now) report)
+      (changes : Changes nor old.nor.now mid.nor.now (StageCut old.geometry))
+      (idle : nor.tells old.nor.now → IsTidy old.geometry (nor.bytes old.nor.now) → OnlyReads nor old.nor.now mid.nor.now) where
+    judged_at : nor.tells old.nor.now → IsJudged old.geometry shares report.free_blocks (nor.bytes mid.nor.now)
+    judged_at tells =
+        let later = (changes.now tells).keeps.keeps.sound.magics in
+        judged_on old.geometry (nor.bytes old.nor.now) (nor.bytes mid.nor.now) shares report (magics tells) later (fitting tells) (checked tells)
 
-    finishing_cuts : {new : View N nor} {r : Result ℕ CheckErr} → Stepped check_stopped mid new r (finishing shares report.free_blocks) → Changes nor old.nor.now new.nor.now (CheckCut old.geometry)
+    judged : nor.tells old.nor.now → IsJudged mid.geometry shares report.free_blocks (nor.bytes mid.nor.now)
+    judged tells = subst (λ (k : Geometry). IsJudged k shares report.free_blocks (nor.bytes mid.nor.now)) (sym same.geometry) (judged_at tells)
+
+    finishing_cuts : {new : View N nor} {r : Result ℕ CheckErr} → Stepped check_stopped mid new r (finishing shares report.free_blocks) →
+        Changes nor old.nor.now new.nor.now (CheckCut old.geometry)
     finishing_cuts {new} step =
-        let cuts : Changes nor mid.nor.now new.nor.now (λ was image. IsJudged old.geometry shares report.free_blocks was → CheckCut old.geometry was image) =
-        subst (λ (k : Geometry). Changes nor mid.nor.now new.nor.now (λ was image. IsJudged k shares report.free_blocks was → CheckCut k was image)) same.geometry step.cuts in
-        go_on (wider changes (λ tells image cut. stage_cut old.geometry (nor.bytes old.nor.now) image (magics tells) cut)) cuts (λ tells image was cut.
-        let at : IsJudged old.geometry shares report.free_blocks (nor.bytes mid.nor.now) = subst (λ (k : Geometry). IsJudged k shares report.free_blocks (nor.bytes mid.nor.now)) same.geometry (judged tells) in
-        later_cut old.geometry (nor.bytes old.nor.now) (nor.bytes mid.nor.now) image (magics tells) (changes.now tells) (cut at))
+        let g = old.geometry in
+        let cuts : Changes nor mid.nor.now new.nor.now (λ was image. IsJudged g shares report.free_blocks was → CheckCut g was image) =
+        subst (λ (k : Geometry). Changes nor mid.nor.now new.nor.now (λ was image. IsJudged k shares report.free_blocks was → CheckCut k was image))
+        same.geometry
+        step.cuts in
+        go_on (wider changes (λ tells image cut. stage_cut g (nor.bytes old.nor.now) image (magics tells) cut)) cuts
+        (λ tells image was cut. later_cut g (nor.bytes old.nor.now) (nor.bytes mid.nor.now) image (magics tells) (changes.now tells) (cut (judged_at tells)))
 
     -- a tidy image with two free blocks is only read
-    reads_on : {d : N} → (shares ≡ false → 2 ≤ report.free_blocks → OnlyReads nor mid.nor.now d) → nor.tells old.nor.now → IsTidy old.geometry (nor.bytes old.nor.now) → HasReserve old.geometry (nor.bytes old.nor.now) → OnlyReads nor old.nor.now d
+    reads_on : {d : N} → (shares ≡ false → 2 ≤ report.free_blocks → OnlyReads nor mid.nor.now d) → nor.tells old.nor.now →
+        IsTidy old.geometry (nor.bytes old.nor.now) → HasReserve old.geometry (nor.bytes old.nor.now) → OnlyReads nor old.nor.now d
     reads_on quiet tells tidy reserve =
         let none = tidy-unshared old.geometry (nor.bytes old.nor.now) tidy in
         let free = (checked tells).free in
@@ -338,7 +368,8 @@ module _ {N : Type 0} {nor : NorOf N} (old mid : View N nor) (shares : Bool) (fi
         alone false none some = refl
 
     -- the parting or the cleaning failed
-    pub finishing_fails : {new : View N nor} {why : CheckErr} → (shares ≡ false → 2 ≤ report.free_blocks → OnlyReads nor mid.nor.now new.nor.now) → Stepped check_stopped mid new (Err why) (finishing shares report.free_blocks) → ChecksVolume nor old.geometry old.nor.now new.nor.now (Err why)
+    pub finishing_fails : {new : View N nor} {why : CheckErr} → (shares ≡ false → 2 ≤ report.free_blocks → OnlyReads nor mid.nor.now new.nor.now) →
+        Stepped check_stopped mid new (Err why) (finishing shares report.free_blocks) → ChecksVolume nor old.geometry old.nor.now new.nor.now (Err why)
     finishing_fails {new} {why} quiet step = record {
       wrong = no_refusal (write_refusal old.geometry) _ fine;
       writable = λ none. stop_writable why step.means;
@@ -357,11 +388,17 @@ module _ {N : Type 0} {nor : NorOf N} (old mid : View N nor) (shares : Bool) (fi
     }
 
     -- all was done
-    pub finishes_on : {new : View N nor} {free : ℕ} → (nor.tells mid.nor.now → IsImage old.geometry (nor.bytes mid.nor.now)) → usable old.geometry ≤ 32766 → (shares ≡ false → 2 ≤ report.free_blocks → OnlyReads nor mid.nor.now new.nor.now) →
-        Stepped check_stopped mid new (Ok free) (finishing shares report.free_blocks) → ChecksVolume nor old.geometry old.nor.now new.nor.now (Ok (record report { free_blocks = free }))
+    pub finishes_on : {new : View N nor} {free : ℕ} → (nor.tells mid.nor.now → IsImage old.geometry (nor.bytes mid.nor.now)) → usable old.geometry ≤ 32766 →
+        (shares ≡ false → 2 ≤ report.free_blocks → OnlyReads nor mid.nor.now new.nor.now) →
+        Stepped check_stopped mid new (Ok free) (finishing shares report.free_blocks) →
+        ChecksVolume nor old.geometry old.nor.now new.nor.now (Ok (record report { free_blocks = free }))
     finishes_on {new} {free} is small quiet step =
-        let ends : nor.tells old.nor.now → PartedCleared old.geometry (nor.bytes mid.nor.now) (nor.bytes new.nor.now) free =
-        λ tells. subst (λ (k : Geometry). PartedCleared k (nor.bytes mid.nor.now) (nor.bytes new.nor.now) free) same.geometry (step.ends (changes.cuts.told tells) (judged tells)) in
+        let g = old.geometry in
+        let was = nor.bytes old.nor.now in
+        let left = nor.bytes mid.nor.now in
+        let now = nor.bytes new.nor.now in
+        let ends : nor.tells old.nor.now → PartedCleared g left now free =
+        λ tells. subst (λ (k : Geometry). PartedCleared k left now free) same.geometry (step.ends (changes.cuts.told tells) (judged tells)) in
         record {
           wrong = no_refusal (write_refusal old.geometry) _ fine;
           writable = λ none. tt;
@@ -372,8 +409,8 @@ module _ {N : Type 0} {nor : NorOf N} (old mid : View N nor) (shares : Bool) (fi
           mixed = λ tells. tt;
           refused = tt;
           spared = λ tells refused. never_refused old.geometry (nor.bytes old.nor.now) shares fine (fitting tells) refused;
-          done = λ tells. done_after old.geometry (nor.bytes old.nor.now) (nor.bytes mid.nor.now) (nor.bytes new.nor.now) report free (checked tells) (ends tells);
-          mends = λ tells. mends_after old.geometry (nor.bytes old.nor.now) (nor.bytes mid.nor.now) (nor.bytes new.nor.now) report free (checked tells) (ends tells) (is (changes.cuts.told tells));
+          done = λ tells. done_after g was left now report free (checked tells) (ends tells);
+          mends = λ tells. mends_after g was left now report free (checked tells) (ends tells) (is (changes.cuts.told tells));
           idle = reads_on quiet;
           apart = tt;
           undamaged = λ tells. tt;
@@ -381,7 +418,8 @@ module _ {N : Type 0} {nor : NorOf N} (old mid : View N nor) (shares : Bool) (fi
 
 -- ---- the blocks are counted after a check
 
-module _ {D : Type 0} {nor : NorOf D} {g : Geometry} {old mid new : D} {report : Report} (checks : ChecksVolume nor g old mid (Ok report)) (reads : OnlyReads nor mid new) where
+module _ {D : Type 0} {nor : NorOf D} {g : Geometry} {old mid new : D} {report : Report} (checks : ChecksVolume nor g old mid (Ok report))
+    (reads : OnlyReads nor mid new) where
   -- and the device failed in that
   pub count_fails : Rose (nor.faults old) (nor.faults new) → ChecksVolume nor g old new (Err DeviceFault)
   count_fails rose = record {

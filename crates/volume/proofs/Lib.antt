@@ -8,3 +8,4 @@ pub mod Continuing
 pub mod WriteCalls
 pub mod Calling
 pub mod RunSettling
+pub mod Scrubbings

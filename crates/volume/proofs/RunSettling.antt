@@ -164,7 +164,7 @@ module _ {N : Type 0} {nor : NorOf N} where
       wider (writes (file_in g was r.id)).cuts (λ tells image cut m at. cut_waits g was (memory old) m r run at image (cut (can_write g was (memory old) m r run at)))
 
   -- a volume stands where all is settled, by its image
-  settled_now : (old new : Volume N nor) (s : State) → IsSameVolume old new → new.slots.now ≡ old.slots.now → (memory new).run ≡ None → nor.tells new.nor.now →
+  pub settled_now : (old new : Volume N nor) (s : State) → IsSameVolume old new → new.slots.now ≡ old.slots.now → (memory new).run ≡ None → nor.tells new.nor.now →
       IsAt old.geometry (nor.bytes new.nor.now) (record { slots = (memory old).slots; run = None }) (settled_at s) → Holds new (settled_at s)
   settled_now old new s same slots none tells image =
       let lists : (memory old).slots ≡ (memory new).slots = ap (λ (l : List FdSlot). descriptors l) (sym slots) in

@@ -71,7 +71,7 @@ abbrev pub IsUndamaged : CheckErr → Type 0
 IsUndamaged (Damaged d) = ⊥
 IsUndamaged why = Unit {0}
 
--- a check refuses the image: it isn't written, or the index pages of its shared blocks find no places
+-- a check refuses the image: its numbers don't allow writing, or the index pages of its shared blocks find no places
 abbrev pub IsRefused : Geometry → List ℕ → Type 0
 IsRefused g image = (write_refusal g ≢ None) ⊎ (fits_over g image ≡ false)
 

@@ -7,9 +7,9 @@ pub mod Acts
 pub mod Unchanged
 pub mod Packed
 pub mod Settles
-pub mod Scrubs
 pub mod Settled
 pub mod Extends
+pub mod Scrubs
 pub mod Unmounts
 pub mod Calls
 pub mod Checking

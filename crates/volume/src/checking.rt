@@ -48,7 +48,7 @@ fn clear<N: Nor>(v: &mut View<'_, N>) -> Result<u32, CheckErr>
     }
 }
 
-// Whether blocks are shared. A volume that isn't written is refused, and one whose shared blocks don't fit over.
+// Whether blocks are shared. A volume that may not be written is refused, and one whose shared blocks don't fit over.
 fn judge<N: Nor>(v: &mut View<'_, N>, marks: &mut [u8]) -> Result<bool, CheckErr>
     requires room { check_need v.old.geometry ≤ length marks.old }
     ensures { Judges v.old v.new result }

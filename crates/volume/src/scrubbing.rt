@@ -1,6 +1,11 @@
-// A scrub step of a volume.
-ghost use Rattle.std.specs.Prelude.{◌≤◌};
-ghost use Rattle.volume.specs.Scrubs.{Scrubs};
+// A block in use that is less worn than the free ones is moved.
+ghost use Rattle.std.specs.Prelude.{◌≡◌, ◌*◌, ◌≤◌, length, true};
+ghost use Rattle.geometry.specs.Numbers.{scratch_need, cache_need};
+ghost use Rattle.nor_core.specs.Count.{Rose};
+ghost use Rattle.page_cache.specs.Kept.{IsKept, FewReads};
+ghost use Rattle.flash_view.specs.Same.{StaysBehind};
+ghost use Rattle.flash_view.specs.Table.{HasTable};
+ghost use Rattle.volume.specs.Scrubs.{ScrubsOn};
 
 use crate::Volume;
 use crate::stage::{Stage, stage_at};
@@ -10,14 +15,14 @@ use nor_core::{Nor, NorState};
 use table_model::FsErr;
 use wear_scrub::{Scrub, scrub_step};
 
-/// How a scrub step went, and whether the device was asked for a program or an erase.
+// How a scrub step went, and whether the device was asked for a program or an erase.
 #[derive(Drop)]
-struct Scrubbing {
+struct Scrubbed {
     result: Result<Scrub, StepErr>,
     wrote: bool,
 }
 
-// Makes a scrub step on a device.
+// Does a scrub step on a device.
 fn scrub_on<N: Nor>(
     g: Geometry,
     nor: &mut N,
@@ -26,7 +31,23 @@ fn scrub_on<N: Nor>(
     cache: &mut [u8],
     counted: &mut bool,
     limit: u16,
-) -> Scrubbing {
+) -> Scrubbed
+    requires unit { N.unit nor.old ≡ g.phys }
+    requires fits { g.blocks * g.block ≤ N.size nor.old }
+    requires work { scratch_need g ≤ length work.old }
+    requires cache { cache_need g ≤ length cache.old }
+    requires kept { IsKept N.NorState g nor.old cache.old }
+    requires table { counted.old ≡ true → HasTable N.NorState g nor.old rows.old }
+    requires limit { (1 ≤ limit) × (limit ≤ 32767) }
+    ensures kept { IsKept N.NorState g nor.new cache.new }
+    ensures cache_size { length cache.new ≡ length cache.old }
+    ensures behind { StaysBehind N.NorState g nor.old nor.new }
+    ensures few { FewReads N.NorState g nor.old cache.old nor.new cache.new }
+    ensures faults { N.faults nor.old ≤ N.faults nor.new }
+    ensures asked { result.wrote ≡ true → Rose (N.device_writes nor.old) (N.device_writes nor.new) }
+    ensures scrubs { ScrubsOn N.NorState g limit nor.old nor.new result.wrote result.result }
+    ensures table { counted.new ≡ true → HasTable N.NorState g nor.new rows.new }
+{
     let mut v = View {
         geometry: g,
         nor,
@@ -38,27 +59,31 @@ fn scrub_on<N: Nor>(
     };
     let result = scrub_step(&mut v, limit);
     *counted = v.counted;
-    Scrubbing {
+    Scrubbed {
         result,
         wrote: v.wrote,
     }
 }
 
 impl<'b, N: Nor> Volume<'b, N> {
-    /// Moves the least worn block in use, where three blocks are free and each of them is more worn by the limit: what waits is put onto
-    /// the chip first, then one block is cleaned, or none. Refused are `Failed`, `DeviceFault` and `Damaged`.
-    pub fn scrub(&mut self, limit: u16) -> Result<Scrub, FsErr>
+    ghost use Rattle.std.specs.Prelude.{◌≡◌, ◌≤◌, true, None};
+    ghost use Rattle.volume.specs.Holds.{memory};
+    ghost use Rattle.volume.specs.Stages.{takes_calls};
+    ghost use Rattle.volume.specs.Same.{IsSameVolume};
+    ghost use Rattle.volume.specs.Scrubs.{ScrubsSettled, Scrubs};
+
+    // Does a scrub step where nothing waits. `had` says whether anything waited when it began.
+    fn scrub_settled(&mut self, had: bool, limit: u16) -> Result<Scrub, FsErr>
+        requires takes { takes_calls self.old ≡ true }
+        requires none { (memory self.old).run ≡ None }
         requires limit { (1 ≤ limit) × (limit ≤ 32767) }
-        ensures { Scrubs limit self.old self.new result }
+        ensures same { IsSameVolume self.old self.new }
+        ensures scrubs { ScrubsSettled had limit self.old self.new result }
     {
-        if self.stage != Stage::Checked {
-            return Err(FsErr::Failed);
-        }
-        self.begin()?;
         let g = self.geometry;
         let work = &mut *self.work;
         let (work, rows) = work.split_at_mut(g.scratch_need() as usize);
-        let Scrubbing { result, wrote } = scrub_on(
+        let Scrubbed { result, wrote } = scrub_on(
             g,
             self.nor,
             work,
@@ -69,14 +94,37 @@ impl<'b, N: Nor> Volume<'b, N> {
         );
         match result {
             Ok(scrub) => Ok(scrub),
-            Err(StepErr::DeviceFault) => {
-                self.stage = stage_at(&FsErr::DeviceFault, wrote);
-                Err(FsErr::DeviceFault)
-            }
-            Err(StepErr::Damaged(differ)) => {
-                self.stage = stage_at(&FsErr::Damaged(differ), wrote);
-                Err(FsErr::Damaged(differ))
+            Err(why) => {
+                let why = FsErr::from(why);
+                self.stage = stage_at(&why, had || wrote);
+                Err(why)
             }
         }
+    }
+
+    // Does a scrub on a volume that takes calls.
+    fn scrub_open(&mut self, limit: u16) -> Result<Scrub, FsErr>
+        requires takes { takes_calls self.old ≡ true }
+        requires limit { (1 ≤ limit) × (limit ≤ 32767) }
+        ensures { Scrubs limit self.old self.new result }
+    {
+        match self.begin() {
+            Err(why) => Err(why),
+            Ok(had) => self.scrub_settled(had, limit),
+        }
+    }
+
+    /// Moves the least worn block in use, where three blocks are free and each of them is more worn by the limit, 1 to 32767 erase
+    /// counts: written bytes that wait are put onto the chip first, then one block is cleaned, or none. Refused are a volume that takes no
+    /// calls (`Failed`), and a device that fails: `DeviceFault`, or `Damaged` where a page reads otherwise than it was written; then the
+    /// volume takes no calls any more, if a program or an erase was asked for.
+    pub fn scrub(&mut self, limit: u16) -> Result<Scrub, FsErr>
+        requires limit { (1 ≤ limit) × (limit ≤ 32767) }
+        ensures { Scrubs limit self.old self.new result }
+    {
+        if self.stage != Stage::Checked {
+            return Err(FsErr::Failed);
+        }
+        self.scrub_open(limit)
     }
 }

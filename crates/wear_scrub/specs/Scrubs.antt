@@ -1,5 +1,5 @@
 -- What a scrub step picks, and what it leaves.
-use Rattle.std.specs.Prelude.{◌≡◌, ℕ, ◌+◌, ◌<◌, ◌≤◌, List, Some, None}
+use Rattle.std.specs.Prelude.{◌≡◌, ℕ, ◌+◌, ◌*◌, ◌/◌, ◌<◌, ◌≤◌, List, Some, None}
 use Rattle.geometry.specs.declared.geometry.Geometry.{Geometry}
 use Rattle.image_model.specs.Places.{IsImage, next_count}
 use Rattle.image_model.specs.Tidy.{IsTidy, free_blocks, HasReserve}
@@ -9,6 +9,7 @@ use Rattle.image_model.specs.Sound.{Keeps}
 use Rattle.room_laws.specs.Recovery.{Recovers}
 use Rattle.flash_view.specs.Steps.{Step}
 use Rattle.block_gc.specs.Cleanings.{CleanedBlock}
+use Rattle.block_gc.specs.Programs.{moved_in}
 use Rattle.wear_scrub.specs.declared.scrubs.Scrub.{Scrub}
 use Rattle.wear_scrub.specs.declared.scrubs.Scrub.TheVariants.{NoRoom, Rested, Moved}
 
@@ -36,6 +37,16 @@ abbrev pub ScrubDone : Geometry → (limit : ℕ) → (was now : List ℕ) → S
 ScrubDone g limit was now (NoRoom free) = IsPick g was limit (NoRoom free) × (now ≡ was)
 ScrubDone g limit was now Rested = IsPick g was limit Rested × (now ≡ was)
 ScrubDone g limit was now (Moved block age) = IsPick g was limit (Moved block age) × Moves g block was now
+
+-- a step that cleaned no block
+abbrev pub IsRest : Scrub → Type 0
+IsRest (Moved block age) = ⊥
+IsRest _ = Unit {0}
+
+-- the most programs and erases of a step
+abbrev pub most_programs : Geometry → List ℕ → Scrub → ℕ
+most_programs g image (Moved block age) = 6 * moved_in g image block + g.block / g.phys + 2
+most_programs g image _ = 0
 
 -- A cut keeps the image, and it recovers where two blocks were free.
 pub record ScrubCut (g : Geometry) (was image : List ℕ) : Type 0 where

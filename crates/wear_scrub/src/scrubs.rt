@@ -1,12 +1,13 @@
 // A step of scrubbing.
-ghost use Rattle.std.specs.Prelude.{◌≡◌, ◌≤◌, OnErr, IfOk};
+ghost use Rattle.std.specs.Prelude.{◌≡◌, ◌+◌, ◌≤◌, OnErr, IfOk};
 ghost use Rattle.nor_core.specs.Count.{Rose};
+ghost use Rattle.nor_core.specs.Device.{OnlyReads};
 ghost use Rattle.image_model.specs.Tidy.{IsTidy};
 ghost use Rattle.flash_view.specs.Same.{OnlyLooks};
 ghost use Rattle.flash_view.specs.Steps.{Stepped, stopped};
 ghost use Rattle.free_search.specs.ByRows.{IsByRows};
 ghost use Rattle.wear_scrub.specs.Ages.{pick_of};
-ghost use Rattle.wear_scrub.specs.Scrubs.{IsInside, IsPick, scrubbing};
+ghost use Rattle.wear_scrub.specs.Scrubs.{IsInside, IsPick, IsRest, most_programs, scrubbing};
 
 use crate::ages::{Ages, all_ages};
 use block_gc::clean;
@@ -45,7 +46,6 @@ fn pick(found: &Ages, limit: u16) -> Scrub
 /// counts older than each free block and three blocks are free.
 #[tactic(auto, using(flash_view::proofs::Looking::looks_then))]
 pub fn scrub_pick<N: Nor>(v: &mut View<'_, N>, limit: u16) -> Result<Scrub, Failed>
-    requires limit { (1 ≤ limit) × (limit ≤ 32767) }
     ensures cause { OnErr result (Rose (N.faults v.old.nor.now) (N.faults v.new.nor.now)) }
     ensures looks { OnlyLooks v.old v.new }
     ensures quick { IsByRows v.old v.new result }
@@ -56,10 +56,12 @@ pub fn scrub_pick<N: Nor>(v: &mut View<'_, N>, limit: u16) -> Result<Scrub, Fail
 }
 
 /// A scrub step: the block that `scrub_pick` names is cleaned, and where it names none nothing is written. A cut leaves the table
-/// as it is, and where two blocks were free an uncut check gives two free blocks back.
+/// as it is, and where two blocks were free an uncut check gives two free blocks back. Each page that is moved takes six programs, and the
+/// block an erase for each of its units and two programs.
 pub fn scrub_step<N: Nor>(v: &mut View<'_, N>, limit: u16) -> Result<Scrub, StepErr>
-    requires limit { (1 ≤ limit) × (limit ≤ 32767) }
     ensures step { Stepped stopped v.old v.new result (scrubbing limit) }
+    ensures rest { IfOk result (λ scrub. IsRest scrub → OnlyReads N.NorState v.old.nor.now v.new.nor.now) }
+    ensures few { N.tells v.old.nor.now → IsTidy v.old.geometry (N.bytes v.old.nor.now) → IfOk result (λ scrub. N.device_writes v.new.nor.now ≤ N.device_writes v.old.nor.now + most_programs v.old.geometry (N.bytes v.old.nor.now) scrub) }
 {
     match scrub_pick(v, limit) {
         Err(Failed) => Err(StepErr::DeviceFault),

@@ -15,7 +15,8 @@ returns-in_err-report-clause-checks g c =
     let judges = c.in_ok-shares.ensures in
     let stages = c.in_err-report.ensures in
     rw (p.1, p.2) (checks_after judges.looks
-    (stages_fail c.judge.new.v c.check_stages.new.v c.in_ok-shares.shares (fine_on magics judges) (magics_on magics judges) (fitting_on magics judges) stages.among stages.writable stages.cause stages.changes stages.refused stages.idle))
+    (stages_fail c.judge.new.v c.check_stages.new.v c.in_ok-shares.shares (fine_on magics judges) (magics_on magics judges) (fitting_on magics judges)
+    stages.among stages.writable stages.cause stages.changes stages.refused stages.idle))
 
 pub returns-in_err-free_blocks-clause-checks : goal.returns-in_err-free_blocks-clause-checks
 returns-in_err-free_blocks-clause-checks g c =
@@ -25,7 +26,8 @@ returns-in_err-free_blocks-clause-checks g c =
     let stages = c.in_ok-report.ensures in
     let last = c.in_err-free_blocks.ensures in
     rw (p.1, p.2) (checks_after judges.looks
-    (finishing_fails c.judge.new.v c.check_stages.new.v c.in_ok-shares.shares (fine_on magics judges) (magics_on magics judges) (fitting_on magics judges) c.in_ok-report.report stages.same stages.done stages.changes stages.idle last.idle last.step))
+    (finishing_fails c.judge.new.v c.check_stages.new.v c.in_ok-shares.shares (fine_on magics judges) (magics_on magics judges) (fitting_on magics judges)
+    c.in_ok-report.report stages.same stages.done stages.changes stages.idle last.idle last.step))
 
 pub returns-clause-checks : goal.returns-clause-checks
 returns-clause-checks g c =
@@ -34,5 +36,6 @@ returns-clause-checks g c =
     let stages = c.in_ok-report.ensures in
     let last = c.in_ok-free_blocks.ensures in
     checks_after judges.looks
-    (finishes_on c.judge.new.v c.check_stages.new.v c.in_ok-shares.shares (fine_on magics judges) (magics_on magics judges) (fitting_on magics judges) c.in_ok-report.report stages.same stages.done stages.changes stages.idle
+    (finishes_on c.judge.new.v c.check_stages.new.v c.in_ok-shares.shares (fine_on magics judges) (magics_on magics judges) (fitting_on magics judges)
+    c.in_ok-report.report stages.same stages.done stages.changes stages.idle
     (λ tells. rw stages.same.geometry at (view_image c.check_stages.new.v (g.met.N.Nor.sized _) tells)) stages.few last.idle last.step)

@@ -1,13 +1,17 @@
-use Rattle.std.proofs.Common.{◌≡◌, refl, rules, Err}
+use Rattle.std.proofs.Common.{◌≡◌, ◌+◌, refl, rules, arith, Err}
 use Rattle.image_model.specs.Tidy.{IsTidy}
 use Rattle.flash_view.proofs.Stepped.{looked, after_look, passes, ends_as}
 use Rattle.wear_scrub.specs.declared.scrubs.Scrub.TheVariants.{NoRoom, Rested, Moved}
 use Rattle.wear_scrub.specs.Scrubs.{IsInside, IsPick}
-use Rattle.wear_scrub.proofs.Steps.{rests, moves, moved}
+use Rattle.wear_scrub.proofs.Steps.{can_clean, rests, moves, moved}
 use Rattle.wear_scrub.proofs.scrubs.scrub_step.Goals as goal
 
 pub returns-in-Err : goal.returns-in-Err
-returns-in-Err g c = record { step = let seen = c.in-Err.ensures in looked seen.looks (λ e. seen.cause) tt (λ tells need. (rests _ _ need.1, refl)) }
+returns-in-Err g c = record {
+  step = (let seen = c.in-Err.ensures in looked seen.looks (λ e. seen.cause) tt (λ tells need. (rests _ _ need.1, refl)));
+  rest = tt;
+  few = λ tells tidy. tt;
+}
 
 pub returns-in-Ok-NoRoom : goal.returns-in-Ok-NoRoom
 returns-in-Ok-NoRoom g c = record {
@@ -16,6 +20,8 @@ returns-in-Ok-NoRoom g c = record {
       looked seen.looks (λ e. absurd (cc)) tt (λ tells need.
       let pick : IsPick c.args.v.now.geometry (g.N.NorState.bytes c.args.v.now.nor.now) c.args.limit (NoRoom c.in-Ok-NoRoom.free) = rw c.in-Ok-NoRoom.field-0-is at (seen.told tells need.1) in
       (rests _ _ need.1, (pick, refl))));
+  rest = λ rests. c.in-Ok-NoRoom.ensures.looks.reads;
+  few = λ tells tidy. let same = c.in-Ok-NoRoom.ensures.looks.reads.writes in omega (arith, same);
 }
 
 pub returns-in-Ok-Rested : goal.returns-in-Ok-Rested
@@ -25,6 +31,8 @@ returns-in-Ok-Rested g c = record {
       looked seen.looks (λ e. absurd (cc)) tt (λ tells need.
       let pick : IsPick c.args.v.now.geometry (g.N.NorState.bytes c.args.v.now.nor.now) c.args.limit Rested = rw c.in-Ok-Rested.field-0-is at (seen.told tells need.1) in
       (rests _ _ need.1, (pick, refl))));
+  rest = λ rests. c.in-Ok-Rested.ensures.looks.reads;
+  few = λ tells tidy. let same = c.in-Ok-Rested.ensures.looks.reads.writes in omega (arith, same);
 }
 
 pub returns-in_err-clean-in-Ok-Moved : goal.returns-in_err-clean-in-Ok-Moved
@@ -41,6 +49,8 @@ returns-in_err-clean-in-Ok-Moved g c =
           (λ tells need.
           let pick : IsPick view.geometry (g.N.NorState.bytes view.nor.now) c.args.limit (Moved block age) = rw c.in-Ok-Moved.field-0-is at (seen.told tells need.1) in
           moves _ _ c.args.limit block age need.0 need.1 low pick);
+      rest = rw is tt;
+      few = λ tells tidy. rw is tt;
     }
 
 pub returns-in_ok-clean-in-Ok-Moved : goal.returns-in_ok-clean-in-Ok-Moved
@@ -52,7 +62,14 @@ returns-in_ok-clean-in-Ok-Moved g c =
     let low : IsInside _ (Moved block age) = rw c.in-Ok-Moved.field-0-is at seen.below in
     let pick : g.N.NorState.tells view.nor.now → IsTidy view.geometry (g.N.NorState.bytes view.nor.now) → IsPick view.geometry (g.N.NorState.bytes view.nor.now) c.args.limit (Moved block age) =
     λ tells tidy. rw c.in-Ok-Moved.field-0-is at (seen.told tells tidy) in
+    let clean = c.in_ok-clean-in-Ok-Moved.ensures in
     record {
+      rest = λ rests. absurd rests;
+      few = λ tells tidy.
+          let can = can_clean view.geometry (g.N.NorState.bytes view.nor.now) c.args.limit block tidy (pick tells tidy).1 in
+          let bound = rw (seen.looks.same.geometry, seen.looks.reads.bytes, seen.looks.reads.writes) at (clean.few (seen.looks.reads.told tells)) in
+          let most = bound can in
+          omega (arith, most);
       step =
           ends_as (after_look seen.looks c.in_ok-clean-in-Ok-Moved.ensures.step (λ tells can. record { needs = can; cut = λ d cut. cut; done = λ d ok done. done }))
           (λ tells need. moves _ _ c.args.limit block age need.0 need.1 low (pick tells need.1))

@@ -1,0 +1,39 @@
+use Rattle.std.proofs.Common.{refl, Ok, Err}
+use Rattle.vol_check.specs.declared.report.CheckErr.TheVariants.{DeviceFault}
+use Rattle.room_laws.proofs.Sorted.{tidy_tells_free}
+use Rattle.flash_view.specs.Steps.{Stepped}
+use Rattle.flash_view.proofs.Looking.{looks_none}
+use Rattle.flash_view.proofs.Stepped.{looked, stepped_then}
+use Rattle.volume.specs.Checking.{check_stopped}
+use Rattle.volume.proofs.Clearing.{counting}
+use Rattle.volume.proofs.Finishing.{divides_none, divided_cut, divided_counted}
+use Rattle.volume.proofs.checking.divide.Goals as goal
+
+pub returns-then-not-shares-clause-step : goal.returns-then-not-shares-clause-step
+returns-then-not-shares-clause-step g c =
+    let none = c.if-not-shares.true in
+    looked (looks_none c.args.v.now) (λ e. absurd (cc)) tt (λ tells judged. divides_none _ _ c.args.shares c.args.free none judged)
+
+pub returns-in-Err-clause-step : goal.returns-in-Err-clause-step
+returns-in-Err-clause-step g c =
+    let seen = c.in-Err.ensures in
+    let look : Stepped check_stopped c.part.new.v c.free_blocks.new.v (Err DeviceFault) counting =
+    looked seen.looks.only (λ e. seen.looks.cause) tt (λ tells tidy. (refl, refl)) in
+    stepped_then c.in_ok-part.ensures look (λ tells judged. record { needs = (judged.neat, judged.fitting.0); cut = λ c cut. cut })
+    (λ tells judged parted. record {
+      needs = parted.tidy;
+      cut = λ image cut. divided_cut _ _ _ image parted cut;
+      done = λ image free w. divided_counted _ _ _ image c.args.shares free c.args.free c.if-not-shares.false judged parted w;
+    })
+
+pub returns-in-Ok-clause-step : goal.returns-in-Ok-clause-step
+returns-in-Ok-clause-step g c =
+    let seen = c.in-Ok.ensures in
+    let look : Stepped check_stopped c.part.new.v c.free_blocks.new.v (Ok c.in-Ok.free) counting =
+    looked seen.looks.only (λ e. absurd (cc)) tt (λ tells tidy. (refl, (refl, seen.looks.told tells (tidy_tells_free _ _ tidy)))) in
+    stepped_then c.in_ok-part.ensures look (λ tells judged. record { needs = (judged.neat, judged.fitting.0); cut = λ c cut. cut })
+    (λ tells judged parted. record {
+      needs = parted.tidy;
+      cut = λ image cut. divided_cut _ _ _ image parted cut;
+      done = λ image free w. divided_counted _ _ _ image c.args.shares free c.args.free c.if-not-shares.false judged parted w;
+    })
