@@ -84,7 +84,7 @@ module _ {N : Type 0} {nor : NorOf N} where
   turn_ok {limit} {old} {new} slots scrub moved is done takes scrubs closed =
       let s : Scrubs limit old new (Ok scrub) = subst (λ (r : Result Scrub FsErr). Scrubs limit old new r) done scrubs in
       record {
-        memory = closed_still old new slots closed s.slots (s.ends takes).1;
+        memory = closed_still old new slots closed s.slots (s.empty takes);
         changes = turn_changes slots closed s;
         done = λ tells tidy reserve. step_done slots scrub moved is closed takes s tells tidy;
       }

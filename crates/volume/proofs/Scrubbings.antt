@@ -111,6 +111,7 @@ module _ {N : Type 0} {nor : NorOf N} where
         asked = λ takes. absurd (never takes);
         stays = inl refl;
         empty = λ takes. absurd (never takes);
+        goes_on = λ takes. absurd (never takes);
       }
 
   -- ---- what waits could not be put onto the chip
@@ -129,6 +130,7 @@ module _ {N : Type 0} {nor : NorOf N} where
     asked = λ takes_too failed. inl (settles.stops.asked takes_too failed);
     stays = ⊎_elim (λ (stood : new.stage ≡ old.stage). inl stood) (λ (broke : (has_failed new ≡ true) × (breaks (Refuses why) ≡ true)). inr broke.0) settles.stops.stays;
     empty = λ takes_too. tt;
+    goes_on = λ takes_too. tt;
   }
 
   -- ---- a step where nothing waits
@@ -230,6 +232,7 @@ module _ {N : Type 0} {nor : NorOf N} where
             asked = λ takes_too failed. absurd (whole_still old.stage new.stage takes stage failed);
             stays = inl stage;
             empty = λ takes_too. did.run ∙ none;
+            goes_on = λ takes_too. stage;
           }
       by_result (Err why) is =
           let stage : new.stage ≡ stage_after (had || did.wrote) (Refuses (as_fs_err why)) =
@@ -259,6 +262,7 @@ module _ {N : Type 0} {nor : NorOf N} where
                 (λ (stood : (new.stage ≡ Checked) × ((had || did.wrote) ≡ false)). inl (stood.0 ∙ sym (open_is old.stage takes)))
                 led;
             empty = λ takes_too. tt;
+            goes_on = λ takes_too. tt;
           }
 
       pub scrubs_by : Scrubs limit old new result

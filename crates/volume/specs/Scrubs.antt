@@ -78,4 +78,6 @@ module _ {N : Type 0} {nor : NorOf N} where
     pub failed : IfErr result (λ why. breaks (Refuses why) ≡ true → (has_failed new ≡ true) ⊎ Unchanged old new)
     pub asked : takes_calls old ≡ true → has_failed new ≡ true → Rose (nor.device_writes old.nor.now) (nor.device_writes new.nor.now) ⊎ (((memory old).run ≡ None → ⊥) × ((memory new).run ≡ None))
     pub stays : (new.stage ≡ old.stage) ⊎ (has_failed new ≡ true)
+    -- done, nothing waits, and it takes calls as before
     pub empty : takes_calls old ≡ true → OnOk result ((memory new).run ≡ None)
+    pub goes_on : takes_calls old ≡ true → OnOk result (new.stage ≡ old.stage)
