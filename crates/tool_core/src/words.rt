@@ -95,7 +95,8 @@ fn word(words: &[String], i: usize) -> &[u8]
 
 // The soak that the seed and the number of turns behind the chip's name spell.
 fn read_soak(words: &[String]) -> Option<Verb>
-    ensures { result ≡ soak_in (map string_bytes words.now) }
+    ensures soak { result ≡ soak_in (map string_bytes words.now) }
+    ensures limit { IfSome result HasLimit }
 {
     let seed = parse_number(word(words, 7), u64::MAX)?;
     let turns = parse_number(word(words, 8), 1_000_000)?;
@@ -107,7 +108,8 @@ fn read_soak(words: &[String]) -> Option<Verb>
 
 // The scrub with the limit behind the chip's name.
 fn read_scrub(words: &[String]) -> Option<Verb>
-    ensures { result ≡ limit_in (map string_bytes words.now) }
+    ensures scrub { result ≡ limit_in (map string_bytes words.now) }
+    ensures limit { IfSome result HasLimit }
 {
     let limit = parse_number(word(words, 7), 32_767)?;
     if limit == 0 {
@@ -119,7 +121,8 @@ fn read_scrub(words: &[String]) -> Option<Verb>
 }
 
 fn read_verb(words: &[String]) -> Option<Verb>
-    ensures { result ≡ verb_in (map string_bytes words.now) }
+    ensures verb { result ≡ verb_in (map string_bytes words.now) }
+    ensures limit { IfSome result HasLimit }
 {
     let verb = word(words, 0);
     if verb == b"extract".as_slice() {
