@@ -1,4 +1,4 @@
-//! An image of four blocks that is made by hand.
+//! Images of blocks of 4,096 bytes that are made by hand.
 use geometry::{Geometry, MagicKind};
 use std::alloc::{AllocError, Global};
 use std::test::Fail;
@@ -17,23 +17,35 @@ pub(crate) fn put(image: &mut Vec<u8>, at: usize, bytes: &[u8]) {
     }
 }
 
-/// The file `ba` of so many data pages, of which each is full of the number of its span: its header page is the first one of
-/// block 0, and its data pages fill the blocks behind it.
-pub(crate) fn filed(alloc: Global, g: &Geometry, spans: u8) -> Result<Vec<u8>, AllocError> {
-    let mut image = vec![in alloc; 0xFFu8; 16384]?;
-    for block in 0..4u32 {
-        let magic = if block < g.blocks {
-            g.magic_of(block)
-        } else {
-            0
-        };
-        let end = block as usize * 4096 + 252;
+/// Whether the first blocks have these erase counts.
+pub(crate) fn has_erases(image: &[u8], counts: &[u8]) -> bool {
+    for (block, count) in counts.iter().enumerate() {
+        let at = block.saturating_mul(4096).saturating_add(254);
+        if image.get(at..at.saturating_add(2)) != Some([*count, 0].as_slice()) {
+            return false;
+        }
+    }
+    true
+}
+
+/// A volume without files: each block has its magic and the erase count 0.
+pub(crate) fn formatted(alloc: Global, g: &Geometry) -> Result<Vec<u8>, AllocError> {
+    let mut image = vec![in alloc; 0xFFu8; g.blocks as usize * 4096]?;
+    for block in 0..g.blocks {
+        let magic = g.magic_of(block);
         put(
             &mut image,
-            end,
+            block as usize * 4096 + 252,
             &[(magic % 256) as u8, (magic / 256) as u8, 0, 0],
         );
     }
+    Ok(image)
+}
+
+/// The file `ba` of so many data pages, of which each is full of the number of its span: its header page is the first one of
+/// block 0, and its data pages fill the blocks behind it.
+pub(crate) fn filed(alloc: Global, g: &Geometry, spans: u8) -> Result<Vec<u8>, AllocError> {
+    let mut image = formatted(alloc, g)?;
     let size = u32::from(spans) * 251;
     let low = [(size % 256) as u8, (size / 256) as u8, 0, 0, 1, b'b', b'a'];
     put(&mut image, 0, &[1, 0x80]);

@@ -16,6 +16,8 @@ mod metas;
 #[cfg(test)]
 mod rows;
 #[cfg(test)]
+mod scrubs;
+#[cfg(test)]
 mod space;
 #[cfg(test)]
 mod steps;

@@ -1,5 +1,6 @@
 //! Calls of a volume, one after the other, and what each is to tell.
 use crate::bench::Memory;
+use crate::images::has_erases;
 use geometry::Geometry;
 use nor_memory::MemBoard;
 use std::alloc::Global;
@@ -7,7 +8,7 @@ use std::process::Abort;
 use std::test::Fail;
 use table_model::{Call, FsErr, Whence};
 use vol_mount::accept;
-use volume::{Space, Told, Volume};
+use volume::{Scrub, Space, Told, Volume};
 
 /// A call of a volume, or a look at it, and what it is to tell.
 #[derive(Clone, Copy)]
@@ -42,6 +43,10 @@ pub(crate) enum Step<'t> {
     Collects(Result<(), FsErr>),
     Settles(Result<(), FsErr>),
     HasSpace(Result<Space, FsErr>),
+    /// A scrub with this limit, 1 to 32767.
+    Scrubs(u16, Result<Scrub, FsErr>),
+    /// The first blocks have these erase counts.
+    HasErases(&'t [u8]),
     /// The chip holds these bytes.
     Holds(&'t [u8]),
     /// Whether a device fault ended the volume's work.
@@ -80,6 +85,11 @@ fn fills_three(volume: &mut Volume<'_, MemBoard>, fd: u16) -> bool {
         byte: b'f',
     };
     matches!(volume.answer(&fill, &mut [0; 3]), Told::Number(3))
+}
+
+// Whether a scrub with a limit from 1 to 32767 tells that.
+fn scrubs(volume: &mut Volume<'_, MemBoard>, limit: u16, told: Result<Scrub, FsErr>) -> bool {
+    limit >= 1 && limit <= 32767 && volume.scrub(limit) == told
 }
 
 // Whether a call of a descriptor is as its step says.
@@ -123,6 +133,8 @@ fn is_so(volume: &mut Volume<'_, MemBoard>, step: &Step<'_>) -> bool {
         Step::HasSpace(told) => volume.space() == told,
         Step::Collects(told) => volume.gc() == told,
         Step::Settles(told) => volume.settle() == told,
+        Step::Scrubs(limit, told) => scrubs(volume, limit, told),
+        Step::HasErases(counts) => has_erases(volume.nor.image(), counts),
         Step::Holds(image) => volume.nor.image() == image,
         Step::HasFailed(told) => volume.has_failed() == told,
         Step::HasCounted => volume.counted,
