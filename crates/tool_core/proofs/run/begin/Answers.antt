@@ -9,5 +9,5 @@ returns-in-Err-clause-stops g c = λ tells. unchecked_stops _ _ c.in-Err.ending 
 pub returns-then-report-lt2-clause-stops : goal.returns-then-report-lt2-clause-stops
 returns-then-report-lt2-clause-stops g c = λ tells. tight_stops _ _ c.in-Ok.report (c.in-Ok.ensures.reported tells) (omega arith)
 
-pub returns-in-Ok-clause-leaves : goal.returns-in-Ok-clause-leaves
-returns-in-Ok-clause-leaves g c = λ tells. check_leaves c.in-Ok.report (c.in-Ok.ensures.reported tells) (omega arith) (c.mount_and_check.ensures.idle tells)
+pub returns-else-report-lt2-clause-leaves : goal.returns-else-report-lt2-clause-leaves
+returns-else-report-lt2-clause-leaves g c = λ tells. check_leaves c.in-Ok.report (c.in-Ok.ensures.reported tells) (omega arith) (c.mount_and_check.ensures.idle tells)

@@ -20,11 +20,11 @@ steps-preserved g c = record {
   stands = c.in-Ok-true.ensures.taken;
   blocks = c.steps.invariant.blocks;
   few = omega (arith, c.steps.invariant.few);
-  makes = λ slots closed. makes_more c.steps.moved c.steps.volume.geometry c.steps.invariant.same.geometry (c.steps.invariant.makes slots closed) (λ still. let is = rw c.in-Ok-true.field-0-test.true at c.in-Ok-true.is in makes_ok is (c.scrub_turn.ensures.makes slots still));
+  makes = λ slots closed. makes_more c.steps.moved c.steps.volume.geometry c.steps.invariant.same.geometry (c.steps.invariant.makes slots closed) (λ still. let is = rw c.in-Ok-true.field-0-test at c.in-Ok-true.is in makes_ok is (c.scrub_turn.ensures.makes slots still));
 }
 
 pub returns-in-Ok-false-clause-makes : goal.returns-in-Ok-false-clause-makes
-returns-in-Ok-false-clause-makes g c = λ slots closed. makes_rest c.steps.moved c.steps.volume.geometry c.steps.invariant.same.geometry (omega (arith, c.steps.invariant.few, c.steps.invariant.blocks)) (c.steps.invariant.makes slots closed) (λ still. let is = rw c.in-Ok-false.field-0-test.false at c.in-Ok-false.is in makes_ok is (c.scrub_turn.ensures.makes slots still))
+returns-in-Ok-false-clause-makes g c = λ slots closed. makes_rest c.steps.moved c.steps.volume.geometry c.steps.invariant.same.geometry (omega (arith, c.steps.invariant.few, c.steps.invariant.blocks)) (c.steps.invariant.makes slots closed) (λ still. let is = rw c.in-Ok-false.field-0-test at c.in-Ok-false.is in makes_ok is (c.scrub_turn.ensures.makes slots still))
 
 pub returns-in-Err-clause-makes : goal.returns-in-Err-clause-makes
 returns-in-Err-clause-makes g c = λ slots closed. makes_fails c.steps.moved c.in-Err.ending c.steps.volume.geometry c.steps.invariant.same.geometry (c.steps.invariant.makes slots closed) (λ still. makes_err c.in-Err.is (c.scrub_turn.ensures.makes slots still))
