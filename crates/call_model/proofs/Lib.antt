@@ -13,3 +13,4 @@ pub mod Waiting
 pub mod Settling
 pub mod Empty
 pub mod Mounts
+pub mod Closed

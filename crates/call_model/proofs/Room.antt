@@ -41,7 +41,7 @@ fewer-room g files less index pages room =
     le-leb _ g.blocks (omega (arith, a, b, had))
 
 -- a table without a file
-drop-room : (g : Geometry) (id : ℕ) (files : List File) → has_room g files ≡ true → has_room g (drop_file id files) ≡ true
+pub drop-room : (g : Geometry) (id : ℕ) (files : List File) → has_room g files ≡ true → has_room g (drop_file id files) ≡ true
 unfolding index_count data_count
 drop-room g id files room =
     fewer-room g files (drop_file id files)

@@ -6,3 +6,4 @@ pub mod Moves
 pub mod Parts
 pub mod Writing
 pub mod Taken
+pub mod Closed

@@ -59,7 +59,7 @@ parts g image id f file =
     }
 
 -- it lies behind the lookup pages
-own_entry : (g : Geometry) (image : List ℕ) (id p : ℕ) (x : List ℕ) → own (live_at g image) id p ≡ Some x → is_entry_page g p ≡ true
+pub own_entry : (g : Geometry) (image : List ℕ) (id p : ℕ) (x : List ℕ) → own (live_at g image) id p ≡ Some x → is_entry_page g p ≡ true
 unfolding own live_at is_live
 own_entry g image id p x e =
     ⊎_elim
@@ -95,7 +95,7 @@ module _ (g : Geometry) (image : List ℕ) (id : ℕ) (f : File) (whole : IsImag
       ap length (sym file.bytes) ∙ length-take-le (size_of file.head) (flat_map (span_bytes g (own (live_at g image) id) file.head) (range_with_len 0 (data_pages g (size_of file.head)))) (omega (arith, all, enough))
 
   -- a byte below the size lies in one of its spans
-  span_below : (at : ℕ) → at < size_of file.head → at / body g < data_pages g (size_of file.head)
+  pub span_below : (at : ℕ) → at < size_of file.head → at / body g < data_pages g (size_of file.head)
   span_below at below = span_of_byte at (size_of file.head) (body g) some_body below
 
   -- bytes of a span are those of its data page

@@ -4,5 +4,5 @@
 mod read;
 mod stat;
 
-pub use read::{no_header, read_at, read_from};
+pub use read::{no_data, no_header, read_at, read_from, size_in};
 pub use stat::{stat_at, stat_in};

@@ -28,8 +28,8 @@ pub fn no_header(id: u16) -> Differ
     })
 }
 
-// That no data page of an object and a span was found. A span that no page can have is told as 0xFFFF.
-fn no_data(id: u16, span: u32) -> Differ
+/// That no data page of an object and a span was found. A span that no page can have is told as 0xFFFF.
+pub fn no_data(id: u16, span: u32) -> Differ
     ensures { IsNoPage id result }
 {
     Differ::no_page(Tag {
@@ -202,9 +202,9 @@ fn read_inside<N: Nor>(
     Ok(())
 }
 
-// The size of the file of a header page, in bytes.
+/// The size of the file of a header page, in bytes: 0 where the page has none yet.
 #[tactic(auto, using(flash_view::proofs::Looking::looks_then))]
-fn size_in<N: Nor>(v: &mut View<'_, N>, header: u16) -> Result<u32, Failed>
+pub fn size_in<N: Nor>(v: &mut View<'_, N>, header: u16) -> Result<u32, Failed>
     requires { header < page_count v.old.geometry }
     ensures cause { OnErr result (Rose (N.faults v.old.nor.now) (N.faults v.new.nor.now)) }
     ensures looks { OnlyLooks v.old v.new }

@@ -17,7 +17,7 @@ use Rattle.image_model.specs.Files.{is_index, index_page, entry_number, data_of,
 use Rattle.image_model.specs.Tables.{has_of, damaged_of, records, table_of}
 use Rattle.image_model.specs.Tidy.{IsTidy, is_number, serves}
 use Rattle.flash_view.specs.Found.{is_name, headed as head_id, named_at, first_named}
-use Rattle.image_laws.proofs.Records.{bytes_same, bytes_equal, names-apart}
+use Rattle.image_laws.proofs.Records.{bytes_same, bytes_equal}
 use Rattle.image_laws.proofs.Damaged.{any_at}
 use Rattle.image_laws.proofs.Append.{find-all}
 use Rattle.image_laws.proofs.Tables.{find_passes}
@@ -28,6 +28,7 @@ use Rattle.image_laws.proofs.Frames.{live_parts}
 use Rattle.image_laws.proofs.Wants.{number-is}
 use Rattle.image_laws.proofs.Tally.{wants}
 use Rattle.image_laws.proofs.TidySteps.{neat_of}
+use Rattle.header_laws.proofs.Naming.{one_name, named-file}
 use Rattle.header_laws.specs.Ids.{Named, HasNames}
 use Rattle.header_laws.specs.Names.{OwnNameUnused}
 use Rattle.header_laws.proofs.Listed.{any-found, found-first, found-none, each-listed}
@@ -105,38 +106,6 @@ head-only g a is t p page live index =
     absurd (index-no_data (own (live_at g a) (obj_id page % 0x8000) p) page w.0 here index k))
     (or_cases _ _ serving)
 
--- ---- where nothing is damaged, a name is that of one file
-
-module _ (g : Geometry) (a : List ℕ) (undamaged : damaged_of g a ≡ []) where
-  one_name : (j k : ℕ) (f h : File) → file_at g a j ≡ Some f → file_at g a k ≡ Some h → f.name ≡ h.name → j ≡ k
-  unfolding damaged_of
-  one_name j k f h e e' same =
-      let x = headed-by_file g a undamaged j f e in
-      let y = headed-by_file g a undamaged k h e' in
-      ⊎_elim
-      (λ (here : j ≡ k). here)
-      (λ (there : j ≡ k → ⊥).
-      absurd (names-apart (has_of g (live_at g a)) 0x7FFF undamaged j k x.0.p y.0.p x.0.f y.0.f x.0.low x.0.high y.0.low y.0.high x.0.has y.0.has
-      (λ q. heads-apart g (live_at g a) j k x.0.p y.0.p (Ok x.0.f) (Ok y.0.f) x.0.has y.0.has there q)
-      (ap (λ (z : File). z.name) x.1 ∙ same ∙ sym (ap (λ (z : File). z.name) y.1))))
-      (cases_eq j k)
-
-  named-file : (j : ℕ) (f : File) (name : List ℕ) → file_at g a j ≡ Some f → f.name ≡ name → file_named name (table_of g a) ≡ Some f
-  unfolding file_named table_of records
-  named-file j f name e same =
-      let test : File → Bool = λ x. same_text x.name name in
-      let P : Option File → Type 0 = λ o. find test (filter_map (file_at g a) (range_with_len 1 0x7FFF)) ≡ o → o ≡ Some f in
-      let go : (o : Option File) → P o = λ o. elim o as P [
-        | None ↦ λ none.
-            let h = headed-by_file g a undamaged j f e in
-            let fails : same_text f.name name ≡ false = found-none (file_at g a) test 1 0x7FFF none j h.0.low (omega (arith, h.0.high)) f e in
-            absurd (false≢true (sym fails ∙ (rw same (bytes_equal name))))
-        | Some x ↦ λ found.
-            let w = found-first (file_at g a) test 1 0x7FFF x found in
-            let one : w.j ≡ j = one_name w.j j x f w.is e (bytes_same x.name name w.passes ∙ sym same) in
-            sym w.is ∙ ap (file_at g a) one ∙ e
-      ] in go (find test (filter_map (file_at g a) (range_with_len 1 0x7FFF))) refl
-
 -- the file of a name
 file_named-at : (g : Geometry) (a : List ℕ) (name : List ℕ) (f : File) → file_named name (table_of g a) ≡ Some f → (j : ℕ) × (file_at g a j ≡ Some f) × (f.name ≡ name)
 unfolding file_named table_of records
@@ -176,7 +145,7 @@ named g a is t name =
           let place : h.p ≡ p = same_Some h.p p (sym h.at ∙ at') in
           let head : h.head ≡ w.0 = same_Some h.head w.0 (sym page.0 ∙ ap (live_at g a) place ∙ w.2) in
           let file : h.f.name ≡ name = same_Some h.f.name name (sym (judged-name g (own (live_at g a) w.1) w.1 h.head h.f h.file) ∙ ap name_of head ∙ v.0) in
-          w.3 ∙ sym (ap (λ (o : Option File). option_map (λ (f : File). f.id) o) (named-file g a t.undamaged w.1 h.f name h.counts file) ∙ ap (λ (x : ℕ). Some x) h.keyed)
+          w.3 ∙ sym (ap (λ (o : Option File). option_map (λ (f : File). f.id) o) (named-file g a w.1 h.f name h.counts file) ∙ ap (λ (x : ℕ). Some x) h.keyed)
     ] in go (find test (range_with_len 0 (page_count g))) refl
 
 map-some : (o : Option File) → is_some (option_map (λ (f : File). f.id) o) ≡ is_some o
@@ -195,4 +164,4 @@ unfolding table_of records
 own-unused g a undamaged id f e =
     let mine : file_at g a id ≡ Some f = sym (file_of-at g a id) ∙ e in
     each-listed (λ (x : File). x.id ≢ id → x.name ≢ f.name) (file_at g a) 1 0x7FFF
-    (λ j x is there same. there (file_at-keyed g a j x is ∙ one_name g a undamaged j id x f is mine same))
+    (λ j x is there same. there (file_at-keyed g a j x is ∙ one_name g a j id x f is mine same))

@@ -1,5 +1,6 @@
 pub mod Listed
 pub mod HeadPages
+pub mod Naming
 pub mod HeadNames
 pub mod FineNames
 pub mod Telling

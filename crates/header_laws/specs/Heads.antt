@@ -51,6 +51,10 @@ FoundById g = (a : List ℕ) (f : File) →
 abbrev pub EachById : Geometry → Type 0
 EachById g = (a : List ℕ) → All (λ f. file_of f.id (table_of g a) ≡ Some f) (table_of g a)
 
+-- Each file of the table is the file of its name, so no two have one name.
+abbrev pub EachByName : Geometry → Type 0
+EachByName g = (a : List ℕ) → All (λ f. file_named f.name (table_of g a) ≡ Some f) (table_of g a)
+
 -- In a tidy image the header page of an id is the only one that it has.
 abbrev pub OneHead : Geometry → Type 0
 OneHead g = (a : List ℕ) → IsImage g a → IsTidy g a → (id p : ℕ) (page : List ℕ) →

@@ -1,5 +1,5 @@
 ghost use Rattle.geometry.specs.declared.geometry.Geometry.{Geometry};
-ghost use Rattle.header_laws.specs.Heads.{HeadTells, FilesHaveHeads, OneHead, FoundById, EachById};
+ghost use Rattle.header_laws.specs.Heads.{HeadTells, FilesHaveHeads, OneHead, FoundById, EachById, EachByName};
 ghost use Rattle.header_laws.specs.Names.{FineNames, NewNameUnused, OwnNameUnused};
 
 /// The header page of an id tells its file, and is the only one of its id.
@@ -13,6 +13,11 @@ pub fn files_are_told()
 pub fn files_go_by_id()
     ensures found { (g : Geometry) → FoundById g }
     ensures each { (g : Geometry) → EachById g }
+{}
+
+/// A file of the table is the file of its name, in every image.
+pub fn files_go_by_name()
+    ensures { (g : Geometry) → EachByName g }
 {}
 
 /// Which names aren't refused, and which no other file has.

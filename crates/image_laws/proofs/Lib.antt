@@ -43,3 +43,4 @@ pub mod Uses
 pub mod UsesStay
 pub mod Unshared
 pub mod Copying
+pub mod Ascending

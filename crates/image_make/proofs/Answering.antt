@@ -15,35 +15,11 @@ use Rattle.table_model.specs.Outcome.{gives, page_refusal}
 use Rattle.table_model.specs.Ask.{Opens, Writes, Closes}
 use Rattle.table_model.specs.Reply.{Fine, Tells}
 use Rattle.table_model.specs.Flat.{answer}
+use Rattle.call_model.proofs.Closed.{first_closed, first_open, opened_twice, closed_again}
 use Rattle.folder_core.specs.Files.{File as FolderFile}
 use Rattle.image_make.specs.Tables.{file_as, numbered, folder_table}
 use Rattle.image_make.specs.Putting.{writer, put_state, begun_state, IsNew}
 use Rattle.image_make.proofs.Tabling.{numbered_end, put_last, put_over, file_last}
-
--- ---- descriptors, all closed but the first
-
-abbrev closed : ℕ → List (Option Open)
-closed n = replicate n None
-
-first_closed : (n : ℕ) → 0 < n → lowest_closed (closed n) ≡ Some 1
-unfolding lowest_closed
-first_closed zero some = absurd (omega (arith, some))
-first_closed (suc n) some = refl
-
-first_open : (n : ℕ) (d : Open) → 0 < n → open_at (put_at (closed n) 1 (Some d)) 1 ≡ Some d
-unfolding open_at put_at
-first_open zero d some = absurd (omega (arith, some))
-first_open (suc n) d some = refl
-
-opened_twice : (n : ℕ) (d e : Open) → put_at (put_at (closed n) 1 (Some d)) 1 (Some e) ≡ put_at (closed n) 1 (Some e)
-unfolding put_at
-opened_twice zero d e = refl
-opened_twice (suc n) d e = refl
-
-closed_again : (n : ℕ) (d : Open) → put_at (put_at (closed n) 1 (Some d)) 1 None ≡ closed n
-unfolding put_at
-closed_again zero d = refl
-closed_again (suc n) d = refl
 
 -- ---- the least id that no file has, where they are numbered from 1
 

@@ -1,16 +1,13 @@
 -- The flat table while the files of a folder are put onto a volume.
-use Rattle.std.specs.Prelude.{ℕ, ◌≡◌, ◌+◌, ◌<◌, true, List, [], ◌∷◌, ◌++◌, length, replicate, min, None}
+use Rattle.std.specs.Prelude.{ℕ, ◌≡◌, ◌+◌, ◌<◌, true, List, [], ◌∷◌, ◌++◌, length, None}
 use Rattle.geometry.specs.declared.geometry.Geometry.{Geometry}
 use Rattle.table_model.specs.Table.{File, Open, State, file_named}
 use Rattle.table_model.specs.Names.{name_refusal}
 use Rattle.table_model.specs.Room.{has_room}
 use Rattle.table_model.specs.Files.{with_open}
+use Rattle.call_model.specs.Closed.{with_files}
 use Rattle.folder_core.specs.Files.{File as FolderFile}
 use Rattle.image_make.specs.Tables.{folder_table}
-
--- a volume with these files and so many descriptors, all closed
-abbrev pub with_files : (slots : ℕ) → List File → State
-with_files slots files = record { table = files; slots = replicate (min 65535 slots) None }
 
 -- a descriptor at a place of a file that was opened to be made (4) and written (16)
 abbrev pub writer : (id at : ℕ) → Open

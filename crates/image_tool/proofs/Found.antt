@@ -21,7 +21,7 @@ use Rattle.image_tool.specs.Lists.{NextRecord, next_record, next_damage}
 use Rattle.image_tool.specs.Parts.{lines_of, text_of, line_above, next_line}
 use Rattle.image_tool.specs.Texts.{stat_line, damage_line, record_line, record_lines, damage_lines, line_if}
 use Rattle.table_model.proofs.Ascending.{Ascends}
-use Rattle.image_tool.proofs.Ascending.{table-ascends, damaged-ascends}
+use Rattle.image_laws.proofs.Ascending.{table-ascends, damaged-ascends}
 
 -- the line of a record that was found
 pub record_found : (g : Geometry) (image : List ℕ) (after page : ℕ) (stat : Stat) → NextRecord g image after (Some (page, stat)) → stat_line stat ≡ next_record g image after

@@ -1,4 +1,3 @@
-pub mod Ascending
 pub mod Speaking
 pub mod Walking
 pub mod Found

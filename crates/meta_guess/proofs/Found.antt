@@ -7,7 +7,7 @@ use Rattle.table_model.specs.Table.{File, file_above}
 use Rattle.image_model.specs.declared.damage.Damage.{Damage}
 use Rattle.image_model.specs.Tables.{table_of, damaged_of}
 use Rattle.file_find.specs.Listing.{NextFile, damaged_above}
-use Rattle.meta_guess.proofs.Ascending.{table-ascends, damaged-ascends}
+use Rattle.image_laws.proofs.Ascending.{table-ascends, damaged-ascends}
 use Rattle.meta_guess.proofs.Remaining.{left_above, none_counted, one_counted, all_counted}
 
 -- files and damaged ids by their ids

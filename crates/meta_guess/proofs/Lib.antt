@@ -1,6 +1,5 @@
 mod Geometries
 mod Sums
-mod Ascending
 mod Remaining
 mod Found
 mod Needs

@@ -16,7 +16,8 @@ use Rattle.volume.specs.declared.volume.Volume.{Volume}
 use Rattle.volume_run.specs.Ready.{IsReady}
 use Rattle.image_make.specs.Refusals.{accepted, make_refusal, index_sum, data_sum}
 use Rattle.image_make.specs.Tables.{numbered, folder_table}
-use Rattle.image_make.specs.Putting.{with_files, put_state}
+use Rattle.call_model.specs.Closed.{with_files}
+use Rattle.image_make.specs.Putting.{put_state}
 use Rattle.image_make.proofs.Tabling.{index_is, data_is}
 use Rattle.image_make.proofs.Naming.{accepted_is}
 use Rattle.image_make.proofs.Filling.{named_fine}

@@ -10,7 +10,7 @@ use Rattle.table_model.specs.Files.{stat_of}
 use Rattle.table_model.specs.Calls.{shown}
 use Rattle.table_model.specs.Reply.{Ends, Shows}
 use Rattle.table_model.proofs.Ascending.{Ascends, head_found, found_behind}
-use Rattle.image_tool.proofs.Ascending.{table-ascends}
+use Rattle.image_laws.proofs.Ascending.{table-ascends}
 use Rattle.volume.specs.declared.volume.Volume.{Volume}
 use Rattle.file_calls.specs.Replies.{shown_or_end}
 use Rattle.volume_run.specs.declared.asking.Stop.{Stop}

@@ -6,7 +6,7 @@ use Rattle.image_model.specs.Tables.{table_of}
 use Rattle.flash_view.proofs.Looking.{same_none, same_then}
 use Rattle.image_tool.specs.Putting.{folder_files, PutsFiles}
 use Rattle.image_tool.specs.Texts.{record_line, record_lines}
-use Rattle.image_tool.proofs.Ascending.{table-ascends}
+use Rattle.image_laws.proofs.Ascending.{table-ascends}
 use Rattle.image_tool.proofs.Files.{extracts_passed, files_err, files_more, files_done}
 use Rattle.image_tool.proofs.Pieces.{goes_none, goes_then, kept_none, files_none}
 use Rattle.image_tool.proofs.Speaking.{says_none}
