@@ -1,0 +1,4 @@
+pub mod Copying
+pub mod Under
+pub mod Stops
+pub mod Filling
