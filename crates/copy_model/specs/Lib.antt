@@ -5,3 +5,4 @@ pub mod Filling
 pub mod Answers
 pub mod Steps
 pub mod Rooms
+pub mod Stages
