@@ -3,5 +3,7 @@
 #![tactic(auto)]
 
 mod asking;
+pub mod resting;
 
 pub use asking::{Stop, ask, open, stop_of};
+pub use resting::call_at_rest;
