@@ -5,3 +5,6 @@ pub mod Filling
 pub mod Answers
 pub mod Steps
 pub mod Rooms
+pub mod Tasks
+pub mod Parts
+pub mod Walks
