@@ -6,5 +6,5 @@ pub mod Answers
 pub mod Steps
 pub mod Rooms
 pub mod Tasks
-pub mod Parts
 pub mod Walks
+pub mod Parts
