@@ -1,33 +1,31 @@
 -- What the flat table answers to the calls of a copy.
-use Rattle.std.proofs.Common.{◌≡◌, ◌≢◌, ℕ, zero, suc, ◌+◌, ◌-◌, ◌<◌, ◌≤◌, List, [], ◌∷◌, ◌++◌, length, take, drop, map, Bool, true, false, not, ◌==◌, ◌||◌, Option, Some, None, refl, sym, ◌∙◌, ap, subst, arith, ⊎_elim, cond, length-take, length-drop}
+use Rattle.std.proofs.Common.{◌≡◌, ◌≢◌, ℕ, zero, suc, ◌+◌, ◌-◌, ◌<◌, ◌≤◌, List, [], ◌∷◌, ◌++◌, length, take, drop, map, Bool, true, false, ◌==◌, Option, Some, None, refl, sym, ◌∙◌, ap, subst, arith, ⊎_elim, cond, length-take, length-drop}
 use Rattle.std.specs.Prelude.{min, replicate}
-use Rattle.std.proofs.lemmas.Bool.{cases_Bool, eq-eqb, ne_eqb, or_parts, false≢true}
-use Rattle.std.proofs.lemmas.Option.{none-some, same_Some}
+use Rattle.std.proofs.lemmas.Bool.{cases_Bool, eq-eqb, ne_eqb, false≢true}
+use Rattle.std.proofs.lemmas.Option.{none-some}
 use Rattle.std.proofs.lemmas.List.{take_all, drop_all, append-nil}
 use Rattle.geometry.specs.declared.geometry.Geometry.{Geometry}
 use Rattle.table_model.specs.declared.error.FsErr.{FsErr}
-use Rattle.table_model.specs.declared.error.FsErr.TheVariants.{NotFound}
-use Rattle.table_model.specs.Table.{File, Open, State, has_id, has_name, same_text, file_named, file_of, least_id, put_file, drop_file}
+use Rattle.table_model.specs.Table.{File, Open, State, has_id, has_name, same_text, file_named, file_of, least_id, put_file}
 use Rattle.table_model.specs.Names.{name_refusal, names_refusal, is_bad_name, is_long_name}
 use Rattle.table_model.specs.Room.{has_room}
 use Rattle.table_model.specs.Descriptors.{open_at, put_at, without_file}
 use Rattle.table_model.specs.Files.{written, bytes_at, without}
 use Rattle.table_model.specs.Opening.{answer_open}
 use Rattle.table_model.specs.Calls.{answer_read, answer_write, answer_close, answer_remove, answer_rename, answer_stat, answer_meta}
-use Rattle.table_model.specs.Outcome.{Outcome, refused, gives, with_page, page_refusal}
-use Rattle.table_model.specs.Ask.{Opens, Reads, Writes, Closes, Removes, Renames, Stats, Informs, SetsMeta}
+use Rattle.table_model.specs.Outcome.{Outcome, gives, with_page, page_refusal}
+use Rattle.table_model.specs.Ask.{Removes, Renames, SetsMeta}
 use Rattle.table_model.specs.Reply.{Fine, Tells}
 use Rattle.table_model.specs.Flat.{answer}
-use Rattle.image_laws.proofs.Records.{bytes_same}
 use Rattle.call_model.specs.Closed.{with_files}
 use Rattle.call_model.proofs.Closed.{first_closed, first_open, opened_twice, closed_again}
 use Rattle.call_model.proofs.Parts.{put_twice, take-two}
 use Rattle.call_model.proofs.Tables.{file_of-put}
 use Rattle.call_model.proofs.Unused.{least-unused}
 use Rattle.copy_model.specs.Copying.{working, front_of, begun, marked, without_found, without_name, cleared, placed}
-use Rattle.copy_model.specs.Filling.{with_first, filler, looker, filling, looking}
+use Rattle.copy_model.specs.Filling.{filler, looker, filling}
 use Rattle.copy_model.specs.Answers.{or_full, IsPiece, OpensWorking, PutsPiece, ClosesFirst, GivesUp, Marks, Places, Clears, RemovesFile, RemovesNone, StatsFile, StatsNone, Informed, OpensFile, OpensNone, ReadsOn}
-use Rattle.copy_model.proofs.Putting.{named-put, named-put_own, named-has_id, named-drop, drop-put}
+use Rattle.copy_model.proofs.Putting.{unlike, named-put, named-put_own, named-has_id, named-drop, drop-put}
 
 -- where two blocks are free, room alone decides
 page_or_full : (g : Geometry) (s : State) (done : Outcome) → with_page g true s done ≡ or_full g s done
@@ -177,8 +175,7 @@ renames g slots old_name new_name files x fine too there none =
 -- a file of another name than the working one was there before the working file
 pub other-there : (w : File) (files : List File) (name : List ℕ) (x : File) → has_id w.id files ≡ false → w.name ≢ name → file_named name (put_file w files) ≡ Some x → w.id ≢ x.id
 other-there w files name x unused other there same =
-    let differ : same_text w.name name ≡ false = ⊎_elim (λ (yes : same_text w.name name ≡ true). absurd (other (bytes_same w.name name yes))) (λ (no : same_text w.name name ≡ false). no) (cases_Bool (same_text w.name name)) in
-    let has : has_id x.id files ≡ true = named-has_id name files x (sym (named-put name w files unused differ) ∙ there) in
+    let has : has_id x.id files ≡ true = named-has_id name files x (sym (named-put name w files unused (unlike w.name name other)) ∙ there) in
     false≢true (sym unused ∙ ap (λ (id : ℕ). has_id id files) same ∙ has)
 
 -- the working file stands still once the file of another name is gone

@@ -1,14 +1,18 @@
 -- Files that are put into a table under an id that no file has, and taken out again: for any list of files.
-use Rattle.std.proofs.Common.{◌≡◌, ◌≢◌, ℕ, List, [], ◌∷◌, Bool, true, false, not, ◌==◌, ◌||◌, Option, Some, None, refl, sym, ◌∙◌, ap, ⊎_elim}
+use Rattle.std.proofs.Common.{◌≡◌, ◌≢◌, ℕ, List, [], ◌∷◌, Bool, true, false, ◌==◌, Some, None, refl, sym, ◌∙◌, ap, arith, ⊎_elim}
 use Rattle.std.specs.Prelude.{nat_lt, find}
 use Rattle.std.specs.List.{list_any}
-use Rattle.std.proofs.lemmas.Bool.{cases_Bool, or_parts, eq-eqb, ne_eqb, eqb-true, eqb-false}
+use Rattle.std.proofs.lemmas.Bool.{cases_Bool, or_parts, eq-eqb, ne_eqb, eqb-false, le-ltb}
 use Rattle.std.proofs.lemmas.Option.{none-some, same_Some}
 use Rattle.table_model.specs.Table.{File, has_id, same_text, file_named, put_file, drop_file}
-use Rattle.image_laws.proofs.Records.{bytes_equal}
+use Rattle.image_laws.proofs.Records.{bytes_same, bytes_equal}
+
+-- two names that differ
+pub unlike : (a b : List ℕ) → a ≢ b → same_text a b ≡ false
+unlike a b other = ⊎_elim (λ (yes : same_text a b ≡ true). absurd (other (bytes_same a b yes))) (λ (no : same_text a b ≡ false). no) (cases_Bool (same_text a b))
 
 -- the file that is put has an id of its own
-apart : (w x : File) → (x.id == w.id) ≡ false → (w.id == x.id) ≡ false
+pub apart : (w x : File) → (x.id == w.id) ≡ false → (w.id == x.id) ≡ false
 apart w x other = ne_eqb w.id x.id (λ same. eqb-false x.id w.id other (sym same))
 
 -- the first that passes is the same, where the one that is put doesn't
@@ -102,3 +106,35 @@ named-has_id name files x is = find-has_id (λ (y : File). same_text y.name name
 pub named-drop : (name : List ℕ) (id : ℕ) (files : List File) (x : File) → file_named name files ≡ Some x → x.id ≢ id → file_named name (drop_file id files) ≡ Some x
 unfolding file_named
 named-drop name id files x is other = find-drop (λ (y : File). same_text y.name name) id files x is other
+
+-- a file put over that of its id, once another one is gone, might have been put before that one went
+pub over-drop : (w w2 : File) (id : ℕ) (files : List File) → w2.id ≡ w.id → w.id ≢ id → put_file w2 (drop_file id (put_file w files)) ≡ drop_file id (put_file w2 files)
+over-drop w w2 id files same other = go files
+  where
+    stays : (w.id == id) ≡ false
+    stays = ne_eqb w.id id other
+
+    stays2 : (w2.id == id) ≡ false
+    stays2 = ne_eqb w2.id id (λ e. other (sym same ∙ e))
+
+    -- where it is the first one
+    first : (rest : List File) → put_file w2 (drop_file id (w ∷ rest)) ≡ drop_file id (w2 ∷ rest)
+    first rest = rw (stays, stays2) (rw (le-ltb w2.id w.id (omega (arith, same)), eq-eqb w2.id w.id same) refl)
+
+    go : (files : List File) → put_file w2 (drop_file id (put_file w files)) ≡ drop_file id (put_file w2 files)
+    go [] = first []
+    go (x ∷ xs) = ⊎_elim
+        (λ (less : nat_lt w.id x.id ≡ true). let less2 : nat_lt w2.id x.id ≡ true = rw same less in rw (less, less2) (first (x ∷ xs)))
+        (λ (more : nat_lt w.id x.id ≡ false).
+        let more2 : nat_lt w2.id x.id ≡ false = rw same more in
+        ⊎_elim
+        (λ (here : (w.id == x.id) ≡ true). let here2 : (w2.id == x.id) ≡ true = rw same here in rw (more, here, more2, here2) (first xs))
+        (λ (away : (w.id == x.id) ≡ false).
+        let rest = go xs in
+        let away2 : (w2.id == x.id) ≡ false = rw same away in
+        rw (more, away, more2, away2) (⊎_elim
+        (λ (gone : (x.id == id) ≡ true). rw gone rest)
+        (λ (left : (x.id == id) ≡ false). rw left (rw (more2, away2) (ap (λ (l : List File). x ∷ l) rest)))
+        (cases_Bool (x.id == id))))
+        (cases_Bool (w.id == x.id)))
+        (cases_Bool (nat_lt w.id x.id))

@@ -1,32 +1,28 @@
 -- Which table of a copy is the first without room.
-use Rattle.std.proofs.Common.{◌≡◌, ◌≢◌, ℕ, zero, suc, ◌+◌, ◌-◌, ◌*◌, ◌/◌, ◌%◌, ◌<◌, ◌≤◌, ◌⊎◌, List, [], ◌∷◌, ◌++◌, length, take, map, Bool, true, false, not, ◌==◌, ◌||◌, Option, Some, None, refl, sym, ◌∙◌, ap, subst, arith, ⊎_elim, inl, inr}
-use Rattle.std.specs.Prelude.{nat_lt, find, filter}
-use Rattle.std.specs.List.{range_with_len, sum_by}
+use Rattle.std.proofs.Common.{◌≡◌, ◌≢◌, ℕ, zero, suc, ◌+◌, ◌-◌, ◌*◌, ◌/◌, ◌%◌, ◌<◌, ◌≤◌, ◌⊎◌, List, [], ◌∷◌, ◌++◌, length, take, map, Bool, true, false, ◌==◌, ◌||◌, Option, Some, None, refl, sym, ◌∙◌, ap, subst, arith, ⊎_elim, inl, inr}
+use Rattle.std.specs.Prelude.{filter}
+use Rattle.std.specs.List.{range_with_len}
 use Rattle.std.specs.Option.{option_or}
 use Rattle.std.proofs.Math.Nat.{div-add-mod}
 use Rattle.std.proofs.lemmas.Nat.{mod-mul-add}
-use Rattle.std.proofs.lemmas.Bool.{cases_Bool, cases_lt, eq-eqb, ne_eqb, eqb-true, eqb-false, le-ltb, or_left, or_right}
+use Rattle.std.proofs.lemmas.Bool.{cases_Bool, eq-eqb, ne_eqb, or_left, or_right}
 use Rattle.std.proofs.lemmas.List.{take_all}
-use Rattle.std.proofs.lemmas.List.Sums.{sum_by-cons}
 use Rattle.std.proofs.lemmas.Option.{none-some}
 use Rattle.geometry.specs.declared.geometry.Geometry.{Geometry}
 use Rattle.geometry.specs.Numbers.{body}
-use Rattle.table_model.specs.Table.{File, has_id, file_named, least_id, put_file, drop_file}
+use Rattle.table_model.specs.Table.{File, has_id, file_named, put_file}
 use Rattle.table_model.specs.Room.{has_room, index_count, data_count, index_pages, data_pages}
-use Rattle.image_model.specs.Within.{sizes}
 use Rattle.header_laws.proofs.AddsUp.{put-adds}
 use Rattle.call_model.proofs.Parts.{put_twice}
 use Rattle.call_model.proofs.Room.{drop-room}
 use Rattle.call_model.proofs.Unused.{least-unused}
-use Rattle.copy_model.specs.Copying.{working, keeps, front_of, ends_from, begun, marked, without_found, without_name, cleared, placed, record_steps, copy_steps}
+use Rattle.copy_model.specs.Copying.{working, front_of, ends_from, begun, marked, without_found, without_name, cleared, placed, record_steps, copy_steps}
 use Rattle.copy_model.specs.Stops.{first_full}
 use Rattle.copy_model.specs.Rooms.{filling_full, FullHere, FullLater, FullEnds, HasRoomBehind, RoomBehind, RecordFull, StepsKept, StepsFull}
+use Rattle.copy_model.proofs.Putting.{over-drop}
 use Rattle.copy_model.proofs.Answering.{other-there, marked-id, marked-name, marked-unused}
 
 -- ---- ends
-
-
-
 
 end-passes : (page size e : ℕ) → (e % page ≡ 0) ⊎ (e ≡ size) → ((e % page == 0) || (e == size)) ≡ true
 end-passes page size e is = ⊎_elim
@@ -119,47 +115,6 @@ put-room g w w2 files unused same long =
     (b.index_are ∙ ap (λ (n : ℕ). index_count g files + index_pages g n) long ∙ sym a.index_are)
     (b.data_are ∙ ap (λ (n : ℕ). data_count g files + data_pages g n) long ∙ sym a.data_are)
 
--- a file put over that of its id, once another one is gone
-over-sum : (h : File → ℕ) (w w2 : File) (id : ℕ) (files : List File) → w2.id ≡ w.id → h w2 ≡ h w → w.id ≢ id → sum_by h (put_file w2 (drop_file id (put_file w files))) ≡ sum_by h (drop_file id (put_file w files))
-over-sum h w w2 id files same weigh other = go files
-  where
-    stays : (w.id == id) ≡ false
-    stays = ne_eqb w.id id other
-
-    -- where it is the first one
-    first : (rest : List File) → sum_by h (put_file w2 (drop_file id (w ∷ rest))) ≡ sum_by h (drop_file id (w ∷ rest))
-    first rest =
-        rw stays (rw (le-ltb w2.id w.id (omega (arith, same)), eq-eqb w2.id w.id same) (
-        let a = sum_by-cons h w2 (drop_file id rest) in
-        let b = sum_by-cons h w (drop_file id rest) in
-        omega (arith, a, b, weigh)))
-
-    go : (files : List File) → sum_by h (put_file w2 (drop_file id (put_file w files))) ≡ sum_by h (drop_file id (put_file w files))
-    go [] = first []
-    go (x ∷ xs) = ⊎_elim
-        (λ (less : nat_lt w.id x.id ≡ true). rw less (first (x ∷ xs)))
-        (λ (more : nat_lt w.id x.id ≡ false). ⊎_elim
-        (λ (here : (w.id == x.id) ≡ true). rw (more, here) (first xs))
-        (λ (apart : (w.id == x.id) ≡ false).
-        let rest = go xs in
-        let more2 : nat_lt w2.id x.id ≡ false = rw same more in
-        let apart2 : (w2.id == x.id) ≡ false = rw same apart in
-        rw (more, apart) (⊎_elim
-        (λ (gone : (x.id == id) ≡ true). rw gone rest)
-        (λ (left : (x.id == id) ≡ false). rw left (rw (more2, apart2) (
-        let a = sum_by-cons h x (put_file w2 (drop_file id (put_file w xs))) in
-        let b = sum_by-cons h x (drop_file id (put_file w xs)) in
-        omega (arith, a, b, rest))))
-        (cases_Bool (x.id == id))))
-        (cases_Bool (w.id == x.id)))
-        (cases_Bool (nat_lt w.id x.id))
-
-over-room : (g : Geometry) (w w2 : File) (id : ℕ) (files : List File) → w2.id ≡ w.id → length w2.bytes ≡ length w.bytes → w.id ≢ id → has_room g (put_file w2 (drop_file id (put_file w files))) ≡ has_room g (drop_file id (put_file w files))
-unfolding index_count data_count
-over-room g w w2 id files same long other = room-same g (put_file w2 (drop_file id (put_file w files))) (drop_file id (put_file w files))
-    (over-sum (λ (f : File). index_pages g (length f.bytes)) w w2 id files same (ap (index_pages g) long) other)
-    (over-sum (λ (f : File). data_pages g (length f.bytes)) w w2 id files same (ap (data_pages g) long) other)
-
 marked-long : (g : Geometry) (alike : Bool) (f : File) (files : List File) → length (marked g alike f files).bytes ≡ length f.bytes
 marked-long g true f files = refl
 marked-long g false f files = refl
@@ -188,9 +143,9 @@ over-found g alike f files fine room None is =
     ap (has_room g) (put_twice (renamed g alike f files) (marked g alike f files) files refl)
     ∙ put-room g (marked g alike f files) (renamed g alike f files) files (marked-unused g alike f files) refl refl ∙ room
 over-found g alike f files fine room (Some x) is =
-    over-room g (marked g alike f files) (renamed g alike f files) x.id files refl refl
-    (other-there (marked g alike f files) files f.name x (marked-unused g alike f files) (λ same. fine (sym same ∙ marked-name g alike f files)) is)
-    ∙ drop-room g x.id (put_file (marked g alike f files) files) room
+    ap (has_room g) (over-drop (marked g alike f files) (renamed g alike f files) x.id files refl
+    (other-there (marked g alike f files) files f.name x (marked-unused g alike f files) (λ same. fine (sym same ∙ marked-name g alike f files)) is))
+    ∙ drop-room g x.id (put_file (renamed g alike f files) files) (put-room g (marked g alike f files) (renamed g alike f files) files (marked-unused g alike f files) refl refl ∙ room)
 
 placed-room : (g : Geometry) (alike : Bool) (f : File) (files : List File) → f.name ≢ working → has_room g (put_file (marked g alike f files) files) ≡ true → has_room g (placed g alike f files) ≡ true
 unfolding placed without_name

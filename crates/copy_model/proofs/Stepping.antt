@@ -1,13 +1,11 @@
 -- What a cut in a call of a copy leaves.
-use Rattle.std.proofs.Common.{◌≡◌, ℕ, ◌+◌, ◌<◌, ◌≤◌, ◌%◌, ◌⊎◌, List, [], ◌∷◌, length, take, Bool, true, false, Option, Some, None, refl, sym, ◌∙◌, ap, subst, arith, ⊎_elim, inl, inr, length-take}
+use Rattle.std.proofs.Common.{◌≡◌, ℕ, ◌<◌, ◌⊎◌, List, [], ◌∷◌, length, take, Bool, true, false, refl, ◌∙◌, subst, arith, ⊎_elim, inl, inr, length-take}
 use Rattle.std.specs.Prelude.{nat_lt, min}
 use Rattle.std.proofs.lemmas.Bool.{cases_Bool, false≢true}
 use Rattle.geometry.specs.declared.geometry.Geometry.{Geometry}
-use Rattle.geometry.specs.Numbers.{body}
 use Rattle.image_model.specs.Within.{sizes}
-use Rattle.table_model.specs.Table.{File, State, file_named, file_of, least_id, put_file}
+use Rattle.table_model.specs.Table.{File, State, file_named, least_id}
 use Rattle.table_model.specs.Descriptors.{open_at}
-use Rattle.table_model.specs.Files.{written}
 use Rattle.table_model.specs.Opening.{open_changes}
 use Rattle.table_model.specs.Ask.{Ask, Creates, Opens, Reads, Writes, Fills, Seeks, Tells, Truncates, Flushes, Closes, Removes, RemovesOpen, Renames, Stats, StatsOpen, NextAbove, Informs, Collects, SetsMeta, SetsMetaOpen}
 use Rattle.table_model.specs.Flat.{answer}
@@ -17,7 +15,6 @@ use Rattle.call_model.proofs.Closed.{first_open}
 use Rattle.call_model.proofs.Tables.{file_of-put}
 use Rattle.copy_model.specs.Copying.{front_of, begun}
 use Rattle.copy_model.specs.Filling.{filler, filling}
-use Rattle.copy_model.specs.Answers.{IsPiece}
 use Rattle.copy_model.specs.Steps.{writes_none, OneStep, OnePage}
 use Rattle.copy_model.proofs.Answering.{piece-ends, put-piece}
 use Rattle.copy_model.proofs.Writing.{one_write}

@@ -1,8 +1,7 @@
 -- What the flat table answers to the calls of a copy, and the state after each: two blocks are free, and only the first descriptor is ever open.
-use Rattle.std.specs.Prelude.{◌≡◌, ◌≢◌, ℕ, ◌+◌, ◌<◌, ◌≤◌, ◌%◌, ◌⊎◌, List, ◌∷◌, length, Bool, true, false, Some, None, if◌then◌else◌}
+use Rattle.std.specs.Prelude.{◌≡◌, ◌≢◌, ℕ, ◌+◌, ◌<◌, List, length, Bool, true, Some, None, if◌then◌else◌}
 use Rattle.geometry.specs.declared.geometry.Geometry.{Geometry}
-use Rattle.geometry.specs.Numbers.{body}
-use Rattle.table_model.specs.declared.error.FsErr.TheVariants.{NotFound, ConflictingName, Full}
+use Rattle.table_model.specs.declared.error.FsErr.TheVariants.{NotFound, Full}
 use Rattle.table_model.specs.Table.{File, Open, State, file_named, file_of, put_file, drop_file}
 use Rattle.table_model.specs.Names.{name_refusal}
 use Rattle.table_model.specs.Room.{has_room}

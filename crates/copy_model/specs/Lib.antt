@@ -8,3 +8,4 @@ pub mod Rooms
 pub mod Tasks
 pub mod Walks
 pub mod Parts
+pub mod Stages
