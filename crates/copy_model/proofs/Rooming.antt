@@ -129,7 +129,7 @@ marked-room g alike f files room =
     put-room g (front_of g files f.bytes) (marked g alike f files) files (least-unused files) (marked-id g alike f files) (marked-long g alike f files)
     ∙ subst (λ (l : List ℕ). has_room g (put_file (front_of g files l) files) ≡ true) all room
 
-less-room : (g : Geometry) (o : Option File) (files : List File) → has_room g files ≡ true → has_room g (without_found o files) ≡ true
+pub less-room : (g : Geometry) (o : Option File) (files : List File) → has_room g files ≡ true → has_room g (without_found o files) ≡ true
 less-room g None files room = room
 less-room g (Some x) files room = drop-room g x.id files room
 

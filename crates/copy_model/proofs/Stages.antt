@@ -26,7 +26,7 @@ found-right t (y ∷ xs) ys none = ⊎_elim
     (λ (no : t y ≡ false). rw no (found-right t xs ys (rw no at none)))
     (cases_Bool (t y))
 
-named-left : (name : List ℕ) (front rest : List File) (f : File) → file_named name front ≡ Some f → file_named name (front ++ rest) ≡ Some f
+pub named-left : (name : List ℕ) (front rest : List File) (f : File) → file_named name front ≡ Some f → file_named name (front ++ rest) ≡ Some f
 unfolding file_named
 named-left name front rest f is = found-left (λ (x : File). same_text x.name name) front rest f is
 

@@ -5,4 +5,7 @@ pub mod Filling
 pub mod Answers
 pub mod Steps
 pub mod Rooms
+pub mod Tasks
+pub mod Walks
+pub mod Parts
 pub mod Stages
