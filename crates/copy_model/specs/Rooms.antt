@@ -1,10 +1,10 @@
 -- The first table of a copy that has no room.
-use Rattle.std.specs.Prelude.{◌≡◌, ◌≢◌, ℕ, ◌+◌, ◌<◌, ◌≤◌, ◌%◌, ◌⊎◌, List, ◌∷◌, length, map, Bool, true, false, Option, Some, None}
+use Rattle.std.specs.Prelude.{◌≡◌, ◌≢◌, ℕ, ◌+◌, ◌-◌, ◌<◌, ◌≤◌, ◌%◌, ◌⊎◌, List, ◌∷◌, length, map, Bool, true, false, Option, Some, None}
 use Rattle.std.specs.Option.{option_or}
 use Rattle.geometry.specs.declared.geometry.Geometry.{Geometry}
 use Rattle.geometry.specs.Numbers.{body}
 use Rattle.table_model.specs.Table.{File, put_file}
-use Rattle.table_model.specs.Room.{has_room}
+use Rattle.table_model.specs.Room.{has_room, index_count, data_count, index_pages}
 use Rattle.copy_model.specs.Copying.{working, keeps, ends_from, begun, marked, cleared, placed, record_steps, copy_steps}
 use Rattle.copy_model.specs.Stops.{first_full}
 
@@ -44,3 +44,20 @@ StepsKept g = (alike : Bool) (f : File) (rest files : List File) → keeps alike
 abbrev pub StepsFull : Geometry → Type 0
 StepsFull g = (alike : Bool) (f : File) (rest files : List File) → f.name ≢ working → keeps alike f files ≡ false →
     first_full g (copy_steps g alike (f ∷ rest) files) ≡ option_or (filling_full g f files 0) (first_full g (copy_steps g alike rest (placed g alike f files)))
+
+-- The working file as it is made takes an index page.
+pub record AddsFile (g : Geometry) (f : File) (files : List File) : Type 0 where
+  pub index_are : index_count g (begun g f files 0) ≡ index_count g files + 1
+  pub data_are : data_count g (begun g f files 0) ≡ data_count g files
+
+abbrev pub FirstCounts : Geometry → Type 0
+FirstCounts g = (f : File) (files : List File) → AddsFile g f files
+
+-- Bytes behind its first ones take a data page, and the index pages of its size.
+pub record AddsPage (g : Geometry) (f : File) (files : List File) (at len : ℕ) : Type 0 where
+  pub grows : index_pages g at ≤ index_pages g (at + len)
+  pub index_are : index_count g (begun g f files (at + len)) ≡ index_count g (begun g f files at) + (index_pages g (at + len) - index_pages g at)
+  pub data_are : data_count g (begun g f files (at + len)) ≡ data_count g (begun g f files at) + 1
+
+abbrev pub NextCounts : Geometry → Type 0
+NextCounts g = (f : File) (files : List File) (at len : ℕ) → at % body g ≡ 0 → 0 < len → len ≤ body g → at + len ≤ length f.bytes → AddsPage g f files at len

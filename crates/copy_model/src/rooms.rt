@@ -1,5 +1,5 @@
 ghost use Rattle.geometry.specs.declared.geometry.Geometry.{Geometry};
-ghost use Rattle.copy_model.specs.Rooms.{FullHere, FullLater, FullEnds, RoomBehind, RecordFull, StepsKept, StepsFull};
+ghost use Rattle.copy_model.specs.Rooms.{FullHere, FullLater, FullEnds, RoomBehind, RecordFull, StepsKept, StepsFull, FirstCounts, NextCounts};
 
 /// Which table of a record's copy is the first without room: one of those with its bytes up to an end, or none.
 pub fn records_have_room()
@@ -14,4 +14,10 @@ pub fn records_have_room()
 pub fn copies_have_room()
     ensures kept { (g : Geometry) → StepsKept g }
     ensures full { (g : Geometry) → StepsFull g }
+{}
+
+/// How many pages more the working file takes, step by step.
+pub fn pages_are_counted()
+    ensures first { (g : Geometry) → FirstCounts g }
+    ensures next { (g : Geometry) → NextCounts g }
 {}
