@@ -1,6 +1,6 @@
 -- How many pages the working file takes.
-use Rattle.std.proofs.Common.{◌≡◌, ℕ, ◌+◌, ◌-◌, ◌*◌, ◌/◌, ◌%◌, ◌<◌, ◌≤◌, List, length, take, true, false, refl, sym, ◌∙◌, ap, arith, ⊎_elim, length-take}
-use Rattle.std.specs.Prelude.{nat_lt, min, if◌then◌else◌, []}
+use Rattle.std.proofs.Common.{◌≡◌, ℕ, ◌+◌, ◌-◌, ◌*◌, ◌/◌, ◌%◌, ◌<◌, ◌≤◌, List, length, take, ◌∙◌, ap, arith, ⊎_elim, length-take}
+use Rattle.std.specs.Prelude.{nat_lt, if◌then◌else◌, []}
 use Rattle.std.proofs.Math.Nat.{div-add-mod}
 use Rattle.std.proofs.lemmas.Bool.{cases_lt, lt-ltb, le-ltb}
 use Rattle.geometry.specs.declared.geometry.Geometry.{Geometry}
@@ -14,7 +14,7 @@ use Rattle.header_laws.specs.Sums.{Adds}
 use Rattle.header_laws.proofs.AddsUp.{put-adds, new-adds}
 use Rattle.call_model.proofs.Unused.{least-unused}
 use Rattle.copy_model.specs.Copying.{working, front_of, begun}
-use Rattle.copy_model.specs.Rooms.{AddsFile, AddsPage, FirstCounts, NextCounts}
+use Rattle.copy_model.specs.Rooms.{FirstCounts, NextCounts}
 
 pub first-counts : (g : Geometry) → FirstCounts g
 first-counts g f files =

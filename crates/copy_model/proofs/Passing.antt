@@ -1,24 +1,21 @@
 -- One record after the other gets its copy.
-use Rattle.std.proofs.Common.{◌≡◌, ◌≢◌, ℕ, zero, suc, ◌+◌, ◌<◌, ◌≤◌, ◌*◌, ◌/◌, ◌%◌, List, [], ◌∷◌, ◌++◌, length, take, Bool, true, false, not, cond, Option, Some, None, refl, sym, ◌∙◌, ap, subst, ⊎_elim, ◌⊎◌, inl, inr, arith}
-use Rattle.std.specs.Prelude.{find, nat_lt, replicate, ◌==◌}
+use Rattle.std.proofs.Common.{◌≡◌, ◌≢◌, ℕ, ◌+◌, ◌<◌, ◌≤◌, ◌*◌, ◌/◌, ◌%◌, List, [], ◌∷◌, ◌++◌, length, take, Bool, true, false, not, cond, Option, Some, None, refl, sym, ◌∙◌, ap, subst, ⊎_elim, ◌⊎◌, inl, inr, arith}
+use Rattle.std.specs.Prelude.{nat_lt, replicate}
 use Rattle.std.specs.Option.{option_or}
 use Rattle.std.specs.List.{All}
 use Rattle.std.proofs.Math.Nat.{zero-mod, div-add-mod}
 use Rattle.std.proofs.lemmas.Nat.{mod-mul-add}
 use Rattle.std.proofs.lemmas.List.{take_all}
 use Rattle.std.proofs.lemmas.List.Elements.{All-head, All-tail}
-use Rattle.std.proofs.lemmas.Bool.{cases_Bool, true≢false, eqb-true}
-use Rattle.std.proofs.lemmas.Option.{none-some, same_Some}
-use Rattle.geometry.specs.declared.geometry.Geometry.{Geometry}
+use Rattle.std.proofs.lemmas.Bool.{eqb-true}
+use Rattle.std.proofs.lemmas.Option.{same_Some}
 use Rattle.geometry.specs.Numbers.{body}
 use Rattle.table_model.specs.declared.reply.Stat.{Stat}
-use Rattle.table_model.specs.Table.{File, Open, same_text, least_id, has_id, file_of, file_named, file_above, put_file}
+use Rattle.table_model.specs.Table.{File, Open, least_id, file_of, file_named, file_above, put_file}
 use Rattle.table_model.specs.Files.{stat_of}
 use Rattle.table_model.specs.Room.{has_room}
-use Rattle.table_model.proofs.Ascending.{Ascends}
 use Rattle.call_model.proofs.Unused.{least-unused, file_of-unused}
-use Rattle.call_model.proofs.Tables.{file_of-put}
-use Rattle.image_laws.proofs.Records.{bytes_same, bytes_equal}
+use Rattle.image_laws.proofs.Records.{bytes_equal}
 use Rattle.copy_model.specs.Copying.{working, is_copy, is_copied, keeps, front_of, begun, marked, cleared, placed, without_name, copied, copy_steps, kept_count}
 use Rattle.copy_model.specs.Filling.{filler}
 use Rattle.copy_model.specs.Stops.{first_full}
@@ -26,7 +23,7 @@ use Rattle.copy_model.specs.Rooms.{filling_full}
 use Rattle.copy_model.specs.Under.{IsTable, HasNow, IsUnder, IsCopied}
 use Rattle.copy_model.specs.Tasks.{Task, begins_with, stops_at}
 use Rattle.copy_model.specs.Walks.{up_to, behind}
-use Rattle.copy_model.specs.Parts.{IsFit, AreFit, IsAmid, IsUpTo, IsCounted, IsNext, IsMissing, IsFilling, IsWhole, IsMarked, IsCleared, IsPassed}
+use Rattle.copy_model.specs.Parts.{IsFit, AreFit, IsAmid, IsUpTo, IsCounted, IsNext, IsMissing, IsFilling, IsWhole, IsMarked, IsPassed}
 use Rattle.copy_model.proofs.Names.{found-all, named-is, put-others, put-over}
 use Rattle.copy_model.proofs.Stages.{under-none, under-begun, without-others, without-own, under-cleared, copied-kept, copied-placed}
 use Rattle.copy_model.proofs.Answering.{marked-id, marked-name, marked-unused}
@@ -341,7 +338,7 @@ module _ (stat : Stat) (is_new : Bool) (t : Task) (files : List File) (is : IsPa
       let passes : up_to stat.id t.source ≡ up_to after t.source ++ f ∷ [] = ap (λ (id : ℕ). up_to id t.source) (ap (λ (s : Stat). s.id) told) ∙ w.1 in
       let keeps_is : keeps t.alike f t.first ≡ not is_new = ap (λ (x : File). keeps t.alike x t.first) (sym same) ∙ is.kept in
       let many : kept_count t.alike (up_to stat.id t.source) t.first ≡ kept_count t.alike (up_to after t.source) t.first + cond (not is_new) 1 0 =
-          ap (λ (l : List File). kept_count t.alike l t.first) passes ∙ kept-more t.alike (up_to after t.source) f t.first ∙ ap (λ (b : Bool). kept_count t.alike (up_to after t.source) t.first + cond b 1 0) keeps_is in
+      ap (λ (l : List File). kept_count t.alike l t.first) passes ∙ kept-more t.alike (up_to after t.source) f t.first ∙ ap (λ (b : Bool). kept_count t.alike (up_to after t.source) t.first + cond b 1 0) keeps_is in
       let long : length (up_to stat.id t.source) ≡ length (up_to after t.source) + 1 = ap (λ (l : List File). length l) passes ∙ long-more (up_to after t.source) f in
       count_on is_new counted.kept_is counted.all many long
     where

@@ -1,19 +1,17 @@
 -- The source's records one after the other, in order of ids.
-use Rattle.std.proofs.Common.{◌≡◌, ◌≢◌, ℕ, ◌+◌, ◌<◌, ◌≤◌, List, [], ◌∷◌, ◌++◌, length, Bool, true, false, not, cond, Option, Some, None, refl, sym, ◌∙◌, ap, subst, ⊎_elim, ◌⊎◌, arith, length-append}
-use Rattle.std.specs.Prelude.{find, filter, nat_lt, position}
+use Rattle.std.proofs.Common.{◌≡◌, ℕ, ◌+◌, ◌<◌, ◌≤◌, List, [], ◌∷◌, ◌++◌, length, Bool, true, false, not, cond, Option, Some, None, refl, sym, ◌∙◌, ap, subst, ⊎_elim, arith, length-append}
+use Rattle.std.specs.Prelude.{find, nat_lt, position}
 use Rattle.std.specs.List.{prefix_len}
 use Rattle.std.proofs.lemmas.Bool.{cases_Bool, ltb-true, ltb-false, lt-ltb, le-ltb}
 use Rattle.std.proofs.lemmas.Option.{none-some, same_Some}
 use Rattle.table_model.specs.Table.{File, same_text, file_above, file_named}
-use Rattle.table_model.proofs.Ascending.{Ascends, head_found, found_behind}
+use Rattle.table_model.proofs.Ascending.{Ascends}
 use Rattle.call_model.proofs.Unused.{found-passes}
-use Rattle.image_laws.proofs.Records.{bytes_same, bytes_equal}
-use Rattle.copy_model.specs.Copying.{working, keeps, kept_count}
+use Rattle.copy_model.specs.Copying.{keeps, kept_count}
 use Rattle.copy_model.specs.Under.{IsTable}
 use Rattle.copy_model.specs.Walks.{behind, up_to}
 use Rattle.copy_model.proofs.Names.{found-all}
 use Rattle.copy_model.proofs.Stages.{named-left}
-
 
 -- of files of greater ids none is up to one
 all_behind : (after low : ℕ) (files : List File) → after ≤ low → Ascends (λ (f : File). f.id) low files → (behind after files ≡ files) × (up_to after files ≡ [])
