@@ -1,5 +1,5 @@
 pub mod Answering
 pub mod Moving
 pub mod Stopping
-pub mod Resting
+pub mod AtRest
 pub mod Quieting

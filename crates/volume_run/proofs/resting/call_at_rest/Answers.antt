@@ -1,6 +1,6 @@
 use Rattle.table_model.specs.Ask.{asked}
 use Rattle.file_calls.specs.Replies.{shown_by}
-use Rattle.volume_run.proofs.Resting.{rested}
+use Rattle.volume_run.proofs.AtRest.{rested}
 use Rattle.volume_run.proofs.resting.call_at_rest.Goals as goal
 
 pub returns : goal.returns
