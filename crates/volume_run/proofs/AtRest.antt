@@ -1,5 +1,5 @@
 -- Calls of a volume on which nothing waits.
-use Rattle.std.proofs.Common.{◌≡◌, refl, sym, ◌∙◌, ap, subst, ⊎_elim, inl, inr, List, ◌∷◌, ℕ, Bool, true, false, Option, Some, None}
+use Rattle.std.proofs.Common.{◌≡◌, refl, sym, ◌∙◌, ap, subst, ⊎_elim, List, ◌∷◌, ℕ, Bool, true, false, Option, Some, None}
 use Rattle.std.proofs.lemmas.Bool.{le-leb}
 use Rattle.std.proofs.lemmas.Option.{none-some}
 use Rattle.geometry.specs.declared.geometry.Geometry.{Geometry}
@@ -9,18 +9,18 @@ use Rattle.nor_core.proofs.Cuts.{wider}
 use Rattle.table_model.specs.declared.error.FsErr.TheVariants.{DeviceFault, Damaged}
 use Rattle.table_model.specs.declared.error.Differ.{Differ}
 use Rattle.table_model.specs.Table.{State}
-use Rattle.table_model.specs.Ask.{Ask, Collects}
+use Rattle.table_model.specs.Ask.{Ask}
 use Rattle.table_model.specs.Reply.{Answer, Refuses}
 use Rattle.table_model.specs.Flat.{answer}
 use Rattle.table_model.specs.Steps.{steps, is_refusal}
-use Rattle.table_model.specs.Window.{Moment, Waiting, after, settled_at, leaves_window, incoming_of, continues, may_wait, from_settled, IsAmong}
+use Rattle.table_model.specs.Window.{Moment, after, settled_at, incoming_of, continues, IsAmong}
 use Rattle.image_model.specs.Tables.{table_of}
 use Rattle.image_model.specs.Tidy.{free_blocks}
 use Rattle.write_window.specs.Runs.{Run}
 use Rattle.call_model.specs.Safe.{IsSafe}
-use Rattle.call_model.specs.Memory.{RunWaits, Waits}
+use Rattle.call_model.specs.Memory.{RunWaits}
 use Rattle.call_model.specs.Calls.{Stands, Answers, Publishes}
-use Rattle.call_model.proofs.After.{other-settles, refused-settles}
+use Rattle.call_model.proofs.After.{other-settles}
 use Rattle.run_model.specs.Ran.{RunStands, RunAnswers}
 use Rattle.run_model.proofs.OneCall.{run_answers}
 use Rattle.file_calls.specs.Goes.{StopsShort}
@@ -80,13 +80,15 @@ module _ {N : Type 0} {nor : NorOf N} where
     unfolding settled_at
     answers =
         let r = ran in
-        let at : RunStands nor g new.nor.now (memory new) (settled_at (answer g true s ask).next) = subst (λ (m : Moment). RunStands nor g new.nor.now (memory new) m) (settles g s ask quiet) r.stands in
-        (r.reply_is, record {
-          geometry = calls.same.geometry ∙ rest.geometry;
-          takes = takes_on rest.takes calls (unbroken reply whole (undamaged rest calls));
-          stands = at;
-          none = no_run g (nor.bytes new.nor.now) (answer g true s ask).next (memory new).run at.stands.image.run;
-        })
+        let at : RunStands nor g new.nor.now (memory new) (settled_at (answer g true s ask).next) = subst (λ (m : Moment). RunStands nor g new.nor.now (memory new) m) (settles g s ask quiet) r.stands in (
+          r.reply_is,
+          record {
+            geometry = calls.same.geometry ∙ rest.geometry;
+            takes = takes_on rest.takes calls (unbroken reply whole (undamaged rest calls));
+            stands = at;
+            none = no_run g (nor.bytes new.nor.now) (answer g true s ask).next (memory new).run at.stands.image.run;
+          },
+        )
 
     only_reads : is_refusal reply ≡ true → OnlyReads nor old.nor.now new.nor.now
     only_reads refusal = (calls.refused (settled_at s) rest.takes rest.none (holds_at rest) whole (not_short old.geometry (nor.bytes old.nor.now) (settled_at s) reply quiet) refusal).reads

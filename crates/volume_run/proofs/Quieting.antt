@@ -1,13 +1,13 @@
 -- Calls that leave nothing waiting.
-use Rattle.std.proofs.Common.{◌≡◌, ℕ, List, length, Bool, true, false, not, Option, Some, None, refl, sym, ◌∙◌, ap}
+use Rattle.std.proofs.Common.{◌≡◌, ℕ, List, true, false, Option, Some, None, refl}
 use Rattle.std.proofs.lemmas.Bool.{false≢true, not-true}
 use Rattle.geometry.specs.declared.geometry.Geometry.{Geometry}
 use Rattle.table_model.specs.Table.{File, Open, State, file_of}
 use Rattle.table_model.specs.Descriptors.{open_at, empties, is_direct}
-use Rattle.table_model.specs.Ask.{Ask, Creates, Opens, Reads, Writes, Fills, Seeks, Tells, Truncates, Flushes, Closes, Removes, RemovesOpen, Renames, Stats, StatsOpen, NextAbove, Informs, Collects, SetsMeta, SetsMetaOpen}
+use Rattle.table_model.specs.Ask.{Creates, Opens, Reads, Writes, Fills, Seeks, Tells, Truncates, Flushes, Closes, Removes, RemovesOpen, Renames, Stats, StatsOpen, NextAbove, Informs, Collects, SetsMeta, SetsMetaOpen}
 use Rattle.table_model.specs.Steps.{open_file}
 use Rattle.table_model.specs.Window.{incoming_of, may_wait}
-use Rattle.volume_run.specs.Resting.{IsQuiet, is_quiet, QuietCalls, QuietWrites}
+use Rattle.volume_run.specs.Resting.{QuietCalls, QuietWrites}
 
 pub quiet-calls : (g : Geometry) → QuietCalls g
 unfolding incoming_of
