@@ -1,6 +1,6 @@
 -- A scrub on a volume: what waits is put onto the chip, and then one step is made where nothing waits.
 use Rattle.std.proofs.Common.{◌≡◌, ℕ, ◌+◌, ◌≤◌, ◌⊎◌, ⊎_elim, inl, inr, List, [], length, Bool, true, false, ◌||◌, refl, sym, ◌∙◌, ap, subst, arith}
-use Rattle.std.specs.Prelude.{◌≢◌, None, Result, Ok, Err, OnOk, IfOk, IfErr, MatchResult}
+use Rattle.std.specs.Prelude.{◌≢◌, None, Result, Ok, Err, IfOk, IfErr, MatchResult}
 use Rattle.std.proofs.lemmas.Bool.{cases_Bool}
 use Rattle.geometry.specs.declared.geometry.Geometry.{Geometry}
 use Rattle.nor_core.specs.declared.state.NorState.{Ghosts as NorOf}
@@ -41,7 +41,7 @@ use Rattle.ix_map.specs.Maps.{no_map}
 use Rattle.volume.specs.Mapping.{HasNoHeader, RefillsTo, KeepsMap}
 use Rattle.volume.specs.Scrubs.{ScrubbedFrom, ScrubsOn, ScrubsSettled, Scrubs, told_as}
 use Rattle.volume.proofs.Staying.{same_none, same_then}
-use Rattle.volume.proofs.Calling.{settled_first, open_is, open_whole, whole_still, none_is}
+use Rattle.volume.proofs.Calling.{settled_first, open_is, whole_still, none_is}
 use Rattle.volume.proofs.RunSettling.{settled_now}
 use Rattle.volume.proofs.KnownMaps.{never, refills, shut_breaks, keeps_broken, keeps_refilled}
 
@@ -147,9 +147,9 @@ module _ {N : Type 0} {nor : NorOf N} where
       let broke = breaks (told (λ scrub. Fine) result) in
       let again : RefillsTo old.map made new broke = refills old.map false broke rooms refl (scrub_broke did) (omega arith) still none lost is in
       let left : (made.map ≡ old.map) ⊎ (made.map ≡ no_map) = ⊎_elim
-          (λ (stood : made.map ≡ mid.map). ⊎_elim (λ (kept : mid.map ≡ old.map). inl (stood ∙ kept)) (λ (gone : mid.map ≡ no_map). inr (stood ∙ gone)) map)
-          (λ (gone : made.map ≡ no_map). inr gone)
-          known in
+      (λ (stood : made.map ≡ mid.map). ⊎_elim (λ (kept : mid.map ≡ old.map). inl (stood ∙ kept)) (λ (gone : mid.map ≡ no_map). inr (stood ∙ gone)) map)
+      (λ (gone : made.map ≡ no_map). inr gone)
+      known in
       keeps_refilled broke (more ∙ room) left faults again
 
   -- ---- a volume that takes no calls

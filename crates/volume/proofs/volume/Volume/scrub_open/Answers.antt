@@ -1,4 +1,4 @@
-use Rattle.std.proofs.Common.{◌≤◌, refl, ap, arith}
+use Rattle.std.proofs.Common.{refl}
 use Rattle.volume.proofs.Staying.{same_then}
 use Rattle.volume.proofs.Scrubbings.{scrubs_by, scrubs_read, scrub_keeps, scrubs_stopped, faults_then}
 use Rattle.volume.proofs.volume.Volume.scrub_open.Goals as goal
