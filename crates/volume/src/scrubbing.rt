@@ -5,9 +5,13 @@ ghost use Rattle.nor_core.specs.Count.{Rose};
 ghost use Rattle.page_cache.specs.Kept.{IsKept, FewReads};
 ghost use Rattle.flash_view.specs.Same.{StaysBehind};
 ghost use Rattle.flash_view.specs.Table.{HasTable};
-ghost use Rattle.volume.specs.Scrubs.{ScrubsOn};
+ghost use Rattle.table_model.specs.Reply.{Fine};
+ghost use Rattle.volume.specs.Opening.{stage_after};
+ghost use Rattle.volume.specs.Replies.{told};
+ghost use Rattle.volume.specs.Scrubs.{ScrubsOn, told_as};
 
 use crate::Volume;
+use crate::mapping::known;
 use crate::stage::{Stage, stage_at};
 use flash_view::{StepErr, View};
 use geometry::Geometry;
@@ -65,20 +69,43 @@ fn scrub_on<N: Nor>(
     }
 }
 
+// How a scrub is answered whose step went so.
+fn answer_of(step: Result<Scrub, StepErr>) -> Result<Scrub, FsErr>
+    ensures { result ≡ told_as step }
+{
+    match step {
+        Ok(scrub) => Ok(scrub),
+        Err(why) => Err(FsErr::from(why)),
+    }
+}
+
+// Where a scrub leads that a checked volume did. `wrote` says whether a program or an erase was asked for.
+fn stage_of(answer: &Result<Scrub, FsErr>, wrote: bool) -> Stage
+    ensures { result ≡ stage_after wrote (told (λ scrub. Fine) answer.now) }
+{
+    match answer {
+        Ok(_) => Stage::Checked,
+        Err(why) => stage_at(why, wrote),
+    }
+}
+
 impl<'b, N: Nor> Volume<'b, N> {
-    ghost use Rattle.std.specs.Prelude.{◌≡◌, ◌≤◌, true, None};
+    ghost use Rattle.std.specs.Prelude.{◌≡◌, ◌⊎◌, ◌≤◌, length, true, None};
+    ghost use Rattle.ix_map.specs.Maps.{no_map};
     ghost use Rattle.volume.specs.Holds.{memory};
     ghost use Rattle.volume.specs.Stages.{takes_calls};
     ghost use Rattle.volume.specs.Same.{IsSameVolume};
     ghost use Rattle.volume.specs.Scrubs.{ScrubsSettled, Scrubs};
 
-    // Does a scrub step where nothing waits. `had` says whether anything waited when it began.
+    // Does a scrub step where nothing waits; a map is given up where that writes. `had` says whether anything waited when it began.
     fn scrub_settled(&mut self, had: bool, limit: u16) -> Result<Scrub, FsErr>
         requires takes { takes_calls self.old ≡ true }
         requires none { (memory self.old).run ≡ None }
         requires limit { (1 ≤ limit) × (limit ≤ 32767) }
         ensures same { IsSameVolume self.old self.new }
         ensures scrubs { ScrubsSettled had limit self.old self.new result }
+        ensures map { (self.new.map ≡ self.old.map) ⊎ (self.new.map ≡ no_map) }
+        ensures room { length self.new.numbers.now ≡ length self.old.numbers.now }
     {
         let g = self.geometry;
         let work = &mut *self.work;
@@ -92,25 +119,26 @@ impl<'b, N: Nor> Volume<'b, N> {
             &mut self.counted,
             limit,
         );
-        match result {
-            Ok(scrub) => Ok(scrub),
-            Err(why) => {
-                let why = FsErr::from(why);
-                self.stage = stage_at(&why, had || wrote);
-                Err(why)
-            }
-        }
+        let result = answer_of(result);
+        self.stage = stage_of(&result, had || wrote);
+        self.map = known(self.map, wrote);
+        result
     }
 
-    // Does a scrub on a volume that takes calls.
+    // Does a scrub on a volume that takes calls, and reads the map again that was given up.
     fn scrub_open(&mut self, limit: u16) -> Result<Scrub, FsErr>
         requires takes { takes_calls self.old ≡ true }
         requires limit { (1 ≤ limit) × (limit ≤ 32767) }
         ensures { Scrubs limit self.old self.new result }
     {
+        let was = self.map;
         match self.begin() {
             Err(why) => Err(why),
-            Ok(had) => self.scrub_settled(had, limit),
+            Ok(had) => {
+                let result = self.scrub_settled(had, limit);
+                self.refill(was);
+                result
+            }
         }
     }
 
