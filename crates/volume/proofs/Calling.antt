@@ -1,5 +1,5 @@
 -- A call on a volume: what waits is put onto the chip, and then it is done where nothing waits.
-use Rattle.std.proofs.Common.{◌≡◌, ℕ, ◌≤◌, ◌⊎◌, ⊎_elim, inl, inr, List, [], ◌∷◌, ◌++◌, append-nil, replicate, Bool, true, false, ◌&&◌, ◌||◌, ◌==◌, if◌then◌else◌, refl, sym, ◌∙◌, ap, subst, arith}
+use Rattle.std.proofs.Common.{◌≡◌, ℕ, ◌≤◌, ◌⊎◌, ⊎_elim, inl, inr, List, [], ◌∷◌, ◌++◌, append-nil, replicate, length, Bool, true, false, ◌&&◌, ◌||◌, ◌==◌, if◌then◌else◌, refl, sym, ◌∙◌, ap, subst, arith}
 use Rattle.std.specs.Prelude.{nat_le, Option, Some, None, Result, Ok, Err}
 use Rattle.std.specs.Option.{is_some}
 use Rattle.std.proofs.lemmas.Bool.{cases_Bool, leb-true, le-leb}
@@ -47,7 +47,10 @@ use Rattle.volume.specs.Acts.{Acts}
 use Rattle.volume.specs.Unchanged.{Unchanged}
 use Rattle.volume.specs.Settles.{Settles}
 use Rattle.volume.specs.Settled.{is_fill, GoesOnNot, ActsOn}
+use Rattle.ix_map.specs.Maps.{no_map}
+use Rattle.volume.specs.Mapping.{RefillsTo}
 use Rattle.volume.specs.Calls.{HasRun, HasNone, Calls}
+use Rattle.volume.proofs.KnownMaps.{keeps_none, keeps_broken, keeps_refilled}
 use Rattle.file_calls.proofs.Going.{refuses_same}
 use Rattle.volume.proofs.Staying.{same_then, same_none}
 use Rattle.volume.proofs.Acting.{goes_on_none}
@@ -246,12 +249,13 @@ module _ {N : Type 0} {nor : NorOf N} where
         still = λ refusal. refl;
         begins = λ none run. (reads_none v.nor.now, refl);
         empty = λ refusal none. none;
+        maps = λ m takes. absurd (never takes);
       }
 
   -- ---- what waits could not be put onto the chip
 
-  pub calls_stopped : (ask : Ask) {old new : Volume N nor} (why : FsErr) → takes_calls old ≡ true → leaves_window ask ≡ false → GoesOnNot old ask → Settles old new (Err why) → Calls ask old new (Refuses why)
-  calls_stopped ask {old} {new} why takes leaves apart settles =
+  pub calls_stopped : (ask : Ask) {old new : Volume N nor} (why : FsErr) → takes_calls old ≡ true → leaves_window ask ≡ false → GoesOnNot old ask → Settles old new (Err why) → length new.numbers.now ≡ length old.numbers.now → (new.map ≡ old.map) ⊎ (new.map ≡ no_map) → Calls ask old new (Refuses why)
+  calls_stopped ask {old} {new} why takes leaves apart settles room map =
       let run : HasRun old = some_is (memory old).run (λ none. let no = (settles.idle none).0 in cc) in
       let some : HasNone old → ⊥ = λ none. let no = (settles.idle none).0 in cc in
       let shut : takes_calls old ≡ false → ⊥ = λ e. let no : true ≡ false = sym takes ∙ e in cc in
@@ -284,12 +288,13 @@ module _ {N : Type 0} {nor : NorOf N} where
         still = λ refusal. settles.slots;
         begins = λ none run. absurd (some none);
         empty = λ refusal none. absurd (some none);
+        maps = λ m takes here. keeps_broken (breaks (Refuses why)) (ap breaks (fault m here)) room map;
       }
 
   -- ---- a call that is done where nothing waits
 
   module _ {old mid new : Volume N nor} (ask : Ask) (had : Bool) (reply : Answer) (takes : takes_calls old ≡ true) (leaves : leaves_window ask ≡ false) (apart : GoesOnNot old ask)
-      (settles : Settles old mid (Ok had)) (same : IsSameVolume mid new) (did : ActsOn had ask mid new reply) where
+      (settles : Settles old mid (Ok had)) (same : IsSameVolume mid new) (did : ActsOn had ask mid new reply) (room : length mid.numbers.now ≡ length old.numbers.now) (map : (mid.map ≡ old.map) ⊎ (mid.map ≡ no_map)) (refilled : RefillsTo old.map mid new (breaks reply)) where
     acts : Acts nor old.geometry ask mid.nor.now new.nor.now mid.slots.now new.slots.now (memory new).run did.wrote reply
     acts = subst (λ (g : Geometry). Acts nor g ask mid.nor.now new.nor.now mid.slots.now new.slots.now (memory new).run did.wrote reply) settles.same.geometry did.acts
 
@@ -465,6 +470,7 @@ module _ {N : Type 0} {nor : NorOf N} where
       still = λ refusal. acts.does.still refusal ∙ settles.slots;
       begins = λ none run. let unwritten = acts.waits run in (only_reads none unwritten, stage_stays (no_run none) unwritten);
       empty = λ refusal none. acts.empty refusal;
+      maps = λ m takes here. keeps_refilled (breaks reply) room map settles.same.faults refilled;
     }
 
   -- ---- a call that only looks at descriptors: what waits goes on waiting
@@ -505,6 +511,7 @@ module _ {N : Type 0} {nor : NorOf N} where
         still = λ refusal. refl;
         begins = λ none run. (reads_none v.nor.now, refl);
         empty = λ refusal none. none;
+        maps = λ m takes here. keeps_none v (breaks (reply_of result []));
       }
 
   -- ---- bytes that are lent for nothing, and fills
@@ -571,4 +578,5 @@ module _ {N : Type 0} {nor : NorOf N} where
         still = calls.still;
         begins = calls.begins;
         empty = calls.empty;
+        maps = calls.maps;
       }

@@ -46,6 +46,8 @@ use Rattle.volume.specs.Same.{IsSameVolume}
 use Rattle.volume.specs.Holds.{memory as memory_of, Holds}
 use Rattle.volume.specs.Settled.{GoesOnNot}
 use Rattle.volume.specs.Extends.{GoesOnAt}
+use Rattle.volume.specs.Replies.{breaks}
+use Rattle.volume.proofs.KnownMaps.{keeps_same}
 use Rattle.volume.specs.Calls.{HasRun, HasNone, Calls}
 use Rattle.file_calls.proofs.Going.{table_names, is_first}
 use Rattle.volume.proofs.Acting.{goes_on_none}
@@ -282,9 +284,9 @@ module _ {N : Type 0} {nor : NorOf N} where
     few_held = let most = v.geometry.valid.page_most in omega (arith, few_on, most)
 
   -- What a write does that asks nothing of the device, where bytes wait.
-  calls_on : {old new : Volume N nor} (fd : ℕ) (bytes : List ℕ) (n : ℕ) → IsSameVolume old new → new.nor.now ≡ old.nor.now → new.stage ≡ old.stage → takes_calls old ≡ true → HasRun old → n ≡ length bytes →
+  calls_on : {old new : Volume N nor} (fd : ℕ) (bytes : List ℕ) (n : ℕ) → IsSameVolume old new → new.nor.now ≡ old.nor.now → new.stage ≡ old.stage → length new.numbers.now ≡ length old.numbers.now → new.map ≡ old.map → takes_calls old ≡ true → HasRun old → n ≡ length bytes →
       ((m : Moment) → Holds old m → Answers nor old.geometry old.nor.now old.nor.now (memory_of new) m (Writes fd bytes) (Number n)) → Calls (Writes fd bytes) old new (Number n)
-  calls_on {old} {new} fd bytes n same device stage takes waits long answers =
+  calls_on {old} {new} fd bytes n same device stage room map takes waits long answers =
       let busy : HasNone old → ⊥ = λ none. let no : true ≡ false = sym waits ∙ ap is_some none in cc in
       record {
         same = same;
@@ -316,17 +318,18 @@ module _ {N : Type 0} {nor : NorOf N} where
         still = λ refusal. absurd (let no : false ≡ true = refusal in cc);
         begins = λ none. absurd (busy none);
         empty = λ refusal none. absurd (busy none);
+        maps = λ m takes here. keeps_same (breaks (Number n)) room map;
       }
 
   -- a write of no byte that goes on
   pub extends_none : (v : Volume N nor) (fd : ℕ) (slot : FdSlot) (bytes : List ℕ) → takes_calls v ≡ true → GoesOnAt v fd (length bytes) slot → length bytes ≡ 0 → Calls (Writes fd bytes) v v (Number 0)
-  extends_none v fd slot bytes takes on none = calls_on fd bytes 0 (same_none v) refl refl takes (ap is_some on.waits) (sym none)
+  extends_none v fd slot bytes takes on none = calls_on fd bytes 0 (same_none v) refl refl refl refl takes (ap is_some on.waits) (sym none)
       (λ m here. answers_none v.geometry v.nor.now (memory_of v) m here on.run on.waits fd (opened slot) on.opened bytes on.goes_on on.place (no_bytes bytes none))
 
   -- and one of some
-  pub extends_some : {old new : Volume N nor} (fd : ℕ) (slot : FdSlot) (bytes : List ℕ) (to : ℕ) → takes_calls old ≡ true → GoesOnAt old fd (length bytes) slot → 0 < length bytes → IsSameVolume old new → new.nor.now ≡ old.nor.now → new.stage ≡ old.stage →
+  pub extends_some : {old new : Volume N nor} (fd : ℕ) (slot : FdSlot) (bytes : List ℕ) (to : ℕ) → takes_calls old ≡ true → GoesOnAt old fd (length bytes) slot → 0 < length bytes → IsSameVolume old new → new.nor.now ≡ old.nor.now → new.stage ≡ old.stage → length new.numbers.now ≡ length old.numbers.now → new.map ≡ old.map →
       descriptors new.slots.now ≡ put_at (descriptors old.slots.now) fd (held (record slot { offset = to })) → to ≡ min (old.held.start + (old.held.taken + length bytes)) 4294967295 → (memory_of new).run ≡ option_map (with_more bytes) (memory_of old).run → Calls (Writes fd bytes) old new (Number (length bytes))
-  extends_some {old} {new} fd slot bytes to takes on some same device stage put moved pushed = calls_on fd bytes (length bytes) same device stage takes (ap is_some on.waits) refl (λ m here.
+  extends_some {old} {new} fd slot bytes to takes on some same device stage room map put moved pushed = calls_on fd bytes (length bytes) same device stage room map takes (ap is_some on.waits) refl (λ m here.
       let w = waiting old.geometry (nor.bytes old.nor.now) (memory_of old) m here.image on.run on.waits fd (opened slot) on.opened bytes on.goes_on on.place in
       let low = ends_low old.geometry m on.run w.0 bytes (follows_on on).within in
       let ends : to ≡ on.run.start + length on.run.bytes + length bytes = omega (arith, low, moved, (held_on on).start, (held_on on).taken) in

@@ -9,3 +9,6 @@ pub mod WriteCalls
 pub mod Calling
 pub mod RunSettling
 pub mod Scrubbings
+pub mod MapCalls
+mod LookedAfter
+mod KnownMaps

@@ -30,7 +30,6 @@ use Rattle.call_model.specs.Safe.{IsSafe}
 use Rattle.call_model.specs.Memory.{Memory, Waits, RunWaits, IsAt}
 use Rattle.call_model.proofs.Safety.{holds_itself, safe_as, safe_of_tidy}
 use Rattle.call_model.proofs.Settling.{wait_settles, wait_ends}
-use Rattle.volume.specs.declared.stage.Stage.{Stage}
 use Rattle.volume.specs.declared.stage.Stage.TheVariants.{Failed}
 use Rattle.volume.specs.declared.volume.Volume.{Volume}
 use Rattle.volume.specs.Opening.{is_failed}

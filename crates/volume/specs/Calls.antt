@@ -21,6 +21,7 @@ use Rattle.volume.specs.Same.{IsSameVolume}
 use Rattle.file_calls.specs.Replies.{is_of_name, names_fault, may_answer, is_change, keeps_slots}
 use Rattle.volume.specs.Replies.{may_settle, breaks}
 use Rattle.volume.specs.Holds.{memory, Holds}
+use Rattle.volume.specs.Mapping.{KeepsMap}
 use Rattle.volume.specs.Unchanged.{Unchanged}
 use Rattle.volume.specs.Packed.{IsPackedNow}
 use Rattle.file_calls.specs.Goes.{IsDoable, IsCorner, StopsShort, IsCollected, IsGiven}
@@ -90,3 +91,5 @@ module _ {N : Type 0} {nor : NorOf N} where
     pub begins : HasNone old → HasRun new → OnlyReads nor old.nor.now new.nor.now × (new.stage ≡ old.stage)
     -- refused where nothing waits, or where the device failed then, nothing waits after it
     pub empty : is_refusal reply ≡ true → HasNone old → HasNone new
+    -- the map of a file stays that of the file
+    pub maps : (m : Moment) → takes_calls old ≡ true → Holds old m → KeepsMap old new (breaks reply)

@@ -3,6 +3,7 @@ pub mod Opening
 pub mod Stages
 pub mod Same
 pub mod Holds
+pub mod Mapping
 pub mod Acts
 pub mod Unchanged
 pub mod Packed
@@ -13,3 +14,4 @@ pub mod Scrubs
 pub mod Unmounts
 pub mod Calls
 pub mod Checking
+pub mod MapReads

@@ -1,5 +1,5 @@
 -- What a scrub step does to a volume.
-use Rattle.std.specs.Prelude.{◌≡◌, ◌≢◌, ◌⊎◌, ℕ, List, [], Bool, true, false, ◌||◌, Option, None, Result, Ok, Err, OnOk, IfErr, IsErrOf, MatchResult}
+use Rattle.std.specs.Prelude.{◌≡◌, ◌≢◌, ◌⊎◌, ℕ, ◌+◌, ◌≤◌, List, [], length, Bool, true, false, ◌||◌, Option, None, Result, Ok, Err, OnOk, IfOk, IfErr, IsErrOf, MatchResult}
 use Rattle.geometry.specs.declared.geometry.Geometry.{Geometry}
 use Rattle.nor_core.specs.declared.state.NorState.{Ghosts as NorOf}
 use Rattle.nor_core.specs.Count.{Rose}
@@ -7,7 +7,7 @@ use Rattle.nor_core.specs.Device.{Changes, OnlyReads}
 use Rattle.table_model.specs.declared.error.FsErr.{FsErr}
 use Rattle.table_model.specs.declared.error.FsErr.TheVariants.{Failed, DeviceFault, Damaged}
 use Rattle.table_model.specs.declared.error.Differ.{Differ}
-use Rattle.table_model.specs.Reply.{Refuses}
+use Rattle.table_model.specs.Reply.{Fine, Refuses}
 use Rattle.table_model.specs.Window.{Moment, settled_at, from_settled, IsAmong}
 use Rattle.image_model.specs.Tables.{table_of}
 use Rattle.image_model.specs.Tidy.{IsTidy}
@@ -17,13 +17,14 @@ use Rattle.flash_view.specs.Steps.{is_apart, as_fs_err}
 use Rattle.call_model.specs.Safe.{IsSafe, Holds as HoldsImage}
 use Rattle.call_model.specs.Memory.{IsAt}
 use Rattle.wear_scrub.specs.declared.scrubs.Scrub.{Scrub}
-use Rattle.wear_scrub.specs.Scrubs.{ScrubCut, ScrubDone}
+use Rattle.wear_scrub.specs.Scrubs.{ScrubCut, ScrubDone, IsRest, most_programs}
 use Rattle.volume.specs.declared.volume.Volume.{Volume}
 use Rattle.volume.specs.Opening.{stage_after}
 use Rattle.volume.specs.Stages.{takes_calls, has_failed}
 use Rattle.volume.specs.Same.{IsSameVolume}
-use Rattle.volume.specs.Replies.{breaks, may_settle}
+use Rattle.volume.specs.Replies.{told, breaks, may_settle}
 use Rattle.volume.specs.Holds.{memory, Holds}
+use Rattle.volume.specs.Mapping.{known_map, KeepsMap}
 use Rattle.volume.specs.Unchanged.{Unchanged}
 
 -- One step was made from the image where all is settled: the first one, where nothing waited.
@@ -39,6 +40,8 @@ pub record ScrubsOn {D : Type 0} (nor : NorOf D) (g : Geometry) (limit : ℕ) (o
   pub means : IfErr result is_apart
   pub cuts : Changes nor old new (λ was image. IsTidy g was → ScrubCut g was image)
   pub ends : nor.tells old → IsTidy g (nor.bytes old) → MatchResult result (ScrubDone g limit (nor.bytes old) (nor.bytes new)) (λ why. why ≡ StepFault)
+  pub rest : IfOk result (λ scrub. IsRest scrub → OnlyReads nor old new)
+  pub few : nor.tells old → IsTidy g (nor.bytes old) → IfOk result (λ scrub. nor.device_writes new ≤ nor.device_writes old + most_programs g (nor.bytes old) scrub)
 
 -- how a call is answered whose step went so
 abbrev pub told_as : Result Scrub StepErr → Result Scrub FsErr
@@ -56,6 +59,8 @@ module _ {N : Type 0} {nor : NorOf N} where
     pub slots : new.slots.now ≡ old.slots.now
     pub run : (memory new).run ≡ (memory old).run
     pub stage : MatchResult first (λ scrub. new.stage ≡ old.stage) (λ why. new.stage ≡ stage_after (had || wrote) (Refuses (as_fs_err why)))
+    pub map : new.map ≡ known_map old.map wrote
+    pub room : length new.numbers.now ≡ length old.numbers.now
 
   -- What a scrub does to a volume: the bytes that wait are put onto the chip, and then one step is made.
   pub record Scrubs (limit : ℕ) (old new : Volume N nor) (result : Result Scrub FsErr) : Type 0 where
@@ -81,3 +86,9 @@ module _ {N : Type 0} {nor : NorOf N} where
     -- done, nothing waits, and it takes calls as before
     pub empty : takes_calls old ≡ true → OnOk result ((memory new).run ≡ None)
     pub goes_on : takes_calls old ≡ true → OnOk result (new.stage ≡ old.stage)
+    -- where nothing waited: a step that cleans no block only reads, and the sum of programs and erases is bounded
+    pub rest : takes_calls old ≡ true → (memory old).run ≡ None → IfOk result (λ scrub. IsRest scrub → OnlyReads nor old.nor.now new.nor.now)
+    pub few : (m : Moment) → takes_calls old ≡ true → (memory old).run ≡ None → Holds old m →
+        IfOk result (λ scrub. nor.device_writes new.nor.now ≤ nor.device_writes old.nor.now + most_programs old.geometry (nor.bytes old.nor.now) scrub)
+    -- the map of a file stays that of the file
+    pub maps : (m : Moment) → takes_calls old ≡ true → Holds old m → KeepsMap old new (breaks (told (λ scrub. Fine) result))

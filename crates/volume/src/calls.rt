@@ -12,6 +12,7 @@ ghost use Rattle.volume.specs.Acts.{Acts};
 ghost use Rattle.volume.specs.Settled.{is_fill};
 ghost use Rattle.write_window.specs.Shown.{run_in};
 
+use crate::mapping::known;
 use crate::stage::{Stage, stage_at};
 use crate::write::write_in;
 use crate::{Told, Volume};
@@ -19,6 +20,7 @@ use fd_table::FdSlot;
 use file_calls::{call_in, tell_in};
 use flash_view::View;
 use geometry::Geometry;
+use ix_map::IxMap;
 use nor_core::{Nor, NorState};
 use table_model::{Call, FsErr};
 use write_window::Held;
@@ -134,16 +136,19 @@ impl<'b, N: Nor> Volume<'b, N> {
     ghost use Rattle.volume.specs.Stages.{takes_calls};
     ghost use Rattle.volume.specs.Same.{IsSameVolume};
     ghost use Rattle.volume.specs.Settled.{is_fill, GoesOnNot, ActsOn};
+    ghost use Rattle.volume.specs.Replies.{breaks as the_breaks};
+    ghost use Rattle.volume.specs.Mapping.{RefillsTo};
     ghost use Rattle.volume.specs.Calls.{Calls};
 
-    // Does a call where nothing waits. `had` says whether anything waited when it began.
-    fn do_settled(&mut self, had: bool, call: &Call<'_>, into: &mut [u8]) -> Told
+    // Does a call where nothing waits. `had` says whether anything waited when it began, and `was` is the map that there was then.
+    fn do_settled(&mut self, had: bool, was: IxMap, call: &Call<'_>, into: &mut [u8]) -> Told
         requires takes { takes_calls self.old ≡ true }
         requires none { (memory self.old).run ≡ None }
         requires room { HasRoomFor (asked call.now) (length into.old) }
         requires no_fill { is_fill (asked call.now) ≡ false }
         ensures same { IsSameVolume self.old self.new }
         ensures acts { ActsOn had (asked call.now) self.old self.new (shown_by result into.new) }
+        ensures map { RefillsTo was self.old self.new (the_breaks (shown_by result into.new)) }
     {
         let g = self.geometry;
         let work = &mut *self.work;
@@ -162,6 +167,8 @@ impl<'b, N: Nor> Volume<'b, N> {
             into,
         );
         self.stage = stage_after(&told, had || wrote);
+        self.map = known(self.map, wrote);
+        self.refill(was);
         told
     }
 
@@ -174,9 +181,10 @@ impl<'b, N: Nor> Volume<'b, N> {
         requires no_fill { is_fill (asked call.now) ≡ false }
         ensures { Calls (asked call.now) self.old self.new (shown_by result into.new) }
     {
+        let was = self.map;
         match self.begin() {
             Err(why) => Told::Refusal(why),
-            Ok(had) => self.do_settled(had, call, into),
+            Ok(had) => self.do_settled(had, was, call, into),
         }
     }
 

@@ -3,6 +3,8 @@
 
 mod calls;
 mod checking;
+mod map_calls;
+mod mapping;
 mod saying;
 mod scrubbing;
 mod settling;
@@ -15,6 +17,8 @@ mod write;
 pub use fd_table::FdSlot;
 pub use file_calls::{Space, Told};
 pub use geometry::{GeoErr, Geometry, MagicKind};
+pub use ix_map::{IxMap, map_need};
+pub use map_calls::{MapErr, MapRefusal};
 pub use stage::Stage;
 pub use table_model::{Call, Differ, FsErr, Info, Meta, Name, Reply, Stat, Tag, Whence};
 pub use vol_check::{CheckErr, Report};

@@ -67,6 +67,7 @@ impl<'b, B: Board> Volume<'b, B> {
         ensures slots { self.new.slots.now ≡ self.old.slots.now }
         ensures memory { memory self.new ≡ memory self.old }
         ensures same { IsSameVolume self.old self.new }
+        ensures map { (self.new.map ≡ self.old.map) × (self.new.numbers.now ≡ self.old.numbers.now) }
     {
         let g = self.geometry;
         let work = &mut *self.work;

@@ -8,6 +8,7 @@ ghost use Rattle.flash_view.specs.Table.{HasTable};
 ghost use Rattle.volume.specs.Scrubs.{ScrubsOn};
 
 use crate::Volume;
+use crate::mapping::known;
 use crate::stage::{Stage, stage_at};
 use flash_view::{StepErr, View};
 use geometry::Geometry;
@@ -92,6 +93,7 @@ impl<'b, N: Nor> Volume<'b, N> {
             &mut self.counted,
             limit,
         );
+        self.map = known(self.map, wrote);
         match result {
             Ok(scrub) => Ok(scrub),
             Err(why) => {
@@ -108,9 +110,14 @@ impl<'b, N: Nor> Volume<'b, N> {
         requires limit { (1 ≤ limit) × (limit ≤ 32767) }
         ensures { Scrubs limit self.old self.new result }
     {
+        let was = self.map;
         match self.begin() {
             Err(why) => Err(why),
-            Ok(had) => self.scrub_settled(had, limit),
+            Ok(had) => {
+                let result = self.scrub_settled(had, limit);
+                self.refill(was);
+                result
+            }
         }
     }
 

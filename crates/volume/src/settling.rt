@@ -9,6 +9,7 @@ ghost use Rattle.flash_view.specs.Table.{HasTable};
 ghost use Rattle.file_calls.specs.Writings.{WritesOn};
 
 use crate::Volume;
+use crate::mapping::known;
 use crate::stage::{Stage, stage_at};
 use file_calls::write_all;
 use flash_view::View;
@@ -70,9 +71,12 @@ fn settle_on<N: Nor>(
 }
 
 impl<'b, N: Nor> Volume<'b, N> {
-    ghost use Rattle.std.specs.Prelude.{◌≡◌, true, false, Err, OnOk, IfErr};
+    ghost use Rattle.std.specs.Prelude.{◌≡◌, ◌⊎◌, length, true, false, Err, None};
     ghost use Rattle.nor_core.specs.Count.{Rose};
-    ghost use Rattle.table_model.specs.Reply.{Refuses};
+    ghost use Rattle.table_model.specs.Reply.{Refuses, Fine};
+    ghost use Rattle.ix_map.specs.Maps.{no_map};
+    ghost use Rattle.volume.specs.Replies.{told, breaks};
+    ghost use Rattle.volume.specs.Mapping.{KeepsMap};
     ghost use Rattle.table_model.specs.Window.{Moment, settled_at};
     ghost use Rattle.volume.specs.Holds.{memory, Holds};
     ghost use Rattle.volume.specs.Stages.{takes_calls};
@@ -81,7 +85,9 @@ impl<'b, N: Nor> Volume<'b, N> {
     /// Begins a call: what waits is put onto the chip. It tells whether anything waited.
     pub(crate) fn begin(&mut self) -> Result<bool, FsErr>
         requires { takes_calls self.old ≡ true }
-        ensures { Settles self.old self.new result }
+        ensures settles { Settles self.old self.new result }
+        ensures map { (self.new.map ≡ self.old.map) ⊎ (self.new.map ≡ no_map) }
+        ensures room { length self.new.numbers.now ≡ length self.old.numbers.now }
     {
         let held = self.held;
         if !held.is_used() {
@@ -101,6 +107,7 @@ impl<'b, N: Nor> Volume<'b, N> {
             &held,
             bytes,
         );
+        self.map = known(self.map, wrote);
         match result {
             Ok(()) => {
                 self.held = Held::none();
@@ -113,17 +120,35 @@ impl<'b, N: Nor> Volume<'b, N> {
         }
     }
 
+    // The same on a volume that may take no calls, and the map is read again where it was given up.
+    pub(crate) fn settled(&mut self) -> Result<bool, FsErr>
+        ensures settles { takes_calls self.old ≡ true → Settles self.old self.new result }
+        ensures closed { takes_calls self.old ≡ false → (result ≡ Err FsErr.Failed) × (self.new ≡ self.old) }
+        ensures map { (m : Moment) → takes_calls self.old ≡ true → Holds self.old m → KeepsMap self.old self.new (breaks (told (λ had. Fine) result)) }
+        ensures still { takes_calls self.old ≡ true → (memory self.old).run ≡ None → self.new ≡ self.old }
+    {
+        if self.stage != Stage::Checked {
+            return Err(FsErr::Failed);
+        }
+        let was = self.map;
+        match self.begin() {
+            Ok(had) => {
+                self.refill(was);
+                Ok(had)
+            }
+            Err(why) => Err(why),
+        }
+    }
+
     /// Puts the written bytes that wait onto the chip. Refused are a volume that takes no calls (`Failed`), and a device that fails:
     /// `DeviceFault`, or `Damaged` where a page reads otherwise than it was written; then the volume takes no calls any more, if a
     /// program or an erase was asked for.
     pub fn settle(&mut self) -> Result<(), FsErr>
         ensures settled { takes_calls self.old ≡ true → SettledOr self.old self.new result }
         ensures closed { takes_calls self.old ≡ false → (result ≡ Err FsErr.Failed) × (self.new ≡ self.old) }
+        ensures map { (m : Moment) → takes_calls self.old ≡ true → Holds self.old m → KeepsMap self.old self.new (breaks (told (λ done. Fine) result)) }
     {
-        if self.stage != Stage::Checked {
-            return Err(FsErr::Failed);
-        }
-        match self.begin() {
+        match self.settled() {
             Ok(_) => Ok(()),
             Err(why) => Err(why),
         }

@@ -8,6 +8,7 @@ ghost use Rattle.page_cache.specs.Kept.{IsKept, FewReads};
 ghost use Rattle.flash_view.specs.Same.{StaysBehind};
 ghost use Rattle.flash_view.specs.Table.{HasTable, rows_in};
 ghost use Rattle.fd_table.specs.Slots.{descriptors};
+ghost use Rattle.ix_map.specs.Maps.{IsMapOf};
 ghost use Rattle.vol_mount.specs.Mounts.{CountsSpoiled};
 ghost use Rattle.volume.specs.Checking.{ChecksVolume};
 ghost use Rattle.volume.specs.Opening.{is_open, is_mounted};
@@ -18,6 +19,7 @@ use crate::{CheckErr, Report};
 use fd_table::{FdSlot, FdTable};
 use flash_view::View;
 use geometry::Geometry;
+use ix_map::IxMap;
 use nor_core::{Nor, NorState};
 use page_cache::Cached;
 use table_model::FsErr;
@@ -42,6 +44,10 @@ pub struct Volume<'b, N: Nor> {
     pub check: &'b mut [u8],
     /// The numbers of the written bytes that wait.
     pub held: Held,
+    /// The map of a file, if there is one.
+    pub map: IxMap,
+    /// Bytes that are lent for the page numbers of a map, two for each span; none where no map is attached.
+    pub numbers: &'b mut [u8],
     /// How far the volume has come.
     pub stage: Stage,
     /// Whether the table of counts stands behind the other bytes for work.
@@ -56,6 +62,7 @@ pub struct Volume<'b, N: Nor> {
     pub ghost magics: { is_mounted stage ≡ true → N.tells nor.now → HasMagics geometry (N.bytes nor.now) },
     pub ghost writable: { is_open stage ≡ true → usable geometry ≤ 32766 },
     pub ghost table: { counted ≡ true → HasTable N.NorState geometry nor.now (rows_in geometry work.now) },
+    pub ghost mapped: { map.used ≡ true → N.tells nor.now → IsMapOf geometry (N.bytes nor.now) map numbers.now },
 }
 
 /// A volume that was unmounted: what was lent for it, and how its last work went.
@@ -163,8 +170,9 @@ impl<'b, N: Nor> Volume<'b, N> {
     ghost use Rattle.volume.specs.Opening.{is_mounted};
     ghost use Rattle.volume.specs.Stages.{takes_calls, has_failed};
     ghost use Rattle.volume.specs.Same.{IsSameVolume};
+    ghost use Rattle.volume.specs.Mapping.{is_attached, GivesUpMap};
 
-    /// The volume of a device that `vol_mount::accept` takes with this lent memory, with every descriptor closed.
+    /// The volume of a device that `vol_mount::accept` takes with this lent memory, with every descriptor closed, and no bytes for a map.
     pub fn new(g: Geometry, nor: &'b mut N, lent: Lent<'b>) -> Volume<'b, N>
         requires unit { N.unit nor.old ≡ g.phys }
         requires fits { g.blocks * g.block ≤ N.size nor.old }
@@ -182,6 +190,7 @@ impl<'b, N: Nor> Volume<'b, N> {
         ensures empty { held g result.cache.now ≡ 0 }
         ensures stage { result.stage ≡ Stage.Unmounted }
         ensures closed { memory result ≡ record { slots = replicate (min 65535 (length lent.entry.slots.now)) None; run = None } }
+        ensures map { (result.map.used ≡ false) × (is_attached result ≡ false) }
     {
         let Lent {
             work,
@@ -199,6 +208,8 @@ impl<'b, N: Nor> Volume<'b, N> {
             slots,
             check,
             held: Held::none(),
+            map: IxMap::none(),
+            numbers: &mut [],
             stage: Stage::Unmounted,
             counted: false,
         }
@@ -206,7 +217,7 @@ impl<'b, N: Nor> Volume<'b, N> {
 
     /// Mounts the volume: reads the magic of each block, and writes nothing. Refused are a device that fails, and a
     /// volume of which two or more blocks lack their magic (`NotAFs`). One such block is accepted: a cut while it
-    /// was erased left it.
+    /// was erased left it. There is no map then; the bytes that are lent for one stay lent.
     pub fn mount(&mut self) -> Result<(), MountErr>
         ensures cause { result ≡ Err MountErr.DeviceFault → Rose (N.faults self.old.nor.now) (N.faults self.new.nor.now) }
         ensures looks { OnlyReads N.NorState self.old.nor.now self.new.nor.now }
@@ -218,8 +229,10 @@ impl<'b, N: Nor> Volume<'b, N> {
         ensures empty { OnOk result ((memory self.new).run ≡ None) }
         ensures memory { OnErr result (memory self.new ≡ memory self.old) }
         ensures same { IsSameVolume self.old self.new }
+        ensures map { GivesUpMap self.old self.new }
     {
         self.counted = false;
+        self.map = IxMap::none();
         mount_on(self.geometry, self.nor, self.work, &mut [], self.cache)?;
         self.held = Held::none();
         self.stage = Stage::Mounted;
@@ -232,7 +245,8 @@ impl<'b, N: Nor> Volume<'b, N> {
     /// are cleaned until two are, or none that is worth cleaning can be cleaned: after a cut on a volume with two free blocks there are
     /// two. Then every descriptor is closed, and the counts of blocks are kept. Refused, with nothing written, are a volume that may not
     /// be written (`Wrong`) and one with too few free pages for the index pages of such blocks (`Mixed`). Where the device fails, or a
-    /// page that is moved reads otherwise than it was written (`Damaged`), what was done stays, and the check can be called again.
+    /// page that is moved reads otherwise than it was written (`Damaged`), what was done stays, and the check can be called again. There
+    /// is no map then; the bytes that are lent for one stay lent.
     pub fn check(&mut self) -> Result<Report, CheckErr>
         requires mounted { is_mounted self.old.stage ≡ true }
         ensures checks { ChecksVolume N.NorState self.old.geometry self.old.nor.now self.new.nor.now result }
@@ -242,7 +256,9 @@ impl<'b, N: Nor> Volume<'b, N> {
         ensures closed { OnOk result (memory self.new ≡ record { slots = replicate (min 65535 (length self.old.slots.now)) None; run = None }) }
         ensures slots { OnErr result (self.new.slots.now ≡ self.old.slots.now) }
         ensures same { IsSameVolume self.old self.new }
+        ensures map { GivesUpMap self.old self.new }
     {
+        self.map = IxMap::none();
         let g = self.geometry;
         let work = &mut *self.work;
         let (work, rows) = work.split_at_mut(g.scratch_need() as usize);
@@ -294,6 +310,8 @@ impl<'b, N: Nor> Volume<'b, N> {
             slots,
             check,
             held: _,
+            map: _,
+            numbers: _,
             stage: _,
             counted: _,
         } = self;

@@ -1,15 +1,16 @@
-use Rattle.std.proofs.Common.{◌≡◌, true, false, refl, sym, ◌∙◌, ap, rules, None}
+use Rattle.std.proofs.Common.{inl, ◌≡◌, true, false, refl, sym, ◌∙◌, ap, rules, None}
 use Rattle.table_model.specs.Reply.{Refuses}
 use Rattle.volume.specs.Replies.{breaks}
 use Rattle.volume.specs.Opening.{is_mounted}
 use Rattle.volume.specs.Holds.{memory}
 use Rattle.volume.proofs.Calling.{open_is, staged_by, not_mounted}
+use Rattle.volume.proofs.KnownMaps.{known_stays, known_is}
 use Rattle.volume.proofs.Rows.{rows_joined}
 use Rattle.volume.proofs.RunSettling.{run_of, run_used, used_is, any_file, settles_none, settles_done, settles_failed}
 use Rattle.volume.proofs.volume.Volume.begin.Goals as goal
 
-pub returns-then-not-is_used : goal.returns-then-not-is_used
-returns-then-not-is_used g c =
+pub returns-then-not-is_used-clause-settles : goal.returns-then-not-is_used-clause-settles
+returns-then-not-is_used-clause-settles g c =
     let v = c.args.self.now in
     let free : v.held.used ≡ false = used_is v.held v.check.now c.is_used.result (c.is_used.ensures v.check.now) ∙ c.if-not-is_used.true in
     let none : (memory v).run ≡ None = rw free refl in
@@ -52,16 +53,31 @@ invariant_of-self-in-Err-clause-fits g c =
 pub invariant_of-self-in-Err-clause-magics : goal.invariant_of-self-in-Err-clause-magics
 invariant_of-self-in-Err-clause-magics g c = λ mounted. absurd (let no : true ≡ false = sym mounted ∙ ap is_mounted c.stage_at-self.ensures ∙ not_mounted c.settle_on-result.result.wrote (Refuses c.in-Err.why) in cc)
 
-pub returns-in-Ok : goal.returns-in-Ok
-returns-in-Ok g c =
+pub returns-in-Ok-clause-settles : goal.returns-in-Ok-clause-settles
+returns-in-Ok-clause-settles g c =
     let v = c.args.self.now in
     let used : v.held.used ≡ true = used_is v.held v.check.now c.is_used.result (c.is_used.ensures v.check.now) ∙ c.if-not-is_used.false in
     settles_done (run_of v.held v.check.now) (run_used v.held v.check.now used) c.settle_on-result.result.wrote (search rules) refl (rw c.in-Ok.is at c.settle_on-result.ensures.writes) (c.none-self.ensures.empty v.check.now) refl
 
-pub returns-in-Err : goal.returns-in-Err
-returns-in-Err g c =
+pub returns-in-Err-clause-settles : goal.returns-in-Err-clause-settles
+returns-in-Err-clause-settles g c =
     let v = c.args.self.now in
     let used : v.held.used ≡ true = used_is v.held v.check.now c.is_used.result (c.is_used.ensures v.check.now) ∙ c.if-not-is_used.false in
     let why = c.in-Err.why in
     let staged = staged_by v.stage _ c.settle_on-result.result.wrote (Refuses why) (breaks (Refuses why)) (open_is v.stage c.requires) refl c.stage_at-self.ensures in
     settles_failed (run_of v.held v.check.now) (run_used v.held v.check.now used) c.settle_on-result.result.wrote (search rules) refl why (rw c.in-Err.is at c.settle_on-result.ensures.writes) c.settle_on-result.ensures.asked refl staged
+
+pub invariant_of-self-clause-mapped : goal.invariant_of-self-clause-mapped
+invariant_of-self-clause-mapped g c = known_stays c.args.self.now.map c.known-self.result c.settle_on-result.result.wrote c.args.self.now.mapped (c.settle_on-result.ensures.writes any_file).untouched c.known-self.ensures
+
+pub invariant_of-self-in-Err-clause-mapped : goal.invariant_of-self-in-Err-clause-mapped
+invariant_of-self-in-Err-clause-mapped g c = known_stays c.args.self.now.map c.known-self.result c.settle_on-result.result.wrote c.args.self.now.mapped (c.settle_on-result.ensures.writes any_file).untouched c.known-self.ensures
+
+pub returns-in-Ok-clause-map : goal.returns-in-Ok-clause-map
+returns-in-Ok-clause-map g c = known_is c.args.self.now.map c.known-self.result c.settle_on-result.result.wrote c.known-self.ensures
+
+pub returns-in-Err-clause-map : goal.returns-in-Err-clause-map
+returns-in-Err-clause-map g c = known_is c.args.self.now.map c.known-self.result c.settle_on-result.result.wrote c.known-self.ensures
+
+pub returns-then-not-is_used-clause-map : goal.returns-then-not-is_used-clause-map
+returns-then-not-is_used-clause-map g c = inl refl

@@ -1,0 +1,51 @@
+use Rattle.std.proofs.Common.{◌≡◌, refl, sym, ◌∙◌, ap, Bool, true, ◌||◌, rules, arith}
+use Rattle.file_calls.specs.Replies.{shown_by}
+use Rattle.volume.specs.Opening.{is_open, stage_after}
+use Rattle.volume.specs.Replies.{breaks}
+use Rattle.volume.proofs.KnownMaps.{refills, shut_breaks}
+use Rattle.volume.proofs.Staying.{same_then}
+use Rattle.volume.proofs.LookedAfter.{acts_on}
+use Rattle.volume.proofs.volume.Volume.do_settled.Goals.{then-had, else-had}
+use Rattle.volume.proofs.volume.Volume.do_settled.Goals as goal
+
+pub returns-clause-same : goal.returns-clause-same
+returns-clause-same g c =
+    let did = c.call_on-told.ensures in
+    same_then (record {
+      geometry = refl;
+      nor_name = search rules;
+      work_name = search rules;
+      cache_name = search rules;
+      slots_name = search rules;
+      check_name = search rules;
+      cache_size = did.cache_size;
+      behind = did.behind;
+      faults = did.faults;
+      few = did.few;
+    }) c.refill.ensures.same
+
+pub returns-clause-acts : goal.returns-clause-acts
+returns-clause-acts g c =
+    let did = c.call_on-told.ensures in
+    let after = c.refill.ensures in
+    record {
+      wrote = c.call_on-told.result.wrote;
+      acts = rw (after.slots, after.held, after.check) (acts_on after.looks did.acts);
+      asked = λ w. let rose = did.asked w in omega (arith, rose, after.looks.writes);
+      stage = after.stage ∙ c.stage_after-self.ensures c.call_on-told.new.into ∙ ap (λ (b : Bool). stage_after b (shown_by c.call_on-told.result.told c.call_on-told.new.into)) (elim c.if-had.branch [
+        | then-had w ↦ let both : (c.args.had || c.call_on-told.result.wrote) ≡ true = rw w.if-had.true refl in w.stage_after-is ∙ w.if-had.true ∙ sym both
+        | else-had w ↦ let both : (c.args.had || c.call_on-told.result.wrote) ≡ c.call_on-told.result.wrote = rw w.if-had.false refl in w.stage_after-is ∙ sym both
+      ]);
+    }
+
+pub returns-clause-map : goal.returns-clause-map
+returns-clause-map g c =
+    let did = c.call_on-told.ensures in
+    let after = c.refill.ensures in
+    let reply = shown_by c.call_on-told.result.told c.call_on-told.new.into in
+    let asked = c.args.had || c.call_on-told.result.wrote in
+    let stage : c.stage_after-self.result ≡ stage_after asked reply = c.stage_after-self.ensures c.call_on-told.new.into ∙ ap (λ (b : Bool). stage_after b reply) (elim c.if-had.branch [
+      | then-had w ↦ let both : asked ≡ true = rw w.if-had.true refl in w.stage_after-is ∙ w.if-had.true ∙ sym both
+      | else-had w ↦ let both : asked ≡ c.call_on-told.result.wrote = rw w.if-had.false refl in w.stage_after-is ∙ sym both
+    ]) in
+    refills c.args.was c.call_on-told.result.wrote (breaks reply) after.room c.known-self.ensures (λ shut. shut_breaks asked reply (sym (ap is_open stage) ∙ shut)) did.faults after.still after.none after.lost after.is
