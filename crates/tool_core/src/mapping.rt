@@ -124,7 +124,7 @@ fn say_span<B: Board>(volume: &mut Volume<'_, B>, span: u32) -> Result<bool, Fai
     requires { span < 4096 }
     ensures cause { OnErr result (Rose (B.faults volume.old.nor.now) (B.faults volume.new.nor.now)) }
     ensures same { IsSameVolume volume.old volume.new }
-    ensures says { (id count : ℕ) → (B.tells volume.old.nor.now → TellsPages id count volume.old) → SaysSpan id count span volume.old volume.new result }
+    ensures says { (id count : ℕ) → (B.tells volume.old.nor.now → TellsPages id count volume.old × (span ≤ count)) → SaysSpan id count span volume.old volume.new result }
 {
     let page = match volume.map_page(span) {
         Some(page) => page,
