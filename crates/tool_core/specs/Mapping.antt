@@ -3,7 +3,7 @@ use Rattle.std.specs.Prelude.{ℕ, zero, suc, ◌≡◌, ◌≢◌, ◌<◌, ◌
 use Rattle.geometry.specs.declared.geometry.Geometry.{Geometry}
 use Rattle.nor_core.specs.declared.device.Failed.{Failed}
 use Rattle.nor_core.specs.declared.state.NorState.{Ghosts as NorOf}
-use Rattle.nor_core.specs.Device.{OnlyReads, Leaves, Changes, InSay}
+use Rattle.nor_core.specs.Device.{Leaves, Changes}
 use Rattle.table_model.specs.declared.error.FsErr.{FsErr}
 use Rattle.table_model.specs.declared.error.FsErr.TheVariants.{NotFound, Tight as TooTight}
 use Rattle.table_model.specs.Table.{File, file_of, has_id}
@@ -23,13 +23,12 @@ use Rattle.volume.specs.declared.volume.Volume.{Volume}
 use Rattle.volume.specs.Holds.{memory}
 use Rattle.volume.specs.Mapping.{KeepsMap}
 use Rattle.volume.specs.MapReads.{page_told}
-use Rattle.volume.specs.Stages.{takes_calls}
 use Rattle.tool_core.specs.declared.ending.Ending.{Ending}
 use Rattle.tool_core.specs.declared.ending.Ending.TheVariants.{Done, BoardFault, NoSuchId, Tight}
 use Rattle.tool_core.specs.Closing.{status_of, closing_line_of}
 use Rattle.tool_core.specs.Endings.{Speaks, Concludes, WritesNone, HasMended}
 use Rattle.tool_core.specs.Filling.{unsettled_as}
-use Rattle.tool_core.specs.Mounting.{Reported, IsMendable}
+use Rattle.tool_core.specs.Mounting.{Reported, IsMendable, LeavesFiles}
 use Rattle.tool_core.specs.Outcomes.{closed_memory}
 use Rattle.tool_core.specs.Reads.{ReadsOnce}
 use Rattle.tool_core.specs.Refusals.{check_refusal, unless_refused}
@@ -85,16 +84,27 @@ collected_as (Ok done) = Ok tt
 abbrev pub StopsCollecting : Geometry → (was now : List ℕ) → Type 0
 StopsCollecting g was now = IsCompact g was now ⊎ IsStuckAt g was now
 
--- a cut in a collection of a tidy image keeps its files
-abbrev pub KeepsTidy : Geometry → (was image : List ℕ) → Type 0
-KeepsTidy g was image = IsTidy g was → IsSafe g was image × (table_of g image ≡ table_of g was)
-
 module _ {N : Type 0} {nor : NorOf N} where
-  -- pages were only read, and the volume takes calls as before, with closed descriptors and nothing waiting
-  pub record StaysClosed (slots : ℕ) (old new : Volume N nor) : Type 0 where
-    pub reads : OnlyReads nor old.nor.now new.nor.now
-    pub memory : memory new ≡ closed_memory slots
-    pub taken : takes_calls new ≡ takes_calls old
+  -- a volume's device tells a tidy image, its descriptors are closed, and nothing waits
+  pub record IsAtRest (slots : ℕ) (v : Volume N nor) : Type 0 where
+    pub tells : nor.tells v.nor.now
+    pub tidy : IsTidy v.geometry (nor.bytes v.nor.now)
+    pub memory : memory v ≡ closed_memory slots
+
+  -- it is so again, with the same table
+  pub record Rests (slots : ℕ) (old new : Volume N nor) : Type 0 where
+    pub rest : IsAtRest slots new
+    pub table : table_of old.geometry (nor.bytes new.nor.now) ≡ table_of old.geometry (nor.bytes old.nor.now)
+    pub holds : Holds old.geometry (nor.bytes old.nor.now) (nor.bytes new.nor.now)
+
+  -- A step on such a volume: a cut keeps the files, and it is done, or there is a reason.
+  pub record Steps (slots : ℕ) (old new : Volume N nor) (result : Result (Unit {0}) Ending) (Is : Type 0) (Why : Ending → Type 0) : Type 0 where
+    pub changes : Changes nor old.nor.now new.nor.now (λ was image. memory old ≡ closed_memory slots → IsTidy old.geometry was → LeavesFiles old.geometry was image)
+    pub done : IsAtRest slots old → MatchResult result (λ ok. Rests slots old new × Is) Why
+
+  -- the table of its image has an id
+  abbrev pub has_file : Volume N nor → (id : ℕ) → Bool
+  has_file v id = has_id id (table_of v.geometry (nor.bytes v.nor.now))
 
   -- there is a map of the file of an id, from span 0 on, in so many lent bytes
   pub record HasMap (id lent : ℕ) (v : Volume N nor) : Type 0 where
@@ -109,31 +119,33 @@ module _ {N : Type 0} {nor : NorOf N} where
     pub room : length v.numbers.now ≡ lent
     pub map : v.map.used ≡ true → HasMap id lent v
 
-  -- A map is attached; or there is no such id, or the board failed.
-  pub record AttachesTo (slots id lent : ℕ) (old new : Volume N nor) (result : Result (Unit {0}) Ending) : Type 0 where
-    pub stays : StaysClosed slots old new
-    pub done : nor.tells old.nor.now → IsTidy old.geometry (nor.bytes old.nor.now) →
-        MatchResult result
-        (λ ok. HasMap id lent new × (has_id id (table_of old.geometry (nor.bytes old.nor.now)) ≡ true))
-        (λ ending. (ending ≡ BoardFault) ⊎ ((ending ≡ NoSuchId id) × (has_id id (table_of old.geometry (nor.bytes old.nor.now)) ≡ false)))
+  -- there is no such id, and the bytes stay
+  pub record IsMissing (id : ℕ) (old new : Volume N nor) (ending : Ending) : Type 0 where
+    pub ending_is : ending ≡ NoSuchId id
+    pub none : has_file old id ≡ false
+    pub bytes : nor.bytes new.nor.now ≡ nor.bytes old.nor.now
 
-  -- garbage was collected, and the map is of the same file, or a fault was counted
-  pub record Collected (slots : ℕ) (old new : Volume N nor) : Type 0 where
-    pub stops : StopsCollecting old.geometry (nor.bytes old.nor.now) (nor.bytes new.nor.now)
-    pub holds : Holds old.geometry (nor.bytes old.nor.now) (nor.bytes new.nor.now)
-    pub memory : memory new ≡ closed_memory slots
-    pub map : KeepsMap old new false
+  -- there is one, and the bytes stay
+  pub record IsFound (id lent : ℕ) (old new : Volume N nor) : Type 0 where
+    pub map : HasMap id lent new
+    pub there : has_file old id ≡ true
+    pub bytes : nor.bytes new.nor.now ≡ nor.bytes old.nor.now
 
-  -- it was, or the board failed; a cut keeps the files
-  pub record CollectsTo (slots : ℕ) (old new : Volume N nor) (result : Result (Unit {0}) Ending) : Type 0 where
-    pub changes : Changes nor old.nor.now new.nor.now (KeepsTidy old.geometry)
-    pub done : nor.tells old.nor.now → IsTidy old.geometry (nor.bytes old.nor.now) → MatchResult result (λ ok. Collected slots old new) (λ ending. ending ≡ BoardFault)
+  -- A map is attached; or the board failed, or there is no such id.
+  abbrev pub AttachesTo : (slots id lent : ℕ) (old new : Volume N nor) → Result (Unit {0}) Ending → Type 0
+  AttachesTo slots id lent old new result = Steps slots old new result (IsFound id lent old new) (λ ending. (ending ≡ BoardFault) ⊎ IsMissing id old new ending)
 
-  -- there is the map, attached again if it was lost, or the board failed
-  pub record MapsAgain (slots id : ℕ) (old new : Volume N nor) (result : Result (Unit {0}) Ending) : Type 0 where
-    pub stays : StaysClosed slots old new
-    pub done : nor.tells old.nor.now → IsTidy old.geometry (nor.bytes old.nor.now) → has_id id (table_of old.geometry (nor.bytes old.nor.now)) ≡ true → (lent : ℕ) → MayHaveMap id lent old →
-        MatchResult result (λ ok. HasMap id lent new) (λ ending. ending ≡ BoardFault)
+  -- Garbage is collected, and the map is of the same file, or a fault was counted; or the board failed.
+  abbrev pub CollectsTo : (slots : ℕ) (old new : Volume N nor) → Result (Unit {0}) Ending → Type 0
+  CollectsTo slots old new result = Steps slots old new result (StopsCollecting old.geometry (nor.bytes old.nor.now) (nor.bytes new.nor.now) × KeepsMap old new false) (λ ending. ending ≡ BoardFault)
+
+  -- There is the map, attached again if it was lost; or the board failed.
+  abbrev pub MapsAgain : (slots id : ℕ) (old new : Volume N nor) → Result (Unit {0}) Ending → Type 0
+  MapsAgain slots id old new result = Steps slots old new result
+      ((lent : ℕ) → has_file old id ≡ true → MayHaveMap id lent old → HasMap id lent new × (nor.bytes new.nor.now ≡ nor.bytes old.nor.now))
+      (λ ending. (lent : ℕ) → has_file old id ≡ true → MayHaveMap id lent old → ending ≡ BoardFault)
+
+  -- ---- the lines
 
   -- the map tells the data page of a span
   pub record TellsPage (id span : ℕ) (v : Volume N nor) : Type 0 where
@@ -168,18 +180,17 @@ pub record SaysSpans {D : Type 0} (nor : NorOf D) (g : Geometry) (id count : ℕ
 
 -- ---- on a checked volume, and with the check before that
 
--- What is done on a checked volume: up to a moment garbage is collected, and from then on nothing is done but saying the lines.
+-- What is done on a checked volume: up to a moment garbage is collected, and from then on nothing is done but saying the lines of the file of
+-- the id.
 pub record MapEnds {D : Type 0} (nor : NorOf D) (g : Geometry) (id : ℕ) (old new : D) (result : Ending) : Type 0 where
   pub mid : D
-  pub changes : Changes nor old mid (KeepsTidy g)
-  pub bytes : nor.bytes new ≡ nor.bytes mid
-  pub cuts : Leaves nor mid new (λ image count. nor.tells old → IsTidy g (nor.bytes old) →
-      InSay nor mid (span_lines g (nor.bytes mid) id (spans_told g (file_of id (table_of g (nor.bytes old))))) image count)
-  pub speaks : nor.tells old → IsTidy g (nor.bytes old) →
+  pub changes : Changes nor old mid (LeavesFiles g)
+  pub says : OnlySays nor mid new (span_lines g (nor.bytes mid) id (spans_told g (file_of id (table_of g (nor.bytes old)))))
+  pub speaks : nor.tells old →
       Speaks nor mid new (span_lines g (nor.bytes mid) id (spans_told g (file_of id (table_of g (nor.bytes old))))) (file_ending id (file_of id (table_of g (nor.bytes old)))) result
-  pub done : nor.tells old → IsTidy g (nor.bytes old) → result ≡ Done → StopsCollecting g (nor.bytes old) (nor.bytes mid)
-  pub missing : nor.tells old → IsTidy g (nor.bytes old) → status_of result ≡ 17 → nor.bytes mid ≡ nor.bytes old
-  pub holds : nor.tells old → IsTidy g (nor.bytes old) → (result ≡ BoardFault) ⊎ Holds g (nor.bytes old) (nor.bytes mid)
+  pub done : nor.tells old → result ≡ Done → StopsCollecting g (nor.bytes old) (nor.bytes mid)
+  pub missing : nor.tells old → status_of result ≡ 17 → nor.bytes mid ≡ nor.bytes old
+  pub holds : nor.tells old → (result ≡ BoardFault) ⊎ Holds g (nor.bytes old) (nor.bytes mid)
 
 -- an image was checked, which left another
 pub record IsChecked (g : Geometry) (was now : List ℕ) : Type 0 where

@@ -1,6 +1,7 @@
 ghost use Rattle.std.specs.Prelude.{ℕ, ◌≡◌, ◌≢◌, ◌≤◌, ◌<◌, length, IfErr, OnOk, OnErr, Err, None, true, false};
 ghost use Rattle.geometry.specs.Numbers.{write_refusal, work_need, cache_need, check_need};
 ghost use Rattle.nor_core.specs.Count.{Rose};
+ghost use Rattle.image_model.specs.Tidy.{IsTidy};
 ghost use Rattle.flash_view.specs.Same.{StaysBehind};
 ghost use Rattle.volume.specs.Holds.{memory};
 ghost use Rattle.volume.specs.Stages.{takes_calls};
@@ -66,7 +67,8 @@ fn attach<'b, B: Board>(
     ensures no_script { ¬ (result ≡ Err Ending.SourceFault) }
     ensures cause { result ≡ Err Ending.BoardFault → Rose (B.faults volume.old.nor.now) (B.faults volume.new.nor.now) }
     ensures same { IsSameVolume volume.old volume.new }
-    ensures attaches { (slots : ℕ) → memory volume.old ≡ closed_memory slots → AttachesTo slots id (length numbers.old) volume.old volume.new result }
+    ensures taken { OnOk result (takes_calls volume.new ≡ true) }
+    ensures attaches { (slots : ℕ) → AttachesTo slots id (length numbers.old) volume.old volume.new result }
 {
     match volume.attach_map_of(id, 0, numbers) {
         Ok(()) => Ok(()),
@@ -95,7 +97,7 @@ fn collect<B: Board>(volume: &mut Volume<'_, B>) -> Result<(), Ending>
     ensures cause { result ≡ Err Ending.BoardFault → Rose (B.faults volume.old.nor.now) (B.faults volume.new.nor.now) }
     ensures same { IsSameVolume volume.old volume.new }
     ensures taken { OnOk result (takes_calls volume.new ≡ true) }
-    ensures collects { (slots : ℕ) → memory volume.old ≡ closed_memory slots → CollectsTo slots volume.old volume.new result }
+    ensures collects { (slots : ℕ) → CollectsTo slots volume.old volume.new result }
 {
     collected(volume.gc())
 }
@@ -108,7 +110,7 @@ fn remap<B: Board>(volume: &mut Volume<'_, B>, id: u16) -> Result<(), Ending>
     ensures no_script { ¬ (result ≡ Err Ending.SourceFault) }
     ensures cause { result ≡ Err Ending.BoardFault → Rose (B.faults volume.old.nor.now) (B.faults volume.new.nor.now) }
     ensures same { IsSameVolume volume.old volume.new }
-    ensures maps { (slots : ℕ) → memory volume.old ≡ closed_memory slots → MapsAgain slots id volume.old volume.new result }
+    ensures maps { (slots : ℕ) → MapsAgain slots id volume.old volume.new result }
 {
     if volume.map.used {
         return Ok(());
@@ -167,6 +169,7 @@ fn map_checked<'b, B: Board>(
     requires takes { takes_calls volume.old ≡ true }
     requires free { is_attached volume.old ≡ false }
     requires room { length numbers.old ≡ 8192 }
+    requires tidy { B.tells volume.old.nor.now → IsTidy volume.old.geometry (B.bytes volume.old.nor.now) }
     ensures later { IsLater result }
     ensures no_script { result ≢ Ending.SourceFault }
     ensures cause { result ≡ Ending.BoardFault → Rose (B.faults volume.old.nor.now) (B.faults volume.new.nor.now) }
