@@ -63,7 +63,7 @@ run_free g image m None waits none = refl
 run_free g image m (Some r) waits none = absurd (let bad = sym waits.0.window ∙ none in cc)
 
 module _ {N : Type 0} {nor : NorOf N} where
-  holds_first : {slots : ℕ} (v : Volume N nor) → IsAtRest slots v → Holds v (first_moment v.geometry slots (nor.bytes v.nor.now))
+  pub holds_first : {slots : ℕ} (v : Volume N nor) → IsAtRest slots v → Holds v (first_moment v.geometry slots (nor.bytes v.nor.now))
   holds_first {slots} v rest = stands_first v.geometry slots v.nor.now (memory v) rest.memory rest.tells rest.tidy
 
   -- one step after another
