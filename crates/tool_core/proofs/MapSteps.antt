@@ -5,6 +5,7 @@ use Rattle.std.proofs.lemmas.Bool.Decides.{nat_tests}
 use Rattle.std.proofs.lemmas.Result.{MatchResult-weaker}
 use Rattle.geometry.specs.declared.geometry.Geometry.{Geometry}
 use Rattle.nor_core.specs.declared.state.NorState.{Ghosts as NorOf}
+use Rattle.nor_core.specs.Count.{Rose}
 use Rattle.nor_core.specs.Device.{Changes}
 use Rattle.nor_core.proofs.Cuts.{wider, go_on, unchanged}
 use Rattle.table_model.specs.declared.error.FsErr.{FsErr}
@@ -174,6 +175,12 @@ module _ {N : Type 0} {nor : NorOf N} where
       (λ same. ap is_open same ∙ takes)
       (λ broke. absurd (let no : false ≡ true = broke.2 in cc))
       a.call.stays
+
+  -- a fault is told only where one was counted
+  pub attaches_fault : {old new : Volume N nor} {result : Result (Unit {0}) MapRefusal} (wanted : State → Result ℕ FsErr) (first lent : ℕ) (refusal : MapRefusal) → result ≡ Err refusal → refusal.why ≡ Call DeviceFault → Attaches wanted first lent old new result → Rose (nor.faults old.nor.now) (nor.faults new.nor.now)
+  attaches_fault {old} {new} wanted first lent refusal is why attaches =
+      let a : Attaches wanted first lent old new (Err refusal) = subst (λ (r : Result (Unit {0}) MapRefusal). Attaches wanted first lent old new r) is attaches in
+      a.call.cause (ap (λ (w : MapErr). Some w) why)
 
   -- ---- garbage is collected
 
