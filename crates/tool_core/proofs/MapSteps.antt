@@ -89,6 +89,10 @@ module _ {N : Type 0} {nor : NorOf N} where
   pub holds_first : {slots : ℕ} (v : Volume N nor) → IsAtRest slots v → Holds v (first_moment v.geometry slots (nor.bytes v.nor.now))
   holds_first {slots} v rest = stands_first v.geometry slots v.nor.now (memory v) rest.memory rest.tells rest.tidy
 
+  -- a step that went so
+  pub steps_as : {slots : ℕ} {old new : Volume N nor} {result other : Result (Unit {0}) Ending} {Is : Type 0} {Why : Ending → Type 0} → result ≡ other → Steps slots old new result Is Why → Steps slots old new other Is Why
+  steps_as {slots} {old} {new} {result} {other} {Is} {Why} is step = subst (λ (r : Result (Unit {0}) Ending). Steps slots old new r Is Why) is step
+
   -- one step after another
   pub steps_then : {slots : ℕ} {old mid new : Volume N nor} {result : Result (Unit {0}) Ending} {Is Next : Type 0} {Why Then : Ending → Type 0} → mid.geometry ≡ old.geometry → Steps slots old mid (Ok tt) Is Why → Steps slots mid new result Next Then → Steps slots old new result Next Then
   steps_then {slots} {old} {mid} {new} {result} same first second =
