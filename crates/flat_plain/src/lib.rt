@@ -1,5 +1,5 @@
-//! The flat table of files as a plain program, which answers each call as the flat model does. It takes an allocator, and
-//! serves tests: each later volume is compared with it.
+//! The flat table of files as a plain program, which answers each call as the flat model does, and tells what a power cut may leave. It
+//! takes an allocator; a judge of traces and tests compare volumes with it.
 #![tactic(auto)]
 
 mod answers;
@@ -10,14 +10,23 @@ mod copies;
 mod counts;
 mod file;
 mod flat;
+mod moment;
 mod names;
 mod opening;
+mod parts;
 mod said;
+mod same;
 mod search;
 mod slots;
+mod steps;
 mod through;
+mod window;
 
 pub use file::PlainFile;
 pub use flat::Flat;
+pub use moment::{PlainMoment, Went};
 pub use said::Said;
+pub use same::are_same;
 pub use slots::PlainOpen;
+pub use steps::{cuts_file, is_refusal};
+pub use window::PlainWaiting;
