@@ -76,7 +76,7 @@ module _ {N : Type 0} {nor : NorOf N} where
             let number = number_at v.numbers.now span in
             let at : v.map.first + span ≡ span = omega (arith, map.first) in
             let is : data_number_of g image id span ≡ Some number =
-                sym (ap (λ (k : ℕ). data_number_of g image k span) map.of) ∙ sym (ap (λ (s : ℕ). data_number_of g image v.map.id s) at) ∙ right.pages span (omega (arith, less, room)) (omega (arith, less, at)) in
+            sym (ap (λ (k : ℕ). data_number_of g image k span) map.of) ∙ sym (ap (λ (s : ℕ). data_number_of g image v.map.id s) at) ∙ right.pages span (omega (arith, less, room)) (omega (arith, less, at)) in
             record { page = number; told = told_at span map (omega (arith, less)); is = is; low = number_low g image id span number is };
         ends = λ less. told_at _ map less ∙ ap (λ (n : ℕ). Some n) (right.behind _ (omega (arith, less, room)) (omega (arith, less, map.first)));
       }

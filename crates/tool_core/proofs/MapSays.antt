@@ -154,12 +154,16 @@ lines_behind g image id span (suc count) within = ⊎_elim
 lines_ahead : (g : Geometry) (image : List ℕ) (id span count : ℕ) → span ≤ count → (tail : List ℕ) × (span_lines g image id count ≡ span_lines g image id span ++ ((if nat_lt span count then span_line g image id span else []) ++ tail))
 lines_ahead g image id span count within = ⊎_elim
     (λ (more : span < count).
-    let b = lines_behind g image id (span + 1) count (omega (arith, more)) in
-    (b.0, b.1 ∙ ap (λ (l : List ℕ). l ++ b.0) (more_lines g image id span) ∙ append_assoc (span_lines g image id span) (span_line g image id span) b.0
-    ∙ sym (ap (λ (t : Bool). span_lines g image id span ++ ((if t then span_line g image id span else []) ++ b.0)) (is_more span count more))))
-    (λ (last : count ≤ span).
-    ([], ap (span_lines g image id) (let same : count ≡ span = omega arith in same) ∙ sym (append-nil (span_lines g image id span))
-    ∙ sym (ap (λ (t : Bool). span_lines g image id span ++ ((if t then span_line g image id span else []) ++ [])) (is_end span count last))))
+    let b = lines_behind g image id (span + 1) count (omega (arith, more)) in (
+      b.0,
+      b.1 ∙ ap (λ (l : List ℕ). l ++ b.0) (more_lines g image id span) ∙ append_assoc (span_lines g image id span) (span_line g image id span) b.0
+          ∙ sym (ap (λ (t : Bool). span_lines g image id span ++ ((if t then span_line g image id span else []) ++ b.0)) (is_more span count more)),
+    ))
+    (λ (last : count ≤ span). (
+      [],
+      ap (span_lines g image id) (let same : count ≡ span = omega arith in same) ∙ sym (append-nil (span_lines g image id span))
+          ∙ sym (ap (λ (t : Bool). span_lines g image id span ++ ((if t then span_line g image id span else []) ++ [])) (is_end span count last)),
+    ))
     (cases_lt span count)
 
 more_than : (span count : ℕ) → true ≡ nat_lt span count → span < count

@@ -107,12 +107,14 @@ module _ {N : Type 0} {nor : NorOf N} where
             let r = (first.done rest).0 in
             MatchResult-weaker result (second.done r.rest)
             (λ ok next.
-            let n = next.0 in
-            (record {
-              rest = n.rest;
-              table = subst (λ (g : Geometry). table_of g (nor.bytes new.nor.now) ≡ table_of g between) same n.table ∙ r.table;
-              holds = holds_then old.geometry was between (nor.bytes new.nor.now) r.holds (subst (λ (g : Geometry). HoldsImage g between (nor.bytes new.nor.now)) same n.holds);
-            }, next.1))
+            let n = next.0 in (
+              record {
+                rest = n.rest;
+                table = subst (λ (g : Geometry). table_of g (nor.bytes new.nor.now) ≡ table_of g between) same n.table ∙ r.table;
+                holds = holds_then old.geometry was between (nor.bytes new.nor.now) r.holds (subst (λ (g : Geometry). HoldsImage g between (nor.bytes new.nor.now)) same n.holds);
+              },
+              next.1,
+            ))
             (λ ending why. why);
       }
 
@@ -164,7 +166,7 @@ module _ {N : Type 0} {nor : NorOf N} where
         done = λ rest.
             let m = first_moment g slots was in
             let said : (refusal.why ≡ Call DeviceFault → ⊥) → Some refusal.why ≡ attach_refusal false (if has_id id m.state.table then Ok id else Err NotFound) =
-                λ fine. a.answers m takes (holds_first old rest) (λ e. fine cc) ∙ ap (λ (b : Bool). attach_refusal b (id_in id m.state)) free in
+            λ fine. a.answers m takes (holds_first old rest) (λ e. fine cc) ∙ ap (λ (b : Bool). attach_refusal b (id_in id m.state)) free in
             ⊎_elim
             (λ fault. inl (told_as ∙ fault))
             (λ missing. inr (record { ending_is = told_as ∙ missing.0; none = sym (ap (has_id id) (state_first g slots was)) ∙ missing.1; bytes = (attach_still takes a.call rest).reads.bytes }))
@@ -208,16 +210,18 @@ module _ {N : Type 0} {nor : NorOf N} where
             let s = stops rest in
             let t = stops_tidy s in
             let m = first_moment g slots was in
-            let left = (calls.cuts.now rest.tells) m (first_at g slots was was (memory old) rest.memory rest.tidy refl) in
-            (record {
-              rest = record {
-                tells = calls.cuts.cuts.told rest.tells;
-                tidy = subst (λ (k : Geometry). IsTidy k now) (sym calls.same.geometry) t.0;
-                memory = closed_still old new slots rest.memory (calls.keeps refl) (free rest);
-              };
-              table = t.1;
-              holds = record { sound = left.0.sound; reserve = stops_reserve s };
-            }, (s, subst (λ (b : Bool). KeepsMap old new b) fine (calls.maps m takes (holds_first old rest))));
+            let left = (calls.cuts.now rest.tells) m (first_at g slots was was (memory old) rest.memory rest.tidy refl) in (
+              record {
+                rest = record {
+                  tells = calls.cuts.cuts.told rest.tells;
+                  tidy = subst (λ (k : Geometry). IsTidy k now) (sym calls.same.geometry) t.0;
+                  memory = closed_still old new slots rest.memory (calls.keeps refl) (free rest);
+                };
+                table = t.1;
+                holds = record { sound = left.0.sound; reserve = stops_reserve s };
+              },
+              (s, subst (λ (b : Bool). KeepsMap old new b) fine (calls.maps m takes (holds_first old rest))),
+            );
       }
 
   gathered_ok : {slots : ℕ} {old new : Volume N nor} → takes_calls old ≡ true → Calls Collects old new Fine → CollectsTo slots old new (Ok tt)
