@@ -128,7 +128,7 @@ unfolding answer answer_meta
 sets-meta g slots name meta files x fine long there =
     rw (fine, eq-eqb (length meta) g.meta long, there) (page_or_full g (with_files slots files) (gives Fine (with_files slots (put_file (record x { meta = meta }) files))))
 
-fine_working : name_refusal working ≡ None
+pub fine_working : name_refusal working ≡ None
 unfolding name_refusal
 fine_working = refl
 

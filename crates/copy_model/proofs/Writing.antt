@@ -1,16 +1,14 @@
 -- One page of a copied file is one step.
-use Rattle.std.proofs.Common.{◌≡◌, ℕ, ◌+◌, ◌-◌, ◌*◌, ◌/◌, ◌%◌, ◌<◌, ◌≤◌, List, length, false, Option, Some, None, refl, sym, ◌∙◌, ap, arith, ⊎_elim}
+use Rattle.std.proofs.Common.{◌≡◌, ℕ, ◌+◌, ◌-◌, ◌*◌, ◌/◌, ◌%◌, ◌<◌, ◌≤◌, List, length, sym, ◌∙◌, ap, arith, ⊎_elim}
 use Rattle.std.proofs.Math.Nat.{div-add-mod}
 use Rattle.std.proofs.lemmas.Nat.{mod-mul-add}
 use Rattle.std.proofs.lemmas.Bool.{cases_lt}
 use Rattle.geometry.specs.declared.geometry.Geometry.{Geometry}
 use Rattle.geometry.specs.Numbers.{body}
-use Rattle.table_model.specs.Table.{File, State, file_of, put_file}
-use Rattle.table_model.specs.Descriptors.{open_at}
+use Rattle.table_model.specs.Table.{File, put_file}
 use Rattle.table_model.specs.Files.{written}
-use Rattle.table_model.specs.Ask.{Writes}
-use Rattle.table_model.specs.Steps.{file_steps, written_up_to, open_file}
-use Rattle.table_model.specs.Window.{incoming_of, may_wait, IsAmong}
+use Rattle.table_model.specs.Steps.{file_steps, written_up_to}
+use Rattle.table_model.specs.Window.{IsAmong}
 use Rattle.call_model.proofs.Parts.{among-steps, whole-table}
 
 -- the one end of a data page behind one, no further than a page
@@ -33,12 +31,3 @@ one_write g at bytes f files t some is from few among =
     (λ more. ⊎_elim (λ (size : s.end ≡ length f.bytes). omega (arith, size, is, s.is_end.from)) (λ (own : s.end ≡ at + length bytes). own) more)
     s.is_end.ends in
     s.table ∙ ap (written_up_to at bytes f files) end ∙ whole-table at bytes f files
-
--- nothing waits after a write through a descriptor that is direct
-pub direct_waits : (g : Geometry) (s : State) (bytes : List ℕ) (id at : ℕ) → open_at s.slots 1 ≡ Some (record { id = id; flags = 52; offset = at }) → may_wait g (incoming_of s (Writes 1 bytes)) ≡ false
-unfolding incoming_of open_file
-direct_waits g s bytes id at is = go (file_of id s.table) refl
-  where
-    go : (o : Option File) → file_of id s.table ≡ o → may_wait g (incoming_of s (Writes 1 bytes)) ≡ false
-    go None none = rw (is, none) refl
-    go (Some f) there = rw (is, there) refl

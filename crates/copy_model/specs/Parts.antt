@@ -3,16 +3,21 @@ use Rattle.std.specs.Prelude.{◌≡◌, ◌≢◌, ◌+◌, ◌≤◌, ◌%◌,
 use Rattle.std.specs.List.{All}
 use Rattle.geometry.specs.Numbers.{body}
 use Rattle.table_model.specs.declared.reply.Stat.{Stat}
-use Rattle.table_model.specs.Table.{File, Open, least_id, file_of, file_named, file_above, put_file}
+use Rattle.table_model.specs.declared.error.FsErr.TheVariants.{NotFound}
+use Rattle.table_model.specs.Ask.{Removes}
+use Rattle.table_model.specs.Reply.{Fine, Refuses}
+use Rattle.table_model.specs.Flat.{answer}
+use Rattle.call_model.specs.Closed.{with_files}
+use Rattle.table_model.specs.Table.{File, Open, State, least_id, file_of, file_named, file_above, put_file}
 use Rattle.table_model.specs.Names.{name_refusal}
 use Rattle.table_model.specs.Files.{stat_of}
-use Rattle.table_model.specs.Room.{has_room}
+use Rattle.table_model.specs.Room.{has_room, index_count, data_count}
 use Rattle.table_model.proofs.Ascending.{Ascends}
 use Rattle.copy_model.specs.Copying.{working, keeps, begun, marked, cleared, copied, copy_steps, kept_count}
 use Rattle.copy_model.specs.Filling.{filler}
 use Rattle.copy_model.specs.Stops.{first_full}
 use Rattle.copy_model.specs.Rooms.{filling_full}
-use Rattle.copy_model.specs.Under.{IsTable, IsCopied}
+use Rattle.copy_model.specs.Under.{IsTable, IsUnder, IsCopied}
 use Rattle.copy_model.specs.Tasks.{Task, begins_with, stops_at}
 use Rattle.copy_model.specs.Walks.{up_to, behind}
 
@@ -102,3 +107,17 @@ pub record IsPassed (stat : Stat) (is_new : Bool) (t : Task) (files : List File)
   pub stat_is : stat ≡ stat_of f
   pub amid : IsUpTo f.id t files
   pub kept : keeps t.alike f t.first ≡ not is_new
+
+-- A step has no room that takes so many pages more than this state has. Without the file of the working name it has other files, and
+-- either may be left of the copy.
+pub record IsLacking (index pages : ℕ) (t : Task) (s : State) : Type 0 where
+  pub table : List File
+  pub stops : stops_at t ≡ Some table
+  pub index_are : index_count t.g s.table + index ≡ index_count t.g table
+  pub pages_are : data_count t.g s.table + pages ≡ data_count t.g table
+  pub under : IsUnder t.alike t.source t.first s.table
+  pub left : List File
+  pub next : (answer t.g true s (Removes working)).next ≡ with_files t.slots left
+  pub reply : ((answer t.g true s (Removes working)).answer ≡ Fine) ⊎ ((answer t.g true s (Removes working)).answer ≡ Refuses NotFound)
+  pub left_under : IsUnder t.alike t.source t.first left
+  pub none : file_named working left ≡ None
