@@ -30,7 +30,11 @@ spiffs: a SPIFFS 0.3.7 flash volume in a chip file, or in several end to end
       mounts and checks the volume, and moves the files of the least worn blocks,
       while those are LIMIT erase counts behind each free block
       spiffs scrub 256 4096 16 0 len chip 100
-  spiffs --force run .. | --force check .. | --force scrub ..
+  spiffs map PAGE BLOCK BLOCKS META MAGIC CHIP ID
+      mounts and checks the volume, collects garbage, and tells in which pages
+      the data of the file with that id lies
+      spiffs map 256 4096 16 0 len chip 1
+  spiffs --force run .. | check .. | scrub .. | map ..
       goes on where another META reads more whole files
   spiffs --help | --version
 
@@ -38,8 +42,8 @@ spiffs: a SPIFFS 0.3.7 flash volume in a chip file, or in several end to end
   BLOCK   bytes of a block, a multiple of PAGE
   BLOCKS  blocks of the volume
   META    meta bytes of each file, 0 to 64. First `list` a chip that you did not
-          make. If ids are damaged the META may be wrong; `run`, `check` and
-          `scrub` remove damaged files for good
+          make. If ids are damaged the META may be wrong; `run`, `check`,
+          `scrub` and `map` remove damaged files for good
   MAGIC   `len` (the magic tells the volume's length) or `plain`
   CHIP    the chip's file, BLOCK * BLOCKS bytes; or the files of several chips,
           parted by commas, of BLOCK * ceil(BLOCKS / number) bytes each. Bytes
@@ -49,6 +53,7 @@ spiffs: a SPIFFS 0.3.7 flash volume in a chip file, or in several end to end
   SEED    a number below 2^64
   COUNT   turns, at most 1000000
   LIMIT   erase counts, 1 to 32767
+  ID      a file's id, 0 to 65535; `list` tells it
 
 A script is lines of at most 4096 bytes. Each is a call, and is answered by one
 line; an empty line, or one that begins with `#`, is no call.
@@ -112,15 +117,18 @@ that did what was asked, those that were refused, files and bytes in the end.
 A scrub is a line `moved N free F`: blocks whose files were moved, and that
 were erased, and free blocks in the end.
 
+A map is a line `SPAN PAGE` for each data page of the file, at most 4096: its
+number in the file, from 0, and the page of the volume that holds it.
+
 Statuses: 0 all was done; 1 usage; 2 numbers or device refused; 3 no volume;
 4 blocks hold pages of both kinds, and too few are free to part them: extract
 the files and make a new chip; 5 a line outside the grammar; 6 no room for the
 files of the folder; 7 a chip or the output failed, 8 the script could not be
 read, 9 the folder failed; 10 lent memory too short; 11 the script is too long;
 12 an id is damaged; 13 a name of the folder is no file's, or an earlier one's;
-14 fewer than two free blocks; 15 no memory; 21 a page does not read as it was
-written; 22 the chips make no row; 23 `run`, `check` or `scrub`: ids are damaged
-and another META reads more whole files, nothing was written. Standard error
-tells more of statuses 1, 3, 4, 7, 8, 9, 13 and 23, what `make` passed over, and
-how many damaged files were removed.
+14 fewer than two free blocks; 15 no memory; 17 no file has that id; 21 a page
+does not read as it was written; 22 the chips make no row; 23 `run`, `check`,
+`scrub` or `map`: ids are damaged and another META reads more whole files,
+nothing was written. Standard error tells more of statuses 1, 3, 4, 7, 8, 9, 13
+and 23, what `make` passed over, and how many damaged files were removed.
 ";

@@ -212,7 +212,7 @@ fn explain_board<W: Write + Drop>(
 
 // Whether a command that ended so has brought the volume into order: then its damaged files are gone.
 fn has_repaired(status: u8) -> bool {
-    matches!(status, 0 | 5 | 8 | 11 | 12 | 14)
+    matches!(status, 0 | 5 | 8 | 11 | 12 | 14 | 17)
 }
 
 // Says on standard error how many damaged files a check removed.

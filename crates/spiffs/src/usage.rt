@@ -8,7 +8,7 @@ use std::fmt;
 pub enum Wrong<'w> {
     /// There is no word.
     Nothing,
-    /// `--force` stands before another command than `run`, `check` and `scrub`.
+    /// `--force` stands before another command than `run`, `check`, `scrub` and `map`.
     Force,
     /// The first word is no command.
     Verb(&'w str),
@@ -35,7 +35,7 @@ impl fmt::Display for Wrong<'_> {
     fn fmt<W: fmt::Write>(&self, f: &mut fmt::Formatter<W>) -> fmt::Result {
         match self {
             Wrong::Nothing => write!(f, "no command is given"),
-            Wrong::Force => write!(f, "--force is for run, check and scrub alone"),
+            Wrong::Force => write!(f, "--force is for run, check, scrub and map alone"),
             Wrong::Verb(verb) => write!(f, "there is no command {verb}"),
             Wrong::Count { verb, form, given } => {
                 write!(f, "{verb} takes {form}, and {given} words are given")
@@ -64,6 +64,7 @@ fn form_of(verb: &str) -> Option<(&'static str, usize)> {
         "extract" | "make" => Some(("PAGE BLOCK BLOCKS META MAGIC CHIP FOLDER", 7)),
         "soak" => Some(("PAGE BLOCK BLOCKS META MAGIC CHIP SEED COUNT", 8)),
         "scrub" => Some(("PAGE BLOCK BLOCKS META MAGIC CHIP LIMIT", 7)),
+        "map" => Some(("PAGE BLOCK BLOCKS META MAGIC CHIP ID", 7)),
         _ => None,
     }
 }
@@ -115,6 +116,7 @@ fn wrong_end(words: &[String]) -> Option<Wrong<'_>> {
             wrong_number(words, 7, "SEED", u64::MAX).or(wrong_number(words, 8, "COUNT", 1_000_000))
         }
         "scrub" => wrong_between(words, 7, "LIMIT", 1, 32_767),
+        "map" => wrong_number(words, 7, "ID", 65_535),
         _ => None,
     }
 }

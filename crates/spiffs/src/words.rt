@@ -16,5 +16,5 @@ pub fn word(words: &[String], number: usize) -> &str {
 
 /// Whether the words are a command that removes damaged files for good.
 pub fn repairs(words: &[String]) -> bool {
-    matches!(word(words, 0), "run" | "check" | "scrub")
+    matches!(word(words, 0), "run" | "check" | "scrub" | "map")
 }

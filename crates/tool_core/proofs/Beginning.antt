@@ -48,7 +48,7 @@ first_still : (g : Geometry) (slots : ℕ) (image : List ℕ) → first_moment g
 unfolding settled_at
 first_still g slots image = refl
 
-first_table : (g : Geometry) (slots : ℕ) (image : List ℕ) → (first_moment g slots image).settled ≡ table_of g image
+pub first_table : (g : Geometry) (slots : ℕ) (image : List ℕ) → (first_moment g slots image).settled ≡ table_of g image
 unfolding settled_at
 first_table g slots image = refl
 

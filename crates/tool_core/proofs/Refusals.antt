@@ -100,7 +100,7 @@ pick true c m n ending is = inl cc
 pick false true m n ending is = inr cc
 pick false false m n ending is = cc
 
-refusal_is : (g : Geometry) (image : List ℕ) (ending : Ending) → check_refusal g image ≡ Some ending → (ending ≡ NotAFs (spoiled_blocks g image)) ⊎ (ending ≡ Mixed (shared_blocks g image))
+pub refusal_is : (g : Geometry) (image : List ℕ) (ending : Ending) → check_refusal g image ≡ Some ending → (ending ≡ NotAFs (spoiled_blocks g image)) ⊎ (ending ≡ Mixed (shared_blocks g image))
 unfolding check_refusal
 refusal_is g image ending is = pick (nat_lt 1 (spoiled_blocks g image)) (not (fits_over g image)) (spoiled_blocks g image) (shared_blocks g image) ending is
 

@@ -18,7 +18,7 @@ use Rattle.tool_core.specs.declared.scrubbing.Tally.{Tally}
 use Rattle.tool_core.specs.Begins.{StopsRun}
 use Rattle.tool_core.specs.Closing.{status_of}
 use Rattle.tool_core.specs.Endings.{Speaks}
-use Rattle.tool_core.specs.Mounting.{Checks, Reported, IsMendable}
+use Rattle.tool_core.specs.Mounting.{Checks, Reported, IsMendable, LeavesFiles}
 use Rattle.tool_core.specs.Refusals.{check_refusal, begin_refusal, unless_refused}
 use Rattle.tool_core.specs.Scrubbing.{scrub_text, moved_text, scrub_ending, IsTally, KeepsFiles, Makes, ScrubCut, StopsScrub, SaysScrub, ScrubEnds, CheckLeaves, Scrubbed, ScrubsTo}
 use Rattle.tool_core.proofs.Beginning.{begins_on, early_why}
@@ -76,28 +76,28 @@ module _ {D : Type 0} {nor : NorOf D} {g : Geometry} {slots limit : ℕ} where
 
 module _ {D : Type 0} {nor : NorOf D} where
   -- nothing was said
-  said_nothing : {old new : D} {R : List ℕ → List ℕ → Type 0} → Changes nor old new R → nor.said new ≡ nor.said old ++ []
+  pub said_nothing : {old new : D} {R : List ℕ → List ℕ → Type 0} → Changes nor old new R → nor.said new ≡ nor.said old ++ []
   said_nothing {old} changes = changes.said ∙ sym (append-nil (nor.said old))
 
-  none_said_of : {old new : D} {R : List ℕ → List ℕ → Type 0} (text : List ℕ) (ending result : Ending) → Changes nor old new R → result ≡ BoardFault → Speaks nor old new text ending result
+  pub none_said_of : {old new : D} {R : List ℕ → List ℕ → Type 0} (text : List ℕ) (ending result : Ending) → Changes nor old new R → result ≡ BoardFault → Speaks nor old new text ending result
   none_said_of text ending result changes fault = inl (fault, record { part = []; rest = text; said = said_nothing changes; whole_is = refl })
 
--- a cut leaves what may follow the first image, with its files
-abbrev pub LeavesFiles : Geometry → (was image : List ℕ) → Type 0
-LeavesFiles g was image = IsSafe g was image × (table_of g image ≡ table_of g was)
-
 module _ {D : Type 0} {nor : NorOf D} {g : Geometry} where
-  check_files : {old new : D} → Changes nor old new (Checks g) → Changes nor old new (LeavesFiles g)
+  pub check_files : {old new : D} → Changes nor old new (Checks g) → Changes nor old new (LeavesFiles g)
   check_files changes = wider changes (λ tells image here. (safe_check here, here.table))
 
-  after_check : {old mid new : D} → Changes nor old mid (Checks g) → (nor.tells old → CheckLeaves g (nor.bytes old) (nor.bytes mid)) → Changes nor mid new (KeepsFiles g) → Changes nor old new (LeavesFiles g)
-  after_check {old} {mid} {new} first leaves second = go_on (check_files first) second (λ tells image before after.
-      let left = leaves tells in
-      let files = after left.tidy left.reserve in
-      (holds_safe g (nor.bytes old) (nor.bytes mid) image (holds_check (first.now tells)) left.tidy files.0, files.1 ∙ before.1))
+  -- a change of a tidy image that the check left
+  pub after_check : {old mid new : D} {R : List ℕ → List ℕ → Type 0} → Changes nor old mid (Checks g) → (nor.tells old → IsTidy g (nor.bytes mid)) → Changes nor mid new R → (nor.tells old → (image : List ℕ) → R (nor.bytes mid) image → LeavesFiles g (nor.bytes mid) image) → Changes nor old new (LeavesFiles g)
+  after_check {old} {mid} {new} first tidy second keeps = go_on (check_files first) second (λ tells image before after.
+      let files = keeps tells image after in
+      (holds_safe g (nor.bytes old) (nor.bytes mid) image (holds_check (first.now tells)) (tidy tells) files.0, files.1 ∙ before.1))
+
+  -- steps of a scrub behind the check
+  after_steps : {old mid new : D} → Changes nor old mid (Checks g) → (nor.tells old → CheckLeaves g (nor.bytes old) (nor.bytes mid)) → Changes nor mid new (KeepsFiles g) → Changes nor old new (LeavesFiles g)
+  after_steps first leaves second = after_check first (λ tells. (leaves tells).tidy) second (λ tells image after. let left = leaves tells in after left.tidy left.reserve)
 
   -- a cut where nothing was said yet
-  silent_cuts : {old new : D} (last : D) (text : List ℕ) → Changes nor old new (LeavesFiles g) → Leaves nor old new (λ image count. nor.tells old → ScrubCut nor g old last text image count)
+  pub silent_cuts : {old new : D} (last : D) (text : List ℕ) → Changes nor old new (LeavesFiles g) → Leaves nor old new (λ image count. nor.tells old → ScrubCut nor g old last text image count)
   silent_cuts last text changes = widened changes.cuts (λ image count here tells. let files = here.1 tells in record {
     table = files.1;
     safe = files.0;
@@ -136,7 +136,7 @@ module _ {D : Type 0} {nor : NorOf D} {g : Geometry} where
   -- the board failed in the steps
   steps_stopped : {limit : ℕ} {old mid new : D} (result : Ending) → Changes nor old mid (Checks g) → (nor.tells old → CheckLeaves g (nor.bytes old) (nor.bytes mid)) → StopsScrub nor g mid new result → ScrubsTo nor g limit old new result
   steps_stopped {limit} {old} {mid} {new} result changes leaves stops =
-      let whole = after_check changes leaves stops.changes in
+      let whole = after_steps changes leaves stops.changes in
       let fault : nor.tells old → result ≡ BoardFault = λ tells. let left = leaves tells in stops.fault (changes.cuts.told tells) left.tidy left.reserve in
       record {
         moved = 0;
@@ -156,7 +156,7 @@ module _ {D : Type 0} {nor : NorOf D} {g : Geometry} where
       let was = nor.bytes old in
       let now = nor.bytes new in
       let piece = scrub_text s.moved s.free in
-      let whole = after_check changes leaves s.changes in
+      let whole = after_steps changes leaves s.changes in
       let made = λ (tells : nor.tells old). let left = leaves tells in s.made (changes.cuts.told tells) left.tidy left.reserve in
       let reserve : nor.tells old → HasReserve g now = λ tells. subst (λ (l : List ℕ). HasReserve g l) (sym s.says.bytes) (made tells).0.reserve in
       let takes : nor.tells old → begin_refusal g was now ≡ None = λ tells. begins_on g was now (leaves tells).takes (reserve tells) in

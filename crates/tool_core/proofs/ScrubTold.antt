@@ -19,7 +19,7 @@ use Rattle.tool_core.proofs.Reading.{reads_said, behind_closed}
 use Rattle.tool_core.proofs.Speaking.{concludes, within, none_closed, mended_closed}
 
 -- status 0 is that of a command that was done
-done_of : (ending : Ending) → status_of ending ≡ 0 → ending ≡ Done
+pub done_of : (ending : Ending) → status_of ending ≡ 0 → ending ≡ Done
 done_of Done is = refl
 done_of _ is = absurd (omega (arith, is))
 

@@ -34,7 +34,7 @@ use Rattle.tool_core.proofs.Beginning.{first_at}
 use Rattle.tool_core.proofs.ScrubSteps.{made_none, made_more, scrubbed_all, scrubbed_rest}
 
 -- a table among one alone is that
-one_among : (g : Geometry) (slots : ℕ) (image : List ℕ) (t : List File) → IsAmong t (from_settled (first_moment g slots image) []) → t ≡ table_of g image
+pub one_among : (g : Geometry) (slots : ℕ) (image : List ℕ) (t : List File) → IsAmong t (from_settled (first_moment g slots image) []) → t ≡ table_of g image
 unfolding settled_at IsAmong
 one_among g slots image t among = ⊎_elim (λ is. is) (λ none. absurd none) among
 
@@ -48,7 +48,7 @@ pub stands_first : {D : Type 0} {nor : NorOf D} (g : Geometry) (slots : ℕ) (d 
 stands_first {D} {nor} g slots d w closed tells tidy = record { tells = tells; image = first_at g slots (nor.bytes d) (nor.bytes d) w closed tidy refl }
 
 module _ {N : Type 0} {nor : NorOf N} where
-  closed_still : (old new : Volume N nor) (slots : ℕ) → memory old ≡ closed_memory slots → new.slots.now ≡ old.slots.now → (memory new).run ≡ None → memory new ≡ closed_memory slots
+  pub closed_still : (old new : Volume N nor) (slots : ℕ) → memory old ≡ closed_memory slots → new.slots.now ≡ old.slots.now → (memory new).run ≡ None → memory new ≡ closed_memory slots
   closed_still old new slots closed same none =
       let s : descriptors new.slots.now ≡ (closed_memory slots).slots = ap descriptors same ∙ ap (λ (w : Memory). w.slots) closed in
       λ i. record { slots = s i; run = none i }

@@ -5,7 +5,7 @@ use Rattle.table_model.specs.declared.error.Differ.{Differ as Differs}
 use Rattle.vol_mount.specs.declared.lent.Part.{Part}
 use Rattle.vol_mount.specs.declared.lent.Part.TheVariants.{Work, Slots, Cache, Check, Line}
 use Rattle.tool_core.specs.declared.ending.Ending.{Ending}
-use Rattle.tool_core.specs.declared.ending.Ending.TheVariants.{Done, Usage, Geometry, ShortBuffer, NotAFs, BadLine, Full, BoardFault, SourceFault, FolderFault, TooLong, Damaged, BadName, Tight, Mixed, Differ}
+use Rattle.tool_core.specs.declared.ending.Ending.TheVariants.{Done, Usage, Geometry, ShortBuffer, NotAFs, BadLine, Full, BoardFault, SourceFault, FolderFault, TooLong, Damaged, BadName, Tight, Mixed, NoSuchId, Differ}
 
 -- the status that a command answers
 abbrev pub status_of : Ending → ℕ
@@ -24,6 +24,7 @@ status_of TooLong = 11
 status_of (Damaged count) = 12
 status_of (BadName at) = 13
 status_of (Tight free) = 14
+status_of (NoSuchId id) = 17
 status_of (Differ differ) = 21
 
 -- the word for a part of the lent memory
@@ -67,6 +68,7 @@ closing_of TooLong = codes "! script longer than 16777216 bytes"
 closing_of (Damaged count) = codes "! damaged " ++ decimal count
 closing_of (BadName at) = codes "! bad name " ++ decimal at
 closing_of (Tight free) = codes "! free blocks " ++ decimal free
+closing_of (NoSuchId id) = codes "! no id " ++ decimal id
 closing_of (Differ differ) = differ_text differ
 
 -- a line with the byte that ends it, if there is one

@@ -26,4 +26,5 @@ pub mod Filling
 pub mod Soaking
 pub mod Making
 pub mod Scrubbing
+pub mod Mapping
 pub mod Does

@@ -7,7 +7,7 @@ use Rattle.image_model.specs.Tables.{table_of}
 use Rattle.image_model.specs.Tidy.{HasReserve}
 use Rattle.image_model.specs.Sound.{HasMagics, IsSound}
 use Rattle.image_model.specs.Shared.{FitsWith}
-use Rattle.call_model.specs.Safe.{ComesBack}
+use Rattle.call_model.specs.Safe.{ComesBack, IsSafe}
 use Rattle.vol_mount.specs.declared.lent.MountErr.{MountErr}
 use Rattle.vol_mount.specs.declared.lent.MountErr.TheVariants.{NotAFs as MountNotAFs, DeviceFault as MountFault}
 use Rattle.vol_check.specs.declared.report.CheckErr.{CheckErr}
@@ -25,6 +25,10 @@ pub record Checks (g : Geometry) (was image : List ℕ) : Type 0 where
   pub table : table_of g image ≡ table_of g was
   pub reserve : HasReserve g was → HasReserve g image
   pub fits : (spare : ℕ) → FitsWith g was (spare + 1) → FitsWith g image spare
+
+-- a cut leaves what may follow the first image, with its files
+abbrev pub LeavesFiles : Geometry → (was image : List ℕ) → Type 0
+LeavesFiles g was image = IsSafe g was image × (table_of g image ≡ table_of g was)
 
 -- mounting and the check take the image, and an uncut check leaves two free blocks
 pub record IsMendable (g : Geometry) (image : List ℕ) : Type 0 where

@@ -6,7 +6,7 @@ use Rattle.geometry.specs.declared.magic.MagicKind.{MagicKind}
 use Rattle.geometry.specs.declared.magic.MagicKind.TheVariants.{Plain, Length}
 use Rattle.call_script.specs.Numerals.{number_up_to}
 use Rattle.tool_core.specs.declared.words.Verb.{Verb}
-use Rattle.tool_core.specs.declared.words.Verb.TheVariants.{Run, List as Lists, Check, Extract, Make, Soak, Scrub}
+use Rattle.tool_core.specs.declared.words.Verb.TheVariants.{Run, List as Lists, Check, Extract, Make, Soak, Scrub, Map}
 use Rattle.tool_core.specs.declared.words.Form.{Form}
 
 -- a word is this text
@@ -48,7 +48,15 @@ limit_word word = option_and_then (λ limit. if limit == 0 then None else Some l
 abbrev pub limit_in : List (List ℕ) → Option Verb
 limit_in words = option_and_then (λ limit. Some (Scrub limit)) (limit_word (word_at words 7))
 
--- what a command does, by its first word, and for a soak and a scrub by those behind the chip's name
+-- an id, below 65,536
+abbrev pub id_word : List ℕ → Option ℕ
+id_word word = number_up_to 65535 word
+
+-- the map of the file with the id behind the chip's name
+abbrev pub map_in : List (List ℕ) → Option Verb
+map_in words = option_and_then (λ id. Some (Map id)) (id_word (word_at words 7))
+
+-- what a command does, by its first word, and for a soak, a scrub and a map by those behind the chip's name
 abbrev pub verb_in : List (List ℕ) → Option Verb
 verb_in words =
     if is_text (word_at words 0) (codes "run") then Some Run
@@ -58,6 +66,7 @@ verb_in words =
     else if is_text (word_at words 0) (codes "make") then Some Make
     else if is_text (word_at words 0) (codes "soak") then soak_in words
     else if is_text (word_at words 0) (codes "scrub") then limit_in words
+    else if is_text (word_at words 0) (codes "map") then map_in words
     else None
 
 -- a command writes its volume
@@ -69,6 +78,7 @@ writes Extract = false
 writes Make = true
 writes (Soak seed turns) = true
 writes (Scrub limit) = true
+writes (Map id) = true
 
 -- the limit of a scrub is 1 to 32,767
 abbrev pub HasLimit : Verb → Type 0
@@ -86,12 +96,13 @@ has_folder Extract = true
 has_folder Make = true
 has_folder _ = false
 
--- how many words spell a command: VERB PAGE BLOCK BLOCKS META MAGIC CHIP, then FOLDER, or SEED and COUNT, or LIMIT
+-- how many words spell a command: VERB PAGE BLOCK BLOCKS META MAGIC CHIP, then FOLDER, or SEED and COUNT, or LIMIT, or ID
 abbrev pub word_count : Verb → ℕ
 word_count Extract = 8
 word_count Make = 8
 word_count (Soak seed turns) = 9
 word_count (Scrub limit) = 8
+word_count (Map id) = 8
 word_count _ = 7
 
 -- There are as many words as the command has, and those that name a chip and a folder aren't empty.

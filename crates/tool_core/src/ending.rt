@@ -44,6 +44,8 @@ pub(crate) enum Ending {
     BadName(u32),
     /// The check left fewer than two free blocks.
     Tight(u32),
+    /// No file has this id.
+    NoSuchId(u16),
     /// A page doesn't read as what was written there.
     Differ(Differ),
 }
@@ -72,6 +74,7 @@ impl Ending {
             Ending::Damaged(_) => 12,
             Ending::BadName(_) => 13,
             Ending::Tight(_) => 14,
+            Ending::NoSuchId(_) => 17,
             Ending::Differ(_) => 21,
         }
     }
@@ -186,6 +189,7 @@ fn put_closing(line: &mut Closing, ending: Ending)
         Ending::Damaged(count) => put_count(line, b"! damaged ", u64::from(count)),
         Ending::BadName(at) => put_count(line, b"! bad name ", u64::from(at)),
         Ending::Tight(free) => put_count(line, b"! free blocks ", u64::from(free)),
+        Ending::NoSuchId(id) => put_count(line, b"! no id ", u64::from(id)),
         Ending::Differ(differ) => put_differ(line, differ),
     }
 }

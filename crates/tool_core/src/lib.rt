@@ -12,6 +12,7 @@ pub mod laws;
 mod lines;
 mod listing;
 mod making;
+mod mapping;
 mod mounting;
 mod plan;
 mod run;

@@ -5,6 +5,7 @@ ghost use Rattle.nor_core.specs.Device.{Changes, OnlyReads};
 ghost use Rattle.image_model.specs.Tidy.{IsTidy, HasReserve};
 ghost use Rattle.vol_check.specs.Checks.{IsWritable};
 ghost use Rattle.volume.specs.Holds.{memory};
+ghost use Rattle.volume.specs.Mapping.{GivesUpMap};
 ghost use Rattle.volume.specs.Stages.{takes_calls};
 ghost use Rattle.volume.specs.Same.{IsSameVolume};
 ghost use Rattle.tool_core.specs.Later.{IsLater};
@@ -55,6 +56,7 @@ pub(crate) fn mount_and_check<B: Board>(volume: &mut Volume<'_, B>) -> Result<Re
     ensures taken { OnOk result (takes_calls volume.new ≡ true) }
     ensures closed { OnOk result (memory volume.new ≡ closed_memory (min 65535 (length volume.old.slots.now))) }
     ensures same { IsSameVolume volume.old volume.new }
+    ensures map { GivesUpMap volume.old volume.new }
     ensures changes { Changes B.NorState volume.old.nor.now volume.new.nor.now (Checks volume.old.geometry) }
     ensures reported { B.tells volume.old.nor.now → IfOk result (Reported volume.old.geometry (B.bytes volume.old.nor.now) (B.bytes volume.new.nor.now)) }
     ensures idle { B.tells volume.old.nor.now → IsTidy volume.old.geometry (B.bytes volume.old.nor.now) → HasReserve volume.old.geometry (B.bytes volume.old.nor.now) → OnlyReads B.NorState volume.old.nor.now volume.new.nor.now }

@@ -16,6 +16,7 @@ use crate::ending::conclude;
 use crate::extracting::extract_on;
 use crate::listing::list_on;
 use crate::making::make_on;
+use crate::mapping::map_on;
 use crate::plan::{Command, plan};
 use crate::run::run_on;
 use crate::scrubbing::scrub_on;
@@ -52,20 +53,22 @@ fn perform<B: Board, S: Source, F: Folder>(
         Verb::Make => make_on(g, board, folder, bufs),
         Verb::Soak { seed, turns } => soak_on(g, seed, turns, board, bufs),
         Verb::Scrub { limit } => scrub_on(g, limit, board, bufs),
+        Verb::Map { id } => map_on(g, id, board, bufs),
     }
 }
 
 /// Does the command that the words spell, on a board, and answers its status. The forms are
 /// `run PAGE BLOCK BLOCKS META MAGIC CHIP`, the same with `list` or `check` in the place of `run`,
 /// `extract PAGE BLOCK BLOCKS META MAGIC CHIP FOLDER`, the same with `make`,
-/// `soak PAGE BLOCK BLOCKS META MAGIC CHIP SEED COUNT` and `scrub PAGE BLOCK BLOCKS META MAGIC CHIP LIMIT`: the numbers in
-/// decimal digits without a leading zero, SEED below 2 ^ 64, COUNT at most 1,000,000, LIMIT 1 to 32,767 and the others below
-/// 2 ^ 32, MAGIC `plain` or `len`, CHIP and FOLDER any words that aren't
+/// `soak PAGE BLOCK BLOCKS META MAGIC CHIP SEED COUNT`, `scrub PAGE BLOCK BLOCKS META MAGIC CHIP LIMIT` and
+/// `map PAGE BLOCK BLOCKS META MAGIC CHIP ID`: the numbers in decimal digits without a leading zero, SEED below 2 ^ 64, COUNT at
+/// most 1,000,000, LIMIT 1 to 32,767, ID at most 65,535 and the others below 2 ^ 32, MAGIC `plain` or `len`, CHIP and FOLDER any words that aren't
 /// empty, which aren't read here. `run` mounts and checks the volume, and runs each line of the script as a call; `list` mounts
 /// it and says its files and its damaged ids, and writes nothing; `extract` says the same and puts each file into the
 /// folder; `make` formats it and writes each file of the folder into it, in its order; `check` mounts and checks it, and says what the check found and did; `soak` formats it, does COUNT turns of calls that
 /// are drawn from SEED, and says a summary; `scrub` mounts and checks it, makes scrub steps until one moves no block or as many as there
-/// are blocks were made, and says how many moved one and how many blocks are free. It takes no memory but what is lent.
+/// are blocks were made, and says how many moved one and how many blocks are free; `map` mounts and checks it, collects garbage, and
+/// says for each of the first 4,096 data pages of the file with that id which page of the volume it is. It takes no memory but what is lent.
 pub fn spiffs_tool<B: Board, S: Source, F: Folder>(
     words: &[String],
     board: &mut B,

@@ -1,5 +1,5 @@
 ghost use Rattle.std.specs.Prelude.{◌≡◌, ◌+◌, ◌*◌, ◌<◌, ◌≤◌, ◌^◌, length, map, string_bytes, option_copied, IfSome, Some, None, true};
-ghost use Rattle.tool_core.specs.Words.{form_of, verb_in, soak_in, limit_in, number_word, seed_word, turns_word, limit_word, magic_word, word_at, word_count, has_folder, has_form, writes, HasLimit, blocks_in, unit_for, chip_size_for};
+ghost use Rattle.tool_core.specs.Words.{form_of, verb_in, soak_in, limit_in, map_in, number_word, seed_word, turns_word, limit_word, id_word, magic_word, word_at, word_count, has_folder, has_form, writes, HasLimit, blocks_in, unit_for, chip_size_for};
 
 use call_script::parse_number;
 use geometry::MagicKind;
@@ -21,6 +21,8 @@ pub(crate) enum Verb {
     Soak { seed: u64, turns: u32 },
     /// Mounts and checks a volume, and moves the least worn blocks that hold files, while they are so many erase counts behind the free ones.
     Scrub { limit: u16 },
+    /// Mounts and checks a volume, collects garbage, and says the data pages of the file of an id.
+    Map { id: u16 },
 }
 
 impl Verb {
@@ -29,7 +31,12 @@ impl Verb {
         ensures { result ≡ writes self }
     {
         match self {
-            Verb::Run | Verb::Check | Verb::Make | Verb::Soak { .. } | Verb::Scrub { .. } => true,
+            Verb::Run
+            | Verb::Check
+            | Verb::Make
+            | Verb::Soak { .. }
+            | Verb::Scrub { .. }
+            | Verb::Map { .. } => true,
             Verb::List | Verb::Extract => false,
         }
     }
@@ -40,7 +47,7 @@ impl Verb {
     {
         match self {
             Verb::Run | Verb::List | Verb::Check => 7,
-            Verb::Extract | Verb::Make | Verb::Scrub { .. } => 8,
+            Verb::Extract | Verb::Make | Verb::Scrub { .. } | Verb::Map { .. } => 8,
             Verb::Soak { .. } => 9,
         }
     }
@@ -51,7 +58,12 @@ impl Verb {
     {
         match self {
             Verb::Extract | Verb::Make => true,
-            Verb::Run | Verb::List | Verb::Check | Verb::Soak { .. } | Verb::Scrub { .. } => false,
+            Verb::Run
+            | Verb::List
+            | Verb::Check
+            | Verb::Soak { .. }
+            | Verb::Scrub { .. }
+            | Verb::Map { .. } => false,
         }
     }
 }
@@ -120,6 +132,15 @@ fn read_scrub(words: &[String]) -> Option<Verb>
     })
 }
 
+// The map of the file with the id behind the chip's name.
+fn read_map(words: &[String]) -> Option<Verb>
+    ensures map { result ≡ map_in (map string_bytes words.now) }
+    ensures limit { IfSome result HasLimit }
+{
+    let id = parse_number(word(words, 7), 65_535)?;
+    Some(Verb::Map { id: id as u16 })
+}
+
 fn read_verb(words: &[String]) -> Option<Verb>
     ensures verb { result ≡ verb_in (map string_bytes words.now) }
     ensures limit { IfSome result HasLimit }
@@ -137,6 +158,7 @@ fn read_verb(words: &[String]) -> Option<Verb>
         b"check" => Some(Verb::Check),
         b"soak" => read_soak(words),
         b"scrub" => read_scrub(words),
+        b"map" => read_map(words),
         _ => None,
     }
 }
