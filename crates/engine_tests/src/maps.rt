@@ -247,13 +247,24 @@ fn a_map_tells_where_pages_were_moved(rt: HostRuntime) -> Result<(), Fail> {
         Step::HasNumbers(&[51, 50]),
         Step::Renames(b"ba", b"b", Ok(())),
         Step::ReadsMap(0, Ok(2), &[b'x', 0]),
-        // a check gives the map up, and a mount too; the bytes stay lent
-        Step::Starts(14),
+        // a check gives the map up; the bytes stay lent
+        Step::Checks,
         Step::HasNumbers(&[]),
         Step::ReadsMap(0, Err(MapErr::NoMap), &[7]),
-        Step::Detaches(Some(4)),
     ];
     follow(&rt, &mut volume, &steps);
+    let Some(numbers) = volume.detach_map() else {
+        return Err(Failed)?;
+    };
+    assert!(rt; volume.attach_map_of(1, 1, numbers).is_ok());
+    // and so does a mount
+    let mounts = [
+        Step::HasNumbers(&[50, NONE]),
+        Step::Starts(14),
+        Step::HasNumbers(&[]),
+        Step::Detaches(Some(4)),
+    ];
+    follow(&rt, &mut volume, &mounts);
     Ok(())
 }
 

@@ -15,6 +15,8 @@ use volume::{MapErr, Scrub, Space, Told, Volume};
 pub(crate) enum Step<'t> {
     /// It mounts, its check ends, and so many blocks are free.
     Starts(u32),
+    /// A check without a mount ends.
+    Checks,
     Creates(&'t [u8], Result<(), FsErr>),
     Opens(&'t [u8], u32, Result<u16, FsErr>),
     /// A read into bytes of 7, as many as stand here: these are there afterwards.
@@ -177,6 +179,7 @@ fn is_so_mapped(volume: &mut Volume<'_, MemBoard>, step: &Step<'_>) -> bool {
 fn is_so(volume: &mut Volume<'_, MemBoard>, step: &Step<'_>) -> bool {
     match *step {
         Step::Starts(free) => starts(volume, free),
+        Step::Checks => volume.check().is_ok(),
         Step::Creates(name, told) => volume.create(name) == told,
         Step::Opens(name, flags, told) => volume.open_file(name, flags) == told,
         Step::Removes(name, told) => volume.remove(name) == told,
