@@ -1,20 +1,17 @@
 -- The data pages that a map tells.
-use Rattle.std.proofs.Common.{◌≡◌, ℕ, ◌+◌, ◌-◌, ◌*◌, ◌/◌, ◌%◌, ◌<◌, ◌≤◌, Bool, true, false, if◌then◌else◌, List, length, take, slice_range, refl, sym, subst, ◌∙◌, ap, arith, ⊎_elim, [], ◌∷◌, ◌++◌, length-append, length-take, length-drop}
+use Rattle.std.proofs.Common.{◌≡◌, ℕ, ◌+◌, ◌-◌, ◌/◌, ◌%◌, ◌<◌, ◌≤◌, Bool, true, false, if◌then◌else◌, List, length, take, slice_range, refl, sym, subst, ◌∙◌, ap, arith, [], ◌∷◌, ◌++◌, length-append, length-take, length-drop}
 use Rattle.std.specs.Prelude.{Option, Some, None, min, unwrap_or, option_and_then}
 use Rattle.std.proofs.lemmas.Option.{none-some, same_Some}
-use Rattle.std.proofs.Math.Nat.{div-add-mod, mul_comm}
-use Rattle.std.proofs.lemmas.Nat.{le-div}
-use Rattle.std.proofs.lemmas.Bool.{cases_Bool}
 use Rattle.std.proofs.lemmas.List.{length-take-le, take-append-le, append_assoc}
 use Rattle.geometry.specs.declared.geometry.Geometry.{Geometry}
-use Rattle.geometry.specs.Numbers.{body, ceil, page_count}
+use Rattle.geometry.specs.Numbers.{body, page_count}
 use Rattle.table_model.specs.Table.{File}
 use Rattle.table_model.specs.Files.{bytes_at}
 use Rattle.table_model.specs.Room.{data_pages}
-use Rattle.image_model.specs.Places.{page_of, IsImage, is_entry_page}
-use Rattle.image_model.specs.Within.{page_number, sizes}
+use Rattle.image_model.specs.Places.{page_of, IsImage}
+use Rattle.image_model.specs.Within.{page_number}
 use Rattle.image_model.specs.Headers.{size_of}
-use Rattle.image_model.specs.Live.{Live, live_at, own, is_live}
+use Rattle.image_model.specs.Live.{Live, live_at, own}
 use Rattle.image_model.specs.Files.{entry_number, data_of, data_page}
 use Rattle.file_read.specs.Whole.{IsFileOf, IsRead, Reading}
 use Rattle.file_read.proofs.Names.{own_page}

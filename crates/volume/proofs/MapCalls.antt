@@ -173,7 +173,7 @@ module _ {N : Type 0} {nor : NorOf N} where
     same = same_none v;
     slots = refl;
     cuts = unchanged v.nor.now (λ before image. (m : Moment) → IsAt v.geometry before (memory v) m → IsSafe v.geometry before image × IsAmong (table_of v.geometry image) (from_settled m []))
-        (λ tells m here. (safe_as v.geometry (nor.bytes v.nor.now) (nor.bytes v.nor.now) (holds_itself v.geometry (nor.bytes v.nor.now)), settled_first (table_of v.geometry (nor.bytes v.nor.now)) m [] here.table));
+        (λ tells m here. (safe_as v.geometry (nor.bytes v.nor.now) (nor.bytes v.nor.now) (holds_itself v.geometry (nor.bytes v.nor.now)) here.tidy, settled_first (table_of v.geometry (nor.bytes v.nor.now)) m [] here.table));
     stands = λ m takes here. absurd (never (sym takes ∙ shut));
     still = λ takes none. absurd (never (sym takes ∙ shut));
     closed = λ e. (refl, refl);

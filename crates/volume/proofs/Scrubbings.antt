@@ -1,17 +1,17 @@
 -- A scrub on a volume: what waits is put onto the chip, and then one step is made where nothing waits.
-use Rattle.std.proofs.Common.{◌≡◌, ℕ, ◌⊎◌, ⊎_elim, inl, inr, List, [], Bool, true, false, ◌||◌, refl, sym, ◌∙◌, ap, subst, arith}
-use Rattle.std.specs.Prelude.{◌≢◌, None, Result, Ok, Err, OnOk, IfErr, MatchResult}
+use Rattle.std.proofs.Common.{◌≡◌, ℕ, ◌+◌, ◌≤◌, ◌⊎◌, ⊎_elim, inl, inr, List, [], length, Bool, true, false, ◌||◌, refl, sym, ◌∙◌, ap, subst, arith}
+use Rattle.std.specs.Prelude.{◌≢◌, None, Result, Ok, Err, OnOk, IfOk, IfErr, MatchResult}
 use Rattle.std.proofs.lemmas.Bool.{cases_Bool}
 use Rattle.geometry.specs.declared.geometry.Geometry.{Geometry}
 use Rattle.nor_core.specs.declared.state.NorState.{Ghosts as NorOf}
 use Rattle.nor_core.specs.Count.{Rose}
 use Rattle.nor_core.specs.Device.{Changes, OnlyReads}
-use Rattle.nor_core.proofs.Cuts.{wider, go_on, unchanged}
+use Rattle.nor_core.proofs.Cuts.{wider, go_on, unchanged, read_after, reads_then}
 use Rattle.table_model.specs.declared.error.FsErr.{FsErr}
 use Rattle.table_model.specs.declared.error.FsErr.TheVariants.{Failed as FsFailed, DeviceFault as FsFault, Damaged as FsDamaged}
 use Rattle.table_model.specs.declared.error.Differ.{Differ}
 use Rattle.table_model.specs.Table.{File}
-use Rattle.table_model.specs.Reply.{Refuses}
+use Rattle.table_model.specs.Reply.{Fine, Refuses}
 use Rattle.table_model.specs.Window.{Moment, settled_at, from_settled, IsAmong}
 use Rattle.image_model.specs.Places.{IsImage}
 use Rattle.image_model.specs.Tables.{table_of}
@@ -26,21 +26,24 @@ use Rattle.call_model.proofs.Safety.{holds_safe, holds_then, holds_itself, safe_
 use Rattle.call_model.proofs.After.{settled-among}
 use Rattle.wear_scrub.specs.declared.scrubs.Scrub.{Scrub}
 use Rattle.wear_scrub.specs.declared.scrubs.Scrub.TheVariants.{NoRoom, Rested, Moved}
-use Rattle.wear_scrub.specs.Scrubs.{ScrubCut, ScrubDone, scrubbing}
+use Rattle.wear_scrub.specs.Scrubs.{ScrubCut, ScrubDone, IsRest, most_programs, scrubbing}
 use Rattle.volume.specs.declared.stage.Stage.{Stage}
 use Rattle.volume.specs.declared.stage.Stage.TheVariants.{Checked}
 use Rattle.volume.specs.declared.volume.Volume.{Volume}
-use Rattle.volume.specs.Opening.{stage_after, is_failed}
+use Rattle.volume.specs.Opening.{stage_after, is_open, is_failed}
 use Rattle.volume.specs.Stages.{takes_calls, has_failed}
 use Rattle.volume.specs.Same.{IsSameVolume}
-use Rattle.volume.specs.Replies.{breaks, may_settle}
+use Rattle.volume.specs.Replies.{told, breaks, may_settle}
 use Rattle.volume.specs.Holds.{memory, Holds}
 use Rattle.volume.specs.Settles.{Settles}
 use Rattle.volume.specs.Unchanged.{Unchanged}
+use Rattle.ix_map.specs.Maps.{no_map}
+use Rattle.volume.specs.Mapping.{HasNoHeader, RefillsTo, KeepsMap}
 use Rattle.volume.specs.Scrubs.{ScrubbedFrom, ScrubsOn, ScrubsSettled, Scrubs, told_as}
 use Rattle.volume.proofs.Staying.{same_none, same_then}
 use Rattle.volume.proofs.Calling.{settled_first, open_is, open_whole, whole_still, none_is}
 use Rattle.volume.proofs.RunSettling.{settled_now}
+use Rattle.volume.proofs.KnownMaps.{never, refills, keeps_broken, keeps_refilled}
 
 -- ---- images
 
@@ -51,6 +54,11 @@ done_tidy g limit was now Rested tidy done = (subst (λ (l : List ℕ). IsTidy g
 done_tidy g limit was now (Moved block age) tidy done = (done.1.cleaned.cleaned.after, λ reserve. done.1.reserve)
 
 -- ---- answers
+
+-- what holds of a step that is done, by what else holds of it
+if_ok : {P Q : Scrub → Type 0} (r : Result Scrub StepErr) → ((scrub : Scrub) → P scrub → Q scrub) → IfOk r P → IfOk r Q
+if_ok (Ok scrub) by here = by scrub here
+if_ok (Err why) by here = tt
 
 -- each way in which a step fails breaks the call, and may come where bytes wait
 all_break : (why : StepErr) → breaks (Refuses (as_fs_err why)) ≡ true
@@ -81,14 +89,63 @@ stage_by false why new e = inr (e, refl)
 module _ {N : Type 0} {nor : NorOf N} where
   -- a step over a view, as one on its device
   pub scrubs_on : {limit : ℕ} {old new : View N nor} {result : Result Scrub StepErr} → (nor.tells old.nor.now → IsImage old.geometry (nor.bytes old.nor.now)) → Stepped stopped old new result (scrubbing limit) → old.wrote ≡ false →
+      IfOk result (λ scrub. IsRest scrub → OnlyReads nor old.nor.now new.nor.now) → (nor.tells old.nor.now → IsTidy old.geometry (nor.bytes old.nor.now) → IfOk result (λ scrub. nor.device_writes new.nor.now ≤ nor.device_writes old.nor.now + most_programs old.geometry (nor.bytes old.nor.now) scrub)) →
       ScrubsOn nor old.geometry limit old.nor.now new.nor.now new.wrote result
-  scrubs_on image step fresh = record {
+  scrubs_on image step fresh rest few = record {
     untouched = step.framed.untouched fresh;
     cause = step.cause;
     means = step.means;
     cuts = wider step.cuts (λ tells c cut tidy. cut (image tells, tidy));
     ends = λ tells tidy. step.ends tells (image tells, tidy);
+    rest = rest;
+    few = few;
   }
+
+  -- a step after which the device is only read
+  scrubs_looked : {g : Geometry} {limit : ℕ} {old mid new : N} {wrote : Bool} {result : Result Scrub StepErr} → ScrubsOn nor g limit old mid wrote result → OnlyReads nor mid new → ScrubsOn nor g limit old new wrote result
+  scrubs_looked {g} {limit} {old} {mid} {new} {wrote} {result} was reads = record {
+    untouched = λ idle. reads_then (was.untouched idle) reads;
+    cause = λ e. let rose = was.cause e in omega (arith, rose, reads.faults);
+    means = was.means;
+    cuts = read_after was.cuts reads;
+    ends = λ tells tidy. subst (λ (l : List ℕ). MatchResult result (ScrubDone g limit (nor.bytes old) l) (λ why. why ≡ DeviceFault)) (sym reads.bytes) (was.ends tells tidy);
+    rest = if_ok result (λ scrub by rests. reads_then (by rests) reads) was.rest;
+    few = λ tells tidy. if_ok result (λ scrub most. omega (arith, most, reads.writes)) (was.few tells tidy);
+  }
+
+  pub scrubs_read : {had : Bool} {limit : ℕ} {old mid new : Volume N nor} {result : Result Scrub FsErr} → ScrubsSettled had limit old mid result → OnlyReads nor mid.nor.now new.nor.now → new.slots.now ≡ mid.slots.now → (memory new).run ≡ (memory mid).run → new.stage ≡ mid.stage → ScrubsSettled had limit old new result
+  scrubs_read {had} {limit} {old} {mid} {new} {result} did reads slots run stage = record {
+    wrote = did.wrote;
+    first = did.first;
+    is = did.is;
+    scrubs = scrubs_looked did.scrubs reads;
+    asked = λ w. let rose = did.asked w in omega (arith, rose, reads.writes);
+    slots = slots ∙ did.slots;
+    run = run ∙ did.run;
+    stage = subst (λ (s : Stage). MatchResult did.first (λ scrub. s ≡ old.stage) (λ why. s ≡ stage_after (had || did.wrote) (Refuses (as_fs_err why)))) (sym stage) did.stage;
+  }
+
+  -- a step that leads to where no call is taken broke
+  scrub_broke : {had : Bool} {limit : ℕ} {old new : Volume N nor} {result : Result Scrub FsErr} → takes_calls old ≡ true → ScrubsSettled had limit old new result → takes_calls new ≡ false → breaks (told (λ scrub. Fine) result) ≡ true
+  scrub_broke {had} {limit} {old} {new} {result} takes did shut = ap (λ (r : Result Scrub FsErr). breaks (told (λ scrub. Fine) r)) did.is ∙ by did.first did.stage
+    where
+      by : (r : Result Scrub StepErr) → MatchResult r (λ scrub. new.stage ≡ old.stage) (λ why. new.stage ≡ stage_after (had || did.wrote) (Refuses (as_fs_err why))) → breaks (told (λ scrub. Fine) (told_as r)) ≡ true
+      by (Ok scrub) stage = absurd (never (sym takes ∙ sym (ap is_open stage) ∙ shut))
+      by (Err why) stage = all_break why
+
+  -- the map that such a step leaves, once it was read again
+  pub scrub_keeps : {had : Bool} {limit : ℕ} {old mid made new : Volume N nor} {result : Result Scrub FsErr} → takes_calls mid ≡ true → ScrubsSettled had limit mid made result → length mid.numbers.now ≡ length old.numbers.now → length made.numbers.now ≡ length mid.numbers.now → length new.numbers.now ≡ length made.numbers.now →
+      (mid.map ≡ old.map) ⊎ (mid.map ≡ no_map) → (made.map ≡ mid.map) ⊎ (made.map ≡ no_map) → nor.faults old.nor.now ≤ nor.faults made.nor.now → (made.map.used ≡ true → new ≡ made) → (old.map.used ≡ false → new ≡ made) →
+      (old.map.used ≡ true → new.map.used ≡ false → (takes_calls made ≡ false) ⊎ (Rose (nor.faults made.nor.now) (nor.faults new.nor.now) ⊎ HasNoHeader new old.map.id)) → (made.map.used ≡ false → new.map.used ≡ true → (new.map.id ≡ old.map.id) × (new.map.first ≡ old.map.first)) →
+      KeepsMap old new (breaks (told (λ scrub. Fine) result))
+  scrub_keeps {had} {limit} {old} {mid} {made} {new} {result} takes did room more rooms map known faults still none lost is =
+      let broke = breaks (told (λ scrub. Fine) result) in
+      let again : RefillsTo old.map made new broke = refills old.map false broke rooms refl (scrub_broke takes did) (omega arith) still none lost is in
+      let left : (made.map ≡ old.map) ⊎ (made.map ≡ no_map) = ⊎_elim
+          (λ (stood : made.map ≡ mid.map). ⊎_elim (λ (kept : mid.map ≡ old.map). inl (stood ∙ kept)) (λ (gone : mid.map ≡ no_map). inr (stood ∙ gone)) map)
+          (λ (gone : made.map ≡ no_map). inr gone)
+          known in
+      keeps_refilled broke (more ∙ room) left faults again
 
   -- ---- a volume that takes no calls
 
@@ -96,28 +153,31 @@ module _ {N : Type 0} {nor : NorOf N} where
   scrubs_closed limit v shut =
       let g = v.geometry in
       let a = nor.bytes v.nor.now in
-      let never : takes_calls v ≡ true → ⊥ = λ takes. let no : true ≡ false = sym takes ∙ shut in cc in
+      let closed : takes_calls v ≡ true → ⊥ = λ takes. never (sym takes ∙ shut) in
       record {
         same = same_none v;
         slots = refl;
         cuts = unchanged v.nor.now (λ was image. (m : Moment) → IsAt g was (memory v) m → IsSafe g was image × IsAmong (table_of g image) (from_settled m []))
             (λ tells m at. (safe_as g a a (holds_itself g a) at.tidy, settled_first (table_of g a) m [] at.table));
-        done = λ m takes. absurd (never takes);
+        done = λ m takes. absurd (closed takes);
         closed = λ e. (refl, refl);
-        among = λ takes. absurd (never takes);
+        among = λ takes. absurd (closed takes);
         cause = λ e. absurd (cc);
         differs = λ d e. absurd (cc);
         failed = λ e. absurd (let no : false ≡ true = e in cc);
-        asked = λ takes. absurd (never takes);
+        asked = λ takes. absurd (closed takes);
         stays = inl refl;
-        empty = λ takes. absurd (never takes);
-        goes_on = λ takes. absurd (never takes);
+        empty = λ takes. absurd (closed takes);
+        goes_on = λ takes. absurd (closed takes);
+        rest = λ takes. absurd (closed takes);
+        few = λ m takes. absurd (closed takes);
+        maps = λ m takes. absurd (closed takes);
       }
 
   -- ---- what waits could not be put onto the chip
 
-  pub scrubs_stopped : (limit : ℕ) {old new : Volume N nor} (why : FsErr) → takes_calls old ≡ true → Settles old new (Err why) → Scrubs limit old new (Err why)
-  scrubs_stopped limit {old} {new} why takes settles = record {
+  pub scrubs_stopped : (limit : ℕ) {old new : Volume N nor} (why : FsErr) → takes_calls old ≡ true → Settles old new (Err why) → length new.numbers.now ≡ length old.numbers.now → (new.map ≡ old.map) ⊎ (new.map ≡ no_map) → Scrubs limit old new (Err why)
+  scrubs_stopped limit {old} {new} why takes settles room map = record {
     same = settles.same;
     slots = settles.slots;
     cuts = settles.cuts;
@@ -131,6 +191,9 @@ module _ {N : Type 0} {nor : NorOf N} where
     stays = ⊎_elim (λ (stood : new.stage ≡ old.stage). inl stood) (λ (broke : (has_failed new ≡ true) × (breaks (Refuses why) ≡ true)). inr broke.0) settles.stops.stays;
     empty = λ takes_too. tt;
     goes_on = λ takes_too. tt;
+    rest = λ takes_too none. tt;
+    few = λ m takes_too none here. tt;
+    maps = λ m takes_too here. keeps_broken (breaks (Refuses why)) (ap (λ (w : FsErr). breaks (Refuses w)) (settles.stands m here)) room map;
   }
 
   -- ---- a step where nothing waits
@@ -162,7 +225,7 @@ module _ {N : Type 0} {nor : NorOf N} where
 
     -- ---- by how the step went
 
-    module _ (result : Result Scrub FsErr) (did : ScrubsSettled had limit mid new result) where
+    module _ (result : Result Scrub FsErr) (did : ScrubsSettled had limit mid new result) (keeps : KeepsMap old new (breaks (told (λ scrub. Fine) result))) where
       scrubs : ScrubsOn nor old.geometry limit mid.nor.now new.nor.now did.wrote did.first
       scrubs = subst (λ (g : Geometry). ScrubsOn nor g limit mid.nor.now new.nor.now did.wrote did.first) settles.same.geometry did.scrubs
 
@@ -233,6 +296,10 @@ module _ {N : Type 0} {nor : NorOf N} where
             stays = inl stage;
             empty = λ takes_too. did.run ∙ none;
             goes_on = λ takes_too. stage;
+            rest = λ takes_too idle. subst (λ (v : Volume N nor). IsRest scrub → OnlyReads nor v.nor.now new.nor.now) (settles.idle idle).1 (subst (λ (r : Result Scrub StepErr). IfOk r (λ s. IsRest s → OnlyReads nor mid.nor.now new.nor.now)) is scrubs.rest);
+            few = λ m takes_too idle here. subst (λ (v : Volume N nor). nor.device_writes new.nor.now ≤ nor.device_writes v.nor.now + most_programs old.geometry (nor.bytes v.nor.now) scrub) (settles.idle idle).1
+                (subst (λ (r : Result Scrub StepErr). IfOk r (λ s. nor.device_writes new.nor.now ≤ nor.device_writes mid.nor.now + most_programs old.geometry (nor.bytes mid.nor.now) s)) is (scrubs.few (stood m here).0.tells (tidy_mid m here)));
+            maps = λ m takes_too here. subst (λ (r : Result Scrub FsErr). KeepsMap old new (breaks (told (λ s. Fine) r))) (did.is ∙ ap told_as is) keeps;
           }
       by_result (Err why) is =
           let stage : new.stage ≡ stage_after (had || did.wrote) (Refuses (as_fs_err why)) =
@@ -263,6 +330,9 @@ module _ {N : Type 0} {nor : NorOf N} where
                 led;
             empty = λ takes_too. tt;
             goes_on = λ takes_too. tt;
+            rest = λ takes_too idle. tt;
+            few = λ m takes_too idle here. tt;
+            maps = λ m takes_too here. subst (λ (r : Result Scrub FsErr). KeepsMap old new (breaks (told (λ s. Fine) r))) (did.is ∙ ap told_as is) keeps;
           }
 
       pub scrubs_by : Scrubs limit old new result

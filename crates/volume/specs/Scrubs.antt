@@ -1,5 +1,5 @@
 -- What a scrub step does to a volume.
-use Rattle.std.specs.Prelude.{◌≡◌, ◌≢◌, ◌⊎◌, ℕ, ◌+◌, ◌≤◌, List, [], length, Bool, true, false, ◌||◌, Option, None, Result, Ok, Err, OnOk, IfOk, IfErr, IsErrOf, MatchResult}
+use Rattle.std.specs.Prelude.{◌≡◌, ◌≢◌, ◌⊎◌, ℕ, ◌+◌, ◌≤◌, List, [], Bool, true, false, ◌||◌, Option, None, Result, Ok, Err, OnOk, IfOk, IfErr, IsErrOf, MatchResult}
 use Rattle.geometry.specs.declared.geometry.Geometry.{Geometry}
 use Rattle.nor_core.specs.declared.state.NorState.{Ghosts as NorOf}
 use Rattle.nor_core.specs.Count.{Rose}
@@ -24,7 +24,7 @@ use Rattle.volume.specs.Stages.{takes_calls, has_failed}
 use Rattle.volume.specs.Same.{IsSameVolume}
 use Rattle.volume.specs.Replies.{told, breaks, may_settle}
 use Rattle.volume.specs.Holds.{memory, Holds}
-use Rattle.volume.specs.Mapping.{known_map, KeepsMap}
+use Rattle.volume.specs.Mapping.{KeepsMap}
 use Rattle.volume.specs.Unchanged.{Unchanged}
 
 -- One step was made from the image where all is settled: the first one, where nothing waited.
@@ -59,8 +59,6 @@ module _ {N : Type 0} {nor : NorOf N} where
     pub slots : new.slots.now ≡ old.slots.now
     pub run : (memory new).run ≡ (memory old).run
     pub stage : MatchResult first (λ scrub. new.stage ≡ old.stage) (λ why. new.stage ≡ stage_after (had || wrote) (Refuses (as_fs_err why)))
-    pub map : new.map ≡ known_map old.map wrote
-    pub room : length new.numbers.now ≡ length old.numbers.now
 
   -- What a scrub does to a volume: the bytes that wait are put onto the chip, and then one step is made.
   pub record Scrubs (limit : ℕ) (old new : Volume N nor) (result : Result Scrub FsErr) : Type 0 where

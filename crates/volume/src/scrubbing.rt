@@ -67,19 +67,22 @@ fn scrub_on<N: Nor>(
 }
 
 impl<'b, N: Nor> Volume<'b, N> {
-    ghost use Rattle.std.specs.Prelude.{◌≡◌, ◌≤◌, true, None};
+    ghost use Rattle.std.specs.Prelude.{◌≡◌, ◌⊎◌, ◌≤◌, length, true, None};
+    ghost use Rattle.ix_map.specs.Maps.{no_map};
     ghost use Rattle.volume.specs.Holds.{memory};
     ghost use Rattle.volume.specs.Stages.{takes_calls};
     ghost use Rattle.volume.specs.Same.{IsSameVolume};
     ghost use Rattle.volume.specs.Scrubs.{ScrubsSettled, Scrubs};
 
-    // Does a scrub step where nothing waits. `had` says whether anything waited when it began.
+    // Does a scrub step where nothing waits; a map is given up where that writes. `had` says whether anything waited when it began.
     fn scrub_settled(&mut self, had: bool, limit: u16) -> Result<Scrub, FsErr>
         requires takes { takes_calls self.old ≡ true }
         requires none { (memory self.old).run ≡ None }
         requires limit { (1 ≤ limit) × (limit ≤ 32767) }
         ensures same { IsSameVolume self.old self.new }
         ensures scrubs { ScrubsSettled had limit self.old self.new result }
+        ensures map { (self.new.map ≡ self.old.map) ⊎ (self.new.map ≡ no_map) }
+        ensures room { length self.new.numbers.now ≡ length self.old.numbers.now }
     {
         let g = self.geometry;
         let work = &mut *self.work;
@@ -104,7 +107,7 @@ impl<'b, N: Nor> Volume<'b, N> {
         }
     }
 
-    // Does a scrub on a volume that takes calls.
+    // Does a scrub on a volume that takes calls, and reads the map again that was given up.
     fn scrub_open(&mut self, limit: u16) -> Result<Scrub, FsErr>
         requires takes { takes_calls self.old ≡ true }
         requires limit { (1 ≤ limit) × (limit ≤ 32767) }
