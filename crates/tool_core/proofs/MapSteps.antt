@@ -1,6 +1,6 @@
 -- Steps on a volume at rest: a map is attached, garbage is collected, and the map is attached again where it was lost.
 use Rattle.std.proofs.Common.{◌≡◌, ℕ, ◌<◌, ◌⊎◌, List, [], length, Bool, true, false, refl, sym, ◌∙◌, ap, subst, arith, inl, inr, ⊎_elim, Option, Some, None, Result, Ok, Err}
-use Rattle.std.specs.Prelude.{nat_lt, is_some, if◌then◌else◌, MatchResult}
+use Rattle.std.specs.Prelude.{nat_lt, is_some, if◌then◌else◌, MatchResult, OnOk}
 use Rattle.std.proofs.lemmas.Bool.Decides.{nat_tests}
 use Rattle.std.proofs.lemmas.Result.{MatchResult-weaker}
 use Rattle.geometry.specs.declared.geometry.Geometry.{Geometry}
@@ -63,7 +63,7 @@ run_free g image m None waits none = refl
 run_free g image m (Some r) waits none = absurd (let bad = sym waits.0.window ∙ none in cc)
 
 module _ {N : Type 0} {nor : NorOf N} where
-  holds_first : {slots : ℕ} (v : Volume N nor) → IsAtRest slots v → Holds v (first_moment v.geometry slots (nor.bytes v.nor.now))
+  pub holds_first : {slots : ℕ} (v : Volume N nor) → IsAtRest slots v → Holds v (first_moment v.geometry slots (nor.bytes v.nor.now))
   holds_first {slots} v rest = stands_first v.geometry slots v.nor.now (memory v) rest.memory rest.tells rest.tidy
 
   -- one step after another
@@ -155,6 +155,15 @@ module _ {N : Type 0} {nor : NorOf N} where
             (why_missing refusal.why (has_id id m.state.table) id said);
       }
 
+  -- done, the volume takes calls as before
+  pub attaches_on : {old new : Volume N nor} {result : Result (Unit {0}) MapRefusal} (wanted : State → Result ℕ FsErr) (first lent : ℕ) (done : Unit {0}) → result ≡ Ok done → takes_calls old ≡ true → Attaches wanted first lent old new result → takes_calls new ≡ true
+  attaches_on {old} {new} wanted first lent done is takes attaches =
+      let a : Attaches wanted first lent old new (Ok done) = subst (λ (r : Result (Unit {0}) MapRefusal). Attaches wanted first lent old new r) is attaches in
+      ⊎_elim
+      (λ same. ap is_open same ∙ takes)
+      (λ broke. absurd (let no : false ≡ true = broke.2 in cc))
+      a.call.stays
+
   -- ---- garbage is collected
 
   gc_changes : {slots : ℕ} {old new : Volume N nor} {reply : Answer} → Calls Collects old new reply → Changes nor old.nor.now new.nor.now (λ was image. memory old ≡ closed_memory slots → IsTidy old.geometry was → LeavesFiles old.geometry was image)
@@ -232,16 +241,16 @@ module _ {N : Type 0} {nor : NorOf N} where
   collects_to slots (Err _) takes calls = failed_as _ _ takes calls (λ rest. absurd (no_refusal _ takes calls (λ e. cc) (λ e. cc) rest))
 
   -- it takes calls then
-  collect_goes : (result : Result (Unit {0}) FsErr) (b : Bool) → collected_as result ≡ Ok tt → breaks (told (λ done. Fine) result) ≡ false
-  collect_goes (Ok done) b is = refl
-  collect_goes (Err TooTight) b is = refl
-  collect_goes (Err _) b is = absurd (cc)
-
-  pub collects_on : {old new : Volume N nor} (result : Result (Unit {0}) FsErr) → takes_calls old ≡ true → Calls Collects old new (told (λ done. Fine) result) → (breaks (told (λ done. Fine) result) ≡ false) → takes_calls new ≡ true
-  collects_on result takes calls fine = ⊎_elim
+  goes_on : {old new : Volume N nor} {reply : Answer} → takes_calls old ≡ true → Calls Collects old new reply → breaks reply ≡ false → takes_calls new ≡ true
+  goes_on takes calls fine = ⊎_elim
       (λ same. ap is_open same ∙ takes)
       (λ broke. absurd (let no : true ≡ false = sym broke.2 ∙ fine in cc))
       calls.stays
+
+  pub collect_goes : {old new : Volume N nor} (result : Result (Unit {0}) FsErr) → takes_calls old ≡ true → Calls Collects old new (told (λ done. Fine) result) → OnOk (collected_as result) (takes_calls new ≡ true)
+  collect_goes (Ok done) takes calls = goes_on takes calls refl
+  collect_goes (Err TooTight) takes calls = goes_on takes calls refl
+  collect_goes (Err _) takes calls = tt
 
   -- ---- the map is attached again
 

@@ -31,29 +31,27 @@ module _ {D : Type 0} {nor : NorOf D} {g : Geometry} where
       let longest : List ℕ → ℕ = λ (l : List ℕ). length (moved_text g (nor.bytes old) l moved ++ closing_line_of (scrub_ending g (nor.bytes old) l)) in
       record { table = c.table; safe = c.safe; least = c.least; most = omega (arith, c.most, ap longest same); once_said = λ more. c.once_said more ∙ sym same }
 
-module _ {D : Type 0} {nor : NorOf D} {g : Geometry} {limit : ℕ} where
-  -- a cut in a scrub or in its closing line
-  scrub_cuts : {old mid new : D} (result : Ending) (status : ℕ) → (s : ScrubsTo nor g limit old mid result) → OnlyCloses nor mid new result status →
-      Leaves nor old new (λ image count. nor.tells old → ScrubCut nor g old mid (moved_text g (nor.bytes old) (nor.bytes mid) s.moved ++ closing_line_of (scrub_ending g (nor.bytes old) (nor.bytes mid))) image count)
-  scrub_cuts {old} {mid} {new} result status s closes =
-      let text = moved_text g (nor.bytes old) (nor.bytes mid) s.moved in
-      let ending = scrub_ending g (nor.bytes old) (nor.bytes mid) in
-      andthen
-      (widened s.cuts (λ image count here tells.
+module _ {D : Type 0} {nor : NorOf D} {g : Geometry} where
+  -- a cut in a command or in its closing line
+  pub closed_cuts : {old mid new : D} (text : List ℕ) (ending result : Ending) (status : ℕ) → Leaves nor old mid (λ image count. nor.tells old → ScrubCut nor g old mid text image count) → (nor.tells old → Speaks nor old mid text ending result) → (nor.tells old → table_of g (nor.bytes mid) ≡ table_of g (nor.bytes old)) →
+      (nor.tells old → IsSafe g (nor.bytes old) (nor.bytes mid)) → OnlyCloses nor mid new result status → Leaves nor old new (λ image count. nor.tells old → ScrubCut nor g old mid (text ++ closing_line_of ending) image count)
+  closed_cuts {old} {mid} {new} text ending result status cuts speaks table safe closes = andthen
+      (widened cuts (λ image count here tells.
       let i = here tells in
       let both = length-append text (closing_line_of ending) in
       record { table = i.table; safe = i.safe; least = i.least; most = omega (arith, i.most, both); once_said = i.once_said }))
       (widened closes.cuts (λ image count here tells.
-      let is : image ≡ nor.bytes mid = here.all_bytes (s.cuts.told tells) in
-      let bounds = within text ending result count (s.speaks tells) here.least here.most in
+      let is : image ≡ nor.bytes mid = here.all_bytes (cuts.told tells) in
+      let bounds = within text ending result count (speaks tells) here.least here.most in
       record {
-        table = ap (table_of g) is ∙ s.table tells;
-        safe = subst (λ (l : List ℕ). IsSafe g (nor.bytes old) l) (sym is) (s.safe tells);
+        table = ap (table_of g) is ∙ table tells;
+        safe = subst (λ (l : List ℕ). IsSafe g (nor.bytes old) l) (sym is) (safe tells);
         least = bounds.0;
         most = bounds.1;
         once_said = λ more. is;
       }))
 
+module _ {D : Type 0} {nor : NorOf D} {g : Geometry} {limit : ℕ} where
   -- a scrub with status 0 came to its end
   status_done : {old mid new : D} (result : Ending) (status : ℕ) → (s : ScrubsTo nor g limit old mid result) → OnlyCloses nor mid new result status → nor.tells old → status ≡ 0 → ScrubbedAfter g limit s.moved (nor.bytes old) (nor.bytes mid)
   status_done {old} {mid} result status s closes tells done =
@@ -77,7 +75,7 @@ module _ {D : Type 0} {nor : NorOf D} {g : Geometry} {limit : ℕ} where
             (s.holds tells);
         mends = λ tells may. mended_closed g result (s.mends tells may) closes;
         kept = λ tells ending refused. none_closed (s.kept tells ending refused) closes;
-        cuts = widened (scrub_cuts result status s closes) (λ image count here tells. cut_as s.moved closes.says.bytes (here tells));
+        cuts = widened (closed_cuts (moved_text g was (nor.bytes mid) s.moved) (scrub_ending g was (nor.bytes mid)) result status s.cuts s.speaks s.table s.safe closes) (λ image count here tells. cut_as s.moved closes.says.bytes (here tells));
         behind = behind_closed behind closes;
         reads = reads_said cache reads closes.says closes.cuts.faults;
       }
