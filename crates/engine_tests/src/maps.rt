@@ -260,7 +260,7 @@ fn a_map_tells_where_pages_were_moved(rt: HostRuntime) -> Result<(), Fail> {
     // and so does a mount
     let mounts = [
         Step::HasNumbers(&[50, NONE]),
-        Step::Starts(14),
+        Step::Mounts,
         Step::HasNumbers(&[]),
         Step::Detaches(Some(4)),
     ];

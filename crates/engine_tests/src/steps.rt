@@ -15,7 +15,8 @@ use volume::{MapErr, Scrub, Space, Told, Volume};
 pub(crate) enum Step<'t> {
     /// It mounts, its check ends, and so many blocks are free.
     Starts(u32),
-    /// A check without a mount ends.
+    /// A mount alone, and a check alone, ends.
+    Mounts,
     Checks,
     Creates(&'t [u8], Result<(), FsErr>),
     Opens(&'t [u8], u32, Result<u16, FsErr>),
@@ -179,6 +180,7 @@ fn is_so_mapped(volume: &mut Volume<'_, MemBoard>, step: &Step<'_>) -> bool {
 fn is_so(volume: &mut Volume<'_, MemBoard>, step: &Step<'_>) -> bool {
     match *step {
         Step::Starts(free) => starts(volume, free),
+        Step::Mounts => volume.mount().is_ok(),
         Step::Checks => volume.check().is_ok(),
         Step::Creates(name, told) => volume.create(name) == told,
         Step::Opens(name, flags, told) => volume.open_file(name, flags) == told,
