@@ -1,7 +1,6 @@
 -- The whole check, by what is told before its stages, what they leave, and the parting and the cleaning after them.
 use Rattle.std.proofs.Common.{◌≡◌, ℕ, ◌+◌, ◌<◌, ◌≤◌, inl, List, Bool, true, false, refl, sym, ◌∙◌, ap, subst, arith, ⊎_elim}
 use Rattle.std.specs.Prelude.{◌⊎◌, Option, Some, None, Result, Ok, Err, IfErr, IfSome, IsErrOf, OnOk, IfOk}
-use Rattle.std.proofs.lemmas.Bool.{cases_Bool}
 use Rattle.geometry.specs.declared.geometry.Geometry.{Geometry}
 use Rattle.geometry.specs.declared.error.GeoErr.{GeoErr}
 use Rattle.geometry.specs.Numbers.{usable, write_refusal}
@@ -25,7 +24,7 @@ use Rattle.flash_view.specs.declared.view.View.{View}
 use Rattle.flash_view.specs.Same.{IsSameView, OnlyLooks}
 use Rattle.flash_view.specs.Steps.{Stepped}
 use Rattle.vol_check.specs.declared.report.CheckErr.{CheckErr}
-use Rattle.vol_check.specs.declared.report.CheckErr.TheVariants.{Wrong, Mixed, DeviceFault}
+use Rattle.vol_check.specs.declared.report.CheckErr.TheVariants.{Wrong, DeviceFault}
 use Rattle.vol_check.specs.declared.report.Report.{Report}
 use Rattle.vol_check.specs.Checks.{IsWritable, IsRefusal, IsOfStages, CountsMixed, Checked}
 use Rattle.vol_check.specs.Works.{StageCut}

@@ -1,6 +1,6 @@
 -- A scrub on a volume: what waits is put onto the chip, and then one step is made where nothing waits.
 use Rattle.std.proofs.Common.{◌≡◌, ℕ, ◌+◌, ◌≤◌, ◌⊎◌, ⊎_elim, inl, inr, List, [], length, Bool, true, false, ◌||◌, refl, sym, ◌∙◌, ap, subst, arith}
-use Rattle.std.specs.Prelude.{◌≢◌, None, Result, Ok, Err, OnOk, IfOk, IfErr, MatchResult}
+use Rattle.std.specs.Prelude.{◌≢◌, None, Result, Ok, Err, IfOk, IfErr, MatchResult}
 use Rattle.std.proofs.lemmas.Bool.{cases_Bool}
 use Rattle.geometry.specs.declared.geometry.Geometry.{Geometry}
 use Rattle.nor_core.specs.declared.state.NorState.{Ghosts as NorOf}
@@ -41,9 +41,9 @@ use Rattle.ix_map.specs.Maps.{no_map}
 use Rattle.volume.specs.Mapping.{HasNoHeader, RefillsTo, KeepsMap}
 use Rattle.volume.specs.Scrubs.{ScrubbedFrom, ScrubsOn, ScrubsSettled, Scrubs, told_as}
 use Rattle.volume.proofs.Staying.{same_none, same_then}
-use Rattle.volume.proofs.Calling.{settled_first, open_is, open_whole, whole_still, none_is}
+use Rattle.volume.proofs.Calling.{settled_first, open_is, whole_still, none_is}
 use Rattle.volume.proofs.RunSettling.{settled_now}
-use Rattle.volume.proofs.KnownMaps.{never, refills, keeps_broken, keeps_refilled}
+use Rattle.volume.proofs.KnownMaps.{never, refills, shut_breaks, keeps_broken, keeps_refilled}
 
 -- ---- images
 
@@ -79,6 +79,11 @@ damage_is (Damaged f) d e means = let same : f ≡ d = cc in subst (λ (x : Diff
 
 same_err : (a b : FsErr) → ◌≡◌ {A = Result Scrub FsErr} (Err a) (Err b) → a ≡ b
 same_err a b e = cc
+
+-- a call that is done leads nowhere
+stage_whole : (asked : Bool) → stage_after asked Fine ≡ Checked
+stage_whole true = refl
+stage_whole false = refl
 
 -- where a failed call leads: nowhere, where it asked for no program and no erase
 stage_by : (asked : Bool) (why : StepErr) (new : Stage) → new ≡ stage_after asked (Refuses (as_fs_err why)) → (is_failed new ≡ true) × (asked ≡ true) ⊎ (new ≡ Checked) × (asked ≡ false)
@@ -122,29 +127,29 @@ module _ {N : Type 0} {nor : NorOf N} where
     asked = λ w. let rose = did.asked w in omega (arith, rose, reads.writes);
     slots = slots ∙ did.slots;
     run = run ∙ did.run;
-    stage = subst (λ (s : Stage). MatchResult did.first (λ scrub. s ≡ old.stage) (λ why. s ≡ stage_after (had || did.wrote) (Refuses (as_fs_err why)))) (sym stage) did.stage;
+    stage = stage ∙ did.stage;
   }
 
   -- a step that leads to where no call is taken broke
-  scrub_broke : {had : Bool} {limit : ℕ} {old new : Volume N nor} {result : Result Scrub FsErr} → takes_calls old ≡ true → ScrubsSettled had limit old new result → takes_calls new ≡ false → breaks (told (λ scrub. Fine) result) ≡ true
-  scrub_broke {had} {limit} {old} {new} {result} takes did shut = ap (λ (r : Result Scrub FsErr). breaks (told (λ scrub. Fine) r)) did.is ∙ by did.first did.stage
-    where
-      by : (r : Result Scrub StepErr) → MatchResult r (λ scrub. new.stage ≡ old.stage) (λ why. new.stage ≡ stage_after (had || did.wrote) (Refuses (as_fs_err why))) → breaks (told (λ scrub. Fine) (told_as r)) ≡ true
-      by (Ok scrub) stage = absurd (never (sym takes ∙ sym (ap is_open stage) ∙ shut))
-      by (Err why) stage = all_break why
+  scrub_broke : {had : Bool} {limit : ℕ} {old new : Volume N nor} {result : Result Scrub FsErr} → ScrubsSettled had limit old new result → takes_calls new ≡ false → breaks (told (λ scrub. Fine) result) ≡ true
+  scrub_broke {had} {limit} {old} {new} {result} did shut = shut_breaks (had || did.wrote) (told (λ scrub. Fine) result) (sym (ap is_open did.stage) ∙ shut)
+
+  -- faults are only counted
+  pub faults_then : {a b d : Volume N nor} → IsSameVolume a b → IsSameVolume b d → nor.faults a.nor.now ≤ nor.faults d.nor.now
+  faults_then first second = let low = first.faults in let high = second.faults in omega (arith, low, high)
 
   -- the map that such a step leaves, once it was read again
-  pub scrub_keeps : {had : Bool} {limit : ℕ} {old mid made new : Volume N nor} {result : Result Scrub FsErr} → takes_calls mid ≡ true → ScrubsSettled had limit mid made result → length mid.numbers.now ≡ length old.numbers.now → length made.numbers.now ≡ length mid.numbers.now → length new.numbers.now ≡ length made.numbers.now →
+  pub scrub_keeps : {had : Bool} {limit : ℕ} {old mid made new : Volume N nor} {result : Result Scrub FsErr} → ScrubsSettled had limit mid made result → length mid.numbers.now ≡ length old.numbers.now → length made.numbers.now ≡ length mid.numbers.now → length new.numbers.now ≡ length made.numbers.now →
       (mid.map ≡ old.map) ⊎ (mid.map ≡ no_map) → (made.map ≡ mid.map) ⊎ (made.map ≡ no_map) → nor.faults old.nor.now ≤ nor.faults made.nor.now → (made.map.used ≡ true → new ≡ made) → (old.map.used ≡ false → new ≡ made) →
       (old.map.used ≡ true → new.map.used ≡ false → (takes_calls made ≡ false) ⊎ (Rose (nor.faults made.nor.now) (nor.faults new.nor.now) ⊎ HasNoHeader new old.map.id)) → (made.map.used ≡ false → new.map.used ≡ true → (new.map.id ≡ old.map.id) × (new.map.first ≡ old.map.first)) →
       KeepsMap old new (breaks (told (λ scrub. Fine) result))
-  scrub_keeps {had} {limit} {old} {mid} {made} {new} {result} takes did room more rooms map known faults still none lost is =
+  scrub_keeps {had} {limit} {old} {mid} {made} {new} {result} did room more rooms map known faults still none lost is =
       let broke = breaks (told (λ scrub. Fine) result) in
-      let again : RefillsTo old.map made new broke = refills old.map false broke rooms refl (scrub_broke takes did) (omega arith) still none lost is in
+      let again : RefillsTo old.map made new broke = refills old.map false broke rooms refl (scrub_broke did) (omega arith) still none lost is in
       let left : (made.map ≡ old.map) ⊎ (made.map ≡ no_map) = ⊎_elim
-          (λ (stood : made.map ≡ mid.map). ⊎_elim (λ (kept : mid.map ≡ old.map). inl (stood ∙ kept)) (λ (gone : mid.map ≡ no_map). inr (stood ∙ gone)) map)
-          (λ (gone : made.map ≡ no_map). inr gone)
-          known in
+      (λ (stood : made.map ≡ mid.map). ⊎_elim (λ (kept : mid.map ≡ old.map). inl (stood ∙ kept)) (λ (gone : mid.map ≡ no_map). inr (stood ∙ gone)) map)
+      (λ (gone : made.map ≡ no_map). inr gone)
+      known in
       keeps_refilled broke (more ∙ room) left faults again
 
   -- ---- a volume that takes no calls
@@ -278,10 +283,12 @@ module _ {N : Type 0} {nor : NorOf N} where
           (λ (h : (had ≡ false) × (did.wrote ≡ true)). inl (subst (λ (v : Volume N nor). Rose (nor.device_writes v.nor.now) (nor.device_writes new.nor.now)) (settles.idle (had_none h.0)).1 (did.asked h.1)))
           (either some)
 
+      stage_is : new.stage ≡ stage_after (had || did.wrote) (told (λ s. Fine) (told_as did.first))
+      stage_is = did.stage ∙ ap (λ (r : Result Scrub FsErr). stage_after (had || did.wrote) (told (λ s. Fine) r)) did.is
+
       by_result : (r : Result Scrub StepErr) → did.first ≡ r → Scrubs limit old new (told_as r)
       by_result (Ok scrub) is =
-          let stage : new.stage ≡ old.stage =
-          (subst (λ (r : Result Scrub StepErr). MatchResult r (λ s. new.stage ≡ mid.stage) (λ why. new.stage ≡ stage_after (had || did.wrote) (Refuses (as_fs_err why)))) is did.stage) ∙ settles.done.0 in
+          let stage : new.stage ≡ old.stage = stage_is ∙ ap (λ (r : Result Scrub StepErr). stage_after (had || did.wrote) (told (λ s. Fine) (told_as r))) is ∙ stage_whole (had || did.wrote) ∙ sym (open_is old.stage takes) in
           record {
             same = same_then settles.same same;
             slots = did.slots ∙ settles.slots;
@@ -302,8 +309,7 @@ module _ {N : Type 0} {nor : NorOf N} where
             maps = λ m takes_too here. subst (λ (r : Result Scrub FsErr). KeepsMap old new (breaks (told (λ s. Fine) r))) (did.is ∙ ap told_as is) keeps;
           }
       by_result (Err why) is =
-          let stage : new.stage ≡ stage_after (had || did.wrote) (Refuses (as_fs_err why)) =
-          subst (λ (r : Result Scrub StepErr). MatchResult r (λ s. new.stage ≡ mid.stage) (λ w. new.stage ≡ stage_after (had || did.wrote) (Refuses (as_fs_err w)))) is did.stage in
+          let stage : new.stage ≡ stage_after (had || did.wrote) (Refuses (as_fs_err why)) = stage_is ∙ ap (λ (r : Result Scrub StepErr). stage_after (had || did.wrote) (told (λ s. Fine) (told_as r))) is in
           let led = stage_by (had || did.wrote) why new.stage stage in
           record {
             same = same_then settles.same same;

@@ -1,5 +1,5 @@
 -- What a scrub step does to a volume.
-use Rattle.std.specs.Prelude.{◌≡◌, ◌≢◌, ◌⊎◌, ℕ, ◌+◌, ◌≤◌, List, [], Bool, true, false, ◌||◌, Option, None, Result, Ok, Err, OnOk, IfOk, IfErr, IsErrOf, MatchResult}
+use Rattle.std.specs.Prelude.{◌≡◌, ◌≢◌, ◌⊎◌, ℕ, ◌+◌, ◌≤◌, List, [], Bool, true, false, ◌||◌, None, Result, Ok, Err, OnOk, IfOk, IfErr, IsErrOf, MatchResult}
 use Rattle.geometry.specs.declared.geometry.Geometry.{Geometry}
 use Rattle.nor_core.specs.declared.state.NorState.{Ghosts as NorOf}
 use Rattle.nor_core.specs.Count.{Rose}
@@ -58,7 +58,7 @@ module _ {N : Type 0} {nor : NorOf N} where
     pub asked : wrote ≡ true → Rose (nor.device_writes old.nor.now) (nor.device_writes new.nor.now)
     pub slots : new.slots.now ≡ old.slots.now
     pub run : (memory new).run ≡ (memory old).run
-    pub stage : MatchResult first (λ scrub. new.stage ≡ old.stage) (λ why. new.stage ≡ stage_after (had || wrote) (Refuses (as_fs_err why)))
+    pub stage : new.stage ≡ stage_after (had || wrote) (told (λ scrub. Fine) result)
 
   -- What a scrub does to a volume: the bytes that wait are put onto the chip, and then one step is made.
   pub record Scrubs (limit : ℕ) (old new : Volume N nor) (result : Result Scrub FsErr) : Type 0 where

@@ -5,7 +5,10 @@ ghost use Rattle.nor_core.specs.Count.{Rose};
 ghost use Rattle.page_cache.specs.Kept.{IsKept, FewReads};
 ghost use Rattle.flash_view.specs.Same.{StaysBehind};
 ghost use Rattle.flash_view.specs.Table.{HasTable};
-ghost use Rattle.volume.specs.Scrubs.{ScrubsOn};
+ghost use Rattle.table_model.specs.Reply.{Fine};
+ghost use Rattle.volume.specs.Opening.{stage_after};
+ghost use Rattle.volume.specs.Replies.{told};
+ghost use Rattle.volume.specs.Scrubs.{ScrubsOn, told_as};
 
 use crate::Volume;
 use crate::mapping::known;
@@ -66,6 +69,26 @@ fn scrub_on<N: Nor>(
     }
 }
 
+// How a scrub is answered whose step went so.
+fn answer_of(step: Result<Scrub, StepErr>) -> Result<Scrub, FsErr>
+    ensures { result ≡ told_as step }
+{
+    match step {
+        Ok(scrub) => Ok(scrub),
+        Err(why) => Err(FsErr::from(why)),
+    }
+}
+
+// Where a scrub leads that a checked volume did. `wrote` says whether a program or an erase was asked for.
+fn stage_of(answer: &Result<Scrub, FsErr>, wrote: bool) -> Stage
+    ensures { result ≡ stage_after wrote (told (λ scrub. Fine) answer.now) }
+{
+    match answer {
+        Ok(_) => Stage::Checked,
+        Err(why) => stage_at(why, wrote),
+    }
+}
+
 impl<'b, N: Nor> Volume<'b, N> {
     ghost use Rattle.std.specs.Prelude.{◌≡◌, ◌⊎◌, ◌≤◌, length, true, None};
     ghost use Rattle.ix_map.specs.Maps.{no_map};
@@ -96,15 +119,10 @@ impl<'b, N: Nor> Volume<'b, N> {
             &mut self.counted,
             limit,
         );
+        let result = answer_of(result);
+        self.stage = stage_of(&result, had || wrote);
         self.map = known(self.map, wrote);
-        match result {
-            Ok(scrub) => Ok(scrub),
-            Err(why) => {
-                let why = FsErr::from(why);
-                self.stage = stage_at(&why, had || wrote);
-                Err(why)
-            }
-        }
+        result
     }
 
     // Does a scrub on a volume that takes calls, and reads the map again that was given up.

@@ -1,8 +1,10 @@
-use Rattle.std.proofs.Common.{◌≡◌, refl, sym, ◌∙◌, ap, Bool, true, ◌||◌, rules, arith}
+use Rattle.std.proofs.Common.{◌≡◌, refl, sym, ◌∙◌, ap, Bool, true, false, ◌||◌, rules, arith}
 use Rattle.file_calls.specs.Replies.{shown_by}
-use Rattle.volume.specs.Opening.{is_open, stage_after}
+use Rattle.volume.specs.Opening.{is_open, is_mounted, stage_after}
 use Rattle.volume.specs.Replies.{breaks}
-use Rattle.volume.proofs.KnownMaps.{refills, shut_breaks}
+use Rattle.volume.proofs.KnownMaps.{known_stays, refills, shut_breaks}
+use Rattle.volume.proofs.Calling.{not_mounted}
+use Rattle.volume.proofs.Rows.{rows_joined}
 use Rattle.volume.proofs.Staying.{same_then}
 use Rattle.volume.proofs.LookedAfter.{acts_on}
 use Rattle.volume.proofs.volume.Volume.do_settled.Goals.{then-had, else-had}
@@ -49,3 +51,18 @@ returns-clause-map g c =
       | else-had w ↦ let both : asked ≡ c.call_on-told.result.wrote = rw w.if-had.false refl in w.stage_after-is ∙ sym both
     ]) in
     refills c.args.was c.call_on-told.result.wrote (breaks reply) after.room c.known-self.ensures (λ shut. shut_breaks asked reply (sym (ap is_open stage) ∙ shut)) did.faults after.still after.none after.lost after.is
+
+pub invariant_of-self-clause-unit : goal.invariant_of-self-clause-unit
+invariant_of-self-clause-unit g c = let w = c.call_on-told.ensures.acts.does.cuts.cuts in search (rules, w.unit)
+
+pub invariant_of-self-clause-fits : goal.invariant_of-self-clause-fits
+invariant_of-self-clause-fits g c = let w = c.call_on-told.ensures.acts.does.cuts.cuts in search (rules, w.size)
+
+pub invariant_of-self-clause-magics : goal.invariant_of-self-clause-magics
+invariant_of-self-clause-magics g c = λ mounted. absurd (let no : true ≡ false = sym mounted ∙ ap is_mounted (c.stage_after-self.ensures c.call_on-told.new.into) ∙ not_mounted _ _ in cc)
+
+pub invariant_of-self-clause-table : goal.invariant_of-self-clause-table
+invariant_of-self-clause-table g c = λ on. rows_joined _ _ _ _ (c.call_on-told.auto.work ∙ c.split_at_mut-work.ensures.front_len ∙ c.scratch_need.ensures.need) (c.call_on-told.ensures.table on)
+
+pub invariant_of-self-clause-mapped : goal.invariant_of-self-clause-mapped
+invariant_of-self-clause-mapped g c = known_stays c.args.self.now.map c.known-self.result c.call_on-told.result.wrote c.args.self.now.mapped c.call_on-told.ensures.acts.does.untouched c.known-self.ensures
