@@ -192,9 +192,9 @@ pub fn give(
     let is_run = command.starts_with("run ");
     tell_said(&bench, is_run, script, text_of(&ran)?, out)?;
     manner.tell_counts(&bench, command, &chip.image, text, out)?;
-    let keeps_files = ["check ", "scrub ", "map "]
-        .iter()
-        .any(|verb| command.starts_with(verb));
+    let keeps_files = command.starts_with("check ")
+        || command.starts_with("scrub ")
+        || command.starts_with("map ");
     tell_status(chip, &ran, keeps_files, out)?;
     chip.image = ran.image;
     Ok(())

@@ -36,21 +36,26 @@ use Rattle.tool_core.proofs.Refusals.{not_both, refusal_is}
 use Rattle.tool_core.proofs.ScrubEnds.{said_nothing, none_said_of, check_files, after_check, silent_cuts}
 use Rattle.tool_core.proofs.Speaking.{writes_none}
 
+-- a file that isn't there has no lines
+no_lines : (g : Geometry) (image files : List ℕ) (id : ℕ) → has_id id (table_of g files) ≡ false → span_lines g image id (spans_told g (file_of id (table_of g files))) ≡ []
+unfolding span_lines
+no_lines g image files id none = ap (λ (o : Option File). span_lines g image id (spans_told g o)) (file_missing id (table_of g files) none)
+
+-- how a map ends on a checked volume isn't for want of free blocks
+not_tight : (id : ℕ) (file : Option File) → status_of (file_ending id file) ≡ 14 → ⊥
+not_tight id None is = omega (arith, is)
+not_tight id (Some f) is = omega (arith, is)
+
 -- ---- on a checked volume
 
 module _ {N : Type 0} {nor : NorOf N} where
   -- the files at a cut, where the image was tidy
-  files_at : {slots : ℕ} {old new : Volume N nor} → memory old ≡ closed_memory slots → (nor.tells old.nor.now → IsTidy old.geometry (nor.bytes old.nor.now)) → Changes nor old.nor.now new.nor.now (λ was image. memory old ≡ closed_memory slots → IsTidy old.geometry was → LeavesFiles old.geometry was image) →
+  files_at : (slots : ℕ) (old new : Volume N nor) → memory old ≡ closed_memory slots → (nor.tells old.nor.now → IsTidy old.geometry (nor.bytes old.nor.now)) → Changes nor old.nor.now new.nor.now (λ was image. memory old ≡ closed_memory slots → IsTidy old.geometry was → LeavesFiles old.geometry was image) →
       Changes nor old.nor.now new.nor.now (LeavesFiles old.geometry)
-  files_at closed tidy changes = wider changes (λ tells image here. here closed (tidy tells))
+  files_at slots old new closed tidy changes = wider changes (λ tells image here. here closed (tidy tells))
 
-  at_rest : {slots : ℕ} {old : Volume N nor} → memory old ≡ closed_memory slots → (nor.tells old.nor.now → IsTidy old.geometry (nor.bytes old.nor.now)) → nor.tells old.nor.now → IsAtRest slots old
-  at_rest closed tidy tells = record { tells = tells; tidy = tidy tells; memory = closed }
-
-  -- the lines and the end of a file that isn't there
-  no_lines : (g : Geometry) (image files : List ℕ) (id : ℕ) → has_id id (table_of g files) ≡ false → span_lines g image id (spans_told g (file_of id (table_of g files))) ≡ []
-  unfolding span_lines
-  no_lines g image files id none = ap (λ (o : Option File). span_lines g image id (spans_told g o)) (file_missing id (table_of g files) none)
+  at_rest : (slots : ℕ) (old : Volume N nor) → memory old ≡ closed_memory slots → (nor.tells old.nor.now → IsTidy old.geometry (nor.bytes old.nor.now)) → nor.tells old.nor.now → IsAtRest slots old
+  at_rest slots old closed tidy tells = record { tells = tells; tidy = tidy tells; memory = closed }
 
   -- nothing was said: the board failed, or there is no such id
   pub ends_stopped : {old new : Volume N nor} (slots id : ℕ) (ending : Ending) {Is : Type 0} {Why : Ending → Type 0} → memory old ≡ closed_memory slots → (nor.tells old.nor.now → IsTidy old.geometry (nor.bytes old.nor.now)) → Steps slots old new (Err ending) Is Why →
@@ -61,10 +66,10 @@ module _ {N : Type 0} {nor : NorOf N} where
       let now = nor.bytes new.nor.now in
       let file = file_of id (table_of g was) in
       let text = span_lines g now id (spans_told g file) in
-      let why = λ (tells : nor.tells old.nor.now). let rest = at_rest {slots} {old} closed tidy tells in means rest (steps.done rest) in
+      let why = λ (tells : nor.tells old.nor.now). let rest = at_rest slots old closed tidy tells in means rest (steps.done rest) in
       record {
         mid = new.nor.now;
-        changes = files_at {slots} {old} {new} closed tidy steps.changes;
+        changes = files_at slots old new closed tidy steps.changes;
         says = says_none text (reads_none new.nor.now);
         speaks = λ tells. ⊎_elim
             (λ fault. inl (fault, record { part = []; rest = text; said = sym (append-nil (nor.said new.nor.now)); whole_is = refl }))
@@ -138,25 +143,25 @@ module _ {N : Type 0} {nor : NorOf N} where
       subst (λ (n : ℕ). TellsPages id n mid) (ap (λ (k : Geometry). spans_told k (Some f.0)) same ∙ ap (spans_told old.geometry) (sym f.1)) (tells_pages f.0 mapped.map right)
 
   -- the lines were said, or a front of them
-  pub ends_said : {old mid new : Volume N nor} (slots id : ℕ) (result : Result (Unit {0}) Failed) (ending : Ending) → memory old ≡ closed_memory slots → (nor.tells old.nor.now → IsTidy old.geometry (nor.bytes old.nor.now)) → mid.geometry ≡ old.geometry →
+  pub ends_said : {old mid : Volume N nor} {last : N} (slots id : ℕ) (result : Result (Unit {0}) Failed) (ending : Ending) → memory old ≡ closed_memory slots → (nor.tells old.nor.now → IsTidy old.geometry (nor.bytes old.nor.now)) → mid.geometry ≡ old.geometry →
       Changes nor old.nor.now mid.nor.now (λ was image. memory old ≡ closed_memory slots → IsTidy old.geometry was → LeavesFiles old.geometry was image) × (IsAtRest slots old → IsMapped slots id old mid) →
-      SaysSpans nor mid.geometry id (spans_told old.geometry (file_of id (table_of old.geometry (nor.bytes old.nor.now)))) mid.nor.now new.nor.now result →
-      ((ending ≡ BoardFault) × (nor.tells mid.nor.now → SaysFront nor mid.nor.now new.nor.now (span_lines mid.geometry (nor.bytes mid.nor.now) id (spans_told old.geometry (file_of id (table_of old.geometry (nor.bytes old.nor.now)))))))
-      ⊎ ((ending ≡ Done) × (nor.tells mid.nor.now → nor.said new.nor.now ≡ nor.said mid.nor.now ++ span_lines mid.geometry (nor.bytes mid.nor.now) id (spans_told old.geometry (file_of id (table_of old.geometry (nor.bytes old.nor.now)))))) →
-      MapEnds nor old.geometry id old.nor.now new.nor.now ending
-  ends_said {old} {mid} {new} slots id result ending closed tidy same steps says ends =
+      SaysSpans nor mid.geometry id (spans_told old.geometry (file_of id (table_of old.geometry (nor.bytes old.nor.now)))) mid.nor.now last result →
+      ((ending ≡ BoardFault) × (nor.tells mid.nor.now → SaysFront nor mid.nor.now last (span_lines mid.geometry (nor.bytes mid.nor.now) id (spans_told old.geometry (file_of id (table_of old.geometry (nor.bytes old.nor.now)))))))
+      ⊎ ((ending ≡ Done) × (nor.tells mid.nor.now → nor.said last ≡ nor.said mid.nor.now ++ span_lines mid.geometry (nor.bytes mid.nor.now) id (spans_told old.geometry (file_of id (table_of old.geometry (nor.bytes old.nor.now)))))) →
+      MapEnds nor old.geometry id old.nor.now last ending
+  ends_said {old} {mid} {last} slots id result ending closed tidy same steps says ends =
       let g = old.geometry in
       let was = nor.bytes old.nor.now in
       let count = spans_told g (file_of id (table_of g was)) in
       let text : span_lines mid.geometry (nor.bytes mid.nor.now) id count ≡ span_lines g (nor.bytes mid.nor.now) id count = ap (λ (k : Geometry). span_lines k (nor.bytes mid.nor.now) id count) same in
-      let mapped = λ (tells : nor.tells old.nor.now). steps.1 (at_rest {slots} {old} closed tidy tells) in
-      let files : Changes nor old.nor.now mid.nor.now (LeavesFiles g) = files_at {slots} {old} {mid} closed tidy steps.0 in
+      let mapped = λ (tells : nor.tells old.nor.now). steps.1 (at_rest slots old closed tidy tells) in
+      let files : Changes nor old.nor.now mid.nor.now (LeavesFiles g) = files_at slots old mid closed tidy steps.0 in
       record {
         mid = mid.nor.now;
         changes = files;
-        says = subst (λ (l : List ℕ). OnlySays nor mid.nor.now new.nor.now l) text says.says;
+        says = subst (λ (l : List ℕ). OnlySays nor mid.nor.now last l) text says.says;
         speaks = λ tells. ⊎_elim
-            (λ broken. inl (broken.0, subst (λ (l : List ℕ). SaysFront nor mid.nor.now new.nor.now l) text (broken.1 (files.cuts.told tells))))
+            (λ broken. inl (broken.0, subst (λ (l : List ℕ). SaysFront nor mid.nor.now last l) text (broken.1 (files.cuts.told tells))))
             (λ said.
             let f = file_there id (table_of g was) (mapped tells).there in
             inr (said.0 ∙ sym (ap (file_ending id) f.1), said.1 (files.cuts.told tells) ∙ ap (λ (l : List ℕ). nor.said mid.nor.now ++ l) text))
@@ -196,11 +201,6 @@ module _ {D : Type 0} {nor : NorOf D} {g : Geometry} where
         mends = λ tells may. ⊎_elim (λ fault. inl fault.fault) (λ refused. absurd (not_both may.takes refused.refusal)) (stops tells);
         kept = λ tells why is. ⊎_elim (λ fault. writes_none (fault.looks why is)) (λ refused. writes_none refused.reads) (stops tells);
       }
-
-  -- how a map ends on a checked volume isn't for want of free blocks
-  not_tight : (id : ℕ) (file : Option File) → status_of (file_ending id file) ≡ 14 → ⊥
-  not_tight id None is = omega (arith, is)
-  not_tight id (Some f) is = omega (arith, is)
 
   pub maps_checked : {id : ℕ} {old mid new : D} (report : Report) (result : Ending) (h : Geometry) → h ≡ g → Changes nor old mid (Checks g) → (nor.tells old → Reported g (nor.bytes old) (nor.bytes mid) report) → (nor.tells old → IsTidy g (nor.bytes old) → HasReserve g (nor.bytes old) → OnlyReads nor old mid) →
       MapEnds nor h id mid new result → MapsTo nor g id old new result

@@ -29,6 +29,10 @@ same_page o a b e f = cc
 no_page : (o : Option ℕ) (a : ℕ) → o ≡ Some a → o ≡ None → ⊥
 no_page o a e f = cc
 
+module _ {N : Type 0} {nor : NorOf N} where
+  silent : (v : Volume N nor) (id count span : ℕ) → nat_lt span count ≡ false → next_line v id count span ≡ []
+  silent v id count span last = ap (λ (b : Bool). if b then span_line v.geometry (nor.bytes v.nor.now) id span else []) last
+
 module _ {N : Type 0} {nor : NorOf N} {id count : ℕ} where
   -- the map tells something of each span up to the end
   tells_some : (v : Volume N nor) (span : ℕ) → TellsPages id count v → span ≤ count → span < 4096 → page_told v span ≡ None → ⊥
@@ -63,14 +67,11 @@ module _ {N : Type 0} {nor : NorOf N} {id count : ℕ} where
       absurd (apart (same_page (page_told v span) page 0xFFFF told (subst (λ (n : ℕ). page_told v n ≡ Some 0xFFFF) same (pages.ends (omega (arith, low, same)))))))
       (cases_lt span count)
 
-  silent : (v : Volume N nor) (span : ℕ) → nat_lt span count ≡ false → next_line v id count span ≡ []
-  silent v span last = ap (λ (b : Bool). if b then span_line v.geometry (nor.bytes v.nor.now) id span else []) last
-
   -- where there is no line nothing is said
   pub says_no_span : (v : Volume N nor) (span : ℕ) → (nor.tells v.nor.now → TellsPages id count v) → (nor.tells v.nor.now → nat_lt span count ≡ false) → SaysSpan id count span v v (Ok false)
   says_no_span v span pages last = record {
     says = says_none (next_line v id count span) (reads_none v.nor.now);
-    whole = λ tells. sym (append-nil (nor.said v.nor.now)) ∙ ap (λ (l : List ℕ). nor.said v.nor.now ++ l) (sym (silent v span (last tells)));
+    whole = λ tells. sym (append-nil (nor.said v.nor.now)) ∙ ap (λ (l : List ℕ). nor.said v.nor.now ++ l) (sym (silent v id count span (last tells)));
     front = λ tells. tt;
     more = λ tells. sym (last tells);
     pages = pages;
@@ -156,14 +157,26 @@ lines_ahead g image id span count within = ⊎_elim
     ∙ sym (ap (λ (t : Bool). span_lines g image id span ++ ((if t then span_line g image id span else []) ++ [])) (is_end span count last))))
     (cases_lt span count)
 
-module _ {N : Type 0} {nor : NorOf N} {id count : ℕ} where
+more_than : (span count : ℕ) → true ≡ nat_lt span count → span < count
+more_than span count more = grind (arith, nat_tests)
+
+no_more : (span count : ℕ) → span ≤ count → false ≡ nat_lt span count → count ≡ span
+no_more span count within last = grind (arith, nat_tests)
+
+module _ {N : Type 0} {nor : NorOf N} where
   -- the lines of so many spans were said
-  pub record SpansSaid (span : ℕ) (old new : Volume N nor) : Type 0 where
+  pub record SpansSaid (id count span : ℕ) (old new : Volume N nor) : Type 0 where
     pub says : OnlySays nor old.nor.now new.nor.now (span_lines old.geometry (nor.bytes old.nor.now) id count)
     pub said : nor.tells old.nor.now → nor.said new.nor.now ≡ nor.said old.nor.now ++ span_lines old.geometry (nor.bytes old.nor.now) id span
     pub pages : nor.tells old.nor.now → TellsPages id count new × (span ≤ count)
 
-  pub spans_none : (v : Volume N nor) → (nor.tells v.nor.now → TellsPages id count v) → SpansSaid 0 v v
+  -- the next line is that of the first image
+  line_same : (old mid : Volume N nor) (id count span : ℕ) → mid.geometry ≡ old.geometry → nor.bytes mid.nor.now ≡ nor.bytes old.nor.now → next_line mid id count span ≡ (if nat_lt span count then span_line old.geometry (nor.bytes old.nor.now) id span else [])
+  line_same old mid id count span same bytes =
+      ap (λ (g : Geometry). if nat_lt span count then span_line g (nor.bytes mid.nor.now) id span else []) same ∙ ap (λ (l : List ℕ). if nat_lt span count then span_line old.geometry l id span else []) bytes
+
+module _ {N : Type 0} {nor : NorOf N} {id count : ℕ} where
+  pub spans_none : (v : Volume N nor) → (nor.tells v.nor.now → TellsPages id count v) → SpansSaid id count 0 v v
   spans_none v pages = record {
     says = says_none _ (reads_none v.nor.now);
     said = λ tells. sym (append-nil (nor.said v.nor.now)) ∙ ap (λ (l : List ℕ). nor.said v.nor.now ++ l) (sym (first_lines v.geometry (nor.bytes v.nor.now) id));
@@ -171,15 +184,10 @@ module _ {N : Type 0} {nor : NorOf N} {id count : ℕ} where
   }
 
   -- what the map tells where the next line is to be said
-  pub pages_then : {old mid : Volume N nor} (span : ℕ) → SpansSaid span old mid → nor.tells mid.nor.now → TellsPages id count mid × (span ≤ count)
+  pub pages_then : {old mid : Volume N nor} (span : ℕ) → SpansSaid id count span old mid → nor.tells mid.nor.now → TellsPages id count mid × (span ≤ count)
   pages_then span s tells = s.pages (s.says.cuts.told_before tells)
 
-  -- the next line is that of the first image
-  line_same : {old mid : Volume N nor} (span : ℕ) → mid.geometry ≡ old.geometry → nor.bytes mid.nor.now ≡ nor.bytes old.nor.now → next_line mid id count span ≡ (if nat_lt span count then span_line old.geometry (nor.bytes old.nor.now) id span else [])
-  line_same {old} {mid} span same bytes =
-      ap (λ (g : Geometry). if nat_lt span count then span_line g (nor.bytes mid.nor.now) id span else []) same ∙ ap (λ (l : List ℕ). if nat_lt span count then span_line old.geometry l id span else []) bytes
-
-  ahead : {old mid : Volume N nor} (span : ℕ) → mid.geometry ≡ old.geometry → SpansSaid span old mid → nor.tells old.nor.now → Ahead (nor.said old.nor.now) (nor.said mid.nor.now) (span_lines old.geometry (nor.bytes old.nor.now) id count) (next_line mid id count span)
+  ahead : {old mid : Volume N nor} (span : ℕ) → mid.geometry ≡ old.geometry → SpansSaid id count span old mid → nor.tells old.nor.now → Ahead (nor.said old.nor.now) (nor.said mid.nor.now) (span_lines old.geometry (nor.bytes old.nor.now) id count) (next_line mid id count span)
   ahead {old} {mid} span same s tells =
       let g = old.geometry in
       let image = nor.bytes old.nor.now in
@@ -188,17 +196,11 @@ module _ {N : Type 0} {nor : NorOf N} {id count : ℕ} where
         part = span_lines g image id span;
         tail = a.0;
         said = s.said tells;
-        text_is = a.1 ∙ ap (λ (l : List ℕ). span_lines g image id span ++ (l ++ a.0)) (sym (line_same {old} {mid} span same s.says.bytes));
+        text_is = a.1 ∙ ap (λ (l : List ℕ). span_lines g image id span ++ (l ++ a.0)) (sym (line_same old mid id count span same s.says.bytes));
       }
 
-  more_than : (span : ℕ) → true ≡ nat_lt span count → span < count
-  more_than span more = grind (arith, nat_tests)
-
-  no_more : (span : ℕ) → span ≤ count → false ≡ nat_lt span count → count ≡ span
-  no_more span within last = grind (arith, nat_tests)
-
   -- a line more
-  pub spans_more : {old mid new : Volume N nor} (span : ℕ) → mid.geometry ≡ old.geometry → SpansSaid span old mid → SaysSpan id count span mid new (Ok true) → SpansSaid (span + 1) old new
+  pub spans_more : {old mid new : Volume N nor} (span : ℕ) → mid.geometry ≡ old.geometry → SpansSaid id count span old mid → SaysSpan id count span mid new (Ok true) → SpansSaid id count (span + 1) old new
   spans_more {old} {mid} {new} span same s turn =
       let g = old.geometry in
       let image = nor.bytes old.nor.now in
@@ -206,14 +208,14 @@ module _ {N : Type 0} {nor : NorOf N} {id count : ℕ} where
         says = says_more s.says turn.says (ahead span same s);
         said = λ tells.
             let here = s.says.cuts.told tells in
-            let line : next_line mid id count span ≡ span_line g image id span = line_same {old} {mid} span same s.says.bytes ∙ ap (λ (b : Bool). if b then span_line g image id span else []) (sym (turn.more here)) in
+            let line : next_line mid id count span ≡ span_line g image id span = line_same old mid id count span same s.says.bytes ∙ ap (λ (b : Bool). if b then span_line g image id span else []) (sym (turn.more here)) in
             turn.whole here ∙ ap (λ (l : List ℕ). l ++ next_line mid id count span) (s.said tells) ∙ append_assoc (nor.said old.nor.now) (span_lines g image id span) (next_line mid id count span)
             ∙ ap (λ (l : List ℕ). nor.said old.nor.now ++ (span_lines g image id span ++ l)) line ∙ ap (λ (l : List ℕ). nor.said old.nor.now ++ l) (sym (more_lines g image id span));
-        pages = λ tells. let here = s.says.cuts.told tells in (turn.pages here, omega (arith, more_than span (turn.more here)));
+        pages = λ tells. let here = s.says.cuts.told tells in (turn.pages here, omega (arith, more_than span count (turn.more here)));
       }
 
   -- no line more
-  pub spans_done : {old mid new : Volume N nor} (span : ℕ) → mid.geometry ≡ old.geometry → SpansSaid span old mid → SaysSpan id count span mid new (Ok false) → SaysSpans nor old.geometry id count old.nor.now new.nor.now (Ok tt)
+  pub spans_done : {old mid new : Volume N nor} (span : ℕ) → mid.geometry ≡ old.geometry → SpansSaid id count span old mid → SaysSpan id count span mid new (Ok false) → SaysSpans nor old.geometry id count old.nor.now new.nor.now (Ok tt)
   spans_done {old} {mid} {new} span same s turn =
       let g = old.geometry in
       let image = nor.bytes old.nor.now in
@@ -222,13 +224,13 @@ module _ {N : Type 0} {nor : NorOf N} {id count : ℕ} where
         whole = λ tells.
             let here = s.says.cuts.told tells in
             let last = turn.more here in
-            turn.whole here ∙ ap (λ (l : List ℕ). nor.said mid.nor.now ++ l) (silent mid span (sym last)) ∙ append-nil (nor.said mid.nor.now) ∙ s.said tells
-            ∙ ap (λ (n : ℕ). nor.said old.nor.now ++ span_lines g image id n) (sym (no_more span (s.pages tells).1 last));
+            turn.whole here ∙ ap (λ (l : List ℕ). nor.said mid.nor.now ++ l) (silent mid id count span (sym last)) ∙ append-nil (nor.said mid.nor.now) ∙ s.said tells
+            ∙ ap (λ (n : ℕ). nor.said old.nor.now ++ span_lines g image id n) (sym (no_more span count (s.pages tells).1 last));
         front = λ tells. tt;
       }
 
   -- the board failed in a line
-  pub spans_broken : {old mid new : Volume N nor} (span : ℕ) (why : Failed) → mid.geometry ≡ old.geometry → SpansSaid span old mid → SaysSpan id count span mid new (Err why) → SaysSpans nor old.geometry id count old.nor.now new.nor.now (Err why)
+  pub spans_broken : {old mid new : Volume N nor} (span : ℕ) (why : Failed) → mid.geometry ≡ old.geometry → SpansSaid id count span old mid → SaysSpan id count span mid new (Err why) → SaysSpans nor old.geometry id count old.nor.now new.nor.now (Err why)
   spans_broken {old} {mid} {new} span why same s turn = record {
     says = says_more s.says turn.says (ahead span same s);
     whole = λ tells. tt;
@@ -236,7 +238,7 @@ module _ {N : Type 0} {nor : NorOf N} {id count : ℕ} where
   }
 
   -- as many as there is room for were said
-  pub spans_full : {old new : Volume N nor} (span : ℕ) → 4096 ≤ span → SpansSaid span old new → SaysSpans nor old.geometry id count old.nor.now new.nor.now (Ok tt)
+  pub spans_full : {old new : Volume N nor} (span : ℕ) → 4096 ≤ span → SpansSaid id count span old new → SaysSpans nor old.geometry id count old.nor.now new.nor.now (Ok tt)
   spans_full {old} {new} span full s = record {
     says = s.says;
     whole = λ tells.

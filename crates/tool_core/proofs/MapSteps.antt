@@ -12,7 +12,7 @@ use Rattle.table_model.specs.declared.error.FsErr.TheVariants.{DeviceFault, Dama
 use Rattle.table_model.specs.Ask.{Collects}
 use Rattle.table_model.specs.Flat.{answer}
 use Rattle.table_model.specs.Reply.{Answer, Fine, Refuses}
-use Rattle.table_model.specs.Steps.{steps}
+use Rattle.table_model.specs.Steps.{steps, done_steps}
 use Rattle.table_model.specs.Table.{File, State, has_id}
 use Rattle.table_model.specs.Window.{Moment, after, settled_at, from_settled, IsAmong, incoming_of}
 use Rattle.image_model.specs.Tables.{table_of}
@@ -50,7 +50,7 @@ unfolding settled_at
 state_first g slots image = refl
 
 steps_none : (g : Geometry) (spare : Bool) (s : State) → steps g spare s Collects ≡ []
-unfolding steps answer
+unfolding steps done_steps answer
 steps_none g spare s = refl
 
 -- collection leaves nothing waiting
@@ -61,6 +61,28 @@ collects_settled g slots image spare = refl
 run_free : (g : Geometry) (image : List ℕ) (m : Moment) (o : Option Run) → RunWaits g image m o → m.window ≡ None → o ≡ None
 run_free g image m None waits none = refl
 run_free g image m (Some r) waits none = absurd (let bad = sym waits.0.window ∙ none in cc)
+
+-- ---- results
+
+wanted_ok : (b : Bool) (id other : ℕ) → (let r : Result ℕ FsErr = if b then Ok id else Err NotFound in r) ≡ Ok other → (b ≡ true) × (other ≡ id)
+wanted_ok true id other e = (refl, cc)
+wanted_ok false id other e = absurd (let no : Err NotFound ≡ Ok other = e in cc)
+
+why_missing : (why : MapErr) (b : Bool) (id : ℕ) → ((why ≡ Call DeviceFault → ⊥) → Some why ≡ attach_refusal false (if b then Ok id else Err NotFound)) → (unmapped_as id why ≡ BoardFault) ⊎ ((unmapped_as id why ≡ NoSuchId id) × (b ≡ false))
+why_missing (Call DeviceFault) b id said = inl refl
+why_missing (Call NotFound) true id said = absurd (let no = said (λ e. cc) in cc)
+why_missing (Call NotFound) false id said = inr (refl, refl)
+why_missing _ true id said = absurd (let no = said (λ e. cc) in cc)
+why_missing _ false id said = absurd (let no = said (λ e. cc) in cc)
+
+stops_reserve : {g : Geometry} {was now : List ℕ} → StopsCollecting g was now → HasReserve g was → HasReserve g now
+stops_reserve stops reserve = ⊎_elim (λ packed. packed.reserve reserve) (λ stuck. stuck.stuck.reserve reserve) stops
+
+stops_tidy : {g : Geometry} {was now : List ℕ} → StopsCollecting g was now → IsTidy g now × (table_of g now ≡ table_of g was)
+stops_tidy stops = ⊎_elim (λ packed. (packed.tidy, packed.table)) (λ stuck. (stuck.stuck.tidy, stuck.stuck.table)) stops
+
+no_bytes : (n : ℕ) → 0 < n → nat_lt 0 n ≡ false → ⊥
+no_bytes n some none = grind (arith, nat_tests)
 
 module _ {N : Type 0} {nor : NorOf N} where
   pub holds_first : {slots : ℕ} (v : Volume N nor) → IsAtRest slots v → Holds v (first_moment v.geometry slots (nor.bytes v.nor.now))
@@ -103,8 +125,8 @@ module _ {N : Type 0} {nor : NorOf N} where
 
   -- ---- a map is attached
 
-  attach_changes : {slots : ℕ} {old new : Volume N nor} {refusal : Option MapErr} → SettlesAndReads old new refusal → Changes nor old.nor.now new.nor.now (λ was image. memory old ≡ closed_memory slots → IsTidy old.geometry was → LeavesFiles old.geometry was image)
-  attach_changes {slots} {old} {new} s = wider s.cuts (λ tells image here closed tidy.
+  attach_changes : {old new : Volume N nor} {refusal : Option MapErr} (slots : ℕ) → SettlesAndReads old new refusal → Changes nor old.nor.now new.nor.now (λ was image. memory old ≡ closed_memory slots → IsTidy old.geometry was → LeavesFiles old.geometry was image)
+  attach_changes {old} {new} slots s = wider s.cuts (λ tells image here closed tidy.
       let g = old.geometry in
       let was = nor.bytes old.nor.now in
       let left = here (first_moment g slots was) (first_at g slots was was (memory old) closed tidy refl) in
@@ -113,24 +135,13 @@ module _ {N : Type 0} {nor : NorOf N} where
   attach_still : {slots : ℕ} {old new : Volume N nor} {refusal : Option MapErr} → takes_calls old ≡ true → SettlesAndReads old new refusal → IsAtRest slots old → Unchanged old new
   attach_still takes s rest = s.still takes (ap (λ (w : Memory). w.run) rest.memory)
 
-  wanted_ok : (b : Bool) (id other : ℕ) → (let r : Result ℕ FsErr = if b then Ok id else Err NotFound in r) ≡ Ok other → (b ≡ true) × (other ≡ id)
-  wanted_ok true id other e = (refl, cc)
-  wanted_ok false id other e = absurd (let no : Err NotFound ≡ Ok other = e in cc)
-
-  why_missing : (why : MapErr) (b : Bool) (id : ℕ) → ((why ≡ Call DeviceFault → ⊥) → Some why ≡ attach_refusal false (if b then Ok id else Err NotFound)) → (unmapped_as id why ≡ BoardFault) ⊎ ((unmapped_as id why ≡ NoSuchId id) × (b ≡ false))
-  why_missing (Call DeviceFault) b id said = inl refl
-  why_missing (Call NotFound) true id said = absurd (let no = said (λ e. cc) in cc)
-  why_missing (Call NotFound) false id said = inr (refl, refl)
-  why_missing _ true id said = absurd (let no = said (λ e. cc) in cc)
-  why_missing _ false id said = absurd (let no = said (λ e. cc) in cc)
-
   pub attaches_ok : {old new : Volume N nor} {result : Result (Unit {0}) MapRefusal} (slots id lent : ℕ) (done : Unit {0}) → result ≡ Ok done → takes_calls old ≡ true → Attaches (id_in id) 0 lent old new result → AttachesTo slots id lent old new (Ok tt)
   attaches_ok {old} {new} slots id lent done is takes attaches =
       let a : Attaches (id_in id) 0 lent old new (Ok done) = subst (λ (r : Result (Unit {0}) MapRefusal). Attaches (id_in id) 0 lent old new r) is attaches in
       let g = old.geometry in
       let was = nor.bytes old.nor.now in
       record {
-        changes = attach_changes a.call;
+        changes = attach_changes slots a.call;
         done = λ rest.
             let m = first_moment g slots was in
             let d = a.done m takes (holds_first old rest) refl in
@@ -144,7 +155,7 @@ module _ {N : Type 0} {nor : NorOf N} where
       let g = old.geometry in
       let was = nor.bytes old.nor.now in
       record {
-        changes = attach_changes a.call;
+        changes = attach_changes slots a.call;
         done = λ rest.
             let m = first_moment g slots was in
             let said : (refusal.why ≡ Call DeviceFault → ⊥) → Some refusal.why ≡ attach_refusal false (if has_id id m.state.table then Ok id else Err NotFound) =
@@ -166,8 +177,8 @@ module _ {N : Type 0} {nor : NorOf N} where
 
   -- ---- garbage is collected
 
-  gc_changes : {slots : ℕ} {old new : Volume N nor} {reply : Answer} → Calls Collects old new reply → Changes nor old.nor.now new.nor.now (λ was image. memory old ≡ closed_memory slots → IsTidy old.geometry was → LeavesFiles old.geometry was image)
-  gc_changes {slots} {old} {new} calls = wider calls.cuts (λ tells image here closed tidy.
+  gc_changes : {old new : Volume N nor} {reply : Answer} (slots : ℕ) → Calls Collects old new reply → Changes nor old.nor.now new.nor.now (λ was image. memory old ≡ closed_memory slots → IsTidy old.geometry was → LeavesFiles old.geometry was image)
+  gc_changes {old} {new} slots calls = wider calls.cuts (λ tells image here closed tidy.
       let g = old.geometry in
       let was = nor.bytes old.nor.now in
       let m = first_moment g slots was in
@@ -175,19 +186,13 @@ module _ {N : Type 0} {nor : NorOf N} where
       let among : IsAmong (table_of g image) (from_settled m []) = subst (λ (l : List (List File)). IsAmong (table_of g image) (from_settled m l)) (steps_none g (has_spare g was) m.state) left.1 in
       (left.0, one_among g slots was (table_of g image) among))
 
-  stops_reserve : {g : Geometry} {was now : List ℕ} → StopsCollecting g was now → HasReserve g was → HasReserve g now
-  stops_reserve stops reserve = ⊎_elim (λ packed. packed.reserve reserve) (λ stuck. stuck.stuck.reserve reserve) stops
-
-  stops_tidy : {g : Geometry} {was now : List ℕ} → StopsCollecting g was now → IsTidy g now × (table_of g now ≡ table_of g was)
-  stops_tidy stops = ⊎_elim (λ packed. (packed.tidy, packed.table)) (λ stuck. (stuck.stuck.tidy, stuck.stuck.table)) stops
-
   gathers : {slots : ℕ} {old new : Volume N nor} {reply : Answer} → takes_calls old ≡ true → Calls Collects old new reply → breaks reply ≡ false → (IsAtRest slots old → StopsCollecting old.geometry (nor.bytes old.nor.now) (nor.bytes new.nor.now)) → (IsAtRest slots old → (memory new).run ≡ None) → CollectsTo slots old new (Ok tt)
   gathers {slots} {old} {new} takes calls fine stops free =
       let g = old.geometry in
       let was = nor.bytes old.nor.now in
       let now = nor.bytes new.nor.now in
       record {
-        changes = gc_changes calls;
+        changes = gc_changes slots calls;
         done = λ rest.
             let s = stops rest in
             let t = stops_tidy s in
@@ -232,7 +237,7 @@ module _ {N : Type 0} {nor : NorOf N} where
       cc
 
   failed_as : {slots : ℕ} {old new : Volume N nor} (why : FsErr) (ending : Ending) → takes_calls old ≡ true → Calls Collects old new (Refuses why) → (IsAtRest slots old → ending ≡ BoardFault) → CollectsTo slots old new (Err ending)
-  failed_as why ending takes calls fault = record { changes = gc_changes calls; done = fault }
+  failed_as {slots} why ending takes calls fault = record { changes = gc_changes slots calls; done = fault }
 
   pub collects_to : {old new : Volume N nor} (slots : ℕ) (result : Result (Unit {0}) FsErr) → takes_calls old ≡ true → Calls Collects old new (told (λ done. Fine) result) → CollectsTo slots old new (collected_as result)
   collects_to slots (Ok done) takes calls = gathered_ok takes calls
@@ -260,9 +265,6 @@ module _ {N : Type 0} {nor : NorOf N} where
     changes = unchanged v.nor.now _ (λ tells closed tidy. (safe_as v.geometry (nor.bytes v.nor.now) (nor.bytes v.nor.now) (holds_itself v.geometry (nor.bytes v.nor.now)) tidy, refl));
     done = λ rest. (record { rest = rest; table = refl; holds = holds_itself v.geometry (nor.bytes v.nor.now) }, λ lent there may. (may.map used, refl));
   }
-
-  no_bytes : (n : ℕ) → 0 < n → nat_lt 0 n ≡ false → ⊥
-  no_bytes n some none = grind (arith, nat_tests)
 
   -- no bytes were lent
   pub maps_not : {old new : Volume N nor} (slots id : ℕ) (ending : Ending) → new.nor.now ≡ old.nor.now → is_attached old ≡ false → MapsAgain slots id old new (Err ending)

@@ -18,17 +18,18 @@ use Rattle.tool_core.proofs.Reading.{reads_said, behind_closed}
 use Rattle.tool_core.proofs.ScrubTold.{done_of, closed_cuts}
 use Rattle.tool_core.proofs.Speaking.{concludes, none_closed, mended_closed}
 
-module _ {D : Type 0} {nor : NorOf D} {g : Geometry} {id : ℕ} where
-  -- the image that a cut is told by
-  cut_as : {old mid new : D} {image : List ℕ} {count : ℕ} → nor.bytes new ≡ nor.bytes mid → ScrubCut nor g old mid (map_text g (nor.bytes old) (nor.bytes mid) id ++ closing_line_of (map_ending g (nor.bytes old) id)) image count →
-      ScrubCut nor g old new (map_text g (nor.bytes old) (nor.bytes new) id ++ closing_line_of (map_ending g (nor.bytes old) id)) image count
-  cut_as {old} {mid} {new} {image} {count} same c =
-      let longest : List ℕ → ℕ = λ (l : List ℕ). length (map_text g (nor.bytes old) l id ++ closing_line_of (map_ending g (nor.bytes old) id)) in
-      record { table = c.table; safe = c.safe; least = c.least; most = omega (arith, c.most, ap longest same); once_said = λ more. c.once_said more ∙ sym same }
-
+module _ {D : Type 0} {nor : NorOf D} where
   -- a status that is no fault's is that of the ending
   status_is : {mid new : D} (result : Ending) (status n : ℕ) → n ≢ 7 → OnlyCloses nor mid new result status → status ≡ n → status_of result ≡ n
   status_is result status n fine closes is = ⊎_elim (λ told. sym told ∙ is) (λ fault. absurd (fine (sym is ∙ fault.0))) closes.ends
+
+module _ {D : Type 0} {nor : NorOf D} {g : Geometry} {id : ℕ} where
+  -- the image that a cut is told by
+  cut_as : {old mid new : D} (i : ℕ) {image : List ℕ} {count : ℕ} → nor.bytes new ≡ nor.bytes mid → ScrubCut nor g old mid (map_text g (nor.bytes old) (nor.bytes mid) i ++ closing_line_of (map_ending g (nor.bytes old) i)) image count →
+      ScrubCut nor g old new (map_text g (nor.bytes old) (nor.bytes new) i ++ closing_line_of (map_ending g (nor.bytes old) i)) image count
+  cut_as {old} {mid} {new} i {image} {count} same c =
+      let longest : List ℕ → ℕ = λ (l : List ℕ). length (map_text g (nor.bytes old) l i ++ closing_line_of (map_ending g (nor.bytes old) i)) in
+      record { table = c.table; safe = c.safe; least = c.least; most = omega (arith, c.most, ap longest same); once_said = λ more. c.once_said more ∙ sym same }
 
   -- a whole map
   pub map_does : {old mid new : D} (cache : ℕ) (result : Ending) (status : ℕ) → MapsTo nor g id old mid result → (result ≡ BoardFault → Rose (nor.faults old) (nor.faults mid)) → StaysBehind nor g old mid → ReadsOnce nor g cache old mid → OnlyCloses nor mid new result status → DoesMap nor g cache id old new status
@@ -49,7 +50,7 @@ module _ {D : Type 0} {nor : NorOf D} {g : Geometry} {id : ℕ} where
             (m.holds tells);
         mends = λ tells may. mended_closed g result (m.mends tells may) closes;
         kept = λ tells why refused. none_closed (m.kept tells why refused) closes;
-        cuts = widened (closed_cuts text ending result status m.cuts m.speaks m.table m.safe closes) (λ image count here tells. cut_as closes.says.bytes (here tells));
+        cuts = widened (closed_cuts text ending result status m.cuts m.speaks m.table m.safe closes) (λ image count here tells. cut_as id closes.says.bytes (here tells));
         behind = behind_closed behind closes;
         reads = reads_said cache reads closes.says closes.cuts.faults;
       }
