@@ -5,6 +5,7 @@ use crate::steps::{Step, fail_read, follow};
 use geometry::{Geometry, MagicKind};
 use nor_core::draw;
 use nor_memory::MemBoard;
+use std::alloc::Global;
 use std::process::Abort;
 use std::test::Fail;
 use table_model::{Call, Whence};
@@ -300,8 +301,13 @@ fn read_drawn<'b>(
 }
 
 // So many turns on two empty volumes of a geometry. Answers how often bytes were read.
-fn soak(rt: &HostRuntime, g: &Geometry, seed: u64, turns: u32) -> Result<u32, Fail> {
-    let alloc = rt.alloc();
+fn soak(
+    rt: &impl Abort,
+    alloc: Global,
+    g: &Geometry,
+    seed: u64,
+    turns: u32,
+) -> Result<u32, Fail> {
     let size = g.blocks() as usize * g.block() as usize;
     let unit = g.phys();
     if unit == 0 || size % unit as usize != 0 || size > 0x10_0000 {
@@ -355,7 +361,7 @@ fn a_map_stays_right_through_drawn_calls(rt: HostRuntime) -> Result<(), Fail> {
         (512, 8192, 4, 8192, 4, MagicKind::Plain),
     ] {
         let g = Geometry::new(page, block, blocks, unit, meta, magic)?;
-        let read = soak(&rt, &g, u64::from(page), 1000)?;
+        let read = soak(&rt, rt.alloc(), &g, u64::from(page), 1000)?;
         assert!(rt; read > 60);
     }
     Ok(())
