@@ -54,7 +54,7 @@ module _ {N : Type 0} {nor : NorOf N} where
       Changes nor old.nor.now new.nor.now (LeavesFiles old.geometry)
   files_at slots old new closed tidy changes = wider changes (λ tells image here. here closed (tidy tells))
 
-  at_rest : (slots : ℕ) (old : Volume N nor) → memory old ≡ closed_memory slots → (nor.tells old.nor.now → IsTidy old.geometry (nor.bytes old.nor.now)) → nor.tells old.nor.now → IsAtRest slots old
+  pub at_rest : (slots : ℕ) (old : Volume N nor) → memory old ≡ closed_memory slots → (nor.tells old.nor.now → IsTidy old.geometry (nor.bytes old.nor.now)) → nor.tells old.nor.now → IsAtRest slots old
   at_rest slots old closed tidy tells = record { tells = tells; tidy = tidy tells; memory = closed }
 
   -- nothing was said: the board failed, or there is no such id
@@ -99,6 +99,20 @@ module _ {N : Type 0} {nor : NorOf N} where
     pub there : has_file old id ≡ true
     pub stops : StopsCollecting old.geometry (nor.bytes old.nor.now) (nor.bytes mid.nor.now)
 
+  -- the table has the id, and the map is that of its file or was lost
+  pub had_map : {v0 v1 v2 : Volume N nor} (slots id : ℕ) → v1.geometry ≡ v0.geometry → v2.geometry ≡ v1.geometry → AttachesTo slots id 8192 v0 v1 (Ok tt) → CollectsTo slots v1 v2 (Ok tt) → IsAtRest slots v0 → (has_file v2 id ≡ true) × MayHaveMap id 8192 v2
+  had_map {v0} {v1} {v2} slots id same next attaches collects rest =
+      let a = attaches.done rest in
+      let c = collects.done a.0.rest in
+      let found = a.1 in
+      let kept = c.1.1 in
+      let room = kept.room ∙ found.map.room in
+      (
+        ap (λ (k : Geometry). has_id id (table_of k (nor.bytes v2.nor.now))) (next ∙ same)
+        ∙ ap (has_id id) (subst (λ (k : Geometry). table_of k (nor.bytes v2.nor.now) ≡ table_of k (nor.bytes v1.nor.now)) same c.0.table ∙ a.0.table) ∙ found.there,
+        record { some = omega arith; room = room; map = λ used. let s = kept.same used in record { used = used; of = s.1 ∙ found.map.of; first = s.2 ∙ found.map.first; room = room } },
+      )
+
   -- all steps before that
   pub steps_mapped : {v0 v1 v2 v3 : Volume N nor} (slots id : ℕ) → v1.geometry ≡ v0.geometry → v2.geometry ≡ v1.geometry → AttachesTo slots id 8192 v0 v1 (Ok tt) → CollectsTo slots v1 v2 (Ok tt) → MapsAgain slots id v2 v3 (Ok tt) →
       Changes nor v0.nor.now v3.nor.now (λ was image. memory v0 ≡ closed_memory slots → IsTidy v0.geometry was → LeavesFiles v0.geometry was image) × (IsAtRest slots v0 → IsMapped slots id v0 v3)
@@ -112,16 +126,8 @@ module _ {N : Type 0} {nor : NorOf N} where
       let c = collects.done a.0.rest in
       let r = again.done c.0.rest in
       let found = a.1 in
-      let kept = c.1.1 in
-      let there : has_file v2 id ≡ true =
-          ap (λ (k : Geometry). has_id id (table_of k (nor.bytes v2.nor.now))) (next ∙ same)
-          ∙ ap (has_id id) (subst (λ (k : Geometry). table_of k (nor.bytes v2.nor.now) ≡ table_of k (nor.bytes v1.nor.now)) same c.0.table ∙ a.0.table) ∙ found.there in
-      let may : MayHaveMap id 8192 v2 = record {
-        some = omega arith;
-        room = kept.room ∙ found.map.room;
-        map = λ used. let s = kept.same used in record { used = used; of = s.1 ∙ found.map.of; first = s.2 ∙ found.map.first; room = kept.room ∙ found.map.room };
-      } in
-      let last = r.1 8192 there may in
+      let had = had_map slots id same next attaches collects rest in
+      let last = r.1 8192 had.0 had.1 in
       record {
         rests = (all.done rest).0;
         map = last.0;
@@ -143,7 +149,7 @@ module _ {N : Type 0} {nor : NorOf N} where
       subst (λ (n : ℕ). TellsPages id n mid) (ap (λ (k : Geometry). spans_told k (Some f.0)) same ∙ ap (spans_told old.geometry) (sym f.1)) (tells_pages f.0 mapped.map right)
 
   -- the lines were said, or a front of them
-  pub ends_said : {old mid : Volume N nor} {last : N} (slots id : ℕ) (result : Result (Unit {0}) Failed) (ending : Ending) → memory old ≡ closed_memory slots → (nor.tells old.nor.now → IsTidy old.geometry (nor.bytes old.nor.now)) → mid.geometry ≡ old.geometry →
+  ends_said : {old mid : Volume N nor} {last : N} (slots id : ℕ) (result : Result (Unit {0}) Failed) (ending : Ending) → memory old ≡ closed_memory slots → (nor.tells old.nor.now → IsTidy old.geometry (nor.bytes old.nor.now)) → mid.geometry ≡ old.geometry →
       Changes nor old.nor.now mid.nor.now (λ was image. memory old ≡ closed_memory slots → IsTidy old.geometry was → LeavesFiles old.geometry was image) × (IsAtRest slots old → IsMapped slots id old mid) →
       SaysSpans nor mid.geometry id (spans_told old.geometry (file_of id (table_of old.geometry (nor.bytes old.nor.now)))) mid.nor.now last result →
       ((ending ≡ BoardFault) × (nor.tells mid.nor.now → SaysFront nor mid.nor.now last (span_lines mid.geometry (nor.bytes mid.nor.now) id (spans_told old.geometry (file_of id (table_of old.geometry (nor.bytes old.nor.now)))))))
@@ -170,6 +176,20 @@ module _ {N : Type 0} {nor : NorOf N} where
         missing = λ tells is. absurd (⊎_elim (λ broken. omega (arith, is, ap status_of broken.0)) (λ said. omega (arith, is, ap status_of said.0)) ends);
         holds = λ tells. inr (mapped tells).rests.holds;
       }
+
+  -- how saying them went
+  says_as : {g : Geometry} {id count : ℕ} {first last : N} {result other : Result (Unit {0}) Failed} → result ≡ other → SaysSpans nor g id count first last result → SaysSpans nor g id count first last other
+  says_as {g} {id} {count} {first} {last} is says = subst (λ (r : Result (Unit {0}) Failed). SaysSpans nor g id count first last r) is says
+
+  pub ends_whole : {old mid : Volume N nor} {last : N} {result : Result (Unit {0}) Failed} (slots id : ℕ) (done : Unit {0}) → result ≡ Ok done → memory old ≡ closed_memory slots → (nor.tells old.nor.now → IsTidy old.geometry (nor.bytes old.nor.now)) → mid.geometry ≡ old.geometry →
+      Changes nor old.nor.now mid.nor.now (λ was image. memory old ≡ closed_memory slots → IsTidy old.geometry was → LeavesFiles old.geometry was image) × (IsAtRest slots old → IsMapped slots id old mid) →
+      SaysSpans nor mid.geometry id (spans_told old.geometry (file_of id (table_of old.geometry (nor.bytes old.nor.now)))) mid.nor.now last result → MapEnds nor old.geometry id old.nor.now last Done
+  ends_whole slots id done is closed tidy same steps says = let s = says_as is says in ends_said slots id (Ok done) Done closed tidy same steps s (inr (refl, s.whole))
+
+  pub ends_front : {old mid : Volume N nor} {last : N} {result : Result (Unit {0}) Failed} (slots id : ℕ) (why : Failed) → result ≡ Err why → memory old ≡ closed_memory slots → (nor.tells old.nor.now → IsTidy old.geometry (nor.bytes old.nor.now)) → mid.geometry ≡ old.geometry →
+      Changes nor old.nor.now mid.nor.now (λ was image. memory old ≡ closed_memory slots → IsTidy old.geometry was → LeavesFiles old.geometry was image) × (IsAtRest slots old → IsMapped slots id old mid) →
+      SaysSpans nor mid.geometry id (spans_told old.geometry (file_of id (table_of old.geometry (nor.bytes old.nor.now)))) mid.nor.now last result → MapEnds nor old.geometry id old.nor.now last BoardFault
+  ends_front slots id why is closed tidy same steps says = let s = says_as is says in ends_said slots id (Err why) BoardFault closed tidy same steps s (inl (refl, s.front))
 
 -- ---- with the check before that
 

@@ -124,6 +124,11 @@ module _ {N : Type 0} {nor : NorOf N} {id count : ℕ} where
         pages = λ tells. tt;
       }
 
+module _ {N : Type 0} {nor : NorOf N} {id count span : ℕ} where
+  -- a line that went so
+  pub span_as : {old new : Volume N nor} {result other : Result Bool Failed} → result ≡ other → SaysSpan id count span old new result → SaysSpan id count span old new other
+  span_as {old} {new} is says = subst (λ (r : Result Bool Failed). SaysSpan id count span old new r) is says
+
 -- ---- all lines
 
 first_lines : (g : Geometry) (image : List ℕ) (id : ℕ) → span_lines g image id 0 ≡ []

@@ -5,6 +5,7 @@ use Rattle.std.proofs.lemmas.Bool.Decides.{nat_tests}
 use Rattle.std.proofs.lemmas.Result.{MatchResult-weaker}
 use Rattle.geometry.specs.declared.geometry.Geometry.{Geometry}
 use Rattle.nor_core.specs.declared.state.NorState.{Ghosts as NorOf}
+use Rattle.nor_core.specs.Count.{Rose}
 use Rattle.nor_core.specs.Device.{Changes}
 use Rattle.nor_core.proofs.Cuts.{wider, go_on, unchanged}
 use Rattle.table_model.specs.declared.error.FsErr.{FsErr}
@@ -87,6 +88,10 @@ no_bytes n some none = grind (arith, nat_tests)
 module _ {N : Type 0} {nor : NorOf N} where
   pub holds_first : {slots : ℕ} (v : Volume N nor) → IsAtRest slots v → Holds v (first_moment v.geometry slots (nor.bytes v.nor.now))
   holds_first {slots} v rest = stands_first v.geometry slots v.nor.now (memory v) rest.memory rest.tells rest.tidy
+
+  -- a step that went so
+  pub steps_as : {slots : ℕ} {old new : Volume N nor} {result other : Result (Unit {0}) Ending} {Is : Type 0} {Why : Ending → Type 0} → result ≡ other → Steps slots old new result Is Why → Steps slots old new other Is Why
+  steps_as {slots} {old} {new} {result} {other} {Is} {Why} is step = subst (λ (r : Result (Unit {0}) Ending). Steps slots old new r Is Why) is step
 
   -- one step after another
   pub steps_then : {slots : ℕ} {old mid new : Volume N nor} {result : Result (Unit {0}) Ending} {Is Next : Type 0} {Why Then : Ending → Type 0} → mid.geometry ≡ old.geometry → Steps slots old mid (Ok tt) Is Why → Steps slots mid new result Next Then → Steps slots old new result Next Then
@@ -174,6 +179,12 @@ module _ {N : Type 0} {nor : NorOf N} where
       (λ same. ap is_open same ∙ takes)
       (λ broke. absurd (let no : false ≡ true = broke.2 in cc))
       a.call.stays
+
+  -- a fault is told only where one was counted
+  pub attaches_fault : {old new : Volume N nor} {result : Result (Unit {0}) MapRefusal} (wanted : State → Result ℕ FsErr) (first lent : ℕ) (refusal : MapRefusal) → result ≡ Err refusal → refusal.why ≡ Call DeviceFault → Attaches wanted first lent old new result → Rose (nor.faults old.nor.now) (nor.faults new.nor.now)
+  attaches_fault {old} {new} wanted first lent refusal is why attaches =
+      let a : Attaches wanted first lent old new (Err refusal) = subst (λ (r : Result (Unit {0}) MapRefusal). Attaches wanted first lent old new r) is attaches in
+      a.call.cause (ap (λ (w : MapErr). Some w) why)
 
   -- ---- garbage is collected
 

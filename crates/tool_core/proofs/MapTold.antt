@@ -23,14 +23,15 @@ module _ {D : Type 0} {nor : NorOf D} where
   status_is : {mid new : D} (result : Ending) (status n : ℕ) → n ≢ 7 → OnlyCloses nor mid new result status → status ≡ n → status_of result ≡ n
   status_is result status n fine closes is = ⊎_elim (λ told. sym told ∙ is) (λ fault. absurd (fine (sym is ∙ fault.0))) closes.ends
 
-module _ {D : Type 0} {nor : NorOf D} {g : Geometry} {id : ℕ} where
+module _ {D : Type 0} {nor : NorOf D} {g : Geometry} where
   -- the image that a cut is told by
-  cut_as : {old mid new : D} (i : ℕ) {image : List ℕ} {count : ℕ} → nor.bytes new ≡ nor.bytes mid → ScrubCut nor g old mid (map_text g (nor.bytes old) (nor.bytes mid) i ++ closing_line_of (map_ending g (nor.bytes old) i)) image count →
-      ScrubCut nor g old new (map_text g (nor.bytes old) (nor.bytes new) i ++ closing_line_of (map_ending g (nor.bytes old) i)) image count
-  cut_as {old} {mid} {new} i {image} {count} same c =
-      let longest : List ℕ → ℕ = λ (l : List ℕ). length (map_text g (nor.bytes old) l i ++ closing_line_of (map_ending g (nor.bytes old) i)) in
+  cut_as : {old mid new : D} (id : ℕ) {image : List ℕ} {count : ℕ} → nor.bytes new ≡ nor.bytes mid → ScrubCut nor g old mid (map_text g (nor.bytes old) (nor.bytes mid) id ++ closing_line_of (map_ending g (nor.bytes old) id)) image count →
+      ScrubCut nor g old new (map_text g (nor.bytes old) (nor.bytes new) id ++ closing_line_of (map_ending g (nor.bytes old) id)) image count
+  cut_as {old} {mid} {new} id {image} {count} same c =
+      let longest : List ℕ → ℕ = λ (l : List ℕ). length (map_text g (nor.bytes old) l id ++ closing_line_of (map_ending g (nor.bytes old) id)) in
       record { table = c.table; safe = c.safe; least = c.least; most = omega (arith, c.most, ap longest same); once_said = λ more. c.once_said more ∙ sym same }
 
+module _ {D : Type 0} {nor : NorOf D} {g : Geometry} {id : ℕ} where
   -- a whole map
   pub map_does : {old mid new : D} (cache : ℕ) (result : Ending) (status : ℕ) → MapsTo nor g id old mid result → (result ≡ BoardFault → Rose (nor.faults old) (nor.faults mid)) → StaysBehind nor g old mid → ReadsOnce nor g cache old mid → OnlyCloses nor mid new result status → DoesMap nor g cache id old new status
   map_does {old} {mid} {new} cache result status m cause behind reads closes =
