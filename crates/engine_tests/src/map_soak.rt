@@ -25,7 +25,7 @@ const SPANS: u32 = 10;
 
 // Which call is drawn, and of what.
 #[derive(Clone, Copy)]
-struct Pick {
+struct Choice {
     kind: u64,
     name: &'static [u8],
     other: &'static [u8],
@@ -41,11 +41,11 @@ fn name_at(number: u64) -> &'static [u8] {
     NAMES[(number % 4) as usize]
 }
 
-fn pick(x: &mut u64) -> Pick {
+fn choose(x: &mut u64) -> Choice {
     let many = draw(x) % 3 == 0;
     let count = (draw(x) % if many { 1000 } else { 90 }) as u32;
     let place = (draw(x) % if many { 5000 } else { 900 }) as u32;
-    Pick {
+    Choice {
         kind: draw(x) % 64,
         name: name_at(draw(x) % 3),
         other: name_at(draw(x)),
@@ -57,20 +57,20 @@ fn pick(x: &mut u64) -> Pick {
 }
 
 // A call through a descriptor.
-fn call_open<'t>(pick: &Pick, bytes: &'t [u8; 1000]) -> Call<'t> {
-    let fd = pick.fd;
-    let offset = i64::from(pick.place);
-    match pick.kind {
+fn call_open<'t>(choice: &Choice, bytes: &'t [u8; 1000]) -> Call<'t> {
+    let fd = choice.fd;
+    let offset = i64::from(choice.place);
+    match choice.kind {
         0..=13 => {
             Call::Write {
                 fd,
-                bytes: bytes.get(..pick.count as usize).unwrap_or(&[]),
+                bytes: bytes.get(..choice.count as usize).unwrap_or(&[]),
             }
         }
         14..=19 => {
             Call::Fill {
                 fd,
-                count: pick.count,
+                count: choice.count,
                 byte: b'f',
             }
         }
@@ -91,13 +91,13 @@ fn call_open<'t>(pick: &Pick, bytes: &'t [u8; 1000]) -> Call<'t> {
         28 | 29 => {
             Call::Read {
                 fd,
-                count: pick.count,
+                count: choice.count,
             }
         }
         30 | 31 => {
             Call::Truncate {
                 fd,
-                size: pick.place.saturating_mul(3),
+                size: choice.place.saturating_mul(3),
             }
         }
         32 | 33 => Call::Flush { fd },
@@ -109,26 +109,26 @@ fn call_open<'t>(pick: &Pick, bytes: &'t [u8; 1000]) -> Call<'t> {
 }
 
 // A call by a name, or of the volume.
-fn call_named(pick: &Pick) -> Call<'static> {
-    let name = pick.name;
-    match pick.kind {
+fn call_named(choice: &Choice) -> Call<'static> {
+    let name = choice.name;
+    match choice.kind {
         40..=55 => {
             Call::OpenFile {
-                name: if pick.kind == 40 { pick.other } else { name },
-                flags: pick.flags,
+                name: if choice.kind == 40 { choice.other } else { name },
+                flags: choice.flags,
             }
         }
         56 => Call::Remove { name },
         57 => {
             Call::Rename {
-                old_name: pick.other,
+                old_name: choice.other,
                 new_name: name,
             }
         }
         58 => Call::SetMeta { name, meta: b"" },
-        59 => Call::FRemove { fd: pick.fd },
+        59 => Call::FRemove { fd: choice.fd },
         60 | 61 => Call::Gc,
-        62 => Call::Create { name: pick.other },
+        62 => Call::Create { name: choice.other },
         _ => Call::GetInfo,
     }
 }
@@ -190,12 +190,12 @@ fn call_drawn(
     x: &mut u64,
 ) {
     let was = a.map;
-    let pick = pick(x);
+    let choice = choose(x);
     let bytes = [(draw(x) % 256) as u8; 1000];
-    let call = if pick.kind < 40 {
-        call_open(&pick, &bytes)
+    let call = if choice.kind < 40 {
+        call_open(&choice, &bytes)
     } else {
-        call_named(&pick)
+        call_named(&choice)
     };
     ask(rt, a, b, &call, &mut [0; 1000]);
     look(rt, a, g, was.id, was.first);
