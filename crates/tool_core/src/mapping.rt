@@ -259,7 +259,8 @@ pub(crate) fn map_on<B: Board>(
         cache: &mut *bufs.cache,
         check: &mut *bufs.check,
     };
-    let numbers = &mut bufs.line[..NUMBERS];
+    let line = &mut *bufs.line;
+    let (numbers, _) = line.split_at_mut(NUMBERS);
     let ending = map_board(g, id, board, lent, numbers);
     conclude(board, ending)
 }

@@ -6,17 +6,17 @@ use Rattle.tool_core.proofs.mapping.say_span.Goals as goal
 pub returns-in-None-clause-says : goal.returns-in-None-clause-says
 returns-in-None-clause-says g c = λ id count pages. untold_span c.args.volume.now c.args.span c.requires pages (sym c.map_page.ensures.number ∙ c.in-None.is)
 
-pub returns-then-page-eq65535-clause-says : goal.returns-then-page-eq65535-clause-says
-returns-then-page-eq65535-clause-says g c = λ id count pages. ended_span c.args.volume.now c.args.span c.in-Some.page pages (sym c.map_page.ensures.number ∙ c.in-Some.is) c.if-page-eq65535.true
+pub returns-then-page-clause-says : goal.returns-then-page-clause-says
+returns-then-page-clause-says g c = λ id count pages. ended_span c.args.volume.now c.args.span c.in-Some.page pages (sym c.map_page.ensures.number ∙ c.in-Some.is) c.if-page.true
 
 pub returns-in-Ok-clause-says : goal.returns-in-Ok-clause-says
 returns-in-Ok-clause-says g c = λ id count pages.
     let page = c.in-Some.page in
     let line : c.as_slice.result.now ≡ page_line c.args.span page = c.as_slice.ensures.value ∙ c.span_line.ensures in
-    said_span c.args.span page c.requires pages (sym c.map_page.ensures.number ∙ c.in-Some.is) c.if-page-eq65535.false line c.say.ensures.says c.say.ensures.cuts c.in-Ok.ensures.done c.say.ensures.same.geometry c.say.ensures.map
+    said_span c.args.span page c.requires pages (sym c.map_page.ensures.number ∙ c.in-Some.is) c.if-page.false line c.say.ensures.says c.say.ensures.cuts c.in-Ok.ensures.done c.say.ensures.same.geometry c.say.ensures.map
 
 pub returns-in-Err-clause-says : goal.returns-in-Err-clause-says
 returns-in-Err-clause-says g c = λ id count pages.
     let page = c.in-Some.page in
     let line : c.as_slice.result.now ≡ page_line c.args.span page = c.as_slice.ensures.value ∙ c.span_line.ensures in
-    broken_span c.args.span page _ c.requires pages (sym c.map_page.ensures.number ∙ c.in-Some.is) c.if-page-eq65535.false line c.say.ensures.says c.say.ensures.cuts
+    broken_span c.args.span page _ c.requires pages (sym c.map_page.ensures.number ∙ c.in-Some.is) c.if-page.false line c.say.ensures.says c.say.ensures.cuts
