@@ -84,7 +84,11 @@ fn write_failing(rt: &impl Abort, alloc: Global, g: &Geometry, nth: u64) -> Resu
     assert!(rt; without.attach_map(1, 0, &mut spare).is_ok());
     let fails = [Step::FailsRead(nth)];
     follow(rt, &mut volume, &fails);
-    follow(rt, &mut without, &[Step::Detaches(Some(8)), Step::FailsRead(nth)]);
+    follow(
+        rt,
+        &mut without,
+        &[Step::Detaches(Some(8)), Step::FailsRead(nth)],
+    );
     let told = volume.write(1, &[b'q'; 600]);
     assert!(rt; without.write(1, &[b'q'; 600]) == told);
     assert!(rt; volume.nor.image() == without.nor.image());
@@ -99,7 +103,14 @@ fn write_failing(rt: &impl Abort, alloc: Global, g: &Geometry, nth: u64) -> Resu
         follow(rt, &mut volume, &[Step::FailsRead(0), read]);
         return Ok(Way::Keeps);
     }
-    follow(rt, &mut volume, &[Step::ReadsMap(0, Err(MapErr::NoMap), &[7]), Step::IsAttached(true)]);
+    follow(
+        rt,
+        &mut volume,
+        &[
+            Step::ReadsMap(0, Err(MapErr::NoMap), &[7]),
+            Step::IsAttached(true),
+        ],
+    );
     let Some(numbers) = volume.detach_map() else {
         return Err(Failed)?;
     };

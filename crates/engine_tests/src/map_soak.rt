@@ -114,7 +114,11 @@ fn call_named(choice: &Choice) -> Call<'static> {
     match choice.kind {
         40..=55 => {
             Call::OpenFile {
-                name: if choice.kind == 40 { choice.other } else { name },
+                name: if choice.kind == 40 {
+                    choice.other
+                } else {
+                    name
+                },
                 flags: choice.flags,
             }
         }
@@ -272,7 +276,15 @@ fn read_drawn<'b>(
     fail_read(a, 0);
     let mut told = [0u8; 1000];
     ask(rt, a, b, &Call::Close { fd: 3 }, &mut told);
-    let next = ask(rt, a, b, &Call::Next { after: map.id.saturating_sub(1) }, &mut told);
+    let next = ask(
+        rt,
+        a,
+        b,
+        &Call::Next {
+            after: map.id.saturating_sub(1),
+        },
+        &mut told,
+    );
     let Told::File(stat) = next else {
         return false;
     };
@@ -301,13 +313,7 @@ fn read_drawn<'b>(
 }
 
 // So many turns on two empty volumes of a geometry. Answers how often bytes were read.
-fn soak(
-    rt: &impl Abort,
-    alloc: Global,
-    g: &Geometry,
-    seed: u64,
-    turns: u32,
-) -> Result<u32, Fail> {
+fn soak(rt: &impl Abort, alloc: Global, g: &Geometry, seed: u64, turns: u32) -> Result<u32, Fail> {
     let size = g.blocks() as usize * g.block() as usize;
     let unit = g.phys();
     if unit == 0 || size % unit as usize != 0 || size > 0x10_0000 {

@@ -89,7 +89,11 @@ fn a_map_that_is_refused_gives_its_bytes_back(rt: HostRuntime) -> Result<(), Fai
         return Err(Failed)?;
     };
     assert!(rt; back.why == MapErr::Call(FsErr::Failed) && *back.numbers == [9; 4]);
-    follow(&rt, &mut volume, &[Step::Starts(2), Step::IsAttached(false)]);
+    follow(
+        &rt,
+        &mut volume,
+        &[Step::Starts(2), Step::IsAttached(false)],
+    );
     let Err(back) = volume.attach_map(1, 0, back.numbers) else {
         return Err(Failed)?;
     };
@@ -182,7 +186,11 @@ fn spans_past_the_end_are_told_once_they_are_there(rt: HostRuntime) -> Result<()
     let lent = memory.lend();
     accept(&g, &board, &lent)?;
     let mut volume = Volume::new(g, &mut board, lent);
-    follow(&rt, &mut volume, &[Step::Starts(2), Step::Opens(b"ba", 17, Ok(1))]);
+    follow(
+        &rt,
+        &mut volume,
+        &[Step::Starts(2), Step::Opens(b"ba", 17, Ok(1))],
+    );
     assert!(rt; volume.attach_map(1, 2, &mut numbers).is_ok());
     let steps = [
         Step::HasNumbers(&[NONE, NONE, NONE]),
@@ -279,7 +287,11 @@ fn a_volume_that_has_failed_has_no_map(rt: HostRuntime) -> Result<(), Fail> {
     let lent = memory.lend();
     accept(&g, &board, &lent)?;
     let mut volume = Volume::new(g, &mut board, lent);
-    follow(&rt, &mut volume, &[Step::Starts(2), Step::Opens(b"ba", 24, Ok(1))]);
+    follow(
+        &rt,
+        &mut volume,
+        &[Step::Starts(2), Step::Opens(b"ba", 24, Ok(1))],
+    );
     assert!(rt; volume.attach_map(1, 0, &mut numbers).is_ok());
     let fault = Err(MapErr::Call(FsErr::DeviceFault));
     let failed = Err(MapErr::Call(FsErr::Failed));
@@ -300,7 +312,11 @@ fn a_volume_that_has_failed_has_no_map(rt: HostRuntime) -> Result<(), Fail> {
         return Err(Failed)?;
     };
     assert!(rt; back.why == MapErr::Call(FsErr::Failed) && back.numbers.len() == 4);
-    follow(&rt, &mut volume, &[Step::IsAttached(false), Step::Starts(2)]);
+    follow(
+        &rt,
+        &mut volume,
+        &[Step::IsAttached(false), Step::Starts(2)],
+    );
     assert!(rt; volume.attach_map_of(1, 0, back.numbers).is_ok());
     follow(&rt, &mut volume, &[Step::ReadsMap(250, Ok(2), &[0, 1])]);
     Ok(())
