@@ -41,7 +41,8 @@ PACKAGES = [
     Package("spiffs", ["spiffs"]),
     Package("script_rows", ["script_rows"]),
     Package("image_explain", ["image_explain"]),
-    Package("plain_tests", ["base_tests", "engine_tests", "firmware_example"]),
+    # (the last two are laws alone, for what is to come)
+    Package("plain_tests", ["base_tests", "engine_tests", "firmware_example", "copy_model", "trace_laws"]),
 ]
 
 # Crates of a registry.

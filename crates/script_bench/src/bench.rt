@@ -122,10 +122,10 @@ impl Bench {
         )?)
     }
 
-    /// The words of a scrub of the volume with a limit.
-    pub fn scrub_words(&self, limit: u64) -> Result<String, Trouble> {
-        let words = self.words("scrub")?;
-        Ok(format!(in self.alloc; "{words} {limit}")?)
+    /// The same of a command whose words a number ends: `scrub` with a limit, `map` with an id.
+    pub fn numbered_words(&self, command: &str, number: u64) -> Result<String, Trouble> {
+        let words = self.words(command)?;
+        Ok(format!(in self.alloc; "{words} {number}")?)
     }
 
     // Gives the command of these words, and answers its status.

@@ -203,10 +203,15 @@ fn is_mended(bench: &Bench, was: &[u8], image: &[u8]) -> Result<bool, Trouble> {
     )
 }
 
-/// Cuts a scrub with a limit inside each of its programs, erases and replies, done in five ways. The files are to stay, and a check is to leave
-/// two free blocks.
-pub fn cut_scrub(bench: &Bench, image: &[u8], limit: u64) -> Result<Swept, Trouble> {
-    let words = bench.scrub_words(limit)?;
+/// Cuts a scrub with a limit, or a map with an id, inside each of its programs, erases and replies, done in five ways. The files are to stay,
+/// and a check is to leave two free blocks.
+pub fn cut_numbered(
+    bench: &Bench,
+    image: &[u8],
+    command: &str,
+    number: u64,
+) -> Result<Swept, Trouble> {
+    let words = bench.numbered_words(command, number)?;
     for passed in 0..MOST {
         for pick in 0..5 {
             let ran = bench.give(&words, image, b"", Fault::Power { passed, pick })?;

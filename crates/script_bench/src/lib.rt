@@ -21,7 +21,7 @@ mod wanted;
 pub use agreement::{Agreement, agreement_of, is_in_order};
 pub use bench::{Bench, Fault, Lends, Told};
 pub use cutting::{
-    Swept, count_calls, cut_all_recoveries, cut_each, cut_once, cut_recoveries, cut_scrub,
+    Swept, count_calls, cut_all_recoveries, cut_each, cut_numbered, cut_once, cut_recoveries,
     fail_each,
 };
 pub use drawn::{draw_beside, draw_files};

@@ -94,12 +94,14 @@ fn do_part(
             let command = part.line.strip_prefix("tool ").ok_or(Trouble::Line)?;
             give(chip, command, &manner, part.script, &text, out)
         }
-        "scrub" => {
+        command @ ("scrub" | "map") => {
             let manner = Manner::of_words(alloc, part.words.get(1..).unwrap_or(&[]))?;
-            let command = chip.bench()?.scrub_words(number(part.words, 1, u64::MAX)?)?;
+            let number = number(part.words, 1, u64::MAX)?;
+            let command = chip.bench()?.numbered_words(command, number)?;
             give(chip, &command, &manner, part.script, &text, out)
         }
-        "scrubs" => sweeps::scrub(chip, part.words, out),
+        "scrubs" => sweeps::numbered(chip, "scrub", part.words, out),
+        "maps" => sweeps::numbered(chip, "map", part.words, out),
         "flat" => sweeps::compare(chip, &text, out),
         "drawn" => sweeps::draw(chip, part.words, out),
         "damaged" => sweeps::damage(chip, part.words, out),

@@ -4,7 +4,7 @@ use crate::commands::{kind_of, kind_text};
 use crate::words::{number, word};
 use script_bench::{
     Agreement, Odd, Steps, Swept, Tried, Trouble, agreement_of, cut_all_recoveries, cut_each,
-    cut_recoveries, cut_scrub, draw_beside, draw_calls, draw_files, fail_each, try_damaged,
+    cut_numbered, cut_recoveries, draw_beside, draw_calls, draw_files, fail_each, try_damaged,
 };
 use std::alloc::AllocError;
 
@@ -126,11 +126,21 @@ pub fn cut_twice(steps: &Steps, words: &[&str], out: &mut String) -> Result<(), 
     Ok(())
 }
 
-/// Cuts the power of a scrub at each program, erase and reply: `scrubs LIMIT`.
-pub fn scrub(chip: &Chip, words: &[&str], out: &mut String) -> Result<(), Trouble> {
+/// Cuts the power of a command at each program, erase and reply: `scrubs LIMIT`, `maps ID`.
+pub fn numbered(
+    chip: &Chip,
+    command: &str,
+    words: &[&str],
+    out: &mut String,
+) -> Result<(), Trouble> {
     let good = "the files stay, and a check leaves two free blocks";
-    let found = cut_scrub(&chip.bench()?, &chip.image, number(words, 1, u64::MAX)?)?;
-    tell_swept(found, "programs, erases and replies of a scrub", good, out)?;
+    let number = number(words, 1, u64::MAX)?;
+    let found = cut_numbered(&chip.bench()?, &chip.image, command, number)?;
+    let what = match command {
+        "map" => "programs, erases and replies of a map",
+        _ => "programs, erases and replies of a scrub",
+    };
+    tell_swept(found, what, good, out)?;
     Ok(())
 }
 
