@@ -1,11 +1,11 @@
 -- How a map ends before its closing line.
-use Rattle.std.proofs.Common.{◌≡◌, ◌≢◌, ℕ, ◌+◌, ◌≤◌, ◌⊎◌, List, [], ◌++◌, length, refl, sym, ◌∙◌, ap, subst, arith, inl, inr, ⊎_elim, append-nil, true, false, Option, Some, None, Result, Ok, Err}
-use Rattle.std.specs.Prelude.{unwrap_or, OnOk, OnErr}
+use Rattle.std.proofs.Common.{◌≡◌, ℕ, ◌⊎◌, List, [], ◌++◌, length, refl, sym, ◌∙◌, ap, subst, arith, inl, inr, ⊎_elim, append-nil, true, false, Option, Some, None, Result, Ok, Err}
+use Rattle.std.specs.Prelude.{unwrap_or}
 use Rattle.geometry.specs.declared.geometry.Geometry.{Geometry}
 use Rattle.nor_core.specs.declared.device.Failed.{Failed}
 use Rattle.nor_core.specs.declared.state.NorState.{Ghosts as NorOf}
-use Rattle.nor_core.specs.Device.{Leaves, InSay, OnlyReads, Changes}
-use Rattle.nor_core.proofs.Cuts.{andthen, widened, wider, started, reads_none}
+use Rattle.nor_core.specs.Device.{OnlyReads, Changes}
+use Rattle.nor_core.proofs.Cuts.{andthen, widened, wider, reads_none}
 use Rattle.table_model.specs.Table.{File, file_of, has_id}
 use Rattle.image_model.specs.Tables.{table_of}
 use Rattle.image_model.specs.Tidy.{IsTidy, HasReserve}
@@ -15,19 +15,16 @@ use Rattle.call_model.specs.Safe.{IsSafe, Holds as HoldsImage}
 use Rattle.call_model.proofs.Safety.{holds_then, holds_itself}
 use Rattle.vol_check.specs.declared.report.Report.{Report}
 use Rattle.volume.specs.declared.volume.Volume.{Volume}
-use Rattle.volume.specs.Holds.{memory, Holds}
-use Rattle.volume.specs.Mapping.{is_attached, GivesUpMap, KeepsMap}
+use Rattle.volume.specs.Holds.{memory}
 use Rattle.volume.proofs.MapCalls.{right_in}
 use Rattle.image_model.specs.Places.{IsImage}
 use Rattle.tool_core.specs.declared.ending.Ending.{Ending}
-use Rattle.tool_core.specs.declared.ending.Ending.TheVariants.{Done, BoardFault, NoSuchId, NotAFs, Mixed}
+use Rattle.tool_core.specs.declared.ending.Ending.TheVariants.{Done, BoardFault, NoSuchId}
 use Rattle.tool_core.specs.Closing.{status_of}
-use Rattle.tool_core.specs.Endings.{Speaks}
-use Rattle.tool_core.specs.Mapping.{span_lines, spans_told, map_text, file_ending, map_ending, StopsCollecting, IsAtRest, Rests, Steps, has_file, HasMap, MayHaveMap, IsMissing, IsFound, AttachesTo, CollectsTo, MapsAgain, TellsPages, SaysSpans, MapEnds, IsChecked, MapsTo}
-use Rattle.tool_core.specs.Mounting.{Checks, Reported, StopsCheck, IsMendable, LeavesFiles}
+use Rattle.tool_core.specs.Mapping.{span_lines, spans_told, map_text, file_ending, map_ending, StopsCollecting, IsAtRest, Rests, Steps, has_file, HasMap, MayHaveMap, IsMissing, AttachesTo, CollectsTo, MapsAgain, TellsPages, SaysSpans, MapEnds, MapsTo}
+use Rattle.tool_core.specs.Mounting.{Checks, Reported, StopsCheck, LeavesFiles}
 use Rattle.tool_core.specs.Outcomes.{first_moment, closed_memory}
-use Rattle.tool_core.specs.Refusals.{check_refusal, unless_refused}
-use Rattle.tool_core.specs.Scrubbing.{ScrubCut}
+use Rattle.tool_core.specs.Refusals.{unless_refused}
 use Rattle.tool_core.proofs.Beginning.{first_table}
 use Rattle.tool_core.proofs.MapPages.{tells_pages, file_there, file_missing}
 use Rattle.tool_core.proofs.MapSteps.{holds_first, steps_then}
@@ -106,10 +103,9 @@ module _ {N : Type 0} {nor : NorOf N} where
       let c = collects.done a.0.rest in
       let found = a.1 in
       let kept = c.1.1 in
-      let room = kept.room ∙ found.map.room in
-      (
+      let room = kept.room ∙ found.map.room in (
         ap (λ (k : Geometry). has_id id (table_of k (nor.bytes v2.nor.now))) (next ∙ same)
-        ∙ ap (has_id id) (subst (λ (k : Geometry). table_of k (nor.bytes v2.nor.now) ≡ table_of k (nor.bytes v1.nor.now)) same c.0.table ∙ a.0.table) ∙ found.there,
+            ∙ ap (has_id id) (subst (λ (k : Geometry). table_of k (nor.bytes v2.nor.now) ≡ table_of k (nor.bytes v1.nor.now)) same c.0.table ∙ a.0.table) ∙ found.there,
         record { some = omega arith; room = room; map = λ used. let s = kept.same used in record { used = used; of = s.1 ∙ found.map.of; first = s.2 ∙ found.map.first; room = room } },
       )
 
@@ -120,20 +116,22 @@ module _ {N : Type 0} {nor : NorOf N} where
       let g = v0.geometry in
       let was = nor.bytes v0.nor.now in
       let two = steps_then next collects again in
-      let all = steps_then same attaches two in
-      (all.changes, λ rest.
-      let a = attaches.done rest in
-      let c = collects.done a.0.rest in
-      let r = again.done c.0.rest in
-      let found = a.1 in
-      let had = had_map slots id same next attaches collects rest in
-      let last = r.1 8192 had.0 had.1 in
-      record {
-        rests = (all.done rest).0;
-        map = last.0;
-        there = found.there;
-        stops = subst (λ (l : List ℕ). StopsCollecting g was l) (sym last.1) (subst (λ (l : List ℕ). StopsCollecting g l (nor.bytes v2.nor.now)) found.bytes (subst (λ (k : Geometry). StopsCollecting k (nor.bytes v1.nor.now) (nor.bytes v2.nor.now)) same c.1.0));
-      })
+      let all = steps_then same attaches two in (
+        all.changes,
+        λ rest.
+            let a = attaches.done rest in
+            let c = collects.done a.0.rest in
+            let r = again.done c.0.rest in
+            let found = a.1 in
+            let had = had_map slots id same next attaches collects rest in
+            let last = r.1 8192 had.0 had.1 in
+            record {
+              rests = (all.done rest).0;
+              map = last.0;
+              there = found.there;
+              stops = subst (λ (l : List ℕ). StopsCollecting g was l) (sym last.1) (subst (λ (l : List ℕ). StopsCollecting g l (nor.bytes v2.nor.now)) found.bytes (subst (λ (k : Geometry). StopsCollecting k (nor.bytes v1.nor.now) (nor.bytes v2.nor.now)) same c.1.0));
+            },
+      )
 
   -- the map tells the pages of the file
   pub tells_file : {old mid : Volume N nor} (slots id : ℕ) → mid.geometry ≡ old.geometry → (nor.tells mid.nor.now → IsImage mid.geometry (nor.bytes mid.nor.now)) → IsMapped slots id old mid → TellsPages id (spans_told old.geometry (file_of id (table_of old.geometry (nor.bytes old.nor.now)))) mid
@@ -144,7 +142,7 @@ module _ {N : Type 0} {nor : NorOf N} where
       let m = first_moment mid.geometry slots now in
       let table : table_of mid.geometry now ≡ table_of old.geometry was = ap (λ (k : Geometry). table_of k now) same ∙ mapped.rests.table in
       let here : file_of mid.map.id m.settled ≡ Some f.0 =
-          ap (λ (i : ℕ). file_of i m.settled) mapped.map.of ∙ ap (file_of id) (first_table mid.geometry slots now) ∙ ap (file_of id) table ∙ f.1 in
+      ap (λ (i : ℕ). file_of i m.settled) mapped.map.of ∙ ap (file_of id) (first_table mid.geometry slots now) ∙ ap (file_of id) table ∙ f.1 in
       let right = right_in mid m f.0 image (holds_first mid mapped.rests.rest) mapped.map.used here in
       subst (λ (n : ℕ). TellsPages id n mid) (ap (λ (k : Geometry). spans_told k (Some f.0)) same ∙ ap (spans_told old.geometry) (sym f.1)) (tells_pages f.0 mapped.map right)
 
@@ -201,12 +199,12 @@ module _ {D : Type 0} {nor : NorOf D} {g : Geometry} where
       let now = nor.bytes new in
       let text = map_text g was now id in
       let apart : nor.tells old → (n : ℕ) → (n ≡ 0) ⊎ (n ≡ 17) → status_of ending ≡ n → ⊥ = λ tells n which is. ⊎_elim
-          (λ fault. ⊎_elim (λ a. omega (arith, a, is, ap status_of fault.fault)) (λ b. omega (arith, b, is, ap status_of fault.fault)) which)
-          (λ refused. ⊎_elim
-          (λ two. ⊎_elim (λ a. omega (arith, a, is, ap status_of two)) (λ b. omega (arith, b, is, ap status_of two)) which)
-          (λ mixed. ⊎_elim (λ a. omega (arith, a, is, ap status_of mixed)) (λ b. omega (arith, b, is, ap status_of mixed)) which)
-          (refusal_is g was ending refused.refusal))
-          (stops tells) in
+      (λ fault. ⊎_elim (λ a. omega (arith, a, is, ap status_of fault.fault)) (λ b. omega (arith, b, is, ap status_of fault.fault)) which)
+      (λ refused. ⊎_elim
+      (λ two. ⊎_elim (λ a. omega (arith, a, is, ap status_of two)) (λ b. omega (arith, b, is, ap status_of two)) which)
+      (λ mixed. ⊎_elim (λ a. omega (arith, a, is, ap status_of mixed)) (λ b. omega (arith, b, is, ap status_of mixed)) which)
+      (refusal_is g was ending refused.refusal))
+      (stops tells) in
       record {
         cuts = silent_cuts new text (check_files changes);
         speaks = λ tells. ⊎_elim
@@ -233,14 +231,14 @@ module _ {D : Type 0} {nor : NorOf D} {g : Geometry} where
       let whole : Changes nor old e.mid (LeavesFiles g) = after_check changes (λ tells. (reported tells).done.tidy) e.changes (λ tells image here. here) in
       let files : nor.tells old → file_of id (table_of g (nor.bytes mid)) ≡ file_of id (table_of g was) = λ tells. ap (file_of id) (changes.now tells).table in
       let text : nor.tells old → span_lines g last id (spans_told g (file_of id (table_of g (nor.bytes mid)))) ≡ map_text g was now id = λ tells.
-          ap (λ (o : Option File). span_lines g last id (spans_told g o)) (files tells) ∙ ap (λ (l : List ℕ). span_lines g l id (spans_told g (file_of id (table_of g was)))) (sym e.says.bytes)
-          ∙ sym (ap (λ (o : Option Ending). unless_refused o (span_lines g now id (spans_told g (file_of id (table_of g was))))) (reported tells).takes) in
+      ap (λ (o : Option File). span_lines g last id (spans_told g o)) (files tells) ∙ ap (λ (l : List ℕ). span_lines g l id (spans_told g (file_of id (table_of g was)))) (sym e.says.bytes)
+      ∙ sym (ap (λ (o : Option Ending). unless_refused o (span_lines g now id (spans_told g (file_of id (table_of g was))))) (reported tells).takes) in
       let ending : nor.tells old → file_ending id (file_of id (table_of g (nor.bytes mid))) ≡ map_ending g was id = λ tells.
-          ap (file_ending id) (files tells) ∙ sym (ap (λ (o : Option Ending). unwrap_or o (file_ending id (file_of id (table_of g was)))) (reported tells).takes) in
+      ap (file_ending id) (files tells) ∙ sym (ap (λ (o : Option Ending). unwrap_or o (file_ending id (file_of id (table_of g was)))) (reported tells).takes) in
       let follows : nor.tells old → (result ≡ BoardFault) ⊎ HoldsImage g was now = λ tells. ⊎_elim
-          (λ fault. inl fault)
-          (λ holds. inr (subst (λ (l : List ℕ). HoldsImage g was l) (sym e.says.bytes) (holds_then g was (nor.bytes mid) last (holds_check (changes.now tells)) holds)))
-          (e.holds (tells_mid tells)) in
+      (λ fault. inl fault)
+      (λ holds. inr (subst (λ (l : List ℕ). HoldsImage g was l) (sym e.says.bytes) (holds_then g was (nor.bytes mid) last (holds_check (changes.now tells)) holds)))
+      (e.holds (tells_mid tells)) in
       record {
         cuts = andthen (silent_cuts new (map_text g was now id) whole) (widened e.says.cuts (λ image count here tells.
             let i = here (whole.cuts.told tells) in

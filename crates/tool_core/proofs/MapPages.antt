@@ -1,7 +1,7 @@
 -- Which pages a right map tells.
-use Rattle.std.proofs.Common.{◌≡◌, ℕ, ◌+◌, ◌-◌, ◌/◌, ◌<◌, ◌≤◌, List, length, refl, sym, ◌∙◌, ap, subst, arith, ⊎_elim, Bool, true, false, Option, Some, None}
-use Rattle.std.specs.Prelude.{min, nat_lt, ◌==◌, ◌&&◌, if◌then◌else◌, is_some, option_and_then}
-use Rattle.std.proofs.lemmas.Bool.{cases_Bool, cases_lt}
+use Rattle.std.proofs.Common.{◌≡◌, ℕ, ◌+◌, ◌<◌, ◌≤◌, List, length, refl, sym, ◌∙◌, ap, arith, ⊎_elim, Bool, true, false, Option, Some, None}
+use Rattle.std.specs.Prelude.{nat_lt, ◌==◌, ◌&&◌, if◌then◌else◌, is_some, option_and_then}
+use Rattle.std.proofs.lemmas.Bool.{cases_lt}
 use Rattle.std.proofs.lemmas.Bool.Decides.{nat_tests}
 use Rattle.std.proofs.lemmas.Option.{none-some, same_Some}
 use Rattle.geometry.specs.declared.geometry.Geometry.{Geometry}
@@ -10,7 +10,7 @@ use Rattle.geometry.proofs.Bounds.{few_pages}
 use Rattle.nor_core.specs.declared.state.NorState.{Ghosts as NorOf}
 use Rattle.table_model.specs.Table.{File, file_of, has_id}
 use Rattle.table_model.specs.Room.{data_pages}
-use Rattle.image_model.specs.Live.{Live, live_at, own}
+use Rattle.image_model.specs.Live.{live_at, own}
 use Rattle.image_model.specs.Files.{entry_number, data_of}
 use Rattle.header_laws.proofs.Listed.{any-found}
 use Rattle.flash_view.specs.DataPages.{numbered, data_number, data_number_of}
@@ -19,7 +19,7 @@ use Rattle.ix_map.specs.Maps.{spans_in, number_at}
 use Rattle.ix_map.specs.Rights.{IsRight}
 use Rattle.volume.specs.declared.volume.Volume.{Volume}
 use Rattle.volume.specs.MapReads.{page_told}
-use Rattle.tool_core.specs.Mapping.{spans_told, HasMap, TellsPage, TellsPages}
+use Rattle.tool_core.specs.Mapping.{spans_told, HasMap, TellsPages}
 
 -- ---- the number of a data page is that of a page
 
@@ -76,7 +76,7 @@ module _ {N : Type 0} {nor : NorOf N} where
             let number = number_at v.numbers.now span in
             let at : v.map.first + span ≡ span = omega (arith, map.first) in
             let is : data_number_of g image id span ≡ Some number =
-                sym (ap (λ (k : ℕ). data_number_of g image k span) map.of) ∙ sym (ap (λ (s : ℕ). data_number_of g image v.map.id s) at) ∙ right.pages span (omega (arith, less, room)) (omega (arith, less, at)) in
+            sym (ap (λ (k : ℕ). data_number_of g image k span) map.of) ∙ sym (ap (λ (s : ℕ). data_number_of g image v.map.id s) at) ∙ right.pages span (omega (arith, less, room)) (omega (arith, less, at)) in
             record { page = number; told = told_at span map (omega (arith, less)); is = is; low = number_low g image id span number is };
         ends = λ less. told_at _ map less ∙ ap (λ (n : ℕ). Some n) (right.behind _ (omega (arith, less, room)) (omega (arith, less, map.first)));
       }

@@ -1,6 +1,6 @@
 -- The lines of a map, one after the other.
-use Rattle.std.proofs.Common.{◌≡◌, ◌≢◌, ℕ, zero, suc, ◌+◌, ◌<◌, ◌≤◌, ◌⊎◌, List, [], ◌++◌, refl, sym, ◌∙◌, ap, subst, arith, inl, inr, ⊎_elim, append-nil, append_assoc, Bool, true, false, Option, Some, None, Result, Ok, Err}
-use Rattle.std.specs.Prelude.{nat_lt, if◌then◌else◌, unwrap_or, OnOk, OnErr}
+use Rattle.std.proofs.Common.{◌≡◌, ℕ, zero, suc, ◌+◌, ◌<◌, ◌≤◌, List, [], ◌++◌, refl, sym, ◌∙◌, ap, subst, arith, ⊎_elim, append-nil, append_assoc, Bool, true, false, Option, Some, None, Result, Ok, Err}
+use Rattle.std.specs.Prelude.{nat_lt, if◌then◌else◌, unwrap_or}
 use Rattle.std.proofs.lemmas.Bool.{cases_lt}
 use Rattle.std.proofs.lemmas.Bool.Decides.{nat_tests}
 use Rattle.geometry.specs.declared.geometry.Geometry.{Geometry}
@@ -13,7 +13,7 @@ use Rattle.image_tool.proofs.Speaking.{Ahead, says_one, says_none, says_same, sa
 use Rattle.flash_view.specs.DataPages.{data_number_of}
 use Rattle.volume.specs.declared.volume.Volume.{Volume}
 use Rattle.volume.specs.MapReads.{page_told}
-use Rattle.tool_core.specs.Mapping.{page_line, span_line, span_lines, TellsPage, TellsPages, next_line, SaysSpan, SaysSpans}
+use Rattle.tool_core.specs.Mapping.{page_line, span_line, span_lines, TellsPages, next_line, SaysSpan, SaysSpans}
 
 -- ---- the line of a span
 
@@ -154,12 +154,16 @@ lines_behind g image id span (suc count) within = ⊎_elim
 lines_ahead : (g : Geometry) (image : List ℕ) (id span count : ℕ) → span ≤ count → (tail : List ℕ) × (span_lines g image id count ≡ span_lines g image id span ++ ((if nat_lt span count then span_line g image id span else []) ++ tail))
 lines_ahead g image id span count within = ⊎_elim
     (λ (more : span < count).
-    let b = lines_behind g image id (span + 1) count (omega (arith, more)) in
-    (b.0, b.1 ∙ ap (λ (l : List ℕ). l ++ b.0) (more_lines g image id span) ∙ append_assoc (span_lines g image id span) (span_line g image id span) b.0
-    ∙ sym (ap (λ (t : Bool). span_lines g image id span ++ ((if t then span_line g image id span else []) ++ b.0)) (is_more span count more))))
-    (λ (last : count ≤ span).
-    ([], ap (span_lines g image id) (let same : count ≡ span = omega arith in same) ∙ sym (append-nil (span_lines g image id span))
-    ∙ sym (ap (λ (t : Bool). span_lines g image id span ++ ((if t then span_line g image id span else []) ++ [])) (is_end span count last))))
+    let b = lines_behind g image id (span + 1) count (omega (arith, more)) in (
+      b.0,
+      b.1 ∙ ap (λ (l : List ℕ). l ++ b.0) (more_lines g image id span) ∙ append_assoc (span_lines g image id span) (span_line g image id span) b.0
+          ∙ sym (ap (λ (t : Bool). span_lines g image id span ++ ((if t then span_line g image id span else []) ++ b.0)) (is_more span count more)),
+    ))
+    (λ (last : count ≤ span). (
+      [],
+      ap (span_lines g image id) (let same : count ≡ span = omega arith in same) ∙ sym (append-nil (span_lines g image id span))
+          ∙ sym (ap (λ (t : Bool). span_lines g image id span ++ ((if t then span_line g image id span else []) ++ [])) (is_end span count last)),
+    ))
     (cases_lt span count)
 
 more_than : (span count : ℕ) → true ≡ nat_lt span count → span < count

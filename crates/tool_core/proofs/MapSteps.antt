@@ -1,6 +1,6 @@
 -- Steps on a volume at rest: a map is attached, garbage is collected, and the map is attached again where it was lost.
 use Rattle.std.proofs.Common.{◌≡◌, ℕ, ◌<◌, ◌⊎◌, List, [], length, Bool, true, false, refl, sym, ◌∙◌, ap, subst, arith, inl, inr, ⊎_elim, Option, Some, None, Result, Ok, Err}
-use Rattle.std.specs.Prelude.{nat_lt, is_some, if◌then◌else◌, MatchResult, OnOk}
+use Rattle.std.specs.Prelude.{nat_lt, if◌then◌else◌, OnOk}
 use Rattle.std.proofs.lemmas.Bool.Decides.{nat_tests}
 use Rattle.std.proofs.lemmas.Result.{MatchResult-weaker}
 use Rattle.geometry.specs.declared.geometry.Geometry.{Geometry}
@@ -9,7 +9,7 @@ use Rattle.nor_core.specs.Count.{Rose}
 use Rattle.nor_core.specs.Device.{Changes}
 use Rattle.nor_core.proofs.Cuts.{wider, go_on, unchanged}
 use Rattle.table_model.specs.declared.error.FsErr.{FsErr}
-use Rattle.table_model.specs.declared.error.FsErr.TheVariants.{DeviceFault, Damaged, NotFound, Tight as TooTight}
+use Rattle.table_model.specs.declared.error.FsErr.TheVariants.{DeviceFault, NotFound, Tight as TooTight}
 use Rattle.table_model.specs.Ask.{Collects}
 use Rattle.table_model.specs.Flat.{answer}
 use Rattle.table_model.specs.Reply.{Answer, Fine, Refuses}
@@ -19,10 +19,8 @@ use Rattle.table_model.specs.Window.{Moment, after, settled_at, from_settled, Is
 use Rattle.image_model.specs.Tables.{table_of}
 use Rattle.image_model.specs.Tidy.{IsTidy, HasReserve, has_spare}
 use Rattle.write_window.specs.Runs.{Run}
-use Rattle.call_model.specs.Calls.{Stands}
-use Rattle.call_model.specs.Memory.{Memory, IsAt, RunWaits}
-use Rattle.call_model.specs.Safe.{IsSafe, Holds as HoldsImage}
-use Rattle.call_model.proofs.After.{other-settles}
+use Rattle.call_model.specs.Memory.{Memory, RunWaits}
+use Rattle.call_model.specs.Safe.{Holds as HoldsImage}
 use Rattle.call_model.proofs.Safety.{holds_itself, holds_then, holds_safe, safe_as}
 use Rattle.volume.specs.declared.map_calls.MapErr.{MapErr}
 use Rattle.volume.specs.declared.map_calls.MapErr.TheVariants.{Call}
@@ -31,14 +29,14 @@ use Rattle.volume.specs.declared.volume.Volume.{Volume}
 use Rattle.volume.specs.Calls.{Calls}
 use Rattle.volume.specs.Holds.{memory, Holds}
 use Rattle.volume.specs.Mapping.{is_attached, KeepsMap}
-use Rattle.volume.specs.MapReads.{SettlesAndReads, Attaches, id_in, attach_refusal, why_back}
+use Rattle.volume.specs.MapReads.{SettlesAndReads, Attaches, id_in, attach_refusal}
 use Rattle.volume.specs.Opening.{is_open}
 use Rattle.volume.specs.Replies.{told, breaks}
 use Rattle.volume.specs.Stages.{takes_calls}
 use Rattle.volume.specs.Unchanged.{Unchanged}
 use Rattle.tool_core.specs.declared.ending.Ending.{Ending}
 use Rattle.tool_core.specs.declared.ending.Ending.TheVariants.{BoardFault, NoSuchId}
-use Rattle.tool_core.specs.Mapping.{unmapped_as, collected_as, StopsCollecting, IsAtRest, Rests, Steps, has_file, HasMap, MayHaveMap, IsMissing, IsFound, AttachesTo, CollectsTo, MapsAgain}
+use Rattle.tool_core.specs.Mapping.{unmapped_as, collected_as, StopsCollecting, IsAtRest, Rests, Steps, has_file, AttachesTo, CollectsTo, MapsAgain}
 use Rattle.tool_core.specs.Mounting.{LeavesFiles}
 use Rattle.tool_core.specs.Outcomes.{first_moment, closed_memory}
 use Rattle.tool_core.proofs.Beginning.{first_at}
@@ -107,12 +105,14 @@ module _ {N : Type 0} {nor : NorOf N} where
             let r = (first.done rest).0 in
             MatchResult-weaker result (second.done r.rest)
             (λ ok next.
-            let n = next.0 in
-            (record {
-              rest = n.rest;
-              table = subst (λ (g : Geometry). table_of g (nor.bytes new.nor.now) ≡ table_of g between) same n.table ∙ r.table;
-              holds = holds_then old.geometry was between (nor.bytes new.nor.now) r.holds (subst (λ (g : Geometry). HoldsImage g between (nor.bytes new.nor.now)) same n.holds);
-            }, next.1))
+            let n = next.0 in (
+              record {
+                rest = n.rest;
+                table = subst (λ (g : Geometry). table_of g (nor.bytes new.nor.now) ≡ table_of g between) same n.table ∙ r.table;
+                holds = holds_then old.geometry was between (nor.bytes new.nor.now) r.holds (subst (λ (g : Geometry). HoldsImage g between (nor.bytes new.nor.now)) same n.holds);
+              },
+              next.1,
+            ))
             (λ ending why. why);
       }
 
@@ -164,7 +164,7 @@ module _ {N : Type 0} {nor : NorOf N} where
         done = λ rest.
             let m = first_moment g slots was in
             let said : (refusal.why ≡ Call DeviceFault → ⊥) → Some refusal.why ≡ attach_refusal false (if has_id id m.state.table then Ok id else Err NotFound) =
-                λ fine. a.answers m takes (holds_first old rest) (λ e. fine cc) ∙ ap (λ (b : Bool). attach_refusal b (id_in id m.state)) free in
+            λ fine. a.answers m takes (holds_first old rest) (λ e. fine cc) ∙ ap (λ (b : Bool). attach_refusal b (id_in id m.state)) free in
             ⊎_elim
             (λ fault. inl (told_as ∙ fault))
             (λ missing. inr (record { ending_is = told_as ∙ missing.0; none = sym (ap (has_id id) (state_first g slots was)) ∙ missing.1; bytes = (attach_still takes a.call rest).reads.bytes }))
@@ -208,16 +208,18 @@ module _ {N : Type 0} {nor : NorOf N} where
             let s = stops rest in
             let t = stops_tidy s in
             let m = first_moment g slots was in
-            let left = (calls.cuts.now rest.tells) m (first_at g slots was was (memory old) rest.memory rest.tidy refl) in
-            (record {
-              rest = record {
-                tells = calls.cuts.cuts.told rest.tells;
-                tidy = subst (λ (k : Geometry). IsTidy k now) (sym calls.same.geometry) t.0;
-                memory = closed_still old new slots rest.memory (calls.keeps refl) (free rest);
-              };
-              table = t.1;
-              holds = record { sound = left.0.sound; reserve = stops_reserve s };
-            }, (s, subst (λ (b : Bool). KeepsMap old new b) fine (calls.maps m takes (holds_first old rest))));
+            let left = (calls.cuts.now rest.tells) m (first_at g slots was was (memory old) rest.memory rest.tidy refl) in (
+              record {
+                rest = record {
+                  tells = calls.cuts.cuts.told rest.tells;
+                  tidy = subst (λ (k : Geometry). IsTidy k now) (sym calls.same.geometry) t.0;
+                  memory = closed_still old new slots rest.memory (calls.keeps refl) (free rest);
+                };
+                table = t.1;
+                holds = record { sound = left.0.sound; reserve = stops_reserve s };
+              },
+              (s, subst (λ (b : Bool). KeepsMap old new b) fine (calls.maps m takes (holds_first old rest))),
+            );
       }
 
   gathered_ok : {slots : ℕ} {old new : Volume N nor} → takes_calls old ≡ true → Calls Collects old new Fine → CollectsTo slots old new (Ok tt)

@@ -1,5 +1,5 @@
 -- What a map leaves and says with its closing line.
-use Rattle.std.proofs.Common.{◌≡◌, ◌≢◌, ℕ, List, ◌++◌, length, refl, sym, ◌∙◌, ap, subst, arith, ⊎_elim}
+use Rattle.std.proofs.Common.{◌≡◌, ◌≢◌, ℕ, List, ◌++◌, length, sym, ◌∙◌, ap, subst, arith, ⊎_elim}
 use Rattle.geometry.specs.declared.geometry.Geometry.{Geometry}
 use Rattle.nor_core.specs.declared.state.NorState.{Ghosts as NorOf}
 use Rattle.nor_core.specs.Count.{Rose}
@@ -8,7 +8,7 @@ use Rattle.flash_view.specs.Same.{StaysBehind}
 use Rattle.image_model.specs.Tables.{table_of}
 use Rattle.call_model.specs.Safe.{IsSafe, Holds}
 use Rattle.tool_core.specs.declared.ending.Ending.{Ending}
-use Rattle.tool_core.specs.declared.ending.Ending.TheVariants.{Done, BoardFault}
+use Rattle.tool_core.specs.declared.ending.Ending.TheVariants.{BoardFault}
 use Rattle.tool_core.specs.Closing.{status_of, closing_line_of}
 use Rattle.tool_core.specs.Endings.{OnlyCloses, Concludes}
 use Rattle.tool_core.specs.Mapping.{map_text, map_ending, IsChecked, CollectedAfter, MapsTo, DoesMap}

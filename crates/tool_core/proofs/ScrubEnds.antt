@@ -1,5 +1,5 @@
 -- How a scrub ends before its closing line.
-use Rattle.std.proofs.Common.{◌≡◌, ℕ, ◌+◌, ◌<◌, ◌≤◌, ◌⊎◌, List, [], ◌++◌, length, take, drop, refl, sym, ◌∙◌, ap, subst, arith, inl, inr, ⊎_elim, append-nil, Option, Some, None, Result, Ok, Err}
+use Rattle.std.proofs.Common.{◌≡◌, ℕ, ◌≤◌, ◌⊎◌, List, [], ◌++◌, length, take, drop, refl, sym, ◌∙◌, ap, subst, arith, inl, inr, ⊎_elim, append-nil, Option, Some, None, Result, Ok, Err}
 use Rattle.std.specs.Prelude.{unwrap_or}
 use Rattle.std.proofs.lemmas.List.{take-append-drop}
 use Rattle.geometry.specs.declared.geometry.Geometry.{Geometry}
@@ -10,7 +10,7 @@ use Rattle.image_model.specs.Tables.{table_of}
 use Rattle.image_model.specs.Tidy.{IsTidy, HasReserve, free_blocks}
 use Rattle.call_model.specs.Memory.{Memory}
 use Rattle.call_model.specs.Safe.{IsSafe, Holds}
-use Rattle.call_model.proofs.Safety.{holds_safe, holds_then, safe_as}
+use Rattle.call_model.proofs.Safety.{holds_safe, holds_then}
 use Rattle.vol_check.specs.declared.report.Report.{Report}
 use Rattle.tool_core.specs.declared.ending.Ending.{Ending}
 use Rattle.tool_core.specs.declared.ending.Ending.TheVariants.{Done, BoardFault}
@@ -18,8 +18,8 @@ use Rattle.tool_core.specs.declared.scrubbing.Tally.{Tally}
 use Rattle.tool_core.specs.Begins.{StopsRun}
 use Rattle.tool_core.specs.Closing.{status_of}
 use Rattle.tool_core.specs.Endings.{Speaks}
-use Rattle.tool_core.specs.Mounting.{Checks, Reported, IsMendable, LeavesFiles}
-use Rattle.tool_core.specs.Refusals.{check_refusal, begin_refusal, unless_refused}
+use Rattle.tool_core.specs.Mounting.{Checks, Reported, LeavesFiles}
+use Rattle.tool_core.specs.Refusals.{begin_refusal, unless_refused}
 use Rattle.tool_core.specs.Scrubbing.{scrub_text, moved_text, scrub_ending, IsTally, KeepsFiles, Makes, ScrubCut, StopsScrub, SaysScrub, ScrubEnds, CheckLeaves, Scrubbed, ScrubsTo}
 use Rattle.tool_core.proofs.Beginning.{begins_on, early_why}
 use Rattle.tool_core.proofs.Mounted.{safe_check, holds_check}

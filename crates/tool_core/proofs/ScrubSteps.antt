@@ -1,8 +1,7 @@
 -- Scrub steps, one after the other, over images.
-use Rattle.std.proofs.Common.{◌≡◌, ℕ, zero, suc, ◌+◌, ◌<◌, ◌≤◌, ◌⊎◌, List, Bool, true, false, refl, sym, ◌∙◌, ap, subst, arith, inl, inr, None}
+use Rattle.std.proofs.Common.{◌≡◌, ℕ, suc, ◌+◌, ◌<◌, ◌≤◌, ◌⊎◌, List, true, false, refl, sym, ◌∙◌, subst, arith, inl, inr, None}
 use Rattle.geometry.specs.declared.geometry.Geometry.{Geometry}
 use Rattle.image_model.specs.Places.{next_count}
-use Rattle.image_model.specs.Tables.{table_of}
 use Rattle.image_model.specs.Tidy.{IsTidy, HasReserve, free_blocks}
 use Rattle.image_model.specs.Wear.{scrub_victim}
 use Rattle.call_model.proofs.Safety.{holds_then, holds_itself}

@@ -1,5 +1,5 @@
 -- What a scrub leaves and says with its closing line.
-use Rattle.std.proofs.Common.{◌≡◌, ◌≢◌, ℕ, List, ◌++◌, length, refl, sym, ◌∙◌, ap, subst, arith, ⊎_elim, length-append}
+use Rattle.std.proofs.Common.{◌≡◌, ℕ, List, ◌++◌, length, refl, sym, ◌∙◌, ap, subst, arith, ⊎_elim, length-append}
 use Rattle.geometry.specs.declared.geometry.Geometry.{Geometry}
 use Rattle.nor_core.specs.declared.state.NorState.{Ghosts as NorOf}
 use Rattle.nor_core.specs.Count.{Rose}
@@ -13,7 +13,6 @@ use Rattle.tool_core.specs.declared.ending.Ending.TheVariants.{Done, BoardFault}
 use Rattle.tool_core.specs.Closing.{status_of, closing_line_of}
 use Rattle.tool_core.specs.Endings.{OnlyCloses, Speaks, Concludes}
 use Rattle.tool_core.specs.Reads.{ReadsOnce}
-use Rattle.tool_core.specs.Refusals.{begin_refusal}
 use Rattle.tool_core.specs.Scrubbing.{moved_text, scrub_ending, ScrubCut, ScrubbedAfter, ScrubsTo, DoesScrub}
 use Rattle.tool_core.proofs.Reading.{reads_said, behind_closed}
 use Rattle.tool_core.proofs.Speaking.{concludes, within, none_closed, mended_closed}

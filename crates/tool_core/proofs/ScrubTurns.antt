@@ -1,18 +1,16 @@
 -- Scrub steps on a volume, one after the other.
-use Rattle.std.proofs.Common.{◌≡◌, ℕ, ◌+◌, ◌≤◌, ◌⊎◌, List, [], Bool, true, false, refl, sym, ◌∙◌, ap, subst, arith, ⊎_elim, None, Result, Ok, Err}
+use Rattle.std.proofs.Common.{◌≡◌, ℕ, ◌+◌, ◌≤◌, List, [], Bool, true, false, refl, sym, ◌∙◌, ap, subst, ⊎_elim, None, Result, Ok, Err}
 use Rattle.geometry.specs.declared.geometry.Geometry.{Geometry}
 use Rattle.nor_core.specs.declared.state.NorState.{Ghosts as NorOf}
 use Rattle.nor_core.specs.Device.{OnlyReads, Changes}
 use Rattle.nor_core.proofs.Cuts.{wider, go_on, unchanged, read_after}
 use Rattle.table_model.specs.declared.error.FsErr.{FsErr}
-use Rattle.table_model.specs.declared.error.FsErr.TheVariants.{DeviceFault}
 use Rattle.table_model.specs.Table.{File}
 use Rattle.table_model.specs.Window.{Moment, settled_at, from_settled, IsAmong}
 use Rattle.image_model.specs.Tables.{table_of}
-use Rattle.image_model.specs.Tidy.{IsTidy, HasReserve, free_blocks}
+use Rattle.image_model.specs.Tidy.{IsTidy, free_blocks}
 use Rattle.call_model.specs.Memory.{Memory, IsAt}
 use Rattle.call_model.specs.Calls.{Stands}
-use Rattle.call_model.specs.Safe.{Holds as HoldsImage}
 use Rattle.call_model.proofs.Safety.{holds_safe, holds_itself, safe_as}
 use Rattle.fd_table.specs.Slots.{descriptors}
 use Rattle.wear_scrub.specs.declared.scrubs.Scrub.{Scrub}

@@ -15,7 +15,7 @@ use Rattle.vol_check.specs.declared.report.CheckErr.TheVariants.{Wrong as CheckW
 use Rattle.vol_check.specs.declared.report.Report.{Report}
 use Rattle.volume.specs.Checking.{CheckDone}
 use Rattle.tool_core.specs.declared.ending.Ending.{Ending}
-use Rattle.tool_core.specs.declared.ending.Ending.TheVariants.{Geometry as WrongGeometry, ShortBuffer, NotAFs, Mixed, BoardFault, Differ}
+use Rattle.tool_core.specs.declared.ending.Ending.TheVariants.{Geometry as WrongGeometry, NotAFs, Mixed, BoardFault, Differ}
 use Rattle.tool_core.specs.Refusals.{check_refusal}
 
 -- what mounting and the check may leave of any image: its table, sound, two free blocks where they were there, and of the entries to spare

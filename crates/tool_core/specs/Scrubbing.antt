@@ -11,7 +11,7 @@ use Rattle.flash_view.specs.Same.{StaysBehind}
 use Rattle.call_model.specs.Memory.{Memory}
 use Rattle.call_model.specs.Safe.{IsSafe, Holds}
 use Rattle.wear_scrub.specs.declared.scrubs.Scrub.{Scrub}
-use Rattle.wear_scrub.specs.declared.scrubs.Scrub.TheVariants.{NoRoom, Rested, Moved}
+use Rattle.wear_scrub.specs.declared.scrubs.Scrub.TheVariants.{Moved}
 use Rattle.wear_scrub.specs.Scrubs.{ScrubDone}
 use Rattle.volume.specs.Checking.{SweepsAfter}
 use Rattle.tool_core.specs.declared.ending.Ending.{Ending}

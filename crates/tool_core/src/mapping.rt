@@ -161,11 +161,7 @@ fn say_spans<B: Board>(volume: &mut Volume<'_, B>) -> Result<(), Failed>
 
 // Maps the file of an id on a checked volume, collects garbage, and says the lines of the file's spans.
 #[tactic(auto, using(volume::proofs::Staying::same_then))]
-fn map_checked<'b, B: Board>(
-    volume: &mut Volume<'b, B>,
-    id: u16,
-    numbers: &'b mut [u8],
-) -> Ending
+fn map_checked<'b, B: Board>(volume: &mut Volume<'b, B>, id: u16, numbers: &'b mut [u8]) -> Ending
     requires takes { takes_calls volume.old ≡ true }
     requires free { is_attached volume.old ≡ false }
     requires room { length numbers.old ≡ 8192 }
@@ -193,11 +189,7 @@ fn map_checked<'b, B: Board>(
 
 // Mounts and checks a volume, maps the file of an id, collects garbage, and says the lines of the file's spans.
 #[tactic(auto, using(volume::proofs::Staying::same_then))]
-fn map_volume<'b, B: Board>(
-    volume: &mut Volume<'b, B>,
-    id: u16,
-    numbers: &'b mut [u8],
-) -> Ending
+fn map_volume<'b, B: Board>(volume: &mut Volume<'b, B>, id: u16, numbers: &'b mut [u8]) -> Ending
     requires writable { write_refusal volume.old.geometry ≡ None }
     requires free { is_attached volume.old ≡ false }
     requires room { length numbers.old ≡ 8192 }
@@ -239,12 +231,7 @@ fn map_board<'b, B: Board>(
 
 /// Mounts and checks the volume of a board in the lent memory, maps the file of an id from span 0 on in the first 8,192 bytes for lines,
 /// collects garbage, and says for each span which page of the volume has it.
-pub(crate) fn map_on<B: Board>(
-    g: Geometry,
-    id: u16,
-    board: &mut B,
-    bufs: &mut Buffers<'_>,
-) -> u8
+pub(crate) fn map_on<B: Board>(g: Geometry, id: u16, board: &mut B, bufs: &mut Buffers<'_>) -> u8
     requires fits { IsFitting g (B.unit board.old) (B.size board.old) }
     requires room { HasLengths g (lengths_of bufs.old) }
     ensures later { IsLaterStatus result }

@@ -1,4 +1,3 @@
-use Rattle.std.proofs.Common.{ℕ, length}
 use Rattle.tool_core.proofs.MapSteps.{attaches_ok, attaches_err, attaches_on, attaches_fault}
 use Rattle.tool_core.proofs.mapping.attach.Goals as goal
 

@@ -1,4 +1,4 @@
-use Rattle.std.proofs.Common.{◌≡◌, ◌∙◌, ℕ, arith, inl}
+use Rattle.std.proofs.Common.{◌∙◌, ℕ, arith, inl}
 use Rattle.image_model.specs.Tables.{table_of}
 use Rattle.table_model.specs.Table.{file_of}
 use Rattle.tool_core.specs.Mapping.{spans_told}

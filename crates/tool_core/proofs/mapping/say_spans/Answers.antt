@@ -1,4 +1,4 @@
-use Rattle.std.proofs.Common.{◌≡◌, true, false, arith, rules}
+use Rattle.std.proofs.Common.{arith}
 use Rattle.volume.proofs.Staying.{same_then, same_none}
 use Rattle.tool_core.proofs.MapSays.{span_as, spans_none, pages_then, spans_more, spans_done, spans_broken, spans_full}
 use Rattle.tool_core.proofs.mapping.say_spans.Goals as goal
