@@ -3,8 +3,8 @@ use crate::bytes::put;
 use geometry::{Geometry, MagicKind};
 use image_model::Damage;
 use image_plain::{
-    Record, Room, damaged_of, free_blocks, holds_volume, is_tidy, killed_of, mixed_blocks, room_of,
-    spoiled_blocks, table_of,
+    Record, Room, damaged_of, free_blocks, holds_volume, is_same_live, is_sound, is_tidy,
+    killed_of, meaning_of, mixed_blocks, room_of, spoiled_blocks, table_of,
 };
 use std::alloc::{AllocError, Global};
 use std::process::Abort;
@@ -388,4 +388,85 @@ fn a_size_counts_where_pages_stand_behind_it(rt: HostRuntime) -> Result<(), Fail
         image.as_slice(),
         ("bytes behind the old end", b"a", b"", 8, [0, 0, 14, 0]),
     )
+}
+
+// How many files an image has and how many are damaged, and whether it is sound with respect to a first one.
+fn soundness(
+    alloc: Global,
+    g: &Geometry,
+    image: &[u8],
+    first: &[u8],
+) -> Result<Option<(usize, usize, bool)>, AllocError> {
+    if !holds_volume(g, image) || !holds_volume(g, first) {
+        return Ok(None);
+    }
+    let now = meaning_of(alloc, g, image)?;
+    let before = meaning_of(alloc, g, first)?;
+    let sound = is_sound(
+        g,
+        image,
+        now.damaged.as_slice(),
+        first,
+        before.damaged.as_slice(),
+    );
+    Ok(Some((now.table.len(), now.damaged.len(), sound)))
+}
+
+#[test]
+fn an_image_is_sound_where_nothing_new_is_damaged_mixed_or_spoiled(
+    rt: HostRuntime,
+) -> Result<(), Fail> {
+    let g = Geometry::new(256, 4096, 16, 4096, 0, MagicKind::Length)?;
+    let mut first = blocks_with_magic(rt.alloc(), &g, &[0, 0])?;
+    put_new_file(&mut first);
+    let mut hello = Vec::from_slice(rt.alloc(), first.as_slice())?;
+    put_hello(&mut hello);
+    let mut damaged = Vec::from_slice(rt.alloc(), first.as_slice())?;
+    put(&mut damaged, 264, &[0xFE]);
+    let mut cut = Vec::from_slice(rt.alloc(), hello.as_slice())?;
+    put(&mut cut, 20480, &[0x5A; 4096]);
+    let mut spoiled = Vec::from_slice(rt.alloc(), cut.as_slice())?;
+    put(&mut spoiled, 24576, &[0x5A; 4096]);
+    let mut mixed = Vec::from_slice(rt.alloc(), hello.as_slice())?;
+    put_mixed(&mut mixed);
+    for (title, image, base, wanted) in [
+        ("itself", &first, &first, (1, 0, true)),
+        ("written", &hello, &first, (1, 0, true)),
+        ("a new damage", &damaged, &hello, (0, 1, false)),
+        ("an old damage", &damaged, &damaged, (0, 1, true)),
+        ("one block in an erase", &cut, &hello, (1, 0, true)),
+        ("two blocks", &spoiled, &hello, (1, 0, false)),
+    ] {
+        let got = soundness(rt.alloc(), &g, image.as_slice(), base.as_slice())?;
+        assert!(rt; got == Some(wanted), "{title}: {:?}", got);
+    }
+    let anew = soundness(rt.alloc(), &g, mixed.as_slice(), first.as_slice())?;
+    assert!(rt; anew.is_some_and(|(_, _, sound)| !sound), "{:?}", anew);
+    let same = soundness(rt.alloc(), &g, mixed.as_slice(), mixed.as_slice())?;
+    assert!(rt; same.is_some_and(|(_, _, sound)| sound), "{:?}", same);
+    Ok(())
+}
+
+// Whether two images have the same live pages, where both hold a volume.
+fn same_live(g: &Geometry, a: &[u8], b: &[u8]) -> Option<bool> {
+    if !holds_volume(g, a) || !holds_volume(g, b) {
+        return None;
+    }
+    Some(is_same_live(g, a, b))
+}
+
+#[test]
+fn bytes_of_pages_that_are_not_live_do_not_count(rt: HostRuntime) -> Result<(), Fail> {
+    let g = Geometry::new(256, 4096, 16, 4096, 0, MagicKind::Length)?;
+    let mut hello = blocks_with_magic(rt.alloc(), &g, &[0, 0])?;
+    put_new_file(&mut hello);
+    put_hello(&mut hello);
+    let mut other = Vec::from_slice(rt.alloc(), hello.as_slice())?;
+    put(&mut other, 60000, &[0x12, 0x34]);
+    assert!(rt; same_live(&g, hello.as_slice(), other.as_slice()) == Some(true));
+    put(&mut other, 4361, b"J");
+    assert!(rt; same_live(&g, hello.as_slice(), other.as_slice()) == Some(false));
+    put(&mut hello, 4361, b"J");
+    assert!(rt; same_live(&g, hello.as_slice(), other.as_slice()) == Some(true));
+    Ok(())
 }

@@ -24,6 +24,8 @@ mod lines;
 #[cfg(test)]
 mod listed;
 #[cfg(test)]
+mod moments;
+#[cfg(test)]
 mod numbers;
 #[cfg(test)]
 mod shares;
