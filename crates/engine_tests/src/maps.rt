@@ -88,7 +88,7 @@ fn a_map_that_is_refused_gives_its_bytes_back(rt: HostRuntime) -> Result<(), Fai
     let Err(back) = volume.attach_map_of(1, 0, &mut numbers) else {
         return Err(Failed)?;
     };
-    assert!(rt; back.why == MapErr::Call(FsErr::Failed) && *back.numbers == [9; 4]);
+    assert!(rt; back.why == MapErr::Call(FsErr::Failed) && &*back.numbers == [9; 4].as_slice());
     follow(
         &rt,
         &mut volume,
@@ -97,7 +97,9 @@ fn a_map_that_is_refused_gives_its_bytes_back(rt: HostRuntime) -> Result<(), Fai
     let Err(back) = volume.attach_map(1, 0, back.numbers) else {
         return Err(Failed)?;
     };
-    assert!(rt; back.why == MapErr::Call(FsErr::BadDescriptor) && *back.numbers == [9; 4]);
+    assert!(rt;
+        back.why == MapErr::Call(FsErr::BadDescriptor) && &*back.numbers == [9; 4].as_slice()
+    );
     let Err(back) = volume.attach_map_of(2, 0, back.numbers) else {
         return Err(Failed)?;
     };
@@ -107,11 +109,11 @@ fn a_map_that_is_refused_gives_its_bytes_back(rt: HostRuntime) -> Result<(), Fai
     let Err(back) = volume.attach_map_of(2, 0, &mut more) else {
         return Err(Failed)?;
     };
-    assert!(rt; back.why == MapErr::MapBusy && *back.numbers == [5; 6]);
+    assert!(rt; back.why == MapErr::MapBusy && &*back.numbers == [5; 6].as_slice());
     let Err(back) = volume.attach_map(9, 0, back.numbers) else {
         return Err(Failed)?;
     };
-    assert!(rt; back.why == MapErr::MapBusy && *back.numbers == [5; 6]);
+    assert!(rt; back.why == MapErr::MapBusy && &*back.numbers == [5; 6].as_slice());
     let kept = [
         Step::HasNumbers(&[17, 18]),
         Step::ReadsMap(250, Ok(2), &[0, 1]),
