@@ -1,5 +1,5 @@
 -- What stands at a place, by the words of a file.
-use Rattle.std.proofs.Common.{◌≡◌, ℕ, ◌+◌, ◌-◌, ◌*◌, ◌/◌, ◌%◌, ◌^◌, ◌<◌, ◌≤◌, ◌⊎◌, Bool, true, false, List, length, drop, Option, Some, None, refl, sym, ap, ◌∙◌, subst, arith, ⊎_elim}
+use Rattle.std.proofs.Common.{◌≡◌, ℕ, ◌+◌, ◌-◌, ◌*◌, ◌/◌, ◌%◌, ◌^◌, ◌<◌, ◌≤◌, ◌⊎◌, true, List, length, drop, Option, Some, None, sym, ap, ◌∙◌, subst, arith, ⊎_elim}
 use Rattle.std.proofs.Math.Nat.{le-div_iff_mul-le, mul-le-mul_right}
 use Rattle.geometry.specs.declared.geometry.Geometry.{Geometry}
 use Rattle.geometry.specs.declared.magic.MagicKind.{MagicKind}
@@ -7,12 +7,12 @@ use Rattle.geometry.specs.declared.magic.MagicKind.TheVariants.{Plain, Length}
 use Rattle.geometry.proofs.Geometries.{same_numbers}
 use Rattle.image_model.specs.Places.{has_magic}
 use Rattle.image_model.specs.Kinds.{spoiled_blocks}
-use Rattle.volume_detect.specs.Candidates.{IsPlace, IsRow, SameBlocks, IsTail, IsLongest, IsCandidate}
-use Rattle.volume_detect.specs.Places.{unit_of, block_power, page_power, kind_of, byte_of, block_bytes, page_bytes, IsAt, IsFoundAt, FoundAt, place_count, HasPlace}
+use Rattle.volume_detect.specs.Candidates.{IsRow, SameBlocks, IsTail, IsLongest}
+use Rattle.volume_detect.specs.Places.{unit_of, block_power, page_power, kind_of, byte_of, block_bytes, page_bytes, IsFoundAt, FoundAt, place_count}
 use Rattle.volume_detect.specs.Rows.{is_marked, AtMostOne}
 use Rattle.volume_detect.specs.Spots.{IsSpot, word_class}
 use Rattle.volume_detect.specs.Tails.{IsTailBy}
-use Rattle.volume_detect.specs.Told.{IsIn, IsRowOf, EndsMarked, TellsLength, TellsPlain, Tells}
+use Rattle.volume_detect.specs.Told.{IsIn, IsRowOf, EndsMarked, Tells}
 use Rattle.volume_detect.specs.Words.{HasWords}
 use Rattle.volume_detect.specs.declared.spot.Spot.{Spot}
 use Rattle.volume_detect.proofs.Bridge.{marked_is, count_from_words, words_from_count}
@@ -57,10 +57,11 @@ word_inside place units b inside low =
     let steps : 6 * 2 ^ j * b ≡ 6 * (2 ^ j * b) = regroup (2 ^ j) b in
     let few : word_class j (page_power place) < 6 = class_few (page_power place) j (omega arith) (omega arith) in
     omega (arith, fits, parts, steps, few, least, inside) where
-  parted : (a c : ℕ) → (a + 1) * c ≡ c * a + c
-  parted a c = omega arith
-  regroup : (a c : ℕ) → 6 * a * c ≡ 6 * (a * c)
-  regroup a c = omega arith
+      parted : (a c : ℕ) → (a + 1) * c ≡ c * a + c
+      parted a c = omega arith
+
+      regroup : (a c : ℕ) → 6 * a * c ≡ 6 * (a * c)
+      regroup a c = omega arith
 
 pub bytes_inside : (words : List ℕ) (place units : ℕ) (s : Spot) → IsSpot place units s → length words ≡ 12 * units → place < 84 * units → (b : ℕ) → b < s.room → 2 * (s.first + s.step * b) + 2 ≤ length words
 bytes_inside words place units s spot all inside b low =
@@ -94,16 +95,16 @@ module _ (file words : List ℕ) (place units : ℕ) (has : HasWords file words)
       let few : g.blocks * 2 ^ block_power place ≤ units - unit_of place = (le-div_iff_mul-le {k = 2 ^ block_power place} {x = g.blocks} {y = units - unit_of place} (omega (arith, least))).0 is.fits in
       let bytes : g.blocks * g.block ≡ 4096 * (g.blocks * 2 ^ block_power place) = ap (λ (x : ℕ). g.blocks * x) is.block_is ∙ regroup g.blocks (2 ^ block_power place) in
       omega (arith, few, bytes, all, inside) where
-    regroup : (a b : ℕ) → a * (4096 * b) ≡ 4096 * (a * b)
-    regroup a b = omega arith
+        regroup : (a b : ℕ) → a * (4096 * b) ≡ 4096 * (a * b)
+        regroup a b = omega arith
 
   fits_room : (g : Geometry) → g.block ≡ block_bytes place → byte_of place + g.blocks * g.block ≤ length file → g.blocks ≤ room_of place units
   fits_room g block fits =
       let least : 1 ≤ 2 ^ block_power place = power_least (block_power place) block_low in
       let bytes : g.blocks * g.block ≡ 4096 * (g.blocks * 2 ^ block_power place) = ap (λ (x : ℕ). g.blocks * x) block ∙ regroup g.blocks (2 ^ block_power place) in
       (le-div_iff_mul-le {k = 2 ^ block_power place} {x = g.blocks} {y = units - unit_of place} (omega (arith, least))).1 (omega (arith, fits, bytes, all)) where
-    regroup : (a b : ℕ) → a * (4096 * b) ≡ 4096 * (a * b)
-    regroup a b = omega arith
+        regroup : (a b : ℕ) → a * (4096 * b) ≡ 4096 * (a * b)
+        regroup a b = omega arith
 
   -- the magics of its blocks are words
   marks : (kind : MagicKind) (g : Geometry) → IsHere kind g → (b : ℕ) → b < g.blocks → is_marked words (first_of place) (step_of place) g b ≡ has_magic g (drop (byte_of place) file) b
@@ -188,10 +189,11 @@ module _ (file words : List ℕ) (place units : ℕ) (has : HasWords file words)
       let bytes : h.blocks * h.block ≡ g.blocks * g.block + more * g.block = ap (λ (x : ℕ). h.blocks * x) same ∙ ap (λ (n : ℕ). n * g.block) blocks ∙ parted g.blocks more g.block in
       let parts : more * g.block ≡ 4096 * (2 ^ block_power place * more) = ap (λ (x : ℕ). more * x) block ∙ regroup more (2 ^ block_power place) in
       omega (arith, bytes, parts, less, fits) where
-    parted : (a b c : ℕ) → (a + b) * c ≡ a * c + b * c
-    parted a b c = omega arith
-    regroup : (a b : ℕ) → a * (4096 * b) ≡ 4096 * (b * a)
-    regroup a b = omega arith
+        parted : (a b c : ℕ) → (a + b) * c ≡ a * c + b * c
+        parted a b c = omega arith
+
+        regroup : (a b : ℕ) → a * (4096 * b) ≡ 4096 * (b * a)
+        regroup a b = omega arith
 
   tail_words : (kind : MagicKind) (g h : Geometry) (more : ℕ) → IsHere kind g → IsTail file (byte_of place) g more h → IsTailBy words (first_of place) (step_of place) g more
   tail_words kind g h more is tail =
@@ -207,7 +209,7 @@ module _ (file words : List ℕ) (place units : ℕ) (has : HasWords file words)
       let one : (0 + 1) * h.block ≤ h.blocks * h.block = mul-le-mul_right h.block (omega (arith, three)) in
       let few : spoiled_blocks h (drop (4096 * u) file) ≤ 1 = subst (λ (x : ℕ). spoiled_blocks h (drop x file) ≤ 1) (sym at) tail.magics in
       let marked : is_marked words (6 * u + word_class (block_power place) (page_power place)) (step_of place) h 0 ≡ true =
-          marked_is file words u (page_power place) (block_power place) h has page_low block_low page block 0 (omega (arith, one, fits)) ∙ ap (λ (x : ℕ). has_magic h (drop x file) 0) at ∙ tail.first in
+      marked_is file words u (page_power place) (block_power place) h has page_low block_low page block 0 (omega (arith, one, fits)) ∙ ap (λ (x : ℕ). has_magic h (drop x file) 0) at ∙ tail.first in
       let wide : step_of place * more ≡ 6 * (2 ^ block_power place * more) = regroup6 (2 ^ block_power place) more in
       record {
         longer = h;
@@ -217,10 +219,11 @@ module _ (file words : List ℕ) (place units : ℕ) (has : HasWords file words)
         marked = subst (λ (x : ℕ). is_marked words x (step_of place) h 0 ≡ true) from marked;
         gap = subst (λ (x : ℕ). AtMostOne (is_marked words x (step_of place) h) h.blocks) from (words_from_count file words u (page_power place) (block_power place) h has page_low block_low page block fits few);
       } where
-    regroup : (a b : ℕ) → a * (4096 * b) ≡ 4096 * (b * a)
-    regroup a b = omega arith
-    regroup6 : (a b : ℕ) → 6 * a * b ≡ 6 * (a * b)
-    regroup6 a b = omega arith
+        regroup : (a b : ℕ) → a * (4096 * b) ≡ 4096 * (b * a)
+        regroup a b = omega arith
+
+        regroup6 : (a b : ℕ) → 6 * a * b ≡ 6 * (a * b)
+        regroup6 a b = omega arith
 
   tail_file : (kind : MagicKind) (g : Geometry) (more : ℕ) → IsHere kind g → 0 < more → (tail : IsTailBy words (first_of place) (step_of place) g more) → IsTail file (byte_of place) g more tail.longer
   tail_file kind g more is some tail =
@@ -246,10 +249,11 @@ module _ (file words : List ℕ) (place units : ℕ) (has : HasWords file words)
         magics = subst (λ (x : ℕ). spoiled_blocks h (drop x file) ≤ 1) at (count_from_words file words u (page_power place) (block_power place) h has page_low block_low page block fits gap);
         first = subst (λ (x : ℕ). has_magic h (drop x file) 0 ≡ true) at (sym (marked_is file words u (page_power place) (block_power place) h has page_low block_low page block 0 (omega (arith, one, fits))) ∙ marked);
       } where
-    regroup : (a b : ℕ) → a * (4096 * b) ≡ 4096 * (b * a)
-    regroup a b = omega arith
-    regroup6 : (a b : ℕ) → 6 * a * b ≡ 6 * (a * b)
-    regroup6 a b = omega arith
+        regroup : (a b : ℕ) → a * (4096 * b) ≡ 4096 * (b * a)
+        regroup a b = omega arith
+
+        regroup6 : (a b : ℕ) → 6 * a * b ≡ 6 * (a * b)
+        regroup6 a b = omega arith
 
   -- ---- what stands there
 
@@ -267,17 +271,18 @@ module _ (file words : List ℕ) (place units : ℕ) (has : HasWords file words)
   pub one_told : (kind : MagicKind) (g : Geometry) → kind ≡ kind_of place → Tells words (first_of place) (step_of place) (page_bytes place) (block_bytes place) (room_of place units) kind (Some g) → (IsTailBy words (first_of place) (step_of place) g 1 → ⊥) → (IsTailBy words (first_of place) (step_of place) g 2 → ⊥) → FoundAt file place (Some g)
   one_told kind g same tells not_one not_two =
       let w = told_here kind g tells in
-      let is : IsHere kind g = w.0 in
-      (record {
-        numbers = record { page = is.page_is; block = is.block_is; phys = is.phys_is; meta = w.1; magic = is.magic_is ∙ same };
-        candidate = record {
-          place = record { whole = (let e : byte_of place % 4096 ≡ 0 = omega arith in e); page = (page_power place, page_low, is.page_is); block = (block_power place, block_low, is.block_is); phys = is.phys_is ∙ sym is.block_is };
-          row = row_file kind g is w.2;
-          longest = longest_by kind g same tells;
-          no_tail = λ more h tail. ⊎_elim not_one not_two (near_tail words (first_of place) (step_of place) g more (tail_words kind g h more is tail) tail.some);
-        };
-      },
-      λ h found. same_told kind g h same tells found)
+      let is : IsHere kind g = w.0 in (
+        record {
+          numbers = record { page = is.page_is; block = is.block_is; phys = is.phys_is; meta = w.1; magic = is.magic_is ∙ same };
+          candidate = record {
+            place = record { whole = (let e : byte_of place % 4096 ≡ 0 = omega arith in e); page = (page_power place, page_low, is.page_is); block = (block_power place, block_low, is.block_is); phys = is.phys_is ∙ sym is.block_is };
+            row = row_file kind g is w.2;
+            longest = longest_by kind g same tells;
+            no_tail = λ more h tail. ⊎_elim not_one not_two (near_tail words (first_of place) (step_of place) g more (tail_words kind g h more is tail) tail.some);
+          };
+        },
+        λ h found. same_told kind g h same tells found,
+      )
 
   -- it is told, and a tail
   pub tail_told : (kind : MagicKind) (g : Geometry) → kind ≡ kind_of place → Tells words (first_of place) (step_of place) (page_bytes place) (block_bytes place) (room_of place units) kind (Some g) → IsTailBy words (first_of place) (step_of place) g 1 ⊎ IsTailBy words (first_of place) (step_of place) g 2 → FoundAt file place None

@@ -9,3 +9,4 @@ pub mod Bridge
 pub mod Fills
 pub mod Found
 pub mod Numbered
+pub mod Fronts

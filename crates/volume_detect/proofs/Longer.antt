@@ -1,5 +1,5 @@
 -- A tail of a longer row is one of a row that is longer by a block or two.
-use Rattle.std.proofs.Common.{◌≡◌, ℕ, ◌+◌, ◌-◌, ◌*◌, ◌<◌, ◌≤◌, ◌⊎◌, ◌==◌, Bool, true, false, List, bit_xor, inl, inr, ⊎_elim, refl, sym, ap, ◌∙◌, subst, arith}
+use Rattle.std.proofs.Common.{◌≡◌, ℕ, ◌+◌, ◌-◌, ◌*◌, ◌<◌, ◌≤◌, ◌⊎◌, ◌==◌, true, false, List, bit_xor, inl, inr, ⊎_elim, refl, sym, ap, ◌∙◌, subst, arith}
 use Rattle.std.proofs.Math.Nat.{mul-le-mul_right, mul-le-mul_left}
 use Rattle.std.proofs.lemmas.Bool.{cases_Bool, true_from_ne_false, both_ways}
 use Rattle.geometry.specs.declared.geometry.Geometry.{Geometry}
@@ -58,7 +58,7 @@ part_tail words first step g more k tail some part marked =
       magic = tail.same.magic ∙ sym w.1.magic;
     } in
     let shift : (b : ℕ) → is_marked words (first - step * more) step h (more - k + b) ≡ is_marked words (first - step * k) step l b =
-        λ b. ap (λ (x : ℕ). is_marked words x step h (more - k + b)) (sym from) ∙ same_marked words (first - step * k) step l h (more - k) b same blocks inside' in
+    λ b. ap (λ (x : ℕ). is_marked words x step h (more - k + b)) (sym from) ∙ same_marked words (first - step * k) step l h (more - k) b same blocks inside' in
     record {
       longer = l;
       inside = inside;
@@ -105,7 +105,7 @@ near_tail words first step g more tail some =
     let not_one : more ≡ 1 → ⊥ = λ e. let first_one : is_marked words from step h 0 ≡ true = tail.marked in let zero : more - 1 ≡ 0 = omega (arith, e) in let bad : is_marked words from step h 0 ≡ false = subst (λ (x : ℕ). is_marked words from step h x ≡ false) zero lacks in absurd (cc) in
     let two : 2 ≤ more = omega (arith, not_one, some) in
     let there : is_marked words from step h (more - 2) ≡ true = true_from_ne_false _ (λ lacks'.
-        let same : more - 1 ≡ more - 2 = tail.gap (more - 1) (more - 2) (omega (arith, tail.blocks)) (omega (arith, tail.blocks)) lacks lacks' in
-        absurd (omega (arith, same, two))) in
+    let same : more - 1 ≡ more - 2 = tail.gap (more - 1) (more - 2) (omega (arith, tail.blocks)) (omega (arith, tail.blocks)) lacks lacks' in
+    absurd (omega (arith, same, two))) in
     inr (part_tail words first step g more 2 tail (omega arith) two there))
     (cases_Bool (is_marked words from step h (more - 1)))

@@ -1,5 +1,5 @@
 -- What magics tell.
-use Rattle.std.proofs.Common.{◌≡◌, ℕ, ◌+◌, ◌-◌, ◌<◌, ◌≤◌, bit_xor, sym, ap, ◌∙◌, arith}
+use Rattle.std.proofs.Common.{◌≡◌, ℕ, bit_xor, sym, ap, ◌∙◌}
 use Rattle.std.specs.Int.Bits.{xor_self, xor_zero_r, xor_assoc}
 use Rattle.std.proofs.lemmas.Nat.{xor_comm}
 

@@ -1,11 +1,11 @@
 -- Each candidate stands at a place.
-use Rattle.std.proofs.Common.{◌≡◌, ℕ, ◌+◌, ◌-◌, ◌*◌, ◌/◌, ◌%◌, ◌^◌, ◌<◌, ◌≤◌, List, length, refl, sym, ap, ◌∙◌, subst, arith}
-use Rattle.std.proofs.Math.Nat.{mul-le-mul_right, mul-le-mul_left}
+use Rattle.std.proofs.Common.{◌≡◌, ℕ, ◌+◌, ◌*◌, ◌/◌, ◌%◌, ◌^◌, ◌<◌, ◌≤◌, List, length, refl, sym, ap, ◌∙◌, subst, arith}
+use Rattle.std.proofs.Math.Nat.{mul-le-mul_right}
 use Rattle.geometry.specs.declared.geometry.Geometry.{Geometry}
 use Rattle.geometry.specs.declared.magic.MagicKind.{MagicKind}
 use Rattle.geometry.specs.declared.magic.MagicKind.TheVariants.{Plain, Length}
 use Rattle.volume_detect.specs.Candidates.{IsCandidate}
-use Rattle.volume_detect.specs.Places.{unit_of, block_power, page_power, kind_of, byte_of, block_bytes, page_bytes, IsAt, IsFoundAt, place_count, HasPlace}
+use Rattle.volume_detect.specs.Places.{unit_of, block_power, page_power, kind_of, byte_of, block_bytes, page_bytes, HasPlace}
 use Rattle.volume_detect.proofs.Sizes.{power_least}
 
 -- the number of a place
@@ -65,14 +65,18 @@ has_place file at g is none =
     let wide : 4096 ≤ g.block = omega (arith, is.place.block.2, least) in
     let inside : u < length file / 4096 = omega (arith, some, wide, is.row.fits) in
     let pages : 128 * 2 ^ i ≡ page_bytes place = ap (λ (n : ℕ). 128 * 2 ^ n) (sym (page_is u j i k low low' small)) in
-    let blocks : 4096 * 2 ^ j ≡ block_bytes place = ap (λ (n : ℕ). 4096 * 2 ^ n) (sym (block_is u j i k low low' small)) in
-    (place, within u j i k low low' small (length file / 4096) inside, byte, record {
-      numbers = record {
-        page = is.place.page.2 ∙ pages;
-        block = is.place.block.2 ∙ blocks;
-        phys = is.place.phys ∙ is.place.block.2 ∙ blocks;
-        meta = none;
-        magic = sym (kind_is g.magic place (half_is u j i k low low' small));
-      };
-      candidate = subst (λ (x : ℕ). IsCandidate file x g) (sym byte) is;
-    })
+    let blocks : 4096 * 2 ^ j ≡ block_bytes place = ap (λ (n : ℕ). 4096 * 2 ^ n) (sym (block_is u j i k low low' small)) in (
+      place,
+      within u j i k low low' small (length file / 4096) inside,
+      byte,
+      record {
+        numbers = record {
+          page = is.place.page.2 ∙ pages;
+          block = is.place.block.2 ∙ blocks;
+          phys = is.place.phys ∙ is.place.block.2 ∙ blocks;
+          meta = none;
+          magic = sym (kind_is g.magic place (half_is u j i k low low' small));
+        };
+        candidate = subst (λ (x : ℕ). IsCandidate file x g) (sym byte) is;
+      },
+    )

@@ -1,11 +1,10 @@
 -- Which numbers make a volume.
-use Rattle.std.proofs.Common.{◌≡◌, ℕ, ◌+◌, ◌-◌, ◌*◌, ◌/◌, ◌%◌, ◌^◌, ◌<◌, ◌≤◌, Bool, true, false, Option, Some, None, not, ◌==◌, ◌&&◌, nat_le, nat_lt, refl, sym, ◌∙◌, ap, subst, arith}
+use Rattle.std.proofs.Common.{◌≡◌, ℕ, ◌+◌, ◌*◌, ◌/◌, ◌<◌, ◌≤◌, true, Some, None, refl, sym, ◌∙◌, ap, subst, arith}
 use Rattle.std.proofs.lemmas.Bool.{and_from, eq-eqb, ne_eqb, le-leb, le-ltb, not_from_false}
 use Rattle.std.proofs.Math.Nat.{mul-le-mul_right, mul-le-mul_left, mul_assoc}
 use Rattle.geometry.specs.declared.geometry.Geometry.{Geometry}
-use Rattle.geometry.specs.declared.magic.MagicKind.{MagicKind}
 use Rattle.geometry.specs.declared.error.GeoErr.{GeoErr}
-use Rattle.geometry.specs.Rules.{IsVolume, pages_in, lookups_in, entries_in, is_page, is_block, has_magic_room}
+use Rattle.geometry.specs.Rules.{IsVolume, pages_in, lookups_in, entries_in, is_page, is_block}
 use Rattle.geometry.specs.Numbers.{refusal}
 use Rattle.geometry.proofs.Geometries.{made}
 use Rattle.volume_detect.specs.Candidates.{SameBlocks}
@@ -53,6 +52,8 @@ other_blocks g blocks three few = record {
 -- it is there
 pub with_blocks : (g : Geometry) (blocks : ℕ) → 3 ≤ blocks → blocks * pages_in g.page g.block ≤ 65535 → (h : Geometry) × SameBlocks g h × (h.blocks ≡ blocks)
 unfolding made
-with_blocks g blocks three few =
-    (made g.page g.block blocks g.phys g.meta g.magic (other_blocks g blocks three few) g.pages_each g.lookups_each g.kept,
-    record { page = refl; block = refl; phys = refl; meta = refl; magic = refl }, refl)
+with_blocks g blocks three few = (
+  made g.page g.block blocks g.phys g.meta g.magic (other_blocks g blocks three few) g.pages_each g.lookups_each g.kept,
+  record { page = refl; block = refl; phys = refl; meta = refl; magic = refl },
+  refl,
+)

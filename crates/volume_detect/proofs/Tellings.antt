@@ -1,7 +1,7 @@
 -- What the words of a row tell.
-use Rattle.std.proofs.Common.{◌≡◌, ℕ, ◌+◌, ◌-◌, ◌*◌, ◌/◌, ◌^◌, ◌<◌, ◌≤◌, ◌⊎◌, ◌==◌, min, Bool, true, false, List, Option, Some, None, IfSome, bit_xor, inl, inr, ⊎_elim, refl, sym, ap, ◌∙◌, subst, arith}
+use Rattle.std.proofs.Common.{◌≡◌, ℕ, ◌+◌, ◌-◌, ◌*◌, ◌/◌, ◌<◌, ◌≤◌, ◌⊎◌, ◌==◌, min, Bool, true, false, List, Option, Some, None, IfSome, bit_xor, inl, inr, ⊎_elim, refl, sym, ap, ◌∙◌, subst, arith}
 use Rattle.std.specs.Int.Bits.{xor_zero_r}
-use Rattle.std.proofs.Math.Nat.{mul-le-mul_right, le-div_iff_mul-le}
+use Rattle.std.proofs.Math.Nat.{le-div_iff_mul-le}
 use Rattle.std.proofs.lemmas.Bool.{cases_Bool, cases_lt, eqb-true, true_from_ne_false}
 use Rattle.geometry.specs.declared.geometry.Geometry.{Geometry}
 use Rattle.geometry.specs.declared.magic.MagicKind.{MagicKind}
@@ -54,14 +54,15 @@ module _ (words : List ℕ) (first step page block room : ℕ) where
   -- the longest row is the volume, where the rules take it
   pub plain_tells : (n : ℕ) (o : Option Geometry) → LongestRow (is_equal words first step (bit_xor 0x0529 page)) (min room (65535 / (block / page))) n → IfSome o (λ g. IsOf g page block n block 0 Plain) → (o ≡ None → NoVolume page block n) → TellsPlain words first step page block room o
   plain_tells n (Some g) longest is none =
-      let some : 0 < n = (let three : 3 ≤ g.blocks = g.valid.some_blocks in omega (arith, is.blocks_is, three)) in
-      (record { page_is = is.page_is; block_is = is.block_is; phys_is = is.phys_is; magic_is = is.magic_is; fits = omega (arith, is.blocks_is, longest.few) },
-      is.meta_is,
-      record {
-        last = plain_marked g (g.blocks - 1) is.page_is is.magic_is ∙ ap (λ (x : ℕ). is_equal words first step (bit_xor 0x0529 page) (x - 1)) is.blocks_is ∙ longest.last some;
-        row = subst (λ (x : ℕ). AtMostOne (is_marked words first step g) x) (sym is.blocks_is) (gap_by (is_equal words first step (bit_xor 0x0529 page)) (is_marked words first step g) n (λ b low. sym (plain_marked g b is.page_is is.magic_is)) longest.gap);
-      },
-      λ h is_in ends. let le : h.blocks ≤ n = no_longer n h longest is_in ends in omega (arith, le, is.blocks_is))
+      let some : 0 < n = (let three : 3 ≤ g.blocks = g.valid.some_blocks in omega (arith, is.blocks_is, three)) in (
+        record { page_is = is.page_is; block_is = is.block_is; phys_is = is.phys_is; magic_is = is.magic_is; fits = omega (arith, is.blocks_is, longest.few) },
+        is.meta_is,
+        record {
+          last = plain_marked g (g.blocks - 1) is.page_is is.magic_is ∙ ap (λ (x : ℕ). is_equal words first step (bit_xor 0x0529 page) (x - 1)) is.blocks_is ∙ longest.last some;
+          row = subst (λ (x : ℕ). AtMostOne (is_marked words first step g) x) (sym is.blocks_is) (gap_by (is_equal words first step (bit_xor 0x0529 page)) (is_marked words first step g) n (λ b low. sym (plain_marked g b is.page_is is.magic_is)) longest.gap);
+        },
+        λ h is_in ends. let le : h.blocks ≤ n = no_longer n h longest is_in ends in omega (arith, le, is.blocks_is),
+      )
   plain_tells n None longest is none = λ h is_in ends.
       let le : h.blocks ≤ n = no_longer n h longest is_in ends in
       let three : 3 ≤ h.blocks = h.valid.some_blocks in
@@ -137,7 +138,7 @@ module _ (words : List ℕ) (first step page block room : ℕ) where
   told_by h is row =
       let three : 3 ≤ h.blocks = h.valid.some_blocks in
       let tells : (b : ℕ) → is_marked words first step h b ≡ true → bit_xor (word_of words (first + step * b)) (bit_xor 0x0529 page) ≡ h.blocks - b =
-          λ b has. ap (λ (x : ℕ). bit_xor x (bit_xor 0x0529 page)) (eqb-true _ _ has ∙ length_right h page b is.page_is is.magic_is) ∙ told_back (bit_xor 0x0529 page) (h.blocks - b) in
+      λ b has. ap (λ (x : ℕ). bit_xor x (bit_xor 0x0529 page)) (eqb-true _ _ has ∙ length_right h page b is.page_is is.magic_is) ∙ told_back (bit_xor 0x0529 page) (h.blocks - b) in
       ⊎_elim
       (λ (yes : is_marked words first step h 0 ≡ true).
       let at : first + step * 0 ≡ first = omega arith in

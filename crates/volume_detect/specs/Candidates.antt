@@ -1,7 +1,7 @@
 -- Which volumes a file may hold, by the magics of their blocks.
-use Rattle.std.specs.Prelude.{ℕ, ◌≡◌, ◌+◌, ◌-◌, ◌*◌, ◌%◌, ◌^◌, ◌<◌, ◌≤◌, List, length, drop, true}
+use Rattle.std.specs.Prelude.{ℕ, ◌≡◌, ◌+◌, ◌-◌, ◌*◌, ◌%◌, ◌^◌, ◌<◌, ◌≤◌, ◌⊎◌, List, length, drop, true}
 use Rattle.geometry.specs.declared.geometry.Geometry.{Geometry}
-use Rattle.geometry.specs.declared.magic.MagicKind.TheVariants.{Plain}
+use Rattle.geometry.specs.declared.magic.MagicKind.TheVariants.{Plain, Length}
 use Rattle.image_model.specs.Places.{has_magic}
 use Rattle.image_model.specs.Kinds.{spoiled_blocks}
 
@@ -45,3 +45,10 @@ pub record IsCandidate (file : List ℕ) (at : ℕ) (g : Geometry) : Type 0 wher
   pub row : IsRow file at g
   pub longest : g.magic ≡ Plain → IsLongest file at g
   pub no_tail : (more : ℕ) (h : Geometry) → IsTail file at g more h → ⊥
+
+-- A volume of which each block has its magic begins with the file, and ends with it, or its magic tells where it ends.
+pub record IsFront (file : List ℕ) (g : Geometry) : Type 0 where
+  pub block : (j : ℕ) × (j < 7) × (g.block ≡ 4096 * 2 ^ j)
+  pub phys : g.phys ≡ g.block
+  pub ends : (length file ≡ g.blocks * g.block) ⊎ ((g.magic ≡ Length) × (g.blocks * g.block ≤ length file))
+  pub magics : (b : ℕ) → b < g.blocks → has_magic g file b ≡ true

@@ -1,5 +1,5 @@
 -- The places at which a volume may begin, numbered: by the byte, then the size of the block, then that of the page, then what the magic tells.
-use Rattle.std.specs.Prelude.{ℕ, ◌≡◌, ◌+◌, ◌-◌, ◌*◌, ◌/◌, ◌%◌, ◌^◌, ◌<◌, ◌≤◌, ◌==◌, List, length, max, if◌then◌else◌, Option, Some, None}
+use Rattle.std.specs.Prelude.{ℕ, ◌≡◌, ◌*◌, ◌/◌, ◌%◌, ◌^◌, ◌<◌, ◌≤◌, ◌==◌, List, length, if◌then◌else◌, Option, Some, None}
 use Rattle.geometry.specs.declared.geometry.Geometry.{Geometry}
 use Rattle.geometry.specs.declared.magic.MagicKind.{MagicKind}
 use Rattle.geometry.specs.declared.magic.MagicKind.TheVariants.{Plain, Length}
@@ -58,3 +58,13 @@ NextFound file from None = (p : ℕ) (h : Geometry) → from ≤ p → IsFoundAt
 -- a candidate stands at a place of the file
 abbrev pub HasPlace : List ℕ → ℕ → Geometry → Type 0
 HasPlace file at g = (place : ℕ) × (place < place_count file) × (byte_of place ≡ at) × IsFoundAt file place g
+
+-- a candidate of the same numbers, with no meta bytes, stands at the first byte
+pub record IsFoundFirst (file : List ℕ) (g : Geometry) : Type 0 where
+  pub candidate : Geometry
+  pub page : candidate.page ≡ g.page
+  pub block : candidate.block ≡ g.block
+  pub blocks : candidate.blocks ≡ g.blocks
+  pub phys : candidate.phys ≡ g.phys
+  pub magic : candidate.magic ≡ g.magic
+  pub place : HasPlace file 0 candidate

@@ -1,8 +1,8 @@
 //! Candidates one after the other.
 ghost use Rattle.std.specs.Prelude.{◌≡◌, ℕ, ◌+◌, ◌*◌, ◌/◌, ◌%◌, ◌<◌, ◌≤◌, ◌^◌, List, length};
 ghost use Rattle.geometry.specs.declared.geometry.Geometry.{Geometry as AnyGeometry};
-ghost use Rattle.volume_detect.specs.Candidates.{IsCandidate};
-ghost use Rattle.volume_detect.specs.Places.{FoundAt, NextFound, HasPlace};
+ghost use Rattle.volume_detect.specs.Candidates.{IsCandidate, IsFront};
+ghost use Rattle.volume_detect.specs.Places.{FoundAt, NextFound, HasPlace, IsFoundFirst};
 ghost use Rattle.volume_detect.specs.Told.{Tells};
 ghost use Rattle.volume_detect.specs.Words.{HasWords};
 
@@ -72,4 +72,10 @@ pub fn next_candidate(words: &[u8], from: u32) -> Option<(u32, Geometry)>
 /// A law: each candidate of a file, with no meta bytes, stands at a place of it.
 pub fn candidates_have_places()
     ensures { (file : List ℕ) (at : ℕ) (g : AnyGeometry) → IsCandidate file at g → g.meta ≡ 0 → HasPlace file at g }
+{}
+
+/// A law: a volume at the front of a file, of which each block has its magic, is among the candidates there. So is one that was
+/// formatted or checked, and what is made of it later, if the file is the volume alone or the magic tells the length.
+pub fn front_volumes_are_found()
+    ensures { (file : List ℕ) (g : AnyGeometry) → IsFront file g → IsFoundFirst file g }
 {}

@@ -10,6 +10,6 @@ mod told;
 mod volumes;
 mod words;
 
-pub use finding::{next_candidate, place_count};
+pub use finding::{candidates_have_places, front_volumes_are_found, next_candidate, place_count};
 pub use spot::byte_of;
 pub use words::{UNIT, read_words, words_need};

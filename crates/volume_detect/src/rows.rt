@@ -53,13 +53,7 @@ fn row_end(has: bool, b: u32, longest: u32) -> u32
 
 // Of how many blocks the longest row is that ends with a block that has this magic, and of which at most one lacks it. It has at
 // most so many.
-pub(crate) fn longest_row(
-    words: &[u8],
-    first: usize,
-    step: usize,
-    magic: u16,
-    most: u32,
-) -> u32
+pub(crate) fn longest_row(words: &[u8], first: usize, step: usize, magic: u16, most: u32) -> u32
     requires few { most ≤ 65535 }
     requires inside { (b : ℕ) → b < most → 2 * (first + step * b) + 2 ≤ length words.now }
     ensures { LongestRow (is_equal words.now first step magic) most result }

@@ -1,4 +1,4 @@
-use Rattle.std.proofs.Common.{◌≤◌, arith}
+use Rattle.std.proofs.Common.{arith}
 use Rattle.volume_detect.proofs.Sizes.{page_most}
 use Rattle.volume_detect.proofs.finding.told_at.Goals as goal
 

@@ -1,6 +1,5 @@
-use Rattle.std.proofs.Common.{◌≡◌, ℕ, ◌+◌, ◌-◌, ◌*◌, ◌/◌, ◌%◌, ◌^◌, ◌<◌, ◌≤◌, List, length, Some, None, refl, sym, ap, ◌∙◌, arith, ⊎_elim, inl, inr}
+use Rattle.std.proofs.Common.{◌-◌, ◌≤◌, Some, None, sym, ◌∙◌, arith, ⊎_elim, inl, inr}
 use Rattle.volume_detect.specs.Places.{page_power, block_power}
-use Rattle.volume_detect.specs.Words.{HasWords}
 use Rattle.volume_detect.specs.Tails.{IsTailBy}
 use Rattle.volume_detect.proofs.Sizes.{power_most, power_least}
 use Rattle.volume_detect.proofs.Tellings.{told_in}

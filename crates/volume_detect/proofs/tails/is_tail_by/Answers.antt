@@ -1,4 +1,4 @@
-use Rattle.std.proofs.Common.{◌≡◌, ℕ, ◌+◌, refl, sym, ap, ◌∙◌}
+use Rattle.std.proofs.Common.{ℕ, ◌+◌, refl, sym, ap, ◌∙◌}
 use Rattle.volume_detect.proofs.Longer.{last_inside, not_marked, not_row}
 use Rattle.volume_detect.proofs.tails.is_tail_by.Goals as goal
 

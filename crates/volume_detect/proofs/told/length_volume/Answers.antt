@@ -1,5 +1,5 @@
-use Rattle.std.proofs.Common.{◌≡◌, ℕ, ◌+◌, bit_xor, ap, ◌∙◌}
-use Rattle.volume_detect.proofs.Tellings.{first_tells, second_tells, no_room}
+use Rattle.std.proofs.Common.{ℕ, ◌+◌, bit_xor, ap, ◌∙◌}
+use Rattle.volume_detect.proofs.Tellings.{first_tells, second_tells}
 use Rattle.volume_detect.proofs.told.length_volume.Goals as goal
 
 pub returns-in-Some : goal.returns-in-Some

@@ -1,4 +1,4 @@
-use Rattle.std.proofs.Common.{◌≡◌, ℕ, ◌/◌, min, subst}
+use Rattle.std.proofs.Common.{ℕ, ◌/◌, min, subst}
 use Rattle.volume_detect.specs.Rows.{is_equal, LongestRow}
 use Rattle.volume_detect.proofs.Tellings.{plain_tells}
 use Rattle.volume_detect.proofs.told.plain_volume.Goals as goal

@@ -1,5 +1,5 @@
 use Rattle.std.proofs.Common.{refl}
-use Rattle.volume_detect.proofs.Tellings.{by_none, by_many, by_row, by_gaps}
+use Rattle.volume_detect.proofs.Tellings.{by_none}
 use Rattle.volume_detect.proofs.told.volume_by.Goals as goal
 
 pub returns-in-None : goal.returns-in-None
