@@ -38,7 +38,7 @@ class Package:
 
 PACKAGES = [
     Package("liverymenhir", ["volume", "wear_scrub"], exported=["volume", "nor_core"], no_std=True),
-    Package("spiffs", ["spiffs", "volume_detect", "nor_image"]),
+    Package("spiffs", ["spiffs", "volume_rank"]),
     Package("script_rows", ["script_rows"]),
     Package("image_explain", ["image_explain"]),
     Package("plain_tests", ["base_tests", "engine_tests", "firmware_example"]),
