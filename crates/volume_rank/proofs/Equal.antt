@@ -1,13 +1,12 @@
 -- Numbers of meta bytes by which as many files are whole.
-use Rattle.std.proofs.Common.{◌≡◌, ◌==◌, ℕ, ◌+◌, ◌-◌, ◌<◌, ◌≤◌, Bool, true, false, List, length, refl, sym, ap, ◌∙◌, subst, arith, ⊎_elim}
-use Rattle.std.proofs.lemmas.Bool.{cases_lt, cases_eq, eqb-true, eq-eqb, both_ways}
+use Rattle.std.proofs.Common.{◌≡◌, ◌==◌, ℕ, ◌+◌, ◌-◌, ◌<◌, ◌≤◌, Bool, true, false, List, length, sym, ap, ◌∙◌, arith, ⊎_elim}
+use Rattle.std.proofs.lemmas.Bool.{cases_lt, eqb-true, eq-eqb, both_ways}
 use Rattle.geometry.specs.declared.geometry.Geometry.{Geometry}
 use Rattle.geometry.proofs.Geometries.{same_numbers}
 use Rattle.image_model.specs.Tables.{table_of}
 use Rattle.meta_guess.specs.declared.counts.Counts.{Counts}
 use Rattle.meta_guess.specs.declared.counts.Guess.{Guess}
 use Rattle.meta_guess.specs.Guesses.{SameBut, IsMeta, CountsOf, IsGuess}
-use Rattle.volume_rank.specs.declared.found.MetaRange.{MetaRange}
 use Rattle.volume_rank.specs.Ranges.{ReadsEqual, IsRange}
 
 module _ (g : Geometry) (image : List ℕ) where

@@ -1,9 +1,9 @@
 -- Candidates that are got into a list one after the other.
-use Rattle.std.proofs.Common.{◌≡◌, ℕ, ◌+◌, ◌<◌, ◌≤◌, List, length, get_or, slice_index_or, slice_set, set, Some, None, refl, sym, ap, ◌∙◌, subst, arith, ⊎_elim}
+use Rattle.std.proofs.Common.{◌≡◌, ℕ, ◌+◌, ◌<◌, ◌≤◌, List, length, slice_index_or, slice_set, Some, None, sym, ap, ◌∙◌, subst, arith, ⊎_elim}
 use Rattle.std.proofs.lemmas.List.{get_or-set_same, get_or-set_other}
 use Rattle.std.proofs.lemmas.Bool.{cases_lt}
 use Rattle.geometry.specs.declared.geometry.Geometry.{Geometry}
-use Rattle.volume_detect.specs.Places.{IsFoundAt, NextFound}
+use Rattle.volume_detect.specs.Places.{NextFound}
 use Rattle.volume_rank.specs.declared.found.Found.{Found}
 use Rattle.volume_rank.specs.Finds.{IsFound, IsCollected, AreAll, AreMore}
 

@@ -1,7 +1,7 @@
 -- The lent memory that a volume needs.
-use Rattle.std.proofs.Common.{◌≡◌, ℕ, ◌+◌, ◌*◌, ◌/◌, ◌^◌, ◌<◌, ◌≤◌, refl, arith}
+use Rattle.std.proofs.Common.{◌≡◌, ◌^◌, ◌≤◌, refl, arith}
 use Rattle.geometry.specs.declared.geometry.Geometry.{Geometry}
-use Rattle.geometry.specs.Numbers.{per_block, lookups, entries, usable, page_count, scratch_need, cache_need, check_need}
+use Rattle.geometry.specs.Numbers.{per_block, lookups, entries, page_count, scratch_need, cache_need, check_need}
 use Rattle.geometry.proofs.Bounds.{few_pages, few_in_block, few_usable}
 use Rattle.meta_guess.specs.Guesses.{SameBut}
 

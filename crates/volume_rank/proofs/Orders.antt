@@ -1,6 +1,6 @@
 -- The first of a list that comes behind one.
-use Rattle.std.proofs.Common.{◌≡◌, ◌==◌, ℕ, ◌+◌, ◌<◌, ◌≤◌, ◌⊎◌, ◌&&◌, ◌||◌, Bool, true, false, nat_lt, List, length, slice_index_or, Option, Some, None, inl, inr, refl, sym, ap, ◌∙◌, subst, arith, ⊎_elim}
-use Rattle.std.proofs.lemmas.Bool.{cases_lt, cases_Bool, or_cases, or_left, or_right, and_parts, and_from, ltb-true, lt-ltb, eqb-true, eq-eqb, both_ways}
+use Rattle.std.proofs.Common.{◌≡◌, ◌==◌, ℕ, ◌+◌, ◌<◌, ◌≤◌, ◌⊎◌, ◌&&◌, ◌||◌, true, false, nat_lt, List, length, slice_index_or, Option, Some, None, inl, inr, sym, ap, ◌∙◌, subst, arith, ⊎_elim}
+use Rattle.std.proofs.lemmas.Bool.{cases_lt, or_cases, or_left, or_right, and_parts, and_from, ltb-true, lt-ltb, eqb-true, eq-eqb, both_ways}
 use Rattle.volume_rank.specs.declared.found.Found.{Found}
 use Rattle.volume_rank.specs.Order.{IsBefore, is_before, is_behind, FirstBehind, Better}
 
@@ -10,10 +10,13 @@ before_is f g is = ⊎_elim
     (λ (more : nat_lt g.counts.whole f.counts.whole ≡ true). inl (ltb-true _ _ more))
     (λ (rest : ((f.counts.whole == g.counts.whole) && (nat_lt f.counts.damaged g.counts.damaged || ((f.counts.damaged == g.counts.damaged) && nat_lt f.place g.place))) ≡ true).
     let w = and_parts _ _ rest in
-    inr (eqb-true _ _ w.0, ⊎_elim
-    (λ (less : nat_lt f.counts.damaged g.counts.damaged ≡ true). inl (ltb-true _ _ less))
-    (λ (last : ((f.counts.damaged == g.counts.damaged) && nat_lt f.place g.place) ≡ true). let v = and_parts _ _ last in inr (eqb-true _ _ v.0, ltb-true _ _ v.1))
-    (or_cases _ _ w.1)))
+    inr (
+      eqb-true _ _ w.0,
+      ⊎_elim
+          (λ (less : nat_lt f.counts.damaged g.counts.damaged ≡ true). inl (ltb-true _ _ less))
+          (λ (last : ((f.counts.damaged == g.counts.damaged) && nat_lt f.place g.place) ≡ true). let v = and_parts _ _ last in inr (eqb-true _ _ v.0, ltb-true _ _ v.1))
+          (or_cases _ _ w.1),
+    ))
     (or_cases _ _ is)
 
 is_tested : (f g : Found) → IsBefore f g → is_before f g ≡ true
@@ -62,26 +65,34 @@ module _ (list : List Found) (after : Option Found) where
   first_stays n f best next is not same was = subst (λ (o : Option Found). FirstTo list (n + 1) after o) (sym same) (by_best best was) where
     other : (d : Found) (k : ℕ) → n ≤ k → k < n + 1 → is_behind after (slice_index_or list k d) ≡ true → ⊥
     other d k low high behind = both_ways (is_behind after f) not (ap (λ (x : Found). is_behind after x) (sym (last_is f n k d is low high)) ∙ behind)
+
     by_best : (best : Option Found) → FirstTo list n after best → FirstTo list (n + 1) after best
     by_best None was = λ d k low behind. ⊎_elim (λ (below : k < n). was d k below behind) (λ (above : n ≤ k). other d k above low behind) (cases_lt k n)
     by_best (Some b) was = (was.0, λ d. let w = was.1 d in (w.0, omega (arith, w.1), w.2), λ d k low behind before. ⊎_elim (λ (below : k < n). was.2 d k below behind before) (λ (above : n ≤ k). other d k above low behind) (cases_lt k n))
 
   -- one that does
   new_first : (n : ℕ) (f : Found) → ((d : Found) → slice_index_or list n d ≡ f) → is_behind after f ≡ true → ((d : Found) (k : ℕ) → k < n → is_behind after (slice_index_or list k d) ≡ true → is_before (slice_index_or list k d) f ≡ true → ⊥) → FirstTo list (n + 1) after (Some f)
-  new_first n f is behind none = (behind, λ d. (n, omega arith, is d), λ d k low behind' before. ⊎_elim
-      (λ (below : k < n). none d k below behind' before)
-      (λ (above : n ≤ k). not_itself f (ap (λ (x : Found). is_before x f) (sym (last_is f n k d is above low)) ∙ before))
-      (cases_lt k n))
+  new_first n f is behind none = (
+    behind,
+    λ d. (n, omega arith, is d),
+    λ d k low behind' before. ⊎_elim
+        (λ (below : k < n). none d k below behind' before)
+        (λ (above : n ≤ k). not_itself f (ap (λ (x : Found). is_before x f) (sym (last_is f n k d is above low)) ∙ before))
+        (cases_lt k n),
+  )
 
   pub first_better : (n : ℕ) (f : Found) (best next : Option Found) → ((d : Found) → slice_index_or list n d ≡ f) → is_behind after f ≡ true → Better best f next → FirstTo list n after best → FirstTo list (n + 1) after next
   first_better n f None next is behind same was = subst (λ (o : Option Found). FirstTo list (n + 1) after o) (sym same) (new_first n f is behind (λ d k low behind' before. was d k low behind'))
   first_better n f (Some b) next is behind better was = ⊎_elim
       (λ (new : (is_before f b ≡ true) × (next ≡ Some f)). subst (λ (o : Option Found). FirstTo list (n + 1) after o) (sym new.1) (new_first n f is behind (λ d k low behind' before. was.2 d k low behind' (before_then (slice_index_or list k d) f b before new.0))))
-      (λ (old : (is_before f b ≡ false) × (next ≡ Some b)). subst (λ (o : Option Found). FirstTo list (n + 1) after o) (sym old.1)
-      (was.0, λ d. let w = was.1 d in (w.0, omega (arith, w.1), w.2), λ d k low behind' before. ⊎_elim
-      (λ (below : k < n). was.2 d k below behind' before)
-      (λ (above : n ≤ k). both_ways (is_before f b) old.0 (ap (λ (x : Found). is_before x b) (sym (last_is f n k d is above low)) ∙ before))
-      (cases_lt k n)))
+      (λ (old : (is_before f b ≡ false) × (next ≡ Some b)). subst (λ (o : Option Found). FirstTo list (n + 1) after o) (sym old.1) (
+        was.0,
+        λ d. let w = was.1 d in (w.0, omega (arith, w.1), w.2),
+        λ d k low behind' before. ⊎_elim
+            (λ (below : k < n). was.2 d k below behind' before)
+            (λ (above : n ≤ k). both_ways (is_before f b) old.0 (ap (λ (x : Found). is_before x b) (sym (last_is f n k d is above low)) ∙ before))
+            (cases_lt k n),
+      ))
       better
 
   -- all were looked at

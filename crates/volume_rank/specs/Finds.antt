@@ -1,5 +1,5 @@
 -- What a file may hold, with what each volume reads.
-use Rattle.std.specs.Prelude.{ℕ, ◌≡◌, ◌<◌, ◌≤◌, List, length, drop, slice_index_or}
+use Rattle.std.specs.Prelude.{ℕ, ◌≡◌, ◌<◌, List, length, drop, slice_index_or}
 use Rattle.geometry.specs.declared.geometry.Geometry.{Geometry}
 use Rattle.meta_guess.specs.Guesses.{IsMeta}
 use Rattle.volume_detect.specs.Places.{byte_of, IsFoundAt}

@@ -1,5 +1,5 @@
 -- Which candidate reads better.
-use Rattle.std.specs.Prelude.{ℕ, ◌≡◌, ◌<◌, ◌≤◌, ◌⊎◌, Bool, ◌==◌, ◌&&◌, ◌||◌, nat_lt, true, false, List, length, slice_index_or, Option, Some, None}
+use Rattle.std.specs.Prelude.{ℕ, ◌≡◌, ◌<◌, ◌⊎◌, Bool, ◌==◌, ◌&&◌, ◌||◌, nat_lt, true, false, List, length, slice_index_or, Option, Some, None}
 use Rattle.volume_rank.specs.declared.found.Found.{Found}
 
 -- One comes before another: it has more whole files, or as many and fewer damaged ids, or as many of both and a lower place, which goes by the byte, then the block, the page and what the magic tells.

@@ -1,6 +1,6 @@
-use Rattle.std.proofs.Common.{◌≡◌, ℕ, ◌+◌, ◌<◌, ◌≤◌, length, length-set, arith}
+use Rattle.std.proofs.Common.{◌<◌, length, length-set, arith}
 use Rattle.volume_detect.proofs.Found.{place_inside}
-use Rattle.volume_rank.proofs.Lists.{none_collected, one_collected, all_collected, more_collected}
+use Rattle.volume_rank.proofs.Lists.{one_collected, all_collected, more_collected}
 use Rattle.volume_rank.proofs.collecting.collect.Goals as goal
 
 pub returns-then-count-found-clause-more : goal.returns-then-count-found-clause-more

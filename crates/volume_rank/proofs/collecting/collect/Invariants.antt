@@ -1,5 +1,5 @@
 -- The candidates of the places below were got.
-use Rattle.std.proofs.Common.{ℕ, ◌-◌, ◌*◌, ◌^◌, ◌≤◌, length}
+use Rattle.std.proofs.Common.{◌-◌, ◌*◌, ◌^◌, ◌≤◌, length}
 use Rattle.volume_rank.specs.Finds.{IsCollected}
 use Rattle.volume_rank.proofs.collecting.collect.Given as goal
 

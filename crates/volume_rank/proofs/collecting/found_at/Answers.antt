@@ -1,4 +1,4 @@
-use Rattle.std.proofs.Common.{◌≡◌, ℕ, drop, refl, sym, subst, arith}
+use Rattle.std.proofs.Common.{ℕ, drop, refl, sym, subst, arith}
 use Rattle.volume_detect.specs.Places.{byte_of}
 use Rattle.volume_rank.specs.Ranges.{IsRange}
 use Rattle.volume_rank.proofs.Needs.{scratch_most, check_most}

@@ -1,4 +1,4 @@
-use Rattle.std.proofs.Common.{◌≡◌, ℕ, Bool, true, false, slice_index_or, sym, arith, ⊎_elim}
+use Rattle.std.proofs.Common.{◌≡◌, true, false, slice_index_or, sym, arith, ⊎_elim}
 use Rattle.std.proofs.lemmas.Bool.{cases_Bool}
 use Rattle.std.proofs.lemmas.List.{get_or_read}
 use Rattle.volume_rank.specs.declared.found.Found.{Found}

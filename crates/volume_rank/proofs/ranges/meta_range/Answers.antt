@@ -1,4 +1,3 @@
-use Rattle.std.proofs.Common.{◌≡◌, ℕ, List, length, arith}
 use Rattle.nor_core.proofs.Cuts.{reads_then}
 use Rattle.volume_rank.specs.Ranges.{ReadsEqual}
 use Rattle.volume_rank.proofs.Equal.{range_of}

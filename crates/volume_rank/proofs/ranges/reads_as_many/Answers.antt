@@ -1,4 +1,4 @@
-use Rattle.std.proofs.Common.{◌≡◌, ◌≤◌, ℕ, length, sym, ◌∙◌, subst}
+use Rattle.std.proofs.Common.{◌≤◌, ℕ, length, sym, ◌∙◌, subst}
 use Rattle.volume_rank.proofs.Needs.{same_scratch, same_check}
 use Rattle.volume_rank.proofs.Equal.{tested}
 use Rattle.volume_rank.proofs.ranges.reads_as_many.Goals as goal
