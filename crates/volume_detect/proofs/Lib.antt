@@ -1,0 +1,12 @@
+pub mod Gaps
+pub mod Steps
+pub mod Sizes
+pub mod Magics
+pub mod Refused
+pub mod Longer
+pub mod Tellings
+pub mod Bridge
+pub mod Fills
+pub mod Found
+pub mod Numbered
+pub mod Fronts

@@ -1,0 +1,4 @@
+pub mod Needs
+pub mod Equal
+pub mod Lists
+pub mod Orders

@@ -1,0 +1,3 @@
+pub mod Ranges
+pub mod Finds
+pub mod Order

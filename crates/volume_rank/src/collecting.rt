@@ -1,0 +1,113 @@
+//! All candidates of a file.
+ghost use Rattle.std.specs.Prelude.{◌≡◌, ℕ, ◌+◌, ◌*◌, ◌<◌, ◌≤◌, ◌^◌, length, drop, OnErr, IfOk};
+ghost use Rattle.geometry.specs.Numbers.{scratch_need, cache_need, check_need};
+ghost use Rattle.volume_detect.specs.Places.{IsFoundAt};
+ghost use Rattle.volume_detect.specs.Words.{HasWords};
+ghost use Rattle.volume_rank.specs.Finds.{IsFound, AreAll, AreMore};
+ghost use Rattle.volume_rank.specs.Ranges.{IsRange};
+
+use crate::found::{Found, MetaRange};
+use crate::ranges::{meta_range, with_meta};
+use geometry::Geometry;
+use meta_guess::Counts;
+use nor_core::Failed;
+use nor_image::Image;
+use thiserror::Error;
+use volume_detect::{byte_of, next_candidate};
+
+/// The lent list is too short for all candidates.
+#[derive(Clone, Copy, Debug, PartialEq, Eq, Error)]
+#[error("more candidates than places in the list")]
+pub struct TooFew;
+
+// What the volume at a byte of the file reads.
+fn range_at(
+    file: &[u8],
+    at: u32,
+    g: &Geometry,
+    work: &mut [u8],
+    cache: &mut [u8],
+    marks: &mut [u8],
+) -> MetaRange
+    requires small { length file.now < 2 ^ 32 }
+    requires inside { at + g.now.blocks * g.now.block ≤ length file.now }
+    requires meta { g.now.meta ≡ 0 }
+    requires work { scratch_need g.now ≤ length work.old }
+    requires cache { cache_need g.now ≤ length cache.old }
+    requires check { check_need g.now ≤ length marks.old }
+    ensures few { result.first ≤ 64 }
+    ensures range { IsRange g.now (drop at file.now) result }
+{
+    let mut image = Image::new(&file[at as usize..], g.phys());
+    match meta_range(g, &mut image, work, cache, marks) {
+        Ok(range) => range,
+        // (an image never fails)
+        Err(Failed) => MetaRange {
+            first: 0,
+            last: 0,
+            counts: Counts {
+                whole: 0,
+                damaged: 0,
+            },
+        },
+    }
+}
+
+// A candidate, with what it reads.
+fn found_at(
+    file: &[u8],
+    place: u32,
+    g: &Geometry,
+    work: &mut [u8],
+    cache: &mut [u8],
+    marks: &mut [u8],
+) -> Found
+    requires small { length file.now < 2 ^ 32 }
+    requires place { place < 84 * 2 ^ 20 }
+    requires found { IsFoundAt file.now place g.now }
+    requires work { 2 ^ 20 ≤ length work.old }
+    requires cache { 4104 ≤ length cache.old }
+    requires check { 73727 ≤ length marks.old }
+    ensures found { IsFound file.now result }
+    ensures place { result.place ≡ place }
+{
+    let range = range_at(file, byte_of(place), g, work, cache, marks);
+    Found {
+        place,
+        volume: with_meta(g, range.first),
+        last_meta: range.last,
+        counts: range.counts,
+    }
+}
+
+/// Gets all candidates of a file into a lent list, in order of their places, each with what it reads. Answers how many they are,
+/// or that the list is too short for them. The file's words are those that `volume_detect::read_words` reads. Of lent bytes it takes
+/// 1,048,576 for work, 4,104 or more for copies of pages, and 73,727 for marks, which is enough for every volume.
+pub fn collect(
+    file: &[u8],
+    words: &[u8],
+    work: &mut [u8],
+    cache: &mut [u8],
+    marks: &mut [u8],
+    found: &mut [Found],
+) -> Result<usize, TooFew>
+    requires small { length file.now < 2 ^ 32 }
+    requires words { HasWords file.now words.now }
+    requires work { 2 ^ 20 ≤ length work.old }
+    requires cache { 4104 ≤ length cache.old }
+    requires check { 73727 ≤ length marks.old }
+    ensures all { IfOk result (λ count. (count ≤ length found.new) × AreAll file.now found.new count) }
+    ensures more { OnErr result (AreMore file.now found.new) }
+{
+    let mut from = 0;
+    let mut count = 0;
+    'places: while let Some((place, g)) = next_candidate(words, from) {
+        if count == found.len() {
+            return Err(TooFew);
+        }
+        found[count] = found_at(file, place, &g, work, cache, marks);
+        count += 1;
+        from = place + 1;
+    }
+    Ok(count)
+}
