@@ -2,7 +2,6 @@
 use Rattle.std.specs.Prelude.{ℕ, ◌≡◌, ◌+◌, ◌*◌, ◌/◌, ◌<◌, ◌≤◌, List, [], ◌∷◌, ◌++◌, length}
 use Rattle.nor_core.specs.Flash.{programmed, erased}
 use Rattle.nor_memory.specs.Picks.{put}
-use Rattle.flash_trace.specs.declared.event.Bytes.{Bytes}
 use Rattle.flash_trace.specs.declared.event.Event.{Event}
 use Rattle.flash_trace.specs.declared.event.Event.TheVariants.{Program, Erase, Say}
 
@@ -10,6 +9,10 @@ use Rattle.flash_trace.specs.declared.event.Event.TheVariants.{Program, Erase, S
 pub record Standing : Type 0 where
   pub image : List ℕ
   pub said : List ℕ
+
+-- an image, where nothing was said
+abbrev pub at_first : List ℕ → Standing
+at_first image = record { image = image; said = [] }
 
 -- what stands after an event, where an erase unit has so many bytes
 unfoldable pub after_event : ℕ → Event → Standing → Standing
@@ -26,14 +29,25 @@ unfoldable pub EachStands : (P : Standing → Type 0) → ℕ → List Event →
 EachStands P unit [] s = P s
 EachStands P unit (e ∷ es) s = P s × EachStands P unit es (after_event unit e s)
 
--- a program of some bytes inside the image that got the old and the asked bytes, bit by bit; an erase of a unit of it
-unfoldable pub Fits : ℕ → Event → Standing → Type 0
-Fits unit (Program at asked got) s =
-    (0 < length asked.bytes.items) × (length got.bytes.items ≡ length asked.bytes.items) × (at + length asked.bytes.items ≤ length s.image)
-    × (put s.image at got.bytes.items ≡ programmed s.image at asked.bytes.items)
-Fits unit (Erase unit_ix) s = unit_ix < length s.image / unit
-Fits unit (Say piece) s = Unit {0}
+-- An event is inside a device of so many bytes: a program has at least one byte and got as many as it asked for, and an erase is that of a
+-- unit of the device.
+unfoldable pub IsInside : (size unit : ℕ) → Event → Type 0
+IsInside size unit (Program at asked got) =
+    (0 < length asked.bytes.items) × (length got.bytes.items ≡ length asked.bytes.items) × (at + length asked.bytes.items ≤ size)
+IsInside size unit (Erase unit_ix) = unit_ix < size / unit
+IsInside size unit (Say piece) = Unit {0}
 
+-- what a program got is the old and the asked bytes, bit by bit
+unfoldable pub HasRightBits : Event → Standing → Type 0
+HasRightBits (Program at asked got) s = put s.image at got.bytes.items ≡ programmed s.image at asked.bytes.items
+HasRightBits (Erase unit_ix) s = Unit {0}
+HasRightBits (Say piece) s = Unit {0}
+
+-- an event is inside the image, with the right bits
+abbrev pub Fits : ℕ → Event → Standing → Type 0
+Fits unit e s = IsInside (length s.image) unit e × HasRightBits e s
+
+-- so is each of some events, one after the other
 unfoldable pub AllFit : ℕ → List Event → Standing → Type 0
 AllFit unit [] s = Unit {0}
 AllFit unit (e ∷ es) s = Fits unit e s × AllFit unit es (after_event unit e s)

@@ -6,7 +6,7 @@ use Rattle.nor_core.specs.Flash.{programmed}
 use Rattle.flash_trace.specs.declared.event.Bytes.{Bytes}
 use Rattle.flash_trace.specs.declared.event.Event.{Event}
 use Rattle.flash_trace.specs.declared.event.Event.TheVariants.{Program, Erase, Say}
-use Rattle.flash_trace.specs.Events.{Standing, after_events, EachStands, AllFit}
+use Rattle.flash_trace.specs.Events.{Standing, at_first, after_events, EachStands, AllFit}
 
 -- what stands on a device
 abbrev pub standing : MemBoard → Standing
@@ -14,7 +14,7 @@ standing board = record { image = mem.bytes board; said = mem.said board }
 
 -- what stood on it at first
 abbrev pub first_standing : MemBoard → Standing
-first_standing board = record { image = mem.lent board; said = [] }
+first_standing board = at_first (mem.lent board)
 
 -- nothing was asked of it that changed it
 pub record IsFresh (board : MemBoard) : Type 0 where
