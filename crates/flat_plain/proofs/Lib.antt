@@ -3,3 +3,4 @@ pub mod Ids
 pub mod Putting
 pub mod Lowest
 pub mod Pieces
+pub mod Stepping

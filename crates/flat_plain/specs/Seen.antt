@@ -1,5 +1,6 @@
 -- What the plain program's values show.
-use Rattle.std.specs.Prelude.{map, Option, Some, None}
+use Rattle.std.specs.Prelude.{map, List, Vec, Option, Some, None}
+use Rattle.std.specs.declared.alloc.Global.{Global}
 use Rattle.flat_plain.specs.declared.file.PlainFile.{PlainFile}
 use Rattle.flat_plain.specs.declared.slots.PlainOpen.{PlainOpen}
 use Rattle.flat_plain.specs.declared.said.Said.{Said}
@@ -35,3 +36,7 @@ said (Refusal why) = Refuses why
 -- the flat state that the program holds
 abbrev pub state_of : Flat → State
 state_of f = record { table = map file f.files.items; slots = map held f.slots.items }
+
+-- the files of a table
+abbrev pub files_of : Vec PlainFile Global → List File
+files_of t = map file t.items

@@ -143,7 +143,7 @@ impl Flat {
 }
 
 // Where a write begins.
-fn place(d: PlainOpen, f: &PlainFile) -> Result<u32, AllocError>
+pub(crate) fn place(d: PlainOpen, f: &PlainFile) -> Result<u32, AllocError>
     ensures { IfOk result (λ at. at ≡ write_place (opened d) (file f.now)) }
 {
     if d.flags & 1 == 0 {

@@ -2,7 +2,7 @@
 ghost use Rattle.std.specs.Prelude.{◌≡◌, ◌<◌, map, replicate, get_or, length, true, false, IfOk};
 ghost use Rattle.table_model.specs.Table.{put_file, drop_file};
 ghost use Rattle.table_model.specs.Files.{created};
-ghost use Rattle.flat_plain.specs.Seen.{file};
+ghost use Rattle.flat_plain.specs.Seen.{file, files_of};
 ghost use Rattle.flat_plain.specs.declared.file.PlainFile.{PlainFile};
 
 use crate::PlainFile;
@@ -17,6 +17,20 @@ pub(crate) fn copied(alloc: Global, files: &[PlainFile]) -> Result<Vec<PlainFile
     let mut copies = Vec::new(alloc);
     for f in files.iter() {
         copies.push(f.copied(alloc)?)?;
+    }
+    Ok(copies)
+}
+
+// The same tables with memory of their own.
+pub(crate) fn tables_copied(
+    alloc: Global,
+    tables: &[Vec<PlainFile>],
+) -> Result<Vec<Vec<PlainFile>>, AllocError>
+    ensures { IfOk result (λ copies. map files_of copies.items ≡ map files_of tables.now) }
+{
+    let mut copies = Vec::new(alloc);
+    for table in tables.iter() {
+        copies.push(copied(alloc, table.as_slice())?)?;
     }
     Ok(copies)
 }

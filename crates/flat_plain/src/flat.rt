@@ -3,11 +3,11 @@ ghost use Rattle.table_model.specs.Outcome.{page_refusal};
 ghost use Rattle.table_model.specs.Calls.{answer_create, answer_stat, answer_next};
 ghost use Rattle.flat_plain.specs.Seen.{file, said, state_of};
 
-use crate::copies::with_new;
+use crate::copies::{copied, with_new};
 use crate::counts::has_room;
 use crate::names::name_fault;
 use crate::search::{find_above, find_name};
-use crate::slots::all_closed;
+use crate::slots::{all_closed, slots_copied};
 use crate::{PlainFile, PlainOpen, Said};
 use geometry::Geometry;
 use std::alloc::{AllocError, Global};
@@ -34,6 +34,44 @@ impl Flat {
             geometry,
             files: Vec::new(alloc),
             slots: all_closed(alloc, slots)?,
+        })
+    }
+
+    /// A volume with these files, and with so many descriptors, all of them closed. Wants memory for these.
+    pub fn of(
+        alloc: Global,
+        geometry: Geometry,
+        files: Vec<PlainFile>,
+        slots: u16,
+    ) -> Result<Flat, AllocError>
+        ensures state { IfOk result (λ f. state_of f ≡ record { table = map file files.items; slots = replicate slots None }) }
+        ensures geometry { IfOk result (λ f. f.geometry ≡ geometry) }
+    {
+        Ok(Flat {
+            alloc,
+            geometry,
+            files,
+            slots: all_closed(alloc, slots)?,
+        })
+    }
+
+    /// The files, in order of ids.
+    pub fn files(&self) -> &[PlainFile]
+        ensures { map file result.now ≡ (state_of self.now).table }
+    {
+        self.files.as_slice()
+    }
+
+    /// The same files and descriptors with memory of their own. Wants memory for them.
+    pub fn copied(&self) -> Result<Flat, AllocError>
+        ensures state { IfOk result (λ f. state_of f ≡ state_of self.now) }
+        ensures geometry { IfOk result (λ f. f.geometry ≡ self.now.geometry) }
+    {
+        Ok(Flat {
+            alloc: self.alloc,
+            geometry: self.geometry,
+            files: copied(self.alloc, self.files.as_slice())?,
+            slots: slots_copied(self.alloc, self.slots.as_slice())?,
         })
     }
 

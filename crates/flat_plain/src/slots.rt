@@ -27,6 +27,20 @@ pub(crate) fn all_closed(alloc: Global, n: u16) -> Result<Vec<Option<PlainOpen>>
     Ok(slots)
 }
 
+// The same descriptors with memory of their own.
+pub(crate) fn slots_copied(
+    alloc: Global,
+    slots: &[Option<PlainOpen>],
+) -> Result<Vec<Option<PlainOpen>>, AllocError>
+    ensures { IfOk result (λ copies. map held copies.items ≡ map held slots.now) }
+{
+    let mut copies = Vec::new(alloc);
+    for slot in slots.iter() {
+        copies.push(*slot)?;
+    }
+    Ok(copies)
+}
+
 // The descriptor of a number.
 #[tactic(auto, unfolding(table_model::specs::Descriptors::open_at))]
 pub(crate) fn open_at(slots: &[Option<PlainOpen>], fd: u16) -> Option<PlainOpen>

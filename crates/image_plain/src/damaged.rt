@@ -70,7 +70,7 @@ fn damage(
 
 // The damages of the ids from 1 to n.
 #[tactic(auto, unfolding(image_model::specs::Tables::damages))]
-fn damages(
+pub(crate) fn damages(
     alloc: Global,
     g: &Geometry,
     image: &[u8],

@@ -110,7 +110,7 @@ pub(crate) fn counted(
 
 // The files of the ids from 1 to n that count.
 #[tactic(auto, unfolding(image_model::specs::Tables::records))]
-fn records(
+pub(crate) fn records(
     alloc: Global,
     g: &Geometry,
     image: &[u8],
