@@ -4,3 +4,4 @@ pub mod Putting
 pub mod Lowest
 pub mod Pieces
 pub mod Stepping
+pub mod Among

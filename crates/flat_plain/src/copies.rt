@@ -1,5 +1,5 @@
 // Tables made from a table.
-ghost use Rattle.std.specs.Prelude.{◌≡◌, ◌<◌, map, replicate, get_or, length, true, false, IfOk};
+ghost use Rattle.std.specs.Prelude.{◌≡◌, ◌<◌, ◌++◌, map, replicate, get_or, length, true, false, IfOk};
 ghost use Rattle.table_model.specs.Table.{put_file, drop_file};
 ghost use Rattle.table_model.specs.Files.{created};
 ghost use Rattle.flat_plain.specs.Seen.{file, files_of};
@@ -33,6 +33,21 @@ pub(crate) fn tables_copied(
         copies.push(copied(alloc, table.as_slice())?)?;
     }
     Ok(copies)
+}
+
+// These tables and more behind them, with memory of their own.
+pub(crate) fn tables_joined(
+    alloc: Global,
+    tables: &[Vec<PlainFile>],
+    more: &[Vec<PlainFile>],
+) -> Result<Vec<Vec<PlainFile>>, AllocError>
+    ensures { IfOk result (λ joined. map files_of joined.items ≡ map files_of tables.now ++ map files_of more.now) }
+{
+    let mut joined = tables_copied(alloc, tables)?;
+    for table in more.iter() {
+        joined.push(copied(alloc, table.as_slice())?)?;
+    }
+    Ok(joined)
 }
 
 // Whether the file of that id stands at a place.

@@ -8,7 +8,7 @@ ghost use Rattle.table_model.specs.Window.{settled_at, leaves_window as the_leav
 ghost use Rattle.flat_plain.specs.Seen.{file, files_of, said, state_of};
 ghost use Rattle.flat_plain.specs.Moments.{coming, geometry_of, moment_of, window_of};
 
-use crate::copies::{copied, tables_copied};
+use crate::copies::{copied, tables_copied, tables_joined};
 use crate::counts::has_index_room;
 use crate::same::{are_same, is_among};
 use crate::steps::is_refusal;
@@ -120,14 +120,10 @@ impl PlainMoment {
         ensures geometry { IfOk result (λ m. geometry_of m ≡ flat.geometry) }
     {
         let alloc = flat.alloc;
-        let mut waiting = tables_copied(alloc, self.waiting.as_slice())?;
-        for table in steps.iter() {
-            waiting.push(copied(alloc, table.as_slice())?)?;
-        }
         Ok(PlainMoment {
             flat,
             settled: copied(alloc, self.settled.as_slice())?,
-            waiting,
+            waiting: tables_joined(alloc, self.waiting.as_slice(), steps)?,
             window: extended(self.window, incoming)?,
         })
     }
@@ -198,8 +194,12 @@ impl PlainMoment {
     pub fn may_leave(&self, steps: &[Vec<PlainFile>], table: &[PlainFile]) -> bool
         ensures { IsTrue result ↔ IsAmong (map file table.now) (from_settled (moment_of self.now) (map files_of steps.now)) }
     {
-        are_same(table, self.settled.as_slice())
-            || is_among(table, self.waiting.as_slice())
-            || is_among(table, steps)
+        if are_same(table, self.settled.as_slice()) {
+            return true;
+        }
+        if is_among(table, self.waiting.as_slice()) {
+            return true;
+        }
+        is_among(table, steps)
     }
 }
