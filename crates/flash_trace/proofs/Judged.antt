@@ -10,16 +10,14 @@ use Rattle.nor_memory.specs.Picks.{put}
 use Rattle.nor_core.specs.Flash.{programmed, erased}
 use Rattle.nor_memory.proofs.Ranges.{put_size}
 
--- It ends with what stands after the last event, and the number of replies that was said there.
-pub legal_all : (P : Standing → ℕ → Type 0) (size unit i : ℕ) (es : List Event) (s : Standing) (v : Verdict) → ((e : Event) (b : Standing) → length b.image ≡ size → Fits unit e b → length (after_event unit e b).image ≡ size)
-    → length s.image ≡ size → EachStands (λ b. ((n : ℕ) → P b n → ⊥) → ⊥) unit es s → AllFit unit es s → IsVerdict P size unit i es s v → (n : ℕ) × P (after_events unit es s) n × (v ≡ Legal (i + length es) n)
+pub legal_all : (P : Standing → Type 0) (count : List ℕ → ℕ) (size unit i : ℕ) (es : List Event) (s : Standing) (v : Verdict) → ((e : Event) (b : Standing) → length b.image ≡ size → Fits unit e b → length (after_event unit e b).image ≡ size)
+    → length s.image ≡ size → EachStands (λ b. (P b → ⊥) → ⊥) unit es s → AllFit unit es s → IsVerdict P count size unit i es s v → v ≡ Legal (i + length es) (count (after_events unit es s).said)
 unfolding IsVerdict EachStands AllFit after_events
-legal_all P size unit i [] s v keeps is each fit (inl bad) = absurd (each bad.0)
-legal_all P size unit i [] s v keeps is each fit (inr good) = let k : i ≡ i + 0 = omega arith in (good.0, good.1, good.2 ∙ ap (λ (k : ℕ). Legal k good.0) k)
-legal_all P size unit i (e ∷ es) s v keeps is each fit (inl bad) = absurd (each.0 bad.0)
-legal_all P size unit i (e ∷ es) s v keeps is each fit (inr (good, inl out)) = absurd (out.0 (subst (λ (n : ℕ). IsInside n unit e) is fit.0.0))
-legal_all P size unit i (e ∷ es) s v keeps is each fit (inr (good, inr (within, inl wrong))) = absurd (wrong.0 fit.0.1)
-legal_all P size unit i (e ∷ es) s v keeps is each fit (inr (good, inr (within, inr (bits, later)))) =
-    let k : i + 1 + length es ≡ i + suc (length es) = omega arith in
-    let rest = legal_all P size unit (i + 1) es (after_event unit e s) v keeps (keeps e s is fit.0) each.1 fit.1 later in
-    (rest.0, rest.1, rest.2 ∙ ap (λ (k : ℕ). Legal k rest.0) k)
+legal_all P count size unit i [] s v keeps is each fit (inl bad) = absurd (each bad.0)
+legal_all P count size unit i [] s v keeps is each fit (inr good) = let n : i ≡ i + 0 = omega arith in good.1 ∙ ap (λ (k : ℕ). Legal k (count s.said)) n
+legal_all P count size unit i (e ∷ es) s v keeps is each fit (inl bad) = absurd (each.0 bad.0)
+legal_all P count size unit i (e ∷ es) s v keeps is each fit (inr (good, inl out)) = absurd (out.0 (subst (λ (n : ℕ). IsInside n unit e) is fit.0.0))
+legal_all P count size unit i (e ∷ es) s v keeps is each fit (inr (good, inr (within, inl wrong))) = absurd (wrong.0 fit.0.1)
+legal_all P count size unit i (e ∷ es) s v keeps is each fit (inr (good, inr (within, inr (bits, later)))) =
+    let n : i + 1 + length es ≡ i + suc (length es) = omega arith in
+    legal_all P count size unit (i + 1) es (after_event unit e s) v keeps (keeps e s is fit.0) each.1 fit.1 later ∙ ap (λ (k : ℕ). Legal k (count (after_events unit es (after_event unit e s)).said)) n

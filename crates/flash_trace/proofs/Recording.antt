@@ -15,7 +15,7 @@ use Rattle.nor_core.specs.Device.{OnlyReads}
 use Rattle.nor_core.proofs.Programs.{length-programmed}
 use Rattle.flash_trace.specs.declared.event.Event.TheVariants.{Program, Erase, Say}
 use Rattle.flash_trace.specs.declared.event.Event.{Event}
-use Rattle.flash_trace.specs.Events.{Standing, after_event, after_events, EachStands, IsInside, HasRightBits, Fits, AllFit}
+use Rattle.flash_trace.specs.Events.{Standing, after_event, after_events, image_after, said_after, EachStands, IsInside, HasRightBits, Fits, AllFit}
 use Rattle.flash_trace.specs.Recorded.{Recorded, IsFresh, standing, first_standing, NotesProgram, NotesSay}
 
 pub after_events-push : (unit : ℕ) (es : List Event) (e : Event) (s : Standing) → after_events unit (es ++ e ∷ []) s ≡ after_event unit e (after_events unit es s)
@@ -84,7 +84,7 @@ records_on faults after (Err x) P Q was kept rises goes none = absurd (omega (ar
 
 pub program_records : (r : Result (Unit {0}) Failed) (old new : MemBoard) (at : ℕ) (asked : List ℕ) (es later : List Event) → 0 < length asked → at + length asked ≤ mem.size old → Changes mem old new (HalfProgrammed at asked)
     → OnOk r (mem.bytes new ≡ programmed (mem.bytes old) at asked) → OnOk r (NotesProgram at asked (mem.bytes old) es later) → OnOk r (Recorded old es → Recorded new later)
-unfolding after_event IsInside HasRightBits
+unfolding image_after said_after IsInside HasRightBits
 program_records (Err x) old new at asked es later some inside changes done notes = tt
 program_records (Ok x) old new at asked es later some inside changes done notes = λ was.
     let is : put (mem.bytes old) at notes.got.bytes.items ≡ programmed (mem.bytes old) at asked =
@@ -97,7 +97,7 @@ program_records (Ok x) old new at asked es later some inside changes done notes 
 
 pub erase_records : (r : Result (Unit {0}) Failed) (old new : MemBoard) (R : List ℕ → List ℕ → Type 0) (unit_ix : ℕ) (es later : List Event) → unit_ix < mem.size old / mem.unit old → Changes mem old new R
     → OnOk r (mem.bytes new ≡ erased (mem.bytes old) (unit_ix * mem.unit old) (mem.unit old)) → OnOk r (later ≡ es ++ Erase unit_ix ∷ []) → OnOk r (Recorded old es → Recorded new later)
-unfolding after_event IsInside HasRightBits
+unfolding image_after said_after IsInside HasRightBits
 erase_records (Err x) old new R unit_ix es later inside changes done notes = tt
 erase_records (Ok x) old new R unit_ix es later inside changes done notes = λ was.
     one_more old new _ changes.cuts es later (Erase unit_ix) notes was
@@ -106,7 +106,7 @@ erase_records (Ok x) old new R unit_ix es later inside changes done notes = λ w
 
 pub say_records : (r : Result (Unit {0}) Failed) (old new : MemBoard) (P : List ℕ → ℕ → Type 0) (piece : List ℕ) (es later : List Event) → Leaves mem old new P → Says mem old new piece
     → OnOk r (mem.said new ≡ mem.said old ++ piece) → OnOk r (NotesSay piece es later) → OnOk r (Recorded old es → Recorded new later)
-unfolding after_event IsInside HasRightBits
+unfolding image_after said_after IsInside HasRightBits
 say_records (Err x) old new P piece es later leaves says done notes = tt
 say_records (Ok x) old new P piece es later leaves says done notes = λ was.
     one_more old new P leaves es later (Say notes.bits) notes.noted was

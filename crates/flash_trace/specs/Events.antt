@@ -14,11 +14,21 @@ pub record Standing : Type 0 where
 abbrev pub at_first : List ℕ → Standing
 at_first image = record { image = image; said = [] }
 
--- what stands after an event, where an erase unit has so many bytes
-unfoldable pub after_event : ℕ → Event → Standing → Standing
-after_event unit (Program at asked got) s = record s { image = put s.image at got.bytes.items }
-after_event unit (Erase unit_ix) s = record s { image = erased s.image (unit_ix * unit) unit }
-after_event unit (Say piece) s = record s { said = s.said ++ piece.bytes.items }
+-- the image after an event, where an erase unit has so many bytes
+unfoldable pub image_after : (unit : ℕ) → Event → List ℕ → List ℕ
+image_after unit (Program at asked got) image = put image at got.bytes.items
+image_after unit (Erase unit_ix) image = erased image (unit_ix * unit) unit
+image_after unit (Say piece) image = image
+
+-- what was said after an event
+unfoldable pub said_after : Event → List ℕ → List ℕ
+said_after (Program at asked got) said = said
+said_after (Erase unit_ix) said = said
+said_after (Say piece) said = said ++ piece.bytes.items
+
+-- what stands after an event, and after some
+abbrev pub after_event : (unit : ℕ) → Event → Standing → Standing
+after_event unit e s = record { image = image_after unit e s.image; said = said_after e s.said }
 
 unfoldable pub after_events : ℕ → List Event → Standing → Standing
 after_events unit [] s = s
@@ -38,14 +48,14 @@ IsInside size unit (Erase unit_ix) = unit_ix < size / unit
 IsInside size unit (Say piece) = Unit {0}
 
 -- what a program got is the old and the asked bytes, bit by bit
-unfoldable pub HasRightBits : Event → Standing → Type 0
-HasRightBits (Program at asked got) s = put s.image at got.bytes.items ≡ programmed s.image at asked.bytes.items
-HasRightBits (Erase unit_ix) s = Unit {0}
-HasRightBits (Say piece) s = Unit {0}
+unfoldable pub HasRightBits : Event → (image : List ℕ) → Type 0
+HasRightBits (Program at asked got) image = put image at got.bytes.items ≡ programmed image at asked.bytes.items
+HasRightBits (Erase unit_ix) image = Unit {0}
+HasRightBits (Say piece) image = Unit {0}
 
 -- an event is inside the image, with the right bits
 abbrev pub Fits : ℕ → Event → Standing → Type 0
-Fits unit e s = IsInside (length s.image) unit e × HasRightBits e s
+Fits unit e s = IsInside (length s.image) unit e × HasRightBits e s.image
 
 -- so is each of some events, one after the other
 unfoldable pub AllFit : ℕ → List Event → Standing → Type 0

@@ -10,7 +10,8 @@ use Rattle.image_model.specs.Kinds.{spoiled_blocks}
 use Rattle.image_model.specs.Shared.{shared_blocks, fits_over}
 use Rattle.image_model.specs.Collect.{chosen_block}
 use Rattle.image_model.specs.Sound.{IsSound}
-use Rattle.run_model.specs.Runs.{RunCall, AreFair, asks_of, after_all, replies, IsCut}
+use Rattle.run_model.specs.Runs.{RunCall, AreFair, asks_of, after_all, replies}
+use Rattle.trace_laws.specs.Standing.{MayStand}
 use Rattle.flash_trace.specs.Events.{Standing}
 
 -- a volume with that image and so many descriptors, all closed
@@ -54,43 +55,36 @@ pub record IsBegun (part line : List ℕ) : Type 0 where
   pub line_is : line ≡ part ++ rest
   pub some : 0 < length part
 
--- A cut in some calls, of which `n` were answered: each as the flat table is with two free blocks, or in the corner as with fewer.
-pub record InCalls (g : Geometry) (m : Moment) (asks : List Ask) (s : Standing) (n : ℕ) : Type 0 where
-  pub run : List RunCall
-  pub asks_are : asks ≡ asks_of run
-  pub fair : AreFair g m run
-  pub cut : IsCut g m run s.said s.image
-  pub count : n ≡ length cut.front
-
 -- All calls were answered, and the line was begun that says which line is outside the grammar; the table is that after the calls.
-pub record EndsBadly (g : Geometry) (m : Moment) (asks : List Ask) (bad : Option ℕ) (s : Standing) (n : ℕ) : Type 0 where
+pub record EndsBadly (g : Geometry) (m : Moment) (asks : List Ask) (bad : Option ℕ) (said image : List ℕ) : Type 0 where
   pub number : ℕ
   pub bad_is : bad ≡ Some number
-  pub run : List RunCall
-  pub asks_are : asks ≡ asks_of run
-  pub fair : AreFair g m run
+  pub done : List RunCall
+  pub asks_are : asks ≡ asks_of done
+  pub fair : AreFair g m done
   pub part : List ℕ
-  pub said_is : s.said ≡ replies g m run ++ part
+  pub said_is : said ≡ replies g m done ++ part
   pub begun : IsBegun part (bad_text number)
-  pub table : table_of g s.image ≡ (after_all g m run).state.table
-  pub count : n ≡ length run
+  pub table : table_of g image ≡ (after_all g m done).state.table
 
 -- Nothing was answered, and the line was begun that ends a run before its first call; the table is the first one.
-pub record Unbegun (g : Geometry) (m : Moment) (first : List ℕ) (s : Standing) (n : ℕ) : Type 0 where
+pub record Unbegun (g : Geometry) (m : Moment) (first said image : List ℕ) : Type 0 where
   pub line : List ℕ
-  pub why : unbegun_text g first s.image ≡ Some line
-  pub begun : IsBegun s.said line
-  pub table : table_of g s.image ≡ m.state.table
-  pub count : n ≡ 0
+  pub why : unbegun_text g first image ≡ Some line
+  pub begun : IsBegun said line
+  pub table : table_of g image ≡ m.state.table
+
+-- what was said of a script at a moment, and the table, are those of a cut in the calls, or in a closing line
+abbrev pub Says : Geometry → Moment → (first script : List ℕ) → Standing → Type 0
+Says g m first script s =
+    MayStand g m (calls script) s.said s.image
+    ⊎ (EndsBadly g m (calls script) (first_bad 1 (lines script)) s.said s.image ⊎ Unbegun g m first s.said s.image)
 
 -- What a cut in a run of a script may leave, on a device that held the image `first`: an image that is sound with respect to it, so many replies,
--- and such a table, that they are those of a cut in the calls, or in a closing line, with the table of the calls before it. Of the replies
--- `n` were said whole.
-pub record IsGood (g : Geometry) (slots : ℕ) (first script : List ℕ) (s : Standing) (n : ℕ) : Type 0 where
+-- and such a table, that they are those of a cut in the calls, or in a closing line, with the table of the calls before it.
+pub record IsGood (g : Geometry) (slots : ℕ) (first script : List ℕ) (s : Standing) : Type 0 where
   pub sound : IsSound g s.image first
-  pub says : InCalls g (first_moment g slots first) (calls script) s n
-      ⊎ (EndsBadly g (first_moment g slots first) (calls script) (first_bad 1 (lines script)) s n
-      ⊎ Unbegun g (first_moment g slots first) first s n)
+  pub says : Says g (first_moment g slots first) first script s
 
 -- An image of more than 131,072 bytes, or a script of more than 16,384, isn't judged.
 abbrev pub IsLarge : (image script : List ℕ) → Type 0
