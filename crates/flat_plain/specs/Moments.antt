@@ -1,5 +1,5 @@
 -- What the program's moments show.
-use Rattle.std.specs.Prelude.{map, List, Option, Some, None}
+use Rattle.std.specs.Prelude.{map, Option, Some, None}
 use Rattle.geometry.specs.declared.geometry.Geometry.{Geometry}
 use Rattle.table_model.specs.Window.{Waiting, Moment, Incoming}
 use Rattle.flat_plain.specs.declared.window.PlainWaiting.{PlainWaiting}

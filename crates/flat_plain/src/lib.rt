@@ -1,5 +1,5 @@
-//! The flat table of files as a plain program, which answers each call as the flat model does. It takes an allocator, and
-//! serves tests: each later volume is compared with it.
+//! The flat table of files as a plain program, which answers each call as the flat model does, and tells what a power cut may leave. It
+//! takes an allocator; a judge of traces and tests compare volumes with it.
 #![tactic(auto)]
 
 mod answers;

@@ -62,7 +62,14 @@ impl Flat {
             return Ok(Vec::new(self.alloc));
         };
         let at = place(d, f)?;
-        parts(self.alloc, &self.geometry, self.files.as_slice(), f, at, bytes)
+        parts(
+            self.alloc,
+            &self.geometry,
+            self.files.as_slice(),
+            f,
+            at,
+            bytes,
+        )
     }
 
     // Whether an opening that isn't refused makes the file or takes its bytes.

@@ -27,11 +27,11 @@ find_first t a (suc n) k low high here other =
     (λ (differ : a ≡ k → ⊥). rw (other a (omega arith) (omega (arith, differ))) (find_first t (a + 1) n k (omega (arith, differ)) (omega arith) here (λ i from to. other i (omega arith) to)))
     (cases_eq a k)
 
-find_nothing : (t : ℕ → Bool) (a n : ℕ) → ((i : ℕ) → a ≤ i → i < a + n → t i ≡ false) → find t (range_with_len a n) ≡ None
+pub find_nothing : (t : ℕ → Bool) (a n : ℕ) → ((i : ℕ) → a ≤ i → i < a + n → t i ≡ false) → find t (range_with_len a n) ≡ None
 find_nothing t a zero none = refl
 find_nothing t a (suc n) none = rw (none a (omega arith) (omega arith)) (find_nothing t (a + 1) n (λ i from to. none i (omega arith) (omega arith)))
 
-any_nothing : (t : ℕ → Bool) (a n : ℕ) → ((i : ℕ) → a ≤ i → i < a + n → t i ≡ false) → list_any t (range_with_len a n) ≡ false
+pub any_nothing : (t : ℕ → Bool) (a n : ℕ) → ((i : ℕ) → a ≤ i → i < a + n → t i ≡ false) → list_any t (range_with_len a n) ≡ false
 any_nothing t a zero none = refl
 any_nothing t a (suc n) none = rw (none a (omega arith) (omega arith)) (any_nothing t (a + 1) n (λ i from to. none i (omega arith) (omega arith)))
 

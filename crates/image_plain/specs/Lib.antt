@@ -5,3 +5,4 @@ pub mod Sorts
 pub mod Tallied
 pub mod Wanting
 pub mod Leading
+pub mod Spoiled

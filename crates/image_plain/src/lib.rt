@@ -1,5 +1,5 @@
-//! Slow programs that compute what a flash image means, each by its definition. They take an allocator, and serve tests,
-//! tools and comparisons with faster code.
+//! Slow programs that compute what a flash image means, each by its definition. They take an allocator, and serve a judge of
+//! traces, tools, and comparisons with faster code.
 #![tactic(auto)]
 
 mod blocks;

@@ -1,9 +1,10 @@
 // Whether an image is sound with respect to a first one, and whether two images have the same live pages.
-ghost use Rattle.std.specs.Prelude.{◌≡◌, ◌↔◌, ◌<◌, ◌≤◌, ℕ, map, length, IsTrue};
+ghost use Rattle.std.specs.Prelude.{◌≡◌, ◌↔◌, ◌<◌, ◌&&◌, ℕ, map, not, IsTrue};
 ghost use Rattle.std.specs.List.{Contains};
 ghost use Rattle.image_model.specs.Places.{IsImage};
 ghost use Rattle.image_model.specs.Live.{live_at as the_live_at};
 ghost use Rattle.image_model.specs.Tables.{damaged_of as the_damaged};
+ghost use Rattle.image_model.specs.Kinds.{is_mixed as the_mixed};
 ghost use Rattle.image_model.specs.Sound.{IsMixed, HasMagics, IsSound};
 
 use crate::blocks::is_mixed;
@@ -19,13 +20,23 @@ fn has_magics(g: &Geometry, image: &[u8]) -> bool
     let mut spoiled = None;
     for block in 0..g.blocks {
         if !has_magic(g, image, block) {
-            if spoiled.is_some() {
-                return false;
+            match spoiled {
+                Some(_) => return false,
+                None => spoiled = Some(block),
             }
-            spoiled = Some(block);
         }
     }
     true
+}
+
+// Whether a block is mixed that wasn't so at first.
+fn is_mixed_anew(g: &Geometry, image: &[u8], first: &[u8], block: u32) -> bool
+    requires image { IsImage g.now image.now }
+    requires first { IsImage g.now first.now }
+    requires block { block < g.now.blocks }
+    ensures { result ≡ (the_mixed g.now image.now block && not (the_mixed g.now first.now block)) }
+{
+    is_mixed(g, image, block) && !is_mixed(g, first, block)
 }
 
 // Whether each block that is mixed was so at first.
@@ -35,7 +46,7 @@ fn keeps_mixed(g: &Geometry, image: &[u8], first: &[u8]) -> bool
     ensures { IsTrue result ↔ ((block : ℕ) → IsMixed g.now (the_live_at g.now image.now) block → IsMixed g.now (the_live_at g.now first.now) block) }
 {
     for block in 0..g.blocks {
-        if is_mixed(g, image, block) && !is_mixed(g, first, block) {
+        if is_mixed_anew(g, image, first, block) {
             return false;
         }
     }
@@ -81,7 +92,13 @@ pub fn is_sound(
     requires first_damaged { first_damaged.now ≡ the_damaged g.now first.now }
     ensures { IsTrue result ↔ IsSound g.now image.now first.now }
 {
-    has_magics(g, image) && keeps_mixed(g, image, first) && keeps_damaged(damaged, first_damaged)
+    if !has_magics(g, image) {
+        return false;
+    }
+    if !keeps_mixed(g, image, first) {
+        return false;
+    }
+    keeps_damaged(damaged, first_damaged)
 }
 
 // Whether a page is live in both images with the same bytes, or in none of them.

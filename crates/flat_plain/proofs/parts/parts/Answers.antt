@@ -1,4 +1,4 @@
-use Rattle.std.proofs.Common.{◌≡◌, ℕ, ◌+◌, map, length, arith}
+use Rattle.std.proofs.Common.{ℕ, ◌+◌, map, length, arith}
 use Rattle.std.specs.Prelude.{◌==◌, ◌||◌, ◌%◌}
 use Rattle.std.proofs.lemmas.Grind.{common_steps}
 use Rattle.geometry.specs.Numbers.{body}

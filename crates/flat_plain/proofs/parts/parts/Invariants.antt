@@ -1,9 +1,9 @@
 -- The steps so far, and those of the numbers from `i` on.
-use Rattle.std.proofs.Common.{◌≡◌, ℕ, ◌+◌, ◌-◌, ◌++◌, map, length, ◌*◌}
+use Rattle.std.proofs.Common.{◌≡◌, ℕ, ◌+◌, ◌-◌, ◌++◌, map, length}
 use Rattle.std.specs.Prelude.{filter, ◌==◌, ◌||◌, ◌%◌}
 use Rattle.std.specs.List.{range_with_len}
 use Rattle.geometry.specs.Numbers.{body}
-use Rattle.table_model.specs.Steps.{written_up_to, part_ends, file_steps}
+use Rattle.table_model.specs.Steps.{written_up_to, file_steps}
 use Rattle.flat_plain.specs.Seen.{file, files_of}
 use Rattle.flat_plain.proofs.parts.parts.Given as goal
 

@@ -1,4 +1,4 @@
-use Rattle.std.proofs.Common.{◌≡◌, ◌∙◌, IsTrue, false, map, ap, sym, refl, arith}
+use Rattle.std.proofs.Common.{◌∙◌, IsTrue, false, map, ap, sym, refl, arith}
 use Rattle.flat_plain.specs.Seen.{file, files_of}
 use Rattle.flat_plain.proofs.Among.{among_here, among_on, among_end}
 use Rattle.flat_plain.proofs.same.is_among.Goals as goal

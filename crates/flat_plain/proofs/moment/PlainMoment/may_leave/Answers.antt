@@ -1,4 +1,4 @@
-use Rattle.std.proofs.Common.{◌≡◌, ◌∙◌, IsTrue, List, map, ap, sym, refl, subst, arith, inl, inr, ⊎_elim}
+use Rattle.std.proofs.Common.{◌∙◌, map, ap, sym, refl, subst, arith, inl, inr, ⊎_elim}
 use Rattle.table_model.specs.Window.{IsAmong}
 use Rattle.flat_plain.specs.Seen.{file, files_of}
 use Rattle.flat_plain.specs.Moments.{moment_of}
