@@ -22,7 +22,7 @@ pub none_stands : (g : Geometry) (m : Moment) (asks : List Ask) (image : List �
 unfolding AreFair
 none_stands g m asks image among = record { done = []; later = asks; asks_are = refl; fair = tt {0}; cut = cut_none g m [] image among }
 
-fair_first : (g : Geometry) (m : Moment) (x : RunCall) (xs : List RunCall) → AreFair g m (x ∷ xs) → IsFair g m x × AreFair g (next g m x) xs
+pub fair_first : (g : Geometry) (m : Moment) (x : RunCall) (xs : List RunCall) → AreFair g m (x ∷ xs) → IsFair g m x × AreFair g (next g m x) xs
 unfolding AreFair
 fair_first g m x xs fair = fair
 
@@ -102,7 +102,7 @@ stands_off g m ask asks spare more image fair s = record {
 }
 
 -- the two ways to answer a call begin with one byte, or they are one
-one_way : (g : Geometry) (m : Moment) (ask : Ask) (a b : Bool) → IsFair g m (call_of ask a) → IsFair g m (call_of ask b) → (x y : List ℕ) → line_of g m ask a ++ x ≡ line_of g m ask b ++ y → (line_of g m ask a ≡ line_of g m ask b) × (after g a m ask ≡ after g b m ask)
+pub one_way : (g : Geometry) (m : Moment) (ask : Ask) (a b : Bool) → IsFair g m (call_of ask a) → IsFair g m (call_of ask b) → (x y : List ℕ) → line_of g m ask a ++ x ≡ line_of g m ask b ++ y → (line_of g m ask a ≡ line_of g m ask b) × (after g a m ask ≡ after g b m ask)
 one_way g m ask true true fa fb x y e = (refl, refl)
 one_way g m ask false false fa fb x y e = (refl, refl)
 one_way g m ask true false fa fb x y e = ⊎_elim
