@@ -42,7 +42,7 @@ PACKAGES = [
     Package("script_rows", ["script_rows"]),
     Package("image_explain", ["image_explain"]),
     # (the last two are laws alone, for what is to come)
-    Package("plain_tests", ["base_tests", "engine_tests", "firmware_example", "copy_model", "trace_laws"]),
+    Package("plain_tests", ["base_tests", "engine_tests", "firmware_example", "copy_model", "flash_trace"]),
 ]
 
 # Crates of a registry.
