@@ -1,5 +1,5 @@
 -- The working file of a record is opened, and its bytes written, or there is no room.
-use Rattle.std.proofs.Common.{◌≡◌, ◌≢◌, ◌⊎◌, ℕ, ◌+◌, ◌-◌, ◌<◌, ◌≤◌, ◌%◌, List, [], length, take, Bool, true, false, Option, Some, None, refl, sym, ◌∙◌, ap, subst, ⊎_elim, inl, inr, arith}
+use Rattle.std.proofs.Common.{◌≡◌, ◌≢◌, ◌⊎◌, ℕ, ◌+◌, ◌-◌, ◌<◌, ◌≤◌, ◌%◌, List, [], ◌∷◌, length, take, Bool, true, false, Option, Some, None, refl, sym, ◌∙◌, ap, subst, ⊎_elim, inl, inr, arith}
 use Rattle.std.specs.Prelude.{min, replicate}
 use Rattle.std.proofs.lemmas.Bool.{cases_Bool, false≢true}
 use Rattle.std.proofs.lemmas.Option.{same_Some}
@@ -14,6 +14,8 @@ use Rattle.table_model.specs.Outcome.{Outcome, refused, gives}
 use Rattle.table_model.specs.Ask.{Opens, Writes, Closes, Removes}
 use Rattle.table_model.specs.Reply.{Answer, Fine, Tells, Refuses}
 use Rattle.table_model.specs.Flat.{answer}
+use Rattle.table_model.specs.Steps.{steps}
+use Rattle.table_model.specs.Window.{IsAmong}
 use Rattle.call_model.specs.Closed.{with_files}
 use Rattle.call_model.proofs.Closed.{first_open}
 use Rattle.copy_model.specs.Copying.{working, begun}
@@ -23,6 +25,7 @@ use Rattle.copy_model.specs.Under.{IsTable, IsUnder}
 use Rattle.copy_model.specs.Tasks.{Task, stops_at}
 use Rattle.copy_model.specs.Parts.{IsMissing, IsFilling, IsWhole, IsLacking}
 use Rattle.copy_model.proofs.Answering.{opens-working, puts-piece, closes-first, gives-up, removes-none, fine_working}
+use Rattle.copy_model.proofs.Stepping.{one-page}
 use Rattle.copy_model.proofs.Counting.{first-counts, next-counts}
 use Rattle.copy_model.proofs.Passing.{next_under, next_fit, begun_under, filling_begins, begins_full, filling_goes, filling_full_at, filling_done}
 
@@ -146,6 +149,16 @@ module _ (stat : Stat) (at : ℕ) (t : Task) (d : Open) (files : List File) (is 
         left_under = next_under stat t before is.is.next;
         none = is.is.next.amid.done.none;
       })
+
+  -- a cut leaves it as it was, or with them
+  pub write_cut : (table : List File) → IsTable table → IsAmong table (files ∷ steps t.g true (with_first t.slots d files) (Writes 1 bytes)) → IsUnder t.alike t.source t.first table
+  write_cut table is_table among =
+      let f = is.is.next.f in
+      let here : IsAmong table (begun t.g f is.before at ∷ steps t.g true (filling t.g t.slots f is.before at) (Writes 1 bytes)) = subst (λ (s : State). IsAmong table (s.table ∷ steps t.g true s (Writes 1 bytes))) state_is among in
+      ⊎_elim
+      (λ (same : table ≡ begun t.g f is.before at). subst (IsUnder t.alike t.source t.first) (sym same) (begun_under stat t is.before is.is at (subst IsTable same is_table)))
+      (λ (more : table ≡ begun t.g f is.before (at + length bytes)). subst (IsUnder t.alike t.source t.first) (sym more) (begun_under stat t is.before is.is (at + length bytes) (subst IsTable more is_table)))
+      (one-page t.g t.slots f is.before at bytes table some few piece page most here)
 
 -- ---- and it is closed
 

@@ -80,7 +80,7 @@ module _ (stat : Stat) (t : Task) (files : List File) (next : IsNext stat t file
   pub next_fit : IsFit t next.f
   next_fit = found_above (IsFit t) next.after t.source next.f next.amid.fit.all next.found
 
-  next_here : file_of next.f.id t.source ≡ Some next.f
+  pub next_here : file_of next.f.id t.source ≡ Some next.f
   next_here = found_above (λ (x : File). file_of x.id t.source ≡ Some x) next.after t.source next.f next.amid.fit.table.by_id next.found
 
   next_new : file_named next.f.name (up_to next.after t.source) ≡ None
