@@ -26,16 +26,11 @@ pub(crate) struct Memory {
 }
 
 impl Memory {
-    /// As much memory as a volume needs that opens one file at a time.
+    /// As much memory as a volume needs.
     pub(crate) fn new(alloc: Global, g: &Geometry) -> Result<Memory, Fail> {
-        Memory::with_slots(alloc, g, 1)
-    }
-
-    /// The same, for so many open files.
-    pub(crate) fn with_slots(alloc: Global, g: &Geometry, slots: usize) -> Result<Memory, Fail> {
         Ok(Memory {
             work: vec![in alloc; 0u8; g.work_need() as usize]?,
-            slots: vec![in alloc; FdSlot::empty(); slots]?,
+            slots: vec![in alloc; FdSlot::empty(); 1]?,
             cache: vec![in alloc; 0u8; g.cache_need() as usize]?,
             check: vec![in alloc; 0u8; g.check_need() as usize]?,
         })

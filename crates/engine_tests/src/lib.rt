@@ -12,14 +12,6 @@ mod descriptors;
 #[cfg(test)]
 mod images;
 #[cfg(test)]
-mod map_numbers;
-#[cfg(test)]
-mod map_reads;
-#[cfg(test)]
-mod map_soak;
-#[cfg(test)]
-mod maps;
-#[cfg(test)]
 mod metas;
 #[cfg(test)]
 mod rows;

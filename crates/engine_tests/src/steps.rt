@@ -2,22 +2,19 @@
 use crate::bench::Memory;
 use crate::images::has_erases;
 use geometry::Geometry;
-use nor_memory::{CallKind, MemBoard};
+use nor_memory::MemBoard;
 use std::alloc::Global;
 use std::process::Abort;
 use std::test::Fail;
 use table_model::{Call, FsErr, Whence};
 use vol_mount::accept;
-use volume::{MapErr, Scrub, Space, Told, Volume};
+use volume::{Scrub, Space, Told, Volume};
 
 /// A call of a volume, or a look at it, and what it is to tell.
 #[derive(Clone, Copy)]
 pub(crate) enum Step<'t> {
     /// It mounts, its check ends, and so many blocks are free.
     Starts(u32),
-    /// A mount alone, and a check alone, ends.
-    Mounts,
-    Checks,
     Creates(&'t [u8], Result<(), FsErr>),
     Opens(&'t [u8], u32, Result<u16, FsErr>),
     /// A read into bytes of 7, as many as stand here: these are there afterwards.
@@ -52,16 +49,6 @@ pub(crate) enum Step<'t> {
     HasErases(&'t [u8]),
     /// The chip holds these bytes.
     Holds(&'t [u8]),
-    /// A read through the map, of the file's bytes from a place on, into bytes of 7, as many as stand here: these are there afterwards.
-    ReadsMap(u32, Result<u32, MapErr>, &'t [u8]),
-    /// The map tells these numbers, and no more.
-    HasNumbers(&'t [u16]),
-    /// The nth read of the chip from now on fails, and for 0 none.
-    FailsRead(u64),
-    /// Whether bytes are lent for a map.
-    IsAttached(bool),
-    /// The map's bytes are given back, so many; or none are lent.
-    Detaches(Option<usize>),
     /// Whether a device fault ended the volume's work.
     HasFailed(bool),
     /// The blocks' numbers are counted.
@@ -88,32 +75,6 @@ fn reads(
         return false;
     };
     volume.read(fd, into) == told && *into == *wanted
-}
-
-// The same of a read through the map.
-fn reads_map(
-    volume: &mut Volume<'_, MemBoard>,
-    at: u32,
-    told: Result<u32, MapErr>,
-    wanted: &[u8],
-) -> bool {
-    let mut bytes = [7u8; 10];
-    let Some(into) = bytes.get_mut(..wanted.len()) else {
-        return false;
-    };
-    volume.read_map(at, into) == told && *into == *wanted
-}
-
-// Whether the map tells these numbers, and no more.
-fn has_numbers(volume: &Volume<'_, MemBoard>, numbers: &[u16]) -> bool {
-    let mut spans = 0u32;
-    for number in numbers {
-        if volume.map_page(spans) != Some(*number) {
-            return false;
-        }
-        spans = spans.saturating_add(1);
-    }
-    volume.map_page(spans).is_none()
 }
 
 // Whether three bytes `f` are written.
@@ -153,35 +114,10 @@ fn is_so_open(volume: &mut Volume<'_, MemBoard>, step: &Step<'_>) -> bool {
     }
 }
 
-/// Has the nth read of a volume's chip from now on fail, and for 0 none.
-pub(crate) fn fail_read(volume: &mut Volume<'_, MemBoard>, nth: u64) {
-    volume.nor.fail_nth(CallKind::Read, nth);
-}
-
-// The same, as a step that is always as it says.
-fn fails_read(volume: &mut Volume<'_, MemBoard>, nth: u64) -> bool {
-    fail_read(volume, nth);
-    true
-}
-
-// Whether a call of the map is as its step says.
-fn is_so_mapped(volume: &mut Volume<'_, MemBoard>, step: &Step<'_>) -> bool {
-    match *step {
-        Step::ReadsMap(at, told, wanted) => reads_map(volume, at, told, wanted),
-        Step::HasNumbers(numbers) => has_numbers(volume, numbers),
-        Step::FailsRead(nth) => fails_read(volume, nth),
-        Step::IsAttached(told) => volume.is_attached() == told,
-        Step::Detaches(told) => volume.detach_map().map(|numbers| numbers.len()) == told,
-        _ => is_so_open(volume, step),
-    }
-}
-
 // Whether a step is as it says.
 fn is_so(volume: &mut Volume<'_, MemBoard>, step: &Step<'_>) -> bool {
     match *step {
         Step::Starts(free) => starts(volume, free),
-        Step::Mounts => volume.mount().is_ok(),
-        Step::Checks => volume.check().is_ok(),
         Step::Creates(name, told) => volume.create(name) == told,
         Step::Opens(name, flags, told) => volume.open_file(name, flags) == told,
         Step::Removes(name, told) => volume.remove(name) == told,
@@ -202,14 +138,7 @@ fn is_so(volume: &mut Volume<'_, MemBoard>, step: &Step<'_>) -> bool {
         Step::Holds(image) => volume.nor.image() == image,
         Step::HasFailed(told) => volume.has_failed() == told,
         Step::HasCounted => volume.counted,
-        _ => is_so_mapped(volume, step),
-    }
-}
-
-/// Does steps on a volume.
-pub(crate) fn follow(rt: &impl Abort, volume: &mut Volume<'_, MemBoard>, steps: &[Step<'_>]) {
-    for (nth, step) in steps.iter().enumerate() {
-        assert!(rt; is_so(volume, step), "step {nth}");
+        _ => is_so_open(volume, step),
     }
 }
 
@@ -226,7 +155,9 @@ pub(crate) fn go(
     let lent = memory.lend();
     accept(g, board, &lent)?;
     let mut volume = Volume::new(*g, board, lent);
-    follow(rt, &mut volume, steps);
+    for (nth, step) in steps.iter().enumerate() {
+        assert!(rt; is_so(&mut volume, step), "step {nth}");
+    }
     assert!(rt; volume.unmount().last == last, "unmounted");
     Ok(())
 }

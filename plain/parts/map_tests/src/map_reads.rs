@@ -1,19 +1,27 @@
 //! Reads of the device: how many a read through a map asks for, and what is left of a map where one fails.
+
 use crate::bench::{Memory, board_of};
 use crate::images::{filed, small};
 use crate::map_numbers::is_right;
 use crate::steps::{Step, follow};
-use geometry::Geometry;
-use nor_core::Failed;
-use std::alloc::Global;
-use std::process::Abort;
-use std::test::Fail;
-use table_model::FsErr;
-use vol_mount::accept;
-use volume::{MapErr, Volume};
+use liverymenhir::geometry::Geometry;
+use liverymenhir::nor_core::Failed;
+use liverymenhir::table_model::FsErr;
+use liverymenhir::vol_mount::accept;
+use liverymenhir::volume::{MapErr, Volume};
+use rattle_host::alloc::Global;
+use rattle_host::assert;
+#[allow(unused_imports)]
+use rattle_host::prelude::*;
+use rattle_host::process::Abort;
+use rattle_host::test::Fail;
 
 #[test]
-fn a_read_through_a_map_reads_each_data_page_once(rt: HostRuntime) -> Result<(), Fail> {
+fn a_read_through_a_map_reads_each_data_page_once() {
+    rattle_host::test::run(a_read_through_a_map_reads_each_data_page_once_with)
+}
+
+fn a_read_through_a_map_reads_each_data_page_once_with(rt: HostRuntime) -> Result<(), Fail> {
     let alloc = rt.alloc();
     let g = small()?;
     let mut board = board_of(alloc, &g, &filed(alloc, &g, 5)?)?;
@@ -121,7 +129,11 @@ fn write_failing(rt: &impl Abort, alloc: Global, g: &Geometry, nth: u64) -> Resu
 }
 
 #[test]
-fn a_fault_loses_a_map_and_not_the_call(rt: HostRuntime) -> Result<(), Fail> {
+fn a_fault_loses_a_map_and_not_the_call() {
+    rattle_host::test::run(a_fault_loses_a_map_and_not_the_call_with)
+}
+
+fn a_fault_loses_a_map_and_not_the_call_with(rt: HostRuntime) -> Result<(), Fail> {
     let alloc = rt.alloc();
     let g = small()?;
     let mut failed = 0u32;

@@ -1,20 +1,28 @@
 //! The map of a file: when its bytes are lent and given back, and what it tells.
+
 use crate::bench::{Memory, board_of};
 use crate::images::{filed, put, small};
 use crate::steps::{Step, follow};
-use geometry::{Geometry, MagicKind};
-use nor_core::Failed;
-use nor_memory::CallKind;
-use std::test::Fail;
-use table_model::FsErr;
-use vol_mount::accept;
-use volume::{MapErr, Scrub, Volume, map_need};
+use liverymenhir::geometry::{Geometry, MagicKind};
+use liverymenhir::nor_core::Failed;
+use liverymenhir::table_model::FsErr;
+use liverymenhir::vol_mount::accept;
+use liverymenhir::volume::{MapErr, Scrub, Volume, map_need};
+use rattle_host::assert;
+#[allow(unused_imports)]
+use rattle_host::prelude::*;
+use rattle_host::test::Fail;
+use script_rows::nor_memory::CallKind;
 
 // No number, for a span that the file doesn't have.
 const NONE: u16 = 0xFFFF;
 
 #[test]
-fn a_map_tells_the_pages_of_its_spans(rt: HostRuntime) -> Result<(), Fail> {
+fn a_map_tells_the_pages_of_its_spans() {
+    rattle_host::test::run(a_map_tells_the_pages_of_its_spans_with)
+}
+
+fn a_map_tells_the_pages_of_its_spans_with(rt: HostRuntime) -> Result<(), Fail> {
     let alloc = rt.alloc();
     let g = small()?;
     let mut board = board_of(alloc, &g, &filed(alloc, &g, 0)?)?;
@@ -75,7 +83,11 @@ fn a_map_tells_the_pages_of_its_spans(rt: HostRuntime) -> Result<(), Fail> {
 }
 
 #[test]
-fn a_map_that_is_refused_gives_its_bytes_back(rt: HostRuntime) -> Result<(), Fail> {
+fn a_map_that_is_refused_gives_its_bytes_back() {
+    rattle_host::test::run(a_map_that_is_refused_gives_its_bytes_back_with)
+}
+
+fn a_map_that_is_refused_gives_its_bytes_back_with(rt: HostRuntime) -> Result<(), Fail> {
     let alloc = rt.alloc();
     let g = small()?;
     let mut board = board_of(alloc, &g, &filed(alloc, &g, 2)?)?;
@@ -88,7 +100,7 @@ fn a_map_that_is_refused_gives_its_bytes_back(rt: HostRuntime) -> Result<(), Fai
     let Err(back) = volume.attach_map_of(1, 0, &mut numbers) else {
         return Err(Failed)?;
     };
-    assert!(rt; back.why == MapErr::Call(FsErr::Failed) && &*back.numbers == [9; 4].as_slice());
+    assert!(rt; back.why == MapErr::Call(FsErr::Failed) && *back.numbers == [9; 4]);
     follow(
         &rt,
         &mut volume,
@@ -97,9 +109,7 @@ fn a_map_that_is_refused_gives_its_bytes_back(rt: HostRuntime) -> Result<(), Fai
     let Err(back) = volume.attach_map(1, 0, back.numbers) else {
         return Err(Failed)?;
     };
-    assert!(rt;
-        back.why == MapErr::Call(FsErr::BadDescriptor) && &*back.numbers == [9; 4].as_slice()
-    );
+    assert!(rt; back.why == MapErr::Call(FsErr::BadDescriptor) && *back.numbers == [9; 4]);
     let Err(back) = volume.attach_map_of(2, 0, back.numbers) else {
         return Err(Failed)?;
     };
@@ -109,11 +119,11 @@ fn a_map_that_is_refused_gives_its_bytes_back(rt: HostRuntime) -> Result<(), Fai
     let Err(back) = volume.attach_map_of(2, 0, &mut more) else {
         return Err(Failed)?;
     };
-    assert!(rt; back.why == MapErr::MapBusy && &*back.numbers == [5; 6].as_slice());
+    assert!(rt; back.why == MapErr::MapBusy && *back.numbers == [5; 6]);
     let Err(back) = volume.attach_map(9, 0, back.numbers) else {
         return Err(Failed)?;
     };
-    assert!(rt; back.why == MapErr::MapBusy && &*back.numbers == [5; 6].as_slice());
+    assert!(rt; back.why == MapErr::MapBusy && *back.numbers == [5; 6]);
     let kept = [
         Step::HasNumbers(&[17, 18]),
         Step::ReadsMap(250, Ok(2), &[0, 1]),
@@ -126,7 +136,11 @@ fn a_map_that_is_refused_gives_its_bytes_back(rt: HostRuntime) -> Result<(), Fai
 }
 
 #[test]
-fn a_map_of_few_bytes_tells_as_many_spans_as_have_room(rt: HostRuntime) -> Result<(), Fail> {
+fn a_map_of_few_bytes_tells_as_many_spans_as_have_room() {
+    rattle_host::test::run(a_map_of_few_bytes_tells_as_many_spans_as_have_room_with)
+}
+
+fn a_map_of_few_bytes_tells_as_many_spans_as_have_room_with(rt: HostRuntime) -> Result<(), Fail> {
     let alloc = rt.alloc();
     let g = small()?;
     let mut board = board_of(alloc, &g, &filed(alloc, &g, 2)?)?;
@@ -179,7 +193,11 @@ fn a_map_of_few_bytes_tells_as_many_spans_as_have_room(rt: HostRuntime) -> Resul
 }
 
 #[test]
-fn spans_past_the_end_are_told_once_they_are_there(rt: HostRuntime) -> Result<(), Fail> {
+fn spans_past_the_end_are_told_once_they_are_there() {
+    rattle_host::test::run(spans_past_the_end_are_told_once_they_are_there_with)
+}
+
+fn spans_past_the_end_are_told_once_they_are_there_with(rt: HostRuntime) -> Result<(), Fail> {
     let alloc = rt.alloc();
     let g = small()?;
     let mut board = board_of(alloc, &g, &filed(alloc, &g, 2)?)?;
@@ -224,7 +242,11 @@ fn spans_past_the_end_are_told_once_they_are_there(rt: HostRuntime) -> Result<()
 }
 
 #[test]
-fn a_map_tells_where_pages_were_moved(rt: HostRuntime) -> Result<(), Fail> {
+fn a_map_tells_where_pages_were_moved() {
+    rattle_host::test::run(a_map_tells_where_pages_were_moved_with)
+}
+
+fn a_map_tells_where_pages_were_moved_with(rt: HostRuntime) -> Result<(), Fail> {
     let alloc = rt.alloc();
     let g = Geometry::new(256, 4096, 16, 4096, 0, MagicKind::Length)?;
     let mut image = filed(alloc, &g, 2)?;
@@ -279,7 +301,11 @@ fn a_map_tells_where_pages_were_moved(rt: HostRuntime) -> Result<(), Fail> {
 }
 
 #[test]
-fn a_volume_that_has_failed_has_no_map(rt: HostRuntime) -> Result<(), Fail> {
+fn a_volume_that_has_failed_has_no_map() {
+    rattle_host::test::run(a_volume_that_has_failed_has_no_map_with)
+}
+
+fn a_volume_that_has_failed_has_no_map_with(rt: HostRuntime) -> Result<(), Fail> {
     let alloc = rt.alloc();
     let g = small()?;
     let mut board = board_of(alloc, &g, &filed(alloc, &g, 2)?)?;

@@ -1,16 +1,21 @@
 //! Drawn calls on two volumes, of which one has a map: it stays right, and all else is as without it.
+
 use crate::bench::Memory;
 use crate::map_numbers::{is_gone, is_right};
 use crate::steps::{Step, fail_read, follow};
-use geometry::{Geometry, MagicKind};
-use nor_core::draw;
-use nor_memory::MemBoard;
-use std::alloc::Global;
-use std::process::Abort;
-use std::test::Fail;
-use table_model::{Call, Whence};
-use vol_mount::{accept, format};
-use volume::{MapErr, Told, Volume};
+use liverymenhir::geometry::{Geometry, MagicKind};
+use liverymenhir::nor_core::draw;
+use liverymenhir::table_model::{Call, Whence};
+use liverymenhir::vol_mount::{accept, format};
+use liverymenhir::volume::{MapErr, Told, Volume};
+use rattle_host::alloc::Global;
+use rattle_host::assert;
+#[allow(unused_imports)]
+use rattle_host::prelude::*;
+use rattle_host::process::Abort;
+use rattle_host::test::Fail;
+use rattle_host::vec;
+use script_rows::nor_memory::MemBoard;
 
 // The names that are drawn. The last one is only given by a rename, and by an opening of it.
 const NAMES: [&[u8]; 4] = [b"a", b"b", b"c", b"d"];
@@ -61,45 +66,33 @@ fn call_open<'t>(choice: &Choice, bytes: &'t [u8; 1000]) -> Call<'t> {
     let fd = choice.fd;
     let offset = i64::from(choice.place);
     match choice.kind {
-        0..=13 => {
-            Call::Write {
-                fd,
-                bytes: bytes.get(..choice.count as usize).unwrap_or(&[]),
-            }
-        }
-        14..=19 => {
-            Call::Fill {
-                fd,
-                count: choice.count,
-                byte: b'f',
-            }
-        }
-        20..=23 => {
-            Call::Seek {
-                fd,
-                offset,
-                from: Whence::Set,
-            }
-        }
-        24..=27 => {
-            Call::Seek {
-                fd,
-                offset: 40 - offset,
-                from: Whence::End,
-            }
-        }
-        28 | 29 => {
-            Call::Read {
-                fd,
-                count: choice.count,
-            }
-        }
-        30 | 31 => {
-            Call::Truncate {
-                fd,
-                size: choice.place.saturating_mul(3),
-            }
-        }
+        0..=13 => Call::Write {
+            fd,
+            bytes: bytes.get(..choice.count as usize).unwrap_or(&[]),
+        },
+        14..=19 => Call::Fill {
+            fd,
+            count: choice.count,
+            byte: b'f',
+        },
+        20..=23 => Call::Seek {
+            fd,
+            offset,
+            from: Whence::Set,
+        },
+        24..=27 => Call::Seek {
+            fd,
+            offset: 40 - offset,
+            from: Whence::End,
+        },
+        28 | 29 => Call::Read {
+            fd,
+            count: choice.count,
+        },
+        30 | 31 => Call::Truncate {
+            fd,
+            size: choice.place.saturating_mul(3),
+        },
         32 | 33 => Call::Flush { fd },
         34 | 35 => Call::Close { fd },
         36 => Call::FStat { fd },
@@ -112,23 +105,19 @@ fn call_open<'t>(choice: &Choice, bytes: &'t [u8; 1000]) -> Call<'t> {
 fn call_named(choice: &Choice) -> Call<'static> {
     let name = choice.name;
     match choice.kind {
-        40..=55 => {
-            Call::OpenFile {
-                name: if choice.kind == 40 {
-                    choice.other
-                } else {
-                    name
-                },
-                flags: choice.flags,
-            }
-        }
+        40..=55 => Call::OpenFile {
+            name: if choice.kind == 40 {
+                choice.other
+            } else {
+                name
+            },
+            flags: choice.flags,
+        },
         56 => Call::Remove { name },
-        57 => {
-            Call::Rename {
-                old_name: choice.other,
-                new_name: name,
-            }
-        }
+        57 => Call::Rename {
+            old_name: choice.other,
+            new_name: name,
+        },
         58 => Call::SetMeta { name, meta: b"" },
         59 => Call::FRemove { fd: choice.fd },
         60 | 61 => Call::Gc,
@@ -359,7 +348,11 @@ fn soak(rt: &impl Abort, alloc: Global, g: &Geometry, seed: u64, turns: u32) -> 
 }
 
 #[test]
-fn a_map_stays_right_through_drawn_calls(rt: HostRuntime) -> Result<(), Fail> {
+fn a_map_stays_right_through_drawn_calls() {
+    rattle_host::test::run(a_map_stays_right_through_drawn_calls_with)
+}
+
+fn a_map_stays_right_through_drawn_calls_with(rt: HostRuntime) -> Result<(), Fail> {
     // of the first, a header page names nine data pages
     for (page, block, blocks, unit, meta, magic) in [
         (128, 2048, 6, 1024, 64, MagicKind::Length),
