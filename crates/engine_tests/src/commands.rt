@@ -7,7 +7,8 @@ use nor_core::Board;
 use nor_memory::{MemBoard, MemChip, MemSource};
 use std::alloc::{AllocError, Global};
 use std::test::Fail;
-use tool_core::{Buffers, spiffs_tool};
+use tool_core::spiffs_tool;
+use tool_parts::Buffers;
 
 // The words of a text that are parted by single spaces.
 fn words_of(alloc: Global, text: &str) -> Result<Vec<String>, AllocError> {

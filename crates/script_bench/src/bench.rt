@@ -5,7 +5,8 @@ use folder_core::MemFolder;
 use geometry::{Geometry, MagicKind};
 use nor_memory::{CallKind, MemBoard, MemSource};
 use std::alloc::{AllocError, Global};
-use tool_core::{Buffers, spiffs_tool};
+use tool_core::spiffs_tool;
+use tool_parts::Buffers;
 use vol_mount::format;
 
 /// How much memory a command is lent, in bytes and slots.

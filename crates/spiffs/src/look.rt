@@ -6,7 +6,8 @@ use geometry::{Geometry, MagicKind};
 use meta_guess::{Guess, count_files, guess_meta};
 use nor_core::{Failed, Nor};
 use std::fmt;
-use tool_core::{Buffers, is_accepted};
+use tool_core::is_accepted;
+use tool_parts::Buffers;
 use vol_mount::{Lent, MountErr, accept, mount};
 
 /// What a volume holds before the command.

@@ -21,7 +21,8 @@ use std::io::Write;
 use std::process::ExitCode;
 use std::rt::Env;
 use std::{env, fs, io};
-use tool_core::{Buffers, chip_size_of, is_accepted, spiffs_tool, unit_of};
+use tool_core::{is_accepted, spiffs_tool};
+use tool_parts::{Buffers, chip_size_of, unit_of};
 use usage::wrong_word;
 use words::{CHIP_WORD, FOLDER_WORD, repairs, word};
 

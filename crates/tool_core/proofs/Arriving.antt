@@ -5,8 +5,8 @@ use Rattle.nor_core.specs.declared.state.NorState.{Ghosts as NorOf}
 use Rattle.table_model.specs.Window.{Moment}
 use Rattle.call_script.specs.Lines.{Parsed, Bad, lines, of_line, calls_of, calls, with_line}
 use Rattle.run_model.proofs.Chain.{said_wider}
-use Rattle.tool_core.specs.declared.ending.Ending.{Ending}
-use Rattle.tool_core.specs.declared.ending.Ending.TheVariants.{Done, BadLine, BoardFault, SourceFault, TooLong}
+use Rattle.tool_parts.specs.declared.ending.Ending.{Ending}
+use Rattle.tool_parts.specs.declared.ending.Ending.TheVariants.{Done, BadLine, BoardFault, SourceFault, TooLong}
 use Rattle.tool_core.specs.Turns.{AllGood, Short, At, Follows, WhyHere, Turned}
 use Rattle.tool_core.specs.Outcomes.{IsTaken, WhyEnds, RunEnds}
 use Rattle.tool_core.proofs.LineWork.{calls-append, same_said}

@@ -8,7 +8,7 @@ use Rattle.std.proofs.lemmas.Bool.{ne_eqb}
 use Rattle.table_model.specs.Table.{Open, State}
 use Rattle.table_model.specs.Room.{has_room}
 use Rattle.table_model.specs.Descriptors.{open_at}
-use Rattle.call_model.specs.Memory.{OpensFiles}
+use Rattle.call_model.specs.Memory.{OpensFiles, Memory, IsAt}
 use Rattle.table_model.specs.Ask.{Ask}
 use Rattle.table_model.specs.Window.{Moment, settled_at}
 use Rattle.call_script.specs.Lines.{calls}
@@ -22,7 +22,6 @@ use Rattle.fd_table.specs.declared.slot.FdSlot.{FdSlot}
 use Rattle.fd_table.specs.Slots.{descriptors, held}
 use Rattle.volume.specs.declared.volume.Volume.{Volume}
 use Rattle.volume.specs.Holds.{memory}
-use Rattle.call_model.specs.Memory.{Memory, IsAt}
 use Rattle.call_model.specs.Calls.{Stands}
 use Rattle.call_model.specs.Safe.{Holds}
 use Rattle.call_model.proofs.Safety.{holds_safe, holds_then, safe_as}
@@ -30,18 +29,18 @@ use Rattle.run_model.specs.Runs.{RunCall, plain, asks_of, after_all, replies}
 use Rattle.run_model.specs.Ran.{RunStands, CutIn, SaidPart}
 use Rattle.run_model.proofs.Runs.{replies-append, asks-append, fair-append, plain-asks, plain-fair, is_settled, cut_none}
 use Rattle.run_model.proofs.Chain.{no_replies, none_fair, wider_cut, cut_behind}
-use Rattle.tool_core.specs.declared.ending.Ending.{Ending}
-use Rattle.tool_core.specs.declared.ending.Ending.TheVariants.{BoardFault, Tight}
-use Rattle.tool_core.specs.Reads.{ReadsOnce}
-use Rattle.tool_core.specs.Mounting.{Checks, Reported, IsRefused, StopsCheck}
-use Rattle.tool_core.specs.Begins.{Begun, IsTight, StopsRun}
-use Rattle.tool_core.specs.Refusals.{check_refusal, begin_refusal}
+use Rattle.tool_parts.specs.declared.ending.Ending.{Ending}
+use Rattle.tool_parts.specs.declared.ending.Ending.TheVariants.{BoardFault, Tight}
+use Rattle.tool_parts.specs.Reads.{ReadsOnce}
+use Rattle.tool_parts.specs.Mounting.{Checks, Reported, IsRefused, StopsCheck}
+use Rattle.tool_parts.specs.Begins.{Begun, IsTight, StopsRun, first_moment, closed_memory}
+use Rattle.tool_parts.specs.Refusals.{check_refusal, begin_refusal}
 use Rattle.tool_core.specs.Settling.{SettlesTo, Settling}
-use Rattle.tool_core.specs.Outcomes.{Went, WhyEnds, RunEnds, RunCut, ImagesEnd, Broke, RunsTo, Refused, EndsByImages, first_moment, closed_memory}
-use Rattle.tool_core.proofs.Mounted.{safe_check, holds_check}
-use Rattle.tool_core.proofs.Refusals.{not_both, no_tight, tight_some, tight_none, safe_mends}
+use Rattle.tool_core.specs.Outcomes.{Went, WhyEnds, RunEnds, RunCut, ImagesEnd, Broke, RunsTo, Refused, EndsByImages}
+use Rattle.tool_parts.proofs.Mounted.{safe_check, holds_check}
+use Rattle.tool_parts.proofs.Refusals.{not_both, no_tight, tight_some, tight_none, safe_mends}
 use Rattle.tool_core.proofs.Settling.{settles_of}
-use Rattle.tool_core.proofs.Speaking.{writes_none}
+use Rattle.tool_parts.proofs.Speaking.{writes_none}
 
 -- at first nothing waits, and the settled table is that of the image
 first_still : (g : Geometry) (slots : ℕ) (image : List ℕ) → first_moment g slots image ≡ settled_at (first_moment g slots image).state
@@ -97,10 +96,6 @@ first_at g slots was image w memory tidy same = subst (λ (v : Memory). IsAt g i
   run = first_still g slots was;
   opened = opens_none (first_moment g slots was).state slots (first_slots g slots was);
 })
-
--- images that don't end a run before its first call
-pub begins_on : (g : Geometry) (first image : List ℕ) → check_refusal g first ≡ None → HasReserve g image → begin_refusal g first image ≡ None
-begins_on g first image takes reserve = rw takes (tight_none g image reserve)
 
 module _ {D : Type 0} {nor : NorOf D} {g : Geometry} where
   -- a cut in the check
@@ -308,36 +303,9 @@ module _ {D : Type 0} {nor : NorOf D} {g : Geometry} where
       stops
 
 module _ {D : Type 0} (nor : NorOf D) (g : Geometry) where
-  -- a volume that wasn't checked isn't run on
-  pub unchecked_stops : {old new : D} (ending : Ending) → StopsCheck nor g old new ending → StopsRun nor g old new ending
-  unchecked_stops ending stops = ⊎_elim (λ fault. inl fault) (λ refused. inr (inl refused)) stops
-
-  -- nor is one with too few free blocks
-  pub tight_stops : {old new : D} (report : Report) → Reported g (nor.bytes old) (nor.bytes new) report → report.free_blocks < 2 → StopsRun nor g old new (Tight report.free_blocks)
-  tight_stops {old} {new} report reported less = inr (inr (record {
-    takes = reported.takes;
-    tight = tight_some g (nor.bytes new) report.free_blocks reported.done.free less;
-    stuck = ⊎_elim (λ (reserve : HasReserve g (nor.bytes new)). absurd (omega (arith, reserve, reported.done.free, less))) (λ (none : chosen_block g (nor.bytes new) ≡ None). none) reported.done.stopped;
-    recovers_not = λ back. let enough = reported.mends back in omega (arith, enough, reported.done.free, less);
-  }))
-
   -- the same device by another name
   pub runs_as : {old mid new : D} {m : Moment} {script left : List ℕ} {ending : Ending} → mid ≡ new → RunsTo nor g old mid m script left ending → RunsTo nor g old new m script left ending
   runs_as {old} {mid} {new} {m} {script} {left} {ending} same runs = subst (λ (d : D). RunsTo nor g old d m script left ending) same runs
 
   pub images_as : (was : List ℕ) {cache : ℕ} {old mid new : D} {ending : Ending} → ReadsOnce nor g cache old new → mid ≡ new → EndsByImages g was (nor.bytes mid) ending → EndsByImages g was (nor.bytes new) ending
   images_as was {cache} {old} {mid} {new} {ending} reads same ends = subst (λ (d : D). EndsByImages g was (nor.bytes d) ending) same ends
-
--- one that has enough is begun
-pub reported_begun : {g : Geometry} {was now : List ℕ} (report : Report) → Reported g was now report → 2 ≤ report.free_blocks → Begun g was now
-reported_begun report reported enough = record { takes = reported.takes; tidy = reported.done.tidy; reserve = omega (arith, reported.done.free, enough) }
-
--- what a volume remembers that was checked, before the first call
-slots_count : (lent : List FdSlot) (n : ℕ) → descriptors lent ≡ replicate n None → min 65535 (length lent) ≡ n
-unfolding descriptors
-slots_count lent n closed =
-    let same : length (map held (take 65535 lent)) ≡ length (replicate {A = Option Open} n None) = ap length closed in
-    sym (length-map (take 65535 lent) held ∙ length-take 65535 lent) ∙ same ∙ length-replicate n None
-
-pub memory_begun : {N : Type 0} {nor : NorOf N} (old new : Volume N nor) (slots : ℕ) → memory new ≡ closed_memory (min 65535 (length old.slots.now)) → memory old ≡ closed_memory slots → memory new ≡ closed_memory slots
-memory_begun old new slots now was = now ∙ ap closed_memory (slots_count old.slots.now slots (ap (λ (w : Memory). w.slots) was))

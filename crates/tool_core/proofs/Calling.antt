@@ -41,7 +41,7 @@ use Rattle.file_calls.specs.Replies.{shown_by, HasRoomFor}
 use Rattle.volume.specs.Replies.{breaks}
 use Rattle.file_calls.specs.Goes.{IsCorner, StopsShort}
 use Rattle.volume.specs.Calls.{Calls, StaysTight}
-use Rattle.tool_core.specs.declared.ending.Ending.TheVariants.{BoardFault, Differ as EndsDiffer}
+use Rattle.tool_parts.specs.declared.ending.Ending.TheVariants.{BoardFault, Differ as EndsDiffer}
 use Rattle.tool_core.specs.Runs.{Ran, StandsNow}
 use Rattle.tool_core.specs.Turns.{DoesCall}
 

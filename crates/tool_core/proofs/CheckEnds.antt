@@ -10,14 +10,14 @@ use Rattle.image_model.specs.Tables.{damaged_of}
 use Rattle.image_model.specs.Tidy.{IsTidy, HasReserve, free_blocks}
 use Rattle.vol_check.specs.declared.report.Report.{Report}
 use Rattle.volume.specs.Checking.{CheckDone}
-use Rattle.tool_core.specs.declared.ending.Ending.{Ending}
-use Rattle.tool_core.specs.declared.ending.Ending.TheVariants.{BoardFault}
-use Rattle.tool_core.specs.Mounting.{Checks, Reported, StopsCheck}
+use Rattle.tool_parts.specs.declared.ending.Ending.{Ending}
+use Rattle.tool_parts.specs.declared.ending.Ending.TheVariants.{BoardFault}
+use Rattle.tool_parts.specs.Mounting.{Checks, Reported, StopsCheck}
 use Rattle.tool_core.specs.Checking.{report_text, check_text, reported_text, ReportCut, IsOrderedOnceSaid, ChecksTo}
-use Rattle.tool_core.specs.Endings.{Speaks}
-use Rattle.tool_core.specs.Refusals.{report_ending, check_ending}
-use Rattle.tool_core.proofs.Refusals.{not_both}
-use Rattle.tool_core.proofs.Speaking.{writes_none, none_said}
+use Rattle.tool_parts.specs.Endings.{Speaks}
+use Rattle.tool_parts.specs.Refusals.{report_ending, check_ending}
+use Rattle.tool_parts.proofs.Refusals.{not_both}
+use Rattle.tool_parts.proofs.Speaking.{writes_none, none_said}
 
 -- a front of one text is no text with another first byte
 pub other_first : (n x y : ℕ) (xs ys : List ℕ) → (x ≡ y → ⊥) → take n (x ∷ xs) ≡ y ∷ ys → ⊥

@@ -9,19 +9,19 @@ use Rattle.nor_core.proofs.Cuts.{andthen, widened}
 use Rattle.flash_view.specs.Same.{StaysBehind}
 use Rattle.image_model.specs.Tables.{damaged_of}
 use Rattle.image_model.specs.Tidy.{free_blocks}
-use Rattle.tool_core.specs.declared.ending.Ending.{Ending}
-use Rattle.tool_core.specs.declared.ending.Ending.TheVariants.{BoardFault}
-use Rattle.tool_core.specs.Closing.{status_of, closing_line_of}
-use Rattle.tool_core.specs.Mounting.{Checks}
-use Rattle.tool_core.specs.Endings.{OnlyCloses, Concludes}
-use Rattle.tool_core.specs.Reads.{ReadsOnce}
-use Rattle.tool_core.specs.Refusals.{check_refusal, report_ending, check_ending, unless_refused}
+use Rattle.tool_parts.specs.declared.ending.Ending.{Ending}
+use Rattle.tool_parts.specs.declared.ending.Ending.TheVariants.{BoardFault}
+use Rattle.tool_parts.specs.Closing.{status_of, closing_line_of}
+use Rattle.tool_parts.specs.Mounting.{Checks}
+use Rattle.tool_parts.specs.Endings.{OnlyCloses, Concludes}
+use Rattle.tool_parts.specs.Reads.{ReadsOnce}
+use Rattle.tool_parts.specs.Refusals.{check_refusal, report_ending, check_ending, unless_refused}
 use Rattle.tool_core.specs.Checking.{check_text, reported_text, IsOrdered, IsOrderedOnceSaid, ChecksTo, CheckCut, DoesCheck}
-use Rattle.tool_core.proofs.Mounted.{safe_check, holds_check}
+use Rattle.tool_parts.proofs.Mounted.{safe_check, holds_check}
 use Rattle.tool_core.proofs.CheckEnds.{other_first, same_after}
-use Rattle.tool_core.proofs.Reading.{reads_said, behind_closed}
-use Rattle.tool_core.proofs.Refusals.{option_cases, refusal_line, check_not_tight}
-use Rattle.tool_core.proofs.Speaking.{concludes, within, none_closed, mended_closed}
+use Rattle.tool_parts.proofs.Reading.{reads_said, behind_closed}
+use Rattle.tool_parts.proofs.Refusals.{option_cases, refusal_line, check_not_tight}
+use Rattle.tool_parts.proofs.Speaking.{concludes, within, none_closed, mended_closed}
 
 -- a closing line is no line of a report
 not_closing : (n : ℕ) (said closing first tail : List ℕ) (x y : ℕ) (xs ys : List ℕ) → closing ≡ x ∷ xs → first ++ tail ≡ y ∷ ys → (x ≡ y → ⊥) → said ++ take n closing ≡ said ++ (first ++ tail) → ⊥

@@ -13,14 +13,14 @@ use Rattle.run_model.specs.Runs.{RunCall, after_all, replies, IsCut}
 use Rattle.call_model.specs.Safe.{IsSafe, Holds}
 use Rattle.run_model.proofs.Runs.{cut_none, cut_later}
 use Rattle.run_model.proofs.Chain.{no_replies}
-use Rattle.tool_core.specs.declared.ending.Ending.{Ending}
-use Rattle.tool_core.specs.Closing.{status_of, closing_line_of}
-use Rattle.tool_core.specs.Refusals.{begin_refusal}
-use Rattle.tool_core.specs.Endings.{OnlyCloses}
-use Rattle.tool_core.specs.Mounting.{IsMendable}
+use Rattle.tool_parts.specs.declared.ending.Ending.{Ending}
+use Rattle.tool_parts.specs.Closing.{status_of, closing_line_of}
+use Rattle.tool_parts.specs.Refusals.{begin_refusal}
+use Rattle.tool_parts.specs.Endings.{OnlyCloses}
+use Rattle.tool_parts.specs.Mounting.{IsMendable}
 use Rattle.tool_core.specs.Outcomes.{WhyRan, RunCut, Broke, Came, RunsTo}
 use Rattle.tool_core.specs.Running.{Outcome, CallCut, ClosingCut}
-use Rattle.tool_core.proofs.Refusals.{begun_reserve, tidy_mends}
+use Rattle.tool_parts.proofs.Refusals.{begun_reserve, tidy_mends}
 
 module _ {D : Type 0} {nor : NorOf D} {g : Geometry} where
   -- a cut in the calls by those whose replies were said whole

@@ -7,15 +7,15 @@ use Rattle.table_model.specs.Window.{Moment}
 use Rattle.call_script.specs.Lines.{Bad, lines, of_line, calls}
 use Rattle.image_model.specs.Tables.{table_of}
 use Rattle.run_model.specs.Runs.{RunCall, AreFair, asks_of, after_all, replies}
-use Rattle.tool_core.specs.declared.ending.Ending.{Ending}
-use Rattle.tool_core.specs.declared.ending.Ending.TheVariants.{Done, BadLine, SourceFault, TooLong}
-use Rattle.tool_core.specs.Closing.{status_of, closing_line_of}
-use Rattle.tool_core.specs.Refusals.{begin_refusal}
-use Rattle.tool_core.specs.Endings.{OnlyCloses}
+use Rattle.tool_parts.specs.declared.ending.Ending.{Ending}
+use Rattle.tool_parts.specs.declared.ending.Ending.TheVariants.{Done, BadLine, SourceFault, TooLong}
+use Rattle.tool_parts.specs.Closing.{status_of, closing_line_of}
+use Rattle.tool_parts.specs.Refusals.{begin_refusal}
+use Rattle.tool_parts.specs.Endings.{OnlyCloses}
 use Rattle.tool_core.specs.Turns.{AllGood}
 use Rattle.tool_core.specs.Outcomes.{HasBad, IsTooLong, WhyEnds, WhyRan, IsOfScript, EndsByImages}
 use Rattle.tool_core.specs.Running.{Closes, Outcome, RanWhole, BeginsAs, IsComplete}
-use Rattle.tool_core.proofs.Refusals.{not_both, begin_undone}
+use Rattle.tool_parts.proofs.Refusals.{not_both, begin_undone}
 use Rattle.tool_core.proofs.Limits.{not_too_long, seen_not_long}
 
 good_has_no_bad : (done : List (List ℕ)) (bad : List ℕ) (others : List (List ℕ)) → AllGood (done ++ (bad ∷ others)) → of_line bad ≡ Bad → ⊥

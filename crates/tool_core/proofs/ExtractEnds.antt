@@ -19,18 +19,18 @@ use Rattle.image_tool.specs.Saying.{OnlySays, SaysFront}
 use Rattle.image_tool.specs.Texts.{record_lines}
 use Rattle.image_tool.proofs.Pieces.{kept_none, files_none, partly_none, partly_all}
 use Rattle.image_tool.proofs.Speaking.{says_none, front_none, says_after, front_after, says_same}
-use Rattle.tool_core.specs.declared.ending.Ending.{Ending}
-use Rattle.tool_core.specs.declared.ending.Ending.TheVariants.{BoardFault, FolderFault}
-use Rattle.tool_core.specs.Closing.{status_of, closing_line_of}
-use Rattle.tool_core.specs.Endings.{OnlyCloses, WritesNone}
+use Rattle.tool_parts.specs.declared.ending.Ending.{Ending}
+use Rattle.tool_parts.specs.declared.ending.Ending.TheVariants.{BoardFault, FolderFault}
+use Rattle.tool_parts.specs.Closing.{status_of, closing_line_of}
+use Rattle.tool_parts.specs.Endings.{OnlyCloses, WritesNone}
 use Rattle.tool_core.specs.Extracting.{extracted, Extracts, ExtractEnds, EndsListed, EndsBroken, DoesExtract}
 use Rattle.tool_core.specs.Listing.{listed_text}
-use Rattle.tool_core.specs.Mounting.{mount_ends}
-use Rattle.tool_core.specs.Reads.{ReadsOnce}
-use Rattle.tool_core.specs.Refusals.{said_ending, list_ending}
-use Rattle.tool_core.proofs.Reading.{reads_said}
-use Rattle.tool_core.proofs.Refusals.{mount_two, mount_few}
-use Rattle.tool_core.proofs.Speaking.{concludes, says_closed, none_closed}
+use Rattle.tool_parts.specs.Mounting.{mount_ends}
+use Rattle.tool_parts.specs.Reads.{ReadsOnce}
+use Rattle.tool_parts.specs.Refusals.{said_ending, list_ending}
+use Rattle.tool_parts.proofs.Reading.{reads_said}
+use Rattle.tool_parts.proofs.Refusals.{mount_two, mount_few}
+use Rattle.tool_parts.proofs.Speaking.{concludes, says_closed, none_closed}
 
 module _ {D X : Type 0} {nor : NorOf D} {folder : FolderOf X} where
   -- a volume that wasn't mounted

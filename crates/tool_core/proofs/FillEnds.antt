@@ -22,11 +22,11 @@ use Rattle.volume.specs.Stages.{takes_calls}
 use Rattle.volume.proofs.Staying.{same_none}
 use Rattle.volume.proofs.RunSettling.{unmounts_open}
 use Rattle.volume_run.specs.Ready.{IsReady}
-use Rattle.tool_core.specs.declared.ending.Ending.{Ending}
-use Rattle.tool_core.specs.declared.ending.Ending.TheVariants.{Done, BoardFault}
-use Rattle.tool_core.specs.Endings.{OnlyCloses, Speaks}
+use Rattle.tool_parts.specs.declared.ending.Ending.{Ending}
+use Rattle.tool_parts.specs.declared.ending.Ending.TheVariants.{Done, BoardFault}
+use Rattle.tool_parts.specs.Endings.{OnlyCloses, Speaks}
 use Rattle.tool_core.specs.Filling.{HoldsFiles, WasFormatted, SpeaksOf}
-use Rattle.tool_core.proofs.Reading.{behind_closed}
+use Rattle.tool_parts.proofs.Reading.{behind_closed}
 use Rattle.tool_core.proofs.Working.{goes_of}
 
 -- ---- the written bytes that wait are put onto the chip

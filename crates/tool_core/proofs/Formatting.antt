@@ -22,14 +22,13 @@ use Rattle.volume.specs.Holds.{memory}
 use Rattle.volume.specs.Stages.{takes_calls}
 use Rattle.volume_run.specs.Ready.{IsReady}
 use Rattle.volume_soak.specs.Turns.{empty}
-use Rattle.tool_core.specs.declared.ending.Ending.{Ending}
-use Rattle.tool_core.specs.declared.ending.Ending.TheVariants.{BoardFault}
-use Rattle.tool_core.specs.Begins.{Begun}
-use Rattle.tool_core.specs.Mounting.{Checks, Reported, StopsCheck}
-use Rattle.tool_core.specs.Outcomes.{first_moment, closed_memory}
+use Rattle.tool_parts.specs.declared.ending.Ending.{Ending}
+use Rattle.tool_parts.specs.declared.ending.Ending.TheVariants.{BoardFault}
+use Rattle.tool_parts.specs.Begins.{Begun, first_moment, closed_memory}
+use Rattle.tool_parts.specs.Mounting.{Checks, Reported, StopsCheck}
 use Rattle.tool_core.specs.Filling.{HoldsFiles}
 use Rattle.tool_core.proofs.Beginning.{begun_stands, first_room}
-use Rattle.tool_core.proofs.Refusals.{tidy_taken, not_both}
+use Rattle.tool_parts.proofs.Refusals.{tidy_taken, not_both}
 
 -- ---- an empty table has room in a volume that may be written
 

@@ -12,12 +12,12 @@ use Rattle.vol_mount.specs.Mounts.{CountsSpoiled}
 use Rattle.image_tool.specs.Lists.{list_of}
 use Rattle.image_tool.specs.Saying.{OnlySays, SaysFront}
 use Rattle.image_tool.proofs.Speaking.{says_none, front_none, says_after, front_after, says_same}
-use Rattle.tool_core.specs.declared.ending.Ending.{Ending}
-use Rattle.tool_core.specs.declared.ending.Ending.TheVariants.{BoardFault}
-use Rattle.tool_core.specs.Mounting.{mount_ends}
+use Rattle.tool_parts.specs.declared.ending.Ending.{Ending}
+use Rattle.tool_parts.specs.declared.ending.Ending.TheVariants.{BoardFault}
+use Rattle.tool_parts.specs.Mounting.{mount_ends}
 use Rattle.tool_core.specs.Listing.{listed_text, ListsTo}
-use Rattle.tool_core.specs.Refusals.{said_ending}
-use Rattle.tool_core.proofs.Refusals.{mount_two, mount_few}
+use Rattle.tool_parts.specs.Refusals.{said_ending}
+use Rattle.tool_parts.proofs.Refusals.{mount_two, mount_few}
 
 -- a volume that wasn't mounted
 pub not_mounted : {D : Type 0} {nor : NorOf D} (g : Geometry) (why : MountErr) {old new : D} → OnlyReads nor old new → (nor.tells old → CountsSpoiled g (nor.bytes old) why) → ListsTo nor g old new (mount_ends why)

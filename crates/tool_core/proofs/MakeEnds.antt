@@ -20,15 +20,15 @@ use Rattle.image_make.proofs.Keeping.{kept_then}
 use Rattle.vol_mount.specs.Formatted.{IsFormatted}
 use Rattle.volume.specs.declared.volume.Volume.{Volume}
 use Rattle.volume_make.specs.Making.{made_text, make_text, IsMade}
-use Rattle.tool_core.specs.declared.ending.Ending.{Ending}
-use Rattle.tool_core.specs.declared.ending.Ending.TheVariants.{Done, BoardFault, FolderFault}
-use Rattle.tool_core.specs.Closing.{status_of}
-use Rattle.tool_core.specs.Endings.{OnlyCloses, Speaks, Concludes}
+use Rattle.tool_parts.specs.declared.ending.Ending.{Ending}
+use Rattle.tool_parts.specs.declared.ending.Ending.TheVariants.{Done, BoardFault, FolderFault}
+use Rattle.tool_parts.specs.Closing.{status_of}
+use Rattle.tool_parts.specs.Endings.{OnlyCloses, Speaks, Concludes}
 use Rattle.tool_core.specs.Filling.{HoldsFiles, WasFormatted, SpeaksOf}
 use Rattle.tool_core.specs.Making.{refused_by, StopsMake, HoldsFolder, MakesTo, DoesMake}
 use Rattle.tool_core.proofs.FillEnds.{holds_none, was_formatted, speaks_none, speaks_said}
-use Rattle.tool_core.proofs.Speaking.{concludes, by_result}
-use Rattle.tool_core.proofs.Reading.{behind_closed}
+use Rattle.tool_parts.proofs.Speaking.{concludes, by_result}
+use Rattle.tool_parts.proofs.Reading.{behind_closed}
 
 -- ---- a folder that is refused
 

@@ -19,22 +19,22 @@ use Rattle.volume.specs.Holds.{memory, Holds}
 use Rattle.volume.specs.Mapping.{is_attached, GivesUpMap, KeepsMap}
 use Rattle.volume.proofs.MapCalls.{right_in}
 use Rattle.image_model.specs.Places.{IsImage}
-use Rattle.tool_core.specs.declared.ending.Ending.{Ending}
-use Rattle.tool_core.specs.declared.ending.Ending.TheVariants.{Done, BoardFault, NoSuchId, NotAFs, Mixed}
-use Rattle.tool_core.specs.Closing.{status_of}
-use Rattle.tool_core.specs.Endings.{Speaks}
+use Rattle.tool_parts.specs.declared.ending.Ending.{Ending}
+use Rattle.tool_parts.specs.declared.ending.Ending.TheVariants.{Done, BoardFault, NoSuchId, NotAFs, Mixed}
+use Rattle.tool_parts.specs.Closing.{status_of}
+use Rattle.tool_parts.specs.Endings.{Speaks}
 use Rattle.tool_core.specs.Mapping.{span_lines, spans_told, map_text, file_ending, map_ending, StopsCollecting, IsAtRest, Rests, Steps, has_file, HasMap, MayHaveMap, IsMissing, IsFound, AttachesTo, CollectsTo, MapsAgain, TellsPages, SaysSpans, MapEnds, IsChecked, MapsTo}
-use Rattle.tool_core.specs.Mounting.{Checks, Reported, StopsCheck, IsMendable, LeavesFiles}
-use Rattle.tool_core.specs.Outcomes.{first_moment, closed_memory}
-use Rattle.tool_core.specs.Refusals.{check_refusal, unless_refused}
+use Rattle.tool_parts.specs.Mounting.{Checks, Reported, StopsCheck, IsMendable, LeavesFiles}
+use Rattle.tool_parts.specs.Begins.{first_moment, closed_memory}
+use Rattle.tool_parts.specs.Refusals.{check_refusal, unless_refused}
 use Rattle.tool_core.specs.Scrubbing.{ScrubCut}
 use Rattle.tool_core.proofs.Beginning.{first_table}
 use Rattle.tool_core.proofs.MapPages.{tells_pages, file_there, file_missing}
 use Rattle.tool_core.proofs.MapSteps.{holds_first, steps_then}
-use Rattle.tool_core.proofs.Mounted.{safe_check, holds_check}
-use Rattle.tool_core.proofs.Refusals.{not_both, refusal_is}
+use Rattle.tool_parts.proofs.Mounted.{safe_check, holds_check}
+use Rattle.tool_parts.proofs.Refusals.{not_both, refusal_is}
 use Rattle.tool_core.proofs.ScrubEnds.{said_nothing, none_said_of, check_files, after_check, silent_cuts}
-use Rattle.tool_core.proofs.Speaking.{writes_none}
+use Rattle.tool_parts.proofs.Speaking.{writes_none}
 
 -- a file that isn't there has no lines
 no_lines : (g : Geometry) (image files : List ℕ) (id : ℕ) → has_id id (table_of g files) ≡ false → span_lines g image id (spans_told g (file_of id (table_of g files))) ≡ []

@@ -36,11 +36,11 @@ use Rattle.volume.specs.Opening.{is_open}
 use Rattle.volume.specs.Replies.{told, breaks}
 use Rattle.volume.specs.Stages.{takes_calls}
 use Rattle.volume.specs.Unchanged.{Unchanged}
-use Rattle.tool_core.specs.declared.ending.Ending.{Ending}
-use Rattle.tool_core.specs.declared.ending.Ending.TheVariants.{BoardFault, NoSuchId}
+use Rattle.tool_parts.specs.declared.ending.Ending.{Ending}
+use Rattle.tool_parts.specs.declared.ending.Ending.TheVariants.{BoardFault, NoSuchId}
 use Rattle.tool_core.specs.Mapping.{unmapped_as, collected_as, StopsCollecting, IsAtRest, Rests, Steps, has_file, HasMap, MayHaveMap, IsMissing, IsFound, AttachesTo, CollectsTo, MapsAgain}
-use Rattle.tool_core.specs.Mounting.{LeavesFiles}
-use Rattle.tool_core.specs.Outcomes.{first_moment, closed_memory}
+use Rattle.tool_parts.specs.Mounting.{LeavesFiles}
+use Rattle.tool_parts.specs.Begins.{first_moment, closed_memory}
 use Rattle.tool_core.proofs.Beginning.{first_at}
 use Rattle.tool_core.proofs.ScrubTurns.{stands_first, one_among, closed_still, still_closed}
 

@@ -7,16 +7,16 @@ use Rattle.nor_core.proofs.Cuts.{widened}
 use Rattle.flash_view.specs.Same.{StaysBehind}
 use Rattle.image_model.specs.Tables.{table_of}
 use Rattle.call_model.specs.Safe.{IsSafe, Holds}
-use Rattle.tool_core.specs.declared.ending.Ending.{Ending}
-use Rattle.tool_core.specs.declared.ending.Ending.TheVariants.{Done, BoardFault}
-use Rattle.tool_core.specs.Closing.{status_of, closing_line_of}
-use Rattle.tool_core.specs.Endings.{OnlyCloses, Concludes}
+use Rattle.tool_parts.specs.declared.ending.Ending.{Ending}
+use Rattle.tool_parts.specs.declared.ending.Ending.TheVariants.{Done, BoardFault}
+use Rattle.tool_parts.specs.Closing.{status_of, closing_line_of}
+use Rattle.tool_parts.specs.Endings.{OnlyCloses, Concludes}
 use Rattle.tool_core.specs.Mapping.{map_text, map_ending, IsChecked, CollectedAfter, MapsTo, DoesMap}
-use Rattle.tool_core.specs.Reads.{ReadsOnce}
+use Rattle.tool_parts.specs.Reads.{ReadsOnce}
 use Rattle.tool_core.specs.Scrubbing.{ScrubCut}
-use Rattle.tool_core.proofs.Reading.{reads_said, behind_closed}
+use Rattle.tool_parts.proofs.Reading.{reads_said, behind_closed}
 use Rattle.tool_core.proofs.ScrubTold.{done_of, closed_cuts}
-use Rattle.tool_core.proofs.Speaking.{concludes, none_closed, mended_closed}
+use Rattle.tool_parts.proofs.Speaking.{concludes, none_closed, mended_closed}
 
 module _ {D : Type 0} {nor : NorOf D} where
   -- a status that is no fault's is that of the ending

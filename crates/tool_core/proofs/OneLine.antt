@@ -12,8 +12,8 @@ use Rattle.call_script.specs.Replies.{text}
 use Rattle.call_model.specs.Memory.{Memory}
 use Rattle.run_model.specs.Ran.{RunStands, RunPublishes, IsTold, Reached, SaidPart}
 use Rattle.run_model.proofs.OneCall.{call_said, reply_said, reply_reached}
-use Rattle.tool_core.specs.declared.ending.Ending.{Ending}
-use Rattle.tool_core.specs.declared.ending.Ending.TheVariants.{BoardFault}
+use Rattle.tool_parts.specs.declared.ending.Ending.{Ending}
+use Rattle.tool_parts.specs.declared.ending.Ending.TheVariants.{BoardFault}
 use Rattle.tool_core.specs.Turns.{DidLine}
 use Rattle.tool_core.proofs.LineWork.{call_good, one_call, same_reached, same_said}
 

@@ -6,21 +6,25 @@ use Rattle.nor_core.specs.declared.source.Source.{Ghosts as SourceOf}
 use Rattle.nor_core.specs.Count.{Rose}
 use Rattle.flash_view.specs.Same.{StaysBehind}
 use Rattle.image_model.specs.Tidy.{HasReserve}
-use Rattle.tool_core.specs.declared.plan.Lengths.{Lengths}
-use Rattle.tool_core.specs.declared.ending.Ending.{Ending}
-use Rattle.tool_core.specs.declared.ending.Ending.TheVariants.{BoardFault}
-use Rattle.tool_core.specs.Closing.{status_of}
-use Rattle.tool_core.specs.Endings.{OnlyCloses}
-use Rattle.tool_core.specs.Mounting.{IsMendable}
-use Rattle.tool_core.specs.Reads.{ReadsOnce}
-use Rattle.tool_core.specs.Refusals.{check_refusal}
+use Rattle.tool_parts.specs.declared.buffers.Lengths.{Lengths}
+use Rattle.tool_parts.specs.declared.ending.Ending.{Ending}
+use Rattle.tool_parts.specs.declared.ending.Ending.TheVariants.{BoardFault}
+use Rattle.tool_parts.specs.Closing.{status_of}
+use Rattle.tool_parts.specs.Endings.{OnlyCloses}
+use Rattle.tool_parts.specs.Mounting.{IsMendable}
+use Rattle.tool_parts.specs.Reads.{ReadsOnce}
+use Rattle.tool_parts.specs.Refusals.{check_refusal}
 use Rattle.tool_core.specs.Outcomes.{RunsTo, Refused, EndsByImages}
 use Rattle.tool_core.specs.Running.{Outcome, first_of, DoesRun}
 use Rattle.tool_core.proofs.Concluding.{outcome_of}
 use Rattle.tool_core.proofs.Exact.{begins_as, complete_of, ran_whole}
-use Rattle.tool_core.proofs.Reading.{reads_said, behind_closed}
-use Rattle.tool_core.proofs.Refusals.{begun_reserve, script_not_tight}
-use Rattle.tool_core.proofs.Speaking.{concludes, none_closed, mended_closed}
+use Rattle.tool_parts.proofs.Reading.{reads_said, behind_closed}
+use Rattle.tool_parts.proofs.Refusals.{begun_reserve}
+use Rattle.tool_parts.proofs.Speaking.{concludes, none_closed, mended_closed}
+
+-- a script's end isn't told as too few free blocks
+script_not_tight : (status : ℕ) → IsOfScript status → status ≡ 14 → ⊥
+script_not_tight status of is = ⊎_elim (λ a. omega (arith, a, is)) (λ b. ⊎_elim (λ a. omega (arith, a, is)) (λ c. ⊎_elim (λ a. omega (arith, a, is)) (λ d. omega (arith, d, is)) c) b) of
 
 -- an image that the check takes and that recovers isn't what ends a run
 mended_of : (g : Geometry) (was now : List ℕ) (result : Ending) → IsMendable g was → EndsByImages g was now result → (result ≡ BoardFault) ⊎ (HasReserve g now × (status_of result ≡ 14 → ⊥))

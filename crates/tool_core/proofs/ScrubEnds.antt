@@ -12,29 +12,20 @@ use Rattle.call_model.specs.Memory.{Memory}
 use Rattle.call_model.specs.Safe.{IsSafe, Holds}
 use Rattle.call_model.proofs.Safety.{holds_safe, holds_then, safe_as}
 use Rattle.vol_check.specs.declared.report.Report.{Report}
-use Rattle.tool_core.specs.declared.ending.Ending.{Ending}
-use Rattle.tool_core.specs.declared.ending.Ending.TheVariants.{Done, BoardFault}
+use Rattle.tool_parts.specs.declared.ending.Ending.{Ending}
+use Rattle.tool_parts.specs.declared.ending.Ending.TheVariants.{Done, BoardFault}
 use Rattle.tool_core.specs.declared.scrubbing.Tally.{Tally}
-use Rattle.tool_core.specs.Begins.{StopsRun}
-use Rattle.tool_core.specs.Closing.{status_of}
-use Rattle.tool_core.specs.Endings.{Speaks}
-use Rattle.tool_core.specs.Mounting.{Checks, Reported, IsMendable, LeavesFiles}
-use Rattle.tool_core.specs.Refusals.{check_refusal, begin_refusal, unless_refused}
-use Rattle.tool_core.specs.Scrubbing.{scrub_text, moved_text, scrub_ending, IsTally, KeepsFiles, Makes, ScrubCut, StopsScrub, SaysScrub, ScrubEnds, CheckLeaves, Scrubbed, ScrubsTo}
-use Rattle.tool_core.proofs.Beginning.{begins_on, early_why}
-use Rattle.tool_core.proofs.Mounted.{safe_check, holds_check}
-use Rattle.tool_core.proofs.Refusals.{not_both, begin_undone}
-use Rattle.tool_core.proofs.Speaking.{writes_none}
-
--- what a check leaves that came to its report
-pub check_leaves : {D : Type 0} {nor : NorOf D} {g : Geometry} {old new : D} (report : Report) → Reported g (nor.bytes old) (nor.bytes new) report → 2 ≤ report.free_blocks → (IsTidy g (nor.bytes old) → HasReserve g (nor.bytes old) → OnlyReads nor old new) → CheckLeaves g (nor.bytes old) (nor.bytes new)
-check_leaves report reported enough idle = record {
-  takes = reported.takes;
-  tidy = reported.done.tidy;
-  reserve = omega (arith, reported.done.free, enough);
-  sweeps = reported.done.sweeps;
-  idle = λ tidy reserve. (idle tidy reserve).bytes;
-}
+use Rattle.tool_parts.specs.Begins.{StopsRun, CheckLeaves}
+use Rattle.tool_parts.specs.Closing.{status_of}
+use Rattle.tool_parts.specs.Endings.{Speaks}
+use Rattle.tool_parts.specs.Mounting.{Checks, Reported, IsMendable, LeavesFiles}
+use Rattle.tool_parts.specs.Refusals.{check_refusal, begin_refusal, unless_refused}
+use Rattle.tool_core.specs.Scrubbing.{scrub_text, moved_text, scrub_ending, IsTally, KeepsFiles, Makes, ScrubCut, StopsScrub, SaysScrub, ScrubEnds, Scrubbed, ScrubsTo}
+use Rattle.tool_parts.proofs.Begun.{begins_on}
+use Rattle.tool_core.proofs.Beginning.{early_why}
+use Rattle.tool_parts.proofs.Mounted.{safe_check, holds_check}
+use Rattle.tool_parts.proofs.Refusals.{not_both, begin_undone}
+use Rattle.tool_parts.proofs.Speaking.{writes_none}
 
 -- how the steps went
 pub makes_ok : {D T : Type 0} {nor : NorOf D} {g : Geometry} {slots : ℕ} {old new : D} {now : Memory} {result : Result T Ending} {x : T} {Is : List ℕ → List ℕ → T → Type 0} → result ≡ Ok x → Makes nor g slots old new now result Is → Makes nor g slots old new now (Ok x) Is

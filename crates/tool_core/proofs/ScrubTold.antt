@@ -8,15 +8,15 @@ use Rattle.nor_core.proofs.Cuts.{andthen, widened}
 use Rattle.flash_view.specs.Same.{StaysBehind}
 use Rattle.image_model.specs.Tables.{table_of}
 use Rattle.call_model.specs.Safe.{IsSafe, Holds}
-use Rattle.tool_core.specs.declared.ending.Ending.{Ending}
-use Rattle.tool_core.specs.declared.ending.Ending.TheVariants.{Done, BoardFault}
-use Rattle.tool_core.specs.Closing.{status_of, closing_line_of}
-use Rattle.tool_core.specs.Endings.{OnlyCloses, Speaks, Concludes}
-use Rattle.tool_core.specs.Reads.{ReadsOnce}
-use Rattle.tool_core.specs.Refusals.{begin_refusal}
+use Rattle.tool_parts.specs.declared.ending.Ending.{Ending}
+use Rattle.tool_parts.specs.declared.ending.Ending.TheVariants.{Done, BoardFault}
+use Rattle.tool_parts.specs.Closing.{status_of, closing_line_of}
+use Rattle.tool_parts.specs.Endings.{OnlyCloses, Speaks, Concludes}
+use Rattle.tool_parts.specs.Reads.{ReadsOnce}
+use Rattle.tool_parts.specs.Refusals.{begin_refusal}
 use Rattle.tool_core.specs.Scrubbing.{moved_text, scrub_ending, ScrubCut, ScrubbedAfter, ScrubsTo, DoesScrub}
-use Rattle.tool_core.proofs.Reading.{reads_said, behind_closed}
-use Rattle.tool_core.proofs.Speaking.{concludes, within, none_closed, mended_closed}
+use Rattle.tool_parts.proofs.Reading.{reads_said, behind_closed}
+use Rattle.tool_parts.proofs.Speaking.{concludes, within, none_closed, mended_closed}
 
 -- status 0 is that of a command that was done
 pub done_of : (ending : Ending) → status_of ending ≡ 0 → ending ≡ Done

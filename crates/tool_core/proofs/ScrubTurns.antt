@@ -24,11 +24,11 @@ use Rattle.volume.specs.Unchanged.{Unchanged}
 use Rattle.volume.specs.Scrubs.{Scrubs}
 use Rattle.file_calls.specs.declared.space.Space.{Space}
 use Rattle.file_calls.specs.Spaces.{IsSpace}
-use Rattle.tool_core.specs.declared.ending.Ending.{Ending}
-use Rattle.tool_core.specs.declared.ending.Ending.TheVariants.{BoardFault}
+use Rattle.tool_parts.specs.declared.ending.Ending.{Ending}
+use Rattle.tool_parts.specs.declared.ending.Ending.TheVariants.{BoardFault}
 use Rattle.tool_core.specs.declared.scrubbing.Tally.{Tally}
 use Rattle.tool_core.specs.Filling.{unsettled_as}
-use Rattle.tool_core.specs.Outcomes.{first_moment, closed_memory}
+use Rattle.tool_parts.specs.Begins.{first_moment, closed_memory}
 use Rattle.tool_core.specs.Scrubbing.{has_moved, StepsMade, IsStepDone, Scrubbed, IsTally, KeepsFiles, Makes}
 use Rattle.tool_core.proofs.Beginning.{first_at}
 use Rattle.tool_core.proofs.ScrubSteps.{made_none, made_more, scrubbed_all, scrubbed_rest}

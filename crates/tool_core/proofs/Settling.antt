@@ -15,9 +15,10 @@ use Rattle.call_model.specs.Calls.{Stands}
 use Rattle.volume.specs.declared.volume.Volume.{Volume}
 use Rattle.volume.specs.Holds.{memory, Holds}
 use Rattle.volume.specs.Settles.{Settles, SettledOr, without_had}
-use Rattle.tool_core.specs.declared.ending.Ending.{Ending}
-use Rattle.tool_core.specs.declared.ending.Ending.TheVariants.{Done, BadLine, BoardFault, SourceFault, TooLong, Tight, Differ as EndsDiffer}
-use Rattle.tool_core.specs.Outcomes.{WhyEnds, first_moment}
+use Rattle.tool_parts.specs.declared.ending.Ending.{Ending}
+use Rattle.tool_parts.specs.declared.ending.Ending.TheVariants.{Done, BadLine, BoardFault, SourceFault, TooLong, Tight, Differ as EndsDiffer}
+use Rattle.tool_core.specs.Outcomes.{WhyEnds}
+use Rattle.tool_parts.specs.Begins.{first_moment}
 use Rattle.tool_core.specs.Runs.{StandsBy, StandsNow, WorksTo, Works}
 use Rattle.tool_core.specs.Settling.{settled_as, IsSettled, SettlesTo, Settling}
 

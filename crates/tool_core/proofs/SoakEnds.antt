@@ -12,15 +12,15 @@ use Rattle.volume.specs.declared.volume.Volume.{Volume}
 use Rattle.volume_soak.specs.declared.soaking.Summary.{Summary}
 use Rattle.volume_soak.specs.Doing.{IsSummary}
 use Rattle.volume_soak.specs.Turns.{empty, soaked, summary_text, soak_text}
-use Rattle.tool_core.specs.declared.ending.Ending.{Ending}
-use Rattle.tool_core.specs.declared.ending.Ending.TheVariants.{Done, BoardFault}
-use Rattle.tool_core.specs.Endings.{OnlyCloses}
-use Rattle.tool_core.specs.Closing.{status_of}
+use Rattle.tool_parts.specs.declared.ending.Ending.{Ending}
+use Rattle.tool_parts.specs.declared.ending.Ending.TheVariants.{Done, BoardFault}
+use Rattle.tool_parts.specs.Endings.{OnlyCloses}
+use Rattle.tool_parts.specs.Closing.{status_of}
 use Rattle.tool_core.specs.Filling.{HoldsFiles, WasFormatted, SpeaksOf}
 use Rattle.tool_core.specs.Soaking.{SoaksTo, DoesSoak, soaked_files}
 use Rattle.tool_core.proofs.FillEnds.{holds_none, was_formatted, speaks_none, speaks_after}
-use Rattle.tool_core.proofs.Speaking.{concludes, by_result}
-use Rattle.tool_core.proofs.Reading.{behind_closed}
+use Rattle.tool_parts.proofs.Speaking.{concludes, by_result}
+use Rattle.tool_parts.proofs.Reading.{behind_closed}
 
 module _ {D : Type 0} {nor : NorOf D} {g : Geometry} where
   -- the summary of a volume that had no files is that of the flat table's turns

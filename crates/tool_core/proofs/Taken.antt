@@ -8,13 +8,13 @@ use Rattle.nor_core.proofs.Cuts.{widened}
 use Rattle.image_model.specs.Kinds.{spoiled_blocks}
 use Rattle.image_model.specs.Tidy.{IsTidy}
 use Rattle.call_model.proofs.Mounts.{cuts_keep_magics}
-use Rattle.tool_core.specs.declared.ending.Ending.{Ending}
-use Rattle.tool_core.specs.declared.ending.Ending.TheVariants.{NotAFs}
-use Rattle.tool_core.specs.Mounting.{IsMendable}
-use Rattle.tool_core.specs.Refusals.{mount_refusal}
+use Rattle.tool_parts.specs.declared.ending.Ending.{Ending}
+use Rattle.tool_parts.specs.declared.ending.Ending.TheVariants.{NotAFs}
+use Rattle.tool_parts.specs.Mounting.{IsMendable}
+use Rattle.tool_parts.specs.Refusals.{mount_refusal}
 use Rattle.tool_core.specs.Running.{ClosingCut}
 use Rattle.tool_core.specs.Taken.{CutsMount, CutsAreTaken, CutCallsMend, CutRunsMend}
-use Rattle.tool_core.proofs.Refusals.{mount_few, check_takes, tidy_mends}
+use Rattle.tool_parts.proofs.Refusals.{mount_few, check_takes, tidy_mends}
 
 -- ---- what is taken
 

@@ -11,8 +11,8 @@ use Rattle.call_model.specs.Memory.{Memory}
 use Rattle.run_model.specs.Runs.{after_all}
 use Rattle.run_model.specs.Ran.{RunStands, Reached}
 use Rattle.run_model.proofs.Chain.{later_reached, later_said, reached_none}
-use Rattle.tool_core.specs.declared.ending.Ending.{Ending}
-use Rattle.tool_core.specs.declared.ending.Ending.TheVariants.{Done, BadLine, BoardFault, SourceFault, TooLong}
+use Rattle.tool_parts.specs.declared.ending.Ending.{Ending}
+use Rattle.tool_parts.specs.declared.ending.Ending.TheVariants.{Done, BadLine, BoardFault, SourceFault, TooLong}
 use Rattle.tool_core.specs.Turns.{DidLine, AllGood, BeginsBad, At, CountsLines, CountsBytes, Stops, Turned, Turns, OneMore, ended_turn}
 use Rattle.tool_core.proofs.LineWork.{bad_long, calls-append, good-append}
 

@@ -8,16 +8,17 @@ use Rattle.nor_core.proofs.Cuts.{andthen, widened, started}
 use Rattle.table_model.specs.Ask.{Ask}
 use Rattle.call_model.specs.Memory.{Memory}
 use Rattle.file_calls.specs.declared.told.Told.{Told}
-use Rattle.tool_core.specs.declared.ending.Ending.{Ending}
-use Rattle.tool_core.specs.declared.ending.Ending.TheVariants.{Done, BadLine, BoardFault, SourceFault, TooLong}
-use Rattle.tool_core.specs.Mounting.{Checks}
-use Rattle.tool_core.specs.Begins.{Begun, StopsRun}
-use Rattle.tool_core.specs.Outcomes.{EndsByImages, first_moment, closed_memory}
-use Rattle.tool_core.specs.Refusals.{check_refusal}
+use Rattle.tool_parts.specs.declared.ending.Ending.{Ending}
+use Rattle.tool_parts.specs.declared.ending.Ending.TheVariants.{Done, BadLine, BoardFault, SourceFault, TooLong}
+use Rattle.tool_parts.specs.Mounting.{Checks}
+use Rattle.tool_parts.specs.Begins.{Begun, StopsRun, first_moment, closed_memory}
+use Rattle.tool_core.specs.Outcomes.{EndsByImages}
+use Rattle.tool_parts.specs.Refusals.{check_refusal}
 use Rattle.tool_core.specs.Runs.{StandsNow, WorksTo, Works}
 use Rattle.tool_core.specs.Turns.{DoesCall, ended_turn}
 use Rattle.tool_core.proofs.Standing.{now_on}
-use Rattle.tool_core.proofs.Beginning.{begins_on, begun_stands, early_why}
+use Rattle.tool_parts.proofs.Begun.{begins_on}
+use Rattle.tool_core.proofs.Beginning.{begun_stands, early_why}
 
 module _ {D : Type 0} {nor : NorOf D} where
   -- time goes on, of which more was known

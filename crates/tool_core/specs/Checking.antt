@@ -10,13 +10,13 @@ use Rattle.image_model.specs.Killed.{killed_of}
 use Rattle.image_model.specs.Collect.{chosen_block}
 use Rattle.flash_view.specs.Same.{StaysBehind}
 use Rattle.call_model.specs.Safe.{IsSafe, Holds}
-use Rattle.tool_core.specs.declared.ending.Ending.{Ending}
-use Rattle.tool_core.specs.declared.ending.Ending.TheVariants.{BoardFault}
-use Rattle.tool_core.specs.Closing.{closing_line_of}
-use Rattle.tool_core.specs.Endings.{Speaks, Concludes, WritesNone, HasMended}
-use Rattle.tool_core.specs.Reads.{ReadsOnce}
-use Rattle.tool_core.specs.Refusals.{check_refusal, check_ending, unless_refused}
-use Rattle.tool_core.specs.Mounting.{Checks, IsMendable}
+use Rattle.tool_parts.specs.declared.ending.Ending.{Ending}
+use Rattle.tool_parts.specs.declared.ending.Ending.TheVariants.{BoardFault}
+use Rattle.tool_parts.specs.Closing.{closing_line_of}
+use Rattle.tool_parts.specs.Endings.{Speaks, Concludes, WritesNone, HasMended}
+use Rattle.tool_parts.specs.Reads.{ReadsOnce}
+use Rattle.tool_parts.specs.Refusals.{check_refusal, check_ending, unless_refused}
+use Rattle.tool_parts.specs.Mounting.{Checks, IsMendable}
 
 -- the line of a report: whether a block was erased, how many entries were killed, how many files were damaged, and how many blocks
 -- are free

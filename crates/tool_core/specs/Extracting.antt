@@ -10,13 +10,13 @@ use Rattle.image_tool.specs.Extracting.{ExtractsAll, ExtractsFront, ExtractsLine
 use Rattle.image_tool.specs.Putting.{folder_files, PutsFiles, PartlyPuts, FolderGoes}
 use Rattle.image_tool.specs.Saying.{OnlySays}
 use Rattle.image_tool.specs.Texts.{record_lines}
-use Rattle.tool_core.specs.declared.ending.Ending.{Ending}
-use Rattle.tool_core.specs.declared.ending.Ending.TheVariants.{BoardFault, FolderFault}
-use Rattle.tool_core.specs.Closing.{closing_line_of}
-use Rattle.tool_core.specs.Endings.{Concludes, WritesNone}
+use Rattle.tool_parts.specs.declared.ending.Ending.{Ending}
+use Rattle.tool_parts.specs.declared.ending.Ending.TheVariants.{BoardFault, FolderFault}
+use Rattle.tool_parts.specs.Closing.{closing_line_of}
+use Rattle.tool_parts.specs.Endings.{Concludes, WritesNone}
 use Rattle.tool_core.specs.Listing.{listed_text}
-use Rattle.tool_core.specs.Reads.{ReadsOnce}
-use Rattle.tool_core.specs.Refusals.{mount_refusal, list_ending, unless_refused}
+use Rattle.tool_parts.specs.Reads.{ReadsOnce}
+use Rattle.tool_parts.specs.Refusals.{mount_refusal, list_ending, unless_refused}
 
 -- the files that an extraction puts into the folder: those of the table of the image, where that mounts
 abbrev pub extracted : Geometry → List ℕ → List File

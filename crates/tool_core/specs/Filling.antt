@@ -9,9 +9,9 @@ use Rattle.table_model.specs.declared.error.FsErr.TheVariants.{DeviceFault, Dama
 use Rattle.image_model.specs.Tables.{table_of}
 use Rattle.image_model.specs.Tidy.{IsTidy, HasReserve}
 use Rattle.vol_mount.specs.Formatted.{IsFormatted}
-use Rattle.tool_core.specs.declared.ending.Ending.{Ending}
-use Rattle.tool_core.specs.declared.ending.Ending.TheVariants.{Done, BoardFault, Tight, Differ}
-use Rattle.tool_core.specs.Endings.{Speaks}
+use Rattle.tool_parts.specs.declared.ending.Ending.{Ending}
+use Rattle.tool_parts.specs.declared.ending.Ending.TheVariants.{Done, BoardFault, Tight, Differ}
+use Rattle.tool_parts.specs.Endings.{Speaks}
 
 -- a tidy image with its reserve has these files
 pub record HoldsFiles (g : Geometry) (image : List ℕ) (files : List File) : Type 0 where

@@ -3,9 +3,9 @@ use Rattle.std.specs.Prelude.{ℕ, List}
 use Rattle.geometry.specs.declared.geometry.Geometry.{Geometry}
 use Rattle.nor_core.specs.declared.state.NorState.{Ghosts as NorOf}
 use Rattle.image_tool.specs.Lists.{list_of}
-use Rattle.tool_core.specs.declared.ending.Ending.{Ending}
-use Rattle.tool_core.specs.Refusals.{mount_refusal, list_ending, unless_refused}
-use Rattle.tool_core.specs.Telling.{OnlyTells, OnlyConcludes}
+use Rattle.tool_parts.specs.declared.ending.Ending.{Ending}
+use Rattle.tool_parts.specs.Refusals.{mount_refusal, list_ending, unless_refused}
+use Rattle.tool_parts.specs.Telling.{OnlyTells, OnlyConcludes}
 
 -- what a listing says before its closing line: the list of the image, where that mounts
 abbrev pub listed_text : Geometry → List ℕ → List ℕ

@@ -12,9 +12,9 @@ use Rattle.image_make.specs.declared.refusing.Refusal.TheVariants.{BadNames, Ful
 use Rattle.image_make.specs.Refusals.{make_refusal}
 use Rattle.image_make.specs.Tables.{folder_table}
 use Rattle.volume_make.specs.Making.{make_text}
-use Rattle.tool_core.specs.declared.ending.Ending.{Ending}
-use Rattle.tool_core.specs.declared.ending.Ending.TheVariants.{Done, Full, FolderFault, BadName}
-use Rattle.tool_core.specs.Endings.{OnlyCloses, Speaks, Concludes}
+use Rattle.tool_parts.specs.declared.ending.Ending.{Ending}
+use Rattle.tool_parts.specs.declared.ending.Ending.TheVariants.{Done, Full, FolderFault, BadName}
+use Rattle.tool_parts.specs.Endings.{OnlyCloses, Speaks, Concludes}
 use Rattle.tool_core.specs.Filling.{HoldsFiles, WasFormatted}
 
 -- how a make ends whose folder's names and sizes refuse it

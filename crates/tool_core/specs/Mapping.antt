@@ -23,15 +23,15 @@ use Rattle.volume.specs.declared.volume.Volume.{Volume}
 use Rattle.volume.specs.Holds.{memory}
 use Rattle.volume.specs.Mapping.{KeepsMap}
 use Rattle.volume.specs.MapReads.{page_told}
-use Rattle.tool_core.specs.declared.ending.Ending.{Ending}
-use Rattle.tool_core.specs.declared.ending.Ending.TheVariants.{Done, BoardFault, NoSuchId, Tight}
-use Rattle.tool_core.specs.Closing.{status_of, closing_line_of}
-use Rattle.tool_core.specs.Endings.{Speaks, Concludes, WritesNone, HasMended}
+use Rattle.tool_parts.specs.declared.ending.Ending.{Ending}
+use Rattle.tool_parts.specs.declared.ending.Ending.TheVariants.{Done, BoardFault, NoSuchId, Tight}
+use Rattle.tool_parts.specs.Closing.{status_of, closing_line_of}
+use Rattle.tool_parts.specs.Endings.{Speaks, Concludes, WritesNone, HasMended}
 use Rattle.tool_core.specs.Filling.{unsettled_as}
-use Rattle.tool_core.specs.Mounting.{Reported, IsMendable, LeavesFiles}
-use Rattle.tool_core.specs.Outcomes.{closed_memory}
-use Rattle.tool_core.specs.Reads.{ReadsOnce}
-use Rattle.tool_core.specs.Refusals.{check_refusal, unless_refused}
+use Rattle.tool_parts.specs.Mounting.{Reported, IsMendable, LeavesFiles}
+use Rattle.tool_parts.specs.Begins.{closed_memory}
+use Rattle.tool_parts.specs.Reads.{ReadsOnce}
+use Rattle.tool_parts.specs.Refusals.{check_refusal, unless_refused}
 use Rattle.tool_core.specs.Scrubbing.{ScrubCut as MapCut}
 
 -- the line of a span: its number and that of its data page

@@ -13,12 +13,12 @@ use Rattle.run_model.specs.Runs.{RunCall, AreFair, asks_of, after_all, replies}
 use Rattle.call_model.specs.Memory.{Memory}
 use Rattle.call_model.specs.Safe.{IsSafe, Holds}
 use Rattle.run_model.specs.Ran.{CutIn, Reached, SaidPart}
-use Rattle.tool_core.specs.declared.ending.Ending.{Ending}
-use Rattle.tool_core.specs.declared.ending.Ending.TheVariants.{Done, BadLine, BoardFault, SourceFault, TooLong, Tight}
-use Rattle.tool_core.specs.Refusals.{begin_refusal}
-use Rattle.tool_core.specs.Closing.{status_of}
-use Rattle.tool_core.specs.Mounting.{IsMendable}
-use Rattle.tool_core.specs.Endings.{Speaks, WritesNone}
+use Rattle.tool_parts.specs.declared.ending.Ending.{Ending}
+use Rattle.tool_parts.specs.declared.ending.Ending.TheVariants.{Done, BadLine, BoardFault, SourceFault, TooLong, Tight}
+use Rattle.tool_parts.specs.Refusals.{begin_refusal}
+use Rattle.tool_parts.specs.Closing.{status_of}
+use Rattle.tool_parts.specs.Mounting.{IsMendable}
+use Rattle.tool_parts.specs.Endings.{Speaks, WritesNone}
 use Rattle.tool_core.specs.Turns.{AllGood}
 
 -- a line of a script is outside the grammar, the first such, by its number from 1
@@ -85,14 +85,6 @@ pub record Went {D : Type 0} (nor : NorOf D) (g : Geometry) (old new : D) (was n
 abbrev pub RunEnds : {D : Type 0} (nor : NorOf D) (g : Geometry) (old new : D) (was now : Memory) (m : Moment) (script left : List ℕ) → Ending → Type 0
 RunEnds nor g old new was now m script left ending =
     ((ending ≡ BoardFault) × SaidPart nor g old new m (calls script)) ⊎ Went nor g old new was now m script left ending
-
--- a volume with that image and that many descriptors, all closed
-abbrev pub first_moment : Geometry → (slots : ℕ) (image : List ℕ) → Moment
-first_moment g slots image = settled_at (record { table = table_of g image; slots = replicate slots None })
-
--- what it remembers then: they are closed, and nothing waits
-abbrev pub closed_memory : (slots : ℕ) → Memory
-closed_memory slots = record { slots = replicate slots None; run = None }
 
 -- The images end the run: the first isn't taken, or the check left too few free blocks. The first isn't one that the check gives two.
 pub record ImagesEnd (g : Geometry) (was now : List ℕ) (ending : Ending) : Type 0 where

@@ -3,7 +3,7 @@ use Rattle.std.specs.Prelude.{◌≡◌, Some, None}
 use Rattle.geometry.specs.Numbers.{IsOf}
 use Rattle.tool_core.specs.declared.words.Form.{Form}
 use Rattle.tool_core.specs.declared.plan.Command.{Command}
-use Rattle.tool_core.specs.Asked.{Asked}
+use Rattle.tool_parts.specs.Asked.{Asked}
 use Rattle.tool_core.specs.Words.{form_of}
 use Rattle.tool_core.specs.Plan.{refusal_of}
 
@@ -12,5 +12,5 @@ pub record IsPlanned (a : Asked) (command : Command) : Type 0 where
   pub form : Form
   pub words_are : form_of a.words ≡ Some form
   pub verb_is : command.verb ≡ form.verb
-  pub numbers : IsOf command.geometry form.page form.block form.blocks form.block form.meta form.magic
+  pub numbers : IsOf command.geometry form.numbers.page form.numbers.block form.numbers.blocks form.numbers.block form.numbers.meta form.numbers.magic
   pub accepted : refusal_of a ≡ None

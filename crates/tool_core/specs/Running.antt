@@ -14,16 +14,17 @@ use Rattle.flash_view.specs.Same.{StaysBehind}
 use Rattle.run_model.specs.Runs.{RunCall, AreFair, asks_of, after_all, replies, IsCut}
 use Rattle.call_model.specs.Safe.{IsSafe, Holds}
 use Rattle.run_model.specs.Ran.{SaidPart}
-use Rattle.tool_core.specs.declared.plan.Lengths.{Lengths}
-use Rattle.tool_core.specs.declared.ending.Ending.{Ending}
-use Rattle.tool_core.specs.declared.ending.Ending.TheVariants.{Tight}
-use Rattle.tool_core.specs.Closing.{status_of, closing_line_of}
-use Rattle.tool_core.specs.Endings.{EndsAs, Concludes, WritesNone, HasMended}
-use Rattle.tool_core.specs.Mounting.{IsMendable}
-use Rattle.tool_core.specs.Reads.{ReadsOnce}
-use Rattle.tool_core.specs.Refusals.{check_refusal, begin_refusal}
+use Rattle.tool_parts.specs.declared.buffers.Lengths.{Lengths}
+use Rattle.tool_parts.specs.declared.ending.Ending.{Ending}
+use Rattle.tool_parts.specs.declared.ending.Ending.TheVariants.{Tight}
+use Rattle.tool_parts.specs.Closing.{status_of, closing_line_of}
+use Rattle.tool_parts.specs.Endings.{EndsAs, Concludes, WritesNone, HasMended}
+use Rattle.tool_parts.specs.Mounting.{IsMendable}
+use Rattle.tool_parts.specs.Reads.{ReadsOnce}
+use Rattle.tool_parts.specs.Refusals.{check_refusal, begin_refusal}
 use Rattle.tool_core.specs.Turns.{AllGood}
-use Rattle.tool_core.specs.Outcomes.{HasBad, IsTooLong, WhyRan, IsOfScript, first_moment}
+use Rattle.tool_core.specs.Outcomes.{HasBad, IsTooLong, WhyRan, IsOfScript}
+use Rattle.tool_parts.specs.Begins.{first_moment}
 
 -- A cut in the calls: the image may follow the first one, and the replies said and its table are those of a cut in the calls. Once the check has
 -- ended, another takes it and gives it two free blocks; while it is under way nothing is said, and the table is that of the first image.

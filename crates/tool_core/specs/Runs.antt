@@ -8,8 +8,8 @@ use Rattle.table_model.specs.Window.{Moment}
 use Rattle.image_model.specs.Tidy.{HasReserve}
 use Rattle.call_model.specs.Memory.{Memory}
 use Rattle.call_model.specs.Calls.{Stands}
-use Rattle.tool_core.specs.declared.ending.Ending.{Ending}
-use Rattle.tool_core.specs.declared.ending.Ending.TheVariants.{Done, BadLine, BoardFault, SourceFault, TooLong, Differ}
+use Rattle.tool_parts.specs.declared.ending.Ending.{Ending}
+use Rattle.tool_parts.specs.declared.ending.Ending.TheVariants.{Done, BadLine, BoardFault, SourceFault, TooLong, Differ}
 
 -- the ending of a part that did not go on, if there is one
 abbrev pub result_err : {T : Type 0} → Result T Ending → Option Ending

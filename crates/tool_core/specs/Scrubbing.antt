@@ -14,15 +14,15 @@ use Rattle.wear_scrub.specs.declared.scrubs.Scrub.{Scrub}
 use Rattle.wear_scrub.specs.declared.scrubs.Scrub.TheVariants.{NoRoom, Rested, Moved}
 use Rattle.wear_scrub.specs.Scrubs.{ScrubDone}
 use Rattle.volume.specs.Checking.{SweepsAfter}
-use Rattle.tool_core.specs.declared.ending.Ending.{Ending}
-use Rattle.tool_core.specs.declared.ending.Ending.TheVariants.{Done, BoardFault}
+use Rattle.tool_parts.specs.declared.ending.Ending.{Ending}
+use Rattle.tool_parts.specs.declared.ending.Ending.TheVariants.{Done, BoardFault}
 use Rattle.tool_core.specs.declared.scrubbing.Tally.{Tally}
-use Rattle.tool_core.specs.Closing.{status_of, closing_line_of}
-use Rattle.tool_core.specs.Endings.{Speaks, Concludes, WritesNone, HasMended}
-use Rattle.tool_core.specs.Mounting.{IsMendable}
-use Rattle.tool_core.specs.Outcomes.{closed_memory}
-use Rattle.tool_core.specs.Reads.{ReadsOnce}
-use Rattle.tool_core.specs.Refusals.{check_refusal, begin_refusal, unless_refused}
+use Rattle.tool_parts.specs.Closing.{status_of, closing_line_of}
+use Rattle.tool_parts.specs.Endings.{Speaks, Concludes, WritesNone, HasMended}
+use Rattle.tool_parts.specs.Mounting.{IsMendable}
+use Rattle.tool_parts.specs.Begins.{closed_memory}
+use Rattle.tool_parts.specs.Reads.{ReadsOnce}
+use Rattle.tool_parts.specs.Refusals.{check_refusal, begin_refusal, unless_refused}
 
 -- the line of a scrub: how many steps moved a block, and how many blocks are free
 abbrev pub scrub_text : (moved free : ℕ) → List ℕ
@@ -124,15 +124,6 @@ pub record StopsScrub {D : Type 0} (nor : NorOf D) (g : Geometry) (old new : D) 
 -- either of these
 abbrev pub ScrubEnds : {D : Type 0} (nor : NorOf D) (g : Geometry) (limit : ℕ) (old new : D) (result : Ending) → Type 0
 ScrubEnds nor g limit old new result = StopsScrub nor g old new result ⊎ SaysScrub nor g limit old new result
-
--- What a check leaves of an image that it takes: a tidy image with its files and two free blocks, by the stages, the parting and the cleaning of a
--- check; the first image itself, where that is tidy with its reserve.
-pub record CheckLeaves (g : Geometry) (was now : List ℕ) : Type 0 where
-  pub takes : check_refusal g was ≡ None
-  pub tidy : IsTidy g now
-  pub reserve : HasReserve g now
-  pub sweeps : SweepsAfter g was now
-  pub idle : IsTidy g was → HasReserve g was → now ≡ was
 
 -- so many steps were made of the image that the check left of the first one
 pub record ScrubbedAfter (g : Geometry) (limit moved : ℕ) (was now : List ℕ) : Type 0 where

@@ -10,8 +10,8 @@ use Rattle.image_model.specs.Tables.{table_of}
 use Rattle.call_model.specs.Safe.{IsSafe, Holds}
 use Rattle.call_model.specs.Memory.{Memory, IsAt}
 use Rattle.call_model.specs.Calls.{Stands}
-use Rattle.tool_core.specs.declared.ending.Ending.{Ending}
-use Rattle.tool_core.specs.declared.ending.Ending.TheVariants.{BoardFault, Tight, Differ}
+use Rattle.tool_parts.specs.declared.ending.Ending.{Ending}
+use Rattle.tool_parts.specs.declared.ending.Ending.TheVariants.{BoardFault, Tight, Differ}
 
 -- how a run ends whose volume was settled so
 abbrev pub settled_as : Ending → Result (Unit {0}) FsErr → Ending

@@ -5,9 +5,9 @@ use Rattle.nor_core.specs.declared.state.NorState.{Ghosts as NorOf}
 use Rattle.flash_view.specs.Same.{StaysBehind}
 use Rattle.table_model.specs.Table.{File}
 use Rattle.volume_soak.specs.Turns.{empty, soaked, soak_text}
-use Rattle.tool_core.specs.declared.ending.Ending.{Ending}
-use Rattle.tool_core.specs.declared.ending.Ending.TheVariants.{Done}
-use Rattle.tool_core.specs.Endings.{Concludes}
+use Rattle.tool_parts.specs.declared.ending.Ending.{Ending}
+use Rattle.tool_parts.specs.declared.ending.Ending.TheVariants.{Done}
+use Rattle.tool_parts.specs.Endings.{Concludes}
 use Rattle.tool_core.specs.Filling.{HoldsFiles, WasFormatted, SpeaksOf}
 
 -- the files that so many turns from a seed leave on a volume that had none, with so many descriptors

@@ -7,8 +7,8 @@ use Rattle.table_model.specs.Window.{Moment}
 use Rattle.image_model.specs.Shared.{FitsWith}
 use Rattle.call_model.specs.Safe.{IsSafe}
 use Rattle.run_model.specs.Runs.{RunCall}
-use Rattle.tool_core.specs.Mounting.{IsMendable}
-use Rattle.tool_core.specs.Refusals.{mount_refusal, check_refusal}
+use Rattle.tool_parts.specs.Mounting.{IsMendable}
+use Rattle.tool_parts.specs.Refusals.{mount_refusal, check_refusal}
 use Rattle.tool_core.specs.Running.{CallCut, Outcome}
 
 -- What a cut leaves of an image that mounts mounts.

@@ -11,8 +11,8 @@ use Rattle.run_model.specs.Ran.{RunStands, RunPublishes, IsTold, Reached, SaidPa
 use Rattle.file_calls.specs.declared.told.Told.{Told}
 use Rattle.file_calls.specs.Replies.{shown_by}
 use Rattle.tool_core.specs.Runs.{result_err, StandsNow, WorksTo}
-use Rattle.tool_core.specs.declared.ending.Ending.{Ending}
-use Rattle.tool_core.specs.declared.ending.Ending.TheVariants.{Done, BadLine, BoardFault, SourceFault, TooLong}
+use Rattle.tool_parts.specs.declared.ending.Ending.{Ending}
+use Rattle.tool_parts.specs.declared.ending.Ending.TheVariants.{Done, BadLine, BoardFault, SourceFault, TooLong}
 
 -- What doing a call leaves: what a run may at each cut, and its answer, or that the board failed. `lent` are the bytes for what is read.
 pub record DoesCall {D : Type 0} (nor : NorOf D) (g : Geometry) (old new : D) (was now : Memory) (ask : Ask) (result : Result Told Ending) (lent : List ℕ) : Type 0 where

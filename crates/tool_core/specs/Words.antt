@@ -1,32 +1,11 @@
 -- The words of a command.
-use Rattle.std.specs.Prelude.{ℕ, ◌≤◌, List, [], length, Bool, true, false, not, ◌*◌, ◌==◌, ◌&&◌, ◌||◌, nat_eq, nat_lt, Option, Some, None, if◌then◌else◌, codes, unwrap_or, slice_get, option_and_then}
-use Rattle.std.specs.Int.{div_ceil}
-use Rattle.std.specs.Cmp.Lexicographic.{pointwise}
-use Rattle.geometry.specs.declared.magic.MagicKind.{MagicKind}
-use Rattle.geometry.specs.declared.magic.MagicKind.TheVariants.{Plain, Length}
+use Rattle.std.specs.Prelude.{ℕ, ◌≤◌, List, length, Bool, true, false, not, ◌==◌, ◌&&◌, Option, Some, None, if◌then◌else◌, codes, option_and_then}
 use Rattle.call_script.specs.Numerals.{number_up_to}
+use Rattle.tool_parts.specs.declared.words.Numbers.{Numbers}
+use Rattle.tool_parts.specs.Words.{is_text, word_at, numbers_in}
 use Rattle.tool_core.specs.declared.words.Verb.{Verb}
 use Rattle.tool_core.specs.declared.words.Verb.TheVariants.{Run, List as Lists, Check, Extract, Make, Soak, Scrub, Map}
 use Rattle.tool_core.specs.declared.words.Form.{Form}
-
--- a word is this text
-abbrev pub is_text : List ℕ → List ℕ → Bool
-is_text word text = pointwise nat_eq word text
-
--- the word at a place, empty where there is none
-abbrev pub word_at : List (List ℕ) → ℕ → List ℕ
-word_at words i = unwrap_or (slice_get words i) []
-
--- a number below 2 ^ 32
-abbrev pub number_word : List ℕ → Option ℕ
-number_word word = number_up_to 4294967295 word
-
--- what the magic tells
-abbrev pub magic_word : List ℕ → Option MagicKind
-magic_word word =
-    if is_text word (codes "plain") then Some Plain
-    else if is_text word (codes "len") then Some Length
-    else None
 
 -- a number below 2 ^ 64
 abbrev pub seed_word : List ℕ → Option ℕ
@@ -110,30 +89,10 @@ abbrev pub has_form : Verb → List (List ℕ) → Bool
 has_form verb words =
     (length words == word_count verb) && not (length (word_at words 6) == 0) && not (has_folder verb && (length (word_at words 7) == 0))
 
--- the numbers of a command's volumes
-abbrev pub numbers_in : Verb → List (List ℕ) → Option Form
-numbers_in verb words =
-    option_and_then (λ page. option_and_then (λ block. option_and_then (λ blocks. option_and_then (λ meta. option_and_then (λ magic.
-    Some (record { verb = verb; page = page; block = block; blocks = blocks; meta = meta; magic = magic }))
-    (magic_word (word_at words 5))) (number_word (word_at words 4))) (number_word (word_at words 3))) (number_word (word_at words 2))) (number_word (word_at words 1))
+-- a command with its numbers, where there are some
+abbrev pub with_numbers : Verb → Option Numbers → Option Form
+with_numbers verb numbers = option_and_then (λ n. Some (record { verb = verb; numbers = n })) numbers
 
 -- what the words of a command give, in which CHIP and FOLDER are any words that aren't empty
 unfoldable pub form_of : List (List ℕ) → Option Form
-form_of words = option_and_then (λ verb. if has_form verb words then numbers_in verb words else None) (verb_in words)
-
--- the bytes of a block and the number of blocks, by their places, where they give a volume of some bytes, below 2 ^ 32
-abbrev pub blocks_in : List (List ℕ) → Option (ℕ × ℕ)
-blocks_in words =
-    option_and_then (λ block. option_and_then (λ blocks.
-    if (block * blocks == 0) || not (nat_lt (block * blocks) 4294967296) then None else Some (block, blocks))
-    (number_word (word_at words 3))) (number_word (word_at words 2))
-
--- the erase unit of chips for these words, in bytes
-abbrev pub unit_for : Option (ℕ × ℕ) → ℕ
-unit_for None = 4096
-unit_for (Some b) = b.0
-
--- the size in bytes of each of so many chips
-abbrev pub chip_size_for : Option (ℕ × ℕ) → ℕ → ℕ
-chip_size_for None number = 4096
-chip_size_for (Some b) number = b.0 * div_ceil b.1 number
+form_of words = option_and_then (λ verb. if has_form verb words then with_numbers verb (numbers_in words) else None) (verb_in words)

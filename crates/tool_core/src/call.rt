@@ -6,13 +6,13 @@ ghost use Rattle.volume.specs.Holds.{memory};
 ghost use Rattle.file_calls.specs.Replies.{shown_by};
 ghost use Rattle.volume.specs.Stages.{takes_calls};
 ghost use Rattle.volume.specs.Same.{IsSameVolume};
-ghost use Rattle.tool_core.specs.Later.{IsLater};
+ghost use Rattle.tool_parts.specs.Later.{IsLater};
 ghost use Rattle.tool_core.specs.Runs.{Ran, result_err};
 ghost use Rattle.tool_core.specs.Turns.{DoesCall};
 
-use crate::ending::Ending;
 use nor_core::{Board, NorState};
 use table_model::{Call, FsErr};
+use tool_parts::Ending;
 use volume::{Told, Volume};
 
 /// The most bytes that a line of a script may fill; it reads at most 1,024.

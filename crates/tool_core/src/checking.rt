@@ -4,17 +4,15 @@ ghost use Rattle.nor_core.specs.Count.{Rose};
 ghost use Rattle.flash_view.specs.Same.{StaysBehind};
 ghost use Rattle.volume.specs.Same.{IsSameVolume};
 ghost use Rattle.tool_core.specs.Checking.{ChecksTo, DoesCheck, report_text};
-ghost use Rattle.tool_core.specs.Fits.{IsFitting, HasLengths};
-ghost use Rattle.tool_core.specs.Later.{IsLater, IsLaterStatus};
-ghost use Rattle.tool_core.specs.Lent.{lengths_of};
-ghost use Rattle.tool_core.specs.Reads.{ReadsOnce};
-ghost use Rattle.tool_core.specs.Refusals.{report_ending};
+ghost use Rattle.tool_parts.specs.Fits.{IsFitting, HasLengths};
+ghost use Rattle.tool_parts.specs.Later.{IsLater, IsLaterStatus};
+ghost use Rattle.tool_parts.specs.Lent.{lengths_of};
+ghost use Rattle.tool_parts.specs.Reads.{ReadsOnce};
+ghost use Rattle.tool_parts.specs.Refusals.{report_ending};
 
-use crate::buffers::Buffers;
-use crate::ending::{Closing, Ending, conclude, put, put_count};
-use crate::mounting::mount_and_check;
 use geometry::Geometry;
 use nor_core::{Board, Failed, Nor, NorState};
+use tool_parts::{Buffers, Closing, Ending, conclude, mount_and_check, put, put_count};
 use vol_mount::Lent;
 use volume::{Report, Volume};
 

@@ -4,20 +4,18 @@ ghost use Rattle.nor_core.specs.Count.{Rose};
 ghost use Rattle.flash_view.specs.Same.{IsSameView};
 ghost use Rattle.image_tool.specs.Putting.{FolderGoes};
 ghost use Rattle.tool_core.specs.Extracting.{Extracts, DoesExtract};
-ghost use Rattle.tool_core.specs.Fits.{HoldsVolume, HasLengths};
-ghost use Rattle.tool_core.specs.Later.{IsUnrefused, IsLaterStatus};
-ghost use Rattle.tool_core.specs.Lent.{lengths_of};
-ghost use Rattle.tool_core.specs.Reads.{ReadsOnce};
+ghost use Rattle.tool_parts.specs.Fits.{HoldsVolume, HasLengths};
+ghost use Rattle.tool_parts.specs.Later.{IsUnrefused, IsLaterStatus};
+ghost use Rattle.tool_parts.specs.Lent.{lengths_of};
+ghost use Rattle.tool_parts.specs.Reads.{ReadsOnce};
 
-use crate::buffers::Buffers;
-use crate::ending::{Ending, conclude};
 use crate::listing::end_of_list;
-use crate::mounting::mount_ending;
 use flash_view::View;
 use folder_core::{Folder, FolderState};
 use geometry::Geometry;
 use image_tool::{ExtractErr, extract};
 use nor_core::{Board, Nor, NorState};
+use tool_parts::{Buffers, Ending, conclude, mount_ending};
 use vol_mount::mount;
 
 // Mounts a volume, says its list, and puts its files into a folder.

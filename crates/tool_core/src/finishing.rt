@@ -6,14 +6,14 @@ ghost use Rattle.table_model.specs.Table.{State};
 ghost use Rattle.vol_mount.specs.Formatted.{IsFormatted};
 ghost use Rattle.volume.specs.Same.{IsSameVolume};
 ghost use Rattle.volume_run.specs.Ready.{IsReady};
-ghost use Rattle.tool_core.specs.Fits.{IsFitting};
-ghost use Rattle.tool_core.specs.Later.{IsLater};
+ghost use Rattle.tool_parts.specs.Fits.{IsFitting};
+ghost use Rattle.tool_parts.specs.Later.{IsLater};
 ghost use Rattle.tool_core.specs.Filling.{HoldsFiles, SpeaksOf, unsettled_as};
 
-use crate::ending::Ending;
 use geometry::Geometry;
 use nor_core::{Board, Failed, Nor, NorState};
 use table_model::FsErr;
+use tool_parts::Ending;
 use vol_mount::format;
 use volume::Volume;
 

@@ -2,10 +2,8 @@
 //! board said.
 #![tactic(auto)]
 
-mod buffers;
 mod call;
 mod checking;
-mod ending;
 mod extracting;
 mod finishing;
 pub mod laws;
@@ -13,7 +11,6 @@ mod lines;
 mod listing;
 mod making;
 mod mapping;
-mod mounting;
 mod plan;
 mod run;
 mod script;
@@ -22,7 +19,5 @@ mod soaking;
 mod tool;
 mod words;
 
-pub use buffers::Buffers;
 pub use plan::is_accepted;
 pub use tool::spiffs_tool;
-pub use words::{chip_size_of, unit_of};

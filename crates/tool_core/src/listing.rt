@@ -2,20 +2,18 @@ ghost use Rattle.std.specs.Prelude.{◌≡◌, ◌≢◌, ◌≤◌, length};
 ghost use Rattle.geometry.specs.Numbers.{work_need, cache_need, check_need};
 ghost use Rattle.nor_core.specs.Count.{Rose};
 ghost use Rattle.flash_view.specs.Same.{IsSameView};
-ghost use Rattle.tool_core.specs.Fits.{HoldsVolume, HasLengths};
-ghost use Rattle.tool_core.specs.Later.{IsLater, IsLaterStatus};
-ghost use Rattle.tool_core.specs.Lent.{lengths_of};
+ghost use Rattle.tool_parts.specs.Fits.{HoldsVolume, HasLengths};
+ghost use Rattle.tool_parts.specs.Later.{IsLater, IsLaterStatus};
+ghost use Rattle.tool_parts.specs.Lent.{lengths_of};
 ghost use Rattle.tool_core.specs.Listing.{ListsTo, DoesList};
-ghost use Rattle.tool_core.specs.Reads.{ReadsOnce};
-ghost use Rattle.tool_core.specs.Refusals.{said_ending};
+ghost use Rattle.tool_parts.specs.Reads.{ReadsOnce};
+ghost use Rattle.tool_parts.specs.Refusals.{said_ending};
 
-use crate::buffers::Buffers;
-use crate::ending::{Ending, conclude};
-use crate::mounting::mount_ending;
 use flash_view::View;
 use geometry::Geometry;
 use image_tool::{ToolErr, list};
 use nor_core::{Board, Nor, NorState};
+use tool_parts::{Buffers, Ending, conclude, mount_ending};
 use vol_mount::mount;
 
 /// How a command ends that said so many damaged ids.

@@ -7,20 +7,18 @@ ghost use Rattle.volume.specs.Holds.{memory};
 ghost use Rattle.volume.specs.Stages.{takes_calls};
 ghost use Rattle.volume.specs.Same.{IsSameVolume};
 ghost use Rattle.volume.specs.Mapping.{is_attached};
-ghost use Rattle.tool_core.specs.Fits.{IsFitting, HasLengths};
-ghost use Rattle.tool_core.specs.Later.{IsLater, IsLaterStatus};
-ghost use Rattle.tool_core.specs.Lent.{lengths_of};
-ghost use Rattle.tool_core.specs.Outcomes.{closed_memory};
-ghost use Rattle.tool_core.specs.Reads.{ReadsOnce};
+ghost use Rattle.tool_parts.specs.Fits.{IsFitting, HasLengths};
+ghost use Rattle.tool_parts.specs.Later.{IsLater, IsLaterStatus};
+ghost use Rattle.tool_parts.specs.Lent.{lengths_of};
+ghost use Rattle.tool_parts.specs.Begins.{closed_memory};
+ghost use Rattle.tool_parts.specs.Reads.{ReadsOnce};
 ghost use Rattle.tool_core.specs.Mapping.{page_line, unmapped_as, collected_as, AttachesTo, CollectsTo, MapsAgain, TellsPages, SaysSpan, SaysSpans, MapEnds, MapsTo, DoesMap};
 
-use crate::buffers::Buffers;
-use crate::ending::{Closing, Ending, conclude, put, put_count};
 use crate::finishing::unsettled;
-use crate::mounting::mount_and_check;
 use geometry::Geometry;
 use nor_core::{Board, Failed, Nor, NorState};
 use table_model::FsErr;
+use tool_parts::{Buffers, Closing, Ending, conclude, mount_and_check, put, put_count};
 use vol_mount::Lent;
 use volume::{MapErr, Volume};
 

@@ -6,26 +6,22 @@ ghost use Rattle.flash_view.specs.Same.{StaysBehind};
 ghost use Rattle.volume.specs.Holds.{memory};
 ghost use Rattle.volume.specs.Stages.{takes_calls};
 ghost use Rattle.volume.specs.Same.{IsSameVolume};
-ghost use Rattle.tool_core.specs.Begins.{Begun, StopsRun};
-ghost use Rattle.tool_core.specs.Fits.{IsFitting, HasLengths};
-ghost use Rattle.tool_core.specs.Later.{IsLater, IsLaterStatus};
-ghost use Rattle.tool_core.specs.Lent.{lengths_of};
-ghost use Rattle.tool_core.specs.Mounting.{Checks};
-ghost use Rattle.tool_core.specs.Outcomes.{RunsTo, Refused, EndsByImages, first_moment, closed_memory};
-ghost use Rattle.tool_core.specs.Reads.{ReadsOnce};
-ghost use Rattle.tool_core.specs.Refusals.{check_refusal};
+ghost use Rattle.tool_parts.specs.Begins.{closed_memory, first_moment};
+ghost use Rattle.tool_parts.specs.Fits.{IsFitting, HasLengths};
+ghost use Rattle.tool_parts.specs.Later.{IsLater, IsLaterStatus};
+ghost use Rattle.tool_parts.specs.Lent.{lengths_of};
+ghost use Rattle.tool_core.specs.Outcomes.{RunsTo, Refused, EndsByImages};
+ghost use Rattle.tool_parts.specs.Reads.{ReadsOnce};
+ghost use Rattle.tool_parts.specs.Refusals.{check_refusal};
 ghost use Rattle.tool_core.specs.Running.{DoesRun};
 ghost use Rattle.tool_core.specs.Runs.{StandsBy};
-ghost use Rattle.tool_core.specs.Scrubbing.{CheckLeaves};
 ghost use Rattle.tool_core.specs.Settling.{Settling, settled_as};
 
-use crate::buffers::Buffers;
-use crate::ending::{Ending, conclude};
-use crate::mounting::mount_and_check;
 use crate::script::run_script;
 use geometry::Geometry;
 use nor_core::{Board, Nor, NorState, Source};
 use table_model::FsErr;
+use tool_parts::{Buffers, Ending, conclude};
 use vol_mount::Lent;
 use volume::Volume;
 
@@ -55,31 +51,6 @@ fn settle<B: Board>(volume: &mut Volume<'_, B>, ending: Ending) -> Ending
     match ending {
         Ending::BoardFault | Ending::Differ(_) => ending,
         _ => settled_ending(ending, volume.settle()),
-    }
-}
-
-/// Mounts and checks a volume that is to be worked on, or says how the command ends there.
-pub(crate) fn begin<B: Board>(volume: &mut Volume<'_, B>) -> Result<(), Ending>
-    requires { write_refusal volume.old.geometry ≡ None }
-    ensures later { IfErr result IsLater }
-    ensures no_script { ¬ (result ≡ Err Ending.SourceFault) }
-    ensures cause { result ≡ Err Ending.BoardFault → Rose (B.faults volume.old.nor.now) (B.faults volume.new.nor.now) }
-    ensures taken { OnOk result (takes_calls volume.new ≡ true) }
-    ensures closed { OnOk result (memory volume.new ≡ closed_memory (min 65535 (length volume.old.slots.now))) }
-    ensures same { IsSameVolume volume.old volume.new }
-    ensures changes { Changes B.NorState volume.old.nor.now volume.new.nor.now (Checks volume.old.geometry) }
-    ensures begun { B.tells volume.old.nor.now → OnOk result (Begun volume.old.geometry (B.bytes volume.old.nor.now) (B.bytes volume.new.nor.now)) }
-    ensures leaves { B.tells volume.old.nor.now → OnOk result (CheckLeaves volume.old.geometry (B.bytes volume.old.nor.now) (B.bytes volume.new.nor.now)) }
-    ensures stops { B.tells volume.old.nor.now → IfErr result (StopsRun B.NorState volume.old.geometry volume.old.nor.now volume.new.nor.now) }
-{
-    match mount_and_check(volume) {
-        Err(ending) => Err(ending),
-        Ok(report) => {
-            if report.free_blocks < 2 {
-                return Err(Ending::Tight(report.free_blocks));
-            }
-            Ok(())
-        }
     }
 }
 

@@ -11,17 +11,17 @@ ghost use Rattle.run_model.specs.Ran.{RunStands};
 ghost use Rattle.volume.specs.Holds.{memory};
 ghost use Rattle.volume.specs.Stages.{takes_calls};
 ghost use Rattle.volume.specs.Same.{IsSameVolume};
-ghost use Rattle.tool_core.specs.Later.{IsLater, IsLaterIf};
+ghost use Rattle.tool_parts.specs.Later.{IsLater, IsLaterIf};
 ghost use Rattle.tool_core.specs.Runs.{Ran, Works};
 ghost use Rattle.tool_core.specs.Turns.{DidLine, OneMore, Turns, at_run};
 ghost use Rattle.tool_core.specs.Outcomes.{RunEnds};
 
 use crate::call::{BYTES, apply};
-use crate::ending::Ending;
 use crate::lines::{LIMIT, LINE, Lines};
 use call_script::{parse_line, reply_text};
 use nor_core::{Board, Failed, Nor, NorState, Source};
 use table_model::Reply;
+use tool_parts::Ending;
 use volume::Volume;
 
 /// The number of bytes of the line buffer that hold lines; the others hold names, texts and replies.

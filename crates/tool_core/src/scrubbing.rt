@@ -5,19 +5,18 @@ ghost use Rattle.flash_view.specs.Same.{StaysBehind};
 ghost use Rattle.volume.specs.Holds.{memory};
 ghost use Rattle.volume.specs.Stages.{takes_calls};
 ghost use Rattle.volume.specs.Same.{IsSameVolume};
-ghost use Rattle.tool_core.specs.Fits.{IsFitting, HasLengths};
-ghost use Rattle.tool_core.specs.Later.{IsLater, IsLaterStatus};
-ghost use Rattle.tool_core.specs.Lent.{lengths_of};
-ghost use Rattle.tool_core.specs.Outcomes.{closed_memory};
-ghost use Rattle.tool_core.specs.Reads.{ReadsOnce};
+ghost use Rattle.tool_parts.specs.Fits.{IsFitting, HasLengths};
+ghost use Rattle.tool_parts.specs.Later.{IsLater, IsLaterStatus};
+ghost use Rattle.tool_parts.specs.Lent.{lengths_of};
+ghost use Rattle.tool_parts.specs.Begins.{closed_memory};
+ghost use Rattle.tool_parts.specs.Reads.{ReadsOnce};
 ghost use Rattle.tool_core.specs.Scrubbing.{Makes, IsStepDone, Scrubbed, IsTally, ScrubEnds, ScrubsTo, DoesScrub, scrub_text, has_moved};
 
-use crate::buffers::Buffers;
-use crate::ending::{Closing, Ending, conclude, put, put_count};
 use crate::finishing::unsettled;
 use crate::run::begin;
 use geometry::Geometry;
 use nor_core::{Board, Failed, Nor, NorState};
+use tool_parts::{Buffers, Closing, Ending, conclude, put, put_count};
 use vol_mount::Lent;
 use volume::{Scrub, Volume};
 

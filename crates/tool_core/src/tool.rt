@@ -3,16 +3,14 @@ ghost use Rattle.nor_core.specs.Count.{Rose};
 ghost use Rattle.tool_core.specs.Plan.{refusal_of};
 ghost use Rattle.tool_core.specs.Planned.{IsPlanned};
 ghost use Rattle.tool_core.specs.Words.{writes, has_script, has_folder, HasLimit};
-ghost use Rattle.tool_core.specs.Endings.{RefusesIf};
+ghost use Rattle.tool_parts.specs.Endings.{RefusesIf};
 ghost use Rattle.tool_core.specs.Does.{Does};
-ghost use Rattle.tool_core.specs.Fits.{FitsFor, HasLengths};
-ghost use Rattle.tool_core.specs.Later.{IsLaterStatus};
-ghost use Rattle.tool_core.specs.Lent.{lengths_of, asked_of};
+ghost use Rattle.tool_parts.specs.Fits.{FitsFor, HasLengths};
+ghost use Rattle.tool_parts.specs.Later.{IsLaterStatus};
+ghost use Rattle.tool_parts.specs.Lent.{lengths_of, asked_of};
 ghost use Rattle.tool_core.specs.declared.plan.Command.{Command};
 
-use crate::buffers::{Buffers, lengths};
 use crate::checking::check_on;
-use crate::ending::conclude;
 use crate::extracting::extract_on;
 use crate::listing::list_on;
 use crate::making::make_on;
@@ -24,6 +22,7 @@ use crate::soaking::soak_on;
 use crate::words::Verb;
 use folder_core::{Folder, FolderState};
 use nor_core::{Board, Nor, NorState, Source};
+use tool_parts::{Buffers, conclude, lengths};
 
 // Does a command that isn't refused.
 fn perform<B: Board, S: Source, F: Folder>(

@@ -1,5 +1,5 @@
 use Rattle.std.proofs.Common.{rules}
-use Rattle.tool_core.proofs.Reading.{reads_once, reads_as}
+use Rattle.tool_parts.proofs.Reading.{reads_once, reads_as}
 use Rattle.tool_core.proofs.extracting.extract_board.Goals as goal
 
 pub returns-clause-few : goal.returns-clause-few

@@ -1,5 +1,5 @@
 use Rattle.std.proofs.Common.{sym, subst}
-use Rattle.tool_core.specs.declared.ending.Ending.{Ending}
+use Rattle.tool_parts.specs.declared.ending.Ending.{Ending}
 use Rattle.tool_core.specs.Extracting.{Extracts}
 use Rattle.tool_core.proofs.ExtractEnds.{not_mounted, extract_says, extract_done, extract_stopped, extract_broken}
 use Rattle.flash_view.proofs.Looking.{same_then}

@@ -1,4 +1,4 @@
-use Rattle.tool_core.proofs.Telling.{only_concludes}
+use Rattle.tool_parts.proofs.Telling.{only_concludes}
 use Rattle.tool_core.proofs.listing.list_on.Goals as goal
 
 pub returns-clause-does : goal.returns-clause-does

@@ -1,5 +1,5 @@
 use Rattle.std.proofs.Common.{sym, subst}
-use Rattle.tool_core.specs.declared.ending.Ending.{Ending}
+use Rattle.tool_parts.specs.declared.ending.Ending.{Ending}
 use Rattle.tool_core.specs.Listing.{ListsTo}
 use Rattle.tool_core.proofs.ListEnds.{not_mounted, list_done, list_broken}
 use Rattle.flash_view.proofs.Looking.{same_then}

@@ -1,5 +1,5 @@
 use Rattle.std.proofs.Common.{rules}
-use Rattle.tool_core.proofs.Reading.{behind_as}
+use Rattle.tool_parts.proofs.Reading.{behind_as}
 use Rattle.tool_core.proofs.making.make_board.Goals as goal
 
 pub returns-clause-behind : goal.returns-clause-behind

@@ -1,7 +1,7 @@
 use Rattle.std.proofs.Common.{◌≡◌, ◌∙◌, refl, sym, ⊎_elim}
 use Rattle.std.specs.Prelude.{min}
 use Rattle.volume_make.specs.Making.{made_text}
-use Rattle.tool_core.proofs.Beginning.{memory_begun}
+use Rattle.tool_parts.proofs.Begun.{memory_begun}
 use Rattle.tool_core.proofs.Formatting.{tidy_stops, empty_ready}
 use Rattle.tool_core.proofs.MakeEnds.{makes_none, makes_after, speaks_folder}
 use Rattle.tool_core.proofs.making.make_volume.Goals as goal

@@ -1,5 +1,5 @@
 use Rattle.std.proofs.Common.{rules}
-use Rattle.tool_core.proofs.Reading.{reads_once, reads_as, behind_as}
+use Rattle.tool_parts.proofs.Reading.{reads_once, reads_as, behind_as}
 use Rattle.tool_core.proofs.mapping.map_board.Goals as goal
 
 pub returns-clause-behind : goal.returns-clause-behind

@@ -2,7 +2,7 @@ use Rattle.std.proofs.Common.{◌≡◌, ◌∙◌, ℕ, ap, sym, subst}
 use Rattle.std.specs.Prelude.{nat_lt}
 use Rattle.geometry.specs.declared.geometry.Geometry.{Geometry}
 use Rattle.image_model.specs.Tidy.{IsTidy}
-use Rattle.tool_core.proofs.Beginning.{memory_begun}
+use Rattle.tool_parts.proofs.Begun.{memory_begun}
 use Rattle.tool_core.proofs.MapEnds.{maps_stopped, maps_checked}
 use Rattle.tool_core.proofs.mapping.map_volume.Goals as goal
 

@@ -1,6 +1,6 @@
 use Rattle.std.proofs.Common.{rules}
 use Rattle.tool_core.proofs.Beginning.{runs_as, images_as}
-use Rattle.tool_core.proofs.Reading.{reads_once, reads_as, behind_as}
+use Rattle.tool_parts.proofs.Reading.{reads_once, reads_as, behind_as}
 use Rattle.tool_core.proofs.run.run.Goals as goal
 
 pub returns-clause-few : goal.returns-clause-few

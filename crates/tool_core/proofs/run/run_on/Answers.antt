@@ -1,4 +1,4 @@
-use Rattle.tool_core.specs.Lent.{lengths_of}
+use Rattle.tool_parts.specs.Lent.{lengths_of}
 use Rattle.tool_core.proofs.RunDoes.{run_does}
 use Rattle.tool_core.proofs.run.run_on.Goals as goal
 

@@ -1,7 +1,8 @@
 use Rattle.std.proofs.Common.{◌∙◌, ap, arith, ⊎_elim, Some}
 use Rattle.volume.specs.Holds.{memory}
-use Rattle.tool_core.proofs.Beginning.{memory_begun, begun_ends, early_ends, early_refused}
-use Rattle.tool_core.proofs.Refusals.{not_both}
+use Rattle.tool_parts.proofs.Begun.{memory_begun}
+use Rattle.tool_core.proofs.Beginning.{begun_ends, early_ends, early_refused}
+use Rattle.tool_parts.proofs.Refusals.{not_both}
 use Rattle.tool_core.proofs.Settling.{works_settled}
 use Rattle.tool_core.proofs.Working.{early_images, begun_images}
 use Rattle.tool_core.proofs.run.run_volume.Goals as goal

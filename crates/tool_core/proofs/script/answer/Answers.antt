@@ -6,7 +6,7 @@ use Rattle.run_model.proofs.Chain.{reached_none}
 use Rattle.tool_core.proofs.LineWork.{no_call, none_good, same_reached}
 use Rattle.tool_core.proofs.OneLine.{reply_did, stop_did}
 use Rattle.tool_core.proofs.Working.{works_stop, works_reply, works_none, works_end}
-use Rattle.tool_core.specs.declared.ending.Ending.TheVariants.{BadLine}
+use Rattle.tool_parts.specs.declared.ending.Ending.TheVariants.{BadLine}
 use Rattle.tool_core.proofs.script.answer.Goals as goal
 
 pub returns-in_default-clause-did : goal.returns-in_default-clause-did

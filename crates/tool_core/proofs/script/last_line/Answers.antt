@@ -5,7 +5,7 @@ use Rattle.volume.specs.Holds.{memory}
 use Rattle.call_script.specs.Lines.{NoBreak}
 use Rattle.tool_core.proofs.Turning.{no_last, last_done}
 use Rattle.tool_core.proofs.Working.{works_end, works_last}
-use Rattle.tool_core.specs.declared.ending.Ending.TheVariants.{Done}
+use Rattle.tool_parts.specs.declared.ending.Ending.TheVariants.{Done}
 use Rattle.tool_core.proofs.script.last_line.Goals as goal
 
 pub returns-then-is_empty-clause-turned : goal.returns-then-is_empty-clause-turned

@@ -4,7 +4,7 @@ use Rattle.std.specs.Prelude.{slice_range}
 use Rattle.volume.specs.Holds.{memory}
 use Rattle.tool_core.proofs.Turning.{took_more, too_long_line, source_failed, too_long, last_as}
 use Rattle.tool_core.proofs.Working.{works_none, works_end}
-use Rattle.tool_core.specs.declared.ending.Ending.TheVariants.{BadLine, SourceFault, TooLong}
+use Rattle.tool_parts.specs.declared.ending.Ending.TheVariants.{BadLine, SourceFault, TooLong}
 use Rattle.tool_core.proofs.script.take_more.Goals as goal
 
 pub returns-then-lines-gt-LINE-clause-turned : goal.returns-then-lines-gt-LINE-clause-turned

@@ -3,7 +3,7 @@ use Rattle.std.proofs.Common.{ℕ, ◌≡◌, ◌≤◌, ◌-◌, List, true, Ok
 use Rattle.volume.specs.Holds.{memory}
 use Rattle.volume.specs.Stages.{takes_calls}
 use Rattle.volume.specs.Same.{IsSameVolume}
-use Rattle.tool_core.specs.Outcomes.{closed_memory}
+use Rattle.tool_parts.specs.Begins.{closed_memory}
 use Rattle.tool_core.specs.Scrubbing.{Makes, StepsMade}
 use Rattle.tool_core.proofs.scrubbing.scrub_all.Given as goal
 

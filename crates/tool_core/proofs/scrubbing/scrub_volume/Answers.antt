@@ -1,4 +1,4 @@
-use Rattle.tool_core.proofs.Beginning.{memory_begun}
+use Rattle.tool_parts.proofs.Begun.{memory_begun}
 use Rattle.tool_core.proofs.ScrubEnds.{scrubs_stopped, scrubs_checked}
 use Rattle.tool_core.proofs.scrubbing.scrub_volume.Goals as goal
 

@@ -1,8 +1,7 @@
-use Rattle.std.proofs.Common.{◌≡◌, ◌∙◌, refl, subst}
-use Rattle.std.proofs.Common.{ℕ, List}
+use Rattle.std.proofs.Common.{◌≡◌, ◌∙◌, refl, subst, ℕ, List}
 use Rattle.std.specs.Prelude.{min}
 use Rattle.volume_soak.specs.Turns.{empty}
-use Rattle.tool_core.proofs.Beginning.{memory_begun}
+use Rattle.tool_parts.proofs.Begun.{memory_begun}
 use Rattle.tool_core.proofs.Formatting.{tidy_stops, empty_ready}
 use Rattle.tool_core.proofs.FillEnds.{speaks_none, speaks_after}
 use Rattle.tool_core.proofs.SoakEnds.{speaks_soaked}

@@ -1,5 +1,6 @@
 use Rattle.std.proofs.Common.{◌≡◌, ◌∙◌, sym, ⊎_elim, arith}
-use Rattle.tool_core.proofs.Early.{ending_early, early_status, early_board, early_folder}
+use Rattle.tool_core.proofs.Early.{ending_early}
+use Rattle.tool_parts.proofs.Early.{early_status, early_board, early_folder}
 use Rattle.tool_core.proofs.Geometries.{one_plan}
 use Rattle.tool_core.proofs.tool.spiffs_tool.Goals as goal
 

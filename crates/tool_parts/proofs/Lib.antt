@@ -1,0 +1,7 @@
+pub mod Refusals
+pub mod Early
+pub mod Speaking
+pub mod Reading
+pub mod Telling
+pub mod Mounted
+pub mod Begun

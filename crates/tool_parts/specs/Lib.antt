@@ -1,0 +1,14 @@
+pub mod Asked
+pub mod Lent
+pub mod Words
+pub mod Accepting
+pub mod Closing
+pub mod Endings
+pub mod Refusals
+pub mod Reads
+pub mod Fits
+pub mod Later
+pub mod Early
+pub mod Telling
+pub mod Mounting
+pub mod Begins
