@@ -27,7 +27,7 @@ use Rattle.tool_parts.specs.declared.ending.Ending.TheVariants.{Done, BoardFault
 use Rattle.tool_parts.specs.Endings.{OnlyCloses, Speaks}
 use Rattle.tool_core.specs.Filling.{HoldsFiles, WasFormatted, SpeaksOf}
 use Rattle.tool_parts.proofs.Reading.{behind_closed}
-use Rattle.tool_core.proofs.Working.{goes_of}
+use Rattle.script_run.proofs.Working.{goes_of}
 
 -- ---- the written bytes that wait are put onto the chip
 

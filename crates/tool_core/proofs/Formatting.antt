@@ -27,7 +27,7 @@ use Rattle.tool_parts.specs.declared.ending.Ending.TheVariants.{BoardFault}
 use Rattle.tool_parts.specs.Begins.{Begun, first_moment, closed_memory}
 use Rattle.tool_parts.specs.Mounting.{Checks, Reported, StopsCheck}
 use Rattle.tool_core.specs.Filling.{HoldsFiles}
-use Rattle.tool_core.proofs.Beginning.{begun_stands, first_room}
+use Rattle.script_run.proofs.Beginning.{begun_stands, first_room}
 use Rattle.tool_parts.proofs.Refusals.{tidy_taken, not_both}
 
 -- ---- an empty table has room in a volume that may be written

@@ -28,7 +28,7 @@ use Rattle.tool_parts.specs.Mounting.{Checks, Reported, StopsCheck, IsMendable, 
 use Rattle.tool_parts.specs.Begins.{first_moment, closed_memory}
 use Rattle.tool_parts.specs.Refusals.{check_refusal, unless_refused}
 use Rattle.tool_core.specs.Scrubbing.{ScrubCut}
-use Rattle.tool_core.proofs.Beginning.{first_table}
+use Rattle.script_run.proofs.Beginning.{first_table}
 use Rattle.tool_core.proofs.MapPages.{tells_pages, file_there, file_missing}
 use Rattle.tool_core.proofs.MapSteps.{holds_first, steps_then}
 use Rattle.tool_parts.proofs.Mounted.{safe_check, holds_check}

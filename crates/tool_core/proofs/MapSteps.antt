@@ -41,7 +41,7 @@ use Rattle.tool_parts.specs.declared.ending.Ending.TheVariants.{BoardFault, NoSu
 use Rattle.tool_core.specs.Mapping.{unmapped_as, collected_as, StopsCollecting, IsAtRest, Rests, Steps, has_file, HasMap, MayHaveMap, IsMissing, IsFound, AttachesTo, CollectsTo, MapsAgain}
 use Rattle.tool_parts.specs.Mounting.{LeavesFiles}
 use Rattle.tool_parts.specs.Begins.{first_moment, closed_memory}
-use Rattle.tool_core.proofs.Beginning.{first_at}
+use Rattle.script_run.proofs.Beginning.{first_at}
 use Rattle.tool_core.proofs.ScrubTurns.{stands_first, one_among, closed_still, still_closed}
 
 -- ---- the first moment

@@ -22,7 +22,7 @@ use Rattle.tool_parts.specs.Mounting.{Checks, Reported, IsMendable, LeavesFiles}
 use Rattle.tool_parts.specs.Refusals.{check_refusal, begin_refusal, unless_refused}
 use Rattle.tool_core.specs.Scrubbing.{scrub_text, moved_text, scrub_ending, IsTally, KeepsFiles, Makes, ScrubCut, StopsScrub, SaysScrub, ScrubEnds, Scrubbed, ScrubsTo}
 use Rattle.tool_parts.proofs.Begun.{begins_on}
-use Rattle.tool_core.proofs.Beginning.{early_why}
+use Rattle.script_run.proofs.Beginning.{early_why}
 use Rattle.tool_parts.proofs.Mounted.{safe_check, holds_check}
 use Rattle.tool_parts.proofs.Refusals.{not_both, begin_undone}
 use Rattle.tool_parts.proofs.Speaking.{writes_none}

@@ -30,7 +30,7 @@ use Rattle.tool_core.specs.declared.scrubbing.Tally.{Tally}
 use Rattle.tool_core.specs.Filling.{unsettled_as}
 use Rattle.tool_parts.specs.Begins.{first_moment, closed_memory}
 use Rattle.tool_core.specs.Scrubbing.{has_moved, StepsMade, IsStepDone, Scrubbed, IsTally, KeepsFiles, Makes}
-use Rattle.tool_core.proofs.Beginning.{first_at}
+use Rattle.script_run.proofs.Beginning.{first_at}
 use Rattle.tool_core.proofs.ScrubSteps.{made_none, made_more, scrubbed_all, scrubbed_rest}
 
 -- a table among one alone is that

@@ -7,7 +7,7 @@ use Rattle.folder_core.specs.declared.state.FolderState.{Ghosts as FolderOf}
 use Rattle.tool_core.specs.declared.words.Verb.{Verb}
 use Rattle.tool_core.specs.declared.words.Verb.TheVariants.{Run, List, Check, Extract, Make, Soak, Scrub, Map}
 use Rattle.tool_parts.specs.declared.buffers.Lengths.{Lengths}
-use Rattle.tool_core.specs.Running.{DoesRun}
+use Rattle.script_run.specs.Running.{DoesRun}
 use Rattle.tool_core.specs.Listing.{DoesList}
 use Rattle.tool_core.specs.Checking.{DoesCheck}
 use Rattle.tool_core.specs.Extracting.{DoesExtract}

@@ -1,12 +1,6 @@
 pub mod Words
 pub mod Plan
 pub mod Planned
-pub mod Runs
-pub mod Settling
-pub mod Turns
-pub mod Outcomes
-pub mod Running
-pub mod Taken
 pub mod Listing
 pub mod Checking
 pub mod Extracting

@@ -2,18 +2,13 @@
 //! board said.
 #![tactic(auto)]
 
-mod call;
 mod checking;
 mod extracting;
 mod finishing;
-pub mod laws;
-mod lines;
 mod listing;
 mod making;
 mod mapping;
 mod plan;
-mod run;
-mod script;
 mod scrubbing;
 mod soaking;
 mod tool;

@@ -13,10 +13,9 @@ ghost use Rattle.tool_parts.specs.Reads.{ReadsOnce};
 ghost use Rattle.tool_core.specs.Scrubbing.{Makes, IsStepDone, Scrubbed, IsTally, ScrubEnds, ScrubsTo, DoesScrub, scrub_text, has_moved};
 
 use crate::finishing::unsettled;
-use crate::run::begin;
 use geometry::Geometry;
 use nor_core::{Board, Failed, Nor, NorState};
-use tool_parts::{Buffers, Closing, Ending, conclude, put, put_count};
+use tool_parts::{Buffers, Closing, Ending, begin, conclude, put, put_count};
 use vol_mount::Lent;
 use volume::{Scrub, Volume};
 

@@ -16,12 +16,12 @@ use crate::listing::list_on;
 use crate::making::make_on;
 use crate::mapping::map_on;
 use crate::plan::{Command, plan};
-use crate::run::run_on;
 use crate::scrubbing::scrub_on;
 use crate::soaking::soak_on;
 use crate::words::Verb;
 use folder_core::{Folder, FolderState};
 use nor_core::{Board, Nor, NorState, Source};
+use script_run::run_on;
 use tool_parts::{Buffers, conclude, lengths};
 
 // Does a command that isn't refused.

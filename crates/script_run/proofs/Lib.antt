@@ -1,0 +1,15 @@
+pub mod Pieces
+pub mod LineWork
+pub mod OneLine
+pub mod Turning
+pub mod Arriving
+pub mod Settling
+pub mod Beginning
+pub mod Standing
+pub mod Working
+pub mod Concluding
+pub mod Limits
+pub mod Exact
+pub mod RunDoes
+pub mod Taken
+pub mod Calling

@@ -1,0 +1,6 @@
+pub mod Runs
+pub mod Settling
+pub mod Turns
+pub mod Outcomes
+pub mod Running
+pub mod Taken

@@ -1,8 +1,0 @@
-use Rattle.tool_core.proofs.Taken.{cuts_mount, cuts_taken}
-use Rattle.tool_core.proofs.laws.cuts_are_taken.Goals as goal
-
-pub returns-clause-mounts : goal.returns-clause-mounts
-returns-clause-mounts c = cuts_mount
-
-pub returns-clause-takes : goal.returns-clause-takes
-returns-clause-takes c = cuts_taken

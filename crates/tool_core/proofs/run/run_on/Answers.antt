@@ -1,8 +1,0 @@
-use Rattle.tool_parts.specs.Lent.{lengths_of}
-use Rattle.tool_core.proofs.RunDoes.{run_does}
-use Rattle.tool_core.proofs.run.run_on.Goals as goal
-
-pub returns-clause-does : goal.returns-clause-does
-returns-clause-does g c =
-    let ran = c.run-ending.ensures in
-    run_does (lengths_of c.args.bufs.now) c.run-ending.result c.conclude.result ran.ends ran.refused ran.begins ran.behind ran.board_faults ran.board_cause ran.few c.conclude.ensures
