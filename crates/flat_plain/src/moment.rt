@@ -87,6 +87,20 @@ impl PlainMoment {
         self.flat.files()
     }
 
+    /// The files of the chip's table, in order of ids: all that was written but what waits.
+    pub fn settled(&self) -> &[PlainFile]
+        ensures { map file result.now ≡ (moment_of self.now).settled }
+    {
+        self.settled.as_slice()
+    }
+
+    /// The tables behind that one which are not on the chip yet, in order: a power cut may leave each of them.
+    pub fn waiting(&self) -> &[Vec<PlainFile>]
+        ensures { map files_of result.now ≡ (moment_of self.now).waiting }
+    {
+        self.waiting.as_slice()
+    }
+
     /// Whether the table has room for an index page: its pages and one index page more, each kind in blocks of its own, leave two blocks free. A
     /// call that cuts a file needs one. Wants memory never; more pages than are counted are told so.
     pub fn has_index_room(&self) -> Result<bool, AllocError>

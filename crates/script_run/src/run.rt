@@ -21,7 +21,7 @@ use crate::script::run_script;
 use geometry::Geometry;
 use nor_core::{Board, Nor, NorState, Source};
 use table_model::FsErr;
-use tool_parts::{Buffers, Ending, conclude};
+use tool_parts::{Buffers, Ending, begin, conclude};
 use vol_mount::Lent;
 use volume::Volume;
 
