@@ -10,7 +10,7 @@ ghost use Rattle.tool_core.specs.Words.{writes, HasLimit};
 
 use crate::words::{Form, Verb, read_form};
 use geometry::{GeoErr, Geometry};
-use tool_parts::{Buffers, Ending, Lengths, lengths, read_geometry, with_room, written_geometry};
+use tool_parts::{Buffers, Ending, Lengths, measure, read_geometry, with_room, written_geometry};
 
 /// A command that isn't refused: what it does, and the geometry of its volumes.
 #[derive(Clone, Copy)]
@@ -64,5 +64,5 @@ pub(crate) fn plan(
 pub fn is_accepted(words: &[String], unit: u32, size: u32, bufs: &Buffers<'_>) -> bool
     ensures { result ≡ is_none (refusal_of (asked_by (map string_bytes words.now) unit size (lengths_of bufs.now))) }
 {
-    plan(words, unit, size, &lengths(bufs)).is_ok()
+    plan(words, unit, size, &measure(bufs)).is_ok()
 }

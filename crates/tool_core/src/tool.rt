@@ -22,7 +22,7 @@ use crate::words::Verb;
 use folder_core::{Folder, FolderState};
 use nor_core::{Board, Nor, NorState, Source};
 use script_run::run_on;
-use tool_parts::{Buffers, conclude, lengths};
+use tool_parts::{Buffers, conclude, measure};
 
 // Does a command that isn't refused.
 fn perform<B: Board, S: Source, F: Folder>(
@@ -93,7 +93,7 @@ pub fn spiffs_tool<B: Board, S: Source, F: Folder>(
     ensures script_fault { result ≡ 8 → Rose (S.faults script.old) (S.faults script.new) }
     ensures folder_fault { result ≡ 9 → Rose (F.faults folder.old) (F.faults folder.new) }
 {
-    match plan(words, board.unit(), board.size(), &lengths(bufs)) {
+    match plan(words, board.unit(), board.size(), &measure(bufs)) {
         Err(ending) => conclude(board, ending),
         Ok(command) => perform(command, board, script, folder, bufs),
     }

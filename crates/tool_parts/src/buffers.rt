@@ -34,7 +34,7 @@ pub struct Lengths {
 }
 
 /// How much of each part is lent.
-pub fn lengths(bufs: &Buffers<'_>) -> Lengths
+pub fn measure(bufs: &Buffers<'_>) -> Lengths
     ensures { result ≡ lengths_of bufs.now }
 {
     Lengths {

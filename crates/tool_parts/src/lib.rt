@@ -8,7 +8,7 @@ mod mounting;
 mod words;
 
 pub use accepting::{LINE_NEED, read_geometry, with_room, written_geometry};
-pub use buffers::{Buffers, Lengths, lengths};
+pub use buffers::{Buffers, Lengths, measure};
 pub use ending::{Closing, Ending, close_with, closing_line, conclude, put, put_count};
 pub use mounting::{begin, check_ending, mount_and_check, mount_ending};
 pub use words::{Numbers, chip_size_of, number_at, read_numbers, unit_of, word};
