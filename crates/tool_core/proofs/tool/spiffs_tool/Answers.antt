@@ -23,19 +23,19 @@ returns-in-Err-clause-board_fault g c = λ (is : c.conclude.result ≡ 7). ⊎_e
     c.conclude.ensures.ends
 
 pub returns-in-Ok-clause-planned : goal.returns-in-Ok-clause-planned
-returns-in-Ok-clause-planned g c = λ accepted. (c.in-Ok.command, rw (sym c.unit.ensures, sym c.size.ensures, sym c.lengths.ensures) c.in-Ok.ensures.planned)
+returns-in-Ok-clause-planned g c = λ accepted. (c.in-Ok.command, rw (sym c.unit.ensures, sym c.size.ensures, sym c.measure.ensures) c.in-Ok.ensures.planned)
 
 pub returns-in-Ok-clause-does : goal.returns-in-Ok-clause-does
 returns-in-Ok-clause-does g c =
-    let here = rw (c.unit.ensures, c.size.ensures, c.lengths.ensures) at c.in-Ok.ensures.planned in
+    let here = rw (c.unit.ensures, c.size.ensures, c.measure.ensures) at c.in-Ok.ensures.planned in
     λ command planned. rw (one_plan planned here) c.perform.ensures.does
 
 pub returns-in-Ok-clause-untaken : goal.returns-in-Ok-clause-untaken
 returns-in-Ok-clause-untaken g c =
-    let here = rw (c.unit.ensures, c.size.ensures, c.lengths.ensures) at c.in-Ok.ensures.planned in
+    let here = rw (c.unit.ensures, c.size.ensures, c.measure.ensures) at c.in-Ok.ensures.planned in
     λ none. c.perform.ensures.untaken (none c.in-Ok.command here)
 
 pub returns-in-Ok-clause-untouched : goal.returns-in-Ok-clause-untouched
 returns-in-Ok-clause-untouched g c =
-    let here = rw (c.unit.ensures, c.size.ensures, c.lengths.ensures) at c.in-Ok.ensures.planned in
+    let here = rw (c.unit.ensures, c.size.ensures, c.measure.ensures) at c.in-Ok.ensures.planned in
     λ none. c.perform.ensures.untouched (none c.in-Ok.command here)
