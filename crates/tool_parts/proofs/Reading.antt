@@ -11,8 +11,7 @@ use Rattle.nor_core.specs.declared.state.NorState.{Ghosts as NorOf}
 use Rattle.nor_core.specs.Device.{Says}
 use Rattle.flash_view.specs.Same.{StaysBehind}
 use Rattle.flash_view.proofs.Behind.{behind_then, behind_said}
-use Rattle.tool_parts.specs.declared.ending.Ending.{Ending}
-use Rattle.tool_parts.specs.Endings.{OnlyCloses}
+use Rattle.tool_parts.specs.Endings.{ClosesWith}
 use Rattle.tool_parts.specs.Reads.{ReadsOnce}
 
 module _ {D : Type 0} {nor : NorOf D} {g : Geometry} where
@@ -31,7 +30,7 @@ module _ {D : Type 0} {nor : NorOf D} {g : Geometry} where
   reads_said cache reads says faults = record { few = λ room calm. omega (arith, reads.few room (λ rose. calm (omega (arith, rose, faults))), says.reads) }
 
   -- nor does it change a byte
-  pub behind_closed : {old mid new : D} {ending : Ending} {status : ℕ} → StaysBehind nor g old mid → OnlyCloses nor mid new ending status → StaysBehind nor g old new
+  pub behind_closed : {old mid new : D} {line : List ℕ} {wanted status : ℕ} → StaysBehind nor g old mid → ClosesWith nor mid new line wanted status → StaysBehind nor g old new
   behind_closed behind closes = behind_then g behind (behind_said g _ closes.says closes.cuts)
 
   -- the same device by another name

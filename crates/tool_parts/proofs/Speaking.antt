@@ -11,7 +11,7 @@ use Rattle.image_tool.specs.Saying.{OnlySays}
 use Rattle.tool_parts.specs.declared.ending.Ending.{Ending}
 use Rattle.tool_parts.specs.declared.ending.Ending.TheVariants.{BoardFault}
 use Rattle.tool_parts.specs.Closing.{status_of, closing_line_of}
-use Rattle.tool_parts.specs.Endings.{OnlyCloses, Speaks, Concludes, WritesNone, HasMended}
+use Rattle.tool_parts.specs.Endings.{ClosesWith, OnlyCloses, Speaks, Concludes, WritesNone, HasMended}
 
 module _ {D : Type 0} {nor : NorOf D} where
   concludes_said : {old mid new : D} (text : List ℕ) (ending : Ending) (status : ℕ) → nor.tells mid → nor.faults old ≤ nor.faults mid → nor.said mid ≡ nor.said old ++ text → OnlyCloses nor mid new ending status → Concludes nor old new text ending status
@@ -98,7 +98,7 @@ module _ {D : Type 0} {nor : NorOf D} where
   }
 
   -- nor does a closing line
-  pub none_closed : {old mid new : D} {result : Ending} {status : ℕ} → WritesNone nor old mid → OnlyCloses nor mid new result status → WritesNone nor old new
+  pub none_closed : {old mid new : D} {line : List ℕ} {wanted status : ℕ} → WritesNone nor old mid → ClosesWith nor mid new line wanted status → WritesNone nor old new
   none_closed {old} {mid} {new} none closes = record {
     bytes = closes.says.bytes ∙ none.bytes;
     writes = closes.says.writes ∙ none.writes;
