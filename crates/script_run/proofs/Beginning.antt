@@ -37,6 +37,7 @@ use Rattle.tool_parts.specs.Begins.{Begun, IsTight, StopsRun, first_moment, clos
 use Rattle.tool_parts.specs.Refusals.{check_refusal, begin_refusal}
 use Rattle.script_run.specs.Settling.{SettlesTo, Settling}
 use Rattle.script_run.specs.Outcomes.{Went, WhyEnds, RunEnds, RunCut, ImagesEnd, Broke, RunsTo, Refused, EndsByImages}
+use Rattle.tool_parts.proofs.Begun.{begins_on}
 use Rattle.tool_parts.proofs.Mounted.{safe_check, holds_check}
 use Rattle.tool_parts.proofs.Refusals.{not_both, no_tight, tight_some, tight_none, safe_mends}
 use Rattle.script_run.proofs.Settling.{settles_of}

@@ -14,7 +14,7 @@ use Rattle.tool_parts.specs.Endings.{OnlyCloses}
 use Rattle.tool_parts.specs.Mounting.{IsMendable}
 use Rattle.tool_parts.specs.Reads.{ReadsOnce}
 use Rattle.tool_parts.specs.Refusals.{check_refusal}
-use Rattle.script_run.specs.Outcomes.{RunsTo, Refused, EndsByImages}
+use Rattle.script_run.specs.Outcomes.{RunsTo, Refused, EndsByImages, IsOfScript}
 use Rattle.script_run.specs.Running.{Outcome, first_of, DoesRun}
 use Rattle.script_run.proofs.Concluding.{outcome_of}
 use Rattle.script_run.proofs.Exact.{begins_as, complete_of, ran_whole}

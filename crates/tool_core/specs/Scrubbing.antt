@@ -13,14 +13,13 @@ use Rattle.call_model.specs.Safe.{IsSafe, Holds}
 use Rattle.wear_scrub.specs.declared.scrubs.Scrub.{Scrub}
 use Rattle.wear_scrub.specs.declared.scrubs.Scrub.TheVariants.{NoRoom, Rested, Moved}
 use Rattle.wear_scrub.specs.Scrubs.{ScrubDone}
-use Rattle.volume.specs.Checking.{SweepsAfter}
 use Rattle.tool_parts.specs.declared.ending.Ending.{Ending}
 use Rattle.tool_parts.specs.declared.ending.Ending.TheVariants.{Done, BoardFault}
 use Rattle.tool_core.specs.declared.scrubbing.Tally.{Tally}
 use Rattle.tool_parts.specs.Closing.{status_of, closing_line_of}
 use Rattle.tool_parts.specs.Endings.{Speaks, Concludes, WritesNone, HasMended}
 use Rattle.tool_parts.specs.Mounting.{IsMendable}
-use Rattle.tool_parts.specs.Begins.{closed_memory}
+use Rattle.tool_parts.specs.Begins.{CheckLeaves, closed_memory}
 use Rattle.tool_parts.specs.Reads.{ReadsOnce}
 use Rattle.tool_parts.specs.Refusals.{check_refusal, begin_refusal, unless_refused}
 
