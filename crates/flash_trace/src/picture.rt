@@ -1,0 +1,113 @@
+// An image, and what it means.
+ghost use Rattle.std.specs.Prelude.{◌≡◌, ◌↔◌, ◌<◌, ℕ, length, map, IfOk, IsTrue};
+ghost use Rattle.image_model.specs.Places.{IsImage, has_magic as the_magic};
+ghost use Rattle.image_plain.specs.Seen.{file as the_file};
+ghost use Rattle.flat_plain.specs.Seen.{file as the_plain};
+ghost use Rattle.flash_trace.specs.Events.{IsInside, image_after};
+ghost use Rattle.flash_trace.specs.Stands.{IsPicture};
+
+use crate::case::Case;
+use crate::changes::change_image;
+use crate::event::Event;
+use flat_plain::PlainFile;
+use geometry::Geometry;
+use image_plain::{Record, has_magic, is_same_live, is_sound, meaning_of};
+use std::alloc::{AllocError, Global};
+
+/// An image with its table, and whether it is sound with respect to the first one.
+#[derive(Drop)]
+pub(crate) struct Picture {
+    pub(crate) image: Vec<u8>,
+    // An image with the same live pages and magics, for which the rest was computed.
+    seen: Vec<u8>,
+    pub(crate) table: Vec<PlainFile>,
+    pub(crate) is_sound: bool,
+}
+
+// A file as the flat table has it, with memory of its own.
+fn plain_file(alloc: Global, file: &Record) -> Result<PlainFile, AllocError>
+    ensures { IfOk result (λ f. the_plain f ≡ the_file file.now) }
+{
+    Ok(PlainFile {
+        id: file.id,
+        name: file.name.as_slice().to_vec(alloc)?,
+        kind: file.kind,
+        meta: file.meta.as_slice().to_vec(alloc)?,
+        bytes: file.bytes.as_slice().to_vec(alloc)?,
+    })
+}
+
+// The files of a table as the flat table has them.
+fn plain_files(alloc: Global, files: &[Record]) -> Result<Vec<PlainFile>, AllocError>
+    ensures { IfOk result (λ plain. map the_plain plain.items ≡ map the_file files.now) }
+{
+    let mut plain = Vec::new(alloc);
+    for file in files.iter() {
+        plain.push(plain_file(alloc, file)?)?;
+    }
+    Ok(plain)
+}
+
+// Whether each block has its magic in both images, or in none.
+fn has_same_magics(g: &Geometry, a: &[u8], b: &[u8]) -> bool
+    requires a { IsImage g.now a.now }
+    requires b { IsImage g.now b.now }
+    ensures { IsTrue result ↔ ((block : ℕ) → block < g.now.blocks → the_magic g.now b.now block ≡ the_magic g.now a.now block) }
+{
+    for block in 0..g.blocks {
+        if has_magic(g, a, block) != has_magic(g, b, block) {
+            return false;
+        }
+    }
+    true
+}
+
+// The picture of an image.
+pub(crate) fn picture_of(
+    alloc: Global,
+    case: &Case<'_>,
+    image: Vec<u8>,
+) -> Result<Picture, AllocError>
+    requires { length image.items ≡ length case.now.first.now }
+    ensures picture { IfOk result (λ p. IsPicture case.now p) }
+    ensures image { IfOk result (λ p. p.image.items ≡ image.items) }
+{
+    let meaning = meaning_of(alloc, case.g, image.as_slice())?;
+    let table = plain_files(alloc, meaning.table.as_slice())?;
+    let is_sound = is_sound(
+        case.g,
+        image.as_slice(),
+        meaning.damaged.as_slice(),
+        case.first,
+        case.damaged,
+    );
+    let seen = image.as_slice().to_vec(alloc)?;
+    Ok(Picture {
+        image,
+        seen,
+        table,
+        is_sound,
+    })
+}
+
+// The picture after an event. What was computed is kept where the live pages and the magics are.
+pub(crate) fn picture_after(
+    alloc: Global,
+    case: &Case<'_>,
+    picture: Picture,
+    event: &Event,
+) -> Result<Picture, AllocError>
+    requires picture { IsPicture case.now picture }
+    requires inside { IsInside (length case.now.first.now) case.now.g.now.phys event.now }
+    ensures picture { IfOk result (λ p. IsPicture case.now p) }
+    ensures image { IfOk result (λ p. p.image.items ≡ image_after case.now.g.now.phys event.now picture.image.items) }
+{
+    let mut picture = picture;
+    change_image(alloc, picture.image.as_mut_slice(), event, case.g.phys)?;
+    if has_same_magics(case.g, picture.seen.as_slice(), picture.image.as_slice())
+        && is_same_live(case.g, picture.seen.as_slice(), picture.image.as_slice())
+    {
+        return Ok(picture);
+    }
+    picture_of(alloc, case, picture.image)
+}

@@ -1,0 +1,112 @@
+// Whether what stands is what a cut in the calls of a script may leave.
+ghost use Rattle.std.specs.Prelude.{◌≡◌, ◌↔◌, ◌<◌, ◌⊎◌, [], length, Some, IfOk, IsTrue};
+ghost use Rattle.image_model.specs.Places.{IsImage};
+ghost use Rattle.run_model.specs.Runs.{IsPart, LacksPage};
+ghost use Rattle.flash_trace.specs.declared.ways.Ahead.TheVariants.{End, Call as ACall};
+ghost use Rattle.flash_trace.specs.Places.{part_of};
+ghost use Rattle.flash_trace.specs.Stands.{IsPicture, MayLeave, StandsAhead, StandsTight};
+
+use crate::case::Case;
+use crate::picture::Picture;
+use crate::place::Place;
+use crate::ways::{Ahead, Way, Ways};
+use flat_plain::PlainFile;
+use geometry::Geometry;
+use image_collect::{are_had, chosen_block};
+use std::alloc::{AllocError, Global};
+
+// Whether these bytes are a front of a line, and not all of it.
+fn is_part(said: &[u8], line: &[u8]) -> bool
+    ensures { IsTrue result ↔ IsPart said.now line.now }
+{
+    said.len() < line.len() && line.starts_with(said)
+}
+
+// Whether no block that is worth cleaning can be cleaned, and no page is had for an index page.
+fn lacks_page(alloc: Global, g: &Geometry, image: &[u8]) -> Result<bool, AllocError>
+    requires { IsImage g.now image.now }
+    ensures { IfOk result (λ yes. IsTrue yes ↔ LacksPage g.now image.now) }
+{
+    if chosen_block(alloc, g, image)?.is_some() {
+        return Ok(false);
+    }
+    Ok(!are_had(g, image, 1, 0))
+}
+
+// Whether a part of the next reply was said as without two free blocks.
+fn stands_tight(
+    alloc: Global,
+    case: &Case<'_>,
+    picture: &Picture,
+    place: &Place,
+    plain: &Way,
+    tight: &Way,
+) -> Result<bool, AllocError>
+    requires { IsPicture case.now picture.now }
+    ensures { IfOk result (λ yes. IsTrue yes ↔ StandsTight case.now picture.now place.now plain.now (Some tight.now)) }
+{
+    let table = picture.table.as_slice();
+    if !is_part(place.part(), tight.line.as_slice())
+        || !place.moment.may_leave(plain.steps.as_slice(), table)
+        || !place.moment.may_leave(tight.steps.as_slice(), table)
+    {
+        return Ok(false);
+    }
+    lacks_page(alloc, case.g, picture.image.as_slice())
+}
+
+// Whether a part of the next reply was said, or nothing of it.
+fn stands_in(
+    alloc: Global,
+    case: &Case<'_>,
+    picture: &Picture,
+    place: &Place,
+    ways: &Ways,
+) -> Result<bool, AllocError>
+    requires { IsPicture case.now picture.now }
+    ensures { IfOk result (λ yes. IsTrue yes ↔ StandsAhead case.now picture.now place.now (ACall ways.now)) }
+{
+    let part = place.part();
+    if is_part(part, ways.plain.line.as_slice()) {
+        if place
+            .moment
+            .may_leave(ways.plain.steps.as_slice(), picture.table.as_slice())
+        {
+            return Ok(true);
+        }
+    }
+    if part.is_empty() {
+        return Ok(false);
+    }
+    match &ways.tight {
+        Some(tight) => stands_tight(alloc, case, picture, place, &ways.plain, tight),
+        None => Ok(false),
+    }
+}
+
+// Whether nothing was said behind the last reply, over a table that is settled or waits.
+fn stands_at_end(alloc: Global, picture: &Picture, place: &Place) -> bool
+    ensures { IsTrue result ↔ ((part_of place.now ≡ []) × MayLeave place.now picture.now []) }
+{
+    let none: Vec<Vec<PlainFile>> = Vec::new(alloc);
+    place.part().is_empty()
+        && place
+            .moment
+            .may_leave(none.as_slice(), picture.table.as_slice())
+}
+
+// Whether a cut in the calls may leave what stands.
+pub(crate) fn may_stand(
+    alloc: Global,
+    case: &Case<'_>,
+    picture: &Picture,
+    place: &Place,
+) -> Result<bool, AllocError>
+    requires { IsPicture case.now picture.now }
+    ensures { IfOk result (λ yes. IsTrue yes ↔ StandsAhead case.now picture.now place.now place.now.ahead) }
+{
+    match &place.ahead {
+        Ahead::Call(ways) => stands_in(alloc, case, picture, place, ways),
+        _ => Ok(stands_at_end(alloc, picture, place)),
+    }
+}
