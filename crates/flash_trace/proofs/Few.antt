@@ -1,5 +1,5 @@
 -- How many calls a script has.
-use Rattle.std.proofs.Common.{◌≡◌, ℕ, ◌+◌, ◌≤◌, List, [], ◌∷◌, ◌++◌, length, refl, ap, arith, Bool, true, false, cond, eqb, length-append}
+use Rattle.std.proofs.Common.{◌≡◌, ℕ, suc, ◌+◌, ◌≤◌, List, [], ◌∷◌, ◌++◌, length, refl, ap, arith, Bool, true, false, cond, eqb, length-append}
 use Rattle.geometry.specs.declared.geometry.Geometry.{Geometry}
 use Rattle.table_model.specs.Ask.{Ask}
 use Rattle.table_model.specs.Window.{Moment}
@@ -29,7 +29,7 @@ few_calls (l ∷ ls) = omega (arith, few_with (of_line l) (calls_of ls), few_cal
 
 length-asks : (done : List RunCall) → length (asks_of done) ≡ length done
 length-asks [] = refl
-length-asks (x ∷ done) = ap (λ (n : ℕ). n + 1) (length-asks done)
+length-asks (x ∷ done) = ap suc (length-asks done)
 
 -- no more replies were said than a script has bytes
 pub few_replies : (g : Geometry) (m : Moment) (script : List ℕ) (place : Place) → IsPlace g m script place → place.replies ≤ length script

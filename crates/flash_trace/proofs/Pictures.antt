@@ -11,6 +11,7 @@ use Rattle.image_laws.proofs.Frames.{table_of-same, damaged_of-same}
 use Rattle.image_laws.proofs.Sounding.{mixed-from}
 use Rattle.nor_core.specs.Flash.{erased}
 use Rattle.nor_memory.proofs.Ranges.{put_size}
+use Rattle.flat_plain.specs.Seen.{file}
 use Rattle.flash_trace.specs.declared.event.Event.{Event}
 use Rattle.flash_trace.specs.declared.event.Event.TheVariants.{Program, Erase, Say}
 use Rattle.flash_trace.specs.declared.case.Case.{Case}
@@ -23,7 +24,7 @@ erased_size was start n fits = omega (arith, length-append (take start was ++ re
 
 -- a unit below so many lies in the image
 unit_within : (unit_ix size unit : ℕ) → unit_ix < size / unit → unit_ix * unit + unit ≤ size
-unit_within unit_ix size unit low = omega (arith, mul-le-mul_right {unit_ix + 1} {size / unit} unit (omega arith), div-mul-le_self size unit, add-mul unit_ix 1 unit)
+unit_within unit_ix size unit low = omega (arith, mul-le-mul_right {m = unit_ix + 1} {n = size / unit} unit (omega arith), div-mul-le_self size unit, add-mul unit_ix 1 unit)
 
 -- An event that is inside leaves an image as long as before.
 pub after_size : (unit : ℕ) (e : Event) (image : List ℕ) → IsInside (length image) unit e → length (image_after unit e image) ≡ length image

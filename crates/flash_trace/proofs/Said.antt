@@ -1,5 +1,5 @@
 -- What was said before an event of a trace is a front of what was said in the end.
-use Rattle.std.proofs.Common.{◌≡◌, ℕ, List, [], ◌∷◌, ◌++◌, sym, ◌∙◌, ap, append_assoc, append-nil}
+use Rattle.std.proofs.Common.{◌≡◌, ℕ, List, [], ◌∷◌, ◌++◌, refl, sym, ◌∙◌, ap, append_assoc, append-nil}
 use Rattle.flash_trace.specs.declared.event.Event.{Event}
 use Rattle.flash_trace.specs.declared.event.Event.TheVariants.{Program, Erase, Say}
 use Rattle.flash_trace.specs.Events.{Standing, said_after, after_event, after_events, EachStands}

@@ -12,12 +12,12 @@ use Rattle.flash_trace.specs.Good.{IsBegun, mixed_text, tight_text, unbegun_text
 
 -- a test that tells a property
 pub told_by : (b : Bool) (P : Type 0) → (b ≡ true → P) → (b ≡ false → P → ⊥) → IsTrue b ↔ P
-told_by true P yes' no = (λ h. yes' refl, λ p. refl)
-told_by false P yes' no = (λ h. absurd (let bad : false ≡ true = h in cc), λ p. absurd (no refl p))
+told_by true P holds fails = (λ h. holds refl, λ p. refl)
+told_by false P holds fails = (λ h. absurd (let bad : false ≡ true = h in cc), λ p. absurd (fails refl p))
 
 -- one that says no where it doesn't hold
 pub told_no : (P : Type 0) → (P → ⊥) → IsTrue false ↔ P
-told_no P no = told_by false P (λ e. absurd (let bad : false ≡ true = e in cc)) (λ e p. no p)
+told_no P fails = told_by false P (λ e. absurd (let bad : false ≡ true = e in cc)) (λ e p. fails p)
 
 pub told_yes : (P : Type 0) → P → IsTrue true ↔ P
 told_yes P p = told_by true P (λ e. p) (λ e. absurd (let bad : true ≡ false = e in cc))
@@ -30,14 +30,14 @@ not_told b P is e p = absurd (let bad : false ≡ true = sym e ∙ is.1 p in cc)
 pub told_both : (b : Bool) (P Q : Type 0) → P → IsTrue b ↔ Q → IsTrue b ↔ (P × Q)
 told_both b P Q p is = (λ h. (p, is.0 h), λ w. is.1 w.1)
 
-module _ (said line : List ℕ) (b : Bool) (yes' : b ≡ true → line ≡ said ++ drop (length said) line) (no : b ≡ false → (more : List ℕ) → line ≡ said ++ more → ⊥) where
+module _ (said line : List ℕ) (b : Bool) (holds : b ≡ true → line ≡ said ++ drop (length said) line) (fails : b ≡ false → (more : List ℕ) → line ≡ said ++ more → ⊥) where
   -- a front of a longer line
   pub part_told : length said < length line → IsTrue b ↔ IsPart said line
-  part_told short = told_by b (IsPart said line) (λ h. record { rest = drop (length said) line; whole_is = yes' h; some = omega (arith, short, length-drop (length said) line) }) (λ h p. no h p.rest p.whole_is)
+  part_told short = told_by b (IsPart said line) (λ h. record { rest = drop (length said) line; whole_is = holds h; some = omega (arith, short, length-drop (length said) line) }) (λ h p. fails h p.rest p.whole_is)
 
   -- a front of at least one byte
   pub begun_told : 0 < length said → IsTrue b ↔ IsBegun said line
-  begun_told some = told_by b (IsBegun said line) (λ h. record { rest = drop (length said) line; line_is = yes' h; some = some }) (λ h p. no h p.rest p.line_is)
+  begun_told some = told_by b (IsBegun said line) (λ h. record { rest = drop (length said) line; line_is = holds h; some = some }) (λ h p. fails h p.rest p.line_is)
 
 -- no line is a part of one that isn't longer
 pub not_part : (said line : List ℕ) → length line ≤ length said → IsPart said line → ⊥

@@ -1,5 +1,5 @@
 -- The verdict on a trace, event by event.
-use Rattle.std.proofs.Common.{◌≡◌, ℕ, ◌+◌, List, [], ◌∷◌, length, refl, sym, ◌∙◌, ap, subst, ◌⊎◌, inl, inr, Option}
+use Rattle.std.proofs.Common.{◌≡◌, ℕ, ◌+◌, List, [], ◌∷◌, ◌++◌, length, refl, sym, ◌∙◌, ap, subst, ◌⊎◌, inl, inr, arith, Option}
 use Rattle.geometry.specs.declared.geometry.Geometry.{Geometry}
 use Rattle.table_model.specs.Ask.{Ask}
 use Rattle.table_model.specs.Window.{Moment}
@@ -26,9 +26,9 @@ use Rattle.flash_trace.proofs.Behind.{counts_behind, counts_end, counts_here}
 module _ (g : Geometry) (m : Moment) (asks rest : List Ask) (bad later : Option ℕ) (part : List ℕ) where
   -- no reply to what is ahead was said whole
   none_more : (a : Ahead) → IsAhead g m asks bad rest later a → IsQuiet part a → replies_in g m asks part ≡ 0
-  none_more End is quiet = ap (λ (l : List Ask). replies_in g m l part) is.0 ∙ counts_end g m part
-  none_more (Bad number) is quiet = ap (λ (l : List Ask). replies_in g m l part) is.0 ∙ counts_end g m part
-  none_more (Call ways) is quiet = ap (λ (l : List Ask). replies_in g m l part) is.1 ∙ counts_here g m is.0 rest part (unanswered g m is.0 ways part is.3 quiet)
+  none_more End is quiet = ap (λ (l : List Ask). replies_in g m l part) is.0 ∙ counts_end g [] m part
+  none_more (Bad number) is quiet = ap (λ (l : List Ask). replies_in g m l part) is.0 ∙ counts_end g [] m part
+  none_more (Call ways) is quiet = ap (λ (l : List Ask). replies_in g m l part) is.1 ∙ counts_here g [] m is.0 rest part (unanswered g m is.0 ways part is.3 quiet)
 
 -- the replies that were counted are those that were said whole
 pub counts_said : (case : Case) (place : Place) → IsSettled case place → replies_in case.g.now (begins case) (calls case.script.now) place.said.items ≡ place.replies
