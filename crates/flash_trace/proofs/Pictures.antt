@@ -1,5 +1,5 @@
 -- What an image means is kept where its live pages and magics are.
-use Rattle.std.proofs.Common.{◌≡◌, ◌↔◌, ℕ, ◌+◌, ◌*◌, ◌/◌, ◌<◌, ◌≤◌, List, ◌++◌, length, map, replicate, refl, sym, ◌∙◌, ap, subst, arith, length-append, length-drop, IsTrue}
+use Rattle.std.proofs.Common.{◌≡◌, ◌↔◌, ℕ, ◌+◌, ◌*◌, ◌/◌, ◌<◌, ◌≤◌, List, ◌++◌, length, map, take, drop, replicate, refl, sym, ◌∙◌, ap, subst, arith, length-append, length-drop, IsTrue}
 use Rattle.std.proofs.lemmas.List.{length-take, length-replicate}
 use Rattle.std.proofs.Math.Nat.{div-mul-le_self, mul-le-mul_right, add-mul}
 use Rattle.geometry.specs.declared.geometry.Geometry.{Geometry}
