@@ -1,6 +1,6 @@
 -- What the judge's tests of bytes tell.
-use Rattle.std.proofs.Common.{◌≡◌, ◌↔◌, ℕ, ◌+◌, ◌<◌, ◌≤◌, ◌&&◌, List, [], ◌++◌, length, drop, refl, sym, ◌∙◌, ap, arith, length-append, length-drop, Bool, true, false, IsTrue, Option, Some, None}
-use Rattle.std.specs.Prelude.{not, nat_lt, is_some, if◌then◌else◌}
+use Rattle.std.proofs.Common.{◌≡◌, ◌↔◌, ℕ, ◌+◌, ◌<◌, ◌≤◌, ◌&&◌, List, [], ◌++◌, length, drop, refl, sym, ◌∙◌, ap, subst, arith, length-append, length-drop, Bool, true, false, IsTrue, Option, Some, None, Result, Ok, Err}
+use Rattle.std.specs.Prelude.{not, nat_lt, is_some, if◌then◌else◌, IfOk}
 use Rattle.std.proofs.lemmas.Bool.{lt-ltb, le-ltb}
 use Rattle.geometry.specs.declared.geometry.Geometry.{Geometry}
 use Rattle.image_model.specs.Tidy.{free_blocks}
@@ -29,6 +29,18 @@ not_told b P is e p = absurd (let bad : false ≡ true = sym e ∙ is.1 p in cc)
 -- a first test that held and a second one
 pub told_both : (b : Bool) (P Q : Type 0) → P → IsTrue b ↔ Q → IsTrue b ↔ (P × Q)
 told_both b P Q p is = (λ h. (p, is.0 h), λ w. is.1 w.1)
+
+-- a test that may want memory
+pub ok_told : {E : Type 0} (r : Result Bool E) (P Q : Type 0) → (P → Q) → (Q → P) → IfOk r (λ b. IsTrue b ↔ P) → IfOk r (λ b. IsTrue b ↔ Q)
+ok_told (Ok b) P Q to from is = (λ h. to (is.0 h), λ q. is.1 (from q))
+ok_told (Err e) P Q to from is = tt
+
+-- a test of bytes that are the same
+pub part_at : (b : Bool) (x said y line : List ℕ) → x ≡ said → y ≡ line → IsTrue b ↔ IsPart x y → IsTrue b ↔ IsPart said line
+part_at b x said y line p q is = subst (λ (l : List ℕ). IsTrue b ↔ IsPart l line) p (subst (λ (l : List ℕ). IsTrue b ↔ IsPart x l) q is)
+
+pub begun_at : (b : Bool) (x said y line : List ℕ) → x ≡ said → y ≡ line → IsTrue b ↔ IsBegun x y → IsTrue b ↔ IsBegun said line
+begun_at b x said y line p q is = subst (λ (l : List ℕ). IsTrue b ↔ IsBegun l line) p (subst (λ (l : List ℕ). IsTrue b ↔ IsBegun x l) q is)
 
 module _ (said line : List ℕ) (b : Bool) (holds : b ≡ true → line ≡ said ++ drop (length said) line) (fails : b ≡ false → (more : List ℕ) → line ≡ said ++ more → ⊥) where
   -- a front of a longer line
