@@ -5,13 +5,13 @@ ghost use Rattle.image_model.specs.Places.{IsImage};
 ghost use Rattle.image_model.specs.Tidy.{free_blocks as the_free_blocks};
 ghost use Rattle.image_model.specs.Collect.{chosen_block as the_chosen};
 ghost use Rattle.flash_trace.specs.Good.{IsBegun, tight_text, unbegun_text};
-ghost use Rattle.flash_trace.specs.Stands.{BeginsNot, EndsAhead, IsPicture};
+ghost use Rattle.flash_trace.specs.Stands.{BeginsNot, EndsAhead, IsPicture, IsTable};
 
 use crate::case::Case;
 use crate::picture::Picture;
-use crate::place::Place;
+use crate::spot::Place;
 use crate::text::counted_line;
-use crate::ways::Ahead;
+use crate::ways::{Ahead, begins_with};
 use flat_plain::are_same;
 use geometry::Geometry;
 use image_collect::{chosen_block, parting};
@@ -56,7 +56,17 @@ fn unbegun_line(
 fn is_begun(part: &[u8], line: &[u8]) -> bool
     ensures { IsTrue result ↔ IsBegun part.now line.now }
 {
-    !part.is_empty() && line.starts_with(part)
+    if part.is_empty() {
+        return false;
+    }
+    begins_with(line, part)
+}
+
+// Whether the table is that after the calls that were answered.
+fn is_answered(picture: &Picture, place: &Place) -> bool
+    ensures { IsTrue result ↔ IsTable picture.now place.now }
+{
+    are_same(picture.table.as_slice(), place.moment.files())
 }
 
 // Whether the line was begun that ends a run before its first call, over the first table.
@@ -69,10 +79,10 @@ pub(crate) fn is_unbegun(
     requires { IsPicture case.now picture.now }
     ensures { IfOk result (λ yes. IsTrue yes ↔ BeginsNot case.now picture.now place.now) }
 {
-    if place.replies > 0
-        || place.part().is_empty()
-        || !are_same(picture.table.as_slice(), place.moment.files())
-    {
+    if place.replies > 0 {
+        return Ok(false);
+    }
+    if !is_answered(picture, place) {
         return Ok(false);
     }
     match unbegun_line(alloc, case.g, case.first, picture.image.as_slice())? {
@@ -92,9 +102,9 @@ pub(crate) fn ends_badly(
     let Ahead::Bad(number) = &place.ahead else {
         return Ok(false);
     };
+    if !is_answered(picture, place) {
+        return Ok(false);
+    }
     let line = counted_line(alloc, b"! bad line ", *number)?;
-    Ok(
-        is_begun(place.part(), line.as_slice())
-            && are_same(picture.table.as_slice(), place.moment.files()),
-    )
+    Ok(is_begun(place.part(), line.as_slice()))
 }

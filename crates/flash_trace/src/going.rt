@@ -9,7 +9,8 @@ use crate::case::Case;
 use crate::closing::{ends_badly, is_unbegun};
 use crate::event::Event;
 use crate::picture::{Picture, picture_after};
-use crate::place::{Place, hear};
+use crate::place::hear;
+use crate::spot::Place;
 use crate::stands::may_stand;
 use std::alloc::{AllocError, Global};
 

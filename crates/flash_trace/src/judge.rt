@@ -1,12 +1,11 @@
 // The judge of traces.
-ghost use Rattle.std.specs.Prelude.{◌≡◌, ℕ, ◌*◌, ◌≤◌, ◌<◌, ◌^◌, length, drop, IfOk};
-ghost use Rattle.call_script.specs.Lines.{calls};
-ghost use Rattle.trace_laws.specs.Counting.{replies_in};
+ghost use Rattle.std.specs.Prelude.{◌≡◌, ◌*◌, ◌≤◌, ◌<◌, ◌^◌, [], length, IfOk};
+ghost use Rattle.std.specs.Option.{IfSome, IfNone};
 ghost use Rattle.flash_trace.specs.declared.verdict.Verdict.TheVariants.{TooLarge};
 ghost use Rattle.flash_trace.specs.Events.{at_first};
-ghost use Rattle.flash_trace.specs.Good.{IsGood, IsLarge, first_moment};
-ghost use Rattle.flash_trace.specs.Verdicts.{IsVerdict};
-ghost use Rattle.flash_trace.specs.Judging.{IsGoing, IsVerdictFrom, standing_of};
+ghost use Rattle.flash_trace.specs.Good.{IsLarge};
+ghost use Rattle.flash_trace.specs.Verdicts.{IsTraceVerdict};
+ghost use Rattle.flash_trace.specs.Judging.{IsFault, IsGoing, IsRight, IsVerdictFrom, standing_of};
 
 use crate::case::Case;
 use crate::changes::{has_right_bits, is_inside};
@@ -40,7 +39,11 @@ fn fault_at(
     going: &Going,
     event: &Event,
     at: u64,
-) -> Result<Option<Verdict>, AllocError> {
+) -> Result<Option<Verdict>, AllocError>
+    requires { IsGoing case.now going.now }
+    ensures some { IfOk result (λ fault. IfSome fault (λ v. IsFault case.now at event.now (standing_of going.now) v)) }
+    ensures none { IfOk result (λ fault. IfNone fault (IsRight case.now event.now (standing_of going.now))) }
+{
     if !is_good(alloc, case, going)? {
         return Ok(Some(Verdict::BadCut { at }));
     }
@@ -59,7 +62,10 @@ fn last_verdict(
     case: &Case<'_>,
     going: &Going,
     at: u64,
-) -> Result<Verdict, AllocError> {
+) -> Result<Verdict, AllocError>
+    requires { IsGoing case.now going.now }
+    ensures { IfOk result (λ v. IsVerdictFrom case.now at [] (standing_of going.now) v) }
+{
     if is_good(alloc, case, going)? {
         Ok(Verdict::Legal {
             events: at,
@@ -93,7 +99,11 @@ fn judge_image(
     first: &[u8],
     script: &[u8],
     events: &[Event],
-) -> Result<Verdict, AllocError> {
+) -> Result<Verdict, AllocError>
+    requires image { length first.now ≡ g.now.blocks * g.now.block }
+    requires short { length script.now < 2 ^ 16 }
+    ensures { IfOk result (λ v. IsTraceVerdict g.now slots first.now script.now 0 events.now (at_first first.now) v) }
+{
     let damaged = damaged_of(alloc, g, first)?;
     let case = Case {
         g,
@@ -118,9 +128,7 @@ pub fn check_trace(
     requires image { length first.now ≡ g.now.blocks * g.now.block }
     requires slots { (1 ≤ slots) × (slots ≤ 65535) }
     ensures large { IsLarge first.now script.now → IfOk result (λ v. v ≡ TooLarge) }
-    ensures verdict { (IsLarge first.now script.now → ⊥) → IfOk result (λ v. IsVerdict
-        (IsGood g.now slots first.now script.now) (replies_in g.now (first_moment g.now slots first.now) (calls script.now))
-        (length first.now) g.now.phys 0 events.now (at_first first.now) v) }
+    ensures verdict { (IsLarge first.now script.now → ⊥) → IfOk result (λ v. IsTraceVerdict g.now slots first.now script.now 0 events.now (at_first first.now) v) }
 {
     if first.len() > 131_072 || script.len() > 16_384 {
         return Ok(Verdict::TooLarge);

@@ -1,15 +1,15 @@
 // Whether what stands is what a cut in the calls of a script may leave.
-ghost use Rattle.std.specs.Prelude.{◌≡◌, ◌↔◌, ◌<◌, ◌⊎◌, [], length, Some, IfOk, IsTrue};
+ghost use Rattle.std.specs.Prelude.{◌≡◌, ◌↔◌, ◌<◌, [], length, Some, IfOk, IsTrue};
 ghost use Rattle.image_model.specs.Places.{IsImage};
 ghost use Rattle.run_model.specs.Runs.{IsPart, LacksPage};
-ghost use Rattle.flash_trace.specs.declared.ways.Ahead.TheVariants.{End, Call as ACall};
+ghost use Rattle.flash_trace.specs.declared.ways.Ahead.TheVariants.{Call as ACall};
 ghost use Rattle.flash_trace.specs.Places.{part_of};
 ghost use Rattle.flash_trace.specs.Stands.{IsPicture, MayLeave, StandsAhead, StandsTight};
 
 use crate::case::Case;
 use crate::picture::Picture;
-use crate::place::Place;
-use crate::ways::{Ahead, Way, Ways};
+use crate::spot::Place;
+use crate::ways::{Ahead, Way, Ways, begins_with};
 use flat_plain::PlainFile;
 use geometry::Geometry;
 use image_collect::{are_had, chosen_block};
@@ -19,7 +19,29 @@ use std::alloc::{AllocError, Global};
 fn is_part(said: &[u8], line: &[u8]) -> bool
     ensures { IsTrue result ↔ IsPart said.now line.now }
 {
-    said.len() < line.len() && line.starts_with(said)
+    if said.len() >= line.len() {
+        return false;
+    }
+    begins_with(line, said)
+}
+
+// Whether the table is one from the last settled to the last step of a call, answered so.
+fn may_leave(picture: &Picture, place: &Place, way: &Way) -> bool
+    ensures { IsTrue result ↔ MayLeave place.now picture.now way.now.steps.items }
+{
+    place
+        .moment
+        .may_leave(way.steps.as_slice(), picture.table.as_slice())
+}
+
+// Whether the table is the last settled one, or a step that waits.
+fn may_wait(alloc: Global, picture: &Picture, place: &Place) -> bool
+    ensures { IsTrue result ↔ MayLeave place.now picture.now [] }
+{
+    let none: Vec<Vec<PlainFile>> = Vec::new(alloc);
+    place
+        .moment
+        .may_leave(none.as_slice(), picture.table.as_slice())
 }
 
 // Whether no block that is worth cleaning can be cleaned, and no page is had for an index page.
@@ -33,7 +55,17 @@ fn lacks_page(alloc: Global, g: &Geometry, image: &[u8]) -> Result<bool, AllocEr
     Ok(!are_had(g, image, 1, 0))
 }
 
-// Whether a part of the next reply was said as without two free blocks.
+// Whether a part of the reply was said that a call is given with two free blocks.
+fn stands_plain(picture: &Picture, place: &Place, plain: &Way) -> bool
+    ensures { IsTrue result ↔ (IsPart (part_of place.now) plain.now.line.items × MayLeave place.now picture.now plain.now.steps.items) }
+{
+    if !is_part(place.part(), plain.line.as_slice()) {
+        return false;
+    }
+    may_leave(picture, place, plain)
+}
+
+// Whether a part of the reply was said that a call is given in the corner.
 fn stands_tight(
     alloc: Global,
     case: &Case<'_>,
@@ -45,14 +77,33 @@ fn stands_tight(
     requires { IsPicture case.now picture.now }
     ensures { IfOk result (λ yes. IsTrue yes ↔ StandsTight case.now picture.now place.now plain.now (Some tight.now)) }
 {
-    let table = picture.table.as_slice();
-    if !is_part(place.part(), tight.line.as_slice())
-        || !place.moment.may_leave(plain.steps.as_slice(), table)
-        || !place.moment.may_leave(tight.steps.as_slice(), table)
-    {
+    if !stands_plain(picture, place, tight) {
+        return Ok(false);
+    }
+    if !may_leave(picture, place, plain) {
         return Ok(false);
     }
     lacks_page(alloc, case.g, picture.image.as_slice())
+}
+
+// Whether at least one byte of such a part was said.
+fn stands_in_corner(
+    alloc: Global,
+    case: &Case<'_>,
+    picture: &Picture,
+    place: &Place,
+    ways: &Ways,
+) -> Result<bool, AllocError>
+    requires { IsPicture case.now picture.now }
+    ensures { IfOk result (λ yes. IsTrue yes ↔ ((0 < length (part_of place.now)) × StandsTight case.now picture.now place.now ways.now.plain ways.now.tight)) }
+{
+    if place.part().is_empty() {
+        return Ok(false);
+    }
+    match &ways.tight {
+        Some(tight) => stands_tight(alloc, case, picture, place, &ways.plain, tight),
+        None => Ok(false),
+    }
 }
 
 // Whether a part of the next reply was said, or nothing of it.
@@ -66,33 +117,20 @@ fn stands_in(
     requires { IsPicture case.now picture.now }
     ensures { IfOk result (λ yes. IsTrue yes ↔ StandsAhead case.now picture.now place.now (ACall ways.now)) }
 {
-    let part = place.part();
-    if is_part(part, ways.plain.line.as_slice()) {
-        if place
-            .moment
-            .may_leave(ways.plain.steps.as_slice(), picture.table.as_slice())
-        {
-            return Ok(true);
-        }
+    if stands_plain(picture, place, &ways.plain) {
+        return Ok(true);
     }
-    if part.is_empty() {
-        return Ok(false);
-    }
-    match &ways.tight {
-        Some(tight) => stands_tight(alloc, case, picture, place, &ways.plain, tight),
-        None => Ok(false),
-    }
+    stands_in_corner(alloc, case, picture, place, ways)
 }
 
 // Whether nothing was said behind the last reply, over a table that is settled or waits.
 fn stands_at_end(alloc: Global, picture: &Picture, place: &Place) -> bool
     ensures { IsTrue result ↔ ((part_of place.now ≡ []) × MayLeave place.now picture.now []) }
 {
-    let none: Vec<Vec<PlainFile>> = Vec::new(alloc);
-    place.part().is_empty()
-        && place
-            .moment
-            .may_leave(none.as_slice(), picture.table.as_slice())
+    if !place.part().is_empty() {
+        return false;
+    }
+    may_wait(alloc, picture, place)
 }
 
 // Whether a cut in the calls may leave what stands.

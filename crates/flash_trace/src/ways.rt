@@ -117,7 +117,7 @@ pub(crate) fn both_ways(
 }
 
 // Whether bytes begin with a line.
-fn begins_with(said: &[u8], line: &[u8]) -> bool
+pub(crate) fn begins_with(said: &[u8], line: &[u8]) -> bool
     ensures yes { result ≡ true → said.now ≡ line.now ++ drop (length line.now) said.now }
     ensures no { result ≡ false → (more : List ℕ) → said.now ≡ line.now ++ more → ⊥ }
 {

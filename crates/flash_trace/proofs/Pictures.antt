@@ -1,0 +1,70 @@
+-- What an image means is kept where its live pages and magics are.
+use Rattle.std.proofs.Common.{◌≡◌, ◌↔◌, ℕ, ◌+◌, ◌*◌, ◌/◌, ◌<◌, ◌≤◌, List, ◌++◌, length, map, take, drop, replicate, refl, sym, ◌∙◌, ap, subst, arith, length-append, length-drop, IsTrue}
+use Rattle.std.proofs.lemmas.List.{length-take, length-replicate}
+use Rattle.std.proofs.Math.Nat.{div-mul-le_self, mul-le-mul_right, add-mul}
+use Rattle.geometry.specs.declared.geometry.Geometry.{Geometry}
+use Rattle.image_model.specs.Places.{has_magic}
+use Rattle.image_model.specs.Live.{live_at}
+use Rattle.image_model.specs.Tables.{table_of}
+use Rattle.image_model.specs.Sound.{IsSound}
+use Rattle.image_laws.proofs.Frames.{table_of-same, damaged_of-same}
+use Rattle.image_laws.proofs.Sounding.{mixed-from}
+use Rattle.nor_core.specs.Flash.{erased}
+use Rattle.nor_memory.proofs.Ranges.{put_size}
+use Rattle.flat_plain.specs.Seen.{file}
+use Rattle.flash_trace.specs.declared.event.Event.{Event}
+use Rattle.flash_trace.specs.declared.event.Event.TheVariants.{Program, Erase, Say}
+use Rattle.flash_trace.specs.declared.case.Case.{Case}
+use Rattle.flash_trace.specs.declared.picture.Picture.{Picture}
+use Rattle.flash_trace.specs.Events.{IsInside, image_after}
+use Rattle.flash_trace.specs.Stands.{IsPicture}
+
+erased_size : (was : List ℕ) (start n : ℕ) → start + n ≤ length was → length (erased was start n) ≡ length was
+erased_size was start n fits = omega (arith, length-append (take start was ++ replicate n 255) (drop (start + n) was), length-append (take start was) (replicate n 255), length-take start was, length-drop (start + n) was, length-replicate {A = ℕ} n 255)
+
+-- a unit below so many lies in the image
+unit_within : (unit_ix size unit : ℕ) → unit_ix < size / unit → unit_ix * unit + unit ≤ size
+unit_within unit_ix size unit low = omega (arith, mul-le-mul_right {m = unit_ix + 1} {n = size / unit} unit (omega arith), div-mul-le_self size unit, add-mul unit_ix 1 unit)
+
+-- An event that is inside leaves an image as long as before.
+pub after_size : (unit : ℕ) (e : Event) (image : List ℕ) → IsInside (length image) unit e → length (image_after unit e image) ≡ length image
+unfolding IsInside image_after
+after_size unit (Program at asked got) image inside = put_size image at got.bytes.items (omega (arith, inside.1, inside.2))
+after_size unit (Erase unit_ix) image inside = erased_size image (unit_ix * unit) unit (unit_within unit_ix (length image) unit inside)
+after_size unit (Say piece) image inside = refl
+
+-- the live pages are the same, and so are the magics
+pub record MeansSame (g : Geometry) (a b : List ℕ) : Type 0 where
+  pub live : (k : ℕ) → live_at g b k ≡ live_at g a k
+  pub magics : (block : ℕ) → block < g.blocks → has_magic g b block ≡ has_magic g a block
+
+-- So the one is sound where the other is.
+sound_kept : (g : Geometry) (a b first : List ℕ) → MeansSame g a b → IsSound g a first → IsSound g b first
+sound_kept g a b first same sound = record {
+  magics = record { one = λ c d low low' x y. sound.magics.one c d low low' (sym (same.magics c low) ∙ x) (sym (same.magics d low') ∙ y) };
+  mixed = λ block m. sound.mixed block (mixed-from g (live_at g a) (live_at g b) block (λ q x e. sym (same.live q) ∙ e) m);
+  damaged = λ id k. sound.damaged id (rw (damaged_of-same g b a same.live) at k);
+}
+
+turned : (g : Geometry) (a b : List ℕ) → MeansSame g a b → MeansSame g b a
+turned g a b same = record { live = λ k. sym (same.live k); magics = λ block low. sym (same.magics block low) }
+
+joined : (g : Geometry) (a b c : List ℕ) → MeansSame g a b → MeansSame g b c → MeansSame g a c
+joined g a b c x y = record { live = λ k. y.live k ∙ x.live k; magics = λ block low. y.magics block low ∙ x.magics block low }
+
+-- What was computed for an image is right for another one that means the same.
+pub picture_kept : (case : Case) (was now : Picture) → IsPicture case was → length now.image.items ≡ length case.first.now → now.seen ≡ was.seen → now.table ≡ was.table → now.is_sound ≡ was.is_sound → MeansSame case.g.now was.seen.items now.image.items → IsPicture case now
+picture_kept case was now p size seen_is table_is sound_is same =
+    let g : Geometry = case.g.now in
+    let here : MeansSame g was.image.items now.image.items = joined g was.image.items was.seen.items now.image.items (turned g was.seen.items was.image.items (record { live = p.live; magics = p.magics })) same in
+    record {
+      size = size;
+      seen_size = ap (λ v. length v.items) seen_is ∙ p.seen_size;
+      live = λ k. same.live k ∙ ap (λ v. live_at g v.items k) (sym seen_is);
+      magics = λ block low. same.magics block low ∙ ap (λ v. has_magic g v.items block) (sym seen_is);
+      table = ap (λ v. map file v.items) table_is ∙ p.table ∙ table_of-same g was.image.items now.image.items (λ k. sym (here.live k));
+      sound = (
+        λ yes'. sound_kept g was.image.items now.image.items case.first.now here (p.sound.0 (subst IsTrue sound_is yes')),
+        λ sound. subst IsTrue (sym sound_is) (p.sound.1 (sound_kept g now.image.items was.image.items case.first.now (turned g was.image.items now.image.items here) sound)),
+      );
+    }
