@@ -1,9 +1,10 @@
 -- What an image means is kept where its live pages and magics are.
-use Rattle.std.proofs.Common.{◌≡◌, ◌↔◌, ℕ, ◌+◌, ◌*◌, ◌/◌, ◌<◌, ◌≤◌, List, ◌++◌, length, map, take, drop, replicate, refl, sym, ◌∙◌, ap, subst, arith, length-append, length-drop, IsTrue}
+use Rattle.std.proofs.Common.{◌≡◌, ◌↔◌, ℕ, ◌+◌, ◌*◌, ◌/◌, ◌<◌, ◌≤◌, List, ◌++◌, length, map, take, drop, replicate, refl, sym, ◌∙◌, ap, subst, arith, length-append, length-drop, Bool, true, false, IsTrue}
+use Rattle.std.specs.Prelude.{not}
 use Rattle.std.proofs.lemmas.List.{length-take, length-replicate}
 use Rattle.std.proofs.Math.Nat.{div-mul-le_self, mul-le-mul_right, add-mul}
 use Rattle.geometry.specs.declared.geometry.Geometry.{Geometry}
-use Rattle.image_model.specs.Places.{has_magic}
+use Rattle.image_model.specs.Places.{IsImage}
 use Rattle.image_model.specs.Live.{live_at}
 use Rattle.image_model.specs.Tables.{table_of}
 use Rattle.image_model.specs.Sound.{IsSound}
@@ -17,7 +18,8 @@ use Rattle.flash_trace.specs.declared.event.Event.TheVariants.{Program, Erase, S
 use Rattle.flash_trace.specs.declared.case.Case.{Case}
 use Rattle.flash_trace.specs.declared.picture.Picture.{Picture}
 use Rattle.flash_trace.specs.Events.{IsInside, image_after}
-use Rattle.flash_trace.specs.Stands.{IsPicture}
+use Rattle.flash_trace.specs.Stands.{IsPicture, MeansSame}
+use Rattle.flash_trace.proofs.Testing.{told_no, told_yes}
 
 erased_size : (was : List ℕ) (start n : ℕ) → start + n ≤ length was → length (erased was start n) ≡ length was
 erased_size was start n fits = omega (arith, length-append (take start was ++ replicate n 255) (drop (start + n) was), length-append (take start was) (replicate n 255), length-take start was, length-drop (start + n) was, length-replicate {A = ℕ} n 255)
@@ -33,11 +35,6 @@ after_size unit (Program at asked got) image inside = put_size image at got.byte
 after_size unit (Erase unit_ix) image inside = erased_size image (unit_ix * unit) unit (unit_within unit_ix (length image) unit inside)
 after_size unit (Say piece) image inside = refl
 
--- the live pages are the same, and so are the magics
-pub record MeansSame (g : Geometry) (a b : List ℕ) : Type 0 where
-  pub live : (k : ℕ) → live_at g b k ≡ live_at g a k
-  pub magics : (block : ℕ) → block < g.blocks → has_magic g b block ≡ has_magic g a block
-
 -- So the one is sound where the other is.
 sound_kept : (g : Geometry) (a b first : List ℕ) → MeansSame g a b → IsSound g a first → IsSound g b first
 sound_kept g a b first same sound = record {
@@ -52,19 +49,33 @@ turned g a b same = record { live = λ k. sym (same.live k); magics = λ block l
 joined : (g : Geometry) (a b c : List ℕ) → MeansSame g a b → MeansSame g b c → MeansSame g a c
 joined g a b c x y = record { live = λ k. y.live k ∙ x.live k; magics = λ block low. y.magics block low ∙ x.magics block low }
 
+-- an image of a case
+pub is_image : (case : Case) (image : List ℕ) → length image ≡ length case.first.now → IsImage case.g.now image
+is_image case image size = record { len = omega (arith, size, case.image) }
+
+pub same_itself : (g : Geometry) (image : List ℕ) → MeansSame g image image
+same_itself g image = record { live = λ k. refl; magics = λ block low. refl }
+
 -- What was computed for an image is right for another one that means the same.
 pub picture_kept : (case : Case) (was now : Picture) → IsPicture case was → length now.image.items ≡ length case.first.now → now.seen ≡ was.seen → now.table ≡ was.table → now.is_sound ≡ was.is_sound → MeansSame case.g.now was.seen.items now.image.items → IsPicture case now
 picture_kept case was now p size seen_is table_is sound_is same =
     let g : Geometry = case.g.now in
-    let here : MeansSame g was.image.items now.image.items = joined g was.image.items was.seen.items now.image.items (turned g was.seen.items was.image.items (record { live = p.live; magics = p.magics })) same in
+    let here : MeansSame g was.image.items now.image.items = joined g was.image.items was.seen.items now.image.items (turned g was.seen.items was.image.items p.seen) same in
     record {
       size = size;
       seen_size = ap (λ v. length v.items) seen_is ∙ p.seen_size;
-      live = λ k. same.live k ∙ ap (λ v. live_at g v.items k) (sym seen_is);
-      magics = λ block low. same.magics block low ∙ ap (λ v. has_magic g v.items block) (sym seen_is);
+      seen = subst (λ v. MeansSame g v.items now.image.items) (sym seen_is) same;
       table = ap (λ v. map file v.items) table_is ∙ p.table ∙ table_of-same g was.image.items now.image.items (λ k. sym (here.live k));
       sound = (
-        λ yes'. sound_kept g was.image.items now.image.items case.first.now here (p.sound.0 (subst IsTrue sound_is yes')),
+        λ h. sound_kept g was.image.items now.image.items case.first.now here (p.sound.0 (subst IsTrue sound_is h)),
         λ sound. subst IsTrue (sym sound_is) (p.sound.1 (sound_kept g now.image.items was.image.items case.first.now (turned g was.image.items now.image.items here) sound)),
       );
     }
+
+-- a block has its magic in both images, or in none
+pub magic_yes : (x y a b : Bool) → x ≡ a → y ≡ b → x ≡ true → IsTrue y ↔ (b ≡ a)
+magic_yes x y a b xa yb t = (λ h. sym yb ∙ h ∙ sym t ∙ xa, λ e. yb ∙ e ∙ sym xa ∙ t)
+
+pub magic_no : (x y a b : Bool) → x ≡ a → y ≡ b → x ≡ false → IsTrue (not y) ↔ (b ≡ a)
+magic_no x true a b xa yb f = told_no (b ≡ a) (λ e. absurd (let bad : true ≡ false = yb ∙ e ∙ sym xa ∙ f in cc))
+magic_no x false a b xa yb f = told_yes (b ≡ a) (sym yb ∙ sym f ∙ xa)

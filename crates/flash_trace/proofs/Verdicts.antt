@@ -1,25 +1,39 @@
 -- The verdict on a trace, event by event.
-use Rattle.std.proofs.Common.{◌≡◌, ℕ, ◌+◌, List, [], ◌∷◌, ◌++◌, length, refl, sym, ◌∙◌, ap, subst, ◌⊎◌, inl, inr, arith, Option}
+use Rattle.std.proofs.Common.{◌≡◌, ◌↔◌, ℕ, suc, ◌+◌, ◌<◌, ◌≤◌, List, [], ◌∷◌, ◌++◌, length, get_or, map, drop, replicate, drop-cons, refl, sym, ◌∙◌, ap, subst, ◌⊎◌, inl, inr, ⊎_elim, arith, true, false, IsTrue, Option, None}
+use Rattle.std.specs.Prelude.{nat_lt}
+use Rattle.std.proofs.lemmas.Bool.{lt-ltb}
+use Rattle.std.proofs.lemmas.Bool.Decides.{nat_tests}
+use Rattle.std.proofs.lemmas.List.{drop_all}
+use Rattle.geometry.proofs.Bounds.{lookups_fit, magic_fits}
 use Rattle.geometry.specs.declared.geometry.Geometry.{Geometry}
 use Rattle.table_model.specs.Ask.{Ask}
-use Rattle.table_model.specs.Window.{Moment}
+use Rattle.table_model.specs.Table.{File}
+use Rattle.table_model.specs.Window.{Moment, settled_at}
+use Rattle.image_model.specs.Tables.{table_of}
 use Rattle.call_script.specs.Lines.{lines, calls, calls_of}
 use Rattle.run_model.specs.Runs.{asks_of, after_all, replies}
 use Rattle.trace_laws.specs.Counting.{replies_in}
 use Rattle.flat_plain.specs.Moments.{moment_of}
+use Rattle.flat_plain.specs.declared.file.PlainFile.{PlainFile}
+use Rattle.flat_plain.specs.Seen.{file}
 use Rattle.flash_trace.specs.declared.case.Case.{Case}
+use Rattle.flash_trace.specs.declared.event.Bytes.{Bytes}
 use Rattle.flash_trace.specs.declared.event.Event.{Event}
+use Rattle.flash_trace.specs.declared.event.Event.TheVariants.{Program, Erase, Say}
+use Rattle.flash_trace.specs.declared.picture.Picture.{Picture}
 use Rattle.flash_trace.specs.declared.spot.Place.{Place}
 use Rattle.flash_trace.specs.declared.ways.Ahead.{Ahead}
 use Rattle.flash_trace.specs.declared.ways.Ahead.TheVariants.{End, Bad, Call}
 use Rattle.flash_trace.specs.declared.verdict.Verdict.{Verdict}
 use Rattle.flash_trace.specs.declared.verdict.Verdict.TheVariants.{Legal, Outside, WrongBits, BadCut}
-use Rattle.flash_trace.specs.Events.{Standing, after_event, IsInside, HasRightBits}
-use Rattle.flash_trace.specs.Good.{IsGood, first_bad}
+use Rattle.flash_trace.specs.Events.{Standing, at_first, image_after, said_after, after_event, IsInside, HasRightBits}
+use Rattle.flash_trace.specs.Good.{IsGood, IsLarge, first_bad}
 use Rattle.flash_trace.specs.Verdicts.{IsVerdict}
 use Rattle.flash_trace.specs.Ways.{IsAhead, IsQuiet}
 use Rattle.flash_trace.specs.Places.{IsPlace, IsSettled, begins, part_of}
+use Rattle.flash_trace.specs.Stands.{IsPicture}
 use Rattle.flash_trace.specs.Judging.{IsVerdictFrom, IsFault, IsRight}
+use Rattle.flash_trace.proofs.Testing.{told_by}
 use Rattle.flash_trace.proofs.Places.{unanswered}
 use Rattle.flash_trace.proofs.Behind.{counts_behind, counts_end, counts_here}
 
@@ -77,3 +91,56 @@ module _ (case : Case) (i : ℕ) (s : Standing) where
   pub ends_well : (replies : ℕ) → Good → replies_in case.g.now (begins case) (calls case.script.now) s.said ≡ replies → IsVerdictFrom case i [] s (Legal i replies)
   unfolding IsVerdict
   ends_well replies good is = inr (good, ap (Legal i) (sym is))
+
+  module _ (events : List Event) where
+    -- the events from one of them on
+    from_here : (e : Event) → i < length events → e ≡ get_or events i e → drop i events ≡ e ∷ drop (i + 1) events
+    from_here e low is =
+        let next : suc i ≡ i + 1 = omega arith in
+        drop-cons events i e low ∙ ap (λ (x : Event). x ∷ drop (suc i) events) (sym is) ∙ ap (λ (n : ℕ). e ∷ drop n events) next
+
+    -- what is wrong with one of them is the verdict from there on
+    pub fault_here : (e : Event) (v : Verdict) → i < length events → e ≡ get_or events i e → IsFault case i e s v → IsVerdictFrom case i (drop i events) s v
+    fault_here e v low is fault = subst (λ (l : List Event). IsVerdictFrom case i l s v) (sym (from_here e low is)) (fault (drop (i + 1) events))
+
+    -- where it is right, that is the one from the next on
+    pub passed_here : (e : Event) (t : Standing) (v : Verdict) → i < length events → e ≡ get_or events i e → IsRight case e s → t ≡ after_event case.g.now.phys e s → IsVerdictFrom case (i + 1) (drop (i + 1) events) t v → IsVerdictFrom case i (drop i events) s v
+    passed_here e t v low is right stands on =
+        subst (λ (l : List Event). IsVerdictFrom case i l s v) (sym (from_here e low is))
+        (passes e (drop (i + 1) events) v right (subst (λ (b : Standing). IsVerdictFrom case (i + 1) (drop (i + 1) events) b v) stands on))
+
+    -- behind the last one
+    pub last_here : (n : ℕ) (v : Verdict) → i ≡ n → length events ≤ i → IsVerdictFrom case n [] s v → IsVerdictFrom case i (drop i events) s v
+    last_here n v same past on =
+        subst (λ (l : List Event). IsVerdictFrom case i l s v) (sym (drop_all i events past)) (subst (λ (k : ℕ). IsVerdictFrom case k [] s v) (sym same) on)
+
+-- ---- what stands after an event
+
+pub said_event : (unit : ℕ) (e : Event) (s : Standing) (piece : Bytes) (said : List ℕ) → e ≡ Say piece → said ≡ s.said ++ piece.bytes.items → record { image = s.image; said = said } ≡ after_event unit e s
+unfolding image_after said_after
+said_event unit e s piece said is more =
+    subst (λ (x : Event). record { image = s.image; said = said } ≡ after_event unit x s) (sym is) (ap (λ (l : List ℕ). record { image = s.image; said = l }) more)
+
+pub other_event : (unit : ℕ) (e : Event) (s : Standing) (image : List ℕ) → ((piece : Bytes) → e ≡ Say piece → ⊥) → image ≡ image_after unit e s.image → record { image = image; said = s.said } ≡ after_event unit e s
+unfolding said_after
+other_event unit (Program at asked got) s image not is = ap (λ (l : List ℕ). record { image = l; said = s.said }) is
+other_event unit (Erase unit_ix) s image not is = ap (λ (l : List ℕ). record { image = l; said = s.said }) is
+other_event unit (Say piece) s image not is = absurd (not piece refl)
+
+-- what stands before the first event
+pub stands_first : (image said first : List ℕ) → image ≡ first → said ≡ [] → record { image = image; said = said } ≡ at_first first
+stands_first image said first is none = ap (λ (l : List ℕ). record { image = l; said = said }) is ∙ ap (λ (l : List ℕ). record { image = first; said = l }) none
+
+pub begins_by : (case : Case) (p : Picture) (m : Moment) (table : List PlainFile) → IsPicture case p → p.image.items ≡ case.first.now → table ≡ p.table.items → m ≡ settled_at (record { table = map file table; slots = replicate case.slots None }) → m ≡ begins case
+begins_by case p m table picture image_is table_is is =
+    let same : map file table ≡ table_of case.g.now case.first.now = ap (map file) table_is ∙ picture.table ∙ ap (table_of case.g.now) image_is in
+    is ∙ ap (λ (t : List File). settled_at (record { table = t; slots = replicate case.slots None })) same
+
+pub some_phys : (g : Geometry) → 0 < g.phys
+some_phys g = omega (arith, lookups_fit g, magic_fits g)
+
+-- what is large
+pub large_told : (first script : List ℕ) → length first ≤ 131072 → IsTrue (nat_lt 16384 (length script)) ↔ IsLarge first script
+large_told first script low = told_by (nat_lt 16384 (length script)) (IsLarge first script)
+    (λ h. inr (grind (arith, nat_tests)))
+    (λ e large. ⊎_elim (λ (many : 131072 < length first). absurd (omega (arith, many, low))) (λ (long : 16384 < length script). absurd (let no : nat_lt 16384 (length script) ≡ true = lt-ltb 16384 (length script) long in let bad : true ≡ false = sym no ∙ e in cc)) large)

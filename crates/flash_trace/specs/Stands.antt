@@ -1,6 +1,7 @@
 -- What the judge tests between two events.
 use Rattle.std.specs.Prelude.{◌≡◌, ◌↔◌, ℕ, ◌<◌, ◌⊎◌, List, [], length, map, IsTrue, Option, Some, None, Vec}
 use Rattle.std.specs.declared.alloc.Global.{Global}
+use Rattle.geometry.specs.declared.geometry.Geometry.{Geometry}
 use Rattle.table_model.specs.Window.{from_settled, IsAmong}
 use Rattle.image_model.specs.Places.{has_magic}
 use Rattle.image_model.specs.Live.{live_at}
@@ -20,12 +21,16 @@ use Rattle.flash_trace.specs.declared.ways.Ahead.TheVariants.{End, Bad, Call}
 use Rattle.flash_trace.specs.Good.{IsBegun, bad_text, unbegun_text}
 use Rattle.flash_trace.specs.Places.{part_of}
 
+-- two images have the same live pages, and magics in the same blocks
+pub record MeansSame (g : Geometry) (a b : List ℕ) : Type 0 where
+  pub live : (k : ℕ) → live_at g b k ≡ live_at g a k
+  pub magics : (block : ℕ) → block < g.blocks → has_magic g b block ≡ has_magic g a block
+
 -- an image with its table, and whether it is sound with respect to the first one of a case
 pub record IsPicture (case : Case) (p : Picture) : Type 0 where
   pub size : length p.image.items ≡ length case.first.now
   pub seen_size : length p.seen.items ≡ length case.first.now
-  pub live : (k : ℕ) → live_at case.g.now p.image.items k ≡ live_at case.g.now p.seen.items k
-  pub magics : (block : ℕ) → block < case.g.now.blocks → has_magic case.g.now p.image.items block ≡ has_magic case.g.now p.seen.items block
+  pub seen : MeansSame case.g.now p.seen.items p.image.items
   pub table : map file p.table.items ≡ table_of case.g.now p.image.items
   pub sound : IsTrue p.is_sound ↔ IsSound case.g.now p.image.items case.first.now
 

@@ -24,14 +24,18 @@ fn tight_line(alloc: Global, g: &Geometry, image: &[u8]) -> Result<Option<Vec<u8
     ensures { IfOk result (λ line. option_map (λ l. l.items) line ≡ (if nat_lt (the_free_blocks g.now image.now) 2 && not (is_some (the_chosen g.now image.now)) then Some (tight_text (the_free_blocks g.now image.now)) else None)) }
 {
     let free = free_blocks(g, image);
-    if free >= 2 || chosen_block(alloc, g, image)?.is_some() {
+    if free >= 2 {
         return Ok(None);
     }
-    Ok(Some(counted_line(alloc, b"! free blocks ", free)?))
+    let chosen = chosen_block(alloc, g, image)?;
+    if chosen.is_some() {
+        return Ok(None);
+    }
+    let line = counted_line(alloc, b"! free blocks ", free)?;
+    Ok(Some(line))
 }
 
 // The line that ends a run before its first call, by its first image and the one now.
-#[tactic(auto, unfolding(crate::specs::Good::unbegun_text))]
 fn unbegun_line(
     alloc: Global,
     g: &Geometry,
@@ -42,12 +46,14 @@ fn unbegun_line(
     requires image { IsImage g.now image.now }
     ensures { IfOk result (λ line. option_map (λ l. l.items) line ≡ unbegun_text g.now first.now image.now) }
 {
-    if spoiled_blocks(g, first) > 1 {
+    let spoiled = spoiled_blocks(g, first);
+    if spoiled > 1 {
         return Ok(None);
     }
     let over = parting(alloc, g, first)?;
     if !over.fits {
-        return Ok(Some(counted_line(alloc, b"! mixed blocks ", over.shared)?));
+        let line = counted_line(alloc, b"! mixed blocks ", over.shared)?;
+        return Ok(Some(line));
     }
     tight_line(alloc, g, image)
 }

@@ -26,10 +26,12 @@ fn says(alloc: Global, case: &Case<'_>, going: &Going) -> Result<bool, AllocErro
     requires { IsPicture case.now going.now.picture }
     ensures { IfOk result (λ yes. IsTrue yes ↔ SaysHere case.now going.now.picture going.now.place) }
 {
-    if may_stand(alloc, case, &going.picture, &going.place)? {
+    let stands = may_stand(alloc, case, &going.picture, &going.place)?;
+    if stands {
         return Ok(true);
     }
-    if ends_badly(alloc, &going.picture, &going.place)? {
+    let ends = ends_badly(alloc, &going.picture, &going.place)?;
+    if ends {
         return Ok(true);
     }
     is_unbegun(alloc, case, &going.picture, &going.place)
@@ -40,7 +42,8 @@ pub(crate) fn is_good(alloc: Global, case: &Case<'_>, going: &Going) -> Result<b
     requires { IsGoing case.now going.now }
     ensures { IfOk result (λ yes. IsTrue yes ↔ IsGood case.now.g.now case.now.slots case.now.first.now case.now.script.now (standing_of going.now)) }
 {
-    if !going.picture.is_sound {
+    let sound = going.picture.is_sound;
+    if !sound {
         return Ok(false);
     }
     says(alloc, case, going)
@@ -60,13 +63,13 @@ pub(crate) fn go_on(
 {
     let Going { picture, place } = going;
     match event {
-        Event::Say { piece } => Ok(Going {
-            picture,
-            place: hear(alloc, case, place, piece.as_slice())?,
-        }),
-        _ => Ok(Going {
-            picture: picture_after(alloc, case, picture, event)?,
-            place,
-        }),
+        Event::Say { piece } => {
+            let place = hear(alloc, case, place, piece.as_slice())?;
+            Ok(Going { picture, place })
+        }
+        _ => {
+            let picture = picture_after(alloc, case, picture, event)?;
+            Ok(Going { picture, place })
+        }
     }
 }

@@ -1,5 +1,5 @@
 // The judge of traces.
-ghost use Rattle.std.specs.Prelude.{◌≡◌, ◌*◌, ◌≤◌, ◌<◌, ◌^◌, [], length, IfOk};
+ghost use Rattle.std.specs.Prelude.{◌≡◌, ◌↔◌, ◌*◌, ◌≤◌, ◌<◌, ◌^◌, [], length, IfOk, IsTrue};
 ghost use Rattle.std.specs.Option.{IfSome, IfNone};
 ghost use Rattle.flash_trace.specs.declared.verdict.Verdict.TheVariants.{TooLarge};
 ghost use Rattle.flash_trace.specs.Events.{at_first};
@@ -44,13 +44,15 @@ fn fault_at(
     ensures some { IfOk result (λ fault. IfSome fault (λ v. IsFault case.now at event.now (standing_of going.now) v)) }
     ensures none { IfOk result (λ fault. IfNone fault (IsRight case.now event.now (standing_of going.now))) }
 {
-    if !is_good(alloc, case, going)? {
+    let good = is_good(alloc, case, going)?;
+    if !good {
         return Ok(Some(Verdict::BadCut { at }));
     }
     if !is_inside(event, case.first.len(), case.g.phys) {
         return Ok(Some(Verdict::Outside { at }));
     }
-    if !has_right_bits(alloc, going.picture.image.as_slice(), event, case.g.phys)? {
+    let right = has_right_bits(alloc, going.picture.image.as_slice(), event, case.g.phys)?;
+    if !right {
         return Ok(Some(Verdict::WrongBits { at }));
     }
     Ok(None)
@@ -66,14 +68,14 @@ fn last_verdict(
     requires { IsGoing case.now going.now }
     ensures { IfOk result (λ v. IsVerdictFrom case.now at [] (standing_of going.now) v) }
 {
-    if is_good(alloc, case, going)? {
-        Ok(Verdict::Legal {
-            events: at,
-            replies: going.place.replies,
-        })
-    } else {
-        Ok(Verdict::BadCut { at })
+    let good = is_good(alloc, case, going)?;
+    if !good {
+        return Ok(Verdict::BadCut { at });
     }
+    Ok(Verdict::Legal {
+        events: at,
+        replies: going.place.replies,
+    })
 }
 
 // The verdict on a trace.
@@ -83,7 +85,8 @@ fn judge(alloc: Global, case: &Case<'_>, events: &[Event]) -> Result<Verdict, Al
     let mut going = begin(alloc, case)?;
     for i in 0..events.len() {
         let event = &events[i];
-        if let Some(verdict) = fault_at(alloc, case, &going, event, i as u64)? {
+        let fault = fault_at(alloc, case, &going, event, i as u64)?;
+        if let Some(verdict) = fault {
             return Ok(verdict);
         }
         going = go_on(alloc, case, going, event)?;
@@ -115,6 +118,16 @@ fn judge_image(
     judge(alloc, &case, events)
 }
 
+// Whether an image or a script is too large to be judged.
+fn is_large(first: &[u8], script: &[u8]) -> bool
+    ensures { IsTrue result ↔ IsLarge first.now script.now }
+{
+    if first.len() > 131_072 {
+        return true;
+    }
+    script.len() > 16_384
+}
+
 /// Judges a trace of a run of a script on a device that held an image at first, with `slots` descriptors, from 1 to 65,535. Wants memory for the
 /// image twice, for the tables of a call, for what was said, and for a copy of what a program changes.
 pub fn check_trace(
@@ -130,7 +143,7 @@ pub fn check_trace(
     ensures large { IsLarge first.now script.now → IfOk result (λ v. v ≡ TooLarge) }
     ensures verdict { (IsLarge first.now script.now → ⊥) → IfOk result (λ v. IsTraceVerdict g.now slots first.now script.now 0 events.now (at_first first.now) v) }
 {
-    if first.len() > 131_072 || script.len() > 16_384 {
+    if is_large(first, script) {
         return Ok(Verdict::TooLarge);
     }
     match judge_image(alloc, g, slots as u16, first, script, events) {

@@ -4,7 +4,7 @@ ghost use Rattle.image_model.specs.Places.{IsImage, has_magic as the_magic};
 ghost use Rattle.image_plain.specs.Seen.{file as the_file};
 ghost use Rattle.flat_plain.specs.Seen.{file as the_plain};
 ghost use Rattle.flash_trace.specs.Events.{IsInside, image_after};
-ghost use Rattle.flash_trace.specs.Stands.{IsPicture};
+ghost use Rattle.flash_trace.specs.Stands.{IsPicture, MeansSame};
 
 use crate::case::Case;
 use crate::changes::change_image;
@@ -42,10 +42,23 @@ fn plain_files(alloc: Global, files: &[Record]) -> Result<Vec<PlainFile>, AllocE
     ensures { IfOk result (λ plain. map the_plain plain.items ≡ map the_file files.now) }
 {
     let mut plain = Vec::new(alloc);
-    for file in files.iter() {
-        plain.push(plain_file(alloc, file)?)?;
+    for f in files.iter() {
+        plain.push(plain_file(alloc, f)?)?;
     }
     Ok(plain)
+}
+
+// Whether a block has its magic in both images, or in none.
+fn is_same_magic(g: &Geometry, a: &[u8], b: &[u8], block: u32) -> bool
+    requires a { IsImage g.now a.now }
+    requires b { IsImage g.now b.now }
+    requires block { block < g.now.blocks }
+    ensures { IsTrue result ↔ the_magic g.now b.now block ≡ the_magic g.now a.now block }
+{
+    if has_magic(g, a, block) {
+        return has_magic(g, b, block);
+    }
+    !has_magic(g, b, block)
 }
 
 // Whether each block has its magic in both images, or in none.
@@ -55,11 +68,23 @@ fn has_same_magics(g: &Geometry, a: &[u8], b: &[u8]) -> bool
     ensures { IsTrue result ↔ ((block : ℕ) → block < g.now.blocks → the_magic g.now b.now block ≡ the_magic g.now a.now block) }
 {
     for block in 0..g.blocks {
-        if has_magic(g, a, block) != has_magic(g, b, block) {
+        if !is_same_magic(g, a, b, block) {
             return false;
         }
     }
     true
+}
+
+// Whether two images have the same live pages, and magics in the same blocks.
+fn means_same(g: &Geometry, a: &[u8], b: &[u8]) -> bool
+    requires a { IsImage g.now a.now }
+    requires b { IsImage g.now b.now }
+    ensures { IsTrue result ↔ MeansSame g.now a.now b.now }
+{
+    if !has_same_magics(g, a, b) {
+        return false;
+    }
+    is_same_live(g, a, b)
 }
 
 // The picture of an image.
@@ -102,12 +127,21 @@ pub(crate) fn picture_after(
     ensures picture { IfOk result (λ p. IsPicture case.now p) }
     ensures image { IfOk result (λ p. p.image.items ≡ image_after case.now.g.now.phys event.now picture.image.items) }
 {
-    let mut picture = picture;
-    change_image(alloc, picture.image.as_mut_slice(), event, case.g.phys)?;
-    if has_same_magics(case.g, picture.seen.as_slice(), picture.image.as_slice())
-        && is_same_live(case.g, picture.seen.as_slice(), picture.image.as_slice())
-    {
-        return Ok(picture);
+    let Picture {
+        image,
+        seen,
+        table,
+        is_sound,
+    } = picture;
+    let mut image = image;
+    change_image(alloc, image.as_mut_slice(), event, case.g.phys)?;
+    if means_same(case.g, seen.as_slice(), image.as_slice()) {
+        return Ok(Picture {
+            image,
+            seen,
+            table,
+            is_sound,
+        });
     }
-    picture_of(alloc, case, picture.image)
+    picture_of(alloc, case, image)
 }

@@ -49,7 +49,8 @@ fn lacks_page(alloc: Global, g: &Geometry, image: &[u8]) -> Result<bool, AllocEr
     requires { IsImage g.now image.now }
     ensures { IfOk result (λ yes. IsTrue yes ↔ LacksPage g.now image.now) }
 {
-    if chosen_block(alloc, g, image)?.is_some() {
+    let chosen = chosen_block(alloc, g, image)?;
+    if chosen.is_some() {
         return Ok(false);
     }
     Ok(!are_had(g, image, 1, 0))
