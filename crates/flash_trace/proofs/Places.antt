@@ -1,7 +1,7 @@
 -- Places in a run of a script: behind a reply, and what may stand there.
-use Rattle.std.proofs.Common.{◌≡◌, ℕ, ◌+◌, ◌<◌, ◌≤◌, List, [], ◌∷◌, ◌++◌, length, drop, refl, sym, ◌∙◌, ap, subst, arith, append_assoc, append-nil, length-append, Bool, true, false, Option, Some, None, ◌⊎◌, inl, inr, ⊎_elim}
+use Rattle.std.proofs.Common.{◌≡◌, ℕ, ◌+◌, ◌-◌, ◌<◌, ◌≤◌, List, [], ◌∷◌, ◌++◌, length, drop, slice_range, refl, sym, ◌∙◌, ap, subst, arith, append_assoc, append-nil, length-append, Bool, true, false, Option, Some, None, ◌⊎◌, inl, inr, ⊎_elim}
 use Rattle.std.proofs.Math.Seq.{drop-append_seam}
-use Rattle.std.proofs.lemmas.List.{drop-drop, drop_all, drop-append-le}
+use Rattle.std.proofs.lemmas.List.{drop-drop, drop_all, drop-append-le, length-drop, take_all}
 use Rattle.geometry.specs.declared.geometry.Geometry.{Geometry}
 use Rattle.table_model.specs.Ask.{Ask}
 use Rattle.table_model.specs.Window.{Moment, after}
@@ -11,6 +11,7 @@ use Rattle.run_model.proofs.Runs.{said_some, plain_fair, fair-append, asks-appen
 use Rattle.trace_laws.specs.Standing.{call_of, line_of, IsUnanswered}
 use Rattle.flat_plain.specs.Moments.{moment_of, geometry_of}
 use Rattle.flat_plain.specs.declared.moment.PlainMoment.{PlainMoment}
+use Rattle.flash_trace.specs.declared.case.Case.{Case}
 use Rattle.flash_trace.specs.declared.spot.Place.{Place}
 use Rattle.flash_trace.specs.declared.ways.Way.{Way}
 use Rattle.flash_trace.specs.declared.ways.Ways.{Ways}
@@ -18,7 +19,7 @@ use Rattle.flash_trace.specs.declared.ways.Ahead.{Ahead}
 use Rattle.flash_trace.specs.declared.ways.Ahead.TheVariants.{End, Bad, Call}
 use Rattle.flash_trace.specs.Good.{first_bad}
 use Rattle.flash_trace.specs.Ways.{IsWay, IsTightWay, AreWays, IsAhead, IsOneOf, IsQuiet, NotBegun}
-use Rattle.flash_trace.specs.Places.{IsFound, IsPlace, part_of}
+use Rattle.flash_trace.specs.Places.{IsFound, IsPlace, IsSettled, begins, part_of}
 
 -- a way in which a call may be answered, as a run answers it
 pub record IsAnswer (g : Geometry) (m : Moment) (ask : Ask) (way : Way) : Type 0 where
@@ -87,6 +88,10 @@ place_on g m script was now ways way more p ahead_is one part_is moment_is said_
       };
     }
 
+-- the bytes from a place on
+pub range_end : (n : ℕ) (l : List ℕ) → slice_range l n (length l) ≡ drop n l
+range_end n l = take_all (length l - n) (drop n l) (omega (arith, length-drop n l))
+
 drop_none : (n : ℕ) (l : List ℕ) → l ≡ [] → drop n l ≡ []
 drop_none n l e = drop_all n l (omega (arith, ap length e))
 
@@ -139,6 +144,21 @@ place_said g m script was now piece p moment_is ahead_is at_is line_is replies_i
           (subst (λ (n : ℕ). IsFound g (moment_of was.moment) script p.asks (first_bad 1 (lines script)) was.ahead was.at n) (sym line_is) p.found)));
     }
 
+reply_by : (g : Geometry) (m : Moment) (asks rest : List Ask) (bad later : Option ℕ) (a : Ahead) (way : Way) → IsAhead g m asks bad rest later a → IsOneOf way a → (ask : Ask) × IsAnswer g m ask way
+reply_by g m asks rest bad later End way is one = absurd one
+reply_by g m asks rest bad later (Bad number) way is one = absurd one
+reply_by g m asks rest bad later (Call ways) way is one = (is.0, answer_of g m is.0 ways way is.3 one)
+
+-- what is heard at a place is an answer to its next call
+reply_at : (g : Geometry) (m : Moment) (script : List ℕ) (was : Place) (way : Way) → IsPlace g m script was → IsOneOf way was.ahead → (ask : Ask) × IsAnswer g (moment_of was.moment) ask way
+reply_at g m script was way p one = reply_by g (moment_of was.moment) p.asks (calls_of (lines (drop was.at script))) (first_bad 1 (lines script)) (first_bad was.line (lines (drop was.at script))) was.ahead way p.found.is one
+
+-- it isn't empty
+pub line_some : (g : Geometry) (m : Moment) (script : List ℕ) (was : Place) (way : Way) → IsPlace g m script was → IsOneOf way was.ahead → 0 < length way.line.items
+line_some g m script was way p one =
+    let r = reply_at g m script was way p one in
+    subst (λ (l : List ℕ). 0 < length l) (sym r.1.way_is.line) (said_some g (moment_of was.moment) (call_of r.0 r.1.spare))
+
 module _ (g : Geometry) (m : Moment) (script : List ℕ) (was now : Place) (way : Way) (more : List ℕ) (p : IsPlace g m script was) (part_is : part_of was ≡ way.line.items ++ more)
     (moment_is : now.moment ≡ way.next) (said_is : now.said.items ≡ was.said.items) (heard_is : now.heard ≡ was.heard + length way.line.items) (replies_is : now.replies ≡ was.replies + 1)
     (found : IsFound g (moment_of way.next) script (calls_of (lines (drop was.at script))) (first_bad was.line (lines (drop was.at script))) now.ahead now.at now.line) where
@@ -150,3 +170,24 @@ module _ (g : Geometry) (m : Moment) (script : List ℕ) (was now : Place) (way 
   -- behind a reply that was heard
   pub place_heard : IsOneOf way was.ahead → IsPlace g m script now
   place_heard one = heard_by was.ahead refl one
+
+-- and what is found behind it is that of the volume
+pub place_turned : (g : Geometry) (m : Moment) (script : List ℕ) (was now : Place) (way : Way) (more : List ℕ) → IsPlace g m script was → IsOneOf way was.ahead → part_of was ≡ way.line.items ++ more → now.moment ≡ way.next → now.said.items ≡ was.said.items → now.heard ≡ was.heard + length way.line.items
+    → now.replies ≡ was.replies + 1 → IsFound (geometry_of way.next) (moment_of way.next) script (calls_of (lines (drop was.at script))) (first_bad was.line (lines (drop was.at script))) now.ahead now.at now.line → IsPlace g m script now
+place_turned g m script was now way more p one part_is moment_is said_is heard_is replies_is found =
+    let r = reply_at g m script was way p one in
+    place_heard g m script was now way more p part_is moment_is said_is heard_is replies_is
+        (subst (λ (j : Geometry). IsFound j (moment_of way.next) script (calls_of (lines (drop was.at script))) (first_bad was.line (lines (drop was.at script))) now.ahead now.at now.line) r.1.way_is.geometry found) one
+
+-- Before the first call, with nothing said, no whole reply stands.
+pub settled_first : (case : Case) (now : Place) → moment_of now.moment ≡ begins case → geometry_of now.moment ≡ case.g.now → now.said.items ≡ [] → now.replies ≡ 0
+    → IsFound (geometry_of now.moment) (moment_of now.moment) case.script.now (calls_of (lines (drop 0 case.script.now))) (first_bad 1 (lines (drop 0 case.script.now))) now.ahead now.at now.line → IsSettled case now
+settled_first case now moment_is geometry_is none count found =
+    let script : List ℕ = case.script.now in
+    let here : IsFound case.g.now (moment_of now.moment) script (calls script) (first_bad 1 (lines script)) now.ahead now.at now.line =
+    subst (λ (j : Geometry). IsFound j (moment_of now.moment) script (calls script) (first_bad 1 (lines script)) now.ahead now.at now.line) geometry_is found in
+    record {
+      at = place_first case.g.now (begins case) script now moment_is geometry_is none count here;
+      quiet = subst (λ (l : List ℕ). IsQuiet l now.ahead) (sym (drop_none now.heard now.said.items none))
+          (quiet_none case.g.now (moment_of now.moment) (calls script) (calls_of (lines (drop now.at script))) (first_bad 1 (lines script)) (first_bad now.line (lines (drop now.at script))) now.ahead here.is);
+    }
