@@ -12,6 +12,8 @@ use Rattle.image_laws.proofs.Frames.{table_of-same, damaged_of-same}
 use Rattle.image_laws.proofs.Sounding.{mixed-from}
 use Rattle.nor_core.specs.Flash.{erased}
 use Rattle.nor_memory.proofs.Ranges.{put_size}
+use Rattle.image_plain.specs.declared.record.Record.{Record}
+use Rattle.image_plain.specs.Seen.{file as the_file}
 use Rattle.flat_plain.specs.Seen.{file}
 use Rattle.flash_trace.specs.declared.event.Event.{Event}
 use Rattle.flash_trace.specs.declared.event.Event.TheVariants.{Program, Erase, Say}
@@ -55,6 +57,17 @@ is_image case image size = record { len = omega (arith, size, case.image) }
 
 pub same_itself : (g : Geometry) (image : List ℕ) → MeansSame g image image
 same_itself g image = record { live = λ k. refl; magics = λ block low. refl }
+
+-- What was computed for an image is right.
+pub picture_made : (case : Case) (p : Picture) (records : List Record) (x y : List ℕ) → length p.image.items ≡ length case.first.now → x ≡ p.image.items → y ≡ p.image.items → p.seen.items ≡ p.image.items → map file p.table.items ≡ map the_file records → map the_file records ≡ table_of case.g.now x
+    → IsTrue p.is_sound ↔ IsSound case.g.now y case.first.now → IsPicture case p
+picture_made case p records x y size x_is y_is seen_is copied table sound = record {
+  size = size;
+  seen_size = ap length seen_is ∙ size;
+  seen = subst (λ (l : List ℕ). MeansSame case.g.now l p.image.items) (sym seen_is) (same_itself case.g.now p.image.items);
+  table = copied ∙ table ∙ ap (table_of case.g.now) x_is;
+  sound = subst (λ (l : List ℕ). IsTrue p.is_sound ↔ IsSound case.g.now l case.first.now) y_is sound;
+}
 
 -- What was computed for an image is right for another one that means the same.
 pub picture_kept : (case : Case) (was now : Picture) → IsPicture case was → length now.image.items ≡ length case.first.now → now.seen ≡ was.seen → now.table ≡ was.table → now.is_sound ≡ was.is_sound → MeansSame case.g.now was.seen.items now.image.items → IsPicture case now

@@ -106,7 +106,7 @@ pub(crate) fn picture_of(
         case.first,
         case.damaged,
     );
-    let seen = image.as_slice().to_vec(alloc)?;
+    let seen = Vec::from_slice(alloc, image.as_slice())?;
     Ok(Picture {
         image,
         seen,
