@@ -1,6 +1,7 @@
 -- What an image means is kept where its live pages and magics are.
 use Rattle.std.proofs.Common.{◌≡◌, ◌↔◌, ℕ, ◌+◌, ◌*◌, ◌/◌, ◌<◌, ◌≤◌, List, ◌++◌, length, map, take, drop, replicate, refl, sym, ◌∙◌, ap, subst, arith, length-append, length-drop, Bool, true, false, IsTrue}
-use Rattle.std.specs.Prelude.{not}
+use Rattle.std.specs.Prelude.{not, IfOk, Result, Ok, Err}
+use Rattle.std.specs.Vec.{with_items}
 use Rattle.std.proofs.lemmas.List.{length-take, length-replicate}
 use Rattle.std.proofs.Math.Nat.{div-mul-le_self, mul-le-mul_right, add-mul}
 use Rattle.geometry.specs.declared.geometry.Geometry.{Geometry}
@@ -11,7 +12,7 @@ use Rattle.image_model.specs.Sound.{IsSound}
 use Rattle.image_laws.proofs.Frames.{table_of-same, damaged_of-same}
 use Rattle.image_laws.proofs.Sounding.{mixed-from}
 use Rattle.nor_core.specs.Flash.{erased}
-use Rattle.nor_memory.proofs.Ranges.{put_size}
+use Rattle.nor_memory.proofs.Ranges.{put_size, written_back}
 use Rattle.image_plain.specs.declared.record.Record.{Record}
 use Rattle.image_plain.specs.Seen.{file as the_file}
 use Rattle.flat_plain.specs.Seen.{file}
@@ -84,6 +85,31 @@ picture_kept case was now p size seen_is table_is sound_is same =
         λ sound. subst IsTrue (sym sound_is) (p.sound.1 (sound_kept g now.image.items was.image.items case.first.now (turned g was.image.items now.image.items here) sound)),
       );
     }
+
+means_at : (g : Geometry) (x a y b : List ℕ) → x ≡ a → y ≡ b → MeansSame g x y → MeansSame g a b
+means_at g x a y b p q same = subst (λ (l : List ℕ). MeansSame g l b) p (subst (λ (l : List ℕ). MeansSame g x l) q same)
+
+-- the image of a picture was changed by an event
+module _ (case : Case) (was : Picture) (e : Event) (new old : List ℕ) (p : IsPicture case was) (inside : IsInside (length case.first.now) case.g.now.phys e)
+    (old_is : old ≡ was.image.items) (is : new ≡ image_after case.g.now.phys e old) where
+  inside_here : IsInside (length was.image.items) case.g.now.phys e
+  inside_here = subst (λ (n : ℕ). IsInside n case.g.now.phys e) (sym p.size) inside
+
+  pub changed : (with_items was.image new).items ≡ image_after case.g.now.phys e was.image.items
+  changed =
+      let new_is : new ≡ image_after case.g.now.phys e was.image.items = is ∙ ap (image_after case.g.now.phys e) old_is in
+      written_back was.image.items new was.image.len was.image.ok.0 (ap length new_is ∙ after_size case.g.now.phys e was.image.items inside_here) ∙ new_is
+
+  changed_size : length (with_items was.image new).items ≡ length case.first.now
+  changed_size = ap length changed ∙ after_size case.g.now.phys e was.image.items inside_here ∙ p.size
+
+  pub changed_picture : (x y : List ℕ) → x ≡ was.seen.items → y ≡ (with_items was.image new).items → MeansSame case.g.now x y
+      → IsPicture case (record { image = with_items was.image new; seen = was.seen; table = was.table; is_sound = was.is_sound })
+  changed_picture x y x_is y_is same = picture_kept case was _ p changed_size refl refl refl (means_at case.g.now x was.seen.items y (with_items was.image new).items x_is y_is same)
+
+  pub changed_image : {E : Type 0} (r : Result Picture E) → IfOk r (λ q. q.image.items ≡ (with_items was.image new).items) → IfOk r (λ q. q.image.items ≡ image_after case.g.now.phys e was.image.items)
+  changed_image (Ok q) same = same ∙ changed
+  changed_image (Err x) same = tt
 
 -- a block has its magic in both images, or in none
 pub magic_yes : (x y a b : Bool) → x ≡ a → y ≡ b → x ≡ true → IsTrue y ↔ (b ≡ a)

@@ -1,4 +1,4 @@
-use Rattle.std.proofs.Common.{◌↔◌, IsTrue, subst}
+use Rattle.std.proofs.Common.{ℕ, List, sym, subst}
 use Rattle.flash_trace.specs.Events.{HasRightBits}
 use Rattle.flash_trace.specs.Judging.{standing_of}
 use Rattle.flash_trace.proofs.Testing.{not_told}
@@ -13,5 +13,5 @@ returns-then-not-is_inside-clause-some c = outside c.args.case.now c.args.at (st
 
 pub returns-then-not-right-clause-some : goal.returns-then-not-right-clause-some
 returns-then-not-right-clause-some c =
-    let bits : IsTrue c.in_ok-right.right ↔ HasRightBits c.args.event.now c.args.going.now.picture.image.items = subst (λ l. IsTrue c.in_ok-right.right ↔ HasRightBits c.args.event.now l) c.as_slice.ensures.value c.in_ok-right.ensures in
-    wrong_bits c.args.case.now c.args.at (standing_of c.args.going.now) c.args.event.now (c.in_ok-good.ensures.0 c.if-not-good.false) (c.is_inside.ensures.0 c.if-not-is_inside.false) (not_told _ _ bits c.if-not-right.true)
+    wrong_bits c.args.case.now c.args.at (standing_of c.args.going.now) c.args.event.now (c.in_ok-good.ensures.0 c.if-not-good.false) (c.is_inside.ensures.0 c.if-not-is_inside.false)
+    (λ bits. not_told _ _ c.in_ok-right.ensures c.if-not-right.true (subst (λ (l : List ℕ). HasRightBits c.args.event.now l) (sym c.as_slice.ensures.value) bits))

@@ -1,6 +1,6 @@
 use Rattle.flash_trace.specs.Judging.{standing_of}
 use Rattle.flash_trace.proofs.Testing.{not_told}
-use Rattle.flash_trace.proofs.Verdicts.{ends_badly, ends_well, counts_said}
+use Rattle.flash_trace.proofs.Verdicts.{counts_said, ends_badly, ends_well}
 use Rattle.flash_trace.proofs.judge.last_verdict.Goals as goal
 
 pub returns-then-not-good : goal.returns-then-not-good
