@@ -177,7 +177,7 @@ pub place_turned : (g : Geometry) (m : Moment) (script : List ℕ) (was now : Pl
 place_turned g m script was now way more p one part_is moment_is said_is heard_is replies_is found =
     let r = reply_at g m script was way p one in
     place_heard g m script was now way more p part_is moment_is said_is heard_is replies_is
-        (subst (λ (j : Geometry). IsFound j (moment_of way.next) script (calls_of (lines (drop was.at script))) (first_bad was.line (lines (drop was.at script))) now.ahead now.at now.line) r.1.way_is.geometry found) one
+    (subst (λ (j : Geometry). IsFound j (moment_of way.next) script (calls_of (lines (drop was.at script))) (first_bad was.line (lines (drop was.at script))) now.ahead now.at now.line) r.1.way_is.geometry found) one
 
 -- Before the first call, with nothing said, no whole reply stands.
 pub settled_first : (case : Case) (now : Place) → moment_of now.moment ≡ begins case → geometry_of now.moment ≡ case.g.now → now.said.items ≡ [] → now.replies ≡ 0

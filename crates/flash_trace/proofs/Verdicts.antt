@@ -52,11 +52,11 @@ counts_said case place settled =
     let at : IsPlace g m0 case.script.now place = settled.at in
     let part : List ℕ = part_of place in
     ap (λ (l : List Ask). replies_in g m0 l place.said.items) at.asks_are
-        ∙ ap (replies_in g m0 (asks_of at.done ++ at.asks)) at.said_is
-        ∙ counts_behind g [] m0 at.done at.asks part at.fair
-        ∙ ap (λ (j : Moment). length at.done + replies_in g j at.asks part) (sym at.moment_is)
-        ∙ ap (λ (n : ℕ). length at.done + n) (none_more g (moment_of place.moment) at.asks _ _ _ part place.ahead at.found.is settled.quiet)
-        ∙ omega (arith, at.count)
+    ∙ ap (replies_in g m0 (asks_of at.done ++ at.asks)) at.said_is
+    ∙ counts_behind g [] m0 at.done at.asks part at.fair
+    ∙ ap (λ (j : Moment). length at.done + replies_in g j at.asks part) (sym at.moment_is)
+    ∙ ap (λ (n : ℕ). length at.done + n) (none_more g (moment_of place.moment) at.asks _ _ _ part place.ahead at.found.is settled.quiet)
+    ∙ omega (arith, at.count)
 
 module _ (case : Case) (i : ℕ) (s : Standing) where
   abbrev Good : Type 0

@@ -10,6 +10,6 @@ returns c =
     let case = c.args.case.now in
     let going = c.args.going.now in
     ok_told _ _ _
-        (λ s. record { sound = c.requires.picture.sound.0 c.if-not-sound.false; says = says_here case going.picture going.place c.requires.picture c.requires.place s })
-        (λ good. here_says case going.picture going.place c.requires.picture c.requires.place good.says)
-        c.says.ensures
+    (λ s. record { sound = c.requires.picture.sound.0 c.if-not-sound.false; says = says_here case going.picture going.place c.requires.picture c.requires.place s })
+    (λ good. here_says case going.picture going.place c.requires.picture c.requires.place good.says)
+    c.says.ensures

@@ -19,9 +19,11 @@ returns-in-Some c =
 
 pub loop-i-preserved : goal.loop-i-preserved
 loop-i-preserved c =
-    let none : c.in_ok-fault.fault ≡ None = none_by c.in_ok-fault.fault c.in_default.not-Some in
-    (c.in_ok-going-2.ensures.going, λ v on. c.loop-i.invariant.1 v
-        (passed_here c.args.case.now c.loop-i.i (standing_of c.loop-i.going) c.args.events.now _ _ v c.loop-i-test.true c.index-events-i.is (rw none at c.in_ok-fault.ensures.none) c.in_ok-going-2.ensures.stands on))
+    let none : c.in_ok-fault.fault ≡ None = none_by c.in_ok-fault.fault c.in_default.not-Some in (
+      c.in_ok-going-2.ensures.going,
+      λ v on. c.loop-i.invariant.1 v
+          (passed_here c.args.case.now c.loop-i.i (standing_of c.loop-i.going) c.args.events.now _ _ v c.loop-i-test.true c.index-events-i.is (rw none at c.in_ok-fault.ensures.none) c.in_ok-going-2.ensures.stands on),
+    )
 
 pub returns : goal.returns
 returns c = ok_on _ _ _ (λ v on. c.loop-i.invariant.1 v (last_here c.args.case.now c.loop-i.i (standing_of c.loop-i.going) c.args.events.now _ v (omega arith) (omega arith) on)) c.last_verdict.ensures
