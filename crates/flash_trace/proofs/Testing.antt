@@ -31,6 +31,15 @@ told_yes P p = told_by true P (λ e. p) (λ e. absurd (let bad : true ≡ false 
 pub not_told : (b : Bool) (P : Type 0) → IsTrue b ↔ P → b ≡ false → P → ⊥
 not_told b P is e p = absurd (let bad : false ≡ true = sym e ∙ is.1 p in cc)
 
+-- what a test tells that is turned round
+pub not_true : (b : Bool) → not b ≡ true → b ≡ false
+not_true true e = absurd (let bad : false ≡ true = e in cc)
+not_true false e = refl
+
+pub not_false : (b : Bool) → not b ≡ false → b ≡ true
+not_false true e = refl
+not_false false e = absurd (let bad : true ≡ false = e in cc)
+
 -- a first test that held and a second one
 pub told_both : (b : Bool) (P Q : Type 0) → P → IsTrue b ↔ Q → IsTrue b ↔ (P × Q)
 told_both b P Q p is = (λ h. (p, is.0 h), λ w. is.1 w.1)
