@@ -1,5 +1,5 @@
 -- What may stand behind some calls that were answered.
-use Rattle.std.proofs.Common.{◌≡◌, ℕ, ◌+◌, ◌<◌, ◌&&◌, List, [], ◌∷◌, ◌++◌, length, refl, sym, ◌∙◌, ap, subst, arith, append_assoc, Bool, true, false, Option, Some, None, ◌⊎◌, inl, inr, ⊎_elim}
+use Rattle.std.proofs.Common.{◌≡◌, ℕ, ◌+◌, ◌&&◌, List, [], ◌∷◌, ◌++◌, length, refl, sym, ◌∙◌, ap, subst, arith, append_assoc, true, false, Option, Some, ◌⊎◌, inl, inr, ⊎_elim}
 use Rattle.std.specs.Prelude.{not, nat_lt, is_some}
 use Rattle.std.proofs.lemmas.Bool.{cases_Bool, false_from_ne_true, and_parts}
 use Rattle.geometry.specs.declared.geometry.Geometry.{Geometry}
@@ -8,14 +8,14 @@ use Rattle.table_model.specs.Flat.{answer}
 use Rattle.table_model.specs.Reply.{Answer, Fine, Tells, Gives, Shows, Ends, Counts, Refuses}
 use Rattle.table_model.specs.declared.error.FsErr.{FsErr}
 use Rattle.table_model.specs.declared.error.FsErr.TheVariants.{Failed, BadName, NameTooLong, BadFlags, BadDescriptor, OutOfDescriptors, NotFound, FileExists, ConflictingName, NotReadable, NotWritable, SeekBounds, Tight, Full, DeviceFault, Damaged}
-use Rattle.table_model.specs.Window.{Moment, after}
+use Rattle.table_model.specs.Window.{Moment}
 use Rattle.call_script.specs.Replies.{told, text}
 use Rattle.image_model.specs.Tidy.{free_blocks}
 use Rattle.image_model.specs.Kinds.{spoiled_blocks}
 use Rattle.image_model.specs.Shared.{fits_over, shared_blocks}
 use Rattle.image_model.specs.Collect.{chosen_block}
 use Rattle.run_model.specs.Runs.{RunCall, AreFair, next, asks_of, after_all, said_of, replies}
-use Rattle.trace_laws.specs.Standing.{MayStand, call_of, line_of, IsUnanswered}
+use Rattle.trace_laws.specs.Standing.{MayStand, IsUnanswered}
 use Rattle.trace_laws.specs.Counting.{is_corner, begins_so, replies_in}
 use Rattle.trace_laws.proofs.Fronts.{Heads, more_heads, heads_one, front_heads}
 use Rattle.trace_laws.proofs.Standing.{stands_on, stands_off, fair_first}

@@ -1,9 +1,9 @@
 -- How many calls a script has.
-use Rattle.std.proofs.Common.{◌≡◌, ℕ, suc, ◌+◌, ◌≤◌, List, [], ◌∷◌, ◌++◌, length, refl, ap, arith, Bool, true, false, cond, eqb, length-append}
+use Rattle.std.proofs.Common.{◌≡◌, ℕ, suc, ◌+◌, ◌≤◌, List, [], ◌∷◌, length, refl, ap, arith, true, false, cond, eqb, length-append}
 use Rattle.geometry.specs.declared.geometry.Geometry.{Geometry}
 use Rattle.table_model.specs.Ask.{Ask}
 use Rattle.table_model.specs.Window.{Moment}
-use Rattle.call_script.specs.Lines.{Parsed, NoCall, Asks, Bad, lines, onto, of_line, calls, calls_of, with_line}
+use Rattle.call_script.specs.Lines.{Parsed, NoCall, Asks, Bad, lines, onto, of_line, calls_of, with_line}
 use Rattle.run_model.specs.Runs.{RunCall, asks_of}
 use Rattle.flash_trace.specs.declared.spot.Place.{Place}
 use Rattle.flash_trace.specs.Places.{IsPlace}

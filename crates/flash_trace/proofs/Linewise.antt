@@ -1,10 +1,9 @@
 -- The lines of a script from a place in it on.
-use Rattle.std.proofs.Common.{◌≡◌, ℕ, suc, ◌+◌, ◌-◌, ◌<◌, ◌≤◌, List, [], ◌∷◌, ◌++◌, length, get_or, take, drop, refl, sym, ◌∙◌, ap, arith, Option, take-append-drop, drop-cons}
-use Rattle.std.proofs.lemmas.List.{drop-drop, length-take, take_all, drop_all}
+use Rattle.std.proofs.Common.{◌≡◌, ℕ, suc, ◌+◌, ◌-◌, ◌<◌, ◌≤◌, List, [], ◌∷◌, ◌++◌, length, get_or, take, drop, refl, sym, ◌∙◌, ap, arith, take-append-drop, drop-cons}
+use Rattle.std.proofs.lemmas.List.{drop-drop, take_all, drop_all}
 use Rattle.std.proofs.lemmas.Grind.{common_steps}
 use Rattle.call_script.specs.Lines.{NoBreak, NoCall, lines, of_line, calls_of}
 use Rattle.call_script.proofs.Breaks.{line_first, line_last}
-use Rattle.table_model.specs.Ask.{Ask}
 use Rattle.flash_trace.specs.Good.{first_bad}
 use Rattle.flash_trace.specs.Lines.{IsLine, Skips}
 

@@ -1,15 +1,15 @@
 -- The judge's tests decide what may stand.
-use Rattle.std.proofs.Common.{◌≡◌, ◌↔◌, ℕ, ◌+◌, ◌<◌, List, [], ◌∷◌, ◌++◌, length, map, refl, sym, ◌∙◌, ap, subst, arith, Bool, true, false, Option, Some, None, ◌⊎◌, inl, inr, ⊎_elim}
+use Rattle.std.proofs.Common.{◌≡◌, ℕ, ◌+◌, ◌<◌, List, [], ◌∷◌, ◌++◌, length, map, refl, sym, ◌∙◌, ap, subst, arith, Bool, true, false, Option, Some, None, ◌⊎◌, inl, inr, ⊎_elim}
 use Rattle.geometry.specs.declared.geometry.Geometry.{Geometry}
 use Rattle.table_model.specs.Table.{File}
 use Rattle.table_model.specs.Ask.{Ask}
 use Rattle.table_model.specs.Steps.{steps}
 use Rattle.table_model.specs.Window.{Moment, from_settled, IsAmong}
-use Rattle.call_script.specs.Lines.{lines, calls, calls_of}
+use Rattle.call_script.specs.Lines.{lines, calls}
 use Rattle.image_model.specs.Tables.{table_of}
-use Rattle.run_model.specs.Runs.{RunCall, IsCorner, IsFair, AreFair, asks_of, after_all, replies, IsPart, IsInCall, LacksPage}
+use Rattle.run_model.specs.Runs.{RunCall, IsFair, asks_of, after_all, replies, IsPart, IsInCall}
 use Rattle.run_model.proofs.Runs.{plain_fair, said_some}
-use Rattle.trace_laws.specs.Standing.{MayStand, IsInFirst, call_of, line_of, IsUnanswered}
+use Rattle.trace_laws.specs.Standing.{MayStand, IsInFirst, call_of}
 use Rattle.trace_laws.proofs.Standing.{in_first, before_first_only, part_of_first, stands_end, none_stands}
 use Rattle.flat_plain.specs.Seen.{file, files_of}
 use Rattle.flat_plain.specs.Moments.{moment_of}
@@ -20,12 +20,11 @@ use Rattle.flash_trace.specs.declared.ways.Way.{Way}
 use Rattle.flash_trace.specs.declared.ways.Ways.{Ways}
 use Rattle.flash_trace.specs.declared.ways.Ahead.{Ahead}
 use Rattle.flash_trace.specs.declared.ways.Ahead.TheVariants.{End, Bad, Call}
-use Rattle.flash_trace.specs.Events.{Standing}
-use Rattle.flash_trace.specs.Good.{EndsBadly, Unbegun, Says, IsBegun, bad_text, first_bad, unbegun_text}
-use Rattle.flash_trace.specs.Ways.{IsWay, IsTightWay, AreWays, IsAhead, IsQuiet}
+use Rattle.flash_trace.specs.Good.{EndsBadly, Unbegun, Says, IsBegun, bad_text, first_bad}
+use Rattle.flash_trace.specs.Ways.{IsTightWay, AreWays, IsAhead, IsQuiet}
 use Rattle.flash_trace.specs.Places.{IsPlace, IsSettled, begins, part_of}
-use Rattle.flash_trace.specs.Stands.{IsPicture, MayLeave, StandsTight, StandsAhead, IsTable, EndsAhead, BeginsNot, SaysHere}
-use Rattle.flash_trace.proofs.Endings.{EndsHere, end_here, only_here, ends_not}
+use Rattle.flash_trace.specs.Stands.{IsPicture, MayLeave, StandsTight, StandsAhead, EndsAhead, BeginsNot, SaysHere}
+use Rattle.flash_trace.proofs.Endings.{end_here, only_here, ends_not}
 use Rattle.flash_trace.proofs.Behind.{stands_behind, stands_before, ends_behind, ends_before, unbegun_first}
 use Rattle.flash_trace.proofs.Places.{unanswered}
 

@@ -1,12 +1,12 @@
 -- What a script has ahead, line by line.
-use Rattle.std.proofs.Common.{◌≡◌, ℕ, ◌+◌, ◌≤◌, List, [], ◌∷◌, drop, length, refl, sym, ◌∙◌, ap, subst, arith, Option, Some, None}
+use Rattle.std.proofs.Common.{◌≡◌, ℕ, ◌+◌, List, [], drop, refl, ◌∙◌, ap, arith, Option}
 use Rattle.geometry.specs.declared.geometry.Geometry.{Geometry}
 use Rattle.table_model.specs.Ask.{Ask}
 use Rattle.table_model.specs.Window.{Moment}
-use Rattle.call_script.specs.Lines.{Parsed, NoCall, Asks, Bad, lines, of_line, calls_of, with_line}
+use Rattle.call_script.specs.Lines.{Asks, Bad, lines, of_line, calls_of}
 use Rattle.flash_trace.specs.declared.ways.Ways.{Ways}
 use Rattle.flash_trace.specs.declared.ways.Ahead.TheVariants.{End, Bad as ABad, Call}
-use Rattle.flash_trace.specs.Good.{first_bad, bad_or}
+use Rattle.flash_trace.specs.Good.{first_bad}
 use Rattle.flash_trace.specs.Lines.{IsLine, Skips}
 use Rattle.flash_trace.specs.Ways.{AreWays}
 use Rattle.flash_trace.specs.Places.{IsFound}

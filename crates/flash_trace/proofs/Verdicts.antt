@@ -1,5 +1,5 @@
 -- The verdict on a trace, event by event.
-use Rattle.std.proofs.Common.{◌≡◌, ◌↔◌, ℕ, suc, ◌+◌, ◌<◌, ◌≤◌, List, [], ◌∷◌, ◌++◌, length, get_or, map, drop, replicate, drop-cons, refl, sym, ◌∙◌, ap, subst, ◌⊎◌, inl, inr, ⊎_elim, arith, true, false, IsTrue, Option, None}
+use Rattle.std.proofs.Common.{◌≡◌, ◌↔◌, ℕ, suc, ◌+◌, ◌<◌, ◌≤◌, List, [], ◌∷◌, ◌++◌, length, get_or, map, drop, replicate, drop-cons, refl, sym, ◌∙◌, ap, subst, inl, inr, ⊎_elim, arith, true, false, IsTrue, Option, None}
 use Rattle.std.specs.Prelude.{nat_lt}
 use Rattle.std.proofs.lemmas.Bool.{lt-ltb}
 use Rattle.std.proofs.lemmas.Bool.Decides.{nat_tests}
@@ -10,8 +10,8 @@ use Rattle.table_model.specs.Ask.{Ask}
 use Rattle.table_model.specs.Table.{File}
 use Rattle.table_model.specs.Window.{Moment, settled_at}
 use Rattle.image_model.specs.Tables.{table_of}
-use Rattle.call_script.specs.Lines.{lines, calls, calls_of}
-use Rattle.run_model.specs.Runs.{asks_of, after_all, replies}
+use Rattle.call_script.specs.Lines.{calls}
+use Rattle.run_model.specs.Runs.{asks_of, replies}
 use Rattle.trace_laws.specs.Counting.{replies_in}
 use Rattle.flat_plain.specs.Moments.{moment_of}
 use Rattle.flat_plain.specs.declared.file.PlainFile.{PlainFile}
@@ -27,7 +27,7 @@ use Rattle.flash_trace.specs.declared.ways.Ahead.TheVariants.{End, Bad, Call}
 use Rattle.flash_trace.specs.declared.verdict.Verdict.{Verdict}
 use Rattle.flash_trace.specs.declared.verdict.Verdict.TheVariants.{Legal, Outside, WrongBits, BadCut}
 use Rattle.flash_trace.specs.Events.{Standing, at_first, image_after, said_after, after_event, IsInside, HasRightBits}
-use Rattle.flash_trace.specs.Good.{IsGood, IsLarge, first_bad}
+use Rattle.flash_trace.specs.Good.{IsGood, IsLarge}
 use Rattle.flash_trace.specs.Verdicts.{IsVerdict}
 use Rattle.flash_trace.specs.Ways.{IsAhead, IsQuiet}
 use Rattle.flash_trace.specs.Places.{IsPlace, IsSettled, begins, part_of}

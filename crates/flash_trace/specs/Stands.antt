@@ -15,7 +15,6 @@ use Rattle.flash_trace.specs.declared.case.Case.{Case}
 use Rattle.flash_trace.specs.declared.spot.Place.{Place}
 use Rattle.flash_trace.specs.declared.picture.Picture.{Picture}
 use Rattle.flash_trace.specs.declared.ways.Way.{Way}
-use Rattle.flash_trace.specs.declared.ways.Ways.{Ways}
 use Rattle.flash_trace.specs.declared.ways.Ahead.{Ahead}
 use Rattle.flash_trace.specs.declared.ways.Ahead.TheVariants.{End, Bad, Call}
 use Rattle.flash_trace.specs.Good.{IsBegun, bad_text, unbegun_text}

@@ -1,5 +1,5 @@
 -- How the next call may be answered, as the judge has it.
-use Rattle.std.specs.Prelude.{◌≡◌, ◌⊎◌, ◌+◌, ℕ, ◌++◌, ◌∷◌, List, [], length, map, Bool, true, false, Option, Some, None}
+use Rattle.std.specs.Prelude.{◌≡◌, ◌⊎◌, ℕ, ◌++◌, ◌∷◌, List, [], map, Bool, true, false, Option, Some, None}
 use Rattle.geometry.specs.declared.geometry.Geometry.{Geometry}
 use Rattle.table_model.specs.Ask.{Ask}
 use Rattle.table_model.specs.Steps.{steps}

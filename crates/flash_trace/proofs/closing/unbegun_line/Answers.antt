@@ -1,4 +1,3 @@
-use Rattle.std.proofs.Common.{List, ℕ, Option, arith}
 use Rattle.std.specs.Option.{option_map}
 use Rattle.flash_trace.proofs.Testing.{none_begun, mixed_begun, tight_begun, tight_or_none, ok_line, not_true, not_false}
 use Rattle.flash_trace.proofs.closing.unbegun_line.Goals as goal

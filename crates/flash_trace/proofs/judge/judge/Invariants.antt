@@ -1,5 +1,5 @@
 -- The verdict on the events from here on is the verdict on all.
-use Rattle.std.proofs.Common.{ℕ, drop}
+use Rattle.std.proofs.Common.{drop}
 use Rattle.flash_trace.specs.declared.verdict.Verdict.{Verdict}
 use Rattle.flash_trace.specs.Events.{at_first}
 use Rattle.flash_trace.specs.Judging.{IsGoing, IsVerdictFrom, standing_of}

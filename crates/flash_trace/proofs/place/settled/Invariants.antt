@@ -1,4 +1,4 @@
-use Rattle.std.proofs.Common.{◌≡◌, ℕ, ◌+◌, ◌-◌, length, false}
+use Rattle.std.proofs.Common.{◌≡◌, ◌+◌, ◌-◌, length, false}
 use Rattle.std.specs.Prelude.{if◌then◌else◌}
 use Rattle.flash_trace.specs.Ways.{IsQuiet}
 use Rattle.flash_trace.specs.Places.{IsPlace, begins, part_of}
