@@ -1,0 +1,6 @@
+pub mod Composing
+pub mod Calling
+pub mod Places
+pub mod Marking
+pub mod Lacking
+pub mod Fills
