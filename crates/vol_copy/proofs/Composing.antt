@@ -61,3 +61,14 @@ module _ {M : Type 0} {nor : NorOf M} where
 -- a source that is only read tells what it told
 pub tells_on : {N : Type 0} {nor : NorOf N} {old new : Reader N nor} {source : List File} → OnlyReads nor old.nor.now new.nor.now → IsSameReader old new → TellsFiles nor old source → TellsFiles nor new source
 tells_on {N} {nor} {old} {new} {source} reads same tells = (reads.told tells.0, ap (λ (g : Geometry). table_of g (nor.bytes new.nor.now)) same.geometry ∙ ap (table_of old.geometry) reads.bytes ∙ tells.1)
+
+module _ {N M : Type 0} {nor_from : NorOf N} {nor : NorOf M} where
+  -- beside a source that the first calls only read
+  pub with_then : (A B : Task → Volume M nor → Type 0) (from from_mid : Reader N nor_from) (old mid : Volume M nor) → OnlyReads nor_from from.nor.now from_mid.nor.now → IsSameReader from from_mid →
+      Leads (With nor_from from A) B old mid → Leads (With nor_from from A) (With nor_from from_mid B) old mid
+  with_then A B from from_mid old mid reads same leads = λ t has. (λ known. tells_on reads same (has.0 known), leads t has)
+
+  pub cuts_with : (A B : Task → Volume M nor → Type 0) (from from_mid : Reader N nor_from) (old mid new : Volume M nor) → OnlyReads nor_from from.nor.now from_mid.nor.now → IsSameReader from from_mid →
+      ((t : Task) → B t mid → RestsSome t mid) → CutsUnder (With nor_from from A) old mid → Leads (With nor_from from A) B old mid → CutsUnder (With nor_from from_mid B) mid new → CutsUnder (With nor_from from A) old new
+  cuts_with A B from from_mid old mid new reads same rests first leads second =
+      cuts_then (With nor_from from A) (With nor_from from_mid B) old mid new (λ t has. rests t has.1) first (with_then A B from from_mid old mid reads same leads) second

@@ -1,11 +1,12 @@
 -- A target while files are copied onto it.
-use Rattle.std.specs.Prelude.{◌≡◌, ◌+◌, ◌<◌, ◌≤◌, ◌%◌, ◌⊎◌, ℕ, List, true, Some, None}
+use Rattle.std.specs.Prelude.{◌≡◌, ◌+◌, ◌-◌, ◌<◌, ◌≤◌, ◌%◌, ◌⊎◌, ℕ, min, List, true, Some, None}
 use Rattle.geometry.specs.declared.geometry.Geometry.{Geometry}
 use Rattle.geometry.specs.Numbers.{body}
 use Rattle.table_model.specs.declared.reply.Stat.{Stat}
 use Rattle.nor_core.specs.declared.state.NorState.{Ghosts as NorOf}
 use Rattle.nor_core.specs.Device.{Changes}
 use Rattle.table_model.specs.Table.{File, Open, State, file_named}
+use Rattle.table_model.specs.Room.{index_pages}
 use Rattle.image_model.specs.Tables.{table_of}
 use Rattle.call_model.specs.Safe.{IsSafe}
 use Rattle.call_model.specs.Closed.{with_files}
@@ -30,6 +31,14 @@ pub record IsPage (g : Geometry) (stat : Stat) (at len : ℕ) : Type 0 where
   pub within : at + len ≤ stat.size
   pub whole : (len ≡ body g) ⊎ (at + len ≡ stat.size)
 
+-- where the data page from a place of a record on ends
+abbrev pub page_end : Geometry → (size at : ℕ) → ℕ
+page_end g size at = at + min (size - at) (body g)
+
+-- how many index pages more a record's bytes take up to there
+abbrev pub index_more : Geometry → (size at : ℕ) → ℕ
+index_more g size at = index_pages g (page_end g size at) - index_pages g at
+
 module _ {M : Type 0} {nor : NorOf M} where
   -- A target at rest whose descriptors are closed. Of its files that holds, where the source tells its records.
   pub record Rests (holds : Task → List File → Type 0) (t : Task) (v : Volume M nor) : Type 0 where
@@ -53,6 +62,10 @@ module _ {M : Type 0} {nor : NorOf M} where
     pub state : State
     pub at : IsAtRest t.g v state
     pub known : t.known ≡ true → IsLacking index pages t state
+
+  -- The data page from a place of a record on has no room.
+  abbrev pub LacksPage : (size at : ℕ) → Task → Volume M nor → Type 0
+  LacksPage size at t v = LacksRoom (index_more v.geometry size at) 1 t v
 
   -- What calls do that lead from targets as A has it: a cut leaves an image that may follow, and what the copy may leave.
   abbrev pub CutsUnder : (A : Task → Volume M nor → Type 0) (old new : Volume M nor) → Type 0

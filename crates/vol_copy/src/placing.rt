@@ -1,5 +1,5 @@
 // A record that is whole under the working name gets its place.
-ghost use Rattle.std.specs.Prelude.{◌≡◌, ◌≢◌, ◌≤◌, length, OnOk, IfErr, Err, true};
+ghost use Rattle.std.specs.Prelude.{◌≡◌, ◌≢◌, ◌≤◌, length, OnOk, IfErr, Err, true, all, ◌==◌};
 ghost use Rattle.nor_core.specs.Count.{Rose};
 ghost use Rattle.nor_core.specs.Device.{OnlyReads};
 ghost use Rattle.vol_mount.specs.Readers.{IsSameReader};
@@ -37,7 +37,9 @@ fn place<M: Nor>(to: &mut Volume<'_, M>, stat: &Stat) -> Result<(), CopyErr>
 }
 
 // Whether all bytes are 0xFF, as a new file's meta bytes are.
-fn is_blank(bytes: &[u8]) -> bool {
+fn is_blank(bytes: &[u8]) -> bool
+    ensures { result ≡ all (λ b. b == 255) bytes.now }
+{
     bytes.iter().all(|b| *b == 0xFF)
 }
 
@@ -65,6 +67,7 @@ fn mark<M: Nor>(to: &mut Volume<'_, M>, stat: &Stat) -> Result<(), CopyErr>
 }
 
 /// Copies a record onto the target.
+#[tactic(auto, using(volume::proofs::Staying::same_then))]
 pub(crate) fn copy_file<N: Nor, M: Nor>(
     from: &mut Reader<'_, N>,
     to: &mut Volume<'_, M>,
