@@ -4,3 +4,8 @@ pub mod Places
 pub mod Marking
 pub mod Lacking
 pub mod Fills
+pub mod Fitting
+pub mod Glances
+pub mod Likeness
+pub mod Looking
+pub mod Seeing
