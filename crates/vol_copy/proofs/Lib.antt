@@ -9,3 +9,7 @@ pub mod Glances
 pub mod Likeness
 pub mod Looking
 pub mod Seeing
+pub mod Readers
+pub mod Causes
+pub mod Starting
+pub mod Turning

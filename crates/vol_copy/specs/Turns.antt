@@ -1,5 +1,8 @@
 -- A target from one record to the next.
-use Rattle.std.specs.Prelude.{◌≡◌, ◌+◌, ℕ, List, [], length, Bool, true, false, Option, Some, None, if◌then◌else◌}
+use Rattle.std.specs.Prelude.{◌≡◌, ◌+◌, ℕ, List, [], length, Bool, true, false, nat_le, Option, Some, None, if◌then◌else◌}
+use Rattle.geometry.specs.declared.geometry.Geometry.{Geometry}
+use Rattle.geometry.specs.Numbers.{ceil, entries}
+use Rattle.table_model.specs.declared.reply.Info.{Info}
 use Rattle.nor_core.specs.declared.state.NorState.{Ghosts as NorOf}
 use Rattle.table_model.specs.Table.{File, file_named, file_above}
 use Rattle.table_model.specs.Room.{has_room}
@@ -13,6 +16,10 @@ use Rattle.copy_model.specs.Tasks.{Task}
 use Rattle.copy_model.specs.Under.{IsAllThere}
 use Rattle.copy_model.specs.Parts.{AreFit, IsAmid, IsUpTo, IsCounted}
 use Rattle.vol_copy.specs.declared.copying.Turn.{Turn}
+
+-- whether a table of so many pages has room
+abbrev pub room_by : Geometry → Info → Bool
+room_by g info = nat_le (ceil (info.index_pages + 1) (entries g) + ceil (info.data_pages + 1) (entries g) + 2) g.blocks
 
 -- a copy of which nothing is done has these files, as at first
 abbrev pub IsFirst : Task → List File → Type 0

@@ -1,13 +1,12 @@
 // What stands before the first record.
-ghost use Rattle.std.specs.Prelude.{◌≡◌, ◌≢◌, ◌+◌, ◌≤◌, OnOk, IfErr, Err, nat_le};
-ghost use Rattle.geometry.specs.Numbers.{ceil, entries};
+ghost use Rattle.std.specs.Prelude.{◌≡◌, ◌≢◌, OnOk, IfErr, Err};
 ghost use Rattle.nor_core.specs.Count.{Rose};
 ghost use Rattle.table_model.specs.declared.error.Differ.{Differ as Differs};
 ghost use Rattle.volume.specs.Same.{IsSameVolume};
 ghost use Rattle.copy_model.specs.Parts.{IsUpTo};
 ghost use Rattle.vol_copy.specs.Stages.{Rests, CutsUnder, Leads, OnlyFaults};
 ghost use Rattle.vol_copy.specs.Seen.{Idles};
-ghost use Rattle.vol_copy.specs.Turns.{IsFirst, HasFirstRoom, IsReady, HasNoWorking, StopsFirst};
+ghost use Rattle.vol_copy.specs.Turns.{room_by, IsFirst, HasFirstRoom, IsReady, HasNoWorking, StopsFirst};
 
 use crate::asking::{WORKING, clear, info_on, stat_on};
 use copy_model::CopyErr;
@@ -19,7 +18,7 @@ use volume::Volume;
 // Whether a table of so many pages has room.
 #[tactic(auto, using(geometry::proofs::Bounds::entry_left))]
 fn has_room(g: &Geometry, info: &Info) -> bool
-    ensures { result ≡ nat_le (ceil (info.now.index_pages + 1) (entries g.now) + ceil (info.now.data_pages + 1) (entries g.now) + 2) g.now.blocks }
+    ensures { result ≡ room_by g.now info.now }
 {
     let entries = u64::from(g.entries());
     let index = (u64::from(info.index_pages) + entries) / entries;
