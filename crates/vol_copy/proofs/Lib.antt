@@ -13,3 +13,5 @@ pub mod Readers
 pub mod Causes
 pub mod Starting
 pub mod Turning
+pub mod Searching
+pub mod Ending

@@ -1,6 +1,6 @@
 -- The file of the next record's name is compared with it, call by call.
 use Rattle.std.proofs.Common.{◌≡◌, ◌≢◌, ◌⊎◌, ℕ, ◌+◌, ◌<◌, ◌≤◌, List, length, Bool, true, false, Option, Some, None, Result, Ok, Err, refl, sym, ◌∙◌, ap, subst, inl, inr, arith}
-use Rattle.std.specs.Prelude.{nat_lt, if◌then◌else◌}
+use Rattle.std.specs.Prelude.{nat_lt}
 use Rattle.std.specs.Option.{option_map}
 use Rattle.std.proofs.lemmas.Bool.{le-ltb, false≢true}
 use Rattle.std.proofs.lemmas.Option.{none-some}
@@ -34,7 +34,7 @@ use Rattle.copy_model.proofs.Passing.{next_under, next_here}
 use Rattle.vol_copy.specs.Ends.{TellsFiles}
 use Rattle.vol_copy.specs.Stages.{Rests, Works, CutsUnder, Leads, StopsAs, OnlyFaults, With}
 use Rattle.vol_copy.specs.Went.{Went, done_as, stat_as, opened_as, read_stop}
-use Rattle.vol_copy.specs.Seen.{IsSeen, IsLike, IsLooking, IsLooked, Idles, Looked, LooksUntil}
+use Rattle.vol_copy.specs.Seen.{IsSeen, IsLike, IsLooking, IsLooked, IsRead, Idles, Looked, LooksUntil}
 use Rattle.vol_copy.proofs.Composing.{rest_table}
 use Rattle.vol_copy.proofs.Calling.{goes, any_cuts}
 use Rattle.vol_copy.proofs.Fills.{opened_told, opened_stop, opened_none}
@@ -167,7 +167,7 @@ module _ {M : Type 0} {nor : NorOf M} (stat : Stat) (at fd n : ℕ) (within : at
     pub works : Works fd 8 (IsLooking stat at) t v
     pub ours_are : t.known ≡ true → (f : File) → file_of stat.id t.source ≡ Some f → ours ≡ bytes_at n at f
 
-  state_of : (t : Task) → WithOurs t old → State
+  abbrev state_of : (t : Task) → WithOurs t old → State
   state_of t has = with_first t.slots (looker has.works.id has.works.offset) has.works.files
 
   part_next : (t : Task) (has : WithOurs t old) → (after : ℕ) × ((answer t.g true (state_of t has) (Reads fd n)).next ≡ with_first t.slots (looker has.works.id after) has.works.files)
@@ -186,11 +186,7 @@ module _ {M : Type 0} {nor : NorOf M} (stat : Stat) (at fd n : ℕ) (within : at
   part_cuts = look_cuts (Reads fd n) old new reply rested refl refl refl WithOurs state_of (λ t has. has.works.at)
       (λ t has known. next_under stat t has.works.files (has.works.known known).like.next) (λ t has. ap (λ (s : State). s.table) (part_next t has).1)
 
-  -- how far it is the same
-  abbrev pub IsPart : Bool → Task → Open → List File → Type 0
-  IsPart same = if same then IsLooking stat (at + n) else IsLooked stat false
-
-  part_leads : (into : List ℕ) → reply ≡ Gives into → (same : Bool) → same_text ours into ≡ same → Leads WithOurs (Works fd 8 (IsPart same)) old new
+  part_leads : (into : List ℕ) → reply ≡ Gives into → (same : Bool) → same_text ours into ≡ same → Leads WithOurs (Works fd 8 (IsRead stat (at + n) same)) old new
   part_leads into told same is = λ t has.
       let w = goes (Reads fd n) old new reply rested refl refl t.g (state_of t has) has.works.at (λ fault. let no : Gives into ≡ Refuses DeviceFault = sym told ∙ fault in cc) in
       let next = part_next t has in
@@ -210,10 +206,10 @@ module _ {M : Type 0} {nor : NorOf M} (stat : Stat) (at fd n : ℕ) (within : at
             let into_is : into ≡ bytes_at n at looking.like.x = cc in
             let next_is = looking.like.next in
             let ours_is : ours ≡ bytes_at n at next_is.f = has.ours_are known next_is.f (ap (λ (s : Stat). file_of s.id t.source) next_is.stat_is ∙ next_here stat t has.works.files next_is) in
-            subst (λ (e : Open). IsPart same t e has.works.files) (sym d) (go same is t has.works.files (looker has.works.id has.works.offset) looking into_is ours_is);
+            subst (λ (e : Open). IsRead stat (at + n) same t e has.works.files) (sym d) (go same is t has.works.files (looker has.works.id has.works.offset) looking into_is ours_is);
       }
     where
-      go : (b : Bool) → same_text ours into ≡ b → (t : Task) (files : List File) (d : Open) (looking : IsLooking stat at t d files) → into ≡ bytes_at n at looking.like.x → ours ≡ bytes_at n at looking.like.next.f → IsPart b t (looker looking.like.x.id (at + n)) files
+      go : (b : Bool) → same_text ours into ≡ b → (t : Task) (files : List File) (d : Open) (looking : IsLooking stat at t d files) → into ≡ bytes_at n at looking.like.x → ours ≡ bytes_at n at looking.like.next.f → IsRead stat (at + n) b t (looker looking.like.x.id (at + n)) files
       go true same t files d looking into_is ours_is = looks_on stat at t d files looking n within (sym into_is ∙ sym (bytes_same ours into same) ∙ ours_is)
       go false differ t files d looking into_is ours_is = looks_other stat at t d files looking n within (λ e. false≢true (sym differ ∙ ap (λ (l : List ℕ). same_text ours l) (into_is ∙ e ∙ sym ours_is) ∙ bytes_equal ours))
 
@@ -227,8 +223,8 @@ module _ {M : Type 0} {nor : NorOf M} (stat : Stat) (at fd n : ℕ) (within : at
     beside : (t : Task) → With nor_from from (Works fd 8 (IsLooking stat at)) t old → WithOurs t old
     beside t has = record { works = has.1; ours_are = λ known f here. told t.source f (has.0 known) here }
 
-    pub part_looked : (into : List ℕ) → reply ≡ Gives into → (same : Bool) → same_text ours into ≡ same → Looked (With nor_from from (Works fd 8 (IsLooking stat at))) (Works fd 8 (IsPart same)) old new
-    part_looked into gave same is = looked_of (With nor_from from (Works fd 8 (IsLooking stat at))) WithOurs (Works fd 8 (IsPart same)) old new beside (record { cuts = part_cuts; looks = part_reads; leads = part_leads into gave same is })
+    pub part_looked : (into : List ℕ) → reply ≡ Gives into → (same : Bool) → same_text ours into ≡ same → Looked (With nor_from from (Works fd 8 (IsLooking stat at))) (Works fd 8 (IsRead stat (at + n) same)) old new
+    part_looked into gave same is = looked_of (With nor_from from (Works fd 8 (IsLooking stat at))) WithOurs (Works fd 8 (IsRead stat (at + n) same)) old new beside (record { cuts = part_cuts; looks = part_reads; leads = part_leads into gave same is })
 
     pub part_until : (why : CopyErr) → read_stop n reply ≡ Some why → LooksUntil (With nor_from from (Works fd 8 (IsLooking stat at))) old new why
     part_until why is = until_of (With nor_from from (Works fd 8 (IsLooking stat at))) WithOurs old new why beside (record { cuts = part_cuts; looks = part_reads; stops = λ t has known. fault_stops t new why (part_stops why is t has known) })

@@ -134,7 +134,7 @@ module _ {M : Type 0} {nor : NorOf M} (old new : Volume M nor) (result : Result 
   starts_cuts = stat_cuts IsReady working (λ t files ready. fine_working) old new result went (λ t files ready table. first_under t files ready.first.first)
 
 module _ {M : Type 0} {nor : NorOf M} (stat : Stat) (old new : Volume M nor) (result : Result (Unit {0}) CopyErr) (went : Went removed_as (Removes working) old new result) where
-  IsThere : Task → List File → Type 0
+  abbrev pub IsThere : Task → List File → Type 0
   IsThere t files = IsReady t files × (Some stat ≡ option_map stat_of (file_named working files))
 
   removed_next : (t : Task) (files : List File) → (answer t.g true (with_files t.slots files) (Removes working)).next ≡ with_files t.slots (without_name working files)

@@ -47,14 +47,14 @@ module _ {M : Type 0} {nor : NorOf M} where
   all_up after t v has = rests_as (IsAllUpTo after) (IsUpTo after) t v (λ known files all. all.up) has
 
 -- a record that was told
-told_file : (after : ℕ) (source : List File) (stat : Stat) → Some stat ≡ option_map stat_of (file_above after source) → (f : File) × (file_above after source ≡ Some f) × (stat ≡ stat_of f)
+pub told_file : (after : ℕ) (source : List File) (stat : Stat) → Some stat ≡ option_map stat_of (file_above after source) → (f : File) × (file_above after source ≡ Some f) × (stat ≡ stat_of f)
 told_file after source stat told = go (file_above after source) refl
   where
     go : (o : Option File) → file_above after source ≡ o → (f : File) × (file_above after source ≡ Some f) × (stat ≡ stat_of f)
     go None is = absurd (none-some stat (sym (told ∙ ap (option_map stat_of) is)))
     go (Some f) is = (f, is, same_Some stat (stat_of f) (told ∙ ap (option_map stat_of) is))
 
-told_none : (after : ℕ) (source : List File) → None ≡ option_map stat_of (file_above after source) → file_above after source ≡ None
+pub told_none : (after : ℕ) (source : List File) → None ≡ option_map stat_of (file_above after source) → file_above after source ≡ None
 told_none after source told = go (file_above after source) refl
   where
     go : (o : Option File) → file_above after source ≡ o → file_above after source ≡ None
@@ -76,7 +76,7 @@ there_seen stat t files seen there =
 
 module _ {N M : Type 0} {nor_from : NorOf N} {nor : NorOf M} (after : ℕ) (from from_mid : Reader N nor_from) (reads : OnlyReads nor_from from.nor.now from_mid.nor.now) (same : IsSameReader from from_mid) (found : Option Stat)
     (told : (source : List File) → TellsFiles nor_from from source → found ≡ option_map stat_of (file_above after source)) (old : Volume M nor) where
-  Before : Task → Volume M nor → Type 0
+  abbrev pub Before : Task → Volume M nor → Type 0
   Before = With nor_from from (Rests (IsUpTo after))
 
   -- the source fails, or tells nothing more
@@ -187,7 +187,7 @@ counted_turn : (after : ℕ) (turn : Turn) (c : Copied) (t : Task) (files : List
 counted_turn after turn c t files counted turned = record { up = turned.up; counted = turned.counts c.copied c.kept counted }
 
 module _ {N M : Type 0} {nor_from : NorOf N} {nor : NorOf M} (from : Reader N nor_from) (start : Volume M nor) where
-  Start : Task → Volume M nor → Type 0
+  abbrev pub Start : Task → Volume M nor → Type 0
   Start = With nor_from from (Rests (IsUpTo 0))
 
   -- So far: what a cut leaves, where the target stands, and that it was only read where all was there.

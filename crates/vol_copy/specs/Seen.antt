@@ -1,5 +1,5 @@
 -- A target while the file that has the next record's name is compared with the record.
-use Rattle.std.specs.Prelude.{◌≡◌, ◌≤◌, ℕ, List, length, take, Bool, true, not, ◌==◌, ◌&&◌, ◌||◌, Some}
+use Rattle.std.specs.Prelude.{◌≡◌, ◌≤◌, ℕ, List, length, take, Bool, true, false, not, ◌==◌, ◌&&◌, ◌||◌, Some}
 use Rattle.nor_core.specs.declared.state.NorState.{Ghosts as NorOf}
 use Rattle.nor_core.specs.Device.{OnlyReads}
 use Rattle.table_model.specs.declared.reply.Stat.{Stat}
@@ -39,6 +39,11 @@ pub record IsLooking (stat : Stat) (at : ℕ) (t : Task) (d : Open) (files : Lis
 -- all that is wanted was compared, and the descriptor is still open
 abbrev pub IsLooked : (stat : Stat) (copy : Bool) → Task → Open → List File → Type 0
 IsLooked stat copy t d files = IsSeen stat copy t files
+
+-- bytes up to a place were read, and were the same, or others
+abbrev pub IsRead : (stat : Stat) (at : ℕ) (same : Bool) → Task → Open → List File → Type 0
+IsRead stat at true t d files = IsLooking stat at t d files
+IsRead stat at false t d files = IsSeen stat false t files
 
 module _ {M : Type 0} {nor : NorOf M} where
   -- calls only read a target as A has it, where the source tells its records

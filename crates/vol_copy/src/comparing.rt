@@ -1,5 +1,5 @@
 // Whether a name of the target has a copy of a record already.
-ghost use Rattle.std.specs.Prelude.{◌≡◌, ◌≢◌, ◌+◌, ◌≤◌, ◌<◌, ◌^◌, length, true, false, IfOk, IfErr, Err, if◌then◌else◌};
+ghost use Rattle.std.specs.Prelude.{◌≡◌, ◌≢◌, ◌+◌, ◌≤◌, ◌<◌, ◌^◌, length, IfOk, IfErr, Err};
 ghost use Rattle.nor_core.specs.Count.{Rose};
 ghost use Rattle.nor_core.specs.Device.{OnlyReads};
 ghost use Rattle.table_model.specs.declared.error.Differ.{Differ as Differs};
@@ -7,7 +7,7 @@ ghost use Rattle.vol_mount.specs.Readers.{IsSameReader};
 ghost use Rattle.volume.specs.Same.{IsSameVolume};
 ghost use Rattle.copy_model.specs.Parts.{IsNext};
 ghost use Rattle.vol_copy.specs.Stages.{Rests, Works, With};
-ghost use Rattle.vol_copy.specs.Seen.{may_be, IsSeen, IsLike, IsLooking, IsLooked, Looked, LooksUntil};
+ghost use Rattle.vol_copy.specs.Seen.{may_be, IsSeen, IsLike, IsLooking, IsLooked, IsRead, Looked, LooksUntil};
 
 use crate::asking::{open_on, perform, read_on, stat_on};
 use crate::reading::{piece_length, read_of};
@@ -44,7 +44,7 @@ fn same_part<N: Nor, M: Nor>(
     ensures to_cause { result ≡ Err CopyErr.ToFault → Rose (M.faults to.old.nor.now) (M.faults to.new.nor.now) }
     ensures differs { (d : Differs) → result ≡ Err (CopyErr.Damaged d) → d.wanted ≢ d.found }
     ensures done { IfOk result (λ same. Looked (With N.NorState from.old (Works fd 8 (IsLooking stat.now at)))
-        (Works fd 8 (if same then IsLooking stat.now (at + length ours.old) else IsLooked stat.now false)) to.old to.new) }
+        (Works fd 8 (IsRead stat.now (at + length ours.old) same)) to.old to.new) }
     ensures stops { IfErr result (LooksUntil (With N.NorState from.old (Works fd 8 (IsLooking stat.now at))) to.old to.new) }
 {
     read_of(from, stat.id, at, ours)?;
