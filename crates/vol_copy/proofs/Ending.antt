@@ -222,3 +222,8 @@ module _ {N M : Type 0} {nor_from : NorOf N} {nor : NorOf M} (from : Reader N no
 
             pub ends_done : (c : Copied) → Leads (With nor_from from_mid (Rests (IsUpTo 0))) (Rests (IsThrough c)) next new → (source : List File) → TellsFiles nor_from from source → EndsFrom (alike_of from.geometry old.geometry) source old new (Ok c)
             ends_done c through = as_ends new (Ok c) (λ source first g slots has. done c through (task_of source first g slots) has refl) (λ source first g slots has there. all_reads (task_of source first g slots) has refl there)
+
+            pub ends_all : (result : Result Copied CopyErr) → IfOk result (λ c. Leads (With nor_from from_mid (Rests (IsUpTo 0))) (Rests (IsThrough c)) next new) → IfErr result (StopsFrom (With nor_from from_mid (Rests (IsUpTo 0))) next new) →
+                (source : List File) → TellsFiles nor_from from source → EndsFrom (alike_of from.geometry old.geometry) source old new result
+            ends_all (Ok c) through stops = ends_done c through
+            ends_all (Err why) through stops = ends_stopped why stops

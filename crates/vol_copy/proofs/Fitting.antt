@@ -23,6 +23,8 @@ use Rattle.header_laws.proofs.Listed.{each-listed}
 use Rattle.header_laws.proofs.HeadPages.{file_at}
 use Rattle.header_laws.proofs.HeadNames.{judged-name}
 use Rattle.header_laws.proofs.FineNames.{fine-names, name_of-fine}
+use Rattle.vol_mount.specs.declared.reader.Reader.{Reader}
+use Rattle.volume.specs.declared.volume.Volume.{Volume}
 use Rattle.copy_model.specs.Copying.{working}
 use Rattle.copy_model.specs.Tasks.{Task}
 use Rattle.copy_model.specs.Under.{IsTable}
@@ -50,6 +52,13 @@ fine_at g a is j f e =
 pub fine_files : (g : Geometry) (a : List ℕ) → IsImage g a → All (IsFine g) (table_of g a)
 unfolding table_of records
 fine_files g a is = each-listed (IsFine g) (file_at g a) 1 0x7FFF (λ j f here. fine_at g a is j f here)
+
+-- the bytes of a reader's device, and of a volume's, are an image
+pub reader_image : {N : Type 0} {nor : NorOf N} (r : Reader N nor) → (nor.tells r.nor.now → length (nor.bytes r.nor.now) ≡ nor.size r.nor.now) → nor.tells r.nor.now → IsImage r.geometry (nor.bytes r.nor.now)
+reader_image r sized tells = record { len = omega (arith, r.fits, sized tells) }
+
+pub volume_image : {N : Type 0} {nor : NorOf N} (v : Volume N nor) → (nor.tells v.nor.now → length (nor.bytes v.nor.now) ≡ nor.size v.nor.now) → nor.tells v.nor.now → IsImage v.geometry (nor.bytes v.nor.now)
+volume_image v sized tells = record { len = omega (arith, v.fits, sized tells) }
 
 -- ---- no record has the working name
 

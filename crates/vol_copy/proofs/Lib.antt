@@ -15,3 +15,4 @@ pub mod Starting
 pub mod Turning
 pub mod Searching
 pub mod Ending
+pub mod Exits

@@ -23,7 +23,7 @@ use Rattle.vol_mount.specs.declared.reader.Reader.{Reader}
 use Rattle.volume.specs.declared.volume.Volume.{Volume}
 use Rattle.volume_run.specs.Resting.{IsAtRest, Rested, is_quiet}
 use Rattle.copy_model.specs.declared.err.CopyErr.{CopyErr}
-use Rattle.copy_model.specs.declared.err.CopyErr.TheVariants.{ToFault}
+use Rattle.copy_model.specs.declared.err.CopyErr.TheVariants.{FromFault, ToFault}
 use Rattle.copy_model.specs.Filling.{with_first, looker}
 use Rattle.copy_model.specs.Steps.{writes_none}
 use Rattle.copy_model.specs.Tasks.{Task}
@@ -33,14 +33,14 @@ use Rattle.copy_model.proofs.Opened.{same_first}
 use Rattle.copy_model.proofs.Passing.{next_under, next_here}
 use Rattle.vol_copy.specs.Ends.{TellsFiles}
 use Rattle.vol_copy.specs.Stages.{Rests, Works, CutsUnder, Leads, StopsAs, OnlyFaults, With}
-use Rattle.vol_copy.specs.Went.{Went, done_as, stat_as, opened_as, read_stop}
+use Rattle.vol_copy.specs.Went.{Went, done_as, stat_as, opened_as, read_stop, ReadsAs}
 use Rattle.vol_copy.specs.Seen.{IsSeen, IsLike, IsLooking, IsLooked, IsRead, Idles, Looked, LooksUntil}
 use Rattle.vol_copy.proofs.Composing.{rest_table}
 use Rattle.vol_copy.proofs.Calling.{goes, any_cuts}
 use Rattle.vol_copy.proofs.Fills.{opened_told, opened_stop, opened_none}
 use Rattle.vol_copy.proofs.Glances.{stats-state, looks-table, looks-first, reads-first}
 use Rattle.vol_copy.proofs.Likeness.{like_opens, looks_first, reads_it, read_long, looks_on, looks_other}
-use Rattle.vol_copy.proofs.Looking.{rest_image, looked_of, until_of}
+use Rattle.vol_copy.proofs.Looking.{rest_image, looked_of, until_of, until_none, works_some}
 use Rattle.vol_copy.proofs.Places.{done_whole, done_stop}
 
 -- the reply of a fault stops a copy for the target's
@@ -229,6 +229,37 @@ module _ {M : Type 0} {nor : NorOf M} (stat : Stat) (at fd n : ℕ) (within : at
     pub part_until : (why : CopyErr) → read_stop n reply ≡ Some why → LooksUntil (With nor_from from (Works fd 8 (IsLooking stat at))) old new why
     part_until why is = until_of (With nor_from from (Works fd 8 (IsLooking stat at))) WithOurs old new why beside (record { cuts = part_cuts; looks = part_reads; stops = λ t has known. fault_stops t new why (part_stops why is t has known) })
 
+module _ {M : Type 0} {nor : NorOf M} (stat : Stat) (fd at : ℕ) (t : Task) (v : Volume M nor) where
+  pub looking_under : Works fd 8 (IsLooking stat at) t v → t.known ≡ true → IsUnder t.alike t.source t.first (table_of t.g (nor.bytes v.nor.now))
+  looking_under has known = subst (IsUnder t.alike t.source t.first) (sym (rest_image has.at)) (next_under stat t has.files (has.known known).like.next)
+
+-- the same, of bytes as many as the record's
+module _ {N M : Type 0} {nor_from : NorOf N} {nor : NorOf M} (stat : Stat) (at fd : ℕ) (ours was into : List ℕ) (n : ℕ) (as_many : length was ≡ n) (long : length into ≡ length was) (within : at + n ≤ stat.size) (from : Reader N nor_from) (old new : Volume M nor) where
+  pub part_unread : (why : CopyErr) → ((source : List File) (f : File) → TellsFiles nor_from from source → file_of stat.id source ≡ Some f → at + n ≤ length f.bytes → why ≡ FromFault) → LooksUntil (With nor_from from (Works fd 8 (IsLooking stat at))) old old why
+  part_unread why fails = until_none (With nor_from from (Works fd 8 (IsLooking stat at))) old why (λ t has. works_some fd 8 (IsLooking stat at) t old has.1) (λ t has known. looking_under stat fd at t old has.1 known)
+      (λ t has known.
+      let next = (has.1.known known).like.next in
+      let here : file_of stat.id t.source ≡ Some next.f = ap (λ (s : Stat). file_of s.id t.source) next.stat_is ∙ next_here stat t has.1.files next in
+      subst (StopsAs t old) (sym (fails t.source next.f (has.0 known) here (omega (arith, within, ap (λ (s : Stat). s.size) next.stat_is)))) tt)
+
+  module _ (told : (source : List File) (f : File) → TellsFiles nor_from from source → file_of stat.id source ≡ Some f → ours ≡ bytes_at n at f) (result : Result (Unit {0}) CopyErr) (went : (reply : Answer) × Rested (Reads fd (length was)) old new reply × ReadsAs into reply result) where
+    rested_of : Rested (Reads fd n) old new went.0
+    rested_of = subst (λ (m : ℕ). Rested (Reads fd m) old new went.0) as_many went.1
+
+    reads_ok : (r : Result (Unit {0}) CopyErr) → ReadsAs into went.0 r → r ≡ Ok tt → went.0 ≡ Gives into
+    reads_ok (Ok done) so ok = so
+    reads_ok (Err why) so ok = absurd (cc)
+
+    reads_err : (r : Result (Unit {0}) CopyErr) (why : CopyErr) → ReadsAs into went.0 r → r ≡ Err why → read_stop n went.0 ≡ Some why
+    reads_err (Ok done) why so is = absurd (cc)
+    reads_err (Err x) why so is = let e : x ≡ why = cc in subst (λ (m : ℕ). read_stop m went.0 ≡ Some why) (long ∙ as_many) (so ∙ ap (λ (y : CopyErr). Some y) e)
+
+    pub part_fails : (why : CopyErr) → result ≡ Err why → LooksUntil (With nor_from from (Works fd 8 (IsLooking stat at))) old new why
+    part_fails why is = part_until stat at fd n within ours old new went.0 rested_of from told why (reads_err result why went.2 is)
+
+    pub part_done : result ≡ Ok tt → (same : Bool) → same_text ours into ≡ same → Looked (With nor_from from (Works fd 8 (IsLooking stat at))) (Works fd 8 (IsRead stat (at + n) same)) old new
+    part_done ok same is = part_looked stat at fd n within ours old new went.0 rested_of from told into (reads_ok result went.2 ok) same is
+
 -- ---- and closed
 
 module _ {M : Type 0} {nor : NorOf M} (stat : Stat) (copy : Bool) (fd : ℕ) (old new : Volume M nor) (result : Result (Unit {0}) CopyErr) (went : Went done_as (Closes fd) old new result) where
@@ -253,9 +284,3 @@ module _ {M : Type 0} {nor : NorOf M} (stat : Stat) (copy : Bool) (fd : ℕ) (ol
   pub quit_until : (why : CopyErr) → result ≡ Err why → LooksUntil (Works fd 8 (IsLooked stat copy)) old new why
   quit_until why is = record { cuts = quit_cuts; looks = quit_reads; stops = λ t has known. fault_stops t new why (done_stop why went.0 (sym went.2 ∙ is) (λ whole.
       (goes (Closes fd) old new went.0 went.1 refl refl t.g (with_first t.slots (looker has.id has.offset) has.files) has.at whole).0 ∙ ap (λ (o : Outcome). o.answer) (quit_it t has))) }
-
--- ---- together
-
-module _ {M : Type 0} {nor : NorOf M} (stat : Stat) (fd at : ℕ) (t : Task) (v : Volume M nor) where
-  pub looking_under : Works fd 8 (IsLooking stat at) t v → t.known ≡ true → IsUnder t.alike t.source t.first (table_of t.g (nor.bytes v.nor.now))
-  looking_under has known = subst (IsUnder t.alike t.source t.first) (sym (rest_image has.at)) (next_under stat t has.files (has.known known).like.next)

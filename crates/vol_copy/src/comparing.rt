@@ -24,7 +24,7 @@ const READ: u32 = 8;
 const HALF: u32 = 2048;
 
 // Whether so many bytes of a record and of the file under the descriptor are the same, from a place on.
-#[tactic(auto, using(volume::proofs::Staying::same_then))]
+#[tactic(auto, using(nor_core::proofs::Cuts::reads_then, volume::proofs::Staying::same_then, crate::proofs::Readers::reader_then))]
 fn same_part<N: Nor, M: Nor>(
     from: &mut Reader<'_, N>,
     to: &mut Volume<'_, M>,
@@ -53,7 +53,7 @@ fn same_part<N: Nor, M: Nor>(
 }
 
 // Whether a record and the file under the descriptor, which has as many bytes, have the same.
-#[tactic(auto, using(volume::proofs::Staying::same_then))]
+#[tactic(auto, using(nor_core::proofs::Cuts::reads_then, volume::proofs::Staying::same_then, crate::proofs::Readers::reader_then))]
 fn same_bytes<N: Nor, M: Nor>(
     from: &mut Reader<'_, N>,
     to: &mut Volume<'_, M>,
@@ -92,7 +92,7 @@ fn same_bytes<N: Nor, M: Nor>(
 }
 
 // Whether the file of a record's name has its bytes, where it has as many.
-#[tactic(auto, using(volume::proofs::Staying::same_then))]
+#[tactic(auto, using(nor_core::proofs::Cuts::reads_then, volume::proofs::Staying::same_then, crate::proofs::Readers::reader_then))]
 fn has_bytes<N: Nor, M: Nor>(
     from: &mut Reader<'_, N>,
     to: &mut Volume<'_, M>,
@@ -131,7 +131,7 @@ fn may_be_copy(stat: &Stat, there: &Stat) -> bool
 
 /// Whether the target has a copy of a record under its name: a file of type 1 with the record's bytes and, where both volumes have as many,
 /// its meta bytes.
-#[tactic(auto, using(volume::proofs::Staying::same_then))]
+#[tactic(auto, using(nor_core::proofs::Cuts::reads_then, volume::proofs::Staying::same_then, crate::proofs::Readers::reader_then))]
 pub(crate) fn is_there<N: Nor, M: Nor>(
     from: &mut Reader<'_, N>,
     to: &mut Volume<'_, M>,

@@ -32,7 +32,7 @@ struct Turn {
 }
 
 // Copies the source's record of the least id above one, where the target has no copy of it; None where there is no such record.
-#[tactic(auto, using(volume::proofs::Staying::same_then))]
+#[tactic(auto, using(nor_core::proofs::Cuts::reads_then, volume::proofs::Staying::same_then, crate::proofs::Readers::reader_then))]
 fn copy_next<N: Nor, M: Nor>(
     from: &mut Reader<'_, N>,
     to: &mut Volume<'_, M>,
@@ -69,7 +69,7 @@ fn copy_next<N: Nor, M: Nor>(
 }
 
 // Copies the source's records one after the other, in order of ids.
-#[tactic(auto, using(volume::proofs::Staying::same_then))]
+#[tactic(auto, using(nor_core::proofs::Cuts::reads_then, volume::proofs::Staying::same_then, crate::proofs::Readers::reader_then))]
 fn copy_each<N: Nor, M: Nor>(
     from: &mut Reader<'_, N>,
     to: &mut Volume<'_, M>,
@@ -105,7 +105,7 @@ fn copy_each<N: Nor, M: Nor>(
 /// name. The target's other files stay. Refused, in this order: a target that has no room as it is (`Full`), a source's file
 /// of the working name (`BadName`); and `Full` where there is no room for the next step: the files before it are copied then, and the working
 /// file is gone. `piece` are at least 4,096 bytes for work.
-#[tactic(auto, using(volume::proofs::Staying::same_then))]
+#[tactic(auto, using(nor_core::proofs::Cuts::reads_then, volume::proofs::Staying::same_then, crate::proofs::Readers::reader_then))]
 pub fn copy_all<N: Nor, M: Nor>(
     from: &mut Reader<'_, N>,
     to: &mut Volume<'_, M>,
