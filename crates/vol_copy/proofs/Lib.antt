@@ -16,3 +16,4 @@ pub mod Turning
 pub mod Searching
 pub mod Ending
 pub mod Exits
+pub mod Sights

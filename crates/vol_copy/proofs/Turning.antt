@@ -74,20 +74,21 @@ there_seen stat t files seen there =
 
 -- ---- one turn
 
-module _ {N M : Type 0} {nor_from : NorOf N} {nor : NorOf M} (after : ℕ) (from from_mid : Reader N nor_from) (reads : OnlyReads nor_from from.nor.now from_mid.nor.now) (same : IsSameReader from from_mid) (found : Option Stat)
-    (told : (source : List File) → TellsFiles nor_from from source → found ≡ option_map stat_of (file_above after source)) (old : Volume M nor) where
-  abbrev pub Before : Task → Volume M nor → Type 0
-  Before = With nor_from from (Rests (IsUpTo after))
-
+module _ {N M : Type 0} {nor_from : NorOf N} {nor : NorOf M} (after : ℕ) (from : Reader N nor_from) (old : Volume M nor) where
   -- the source fails, or tells nothing more
-  pub turn_none_cuts : CutsUnder Before old old
-  turn_none_cuts = cuts_none Before old (λ t has. rests_some (IsUpTo after) t old has.1) (λ t has known. up_under after t old has.1 known)
+  pub turn_none_cuts : CutsUnder (With nor_from from (Rests (IsUpTo after))) old old
+  turn_none_cuts = cuts_none (With nor_from from (Rests (IsUpTo after))) old (λ t has. rests_some (IsUpTo after) t old has.1) (λ t has known. up_under after t old has.1 known)
 
   pub turn_none_idle : Idles (With nor_from from (Rests (IsAllUpTo after))) old old
   turn_none_idle = λ t has known. reads_none old.nor.now
 
-  pub turn_fails : (why : CopyErr) → why ≡ FromFault → StopsFrom Before old old why
+  pub turn_fails : (why : CopyErr) → why ≡ FromFault → StopsFrom (With nor_from from (Rests (IsUpTo after))) old old why
   turn_fails why fault = λ t has known. subst (StopsAs t old) (sym fault) tt
+
+module _ {N M : Type 0} {nor_from : NorOf N} {nor : NorOf M} (after : ℕ) (from from_mid : Reader N nor_from) (reads : OnlyReads nor_from from.nor.now from_mid.nor.now) (same : IsSameReader from from_mid) (found : Option Stat)
+    (told : (source : List File) → TellsFiles nor_from from source → found ≡ option_map stat_of (file_above after source)) (old : Volume M nor) where
+  abbrev pub Before : Task → Volume M nor → Type 0
+  Before = With nor_from from (Rests (IsUpTo after))
 
   pub turn_last : found ≡ None → Leads Before (Rests (HasTurned after None)) old old
   turn_last none = λ t has. rests_as (IsUpTo after) (IsLast after) t old (λ known files up. record { up = up; none = told_none after t.source (sym none ∙ told t.source (has.0 known)) }) has.1
@@ -236,6 +237,9 @@ module _ {N M : Type 0} {nor_from : NorOf N} {nor : NorOf M} (from : Reader N no
           record { files = w.files; some = w.some; at = w.at; known = λ known. counted_turn after turn c t w.files ((gone.leads t has).known known).counted (w.known known) };
       idle = gone_idle idle;
     }
+
+    pub gone_counted : (turn : Turn) (d : Copied) → d.copied ≡ c.copied + cond turn.is_new 1 0 → d.kept ≡ c.kept + cond turn.is_new 0 1 → HasGone turn.id (record { copied = c.copied + cond turn.is_new 1 0; kept = c.kept + cond turn.is_new 0 1 }) new → HasGone turn.id d new
+    gone_counted turn d copied kept now = subst (λ (x : Copied). HasGone turn.id x new) (ap (λ (n : ℕ). record { copied = n; kept = c.kept + cond turn.is_new 0 1 }) (sym copied) ∙ ap (λ (n : ℕ). record { copied = d.copied; kept = n }) (sym kept)) now
 
     -- none is left
     pub gone_last : Leads (With nor_from from_mid (Rests (IsUpTo after))) (Rests (HasTurned after None)) mid new → Leads Start (Rests (IsThrough c)) start new

@@ -75,7 +75,7 @@ fn same_bytes<N: Nor, M: Nor>(
     let mut at = 0;
     while at < stat.size {
         let count = piece_length(stat.size - at, HALF) as usize;
-        if !same_part(
+        let same = same_part(
             from,
             to,
             fd,
@@ -83,7 +83,8 @@ fn same_bytes<N: Nor, M: Nor>(
             at,
             &mut ours[..count],
             &mut theirs[..count],
-        )? {
+        )?;
+        if !same {
             return Ok(false);
         }
         at += count as u32;

@@ -1,5 +1,5 @@
 // The files of a volume, one after the other.
-ghost use Rattle.std.specs.Prelude.{◌≡◌, ◌≢◌, ◌<◌, ◌≤◌, List, length, None, IfOk, IfErr, OnOk, Err};
+ghost use Rattle.std.specs.Prelude.{◌≡◌, ◌≢◌, ◌+◌, ◌<◌, ◌≤◌, List, length, IfOk, IfErr, Err, if◌then◌else◌};
 ghost use Rattle.std.specs.Option.{IfSome};
 ghost use Rattle.nor_core.specs.Count.{Rose};
 ghost use Rattle.nor_core.specs.Device.{OnlyReads};
@@ -52,20 +52,38 @@ fn copy_next<N: Nor, M: Nor>(
     ensures stops { IfErr result (StopsFrom (With N.NorState from.old (Rests (IsUpTo after))) to.old to.new) }
     ensures idle { Idles (With N.NorState from.old (Rests (IsAllUpTo after))) to.old to.new }
 {
-    let Some(stat) = next_of(from, after)? else {
-        return Ok(None);
-    };
-    if is_there(from, to, &stat, piece)? {
-        return Ok(Some(Turn {
-            id: stat.id,
-            is_new: false,
-        }));
+    let found = next_of(from, after)?;
+    match found {
+        None => Ok(None),
+        Some(stat) => {
+            let id = stat.id;
+            let there = is_there(from, to, &stat, piece)?;
+            if there {
+                return Ok(Some(Turn { id, is_new: false }));
+            }
+            copy_file(from, to, &stat, piece)?;
+            Ok(Some(Turn { id, is_new: true }))
+        }
     }
-    copy_file(from, to, &stat, piece)?;
-    Ok(Some(Turn {
-        id: stat.id,
-        is_new: true,
-    }))
+}
+
+// Counts a turn.
+fn count_turn(done: Copied, turn: Turn) -> Copied
+    requires few { done.copied + done.kept < 65536 }
+    ensures copied { result.copied ≡ done.copied + (if turn.is_new then 1 else 0) }
+    ensures kept { result.kept ≡ done.kept + (if turn.is_new then 0 else 1) }
+{
+    if turn.is_new {
+        Copied {
+            copied: done.copied + 1,
+            kept: done.kept,
+        }
+    } else {
+        Copied {
+            copied: done.copied,
+            kept: done.kept + 1,
+        }
+    }
 }
 
 // Copies the source's records one after the other, in order of ids.
@@ -91,11 +109,7 @@ fn copy_each<N: Nor, M: Nor>(
     let mut after = 0;
     'records: while let Some(turn) = copy_next(from, to, after, piece)? {
         after = turn.id;
-        if turn.is_new {
-            done.copied += 1;
-        } else {
-            done.kept += 1;
-        }
+        done = count_turn(done, turn);
     }
     Ok(done)
 }
@@ -122,9 +136,11 @@ pub fn copy_all<N: Nor, M: Nor>(
     ensures ends { (source : List File) → TellsFiles N.NorState from.old source → EndsFrom (alike_of from.old.geometry to.old.geometry) source to.old to.new result }
 {
     check_room(to)?;
-    if let Some(at) = first_working(from)? {
-        return Err(CopyErr::BadName { at });
+    match first_working(from)? {
+        Some(at) => Err(CopyErr::BadName { at }),
+        None => {
+            remove_working(to)?;
+            copy_each(from, to, piece)
+        }
     }
-    remove_working(to)?;
-    copy_each(from, to, piece)
 }

@@ -69,6 +69,7 @@ fn is_working(stat: &Stat) -> bool
 }
 
 /// The place of the source's file that has the working name, if one has it, in order of ids from 0.
+#[tactic(auto, using(nor_core::proofs::Cuts::reads_then, crate::proofs::Readers::reader_then))]
 pub(crate) fn first_working<N: Nor>(from: &mut Reader<'_, N>) -> Result<Option<u32>, CopyErr>
     ensures reads { OnlyReads N.NorState from.old.nor.now from.new.nor.now }
     ensures same { IsSameReader from.old from.new }
