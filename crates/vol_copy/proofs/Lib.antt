@@ -4,3 +4,5 @@ pub mod Places
 pub mod Marking
 pub mod Lacking
 pub mod Fills
+pub mod Chains
+pub mod Pages
