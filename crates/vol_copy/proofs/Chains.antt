@@ -1,5 +1,5 @@
 -- What calls of a copy do one after the other.
-use Rattle.std.proofs.Common.{◌≡◌, ◌+◌, ℕ, List, true, Result, Ok, Err, refl, sym, subst}
+use Rattle.std.proofs.Common.{◌≡◌, ◌+◌, ℕ, List, true, Result, Ok, Err, refl, sym, ◌∙◌, subst}
 use Rattle.std.specs.Prelude.{OnOk, IfErr, IsErrAnd}
 use Rattle.nor_core.specs.declared.state.NorState.{Ghosts as NorOf}
 use Rattle.table_model.specs.declared.reply.Stat.{Stat}
@@ -24,6 +24,11 @@ use Rattle.vol_copy.proofs.Lacking.{LacksOf, info_cuts, info_leads, info_stops, 
 pub passed : {X : Type 0} (P : CopyErr → Type 0) (result : Result X CopyErr) (why : CopyErr) → IsErrAnd result (λ e. e ≡ why) → P why → IfErr result P
 passed P (Ok x) why same stops = absurd same
 passed P (Err e) why same stops = rw same stops
+
+-- what it is, where it is known what was passed on
+pub passed_is : {X : Type 0} (result : Result X CopyErr) (why : CopyErr) → IsErrAnd result (λ e. e ≡ why) → (other : CopyErr) → result ≡ Err other → why ≡ other
+passed_is (Ok x) why same other is = absurd same
+passed_is (Err e) why same other is = let e_is : e ≡ other = cc in sym same ∙ e_is
 
 module _ {M : Type 0} {nor : NorOf M} where
   -- stages at which a target is at rest

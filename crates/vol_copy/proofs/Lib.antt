@@ -6,3 +6,5 @@ pub mod Lacking
 pub mod Fills
 pub mod Chains
 pub mod Pages
+pub mod Readers
+pub mod Causes

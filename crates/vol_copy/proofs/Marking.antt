@@ -82,19 +82,19 @@ module _ {M : Type 0} {nor : NorOf M} (stat : Stat) (v : Volume M nor) where
 
   -- nothing is to be done
   pub mark_skips : (meta : List ℕ) → meta ≡ stat.meta → (skips : Bool) → skips ≡ (not (length meta == v.geometry.meta) || is_erased meta) → skips ≡ true → Leads (Rests (IsWhole stat)) (Rests (IsMarked stat)) v v
-  mark_skips meta named skips is yes = skipped (length stat.meta == v.geometry.meta) refl
+  mark_skips meta named skips is skip = skipped (length stat.meta == v.geometry.meta) refl
       where
         skipped : (b : Bool) → (length stat.meta == v.geometry.meta) ≡ b → Leads (Rests (IsWhole stat)) (Rests (IsMarked stat)) v v
         skipped false other = mark_other other
-        skipped true same = mark_blank same (all_ones stat.meta (skipped_erased stat.meta v.geometry.meta same (ap (λ (m : List ℕ). not (length m == v.geometry.meta) || is_erased m) (sym named) ∙ sym is ∙ yes)))
+        skipped true same = mark_blank same (all_ones stat.meta (skipped_erased stat.meta v.geometry.meta same (ap (λ (m : List ℕ). not (length m == v.geometry.meta) || is_erased m) (sym named) ∙ sym is ∙ skip)))
 
 -- meta bytes that are to be set are as many as the target's files have
 mark_as_many : (meta : List ℕ) (many : ℕ) (skips : Bool) → skips ≡ (not (length meta == many) || is_erased meta) → skips ≡ false → (length meta == many) ≡ true
-mark_as_many meta many skips is no = go (length meta == many) refl
+mark_as_many meta many skips is stay = go (length meta == many) refl
   where
     go : (b : Bool) → (length meta == many) ≡ b → (length meta == many) ≡ true
     go true same = same
-    go false other = absurd (let yes : true ≡ false = ap (λ (b : Bool). not b || is_erased meta) (sym other) ∙ sym is ∙ no in cc)
+    go false other = absurd (let yes : true ≡ false = ap (λ (b : Bool). not b || is_erased meta) (sym other) ∙ sym is ∙ stay in cc)
 
 -- ---- they are set
 
@@ -153,12 +153,12 @@ module _ {M : Type 0} {nor : NorOf M} (stat : Stat) (old new : Volume M nor) (re
 
 -- by a name that the code gives them
 module _ {M : Type 0} {nor : NorOf M} (stat : Stat) (old new : Volume M nor) (result : Result (Unit {0}) CopyErr) (meta : List ℕ) (named : meta ≡ stat.meta) (went : Went done_as (SetsMeta working meta) old new result) (skips : Bool)
-    (is : skips ≡ (not (length meta == old.geometry.meta) || is_erased meta)) (no : skips ≡ false) where
+    (is : skips ≡ (not (length meta == old.geometry.meta) || is_erased meta)) (stay : skips ≡ false) where
   set_as : Went done_as (SetsMeta working stat.meta) old new result
   set_as = subst (λ (m : List ℕ). Went done_as (SetsMeta working m) old new result) named went
 
   as_many : (length stat.meta == old.geometry.meta) ≡ true
-  as_many = ap (λ (m : List ℕ). length m == old.geometry.meta) (sym named) ∙ mark_as_many meta old.geometry.meta skips is no
+  as_many = ap (λ (m : List ℕ). length m == old.geometry.meta) (sym named) ∙ mark_as_many meta old.geometry.meta skips is stay
 
   pub set_cuts : CutsUnder (Rests (IsWhole stat)) old new
   set_cuts = mark_cuts stat old new result set_as as_many

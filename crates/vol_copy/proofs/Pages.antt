@@ -1,6 +1,9 @@
 -- A record's bytes are written page by page.
-use Rattle.std.proofs.Common.{◌≡◌, ◌<◌, ◌≤◌, ◌+◌, ◌-◌, ◌%◌, ◌⊎◌, ℕ, List, length, Bool, true, false, Option, Some, None, Result, Ok, Err, refl, sym, ◌∙◌, ap, subst, inl, inr, ⊎_elim, arith}
-use Rattle.std.specs.Prelude.{OnOk, IfOk, IfErr, min, if◌then◌else◌}
+use Rattle.std.proofs.Common.{◌≡◌, ◌<◌, ◌≤◌, ◌+◌, ◌-◌, ◌*◌, ◌/◌, ◌%◌, ◌⊎◌, ℕ, List, length, Bool, true, false, Option, Some, None, Result, Ok, Err, refl, sym, ◌∙◌, ap, subst, inl, inr, ⊎_elim, arith}
+use Rattle.std.specs.Prelude.{OnOk, IfOk, IfErr, min}
+use Rattle.std.proofs.Math.Nat.{div-add-mod}
+use Rattle.std.proofs.lemmas.Nat.{mod-mul-add}
+use Rattle.std.proofs.lemmas.Bool.{cases_le}
 use Rattle.nor_core.specs.declared.state.NorState.{Ghosts as NorOf}
 use Rattle.nor_core.specs.Device.{OnlyReads}
 use Rattle.geometry.specs.declared.geometry.Geometry.{Geometry}
@@ -12,10 +15,10 @@ use Rattle.table_model.specs.Room.{index_pages}
 use Rattle.table_model.specs.Window.{settled_at}
 use Rattle.table_model.specs.Ask.{Opens, Writes, Closes}
 use Rattle.image_model.specs.Tables.{table_of}
+use Rattle.image_model.specs.Within.{sizes}
 use Rattle.vol_mount.specs.declared.reader.Reader.{Reader}
 use Rattle.vol_mount.specs.Readers.{IsSameReader}
 use Rattle.volume.specs.declared.volume.Volume.{Volume}
-use Rattle.volume.specs.Same.{IsSameVolume}
 use Rattle.copy_model.specs.declared.err.CopyErr.{CopyErr}
 use Rattle.copy_model.specs.declared.err.CopyErr.TheVariants.{FromFault}
 use Rattle.copy_model.specs.Copying.{working}
@@ -26,7 +29,7 @@ use Rattle.copy_model.specs.Parts.{IsMissing, IsFilling, IsWhole}
 use Rattle.copy_model.proofs.Passing.{next_here}
 use Rattle.copy_model.proofs.Opened.{filling_under}
 use Rattle.vol_copy.specs.Ends.{TellsFiles}
-use Rattle.vol_copy.specs.Stages.{IsPage, Rests, Works, LacksRoom, LacksPage, CutsUnder, Leads, StopsAs, StopsFrom, OnlyFaults, With, page_end, index_more}
+use Rattle.vol_copy.specs.Stages.{IsPage, Rests, Works, LacksRoom, LacksPage, PageWent, CutsUnder, Leads, StopsAs, StopsFrom, OnlyFaults, With, page_end, index_more}
 use Rattle.vol_copy.specs.Went.{Went, done_as, opened_as, wrote_as}
 use Rattle.vol_copy.proofs.Composing.{RestsSome, rest_table, cuts_then, cuts_none, cuts_of, cuts_with, with_then}
 use Rattle.vol_copy.proofs.Places.{on_ok, if_err}
@@ -63,8 +66,10 @@ module _ {N M : Type 0} {nor_from : NorOf N} {nor : NorOf M} (stat : Stat) (at f
     pub page_leads : result ≡ Ok true → Leads (With nor_from from (Works fd 52 (IsFilling stat at))) (Works fd 52 (IsFilling stat (at + length bytes))) old new
     page_leads ok = λ t has. write_leads stat at fd bytes old new result went page ok t (bytes_read t has)
 
-    pub page_short : result ≡ Ok false → Leads (With nor_from from (Works fd 52 (IsFilling stat at))) (LacksRoom (index_pages old.geometry (at + length bytes) - index_pages old.geometry at) 1) old new
-    page_short ok = λ t has. write_short stat at fd bytes old new result went page ok t (bytes_read t has)
+    pub page_short : result ≡ Ok false → Leads (With nor_from from (Works fd 52 (IsFilling stat at))) (PageWent fd stat at (length bytes) false) old new
+    page_short ok = λ t has.
+        let lacks : LacksRoom (index_pages old.geometry (at + length bytes) - index_pages old.geometry at) 1 t new = write_short stat at fd bytes old new result went page ok t (bytes_read t has) in
+        subst (λ (g : Geometry). LacksRoom (index_pages g (at + length bytes) - index_pages g at) 1 t new) (sym went.1.same.geometry) lacks
 
     pub page_stops : IfErr result (StopsFrom (With nor_from from (Works fd 52 (IsFilling stat at))) old new)
     page_stops = go result refl
@@ -73,23 +78,42 @@ module _ {N M : Type 0} {nor_from : NorOf N} {nor : NorOf M} (stat : Stat) (at f
         go (Ok fits) is = tt {0}
         go (Err why) is = faults_stop (With nor_from from (Works fd 52 (IsFilling stat at))) old new why (λ t has. write_stops stat at fd bytes old new result went page why is t (bytes_read t has))
 
-    pub page_wrote : IfOk result (λ fits. Leads (With nor_from from (Works fd 52 (IsFilling stat at)))
-        (if fits then Works fd 52 (IsFilling stat (at + length bytes)) else LacksRoom (index_pages old.geometry (at + length bytes) - index_pages old.geometry at) 1) old new)
-    page_wrote = go result refl
+    -- by the length that the page had before it was read
+    pub page_wrote : (count : ℕ) → length bytes ≡ count → IfOk result (λ fits. Leads (With nor_from from (Works fd 52 (IsFilling stat at))) (PageWent fd stat at count fits) old new)
+    page_wrote count same = subst (λ (n : ℕ). IfOk result (λ fits. Leads (With nor_from from (Works fd 52 (IsFilling stat at))) (PageWent fd stat at n fits) old new)) same (go result refl)
       where
-        go : (r : Result Bool CopyErr) → result ≡ r → IfOk r (λ fits. Leads (With nor_from from (Works fd 52 (IsFilling stat at)))
-            (if fits then Works fd 52 (IsFilling stat (at + length bytes)) else LacksRoom (index_pages old.geometry (at + length bytes) - index_pages old.geometry at) 1) old new)
+        go : (r : Result Bool CopyErr) → result ≡ r → IfOk r (λ fits. Leads (With nor_from from (Works fd 52 (IsFilling stat at))) (PageWent fd stat at (length bytes) fits) old new)
         go (Ok true) is = page_leads is
         go (Ok false) is = page_short is
         go (Err why) is = tt {0}
 
-    -- by the length that the page had before it was read
-    pub page_wrote_as : (count : ℕ) → length bytes ≡ count → IfOk result (λ fits. Leads (With nor_from from (Works fd 52 (IsFilling stat at)))
-        (if fits then Works fd 52 (IsFilling stat (at + count)) else LacksRoom (index_pages old.geometry (at + count) - index_pages old.geometry at) 1) old new)
-    page_wrote_as count same = subst (λ (n : ℕ). IfOk result (λ fits. Leads (With nor_from from (Works fd 52 (IsFilling stat at)))
-        (if fits then Works fd 52 (IsFilling stat (at + n)) else LacksRoom (index_pages old.geometry (at + n) - index_pages old.geometry at) 1) old new)) same page_wrote
-
 -- ---- page after page
+
+-- a page's bytes, from the start of a data page on
+pub page_here : (g : Geometry) (stat : Stat) (at count len : ℕ) → at < stat.size → (at % body g ≡ 0) ⊎ (at ≡ stat.size) → 0 < count → count ≡ min (stat.size - at) (body g) → len ≡ count → IsPage g stat at len
+page_here g stat at count len more ends some least long = record {
+  some = omega (arith, some, long);
+  page = ⊎_elim (λ (page : at % body g ≡ 0). page) (λ (end : at ≡ stat.size). absurd (omega (arith, more, end))) ends;
+  most = omega (arith, least, long);
+  within = omega (arith, least, long, more);
+  whole = ⊎_elim (λ (low : body g ≤ stat.size - at). inl (omega (arith, low, least, long))) (λ (high : stat.size - at < body g). inr (omega (arith, high, least, long, more))) (cases_le (body g) (stat.size - at));
+}
+
+-- where it ends
+pub page_after : (g : Geometry) (size at count : ℕ) → at < size → (at % body g ≡ 0) ⊎ (at ≡ size) → 0 < body g → count ≡ min (size - at) (body g) → ((at + count) % body g ≡ 0) ⊎ (at + count ≡ size)
+page_after g size at count more ends pos least = ⊎_elim
+    (λ (low : body g ≤ size - at). inl (ap (λ (n : ℕ). (at + n) % body g) (let all : count ≡ body g = omega (arith, low, least) in all) ∙ next_page at (body g) pos (⊎_elim (λ (page : at % body g ≡ 0). page) (λ (end : at ≡ size). absurd (omega (arith, more, end))) ends)))
+    (λ (high : size - at < body g). inr (omega (arith, high, least, more)))
+    (cases_le (body g) (size - at))
+  where
+    next_page : (a n : ℕ) → 0 < n → a % n ≡ 0 → (a + n) % n ≡ 0
+    next_page a n some from =
+        let whole : n * (a / n) + a % n ≡ a = div-add-mod a n in
+        let here : (a / n + 1) * n + 0 ≡ a + n = omega (arith, whole, from) in
+        ap (λ (m : ℕ). m % n) (sym here) ∙ mod-mul-add (a / n + 1) n 0 some
+
+pub some_body : (g : Geometry) → 0 < body g
+some_body g = let geo = sizes g in omega (arith, geo.page)
 
 module _ {M : Type 0} {nor : NorOf M} (stat : Stat) (fd at : ℕ) (v : Volume M nor) where
   filled_under : (t : Task) (has : Works fd 52 (IsFilling stat at) t v) → t.known ≡ true → IsUnder t.alike t.source t.first (table_of t.g (nor.bytes v.nor.now))
@@ -126,20 +150,29 @@ module _ {N M : Type 0} {nor_from : NorOf N} {nor : NorOf M} (stat : Stat) (fd :
     pub more_stops : (why : CopyErr) → StopsFrom (FilledTo at from_mid) mid new why → StopsFrom (FilledTo 0 from) old new why
     more_stops why stops = stops_then (FilledTo 0 from) (FilledTo at from_mid) old mid new why so_far stops
 
-    -- how a page went
-    abbrev pub PageWrote : ℕ → Bool → Type 0
-    PageWrote count fits = Leads (FilledTo at from_mid) (if fits then Works fd 52 (IsFilling stat (at + count)) else LacksRoom (index_pages mid.geometry (at + count) - index_pages mid.geometry at) 1) mid new
+    pub more_leads : (count len : ℕ) → len ≡ count → (fits : Bool) → fits ≡ true → Leads (FilledTo at from_mid) (PageWent fd stat at len fits) mid new → Leads (FilledTo 0 from) (Works fd 52 (IsFilling stat (at + count))) old new
+    more_leads count len long fits is wrote = λ t has. subst (λ (n : ℕ). PageWent fd stat at n true t new) long (subst (λ (b : Bool). PageWent fd stat at len b t new) is (wrote t (so_far t has)))
 
-    pub more_leads : (count : ℕ) (fits : Bool) → fits ≡ true → PageWrote count fits → Leads (FilledTo 0 from) (Works fd 52 (IsFilling stat (at + count))) old new
-    more_leads count true yes wrote = λ t has. wrote t (so_far t has)
-    more_leads count false yes wrote = absurd (cc)
+    pub more_short : (len : ℕ) (fits : Bool) → fits ≡ false → at + len ≡ page_end new.geometry stat.size at → Leads (FilledTo at from_mid) (PageWent fd stat at len fits) mid new → Leads (FilledTo 0 from) (LacksPage stat.size at) old new
+    more_short len fits is end wrote = λ t has.
+        let lacks : PageWent fd stat at len false t new = subst (λ (b : Bool). PageWent fd stat at len b t new) is (wrote t (so_far t has)) in
+        subst (λ (e : ℕ). LacksRoom (index_pages new.geometry e - index_pages new.geometry at) 1 t new) end lacks
 
-    pub more_short : (count : ℕ) (fits : Bool) → fits ≡ false → IsSameVolume mid new → at + count ≡ page_end mid.geometry stat.size at → PageWrote count fits → Leads (FilledTo 0 from) (LacksPage stat.size at) old new
-    more_short count true no same_to end wrote = absurd (cc)
-    more_short count false no same_to end wrote = λ t has.
-        let lacks : LacksRoom (index_pages mid.geometry (at + count) - index_pages mid.geometry at) 1 t new = wrote t (so_far t has) in
-        let here : LacksRoom (index_more mid.geometry stat.size at) 1 t new = subst (λ (e : ℕ). LacksRoom (index_pages mid.geometry e - index_pages mid.geometry at) 1 t new) end lacks in
-        subst (λ (g : Geometry). LacksRoom (index_more g stat.size at) 1 t new) (sym same_to.geometry) here
+  -- all are written
+  pub all_filled : (old new : Volume M nor) (at : ℕ) → Leads (FilledTo 0 from) (Works fd 52 (IsFilling stat at)) old new → at ≡ stat.size → Leads (FilledTo 0 from) (Works fd 52 (IsFilling stat stat.size)) old new
+  all_filled old new at leads same = λ t has. subst (λ (n : ℕ). Works fd 52 (IsFilling stat n) t new) same (leads t has)
+
+-- ---- the next data page has no room
+
+module _ {M : Type 0} {nor : NorOf M} (size at end more : ℕ) (old new : Volume M nor) (end_is : end ≡ page_end old.geometry size at) (more_is : more ≡ index_pages old.geometry end - index_pages old.geometry at) where
+  as_more : more ≡ index_more old.geometry size at
+  as_more = more_is ∙ ap (λ (e : ℕ). index_pages old.geometry e - index_pages old.geometry at) end_is
+
+  pub short_cuts : CutsUnder (LacksRoom more 1) old new → CutsUnder (LacksPage size at) old new
+  short_cuts cuts = cuts_of (LacksPage size at) (LacksRoom more 1) old new (λ t has. subst (λ (n : ℕ). LacksRoom n 1 t old) (sym as_more) has) cuts
+
+  pub short_stops : (why : CopyErr) → StopsFrom (LacksRoom more 1) old new why → StopsFrom (LacksPage size at) old new why
+  short_stops why stops = λ t has. stops t (subst (λ (n : ℕ). LacksRoom n 1 t old) (sym as_more) has)
 
 -- ---- all of it
 

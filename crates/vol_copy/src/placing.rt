@@ -23,6 +23,7 @@ fn place<M: Nor>(to: &mut Volume<'_, M>, stat: &Stat) -> Result<(), CopyErr>
     ensures same { IsSameVolume to.old to.new }
     ensures cause { result ≡ Err CopyErr.ToFault → Rose (M.faults to.old.nor.now) (M.faults to.new.nor.now) }
     ensures differs { (d : Differs) → result ≡ Err (CopyErr.Damaged d) → d.wanted ≢ d.found }
+    ensures source { result ≡ Err CopyErr.FromFault → ⊥ }
     ensures cuts { CutsUnder (Rests (IsMarked stat.now)) to.old to.new }
     ensures done { OnOk result (Leads (Rests (IsMarked stat.now)) (Rests (IsPassed stat.now true)) to.old to.new) }
     ensures stops { IfErr result (OnlyFaults (Rests (IsMarked stat.now)) to.old) }
@@ -58,6 +59,7 @@ fn mark<M: Nor>(to: &mut Volume<'_, M>, stat: &Stat) -> Result<(), CopyErr>
     ensures same { IsSameVolume to.old to.new }
     ensures cause { result ≡ Err CopyErr.ToFault → Rose (M.faults to.old.nor.now) (M.faults to.new.nor.now) }
     ensures differs { (d : Differs) → result ≡ Err (CopyErr.Damaged d) → d.wanted ≢ d.found }
+    ensures source { result ≡ Err CopyErr.FromFault → ⊥ }
     ensures cuts { CutsUnder (Rests (IsWhole stat.now)) to.old to.new }
     ensures done { OnOk result (Leads (Rests (IsWhole stat.now)) (Rests (IsMarked stat.now)) to.old to.new) }
     ensures stops { IfErr result (OnlyFaults (Rests (IsWhole stat.now)) to.old) }

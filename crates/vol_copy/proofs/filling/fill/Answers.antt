@@ -1,8 +1,12 @@
-use Rattle.std.proofs.Common.{◌∙◌, Ok, ap}
+use Rattle.std.proofs.Common.{◌∙◌, Ok, Err, ap}
 use Rattle.copy_model.specs.Parts.{IsMissing}
 use Rattle.vol_copy.specs.Stages.{Rests, With, StopsFrom}
-use Rattle.vol_copy.proofs.Chains.{passed}
+use Rattle.vol_copy.proofs.Chains.{passed, passed_is}
 use Rattle.vol_copy.proofs.Pages.{unopened_cuts, unopened_stops, unmade_cuts, unmade_stops, opened_cuts, opened_done, opened_stops}
+use Rattle.table_model.specs.Ask.{Opens}
+use Rattle.copy_model.specs.Copying.{working}
+use Rattle.vol_copy.specs.Went.{opened_as}
+use Rattle.vol_copy.proofs.Causes.{went-never, opened-never}
 use Rattle.vol_copy.proofs.filling.fill.Goals as goal
 
 pub returns-in_err-open_on-clause-cuts : goal.returns-in_err-open_on-clause-cuts
@@ -26,3 +30,6 @@ returns-in-None-clause-cuts g c = unmade_cuts c.args.stat.now c.args.from.now c.
 
 pub returns-in-None-clause-stops : goal.returns-in-None-clause-stops
 returns-in-None-clause-stops g c = unmade_stops c.args.stat.now c.args.from.now c.args.to.now c.open_on.new.to c.open_on.result c.open_on.ensures.went (c.in_ok-open_on.was ∙ ap Ok c.in-None.is) c.give_up.new.to _ c.give_up.ensures.stops
+
+pub returns-in_err-open_on-clause-from_cause : goal.returns-in_err-open_on-clause-from_cause
+returns-in_err-open_on-clause-from_cause g c = λ is. absurd (went-never opened_as opened-never (Opens working 52) c.args.to.now c.open_on.new.to c.open_on.result c.open_on.ensures.went (c.in_err-open_on.was ∙ ap Err (passed_is c.from_residual.result _ c.from_residual.ensures.1 _ is)))

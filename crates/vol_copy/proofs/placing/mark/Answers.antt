@@ -1,4 +1,8 @@
 use Rattle.vol_copy.proofs.Marking.{mark_none, mark_skips, set_cuts, set_done, set_stops}
+use Rattle.table_model.specs.Ask.{SetsMeta}
+use Rattle.copy_model.specs.Copying.{working}
+use Rattle.vol_copy.specs.Went.{done_as}
+use Rattle.vol_copy.proofs.Causes.{went-never, done-never}
 use Rattle.vol_copy.proofs.placing.mark.Goals as goal
 
 pub returns-then-clause-cuts : goal.returns-then-clause-cuts
@@ -15,3 +19,6 @@ returns-clause-done g c = set_done c.args.stat.now c.args.to.now c.perform.new.t
 
 pub returns-clause-stops : goal.returns-clause-stops
 returns-clause-stops g c = set_stops c.args.stat.now c.args.to.now c.perform.new.to c.perform.result c.as_slice-meta.result.now c.as_slice-meta.ensures.bytes c.perform.ensures.went c.needs_no_meta.result c.needs_no_meta.ensures c.if-needs_no_meta.false
+
+pub returns-clause-source : goal.returns-clause-source
+returns-clause-source g c = λ is. went-never done_as done-never (SetsMeta working c.as_slice-meta.result.now) c.args.to.now c.perform.new.to c.perform.result c.perform.ensures.went is
