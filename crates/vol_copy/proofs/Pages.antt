@@ -3,7 +3,7 @@ use Rattle.std.proofs.Common.{◌≡◌, ◌<◌, ◌≤◌, ◌+◌, ◌-◌, �
 use Rattle.std.specs.Prelude.{OnOk, IfOk, IfErr, min}
 use Rattle.std.proofs.Math.Nat.{div-add-mod}
 use Rattle.std.proofs.lemmas.Nat.{mod-mul-add}
-use Rattle.std.proofs.lemmas.Bool.{cases_le}
+use Rattle.std.proofs.lemmas.Bool.{cases_lt}
 use Rattle.nor_core.specs.declared.state.NorState.{Ghosts as NorOf}
 use Rattle.nor_core.specs.Device.{OnlyReads}
 use Rattle.geometry.specs.declared.geometry.Geometry.{Geometry}
@@ -96,15 +96,15 @@ page_here g stat at count len more ends some least long = record {
   page = ⊎_elim (λ (page : at % body g ≡ 0). page) (λ (end : at ≡ stat.size). absurd (omega (arith, more, end))) ends;
   most = omega (arith, least, long);
   within = omega (arith, least, long, more);
-  whole = ⊎_elim (λ (low : body g ≤ stat.size - at). inl (omega (arith, low, least, long))) (λ (high : stat.size - at < body g). inr (omega (arith, high, least, long, more))) (cases_le (body g) (stat.size - at));
+  whole = ⊎_elim (λ (high : stat.size - at < body g). inr (omega (arith, high, least, long, more))) (λ (low : body g ≤ stat.size - at). inl (omega (arith, low, least, long))) (cases_lt (stat.size - at) (body g));
 }
 
 -- where it ends
 pub page_after : (g : Geometry) (size at count : ℕ) → at < size → (at % body g ≡ 0) ⊎ (at ≡ size) → 0 < body g → count ≡ min (size - at) (body g) → ((at + count) % body g ≡ 0) ⊎ (at + count ≡ size)
 page_after g size at count more ends pos least = ⊎_elim
-    (λ (low : body g ≤ size - at). inl (ap (λ (n : ℕ). (at + n) % body g) (let all : count ≡ body g = omega (arith, low, least) in all) ∙ next_page at (body g) pos (⊎_elim (λ (page : at % body g ≡ 0). page) (λ (end : at ≡ size). absurd (omega (arith, more, end))) ends)))
     (λ (high : size - at < body g). inr (omega (arith, high, least, more)))
-    (cases_le (body g) (size - at))
+    (λ (low : body g ≤ size - at). inl (ap (λ (n : ℕ). (at + n) % body g) (let all : count ≡ body g = omega (arith, low, least) in all) ∙ next_page at (body g) pos (⊎_elim (λ (page : at % body g ≡ 0). page) (λ (end : at ≡ size). absurd (omega (arith, more, end))) ends)))
+    (cases_lt (size - at) (body g))
   where
     next_page : (a n : ℕ) → 0 < n → a % n ≡ 0 → (a + n) % n ≡ 0
     next_page a n some from =
