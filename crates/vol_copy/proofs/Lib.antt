@@ -17,3 +17,7 @@ pub mod Searching
 pub mod Ending
 pub mod Exits
 pub mod Sights
+pub mod Chains
+pub mod Pages
+pub mod Readers
+pub mod Causes

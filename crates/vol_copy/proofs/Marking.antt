@@ -1,7 +1,11 @@
 -- The working file gets the record's meta bytes.
-use Rattle.std.proofs.Common.{◌≡◌, ◌≢◌, ◌⊎◌, ℕ, List, length, Bool, true, false, ◌==◌, Option, Some, None, Result, Ok, Err, refl, sym, ◌∙◌, ap, subst, ⊎_elim, inl, inr}
+use Rattle.std.proofs.Common.{◌≡◌, ◌≢◌, ◌⊎◌, ℕ, List, length, Bool, true, false, not, ◌==◌, ◌||◌, Option, Some, None, Result, Ok, Err, refl, sym, ◌∙◌, ap, subst, ⊎_elim, inl, inr}
+use Rattle.std.specs.Prelude.{OnOk, IfErr}
 use Rattle.std.specs.List.{All}
 use Rattle.std.proofs.lemmas.Bool.{eqb-true}
+use Rattle.std.proofs.lemmas.List.Elements.{All-weaker}
+use Rattle.std.proofs.lemmas.List.Sums.{AllPass-from_list_all}
+use Rattle.image_model.specs.Tidy.{is_erased}
 use Rattle.geometry.specs.declared.geometry.Geometry.{Geometry}
 use Rattle.nor_core.specs.declared.state.NorState.{Ghosts as NorOf}
 use Rattle.table_model.specs.declared.error.FsErr.TheVariants.{DeviceFault}
@@ -31,7 +35,14 @@ use Rattle.vol_copy.specs.Stages.{Rests, CutsUnder, Leads, OnlyFaults}
 use Rattle.vol_copy.specs.Went.{Went, done_as}
 use Rattle.vol_copy.proofs.Composing.{RestsSome, rest_table, cuts_none, cuts_of}
 use Rattle.vol_copy.proofs.Calling.{goes, closed_cuts, closed_leads}
-use Rattle.vol_copy.proofs.Places.{done_stop, done_whole}
+use Rattle.vol_copy.proofs.Places.{done_stop, done_whole, on_ok, if_err}
+
+-- bytes that are all 0xFF
+all_ones : (bytes : List ℕ) → is_erased bytes ≡ true → All (λ (b : ℕ). b ≡ 255) bytes
+all_ones bytes is = All-weaker (λ (b : ℕ). (b == 255) ≡ true) (λ (b : ℕ). b ≡ 255) (λ b same. eqb-true b 255 same) bytes (AllPass-from_list_all (λ (b : ℕ). b == 255) bytes is)
+
+skipped_erased : (meta : List ℕ) (many : ℕ) → (length meta == many) ≡ true → (not (length meta == many) || is_erased meta) ≡ true → is_erased meta ≡ true
+skipped_erased meta many same is = ap (λ (b : Bool). not b || is_erased meta) (sym same) ∙ is
 
 whole_under : (stat : Stat) (t : Task) (files : List File) → IsWhole stat t files → IsTable files → IsUnder t.alike t.source t.first files
 whole_under stat t files is table = subst (IsUnder t.alike t.source t.first) (sym is.files_are) (begun_under stat t is.before is.is (length is.is.next.f.bytes) (subst IsTable is.files_are table))
@@ -68,6 +79,22 @@ module _ {M : Type 0} {nor : NorOf M} (stat : Stat) (v : Volume M nor) where
         let is = has.known known in
         blank_marked stat t has.files is (sym (as_told stat t has.files is) ∙ ap (λ (g : Geometry). length stat.meta == g.meta) (sym has.at.geometry) ∙ same) all;
   }
+
+  -- nothing is to be done
+  pub mark_skips : (meta : List ℕ) → meta ≡ stat.meta → (skips : Bool) → skips ≡ (not (length meta == v.geometry.meta) || is_erased meta) → skips ≡ true → Leads (Rests (IsWhole stat)) (Rests (IsMarked stat)) v v
+  mark_skips meta named skips is skip = skipped (length stat.meta == v.geometry.meta) refl
+      where
+        skipped : (b : Bool) → (length stat.meta == v.geometry.meta) ≡ b → Leads (Rests (IsWhole stat)) (Rests (IsMarked stat)) v v
+        skipped false other = mark_other other
+        skipped true same = mark_blank same (all_ones stat.meta (skipped_erased stat.meta v.geometry.meta same (ap (λ (m : List ℕ). not (length m == v.geometry.meta) || is_erased m) (sym named) ∙ sym is ∙ skip)))
+
+-- meta bytes that are to be set are as many as the target's files have
+mark_as_many : (meta : List ℕ) (many : ℕ) (skips : Bool) → skips ≡ (not (length meta == many) || is_erased meta) → skips ≡ false → (length meta == many) ≡ true
+mark_as_many meta many skips is stay = go (length meta == many) refl
+  where
+    go : (b : Bool) → (length meta == many) ≡ b → (length meta == many) ≡ true
+    go true same = same
+    go false other = absurd (let yes : true ≡ false = ap (λ (b : Bool). not b || is_erased meta) (sym other) ∙ sym is ∙ stay in cc)
 
 -- ---- they are set
 
@@ -123,3 +150,21 @@ module _ {M : Type 0} {nor : NorOf M} (stat : Stat) (old new : Volume M nor) (re
   mark_stops why is = λ t has known. done_stop why went.0 (sym went.2 ∙ is) (λ whole.
       (goes (SetsMeta working stat.meta) old new went.0 went.1 refl refl t.g (with_files t.slots has.files) has.at whole).0
       ∙ ap (λ (o : Outcome). o.answer) (marked_done stat t has.files (has.known known) (same_at t (with_files t.slots has.files) has.at)))
+
+-- by a name that the code gives them
+module _ {M : Type 0} {nor : NorOf M} (stat : Stat) (old new : Volume M nor) (result : Result (Unit {0}) CopyErr) (meta : List ℕ) (named : meta ≡ stat.meta) (went : Went done_as (SetsMeta working meta) old new result) (skips : Bool)
+    (is : skips ≡ (not (length meta == old.geometry.meta) || is_erased meta)) (stay : skips ≡ false) where
+  set_as : Went done_as (SetsMeta working stat.meta) old new result
+  set_as = subst (λ (m : List ℕ). Went done_as (SetsMeta working m) old new result) named went
+
+  as_many : (length stat.meta == old.geometry.meta) ≡ true
+  as_many = ap (λ (m : List ℕ). length m == old.geometry.meta) (sym named) ∙ mark_as_many meta old.geometry.meta skips is stay
+
+  pub set_cuts : CutsUnder (Rests (IsWhole stat)) old new
+  set_cuts = mark_cuts stat old new result set_as as_many
+
+  pub set_done : OnOk result (Leads (Rests (IsWhole stat)) (Rests (IsMarked stat)) old new)
+  set_done = on_ok result (λ ok. mark_leads stat old new result set_as as_many ok)
+
+  pub set_stops : IfErr result (OnlyFaults (Rests (IsWhole stat)) old)
+  set_stops = if_err result (λ why err. mark_stops stat old new result set_as as_many why err)

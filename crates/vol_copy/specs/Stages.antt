@@ -1,5 +1,5 @@
 -- A target while files are copied onto it.
-use Rattle.std.specs.Prelude.{◌≡◌, ◌+◌, ◌-◌, ◌<◌, ◌≤◌, ◌%◌, ◌⊎◌, ℕ, min, List, true, Some, None}
+use Rattle.std.specs.Prelude.{◌≡◌, ◌+◌, ◌-◌, ◌<◌, ◌≤◌, ◌%◌, ◌⊎◌, ℕ, min, List, Bool, true, false, Some, None}
 use Rattle.geometry.specs.declared.geometry.Geometry.{Geometry}
 use Rattle.geometry.specs.Numbers.{body}
 use Rattle.table_model.specs.declared.reply.Stat.{Stat}
@@ -20,7 +20,7 @@ use Rattle.copy_model.specs.Filling.{with_first}
 use Rattle.copy_model.specs.Stops.{full_as}
 use Rattle.copy_model.specs.Tasks.{Task, stops_at}
 use Rattle.copy_model.specs.Under.{IsUnder}
-use Rattle.copy_model.specs.Parts.{IsLacking}
+use Rattle.copy_model.specs.Parts.{IsFilling, IsLacking}
 use Rattle.vol_copy.specs.Ends.{TellsFiles}
 
 -- so many bytes of a record, from the start of a data page on, to its end or that of the record
@@ -66,6 +66,11 @@ module _ {M : Type 0} {nor : NorOf M} where
   -- The data page from a place of a record on has no room.
   abbrev pub LacksPage : (size at : ℕ) → Task → Volume M nor → Type 0
   LacksPage size at t v = LacksRoom (index_more v.geometry size at) 1 t v
+
+  -- So many bytes of a record more were written behind those before a place, or had no room.
+  abbrev pub PageWent : (fd : ℕ) (stat : Stat) (at len : ℕ) (fits : Bool) → Task → Volume M nor → Type 0
+  PageWent fd stat at len true t v = Works fd 52 (IsFilling stat (at + len)) t v
+  PageWent fd stat at len false t v = LacksRoom (index_pages v.geometry (at + len) - index_pages v.geometry at) 1 t v
 
   -- What calls do that lead from targets as A has it: a cut leaves an image that may follow, and what the copy may leave.
   abbrev pub CutsUnder : (A : Task → Volume M nor → Type 0) (old new : Volume M nor) → Type 0

@@ -1,13 +1,12 @@
 // The bytes of a record, under the working name.
-ghost use Rattle.std.specs.Prelude.{◌≡◌, ◌≢◌, ◌+◌, ◌-◌, ◌<◌, ◌≤◌, length, true, false, OnOk, IfOk, IfErr, Ok, Err, if◌then◌else◌};
+ghost use Rattle.std.specs.Prelude.{◌≡◌, ◌≢◌, ◌+◌, ◌-◌, ◌<◌, ◌≤◌, length, true, false, OnOk, IfOk, IfErr, Ok, Err};
 ghost use Rattle.nor_core.specs.Count.{Rose};
 ghost use Rattle.nor_core.specs.Device.{OnlyReads};
-ghost use Rattle.table_model.specs.Room.{index_pages as the_index_pages};
 ghost use Rattle.table_model.specs.declared.error.Differ.{Differ as Differs};
 ghost use Rattle.vol_mount.specs.Readers.{IsSameReader};
 ghost use Rattle.volume.specs.Same.{IsSameVolume};
 ghost use Rattle.copy_model.specs.Parts.{IsMissing, IsFilling, IsWhole};
-ghost use Rattle.vol_copy.specs.Stages.{Rests, Works, LacksRoom, LacksPage, With, CutsUnder, Leads, StopsFrom, IsPage};
+ghost use Rattle.vol_copy.specs.Stages.{Rests, Works, LacksRoom, LacksPage, PageWent, With, CutsUnder, Leads, StopsFrom, IsPage};
 
 use crate::asking::{WORKING, open_on, perform, write_on};
 use crate::giving_up::give_up;
@@ -40,9 +39,7 @@ fn put_page<N: Nor, M: Nor>(
     ensures to_cause { result ≡ Err CopyErr.ToFault → Rose (M.faults to.old.nor.now) (M.faults to.new.nor.now) }
     ensures differs { (d : Differs) → result ≡ Err (CopyErr.Damaged d) → d.wanted ≢ d.found }
     ensures cuts { CutsUnder (With N.NorState from.old (Works fd 52 (IsFilling stat.now at))) to.old to.new }
-    ensures wrote { IfOk result (λ fits. Leads (With N.NorState from.old (Works fd 52 (IsFilling stat.now at)))
-        (if fits then Works fd 52 (IsFilling stat.now (at + length piece.old))
-            else LacksRoom (the_index_pages to.old.geometry (at + length piece.old) - the_index_pages to.old.geometry at) 1) to.old to.new) }
+    ensures wrote { IfOk result (λ fits. Leads (With N.NorState from.old (Works fd 52 (IsFilling stat.now at))) (PageWent fd stat.now at (length piece.old) fits) to.old to.new) }
     ensures stops { IfErr result (StopsFrom (With N.NorState from.old (Works fd 52 (IsFilling stat.now at))) to.old to.new) }
 {
     read_of(from, stat.id, at, piece)?;
@@ -96,7 +93,7 @@ fn stop_at<M: Nor>(to: &mut Volume<'_, M>, at: u32, size: u32) -> CopyErr
 {
     let g = to.geometry;
     let end = at + piece_length(size - at, g.page - 5);
-    let more = index_pages(&g, end) - index_pages(&g, at);
+    let more = index_pages(&g, end).saturating_sub(index_pages(&g, at));
     give_up(to, more, 1)
 }
 

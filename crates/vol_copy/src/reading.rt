@@ -1,5 +1,5 @@
 // Records and bytes of the source.
-ghost use Rattle.std.specs.Prelude.{◌≡◌, ◌+◌, ◌<◌, ◌≤◌, ◌⊎◌, List, length, Some, None, Ok, Err, OnOk, IfOk, IfErr, position};
+ghost use Rattle.std.specs.Prelude.{◌≡◌, ◌+◌, ◌<◌, ◌≤◌, ◌⊎◌, List, length, Some, None, Ok, Err, OnOk, IfOk, IfErr, position, min};
 ghost use Rattle.std.specs.Option.{option_map, IfSome};
 ghost use Rattle.nor_core.specs.Count.{Rose};
 ghost use Rattle.nor_core.specs.Device.{OnlyReads};
@@ -97,6 +97,7 @@ pub(crate) fn piece_length(left: u32, most: u32) -> u32
     ensures left { result ≤ left }
     ensures most { result ≤ most }
     ensures whole { (result ≡ most) ⊎ (result ≡ left) }
+    ensures least { result ≡ min left most }
 {
     if left < most { left } else { most }
 }
