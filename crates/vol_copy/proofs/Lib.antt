@@ -19,5 +19,3 @@ pub mod Exits
 pub mod Sights
 pub mod Chains
 pub mod Pages
-pub mod Readers
-pub mod Causes
