@@ -1,4 +1,4 @@
-use Rattle.std.proofs.Common.{◌≡◌, ◌≤◌, ◌+◌, false, true, rules, arith}
+use Rattle.std.proofs.Common.{◌≡◌, ◌≤◌, ◌+◌, length, take, false, true, rules, arith}
 use Rattle.nor_core.proofs.Cuts.{reads_none, reads_then}
 use Rattle.volume.proofs.Staying.{same_none, same_then}
 use Rattle.vol_copy.specs.Stages.{Works, With}
@@ -18,7 +18,16 @@ loop-at-init g c = record {
 }
 
 pub loop-at-preserved : goal.loop-at-preserved
-loop-at-preserved g c = ?
+loop-at-preserved g c =
+    let was = c.loop-at.invariant in
+    let long : c.loop-at.at + length (take c.piece_length-count.result c.loop-at.ours) ≡ c.loop-at.at + c.piece_length-count.result = ? in
+    record {
+      within = omega (arith, was.within, c.piece_length-count.ensures.left, c.loop-at-test.true);
+      reads = reads_then was.reads c.same_part.ensures.reads;
+      same_from = reader_then was.same_from c.same_part.ensures.same_from;
+      same_to = same_then was.same_to c.same_part.ensures.same_to;
+      looked = ?;
+    }
 
 pub returns-in_err-same-clause-stops : goal.returns-in_err-same-clause-stops
 returns-in_err-same-clause-stops g c =
