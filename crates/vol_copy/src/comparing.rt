@@ -74,20 +74,21 @@ fn same_bytes<N: Nor, M: Nor>(
     let (ours, theirs) = piece.split_at_mut(HALF as usize);
     let mut at = 0;
     while at < stat.size {
-        let count = piece_length(stat.size - at, HALF) as usize;
+        let count = piece_length(stat.size - at, HALF);
         let same = same_part(
             from,
             to,
             fd,
             stat,
             at,
-            &mut ours[..count],
-            &mut theirs[..count],
+            &mut ours[..count as usize],
+            &mut theirs[..count as usize],
         )?;
-        if !same {
+        if same {
+            at += count;
+        } else {
             return Ok(false);
         }
-        at += count as u32;
     }
     Ok(true)
 }
