@@ -17,4 +17,6 @@ pub returns-in-Ok-clear-clause-cuts : goal.returns-in-Ok-clear-clause-cuts
 returns-in-Ok-clear-clause-cuts g c = given_cuts c.args.index c.args.pages c.args.to.now c.info_on.new.to c.info_on.result c.info_on.ensures.went c.in-Ok.info c.in-Ok.is c.clear.new.to c.clear.result c.clear.ensures.went
 
 pub returns-in-Ok-clear-clause-stops : goal.returns-in-Ok-clear-clause-stops
-returns-in-Ok-clear-clause-stops g c = given_ends c.args.index c.args.pages c.args.to.now c.info_on.new.to c.info_on.result c.info_on.ensures.went c.in-Ok.info c.in-Ok.is c.clear.new.to c.clear.result c.clear.ensures.went c.in-Ok-clear.is
+returns-in-Ok-clear-clause-stops g c =
+    rw (c.from.ensures, c.from-in-Ok-clear.ensures, c.from-in-Ok-clear-2.ensures, c.from-in-Ok-clear-3.ensures)
+    (given_ends c.args.index c.args.pages c.args.to.now c.info_on.new.to c.info_on.result c.info_on.ensures.went c.in-Ok.info c.in-Ok.is c.clear.new.to c.clear.result c.clear.ensures.went c.in-Ok-clear.is)
