@@ -50,13 +50,13 @@ number_none : (n : ℕ) (b : Bool) (bad : CopyErr) → cond {A = Result (Option 
 number_none n true bad is = cc
 number_none n false bad is = cc
 
-opened_told : (fd : ℕ) (a : Answer) → opened_as a ≡ Ok (Some fd) → a ≡ Tells fd
+pub opened_told : (fd : ℕ) (a : Answer) → opened_as a ≡ Ok (Some fd) → a ≡ Tells fd
 opened_told fd (Tells n) is = ap Tells (number_in n fd (nat_lt n 65536) Refused is)
 opened_told fd (Refuses NoRoom) is = absurd (let no : Ok None ≡ Ok (Some fd) = is in cc)
 opened_told fd (Refuses why) is = absurd (let no : opened_as (Refuses why) ≡ Ok (Some fd) = is in cc)
 opened_told fd a is = absurd (cc)
 
-opened_stop : (why : CopyErr) (a : Answer) → opened_as a ≡ Err why → ((a ≡ Refuses DeviceFault → ⊥) → (a ≡ Tells 1) ⊎ (a ≡ Refuses NoRoom)) → why ≡ ToFault
+pub opened_stop : (why : CopyErr) (a : Answer) → opened_as a ≡ Err why → ((a ≡ Refuses DeviceFault → ⊥) → (a ≡ Tells 1) ⊎ (a ≡ Refuses NoRoom)) → why ≡ ToFault
 opened_stop why (Refuses DeviceFault) is among = cc
 opened_stop why (Refuses NoRoom) is among = absurd (let no : Ok None ≡ Err why = is in cc)
 opened_stop why (Tells n) is among = absurd (⊎_elim
@@ -65,7 +65,7 @@ opened_stop why (Tells n) is among = absurd (⊎_elim
     (among (λ fault. let e = fault in cc)))
 opened_stop why a is among = absurd (⊎_elim (λ one. let e = one in cc) (λ full. let e = full in cc) (among (λ fault. let e = fault in cc)))
 
-opened_none : (a : Answer) → opened_as a ≡ Ok None → a ≡ Refuses NoRoom
+pub opened_none : (a : Answer) → opened_as a ≡ Ok None → a ≡ Refuses NoRoom
 opened_none (Refuses NoRoom) is = refl
 opened_none (Tells n) is = absurd (number_none n (nat_lt n 65536) Refused is)
 opened_none a is = absurd (cc)

@@ -26,12 +26,12 @@ use Rattle.vol_copy.proofs.Calling.{goes, any_cuts}
 use Rattle.vol_copy.proofs.Places.{removed_stop, removed_whole}
 
 -- a look how full it is that isn't done
-info_stop : (why : CopyErr) (a : Answer) (info : Info) → info_as a ≡ Err why → ((a ≡ Refuses DeviceFault → ⊥) → a ≡ Counts info) → why ≡ ToFault
+pub info_stop : (why : CopyErr) (a : Answer) (info : Info) → info_as a ≡ Err why → ((a ≡ Refuses DeviceFault → ⊥) → a ≡ Counts info) → why ≡ ToFault
 info_stop why (Refuses DeviceFault) info is counts = cc
 info_stop why (Counts other) info is counts = absurd (let no : Ok other ≡ Err why = is in cc)
 info_stop why a info is counts = absurd (let e = counts (λ fault. let e = fault in cc) in cc)
 
-info_told : (info : Info) (a : Answer) → info_as a ≡ Ok info → a ≡ Counts info
+pub info_told : (info : Info) (a : Answer) → info_as a ≡ Ok info → a ≡ Counts info
 info_told info (Counts other) is = cc
 info_told info (Refuses why) is = absurd (let no : info_as (Refuses why) ≡ Ok info = is in cc)
 info_told info a is = absurd (cc)

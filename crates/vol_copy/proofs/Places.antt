@@ -66,7 +66,7 @@ if_err (Ok done) p = tt {0}
 if_err (Err why) p = p why refl
 
 -- a removal on the flat table
-removal_answers : (g : Geometry) (slots : ℕ) (files : List File) (name : List ℕ) (reply : Answer) → name_refusal name ≡ None → reply ≡ (answer g true (with_files slots files) (Removes name)).answer → (reply ≡ Fine) ⊎ (reply ≡ Refuses NotFound)
+pub removal_answers : (g : Geometry) (slots : ℕ) (files : List File) (name : List ℕ) (reply : Answer) → name_refusal name ≡ None → reply ≡ (answer g true (with_files slots files) (Removes name)).answer → (reply ≡ Fine) ⊎ (reply ≡ Refuses NotFound)
 removal_answers g slots files name reply fine is = go (file_named name files) refl
   where
     go : (o : Option File) → file_named name files ≡ o → (reply ≡ Fine) ⊎ (reply ≡ Refuses NotFound)

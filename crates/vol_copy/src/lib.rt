@@ -3,6 +3,7 @@
 #![tactic(auto)]
 
 mod asking;
+mod beginning;
 mod comparing;
 mod copying;
 mod filling;

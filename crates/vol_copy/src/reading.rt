@@ -61,7 +61,15 @@ pub(crate) fn read_of<N: Nor>(
     }
 }
 
+// Whether a record has the working name.
+fn is_working(stat: &Stat) -> bool
+    ensures { result ≡ same_text stat.now.name working }
+{
+    stat.name.as_slice() == WORKING.as_slice()
+}
+
 /// The place of the source's file that has the working name, if one has it, in order of ids from 0.
+#[tactic(auto, using(nor_core::proofs::Cuts::reads_then, crate::proofs::Readers::reader_then))]
 pub(crate) fn first_working<N: Nor>(from: &mut Reader<'_, N>) -> Result<Option<u32>, CopyErr>
     ensures reads { OnlyReads N.NorState from.old.nor.now from.new.nor.now }
     ensures same { IsSameReader from.old from.new }
@@ -71,8 +79,8 @@ pub(crate) fn first_working<N: Nor>(from: &mut Reader<'_, N>) -> Result<Option<u
 {
     let mut at = 0;
     let mut after = 0;
-    while let Some(stat) = next_of(from, after)? {
-        if stat.name.as_slice() == WORKING.as_slice() {
+    'records: while let Some(stat) = next_of(from, after)? {
+        if is_working(&stat) {
             return Ok(Some(at));
         }
         after = stat.id;
