@@ -80,3 +80,15 @@ returns-clause-all g c = λ is. all_filled c.args.stat.now c.args.fd c.args.from
 
 pub returns-clause-short : goal.returns-clause-short
 returns-clause-short g c = λ more. absurd (omega (arith, more, c.loop-at-test.false))
+
+pub returns-in_err-put_page-clause-same_from : goal.returns-in_err-put_page-clause-same_from
+returns-in_err-put_page-clause-same_from g c = reader_then c.loop-at.invariant.same_from c.put_page.ensures.same_from
+
+pub returns-in_err-put_page-clause-same_to : goal.returns-in_err-put_page-clause-same_to
+returns-in_err-put_page-clause-same_to g c = same_then c.loop-at.invariant.same_to c.put_page.ensures.same_to
+
+pub returns-then-not-branch-clause-same_from : goal.returns-then-not-branch-clause-same_from
+returns-then-not-branch-clause-same_from g c = reader_then c.loop-at.invariant.same_from c.put_page.ensures.same_from
+
+pub returns-then-not-branch-clause-same_to : goal.returns-then-not-branch-clause-same_to
+returns-then-not-branch-clause-same_to g c = same_then c.loop-at.invariant.same_to c.put_page.ensures.same_to

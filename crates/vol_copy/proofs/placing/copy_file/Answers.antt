@@ -1,5 +1,6 @@
 use Rattle.vol_copy.specs.Stages.{With, Rests, StopsFrom}
 use Rattle.copy_model.specs.Parts.{IsMissing}
+use Rattle.volume.proofs.Staying.{same_then}
 use Rattle.vol_copy.proofs.Chains.{passed, whole_cuts, whole_stops, copied_cuts, copied_done, copied_stops}
 use Rattle.vol_copy.proofs.placing.copy_file.Goals as goal
 
@@ -23,3 +24,6 @@ returns-clause-done g c = copied_done c.args.stat.now (With g.N.NorState c.args.
 
 pub returns-clause-stops : goal.returns-clause-stops
 returns-clause-stops g c = copied_stops c.args.stat.now (With g.N.NorState c.args.from.now (Rests (IsMissing c.args.stat.now))) c.args.to.now c.fill.new.to c.in_ok-fill.ensures.cuts c.in_ok-fill.ensures.done c.mark.new.to c.in_ok-mark.ensures.cuts c.in_ok-mark.ensures.done c.place.new.to c.place.result c.place.ensures.stops
+
+pub returns-clause-same_to : goal.returns-clause-same_to
+returns-clause-same_to g c = same_then (same_then c.fill.ensures.same_to c.mark.ensures.same) c.place.ensures.same
