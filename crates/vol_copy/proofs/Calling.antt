@@ -39,13 +39,15 @@ module _ {M : Type 0} {nor : NorOf M} (ask : Ask) (old new : Volume M nor) (repl
   pub any_cuts : (A : Task → Volume M nor → Type 0) (state : (t : Task) → A t old → State) → ((t : Task) (has : A t old) → IsAtRest t.g old (state t has)) → ((t : Task) (has : A t old) → t.known ≡ true → IsUnder t.alike t.source t.first (state t has).table) →
       ((t : Task) (has : A t old) → t.known ≡ true → IsTable (answer t.g true (state t has) ask).next.table → IsUnder t.alike t.source t.first (answer t.g true (state t has) ask).next.table) → CutsUnder A old new
   any_cuts A state at before after = wider rested.cuts (λ tells image here. λ t has.
-      let r = here t.g (state t has) (at t has) in
-      (r.0, λ known.
-      ⊎_elim
-      (λ (is : table_of t.g image ≡ (state t has).table). subst (IsUnder t.alike t.source t.first) (sym is) (before t has known))
-      (λ (is : table_of t.g image ≡ (answer t.g true (state t has) ask).next.table).
-      subst (IsUnder t.alike t.source t.first) (sym is) (after t has known (subst IsTable is (image_table t.g image))))
-      (cut_at t.g (state t has) image r.1)))
+      let r = here t.g (state t has) (at t has) in (
+        r.0,
+        λ known.
+            ⊎_elim
+            (λ (is : table_of t.g image ≡ (state t has).table). subst (IsUnder t.alike t.source t.first) (sym is) (before t has known))
+            (λ (is : table_of t.g image ≡ (answer t.g true (state t has) ask).next.table).
+            subst (IsUnder t.alike t.source t.first) (sym is) (after t has known (subst IsTable is (image_table t.g image))))
+            (cut_at t.g (state t has) image r.1),
+      ))
 
   -- the same of a target whose descriptors are closed
   pub closed_cuts : (K : Task → List File → Type 0) → ((t : Task) (files : List File) → K t files → IsTable files → IsUnder t.alike t.source t.first files) →

@@ -86,9 +86,10 @@ module _ {N M : Type 0} {nor_from : NorOf N} {nor : NorOf M} (from : Reader N no
   }
 
   pub as_copy : (new : Volume M nor) → CutsUnder Starts old new → CutsCopy (TellsFiles nor_from from) (alike_of from.geometry old.geometry) old new
-  as_copy new cuts = wider cuts (λ tells now here. λ g slots first some at.
-      ((here (record (task_of [] first g slots) { known = false }) (starts_untold first g slots some at)).0,
-      λ source told. (here (task_of source first g slots) (starts source first g slots told some at)).1 refl))
+  as_copy new cuts = wider cuts (λ tells now here. λ g slots first some at. (
+    (here (record (task_of [] first g slots) { known = false }) (starts_untold first g slots some at)).0,
+    λ source told. (here (task_of source first g slots) (starts source first g slots told some at)).1 refl,
+  ))
 
   pub as_ends : (new : Volume M nor) (result : Result Copied CopyErr) →
       ((source first : List File) (g : Geometry) (slots : ℕ) → Starts (task_of source first g slots) old → Ends (alike_of from.geometry old.geometry) source first g slots old new result) →

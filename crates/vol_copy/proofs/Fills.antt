@@ -159,10 +159,12 @@ module _ {M : Type 0} {nor : NorOf M} (stat : Stat) (at fd : ℕ) (bytes : List 
   write_cuts = wider went.1.cuts (λ tells image here. λ t has.
       let d : Open = record { id = has.works.id; flags = 52; offset = has.works.offset } in
       let r = here t.g (with_first t.slots d has.works.files) has.works.at in
-      let p = page_at t has in
-      (r.0, λ known.
-      write_cut stat at t d has.works.files (has.works.known known) has.works.some bytes p.some p.page p.most p.within p.whole (piece_of t has known) (pos t has) (table_of t.g image) (image_table t.g image)
-      (subst (λ (n : ℕ). IsAmong (table_of t.g image) (has.works.files ∷ steps t.g true (with_first t.slots d has.works.files) (Writes n bytes))) has.works.first r.1)))
+      let p = page_at t has in (
+        r.0,
+        λ known.
+            write_cut stat at t d has.works.files (has.works.known known) has.works.some bytes p.some p.page p.most p.within p.whole (piece_of t has known) (pos t has) (table_of t.g image) (image_table t.g image)
+            (subst (λ (n : ℕ). IsAmong (table_of t.g image) (has.works.files ∷ steps t.g true (with_first t.slots d has.works.files) (Writes n bytes))) has.works.first r.1),
+      ))
 
   pub write_leads : result ≡ Ok true → Leads WithBytes (Works fd 52 (IsFilling stat (at + length bytes))) old new
   write_leads ok = λ t has.
@@ -210,7 +212,7 @@ module _ {M : Type 0} {nor : NorOf M} (stat : Stat) (fd : ℕ) (old new : Volume
       let d : Open = record { id = has.id; flags = 52; offset = has.offset } in
       let w = goes (Closes fd) old new went.0 went.1 refl refl t.g (with_first t.slots d has.files) has.at whole in
       let done : answer t.g true (with_first t.slots d has.files) (Closes fd) ≡ record { answer = Fine; next = with_files t.slots has.files } =
-          ap (λ (n : ℕ). answer t.g true (with_first t.slots d has.files) (Closes n)) has.first ∙ close_done stat t d has.files has.some in
+      ap (λ (n : ℕ). answer t.g true (with_first t.slots d has.files) (Closes n)) has.first ∙ close_done stat t d has.files has.some in
       (w.0 ∙ ap (λ (o : Outcome). o.answer) done, subst (IsAtRest t.g new) (ap (λ (o : Outcome). o.next) done) w.1)
 
   pub close_cuts : CutsUnder (Works fd 52 (IsFilling stat stat.size)) old new
@@ -219,7 +221,7 @@ module _ {M : Type 0} {nor : NorOf M} (stat : Stat) (fd : ℕ) (old new : Volume
       (λ t has known table.
       let d : Open = record { id = has.id; flags = 52; offset = has.offset } in
       let done : (answer t.g true (with_first t.slots d has.files) (Closes fd)).next ≡ with_files t.slots has.files =
-          ap (λ (n : ℕ). (answer t.g true (with_first t.slots d has.files) (Closes n)).next) has.first ∙ ap (λ (o : Outcome). o.next) (close_done stat t d has.files has.some) in
+      ap (λ (n : ℕ). (answer t.g true (with_first t.slots d has.files) (Closes n)).next) has.first ∙ ap (λ (o : Outcome). o.next) (close_done stat t d has.files has.some) in
       subst (IsUnder t.alike t.source t.first) (sym (ap (λ (s : State). s.table) done)) (filling_under stat t d has.files has.some stat.size (has.known known) (rest_table has.at)))
 
   pub close_leads : result ≡ Ok tt → Leads (Works fd 52 (IsFilling stat stat.size)) (Rests (IsWhole stat)) old new

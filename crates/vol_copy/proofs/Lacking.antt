@@ -60,7 +60,7 @@ module _ {M : Type 0} {nor : NorOf M} where
     pub info_stops : (why : CopyErr) → result ≡ Err why → StopsFrom (LacksRoom index pages) old new why
     info_stops why is = λ t has known.
         let fault : why ≡ ToFault = info_stop why went.0 (info_of t.g has.state.table) (sym went.2 ∙ is) (λ whole.
-            (goes Informs old new went.0 went.1 refl refl t.g has.state has.at whole).0 ∙ ap (λ (o : Outcome). o.answer) (informed t.g has.state)) in
+        (goes Informs old new went.0 went.1 refl refl t.g has.state has.at whole).0 ∙ ap (λ (o : Outcome). o.answer) (informed t.g has.state)) in
         subst (StopsAs t new) (sym fault) tt
 
   module _ (info : Info) (index pages : ℕ) (old new : Volume M nor) (result : Result (Unit {0}) CopyErr) (went : Went removed_as (Removes working) old new result) where
@@ -88,6 +88,6 @@ module _ {M : Type 0} {nor : NorOf M} where
     give_stops why err = λ t has known.
         let is = has.lacks.known known in
         let fault : why ≡ ToFault = removed_stop why went.0 (sym went.2 ∙ err) (λ whole.
-            let r = (goes (Removes working) old new went.0 went.1 refl refl t.g has.lacks.state has.lacks.at whole).0 in
-            ⊎_elim (λ fine. inl (r ∙ fine)) (λ missing. inr (r ∙ missing)) is.reply) in
+        let r = (goes (Removes working) old new went.0 went.1 refl refl t.g has.lacks.state has.lacks.at whole).0 in
+        ⊎_elim (λ fine. inl (r ∙ fine)) (λ missing. inr (r ∙ missing)) is.reply) in
         subst (StopsAs t new) (sym fault) tt

@@ -83,10 +83,10 @@ module _ {M : Type 0} {nor : NorOf M} (stat : Stat) (v : Volume M nor) where
   -- nothing is to be done
   pub mark_skips : (meta : List ℕ) → meta ≡ stat.meta → (skips : Bool) → skips ≡ (not (length meta == v.geometry.meta) || is_erased meta) → skips ≡ true → Leads (Rests (IsWhole stat)) (Rests (IsMarked stat)) v v
   mark_skips meta named skips is skip = skipped (length stat.meta == v.geometry.meta) refl
-      where
-        skipped : (b : Bool) → (length stat.meta == v.geometry.meta) ≡ b → Leads (Rests (IsWhole stat)) (Rests (IsMarked stat)) v v
-        skipped false other = mark_other other
-        skipped true same = mark_blank same (all_ones stat.meta (skipped_erased stat.meta v.geometry.meta same (ap (λ (m : List ℕ). not (length m == v.geometry.meta) || is_erased m) (sym named) ∙ sym is ∙ skip)))
+    where
+      skipped : (b : Bool) → (length stat.meta == v.geometry.meta) ≡ b → Leads (Rests (IsWhole stat)) (Rests (IsMarked stat)) v v
+      skipped false other = mark_other other
+      skipped true same = mark_blank same (all_ones stat.meta (skipped_erased stat.meta v.geometry.meta same (ap (λ (m : List ℕ). not (length m == v.geometry.meta) || is_erased m) (sym named) ∙ sym is ∙ skip)))
 
 -- meta bytes that are to be set are as many as the target's files have
 mark_as_many : (meta : List ℕ) (many : ℕ) (skips : Bool) → skips ≡ (not (length meta == many) || is_erased meta) → skips ≡ false → (length meta == many) ≡ true
@@ -112,7 +112,7 @@ module _ (stat : Stat) (t : Task) (files : List File) (is : IsWhole stat t files
       let long : length f.meta ≡ t.g.meta = eqb-true (length f.meta) t.g.meta (fit.as_many ∙ alike_is) in
       let room : has_room t.g (put_file (marked t.g t.alike f is.before) is.before) ≡ true = (room-behind t.g t.alike f is.before fit.apart (last-has_room t.g f is.before is.full)).marked_room in
       let here : answer t.g true (with_files t.slots files) (SetsMeta working stat.meta) ≡ answer t.g true (with_files t.slots (begun t.g f is.before (length f.bytes))) (SetsMeta working f.meta) =
-          ap (λ (l : List File). answer t.g true (with_files t.slots l) (SetsMeta working stat.meta)) is.files_are ∙ ap (λ (m : List ℕ). answer t.g true (with_files t.slots (begun t.g f is.before (length f.bytes))) (SetsMeta working m)) meta_is in
+      ap (λ (l : List File). answer t.g true (with_files t.slots l) (SetsMeta working stat.meta)) is.files_are ∙ ap (λ (m : List ℕ). answer t.g true (with_files t.slots (begun t.g f is.before (length f.bytes))) (SetsMeta working m)) meta_is in
       here ∙ marks t.g t.slots f is.before is.is.next.amid.done.none long
       ∙ ap (λ (b : Bool). or_full t.g (with_files t.slots (begun t.g f is.before (length f.bytes))) (record { answer = Fine; next = with_files t.slots (put_file (marked t.g b f is.before) is.before) })) (sym alike_is)
       ∙ rw room refl

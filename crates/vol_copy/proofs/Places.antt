@@ -135,7 +135,7 @@ module _ (stat : Stat) (t : Task) (files : List File) (is : IsCleared stat t fil
       let fit = next_fit stat t is.before is.is.next in
       let f = is.is.next.f in
       let named : answer t.g true (with_files t.slots (cleared t.g t.alike f is.before)) (Renames working f.name) ≡ or_full t.g (with_files t.slots (cleared t.g t.alike f is.before)) (record { answer = Fine; next = with_files t.slots (placed t.g t.alike f is.before) }) =
-          places t.g t.slots t.alike f is.before fit.apart fit.fine is.is.next.amid.done.none (ap (file_named f.name) (sym is.files_are) ∙ is.clear) in
+      places t.g t.slots t.alike f is.before fit.apart fit.fine is.is.next.amid.done.none (ap (file_named f.name) (sym is.files_are) ∙ is.clear) in
       subst (λ (n : List ℕ). answer t.g true (with_files t.slots files) (Renames working n) ≡ or_full t.g (with_files t.slots files) (record { answer = Fine; next = with_files t.slots (placed t.g t.alike f is.before) })) (sym cleared_name_is)
       (subst (λ (l : List File). answer t.g true (with_files t.slots l) (Renames working f.name) ≡ or_full t.g (with_files t.slots l) (record { answer = Fine; next = with_files t.slots (placed t.g t.alike f is.before) })) (sym is.files_are) named)
 

@@ -145,10 +145,14 @@ module _ {M : Type 0} {nor : NorOf M} (stat : Stat) (old new : Volume M nor) (re
 
   -- it is never missing
   pub see_missing : (why : CopyErr) → result ≡ Ok None → LooksUntil (Rests (IsLike stat)) old new why
-  see_missing why is = record { cuts = see_cuts; looks = see_reads; stops = λ t has known. absurd (
-      let told : went.0 ≡ Refuses NoRoom = opened_none went.0 (sym went.2 ∙ is) in
-      let one : Refuses NoRoom ≡ Tells 1 = sym told ∙ sees t has known (λ fault. let no : Refuses NoRoom ≡ Refuses DeviceFault = sym told ∙ fault in cc) in
-      cc) }
+  see_missing why is = record {
+    cuts = see_cuts;
+    looks = see_reads;
+    stops = λ t has known. absurd (
+        let told : went.0 ≡ Refuses NoRoom = opened_none went.0 (sym went.2 ∙ is) in
+        let one : Refuses NoRoom ≡ Tells 1 = sym told ∙ sees t has known (λ fault. let no : Refuses NoRoom ≡ Refuses DeviceFault = sym told ∙ fault in cc) in
+        cc);
+  }
 
 -- ---- and read
 
@@ -282,5 +286,9 @@ module _ {M : Type 0} {nor : NorOf M} (stat : Stat) (copy : Bool) (fd : ℕ) (ol
   quit_looked ok = record { cuts = quit_cuts; looks = quit_reads; leads = quit_leads ok }
 
   pub quit_until : (why : CopyErr) → result ≡ Err why → LooksUntil (Works fd 8 (IsLooked stat copy)) old new why
-  quit_until why is = record { cuts = quit_cuts; looks = quit_reads; stops = λ t has known. fault_stops t new why (done_stop why went.0 (sym went.2 ∙ is) (λ whole.
-      (goes (Closes fd) old new went.0 went.1 refl refl t.g (with_first t.slots (looker has.id has.offset) has.files) has.at whole).0 ∙ ap (λ (o : Outcome). o.answer) (quit_it t has))) }
+  quit_until why is = record {
+    cuts = quit_cuts;
+    looks = quit_reads;
+    stops = λ t has known. fault_stops t new why (done_stop why went.0 (sym went.2 ∙ is) (λ whole.
+        (goes (Closes fd) old new went.0 went.1 refl refl t.g (with_first t.slots (looker has.id has.offset) has.files) has.at whole).0 ∙ ap (λ (o : Outcome). o.answer) (quit_it t has)));
+  }

@@ -102,9 +102,12 @@ module _ {N M : Type 0} {nor_from : NorOf N} {nor : NorOf M} (stat : Stat) (name
 
     there_like : may_be stat there ≡ true → Looked Next (With nor_from from (Rests (IsLike stat))) old mid
     there_like may = looked_as Next (Rests (λ t files. IsNext stat t files × (Some there ≡ option_map stat_of (file_named stat.name files)))) (With nor_from from (Rests (IsLike stat))) old mid
-        (λ t has w. (has.0, rests_at (λ t files. IsNext stat t files × (Some there ≡ option_map stat_of (file_named stat.name files))) (IsLike stat) t mid (λ files at known k.
-        let x = found_file stat.name files there k.1 in
-        is_like stat t files k.0 x.0 x.1 (meta_at t files x.0 at x.1) (ap (may_be stat) (sym x.2) ∙ may)) w)) (told (Some there) ok)
+        (λ t has w. (
+          has.0,
+          rests_at (λ t files. IsNext stat t files × (Some there ≡ option_map stat_of (file_named stat.name files))) (IsLike stat) t mid (λ files at known k.
+              let x = found_file stat.name files there k.1 in
+              is_like stat t files k.0 x.0 x.1 (meta_at t files x.0 at x.1) (ap (may_be stat) (sym x.2) ∙ may)) w,
+        )) (told (Some there) ok)
 
     module _ (may : may_be stat there ≡ true) (new : Volume M nor) (result : Result Bool CopyErr) where
       pub there_then : IfOk result (λ same. Looked (With nor_from from (Rests (IsLike stat))) (Rests (IsSeen stat same)) mid new) → IfOk result (λ same. Looked Next (Rests (IsSeen stat same)) old new)

@@ -119,9 +119,14 @@ module _ {M : Type 0} {nor : NorOf M} (old new : Volume M nor) (result : Result 
   pub none_there : result ≡ Ok None → Leads (Rests IsReady) (Rests (IsUpTo 0)) old new
   none_there ok = λ t has.
       let mid = stat_leads IsReady working (λ t files ready. fine_working) old new result went None ok t has in
-      record { files = mid.files; some = mid.some; at = mid.at; known = λ known.
-          let k = mid.known known in
-          ready_starts t mid.files mid.files k.0 (rest_table mid.at) (without-none mid.files (found_none (file_named working mid.files) k.1)) }
+      record {
+        files = mid.files;
+        some = mid.some;
+        at = mid.at;
+        known = λ known.
+            let k = mid.known known in
+            ready_starts t mid.files mid.files k.0 (rest_table mid.at) (without-none mid.files (found_none (file_named working mid.files) k.1));
+      }
 
   -- and there never is, where none was
   pub there_never : (stat : Stat) → result ≡ Ok (Some stat) → (t : Task) → Rests HasNoWorking t old → t.known ≡ true → ⊥

@@ -99,12 +99,15 @@ module _ {N M : Type 0} {nor_from : NorOf N} {nor : NorOf M} (after : ℕ) (from
 
     -- the record is the next
     turn_next : (t : Task) → Before t old → With nor_from from_mid (Rests (IsNext stat)) t old
-    turn_next t has = (λ known. tells_on reads same (has.0 known), record {
-      files = has.1.files;
-      some = has.1.some;
-      at = has.1.at;
-      known = λ known. let w = file_is t (has.0 known) in record { after = after; f = w.0; found = w.1; stat_is = w.2; amid = has.1.known known; table = rest_table has.1.at };
-    })
+    turn_next t has = (
+      λ known. tells_on reads same (has.0 known),
+      record {
+        files = has.1.files;
+        some = has.1.some;
+        at = has.1.at;
+        known = λ known. let w = file_is t (has.0 known) in record { after = after; f = w.0; found = w.1; stat_is = w.2; amid = has.1.known known; table = rest_table has.1.at };
+      },
+    )
 
     turn_all : (t : Task) → With nor_from from (Rests (IsAllUpTo after)) t old → Before t old
     turn_all t has = (has.0, all_up after t old has.1)

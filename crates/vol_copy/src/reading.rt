@@ -16,10 +16,7 @@ use table_model::{FsErr, Stat};
 use vol_mount::Reader;
 
 /// The record of the source's file of the least id above one, if there is one.
-pub(crate) fn next_of<N: Nor>(
-    from: &mut Reader<'_, N>,
-    after: u16,
-) -> Result<Option<Stat>, CopyErr>
+pub(crate) fn next_of<N: Nor>(from: &mut Reader<'_, N>, after: u16) -> Result<Option<Stat>, CopyErr>
     ensures reads { OnlyReads N.NorState from.old.nor.now from.new.nor.now }
     ensures same { IsSameReader from.old from.new }
     ensures cause { IfErr result (λ why. Rose (N.faults from.old.nor.now) (N.faults from.new.nor.now)) }
