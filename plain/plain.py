@@ -41,8 +41,8 @@ PACKAGES = [
     Package("spiffs", ["spiffs", "volume_rank"]),
     Package("script_rows", ["script_rows"]),
     Package("image_explain", ["image_explain"]),
-    # (`copy_model` is laws alone, for what is to come)
-    Package("plain_tests", ["base_tests", "engine_tests", "firmware_example", "copy_model", "flash_trace"]),
+    # (the last two are for what is to come)
+    Package("plain_tests", ["base_tests", "engine_tests", "firmware_example", "vol_copy", "flash_trace"]),
 ]
 
 # Crates of a registry.

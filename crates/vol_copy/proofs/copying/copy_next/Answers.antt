@@ -1,0 +1,90 @@
+use Rattle.std.proofs.Common.{Bool, subst}
+use Rattle.copy_model.specs.Parts.{IsUpTo, IsNext}
+use Rattle.vol_copy.specs.Stages.{Rests, With, StopsFrom}
+use Rattle.vol_copy.specs.Seen.{IsSeen, Looked}
+use Rattle.vol_copy.proofs.Exits.{passed}
+use Rattle.vol_copy.proofs.Turning.{turn_none_cuts, turn_none_idle, turn_fails, turn_last, unseen_cuts, unseen_idle, unseen_stops, kept_cuts, kept_idle, kept_leads, copied_cuts, copied_idle, copied_stops, copied_leads}
+use Rattle.vol_copy.proofs.copying.copy_next.Goals as goal
+
+pub returns-in_err-found-clause-cuts : goal.returns-in_err-found-clause-cuts
+returns-in_err-found-clause-cuts g c =
+    turn_none_cuts c.args.after c.args.from.now c.args.to.now
+
+pub returns-in_err-found-clause-idle : goal.returns-in_err-found-clause-idle
+returns-in_err-found-clause-idle g c =
+    turn_none_idle c.args.after c.args.from.now c.args.to.now
+
+pub returns-in_err-found-clause-stops : goal.returns-in_err-found-clause-stops
+returns-in_err-found-clause-stops g c =
+    passed (StopsFrom (With g.N.NorState c.args.from.now (Rests (IsUpTo c.args.after))) c.args.to.now c.args.to.now) c.from_residual.result _ c.from_residual.ensures.1 (turn_fails c.args.after c.args.from.now c.args.to.now _ c.in_err-found.ensures.only)
+
+pub returns-in-None-clause-cuts : goal.returns-in-None-clause-cuts
+returns-in-None-clause-cuts g c =
+    turn_none_cuts c.args.after c.args.from.now c.args.to.now
+
+pub returns-in-None-clause-idle : goal.returns-in-None-clause-idle
+returns-in-None-clause-idle g c =
+    turn_none_idle c.args.after c.args.from.now c.args.to.now
+
+pub returns-in-None-clause-done : goal.returns-in-None-clause-done
+returns-in-None-clause-done g c =
+    turn_last c.args.after c.args.from.now c.next_of.new.from c.next_of.ensures.reads c.next_of.ensures.same c.in_ok-found.found c.in_ok-found.ensures.told c.args.to.now c.in-None.is
+
+pub returns-in_err-there-clause-cuts : goal.returns-in_err-there-clause-cuts
+returns-in_err-there-clause-cuts g c =
+    unseen_cuts c.args.after c.args.from.now c.next_of.new.from c.next_of.ensures.reads c.next_of.ensures.same c.in_ok-found.found c.in_ok-found.ensures.told c.args.to.now c.in-Some.stat c.in-Some.is c.is_there.new.to _ c.in_err-there.ensures.stops
+
+pub returns-in_err-there-clause-idle : goal.returns-in_err-there-clause-idle
+returns-in_err-there-clause-idle g c =
+    unseen_idle c.args.after c.args.from.now c.next_of.new.from c.next_of.ensures.reads c.next_of.ensures.same c.in_ok-found.found c.in_ok-found.ensures.told c.args.to.now c.in-Some.stat c.in-Some.is c.is_there.new.to _ c.in_err-there.ensures.stops
+
+pub returns-in_err-there-clause-stops : goal.returns-in_err-there-clause-stops
+returns-in_err-there-clause-stops g c =
+    passed (StopsFrom (With g.N.NorState c.args.from.now (Rests (IsUpTo c.args.after))) c.args.to.now c.is_there.new.to) c.from_residual-in_err-there.result _ c.from_residual-in_err-there.ensures.1
+    (unseen_stops c.args.after c.args.from.now c.next_of.new.from c.next_of.ensures.reads c.next_of.ensures.same c.in_ok-found.found c.in_ok-found.ensures.told c.args.to.now c.in-Some.stat c.in-Some.is c.is_there.new.to _ c.in_err-there.ensures.stops)
+
+pub returns-then-there-clause-cuts : goal.returns-then-there-clause-cuts
+returns-then-there-clause-cuts g c =
+    kept_cuts c.args.after c.args.from.now c.next_of.new.from c.next_of.ensures.reads c.next_of.ensures.same c.in_ok-found.found c.in_ok-found.ensures.told c.args.to.now c.in-Some.stat c.in-Some.is
+    c.is_there.new.to (subst (λ (b : Bool). Looked (With g.N.NorState c.next_of.new.from (Rests (IsNext c.in-Some.stat))) (Rests (IsSeen c.in-Some.stat b)) c.args.to.now c.is_there.new.to) c.if-there.true c.in_ok-there.ensures.done)
+
+pub returns-then-there-clause-idle : goal.returns-then-there-clause-idle
+returns-then-there-clause-idle g c =
+    kept_idle c.args.after c.args.from.now c.next_of.new.from c.next_of.ensures.reads c.next_of.ensures.same c.in_ok-found.found c.in_ok-found.ensures.told c.args.to.now c.in-Some.stat c.in-Some.is
+    c.is_there.new.to (subst (λ (b : Bool). Looked (With g.N.NorState c.next_of.new.from (Rests (IsNext c.in-Some.stat))) (Rests (IsSeen c.in-Some.stat b)) c.args.to.now c.is_there.new.to) c.if-there.true c.in_ok-there.ensures.done)
+
+pub returns-then-there-clause-done : goal.returns-then-there-clause-done
+returns-then-there-clause-done g c =
+    kept_leads c.args.after c.args.from.now c.next_of.new.from c.next_of.ensures.reads c.next_of.ensures.same c.in_ok-found.found c.in_ok-found.ensures.told c.args.to.now c.in-Some.stat c.in-Some.is
+    c.is_there.new.to (subst (λ (b : Bool). Looked (With g.N.NorState c.next_of.new.from (Rests (IsNext c.in-Some.stat))) (Rests (IsSeen c.in-Some.stat b)) c.args.to.now c.is_there.new.to) c.if-there.true c.in_ok-there.ensures.done)
+
+pub returns-in_err-copy_file-clause-cuts : goal.returns-in_err-copy_file-clause-cuts
+returns-in_err-copy_file-clause-cuts g c =
+    copied_cuts c.args.after c.args.from.now c.next_of.new.from c.next_of.ensures.reads c.next_of.ensures.same c.in_ok-found.found c.in_ok-found.ensures.told c.args.to.now c.in-Some.stat c.in-Some.is
+    c.is_there.new.to c.copy_file.new.to c.is_there.new.from c.is_there.ensures.reads c.is_there.ensures.same_from (subst (λ (b : Bool). Looked (With g.N.NorState c.next_of.new.from (Rests (IsNext c.in-Some.stat))) (Rests (IsSeen c.in-Some.stat b)) c.args.to.now c.is_there.new.to) c.if-there.false c.in_ok-there.ensures.done) c.copy_file.ensures.cuts
+
+pub returns-in_err-copy_file-clause-idle : goal.returns-in_err-copy_file-clause-idle
+returns-in_err-copy_file-clause-idle g c =
+    copied_idle c.args.after c.args.from.now c.next_of.new.from c.next_of.ensures.reads c.next_of.ensures.same c.in_ok-found.found c.in_ok-found.ensures.told c.args.to.now c.in-Some.stat c.in-Some.is
+    c.is_there.new.to c.copy_file.new.to c.is_there.new.from c.is_there.ensures.reads c.is_there.ensures.same_from (subst (λ (b : Bool). Looked (With g.N.NorState c.next_of.new.from (Rests (IsNext c.in-Some.stat))) (Rests (IsSeen c.in-Some.stat b)) c.args.to.now c.is_there.new.to) c.if-there.false c.in_ok-there.ensures.done) c.copy_file.ensures.cuts
+
+pub returns-in_err-copy_file-clause-stops : goal.returns-in_err-copy_file-clause-stops
+returns-in_err-copy_file-clause-stops g c =
+    passed (StopsFrom (With g.N.NorState c.args.from.now (Rests (IsUpTo c.args.after))) c.args.to.now c.copy_file.new.to) c.from_residual-in_err-copy_file.result _ c.from_residual-in_err-copy_file.ensures.1
+    (copied_stops c.args.after c.args.from.now c.next_of.new.from c.next_of.ensures.reads c.next_of.ensures.same c.in_ok-found.found c.in_ok-found.ensures.told c.args.to.now c.in-Some.stat c.in-Some.is
+    c.is_there.new.to c.copy_file.new.to c.is_there.new.from c.is_there.ensures.reads c.is_there.ensures.same_from (subst (λ (b : Bool). Looked (With g.N.NorState c.next_of.new.from (Rests (IsNext c.in-Some.stat))) (Rests (IsSeen c.in-Some.stat b)) c.args.to.now c.is_there.new.to) c.if-there.false c.in_ok-there.ensures.done) c.copy_file.ensures.cuts _ c.in_err-copy_file.ensures.stops)
+
+pub returns-in-Some-clause-cuts : goal.returns-in-Some-clause-cuts
+returns-in-Some-clause-cuts g c =
+    copied_cuts c.args.after c.args.from.now c.next_of.new.from c.next_of.ensures.reads c.next_of.ensures.same c.in_ok-found.found c.in_ok-found.ensures.told c.args.to.now c.in-Some.stat c.in-Some.is
+    c.is_there.new.to c.copy_file.new.to c.is_there.new.from c.is_there.ensures.reads c.is_there.ensures.same_from (subst (λ (b : Bool). Looked (With g.N.NorState c.next_of.new.from (Rests (IsNext c.in-Some.stat))) (Rests (IsSeen c.in-Some.stat b)) c.args.to.now c.is_there.new.to) c.if-there.false c.in_ok-there.ensures.done) c.copy_file.ensures.cuts
+
+pub returns-in-Some-clause-idle : goal.returns-in-Some-clause-idle
+returns-in-Some-clause-idle g c =
+    copied_idle c.args.after c.args.from.now c.next_of.new.from c.next_of.ensures.reads c.next_of.ensures.same c.in_ok-found.found c.in_ok-found.ensures.told c.args.to.now c.in-Some.stat c.in-Some.is
+    c.is_there.new.to c.copy_file.new.to c.is_there.new.from c.is_there.ensures.reads c.is_there.ensures.same_from (subst (λ (b : Bool). Looked (With g.N.NorState c.next_of.new.from (Rests (IsNext c.in-Some.stat))) (Rests (IsSeen c.in-Some.stat b)) c.args.to.now c.is_there.new.to) c.if-there.false c.in_ok-there.ensures.done) c.copy_file.ensures.cuts
+
+pub returns-in-Some-clause-done : goal.returns-in-Some-clause-done
+returns-in-Some-clause-done g c =
+    copied_leads c.args.after c.args.from.now c.next_of.new.from c.next_of.ensures.reads c.next_of.ensures.same c.in_ok-found.found c.in_ok-found.ensures.told c.args.to.now c.in-Some.stat c.in-Some.is
+    c.is_there.new.to c.copy_file.new.to c.is_there.new.from c.is_there.ensures.reads c.is_there.ensures.same_from (subst (λ (b : Bool). Looked (With g.N.NorState c.next_of.new.from (Rests (IsNext c.in-Some.stat))) (Rests (IsSeen c.in-Some.stat b)) c.args.to.now c.is_there.new.to) c.if-there.false c.in_ok-there.ensures.done) c.copy_file.ensures.cuts c.in_ok-copy_file.ensures.done
