@@ -1,14 +1,10 @@
 -- A trace in which all is right is legal.
-use Rattle.std.proofs.Common.{◌≡◌, ℕ, zero, suc, ◌+◌, ◌*◌, ◌/◌, ◌≤◌, ◌<◌, ◌⊎◌, List, [], ◌∷◌, ◌++◌, length, refl, sym, ◌∙◌, ap, subst, arith, inl, inr, ⊎_elim}
+use Rattle.std.proofs.Common.{◌≡◌, ℕ, suc, ◌+◌, List, [], ◌∷◌, length, ◌∙◌, ap, subst, arith, inl, inr}
 use Rattle.flash_trace.specs.declared.event.Event.{Event}
-use Rattle.flash_trace.specs.declared.event.Event.TheVariants.{Program, Erase, Say}
 use Rattle.flash_trace.specs.declared.verdict.Verdict.{Verdict}
-use Rattle.flash_trace.specs.declared.verdict.Verdict.TheVariants.{Legal, Outside, WrongBits, BadCut}
+use Rattle.flash_trace.specs.declared.verdict.Verdict.TheVariants.{Legal}
 use Rattle.flash_trace.specs.Events.{Standing, after_event, after_events, IsInside, EachStands, Fits, AllFit}
 use Rattle.flash_trace.specs.Verdicts.{IsVerdict}
-use Rattle.nor_memory.specs.Picks.{put}
-use Rattle.nor_core.specs.Flash.{programmed, erased}
-use Rattle.nor_memory.proofs.Ranges.{put_size}
 
 pub legal_all : (P : Standing → Type 0) (count : List ℕ → ℕ) (size unit i : ℕ) (es : List Event) (s : Standing) (v : Verdict) → ((e : Event) (b : Standing) → length b.image ≡ size → Fits unit e b → length (after_event unit e b).image ≡ size)
     → length s.image ≡ size → EachStands (λ b. (P b → ⊥) → ⊥) unit es s → AllFit unit es s → IsVerdict P count size unit i es s v → v ≡ Legal (i + length es) (count (after_events unit es s).said)

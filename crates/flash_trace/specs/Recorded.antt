@@ -1,11 +1,11 @@
 -- What the events that were recorded of a device in memory tell.
-use Rattle.std.specs.Prelude.{ℕ, ◌≡◌, ◌+◌, ◌*◌, List, [], ◌∷◌, ◌++◌, length, slice_range}
+use Rattle.std.specs.Prelude.{ℕ, ◌≡◌, ◌+◌, List, [], ◌∷◌, ◌++◌, length, slice_range}
 use Rattle.nor_memory.specs.declared.memory.MemBoard.{MemBoard}
 use Rattle.nor_memory.specs.contracts.memory.MemBoardNorState.TheImpl.{ghosts as mem}
 use Rattle.nor_core.specs.Flash.{programmed}
 use Rattle.flash_trace.specs.declared.event.Bytes.{Bytes}
 use Rattle.flash_trace.specs.declared.event.Event.{Event}
-use Rattle.flash_trace.specs.declared.event.Event.TheVariants.{Program, Erase, Say}
+use Rattle.flash_trace.specs.declared.event.Event.TheVariants.{Program, Say}
 use Rattle.flash_trace.specs.Events.{Standing, at_first, after_events, EachStands, AllFit}
 
 -- what stands on a device

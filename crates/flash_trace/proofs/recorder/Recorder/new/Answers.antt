@@ -1,4 +1,3 @@
-use Rattle.nor_memory.specs.declared.memory.MemBoard.{MemBoard}
 use Rattle.flash_trace.proofs.Recording.{none_recorded}
 use Rattle.flash_trace.proofs.recorder.Recorder.new.Goals as goal
 
