@@ -41,7 +41,7 @@ PACKAGES = [
     Package("spiffs", ["spiffs", "volume_rank"]),
     Package("script_rows", ["script_rows"]),
     Package("image_explain", ["image_explain"]),
-    # (the last two are laws alone, for what is to come)
+    # (`copy_model` is laws alone, for what is to come)
     Package("plain_tests", ["base_tests", "engine_tests", "firmware_example", "copy_model", "flash_trace"]),
 ]
 
