@@ -74,7 +74,7 @@ fn recorded_runs_are_legal() {
         let g = volume(page, block, blocks, meta);
         let mut draw = Draw(u64::from(blocks) + 12345);
         let mut image = formatted(&g);
-        for _ in 0..12 {
+        for _ in 0..6 {
             let trial = Trial::new(g, &image, &draw.script(40));
             let told = trial.run();
             assert_eq!(told.status, 0);
@@ -103,7 +103,7 @@ fn runs_on_damaged_images_are_legal_where_they_mount() {
         let g = volume(page, block, blocks, meta);
         let mut draw = Draw(u64::from(page * blocks) + 4711);
         let mut image = formatted(&g);
-        for _ in 0..40 {
+        for _ in 0..15 {
             let told = Trial::new(g, &image, &draw.script(25)).run();
             let cut = draw.next(told.events.len() as u64 + 1) as usize;
             let mut torn = image_after(&g, &image, &told.events[..cut]);

@@ -8,7 +8,8 @@ use rattle_host::alloc::Global;
 use rattle_host::prelude::{String as HostString, Vec as HostVec};
 use script_rows::nor_memory::MemBoard;
 use spiffs::folder_core::MemFolder;
-use spiffs::tool_core::{Buffers, spiffs_tool};
+use spiffs::tool_core::spiffs_tool;
+use spiffs::tool_parts::Buffers;
 
 /// How many descriptors the runs have.
 pub(crate) const SLOTS: usize = 3;
