@@ -1,8 +1,6 @@
 pub mod Words
-pub mod Lines
-pub mod Ranked
 pub mod Lent
 pub mod Refusals
-pub mod Closing
-pub mod Endings
+pub mod Lines
+pub mod Ranked
 pub mod Detecting

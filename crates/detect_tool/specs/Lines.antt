@@ -30,3 +30,13 @@ found_line f = place_text f ++ counts_text f ++ 10 ∷ []
 -- the lines of candidates
 unfoldable pub found_lines : List Found → List ℕ
 found_lines list = flat_map found_line list
+
+-- what is said where these are all candidates: their lines, or a closing line where there is none
+abbrev pub detect_text : List Found → List ℕ
+detect_text [] = codes "! no volume found, try list with the numbers of the firmware\n"
+detect_text (f ∷ list) = found_lines (f ∷ list)
+
+-- the status then
+abbrev pub detect_status : List Found → ℕ
+detect_status [] = 3
+detect_status (f ∷ list) = 0

@@ -1,13 +1,13 @@
-//! The command `detect`: which volumes a chip's file may hold, said best first.
+//! The command `detect`: which volumes a chip may hold, said best first.
 #![tactic(auto)]
 
-mod ending;
 mod finding;
 mod lines;
 mod memory;
+mod refusing;
 mod saying;
 mod tool;
 mod words;
 
-pub use memory::{Memory, found_need};
+pub use memory::{Memory, blank_place, found_need};
 pub use tool::detect_tool;

@@ -8,6 +8,9 @@ use geometry::MagicKind;
 use volume_detect::byte_of;
 use volume_rank::Found;
 
+/// Bytes for a line.
+pub(crate) const LINE: usize = 256;
+
 // The word for what a magic tells.
 fn word_of(magic: MagicKind) -> &'static [u8]
     ensures word { result.now ≡ kind_word magic }

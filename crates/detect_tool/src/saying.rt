@@ -3,12 +3,11 @@ ghost use Rattle.std.specs.Prelude.{◌≡◌, ℕ, ◌*◌, ◌<◌, ◌≤◌,
 ghost use Rattle.nor_core.specs.Count.{Rose};
 ghost use Rattle.image_tool.specs.Saying.{OnlySays, SaysFront};
 ghost use Rattle.volume_rank.specs.declared.found.Found.{Found as AnyFound};
-ghost use Rattle.detect_tool.specs.Lines.{found_line, found_lines};
+ghost use Rattle.detect_tool.specs.Lines.{found_line, found_lines, detect_text};
 ghost use Rattle.detect_tool.specs.Ranked.{IsRanking};
 ghost use Rattle.detect_tool.specs.Detecting.{SaysAll};
 
-use crate::ending::LINE;
-use crate::lines::put_found;
+use crate::lines::{LINE, put_found};
 use nor_core::{Board, Failed, NorState};
 use volume_rank::{Found, next_best};
 
@@ -25,14 +24,14 @@ fn say_found<B: Board>(board: &mut B, f: &Found) -> Result<(), Failed>
     board.say(&line[..end])
 }
 
-/// Says the lines of the candidates of a list, best first.
-pub(crate) fn say_all<B: Board>(board: &mut B, found: &[Found]) -> Result<(), Failed>
+// Says the lines of the candidates of a list, best first.
+fn say_all<B: Board>(board: &mut B, found: &[Found]) -> Result<(), Failed>
     requires places { (d : AnyFound) (k : ℕ) → k < length found.now → (slice_index_or found.now k d).place < 84 * 2 ^ 20 }
     ensures cause { OnErr result (Rose (B.faults board.old) (B.faults board.new)) }
     ensures says { (list : List AnyFound) → IsRanking found.now list → SaysAll B.NorState board.old board.new (found_lines list) result }
 {
     let mut last = None;
-    'lines: for _ in 0..found.len() {
+    for i in 0..found.len() {
         let Some(next) = next_best(found, last) else {
             return Ok(());
         };
@@ -40,4 +39,16 @@ pub(crate) fn say_all<B: Board>(board: &mut B, found: &[Found]) -> Result<(), Fa
         last = Some(next);
     }
     Ok(())
+}
+
+/// Says the lines of the candidates of a list, best first; where it is empty, a closing line that says so.
+pub(crate) fn say_list<B: Board>(board: &mut B, found: &[Found]) -> Result<(), Failed>
+    requires places { (d : AnyFound) (k : ℕ) → k < length found.now → (slice_index_or found.now k d).place < 84 * 2 ^ 20 }
+    ensures cause { OnErr result (Rose (B.faults board.old) (B.faults board.new)) }
+    ensures says { (list : List AnyFound) → IsRanking found.now list → SaysAll B.NorState board.old board.new (detect_text list) result }
+{
+    if found.is_empty() {
+        return board.say(b"! no volume found, try list with the numbers of the firmware\n");
+    }
+    say_all(board, found)
 }

@@ -1,46 +1,74 @@
 ghost use Rattle.std.specs.Prelude.{◌≡◌, ◌*◌, ◌/◌, ◌<◌, ◌≤◌, ◌^◌, length, map, string_bytes, None};
 ghost use Rattle.nor_core.specs.Count.{Rose};
 ghost use Rattle.detect_tool.specs.Lent.{lengths_of, HasLengths};
-ghost use Rattle.detect_tool.specs.Refusals.{refusal_of};
-ghost use Rattle.detect_tool.specs.Endings.{RefusesIf};
-ghost use Rattle.detect_tool.specs.Detecting.{Finds, Detects};
+ghost use Rattle.detect_tool.specs.Refusals.{refusal_of, RefusesIf};
+ghost use Rattle.detect_tool.specs.Detecting.{Detects};
 
-use crate::ending::{Ending, close};
 use crate::finding::{find_all, read_chip};
-use crate::memory::{Memory, lengths, short_part};
-use crate::saying::say_all;
-use crate::words::is_command;
+use crate::memory::Memory;
+use crate::refusing::{refusal, refuse};
+use crate::saying::say_list;
 use nor_core::{Board, Failed, Nor, NorState};
 use volume_detect::words_need;
+use volume_rank::Found;
 
-// Why the command is refused, if it is: the words, then the lent memory.
-fn refusal(words: &[String], size: u32, memory: &Memory<'_>) -> Option<Ending>
-    ensures { result ≡ refusal_of (map string_bytes words.now) size (lengths_of memory.now) }
+// The status where the board failed.
+const BOARD_FAULT: u8 = 7;
+
+// The status where these candidates were said.
+fn status_of(found: &[Found]) -> u8
+    ensures some { 0 < length found.now → result ≡ 0 }
+    ensures none { length found.now ≡ 0 → result ≡ 3 }
 {
-    if !is_command(words) {
-        return Some(Ending::Usage);
-    }
-    short_part(size, &lengths(memory))
+    if found.is_empty() { 3 } else { 0 }
 }
 
-// Reads the chip, and says the lines of its candidates, best first: how the command ends.
-fn find_and_say<B: Board>(board: &mut B, memory: &mut Memory<'_>) -> Ending
-    requires room { HasLengths (B.size board.old) (lengths_of memory.old) }
-    ensures cause { result ≡ Ending.BoardFault → Rose (B.faults board.old) (B.faults board.new) }
-    ensures finds { Finds B.NorState board.old board.new result }
+// Reads a chip, and says the lines of its candidates, best first.
+fn detect_on<B: Board>(
+    board: &mut B,
+    chip: &mut [u8],
+    words: &mut [u8],
+    work: &mut [u8],
+    cache: &mut [u8],
+    check: &mut [u8],
+    found: &mut [Found],
+) -> u8
+    requires chip { length chip.old ≡ B.size board.old }
+    requires words { length words.old ≡ 12 * (B.size board.old / 4096) }
+    requires work { 2 ^ 20 ≤ length work.old }
+    requires cache { 4104 ≤ length cache.old }
+    requires check { 73727 ≤ length check.old }
+    requires room { 84 * (B.size board.old / 4096) ≤ length found.old }
+    ensures cause { result ≡ 7 → Rose (B.faults board.old) (B.faults board.new) }
+    ensures detects { Detects B.NorState board.old board.new result }
 {
-    let size = board.size() as usize;
-    let chip = &mut memory.chip[..size];
-    if read_chip(board, chip).is_err() {
-        return Ending::BoardFault;
+    if let Err(Failed) = read_chip(board, chip) {
+        return BOARD_FAULT;
     }
-    let words = &mut memory.words[..words_need(size as u32) as usize];
-    let count = find_all(chip, words, memory.work, memory.cache, memory.check, memory.found);
-    match say_all(board, &memory.found[..count]) {
-        Err(Failed) => Ending::BoardFault,
-        Ok(()) if count == 0 => Ending::NoVolume,
-        Ok(()) => Ending::Done,
+    let count = find_all(chip, words, work, cache, check, found);
+    let found = &found[..count];
+    match say_list(board, found) {
+        Ok(()) => status_of(found),
+        Err(Failed) => BOARD_FAULT,
     }
+}
+
+// The same in the lent memory.
+fn detect_in<B: Board>(board: &mut B, memory: &mut Memory<'_>) -> u8
+    requires room { HasLengths (B.size board.old) (lengths_of memory.old) }
+    ensures cause { result ≡ 7 → Rose (B.faults board.old) (B.faults board.new) }
+    ensures detects { Detects B.NorState board.old board.new result }
+{
+    let size = board.size();
+    detect_on(
+        board,
+        &mut memory.chip[..size as usize],
+        &mut memory.words[..words_need(size) as usize],
+        memory.work,
+        memory.cache,
+        memory.check,
+        memory.found,
+    )
 }
 
 /// Says which volumes a chip may hold, by the magics of their blocks, and answers the status. The words are `detect CHIP`; CHIP is any
@@ -51,16 +79,15 @@ fn find_and_say<B: Board>(board: &mut B, memory: &mut Memory<'_>) -> Ending
 /// unit; it is read once, whole, and never written. Where there is no candidate a closing line says so, and the status is 3. It takes no
 /// memory but what is lent.
 pub fn detect_tool<B: Board>(words: &[String], board: &mut B, memory: &mut Memory<'_>) -> u8
-    // What is refused before the device is read: its closing line is said, and nothing else happens.
+    // What is refused before the chip is read: its closing line is said, and nothing else happens.
     ensures refused { RefusesIf B.NorState board.old board.new (refusal_of (map string_bytes words.now) (B.size board.old) (lengths_of memory.old)) result }
-    // Else the lines of the candidates are said.
+    // Else the lines of the candidates are said, best first.
     ensures detects { refusal_of (map string_bytes words.now) (B.size board.old) (lengths_of memory.old) ≡ None → Detects B.NorState board.old board.new result }
     // A fault is told only where one was counted.
     ensures board_fault { result ≡ 7 → Rose (B.faults board.old) (B.faults board.new) }
 {
-    if let Some(ending) = refusal(words, board.size(), memory) {
-        return close(board, ending);
+    match refusal(words, board.size(), memory) {
+        Some(why) => refuse(board, why),
+        None => detect_in(board, memory),
     }
-    let ending = find_and_say(board, memory);
-    close(board, ending)
 }
