@@ -72,7 +72,7 @@ pub fn blank_place() -> Result<Found, GeoErr> {
 }
 
 /// How much of each part is lent.
-pub(crate) fn lengths(memory: &Memory<'_>) -> Lengths
+pub(crate) fn lent_lengths(memory: &Memory<'_>) -> Lengths
     ensures { result ≡ lengths_of memory.now }
 {
     Lengths {

@@ -6,7 +6,7 @@ ghost use Rattle.detect_tool.specs.Lent.{lengths_of};
 ghost use Rattle.detect_tool.specs.Refusals.{refusal_of, refusal_status, refusal_line, part_word, short_line};
 
 use crate::lines::LINE;
-use crate::memory::{Memory, Part, lengths, short_part};
+use crate::memory::{Memory, Part, lent_lengths, short_part};
 use crate::words::is_command;
 use call_script::{put, put_count};
 use nor_core::{Board, NorState};
@@ -22,13 +22,13 @@ pub(crate) enum Refusal {
 }
 
 /// Why the command is refused on a chip of so many bytes, if it is: for its words, then for the lent memory.
-pub(crate) fn refusal(words: &[String], size: u32, memory: &Memory<'_>) -> Option<Refusal>
+pub(crate) fn why_refused(words: &[String], size: u32, memory: &Memory<'_>) -> Option<Refusal>
     ensures { result ≡ refusal_of (map string_bytes words.now) size (lengths_of memory.now) }
 {
     if !is_command(words) {
         return Some(Refusal::Usage);
     }
-    short_part(size, &lengths(memory))
+    short_part(size, &lent_lengths(memory))
 }
 
 // The word for a part of the lent memory.

@@ -35,8 +35,10 @@ fn say_all<B: Board>(board: &mut B, found: &[Found]) -> Result<(), Failed>
         let Some(next) = next_best(found, last) else {
             return Ok(());
         };
-        say_found(board, &next)?;
-        last = Some(next);
+        match say_found(board, &next) {
+            Ok(()) => last = Some(next),
+            Err(Failed) => return Err(Failed),
+        }
     }
     Ok(())
 }

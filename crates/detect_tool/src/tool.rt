@@ -6,7 +6,7 @@ ghost use Rattle.detect_tool.specs.Detecting.{Detects};
 
 use crate::finding::{find_all, read_chip};
 use crate::memory::Memory;
-use crate::refusing::{refusal, refuse};
+use crate::refusing::{refuse, why_refused};
 use crate::saying::say_list;
 use nor_core::{Board, Failed, Nor, NorState};
 use volume_detect::words_need;
@@ -86,7 +86,7 @@ pub fn detect_tool<B: Board>(words: &[String], board: &mut B, memory: &mut Memor
     // A fault is told only where one was counted.
     ensures board_fault { result ≡ 7 → Rose (B.faults board.old) (B.faults board.new) }
 {
-    match refusal(words, board.size(), memory) {
+    match why_refused(words, board.size(), memory) {
         Some(why) => refuse(board, why),
         None => detect_in(board, memory),
     }

@@ -1,0 +1,4 @@
+pub mod Ranking
+pub mod Telling
+pub mod Counting
+pub mod Detected
