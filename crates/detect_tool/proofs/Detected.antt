@@ -67,8 +67,8 @@ module _ {D : Type 0} {nor : NorOf D} {old new : D} (found list : List Found) (r
 
 module _ {D : Type 0} {nor : NorOf D} {old mid new : D} (list : List Found) (status : ℕ) (reads : OnlyReads nor old mid) (ranked : nor.tells old → AreRanked (nor.bytes old) list) where
   -- all was said
-  pub detects_all : status ≡ detect_status list → SaysAll nor mid new (detect_text list) (Ok tt) → DetectsAll nor old new status
-  detects_all is says = record {
+  pub detects_all : (done : Unit {0}) → status ≡ detect_status list → SaysAll nor mid new (detect_text list) (Ok done) → DetectsAll nor old new status
+  detects_all done is says = record {
     list = list;
     ranked = ranked;
     ends = inl is;

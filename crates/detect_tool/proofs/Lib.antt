@@ -2,3 +2,4 @@ pub mod Ranking
 pub mod Telling
 pub mod Counting
 pub mod Detected
+pub mod Fronts

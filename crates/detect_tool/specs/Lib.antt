@@ -4,3 +4,4 @@ pub mod Refusals
 pub mod Lines
 pub mod Ranked
 pub mod Detecting
+pub mod Fronts

@@ -2,6 +2,7 @@
 #![tactic(auto)]
 
 mod finding;
+mod laws;
 mod lines;
 mod memory;
 mod refusing;
@@ -9,5 +10,6 @@ mod saying;
 mod tool;
 mod words;
 
+pub use laws::tidy_volumes_are_found;
 pub use memory::{Memory, blank_place, found_need};
 pub use tool::detect_tool;
