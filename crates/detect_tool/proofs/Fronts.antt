@@ -1,11 +1,9 @@
 -- What is found of a tidy volume that a chip begins with.
-use Rattle.std.proofs.Common.{◌≡◌, ℕ, ◌+◌, ◌<◌, ◌≤◌, List, length, drop, refl, sym, ap, ◌∙◌, subst, arith, ⊎_elim}
-use Rattle.std.proofs.lemmas.Bool.{cases_lt}
+use Rattle.std.proofs.Common.{◌≡◌, ℕ, List, length, drop, ap, ◌∙◌, subst, arith}
 use Rattle.geometry.specs.declared.geometry.Geometry.{Geometry}
-use Rattle.image_model.specs.Tables.{table_of, damaged_of}
+use Rattle.image_model.specs.Tables.{damaged_of}
 use Rattle.image_model.specs.Tidy.{IsTidy}
 use Rattle.meta_guess.specs.Guesses.{SameBut}
-use Rattle.meta_guess.proofs.Sums.{same_sum}
 use Rattle.volume_detect.specs.Places.{byte_of, IsFoundFirst}
 use Rattle.volume_detect.proofs.Fronts.{front_found}
 use Rattle.volume_rank.specs.declared.found.Found.{Found}
@@ -30,19 +28,7 @@ tidy_told file g f tidy is =
     let a = is.found.candidate in
     let range : IsRange a file (record { first = f.volume.meta; last = f.last_meta; counts = f.counts }) =
         subst (λ (l : List ℕ). IsRange a l (record { first = f.volume.meta; last = f.last_meta; counts = f.counts })) (ap (λ (n : ℕ). drop n file) is.first) is.found.range in
-    let v = range.counts.volume in
     let same : SameBut a g = same_as a f.volume g is.found.volume.same is.same in
     let none : length (damaged_of g file) ≡ 0 = ap length tidy.undamaged in
-    let sum = same_sum a v file range.counts.is.same in
-    let sum' = same_sum a g file same in
-    let whole = range.counts.counts_are.whole in
-    let damaged = range.counts.counts_are.damaged in
-    let most = range.most g same in
-    record {
-      whole = omega (arith, sum, sum', none, whole, damaged, most);
-      damaged = omega (arith, sum, sum', none, whole, damaged, most);
-      least = ⊎_elim
-          (λ (below : g.meta < f.volume.meta). let less = range.least g same below in absurd (omega (arith, less, sum, sum', none, whole)))
-          (λ (le : f.volume.meta ≤ g.meta). le)
-          (cases_lt g.meta f.volume.meta);
-    }
+    let few = range.fewest g same in
+    record { whole = range.most g same; damaged = omega (arith, few, none) }

@@ -3,3 +3,4 @@ pub mod Telling
 pub mod Counting
 pub mod Detected
 pub mod Fronts
+pub mod Enough

@@ -20,8 +20,7 @@ pub record IsFoundFor (file : List ℕ) (g : Geometry) (f : Found) : Type 0 wher
   pub first : byte_of f.place ≡ 0
   pub same : SameBut f.volume g
 
--- Its line tells all its files, and no damaged id, by numbers of meta bytes of which the first isn't above the volume's own.
+-- Its line tells as many whole files as the volume has, or more, and no damaged id.
 pub record TellsFiles (file : List ℕ) (g : Geometry) (f : Found) : Type 0 where
-  pub whole : f.counts.whole ≡ length (table_of g file)
+  pub whole : length (table_of g file) ≤ f.counts.whole
   pub damaged : f.counts.damaged ≡ 0
-  pub least : f.volume.meta ≤ g.meta
