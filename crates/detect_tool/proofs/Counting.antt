@@ -1,5 +1,5 @@
 -- There are no more candidates than places.
-use Rattle.std.proofs.Common.{◌≡◌, ℕ, zero, suc, ◌*◌, ◌/◌, ◌+◌, ◌<◌, ◌≤◌, List, length, slice_index_or, arith, refl}
+use Rattle.std.proofs.Common.{◌≡◌, ℕ, zero, suc, ◌<◌, ◌≤◌, List, length, slice_index_or, arith, refl}
 use Rattle.volume_detect.specs.Places.{place_count}
 use Rattle.volume_detect.proofs.Found.{place_inside}
 use Rattle.volume_rank.specs.declared.found.Found.{Found}

@@ -4,7 +4,7 @@ use Rattle.geometry.specs.declared.geometry.Geometry.{Geometry}
 use Rattle.image_model.specs.Tables.{damaged_of}
 use Rattle.image_model.specs.Tidy.{IsTidy}
 use Rattle.meta_guess.specs.Guesses.{SameBut}
-use Rattle.volume_detect.specs.Places.{byte_of, IsFoundFirst}
+use Rattle.volume_detect.specs.Places.{IsFoundFirst}
 use Rattle.volume_detect.proofs.Fronts.{front_found}
 use Rattle.volume_rank.specs.declared.found.Found.{Found}
 use Rattle.volume_rank.specs.Ranges.{IsRange}

@@ -1,5 +1,4 @@
-use Rattle.std.proofs.Common.{◌≡◌, ◌<◌, length, arith}
-use Rattle.nor_core.specs.declared.device.Failed.{Failed}
+use Rattle.std.proofs.Common.{◌<◌, length, arith}
 use Rattle.detect_tool.proofs.Telling.{said_none, said_next, said_broken, said_all, not_done}
 use Rattle.detect_tool.proofs.saying.say_all.Goals as goal
 

@@ -1,6 +1,5 @@
 use Rattle.std.proofs.Common.{ℕ, List, length, take, inr, refl, subst}
 use Rattle.std.proofs.lemmas.List.Sorted.{length_permutation}
-use Rattle.volume_rank.specs.declared.found.Found.{Found}
 use Rattle.detect_tool.specs.Ranked.{AreRanked}
 use Rattle.detect_tool.proofs.Ranking.{ranking_of}
 use Rattle.detect_tool.proofs.Detected.{places_rise, are_ranked, status_as, detects_all, detects_front}
