@@ -27,7 +27,7 @@ pub tidy_told : (file : List ℕ) (g : Geometry) (f : Found) → IsTidy g file �
 tidy_told file g f tidy is =
     let a = is.found.candidate in
     let range : IsRange a file (record { first = f.volume.meta; last = f.last_meta; counts = f.counts }) =
-        subst (λ (l : List ℕ). IsRange a l (record { first = f.volume.meta; last = f.last_meta; counts = f.counts })) (ap (λ (n : ℕ). drop n file) is.first) is.found.range in
+    subst (λ (l : List ℕ). IsRange a l (record { first = f.volume.meta; last = f.last_meta; counts = f.counts })) (ap (λ (n : ℕ). drop n file) is.first) is.found.range in
     let same : SameBut a g = same_as a f.volume g is.found.volume.same is.same in
     let none : length (damaged_of g file) ≡ 0 = ap length tidy.undamaged in
     let few = range.fewest g same in

@@ -172,8 +172,8 @@ module _ (found list : List Found) (r : IsRanking found list) where
       let s = stands n f low in
       let before : IsBefore x f = subst (λ (y : Found). IsBefore x y) w.2 (r.order n w.0 f less w.1) in
       absurd (first.2 x s.0 s.1
-          (subst (λ (y : Found). is_behind last y ≡ true) (sym s.2) (behind_it list r.order n last a f n (omega arith) low))
-          (subst (λ (y : Found). is_before y f ≡ true) (sym s.2) (is_tested x f before))))
+      (subst (λ (y : Found). is_behind last y ≡ true) (sym s.2) (behind_it list r.order n last a f n (omega arith) low))
+      (subst (λ (y : Found). is_before y f ≡ true) (sym s.2) (is_tested x f before))))
       (λ (last_one : w.0 ≤ n).
       let e : w.0 ≡ n = omega (arith, above, last_one) in
       let low : n < length list = omega (arith, e, w.1) in

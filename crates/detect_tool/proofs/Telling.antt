@@ -66,13 +66,15 @@ module _ {D : Type 0} {nor : NorOf D} (found list : List Found) (r : IsRanking f
   -- what comes next
   ahead : {old mid : D} (n : ℕ) (last : Option Found) (f : Found) → n < length found → Said nor list n last old mid → FirstBehind found last (Some f) → HoldsAt (λ x. x ≡ f) list n × (nor.tells old → Ahead (nor.said old) (nor.said mid) (found_lines list) (found_line f))
   ahead n last f low was first =
-      let here = next_is found list r n last f (few found list r n (omega (arith, low))) was.after first in
-      (here.1, λ tells. record {
-        part = found_lines (take n list);
-        tail = found_lines (drop (n + 1) list);
-        said = was.place tells;
-        text_is = lines_at list n f here.0 here.1;
-      })
+      let here = next_is found list r n last f (few found list r n (omega (arith, low))) was.after first in (
+        here.1,
+        λ tells. record {
+          part = found_lines (take n list);
+          tail = found_lines (drop (n + 1) list);
+          said = was.place tells;
+          text_is = lines_at list n f here.0 here.1;
+        },
+      )
 
   -- one more
   pub said_next : {old mid new : D} (n : ℕ) (last : Option Found) (f : Found) → n < length found → Said nor list n last old mid → FirstBehind found last (Some f) →

@@ -13,7 +13,9 @@ use volume_rank::Found;
 
 /// Bytes of work, of copies of pages and of marks that are lent: enough for every volume.
 const WORK: usize = 1_048_576;
+
 const CACHE: usize = 1_048_576;
+
 const CHECK: usize = 73_727;
 
 /// The memory that is lent to `detect_tool`.

@@ -257,7 +257,9 @@ fn explain_status(rt: &impl Eprint, words: &[String], status: u8) {
             }
         }
         NO_VOLUME => {
-            let _said = eprintln!(rt; "spiffs: PAGE, BLOCK, BLOCKS or MAGIC may be wrong; detect finds:");
+            let _said = eprintln!(rt;
+                "spiffs: PAGE, BLOCK, BLOCKS or MAGIC may be wrong; detect finds:"
+            );
         }
         OVER => {
             let _said = eprintln!(rt;
