@@ -104,14 +104,20 @@ pub fn detect_on<W: Write + Drop>(
     Ok(detect_tool(words, board, &mut lent))
 }
 
-/// Says on standard error what the command says of the chip files of another command.
-pub fn tell_found(rt: &HostRuntime, words: &[String]) -> Result<(), Refusal> {
+// Says on standard error what the command says of the chip files of another command.
+fn say_found(rt: &HostRuntime, words: &[String]) -> Result<u8, Refusal> {
     let mut board = detect_board(rt, words, rt.stderr())?;
     let mut own = Vec::new(rt.alloc());
     for word in ["detect", chip_word(words)] {
         own.push(String::from_str(rt.alloc(), word)?)
             .map_err(AllocError::from)?;
     }
-    let _status = detect_on(rt, &own, &mut board)?;
-    Ok(())
+    detect_on(rt, &own, &mut board)
+}
+
+/// Says on standard error what the command says of the chip files of another command; nothing where there is no memory for it.
+pub fn tell_found(rt: &HostRuntime, words: &[String]) {
+    match say_found(rt, words) {
+        Ok(_) | Err(Refusal::Memory | Refusal::Chips) => {}
+    }
 }

@@ -119,6 +119,7 @@ fn words_of<R: Env + Alloc<A = Global>>(rt: &R) -> io::Result<Vec<String>> {
 }
 
 /// Why no command was begun.
+#[derive(Drop)]
 enum Refusal {
     /// There is no memory.
     Memory,
@@ -319,14 +320,13 @@ fn run(
     }
     explain_removed(rt, seen, status);
     if status == NO_VOLUME {
-        // (where there is no memory for it nothing more is told)
-        let _told = tell_found(rt, words);
+        tell_found(rt, words);
     }
     Ok(status)
 }
 
 // Says which volumes the chip files may hold.
-fn detect(rt: &HostRuntime, words: &[String]) -> Result<u8, Refusal> {
+fn find_volumes(rt: &HostRuntime, words: &[String]) -> Result<u8, Refusal> {
     let mut board = detect_board(rt, words, rt.stdout())?;
     let status = detect_on(rt, words, &mut board)?;
     match status {
@@ -379,7 +379,7 @@ fn take_memory(rt: &HostRuntime, words: &[String]) -> Result<Memory, AllocError>
 // Takes the memory, and runs the command.
 fn begin(rt: &HostRuntime, words: &[String], is_forced: bool) -> Result<u8, Refusal> {
     if detects(words) {
-        return detect(rt, words);
+        return find_volumes(rt, words);
     }
     let mut memory = take_memory(rt, words)?;
     run(rt, words, is_forced, &mut memory)
