@@ -38,7 +38,7 @@ class Package:
 
 PACKAGES = [
     Package("liverymenhir", ["volume", "wear_scrub"], exported=["volume", "nor_core"], no_std=True),
-    Package("spiffs", ["spiffs", "volume_rank"]),
+    Package("spiffs", ["spiffs"]),
     Package("script_rows", ["script_rows"]),
     Package("image_explain", ["image_explain"]),
     # (the last two are for what is to come)

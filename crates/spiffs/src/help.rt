@@ -34,6 +34,10 @@ spiffs: a SPIFFS 0.3.7 flash volume in a chip file, or in several end to end
       mounts and checks the volume, collects garbage, and tells in which pages
       the data of the file with that id lies
       spiffs map 256 4096 16 0 len chip 1
+  spiffs detect CHIP
+      tells which volumes a file may hold, the best first, also inside the dump
+      of a whole flash; writes nothing
+      spiffs detect dump
   spiffs --force run .. | check .. | scrub .. | map ..
       goes on where another META reads more whole files
   spiffs --help | --version
@@ -119,6 +123,10 @@ were erased, and free blocks in the end.
 
 A map is a line `SPAN PAGE` for each data page of the file, at most 4096: its
 number in the file, from 0, and the page of the volume that holds it.
+
+A detection is a line `at OFFSET page P block B blocks N meta M magic KIND files
+F damaged D` for each volume that the file may hold: OFFSET is its first byte, M
+the META that reads most whole files, or `M1-M2` where several read as many.
 
 Statuses: 0 all was done; 1 usage; 2 numbers or device refused; 3 no volume;
 4 blocks hold pages of both kinds, and too few are free to part them: extract

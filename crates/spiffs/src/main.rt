@@ -4,12 +4,14 @@
 //! looks whether another META reads more whole files, and then it writes nothing.
 #![tactic(auto)]
 
+mod detect;
 mod help;
 mod look;
 mod usage;
 mod words;
 
 use chip_row::ChipRow;
+use detect::{detect_board, detect_on, tell_found};
 use fd_table::FdSlot;
 use help::{HELP, VERSION};
 use host_edge::{Access, FileChip, StdBoard, StdFolder, StdSource, Trouble};
@@ -24,7 +26,7 @@ use std::{env, fs, io};
 use tool_core::{is_accepted, spiffs_tool};
 use tool_parts::{Buffers, chip_size_of, unit_of};
 use usage::wrong_word;
-use words::{CHIP_WORD, FOLDER_WORD, repairs, word};
+use words::{FOLDER_WORD, chip_word, detects, repairs, word};
 
 /// The status where the words are no command.
 const USAGE: u8 = 1;
@@ -117,6 +119,7 @@ fn words_of<R: Env + Alloc<A = Global>>(rt: &R) -> io::Result<Vec<String>> {
 }
 
 /// Why no command was begun.
+#[derive(Drop)]
 enum Refusal {
     /// There is no memory.
     Memory,
@@ -148,7 +151,7 @@ fn access_of(words: &[String], is_taken: bool) -> Access {
 
 // The names of the chip files, which stand in one word, parted by commas.
 fn chip_paths(alloc: Global, words: &[String]) -> Result<Vec<&str>, AllocError> {
-    word(words, CHIP_WORD).split(',').collect(alloc)
+    chip_word(words).split(',').collect(alloc)
 }
 
 // The row of the chip files.
@@ -200,7 +203,7 @@ fn explain_board<W: Write + Drop>(
     words: &[String],
     board: &StdBoard<W, FileChip>,
 ) {
-    let mut paths = word(words, CHIP_WORD).split(',');
+    let mut paths = chip_word(words).split(',');
     let path = board.failed_chip().and_then(|i| paths.nth(i));
     match (path, board.trouble()) {
         (Some(path), Some(trouble)) => {
@@ -255,7 +258,9 @@ fn explain_status(rt: &impl Eprint, words: &[String], status: u8) {
             }
         }
         NO_VOLUME => {
-            let _said = eprintln!(rt; "spiffs: PAGE, BLOCK, BLOCKS or MAGIC may be wrong");
+            let _said = eprintln!(rt;
+                "spiffs: PAGE, BLOCK, BLOCKS or MAGIC may be wrong; detect finds:"
+            );
         }
         OVER => {
             let _said = eprintln!(rt;
@@ -314,6 +319,21 @@ fn run(
         _ => explain_status(rt, words, status),
     }
     explain_removed(rt, seen, status);
+    if status == NO_VOLUME {
+        tell_found(rt, words);
+    }
+    Ok(status)
+}
+
+// Says which volumes the chip files may hold.
+fn find_volumes(rt: &HostRuntime, words: &[String]) -> Result<u8, Refusal> {
+    let mut board = detect_board(rt, words, rt.stdout())?;
+    let status = detect_on(rt, words, &mut board)?;
+    match status {
+        BOARD_FAULT => explain_board(rt, words, &board),
+        NO_VOLUME => {}
+        _ => explain_status(rt, words, status),
+    }
     Ok(status)
 }
 
@@ -358,6 +378,9 @@ fn take_memory(rt: &HostRuntime, words: &[String]) -> Result<Memory, AllocError>
 
 // Takes the memory, and runs the command.
 fn begin(rt: &HostRuntime, words: &[String], is_forced: bool) -> Result<u8, Refusal> {
+    if detects(words) {
+        return find_volumes(rt, words);
+    }
     let mut memory = take_memory(rt, words)?;
     run(rt, words, is_forced, &mut memory)
 }

@@ -1,5 +1,5 @@
 //! Which word of a faulty command line is wrong.
-use crate::words::{CHIP_WORD, FOLDER_WORD, word};
+use crate::words::{FOLDER_WORD, chip_word, detects, word};
 use call_script::parse_number;
 use std::fmt;
 
@@ -65,6 +65,7 @@ fn form_of(verb: &str) -> Option<(&'static str, usize)> {
         "soak" => Some(("PAGE BLOCK BLOCKS META MAGIC CHIP SEED COUNT", 8)),
         "scrub" => Some(("PAGE BLOCK BLOCKS META MAGIC CHIP LIMIT", 7)),
         "map" => Some(("PAGE BLOCK BLOCKS META MAGIC CHIP ID", 7)),
+        "detect" => Some(("CHIP", 1)),
         _ => None,
     }
 }
@@ -106,6 +107,15 @@ fn wrong_volume(words: &[String]) -> Option<Wrong<'_>> {
         .or(wrong_number(words, 2, "BLOCK", most))
         .or(wrong_number(words, 3, "BLOCKS", most))
         .or(wrong_number(words, 4, "META", most))
+        .or(wrong_magic(words))
+}
+
+// Whether MAGIC is none of its two words.
+fn wrong_magic(words: &[String]) -> Option<Wrong<'_>> {
+    match word(words, 5) {
+        "len" | "plain" => None,
+        magic => Some(Wrong::Magic(magic)),
+    }
 }
 
 // What is wrong with the words behind the chip's name.
@@ -137,15 +147,13 @@ pub fn wrong_word(words: &[String]) -> Option<Wrong<'_>> {
     if given != count {
         return Some(Wrong::Count { verb, form, given });
     }
-    let wrong = wrong_volume(words);
-    if wrong.is_some() {
-        return wrong;
+    if !detects(words) {
+        let wrong = wrong_volume(words);
+        if wrong.is_some() {
+            return wrong;
+        }
     }
-    let magic = word(words, 5);
-    if magic != "len" && magic != "plain" {
-        return Some(Wrong::Magic(magic));
-    }
-    if word(words, CHIP_WORD).is_empty() {
+    if chip_word(words).is_empty() {
         return Some(Wrong::Empty("CHIP"));
     }
     wrong_end(words)

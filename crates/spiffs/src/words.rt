@@ -1,10 +1,13 @@
 //! The words of the command line.
 
 /// The place among the words of the chip files' names.
-pub const CHIP_WORD: usize = 6;
+const CHIP_WORD: usize = 6;
 
 /// The place among the words of the folder's name.
 pub const FOLDER_WORD: usize = 7;
+
+/// The place among the words of the chip files' names in `detect CHIP`.
+const DETECT_CHIP_WORD: usize = 1;
 
 /// The word of that number, or an empty one.
 pub fn word(words: &[String], number: usize) -> &str {
@@ -17,4 +20,18 @@ pub fn word(words: &[String], number: usize) -> &str {
 /// Whether the words are a command that removes damaged files for good.
 pub fn repairs(words: &[String]) -> bool {
     matches!(word(words, 0), "run" | "check" | "scrub" | "map")
+}
+
+/// Whether the words are to say which volumes a chip may hold.
+pub fn detects(words: &[String]) -> bool {
+    word(words, 0) == "detect"
+}
+
+/// The word with the chip files' names.
+pub fn chip_word(words: &[String]) -> &str {
+    if detects(words) {
+        word(words, DETECT_CHIP_WORD)
+    } else {
+        word(words, CHIP_WORD)
+    }
 }

@@ -1,0 +1,34 @@
+-- What is found of a tidy volume that a chip begins with.
+use Rattle.std.proofs.Common.{◌≡◌, ℕ, List, length, drop, ap, ◌∙◌, subst, arith}
+use Rattle.geometry.specs.declared.geometry.Geometry.{Geometry}
+use Rattle.image_model.specs.Tables.{damaged_of}
+use Rattle.image_model.specs.Tidy.{IsTidy}
+use Rattle.meta_guess.specs.Guesses.{SameBut}
+use Rattle.volume_detect.specs.Places.{IsFoundFirst}
+use Rattle.volume_detect.proofs.Fronts.{front_found}
+use Rattle.volume_rank.specs.declared.found.Found.{Found}
+use Rattle.volume_rank.specs.Ranges.{IsRange}
+use Rattle.detect_tool.specs.Fronts.{BeginsWith, IsFoundFor, TellsFiles}
+
+pub tidy_found : (file : List ℕ) (g : Geometry) → IsTidy g file → BeginsWith file g → IsFoundFirst file g
+tidy_found file g tidy begins = front_found file g (record { block = begins.block; phys = begins.phys; ends = begins.ends; magics = λ b low. tidy.magic b low })
+
+-- the same numbers as the same numbers
+same_as : (a b c : Geometry) → SameBut a b → SameBut b c → SameBut a c
+same_as a b c one two = record {
+  page = two.page ∙ one.page;
+  block = two.block ∙ one.block;
+  blocks = two.blocks ∙ one.blocks;
+  phys = two.phys ∙ one.phys;
+  magic = two.magic ∙ one.magic;
+}
+
+pub tidy_told : (file : List ℕ) (g : Geometry) (f : Found) → IsTidy g file → IsFoundFor file g f → TellsFiles file g f
+tidy_told file g f tidy is =
+    let a = is.found.candidate in
+    let range : IsRange a file (record { first = f.volume.meta; last = f.last_meta; counts = f.counts }) =
+    subst (λ (l : List ℕ). IsRange a l (record { first = f.volume.meta; last = f.last_meta; counts = f.counts })) (ap (λ (n : ℕ). drop n file) is.first) is.found.range in
+    let same : SameBut a g = same_as a f.volume g is.found.volume.same is.same in
+    let none : length (damaged_of g file) ≡ 0 = ap length tidy.undamaged in
+    let few = range.fewest g same in
+    record { whole = range.most g same; damaged = omega (arith, few, none) }

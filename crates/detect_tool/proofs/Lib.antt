@@ -1,0 +1,6 @@
+pub mod Ranking
+pub mod Telling
+pub mod Counting
+pub mod Detected
+pub mod Fronts
+pub mod Enough

@@ -1,0 +1,14 @@
+//! Laws of what is found.
+ghost use Rattle.std.specs.Prelude.{ℕ, List};
+ghost use Rattle.geometry.specs.declared.geometry.Geometry.{Geometry as AnyGeometry};
+ghost use Rattle.image_model.specs.Tidy.{IsTidy};
+ghost use Rattle.volume_detect.specs.Places.{IsFoundFirst};
+ghost use Rattle.volume_rank.specs.declared.found.Found.{Found as AnyFound};
+ghost use Rattle.detect_tool.specs.Fronts.{BeginsWith, IsFoundFor, TellsFiles};
+
+/// A law: a tidy volume that a chip begins with, as `make` leaves one, is among the candidates at byte 0. What is found there with its
+/// numbers tells as many whole files as it has, or more, and no damaged id.
+pub fn tidy_volumes_are_found()
+    ensures place { (file : List ℕ) (g : AnyGeometry) → IsTidy g file → BeginsWith file g → IsFoundFirst file g }
+    ensures files { (file : List ℕ) (g : AnyGeometry) (f : AnyFound) → IsTidy g file → IsFoundFor file g f → TellsFiles file g f }
+{}
