@@ -24,7 +24,7 @@ use Rattle.volume.proofs.RunSettling.{unmounts_open}
 use Rattle.volume_run.specs.Ready.{IsReady}
 use Rattle.tool_parts.specs.declared.ending.Ending.{Ending}
 use Rattle.tool_parts.specs.declared.ending.Ending.TheVariants.{Done, BoardFault}
-use Rattle.tool_parts.specs.Endings.{OnlyCloses, Speaks}
+use Rattle.tool_parts.specs.Endings.{ClosesWith, OnlyCloses, Speaks}
 use Rattle.tool_core.specs.Filling.{HoldsFiles, WasFormatted, SpeaksOf}
 use Rattle.tool_parts.proofs.Reading.{behind_closed}
 use Rattle.script_run.proofs.Working.{goes_of}
@@ -73,7 +73,7 @@ pub holds_none : (g : Geometry) (was now : List ℕ) → IsFormatted g was now �
 holds_none g was now f = record { tidy = f.tidy; reserve = f.reserve; table = f.table }
 
 -- a command that went on from it
-pub was_formatted : {D : Type 0} {nor : NorOf D} {g : Geometry} {old empty last new : D} {ending : Ending} {status : ℕ} → IsFormatted g (nor.bytes old) (nor.bytes empty) → StaysBehind nor g empty last → OnlyCloses nor last new ending status → WasFormatted nor g old new
+pub was_formatted : {D : Type 0} {nor : NorOf D} {g : Geometry} {old empty last new : D} {line : List ℕ} {wanted status : ℕ} → IsFormatted g (nor.bytes old) (nor.bytes empty) → StaysBehind nor g empty last → ClosesWith nor last new line wanted status → WasFormatted nor g old new
 was_formatted {empty = empty} formatted behind closes = record { empty = empty; formatted = formatted; later = goes_of (behind_closed behind closes).cuts }
 
 -- ---- what is said
