@@ -1,0 +1,4 @@
+pub mod Walking
+pub mod Waits
+pub mod Keeping
+pub mod Telling

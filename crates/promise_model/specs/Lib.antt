@@ -1,0 +1,5 @@
+pub mod Lines
+pub mod Promises
+pub mod Places
+pub mod Laws
+pub mod Verdicts
