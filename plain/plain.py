@@ -41,8 +41,8 @@ PACKAGES = [
     Package("spiffs", ["spiffs"]),
     Package("script_rows", ["script_rows"]),
     Package("image_explain", ["image_explain"]),
-    # (the last three are for what is to come)
-    Package("plain_tests", ["base_tests", "engine_tests", "firmware_example", "copy_model", "flash_trace", "promise_runs"]),
+    # (the last two are for what is to come)
+    Package("plain_tests", ["base_tests", "engine_tests", "firmware_example", "flash_trace", "promise_runs"]),
 ]
 
 # Crates of a registry.

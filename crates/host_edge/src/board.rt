@@ -50,11 +50,16 @@ impl<W: Write + Drop, C: Chip> StdBoard<W, C> {
     }
 }
 
+/// What failed first of the chip of a row that failed, if one did.
+pub fn row_trouble(row: &ChipRow<FileChip>) -> Option<&Trouble> {
+    row.chips().get(row.fuse_chip()?)?.trouble()
+}
+
 impl<W: Write + Drop> StdBoard<W, FileChip> {
     /// What failed first, of the chip that failed or else of what was said, if anything did.
     pub fn trouble(&self) -> Option<&Trouble> {
         match self.failed_chip() {
-            Some(i) => self.row.chips().get(i)?.trouble(),
+            Some(_) => row_trouble(&self.row),
             None => self.trouble.as_ref(),
         }
     }

@@ -9,14 +9,16 @@ mod file;
 mod folder;
 mod host_file;
 mod names;
+mod one_file;
 mod put;
 mod source;
 mod trouble;
 
 pub use bad_name::BadName;
-pub use board::StdBoard;
+pub use board::{StdBoard, row_trouble};
 pub use chip::{Access, FileChip};
 pub use folder::StdFolder;
 pub use host_file::PassedOver;
+pub use one_file::is_one_file;
 pub use source::StdSource;
 pub use trouble::Trouble;

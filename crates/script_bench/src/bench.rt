@@ -64,8 +64,31 @@ impl Told {
     }
 }
 
-// The words of a text that are parted by single spaces.
-fn words_of(alloc: Global, text: &str) -> Result<Vec<String>, AllocError> {
+/// The memory that a command is lent.
+#[derive(Drop)]
+pub(crate) struct Loan {
+    work: Vec<u8>,
+    slots: Vec<FdSlot>,
+    cache: Vec<u8>,
+    check: Vec<u8>,
+    line: Vec<u8>,
+}
+
+impl Loan {
+    /// The parts as the buffers of a command.
+    pub(crate) fn bufs(&mut self) -> Buffers<'_> {
+        Buffers {
+            work: &mut self.work,
+            slots: &mut self.slots,
+            cache: &mut self.cache,
+            check: &mut self.check,
+            line: &mut self.line,
+        }
+    }
+}
+
+/// The words of a text that are parted by single spaces.
+pub(crate) fn words_of(alloc: Global, text: &str) -> Result<Vec<String>, AllocError> {
     let mut words = Vec::new(alloc);
     for word in text.split(' ') {
         words.push(String::from_str(alloc, word)?)?;
@@ -129,6 +152,17 @@ impl Bench {
         Ok(format!(in self.alloc; "{words} {number}")?)
     }
 
+    /// What a command is lent.
+    pub(crate) fn loan(&self) -> Result<Loan, AllocError> {
+        Ok(Loan {
+            work: vec![in self.alloc; 0u8; self.lends.work]?,
+            slots: vec![in self.alloc; FdSlot::empty(); self.lends.slots]?,
+            cache: vec![in self.alloc; 0u8; self.lends.cache]?,
+            check: vec![in self.alloc; 0u8; self.lends.check]?,
+            line: vec![in self.alloc; 0u8; self.lends.line]?,
+        })
+    }
+
     // Gives the command of these words, and answers its status.
     fn command(
         &self,
@@ -138,19 +172,8 @@ impl Bench {
         folder: &mut MemFolder,
     ) -> Result<u8, Trouble> {
         let words = words_of(self.alloc, words)?;
-        let mut work = vec![in self.alloc; 0u8; self.lends.work]?;
-        let mut slots = vec![in self.alloc; FdSlot::empty(); self.lends.slots]?;
-        let mut cache = vec![in self.alloc; 0u8; self.lends.cache]?;
-        let mut check = vec![in self.alloc; 0u8; self.lends.check]?;
-        let mut line = vec![in self.alloc; 0u8; self.lends.line]?;
-        let mut bufs = Buffers {
-            work: &mut work,
-            slots: &mut slots,
-            cache: &mut cache,
-            check: &mut check,
-            line: &mut line,
-        };
-        Ok(spiffs_tool(&words, board, script, folder, &mut bufs))
+        let mut loan = self.loan()?;
+        Ok(spiffs_tool(&words, board, script, folder, &mut loan.bufs()))
     }
 
     /// What the command of these words does on a device that holds an image, by the calls of a script and over a folder, where

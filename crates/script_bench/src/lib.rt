@@ -4,6 +4,7 @@
 
 mod agreement;
 mod bench;
+mod copying;
 mod cutting;
 mod damage;
 mod drawn;
@@ -20,6 +21,7 @@ mod wanted;
 
 pub use agreement::{Agreement, agreement_of, is_in_order};
 pub use bench::{Bench, Fault, Lends, Told};
+pub use copying::{CopyFault, Copying, cut_copies, fail_copies, fail_sources};
 pub use cutting::{
     Swept, count_calls, cut_all_recoveries, cut_each, cut_numbered, cut_once, cut_recoveries,
     fail_each,

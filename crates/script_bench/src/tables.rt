@@ -71,7 +71,8 @@ pub fn listed(bench: &Bench, image: &[u8]) -> Result<Vec<Record>, Trouble> {
     told(alloc, &mut reader)
 }
 
-fn is_same(a: &Record, b: &Record) -> bool {
+/// Whether two files are the same.
+pub(crate) fn is_same(a: &Record, b: &Record) -> bool {
     a.id == b.id
         && a.kind == b.kind
         && a.name.as_slice() == b.name.as_slice()

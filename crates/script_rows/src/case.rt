@@ -1,7 +1,7 @@
 //! Runs of a case.
 use crate::chip::Chip;
 use crate::choices::{Choice, Chosen, spelled_out};
-use crate::commands::{Manner, give};
+use crate::commands::{Manner, copy, give};
 use crate::input::Line;
 use crate::script::Script;
 use crate::sweeps;
@@ -88,6 +88,12 @@ fn do_part(
             let manner = Manner::of_words(alloc, part.words)?;
             let command = chip.bench()?.words(command)?;
             give(chip, &command, &manner, part.script, &text, out)
+        }
+        "copy" => copy(alloc, chip, part.words, None, out),
+        "copies" => sweeps::copies(chip, out),
+        "tool" if part.words.get(1).copied() == Some("copy") => {
+            let command = part.line.strip_prefix("tool ").ok_or(Trouble::Line)?;
+            copy(alloc, chip, &["copy"], Some(command), out)
         }
         "tool" => {
             let manner = Manner::of_words(alloc, &["tool"])?;

@@ -3,7 +3,7 @@ use crate::words::{byte_of, number, word};
 use folder_core::{Folder, MemFolder};
 use geometry::{Geometry, MagicKind};
 use script_bench::{
-    Bench, Ends, Maker, Place, RowFile, Trouble, clear_counts, letters, put, put_header, put_page,
+    Bench, Copying, Ends, Maker, Place, RowFile, Trouble, clear_counts, letters, put, put_header, put_page,
     put_row, put_whole,
 };
 use std::alloc::Global;
@@ -11,7 +11,16 @@ use std::alloc::Global;
 /// The greatest number of bytes of a chip.
 const MOST_BYTES: u64 = 0x100_0000;
 
-/// The chip of a case and the volume on it, and the folder beside it.
+/// The other chip of a case, while lines work on the first: its volume, its bytes, and where the next file made by hand goes.
+#[derive(Drop)]
+struct Other {
+    bench: Bench,
+    image: Vec<u8>,
+    ends: Ends,
+    id: u16,
+}
+
+/// The chip of a case and the volume on it, the folder beside it, and the other chip, onto which copies go.
 #[derive(Drop)]
 pub struct Chip {
     alloc: Global,
@@ -27,6 +36,7 @@ pub struct Chip {
     // Where the next file made by hand goes, and its id.
     ends: Ends,
     id: u16,
+    other: Option<Other>,
 }
 
 // A number that counts bytes or entries.
@@ -82,6 +92,7 @@ impl Chip {
             first: None,
             ends: Ends::new(1),
             id: 1,
+            other: None,
         }
     }
 
@@ -103,6 +114,57 @@ impl Chip {
         self.ends = Ends::new(1);
         self.id = 1;
         Ok(())
+    }
+
+    // Makes an empty volume on the other chip.
+    fn volume_beside(&mut self, words: &[&str]) -> Result<(), Trouble> {
+        let bench = Bench::new(self.alloc, geometry_of(words)?);
+        if u64::from(bench.g.blocks) * u64::from(bench.g.block) > MOST_BYTES {
+            return Err(Trouble::Device);
+        }
+        self.other = Some(Other {
+            bench,
+            image: bench.formatted()?,
+            ends: Ends::new(1),
+            id: 1,
+        });
+        Ok(())
+    }
+
+    // Exchanges the two chips.
+    fn swap(&mut self) -> Result<(), Trouble> {
+        let bench = self.bench()?;
+        let other = self.other.take().ok_or(Trouble::Line)?;
+        self.other = Some(Other {
+            bench,
+            image: self.image.to_vec(self.alloc)?,
+            ends: self.ends,
+            id: self.id,
+        });
+        self.bench = Some(other.bench);
+        self.image = other.image;
+        self.ends = other.ends;
+        self.id = other.id;
+        self.first = None;
+        Ok(())
+    }
+
+    /// A copy of this chip's volume onto the other one's.
+    pub fn copying(&self) -> Result<Copying<'_>, Trouble> {
+        let other = self.other.as_ref().ok_or(Trouble::Line)?;
+        Ok(Copying {
+            source: self.bench()?,
+            source_image: &self.image,
+            target: other.bench,
+            target_image: &other.image,
+        })
+    }
+
+    /// Puts other bytes onto the other chip.
+    pub fn put_other(&mut self, image: Vec<u8>) {
+        if let Some(other) = &mut self.other {
+            other.image = image;
+        }
     }
 
     // Makes the chip one of so many bytes, in units of so many: those behind the volume are erased.
@@ -254,6 +316,8 @@ impl Chip {
     pub fn make(&mut self, words: &[&str]) -> Result<bool, Trouble> {
         match word(words, 0)? {
             "volume" => self.volume(words)?,
+            "other" => self.volume_beside(words)?,
+            "swap" => self.swap()?,
             "chip" => self.grow(words)?,
             "lend" => self.lend(words)?,
             "erased" => self.image.fill(0xFF),

@@ -3,7 +3,7 @@ use crate::chip::Chip;
 use crate::script::Script;
 use crate::words::{number, word};
 use nor_memory::CallKind;
-use script_bench::{Bench, Fault, Told, Trouble, are_same, count_calls, table};
+use script_bench::{Bench, CopyFault, Fault, Told, Trouble, are_same, count_calls, table};
 use std::alloc::Global;
 
 /// How a command is given, and what is asked of it.
@@ -102,6 +102,43 @@ impl Manner {
         }
         Ok(())
     }
+}
+
+// What is to fail in a copy, of the words behind its name.
+fn copy_fault(alloc: Global, words: &[&str]) -> Result<CopyFault, Trouble> {
+    if words.get(1).copied() == Some("fail") && words.get(2).copied() == Some("source") {
+        return Ok(CopyFault::Source {
+            nth: number(words, 3, u64::MAX)?,
+        });
+    }
+    Ok(CopyFault::Target(Manner::of_words(alloc, words)?.fault))
+}
+
+/// Copies the chip's volume onto the other one, and tells what was said, the status, and whether the other chip is as before. The copy's own
+/// words are those that are given, if any are.
+pub fn copy(
+    alloc: Global,
+    chip: &mut Chip,
+    words: &[&str],
+    command: Option<&str>,
+    out: &mut String,
+) -> Result<(), Trouble> {
+    let copying = chip.copying()?;
+    let fault = copy_fault(alloc, words)?;
+    let ran = match command {
+        Some(command) => copying.give(command, fault)?,
+        None => copying.give(&copying.words()?, fault)?,
+    };
+    for line in text_of(&ran)?.lines() {
+        write!(out, "  {line}\n")?;
+    }
+    write!(out, "  status {}", ran.status)?;
+    if ran.image.as_slice() == copying.target_image {
+        out.push_str(", other as before")?;
+    }
+    out.push('\n')?;
+    chip.put_other(ran.image);
+    Ok(())
 }
 
 // What was said as lines, those of a script's replies apart from a closing line.

@@ -3,8 +3,9 @@ use crate::chip::Chip;
 use crate::commands::{kind_of, kind_text};
 use crate::words::{number, word};
 use script_bench::{
-    Agreement, Odd, Steps, Swept, Tried, Trouble, agreement_of, cut_all_recoveries, cut_each,
-    cut_numbered, cut_recoveries, draw_beside, draw_calls, draw_files, fail_each, try_damaged,
+    Agreement, Odd, Steps, Swept, Tried, Trouble, agreement_of, cut_all_recoveries, cut_copies,
+    cut_each, cut_numbered, cut_recoveries, draw_beside, draw_calls, draw_files, fail_copies,
+    fail_each, fail_sources, try_damaged,
 };
 use std::alloc::AllocError;
 
@@ -141,6 +142,21 @@ pub fn numbered(
         _ => "programs, erases and replies of a scrub",
     };
     tell_swept(found, what, good, out)?;
+    Ok(())
+}
+
+/// Cuts the power of a copy at each program, erase and reply, and lets each call of either chip fail in turn.
+pub fn copies(chip: &Chip, out: &mut String) -> Result<(), Trouble> {
+    let copying = chip.copying()?;
+    let good = "each name has what it may have, and the copy is done when it is given again";
+    tell_swept(cut_copies(&copying)?, "programs, erases and replies", good, out)?;
+    for kind in ["read", "program", "erase", "reply"] {
+        let kind = kind_of(kind)?;
+        let found = fail_copies(&copying, kind)?;
+        tell_swept(found, kind_text(kind), good, out)?;
+    }
+    out.push_str("  of the source:\n")?;
+    tell_swept(fail_sources(&copying)?, "reads", good, out)?;
     Ok(())
 }
 

@@ -34,6 +34,12 @@ spiffs: a SPIFFS 0.3.7 flash volume in a chip file, or in several end to end
       mounts and checks the volume, collects garbage, and tells in which pages
       the data of the file with that id lies
       spiffs map 256 4096 16 0 len chip 1
+  spiffs copy PAGE BLOCK BLOCKS META MAGIC CHIP PAGE BLOCK BLOCKS META MAGIC CHIP
+      copies the files of the first volume onto the second one, which is checked;
+      given again after a power cut it goes on. A chip that is not formatted is
+      made an empty volume first:
+      mkdir none && spiffs make 128 1024 6 0 plain new none
+      spiffs copy 256 4096 16 0 len old 128 1024 6 0 plain new
   spiffs detect CHIP
       tells which volumes a file may hold, the best first, also inside the dump
       of a whole flash; writes nothing
@@ -124,6 +130,11 @@ were erased, and free blocks in the end.
 A map is a line `SPAN PAGE` for each data page of the file, at most 4096: its
 number in the file, from 0, and the page of the volume that holds it.
 
+A copy is a line `copied C kept K`: files that were copied, and those that had
+their copy already. Meta bytes go along if both volumes have as many; types and
+ids do not. The second volume keeps its other files. While it is copied a file
+has the one byte 1 for its name.
+
 A detection is a line `at OFFSET page P block B blocks N meta M magic KIND files
 F damaged D` for each volume that the file may hold: OFFSET is its first byte, M
 the META that reads most whole files, or `M1-M2` where several read as many.
@@ -131,12 +142,14 @@ the META that reads most whole files, or `M1-M2` where several read as many.
 Statuses: 0 all was done; 1 usage; 2 numbers or device refused; 3 no volume;
 4 blocks hold pages of both kinds, and too few are free to part them: extract
 the files and make a new chip; 5 a line outside the grammar; 6 no room for the
-files of the folder; 7 a chip or the output failed, 8 the script could not be
-read, 9 the folder failed; 10 lent memory too short; 11 the script is too long;
-12 an id is damaged; 13 a name of the folder is no file's, or an earlier one's;
-14 fewer than two free blocks; 15 no memory; 17 no file has that id; 21 a page
-does not read as it was written; 22 the chips make no row; 23 `run`, `check`,
-`scrub` or `map`: ids are damaged and another META reads more whole files,
-nothing was written. Standard error tells more of statuses 1, 3, 4, 7, 8, 9, 13
-and 23, what `make` passed over, and how many damaged files were removed.
+files of the folder, or for the next step of a copy; 7 a chip or the output
+failed, 8 the script could not be read, 9 the folder failed; 10 lent memory too
+short; 11 the script is too long; 12 an id is damaged; 13 a name of the folder
+is no file's, or an earlier one's, or the source of a copy has the name of a
+copy; 14 fewer than two free blocks; 15 no memory; 17 no file has that id; 18 a
+chip of the source failed; 21 a page does not read as it was written; 22 the
+chips make no row, or a copy's volumes share one; 23 `run`, `check`, `scrub` or
+`map`: ids are damaged and another META reads more whole files, nothing was
+written. Standard error tells more of statuses 1, 3, 4, 7, 8, 9, 13, 18 and 23,
+what `make` passed over, and how many damaged files were removed.
 ";

@@ -4,6 +4,7 @@
 //! looks whether another META reads more whole files, and then it writes nothing.
 #![tactic(auto)]
 
+mod copying;
 mod detect;
 mod help;
 mod look;
@@ -11,6 +12,7 @@ mod usage;
 mod words;
 
 use chip_row::ChipRow;
+use copying::begin_copy;
 use detect::{detect_board, detect_on, tell_found};
 use fd_table::FdSlot;
 use help::{HELP, VERSION};
@@ -110,6 +112,17 @@ impl Memory {
             line: vec![in alloc; 0u8; LINE]?,
         })
     }
+
+    // Lends it.
+    fn lend(&mut self) -> Buffers<'_> {
+        Buffers {
+            work: &mut self.work,
+            slots: &mut self.slots,
+            cache: &mut self.cache,
+            check: &mut self.check,
+            line: &mut self.line,
+        }
+    }
 }
 
 // The words of the command line, without the program's own name. Else the cause is want of memory, or a word that isn't text.
@@ -149,24 +162,36 @@ fn access_of(words: &[String], is_taken: bool) -> Access {
     }
 }
 
-// The names of the chip files, which stand in one word, parted by commas.
-fn chip_paths(alloc: Global, words: &[String]) -> Result<Vec<&str>, AllocError> {
-    chip_word(words).split(',').collect(alloc)
+// The names of chip files, which stand in one word, parted by commas.
+fn chip_paths(alloc: Global, names: &str) -> Result<Vec<&str>, AllocError> {
+    names.split(',').collect(alloc)
 }
 
-// The row of the chip files.
+// The row of the chip files, opened as the command needs it.
 fn row_of(
     rt: &HostRuntime,
     words: &[String],
     bufs: &Buffers<'_>,
 ) -> Result<ChipRow<FileChip>, Refusal> {
-    let paths = chip_paths(rt.alloc(), words)?;
+    let paths = chip_paths(rt.alloc(), chip_word(words))?;
+    let number = u32::try_from(paths.len()).unwrap_or(u32::MAX).max(1);
+    let bytes = chip_size_of(words, number).checked_mul(number);
+    let is_taken = bytes.is_some_and(|bytes| is_accepted(words, unit_of(words), bytes, bufs));
+    let access = access_of(words, is_taken);
+    open_row(rt, words, chip_word(words), access)
+}
+
+// The row of the chip files of these names, opened so, for the numbers behind the first word.
+fn open_row(
+    rt: &HostRuntime,
+    words: &[String],
+    names: &str,
+    access: Access,
+) -> Result<ChipRow<FileChip>, Refusal> {
+    let paths = chip_paths(rt.alloc(), names)?;
     let number = u32::try_from(paths.len()).unwrap_or(u32::MAX).max(1);
     let size = chip_size_of(words, number);
     let unit = unit_of(words);
-    let bytes = size.checked_mul(number);
-    let is_taken = bytes.is_some_and(|bytes| is_accepted(words, unit, bytes, bufs));
-    let access = access_of(words, is_taken);
     let mut chips = Vec::new(rt.alloc());
     for path in paths {
         let chip = FileChip::new(rt, path, access, size, unit);
@@ -197,21 +222,31 @@ fn explain(rt: &impl Eprint, trouble: Option<&Trouble>) {
     }
 }
 
-// Says on standard error which chip file failed and why, or why nothing more could be said.
-fn explain_board<W: Write + Drop>(
+// Says on standard error which chip file failed and why, by its number among the names, or why nothing more could be said.
+fn explain_chip(
     rt: &HostRuntime,
-    words: &[String],
-    board: &StdBoard<W, FileChip>,
+    names: &str,
+    chip: Option<usize>,
+    trouble: Option<&Trouble>,
 ) {
-    let mut paths = chip_word(words).split(',');
-    let path = board.failed_chip().and_then(|i| paths.nth(i));
-    match (path, board.trouble()) {
+    let mut paths = names.split(',');
+    let path = chip.and_then(|i| paths.nth(i));
+    match (path, trouble) {
         (Some(path), Some(trouble)) => {
             // (if standard error fails too there is nobody to tell)
             let _said = eprintln!(rt; "spiffs: {path}: {trouble}");
         }
         (_, trouble) => explain(rt, trouble),
     }
+}
+
+// Says on standard error which chip file of a board failed and why, or why nothing more could be said.
+fn explain_board<W: Write + Drop>(
+    rt: &HostRuntime,
+    words: &[String],
+    board: &StdBoard<W, FileChip>,
+) {
+    explain_chip(rt, chip_word(words), board.failed_chip(), board.trouble());
 }
 
 // Whether a command that ended so has brought the volume into order: then its damaged files are gone.
@@ -290,13 +325,7 @@ fn run(
     is_forced: bool,
     memory: &mut Memory,
 ) -> Result<u8, Refusal> {
-    let mut bufs = Buffers {
-        work: &mut memory.work,
-        slots: &mut memory.slots,
-        cache: &mut memory.cache,
-        check: &mut memory.check,
-        line: &mut memory.line,
-    };
+    let mut bufs = memory.lend();
     let mut board = StdBoard::new(row_of(rt, words, &bufs)?, rt.stdout());
     let seen = match look_before(words, is_forced, &mut board, &mut bufs) {
         Ok(seen) => seen,
@@ -378,6 +407,9 @@ fn take_memory(rt: &HostRuntime, words: &[String]) -> Result<Memory, AllocError>
 
 // Takes the memory, and runs the command.
 fn begin(rt: &HostRuntime, words: &[String], is_forced: bool) -> Result<u8, Refusal> {
+    if word(words, 0) == "copy" {
+        return begin_copy(rt, words);
+    }
     if detects(words) {
         return find_volumes(rt, words);
     }

@@ -1,5 +1,5 @@
 //! Which word of a faulty command line is wrong.
-use crate::words::{FOLDER_WORD, chip_word, detects, word};
+use crate::words::{CHIP_WORD, FOLDER_WORD, chip_word, detects, target_words, word};
 use call_script::parse_number;
 use std::fmt;
 
@@ -65,6 +65,10 @@ fn form_of(verb: &str) -> Option<(&'static str, usize)> {
         "soak" => Some(("PAGE BLOCK BLOCKS META MAGIC CHIP SEED COUNT", 8)),
         "scrub" => Some(("PAGE BLOCK BLOCKS META MAGIC CHIP LIMIT", 7)),
         "map" => Some(("PAGE BLOCK BLOCKS META MAGIC CHIP ID", 7)),
+        "copy" => Some((
+            "PAGE BLOCK BLOCKS META MAGIC CHIP PAGE BLOCK BLOCKS META MAGIC CHIP",
+            12,
+        )),
         "detect" => Some(("CHIP", 1)),
         _ => None,
     }
@@ -100,6 +104,22 @@ fn wrong_number<'w>(
     wrong_between(words, at, name, 0, most)
 }
 
+// What is wrong with the word that tells the magic.
+fn wrong_magic(words: &[String]) -> Option<Wrong<'_>> {
+    match word(words, 5) {
+        "len" | "plain" => None,
+        given => Some(Wrong::Magic(given)),
+    }
+}
+
+// What is wrong with the word that names the chips of a volume.
+fn wrong_chip(words: &[String]) -> Option<Wrong<'_>> {
+    if word(words, CHIP_WORD).is_empty() {
+        return Some(Wrong::Empty("CHIP"));
+    }
+    None
+}
+
 // What is wrong with the numbers of the volume.
 fn wrong_volume(words: &[String]) -> Option<Wrong<'_>> {
     let most = u64::from(u32::MAX);
@@ -108,14 +128,6 @@ fn wrong_volume(words: &[String]) -> Option<Wrong<'_>> {
         .or(wrong_number(words, 3, "BLOCKS", most))
         .or(wrong_number(words, 4, "META", most))
         .or(wrong_magic(words))
-}
-
-// Whether MAGIC is none of its two words.
-fn wrong_magic(words: &[String]) -> Option<Wrong<'_>> {
-    match word(words, 5) {
-        "len" | "plain" => None,
-        magic => Some(Wrong::Magic(magic)),
-    }
 }
 
 // What is wrong with the words behind the chip's name.
@@ -127,6 +139,7 @@ fn wrong_end(words: &[String]) -> Option<Wrong<'_>> {
         }
         "scrub" => wrong_between(words, 7, "LIMIT", 1, 32_767),
         "map" => wrong_number(words, 7, "ID", 65_535),
+        "copy" => wrong_volume(target_words(words)).or(wrong_chip(target_words(words))),
         _ => None,
     }
 }

@@ -1,7 +1,7 @@
 //! The words of the command line.
 
 /// The place among the words of the chip files' names.
-const CHIP_WORD: usize = 6;
+pub const CHIP_WORD: usize = 6;
 
 /// The place among the words of the folder's name.
 pub const FOLDER_WORD: usize = 7;
@@ -20,6 +20,11 @@ pub fn word(words: &[String], number: usize) -> &str {
 /// Whether the words are a command that removes damaged files for good.
 pub fn repairs(words: &[String]) -> bool {
     matches!(word(words, 0), "run" | "check" | "scrub" | "map")
+}
+
+/// The words from the source's chips on, in a copy: the target's stand behind these as those of any other volume.
+pub fn target_words(words: &[String]) -> &[String] {
+    words.get(CHIP_WORD..).unwrap_or(&[])
 }
 
 /// Whether the words are to say which volumes a chip may hold.

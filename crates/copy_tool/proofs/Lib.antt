@@ -1,0 +1,9 @@
+pub mod Begins
+pub mod Remaining
+pub mod Counted
+pub mod Surveys
+pub mod Rests
+pub mod Copies
+pub mod Says
+pub mod Told
+pub mod Plans

@@ -1,0 +1,5 @@
+pub mod Words
+pub mod Plan
+pub mod Endings
+pub mod Does
+pub mod Steps
