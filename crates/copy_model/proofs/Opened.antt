@@ -101,8 +101,7 @@ module _ (stat : Stat) (t : Task) (files : List File) (is : IsMissing stat t fil
         left = files;
         next = ap (λ (o : Outcome). o.next) gone;
         reply = inr (ap (λ (o : Outcome). o.answer) gone);
-        left_under = next_under stat t files is.next;
-        none = none;
+        part = next_part stat t files is.next;
       })
 
 -- ---- its next bytes are written
@@ -146,8 +145,7 @@ module _ (stat : Stat) (at : ℕ) (t : Task) (d : Open) (files : List File) (is 
         left = before;
         next = ap (λ (o : Outcome). o.next) gone;
         reply = inl (ap (λ (o : Outcome). o.answer) gone);
-        left_under = next_under stat t before is.is.next;
-        none = is.is.next.amid.done.none;
+        part = next_part stat t before is.is.next;
       })
 
   -- a cut leaves it as it was, or with them

@@ -20,13 +20,14 @@ use Rattle.copy_model.specs.Copying.{working, is_copy, is_copied, keeps, front_o
 use Rattle.copy_model.specs.Filling.{filler}
 use Rattle.copy_model.specs.Stops.{first_full}
 use Rattle.copy_model.specs.Rooms.{filling_full}
-use Rattle.copy_model.specs.Under.{IsTable, HasNow, IsUnder, IsCopied}
+use Rattle.copy_model.specs.Under.{IsTable, HasNow, IsUnder, IsCopied, IsPart}
 use Rattle.copy_model.specs.Tasks.{Task, begins_with, stops_at}
 use Rattle.copy_model.specs.Walks.{up_to, behind}
 use Rattle.copy_model.specs.Parts.{IsFit, AreFit, IsAmid, IsUpTo, IsCounted, IsNext, IsMissing, IsFilling, IsWhole, IsMarked, IsPassed}
 use Rattle.copy_model.proofs.Names.{found-all, named-is, put-others, put-over}
 use Rattle.copy_model.proofs.Stages.{under-none, under-begun, without-others, without-own, under-cleared, copied-kept, copied-placed}
 use Rattle.copy_model.proofs.Answering.{marked-id, marked-name, marked-unused}
+use Rattle.copy_model.proofs.Staging.{whole-copy}
 use Rattle.copy_model.proofs.Rooming.{full-here, full-later, full-ends, less-room, room-behind, last-has_room, steps-kept, steps-full}
 use Rattle.copy_model.proofs.Walking.{next_is, none_next, none_passed, new_name, kept-more, long-more}
 
@@ -101,6 +102,9 @@ module _ (stat : Stat) (t : Task) (files : List File) (next : IsNext stat t file
 
   pub keeps_first : keeps t.alike next.f t.first ≡ keeps t.alike next.f files
   keeps_first = ap (is_copied t.alike next.f) (sym (subst (λ (o : Option File). HasNow t.alike o (file_named next.f.name t.first) (file_named next.f.name files)) next_new name_first))
+
+  pub next_part : IsPart t.alike t.source t.first files
+  next_part = record { front = up_to next.after t.source; rest = behind next.after t.source; source_is = next.amid.source_is; copied = next.amid.done }
 
   pub next_under : IsUnder t.alike t.source t.first files
   next_under = as_source files (under-none t.alike (up_to next.after t.source) (next.f ∷ behind next.f.id t.source) t.first files next.amid.done)
@@ -273,18 +277,20 @@ module _ (stat : Stat) (t : Task) (before : List File) (is : IsMissing stat t be
   cleared_beside : (name : List ℕ) → name ≢ working → is.next.f.name ≢ name → file_named name (cleared t.g t.alike is.next.f before) ≡ file_named name before
   cleared_beside name other apart = without-others is.next.f.name (put_file (marked t.g t.alike is.next.f before) before) put less name apart ∙ beside name other
 
+  -- the working file is still there
+  marked_stays : file_named working (cleared t.g t.alike is.next.f before) ≡ Some (marked t.g t.alike is.next.f before)
+  marked_stays =
+      let w = marked t.g t.alike is.next.f before in
+      without-others is.next.f.name (put_file w before) put less working (next_fit stat t before is.next).apart
+      ∙ subst (λ (n : List ℕ). file_named n (put_file w before) ≡ Some w) (marked-name t.g t.alike is.next.f before) (put-over w before put)
+
   pub cleared_under : IsUnder t.alike t.source t.first (cleared t.g t.alike is.next.f before)
   cleared_under = as_source stat t before is.next (cleared t.g t.alike is.next.f before)
       (under-cleared t.alike (up_to is.next.after t.source) (behind is.next.f.id t.source) t.first before is.next.f is.next.amid.done (next_new stat t before is.next) (next_fit stat t before is.next).apart
-      (cleared t.g t.alike is.next.f before) cleared_beside cleared_none)
+      (cleared t.g t.alike is.next.f before) cleared_beside cleared_none (ap (is_copied t.alike is.next.f) marked_stays ∙ whole-copy t.g t.alike is.next.f before))
 
-  -- the working file is still there
   marked_there : file_of (marked t.g t.alike is.next.f before).id (cleared t.g t.alike is.next.f before) ≡ Some (marked t.g t.alike is.next.f before)
-  marked_there =
-      let w = marked t.g t.alike is.next.f before in
-      let named = marked-name t.g t.alike is.next.f before in
-      let own : file_named working (put_file w before) ≡ Some w = subst (λ (n : List ℕ). file_named n (put_file w before) ≡ Some w) named (put-over w before put) in
-      (named-is (cleared t.g t.alike is.next.f before) working w less (without-others is.next.f.name (put_file w before) put less working (next_fit stat t before is.next).apart ∙ own)).0
+  marked_there = (named-is (cleared t.g t.alike is.next.f before) working (marked t.g t.alike is.next.f before) less marked_stays).0
 
   marked_copy : is_copy t.alike is.next.f (record (marked t.g t.alike is.next.f before) { name = is.next.f.name }) ≡ true
   marked_copy = copy_of t.alike refl

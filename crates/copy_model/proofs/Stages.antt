@@ -7,7 +7,7 @@ use Rattle.table_model.specs.Table.{File, same_text, file_of, file_named, put_fi
 use Rattle.std.specs.Cmp.Lexicographic.{other_text}
 use Rattle.image_laws.proofs.Records.{bytes_same, bytes_equal}
 use Rattle.copy_model.specs.Copying.{working, is_copy, is_copied, keeps, without_found, without_name}
-use Rattle.copy_model.specs.Under.{IsTable, HasCopy, MayHave, HasNow, IsUnder, IsCopied}
+use Rattle.copy_model.specs.Under.{IsTable, HasCopy, MayHave, HasNow, IsUnder, IsCopied, IsPart}
 use Rattle.copy_model.proofs.Names.{named-is, put-others, drop-others, drop-own, over-others, over-old, put-over}
 
 -- ---- lists of records
@@ -44,14 +44,14 @@ named-later name f rest other = rw other refl
 
 -- ---- a name that is as the records before left it
 
-as_left : (alike : Bool) (o p first now here : Option File) → HasNow alike o first here → now ≡ here → (whole : Option File) → ((f : File) → o ≡ Some f → whole ≡ Some f) → MayHave alike whole first now
-as_left alike None p first now here has same None left = same ∙ has
-as_left alike None p first now here has same (Some f) left = inr (inl (same ∙ has))
-as_left alike (Some f) p first now here has same whole left = subst (λ (w : Option File). MayHave alike w first now) (sym (left f refl)) (inr (inr (subst (HasCopy alike f) (sym same) has)))
+as_left : (alike : Bool) (o p first now under here : Option File) → HasNow alike o first here → now ≡ here → (whole : Option File) → ((f : File) → o ≡ Some f → whole ≡ Some f) → MayHave alike whole first now under
+as_left alike None p first now under here has same None left = same ∙ has
+as_left alike None p first now under here has same (Some f) left = inr (inl (same ∙ has))
+as_left alike (Some f) p first now under here has same whole left = subst (λ (w : Option File). MayHave alike w first now under) (sym (left f refl)) (inr (inr (subst (HasCopy alike f) (sym same) has)))
 
 module _ (alike : Bool) (front rest first files : List File) (done : IsCopied alike front first files) where
-  pub under-left : (now : List File) (name : List ℕ) → name ≢ working → file_named name now ≡ file_named name files → MayHave alike (file_named name (front ++ rest)) (file_named name first) (file_named name now)
-  under-left now name other same = as_left alike (file_named name front) None (file_named name first) (file_named name now) (file_named name files) (done.each name other) same (file_named name (front ++ rest)) (λ f is. named-left name front rest f is)
+  pub under-left : (now : List File) (name : List ℕ) → name ≢ working → file_named name now ≡ file_named name files → MayHave alike (file_named name (front ++ rest)) (file_named name first) (file_named name now) (file_named working now)
+  under-left now name other same = as_left alike (file_named name front) None (file_named name first) (file_named name now) (file_named working now) (file_named name files) (done.each name other) same (file_named name (front ++ rest)) (λ f is. named-left name front rest f is)
 
   -- nothing is done yet
   pub under-none : IsUnder alike (front ++ rest) first files
@@ -60,6 +60,9 @@ module _ (alike : Bool) (front rest first files : List File) (done : IsCopied al
   -- a front of the next record stands under the working name
   pub under-begun : (w : File) → w.name ≡ working → IsTable files → IsTable (put_file w files) → file_of w.id files ≡ None → IsUnder alike (front ++ rest) first (put_file w files)
   under-begun w named table put unused = λ name other. under-left (put_file w files) name other (put-others w files table put unused name (λ same. other (sym same ∙ named)))
+
+pub part-under : (alike : Bool) (source first files : List File) → IsPart alike source first files → IsUnder alike source first files
+part-under alike source first files part = subst (λ (records : List File). IsUnder alike records first files) (sym part.source_is) (under-none alike part.front part.rest first files part.copied)
 
 -- ---- the file that had the record's name is gone
 
@@ -95,12 +98,13 @@ module _ (alike : Bool) (front rest first files : List File) (f : File) (done : 
   whole : file_named f.name (front ++ f ∷ rest) ≡ Some f
   whole = named-right f.name front (f ∷ rest) new ∙ named-head f rest
 
-  -- its name has nothing
-  pub under-cleared : (now : List File) → ((name : List ℕ) → name ≢ working → f.name ≢ name → file_named name now ≡ file_named name files) → file_named f.name now ≡ None → IsUnder alike (front ++ f ∷ rest) first now
-  under-cleared now others none = λ name other. ⊎_elim
+  -- its name has nothing, and the working name has the copy
+  pub under-cleared : (now : List File) → ((name : List ℕ) → name ≢ working → f.name ≢ name → file_named name now ≡ file_named name files) → file_named f.name now ≡ None → is_copied alike f (file_named working now) ≡ true →
+      IsUnder alike (front ++ f ∷ rest) first now
+  under-cleared now others none whole_copy = λ name other. ⊎_elim
       (λ (same : same_text f.name name ≡ true).
       let is : f.name ≡ name = bytes_same f.name name same in
-      subst (λ (n : List ℕ). MayHave alike (file_named n (front ++ f ∷ rest)) (file_named n first) (file_named n now)) is (subst (λ (o : Option File). MayHave alike o (file_named f.name first) (file_named f.name now)) (sym whole) (inl none)))
+      subst (λ (n : List ℕ). MayHave alike (file_named n (front ++ f ∷ rest)) (file_named n first) (file_named n now) (file_named working now)) is (subst (λ (o : Option File). MayHave alike o (file_named f.name first) (file_named f.name now) (file_named working now)) (sym whole) (inl (none, whole_copy))))
       (λ (differ : same_text f.name name ≡ false).
       under-left alike front (f ∷ rest) first files done now name other (others name other (λ same. other_text f.name name (sym differ) same)))
       (cases_Bool (same_text f.name name))

@@ -8,7 +8,7 @@ use Rattle.header_laws.proofs.Telling.{each-by_id}
 use Rattle.header_laws.proofs.Naming.{each_by_name}
 use Rattle.call_model.proofs.Parts.{put_twice}
 use Rattle.call_model.proofs.Unused.{least-unused, file_of-unused}
-use Rattle.copy_model.specs.Copying.{working, is_copy, front_of, begun, marked, without_found, without_name, cleared, placed}
+use Rattle.copy_model.specs.Copying.{working, is_copy, is_copied, front_of, begun, marked, without_found, without_name, cleared, placed}
 use Rattle.copy_model.specs.Under.{IsTable, HasNow, IsUnder, IsCopied}
 use Rattle.copy_model.specs.Stages.{ImageTables, StartsCopy, IsNext, CopiesNext, KeepsNext, DoneIsUnder, DoneIsThere}
 use Rattle.copy_model.proofs.Putting.{over-drop, named-put, unlike}
@@ -38,7 +38,12 @@ starts-copy first table =
 
 -- ---- a record
 
--- the working file with a record's name is a copy of it
+-- the working file that is whole is a copy of its record
+pub whole-copy : (g : Geometry) (alike : Bool) (f : File) (files : List File) → is_copy alike f (marked g alike f files) ≡ true
+whole-copy g true f files = rw (bytes_equal f.bytes, bytes_equal f.meta) refl
+whole-copy g false f files = rw (bytes_equal f.bytes) refl
+
+-- with the record's name it is one too
 marked-copy : (g : Geometry) (alike : Bool) (f : File) (files : List File) → is_copy alike f (record (marked g alike f files) { name = f.name }) ≡ true
 marked-copy g true f files = rw (bytes_equal f.bytes, bytes_equal f.meta) refl
 marked-copy g false f files = rw (bytes_equal f.bytes) refl
@@ -73,11 +78,11 @@ module _ (g : Geometry) (alike : Bool) (front rest first files : List File) (f :
   cleared_none : file_named f.name (cleared g alike f files) ≡ None
   cleared_none = without-own f.name (put_file (marked g alike f files) files) marked_table cleared_table
 
-  cleared_under : IsUnder alike (front ++ f ∷ rest) first (cleared g alike f files)
-  cleared_under = under-cleared alike front rest first files f next.done next.unlike_front next.fine (cleared g alike f files) cleared_others cleared_none
-
   stays : file_named working (cleared g alike f files) ≡ Some (marked g alike f files)
   stays = working-stays (marked g alike f files) files f.name (marked-unused g alike f files) (marked-name g alike f files) next.fine no_working
+
+  cleared_under : IsUnder alike (front ++ f ∷ rest) first (cleared g alike f files)
+  cleared_under = under-cleared alike front rest first files f next.done next.unlike_front next.fine (cleared g alike f files) cleared_others cleared_none (ap (is_copied alike f) stays ∙ whole-copy g alike f files)
 
   own : (marked g alike f files).name ≢ f.name
   own same = next.fine (sym same ∙ marked-name g alike f files)

@@ -17,7 +17,7 @@ use Rattle.copy_model.specs.Copying.{working, keeps, begun, marked, cleared, cop
 use Rattle.copy_model.specs.Filling.{filler}
 use Rattle.copy_model.specs.Stops.{first_full}
 use Rattle.copy_model.specs.Rooms.{filling_full}
-use Rattle.copy_model.specs.Under.{IsTable, IsUnder, IsCopied}
+use Rattle.copy_model.specs.Under.{IsTable, IsUnder, IsCopied, IsPart}
 use Rattle.copy_model.specs.Tasks.{Task, begins_with, stops_at}
 use Rattle.copy_model.specs.Walks.{up_to, behind}
 
@@ -119,5 +119,4 @@ pub record IsLacking (index pages : ℕ) (t : Task) (s : State) : Type 0 where
   pub left : List File
   pub next : (answer t.g true s (Removes working)).next ≡ with_files t.slots left
   pub reply : ((answer t.g true s (Removes working)).answer ≡ Fine) ⊎ ((answer t.g true s (Removes working)).answer ≡ Refuses NotFound)
-  pub left_under : IsUnder t.alike t.source t.first left
-  pub none : file_named working left ≡ None
+  pub part : IsPart t.alike t.source t.first left

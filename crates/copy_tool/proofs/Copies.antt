@@ -14,7 +14,7 @@ use Rattle.call_model.specs.Safe.{IsSafe}
 use Rattle.call_model.proofs.Safety.{holds_safe}
 use Rattle.copy_model.specs.Copying.{working, copied, without_name, kept_count}
 use Rattle.copy_model.specs.Stops.{copy_stop}
-use Rattle.copy_model.specs.Under.{MayHave, IsUnder, IsCopied}
+use Rattle.copy_model.specs.Under.{MayHave, IsUnder, IsCopied, IsPart}
 use Rattle.copy_model.specs.declared.err.Copied.{Copied}
 use Rattle.copy_model.specs.declared.err.CopyErr.{CopyErr}
 use Rattle.copy_model.specs.declared.err.CopyErr.TheVariants.{BadName as CopyBadName, Full as CopyFull, FromFault, ToFault, Damaged as CopyDamaged, Refused}
@@ -29,19 +29,19 @@ use Rattle.tool_parts.specs.Mounting.{Checks, IsRefused}
 use Rattle.tool_parts.specs.Refusals.{check_refusal, begin_refusal, or_ending}
 use Rattle.tool_parts.proofs.Begun.{begins_on}
 use Rattle.tool_parts.proofs.Mounted.{holds_check, safe_check}
-use Rattle.tool_parts.proofs.Refusals.{not_both}
+use Rattle.tool_parts.proofs.Refusals.{not_both, refusal_is}
 use Rattle.copy_tool.specs.Endings.{copy_ends, target_stop}
-use Rattle.copy_tool.specs.Does.{KeepsNames, HasCopies, IsFull, IsKept, CopyLeaves, HasAll}
+use Rattle.copy_tool.specs.Does.{KeepsNames, HasCopies, IsFull, IsKept, IsStuck, CopyLeaves, HasAll}
 use Rattle.copy_tool.specs.Steps.{IsOfTarget, IsDone, IsStopped, CopiesAs}
 use Rattle.copy_tool.proofs.Rests.{rest_table, rest_tidy, rest_reserve}
 
 -- each name may have what it had at first
-name_stays : (alike : Bool) (record_is first : Option File) → MayHave alike record_is first first
-name_stays alike None first = refl
-name_stays alike (Some f) first = inr (inl refl)
+name_stays : (alike : Bool) (record_is first under : Option File) → MayHave alike record_is first first under
+name_stays alike None first under = refl
+name_stays alike (Some f) first under = inr (inl refl)
 
 pub names_stay : (gf g : Geometry) (source was now : List ℕ) → table_of g now ≡ table_of g was → KeepsNames gf g source was now
-names_stay gf g source was now same = subst (λ (files : List File). IsUnder (alike_of gf g) (table_of gf source) (table_of g was) files) (sym same) (λ name apart. name_stays (alike_of gf g) (file_named name (table_of gf source)) (file_named name (table_of g was)))
+names_stay gf g source was now same = subst (λ (files : List File). IsUnder (alike_of gf g) (table_of gf source) (table_of g was) files) (sym same) (λ name apart. name_stays (alike_of gf g) (file_named name (table_of gf source)) (file_named name (table_of g was)) (file_named working (table_of g was)))
 
 -- so they have after a check
 pub checks_leave : {S : Type 0} {from : NorOf S} {gf g : Geometry} {source : S} {was image : List ℕ} → Checks g was image → CopyLeaves from gf g source was image
@@ -58,18 +58,23 @@ or_first o p ending is = rw is refl
 tight_begins : (g : Geometry) (was now : List ℕ) (ending : Ending) → IsTight g was now ending → begin_refusal g was now ≡ Some ending
 tight_begins g was now ending tight = rw tight.takes tight.tight
 
-stopped_by : (gf g : Geometry) (source was now : List ℕ) (ending : Ending) → IsOfTarget ending → begin_refusal g was now ≡ Some ending → IsStopped gf g source was now ending
-stopped_by gf g source was now ending of_target is = record {
+not_tight : (g : Geometry) (was now : List ℕ) (ending : Ending) → check_refusal g was ≡ Some ending → status_of ending ≡ 14 → IsStuck g was now
+not_tight g was now ending is fourteen = absurd (⊎_elim (λ two. omega (arith, fourteen, ap status_of two)) (λ mixed. omega (arith, fourteen, ap status_of mixed)) (refusal_is g was ending is))
+
+stopped_by : (gf g : Geometry) (source was now : List ℕ) (ending : Ending) → IsOfTarget ending → begin_refusal g was now ≡ Some ending → (status_of ending ≡ 14 → IsStuck g was now) → IsStopped gf g source was now ending
+stopped_by gf g source was now ending of_target is tight = record {
   stop = or_first _ _ ending is;
   undone = (of_target.undone, of_target.no_damage);
   full = λ six. absurd (of_target.no_full six);
   named = λ thirteen. absurd (of_target.no_names thirteen);
+  tight = tight;
 }
 
-pub begin_stops : {D : Type 0} {nor : NorOf D} (gf : Geometry) {g : Geometry} (source : List ℕ) {old new : D} (ending : Ending) → IsOfTarget ending → StopsRun nor g old new ending → CopiesAs gf g source (nor.bytes old) (nor.bytes new) (Err ending)
-begin_stops {D} {nor} gf {g} source {old} {new} ending of_target stops = ⊎_elim
+pub begin_stops : {D : Type 0} {nor : NorOf D} (gf : Geometry) {g : Geometry} (source : List ℕ) {old new : D} (ending : Ending) → IsOfTarget ending → Checks g (nor.bytes old) (nor.bytes new) → StopsRun nor g old new ending → CopiesAs gf g source (nor.bytes old) (nor.bytes new) (Err ending)
+begin_stops {D} {nor} gf {g} source {old} {new} ending of_target here stops = ⊎_elim
     (λ fault. inl fault.fault)
-    (λ ends. inr (inr (stopped_by gf g source (nor.bytes old) (nor.bytes new) ending of_target (⊎_elim (λ refused. or_first _ _ ending refused.refusal) (λ tight. tight_begins g (nor.bytes old) (nor.bytes new) ending tight) ends))))
+    (λ ends. inr (inr (stopped_by gf g source (nor.bytes old) (nor.bytes new) ending of_target (⊎_elim (λ refused. or_first _ _ ending refused.refusal) (λ tight. tight_begins g (nor.bytes old) (nor.bytes new) ending tight) ends)
+    (⊎_elim (λ refused. not_tight g (nor.bytes old) (nor.bytes new) ending refused.refusal) (λ tight. λ fourteen. record { table = here.table; stuck = tight.stuck; recovers_not = tight.recovers_not }) ends))))
     stops
 
 -- a target that isn't taken is only read
@@ -125,6 +130,7 @@ module _ {N : Type 0} {nor : NorOf N} (gf g : Geometry) (source : List ℕ) (slo
     stop = stop_behind gf g source (nor.bytes old) (nor.bytes new.nor.now) (CopyBadName at) (begun_at g (nor.bytes old) (nor.bytes mid.nor.now) (nor.bytes new.nor.now) begun ends.1.bytes) ends.0;
     undone = (λ (e : 13 ≡ 0). omega (arith, e), λ (e : 13 ≡ 12). omega (arith, e));
     full = λ (e : 13 ≡ 6). absurd (omega (arith, e));
+    tight = λ (e : 13 ≡ 14). absurd (omega (arith, e));
     named = λ e. record {
       table = ap (table_of g) ends.1.bytes ∙ (changes.now tells).table;
       tidy = subst (λ (l : List ℕ). IsTidy g l) (sym ends.1.bytes) begun.tidy;
@@ -135,11 +141,13 @@ module _ {N : Type 0} {nor : NorOf N} (gf g : Geometry) (source : List ℕ) (slo
     stop = stop_behind gf g source (nor.bytes old) (nor.bytes new.nor.now) (CopyFull index pages) (begins_on g (nor.bytes old) (nor.bytes new.nor.now) begun.takes (rest_reserve slots ends.rest)) ends.stops;
     undone = (λ (e : 6 ≡ 0). omega (arith, e), λ (e : 6 ≡ 12). omega (arith, e));
     full = λ e. record {
-      none = λ room. ap (file_named working) (rest_table slots ends.rest) ∙ ends.none room;
+      part = λ room. subst (λ (files : List File). IsPart (alike_of gf g) (table_of gf source) (table_of g (nor.bytes old)) files) (sym (rest_table slots ends.rest)) (ends.part room);
+      same = λ room. rest_table slots ends.rest ∙ ends.same room;
       tidy = rest_tidy slots ends.rest;
       reserve = rest_reserve slots ends.rest;
     };
     named = λ (e : 6 ≡ 13). absurd (omega (arith, e));
+    tight = λ (e : 6 ≡ 14). absurd (omega (arith, e));
   }))
   stopped_copies FromFault ends = inr (inl refl)
   stopped_copies ToFault ends = inl refl

@@ -53,33 +53,35 @@ same_text a b c d one two = ap (λ (n : ℕ). copied_text n b) one ∙ ap (copie
 
 module _ {gf g : Geometry} {source was now : List ℕ} where
   -- a status that tells nothing of what is left
-  left_by_none : (status : ℕ) → status ≢ 0 → status ≢ 12 → status ≢ 6 → status ≢ 13 → LeavesBy gf g source was now status
-  left_by_none status done damaged full named = record {
+  left_by_none : (status : ℕ) → status ≢ 0 → status ≢ 12 → status ≢ 6 → status ≢ 13 → status ≢ 14 → LeavesBy gf g source was now status
+  left_by_none status done damaged full named tight = record {
     done = λ one. absurd (⊎_elim (λ e. done e) (λ e. damaged e) one);
     full = λ e. absurd (full e);
     named = λ e. absurd (named e);
+    tight = λ e. absurd (tight e);
   }
 
   -- that of a fault
   fault_left : (ending : Ending) → (ending ≡ BoardFault) ⊎ (ending ≡ SourceChipFault) → LeavesBy gf g source was now (status_of ending)
   fault_left ending which = ⊎_elim
-      (λ is. left_by_none (status_of ending) (λ e. omega (arith, e, ap status_of is)) (λ e. omega (arith, e, ap status_of is)) (λ e. omega (arith, e, ap status_of is)) (λ e. omega (arith, e, ap status_of is)))
-      (λ is. left_by_none (status_of ending) (λ e. omega (arith, e, ap status_of is)) (λ e. omega (arith, e, ap status_of is)) (λ e. omega (arith, e, ap status_of is)) (λ e. omega (arith, e, ap status_of is)))
+      (λ is. left_by_none (status_of ending) (λ e. omega (arith, e, ap status_of is)) (λ e. omega (arith, e, ap status_of is)) (λ e. omega (arith, e, ap status_of is)) (λ e. omega (arith, e, ap status_of is)) (λ e. omega (arith, e, ap status_of is)))
+      (λ is. left_by_none (status_of ending) (λ e. omega (arith, e, ap status_of is)) (λ e. omega (arith, e, ap status_of is)) (λ e. omega (arith, e, ap status_of is)) (λ e. omega (arith, e, ap status_of is)) (λ e. omega (arith, e, ap status_of is)))
       which
 
   mount_left : (ending : Ending) → mount_refusal gf source ≡ Some ending → LeavesBy gf g source was now (status_of ending)
   mount_left ending is =
       let three = mount_status gf source ending is in
-      left_by_none (status_of ending) (λ e. omega (arith, e, three)) (λ e. omega (arith, e, three)) (λ e. omega (arith, e, three)) (λ e. omega (arith, e, three))
+      left_by_none (status_of ending) (λ e. omega (arith, e, three)) (λ e. omega (arith, e, three)) (λ e. omega (arith, e, three)) (λ e. omega (arith, e, three)) (λ e. omega (arith, e, three))
 
   stopped_left : (ending : Ending) → IsStopped gf g source was now ending → LeavesBy gf g source was now (status_of ending)
-  stopped_left ending stopped = record { done = λ one. absurd (⊎_elim (λ e. stopped.undone.0 e) (λ e. stopped.undone.1 e) one); full = stopped.full; named = stopped.named }
+  stopped_left ending stopped = record { done = λ one. absurd (⊎_elim (λ e. stopped.undone.0 e) (λ e. stopped.undone.1 e) one); full = stopped.full; named = stopped.named; tight = stopped.tight }
 
   done_left : (damaged : ℕ) → HasCopies gf g source was now → LeavesBy gf g source was now (status_of (said_ending damaged))
   done_left damaged copies = record {
     done = λ one. copies;
     full = λ e. absurd (⊎_elim (λ a. omega (arith, e, a)) (λ a. omega (arith, e, a)) (said_status damaged));
     named = λ e. absurd (⊎_elim (λ a. omega (arith, e, a)) (λ a. omega (arith, e, a)) (said_status damaged));
+    tight = λ e. absurd (⊎_elim (λ a. omega (arith, e, a)) (λ a. omega (arith, e, a)) (said_status damaged));
   }
 
   -- why a copy stops whose source is mounted

@@ -1,17 +1,17 @@
 -- What a copy leaves and answers.
-use Rattle.std.specs.Prelude.{ℕ, ◌≡◌, ◌<◌, ◌≤◌, ◌⊎◌, List, [], length, true, Option, Some, None}
+use Rattle.std.specs.Prelude.{ℕ, ◌≡◌, ◌<◌, ◌≤◌, ◌⊎◌, List, [], length, true, false, Option, Some, None}
 use Rattle.geometry.specs.declared.geometry.Geometry.{Geometry}
 use Rattle.nor_core.specs.declared.state.NorState.{Ghosts as NorOf}
 use Rattle.nor_core.specs.Count.{Rose}
 use Rattle.nor_core.specs.Device.{Leaves}
-use Rattle.table_model.specs.Table.{file_named}
 use Rattle.table_model.specs.Room.{has_room}
 use Rattle.image_model.specs.Tables.{table_of}
 use Rattle.image_model.specs.Tidy.{IsTidy, HasReserve}
-use Rattle.call_model.specs.Safe.{IsSafe}
+use Rattle.image_model.specs.Collect.{chosen_block}
+use Rattle.call_model.specs.Safe.{IsSafe, ComesBack}
 use Rattle.flash_view.specs.Same.{StaysBehind}
 use Rattle.copy_model.specs.Copying.{working, without_name, copied}
-use Rattle.copy_model.specs.Under.{IsUnder, IsCopied, IsAllThere}
+use Rattle.copy_model.specs.Under.{IsUnder, IsCopied, IsPart, IsAllThere}
 use Rattle.vol_copy.specs.Ends.{alike_of}
 use Rattle.tool_parts.specs.declared.ending.Ending.{Ending}
 use Rattle.tool_parts.specs.declared.ending.Ending.TheVariants.{SourceChipFault}
@@ -31,9 +31,11 @@ pub record HasCopies (gf g : Geometry) (source was now : List ℕ) : Type 0 wher
   pub tidy : IsTidy g now
   pub reserve : HasReserve g now
 
--- It has no room for the next step: it is tidy with two free blocks, and where it had room at first no file has the working name.
-pub record IsFull (g : Geometry) (was now : List ℕ) : Type 0 where
-  pub none : has_room g (table_of g was) ≡ true → file_named working (table_of g now) ≡ None
+-- It has no room for the next step: it is tidy with two free blocks. If it had room at first, the files of the source before the next have their
+-- copies, all others are as before, and no file has the working name; else each file is as before.
+pub record IsFull (gf g : Geometry) (source was now : List ℕ) : Type 0 where
+  pub part : has_room g (table_of g was) ≡ true → IsPart (alike_of gf g) (table_of gf source) (table_of g was) (table_of g now)
+  pub same : has_room g (table_of g was) ≡ false → table_of g now ≡ table_of g was
   pub tidy : IsTidy g now
   pub reserve : HasReserve g now
 
@@ -43,11 +45,19 @@ pub record IsKept (g : Geometry) (was now : List ℕ) : Type 0 where
   pub tidy : IsTidy g now
   pub reserve : HasReserve g now
 
+-- A check left fewer than two free blocks: each file is as before, no block that is worth cleaning can be cleaned, and the first image isn't one
+-- that an uncut check gives two free blocks.
+pub record IsStuck (g : Geometry) (was now : List ℕ) : Type 0 where
+  pub table : table_of g now ≡ table_of g was
+  pub stuck : chosen_block g now ≡ None
+  pub recovers_not : ComesBack g was → ⊥
+
 -- what a copy leaves, by its status
 pub record LeavesBy (gf g : Geometry) (source was now : List ℕ) (status : ℕ) : Type 0 where
   pub done : (status ≡ 0) ⊎ (status ≡ 12) → HasCopies gf g source was now
-  pub full : status ≡ 6 → IsFull g was now
+  pub full : status ≡ 6 → IsFull gf g source was now
   pub named : status ≡ 13 → IsKept g was now
+  pub tight : status ≡ 14 → IsStuck g was now
 
 -- What stands, or a cut leaves, may follow the first image; where the source tells its files, each name has what it may have.
 pub record CopyLeaves {S : Type 0} (from : NorOf S) (gf g : Geometry) (source : S) (was image : List ℕ) : Type 0 where
@@ -79,7 +89,7 @@ pub record EndsUnread {S D : Type 0} (from : NorOf S) (nor : NorOf D) (source af
 pub record DoesCopy {S D : Type 0} (from : NorOf S) (nor : NorOf D) (gf g : Geometry) (source_cache cache : ℕ) (source after : S) (old new : D) (status : ℕ) : Type 0 where
   -- the summary and the closing line of the images are said, or a front of these, and 7, where a fault of the target rose; or the source failed
   pub told : from.tells source → nor.tells old → Concludes nor old new (copy_text gf g (from.bytes source) (nor.bytes old) (nor.bytes new)) (copy_ending gf g (from.bytes source) (nor.bytes old) (nor.bytes new)) status ⊎ EndsUnread from nor source after old new status
-  -- with status 0 or 12 each file of the source has its copy; 6 and 13 leave the target in order
+  -- with status 0 or 12 each file of the source has its copy; what 6, 13 and 14 leave
   pub leaves : from.tells source → nor.tells old → LeavesBy gf g (from.bytes source) (nor.bytes old) (nor.bytes new) status
   -- whatever the status, the last image may follow the first one, and each name has what it may have
   pub left : nor.tells old → CopyLeaves from gf g source (nor.bytes old) (nor.bytes new)

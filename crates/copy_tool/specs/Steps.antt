@@ -17,7 +17,7 @@ use Rattle.tool_parts.specs.Later.{IsLaterStatus}
 use Rattle.tool_parts.specs.Endings.{Speaks, WritesNone}
 use Rattle.tool_parts.specs.Refusals.{mount_refusal, begin_refusal}
 use Rattle.copy_tool.specs.Endings.{target_stop, copy_ending, copy_text}
-use Rattle.copy_tool.specs.Does.{HasCopies, IsFull, IsKept, LeavesBy, CopyLeaves, CopyCut, HasAll, IsUntaken}
+use Rattle.copy_tool.specs.Does.{HasCopies, IsFull, IsKept, IsStuck, LeavesBy, CopyLeaves, CopyCut, HasAll, IsUntaken}
 
 -- how a copy ends that doesn't mount its source
 abbrev pub source_ends : MountErr → Ending
@@ -55,8 +55,9 @@ module _ (gf g : Geometry) (source was now : List ℕ) where
   pub record IsStopped (ending : Ending) : Type 0 where
     pub stop : target_stop gf g source was now ≡ Some ending
     pub undone : (status_of ending ≢ 0) × (status_of ending ≢ 12)
-    pub full : status_of ending ≡ 6 → IsFull g was now
+    pub full : status_of ending ≡ 6 → IsFull gf g source was now
     pub named : status_of ending ≡ 13 → IsKept g was now
+    pub tight : status_of ending ≡ 14 → IsStuck g was now
 
   -- how the target is left: so, or a device failed
   abbrev pub CopiesAs : Result Copied Ending → Type 0

@@ -117,8 +117,8 @@ module _ {N M : Type 0} {nor_from : NorOf N} {nor : NorOf M} (from : Reader N no
           stops = full_first t w.0 ∙ ap (λ (why : CopyErr). Some why) (sym w.1);
           left = w.2.files;
           rest = w.2.at;
-          under = first_under t w.2.files (w.2.known known);
-          none = λ room. absurd (false≢true (sym w.0 ∙ room));
+          part = λ room. absurd (false≢true (sym w.0 ∙ room));
+          same = λ full. w.2.known known;
         }
     stopped_first FromFault stops t has known = tt
     stopped_first ToFault stops t has known = tt
@@ -196,8 +196,8 @@ module _ {N M : Type 0} {nor_from : NorOf N} {nor : NorOf M} (from : Reader N no
                   stops = stops_are t has known ∙ ap (option_map (full_as t.g)) short.stops ∙ ap (λ (why : CopyErr). Some why) (sym short.why_is);
                   left = short.left;
                   rest = short.at;
-                  under = short.under;
-                  none = λ room. short.none;
+                  part = λ room. short.part;
+                  same = λ full. absurd (false≢true (sym full ∙ room_first t has known));
                 }
             stopped FromFault stops t has known = tt
             stopped ToFault stops t has known = tt

@@ -20,6 +20,7 @@ use Rattle.copy_model.specs.Tasks.{Task}
 use Rattle.copy_model.specs.Under.{IsTable, IsUnder}
 use Rattle.copy_model.specs.Parts.{IsLacking}
 use Rattle.copy_model.proofs.Answering.{informed}
+use Rattle.copy_model.proofs.Stages.{part-under}
 use Rattle.vol_copy.specs.Stages.{LacksRoom, CutsUnder, Leads, StopsAs, StopsFrom, IsShort}
 use Rattle.vol_copy.specs.Went.{Went, info_as, removed_as}
 use Rattle.vol_copy.proofs.Calling.{goes, any_cuts}
@@ -66,7 +67,7 @@ module _ {M : Type 0} {nor : NorOf M} where
   module _ (info : Info) (index pages : ℕ) (old new : Volume M nor) (result : Result (Unit {0}) CopyErr) (went : Went removed_as (Removes working) old new result) where
     pub give_cuts : CutsUnder (LacksOf info index pages) old new
     give_cuts = any_cuts (Removes working) old new went.0 went.1 refl refl (LacksOf info index pages) (λ t has. has.lacks.state) (λ t has. has.lacks.at) (λ t has known. (has.lacks.known known).under)
-        (λ t has known table. subst (IsUnder t.alike t.source t.first) (sym (ap (λ (s : State). s.table) (has.lacks.known known).next)) (has.lacks.known known).left_under)
+        (λ t has known table. subst (IsUnder t.alike t.source t.first) (sym (ap (λ (s : State). s.table) (has.lacks.known known).next)) (part-under t.alike t.source t.first (has.lacks.known known).left (has.lacks.known known).part))
 
     pub give_ends : result ≡ Ok tt → StopsFrom (LacksOf info index pages) old new (Full (info.index_pages + index) (info.data_pages + pages))
     give_ends ok = λ t has known.
@@ -80,8 +81,7 @@ module _ {M : Type 0} {nor : NorOf M} where
           why_is = ap (λ (n : ℕ). Full (n + index) (info.data_pages + pages)) i ∙ ap (λ (n : ℕ). Full (index_count t.g has.lacks.state.table + index) (n + pages)) d ∙ ap (λ (n : ℕ). Full n (data_count t.g has.lacks.state.table + pages)) is.index_are ∙ ap (Full (index_count t.g is.table)) is.pages_are;
           left = is.left;
           at = subst (IsAtRest t.g new) is.next w.1;
-          under = is.left_under;
-          none = is.none;
+          part = is.part;
         }
 
     pub give_stops : (why : CopyErr) → result ≡ Err why → StopsFrom (LacksOf info index pages) old new why

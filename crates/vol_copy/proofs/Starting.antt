@@ -41,12 +41,12 @@ use Rattle.vol_copy.proofs.Looking.{rests_some}
 use Rattle.vol_copy.proofs.Seeing.{look_reads, look_cuts, Told, stat_cuts, stat_leads}
 
 -- what stands at first may be left of a copy
-same_under : (alike : Bool) (o first : Option File) → MayHave alike o first first
-same_under alike None first = refl
-same_under alike (Some f) first = inr (inl refl)
+same_under : (alike : Bool) (o first under : Option File) → MayHave alike o first first under
+same_under alike None first under = refl
+same_under alike (Some f) first under = inr (inl refl)
 
 pub first_under : (t : Task) (files : List File) → files ≡ t.first → IsUnder t.alike t.source t.first files
-first_under t files first = subst (IsUnder t.alike t.source t.first) (sym first) (λ name other. same_under t.alike (file_named name t.source) (file_named name t.first))
+first_under t files first = subst (IsUnder t.alike t.source t.first) (sym first) (λ name other. same_under t.alike (file_named name t.source) (file_named name t.first) (file_named working t.first))
 
 -- ---- whether the target has room
 

@@ -1,9 +1,9 @@
 -- How a copy ends.
-use Rattle.std.specs.Prelude.{◌≡◌, ◌<◌, ◌+◌, ℕ, List, length, Bool, true, ◌==◌, Option, Some, None, Result, Ok, Err}
+use Rattle.std.specs.Prelude.{◌≡◌, ◌<◌, ◌+◌, ℕ, List, length, Bool, true, false, ◌==◌, Option, Some, None, Result, Ok, Err}
 use Rattle.geometry.specs.declared.geometry.Geometry.{Geometry}
 use Rattle.nor_core.specs.declared.state.NorState.{Ghosts as NorOf}
 use Rattle.nor_core.specs.Device.{Changes, OnlyReads}
-use Rattle.table_model.specs.Table.{File, file_named}
+use Rattle.table_model.specs.Table.{File}
 use Rattle.table_model.specs.Room.{has_room}
 use Rattle.image_model.specs.Tables.{table_of}
 use Rattle.call_model.specs.Safe.{IsSafe}
@@ -11,7 +11,7 @@ use Rattle.call_model.specs.Closed.{with_files}
 use Rattle.vol_mount.specs.declared.reader.Reader.{Reader}
 use Rattle.volume.specs.declared.volume.Volume.{Volume}
 use Rattle.copy_model.specs.Copying.{working, without_name, copied, kept_count}
-use Rattle.copy_model.specs.Under.{IsUnder, IsCopied, IsAllThere}
+use Rattle.copy_model.specs.Under.{IsUnder, IsCopied, IsPart, IsAllThere}
 use Rattle.volume_run.specs.Resting.{IsAtRest}
 use Rattle.copy_model.specs.declared.err.Copied.{Copied}
 use Rattle.copy_model.specs.declared.err.CopyErr.{CopyErr}
@@ -41,13 +41,14 @@ module _ {M : Type 0} {nor : NorOf M} where
       pub kept_is : c.kept ≡ kept_count alike source first
       pub copied_is : c.copied + c.kept ≡ length source
 
-    -- It stopped for want of room: the target is at rest, with no working file where it had room at first.
+    -- It stopped for want of room, and the target is at rest. If it had room at first, the records before have their copies, and no file has the
+    -- working name; else all is as before.
     pub record IsFull (why : CopyErr) : Type 0 where
       pub stops : copy_stop g alike source first ≡ Some why
       pub left : List File
       pub rest : IsAtRest g new (with_files slots left)
-      pub under : IsUnder alike source first left
-      pub none : has_room g first ≡ true → file_named working left ≡ None
+      pub part : has_room g first ≡ true → IsPart alike source first left
+      pub same : has_room g first ≡ false → left ≡ first
 
     -- how a copy ends on devices that tell
     abbrev pub Ends : Result Copied CopyErr → Type 0

@@ -1,11 +1,11 @@
 -- A target while files are copied onto it.
-use Rattle.std.specs.Prelude.{◌≡◌, ◌+◌, ◌-◌, ◌<◌, ◌≤◌, ◌%◌, ◌⊎◌, ℕ, min, List, Bool, true, false, Some, None}
+use Rattle.std.specs.Prelude.{◌≡◌, ◌+◌, ◌-◌, ◌<◌, ◌≤◌, ◌%◌, ◌⊎◌, ℕ, min, List, Bool, true, false, Some}
 use Rattle.geometry.specs.declared.geometry.Geometry.{Geometry}
 use Rattle.geometry.specs.Numbers.{body}
 use Rattle.table_model.specs.declared.reply.Stat.{Stat}
 use Rattle.nor_core.specs.declared.state.NorState.{Ghosts as NorOf}
 use Rattle.nor_core.specs.Device.{Changes}
-use Rattle.table_model.specs.Table.{File, Open, State, file_named}
+use Rattle.table_model.specs.Table.{File, Open, State}
 use Rattle.table_model.specs.Room.{index_pages}
 use Rattle.image_model.specs.Tables.{table_of}
 use Rattle.call_model.specs.Safe.{IsSafe}
@@ -15,11 +15,10 @@ use Rattle.volume.specs.declared.volume.Volume.{Volume}
 use Rattle.volume_run.specs.Resting.{IsAtRest}
 use Rattle.copy_model.specs.declared.err.CopyErr.{CopyErr}
 use Rattle.copy_model.specs.declared.err.CopyErr.TheVariants.{Full, FromFault, ToFault}
-use Rattle.copy_model.specs.Copying.{working}
 use Rattle.copy_model.specs.Filling.{with_first}
 use Rattle.copy_model.specs.Stops.{full_as}
 use Rattle.copy_model.specs.Tasks.{Task, stops_at}
-use Rattle.copy_model.specs.Under.{IsUnder}
+use Rattle.copy_model.specs.Under.{IsUnder, IsPart}
 use Rattle.copy_model.specs.Parts.{IsFilling, IsLacking}
 use Rattle.vol_copy.specs.Ends.{TellsFiles}
 
@@ -80,15 +79,14 @@ module _ {M : Type 0} {nor : NorOf M} where
   abbrev pub Leads : (A B : Task → Volume M nor → Type 0) (old new : Volume M nor) → Type 0
   Leads A B old new = (t : Task) → A t old → B t new
 
-  -- A copy stopped for want of room: the target is at rest, and no file has the working name.
+  -- A copy stopped for want of room: the target is at rest, with the copies of the records before.
   pub record IsShort (t : Task) (v : Volume M nor) (why : CopyErr) : Type 0 where
     pub table : List File
     pub stops : stops_at t ≡ Some table
     pub why_is : why ≡ full_as t.g table
     pub left : List File
     pub at : IsAtRest t.g v (with_files t.slots left)
-    pub under : IsUnder t.alike t.source t.first left
-    pub none : file_named working left ≡ None
+    pub part : IsPart t.alike t.source t.first left
 
   -- how a copy may stop where both devices tell
   abbrev pub StopsAs : Task → Volume M nor → CopyErr → Type 0

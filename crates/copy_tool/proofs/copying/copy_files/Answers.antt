@@ -17,7 +17,7 @@ pub returns-in-Err-clause-changes : goal.returns-in-Err-clause-changes
 returns-in-Err-clause-changes g c = check_leaves c.begin.ensures.changes
 
 pub returns-in-Err-clause-copies : goal.returns-in-Err-clause-copies
-returns-in-Err-clause-copies g c = λ source_tells tells. begin_stops c.args.from.now.geometry (g.N.NorState.bytes c.args.from.now.nor.now) c.in-Err.ending c.in-Err.ensures.of_target (c.in-Err.ensures.stops tells)
+returns-in-Err-clause-copies g c = λ source_tells tells. begin_stops c.args.from.now.geometry (g.N.NorState.bytes c.args.from.now.nor.now) c.in-Err.ending c.in-Err.ensures.of_target (c.begin.ensures.changes.now tells) (c.in-Err.ensures.stops tells)
 
 pub returns-in-Err-clause-idle : goal.returns-in-Err-clause-idle
 returns-in-Err-clause-idle g c = λ source_tells tells all. c.begin.ensures.idle tells all.tidy all.reserve
