@@ -1,10 +1,13 @@
 //! A copy of a volume onto another one: two rows of chip files, and memory for each.
+use crate::look::look_on;
 use crate::words::{CHIP_WORD, target_words, word};
 use crate::{
-    BOARD_FAULT, Memory, Refusal, SMALL_CACHE, cache_for, explain_chip, explain_status, open_row,
+    BOARD_FAULT, Memory, NO_VOLUME, OTHER_META, Refusal, SMALL_CACHE, cache_for, explain_chip,
+    explain_removed, explain_status, is_refused, open_row,
 };
 use copy_tool::copy_tool;
 use host_edge::{Access, StdBoard, is_one_file, row_trouble};
+use nor_core::Failed;
 use std::alloc::AllocError;
 use tool_parts::chip_size_of;
 
@@ -52,9 +55,24 @@ fn take_both(rt: &HostRuntime, words: &[String]) -> Result<Both, AllocError> {
     }
 }
 
+// Says on standard error why no volume was found, of whichever chip.
+fn explain_no_volume(rt: &impl Eprint) {
+    // (if standard error fails too there is nobody to tell)
+    let _said = eprintln!(rt;
+        "spiffs: PAGE, BLOCK, BLOCKS or MAGIC of one volume may be wrong, or the second chip isn't formatted: try spiffs detect on each"
+    );
+}
+
 // Gives the copy that the words spell, over the chip files that they name. The source's are opened for reading alone, and none is made.
-fn copy(rt: &HostRuntime, words: &[String], memory: &mut Both) -> Result<u8, Refusal> {
-    if words.len() == COPY_WORDS && share_chips(rt, words) {
+// The target is checked, so it is looked at first as before a check.
+fn copy(
+    rt: &HostRuntime,
+    words: &[String],
+    is_forced: bool,
+    memory: &mut Both,
+) -> Result<u8, Refusal> {
+    let is_whole = words.len() == COPY_WORDS;
+    if is_whole && share_chips(rt, words) {
         return Err(Refusal::Chips);
     }
     let behind = target_words(words);
@@ -63,6 +81,19 @@ fn copy(rt: &HostRuntime, words: &[String], memory: &mut Both) -> Result<u8, Ref
     let mut source = open_row(rt, words, from, Access::Read)?;
     let row = open_row(rt, behind, to, Access::Write)?;
     let mut board = StdBoard::new(row, rt.stdout());
+    let mut seen = None;
+    if is_whole {
+        seen = match look_on(behind, is_forced, &mut board, &mut memory.target.lend()) {
+            Ok(seen) => seen,
+            Err(Failed) => {
+                explain_chip(rt, to, board.failed_chip(), board.trouble());
+                return Ok(BOARD_FAULT);
+            }
+        };
+    }
+    if is_refused(rt, seen) {
+        return Ok(OTHER_META);
+    }
     let status = copy_tool(
         words,
         &mut source,
@@ -73,13 +104,19 @@ fn copy(rt: &HostRuntime, words: &[String], memory: &mut Both) -> Result<u8, Ref
     match status {
         BOARD_FAULT => explain_chip(rt, to, board.failed_chip(), board.trouble()),
         SOURCE_CHIP_FAULT => explain_chip(rt, from, source.fuse_chip(), row_trouble(&source)),
+        NO_VOLUME => explain_no_volume(rt),
         _ => explain_status(rt, words, status),
     }
+    explain_removed(rt, seen, status);
     Ok(status)
 }
 
-/// Takes the memory, and gives the copy.
-pub fn begin_copy(rt: &HostRuntime, words: &[String]) -> Result<u8, Refusal> {
+/// Takes the memory, and gives the copy; where it is forced, no other META of the target is tried.
+pub fn begin_copy(
+    rt: &HostRuntime,
+    words: &[String],
+    is_forced: bool,
+) -> Result<u8, Refusal> {
     let mut memory = take_both(rt, words)?;
-    copy(rt, words, &mut memory)
+    copy(rt, words, is_forced, &mut memory)
 }

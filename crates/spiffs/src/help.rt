@@ -44,7 +44,7 @@ spiffs: a SPIFFS 0.3.7 flash volume in a chip file, or in several end to end
       tells which volumes a file may hold, the best first, also inside the dump
       of a whole flash; writes nothing
       spiffs detect dump
-  spiffs --force run .. | check .. | scrub .. | map ..
+  spiffs --force run .. | check .. | scrub .. | map .. | copy ..
       goes on where another META reads more whole files
   spiffs --help | --version
 
@@ -53,7 +53,8 @@ spiffs: a SPIFFS 0.3.7 flash volume in a chip file, or in several end to end
   BLOCKS  blocks of the volume
   META    meta bytes of each file, 0 to 64. First `list` a chip that you did not
           make. If ids are damaged the META may be wrong; `run`, `check`,
-          `scrub` and `map` remove damaged files for good
+          `scrub`, `map` and `copy`, of the second volume, remove damaged files
+          for good
   MAGIC   `len` (the magic tells the volume's length) or `plain`
   CHIP    the chip's file, BLOCK * BLOCKS bytes; or the files of several chips,
           parted by commas, of BLOCK * ceil(BLOCKS / number) bytes each. Bytes
@@ -148,8 +149,8 @@ short; 11 the script is too long; 12 an id is damaged; 13 a name of the folder
 is no file's, or an earlier one's, or the source of a copy has the name of a
 copy; 14 fewer than two free blocks; 15 no memory; 17 no file has that id; 18 a
 chip of the source failed; 21 a page does not read as it was written; 22 the
-chips make no row, or a copy's volumes share one; 23 `run`, `check`, `scrub` or
-`map`: ids are damaged and another META reads more whole files, nothing was
-written. Standard error tells more of statuses 1, 3, 4, 7, 8, 9, 13, 18 and 23,
+chips make no row, or a copy's volumes share one; 23 `run`, `check`, `scrub`,
+`map` or `copy`: ids are damaged on the volume that is written, and another META
+reads more whole files, nothing was written. Standard error tells more of statuses 1, 3, 4, 7, 8, 9, 13, 18 and 23,
 what `make` passed over, and how many damaged files were removed.
 ";

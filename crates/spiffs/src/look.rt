@@ -127,6 +127,16 @@ pub fn look_before<N: Nor>(
     if !repairs(words) || !is_accepted(words, nor.unit(), nor.size(), bufs) {
         return Ok(None);
     }
+    look_on(words, is_forced, nor, bufs)
+}
+
+/// Looks at the volume of the numbers that stand behind the first word, where it mounts. Nothing is written.
+pub fn look_on<N: Nor>(
+    words: &[String],
+    is_forced: bool,
+    nor: &mut N,
+    bufs: &mut Buffers<'_>,
+) -> Result<Option<Seen>, Failed> {
     let Some(g) = geometry_of(words) else {
         return Ok(None);
     };

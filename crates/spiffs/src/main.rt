@@ -249,9 +249,9 @@ fn explain_board<W: Write + Drop>(
     explain_chip(rt, chip_word(words), board.failed_chip(), board.trouble());
 }
 
-// Whether a command that ended so has brought the volume into order: then its damaged files are gone.
+// Whether a command that ended so has brought the volume that it writes into order: then its damaged files are gone.
 fn has_repaired(status: u8) -> bool {
-    matches!(status, 0 | 5 | 8 | 11 | 12 | 14 | 17)
+    matches!(status, 0 | 5 | 6 | 8 | 11 | 12 | 13 | 14 | 17)
 }
 
 // Says on standard error how many damaged files a check removed.
@@ -408,7 +408,7 @@ fn take_memory(rt: &HostRuntime, words: &[String]) -> Result<Memory, AllocError>
 // Takes the memory, and runs the command.
 fn begin(rt: &HostRuntime, words: &[String], is_forced: bool) -> Result<u8, Refusal> {
     if word(words, 0) == "copy" {
-        return begin_copy(rt, words);
+        return begin_copy(rt, words, is_forced);
     }
     if detects(words) {
         return find_volumes(rt, words);

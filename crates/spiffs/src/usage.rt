@@ -8,7 +8,7 @@ use std::fmt;
 pub enum Wrong<'w> {
     /// There is no word.
     Nothing,
-    /// `--force` stands before another command than `run`, `check`, `scrub` and `map`.
+    /// `--force` stands before another command than `run`, `check`, `scrub`, `map` and `copy`.
     Force,
     /// The first word is no command.
     Verb(&'w str),
@@ -35,7 +35,7 @@ impl fmt::Display for Wrong<'_> {
     fn fmt<W: fmt::Write>(&self, f: &mut fmt::Formatter<W>) -> fmt::Result {
         match self {
             Wrong::Nothing => write!(f, "no command is given"),
-            Wrong::Force => write!(f, "--force is for run, check, scrub and map alone"),
+            Wrong::Force => write!(f, "--force is for run, check, scrub, map and copy alone"),
             Wrong::Verb(verb) => write!(f, "there is no command {verb}"),
             Wrong::Count { verb, form, given } => {
                 write!(f, "{verb} takes {form}, and {given} words are given")

@@ -19,7 +19,7 @@ pub fn word(words: &[String], number: usize) -> &str {
 
 /// Whether the words are a command that removes damaged files for good.
 pub fn repairs(words: &[String]) -> bool {
-    matches!(word(words, 0), "run" | "check" | "scrub" | "map")
+    matches!(word(words, 0), "run" | "check" | "scrub" | "map" | "copy")
 }
 
 /// The words from the source's chips on, in a copy: the target's stand behind these as those of any other volume.
