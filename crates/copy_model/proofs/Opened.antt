@@ -1,18 +1,18 @@
 -- The working file of a record is opened, and its bytes written, or there is no room.
-use Rattle.std.proofs.Common.{◌≡◌, ◌≢◌, ◌⊎◌, ℕ, ◌+◌, ◌-◌, ◌<◌, ◌≤◌, ◌%◌, List, [], ◌∷◌, length, take, Bool, true, false, Option, Some, None, refl, sym, ◌∙◌, ap, subst, ⊎_elim, inl, inr, arith}
-use Rattle.std.specs.Prelude.{min, replicate}
-use Rattle.std.proofs.lemmas.Bool.{cases_Bool, false≢true}
+use Rattle.std.proofs.Common.{◌≡◌, ◌⊎◌, ℕ, ◌+◌, ◌-◌, ◌<◌, ◌≤◌, ◌%◌, List, ◌∷◌, length, true, false, refl, sym, ◌∙◌, ap, subst, ⊎_elim, inl, inr, arith}
+use Rattle.std.specs.Prelude.{min}
+use Rattle.std.proofs.lemmas.Bool.{cases_Bool}
 use Rattle.std.proofs.lemmas.Option.{same_Some}
 use Rattle.geometry.specs.declared.geometry.Geometry.{Geometry}
 use Rattle.geometry.specs.Numbers.{body}
-use Rattle.table_model.specs.declared.error.FsErr.TheVariants.{NotFound, Full}
+use Rattle.table_model.specs.declared.error.FsErr.TheVariants.{Full}
 use Rattle.table_model.specs.declared.reply.Stat.{Stat}
-use Rattle.table_model.specs.Table.{File, Open, State, file_named, least_id}
-use Rattle.table_model.specs.Descriptors.{open_at, put_at}
-use Rattle.table_model.specs.Room.{has_room, index_pages, index_count, data_count}
+use Rattle.table_model.specs.Table.{File, Open, State, least_id}
+use Rattle.table_model.specs.Descriptors.{open_at}
+use Rattle.table_model.specs.Room.{has_room, index_pages}
 use Rattle.table_model.specs.Outcome.{Outcome, refused, gives}
-use Rattle.table_model.specs.Ask.{Opens, Writes, Closes, Removes}
-use Rattle.table_model.specs.Reply.{Answer, Fine, Tells, Refuses}
+use Rattle.table_model.specs.Ask.{Opens, Writes, Closes}
+use Rattle.table_model.specs.Reply.{Fine, Tells, Refuses}
 use Rattle.table_model.specs.Flat.{answer}
 use Rattle.table_model.specs.Steps.{steps}
 use Rattle.table_model.specs.Window.{IsAmong}
@@ -22,12 +22,12 @@ use Rattle.copy_model.specs.Copying.{working, begun}
 use Rattle.copy_model.specs.Filling.{with_first, filler, filling}
 use Rattle.copy_model.specs.Answers.{or_full, IsPiece}
 use Rattle.copy_model.specs.Under.{IsTable, IsUnder}
-use Rattle.copy_model.specs.Tasks.{Task, stops_at}
-use Rattle.copy_model.specs.Parts.{IsMissing, IsFilling, IsWhole, IsLacking}
+use Rattle.copy_model.specs.Tasks.{Task}
+use Rattle.copy_model.specs.Parts.{IsMissing, IsFilling, IsLacking}
 use Rattle.copy_model.proofs.Answering.{opens-working, puts-piece, closes-first, gives-up, removes-none, fine_working}
 use Rattle.copy_model.proofs.Stepping.{one-page}
 use Rattle.copy_model.proofs.Counting.{first-counts, next-counts}
-use Rattle.copy_model.proofs.Passing.{next_under, next_fit, begun_under, filling_begins, begins_full, filling_goes, filling_full_at, filling_done}
+use Rattle.copy_model.proofs.Passing.{next_under, next_part, begun_under, filling_begins, begins_full, filling_goes, filling_full_at}
 
 -- two states with the first descriptor open
 pub same_first : (slots : ℕ) (d e : Open) (files more : List File) → 0 < slots → with_first slots d files ≡ with_first slots e more → (d ≡ e) × (files ≡ more)

@@ -1,15 +1,15 @@
 -- What the calls of a copy leave of the descriptors, whatever the files are.
-use Rattle.std.proofs.Common.{◌≡◌, ℕ, ◌+◌, ◌<◌, List, length, Bool, true, false, Option, Some, None, refl, sym, ◌∙◌, ap, arith, ⊎_elim}
+use Rattle.std.proofs.Common.{◌≡◌, ℕ, ◌+◌, ◌<◌, List, length, true, false, Option, Some, None, refl, arith, ⊎_elim}
 use Rattle.std.specs.Prelude.{min, replicate, ◌==◌}
 use Rattle.std.proofs.lemmas.Bool.{cases_Bool}
 use Rattle.geometry.specs.declared.geometry.Geometry.{Geometry}
 use Rattle.table_model.specs.declared.error.FsErr.{FsErr}
-use Rattle.table_model.specs.Table.{File, Open, State, file_named, file_of, has_name, least_id, put_file}
+use Rattle.table_model.specs.Table.{File, file_named, file_of, has_name, least_id, put_file}
 use Rattle.table_model.specs.Descriptors.{open_at, put_at, lowest_closed}
 use Rattle.table_model.specs.Room.{has_room}
 use Rattle.table_model.specs.Names.{name_refusal, names_refusal}
 use Rattle.table_model.specs.Files.{created, written}
-use Rattle.table_model.specs.Calls.{answer_remove, answer_rename, answer_meta, answer_stat, answer_write}
+use Rattle.table_model.specs.Calls.{answer_remove, answer_rename, answer_meta, answer_write}
 use Rattle.table_model.specs.Opening.{answer_open}
 use Rattle.table_model.specs.Outcome.{Outcome, page_refusal}
 use Rattle.table_model.specs.Ask.{Opens, Writes, Removes, Renames, SetsMeta}

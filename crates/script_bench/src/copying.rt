@@ -194,18 +194,22 @@ impl<'i> Copying<'i> {
     // status of an uncut one, and one more changes nothing.
     fn recovers(&self, status: u8, cut: &Told) -> Result<bool, Trouble> {
         let checked = self.target.check(&cut.image, Fault::Nothing)?;
-        let again = self.onto(&checked.image).copy(CopyFault::Target(Fault::Nothing))?;
+        let again = self
+            .onto(&checked.image)
+            .copy(CopyFault::Target(Fault::Nothing))?;
         let source = listed(&self.source, self.source_image)?;
         let first = listed(&self.target, self.target_image)?;
         let files = listed(&self.target, &checked.image)?;
         let last = listed(&self.target, &again.image)?;
         let is_full = status == FULL;
-        Ok((checked.status == 0 || checked.status == DAMAGED)
-            && again.status == status
-            && are_same(&listed(&self.target, &cut.image)?, &files)
-            && self.names(&source, &first, &files).are_kept(false)
-            && self.names(&source, &first, &last).are_copied(is_full)
-            && (is_full || self.changes_nothing(&again.image)?))
+        Ok(
+            (checked.status == 0 || checked.status == DAMAGED)
+                && again.status == status
+                && are_same(&listed(&self.target, &cut.image)?, &files)
+                && self.names(&source, &first, &files).are_kept(false)
+                && self.names(&source, &first, &last).are_copied(is_full)
+                && (is_full || self.changes_nothing(&again.image)?),
+        )
     }
 
     // Whether the copy changes nothing that the target has.
@@ -234,11 +238,7 @@ pub fn cut_copies(copying: &Copying<'_>) -> Result<Swept, Trouble> {
 }
 
 // Lets a call fail in turn, from the first on, by which the copy is to end with that status.
-fn fail_each(
-    copying: &Copying<'_>,
-    status: u8,
-    kind: Option<CallKind>,
-) -> Result<Swept, Trouble> {
+fn fail_each(copying: &Copying<'_>, status: u8, kind: Option<CallKind>) -> Result<Swept, Trouble> {
     let whole = copying.copy(CopyFault::Target(Fault::Nothing))?;
     for passed in 0..MOST {
         let nth = passed.saturating_add(1);

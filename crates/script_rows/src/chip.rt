@@ -3,8 +3,8 @@ use crate::words::{byte_of, number, word};
 use folder_core::{Folder, MemFolder};
 use geometry::{Geometry, MagicKind};
 use script_bench::{
-    Bench, Copying, Ends, Maker, Place, RowFile, Trouble, clear_counts, letters, put, put_header, put_page,
-    put_row, put_whole,
+    Bench, Copying, Ends, Maker, Place, RowFile, Trouble, clear_counts, letters, put, put_header,
+    put_page, put_row, put_whole,
 };
 use std::alloc::Global;
 

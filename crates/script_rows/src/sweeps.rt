@@ -149,7 +149,12 @@ pub fn numbered(
 pub fn copies(chip: &Chip, out: &mut String) -> Result<(), Trouble> {
     let copying = chip.copying()?;
     let good = "each name has what it may have, and the copy is done when it is given again";
-    tell_swept(cut_copies(&copying)?, "programs, erases and replies", good, out)?;
+    tell_swept(
+        cut_copies(&copying)?,
+        "programs, erases and replies",
+        good,
+        out,
+    )?;
     for kind in ["read", "program", "erase", "reply"] {
         let kind = kind_of(kind)?;
         let found = fail_copies(&copying, kind)?;

@@ -112,11 +112,7 @@ fn copy(
 }
 
 /// Takes the memory, and gives the copy; where it is forced, no other META of the target is tried.
-pub fn begin_copy(
-    rt: &HostRuntime,
-    words: &[String],
-    is_forced: bool,
-) -> Result<u8, Refusal> {
+pub fn begin_copy(rt: &HostRuntime, words: &[String], is_forced: bool) -> Result<u8, Refusal> {
     let mut memory = take_both(rt, words)?;
     copy(rt, words, is_forced, &mut memory)
 }

@@ -223,12 +223,7 @@ fn explain(rt: &impl Eprint, trouble: Option<&Trouble>) {
 }
 
 // Says on standard error which chip file failed and why, by its number among the names, or why nothing more could be said.
-fn explain_chip(
-    rt: &HostRuntime,
-    names: &str,
-    chip: Option<usize>,
-    trouble: Option<&Trouble>,
-) {
+fn explain_chip(rt: &HostRuntime, names: &str, chip: Option<usize>, trouble: Option<&Trouble>) {
     let mut paths = names.split(',');
     let path = chip.and_then(|i| paths.nth(i));
     match (path, trouble) {
