@@ -64,17 +64,30 @@ fn is_copy(is_alike: bool, record: &Record, file: &Record) -> bool {
         && (!is_alike || file.meta.as_slice() == record.meta.as_slice())
 }
 
-// Whether a name has what it may have while a copy is under way.
+// Whether a name has a copy of its record.
+fn has_copy(is_alike: bool, record: &Record, now: Option<&Record>) -> bool {
+    match now {
+        Some(file) => is_copy(is_alike, record, file),
+        None => false,
+    }
+}
+
+// Whether a name has what it may have while a copy is under way, where the working name has the file `under`: without a record what it had at first;
+// with one that, or a copy; or nothing, if the working name has the copy.
 fn may_have(
     is_alike: bool,
     record: Option<&Record>,
     first: Option<&Record>,
     now: Option<&Record>,
+    under: Option<&Record>,
 ) -> bool {
+    if has_first(first, now) {
+        return true;
+    }
     match (record, now) {
-        (Some(_), None) => true,
-        (Some(record), Some(file)) if is_copy(is_alike, record, file) => true,
-        _ => has_first(first, now),
+        (Some(record), Some(file)) => is_copy(is_alike, record, file),
+        (Some(record), None) => has_copy(is_alike, record, under),
+        (None, _) => false,
     }
 }
 
@@ -85,10 +98,9 @@ fn has_now(
     first: Option<&Record>,
     now: Option<&Record>,
 ) -> bool {
-    match (record, now) {
-        (Some(_), None) => false,
-        (Some(record), Some(file)) => is_copy(is_alike, record, file),
-        (None, _) => has_first(first, now),
+    match record {
+        Some(record) => has_copy(is_alike, record, now),
+        None => has_first(first, now),
     }
 }
 
@@ -101,20 +113,26 @@ struct Names<'n> {
 }
 
 impl Names<'_> {
-    // Whether each name has what it may have while a copy is under way, or, where it is done, what it has then; but for the working name.
-    fn are_kept(&self, is_done: bool) -> bool {
+    // Whether a name has what it may have while a copy is under way, or, where the records `done` are copied, what it has then.
+    fn is_kept(&self, done: Option<&[Record]>, name: &[u8]) -> bool {
+        let was = file_named(self.first, name);
+        let now = file_named(self.now, name);
+        match done {
+            Some(done) => has_now(self.is_alike, file_named(done, name), was, now),
+            None => {
+                let record = file_named(self.source, name);
+                let under = file_named(self.now, WORKING.as_slice());
+                may_have(self.is_alike, record, was, now, under)
+            }
+        }
+    }
+
+    // The same of each name but the working name.
+    fn are_kept(&self, done: Option<&[Record]>) -> bool {
         for files in [self.source, self.first, self.now] {
             for file in files {
                 let name = file.name.as_slice();
-                let record = file_named(self.source, name);
-                let was = file_named(self.first, name);
-                let now = file_named(self.now, name);
-                let is_so = if is_done {
-                    has_now(self.is_alike, record, was, now)
-                } else {
-                    may_have(self.is_alike, record, was, now)
-                };
-                if name != WORKING.as_slice() && !is_so {
+                if name != WORKING.as_slice() && !self.is_kept(done, name) {
                     return false;
                 }
             }
@@ -122,9 +140,27 @@ impl Names<'_> {
         true
     }
 
-    // Whether a copy came to its end: it had no room for all, or it is done, and no file has the working name.
-    fn are_copied(&self, is_full: bool) -> bool {
-        self.are_kept(!is_full) && file_named(self.now, WORKING.as_slice()).is_none()
+    // Whether these records have their copies, all other names have what they had, and no file has the working name.
+    fn are_copied(&self, done: &[Record]) -> bool {
+        self.are_kept(Some(done)) && file_named(self.now, WORKING.as_slice()).is_none()
+    }
+
+    // How many records from the first on have their copies.
+    fn front(&self) -> usize {
+        let mut count = 0usize;
+        for record in self.source {
+            let now = file_named(self.now, record.name.as_slice());
+            if !has_copy(self.is_alike, record, now) {
+                return count;
+            }
+            count = count.saturating_add(1);
+        }
+        count
+    }
+
+    // Whether a copy stopped at some record: those before it have their copies, and all others what they had.
+    fn are_part(&self) -> bool {
+        self.are_copied(self.source.get(..self.front()).unwrap_or(&[]))
     }
 }
 
@@ -190,46 +226,118 @@ impl<'i> Copying<'i> {
         }
     }
 
-    // Whether a check leaves the files of what a copy left that was cut or failed, each name has what it may have, the copy then ends with the
-    // status of an uncut one, and one more changes nothing.
-    fn recovers(&self, status: u8, cut: &Told) -> Result<bool, Trouble> {
-        let checked = self.target.check(&cut.image, Fault::Nothing)?;
-        let again = self
-            .onto(&checked.image)
-            .copy(CopyFault::Target(Fault::Nothing))?;
+    // Whether the target has room for its own files: a copy of no files onto it is done.
+    fn has_room(&self) -> Result<bool, Trouble> {
+        let empty = self.source.formatted()?;
+        let none = Copying {
+            source_image: &empty,
+            ..*self
+        };
+        Ok(none.copy(CopyFault::Target(Fault::Nothing))?.status != FULL)
+    }
+
+    // What a check makes of an image that a copy left which was cut or failed, if the files stay, and each name has what it may have.
+    fn mended(&self, image: &[u8]) -> Result<Option<Vec<u8>>, Trouble> {
+        let checked = self.target.check(image, Fault::Nothing)?;
         let source = listed(&self.source, self.source_image)?;
         let first = listed(&self.target, self.target_image)?;
         let files = listed(&self.target, &checked.image)?;
-        let last = listed(&self.target, &again.image)?;
-        let is_full = status == FULL;
-        Ok(
-            (checked.status == 0 || checked.status == DAMAGED)
-                && again.status == status
-                && are_same(&listed(&self.target, &cut.image)?, &files)
-                && self.names(&source, &first, &files).are_kept(false)
-                && self.names(&source, &first, &last).are_copied(is_full)
-                && (is_full || self.changes_nothing(&again.image)?),
-        )
+        let is_so = (checked.status == 0 || checked.status == DAMAGED)
+            && are_same(&listed(&self.target, image)?, &files)
+            && self.names(&source, &first, &files).are_kept(None);
+        Ok(if is_so { Some(checked.image) } else { None })
     }
 
-    // Whether the copy changes nothing that the target has.
-    fn changes_nothing(&self, image: &[u8]) -> Result<bool, Trouble> {
-        let ran = self.onto(image).copy(CopyFault::Target(Fault::Nothing))?;
-        Ok(ran.image.as_slice() == image)
+    // Whether the copy onto an image ends with that status, and with the files of an uncut one; a copy that is done then changes nothing.
+    fn ends(&self, status: u8, image: &[u8]) -> Result<bool, Trouble> {
+        let again = self.onto(image).copy(CopyFault::Target(Fault::Nothing))?;
+        let source = listed(&self.source, self.source_image)?;
+        let first = listed(&self.target, self.target_image)?;
+        let last = listed(&self.target, &again.image)?;
+        let names = self.names(&source, &first, &last);
+        if again.status != status {
+            return Ok(false);
+        }
+        if status != FULL {
+            return Ok(
+                names.are_copied(&source)
+                    && self
+                        .onto(&again.image)
+                        .changes_nothing(status, source.len())?,
+            );
+        }
+        if self.has_room()? {
+            return Ok(names.are_part());
+        }
+        Ok(are_same(&first, &last))
+    }
+
+    // Whether the copy onto a target with so many copies asks for no program and no erase: the first one would fail.
+    fn changes_nothing(&self, status: u8, count: usize) -> Result<bool, Trouble> {
+        let line = format!(in self.target.alloc; "copied 0 kept {count}\n")?;
+        for kind in [CallKind::Program, CallKind::Erase] {
+            let ran = self.copy(CopyFault::Target(Fault::Call { kind, nth: 1 }))?;
+            let is_said = ran.said.as_slice().starts_with(line.as_bytes());
+            if ran.status != status || !is_said || ran.image.as_slice() != self.target_image {
+                return Ok(false);
+            }
+        }
+        Ok(true)
+    }
+
+    // Whether each name has what it may have of a copy that was cut or failed, and then of one that is cut there, each behind a check; and the copy
+    // then ends as an uncut one.
+    fn recovers(&self, whole: &Told, ran: &Told, there: Fault) -> Result<bool, Trouble> {
+        let Some(once) = self.mended(&ran.image)? else {
+            return Ok(false);
+        };
+        let second = self.onto(&once);
+        let cut = second.copy(CopyFault::Target(there))?;
+        if cut.status != DEVICE_FAULT && cut.status != whole.status {
+            return Ok(false);
+        }
+        match second.mended(&cut.image)? {
+            Some(twice) => self.ends(whole.status, &twice),
+            None => Ok(false),
+        }
     }
 }
 
-/// Cuts a copy inside each program, erase and reply of the target, done in five ways. Each name is to have what it may have, and the copy,
-/// given again, to come to the end of an uncut one.
+// Whether a copy did all that another one did.
+fn did_all(whole: &Told, ran: &Told) -> bool {
+    ran.status == whole.status
+        && ran.said.as_slice() == whole.said.as_slice()
+        && ran.image.as_slice() == whole.image.as_slice()
+}
+
+// Where the second copy is cut, after a first one that was cut or failed behind so many calls: there, sooner, and soon after its begin.
+fn cut_again(passed: u64, pick: u64) -> Fault {
+    let there = match pick {
+        0 => passed,
+        1 => passed / 2,
+        2 => passed / 3,
+        3 => passed % 7,
+        _ => passed % 29,
+    };
+    Fault::Power {
+        passed: there,
+        pick,
+    }
+}
+
+/// Cuts a copy inside each program, erase and reply of the target, done in five ways, and the next one once too. Each name is to have what it may
+/// have, and the copy, given again, to come to the end of an uncut one.
 pub fn cut_copies(copying: &Copying<'_>) -> Result<Swept, Trouble> {
     let whole = copying.copy(CopyFault::Target(Fault::Nothing))?;
     for passed in 0..MOST {
         for pick in 0..5 {
             let ran = copying.copy(CopyFault::Target(Fault::Power { passed, pick }))?;
-            if ran.status != DEVICE_FAULT {
+            if did_all(&whole, &ran) {
                 return Ok(Swept::Whole(passed));
             }
-            if !copying.recovers(whole.status, &ran)? {
+            if ran.status != DEVICE_FAULT
+                || !copying.recovers(&whole, &ran, cut_again(passed, pick))?
+            {
                 return Ok(Swept::Cut { passed, pick });
             }
         }
@@ -246,10 +354,10 @@ fn fail_each(copying: &Copying<'_>, status: u8, kind: Option<CallKind>) -> Resul
             Some(kind) => CopyFault::Target(Fault::Call { kind, nth }),
             None => CopyFault::Source { nth },
         })?;
-        if ran.status == whole.status {
+        if did_all(&whole, &ran) {
             return Ok(Swept::Whole(passed));
         }
-        if ran.status != status || !copying.recovers(whole.status, &ran)? {
+        if ran.status != status || !copying.recovers(&whole, &ran, cut_again(passed, passed % 5))? {
             return Ok(Swept::Failed { nth });
         }
     }
