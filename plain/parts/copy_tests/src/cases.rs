@@ -1,6 +1,6 @@
 //! The cases.
 
-use crate::plain::{Plain, Wanted, copied, is_done, is_under, WORKING};
+use crate::plain::{Plain, WORKING, Wanted, copied, has_room_for, is_done, is_part, is_under};
 use crate::runs::{Fault, copy, files_of, image_of, wanted};
 use liverymenhir::geometry::{Geometry, MagicKind};
 use spiffs::vol_copy::CopyErr;
@@ -12,6 +12,7 @@ fn geometry(page: u32, block: u32, blocks: u32, meta: u32) -> Geometry {
 
 fn file(name: &str, size: usize, seed: usize, meta: &[u8]) -> Plain {
     Plain {
+        id: 0,
         name: name.as_bytes().to_vec(),
         kind: 1,
         meta: meta.to_vec(),
@@ -45,6 +46,10 @@ fn check_pair(label: &str, gf: &Geometry, source: &[Plain], g: &Geometry, first:
         let again = copy(gf, &source_image, g, &run.image, slots, Fault::None);
         assert_eq!(wanted(&again.result), Some(Wanted::Done(0, copies + kept)), "{label}: again");
         assert_eq!(again.image, run.image, "{label}: again, no byte changes");
+        for kind in [CallKind::Program, CallKind::Erase] {
+            let again = copy(gf, &source_image, g, &run.image, slots, Fault::Target(kind, 1));
+            assert_eq!(wanted(&again.result), Some(Wanted::Done(0, copies + kept)), "{label}: again, no {kind:?}");
+        }
         let mut nth = 1;
         loop {
             let again = copy(gf, &source_image, g, &run.image, slots, Fault::Target(CallKind::Read, nth));
@@ -56,18 +61,26 @@ fn check_pair(label: &str, gf: &Geometry, source: &[Plain], g: &Geometry, first:
             nth += 7;
         }
     }
-    let after = |label: &str, image: &[u8]| {
+    // what one copy leaves that is cut or fails, a next one that is cut, and a last one
+    let after = |label: &str, image: &[u8], there: Fault| {
         let (left, checked) = files_of(g, image);
         assert!(is_under(alike, source, &first_files, &left), "{label}: under");
-        let (want_then, _) = copied(g, alike, source, &left);
-        let then = copy(gf, &source_image, g, &checked, slots, Fault::None);
-        assert_eq!(wanted(&then.result), Some(want_then), "{label}: given again");
-        let (files, _) = files_of(g, &then.image);
-        if let Wanted::Done(_, _) = want_then {
-            assert!(is_done(alike, source, &without_working(&first_files), &files), "{label}: done then");
-        } else {
-            assert!(is_under(alike, source, &first_files, &files), "{label}: under then");
+        let next = copy(gf, &source_image, g, &checked, slots, there);
+        if next.result != Err(CopyErr::ToFault) {
+            assert_eq!(wanted(&next.result), Some(copied(g, alike, source, &left).0), "{label}: the next one");
         }
+        let (left_then, checked) = files_of(g, &next.image);
+        assert!(is_under(alike, source, &left, &left_then), "{label}: under then");
+        let (want_last, _) = copied(g, alike, source, &left_then);
+        let last = copy(gf, &source_image, g, &checked, slots, Fault::None);
+        assert_eq!(wanted(&last.result), Some(want_last), "{label}: the last one");
+        let (files, _) = files_of(g, &last.image);
+        let is_so = match want_last {
+            Wanted::Done(_, _) => is_done(alike, source, &without_working(&first_files), &files),
+            Wanted::Full(_, _) if has_room_for(g, &first_files) => is_part(alike, source, &first_files, &files),
+            _ => files == first_files,
+        };
+        assert!(is_so, "{label}: at last");
     };
     for pick in 0..3 {
         let mut passed = 0;
@@ -78,7 +91,8 @@ fn check_pair(label: &str, gf: &Geometry, source: &[Plain], g: &Geometry, first:
                 break;
             }
             assert_eq!(run.result, Err(CopyErr::ToFault), "{label}: cut after {passed}");
-            after(&format!("{label}: cut after {passed}, pick {pick}"), &run.image);
+            let there = [passed, passed / 2, passed % 7][pick as usize];
+            after(&format!("{label}: cut after {passed}, pick {pick}"), &run.image, Fault::Cut(there, pick));
             passed += 1;
         }
     }
@@ -92,7 +106,7 @@ fn check_pair(label: &str, gf: &Geometry, source: &[Plain], g: &Geometry, first:
                 break;
             }
             assert_eq!(run.result, Err(CopyErr::ToFault), "{label}: {kind:?} {nth}");
-            after(&format!("{label}: {kind:?} {nth} fails"), &run.image);
+            after(&format!("{label}: {kind:?} {nth} fails"), &run.image, Fault::Cut(nth % 11, nth % 3));
             nth += step;
         }
     }
@@ -104,7 +118,7 @@ fn check_pair(label: &str, gf: &Geometry, source: &[Plain], g: &Geometry, first:
             break;
         }
         assert_eq!(run.result, Err(CopyErr::FromFault), "{label}: source read {nth}");
-        after(&format!("{label}: source read {nth} fails"), &run.image);
+        after(&format!("{label}: source read {nth} fails"), &run.image, Fault::Cut(nth % 13, nth % 3));
         nth += 5;
     }
 }
@@ -138,7 +152,8 @@ fn types_and_meta_bytes_are_compared() {
     check_pair("meta to none", &with, &source, &bare, &[], 1);
     let plain = [file("a", 5, 1, b""), file("b", 300, 2, b"")];
     check_pair("none to meta", &bare, &plain, &with, &[file("a", 5, 1, b"meta")], 1);
-    check_pair("other meta", &with, &source, &geometry(128, 1024, 24, 4), &[file("a", 5, 1, b"mete"), file("b", 300, 2, &[0xFF; 4]), file("c", 20, 3, b"abcd")], 1);
+    let there = [file("a", 5, 1, b"mete"), file("b", 300, 2, &[0xFF; 4]), file("c", 20, 3, b"abcd")];
+    check_pair("other meta", &with, &source, &geometry(128, 1024, 24, 4), &there, 1);
     let mut typed = file("b", 300, 2, b"");
     typed.kind = 2;
     check_pair("another type", &bare, &plain, &small(), &[typed], 1);

@@ -2,9 +2,10 @@
 
 use liverymenhir::geometry::Geometry;
 
-/// A file.
+/// A file. (The id of one that is still to be made counts for nothing.)
 #[derive(Clone, Debug, PartialEq, Eq)]
 pub(crate) struct Plain {
+    pub(crate) id: u16,
     pub(crate) name: Vec<u8>,
     pub(crate) kind: u8,
     pub(crate) meta: Vec<u8>,
@@ -35,9 +36,15 @@ pub(crate) fn is_copy(alike: bool, record: &Plain, file: &Plain) -> bool {
     file.kind == 1 && file.bytes == record.bytes && (!alike || file.meta == record.meta)
 }
 
-// The copy of a record on a volume.
-fn copy_of(alike: bool, record: &Plain, meta: usize) -> Plain {
+// The least id that no file has.
+fn least_id(files: &[Plain]) -> u16 {
+    (1..).find(|id| files.iter().all(|f| f.id != *id)).expect("an id")
+}
+
+// The copy of a record on a volume, under an id.
+fn copy_of(alike: bool, record: &Plain, meta: usize, id: u16) -> Plain {
     Plain {
+        id,
         name: record.name.clone(),
         kind: 1,
         meta: if alike {
@@ -49,18 +56,18 @@ fn copy_of(alike: bool, record: &Plain, meta: usize) -> Plain {
     }
 }
 
-/// Whether a name has what a copy under way may leave of it: what it had at first; where there is a record, nothing or a copy, too.
+/// Whether a name has what one copy under way may leave of it: what it had at first; where there is a record, a copy too, or nothing while the
+/// working name has the copy.
 pub(crate) fn is_under(alike: bool, source: &[Plain], first: &[Plain], now: &[Plain]) -> bool {
+    let is_copied = |record: &Plain, file: Option<&Plain>| file.is_some_and(|file| is_copy(alike, record, file));
     let names = source.iter().chain(first).chain(now).map(|f| &f.name);
     names.filter(|name| *name != WORKING).all(|name| {
         let here = named(now, name);
-        match named(source, name) {
-            None => here == named(first, name),
-            Some(record) => match here {
-                None => true,
-                Some(file) => here == named(first, name) || is_copy(alike, record, file),
-            },
-        }
+        here == named(first, name)
+            || named(source, name).is_some_and(|record| match here {
+                None => is_copied(record, named(now, WORKING)),
+                Some(_) => is_copied(record, here),
+            })
     })
 }
 
@@ -75,6 +82,11 @@ pub(crate) fn is_done(alike: bool, source: &[Plain], first: &[Plain], now: &[Pla
                 Some(record) => here.is_some_and(|file| is_copy(alike, record, file)),
             }
         })
+}
+
+/// Whether a copy stopped at some record: those before it have their copies, no file has the working name, and all others have what they had.
+pub(crate) fn is_part(alike: bool, source: &[Plain], first: &[Plain], now: &[Plain]) -> bool {
+    (0..=source.len()).any(|count| is_done(alike, &source[..count], first, now))
 }
 
 fn up(a: u128, b: u128) -> u128 {
@@ -105,6 +117,11 @@ fn has_room(g: &Geometry, sizes: &[usize]) -> Result<(), Wanted> {
     Err(Wanted::Full(index, data))
 }
 
+/// Whether a volume has room for its files.
+pub(crate) fn has_room_for(g: &Geometry, files: &[Plain]) -> bool {
+    has_room(g, &sizes_of(files, None)).is_ok()
+}
+
 fn sizes_of(files: &[Plain], more: Option<usize>) -> Vec<usize> {
     files.iter().map(|f| f.bytes.len()).chain(more).collect()
 }
@@ -117,8 +134,9 @@ fn copy_record(g: &Geometry, alike: bool, record: &Plain, now: &mut Vec<Plain>) 
             has_room(g, &sizes_of(now, Some(end)))?;
         }
     }
+    let id = least_id(now);
     now.retain(|f| f.name != record.name);
-    now.push(copy_of(alike, record, g.meta as usize));
+    now.push(copy_of(alike, record, g.meta as usize, id));
     has_room(g, &sizes_of(now, None))
 }
 

@@ -1,7 +1,7 @@
-//! A copy onto a row of two chips, of which one fails.
+//! Copies onto a row of two chips, of which one fails.
 
-use crate::plain::Plain;
-use crate::runs::{Memory, board_of, files_of, formatted, image_of};
+use crate::plain::{Plain, copied, is_under};
+use crate::runs::{Memory, board_of, files_on, formatted, image_of, wanted};
 use liverymenhir::geometry::{Geometry, MagicKind};
 use liverymenhir::vol_mount::Reader;
 use liverymenhir::volume::Volume;
@@ -11,13 +11,11 @@ use script_rows::nor_memory::{CallKind, MemChip};
 use spiffs::chip_row::ChipRow;
 use spiffs::vol_copy::{Copied, CopyErr, copy_all};
 
-const CHIP: usize = 3072;
-
 // A row of two chips that hold an image, of which one fails at a call of a kind.
-fn row_of(image: &[u8], fails: Option<(usize, CallKind, u64)>) -> ChipRow<MemChip> {
+fn row_of(g: &Geometry, image: &[u8], fails: Option<(usize, CallKind, u64)>) -> ChipRow<MemChip> {
     let mut chips = Vec::new(Global);
-    for (i, part) in image.chunks(CHIP).enumerate() {
-        let mut chip = MemChip::new(Global, part.to_vec_by(Global).expect("memory"), 1024).expect("a chip");
+    for (i, part) in image.chunks(image.len() / 2).enumerate() {
+        let mut chip = MemChip::new(Global, part.to_vec_by(Global).expect("memory"), g.phys()).expect("a chip");
         if let Some((number, kind, nth)) = fails {
             if number == i {
                 chip.fail_nth(kind, nth);
@@ -25,54 +23,94 @@ fn row_of(image: &[u8], fails: Option<(usize, CallKind, u64)>) -> ChipRow<MemChi
         }
         chips.push(chip).expect("memory");
     }
-    ChipRow::new(chips, CHIP as u32, 1024).expect("a row")
+    ChipRow::new(chips, image.len() as u32 / 2, g.phys()).expect("a row")
 }
 
-// Copies an image onto a row that holds another one: how it ended, and what the row holds.
-fn copy(gf: &Geometry, source: &[u8], g: &Geometry, row: &mut ChipRow<MemChip>) -> (Result<Copied, CopyErr>, std::vec::Vec<u8>) {
+// Copies an image onto a row, which is mounted and checked.
+fn copy(gf: &Geometry, source: &[u8], g: &Geometry, row: &mut ChipRow<MemChip>) -> Result<Copied, CopyErr> {
     let mut board = board_of(gf, source);
     let (mut from_memory, mut memory) = (Memory::new(gf, 1), Memory::new(g, 1));
-    let result = {
-        let mut from = Reader::new(*gf, &mut board, from_memory.lend());
-        from.mount().expect("mounts");
-        let mut to = Volume::new(*g, row, memory.lend());
-        to.mount().expect("mounts");
-        to.check().expect("checked");
-        copy_all(&mut from, &mut to, &mut [0; 4096])
-    };
-    let image = row.chips().iter().flat_map(|chip| chip.image().to_vec()).collect();
-    (result, image)
+    let mut from = Reader::new(*gf, &mut board, from_memory.lend());
+    from.mount().expect("mounts");
+    let mut to = Volume::new(*g, row, memory.lend());
+    to.mount().expect("mounts");
+    to.check().expect("checked");
+    copy_all(&mut from, &mut to, &mut [0; 4096])
 }
 
-fn names_of(files: &[Plain]) -> std::vec::Vec<(&[u8], &[u8])> {
-    files.iter().map(|file| (file.name.as_slice(), file.bytes.as_slice())).collect()
+fn by_name(mut files: std::vec::Vec<Plain>) -> std::vec::Vec<Plain> {
+    files.sort_by(|a, b| a.name.cmp(&b.name));
+    files
+}
+
+// Lets each program and each erase of either chip fail in turn, in a copy onto a row that holds an image, and gives the copy again on the same
+// row. How many failed of the first chip's programs and erases, and of the second one's.
+fn fail_each(gf: &Geometry, source: &[Plain], g: &Geometry, target: &[u8]) -> [[u64; 2]; 2] {
+    let source_image = image_of(gf, source);
+    let first = files_on(g, &mut row_of(g, target, None));
+    let mut failed = [[0; 2]; 2];
+    for number in 0..2 {
+        for (i, kind) in [CallKind::Program, CallKind::Erase].into_iter().enumerate() {
+            for nth in 1.. {
+                let label = format!("chip {number}, {kind:?} {nth}");
+                let mut row = row_of(g, target, Some((number, kind, nth)));
+                let result = copy(gf, &source_image, g, &mut row);
+                if result.is_ok() {
+                    break;
+                }
+                assert_eq!(result, Err(CopyErr::ToFault), "{label}");
+                assert_eq!(row.fuse_chip(), Some(number), "{label}");
+                failed[number][i] = nth;
+                let left = files_on(g, &mut row);
+                assert!(is_under(true, source, &first, &left), "{label}: under");
+                let (want, files) = copied(g, true, source, &left);
+                let again = copy(gf, &source_image, g, &mut row);
+                assert_eq!(wanted(&again), Some(want), "{label}: again");
+                assert_eq!(by_name(files_on(g, &mut row)), by_name(files), "{label}: files");
+            }
+        }
+    }
+    failed
+}
+
+fn file(name: &str, size: usize, seed: usize) -> Plain {
+    let bytes = (0..size).map(|i| (i * 5 + seed) as u8).collect();
+    Plain { id: 0, name: name.as_bytes().to_vec(), kind: 1, meta: std::vec::Vec::new(), bytes }
+}
+
+// A volume on which a file came and went, so often.
+fn worn(g: &Geometry, files: &[Plain], turns: u8) -> std::vec::Vec<u8> {
+    let mut board = board_of(g, &image_of(g, files));
+    let mut memory = Memory::new(g, 1);
+    let mut volume = Volume::new(*g, &mut board, memory.lend());
+    volume.mount().expect("mounts");
+    volume.check().expect("checked");
+    for turn in 0..turns {
+        let fd = volume.open_file(b"gone", 20).expect("opens");
+        assert_eq!(volume.write(fd, &[turn; 600]), Ok(600));
+        volume.close(fd).expect("closes");
+        volume.remove(b"gone").expect("removes");
+    }
+    volume.unmount().last.expect("written");
+    board.image().to_vec()
+}
+
+fn source_geometry() -> Geometry {
+    Geometry::new(256, 4096, 16, 4096, 0, MagicKind::Length).expect("a geometry")
 }
 
 #[test]
 fn a_copy_goes_on_where_a_chip_of_a_row_failed() {
-    let gf = Geometry::new(256, 4096, 16, 4096, 0, MagicKind::Length).expect("a geometry");
     let g = Geometry::new(128, 1024, 6, 1024, 0, MagicKind::Plain).expect("a geometry");
-    let file = Plain { name: b"a".to_vec(), kind: 1, meta: std::vec::Vec::new(), bytes: b"hello".to_vec() };
-    let source = image_of(&gf, &[file]);
-    let empty = formatted(&g);
-    let wanted: &[(&[u8], &[u8])] = &[(b"a", b"hello")];
-    let mut failed = 0;
-    for number in 0..2 {
-        for kind in [CallKind::Program, CallKind::Erase] {
-            for nth in 1..1000 {
-                let (result, left) = copy(&gf, &source, &g, &mut row_of(&empty, Some((number, kind, nth))));
-                if result.is_ok() {
-                    break;
-                }
-                assert_eq!(result, Err(CopyErr::ToFault), "chip {number}, {kind:?} {nth}");
-                failed += 1;
-                let (files, checked) = files_of(&g, &left);
-                assert!(files.iter().all(|file| file.name != b"a" || file.bytes == b"hello"));
-                let (again, image) = copy(&gf, &source, &g, &mut row_of(&checked, None));
-                assert!(again.is_ok());
-                assert_eq!(names_of(&files_of(&g, &image).0), wanted);
-            }
-        }
-    }
-    assert!(failed > 5);
+    let failed = fail_each(&source_geometry(), &[file("a", 5, 1)], &g, &formatted(&g));
+    assert!(failed[0][0] > 5, "{failed:?}");
+}
+
+#[test]
+fn each_chip_of_a_row_fails_at_programs_and_erases() {
+    let g = Geometry::new(128, 1024, 8, 1024, 0, MagicKind::Plain).expect("a geometry");
+    let source = [file("a", 600, 1), file("b", 600, 2), file("c", 600, 3)];
+    let target = worn(&g, &[file("b", 300, 4)], 6);
+    let failed = fail_each(&source_geometry(), &source, &g, &target);
+    assert!(failed.iter().flatten().all(|count| *count > 0), "{failed:?}");
 }

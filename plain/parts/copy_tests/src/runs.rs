@@ -3,6 +3,7 @@
 use crate::plain::{Plain, Wanted};
 use liverymenhir::fd_table::FdSlot;
 use liverymenhir::geometry::Geometry;
+use liverymenhir::nor_core::Nor;
 use liverymenhir::vol_mount::{Lent, Reader, format};
 use liverymenhir::volume::Volume;
 use spiffs::vol_copy::{Copied, CopyErr, copy_all};
@@ -86,11 +87,10 @@ fn set_kind(g: &Geometry, image: &mut [u8], file: &Plain) {
     }
 }
 
-/// The files that an image has after a mount and a check, and its bytes then.
-pub(crate) fn files_of(g: &Geometry, image: &[u8]) -> (Vec<Plain>, Vec<u8>) {
-    let mut board = board_of(g, image);
+/// The files that a device has after a mount and a check.
+pub(crate) fn files_on<N: Nor>(g: &Geometry, device: &mut N) -> Vec<Plain> {
     let mut memory = Memory::new(g, 1);
-    let mut volume = Volume::new(*g, &mut board, memory.lend());
+    let mut volume = Volume::new(*g, device, memory.lend());
     volume.mount().expect("mounts");
     volume.check().expect("checked");
     let mut files = Vec::new();
@@ -101,6 +101,7 @@ pub(crate) fn files_of(g: &Geometry, image: &[u8]) -> (Vec<Plain>, Vec<u8>) {
         assert_eq!(volume.read(fd, &mut bytes), Ok(stat.size));
         volume.close(fd).expect("closes");
         files.push(Plain {
+            id: stat.id,
             name: stat.name.as_slice().to_vec(),
             kind: stat.kind,
             meta: stat.meta.as_slice().to_vec(),
@@ -109,6 +110,13 @@ pub(crate) fn files_of(g: &Geometry, image: &[u8]) -> (Vec<Plain>, Vec<u8>) {
         after = stat.id;
     }
     volume.unmount().last.expect("written");
+    files
+}
+
+/// The files that an image has after a mount and a check, and its bytes then.
+pub(crate) fn files_of(g: &Geometry, image: &[u8]) -> (Vec<Plain>, Vec<u8>) {
+    let mut board = board_of(g, image);
+    let files = files_on(g, &mut board);
     (files, board.image().to_vec())
 }
 
