@@ -10,4 +10,4 @@ mod surveying;
 mod tool;
 mod words;
 
-pub use tool::copy_tool;
+pub use tool::{copy_tool, is_accepted};

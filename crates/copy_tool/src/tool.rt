@@ -1,4 +1,4 @@
-ghost use Rattle.std.specs.Prelude.{◌≡◌, length, map, string_bytes, None};
+ghost use Rattle.std.specs.Prelude.{◌≡◌, length, map, string_bytes, is_none, None};
 ghost use Rattle.nor_core.specs.Count.{Rose};
 ghost use Rattle.nor_core.specs.Device.{OnlyReads};
 ghost use Rattle.tool_parts.specs.Endings.{RefusesIf};
@@ -20,6 +20,20 @@ fn side_of<N: Nor>(nor: &N, bufs: &Buffers<'_>) -> Side
         size: nor.size(),
         lent: measure(bufs),
     }
+}
+
+/// Whether the words spell a copy that isn't refused between these devices, with what is lent for each. A program asks this before it looks
+/// at the target.
+pub fn is_accepted<N: Nor, M: Nor>(
+    words: &[String],
+    source: &N,
+    target: &M,
+    source_bufs: &Buffers<'_>,
+    bufs: &Buffers<'_>,
+) -> bool
+    ensures { result ≡ is_none (copy_refusal_of (asked_of N.NorState M.NorState (map string_bytes words.now) source.now target.now source_bufs.now bufs.now)) }
+{
+    plan(words, &side_of(source, source_bufs), &side_of(target, bufs)).is_ok()
 }
 
 /// Copies the files of a volume onto another one, which has a device, a geometry and lent memory of its own, as the words say, and

@@ -2,10 +2,10 @@
 use crate::look::look_on;
 use crate::words::{CHIP_WORD, target_words, word};
 use crate::{
-    BOARD_FAULT, Memory, NO_VOLUME, OTHER_META, Refusal, SMALL_CACHE, cache_for, explain_chip,
-    explain_removed, explain_status, is_refused, open_row,
+    BAD_NAME, BOARD_FAULT, Memory, NO_VOLUME, OTHER_META, Refusal, SMALL_CACHE, cache_for,
+    explain_chip, explain_removed, explain_status, is_refused, open_row,
 };
-use copy_tool::copy_tool;
+use copy_tool::{copy_tool, is_accepted};
 use host_edge::{Access, StdBoard, is_one_file, row_trouble};
 use nor_core::Failed;
 use std::alloc::AllocError;
@@ -63,6 +63,13 @@ fn explain_no_volume(rt: &impl Eprint) {
     );
 }
 
+// Says on standard error which name a source must not have.
+fn explain_bad_name(rt: &impl Eprint) {
+    let _said = eprintln!(rt;
+        "spiffs: a file of the source has the name that copies have, the one byte 1: rename it first"
+    );
+}
+
 // Gives the copy that the words spell, over the chip files that they name. The source's are opened for reading alone, and none is made.
 // The target is checked, so it is looked at first as before a check.
 fn copy(
@@ -71,8 +78,8 @@ fn copy(
     is_forced: bool,
     memory: &mut Both,
 ) -> Result<u8, Refusal> {
-    let is_whole = words.len() == COPY_WORDS;
-    if is_whole && share_chips(rt, words) {
+    if words.len() == COPY_WORDS && share_chips(rt, words) {
+        let _said = eprintln!(rt; "spiffs: both volumes name one chip file");
         return Err(Refusal::Chips);
     }
     let behind = target_words(words);
@@ -81,9 +88,11 @@ fn copy(
     let mut source = open_row(rt, words, from, Access::Read)?;
     let row = open_row(rt, behind, to, Access::Write)?;
     let mut board = StdBoard::new(row, rt.stdout());
+    let mut source_bufs = memory.source.lend();
+    let mut bufs = memory.target.lend();
     let mut seen = None;
-    if is_whole {
-        seen = match look_on(behind, is_forced, &mut board, &mut memory.target.lend()) {
+    if is_accepted(words, &source, &board, &source_bufs, &bufs) {
+        seen = match look_on(behind, is_forced, &mut board, &mut bufs) {
             Ok(seen) => seen,
             Err(Failed) => {
                 explain_chip(rt, to, board.failed_chip(), board.trouble());
@@ -94,17 +103,12 @@ fn copy(
     if is_refused(rt, seen) {
         return Ok(OTHER_META);
     }
-    let status = copy_tool(
-        words,
-        &mut source,
-        &mut board,
-        &mut memory.source.lend(),
-        &mut memory.target.lend(),
-    );
+    let status = copy_tool(words, &mut source, &mut board, &mut source_bufs, &mut bufs);
     match status {
         BOARD_FAULT => explain_chip(rt, to, board.failed_chip(), board.trouble()),
         SOURCE_CHIP_FAULT => explain_chip(rt, from, source.fuse_chip(), row_trouble(&source)),
         NO_VOLUME => explain_no_volume(rt),
+        BAD_NAME => explain_bad_name(rt),
         _ => explain_status(rt, words, status),
     }
     explain_removed(rt, seen, status);

@@ -27,17 +27,17 @@ spiffs: a SPIFFS 0.3.7 flash volume in a chip file, or in several end to end
       formats the volume, and makes COUNT turns of calls that SEED picks
       spiffs soak 256 4096 16 0 len first,second 0 1000
   spiffs scrub PAGE BLOCK BLOCKS META MAGIC CHIP LIMIT
-      mounts and checks the volume, and moves the files of the least worn blocks,
-      while those are LIMIT erase counts behind each free block
+      mounts and checks the volume, and moves the files of the least worn
+      blocks, while those are LIMIT erase counts behind each free block
       spiffs scrub 256 4096 16 0 len chip 100
   spiffs map PAGE BLOCK BLOCKS META MAGIC CHIP ID
       mounts and checks the volume, collects garbage, and tells in which pages
       the data of the file with that id lies
       spiffs map 256 4096 16 0 len chip 1
   spiffs copy PAGE BLOCK BLOCKS META MAGIC CHIP PAGE BLOCK BLOCKS META MAGIC CHIP
-      copies the files of the first volume onto the second one, which is checked;
-      given again after a power cut it goes on. A chip that is not formatted is
-      made an empty volume first:
+      copies the files of the first volume onto the second one, which is
+      checked; given again after a power cut it goes on. A chip that is not
+      formatted is made an empty volume first:
       mkdir none && spiffs make 128 1024 6 0 plain new none
       spiffs copy 256 4096 16 0 len old 128 1024 6 0 plain new
   spiffs detect CHIP
@@ -151,6 +151,7 @@ copy; 14 fewer than two free blocks; 15 no memory; 17 no file has that id; 18 a
 chip of the source failed; 21 a page does not read as it was written; 22 the
 chips make no row, or a copy's volumes share one; 23 `run`, `check`, `scrub`,
 `map` or `copy`: ids are damaged on the volume that is written, and another META
-reads more whole files, nothing was written. Standard error tells more of statuses 1, 3, 4, 7, 8, 9, 13, 18 and 23,
-what `make` passed over, and how many damaged files were removed.
+reads more whole files, nothing was written. Standard error tells more of
+statuses 1, 3, 4, 7, 8, 9, 13, 18, 22 and 23, what `make` passed over, and how
+many damaged files were removed.
 ";
