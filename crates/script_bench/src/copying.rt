@@ -176,6 +176,17 @@ impl<'i> Copying<'i> {
         }
     }
 
+    // The same of another image.
+    fn of<'n>(&self, source_image: &'n [u8]) -> Copying<'n>
+    where
+        'i: 'n,
+    {
+        Copying {
+            source_image,
+            ..*self
+        }
+    }
+
     /// The words of the copy.
     pub fn words(&self) -> Result<String, Trouble> {
         let source = self.source.words("copy")?;
@@ -229,15 +240,12 @@ impl<'i> Copying<'i> {
     // Whether the target has room for its own files: a copy of no files onto it is done.
     fn has_room(&self) -> Result<bool, Trouble> {
         let empty = self.source.formatted()?;
-        let none = Copying {
-            source_image: &empty,
-            ..*self
-        };
-        Ok(none.copy(CopyFault::Target(Fault::Nothing))?.status != FULL)
+        let ran = self.of(&empty).copy(CopyFault::Target(Fault::Nothing))?;
+        Ok(ran.status != FULL)
     }
 
-    // What a check makes of an image that a copy left which was cut or failed, if the files stay, and each name has what it may have.
-    fn mended(&self, image: &[u8]) -> Result<Option<Vec<u8>>, Trouble> {
+    // What a check does on an image that a copy left which was cut or failed, if the files stay, and each name has what it may have.
+    fn mended(&self, image: &[u8]) -> Result<Option<Told>, Trouble> {
         let checked = self.target.check(image, Fault::Nothing)?;
         let source = listed(&self.source, self.source_image)?;
         let first = listed(&self.target, self.target_image)?;
@@ -245,7 +253,7 @@ impl<'i> Copying<'i> {
         let is_so = (checked.status == 0 || checked.status == DAMAGED)
             && are_same(&listed(&self.target, image)?, &files)
             && self.names(&source, &first, &files).are_kept(None);
-        Ok(if is_so { Some(checked.image) } else { None })
+        if is_so { Ok(Some(checked)) } else { Ok(None) }
     }
 
     // Whether the copy onto an image ends with that status, and with the files of an uncut one; a copy that is done then changes nothing.
@@ -291,13 +299,13 @@ impl<'i> Copying<'i> {
         let Some(once) = self.mended(&ran.image)? else {
             return Ok(false);
         };
-        let second = self.onto(&once);
+        let second = self.onto(&once.image);
         let cut = second.copy(CopyFault::Target(there))?;
         if cut.status != DEVICE_FAULT && cut.status != whole.status {
             return Ok(false);
         }
         match second.mended(&cut.image)? {
-            Some(twice) => self.ends(whole.status, &twice),
+            Some(twice) => self.ends(whole.status, &twice.image),
             None => Ok(false),
         }
     }
