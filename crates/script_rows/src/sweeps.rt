@@ -145,10 +145,11 @@ pub fn numbered(
     Ok(())
 }
 
-/// Cuts the power of a copy at each program, erase and reply, and lets each call of either chip fail in turn.
+/// Cuts the power of a copy at each program, erase and reply, and lets each call of either chip fail in turn; the copy behind it is cut once too.
 pub fn copies(chip: &Chip, out: &mut String) -> Result<(), Trouble> {
     let copying = chip.copying()?;
-    let good = "each name has what it may have, and the copy is done when it is given again";
+    let good =
+        "each name has what it may have, after one more cut too, and then the copy ends as an uncut one";
     tell_swept(
         cut_copies(&copying)?,
         "programs, erases and replies",
