@@ -28,9 +28,9 @@ use Rattle.vol_copy.specs.Ends.{TellsFiles, alike_of, CutsCopy, IsDone, IsFull, 
 use Rattle.vol_copy.specs.Stages.{Rests, With, CutsUnder, Leads, IsShort, StopsAs, StopsFrom, OnlyFaults}
 use Rattle.vol_copy.specs.Seen.{Idles}
 use Rattle.vol_copy.specs.Turns.{IsFirst, HasFirstRoom, IsReady, HasNoWorking, IsAllUpTo, IsThrough, StopsFirst}
-use Rattle.vol_copy.proofs.Composing.{cuts_then, cuts_of, tells_on}
+use Rattle.vol_copy.proofs.Composing.{rests_some, cuts_then, cuts_of, tells_on}
 use Rattle.vol_copy.proofs.Fitting.{are_fit, no_working}
-use Rattle.vol_copy.proofs.Looking.{rests_some, rests_as}
+use Rattle.vol_copy.proofs.Looking.{rests_as}
 use Rattle.vol_copy.proofs.Starting.{first_under}
 use Rattle.vol_copy.proofs.Turning.{same_files}
 
@@ -158,7 +158,7 @@ module _ {N M : Type 0} {nor_from : NorOf N} {nor : NorOf M} (from : Reader N no
 
         module _ (next : Volume M nor) (cuts_next : CutsUnder (Rests IsReady) mid next) (idle_next : Idles (Rests HasNoWorking) mid next) where
           pub ready_cuts : CutsUnder Starts old next
-          ready_cuts = cuts_then Starts (Rests IsReady) old mid next (λ t has. rests_some IsReady t mid has) first_cuts ready cuts_next
+          ready_cuts = cuts_then Starts (Rests IsReady) old mid next (λ t has. rests_some t mid has) first_cuts ready cuts_next
 
           ready_reads : (t : Task) → Starts t old → t.known ≡ true → IsAllThere t.alike t.source t.first → OnlyReads nor old.nor.now next.nor.now
           ready_reads t has known there = reads_then (first_reads t has known) (idle_next t (no_file t has known there) known)
@@ -176,7 +176,7 @@ module _ {N M : Type 0} {nor_from : NorOf N} {nor : NorOf M} (from : Reader N no
             begun_at = λ t has. (λ known. tells_on reads same (has.tells known), goes t (ready t has))
 
             pub all_cuts : CutsUnder Starts old new
-            all_cuts = cuts_then Starts (With nor_from from_mid (Rests (IsUpTo 0))) old next new (λ t has. rests_some (IsUpTo 0) t next has.1) ready_cuts begun_at cuts_new
+            all_cuts = cuts_then Starts (With nor_from from_mid (Rests (IsUpTo 0))) old next new (λ t has. rests_some t next has.1) ready_cuts begun_at cuts_new
 
             all_reads : (t : Task) → Starts t old → t.known ≡ true → IsAllThere t.alike t.source t.first → OnlyReads nor old.nor.now new.nor.now
             all_reads t has known there =

@@ -24,12 +24,6 @@ module _ {M : Type 0} {nor : NorOf M} where
   unfolding settled_at
   rest_image rest = rest.stands.stands.image.table
 
-  pub rests_some : (holds : Task → List File → Type 0) (t : Task) (v : Volume M nor) → Rests holds t v → RestsSome t v
-  rests_some holds t v has = record { state = _; at = has.at }
-
-  pub works_some : (fd flags : ℕ) (holds : _) (t : Task) (v : Volume M nor) → Works fd flags holds t v → RestsSome t v
-  works_some fd flags holds t v has = record { state = _; at = has.at }
-
   -- what holds of a target at rest holds of more
   pub rests_as : (K L : Task → List File → Type 0) (t : Task) (v : Volume M nor) → (t.known ≡ true → (files : List File) → K t files → L t files) → Rests K t v → Rests L t v
   rests_as K L t v more has = record { files = has.files; some = has.some; at = has.at; known = λ known. more known has.files (has.known known) }

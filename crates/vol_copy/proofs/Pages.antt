@@ -31,10 +31,10 @@ use Rattle.copy_model.proofs.Opened.{filling_under}
 use Rattle.vol_copy.specs.Ends.{TellsFiles}
 use Rattle.vol_copy.specs.Stages.{IsPage, Rests, Works, LacksRoom, LacksPage, PageWent, CutsUnder, Leads, StopsAs, StopsFrom, OnlyFaults, With, page_end, index_more}
 use Rattle.vol_copy.specs.Went.{Went, done_as, opened_as, wrote_as}
-use Rattle.vol_copy.proofs.Composing.{RestsSome, rest_table, cuts_then, cuts_none, cuts_of, cuts_with, with_then}
+use Rattle.vol_copy.proofs.Composing.{works_some, lacks_some, rest_table, cuts_then, cuts_none, cuts_of, cuts_with, with_then}
 use Rattle.vol_copy.proofs.Places.{on_ok, if_err}
 use Rattle.vol_copy.proofs.Fills.{WithBytes, write_cuts, write_leads, write_short, write_stops, open_cuts, open_leads, open_short, open_stops, close_cuts, close_leads, close_stops}
-use Rattle.vol_copy.proofs.Chains.{rests_some, works_some, lacks_some, faults_stop, stops_then}
+use Rattle.vol_copy.proofs.Chains.{faults_stop, stops_then}
 
 -- the record that is filled in, by the id that is told
 filled_here : (stat : Stat) (at : ℕ) (t : Task) (d : Open) (files : List File) (is : IsFilling stat at t d files) → file_of stat.id t.source ≡ Some is.is.next.f
