@@ -1,20 +1,17 @@
 -- What calls of a copy do one after the other.
-use Rattle.std.proofs.Common.{◌≡◌, ◌+◌, ℕ, List, true, Result, Ok, Err, refl, sym, ◌∙◌, subst}
-use Rattle.std.specs.Prelude.{OnOk, IfErr, IsErrAnd}
+use Rattle.std.proofs.Common.{◌≡◌, ◌+◌, ℕ, List, true, Result, Ok, Err, sym, subst}
+use Rattle.std.specs.Prelude.{OnOk, IfErr}
 use Rattle.nor_core.specs.declared.state.NorState.{Ghosts as NorOf}
 use Rattle.table_model.specs.declared.reply.Stat.{Stat}
 use Rattle.table_model.specs.declared.reply.Info.{Info}
-use Rattle.table_model.specs.Table.{File, Open}
 use Rattle.table_model.specs.Ask.{Removes, Renames, Informs}
-use Rattle.call_model.specs.Closed.{with_files}
 use Rattle.volume.specs.declared.volume.Volume.{Volume}
 use Rattle.copy_model.specs.declared.err.CopyErr.{CopyErr}
-use Rattle.copy_model.specs.declared.err.CopyErr.TheVariants.{Full, ToFault}
+use Rattle.copy_model.specs.declared.err.CopyErr.TheVariants.{Full}
 use Rattle.copy_model.specs.Copying.{working}
-use Rattle.copy_model.specs.Filling.{with_first}
 use Rattle.copy_model.specs.Tasks.{Task}
 use Rattle.copy_model.specs.Parts.{IsWhole, IsMarked, IsCleared, IsPassed}
-use Rattle.vol_copy.specs.Stages.{Rests, Works, LacksRoom, CutsUnder, Leads, StopsAs, StopsFrom, OnlyFaults}
+use Rattle.vol_copy.specs.Stages.{Rests, LacksRoom, CutsUnder, Leads, StopsAs, StopsFrom, OnlyFaults}
 use Rattle.vol_copy.specs.Went.{Went, done_as, removed_as, info_as}
 use Rattle.vol_copy.proofs.Composing.{rests_some, lacks_some, cuts_then}
 use Rattle.vol_copy.proofs.Places.{clear_cuts, clear_leads, clear_stops, place_cuts, place_leads, place_stops, on_ok, if_err}

@@ -1,13 +1,13 @@
 -- Calls of a copy one after the other.
-use Rattle.std.proofs.Common.{◌≡◌, List, ℕ, true, refl, sym, ◌∙◌, ap, subst}
+use Rattle.std.proofs.Common.{◌≡◌, List, ℕ, true, ◌∙◌, ap, subst}
 use Rattle.geometry.specs.declared.geometry.Geometry.{Geometry}
 use Rattle.nor_core.specs.declared.state.NorState.{Ghosts as NorOf}
-use Rattle.nor_core.specs.Device.{Changes, OnlyReads}
+use Rattle.nor_core.specs.Device.{OnlyReads}
 use Rattle.nor_core.proofs.Cuts.{go_on, wider, unchanged}
 use Rattle.table_model.specs.Table.{File, Open}
-use Rattle.image_model.specs.Tidy.{IsTidy, HasReserve}
+use Rattle.image_model.specs.Tidy.{IsTidy}
 use Rattle.image_model.specs.Tables.{table_of}
-use Rattle.call_model.specs.Safe.{IsSafe, Holds}
+use Rattle.call_model.specs.Safe.{Holds}
 use Rattle.call_model.proofs.Safety.{holds_safe, holds_itself, safe_as}
 use Rattle.header_laws.proofs.Telling.{each-by_id}
 use Rattle.header_laws.proofs.Naming.{each_by_name}

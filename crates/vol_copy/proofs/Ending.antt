@@ -1,8 +1,8 @@
 -- How a copy ends.
-use Rattle.std.proofs.Common.{◌≡◌, ◌<◌, ◌+◌, ℕ, List, [], length, Bool, true, false, Option, Some, None, Result, Ok, Err, refl, sym, ◌∙◌, ap, subst}
-use Rattle.std.specs.Prelude.{position, OnOk, IfOk, IfErr}
+use Rattle.std.proofs.Common.{◌≡◌, ◌<◌, ℕ, List, [], Bool, true, false, Some, None, Result, Ok, Err, refl, sym, ◌∙◌, ap, subst}
+use Rattle.std.specs.Prelude.{position, IfOk, IfErr}
 use Rattle.std.proofs.lemmas.Bool.{false≢true}
-use Rattle.std.specs.Option.{option_map, option_or}
+use Rattle.std.specs.Option.{option_map}
 use Rattle.geometry.specs.declared.geometry.Geometry.{Geometry}
 use Rattle.nor_core.specs.declared.state.NorState.{Ghosts as NorOf}
 use Rattle.nor_core.specs.Device.{OnlyReads}
@@ -10,7 +10,6 @@ use Rattle.nor_core.proofs.Cuts.{wider, reads_then}
 use Rattle.table_model.specs.Table.{File, same_text, file_named}
 use Rattle.table_model.specs.Room.{has_room}
 use Rattle.image_model.specs.Places.{IsImage}
-use Rattle.image_model.specs.Tables.{table_of}
 use Rattle.call_model.specs.Closed.{with_files}
 use Rattle.vol_mount.specs.declared.reader.Reader.{Reader}
 use Rattle.vol_mount.specs.Readers.{IsSameReader}
@@ -19,13 +18,13 @@ use Rattle.volume_run.specs.Resting.{IsAtRest}
 use Rattle.copy_model.specs.declared.err.Copied.{Copied}
 use Rattle.copy_model.specs.declared.err.CopyErr.{CopyErr}
 use Rattle.copy_model.specs.declared.err.CopyErr.TheVariants.{BadName, Full, FromFault, ToFault, Damaged, Refused}
-use Rattle.copy_model.specs.Copying.{working, without_name, copied, copy_steps}
-use Rattle.copy_model.specs.Stops.{full_as, first_full, bad_place, copy_stop}
+use Rattle.copy_model.specs.Copying.{working, copied, copy_steps}
+use Rattle.copy_model.specs.Stops.{full_as, first_full, copy_stop}
 use Rattle.copy_model.specs.Tasks.{Task, begins_with, stops_at}
-use Rattle.copy_model.specs.Under.{IsUnder, IsCopied, IsAllThere}
+use Rattle.copy_model.specs.Under.{IsCopied, IsAllThere}
 use Rattle.copy_model.specs.Parts.{IsUpTo}
-use Rattle.vol_copy.specs.Ends.{TellsFiles, alike_of, CutsCopy, IsDone, IsFull, Ends, EndsFrom}
-use Rattle.vol_copy.specs.Stages.{Rests, With, CutsUnder, Leads, IsShort, StopsAs, StopsFrom, OnlyFaults}
+use Rattle.vol_copy.specs.Ends.{TellsFiles, alike_of, CutsCopy, IsDone, Ends, EndsFrom}
+use Rattle.vol_copy.specs.Stages.{Rests, With, CutsUnder, Leads, StopsFrom, OnlyFaults}
 use Rattle.vol_copy.specs.Seen.{Idles}
 use Rattle.vol_copy.specs.Turns.{IsFirst, HasFirstRoom, IsReady, HasNoWorking, IsAllUpTo, IsThrough, StopsFirst}
 use Rattle.vol_copy.proofs.Composing.{rests_some, cuts_then, cuts_of, tells_on}

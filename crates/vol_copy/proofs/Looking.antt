@@ -1,5 +1,5 @@
 -- Calls that only look at a target, one after the other.
-use Rattle.std.proofs.Common.{◌≡◌, ℕ, List, Bool, true, false, refl, sym, ◌∙◌, ap, subst}
+use Rattle.std.proofs.Common.{◌≡◌, List, true}
 use Rattle.geometry.specs.declared.geometry.Geometry.{Geometry}
 use Rattle.nor_core.specs.declared.state.NorState.{Ghosts as NorOf}
 use Rattle.nor_core.specs.Device.{OnlyReads}
@@ -14,9 +14,9 @@ use Rattle.volume_run.specs.Resting.{IsAtRest}
 use Rattle.copy_model.specs.declared.err.CopyErr.{CopyErr}
 use Rattle.copy_model.specs.Tasks.{Task}
 use Rattle.copy_model.specs.Under.{IsUnder}
-use Rattle.vol_copy.specs.Stages.{CutsUnder, Leads, StopsFrom, With, Rests, Works}
-use Rattle.vol_copy.specs.Seen.{Idles, Looked, LooksUntil}
-use Rattle.vol_copy.proofs.Composing.{RestsSome, cuts_then, cuts_none, cuts_of, tells_on, with_then}
+use Rattle.vol_copy.specs.Stages.{StopsFrom, With, Rests}
+use Rattle.vol_copy.specs.Seen.{Looked, LooksUntil}
+use Rattle.vol_copy.proofs.Composing.{RestsSome, cuts_then, cuts_none, cuts_of, with_then}
 
 module _ {M : Type 0} {nor : NorOf M} where
   -- the image of a target at rest has its table

@@ -1,5 +1,5 @@
 -- What the functions that compare a record with the file of its name do, call by call.
-use Rattle.std.proofs.Common.{◌≡◌, ℕ, ◌+◌, ◌<◌, ◌≤◌, List, length, Bool, true, false, Option, Some, None, Result, Ok, Err, refl, sym, ◌∙◌, ap, subst}
+use Rattle.std.proofs.Common.{◌≡◌, ℕ, ◌+◌, List, length, Bool, true, false, Option, Some, None, Result, Ok, Err, sym, ◌∙◌, ap, subst}
 use Rattle.std.specs.Option.{option_map}
 use Rattle.std.specs.Prelude.{IfOk, IfErr}
 use Rattle.std.specs.List.{All}
@@ -21,11 +21,10 @@ use Rattle.volume_run.specs.Resting.{IsAtRest}
 use Rattle.copy_model.specs.declared.err.CopyErr.{CopyErr}
 use Rattle.copy_model.specs.declared.err.CopyErr.TheVariants.{Refused}
 use Rattle.copy_model.specs.Tasks.{Task}
-use Rattle.copy_model.specs.Under.{IsTable, IsUnder}
 use Rattle.copy_model.specs.Parts.{IsNext}
 use Rattle.copy_model.proofs.Names.{found-all}
 use Rattle.copy_model.proofs.Passing.{next_under}
-use Rattle.vol_copy.specs.Stages.{Rests, Works, CutsUnder, Leads, With}
+use Rattle.vol_copy.specs.Stages.{Rests, Works, With}
 use Rattle.vol_copy.specs.Went.{Went, done_as, stat_as, opened_as}
 use Rattle.vol_copy.specs.Seen.{may_be, IsSeen, IsLike, IsLooking, IsLooked, IsRead, Looked, LooksUntil}
 use Rattle.vol_copy.proofs.Composing.{rests_some, works_some, cuts_none}

@@ -1,5 +1,5 @@
 -- One record after the other.
-use Rattle.std.proofs.Common.{◌≡◌, ℕ, ◌+◌, ◌<◌, ◌≤◌, List, [], length, Bool, true, false, Option, Some, None, Result, Ok, Err, cond, refl, sym, ◌∙◌, ap, subst, arith}
+use Rattle.std.proofs.Common.{◌≡◌, ℕ, ◌+◌, List, length, Bool, true, false, Option, Some, None, cond, sym, ◌∙◌, ap, subst}
 use Rattle.std.specs.Option.{option_map}
 use Rattle.std.proofs.lemmas.Bool.{false≢true}
 use Rattle.geometry.specs.declared.geometry.Geometry.{Geometry}
@@ -7,10 +7,9 @@ use Rattle.nor_core.specs.declared.state.NorState.{Ghosts as NorOf}
 use Rattle.nor_core.specs.Device.{OnlyReads}
 use Rattle.nor_core.proofs.Cuts.{reads_then, reads_none}
 use Rattle.table_model.specs.declared.reply.Stat.{Stat}
-use Rattle.table_model.specs.Table.{File, State, file_above, file_named, file_of}
+use Rattle.table_model.specs.Table.{File, State, file_above, file_named}
 use Rattle.table_model.specs.Files.{stat_of}
 use Rattle.image_model.specs.Tables.{table_of}
-use Rattle.call_model.specs.Closed.{with_files}
 use Rattle.vol_mount.specs.declared.reader.Reader.{Reader}
 use Rattle.vol_mount.specs.Readers.{IsSameReader}
 use Rattle.volume.specs.declared.volume.Volume.{Volume}
@@ -20,8 +19,8 @@ use Rattle.copy_model.specs.declared.err.CopyErr.{CopyErr}
 use Rattle.copy_model.specs.declared.err.CopyErr.TheVariants.{FromFault}
 use Rattle.copy_model.specs.Copying.{kept_count}
 use Rattle.copy_model.specs.Tasks.{Task}
-use Rattle.copy_model.specs.Under.{IsTable, IsUnder, IsAllThere}
-use Rattle.copy_model.specs.Parts.{IsUpTo, IsAmid, IsCounted, IsNext, IsMissing, IsPassed}
+use Rattle.copy_model.specs.Under.{IsUnder, IsAllThere}
+use Rattle.copy_model.specs.Parts.{IsUpTo, IsCounted, IsNext, IsMissing, IsPassed}
 use Rattle.copy_model.proofs.Names.{id-named}
 use Rattle.copy_model.proofs.Passing.{next_here, kept_passes, passed_up, passed_counts, counts_none, all_passed}
 use Rattle.copy_model.proofs.Walking.{none_next}
@@ -30,7 +29,7 @@ use Rattle.vol_copy.specs.Stages.{Rests, With, CutsUnder, Leads, StopsAs, StopsF
 use Rattle.vol_copy.specs.Seen.{IsSeen, Idles, Looked, LooksUntil}
 use Rattle.vol_copy.specs.Turns.{IsAllUpTo, IsTurned, IsLast, HasTurned, IsThrough}
 use Rattle.vol_copy.specs.declared.copying.Turn.{Turn}
-use Rattle.vol_copy.proofs.Composing.{rests_some, rest_table, RestsSome, cuts_then, cuts_none, cuts_of, cuts_with, tells_on}
+use Rattle.vol_copy.proofs.Composing.{rests_some, rest_table, cuts_then, cuts_none, cuts_of, tells_on}
 use Rattle.vol_copy.proofs.Found.{found_some, found_none}
 use Rattle.vol_copy.proofs.Looking.{rest_image, rests_as}
 use Rattle.vol_copy.proofs.Places.{amid_under}
